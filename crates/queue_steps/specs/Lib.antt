@@ -1,0 +1,11 @@
+pub mod Errors
+pub mod State
+pub mod Effect
+pub mod Replies
+pub mod Sole
+pub mod Legal
+pub mod Laws
+pub mod Kinds
+pub mod Looks
+pub mod SingleNext
+pub mod Next

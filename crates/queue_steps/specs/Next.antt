@@ -1,0 +1,28 @@
+-- What a call does next, from where it stands and the answer to its last step.
+use Rattle.std.specs.Prelude.{ℕ, None}
+use Rattle.queue_steps.specs.declared.model.Call.{Call}
+use Rattle.queue_steps.specs.declared.model.Reply.TheVariants as reply
+use Rattle.queue_steps.specs.declared.steps.types.Kind.{Kind}
+use Rattle.queue_steps.specs.declared.steps.types.Kind.TheVariants as kind
+use Rattle.queue_steps.specs.declared.steps.types.Answer.{Answer}
+use Rattle.queue_steps.specs.declared.steps.types.Answer.TheVariants as answer
+use Rattle.queue_steps.specs.declared.steps.types.Local.{Local}
+use Rattle.queue_steps.specs.declared.steps.types.Local.TheVariants as local
+use Rattle.queue_steps.specs.declared.steps.types.Next.{Next}
+use Rattle.queue_steps.specs.declared.steps.types.Next.TheVariants as next
+use Rattle.queue_steps.specs.SingleNext.{single_begin, single_next}
+
+abbrev pub first_local : {B : Type 0} → Call Unit → Local B
+first_local c = local.Begin c
+
+-- the answer fits what was asked, in a call on a queue of this kind
+abbrev pub CanNext : {B : Type 0} → Kind → Local B → Answer B → Type 0
+CanNext kind.Single (local.Begin c) answer.Start = Unit {0}
+CanNext kind.Single (local.Single l) (answer.Found word) = Unit {0}
+CanNext _ _ _ = ⊥
+
+-- the last line stands for what `CanNext` excludes
+abbrev pub next_of : {B : Type 0} → Kind → Local B → Answer B → Next B
+next_of kind.Single (local.Begin c) answer.Start = single_begin c
+next_of kind.Single (local.Single l) (answer.Found word) = single_next l word
+next_of _ _ _ = next.Reply (reply.Capacity None) None

@@ -1,0 +1,94 @@
+-- The steps of a queue of one slot.
+use Rattle.std.specs.Prelude.{ℕ, Bool, not, bit_and, bit_or, ◌==◌, Some, None, Ok, Err, if◌then◌else◌}
+use Rattle.queue_steps.specs.declared.model.Call.{Call}
+use Rattle.queue_steps.specs.declared.model.Call.TheVariants as call
+use Rattle.queue_steps.specs.declared.model.Reply.{Reply}
+use Rattle.queue_steps.specs.declared.model.Reply.TheVariants as reply
+use Rattle.queue_steps.specs.declared.errors.PopError.TheVariants as pop
+use Rattle.queue_steps.specs.declared.errors.PushError.TheVariants as push
+use Rattle.queue_steps.specs.declared.errors.ForcePushError.TheVariants as force
+use Rattle.queue_steps.specs.declared.steps.types.Local.TheVariants as local
+use Rattle.queue_steps.specs.declared.steps.types.Look.{Look}
+use Rattle.queue_steps.specs.declared.steps.types.Look.TheVariants as look
+use Rattle.queue_steps.specs.declared.steps.types.Next.{Next}
+use Rattle.queue_steps.specs.declared.steps.types.Next.TheVariants as next
+use Rattle.queue_steps.specs.declared.steps.types.Op.{Op}
+use Rattle.queue_steps.specs.declared.steps.types.Op.TheVariants as op
+use Rattle.queue_steps.specs.declared.steps.types.Touch.{Touch}
+use Rattle.queue_steps.specs.declared.steps.types.Touch.TheVariants as touch
+use Rattle.queue_steps.specs.declared.steps.types.Word.TheVariants.{Lock}
+use Rattle.queue_steps.specs.declared.steps.single.TheConstants.{LOCKED, PUSHED, CLOSED, UNLOCKED, UNPUSHED}
+use Rattle.queue_steps.specs.declared.steps.single.SingleLocal.{SingleLocal}
+use Rattle.queue_steps.specs.declared.steps.single.SingleLocal.TheVariants.{Pushing, Pushed, Forcing, Forced, Popping, Popped, Closing, Looking}
+
+-- one step, after which the call waits at l
+abbrev pub at : {B : Type 0} → SingleLocal → Touch → Op B → Next B
+at l t o = next.Step (local.Single l) t o
+
+-- the end of the call
+abbrev pub ends : {B : Type 0} → Reply Unit → Next B
+ends r = next.Reply r None
+
+abbrev pub P1 : {B : Type 0} → Next B
+P1 = at Pushing touch.Nothing (op.Exchange Lock 0 (bit_or LOCKED PUSHED))
+
+abbrev pub F1 : {B : Type 0} → ℕ → Next B
+F1 seen = at (Forcing seen) touch.Nothing (op.Exchange Lock seen (bit_or LOCKED PUSHED))
+
+-- the word seen, with LOCKED and without PUSHED
+abbrev pub O1 : {B : Type 0} → ℕ → Next B
+O1 seen = at (Popping seen) touch.Nothing (op.Exchange Lock seen (bit_and (bit_or seen LOCKED) UNPUSHED))
+
+abbrev pub looks : {B : Type 0} → Look → Next B
+looks l = at (Looking l) touch.Nothing (op.Load Lock)
+
+abbrev pub unlocked : ℕ → ℕ
+unlocked word = bit_and word UNLOCKED
+
+abbrev pub unlocks : {B : Type 0} → Op B
+unlocks = op.And Lock UNLOCKED
+
+abbrev pub is_marked : ℕ → Bool
+is_marked word = not (bit_and word CLOSED == 0)
+
+abbrev pub is_pushed : ℕ → Bool
+is_pushed word = not (bit_and word PUSHED == 0)
+
+abbrev pub single_begin : {B : Type 0} → Call Unit → Next B
+single_begin (call.Push v) = P1
+single_begin (call.ForcePush v) = F1 0
+single_begin call.Pop = O1 PUSHED
+single_begin call.Close = at Closing touch.Nothing (op.Or Lock CLOSED)
+single_begin call.IsClosed = looks look.IsClosed
+single_begin call.IsEmpty = looks look.IsEmpty
+single_begin call.IsFull = looks look.IsFull
+single_begin call.Len = looks look.Len
+single_begin call.Capacity = ends (reply.Capacity (Some 1))
+
+-- what one look at the word answers
+abbrev pub seen_reply : Look → ℕ → Reply Unit
+seen_reply look.IsClosed word = reply.IsClosed (is_marked word)
+seen_reply look.IsEmpty word = reply.IsEmpty (not (is_pushed word))
+seen_reply look.IsFull word = reply.IsFull (is_pushed word)
+seen_reply look.Len word = reply.Len (if is_pushed word then 1 else 0)
+
+-- what follows the word that was found
+abbrev pub single_next : {B : Type 0} → SingleLocal → ℕ → Next B
+single_next Pushing found =
+    if found == 0 then at Pushed (touch.Put 0) unlocks
+    else (if is_marked found then ends (reply.Push (Err (push.Closed tt)))
+    else (if is_pushed found then ends (reply.Push (Err (push.Full tt)))
+    else P1))
+single_next Pushed found = ends (reply.Push (Ok tt))
+single_next (Forcing seen) found =
+    if is_marked found then ends (reply.ForcePush (Err (force.Closed tt)))
+    else (if found == seen then at (Forced seen) (if seen == 0 then touch.Put 0 else touch.Swap 0) unlocks
+    else F1 (unlocked found))
+single_next (Forced seen) found = ends (reply.ForcePush (Ok (if seen == 0 then None else Some tt)))
+single_next (Popping seen) found =
+    if found == seen then at Popped (touch.Take 0) unlocks
+    else (if not (is_pushed found) then ends (reply.Pop (Err (if not (is_marked found) then pop.Empty else pop.Closed)))
+    else O1 (unlocked found))
+single_next Popped found = ends (reply.Pop (Ok tt))
+single_next Closing found = ends (reply.Close (not (is_marked found)))
+single_next (Looking l) found = ends (seen_reply l found)

@@ -1,0 +1,136 @@
+-- What each call of a queue with one owner answers, and what it leaves: the first line that fits decides.
+use Rattle.std.specs.Prelude.{◌≡◌, ◌⊎◌, ℕ, ◌+◌, ◌-◌, ◌/◌, ◌%◌, Bool, true, false, not, ◌&&◌, ◌==◌, if◌then◌else◌, List, [], ◌∷◌, ◌++◌, length, Option, Some, None, Result, Ok, Err}
+use Rattle.queue_steps.specs.declared.sizes.TheConstants.{LIMIT, BLOCK_SLOTS}
+use Rattle.queue_steps.specs.State.{State, is_full, is_single_cap}
+use Rattle.queue_steps.specs.Effect.{rest}
+use Rattle.queue_steps.specs.Replies.{is_empty}
+use Rattle.queue_steps.specs.declared.model.Call.{Call}
+use Rattle.queue_steps.specs.declared.model.Reply.{Reply}
+use Rattle.queue_steps.specs.declared.model.Call.TheVariants as call
+use Rattle.queue_steps.specs.declared.model.Reply.TheVariants as reply
+use Rattle.queue_steps.specs.declared.errors.PopError.{PopError}
+use Rattle.queue_steps.specs.declared.errors.PushError.{PushError}
+use Rattle.queue_steps.specs.declared.errors.ForcePushError.{ForcePushError}
+use Rattle.queue_steps.specs.declared.errors.PopError.TheVariants as pop
+use Rattle.queue_steps.specs.declared.errors.PushError.TheVariants as push
+use Rattle.queue_steps.specs.declared.errors.ForcePushError.TheVariants as force
+
+-- the queue has accepted all that it ever will
+abbrev pub is_spent : {T : Type 0} → State T → Bool
+is_spent Q = not (is_single_cap Q.cap) && (Q.accepted == LIMIT)
+
+-- one more accepted item. A queue of one slot with one owner keeps no count
+abbrev pub counted : {T : Type 0} → State T → ℕ
+counted Q = if is_single_cap Q.cap then Q.accepted else Q.accepted + 1
+
+-- with v at its end
+abbrev pub appended : {T : Type 0} → State T → T → State T
+appended Q v = record Q { items = Q.items ++ v ∷ []; accepted = counted Q }
+
+-- with the front off and v at its end
+abbrev pub displaced : {T : Type 0} → State T → T → State T
+displaced Q v = record Q { items = rest Q.items ++ v ∷ []; accepted = counted Q }
+
+abbrev pub shut : {T : Type 0} → State T → State T
+shut Q = record Q { closed = true }
+
+abbrev pub front : {T : Type 0} → List T → Option T
+front [] = None
+front (x ∷ xs) = Some x
+
+abbrev pub push_reply : {T : Type 0} → State T → T → Result Unit (PushError T)
+push_reply Q v =
+    if Q.closed then Err (push.Closed v)
+    else (if is_spent Q then Err (push.Closed v)
+    else (if is_full Q then Err (push.Full v)
+    else Ok tt))
+
+abbrev pub push_state : {T : Type 0} → State T → T → State T
+push_state Q v =
+    if Q.closed then Q
+    else (if is_spent Q then shut Q
+    else (if is_full Q then Q
+    else appended Q v))
+
+abbrev pub force_push_reply : {T : Type 0} → State T → T → Result (Option T) (ForcePushError T)
+force_push_reply Q v =
+    if Q.closed then Err (force.Closed v)
+    else (if is_spent Q then Err (force.Closed v)
+    else (if is_full Q then Ok (front Q.items)
+    else Ok None))
+
+abbrev pub force_push_state : {T : Type 0} → State T → T → State T
+force_push_state Q v =
+    if Q.closed then Q
+    else (if is_spent Q then shut Q
+    else (if is_full Q then displaced Q v
+    else appended Q v))
+
+abbrev pub pop_result : {T : Type 0} → Bool → List T → Result T PopError
+pop_result closed [] = Err (if closed then pop.Closed else pop.Empty)
+pop_result closed (x ∷ xs) = Ok x
+
+abbrev pub pop_reply : {T : Type 0} → State T → Result T PopError
+pop_reply Q = pop_result Q.closed Q.items
+
+abbrev pub pop_state : {T : Type 0} → State T → State T
+pop_state Q = record Q { items = rest Q.items }
+
+abbrev pub sole_reply : {T : Type 0} → State T → Call T → Reply T
+sole_reply Q (call.Push v) = reply.Push (push_reply Q v)
+sole_reply Q (call.ForcePush v) = reply.ForcePush (force_push_reply Q v)
+sole_reply Q call.Pop = reply.Pop (pop_reply Q)
+sole_reply Q call.Close = reply.Close (not Q.closed)
+sole_reply Q call.IsClosed = reply.IsClosed Q.closed
+sole_reply Q call.IsEmpty = reply.IsEmpty (is_empty Q.items)
+sole_reply Q call.IsFull = reply.IsFull (is_full Q)
+sole_reply Q call.Len = reply.Len (length Q.items)
+sole_reply Q call.Capacity = reply.Capacity Q.cap
+
+abbrev pub sole_state : {T : Type 0} → State T → Call T → State T
+sole_state Q (call.Push v) = push_state Q v
+sole_state Q (call.ForcePush v) = force_push_state Q v
+sole_state Q call.Pop = pop_state Q
+sole_state Q call.Close = shut Q
+sole_state Q _ = Q
+
+-- a queue with one owner: the abstract queue, and how many blocks it holds
+pub record Owned (T : Type 0) : Type 0 where
+  pub queue : State T
+  pub blocks : ℕ
+
+-- the blocks from the first item's to the last one's: none for a queue with a capacity
+abbrev pub spanned : Option ℕ → ℕ → ℕ → ℕ
+spanned None accepted len = accepted / BLOCK_SLOTS - (accepted - len) / BLOCK_SLOTS + 1
+spanned (Some c) accepted len = 0
+
+abbrev pub blocks_of : {T : Type 0} → State T → ℕ
+blocks_of Q = spanned Q.cap Q.accepted (length Q.items)
+
+-- how many blocks a queue with one owner may hold: while it has accepted nothing, an unbounded one may hold none
+abbrev pub HoldsBlocks : {T : Type 0} → Owned T → Type 0
+HoldsBlocks P = (P.blocks ≡ blocks_of P.queue) ⊎ ((P.blocks ≡ 0) × (P.queue.accepted ≡ 0))
+
+-- a queue that has come to this state. While nothing was accepted, it holds what it held
+abbrev pub moved : {T : Type 0} → Owned T → State T → Owned T
+moved P Q = record { queue = Q; blocks = if Q.accepted == 0 then P.blocks else blocks_of Q }
+
+-- a push may ask for a block here: before the first item, where no block is held, and one item short of a block
+abbrev pub MayAsk : {T : Type 0} → Owned T → Type 0
+MayAsk P = (P.queue.cap ≡ None) × (P.queue.closed ≡ false) × (((P.queue.accepted ≡ 0) × (P.blocks ≡ 0)) ⊎ (P.queue.accepted % BLOCK_SLOTS ≡ BLOCK_SLOTS - 1))
+
+-- the call was refused a block
+abbrev pub LacksMemory : {T : Type 0} → Owned T → Call T → Reply T → Type 0
+LacksMemory P (call.Push v) r = MayAsk P × (r ≡ reply.Push (Err (push.NoMemory v)))
+LacksMemory P (call.ForcePush v) r = MayAsk P × (r ≡ reply.ForcePush (Err (force.NoMemory v)))
+LacksMemory P _ r = ⊥
+
+-- with one owner, this call at P answers r and leaves R: the table, or want of memory, which changes nothing
+abbrev pub Sole : {T : Type 0} → Owned T → Call T → Reply T → Owned T → Type 0
+Sole P c r R = ((r ≡ sole_reply P.queue c) × (R ≡ moved P (sole_state P.queue c))) ⊎ (LacksMemory P c r × (R ≡ P))
+
+-- a run of calls, each of which begins where the one before it left off
+abbrev pub SoleRun : {T : Type 0} → Owned T → List (Call T) → List (Reply T) → Owned T → Type 0
+SoleRun P [] [] R = R ≡ P
+SoleRun {T} P (c ∷ cs) (r ∷ rs) R = (M : Owned T) × (Sole P c r M × SoleRun M cs rs R)
+SoleRun P _ _ R = ⊥

@@ -1,0 +1,8 @@
+//! The abstract queue, its errors and the steps of its calls.
+#![tactic(auto)]
+
+pub mod errors;
+pub mod laws;
+pub mod model;
+pub mod sizes;
+pub mod steps;

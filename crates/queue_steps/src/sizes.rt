@@ -1,0 +1,19 @@
+//! Sizes and limits that all queues share.
+
+/// How many items a queue of more than one slot ever accepts. Having accepted so many it closes itself at the next push.
+pub const LIMIT: u64 = 1 << 61;
+
+/// The longest capacity that a queue may have, in items.
+pub const MAX_CAPACITY: usize = 1 << 59;
+
+/// How many items a block of an unbounded queue holds.
+pub const BLOCK_SLOTS: u64 = 31;
+
+/// How many positions a block takes up: one for each slot, and one that holds nothing.
+pub const BLOCK_POSITIONS: u64 = 32;
+
+/// How many steps of its own a call takes at most from where it is alone.
+pub const LONE_STEPS: u64 = 64;
+
+/// How many parties may share a queue.
+pub const MAX_PARTIES: u64 = 1 << 31;

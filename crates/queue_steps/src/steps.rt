@@ -1,0 +1,34 @@
+//! The steps of each call: from a call's local state and the answer to its last step, the next step or the reply.
+//!
+//! Whoever runs a call, its one owner, a thread or the machine, does each step and hands the answer back.
+ghost use Rattle.std.specs.Prelude.{◌≡◌};
+ghost use Rattle.queue_steps.specs.Next.{CanNext, first_local, next_of};
+
+use crate::model::CallKind;
+
+mod single;
+mod types;
+
+pub use single::SingleLocal;
+pub use types::{Answer, Kind, Link, Local, Look, Next, Op, Touch, Word};
+
+/// The local state of a call that begins.
+#[inline(always)]
+pub fn start<B: Copy>(_kind: Kind, call: CallKind) -> Local<B>
+    ensures { result ≡ first_local call }
+{
+    Local::Begin(call)
+}
+
+/// What a call does next. The answer is `Start` at first, and then what the operation gave that was asked for.
+#[inline(always)]
+pub fn next<B: Copy>(kind: Kind, local: Local<B>, answer: Answer<B>) -> Next<B>
+    requires { CanNext kind local answer }
+    ensures { result ≡ next_of kind local answer }
+{
+    match (kind, local, answer) {
+        (Kind::Single, Local::Begin(call), Answer::Start) => single::begin(call),
+        (Kind::Single, Local::Single(local), Answer::Found(word)) => single::next(local, word),
+        _ => unreachable!(),
+    }
+}

@@ -1,0 +1,124 @@
+//! What a call is asked to do, and what it is told. `B` names a block of an unbounded queue.
+use crate::model::{CallKind, ReplyKind};
+use crate::steps::single::SingleLocal;
+
+/// Which queue.
+#[derive(Clone, Copy, Debug, PartialEq, Eq)]
+pub enum Kind {
+    /// One slot under one word.
+    Single,
+    /// A ring of so many slots, more than one.
+    Bounded(usize),
+    /// A chain of blocks.
+    Unbounded,
+}
+
+/// A word of 64 bits.
+#[derive(Clone, Copy, Debug, Drop, PartialEq, Eq)]
+pub enum Word<B> {
+    /// What is in the slot of a queue of one slot, and whether a call holds it.
+    Lock,
+    /// How far the poppers are.
+    Head,
+    /// How far the pushers are, and whether the queue is closed.
+    Tail,
+    /// For which position a slot of a ring is free or filled.
+    Stamp(usize),
+    /// Whether a slot of a block is written, read or to be destroyed.
+    State(B, usize),
+}
+
+/// A place for a block or none.
+#[derive(Clone, Copy, Debug, Drop, PartialEq, Eq)]
+pub enum Link<B> {
+    /// The block of the poppers.
+    HeadBlock,
+    /// The block of the pushers.
+    TailBlock,
+    /// The block after this one.
+    Next(B),
+}
+
+/// One atomic operation, or a request for a block.
+#[derive(Clone, Copy, Debug, Drop, PartialEq, Eq)]
+pub enum Op<B> {
+    /// Reads the word.
+    Load(Word<B>),
+    /// Writes the word.
+    Store(Word<B>, u64),
+    /// Adds to the word.
+    Add(Word<B>, u64),
+    /// Sets bits of the word.
+    Or(Word<B>, u64),
+    /// Keeps these bits of the word alone.
+    And(Word<B>, u64),
+    /// Writes the second number exactly if the word was the first.
+    Exchange(Word<B>, u64, u64),
+    /// Reads the link.
+    LoadLink(Link<B>),
+    /// Writes the link.
+    StoreLink(Link<B>, B),
+    /// Makes this the pushers' block exactly if there was none.
+    Install(B),
+    /// Asks for a block.
+    Ask,
+}
+
+/// What is done to a slot just before the operation, in the same step. On a chain it is a slot of the block whose state the operation names.
+#[derive(Clone, Copy, Debug, PartialEq, Eq)]
+pub enum Touch {
+    /// Nothing.
+    Nothing,
+    /// The call's value goes into the empty slot.
+    Put(usize),
+    /// The call's value and the slot's change places.
+    Swap(usize),
+    /// The slot's value goes to the call.
+    Take(usize),
+}
+
+/// What the last operation gave.
+#[derive(Clone, Copy, Debug, Drop, PartialEq, Eq)]
+pub enum Answer<B> {
+    /// There was none: the call begins.
+    Start,
+    /// The word before the operation.
+    Found(u64),
+    /// The link before the operation.
+    Linked(Option<B>),
+    /// The block that was asked for.
+    Granted(B),
+    /// There is no memory for a block.
+    Refused,
+    /// The store is done.
+    Done,
+}
+
+/// A call that looks at the queue and changes nothing.
+#[derive(Clone, Copy, Debug, PartialEq, Eq)]
+pub enum Look {
+    IsClosed,
+    IsEmpty,
+    IsFull,
+    Len,
+}
+
+/// Where a call stands: what it asked last, and what it has to remember.
+#[derive(Clone, Copy, Debug, Drop, PartialEq, Eq)]
+pub enum Local<B> {
+    /// Before the first step.
+    Begin(CallKind),
+    /// Within a call on one slot.
+    Single(SingleLocal),
+    /// Within a call on a chain of blocks, with the spare block if there is one.
+    Unbounded(Option<B>),
+}
+
+/// The next step, or the reply with the block that the call gives up.
+#[derive(Clone, Copy, Debug, Drop, PartialEq, Eq)]
+pub enum Next<B> {
+    /// The touch and then the operation; the call then stands at the local state.
+    Step(Local<B>, Touch, Op<B>),
+    /// The call ends.
+    Reply(ReplyKind, Option<B>),
+}
