@@ -1,5 +1,5 @@
 -- What the effects keep, and what the one-owner table keeps.
-use Rattle.std.specs.Prelude.{◌≡◌, ◌⊎◌, ℕ, ◌+◌, ◌<◌, ◌≤◌, Bool, true, false, not, ◌&&◌, ◌==◌, List, [], ◌∷◌, ◌++◌, length, Option, Some, None, if◌then◌else◌, nat_eq}
+use Rattle.std.specs.Prelude.{◌≡◌, ◌⊎◌, ℕ, ◌+◌, ◌-◌, ◌<◌, ◌≤◌, Bool, true, false, not, ◌&&◌, ◌==◌, List, [], ◌∷◌, ◌++◌, length, Option, Some, None, if◌then◌else◌, nat_eq}
 use Rattle.std.proofs.Common.{refl, sym, inl, inr, ap, ◌∙◌, arith, length-append}
 use Rattle.queue_steps.specs.declared.sizes.TheConstants.{LIMIT}
 use Rattle.queue_steps.specs.declared.model.Effect.{Effect}
@@ -157,14 +157,14 @@ counted-zero false n e = omega arith
 
 -- a queue that has accepted nothing had accepted nothing before the call
 zero-sole : {T : Type 0} (Q : State T) (c : Call T) → (sole_state Q c).accepted ≡ 0 → Q.accepted ≡ 0
-zero-sole {T} Q (call.Push v) = go Q.closed (is_spent Q) (is_full Q)
+zero-sole {T} Q (call.Push v) e = go Q.closed (is_spent Q) (is_full Q) e
   where
     go : (b1 b2 b3 : Bool) → (if b1 then Q else (if b2 then shut Q else (if b3 then Q else appended Q v))).accepted ≡ 0 → Q.accepted ≡ 0
     go true b2 b3 e = e
     go false true b3 e = e
     go false false true e = e
     go false false false e = counted-zero (is_single_cap Q.cap) Q.accepted e
-zero-sole {T} Q (call.ForcePush v) = go Q.closed (is_spent Q) (is_full Q)
+zero-sole {T} Q (call.ForcePush v) e = go Q.closed (is_spent Q) (is_full Q) e
   where
     go : (b1 b2 b3 : Bool) → (if b1 then Q else (if b2 then shut Q else (if b3 then displaced Q v else appended Q v))).accepted ≡ 0 → Q.accepted ≡ 0
     go true b2 b3 e = e

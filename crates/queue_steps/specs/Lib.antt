@@ -9,3 +9,4 @@ pub mod Kinds
 pub mod Looks
 pub mod SingleNext
 pub mod Next
+pub mod LookNext

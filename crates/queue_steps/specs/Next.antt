@@ -1,5 +1,5 @@
 -- What a call does next, from where it stands and the answer to its last step.
-use Rattle.std.specs.Prelude.{ℕ, None}
+use Rattle.std.specs.Prelude.{◌≡◌, ℕ, Bool, true, false, None}
 use Rattle.queue_steps.specs.declared.model.Call.{Call}
 use Rattle.queue_steps.specs.declared.model.Reply.TheVariants as reply
 use Rattle.queue_steps.specs.declared.steps.types.Kind.{Kind}
@@ -20,6 +20,17 @@ abbrev pub CanNext : {B : Type 0} → Kind → Local B → Answer B → Type 0
 CanNext kind.Single (local.Begin c) answer.Start = Unit {0}
 CanNext kind.Single (local.Single l) (answer.Found word) = Unit {0}
 CanNext _ _ _ = ⊥
+
+-- the test of `CanNext`
+abbrev pub can_next : {B : Type 0} → Kind → Local B → Answer B → Bool
+can_next kind.Single (local.Begin c) answer.Start = true
+can_next kind.Single (local.Single l) (answer.Found word) = true
+can_next _ _ _ = false
+
+pub can_next-is : {B : Type 0} (k : Kind) (l : Local B) (a : Answer B) → can_next k l a ≡ true → CanNext k l a
+can_next-is kind.Single (local.Begin c) answer.Start e = tt
+can_next-is kind.Single (local.Single l) (answer.Found word) e = tt
+can_next-is _ _ _ e = cc
 
 -- the last line stands for what `CanNext` excludes
 abbrev pub next_of : {B : Type 0} → Kind → Local B → Answer B → Next B

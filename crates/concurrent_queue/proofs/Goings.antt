@@ -1,0 +1,50 @@
+-- How a run that ends begins, goes on, and ends.
+use Rattle.std.proofs.Common.{◌≡◌, ℕ, suc, ◌+◌, ◌-◌, ◌<◌, Option, arith}
+use Rattle.queue_steps.specs.declared.model.Call.{Call}
+use Rattle.queue_steps.specs.declared.model.Reply.{Reply}
+use Rattle.queue_steps.specs.declared.steps.types.Kind.{Kind}
+use Rattle.queue_steps.specs.declared.steps.types.Answer.{Answer}
+use Rattle.queue_steps.specs.declared.steps.types.Answer.TheVariants as answer
+use Rattle.queue_steps.specs.declared.steps.types.Next.{Next}
+use Rattle.queue_steps.specs.declared.steps.types.Next.TheVariants as next
+use Rattle.queue_steps.specs.declared.steps.types.Op.{Op}
+use Rattle.queue_steps.specs.declared.steps.types.Touch.{Touch}
+use Rattle.queue_steps.specs.declared.steps.types.Local.{Local}
+use Rattle.queue_steps.specs.Next.{CanNext, next_of, first_local}
+use Rattle.queue_steps.specs.Kinds.{call_kind, call_value}
+use Rattle.queue_steps.specs.declared.sizes.TheConstants.{LONE_STEPS}
+use Rattle.queue_steps.specs.Sole.{Owned}
+use Rattle.concurrent_queue.specs.Ends.{Ends, EndsRight, Answered}
+
+module _ {T B M : Type 0} (can_touch : M → Touch → Op B → Type 0) (touches : M → Touch → Op B → Option T → M → Option T → Type 0)
+    (can_perform : M → Op B → Type 0) (performs : M → Op B → Answer B → M → Type 0) where
+  -- what a step of the run needs, and what is left after it
+  pub Ends-step : (n : ℕ) (k : Kind) (todo : Next B) (l : Local B) (t : Touch) (o : Op B) (cells : M) (carried : Option T) (P : Reply Unit → Option B → Option T → M → Type 0)
+      → n < LONE_STEPS → todo ≡ next.Step l t o → Ends can_touch touches can_perform performs (LONE_STEPS - n) k todo cells carried P
+      → can_touch cells t o
+      × ((touched : M) (left : Option T) → touches cells t o carried touched left
+      → can_perform touched o
+      × ((a : Answer B) (done : M) → performs touched o a done → CanNext k l a × Ends can_touch touches can_perform performs (LONE_STEPS - (n + 1)) k (next_of k l a) done left P))
+  Ends-step n k todo l t o cells carried P below is h =
+      let e : LONE_STEPS - n ≡ suc (LONE_STEPS - (n + 1)) = omega arith in
+      rw (is, e) at h
+
+  -- a run that has its reply has ended
+  pub Ends-reply : (n : ℕ) (k : Kind) (todo : Next B) (r : Reply Unit) (spare : Option B) (cells : M) (carried : Option T) (P : Reply Unit → Option B → Option T → M → Type 0)
+      → n < LONE_STEPS → todo ≡ next.Reply r spare → Ends can_touch touches can_perform performs (LONE_STEPS - n) k todo cells carried P → P r spare carried cells
+  Ends-reply n k todo r spare cells carried P below is h =
+      let e : LONE_STEPS - n ≡ suc (LONE_STEPS - (n + 1)) = omega arith in
+      rw (is, e) at h
+
+  -- the first step of a run
+  pub Ends-first : (idle : M → Type 0) (owned : M → Owned T) (k kind : Kind) (c : Call T) (local : Local B) (todo : Next B) (parts : Call Unit × Option T) (cells : M)
+      → k ≡ kind → parts ≡ (call_kind c, call_value c) → local ≡ first_local parts.0 → todo ≡ next_of k local answer.Start
+      → EndsRight can_touch touches can_perform performs idle owned kind c cells
+      → Ends can_touch touches can_perform performs LONE_STEPS k todo cells parts.1 (Answered can_touch touches can_perform performs idle owned c cells)
+  Ends-first idle owned k kind c local todo parts cells is_kind is_parts is_local is_todo h = rw (is_todo, is_local, is_parts, is_kind) h.1
+
+  -- and what it needs
+  pub Ends-can : (idle : M → Type 0) (owned : M → Owned T) (k kind : Kind) (c : Call T) (local : Local B) (parts : Call Unit × Option T) (cells : M)
+      → k ≡ kind → parts ≡ (call_kind c, call_value c) → local ≡ first_local parts.0
+      → EndsRight can_touch touches can_perform performs idle owned kind c cells → CanNext k local answer.Start
+  Ends-can idle owned k kind c local parts cells is_kind is_parts is_local h = rw (is_local, is_parts, is_kind) h.0

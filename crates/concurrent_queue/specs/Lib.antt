@@ -1,0 +1,5 @@
+pub mod Ends
+pub mod Runs
+pub mod SingleCells
+pub mod SingleAnswers
+pub mod Exclusive

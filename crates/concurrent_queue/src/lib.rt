@@ -1,0 +1,13 @@
+//! Closable queues, first in first out, with one owner.
+#![tactic(auto)]
+
+mod cells;
+mod driver;
+pub mod exclusive;
+mod single;
+
+pub use exclusive::Exclusive;
+pub use queue_steps::errors as errors;
+pub use queue_steps::errors::{ForcePushError, PopError, PushError};
+pub use queue_steps::model as model;
+pub use queue_steps::steps as steps;

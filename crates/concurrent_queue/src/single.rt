@@ -1,0 +1,84 @@
+//! One slot under one word, with one owner.
+ghost use Rattle.std.specs.Prelude.{◌≡◌};
+
+use crate::cells::Cells;
+use queue_steps::steps::{Answer, Kind, Op, Touch, Word};
+use std::mem;
+
+/// The slot, and the word that says what is in it.
+#[derive(Drop)]
+pub(crate) struct Single<T> {
+    pub(crate) lock: u64,
+    pub(crate) item: Option<T>,
+}
+
+impl<T> Single<T> {
+    /// An empty open slot.
+    pub(crate) fn new() -> Self
+        ensures { result ≡ record { lock = 0; item = None } }
+    {
+        Single {
+            lock: 0,
+            item: None,
+        }
+    }
+}
+
+impl<T> Cells<T, ()> for Single<T> {
+    ghost use Rattle.concurrent_queue.specs.SingleCells.{kind_of_single, IsIdle, single_owned, single_can_touch, single_touches, single_can_perform, single_performs};
+
+    ghost kind_of = { kind_of_single };
+
+    ghost idle = { IsIdle };
+
+    ghost owned = { single_owned };
+
+    ghost can_touch = { single_can_touch };
+
+    ghost touches = { single_touches };
+
+    ghost can_perform = { single_can_perform };
+
+    ghost performs = { single_performs };
+
+    ghost use Rattle.concurrent_queue.specs.SingleAnswers.{single_answers, single_stays};
+
+    ghost stays = { single_stays };
+
+    ghost answers = { single_answers };
+
+    #[inline(always)]
+    fn kind(&self) -> Kind {
+        Kind::Single
+    }
+
+    #[inline(always)]
+    fn touch(&mut self, touch: Touch, _op: &Op<()>, carried: &mut Option<T>) {
+        match touch {
+            Touch::Nothing => {}
+            Touch::Put(_) | Touch::Swap(_) | Touch::Take(_) => mem::swap(&mut self.item, carried),
+        }
+    }
+
+    #[inline(always)]
+    fn perform(&mut self, op: Op<()>) -> Answer<()> {
+        let found = self.lock;
+        match op {
+            Op::Load(Word::Lock) => {}
+            Op::Or(Word::Lock, bits) => self.lock = found | bits,
+            Op::And(Word::Lock, bits) => self.lock = found & bits,
+            Op::Exchange(Word::Lock, expected, new) => {
+                if found == expected {
+                    self.lock = new;
+                }
+            }
+            _ => unreachable!(),
+        }
+        Answer::Found(found)
+    }
+
+    #[inline(always)]
+    fn look(&self, _op: &Op<()>) -> Answer<()> {
+        Answer::Found(self.lock)
+    }
+}

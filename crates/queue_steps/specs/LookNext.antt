@@ -1,0 +1,52 @@
+-- The steps of the calls that change nothing: they load words and touch no slot.
+use Rattle.std.specs.Prelude.{◌≡◌, None, refl}
+use Rattle.queue_steps.specs.declared.model.Call.{Call}
+use Rattle.queue_steps.specs.declared.model.Call.TheVariants as call
+use Rattle.queue_steps.specs.declared.steps.types.Answer.{Answer}
+use Rattle.queue_steps.specs.declared.steps.types.Answer.TheVariants as answer
+use Rattle.queue_steps.specs.declared.steps.types.Kind.{Kind}
+use Rattle.queue_steps.specs.declared.steps.types.Kind.TheVariants as kind
+use Rattle.queue_steps.specs.declared.steps.types.Local.{Local}
+use Rattle.queue_steps.specs.declared.steps.types.Local.TheVariants as local
+use Rattle.queue_steps.specs.declared.steps.types.Next.{Next}
+use Rattle.queue_steps.specs.declared.steps.types.Next.TheVariants as next
+use Rattle.queue_steps.specs.declared.steps.types.Op.{Op}
+use Rattle.queue_steps.specs.declared.steps.types.Op.TheVariants as op
+use Rattle.queue_steps.specs.declared.steps.types.Touch.TheVariants as touch
+use Rattle.queue_steps.specs.declared.steps.single.SingleLocal.TheVariants as slot
+use Rattle.queue_steps.specs.Looks.{IsLook}
+use Rattle.queue_steps.specs.Next.{CanNext, next_of, first_local}
+
+abbrev pub IsLoad : {B : Type 0} → Op B → Type 0
+IsLoad (op.Load w) = Unit {0}
+IsLoad _ = ⊥
+
+-- where a call that changes nothing may stand
+abbrev pub IsLookLocal : {B : Type 0} → Local B → Type 0
+IsLookLocal (local.Single (slot.Looking l)) = Unit {0}
+IsLookLocal _ = ⊥
+
+-- the next step changes nothing, and a reply gives nothing up
+abbrev pub IsLookNext : {B : Type 0} → Next B → Type 0
+IsLookNext (next.Reply r spare) = spare ≡ None
+IsLookNext (next.Step l t o) = (t ≡ touch.Nothing) × IsLoad o × IsLookLocal l
+
+pub look_next-first : (B : Type 0) (k : Kind) (c : Call Unit) → IsLook c → IsLookNext (next_of {B = B} k (first_local c) answer.Start)
+look_next-first B kind.Single call.IsClosed h = (refl, tt, tt)
+look_next-first B kind.Single call.IsEmpty h = (refl, tt, tt)
+look_next-first B kind.Single call.IsFull h = (refl, tt, tt)
+look_next-first B kind.Single call.Len h = (refl, tt, tt)
+look_next-first B kind.Single call.Capacity h = refl
+look_next-first B (kind.Bounded n) c h = refl
+look_next-first B kind.Unbounded c h = refl
+look_next-first B k (call.Push v) h = absurd h
+look_next-first B k (call.ForcePush v) h = absurd h
+look_next-first B k call.Pop h = absurd h
+look_next-first B k call.Close h = absurd h
+
+pub look_next : {B : Type 0} (k : Kind) (l : Local B) (a : Answer B) → CanNext k l a → IsLookLocal l → IsLookNext (next_of k l a)
+look_next kind.Single (local.Single (slot.Looking l)) (answer.Found word) can h = refl
+look_next kind.Single (local.Single (slot.Looking l)) _ can h = absurd can
+look_next (kind.Bounded n) (local.Single (slot.Looking l)) a can h = absurd can
+look_next kind.Unbounded (local.Single (slot.Looking l)) a can h = absurd can
+look_next k _ a can h = absurd h
