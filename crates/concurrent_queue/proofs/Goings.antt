@@ -1,5 +1,5 @@
 -- How a run that ends begins, goes on, and ends.
-use Rattle.std.proofs.Common.{◌≡◌, ℕ, suc, ◌+◌, ◌-◌, ◌<◌, Option, arith}
+use Rattle.std.proofs.Common.{◌≡◌, ℕ, suc, ◌+◌, ◌-◌, ◌<◌, Option, arith, sym, subst}
 use Rattle.queue_steps.specs.declared.model.Call.{Call}
 use Rattle.queue_steps.specs.declared.model.Reply.{Reply}
 use Rattle.queue_steps.specs.declared.steps.types.Kind.{Kind}
@@ -41,7 +41,14 @@ module _ {T B M : Type 0} (can_touch : M → Touch → Op B → Type 0) (touches
       → k ≡ kind → parts ≡ (call_kind c, call_value c) → local ≡ first_local parts.0 → todo ≡ next_of k local answer.Start
       → EndsRight can_touch touches can_perform performs idle owned kind c cells
       → Ends can_touch touches can_perform performs LONE_STEPS k todo cells parts.1 (Answered can_touch touches can_perform performs idle owned c cells)
-  Ends-first idle owned k kind c local todo parts cells is_kind is_parts is_local is_todo h = rw (is_todo, is_local, is_parts, is_kind) h.1
+  Ends-first idle owned k kind c local todo parts cells is_kind is_parts is_local is_todo h =
+      let P : Reply Unit → Option B → Option T → M → Type 0 = Answered can_touch touches can_perform performs idle owned c cells in
+      let Whole : Kind → Next B → Option T → Type 0 = λ x y z. Ends can_touch touches can_perform performs LONE_STEPS x y cells z P in
+      let OfKind : Kind → Type 0 = λ x. Whole x (next_of x (first_local (call_kind c)) answer.Start) (call_value c) in
+      let OfParts : Call Unit × Option T → Type 0 = λ x. Whole k (next_of k (first_local x.0) answer.Start) x.1 in
+      let OfLocal : Local B → Type 0 = λ x. Whole k (next_of k x answer.Start) parts.1 in
+      let OfTodo : Next B → Type 0 = λ x. Whole k x parts.1 in
+      subst OfTodo (sym is_todo) (subst OfLocal (sym is_local) (subst OfParts (sym is_parts) (subst OfKind (sym is_kind) h.1)))
 
   -- and what it needs
   pub Ends-can : (idle : M → Type 0) (owned : M → Owned T) (k kind : Kind) (c : Call T) (local : Local B) (parts : Call Unit × Option T) (cells : M)

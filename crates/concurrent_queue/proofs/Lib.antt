@@ -1,2 +1,3 @@
 pub mod Goings
 pub mod Watching
+pub mod Slots

@@ -24,7 +24,7 @@ slot_of item lock = record { lock = lock; item = item }
 -- the call's run, and that what it ends with is right
 abbrev pub SingleRun : {T : Type 0} → Option T → Bool → Call T → Type 0
 SingleRun {T} item closed c =
-    (o : Outcome T ℕ (Single T))
+    (o : Outcome T Unit (Single T))
     × (run_from single_touchable single_touched single_operable single_performed LONE_STEPS kind.Single (next_of kind.Single (first_local (call_kind c)) answer.Start) (slot_of item (word_for item closed)) (call_value c) ≡ Some o)
     × IsIdle o.cells
     × (o.spare ≡ None)

@@ -1,5 +1,6 @@
 //! One slot under one word, with one owner.
 ghost use Rattle.std.specs.Prelude.{◌≡◌};
+ghost use Rattle.queue_steps.specs.LookNext.{IsLoad};
 
 use crate::cells::Cells;
 use queue_steps::steps::{Answer, Kind, Op, Touch, Word};
@@ -61,7 +62,10 @@ impl<T> Cells<T, ()> for Single<T> {
     }
 
     #[inline(always)]
-    fn perform(&mut self, op: Op<()>) -> Answer<()> {
+    fn perform(&mut self, op: Op<()>) -> Answer<()>
+        requires { single_can_perform self.old op }
+        ensures { single_performs self.old op result self.new }
+    {
         let found = self.lock;
         match op {
             Op::Load(Word::Lock) => {}
@@ -78,7 +82,12 @@ impl<T> Cells<T, ()> for Single<T> {
     }
 
     #[inline(always)]
-    fn look(&self, _op: &Op<()>) -> Answer<()> {
+    fn look(&self, op: &Op<()>) -> Answer<()>
+        requires load { IsLoad op.now }
+        requires can { single_can_perform self.now op.now }
+        ensures { single_performs self.now op.now result self.now }
+    {
+        let _ = op;
         Answer::Found(self.lock)
     }
 }

@@ -40,7 +40,7 @@ loop-preserved g c =
     let h = Ends-step m.can_touch m.touches m.can_perform m.performs c.loop.counter c.kind-kind.result c.loop.todo c.in-Step.local c.in-Step.field-1 c.in-Step.op c.args.cells.now None _ c.loop-test.true c.in-Step.is c.loop.invariant.0 in
     let quiet = rw c.in-Step.is at c.loop.invariant.1 in
     let next = (h.1 c.args.cells.now None (rw quiet.0 (g.met.M.Cells.stays c.args.cells.now c.in-Step.op None))).1 c.look-answer.result c.args.cells.now c.look-answer.ensures in
-    (rw c.next-todo-in-Step.ensures next.1, rw c.next-todo-in-Step.ensures (look_next c.kind-kind.result c.in-Step.local c.look-answer.result next.2 quiet.2))
+    (rw c.next-todo-in-Step.ensures next.1, rw c.next-todo-in-Step.ensures (look_next c.kind-kind.result c.in-Step.local c.look-answer.result next.0 quiet.2))
 
 pub returns-in-Reply : goal.returns-in-Reply
 returns-in-Reply g c =
