@@ -8,7 +8,7 @@ use Rattle.queue_steps.specs.declared.steps.types.Next.{Next}
 use Rattle.queue_steps.specs.declared.steps.types.Next.TheVariants as next
 use Rattle.queue_steps.specs.declared.steps.types.Op.{Op}
 use Rattle.queue_steps.specs.declared.steps.types.Touch.{Touch}
-use Rattle.queue_steps.specs.Next.{CanNext, can_next, can_next-is, next_of}
+use Rattle.queue_steps.specs.Next.{CanNext, next_of}
 use Rattle.concurrent_queue.specs.Ends.{Ends}
 
 -- how a call ended

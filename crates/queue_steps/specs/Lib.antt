@@ -8,5 +8,7 @@ pub mod Laws
 pub mod Kinds
 pub mod Looks
 pub mod SingleNext
+pub mod Words
+pub mod BoundedNext
 pub mod Next
 pub mod LookNext

@@ -1,5 +1,5 @@
 -- The steps of the calls that change nothing: they load words and touch no slot.
-use Rattle.std.specs.Prelude.{◌≡◌, None, refl}
+use Rattle.std.specs.Prelude.{◌≡◌, ℕ, ◌-◌, ◌==◌, Bool, true, false, None, refl, if◌then◌else◌}
 use Rattle.queue_steps.specs.declared.model.Call.{Call}
 use Rattle.queue_steps.specs.declared.model.Call.TheVariants as call
 use Rattle.queue_steps.specs.declared.steps.types.Answer.{Answer}
@@ -14,6 +14,12 @@ use Rattle.queue_steps.specs.declared.steps.types.Op.{Op}
 use Rattle.queue_steps.specs.declared.steps.types.Op.TheVariants as op
 use Rattle.queue_steps.specs.declared.steps.types.Touch.TheVariants as touch
 use Rattle.queue_steps.specs.declared.steps.single.SingleLocal.TheVariants as slot
+use Rattle.queue_steps.specs.declared.steps.bounded.BoundedLocal.TheVariants as ring
+use Rattle.queue_steps.specs.declared.steps.bounded.BoundedLocal.{BoundedLocal}
+use Rattle.queue_steps.specs.declared.steps.types.Word.TheVariants as word
+use Rattle.queue_steps.specs.declared.model.Reply.TheVariants as reply
+use Rattle.queue_steps.specs.Words.{position_of}
+use Rattle.queue_steps.specs.BoundedNext.{ends, loads, bounded_next, FitsRing}
 use Rattle.queue_steps.specs.Looks.{IsLook}
 use Rattle.queue_steps.specs.Next.{CanNext, next_of, first_local}
 
@@ -24,6 +30,14 @@ IsLoad _ = ⊥
 -- where a call that changes nothing may stand
 abbrev pub IsLookLocal : {B : Type 0} → Local B → Type 0
 IsLookLocal (local.Single (slot.Looking l)) = Unit {0}
+IsLookLocal (local.Bounded ring.LenTail) = Unit {0}
+IsLookLocal (local.Bounded (ring.LenHead t)) = Unit {0}
+IsLookLocal (local.Bounded (ring.LenAgain t h)) = Unit {0}
+IsLookLocal (local.Bounded ring.EmptyHead) = Unit {0}
+IsLookLocal (local.Bounded (ring.EmptyTail h)) = Unit {0}
+IsLookLocal (local.Bounded ring.FullTail) = Unit {0}
+IsLookLocal (local.Bounded (ring.FullHead t)) = Unit {0}
+IsLookLocal (local.Bounded ring.ClosedTail) = Unit {0}
 IsLookLocal _ = ⊥
 
 -- the next step changes nothing, and a reply gives nothing up
@@ -37,16 +51,47 @@ look_next-first B kind.Single call.IsEmpty h = (refl, tt, tt)
 look_next-first B kind.Single call.IsFull h = (refl, tt, tt)
 look_next-first B kind.Single call.Len h = (refl, tt, tt)
 look_next-first B kind.Single call.Capacity h = refl
-look_next-first B (kind.Bounded n) c h = refl
+look_next-first B (kind.Bounded n) call.IsClosed h = (refl, tt, tt)
+look_next-first B (kind.Bounded n) call.IsEmpty h = (refl, tt, tt)
+look_next-first B (kind.Bounded n) call.IsFull h = (refl, tt, tt)
+look_next-first B (kind.Bounded n) call.Len h = (refl, tt, tt)
+look_next-first B (kind.Bounded n) call.Capacity h = refl
 look_next-first B kind.Unbounded c h = refl
 look_next-first B k (call.Push v) h = absurd h
 look_next-first B k (call.ForcePush v) h = absurd h
 look_next-first B k call.Pop h = absurd h
 look_next-first B k call.Close h = absurd h
 
+-- a length that was read while the tail moved is read again
+look_again : (B : Type 0) (b : Bool) (n : ℕ) → IsLookNext {B = B} (if b then ends (reply.Len n) else loads ring.LenTail word.Tail)
+look_again B true n = refl
+look_again B false n = (refl, tt, tt)
+
+look_next-ring : {B : Type 0} (n : ℕ) (l : BoundedLocal) (a : Answer B) → FitsRing n l a → IsLookLocal {B = B} (local.Bounded l) → IsLookNext (bounded_next n l a)
+look_next-ring {B} n ring.LenTail (answer.Found found) fits is = (refl, tt, tt)
+look_next-ring {B} n (ring.LenHead t) (answer.Found found) fits is = (refl, tt, tt)
+look_next-ring {B} n (ring.LenAgain t h) (answer.Found found) fits is = look_again B (found == t) (position_of t - h)
+look_next-ring {B} n ring.EmptyHead (answer.Found found) fits is = (refl, tt, tt)
+look_next-ring {B} n (ring.EmptyTail h) (answer.Found found) fits is = refl
+look_next-ring {B} n ring.FullTail (answer.Found found) fits is = (refl, tt, tt)
+look_next-ring {B} n (ring.FullHead t) (answer.Found found) fits is = refl
+look_next-ring {B} n ring.ClosedTail (answer.Found found) fits is = refl
+look_next-ring n ring.LenTail _ fits is = absurd fits
+look_next-ring n (ring.LenHead t) _ fits is = absurd fits
+look_next-ring n (ring.LenAgain t h) _ fits is = absurd fits
+look_next-ring n ring.EmptyHead _ fits is = absurd fits
+look_next-ring n (ring.EmptyTail h) _ fits is = absurd fits
+look_next-ring n ring.FullTail _ fits is = absurd fits
+look_next-ring n (ring.FullHead t) _ fits is = absurd fits
+look_next-ring n ring.ClosedTail _ fits is = absurd fits
+look_next-ring n _ _ fits is = absurd is
+
 pub look_next : {B : Type 0} (k : Kind) (l : Local B) (a : Answer B) → CanNext k l a → IsLookLocal l → IsLookNext (next_of k l a)
 look_next kind.Single (local.Single (slot.Looking l)) (answer.Found word) can h = refl
+look_next (kind.Bounded n) (local.Bounded l) a can h = look_next-ring n l a can.1 h
 look_next kind.Single (local.Single (slot.Looking l)) _ can h = absurd can
 look_next (kind.Bounded n) (local.Single (slot.Looking l)) a can h = absurd can
 look_next kind.Unbounded (local.Single (slot.Looking l)) a can h = absurd can
+look_next kind.Single (local.Bounded l) a can h = absurd can
+look_next kind.Unbounded (local.Bounded l) a can h = absurd can
 look_next k _ a can h = absurd h

@@ -1,5 +1,5 @@
 -- What a call does next, from where it stands and the answer to its last step.
-use Rattle.std.specs.Prelude.{◌≡◌, ℕ, Bool, true, false, None}
+use Rattle.std.specs.Prelude.{None}
 use Rattle.queue_steps.specs.declared.model.Call.{Call}
 use Rattle.queue_steps.specs.declared.model.Reply.TheVariants as reply
 use Rattle.queue_steps.specs.declared.steps.types.Kind.{Kind}
@@ -10,7 +10,9 @@ use Rattle.queue_steps.specs.declared.steps.types.Local.{Local}
 use Rattle.queue_steps.specs.declared.steps.types.Local.TheVariants as local
 use Rattle.queue_steps.specs.declared.steps.types.Next.{Next}
 use Rattle.queue_steps.specs.declared.steps.types.Next.TheVariants as next
+use Rattle.queue_steps.specs.Words.{IsRing}
 use Rattle.queue_steps.specs.SingleNext.{single_begin, single_next}
+use Rattle.queue_steps.specs.BoundedNext.{bounded_begin, bounded_next, FitsRing}
 
 abbrev pub first_local : {B : Type 0} → Call Unit → Local B
 first_local c = local.Begin c
@@ -19,21 +21,14 @@ first_local c = local.Begin c
 abbrev pub CanNext : {B : Type 0} → Kind → Local B → Answer B → Type 0
 CanNext kind.Single (local.Begin c) answer.Start = Unit {0}
 CanNext kind.Single (local.Single l) (answer.Found word) = Unit {0}
+CanNext (kind.Bounded cap) (local.Begin c) answer.Start = IsRing cap
+CanNext (kind.Bounded cap) (local.Bounded l) a = IsRing cap × FitsRing cap l a
 CanNext _ _ _ = ⊥
-
--- the test of `CanNext`
-abbrev pub can_next : {B : Type 0} → Kind → Local B → Answer B → Bool
-can_next kind.Single (local.Begin c) answer.Start = true
-can_next kind.Single (local.Single l) (answer.Found word) = true
-can_next _ _ _ = false
-
-pub can_next-is : {B : Type 0} (k : Kind) (l : Local B) (a : Answer B) → can_next k l a ≡ true → CanNext k l a
-can_next-is kind.Single (local.Begin c) answer.Start e = tt
-can_next-is kind.Single (local.Single l) (answer.Found word) e = tt
-can_next-is _ _ _ e = cc
 
 -- the last line stands for what `CanNext` excludes
 abbrev pub next_of : {B : Type 0} → Kind → Local B → Answer B → Next B
 next_of kind.Single (local.Begin c) answer.Start = single_begin c
 next_of kind.Single (local.Single l) (answer.Found word) = single_next l word
+next_of (kind.Bounded cap) (local.Begin c) answer.Start = bounded_begin cap c
+next_of (kind.Bounded cap) (local.Bounded l) a = bounded_next cap l a
 next_of _ _ _ = next.Reply (reply.Capacity None) None

@@ -6,9 +6,11 @@ ghost use Rattle.queue_steps.specs.Next.{CanNext, first_local, next_of};
 
 use crate::model::CallKind;
 
+mod bounded;
 mod single;
 mod types;
 
+pub use bounded::{BoundedLocal, PushKind};
 pub use single::SingleLocal;
 pub use types::{Answer, Kind, Link, Local, Look, Next, Op, Touch, Word};
 
@@ -29,6 +31,12 @@ pub fn next<B: Copy>(kind: Kind, local: Local<B>, answer: Answer<B>) -> Next<B>
     match (kind, local, answer) {
         (Kind::Single, Local::Begin(call), Answer::Start) => single::begin(call),
         (Kind::Single, Local::Single(local), Answer::Found(word)) => single::next(local, word),
+        (Kind::Bounded(cap), Local::Begin(call), Answer::Start) => bounded::begin(cap, call),
+        (Kind::Bounded(cap), Local::Bounded(local), answer) => bounded::next(
+            cap as u64,
+            local,
+            answer,
+        ),
         _ => unreachable!(),
     }
 }

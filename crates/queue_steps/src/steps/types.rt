@@ -1,5 +1,6 @@
 //! What a call is asked to do, and what it is told. `B` names a block of an unbounded queue.
 use crate::model::{CallKind, ReplyKind};
+use crate::steps::bounded::BoundedLocal;
 use crate::steps::single::SingleLocal;
 
 /// Which queue.
@@ -110,6 +111,8 @@ pub enum Local<B> {
     Begin(CallKind),
     /// Within a call on one slot.
     Single(SingleLocal),
+    /// Within a call on a ring.
+    Bounded(BoundedLocal),
     /// Within a call on a chain of blocks, with the spare block if there is one.
     Unbounded(Option<B>),
 }

@@ -1,0 +1,161 @@
+-- The steps of a ring.
+use Rattle.std.specs.Prelude.{◌≡◌, ℕ, ◌+◌, ◌-◌, ◌%◌, ◌≤◌, Bool, true, false, not, ◌==◌, Some, None, Ok, Err, if◌then◌else◌}
+use Rattle.queue_steps.specs.declared.sizes.TheConstants.{LIMIT}
+use Rattle.queue_steps.specs.declared.model.Call.{Call}
+use Rattle.queue_steps.specs.declared.model.Call.TheVariants as call
+use Rattle.queue_steps.specs.declared.model.Reply.{Reply}
+use Rattle.queue_steps.specs.declared.model.Reply.TheVariants as reply
+use Rattle.queue_steps.specs.declared.errors.PopError.TheVariants as pop
+use Rattle.queue_steps.specs.declared.errors.PushError.TheVariants as push
+use Rattle.queue_steps.specs.declared.errors.ForcePushError.TheVariants as force
+use Rattle.queue_steps.specs.declared.steps.types.Answer.{Answer}
+use Rattle.queue_steps.specs.declared.steps.types.Answer.TheVariants.{Found, Done}
+use Rattle.queue_steps.specs.declared.steps.types.Local.TheVariants as local
+use Rattle.queue_steps.specs.declared.steps.types.Next.{Next}
+use Rattle.queue_steps.specs.declared.steps.types.Next.TheVariants as next
+use Rattle.queue_steps.specs.declared.steps.types.Op.{Op}
+use Rattle.queue_steps.specs.declared.steps.types.Op.TheVariants as op
+use Rattle.queue_steps.specs.declared.steps.types.Touch.{Touch}
+use Rattle.queue_steps.specs.declared.steps.types.Touch.TheVariants as touch
+use Rattle.queue_steps.specs.declared.steps.types.Word.{Word}
+use Rattle.queue_steps.specs.declared.steps.types.Word.TheVariants as word
+use Rattle.queue_steps.specs.declared.steps.bounded.TheConstants.{MARK, TAIL_STEP}
+use Rattle.queue_steps.specs.declared.steps.bounded.PushKind.{PushKind}
+use Rattle.queue_steps.specs.declared.steps.bounded.PushKind.TheVariants as kind
+use Rattle.queue_steps.specs.declared.steps.bounded.BoundedLocal.{BoundedLocal}
+use Rattle.queue_steps.specs.declared.steps.bounded.BoundedLocal.TheVariants as ring
+use Rattle.queue_steps.specs.Words.{IsWord, position_of, is_shut, slot_at, stamp_free, stamp_filled, stamp_emptied}
+
+-- one step, after which the call waits at l
+abbrev pub at : {B : Type 0} → BoundedLocal → Touch → Op B → Next B
+at l t o = next.Step (local.Bounded l) t o
+
+abbrev pub loads : {B : Type 0} → BoundedLocal → Word B → Next B
+loads l w = at l touch.Nothing (op.Load w)
+
+-- the end of the call
+abbrev pub ends : {B : Type 0} → Reply Unit → Next B
+ends r = next.Reply r None
+
+-- the stamp is a word; one of the lap before is that of a position
+pub record FitsStamp (n tail stamp : ℕ) : Type 0 where
+  pub tail_word : IsWord tail
+  pub stamp_word : IsWord stamp
+  pub lapped : stamp + n ≡ position_of tail + 1 → n ≤ position_of tail
+
+-- the answer fits what was asked, and the words are those of a ring of n slots
+abbrev pub FitsRing : {B : Type 0} → ℕ → BoundedLocal → Answer B → Type 0
+FitsRing n (ring.PushTail p) (Found tail) = IsWord tail
+FitsRing n (ring.PushStamp p tail) (Found stamp) = FitsStamp n tail stamp
+FitsRing n (ring.Claiming p tail) (Found found) = IsWord tail × IsWord found
+FitsRing n (ring.Filling p) Done = Unit {0}
+FitsRing n (ring.PushHead tail) (Found head) = IsWord tail × IsWord head
+FitsRing n (ring.Displacing tail) (Found head) = IsWord tail × IsWord head
+FitsRing n (ring.Arriving tail) (Found before) = IsWord tail
+FitsRing n ring.Swapping Done = Unit {0}
+FitsRing n (ring.Spending p) (Found before) = Unit {0}
+FitsRing n ring.PopHead (Found head) = IsWord head
+FitsRing n (ring.PopStamp head) (Found stamp) = IsWord head
+FitsRing n (ring.Taking head) (Found found) = IsWord head × IsWord found
+FitsRing n ring.Emptying Done = Unit {0}
+FitsRing n (ring.PopTail head) (Found tail) = Unit {0}
+FitsRing n ring.LenTail (Found tail) = Unit {0}
+FitsRing n (ring.LenHead tail) (Found head) = Unit {0}
+FitsRing n (ring.LenAgain tail head) (Found again) = again ≡ tail → head ≤ position_of tail
+FitsRing n ring.EmptyHead (Found head) = Unit {0}
+FitsRing n (ring.EmptyTail head) (Found tail) = Unit {0}
+FitsRing n ring.FullTail (Found tail) = Unit {0}
+FitsRing n (ring.FullHead tail) (Found head) = IsWord head
+FitsRing n ring.Closing (Found tail) = Unit {0}
+FitsRing n ring.ClosedTail (Found tail) = Unit {0}
+FitsRing n _ _ = ⊥
+
+abbrev pub bounded_begin : {B : Type 0} → ℕ → Call Unit → Next B
+bounded_begin n (call.Push v) = loads (ring.PushTail kind.Push) word.Tail
+bounded_begin n (call.ForcePush v) = loads (ring.PushTail kind.Force) word.Tail
+bounded_begin n call.Pop = loads ring.PopHead word.Head
+bounded_begin n call.Close = at ring.Closing touch.Nothing (op.Or word.Tail MARK)
+bounded_begin n call.IsClosed = loads ring.ClosedTail word.Tail
+bounded_begin n call.IsEmpty = loads ring.EmptyHead word.Head
+bounded_begin n call.IsFull = loads ring.FullTail word.Tail
+bounded_begin n call.Len = loads ring.LenTail word.Tail
+bounded_begin n call.Capacity = ends (reply.Capacity (Some n))
+
+abbrev pub closed_reply : PushKind → Reply Unit
+closed_reply kind.Push = reply.Push (Err (push.Closed tt))
+closed_reply kind.Force = reply.ForcePush (Err (force.Closed tt))
+
+abbrev pub pushed_reply : PushKind → Reply Unit
+pushed_reply kind.Push = reply.Push (Ok tt)
+pushed_reply kind.Force = reply.ForcePush (Ok None)
+
+-- after a tail that a push found
+abbrev pub tail_found : {B : Type 0} → ℕ → PushKind → ℕ → Next B
+tail_found n p tail =
+    if is_shut tail then ends (closed_reply p)
+    else (if position_of tail == LIMIT then at (ring.Spending p) touch.Nothing (op.Or word.Tail MARK)
+    else loads (ring.PushStamp p tail) (word.Stamp (slot_at n (position_of tail))))
+
+-- where the slot still holds the item of the lap before
+abbrev pub lap_found : {B : Type 0} → ℕ → PushKind → ℕ → Next B
+lap_found n kind.Push tail = loads (ring.PushHead tail) word.Head
+lap_found n kind.Force tail = at (ring.Displacing tail) touch.Nothing (op.Exchange word.Head (position_of tail - n) (position_of tail - n + 1))
+
+abbrev pub push_stamp_found : {B : Type 0} → ℕ → PushKind → ℕ → ℕ → Next B
+push_stamp_found n p tail stamp =
+    if stamp == stamp_free (position_of tail) then at (ring.Claiming p tail) touch.Nothing (op.Exchange word.Tail tail (tail + TAIL_STEP))
+    else (if stamp + n == stamp_filled (position_of tail) then lap_found n p tail
+    else loads (ring.PushTail p) word.Tail)
+
+-- after a head that a pop found
+abbrev pub head_found : {B : Type 0} → ℕ → ℕ → Next B
+head_found n head = loads (ring.PopStamp head) (word.Stamp (slot_at n head))
+
+abbrev pub pop_stamp_found : {B : Type 0} → ℕ → ℕ → Next B
+pop_stamp_found head stamp =
+    if stamp == stamp_filled head then at (ring.Taking head) touch.Nothing (op.Exchange word.Head head (head + 1))
+    else (if stamp == stamp_free head then loads (ring.PopTail head) word.Tail
+    else loads ring.PopHead word.Head)
+
+abbrev pub pop_tail_found : {B : Type 0} → ℕ → ℕ → Next B
+pop_tail_found head tail =
+    if position_of tail == head then ends (reply.Pop (Err (if is_shut tail then pop.Closed else pop.Empty)))
+    else loads ring.PopHead word.Head
+
+-- after the answer to the last step. The last line stands for what `FitsRing` excludes
+abbrev pub bounded_next : {B : Type 0} → ℕ → BoundedLocal → Answer B → Next B
+bounded_next n (ring.PushTail p) (Found tail) = tail_found n p tail
+bounded_next n (ring.PushStamp p tail) (Found stamp) = push_stamp_found n p tail stamp
+bounded_next n (ring.Claiming p tail) (Found found) =
+    if found == tail then at (ring.Filling p) (touch.Put (slot_at n (position_of tail))) (op.Store (word.Stamp (slot_at n (position_of tail))) (stamp_filled (position_of tail)))
+    else tail_found n p found
+bounded_next n (ring.Filling p) Done = ends (pushed_reply p)
+bounded_next n (ring.PushHead tail) (Found head) =
+    if head + n == position_of tail then ends (reply.Push (Err (push.Full tt)))
+    else loads (ring.PushTail kind.Push) word.Tail
+bounded_next n (ring.Displacing tail) (Found head) =
+    if head + n == position_of tail then at (ring.Arriving tail) touch.Nothing (op.Add word.Tail TAIL_STEP)
+    else loads (ring.PushTail kind.Force) word.Tail
+bounded_next n (ring.Arriving tail) (Found before) =
+    at ring.Swapping (touch.Swap (slot_at n (position_of tail))) (op.Store (word.Stamp (slot_at n (position_of tail))) (stamp_filled (position_of tail)))
+bounded_next n ring.Swapping Done = ends (reply.ForcePush (Ok (Some tt)))
+bounded_next n (ring.Spending p) (Found before) = ends (closed_reply p)
+bounded_next n ring.PopHead (Found head) = head_found n head
+bounded_next n (ring.PopStamp head) (Found stamp) = pop_stamp_found head stamp
+bounded_next n (ring.Taking head) (Found found) =
+    if found == head then at ring.Emptying (touch.Take (slot_at n head)) (op.Store (word.Stamp (slot_at n head)) (stamp_emptied n head))
+    else head_found n found
+bounded_next n ring.Emptying Done = ends (reply.Pop (Ok tt))
+bounded_next n (ring.PopTail head) (Found tail) = pop_tail_found head tail
+bounded_next n ring.LenTail (Found tail) = loads (ring.LenHead tail) word.Head
+bounded_next n (ring.LenHead tail) (Found head) = loads (ring.LenAgain tail head) word.Tail
+bounded_next n (ring.LenAgain tail head) (Found again) =
+    if again == tail then ends (reply.Len (position_of tail - head))
+    else loads ring.LenTail word.Tail
+bounded_next n ring.EmptyHead (Found head) = loads (ring.EmptyTail head) word.Tail
+bounded_next n (ring.EmptyTail head) (Found tail) = ends (reply.IsEmpty (position_of tail == head))
+bounded_next n ring.FullTail (Found tail) = loads (ring.FullHead tail) word.Head
+bounded_next n (ring.FullHead tail) (Found head) = ends (reply.IsFull (head + n == position_of tail))
+bounded_next n ring.Closing (Found tail) = ends (reply.Close (tail % 2 == 0))
+bounded_next n ring.ClosedTail (Found tail) = ends (reply.IsClosed (is_shut tail))
+bounded_next n _ _ = ends (reply.Capacity None)

@@ -1,0 +1,349 @@
+//! The steps of a ring. `Tail` is twice the position of the next item to come, and one more once the queue is closed; `Head` is the position of the front.
+//! A slot's stamp is the position for which it is free, and one more once it is filled for it.
+ghost use Rattle.std.specs.Prelude.{◌≡◌, ◌%◌, ◌<◌};
+ghost use Rattle.queue_steps.specs.BoundedNext.{loads, bounded_begin, bounded_next, tail_found, head_found, push_stamp_found, pop_stamp_found, pop_tail_found, closed_reply, pushed_reply, FitsRing, FitsStamp};
+ghost use Rattle.queue_steps.specs.Words.{IsRing, IsWord};
+
+use crate::errors::{ForcePushError, PopError, PushError};
+use crate::model::{Call, CallKind, Reply, ReplyKind};
+use crate::sizes::LIMIT;
+use crate::steps::{Answer, Local, Next, Op, Touch, Word};
+
+/// What is set in a tail once the queue is closed.
+pub const MARK: u64 = 1;
+
+/// How much a tail grows by with each position.
+pub const TAIL_STEP: u64 = 2;
+
+/// Which push: one that answers `Full`, or one that displaces the front.
+#[derive(Clone, Copy, Debug, PartialEq, Eq)]
+pub enum PushKind {
+    Push,
+    Force,
+}
+
+/// Where a call on a ring stands, with the words that it remembers.
+#[derive(Clone, Copy, Debug, PartialEq, Eq)]
+pub enum BoundedLocal {
+    /// B1: the read of the tail.
+    PushTail(PushKind),
+    /// B2: the read of the stamp of that tail's slot.
+    PushStamp(PushKind, u64),
+    /// B3: the exchange of that tail.
+    Claiming(PushKind, u64),
+    /// B4: the slot is filled and stamped.
+    Filling(PushKind),
+    /// B5: the read of the head.
+    PushHead(u64),
+    /// F5: the exchange of the head, by which the front leaves.
+    Displacing(u64),
+    /// F6: the tail moves on, by which the item arrives.
+    Arriving(u64),
+    /// F7: the slot is swapped and stamped.
+    Swapping,
+    /// BS: the mark of a queue that has accepted all that it ever will.
+    Spending(PushKind),
+    /// O1: the read of the head.
+    PopHead,
+    /// O2: the read of the stamp of that head's slot.
+    PopStamp(u64),
+    /// O3: the exchange of that head.
+    Taking(u64),
+    /// O4: the slot is emptied and stamped.
+    Emptying,
+    /// O5: the read of the tail.
+    PopTail(u64),
+    /// L1: the read of the tail.
+    LenTail,
+    /// L2: the read of the head after that tail.
+    LenHead(u64),
+    /// L3: the second read of the tail, after that tail and that head.
+    LenAgain(u64, u64),
+    /// E1: the read of the head.
+    EmptyHead,
+    /// E2: the read of the tail after that head.
+    EmptyTail(u64),
+    /// G1: the read of the tail.
+    FullTail,
+    /// G2: the read of the head after that tail.
+    FullHead(u64),
+    /// C1: the mark of a close.
+    Closing,
+    /// K1: the read of the tail.
+    ClosedTail,
+}
+
+/// The slot of a position: its remainder by the capacity, which is a mask where the capacity is a power of two.
+#[inline(always)]
+fn slot_of(cap: u64, position: u64) -> usize
+    requires { 0 < cap }
+    ensures { result ≡ position % cap }
+{
+    if cap.is_power_of_two() {
+        (position & (cap - 1)) as usize
+    } else {
+        (position % cap) as usize
+    }
+}
+
+/// A step that only loads a word.
+#[inline(always)]
+fn load<B: Copy>(local: BoundedLocal, word: Word<B>) -> Next<B>
+    ensures { result ≡ loads local word }
+{
+    Next::Step(Local::Bounded(local), Touch::Nothing, Op::Load(word))
+}
+
+/// The first step of a call.
+#[inline(always)]
+pub(super) fn begin<B: Copy>(cap: usize, call: CallKind) -> Next<B>
+    ensures { result ≡ bounded_begin cap call }
+{
+    match call {
+        Call::Push(()) => load(BoundedLocal::PushTail(PushKind::Push), Word::Tail),
+        Call::ForcePush(()) => load(BoundedLocal::PushTail(PushKind::Force), Word::Tail),
+        Call::Pop => load(BoundedLocal::PopHead, Word::Head),
+        Call::Close => Next::Step(
+            Local::Bounded(BoundedLocal::Closing),
+            Touch::Nothing,
+            Op::Or(Word::Tail, MARK),
+        ),
+        Call::IsClosed => load(BoundedLocal::ClosedTail, Word::Tail),
+        Call::IsEmpty => load(BoundedLocal::EmptyHead, Word::Head),
+        Call::IsFull => load(BoundedLocal::FullTail, Word::Tail),
+        Call::Len => load(BoundedLocal::LenTail, Word::Tail),
+        Call::Capacity => Next::Reply(Reply::Capacity(Some(cap)), None),
+    }
+}
+
+/// What a push into a closed queue answers.
+#[inline(always)]
+fn closed(push: PushKind) -> ReplyKind
+    ensures { result ≡ closed_reply push }
+{
+    match push {
+        PushKind::Push => Reply::Push(Err(PushError::Closed(()))),
+        PushKind::Force => Reply::ForcePush(Err(ForcePushError::Closed(()))),
+    }
+}
+
+/// What a push answers that found a free slot.
+#[inline(always)]
+fn pushed(push: PushKind) -> ReplyKind
+    ensures { result ≡ pushed_reply push }
+{
+    match push {
+        PushKind::Push => Reply::Push(Ok(())),
+        PushKind::Force => Reply::ForcePush(Ok(None)),
+    }
+}
+
+/// What follows a tail that a push found.
+#[inline(always)]
+fn after_tail<B: Copy>(cap: u64, push: PushKind, tail: u64) -> Next<B>
+    requires { 0 < cap }
+    ensures { result ≡ tail_found cap push tail }
+{
+    if tail % 2 == 1 {
+        Next::Reply(closed(push), None)
+    } else if tail / 2 == LIMIT {
+        Next::Step(
+            Local::Bounded(BoundedLocal::Spending(push)),
+            Touch::Nothing,
+            Op::Or(Word::Tail, MARK),
+        )
+    } else {
+        load(
+            BoundedLocal::PushStamp(push, tail),
+            Word::Stamp(slot_of(cap, tail / 2)),
+        )
+    }
+}
+
+/// What follows the stamp of that tail's slot.
+#[inline(always)]
+fn after_push_stamp<B: Copy>(cap: u64, push: PushKind, tail: u64, stamp: u64) -> Next<B>
+    requires ring { IsRing cap }
+    requires fits { FitsStamp cap tail stamp }
+    ensures { result ≡ push_stamp_found cap push tail stamp }
+{
+    let position = tail / 2;
+    if stamp == position {
+        Next::Step(
+            Local::Bounded(BoundedLocal::Claiming(push, tail)),
+            Touch::Nothing,
+            Op::Exchange(Word::Tail, tail, tail + TAIL_STEP),
+        )
+    } else if stamp + cap == position + 1 {
+        match push {
+            PushKind::Push => load(BoundedLocal::PushHead(tail), Word::Head),
+            PushKind::Force => Next::Step(
+                Local::Bounded(BoundedLocal::Displacing(tail)),
+                Touch::Nothing,
+                Op::Exchange(Word::Head, position - cap, position - cap + 1),
+            ),
+        }
+    } else {
+        load(BoundedLocal::PushTail(push), Word::Tail)
+    }
+}
+
+/// What follows a head that a pop found.
+#[inline(always)]
+fn after_head<B: Copy>(cap: u64, head: u64) -> Next<B>
+    requires { 0 < cap }
+    ensures { result ≡ head_found cap head }
+{
+    load(BoundedLocal::PopStamp(head), Word::Stamp(slot_of(cap, head)))
+}
+
+/// What follows the stamp of that head's slot.
+#[inline(always)]
+fn after_pop_stamp<B: Copy>(head: u64, stamp: u64) -> Next<B>
+    requires { IsWord head }
+    ensures { result ≡ pop_stamp_found head stamp }
+{
+    if stamp == head + 1 {
+        Next::Step(
+            Local::Bounded(BoundedLocal::Taking(head)),
+            Touch::Nothing,
+            Op::Exchange(Word::Head, head, head + 1),
+        )
+    } else if stamp == head {
+        load(BoundedLocal::PopTail(head), Word::Tail)
+    } else {
+        load(BoundedLocal::PopHead, Word::Head)
+    }
+}
+
+/// What follows the tail that a pop found after an empty slot.
+#[inline(always)]
+fn after_pop_tail<B: Copy>(head: u64, tail: u64) -> Next<B>
+    ensures { result ≡ pop_tail_found head tail }
+{
+    if tail / 2 == head {
+        let why = if tail % 2 == 1 {
+            PopError::Closed
+        } else {
+            PopError::Empty
+        };
+        Next::Reply(Reply::Pop(Err(why)), None)
+    } else {
+        load(BoundedLocal::PopHead, Word::Head)
+    }
+}
+
+/// What follows the answer to the last step.
+#[inline(always)]
+pub(super) fn next<B: Copy>(cap: u64, local: BoundedLocal, answer: Answer<B>) -> Next<B>
+    requires ring { IsRing cap }
+    requires fits { FitsRing cap local answer }
+    ensures { result ≡ bounded_next cap local answer }
+{
+    match (local, answer) {
+        (BoundedLocal::PushTail(push), Answer::Found(tail)) => after_tail(cap, push, tail),
+        (BoundedLocal::PushStamp(push, tail), Answer::Found(stamp)) => after_push_stamp(
+            cap,
+            push,
+            tail,
+            stamp,
+        ),
+        (BoundedLocal::Claiming(push, tail), Answer::Found(found)) => {
+            if found == tail {
+                let slot = slot_of(cap, tail / 2);
+                Next::Step(
+                    Local::Bounded(BoundedLocal::Filling(push)),
+                    Touch::Put(slot),
+                    Op::Store(Word::Stamp(slot), tail / 2 + 1),
+                )
+            } else {
+                after_tail(cap, push, found)
+            }
+        }
+        (BoundedLocal::Filling(push), Answer::Done) => Next::Reply(pushed(push), None),
+        (BoundedLocal::PushHead(tail), Answer::Found(head)) => {
+            if head + cap == tail / 2 {
+                Next::Reply(Reply::Push(Err(PushError::Full(()))), None)
+            } else {
+                load(BoundedLocal::PushTail(PushKind::Push), Word::Tail)
+            }
+        }
+        (BoundedLocal::Displacing(tail), Answer::Found(head)) => {
+            if head + cap == tail / 2 {
+                Next::Step(
+                    Local::Bounded(BoundedLocal::Arriving(tail)),
+                    Touch::Nothing,
+                    Op::Add(Word::Tail, TAIL_STEP),
+                )
+            } else {
+                load(BoundedLocal::PushTail(PushKind::Force), Word::Tail)
+            }
+        }
+        (BoundedLocal::Arriving(tail), Answer::Found(_)) => {
+            let slot = slot_of(cap, tail / 2);
+            Next::Step(
+                Local::Bounded(BoundedLocal::Swapping),
+                Touch::Swap(slot),
+                Op::Store(Word::Stamp(slot), tail / 2 + 1),
+            )
+        }
+        (BoundedLocal::Swapping, Answer::Done) => Next::Reply(
+            Reply::ForcePush(Ok(Some(()))),
+            None,
+        ),
+        (BoundedLocal::Spending(push), Answer::Found(_)) => Next::Reply(closed(push), None),
+        (BoundedLocal::PopHead, Answer::Found(head)) => after_head(cap, head),
+        (BoundedLocal::PopStamp(head), Answer::Found(stamp)) => after_pop_stamp(head, stamp),
+        (BoundedLocal::Taking(head), Answer::Found(found)) => {
+            if found == head {
+                let slot = slot_of(cap, head);
+                Next::Step(
+                    Local::Bounded(BoundedLocal::Emptying),
+                    Touch::Take(slot),
+                    Op::Store(Word::Stamp(slot), head + cap),
+                )
+            } else {
+                after_head(cap, found)
+            }
+        }
+        (BoundedLocal::Emptying, Answer::Done) => Next::Reply(Reply::Pop(Ok(())), None),
+        (BoundedLocal::PopTail(head), Answer::Found(tail)) => after_pop_tail(head, tail),
+        (BoundedLocal::LenTail, Answer::Found(tail)) => load(BoundedLocal::LenHead(tail), Word::Head),
+        (BoundedLocal::LenHead(tail), Answer::Found(head)) => load(
+            BoundedLocal::LenAgain(tail, head),
+            Word::Tail,
+        ),
+        (BoundedLocal::LenAgain(tail, head), Answer::Found(again)) => {
+            if again == tail {
+                Next::Reply(Reply::Len((tail / 2 - head) as usize), None)
+            } else {
+                load(BoundedLocal::LenTail, Word::Tail)
+            }
+        }
+        (BoundedLocal::EmptyHead, Answer::Found(head)) => load(
+            BoundedLocal::EmptyTail(head),
+            Word::Tail,
+        ),
+        (BoundedLocal::EmptyTail(head), Answer::Found(tail)) => Next::Reply(
+            Reply::IsEmpty(tail / 2 == head),
+            None,
+        ),
+        (BoundedLocal::FullTail, Answer::Found(tail)) => load(
+            BoundedLocal::FullHead(tail),
+            Word::Head,
+        ),
+        (BoundedLocal::FullHead(tail), Answer::Found(head)) => Next::Reply(
+            Reply::IsFull(head + cap == tail / 2),
+            None,
+        ),
+        (BoundedLocal::Closing, Answer::Found(tail)) => Next::Reply(
+            Reply::Close(tail % 2 == 0),
+            None,
+        ),
+        (BoundedLocal::ClosedTail, Answer::Found(tail)) => Next::Reply(
+            Reply::IsClosed(tail % 2 == 1),
+            None,
+        ),
+        _ => unreachable!(),
+    }
+}
