@@ -5,10 +5,14 @@ use Rattle.queue_steps.specs.declared.model.Call.{Call}
 use Rattle.queue_steps.specs.declared.model.Call.TheVariants as call
 use Rattle.queue_steps.specs.declared.model.Reply.{Reply}
 use Rattle.queue_steps.specs.declared.steps.types.Kind.TheVariants as kind
+use Rattle.queue_steps.specs.declared.steps.types.Kind.{Kind}
+use Rattle.queue_steps.specs.declared.steps.types.Local.{Local}
+use Rattle.queue_steps.specs.declared.steps.types.Local.TheVariants as local
+use Rattle.queue_steps.specs.declared.steps.types.Answer.{Answer}
 use Rattle.queue_steps.specs.declared.steps.types.Answer.TheVariants as answer
 use Rattle.queue_steps.specs.declared.steps.types.Op.{Op}
 use Rattle.queue_steps.specs.declared.steps.types.Touch.TheVariants as touch
-use Rattle.queue_steps.specs.Next.{next_of, first_local}
+use Rattle.queue_steps.specs.Next.{CanNext, next_of, first_local}
 use Rattle.queue_steps.specs.Kinds.{call_kind, call_value, filled}
 use Rattle.queue_steps.specs.declared.sizes.TheConstants.{LONE_STEPS}
 use Rattle.queue_steps.specs.Sole.{Sole}
@@ -18,6 +22,17 @@ use Rattle.concurrent_queue.specs.Ends.{EndsRight, Answered}
 use Rattle.concurrent_queue.specs.Runs.{Outcome, run_from, Ends-run}
 use Rattle.concurrent_queue.specs.SingleCells.{IsIdle, single_owned, single_touchable, single_operable, single_touched, single_performed, single_can_touch, single_can_perform, single_touches, single_performs, word_for}
 
+-- the test of `CanNext` for one slot
+abbrev pub can_next : Kind → Local Unit → Answer Unit → Bool
+can_next kind.Single (local.Begin c) answer.Start = true
+can_next kind.Single (local.Single l) (answer.Found word) = true
+can_next _ _ _ = false
+
+pub can_next-is : (k : Kind) (l : Local Unit) (a : Answer Unit) → can_next k l a ≡ true → CanNext k l a
+can_next-is kind.Single (local.Begin c) answer.Start e = tt
+can_next-is kind.Single (local.Single l) (answer.Found word) e = tt
+can_next-is _ _ _ e = cc
+
 abbrev pub slot_of : {T : Type 0} → Option T → ℕ → Single T
 slot_of item lock = record { lock = lock; item = item }
 
@@ -25,7 +40,7 @@ slot_of item lock = record { lock = lock; item = item }
 abbrev pub SingleRun : {T : Type 0} → Option T → Bool → Call T → Type 0
 SingleRun {T} item closed c =
     (o : Outcome T Unit (Single T))
-    × (run_from single_touchable single_touched single_operable single_performed LONE_STEPS kind.Single (next_of kind.Single (first_local (call_kind c)) answer.Start) (slot_of item (word_for item closed)) (call_value c) ≡ Some o)
+    × (run_from single_touchable single_touched single_operable single_performed can_next can_next-is LONE_STEPS kind.Single (next_of kind.Single (first_local (call_kind c)) answer.Start) (slot_of item (word_for item closed)) (call_value c) ≡ Some o)
     × IsIdle o.cells
     × (o.spare ≡ None)
     × ((reply : Reply T) × (filled o.reply o.carried ≡ Some reply) × Sole (single_owned (slot_of item (word_for item closed))) c reply (single_owned o.cells))
@@ -75,7 +90,7 @@ pub single_ends : {T : Type 0} (item : Option T) (lock : ℕ) (closed : Bool) (c
 single_ends {T} item lock closed c is =
     let r = single_run item closed c in
     let P : ℕ → Type 0 = λ w. SingleEnds (slot_of item w) c in
-    subst P (sym is) (tt, Ends-run single_touchable single_touched single_operable single_performed LONE_STEPS kind.Single (next_of kind.Single (first_local (call_kind c)) answer.Start) (slot_of item (word_for item closed)) (call_value c) (Answered single_can_touch single_touches single_can_perform (single_performs {T = T}) IsIdle single_owned c (slot_of item (word_for item closed))) r.0 r.1 (r.2, r.3, r.4))
+    subst P (sym is) (tt, Ends-run single_touchable single_touched single_operable single_performed can_next can_next-is LONE_STEPS kind.Single (next_of kind.Single (first_local (call_kind c)) answer.Start) (slot_of item (word_for item closed)) (call_value c) (Answered single_can_touch single_touches single_can_perform (single_performs {T = T}) IsIdle single_owned c (slot_of item (word_for item closed))) r.0 r.1 (r.2, r.3, r.4))
 
 pub single_answers : {T : Type 0} (s : Single T) (c : Call T) → IsIdle s → SingleEnds s c
 single_answers s c is = single_ends s.item s.lock (is_marked s.lock) c is
