@@ -1,6 +1,6 @@
 -- What the effects keep, and what the one-owner table keeps.
-use Rattle.std.specs.Prelude.{◌≡◌, ◌⊎◌, ℕ, ◌+◌, ◌-◌, ◌<◌, ◌≤◌, Bool, true, false, not, ◌&&◌, ◌==◌, List, [], ◌∷◌, ◌++◌, length, Option, Some, None, if◌then◌else◌, nat_eq}
-use Rattle.std.proofs.Common.{refl, sym, inl, inr, ap, ◌∙◌, arith, length-append}
+use Rattle.std.specs.Prelude.{◌≡◌, ◌⊎◌, ℕ, ◌+◌, ◌-◌, ◌≤◌, Bool, true, false, not, ◌&&◌, ◌==◌, List, [], ◌∷◌, ◌++◌, length, Option, Some, None, if◌then◌else◌, nat_eq}
+use Rattle.std.proofs.Common.{refl, inl, inr, ap, ◌∙◌, arith, length-append}
 use Rattle.queue_steps.specs.declared.sizes.TheConstants.{LIMIT}
 use Rattle.queue_steps.specs.declared.model.Effect.{Effect}
 use Rattle.queue_steps.specs.declared.model.Effect.TheVariants as effect
@@ -9,8 +9,8 @@ use Rattle.queue_steps.specs.declared.model.Call.TheVariants as call
 use Rattle.queue_steps.specs.State.{State, start, is_single_cap, fills, is_full}
 use Rattle.queue_steps.specs.Effect.{Fits, made, rest, with_coming, Runs, after_from}
 use Rattle.queue_steps.specs.Laws.{StaysClosed, StaysWithin}
-use Rattle.queue_steps.specs.Legal.{IsSound, IsWithin, IsSoundOwned, KeepsSound}
-use Rattle.queue_steps.specs.Sole.{Owned, HoldsBlocks, moved, spanned, blocks_of, sole_state, is_spent, shut, appended, displaced, counted}
+use Rattle.queue_steps.specs.Legal.{IsSound, IsWithin, KeepsSound}
+use Rattle.queue_steps.specs.Sole.{Owned, HoldsBlocks, moved, spanned, blocks_of, sole_state, is_spent, shut, appended, displaced}
 
 closed-made : {T : Type 0} (e : Effect T) (Q : State T) → Fits e Q → Q.closed ≡ true → (made e Q).closed ≡ true
 closed-made (effect.Append v) Q f h = h

@@ -1,5 +1,5 @@
 -- A remainder by a power of two is a mask.
-use Rattle.std.specs.Prelude.{◌==◌, bit_and}
+use Rattle.std.specs.Prelude.{bit_and}
 use Rattle.std.proofs.Common.{◌≡◌, ◌⊎◌, ℕ, zero, suc, ◌+◌, ◌-◌, ◌*◌, ◌/◌, ◌%◌, ◌^◌, ◌<◌, ◌≤◌, true, refl, arith, inl, inr, sym, ◌∙◌, ap}
 use Rattle.std.specs.Int.{is_power_of_two}
 use Rattle.std.specs.Int.RustNames.{count_ones}

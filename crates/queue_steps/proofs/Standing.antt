@@ -3,13 +3,13 @@ use Rattle.std.specs.Prelude.{◌≡◌, ◌⊎◌, ℕ, ◌+◌, ◌<◌, ◌�
 use Rattle.std.proofs.Common.{refl, sym, inl, inr, ap, ◌∙◌, arith}
 use Rattle.queue_steps.specs.declared.sizes.TheConstants.{LIMIT}
 use Rattle.queue_steps.specs.declared.model.Effect.TheVariants as effect
-use Rattle.queue_steps.specs.State.{State, is_single_cap, fills, is_full}
+use Rattle.queue_steps.specs.State.{is_single_cap, fills, is_full}
 use Rattle.queue_steps.specs.Effect.{rest}
 use Rattle.queue_steps.specs.Replies.{IsRightAt, Tells, is_empty}
 use Rattle.queue_steps.specs.Sole.{Owned, LacksMemory, sole_reply, sole_state, is_spent, shut, appended, displaced, front, pop_result}
 use Rattle.queue_steps.specs.declared.errors.PushError.TheVariants as push
 use Rattle.queue_steps.specs.declared.errors.ForcePushError.TheVariants as force
-use Rattle.queue_steps.specs.Legal.{IsSound, IsShown, IsWithin, Stands, SoleStands}
+use Rattle.queue_steps.specs.Legal.{IsSound, IsWithin, Stands, SoleStands}
 use Rattle.queue_steps.specs.declared.model.Call.{Call}
 use Rattle.queue_steps.specs.declared.model.Call.TheVariants as call
 use Rattle.queue_steps.specs.declared.model.Reply.{Reply}

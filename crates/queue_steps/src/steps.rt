@@ -33,9 +33,7 @@ pub fn next<B: Copy>(kind: Kind, local: Local<B>, answer: Answer<B>) -> Next<B>
         (Kind::Single, Local::Single(local), Answer::Found(word)) => single::next(local, word),
         (Kind::Bounded(cap), Local::Begin(call), Answer::Start) => bounded::begin(cap, call),
         (Kind::Bounded(cap), Local::Bounded(local), answer) => bounded::next(
-            cap as u64,
-            local,
-            answer,
+            cap as u64, local, answer,
         ),
         _ => unreachable!(),
     }

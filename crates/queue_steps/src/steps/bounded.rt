@@ -194,7 +194,10 @@ fn after_head<B: Copy>(cap: u64, head: u64) -> Next<B>
     requires { 0 < cap }
     ensures { result ≡ head_found cap head }
 {
-    load(BoundedLocal::PopStamp(head), Word::Stamp(slot_of(cap, head)))
+    load(
+        BoundedLocal::PopStamp(head),
+        Word::Stamp(slot_of(cap, head)),
+    )
 }
 
 /// What follows the stamp of that head's slot.
@@ -243,10 +246,7 @@ pub(super) fn next<B: Copy>(cap: u64, local: BoundedLocal, answer: Answer<B>) ->
     match (local, answer) {
         (BoundedLocal::PushTail(push), Answer::Found(tail)) => after_tail(cap, push, tail),
         (BoundedLocal::PushStamp(push, tail), Answer::Found(stamp)) => after_push_stamp(
-            cap,
-            push,
-            tail,
-            stamp,
+            cap, push, tail, stamp,
         ),
         (BoundedLocal::Claiming(push, tail), Answer::Found(found)) => {
             if found == tail {
@@ -287,10 +287,7 @@ pub(super) fn next<B: Copy>(cap: u64, local: BoundedLocal, answer: Answer<B>) ->
                 Op::Store(Word::Stamp(slot), tail / 2 + 1),
             )
         }
-        (BoundedLocal::Swapping, Answer::Done) => Next::Reply(
-            Reply::ForcePush(Ok(Some(()))),
-            None,
-        ),
+        (BoundedLocal::Swapping, Answer::Done) => Next::Reply(Reply::ForcePush(Ok(Some(()))), None),
         (BoundedLocal::Spending(push), Answer::Found(_)) => Next::Reply(closed(push), None),
         (BoundedLocal::PopHead, Answer::Found(head)) => after_head(cap, head),
         (BoundedLocal::PopStamp(head), Answer::Found(stamp)) => after_pop_stamp(head, stamp),
@@ -308,7 +305,10 @@ pub(super) fn next<B: Copy>(cap: u64, local: BoundedLocal, answer: Answer<B>) ->
         }
         (BoundedLocal::Emptying, Answer::Done) => Next::Reply(Reply::Pop(Ok(())), None),
         (BoundedLocal::PopTail(head), Answer::Found(tail)) => after_pop_tail(head, tail),
-        (BoundedLocal::LenTail, Answer::Found(tail)) => load(BoundedLocal::LenHead(tail), Word::Head),
+        (BoundedLocal::LenTail, Answer::Found(tail)) => load(
+            BoundedLocal::LenHead(tail),
+            Word::Head,
+        ),
         (BoundedLocal::LenHead(tail), Answer::Found(head)) => load(
             BoundedLocal::LenAgain(tail, head),
             Word::Tail,

@@ -1,0 +1,7 @@
+//! Tests of the queues through their public calls. They hold what no contract says: worked examples, printed texts, and that calls succeed with ample memory.
+#![tactic(auto)]
+
+#[cfg(test)]
+mod errors;
+#[cfg(test)]
+mod one_slot;
