@@ -1,0 +1,31 @@
+//! Callers that are proved from the public contracts alone; `CALLING.md` of each library shows one.
+ghost use Rattle.std.specs.Prelude.{◌≡◌, Some, IfOk};
+ghost use Rattle.queue_steps.specs.declared.steps.types.Next.TheVariants as next;
+ghost use Rattle.queue_steps.specs.declared.steps.types.Local.TheVariants as local;
+ghost use Rattle.queue_steps.specs.declared.steps.types.Touch.TheVariants as touch;
+ghost use Rattle.queue_steps.specs.declared.steps.types.Op.TheVariants as op;
+ghost use Rattle.queue_steps.specs.declared.steps.types.Word.TheVariants as word;
+ghost use Rattle.queue_steps.specs.declared.steps.single.SingleLocal.TheVariants as slot;
+
+use concurrent_queue::Exclusive;
+use concurrent_queue::model::Call;
+use concurrent_queue::steps;
+use concurrent_queue::steps::{Answer, Kind, Next};
+use std::alloc::{AllocError, Allocator};
+
+/// Puts `value` through a queue of one slot, and gives what comes out of it.
+pub fn through_a_slot<A: Allocator>(alloc: A, value: u64) -> Result<Option<u64>, AllocError>
+    ensures { IfOk result (λ out. out ≡ Some value) }
+{
+    let mut queue: Exclusive<u64, A> = Exclusive::bounded(alloc, 1)?;
+    let _ = queue.push(value);
+    Ok(queue.pop().ok())
+}
+
+/// The first step of a pop on one slot, which is the exchange of the word of an unlocked slot with an item.
+pub fn first_step_of_a_pop() -> Next<()>
+    ensures { result ≡ next.Step (local.Single (slot.Popping 2)) touch.Nothing (op.Exchange word.Lock 2 1) }
+{
+    let local = steps::start(Kind::Single, Call::Pop);
+    steps::next(Kind::Single, local, Answer::Start)
+}
