@@ -1,7 +1,7 @@
 -- Every call on a ring ends with its reply.
 use Rattle.std.specs.Prelude.{slice_set, ◌==◌, not, nat_eq, if◌then◌else◌}
 use Rattle.std.proofs.Common.{◌≡◌, ◌⊎◌, ℕ, ◌+◌, ◌-◌, ◌/◌, ◌%◌, ◌^◌, ◌<◌, ◌≤◌, Bool, true, false, List, [], ◌∷◌, ◌++◌, length, Option, Some, None, Ok, Err, refl, arith, sym, ap, ◌∙◌, subst, inl, inr, mod-lt}
-use Rattle.queue_steps.specs.declared.sizes.TheConstants.{LIMIT}
+use Rattle.queue_steps.specs.declared.sizes.TheConstants.{LIMIT, LONE_STEPS}
 use Rattle.queue_steps.specs.declared.model.Call.{Call}
 use Rattle.queue_steps.specs.declared.model.Call.TheVariants as call
 use Rattle.queue_steps.specs.declared.model.Reply.{Reply}
@@ -90,7 +90,7 @@ push-answers : {T : Type 0} (r : RingState T) (v : T) → IsIdle r → RingAnswe
 push-answers {T} r v i = (i.ring, go (is_shut r.tail) (position_of r.tail == LIMIT) (cases r i) refl refl)
   where
     go : (b1 b2 : Bool) → (position_of r.tail ≡ r.head + r.cap) ⊎ (position_of r.tail < r.head + r.cap) → is_shut r.tail ≡ b1 → (position_of r.tail == LIMIT) ≡ b2
-        → RingEnds r.cap 64 (loads (ring.PushTail push_kind.Push) word.Tail) r (Some v) (Right (call.Push v) r)
+        → RingEnds r.cap LONE_STEPS (loads (ring.PushTail push_kind.Push) word.Tail) r (Some v) (Right (call.Push v) r)
     go true b2 c e1 e2 =
         run-closed r v push_kind.Push (Right (call.Push v) r) i.ring (tail-word r i) e1 (i, refl, (reply.Push (Err (push.Closed v)), refl, sole r r (call.Push v) (reply.Push (Err (push.Closed v))) (rw e1 refl) (rw e1 refl)))
     go false true c e1 e2 =
@@ -111,7 +111,7 @@ force-answers : {T : Type 0} (r : RingState T) (v : T) → IsIdle r → RingAnsw
 force-answers {T} r v i = (i.ring, go (is_shut r.tail) (position_of r.tail == LIMIT) (cases r i) refl refl)
   where
     go : (b1 b2 : Bool) → (position_of r.tail ≡ r.head + r.cap) ⊎ (position_of r.tail < r.head + r.cap) → is_shut r.tail ≡ b1 → (position_of r.tail == LIMIT) ≡ b2
-        → RingEnds r.cap 64 (loads (ring.PushTail push_kind.Force) word.Tail) r (Some v) (Right (call.ForcePush v) r)
+        → RingEnds r.cap LONE_STEPS (loads (ring.PushTail push_kind.Force) word.Tail) r (Some v) (Right (call.ForcePush v) r)
     go true b2 c e1 e2 =
         run-closed r v push_kind.Force (Right (call.ForcePush v) r) i.ring (tail-word r i) e1
         (i, refl, (reply.ForcePush (Err (force.Closed v)), refl, sole r r (call.ForcePush v) (reply.ForcePush (Err (force.Closed v))) (rw e1 refl) (rw e1 refl)))
@@ -151,7 +151,7 @@ pop-answers {T} r i = (i.ring, go (order (position_of r.tail) r.head i.holds.ord
     order : (t h : ℕ) → h ≤ t → (t ≡ h) ⊎ (h < t)
     order t h o = grind arith
 
-    go : (position_of r.tail ≡ r.head) ⊎ (r.head < position_of r.tail) → RingEnds r.cap 64 (loads ring.PopHead word.Head) r None (Right call.Pop r)
+    go : (position_of r.tail ≡ r.head) ⊎ (r.head < position_of r.tail) → RingEnds r.cap LONE_STEPS (loads ring.PopHead word.Head) r None (Right call.Pop r)
     go (inl empty) =
         let s = i.holds.some in
         let none : position_of r.tail - r.head ≡ 0 = omega arith in
