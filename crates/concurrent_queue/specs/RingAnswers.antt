@@ -1,6 +1,6 @@
 -- Every call on a ring ends with its reply.
-use Rattle.std.specs.Prelude.{slice_set, ◌==◌, not, nat_eq, if◌then◌else◌}
-use Rattle.std.proofs.Common.{◌≡◌, ◌⊎◌, ℕ, ◌+◌, ◌-◌, ◌/◌, ◌%◌, ◌^◌, ◌<◌, ◌≤◌, Bool, true, false, List, [], ◌∷◌, ◌++◌, length, Option, Some, None, Ok, Err, refl, arith, sym, ap, ◌∙◌, subst, inl, inr, mod-lt}
+use Rattle.std.specs.Prelude.{◌==◌, not, nat_eq, if◌then◌else◌}
+use Rattle.std.proofs.Common.{◌≡◌, ◌⊎◌, ℕ, ◌+◌, ◌-◌, ◌%◌, ◌<◌, ◌≤◌, Bool, true, false, List, [], ◌∷◌, ◌++◌, length, Option, Some, None, Ok, Err, refl, arith, sym, ap, ◌∙◌, subst, inl, inr, mod-lt}
 use Rattle.queue_steps.specs.declared.sizes.TheConstants.{LIMIT, LONE_STEPS}
 use Rattle.queue_steps.specs.declared.model.Call.{Call}
 use Rattle.queue_steps.specs.declared.model.Call.TheVariants as call
@@ -15,14 +15,14 @@ use Rattle.queue_steps.specs.declared.steps.bounded.PushKind.TheVariants as push
 use Rattle.queue_steps.specs.State.{State, is_full}
 use Rattle.queue_steps.specs.Effect.{rest}
 use Rattle.queue_steps.specs.Replies.{is_empty}
-use Rattle.queue_steps.specs.Sole.{Owned, Sole, sole_reply, sole_state, moved, blocks_of}
+use Rattle.queue_steps.specs.Sole.{Sole, sole_reply, sole_state, moved}
 use Rattle.queue_steps.specs.declared.steps.types.Word.TheVariants as word
 use Rattle.queue_steps.specs.declared.steps.bounded.BoundedLocal.TheVariants as ring
 use Rattle.queue_steps.specs.BoundedNext.{loads}
 use Rattle.queue_steps.specs.Words.{IsWord, position_of, is_shut, slot_at}
 use Rattle.concurrent_queue.specs.Ends.{EndsRight, Answered}
 use Rattle.concurrent_queue.specs.RingCells.{RingState, kind_of_ring, ring_can_touch, ring_touches, ring_can_perform, ring_performs}
-use Rattle.concurrent_queue.specs.RingKeeps.{items_of, next_lap, at_position, filled_slot, free_slot}
+use Rattle.concurrent_queue.specs.RingKeeps.{next_lap, at_position, filled_slot}
 use Rattle.concurrent_queue.specs.RingOwned.{IsIdle, ring_queue, ring_owned}
 use Rattle.concurrent_queue.specs.RingRuns.{Ending, RingEnds, apart_nat, equal_nat}
 use Rattle.concurrent_queue.specs.RingCalls.{marked, pushed, popped, displaced, run-closed, run-spent, run-room, run-full, run-displaced, run-pop, run-empty, run-close, run-is_closed, run-is_empty, run-is_full, run-len}
@@ -134,16 +134,28 @@ force-answers {T} r v i = (i.ring, go (is_shut r.tail) (position_of r.tail == LI
         let Queue : State T → State T = λ q. record q { items = q.items ++ v ∷ []; accepted = q.accepted + 1 } in
         let leaves : ring_queue (displaced r v) ≡ Queue (record (ring_queue r) { items = rest (ring_queue r).items }) =
         ap ring_queue done ∙ (queue-pushed (popped r) v room mid ∙ ap Queue (queue-popped r x.0 some x.2 i)) in
-        run-displaced r x.0 v (Right (call.ForcePush v) r) i.ring (tail-word r i) e1 e2 full (inside r (position_of r.tail) i) x.1
-        (subst Idle (sym done) (idle-pushed (popped r) v below room mid), refl, (reply.ForcePush (Ok (Some x.0)), refl,
-          sole r (displaced r v) (call.ForcePush v) (reply.ForcePush (Ok (Some x.0))) (rw (e1, many, e2, f, items) refl) (leaves ∙ rw (e1, many, e2, f) refl)))
+        run-displaced r x.0 v (Right (call.ForcePush v) r) i.ring (tail-word r i) e1 e2 full (inside r (position_of r.tail) i) x.1 (
+          subst Idle (sym done) (idle-pushed (popped r) v below room mid),
+          refl,
+          (
+            reply.ForcePush (Ok (Some x.0)),
+            refl,
+            sole r (displaced r v) (call.ForcePush v) (reply.ForcePush (Ok (Some x.0))) (rw (e1, many, e2, f, items) refl) (leaves ∙ rw (e1, many, e2, f) refl),
+          ),
+        )
     go false false (inr room) e1 e2 =
         let many = over_one r.cap i.ring.0 in
         let f = room-is r i room in
         let below : position_of r.tail < LIMIT = is_apart (position_of r.tail) LIMIT e2 i.below in
-        run-room r v push_kind.Force (Right (call.ForcePush v) r) i.ring (tail-word r i) e1 e2 (inside r (position_of r.tail) i) (i.holds.free (position_of r.tail) (omega arith) room)
-        (idle-pushed r v below room i, refl, (reply.ForcePush (Ok None), refl,
-          sole r (pushed r v) (call.ForcePush v) (reply.ForcePush (Ok None)) (rw (e1, many, e2, f) refl) (queue-pushed r v room i ∙ rw (e1, many, e2, f) refl)))
+        run-room r v push_kind.Force (Right (call.ForcePush v) r) i.ring (tail-word r i) e1 e2 (inside r (position_of r.tail) i) (i.holds.free (position_of r.tail) (omega arith) room) (
+          idle-pushed r v below room i,
+          refl,
+          (
+            reply.ForcePush (Ok None),
+            refl,
+            sole r (pushed r v) (call.ForcePush v) (reply.ForcePush (Ok None)) (rw (e1, many, e2, f) refl) (queue-pushed r v room i ∙ rw (e1, many, e2, f) refl),
+          ),
+        )
 
 pop-answers : {T : Type 0} (r : RingState T) → IsIdle r → RingAnswers r call.Pop
 pop-answers {T} r i = (i.ring, go (order (position_of r.tail) r.head i.holds.order))
@@ -171,9 +183,18 @@ close-answers {T} r i =
     even t = grind arith
 
 is_empty-answers : {T : Type 0} (r : RingState T) → IsIdle r → RingAnswers r call.IsEmpty
-is_empty-answers {T} r i =
-    (i.ring, run-is_empty r (Right call.IsEmpty r) i.ring (i, refl, (reply.IsEmpty (position_of r.tail == r.head), refl,
-      sole r r call.IsEmpty (reply.IsEmpty (position_of r.tail == r.head)) (ap reply.IsEmpty (same (position_of r.tail) r.head (ring_queue r).items i.holds.order (length-items r i))) refl)))
+is_empty-answers {T} r i = (
+  i.ring,
+  run-is_empty r (Right call.IsEmpty r) i.ring (
+    i,
+    refl,
+    (
+      reply.IsEmpty (position_of r.tail == r.head),
+      refl,
+      sole r r call.IsEmpty (reply.IsEmpty (position_of r.tail == r.head)) (ap reply.IsEmpty (same (position_of r.tail) r.head (ring_queue r).items i.holds.order (length-items r i))) refl,
+    ),
+  ),
+)
   where
     same : (t h : ℕ) (xs : List T) → h ≤ t → length xs ≡ t - h → (t == h) ≡ is_empty xs
     same t h [] o e = equal_nat t h (omega arith)
@@ -183,9 +204,18 @@ is_empty-answers {T} r i =
         not_equal t h o = grind arith
 
 is_full-answers : {T : Type 0} (r : RingState T) → IsIdle r → RingAnswers r call.IsFull
-is_full-answers {T} r i =
-    (i.ring, run-is_full r (Right call.IsFull r) i.ring (head-word r i) (i, refl, (reply.IsFull (r.head + r.cap == position_of r.tail), refl,
-      sole r r call.IsFull (reply.IsFull (r.head + r.cap == position_of r.tail)) (ap reply.IsFull (same (cases r i))) refl)))
+is_full-answers {T} r i = (
+  i.ring,
+  run-is_full r (Right call.IsFull r) i.ring (head-word r i) (
+    i,
+    refl,
+    (
+      reply.IsFull (r.head + r.cap == position_of r.tail),
+      refl,
+      sole r r call.IsFull (reply.IsFull (r.head + r.cap == position_of r.tail)) (ap reply.IsFull (same (cases r i))) refl,
+    ),
+  ),
+)
   where
     same : (position_of r.tail ≡ r.head + r.cap) ⊎ (position_of r.tail < r.head + r.cap) → (r.head + r.cap == position_of r.tail) ≡ is_full (ring_queue r)
     same (inl full) = equal_nat (r.head + r.cap) (position_of r.tail) (sym full) ∙ sym (full-is r i full)
@@ -195,9 +225,18 @@ is_full-answers {T} r i =
         not_equal t h o = grind arith
 
 len-answers : {T : Type 0} (r : RingState T) → IsIdle r → RingAnswers r call.Len
-len-answers {T} r i =
-    (i.ring, run-len r (Right call.Len r) i.ring i.holds.order (i, refl, (reply.Len (position_of r.tail - r.head), refl,
-      sole r r call.Len (reply.Len (position_of r.tail - r.head)) (ap reply.Len (sym (length-items r i))) refl)))
+len-answers {T} r i = (
+  i.ring,
+  run-len r (Right call.Len r) i.ring i.holds.order (
+    i,
+    refl,
+    (
+      reply.Len (position_of r.tail - r.head),
+      refl,
+      sole r r call.Len (reply.Len (position_of r.tail - r.head)) (ap reply.Len (sym (length-items r i))) refl,
+    ),
+  ),
+)
 
 pub ring_answers : {T : Type 0} (r : RingState T) (c : Call T) → IsIdle r → RingAnswers r c
 ring_answers r (call.Push v) i = push-answers r v i

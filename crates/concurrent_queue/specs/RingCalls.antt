@@ -1,8 +1,7 @@
 -- Each call on a ring, from what it finds: its steps one after another, its reply, and the words and slots that it leaves.
-use Rattle.std.specs.Prelude.{slice_set, ◌==◌, bit_or, nat_eq, nat_lt, if◌then◌else◌}
-use Rattle.std.proofs.Common.{◌≡◌, ℕ, ◌+◌, ◌-◌, ◌/◌, ◌%◌, ◌^◌, ◌<◌, ◌≤◌, true, false, length, Option, Some, None, Ok, Err, refl, arith, sym, ap, ◌∙◌}
+use Rattle.std.specs.Prelude.{slice_set, ◌==◌, bit_or, if◌then◌else◌}
+use Rattle.std.proofs.Common.{◌≡◌, ℕ, ◌+◌, ◌-◌, ◌%◌, ◌^◌, ◌<◌, ◌≤◌, true, false, length, Some, None, Ok, Err, refl, arith, sym}
 use Rattle.queue_steps.specs.declared.sizes.TheConstants.{LIMIT, LONE_STEPS}
-use Rattle.queue_steps.specs.declared.model.Call.TheVariants as call
 use Rattle.queue_steps.specs.declared.model.Reply.TheVariants as reply
 use Rattle.queue_steps.specs.declared.errors.PopError.TheVariants as pop
 use Rattle.queue_steps.specs.declared.errors.PushError.TheVariants as push
@@ -17,7 +16,7 @@ use Rattle.queue_steps.specs.declared.steps.bounded.PushKind.TheVariants as push
 use Rattle.queue_steps.specs.declared.steps.bounded.BoundedLocal.TheVariants as ring
 use Rattle.queue_steps.specs.Words.{IsRing, IsWord, position_of, is_shut, slot_at, stamp_filled, stamp_emptied}
 use Rattle.queue_steps.specs.BoundedNext.{at, loads, ends, closed_reply, pushed_reply, lap_found}
-use Rattle.concurrent_queue.specs.RingCells.{RingState, slot_in}
+use Rattle.concurrent_queue.specs.RingCells.{RingState}
 use Rattle.concurrent_queue.specs.RingKeeps.{at_position, filled_slot, free_slot}
 use Rattle.concurrent_queue.specs.RingRuns.{Ending, RingEnds, bare_step, slot_step, less, same_nat, equal_nat, apart_nat}
 
@@ -67,11 +66,11 @@ run-room {T} r v p P is_ring small unshut unspent inside free end =
     let here : (position_of r.tail == position_of r.tail) ≡ true = same_nat (position_of r.tail) in
     run-stamp r v p P is_ring small unshut unspent
     (bare_step r.cap (LONE_STEPS - 2) (ring.PushStamp p r.tail) (op.Load (word.Stamp i)) r r (Some v) (answer.Found (position_of r.tail)) claim P
-      (less i (length r.slots) inside) (rw free refl) is_ring (record { tail_word = small; stamp_word = omega arith; lapped = λ e. let c = is_ring.0 in omega arith }) (rw here refl)
+    (less i (length r.slots) inside) (rw free refl) is_ring (record { tail_word = small; stamp_word = omega arith; lapped = λ e. let c = is_ring.0 in omega arith }) (rw here refl)
     (bare_step r.cap (LONE_STEPS - 3) (ring.Claiming p r.tail) (op.Exchange word.Tail r.tail (r.tail + TAIL_STEP)) r ahead (Some v) (answer.Found r.tail) fill P
-      refl (rw same refl) is_ring (small, small) (rw same refl)
+    refl (rw same refl) is_ring (small, small) (rw same refl)
     (slot_step r.cap (LONE_STEPS - 4) (ring.Filling p) (touch.Put i) i (stamp_filled (position_of r.tail)) ahead (Some v) (ends (pushed_reply p)) P
-      refl refl inside is_ring tt refl (rw free end))))
+    refl refl inside is_ring tt refl (rw free end))))
 
 -- a push into a full queue finds the stamp of the lap before
 run-lap : {T : Type 0} (r : RingState T) (x v : T) (p : PushKind) (P : Ending T) → IsRing r.cap → IsWord r.tail → is_shut r.tail ≡ false → (position_of r.tail == LIMIT) ≡ false
@@ -82,7 +81,7 @@ run-lap r x v p P is_ring small unshut unspent full inside filled more =
     let lap : (r.head + 1 + r.cap == position_of r.tail + 1) ≡ true = equal_nat (r.head + 1 + r.cap) (position_of r.tail + 1) (omega arith) in
     run-stamp r v p P is_ring small unshut unspent
     (bare_step r.cap (LONE_STEPS - 2) (ring.PushStamp p r.tail) (op.Load (word.Stamp (slot_at r.cap (position_of r.tail)))) r r (Some v) (answer.Found (r.head + 1)) (lap_found r.cap p r.tail) P
-      (less (slot_at r.cap (position_of r.tail)) (length r.slots) inside) (rw filled refl) is_ring (record { tail_word = small; stamp_word = let c = is_ring.0 in omega arith; lapped = λ e. omega arith }) (rw (other, lap) refl) more)
+    (less (slot_at r.cap (position_of r.tail)) (length r.slots) inside) (rw filled refl) is_ring (record { tail_word = small; stamp_word = let c = is_ring.0 in omega arith; lapped = λ e. omega arith }) (rw (other, lap) refl) more)
 
 -- a push that finds a full queue
 pub run-full : {T : Type 0} (r : RingState T) (x v : T) (P : Ending T) → IsRing r.cap → IsWord r.tail → is_shut r.tail ≡ false → (position_of r.tail == LIMIT) ≡ false
@@ -92,7 +91,7 @@ run-full r x v P is_ring small unshut unspent full inside filled end =
     let lap : (r.head + r.cap == position_of r.tail) ≡ true = equal_nat (r.head + r.cap) (position_of r.tail) (sym full) in
     run-lap r x v push_kind.Push P is_ring small unshut unspent full inside filled
     (bare_step r.cap (LONE_STEPS - 3) (ring.PushHead r.tail) (op.Load word.Head) r r (Some v) (answer.Found r.head) (ends (reply.Push (Err (push.Full tt)))) P
-      refl refl is_ring (small, omega arith) (rw lap refl) end)
+    refl refl is_ring (small, omega arith) (rw lap refl) end)
 
 -- a forced push that finds a full queue: the front leaves, the tail moves on, and the item takes the place of the front
 pub run-displaced : {T : Type 0} (r : RingState T) (x v : T) (P : Ending T) → IsRing r.cap → IsWord r.tail → is_shut r.tail ≡ false → (position_of r.tail == LIMIT) ≡ false
@@ -109,11 +108,11 @@ run-displaced {T} r x v P is_ring small unshut unspent full inside filled end =
     let lap : (r.head + r.cap == position_of r.tail) ≡ true = equal_nat (r.head + r.cap) (position_of r.tail) (sym full) in
     run-lap r x v push_kind.Force P is_ring small unshut unspent full inside filled
     (bare_step r.cap (LONE_STEPS - 3) (ring.Displacing r.tail) (op.Exchange word.Head (position_of r.tail - r.cap) (position_of r.tail - r.cap + 1)) r left (Some v) (answer.Found r.head) arrive P
-      refl (rw (back, same) refl) is_ring (small, omega arith) (rw lap refl)
+    refl (rw (back, same) refl) is_ring (small, omega arith) (rw lap refl)
     (bare_step r.cap (LONE_STEPS - 4) (ring.Arriving r.tail) (op.Add word.Tail TAIL_STEP) left ahead (Some v) (answer.Found r.tail) swap P
-      (less (r.tail + TAIL_STEP) (2 ^ 64) (omega arith)) refl is_ring small refl
+    (less (r.tail + TAIL_STEP) (2 ^ 64) (omega arith)) refl is_ring small refl
     (slot_step r.cap (LONE_STEPS - 5) ring.Swapping (touch.Swap i) i (stamp_filled (position_of r.tail)) ahead (Some v) (ends (reply.ForcePush (Ok (Some tt)))) P
-      refl refl inside is_ring tt refl (rw filled end))))
+    refl refl inside is_ring tt refl (rw filled end))))
 
 -- a pop that finds an item
 pub run-pop : {T : Type 0} (r : RingState T) (x : T) (P : Ending T) → IsRing r.cap → IsWord r.head → slot_at r.cap r.head < length r.slots → at_position r.cap r.slots r.head ≡ filled_slot r.head x
@@ -127,11 +126,11 @@ run-pop {T} r x P is_ring small inside filled end =
     let here : (r.head + 1 == r.head + 1) ≡ true = same_nat (r.head + 1) in
     bare_step r.cap (LONE_STEPS - 1) ring.PopHead (op.Load word.Head) r r None (answer.Found r.head) (loads (ring.PopStamp r.head) (word.Stamp i)) P refl refl is_ring small refl
     (bare_step r.cap (LONE_STEPS - 2) (ring.PopStamp r.head) (op.Load (word.Stamp i)) r r None (answer.Found (r.head + 1)) claim P
-      (less i (length r.slots) inside) (rw filled refl) is_ring small (rw here refl)
+    (less i (length r.slots) inside) (rw filled refl) is_ring small (rw here refl)
     (bare_step r.cap (LONE_STEPS - 3) (ring.Taking r.head) (op.Exchange word.Head r.head (r.head + 1)) r left None (answer.Found r.head) take P
-      refl (rw same refl) is_ring (small, small) (rw same refl)
+    refl (rw same refl) is_ring (small, small) (rw same refl)
     (slot_step r.cap (LONE_STEPS - 4) ring.Emptying (touch.Take i) i (stamp_emptied r.cap r.head) left None (ends (reply.Pop (Ok tt))) P
-      refl refl inside is_ring tt refl (rw filled end))))
+    refl refl inside is_ring tt refl (rw filled end))))
 
 -- a pop that finds none
 pub run-empty : {T : Type 0} (r : RingState T) (P : Ending T) → IsRing r.cap → IsWord r.head → position_of r.tail ≡ r.head → slot_at r.cap r.head < length r.slots → at_position r.cap r.slots r.head ≡ free_slot r.head
@@ -143,9 +142,9 @@ run-empty {T} r P is_ring small empty inside free end =
     let met : (position_of r.tail == r.head) ≡ true = equal_nat (position_of r.tail) r.head empty in
     bare_step r.cap (LONE_STEPS - 1) ring.PopHead (op.Load word.Head) r r None (answer.Found r.head) (loads (ring.PopStamp r.head) (word.Stamp i)) P refl refl is_ring small refl
     (bare_step r.cap (LONE_STEPS - 2) (ring.PopStamp r.head) (op.Load (word.Stamp i)) r r None (answer.Found r.head) (loads (ring.PopTail r.head) word.Tail) P
-      (less i (length r.slots) inside) (rw free refl) is_ring small (rw (other, same) refl)
+    (less i (length r.slots) inside) (rw free refl) is_ring small (rw (other, same) refl)
     (bare_step r.cap (LONE_STEPS - 3) (ring.PopTail r.head) (op.Load word.Tail) r r None (answer.Found r.tail) (ends (reply.Pop (Err (if is_shut r.tail then pop.Closed else pop.Empty)))) P
-      refl refl is_ring tt (rw met refl) end))
+    refl refl is_ring tt (rw met refl) end))
 
 pub run-close : {T : Type 0} (r : RingState T) (P : Ending T) → IsRing r.cap → P (reply.Close (r.tail % 2 == 0)) None None (marked r)
     → RingEnds r.cap LONE_STEPS (at ring.Closing touch.Nothing (op.Or word.Tail MARK)) r None P

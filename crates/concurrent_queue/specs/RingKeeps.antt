@@ -1,8 +1,8 @@
 -- What the calls of one owner keep of a ring: which slots hold the items, and which are free.
-use Rattle.std.specs.Prelude.{slice_set, get_or, IsSome}
-use Rattle.std.proofs.Common.{◌≡◌, ◌≢◌, ℕ, zero, suc, ◌+◌, ◌-◌, ◌*◌, ◌/◌, ◌%◌, ◌<◌, ◌≤◌, ◌⊎◌, List, [], ◌∷◌, ◌++◌, length, Option, Some, None, refl, arith, sym, ap, ◌∙◌, mod-lt, inl, inr}
+use Rattle.std.specs.Prelude.{slice_set}
+use Rattle.std.proofs.Common.{◌≡◌, ◌≢◌, ℕ, zero, suc, ◌+◌, ◌*◌, ◌/◌, ◌%◌, ◌<◌, ◌≤◌, ◌⊎◌, List, [], ◌∷◌, ◌++◌, length, Option, Some, None, refl, arith, sym, ap, ◌∙◌, mod-lt, inl, inr}
 use Rattle.std.proofs.Math.Nat.{div-add-mod, mul-le-mul_left, add-mod_right}
-use Rattle.std.proofs.lemmas.List.{get_or-set_same, get_or-set_other, set-set}
+use Rattle.std.proofs.lemmas.List.{get_or-set_same, get_or-set_other}
 use Rattle.std.proofs.lemmas.Grind.{common_steps}
 use Rattle.queue_steps.specs.Words.{slot_at, stamp_free, stamp_filled, stamp_emptied}
 use Rattle.concurrent_queue.specs.declared.bounded.RingSlot.{RingSlot}

@@ -1,6 +1,6 @@
 -- What the calls leave of a ring's queue.
-use Rattle.std.specs.Prelude.{slice_set, ◌==◌, bit_or, bit_and, nat_eq, nat_lt}
-use Rattle.std.proofs.Common.{◌≡◌, ◌⊎◌, ℕ, suc, ◌+◌, ◌-◌, ◌*◌, ◌/◌, ◌%◌, ◌^◌, ◌<◌, ◌≤◌, Bool, true, false, List, [], ◌∷◌, ◌++◌, length, Option, Some, None, refl, arith, sym, ap, ◌∙◌, subst, inl, inr, mod-lt}
+use Rattle.std.specs.Prelude.{slice_set, bit_or, bit_and}
+use Rattle.std.proofs.Common.{◌≡◌, ℕ, suc, ◌+◌, ◌-◌, ◌%◌, ◌<◌, true, List, [], ◌∷◌, ◌++◌, length, refl, arith, sym, ap, ◌∙◌}
 use Rattle.std.proofs.lemmas.List.{set-set}
 use Rattle.std.proofs.lemmas.Nat.{and_mask}
 use Rattle.std.specs.Int.Bits.{or_add_and}
@@ -8,11 +8,10 @@ use Rattle.queue_steps.specs.declared.sizes.TheConstants.{LIMIT}
 use Rattle.queue_steps.specs.declared.steps.bounded.TheConstants.{MARK, TAIL_STEP}
 use Rattle.queue_steps.specs.State.{State}
 use Rattle.queue_steps.specs.Effect.{rest}
-use Rattle.queue_steps.specs.Words.{position_of, is_shut, slot_at, stamp_emptied}
+use Rattle.queue_steps.specs.Words.{position_of, slot_at, stamp_emptied}
 use Rattle.concurrent_queue.specs.RingCells.{RingState}
-use Rattle.concurrent_queue.specs.RingKeeps.{Holds, Holds-push, Holds-pop, items_of, items_of-push, items_of-apart, length-items_of, next_lap, at_position, filled_slot, free_slot}
+use Rattle.concurrent_queue.specs.RingKeeps.{Holds-push, Holds-pop, items_of, items_of-push, items_of-apart, length-items_of, next_lap, at_position, filled_slot, free_slot}
 use Rattle.concurrent_queue.specs.RingOwned.{IsIdle, ring_queue}
-use Rattle.concurrent_queue.specs.RingRuns.{apart_nat, equal_nat}
 use Rattle.concurrent_queue.specs.RingCalls.{marked, pushed, popped, displaced}
 
 -- a tail one position on, and a tail with the mark

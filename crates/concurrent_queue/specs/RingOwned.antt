@@ -1,5 +1,5 @@
 -- The queue that a ring holds.
-use Rattle.std.specs.Prelude.{ℕ, ◌+◌, ◌-◌, ◌≤◌, Some, None}
+use Rattle.std.specs.Prelude.{◌-◌, ◌≤◌, Some, None}
 use Rattle.queue_steps.specs.declared.sizes.TheConstants.{LIMIT}
 use Rattle.queue_steps.specs.State.{State}
 use Rattle.queue_steps.specs.Sole.{Owned}

@@ -1,12 +1,8 @@
 -- How each call runs on a ring: from what it finds in the words and slots to its reply and what it leaves.
-use Rattle.std.specs.Prelude.{slice_set, get_or, ◌==◌, bit_or, nat_eq, nat_lt, if◌then◌else◌}
-use Rattle.std.proofs.Common.{◌≡◌, ℕ, zero, suc, ◌+◌, ◌-◌, ◌/◌, ◌%◌, ◌^◌, ◌<◌, ◌≤◌, Bool, true, false, List, length, Option, Some, None, Ok, Err, refl, arith, sym, ap, ◌∙◌, subst}
+use Rattle.std.specs.Prelude.{slice_set, ◌==◌, nat_lt}
+use Rattle.std.proofs.Common.{◌≡◌, ℕ, suc, ◌<◌, true, false, List, length, Option, None, refl, arith, sym, ap, ◌∙◌, subst}
 use Rattle.std.proofs.lemmas.List.{get_or-set_same, set-set, length-set}
-use Rattle.queue_steps.specs.declared.sizes.TheConstants.{LIMIT}
 use Rattle.queue_steps.specs.declared.model.Reply.{Reply}
-use Rattle.queue_steps.specs.declared.model.Reply.TheVariants as reply
-use Rattle.queue_steps.specs.declared.errors.PopError.TheVariants as pop
-use Rattle.queue_steps.specs.declared.errors.PushError.TheVariants as push
 use Rattle.queue_steps.specs.declared.steps.types.Kind.TheVariants as kind
 use Rattle.queue_steps.specs.declared.steps.types.Answer.{Answer}
 use Rattle.queue_steps.specs.declared.steps.types.Answer.TheVariants as answer
@@ -14,23 +10,17 @@ use Rattle.queue_steps.specs.declared.steps.types.Local.TheVariants as local
 use Rattle.queue_steps.specs.declared.steps.types.Next.{Next}
 use Rattle.queue_steps.specs.declared.steps.types.Op.{Op}
 use Rattle.queue_steps.specs.declared.steps.types.Op.TheVariants as op
-use Rattle.queue_steps.specs.declared.steps.types.Word.{Word}
 use Rattle.queue_steps.specs.declared.steps.types.Word.TheVariants as word
 use Rattle.queue_steps.specs.declared.steps.types.Touch.{Touch}
 use Rattle.queue_steps.specs.declared.steps.types.Touch.TheVariants as touch
-use Rattle.queue_steps.specs.declared.steps.bounded.TheConstants.{MARK, TAIL_STEP}
-use Rattle.queue_steps.specs.declared.steps.bounded.PushKind.{PushKind}
-use Rattle.queue_steps.specs.declared.steps.bounded.PushKind.TheVariants as push_kind
 use Rattle.queue_steps.specs.declared.steps.bounded.BoundedLocal.{BoundedLocal}
-use Rattle.queue_steps.specs.declared.steps.bounded.BoundedLocal.TheVariants as ring
 use Rattle.queue_steps.specs.Next.{CanNext, next_of}
-use Rattle.queue_steps.specs.Words.{IsRing, IsWord, position_of, is_shut, slot_at, stamp_filled, stamp_emptied}
-use Rattle.queue_steps.specs.BoundedNext.{at, loads, ends, FitsRing, FitsStamp, bounded_next, closed_reply, pushed_reply, lap_found}
+use Rattle.queue_steps.specs.Words.{IsRing}
+use Rattle.queue_steps.specs.BoundedNext.{at, FitsRing, bounded_next}
 use Rattle.concurrent_queue.specs.declared.bounded.RingSlot.{RingSlot}
 use Rattle.concurrent_queue.specs.Ends.{Ends}
 use Rattle.concurrent_queue.specs.Runs.{Ends-step}
 use Rattle.concurrent_queue.specs.RingCells.{RingState, slot_in, exchanged, ring_touchable, ring_touched, ring_operable, ring_performed, ring_can_touch, ring_touches, ring_can_perform, ring_performs}
-use Rattle.concurrent_queue.specs.RingKeeps.{at_position, filled_slot, free_slot}
 
 -- what a call has to end with
 abbrev pub Ending : Type 0 → Type 1

@@ -8,7 +8,5 @@ pub mod exclusive;
 mod single;
 
 pub use exclusive::Exclusive;
-pub use queue_steps::errors as errors;
 pub use queue_steps::errors::{ForcePushError, PopError, PushError};
-pub use queue_steps::model as model;
-pub use queue_steps::steps as steps;
+pub use queue_steps::{errors as errors, model as model, steps as steps};
