@@ -1,21 +1,13 @@
 //! Runs queues from the command line.
 #![tactic(auto)]
 
-mod args;
-mod calls;
-mod command;
-mod faults;
-mod lines;
-mod numbers;
-mod script;
-mod texts;
-
+use queue_command::command::command;
 use std::env;
 use std::process::ExitCode;
 
 fn main(rt: HostRuntime) -> ExitCode {
     let args = given(&rt);
-    let status = command::command(
+    let status = command(
         &rt,
         rt.alloc(),
         args,
@@ -35,6 +27,3 @@ fn given(rt: &(impl std::rt::Env + AllocGlobal)) -> Vec<String> {
         .collect(rt.alloc())
         .unwrap_or_else(|_| Vec::new(rt.alloc()))
 }
-
-#[cfg(test)]
-mod tests;
