@@ -57,6 +57,10 @@ fn first_position(capacity: u64, accepted: u64, slot: u64) -> u64
 }
 
 impl<T, A: Allocator> Ring<T, A> {
+    ghost use Rattle.std.specs.Prelude.{true};
+    ghost use Rattle.queue_steps.specs.declared.steps.types.Answer.TheVariants.{Found};
+    ghost use Rattle.queue_steps.specs.declared.steps.types.Op.TheVariants.{Load};
+    ghost use Rattle.concurrent_queue.specs.RingCells.{ring_operable, ring_performed};
     ghost use Rattle.concurrent_queue.specs.RingOwned.{IsIdle, ring_owned};
 
     /// An empty open ring whose positions stand as after `accepted` items that were accepted and taken.
@@ -89,6 +93,20 @@ impl<T, A: Allocator> Ring<T, A> {
             tail: accepted * TAIL_STEP,
             slots,
         })
+    }
+
+    /// What a word holds.
+    #[inline(always)]
+    fn load(&self, word: Word<()>) -> u64
+        requires { ring_operable self.now (Load word) ≡ true }
+        ensures { ring_performed self.now (Load word) ≡ (Found result, self.now) }
+    {
+        match word {
+            Word::Tail => self.tail,
+            Word::Head => self.head,
+            Word::Stamp(i) => self.slots[i].stamp,
+            _ => unreachable!(),
+        }
     }
 }
 
@@ -138,9 +156,7 @@ impl<T, A: Allocator> Cells<T, ()> for Ring<T, A> {
         ensures { ring_performs self.old op result self.new }
     {
         match op {
-            Op::Load(Word::Tail) => Answer::Found(self.tail),
-            Op::Load(Word::Head) => Answer::Found(self.head),
-            Op::Load(Word::Stamp(i)) => Answer::Found(self.slots[i].stamp),
+            Op::Load(word) => Answer::Found(self.load(word)),
             Op::Exchange(Word::Tail, expected, new) => {
                 let found = self.tail;
                 if found == expected {
@@ -180,9 +196,7 @@ impl<T, A: Allocator> Cells<T, ()> for Ring<T, A> {
         ensures { ring_performs self.now op.now result self.now }
     {
         match op {
-            Op::Load(Word::Tail) => Answer::Found(self.tail),
-            Op::Load(Word::Head) => Answer::Found(self.head),
-            Op::Load(Word::Stamp(i)) => Answer::Found(self.slots[*i].stamp),
+            Op::Load(word) => Answer::Found(self.load(*word)),
             _ => unreachable!(),
         }
     }
