@@ -34,5 +34,8 @@ fn pairs(rt: &HostRuntime) -> io::Result<u64> {
 
 fn main(rt: HostRuntime) -> io::Result<()> {
     let pairs = pairs(&rt)?;
-    time(&rt, Exclusive::bounded(rt.alloc(), 1)?, pairs)
+    for capacity in [1usize, 2, 3, 4, 1000] {
+        time(&rt, Exclusive::bounded(rt.alloc(), capacity)?, pairs)?;
+    }
+    Ok(())
 }

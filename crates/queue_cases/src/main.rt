@@ -5,9 +5,8 @@
 
 use queue_command::command::command;
 use std::alloc::Global;
-use std::fs;
-use std::io;
 use std::process::ExitCode;
+use std::{fs, io};
 
 /// Whether the program, run on the case of this line, ends with status 0 and prints what it is to print.
 fn agrees(rt: &HostRuntime, line: &str) -> io::Result<bool> {

@@ -8,7 +8,6 @@ mod faults;
 mod lines;
 mod numbers;
 mod script;
-mod texts;
-
 #[cfg(test)]
 mod tests;
+mod texts;

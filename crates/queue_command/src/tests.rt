@@ -5,7 +5,6 @@ use std::io;
 use std::io::{ErrorKind, Read, Write};
 use std::test::Fail;
 
-
 const USAGE: &str =
     "usage: queue_run script KIND | replay KIND PARTIES | threads KIND PUSHERS POPPERS ITEMS | handshake\n";
 
@@ -139,6 +138,31 @@ fn scripts_print_the_replies_and_what_is_left(rt: HostRuntime) -> Result<(), Fai
             assert_eq!(rt; outcome.faults.as_slice(), b"".as_slice(), "at {input:?}");
         }
     }
+    Ok(())
+}
+
+#[test]
+fn rings_are_run_by_their_capacity(rt: HostRuntime) -> Result<(), Fail> {
+    let input =
+        "force 1\nforce 2\nforce 3\npush 4\nforce 5\nforce 6\nclose\nforce 7\npop\npop\npop\n";
+    let wanted =
+        "ok\nok\nok\nfull 4\ndisplaced 1\ndisplaced 2\ntrue\nclosed 7\nitem 3\nitem 5\nitem 6\nleft\n";
+    let outcome = run(rt.alloc(), &["script", "bounded:3"], input.as_bytes())?;
+    assert_eq!(rt; outcome.status, 0);
+    assert_eq!(rt; outcome.output.as_slice(), wanted.as_bytes());
+    Ok(())
+}
+
+#[test]
+fn a_capacity_past_the_longest_is_want_of_memory(rt: HostRuntime) -> Result<(), Fail> {
+    let outcome = run(
+        rt.alloc(),
+        &["script", "bounded:576460752303423489"],
+        b"push 1\n",
+    )?;
+    assert_eq!(rt; outcome.status, 3);
+    assert_eq!(rt; outcome.output.as_slice(), b"".as_slice());
+    assert_eq!(rt; outcome.faults.as_slice(), b"no memory\n".as_slice());
     Ok(())
 }
 

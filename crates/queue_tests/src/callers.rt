@@ -7,10 +7,9 @@ ghost use Rattle.queue_steps.specs.declared.steps.types.Op.TheVariants as op;
 ghost use Rattle.queue_steps.specs.declared.steps.types.Word.TheVariants as word;
 ghost use Rattle.queue_steps.specs.declared.steps.single.SingleLocal.TheVariants as slot;
 
-use concurrent_queue::Exclusive;
 use concurrent_queue::model::Call;
-use concurrent_queue::steps;
 use concurrent_queue::steps::{Answer, Kind, Next};
+use concurrent_queue::{Exclusive, steps};
 use std::alloc::{AllocError, Allocator};
 
 /// Puts `value` through a queue of one slot, and gives what comes out of it.
