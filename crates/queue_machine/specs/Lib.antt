@@ -1,0 +1,5 @@
+pub mod Book
+pub mod Conforms
+pub mod World
+pub mod EffectOf
+pub mod Cells

@@ -1,0 +1,54 @@
+//! What the machine is given, and what it tells of a run.
+use queue_steps::model::{Call, Reply};
+
+/// What happens next: a party begins a call, or takes one step of the call that it is in.
+#[derive(Clone, Copy, Debug, Drop, PartialEq, Eq)]
+pub enum Event<T> {
+    /// The party begins the call.
+    Begin(usize, Call<T>),
+    /// The party takes one step. The second part says whether a request for a block is granted.
+    Step(usize, bool),
+}
+
+/// What a step did to the queue, without its values.
+#[derive(Clone, Copy, Debug, Drop, PartialEq, Eq)]
+pub enum EffectKind {
+    /// An item is put at the end of the list.
+    Append,
+    /// The front is taken off.
+    Take,
+    /// The one item of a queue of one slot gives way to another.
+    Replace,
+    /// The front of a full queue is taken off, and another item is on its way in.
+    Front,
+    /// The item on its way in is put at the end of the list.
+    Arrive,
+    /// A call of `close` closes the queue.
+    Close,
+    /// The queue closes itself, having accepted all that it ever will.
+    SelfClose,
+}
+
+/// How many blocks a run held at most.
+#[derive(Clone, Copy, Debug, Drop, PartialEq, Eq)]
+pub struct Peak {
+    /// The greatest number of blocks at any moment, the opening included.
+    pub blocks: usize,
+    /// The bound on the number of blocks at the first moment that had so many.
+    pub bound: usize,
+}
+
+/// What is told of a run.
+#[derive(Debug, Drop)]
+pub struct Replay<T> {
+    /// The number of an event, its party, and the reply that ended the party's call there.
+    pub replies: Vec<(usize, usize, Reply<T>)>,
+    /// The number of an event, its party, and what it did to the queue.
+    pub effects: Vec<(usize, usize, EffectKind)>,
+    /// The numbers of the events that did not fit.
+    pub skipped: Vec<usize>,
+    /// The list at the end, front first, with the items that their push has not yet written.
+    pub left: Vec<T>,
+    /// The blocks that the run held at most.
+    pub peak: Peak,
+}
