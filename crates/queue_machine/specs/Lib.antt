@@ -3,3 +3,4 @@ pub mod Conforms
 pub mod World
 pub mod EffectOf
 pub mod Cells
+pub mod Left
