@@ -5,3 +5,4 @@ pub mod SingleRows
 pub mod SingleSteps
 pub mod SingleRanks
 pub mod SingleLaws
+pub mod Settled
