@@ -6,3 +6,4 @@ pub mod SingleSteps
 pub mod SingleRanks
 pub mod SingleLaws
 pub mod Settled
+pub mod SingleLeft

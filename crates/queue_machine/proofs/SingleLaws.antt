@@ -21,7 +21,7 @@ use Rattle.queue_machine.specs.Cells.{Shared, CanStep, CanReply, step_of, start_
 use Rattle.queue_machine.specs.World.{Made}
 use Rattle.queue_machine.proofs.Engine as engine
 use Rattle.queue_machine.proofs.KindLaws.{LawsOf}
-use Rattle.queue_machine.proofs.SingleRows.{Hold, Nobody, Filling, Swapping, Taking, Stands, free_empty, At, push_try, force_try_empty, pop_try, close_try, look_at, Share, idle, fills, swaps, takes, Passes, stays, changes, single, one_slot, Lands, made_by, Good, rank, Falls}
+use Rattle.queue_machine.proofs.SingleRows.{Hold, Nobody, Filling, Swapping, Taking, Stands, free_empty, At, push_try, push_put, force_try_empty, force_try_full, force_put_empty, force_put_full, pop_try, pop_take, close_try, look_at, Share, idle, fills, swaps, takes, Passes, stays, changes, single, one_slot, Lands, made_by, Good, rank, Falls}
 use Rattle.queue_machine.proofs.SingleSteps.{step_good}
 use Rattle.queue_machine.proofs.SingleRanks.{step_falls, prompt_ends, can_operate, rank_small}
 
@@ -153,3 +153,47 @@ stepped_well {T} busy ok s Q g p r o holds f others =
             none = λ e. h.none many; prompt = h.prompt;
           };
         }
+
+-- a call that lands has the reply that its last step tells of
+replies_if : {T : Type 0} (x : Next ℕ) (v : Option T) (own : Hold T) (k : Call T) (es : List (Effect T)) (ms : List (State T)) → Lands (running_after x v) (reply_after x v) own k es ms → CanReply x v
+replies_if (next.Step l t o) v own k es ms lands = tt
+replies_if {T} (next.Reply x spare) v own k es ms lands = there (filled x v) lands
+  where
+    there : (y : Option (Reply T)) → Lands None y own k es ms → IsSome y
+    there None h = absurd h
+    there (Some y) h = refl
+
+can_take : {T : Type 0} (busy : ℕ) (ok : Bool) (s : Shared T) (Q : State T) (g : Keeps T) (p : ℕ) (r : Running T) (o : Open T)
+  → Holds s Q g → FitsIn busy s Q g p r o → CanStep kind.Single ok s r
+can_take {T} busy ok s Q g p r o holds f =
+    rw holds.shared_is (
+      let good = step_good f.here (share_of (p == g.who) g.hold) holds.stands ok holds.n o.moments o.was_open o.steps o.alone in
+      let slot = one_slot holds.word holds.slot in
+      let can = can_operate holds.word holds.slot f.here in
+      record {
+        touches = can.0; operates = can.1; goes_on = can.2;
+        replies = replies_if (next_after kind.Single slot r) (carried_then slot r) good.own' o.call good.es' (single good.items' good.c' good.n' ∷ o.moments) good.lands;
+      })
+
+fresh : {T : Type 0} (s : Shared T) (Q : State T) (g : Keeps T) (p : ℕ) (k : Call T) (r : Running T) → Idle g p → At r.local r.touch r.op r.carried Nobody k [] → (busy : ℕ) → FitsIn busy s Q g p r (begun k)
+fresh s Q g p k r free here busy = record { here = rw free here; few = λ e. omega (arith, rank_small r.local s.lock); none = λ e. refl; prompt = λ e. refl }
+
+begun_well : {T : Type 0} (s : Shared T) (Q : State T) (g : Keeps T) (p : ℕ) (k : Call T) → Holds s Q g → Idle g p
+  → engine.BeginsWell T (Shared T) (Running T) (Keeps T) (Some 1) (step_of kind.Single) (start_of kind.Single) (CanStep kind.Single) Holds Idle FitsIn s Q g p k (start_of kind.Single k).call (start_of kind.Single k).reply
+begun_well s Q g p (call.Push v) holds free = (refl, fresh s Q g p (call.Push v) _ free (push_try v))
+begun_well s Q g p (call.ForcePush v) holds free = (refl, fresh s Q g p (call.ForcePush v) _ free (force_try_empty v))
+begun_well s Q g p call.Pop holds free = (refl, fresh s Q g p call.Pop _ free (pop_try false))
+begun_well s Q g p call.Close holds free = (refl, fresh s Q g p call.Close _ free close_try)
+begun_well s Q g p call.IsClosed holds free = (refl, fresh s Q g p call.IsClosed _ free (look_at look.IsClosed))
+begun_well s Q g p call.IsEmpty holds free = (refl, fresh s Q g p call.IsEmpty _ free (look_at look.IsEmpty))
+begun_well s Q g p call.IsFull holds free = (refl, fresh s Q g p call.IsFull _ free (look_at look.IsFull))
+begun_well s Q g p call.Len holds free = (refl, fresh s Q g p call.Len _ free (look_at look.Len))
+begun_well s Q g p call.Capacity holds free = (refl, sym (ap (λ q. q.cap) holds.queue_is))
+
+pub single_engine : {T : Type 0} → LawsOf T kind.Single (Keeps T) Holds Idle FitsIn
+single_engine {T} = record {
+  can_step = λ busy ok s Q g p r o holds f. can_take busy ok s Q g p r o holds f;
+  steps_well = λ busy ok s Q g p r o holds f others. stepped_well busy ok s Q g p r o holds f others;
+  begins_well = λ s Q g p k holds free. begun_well s Q g p k holds free;
+  joins_well = λ busy busy' s Q g p r o f. record { here = f.here; few = λ e. omega (arith, rank_small r.local s.lock); none = λ e. refl; prompt = f.prompt };
+}
