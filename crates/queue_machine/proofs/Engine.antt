@@ -8,9 +8,11 @@ use Rattle.queue_steps.specs.Replies.{IsRightAt}
 use Rattle.queue_steps.specs.declared.model.Call.{Call}
 use Rattle.queue_steps.specs.declared.model.Reply.{Reply}
 use Rattle.queue_steps.specs.declared.model.Effect.{Effect}
+use Rattle.queue_machine.specs.declared.types.Told.{Told}
+use Rattle.queue_machine.specs.declared.types.Told.TheVariants.{Skipped, Ran}
 use Rattle.queue_machine.specs.declared.types.Event.{Event}
 use Rattle.queue_machine.specs.declared.types.Event.TheVariants.{Begin, Step}
-use Rattle.queue_machine.specs.Book.{Book, Open, Told, Skipped, Ran, Moves, GoesOn, Stays, Ends, Steps, Happens, fits, put, watched, joined, at_open, after_own, begun, has_steps}
+use Rattle.queue_machine.specs.Book.{Book, Open, Moves, GoesOn, Stays, Ends, Steps, Happens, fits, put, watched, joined, at_open, after_own, begun, has_steps}
 use Rattle.queue_machine.specs.World.{World, Made, Begun, call_at, can_begin, stepped, stepped_if, began, began_by, world_event}
 use Rattle.queue_machine.proofs.Busy.{busy_of, busy_set, one_if, one_busy}
 

@@ -15,6 +15,8 @@ use Rattle.queue_steps.specs.declared.errors.PushError.TheVariants as push
 use Rattle.queue_steps.specs.declared.errors.ForcePushError.TheVariants as force
 use Rattle.queue_machine.specs.declared.types.Event.{Event}
 use Rattle.queue_machine.specs.declared.types.Event.TheVariants.{Begin, Step}
+use Rattle.queue_machine.specs.declared.types.Told.{Told}
+use Rattle.queue_machine.specs.declared.types.Told.TheVariants.{Skipped, Ran}
 use Rattle.queue_machine.specs.declared.types.EffectKind.{EffectKind}
 use Rattle.queue_machine.specs.declared.types.EffectKind.TheVariants as kind
 
@@ -44,11 +46,6 @@ pub record Book (T : Type 0) : Type 0 where
   pub queue : State T
   pub busy : ℕ
   pub open_call : ℕ → Option (Open T)
-
--- what is told of one event: that it was skipped, or the kind of its effect and its reply
-pub data Told (T : Type 0) : Type 0 where
-  Skipped : Told T
-  Ran : Option EffectKind → Option (Reply T) → Told T
 
 -- before the first event the queue is empty and open, and no party is in a call
 abbrev pub opening : {T : Type 0} → Option ℕ → Book T

@@ -4,3 +4,4 @@ pub mod World
 pub mod EffectOf
 pub mod Cells
 pub mod Left
+pub mod Machine

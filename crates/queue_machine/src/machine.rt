@@ -1,12 +1,21 @@
-//! The words, the slots and the open calls of a machine.
-ghost use Rattle.std.specs.Prelude.{◌≡◌};
+//! The machine: the words and slots of a queue, and the call that each party is in.
+ghost use Rattle.std.specs.Prelude.{◌≡◌, ◌<◌, ℕ, vec_len, true};
 ghost use Rattle.queue_steps.specs.Next.{CanNext};
+ghost use Rattle.queue_steps.specs.BoundedNext.{FitsRing};
+ghost use Rattle.queue_steps.specs.Words.{IsRing};
+ghost use Rattle.queue_steps.specs.declared.steps.types.Answer.TheVariants.{Found as SpecFound};
 ghost use Rattle.queue_machine.specs.EffectOf.{single_effect, bounded_effect, effect_of};
-ghost use Rattle.queue_machine.specs.Cells.{HasWord, word_at, put_word, CanOperate, answered, operated, CanTouch, touched, shared_of};
+ghost use Rattle.queue_machine.specs.Cells.{HasWord, word_at, put_word, CanOperate, answered, operated, CanTouch, touched, shared_of, running_after, reply_after, CanReply, CanStep, step_of};
+ghost use Rattle.queue_machine.specs.World.{stepped};
+ghost use Rattle.queue_machine.specs.Machine.{world_of, event_of, CanHandle};
 
-use queue_steps::steps::{Answer, BoundedLocal, Kind, Local, Op, SingleLocal, Touch, Word};
-use queue_steps::steps::Next;
-use crate::types::EffectKind;
+use crate::types::{EffectKind, Event, Told};
+
+/// The mark of a closed queue of one slot.
+const CLOSED: u64 = 4;
+use queue_steps::model::Reply;
+use queue_steps::steps::{next, start, Answer, BoundedLocal, Kind, Local, Next, Op, SingleLocal, Touch, Word};
+use std::mem;
 
 /// A call that was begun and not ended: where it stands, what its next step does, and the value that it carries.
 #[derive(Drop)]
@@ -21,7 +30,7 @@ pub struct Running<T> {
     pub carried: Option<T>,
 }
 
-/// The words and the slots of the queue.
+/// The words and the slots of a queue.
 #[derive(Drop)]
 pub struct Cells<T> {
     /// The word of a queue of one slot.
@@ -34,4 +43,231 @@ pub struct Cells<T> {
     pub stamps: Vec<u64>,
     /// What each slot holds.
     pub slots: Vec<Option<T>>,
+}
+
+impl<T> Cells<T> {
+    /// The content of a word.
+    fn load(&self, word: Word<usize>) -> u64
+        requires { HasWord (shared_of self.now) word }
+        ensures { result ≡ word_at (shared_of self.now) word }
+    {
+        match word {
+            Word::Lock => self.lock,
+            Word::Head => self.head,
+            Word::Tail => self.tail,
+            Word::Stamp(slot) => self.stamps[slot],
+            Word::State(_, _) => unreachable!(),
+        }
+    }
+
+    /// Writes a word.
+    fn store(&mut self, word: Word<usize>, value: u64)
+        requires { HasWord (shared_of self.old) word }
+        ensures { shared_of self.new ≡ put_word (shared_of self.old) word value }
+    {
+        match word {
+            Word::Lock => self.lock = value,
+            Word::Head => self.head = value,
+            Word::Tail => self.tail = value,
+            Word::Stamp(slot) => self.stamps[slot] = value,
+            Word::State(_, _) => unreachable!(),
+        }
+    }
+
+    /// One atomic operation on a word.
+    fn perform(&mut self, op: Op<usize>) -> Answer<usize>
+        requires { CanOperate (shared_of self.old) op }
+        ensures answer { result ≡ answered (shared_of self.old) op }
+        ensures cells { shared_of self.new ≡ operated (shared_of self.old) op }
+    {
+        match op {
+            Op::Load(word) => Answer::Found(self.load(word)),
+            Op::Store(word, value) => {
+                self.store(word, value);
+                Answer::Done
+            }
+            Op::Add(word, more) => {
+                let found = self.load(word);
+                self.store(word, found + more);
+                Answer::Found(found)
+            }
+            Op::Or(word, bits) => {
+                let found = self.load(word);
+                self.store(word, found | bits);
+                Answer::Found(found)
+            }
+            Op::And(word, bits) => {
+                let found = self.load(word);
+                self.store(word, found & bits);
+                Answer::Found(found)
+            }
+            Op::Exchange(word, expected, value) => {
+                let found = self.load(word);
+                if found == expected {
+                    self.store(word, value);
+                }
+                Answer::Found(found)
+            }
+            _ => unreachable!(),
+        }
+    }
+
+    /// The slot and the call exchange what they hold.
+    fn touch(&mut self, touch: Touch, carried: Option<T>) -> Option<T>
+        requires { CanTouch touch (vec_len self.old.slots) }
+        ensures cells { shared_of self.new ≡ record (shared_of self.old) { slots = (touched touch self.old.slots.items carried).0 } }
+        ensures carried { result ≡ (touched touch self.old.slots.items carried).1 }
+    {
+        match touch {
+            Touch::Nothing => carried,
+            Touch::Put(slot) | Touch::Swap(slot) | Touch::Take(slot) => mem::replace(
+                &mut self.slots[slot],
+                carried,
+            ),
+        }
+    }
+}
+
+/// What a step on one slot did to the queue.
+fn effect_on_single(local: SingleLocal, found: u64) -> Option<EffectKind>
+    ensures { result ≡ single_effect local found }
+{
+    match local {
+        SingleLocal::Pushing => if found == 0 { Some(EffectKind::Append) } else { None },
+        SingleLocal::Forcing(seen) => {
+            if found & CLOSED != 0 {
+                None
+            } else if found != seen {
+                None
+            } else if seen == 0 {
+                Some(EffectKind::Append)
+            } else {
+                Some(EffectKind::Replace)
+            }
+        }
+        SingleLocal::Popping(seen) => if found == seen { Some(EffectKind::Take) } else { None },
+        SingleLocal::Closing => if found & CLOSED == 0 { Some(EffectKind::Close) } else { None },
+        _ => None,
+    }
+}
+
+/// What a step on a ring did to the queue.
+fn effect_on_ring(cap: u64, local: BoundedLocal, found: u64) -> Option<EffectKind>
+    requires ring { IsRing cap }
+    requires fits { FitsRing {B = ℕ} cap local (SpecFound found) }
+    ensures { result ≡ bounded_effect cap local found }
+{
+    match local {
+        BoundedLocal::Claiming(_, tail) => if found == tail { Some(EffectKind::Append) } else { None },
+        BoundedLocal::Displacing(tail) => {
+            if found + cap == tail / 2 { Some(EffectKind::Front) } else { None }
+        }
+        BoundedLocal::Arriving(_) => Some(EffectKind::Arrive),
+        BoundedLocal::Spending(_) => if found % 2 == 1 { None } else { Some(EffectKind::SelfClose) },
+        BoundedLocal::Taking(head) => if found == head { Some(EffectKind::Take) } else { None },
+        BoundedLocal::Closing => if found % 2 == 1 { None } else { Some(EffectKind::Close) },
+        _ => None,
+    }
+}
+
+/// What a step did to the queue, told from where its call stood and what its operation found.
+fn effect(kind: Kind, local: Local<usize>, answer: Answer<usize>) -> Option<EffectKind>
+    requires { CanNext kind local answer }
+    ensures { result ≡ effect_of kind local answer }
+{
+    match (kind, local, answer) {
+        (_, Local::Single(local), Answer::Found(found)) => effect_on_single(local, found),
+        (Kind::Bounded(cap), Local::Bounded(local), Answer::Found(found)) => effect_on_ring(
+            cap as u64,
+            local,
+            found,
+        ),
+        _ => None,
+    }
+}
+
+/// The call before its next step, or the reply that ends it.
+fn advance<T>(next: Next<usize>, carried: Option<T>) -> (Option<Running<T>>, Option<Reply<T>>)
+    requires { CanReply next carried }
+    ensures { result ≡ (running_after next carried, reply_after next carried) }
+{
+    match next {
+        Next::Step(local, touch, op) => {
+            let running = Running {
+                local,
+                touch,
+                op,
+                carried,
+            };
+            (Some(running), None)
+        }
+        Next::Reply(kind, _) => (None, Some(Reply::fill(kind, carried))),
+    }
+}
+
+/// A queue and its parties.
+#[derive(Drop)]
+pub struct Machine<T> {
+    /// Which queue.
+    pub kind: Kind,
+    /// Its words and slots.
+    pub cells: Cells<T>,
+    /// The call that each party is in.
+    pub calls: Vec<Option<Running<T>>>,
+}
+
+impl<T: Drop> Machine<T> {
+    /// One event.
+    pub fn handle(&mut self, event: Event<T>) -> Told<T>
+        requires { CanHandle self.old.kind (world_of self.old) event }
+        ensures kind { self.new.kind ≡ self.old.kind }
+        ensures world { world_of self.new ≡ (event_of self.old.kind (world_of self.old) event).0 }
+        ensures told { result ≡ (event_of self.old.kind (world_of self.old) event).1 }
+    {
+        match event {
+            Event::Begin(party, call) => {
+                if party >= self.calls.len() || self.calls[party].is_some() {
+                    return Told::Skipped;
+                }
+                let (call, carried) = call.split();
+                let first = next(self.kind, start(self.kind, call), Answer::Start);
+                let (running, reply) = advance(first, carried);
+                if let Some(running) = running {
+                    self.calls[party] = Some(running);
+                }
+                Told::Ran(None, reply)
+            }
+            Event::Step(party, _) => {
+                if party >= self.calls.len() {
+                    return Told::Skipped;
+                }
+                match self.calls[party].take() {
+                    None => Told::Skipped,
+                    Some(running) => self.step(party, running),
+                }
+            }
+        }
+    }
+
+    /// One step of a party's call, which stands no longer among the calls.
+    fn step(&mut self, party: usize, running: Running<T>) -> Told<T>
+        requires party { party < vec_len self.old.calls }
+        requires can { CanStep self.old.kind true (shared_of self.old.cells) running }
+        ensures kind { self.new.kind ≡ self.old.kind }
+        ensures world { world_of self.new ≡ (stepped (world_of self.old) party (step_of self.old.kind true (shared_of self.old.cells) running)).0 }
+        ensures told { result ≡ (stepped (world_of self.old) party (step_of self.old.kind true (shared_of self.old.cells) running)).1 }
+    {
+        let Running {
+            local,
+            touch,
+            op,
+            carried,
+        } = running;
+        let carried = self.cells.touch(touch, carried);
+        let answer = self.cells.perform(op);
+        let effect = effect(self.kind, local, answer);
+        let (running, reply) = advance(next(self.kind, local, answer), carried);
+        self.calls[party] = running;
+        Told::Ran(effect, reply)
+    }
 }

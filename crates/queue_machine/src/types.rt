@@ -29,6 +29,15 @@ pub enum EffectKind {
     SelfClose,
 }
 
+/// What is told of one event.
+#[derive(Clone, Copy, Debug, Drop, PartialEq, Eq)]
+pub enum Told<T> {
+    /// It did not fit, and nothing happened.
+    Skipped,
+    /// It ran: what it did to the queue, and the reply that ended the party's call there.
+    Ran(Option<EffectKind>, Option<Reply<T>>),
+}
+
 /// How many blocks a run held at most.
 #[derive(Clone, Copy, Debug, Drop, PartialEq, Eq)]
 pub struct Peak {
