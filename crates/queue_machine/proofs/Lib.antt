@@ -7,3 +7,4 @@ pub mod SingleRanks
 pub mod SingleLaws
 pub mod Settled
 pub mod SingleLeft
+pub mod SoFar

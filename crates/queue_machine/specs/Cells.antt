@@ -28,7 +28,7 @@ pub record Shared (T : Type 0) : Type 0 where
   pub stamps : List ℕ
   pub slots : List (Option T)
 
-abbrev pub shared_of : {T : Type 0} → Cells T → Shared T
+abbrev pub shared_of : {T A : Type 0} → Cells T A → Shared T
 shared_of c = record { lock = c.lock; head = c.head; tail = c.tail; stamps = c.stamps.items; slots = c.slots.items }
 
 -- the machine has this word

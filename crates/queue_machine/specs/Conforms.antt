@@ -67,7 +67,7 @@ pub record IsPeak {T : Type 0} (cap : Option ℕ) (parties : ℕ) (events : List
 
 -- What is told of each event leads from the empty open queue to a last book, one event after another; the lists are what
 -- was told, in the order of the events; and what is left are the items of the last state. So the events and the lists fix all that is told.
-pub record Conforms {T : Type 0} (cap : Option ℕ) (parties : ℕ) (events : List (Event T)) (r : Replay T) : Type 0 where
+pub record Conforms {T A : Type 0} (cap : Option ℕ) (parties : ℕ) (events : List (Event T)) (r : Replay T A) : Type 0 where
   pub told : List (Told T)
   pub last : Book T
   pub run : Run cap parties (opening cap) events told last

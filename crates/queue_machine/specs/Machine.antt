@@ -9,7 +9,7 @@ use Rattle.queue_machine.specs.declared.types.Told.{Told}
 use Rattle.queue_machine.specs.World.{World, call_at, world_event}
 use Rattle.queue_machine.specs.Cells.{Shared, shared_of, CanStart, CanStep, step_of, start_of}
 
-abbrev pub world_of : {T : Type 0} → Machine T → World (Shared T) (Running T)
+abbrev pub world_of : {T A : Type 0} → Machine T A → World (Shared T) (Running T)
 world_of m = record { shared = shared_of m.cells; calls = m.calls.items }
 
 -- the machine after an event, and what is told of it. The allocator grants what is asked for

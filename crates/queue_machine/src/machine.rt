@@ -1,5 +1,5 @@
 //! The machine: the words and slots of a queue, and the call that each party is in.
-ghost use Rattle.std.specs.Prelude.{◌≡◌, ◌<◌, ℕ, vec_len, true};
+ghost use Rattle.std.specs.Prelude.{◌≡◌, ◌<◌, ℕ, None, IfOk, vec_len, replicate, true};
 ghost use Rattle.queue_steps.specs.Next.{CanNext};
 ghost use Rattle.queue_steps.specs.BoundedNext.{FitsRing};
 ghost use Rattle.queue_steps.specs.Words.{IsRing};
@@ -7,6 +7,7 @@ ghost use Rattle.queue_steps.specs.declared.steps.types.Answer.TheVariants.{Foun
 ghost use Rattle.queue_machine.specs.EffectOf.{single_effect, bounded_effect, effect_of};
 ghost use Rattle.queue_machine.specs.Cells.{HasWord, word_at, put_word, CanOperate, answered, operated, CanTouch, touched, shared_of, running_after, reply_after, CanReply, CanStep, step_of};
 ghost use Rattle.queue_machine.specs.World.{stepped};
+ghost use Rattle.queue_machine.specs.Left.{numbers_below, slot_count, opening_stamps, opening_world};
 ghost use Rattle.queue_machine.specs.Machine.{world_of, event_of, CanHandle};
 
 use crate::types::{EffectKind, Event, Told};
@@ -15,6 +16,7 @@ use crate::types::{EffectKind, Event, Told};
 const CLOSED: u64 = 4;
 use queue_steps::model::Reply;
 use queue_steps::steps::{next, start, Answer, BoundedLocal, Kind, Local, Next, Op, SingleLocal, Touch, Word};
+use std::alloc::{AllocError, Allocator};
 use std::mem;
 
 /// A call that was begun and not ended: where it stands, what its next step does, and the value that it carries.
@@ -32,7 +34,7 @@ pub struct Running<T> {
 
 /// The words and the slots of a queue.
 #[derive(Drop)]
-pub struct Cells<T> {
+pub struct Cells<T, A: Allocator> {
     /// The word of a queue of one slot.
     pub lock: u64,
     /// How far the poppers are.
@@ -40,12 +42,12 @@ pub struct Cells<T> {
     /// How far the pushers are, and whether the queue is closed.
     pub tail: u64,
     /// The stamp of each slot of a ring.
-    pub stamps: Vec<u64>,
+    pub stamps: Vec<u64, A>,
     /// What each slot holds.
-    pub slots: Vec<Option<T>>,
+    pub slots: Vec<Option<T>, A>,
 }
 
-impl<T> Cells<T> {
+impl<T, A: Allocator> Cells<T, A> {
     /// The content of a word.
     fn load(&self, word: Word<usize>) -> u64
         requires { HasWord (shared_of self.now) word }
@@ -207,16 +209,80 @@ fn advance<T>(next: Next<usize>, carried: Option<T>) -> (Option<Running<T>>, Opt
 
 /// A queue and its parties.
 #[derive(Drop)]
-pub struct Machine<T> {
+pub struct Machine<T, A: Allocator> {
     /// Which queue.
     pub kind: Kind,
     /// Its words and slots.
-    pub cells: Cells<T>,
+    pub cells: Cells<T, A>,
     /// The call that each party is in.
-    pub calls: Vec<Option<Running<T>>>,
+    pub calls: Vec<Option<Running<T>>, A>,
 }
 
-impl<T: Drop> Machine<T> {
+/// The numbers below `count`, in their order.
+fn numbered<A: Allocator>(alloc: A, count: usize) -> Result<Vec<u64, A>, AllocError>
+    ensures { IfOk result (λ v. v.items ≡ numbers_below count) }
+{
+    let mut numbers = Vec::with_capacity(alloc, count)?;
+    for number in 0..count {
+        numbers.push_reserved(number as u64);
+    }
+    Ok(numbers)
+}
+
+/// So many places with nothing in them.
+fn vacant<T, A: Allocator>(alloc: A, count: usize) -> Result<Vec<Option<T>, A>, AllocError>
+    ensures { IfOk result (λ v. v.items ≡ replicate count None) }
+{
+    let mut places = Vec::with_capacity(alloc, count)?;
+    for _ in 0..count {
+        places.push_reserved(None);
+    }
+    Ok(places)
+}
+
+/// How many slots a queue of this kind has.
+fn slots_of(kind: Kind) -> usize
+    ensures { result ≡ slot_count kind }
+{
+    match kind {
+        Kind::Single => 1,
+        Kind::Bounded(cap) => cap,
+        Kind::Unbounded => 0,
+    }
+}
+
+/// How many stamps a queue of this kind has.
+fn stamps_of(kind: Kind) -> usize
+    ensures { numbers_below result ≡ opening_stamps kind }
+{
+    match kind {
+        Kind::Bounded(cap) => cap,
+        _ => 0,
+    }
+}
+
+impl<T: Drop, A: Allocator + Copy> Machine<T, A> {
+    /// An empty open queue, and so many parties, all between calls.
+    pub fn new(alloc: A, kind: Kind, parties: usize) -> Result<Machine<T, A>, AllocError>
+        ensures kind { IfOk result (λ m. m.kind ≡ kind) }
+        ensures world { IfOk result (λ m. world_of m ≡ opening_world kind parties) }
+    {
+        let cells = Cells {
+            lock: 0,
+            head: 0,
+            tail: 0,
+            stamps: numbered(alloc, stamps_of(kind))?,
+            slots: vacant(alloc, slots_of(kind))?,
+        };
+        Ok(Machine {
+            kind,
+            cells,
+            calls: vacant(alloc, parties)?,
+        })
+    }
+}
+
+impl<T: Drop, A: Allocator> Machine<T, A> {
     /// One event.
     pub fn handle(&mut self, event: Event<T>) -> Told<T>
         requires { CanHandle self.old.kind (world_of self.old) event }

@@ -1,5 +1,6 @@
 //! What the machine is given, and what it tells of a run.
 use queue_steps::model::{Call, Reply};
+use std::alloc::{Allocator, Global};
 
 /// What happens next: a party begins a call, or takes one step of the call that it is in.
 #[derive(Clone, Copy, Debug, Drop, PartialEq, Eq)]
@@ -49,15 +50,15 @@ pub struct Peak {
 
 /// What is told of a run.
 #[derive(Debug, Drop)]
-pub struct Replay<T> {
+pub struct Replay<T, A: Allocator = Global> {
     /// The number of an event, its party, and the reply that ended the party's call there.
-    pub replies: Vec<(usize, usize, Reply<T>)>,
+    pub replies: Vec<(usize, usize, Reply<T>), A>,
     /// The number of an event, its party, and what it did to the queue.
-    pub effects: Vec<(usize, usize, EffectKind)>,
+    pub effects: Vec<(usize, usize, EffectKind), A>,
     /// The numbers of the events that did not fit.
-    pub skipped: Vec<usize>,
+    pub skipped: Vec<usize, A>,
     /// The list at the end, front first, with the items that their push has not yet written.
-    pub left: Vec<T>,
+    pub left: Vec<T, A>,
     /// The blocks that the run held at most.
     pub peak: Peak,
 }
