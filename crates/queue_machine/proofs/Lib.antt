@@ -8,3 +8,4 @@ pub mod SingleLaws
 pub mod Settled
 pub mod SingleLeft
 pub mod SoFar
+pub mod Gathering

@@ -1,5 +1,5 @@
 -- How a machine begins, and the list that it holds.
-use Rattle.std.specs.Prelude.{◌≡◌, ℕ, zero, suc, ◌+◌, ◌-◌, ◌==◌, Bool, if◌then◌else◌, Option, Some, None, List, [], ◌∷◌, ◌++◌, slice_index_or, slice_set, replicate}
+use Rattle.std.specs.Prelude.{◌≡◌, ℕ, zero, suc, ◌+◌, ◌-◌, ◌<◌, Bool, if◌then◌else◌, Option, Some, None, List, [], ◌∷◌, ◌++◌, slice_index_or, slice_set, replicate}
 use Rattle.std.specs.Option.{option_to_list}
 use Rattle.queue_steps.specs.SingleNext.{is_pushed}
 use Rattle.queue_steps.specs.Words.{position_of, slot_at}
@@ -54,11 +54,17 @@ abbrev pub gathered : {T : Type 0} → ℕ → ℕ → ℕ → List (Option T) �
 gathered n p zero slots = []
 gathered n p (suc count) slots = option_to_list (slice_index_or slots (slot_at n p) None) ++ gathered n (p + 1) count (slice_set slots (slot_at n p) None)
 
--- the list that the slots hold once every call has written
-abbrev pub listed : {T : Type 0} → Kind → Shared T → List (Option T) → List T
-listed kind.Single s slots = if is_pushed s.lock then option_to_list (slice_index_or slots 0 None) else []
-listed (kind.Bounded n) s slots = gathered n s.head (position_of s.tail - s.head) slots
-listed kind.Unbounded s slots = []
+-- a ring has a slot
+abbrev pub HasSlot : Kind → Type 0
+HasSlot (kind.Bounded n) = 0 < n
+HasSlot _ = Unit {0}
 
+-- the list that these slots hold, by the words of the queue
+abbrev pub listed_in : {T : Type 0} → Kind → ℕ → ℕ → ℕ → List (Option T) → List T
+listed_in kind.Single lock head tail slots = if is_pushed lock then option_to_list (slice_index_or slots 0 None) else []
+listed_in (kind.Bounded n) lock head tail slots = gathered n head (position_of tail - head) slots
+listed_in kind.Unbounded lock head tail slots = []
+
+-- the list that a machine holds, with the items that are not yet written
 abbrev pub left_of : {T : Type 0} → Kind → World (Shared T) (Running T) → List T
-left_of k w = listed k w.shared (settled w.calls w.shared.slots)
+left_of k w = listed_in k w.shared.lock w.shared.head w.shared.tail (settled w.calls w.shared.slots)

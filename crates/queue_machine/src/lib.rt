@@ -1,5 +1,6 @@
 //! The machine: a queue whose parties take their atomic steps in any order that a list of events names.
 #![tactic(auto)]
 
+mod left;
 pub mod machine;
 pub mod types;
