@@ -7,5 +7,7 @@ pub mod SingleRanks
 pub mod SingleLaws
 pub mod Settled
 pub mod SingleLeft
-pub mod SoFar
 pub mod Gathering
+pub mod Growing
+pub mod SoFar
+pub mod AllKinds

@@ -16,6 +16,10 @@ use Rattle.queue_machine.specs.World.{World, call_at}
 use Rattle.queue_machine.proofs.Busy.{busy_of}
 use Rattle.queue_machine.proofs.Engine as engine
 use Rattle.queue_machine.proofs.KindLaws.{KindLaws, SimulatesOf}
+use Rattle.queue_machine.proofs.Growing.{run-grows, run-cap}
+use Rattle.queue_steps.specs.Sole.{blocks_of, spanned}
+use Rattle.queue_machine.specs.declared.types.Replay.{Replay}
+use Rattle.queue_machine.specs.Conforms.{Conforms}
 
 -- a run goes on by one event
 Run-more : {T : Type 0} (cap : Option ℕ) (parties : ℕ) (b : Book T) (es : List (Event T)) (ts : List (Told T)) (mid : Book T) (e : Event T) (t : Told T) (c : Book T)
@@ -103,3 +107,32 @@ pub so_far-can : {T : Type 0} {k : Kind} (laws : KindLaws T k) (parties : ℕ) (
   → SoFar laws parties past w replies effects skipped → (p : ℕ) (r : Running T) → call_at w p ≡ Some r → CanStep k true w.shared r
 so_far-can {T} {k} laws parties past w replies effects skipped s p r in_call =
     engine.can_take T (Shared T) (Running T) laws.G (capacity_of k) (step_of k) (start_of k) (CanStep k) laws.Holds laws.Idle laws.Fits laws.laws parties w s.book s.simulates true p r in_call
+
+-- what is left is no more than the events
+pub so_far-room : {T : Type 0} {k : Kind} (laws : KindLaws T k) (parties : ℕ) (past : List (Event T)) (w : World (Shared T) (Running T)) (replies : List (ℕ × ℕ × Reply T)) (effects : List (ℕ × ℕ × EffectKind)) (skipped : List ℕ)
+  → SoFar laws parties past w replies effects skipped → length (left_of k w) ≤ length past
+so_far-room {T} {k} laws parties past w replies effects skipped s =
+    let left = ap (λ l. length l) (laws.leaves parties w s.book s.simulates) in
+    omega (arith, left, run-grows (capacity_of k) parties (opening (capacity_of k)) past s.told s.book s.run)
+
+-- with a capacity there is no block
+no_blocks : {T : Type 0} (cap : Option ℕ) (n : ℕ) (m : Book T) (parties : ℕ) (es : List (Event T)) (ts : List (Told T)) → cap ≡ Some n → Run cap parties (opening cap) es ts m → blocks_of m.queue ≡ 0
+no_blocks cap n m parties es ts is run =
+    let same : m.queue.cap ≡ Some n = run-cap cap parties (opening cap) es ts m run ∙ is in
+    ap (λ c. spanned c m.queue.accepted (length m.queue.items)) same
+
+-- the whole run, of a queue with a capacity
+pub so_far-end : {T A : Type 0} {k : Kind} (laws : KindLaws T k) (parties : ℕ) (events : List (Event T)) (w : World (Shared T) (Running T)) (r : Replay T A)
+  → SoFar laws parties events w r.replies.items r.effects.items r.skipped.items → r.left.items ≡ left_of k w
+  → (n : ℕ) → capacity_of k ≡ Some n → r.peak.blocks ≡ 0 → r.peak.bound ≡ 2 → Conforms (capacity_of k) parties events r
+so_far-end {T} {k = k} laws parties events w r s left n capped none two = record {
+  told = s.told; last = s.book; run = s.run; replies = s.replies_are; effects = s.effects_are; skipped = s.skipped_are;
+  left = left ∙ laws.leaves parties w s.book s.simulates;
+  peak = record {
+    within = omega arith;
+    at = opening (capacity_of k);
+    comes_by = record { past = []; coming = events; told_past = []; told_coming = s.told; events_are = refl; told_are = refl; run = refl };
+    bound_is = two;
+    spans = λ m by some. let zero = no_blocks (capacity_of k) n m parties by.past by.told_past capped by.run in omega arith;
+  };
+}

@@ -5,3 +5,4 @@ pub mod EffectOf
 pub mod Cells
 pub mod Left
 pub mod Machine
+pub mod Replays

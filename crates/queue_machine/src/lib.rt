@@ -3,4 +3,7 @@
 
 mod left;
 pub mod machine;
+mod run;
 pub mod types;
+
+pub use run::replay;
