@@ -24,17 +24,20 @@ use Rattle.queue_machine.specs.Machine.{event_of, CanHandle}
 use Rattle.queue_machine.specs.World.{World}
 use Rattle.queue_machine.proofs.KindLaws.{KindLaws}
 use Rattle.queue_machine.proofs.SingleLeft.{single_laws}
+use Rattle.queue_machine.proofs.RingKind.{ring_laws}
+use Rattle.queue_steps.specs.declared.sizes.TheConstants.{MAX_CAPACITY}
+use Rattle.std.proofs.lemmas.Bool.{ltb-false}
 use Rattle.queue_machine.proofs.SoFar.{SoFar, so_far-first, so_far-more, so_far-can, so_far-end, so_far-room}
 
 -- the machine has queues of this kind
 abbrev pub HasMachine : Kind → Type 0
 HasMachine kind.Single = Unit {0}
-HasMachine (kind.Bounded n) = ⊥
+HasMachine (kind.Bounded n) = IsRing n
 HasMachine kind.Unbounded = ⊥
 
 pub laws_of : (T : Type 0) (k : Kind) → HasMachine k → KindLaws T k
 laws_of T kind.Single has = single_laws T
-laws_of T (kind.Bounded n) has = absurd has
+laws_of T (kind.Bounded n) has = ring_laws T n has
 laws_of T kind.Unbounded has = absurd has
 
 -- every call can begin
@@ -48,7 +51,15 @@ can_start kind.Single has call.IsEmpty = record { goes_on = tt; replies = tt }
 can_start kind.Single has call.IsFull = record { goes_on = tt; replies = tt }
 can_start kind.Single has call.Len = record { goes_on = tt; replies = tt }
 can_start kind.Single has call.Capacity = record { goes_on = tt; replies = refl }
-can_start (kind.Bounded n) has c = absurd has
+can_start (kind.Bounded n) has (call.Push v) = record { goes_on = has; replies = tt }
+can_start (kind.Bounded n) has (call.ForcePush v) = record { goes_on = has; replies = tt }
+can_start (kind.Bounded n) has call.Pop = record { goes_on = has; replies = tt }
+can_start (kind.Bounded n) has call.Close = record { goes_on = has; replies = tt }
+can_start (kind.Bounded n) has call.IsClosed = record { goes_on = has; replies = tt }
+can_start (kind.Bounded n) has call.IsEmpty = record { goes_on = has; replies = tt }
+can_start (kind.Bounded n) has call.IsFull = record { goes_on = has; replies = tt }
+can_start (kind.Bounded n) has call.Len = record { goes_on = has; replies = tt }
+can_start (kind.Bounded n) has call.Capacity = record { goes_on = has; replies = refl }
 can_start kind.Unbounded has c = absurd has
 
 -- what is known after these events, of a queue of any kind
@@ -91,7 +102,7 @@ known-end {T} k parties events w r known left peak = so_far-end (laws_of T k kno
 -- the machine has the queue that `replay` is asked for
 pub has_machine : (k : Kind) → CanReplay k → is_too_large k ≡ false → HasMachine k
 has_machine kind.Single can small = tt
-has_machine (kind.Bounded n) can small = absurd can
+has_machine (kind.Bounded n) can small = (can, ltb-false MAX_CAPACITY n small)
 has_machine kind.Unbounded can small = absurd can
 
 pub has_no_blocks : (k : Kind) (peak : Peak) → (peak.blocks ≡ 0) × (peak.bound ≡ 2) → HasNoBlocks (capacity_of k) peak
@@ -101,5 +112,5 @@ has_no_blocks kind.Unbounded peak h = tt
 
 pub has_slot : (k : Kind) → HasMachine k → HasSlot k
 has_slot kind.Single has = tt
-has_slot (kind.Bounded n) has = absurd has
+has_slot (kind.Bounded n) has = let many = has.0 in omega arith
 has_slot kind.Unbounded has = tt

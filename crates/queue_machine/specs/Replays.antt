@@ -9,7 +9,7 @@ use Rattle.queue_machine.specs.declared.run.Lists.{Lists}
 -- a ring has more than one slot
 abbrev pub CanReplay : Kind → Type 0
 CanReplay kind.Single = Unit {0}
-CanReplay (kind.Bounded n) = ⊥
+CanReplay (kind.Bounded n) = 1 < n
 CanReplay kind.Unbounded = ⊥
 
 -- the capacity is more than any queue may have
