@@ -27,3 +27,4 @@ pub mod Gathering
 pub mod Growing
 pub mod SoFar
 pub mod AllKinds
+pub mod OwnerRows

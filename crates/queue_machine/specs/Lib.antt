@@ -6,3 +6,4 @@ pub mod Cells
 pub mod Left
 pub mod Machine
 pub mod Replays
+pub mod OneOwner
