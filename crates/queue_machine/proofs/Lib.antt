@@ -28,3 +28,5 @@ pub mod Growing
 pub mod SoFar
 pub mod AllKinds
 pub mod OwnerRows
+pub mod OneOwner
+pub mod OneOwnerRun
