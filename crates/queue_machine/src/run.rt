@@ -1,6 +1,7 @@
 //! A whole run of the machine.
 ghost use Rattle.std.specs.Prelude.{◌≡◌, ◌++◌, ◌+◌, ◌<◌, [], true, IfOk, IsErr, vec_len};
 ghost use Rattle.queue_machine.specs.Conforms.{Conforms, HasNoBlocks, capacity_of, party_of, reply_entry, effect_entry, skipped_entry};
+ghost use Rattle.queue_machine.specs.OneOwner.{IsSoleRun};
 ghost use Rattle.queue_machine.specs.Replays.{CanReplay, is_too_large, IsRoomy};
 
 use crate::left::left;
@@ -80,6 +81,8 @@ fn too_large(kind: Kind) -> bool
 /// The parties are numbered from 0, and so are the events. An event that does not fit is skipped, and its value is given up;
 /// so are the values of calls that have not ended, where they are not in the list. Room for all that is told is made first.
 ///
+/// With one party the replies are those of a queue with one owner.
+///
 /// # Errors
 ///
 /// Where there is no memory, and then no event ran. A capacity that no queue may have is answered so without a request.
@@ -92,6 +95,7 @@ pub fn replay<T: Drop, A: Allocator + Copy>(
     requires { CanReplay kind }
     ensures conforms { IfOk result (λ r. Conforms (capacity_of kind) parties events.items r) }
     ensures blocks { IfOk result (λ r. HasNoBlocks (capacity_of kind) r.peak) }
+    ensures alone { IfOk result (λ r. parties ≡ 1 → IsSoleRun (capacity_of kind) events.items r) }
     ensures limited { is_too_large kind ≡ true → IsErr result }
 {
     if too_large(kind) {

@@ -1,8 +1,11 @@
-use Rattle.std.proofs.Common.{rules, arith, refl, ◌≡◌, ◌∙◌, ◌≤◌, length, ap, sym, vec_len, vec_capacity}
+use Rattle.std.proofs.Common.{rules, arith, refl, ◌≡◌, ◌∙◌, ◌≤◌, length, ap, subst, sym, vec_len, vec_capacity}
 use Rattle.std.proofs.lemmas.List.{length_push, map-id}
 use Rattle.std.proofs.lemmas.Iterator.Adapters.{YieldsList-from_vec}
 use Rattle.std.proofs.lemmas.Iterator.Consumers.{YieldsList-turn, YieldsList-end}
+use Rattle.queue_machine.specs.declared.types.Replay.{Replay}
+use Rattle.queue_machine.specs.Conforms.{Conforms, capacity_of}
 use Rattle.queue_machine.specs.Left.{left_of}
+use Rattle.queue_machine.proofs.OneOwnerRun.{one_owner}
 use Rattle.queue_machine.specs.Machine.{world_of}
 use Rattle.queue_machine.proofs.AllKinds.{known-first, known-can, known-next, known-room, known-end, has_machine}
 use Rattle.queue_machine.proofs.run.replay.Goals as goal
@@ -57,3 +60,9 @@ returns-clause-conforms g c =
     let all : c.loop-event.yielded ≡ c.args.events.items = sym (map-id c.loop-event.yielded) ∙ t.0 in
     rw (← all) (known-end c.args.kind c.args.parties c.loop-event.yielded (world_of c.loop-event.machine) (record { replies = c.loop-event.lists.replies; effects = c.loop-event.lists.effects; skipped = c.loop-event.lists.skipped; left = c.left.result; peak = record { blocks = 0; bound = 2 } })
       c.loop-event.invariant.known (rw c.loop-event.invariant.kind_is at c.left.ensures) (refl, refl))
+
+pub returns-clause-alone : goal.returns-clause-alone
+returns-clause-alone g c =
+    λ one.
+      let told : Replay g.row.T.Denot g.row.A.Denot = record { replies = c.loop-event.lists.replies; effects = c.loop-event.lists.effects; skipped = c.loop-event.lists.skipped; left = c.left.result; peak = record { blocks = 0; bound = 2 } } in
+      one_owner (capacity_of c.args.kind) c.args.events.items told (subst (λ n. Conforms (capacity_of c.args.kind) n c.args.events.items told) one (returns-clause-conforms g c))
