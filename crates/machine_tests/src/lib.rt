@@ -1,0 +1,9 @@
+//! Tests of the machine: worked runs of queues with a capacity.
+#![tactic(auto)]
+
+#[cfg(test)]
+mod displacements;
+#[cfg(test)]
+mod script;
+#[cfg(test)]
+mod single;

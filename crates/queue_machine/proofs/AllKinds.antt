@@ -1,0 +1,116 @@
+-- Every kind of queue that the machine has keeps the laws, and so every run of it conforms.
+use Rattle.std.proofs.Common.{ℕ, ◌+◌, ◌<◌, ◌≤◌, ◌≡◌, ◌∙◌, Bool, true, false, Option, Some, None, List, [], ◌∷◌, ◌++◌, length, refl, sym, ap, arith, IsSome}
+use Rattle.queue_steps.specs.State.{State}
+use Rattle.queue_steps.specs.declared.model.Call.{Call}
+use Rattle.queue_steps.specs.declared.model.Call.TheVariants as call
+use Rattle.queue_steps.specs.declared.model.Reply.{Reply}
+use Rattle.queue_steps.specs.declared.steps.types.Kind.{Kind}
+use Rattle.queue_steps.specs.declared.steps.types.Kind.TheVariants as kind
+use Rattle.queue_steps.specs.Words.{IsRing}
+use Rattle.queue_machine.specs.declared.machine.Running.{Running}
+use Rattle.queue_machine.specs.declared.types.EffectKind.{EffectKind}
+use Rattle.queue_machine.specs.declared.types.Event.{Event}
+use Rattle.queue_machine.specs.declared.types.Event.TheVariants.{Begin, Step}
+use Rattle.queue_machine.specs.declared.types.Told.{Told}
+use Rattle.queue_machine.specs.declared.types.Replay.{Replay}
+use Rattle.queue_machine.specs.Book.{Book}
+use Rattle.queue_machine.specs.Cells.{Shared, CanStart, CanStep}
+use Rattle.queue_machine.specs.Conforms.{Conforms, capacity_of, party_of, reply_entry, effect_entry, skipped_entry, ComesBy, IsPeak}
+use Rattle.queue_machine.specs.Left.{left_of, opening_world, HasSlot}
+use Rattle.queue_machine.specs.Replays.{CanReplay, is_too_large}
+use Rattle.queue_machine.specs.Conforms.{HasNoBlocks}
+use Rattle.queue_machine.specs.declared.types.Peak.{Peak}
+use Rattle.queue_machine.specs.Machine.{event_of, CanHandle}
+use Rattle.queue_machine.specs.World.{World}
+use Rattle.queue_machine.proofs.KindLaws.{KindLaws}
+use Rattle.queue_machine.proofs.SingleLeft.{single_laws}
+use Rattle.queue_machine.proofs.RingKind.{ring_laws}
+use Rattle.queue_steps.specs.declared.sizes.TheConstants.{MAX_CAPACITY}
+use Rattle.std.proofs.lemmas.Bool.{ltb-false}
+use Rattle.queue_machine.proofs.SoFar.{SoFar, so_far-first, so_far-more, so_far-can, so_far-end, so_far-room}
+
+-- the machine has queues of this kind
+abbrev pub HasMachine : Kind → Type 0
+HasMachine kind.Single = Unit {0}
+HasMachine (kind.Bounded n) = IsRing n
+HasMachine kind.Unbounded = ⊥
+
+pub laws_of : (T : Type 0) (k : Kind) → HasMachine k → KindLaws T k
+laws_of T kind.Single has = single_laws T
+laws_of T (kind.Bounded n) has = ring_laws T n has
+laws_of T kind.Unbounded has = absurd has
+
+-- every call can begin
+can_start : {T : Type 0} (k : Kind) → HasMachine k → (c : Call T) → CanStart k c
+can_start kind.Single has (call.Push v) = record { goes_on = tt; replies = tt }
+can_start kind.Single has (call.ForcePush v) = record { goes_on = tt; replies = tt }
+can_start kind.Single has call.Pop = record { goes_on = tt; replies = tt }
+can_start kind.Single has call.Close = record { goes_on = tt; replies = tt }
+can_start kind.Single has call.IsClosed = record { goes_on = tt; replies = tt }
+can_start kind.Single has call.IsEmpty = record { goes_on = tt; replies = tt }
+can_start kind.Single has call.IsFull = record { goes_on = tt; replies = tt }
+can_start kind.Single has call.Len = record { goes_on = tt; replies = tt }
+can_start kind.Single has call.Capacity = record { goes_on = tt; replies = refl }
+can_start (kind.Bounded n) has (call.Push v) = record { goes_on = has; replies = tt }
+can_start (kind.Bounded n) has (call.ForcePush v) = record { goes_on = has; replies = tt }
+can_start (kind.Bounded n) has call.Pop = record { goes_on = has; replies = tt }
+can_start (kind.Bounded n) has call.Close = record { goes_on = has; replies = tt }
+can_start (kind.Bounded n) has call.IsClosed = record { goes_on = has; replies = tt }
+can_start (kind.Bounded n) has call.IsEmpty = record { goes_on = has; replies = tt }
+can_start (kind.Bounded n) has call.IsFull = record { goes_on = has; replies = tt }
+can_start (kind.Bounded n) has call.Len = record { goes_on = has; replies = tt }
+can_start (kind.Bounded n) has call.Capacity = record { goes_on = has; replies = refl }
+can_start kind.Unbounded has c = absurd has
+
+-- what is known after these events, of a queue of any kind
+pub record Known {T : Type 0} (k : Kind) (parties : ℕ) (past : List (Event T)) (w : World (Shared T) (Running T)) (replies : List (ℕ × ℕ × Reply T)) (effects : List (ℕ × ℕ × EffectKind)) (skipped : List ℕ) : Type 0 where
+  pub has : HasMachine k
+  pub so_far : SoFar (laws_of T k has) parties past w replies effects skipped
+
+pub known-first : {T : Type 0} (k : Kind) (parties : ℕ) → HasMachine k → Known {T = T} k parties [] (opening_world k parties) [] [] []
+known-first {T} k parties has = record { has = has; so_far = so_far-first (laws_of T k has) parties }
+
+-- any event can be handled
+pub known-can : {T : Type 0} (k : Kind) (parties : ℕ) (past : List (Event T)) (w : World (Shared T) (Running T)) (replies : List (ℕ × ℕ × Reply T)) (effects : List (ℕ × ℕ × EffectKind)) (skipped : List ℕ)
+  → Known k parties past w replies effects skipped → (e : Event T) → CanHandle k w e
+known-can {T} k parties past w replies effects skipped known (Begin p c) = can_start k known.has c
+known-can {T} k parties past w replies effects skipped known (Step p granted) = so_far-can (laws_of T k known.has) parties past w replies effects skipped known.so_far p
+
+-- after one event more, as a loop finds it
+pub known-next : {T : Type 0} (k : Kind) (parties : ℕ) (past : List (Event T)) (w w' : World (Shared T) (Running T)) (rs rs' : List (ℕ × ℕ × Reply T)) (es es' : List (ℕ × ℕ × EffectKind)) (ss ss' : List ℕ) (e : Event T) (n p : ℕ) (t : Told T)
+  → Known k parties past w rs es ss → n ≡ length past → p ≡ party_of e → t ≡ (event_of k w e).1 → w' ≡ (event_of k w e).0
+  → rs' ≡ rs ++ reply_entry n p t → es' ≡ es ++ effect_entry n p t → ss' ≡ ss ++ skipped_entry n p t
+  → Known k parties (past ++ e ∷ []) w' rs' es' ss'
+known-next {T} k parties past w w' rs rs' es es' ss ss' e n p t known en ep et ew er ee es-is =
+    rw (ew, er, ee, es-is, en, ep, et) (record { has = known.has; so_far = so_far-more (laws_of T k known.has) parties past w rs es ss e known.so_far })
+
+-- what is left is no more than the events
+pub known-room : {T : Type 0} (k : Kind) (parties : ℕ) (past : List (Event T)) (w : World (Shared T) (Running T)) (rs : List (ℕ × ℕ × Reply T)) (es : List (ℕ × ℕ × EffectKind)) (ss : List ℕ) → Known k parties past w rs es ss → length (left_of k w) ≤ length past
+known-room {T} k parties past w rs es ss known = so_far-room (laws_of T k known.has) parties past w rs es ss known.so_far
+
+-- a queue that the machine has has a capacity
+capped : (k : Kind) → HasMachine k → (n : ℕ) × (capacity_of k ≡ Some n)
+capped kind.Single has = (1, refl)
+capped (kind.Bounded n) has = (n, refl)
+capped kind.Unbounded has = absurd has
+
+-- the whole run
+pub known-end : {T A : Type 0} (k : Kind) (parties : ℕ) (events : List (Event T)) (w : World (Shared T) (Running T)) (r : Replay T A)
+  → Known k parties events w r.replies.items r.effects.items r.skipped.items → r.left.items ≡ left_of k w → (r.peak.blocks ≡ 0) × (r.peak.bound ≡ 2) → Conforms (capacity_of k) parties events r
+known-end {T} k parties events w r known left peak = so_far-end (laws_of T k known.has) parties events w r known.so_far left (capped k known.has).0 (capped k known.has).1 peak.0 peak.1
+
+-- the machine has the queue that `replay` is asked for
+pub has_machine : (k : Kind) → CanReplay k → is_too_large k ≡ false → HasMachine k
+has_machine kind.Single can small = tt
+has_machine (kind.Bounded n) can small = (can, ltb-false MAX_CAPACITY n small)
+has_machine kind.Unbounded can small = absurd can
+
+pub has_no_blocks : (k : Kind) (peak : Peak) → (peak.blocks ≡ 0) × (peak.bound ≡ 2) → HasNoBlocks (capacity_of k) peak
+has_no_blocks kind.Single peak h = h
+has_no_blocks (kind.Bounded n) peak h = h
+has_no_blocks kind.Unbounded peak h = tt
+
+pub has_slot : (k : Kind) → HasMachine k → HasSlot k
+has_slot kind.Single has = tt
+has_slot (kind.Bounded n) has = let many = has.0 in omega arith
+has_slot kind.Unbounded has = tt

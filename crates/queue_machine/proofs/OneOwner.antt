@@ -1,0 +1,210 @@
+-- With one party, the replies are those of a queue that has one owner.
+use Rattle.std.proofs.Common.{ℕ, ◌+◌, ◌-◌, ◌<◌, ◌≤◌, ◌≡◌, ◌==◌, ◌&&◌, ◌||◌, ◌⊎◌, ◌∙◌, inl, inr, nat_lt, not, Bool, true, false, if◌then◌else◌, Option, Some, None, is_some, is_none, Ok, Err, List, [], ◌∷◌, ◌++◌, length, map, refl, sym, ap, subst, arith, get_or, zero, suc}
+use Rattle.std.specs.List.{Any}
+use Rattle.std.specs.Option.{option_to_list}
+use Rattle.std.proofs.lemmas.Bool.{ltb-true}
+use Rattle.queue_steps.specs.State.{State, start, is_single_cap}
+use Rattle.queue_steps.specs.Effect.{Fits, made, Runs, after_from}
+use Rattle.queue_steps.specs.Legal.{IsShown}
+use Rattle.queue_steps.specs.Replies.{IsRightAt, Tells}
+use Rattle.queue_steps.specs.Sole.{Owned, Sole, SoleRun, MayAsk, moved, sole_reply, sole_state, push_state, force_push_state, counted, is_spent}
+use Rattle.queue_steps.specs.State.{is_full}
+use Rattle.queue_steps.specs.declared.model.Call.{Call}
+use Rattle.queue_steps.specs.declared.model.Call.TheVariants as call
+use Rattle.queue_steps.specs.declared.model.Effect.{Effect}
+use Rattle.queue_steps.specs.declared.model.Effect.TheVariants as effect
+use Rattle.queue_steps.specs.declared.model.Reply.{Reply}
+use Rattle.queue_steps.specs.declared.model.Reply.TheVariants as reply
+use Rattle.queue_steps.specs.declared.errors.PushError.TheVariants as push
+use Rattle.queue_steps.specs.declared.errors.ForcePushError.TheVariants as force
+use Rattle.queue_machine.specs.declared.types.EffectKind.{EffectKind}
+use Rattle.queue_machine.specs.declared.types.EffectKind.TheVariants as kind
+use Rattle.queue_machine.specs.declared.types.Event.{Event}
+use Rattle.queue_machine.specs.declared.types.Event.TheVariants.{Begin, Step}
+use Rattle.queue_machine.specs.declared.types.Replay.{Replay}
+use Rattle.queue_machine.specs.declared.types.Told.{Told}
+use Rattle.queue_machine.specs.declared.types.Told.TheVariants.{Skipped, Ran}
+use Rattle.queue_machine.specs.Book.{Book, Open, Allows, MayAskAt, IsRefusal, Ends, GoesOn, Moves, MayMake, kind_of, Steps, Happens, Run, begun, has_steps, after_own, put, at_open, watched, opening}
+use Rattle.queue_machine.specs.Conforms.{Conforms, entries_from, reply_entry}
+use Rattle.queue_machine.specs.OneOwner.{begun_calls, fresh, reply_in, IsSoleRun}
+use Rattle.queue_machine.proofs.OwnerRows.{Same, with_count, Does, FrontOpen, does_row}
+use Rattle.queue_machine.proofs.SoFar.{Run-length}
+
+-- each moment is this one
+abbrev Only : {T : Type 0} → State T → List (State T) → Type 0
+Only Q [] = Unit {0}
+Only Q (m ∷ ms) = (m ≡ Q) × Only Q ms
+
+only_at : {T : Type 0} (Q : State T) (ms : List (State T)) (k : ℕ) (x : State T) → Only Q ms → k < length ms → get_or ms k x ≡ x → x ≡ Q
+only_at Q [] k x only lt e = absurd (omega arith)
+only_at Q (m ∷ ms) zero x only lt e = sym e ∙ only.0
+only_at Q (m ∷ ms) (suc k) x only lt e = only_at Q ms k x only.1 (omega arith) e
+
+only_one : {T : Type 0} (Q : State T) (ms : List (State T)) (P : State T → Type 0) → Only Q ms → Any P ms → P Q
+only_one Q ms P only at = subst P (only_at Q ms at.0 at.1 only at.2 at.3) at.4
+
+-- the one owner's queue agrees with the machine's, and holds no block before it accepts
+pub record Agrees {T : Type 0} (S : Owned T) (Q : State T) : Type 0 where
+  pub shown : IsShown S.queue Q
+  pub idle : Q.coming ≡ None
+  pub blocks : S.queue.accepted ≡ 0 → S.blocks ≡ 0
+
+counts-if : {T : Type 0} (b : Bool) (X Y : State T) (n : ℕ) → n ≤ X.accepted → n ≤ Y.accepted → n ≤ (if b then X else Y).accepted
+counts-if true X Y n x y = x
+counts-if false X Y n x y = y
+
+counts-counted : {T : Type 0} (Q : State T) → Q.accepted ≤ counted Q
+counts-counted Q = elim (is_single_cap Q.cap) as (λ b. Q.accepted ≤ (if b then Q.accepted else Q.accepted + 1)) [ true ↦ omega arith | false ↦ omega arith ]
+
+-- no call of the table counts down
+counts-up : {T : Type 0} (Q : State T) (c : Call T) → Q.accepted ≤ (sole_state Q c).accepted
+counts-up Q (call.Push v) = counts-if Q.closed _ _ Q.accepted (omega arith) (counts-if (is_spent Q) _ _ Q.accepted (omega arith) (counts-if (is_full Q) _ _ Q.accepted (omega arith) (counts-counted Q)))
+counts-up Q (call.ForcePush v) = counts-if Q.closed _ _ Q.accepted (omega arith) (counts-if (is_spent Q) _ _ Q.accepted (omega arith) (counts-if (is_full Q) _ _ Q.accepted (counts-counted Q) (counts-counted Q)))
+counts-up Q call.Pop = omega arith
+counts-up Q call.Close = omega arith
+counts-up Q _ = omega arith
+
+-- the call of the table, and what agrees after it
+abbrev pub Done : {T : Type 0} → Owned T → State T → Call T → Reply T → Type 0
+Done {T} S Q c r = (R : Owned T) × Sole S c r R × Agrees R Q
+
+same_state : {T : Type 0} (S : Owned T) (Q : State T) → IsShown S.queue Q → S.queue ≡ with_count Q S.queue.accepted
+same_state S Q h = rw (← h.items, ← h.cap, ← h.closed, ← h.coming) refl
+
+same_count : {T : Type 0} (S : Owned T) (Q : State T) → IsShown S.queue Q → Same Q S.queue.accepted
+same_count S Q h = elim h.accepted [ inl e ↦ inl (rw h.cap at e) | inr e ↦ inr e ]
+
+pub in_table : {T : Type 0} (S : Owned T) (Q Q' : State T) (c : Call T) (r : Reply T) (es : List (Effect T)) → Agrees S Q → Does Q S.queue.accepted c r es → after_from Q es ≡ Q' → Done S Q' c r
+in_table S Q Q' c r es h d e =
+    let same = same_state S Q h.shown in
+    (moved S (sole_state S.queue c),
+     inl (subst (λ q. r ≡ sole_reply q c) (sym same) d.reply_is, refl),
+     record {
+       shown = subst (λ q. IsShown (sole_state S.queue c) q) e (subst (λ q. IsShown (sole_state q c) (after_from Q es)) (sym same) d.shown);
+       idle = subst (λ q. q.coming ≡ None) e d.none;
+       blocks = λ zero.
+         let before : S.blocks ≡ 0 = h.blocks (omega (arith, counts-up S.queue c, zero)) in
+         rw zero before;
+     })
+
+-- want of memory
+refused : {T : Type 0} (S : Owned T) (Q : State T) → Agrees S Q → MayAskAt Q → MayAsk S
+refused S Q h m =
+    let cap : S.queue.cap ≡ None = h.shown.cap ∙ m.0 in
+    let count : S.queue.accepted ≡ Q.accepted = elim h.shown.accepted [ inl e ↦ let f : is_single_cap S.queue.cap ≡ false = rw cap refl in cc | inr e ↦ e ] in
+    (cap, h.shown.closed ∙ m.1, elim m.2 [ inl e ↦ inl (count ∙ e, h.blocks (count ∙ e)) | inr e ↦ inr (rw count e) ])
+
+finish : {T : Type 0} (S : Owned T) (Q Q' : State T) (c : Call T) (r : Reply T) (es : List (Effect T)) → Agrees S Q → Tells c r es → Runs Q es → after_from Q es ≡ Q' → (es ≡ [] → Allows c r Q) → FrontOpen Q es → Done S Q' c r
+finish S Q Q' (call.Push v) (reply.Push (Err (push.NoMemory w))) es h tells runs e allows opened =
+    let same : Q ≡ Q' = subst (λ l. after_from Q l ≡ Q') tells.1 e in
+    elim (allows tells.1) [
+      inl right ↦ absurd right
+      | inr m ↦ (S, inr ((refused S Q h m.1, rw tells.0 refl), refl), subst (λ q. Agrees S q) same h)
+    ]
+finish S Q Q' (call.ForcePush v) (reply.ForcePush (Err (force.NoMemory w))) es h tells runs e allows opened =
+    let same : Q ≡ Q' = subst (λ l. after_from Q l ≡ Q') tells.1 e in
+    elim (allows tells.1) [
+      inl right ↦ absurd right
+      | inr m ↦ (S, inr ((refused S Q h m.1, rw tells.0 refl), refl), subst (λ q. Agrees S q) same h)
+    ]
+finish S Q Q' c (reply.Push (Err (push.NoMemory w))) es h tells runs e allows opened = absurd tells
+finish S Q Q' c (reply.ForcePush (Err (force.NoMemory w))) es h tells runs e allows opened = absurd tells
+finish S Q Q' c r es h tells runs e allows opened =
+    in_table S Q Q' c r es h (does_row Q S.queue.accepted c r es (same_count S Q h.shown) h.idle tells runs (λ none. elim (allows none) [ inl right ↦ right | inr m ↦ absurd m.0 ]) opened) e
+
+-- where the one call in progress stands: it began at a state that agrees, and all that happened since is its own
+pub record Midway {T : Type 0} (S : Owned T) (Q : State T) (o : Open T) : Type 0 where
+  pub from : State T
+  pub agrees : Agrees S from
+  pub runs : Runs from o.effects
+  pub leads : after_from from o.effects ≡ Q
+  pub only : o.effects ≡ [] → Only from o.moments
+  pub seen : o.effects ≡ [] → o.was_open ≡ true → from.closed ≡ false
+  pub first : FrontOpen from o.effects
+
+abbrev pub Ready : {T : Type 0} → Owned T → State T → Option (Open T) → Type 0
+Ready S Q None = Agrees S Q
+Ready S Q (Some o) = Midway S Q o
+
+runs-more : {T : Type 0} (Q : State T) (es : List (Effect T)) (e : Effect T) → Runs Q es → Fits e (after_from Q es) → Runs Q (es ++ e ∷ [])
+runs-more Q [] e run fits = (fits, tt)
+runs-more Q (f ∷ es) e run fits = (run.0, runs-more (made f Q) es e run.1 fits)
+
+after-more : {T : Type 0} (Q : State T) (es : List (Effect T)) (e : Effect T) → after_from Q (es ++ e ∷ []) ≡ made e (after_from Q es)
+after-more Q [] e = refl
+after-more Q (f ∷ es) e = after-more (made f Q) es e
+
+not_empty : {X : Type 0} (xs : List X) (x : X) → xs ++ x ∷ [] ≡ [] → ⊥
+not_empty [] x e = cc
+not_empty (y ∷ xs) x e = cc
+
+-- a front that this call takes off first
+front-more : {T : Type 0} (Q : State T) (es : List (Effect T)) (e : Effect T) (o : Open T) → FrontOpen Q es → MayMake (kind_of e) o → (es ≡ [] → o.was_open ≡ true → Q.closed ≡ false) → FrontOpen Q (es ++ e ∷ [])
+front-more Q [] (effect.Front old v) o first may seen = seen refl may
+front-more Q [] (effect.Append v) o first may seen = tt
+front-more Q [] (effect.Take v) o first may seen = tt
+front-more Q [] (effect.Replace old v) o first may seen = tt
+front-more Q [] effect.Arrive o first may seen = tt
+front-more Q [] effect.Close o first may seen = tt
+front-more Q [] effect.SelfClose o first may seen = tt
+front-more Q (effect.Front old v ∷ es) e o first may seen = first
+front-more Q (effect.Append v ∷ es) e o first may seen = tt
+front-more Q (effect.Take v ∷ es) e o first may seen = tt
+front-more Q (effect.Replace old v ∷ es) e o first may seen = tt
+front-more Q (effect.Arrive ∷ es) e o first may seen = tt
+front-more Q (effect.Close ∷ es) e o first may seen = tt
+front-more Q (effect.SelfClose ∷ es) e o first may seen = tt
+
+or_true : (a b : Bool) → (a || b) ≡ true → (a ≡ true) ⊎ (b ≡ true)
+or_true true b e = inl refl
+or_true false b e = inr e
+
+not_true : (b : Bool) → not b ≡ true → b ≡ false
+not_true true e = cc
+not_true false e = refl
+
+-- after its own step
+pub midway-more : {T : Type 0} (S : Owned T) (Q R : State T) (o : Open T) (k : Option EffectKind) (es : List (Effect T)) (busy : ℕ) → Midway S Q o → Moves Q o k R es → Midway S R (after_own busy o R es)
+midway-more S Q R o None es busy h m =
+    let same : es ≡ o.effects = m.1 in
+    let lead : after_from h.from es ≡ R = ap (λ l. after_from h.from l) same ∙ h.leads ∙ sym m.0 in
+    record {
+      from = h.from; agrees = h.agrees;
+      runs = rw same h.runs;
+      leads = lead;
+      only = λ none. (sym lead ∙ ap (λ l. after_from h.from l) none, h.only (sym same ∙ none));
+      seen = λ none open_.
+        let here : R ≡ h.from = sym lead ∙ ap (λ l. after_from h.from l) none in
+        elim (or_true o.was_open (not R.closed) open_) [ inl e ↦ h.seen (sym same ∙ none) e | inr e ↦ ap (λ q. q.closed) (sym here) ∙ not_true R.closed e ];
+      first = rw same h.first;
+    }
+midway-more S Q R o (Some k) es busy h m =
+    let e = m.0 in
+    let fits : Fits e (after_from h.from o.effects) = rw h.leads m.3 in
+    let may : MayMake (kind_of e) o = rw m.1 m.2 in
+    record {
+      from = h.from; agrees = h.agrees;
+      runs = rw m.5 (runs-more h.from o.effects e h.runs fits);
+      leads = ap (λ l. after_from h.from l) m.5 ∙ after-more h.from o.effects e ∙ ap (λ q. made e q) h.leads ∙ sym m.4;
+      only = λ none. absurd (not_empty o.effects e (sym m.5 ∙ none));
+      seen = λ none open_. absurd (not_empty o.effects e (sym m.5 ∙ none));
+      first = rw m.5 (front-more h.from o.effects e o h.first may h.seen);
+    }
+
+pub midway-ends : {T : Type 0} (S : Owned T) (Q : State T) (o : Open T) (r : Reply T) → Midway S Q o → Ends o r → Done S Q o.call r
+midway-ends S Q o r h ends =
+    finish S h.from Q o.call r o.effects h.agrees ends.0 h.runs h.leads (λ none. only_one h.from o.moments (Allows o.call r) (h.only none) (ends.1 none)) h.first
+
+-- a call that replies where it begins
+pub at_once : {T : Type 0} (cap : Option ℕ) (S : Owned T) (Q : State T) (c : Call T) (r : Reply T) → Agrees S Q → has_steps cap c ≡ false → IsRightAt Q c r → Done S Q c r
+at_once cap S Q call.Capacity (reply.Capacity x) h e right = finish S Q Q call.Capacity (reply.Capacity x) [] h refl tt refl (λ n. inl right) tt
+at_once cap S Q call.IsFull (reply.IsFull x) h e right = finish S Q Q call.IsFull (reply.IsFull x) [] h refl tt refl (λ n. inl right) tt
+at_once cap S Q call.IsFull _ h e right = absurd right
+at_once cap S Q call.Capacity _ h e right = absurd right
+at_once cap S Q (call.Push v) r h e right = cc
+at_once cap S Q (call.ForcePush v) r h e right = cc
+at_once cap S Q call.Pop r h e right = cc
+at_once cap S Q call.Close r h e right = cc
+at_once cap S Q call.IsClosed r h e right = cc
+at_once cap S Q call.IsEmpty r h e right = cc
+at_once cap S Q call.Len r h e right = cc

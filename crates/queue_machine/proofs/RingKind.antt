@@ -1,0 +1,23 @@
+-- All that a ring owes the machine.
+use Rattle.std.proofs.Common.{ℕ}
+use Rattle.queue_steps.specs.Words.{IsRing}
+use Rattle.queue_steps.specs.declared.steps.types.Kind.TheVariants as kind
+use Rattle.queue_machine.proofs.KindLaws.{KindLaws}
+use Rattle.queue_machine.proofs.RingCells.{Ring}
+use Rattle.queue_machine.proofs.RingLaws.{RingHolds, RingIdle, RingFits, ring_steps}
+use Rattle.queue_machine.proofs.RingOpening.{opening_ring, ring_opens, ring_all_idle}
+use Rattle.queue_machine.proofs.RingLeft.{ring_leaves}
+
+-- a ring of n slots keeps the laws of the machine
+pub ring_laws : (T : Type 0) (n : ℕ) → IsRing n → KindLaws T (kind.Bounded n)
+ring_laws T n ring = record {
+  G = Ring T;
+  Holds = RingHolds n;
+  Idle = RingIdle;
+  Fits = RingFits n;
+  laws = ring_steps n;
+  first = opening_ring T;
+  opens = ring_opens T n ring;
+  all_idle = ring_all_idle T;
+  leaves = λ parties w b sim. ring_leaves n parties w b sim;
+}

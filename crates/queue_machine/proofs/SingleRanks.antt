@@ -1,0 +1,103 @@
+-- One slot: a lone call comes nearer to its reply, a prompt call replies at once, and a step touches what is there.
+use Rattle.std.specs.Prelude.{◌≡◌, ℕ, ◌+◌, ◌==◌, Bool, true, false, not, Option, Some, None, Ok, Err, List, [], ◌∷◌, length, bit_and, bit_or, if◌then◌else◌}
+use Rattle.std.proofs.Common.{refl, arith, inl, inr}
+use Rattle.queue_steps.specs.State.{State, is_full}
+use Rattle.queue_steps.specs.Replies.{IsRightAt, Tells, is_empty}
+use Rattle.queue_steps.specs.SingleNext.{is_marked, is_pushed}
+use Rattle.queue_steps.specs.declared.model.Call.{Call}
+use Rattle.queue_steps.specs.declared.model.Call.TheVariants as call
+use Rattle.queue_steps.specs.declared.model.Reply.{Reply}
+use Rattle.queue_steps.specs.declared.model.Reply.TheVariants as reply
+use Rattle.queue_steps.specs.declared.model.Effect.{Effect}
+use Rattle.queue_steps.specs.declared.model.Effect.TheVariants as effect
+use Rattle.queue_steps.specs.declared.errors.PopError.TheVariants as pop
+use Rattle.queue_steps.specs.declared.errors.PushError.TheVariants as push
+use Rattle.queue_steps.specs.declared.errors.ForcePushError.TheVariants as force
+use Rattle.queue_steps.specs.declared.steps.single.TheConstants.{LOCKED, PUSHED, CLOSED, UNLOCKED}
+use Rattle.queue_steps.specs.declared.steps.single.SingleLocal.TheVariants.{Pushing, Pushed, Forcing, Forced, Popping, Popped, Closing, Looking}
+use Rattle.queue_steps.specs.declared.steps.types.Local.{Local}
+use Rattle.queue_steps.specs.declared.steps.types.Local.TheVariants as local
+use Rattle.queue_steps.specs.declared.steps.types.Look.{Look}
+use Rattle.queue_steps.specs.declared.steps.types.Look.TheVariants as look
+use Rattle.queue_steps.specs.declared.steps.types.Op.{Op}
+use Rattle.queue_steps.specs.declared.steps.types.Op.TheVariants as op
+use Rattle.queue_steps.specs.declared.steps.types.Touch.{Touch}
+use Rattle.queue_steps.specs.declared.steps.types.Touch.TheVariants as touch
+use Rattle.queue_steps.specs.declared.steps.types.Word.TheVariants.{Lock}
+use Rattle.queue_machine.specs.Book.{Moves, is_prompt}
+use Rattle.queue_machine.specs.Cells.{CanTouch, CanOperate, answer_to, after_touch}
+use Rattle.queue_steps.specs.Next.{CanNext}
+use Rattle.queue_steps.specs.declared.steps.types.Kind.TheVariants as kind
+use Rattle.std.specs.Prelude.{◌≤◌, ◌<◌}
+use Rattle.queue_machine.proofs.SingleRows.{Hold, Nobody, Filling, Swapping, Taking, Stands, free_empty, free_full, filling, swapping, taking, code, asks, At, push_try, push_put, force_try_empty, force_try_full, force_put_empty, force_put_full, pop_try, pop_take, close_try, look_at, Share, idle, fills, swaps, takes, Passes, stays, changes, single, one_slot, Lands, made_by, opened, Good, right_now, rank, Falls}
+
+
+-- alone, a call comes nearer to its reply
+pub step_falls : {T : Type 0} {l : Local ℕ} {t : Touch} {o : Op ℕ} {v : Option T} {word : ℕ} {slot : Option T} {h : Hold T} {items : List T} {c : Bool} {k : Call T} {es : List (Effect T)} (ok : Bool)
+  → At l t o v h k es → Stands word slot h items c → Falls (made_by l t o v word slot ok).call (rank l word) (made_by l t o v word slot ok).shared.lock
+step_falls ok (push_try v) (free_empty true) = tt
+step_falls ok (push_try v) (free_empty false) = omega arith
+step_falls ok (push_try v) (free_full true x) = tt
+step_falls ok (push_try v) (free_full false x) = tt
+step_falls ok (force_try_empty v) (free_empty true) = tt
+step_falls ok (force_try_empty v) (free_empty false) = omega arith
+step_falls ok (force_try_empty v) (free_full true x) = tt
+step_falls ok (force_try_empty v) (free_full false x) = omega arith
+step_falls ok (force_try_full v) (free_empty true) = tt
+step_falls ok (force_try_full v) (free_empty false) = omega arith
+step_falls ok (force_try_full v) (free_full true x) = tt
+step_falls ok (force_try_full v) (free_full false x) = omega arith
+step_falls ok (pop_try true) (free_empty true) = tt
+step_falls ok (pop_try true) (free_empty false) = tt
+step_falls ok (pop_try true) (free_full true x) = omega arith
+step_falls ok (pop_try true) (free_full false x) = omega arith
+step_falls ok (pop_try false) (free_empty true) = tt
+step_falls ok (pop_try false) (free_empty false) = tt
+step_falls ok (pop_try false) (free_full true x) = omega arith
+step_falls ok (pop_try false) (free_full false x) = omega arith
+step_falls ok (push_put v) st = tt
+step_falls ok (force_put_empty v) st = tt
+step_falls ok (force_put_full old v) st = tt
+step_falls ok (pop_take x) st = tt
+step_falls ok (close_try) st = tt
+step_falls ok (look_at look.IsClosed) st = tt
+step_falls ok (look_at look.IsEmpty) st = tt
+step_falls ok (look_at look.IsFull) st = tt
+step_falls ok (look_at look.Len) st = tt
+
+-- a prompt call replies at each step
+pub prompt_ends : {T : Type 0} {l : Local ℕ} {t : Touch} {o : Op ℕ} {v : Option T} {own : Hold T} {k : Call T} {es : List (Effect T)} (word : ℕ) (slot : Option T) (ok : Bool)
+  → At l t o v own k es → is_prompt k ≡ true → (made_by l t o v word slot ok).call ≡ None
+prompt_ends word slot ok (push_try v) e = cc
+prompt_ends word slot ok (push_put v) e = cc
+prompt_ends word slot ok (force_try_empty v) e = cc
+prompt_ends word slot ok (force_try_full v) e = cc
+prompt_ends word slot ok (force_put_empty v) e = cc
+prompt_ends word slot ok (force_put_full old v) e = cc
+prompt_ends word slot ok (pop_try d) e = cc
+prompt_ends word slot ok (pop_take x) e = cc
+prompt_ends word slot ok close_try e = refl
+prompt_ends word slot ok (look_at look.IsClosed) e = refl
+prompt_ends word slot ok (look_at look.IsEmpty) e = refl
+prompt_ends word slot ok (look_at look.IsFull) e = refl
+prompt_ends word slot ok (look_at look.Len) e = cc
+
+-- the step touches the one slot and the one word, and its answer is what the call waits for
+pub can_operate : {T : Type 0} {l : Local ℕ} {t : Touch} {o : Op ℕ} {v : Option T} {own : Hold T} {k : Call T} {es : List (Effect T)} (word : ℕ) (slot : Option T)
+  → At l t o v own k es → CanTouch t 1 × CanOperate (after_touch (one_slot word slot) (record { local = l; touch = t; op = o; carried = v })) o × CanNext kind.Single l (answer_to (one_slot word slot) (record { local = l; touch = t; op = o; carried = v }))
+can_operate word slot (push_try v) = (tt, tt, tt)
+can_operate word slot (push_put v) = (omega arith, tt, tt)
+can_operate word slot (force_try_empty v) = (tt, tt, tt)
+can_operate word slot (force_try_full v) = (tt, tt, tt)
+can_operate word slot (force_put_empty v) = (omega arith, tt, tt)
+can_operate word slot (force_put_full old v) = (omega arith, tt, tt)
+can_operate word slot (pop_try d) = (tt, tt, tt)
+can_operate word slot (pop_take x) = (omega arith, tt, tt)
+can_operate word slot (close_try) = (tt, tt, tt)
+can_operate word slot (look_at l) = (tt, tt, tt)
+
+pub rank_small : (l : Local ℕ) (word : ℕ) → rank l word ≤ 3
+rank_small (local.Single Pushing) word = elim (word == 0) as (λ b. (if b then 2 else 1) ≤ 3) [ true ↦ omega arith | false ↦ omega arith ]
+rank_small (local.Single (Forcing s)) word = elim (is_marked word) as (λ b. (if b then 1 else (if word == s then 2 else 3)) ≤ 3) [ true ↦ omega arith | false ↦ elim (word == s) as (λ b. (if b then 2 else 3) ≤ 3) [ true ↦ omega arith | false ↦ omega arith ] ]
+rank_small (local.Single (Popping s)) word = elim (word == s) as (λ b. (if b then 2 else (if is_pushed word then 3 else 1)) ≤ 3) [ true ↦ omega arith | false ↦ elim (is_pushed word) as (λ b. (if b then 3 else 1) ≤ 3) [ true ↦ omega arith | false ↦ omega arith ] ]
+rank_small _ word = omega arith

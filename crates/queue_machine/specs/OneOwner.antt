@@ -1,0 +1,38 @@
+-- With one party the machine is a queue with one owner.
+use Rattle.std.specs.Prelude.{◌≡◌, ℕ, Option, Some, None, List, [], ◌∷◌, ◌++◌, map}
+use Rattle.std.specs.Option.{option_to_list}
+use Rattle.queue_steps.specs.State.{State, start}
+use Rattle.queue_steps.specs.Legal.{IsShown}
+use Rattle.queue_steps.specs.Sole.{Owned, SoleRun}
+use Rattle.queue_steps.specs.declared.model.Call.{Call}
+use Rattle.queue_steps.specs.declared.model.Reply.{Reply}
+use Rattle.queue_machine.specs.declared.types.Event.{Event}
+use Rattle.queue_machine.specs.declared.types.Event.TheVariants.{Begin, Step}
+use Rattle.queue_machine.specs.declared.types.Replay.{Replay}
+use Rattle.queue_machine.specs.declared.types.Told.{Told}
+use Rattle.queue_machine.specs.declared.types.Told.TheVariants.{Skipped, Ran}
+use Rattle.queue_machine.specs.Conforms.{Conforms}
+
+-- the calls that were begun, in their order
+abbrev pub begun_calls : {T : Type 0} → List (Event T) → List (Told T) → List (Call T)
+begun_calls (Begin p c ∷ es) (Ran k r ∷ ts) = c ∷ begun_calls es ts
+begun_calls (_ ∷ es) (_ ∷ ts) = begun_calls es ts
+begun_calls _ _ = []
+
+-- a queue that one owner has just made
+abbrev pub fresh : {T : Type 0} → Option ℕ → Owned T
+fresh cap = record { queue = start cap 0; blocks = 0 }
+
+abbrev pub reply_in : {T : Type 0} → ℕ × ℕ × Reply T → Reply T
+reply_in x = x.2
+
+-- The replies are those of a run of the one-owner table over the calls in the order of their beginnings; at most the last call has none,
+-- and where each has ended, the run ends at the state at which the machine ends.
+pub record IsSoleRun {T A : Type 0} (cap : Option ℕ) (events : List (Event T)) (r : Replay T A) : Type 0 where
+  pub conforms : Conforms cap 1 events r
+  pub calls : List (Call T)
+  pub pending : Option (Call T)
+  pub begun : begun_calls events conforms.told ≡ calls ++ option_to_list pending
+  pub last : Owned T
+  pub run : SoleRun (fresh cap) calls (map reply_in r.replies.items) last
+  pub shown : pending ≡ None → IsShown last.queue conforms.last.queue

@@ -1,0 +1,9 @@
+//! The machine: a queue whose parties take their atomic steps in any order that a list of events names.
+#![tactic(auto)]
+
+mod left;
+pub mod machine;
+mod run;
+pub mod types;
+
+pub use run::replay;
