@@ -1,3 +1,4 @@
 pub mod Goings
 pub mod Watching
 pub mod Slots
+pub mod Openings

@@ -1,16 +1,19 @@
 -- What a queue with one owner shows.
 use Rattle.queue_steps.specs.Sole.{Owned}
-use Rattle.concurrent_queue.specs.SingleCells.{single_owned, IsIdle}
+use Rattle.concurrent_queue.specs.SingleCells as single
+use Rattle.concurrent_queue.specs.RingOwned as ring
 use Rattle.concurrent_queue.specs.declared.exclusive.Form.{Form}
 use Rattle.concurrent_queue.specs.declared.exclusive.Form.TheVariants as form
 use Rattle.concurrent_queue.specs.declared.exclusive.Exclusive.TheInside.{Inside}
 
-abbrev pub form_owned : {T : Type 0} → Form T → Owned T
-form_owned (form.Single s) = single_owned s
+abbrev pub form_owned : {T A : Type 0} → Form T A → Owned T
+form_owned (form.Single s) = single.single_owned s
+form_owned (form.Bounded r) = ring.ring_owned r
 
 -- no call is on its way
-abbrev pub IsFormIdle : {T : Type 0} → Form T → Type 0
-IsFormIdle (form.Single s) = IsIdle s
+abbrev pub IsFormIdle : {T A : Type 0} → Form T A → Type 0
+IsFormIdle (form.Single s) = single.IsIdle s
+IsFormIdle (form.Bounded r) = ring.IsIdle r
 
 abbrev pub exclusive_view : {T A : Type 0} → Inside T A → Owned T
 exclusive_view e = form_owned e.form

@@ -2,4 +2,11 @@ pub mod Ends
 pub mod Runs
 pub mod SingleCells
 pub mod SingleAnswers
+pub mod RingCells
+pub mod RingKeeps
+pub mod RingOwned
+pub mod RingRuns
+pub mod RingCalls
+pub mod RingLeaves
+pub mod RingAnswers
 pub mod Exclusive

@@ -1,31 +1,35 @@
 //! Queues with one owner.
-ghost use Rattle.std.specs.Prelude.{◌≡◌, length, Some, IfOk};
+ghost use Rattle.std.specs.Prelude.{◌≡◌, ◌<◌, ◌≤◌, length, Some, IfOk, IsErr, IsOk};
+ghost use Rattle.queue_steps.specs.declared.sizes.TheConstants.{LIMIT, MAX_CAPACITY};
 ghost use Rattle.queue_steps.specs.State.{start, is_full};
 ghost use Rattle.queue_steps.specs.Replies.{is_empty};
 ghost use Rattle.queue_steps.specs.Sole.{Sole, HoldsBlocks};
 ghost use Rattle.queue_steps.specs.declared.model.Call.TheVariants as call;
 ghost use Rattle.queue_steps.specs.declared.model.Reply.TheVariants as reply;
 
+use crate::bounded::Ring;
 use crate::driver::{drive, observe};
 use crate::single::Single;
 use queue_steps::errors::{ForcePushError, PopError, PushError};
 use queue_steps::model::{Call, CallKind, Reply, ReplyKind};
 use std::alloc::{AllocError, Allocator, Global};
-use std::marker::{Model, PhantomData};
+use std::marker::Model;
 
 /// A queue with one owner, first in first out, that can be closed.
 ///
 /// A contract sees the abstract queue and the number of blocks that it holds. Each call answers by the table of one owner, `Sole`.
 #[derive(Drop)]
 pub struct Exclusive<T, A: Allocator = Global> {
-    form: Form<T>,
-    alloc: PhantomData<A>,
+    form: Form<T, A>,
 }
 
 /// How the items are kept.
 #[derive(Drop)]
-enum Form<T> {
+enum Form<T, A: Allocator> {
+    /// One slot.
     Single(Single<T>),
+    /// A ring of slots.
+    Bounded(Ring<T, A>),
 }
 
 impl<T, A: Allocator> Model for Exclusive<T, A> {
@@ -40,7 +44,7 @@ impl<T, A: Allocator> Model for Exclusive<T, A> {
     ghost invariant = { IsExclusive };
 }
 
-impl<T> Form<T> {
+impl<T, A: Allocator> Form<T, A> {
     ghost use Rattle.std.specs.Prelude.{IsTrue};
     ghost use Rattle.queue_steps.specs.Looks.{IsLook, look_reply};
     ghost use Rattle.concurrent_queue.specs.Exclusive.{form_owned, IsFormIdle};
@@ -54,6 +58,7 @@ impl<T> Form<T> {
     {
         match self {
             Form::Single(single) => drive::<T, (), Single<T>>(single, call),
+            Form::Bounded(ring) => drive::<T, (), Ring<T, A>>(ring, call),
         }
     }
 
@@ -66,19 +71,47 @@ impl<T> Form<T> {
     {
         match self {
             Form::Single(single) => observe::<T, (), Single<T>>(single, call),
+            Form::Bounded(ring) => observe::<T, (), Ring<T, A>>(ring, call),
         }
     }
 }
 
 impl<T, A: Allocator> Exclusive<T, A> {
-    /// An empty open queue of this capacity, which is 1: one slot, for which no memory is asked.
-    pub fn bounded(_alloc: A, cap: usize) -> Result<Self, AllocError>
-        requires { cap ≡ 1 }
-        ensures { IfOk result (λ queue. queue ≡ record { queue = start (Some cap) 0; blocks = 0 }) }
+    /// An empty open queue of this capacity.
+    ///
+    /// A queue of capacity 1 asks for no memory. Any other asks for all its memory here.
+    ///
+    /// # Errors
+    ///
+    /// Where there is no memory. A capacity above `MAX_CAPACITY`, or one whose room is more than an allocation may have, is refused without a request.
+    pub fn bounded(alloc: A, cap: usize) -> Result<Self, AllocError>
+        requires { 0 < cap }
+        ensures empty { IfOk result (λ queue. queue ≡ record { queue = start (Some cap) 0; blocks = 0 }) }
+        ensures limited { MAX_CAPACITY < cap → IsErr result }
+        ensures single { cap ≡ 1 → IsOk result }
     {
+        if cap == 1 {
+            return Ok(Exclusive {
+                form: Form::Single(Single::new()),
+            });
+        }
+        Exclusive::bounded_after(alloc, cap, 0)
+    }
+
+    /// An empty open queue of this capacity, whose positions stand as after `n` items that were accepted and taken.
+    ///
+    /// # Errors
+    ///
+    /// As `bounded`.
+    pub fn bounded_after(alloc: A, cap: usize, n: u64) -> Result<Self, AllocError>
+        requires many { 1 < cap }
+        requires below { n ≤ LIMIT }
+        ensures empty { IfOk result (λ queue. queue ≡ record { queue = start (Some cap) n; blocks = 0 }) }
+        ensures limited { MAX_CAPACITY < cap → IsErr result }
+    {
+        let ring = Ring::new(alloc, cap, n)?;
         Ok(Exclusive {
-            form: Form::Single(Single::new()),
-            alloc: PhantomData,
+            form: Form::Bounded(ring),
         })
     }
 
@@ -191,6 +224,7 @@ impl<T, A: Allocator> Exclusive<T, A> {
     {
         match &self.form {
             Form::Single(_) => 0,
+            Form::Bounded(_) => 0,
         }
     }
 }

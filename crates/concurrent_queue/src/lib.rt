@@ -1,6 +1,7 @@
 //! Closable queues, first in first out, with one owner.
 #![tactic(auto)]
 
+mod bounded;
 mod cells;
 mod driver;
 pub mod exclusive;

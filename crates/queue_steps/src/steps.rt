@@ -10,7 +10,7 @@ mod bounded;
 mod single;
 mod types;
 
-pub use bounded::{BoundedLocal, PushKind};
+pub use bounded::{BoundedLocal, PushKind, TAIL_STEP};
 pub use single::SingleLocal;
 pub use types::{Answer, Kind, Link, Local, Look, Next, Op, Touch, Word};
 

@@ -6,3 +6,5 @@ pub mod callers;
 mod errors;
 #[cfg(test)]
 mod one_slot;
+#[cfg(test)]
+mod rings;
