@@ -1,23 +1,27 @@
 -- The tally at a call: what `is_refused` and `give_back` are handed, and what is had of them afterwards. Assumes `Logic`.
-use Rattle.std.proofs.Common.{◌≡◌, ℕ, zero, suc, Bool, List, [], ◌∷◌, refl, ap}
+use Rattle.std.proofs.Common.{◌≡◌, ℕ, zero, suc, ◌+◌, Bool, List, [], ◌∷◌, refl, ap}
 use seplogic.Ra.Ura.{Ura}
 use mir.Syntax.{Body, seq}
 use mir.Val.{Val, vunit, vbool, vptr}
 use base.Logic.{SProp, ent, ex, sep, guard, id⊢}
 use base.Fml.{Lft, Share, ftrue, fsep, flft}
-use prog.Memory.{Memory}
+use prog.Memory.{Memory, size, align, up}
 use prog.Routine.{Routine}
 use types.Logic.{Logic, sem}
 use contract.Monad.{Fun}
-use types.Kit.{‵, ◌⊛◌, some, later, raw, ◌$◌, ◌∵◌, !, qed, done, move, keep, use1, split, join, pick, check, show, fjoin, feq_i, feq_l, await, updating, now as at_once}
+use types.Kit.{‵, ◌⊛◌, some, later, raw, ◌$◌, ◌∵◌, !, qed, done, move, keep, use1, split, join, pick, check, show, fjoin, feq_i, feq_l, fsplit, await, updating, now as at_once}
 use denote.RattleType.{RattleType}
 use denote.Memory.{hidden_shr}
 use denote.Builtin.{bool, unit}
 use denote.Steps.{nothing, only}
+use denote.Opens.{unhide}
+use denote.Param.{param}
 use denote.Triple.Statement.{Contract}
 use denote.Triple.Spec.{triple_of}
 use Rattle.std.specs.contracts.cell.Cell as cell
+use Rattle.std.proofs.alloc.Calls.{Al, α, seen}
 use Rattle.test_allocators.specs.contracts.Tally as tally
+use Rattle.test_allocators.specs.contracts.Refusing as refusing
 use Rattle.test_allocators.specs.contracts.is_refused as refused
 use Rattle.test_allocators.specs.contracts.give_back as back
 
@@ -53,10 +57,9 @@ module _ {M : Type 1} {𝓤 : Ura M} (𝓛 : Logic 𝓤) (at_mem : Memory → SP
       qed 𝓛 (‵ (hidden_shr Counted κ (record { value = tt }) c.0 c.1) ∷ ‵ (flft κ q) ∷ []) ∵ feq_i ! (List Val) (vptr c.0 c.1 ∷ []) (vptr c.0 c.1 ∷ []) refl $ fjoin ! $
       nothing ! $ move ! (1 ∷ []) $ fjoin ! $ nothing ! $ move ! (2 ∷ []) $ join ! $ join ! $ nothing ! $ move ! (1 ∷ []) $ done !
 
+  -- both are handed the same
   pub GivesBack-goes : ent 𝓤 (sep 𝓤 (sem 𝓛 (hidden_shr Counted κ (record { value = tt }) c.0 c.1)) (A.lft κ q)) ((GivesBack 𝓛 at_mem run).pre (at_back 𝓛 at_mem run κ q c))
-  GivesBack-goes =
-      qed 𝓛 (‵ (hidden_shr Counted κ (record { value = tt }) c.0 c.1) ∷ ‵ (flft κ q) ∷ []) ∵ feq_i ! (List Val) (vptr c.0 c.1 ∷ []) (vptr c.0 c.1 ∷ []) refl $ fjoin ! $
-      nothing ! $ move ! (1 ∷ []) $ fjoin ! $ nothing ! $ move ! (2 ∷ []) $ join ! $ join ! $ nothing ! $ move ! (1 ∷ []) $ done !
+  GivesBack-goes = IsRefused-goes
 
   -- the token of the lifetime comes back, with a flag
   pub IsRefused-gives : (v : Val) → ent 𝓤 ((IsRefused 𝓛 at_mem run).post (at_refused 𝓛 at_mem run κ q c) v) (H.⇛ (ex 𝓤 (λ (b : Bool). guard 𝓤 (v ≡ vbool b) (A.lft κ q))))
@@ -70,3 +73,18 @@ module _ {M : Type 1} {𝓤 : Ura M} (𝓛 : Logic 𝓤) (at_mem : Memory → SP
       qed 𝓛 (raw ((GivesBack 𝓛 at_mem run).post (at_back 𝓛 at_mem run κ q c) v) ∷ []) ∵ updating ! $
       use1 𝓛 (later (some (λ (r : Unit {0}). ((‵ (flft κ q) ⊛ ‵ ftrue) ⊛ ‵ (unit.own_val r (v ∷ []))) ⊛ some (λ (ws : Unit {0} × Unit {0}). ‵ (fsep ftrue ftrue) ⊛ ‵ ftrue)))) (id⊢ 𝓤 _) $ await ! tt $ pick ! (λ r.
       split ! $ split ! $ move ! (1 ∷ []) $ feq_l ! (λ e. split ! $ at_once ! $ check ! (ap only e) $ keep ! (0 ∷ []) $ done !))
+
+module _ (Z : Al) where
+  -- where the inner allocator lies in one at p, and where its tally does
+  abbrev pub inner_at : ℕ × ℕ → ℕ × ℕ
+  inner_at p = (p.0, p.1 + up (align (α Z)) 0)
+
+  abbrev pub tally_at : ℕ × ℕ → ℕ × ℕ
+  tally_at p = (p.0, p.1 + up 8 (up (align (α Z)) 0 + size (α Z)))
+
+  module _ {M : Type 1} {𝓤 : Ura M} (𝓛 : Logic 𝓤) (κ : Lft) (p : ℕ × ℕ) (h : (refusing.the_row Z.row).Denot) where
+    -- who sees an allocator sees its inner one and its tally
+    pub fields-seen : ent 𝓤 (sem 𝓛 (hidden_shr (refusing.the_row (param 0 Z.row)) κ h p.0 p.1))
+        (sep 𝓤 (sem 𝓛 (seen Z κ (inner_at p) h.inner)) (sem 𝓛 (hidden_shr Counted κ (record { value = tt }) (tally_at p).0 (tally_at p).1)))
+    fields-seen =
+        qed 𝓛 (‵ (hidden_shr (refusing.the_row (param 0 Z.row)) κ h p.0 p.1) ∷ []) ∵ unhide ! $ fsplit ! $ fsplit ! $ use1 𝓛 (‵ (seen Z κ (inner_at p) h.inner)) (id⊢ 𝓤 _) $ move ! (1 ∷ []) $ fsplit ! $ move ! (2 ∷ 0 ∷ []) $ join ! $ keep ! (0 ∷ []) $ done !

@@ -1,12 +1,12 @@
 -- The block is counted as given back, and goes back to the inner allocator. Assumes `Logic`.
-use Rattle.std.proofs.Common.{◌≡◌, ℕ, ◌+◌, ◌^◌, ◌<◌, List, [], ◌∷◌, refl, w64, Bor}
+use Rattle.std.proofs.Common.{◌≡◌, ℕ, ◌^◌, ◌<◌, List, [], ◌∷◌, refl, w64, Bor}
 use seplogic.Ra.Ura.{Ura}
 use mir.Syntax.{Ty, Args, Fn, a_type, dnil, dcons}
 use mir.Val.{Val, vunit, vint, vptr}
 use mir.MapTy.{inst_fn}
-use base.Logic.{SProp, ent, id⊢, never_e}
+use base.Logic.{SProp, ent, never_e}
 use base.Fml.{Lft, Share, ftrue, ffalse, flft, fsep, froom}
-use prog.Memory.{Memory, size, align, capped, up}
+use prog.Memory.{Memory, size, align, capped}
 use prog.Routine.{Routine}
 use prog.Wp.{WpFn, Tables}
 use types.Logic.{Logic}
@@ -20,7 +20,7 @@ use sound.WpLaws.{fm_of, WpFn-mono}
 use denote.Exit.{yes}
 use denote.RattleType.{owns}
 use denote.Ref.{shr_vals}
-use denote.Opens.{unhide}
+use denote.Memory.{hidden_shr}
 use denote.Param.{bounded, param}
 use denote.Plain.{uint_vals, uint_Tells}
 use denote.RawPtr.{Ptr, block_ptr, null_ptr, ptr_val, rawptr_vals, rawptr_Tells}
@@ -33,8 +33,8 @@ use denote.Triple.Spec.{triple_of}
 use denote.Triple.Statement.{Triple}
 use denote.Triple.Table.{entered, cited}
 use denote.Triple.Walked.{Stays, stay_dropped, walk_of, ends_at, walked, Goes-dropped, walk_Meets}
-use Rattle.std.proofs.alloc.Calls.{Al, α, seen, token, gives_key, Gives, at_gives, Gives-goes, Gives-Gives}
-use Rattle.test_allocators.proofs.Tallies.{GivesBack, at_back, GivesBack-goes, GivesBack-gives}
+use Rattle.std.proofs.alloc.Calls.{Al, seen, token, gives_key, Gives, at_gives, Gives-goes, Gives-Gives}
+use Rattle.test_allocators.proofs.Tallies.{Counted, inner_at, tally_at, fields-seen, GivesBack, at_back, GivesBack-goes, GivesBack-gives}
 use Rattle.test_allocators.proofs.give_back.Symbol as callee
 use Rattle.test_allocators.proofs.give_back.Met as met_callee
 use Rattle.test_allocators.specs.contracts.Refusing as refusing
@@ -87,13 +87,13 @@ module _ (Z : Al) {M : Type 1} {𝓤 : Ura M} (𝓛 : Logic 𝓤) (at_mem : Memo
         move ! (1 ∷ []) $ split3 ! $ move ! (2 ∷ []) $ fsplit ! $ keep ! (0 ∷ []) $ by ! (never_e 𝓤 _)
     walk fits_n fits_a (block_ptr b o) =
         let h : Z.row.Denot = r.now.inner in
-        let p : ℕ × ℕ = (r.ref_ptr.0, r.ref_ptr.1 + up (align (α Z)) 0) in
-        let c : ℕ × ℕ = (r.ref_ptr.0, r.ref_ptr.1 + up 8 (up (align (α Z)) 0 + size (α Z))) in
+        let p : ℕ × ℕ = inner_at Z r.ref_ptr in
+        let c : ℕ × ℕ = tally_at Z r.ref_ptr in
         let x : Ptr = block_ptr b o in
         let y : (Gives Z 𝓛 at_mem run).Ghost = at_gives Z 𝓛 at_mem run κ₁ q₁ p h b o n a τ in
         qed 𝓛 (entry x ∷ (raw (fact 𝓤 (κ₂ ⊑ Z.row.lives)) ⊛ raw (fact 𝓤 Sized) ⊛ ‵ (fsep (froom τ b o) (token Z h τ x))) ∷ []) ∵
         move ! (1 ∷ []) $ split3 ! $ heard ! (κ₂ ⊑ Z.row.lives) (λ lives. heard ! Sized (λ sized. move ! (1 ∷ []) $
-        split ! $ split ! $ move ! (2 ∷ []) $ fsplit ! $ fsplit ! $ move ! (1 ∷ []) $ unhide ! $ fsplit ! $ fsplit ! $ use1 𝓛 (‵ (seen Z κ₁ p h)) (id⊢ 𝓤 _) $ move ! (1 ∷ []) $ fsplit ! $ keep ! (0 ∷ 6 ∷ 2 ∷ 7 ∷ 8 ∷ []) $
+        split ! $ split ! $ move ! (2 ∷ []) $ fsplit ! $ fsplit ! $ move ! (1 ∷ []) $ use1 𝓛 (‵ (seen Z κ₁ p h) ⊛ ‵ (hidden_shr Counted κ₁ (record { value = tt }) c.0 c.1)) (fields-seen Z 𝓛 κ₁ r.ref_ptr r.now) $ split ! $ keep ! (1 ∷ 4 ∷ 0 ∷ 5 ∷ 6 ∷ []) $
         enter ! 𝓣.C 𝓣.Λ (here Z) (values x) _ $ alloc_all ! (λ l. pass_all ! refl ((tt, tt), ((tt, tt), ((tt, record { fits = fits_n }), ((tt, record { fits = fits_a }), tt)))) $
         sets ! (addr ! (through ! refl (fld ! refl (stop !)))) refl (tt, tt) $
         use2 𝓛 (raw ((GivesBack 𝓛 at_mem run).pre (at_back 𝓛 at_mem run κ₁ q₁ c))) (GivesBack-goes 𝓛 at_mem run κ₁ q₁ c) $
