@@ -10,5 +10,7 @@ pub mod Looks
 pub mod SingleNext
 pub mod Words
 pub mod BoundedNext
+pub mod ChainWords
+pub mod UnboundedNext
 pub mod Next
 pub mod LookNext

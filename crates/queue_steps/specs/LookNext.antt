@@ -18,7 +18,12 @@ use Rattle.queue_steps.specs.declared.steps.bounded.BoundedLocal.TheVariants as 
 use Rattle.queue_steps.specs.declared.steps.bounded.BoundedLocal.{BoundedLocal}
 use Rattle.queue_steps.specs.declared.steps.types.Word.TheVariants as word
 use Rattle.queue_steps.specs.declared.model.Reply.TheVariants as reply
+use Rattle.queue_steps.specs.declared.steps.unbounded.UnboundedLocal.{UnboundedLocal}
+use Rattle.queue_steps.specs.declared.steps.unbounded.UnboundedLocal.TheVariants as chain
 use Rattle.queue_steps.specs.Words.{position_of}
+use Rattle.queue_steps.specs.ChainWords.{items_before}
+use Rattle.queue_steps.specs.UnboundedNext.{unbounded_next, FitsChain}
+use Rattle.queue_steps.specs.UnboundedNext as unbounded
 use Rattle.queue_steps.specs.BoundedNext.{ends, loads, bounded_next, FitsRing}
 use Rattle.queue_steps.specs.Looks.{IsLook}
 use Rattle.queue_steps.specs.Next.{CanNext, next_of, first_local}
@@ -38,6 +43,12 @@ IsLookLocal (local.Bounded (ring.EmptyTail h)) = Unit {0}
 IsLookLocal (local.Bounded ring.FullTail) = Unit {0}
 IsLookLocal (local.Bounded (ring.FullHead t)) = Unit {0}
 IsLookLocal (local.Bounded ring.ClosedTail) = Unit {0}
+IsLookLocal (local.Unbounded chain.LenTail) = Unit {0}
+IsLookLocal (local.Unbounded (chain.LenHead t)) = Unit {0}
+IsLookLocal (local.Unbounded (chain.LenAgain t h)) = Unit {0}
+IsLookLocal (local.Unbounded chain.EmptyHead) = Unit {0}
+IsLookLocal (local.Unbounded (chain.EmptyTail h)) = Unit {0}
+IsLookLocal (local.Unbounded chain.ClosedTail) = Unit {0}
 IsLookLocal _ = ⊥
 
 -- the next step changes nothing, and a reply gives nothing up
@@ -56,7 +67,11 @@ look_next-first B (kind.Bounded n) call.IsEmpty h = (refl, tt, tt)
 look_next-first B (kind.Bounded n) call.IsFull h = (refl, tt, tt)
 look_next-first B (kind.Bounded n) call.Len h = (refl, tt, tt)
 look_next-first B (kind.Bounded n) call.Capacity h = refl
-look_next-first B kind.Unbounded c h = refl
+look_next-first B kind.Unbounded call.IsClosed h = (refl, tt, tt)
+look_next-first B kind.Unbounded call.IsEmpty h = (refl, tt, tt)
+look_next-first B kind.Unbounded call.IsFull h = refl
+look_next-first B kind.Unbounded call.Len h = (refl, tt, tt)
+look_next-first B kind.Unbounded call.Capacity h = refl
 look_next-first B k (call.Push v) h = absurd h
 look_next-first B k (call.ForcePush v) h = absurd h
 look_next-first B k call.Pop h = absurd h
@@ -86,12 +101,34 @@ look_next-ring n (ring.FullHead t) _ fits is = absurd fits
 look_next-ring n ring.ClosedTail _ fits is = absurd fits
 look_next-ring n _ _ fits is = absurd is
 
+look_again-chain : (B : Type 0) (b : Bool) (n : ℕ) → IsLookNext {B = B} (if b then unbounded.ends (reply.Len n) else unbounded.loads chain.LenTail word.Tail)
+look_again-chain B true n = refl
+look_again-chain B false n = (refl, tt, tt)
+
+look_next-chain : {B : Type 0} (l : UnboundedLocal B) (a : Answer B) → FitsChain l a → IsLookLocal {B = B} (local.Unbounded l) → IsLookNext (unbounded_next l a)
+look_next-chain {B} chain.LenTail (answer.Found found) fits is = (refl, tt, tt)
+look_next-chain {B} (chain.LenHead t) (answer.Found found) fits is = (refl, tt, tt)
+look_next-chain {B} (chain.LenAgain t h) (answer.Found found) fits is = look_again-chain B (found == t) (items_before (position_of t) - items_before (position_of h))
+look_next-chain {B} chain.EmptyHead (answer.Found found) fits is = (refl, tt, tt)
+look_next-chain {B} (chain.EmptyTail h) (answer.Found found) fits is = refl
+look_next-chain {B} chain.ClosedTail (answer.Found found) fits is = refl
+look_next-chain chain.LenTail _ fits is = absurd fits
+look_next-chain (chain.LenHead t) _ fits is = absurd fits
+look_next-chain (chain.LenAgain t h) _ fits is = absurd fits
+look_next-chain chain.EmptyHead _ fits is = absurd fits
+look_next-chain (chain.EmptyTail h) _ fits is = absurd fits
+look_next-chain chain.ClosedTail _ fits is = absurd fits
+look_next-chain _ _ fits is = absurd is
+
 pub look_next : {B : Type 0} (k : Kind) (l : Local B) (a : Answer B) → CanNext k l a → IsLookLocal l → IsLookNext (next_of k l a)
 look_next kind.Single (local.Single (slot.Looking l)) (answer.Found word) can h = refl
 look_next (kind.Bounded n) (local.Bounded l) a can h = look_next-ring n l a can.1 h
+look_next kind.Unbounded (local.Unbounded l) a can h = look_next-chain l a can h
 look_next kind.Single (local.Single (slot.Looking l)) _ can h = absurd can
 look_next (kind.Bounded n) (local.Single (slot.Looking l)) a can h = absurd can
 look_next kind.Unbounded (local.Single (slot.Looking l)) a can h = absurd can
 look_next kind.Single (local.Bounded l) a can h = absurd can
 look_next kind.Unbounded (local.Bounded l) a can h = absurd can
+look_next kind.Single (local.Unbounded l) a can h = absurd can
+look_next (kind.Bounded n) (local.Unbounded l) a can h = absurd can
 look_next k _ a can h = absurd h

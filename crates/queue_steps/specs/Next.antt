@@ -13,6 +13,7 @@ use Rattle.queue_steps.specs.declared.steps.types.Next.TheVariants as next
 use Rattle.queue_steps.specs.Words.{IsRing}
 use Rattle.queue_steps.specs.SingleNext.{single_begin, single_next}
 use Rattle.queue_steps.specs.BoundedNext.{bounded_begin, bounded_next, FitsRing}
+use Rattle.queue_steps.specs.UnboundedNext.{unbounded_begin, unbounded_next, FitsChain}
 
 abbrev pub first_local : {B : Type 0} → Call Unit → Local B
 first_local c = local.Begin c
@@ -23,6 +24,8 @@ CanNext kind.Single (local.Begin c) answer.Start = Unit {0}
 CanNext kind.Single (local.Single l) (answer.Found word) = Unit {0}
 CanNext (kind.Bounded cap) (local.Begin c) answer.Start = IsRing cap
 CanNext (kind.Bounded cap) (local.Bounded l) a = IsRing cap × FitsRing cap l a
+CanNext kind.Unbounded (local.Begin c) answer.Start = Unit {0}
+CanNext kind.Unbounded (local.Unbounded l) a = FitsChain l a
 CanNext _ _ _ = ⊥
 
 -- the last line stands for what `CanNext` excludes
@@ -31,4 +34,6 @@ next_of kind.Single (local.Begin c) answer.Start = single_begin c
 next_of kind.Single (local.Single l) (answer.Found word) = single_next l word
 next_of (kind.Bounded cap) (local.Begin c) answer.Start = bounded_begin cap c
 next_of (kind.Bounded cap) (local.Bounded l) a = bounded_next cap l a
+next_of kind.Unbounded (local.Begin c) answer.Start = unbounded_begin c
+next_of kind.Unbounded (local.Unbounded l) a = unbounded_next l a
 next_of _ _ _ = next.Reply (reply.Capacity None) None

@@ -9,10 +9,12 @@ use crate::model::CallKind;
 mod bounded;
 mod single;
 mod types;
+mod unbounded;
 
 pub use bounded::{BoundedLocal, PushKind, TAIL_STEP};
 pub use single::SingleLocal;
 pub use types::{Answer, Kind, Link, Local, Look, Next, Op, Touch, Word};
+pub use unbounded::UnboundedLocal;
 
 /// The local state of a call that begins.
 #[inline(always)]
@@ -35,6 +37,8 @@ pub fn next<B: Copy>(kind: Kind, local: Local<B>, answer: Answer<B>) -> Next<B>
         (Kind::Bounded(cap), Local::Bounded(local), answer) => bounded::next(
             cap as u64, local, answer,
         ),
+        (Kind::Unbounded, Local::Begin(call), Answer::Start) => unbounded::begin(call),
+        (Kind::Unbounded, Local::Unbounded(local), answer) => unbounded::next(local, answer),
         _ => unreachable!(),
     }
 }

@@ -118,7 +118,7 @@ pub(super) fn begin<B: Copy>(cap: usize, call: CallKind) -> Next<B>
 
 /// What a push into a closed queue answers.
 #[inline(always)]
-fn closed(push: PushKind) -> ReplyKind
+pub(super) fn closed(push: PushKind) -> ReplyKind
     ensures { result ≡ closed_reply push }
 {
     match push {
@@ -129,7 +129,7 @@ fn closed(push: PushKind) -> ReplyKind
 
 /// What a push answers that found a free slot.
 #[inline(always)]
-fn pushed(push: PushKind) -> ReplyKind
+pub(super) fn pushed(push: PushKind) -> ReplyKind
     ensures { result ≡ pushed_reply push }
 {
     match push {

@@ -2,6 +2,7 @@
 use crate::model::{CallKind, ReplyKind};
 use crate::steps::bounded::BoundedLocal;
 use crate::steps::single::SingleLocal;
+use crate::steps::unbounded::UnboundedLocal;
 
 /// Which queue.
 #[derive(Clone, Copy, Debug, PartialEq, Eq)]
@@ -113,8 +114,8 @@ pub enum Local<B> {
     Single(SingleLocal),
     /// Within a call on a ring.
     Bounded(BoundedLocal),
-    /// Within a call on a chain of blocks, with the spare block if there is one.
-    Unbounded(Option<B>),
+    /// Within a call on a chain of blocks.
+    Unbounded(UnboundedLocal<B>),
 }
 
 /// The next step, or the reply with the block that the call gives up.
