@@ -3,3 +3,16 @@ pub mod Runs
 pub mod SingleCells
 pub mod SingleAnswers
 pub mod Exclusive
+pub mod Known
+pub mod Turns
+pub mod Seats
+pub mod Shared
+pub mod OneSlot
+pub mod SlotTurns
+pub mod SlotStands
+pub mod Histories
+pub mod SharedCalls
+pub mod SlotLaws
+pub mod SlotShows
+pub mod SlotCalls
+pub mod SlotParties

@@ -3,6 +3,7 @@ ghost use Rattle.std.specs.Prelude.{◌≡◌, length, Some, IfOk};
 ghost use Rattle.queue_steps.specs.State.{start, is_full};
 ghost use Rattle.queue_steps.specs.Replies.{is_empty};
 ghost use Rattle.queue_steps.specs.Sole.{Sole, HoldsBlocks};
+ghost use Rattle.concurrent_queue.specs.SingleCells.{IsIdle, single_owned};
 ghost use Rattle.queue_steps.specs.declared.model.Call.TheVariants as call;
 ghost use Rattle.queue_steps.specs.declared.model.Reply.TheVariants as reply;
 
@@ -80,6 +81,17 @@ impl<T, A: Allocator> Exclusive<T, A> {
             form: Form::Single(Single::new()),
             alloc: PhantomData,
         })
+    }
+
+    /// A queue of this slot, which no call holds.
+    pub(crate) fn of_single(single: Single<T>) -> Self
+        requires { IsIdle single }
+        ensures { result ≡ single_owned single }
+    {
+        Exclusive {
+            form: Form::Single(single),
+            alloc: PhantomData,
+        }
     }
 
     /// Appends `value`.

@@ -1,11 +1,18 @@
-//! Closable queues, first in first out, with one owner.
+//! Closable queues, first in first out, with one owner or shared by many parties.
 #![tactic(auto)]
 
 mod cells;
 mod driver;
+mod gate;
+mod known;
+mod party;
+pub mod shared;
 pub mod exclusive;
 mod single;
+mod slot;
+mod turns;
 
 pub use exclusive::Exclusive;
+pub use shared::{ConcurrentQueue, Party};
 pub use queue_steps::errors::{ForcePushError, PopError, PushError};
 pub use queue_steps::{errors as errors, model as model, steps as steps};

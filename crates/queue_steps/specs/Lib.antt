@@ -12,3 +12,5 @@ pub mod Words
 pub mod BoundedNext
 pub mod Next
 pub mod LookNext
+pub mod Parties
+pub mod Prompt
