@@ -326,9 +326,7 @@ module _ (T : Type 0) (t : TableId) (p : Place T) (c : Call T) where
 
   pub slot_goes_on : (l : Local Unit) (a : Answer Unit) (q : Place T) (x : Option T) → SlotStands t p c l a q x → GoesOn CanTurn Turned SlotStands SlotEnded kind.Single t p c l a q x
   slot_goes_on (local.Single l) (answer.Found n) q x stands = (tt, at_any l n q.1 x stands.1 q stands.0 refl)
-  slot_goes_on (local.Single l) _ q x stands = absurd stands
-  slot_goes_on (local.Begin k) a q x stands = absurd stands
-  slot_goes_on (local.Unbounded k) a q x stands = absurd stands
+  slot_goes_on _ _ q x stands = absurd stands
 
   begins_fresh : Rests p.1 → p.1.0.known.cap ≡ Some 1 → Fresh p.1 p.1
   begins_fresh rests one = (prefix_self p.1.0.known.seen, rests ∙ (λ i. (idle (party (one i) p.1.0.known.seen p.1.0.known.mine), [])))

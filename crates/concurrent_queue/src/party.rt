@@ -1,5 +1,6 @@
 //! The parties of a shared queue: how they are counted, parted, joined and brought together, whatever the queue is made of.
 ghost use Rattle.std.specs.Prelude.{◌≡◌, ◌<◌, MatchResult, MatchBool};
+ghost use Rattle.queue_steps.specs.Parties.{IsView};
 ghost use Rattle.concurrent_queue.specs.Seats.{KeepsParties, FoundAlone, Rests};
 ghost use Rattle.concurrent_queue.specs.Shared.{Person, Parts, Joins as JoinsTwo, Meets};
 
@@ -109,6 +110,16 @@ impl<T> Model for Party<T> {
     ghost view = { λ p. person p.seat.table_id p.seat.me };
 
     ghost invariant = { λ p. IsPerson p.seat.me };
+}
+
+impl<T> Party<T> {
+    /// Does nothing. Its contract tells what holds of every party: what it has seen is a history of a queue of its capacity, and its places lie in that,
+    /// none twice.
+    pub fn show_view(&self)
+        ensures { IsView self.now.queue.cap self.now.view }
+    {
+        let _ = &self.seat;
+    }
 }
 
 /// Parts a party in two, or hands it back where there are too many.
