@@ -167,7 +167,7 @@ module _ (T : Type 0) (Rule : Table T → Type 0) (law : KeepsParties Rule) wher
         was = λ j d busy there. was_set T s.views id b refl j d busy (was_set T vs other empty_seat refl j d busy there);
       } in
       let k = pairs_up T l.0.cap None l.0.history (count_of s) ks id other v.known w.known l.0.kept (at_map known_by s.views id v at) two
-          (subst (λ (us : List (Known T)). get_elem? us other ≡ some w.known) (map-set known_by s.views id b) (at_map known_by vs other w at')) is_v is_w in
+      (subst (λ (us : List (Known T)). get_elem? us other ≡ some w.known) (map-set known_by s.views id b) (at_map known_by vs other w at')) is_v is_w in
       let both : map known_by (set vs other empty_seat) ≡ set (set ks id (pair_of v.known w.known)) other (nobody None) =
-          map-set known_by vs other empty_seat ∙ ap (λ (us : List (Known T)). set us other (nobody None)) (map-set known_by s.views id b) in
+      map-set known_by vs other empty_seat ∙ ap (λ (us : List (Known T)). set us other (nobody None)) (map-set known_by s.views id b) in
       l.2 t only (subst (Kept l.0.cap l.0.history (count_of s)) (sym both) k)

@@ -71,8 +71,8 @@ module _ (T : Type 0) (cap : Option ℕ) where
   stays h n n' views id v w k at counts fit places count limit alone =
       let whole = append-nil h in
       subst (λ (g : List (Effect T)). Kept cap g n' (set views id w)) whole
-          (changes h [] n n' views id v w k at counts (subst (IsHistory cap) (sym whole) k.legal) (subst (λ (g : List (Effect T)). IsTrueOf cap g w) (sym whole) fit)
-              (λ p. omega (arith, places p, ap (λ (g : List (Effect T)). once_below p (length g)) whole)) count limit alone)
+      (changes h [] n n' views id v w k at counts (subst (IsHistory cap) (sym whole) k.legal) (subst (λ (g : List (Effect T)). IsTrueOf cap g w) (sym whole) fit)
+      (λ p. omega (arith, places p, ap (λ (g : List (Effect T)). once_below p (length g)) whole)) count limit alone)
 
   fits_looked : (h : List (Effect T)) (v : V) → IsTrueOf cap h v → IsTrueOf cap h (looked h v)
   fits_looked h v f = record { capped = f.capped; begins = prefix_self h; heard = (h, refl); within = λ p m. inl (inside h v f p m); empty = f.empty; extra = f.extra }
@@ -234,14 +234,14 @@ module _ (T : Type 0) (cap : Option ℕ) where
       let untold : v.told ≡ [] = ap (λ (z : V). z.told) is_v in let untold' : w.told ≡ [] = ap (λ (z : V). z.told) is_w in record {
         legal = k.legal;
         true_of = fits_set h vs other (nobody c) (fits_set h views id b k.true_of record {
-        capped = λ _. f.capped (omega arith);
-        begins = f.begins;
-        heard = f'.begins;
-        within = λ p m. dite (dec_le 1 (times p v.mine))
-        (λ yes. ⊎_elim (λ (t : p < length v.seen). inl t) (λ (t : p < length v.told). absurd (omega (arith, t, ap length untold))) (f.within p (omega (arith, places p))))
-        (λ no. ⊎_elim (λ (t : p < length w.seen). inr t) (λ (t : p < length w.told). absurd (omega (arith, t, ap length untold'))) (f'.within p (omega (arith, places' p, m))));
-        empty = λ no. absurd (omega arith);
-        extra = omega arith;
+          capped = λ _. f.capped (omega arith);
+          begins = f.begins;
+          heard = f'.begins;
+          within = λ p m. dite (dec_le 1 (times p v.mine))
+              (λ yes. ⊎_elim (λ (t : p < length v.seen). inl t) (λ (t : p < length v.told). absurd (omega (arith, t, ap length untold))) (f.within p (omega (arith, places p))))
+              (λ no. ⊎_elim (λ (t : p < length w.seen). inr t) (λ (t : p < length w.told). absurd (omega (arith, t, ap length untold'))) (f'.within p (omega (arith, places' p, m))));
+          empty = λ no. absurd (omega arith);
+          extra = omega arith;
         }) record { capped = λ no. absurd (omega arith); begins = (h, refl); heard = (h, refl); within = λ p m. absurd (omega arith); empty = λ _ p. refl; extra = omega arith };
         owned = λ p. omega (arith, total_set (has p) vs other w (nobody c) at', total_set (has p) views id v b at, k.owned p, places p, places' p);
         counted = omega (arith, total_set parts vs other w (nobody c) at', total_set parts views id v b at, total_set extra vs other w (nobody c) at', total_set extra views id v b at, k.counted);

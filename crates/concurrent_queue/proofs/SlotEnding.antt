@@ -101,7 +101,7 @@ module _ (T : Type 0) where
       let none_theirs : v.theirs ≡ [] = ap (λ (z : Doing T). z.known.theirs) is in
       let one : v.parts ≡ 1 = ap (λ (z : Doing T). z.known.parts) is in
       let free : r.holder ≡ maybe.none = no_one r.holder (λ j out. let b = r.busy j out in
-          busy_no id j d b.0 s.views at b.1 b.2 (ap (λ (z : Doing T). is_busy z.work) is) (λ other. let gone = w.2 j b.0.known other (at_map known_by s.views j b.0 b.1) (omega arith) in let some_part = r.active j b.0 b.1 b.2 in omega arith)) in
+      busy_no id j d b.0 s.views at b.1 b.2 (ap (λ (z : Doing T). is_busy z.work) is) (λ other. let gone = w.2 j b.0.known other (at_map known_by s.views j b.0 b.1) (omega arith) in let some_part = r.active j b.0 b.1 b.2 in omega arith)) in
       let here : get_elem? xs 0 ≡ some (front (slot_state r.history).items) = end.4 0 _ (r.at_home free) in
       let x_is : front (slot_state r.history).items ≡ x = sym (some-injective x (front (slot_state r.history).items) (sym at_slot ∙ here)) in
       let found : get_or s.words 1 0 ≡ word = ap (λ (l : List ℕ). get_or l 1 0) end.2 ∙ second_word ws word at_word in

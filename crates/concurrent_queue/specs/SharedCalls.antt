@@ -64,4 +64,3 @@ module _ {T : Type 0} where
   -- the capacity is that of the beginning
   pub cap_after : (cap : Option ℕ) (es : List (Effect T)) → (after cap es).cap ≡ cap
   cap_after cap es = cap_after_from (start cap 0) es
-

@@ -77,9 +77,11 @@ module _ (T : Type 0) (t : TableId) (p : Place T) (c : Call T) where
   plain : (l : SingleLocal) (o : Op Unit) (m : S) (x : Option T) → CanOperate o m x → ((n : ℕ) (m' : S) → Operated o m x n m' → At p.1 c l n m' x) → Good m x (at l touch.Nothing o)
   plain l o m x can after q same is = (
     (same, tt, λ m2 y t2. subst (λ (z : S × Option T). CanOperate o z.0 z.1) (λ i. (sym (t2.0 ∙ is) i, sym t2.1 i)) can),
-    λ a q' y did. subst (λ (z : Answer Unit). SlotStands t p c (local.Single l) z q' y) (sym did.1.4)
-        (did.0 ∙ same, subst (λ (z : Option T). At p.1 c l did.1.1 q'.1 z) (sym did.1.2.1)
-            (after did.1.1 q'.1 (subst (λ (z : S × Option T). Operated o z.0 z.1 did.1.1 q'.1) (λ i. ((did.1.2.0 ∙ is) i, did.1.2.1 i)) did.1.3))),
+    λ a q' y did. subst (λ (z : Answer Unit). SlotStands t p c (local.Single l) z q' y) (sym did.1.4) (
+      did.0 ∙ same,
+      subst (λ (z : Option T). At p.1 c l did.1.1 q'.1 z) (sym did.1.2.1)
+          (after did.1.1 q'.1 (subst (λ (z : S × Option T). Operated o z.0 z.1 did.1.1 q'.1) (λ i. ((did.1.2.0 ∙ is) i, did.1.2.1 i)) did.1.3)),
+    ),
   )
 
   -- a step that puts back the slot, with what is carried
@@ -136,7 +138,7 @@ module _ (T : Type 0) (t : TableId) (p : Place T) (c : Call T) where
         λ n m' back.
             let before : List (Effect T) = g.before in
             let known_is : m.0.known ≡ party (Some 1) (before ++ e ∷ []) (p.1.0.known.mine ++ length before ∷ []) =
-                g.same ∙ (λ i. gained before (is i) (fresh.1 i).0.known) in
+            g.same ∙ (λ i. gained before (is i) (fresh.1 i).0.known) in
             let legal : IsHistory (Some 1) (before ++ e ∷ []) = subst (λ (z : Option ℕ × List (Effect T)). IsHistory z.0 z.1) (λ i. ((fresh.1 i).0.known.cap, (known_is i).seen)) g.legal in
             let seat_is : m'.0 ≡ idle (party (Some 1) (before ++ e ∷ []) (p.1.0.known.mine ++ length before ∷ [])) = back.0 ∙ (ap (λ (z : S). idle z.0.known) swap.1 ∙ ap idle known_is) in
             let none_out : m'.1 ≡ [] = back.1 ∙ (ap (λ (z : S). rest z.1) swap.1 ∙ (ap rest won.4 ∙ ap (λ (z : S). z.1) fresh.1)) in (
@@ -195,10 +197,10 @@ module _ (T : Type 0) (t : TableId) (p : Place T) (c : Call T) where
       (λ m2 y swap. let s = settles m0 m (EffectAt 0 (Some v)) (effect.Append v) (Some v) fresh won won.1 refl m2 y swap in (s.0, λ n' m' back. let d = s.1 n' m' back in (v, stands.1, d.0, d.1))))
       (λ miss. let l = tried.1 miss in branch (Good m (Some v)) (is_marked n) _ _
       (λ shut. let full = reply.Push (Err (push.Closed v)) in right_now (reply.Push (Err (push.Closed tt))) m0 m n (Some v) full fresh l refl (told full (call.Push v) stands.1 (refl, inr refl))
-          (right_as m full (call.Push v) stands.1 (refl, sym (shows_closed T n m.0.known l.1) ∙ shut)))
+      (right_as m full (call.Push v) stands.1 (refl, sym (shows_closed T n m.0.known l.1) ∙ shut)))
       (λ is_open. branch (Good m (Some v)) (is_pushed n) _ _
       (λ has. let full = reply.Push (Err (push.Full v)) in right_now (reply.Push (Err (push.Full tt))) m0 m n (Some v) full fresh l refl (told full (call.Push v) stands.1 (refl, refl))
-          (right_as m full (call.Push v) stands.1 (refl, sym (shows_closed T n m.0.known l.1) ∙ is_open, sym (shows_full T n m.0.known l.1) ∙ has, below_if T n m.0.known l.1)))
+      (right_as m full (call.Push v) stands.1 (refl, sym (shows_closed T n m.0.known l.1) ∙ is_open, sym (shows_full T n m.0.known l.1) ∙ has, below_if T n m.0.known l.1)))
       (λ none. tries_push v m (lost m0 m n fresh l) stands.1))))
 
   at_pushed : (n : ℕ) (m : S) (x : Option T) → At p.1 c Pushed n m x → Good m x (single_next Pushed n)
@@ -266,9 +268,9 @@ module _ (T : Type 0) (t : TableId) (p : Place T) (c : Call T) where
       (λ none. let no_items = empty_if T n m.0.known shows none in
       subst (λ (r : Reply Unit). Good m None (ends r)) (sym (pop_reply (is_marked n))) (branch (λ (r : Reply Unit). Good m None (ends r)) (is_marked n) _ _
       (λ shut. let full = reply.Pop (Err pop.Closed) in right_now full m0 m n None (reply.Pop (Err pop.Closed)) fresh l refl (told (reply.Pop (Err pop.Closed)) call.Pop stands.0 refl)
-          (right_as m (reply.Pop (Err pop.Closed)) call.Pop stands.0 (no_items, shows.2.none_coming, sym (shows_closed T n m.0.known shows) ∙ shut)))
+      (right_as m (reply.Pop (Err pop.Closed)) call.Pop stands.0 (no_items, shows.2.none_coming, sym (shows_closed T n m.0.known shows) ∙ shut)))
       (λ is_open. right_now (reply.Pop (Err pop.Empty)) m0 m n None (reply.Pop (Err pop.Empty)) fresh l refl (told (reply.Pop (Err pop.Empty)) call.Pop stands.0 refl)
-          (right_as m (reply.Pop (Err pop.Empty)) call.Pop stands.0 (no_items, shows.2.none_coming, sym (shows_closed T n m.0.known shows) ∙ is_open)))))
+      (right_as m (reply.Pop (Err pop.Empty)) call.Pop stands.0 (no_items, shows.2.none_coming, sym (shows_closed T n m.0.known shows) ∙ is_open)))))
       (λ has. let again = again_full T n m.0.known shows has in tries_pop (unlocked n) m (lost m0 m n fresh l) stands.0 again.0 again.1)))
     where
       pop_reply : (b : Bool) → pop_answer b ≡ (if b then reply.Pop (Err pop.Closed) else reply.Pop (Err pop.Empty))
@@ -350,8 +352,11 @@ module _ (T : Type 0) (t : TableId) (p : Place T) (at_slot : IsAtSlot t p) where
       (
         reply.Capacity (Some 1),
         refl,
-        (at_slot, quiet (Some 1) (view_at p.1) (view_at p.1) p.1.0.known.seen call.Capacity (reply.Capacity (Some 1)) (prefix_self p.1.0.known.seen) (prefix_self p.1.0.known.seen) at_slot.3 refl refl
-            (sym (cap_after (Some 1) p.1.0.known.seen))),
+        (
+          at_slot,
+          quiet (Some 1) (view_at p.1) (view_at p.1) p.1.0.known.seen call.Capacity (reply.Capacity (Some 1)) (prefix_self p.1.0.known.seen) (prefix_self p.1.0.known.seen) at_slot.3 refl refl
+              (sym (cap_after (Some 1) p.1.0.known.seen)),
+        ),
       ),
     ),
   )

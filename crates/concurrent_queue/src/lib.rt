@@ -3,16 +3,16 @@
 
 mod cells;
 mod driver;
+pub mod exclusive;
 mod gate;
 mod known;
 mod party;
 pub mod shared;
-pub mod exclusive;
 mod single;
 mod slot;
 mod turns;
 
 pub use exclusive::Exclusive;
-pub use shared::{ConcurrentQueue, Party};
 pub use queue_steps::errors::{ForcePushError, PopError, PushError};
 pub use queue_steps::{errors as errors, model as model, steps as steps};
+pub use shared::{ConcurrentQueue, Party};

@@ -52,9 +52,12 @@ impl<T, A: Allocator + Clone> ConcurrentQueue<T, A> {
         ensures { IfOk result (λ r. IsPartyOf r.1 r.0 × (r.0.cap ≡ Some cap) × (r.1.view ≡ record { seen = []; mine = [] })) }
     {
         let (slot, seat) = SharedSlot::new(alloc)?;
-        Ok((ConcurrentQueue {
-            form: Form::Single(slot),
-        }, Party { seat }))
+        Ok((
+            ConcurrentQueue {
+                form: Form::Single(slot),
+            },
+            Party { seat },
+        ))
     }
 }
 
@@ -127,12 +130,7 @@ impl<T, A: Allocator> ConcurrentQueue<T, A> {
     /// # Errors
     ///
     /// `Closed` with the value on a closed queue, `Full` with the value on a full one.
-    pub fn push<R: Wait>(
-        &self,
-        rt: &R,
-        party: &mut Party<T>,
-        value: T,
-    ) -> Result<(), PushError<T>>
+    pub fn push<R: Wait>(&self, rt: &R, party: &mut Party<T>, value: T) -> Result<(), PushError<T>>
         requires { IsPartyOf party.old self.now }
         ensures { Calls party.old (call.Push value) (reply.Push result) party.new }
     {
@@ -256,9 +254,12 @@ impl<T, A: Allocator> ConcurrentQueue<T, A> {
                 if is_only(&slot.table.shared, &mut seat) {
                     Ok(Exclusive::of_single(slot.into_single(seat)))
                 } else {
-                    Err((ConcurrentQueue {
-                        form: Form::Single(slot),
-                    }, Party { seat }))
+                    Err((
+                        ConcurrentQueue {
+                            form: Form::Single(slot),
+                        },
+                        Party { seat },
+                    ))
                 }
             }
         }

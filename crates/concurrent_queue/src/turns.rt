@@ -41,7 +41,13 @@ pub(crate) trait Turns<T, B: Copy, S> {
         ensures { result ≡ kind_of self.now };
 
     /// One step: the touch of a slot, and then the operation.
-    fn turn(&self, seat: &mut S, touch: Touch, op: Op<B>, carried: Option<T>) -> (Answer<B>, Option<T>)
+    fn turn(
+        &self,
+        seat: &mut S,
+        touch: Touch,
+        op: Op<B>,
+        carried: Option<T>,
+    ) -> (Answer<B>, Option<T>)
         requires { can self.now seat.old touch op carried }
         ensures { does self.now seat.old touch op carried result.0 seat.new result.1 };
 

@@ -3,8 +3,8 @@ ghost use Rattle.std.specs.Prelude.{◌≡◌};
 ghost use Rattle.concurrent_queue.specs.Shared.{IsPartyOf};
 
 use concurrent_queue::{ConcurrentQueue, Party, PushError};
-use std::sync::{Arc, Wait};
 use std::sync::atomic::{AtomicU64, Ordering};
+use std::sync::{Arc, Wait};
 use std::thread::{join, yield_now};
 
 /// Counts when it is dropped.
@@ -22,7 +22,13 @@ impl Drop for Counted {
 type Queue = ConcurrentQueue<Counted>;
 
 /// Pushes so many items.
-fn push_all<R: Wait>(rt: &R, queue: &Queue, mut party: Party<Counted>, drops: &Arc<AtomicU64>, count: u64) -> Party<Counted>
+fn push_all<R: Wait>(
+    rt: &R,
+    queue: &Queue,
+    mut party: Party<Counted>,
+    drops: &Arc<AtomicU64>,
+    count: u64,
+) -> Party<Counted>
     requires { IsPartyOf party queue.now }
     ensures { IsPartyOf result queue.now }
 {
@@ -77,7 +83,10 @@ fn pop_all<R: Wait>(rt: &R, queue: &Queue, mut party: Party<Counted>, count: u64
 
 #[test]
 fn every_item_once(rt: HostRuntime) {
-    let (Ok(drops), Ok((queue, party))) = (Arc::new(rt.alloc(), AtomicU64::new(0)), Queue::bounded(rt.alloc(), 1)) else {
+    let (Ok(drops), Ok((queue, party))) = (
+        Arc::new(rt.alloc(), AtomicU64::new(0)),
+        Queue::bounded(rt.alloc(), 1),
+    ) else {
         panic!(rt; "no memory");
     };
     let Ok((a, b)) = queue.split(party) else {

@@ -1,11 +1,10 @@
-//! Tests of the queues that parties share, as a user calls them.
+//! Callers and tests of the queues that parties share, as a user calls them.
 #![tactic(auto)]
 
-#[cfg(test)]
-mod rows;
-
-#[cfg(test)]
-mod threads;
-
+pub mod callers;
 #[cfg(test)]
 mod drops;
+#[cfg(test)]
+mod rows;
+#[cfg(test)]
+mod threads;

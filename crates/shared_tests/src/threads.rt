@@ -2,6 +2,7 @@
 ghost use Rattle.concurrent_queue.specs.Shared.{IsPartyOf};
 ghost use denote.Param.Send.{IsSync};
 
+use crate::callers::hand_over;
 use concurrent_queue::{ConcurrentQueue, Party};
 use std::alloc::{AllocError, Global};
 use std::sync::Wait;
@@ -43,7 +44,9 @@ impl Board {
     }
 
     fn each_came(&self, times: u64) -> bool {
-        self.counts.iter().all(|count| count.load(Ordering::SeqCst) == times)
+        self.counts
+            .iter()
+            .all(|count| count.load(Ordering::SeqCst) == times)
     }
 }
 
@@ -95,7 +98,14 @@ fn pop_one<R: Wait>(rt: &R, queue: &Queue, party: &mut Party<u64>) -> u64
 }
 
 /// One turn of a thread. Gives false where an item had to be there and was not.
-fn turn<R: Wait>(rt: &R, queue: &Queue, party: &mut Party<u64>, board: &Board, role: Role, value: u64) -> bool
+fn turn<R: Wait>(
+    rt: &R,
+    queue: &Queue,
+    party: &mut Party<u64>,
+    board: &Board,
+    role: Role,
+    value: u64,
+) -> bool
     requires { IsPartyOf party.old queue.now }
     ensures { IsPartyOf party.new queue.now }
 {
@@ -149,7 +159,13 @@ fn drain<R: Wait>(rt: &R, queue: &Queue, party: &mut Party<u64>, board: &Board)
 }
 
 /// All turns of a thread.
-fn act<R: Wait>(rt: &R, queue: &Queue, mut party: Party<u64>, board: &Board, role: Role) -> (Party<u64>, bool)
+fn act<R: Wait>(
+    rt: &R,
+    queue: &Queue,
+    mut party: Party<u64>,
+    board: &Board,
+    role: Role,
+) -> (Party<u64>, bool)
     requires { IsPartyOf party queue.now }
     ensures { IsPartyOf result.0 queue.now }
 {
@@ -166,7 +182,14 @@ fn act<R: Wait>(rt: &R, queue: &Queue, mut party: Party<u64>, board: &Board, rol
 }
 
 /// Two threads.
-fn two<R: Wait + Threads + Sync>(rt: &R, queue: &Queue, party: Party<u64>, board: &Board, first: Role, second: Role) -> (Party<u64>, bool)
+fn two<R: Wait + Threads + Sync>(
+    rt: &R,
+    queue: &Queue,
+    party: Party<u64>,
+    board: &Board,
+    first: Role,
+    second: Role,
+) -> (Party<u64>, bool)
     requires { IsPartyOf party queue.now }
     ensures { IsPartyOf result.0 queue.now }
 {
@@ -184,7 +207,14 @@ fn two<R: Wait + Threads + Sync>(rt: &R, queue: &Queue, party: Party<u64>, board
 }
 
 /// Four threads, two of each role.
-fn four<R: Wait + Threads + Sync>(rt: &R, queue: &Queue, party: Party<u64>, board: &Board, first: Role, second: Role) -> (Party<u64>, bool)
+fn four<R: Wait + Threads + Sync>(
+    rt: &R,
+    queue: &Queue,
+    party: Party<u64>,
+    board: &Board,
+    first: Role,
+    second: Role,
+) -> (Party<u64>, bool)
     requires { IsPartyOf party queue.now }
     ensures { IsPartyOf result.0 queue.now }
 {
@@ -193,14 +223,12 @@ fn four<R: Wait + Threads + Sync>(rt: &R, queue: &Queue, party: Party<u64>, boar
         Ok((a, b)) => {
             let ((a, right), (b, right_too)) = join(
                 rt,
-                || requires { IsSync R.row × IsPartyOf a queue.now }
-                {
-                    two(rt, queue, a, board, first, second)
-                },
-                || requires { IsSync R.row × IsPartyOf b queue.now }
-                {
-                    two(rt, queue, b, board, first, second)
-                },
+                ||
+                    requires { IsSync R.row × IsPartyOf a queue.now }
+                { two(rt, queue, a, board, first, second) },
+                ||
+                    requires { IsSync R.row × IsPartyOf b queue.now }
+                { two(rt, queue, b, board, first, second) },
             );
             (queue.join(a, b), right && right_too)
         }
@@ -208,7 +236,14 @@ fn four<R: Wait + Threads + Sync>(rt: &R, queue: &Queue, party: Party<u64>, boar
 }
 
 /// Eight threads, four of each role.
-fn eight<R: Wait + Threads + Sync>(rt: &R, queue: &Queue, party: Party<u64>, board: &Board, first: Role, second: Role) -> (Party<u64>, bool)
+fn eight<R: Wait + Threads + Sync>(
+    rt: &R,
+    queue: &Queue,
+    party: Party<u64>,
+    board: &Board,
+    first: Role,
+    second: Role,
+) -> (Party<u64>, bool)
     requires { IsPartyOf party queue.now }
     ensures { IsPartyOf result.0 queue.now }
 {
@@ -217,14 +252,12 @@ fn eight<R: Wait + Threads + Sync>(rt: &R, queue: &Queue, party: Party<u64>, boa
         Ok((a, b)) => {
             let ((a, right), (b, right_too)) = join(
                 rt,
-                || requires { IsSync R.row × IsPartyOf a queue.now }
-                {
-                    four(rt, queue, a, board, first, second)
-                },
-                || requires { IsSync R.row × IsPartyOf b queue.now }
-                {
-                    four(rt, queue, b, board, first, second)
-                },
+                ||
+                    requires { IsSync R.row × IsPartyOf a queue.now }
+                { four(rt, queue, a, board, first, second) },
+                ||
+                    requires { IsSync R.row × IsPartyOf b queue.now }
+                { four(rt, queue, b, board, first, second) },
             );
             (queue.join(a, b), right && right_too)
         }
@@ -233,7 +266,8 @@ fn eight<R: Wait + Threads + Sync>(rt: &R, queue: &Queue, party: Party<u64>, boa
 
 #[test]
 fn in_order_from_one_thread_to_another(rt: HostRuntime) {
-    let (Ok(board), Ok((queue, party))) = (Board::new(rt.alloc(), 1), Queue::bounded(rt.alloc(), 1)) else {
+    let (Ok(board), Ok((queue, party))) = (Board::new(rt.alloc(), 1), Queue::bounded(rt.alloc(), 1))
+    else {
         panic!(rt; "no memory");
     };
     let (party, right) = two(&rt, &queue, party, &board, Role::Push, Role::PopInOrder);
@@ -246,7 +280,8 @@ fn in_order_from_one_thread_to_another(rt: HostRuntime) {
 
 #[test]
 fn four_pushers_and_four_poppers(rt: HostRuntime) {
-    let (Ok(board), Ok((queue, party))) = (Board::new(rt.alloc(), 4), Queue::bounded(rt.alloc(), 1)) else {
+    let (Ok(board), Ok((queue, party))) = (Board::new(rt.alloc(), 4), Queue::bounded(rt.alloc(), 1))
+    else {
         panic!(rt; "no memory");
     };
     let (party, right) = eight(&rt, &queue, party, &board, Role::Push, Role::Pop);
@@ -260,10 +295,18 @@ fn four_pushers_and_four_poppers(rt: HostRuntime) {
 
 #[test]
 fn linearizable(rt: HostRuntime) {
-    let (Ok(board), Ok((queue, party))) = (Board::new(rt.alloc(), 4), Queue::bounded(rt.alloc(), 1)) else {
+    let (Ok(board), Ok((queue, party))) = (Board::new(rt.alloc(), 4), Queue::bounded(rt.alloc(), 1))
+    else {
         panic!(rt; "no memory");
     };
-    let (party, right) = four(&rt, &queue, party, &board, Role::PushAndPop, Role::ForceAndPop);
+    let (party, right) = four(
+        &rt,
+        &queue,
+        party,
+        &board,
+        Role::PushAndPop,
+        Role::ForceAndPop,
+    );
     assert!(rt; right);
     let Ok(left) = queue.finish(party) else {
         panic!(rt; "not finished");
@@ -273,7 +316,8 @@ fn linearizable(rt: HostRuntime) {
 
 #[test]
 fn ring_buffer_of_one_thread(rt: HostRuntime) {
-    let (Ok(board), Ok((queue, party))) = (Board::new(rt.alloc(), 1), Queue::bounded(rt.alloc(), 1)) else {
+    let (Ok(board), Ok((queue, party))) = (Board::new(rt.alloc(), 1), Queue::bounded(rt.alloc(), 1))
+    else {
         panic!(rt; "no memory");
     };
     let (party, right) = two(&rt, &queue, party, &board, Role::Force, Role::Drain);
@@ -284,11 +328,17 @@ fn ring_buffer_of_one_thread(rt: HostRuntime) {
 
 #[test]
 fn ring_buffer_of_four_threads(rt: HostRuntime) {
-    let (Ok(board), Ok((queue, party))) = (Board::new(rt.alloc(), 4), Queue::bounded(rt.alloc(), 1)) else {
+    let (Ok(board), Ok((queue, party))) = (Board::new(rt.alloc(), 4), Queue::bounded(rt.alloc(), 1))
+    else {
         panic!(rt; "no memory");
     };
     let (party, right) = eight(&rt, &queue, party, &board, Role::Force, Role::Drain);
     assert!(rt; right);
     assert!(rt; board.each_came(4));
     assert!(rt; queue.finish(party).is_ok());
+}
+
+#[test]
+fn handed_over(rt: HostRuntime) {
+    assert!(rt; hand_over(&rt, rt.alloc(), TURNS) == Ok(Some((312_487_500, 0))));
 }

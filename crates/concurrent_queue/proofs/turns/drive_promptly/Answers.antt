@@ -14,9 +14,9 @@ pub loop-init : goal.loop-init
 loop-init g c =
     let m = g.M.Turns in (
       begins-leads m.can m.does m.stands m.ended c.kind-kind.result (m.kind_of c.args.queue.now) c.args.queue.now c.args.seat.now c.args.call c.start.result c.next-todo.result c.split-call.result
-      c.kind-kind.ensures c.split-call.ensures c.start.ensures c.next-todo.ensures (g.met.M.Turns.begins c.args.queue.now c.args.seat.now c.args.call c.requires.rests),
+          c.kind-kind.ensures c.split-call.ensures c.start.ensures c.next-todo.ensures (g.met.M.Turns.begins c.args.queue.now c.args.seat.now c.args.call c.requires.rests),
       ends-first c.kind-kind.result (m.kind_of c.args.queue.now) (call_kind c.args.call) c.start.result c.next-todo.result c.split-call.result.0
-      c.kind-kind.ensures (ap (λ z. z.0) c.split-call.ensures) c.start.ensures c.next-todo.ensures (g.met.M.Turns.prompt c.args.queue.now c.args.call c.requires.prompt),
+          c.kind-kind.ensures (ap (λ z. z.0) c.split-call.ensures) c.start.ensures c.next-todo.ensures (g.met.M.Turns.prompt c.args.queue.now c.args.call c.requires.prompt),
     )
 
 pub turn-answer-requires : goal.turn-answer-requires
