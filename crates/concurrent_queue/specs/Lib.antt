@@ -10,3 +10,16 @@ pub mod RingCalls
 pub mod RingLeaves
 pub mod RingAnswers
 pub mod Exclusive
+pub mod Known
+pub mod Turns
+pub mod Seats
+pub mod Shared
+pub mod OneSlot
+pub mod SlotTurns
+pub mod SlotStands
+pub mod Histories
+pub mod SharedCalls
+pub mod SlotLaws
+pub mod SlotShows
+pub mod SlotCalls
+pub mod SlotParties

@@ -4,6 +4,7 @@ ghost use Rattle.queue_steps.specs.declared.sizes.TheConstants.{LIMIT, MAX_CAPAC
 ghost use Rattle.queue_steps.specs.State.{start, is_full};
 ghost use Rattle.queue_steps.specs.Replies.{is_empty};
 ghost use Rattle.queue_steps.specs.Sole.{Sole, HoldsBlocks};
+ghost use Rattle.concurrent_queue.specs.SingleCells.{IsIdle, single_owned};
 ghost use Rattle.queue_steps.specs.declared.model.Call.TheVariants as call;
 ghost use Rattle.queue_steps.specs.declared.model.Reply.TheVariants as reply;
 
@@ -113,6 +114,16 @@ impl<T, A: Allocator> Exclusive<T, A> {
         Ok(Exclusive {
             form: Form::Bounded(ring),
         })
+    }
+
+    /// A queue of this slot, which no call holds.
+    pub(crate) fn of_single(single: Single<T>) -> Self
+        requires { IsIdle single }
+        ensures { result ≡ single_owned single }
+    {
+        Exclusive {
+            form: Form::Single(single),
+        }
     }
 
     /// Appends `value`.

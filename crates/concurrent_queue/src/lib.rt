@@ -1,12 +1,19 @@
-//! Closable queues, first in first out, with one owner.
+//! Closable queues, first in first out, with one owner or shared by many parties.
 #![tactic(auto)]
 
 mod bounded;
 mod cells;
 mod driver;
 pub mod exclusive;
+mod gate;
+mod known;
+mod party;
+pub mod shared;
 mod single;
+mod slot;
+mod turns;
 
 pub use exclusive::Exclusive;
 pub use queue_steps::errors::{ForcePushError, PopError, PushError};
 pub use queue_steps::{errors as errors, model as model, steps as steps};
+pub use shared::{ConcurrentQueue, Party};

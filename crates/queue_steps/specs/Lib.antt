@@ -14,3 +14,5 @@ pub mod ChainWords
 pub mod UnboundedNext
 pub mod Next
 pub mod LookNext
+pub mod Parties
+pub mod Prompt

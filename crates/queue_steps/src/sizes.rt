@@ -17,3 +17,6 @@ pub const LONE_STEPS: u64 = 64;
 
 /// How many parties may share a queue.
 pub const MAX_PARTIES: u64 = 1 << 31;
+
+/// How many steps of its own a `close`, `is_closed`, `is_empty` or `is_full` takes at most, whatever other parties do.
+pub const PROMPT_STEPS: u64 = 2;

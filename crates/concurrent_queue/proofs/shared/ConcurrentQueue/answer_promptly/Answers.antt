@@ -1,0 +1,7 @@
+use Rattle.concurrent_queue.proofs.SlotEnding.{slot_person}
+use Rattle.concurrent_queue.proofs.shared.ConcurrentQueue.answer_promptly.Goals as goal
+
+pub invariant_of-party : goal.invariant_of-party
+invariant_of-party g c =
+    let s = c.party.inside.seat in let s' = c.drive_promptly.new.seat in
+    slot_person _ _ (s.table_id, s.me) (s'.table_id, s'.me) c.args.call c.drive_promptly.result c.party.invariant c.drive_promptly.ensures

@@ -1,0 +1,12 @@
+use Rattle.std.proofs.Common.{rules, ap, Some, ◌≡◌, sym, subst}
+use Rattle.queue_steps.specs.Legal.{IsShown}
+use Rattle.queue_steps.specs.Effect.{after}
+use Rattle.concurrent_queue.proofs.Views.{finishes}
+use Rattle.concurrent_queue.proofs.shared.ConcurrentQueue.finish.Goals as goal
+
+pub returns-then-is_only : goal.returns-then-is_only
+returns-then-is_only g c =
+    let one : c.args.party.queue.cap ≡ Some 1 = search rules in
+    let e = c.of_single.ensures in
+    let shown : IsShown c.of_single.result.queue (after (Some 1) c.is_only.new.seat.me.0.known.seen) = subst (λ z. IsShown z.queue (after (Some 1) c.is_only.new.seat.me.0.known.seen)) (sym e) c.into_single.ensures.1 in
+    finishes (Some 1) c.args.party _ c.party.inside.seat.me c.is_only.new.seat.me c.of_single.result c.party.view_is c.party.invariant one c.if-is_only.ensures.counted shown c.into_single.ensures.2 (search rules)

@@ -1,0 +1,267 @@
+//! Queues that many parties share, first in first out, that can be closed.
+ghost use Rattle.std.specs.Prelude.{◌≡◌, Some, [], IfOk, MatchResult};
+ghost use Rattle.queue_steps.specs.declared.model.Call.TheVariants as call;
+ghost use Rattle.queue_steps.specs.declared.model.Reply.TheVariants as reply;
+ghost use Rattle.queue_steps.specs.Kinds.{call_kind};
+ghost use Rattle.queue_steps.specs.Prompt.{IsPrompt};
+ghost use Rattle.concurrent_queue.specs.Shared.{IsPartyOf, Calls, Parts, Joins, Meets, Finishes};
+
+use crate::exclusive::Exclusive;
+use crate::gate::{Gate, Open};
+pub use crate::party::Party;
+use crate::party::{is_only, join, meet, split};
+use crate::slot::SharedSlot;
+use crate::turns::{drive, drive_promptly};
+use queue_steps::errors::{ForcePushError, PopError, PushError};
+use queue_steps::model::{Call, Reply};
+use std::alloc::{AllocError, Allocator, Global};
+use std::marker::Model;
+use std::sync::Wait;
+
+/// A queue that parties share.
+///
+/// A contract sees which queue it is, and its capacity. There is one history of the effects of all calls; each party has seen a beginning of it, and each
+/// of its places is one party's.
+#[derive(Drop)]
+pub struct ConcurrentQueue<T, A: Allocator = Global> {
+    form: Form<T, A>,
+}
+
+/// How the items are kept.
+#[derive(Drop)]
+enum Form<T, A: Allocator> {
+    Single(SharedSlot<T, A>),
+}
+
+impl<T, A: Allocator> Model for ConcurrentQueue<T, A> {
+    ghost use Rattle.concurrent_queue.specs.Shared.{QueueId, form_id};
+
+    ghost Value = { QueueId };
+
+    ghost view = { λ q. form_id q.form };
+}
+
+impl<T, A: Allocator + Clone> ConcurrentQueue<T, A> {
+    /// An empty open queue of this capacity, which is 1, and its only party, which has seen nothing.
+    ///
+    /// # Errors
+    ///
+    /// The allocator refused.
+    pub fn bounded(alloc: A, cap: usize) -> Result<(Self, Party<T>), AllocError>
+        requires { cap ≡ 1 }
+        ensures { IfOk result (λ r. IsPartyOf r.1 r.0 × (r.0.cap ≡ Some cap) × (r.1.view ≡ record { seen = []; mine = [] })) }
+    {
+        let (slot, seat) = SharedSlot::new(alloc)?;
+        Ok((
+            ConcurrentQueue {
+                form: Form::Single(slot),
+            },
+            Party { seat },
+        ))
+    }
+}
+
+impl<T, A: Allocator> ConcurrentQueue<T, A> {
+    /// Runs a call to its end.
+    #[inline(always)]
+    fn answer<R: Wait, G: Gate>(
+        &self,
+        rt: &R,
+        gate: &G,
+        party: &mut Party<T>,
+        call: Call<T>,
+    ) -> Reply<T>
+        requires { IsPartyOf party.old self.now }
+        ensures { Calls party.old call result party.new }
+    {
+        match &self.form {
+            Form::Single(slot) => drive(slot, rt, gate, &mut party.seat, call),
+        }
+    }
+
+    /// Runs a prompt call to its end.
+    #[inline(always)]
+    fn answer_promptly<G: Gate>(&self, gate: &G, party: &mut Party<T>, call: Call<T>) -> Reply<T>
+        requires of { IsPartyOf party.old self.now }
+        requires prompt { IsPrompt (call_kind call) }
+        ensures { Calls party.old call result party.new }
+    {
+        match &self.form {
+            Form::Single(slot) => drive_promptly(slot, gate, &mut party.seat, call),
+        }
+    }
+
+    /// Parts a party in two. The first keeps what the party has done, and both have seen what it has.
+    ///
+    /// # Errors
+    ///
+    /// The party itself, where the queue has as many parties as it may.
+    pub fn split(&self, party: Party<T>) -> Result<(Party<T>, Party<T>), Party<T>>
+        requires { IsPartyOf party self.now }
+        ensures { MatchResult result (λ r. Parts party r.0 r.1) (λ p. p ≡ party) }
+    {
+        match &self.form {
+            Form::Single(slot) => split(&slot.table.shared, party),
+        }
+    }
+
+    /// Makes one party of two, which has seen and done what both have.
+    pub fn join(&self, first: Party<T>, second: Party<T>) -> Party<T>
+        requires { IsPartyOf first self.now × IsPartyOf second self.now }
+        ensures { Joins first second result }
+    {
+        match &self.form {
+            Form::Single(slot) => join(&slot.table.shared, first, second),
+        }
+    }
+
+    /// Both parties have then seen what either has seen.
+    pub fn meet(&self, first: &mut Party<T>, second: &mut Party<T>)
+        requires { IsPartyOf first.old self.now × IsPartyOf second.old self.now }
+        ensures { Meets first.old second.old first.new second.new }
+    {
+        match &self.form {
+            Form::Single(slot) => meet(&slot.table.shared, first, second),
+        }
+    }
+
+    /// Appends `value`. It waits while another call has the place that it needs.
+    ///
+    /// # Errors
+    ///
+    /// `Closed` with the value on a closed queue, `Full` with the value on a full one.
+    pub fn push<R: Wait>(&self, rt: &R, party: &mut Party<T>, value: T) -> Result<(), PushError<T>>
+        requires { IsPartyOf party.old self.now }
+        ensures { Calls party.old (call.Push value) (reply.Push result) party.new }
+    {
+        match self.answer(rt, &Open, party, Call::Push(value)) {
+            Reply::Push(result) => result,
+            _ => unreachable!(),
+        }
+    }
+
+    /// Appends `value`, and takes the front off and hands it out where the queue was full. It waits while another call has the place that it needs.
+    ///
+    /// # Errors
+    ///
+    /// `Closed` with the value on a closed queue.
+    pub fn force_push<R: Wait>(
+        &self,
+        rt: &R,
+        party: &mut Party<T>,
+        value: T,
+    ) -> Result<Option<T>, ForcePushError<T>>
+        requires { IsPartyOf party.old self.now }
+        ensures { Calls party.old (call.ForcePush value) (reply.ForcePush result) party.new }
+    {
+        match self.answer(rt, &Open, party, Call::ForcePush(value)) {
+            Reply::ForcePush(result) => result,
+            _ => unreachable!(),
+        }
+    }
+
+    /// Takes the front off. It waits while another call has the item that it needs.
+    ///
+    /// # Errors
+    ///
+    /// On an empty queue `Empty`, or `Closed` if it is closed.
+    pub fn pop<R: Wait>(&self, rt: &R, party: &mut Party<T>) -> Result<T, PopError>
+        requires { IsPartyOf party.old self.now }
+        ensures { Calls party.old call.Pop (reply.Pop result) party.new }
+    {
+        match self.answer(rt, &Open, party, Call::Pop) {
+            Reply::Pop(result) => result,
+            _ => unreachable!(),
+        }
+    }
+
+    /// The number of items at a moment of the call.
+    pub fn len<R: Wait>(&self, rt: &R, party: &mut Party<T>) -> usize
+        requires { IsPartyOf party.old self.now }
+        ensures { Calls party.old call.Len (reply.Len result) party.new }
+    {
+        match self.answer(rt, &Open, party, Call::Len) {
+            Reply::Len(result) => result,
+            _ => unreachable!(),
+        }
+    }
+
+    /// Closes the queue, and tells whether this call did it. The items stay.
+    pub fn close(&self, party: &mut Party<T>) -> bool
+        requires { IsPartyOf party.old self.now }
+        ensures { Calls party.old call.Close (reply.Close result) party.new }
+    {
+        match self.answer_promptly(&Open, party, Call::Close) {
+            Reply::Close(result) => result,
+            _ => unreachable!(),
+        }
+    }
+
+    /// Whether the queue is closed at a moment of the call.
+    pub fn is_closed(&self, party: &mut Party<T>) -> bool
+        requires { IsPartyOf party.old self.now }
+        ensures { Calls party.old call.IsClosed (reply.IsClosed result) party.new }
+    {
+        match self.answer_promptly(&Open, party, Call::IsClosed) {
+            Reply::IsClosed(result) => result,
+            _ => unreachable!(),
+        }
+    }
+
+    /// Whether the queue has no item at a moment of the call.
+    pub fn is_empty(&self, party: &mut Party<T>) -> bool
+        requires { IsPartyOf party.old self.now }
+        ensures { Calls party.old call.IsEmpty (reply.IsEmpty result) party.new }
+    {
+        match self.answer_promptly(&Open, party, Call::IsEmpty) {
+            Reply::IsEmpty(result) => result,
+            _ => unreachable!(),
+        }
+    }
+
+    /// Whether the queue has as many items as its capacity at a moment of the call.
+    pub fn is_full(&self, party: &mut Party<T>) -> bool
+        requires { IsPartyOf party.old self.now }
+        ensures { Calls party.old call.IsFull (reply.IsFull result) party.new }
+    {
+        match self.answer_promptly(&Open, party, Call::IsFull) {
+            Reply::IsFull(result) => result,
+            _ => unreachable!(),
+        }
+    }
+
+    /// The capacity in items.
+    pub fn capacity(&self) -> Option<usize>
+        ensures { result ≡ self.now.cap }
+    {
+        match &self.form {
+            Form::Single(_) => Some(1),
+        }
+    }
+
+    /// Ends the sharing: the queue with its one owner, as it is after the whole history.
+    ///
+    /// # Errors
+    ///
+    /// The queue and the party, both unchanged, where a party that was split off has not been joined back.
+    pub fn finish(self, party: Party<T>) -> Result<Exclusive<T, A>, (Self, Party<T>)>
+        requires { IsPartyOf party self }
+        ensures { MatchResult result (λ e. Finishes party e) (λ r. (r.0 ≡ self) × (r.1 ≡ party)) }
+    {
+        let Party { mut seat } = party;
+        match self.form {
+            Form::Single(slot) => {
+                if is_only(&slot.table.shared, &mut seat) {
+                    Ok(Exclusive::of_single(slot.into_single(seat)))
+                } else {
+                    Err((
+                        ConcurrentQueue {
+                            form: Form::Single(slot),
+                        },
+                        Party { seat },
+                    ))
+                }
+            }
+        }
+    }
+}

@@ -1,0 +1,120 @@
+//! A party's driver: it asks for the next step, does it where other parties do theirs, and asks again, until the reply.
+ghost use Rattle.std.specs.Prelude.{◌≡◌, Option};
+ghost use Rattle.queue_steps.specs.declared.model.Call.{Call as SpecCall};
+ghost use Rattle.queue_steps.specs.declared.model.Reply.{Reply as SpecReply};
+ghost use Rattle.queue_steps.specs.declared.steps.types.Kind.{Kind as SpecKind};
+ghost use Rattle.queue_steps.specs.declared.steps.types.Op.{Op as SpecOp};
+ghost use Rattle.queue_steps.specs.declared.steps.types.Touch.{Touch as SpecTouch};
+ghost use Rattle.queue_steps.specs.declared.steps.types.Answer.{Answer as SpecAnswer};
+ghost use Rattle.queue_steps.specs.declared.steps.types.Local.{Local as SpecLocal};
+ghost use Rattle.queue_steps.specs.Kinds.{call_kind};
+ghost use Rattle.queue_steps.specs.Prompt.{IsPrompt, EndsPromptly};
+ghost use Rattle.concurrent_queue.specs.Turns.{Begins, GoesOn};
+
+use crate::gate::Gate;
+use queue_steps::model::{Call, Reply};
+use queue_steps::sizes::PROMPT_STEPS;
+use queue_steps::steps::{self, Answer, Kind, Next, Op, Touch};
+use std::sync::Wait;
+
+/// Where the steps of calls of many parties are done. `S` is what a party does them with.
+pub(crate) trait Turns<T, B: Copy, S> {
+    /// Which steps the calls take.
+    ghost kind_of: { Self → SpecKind };
+
+    /// The seat is one of this queue's, and its party is between calls.
+    ghost rests: { Self → S → Type 0 };
+
+    /// The seat may do this step with what the call carries.
+    ghost can: { Self → S → SpecTouch → SpecOp B → Option T → Type 0 };
+
+    /// What the step answers, and what it leaves of the seat and of what the call carries.
+    ghost does: { Self → S → SpecTouch → SpecOp B → Option T → SpecAnswer B → S → Option T → Type 0 };
+
+    /// Where a call stands that the seat began, once its last operation was answered.
+    ghost stands: { Self → S → SpecCall T → SpecLocal B → SpecAnswer B → S → Option T → Type 0 };
+
+    /// How a call ends that the seat began.
+    ghost ended: { Self → S → SpecCall T → SpecReply T → S → Type 0 };
+
+    fn kind(&self) -> Kind
+        ensures { result ≡ kind_of self.now };
+
+    /// One step: the touch of a slot, and then the operation.
+    fn turn(
+        &self,
+        seat: &mut S,
+        touch: Touch,
+        op: Op<B>,
+        carried: Option<T>,
+    ) -> (Answer<B>, Option<T>)
+        requires { can self.now seat.old touch op carried }
+        ensures { does self.now seat.old touch op carried result.0 seat.new result.1 };
+
+    /// A call that begins leads on.
+    ghost begins: { (m : Self) (s : S) (c : SpecCall T) → rests m s → Begins can does stands ended (kind_of m) m s c };
+
+    /// Wherever a call stands, it leads on.
+    ghost goes_on: { (m : Self) (first : S) (c : SpecCall T) (l : SpecLocal B) (a : SpecAnswer B) (s : S) (x : Option T) → stands m first c l a s x → GoesOn can does stands ended (kind_of m) m first c l a s x };
+
+    /// The prompt calls end by their second step.
+    ghost prompt: { (m : Self) (c : SpecCall T) → IsPrompt (call_kind c) → EndsPromptly B (kind_of m) (call_kind c) };
+}
+
+/// Runs a call to its end.
+#[inline(always)]
+pub(crate) fn drive<T, B: Copy, S, M: Turns<T, B, S>, G: Gate, R: Wait>(
+    queue: &M,
+    rt: &R,
+    gate: &G,
+    seat: &mut S,
+    call: Call<T>,
+) -> Reply<T>
+    requires { M.rests queue.now seat.old }
+    ensures { M.ended queue.now seat.old call result seat.new }
+{
+    let kind = queue.kind();
+    let (call, mut carried) = call.split();
+    let mut todo: Next<B> = steps::next(kind, steps::start(kind, call), Answer::Start);
+    for _ in rt.forever() {
+        match todo {
+            Next::Reply(reply, _) => return Reply::fill(reply, carried),
+            Next::Step(local, touch, op) => {
+                gate.pass(&op);
+                let (answer, left) = queue.turn(seat, touch, op, carried);
+                carried = left;
+                todo = steps::next(kind, local, answer);
+            }
+        }
+    }
+    unreachable!()
+}
+
+/// Runs a prompt call to its end, which comes by its second step.
+#[inline(always)]
+pub(crate) fn drive_promptly<T, B: Copy, S, M: Turns<T, B, S>, G: Gate>(
+    queue: &M,
+    gate: &G,
+    seat: &mut S,
+    call: Call<T>,
+) -> Reply<T>
+    requires rests { M.rests queue.now seat.old }
+    requires prompt { IsPrompt (call_kind call) }
+    ensures { M.ended queue.now seat.old call result seat.new }
+{
+    let kind = queue.kind();
+    let (call, mut carried) = call.split();
+    let mut todo: Next<B> = steps::next(kind, steps::start(kind, call), Answer::Start);
+    for _ in 0..PROMPT_STEPS + 1 {
+        match todo {
+            Next::Reply(reply, _) => return Reply::fill(reply, carried),
+            Next::Step(local, touch, op) => {
+                gate.pass(&op);
+                let (answer, left) = queue.turn(seat, touch, op, carried);
+                carried = left;
+                todo = steps::next(kind, local, answer);
+            }
+        }
+    }
+    unreachable!()
+}

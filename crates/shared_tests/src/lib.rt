@@ -1,0 +1,10 @@
+//! Callers and tests of the queues that parties share, as a user calls them.
+#![tactic(auto)]
+
+pub mod callers;
+#[cfg(test)]
+mod drops;
+#[cfg(test)]
+mod rows;
+#[cfg(test)]
+mod threads;

@@ -1,0 +1,344 @@
+//! Threads that share one slot, a party each.
+ghost use Rattle.concurrent_queue.specs.Shared.{IsPartyOf};
+ghost use denote.Param.Send.{IsSync};
+
+use crate::callers::hand_over;
+use concurrent_queue::{ConcurrentQueue, Party};
+use std::alloc::{AllocError, Global};
+use std::sync::Wait;
+use std::sync::atomic::{AtomicU64, Ordering};
+use std::thread::{Threads, join, yield_now};
+
+/// How many turns a thread takes.
+const TURNS: u64 = 25_000;
+
+type Queue = ConcurrentQueue<u64>;
+
+/// How often each value came out, and how many threads push.
+#[derive(Drop)]
+struct Board {
+    counts: Vec<AtomicU64>,
+    running: AtomicU64,
+}
+
+impl Board {
+    fn new(alloc: Global, running: u64) -> Result<Board, AllocError> {
+        let mut counts = Vec::new(alloc);
+        for _ in 0..TURNS {
+            counts.push(AtomicU64::new(0))?;
+        }
+        Ok(Board {
+            counts,
+            running: AtomicU64::new(running),
+        })
+    }
+
+    fn count(&self, value: u64) {
+        if let Some(count) = self.counts.get(value as usize) {
+            count.fetch_add(1, Ordering::SeqCst);
+        }
+    }
+
+    fn ended(&self) {
+        self.running.fetch_sub(1, Ordering::SeqCst);
+    }
+
+    fn each_came(&self, times: u64) -> bool {
+        self.counts
+            .iter()
+            .all(|count| count.load(Ordering::SeqCst) == times)
+    }
+}
+
+/// What a thread does.
+#[derive(Clone, Copy)]
+enum Role {
+    /// Pushes each value, and tries again where the queue is full.
+    Push,
+    /// Pops as many items as there are values, and tries again where the queue is empty.
+    Pop,
+    /// Pops the values in their order.
+    PopInOrder,
+    /// Pushes each value by force, and counts what it displaces.
+    Force,
+    /// Pops until no thread pushes and the queue is empty.
+    Drain,
+    /// Pushes until it is accepted, and then pops, which has to give an item.
+    PushAndPop,
+    /// Pushes by force, and pops where it displaced nothing, which has to give an item.
+    ForceAndPop,
+}
+
+/// Pushes a value, and tries again while the queue is full.
+fn push_one<R: Wait>(rt: &R, queue: &Queue, party: &mut Party<u64>, value: u64)
+    requires { IsPartyOf party.old queue.now }
+    ensures { IsPartyOf party.new queue.now }
+{
+    for _ in rt.forever() {
+        match queue.push(rt, party, value) {
+            Ok(()) => return,
+            Err(_) => yield_now(),
+        }
+    }
+    unreachable!()
+}
+
+/// Pops an item, and tries again while the queue is empty.
+fn pop_one<R: Wait>(rt: &R, queue: &Queue, party: &mut Party<u64>) -> u64
+    requires { IsPartyOf party.old queue.now }
+    ensures { IsPartyOf party.new queue.now }
+{
+    for _ in rt.forever() {
+        match queue.pop(rt, party) {
+            Ok(value) => return value,
+            Err(_) => yield_now(),
+        }
+    }
+    unreachable!()
+}
+
+/// One turn of a thread. Gives false where an item had to be there and was not.
+fn turn<R: Wait>(
+    rt: &R,
+    queue: &Queue,
+    party: &mut Party<u64>,
+    board: &Board,
+    role: Role,
+    value: u64,
+) -> bool
+    requires { IsPartyOf party.old queue.now }
+    ensures { IsPartyOf party.new queue.now }
+{
+    match role {
+        Role::Push => {
+            push_one(rt, queue, party, value);
+            true
+        }
+        Role::Pop => {
+            let item = pop_one(rt, queue, party);
+            board.count(item);
+            true
+        }
+        Role::PopInOrder => pop_one(rt, queue, party) == value,
+        Role::Force => {
+            if let Ok(Some(old)) = queue.force_push(rt, party, value) {
+                board.count(old);
+            }
+            true
+        }
+        Role::Drain => true,
+        Role::PushAndPop => {
+            push_one(rt, queue, party, value);
+            queue.pop(rt, party).is_ok()
+        }
+        Role::ForceAndPop => match queue.force_push(rt, party, value) {
+            Ok(Some(_)) => true,
+            Ok(None) => queue.pop(rt, party).is_ok(),
+            Err(_) => false,
+        },
+    }
+}
+
+/// Pops until no thread pushes and the queue is empty.
+fn drain<R: Wait>(rt: &R, queue: &Queue, party: &mut Party<u64>, board: &Board)
+    requires { IsPartyOf party.old queue.now }
+    ensures { IsPartyOf party.new queue.now }
+{
+    for _ in rt.forever() {
+        let last = board.running.load(Ordering::SeqCst) == 0;
+        match queue.pop(rt, party) {
+            Ok(value) => board.count(value),
+            Err(_) => {
+                if last {
+                    return;
+                }
+                yield_now();
+            }
+        }
+    }
+}
+
+/// All turns of a thread.
+fn act<R: Wait>(
+    rt: &R,
+    queue: &Queue,
+    mut party: Party<u64>,
+    board: &Board,
+    role: Role,
+) -> (Party<u64>, bool)
+    requires { IsPartyOf party queue.now }
+    ensures { IsPartyOf result.0 queue.now }
+{
+    let mut right = true;
+    for value in 0..TURNS {
+        right = turn(rt, queue, &mut party, board, role, value) && right;
+    }
+    match role {
+        Role::Force => board.ended(),
+        Role::Drain => drain(rt, queue, &mut party, board),
+        _ => {}
+    }
+    (party, right)
+}
+
+/// Two threads.
+fn two<R: Wait + Threads + Sync>(
+    rt: &R,
+    queue: &Queue,
+    party: Party<u64>,
+    board: &Board,
+    first: Role,
+    second: Role,
+) -> (Party<u64>, bool)
+    requires { IsPartyOf party queue.now }
+    ensures { IsPartyOf result.0 queue.now }
+{
+    match queue.split(party) {
+        Err(party) => (party, false),
+        Ok((a, b)) => {
+            let ((a, right), (b, right_too)) = join(
+                rt,
+                || act(rt, queue, a, board, first),
+                || act(rt, queue, b, board, second),
+            );
+            (queue.join(a, b), right && right_too)
+        }
+    }
+}
+
+/// Four threads, two of each role.
+fn four<R: Wait + Threads + Sync>(
+    rt: &R,
+    queue: &Queue,
+    party: Party<u64>,
+    board: &Board,
+    first: Role,
+    second: Role,
+) -> (Party<u64>, bool)
+    requires { IsPartyOf party queue.now }
+    ensures { IsPartyOf result.0 queue.now }
+{
+    match queue.split(party) {
+        Err(party) => (party, false),
+        Ok((a, b)) => {
+            let ((a, right), (b, right_too)) = join(
+                rt,
+                ||
+                    requires { IsSync R.row × IsPartyOf a queue.now }
+                { two(rt, queue, a, board, first, second) },
+                ||
+                    requires { IsSync R.row × IsPartyOf b queue.now }
+                { two(rt, queue, b, board, first, second) },
+            );
+            (queue.join(a, b), right && right_too)
+        }
+    }
+}
+
+/// Eight threads, four of each role.
+fn eight<R: Wait + Threads + Sync>(
+    rt: &R,
+    queue: &Queue,
+    party: Party<u64>,
+    board: &Board,
+    first: Role,
+    second: Role,
+) -> (Party<u64>, bool)
+    requires { IsPartyOf party queue.now }
+    ensures { IsPartyOf result.0 queue.now }
+{
+    match queue.split(party) {
+        Err(party) => (party, false),
+        Ok((a, b)) => {
+            let ((a, right), (b, right_too)) = join(
+                rt,
+                ||
+                    requires { IsSync R.row × IsPartyOf a queue.now }
+                { four(rt, queue, a, board, first, second) },
+                ||
+                    requires { IsSync R.row × IsPartyOf b queue.now }
+                { four(rt, queue, b, board, first, second) },
+            );
+            (queue.join(a, b), right && right_too)
+        }
+    }
+}
+
+#[test]
+fn in_order_from_one_thread_to_another(rt: HostRuntime) {
+    let (Ok(board), Ok((queue, party))) = (Board::new(rt.alloc(), 1), Queue::bounded(rt.alloc(), 1))
+    else {
+        panic!(rt; "no memory");
+    };
+    let (party, right) = two(&rt, &queue, party, &board, Role::Push, Role::PopInOrder);
+    assert!(rt; right);
+    let Ok(left) = queue.finish(party) else {
+        panic!(rt; "not finished");
+    };
+    assert!(rt; left.is_empty());
+}
+
+#[test]
+fn four_pushers_and_four_poppers(rt: HostRuntime) {
+    let (Ok(board), Ok((queue, party))) = (Board::new(rt.alloc(), 4), Queue::bounded(rt.alloc(), 1))
+    else {
+        panic!(rt; "no memory");
+    };
+    let (party, right) = eight(&rt, &queue, party, &board, Role::Push, Role::Pop);
+    assert!(rt; right);
+    assert!(rt; board.each_came(4));
+    let Ok(left) = queue.finish(party) else {
+        panic!(rt; "not finished");
+    };
+    assert!(rt; left.is_empty());
+}
+
+#[test]
+fn linearizable(rt: HostRuntime) {
+    let (Ok(board), Ok((queue, party))) = (Board::new(rt.alloc(), 4), Queue::bounded(rt.alloc(), 1))
+    else {
+        panic!(rt; "no memory");
+    };
+    let (party, right) = four(
+        &rt,
+        &queue,
+        party,
+        &board,
+        Role::PushAndPop,
+        Role::ForceAndPop,
+    );
+    assert!(rt; right);
+    let Ok(left) = queue.finish(party) else {
+        panic!(rt; "not finished");
+    };
+    assert!(rt; left.is_empty());
+}
+
+#[test]
+fn ring_buffer_of_one_thread(rt: HostRuntime) {
+    let (Ok(board), Ok((queue, party))) = (Board::new(rt.alloc(), 1), Queue::bounded(rt.alloc(), 1))
+    else {
+        panic!(rt; "no memory");
+    };
+    let (party, right) = two(&rt, &queue, party, &board, Role::Force, Role::Drain);
+    assert!(rt; right);
+    assert!(rt; board.each_came(1));
+    assert!(rt; queue.finish(party).is_ok());
+}
+
+#[test]
+fn ring_buffer_of_four_threads(rt: HostRuntime) {
+    let (Ok(board), Ok((queue, party))) = (Board::new(rt.alloc(), 4), Queue::bounded(rt.alloc(), 1))
+    else {
+        panic!(rt; "no memory");
+    };
+    let (party, right) = eight(&rt, &queue, party, &board, Role::Force, Role::Drain);
+    assert!(rt; right);
+    assert!(rt; board.each_came(4));
+    assert!(rt; queue.finish(party).is_ok());
+}
+
+#[test]
+fn handed_over(rt: HostRuntime) {
+    assert!(rt; hand_over(&rt, rt.alloc(), TURNS) == Ok(Some((312_487_500, 0))));
+}
