@@ -30,3 +30,4 @@ pub mod AllKinds
 pub mod OwnerRows
 pub mod OneOwner
 pub mod OneOwnerRun
+pub mod Entries

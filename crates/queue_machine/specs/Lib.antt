@@ -7,3 +7,4 @@ pub mod Left
 pub mod Machine
 pub mod Replays
 pub mod OneOwner
+pub mod Meaning
