@@ -15,6 +15,10 @@ pub each-all : {X : Type 0} (P Q : X → Type 0) (xs : List X) → ((x : X) → 
 each-all P Q [] f all = tt
 each-all P Q (x ∷ xs) f all = (f x all.0, each-all P Q xs f all.1)
 
+pub each-both : {X : Type 0} (P Q R : X → Type 0) (xs : List X) → ((x : X) → P x → Q x → R x) → Each P xs → Each Q xs → Each R xs
+each-both P Q R [] f all more = tt
+each-both P Q R (x ∷ xs) f all more = (f x all.0 more.0, each-both P Q R xs f all.1 more.1)
+
 pub event-within : {X : Type 0} (xs : List X) (n : ℕ) (x : X) → event_at xs n ≡ Some x → n < length xs
 event-within [] n x e = cc
 event-within (y ∷ xs) zero x e = omega arith

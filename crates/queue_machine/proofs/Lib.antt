@@ -31,3 +31,4 @@ pub mod OwnerRows
 pub mod OneOwner
 pub mod OneOwnerRun
 pub mod Entries
+pub mod Trace

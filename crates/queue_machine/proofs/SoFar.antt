@@ -36,7 +36,7 @@ Run-length cap parties b [] (y ∷ ts) c run = absurd run
 Run-length cap parties b (x ∷ es) [] c run = absurd run
 
 -- the entries of one event more
-entries-more : {T E : Type 0} (entry : ℕ → ℕ → Told T → List E) (n k : ℕ) (es : List (Event T)) (ts : List (Told T)) (e : Event T) (t : Told T)
+pub entries-more : {T E : Type 0} (entry : ℕ → ℕ → Told T → List E) (n k : ℕ) (es : List (Event T)) (ts : List (Told T)) (e : Event T) (t : Told T)
   → length es ≡ length ts → k ≡ n + length es → entries_from entry n (es ++ e ∷ []) (ts ++ t ∷ []) ≡ entries_from entry n es ts ++ entry k (party_of e) t
 entries-more entry n k [] [] e t same is =
     let at : n ≡ k = omega arith in rw at (append-nil (entry k (party_of e) t))
