@@ -32,3 +32,5 @@ pub mod OneOwner
 pub mod OneOwnerRun
 pub mod Entries
 pub mod Trace
+pub mod TraceSteps
+pub mod TraceRun
