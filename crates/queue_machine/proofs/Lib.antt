@@ -34,3 +34,4 @@ pub mod Entries
 pub mod Trace
 pub mod TraceSteps
 pub mod TraceRun
+pub mod Within

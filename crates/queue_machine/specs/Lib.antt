@@ -8,3 +8,4 @@ pub mod Machine
 pub mod Replays
 pub mod OneOwner
 pub mod Meaning
+pub mod Within
