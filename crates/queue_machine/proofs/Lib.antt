@@ -35,3 +35,5 @@ pub mod Trace
 pub mod TraceSteps
 pub mod TraceRun
 pub mod Within
+pub mod Lone
+pub mod LoneRun
