@@ -1,9 +1,9 @@
 -- Entries of effects, and what a later entry leaves as it was.
-use Rattle.std.proofs.Common.{◌≡◌, ◌≢◌, ◌⊎◌, ◌∙◌, ℕ, zero, suc, ◌+◌, ◌<◌, ◌≤◌, ◌==◌, ◌&&◌, nat_lt, Bool, true, false, if◌then◌else◌, Option, Some, None, List, [], ◌∷◌, ◌++◌, length, refl, sym, ap, subst, arith, inl, inr, append-nil}
-use Rattle.std.proofs.lemmas.Bool.{lt-ltb, ltb-false, ltb-true, eq-eqb}
+use Rattle.std.proofs.Common.{◌≡◌, ◌≢◌, ◌∙◌, ℕ, zero, suc, ◌+◌, ◌<◌, ◌≤◌, ◌==◌, ◌&&◌, nat_lt, Bool, true, false, if◌then◌else◌, Option, Some, List, [], ◌∷◌, ◌++◌, length, refl, sym, ap, arith, inl, inr, append-nil}
+use Rattle.std.proofs.lemmas.Bool.{lt-ltb, eq-eqb}
 use Rattle.std.proofs.lemmas.Bool.Decides.{eqb_tells}
-use Rattle.queue_steps.specs.State.{State, start}
-use Rattle.queue_steps.specs.Effect.{Fits, made, Runs, after_from}
+use Rattle.queue_steps.specs.State.{start}
+use Rattle.queue_steps.specs.Effect.{after_from}
 use Rattle.queue_steps.specs.declared.model.Effect.{Effect}
 use Rattle.queue_machine.specs.Meaning.{Each, event_at, Entry, chosen, effects_in, state_after, own_effects}
 
@@ -85,7 +85,7 @@ state-late cap n m H H' ext lt = ap (λ l. after_from (start cap 0) l) (chosen-l
 pub own-late : {T : Type 0} (p first last n : ℕ) (H H' : List (Entry T)) → Extends n H H' → last < n → own_effects p first last H' ≡ own_effects p first last H
 own-late p first last n H H' ext lt =
     chosen-late (λ x. (x.party == p) && (nat_lt first x.event && nat_lt x.event (last + 1))) n H H' ext
-      (λ x e. rw (e, not_lt n (last + 1) (omega arith), and_false (nat_lt first n), and_false (x.party == p)) refl)
+    (λ x e. rw (e, not_lt n (last + 1) (omega arith), and_false (nat_lt first n), and_false (x.party == p)) refl)
 
 -- where all entries are earlier, all of them count
 pub state-last : {T : Type 0} (cap : Option ℕ) (n m : ℕ) (H : List (Entry T)) → Each (λ x. x.event < n) H → n ≤ m + 1 → state_after cap H m ≡ after_from (start cap 0) (effects_in H)
@@ -94,24 +94,24 @@ state-last cap n m H early le = ap (λ l. after_from (start cap 0) l) (chosen-al
 pub own-last : {T : Type 0} (p first n last last' : ℕ) (H : List (Entry T)) → Each (λ x. x.event < n) H → n ≤ last + 1 → n ≤ last' + 1 → own_effects p first last H ≡ own_effects p first last' H
 own-last p first n last last' H early le le' =
     chosen-same (λ x. (x.party == p) && (nat_lt first x.event && nat_lt x.event (last + 1))) (λ x. (x.party == p) && (nat_lt first x.event && nat_lt x.event (last' + 1))) H
-      (each-all _ _ H (λ x lt. rw (is_lt x.event (last + 1) (omega arith), is_lt x.event (last' + 1) (omega arith)) refl) early)
+    (each-all _ _ H (λ x lt. rw (is_lt x.event (last + 1) (omega arith), is_lt x.event (last' + 1) (omega arith)) refl) early)
 
 pub own-none : {T : Type 0} (p first last : ℕ) (H : List (Entry T)) → Each (λ x. x.event < first) H → own_effects p first last H ≡ []
 own-none p first last H early =
     chosen-none (λ x. (x.party == p) && (nat_lt first x.event && nat_lt x.event (last + 1))) H
-      (each-all _ _ H (λ x lt. rw (not_lt first x.event (omega arith), and_false (x.party == p)) refl) early)
+    (each-all _ _ H (λ x lt. rw (not_lt first x.event (omega arith), and_false (x.party == p)) refl) early)
 
 -- a new entry of this party, and of another
 pub own-mine : {T : Type 0} (p first last n : ℕ) (e : Effect T) (H : List (Entry T)) → first < n → n ≤ last → own_effects p first last (H ++ record { event = n; party = p; effect = e } ∷ []) ≡ own_effects p first last H ++ e ∷ []
 own-mine p first last n e H after upto =
     chosen-append (λ x. (x.party == p) && (nat_lt first x.event && nat_lt x.event (last + 1))) H (record { event = n; party = p; effect = e })
-      ∙ rw (eq-eqb p p refl, is_lt first n after, is_lt n (last + 1) (omega arith)) refl
+    ∙ rw (eq-eqb p p refl, is_lt first n after, is_lt n (last + 1) (omega arith)) refl
 
 pub own-others : {T : Type 0} (p q first last n : ℕ) (e : Effect T) (H : List (Entry T)) → q ≢ p → own_effects q first last (H ++ record { event = n; party = p; effect = e } ∷ []) ≡ own_effects q first last H
 own-others p q first last n e H ne =
     let other : (p == q) ≡ false = elim (eqb_tells p q) [ inl t ↦ absurd (ne (sym t.1)) | inr f ↦ f.0 ] in
     chosen-append (λ x. (x.party == q) && (nat_lt first x.event && nat_lt x.event (last + 1))) H (record { event = n; party = p; effect = e })
-      ∙ rw other (append-nil (own_effects q first last H))
+    ∙ rw other (append-nil (own_effects q first last H))
 
 pub effects-append : {T : Type 0} (H : List (Entry T)) (x : Entry T) → effects_in (H ++ x ∷ []) ≡ effects_in H ++ x.effect ∷ []
 effects-append [] x = refl

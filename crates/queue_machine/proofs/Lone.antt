@@ -1,5 +1,5 @@
 -- How soon a lone call and a prompt call reply.
-use Rattle.std.proofs.Common.{◌≡◌, ◌≢◌, ◌⊎◌, ◌∙◌, ℕ, zero, suc, ◌+◌, ◌-◌, ◌<◌, ◌≤◌, ◌==◌, ◌&&◌, nat_lt, Bool, true, false, if◌then◌else◌, Option, Some, None, is_some, is_none, List, [], ◌∷◌, refl, sym, ap, subst, arith, inl, inr}
+use Rattle.std.proofs.Common.{◌≡◌, ◌≢◌, ◌⊎◌, ◌∙◌, ℕ, zero, suc, ◌+◌, ◌<◌, ◌&&◌, nat_lt, Bool, true, false, Option, Some, None, is_some, is_none, List, [], ◌∷◌, refl, sym, ap, subst, arith, inl, inr}
 use Rattle.std.proofs.lemmas.Bool.{ltb-true, eq-eqb}
 use Rattle.std.proofs.lemmas.Bool.Decides.{eqb_tells}
 use Rattle.queue_steps.specs.declared.sizes.TheConstants.{LONE_STEPS}
@@ -9,8 +9,7 @@ use Rattle.queue_machine.specs.declared.types.Event.{Event}
 use Rattle.queue_machine.specs.declared.types.Event.TheVariants.{Begin, Step}
 use Rattle.queue_machine.specs.declared.types.Told.{Told}
 use Rattle.queue_machine.specs.declared.types.Told.TheVariants.{Skipped, Ran}
-use Rattle.queue_machine.specs.Book.{Book, Open, Run, Happens, Steps, Stays, is_prompt, opening, put, at_open, joined, watched, after_own, begun}
-use Rattle.queue_machine.specs.Within.{own_steps, IsSilent, IsNoBeginning, EachTold, LoneCallsReply, PromptCallsReply}
+use Rattle.queue_machine.specs.Book.{Book, Open, Run, Happens, Steps, is_prompt, opening, put, at_open, joined, watched, after_own, begun}
 use Rattle.queue_machine.proofs.TraceSteps.{put-cases, at_open-cases}
 
 abbrev one_if : {X : Type 0} → Option X → ℕ
@@ -49,11 +48,11 @@ count-put : {T : Type 0} (n p : ℕ) (f : ℕ → Option (Open T)) (y : Option (
 count-put zero p f y lt = absurd (omega arith)
 count-put (suc n) p f y lt =
     elim (last-or-less p n lt) [
-      inl e ↦ count-put-last n p f y e
+      | inl e ↦ count-put-last n p f y e
       | inr before ↦
-        let rest = count-put n p f y before in
-        let last : one_if (put f p y n) ≡ one_if (f n) = ap one_if (put-other f p n y (λ s. absurd (omega arith))) in
-        omega arith
+          let rest = count-put n p f y before in
+          let last : one_if (put f p y n) ≡ one_if (f n) = ap one_if (put-other f p n y (λ s. absurd (omega arith))) in
+          omega arith
     ]
 
 count-none : (X : Type 0) (n : ℕ) → count {X = X} n (λ j. None) ≡ 0
@@ -87,30 +86,30 @@ none-if None e = refl
 none-if (Some x) e = cc
 
 counts-begun : {T : Type 0} (parties : ℕ) (b c : Book T) (p : ℕ) (k : _) → Counts parties b → p < parties → b.open_call p ≡ None
-  → c ≡ record { queue = b.queue; busy = b.busy + 1; open_call = put (λ j. at_open joined (b.open_call j)) p (Some (begun k)) } → Counts parties c
+    → c ≡ record { queue = b.queue; busy = b.busy + 1; open_call = put (λ j. at_open joined (b.open_call j)) p (Some (begun k)) } → Counts parties c
 counts-begun {T} parties b c p k h lt free same = rw same (record {
   busy =
-    let added = count-put parties p (λ j. at_open joined (b.open_call j)) (Some (begun k)) lt in
-    let was : one_if (at_open joined (b.open_call p)) ≡ 0 = rw free refl in
-    let all = count-same parties (λ j. at_open joined (b.open_call j)) b.open_call (λ j l. one-at_open joined (b.open_call j)) in
-    let busy = h.busy in
-    omega arith;
+      let added = count-put parties p (λ j. at_open joined (b.open_call j)) (Some (begun k)) lt in
+      let was : one_if (at_open joined (b.open_call p)) ≡ 0 = rw free refl in
+      let all = count-same parties (λ j. at_open joined (b.open_call j)) b.open_call (λ j l. one-at_open joined (b.open_call j)) in
+      let busy = h.busy in
+      omega arith;
   within = λ j o e. elim (put-cases (λ j. at_open joined (b.open_call j)) p j (Some (begun k)) o e) [
-    inl m ↦ let at = m.0 in omega arith
+    | inl m ↦ let at = m.0 in omega arith
     | inr m ↦ let old = at_open-cases joined (b.open_call j) o m.1 in h.within j old.0 old.1
   ];
   lone = λ j o e. elim (put-cases (λ j. at_open joined (b.open_call j)) p j (Some (begun k)) o e) [
-    inl m ↦ let is : begun k ≡ o = let x = m.1 in cc in let zero : o.alone ≡ 0 = ap (λ z. z.alone) (sym is) in omega arith
+    | inl m ↦ let is : begun k ≡ o = let x = m.1 in cc in let zero : o.alone ≡ 0 = ap (λ z. z.alone) (sym is) in omega arith
     | inr m ↦ let old = at_open-cases joined (b.open_call j) o m.1 in let zero : o.alone ≡ 0 = ap (λ z. z.alone) (sym old.2) in omega arith
   ];
   prompt = λ j o e is_p. elim (put-cases (λ j. at_open joined (b.open_call j)) p j (Some (begun k)) o e) [
-    inl m ↦ let is : begun k ≡ o = let x = m.1 in cc in let zero : o.steps ≡ 0 = ap (λ z. z.steps) (sym is) in omega arith
+    | inl m ↦ let is : begun k ≡ o = let x = m.1 in cc in let zero : o.steps ≡ 0 = ap (λ z. z.steps) (sym is) in omega arith
     | inr m ↦
-      let old = at_open-cases joined (b.open_call j) o m.1 in
-      let same_call : is_prompt old.0.call ≡ true = ap (λ z. is_prompt z.call) old.2 ∙ is_p in
-      let few = h.prompt j old.0 old.1 same_call in
-      let same_steps : o.steps ≡ old.0.steps = ap (λ z. z.steps) (sym old.2) in
-      omega arith
+        let old = at_open-cases joined (b.open_call j) o m.1 in
+        let same_call : is_prompt old.0.call ≡ true = ap (λ z. is_prompt z.call) old.2 ∙ is_p in
+        let few = h.prompt j old.0 old.1 same_call in
+        let same_steps : o.steps ≡ old.0.steps = ap (λ z. z.steps) (sym old.2) in
+        omega arith
   ];
 })
 
@@ -118,23 +117,23 @@ counts-begun {T} parties b c p k h lt free same = rw same (record {
 counts-stepped : {T : Type 0} (parties : ℕ) (b c : Book T) (p : ℕ) (k : Option EffectKind) (r : Option (Reply T)) → Counts parties b → p < parties → Steps b p k r c → Counts parties c
 counts-stepped {T} parties b c p k None h lt s = record {
   busy =
-    let added = count-put parties p others (Some mine) lt in
-    let was : one_if (others p) ≡ 1 = ap (λ y. one_if (at_open (watched c.queue) y)) s.in_call in
-    let all = count-same parties others b.open_call (λ j l. one-at_open (watched c.queue) (b.open_call j)) in
-    let busy = h.busy in
-    let now = s.busy in
-    let calls : count parties c.open_call ≡ count parties (put others p (Some mine)) = ap (count parties) s.calls in
-    omega arith;
+      let added = count-put parties p others (Some mine) lt in
+      let was : one_if (others p) ≡ 1 = ap (λ y. one_if (at_open (watched c.queue) y)) s.in_call in
+      let all = count-same parties others b.open_call (λ j l. one-at_open (watched c.queue) (b.open_call j)) in
+      let busy = h.busy in
+      let now = s.busy in
+      let calls : count parties c.open_call ≡ count parties (put others p (Some mine)) = ap (count parties) s.calls in
+      omega arith;
   within = λ j o e. elim (put-cases others p j (Some mine) o (sym (ap (λ z. z j) s.calls) ∙ e)) [
-    inl m ↦ let at = m.0 in omega arith
+    | inl m ↦ let at = m.0 in omega arith
     | inr m ↦ let old = at_open-cases (watched c.queue) (b.open_call j) o m.1 in h.within j old.0 old.1
   ];
   lone = λ j o e. elim (put-cases others p j (Some mine) o (sym (ap (λ z. z j) s.calls) ∙ e)) [
-    inl m ↦ let is : mine ≡ o = let x = m.1 in cc in subst (λ z. z.alone < LONE_STEPS) is s.goes.lone
+    | inl m ↦ let is : mine ≡ o = let x = m.1 in cc in subst (λ z. z.alone < LONE_STEPS) is s.goes.lone
     | inr m ↦ let old = at_open-cases (watched c.queue) (b.open_call j) o m.1 in subst (λ z. z.alone < LONE_STEPS) old.2 (h.lone j old.0 old.1)
   ];
   prompt = λ j o e is_p. elim (put-cases others p j (Some mine) o (sym (ap (λ z. z j) s.calls) ∙ e)) [
-    inl m ↦ let is : mine ≡ o = let x = m.1 in cc in subst (λ z. z.steps < 2) is (s.goes.prompt (ap (λ z. is_prompt z.call) is ∙ is_p))
+    | inl m ↦ let is : mine ≡ o = let x = m.1 in cc in subst (λ z. z.steps < 2) is (s.goes.prompt (ap (λ z. is_prompt z.call) is ∙ is_p))
     | inr m ↦ let old = at_open-cases (watched c.queue) (b.open_call j) o m.1 in subst (λ z. z.steps < 2) old.2 (h.prompt j old.0 old.1 (ap (λ z. is_prompt z.call) old.2 ∙ is_p))
   ];
 }
@@ -146,23 +145,23 @@ counts-stepped {T} parties b c p k None h lt s = record {
     others = λ j. at_open (watched c.queue) (b.open_call j)
 counts-stepped {T} parties b c p k (Some r) h lt s = record {
   busy =
-    let added = count-put parties p others None lt in
-    let was : one_if (others p) ≡ 1 = ap (λ y. one_if (at_open (watched c.queue) y)) s.in_call in
-    let all = count-same parties others b.open_call (λ j l. one-at_open (watched c.queue) (b.open_call j)) in
-    let busy = h.busy in
-    let now = s.busy in
-    let calls : count parties c.open_call ≡ count parties (put others p None) = ap (count parties) s.calls in
-    omega arith;
+      let added = count-put parties p others None lt in
+      let was : one_if (others p) ≡ 1 = ap (λ y. one_if (at_open (watched c.queue) y)) s.in_call in
+      let all = count-same parties others b.open_call (λ j l. one-at_open (watched c.queue) (b.open_call j)) in
+      let busy = h.busy in
+      let now = s.busy in
+      let calls : count parties c.open_call ≡ count parties (put others p None) = ap (count parties) s.calls in
+      omega arith;
   within = λ j o e. elim (put-cases others p j None o (sym (ap (λ z. z j) s.calls) ∙ e)) [
-    inl m ↦ let x = m.1 in cc
+    | inl m ↦ let x = m.1 in cc
     | inr m ↦ let old = at_open-cases (watched c.queue) (b.open_call j) o m.1 in h.within j old.0 old.1
   ];
   lone = λ j o e. elim (put-cases others p j None o (sym (ap (λ z. z j) s.calls) ∙ e)) [
-    inl m ↦ let x = m.1 in cc
+    | inl m ↦ let x = m.1 in cc
     | inr m ↦ let old = at_open-cases (watched c.queue) (b.open_call j) o m.1 in subst (λ z. z.alone < LONE_STEPS) old.2 (h.lone j old.0 old.1)
   ];
   prompt = λ j o e is_p. elim (put-cases others p j None o (sym (ap (λ z. z j) s.calls) ∙ e)) [
-    inl m ↦ let x = m.1 in cc
+    | inl m ↦ let x = m.1 in cc
     | inr m ↦ let old = at_open-cases (watched c.queue) (b.open_call j) o m.1 in subst (λ z. z.steps < 2) old.2 (h.prompt j old.0 old.1 (ap (λ z. is_prompt z.call) old.2 ∙ is_p))
   ];
 }

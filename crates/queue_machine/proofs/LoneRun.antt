@@ -1,6 +1,6 @@
 -- A lone call replies within its bound, and a prompt call by its second step.
-use Rattle.std.proofs.Common.{◌≡◌, ◌≢◌, ◌⊎◌, ◌∙◌, ℕ, ◌+◌, ◌<◌, ◌≤◌, ◌==◌, ◌&&◌, nat_lt, Bool, true, false, if◌then◌else◌, Option, Some, None, is_some, is_none, List, [], ◌∷◌, refl, sym, ap, subst, arith, inl, inr}
-use Rattle.std.proofs.lemmas.Bool.{ltb-true, eq-eqb}
+use Rattle.std.proofs.Common.{◌≡◌, ◌≢◌, ◌∙◌, ℕ, ◌+◌, ◌<◌, nat_lt, Bool, true, if◌then◌else◌, Option, Some, None, is_some, is_none, List, [], ◌∷◌, refl, sym, ap, subst, arith, inl, inr}
+use Rattle.std.proofs.lemmas.Bool.{eq-eqb}
 use Rattle.std.proofs.lemmas.Bool.Decides.{eqb_tells}
 use Rattle.queue_steps.specs.declared.sizes.TheConstants.{LONE_STEPS}
 use Rattle.queue_steps.specs.declared.model.Reply.{Reply}
@@ -9,9 +9,9 @@ use Rattle.queue_machine.specs.declared.types.Event.{Event}
 use Rattle.queue_machine.specs.declared.types.Event.TheVariants.{Begin, Step}
 use Rattle.queue_machine.specs.declared.types.Told.{Told}
 use Rattle.queue_machine.specs.declared.types.Told.TheVariants.{Skipped, Ran}
-use Rattle.queue_machine.specs.Book.{Book, Open, Run, Happens, Steps, Stays, is_prompt, opening, put, at_open, joined, watched, after_own, begun}
+use Rattle.queue_machine.specs.Book.{Book, Open, Run, Steps, is_prompt, opening, at_open, joined, watched, after_own, begun}
 use Rattle.queue_machine.specs.Within.{own_steps, IsSilent, IsNoBeginning, EachTold, LoneCallsReply, PromptCallsReply}
-use Rattle.queue_machine.proofs.Lone.{Counts, counts-first, counts-run, counts-happens, count-alone, put-same, put-other, and-right}
+use Rattle.queue_machine.proofs.Lone.{counts-first, counts-run, count-alone, put-same, put-other, and-right}
 
 -- a party that takes no step here
 other-steps : {T : Type 0} (p q : ℕ) (granted : Bool) (k : Option EffectKind) (r : Option (Reply T)) (es : List (Event T)) (ts : List (Told T)) → q ≢ p → own_steps p (Step q granted ∷ es) (Ran k r ∷ ts) ≡ own_steps p es ts
@@ -39,8 +39,8 @@ same-open : {T : Type 0} (y : Option (Open T)) (o x : Open T) → y ≡ Some o �
 same-open y o x e f = let g : Some o ≡ Some x = sym e ∙ f in cc
 
 lone-from : {T : Type 0} (cap : Option ℕ) (parties : ℕ) (b c : Book T) (es : List (Event T)) (ts : List (Told T)) (p : ℕ) (o : Open T) → Run cap parties b es ts c → b.busy ≡ 1
-  → b.open_call p ≡ Some o → ((j : ℕ) → j ≢ p → b.open_call j ≡ None) → o.alone < LONE_STEPS
-  → EachTold IsNoBeginning es ts → EachTold (IsSilent p) es ts → o.alone + own_steps p es ts < LONE_STEPS
+    → b.open_call p ≡ Some o → ((j : ℕ) → j ≢ p → b.open_call j ≡ None) → o.alone < LONE_STEPS
+    → EachTold IsNoBeginning es ts → EachTold (IsSilent p) es ts → o.alone + own_steps p es ts < LONE_STEPS
 lone-from cap parties b c [] [] p o run one here others few none silent = omega arith
 lone-from cap parties b c [] (t ∷ ts) p o run one here others few none silent = absurd run
 lone-from cap parties b c (x ∷ es) [] p o run one here others few none silent = absurd run
@@ -59,20 +59,20 @@ lone-from cap parties b c (Step q g ∷ es) (Ran k (Some r) ∷ ts) p o run one 
     absurd (is_some-none (b.open_call q) (and-right (nat_lt q parties) (is_some (b.open_call q)) run.1.0) (others q silent.0))
 lone-from cap parties b c (Step q g ∷ es) (Ran k None ∷ ts) p o run one here others few none silent =
     elim (eqb_tells q p) [
-      inr t ↦ absurd (is_some-none (b.open_call q) (and-right (nat_lt q parties) (is_some (b.open_call q)) run.1.0) (others q t.1))
+      | inr t ↦ absurd (is_some-none (b.open_call q) (and-right (nat_lt q parties) (is_some (b.open_call q)) run.1.0) (others q t.1))
       | inl t ↦
-        let s : Steps b p k None run.0 = subst (λ z. Steps b z k None run.0) t.1 run.1.1 in
-        let is = same-open (b.open_call p) o s.o here s.in_call in
-        let mine = after_own b.busy s.o run.0.queue s.effects in
-        let more : mine.alone ≡ o.alone + 1 = rw (one, is) refl in
-        let rest = lone-from cap parties run.0 c es ts p mine run.2 (s.busy ∙ one) (mine-after b run.0 p k s)
+          let s : Steps b p k None run.0 = subst (λ z. Steps b z k None run.0) t.1 run.1.1 in
+          let is = same-open (b.open_call p) o s.o here s.in_call in
+          let mine = after_own b.busy s.o run.0.queue s.effects in
+          let more : mine.alone ≡ o.alone + 1 = rw (one, is) refl in
+          let rest = lone-from cap parties run.0 c es ts p mine run.2 (s.busy ∙ one) (mine-after b run.0 p k s)
           (λ j ne. others-after b run.0 p k None s j ne ∙ rw (others j ne) refl) s.goes.lone none.1 silent.1 in
-        let steps = mine-steps p q g k None es ts t.1 in
-        omega arith
+          let steps = mine-steps p q g k None es ts t.1 in
+          omega arith
     ]
 
 prompt-from : {T : Type 0} (cap : Option ℕ) (parties : ℕ) (b c : Book T) (es : List (Event T)) (ts : List (Told T)) (p : ℕ) (o : Open T) → Run cap parties b es ts c
-  → b.open_call p ≡ Some o → is_prompt o.call ≡ true → o.steps < 2 → EachTold (IsSilent p) es ts → o.steps + own_steps p es ts < 2
+    → b.open_call p ≡ Some o → is_prompt o.call ≡ true → o.steps < 2 → EachTold (IsSilent p) es ts → o.steps + own_steps p es ts < 2
 prompt-from cap parties b c [] [] p o run here is few silent = omega arith
 prompt-from cap parties b c [] (t ∷ ts) p o run here is few silent = absurd run
 prompt-from cap parties b c (x ∷ es) [] p o run here is few silent = absurd run
@@ -94,21 +94,21 @@ prompt-from cap parties b c (Step q g ∷ es) (Ran k (Some r) ∷ ts) p o run he
     omega arith
 prompt-from cap parties b c (Step q g ∷ es) (Ran k None ∷ ts) p o run here is few silent =
     elim (eqb_tells q p) [
-      inr t ↦
-        let s = run.1.1 in
-        let there = others-after b run.0 q k None s p (λ e. t.1 (sym e)) ∙ ap (at_open (watched run.0.queue)) here in
-        let rest = prompt-from cap parties run.0 c es ts p (watched run.0.queue o) run.2 there is few silent.1 in
-        let steps = other-steps p q g k None es ts t.1 in
-        omega arith
+      | inr t ↦
+          let s = run.1.1 in
+          let there = others-after b run.0 q k None s p (λ e. t.1 (sym e)) ∙ ap (at_open (watched run.0.queue)) here in
+          let rest = prompt-from cap parties run.0 c es ts p (watched run.0.queue o) run.2 there is few silent.1 in
+          let steps = other-steps p q g k None es ts t.1 in
+          omega arith
       | inl t ↦
-        let s : Steps b p k None run.0 = subst (λ z. Steps b z k None run.0) t.1 run.1.1 in
-        let same = same-open (b.open_call p) o s.o here s.in_call in
-        let mine = after_own b.busy s.o run.0.queue s.effects in
-        let prompt : is_prompt mine.call ≡ true = ap (λ z. is_prompt z.call) (sym same) ∙ is in
-        let more : mine.steps ≡ o.steps + 1 = ap (λ z. z.steps + 1) (sym same) in
-        let rest = prompt-from cap parties run.0 c es ts p mine run.2 (mine-after b run.0 p k s) prompt (s.goes.prompt prompt) silent.1 in
-        let steps = mine-steps p q g k None es ts t.1 in
-        omega arith
+          let s : Steps b p k None run.0 = subst (λ z. Steps b z k None run.0) t.1 run.1.1 in
+          let same = same-open (b.open_call p) o s.o here s.in_call in
+          let mine = after_own b.busy s.o run.0.queue s.effects in
+          let prompt : is_prompt mine.call ≡ true = ap (λ z. is_prompt z.call) (sym same) ∙ is in
+          let more : mine.steps ≡ o.steps + 1 = ap (λ z. z.steps + 1) (sym same) in
+          let rest = prompt-from cap parties run.0 c es ts p mine run.2 (mine-after b run.0 p k s) prompt (s.goes.prompt prompt) silent.1 in
+          let steps = mine-steps p q g k None es ts t.1 in
+          omega arith
     ]
 
 pub lone_calls : {T : Type 0} → LoneCallsReply T

@@ -1,11 +1,9 @@
 -- What is known of a run so far: its history, with the event and the party of each effect, and where each call stands in it.
-use Rattle.std.proofs.Common.{◌≡◌, ◌≢◌, ◌⊎◌, ◌∙◌, ℕ, zero, suc, ◌+◌, ◌<◌, ◌≤◌, Bool, true, false, Option, Some, None, List, [], ◌∷◌, ◌++◌, length, refl, sym, ap, subst, arith, inl, inr, append-nil, length-append}
+use Rattle.std.proofs.Common.{◌≡◌, ◌≢◌, ◌⊎◌, ◌∙◌, ℕ, ◌+◌, ◌<◌, ◌≤◌, Bool, true, false, Option, Some, None, List, [], ◌∷◌, ◌++◌, length, refl, sym, ap, arith, inl, inr, append-nil, length-append}
 use Rattle.queue_steps.specs.State.{State, start}
 use Rattle.queue_steps.specs.Effect.{Fits, made, Runs, after_from}
-use Rattle.queue_steps.specs.Replies.{Tells}
 use Rattle.queue_steps.specs.declared.model.Call.{Call}
 use Rattle.queue_steps.specs.declared.model.Effect.{Effect}
-use Rattle.queue_steps.specs.declared.model.Effect.TheVariants as effect
 use Rattle.queue_steps.specs.declared.model.Reply.{Reply}
 use Rattle.queue_machine.specs.declared.types.EffectKind.{EffectKind}
 use Rattle.queue_machine.specs.declared.types.EffectKind.TheVariants as kind
@@ -14,8 +12,8 @@ use Rattle.queue_machine.specs.declared.types.Event.TheVariants.{Begin, Step}
 use Rattle.queue_machine.specs.declared.types.Told.{Told}
 use Rattle.queue_machine.specs.Book.{Book, Open, IsBegun, kind_of}
 use Rattle.queue_machine.specs.Conforms.{party_of, entries_from, reply_entry, effect_entry}
-use Rattle.queue_machine.specs.Meaning.{Each, event_at, Entry, effects_in, kinds_in, state_after, own_effects, IsUnanswered, IsMoment, IsRightBetween, IsAnswer, SawOpen, FrontSawOpen, IsOwn}
-use Rattle.queue_machine.proofs.Entries.{each-more, each-all, each-both, event-within, event-more, event-last, Extends, quiet, loud, state-late, own-late, state-last, own-last, effects-append}
+use Rattle.queue_machine.specs.Meaning.{Each, event_at, Entry, effects_in, kinds_in, state_after, own_effects, IsUnanswered, IsMoment, IsRightBetween, IsAnswer, FrontSawOpen, IsOwn}
+use Rattle.queue_machine.proofs.Entries.{each-more, each-all, each-both, event-more, Extends, quiet, loud, state-late, own-late, effects-append}
 use Rattle.queue_machine.proofs.SoFar.{entries-more}
 
 -- an earlier state that a call of party p has seen, at or after a step of its own
@@ -153,7 +151,8 @@ answer-more : {T : Type 0} (cap : Option ℕ) (past ys : List (Event T)) (H H' :
 answer-more cap past ys H H' R n p r y ext lt a =
     let own = own-late y.1 a.first y.0 n H H' ext lt in
     record {
-      first = a.first; call = a.call;
+      first = a.first;
+      call = a.call;
       begins = event-more past ys a.first (Begin y.1 a.call) a.begins;
       unanswered = unanswered-late n p y.1 a.first y.0 r R (omega arith) a.unanswered;
       tells = rw own a.tells;
@@ -164,7 +163,10 @@ saw-more : {T : Type 0} (cap : Option ℕ) (past ys : List (Event T)) (H H' : Li
 saw-more cap past ys H H' R n p r x kind.Front ext lt s =
     let le = s.before in
     record {
-      step = s.step; granted = s.granted; own_step = event-more past ys s.step (Step x.party s.granted) s.own_step; before = s.before;
+      step = s.step;
+      granted = s.granted;
+      own_step = event-more past ys s.step (Step x.party s.granted) s.own_step;
+      before = s.before;
       unanswered = unanswered-late n p x.party s.step x.event r R (omega arith) s.unanswered;
       was_open = ap (λ q. q.closed) (state-late cap n s.step H H' ext (omega arith)) ∙ s.was_open;
     }
@@ -189,13 +191,13 @@ own-added cap past ys H H' R R' n p None is all owes = rw is (each-all _ _ H (λ
 own-added cap past ys H H' R R' n p (Some e) is all owes = rw is (each-more _ H _ (each-all _ _ H (λ x o. (o.0, event-more past ys x.event (Step x.party o.0) o.1)) all) owes.0)
 
 fronts-added : {T : Type 0} (cap : Option ℕ) (past ys : List (Event T)) (H : List (Entry T)) (R : List (ℕ × ℕ × Reply T)) (n p : ℕ) (e : Option (Effect T)) (r : Option (Reply T)) → Each (λ x. x.event < n) H → Each (λ x. FrontSawOpen cap past H R x (kind_of x.effect)) H
-  → EntryOwes cap (past ++ ys) (added n p e H) (answered n p r R) n p e → Each (λ x. FrontSawOpen cap (past ++ ys) (added n p e H) (answered n p r R) x (kind_of x.effect)) (added n p e H)
+    → EntryOwes cap (past ++ ys) (added n p e H) (answered n p r R) n p e → Each (λ x. FrontSawOpen cap (past ++ ys) (added n p e H) (answered n p r R) x (kind_of x.effect)) (added n p e H)
 fronts-added cap past ys H R n p None r early all owes = each-both _ _ _ H (λ x lt s. saw-more cap past ys H H R n p r x (kind_of x.effect) (quiet n H) lt s) early all
 fronts-added cap past ys H R n p (Some e) r early all owes =
     each-more _ H _ (each-both _ _ _ H (λ x lt s. saw-more cap past ys H (added n p (Some e) H) R n p r x (kind_of x.effect) (loud n p e H) lt s) early all) owes.1
 
 answers-added : {T : Type 0} (cap : Option ℕ) (past ys : List (Event T)) (H H' : List (Entry T)) (R : List (ℕ × ℕ × Reply T)) (n p : ℕ) (r : Option (Reply T)) → Extends n H H' → Each (λ y. y.0 < n) R → Each (λ y. IsAnswer cap past H R y.0 y.1 y.2) R
-  → ReplyOwes cap (past ++ ys) H' (answered n p r R) n p r → Each (λ y. IsAnswer cap (past ++ ys) H' (answered n p r R) y.0 y.1 y.2) (answered n p r R)
+    → ReplyOwes cap (past ++ ys) H' (answered n p r R) n p r → Each (λ y. IsAnswer cap (past ++ ys) H' (answered n p r R) y.0 y.1 y.2) (answered n p r R)
 answers-added cap past ys H H' R n p None ext early all owes = each-both _ _ _ R (λ y lt a. answer-more cap past ys H H' R n p None y ext lt a) early all
 answers-added cap past ys H H' R n p (Some r) ext early all owes =
     each-more _ R _ (each-both _ _ _ R (λ y lt a. answer-more cap past ys H H' R n p (Some r) y ext lt a) early all) owes
@@ -205,12 +207,12 @@ length-one xs y = length-append xs (y ∷ [])
 
 -- after one event more
 pub trace-more : {T : Type 0} (cap : Option ℕ) (past : List (Event T)) (told : List (Told T)) (n : ℕ) (H : List (Entry T)) (R : List (ℕ × ℕ × Reply T)) (b c : Book T) (x : Event T) (t : Told T) (e : Option (Effect T)) (r : Option (Reply T))
-  → Trace cap past told n H R b → effect_entry n (party_of x) t ≡ kinds_in (added n (party_of x) e []) → reply_entry n (party_of x) t ≡ answered n (party_of x) r []
-  → FitsIf e b.queue → c.queue ≡ made_if e b.queue
-  → EntryOwes cap (past ++ x ∷ []) (added n (party_of x) e H) (answered n (party_of x) r R) n (party_of x) e
-  → ReplyOwes cap (past ++ x ∷ []) (added n (party_of x) e H) (answered n (party_of x) r R) n (party_of x) r
-  → ((p : ℕ) (o : Open T) → c.open_call p ≡ Some o → Since cap (past ++ x ∷ []) (added n (party_of x) e H) (answered n (party_of x) r R) p (n + 1) o)
-  → Trace cap (past ++ x ∷ []) (told ++ t ∷ []) (n + 1) (added n (party_of x) e H) (answered n (party_of x) r R) c
+    → Trace cap past told n H R b → effect_entry n (party_of x) t ≡ kinds_in (added n (party_of x) e []) → reply_entry n (party_of x) t ≡ answered n (party_of x) r []
+    → FitsIf e b.queue → c.queue ≡ made_if e b.queue
+    → EntryOwes cap (past ++ x ∷ []) (added n (party_of x) e H) (answered n (party_of x) r R) n (party_of x) e
+    → ReplyOwes cap (past ++ x ∷ []) (added n (party_of x) e H) (answered n (party_of x) r R) n (party_of x) r
+    → ((p : ℕ) (o : Open T) → c.open_call p ≡ Some o → Since cap (past ++ x ∷ []) (added n (party_of x) e H) (answered n (party_of x) r R) p (n + 1) o)
+    → Trace cap (past ++ x ∷ []) (told ++ t ∷ []) (n + 1) (added n (party_of x) e H) (answered n (party_of x) r R) c
 trace-more cap past told n H R b c x t e r tr kinds replies fits leads entry reply opens =
     let p = party_of x in
     record {

@@ -1,7 +1,6 @@
 -- Every run leaves a trace, and so a conforming replay has a history.
-use Rattle.std.proofs.Common.{◌≡◌, ◌≢◌, ◌⊎◌, ◌∙◌, ℕ, ◌+◌, ◌-◌, ◌<◌, ◌≤◌, ◌&&◌, nat_lt, Bool, true, false, if◌then◌else◌, Option, Some, None, is_some, is_none, Ok, Err, List, [], ◌∷◌, ◌++◌, length, refl, sym, ap, subst, arith, inl, inr, append-nil, append_assoc}
-use Rattle.queue_steps.specs.State.{State, start}
-use Rattle.queue_steps.specs.Effect.{after_from}
+use Rattle.std.proofs.Common.{◌≡◌, ◌≢◌, ◌⊎◌, ◌∙◌, ℕ, ◌+◌, ◌<◌, ◌&&◌, nat_lt, Bool, true, false, if◌then◌else◌, Option, Some, None, is_some, is_none, Ok, Err, List, [], ◌∷◌, ◌++◌, refl, sym, ap, subst, arith, inl, inr, append-nil, append_assoc}
+use Rattle.queue_steps.specs.State.{State}
 use Rattle.queue_steps.specs.Replies.{IsRightAt, Tells}
 use Rattle.queue_steps.specs.declared.model.Call.{Call}
 use Rattle.queue_steps.specs.declared.model.Call.TheVariants as call
@@ -10,20 +9,17 @@ use Rattle.queue_steps.specs.declared.model.Effect.TheVariants as effect
 use Rattle.queue_steps.specs.declared.model.Reply.{Reply}
 use Rattle.queue_steps.specs.declared.model.Reply.TheVariants as reply
 use Rattle.queue_steps.specs.declared.errors.PopError.TheVariants as pop
-use Rattle.queue_steps.specs.declared.errors.PushError.TheVariants as push
-use Rattle.queue_steps.specs.declared.errors.ForcePushError.TheVariants as force
 use Rattle.queue_machine.specs.declared.types.EffectKind.{EffectKind}
 use Rattle.queue_machine.specs.declared.types.Event.{Event}
 use Rattle.queue_machine.specs.declared.types.Event.TheVariants.{Begin, Step}
-use Rattle.queue_machine.specs.declared.types.Replay.{Replay}
 use Rattle.queue_machine.specs.declared.types.Told.{Told}
 use Rattle.queue_machine.specs.declared.types.Told.TheVariants.{Skipped, Ran}
-use Rattle.queue_machine.specs.Book.{Book, Open, IsBegun, Steps, Stays, GoesOn, Happens, Run, has_steps, begun, joined, watched, after_own, put, at_open, opening}
-use Rattle.queue_machine.specs.Conforms.{Conforms, reply_entry}
-use Rattle.queue_machine.specs.Meaning.{Each, event_at, Entry, effects_in, state_after, own_effects, IsAnswer, IsUnended, HasHistory, ConformingHasHistory}
-use Rattle.queue_machine.proofs.Entries.{each-all, each-more, event-last, state-last, own-last, own-none}
+use Rattle.queue_machine.specs.Book.{Book, Open, IsBegun, Steps, GoesOn, Happens, Run, has_steps, begun, joined, watched, after_own, put, at_open, opening}
+use Rattle.queue_machine.specs.Conforms.{reply_entry}
+use Rattle.queue_machine.specs.Meaning.{Each, Entry, state_after, IsAnswer, ConformingHasHistory}
+use Rattle.queue_machine.proofs.Entries.{each-all, each-more, event-last, state-last, own-none}
 use Rattle.queue_machine.proofs.Trace.{Since, Trace, ReplyOwes, trace-more, added, answered, leads-added}
-use Rattle.queue_machine.proofs.TraceSteps.{put-cases, at_open-cases, since-other, since-joined, since-watched, effects_added, moves-does, Does, since-own, answer-own, entry-owes}
+use Rattle.queue_machine.proofs.TraceSteps.{put-cases, at_open-cases, since-other, since-joined, since-watched, moves-does, Does, since-own, answer-own, entry-owes}
 
 -- no effect begins the effects of every call
 begun-nil : {T : Type 0} (c : Call T) → IsBegun c []
@@ -67,17 +63,19 @@ record Next {T : Type 0} (cap : Option ℕ) (past : List (Event T)) (told : List
 
 skipped-next : {T : Type 0} (cap : Option ℕ) (past : List (Event T)) (told : List (Told T)) (n : ℕ) (H : List (Entry T)) (R : List (ℕ × ℕ × Reply T)) (b c : Book T) (x : Event T) → Trace cap past told n H R b → c ≡ b → Next cap past told n x Skipped c
 skipped-next cap past told n H R b c x tr same = record {
-  H = H; R = R;
+  H = H;
+  R = R;
   trace = trace-more cap past told n H R b c x Skipped None None tr refl refl tt (ap (λ z. z.queue) same) tt tt
-    (λ p o open_. since-other cap past (x ∷ []) H R n p p None None o tr.early (inl refl) (inl refl) (tr.open_calls p o (sym (ap (λ z. z.open_call p) same) ∙ open_)));
+      (λ p o open_. since-other cap past (x ∷ []) H R n p p None None o tr.early (inl refl) (inl refl) (tr.open_calls p o (sym (ap (λ z. z.open_call p) same) ∙ open_)));
 }
 
 began-next : {T : Type 0} (cap : Option ℕ) (past : List (Event T)) (told : List (Told T)) (n : ℕ) (H : List (Entry T)) (R : List (ℕ × ℕ × Reply T)) (b c : Book T) (p : ℕ) (k : Call T) → Trace cap past told n H R b
-  → c ≡ record { queue = b.queue; busy = b.busy + 1; open_call = put (λ j. at_open joined (b.open_call j)) p (Some (begun k)) } → Next cap past told n (Begin p k) (Ran None None) c
+    → c ≡ record { queue = b.queue; busy = b.busy + 1; open_call = put (λ j. at_open joined (b.open_call j)) p (Some (begun k)) } → Next cap past told n (Begin p k) (Ran None None) c
 began-next {T} cap past told n H R b c p k tr same = record {
-  H = H; R = R;
+  H = H;
+  R = R;
   trace = trace-more cap past told n H R b c (Begin p k) (Ran None None) None None tr refl refl tt (ap (λ z. z.queue) same) tt tt
-    (λ j o open_. opens j o (put-cases (λ j. at_open joined (b.open_call j)) p j (Some (begun k)) o (sym (ap (λ z. z.open_call j) same) ∙ open_)));
+      (λ j o open_. opens j o (put-cases (λ j. at_open joined (b.open_call j)) p j (Some (begun k)) o (sym (ap (λ z. z.open_call j) same) ∙ open_)));
 }
   where
     fresh : Since cap (past ++ Begin p k ∷ []) H R p (n + 1) (begun k)
@@ -98,20 +96,22 @@ began-next {T} cap past told n H R b c p k tr same = record {
     opens j o (inr m) =
         let old = at_open-cases joined (b.open_call j) o m.1 in
         subst (λ z. Since cap (past ++ Begin p k ∷ []) H R j (n + 1) z) old.2
-          (since-joined cap (past ++ Begin p k ∷ []) H R j (n + 1) old.0 (since-other cap past (Begin p k ∷ []) H R n p j None None old.0 tr.early (inl refl) (inl refl) (tr.open_calls j old.0 old.1)))
+        (since-joined cap (past ++ Begin p k ∷ []) H R j (n + 1) old.0 (since-other cap past (Begin p k ∷ []) H R n p j None None old.0 tr.early (inl refl) (inl refl) (tr.open_calls j old.0 old.1)))
 
 at-once-next : {T : Type 0} (cap : Option ℕ) (past : List (Event T)) (told : List (Told T)) (n : ℕ) (H : List (Entry T)) (R : List (ℕ × ℕ × Reply T)) (b c : Book T) (p : ℕ) (k : Call T) (x : Reply T) → Trace cap past told n H R b
-  → b.open_call p ≡ None → has_steps cap k ≡ false → IsRightAt b.queue k x → c ≡ b → Next cap past told n (Begin p k) (Ran None (Some x)) c
+    → b.open_call p ≡ None → has_steps cap k ≡ false → IsRightAt b.queue k x → c ≡ b → Next cap past told n (Begin p k) (Ran None (Some x)) c
 at-once-next {T} cap past told n H R b c p k x tr free no_steps right same = record {
-  H = H; R = R ++ (n, p, x) ∷ [];
+  H = H;
+  R = R ++ (n, p, x) ∷ [];
   trace = trace-more cap past told n H R b c (Begin p k) (Ran None (Some x)) None (Some x) tr refl refl tt (ap (λ z. z.queue) same) tt answer
-    (λ j o open_. let was = sym (ap (λ z. z.open_call j) same) ∙ open_ in
+      (λ j o open_. let was = sym (ap (λ z. z.open_call j) same) ∙ open_ in
       since-other cap past (Begin p k ∷ []) H R n p j None (Some x) o tr.early (inl refl) (inr (λ e. let f : b.open_call j ≡ None = ap b.open_call e ∙ free in let g = was in cc)) (tr.open_calls j o was));
 }
   where
     answer : IsAnswer cap (past ++ Begin p k ∷ []) H (R ++ (n, p, x) ∷ []) n p x
     answer = record {
-      first = n; call = k;
+      first = n;
+      call = k;
       begins = event-last past n (Begin p k) tr.len;
       unanswered = each-more _ R _ (each-all _ _ R (λ y lt e. inl lt) tr.early_replies) (λ e. inr (omega arith));
       tells = rw (own-none p n n H tr.early) (right-tells b.queue cap k x no_steps right);
@@ -119,13 +119,14 @@ at-once-next {T} cap past told n H R b c p k x tr free no_steps right same = rec
     }
 
 step-next : {T : Type 0} (cap : Option ℕ) (past : List (Event T)) (told : List (Told T)) (n : ℕ) (H : List (Entry T)) (R : List (ℕ × ℕ × Reply T)) (b c : Book T) (p : ℕ) (granted : Bool) (k : Option EffectKind) (r : Option (Reply T)) → Trace cap past told n H R b
-  → Steps b p k r c → Next cap past told n (Step p granted) (Ran k r) c
+    → Steps b p k r c → Next cap past told n (Step p granted) (Ran k r) c
 step-next {T} cap past told n H R b c p granted k r tr s = record {
-  H = added n p does.e H; R = answered n p r R;
+  H = added n p does.e H;
+  R = answered n p r R;
   trace = trace-more cap past told n H R b c (Step p granted) (Ran k r) does.e r tr (does.entry n p r) (replied r) does.fits does.leads
-    (entry-owes T cap past H R n p granted tr.len tr.early s.o since does.e r b.busy c.queue s.effects is does.effects does.may)
-    (reply-owes r refl s.goes)
-    (λ j o open_. opens j o (put-cases (λ j. at_open (watched c.queue) (b.open_call j)) p j (if is_some r then None else Some mine) o (sym (ap (λ z. z j) s.calls) ∙ open_)));
+      (entry-owes T cap past H R n p granted tr.len tr.early s.o since does.e r b.busy c.queue s.effects is does.effects does.may)
+      (reply-owes r refl s.goes)
+      (λ j o open_. opens j o (put-cases (λ j. at_open (watched c.queue) (b.open_call j)) p j (if is_some r then None else Some mine) o (sym (ap (λ z. z j) s.calls) ∙ open_)));
 }
   where
     does : Does b.queue s.o k c.queue s.effects
@@ -156,17 +157,17 @@ step-next {T} cap past told n H R b c p granted k r tr s = record {
     own-open None e goes o some =
         let same : mine ≡ o = cc in
         subst (λ z. Since cap (past ++ Step p granted ∷ []) (added n p does.e H) (answered n p r R) p (n + 1) z) same
-          (since-own T cap past H R n p granted tr.len tr.early s.o since does.e r b.busy c.queue s.effects is does.effects goes e)
+        (since-own T cap past H R n p granted tr.len tr.early s.o since does.e r b.busy c.queue s.effects is does.effects goes e)
     own-open (Some y) e goes o some = cc
 
     opens : (j : ℕ) (o : Open T) → ((j ≡ p) × ((if is_some r then None else Some mine) ≡ Some o)) ⊎ ((j ≢ p) × (at_open (watched c.queue) (b.open_call j) ≡ Some o))
-      → Since cap (past ++ Step p granted ∷ []) (added n p does.e H) (answered n p r R) j (n + 1) o
+        → Since cap (past ++ Step p granted ∷ []) (added n p does.e H) (answered n p r R) j (n + 1) o
     opens j o (inl m) = subst (λ q. Since cap (past ++ Step p granted ∷ []) (added n p does.e H) (answered n p r R) q (n + 1) o) (sym m.0) (own-open r refl s.goes o m.1)
     opens j o (inr m) =
         let old = at_open-cases (watched c.queue) (b.open_call j) o m.1 in
         subst (λ z. Since cap (past ++ Step p granted ∷ []) (added n p does.e H) (answered n p r R) j (n + 1) z) old.2
-          (since-watched cap (past ++ Step p granted ∷ []) (added n p does.e H) (answered n p r R) j n c.queue old.0 is
-            (since-other cap past (Step p granted ∷ []) H R n p j does.e r old.0 tr.early (inr m.0) (inr m.0) (tr.open_calls j old.0 old.1)))
+        (since-watched cap (past ++ Step p granted ∷ []) (added n p does.e H) (answered n p r R) j n c.queue old.0 is
+        (since-other cap past (Step p granted ∷ []) H R n p j does.e r old.0 tr.early (inr m.0) (inr m.0) (tr.open_calls j old.0 old.1)))
 
 happens-next : {T : Type 0} (cap : Option ℕ) (parties : ℕ) (past : List (Event T)) (told : List (Told T)) (n : ℕ) (H : List (Entry T)) (R : List (ℕ × ℕ × Reply T)) (b c : Book T) (x : Event T) (t : Told T) → Trace cap past told n H R b → Happens cap parties b x t c → Next cap past told n x t c
 happens-next cap parties past told n H R b c x Skipped tr h = skipped-next cap past told n H R b c x tr h.1
@@ -195,7 +196,17 @@ run-trace cap parties past (x ∷ es) told [] n H R b c tr run = absurd run
 pub has_history : {T A : Type 0} → ConformingHasHistory T A
 has_history {T} {A} cap parties events r c =
     let begins : Trace {T = T} cap [] [] 0 [] [] (opening cap) = record {
-      len = refl; same = refl; early = tt; legal = tt; leads = refl; kinds = refl; replies = refl; own = tt; fronts = tt; answers = tt; early_replies = tt;
+      len = refl;
+      same = refl;
+      early = tt;
+      legal = tt;
+      leads = refl;
+      kinds = refl;
+      replies = refl;
+      own = tt;
+      fronts = tt;
+      answers = tt;
+      early_replies = tt;
       open_calls = λ p o e. cc;
     } in
     let whole = run-trace cap parties [] events [] c.told 0 [] [] (opening cap) c.last begins c.run in
@@ -210,9 +221,11 @@ has_history {T} {A} cap parties events r c =
       fronts = rw same tr.fronts;
       answers = rw same tr.answers;
       unended = λ p o open_.
-        let s = tr.open_calls p o open_ in
-        record {
-          first = s.first; begins = s.begins; unanswered = rw same s.unanswered;
-          begun = rw (← tr.len) (rw s.own s.begun);
-        };
+          let s = tr.open_calls p o open_ in
+          record {
+            first = s.first;
+            begins = s.begins;
+            unanswered = rw same s.unanswered;
+            begun = rw (← tr.len) (rw s.own s.begun);
+          };
     }

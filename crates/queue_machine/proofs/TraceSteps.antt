@@ -1,24 +1,20 @@
 -- Where each call stands after an event.
-use Rattle.std.proofs.Common.{◌≡◌, ◌≢◌, ◌⊎◌, ◌∙◌, ℕ, zero, suc, ◌+◌, ◌<◌, ◌≤◌, ◌==◌, ◌||◌, not, Bool, true, false, if◌then◌else◌, Option, Some, None, is_some, is_none, List, [], ◌∷◌, ◌++◌, length, refl, sym, ap, subst, arith, inl, inr, get_or}
+use Rattle.std.proofs.Common.{◌≡◌, ◌≢◌, ◌⊎◌, ◌∙◌, ℕ, zero, suc, ◌+◌, ◌<◌, ◌≤◌, ◌||◌, not, Bool, true, false, Option, Some, None, List, [], ◌∷◌, ◌++◌, length, refl, sym, ap, subst, arith, inl, inr, get_or}
 use Rattle.std.specs.List.{Any}
 use Rattle.std.proofs.lemmas.Bool.Decides.{eqb_tells}
-use Rattle.queue_steps.specs.State.{State, start}
-use Rattle.queue_steps.specs.Effect.{Fits, made, after_from}
-use Rattle.queue_steps.specs.Replies.{Tells}
-use Rattle.queue_steps.specs.declared.model.Call.{Call}
+use Rattle.queue_steps.specs.State.{State}
 use Rattle.queue_steps.specs.declared.model.Effect.{Effect}
 use Rattle.queue_steps.specs.declared.model.Effect.TheVariants as effect
 use Rattle.queue_steps.specs.declared.model.Reply.{Reply}
 use Rattle.queue_machine.specs.declared.types.EffectKind.{EffectKind}
 use Rattle.queue_machine.specs.declared.types.Event.{Event}
 use Rattle.queue_machine.specs.declared.types.Event.TheVariants.{Begin, Step}
-use Rattle.queue_machine.specs.declared.types.Told.{Told}
 use Rattle.queue_machine.specs.declared.types.Told.TheVariants.{Ran}
-use Rattle.queue_machine.specs.Book.{Book, Open, Allows, IsBegun, Ends, Stays, GoesOn, Moves, MayMake, kind_of, put, at_open, watched, joined, after_own, seen_by}
-use Rattle.queue_machine.specs.Conforms.{reply_entry, effect_entry}
-use Rattle.queue_machine.specs.Meaning.{Each, event_at, Entry, kinds_in, state_after, own_effects, IsUnanswered, IsMoment, IsAnswer, SawOpen, FrontSawOpen, IsOwn}
-use Rattle.queue_machine.proofs.Entries.{each-more, each-all, event-within, event-more, event-last, Extends, state-late, own-last, own-mine, own-others}
-use Rattle.queue_machine.proofs.Trace.{Seen, SeenOpen, Since, Trace, added, answered, extends-added, FitsIf, made_if, unanswered-other, seen-more, opened-more, EntryOwes, ReplyOwes}
+use Rattle.queue_machine.specs.Book.{Open, Allows, Ends, Stays, Moves, MayMake, kind_of, put, at_open, watched, joined, after_own, seen_by}
+use Rattle.queue_machine.specs.Conforms.{effect_entry}
+use Rattle.queue_machine.specs.Meaning.{Each, event_at, Entry, kinds_in, state_after, own_effects, IsUnanswered, IsAnswer, SawOpen, FrontSawOpen}
+use Rattle.queue_machine.proofs.Entries.{each-more, each-all, event-within, event-more, event-last, state-late, own-last, own-mine, own-others}
+use Rattle.queue_machine.proofs.Trace.{Seen, SeenOpen, Since, added, answered, extends-added, FitsIf, made_if, unanswered-other, seen-more, opened-more, EntryOwes, ReplyOwes}
 
 -- whose call changes where one party's does
 pub put-cases : {T : Type 0} (f : ℕ → Option (Open T)) (p j : ℕ) (y : Option (Open T)) (o : Open T) → put f p y j ≡ Some o → ((j ≡ p) × (y ≡ Some o)) ⊎ ((j ≢ p) × (f j ≡ Some o))
@@ -44,7 +40,7 @@ own-other n p q first (Some e) H early (inr ne) = own-others p q first (n + 1) n
 
 -- a call that neither takes an effect nor is answered at this event
 pub since-other : {T : Type 0} (cap : Option ℕ) (past ys : List (Event T)) (H : List (Entry T)) (R : List (ℕ × ℕ × Reply T)) (n p q : ℕ) (e : Option (Effect T)) (r : Option (Reply T)) (o : Open T) → Each (λ x. x.event < n) H
-  → (e ≡ None) ⊎ (q ≢ p) → (r ≡ None) ⊎ (q ≢ p) → Since cap past H R q n o → Since cap (past ++ ys) (added n p e H) (answered n p r R) q (n + 1) o
+    → (e ≡ None) ⊎ (q ≢ p) → (r ≡ None) ⊎ (q ≢ p) → Since cap past H R q n o → Since cap (past ++ ys) (added n p e H) (answered n p r R) q (n + 1) o
 since-other cap past ys H R n p q e r o early no_effect no_reply s = record {
   first = s.first;
   begins = event-more past ys s.first (Begin q o.call) s.begins;
@@ -105,8 +101,7 @@ not_true true e = cc
 not_true false e = refl
 
 module _ (T : Type 0) (cap : Option ℕ) (past : List (Event T)) (H : List (Entry T)) (R : List (ℕ × ℕ × Reply T)) (n p : ℕ) (granted : Bool) (len : n ≡ length past) (early : Each (λ x. x.event < n) H)
-  (o : Open T) (s : Since cap past H R p n o) (e : Option (Effect T)) (r : Option (Reply T)) (busy : ℕ) (Q : State T) (es : List (Effect T)) (is : Q ≡ state_after cap (added n p e H) n) (effects : es ≡ effects_added o.effects e) where
-
+    (o : Open T) (s : Since cap past H R p n o) (e : Option (Effect T)) (r : Option (Reply T)) (busy : ℕ) (Q : State T) (es : List (Effect T)) (is : Q ≡ state_after cap (added n p e H) n) (effects : es ≡ effects_added o.effects e) where
   abbrev now : List (Event T)
   now = past ++ Step p granted ∷ []
 
@@ -123,14 +118,15 @@ module _ (T : Type 0) (cap : Option ℕ) (past : List (Event T)) (H : List (Entr
   own-now last upto = own-step n p s.first last e H o.effects early after upto s.own ∙ sym effects
 
   moments-now : Each (Seen cap now (added n p e H) p s.first (n + 1)) (Q ∷ o.moments)
-  moments-now =
-      (record { step = n; granted = granted; at = n; own_step = here; later = after; from = omega arith; upto = omega arith; state = is },
-       each-all _ _ o.moments (λ q m. seen-more cap past (Step p granted ∷ []) H (added n p e H) p s.first n q (extends-added n p e H) m) s.moments)
+  moments-now = (
+    record { step = n; granted = granted; at = n; own_step = here; later = after; from = omega arith; upto = omega arith; state = is },
+    each-all _ _ o.moments (λ q m. seen-more cap past (Step p granted ∷ []) H (added n p e H) p s.first n q (extends-added n p e H) m) s.moments,
+  )
 
   opened-now : (o.was_open || not Q.closed) ≡ true → SeenOpen cap now (added n p e H) p s.first (n + 1)
   opened-now was =
       elim (or_true o.was_open (not Q.closed) was) [
-        inl old ↦ opened-more cap past (Step p granted ∷ []) H (added n p e H) p s.first n (extends-added n p e H) (s.opened old)
+        | inl old ↦ opened-more cap past (Step p granted ∷ []) H (added n p e H) p s.first n (extends-added n p e H) (s.opened old)
         | inr new ↦ record { step = n; granted = granted; own_step = here; later = after; upto = omega arith; was_open = sym (ap (λ q. q.closed) is) ∙ not_true Q.closed new }
       ]
 
@@ -156,15 +152,16 @@ module _ (T : Type 0) (cap : Option ℕ) (past : List (Event T)) (H : List (Entr
     where
       answer : IsAnswer cap now (added n p e H) (answered n p (Some x) R) n p x
       answer = record {
-        first = s.first; call = o.call;
+        first = s.first;
+        call = o.call;
         begins = event-more past (Step p granted ∷ []) s.first (Begin p o.call) s.begins;
         unanswered = unanswered-now s.first (omega arith) (Some x);
         tells = rw (own-now n (omega arith)) ends.0;
         right = λ none.
-          let found = each-find (Seen cap now (added n p e H) p s.first (n + 1)) (Allows o.call x) (Q ∷ o.moments) moments-now (ends.1 (sym (own-now n (omega arith)) ∙ none)) in
-          let seen = found.1 in
-          let upto = seen.upto in
-          inl (found.0, record { step = seen.step; granted = seen.granted; at = seen.at; own_step = seen.own_step; later = seen.later; from = seen.from; upto = omega arith; state = seen.state }, found.2);
+            let found = each-find (Seen cap now (added n p e H) p s.first (n + 1)) (Allows o.call x) (Q ∷ o.moments) moments-now (ends.1 (sym (own-now n (omega arith)) ∙ none)) in
+            let seen = found.1 in
+            let upto = seen.upto in
+            inl (found.0, record { step = seen.step; granted = seen.granted; at = seen.at; own_step = seen.own_step; later = seen.later; from = seen.from; upto = omega arith; state = seen.state }, found.2);
       }
 
   saw-open : o.was_open ≡ true → (f : Effect T) → SawOpen cap now (added n p e H) (answered n p r R) (record { event = n; party = p; effect = f })
@@ -172,7 +169,10 @@ module _ (T : Type 0) (cap : Option ℕ) (past : List (Event T)) (H : List (Entr
       let old = s.opened was in
       let later = old.later in
       record {
-        step = old.step; granted = old.granted; own_step = event-more past (Step p granted ∷ []) old.step (Step p old.granted) old.own_step; before = old.upto;
+        step = old.step;
+        granted = old.granted;
+        own_step = event-more past (Step p granted ∷ []) old.step (Step p old.granted) old.own_step;
+        before = old.upto;
         unanswered = unanswered-now old.step (omega arith) r;
         was_open = ap (λ q. q.closed) (state-late cap n old.step H (added n p e H) (extends-added n p e H) old.upto) ∙ old.was_open;
       }

@@ -1,20 +1,11 @@
 -- Nothing is appended within a displacement, and how soon a call replies.
-use Rattle.std.proofs.Common.{◌≡◌, ◌≢◌, ◌⊎◌, ◌∙◌, ℕ, zero, suc, ◌+◌, ◌-◌, ◌<◌, ◌≤◌, ◌==◌, ◌&&◌, nat_lt, Bool, true, false, if◌then◌else◌, Option, Some, None, is_some, is_none, List, [], ◌∷◌, length, refl, sym, ap, subst, arith, inl, inr}
-use Rattle.std.proofs.lemmas.Bool.{ltb-true, eq-eqb, lt-ltb}
-use Rattle.std.proofs.lemmas.Bool.Decides.{eqb_tells}
+use Rattle.std.proofs.Common.{◌≡◌, Some, List, [], ◌∷◌, refl}
 use Rattle.queue_steps.specs.State.{State}
-use Rattle.queue_steps.specs.Effect.{Fits, made, Runs}
+use Rattle.queue_steps.specs.Effect.{made, Runs}
 use Rattle.queue_steps.specs.declared.model.Effect.{Effect}
 use Rattle.queue_steps.specs.declared.model.Effect.TheVariants as effect
-use Rattle.queue_steps.specs.declared.model.Reply.{Reply}
-use Rattle.queue_steps.specs.declared.sizes.TheConstants.{LONE_STEPS}
-use Rattle.queue_machine.specs.declared.types.Event.{Event}
-use Rattle.queue_machine.specs.declared.types.Event.TheVariants.{Begin, Step}
-use Rattle.queue_machine.specs.declared.types.Told.{Told}
-use Rattle.queue_machine.specs.declared.types.Told.TheVariants.{Skipped, Ran}
-use Rattle.queue_machine.specs.Book.{Book, Open, Run, Happens, Steps, Stays, is_prompt, opening, put, at_open, joined, watched, after_own, begun}
 use Rattle.queue_machine.specs.Meaning.{Each}
-use Rattle.queue_machine.specs.Within.{IsNotArrive, IsNotAppend, NothingAppendedWithin, own_steps, IsSilent, IsNoBeginning, EachTold, LoneCallsReply, PromptCallsReply}
+use Rattle.queue_machine.specs.Within.{IsNotArrive, IsNotAppend, NothingAppendedWithin}
 
 -- while an item is on its way in
 coming-within : {T : Type 0} (Q : State T) (v : T) (es : List (Effect T)) → Q.coming ≡ Some v → Runs Q es → Each IsNotArrive es → Each IsNotAppend es

@@ -5,7 +5,6 @@ use Rattle.queue_steps.specs.Effect.{IsHistory, after}
 use Rattle.queue_steps.specs.Replies.{IsRightAt, Tells}
 use Rattle.queue_steps.specs.declared.model.Call.{Call}
 use Rattle.queue_steps.specs.declared.model.Effect.{Effect}
-use Rattle.queue_steps.specs.declared.model.Effect.TheVariants as effect
 use Rattle.queue_steps.specs.declared.model.Reply.{Reply}
 use Rattle.queue_machine.specs.declared.types.EffectKind.{EffectKind}
 use Rattle.queue_machine.specs.declared.types.EffectKind.TheVariants as kind
@@ -73,7 +72,7 @@ pub record IsMoment {T : Type 0} (cap : Option ℕ) (events : List (Event T)) (H
 abbrev pub IsRightBetween : {T : Type 0} → Option ℕ → List (Event T) → List (Entry T) → ℕ → ℕ → ℕ → Call T → Reply T → Type 0
 IsRightBetween {T} cap events H p first last c x =
     ((Q : State T) × IsMoment cap events H p first last Q × Allows c x Q)
-      ⊎ ((has_steps cap c ≡ false) × (last ≡ first) × IsRightAt (state_after cap H last) c x)
+    ⊎ ((has_steps cap c ≡ false) × (last ≡ first) × IsRightAt (state_after cap H last) c x)
 
 -- the reply x, told of party p at the event `last`, answers the call that the party began last, whose effects since then are those that the reply stands for; without effects it is right between
 pub record IsAnswer {T : Type 0} (cap : Option ℕ) (events : List (Event T)) (H : List (Entry T)) (replies : List (ℕ × ℕ × Reply T)) (last p : ℕ) (x : Reply T) : Type 0 where

@@ -1,15 +1,14 @@
 -- Laws of runs: what stands within a displacement, and how soon a call replies.
-use Rattle.std.specs.Prelude.{◌≡◌, ◌≢◌, ℕ, ◌+◌, ◌<◌, ◌≤◌, Bool, true, Option, Some, None, List, [], ◌∷◌, if◌then◌else◌, ◌==◌}
+use Rattle.std.specs.Prelude.{◌≡◌, ◌≢◌, ℕ, ◌+◌, ◌<◌, true, Option, Some, None, List, ◌∷◌, if◌then◌else◌, ◌==◌}
 use Rattle.queue_steps.specs.declared.sizes.TheConstants.{LONE_STEPS}
 use Rattle.queue_steps.specs.State.{State}
 use Rattle.queue_steps.specs.Effect.{Runs}
 use Rattle.queue_steps.specs.declared.model.Effect.{Effect}
 use Rattle.queue_steps.specs.declared.model.Effect.TheVariants as effect
-use Rattle.queue_steps.specs.declared.model.Reply.{Reply}
 use Rattle.queue_machine.specs.declared.types.Event.{Event}
 use Rattle.queue_machine.specs.declared.types.Event.TheVariants.{Begin, Step}
 use Rattle.queue_machine.specs.declared.types.Told.{Told}
-use Rattle.queue_machine.specs.declared.types.Told.TheVariants.{Skipped, Ran}
+use Rattle.queue_machine.specs.declared.types.Told.TheVariants.{Ran}
 use Rattle.queue_machine.specs.Book.{Book, Open, Run, is_prompt, opening}
 use Rattle.queue_machine.specs.Meaning.{Each}
 
@@ -52,12 +51,12 @@ EachTold P _ _ = Unit {0}
 -- call begins and p has not replied, it takes fewer than 64 steps: so it replies by its 64th.
 abbrev pub LoneCallsReply : Type 0 → Type 0
 LoneCallsReply T = (cap : Option ℕ) (parties : ℕ) (past es : List (Event T)) (told ts : List (Told T)) (b c : Book T) (p : ℕ) (o : Open T)
-  → Run cap parties (opening cap) past told b → Run cap parties b es ts c
-  → b.open_call p ≡ Some o → ((j : ℕ) → j ≢ p → b.open_call j ≡ None)
-  → EachTold IsNoBeginning es ts → EachTold (IsSilent p) es ts → own_steps p es ts < LONE_STEPS
+    → Run cap parties (opening cap) past told b → Run cap parties b es ts c
+    → b.open_call p ≡ Some o → ((j : ℕ) → j ≢ p → b.open_call j ≡ None)
+    → EachTold IsNoBeginning es ts → EachTold (IsSilent p) es ts → own_steps p es ts < LONE_STEPS
 
 -- A prompt call that is in progress has taken one step at most: so it replies by its second.
 abbrev pub PromptCallsReply : Type 0 → Type 0
 PromptCallsReply T = (cap : Option ℕ) (parties : ℕ) (past es : List (Event T)) (told ts : List (Told T)) (b c : Book T) (p : ℕ) (o : Open T)
-  → Run cap parties (opening cap) past told b → Run cap parties b es ts c
-  → b.open_call p ≡ Some o → is_prompt o.call ≡ true → EachTold (IsSilent p) es ts → own_steps p es ts < 2
+    → Run cap parties (opening cap) past told b → Run cap parties b es ts c
+    → b.open_call p ≡ Some o → is_prompt o.call ≡ true → EachTold (IsSilent p) es ts → own_steps p es ts < 2
