@@ -37,3 +37,4 @@ pub mod TraceRun
 pub mod Within
 pub mod Lone
 pub mod LoneRun
+pub mod Skips

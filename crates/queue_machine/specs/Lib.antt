@@ -9,3 +9,4 @@ pub mod Replays
 pub mod OneOwner
 pub mod Meaning
 pub mod Within
+pub mod Skips
