@@ -1,6 +1,5 @@
 -- Every kind of queue that the machine has keeps the laws, and so every run of it conforms.
-use Rattle.std.proofs.Common.{ℕ, ◌+◌, ◌<◌, ◌≤◌, ◌≡◌, ◌∙◌, Bool, true, false, Option, Some, None, List, [], ◌∷◌, ◌++◌, length, refl, sym, ap, arith, IsSome}
-use Rattle.queue_steps.specs.State.{State}
+use Rattle.std.proofs.Common.{ℕ, ◌≤◌, ◌≡◌, false, Some, List, [], ◌∷◌, ◌++◌, length, refl, arith}
 use Rattle.queue_steps.specs.declared.model.Call.{Call}
 use Rattle.queue_steps.specs.declared.model.Call.TheVariants as call
 use Rattle.queue_steps.specs.declared.model.Reply.{Reply}
@@ -13,9 +12,8 @@ use Rattle.queue_machine.specs.declared.types.Event.{Event}
 use Rattle.queue_machine.specs.declared.types.Event.TheVariants.{Begin, Step}
 use Rattle.queue_machine.specs.declared.types.Told.{Told}
 use Rattle.queue_machine.specs.declared.types.Replay.{Replay}
-use Rattle.queue_machine.specs.Book.{Book}
-use Rattle.queue_machine.specs.Cells.{Shared, CanStart, CanStep}
-use Rattle.queue_machine.specs.Conforms.{Conforms, capacity_of, party_of, reply_entry, effect_entry, skipped_entry, ComesBy, IsPeak}
+use Rattle.queue_machine.specs.Cells.{Shared, CanStart}
+use Rattle.queue_machine.specs.Conforms.{Conforms, capacity_of, party_of, reply_entry, effect_entry, skipped_entry}
 use Rattle.queue_machine.specs.Left.{left_of, opening_world, HasSlot}
 use Rattle.queue_machine.specs.Replays.{CanReplay, is_too_large}
 use Rattle.queue_machine.specs.Conforms.{HasNoBlocks}
@@ -72,15 +70,15 @@ known-first {T} k parties has = record { has = has; so_far = so_far-first (laws_
 
 -- any event can be handled
 pub known-can : {T : Type 0} (k : Kind) (parties : ℕ) (past : List (Event T)) (w : World (Shared T) (Running T)) (replies : List (ℕ × ℕ × Reply T)) (effects : List (ℕ × ℕ × EffectKind)) (skipped : List ℕ)
-  → Known k parties past w replies effects skipped → (e : Event T) → CanHandle k w e
+    → Known k parties past w replies effects skipped → (e : Event T) → CanHandle k w e
 known-can {T} k parties past w replies effects skipped known (Begin p c) = can_start k known.has c
 known-can {T} k parties past w replies effects skipped known (Step p granted) = so_far-can (laws_of T k known.has) parties past w replies effects skipped known.so_far p
 
 -- after one event more, as a loop finds it
 pub known-next : {T : Type 0} (k : Kind) (parties : ℕ) (past : List (Event T)) (w w' : World (Shared T) (Running T)) (rs rs' : List (ℕ × ℕ × Reply T)) (es es' : List (ℕ × ℕ × EffectKind)) (ss ss' : List ℕ) (e : Event T) (n p : ℕ) (t : Told T)
-  → Known k parties past w rs es ss → n ≡ length past → p ≡ party_of e → t ≡ (event_of k w e).1 → w' ≡ (event_of k w e).0
-  → rs' ≡ rs ++ reply_entry n p t → es' ≡ es ++ effect_entry n p t → ss' ≡ ss ++ skipped_entry n p t
-  → Known k parties (past ++ e ∷ []) w' rs' es' ss'
+    → Known k parties past w rs es ss → n ≡ length past → p ≡ party_of e → t ≡ (event_of k w e).1 → w' ≡ (event_of k w e).0
+    → rs' ≡ rs ++ reply_entry n p t → es' ≡ es ++ effect_entry n p t → ss' ≡ ss ++ skipped_entry n p t
+    → Known k parties (past ++ e ∷ []) w' rs' es' ss'
 known-next {T} k parties past w w' rs rs' es es' ss ss' e n p t known en ep et ew er ee es-is =
     rw (ew, er, ee, es-is, en, ep, et) (record { has = known.has; so_far = so_far-more (laws_of T k known.has) parties past w rs es ss e known.so_far })
 
@@ -96,7 +94,7 @@ capped kind.Unbounded has = absurd has
 
 -- the whole run
 pub known-end : {T A : Type 0} (k : Kind) (parties : ℕ) (events : List (Event T)) (w : World (Shared T) (Running T)) (r : Replay T A)
-  → Known k parties events w r.replies.items r.effects.items r.skipped.items → r.left.items ≡ left_of k w → (r.peak.blocks ≡ 0) × (r.peak.bound ≡ 2) → Conforms (capacity_of k) parties events r
+    → Known k parties events w r.replies.items r.effects.items r.skipped.items → r.left.items ≡ left_of k w → (r.peak.blocks ≡ 0) × (r.peak.bound ≡ 2) → Conforms (capacity_of k) parties events r
 known-end {T} k parties events w r known left peak = so_far-end (laws_of T k known.has) parties events w r known.so_far left (capped k known.has).0 (capped k known.has).1 peak.0 peak.1
 
 -- the machine has the queue that `replay` is asked for

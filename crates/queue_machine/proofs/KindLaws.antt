@@ -1,5 +1,5 @@
 -- What a kind of queue owes, so that every run of it conforms.
-use Rattle.std.specs.Prelude.{◌≡◌, ℕ, Bool}
+use Rattle.std.specs.Prelude.{◌≡◌, ℕ}
 use Rattle.queue_steps.specs.State.{State, start}
 use Rattle.queue_steps.specs.declared.steps.types.Kind.{Kind}
 use Rattle.queue_machine.specs.declared.machine.Running.{Running}

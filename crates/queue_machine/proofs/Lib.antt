@@ -30,3 +30,11 @@ pub mod AllKinds
 pub mod OwnerRows
 pub mod OneOwner
 pub mod OneOwnerRun
+pub mod Entries
+pub mod Trace
+pub mod TraceSteps
+pub mod TraceRun
+pub mod Within
+pub mod Lone
+pub mod LoneRun
+pub mod Skips

@@ -1,13 +1,11 @@
 -- With one party, the replies are those of a queue that has one owner.
-use Rattle.std.proofs.Common.{ℕ, ◌+◌, ◌-◌, ◌<◌, ◌≤◌, ◌≡◌, ◌==◌, ◌&&◌, ◌||◌, ◌⊎◌, ◌∙◌, inl, inr, nat_lt, not, Bool, true, false, if◌then◌else◌, Option, Some, None, is_some, is_none, Ok, Err, List, [], ◌∷◌, ◌++◌, length, map, refl, sym, ap, subst, arith, get_or, zero, suc}
+use Rattle.std.proofs.Common.{ℕ, ◌+◌, ◌<◌, ◌≤◌, ◌≡◌, ◌||◌, ◌⊎◌, ◌∙◌, inl, inr, not, Bool, true, false, if◌then◌else◌, Option, Some, None, Err, List, [], ◌∷◌, ◌++◌, length, refl, sym, ap, subst, arith, get_or, zero, suc}
 use Rattle.std.specs.List.{Any}
-use Rattle.std.specs.Option.{option_to_list}
-use Rattle.std.proofs.lemmas.Bool.{ltb-true}
-use Rattle.queue_steps.specs.State.{State, start, is_single_cap}
+use Rattle.queue_steps.specs.State.{State, is_single_cap}
 use Rattle.queue_steps.specs.Effect.{Fits, made, Runs, after_from}
 use Rattle.queue_steps.specs.Legal.{IsShown}
 use Rattle.queue_steps.specs.Replies.{IsRightAt, Tells}
-use Rattle.queue_steps.specs.Sole.{Owned, Sole, SoleRun, MayAsk, moved, sole_reply, sole_state, push_state, force_push_state, counted, is_spent}
+use Rattle.queue_steps.specs.Sole.{Owned, Sole, MayAsk, moved, sole_reply, sole_state, counted, is_spent}
 use Rattle.queue_steps.specs.State.{is_full}
 use Rattle.queue_steps.specs.declared.model.Call.{Call}
 use Rattle.queue_steps.specs.declared.model.Call.TheVariants as call
@@ -18,17 +16,8 @@ use Rattle.queue_steps.specs.declared.model.Reply.TheVariants as reply
 use Rattle.queue_steps.specs.declared.errors.PushError.TheVariants as push
 use Rattle.queue_steps.specs.declared.errors.ForcePushError.TheVariants as force
 use Rattle.queue_machine.specs.declared.types.EffectKind.{EffectKind}
-use Rattle.queue_machine.specs.declared.types.EffectKind.TheVariants as kind
-use Rattle.queue_machine.specs.declared.types.Event.{Event}
-use Rattle.queue_machine.specs.declared.types.Event.TheVariants.{Begin, Step}
-use Rattle.queue_machine.specs.declared.types.Replay.{Replay}
-use Rattle.queue_machine.specs.declared.types.Told.{Told}
-use Rattle.queue_machine.specs.declared.types.Told.TheVariants.{Skipped, Ran}
-use Rattle.queue_machine.specs.Book.{Book, Open, Allows, MayAskAt, IsRefusal, Ends, GoesOn, Moves, MayMake, kind_of, Steps, Happens, Run, begun, has_steps, after_own, put, at_open, watched, opening}
-use Rattle.queue_machine.specs.Conforms.{Conforms, entries_from, reply_entry}
-use Rattle.queue_machine.specs.OneOwner.{begun_calls, fresh, reply_in, IsSoleRun}
+use Rattle.queue_machine.specs.Book.{Open, Allows, MayAskAt, Ends, Moves, MayMake, kind_of, has_steps, after_own}
 use Rattle.queue_machine.proofs.OwnerRows.{Same, with_count, Does, FrontOpen, does_row}
-use Rattle.queue_machine.proofs.SoFar.{Run-length}
 
 -- each moment is this one
 abbrev Only : {T : Type 0} → State T → List (State T) → Type 0
@@ -76,16 +65,17 @@ same_count S Q h = elim h.accepted [ inl e ↦ inl (rw h.cap at e) | inr e ↦ i
 
 pub in_table : {T : Type 0} (S : Owned T) (Q Q' : State T) (c : Call T) (r : Reply T) (es : List (Effect T)) → Agrees S Q → Does Q S.queue.accepted c r es → after_from Q es ≡ Q' → Done S Q' c r
 in_table S Q Q' c r es h d e =
-    let same = same_state S Q h.shown in
-    (moved S (sole_state S.queue c),
-     inl (subst (λ q. r ≡ sole_reply q c) (sym same) d.reply_is, refl),
-     record {
-       shown = subst (λ q. IsShown (sole_state S.queue c) q) e (subst (λ q. IsShown (sole_state q c) (after_from Q es)) (sym same) d.shown);
-       idle = subst (λ q. q.coming ≡ None) e d.none;
-       blocks = λ zero.
-         let before : S.blocks ≡ 0 = h.blocks (omega (arith, counts-up S.queue c, zero)) in
-         rw zero before;
-     })
+    let same = same_state S Q h.shown in (
+      moved S (sole_state S.queue c),
+      inl (subst (λ q. r ≡ sole_reply q c) (sym same) d.reply_is, refl),
+      record {
+        shown = subst (λ q. IsShown (sole_state S.queue c) q) e (subst (λ q. IsShown (sole_state q c) (after_from Q es)) (sym same) d.shown);
+        idle = subst (λ q. q.coming ≡ None) e d.none;
+        blocks = λ zero.
+            let before : S.blocks ≡ 0 = h.blocks (omega (arith, counts-up S.queue c, zero)) in
+            rw zero before;
+      },
+    )
 
 -- want of memory
 refused : {T : Type 0} (S : Owned T) (Q : State T) → Agrees S Q → MayAskAt Q → MayAsk S
@@ -98,13 +88,13 @@ finish : {T : Type 0} (S : Owned T) (Q Q' : State T) (c : Call T) (r : Reply T) 
 finish S Q Q' (call.Push v) (reply.Push (Err (push.NoMemory w))) es h tells runs e allows opened =
     let same : Q ≡ Q' = subst (λ l. after_from Q l ≡ Q') tells.1 e in
     elim (allows tells.1) [
-      inl right ↦ absurd right
+      | inl right ↦ absurd right
       | inr m ↦ (S, inr ((refused S Q h m.1, rw tells.0 refl), refl), subst (λ q. Agrees S q) same h)
     ]
 finish S Q Q' (call.ForcePush v) (reply.ForcePush (Err (force.NoMemory w))) es h tells runs e allows opened =
     let same : Q ≡ Q' = subst (λ l. after_from Q l ≡ Q') tells.1 e in
     elim (allows tells.1) [
-      inl right ↦ absurd right
+      | inl right ↦ absurd right
       | inr m ↦ (S, inr ((refused S Q h m.1, rw tells.0 refl), refl), subst (λ q. Agrees S q) same h)
     ]
 finish S Q Q' c (reply.Push (Err (push.NoMemory w))) es h tells runs e allows opened = absurd tells
@@ -169,13 +159,14 @@ midway-more S Q R o None es busy h m =
     let same : es ≡ o.effects = m.1 in
     let lead : after_from h.from es ≡ R = ap (λ l. after_from h.from l) same ∙ h.leads ∙ sym m.0 in
     record {
-      from = h.from; agrees = h.agrees;
+      from = h.from;
+      agrees = h.agrees;
       runs = rw same h.runs;
       leads = lead;
       only = λ none. (sym lead ∙ ap (λ l. after_from h.from l) none, h.only (sym same ∙ none));
       seen = λ none open_.
-        let here : R ≡ h.from = sym lead ∙ ap (λ l. after_from h.from l) none in
-        elim (or_true o.was_open (not R.closed) open_) [ inl e ↦ h.seen (sym same ∙ none) e | inr e ↦ ap (λ q. q.closed) (sym here) ∙ not_true R.closed e ];
+          let here : R ≡ h.from = sym lead ∙ ap (λ l. after_from h.from l) none in
+          elim (or_true o.was_open (not R.closed) open_) [ inl e ↦ h.seen (sym same ∙ none) e | inr e ↦ ap (λ q. q.closed) (sym here) ∙ not_true R.closed e ];
       first = rw same h.first;
     }
 midway-more S Q R o (Some k) es busy h m =
@@ -183,7 +174,8 @@ midway-more S Q R o (Some k) es busy h m =
     let fits : Fits e (after_from h.from o.effects) = rw h.leads m.3 in
     let may : MayMake (kind_of e) o = rw m.1 m.2 in
     record {
-      from = h.from; agrees = h.agrees;
+      from = h.from;
+      agrees = h.agrees;
       runs = rw m.5 (runs-more h.from o.effects e h.runs fits);
       leads = ap (λ l. after_from h.from l) m.5 ∙ after-more h.from o.effects e ∙ ap (λ q. made e q) h.leads ∙ sym m.4;
       only = λ none. absurd (not_empty o.effects e (sym m.5 ∙ none));

@@ -2,26 +2,20 @@
 use Rattle.std.proofs.Common.{ℕ, ◌+◌, ◌<◌, ◌≡◌, ◌&&◌, ◌∙◌, nat_lt, Bool, true, false, Option, Some, None, is_some, is_none, List, [], ◌∷◌, ◌++◌, length, map, refl, sym, ap, subst, arith, inr}
 use Rattle.std.specs.Option.{option_to_list}
 use Rattle.std.proofs.lemmas.Bool.{ltb-true}
-use Rattle.queue_steps.specs.State.{State, start}
+use Rattle.queue_steps.specs.State.{start}
 use Rattle.queue_steps.specs.Legal.{IsShown}
-use Rattle.queue_steps.specs.Replies.{IsRightAt}
 use Rattle.queue_steps.specs.Sole.{Owned, SoleRun}
 use Rattle.queue_steps.specs.declared.model.Call.{Call}
-use Rattle.queue_steps.specs.declared.model.Call.TheVariants as call
-use Rattle.queue_steps.specs.declared.model.Effect.{Effect}
-use Rattle.queue_steps.specs.declared.model.Effect.TheVariants as effect
 use Rattle.queue_steps.specs.declared.model.Reply.{Reply}
-use Rattle.queue_steps.specs.declared.model.Reply.TheVariants as reply
-use Rattle.queue_machine.specs.declared.types.EffectKind.{EffectKind}
 use Rattle.queue_machine.specs.declared.types.Event.{Event}
 use Rattle.queue_machine.specs.declared.types.Event.TheVariants.{Begin, Step}
 use Rattle.queue_machine.specs.declared.types.Replay.{Replay}
 use Rattle.queue_machine.specs.declared.types.Told.{Told}
 use Rattle.queue_machine.specs.declared.types.Told.TheVariants.{Skipped, Ran}
-use Rattle.queue_machine.specs.Book.{Book, Open, Happens, Run, Steps, begun, after_own, put, at_open, opening, has_steps}
+use Rattle.queue_machine.specs.Book.{Book, Open, Run, begun, after_own, opening}
 use Rattle.queue_machine.specs.Conforms.{Conforms, entries_from, reply_entry}
 use Rattle.queue_machine.specs.OneOwner.{begun_calls, fresh, reply_in, IsSoleRun}
-use Rattle.queue_machine.proofs.OneOwner.{Agrees, Ready, Midway, Done, in_table, midway-more, midway-ends, at_once}
+use Rattle.queue_machine.proofs.OneOwner.{Agrees, Ready, Midway, midway-more, midway-ends, at_once}
 use Rattle.queue_machine.proofs.SoFar.{Run-length}
 
 abbrev pending : {T : Type 0} → Option (Open T) → List (Call T) → List (Call T)
@@ -52,7 +46,7 @@ none_open None e = refl
 none_open (Some x) e = cc
 
 sole_from : {T : Type 0} (cap : Option ℕ) (b : Book T) (es : List (Event T)) (ts : List (Told T)) (c : Book T) (y : Option (Open T)) (S : Owned T)
-  → Run cap 1 b es ts c → b.open_call 0 ≡ y → Ready S b.queue y → Rest S y es ts c
+    → Run cap 1 b es ts c → b.open_call 0 ≡ y → Ready S b.queue y → Rest S y es ts c
 sole_from cap b [] [] c None S run is ready =
     record { calls = []; unended = None; begun_are = refl; last = S; run = refl; shown = λ e. subst (λ q. IsShown S.queue q) (sym (ap (λ x. x.queue) run)) ready.shown }
 sole_from cap b [] [] c (Some o) S run is ready =
@@ -69,8 +63,8 @@ sole_from cap b (Begin p k ∷ es) (Ran None None ∷ ts) c None S run is ready 
     let f = first_party p (is_none (b.open_call p)) run.1.0 in
     let here : Midway S b.queue (begun k) = record { from = b.queue; agrees = ready; runs = tt; leads = refl; only = λ e. tt; seen = λ e x. cc; first = tt } in
     let rest = sole_from cap run.0 es ts c (Some (begun k)) S run.2
-      (ap (λ x. x.open_call 0) run.1.2 ∙ rw f.0 refl)
-      (subst (λ x. Ready S x (Some (begun k))) (sym (ap (λ x. x.queue) run.1.2)) here) in
+    (ap (λ x. x.open_call 0) run.1.2 ∙ rw f.0 refl)
+    (subst (λ x. Ready S x (Some (begun k))) (sym (ap (λ x. x.queue) run.1.2)) here) in
     record { calls = rest.calls; unended = rest.unended; begun_are = rest.begun_are; last = rest.last; run = rest.run; shown = rest.shown }
 sole_from cap b (Begin p k ∷ es) (Ran None (Some r) ∷ ts) c None S run is ready =
     let done = at_once cap S b.queue k r ready run.1.1 run.1.2 in

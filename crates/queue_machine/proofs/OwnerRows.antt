@@ -1,11 +1,11 @@
 -- A call whose effects stand one after another, with nothing of another call between them, is a call of the one-owner table.
-use Rattle.std.proofs.Common.{◌≡◌, ◌⊎◌, ◌∙◌, ℕ, ◌+◌, ◌-◌, ◌<◌, ◌≤◌, ◌%◌, ◌==◌, ◌&&◌, nat_eq, Bool, true, false, not, if◌then◌else◌, Option, Some, None, Ok, Err, List, [], ◌∷◌, ◌++◌, length, refl, sym, ap, subst, arith, inl, inr}
+use Rattle.std.proofs.Common.{◌≡◌, ◌⊎◌, ℕ, ◌+◌, ◌==◌, ◌&&◌, true, false, not, if◌then◌else◌, Some, None, Ok, Err, List, [], ◌∷◌, refl, sym, ap, subst, arith, inl, inr}
 use Rattle.queue_steps.specs.declared.sizes.TheConstants.{LIMIT}
-use Rattle.queue_steps.specs.State.{State, is_full, is_single_cap, fills, IsBelow}
-use Rattle.queue_steps.specs.Effect.{Fits, made, rest, with_coming, Runs, after_from}
+use Rattle.queue_steps.specs.State.{State, is_full, is_single_cap, IsBelow}
+use Rattle.queue_steps.specs.Effect.{Runs, after_from}
 use Rattle.queue_steps.specs.Legal.{IsShown}
-use Rattle.queue_steps.specs.Replies.{IsRightAt, Tells, is_empty}
-use Rattle.queue_steps.specs.Sole.{sole_reply, sole_state, is_spent, counted, front, pop_result}
+use Rattle.queue_steps.specs.Replies.{IsRightAt, Tells}
+use Rattle.queue_steps.specs.Sole.{sole_reply, sole_state, is_spent, counted}
 use Rattle.queue_steps.specs.declared.model.Call.{Call}
 use Rattle.queue_steps.specs.declared.model.Call.TheVariants as call
 use Rattle.queue_steps.specs.declared.model.Reply.{Reply}

@@ -1,5 +1,5 @@
 -- The slots once every call that is about to write has written, and the items that are gathered from them.
-use Rattle.std.proofs.Common.{◌≡◌, ◌≢◌, ◌⊎◌, ◌∙◌, ℕ, zero, suc, ◌+◌, ◌*◌, ◌/◌, ◌%◌, ◌<◌, ◌≤◌, ◌==◌, Bool, true, false, Option, Some, None, List, [], ◌∷◌, ◌++◌, length, get_or, set, get_or-set_same, get_or-set_other, refl, sym, ap, arith, inl, inr}
+use Rattle.std.proofs.Common.{◌≡◌, ◌≢◌, ◌⊎◌, ◌∙◌, ℕ, zero, suc, ◌+◌, ◌*◌, ◌/◌, ◌%◌, ◌<◌, ◌≤◌, ◌==◌, Bool, true, false, Option, Some, None, List, [], ◌∷◌, length, get_or, set, get_or-set_same, get_or-set_other, refl, sym, ap, arith, inl, inr}
 use Rattle.std.proofs.Math.Nat.{div-add-mod, mul-le-mul_left}
 use Rattle.std.proofs.lemmas.List.{length-set}
 use Rattle.std.proofs.lemmas.Bool.Decides.{eqb_tells}
@@ -62,12 +62,12 @@ settled-none (x ∷ xs) slots i all =
 
 -- a slot that the call of one party alone is about to write then holds what that call carries
 pub settled-one : {T : Type 0} (calls : List (Option (Running T))) (slots : List (Option T)) (i who : ℕ) (r : Running T) → i < length slots
-  → get_or calls who None ≡ Some r → writes_slot r.touch i ≡ true → ((p : ℕ) → p ≢ who → writes (get_or calls p None) i ≡ false)
-  → get_or (settled calls slots) i None ≡ r.carried
+    → get_or calls who None ≡ Some r → writes_slot r.touch i ≡ true → ((p : ℕ) → p ≢ who → writes (get_or calls p None) i ≡ false)
+    → get_or (settled calls slots) i None ≡ r.carried
 settled-one [] slots i who r lt there here others = cc
 settled-one (x ∷ xs) slots i zero r lt there here others =
     settled-none xs (written_by x slots) i (λ p. others (suc p) (λ e. absurd (omega arith)))
-      ∙ ap (λ y. get_or (written_by y slots) i None) there ∙ written-same r.touch r.carried slots i lt here
+    ∙ ap (λ y. get_or (written_by y slots) i None) there ∙ written-same r.touch r.carried slots i lt here
 settled-one (x ∷ xs) slots i (suc who) r lt there here others =
     let long : i < length (written_by x slots) = rw (length-written_by x slots) lt in
     settled-one xs (written_by x slots) i who r long there here (λ p ne. others (suc p) (λ e. ne (omega arith)))
@@ -95,12 +95,12 @@ nth (x ∷ xs) (suc j) = nth xs j
 
 -- no more items than slots, each in the slot of its position, are gathered in their order
 pub gathered-items : {T : Type 0} (n p : ℕ) (items : List T) (slots : List (Option T)) → 0 < n → length items ≤ n
-  → ((j : ℕ) → j < length items → get_or slots (slot_at n (p + j)) None ≡ nth items j) → gathered n p (length items) slots ≡ items
+    → ((j : ℕ) → j < length items → get_or slots (slot_at n (p + j)) None ≡ nth items j) → gathered n p (length items) slots ≡ items
 gathered-items n p [] slots some few all = refl
 gathered-items n p (x ∷ xs) slots some few all =
     let here : get_or slots (slot_at n p) None ≡ Some x = ap (λ q. get_or slots (slot_at n q) None) (omega arith) ∙ all 0 (omega arith) in
     let rest = gathered-items n (p + 1) xs (set slots (slot_at n p) None) some (omega arith) (λ j lt.
-      let q : (p + 1) + j ≡ p + suc j = omega arith in
-      get_or-set_other slots (slot_at n p) (slot_at n ((p + 1) + j)) None None (slots-apart n p ((p + 1) + j) some (omega arith) (omega arith))
-        ∙ ap (λ k. get_or slots (slot_at n k) None) q ∙ all (suc j) (omega arith)) in
+    let q : (p + 1) + j ≡ p + suc j = omega arith in
+    get_or-set_other slots (slot_at n p) (slot_at n ((p + 1) + j)) None None (slots-apart n p ((p + 1) + j) some (omega arith) (omega arith))
+    ∙ ap (λ k. get_or slots (slot_at n k) None) q ∙ all (suc j) (omega arith)) in
     rw (here, rest) refl

@@ -1,27 +1,23 @@
 -- One slot keeps the laws of the engine.
-use Rattle.std.proofs.Common.{ℕ, ◌+◌, ◌<◌, ◌≤◌, ◌≡◌, ◌≢◌, ◌==◌, ◌||◌, ◌∙◌, inl, inr, not, Bool, true, false, if◌then◌else◌, Option, Some, None, is_some, List, [], ◌∷◌, length, refl, sym, ap, subst, arith, get_or, zero, suc, IsSome}
+use Rattle.std.proofs.Common.{ℕ, ◌+◌, ◌<◌, ◌≤◌, ◌≡◌, ◌≢◌, ◌==◌, ◌∙◌, inl, inr, Bool, true, false, if◌then◌else◌, Option, Some, None, List, [], ◌∷◌, refl, sym, ap, arith, IsSome}
 use Rattle.std.proofs.lemmas.Bool.{eq-eqb}
 use Rattle.std.proofs.lemmas.Bool.Decides.{eqb_tells}
-use Rattle.queue_steps.specs.State.{State, start}
+use Rattle.queue_steps.specs.State.{State}
 use Rattle.queue_steps.specs.declared.model.Call.{Call}
 use Rattle.queue_steps.specs.declared.model.Call.TheVariants as call
 use Rattle.queue_steps.specs.declared.model.Reply.{Reply}
-use Rattle.queue_steps.specs.declared.model.Reply.TheVariants as reply
 use Rattle.queue_steps.specs.declared.model.Effect.{Effect}
-use Rattle.queue_steps.specs.declared.model.Effect.TheVariants as effect
-use Rattle.queue_steps.specs.declared.errors.PopError.TheVariants as pop
 use Rattle.queue_steps.specs.declared.steps.types.Kind.TheVariants as kind
 use Rattle.queue_steps.specs.declared.steps.types.Look.TheVariants as look
 use Rattle.queue_steps.specs.declared.steps.types.Next.{Next}
 use Rattle.queue_steps.specs.declared.steps.types.Next.TheVariants as next
 use Rattle.queue_steps.specs.Kinds.{filled}
 use Rattle.queue_machine.specs.declared.machine.Running.{Running}
-use Rattle.queue_machine.specs.Book.{Open, Stays, Ends, IsBegun, is_prompt, watched, joined, after_own, begun}
+use Rattle.queue_machine.specs.Book.{Open, is_prompt, after_own, begun}
 use Rattle.queue_machine.specs.Cells.{Shared, CanStep, CanReply, step_of, start_of, running_after, reply_after, next_after, carried_then}
-use Rattle.queue_machine.specs.World.{Made}
 use Rattle.queue_machine.proofs.Engine as engine
 use Rattle.queue_machine.proofs.KindLaws.{LawsOf}
-use Rattle.queue_machine.proofs.SingleRows.{Hold, Nobody, Filling, Swapping, Taking, Stands, free_empty, At, push_try, push_put, force_try_empty, force_try_full, force_put_empty, force_put_full, pop_try, pop_take, close_try, look_at, Share, idle, fills, swaps, takes, Passes, stays, changes, single, one_slot, Lands, made_by, Good, rank, Falls}
+use Rattle.queue_machine.proofs.SingleRows.{Hold, Nobody, Filling, Swapping, Taking, Stands, At, push_try, force_try_empty, pop_try, close_try, look_at, Share, idle, fills, swaps, takes, Passes, stays, changes, single, one_slot, Lands, rank, Falls}
 use Rattle.queue_machine.proofs.SingleSteps.{step_good}
 use Rattle.queue_machine.proofs.SingleRanks.{step_falls, prompt_ends, can_operate, rank_small}
 
@@ -78,9 +74,9 @@ unfolding next_who
 own_other (stays own h) who p j e ne = refl
 own_other (changes h g) who p j e ne =
     elim (eqb_tells j p) [
-      inl t ↦ absurd (ne t.1)
+      | inl t ↦ absurd (ne t.1)
       | inr f ↦ rw f.0 (elim (eqb_tells j who) as (λ _. Nobody ≡ (if j == who then h else Nobody)) [
-        inl t ↦ rw t.0 (elim (eqb_tells p who) [ inl u ↦ absurd (ne (t.1 ∙ sym u.1)) | inr u ↦ sym (rw u.0 at e) ])
+        | inl t ↦ rw t.0 (elim (eqb_tells p who) [ inl u ↦ absurd (ne (t.1 ∙ sym u.1)) | inr u ↦ sym (rw u.0 at e) ])
         | inr u ↦ rw u.0 refl
       ])
     ]
@@ -88,22 +84,22 @@ own_other (changes h g) who p j e ne =
 own_alone : {T : Type 0} (g : Keeps T) (p : ℕ) → ((j : ℕ) → j ≢ p → Idle g j) → own_of g.who g.hold p ≡ g.hold
 own_alone g p others =
     elim (eqb_tells p g.who) [
-      inl t ↦ rw t.0 refl
+      | inl t ↦ rw t.0 refl
       | inr f ↦ rw f.0 (sym (rw (eq-eqb g.who g.who refl) at (others g.who (λ e. f.1 (sym e)))))
     ]
 
 alone_after : (busy alone n m : ℕ) → (busy ≡ 1 → alone + n ≤ 3) → (busy ≡ 1 → m < n) → m ≤ 3
-  → (busy ≡ 1 → (if busy == 1 then alone + 1 else 0) + m ≤ 3) × (busy ≢ 1 → (if busy == 1 then alone + 1 else 0) ≡ 0)
+    → (busy ≡ 1 → (if busy == 1 then alone + 1 else 0) + m ≤ 3) × (busy ≢ 1 → (if busy == 1 then alone + 1 else 0) ≡ 0)
 alone_after busy alone n m old falls small =
     elim (eqb_tells busy 1) [
-      inl t ↦ rw t.0 ((λ e. let x = old e in let y = falls e in omega arith), (λ ne. absurd (ne t.1)))
+      | inl t ↦ rw t.0 ((λ e. let x = old e in let y = falls e in omega arith), (λ ne. absurd (ne t.1)))
       | inr f ↦ rw f.0 ((λ e. absurd (f.1 e)), (λ ne. refl))
     ]
 
 few_alone : (busy alone n : ℕ) → (busy ≡ 1 → alone + n ≤ 3) → (if busy == 1 then alone + 1 else 0) < 64
 few_alone busy alone n old =
     elim (eqb_tells busy 1) [
-      inl t ↦ rw t.0 (let x = old t.1 in omega arith)
+      | inl t ↦ rw t.0 (let x = old t.1 in omega arith)
       | inr f ↦ rw f.0 (omega arith)
     ]
 
@@ -112,45 +108,49 @@ GoesWell {T} = engine.Goes T (Shared T) (Running T) (Keeps T) (Some 1) (step_of 
 
 -- where the call stands after its step
 lands_well : {T : Type 0} (x : Option (Running T)) (y : Option (Reply T)) (busy : ℕ) (s : Shared T) (Q : State T) (g : Keeps T) (p : ℕ) (o : Open T) (own : Hold T) (n : ℕ)
-  → own ≡ own_of g.who g.hold p → Lands x y own o.call o.effects o.moments
-  → ((m : ℕ) → m ≤ 3 → (busy ≡ 1 → m < n) → (busy ≡ 1 → o.alone + m ≤ 3) × (busy ≢ 1 → o.alone ≡ 0)) → (busy ≡ 1 → Falls x n s.lock)
-  → o.alone < 64 → (is_prompt o.call ≡ true → x ≡ None) → GoesWell busy s Q g p o x y
+    → own ≡ own_of g.who g.hold p → Lands x y own o.call o.effects o.moments
+    → ((m : ℕ) → m ≤ 3 → (busy ≡ 1 → m < n) → (busy ≡ 1 → o.alone + m ≤ 3) × (busy ≢ 1 → o.alone ≡ 0)) → (busy ≡ 1 → Falls x n s.lock)
+    → o.alone < 64 → (is_prompt o.call ≡ true → x ≡ None) → GoesWell busy s Q g p o x y
 lands_well (Some r) None busy s Q g p o own n is lands counts falls few prompt =
-    let a = counts (rank r.local s.lock) (rank_small r.local s.lock) falls in
-    (record { here = rw (sym is) lands.0; few = a.0; none = a.1; prompt = λ e. let none = prompt e in cc },
-     record { is_begun = lands.1; lone = few; prompt = λ e. let none = prompt e in cc })
+    let a = counts (rank r.local s.lock) (rank_small r.local s.lock) falls in (
+      record { here = rw (sym is) lands.0; few = a.0; none = a.1; prompt = λ e. let none = prompt e in cc },
+      record { is_begun = lands.1; lone = few; prompt = λ e. let none = prompt e in cc },
+    )
 lands_well None (Some x) busy s Q g p o own n is lands counts falls few prompt = (sym is ∙ lands.0, (lands.1, lands.2))
 lands_well None None busy s Q g p o own n is lands counts falls few prompt = absurd lands
 lands_well (Some r) (Some x) busy s Q g p o own n is lands counts falls few prompt = absurd lands
 
 stepped_well : {T : Type 0} (busy : ℕ) (ok : Bool) (s : Shared T) (Q : State T) (g : Keeps T) (p : ℕ) (r : Running T) (o : Open T)
-  → Holds s Q g → FitsIn busy s Q g p r o → (busy ≡ 1 → (j : ℕ) → j ≢ p → Idle g j)
-  → engine.StepsWell T (Shared T) (Running T) (Keeps T) (Some 1) (step_of kind.Single) (start_of kind.Single) (CanStep kind.Single) Holds Idle FitsIn busy s Q g p o (step_of kind.Single ok s r)
+    → Holds s Q g → FitsIn busy s Q g p r o → (busy ≡ 1 → (j : ℕ) → j ≢ p → Idle g j)
+    → engine.StepsWell T (Shared T) (Running T) (Keeps T) (Some 1) (step_of kind.Single) (start_of kind.Single) (CanStep kind.Single) Holds Idle FitsIn busy s Q g p o (step_of kind.Single ok s r)
 stepped_well {T} busy ok s Q g p r o holds f others =
     rw holds.shared_is (from_here (rw holds.shared_is at f.few))
   where
     from_here : (busy ≡ 1 → o.alone + rank r.local holds.word ≤ 3)
-      → engine.StepsWell T (Shared T) (Running T) (Keeps T) (Some 1) (step_of kind.Single) (start_of kind.Single) (CanStep kind.Single) Holds Idle FitsIn busy (one_slot holds.word holds.slot) Q g p o (step_of kind.Single ok (one_slot holds.word holds.slot) r)
+        → engine.StepsWell T (Shared T) (Running T) (Keeps T) (Some 1) (step_of kind.Single) (start_of kind.Single) (CanStep kind.Single) Holds Idle FitsIn busy (one_slot holds.word holds.slot) Q g p o (step_of kind.Single ok (one_slot holds.word holds.slot) r)
     from_here few =
         let good = step_good f.here (share_of (p == g.who) g.hold) holds.stands ok holds.n o.moments o.was_open o.steps o.alone in
         let t = step_of kind.Single ok (one_slot holds.word holds.slot) r in
         let Q' = single good.items' good.c' good.n' in
         let g' : Keeps T = record { who = next_who good.passes g.who p; hold = good.h' } in
         record {
-          after = Q'; kept = g'; effects = good.es';
+          after = Q';
+          kept = g';
+          effects = good.es';
           holds = record { word = good.word'; slot = good.slot'; items = good.items'; c = good.c'; n = good.n'; shared_is = good.shared; queue_is = refl; stands = good.stands };
           moves = rw holds.queue_is good.moves;
           goes = lands_well t.call t.reply busy t.shared Q' g' p (after_own busy o Q' good.es') good.own' (rank r.local holds.word)
-            (own_self good.passes g.who p refl) good.lands
-            (λ m small falls. alone_after busy o.alone (rank r.local holds.word) m few falls small)
-            (λ one. step_falls ok (rw (own_alone g p (others one)) at f.here) holds.stands)
-            (few_alone busy o.alone (rank r.local holds.word) few)
-            (λ e. prompt_ends holds.word holds.slot ok f.here e);
+              (own_self good.passes g.who p refl) good.lands
+              (λ m small falls. alone_after busy o.alone (rank r.local holds.word) m few falls small)
+              (λ one. step_falls ok (rw (own_alone g p (others one)) at f.here) holds.stands)
+              (few_alone busy o.alone (rank r.local holds.word) few)
+              (λ e. prompt_ends holds.word holds.slot ok f.here e);
           idle = λ j ne free. own_other good.passes g.who p j refl ne ∙ free;
           others = λ busy' j x m ne many h. record {
             here = rw (own_other good.passes g.who p j refl ne) h.here;
             few = λ e. let none = h.none many in omega (arith, rank_small x.local t.shared.lock);
-            none = λ e. h.none many; prompt = h.prompt;
+            none = λ e. h.none many;
+            prompt = h.prompt;
           };
         }
 
@@ -164,22 +164,24 @@ replies_if {T} (next.Reply x spare) v own k es ms lands = there (filled x v) lan
     there (Some y) h = refl
 
 can_take : {T : Type 0} (busy : ℕ) (ok : Bool) (s : Shared T) (Q : State T) (g : Keeps T) (p : ℕ) (r : Running T) (o : Open T)
-  → Holds s Q g → FitsIn busy s Q g p r o → CanStep kind.Single ok s r
+    → Holds s Q g → FitsIn busy s Q g p r o → CanStep kind.Single ok s r
 can_take {T} busy ok s Q g p r o holds f =
     rw holds.shared_is (
-      let good = step_good f.here (share_of (p == g.who) g.hold) holds.stands ok holds.n o.moments o.was_open o.steps o.alone in
-      let slot = one_slot holds.word holds.slot in
-      let can = can_operate holds.word holds.slot f.here in
-      record {
-        touches = can.0; operates = can.1; goes_on = can.2;
-        replies = replies_if (next_after kind.Single slot r) (carried_then slot r) good.own' o.call good.es' (single good.items' good.c' good.n' ∷ o.moments) good.lands;
-      })
+    let good = step_good f.here (share_of (p == g.who) g.hold) holds.stands ok holds.n o.moments o.was_open o.steps o.alone in
+    let slot = one_slot holds.word holds.slot in
+    let can = can_operate holds.word holds.slot f.here in
+    record {
+      touches = can.0;
+      operates = can.1;
+      goes_on = can.2;
+      replies = replies_if (next_after kind.Single slot r) (carried_then slot r) good.own' o.call good.es' (single good.items' good.c' good.n' ∷ o.moments) good.lands;
+    })
 
 fresh : {T : Type 0} (s : Shared T) (Q : State T) (g : Keeps T) (p : ℕ) (k : Call T) (r : Running T) → Idle g p → At r.local r.touch r.op r.carried Nobody k [] → (busy : ℕ) → FitsIn busy s Q g p r (begun k)
 fresh s Q g p k r free here busy = record { here = rw free here; few = λ e. omega (arith, rank_small r.local s.lock); none = λ e. refl; prompt = λ e. refl }
 
 begun_well : {T : Type 0} (s : Shared T) (Q : State T) (g : Keeps T) (p : ℕ) (k : Call T) → Holds s Q g → Idle g p
-  → engine.BeginsWell T (Shared T) (Running T) (Keeps T) (Some 1) (step_of kind.Single) (start_of kind.Single) (CanStep kind.Single) Holds Idle FitsIn s Q g p k (start_of kind.Single k).call (start_of kind.Single k).reply
+    → engine.BeginsWell T (Shared T) (Running T) (Keeps T) (Some 1) (step_of kind.Single) (start_of kind.Single) (CanStep kind.Single) Holds Idle FitsIn s Q g p k (start_of kind.Single k).call (start_of kind.Single k).reply
 begun_well s Q g p (call.Push v) holds free = (refl, fresh s Q g p (call.Push v) _ free (push_try v))
 begun_well s Q g p (call.ForcePush v) holds free = (refl, fresh s Q g p (call.ForcePush v) _ free (force_try_empty v))
 begun_well s Q g p call.Pop holds free = (refl, fresh s Q g p call.Pop _ free (pop_try false))

@@ -4,7 +4,7 @@ use Rattle.std.specs.Option.{option_to_list}
 use Rattle.std.proofs.lemmas.Bool.{eq-eqb}
 use Rattle.std.proofs.lemmas.Bool.Decides.{eqb_tells}
 use Rattle.queue_steps.specs.SingleNext.{is_pushed}
-use Rattle.queue_steps.specs.State.{State, start}
+use Rattle.queue_steps.specs.State.{State}
 use Rattle.queue_steps.specs.declared.model.Call.{Call}
 use Rattle.queue_steps.specs.declared.model.Effect.{Effect}
 use Rattle.queue_steps.specs.declared.steps.types.Kind.TheVariants as kind
@@ -14,13 +14,13 @@ use Rattle.queue_steps.specs.declared.steps.types.Touch.{Touch}
 use Rattle.queue_machine.specs.declared.machine.Running.{Running}
 use Rattle.queue_machine.specs.Book.{Book, Open}
 use Rattle.queue_machine.specs.Cells.{Shared, CanStep, step_of, start_of}
-use Rattle.queue_machine.specs.Left.{left_of, settled, opening_shared}
+use Rattle.queue_machine.specs.Left.{left_of, settled}
 use Rattle.queue_machine.specs.World.{World, call_at}
 use Rattle.queue_machine.proofs.Engine as engine
 use Rattle.queue_machine.proofs.KindLaws.{SimulatesOf, KindLaws}
 use Rattle.queue_machine.proofs.Settled.{writes, writes_slot, settled-none, settled-one}
 use Rattle.queue_machine.proofs.SingleLaws.{Keeps, own_of, Holds, Idle, FitsIn, single_engine}
-use Rattle.queue_machine.proofs.SingleRows.{Hold, Nobody, Filling, Swapping, Taking, Stands, free_empty, free_full, filling, swapping, taking, At, push_try, push_put, force_try_empty, force_try_full, force_put_empty, force_put_full, pop_try, pop_take, close_try, look_at, one_slot}
+use Rattle.queue_machine.proofs.SingleRows.{Hold, Nobody, Filling, Swapping, Taking, Stands, free_empty, free_full, filling, swapping, taking, At, push_try, push_put, force_try_empty, force_try_full, force_put_empty, force_put_full, pop_try, pop_take, close_try, look_at}
 
 -- what the lock's holder is about to write
 abbrev wait_of : {T : Type 0} → Hold T → Option T
@@ -31,7 +31,7 @@ wait_of (Taking x) = None
 
 -- a party writes exactly where it holds a value to be written
 at_writing : {T : Type 0} {l : Local ℕ} {t : Touch} {o : Op ℕ} {v : Option T} {own : Hold T} {k : Call T} {es : List (Effect T)} → At l t o v own k es
-  → ((wait_of own ≡ None) × (writes_slot t 0 ≡ false)) ⊎ ((x : T) × (wait_of own ≡ Some x) × (v ≡ Some x) × (writes_slot t 0 ≡ true))
+    → ((wait_of own ≡ None) × (writes_slot t 0 ≡ false)) ⊎ ((x : T) × (wait_of own ≡ Some x) × (v ≡ Some x) × (writes_slot t 0 ≡ true))
 at_writing (push_try v) = inl (refl, refl)
 at_writing (push_put v) = inr (v, refl, refl, refl)
 at_writing (force_try_empty v) = inl (refl, refl)
@@ -47,10 +47,10 @@ at_writing (look_at l) = inl (refl, refl)
 abbrev Writing : {T : Type 0} → Keeps T → ℕ → Option (Running T) → Type 0
 Writing {T} g p x =
     ((wait_of (own_of g.who g.hold p) ≡ None) × (writes x 0 ≡ false))
-      ⊎ ((r : Running T) × (y : T) × (x ≡ Some r) × (wait_of (own_of g.who g.hold p) ≡ Some y) × (r.carried ≡ Some y) × (writes_slot r.touch 0 ≡ true))
+    ⊎ ((r : Running T) × (y : T) × (x ≡ Some r) × (wait_of (own_of g.who g.hold p) ≡ Some y) × (r.carried ≡ Some y) × (writes_slot r.touch 0 ≡ true))
 
 party_writing : {T : Type 0} (busy : ℕ) (s : Shared T) (Q : State T) (g : Keeps T) (p : ℕ) (x : Option (Running T)) (y : Option (Open T))
-  → engine.Party T (Shared T) (Running T) (Keeps T) (Some 1) (step_of kind.Single) (start_of kind.Single) (CanStep kind.Single) Holds Idle FitsIn busy s Q g p x y → Writing g p x
+    → engine.Party T (Shared T) (Running T) (Keeps T) (Some 1) (step_of kind.Single) (start_of kind.Single) (CanStep kind.Single) Holds Idle FitsIn busy s Q g p x y → Writing g p x
 party_writing busy s Q g p None None h = inl (ap wait_of h, refl)
 party_writing busy s Q g p (Some r) (Some o) h = elim (at_writing h.here) [ inl e ↦ inl e | inr e ↦ inr (r, e.0, refl, e.1, e.2, e.3) ]
 party_writing busy s Q g p None (Some o) h = absurd h
@@ -85,8 +85,8 @@ slot_filled calls slots g v long all some = holder (all g.who)
         settled-one calls slots 0 g.who e.0 long e.2 e.5 (λ p ne. other p ne (all p)) ∙ e.4 ∙ same
 
 left_stands : {T : Type 0} {word : ℕ} {slot : Option T} {h : Hold T} {items : List T} {c : Bool} (found : Option T)
-  → Stands word slot h items c → (wait_of h ≡ None → found ≡ slot) → ((v : T) → wait_of h ≡ Some v → found ≡ Some v)
-  → (if is_pushed word then option_to_list found else []) ≡ items
+    → Stands word slot h items c → (wait_of h ≡ None → found ≡ slot) → ((v : T) → wait_of h ≡ Some v → found ≡ Some v)
+    → (if is_pushed word then option_to_list found else []) ≡ items
 left_stands found (free_empty true) kept f = refl
 left_stands found (free_empty false) kept f = refl
 left_stands found (free_full true x) kept f = rw (kept refl) refl
@@ -103,14 +103,18 @@ single_left {T} parties w b sim =
     let holds = sim.holds in
     let writing : (p : ℕ) → Writing sim.g p (call_at w p) = λ p. party_writing b.busy w.shared b.queue sim.g p (call_at w p) (b.open_call p) (sim.each p) in
     rw (holds.queue_is, holds.shared_is) (
-      left_stands (get_or (settled w.calls (holds.slot ∷ [])) 0 None) holds.stands
-        (λ none. slot_kept w.calls (holds.slot ∷ []) sim.g writing none)
-        (λ v some. slot_filled w.calls (holds.slot ∷ []) sim.g v (omega arith) writing some))
+    left_stands (get_or (settled w.calls (holds.slot ∷ [])) 0 None) holds.stands
+    (λ none. slot_kept w.calls (holds.slot ∷ []) sim.g writing none)
+    (λ v some. slot_filled w.calls (holds.slot ∷ []) sim.g v (omega arith) writing some))
 
 -- a queue of one slot owes no more
 pub single_laws : (T : Type 0) → KindLaws T kind.Single
 single_laws T = record {
-  G = Keeps T; Holds = Holds; Idle = Idle; Fits = FitsIn; laws = single_engine;
+  G = Keeps T;
+  Holds = Holds;
+  Idle = Idle;
+  Fits = FitsIn;
+  laws = single_engine;
   first = record { who = 0; hold = Nobody };
   opens = record { word = 0; slot = None; items = []; c = false; n = 0; shared_is = refl; queue_is = refl; stands = free_empty false };
   all_idle = λ p. elim (p == 0) as (λ b. if◌then◌else◌ {A = Hold T} b Nobody Nobody ≡ Nobody) [ true ↦ refl | false ↦ refl ];

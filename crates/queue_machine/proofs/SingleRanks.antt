@@ -1,40 +1,25 @@
 -- One slot: a lone call comes nearer to its reply, a prompt call replies at once, and a step touches what is there.
-use Rattle.std.specs.Prelude.{◌≡◌, ℕ, ◌+◌, ◌==◌, Bool, true, false, not, Option, Some, None, Ok, Err, List, [], ◌∷◌, length, bit_and, bit_or, if◌then◌else◌}
-use Rattle.std.proofs.Common.{refl, arith, inl, inr}
-use Rattle.queue_steps.specs.State.{State, is_full}
-use Rattle.queue_steps.specs.Replies.{IsRightAt, Tells, is_empty}
+use Rattle.std.specs.Prelude.{◌≡◌, ℕ, ◌==◌, Bool, true, false, Option, None, List, if◌then◌else◌}
+use Rattle.std.proofs.Common.{refl, arith}
 use Rattle.queue_steps.specs.SingleNext.{is_marked, is_pushed}
 use Rattle.queue_steps.specs.declared.model.Call.{Call}
-use Rattle.queue_steps.specs.declared.model.Call.TheVariants as call
-use Rattle.queue_steps.specs.declared.model.Reply.{Reply}
-use Rattle.queue_steps.specs.declared.model.Reply.TheVariants as reply
 use Rattle.queue_steps.specs.declared.model.Effect.{Effect}
-use Rattle.queue_steps.specs.declared.model.Effect.TheVariants as effect
-use Rattle.queue_steps.specs.declared.errors.PopError.TheVariants as pop
-use Rattle.queue_steps.specs.declared.errors.PushError.TheVariants as push
-use Rattle.queue_steps.specs.declared.errors.ForcePushError.TheVariants as force
-use Rattle.queue_steps.specs.declared.steps.single.TheConstants.{LOCKED, PUSHED, CLOSED, UNLOCKED}
-use Rattle.queue_steps.specs.declared.steps.single.SingleLocal.TheVariants.{Pushing, Pushed, Forcing, Forced, Popping, Popped, Closing, Looking}
+use Rattle.queue_steps.specs.declared.steps.single.SingleLocal.TheVariants.{Pushing, Forcing, Popping}
 use Rattle.queue_steps.specs.declared.steps.types.Local.{Local}
 use Rattle.queue_steps.specs.declared.steps.types.Local.TheVariants as local
-use Rattle.queue_steps.specs.declared.steps.types.Look.{Look}
 use Rattle.queue_steps.specs.declared.steps.types.Look.TheVariants as look
 use Rattle.queue_steps.specs.declared.steps.types.Op.{Op}
-use Rattle.queue_steps.specs.declared.steps.types.Op.TheVariants as op
 use Rattle.queue_steps.specs.declared.steps.types.Touch.{Touch}
-use Rattle.queue_steps.specs.declared.steps.types.Touch.TheVariants as touch
-use Rattle.queue_steps.specs.declared.steps.types.Word.TheVariants.{Lock}
-use Rattle.queue_machine.specs.Book.{Moves, is_prompt}
+use Rattle.queue_machine.specs.Book.{is_prompt}
 use Rattle.queue_machine.specs.Cells.{CanTouch, CanOperate, answer_to, after_touch}
 use Rattle.queue_steps.specs.Next.{CanNext}
 use Rattle.queue_steps.specs.declared.steps.types.Kind.TheVariants as kind
-use Rattle.std.specs.Prelude.{◌≤◌, ◌<◌}
-use Rattle.queue_machine.proofs.SingleRows.{Hold, Nobody, Filling, Swapping, Taking, Stands, free_empty, free_full, filling, swapping, taking, code, asks, At, push_try, push_put, force_try_empty, force_try_full, force_put_empty, force_put_full, pop_try, pop_take, close_try, look_at, Share, idle, fills, swaps, takes, Passes, stays, changes, single, one_slot, Lands, made_by, opened, Good, right_now, rank, Falls}
-
+use Rattle.std.specs.Prelude.{◌≤◌}
+use Rattle.queue_machine.proofs.SingleRows.{Hold, Stands, free_empty, free_full, At, push_try, push_put, force_try_empty, force_try_full, force_put_empty, force_put_full, pop_try, pop_take, close_try, look_at, one_slot, made_by, rank, Falls}
 
 -- alone, a call comes nearer to its reply
 pub step_falls : {T : Type 0} {l : Local ℕ} {t : Touch} {o : Op ℕ} {v : Option T} {word : ℕ} {slot : Option T} {h : Hold T} {items : List T} {c : Bool} {k : Call T} {es : List (Effect T)} (ok : Bool)
-  → At l t o v h k es → Stands word slot h items c → Falls (made_by l t o v word slot ok).call (rank l word) (made_by l t o v word slot ok).shared.lock
+    → At l t o v h k es → Stands word slot h items c → Falls (made_by l t o v word slot ok).call (rank l word) (made_by l t o v word slot ok).shared.lock
 step_falls ok (push_try v) (free_empty true) = tt
 step_falls ok (push_try v) (free_empty false) = omega arith
 step_falls ok (push_try v) (free_full true x) = tt
@@ -67,7 +52,7 @@ step_falls ok (look_at look.Len) st = tt
 
 -- a prompt call replies at each step
 pub prompt_ends : {T : Type 0} {l : Local ℕ} {t : Touch} {o : Op ℕ} {v : Option T} {own : Hold T} {k : Call T} {es : List (Effect T)} (word : ℕ) (slot : Option T) (ok : Bool)
-  → At l t o v own k es → is_prompt k ≡ true → (made_by l t o v word slot ok).call ≡ None
+    → At l t o v own k es → is_prompt k ≡ true → (made_by l t o v word slot ok).call ≡ None
 prompt_ends word slot ok (push_try v) e = cc
 prompt_ends word slot ok (push_put v) e = cc
 prompt_ends word slot ok (force_try_empty v) e = cc
@@ -84,7 +69,7 @@ prompt_ends word slot ok (look_at look.Len) e = cc
 
 -- the step touches the one slot and the one word, and its answer is what the call waits for
 pub can_operate : {T : Type 0} {l : Local ℕ} {t : Touch} {o : Op ℕ} {v : Option T} {own : Hold T} {k : Call T} {es : List (Effect T)} (word : ℕ) (slot : Option T)
-  → At l t o v own k es → CanTouch t 1 × CanOperate (after_touch (one_slot word slot) (record { local = l; touch = t; op = o; carried = v })) o × CanNext kind.Single l (answer_to (one_slot word slot) (record { local = l; touch = t; op = o; carried = v }))
+    → At l t o v own k es → CanTouch t 1 × CanOperate (after_touch (one_slot word slot) (record { local = l; touch = t; op = o; carried = v })) o × CanNext kind.Single l (answer_to (one_slot word slot) (record { local = l; touch = t; op = o; carried = v }))
 can_operate word slot (push_try v) = (tt, tt, tt)
 can_operate word slot (push_put v) = (omega arith, tt, tt)
 can_operate word slot (force_try_empty v) = (tt, tt, tt)

@@ -1,20 +1,19 @@
 -- One slot: each atomic step of a call is a step of the queue.
-use Rattle.std.specs.Prelude.{◌≡◌, ℕ, ◌+◌, ◌==◌, Bool, true, false, not, Option, Some, None, Ok, Err, List, [], ◌∷◌, length, bit_and, bit_or, if◌then◌else◌}
-use Rattle.std.proofs.Common.{refl, arith, inl, inr}
+use Rattle.std.specs.Prelude.{◌≡◌, ℕ, ◌+◌, Bool, true, false, not, Option, Some, None, Ok, Err, List, [], ◌∷◌, length, bit_or, if◌then◌else◌}
+use Rattle.std.proofs.Common.{refl, inl, inr}
 use Rattle.queue_steps.specs.State.{State, is_full}
-use Rattle.queue_steps.specs.Replies.{IsRightAt, Tells, is_empty}
+use Rattle.queue_steps.specs.Replies.{is_empty}
 use Rattle.queue_steps.specs.SingleNext.{is_marked, is_pushed}
 use Rattle.queue_steps.specs.declared.model.Call.{Call}
 use Rattle.queue_steps.specs.declared.model.Call.TheVariants as call
-use Rattle.queue_steps.specs.declared.model.Reply.{Reply}
 use Rattle.queue_steps.specs.declared.model.Reply.TheVariants as reply
 use Rattle.queue_steps.specs.declared.model.Effect.{Effect}
 use Rattle.queue_steps.specs.declared.model.Effect.TheVariants as effect
 use Rattle.queue_steps.specs.declared.errors.PopError.TheVariants as pop
 use Rattle.queue_steps.specs.declared.errors.PushError.TheVariants as push
 use Rattle.queue_steps.specs.declared.errors.ForcePushError.TheVariants as force
-use Rattle.queue_steps.specs.declared.steps.single.TheConstants.{LOCKED, PUSHED, CLOSED, UNLOCKED}
-use Rattle.queue_steps.specs.declared.steps.single.SingleLocal.TheVariants.{Pushing, Pushed, Forcing, Forced, Popping, Popped, Closing, Looking}
+use Rattle.queue_steps.specs.declared.steps.single.TheConstants.{LOCKED, PUSHED, CLOSED}
+use Rattle.queue_steps.specs.declared.steps.single.SingleLocal.TheVariants.{Pushing, Forcing, Popping, Closing, Looking}
 use Rattle.queue_steps.specs.declared.steps.types.Local.{Local}
 use Rattle.queue_steps.specs.declared.steps.types.Local.TheVariants as local
 use Rattle.queue_steps.specs.declared.steps.types.Look.{Look}
@@ -24,15 +23,11 @@ use Rattle.queue_steps.specs.declared.steps.types.Op.TheVariants as op
 use Rattle.queue_steps.specs.declared.steps.types.Touch.{Touch}
 use Rattle.queue_steps.specs.declared.steps.types.Touch.TheVariants as touch
 use Rattle.queue_steps.specs.declared.steps.types.Word.TheVariants.{Lock}
-use Rattle.queue_machine.specs.Book.{Moves, is_prompt}
-use Rattle.queue_machine.specs.Cells.{CanTouch, CanOperate}
-use Rattle.queue_machine.proofs.SingleRows.{Hold, Nobody, Filling, Swapping, Taking, Stands, free_empty, free_full, filling, swapping, taking, code, asks, At, push_try, push_put, force_try_empty, force_try_full, force_put_empty, force_put_full, pop_try, pop_take, close_try, look_at, Share, idle, fills, swaps, takes, Passes, stays, changes, single, one_slot, Lands, made_by, opened, Good, right_now, rank, Falls}
-
+use Rattle.queue_machine.proofs.SingleRows.{Hold, Nobody, Filling, Swapping, Taking, Stands, free_empty, free_full, filling, swapping, taking, code, asks, At, push_try, push_put, force_try_empty, force_try_full, force_put_empty, force_put_full, pop_try, pop_take, close_try, look_at, Share, idle, fills, swaps, takes, stays, changes, single, opened, Good, right_now}
 
 -- what is not in the row of a step: the call's moments and counts
 abbrev Row : {T : Type 0} → Local ℕ → Touch → Op ℕ → Option T → ℕ → Option T → Hold T → Hold T → List T → Bool → Call T → List (Effect T) → Type 0
 Row {T} l t o v word slot own h items c k es = (ok : Bool) (n : ℕ) (ms : List (State T)) (w : Bool) (a b : ℕ) → Good ok l t o v word slot own h items c n (opened k es ms w a b)
-
 
 push_step : {T : Type 0} {word : ℕ} {slot : Option T} {h : Hold T} {items : List T} {c : Bool} (v : T) → Stands word slot h items c → Row (local.Single Pushing) touch.Nothing (op.Exchange Lock 0 (bit_or LOCKED PUSHED)) (Some v) word slot Nobody h items c (call.Push v) []
 push_step v (free_empty true) ok n ms w a b = record { word' = 4; slot' = None; items' = []; c' = true; n' = n; es' = []; own' = Nobody; h' = Nobody; shared = refl; stands = free_empty true; moves = (refl, refl); lands = right_now (single [] true n) ms (call.Push v) (reply.Push (Err (push.Closed v))) (refl, inr refl) (refl, refl); passes = stays Nobody Nobody }
@@ -92,7 +87,7 @@ pop_step false (swapping false old y) ok n ms w a b = record { word' = 3; slot' 
 pop_step false (taking true x) ok n ms w a b = record { word' = 5; slot' = (Some x); items' = []; c' = true; n' = n; es' = []; own' = Nobody; h' = (Taking x); shared = refl; stands = taking true x; moves = (refl, refl); lands = right_now (single [] true n) ms call.Pop (reply.Pop (Err pop.Closed)) refl (refl, refl, refl); passes = stays Nobody (Taking x) }
 pop_step false (taking false x) ok n ms w a b = record { word' = 1; slot' = (Some x); items' = []; c' = false; n' = n; es' = []; own' = Nobody; h' = (Taking x); shared = refl; stands = taking false x; moves = (refl, refl); lands = right_now (single [] false n) ms call.Pop (reply.Pop (Err pop.Empty)) refl (refl, refl, refl); passes = stays Nobody (Taking x) }
 
-close_step : {T : Type 0} {word : ℕ} {slot : Option T} {h : Hold T} {items : List T} {c : Bool}  → Stands word slot h items c → Row (local.Single Closing) touch.Nothing (op.Or Lock CLOSED) None word slot Nobody h items c call.Close []
+close_step : {T : Type 0} {word : ℕ} {slot : Option T} {h : Hold T} {items : List T} {c : Bool} → Stands word slot h items c → Row (local.Single Closing) touch.Nothing (op.Or Lock CLOSED) None word slot Nobody h items c call.Close []
 close_step (free_empty true) ok n ms w a b = record { word' = 4; slot' = None; items' = []; c' = true; n' = n; es' = []; own' = Nobody; h' = Nobody; shared = refl; stands = free_empty true; moves = (refl, refl); lands = right_now (single [] true n) ms call.Close (reply.Close false) refl refl; passes = stays Nobody Nobody }
 close_step (free_empty false) ok n ms w a b = record { word' = 4; slot' = None; items' = []; c' = true; n' = n; es' = effect.Close ∷ []; own' = Nobody; h' = Nobody; shared = refl; stands = free_empty true; moves = (effect.Close, refl, tt, refl, refl, refl); lands = (refl, refl, λ e. cc); passes = stays Nobody Nobody }
 close_step (free_full true x) ok n ms w a b = record { word' = 6; slot' = (Some x); items' = (x ∷ []); c' = true; n' = n; es' = []; own' = Nobody; h' = Nobody; shared = refl; stands = free_full true x; moves = (refl, refl); lands = right_now (single (x ∷ []) true n) ms call.Close (reply.Close false) refl refl; passes = stays Nobody Nobody }
@@ -106,7 +101,7 @@ close_step (taking false x) ok n ms w a b = record { word' = 5; slot' = (Some x)
 
 -- what the word tells of the items and the flag
 reads : {T : Type 0} {word : ℕ} {slot : Option T} {h : Hold T} {items : List T} {c : Bool} → Stands word slot h items c
-  → (is_marked word ≡ c) × (not (is_pushed word) ≡ is_empty items) × (is_pushed word ≡ is_full (single items c 0)) × ((if is_pushed word then 1 else 0) ≡ length items)
+    → (is_marked word ≡ c) × (not (is_pushed word) ≡ is_empty items) × (is_pushed word ≡ is_full (single items c 0)) × ((if is_pushed word then 1 else 0) ≡ length items)
 reads (free_empty true) = (refl, refl, refl, refl)
 reads (free_empty false) = (refl, refl, refl, refl)
 reads (free_full true x) = (refl, refl, refl, refl)
@@ -126,7 +121,7 @@ look_step {word = word} {slot = slot} {h = h} {items = items} {c = c} look.Len s
 
 -- each step of a call, wherever it stands, is a step of the queue
 pub step_good : {T : Type 0} {l : Local ℕ} {t : Touch} {o : Op ℕ} {v : Option T} {word : ℕ} {slot : Option T} {own h : Hold T} {items : List T} {c : Bool} {k : Call T} {es : List (Effect T)}
-  → At l t o v own k es → Share own h → Stands word slot h items c → Row l t o v word slot own h items c k es
+    → At l t o v own k es → Share own h → Stands word slot h items c → Row l t o v word slot own h items c k es
 step_good (push_try v) (idle h) st ok n ms w a b = push_step v st ok n ms w a b
 step_good (force_try_empty v) (idle h) st ok n ms w a b = force_empty_step v st ok n ms w a b
 step_good (force_try_full v) (idle h) st ok n ms w a b = force_full_step v st ok n ms w a b

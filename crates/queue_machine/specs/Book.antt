@@ -1,5 +1,5 @@
 -- What a reader of a run keeps, and what an event may do to it.
-use Rattle.std.specs.Prelude.{◌≡◌, ◌⊎◌, ℕ, ◌+◌, ◌-◌, ◌*◌, ◌/◌, ◌%◌, ◌<◌, ◌==◌, ◌&&◌, ◌||◌, nat_lt, Bool, true, false, not, if◌then◌else◌, Option, Some, None, is_some, is_none, Ok, Err, List, [], ◌∷◌, ◌++◌}
+use Rattle.std.specs.Prelude.{◌≡◌, ◌⊎◌, ℕ, ◌+◌, ◌-◌, ◌%◌, ◌<◌, ◌==◌, ◌&&◌, ◌||◌, nat_lt, Bool, true, false, not, if◌then◌else◌, Option, Some, None, is_some, is_none, Err, List, [], ◌∷◌, ◌++◌}
 use Rattle.std.specs.List.{Any}
 use Rattle.queue_steps.specs.declared.sizes.TheConstants.{BLOCK_SLOTS, LONE_STEPS}
 use Rattle.queue_steps.specs.State.{State, start}

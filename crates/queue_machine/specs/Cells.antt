@@ -1,5 +1,5 @@
 -- The words and slots of the machine, and what one step of a call does to them.
-use Rattle.std.specs.Prelude.{◌≡◌, ℕ, ◌+◌, ◌<◌, ◌^◌, ◌==◌, Bool, true, false, if◌then◌else◌, Option, Some, None, IsSome, List, length, slice_index_or, slice_set, bit_and, bit_or}
+use Rattle.std.specs.Prelude.{ℕ, ◌+◌, ◌<◌, ◌^◌, ◌==◌, Bool, if◌then◌else◌, Option, Some, None, IsSome, List, length, slice_index_or, slice_set, bit_and, bit_or}
 use Rattle.queue_steps.specs.declared.model.Call.{Call}
 use Rattle.queue_steps.specs.declared.model.Reply.{Reply}
 use Rattle.queue_steps.specs.Kinds.{call_kind, call_value, filled}

@@ -1,5 +1,5 @@
 -- What a step did to the queue, told from where its call stood and what its operation found.
-use Rattle.std.specs.Prelude.{ℕ, ◌+◌, ◌==◌, Bool, true, false, if◌then◌else◌, Option, Some, None}
+use Rattle.std.specs.Prelude.{ℕ, ◌+◌, ◌==◌, if◌then◌else◌, Option, Some, None}
 use Rattle.queue_steps.specs.SingleNext.{is_marked}
 use Rattle.queue_steps.specs.Words.{position_of, is_shut}
 use Rattle.queue_steps.specs.declared.steps.types.Answer.{Answer}

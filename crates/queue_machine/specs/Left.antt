@@ -1,5 +1,5 @@
 -- How a machine begins, and the list that it holds.
-use Rattle.std.specs.Prelude.{◌≡◌, ℕ, zero, suc, ◌+◌, ◌-◌, ◌<◌, Bool, if◌then◌else◌, Option, Some, None, List, [], ◌∷◌, ◌++◌, slice_index_or, slice_set, replicate}
+use Rattle.std.specs.Prelude.{ℕ, zero, suc, ◌+◌, ◌-◌, ◌<◌, if◌then◌else◌, Option, Some, None, List, [], ◌∷◌, ◌++◌, slice_index_or, slice_set, replicate}
 use Rattle.std.specs.Option.{option_to_list}
 use Rattle.queue_steps.specs.SingleNext.{is_pushed}
 use Rattle.queue_steps.specs.Words.{position_of, slot_at}

@@ -7,3 +7,6 @@ pub mod Left
 pub mod Machine
 pub mod Replays
 pub mod OneOwner
+pub mod Meaning
+pub mod Within
+pub mod Skips

@@ -1,16 +1,16 @@
 -- With one party the machine is a queue with one owner.
-use Rattle.std.specs.Prelude.{◌≡◌, ℕ, Option, Some, None, List, [], ◌∷◌, ◌++◌, map}
+use Rattle.std.specs.Prelude.{◌≡◌, ℕ, Option, None, List, [], ◌∷◌, ◌++◌, map}
 use Rattle.std.specs.Option.{option_to_list}
-use Rattle.queue_steps.specs.State.{State, start}
+use Rattle.queue_steps.specs.State.{start}
 use Rattle.queue_steps.specs.Legal.{IsShown}
 use Rattle.queue_steps.specs.Sole.{Owned, SoleRun}
 use Rattle.queue_steps.specs.declared.model.Call.{Call}
 use Rattle.queue_steps.specs.declared.model.Reply.{Reply}
 use Rattle.queue_machine.specs.declared.types.Event.{Event}
-use Rattle.queue_machine.specs.declared.types.Event.TheVariants.{Begin, Step}
+use Rattle.queue_machine.specs.declared.types.Event.TheVariants.{Begin}
 use Rattle.queue_machine.specs.declared.types.Replay.{Replay}
 use Rattle.queue_machine.specs.declared.types.Told.{Told}
-use Rattle.queue_machine.specs.declared.types.Told.TheVariants.{Skipped, Ran}
+use Rattle.queue_machine.specs.declared.types.Told.TheVariants.{Ran}
 use Rattle.queue_machine.specs.Conforms.{Conforms}
 
 -- the calls that were begun, in their order

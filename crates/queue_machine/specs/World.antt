@@ -1,5 +1,5 @@
 -- A machine, whatever its cells and its steps are: what is shared, the call that each party is in, and what an event makes of them.
-use Rattle.std.specs.Prelude.{◌≡◌, ℕ, ◌&&◌, nat_lt, Bool, true, false, if◌then◌else◌, Option, Some, None, is_none, List, length, slice_index_or, slice_set}
+use Rattle.std.specs.Prelude.{ℕ, ◌&&◌, nat_lt, Bool, if◌then◌else◌, Option, Some, None, is_none, List, length, slice_index_or, slice_set}
 use Rattle.queue_steps.specs.declared.model.Call.{Call}
 use Rattle.queue_steps.specs.declared.model.Reply.{Reply}
 use Rattle.queue_machine.specs.declared.types.Told.{Told}

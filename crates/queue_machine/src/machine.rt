@@ -14,8 +14,11 @@ use crate::types::{EffectKind, Event, Told};
 
 /// The mark of a closed queue of one slot.
 const CLOSED: u64 = 4;
+
 use queue_steps::model::Reply;
-use queue_steps::steps::{next, start, Answer, BoundedLocal, Kind, Local, Next, Op, SingleLocal, Touch, Word};
+use queue_steps::steps::{
+    Answer, BoundedLocal, Kind, Local, Next, Op, SingleLocal, Touch, Word, next, start,
+};
 use std::alloc::{AllocError, Allocator};
 use std::mem;
 
@@ -135,7 +138,11 @@ fn effect_on_single(local: SingleLocal, found: u64) -> Option<EffectKind>
     ensures { result ≡ single_effect local found }
 {
     match local {
-        SingleLocal::Pushing => if found == 0 { Some(EffectKind::Append) } else { None },
+        SingleLocal::Pushing => if found == 0 {
+            Some(EffectKind::Append)
+        } else {
+            None
+        },
         SingleLocal::Forcing(seen) => {
             if found & CLOSED != 0 {
                 None
@@ -147,8 +154,16 @@ fn effect_on_single(local: SingleLocal, found: u64) -> Option<EffectKind>
                 Some(EffectKind::Replace)
             }
         }
-        SingleLocal::Popping(seen) => if found == seen { Some(EffectKind::Take) } else { None },
-        SingleLocal::Closing => if found & CLOSED == 0 { Some(EffectKind::Close) } else { None },
+        SingleLocal::Popping(seen) => if found == seen {
+            Some(EffectKind::Take)
+        } else {
+            None
+        },
+        SingleLocal::Closing => if found & CLOSED == 0 {
+            Some(EffectKind::Close)
+        } else {
+            None
+        },
         _ => None,
     }
 }
@@ -160,14 +175,34 @@ fn effect_on_ring(cap: u64, local: BoundedLocal, found: u64) -> Option<EffectKin
     ensures { result ≡ bounded_effect cap local found }
 {
     match local {
-        BoundedLocal::Claiming(_, tail) => if found == tail { Some(EffectKind::Append) } else { None },
+        BoundedLocal::Claiming(_, tail) => if found == tail {
+            Some(EffectKind::Append)
+        } else {
+            None
+        },
         BoundedLocal::Displacing(tail) => {
-            if found + cap == tail / 2 { Some(EffectKind::Front) } else { None }
+            if found + cap == tail / 2 {
+                Some(EffectKind::Front)
+            } else {
+                None
+            }
         }
         BoundedLocal::Arriving(_) => Some(EffectKind::Arrive),
-        BoundedLocal::Spending(_) => if found % 2 == 1 { None } else { Some(EffectKind::SelfClose) },
-        BoundedLocal::Taking(head) => if found == head { Some(EffectKind::Take) } else { None },
-        BoundedLocal::Closing => if found % 2 == 1 { None } else { Some(EffectKind::Close) },
+        BoundedLocal::Spending(_) => if found % 2 == 1 {
+            None
+        } else {
+            Some(EffectKind::SelfClose)
+        },
+        BoundedLocal::Taking(head) => if found == head {
+            Some(EffectKind::Take)
+        } else {
+            None
+        },
+        BoundedLocal::Closing => if found % 2 == 1 {
+            None
+        } else {
+            Some(EffectKind::Close)
+        },
         _ => None,
     }
 }
@@ -180,9 +215,7 @@ fn effect(kind: Kind, local: Local<usize>, answer: Answer<usize>) -> Option<Effe
     match (kind, local, answer) {
         (_, Local::Single(local), Answer::Found(found)) => effect_on_single(local, found),
         (Kind::Bounded(cap), Local::Bounded(local), Answer::Found(found)) => effect_on_ring(
-            cap as u64,
-            local,
-            found,
+            cap as u64, local, found,
         ),
         _ => None,
     }

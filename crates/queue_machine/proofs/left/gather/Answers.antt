@@ -1,4 +1,4 @@
-use Rattle.std.proofs.Common.{arith, sym, rules, ◌-◌}
+use Rattle.std.proofs.Common.{arith, ◌-◌}
 use Rattle.queue_machine.specs.Left.{gathered}
 use Rattle.queue_machine.proofs.Gathering.{gathered-next, gathered-room}
 use Rattle.queue_machine.proofs.left.gather.Goals as goal

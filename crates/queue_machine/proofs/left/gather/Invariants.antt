@@ -1,4 +1,4 @@
-use Rattle.std.proofs.Common.{◌≡◌, ◌++◌, ◌-◌, ◌≤◌, length, vec_capacity}
+use Rattle.std.proofs.Common.{◌≡◌, ◌++◌, ◌-◌, vec_capacity}
 use Rattle.queue_machine.specs.Left.{gathered}
 use Rattle.queue_machine.proofs.left.gather.Given as goal
 

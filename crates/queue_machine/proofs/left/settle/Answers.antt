@@ -1,5 +1,3 @@
-use Rattle.std.proofs.Common.{sym, ◌∙◌, ap}
-use Rattle.queue_machine.specs.Left.{written, written_by}
 use Rattle.queue_machine.proofs.Gathering.{settled-append}
 use Rattle.queue_machine.proofs.left.settle.Goals as goal
 

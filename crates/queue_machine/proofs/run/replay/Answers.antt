@@ -1,7 +1,7 @@
-use Rattle.std.proofs.Common.{rules, arith, refl, ◌≡◌, ◌∙◌, ◌≤◌, length, ap, subst, sym, vec_len, vec_capacity}
+use Rattle.std.proofs.Common.{arith, refl, ◌≡◌, ◌∙◌, ◌≤◌, length, ap, subst, sym, vec_capacity}
 use Rattle.std.proofs.lemmas.List.{length_push, map-id}
 use Rattle.std.proofs.lemmas.Iterator.Adapters.{YieldsList-from_vec}
-use Rattle.std.proofs.lemmas.Iterator.Consumers.{YieldsList-turn, YieldsList-end}
+use Rattle.std.proofs.lemmas.Iterator.Consumers.{YieldsList-end}
 use Rattle.queue_machine.specs.declared.types.Replay.{Replay}
 use Rattle.queue_machine.specs.Conforms.{Conforms, capacity_of}
 use Rattle.queue_machine.specs.Left.{left_of}
@@ -32,11 +32,11 @@ loop-event-preserved g c =
       can = tt;
       finite = tt;
       known = known-next c.args.kind c.args.parties c.loop-event.yielded (world_of c.loop-event.machine) (world_of c.handle-told.new.self)
-        c.loop-event.lists.replies.items c.note.new.self.replies.items c.loop-event.lists.effects.items c.note.new.self.effects.items c.loop-event.lists.skipped.items c.note.new.self.skipped.items
-        c.in-Some.event c.loop-event.number c.party-party.result c.handle-told.result
-        c.loop-event.invariant.known c.loop-event.invariant.number_is c.party-party.ensures
-        (rw c.loop-event.invariant.kind_is at c.handle-told.ensures.told) (rw c.loop-event.invariant.kind_is at c.handle-told.ensures.world)
-        c.note.ensures.replies c.note.ensures.effects c.note.ensures.skipped;
+          c.loop-event.lists.replies.items c.note.new.self.replies.items c.loop-event.lists.effects.items c.note.new.self.effects.items c.loop-event.lists.skipped.items c.note.new.self.skipped.items
+          c.in-Some.event c.loop-event.number c.party-party.result c.handle-told.result
+          c.loop-event.invariant.known c.loop-event.invariant.number_is c.party-party.ensures
+          (rw c.loop-event.invariant.kind_is at c.handle-told.ensures.told) (rw c.loop-event.invariant.kind_is at c.handle-told.ensures.world)
+          c.note.ensures.replies c.note.ensures.effects c.note.ensures.skipped;
       kind_is = c.handle-told.ensures.kind ∙ c.loop-event.invariant.kind_is;
       number_is = omega (arith, length_push c.loop-event.yielded c.in-Some.event, c.loop-event.invariant.number_is);
       room = c.note.ensures.room;
@@ -59,10 +59,10 @@ returns-clause-conforms g c =
     let t = YieldsList-end (YieldsList-from_vec c.args.events.items it.0 (it.1 ∙ c.args.events.ok.0)) c.loop-event.yielded c.loop-event.event-iterator c.loop-event.yielded_by c.next.result c.next.new.self c.in-None.is c.next.ensures.steps in
     let all : c.loop-event.yielded ≡ c.args.events.items = sym (map-id c.loop-event.yielded) ∙ t.0 in
     rw (← all) (known-end c.args.kind c.args.parties c.loop-event.yielded (world_of c.loop-event.machine) (record { replies = c.loop-event.lists.replies; effects = c.loop-event.lists.effects; skipped = c.loop-event.lists.skipped; left = c.left.result; peak = record { blocks = 0; bound = 2 } })
-      c.loop-event.invariant.known (rw c.loop-event.invariant.kind_is at c.left.ensures) (refl, refl))
+    c.loop-event.invariant.known (rw c.loop-event.invariant.kind_is at c.left.ensures) (refl, refl))
 
 pub returns-clause-alone : goal.returns-clause-alone
 returns-clause-alone g c =
     λ one.
-      let told : Replay g.row.T.Denot g.row.A.Denot = record { replies = c.loop-event.lists.replies; effects = c.loop-event.lists.effects; skipped = c.loop-event.lists.skipped; left = c.left.result; peak = record { blocks = 0; bound = 2 } } in
-      one_owner (capacity_of c.args.kind) c.args.events.items told (subst (λ n. Conforms (capacity_of c.args.kind) n c.args.events.items told) one (returns-clause-conforms g c))
+    let told : Replay g.row.T.Denot g.row.A.Denot = record { replies = c.loop-event.lists.replies; effects = c.loop-event.lists.effects; skipped = c.loop-event.lists.skipped; left = c.left.result; peak = record { blocks = 0; bound = 2 } } in
+    one_owner (capacity_of c.args.kind) c.args.events.items told (subst (λ n. Conforms (capacity_of c.args.kind) n c.args.events.items told) one (returns-clause-conforms g c))

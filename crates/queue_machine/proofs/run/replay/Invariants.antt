@@ -1,4 +1,4 @@
-use Rattle.std.proofs.Common.{◌≡◌, ◌≤◌, length, vec_len, vec_capacity}
+use Rattle.std.proofs.Common.{◌≡◌, length}
 use Rattle.queue_machine.specs.Machine.{world_of}
 use Rattle.queue_machine.specs.Replays.{IsRoomy}
 use Rattle.queue_machine.proofs.AllKinds.{Known}
