@@ -1,4 +1,4 @@
-use Rattle.std.proofs.Common.{rules, ap, Some, ◌≡◌, sym, subst}
+use Rattle.std.proofs.Common.{rules, Some, ◌≡◌, sym, subst}
 use Rattle.queue_steps.specs.Legal.{IsShown}
 use Rattle.queue_steps.specs.Effect.{after}
 use Rattle.concurrent_queue.proofs.Views.{finishes}
