@@ -6,6 +6,8 @@ mod cells;
 mod driver;
 pub mod exclusive;
 mod gate;
+#[cfg(test)]
+mod held;
 mod known;
 mod party;
 pub mod shared;

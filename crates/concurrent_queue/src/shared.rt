@@ -64,7 +64,7 @@ impl<T, A: Allocator + Clone> ConcurrentQueue<T, A> {
 impl<T, A: Allocator> ConcurrentQueue<T, A> {
     /// Runs a call to its end.
     #[inline(always)]
-    fn answer<R: Wait, G: Gate>(
+    pub(crate) fn answer<R: Wait, G: Gate>(
         &self,
         rt: &R,
         gate: &G,
