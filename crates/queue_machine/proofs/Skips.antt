@@ -19,7 +19,7 @@ use Rattle.queue_machine.proofs.SoFar.{entries-more, Run-length}
 use Rattle.queue_machine.proofs.Trace.{answered}
 
 -- the skipped events after the event n, which was skipped or not
-abbrev noted : ℕ → Bool → List ℕ → List ℕ
+abbrev pub noted : ℕ → Bool → List ℕ → List ℕ
 noted n true S = S ++ n ∷ []
 noted n false S = S
 
@@ -36,14 +36,19 @@ in-front n [] ys h = absurd h
 in-front n (x ∷ xs) ys (inl e) = inl e
 in-front n (x ∷ xs) ys (inr h) = inr (in-front n xs ys h)
 
-in-end : (n : ℕ) (xs : List ℕ) → IsIn n (xs ++ n ∷ [])
+pub in-end : (n : ℕ) (xs : List ℕ) → IsIn n (xs ++ n ∷ [])
 in-end n [] = inl refl
 in-end n (x ∷ xs) = inr (in-end n xs)
 
-event-less : {X : Type 0} (xs ys : List X) (n : ℕ) (x : X) → n < length xs → event_at (xs ++ ys) n ≡ Some x → event_at xs n ≡ Some x
+pub event-less : {X : Type 0} (xs ys : List X) (n : ℕ) (x : X) → n < length xs → event_at (xs ++ ys) n ≡ Some x → event_at xs n ≡ Some x
 event-less [] ys n x lt e = absurd (omega arith)
 event-less (y ∷ xs) ys zero x lt e = e
 event-less (y ∷ xs) ys (suc n) x lt e = event-less xs ys n x (omega arith) e
+
+-- the numbers of earlier events are other numbers
+pub not-in-later : (n : ℕ) (S : List ℕ) → Each (λ m. m < n) S → IsNotIn n S
+not-in-later n [] all = tt
+not-in-later n (m ∷ S) all = ((λ e. let lt = all.0 in absurd (omega arith)), not-in-later n S all.1)
 
 not-in-noted : (n m : ℕ) (b : Bool) (S : List ℕ) → m < n → IsNotIn m S → IsNotIn m (noted n b S)
 not-in-noted n m true S lt all = each-more (λ k. k ≢ m) S n all (λ e. absurd (omega arith))
