@@ -1,21 +1,11 @@
 -- Exactly the events that do not fit are skipped.
-use Rattle.std.proofs.Common.{◌≡◌, ◌≢◌, ◌⊎◌, ◌∙◌, ℕ, zero, suc, ◌+◌, ◌<◌, ◌≤◌, ◌&&◌, nat_lt, Bool, true, false, Option, Some, None, is_some, is_none, List, [], ◌∷◌, ◌++◌, length, refl, sym, ap, subst, arith, inl, inr, append-nil, append_assoc}
-use Rattle.std.proofs.lemmas.Bool.{ltb-true, lt-ltb}
-use Rattle.std.proofs.lemmas.Bool.Decides.{eqb_tells}
-use Rattle.queue_steps.specs.declared.model.Call.{Call}
+use Rattle.std.proofs.Common.{◌≡◌, ◌≢◌, ◌⊎◌, ℕ, zero, suc, ◌+◌, ◌<◌, ◌≤◌, Bool, true, false, Option, Some, None, List, [], ◌∷◌, ◌++◌, length, refl, sym, subst, arith, inl, inr}
 use Rattle.queue_steps.specs.declared.model.Reply.{Reply}
-use Rattle.queue_machine.specs.declared.types.EffectKind.{EffectKind}
 use Rattle.queue_machine.specs.declared.types.Event.{Event}
 use Rattle.queue_machine.specs.declared.types.Event.TheVariants.{Begin, Step}
-use Rattle.queue_machine.specs.declared.types.Told.{Told}
-use Rattle.queue_machine.specs.declared.types.Told.TheVariants.{Skipped, Ran}
-use Rattle.queue_machine.specs.Book.{Book, Open, fits, Happens, Run, Steps, begun, joined, watched, at_open, after_own, opening}
-use Rattle.queue_machine.specs.Conforms.{Conforms, party_of, entries_from, reply_entry, skipped_entry}
 use Rattle.queue_machine.specs.Meaning.{Each, event_at, IsUnanswered}
-use Rattle.queue_machine.specs.Skips.{IsIn, IsNotIn, IsInCall, ShouldRun, IsExact, SkippedIsExact}
-use Rattle.queue_machine.proofs.Entries.{each-more, each-all, event-within, event-more, event-last}
-use Rattle.queue_machine.proofs.Lone.{put-same, put-other}
-use Rattle.queue_machine.proofs.SoFar.{entries-more, Run-length}
+use Rattle.queue_machine.specs.Skips.{IsIn, IsNotIn, IsInCall, IsExact}
+use Rattle.queue_machine.proofs.Entries.{each-more, event-more}
 use Rattle.queue_machine.proofs.Trace.{answered}
 
 -- the skipped events after the event n, which was skipped or not
@@ -63,7 +53,6 @@ not-in-before n m true S all = each-front (λ k. k ≢ m) S (n ∷ []) all
 not-in-before n m false S all = all
 
 module _ (T : Type 0) (past : List (Event T)) (x : Event T) (S : List ℕ) (R : List (ℕ × ℕ × Reply T)) (n p : ℕ) (b : Bool) (r : Option (Reply T)) (len : n ≡ length past) (early : Each (λ y. y.0 < n) R) where
-
   abbrev now : List (Event T)
   now = past ++ x ∷ []
 
@@ -98,7 +87,11 @@ module _ (T : Type 0) (past : List (Event T)) (x : Event T) (S : List ℕ) (R : 
   goes-on q other c =
       let lt = c.before in
       record {
-        first = c.first; call = c.call; begins = event-more past (x ∷ []) c.first (Begin q c.call) c.begins; before = omega arith; ran = not-in-noted n c.first b S c.before c.ran;
+        first = c.first;
+        call = c.call;
+        begins = event-more past (x ∷ []) c.first (Begin q c.call) c.begins;
+        before = omega arith;
+        ran = not-in-noted n c.first b S c.before c.ran;
         unanswered = later r other;
       }
     where
@@ -114,9 +107,9 @@ module _ (T : Type 0) (past : List (Event T)) (x : Event T) (S : List ℕ) (R : 
   -- a call after this event was there before it, or began at it
   pub was-there : (q : ℕ) → (c : IsInCall now (noted n b S) (answered n p r R) q (n + 1)) → (c.first ≡ n) ⊎ IsInCall past S R q n
   was-there q c = elim (cases c.first c.before) [
-      inl e ↦ inl e
-      | inr lt ↦ inr (record { first = c.first; call = c.call; begins = event-less past (x ∷ []) c.first (Begin q c.call) (omega arith) c.begins; before = lt; ran = not-in-before n c.first b S c.ran; unanswered = nearer R (unanswered-before q c.first (n + 1) r c.unanswered) })
-    ]
+    | inl e ↦ inl e
+    | inr lt ↦ inr (record { first = c.first; call = c.call; begins = event-less past (x ∷ []) c.first (Begin q c.call) (omega arith) c.begins; before = lt; ran = not-in-before n c.first b S c.ran; unanswered = nearer R (unanswered-before q c.first (n + 1) r c.unanswered) })
+  ]
     where
       cases : (m : ℕ) → m < n + 1 → (m ≡ n) ⊎ (m < n)
       cases m lt = grind arith

@@ -1,5 +1,5 @@
 -- A whole run skips exactly the events that do not fit.
-use Rattle.std.proofs.Common.{◌≡◌, ◌≢◌, ◌⊎◌, ◌∙◌, ℕ, ◌+◌, ◌<◌, ◌≤◌, ◌&&◌, nat_lt, Bool, true, false, if◌then◌else◌, Option, Some, None, is_some, is_none, List, [], ◌∷◌, ◌++◌, length, refl, sym, ap, subst, arith, inl, inr, append-nil, append_assoc, length-append}
+use Rattle.std.proofs.Common.{◌≡◌, ◌≢◌, ◌⊎◌, ◌∙◌, ℕ, ◌+◌, ◌<◌, ◌&&◌, nat_lt, Bool, true, false, Option, Some, None, is_some, is_none, List, [], ◌∷◌, ◌++◌, length, refl, sym, ap, subst, arith, inl, inr, append-nil, length-append}
 use Rattle.std.proofs.lemmas.Bool.{ltb-true, lt-ltb}
 use Rattle.std.proofs.lemmas.Bool.Decides.{eqb_tells}
 use Rattle.queue_steps.specs.declared.model.Call.{Call}
@@ -9,12 +9,11 @@ use Rattle.queue_machine.specs.declared.types.Event.{Event}
 use Rattle.queue_machine.specs.declared.types.Event.TheVariants.{Begin, Step}
 use Rattle.queue_machine.specs.declared.types.Told.{Told}
 use Rattle.queue_machine.specs.declared.types.Told.TheVariants.{Skipped, Ran}
-use Rattle.queue_machine.specs.Book.{Book, Open, fits, Happens, Run, Steps, begun, joined, watched, at_open, after_own, opening}
-use Rattle.queue_machine.specs.Conforms.{Conforms, party_of, entries_from, reply_entry, skipped_entry}
-use Rattle.queue_machine.specs.Meaning.{Each, event_at, IsUnanswered}
-use Rattle.queue_machine.specs.Skips.{IsIn, IsNotIn, IsInCall, ShouldRun, IsExact, SkippedIsExact}
+use Rattle.queue_machine.specs.Book.{Book, Open, fits, joined, watched, at_open}
+use Rattle.queue_machine.specs.Conforms.{party_of, entries_from, reply_entry, skipped_entry}
+use Rattle.queue_machine.specs.Meaning.{Each, event_at}
+use Rattle.queue_machine.specs.Skips.{IsNotIn, IsInCall, ShouldRun, IsExact}
 use Rattle.queue_machine.proofs.Entries.{each-more, each-all, event-within, event-last}
-use Rattle.queue_machine.proofs.Lone.{put-same, put-other}
 use Rattle.queue_machine.proofs.SoFar.{entries-more}
 use Rattle.queue_machine.proofs.Trace.{answered}
 use Rattle.queue_machine.proofs.Skips.{noted, event-less, in-end, not-in-later, earlier-now, earlier-before, exact-now, goes-on, was-there, is-over}
@@ -67,10 +66,10 @@ some-same x y e = cc
 
 -- after one event more, by what is so of it and of the calls after it
 fair-more : {T : Type 0} (parties : ℕ) (past : List (Event T)) (told : List (Told T)) (n : ℕ) (S : List ℕ) (R : List (ℕ × ℕ × Reply T)) (b c : Book T) (x : Event T) (t : Told T) → Fair parties past told n S R b
-  → IsExact parties (past ++ x ∷ []) (noted n (is_skipped t) S) (answered n (party_of x) (reply_told t) R) n x
-  → ((q : ℕ) (o : Open T) → c.open_call q ≡ Some o → IsInCall (past ++ x ∷ []) (noted n (is_skipped t) S) (answered n (party_of x) (reply_told t) R) q (n + 1))
-  → ((q : ℕ) → c.open_call q ≡ None → IsInCall (past ++ x ∷ []) (noted n (is_skipped t) S) (answered n (party_of x) (reply_told t) R) q (n + 1) → ⊥)
-  → Fair parties (past ++ x ∷ []) (told ++ t ∷ []) (n + 1) (noted n (is_skipped t) S) (answered n (party_of x) (reply_told t) R) c
+    → IsExact parties (past ++ x ∷ []) (noted n (is_skipped t) S) (answered n (party_of x) (reply_told t) R) n x
+    → ((q : ℕ) (o : Open T) → c.open_call q ≡ Some o → IsInCall (past ++ x ∷ []) (noted n (is_skipped t) S) (answered n (party_of x) (reply_told t) R) q (n + 1))
+    → ((q : ℕ) → c.open_call q ≡ None → IsInCall (past ++ x ∷ []) (noted n (is_skipped t) S) (answered n (party_of x) (reply_told t) R) q (n + 1) → ⊥)
+    → Fair parties (past ++ x ∷ []) (told ++ t ∷ []) (n + 1) (noted n (is_skipped t) S) (answered n (party_of x) (reply_told t) R) c
 fair-more {T} parties past told n S R b c x t f here inside outside = record {
   len = omega (arith, f.len, length-one past x);
   same = omega (arith, f.same, length-one past x, length-one told t);
@@ -81,13 +80,13 @@ fair-more {T} parties past told n S R b c x t f here inside outside = record {
   inside = inside;
   outside = outside;
   exact = λ m y e.
-    let within = event-within (past ++ x ∷ []) m y e in
-    elim (last-or-earlier m n (omega (arith, within, length-one past x, f.len))) [
-      inl at ↦
-        let is : x ≡ y = let last = event-last past n x f.len in let e' : event_at (past ++ x ∷ []) n ≡ Some y = subst (λ k. event_at (past ++ x ∷ []) k ≡ Some y) at e in some-same x y (sym last ∙ e') in
-        subst (λ k. IsExact parties (past ++ x ∷ []) (noted n (is_skipped t) S) (answered n (party_of x) (reply_told t) R) k y) (sym at) (subst (λ z. IsExact parties (past ++ x ∷ []) (noted n (is_skipped t) S) (answered n (party_of x) (reply_told t) R) n z) is here)
-      | inr lt ↦ exact-now T past x S R n (party_of x) (is_skipped t) (reply_told t) f.len f.early m y parties lt (f.exact m y (event-less past (x ∷ []) m y (omega (arith, f.len)) e))
-    ];
+      let within = event-within (past ++ x ∷ []) m y e in
+      elim (last-or-earlier m n (omega (arith, within, length-one past x, f.len))) [
+        | inl at ↦
+            let is : x ≡ y = let last = event-last past n x f.len in let e' : event_at (past ++ x ∷ []) n ≡ Some y = subst (λ k. event_at (past ++ x ∷ []) k ≡ Some y) at e in some-same x y (sym last ∙ e') in
+            subst (λ k. IsExact parties (past ++ x ∷ []) (noted n (is_skipped t) S) (answered n (party_of x) (reply_told t) R) k y) (sym at) (subst (λ z. IsExact parties (past ++ x ∷ []) (noted n (is_skipped t) S) (answered n (party_of x) (reply_told t) R) n z) is here)
+        | inr lt ↦ exact-now T past x S R n (party_of x) (is_skipped t) (reply_told t) f.len f.early m y parties lt (f.exact m y (event-less past (x ∷ []) m y (omega (arith, f.len)) e))
+      ];
 }
 
 and-left : (a b : Bool) → (a && b) ≡ true → a ≡ true
@@ -138,7 +137,6 @@ open-some f None o e = cc
 open-some f (Some x) o e = (x, refl)
 
 module _ (T : Type 0) (parties : ℕ) (past : List (Event T)) (told : List (Told T)) (n : ℕ) (S : List ℕ) (R : List (ℕ × ℕ × Reply T)) (b : Book T) (f : Fair parties past told n S R b) where
-
   abbrev pub next : Event T → Told T → Book T → Type 0
   next x t c = Fair parties (past ++ x ∷ []) (told ++ t ∷ []) (n + 1) (noted n (is_skipped t) S) (answered n (party_of x) (reply_told t) R) c
 
@@ -147,7 +145,7 @@ module _ (T : Type 0) (parties : ℕ) (past : List (Event T)) (told : List (Told
   fair-skipped x c bad same = fair-more parties past told n S R b c x Skipped f (inr (not_right x bad, in-end n S))
       (λ q o e. goes-on T past x S R n (party_of x) true None f.len f.early q (inl refl) (f.inside q o (sym (ap (λ z. z.open_call q) same) ∙ e)))
       (λ q e in_call. elim (was-there T past x S R n (party_of x) true None f.len f.early q in_call) [
-        inl at ↦ absurd (not-last S in_call.first at in_call.ran)
+        | inl at ↦ absurd (not-last S in_call.first at in_call.ran)
         | inr old ↦ f.outside q (sym (ap (λ z. z.open_call q) same) ∙ e) old
       ])
     where
@@ -168,13 +166,13 @@ module _ (T : Type 0) (parties : ℕ) (past : List (Event T)) (told : List (Told
   fair-begun p k c good others o mine = fair-more parties past told n S R b c (Begin p k) (Ran None None) f
       (inl ((ltb-true p parties (and-left (nat_lt p parties) (is_none (b.open_call p)) good), λ in_call. f.outside p (none-if (b.open_call p) (and-right (nat_lt p parties) (is_none (b.open_call p)) good)) (earlier-before T past (Begin p k) S R n p false None f.len f.early p n (omega arith) in_call)), not-in-later n S f.early_skipped))
       (λ q x e. elim (eqb_tells q p) [
-        inl t ↦ subst (λ z. IsInCall (past ++ Begin p k ∷ []) S R z (n + 1)) (sym t.1) fresh
+        | inl t ↦ subst (λ z. IsInCall (past ++ Begin p k ∷ []) S R z (n + 1)) (sym t.1) fresh
         | inr t ↦ let old = open-some joined (b.open_call q) x (sym (others q t.1) ∙ e) in goes-on T past (Begin p k) S R n p false None f.len f.early q (inl refl) (f.inside q old.0 old.1)
       ])
       (λ q e in_call. elim (eqb_tells q p) [
-        inl t ↦ let there : c.open_call p ≡ None = ap c.open_call (sym t.1) ∙ e in let h = mine in cc
+        | inl t ↦ let there : c.open_call p ≡ None = ap c.open_call (sym t.1) ∙ e in let h = mine in cc
         | inr t ↦ elim (was-there T past (Begin p k) S R n p false None f.len f.early q in_call) [
-          inl at ↦ absurd (t.1 (begin-party p q k in_call.call (sym (event-last past n (Begin p k) f.len) ∙ subst (λ m. event_at (past ++ Begin p k ∷ []) m ≡ Some (Begin q in_call.call)) at in_call.begins)))
+          | inl at ↦ absurd (t.1 (begin-party p q k in_call.call (sym (event-last past n (Begin p k) f.len) ∙ subst (λ m. event_at (past ++ Begin p k ∷ []) m ≡ Some (Begin q in_call.call)) at in_call.begins)))
           | inr old ↦ f.outside q (open-none joined (b.open_call q) (sym (others q t.1) ∙ e)) old
         ]
       ])
@@ -189,28 +187,28 @@ module _ (T : Type 0) (parties : ℕ) (past : List (Event T)) (told : List (Told
       fair-more parties past told n S R b c (Begin p k) (Ran None (Some r)) f
       (inl ((ltb-true p parties (and-left (nat_lt p parties) (is_none (b.open_call p)) good), λ in_call. f.outside p free (earlier-before T past (Begin p k) S R n p false (Some r) f.len f.early p n (omega arith) in_call)), not-in-later n S f.early_skipped))
       (λ q x e.
-        let was : b.open_call q ≡ Some x = sym (ap (λ z. z.open_call q) same) ∙ e in
-        goes-on T past (Begin p k) S R n p false (Some r) f.len f.early q (inr (λ s. let g : b.open_call q ≡ None = ap b.open_call s ∙ free in cc)) (f.inside q x was))
+      let was : b.open_call q ≡ Some x = sym (ap (λ z. z.open_call q) same) ∙ e in
+      goes-on T past (Begin p k) S R n p false (Some r) f.len f.early q (inr (λ s. let g : b.open_call q ≡ None = ap b.open_call s ∙ free in cc)) (f.inside q x was))
       (λ q e in_call. elim (was-there T past (Begin p k) S R n p false (Some r) f.len f.early q in_call) [
-        inl at ↦
-          let is = begin-party p q k in_call.call (sym (event-last past n (Begin p k) f.len) ∙ subst (λ m. event_at (past ++ Begin p k ∷ []) m ≡ Some (Begin q in_call.call)) at in_call.begins) in
-          is-over T past (Begin p k) S R n p false (Some r) f.len f.early r refl (subst (λ z. IsInCall (past ++ Begin p k ∷ []) S (R ++ (n, p, r) ∷ []) z (n + 1)) is in_call)
+        | inl at ↦
+            let is = begin-party p q k in_call.call (sym (event-last past n (Begin p k) f.len) ∙ subst (λ m. event_at (past ++ Begin p k ∷ []) m ≡ Some (Begin q in_call.call)) at in_call.begins) in
+            is-over T past (Begin p k) S R n p false (Some r) f.len f.early r refl (subst (λ z. IsInCall (past ++ Begin p k ∷ []) S (R ++ (n, p, r) ∷ []) z (n + 1)) is in_call)
         | inr old ↦ f.outside q (sym (ap (λ z. z.open_call q) same) ∙ e) old
       ])
 
   -- a step
   pub fair-step : (p : ℕ) (g : Bool) (k : Option EffectKind) (r : Option (Reply T)) (c : Book T) → fits parties b (Step p g) ≡ true → (o : Open T) → b.open_call p ≡ Some o
-    → ((j : ℕ) → j ≢ p → c.open_call j ≡ at_open (watched c.queue) (b.open_call j)) → ((x : Open T) → c.open_call p ≡ Some x → r ≡ None) → (c.open_call p ≡ None → (z : Reply T) × (r ≡ Some z)) → next (Step p g) (Ran k r) c
+      → ((j : ℕ) → j ≢ p → c.open_call j ≡ at_open (watched c.queue) (b.open_call j)) → ((x : Open T) → c.open_call p ≡ Some x → r ≡ None) → (c.open_call p ≡ None → (z : Reply T) × (r ≡ Some z)) → next (Step p g) (Ran k r) c
   fair-step p g k r c good o here others stays over = fair-more parties past told n S R b c (Step p g) (Ran k r) f
       (inl ((ltb-true p parties (and-left (nat_lt p parties) (is_some (b.open_call p)) good), earlier-now T past (Step p g) S R n p false r f.len f.early p n (omega arith) (f.inside p o here)), not-in-later n S f.early_skipped))
       (λ q x e. elim (eqb_tells q p) [
-        inl t ↦ subst (λ z. IsInCall (past ++ Step p g ∷ []) S (answered n p r R) z (n + 1)) (sym t.1) (goes-on T past (Step p g) S R n p false r f.len f.early p (inl (stays x (ap c.open_call (sym t.1) ∙ e))) (f.inside p o here))
+        | inl t ↦ subst (λ z. IsInCall (past ++ Step p g ∷ []) S (answered n p r R) z (n + 1)) (sym t.1) (goes-on T past (Step p g) S R n p false r f.len f.early p (inl (stays x (ap c.open_call (sym t.1) ∙ e))) (f.inside p o here))
         | inr t ↦ let old = open-some (watched c.queue) (b.open_call q) x (sym (others q t.1) ∙ e) in goes-on T past (Step p g) S R n p false r f.len f.early q (inr t.1) (f.inside q old.0 old.1)
       ])
       (λ q e in_call. elim (eqb_tells q p) [
-        inl t ↦ let z = over (ap c.open_call (sym t.1) ∙ e) in is-over T past (Step p g) S R n p false r f.len f.early z.0 z.1 (subst (λ y. IsInCall (past ++ Step p g ∷ []) S (answered n p r R) y (n + 1)) t.1 in_call)
+        | inl t ↦ let z = over (ap c.open_call (sym t.1) ∙ e) in is-over T past (Step p g) S R n p false r f.len f.early z.0 z.1 (subst (λ y. IsInCall (past ++ Step p g ∷ []) S (answered n p r R) y (n + 1)) t.1 in_call)
         | inr t ↦ elim (was-there T past (Step p g) S R n p false r f.len f.early q in_call) [
-          inl at ↦ absurd (begin-not-step p q in_call.call g (sym (event-last past n (Step p g) f.len) ∙ subst (λ m. event_at (past ++ Step p g ∷ []) m ≡ Some (Begin q in_call.call)) at in_call.begins))
+          | inl at ↦ absurd (begin-not-step p q in_call.call g (sym (event-last past n (Step p g) f.len) ∙ subst (λ m. event_at (past ++ Step p g ∷ []) m ≡ Some (Begin q in_call.call)) at in_call.begins))
           | inr old ↦ f.outside q (open-none (watched c.queue) (b.open_call q) (sym (others q t.1) ∙ e)) old
         ]
       ])

@@ -1,10 +1,9 @@
-use Rattle.std.proofs.Common.{arith, refl, ◌≡◌, ◌∙◌, ap, subst, sym}
+use Rattle.std.proofs.Common.{◌≡◌, ◌∙◌, ap, sym}
 use Rattle.std.proofs.lemmas.List.{map-id}
 use Rattle.std.proofs.lemmas.Iterator.Adapters.{YieldsList-from_vec}
 use Rattle.std.proofs.lemmas.Iterator.Consumers.{YieldsList-end}
 use Rattle.queue_machine.specs.Left.{opening_world}
 use Rattle.queue_machine.specs.Machine.{world_of, played}
-use Rattle.queue_machine.specs.WordsOf.{AreWords}
 use Rattle.queue_machine.proofs.AllKinds.{standing-first, standing-can, standing-next, has_machine}
 use Rattle.queue_machine.proofs.words.words_after.Goals as goal
 
