@@ -1,5 +1,5 @@
 //! Runs on a ring of two slots, with calls that go on within each other.
-use crate::script::Script;
+use crate::script::{Script, words_of};
 use queue_machine::replay;
 use queue_machine::types::EffectKind;
 use queue_steps::errors::{ForcePushError, PopError, PushError};
@@ -53,6 +53,71 @@ fn close_within_a_displacement(rt: HostRuntime) -> Result<(), Fail> {
     ];
     assert_eq!(rt; told.replies.as_slice(), replies.as_slice());
     assert!(rt; told.left.is_empty());
+    Ok(())
+}
+
+/// The beginning of a displacement with a close and a pop within it: so many of its parts.
+fn part_of_a_displacement(alloc: Global, parts: u64) -> Result<Script, AllocError> {
+    let mut script = holding_two(alloc)?;
+    if parts > 0 {
+        script.begin(0, Call::ForcePush(3))?;
+        script.steps(0, 3)?;
+    }
+    if parts > 1 {
+        script.call(1, Call::Close)?;
+    }
+    if parts > 2 {
+        script.call(1, Call::Pop)?;
+    }
+    if parts > 3 {
+        script.call(1, Call::Pop)?;
+        script.run(0)?;
+    }
+    Ok(script)
+}
+
+/// The words on the way through a displacement: the tail is twice the position, and one more once the queue is closed.
+#[test]
+fn words_within_a_displacement(rt: HostRuntime) -> Result<(), Fail> {
+    let full = words_of(part_of_a_displacement(rt.alloc(), 0)?, 2)?;
+    assert!(rt; full.tail == 4 && full.head == 0);
+    let front = words_of(part_of_a_displacement(rt.alloc(), 1)?, 2)?;
+    assert!(rt; front.tail == 4 && front.head == 1);
+    let closed = words_of(part_of_a_displacement(rt.alloc(), 2)?, 2)?;
+    assert!(rt; closed.tail == 5 && closed.head == 1);
+    let popped = words_of(part_of_a_displacement(rt.alloc(), 3)?, 2)?;
+    assert!(rt; popped.tail == 5 && popped.head == 2);
+    assert_eq!(rt; popped.stamps.as_slice(), [1u64, 3].as_slice());
+    let arrived = words_of(part_of_a_displacement(rt.alloc(), 4)?, 2)?;
+    assert!(rt; arrived.tail == 7 && arrived.head == 2);
+    assert_eq!(rt; arrived.stamps.as_slice(), [3u64, 3].as_slice());
+    Ok(())
+}
+
+/// A machine that lets one call go on at a time, or does each call whole at its first step, is found out: a push that began later ends first.
+#[test]
+fn machine_one_call_at_a_time(rt: HostRuntime) -> Result<(), Fail> {
+    let mut script = Script::new(rt.alloc());
+    script.begin(0, Call::Push(1))?;
+    script.steps(0, 3)?;
+    script.call(1, Call::Push(2))?;
+    script.call(1, Call::Pop)?;
+    script.steps(0, 1)?;
+    script.run(1)?;
+    let told = script.on_two(2)?;
+    let effects = [
+        (0usize, EffectKind::Append),
+        (1, EffectKind::Append),
+        (1, EffectKind::Take),
+    ];
+    assert_eq!(rt; told.effects.as_slice(), effects.as_slice());
+    let replies = [
+        (1usize, Reply::Push(Ok(()))),
+        (0, Reply::Push(Ok(()))),
+        (1, Reply::Pop(Ok(1u64))),
+    ];
+    assert_eq!(rt; told.replies.as_slice(), replies.as_slice());
+    assert_eq!(rt; told.left.as_slice(), [2u64].as_slice());
     Ok(())
 }
 
@@ -142,7 +207,10 @@ fn closed_after(alloc: Global, steps: u64) -> Result<Script, AllocError> {
 fn closes_at_each_step_of_a_displacement(rt: HostRuntime) -> Result<(), Fail> {
     use EffectKind::{Append, Arrive, Close, Front};
     let early = closed_after(rt.alloc(), 0)?.on_two(2)?;
-    assert_eq!(rt; early.effects.as_slice(), [(0usize, Append), (0, Append), (1, Close)].as_slice());
+    assert_eq!(rt;
+        early.effects.as_slice(),
+        [(0usize, Append), (0, Append), (1, Close)].as_slice()
+    );
     assert_eq!(rt; early.left.as_slice(), [1u64, 2].as_slice());
     let closed = [
         (0usize, Reply::Push(Ok(()))),
@@ -162,11 +230,19 @@ fn closes_at_each_step_of_a_displacement(rt: HostRuntime) -> Result<(), Fail> {
             [(0, Front), (0, Arrive), (1, Close)]
         };
         let [third, fourth, fifth] = last;
-        assert_eq!(rt; told.effects.as_slice(), [(0usize, Append), (0, Append), third, fourth, fifth].as_slice(), "after {steps}");
+        assert_eq!(rt;
+            told.effects.as_slice(),
+            [(0usize, Append), (0, Append), third, fourth, fifth].as_slice(),
+            "after {steps}"
+        );
         assert_eq!(rt; told.left.as_slice(), [2u64, 3].as_slice(), "after {steps}");
         let displaced = (0usize, Reply::ForcePush(Ok(Some(1u64))));
         let close = (1usize, Reply::Close(true));
-        let (first, second) = if steps < 5 { (close, displaced) } else { (displaced, close) };
+        let (first, second) = if steps < 5 {
+            (close, displaced)
+        } else {
+            (displaced, close)
+        };
         let replies = [
             (0usize, Reply::Push(Ok(()))),
             (0, Reply::Push(Ok(()))),
@@ -174,7 +250,11 @@ fn closes_at_each_step_of_a_displacement(rt: HostRuntime) -> Result<(), Fail> {
             second,
             (1, Reply::IsClosed(true)),
         ];
-        assert_eq!(rt; told.replies.as_slice(), replies.as_slice(), "after {steps}");
+        assert_eq!(rt;
+            told.replies.as_slice(),
+            replies.as_slice(),
+            "after {steps}"
+        );
     }
     Ok(())
 }

@@ -1,6 +1,7 @@
 //! Lists of events, and what is told of their runs.
 use queue_machine::replay;
 use queue_machine::types::{EffectKind, Event, Replay};
+use queue_machine::words::{Words, words_after};
 use queue_steps::model::{Call, Reply};
 use queue_steps::sizes::LONE_STEPS;
 use queue_steps::steps::Kind;
@@ -57,6 +58,12 @@ impl Script {
         let Script { alloc, events } = self;
         summarize(alloc, replay(alloc, Kind::Bounded(2), parties, events)?)
     }
+}
+
+/// The words of the ring of two slots after these events.
+pub(crate) fn words_of(script: Script, parties: usize) -> Result<Words, AllocError> {
+    let Script { alloc, events } = script;
+    words_after(alloc, Kind::Bounded(2), parties, events)
 }
 
 /// What is told of a run, without the numbers of the events.

@@ -25,7 +25,11 @@ fn pop_holds_the_slot(rt: HostRuntime) -> Result<(), Fail> {
     events.push(Event::Step(1, true))?;
     events.push(Event::Step(1, true))?;
     let run = replay(alloc, Kind::Single, 2, events)?;
-    let effects = [(1usize, 0usize, EffectKind::Append), (4, 0, EffectKind::Take), (10, 1, EffectKind::Append)];
+    let effects = [
+        (1usize, 0usize, EffectKind::Append),
+        (4, 0, EffectKind::Take),
+        (10, 1, EffectKind::Append),
+    ];
     assert_eq!(rt; run.effects.as_slice(), effects.as_slice());
     let replies = [
         (2usize, 0usize, Reply::Push(Ok(()))),
@@ -74,8 +78,14 @@ fn refused_steps_and_strangers(rt: HostRuntime) -> Result<(), Fail> {
     events.push(Event::Step(0, true))?;
     events.push(Event::Begin(1, Call::Push(6u64)))?;
     let run = replay(alloc, Kind::Single, 1, events)?;
-    assert_eq!(rt; run.effects.as_slice(), [(1usize, 0usize, EffectKind::Append)].as_slice());
-    assert_eq!(rt; run.replies.as_slice(), [(2usize, 0usize, Reply::Push(Ok(())))].as_slice());
+    assert_eq!(rt;
+        run.effects.as_slice(),
+        [(1usize, 0usize, EffectKind::Append)].as_slice()
+    );
+    assert_eq!(rt;
+        run.replies.as_slice(),
+        [(2usize, 0usize, Reply::Push(Ok(())))].as_slice()
+    );
     assert_eq!(rt; run.skipped.as_slice(), [3usize, 4, 5].as_slice());
     assert_eq!(rt; run.left.as_slice(), [5u64].as_slice());
     Ok(())

@@ -1,5 +1,5 @@
 -- Every kind of queue that the machine has keeps the laws, and so every run of it conforms.
-use Rattle.std.proofs.Common.{ℕ, ◌≤◌, ◌≡◌, false, Some, List, [], ◌∷◌, ◌++◌, length, refl, arith}
+use Rattle.std.proofs.Common.{ℕ, ◌≤◌, ◌≡◌, false, Some, List, [], ◌∷◌, ◌++◌, length, refl, arith, ◌∙◌, sym, ap}
 use Rattle.queue_steps.specs.declared.model.Call.{Call}
 use Rattle.queue_steps.specs.declared.model.Call.TheVariants as call
 use Rattle.queue_steps.specs.declared.model.Reply.{Reply}
@@ -18,7 +18,7 @@ use Rattle.queue_machine.specs.Left.{left_of, opening_world, HasSlot}
 use Rattle.queue_machine.specs.Replays.{CanReplay, is_too_large}
 use Rattle.queue_machine.specs.Conforms.{HasNoBlocks}
 use Rattle.queue_machine.specs.declared.types.Peak.{Peak}
-use Rattle.queue_machine.specs.Machine.{event_of, CanHandle}
+use Rattle.queue_machine.specs.Machine.{event_of, CanHandle, played}
 use Rattle.queue_machine.specs.World.{World}
 use Rattle.queue_machine.proofs.KindLaws.{KindLaws}
 use Rattle.queue_machine.proofs.SingleLeft.{single_laws}
@@ -112,3 +112,30 @@ pub has_slot : (k : Kind) → HasMachine k → HasSlot k
 has_slot kind.Single has = tt
 has_slot (kind.Bounded n) has = let many = has.0 in omega arith
 has_slot kind.Unbounded has = tt
+
+-- the same, whatever was told
+pub record Standing {T : Type 0} (k : Kind) (parties : ℕ) (past : List (Event T)) (w : World (Shared T) (Running T)) : Type 0 where
+  pub replies : List (ℕ × ℕ × Reply T)
+  pub effects : List (ℕ × ℕ × EffectKind)
+  pub skipped : List ℕ
+  pub known : Known k parties past w replies effects skipped
+  pub world_is : w ≡ played k (opening_world k parties) past
+
+pub standing-first : {T : Type 0} (k : Kind) (parties : ℕ) → HasMachine k → Standing {T = T} k parties [] (opening_world k parties)
+standing-first k parties has = record { replies = []; effects = []; skipped = []; known = known-first k parties has; world_is = refl }
+
+pub standing-can : {T : Type 0} (k : Kind) (parties : ℕ) (past : List (Event T)) (w : World (Shared T) (Running T)) → Standing k parties past w → (e : Event T) → CanHandle k w e
+standing-can k parties past w s e = known-can k parties past w s.replies s.effects s.skipped s.known e
+
+played-more : {T : Type 0} (k : Kind) (w : World (Shared T) (Running T)) (es : List (Event T)) (e : Event T) → played k w (es ++ e ∷ []) ≡ (event_of k (played k w es) e).0
+played-more k w [] e = refl
+played-more k w (x ∷ es) e = played-more k (event_of k w x).0 es e
+
+pub standing-next : {T : Type 0} (k : Kind) (parties : ℕ) (past : List (Event T)) (w w' : World (Shared T) (Running T)) (e : Event T) → Standing k parties past w → w' ≡ (event_of k w e).0 → Standing k parties (past ++ e ∷ []) w'
+standing-next k parties past w w' e s is = record {
+  replies = s.replies ++ reply_entry (length past) (party_of e) (event_of k w e).1;
+  effects = s.effects ++ effect_entry (length past) (party_of e) (event_of k w e).1;
+  skipped = s.skipped ++ skipped_entry (length past) (party_of e) (event_of k w e).1;
+  known = known-next k parties past w w' s.replies _ s.effects _ s.skipped _ e (length past) (party_of e) (event_of k w e).1 s.known refl refl refl is refl refl refl;
+  world_is = is ∙ ap (λ z. (event_of k z e).0) s.world_is ∙ sym (played-more k (opening_world k parties) past e);
+}

@@ -38,3 +38,5 @@ pub mod Within
 pub mod Lone
 pub mod LoneRun
 pub mod Skips
+pub mod SkipsRun
+pub mod SkipsAll

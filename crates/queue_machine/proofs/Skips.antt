@@ -1,25 +1,15 @@
 -- Exactly the events that do not fit are skipped.
-use Rattle.std.proofs.Common.{◌≡◌, ◌≢◌, ◌⊎◌, ◌∙◌, ℕ, zero, suc, ◌+◌, ◌<◌, ◌≤◌, ◌&&◌, nat_lt, Bool, true, false, Option, Some, None, is_some, is_none, List, [], ◌∷◌, ◌++◌, length, refl, sym, ap, subst, arith, inl, inr, append-nil, append_assoc}
-use Rattle.std.proofs.lemmas.Bool.{ltb-true, lt-ltb}
-use Rattle.std.proofs.lemmas.Bool.Decides.{eqb_tells}
-use Rattle.queue_steps.specs.declared.model.Call.{Call}
+use Rattle.std.proofs.Common.{◌≡◌, ◌≢◌, ◌⊎◌, ℕ, zero, suc, ◌+◌, ◌<◌, ◌≤◌, Bool, true, false, Option, Some, None, List, [], ◌∷◌, ◌++◌, length, refl, sym, subst, arith, inl, inr}
 use Rattle.queue_steps.specs.declared.model.Reply.{Reply}
-use Rattle.queue_machine.specs.declared.types.EffectKind.{EffectKind}
 use Rattle.queue_machine.specs.declared.types.Event.{Event}
 use Rattle.queue_machine.specs.declared.types.Event.TheVariants.{Begin, Step}
-use Rattle.queue_machine.specs.declared.types.Told.{Told}
-use Rattle.queue_machine.specs.declared.types.Told.TheVariants.{Skipped, Ran}
-use Rattle.queue_machine.specs.Book.{Book, Open, fits, Happens, Run, Steps, begun, joined, watched, at_open, after_own, opening}
-use Rattle.queue_machine.specs.Conforms.{Conforms, party_of, entries_from, reply_entry, skipped_entry}
 use Rattle.queue_machine.specs.Meaning.{Each, event_at, IsUnanswered}
-use Rattle.queue_machine.specs.Skips.{IsIn, IsNotIn, IsInCall, ShouldRun, IsExact, SkippedIsExact}
-use Rattle.queue_machine.proofs.Entries.{each-more, each-all, event-within, event-more, event-last}
-use Rattle.queue_machine.proofs.Lone.{put-same, put-other}
-use Rattle.queue_machine.proofs.SoFar.{entries-more, Run-length}
+use Rattle.queue_machine.specs.Skips.{IsIn, IsNotIn, IsInCall, IsExact}
+use Rattle.queue_machine.proofs.Entries.{each-more, event-more}
 use Rattle.queue_machine.proofs.Trace.{answered}
 
 -- the skipped events after the event n, which was skipped or not
-abbrev noted : ℕ → Bool → List ℕ → List ℕ
+abbrev pub noted : ℕ → Bool → List ℕ → List ℕ
 noted n true S = S ++ n ∷ []
 noted n false S = S
 
@@ -36,14 +26,19 @@ in-front n [] ys h = absurd h
 in-front n (x ∷ xs) ys (inl e) = inl e
 in-front n (x ∷ xs) ys (inr h) = inr (in-front n xs ys h)
 
-in-end : (n : ℕ) (xs : List ℕ) → IsIn n (xs ++ n ∷ [])
+pub in-end : (n : ℕ) (xs : List ℕ) → IsIn n (xs ++ n ∷ [])
 in-end n [] = inl refl
 in-end n (x ∷ xs) = inr (in-end n xs)
 
-event-less : {X : Type 0} (xs ys : List X) (n : ℕ) (x : X) → n < length xs → event_at (xs ++ ys) n ≡ Some x → event_at xs n ≡ Some x
+pub event-less : {X : Type 0} (xs ys : List X) (n : ℕ) (x : X) → n < length xs → event_at (xs ++ ys) n ≡ Some x → event_at xs n ≡ Some x
 event-less [] ys n x lt e = absurd (omega arith)
 event-less (y ∷ xs) ys zero x lt e = e
 event-less (y ∷ xs) ys (suc n) x lt e = event-less xs ys n x (omega arith) e
+
+-- the numbers of earlier events are other numbers
+pub not-in-later : (n : ℕ) (S : List ℕ) → Each (λ m. m < n) S → IsNotIn n S
+not-in-later n [] all = tt
+not-in-later n (m ∷ S) all = ((λ e. let lt = all.0 in absurd (omega arith)), not-in-later n S all.1)
 
 not-in-noted : (n m : ℕ) (b : Bool) (S : List ℕ) → m < n → IsNotIn m S → IsNotIn m (noted n b S)
 not-in-noted n m true S lt all = each-more (λ k. k ≢ m) S n all (λ e. absurd (omega arith))
@@ -58,7 +53,6 @@ not-in-before n m true S all = each-front (λ k. k ≢ m) S (n ∷ []) all
 not-in-before n m false S all = all
 
 module _ (T : Type 0) (past : List (Event T)) (x : Event T) (S : List ℕ) (R : List (ℕ × ℕ × Reply T)) (n p : ℕ) (b : Bool) (r : Option (Reply T)) (len : n ≡ length past) (early : Each (λ y. y.0 < n) R) where
-
   abbrev now : List (Event T)
   now = past ++ x ∷ []
 
@@ -93,7 +87,11 @@ module _ (T : Type 0) (past : List (Event T)) (x : Event T) (S : List ℕ) (R : 
   goes-on q other c =
       let lt = c.before in
       record {
-        first = c.first; call = c.call; begins = event-more past (x ∷ []) c.first (Begin q c.call) c.begins; before = omega arith; ran = not-in-noted n c.first b S c.before c.ran;
+        first = c.first;
+        call = c.call;
+        begins = event-more past (x ∷ []) c.first (Begin q c.call) c.begins;
+        before = omega arith;
+        ran = not-in-noted n c.first b S c.before c.ran;
         unanswered = later r other;
       }
     where
@@ -109,9 +107,9 @@ module _ (T : Type 0) (past : List (Event T)) (x : Event T) (S : List ℕ) (R : 
   -- a call after this event was there before it, or began at it
   pub was-there : (q : ℕ) → (c : IsInCall now (noted n b S) (answered n p r R) q (n + 1)) → (c.first ≡ n) ⊎ IsInCall past S R q n
   was-there q c = elim (cases c.first c.before) [
-      inl e ↦ inl e
-      | inr lt ↦ inr (record { first = c.first; call = c.call; begins = event-less past (x ∷ []) c.first (Begin q c.call) (omega arith) c.begins; before = lt; ran = not-in-before n c.first b S c.ran; unanswered = nearer R (unanswered-before q c.first (n + 1) r c.unanswered) })
-    ]
+    | inl e ↦ inl e
+    | inr lt ↦ inr (record { first = c.first; call = c.call; begins = event-less past (x ∷ []) c.first (Begin q c.call) (omega arith) c.begins; before = lt; ran = not-in-before n c.first b S c.ran; unanswered = nearer R (unanswered-before q c.first (n + 1) r c.unanswered) })
+  ]
     where
       cases : (m : ℕ) → m < n + 1 → (m ≡ n) ⊎ (m < n)
       cases m lt = grind arith

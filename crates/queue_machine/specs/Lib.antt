@@ -10,3 +10,4 @@ pub mod OneOwner
 pub mod Meaning
 pub mod Within
 pub mod Skips
+pub mod WordsOf

@@ -1,5 +1,5 @@
 -- The machine as a value, and what one event of it owes.
-use Rattle.std.specs.Prelude.{◌≡◌, true, Some}
+use Rattle.std.specs.Prelude.{◌≡◌, true, Some, List, [], ◌∷◌}
 use Rattle.queue_steps.specs.declared.steps.types.Kind.{Kind}
 use Rattle.queue_machine.specs.declared.machine.Machine.{Machine}
 use Rattle.queue_machine.specs.declared.machine.Running.{Running}
@@ -20,3 +20,8 @@ event_of k w e = world_event (step_of k) (start_of k) w true e
 abbrev pub CanHandle : {T : Type 0} → Kind → World (Shared T) (Running T) → Event T → Type 0
 CanHandle k w (Begin p c) = CanStart k c
 CanHandle {T} k w (Step p granted) = (r : Running T) → call_at w p ≡ Some r → CanStep k true w.shared r
+
+-- the machine after these events, one after another
+abbrev pub played : {T : Type 0} → Kind → World (Shared T) (Running T) → List (Event T) → World (Shared T) (Running T)
+played k w [] = w
+played k w (e ∷ es) = played k (event_of k w e).0 es

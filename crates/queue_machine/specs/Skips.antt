@@ -38,4 +38,4 @@ IsExact parties events skipped replies n x =
 -- exactly the events that do not fit are skipped
 abbrev pub SkippedIsExact : Type 0 → Type 0 → Type 0
 SkippedIsExact T A = (cap : Option ℕ) (parties : ℕ) (events : List (Event T)) (r : Replay T A) → Conforms cap parties events r
-  → (n : ℕ) (x : Event T) → event_at events n ≡ Some x → IsExact parties events r.skipped.items r.replies.items n x
+    → (n : ℕ) (x : Event T) → event_at events n ≡ Some x → IsExact parties events r.skipped.items r.replies.items n x

@@ -1,5 +1,6 @@
 //! What follows from a replay that conforms. Each function is there for its contract alone.
 ghost use Rattle.queue_machine.specs.Meaning.{ConformingHasHistory};
+ghost use Rattle.queue_machine.specs.Skips.{SkippedIsExact};
 ghost use Rattle.queue_machine.specs.Within.{NothingAppendedWithin, LoneCallsReply, PromptCallsReply};
 
 use std::alloc::Allocator;
@@ -11,6 +12,11 @@ use std::alloc::Allocator;
 /// A call that has not ended has a beginning of the effects of one of its replies.
 pub fn has_history<T, A: Allocator>()
     ensures { ConformingHasHistory T A }
+{}
+
+/// Exactly the events that do not fit are skipped: those of no party, those that begin a call within a call, and those that step between calls.
+pub fn skipped_is_exact<T, A: Allocator>()
+    ensures { SkippedIsExact T A }
 {}
 
 /// Between the front that a displacing call takes off and the arrival of its item nothing is appended, by any party.

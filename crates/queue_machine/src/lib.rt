@@ -6,5 +6,6 @@ mod left;
 pub mod machine;
 mod run;
 pub mod types;
+pub mod words;
 
 pub use run::replay;

@@ -67,7 +67,7 @@ fn party<T>(event: &Event<T>) -> usize
 }
 
 /// Whether the capacity is more than any queue may have.
-fn too_large(kind: Kind) -> bool
+pub(crate) fn too_large(kind: Kind) -> bool
     ensures { result ≡ is_too_large kind }
 {
     match kind {

@@ -1,0 +1,43 @@
+use Rattle.std.proofs.Common.{◌≡◌, ◌∙◌, ap, sym}
+use Rattle.std.proofs.lemmas.List.{map-id}
+use Rattle.std.proofs.lemmas.Iterator.Adapters.{YieldsList-from_vec}
+use Rattle.std.proofs.lemmas.Iterator.Consumers.{YieldsList-end}
+use Rattle.queue_machine.specs.Left.{opening_world}
+use Rattle.queue_machine.specs.Machine.{world_of, played}
+use Rattle.queue_machine.proofs.AllKinds.{standing-first, standing-can, standing-next, has_machine}
+use Rattle.queue_machine.proofs.words.words_after.Goals as goal
+
+pub pass-requires : goal.pass-requires
+pass-requires g c =
+    rw c.loop-event.invariant.kind_is (standing-can c.args.kind c.args.parties c.loop-event.yielded (world_of c.loop-event.machine) c.loop-event.invariant.standing c.in-Some.event)
+
+pub loop-event-init : goal.loop-event-init
+loop-event-init g c =
+    record {
+      can = tt;
+      finite = tt;
+      standing = rw c.in_ok-machine.ensures.world (standing-first c.args.kind c.args.parties (has_machine c.args.kind c.requires (sym c.too_large.ensures ∙ c.if-too_large.false)));
+      kind_is = c.in_ok-machine.ensures.kind;
+    }
+
+pub loop-event-preserved : goal.loop-event-preserved
+loop-event-preserved g c =
+    record {
+      can = tt;
+      finite = tt;
+      standing = standing-next c.args.kind c.args.parties c.loop-event.yielded (world_of c.loop-event.machine) (world_of c.pass.new.machine) c.in-Some.event c.loop-event.invariant.standing (rw c.loop-event.invariant.kind_is at c.pass.ensures.world);
+      kind_is = c.pass.ensures.kind ∙ c.loop-event.invariant.kind_is;
+    }
+
+pub returns-clause-words : goal.returns-clause-words
+returns-clause-words g c =
+    let it = c.into_iter-event-iterator.ensures.into_iter_gives in
+    let t = YieldsList-end (YieldsList-from_vec c.args.events.items it.0 (it.1 ∙ c.args.events.ok.0)) c.loop-event.yielded c.loop-event.event-iterator c.loop-event.yielded_by c.next.result c.next.new.self c.in-None.is c.next.ensures.steps in
+    let all : c.loop-event.yielded ≡ c.args.events.items = sym (map-id c.loop-event.yielded) ∙ t.0 in
+    let world : world_of c.loop-event.machine ≡ played c.args.kind (opening_world c.args.kind c.args.parties) c.args.events.items = c.loop-event.invariant.standing.world_is ∙ ap (played c.args.kind (opening_world c.args.kind c.args.parties)) all in
+    record {
+      lock = ap (λ w. w.shared.lock) world;
+      head = ap (λ w. w.shared.head) world;
+      tail = ap (λ w. w.shared.tail) world;
+      stamps = ap (λ w. w.shared.stamps) world;
+    }

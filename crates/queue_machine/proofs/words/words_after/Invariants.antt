@@ -1,0 +1,13 @@
+use Rattle.std.proofs.Common.{◌≡◌}
+use Rattle.queue_machine.specs.Machine.{world_of}
+use Rattle.queue_machine.proofs.AllKinds.{Standing}
+use Rattle.queue_machine.proofs.words.words_after.Given as goal
+
+abbrev pub invariant-loop-event : goal.invariant-loop-event
+invariant-loop-event g l =
+    record {
+      can : (goal.iterator-loop-event g).can_next l.event-iterator;
+      finite : (goal.iterator-loop-event g).is_finite l.event-iterator;
+      standing : Standing l.fn.kind l.fn.parties l.yielded (world_of l.machine);
+      kind_is : l.machine.kind ≡ l.fn.kind;
+    }

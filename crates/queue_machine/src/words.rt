@@ -1,0 +1,76 @@
+//! The words of a queue after a list of events.
+ghost use Rattle.std.specs.Prelude.{◌≡◌, true, IfOk, IsErr};
+ghost use Rattle.queue_machine.specs.Left.{opening_world};
+ghost use Rattle.queue_machine.specs.Machine.{CanHandle, event_of, played, world_of};
+ghost use Rattle.queue_machine.specs.Replays.{CanReplay, is_too_large};
+ghost use Rattle.queue_machine.specs.WordsOf.{AreWords};
+
+use crate::machine::{Cells, Machine};
+use crate::run::too_large;
+use crate::types::Event;
+use queue_steps::steps::Kind;
+use std::alloc::{AllocError, Allocator, Global};
+
+/// The words of a queue of one slot, or of a ring: what each does not have is 0, or empty.
+#[derive(Debug, Drop)]
+pub struct Words<A: Allocator = Global> {
+    /// The word of a queue of one slot.
+    pub lock: u64,
+    /// How far the poppers of a ring are.
+    pub head: u64,
+    /// How far the pushers of a ring are, and whether it is closed.
+    pub tail: u64,
+    /// The stamp of each slot of a ring.
+    pub stamps: Vec<u64, A>,
+}
+
+/// One event, of which nothing is told.
+fn pass<T: Drop, A: Allocator>(machine: &mut Machine<T, A>, event: Event<T>)
+    requires { CanHandle machine.old.kind (world_of machine.old) event }
+    ensures kind { machine.new.kind ≡ machine.old.kind }
+    ensures world { world_of machine.new ≡ (event_of machine.old.kind (world_of machine.old) event).0 }
+{
+    machine.handle(event);
+}
+
+/// The words of the queue after these events, which run from the empty open queue.
+///
+/// # Errors
+///
+/// Where there is no memory, as of a replay.
+pub fn words_after<T: Drop, A: Allocator + Copy>(
+    alloc: A,
+    kind: Kind,
+    parties: usize,
+    events: Vec<Event<T>, A>,
+) -> Result<Words<A>, AllocError>
+    requires { CanReplay kind }
+    ensures words { IfOk result (λ w. AreWords (played kind (opening_world kind parties) events.items).shared w) }
+    ensures limited { is_too_large kind ≡ true → IsErr result }
+{
+    if too_large(kind) {
+        return Err(AllocError);
+    }
+    let mut machine = Machine::new(alloc, kind, parties)?;
+    for event in events {
+        pass(&mut machine, event);
+    }
+    let Machine {
+        kind: _,
+        cells,
+        calls: _,
+    } = machine;
+    let Cells {
+        lock,
+        head,
+        tail,
+        stamps,
+        slots: _,
+    } = cells;
+    Ok(Words {
+        lock,
+        head,
+        tail,
+        stamps,
+    })
+}
