@@ -75,7 +75,7 @@ parts_joined (b ∷ bs) before after h = by_byte (b == 32) refl h (parts_joined 
 
     by_byte : (t : Bool) → (b == 32) ≡ t → parted (b ∷ bs) ≡ Some (before, after) → ((x y : List ℕ) → parted bs ≡ Some (x, y) → bs ≡ x ++ 32 ∷ y) → b ∷ bs ≡ before ++ 32 ∷ after
     by_byte true e h joined =
-        let here : Some ([], bs) ≡ Some (before, after) = rw e at h in
+        let here : ◌≡◌ {A = Option (List ℕ × List ℕ)} (Some ([], bs)) (Some (before, after)) = rw e at h in
         let is_space : b ≡ 32 = eqb-true b 32 e in
         let one : ◌≡◌ {A = List ℕ × List ℕ} ([], bs) (before, after) = cc in
         subst {A = List ℕ × List ℕ} (λ q. b ∷ bs ≡ q.0 ++ 32 ∷ q.1) one (rw is_space refl)
