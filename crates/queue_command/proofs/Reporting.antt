@@ -1,5 +1,5 @@
 -- What is printed of a run of the machine is a report of it.
-use Rattle.std.proofs.Common.{◌≡◌, ℕ, ◌<◌, ◌≤◌, List, [], ◌++◌, length, map, Option, Some, None, Bool, true, false, nat_lt, Result, Ok, Err, IsErr, refl, sym, ap, subst, ◌∙◌, arith}
+use Rattle.std.proofs.Common.{◌≡◌, ℕ, ◌≤◌, List, [], ◌++◌, length, map, Option, Some, Bool, true, false, nat_lt, Result, Ok, IsErr, refl, ap, subst, ◌∙◌, arith}
 use Rattle.std.proofs.lemmas.Bool.{ltb-false}
 use Rattle.std.proofs.lemmas.List.{length-map}
 use Rattle.queue_steps.specs.declared.sizes.TheConstants.{MAX_CAPACITY}
@@ -10,10 +10,9 @@ use Rattle.queue_machine.specs.Conforms.{Conforms, capacity_of, reply_entry, eff
 use Rattle.queue_machine.specs.Replays.{is_too_large}
 use Rattle.queue_machine.specs.declared.types.Event.{Event}
 use Rattle.queue_machine.specs.declared.types.Replay.{Replay}
-use Rattle.queue_machine.specs.declared.types.Told.{Told}
 use Rattle.queue_command.specs.Reports.{IsReport}
 use Rattle.queue_command.specs.Texts.{left_text}
-use Rattle.queue_command.specs.Turns.{turns_from, turn_event, events_of, turns_text}
+use Rattle.queue_command.specs.Turns.{turns_from, turn_event, turns_text}
 use Rattle.queue_command.specs.Unread.{unread_text}
 use Rattle.queue_command.specs.declared.actions.ReplayLine.{ReplayLine}
 use Rattle.queue_command.specs.declared.turns.Turn.{Turn}

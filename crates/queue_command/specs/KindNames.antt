@@ -1,5 +1,5 @@
 -- The words that name a kind of queue, and the arguments that name a form.
-use Rattle.std.specs.Prelude.{◌≡◌, ℕ, ◌<◌, ◌≤◌, List, [], ◌∷◌, ◌++◌, codes, Option, Some, None}
+use Rattle.std.specs.Prelude.{ℕ, ◌<◌, ◌≤◌, List, [], ◌∷◌, ◌++◌, codes, Option, Some, None}
 use Rattle.std.specs.Fmt.{decimal}
 use Rattle.queue_command.specs.Reading.{IsWord}
 use Rattle.queue_command.specs.declared.args.TheConstants.{MOST_PARTIES}

@@ -1,5 +1,5 @@
 -- The turns that the lines of a replay give the parties, and what is printed of them.
-use Rattle.std.specs.Prelude.{ℕ, ◌+◌, Bool, true, false, if◌then◌else◌, Option, Some, None, List, [], ◌∷◌, ◌++◌, map, replicate, codes}
+use Rattle.std.specs.Prelude.{ℕ, ◌+◌, true, false, Option, Some, None, List, [], ◌∷◌, ◌++◌, map, replicate, codes}
 use Rattle.std.specs.Fmt.{decimal}
 use Rattle.queue_steps.specs.declared.sizes.TheConstants.{LONE_STEPS}
 use Rattle.queue_steps.specs.declared.model.Reply.{Reply}

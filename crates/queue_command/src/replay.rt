@@ -133,11 +133,7 @@ fn split_skipped(events: &[usize], number: usize) -> (bool, &[usize])
 }
 
 // What is told of an event that was skipped, or had this effect and this reply.
-fn told_of(
-    is_skipped: bool,
-    effect: Option<EffectKind>,
-    reply: Option<Reply<u64>>,
-) -> Told<u64>
+fn told_of(is_skipped: bool, effect: Option<EffectKind>, reply: Option<Reply<u64>>) -> Told<u64>
     ensures { result ≡ (if is_skipped then Skipped else Ran effect reply) }
 {
     if is_skipped {

@@ -121,10 +121,7 @@ fn a_close_at_each_step_of_a_displacement_is_kept(rt: HostRuntime) -> Result<(),
             input.push_str("0 step\n")?;
         }
         input.push_str(behind)?;
-        let mut output = String::from_str(
-            rt.alloc(),
-            "2 0 append\n2 0 ok\n4 0 append\n4 0 ok\n",
-        )?;
+        let mut output = String::from_str(rt.alloc(), "2 0 append\n2 0 ok\n4 0 append\n4 0 ok\n")?;
         output.push_str(later)?;
         let outcome = run(
             rt.alloc(),
