@@ -6,7 +6,7 @@ use Rattle.std.proofs.lemmas.Bool.{ltb-true, ltb-false}
 use Rattle.std.specs.List.{position, position_or_len}
 use Rattle.queue_command.specs.Lines.{lines_of, with_byte}
 
-all_left : (bs : List ℕ) (k : ℕ) → take (length bs - k) (drop k bs) ≡ drop k bs
+pub all_left : (bs : List ℕ) (k : ℕ) → take (length bs - k) (drop k bs) ≡ drop k bs
 all_left bs k = subst {A = ℕ} (λ n. take n (drop k bs) ≡ drop k bs) (length-drop k bs) (take-length (drop k bs))
 
 abbrev pub first_feed : List ℕ → ℕ

@@ -4,3 +4,6 @@ pub mod ReadCall
 pub mod ReadArgs
 pub mod Asked
 pub mod Playing
+pub mod Parting
+pub mod ReadBack
+pub mod Reporting

@@ -8,7 +8,7 @@ use Rattle.std.proofs.lemmas.Str.{IsUtf8-from_ascii}
 use Rattle.std.proofs.lemmas.Fmt.{IsAscii-decimal, decimal_digit, first_decimal, decimal_nonempty, parse-decimal, decimal-digits_value}
 use Rattle.queue_command.specs.Reading.{IsReading, IsWord}
 
-model : IsNumeralModel (AllDigits 10) (digits_value 10)
+pub model : IsNumeralModel (AllDigits 10) (digits_value 10)
 model = numerals_by_value _ tells_digits
 
 -- digits do not begin with a plus sign, and begin with 0 only where they are that alone

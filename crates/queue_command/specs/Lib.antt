@@ -5,4 +5,10 @@ pub mod Calls
 pub mod KindNames
 pub mod Texts
 pub mod Scripts
+pub mod Runs
+pub mod Spaces
+pub mod Actions
+pub mod Turns
+pub mod Unread
+pub mod Reports
 pub mod Ends

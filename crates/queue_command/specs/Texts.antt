@@ -1,4 +1,4 @@
--- What is printed of replies, and of the items that are left.
+-- What is printed of replies, of effects, and of the items that are left.
 use Rattle.std.specs.Prelude.{ℕ, true, false, List, [], ◌∷◌, ◌++◌, codes, flat_map, Some, None, Ok, Err, Bool}
 use Rattle.std.specs.Fmt.{decimal}
 use Rattle.queue_steps.specs.declared.model.Reply.{Reply}
@@ -6,6 +6,8 @@ use Rattle.queue_steps.specs.declared.model.Reply.TheVariants as reply
 use Rattle.queue_steps.specs.declared.errors.PopError.TheVariants as pop
 use Rattle.queue_steps.specs.declared.errors.PushError.TheVariants as push
 use Rattle.queue_steps.specs.declared.errors.ForcePushError.TheVariants as force
+use Rattle.queue_machine.specs.declared.types.EffectKind.{EffectKind}
+use Rattle.queue_machine.specs.declared.types.EffectKind.TheVariants as effect
 
 abbrev pub truth_text : Bool → List ℕ
 truth_text true = codes "true"
@@ -30,6 +32,15 @@ reply_text (reply.IsFull b) = truth_text b
 reply_text (reply.Len n) = decimal n
 reply_text (reply.Capacity (Some n)) = decimal n
 reply_text (reply.Capacity None) = codes "none"
+
+abbrev pub effect_text : EffectKind → List ℕ
+effect_text effect.Append = codes "append"
+effect_text effect.Take = codes "take"
+effect_text effect.Replace = codes "replace"
+effect_text effect.Front = codes "front"
+effect_text effect.Arrive = codes "arrive"
+effect_text effect.Close = codes "close"
+effect_text effect.SelfClose = codes "self_close"
 
 -- one reply a line
 abbrev pub replies_text : List (Reply ℕ) → List ℕ

@@ -1,9 +1,13 @@
 //! The arguments of the program.
-ghost use Rattle.std.specs.Prelude.{map, string_bytes};
+ghost use Rattle.std.specs.Prelude.{[], ◌∷◌, map, string_bytes};
+ghost use Rattle.std.specs.Fmt.{decimal};
 ghost use Rattle.queue_command.specs.Reading.{IsReading};
-ghost use Rattle.queue_command.specs.KindNames.{kind_text, IsKindName, form_words, IsForm};
+ghost use Rattle.queue_command.specs.KindNames.{kind_text, IsKindName, form_words, IsForm, IsPartyCount};
 
 use crate::numbers::parse_number;
+
+/// The most parties that a replay may have.
+pub const MOST_PARTIES: u64 = 64;
 
 /// The kind of a queue, as an argument names it.
 #[derive(Clone, Copy, Debug, PartialEq, Eq)]
@@ -19,6 +23,8 @@ pub enum KindName {
 pub enum Form {
     /// Runs a script on a queue with one owner.
     Script(KindName),
+    /// Replays calls and steps on a queue that so many parties share.
+    Replay(KindName, usize),
 }
 
 impl KindName {
@@ -37,17 +43,63 @@ impl KindName {
     }
 }
 
+impl Form {
+    ghost use Rattle.std.specs.Prelude.{◌≡◌};
+    ghost use Rattle.queue_command.specs.KindNames.{kind_in};
+
+    /// The kind of the queue.
+    pub fn kind(self) -> KindName
+        ensures { result ≡ kind_in self }
+    {
+        match self {
+            Form::Script(kind) => kind,
+            Form::Replay(kind, _) => kind,
+        }
+    }
+}
+
 /// The form that the arguments name.
 pub fn parse_form(args: &[String]) -> Option<Form>
     ensures { IsReading IsForm form_words (map string_bytes args.now) result }
 {
-    let [form, kind] = args else {
-        return None;
-    };
-    if form.as_str() != "script" {
+    match args {
+        [form, kind] => script_form(form.as_str(), kind.as_str()),
+        [form, kind, parties] => replay_form(form.as_str(), kind.as_str(), parties.as_str()),
+        _ => None,
+    }
+}
+
+// The form that these two words name.
+fn script_form(form: &str, kind: &str) -> Option<Form>
+    ensures { IsReading IsForm form_words (form.now ∷ kind.now ∷ []) result }
+{
+    if form != "script" {
         return None;
     }
-    Some(Form::Script(parse_kind(kind.as_str())?))
+    Some(Form::Script(parse_kind(kind)?))
+}
+
+// The form that these three words name.
+fn replay_form(form: &str, kind: &str, parties: &str) -> Option<Form>
+    ensures { IsReading IsForm form_words (form.now ∷ kind.now ∷ parties.now ∷ []) result }
+{
+    if form != "replay" {
+        return None;
+    }
+    let kind = parse_kind(kind)?;
+    let parties = parse_parties(parties)?;
+    Some(Form::Replay(kind, parties))
+}
+
+// The number of parties that this text names.
+fn parse_parties(text: &str) -> Option<usize>
+    ensures { IsReading IsPartyCount decimal text.now result }
+{
+    let count = parse_number(text.as_bytes())?;
+    if count == 0 || count > MOST_PARTIES {
+        return None;
+    }
+    Some(count as usize)
 }
 
 /// The kind that this text names.

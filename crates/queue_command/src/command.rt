@@ -4,6 +4,7 @@ ghost use Rattle.queue_command.specs.Ends.{IsEnd, IsDone, IsFaultOf};
 
 use crate::args::{Form, parse_form};
 use crate::faults::Fault;
+use crate::replay::replay;
 use crate::script::script;
 use std::alloc::Allocator;
 use std::io::{Read, Write};
@@ -48,10 +49,11 @@ fn run<A: Allocator, I: Read, O: Write>(
     let Some(form) = parse_form(args) else {
         return Err(Fault::Usage);
     };
+    let Some(cap) = form.kind().capacity() else {
+        return Err(Fault::Usage);
+    };
     match form {
-        Form::Script(kind) => match kind.capacity() {
-            Some(cap) => script(alloc, cap, input, output),
-            None => Err(Fault::Usage),
-        },
+        Form::Script(_) => script(alloc, cap, input, output),
+        Form::Replay(_, parties) => replay(alloc, cap, parties, input, output),
     }
 }

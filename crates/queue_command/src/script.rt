@@ -1,19 +1,20 @@
 //! A script: calls on a queue with one owner, their replies, and the items that are left.
-ghost use Rattle.std.specs.Prelude.{◌≡◌, ◌<◌, ◌⊎◌, ◌++◌, IfOk, OnOk, MatchResult, string_bytes};
-ghost use Rattle.std.specs.Io.KnownBytes.{Appends};
+ghost use Rattle.std.specs.Prelude.{◌≡◌, ◌<◌, ◌++◌, IfOk, OnOk, MatchResult, string_bytes};
 ghost use Rattle.queue_steps.specs.Legal.{IsSoundOwned};
 ghost use Rattle.queue_steps.specs.Sole.{Sole, HoldsBlocks};
 ghost use Rattle.queue_command.specs.Texts.{left_text};
-ghost use Rattle.queue_command.specs.Scripts.{PlaysAs, IsTranscript, IsInput, IsRun, IsScriptFault};
-ghost use Rattle.queue_command.specs.declared.faults.Fault.TheVariants as fault;
+ghost use Rattle.queue_command.specs.Calls.{call_text, IsCallOfWord};
+ghost use Rattle.queue_command.specs.Runs.{IsRun, IsRunFault};
+ghost use Rattle.queue_command.specs.Scripts.{PlaysAs, IsTranscript};
 
 use crate::faults::Fault;
 use crate::lines::read_lines;
+use crate::streams::{read_input, write_output};
 use crate::texts::Shown;
 use concurrent_queue::exclusive::Exclusive;
 use queue_steps::model::{Call, Reply};
 use std::alloc::{AllocError, Allocator};
-use std::io::{ErrorKind, Read, Write};
+use std::io::{Read, Write};
 
 /// Reads a script, runs it on a queue of this capacity, and writes the replies and what is left.
 ///
@@ -29,8 +30,10 @@ pub fn script<A: Allocator, I: Read, O: Write>(
 ) -> Result<(), Fault>
     requires { 0 < cap }
     ensures { MatchResult result
-        (λ _. IsRun cap (I.remaining input.old) (O.contents output.old) (O.contents output.new))
-        (IsScriptFault (I.remaining input.old) (O.contents output.old) (O.contents output.new)) }
+        (λ _. IsRun IsCallOfWord call_text (IsTranscript cap)
+        (I.remaining input.old) (O.contents output.old) (O.contents output.new))
+        (IsRunFault IsCallOfWord call_text
+        (I.remaining input.old) (O.contents output.old) (O.contents output.new)) }
 {
     let bytes = read_input(alloc, input)?;
     let calls = read_lines::<Call<u64>, &A>(alloc, &bytes)?;
@@ -38,32 +41,6 @@ pub fn script<A: Allocator, I: Read, O: Write>(
         return Err(Fault::NoMemory);
     };
     write_output(output, text.as_bytes())
-}
-
-// All of the input.
-fn read_input<A: Allocator, I: Read>(alloc: A, input: &mut I) -> Result<Vec<u8, A>, Fault>
-    ensures { MatchResult result
-        (λ bytes. IsInput (I.remaining input.old) bytes.items)
-        (λ why. (why ≡ fault.NoMemory) ⊎ (why ≡ fault.InputFailed)) }
-{
-    let mut bytes = Vec::new(alloc);
-    match input.read_to_end(&mut bytes) {
-        Ok(_) => Ok(bytes),
-        Err(error) if error.kind() == ErrorKind::OutOfMemory => Err(Fault::NoMemory),
-        Err(_) => Err(Fault::InputFailed),
-    }
-}
-
-// Writes all of the output.
-fn write_output<O: Write>(output: &mut O, text: &[u8]) -> Result<(), Fault>
-    ensures { MatchResult result
-        (λ _. Appends (O.contents output.old) (O.contents output.new) text.now)
-        (λ why. why ≡ fault.OutputFailed) }
-{
-    if output.write_all(text).is_err() || output.flush().is_err() {
-        return Err(Fault::OutputFailed);
-    }
-    Ok(())
 }
 
 /// What a script of these calls prints.

@@ -1,19 +1,19 @@
-//! Rows of the program, run through `command`.
+//! Rows of scripts, run through `command`.
 use crate::command::command;
 use std::alloc::{AllocError, Global};
 use std::io;
 use std::io::{ErrorKind, Read, Write};
 use std::test::Fail;
 
-const USAGE: &str =
+pub const USAGE: &str =
     "usage: queue_run script KIND | replay KIND PARTIES | threads KIND PUSHERS POPPERS ITEMS | handshake\n";
 
 /// What a run wrote, and the status that it ended with.
 #[derive(Drop)]
-struct Outcome {
-    status: u8,
-    output: Vec<u8>,
-    faults: Vec<u8>,
+pub struct Outcome {
+    pub status: u8,
+    pub output: Vec<u8>,
+    pub faults: Vec<u8>,
 }
 
 fn words(alloc: Global, args: &[&str]) -> Result<Vec<String>, AllocError> {
@@ -24,7 +24,7 @@ fn words(alloc: Global, args: &[&str]) -> Result<Vec<String>, AllocError> {
     Ok(words)
 }
 
-fn run(alloc: Global, args: &[&str], mut input: &[u8]) -> Result<Outcome, AllocError> {
+pub fn run(alloc: Global, args: &[&str], mut input: &[u8]) -> Result<Outcome, AllocError> {
     let mut output = Vec::new(alloc);
     let mut faults = Vec::new(alloc);
     let args = words(alloc, args)?;
@@ -38,7 +38,7 @@ fn run(alloc: Global, args: &[&str], mut input: &[u8]) -> Result<Outcome, AllocE
 
 #[test]
 fn wrong_arguments_give_the_usage_text(rt: HostRuntime) -> Result<(), Fail> {
-    let wrong: [&[&str]; 14] = [
+    let wrong: [&[&str]; 24] = [
         &[],
         &["script"],
         &["script", "double"],
@@ -51,7 +51,17 @@ fn wrong_arguments_give_the_usage_text(rt: HostRuntime) -> Result<(), Fail> {
         &["script", "single", "single"],
         &["scripts", "single"],
         &["script", "unbounded"],
-        &["replay", "single", "1"],
+        &["replay"],
+        &["replay", "single"],
+        &["replay", "single", "0"],
+        &["replay", "single", "65"],
+        &["replay", "single", "01"],
+        &["replay", "single", "two"],
+        &["replay", "single", "18446744073709551617"],
+        &["replay", "bounded:0", "1"],
+        &["replay", "unbounded", "1"],
+        &["replay", "single", "1", "1"],
+        &["script", "single", "1"],
         &["handshake"],
     ];
     for args in wrong {
