@@ -1,42 +1,53 @@
--- Arguments that ask for nothing that can be run.
-use Rattle.std.proofs.Common.{◌≡◌, ◌≢◌, ℕ, List, [], get_or, Option, Some, None, Result, Ok, Err, MatchResult, refl, sym, ap, ◌∙◌}
+-- Arguments that ask for nothing that can be run, and how a form that they ask for ends.
+use Rattle.std.proofs.Common.{◌≡◌, ◌≢◌, ℕ, List, [], get_or, Option, Some, None, Result, Ok, Err, MatchResult, refl, sym, ap, ◌∙◌, arith}
 use Rattle.std.specs.Io.KnownBytes.{Keeps}
-use Rattle.queue_command.specs.KindNames.{kind_text, capacity_of, form_words, IsForm}
-use Rattle.queue_command.specs.Ends.{AskForRun, IsDone, IsFaultOf}
-use Rattle.queue_command.specs.Scripts.{IsRun, IsScriptFault}
+use Rattle.queue_command.specs.KindNames.{capacity_of, shared_capacity, capacity_in, form_words, IsForm}
+use Rattle.queue_command.specs.Ends.{AskFor, AskForRun, Does, Fails, IsDone, IsFaultOf}
+use Rattle.queue_command.specs.declared.verdict.Verdict.{Verdict}
 use Rattle.queue_command.specs.declared.faults.Fault.{Fault}
 use Rattle.queue_command.specs.declared.faults.Fault.TheVariants as fault
-use Rattle.queue_command.specs.declared.args.KindName.{KindName}
-use Rattle.queue_command.specs.declared.args.KindName.TheVariants as kind
 use Rattle.queue_command.specs.declared.args.Form.{Form}
 use Rattle.queue_command.specs.declared.args.Form.TheVariants as form
-use Rattle.queue_command.proofs.ReadArgs.{unbounded_spelled}
+use Rattle.queue_command.proofs.ReadArgs.{kind_spelled}
 
 -- they name no form
 pub no_form : (words : List (List ℕ)) → ((f : Form) → IsForm f → form_words f ≢ words) → AskForRun words → ⊥
-no_form words h asked = let script = asked.1 in h (form.Script script.0) script.1.0 script.2
+no_form words h asked = h asked.0 asked.2.0 asked.2.2
 
--- they name a kind without a capacity
-pub no_capacity_asked : (words : List (List ℕ)) (k : KindName) → form_words (form.Script k) ≡ words → capacity_of k ≡ None → AskForRun words → ⊥
-no_capacity_asked words kind.Single named none asked = cc
-no_capacity_asked words (kind.Bounded count) named none asked = cc
-no_capacity_asked words kind.Unbounded named none asked =
-    let script = asked.1 in
-    let same : form_words (form.Script kind.Unbounded) ≡ form_words (form.Script script.0) = named ∙ sym script.2 in
-    let other : script.0 ≡ kind.Unbounded = unbounded_spelled script.0 (ap (λ ws. get_or ws 1 []) same) in
-    let some = script.1.1 in
-    let missing : None ≡ Some asked.0 = sym (ap capacity_of other) ∙ some in
+-- the first letter of the words
+abbrev letter : List (List ℕ) → ℕ
+letter words = get_or (get_or words 0 []) 0 0
+
+-- forms that are spelled alike run on queues of the same capacity
+same_capacity : (f g : Form) → IsForm f → IsForm g → form_words f ≡ form_words g → capacity_in f ≡ capacity_in g
+same_capacity (form.Script k) (form.Script j) is js same = ap capacity_of (kind_spelled k j is js (ap (λ ws. get_or ws 1 []) same))
+same_capacity (form.Script k) (form.Threads m) is js same = let first : ◌≡◌ {A = ℕ} 115 116 = ap letter same in absurd (omega arith)
+same_capacity (form.Script k) form.Handshake is js same = let first : ◌≡◌ {A = ℕ} 115 104 = ap letter same in absurd (omega arith)
+same_capacity (form.Threads l) (form.Script j) is js same = let first : ◌≡◌ {A = ℕ} 116 115 = ap letter same in absurd (omega arith)
+same_capacity (form.Threads l) (form.Threads m) is js same = ap (λ k. shared_capacity (capacity_of k)) (kind_spelled l.kind m.kind is.0 js.0 (ap (λ ws. get_or ws 1 []) same))
+same_capacity (form.Threads l) form.Handshake is js same = let first : ◌≡◌ {A = ℕ} 116 104 = ap letter same in absurd (omega arith)
+same_capacity form.Handshake (form.Script j) is js same = let first : ◌≡◌ {A = ℕ} 104 115 = ap letter same in absurd (omega arith)
+same_capacity form.Handshake (form.Threads m) is js same = let first : ◌≡◌ {A = ℕ} 104 116 = ap letter same in absurd (omega arith)
+same_capacity form.Handshake form.Handshake is js same = refl
+
+-- they name a form that cannot be run
+pub no_capacity_asked : (words : List (List ℕ)) (f : Form) → IsForm f → form_words f ≡ words → capacity_in f ≡ None → AskForRun words → ⊥
+no_capacity_asked words f is named none asked =
+    let same : capacity_in f ≡ capacity_in asked.0 = same_capacity f asked.0 is asked.2.0 (named ∙ sym asked.2.2) in
+    let missing : None ≡ Some asked.1 = sym none ∙ same ∙ asked.2.1 in
     absurd (cc)
 
--- a script that they ask for has ended
-pub script_ended : (words : List (List ℕ)) (known old new : Option (List ℕ)) (k : KindName) (size : ℕ) (r : Result Unit Fault) → IsForm (form.Script k) → form_words (form.Script k) ≡ words → capacity_of k ≡ Some size
-    → MatchResult r (λ _. IsRun size known old new) (IsScriptFault known old new) → MatchResult r (λ _. IsDone words known old new) (IsFaultOf words known old new)
-script_ended words known old new k size (Ok u) is named some h = (size, (k, (is, some), named), h)
-script_ended words known old new k size (Err fault.Usage) is named some h = absurd h
-script_ended words known old new k size (Err (fault.Unreadable n)) is named some h = ((size, (k, (is, some), named)), h)
-script_ended words known old new k size (Err fault.NoMemory) is named some h = ((size, (k, (is, some), named)), h)
-script_ended words known old new k size (Err fault.InputFailed) is named some h = ((size, (k, (is, some), named)), h)
-script_ended words known old new k size (Err fault.OutputFailed) is named some h = ((size, (k, (is, some), named)), h)
+-- a form that they ask for has ended
+pub form_ended : (words : List (List ℕ)) (known old new : Option (List ℕ)) (f : Form) (size : ℕ) (r : Result Verdict Fault) → AskFor words f size
+    → MatchResult r (Does f size known old new) (Fails f known old new) → MatchResult r (IsDone words known old new) (IsFaultOf words known old new)
+form_ended words known old new f size (Ok v) asked h = (f, size, asked, h)
+form_ended words known old new (form.Script k) size (Err fault.Usage) asked h = absurd h
+form_ended words known old new (form.Threads l) size (Err fault.Usage) asked h = absurd h
+form_ended words known old new form.Handshake size (Err fault.Usage) asked h = absurd h
+form_ended words known old new f size (Err (fault.Unreadable n)) asked h = (f, size, asked, h)
+form_ended words known old new f size (Err fault.NoMemory) asked h = (f, size, asked, h)
+form_ended words known old new f size (Err fault.InputFailed) asked h = (f, size, asked, h)
+form_ended words known old new f size (Err fault.OutputFailed) asked h = (f, size, asked, h)
 
 pub Keeps-same : (known : Option (List ℕ)) → Keeps known known
 Keeps-same None = tt

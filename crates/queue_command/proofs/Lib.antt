@@ -4,3 +4,4 @@ pub mod ReadCall
 pub mod ReadArgs
 pub mod Asked
 pub mod Playing
+pub mod ReadLoad

@@ -5,4 +5,6 @@ pub mod Calls
 pub mod KindNames
 pub mod Texts
 pub mod Scripts
+pub mod Verdicts
+pub mod Counts
 pub mod Ends

@@ -1,8 +1,9 @@
 //! The arguments of the program.
-ghost use Rattle.std.specs.Prelude.{map, string_bytes};
+ghost use Rattle.std.specs.Prelude.{[], ◌∷◌, map, string_bytes};
 ghost use Rattle.queue_command.specs.Reading.{IsReading};
 ghost use Rattle.queue_command.specs.KindNames.{kind_text, IsKindName, form_words, IsForm};
 
+use crate::load::{Load, parse_load};
 use crate::numbers::parse_number;
 
 /// The kind of a queue, as an argument names it.
@@ -19,6 +20,10 @@ pub enum KindName {
 pub enum Form {
     /// Runs a script on a queue with one owner.
     Script(KindName),
+    /// Lets threads push and pop on a queue that they share, and counts what comes.
+    Threads(Load),
+    /// Lets two threads hand an item to each other.
+    Handshake,
 }
 
 impl KindName {
@@ -37,17 +42,71 @@ impl KindName {
     }
 }
 
+impl Form {
+    ghost use Rattle.std.specs.Prelude.{◌≡◌};
+    ghost use Rattle.queue_command.specs.KindNames.{capacity_in};
+
+    /// The capacity of the queues that this form runs on, if it can be run. Threads share queues of one slot alone.
+    pub fn capacity(self) -> Option<usize>
+        ensures { result ≡ capacity_in self }
+    {
+        match self {
+            Form::Script(kind) => kind.capacity(),
+            Form::Threads(load) => match load.kind.capacity() {
+                Some(1) => Some(1),
+                _ => None,
+            },
+            Form::Handshake => Some(1),
+        }
+    }
+}
+
 /// The form that the arguments name.
 pub fn parse_form(args: &[String]) -> Option<Form>
     ensures { IsReading IsForm form_words (map string_bytes args.now) result }
 {
-    let [form, kind] = args else {
-        return None;
-    };
-    if form.as_str() != "script" {
+    match args {
+        [form] => handshake_form(form.as_str()),
+        [form, kind] => script_form(form.as_str(), kind.as_str()),
+        [form, kind, pushers, poppers, items] => threads_form(
+            form.as_str(),
+            kind.as_str(),
+            pushers.as_str(),
+            poppers.as_str(),
+            items.as_str(),
+        ),
+        _ => None,
+    }
+}
+
+// The form that this word names.
+fn handshake_form(form: &str) -> Option<Form>
+    ensures { IsReading IsForm form_words (form.now ∷ []) result }
+{
+    if form != "handshake" {
         return None;
     }
-    Some(Form::Script(parse_kind(kind.as_str())?))
+    Some(Form::Handshake)
+}
+
+// The form that these two words name.
+fn script_form(form: &str, kind: &str) -> Option<Form>
+    ensures { IsReading IsForm form_words (form.now ∷ kind.now ∷ []) result }
+{
+    if form != "script" {
+        return None;
+    }
+    Some(Form::Script(parse_kind(kind)?))
+}
+
+// The form that these five words name.
+fn threads_form(form: &str, kind: &str, pushers: &str, poppers: &str, items: &str) -> Option<Form>
+    ensures { IsReading IsForm form_words (form.now ∷ kind.now ∷ pushers.now ∷ poppers.now ∷ items.now ∷ []) result }
+{
+    if form != "threads" {
+        return None;
+    }
+    Some(Form::Threads(parse_load(kind, pushers, poppers, items)?))
 }
 
 /// The kind that this text names.

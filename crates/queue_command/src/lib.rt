@@ -4,10 +4,16 @@
 mod args;
 mod calls;
 pub mod command;
+mod counts;
+mod crew;
 mod faults;
+mod handshake;
 mod lines;
+mod load;
 mod numbers;
 mod script;
 #[cfg(test)]
 mod tests;
 mod texts;
+mod threads;
+mod verdict;

@@ -54,8 +54,8 @@ fn read_input<A: Allocator, I: Read>(alloc: A, input: &mut I) -> Result<Vec<u8, 
     }
 }
 
-// Writes all of the output.
-fn write_output<O: Write>(output: &mut O, text: &[u8]) -> Result<(), Fault>
+/// Writes all of the output.
+pub fn write_output<O: Write>(output: &mut O, text: &[u8]) -> Result<(), Fault>
     ensures { MatchResult result
         (λ _. Appends (O.contents output.old) (O.contents output.new) text.now)
         (λ why. why ≡ fault.OutputFailed) }

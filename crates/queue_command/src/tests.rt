@@ -24,11 +24,16 @@ fn words(alloc: Global, args: &[&str]) -> Result<Vec<String>, AllocError> {
     Ok(words)
 }
 
-fn run(alloc: Global, args: &[&str], mut input: &[u8]) -> Result<Outcome, AllocError> {
+fn run(
+    rt: &HostRuntime,
+    alloc: Global,
+    args: &[&str],
+    mut input: &[u8],
+) -> Result<Outcome, AllocError> {
     let mut output = Vec::new(alloc);
     let mut faults = Vec::new(alloc);
     let args = words(alloc, args)?;
-    let status = command(&(), alloc, args, &mut input, &mut output, &mut faults);
+    let status = command(rt, alloc, args, &mut input, &mut output, &mut faults);
     Ok(Outcome {
         status,
         output,
@@ -55,7 +60,7 @@ fn wrong_arguments_give_the_usage_text(rt: HostRuntime) -> Result<(), Fail> {
         &["handshake"],
     ];
     for args in wrong {
-        let outcome = run(rt.alloc(), args, b"pop\n")?;
+        let outcome = run(&rt, rt.alloc(), args, b"pop\n")?;
         assert_eq!(rt; outcome.status, 2);
         assert_eq!(rt; outcome.output.as_slice(), b"".as_slice());
         assert_eq!(rt; outcome.faults.as_slice(), USAGE.as_bytes());
@@ -88,7 +93,7 @@ fn the_first_unreadable_line_is_told(rt: HostRuntime) -> Result<(), Fail> {
         (b"pop\0\n", "line 1: unreadable\n"),
     ];
     for (input, fault) in unreadable {
-        let outcome = run(rt.alloc(), &["script", "single"], input)?;
+        let outcome = run(&rt, rt.alloc(), &["script", "single"], input)?;
         assert_eq!(rt; outcome.status, 2, "at {input:?}");
         assert_eq!(rt; outcome.output.as_slice(), b"".as_slice(), "at {input:?}");
         assert_eq!(rt; outcome.faults.as_slice(), fault.as_bytes(), "at {input:?}");
@@ -128,7 +133,7 @@ fn scripts_print_the_replies_and_what_is_left(rt: HostRuntime) -> Result<(), Fai
     ];
     for (input, wanted) in scripts {
         for kind in ["single", "bounded:1"] {
-            let outcome = run(rt.alloc(), &["script", kind], input.as_bytes())?;
+            let outcome = run(&rt, rt.alloc(), &["script", kind], input.as_bytes())?;
             assert_eq!(rt; outcome.status, 0, "at {input:?}");
             assert_eq!(rt;
                 outcome.output.as_slice(),
@@ -147,7 +152,7 @@ fn rings_are_run_by_their_capacity(rt: HostRuntime) -> Result<(), Fail> {
         "force 1\nforce 2\nforce 3\npush 4\nforce 5\nforce 6\nclose\nforce 7\npop\npop\npop\n";
     let wanted =
         "ok\nok\nok\nfull 4\ndisplaced 1\ndisplaced 2\ntrue\nclosed 7\nitem 3\nitem 5\nitem 6\nleft\n";
-    let outcome = run(rt.alloc(), &["script", "bounded:3"], input.as_bytes())?;
+    let outcome = run(&rt, rt.alloc(), &["script", "bounded:3"], input.as_bytes())?;
     assert_eq!(rt; outcome.status, 0);
     assert_eq!(rt; outcome.output.as_slice(), wanted.as_bytes());
     Ok(())
