@@ -16,4 +16,6 @@ mod script;
 mod tests;
 mod texts;
 mod threads;
+#[cfg(test)]
+mod threads_tests;
 mod verdict;

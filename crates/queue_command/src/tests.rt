@@ -3,7 +3,9 @@ use crate::command::command;
 use std::alloc::{AllocError, Global};
 use std::io;
 use std::io::{ErrorKind, Read, Write};
+use std::sync::Wait;
 use std::test::Fail;
+use std::thread::Threads;
 
 const USAGE: &str =
     "usage: queue_run script KIND | replay KIND PARTIES | threads KIND PUSHERS POPPERS ITEMS | handshake\n";
@@ -24,8 +26,8 @@ fn words(alloc: Global, args: &[&str]) -> Result<Vec<String>, AllocError> {
     Ok(words)
 }
 
-fn run(
-    rt: &HostRuntime,
+fn run<R: Threads + Wait + Sync>(
+    rt: &R,
     alloc: Global,
     args: &[&str],
     mut input: &[u8],
@@ -57,7 +59,7 @@ fn wrong_arguments_give_the_usage_text(rt: HostRuntime) -> Result<(), Fail> {
         &["scripts", "single"],
         &["script", "unbounded"],
         &["replay", "single", "1"],
-        &["handshake"],
+        &["handshakes"],
     ];
     for args in wrong {
         let outcome = run(&rt, rt.alloc(), args, b"pop\n")?;
@@ -161,6 +163,7 @@ fn rings_are_run_by_their_capacity(rt: HostRuntime) -> Result<(), Fail> {
 #[test]
 fn a_capacity_past_the_longest_is_want_of_memory(rt: HostRuntime) -> Result<(), Fail> {
     let outcome = run(
+        &rt,
         rt.alloc(),
         &["script", "bounded:576460752303423489"],
         b"push 1\n",
