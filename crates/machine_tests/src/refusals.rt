@@ -24,7 +24,10 @@ fn each_request_refused(rt: HostRuntime) -> Result<(), Fail> {
     for number in 1..9u64 {
         let heap = Refusing::new(rt.alloc(), Refusal::Nth(number));
         assert!(rt; pushed(&heap).is_err(), "at {number}");
-        assert!(rt; heap.requests() == number && heap.live() == 0, "at {number}");
+        assert!(rt;
+            heap.requests() == number && heap.live() == 0,
+            "at {number}"
+        );
     }
     let heap = Refusing::new(rt.alloc(), Refusal::Nth(9));
     let run = pushed(&heap)?;

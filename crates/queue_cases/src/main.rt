@@ -12,10 +12,7 @@ use std::thread::Threads;
 use std::{fs, io};
 
 /// Whether the program, run on the case of this line, ends with status 0 and prints what it is to print.
-fn agrees<R: Threads + Wait + Sync + Files + AllocGlobal>(
-    rt: &R,
-    line: &str,
-) -> io::Result<bool> {
+fn agrees<R: Threads + Wait + Sync + Files + AllocGlobal>(rt: &R, line: &str) -> io::Result<bool> {
     let alloc: Global = rt.alloc();
     let mut args = Vec::new(alloc);
     for word in line.split_whitespace() {

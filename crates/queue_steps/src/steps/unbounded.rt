@@ -197,7 +197,12 @@ fn claim<B: Copy>(push: PushKind, tail: u64, block: B, spare: Option<B>) -> Next
 
 /// What follows the pushers' block: a push that will need one more asks for it before it moves the tail.
 #[inline(always)]
-fn after_tail_block<B: Copy>(push: PushKind, tail: u64, block: Option<B>, spare: Option<B>) -> Next<B>
+fn after_tail_block<B: Copy>(
+    push: PushKind,
+    tail: u64,
+    block: Option<B>,
+    spare: Option<B>,
+) -> Next<B>
     requires word { IsWord tail }
     requires first { block ≡ None → spare ≡ None }
     ensures { result ≡ tail_block_found push tail block spare }
@@ -461,30 +466,21 @@ pub(super) fn next<B: Copy>(local: UnboundedLocal<B>, answer: Answer<B>) -> Next
 {
     match (local, answer) {
         (UnboundedLocal::PushTail(push, spare), Answer::Found(tail)) => after_tail(
-            push,
-            tail,
-            spare,
+            push, tail, spare,
         ),
         (UnboundedLocal::PushBlock(push, tail, spare), Answer::Linked(block)) => after_tail_block(
-            push,
-            tail,
-            block,
-            spare,
+            push, tail, block, spare,
         ),
         (UnboundedLocal::Asking(push, _, _), Answer::Refused) => Next::Reply(no_memory(push), None),
         (UnboundedLocal::Asking(push, tail, block), Answer::Granted(fresh)) => after_grant(
-            push,
-            tail,
-            block,
-            fresh,
+            push, tail, block, fresh,
         ),
         (UnboundedLocal::Installing(push, tail, fresh), Answer::Linked(before)) => after_install(
-            push,
-            tail,
-            fresh,
-            before,
+            push, tail, fresh, before,
         ),
-        (UnboundedLocal::Showing(push, tail, block), Answer::Done) => claim(push, tail, block, None),
+        (UnboundedLocal::Showing(push, tail, block), Answer::Done) => claim(
+            push, tail, block, None,
+        ),
         (UnboundedLocal::Claiming(push, tail, block, spare), Answer::Found(found)) => {
             if found == tail {
                 after_claim(push, tail, block, spare)
@@ -503,19 +499,20 @@ pub(super) fn next<B: Copy>(local: UnboundedLocal<B>, answer: Answer<B>) -> Next
             Op::StoreLink(Link::Next(block), fresh),
         ),
         (UnboundedLocal::Chaining(push, tail, block, _), Answer::Done) => write(
-            push,
-            tail,
-            block,
-            None,
+            push, tail, block, None,
         ),
-        (UnboundedLocal::Writing(push, spare), Answer::Found(_)) => Next::Reply(pushed(push), spare),
-        (UnboundedLocal::Spending(push, spare), Answer::Found(_)) => Next::Reply(closed(push), spare),
+        (UnboundedLocal::Writing(push, spare), Answer::Found(_)) => Next::Reply(
+            pushed(push),
+            spare,
+        ),
+        (UnboundedLocal::Spending(push, spare), Answer::Found(_)) => Next::Reply(
+            closed(push),
+            spare,
+        ),
         (UnboundedLocal::PopHead, Answer::Found(head)) => after_head(head),
         (UnboundedLocal::PopBlock(head), Answer::Linked(block)) => after_head_block(head, block),
         (UnboundedLocal::PopTail(head, block), Answer::Found(tail)) => after_pop_tail(
-            head,
-            block,
-            tail,
+            head, block, tail,
         ),
         (UnboundedLocal::Taking(head, block), Answer::Found(found)) => {
             if found == head {
@@ -525,9 +522,7 @@ pub(super) fn next<B: Copy>(local: UnboundedLocal<B>, answer: Answer<B>) -> Next
             }
         }
         (UnboundedLocal::Following(head, block), Answer::Linked(after)) => after_following(
-            head,
-            block,
-            after,
+            head, block, after,
         ),
         (UnboundedLocal::Peeking(head, block, after), Answer::Linked(further)) => Next::Step(
             Local::Unbounded(UnboundedLocal::Passing(head, block, further.is_some())),
@@ -541,9 +536,7 @@ pub(super) fn next<B: Copy>(local: UnboundedLocal<B>, answer: Answer<B>) -> Next
         ),
         (UnboundedLocal::Entering(head, block), Answer::Done) => await_item(head, block),
         (UnboundedLocal::Awaiting(head, block), Answer::Found(state)) => after_state(
-            head,
-            block,
-            state,
+            head, block, state,
         ),
         (UnboundedLocal::Reading(block, slot), Answer::Found(state)) => {
             if state & DESTROY != 0 {

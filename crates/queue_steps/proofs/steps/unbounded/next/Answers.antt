@@ -5,7 +5,7 @@ use Rattle.queue_steps.proofs.steps.unbounded.next.Goals as goal
 pub unreachable-requires : goal.unreachable-requires
 unreachable-requires g c =
     elim c.in_default.branch [
-        in_default-via-in-PushTail+in_default w ↦ search rules
+      | in_default-via-in-PushTail+in_default w ↦ search rules
       | in_default-via-in-PushBlock+in_default w ↦ search rules
       | in_default-via-in-Asking+in_default w ↦ search rules
       | in_default-via-in-Installing+in_default w ↦ search rules
