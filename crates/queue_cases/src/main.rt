@@ -6,10 +6,13 @@
 use queue_command::command::command;
 use std::alloc::Global;
 use std::process::ExitCode;
+use std::rt::{Files, Print};
+use std::sync::Wait;
+use std::thread::Threads;
 use std::{fs, io};
 
 /// Whether the program, run on the case of this line, ends with status 0 and prints what it is to print.
-fn agrees(rt: &HostRuntime, line: &str) -> io::Result<bool> {
+fn agrees<R: Threads + Wait + Sync + Files + AllocGlobal>(rt: &R, line: &str) -> io::Result<bool> {
     let alloc: Global = rt.alloc();
     let mut args = Vec::new(alloc);
     for word in line.split_whitespace() {
@@ -34,7 +37,7 @@ fn agrees(rt: &HostRuntime, line: &str) -> io::Result<bool> {
 }
 
 /// Runs all cases, names those that do not agree, and tells how many do.
-fn run(rt: &HostRuntime) -> io::Result<u8> {
+fn run<R: Threads + Wait + Sync + Files + Print + AllocGlobal>(rt: &R) -> io::Result<u8> {
     let list = fs::read_to_string(rt, "LIST")?;
     let mut cases = 0u64;
     let mut agreeing = 0u64;

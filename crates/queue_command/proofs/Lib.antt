@@ -7,3 +7,4 @@ pub mod Playing
 pub mod Parting
 pub mod ReadBack
 pub mod Reporting
+pub mod ReadLoad

@@ -14,12 +14,15 @@ no_capacity text digits e zero kind.Single is same = let first : ◌≡◌ {A = 
 no_capacity text digits e zero (kind.Bounded count) is same = let none : count ≡ 0 = decimal_injective count 0 is.0 (omega arith) (cc) in absurd (omega arith)
 no_capacity text digits e zero kind.Unbounded is same = let first : ◌≡◌ {A = ℕ} 117 98 = ap (λ t. get_or t 0 0) (same ∙ e) in absurd (omega arith)
 
--- a list of two elements
-pub two : {X : Type 0} (xs : List X) (a b : X) → length xs ≡ 2 → a ≡ get_or xs 0 a → b ≡ get_or xs 1 b → xs ≡ a ∷ b ∷ []
-two [] a b h e f = absurd (omega arith)
-two (x ∷ []) a b h e f = absurd (omega arith)
-two (x ∷ y ∷ []) a b h e f = cc
-two (x ∷ y ∷ z ∷ zs) a b h e f = absurd (omega arith)
+-- a list of five elements
+pub five : {X : Type 0} (xs : List X) (a b c d e : X) → length xs ≡ 5 → a ≡ get_or xs 0 a → b ≡ get_or xs 1 b → c ≡ get_or xs 2 c → d ≡ get_or xs 3 d → e ≡ get_or xs 4 e → xs ≡ a ∷ b ∷ c ∷ d ∷ e ∷ []
+five [] a b c d e n p q r s t = absurd (omega arith)
+five (x ∷ []) a b c d e n p q r s t = absurd (omega arith)
+five (x ∷ y ∷ []) a b c d e n p q r s t = absurd (omega arith)
+five (x ∷ y ∷ z ∷ []) a b c d e n p q r s t = absurd (omega arith)
+five (x ∷ y ∷ z ∷ u ∷ []) a b c d e n p q r s t = absurd (omega arith)
+five (x ∷ y ∷ z ∷ u ∷ v ∷ []) a b c d e n p q r s t = cc
+five (x ∷ y ∷ z ∷ u ∷ v ∷ w ∷ ws) a b c d e n p q r s t = absurd (omega arith)
 
 -- a list of three elements
 pub three : {X : Type 0} (xs : List X) (a b c : X) → length xs ≡ 3 → a ≡ get_or xs 0 a → b ≡ get_or xs 1 b → c ≡ get_or xs 2 c → xs ≡ a ∷ b ∷ c ∷ []
@@ -35,8 +38,14 @@ no_such_count count text small spelled wrong n is same =
     let one : n ≡ count = decimal_injective n count (omega arith) small (same ∙ sym spelled) in
     elim wrong [ inl e ↦ absurd (omega (arith, e)) | inr e ↦ absurd (omega (arith, e)) ]
 
--- the unbounded kind is spelled as no other
-pub unbounded_spelled : (k : KindName) → kind_text kind.Unbounded ≡ kind_text k → k ≡ kind.Unbounded
-unbounded_spelled kind.Single same = let first : ◌≡◌ {A = ℕ} 117 115 = ap (λ t. get_or t 0 0) same in absurd (omega arith)
-unbounded_spelled (kind.Bounded count) same = let first : ◌≡◌ {A = ℕ} 117 98 = ap (λ t. get_or t 0 0) same in absurd (omega arith)
-unbounded_spelled kind.Unbounded same = refl
+-- no two kinds are spelled alike
+pub kind_spelled : (k j : KindName) → IsKindName k → IsKindName j → kind_text k ≡ kind_text j → k ≡ j
+kind_spelled kind.Single kind.Single is js same = refl
+kind_spelled kind.Single (kind.Bounded n) is js same = let first : ◌≡◌ {A = ℕ} 115 98 = ap (λ t. get_or t 0 0) same in absurd (omega arith)
+kind_spelled kind.Single kind.Unbounded is js same = let first : ◌≡◌ {A = ℕ} 115 117 = ap (λ t. get_or t 0 0) same in absurd (omega arith)
+kind_spelled (kind.Bounded m) kind.Single is js same = let first : ◌≡◌ {A = ℕ} 98 115 = ap (λ t. get_or t 0 0) same in absurd (omega arith)
+kind_spelled (kind.Bounded m) (kind.Bounded n) is js same = ap kind.Bounded (decimal_injective m n is.0 js.0 (cc))
+kind_spelled (kind.Bounded m) kind.Unbounded is js same = let first : ◌≡◌ {A = ℕ} 98 117 = ap (λ t. get_or t 0 0) same in absurd (omega arith)
+kind_spelled kind.Unbounded kind.Single is js same = let first : ◌≡◌ {A = ℕ} 117 115 = ap (λ t. get_or t 0 0) same in absurd (omega arith)
+kind_spelled kind.Unbounded (kind.Bounded n) is js same = let first : ◌≡◌ {A = ℕ} 117 98 = ap (λ t. get_or t 0 0) same in absurd (omega arith)
+kind_spelled kind.Unbounded kind.Unbounded is js same = refl

@@ -11,4 +11,6 @@ pub mod Actions
 pub mod Turns
 pub mod Unread
 pub mod Reports
+pub mod Verdicts
+pub mod Counts
 pub mod Ends

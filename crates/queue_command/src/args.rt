@@ -4,6 +4,7 @@ ghost use Rattle.std.specs.Fmt.{decimal};
 ghost use Rattle.queue_command.specs.Reading.{IsReading};
 ghost use Rattle.queue_command.specs.KindNames.{kind_text, IsKindName, form_words, IsForm, IsPartyCount};
 
+use crate::load::{Load, parse_load};
 use crate::numbers::parse_number;
 
 /// The most parties that a replay may have.
@@ -25,6 +26,10 @@ pub enum Form {
     Script(KindName),
     /// Replays calls and steps on a queue that so many parties share.
     Replay(KindName, usize),
+    /// Lets threads push and pop on a queue that they share, and counts what comes.
+    Threads(Load),
+    /// Lets two threads hand an item to each other.
+    Handshake,
 }
 
 impl KindName {
@@ -45,15 +50,19 @@ impl KindName {
 
 impl Form {
     ghost use Rattle.std.specs.Prelude.{◌≡◌};
-    ghost use Rattle.queue_command.specs.KindNames.{kind_in};
+    ghost use Rattle.queue_command.specs.KindNames.{capacity_in};
 
-    /// The kind of the queue.
-    pub fn kind(self) -> KindName
-        ensures { result ≡ kind_in self }
+    /// The capacity of the queues that this form runs on, if it can be run. Threads share queues of one slot alone.
+    pub fn capacity(self) -> Option<usize>
+        ensures { result ≡ capacity_in self }
     {
         match self {
-            Form::Script(kind) => kind,
-            Form::Replay(kind, _) => kind,
+            Form::Script(kind) | Form::Replay(kind, _) => kind.capacity(),
+            Form::Threads(load) => match load.kind.capacity() {
+                Some(1) => Some(1),
+                _ => None,
+            },
+            Form::Handshake => Some(1),
         }
     }
 }
@@ -63,10 +72,28 @@ pub fn parse_form(args: &[String]) -> Option<Form>
     ensures { IsReading IsForm form_words (map string_bytes args.now) result }
 {
     match args {
+        [form] => handshake_form(form.as_str()),
         [form, kind] => script_form(form.as_str(), kind.as_str()),
         [form, kind, parties] => replay_form(form.as_str(), kind.as_str(), parties.as_str()),
+        [form, kind, pushers, poppers, items] => threads_form(
+            form.as_str(),
+            kind.as_str(),
+            pushers.as_str(),
+            poppers.as_str(),
+            items.as_str(),
+        ),
         _ => None,
     }
+}
+
+// The form that this word names.
+fn handshake_form(form: &str) -> Option<Form>
+    ensures { IsReading IsForm form_words (form.now ∷ []) result }
+{
+    if form != "handshake" {
+        return None;
+    }
+    Some(Form::Handshake)
 }
 
 // The form that these two words name.
@@ -100,6 +127,16 @@ fn parse_parties(text: &str) -> Option<usize>
         return None;
     }
     Some(count as usize)
+}
+
+// The form that these five words name.
+fn threads_form(form: &str, kind: &str, pushers: &str, poppers: &str, items: &str) -> Option<Form>
+    ensures { IsReading IsForm form_words (form.now ∷ kind.now ∷ pushers.now ∷ poppers.now ∷ items.now ∷ []) result }
+{
+    if form != "threads" {
+        return None;
+    }
+    Some(Form::Threads(parse_load(kind, pushers, poppers, items)?))
 }
 
 /// The kind that this text names.

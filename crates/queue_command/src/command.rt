@@ -1,20 +1,26 @@
 //! The whole program as a function of its arguments, its input and its two outputs.
-ghost use Rattle.std.specs.Prelude.{◌≡◌, map, string_bytes, MatchResult};
+ghost use Rattle.std.specs.Prelude.{◌≡◌, ◌<◌, map, string_bytes, MatchResult};
+ghost use Rattle.queue_command.specs.declared.verdict.Verdict.TheVariants as verdict;
 ghost use Rattle.queue_command.specs.Ends.{IsEnd, IsDone, IsFaultOf};
 
 use crate::args::{Form, parse_form};
 use crate::faults::Fault;
+use crate::handshake::handshake;
 use crate::replay::replay;
 use crate::script::script;
-use std::alloc::Allocator;
+use crate::threads::threads;
+use crate::verdict::Verdict;
+use std::alloc::Global;
 use std::io::{Read, Write};
+use std::sync::Wait;
+use std::thread::Threads;
 
 /// Does what the arguments after the program's name say, and answers the status to end with.
 ///
-/// A fault is told on `faults`. Where it cannot be written there, the status is the same.
-pub fn command<R, A: Allocator, I: Read, O: Write, F: Write>(
-    _rt: &R,
-    alloc: A,
+/// Threads are started, and wait, in the forms `threads` and `handshake` alone. A fault is told on `faults`. Where it cannot be written there, the status is the same.
+pub fn command<R: Threads + Wait + Sync, I: Read, O: Write, F: Write>(
+    rt: &R,
+    alloc: Global,
     args: Vec<String>,
     input: &mut I,
     output: &mut O,
@@ -22,10 +28,10 @@ pub fn command<R, A: Allocator, I: Read, O: Write, F: Write>(
 ) -> u8
     ensures end { IsEnd (map string_bytes args.items)
         (I.remaining input.old) (O.contents output.old) (O.contents output.new) result }
-    ensures quiet { result ≡ 0 → faults.new ≡ faults.old }
+    ensures quiet { result < 2 → faults.new ≡ faults.old }
 {
-    match run(&alloc, &args, input, output) {
-        Ok(()) => 0,
+    match run(rt, alloc, &args, input, output) {
+        Ok(verdict) => verdict.status(),
         Err(fault) => {
             let _ = writeln!(faults, "{fault}");
             fault.status()
@@ -34,14 +40,15 @@ pub fn command<R, A: Allocator, I: Read, O: Write, F: Write>(
 }
 
 // Does what the arguments say.
-fn run<A: Allocator, I: Read, O: Write>(
-    alloc: &A,
+fn run<R: Threads + Wait + Sync, I: Read, O: Write>(
+    rt: &R,
+    alloc: Global,
     args: &[String],
     input: &mut I,
     output: &mut O,
-) -> Result<(), Fault>
+) -> Result<Verdict, Fault>
     ensures { MatchResult result
-        (λ _. IsDone (map string_bytes args.now)
+        (IsDone (map string_bytes args.now)
         (I.remaining input.old) (O.contents output.old) (O.contents output.new))
         (IsFaultOf (map string_bytes args.now)
         (I.remaining input.old) (O.contents output.old) (O.contents output.new)) }
@@ -49,11 +56,23 @@ fn run<A: Allocator, I: Read, O: Write>(
     let Some(form) = parse_form(args) else {
         return Err(Fault::Usage);
     };
-    let Some(cap) = form.kind().capacity() else {
+    let Some(cap) = form.capacity() else {
         return Err(Fault::Usage);
     };
     match form {
-        Form::Script(_) => script(alloc, cap, input, output),
-        Form::Replay(_, parties) => replay(alloc, cap, parties, input, output),
+        Form::Script(_) => shown(script(&alloc, cap, input, output)),
+        Form::Replay(_, parties) => shown(replay(&alloc, cap, parties, input, output)),
+        Form::Threads(load) => threads(rt, alloc, load, output),
+        Form::Handshake => handshake(rt, alloc, output),
+    }
+}
+
+// What a run has shown that can only end well.
+fn shown(end: Result<(), Fault>) -> Result<Verdict, Fault>
+    ensures { MatchResult end (λ _. result ≡ Ok verdict.Right) (λ why. result ≡ Err why) }
+{
+    match end {
+        Ok(()) => Ok(Verdict::Right),
+        Err(fault) => Err(fault),
     }
 }

@@ -5,8 +5,12 @@ mod actions;
 mod args;
 mod calls;
 pub mod command;
+mod counts;
+mod crew;
 mod faults;
+mod handshake;
 mod lines;
+mod load;
 mod numbers;
 mod replay;
 #[cfg(test)]
@@ -16,4 +20,8 @@ mod streams;
 #[cfg(test)]
 mod tests;
 mod texts;
+mod threads;
+#[cfg(test)]
+mod threads_tests;
 mod turns;
+mod verdict;

@@ -87,6 +87,7 @@ fn replays_print_what_happened_and_what_is_left(rt: HostRuntime) -> Result<(), F
     ];
     for row in rows {
         let outcome = run(
+            &rt,
             rt.alloc(),
             &["replay", row.kind, row.parties],
             row.input.as_bytes(),
@@ -124,6 +125,7 @@ fn a_close_at_each_step_of_a_displacement_is_kept(rt: HostRuntime) -> Result<(),
         let mut output = String::from_str(rt.alloc(), "2 0 append\n2 0 ok\n4 0 append\n4 0 ok\n")?;
         output.push_str(later)?;
         let outcome = run(
+            &rt,
             rt.alloc(),
             &["replay", "bounded:2", "2"],
             input.as_str().as_bytes(),
@@ -141,6 +143,7 @@ fn a_close_at_each_step_of_a_displacement_is_kept(rt: HostRuntime) -> Result<(),
 #[test]
 fn a_capacity_past_the_longest_is_want_of_memory(rt: HostRuntime) -> Result<(), Fail> {
     let outcome = run(
+        &rt,
         rt.alloc(),
         &["replay", "bounded:576460752303423489", "1"],
         b"0 push 1\n",
@@ -174,7 +177,7 @@ fn the_first_unreadable_line_is_told(rt: HostRuntime) -> Result<(), Fail> {
         (b"0 push 1\n0 run\nstep\nrun\n", "line 3: unreadable\n"),
     ];
     for (input, fault) in unreadable {
-        let outcome = run(rt.alloc(), &["replay", "single", "2"], input)?;
+        let outcome = run(&rt, rt.alloc(), &["replay", "single", "2"], input)?;
         assert_eq!(rt; outcome.status, 2, "at {input:?}");
         assert_eq!(rt; outcome.output.as_slice(), b"".as_slice(), "at {input:?}");
         assert_eq!(rt; outcome.faults.as_slice(), fault.as_bytes(), "at {input:?}");

@@ -3,7 +3,9 @@ use crate::command::command;
 use std::alloc::{AllocError, Global};
 use std::io;
 use std::io::{ErrorKind, Read, Write};
+use std::sync::Wait;
 use std::test::Fail;
+use std::thread::Threads;
 
 pub const USAGE: &str =
     "usage: queue_run script KIND | replay KIND PARTIES | threads KIND PUSHERS POPPERS ITEMS | handshake\n";
@@ -24,11 +26,16 @@ fn words(alloc: Global, args: &[&str]) -> Result<Vec<String>, AllocError> {
     Ok(words)
 }
 
-pub fn run(alloc: Global, args: &[&str], mut input: &[u8]) -> Result<Outcome, AllocError> {
+pub fn run<R: Threads + Wait + Sync>(
+    rt: &R,
+    alloc: Global,
+    args: &[&str],
+    mut input: &[u8],
+) -> Result<Outcome, AllocError> {
     let mut output = Vec::new(alloc);
     let mut faults = Vec::new(alloc);
     let args = words(alloc, args)?;
-    let status = command(&(), alloc, args, &mut input, &mut output, &mut faults);
+    let status = command(rt, alloc, args, &mut input, &mut output, &mut faults);
     Ok(Outcome {
         status,
         output,
@@ -62,10 +69,10 @@ fn wrong_arguments_give_the_usage_text(rt: HostRuntime) -> Result<(), Fail> {
         &["replay", "unbounded", "1"],
         &["replay", "single", "1", "1"],
         &["script", "single", "1"],
-        &["handshake"],
+        &["handshakes"],
     ];
     for args in wrong {
-        let outcome = run(rt.alloc(), args, b"pop\n")?;
+        let outcome = run(&rt, rt.alloc(), args, b"pop\n")?;
         assert_eq!(rt; outcome.status, 2);
         assert_eq!(rt; outcome.output.as_slice(), b"".as_slice());
         assert_eq!(rt; outcome.faults.as_slice(), USAGE.as_bytes());
@@ -98,7 +105,7 @@ fn the_first_unreadable_line_is_told(rt: HostRuntime) -> Result<(), Fail> {
         (b"pop\0\n", "line 1: unreadable\n"),
     ];
     for (input, fault) in unreadable {
-        let outcome = run(rt.alloc(), &["script", "single"], input)?;
+        let outcome = run(&rt, rt.alloc(), &["script", "single"], input)?;
         assert_eq!(rt; outcome.status, 2, "at {input:?}");
         assert_eq!(rt; outcome.output.as_slice(), b"".as_slice(), "at {input:?}");
         assert_eq!(rt; outcome.faults.as_slice(), fault.as_bytes(), "at {input:?}");
@@ -138,7 +145,7 @@ fn scripts_print_the_replies_and_what_is_left(rt: HostRuntime) -> Result<(), Fai
     ];
     for (input, wanted) in scripts {
         for kind in ["single", "bounded:1"] {
-            let outcome = run(rt.alloc(), &["script", kind], input.as_bytes())?;
+            let outcome = run(&rt, rt.alloc(), &["script", kind], input.as_bytes())?;
             assert_eq!(rt; outcome.status, 0, "at {input:?}");
             assert_eq!(rt;
                 outcome.output.as_slice(),
@@ -157,7 +164,7 @@ fn rings_are_run_by_their_capacity(rt: HostRuntime) -> Result<(), Fail> {
         "force 1\nforce 2\nforce 3\npush 4\nforce 5\nforce 6\nclose\nforce 7\npop\npop\npop\n";
     let wanted =
         "ok\nok\nok\nfull 4\ndisplaced 1\ndisplaced 2\ntrue\nclosed 7\nitem 3\nitem 5\nitem 6\nleft\n";
-    let outcome = run(rt.alloc(), &["script", "bounded:3"], input.as_bytes())?;
+    let outcome = run(&rt, rt.alloc(), &["script", "bounded:3"], input.as_bytes())?;
     assert_eq!(rt; outcome.status, 0);
     assert_eq!(rt; outcome.output.as_slice(), wanted.as_bytes());
     Ok(())
@@ -166,6 +173,7 @@ fn rings_are_run_by_their_capacity(rt: HostRuntime) -> Result<(), Fail> {
 #[test]
 fn a_capacity_past_the_longest_is_want_of_memory(rt: HostRuntime) -> Result<(), Fail> {
     let outcome = run(
+        &rt,
         rt.alloc(),
         &["script", "bounded:576460752303423489"],
         b"push 1\n",

@@ -37,16 +37,17 @@ pub record SeenOpen {T : Type 0} (cap : Option ℕ) (past : List (Event T)) (H :
   pub was_open : (state_after cap H step).closed ≡ false
 
 -- where a call in progress stands in the history
-pub record Since {T : Type 0} (cap : Option ℕ) (past : List (Event T)) (H : List (Entry T)) (R : List (ℕ × ℕ × Reply T)) (p n : ℕ) (o : Open T) : Type 0 where
+pub record Since {T : Type 0} (cap : Option ℕ) (S : List ℕ) (past : List (Event T)) (H : List (Entry T)) (R : List (ℕ × ℕ × Reply T)) (p n : ℕ) (o : Open T) : Type 0 where
   pub first : ℕ
   pub begins : event_at past first ≡ Some (Begin p o.call)
+  pub ran : Each (λ m. m ≢ first) S
   pub unanswered : Each (λ y. y.1 ≡ p → y.0 < first) R
   pub own : own_effects p first n H ≡ o.effects
   pub moments : Each (Seen cap past H p first n) o.moments
   pub opened : o.was_open ≡ true → SeenOpen cap past H p first n
   pub begun : IsBegun o.call o.effects
 
-pub record Trace {T : Type 0} (cap : Option ℕ) (past : List (Event T)) (told : List (Told T)) (n : ℕ) (H : List (Entry T)) (R : List (ℕ × ℕ × Reply T)) (b : Book T) : Type 0 where
+pub record Trace {T : Type 0} (cap : Option ℕ) (S : List ℕ) (past : List (Event T)) (told : List (Told T)) (n : ℕ) (H : List (Entry T)) (R : List (ℕ × ℕ × Reply T)) (b : Book T) : Type 0 where
   pub len : n ≡ length past
   pub same : length past ≡ length told
   pub early : Each (λ x. x.event < n) H
@@ -56,9 +57,9 @@ pub record Trace {T : Type 0} (cap : Option ℕ) (past : List (Event T)) (told :
   pub replies : R ≡ entries_from reply_entry 0 past told
   pub own : Each (IsOwn past) H
   pub fronts : Each (λ x. FrontSawOpen cap past H R x (kind_of x.effect)) H
-  pub answers : Each (λ y. IsAnswer cap past H R y.0 y.1 y.2) R
+  pub answers : Each (λ y. IsAnswer cap S past H R y.0 y.1 y.2) R
   pub early_replies : Each (λ y. y.0 < n) R
-  pub open_calls : (p : ℕ) (o : Open T) → b.open_call p ≡ Some o → Since cap past H R p n o
+  pub open_calls : (p : ℕ) (o : Open T) → b.open_call p ≡ Some o → Since cap S past H R p n o
 
 -- the history after the event n of party p, which has this effect or none
 abbrev pub added : {T : Type 0} → ℕ → ℕ → Option (Effect T) → List (Entry T) → List (Entry T)
@@ -147,13 +148,14 @@ right-more : {T : Type 0} (cap : Option ℕ) (past ys : List (Event T)) (H H' : 
 right-more cap past ys H H' p first last n c x ext lt (inl m) = inl (m.0, moment-more cap past ys H H' p first last n m.0 ext lt m.1, m.2)
 right-more cap past ys H H' p first last n c x ext lt (inr m) = inr (m.0, m.1, rw (state-late cap n last H H' ext lt) m.2)
 
-answer-more : {T : Type 0} (cap : Option ℕ) (past ys : List (Event T)) (H H' : List (Entry T)) (R : List (ℕ × ℕ × Reply T)) (n p : ℕ) (r : Option (Reply T)) (y : ℕ × ℕ × Reply T) → Extends n H H' → y.0 < n → IsAnswer cap past H R y.0 y.1 y.2 → IsAnswer cap (past ++ ys) H' (answered n p r R) y.0 y.1 y.2
-answer-more cap past ys H H' R n p r y ext lt a =
+answer-more : {T : Type 0} (cap : Option ℕ) (S : List ℕ) (past ys : List (Event T)) (H H' : List (Entry T)) (R : List (ℕ × ℕ × Reply T)) (n p : ℕ) (r : Option (Reply T)) (y : ℕ × ℕ × Reply T) → Extends n H H' → y.0 < n → IsAnswer cap S past H R y.0 y.1 y.2 → IsAnswer cap S (past ++ ys) H' (answered n p r R) y.0 y.1 y.2
+answer-more cap S past ys H H' R n p r y ext lt a =
     let own = own-late y.1 a.first y.0 n H H' ext lt in
     record {
       first = a.first;
       call = a.call;
       begins = event-more past ys a.first (Begin y.1 a.call) a.begins;
+      ran = a.ran;
       unanswered = unanswered-late n p y.1 a.first y.0 r R (omega arith) a.unanswered;
       tells = rw own a.tells;
       right = λ none. right-more cap past ys H H' y.1 a.first y.0 n a.call y.2 ext lt (a.right (sym own ∙ none));
@@ -182,9 +184,9 @@ abbrev pub EntryOwes : {T : Type 0} → Option ℕ → List (Event T) → List (
 EntryOwes cap events H R n p None = Unit {0}
 EntryOwes cap events H R n p (Some e) = IsOwn events (record { event = n; party = p; effect = e }) × FrontSawOpen cap events H R (record { event = n; party = p; effect = e }) (kind_of e)
 
-abbrev pub ReplyOwes : {T : Type 0} → Option ℕ → List (Event T) → List (Entry T) → List (ℕ × ℕ × Reply T) → ℕ → ℕ → Option (Reply T) → Type 0
-ReplyOwes cap events H R n p None = Unit {0}
-ReplyOwes cap events H R n p (Some r) = IsAnswer cap events H R n p r
+abbrev pub ReplyOwes : {T : Type 0} → Option ℕ → List ℕ → List (Event T) → List (Entry T) → List (ℕ × ℕ × Reply T) → ℕ → ℕ → Option (Reply T) → Type 0
+ReplyOwes cap S events H R n p None = Unit {0}
+ReplyOwes cap S events H R n p (Some r) = IsAnswer cap S events H R n p r
 
 own-added : {T : Type 0} (cap : Option ℕ) (past ys : List (Event T)) (H H' : List (Entry T)) (R R' : List (ℕ × ℕ × Reply T)) (n p : ℕ) (e : Option (Effect T)) → H' ≡ added n p e H → Each (IsOwn past) H → EntryOwes cap (past ++ ys) H' R' n p e → Each (IsOwn (past ++ ys)) H'
 own-added cap past ys H H' R R' n p None is all owes = rw is (each-all _ _ H (λ x o. (o.0, event-more past ys x.event (Step x.party o.0) o.1)) all)
@@ -196,24 +198,24 @@ fronts-added cap past ys H R n p None r early all owes = each-both _ _ _ H (λ x
 fronts-added cap past ys H R n p (Some e) r early all owes =
     each-more _ H _ (each-both _ _ _ H (λ x lt s. saw-more cap past ys H (added n p (Some e) H) R n p r x (kind_of x.effect) (loud n p e H) lt s) early all) owes.1
 
-answers-added : {T : Type 0} (cap : Option ℕ) (past ys : List (Event T)) (H H' : List (Entry T)) (R : List (ℕ × ℕ × Reply T)) (n p : ℕ) (r : Option (Reply T)) → Extends n H H' → Each (λ y. y.0 < n) R → Each (λ y. IsAnswer cap past H R y.0 y.1 y.2) R
-    → ReplyOwes cap (past ++ ys) H' (answered n p r R) n p r → Each (λ y. IsAnswer cap (past ++ ys) H' (answered n p r R) y.0 y.1 y.2) (answered n p r R)
-answers-added cap past ys H H' R n p None ext early all owes = each-both _ _ _ R (λ y lt a. answer-more cap past ys H H' R n p None y ext lt a) early all
-answers-added cap past ys H H' R n p (Some r) ext early all owes =
-    each-more _ R _ (each-both _ _ _ R (λ y lt a. answer-more cap past ys H H' R n p (Some r) y ext lt a) early all) owes
+answers-added : {T : Type 0} (cap : Option ℕ) (S : List ℕ) (past ys : List (Event T)) (H H' : List (Entry T)) (R : List (ℕ × ℕ × Reply T)) (n p : ℕ) (r : Option (Reply T)) → Extends n H H' → Each (λ y. y.0 < n) R → Each (λ y. IsAnswer cap S past H R y.0 y.1 y.2) R
+    → ReplyOwes cap S (past ++ ys) H' (answered n p r R) n p r → Each (λ y. IsAnswer cap S (past ++ ys) H' (answered n p r R) y.0 y.1 y.2) (answered n p r R)
+answers-added cap S past ys H H' R n p None ext early all owes = each-both _ _ _ R (λ y lt a. answer-more cap S past ys H H' R n p None y ext lt a) early all
+answers-added cap S past ys H H' R n p (Some r) ext early all owes =
+    each-more _ R _ (each-both _ _ _ R (λ y lt a. answer-more cap S past ys H H' R n p (Some r) y ext lt a) early all) owes
 
 length-one : {X : Type 0} (xs : List X) (y : X) → length (xs ++ y ∷ []) ≡ length xs + 1
 length-one xs y = length-append xs (y ∷ [])
 
 -- after one event more
-pub trace-more : {T : Type 0} (cap : Option ℕ) (past : List (Event T)) (told : List (Told T)) (n : ℕ) (H : List (Entry T)) (R : List (ℕ × ℕ × Reply T)) (b c : Book T) (x : Event T) (t : Told T) (e : Option (Effect T)) (r : Option (Reply T))
-    → Trace cap past told n H R b → effect_entry n (party_of x) t ≡ kinds_in (added n (party_of x) e []) → reply_entry n (party_of x) t ≡ answered n (party_of x) r []
+pub trace-more : {T : Type 0} (cap : Option ℕ) (S : List ℕ) (past : List (Event T)) (told : List (Told T)) (n : ℕ) (H : List (Entry T)) (R : List (ℕ × ℕ × Reply T)) (b c : Book T) (x : Event T) (t : Told T) (e : Option (Effect T)) (r : Option (Reply T))
+    → Trace cap S past told n H R b → effect_entry n (party_of x) t ≡ kinds_in (added n (party_of x) e []) → reply_entry n (party_of x) t ≡ answered n (party_of x) r []
     → FitsIf e b.queue → c.queue ≡ made_if e b.queue
     → EntryOwes cap (past ++ x ∷ []) (added n (party_of x) e H) (answered n (party_of x) r R) n (party_of x) e
-    → ReplyOwes cap (past ++ x ∷ []) (added n (party_of x) e H) (answered n (party_of x) r R) n (party_of x) r
-    → ((p : ℕ) (o : Open T) → c.open_call p ≡ Some o → Since cap (past ++ x ∷ []) (added n (party_of x) e H) (answered n (party_of x) r R) p (n + 1) o)
-    → Trace cap (past ++ x ∷ []) (told ++ t ∷ []) (n + 1) (added n (party_of x) e H) (answered n (party_of x) r R) c
-trace-more cap past told n H R b c x t e r tr kinds replies fits leads entry reply opens =
+    → ReplyOwes cap S (past ++ x ∷ []) (added n (party_of x) e H) (answered n (party_of x) r R) n (party_of x) r
+    → ((p : ℕ) (o : Open T) → c.open_call p ≡ Some o → Since cap S (past ++ x ∷ []) (added n (party_of x) e H) (answered n (party_of x) r R) p (n + 1) o)
+    → Trace cap S (past ++ x ∷ []) (told ++ t ∷ []) (n + 1) (added n (party_of x) e H) (answered n (party_of x) r R) c
+trace-more cap S past told n H R b c x t e r tr kinds replies fits leads entry reply opens =
     let p = party_of x in
     record {
       len = omega (arith, tr.len, length-one past x);
@@ -225,7 +227,7 @@ trace-more cap past told n H R b c x t e r tr kinds replies fits leads entry rep
       replies = answered-append n p r R ∙ ap (λ l. R ++ l) (sym replies) ∙ ap (λ l. l ++ reply_entry n p t) tr.replies ∙ sym (entries-more reply_entry 0 n past told x t tr.same (omega (arith, tr.len)));
       own = own-added cap past (x ∷ []) H (added n p e H) R (answered n p r R) n p e refl tr.own entry;
       fronts = fronts-added cap past (x ∷ []) H R n p e r tr.early tr.fronts entry;
-      answers = answers-added cap past (x ∷ []) H (added n p e H) R n p r (extends-added n p e H) tr.early_replies tr.answers reply;
+      answers = answers-added cap S past (x ∷ []) H (added n p e H) R n p r (extends-added n p e H) tr.early_replies tr.answers reply;
       early_replies = early-answered n p r R tr.early_replies;
       open_calls = opens;
     }

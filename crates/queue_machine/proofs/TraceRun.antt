@@ -1,5 +1,5 @@
 -- Every run leaves a trace, and so a conforming replay has a history.
-use Rattle.std.proofs.Common.{◌≡◌, ◌≢◌, ◌⊎◌, ◌∙◌, ℕ, ◌+◌, ◌<◌, ◌&&◌, nat_lt, Bool, true, false, if◌then◌else◌, Option, Some, None, is_some, is_none, Ok, Err, List, [], ◌∷◌, ◌++◌, refl, sym, ap, subst, arith, inl, inr, append-nil, append_assoc}
+use Rattle.std.proofs.Common.{zero, suc, length, ◌≤◌, ◌≡◌, ◌≢◌, ◌⊎◌, ◌∙◌, ℕ, ◌+◌, ◌<◌, ◌&&◌, nat_lt, Bool, true, false, if◌then◌else◌, Option, Some, None, is_some, is_none, Ok, Err, List, [], ◌∷◌, ◌++◌, refl, sym, ap, subst, arith, inl, inr, append-nil, append_assoc}
 use Rattle.queue_steps.specs.State.{State}
 use Rattle.queue_steps.specs.Replies.{IsRightAt, Tells}
 use Rattle.queue_steps.specs.declared.model.Call.{Call}
@@ -15,8 +15,8 @@ use Rattle.queue_machine.specs.declared.types.Event.TheVariants.{Begin, Step}
 use Rattle.queue_machine.specs.declared.types.Told.{Told}
 use Rattle.queue_machine.specs.declared.types.Told.TheVariants.{Skipped, Ran}
 use Rattle.queue_machine.specs.Book.{Book, Open, IsBegun, Steps, GoesOn, Happens, Run, has_steps, begun, joined, watched, after_own, put, at_open, opening}
-use Rattle.queue_machine.specs.Conforms.{reply_entry}
-use Rattle.queue_machine.specs.Meaning.{Each, Entry, state_after, IsAnswer, ConformingHasHistory}
+use Rattle.queue_machine.specs.Conforms.{entries_from, reply_entry, skipped_entry}
+use Rattle.queue_machine.specs.Meaning.{Each, event_at, Entry, state_after, IsAnswer, ConformingHasHistory}
 use Rattle.queue_machine.proofs.Entries.{each-all, each-more, event-last, state-last, own-none}
 use Rattle.queue_machine.proofs.Trace.{Since, Trace, ReplyOwes, trace-more, added, answered, leads-added}
 use Rattle.queue_machine.proofs.TraceSteps.{put-cases, at_open-cases, since-other, since-joined, since-watched, moves-does, Does, since-own, answer-own, entry-owes}
@@ -56,32 +56,33 @@ none-if None e = refl
 none-if (Some x) e = cc
 
 -- the trace after one event more
-record Next {T : Type 0} (cap : Option ℕ) (past : List (Event T)) (told : List (Told T)) (n : ℕ) (x : Event T) (t : Told T) (c : Book T) : Type 0 where
+record Next {T : Type 0} (cap : Option ℕ) (S : List ℕ) (past : List (Event T)) (told : List (Told T)) (n : ℕ) (x : Event T) (t : Told T) (c : Book T) : Type 0 where
   H : List (Entry T)
   R : List (ℕ × ℕ × Reply T)
-  trace : Trace cap (past ++ x ∷ []) (told ++ t ∷ []) (n + 1) H R c
+  trace : Trace cap S (past ++ x ∷ []) (told ++ t ∷ []) (n + 1) H R c
 
-skipped-next : {T : Type 0} (cap : Option ℕ) (past : List (Event T)) (told : List (Told T)) (n : ℕ) (H : List (Entry T)) (R : List (ℕ × ℕ × Reply T)) (b c : Book T) (x : Event T) → Trace cap past told n H R b → c ≡ b → Next cap past told n x Skipped c
-skipped-next cap past told n H R b c x tr same = record {
+skipped-next : {T : Type 0} (cap : Option ℕ) (S : List ℕ) (past : List (Event T)) (told : List (Told T)) (n : ℕ) (H : List (Entry T)) (R : List (ℕ × ℕ × Reply T)) (b c : Book T) (x : Event T) → Trace cap S past told n H R b → c ≡ b → Next cap S past told n x Skipped c
+skipped-next cap S past told n H R b c x tr same = record {
   H = H;
   R = R;
-  trace = trace-more cap past told n H R b c x Skipped None None tr refl refl tt (ap (λ z. z.queue) same) tt tt
-      (λ p o open_. since-other cap past (x ∷ []) H R n p p None None o tr.early (inl refl) (inl refl) (tr.open_calls p o (sym (ap (λ z. z.open_call p) same) ∙ open_)));
+  trace = trace-more cap S past told n H R b c x Skipped None None tr refl refl tt (ap (λ z. z.queue) same) tt tt
+      (λ p o open_. since-other cap S past (x ∷ []) H R n p p None None o tr.early (inl refl) (inl refl) (tr.open_calls p o (sym (ap (λ z. z.open_call p) same) ∙ open_)));
 }
 
-began-next : {T : Type 0} (cap : Option ℕ) (past : List (Event T)) (told : List (Told T)) (n : ℕ) (H : List (Entry T)) (R : List (ℕ × ℕ × Reply T)) (b c : Book T) (p : ℕ) (k : Call T) → Trace cap past told n H R b
-    → c ≡ record { queue = b.queue; busy = b.busy + 1; open_call = put (λ j. at_open joined (b.open_call j)) p (Some (begun k)) } → Next cap past told n (Begin p k) (Ran None None) c
-began-next {T} cap past told n H R b c p k tr same = record {
+began-next : {T : Type 0} (cap : Option ℕ) (S : List ℕ) (past : List (Event T)) (told : List (Told T)) (n : ℕ) (H : List (Entry T)) (R : List (ℕ × ℕ × Reply T)) (b c : Book T) (p : ℕ) (k : Call T) → Trace cap S past told n H R b
+    → Each (λ m. m ≢ n) S → c ≡ record { queue = b.queue; busy = b.busy + 1; open_call = put (λ j. at_open joined (b.open_call j)) p (Some (begun k)) } → Next cap S past told n (Begin p k) (Ran None None) c
+began-next {T} cap S past told n H R b c p k tr ran same = record {
   H = H;
   R = R;
-  trace = trace-more cap past told n H R b c (Begin p k) (Ran None None) None None tr refl refl tt (ap (λ z. z.queue) same) tt tt
+  trace = trace-more cap S past told n H R b c (Begin p k) (Ran None None) None None tr refl refl tt (ap (λ z. z.queue) same) tt tt
       (λ j o open_. opens j o (put-cases (λ j. at_open joined (b.open_call j)) p j (Some (begun k)) o (sym (ap (λ z. z.open_call j) same) ∙ open_)));
 }
   where
-    fresh : Since cap (past ++ Begin p k ∷ []) H R p (n + 1) (begun k)
+    fresh : Since cap S (past ++ Begin p k ∷ []) H R p (n + 1) (begun k)
     fresh = record {
       first = n;
       begins = event-last past n (Begin p k) tr.len;
+      ran = ran;
       unanswered = each-all _ _ R (λ y lt e. lt) tr.early_replies;
       own = own-none p n (n + 1) H tr.early;
       moments = tt;
@@ -89,42 +90,43 @@ began-next {T} cap past told n H R b c p k tr same = record {
       begun = begun-nil k;
     }
 
-    opens : (j : ℕ) (o : Open T) → ((j ≡ p) × (Some (begun k) ≡ Some o)) ⊎ ((j ≢ p) × (at_open joined (b.open_call j) ≡ Some o)) → Since cap (past ++ Begin p k ∷ []) H R j (n + 1) o
+    opens : (j : ℕ) (o : Open T) → ((j ≡ p) × (Some (begun k) ≡ Some o)) ⊎ ((j ≢ p) × (at_open joined (b.open_call j) ≡ Some o)) → Since cap S (past ++ Begin p k ∷ []) H R j (n + 1) o
     opens j o (inl m) =
         let is : begun k ≡ o = let e = m.1 in cc in
-        subst (λ q. Since cap (past ++ Begin p k ∷ []) H R q (n + 1) o) (sym m.0) (subst (λ z. Since cap (past ++ Begin p k ∷ []) H R p (n + 1) z) is fresh)
+        subst (λ q. Since cap S (past ++ Begin p k ∷ []) H R q (n + 1) o) (sym m.0) (subst (λ z. Since cap S (past ++ Begin p k ∷ []) H R p (n + 1) z) is fresh)
     opens j o (inr m) =
         let old = at_open-cases joined (b.open_call j) o m.1 in
-        subst (λ z. Since cap (past ++ Begin p k ∷ []) H R j (n + 1) z) old.2
-        (since-joined cap (past ++ Begin p k ∷ []) H R j (n + 1) old.0 (since-other cap past (Begin p k ∷ []) H R n p j None None old.0 tr.early (inl refl) (inl refl) (tr.open_calls j old.0 old.1)))
+        subst (λ z. Since cap S (past ++ Begin p k ∷ []) H R j (n + 1) z) old.2
+        (since-joined cap S (past ++ Begin p k ∷ []) H R j (n + 1) old.0 (since-other cap S past (Begin p k ∷ []) H R n p j None None old.0 tr.early (inl refl) (inl refl) (tr.open_calls j old.0 old.1)))
 
-at-once-next : {T : Type 0} (cap : Option ℕ) (past : List (Event T)) (told : List (Told T)) (n : ℕ) (H : List (Entry T)) (R : List (ℕ × ℕ × Reply T)) (b c : Book T) (p : ℕ) (k : Call T) (x : Reply T) → Trace cap past told n H R b
-    → b.open_call p ≡ None → has_steps cap k ≡ false → IsRightAt b.queue k x → c ≡ b → Next cap past told n (Begin p k) (Ran None (Some x)) c
-at-once-next {T} cap past told n H R b c p k x tr free no_steps right same = record {
+at-once-next : {T : Type 0} (cap : Option ℕ) (S : List ℕ) (past : List (Event T)) (told : List (Told T)) (n : ℕ) (H : List (Entry T)) (R : List (ℕ × ℕ × Reply T)) (b c : Book T) (p : ℕ) (k : Call T) (x : Reply T) → Trace cap S past told n H R b
+    → Each (λ m. m ≢ n) S → b.open_call p ≡ None → has_steps cap k ≡ false → IsRightAt b.queue k x → c ≡ b → Next cap S past told n (Begin p k) (Ran None (Some x)) c
+at-once-next {T} cap S past told n H R b c p k x tr ran free no_steps right same = record {
   H = H;
   R = R ++ (n, p, x) ∷ [];
-  trace = trace-more cap past told n H R b c (Begin p k) (Ran None (Some x)) None (Some x) tr refl refl tt (ap (λ z. z.queue) same) tt answer
+  trace = trace-more cap S past told n H R b c (Begin p k) (Ran None (Some x)) None (Some x) tr refl refl tt (ap (λ z. z.queue) same) tt answer
       (λ j o open_. let was = sym (ap (λ z. z.open_call j) same) ∙ open_ in
-      since-other cap past (Begin p k ∷ []) H R n p j None (Some x) o tr.early (inl refl) (inr (λ e. let f : b.open_call j ≡ None = ap b.open_call e ∙ free in let g = was in cc)) (tr.open_calls j o was));
+      since-other cap S past (Begin p k ∷ []) H R n p j None (Some x) o tr.early (inl refl) (inr (λ e. let f : b.open_call j ≡ None = ap b.open_call e ∙ free in let g = was in cc)) (tr.open_calls j o was));
 }
   where
-    answer : IsAnswer cap (past ++ Begin p k ∷ []) H (R ++ (n, p, x) ∷ []) n p x
+    answer : IsAnswer cap S (past ++ Begin p k ∷ []) H (R ++ (n, p, x) ∷ []) n p x
     answer = record {
       first = n;
       call = k;
       begins = event-last past n (Begin p k) tr.len;
+      ran = ran;
       unanswered = each-more _ R _ (each-all _ _ R (λ y lt e. inl lt) tr.early_replies) (λ e. inr (omega arith));
       tells = rw (own-none p n n H tr.early) (right-tells b.queue cap k x no_steps right);
       right = λ none. inr (no_steps, refl, rw (state-last cap n n H tr.early (omega arith) ∙ tr.leads) right);
     }
 
-step-next : {T : Type 0} (cap : Option ℕ) (past : List (Event T)) (told : List (Told T)) (n : ℕ) (H : List (Entry T)) (R : List (ℕ × ℕ × Reply T)) (b c : Book T) (p : ℕ) (granted : Bool) (k : Option EffectKind) (r : Option (Reply T)) → Trace cap past told n H R b
-    → Steps b p k r c → Next cap past told n (Step p granted) (Ran k r) c
-step-next {T} cap past told n H R b c p granted k r tr s = record {
+step-next : {T : Type 0} (cap : Option ℕ) (S : List ℕ) (past : List (Event T)) (told : List (Told T)) (n : ℕ) (H : List (Entry T)) (R : List (ℕ × ℕ × Reply T)) (b c : Book T) (p : ℕ) (granted : Bool) (k : Option EffectKind) (r : Option (Reply T)) → Trace cap S past told n H R b
+    → Steps b p k r c → Next cap S past told n (Step p granted) (Ran k r) c
+step-next {T} cap S past told n H R b c p granted k r tr s = record {
   H = added n p does.e H;
   R = answered n p r R;
-  trace = trace-more cap past told n H R b c (Step p granted) (Ran k r) does.e r tr (does.entry n p r) (replied r) does.fits does.leads
-      (entry-owes T cap past H R n p granted tr.len tr.early s.o since does.e r b.busy c.queue s.effects is does.effects does.may)
+  trace = trace-more cap S past told n H R b c (Step p granted) (Ran k r) does.e r tr (does.entry n p r) (replied r) does.fits does.leads
+      (entry-owes T cap S past H R n p granted tr.len tr.early s.o since does.e r b.busy c.queue s.effects is does.effects does.may)
       (reply-owes r refl s.goes)
       (λ j o open_. opens j o (put-cases (λ j. at_open (watched c.queue) (b.open_call j)) p j (if is_some r then None else Some mine) o (sym (ap (λ z. z j) s.calls) ∙ open_)));
 }
@@ -132,7 +134,7 @@ step-next {T} cap past told n H R b c p granted k r tr s = record {
     does : Does b.queue s.o k c.queue s.effects
     does = moves-does b.queue s.o k c.queue s.effects s.moves
 
-    since : Since cap past H R p n s.o
+    since : Since cap S past H R p n s.o
     since = tr.open_calls p s.o s.in_call
 
     mine : Open T
@@ -149,53 +151,90 @@ step-next {T} cap past told n H R b c p granted k r tr s = record {
     replied None = refl
     replied (Some y) = refl
 
-    reply-owes : (y : Option (Reply T)) → r ≡ y → GoesOn mine y → ReplyOwes cap (past ++ Step p granted ∷ []) (added n p does.e H) (answered n p r R) n p r
+    reply-owes : (y : Option (Reply T)) → r ≡ y → GoesOn mine y → ReplyOwes cap S (past ++ Step p granted ∷ []) (added n p does.e H) (answered n p r R) n p r
     reply-owes None e goes = rw e tt
-    reply-owes (Some y) e goes = answer-own T cap past H R n p granted tr.len tr.early s.o since does.e r b.busy c.queue s.effects is does.effects y goes e
+    reply-owes (Some y) e goes = answer-own T cap S past H R n p granted tr.len tr.early s.o since does.e r b.busy c.queue s.effects is does.effects y goes e
 
-    own-open : (y : Option (Reply T)) → r ≡ y → GoesOn mine y → (o : Open T) → (if is_some y then None else Some mine) ≡ Some o → Since cap (past ++ Step p granted ∷ []) (added n p does.e H) (answered n p r R) p (n + 1) o
+    own-open : (y : Option (Reply T)) → r ≡ y → GoesOn mine y → (o : Open T) → (if is_some y then None else Some mine) ≡ Some o → Since cap S (past ++ Step p granted ∷ []) (added n p does.e H) (answered n p r R) p (n + 1) o
     own-open None e goes o some =
         let same : mine ≡ o = cc in
-        subst (λ z. Since cap (past ++ Step p granted ∷ []) (added n p does.e H) (answered n p r R) p (n + 1) z) same
-        (since-own T cap past H R n p granted tr.len tr.early s.o since does.e r b.busy c.queue s.effects is does.effects goes e)
+        subst (λ z. Since cap S (past ++ Step p granted ∷ []) (added n p does.e H) (answered n p r R) p (n + 1) z) same
+        (since-own T cap S past H R n p granted tr.len tr.early s.o since does.e r b.busy c.queue s.effects is does.effects goes e)
     own-open (Some y) e goes o some = cc
 
     opens : (j : ℕ) (o : Open T) → ((j ≡ p) × ((if is_some r then None else Some mine) ≡ Some o)) ⊎ ((j ≢ p) × (at_open (watched c.queue) (b.open_call j) ≡ Some o))
-        → Since cap (past ++ Step p granted ∷ []) (added n p does.e H) (answered n p r R) j (n + 1) o
-    opens j o (inl m) = subst (λ q. Since cap (past ++ Step p granted ∷ []) (added n p does.e H) (answered n p r R) q (n + 1) o) (sym m.0) (own-open r refl s.goes o m.1)
+        → Since cap S (past ++ Step p granted ∷ []) (added n p does.e H) (answered n p r R) j (n + 1) o
+    opens j o (inl m) = subst (λ q. Since cap S (past ++ Step p granted ∷ []) (added n p does.e H) (answered n p r R) q (n + 1) o) (sym m.0) (own-open r refl s.goes o m.1)
     opens j o (inr m) =
         let old = at_open-cases (watched c.queue) (b.open_call j) o m.1 in
-        subst (λ z. Since cap (past ++ Step p granted ∷ []) (added n p does.e H) (answered n p r R) j (n + 1) z) old.2
-        (since-watched cap (past ++ Step p granted ∷ []) (added n p does.e H) (answered n p r R) j n c.queue old.0 is
-        (since-other cap past (Step p granted ∷ []) H R n p j does.e r old.0 tr.early (inr m.0) (inr m.0) (tr.open_calls j old.0 old.1)))
+        subst (λ z. Since cap S (past ++ Step p granted ∷ []) (added n p does.e H) (answered n p r R) j (n + 1) z) old.2
+        (since-watched cap S (past ++ Step p granted ∷ []) (added n p does.e H) (answered n p r R) j n c.queue old.0 is
+        (since-other cap S past (Step p granted ∷ []) H R n p j does.e r old.0 tr.early (inr m.0) (inr m.0) (tr.open_calls j old.0 old.1)))
 
-happens-next : {T : Type 0} (cap : Option ℕ) (parties : ℕ) (past : List (Event T)) (told : List (Told T)) (n : ℕ) (H : List (Entry T)) (R : List (ℕ × ℕ × Reply T)) (b c : Book T) (x : Event T) (t : Told T) → Trace cap past told n H R b → Happens cap parties b x t c → Next cap past told n x t c
-happens-next cap parties past told n H R b c x Skipped tr h = skipped-next cap past told n H R b c x tr h.1
-happens-next cap parties past told n H R b c (Begin p k) (Ran None None) tr h = began-next cap past told n H R b c p k tr h.2
-happens-next cap parties past told n H R b c (Begin p k) (Ran None (Some y)) tr h =
-    at-once-next cap past told n H R b c p k y tr (none-if (b.open_call p) (and-right (nat_lt p parties) (is_none (b.open_call p)) h.0)) h.1 h.2 h.3
-happens-next cap parties past told n H R b c (Begin p k) (Ran (Some e) r) tr h = absurd h
-happens-next cap parties past told n H R b c (Step p granted) (Ran k r) tr h = step-next cap past told n H R b c p granted k r tr h.1
+-- where the event n ran, it is none of these
+abbrev RanIf : {T : Type 0} → List ℕ → ℕ → Told T → Type 0
+RanIf S n Skipped = Unit {0}
+RanIf S n (Ran k r) = Each (λ m. m ≢ n) S
+
+happens-next : {T : Type 0} (cap : Option ℕ) (S : List ℕ) (parties : ℕ) (past : List (Event T)) (told : List (Told T)) (n : ℕ) (H : List (Entry T)) (R : List (ℕ × ℕ × Reply T)) (b c : Book T) (x : Event T) (t : Told T) → Trace cap S past told n H R b → RanIf S n t → Happens cap parties b x t c → Next cap S past told n x t c
+happens-next cap S parties past told n H R b c x Skipped tr ran h = skipped-next cap S past told n H R b c x tr h.1
+happens-next cap S parties past told n H R b c (Begin p k) (Ran None None) tr ran h = began-next cap S past told n H R b c p k tr ran h.2
+happens-next cap S parties past told n H R b c (Begin p k) (Ran None (Some y)) tr ran h =
+    at-once-next cap S past told n H R b c p k y tr ran (none-if (b.open_call p) (and-right (nat_lt p parties) (is_none (b.open_call p)) h.0)) h.1 h.2 h.3
+happens-next cap S parties past told n H R b c (Begin p k) (Ran (Some e) r) tr ran h = absurd h
+happens-next cap S parties past told n H R b c (Step p granted) (Ran k r) tr ran h = step-next cap S past told n H R b c p granted k r tr h.1
 
 -- the trace of a whole run
-record Whole {T : Type 0} (cap : Option ℕ) (events : List (Event T)) (told : List (Told T)) (c : Book T) : Type 0 where
+record Whole {T : Type 0} (cap : Option ℕ) (S : List ℕ) (events : List (Event T)) (told : List (Told T)) (c : Book T) : Type 0 where
   n : ℕ
   H : List (Entry T)
   R : List (ℕ × ℕ × Reply T)
-  trace : Trace cap events told n H R c
+  trace : Trace cap S events told n H R c
 
-run-trace : {T : Type 0} (cap : Option ℕ) (parties : ℕ) (past es : List (Event T)) (told ts : List (Told T)) (n : ℕ) (H : List (Entry T)) (R : List (ℕ × ℕ × Reply T)) (b c : Book T) → Trace cap past told n H R b → Run cap parties b es ts c → Whole cap (past ++ es) (told ++ ts) c
-run-trace cap parties past [] told [] n H R b c tr run = rw (append-nil past, append-nil told, run) (record { n = n; H = H; R = R; trace = tr })
-run-trace cap parties past (x ∷ es) told (t ∷ ts) n H R b c tr run =
-    let after = happens-next cap parties past told n H R b run.0 x t tr run.1 in
-    let rest = run-trace cap parties (past ++ x ∷ []) es (told ++ t ∷ []) ts (n + 1) after.H after.R run.0 c after.trace run.2 in
+event-mid : {X : Type 0} (xs ys : List X) (y : X) (n : ℕ) → n ≡ length xs → event_at (xs ++ y ∷ ys) n ≡ Some y
+event-mid [] ys y zero e = refl
+event-mid [] ys y (suc n) e = absurd (omega arith)
+event-mid (x ∷ xs) ys y zero e = absurd (omega arith)
+event-mid (x ∷ xs) ys y (suc n) e = event-mid xs ys y n (omega arith)
+
+-- no event that ran is one of these
+abbrev AllRan : {T : Type 0} → List ℕ → List (Told T) → Type 0
+AllRan {T} S told = (m : ℕ) (k : Option EffectKind) (r : Option (Reply T)) → event_at told m ≡ Some (Ran k r) → Each (λ i. i ≢ m) S
+
+ran-if : {T : Type 0} (S : List ℕ) (told : List (Told T)) (n : ℕ) (t : Told T) → AllRan S told → event_at told n ≡ Some t → RanIf S n t
+ran-if S told n Skipped all e = tt
+ran-if S told n (Ran k r) all e = all n k r e
+
+run-trace : {T : Type 0} (cap : Option ℕ) (S : List ℕ) (parties : ℕ) (past es : List (Event T)) (told ts : List (Told T)) (n : ℕ) (H : List (Entry T)) (R : List (ℕ × ℕ × Reply T)) (b c : Book T)
+    → Trace cap S past told n H R b → AllRan S (told ++ ts) → Run cap parties b es ts c → Whole cap S (past ++ es) (told ++ ts) c
+run-trace cap S parties past [] told [] n H R b c tr all run = rw (append-nil past, append-nil told, run) (record { n = n; H = H; R = R; trace = tr })
+run-trace cap S parties past (x ∷ es) told (t ∷ ts) n H R b c tr all run =
+    let here = ran-if S (told ++ t ∷ ts) n t all (event-mid told ts t n (tr.len ∙ tr.same)) in
+    let after = happens-next cap S parties past told n H R b run.0 x t tr here run.1 in
+    let rest = run-trace cap S parties (past ++ x ∷ []) es (told ++ t ∷ []) ts (n + 1) after.H after.R run.0 c after.trace (rw (append_assoc told (t ∷ []) ts) all) run.2 in
     rw (append_assoc past (x ∷ []) es, append_assoc told (t ∷ []) ts) at rest
-run-trace cap parties past [] told (t ∷ ts) n H R b c tr run = absurd run
-run-trace cap parties past (x ∷ es) told [] n H R b c tr run = absurd run
+run-trace cap S parties past [] told (t ∷ ts) n H R b c tr all run = absurd run
+run-trace cap S parties past (x ∷ es) told [] n H R b c tr all run = absurd run
+
+-- the numbers of the skipped events from n on are at least n
+skipped-from : {T : Type 0} (n : ℕ) (es : List (Event T)) (ts : List (Told T)) → Each (λ i. n ≤ i) (entries_from skipped_entry n es ts)
+skipped-from n [] ts = tt
+skipped-from n (e ∷ es) [] = tt
+skipped-from n (e ∷ es) (Skipped ∷ ts) = (omega arith, each-all _ _ (entries_from skipped_entry (n + 1) es ts) (λ i le. omega arith) (skipped-from (n + 1) es ts))
+skipped-from n (e ∷ es) (Ran k r ∷ ts) = each-all _ _ (entries_from skipped_entry (n + 1) es ts) (λ i le. omega arith) (skipped-from (n + 1) es ts)
+
+-- an event that ran is none of the skipped
+skipped-ran : {T : Type 0} (n : ℕ) (es : List (Event T)) (ts : List (Told T)) (m : ℕ) (k : Option EffectKind) (r : Option (Reply T)) → event_at ts m ≡ Some (Ran k r) → Each (λ i. i ≢ n + m) (entries_from skipped_entry n es ts)
+skipped-ran n [] ts m k r e = tt
+skipped-ran n (x ∷ es) [] m k r e = tt
+skipped-ran n (x ∷ es) (Skipped ∷ ts) zero k r e = cc
+skipped-ran n (x ∷ es) (Ran k' r' ∷ ts) zero k r e = each-all _ _ (entries_from skipped_entry (n + 1) es ts) (λ i le same. absurd (omega arith)) (skipped-from (n + 1) es ts)
+skipped-ran n (x ∷ es) (Skipped ∷ ts) (suc m) k r e = ((λ same. absurd (omega arith)), each-all _ _ (entries_from skipped_entry (n + 1) es ts) (λ i ne same. ne (omega arith)) (skipped-ran (n + 1) es ts m k r e))
+skipped-ran n (x ∷ es) (Ran k' r' ∷ ts) (suc m) k r e = each-all _ _ (entries_from skipped_entry (n + 1) es ts) (λ i ne same. ne (omega arith)) (skipped-ran (n + 1) es ts m k r e)
 
 pub has_history : {T A : Type 0} → ConformingHasHistory T A
 has_history {T} {A} cap parties events r c =
-    let begins : Trace {T = T} cap [] [] 0 [] [] (opening cap) = record {
+    let begins : Trace {T = T} cap r.skipped.items [] [] 0 [] [] (opening cap) = record {
       len = refl;
       same = refl;
       early = tt;
@@ -209,7 +248,8 @@ has_history {T} {A} cap parties events r c =
       early_replies = tt;
       open_calls = λ p o e. cc;
     } in
-    let whole = run-trace cap parties [] events [] c.told 0 [] [] (opening cap) c.last begins c.run in
+    let ran : AllRan r.skipped.items c.told = λ m k x e. rw c.skipped (each-all _ _ (entries_from skipped_entry 0 events c.told) (λ i ne same. ne (omega arith)) (skipped-ran 0 events c.told m k x e)) in
+    let whole = run-trace cap r.skipped.items parties [] events [] c.told 0 [] [] (opening cap) c.last begins ran c.run in
     let tr = whole.trace in
     let same : r.replies.items ≡ whole.R = c.replies ∙ sym tr.replies in
     record {
@@ -225,6 +265,7 @@ has_history {T} {A} cap parties events r c =
           record {
             first = s.first;
             begins = s.begins;
+            ran = s.ran;
             unanswered = rw same s.unanswered;
             begun = rw (← tr.len) (rw s.own s.begun);
           };

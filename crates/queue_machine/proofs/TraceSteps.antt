@@ -39,11 +39,12 @@ own-other n p q first (Some e) H early (inl none) = cc
 own-other n p q first (Some e) H early (inr ne) = own-others p q first (n + 1) n e H ne ∙ own-last q first n (n + 1) n H early (omega arith) (omega arith)
 
 -- a call that neither takes an effect nor is answered at this event
-pub since-other : {T : Type 0} (cap : Option ℕ) (past ys : List (Event T)) (H : List (Entry T)) (R : List (ℕ × ℕ × Reply T)) (n p q : ℕ) (e : Option (Effect T)) (r : Option (Reply T)) (o : Open T) → Each (λ x. x.event < n) H
-    → (e ≡ None) ⊎ (q ≢ p) → (r ≡ None) ⊎ (q ≢ p) → Since cap past H R q n o → Since cap (past ++ ys) (added n p e H) (answered n p r R) q (n + 1) o
-since-other cap past ys H R n p q e r o early no_effect no_reply s = record {
+pub since-other : {T : Type 0} (cap : Option ℕ) (S : List ℕ) (past ys : List (Event T)) (H : List (Entry T)) (R : List (ℕ × ℕ × Reply T)) (n p q : ℕ) (e : Option (Effect T)) (r : Option (Reply T)) (o : Open T) → Each (λ x. x.event < n) H
+    → (e ≡ None) ⊎ (q ≢ p) → (r ≡ None) ⊎ (q ≢ p) → Since cap S past H R q n o → Since cap S (past ++ ys) (added n p e H) (answered n p r R) q (n + 1) o
+since-other cap S past ys H R n p q e r o early no_effect no_reply s = record {
   first = s.first;
   begins = event-more past ys s.first (Begin q o.call) s.begins;
+  ran = s.ran;
   unanswered = unanswered-other n p q s.first r R no_reply s.unanswered;
   own = own-other n p q s.first e H early no_effect ∙ s.own;
   moments = each-all _ _ o.moments (λ Q m. seen-more cap past ys H (added n p e H) q s.first n Q (extends-added n p e H) m) s.moments;
@@ -51,12 +52,12 @@ since-other cap past ys H R n p q e r o early no_effect no_reply s = record {
   begun = s.begun;
 }
 
-pub since-joined : {T : Type 0} (cap : Option ℕ) (past : List (Event T)) (H : List (Entry T)) (R : List (ℕ × ℕ × Reply T)) (q n : ℕ) (o : Open T) → Since cap past H R q n o → Since cap past H R q n (joined o)
-since-joined cap past H R q n o s = record { first = s.first; begins = s.begins; unanswered = s.unanswered; own = s.own; moments = s.moments; opened = s.opened; begun = s.begun }
+pub since-joined : {T : Type 0} (cap : Option ℕ) (S : List ℕ) (past : List (Event T)) (H : List (Entry T)) (R : List (ℕ × ℕ × Reply T)) (q n : ℕ) (o : Open T) → Since cap S past H R q n o → Since cap S past H R q n (joined o)
+since-joined cap S past H R q n o s = record { first = s.first; begins = s.begins; ran = s.ran; unanswered = s.unanswered; own = s.own; moments = s.moments; opened = s.opened; begun = s.begun }
 
 -- another party's step is a moment of a call that has taken its first step
-pub since-watched : {T : Type 0} (cap : Option ℕ) (past : List (Event T)) (H : List (Entry T)) (R : List (ℕ × ℕ × Reply T)) (q n : ℕ) (Q : State T) (o : Open T) → Q ≡ state_after cap H n → Since cap past H R q (n + 1) o → Since cap past H R q (n + 1) (watched Q o)
-since-watched cap past H R q n Q o is s = record { first = s.first; begins = s.begins; unanswered = s.unanswered; own = s.own; moments = seen-here o.moments s.moments; opened = s.opened; begun = s.begun }
+pub since-watched : {T : Type 0} (cap : Option ℕ) (S : List ℕ) (past : List (Event T)) (H : List (Entry T)) (R : List (ℕ × ℕ × Reply T)) (q n : ℕ) (Q : State T) (o : Open T) → Q ≡ state_after cap H n → Since cap S past H R q (n + 1) o → Since cap S past H R q (n + 1) (watched Q o)
+since-watched cap S past H R q n Q o is s = record { first = s.first; begins = s.begins; ran = s.ran; unanswered = s.unanswered; own = s.own; moments = seen-here o.moments s.moments; opened = s.opened; begun = s.begun }
   where
     seen-here : (ms : List (State _)) → Each (Seen cap past H q s.first (n + 1)) ms → Each (Seen cap past H q s.first (n + 1)) (seen_by Q ms)
     seen-here [] all = tt
@@ -100,8 +101,8 @@ not_true : (b : Bool) → not b ≡ true → b ≡ false
 not_true true e = cc
 not_true false e = refl
 
-module _ (T : Type 0) (cap : Option ℕ) (past : List (Event T)) (H : List (Entry T)) (R : List (ℕ × ℕ × Reply T)) (n p : ℕ) (granted : Bool) (len : n ≡ length past) (early : Each (λ x. x.event < n) H)
-    (o : Open T) (s : Since cap past H R p n o) (e : Option (Effect T)) (r : Option (Reply T)) (busy : ℕ) (Q : State T) (es : List (Effect T)) (is : Q ≡ state_after cap (added n p e H) n) (effects : es ≡ effects_added o.effects e) where
+module _ (T : Type 0) (cap : Option ℕ) (S : List ℕ) (past : List (Event T)) (H : List (Entry T)) (R : List (ℕ × ℕ × Reply T)) (n p : ℕ) (granted : Bool) (len : n ≡ length past) (early : Each (λ x. x.event < n) H)
+    (o : Open T) (s : Since cap S past H R p n o) (e : Option (Effect T)) (r : Option (Reply T)) (busy : ℕ) (Q : State T) (es : List (Effect T)) (is : Q ≡ state_after cap (added n p e H) n) (effects : es ≡ effects_added o.effects e) where
   abbrev now : List (Event T)
   now = past ++ Step p granted ∷ []
 
@@ -131,10 +132,11 @@ module _ (T : Type 0) (cap : Option ℕ) (past : List (Event T)) (H : List (Entr
       ]
 
   -- the call goes on
-  pub since-own : Stays mine → r ≡ None → Since cap now (added n p e H) (answered n p r R) p (n + 1) mine
+  pub since-own : Stays mine → r ≡ None → Since cap S now (added n p e H) (answered n p r R) p (n + 1) mine
   since-own stays none = record {
     first = s.first;
     begins = event-more past (Step p granted ∷ []) s.first (Begin p o.call) s.begins;
+    ran = s.ran;
     unanswered = unanswered-other n p p s.first r R (inl none) s.unanswered;
     own = own-now (n + 1) (omega arith);
     moments = moments-now;
@@ -147,14 +149,15 @@ module _ (T : Type 0) (cap : Option ℕ) (past : List (Event T)) (H : List (Entr
   unanswered-now first le (Some x) = each-more _ R _ (each-all _ _ R (λ y before same. inl (let lt = before same in omega arith)) s.unanswered) (λ same. inr (omega arith))
 
   -- the call ends with this reply
-  pub answer-own : (x : Reply T) → Ends mine x → r ≡ Some x → ReplyOwes cap now (added n p e H) (answered n p r R) n p r
+  pub answer-own : (x : Reply T) → Ends mine x → r ≡ Some x → ReplyOwes cap S now (added n p e H) (answered n p r R) n p r
   answer-own x ends some = rw some answer
     where
-      answer : IsAnswer cap now (added n p e H) (answered n p (Some x) R) n p x
+      answer : IsAnswer cap S now (added n p e H) (answered n p (Some x) R) n p x
       answer = record {
         first = s.first;
         call = o.call;
         begins = event-more past (Step p granted ∷ []) s.first (Begin p o.call) s.begins;
+        ran = s.ran;
         unanswered = unanswered-now s.first (omega arith) (Some x);
         tells = rw (own-now n (omega arith)) ends.0;
         right = λ none.

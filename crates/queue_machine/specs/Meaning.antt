@@ -1,5 +1,5 @@
 -- What a conforming replay means: one legal history, in which every finished call stands between its own first and last step.
-use Rattle.std.specs.Prelude.{◌≡◌, ◌⊎◌, ℕ, zero, suc, ◌+◌, ◌<◌, ◌≤◌, ◌==◌, ◌&&◌, nat_lt, Bool, false, if◌then◌else◌, Option, Some, None, List, [], ◌∷◌, length}
+use Rattle.std.specs.Prelude.{◌≡◌, ◌≢◌, ◌⊎◌, ℕ, zero, suc, ◌+◌, ◌<◌, ◌≤◌, ◌==◌, ◌&&◌, nat_lt, Bool, false, if◌then◌else◌, Option, Some, None, List, [], ◌∷◌, length}
 use Rattle.queue_steps.specs.State.{State}
 use Rattle.queue_steps.specs.Effect.{IsHistory, after}
 use Rattle.queue_steps.specs.Replies.{IsRightAt, Tells}
@@ -74,11 +74,12 @@ IsRightBetween {T} cap events H p first last c x =
     ((Q : State T) × IsMoment cap events H p first last Q × Allows c x Q)
     ⊎ ((has_steps cap c ≡ false) × (last ≡ first) × IsRightAt (state_after cap H last) c x)
 
--- the reply x, told of party p at the event `last`, answers the call that the party began last, whose effects since then are those that the reply stands for; without effects it is right between
-pub record IsAnswer {T : Type 0} (cap : Option ℕ) (events : List (Event T)) (H : List (Entry T)) (replies : List (ℕ × ℕ × Reply T)) (last p : ℕ) (x : Reply T) : Type 0 where
+-- the reply x, told of party p at the event `last`, answers the call that the party began last, at an event that was not skipped, whose effects since then are those that the reply stands for; without effects it is right between
+pub record IsAnswer {T : Type 0} (cap : Option ℕ) (skipped : List ℕ) (events : List (Event T)) (H : List (Entry T)) (replies : List (ℕ × ℕ × Reply T)) (last p : ℕ) (x : Reply T) : Type 0 where
   pub first : ℕ
   pub call : Call T
   pub begins : event_at events first ≡ Some (Begin p call)
+  pub ran : Each (λ m. m ≢ first) skipped
   pub unanswered : IsUnanswered replies p first last
   pub tells : Tells call x (own_effects p first last H)
   pub right : own_effects p first last H ≡ [] → IsRightBetween cap events H p first last call x
@@ -102,9 +103,10 @@ abbrev pub IsOwn : {T : Type 0} → List (Event T) → Entry T → Type 0
 IsOwn events x = (granted : Bool) × (event_at events x.event ≡ Some (Step x.party granted))
 
 -- the call o of party p has not ended: its effects begin those of one of its replies
-pub record IsUnended {T : Type 0} (events : List (Event T)) (H : List (Entry T)) (replies : List (ℕ × ℕ × Reply T)) (p : ℕ) (o : Open T) : Type 0 where
+pub record IsUnended {T : Type 0} (skipped : List ℕ) (events : List (Event T)) (H : List (Entry T)) (replies : List (ℕ × ℕ × Reply T)) (p : ℕ) (o : Open T) : Type 0 where
   pub first : ℕ
   pub begins : event_at events first ≡ Some (Begin p o.call)
+  pub ran : Each (λ m. m ≢ first) skipped
   pub unanswered : Each (λ y. y.1 ≡ p → y.0 < first) replies
   pub begun : IsBegun o.call (own_effects p first (length events) H)
 
@@ -118,8 +120,8 @@ pub record HasHistory {T A : Type 0} (cap : Option ℕ) (parties : ℕ) (events 
   pub left : r.left.items ≡ (after cap (effects_in history)).items
   pub own : Each (IsOwn events) history
   pub fronts : Each (λ x. FrontSawOpen cap events history r.replies.items x (kind_of x.effect)) history
-  pub answers : Each (λ y. IsAnswer cap events history r.replies.items y.0 y.1 y.2) r.replies.items
-  pub unended : (p : ℕ) (o : Open T) → c.last.open_call p ≡ Some o → IsUnended events history r.replies.items p o
+  pub answers : Each (λ y. IsAnswer cap r.skipped.items events history r.replies.items y.0 y.1 y.2) r.replies.items
+  pub unended : (p : ℕ) (o : Open T) → c.last.open_call p ≡ Some o → IsUnended r.skipped.items events history r.replies.items p o
 
 -- every replay that conforms has such a history
 abbrev pub ConformingHasHistory : Type 0 → Type 0 → Type 0
