@@ -1,0 +1,10 @@
+pub mod Borrowed
+pub mod Blocks
+pub mod Moves
+pub mod Shown
+pub mod Sent
+pub mod Rooms
+pub mod Made
+pub mod Stepping
+pub mod Walks
+pub mod Closings

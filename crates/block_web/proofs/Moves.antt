@@ -1,0 +1,251 @@
+-- What a step of a seat does to the web, while the invariant is open for that step; and the web's first and last moments. Assumes `Logic`.
+use Rattle.std.proofs.Common.{◌≡◌, ℕ, ◌+◌, ◌*◌, ◌<◌, T, List, [], ◌∷◌, ◌++◌, set, sym, refl, subst, arith, w64}
+use Rattle.std.specs.Prelude.{None}
+use Rattle.std.specs.Sync.RawAtomic.{asks, always}
+use Rattle.std.specs.Sync.RawAtomic.Pointer.{cell, alike, asks_ptr, compares}
+use mathlib.Core.Bool.{Bool, cond}
+use mathlib.Core.Option as maybe
+use lib.ListN.{get_elem?}
+use seplogic.Ra.Ura.{Ura}
+use mir.Syntax.{Ty, ty_int}
+use mir.Val.{vint, vnull, ptr_same, has_ty, WT}
+use base.Fraction.{full_share}
+use base.Share.{quarter, three_quarters}
+use base.Stored.{Coded}
+use base.Logic.{SProp, ent, sep, wand, ex, all, guard, upd, emp, via, apply∗, all_e, upd_i}
+use base.Fml.{Lft, Share, Fml, ftrue, fsep, fex, fbor, finv, flft, flent}
+use types.Logic.{Logic, sem}
+use types.Kit.{‵, raw, ◌⊛◌, some, given, later, ◌$◌, ◌∵◌, !, qed, by, move, keep, drop, use0, use1, use2, use3, split, split3, fsplit, fsplit3, fjoin, fjoin3, fpick, fpack, pick, learn, check, show, frame, each, assume, suffices, await, updating, now, rewrite, settle, done}
+use types.Owned.{basic}
+use types.Keyed.{entries_new, entries_take}
+use types.Tokens.{lft_new, lft_end, bor_new, lent_back}
+use denote.RattleType.{RattleType}
+use denote.RawPtr.{Ptr, block_ptr, null_ptr, ptr_val, block_of, count_of, Testable}
+use denote.Steps.{nothing}
+use Rattle.atomic_table.specs.Seated.{word, fact, seen, roster, halved, unused}
+use Rattle.atomic_table.proofs.Roster.{Moved, moves, Joined, joins, apart, resets}
+use Rattle.block_web.specs.Web.{Block, State, Sitter, Act, sitter, block, Lives, word_of, with_word, with_next, blocks_after, sitter_after, viewed, if_unset, Goes, Allows, AllowsLink, Stands, CanFork, CanMerge, LastBlocks, LastBlocksBy}
+use Rattle.block_web.specs.Laid.{WebId, age, hand_owns, chain_owns, spare_owns, seat_owns, state_owns, inside_owns, known_to_all, web_owns}
+use Rattle.block_web.specs.declared.sizes.TheConstants.{SLOTS}
+use Rattle.block_web.proofs.Borrowed.{word_step, Word-found, link_step, Link-found, null_step, null_tested}
+use Rattle.block_web.proofs.Blocks.{acts, Reworded, word_at, Relinked, link_at, same_word}
+
+module _ {M : Type 1} {𝓤 : Ura M} (𝓛 : Logic 𝓤) (R : RattleType) (token : Ty → Ptr → Fml) {V : Type 0} (cv : Coded V) (holds : State R.Denot V → Type 0) where
+  open 𝓛 use {H, A}
+
+  abbrev Pr : Type 2
+  Pr = SProp 𝓤
+
+  abbrev ◌⊢◌ : Pr → Pr → Type 1
+  P ⊢ Q = ent 𝓤 P Q
+
+  abbrev ◌∗◌ : Pr → Pr → Pr
+  P ∗ Q = sep 𝓤 P Q
+
+  abbrev ◌-∗◌ : Pr → Pr → Pr
+  P -∗ Q = wand 𝓤 P Q
+
+  abbrev ⟦◌⟧ : Fml → Pr
+  ⟦ P ⟧ = sem 𝓛 P
+
+  infix 26 ◌⊢◌
+  infixr 35 ◌∗◌
+  infixr 30 ◌-∗◌
+  abbrev S : Type 0
+  S = R.Denot
+
+  module _ (z : WebId) where
+    abbrev γ : ℕ
+    γ = z.0
+
+    abbrev κ : Lft
+    κ = age z
+
+    abbrev I : Fml
+    I = inside_owns R token cv.code z holds
+
+    abbrev sat : ℕ → Sitter S V → Fml
+    sat = seat_owns R token cv.code z
+
+    abbrev part : ℕ → V → Fml
+    part id v = seen cv.code γ id three_quarters v
+
+    shuts_in : (bs : List (Block S)) (vs : List V) → holds record { blocks = bs; views = vs } → ⟦ chain_owns R token bs ⟧ ∗ ⟦ roster cv.code γ 0 vs ⟧ ⊢ ⟦ I ⟧
+    shuts_in bs vs good = let t : State S V = record { blocks = bs; views = vs } in qed 𝓛 (‵ (chain_owns R token bs) ∷ ‵ (roster cv.code γ 0 vs) ∷ []) ∵
+        nothing ! $ fpack ! (holds t) (λ _. ftrue) good $ move ! (1 ∷ 2 ∷ 0 ∷ []) $ fjoin3 ! $ fpack ! (State S V) (state_owns R token cv.code z holds) t $ done !
+
+    abbrev pub Seated : ℕ → (Sitter S V → Type 0) → Sitter S V → Fml
+    Seated id then u = fsep (fact (then u)) (sat id u)
+
+    -- the seat after the step, of which `then` holds
+    abbrev pub after : ℕ → (Sitter S V → Type 0) → Fml
+    after id then = fex (Sitter S V) (Seated id then)
+
+    -- the step is done: the acts follow, and the view moves
+    carries_on : (s : State S V) (bs : List (Block S)) (id : ℕ) (m : Sitter S V) (then : Sitter S V → Type 0) → Goes holds s bs id m then
+        → ⟦ chain_owns R token bs ⟧ ∗ all 𝓤 (Moved 𝓛 cv γ 0 s.views id id) ∗ (⟦ hand_owns R m.hand ⟧ ∗ ⟦ spare_owns R token m.spare ⟧) ⊢ upd 𝓤 (⟦ I ⟧ ∗ ⟦ after id then ⟧)
+    carries_on s bs id m then r = let w : V = r.0 in let more : List (Act S) = r.1 in let u : Sitter S V = viewed w (sitter_after bs m more) in let Z : Pr = ⟦ I ⟧ ∗ ⟦ after id then ⟧ in let vs : List V = set s.views id w in
+        qed 𝓛 (‵ (chain_owns R token bs) ∷ raw (all 𝓤 (Moved 𝓛 cv γ 0 s.views id id)) ∷ ‵ (hand_owns R m.hand) ∷ ‵ (spare_owns R token m.spare) ∷ []) ∵ move ! (1 ∷ []) $
+        use1 𝓛 (raw (Moved 𝓛 cv γ 0 s.views id id w)) (all_e 𝓤 (Moved 𝓛 cv γ 0 s.views id id) w) $ settle 𝓛 Z (‵ (roster cv.code γ 0 vs) ⊛ ‵ (part id w)) $ split ! $ move ! (2 ∷ 3 ∷ 4 ∷ []) $
+        use3 𝓛 (‵ (chain_owns R token (blocks_after bs more)) ⊛ ‵ (hand_owns R u.hand) ⊛ ‵ (spare_owns R token u.spare)) (acts 𝓛 R token bs m more r.2) $ split3 ! $ move ! (0 ∷ 3 ∷ []) $
+        use2 𝓛 (‵ I) (shuts_in (blocks_after bs more) vs r.3) $ suffices ! _ (upd_i 𝓤 Z) $ frame ! $ show ! (λ (x : Sitter S V). ⟦ Seated id then x ⟧) u $
+        nothing ! $ fpack ! (then u) (λ _. ftrue) r.4 $ move ! (0 ∷ 3 ∷ 1 ∷ 2 ∷ []) $ done !
+
+    module _ (q : Share) (k : ℕ) (p : Ptr) where
+      abbrev b : ℕ
+      b = block_of p
+
+      abbrev word_place : ℕ → ℕ
+      word_place i = i * 8 + (count_of p + 8)
+
+      -- a step on the word i, where `law` shows how the invariant stands again
+      words_by : (i : ℕ) (f : ℕ → ℕ) (gain : ℕ → Fml) (X : Pr) → i < SLOTS
+          → ((s : State S V) → holds s → ⟦ roster cv.code γ 0 s.views ⟧ ∗ X ⊢ guard 𝓤 (Lives s.blocks k p) (all 𝓤 (λ (_ : word_of s.blocks k i < 18446744073709551616).
+          ⟦ chain_owns R token (with_word s.blocks k i (f (word_of s.blocks k i))) ⟧ -∗ upd 𝓤 (⟦ I ⟧ ∗ ⟦ gain (word_of s.blocks k i) ⟧))))
+          → A.inv (fbor κ I) ∗ A.lft κ q ∗ X ⊢ asks 𝓛 (block_ptr b (word_place i)) f always (λ n. fsep (flft κ q) (gain n))
+      words_by i f gain X near law = let e : ℕ = word_place i in let G : Pr = ex 𝓤 (Word-found 𝓛 κ q I b e f gain) in
+          word_step 𝓛 κ q I b e f gain X (qed 𝓛 (‵ I ∷ raw X ∷ []) ∵ suffices ! _ (upd_i 𝓤 G) $ fpick ! (λ s. fsplit3 ! $ move ! (2 ∷ []) $ fpick ! (λ so. drop ! $ move ! (1 ∷ 2 ∷ []) $
+          let n : ℕ = word_of s.blocks k i in let W : Fml = chain_owns R token (with_word s.blocks k i (f n)) in let Z : Pr = upd 𝓤 (⟦ I ⟧ ∗ ⟦ gain n ⟧) in let Then : n < 18446744073709551616 → Pr = λ _. ⟦ W ⟧ -∗ Z in
+          use2 𝓛 (given (Lives s.blocks k p) (raw (all 𝓤 Then))) (law s so) $ learn ! (λ lies. move ! (1 ∷ []) $
+          use1 𝓛 (‵ (word b e n) ⊛ raw (all 𝓤 (Reworded 𝓛 R token s.blocks k p i))) (word_at 𝓛 R token s.blocks k p i near lies) $ split ! $
+          use1 𝓛 (given (T (has_ty (ty_int w64) (vint w64 n)) × WT (vint w64 n)) (‵ (word b e n))) (𝓛.laws.at_wt full_share (ty_int w64) b e (vint w64 n)) $ learn ! (λ typed.
+          show ! (Word-found 𝓛 κ q I b e f gain) n $ frame ! $
+          use1 𝓛 (raw (Reworded 𝓛 R token s.blocks k p i (f n))) (all_e 𝓤 (Reworded 𝓛 R token s.blocks k p i) (f n)) $ assume ! (‵ (word b e (f n))) $ use2 𝓛 (‵ W) (apply∗ 𝓤 ⟦ word b e (f n) ⟧ ⟦ W ⟧) $ move ! (1 ∷ []) $
+          use1 𝓛 (raw (⟦ W ⟧ -∗ Z)) (all_e 𝓤 Then typed.1.fits) $ move ! (1 ∷ 0 ∷ []) $ by ! (apply∗ 𝓤 ⟦ W ⟧ Z))))))
+
+      -- The views after a load that changes no block, with what it leaves.
+      abbrev Viewed : List (Block S) → Fml → List V → Pr
+      Viewed bs gain vs = guard 𝓤 (holds record { blocks = bs; views = vs }) (⟦ roster cv.code γ 0 vs ⟧ ∗ ⟦ gain ⟧)
+
+      reads_by : (i : ℕ) (gain : Fml) (X : Pr) → i < SLOTS → ((s : State S V) → holds s → ⟦ roster cv.code γ 0 s.views ⟧ ∗ X ⊢ guard 𝓤 (Lives s.blocks k p) (upd 𝓤 (ex 𝓤 (Viewed s.blocks gain))))
+          → A.inv (fbor κ I) ∗ A.lft κ q ∗ X ⊢ asks 𝓛 (block_ptr b (word_place i)) (λ n. n) always (λ n. fsep (flft κ q) gain)
+      reads_by i gain X near law = words_by i (λ n. n) (λ _. gain) X near (λ s so. let n : ℕ = word_of s.blocks k i in let W : Fml = chain_owns R token (with_word s.blocks k i n) in let Done : Pr = ⟦ I ⟧ ∗ ⟦ gain ⟧ in
+          qed 𝓛 (‵ (roster cv.code γ 0 s.views) ∷ raw X ∷ []) ∵ use2 𝓛 (given (Lives s.blocks k p) (raw (upd 𝓤 (ex 𝓤 (Viewed s.blocks gain))))) (law s so) $ learn ! (λ lies. check ! lies $
+          each ! (λ (_ : n < 18446744073709551616). ⟦ W ⟧ -∗ upd 𝓤 Done) (λ _. assume ! (‵ W) $ rewrite ! 0 (λ (bs : List (Block S)). ‵ (chain_owns R token bs)) (same_word 𝓛 R token s.blocks k i) refl $ move ! (1 ∷ []) $
+          settle 𝓛 Done (some (λ (vs : List V). given (holds record { blocks = s.blocks; views = vs }) (‵ (roster cv.code γ 0 vs) ⊛ ‵ gain))) $ pick ! (λ vs. learn ! (λ good. split ! $ move ! (2 ∷ 0 ∷ []) $
+          use2 𝓛 (‵ I) (shuts_in s.blocks vs good) $ suffices ! _ (upd_i 𝓤 Done) $ frame ! $ done !)))))
+
+      -- a load without a seat
+      pub peeks_at : (i : ℕ) → i < SLOTS → Stands holds k p → A.inv (fbor κ I) ∗ A.lft κ q ∗ emp 𝓤 ⊢ asks 𝓛 (block_ptr b (word_place i)) (λ n. n) always (λ n. fsep (flft κ q) ftrue)
+      peeks_at i near law = reads_by i ftrue (emp 𝓤) near (λ s so. let Z : Pr = ex 𝓤 (Viewed s.blocks ftrue) in qed 𝓛 (‵ (roster cv.code γ 0 s.views) ∷ raw (emp 𝓤) ∷ []) ∵ keep ! (0 ∷ []) $ check ! (law s so) $
+          suffices ! _ (upd_i 𝓤 Z) $ show ! (Viewed s.blocks ftrue) s.views $ check ! so $ frame ! $ nothing ! $ done !)
+
+      module _ (id : ℕ) (m : Sitter S V) where
+        abbrev Found-view : State S V → Type 0
+        Found-view s = get_elem? s.views id ≡ maybe.some m.view
+
+        pub steps : (i : ℕ) (f : ℕ → ℕ) (then : ℕ → Sitter S V → Type 0) → i < SLOTS → Allows holds id m k p i f then
+            → A.inv (fbor κ I) ∗ A.lft κ q ∗ ⟦ sat id m ⟧ ⊢ asks 𝓛 (block_ptr b (word_place i)) f always (λ n. fsep (flft κ q) (after id (then n)))
+        steps i f then near law = words_by i f (λ n. after id (then n)) ⟦ sat id m ⟧ near (λ s so. let n : ℕ = word_of s.blocks k i in let bs : List (Block S) = with_word s.blocks k i (f n) in
+            qed 𝓛 (‵ (roster cv.code γ 0 s.views) ∷ ‵ (part id m.view) ∷ ‵ (hand_owns R m.hand) ∷ ‵ (spare_owns R token m.spare) ∷ []) ∵
+            use2 𝓛 (given (Found-view s) (raw (all 𝓤 (Moved 𝓛 cv γ 0 s.views id id)))) (moves 𝓛 cv γ s.views 0 id id m.view (omega arith)) $ learn ! (λ at. let r = law s so at in check ! r.0 $
+            each ! (λ (_ : n < 18446744073709551616). ⟦ chain_owns R token bs ⟧ -∗ upd 𝓤 (⟦ I ⟧ ∗ ⟦ after id (then n) ⟧)) (λ small. assume ! (‵ (chain_owns R token bs)) $ by ! (carries_on s bs id m (then n) (r.1 small)))))
+
+        -- what a step on a link leaves: the seat, and a fact on the place found
+        abbrev pub told : (Ptr → Type 0) → (Ptr → Sitter S V → Type 0) → Ptr → Fml
+        told φ then u = after id (λ x. φ u × then u x)
+
+        -- the link becomes f of what it was, in the cases C that `tells` shows
+        links_by : (C : Type 0) (was : C → Ptr) (f : Ptr → Ptr) (new : C → Ptr) (tells : C → Fml) (φ : Ptr → Type 0) (then : Ptr → Sitter S V → Type 0) → ((u : Ptr) → Testable u → φ u)
+            → ((u : Ptr) → Testable u → emp 𝓤 ⊢ ex 𝓤 (λ (c : C). guard 𝓤 ((was c ≡ u) × (new c ≡ f u)) ⟦ tells c ⟧)) → AllowsLink holds id m k p f then
+            → ⟦ I ⟧ ∗ ⟦ sat id m ⟧ ⊢ upd 𝓤 (ex 𝓤 (Link-found 𝓛 κ q I b (count_of p + 0) C was new tells (λ c. told φ then (was c))))
+        links_by C was f new tells φ then says cases law = let e : ℕ = count_of p + 0 in let L : C → Pr = Link-found 𝓛 κ q I b e C was new tells (λ c. told φ then (was c)) in
+            qed 𝓛 (‵ I ∷ ‵ (part id m.view) ∷ ‵ (hand_owns R m.hand) ∷ ‵ (spare_owns R token m.spare) ∷ []) ∵ suffices ! _ (upd_i 𝓤 (ex 𝓤 L)) $
+            fpick ! (λ s. fsplit3 ! $ move ! (2 ∷ []) $ fpick ! (λ so. drop ! $ move ! (1 ∷ 2 ∷ []) $ let u : Ptr = (block s.blocks k).next in let bs : List (Block S) = with_next s.blocks k (f u) in let Moves : Pr = all 𝓤 (Moved 𝓛 cv γ 0 s.views id id) in
+            use2 𝓛 (given (Found-view s) (raw Moves)) (moves 𝓛 cv γ s.views 0 id id m.view (omega arith)) $ learn ! (λ at. let r = law s so at in let goes = r.1.1 in move ! (1 ∷ []) $
+            use1 𝓛 (‵ (cell b e u) ⊛ raw (all 𝓤 (Relinked 𝓛 R token s.blocks k p))) (link_at 𝓛 R token s.blocks k p r.0) $ split ! $
+            use0 𝓛 (some (λ (c : C). given ((was c ≡ u) × (new c ≡ f u)) (‵ (tells c)))) (cases u r.1.0) $ pick ! (λ c. learn ! (λ is. show ! L c $
+            rewrite ! 1 (λ (x : Ptr). ‵ (cell b e x)) (sym is.0) refl $ move ! (1 ∷ 0 ∷ []) $ frame ! $ frame ! $
+            assume ! (‵ (cell b e (new c))) $ rewrite ! 0 (λ (x : Ptr). ‵ (cell b e x)) is.1 refl $ move ! (1 ∷ []) $
+            use1 𝓛 (raw (Relinked 𝓛 R token s.blocks k p (f u))) (all_e 𝓤 (Relinked 𝓛 R token s.blocks k p) (f u)) $ move ! (1 ∷ 0 ∷ []) $
+            use2 𝓛 (‵ (chain_owns R token bs)) (apply∗ 𝓤 ⟦ cell b e (f u) ⟧ ⟦ chain_owns R token bs ⟧) $
+            by ! (subst (λ (x : Ptr). ⟦ chain_owns R token bs ⟧ ∗ Moves ∗ (⟦ hand_owns R m.hand ⟧ ∗ ⟦ spare_owns R token m.spare ⟧) ⊢ upd 𝓤 (⟦ I ⟧ ∗ ⟦ told φ then x ⟧)) (sym is.0)
+            (carries_on s bs id m (λ x. φ u × then u x) (goes.0, goes.1, goes.2, goes.3, (says u r.1.0, goes.4)))))))))
+
+        -- a load, or a store of what f says
+        relinks : (f : Ptr → Ptr) (φ : Ptr → Type 0) (then : Ptr → Sitter S V → Type 0) → ((u : Ptr) → Testable u → φ u) → AllowsLink holds id m k p f then
+            → A.inv (fbor κ I) ∗ A.lft κ q ∗ ⟦ sat id m ⟧ ⊢ asks_ptr 𝓛 (block_ptr b (count_of p + 0)) f (λ u. fsep (flft κ q) (told φ then u))
+        relinks f φ then says law = link_step 𝓛 κ q I b (count_of p + 0) Ptr (λ u. u) f (λ _. ftrue) (told φ then) ⟦ sat id m ⟧ (links_by Ptr (λ u. u) f f (λ _. ftrue) φ then says
+            (λ u low. qed 𝓛 (raw (emp 𝓤) ∷ []) ∵ show ! (λ (c : Ptr). guard 𝓤 ((c ≡ u) × (f c ≡ f u)) (emp 𝓤)) u $ check ! (refl, refl) $ done !) law)
+
+        pub follows : (then : Ptr → Sitter S V → Type 0) → AllowsLink holds id m k p (λ u. u) then → A.inv (fbor κ I) ∗ A.lft κ q ∗ ⟦ sat id m ⟧ ⊢ asks_ptr 𝓛 (block_ptr b (count_of p + 0)) (λ u. u) (λ u. fsep (flft κ q) (told Testable then u))
+        follows then law = relinks (λ u. u) Testable then (λ u low. low) law
+
+        pub leads : (new : Ptr) (then : Sitter S V → Type 0) → AllowsLink holds id m k p (λ _. new) (λ _. then)
+            → A.inv (fbor κ I) ∗ A.lft κ q ∗ ⟦ sat id m ⟧ ⊢ asks_ptr 𝓛 (block_ptr b (count_of p + 0)) (λ _. new) (λ _. fsep (flft κ q) (told (λ _. Unit {0}) (λ _. then) new))
+        leads new then law = relinks (λ _. new) (λ _. Unit {0}) (λ _. then) (λ u low. tt) law
+
+        null_cond : (new u : Ptr) → cond (ptr_same (ptr_val u) vnull) new u ≡ if_unset new u
+        null_cond new (block_ptr c o) = refl
+        null_cond new null_ptr = refl
+
+        pub installs : (new : Ptr) (then : Ptr → Sitter S V → Type 0) → AllowsLink holds id m k p (if_unset new) then
+            → A.inv (fbor κ I) ∗ A.lft κ q ∗ ⟦ sat id m ⟧ ⊢ compares 𝓛 (block_ptr b (count_of p + 0)) null_ptr new (λ u. fsep (flft κ q) (told Testable then u)) (λ u. fsep (flft κ q) (told Testable then u))
+        installs new then law = let C : Type 0 = Ptr × Bool in let was : C → Ptr = λ c. c.0 in let new' : C → Ptr = λ c. cond c.1 new c.0 in let tells : C → Fml = λ c. alike c.0 null_ptr c.1 in
+            null_step 𝓛 κ q I b (count_of p + 0) new (told Testable then) ⟦ sat id m ⟧ (links_by C was (if_unset new) new' tells Testable then (λ u low. low)
+            (λ u low. let y : Bool = ptr_same (ptr_val u) vnull in qed 𝓛 (raw (emp 𝓤) ∷ []) ∵ show ! (λ (c : C). guard 𝓤 ((was c ≡ u) × (new' c ≡ if_unset new u)) ⟦ tells c ⟧) (u, y) $ check ! (refl, null_cond new u) $ by ! (null_tested 𝓛 u low)) law)
+
+        -- a view cut in two
+        module _ (l r : V) where
+          abbrev pub Two : ℕ → Fml
+          Two j = fsep (sat id (sitter l m.hand m.spare)) (sat j (sitter r None None))
+
+          pub forks : CanFork holds k p id m.view l r → A.inv (fbor κ I) ∗ A.lft κ q ∗ ⟦ sat id m ⟧ ⊢ asks 𝓛 (block_ptr b (word_place 0)) (λ n. n) always (λ n. fsep (flft κ q) (fex ℕ Two))
+          forks law = reads_by 0 (fex ℕ Two) ⟦ sat id m ⟧ (omega arith) (λ s so. let vs : List V = set s.views id l in let Z : Pr = ex 𝓤 (Viewed s.blocks (fex ℕ Two)) in
+              qed 𝓛 (‵ (roster cv.code γ 0 s.views) ∷ ‵ (part id m.view) ∷ ‵ (hand_owns R m.hand) ∷ ‵ (spare_owns R token m.spare) ∷ []) ∵
+              use2 𝓛 (given (Found-view s) (raw (all 𝓤 (Moved 𝓛 cv γ 0 s.views id id)))) (moves 𝓛 cv γ s.views 0 id id m.view (omega arith)) $ learn ! (λ at. let good = law s so at in check ! good.0 $
+              use1 𝓛 (raw (Moved 𝓛 cv γ 0 s.views id id l)) (all_e 𝓤 (Moved 𝓛 cv γ 0 s.views id id) l) $ settle 𝓛 Z (‵ (roster cv.code γ 0 vs) ⊛ ‵ (part id l)) $ split ! $
+              use1 𝓛 (raw (upd 𝓤 (ex 𝓤 (Joined 𝓛 cv γ 0 vs r)))) (joins 𝓛 cv γ vs 0 r) $ settle 𝓛 Z (some (λ (j : ℕ). ‵ (roster cv.code γ 0 (vs ++ r ∷ [])) ⊛ ‵ (part j r))) $ pick ! (λ j. split ! $ suffices ! _ (upd_i 𝓤 Z) $
+              show ! (Viewed s.blocks (fex ℕ Two)) (vs ++ r ∷ []) $ check ! good.1 $ frame ! $ show ! (λ (x : ℕ). ⟦ Two x ⟧) j $ nothing ! $ nothing ! $ move ! (2 ∷ 0 ∷ 1 ∷ []) $ fjoin3 ! $ move ! (1 ∷ 2 ∷ 3 ∷ []) $ fjoin3 ! $ done !)))
+
+        -- a view taken in
+        module _ (other : ℕ) (it : Sitter S V) (both spent : V) where
+          abbrev pub Merged : Fml
+          Merged = fsep (sat id (sitter both m.hand m.spare)) (sat other (sitter spent it.hand it.spare))
+
+          pub absorbs : CanMerge holds k p id m.view other it.view both spent
+              → A.inv (fbor κ I) ∗ A.lft κ q ∗ (⟦ sat id m ⟧ ∗ ⟦ sat other it ⟧) ⊢ asks 𝓛 (block_ptr b (word_place 0)) (λ n. n) always (λ n. fsep (flft κ q) Merged)
+          absorbs law = reads_by 0 Merged (⟦ sat id m ⟧ ∗ ⟦ sat other it ⟧) (omega arith) (λ s so. let good = law s so in let vs : List V = set s.views id both in let us : List V = set vs other spent in let Z : Pr = ex 𝓤 (Viewed s.blocks Merged) in
+              qed 𝓛 (‵ (roster cv.code γ 0 s.views) ∷ ‵ (sat id m) ∷ ‵ (sat other it) ∷ []) ∵ check ! good.0 $ move ! (1 ∷ []) $ fsplit ! $ move ! (3 ∷ []) $ fsplit ! $ move ! (2 ∷ 0 ∷ []) $
+              -- [both views; what the other holds; what this one holds; the roster]
+              use2 𝓛 (given (¬ (other ≡ id)) (‵ (part id m.view) ⊛ ‵ (part other it.view))) (apart 𝓛 cv γ id other m.view it.view) $ learn ! (λ distinct. split ! $ move ! (4 ∷ 0 ∷ []) $
+              use2 𝓛 (given (Found-view s) (raw (all 𝓤 (Moved 𝓛 cv γ 0 s.views id id)))) (moves 𝓛 cv γ s.views 0 id id m.view (omega arith)) $ learn ! (λ at.
+              use1 𝓛 (raw (Moved 𝓛 cv γ 0 s.views id id both)) (all_e 𝓤 (Moved 𝓛 cv γ 0 s.views id id) both) $ settle 𝓛 Z (‵ (roster cv.code γ 0 vs) ⊛ ‵ (part id both)) $ split ! $ move ! (0 ∷ 2 ∷ []) $
+              use2 𝓛 (given (get_elem? vs other ≡ maybe.some it.view) (raw (all 𝓤 (Moved 𝓛 cv γ 0 vs other other)))) (moves 𝓛 cv γ vs 0 other other it.view (omega arith)) $ learn ! (λ there.
+              use1 𝓛 (raw (Moved 𝓛 cv γ 0 vs other other spent)) (all_e 𝓤 (Moved 𝓛 cv γ 0 vs other other) spent) $ settle 𝓛 Z (‵ (roster cv.code γ 0 us) ⊛ ‵ (part other spent)) $ split ! $ suffices ! _ (upd_i 𝓤 Z) $
+              show ! (Viewed s.blocks Merged) us $ check ! (good.1 at distinct there) $ frame ! $ move ! (0 ∷ 2 ∷ []) $ fjoin ! $ move ! (1 ∷ 2 ∷ []) $ fjoin ! $ done !))))
+
+    -- ---- the end
+    abbrev pub Ended : List (Block S) → Pr
+    Ended bs = guard 𝓤 (LastBlocks holds bs) ⟦ chain_owns R token bs ⟧
+
+    pub ends : ⟦ web_owns R token cv.code z holds ⟧ ⊢ H.⇛ (ex 𝓤 Ended)
+    unfolding Rattle.block_web.specs.Laid.seal
+    ends = qed 𝓛 (‵ (flft κ full_share) ∷ ‵ (known_to_all R token cv.code z holds) ∷ ‵ (flent κ I) ∷ []) ∵ updating ! $ lft_end ! tt $ keep ! (0 ∷ 2 ∷ []) $ lent_back ! tt $
+        fpick ! (λ s. fsplit3 ! $ move ! (2 ∷ []) $ fpick ! (λ so. now ! $ show ! Ended s.blocks $ check ! (s.views, so) $ keep ! (1 ∷ []) $ done !))
+
+    module _ (id : ℕ) (m : Sitter S V) where
+      abbrev pub EndedBy : List (Block S) → Pr
+      EndedBy bs = guard 𝓤 (LastBlocksBy holds id m.view bs) ⟦ chain_owns R token bs ⟧
+
+      pub ends_by : ⟦ sat id m ⟧ ∗ ⟦ web_owns R token cv.code z holds ⟧ ⊢ H.⇛ (ex 𝓤 EndedBy)
+      unfolding Rattle.block_web.specs.Laid.seal
+      ends_by = qed 𝓛 (‵ (sat id m) ∷ (‵ (flft κ full_share) ⊛ ‵ (known_to_all R token cv.code z holds) ⊛ ‵ (flent κ I)) ∷ []) ∵ fsplit ! $ keep ! (0 ∷ 2 ∷ []) $ move ! (1 ∷ []) $ split3 ! $ updating ! $ lft_end ! tt $ keep ! (0 ∷ 2 ∷ 3 ∷ []) $ lent_back ! tt $
+          fpick ! (λ s. fsplit3 ! $ move ! (2 ∷ []) $ fpick ! (λ so. drop ! $ move ! (1 ∷ 2 ∷ []) $
+          use2 𝓛 (given (get_elem? s.views id ≡ maybe.some m.view) (raw (all 𝓤 (Moved 𝓛 cv γ 0 s.views id id)))) (moves 𝓛 cv γ s.views 0 id id m.view (omega arith)) $ learn ! (λ at.
+          now ! $ show ! EndedBy s.blocks $ check ! (s.views, so, at) $ keep ! (1 ∷ []) $ done !)))
+
+  -- ---- the beginning
+  module _ (bs : List (Block S)) (v : V) where
+    abbrev pub Begun : WebId → Pr
+    Begun z = ⟦ web_owns R token cv.code z holds ⟧ ∗ ⟦ seat_owns R token cv.code z 0 (sitter v None None) ⟧
+
+    pub begins : holds record { blocks = bs; views = v ∷ [] } → ⟦ chain_owns R token bs ⟧ ⊢ H.⇛ (ex 𝓤 Begun)
+    unfolding Rattle.block_web.specs.Laid.seal
+    begins good = qed 𝓛 (‵ (chain_owns R token bs) ∷ []) ∵ updating ! $ lft_new ! tt (λ a. let κ : Lft = a ∷ [] in
+        use0 𝓛 (later (some (λ (γ : ℕ). ‵ (unused cv.code γ 0 v)))) (via 𝓤 _ (entries_new halved 𝓛 0 (λ _. (full_share, cv.code v))) (basic 𝓛 (ex 𝓤 (λ (γ : ℕ). ⟦ unused cv.code γ 0 v ⟧)))) $ await ! tt $ pick ! (λ γ.
+        let z : WebId = (γ, a) in let I : Fml = inside_owns R token cv.code z holds in let L : Fml = seen cv.code γ 0 quarter v in let Mine : Fml = seen cv.code γ 0 three_quarters v in
+        use1 𝓛 (‵ (seen cv.code γ 0 full_share v) ⊛ ‵ (unused cv.code γ 1 v)) (entries_take halved 𝓛 γ 0 (λ _. (full_share, cv.code v))) $ split ! $
+        use1 𝓛 (later (‵ L ⊛ ‵ Mine)) (via 𝓤 _ (resets 𝓛 cv γ 0 v v) (basic 𝓛 (⟦ L ⟧ ∗ ⟦ Mine ⟧))) $ await ! tt $ split ! $ move ! (2 ∷ []) $ fpack ! V (unused cv.code γ 1) v $ move ! (1 ∷ 0 ∷ []) $ fjoin ! $ move ! (3 ∷ 0 ∷ []) $
+        use2 𝓛 (‵ I) (shuts_in z bs (v ∷ []) good) $ bor_new ! tt κ $ use1 𝓛 (later (‵ (finv (fbor κ I)))) (𝓛.invs.inv_new (fbor κ I)) $ await ! tt $ move ! (3 ∷ 0 ∷ 1 ∷ []) $ fjoin3 ! $
+        nothing ! $ nothing ! $ move ! (3 ∷ 0 ∷ 1 ∷ []) $ fjoin3 ! $ now ! $ show ! Begun z $ move ! (1 ∷ 0 ∷ []) $ done !))

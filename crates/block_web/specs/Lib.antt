@@ -1,0 +1,4 @@
+pub mod Web
+pub mod Laid
+pub mod Line
+pub mod Seats

@@ -1,0 +1,16 @@
+//! The memory of unbounded queues: heap blocks of words and slots, linked to one another, that threads share under a
+//! rule of the user's over plain data, or that one owner reads and writes as plain memory.
+#![tactic(auto)]
+
+pub mod block;
+pub mod chain;
+pub mod closing;
+pub mod hub;
+pub mod line;
+pub mod low;
+pub mod seats;
+pub mod sizes;
+pub mod steps;
+#[cfg(test)]
+mod tests;
+pub mod web;

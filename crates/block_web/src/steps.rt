@@ -1,0 +1,308 @@
+// The atomic steps of a seat: each is one access to a word or to the link of a block. The number `block` tells the rule
+// which block is meant, and has no part in the access.
+ghost use Rattle.std.specs.Prelude.{◌≡◌, ◌+◌, ◌-◌, ◌%◌, ◌^◌, ◌<◌, ◌==◌, Some, None, bit_and, bit_or};
+ghost use prog.Atomic.{either};
+ghost use denote.RawPtr.{InBlock, Testable};
+ghost use Rattle.block_web.specs.Seats.{Sits, Same};
+ghost use Rattle.block_web.specs.Web.{step, sitter, if_unset, Allows, AllowsLink, Stands, CanFork, CanMerge};
+
+use crate::block::{Link, Node};
+use crate::sizes::SLOTS;
+use crate::web::{LinkPlay, Play, Seat, Web, WebRule};
+use atomic_table::{Join, Split, exchange};
+use std::alloc::Allocator;
+use std::marker::{Brand, PhantomData};
+use std::sync::atomic::Ordering::SeqCst;
+use std::sync::atomic::raw;
+use std::sync::atomic::raw::ptr;
+
+impl<S, V, K, P: WebRule<S, V, K>, A: Allocator> Web<S, V, K, P, A> {
+    /// A load without a seat, which tells nothing.
+    #[inline(always)]
+    pub fn peek(&self, block: u64, link: Link<S>, word: usize) -> u64
+        requires { InBlock link.ptr × (word < SLOTS) × Stands (P.holds self.now.key) block link.ptr }
+    {
+        unsafe {
+            raw::load::<Brand>(
+                (&raw const (*link.ptr).words as *const u64).add(word),
+                SeqCst,
+            )
+        }
+    }
+
+    /// Reads a word. It answers with the word as it was.
+    #[inline(always)]
+    pub fn load<M: Play<S, V>>(
+        &self,
+        seat: &mut Seat<S, V, A>,
+        block: u64,
+        link: Link<S>,
+        word: usize,
+    ) -> u64
+        requires { Sits seat.old self.now × InBlock link.ptr × (word < SLOTS) × Allows (P.holds self.now.key) seat.old.id seat.old.sitter block link.ptr word (λ n. n) (M.then (step block link.ptr word 0 0 None) seat.old.sitter) }
+        ensures { Same seat.new seat.old × M.then (step block link.ptr word 0 0 None) seat.old.sitter result seat.new.sitter }
+    {
+        unsafe {
+            raw::load::<Brand>(
+                (&raw const (*link.ptr).words as *const u64).add(word),
+                SeqCst,
+            )
+        }
+    }
+
+    /// Adds to a word, round the end of its range. It answers with the word as it was.
+    #[inline(always)]
+    pub fn fetch_add<M: Play<S, V>>(
+        &self,
+        seat: &mut Seat<S, V, A>,
+        block: u64,
+        link: Link<S>,
+        word: usize,
+        k: u64,
+    ) -> u64
+        requires { Sits seat.old self.now × InBlock link.ptr × (word < SLOTS) × Allows (P.holds self.now.key) seat.old.id seat.old.sitter block link.ptr word (λ n. (n + k) % 2 ^ 64) (M.then (step block link.ptr word k 0 None) seat.old.sitter) }
+        ensures { Same seat.new seat.old × M.then (step block link.ptr word k 0 None) seat.old.sitter result seat.new.sitter }
+    {
+        unsafe {
+            raw::fetch_add::<Brand>(
+                (&raw const (*link.ptr).words as *const u64).add(word),
+                k,
+                SeqCst,
+            )
+        }
+    }
+
+    /// Subtracts from a word, round the end of its range. It answers with the word as it was.
+    #[inline(always)]
+    pub fn fetch_sub<M: Play<S, V>>(
+        &self,
+        seat: &mut Seat<S, V, A>,
+        block: u64,
+        link: Link<S>,
+        word: usize,
+        k: u64,
+    ) -> u64
+        requires { Sits seat.old self.now × InBlock link.ptr × (word < SLOTS) × Allows (P.holds self.now.key) seat.old.id seat.old.sitter block link.ptr word (λ n. (n + (2 ^ 64 - k)) % 2 ^ 64) (M.then (step block link.ptr word k 0 None) seat.old.sitter) }
+        ensures { Same seat.new seat.old × M.then (step block link.ptr word k 0 None) seat.old.sitter result seat.new.sitter }
+    {
+        unsafe {
+            raw::fetch_sub::<Brand>(
+                (&raw const (*link.ptr).words as *const u64).add(word),
+                k,
+                SeqCst,
+            )
+        }
+    }
+
+    /// Sets bits of a word. It answers with the word as it was.
+    #[inline(always)]
+    pub fn fetch_or<M: Play<S, V>>(
+        &self,
+        seat: &mut Seat<S, V, A>,
+        block: u64,
+        link: Link<S>,
+        word: usize,
+        k: u64,
+    ) -> u64
+        requires { Sits seat.old self.now × InBlock link.ptr × (word < SLOTS) × Allows (P.holds self.now.key) seat.old.id seat.old.sitter block link.ptr word (λ n. bit_or n k) (M.then (step block link.ptr word k 0 None) seat.old.sitter) }
+        ensures { Same seat.new seat.old × M.then (step block link.ptr word k 0 None) seat.old.sitter result seat.new.sitter }
+    {
+        unsafe {
+            raw::fetch_or::<Brand>(
+                (&raw const (*link.ptr).words as *const u64).add(word),
+                k,
+                SeqCst,
+            )
+        }
+    }
+
+    /// Clears the other bits of a word. It answers with the word as it was.
+    #[inline(always)]
+    pub fn fetch_and<M: Play<S, V>>(
+        &self,
+        seat: &mut Seat<S, V, A>,
+        block: u64,
+        link: Link<S>,
+        word: usize,
+        k: u64,
+    ) -> u64
+        requires { Sits seat.old self.now × InBlock link.ptr × (word < SLOTS) × Allows (P.holds self.now.key) seat.old.id seat.old.sitter block link.ptr word (λ n. bit_and n k) (M.then (step block link.ptr word k 0 None) seat.old.sitter) }
+        ensures { Same seat.new seat.old × M.then (step block link.ptr word k 0 None) seat.old.sitter result seat.new.sitter }
+    {
+        unsafe {
+            raw::fetch_and::<Brand>(
+                (&raw const (*link.ptr).words as *const u64).add(word),
+                k,
+                SeqCst,
+            )
+        }
+    }
+
+    /// Writes a word.
+    #[inline(always)]
+    pub fn store<M: Play<S, V>>(
+        &self,
+        seat: &mut Seat<S, V, A>,
+        block: u64,
+        link: Link<S>,
+        word: usize,
+        new: u64,
+    )
+        requires { Sits seat.old self.now × InBlock link.ptr × (word < SLOTS) × Allows (P.holds self.now.key) seat.old.id seat.old.sitter block link.ptr word (λ _. new) (λ _. M.then (step block link.ptr word new 0 None) seat.old.sitter new) }
+        ensures { Same seat.new seat.old × M.then (step block link.ptr word new 0 None) seat.old.sitter new seat.new.sitter }
+    {
+        unsafe {
+            raw::store::<Brand>(
+                (&raw const (*link.ptr).words as *const u64).add(word),
+                new,
+                SeqCst,
+            )
+        }
+    }
+
+    /// Writes `new` where the word is `old`. It answers with the word as it was. `said` is a value that
+    /// the step announces to the rule.
+    #[inline(always)]
+    pub fn compare_exchange<M: Play<S, V>>(
+        &self,
+        seat: &mut Seat<S, V, A>,
+        block: u64,
+        link: Link<S>,
+        word: usize,
+        old: u64,
+        new: u64,
+        said: &S,
+    ) -> u64
+        requires { Sits seat.old self.now × InBlock link.ptr × (word < SLOTS) × Allows (P.holds self.now.key) seat.old.id seat.old.sitter block link.ptr word (λ n. either (n == old) new n) (M.then (step block link.ptr word old new (Some said.now)) seat.old.sitter) }
+        ensures { Same seat.new seat.old × M.then (step block link.ptr word old new (Some said.now)) seat.old.sitter result seat.new.sitter }
+    {
+        let _ = said;
+        unsafe {
+            exchange::<Brand>(
+                (&raw const (*link.ptr).words as *const u64).add(word),
+                old,
+                new,
+            )
+        }
+    }
+
+    /// Reads the link of a block.
+    #[inline(always)]
+    pub fn follow<M: LinkPlay<S, V>>(
+        &self,
+        seat: &mut Seat<S, V, A>,
+        block: u64,
+        link: Link<S>,
+    ) -> Link<S>
+        requires { Sits seat.old self.now × InBlock link.ptr × AllowsLink (P.holds self.now.key) seat.old.id seat.old.sitter block link.ptr (λ q. q) (M.then block seat.old.sitter) }
+        ensures { Same seat.new seat.old × Testable result.ptr × M.then block seat.old.sitter result.ptr seat.new.sitter }
+    {
+        let found = unsafe {
+            ptr::load::<u64, Brand>(&raw const (*link.ptr).next as *const *mut u64, SeqCst)
+        };
+        Link {
+            ptr: found as *mut Node<S>,
+        }
+    }
+
+    /// Sets the link of a block.
+    #[inline(always)]
+    pub fn lead<M: LinkPlay<S, V>>(
+        &self,
+        seat: &mut Seat<S, V, A>,
+        block: u64,
+        link: Link<S>,
+        new: Link<S>,
+    )
+        requires { Sits seat.old self.now × InBlock link.ptr × AllowsLink (P.holds self.now.key) seat.old.id seat.old.sitter block link.ptr (λ _. new.ptr) (λ _. M.then block seat.old.sitter new.ptr) }
+        ensures { Same seat.new seat.old × M.then block seat.old.sitter new.ptr seat.new.sitter }
+    {
+        unsafe {
+            ptr::store::<u64, Brand>(
+                &raw const (*link.ptr).next as *const *mut u64,
+                new.ptr as *mut u64,
+                SeqCst,
+            )
+        }
+    }
+
+    /// Sets the link of a block where it is unset. It answers with the link as it was.
+    #[inline(always)]
+    pub fn install<M: LinkPlay<S, V>>(
+        &self,
+        seat: &mut Seat<S, V, A>,
+        block: u64,
+        link: Link<S>,
+        new: Link<S>,
+    ) -> Link<S>
+        requires { Sits seat.old self.now × InBlock link.ptr × AllowsLink (P.holds self.now.key) seat.old.id seat.old.sitter block link.ptr (if_unset new.ptr) (M.then block seat.old.sitter) }
+        ensures { Same seat.new seat.old × Testable result.ptr × M.then block seat.old.sitter result.ptr seat.new.sitter }
+    {
+        let answer = unsafe {
+            ptr::compare_exchange::<u64, Brand>(
+                &raw const (*link.ptr).next as *const *mut u64,
+                std::ptr::null_mut(),
+                new.ptr as *mut u64,
+                SeqCst,
+                SeqCst,
+            )
+        };
+        match answer {
+            Ok(found) => Link {
+                ptr: found as *mut Node<S>,
+            },
+            Err(found) => Link {
+                ptr: found as *mut Node<S>,
+            },
+        }
+    }
+
+    /// Cuts a seat's view in two, and makes a seat with the second.
+    #[inline(always)]
+    pub fn split<M: Split<V>>(
+        &self,
+        seat: &mut Seat<S, V, A>,
+        block: u64,
+        link: Link<S>,
+    ) -> Seat<S, V, A>
+        requires { Sits seat.old self.now × InBlock link.ptr × CanFork (P.holds self.now.key) block link.ptr seat.old.id seat.old.sitter.view (M.left seat.old.sitter.view) (M.right seat.old.sitter.view) }
+        ensures old { Same seat.new seat.old × (seat.new.sitter ≡ sitter (M.left seat.old.sitter.view) seat.old.sitter.hand seat.old.sitter.spare) }
+        ensures new { (result.web ≡ seat.old.web) × (result.heap ≡ seat.old.heap) × (result.sitter ≡ sitter (M.right seat.old.sitter.view) None None) }
+    {
+        unsafe { raw::load::<Brand>(&raw const (*link.ptr).words as *const u64, SeqCst) };
+        Seat {
+            marker: PhantomData,
+        }
+    }
+
+    // Both views change, and the other's is spent.
+    #[inline(always)]
+    fn merge<M: Join<V>>(
+        &self,
+        seat: &mut Seat<S, V, A>,
+        other: &mut Seat<S, V, A>,
+        block: u64,
+        link: Link<S>,
+    )
+        requires { Sits seat.old self.now × Sits other.old self.now × InBlock link.ptr × CanMerge (P.holds self.now.key) block link.ptr seat.old.id seat.old.sitter.view other.old.id other.old.sitter.view (M.both seat.old.sitter.view other.old.sitter.view) M.spent }
+        ensures { Same seat.new seat.old × (seat.new.sitter ≡ sitter (M.both seat.old.sitter.view other.old.sitter.view) seat.old.sitter.hand seat.old.sitter.spare) }
+    {
+        unsafe { raw::load::<Brand>(&raw const (*link.ptr).words as *const u64, SeqCst) };
+    }
+
+    /// Takes another seat's view in.
+    #[inline(always)]
+    pub fn join<M: Join<V>>(
+        &self,
+        seat: &mut Seat<S, V, A>,
+        mut other: Seat<S, V, A>,
+        block: u64,
+        link: Link<S>,
+    )
+        requires { Sits seat.old self.now × Sits other self.now × (other.sitter.hand ≡ None) × (other.sitter.spare ≡ None) × InBlock link.ptr × CanMerge (P.holds self.now.key) block link.ptr seat.old.id seat.old.sitter.view other.id other.sitter.view (M.both seat.old.sitter.view other.sitter.view) M.spent }
+        ensures { Same seat.new seat.old × (seat.new.sitter ≡ sitter (M.both seat.old.sitter.view other.sitter.view) seat.old.sitter.hand seat.old.sitter.spare) }
+    {
+        self.merge::<M>(seat, &mut other, block, link);
+        other.leave();
+    }
+}
