@@ -6,7 +6,7 @@
 use queue_command::command::command;
 use std::alloc::Global;
 use std::process::ExitCode;
-use std::rt::{Files, Print};
+use std::rt::Files;
 use std::sync::Wait;
 use std::thread::Threads;
 use std::{fs, io};
