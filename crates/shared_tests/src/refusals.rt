@@ -20,7 +20,7 @@ fn each_request_refused(rt: HostRuntime) -> Result<(), Fail> {
     drop(party);
     drop(queue);
     assert_eq!(rt; ample.live(), 0);
-    for number in 1..requests + 1 {
+    for number in 1..=requests {
         let heap = Refusing::new(rt.alloc(), Refusal::Nth(number));
         let made: Made = Queue::bounded(&heap, 1);
         assert!(rt; made.is_err(), "at {number}");
