@@ -1,9 +1,15 @@
 //! Paths of the form `threads` that no run of the program takes: counts that are wrong, and a queue that is closed while threads work on it.
+ghost use Rattle.std.specs.Prelude.{◌≡◌, ◌<◌, ◌+◌, ◌^◌};
+ghost use Rattle.concurrent_queue.specs.Shared.{IsPartyOf};
+
 use crate::counts::{Board, Finding, judge};
 use crate::crew::{Plan, Queue, run_all};
 use crate::verdict::Verdict;
+use concurrent_queue::Party;
+use std::alloc::{AllocError, Global};
+use std::sync::Wait;
 use std::test::Fail;
-use std::thread::{join, yield_now};
+use std::thread::{Threads, join, yield_now};
 
 #[test]
 fn wrong_counts_are_found(rt: HostRuntime) -> Result<(), Fail> {
@@ -24,37 +30,39 @@ fn wrong_counts_are_found(rt: HostRuntime) -> Result<(), Fail> {
     Ok(())
 }
 
+/// A plan of so many threads a side. Each popper is to pop two items.
+fn plan_of(pushers: u64, poppers: u64, items: u64) -> Plan
+    ensures { (result.pushers ≡ pushers) × (result.poppers ≡ poppers) }
+{
+    Plan {
+        pushers,
+        poppers,
+        items,
+        share: 2,
+    }
+}
+
+/// Whether the threads of a plan did all on a queue that was closed before, or counted something.
+fn does_something<R: Threads + Wait + Sync>(
+    rt: &R,
+    alloc: Global,
+    plan: Plan,
+) -> Result<bool, AllocError>
+    requires { plan.pushers + plan.poppers < 2 ^ 64 }
+{
+    let board = Board::new(alloc, 2)?;
+    let (queue, mut party) = Queue::bounded(alloc, 1)?;
+    queue.close(&mut party);
+    let (party, done) = run_all(rt, &queue, party, &board, plan);
+    let counts = board.read(alloc)?;
+    Ok(done || counts.as_slice() != [0u64, 0].as_slice() || queue.finish(party).is_err())
+}
+
 #[test]
 fn nothing_is_done_on_a_closed_queue(rt: HostRuntime) -> Result<(), Fail> {
-    let plans = [
-        Plan {
-            pushers: 3,
-            poppers: 0,
-            items: 2,
-            share: 0,
-        },
-        Plan {
-            pushers: 0,
-            poppers: 3,
-            items: 2,
-            share: 1,
-        },
-        Plan {
-            pushers: 2,
-            poppers: 2,
-            items: 2,
-            share: 2,
-        },
-    ];
-    for plan in plans {
-        let board = Board::new(rt.alloc(), 2)?;
-        let (queue, mut party) = Queue::bounded(rt.alloc(), 1)?;
-        assert!(rt; queue.close(&mut party));
-        let (party, done) = run_all(&rt, &queue, party, &board, plan);
-        assert!(rt; !done);
-        assert_eq!(rt; board.read(rt.alloc())?.as_slice(), [0u64, 0].as_slice());
-        assert!(rt; queue.finish(party).is_ok());
-    }
+    assert!(rt; !does_something(&rt, rt.alloc(), plan_of(3, 0, 2))?);
+    assert!(rt; !does_something(&rt, rt.alloc(), plan_of(0, 3, 2))?);
+    assert!(rt; !does_something(&rt, rt.alloc(), plan_of(2, 2, 2))?);
     Ok(())
 }
 
@@ -78,42 +86,53 @@ fn what_a_closed_queue_has_is_counted(rt: HostRuntime) -> Result<(), Fail> {
     Ok(())
 }
 
+/// Gives other threads turns.
+fn linger() {
+    for _ in 0..1000u64 {
+        yield_now();
+    }
+}
+
+/// Closes the queue after a while.
+fn close_later(queue: &Queue, mut party: Party<u64>) -> Party<u64>
+    requires { IsPartyOf party queue.now }
+    ensures { IsPartyOf result queue.now }
+{
+    linger();
+    queue.close(&mut party);
+    party
+}
+
+/// Whether the threads of a plan did all on a queue that another party closes meanwhile.
+fn done_in_spite_of_a_close<R: Threads + Wait + Sync>(
+    rt: &R,
+    alloc: Global,
+    plan: Plan,
+) -> Result<bool, AllocError>
+    requires { plan.pushers + plan.poppers < 2 ^ 64 }
+{
+    let board = Board::new(alloc, 5)?;
+    let (queue, party) = Queue::bounded(alloc, 1)?;
+    let Ok((crew, closer)) = queue.split(party) else {
+        return Ok(true);
+    };
+    let ((crew, done), closer) = join(
+        rt,
+        || -> (Party<u64>, bool)
+            requires { IsPartyOf crew queue × (plan.pushers + plan.poppers < 2 ^ 64) }
+            ensures { IsPartyOf result.0 queue }
+        { run_all(rt, &queue, crew, &board, plan) },
+        || close_later(&queue, closer),
+    );
+    let whole = queue.join(crew, closer);
+    Ok(done || queue.finish(whole).is_err())
+}
+
 /// Threads that wait, for items that nobody pushes or for a place that nobody makes free, end when another party closes the queue.
 #[test]
 fn a_close_ends_threads_that_wait(rt: HostRuntime) -> Result<(), Fail> {
-    for plan in [
-        Plan {
-            pushers: 0,
-            poppers: 3,
-            items: 5,
-            share: 1,
-        },
-        Plan {
-            pushers: 3,
-            poppers: 0,
-            items: 5,
-            share: 0,
-        },
-    ] {
-        let board = Board::new(rt.alloc(), 5)?;
-        let (queue, party) = Queue::bounded(rt.alloc(), 1)?;
-        let Ok((crew, mut closer)) = queue.split(party) else {
-            panic!(rt; "no second party");
-        };
-        let ((crew, done), closed) = join(
-            &rt,
-            || run_all(&rt, &queue, crew, &board, plan),
-            || {
-                for _ in 0..1000u64 {
-                    yield_now();
-                }
-                queue.close(&mut closer)
-            },
-        );
-        assert!(rt; closed && !done);
-        let whole = queue.join(crew, closer);
-        assert!(rt; queue.finish(whole).is_ok());
-    }
+    assert!(rt; !done_in_spite_of_a_close(&rt, rt.alloc(), plan_of(0, 3, 5))?);
+    assert!(rt; !done_in_spite_of_a_close(&rt, rt.alloc(), plan_of(3, 0, 5))?);
     Ok(())
 }
 
