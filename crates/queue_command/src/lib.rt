@@ -24,4 +24,6 @@ mod threads;
 #[cfg(test)]
 mod threads_tests;
 mod turns;
+#[cfg(test)]
+mod unbounded_tests;
 mod verdict;
