@@ -8,3 +8,4 @@ pub mod Parting
 pub mod ReadBack
 pub mod Reporting
 pub mod ReadLoad
+pub mod Running

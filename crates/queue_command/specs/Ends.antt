@@ -1,9 +1,9 @@
 -- How the program may end.
-use Rattle.std.specs.Prelude.{◌≡◌, ◌⊎◌, ℕ, List, Option, Some}
+use Rattle.std.specs.Prelude.{◌≡◌, ◌⊎◌, ℕ, true, List, Option}
 use Rattle.std.specs.Io.KnownBytes.{Keeps, Appends}
 use Rattle.queue_command.specs.Actions.{replay_line_text, IsReplayLine}
 use Rattle.queue_command.specs.Calls.{call_text, IsCallOfWord}
-use Rattle.queue_command.specs.KindNames.{capacity_in, form_words, IsForm}
+use Rattle.queue_command.specs.KindNames.{is_built, form_words, IsForm}
 use Rattle.queue_command.specs.Faults.{fault_status}
 use Rattle.queue_command.specs.Counts.{IsCounted, handshake_text}
 use Rattle.queue_command.specs.Reports.{IsReport}
@@ -17,20 +17,20 @@ use Rattle.queue_command.specs.declared.faults.Fault.TheVariants as fault
 use Rattle.queue_command.specs.declared.verdict.Verdict.{Verdict}
 use Rattle.queue_command.specs.declared.verdict.Verdict.TheVariants as verdict
 
--- the arguments ask for this form, on queues of this capacity
-abbrev pub AskFor : List (List ℕ) → Form → ℕ → Type 0
-AskFor words f size = IsForm f × (capacity_in f ≡ Some size) × (form_words f ≡ words)
+-- the arguments ask for this form, which can be run
+abbrev pub AskFor : List (List ℕ) → Form → Type 0
+AskFor words f = IsForm f × (is_built f ≡ true) × (form_words f ≡ words)
 
 -- the arguments ask for what can be run
 abbrev pub AskForRun : List (List ℕ) → Type 0
-AskForRun words = (f : Form) × (size : ℕ) × AskFor words f size
+AskForRun words = (f : Form) × AskFor words f
 
--- the work of the form was done, on queues of this capacity, and has shown this
-abbrev pub Does : Form → ℕ → Option (List ℕ) → Option (List ℕ) → Option (List ℕ) → Verdict → Type 0
-Does (form.Script k) size known old new v = (v ≡ verdict.Right) × IsRun IsCallOfWord call_text (IsTranscript size) known old new
-Does (form.Replay k parties) size known old new v = (v ≡ verdict.Right) × IsRun IsReplayLine replay_line_text (IsReport size parties) known old new
-Does (form.Threads l) size known old new v = IsCounted l old new v
-Does form.Handshake size known old new v = Appends old new (handshake_text v)
+-- the work of the form was done, and has shown this
+abbrev pub Does : Form → Option (List ℕ) → Option (List ℕ) → Option (List ℕ) → Verdict → Type 0
+Does (form.Script k) known old new v = (v ≡ verdict.Right) × IsRun IsCallOfWord call_text (IsTranscript k) known old new
+Does (form.Replay k parties) known old new v = (v ≡ verdict.Right) × IsRun IsReplayLine replay_line_text (IsReport k parties) known old new
+Does (form.Threads l) known old new v = IsCounted l old new v
+Does form.Handshake known old new v = Appends old new (handshake_text v)
 
 -- the work of the form met this fault
 abbrev pub Fails : Form → Option (List ℕ) → Option (List ℕ) → Option (List ℕ) → Fault → Type 0
@@ -42,11 +42,11 @@ Fails form.Handshake known old new why = IsOutputFault old new why
 -- why the work was not done: the arguments ask for nothing that can be run, or what they ask for met a fault
 abbrev pub IsFaultOf : List (List ℕ) → Option (List ℕ) → Option (List ℕ) → Option (List ℕ) → Fault → Type 0
 IsFaultOf words known old new fault.Usage = (AskForRun words → ⊥) × Keeps old new
-IsFaultOf words known old new why = (f : Form) × (size : ℕ) × AskFor words f size × Fails f known old new why
+IsFaultOf words known old new why = (f : Form) × AskFor words f × Fails f known old new why
 
 -- the work that the arguments ask for was done, and has shown this
 abbrev pub IsDone : List (List ℕ) → Option (List ℕ) → Option (List ℕ) → Option (List ℕ) → Verdict → Type 0
-IsDone words known old new v = (f : Form) × (size : ℕ) × AskFor words f size × Does f size known old new v
+IsDone words known old new v = (f : Form) × AskFor words f × Does f known old new v
 
 -- the status of what was shown by the work, or of a fault
 abbrev pub IsEnd : List (List ℕ) → Option (List ℕ) → Option (List ℕ) → Option (List ℕ) → ℕ → Type 0

@@ -1,5 +1,5 @@
 -- The words that name a kind of queue, and the arguments that name a form.
-use Rattle.std.specs.Prelude.{◌≡◌, ℕ, ◌<◌, ◌≤◌, ◌*◌, ◌%◌, ◌==◌, cond, List, [], ◌∷◌, ◌++◌, codes, Option, Some, None}
+use Rattle.std.specs.Prelude.{◌≡◌, ℕ, ◌<◌, ◌≤◌, ◌*◌, ◌%◌, ◌==◌, Bool, true, false, List, [], ◌∷◌, ◌++◌, codes, Option, Some, None, is_some}
 use Rattle.std.specs.Fmt.{decimal}
 use Rattle.queue_command.specs.Reading.{IsWord}
 use Rattle.queue_command.specs.declared.args.TheConstants.{MOST_PARTIES}
@@ -57,14 +57,15 @@ capacity_of kind.Single = Some 1
 capacity_of (kind.Bounded count) = Some count
 capacity_of kind.Unbounded = None
 
--- a capacity that queues have which threads share
-abbrev pub shared_capacity : Option ℕ → Option ℕ
-shared_capacity None = None
-shared_capacity (Some count) = cond (count == 1) (Some 1) None
+-- the queue has one slot
+abbrev pub is_one_slot : KindName → Bool
+is_one_slot kind.Single = true
+is_one_slot (kind.Bounded count) = count == 1
+is_one_slot kind.Unbounded = false
 
--- the capacity of the queues that a form runs on, if it can be run
-abbrev pub capacity_in : Form → Option ℕ
-capacity_in (form.Script k) = capacity_of k
-capacity_in (form.Replay k parties) = capacity_of k
-capacity_in (form.Threads l) = shared_capacity (capacity_of l.kind)
-capacity_in form.Handshake = Some 1
+-- the form can be run: threads share queues of one slot alone
+abbrev pub is_built : Form → Bool
+is_built (form.Script k) = true
+is_built (form.Replay k parties) = is_some (capacity_of k)
+is_built (form.Threads l) = is_one_slot l.kind
+is_built form.Handshake = true

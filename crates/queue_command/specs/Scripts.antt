@@ -1,10 +1,14 @@
 -- A script: calls on a queue with one owner, and what is written of them.
-use Rattle.std.specs.Prelude.{◌≡◌, ℕ, List, ◌++◌, Some}
+use Rattle.std.specs.Prelude.{◌≡◌, ℕ, List, [], ◌∷◌, ◌++◌, codes}
+use Rattle.std.specs.Fmt.{decimal}
 use Rattle.queue_steps.specs.State.{start}
 use Rattle.queue_steps.specs.Sole.{Owned, SoleRun}
 use Rattle.queue_steps.specs.declared.model.Call.{Call}
 use Rattle.queue_steps.specs.declared.model.Reply.{Reply}
+use Rattle.queue_command.specs.KindNames.{capacity_of}
 use Rattle.queue_command.specs.Texts.{replies_text, left_text}
+use Rattle.queue_command.specs.declared.args.KindName.{KindName}
+use Rattle.queue_command.specs.declared.args.KindName.TheVariants as kind
 
 -- the calls lead from P to R, and what was written is their replies, one a line
 pub record PlaysAs (P : Owned ℕ) (calls : List (Call ℕ)) (R : Owned ℕ) (old new : List ℕ) : Type 0 where
@@ -12,13 +16,18 @@ pub record PlaysAs (P : Owned ℕ) (calls : List (Call ℕ)) (R : Owned ℕ) (ol
   pub plays : SoleRun P calls replies R
   pub written : new ≡ old ++ replies_text replies
 
--- an empty open queue of this capacity
-abbrev pub opening : ℕ → Owned ℕ
-opening size = record { queue = start (Some size) 0; blocks = 0 }
+-- an empty open queue of this kind, which holds no block
+abbrev pub opening : KindName → Owned ℕ
+opening k = record { queue = start (capacity_of k) 0; blocks = 0 }
 
--- the text is the replies that one owner of a queue of this capacity gets to the calls, and the line of what is left
-pub record IsTranscript (size : ℕ) (calls : List (Call ℕ)) (text : List ℕ) : Type 0 where
+-- the line of the blocks that are held, which a queue without a capacity alone has
+abbrev pub blocks_text : KindName → ℕ → List ℕ
+blocks_text kind.Unbounded count = codes "blocks " ++ decimal count ++ 10 ∷ []
+blocks_text _ count = []
+
+-- the text is the replies that one owner of a queue of this kind gets to the calls, the line of its blocks, and the line of what is left
+pub record IsTranscript (k : KindName) (calls : List (Call ℕ)) (text : List ℕ) : Type 0 where
   pub replies : List (Reply ℕ)
   pub after : Owned ℕ
-  pub plays : SoleRun (opening size) calls replies after
-  pub written : text ≡ replies_text replies ++ left_text after.queue.items
+  pub plays : SoleRun (opening k) calls replies after
+  pub written : text ≡ (replies_text replies ++ blocks_text k after.blocks) ++ left_text after.queue.items

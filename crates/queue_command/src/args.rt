@@ -34,35 +34,32 @@ pub enum Form {
 
 impl KindName {
     ghost use Rattle.std.specs.Prelude.{◌≡◌};
-    ghost use Rattle.queue_command.specs.KindNames.{capacity_of};
+    ghost use Rattle.queue_command.specs.KindNames.{is_one_slot};
 
-    /// The capacity in items, if a queue of this kind has one.
-    pub fn capacity(self) -> Option<usize>
-        ensures { result ≡ capacity_of self }
+    /// Whether a queue of this kind has one slot.
+    pub fn is_one_slot(self) -> bool
+        ensures { result ≡ is_one_slot self }
     {
         match self {
-            KindName::Single => Some(1),
-            KindName::Bounded(cap) => Some(cap),
-            KindName::Unbounded => None,
+            KindName::Single => true,
+            KindName::Bounded(cap) => cap == 1,
+            KindName::Unbounded => false,
         }
     }
 }
 
 impl Form {
     ghost use Rattle.std.specs.Prelude.{◌≡◌};
-    ghost use Rattle.queue_command.specs.KindNames.{capacity_in};
+    ghost use Rattle.queue_command.specs.KindNames.{is_built};
 
-    /// The capacity of the queues that this form runs on, if it can be run. Threads share queues of one slot alone.
-    pub fn capacity(self) -> Option<usize>
-        ensures { result ≡ capacity_in self }
+    /// Whether this form can be run. Threads share queues of one slot alone.
+    pub fn is_built(self) -> bool
+        ensures { result ≡ is_built self }
     {
         match self {
-            Form::Script(kind) | Form::Replay(kind, _) => kind.capacity(),
-            Form::Threads(load) => match load.kind.capacity() {
-                Some(1) => Some(1),
-                _ => None,
-            },
-            Form::Handshake => Some(1),
+            Form::Script(_) | Form::Handshake => true,
+            Form::Replay(kind, _) => kind != KindName::Unbounded,
+            Form::Threads(load) => load.kind.is_one_slot(),
         }
     }
 }

@@ -56,12 +56,12 @@ fn run<R: Threads + Wait + Sync, I: Read, O: Write>(
     let Some(form) = parse_form(args) else {
         return Err(Fault::Usage);
     };
-    let Some(cap) = form.capacity() else {
+    if !form.is_built() {
         return Err(Fault::Usage);
-    };
+    }
     match form {
-        Form::Script(_) => shown(script(&alloc, cap, input, output)),
-        Form::Replay(_, parties) => shown(replay(&alloc, cap, parties, input, output)),
+        Form::Script(kind) => shown(script(&alloc, kind, input, output)),
+        Form::Replay(kind, parties) => shown(replay(&alloc, kind, parties, input, output)),
         Form::Threads(load) => threads(rt, alloc, load, output),
         Form::Handshake => handshake(rt, alloc, output),
     }

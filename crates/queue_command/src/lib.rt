@@ -26,4 +26,6 @@ mod threads;
 #[cfg(test)]
 mod threads_tests;
 mod turns;
+#[cfg(test)]
+mod unbounded_tests;
 mod verdict;

@@ -1,29 +1,31 @@
 //! A replay: calls and single steps of several parties, what each did, and the items that are left.
-ghost use Rattle.std.specs.Prelude.{◌≡◌, ◌<◌, ◌++◌, Some, is_some, if◌then◌else◌, IfOk, OnOk, MatchResult, string_bytes};
-ghost use Rattle.queue_machine.specs.Conforms.{capacity_of};
+ghost use Rattle.std.specs.Prelude.{◌≡◌, ◌++◌, true, is_some, if◌then◌else◌, IfOk, OnOk, MatchResult, string_bytes};
+ghost use Rattle.queue_machine.specs.Conforms.{capacity_of as capacity_of_kind};
 ghost use Rattle.queue_machine.specs.Replays.{CanReplay};
 ghost use Rattle.queue_machine.specs.declared.types.Told.TheVariants.{Skipped, Ran};
 ghost use Rattle.queue_command.specs.Actions.{replay_line_text, IsReplayLine};
 ghost use Rattle.queue_command.specs.Runs.{IsRun, IsRunFault};
-ghost use Rattle.queue_command.specs.Reports.{IsReport};
+ghost use Rattle.queue_command.specs.KindNames.{IsKindName, capacity_of};
+ghost use Rattle.queue_command.specs.Reports.{IsReport, peak_text};
 ghost use Rattle.queue_command.specs.Texts.{left_text};
 ghost use Rattle.queue_command.specs.Turns.{turn_text};
 ghost use Rattle.queue_command.specs.Unread.{first_of, behind, number_of, content_at, itself, unread_text};
 
 use crate::actions::{Action, ReplayLine};
+use crate::args::KindName;
 use crate::faults::Fault;
 use crate::lines::read_lines;
 use crate::streams::{read_input, write_output};
 use crate::texts::{Shown, ShownEffect};
 use crate::turns::{Turn, events_of, turns_of};
-use queue_machine::types::{EffectKind, Replay, Told};
+use queue_machine::types::{EffectKind, Peak, Replay, Told};
 use queue_steps::model::Reply;
 use queue_steps::steps::Kind;
 use std::alloc::{AllocError, Allocator};
 use std::io::{Read, Write};
 
-/// Reads the lines of a replay, runs them on a queue of this capacity that so many parties share, and writes what happened and what
-/// is left.
+/// Reads the lines of a replay, runs them on a queue of this kind that so many parties share, and writes what happened, the greatest
+/// number of blocks of a queue without a capacity, and what is left.
 ///
 /// # Errors
 ///
@@ -31,21 +33,22 @@ use std::io::{Read, Write};
 /// On `OutputFailed` a beginning of the output may be written.
 pub fn replay<A: Allocator, I: Read, O: Write>(
     alloc: &A,
-    cap: usize,
+    kind: KindName,
     parties: usize,
     input: &mut I,
     output: &mut O,
 ) -> Result<(), Fault>
-    requires { 0 < cap }
+    requires kind { IsKindName kind }
+    requires built { is_some (capacity_of kind) ≡ true }
     ensures { MatchResult result
-        (λ _. IsRun IsReplayLine replay_line_text (IsReport cap parties)
+        (λ _. IsRun IsReplayLine replay_line_text (IsReport kind parties)
         (I.remaining input.old) (O.contents output.old) (O.contents output.new))
         (IsRunFault IsReplayLine replay_line_text
         (I.remaining input.old) (O.contents output.old) (O.contents output.new)) }
 {
     let bytes = read_input(alloc, input)?;
     let lines = read_lines::<ReplayLine, &A>(alloc, &bytes)?;
-    let Ok(text) = report(alloc, cap, parties, &lines) else {
+    let Ok(text) = report(alloc, kind, parties, &lines) else {
         return Err(Fault::NoMemory);
     };
     write_output(output, text.as_bytes())
@@ -54,32 +57,49 @@ pub fn replay<A: Allocator, I: Read, O: Write>(
 /// What a replay of these lines prints.
 pub fn report<'a, A: Allocator>(
     alloc: &'a A,
-    cap: usize,
+    kind: KindName,
     parties: usize,
     lines: &[ReplayLine],
 ) -> Result<String<&'a A>, AllocError>
-    requires { 0 < cap }
-    ensures { IfOk result (λ text. IsReport cap parties lines.now (string_bytes text)) }
+    requires kind { IsKindName kind }
+    requires built { is_some (capacity_of kind) ≡ true }
+    ensures { IfOk result (λ text. IsReport kind parties lines.now (string_bytes text)) }
 {
     let turns = turns_of(alloc, lines)?;
     let events = events_of(alloc, &turns)?;
-    let told = queue_machine::replay(alloc, kind_of(cap), parties, events)?;
+    let told = queue_machine::replay(alloc, kind_of(kind), parties, events)?;
     let mut text = String::new(alloc);
     write_turns(&turns, &told, &mut text)?;
+    write_peak(kind, told.peak, &mut text)?;
     write_left(&told.left, &mut text)?;
     Ok(text)
 }
 
-// The kind of a queue of this capacity.
-fn kind_of(cap: usize) -> Kind
-    requires { 0 < cap }
-    ensures has { capacity_of result ≡ Some cap }
+// The kind of queue that this name names.
+fn kind_of(kind: KindName) -> Kind
+    requires kind { IsKindName kind }
+    requires built { is_some (capacity_of kind) ≡ true }
+    ensures has { capacity_of_kind result ≡ capacity_of kind }
     ensures can { CanReplay result }
 {
-    if cap == 1 {
-        Kind::Single
-    } else {
-        Kind::Bounded(cap)
+    match kind {
+        KindName::Single | KindName::Bounded(1) => Kind::Single,
+        KindName::Bounded(cap) => Kind::Bounded(cap),
+        KindName::Unbounded => Kind::Unbounded,
+    }
+}
+
+// Appends the line that tells of the peak, if a queue of this kind has it.
+fn write_peak<A: Allocator>(
+    kind: KindName,
+    peak: Peak,
+    text: &mut String<A>,
+) -> Result<(), AllocError>
+    ensures { OnOk result (string_bytes text.new ≡ string_bytes text.old ++ peak_text kind peak) }
+{
+    match kind {
+        KindName::Unbounded => writeln!(text, "blocks {} of {}", peak.blocks, peak.bound),
+        _ => Ok(()),
     }
 }
 

@@ -1,12 +1,14 @@
 //! A script: calls on a queue with one owner, their replies, and the items that are left.
-ghost use Rattle.std.specs.Prelude.{◌≡◌, ◌<◌, ◌++◌, IfOk, OnOk, MatchResult, string_bytes};
+ghost use Rattle.std.specs.Prelude.{◌≡◌, ◌++◌, IfOk, OnOk, MatchResult, string_bytes};
 ghost use Rattle.queue_steps.specs.Legal.{IsSoundOwned};
 ghost use Rattle.queue_steps.specs.Sole.{Sole, HoldsBlocks};
 ghost use Rattle.queue_command.specs.Texts.{left_text};
 ghost use Rattle.queue_command.specs.Calls.{call_text, IsCallOfWord};
 ghost use Rattle.queue_command.specs.Runs.{IsRun, IsRunFault};
-ghost use Rattle.queue_command.specs.Scripts.{PlaysAs, IsTranscript};
+ghost use Rattle.queue_command.specs.KindNames.{IsKindName};
+ghost use Rattle.queue_command.specs.Scripts.{PlaysAs, IsTranscript, opening, blocks_text};
 
+use crate::args::KindName;
 use crate::faults::Fault;
 use crate::lines::read_lines;
 use crate::streams::{read_input, write_output};
@@ -16,7 +18,7 @@ use queue_steps::model::{Call, Reply};
 use std::alloc::{AllocError, Allocator};
 use std::io::{Read, Write};
 
-/// Reads a script, runs it on a queue of this capacity, and writes the replies and what is left.
+/// Reads a script, runs it on a queue of this kind, and writes the replies, the blocks that a queue without a capacity holds, and what is left.
 ///
 /// # Errors
 ///
@@ -24,20 +26,20 @@ use std::io::{Read, Write};
 /// beginning of the output may be written.
 pub fn script<A: Allocator, I: Read, O: Write>(
     alloc: &A,
-    cap: usize,
+    kind: KindName,
     input: &mut I,
     output: &mut O,
 ) -> Result<(), Fault>
-    requires { 0 < cap }
+    requires { IsKindName kind }
     ensures { MatchResult result
-        (λ _. IsRun IsCallOfWord call_text (IsTranscript cap)
+        (λ _. IsRun IsCallOfWord call_text (IsTranscript kind)
         (I.remaining input.old) (O.contents output.old) (O.contents output.new))
         (IsRunFault IsCallOfWord call_text
         (I.remaining input.old) (O.contents output.old) (O.contents output.new)) }
 {
     let bytes = read_input(alloc, input)?;
     let calls = read_lines::<Call<u64>, &A>(alloc, &bytes)?;
-    let Ok(text) = transcript(alloc, cap, &calls) else {
+    let Ok(text) = transcript(alloc, kind, &calls) else {
         return Err(Fault::NoMemory);
     };
     write_output(output, text.as_bytes())
@@ -46,17 +48,44 @@ pub fn script<A: Allocator, I: Read, O: Write>(
 /// What a script of these calls prints.
 pub fn transcript<'a, A: Allocator>(
     alloc: &'a A,
-    cap: usize,
+    kind: KindName,
     calls: &[Call<u64>],
 ) -> Result<String<&'a A>, AllocError>
-    requires { 0 < cap }
-    ensures { IfOk result (λ text. IsTranscript cap calls.now (string_bytes text)) }
+    requires { IsKindName kind }
+    ensures { IfOk result (λ text. IsTranscript kind calls.now (string_bytes text)) }
 {
-    let mut queue = Exclusive::bounded(alloc, cap)?;
+    let mut queue = queue_of(alloc, kind)?;
     let mut text = String::new(alloc);
     play(&mut queue, calls, &mut text)?;
+    write_blocks(kind, queue.blocks(), &mut text)?;
     drain(&mut queue, &mut text)?;
     Ok(text)
+}
+
+// An empty open queue of this kind.
+fn queue_of<A: Allocator>(alloc: A, kind: KindName) -> Result<Exclusive<u64, A>, AllocError>
+    requires { IsKindName kind }
+    ensures { IfOk result (λ queue. queue ≡ opening kind) }
+{
+    match kind {
+        KindName::Single => Exclusive::bounded(alloc, 1),
+        KindName::Bounded(cap) => Exclusive::bounded(alloc, cap),
+        KindName::Unbounded => Ok(Exclusive::unbounded(alloc)),
+    }
+}
+
+// Appends the line that tells of the blocks, if a queue of this kind has it.
+fn write_blocks<A: Allocator>(
+    kind: KindName,
+    count: usize,
+    text: &mut String<A>,
+) -> Result<(), AllocError>
+    ensures { OnOk result (string_bytes text.new ≡ string_bytes text.old ++ blocks_text kind count) }
+{
+    match kind {
+        KindName::Unbounded => writeln!(text, "blocks {count}"),
+        _ => Ok(()),
+    }
 }
 
 // Runs the calls, and appends the reply to each as a line.

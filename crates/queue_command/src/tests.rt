@@ -45,7 +45,7 @@ pub fn run<R: Threads + Wait + Sync>(
 
 #[test]
 fn wrong_arguments_give_the_usage_text(rt: HostRuntime) -> Result<(), Fail> {
-    let wrong: [&[&str]; 24] = [
+    let wrong: [&[&str]; 23] = [
         &[],
         &["script"],
         &["script", "double"],
@@ -57,7 +57,6 @@ fn wrong_arguments_give_the_usage_text(rt: HostRuntime) -> Result<(), Fail> {
         &["script", "bounded:18446744073709551616"],
         &["script", "single", "single"],
         &["scripts", "single"],
-        &["script", "unbounded"],
         &["replay"],
         &["replay", "single"],
         &["replay", "single", "0"],
