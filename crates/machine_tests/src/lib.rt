@@ -4,6 +4,8 @@
 #[cfg(test)]
 mod displacements;
 #[cfg(test)]
+mod left_on_three;
+#[cfg(test)]
 mod refusals;
 #[cfg(test)]
 mod script;

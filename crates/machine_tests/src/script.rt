@@ -58,6 +58,12 @@ impl Script {
         let Script { alloc, events } = self;
         summarize(alloc, replay(alloc, Kind::Bounded(2), parties, events)?)
     }
+
+    /// What is told of the run on a ring of three slots.
+    pub(crate) fn on_three(self, parties: usize) -> Result<Summary, AllocError> {
+        let Script { alloc, events } = self;
+        summarize(alloc, replay(alloc, Kind::Bounded(3), parties, events)?)
+    }
 }
 
 /// The words of the ring of two slots after these events.

@@ -7,6 +7,8 @@ mod calls;
 pub mod command;
 mod counts;
 mod crew;
+#[cfg(test)]
+mod crew_tests;
 mod faults;
 mod handshake;
 mod lines;

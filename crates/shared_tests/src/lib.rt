@@ -5,6 +5,8 @@ pub mod callers;
 #[cfg(test)]
 mod drops;
 #[cfg(test)]
+mod refusals;
+#[cfg(test)]
 mod rows;
 #[cfg(test)]
 mod threads;

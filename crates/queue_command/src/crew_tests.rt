@@ -1,0 +1,164 @@
+//! Paths of the form `threads` that no run of the program takes: counts that are wrong, and a queue that is closed while threads work on it.
+ghost use Rattle.std.specs.Prelude.{◌≡◌, ◌<◌, ◌+◌, ◌^◌};
+ghost use Rattle.concurrent_queue.specs.Shared.{IsPartyOf};
+
+use crate::counts::{Board, Finding, judge};
+use crate::crew::{Plan, Queue, run_all};
+use crate::verdict::Verdict;
+use concurrent_queue::Party;
+use std::alloc::{AllocError, Global};
+use std::sync::Wait;
+use std::test::Fail;
+use std::thread::{Threads, join, yield_now};
+
+#[test]
+fn wrong_counts_are_found(rt: HostRuntime) -> Result<(), Fail> {
+    let board = Board::new(rt.alloc(), 3)?;
+    for value in [0, 0, 1, 2, 2, 2, 3, u64::MAX] {
+        board.count(value);
+    }
+    let counts = board.read(rt.alloc())?;
+    assert_eq!(rt; counts.as_slice(), [2u64, 1, 3].as_slice());
+    let lost = judge(2, &counts);
+    assert_eq!(rt; lost, Finding::Wrong { value: 1, times: 1 });
+    assert_eq!(rt; lost.verdict(), Verdict::Wrong);
+    assert_eq!(rt; lost.verdict().status(), 1);
+    let text = format!(in rt.alloc(); "{lost}")?;
+    assert_eq!(rt; text.as_str(), "value 1 counted 1 times");
+    let doubled = judge(1, &counts);
+    assert_eq!(rt; doubled, Finding::Wrong { value: 0, times: 2 });
+    Ok(())
+}
+
+/// A plan of so many threads a side. Each popper is to pop two items.
+fn plan_of(pushers: u64, poppers: u64, items: u64) -> Plan
+    ensures { (result.pushers ≡ pushers) × (result.poppers ≡ poppers) }
+{
+    Plan {
+        pushers,
+        poppers,
+        items,
+        share: 2,
+    }
+}
+
+/// Whether the threads of a plan did all on a queue that was closed before, or counted something.
+fn does_something<R: Threads + Wait + Sync>(
+    rt: &R,
+    alloc: Global,
+    plan: Plan,
+) -> Result<bool, AllocError>
+    requires { plan.pushers + plan.poppers < 2 ^ 64 }
+{
+    let board = Board::new(alloc, 2)?;
+    let (queue, mut party) = Queue::bounded(alloc, 1)?;
+    queue.close(&mut party);
+    let (party, done) = run_all(rt, &queue, party, &board, plan);
+    let counts = board.read(alloc)?;
+    Ok(done || counts.as_slice() != [0u64, 0].as_slice() || queue.finish(party).is_err())
+}
+
+#[test]
+fn nothing_is_done_on_a_closed_queue(rt: HostRuntime) -> Result<(), Fail> {
+    assert!(rt; !does_something(&rt, rt.alloc(), plan_of(3, 0, 2))?);
+    assert!(rt; !does_something(&rt, rt.alloc(), plan_of(0, 3, 2))?);
+    assert!(rt; !does_something(&rt, rt.alloc(), plan_of(2, 2, 2))?);
+    Ok(())
+}
+
+/// The item that a closed queue still has is popped and counted; then the poppers find it closed.
+#[test]
+fn what_a_closed_queue_has_is_counted(rt: HostRuntime) -> Result<(), Fail> {
+    let board = Board::new(rt.alloc(), 2)?;
+    let (queue, mut party) = Queue::bounded(rt.alloc(), 1)?;
+    assert_eq!(rt; queue.push(&rt, &mut party, 1), Ok(()));
+    assert!(rt; queue.close(&mut party));
+    let plan = Plan {
+        pushers: 1,
+        poppers: 2,
+        items: 1,
+        share: 1,
+    };
+    let (party, done) = run_all(&rt, &queue, party, &board, plan);
+    assert!(rt; !done);
+    assert_eq!(rt; board.read(rt.alloc())?.as_slice(), [0u64, 1].as_slice());
+    assert!(rt; queue.finish(party).is_ok());
+    Ok(())
+}
+
+/// Gives other threads turns.
+fn linger() {
+    for _ in 0..1000u64 {
+        yield_now();
+    }
+}
+
+/// Closes the queue after a while.
+fn close_later(queue: &Queue, mut party: Party<u64>) -> Party<u64>
+    requires { IsPartyOf party queue.now }
+    ensures { IsPartyOf result queue.now }
+{
+    linger();
+    queue.close(&mut party);
+    party
+}
+
+/// Whether the threads of a plan did all on a queue that another party closes meanwhile.
+fn done_in_spite_of_a_close<R: Threads + Wait + Sync>(
+    rt: &R,
+    alloc: Global,
+    plan: Plan,
+) -> Result<bool, AllocError>
+    requires { plan.pushers + plan.poppers < 2 ^ 64 }
+{
+    let board = Board::new(alloc, 5)?;
+    let (queue, party) = Queue::bounded(alloc, 1)?;
+    let Ok((crew, closer)) = queue.split(party) else {
+        return Ok(true);
+    };
+    let ((crew, done), closer) = join(
+        rt,
+        || -> (Party<u64>, bool)
+            requires { IsPartyOf crew queue × (plan.pushers + plan.poppers < 2 ^ 64) }
+            ensures { IsPartyOf result.0 queue }
+        { run_all(rt, &queue, crew, &board, plan) },
+        || close_later(&queue, closer),
+    );
+    let whole = queue.join(crew, closer);
+    Ok(done || queue.finish(whole).is_err())
+}
+
+/// Threads that wait, for items that nobody pushes or for a place that nobody makes free, end when another party closes the queue.
+#[test]
+fn a_close_ends_threads_that_wait(rt: HostRuntime) -> Result<(), Fail> {
+    assert!(rt; !done_in_spite_of_a_close(&rt, rt.alloc(), plan_of(0, 3, 5))?);
+    assert!(rt; !done_in_spite_of_a_close(&rt, rt.alloc(), plan_of(3, 0, 5))?);
+    Ok(())
+}
+
+/// All parties are joined again at the end of a run, and nothing is left.
+#[test]
+fn a_run_gives_its_party_back(rt: HostRuntime) -> Result<(), Fail> {
+    let board = Board::new(rt.alloc(), 100)?;
+    let (queue, party) = Queue::bounded(rt.alloc(), 1)?;
+    let plan = Plan {
+        pushers: 4,
+        poppers: 2,
+        items: 100,
+        share: 200,
+    };
+    let (party, done) = run_all(&rt, &queue, party, &board, plan);
+    assert!(rt; done);
+    assert_eq!(rt;
+        judge(4, &board.read(rt.alloc())?),
+        Finding::Right {
+            values: 100,
+            times: 4
+        }
+    );
+    let Ok(left) = queue.finish(party) else {
+        panic!(rt; "a party is missing");
+    };
+    assert!(rt; left.is_empty() && !left.is_closed());
+    Ok(())
+}
