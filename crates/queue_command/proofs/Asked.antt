@@ -1,7 +1,7 @@
 -- Arguments that ask for nothing that can be run, and how a form that they ask for ends.
-use Rattle.std.proofs.Common.{◌≡◌, ◌≢◌, ℕ, Bool, true, false, List, [], get_or, Option, Some, None, is_some, Result, Ok, Err, MatchResult, refl, sym, ap, ◌∙◌, arith}
+use Rattle.std.proofs.Common.{◌≡◌, ◌≢◌, ℕ, Bool, true, false, List, [], get_or, Option, Some, None, Result, Ok, Err, MatchResult, refl, sym, ap, ◌∙◌, arith}
 use Rattle.std.specs.Io.KnownBytes.{Keeps}
-use Rattle.queue_command.specs.KindNames.{capacity_of, is_one_slot, is_built, form_words, IsForm}
+use Rattle.queue_command.specs.KindNames.{is_one_slot, is_built, form_words, IsForm}
 use Rattle.queue_command.specs.Ends.{AskFor, AskForRun, Does, Fails, IsDone, IsFaultOf}
 use Rattle.queue_command.specs.declared.verdict.Verdict.{Verdict}
 use Rattle.queue_command.specs.declared.faults.Fault.{Fault}
@@ -25,7 +25,7 @@ both_built (form.Script k) (form.Replay j q) is js same = let first : ◌≡◌ 
 both_built (form.Script k) (form.Threads m) is js same = let first : ◌≡◌ {A = ℕ} 115 116 = ap letter same in absurd (omega arith)
 both_built (form.Script k) form.Handshake is js same = let first : ◌≡◌ {A = ℕ} 115 104 = ap letter same in absurd (omega arith)
 both_built (form.Replay k p) (form.Script j) is js same = let first : ◌≡◌ {A = ℕ} 114 115 = ap letter same in absurd (omega arith)
-both_built (form.Replay k p) (form.Replay j q) is js same = ap (λ k. is_some (capacity_of k)) (kind_spelled k j is.0 js.0 (ap (λ ws. get_or ws 1 []) same))
+both_built (form.Replay k p) (form.Replay j q) is js same = refl
 both_built (form.Replay k p) (form.Threads m) is js same = let first : ◌≡◌ {A = ℕ} 114 116 = ap letter same in absurd (omega arith)
 both_built (form.Replay k p) form.Handshake is js same = let first : ◌≡◌ {A = ℕ} 114 104 = ap letter same in absurd (omega arith)
 both_built (form.Threads l) (form.Script j) is js same = let first : ◌≡◌ {A = ℕ} 116 115 = ap letter same in absurd (omega arith)

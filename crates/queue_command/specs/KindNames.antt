@@ -1,5 +1,5 @@
 -- The words that name a kind of queue, and the arguments that name a form.
-use Rattle.std.specs.Prelude.{◌≡◌, ℕ, ◌<◌, ◌≤◌, ◌*◌, ◌%◌, ◌==◌, Bool, true, false, List, [], ◌∷◌, ◌++◌, codes, Option, Some, None, is_some}
+use Rattle.std.specs.Prelude.{◌≡◌, ℕ, ◌<◌, ◌≤◌, ◌*◌, ◌%◌, ◌==◌, Bool, true, false, List, [], ◌∷◌, ◌++◌, codes, Option, Some, None}
 use Rattle.std.specs.Fmt.{decimal}
 use Rattle.queue_command.specs.Reading.{IsWord}
 use Rattle.queue_command.specs.declared.args.TheConstants.{MOST_PARTIES}
@@ -66,6 +66,6 @@ is_one_slot kind.Unbounded = false
 -- the form can be run: threads share queues of one slot alone
 abbrev pub is_built : Form → Bool
 is_built (form.Script k) = true
-is_built (form.Replay k parties) = is_some (capacity_of k)
+is_built (form.Replay k parties) = true
 is_built (form.Threads l) = is_one_slot l.kind
 is_built form.Handshake = true

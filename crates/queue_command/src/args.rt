@@ -57,8 +57,7 @@ impl Form {
         ensures { result ≡ is_built self }
     {
         match self {
-            Form::Script(_) | Form::Handshake => true,
-            Form::Replay(kind, _) => kind != KindName::Unbounded,
+            Form::Script(_) | Form::Replay(_, _) | Form::Handshake => true,
             Form::Threads(load) => load.kind.is_one_slot(),
         }
     }

@@ -1,5 +1,5 @@
 //! A replay: calls and single steps of several parties, what each did, and the items that are left.
-ghost use Rattle.std.specs.Prelude.{◌≡◌, ◌++◌, true, is_some, if◌then◌else◌, IfOk, OnOk, MatchResult, string_bytes};
+ghost use Rattle.std.specs.Prelude.{◌≡◌, ◌++◌, is_some, if◌then◌else◌, IfOk, OnOk, MatchResult, string_bytes};
 ghost use Rattle.queue_machine.specs.Conforms.{capacity_of as capacity_of_kind};
 ghost use Rattle.queue_machine.specs.Replays.{CanReplay};
 ghost use Rattle.queue_machine.specs.declared.types.Told.TheVariants.{Skipped, Ran};
@@ -38,8 +38,7 @@ pub fn replay<A: Allocator, I: Read, O: Write>(
     input: &mut I,
     output: &mut O,
 ) -> Result<(), Fault>
-    requires kind { IsKindName kind }
-    requires built { is_some (capacity_of kind) ≡ true }
+    requires { IsKindName kind }
     ensures { MatchResult result
         (λ _. IsRun IsReplayLine replay_line_text (IsReport kind parties)
         (I.remaining input.old) (O.contents output.old) (O.contents output.new))
@@ -61,8 +60,7 @@ pub fn report<'a, A: Allocator>(
     parties: usize,
     lines: &[ReplayLine],
 ) -> Result<String<&'a A>, AllocError>
-    requires kind { IsKindName kind }
-    requires built { is_some (capacity_of kind) ≡ true }
+    requires { IsKindName kind }
     ensures { IfOk result (λ text. IsReport kind parties lines.now (string_bytes text)) }
 {
     let turns = turns_of(alloc, lines)?;
@@ -77,8 +75,7 @@ pub fn report<'a, A: Allocator>(
 
 // The kind of queue that this name names.
 fn kind_of(kind: KindName) -> Kind
-    requires kind { IsKindName kind }
-    requires built { is_some (capacity_of kind) ≡ true }
+    requires { IsKindName kind }
     ensures has { capacity_of_kind result ≡ capacity_of kind }
     ensures can { CanReplay result }
 {

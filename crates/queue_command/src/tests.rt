@@ -45,7 +45,7 @@ pub fn run<R: Threads + Wait + Sync>(
 
 #[test]
 fn wrong_arguments_give_the_usage_text(rt: HostRuntime) -> Result<(), Fail> {
-    let wrong: [&[&str]; 23] = [
+    let wrong: [&[&str]; 22] = [
         &[],
         &["script"],
         &["script", "double"],
@@ -65,7 +65,6 @@ fn wrong_arguments_give_the_usage_text(rt: HostRuntime) -> Result<(), Fail> {
         &["replay", "single", "two"],
         &["replay", "single", "18446744073709551617"],
         &["replay", "bounded:0", "1"],
-        &["replay", "unbounded", "1"],
         &["replay", "single", "1", "1"],
         &["script", "single", "1"],
         &["handshakes"],
