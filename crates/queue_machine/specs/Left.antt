@@ -28,7 +28,7 @@ slot_count (kind.Bounded n) = n
 slot_count kind.Unbounded = 0
 
 abbrev pub opening_shared : {T : Type 0} → Kind → Shared T
-opening_shared k = record { lock = 0; head = 0; tail = 0; stamps = opening_stamps k; slots = replicate (slot_count k) None }
+opening_shared k = record { lock = 0; head = 0; tail = 0; stamps = opening_stamps k; slots = replicate (slot_count k) None; head_block = None; tail_block = None; blocks = [] }
 
 -- the parties are between calls, and the queue is empty and open
 abbrev pub opening_world : {T : Type 0} → Kind → ℕ → World (Shared T) (Running T)

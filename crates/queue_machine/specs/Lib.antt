@@ -2,6 +2,7 @@ pub mod Book
 pub mod Conforms
 pub mod World
 pub mod EffectOf
+pub mod Blocks
 pub mod Cells
 pub mod Left
 pub mod Machine
