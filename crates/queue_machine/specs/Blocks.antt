@@ -1,5 +1,5 @@
 -- The blocks of a machine, by their numbers, which are those of the requests that were granted. A block that was given up is there no more.
-use Rattle.std.specs.Prelude.{ℕ, ◌+◌, Option, Some, None, List, [], ◌∷◌, length, slice_index_or, slice_set, replicate}
+use Rattle.std.specs.Prelude.{ℕ, Option, Some, None, List, [], length, slice_index_or, slice_set, replicate}
 use Rattle.queue_steps.specs.declared.sizes.TheConstants.{BLOCK_SLOTS}
 use Rattle.queue_machine.specs.declared.blocks.Place.{Place}
 
@@ -79,9 +79,3 @@ put_next bs b n = slice_set bs b (with_next n (block_of bs b))
 abbrev pub without : {T : Type 0} → Option ℕ → List (Option (Block T)) → List (Option (Block T))
 without None bs = bs
 without (Some b) bs = slice_set bs b None
-
--- how many blocks are there
-abbrev pub alive : {T : Type 0} → List (Option (Block T)) → ℕ
-alive [] = 0
-alive (None ∷ bs) = alive bs
-alive (Some k ∷ bs) = alive bs + 1
