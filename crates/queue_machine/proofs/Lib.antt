@@ -1,6 +1,8 @@
 pub mod Busy
 pub mod Engine
 pub mod KindLaws
+pub mod Counted
+pub mod Plain
 pub mod Settled
 pub mod SingleRows
 pub mod SingleSteps
@@ -25,6 +27,9 @@ pub mod RingLeft
 pub mod RingKind
 pub mod Gathering
 pub mod Growing
+pub mod Handling
+pub mod Counting
+pub mod Peaking
 pub mod SoFar
 pub mod AllKinds
 pub mod OwnerRows

@@ -1,5 +1,5 @@
 //! The blocks of an unbounded queue, as the machine has them.
-ghost use Rattle.std.specs.Prelude.{◌≡◌, ◌<◌, IfOk, IsSome, None, Some, length, replicate, slice_index_or, slice_set};
+ghost use Rattle.std.specs.Prelude.{◌≡◌, ◌<◌, IfOk, IsSome, None, Some, length, replicate, slice_index_or, slice_set, vec_len, vec_capacity};
 ghost use Rattle.queue_machine.specs.Blocks.{Block as Places, blank, fresh_block, block_of, place_count, state_of, item_of, behind, put_state, put_item, put_next};
 
 use queue_steps::sizes::BLOCK_SLOTS;
@@ -111,7 +111,8 @@ pub(crate) fn set_state<T, A: Allocator>(
     state: u64,
 )
     requires { slot < place_count blocks.old.items block }
-    ensures { blocks.new.items ≡ put_state blocks.old.items block slot state }
+    ensures blocks { blocks.new.items ≡ put_state blocks.old.items block slot state }
+    ensures room { (vec_len blocks.new ≡ vec_len blocks.old) × (vec_capacity blocks.new ≡ vec_capacity blocks.old) }
 {
     if let Some(block) = &mut blocks[block] {
         block.set_state(slot, state);
@@ -128,6 +129,7 @@ pub(crate) fn replace<T, A: Allocator>(
     requires { slot < place_count blocks.old.items block }
     ensures blocks { blocks.new.items ≡ put_item blocks.old.items block slot item }
     ensures before { result ≡ item_of blocks.old.items block slot }
+    ensures room { (vec_len blocks.new ≡ vec_len blocks.old) × (vec_capacity blocks.new ≡ vec_capacity blocks.old) }
 {
     match &mut blocks[block] {
         Some(block) => block.replace(slot, item),
@@ -156,7 +158,8 @@ pub(crate) fn set_next<T, A: Allocator>(
     next: usize,
 )
     requires { IsSome (block_of blocks.old.items block) }
-    ensures { blocks.new.items ≡ put_next blocks.old.items block (Some next) }
+    ensures blocks { blocks.new.items ≡ put_next blocks.old.items block (Some next) }
+    ensures room { (vec_len blocks.new ≡ vec_len blocks.old) × (vec_capacity blocks.new ≡ vec_capacity blocks.old) }
 {
     if let Some(block) = &mut blocks[block] {
         block.set_next(next);
