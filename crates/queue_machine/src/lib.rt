@@ -2,6 +2,7 @@
 #![tactic(auto)]
 
 pub mod blocks;
+mod chain_left;
 pub mod laws;
 mod left;
 pub mod machine;
