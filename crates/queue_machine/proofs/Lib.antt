@@ -26,6 +26,7 @@ pub mod RingOpening
 pub mod RingLeft
 pub mod RingKind
 pub mod Gathering
+pub mod ChainGathering
 pub mod Growing
 pub mod Handling
 pub mod Counting
