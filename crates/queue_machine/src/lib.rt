@@ -6,6 +6,7 @@ mod chain_left;
 pub mod laws;
 mod left;
 pub mod machine;
+mod peaks;
 mod run;
 pub mod types;
 pub mod words;
