@@ -55,25 +55,24 @@ abbrev pub with_effect : {A : Type 0} → List (Effect A) → Option (Effect A) 
 with_effect es None = es
 with_effect es (Some e) = es ++ e ∷ []
 
--- the step that got this answer, after which the call carries v, is a step of the queue that leaves the chain right
-pub record Good {A : Type 0} (c : Chain A) (who : ℕ) (ms : List (State A)) (l : UnboundedLocal ℕ) (v : Option A) (k : Call A) (es : List (Effect A)) (a : Answer ℕ) : Type 0 where
-  pub after : Chain A
+-- the step that got this answer, after which the chain is s and the call carries v, is a step of the queue that leaves the chain right
+pub record Good {A : Type 0} (c s : Chain A) (who : ℕ) (ms : List (State A)) (l : UnboundedLocal ℕ) (v : Option A) (k : Call A) (es : List (Effect A)) (a : Answer ℕ) : Type 0 where
   pub e : Option (Effect A)
   pub goes_on : FitsChain l a
-  pub ok : ChainOk after
-  pub makes : Makes c after e
-  pub passes : Passes who c after
-  pub goes : Goes after who (queue_of after ∷ ms) (unbounded_next l a) v k (with_effect es e)
+  pub ok : ChainOk s
+  pub makes : Makes c s e
+  pub passes : Passes who c s
+  pub goes : Goes s who (queue_of s ∷ ms) (unbounded_next l a) v k (with_effect es e)
 
 -- a step that changes nothing
 pub still : {A : Type 0} (c : Chain A) (who : ℕ) (ms : List (State A)) (l : UnboundedLocal ℕ) (v : Option A) (k : Call A) (es : List (Effect A)) (a : Answer ℕ)
-    → ChainOk c → FitsChain l a → Goes c who (queue_of c ∷ ms) (unbounded_next l a) v k es → Good c who ms l v k es a
-still c who ms l v k es a ok fits goes = record { after = c; e = None; goes_on = fits; ok = ok; makes = refl; passes = passes_same c who; goes = goes }
+    → ChainOk c → FitsChain l a → Goes c who (queue_of c ∷ ms) (unbounded_next l a) v k es → Good c c who ms l v k es a
+still c who ms l v k es a ok fits goes = record { e = None; goes_on = fits; ok = ok; makes = refl; passes = passes_same c who; goes = goes }
 
 -- a step that changes the chain, and not the queue that it stands for
 pub silent : {A : Type 0} (c s : Chain A) (who : ℕ) (ms : List (State A)) (l : UnboundedLocal ℕ) (v : Option A) (k : Call A) (es : List (Effect A)) (a : Answer ℕ)
-    → ChainOk s → queue_of s ≡ queue_of c → Passes who c s → FitsChain l a → Goes s who (queue_of s ∷ ms) (unbounded_next l a) v k es → Good c who ms l v k es a
-silent c s who ms l v k es a ok same pass fits goes = record { after = s; e = None; goes_on = fits; ok = ok; makes = same; passes = pass; goes = goes }
+    → ChainOk s → queue_of s ≡ queue_of c → Passes who c s → FitsChain l a → Goes s who (queue_of s ∷ ms) (unbounded_next l a) v k es → Good c s who ms l v k es a
+silent c s who ms l v k es a ok same pass fits goes = record { e = None; goes_on = fits; ok = ok; makes = same; passes = pass; goes = goes }
 
 pub spare_gives : {A : Type 0} (c : Chain A) (who : ℕ) (spare : Option ℕ) → HasSpare c who spare → GivesUp c who spare
 spare_gives c who None h = tt

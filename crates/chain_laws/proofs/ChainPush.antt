@@ -94,7 +94,7 @@ tail_goes {A} c who ms d v spare ok none spare_is =
     at_block x = at (chain.PushBlock d x spare) touch.Nothing (op.LoadLink link.TailBlock)
 
 pub good_push_tail : {A : Type 0} (c : Chain A) (who : ℕ) (ms : List (State A)) (d : PushKind) (v : A) (spare : Option ℕ)
-    → ChainOk c → Holds c who Nothing → HasSpare c who spare → Good c who ms (chain.PushTail d spare) (Some v) (pushes d v) [] (answer.Found (tail_word c))
+    → ChainOk c → Holds c who Nothing → HasSpare c who spare → Good c c who ms (chain.PushTail d spare) (Some v) (pushes d v) [] (answer.Found (tail_word c))
 good_push_tail c who ms d v spare ok none spare_is =
     still c who ms (chain.PushTail d spare) (Some v) (pushes d v) [] (answer.Found (tail_word c)) ok (tail_small c ok) (tail_goes c who ms d v spare ok none spare_is)
 
@@ -122,7 +122,7 @@ none_spare c who None none h = refl
 none_spare c who (Some f) none h = absurd (let some = h.1 in omega arith)
 
 pub good_push_block : {A : Type 0} (c : Chain A) (who : ℕ) (ms : List (State A)) (d : PushKind) (v : A) (spare : Option ℕ) (q : ℕ)
-    → ChainOk c → Holds c who Nothing → HasSpare c who spare → SawTail c q ms → Good c who ms (chain.PushBlock d (open_tail_of q) spare) (Some v) (pushes d v) [] (answer.Linked (last_of c.names c.blocks))
+    → ChainOk c → Holds c who Nothing → HasSpare c who spare → SawTail c q ms → Good c c who ms (chain.PushBlock d (open_tail_of q) spare) (Some v) (pushes d v) [] (answer.Linked (last_of c.names c.blocks))
 good_push_block {A} c who ms d v spare q ok none spare_is saw = go c.blocks refl
   where
     with_block : (b : ℕ) (x : Option ℕ) → HasSpare c who x → c.blocks ≡ suc b → Goes c who (queue_of c ∷ ms) (tail_block_found d (open_tail_of q) (Some (c.names b)) x) (Some v) (pushes d v) []
@@ -134,7 +134,7 @@ good_push_block {A} c who ms d v spare q ok none spare_is saw = go c.blocks refl
         at_end (inl t) = rw t.0 (asking d v q (Some (c.names b)) none (saw_own c q ms (queue_of c) saw) (let at = t.1 in omega arith, last_named c q b ok saw.is e))
         at_end (inr t) = rw t.0 (claiming d v q (c.names b) None none tt (saw_own c q ms (queue_of c) saw) (last_named c q b ok saw.is e) (λ last. absurd (t.1 (omega arith))))
 
-    go : (n : ℕ) → c.blocks ≡ n → Good c who ms (chain.PushBlock d (open_tail_of q) spare) (Some v) (pushes d v) [] (answer.Linked (last_of c.names n))
+    go : (n : ℕ) → c.blocks ≡ n → Good c c who ms (chain.PushBlock d (open_tail_of q) spare) (Some v) (pushes d v) [] (answer.Linked (last_of c.names n))
     go zero e =
         let empty = no_block c ok e in
         let at : q ≡ 0 = elim saw.is [ inl lt ↦ absurd (let z = empty.1 in omega arith) | inr h ↦ (let z = empty.1 in let y = h.0 in omega arith) ] in
@@ -145,7 +145,7 @@ good_push_block {A} c who ms d v spare q ok none spare_is saw = go c.blocks refl
 
 -- U3, refused: one of the call's moments allows it
 pub good_refused : {A : Type 0} (c : Chain A) (who : ℕ) (ms : List (State A)) (d : PushKind) (v : A) (q : ℕ) (block : Option ℕ)
-    → ChainOk c → Holds c who Nothing → SawTail c q ms → Asks c q block → Good c who ms (chain.Asking d (open_tail_of q) block) (Some v) (pushes d v) [] answer.Refused
+    → ChainOk c → Holds c who Nothing → SawTail c q ms → Asks c q block → Good c c who ms (chain.Asking d (open_tail_of q) block) (Some v) (pushes d v) [] answer.Refused
 good_refused {A} c who ms d v q block ok none saw asked =
     let y = refused_push d v in
     still c who ms (chain.Asking d (open_tail_of q) block) (Some v) (pushes d v) [] answer.Refused ok tt
@@ -157,7 +157,7 @@ good_refused {A} c who ms d v q block ok none saw asked =
 
 -- U3, granted: a block that was nobody's is the call's
 pub good_granted : {A : Type 0} (c : Chain A) (who : ℕ) (ms : List (State A)) (d : PushKind) (v : A) (q : ℕ) (block : Option ℕ) (f : ℕ)
-    → ChainOk c → Holds c who Nothing → SawTail c q ms → Asks c q block → c.uses f ≡ Unused → Good c who ms (chain.Asking d (open_tail_of q) block) (Some v) (pushes d v) [] (answer.Granted f)
+    → ChainOk c → Holds c who Nothing → SawTail c q ms → Asks c q block → c.uses f ≡ Unused → Good c (renamed c f (Spare who)) who ms (chain.Asking d (open_tail_of q) block) (Some v) (pushes d v) [] (answer.Granted f)
 good_granted {A} c who ms d v q block f ok none saw asked unused =
     silent c s who ms (chain.Asking d (open_tail_of q) block) (Some v) (pushes d v) [] (answer.Granted f) ok2 refl
     (passes_renamed c who f (Spare who) (λ other ne e. let z : Unused ≡ Spare other = sym unused ∙ e in cc)) (open_small c q ms saw) (go block asked)

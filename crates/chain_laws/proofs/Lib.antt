@@ -9,6 +9,7 @@ pub mod ChainFacts
 pub mod ChainAt
 pub mod ChainAnswers
 pub mod ChainGood
+pub mod ChainAfter
 pub mod ChainPush
 pub mod ChainHolds
 pub mod ChainClaim
@@ -20,3 +21,4 @@ pub mod ChainEmpty
 pub mod ChainPeek
 pub mod ChainBegin
 pub mod ChainIsEmpty
+pub mod ChainStep
