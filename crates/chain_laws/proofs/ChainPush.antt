@@ -50,7 +50,7 @@ refused_push kind.Push v = (reply.Push (Err (push.NoMemory v)), refl, (refl, ref
 refused_push kind.Force v = (reply.ForcePush (Err (force.NoMemory v)), refl, (refl, refl), tt)
 
 -- the ways on from a tail that a push found
-tail_ways : (d : PushKind) (x : ℕ) (spare : Option ℕ) (P : Next ℕ → Type 0)
+pub tail_ways : (d : PushKind) (x : ℕ) (spare : Option ℕ) (P : Next ℕ → Type 0)
     → (is_shut x ≡ true → P (next.Reply (closed_reply d) spare))
     → (is_shut x ≡ false → items_before (position_of x) ≡ LIMIT → P (at (chain.Spending d spare) touch.Nothing (op.Or word.Tail MARK)))
     → P (loads (chain.PushTail d spare) word.Tail)
@@ -117,7 +117,7 @@ last_named {A} c q b ok (inr (at, rests)) e = go (subst (λ m. BlocksOk c.tail c
 offset_is : (q : ℕ) → offset_of (open_tail_of q) ≡ q % BLOCK_SLOTS
 offset_is q = omega arith
 
-none_spare : {A : Type 0} (c : Chain A) (who : ℕ) (spare : Option ℕ) → c.blocks ≡ 0 → HasSpare c who spare → spare ≡ None
+pub none_spare : {A : Type 0} (c : Chain A) (who : ℕ) (spare : Option ℕ) → c.blocks ≡ 0 → HasSpare c who spare → spare ≡ None
 none_spare c who None none h = refl
 none_spare c who (Some f) none h = absurd (let some = h.1 in omega arith)
 
