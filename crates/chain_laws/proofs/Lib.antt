@@ -24,3 +24,4 @@ pub mod ChainIsEmpty
 pub mod ChainStep
 pub mod ChainStart
 pub mod ChainGiven
+pub mod ChainSpares
