@@ -25,3 +25,4 @@ pub mod ChainStep
 pub mod ChainStart
 pub mod ChainGiven
 pub mod ChainSpares
+pub mod ChainRight
