@@ -26,3 +26,4 @@ pub mod ChainStart
 pub mod ChainGiven
 pub mod ChainSpares
 pub mod ChainRight
+pub mod Count
