@@ -27,3 +27,4 @@ pub mod ChainGiven
 pub mod ChainSpares
 pub mod ChainRight
 pub mod Count
+pub mod ChainHands
