@@ -28,3 +28,4 @@ pub mod ChainSpares
 pub mod ChainRight
 pub mod Count
 pub mod ChainHands
+pub mod ChainCount
