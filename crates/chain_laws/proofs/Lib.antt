@@ -29,3 +29,4 @@ pub mod ChainRight
 pub mod Count
 pub mod ChainHands
 pub mod ChainCount
+pub mod ChainSpan
