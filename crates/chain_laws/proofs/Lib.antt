@@ -22,3 +22,4 @@ pub mod ChainPeek
 pub mod ChainBegin
 pub mod ChainIsEmpty
 pub mod ChainStep
+pub mod ChainRanks
