@@ -23,3 +23,4 @@ pub mod ChainBegin
 pub mod ChainIsEmpty
 pub mod ChainStep
 pub mod ChainRanks
+pub mod ChainRanksPush
