@@ -24,3 +24,4 @@ pub mod ChainIsEmpty
 pub mod ChainStep
 pub mod ChainRanks
 pub mod ChainRanksPush
+pub mod ChainRanksPop
