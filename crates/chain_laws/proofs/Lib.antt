@@ -25,3 +25,4 @@ pub mod ChainStep
 pub mod ChainRanks
 pub mod ChainRanksPush
 pub mod ChainRanksPop
+pub mod ChainRanksWalk
