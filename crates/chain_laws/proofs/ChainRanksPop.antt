@@ -1,25 +1,22 @@
 -- The steps of a pop up to the read of its item have fewer steps before them, one after another, while no other party holds a part of the chain.
-use Rattle.std.proofs.Common.{ℕ, ◌+◌, ◌*◌, ◌/◌, ◌%◌, ◌<◌, ◌≡◌, ◌≢◌, ◌==◌, not, ◌∙◌, ◌⊎◌, inl, inr, Bool, true, false, if◌then◌else◌, Option, Some, None, refl, sym, ap, subst, arith, bit_and}
+use Rattle.std.proofs.Common.{ℕ, ◌+◌, ◌/◌, ◌%◌, ◌<◌, ◌≡◌, ◌≢◌, ◌==◌, ◌∙◌, ◌⊎◌, inl, inr, Bool, true, false, if◌then◌else◌, Option, Some, None, refl, sym, ap, subst, arith, bit_and}
 use Rattle.std.proofs.lemmas.Bool.{ne_eqb, eq-eqb}
 use Rattle.std.proofs.lemmas.Bool.Decides.{eqb_tells}
 use Rattle.queue_steps.specs.declared.sizes.TheConstants.{BLOCK_SLOTS}
-use Rattle.queue_steps.specs.Words.{position_of, tail_of}
+use Rattle.queue_steps.specs.Words.{position_of}
 use Rattle.queue_steps.specs.ChainWords.{block_at, offset_at, offset_of}
 use Rattle.queue_steps.specs.UnboundedNext as steps
 use Rattle.queue_steps.specs.UnboundedNext.{chain_head_found, head_block_found, chain_pop_tail_found, takes, followed, written_found, is_last_slot}
-use Rattle.queue_steps.specs.declared.steps.types.Local.TheVariants as local
 use Rattle.queue_steps.specs.declared.steps.bounded.TheConstants.{TAIL_STEP}
 use Rattle.queue_steps.specs.declared.steps.unbounded.TheConstants.{WRITE}
-use Rattle.queue_steps.specs.declared.steps.unbounded.UnboundedLocal.TheVariants as chain
 use Rattle.chain_laws.proofs.ChainPlaces.{place, place_offset}
-use Rattle.chain_laws.proofs.ChainCells.{Writer, Free, Writing, Wrote, Reading, Rests, Stands, Passing, Link, Unlinked, Linking, Linked, Shown, Hidden, Showing, Seen, Chain, ItemOk, BlocksOk, LinkOk, FrontOk, ShownOk, ChainOk, Part, Write, Head, Next, First, linker_of, shower_of, writer_of, Holds}
+use Rattle.chain_laws.proofs.ChainCells.{Writer, Free, Writing, Wrote, Reading, Rests, Stands, Passing, Link, Unlinked, Linking, Linked, Shown, Hidden, Showing, Seen, Chain, ItemOk, BlocksOk, LinkOk, FrontOk, ShownOk, ChainOk, Part, Head, linker_of, shower_of, writer_of, Holds}
 use Rattle.chain_laws.proofs.ChainTransitions.{no_block}
 use Rattle.chain_laws.proofs.ChainFacts.{head_of, HeadIs, IsMore}
 use Rattle.chain_laws.proofs.ChainAnswers.{tail_word, head_word, shown_of, linked_of, is_wrote, position_tail, resting_word, standing_word}
 use Rattle.chain_laws.proofs.ChainAfter.{taken_if}
 use Rattle.chain_laws.proofs.ChainPop.{head_low}
-use Rattle.chain_laws.proofs.ChainRanks.{lag, is_seen, tail_rank, rank, Falls, lag_none, IsQuiet, unowned, stands_if}
-use Rattle.chain_laws.proofs.ChainRanksPush.{rests}
+use Rattle.chain_laws.proofs.ChainRanks.{lag, is_seen, tail_rank, Falls, lag_none, IsQuiet, unowned, stands_if}
 
 -- nobody moves the head
 pub stands : {A : Type 0} (c : Chain A) (who : ℕ) (P : Part → Type 0) → IsQuiet c who → Holds c who P → (P Head → ⊥) → c.passer ≡ Stands

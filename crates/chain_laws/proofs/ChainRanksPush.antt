@@ -1,9 +1,8 @@
 -- The steps of a push have fewer steps before them, one after another, while no other party holds a part of the chain.
-use Rattle.std.proofs.Common.{ℕ, ◌+◌, ◌%◌, ◌<◌, ◌≡◌, ◌≢◌, ◌==◌, ◌∙◌, ◌⊎◌, inl, inr, zero, suc, Bool, true, false, if◌then◌else◌, Option, Some, None, refl, sym, ap, arith}
+use Rattle.std.proofs.Common.{ℕ, ◌+◌, ◌%◌, ◌<◌, ◌≡◌, ◌≢◌, ◌==◌, ◌∙◌, zero, suc, true, false, if◌then◌else◌, Option, Some, None, refl, sym, ap, arith}
 use Rattle.std.proofs.lemmas.Bool.{ne_eqb, eq-eqb}
-use Rattle.std.proofs.lemmas.Bool.Decides.{eqb_tells}
 use Rattle.queue_steps.specs.declared.sizes.TheConstants.{BLOCK_SLOTS}
-use Rattle.queue_steps.specs.Words.{position_of, tail_of}
+use Rattle.queue_steps.specs.Words.{position_of}
 use Rattle.queue_steps.specs.ChainWords.{offset_at, offset_of}
 use Rattle.queue_steps.specs.UnboundedNext as steps
 use Rattle.queue_steps.specs.UnboundedNext.{chain_tail_found, tail_block_found, asks, claims, lays, writes, is_last_slot}
@@ -11,10 +10,10 @@ use Rattle.queue_steps.specs.declared.steps.types.Local.TheVariants as local
 use Rattle.queue_steps.specs.declared.steps.bounded.PushKind.{PushKind}
 use Rattle.queue_steps.specs.declared.steps.unbounded.UnboundedLocal.TheVariants as chain
 use Rattle.chain_laws.proofs.ChainPlaces.{place, place_offset}
-use Rattle.chain_laws.proofs.ChainCells.{Mover, Rests, Spare, Chain, Part, Tail, Holds}
+use Rattle.chain_laws.proofs.ChainCells.{Rests, Spare, Chain, Part, Tail, Holds}
 use Rattle.chain_laws.proofs.ChainTransitions.{displayed, renamed}
 use Rattle.chain_laws.proofs.ChainAnswers.{tail_word, last_of, position_tail, resting_word}
-use Rattle.chain_laws.proofs.ChainAfter.{if_installed, claimed_if, if_claimed}
+use Rattle.chain_laws.proofs.ChainAfter.{if_installed, claimed_if}
 use Rattle.chain_laws.proofs.ChainPush.{tail_ways}
 use Rattle.chain_laws.proofs.ChainRanks.{lag, asking_rank, rank, Falls, lag_none, IsQuiet, unowned, rests_if}
 

@@ -12,7 +12,7 @@ use Rattle.queue_steps.specs.declared.steps.types.Word.TheVariants as word
 use Rattle.queue_steps.specs.Words.{position_of}
 use Rattle.queue_steps.specs.ChainWords.{items_before}
 use Rattle.queue_steps.specs.UnboundedNext.{ends, loads, walks, walks_on, unbounded_next}
-use Rattle.chain_laws.proofs.ChainCells.{Writer, Free, Writing, Wrote, Reader, Unread, Reading, Done, Walker, Chain, ItemOk, WalkOk, IsWalked, item_at, LAST, ChainOk, reader_of}
+use Rattle.chain_laws.proofs.ChainCells.{Writer, Free, Writing, Wrote, Reader, Unread, Reading, Done, Walker, Chain, ItemOk, WalkOk, item_at, LAST, ChainOk, reader_of}
 use Rattle.chain_laws.proofs.ChainAnswers.{tail_word, is_done}
 use Rattle.chain_laws.proofs.ChainRanks.{lag, walk_rank, Falls}
 

@@ -26,3 +26,4 @@ pub mod ChainRanks
 pub mod ChainRanksPush
 pub mod ChainRanksPop
 pub mod ChainRanksWalk
+pub mod ChainRanksStep
