@@ -117,7 +117,7 @@ last_named {A} c q b ok (inr (at, rests)) e = go (subst (λ m. BlocksOk c.tail c
 offset_is : (q : ℕ) → offset_of (open_tail_of q) ≡ q % BLOCK_SLOTS
 offset_is q = omega arith
 
-none_spare : {A : Type 0} (c : Chain A) (who : ℕ) (spare : Option ℕ) → c.blocks ≡ 0 → HasSpare c who spare → spare ≡ None
+pub none_spare : {A : Type 0} (c : Chain A) (who : ℕ) (spare : Option ℕ) → c.blocks ≡ 0 → HasSpare c who spare → spare ≡ None
 none_spare c who None none h = refl
 none_spare c who (Some f) none h = absurd (let some = h.1 in omega arith)
 
@@ -160,13 +160,13 @@ pub good_granted : {A : Type 0} (c : Chain A) (who : ℕ) (ms : List (State A)) 
     → ChainOk c → Holds c who Nothing → SawTail c q ms → Asks c q block → c.uses f ≡ Unused → Good c (renamed c f (Spare who)) who ms (chain.Asking d (open_tail_of q) block) (Some v) (pushes d v) [] (answer.Granted f)
 good_granted {A} c who ms d v q block f ok none saw asked unused =
     silent c s who ms (chain.Asking d (open_tail_of q) block) (Some v) (pushes d v) [] (answer.Granted f) ok2 refl
-    (passes_renamed c who f (Spare who) (λ other ne e. let z : Unused ≡ Spare other = sym unused ∙ e in cc)) (open_small c q ms saw) (go block asked)
+    (passes_renamed c who f (Spare who) (λ other ne e. let z : Unused ≡ Spare other = sym unused ∙ e in cc) (λ other ne e. ne (let z : Spare who ≡ Spare other = e in cc))) (open_small c q ms saw) (go block asked)
   where
     s : Chain A
     s = renamed c f (Spare who)
 
     ok2 : ChainOk (renamed c f (Spare who))
-    ok2 = rename_ok c f (Spare who) ok (λ b e. let z : Unused ≡ Chained b = sym unused ∙ e in cc)
+    ok2 = rename_ok c f (Spare who) ok (λ b e. let z : Unused ≡ Chained b = sym unused ∙ e in cc) (λ b e. let z : Spare who ≡ Chained b = e in cc)
 
     saw2 : SawTail (renamed c f (Spare who)) q (queue_of c ∷ ms)
     saw2 = record { below = saw.below; is = saw.is; moment = inr saw.moment }

@@ -27,3 +27,8 @@ pub mod ChainRanksPush
 pub mod ChainRanksPop
 pub mod ChainRanksWalk
 pub mod ChainRanksStep
+pub mod ChainStart
+pub mod ChainGiven
+pub mod ChainSpares
+pub mod ChainRight
+pub mod Count
