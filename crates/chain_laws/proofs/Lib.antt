@@ -22,6 +22,11 @@ pub mod ChainPeek
 pub mod ChainBegin
 pub mod ChainIsEmpty
 pub mod ChainStep
+pub mod ChainRanks
+pub mod ChainRanksPush
+pub mod ChainRanksPop
+pub mod ChainRanksWalk
+pub mod ChainRanksStep
 pub mod ChainStart
 pub mod ChainGiven
 pub mod ChainSpares
