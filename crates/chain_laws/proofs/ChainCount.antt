@@ -1,9 +1,8 @@
 -- How many blocks of a chain are alive: at most two more than its items fill, and one for each call; at least those that its items span.
-use Rattle.std.proofs.Common.{ℕ, ◌+◌, ◌-◌, ◌*◌, ◌/◌, ◌<◌, ◌≤◌, ◌≡◌, ◌≢◌, ◌&&◌, not, nat_lt, ◌∙◌, ◌⊎◌, inl, inr, Bool, true, false, List, length, refl, sym, ap, subst, arith}
+use Rattle.std.proofs.Common.{ℕ, ◌+◌, ◌-◌, ◌/◌, ◌<◌, ◌≤◌, ◌≡◌, ◌≢◌, ◌&&◌, not, nat_lt, ◌∙◌, ◌⊎◌, inl, inr, Bool, true, false, List, length, refl, sym, ap, arith}
 use Rattle.std.proofs.lemmas.Bool.{ltb-true, ltb-false}
-use Rattle.std.proofs.lemmas.Bool.Decides.{eqb_tells}
 use Rattle.queue_steps.specs.declared.sizes.TheConstants.{BLOCK_SLOTS}
-use Rattle.chain_laws.proofs.ChainCells.{Writer, Free, Writing, Wrote, Reader, Unread, Reading, Done, Mover, Rests, Laying, Opening, Walk, Before, Walker, Waits, GivenUp, Use, Unused, Spare, Chained, Lost, Chain, ItemOk, BlocksOk, WalkOk, item_at, LAST, ChainOk, put, put_ok, put_same, put_other}
+use Rattle.chain_laws.proofs.ChainCells.{Writer, Free, Writing, Wrote, Reader, Unread, Reading, Done, Mover, Rests, Laying, Opening, Walk, Before, Walker, Waits, GivenUp, Use, Unused, Spare, Chained, Lost, Chain, ItemOk, BlocksOk, WalkOk, item_at, LAST, ChainOk}
 use Rattle.chain_laws.proofs.ChainHands.{Hand, Empty, OfSpare, OfBlock, InHand, HandOf, hand_of, hand_is, full_hand}
 use Rattle.chain_laws.proofs.Count.{count, count_all, count_into, count_split}
 

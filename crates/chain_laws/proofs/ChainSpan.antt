@@ -1,9 +1,11 @@
 -- At least the blocks that the items of a chain span are alive.
-use Rattle.std.proofs.Common.{ℕ, ◌+◌, ◌-◌, ◌/◌, ◌<◌, ◌≤◌, ◌≡◌, ◌≢◌, not, ◌∙◌, inl, inr, Bool, true, false, List, length, refl, sym, ap, subst, arith}
-use Rattle.std.proofs.lemmas.Bool.Decides.{eqb_tells}
+use Rattle.std.proofs.Common.{ℕ, ◌+◌, ◌-◌, ◌/◌, ◌<◌, ◌≤◌, ◌≡◌, ◌≢◌, not, ◌∙◌, inl, inr, Bool, true, false, List, length, refl, ap, arith}
 use Rattle.queue_steps.specs.declared.sizes.TheConstants.{BLOCK_SLOTS}
 use Rattle.queue_steps.specs.Sole.{blocks_of}
-use Rattle.chain_laws.proofs.ChainCells.{Writer, Free, Writing, Wrote, Reader, Unread, Reading, Done, Mover, Rests, Laying, Opening, Walk, Before, Walker, Waits, GivenUp, Use, Unused, Spare, Chained, Lost, Chain, queue_of, ItemOk, BlocksOk, WalkOk, item_at, LAST, ChainOk, put, put_ok}
+use Rattle.queue_steps.specs.Words.{position_of}
+use Rattle.queue_steps.specs.ChainWords.{items_before}
+use Rattle.chain_laws.proofs.ChainCells.{Writer, Free, Writing, Wrote, Reader, Unread, Reading, Done, Mover, Rests, Laying, Opening, Walk, Before, Walker, Waits, GivenUp, Use, Spare, Chained, Chain, queue_of, ItemOk, BlocksOk, WalkOk, item_at, LAST, ChainOk, put, put_ok}
+use Rattle.chain_laws.proofs.ChainAnswers.{tail_word, head_word, tail_items, head_items}
 use Rattle.chain_laws.proofs.ChainHands.{HandOf, hand_is}
 use Rattle.chain_laws.proofs.ChainCount.{is_given_up, is_alive, alive}
 use Rattle.chain_laws.proofs.Count.{count, count_all, count_into}
@@ -67,3 +69,7 @@ spans_alive {A} c names ok some lays within = go c.mover refl ok.laid
 -- where each party has in its hand what keeps blocks alive
 pub spans_if : {A : Type 0} (c : Chain A) (names : ℕ) (in_call : ℕ → Bool) → ChainOk c → ((p : ℕ) → HandOf c p (in_call p)) → ((f : ℕ) → alive c f ≡ true → f < names) → 0 < c.tail → blocks_of (queue_of c) ≤ count (alive c) names
 spans_if c names in_call ok each within some = spans_alive c names ok some (λ who e. (hand_is c who (in_call who) (each who)).lays e) within
+
+-- the words of the tail and the head tell how many items there are
+pub held_items : {A : Type 0} (c : Chain A) → ChainOk c → items_before (position_of (tail_word c)) - items_before (position_of (head_word c)) ≡ length c.items
+held_items c ok = let tail = tail_items c ok in let head = head_items c ok in let count_is = ok.count in omega (arith, tail, head, count_is)
