@@ -57,7 +57,7 @@ number_of _ = 0
 ahead_few : {A : Type 0} (c : Chain A) (names : ℕ) → ChainOk c → count (λ f. is_ahead (c.head / BLOCK_SLOTS) (c.uses f)) names ≤ c.blocks - c.head / BLOCK_SLOTS
 ahead_few {A} c names ok =
     let few = count_into (λ f. is_ahead (c.head / BLOCK_SLOTS) (c.uses f)) (λ j. true) names (c.blocks - c.head / BLOCK_SLOTS) (λ f. number_of (c.uses f) - c.head / BLOCK_SLOTS) (λ j. c.names (j + c.head / BLOCK_SLOTS))
-        (λ f lt is. go f (c.uses f) refl is) in
+    (λ f lt is. go f (c.uses f) refl is) in
     let all = count_all (c.blocks - c.head / BLOCK_SLOTS) in
     omega (arith, few, all)
   where
@@ -136,9 +136,9 @@ held_few : {A : Type 0} (c : Chain A) (names parties : ℕ) (in_call : ℕ → B
     → count (λ f. is_held (c.head / BLOCK_SLOTS) c.walks (c.uses f)) names ≤ count in_call parties
 held_few {A} c names parties in_call ok each within =
     count_into (λ f. is_held (c.head / BLOCK_SLOTS) c.walks (c.uses f)) in_call names parties (λ f. holder c (c.uses f)) (λ p. name_in c (hands p))
-        (λ f lt is. let h = held_hand c hands f (c.uses f) ok (λ p. hand_is c p (in_call p) (each p)) refl is in
-        let busy = full_hand c (holder c (c.uses f)) (in_call (holder c (c.uses f))) (each (holder c (c.uses f))) h.0 in
-        (within (holder c (c.uses f)) busy, busy, h.1))
+    (λ f lt is. let h = held_hand c hands f (c.uses f) ok (λ p. hand_is c p (in_call p) (each p)) refl is in
+    let busy = full_hand c (holder c (c.uses f)) (in_call (holder c (c.uses f))) (each (holder c (c.uses f))) h.0 in
+    (within (holder c (c.uses f)) busy, busy, h.1))
   where
     hands : ℕ → Hand
     hands p = hand_of c p (in_call p) (each p)

@@ -96,7 +96,7 @@ in_hand {c = c} {who = who} (laying d x n name f holds mine lays fresh) only =
     with_spare c who (Some f) (Either (Write n) Tail) holds (λ m z. elim z [ inl e ↦ cc | inr e ↦ cc ]) (λ b z. elim z [ inl e ↦ cc | inr e ↦ cc ]) (λ e. (f, fresh)) only
 in_hand {c = c} {who = who} (opening d x n name f holds mine opens links named) only =
     with_spare c who None (λ x. (x ≡ Write n) ⊎ (x ≡ Tail) ⊎ (x ≡ Next (n / BLOCK_SLOTS))) holds (λ m z. three z (λ e. cc) (λ e. cc) (λ e. cc)) (λ b z. three z (λ e. cc) (λ e. cc) (λ e. cc))
-        (λ e. absurd (let z : Opening who ≡ Laying who = sym opens.0 ∙ e in cc)) only
+    (λ e. absurd (let z : Opening who ≡ Laying who = sym opens.0 ∙ e in cc)) only
   where
     three : {x p q r : Part} → (x ≡ p) ⊎ (x ≡ q) ⊎ (x ≡ r) → (x ≡ p → ⊥) → (x ≡ q → ⊥) → (x ≡ r → ⊥) → ⊥
     three (inl e) a b c = a e
@@ -104,7 +104,7 @@ in_hand {c = c} {who = who} (opening d x n name f holds mine opens links named) 
     three (inr (inr e)) a b c = c e
 in_hand {c = c} {who = who} (chaining d x n name f holds mine links named) only =
     with_spare c who None (Either (Write n) (Next (n / BLOCK_SLOTS))) holds (λ m z. elim z [ inl e ↦ cc | inr e ↦ cc ]) (λ b z. elim z [ inl e ↦ cc | inr e ↦ cc ])
-        (λ e. absurd (elim (holds Tail (ap mover_of e)) [ inl z ↦ cc | inr z ↦ cc ])) only
+    (λ e. absurd (elim (holds Tail (ap mover_of e)) [ inl z ↦ cc | inr z ↦ cc ])) only
 in_hand {c = c} {who = who} (writing d x n name spare holds mine spare_is) only = with_spare c who spare (Only (Write n)) holds (λ m z. cc) (λ b z. cc) (λ e. absurd (let z = holds Tail (ap mover_of e) in cc)) only
 in_hand {c = c} {who = who} (spending d x spare none spare_is spent) only = with_nothing c who spare none only
 in_hand {c = c} {who = who} (pop_head none) only = with_nothing c who None none only

@@ -38,7 +38,7 @@ spans_by : {A : Type 0} (c : Chain A) (names end : ℕ) (name : ℕ → ℕ) →
     → ((f : ℕ) → alive c f ≡ true → f < names) → end - c.head / BLOCK_SLOTS ≤ count (alive c) names
 spans_by {A} c names end name here within =
     let many = count_into (λ j. true) (alive c) (end - c.head / BLOCK_SLOTS) names (λ j. name (j + c.head / BLOCK_SLOTS)) (λ f. place_of c.blocks (c.uses f) - c.head / BLOCK_SLOTS)
-        (λ j lt is. let h = here (j + c.head / BLOCK_SLOTS) (omega arith) (omega arith) in (within (name (j + c.head / BLOCK_SLOTS)) h.0, h.0, (let at = h.1 in omega (arith, at)))) in
+    (λ j lt is. let h = here (j + c.head / BLOCK_SLOTS) (omega arith) (omega arith) in (within (name (j + c.head / BLOCK_SLOTS)) h.0, h.0, (let at = h.1 in omega (arith, at)))) in
     let all = count_all (end - c.head / BLOCK_SLOTS) in
     omega (arith, many, all)
 
