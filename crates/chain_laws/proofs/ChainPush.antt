@@ -53,13 +53,13 @@ refused_push kind.Force v = (reply.ForcePush (Err (force.NoMemory v)), refl, (re
 pub tail_ways : (d : PushKind) (x : ℕ) (spare : Option ℕ) (P : Next ℕ → Type 0)
     → (is_shut x ≡ true → P (next.Reply (closed_reply d) spare))
     → (is_shut x ≡ false → items_before (position_of x) ≡ LIMIT → P (at (chain.Spending d spare) touch.Nothing (op.Or word.Tail MARK)))
-    → P (loads (chain.PushTail d spare) word.Tail)
+    → (offset_of x ≡ BLOCK_SLOTS → P (loads (chain.PushTail d spare) word.Tail))
     → (is_shut x ≡ false → items_before (position_of x) ≢ LIMIT → offset_of x ≢ BLOCK_SLOTS → P (at (chain.PushBlock d x spare) touch.Nothing (op.LoadLink link.TailBlock)))
     → P (chain_tail_found d x spare)
 tail_ways d x spare P shut spent again on = at_mark (is_shut x) refl
   where
     at_end : is_shut x ≡ false → items_before (position_of x) ≢ LIMIT → (((offset_of x == BLOCK_SLOTS) ≡ true) × (offset_of x ≡ BLOCK_SLOTS)) ⊎ (((offset_of x == BLOCK_SLOTS) ≡ false) × (offset_of x ≢ BLOCK_SLOTS)) → P (chain_tail_found d x spare)
-    at_end f ne (inl e) = rw (f, ne_eqb (items_before (position_of x)) LIMIT ne, e.0) again
+    at_end f ne (inl e) = rw (f, ne_eqb (items_before (position_of x)) LIMIT ne, e.0) (again e.1)
     at_end f ne (inr e) = rw (f, ne_eqb (items_before (position_of x)) LIMIT ne, e.0) (on f ne e.1)
 
     at_limit : is_shut x ≡ false → (((items_before (position_of x) == LIMIT) ≡ true) × (items_before (position_of x) ≡ LIMIT)) ⊎ (((items_before (position_of x) == LIMIT) ≡ false) × (items_before (position_of x) ≢ LIMIT)) → P (chain_tail_found d x spare)
@@ -77,7 +77,7 @@ tail_goes {A} c who ms d v spare ok none spare_is =
     tail_ways d (tail_word c) spare (λ x. Goes c who (queue_of c ∷ ms) x (Some v) (pushes d v) [])
     (λ shut. let y = closed_push d v (queue_of c) (sym is ∙ shut) in (none, spare_gives c who spare spare_is, (y.0, y.1, y.2, λ e. inl (inl y.4))))
     (λ opened spent. spending d v spare none spare_is (let at = tail_items c ok in omega arith))
-    (push_tail d v spare none spare_is)
+    (λ over. push_tail d v spare none spare_is)
     (λ opened ne inner.
     let rests = tail_is_resting c ok inner in
     let most = ok.most in

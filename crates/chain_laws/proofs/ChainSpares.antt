@@ -62,7 +62,7 @@ others_spares s who ms (next.Step l t o) v k es other_call at only = subst (λ x
 others_spares s who ms (next.Reply x spare) v k es other_call goes only = none_given s who spare only
 
 tail_spares : {A : Type 0} (s : Chain A) (who : ℕ) (d : PushKind) (x : ℕ) (spare : Option ℕ) → Spares s who spare → SparesAfter s who (chain_tail_found d x spare)
-tail_spares s who d x spare only = tail_ways d x spare (λ n. SparesAfter s who n) (λ shut. spares_given s who spare only) (λ opened spent. only) only (λ opened ne inner. only)
+tail_spares s who d x spare only = tail_ways d x spare (λ n. SparesAfter s who n) (λ shut. spares_given s who spare only) (λ opened spent. only) (λ over. only) (λ opened ne inner. only)
 
 block_spares : {A : Type 0} (c : Chain A) (who : ℕ) (d : PushKind) (tail : ℕ) (spare : Option ℕ) (n : ℕ) → c.blocks ≡ n → HasSpare c who spare → Spares c who spare → SparesAfter c who (tail_block_found d tail (last_of c.names n) spare)
 block_spares c who d tail spare zero e has only = subst (λ x. Spares c who x) (none_spare c who spare e has) only

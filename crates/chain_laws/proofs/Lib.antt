@@ -22,8 +22,17 @@ pub mod ChainPeek
 pub mod ChainBegin
 pub mod ChainIsEmpty
 pub mod ChainStep
+pub mod ChainRanks
+pub mod ChainRanksPush
+pub mod ChainRanksPop
+pub mod ChainRanksWalk
+pub mod ChainRanksStep
 pub mod ChainStart
 pub mod ChainGiven
 pub mod ChainSpares
 pub mod ChainRight
 pub mod Count
+pub mod ChainHands
+pub mod ChainCount
+pub mod ChainSpan
+pub mod ChainFirst

@@ -1,4 +1,5 @@
 pub mod Busy
+pub mod Counting
 pub mod Engine
 pub mod KindLaws
 pub mod Settled
