@@ -1,18 +1,15 @@
 -- A step that changes one block leaves the machine standing for the chain after it.
-use Rattle.std.proofs.Common.{ℕ, ◌+◌, ◌-◌, ◌*◌, ◌/◌, ◌%◌, ◌<◌, ◌≤◌, ◌≡◌, ◌≢◌, ◌∙◌, ◌⊎◌, inl, inr, Bool, true, false, Option, Some, None, List, length, refl, sym, ap, subst, arith, get_or, set, bit_or}
-use Rattle.std.proofs.lemmas.List.{get_or_past}
+use Rattle.std.proofs.Common.{ℕ, ◌+◌, ◌/◌, ◌<◌, ◌≡◌, ◌≢◌, ◌∙◌, inl, inr, false, Option, Some, None, List, refl, sym, ap, subst, arith, get_or, set, bit_or}
 use Rattle.std.proofs.lemmas.Bool.Decides.{eqb_tells}
 use Rattle.queue_steps.specs.declared.sizes.TheConstants.{BLOCK_SLOTS}
-use Rattle.queue_steps.specs.declared.steps.unbounded.TheConstants.{WRITE, READ, DESTROY}
-use Rattle.chain_laws.proofs.ChainCells.{Writer, Writing, Wrote, Reader, Unread, Reading, Done, Link, Linking, Linked, Walk, Before, Walker, Waits, GivenUp, Use, Chained, Chain, ItemOk, ChainOk, item_at, LAST, put, put_ok, put_same, put_other}
+use Rattle.queue_steps.specs.declared.steps.unbounded.TheConstants.{WRITE}
+use Rattle.chain_laws.proofs.ChainCells.{Writer, Writing, Wrote, Reader, Unread, Reading, Done, Link, Linked, Walk, GivenUp, Chained, Chain, ItemOk, ChainOk, item_at, put, put_same, put_other}
 use Rattle.chain_laws.proofs.ChainTransitions.{chained, written}
-use Rattle.chain_laws.proofs.ChainReads.{reads, walked}
 use Rattle.chain_laws.proofs.ChainFacts.{IsNamed}
-use Rattle.chain_laws.proofs.ChainAnswers.{linked_of, is_done, waits_at, IsState}
-use Rattle.queue_machine.specs.declared.blocks.Place.{Place}
+use Rattle.chain_laws.proofs.ChainAnswers.{linked_of, is_done}
 use Rattle.queue_machine.specs.Blocks.{Block, blank}
-use Rattle.queue_machine.proofs.ChainCodes.{BlockIs, SameItem, wrote_in, lies, done_is, block_put, block_same}
-use Rattle.queue_machine.proofs.ChainBits.{state_written, state_read, state_waits, state_passed}
+use Rattle.queue_machine.proofs.ChainCodes.{BlockIs, wrote_in, lies, block_put, block_same}
+use Rattle.queue_machine.proofs.ChainBits.{state_written}
 use Rattle.queue_machine.proofs.ChainNames.{NameIs, HeldIs, Codes, Keeps, Changed, name_kept, one_name}
 
 -- the chain with other items, readers, links and walks

@@ -1,19 +1,18 @@
 -- The steps that read an item or walk over a passed block, and the block that is given up with a reply, leave the machine standing for the chain after them.
-use Rattle.std.proofs.Common.{ℕ, ◌+◌, ◌-◌, ◌*◌, ◌/◌, ◌%◌, ◌<◌, ◌≤◌, ◌≡◌, ◌≢◌, ◌==◌, ◌∙◌, ◌⊎◌, inl, inr, Bool, true, false, Option, Some, None, List, length, refl, sym, ap, subst, arith, get_or, set, bit_or}
+use Rattle.std.proofs.Common.{ℕ, ◌+◌, ◌/◌, ◌<◌, ◌≡◌, ◌≢◌, ◌∙◌, ◌⊎◌, inl, inr, false, Option, Some, None, List, refl, sym, ap, subst, arith, get_or, set, bit_or}
 use Rattle.std.proofs.lemmas.Bool.Decides.{eqb_tells}
 use Rattle.queue_steps.specs.declared.sizes.TheConstants.{BLOCK_SLOTS}
 use Rattle.queue_steps.specs.declared.steps.unbounded.TheConstants.{READ}
-use Rattle.chain_laws.proofs.ChainCells.{Wrote, Reader, Reading, Done, Walk, Before, Walker, Waits, GivenUp, Use, Unused, Spare, Chained, Lost, Chain, ChainOk, item_at, LAST, put, put_ok, put_same, put_other}
-use Rattle.chain_laws.proofs.ChainTransitions.{renamed}
+use Rattle.chain_laws.proofs.ChainCells.{Done, Walk, Walker, GivenUp, Unused, Spare, Chained, Chain, ChainOk, item_at, LAST, put, put_ok, put_same, put_other}
 use Rattle.chain_laws.proofs.ChainReads.{reads, walked, walk_after}
 use Rattle.chain_laws.proofs.ChainFacts.{IsNamed}
 use Rattle.chain_laws.proofs.ChainAnswers.{is_done, waits_at, IsState}
 use Rattle.chain_laws.proofs.ChainGiven.{given_up, lost_of}
 use Rattle.queue_machine.specs.declared.blocks.Place.{Place}
 use Rattle.queue_machine.specs.Blocks.{Block, blank}
-use Rattle.queue_machine.proofs.ChainCodes.{BlockIs, SameItem, wrote_in, lies, block_put}
+use Rattle.queue_machine.proofs.ChainCodes.{BlockIs, lies, block_put}
 use Rattle.queue_machine.proofs.ChainBits.{state_read}
-use Rattle.queue_machine.proofs.ChainNames.{NameIs, HeldIs, AliveIs, Codes, Keeps, Changed, name_kept, keeps_all}
+use Rattle.queue_machine.proofs.ChainNames.{NameIs, HeldIs, AliveIs, Codes, Changed, name_kept, keeps_all}
 use Rattle.queue_machine.proofs.ChainCodesAt.{codes_at, other_block, other_slot}
 
 -- the block after the step: it is given up with its walk, or is this
