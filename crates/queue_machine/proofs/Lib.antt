@@ -35,6 +35,12 @@ pub mod ChainCodesPop
 pub mod ChainCodesAt
 pub mod ChainCodesWalk
 pub mod ChainHolding
+pub mod ChainBlocks
+pub mod ChainGives
+pub mod ChainCoded
+pub mod ChainCodedPush
+pub mod ChainCodedPop
+pub mod ChainCodedRead
 pub mod Gathering
 pub mod Growing
 pub mod Handling
