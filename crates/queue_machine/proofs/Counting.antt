@@ -19,11 +19,11 @@ pub record Counted {T : Type 0} (busy : ℕ) (o : Open T) (n most : ℕ) : Type 
 
 -- a call just begun
 pub counted_begun : {T : Type 0} (busy : ℕ) (k : Call T) (n most : ℕ) → n ≤ most → (is_prompt k ≡ true → n ≤ 2) → Counted busy (begun k) n most
-counted_begun busy k n most low prompt = record { low = low; lone = λ e. low; crowd = λ e. refl; prompt = λ e. prompt e }
+counted_begun busy k n most low prompt = record { low = low; lone = λ e. omega (arith, low); crowd = λ e. refl; prompt = λ e. let two = prompt e in omega arith }
 
 -- a call in progress where another begins
 pub counted_joined : {T : Type 0} (busy busy' : ℕ) (o : Open T) (n most : ℕ) → Counted busy o n most → Counted busy' (joined o) n most
-counted_joined busy busy' o n most c = record { low = c.low; lone = λ e. c.low; crowd = λ e. refl; prompt = c.prompt }
+counted_joined busy busy' o n most c = record { low = c.low; lone = λ e. let low = c.low in omega arith; crowd = λ e. refl; prompt = c.prompt }
 
 -- after a step of another party, which may make what the call has read another word
 pub counted_watched : {T : Type 0} (busy busy' : ℕ) (Q : State T) (o : Open T) (n m most : ℕ) → busy ≢ 1 → m ≤ most → (is_prompt o.call ≡ true → m ≤ n) → Counted busy o n most → Counted busy' (watched Q o) m most
