@@ -44,13 +44,13 @@ good_beginning {A} c who ms x n name st ok holds got wrote last state = go (is_d
     go true t =
         let first_done : put c.readers n Done (item_at (n / BLOCK_SLOTS) 0) ≡ Done =
         put_ok c.readers n (item_at (n / BLOCK_SLOTS) 0) Done (λ k r. c.readers k ≡ Done → r ≡ Done) (λ e. refl) (λ ne e. e) (done_is (c.readers (item_at (n / BLOCK_SLOTS) 0)) t) in
-        silent c (moves.reads c n (walk_after who 0)) who ms (chain.Walking name 0) (Some x) call.Pop (effect.Take x ∷ []) (answer.Found st)
+        silent c (moves.reads c n (walk_after who 0)) who ms (chain.Walking name 0) (Some x) call.Pop (effect.Take x ∷ []) (answer.Found st) refl
         (read_ok c who n x (walk_after who 0) ok got.mine wrote (walk_after_ok (put c.readers n Done) (n / BLOCK_SLOTS) who 0 (omega arith) walked_none first_done)) refl
         (passes_reads c who n (walk_after who 0) got.mine (λ other ne z. absurd (nobody (c.walks (n / BLOCK_SLOTS)) (ok.walk (n / BLOCK_SLOTS)) other z)) (λ other ne z. absurd (after_mine who other 0 ne z))) (omega arith)
         (rw (state.read ∙ ap not t) (on_goes (moves.reads c n (walk_after who 0)) who (queue_of c ∷ ms) x (n / BLOCK_SLOTS) name 0 (omega arith) got.named (put_same c.walks (n / BLOCK_SLOTS) (walk_after who 0))
         (λ e. cc) (after_read_on c who n (walk_after who 0) holds)))
     go false t =
-        silent c (moves.reads c n (Walker who 0)) who ms (chain.Walking name 0) (Some x) call.Pop (effect.Take x ∷ []) (answer.Found st)
+        silent c (moves.reads c n (Walker who 0)) who ms (chain.Walking name 0) (Some x) call.Pop (effect.Take x ∷ []) (answer.Found st) refl
         (read_ok c who n x (Walker who 0) ok got.mine wrote (omega arith, walked_none)) refl
         (passes_reads c who n (Walker who 0) got.mine (λ other ne z. absurd (nobody (c.walks (n / BLOCK_SLOTS)) (ok.walk (n / BLOCK_SLOTS)) other z)) (λ other ne z. absurd (after_mine who other 5 ne z))) (omega arith)
         (rw (state.read ∙ ap not t) (destroying x (n / BLOCK_SLOTS) name 0 (after_read_on c who n (Walker who 0) holds) (put_same c.walks (n / BLOCK_SLOTS) (Walker who 0)) got.named))

@@ -96,7 +96,7 @@ tail_goes {A} c who ms d v spare ok none spare_is =
 pub good_push_tail : {A : Type 0} (c : Chain A) (who : ℕ) (ms : List (State A)) (d : PushKind) (v : A) (spare : Option ℕ)
     → ChainOk c → Holds c who Nothing → HasSpare c who spare → Good c c who ms (chain.PushTail d spare) (Some v) (pushes d v) [] (answer.Found (tail_word c))
 good_push_tail c who ms d v spare ok none spare_is =
-    still c who ms (chain.PushTail d spare) (Some v) (pushes d v) [] (answer.Found (tail_word c)) ok (tail_small c ok) (tail_goes c who ms d v spare ok none spare_is)
+    still c who ms (chain.PushTail d spare) (Some v) (pushes d v) [] (answer.Found (tail_word c)) refl ok (tail_small c ok) (tail_goes c who ms d v spare ok none spare_is)
 
 pub open_small : {A : Type 0} (c : Chain A) (q : ℕ) (ms : List (State A)) → SawTail c q ms → IsWord (open_tail_of q)
 open_small c q ms saw = let low = saw.below in omega arith
@@ -138,17 +138,17 @@ good_push_block {A} c who ms d v spare q ok none spare_is saw = go c.blocks refl
     go zero e =
         let empty = no_block c ok e in
         let at : q ≡ 0 = elim saw.is [ inl lt ↦ absurd (let z = empty.1 in omega arith) | inr h ↦ (let z = empty.1 in let y = h.0 in omega arith) ] in
-        still c who ms (chain.PushBlock d (open_tail_of q) spare) (Some v) (pushes d v) [] (answer.Linked None) ok (open_small c q ms saw, λ _. none_spare c who spare e spare_is)
+        still c who ms (chain.PushBlock d (open_tail_of q) spare) (Some v) (pushes d v) [] (answer.Linked None) refl ok (open_small c q ms saw, λ _. none_spare c who spare e spare_is)
         (asking d v q None none (saw_own c q ms (queue_of c) saw) at)
     go (suc b) e =
-        still c who ms (chain.PushBlock d (open_tail_of q) spare) (Some v) (pushes d v) [] (answer.Linked (Some (c.names b))) ok (open_small c q ms saw, λ z. cc) (with_block b spare spare_is e)
+        still c who ms (chain.PushBlock d (open_tail_of q) spare) (Some v) (pushes d v) [] (answer.Linked (Some (c.names b))) refl ok (open_small c q ms saw, λ z. cc) (with_block b spare spare_is e)
 
 -- U3, refused: one of the call's moments allows it
 pub good_refused : {A : Type 0} (c : Chain A) (who : ℕ) (ms : List (State A)) (d : PushKind) (v : A) (q : ℕ) (block : Option ℕ)
     → ChainOk c → Holds c who Nothing → SawTail c q ms → Asks c q block → Good c c who ms (chain.Asking d (open_tail_of q) block) (Some v) (pushes d v) [] answer.Refused
 good_refused {A} c who ms d v q block ok none saw asked =
     let y = refused_push d v in
-    still c who ms (chain.Asking d (open_tail_of q) block) (Some v) (pushes d v) [] answer.Refused ok tt
+    still c who ms (chain.Asking d (open_tail_of q) block) (Some v) (pushes d v) [] answer.Refused refl ok tt
     (none, tt, (y.0, y.1, y.2, λ e. inr (seen_map ms (λ m was. inr (y.3, (was.0, was.1, allowed block asked m was))) saw.moment)))
   where
     allowed : (block : Option ℕ) → Asks c q block → (m : State A) → WasOpenAt q m → (m.accepted ≡ 0) ⊎ (m.accepted % BLOCK_SLOTS ≡ BLOCK_SLOTS - 1)
@@ -159,7 +159,7 @@ good_refused {A} c who ms d v q block ok none saw asked =
 pub good_granted : {A : Type 0} (c : Chain A) (who : ℕ) (ms : List (State A)) (d : PushKind) (v : A) (q : ℕ) (block : Option ℕ) (f : ℕ)
     → ChainOk c → Holds c who Nothing → SawTail c q ms → Asks c q block → c.uses f ≡ Unused → Good c (renamed c f (Spare who)) who ms (chain.Asking d (open_tail_of q) block) (Some v) (pushes d v) [] (answer.Granted f)
 good_granted {A} c who ms d v q block f ok none saw asked unused =
-    silent c s who ms (chain.Asking d (open_tail_of q) block) (Some v) (pushes d v) [] (answer.Granted f) ok2 refl
+    silent c s who ms (chain.Asking d (open_tail_of q) block) (Some v) (pushes d v) [] (answer.Granted f) refl ok2 refl
     (passes_renamed c who f (Spare who) (λ other ne e. let z : Unused ≡ Spare other = sym unused ∙ e in cc) (λ other ne e. ne (let z : Spare who ≡ Spare other = e in cc))) (open_small c q ms saw) (go block asked)
   where
     s : Chain A

@@ -47,8 +47,8 @@ good_awaiting {A} c who ms x n name more st ok holds got state = go (is_wrote (c
     last t (inr e) = rw (written ∙ ap not t, e.0) (reading x n name more holds got (wrote_is (c.writers n) x got.item t) (λ l. e.1 (let o = head_offset n more in omega arith)))
 
     go : (t : Bool) → is_wrote (c.writers n) ≡ t → Good c c who ms (chain.Awaiting (head_of n more) name) None call.Pop (effect.Take x ∷ []) (answer.Found st)
-    go false t = still c who ms (chain.Awaiting (head_of n more) name) None call.Pop (effect.Take x ∷ []) (answer.Found st) ok tt (rw (written ∙ ap not t) (awaiting x n name more holds got))
-    go true t = still c who ms (chain.Awaiting (head_of n more) name) None call.Pop (effect.Take x ∷ []) (answer.Found st) ok tt (last t (eqb_tells (offset_of (head_of n more) + 1) BLOCK_SLOTS))
+    go false t = still c who ms (chain.Awaiting (head_of n more) name) None call.Pop (effect.Take x ∷ []) (answer.Found st) refl ok tt (rw (written ∙ ap not t) (awaiting x n name more holds got))
+    go true t = still c who ms (chain.Awaiting (head_of n more) name) None call.Pop (effect.Take x ∷ []) (answer.Found st) refl ok tt (last t (eqb_tells (offset_of (head_of n more) + 1) BLOCK_SLOTS))
 
 waits_is : (w : Walk) (slot : ℕ) → waits_at w slot ≡ true → w ≡ Waits slot
 waits_is Before slot e = cc
@@ -85,7 +85,7 @@ good_reading {A} c who ms x n name i st ok holds got wrote inner is state = go (
     go false t =
         let kept : WalkOk (put c.readers n Done) (n / BLOCK_SLOTS) (c.walks (n / BLOCK_SLOTS)) =
         walk_read c.readers n (n / BLOCK_SLOTS) (c.walks (n / BLOCK_SLOTS)) (λ e z. inner (omega (arith, z))) (λ j e z. not_waits (c.walks (n / BLOCK_SLOTS)) i j t e (let y = item in omega (arith, z, y))) (ok.walk (n / BLOCK_SLOTS)) in
-        silent c (moves.reads c n (c.walks (n / BLOCK_SLOTS))) who ms (chain.Reading name i) (Some x) call.Pop (effect.Take x ∷ []) (answer.Found st)
+        silent c (moves.reads c n (c.walks (n / BLOCK_SLOTS))) who ms (chain.Reading name i) (Some x) call.Pop (effect.Take x ∷ []) (answer.Found st) refl
         (read_ok c who n x (c.walks (n / BLOCK_SLOTS)) ok got.mine wrote kept) refl (passes_reads c who n (c.walks (n / BLOCK_SLOTS)) got.mine (λ other ne z. refl) (λ other ne z. z)) (let l = low in omega arith)
         (rw (tested ∙ ap not t) (after_read c who n (c.walks (n / BLOCK_SLOTS)) (λ z. let y = holds (Passed (n / BLOCK_SLOTS)) z in cc) holds, tt, (reply.Pop (Ok x), refl, refl, λ z. cc)))
     go true t =
@@ -94,7 +94,7 @@ good_reading {A} c who ms x n name i st ok holds got wrote inner is state = go (
         let keeps : (j : ℕ) → c.readers j ≡ Done → put c.readers n Done j ≡ Done = λ j. put_ok c.readers n j Done (λ k r. c.readers k ≡ Done → r ≡ Done) (λ e. refl) (λ ne e. e) in
         let next_ok : WalkOk (put c.readers n Done) (n / BLOCK_SLOTS) (walk_after who i) =
         walk_after_ok (put c.readers n Done) (n / BLOCK_SLOTS) who i low (walked_same c.readers (put c.readers n Done) (n / BLOCK_SLOTS) i keeps waiting.1) (ap (put c.readers n Done) item ∙ put_same c.readers n Done) in
-        silent c (moves.reads c n (walk_after who i)) who ms (chain.Reading name i) (Some x) call.Pop (effect.Take x ∷ []) (answer.Found st)
+        silent c (moves.reads c n (walk_after who i)) who ms (chain.Reading name i) (Some x) call.Pop (effect.Take x ∷ []) (answer.Found st) refl
         (read_ok c who n x (walk_after who i) ok got.mine wrote next_ok) refl
         (passes_reads c who n (walk_after who i) got.mine (λ other ne z. let y : None ≡ Some other = ap walker_of (sym at) ∙ z in cc) (λ other ne z. absurd (after_mine who other i ne z))) (let l = low in omega arith)
         (rw (tested ∙ ap not t) (on_goes (moves.reads c n (walk_after who i)) who (queue_of c ∷ ms) x (n / BLOCK_SLOTS) name i low got.named (put_same c.walks (n / BLOCK_SLOTS) (walk_after who i))

@@ -19,7 +19,7 @@ use Rattle.chain_laws.proofs.ChainPasses.{Passes}
 use Rattle.chain_laws.proofs.ChainFacts.{SeenIn}
 use Rattle.chain_laws.proofs.ChainAt.{At}
 use Rattle.chain_laws.proofs.ChainAnswers.{Answers}
-use Rattle.chain_laws.proofs.ChainGood.{Allows, GivesUp, Goes, Makes, with_effect}
+use Rattle.chain_laws.proofs.ChainGood.{Allows, GivesUp, Goes, IsEffect, Makes, with_effect}
 use Rattle.chain_laws.proofs.ChainStep.{chain_of, carried_of, after_of, step_good}
 use Rattle.chain_laws.proofs.ChainGiven.{spare_in, Spares, given_up, given_ok, passes_given, makes_given, holds_given}
 use Rattle.chain_laws.proofs.ChainSpares.{SparesAfter, step_spares}
@@ -42,6 +42,7 @@ Ends {A} s who ms (next.Reply x spare) v k es = Holds s who Nothing × Spares s 
 -- the step that got this answer leads from the chain c to r, and a block given up with it from there: it is a step of the queue
 pub record Right {A : Type 0} (c r : Chain A) (who : ℕ) (ms : List (State A)) (l : UnboundedLocal ℕ) (v : Option A) (k : Call A) (es : List (Effect A)) (a : Answer ℕ) : Type 0 where
   pub e : Option (Effect A)
+  pub told : IsEffect l a e
   pub goes_on : FitsChain l a
   pub gives : Gives r who (unbounded_next l a)
   pub ok : ChainOk (left_by r (unbounded_next l a))
@@ -82,6 +83,7 @@ step_right {c = c} {who = who} {ms = ms} {l = l} {k = k} {es = es} at a ok found
     let gives = goes_gives r who (queue_of r ∷ ms) n v k (with_effect es good.e) good.goes in
     record {
       e = good.e;
+      told = good.told;
       goes_on = good.goes_on;
       gives = gives;
       ok = left_ok r n good.ok;

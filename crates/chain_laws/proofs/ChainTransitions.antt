@@ -114,8 +114,8 @@ name_more {A} c who f ok spare b lt =
 named_more : {A : Type 0} (c : Chain A) (f : ℕ) → ChainOk c → (g b : ℕ) → put c.uses f (Chained c.blocks) g ≡ Chained b → (b < c.blocks + 1) × (put c.names c.blocks f b ≡ g)
 named_more c f ok g b =
     put_ok c.uses f g (Chained c.blocks) (λ j u. u ≡ Chained b → (b < c.blocks + 1) × (put c.names c.blocks f b ≡ j))
-        (λ e. let at : b ≡ c.blocks = cc in (omega arith, rw at (put_same c.names c.blocks f)))
-        (λ ne e. let h = ok.named g b e in let low = h.0 in (omega arith, put_other c.names c.blocks b f (λ z. omega arith) ∙ h.1))
+    (λ e. let at : b ≡ c.blocks = cc in (omega arith, rw at (put_same c.names c.blocks f)))
+    (λ ne e. let h = ok.named g b e in let low = h.0 in (omega arith, put_other c.names c.blocks b f (λ z. omega arith) ∙ h.1))
 
 link_more : (blocks b : ℕ) (l : Link) → b + 1 ≢ blocks → LinkOk blocks b l → LinkOk (blocks + 1) b l
 link_more blocks b Unlinked ne h = omega arith

@@ -80,9 +80,9 @@ good_walking {A} c who ms x b name slot st ok holds is named state = go (is_done
     go : (t : Bool) → is_done (c.readers (item_at b slot)) ≡ t → Good c (if t then moves.walked c b (walk_after who slot) else c) who ms (chain.Walking name slot) (Some x) call.Pop (effect.Take x ∷ []) (answer.Found st)
     go true e =
         let p = passes_slot c who (queue_of c ∷ ms) x b name slot ok holds is named (done_is (c.readers (item_at b slot)) e) in
-        silent c (moves.walked c b (walk_after who slot)) who ms (chain.Walking name slot) (Some x) call.Pop (effect.Take x ∷ []) (answer.Found st) p.0 refl
+        silent c (moves.walked c b (walk_after who slot)) who ms (chain.Walking name slot) (Some x) call.Pop (effect.Take x ∷ []) (answer.Found st) refl p.0 refl
         (passes_walked c who b (walk_after who slot) (walks_mine c who b slot is) (λ other ne. after_mine who other slot ne)) low (rw (state.read ∙ ap not e) p.1)
-    go false e = still c who ms (chain.Walking name slot) (Some x) call.Pop (effect.Take x ∷ []) (answer.Found st) ok low (rw (state.read ∙ ap not e) (destroying x b name slot holds is named))
+    go false e = still c who ms (chain.Walking name slot) (Some x) call.Pop (effect.Take x ∷ []) (answer.Found st) refl ok low (rw (state.read ∙ ap not e) (destroying x b name slot holds is named))
 
 -- W2
 pub good_destroying : {A : Type 0} (c : Chain A) (who : ℕ) (ms : List (State A)) (x : A) (b name slot st : ℕ)
@@ -96,11 +96,11 @@ good_destroying {A} c who ms x b name slot st ok holds is named state = go (is_d
     go : (t : Bool) → is_done (c.readers (item_at b slot)) ≡ t → Good c (moves.walked c b (if t then walk_after who slot else Waits slot)) who ms (chain.Destroying name slot) (Some x) call.Pop (effect.Take x ∷ []) (answer.Found st)
     go true e =
         let p = passes_slot c who (queue_of c ∷ ms) x b name slot ok holds is named (done_is (c.readers (item_at b slot)) e) in
-        silent c (moves.walked c b (walk_after who slot)) who ms (chain.Destroying name slot) (Some x) call.Pop (effect.Take x ∷ []) (answer.Found st) p.0 refl
+        silent c (moves.walked c b (walk_after who slot)) who ms (chain.Destroying name slot) (Some x) call.Pop (effect.Take x ∷ []) (answer.Found st) refl p.0 refl
         (passes_walked c who b (walk_after who slot) (walks_mine c who b slot is) (λ other ne. after_mine who other slot ne)) low (rw (state.read ∙ ap not e) p.1)
     go false e =
         let at = walker_ok c who b slot ok is in
-        silent c (moves.walked c b (Waits slot)) who ms (chain.Destroying name slot) (Some x) call.Pop (effect.Take x ∷ []) (answer.Found st)
+        silent c (moves.walked c b (Waits slot)) who ms (chain.Destroying name slot) (Some x) call.Pop (effect.Take x ∷ []) (answer.Found st) refl
         (walk_ok c b (Waits slot) ok (at.0, at.1, undone (c.readers (item_at b slot)) e)) refl
         (passes_walked c who b (Waits slot) (walks_mine c who b slot is) (λ other ne z. let y : None ≡ Some other = z in cc)) low
         (rw (state.read ∙ ap not e) (after_walk c who b (Waits slot) (λ z. let y : None ≡ Some who = z in cc) holds, tt, (reply.Pop (Ok x), refl, refl, λ z. cc)))
