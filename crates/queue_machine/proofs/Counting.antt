@@ -1,65 +1,116 @@
--- How few steps a call in progress has before it: at most so many while it is alone, and two if it is prompt.
-use Rattle.std.proofs.Common.{◌≡◌, ◌≢◌, ℕ, ◌+◌, ◌<◌, ◌≤◌, true, List, inl, inr, refl, arith}
-use Rattle.std.proofs.lemmas.Bool.Decides.{eqb_tells}
-use Rattle.queue_steps.specs.declared.sizes.TheConstants.{LONE_STEPS}
-use Rattle.queue_steps.specs.Kinds.{call_kind}
-use Rattle.queue_steps.specs.Prompt.{IsPrompt}
+-- How many items a run accepted and how many are left: what is told of the events fixes both.
+use Rattle.std.proofs.Common.{◌≡◌, ◌∙◌, ℕ, ◌+◌, ◌-◌, Option, Some, None, List, [], ◌∷◌, length, refl, sym, ap, arith, length-append}
 use Rattle.queue_steps.specs.State.{State}
-use Rattle.queue_steps.specs.declared.model.Call.{Call}
-use Rattle.queue_steps.specs.declared.model.Call.TheVariants as call
+use Rattle.queue_steps.specs.Effect.{Fits, made, rest, with_coming}
+use Rattle.queue_steps.specs.Sole.{blocks_of, spanned}
 use Rattle.queue_steps.specs.declared.model.Effect.{Effect}
-use Rattle.queue_machine.specs.Book.{Open, IsBegun, Stays, after_own, begun, is_prompt, joined, watched}
+use Rattle.queue_steps.specs.declared.model.Effect.TheVariants as effect
+use Rattle.queue_machine.specs.declared.types.EffectKind.{EffectKind}
+use Rattle.queue_machine.specs.declared.types.EffectKind.TheVariants as kind
+use Rattle.queue_machine.specs.declared.types.Event.{Event}
+use Rattle.queue_machine.specs.declared.types.Event.TheVariants.{Begin, Step}
+use Rattle.queue_machine.specs.declared.types.Told.{Told}
+use Rattle.queue_machine.specs.declared.types.Told.TheVariants.{Skipped, Ran}
+use Rattle.queue_machine.specs.Book.{Book, Open, Moves, Happens, Run, kind_of, opening}
+use Rattle.queue_machine.proofs.Growing.{run-cap}
 
--- the call has n steps before it, and with those that it took alone no more than most, which bounds every call; a prompt one has two in all
-pub record Counted {T : Type 0} (busy : ℕ) (o : Open T) (n most : ℕ) : Type 0 where
-  pub low : n ≤ most
-  pub lone : busy ≡ 1 → o.alone + n ≤ most
-  pub crowd : busy ≢ 1 → o.alone ≡ 0
-  pub prompt : is_prompt o.call ≡ true → o.steps + n ≤ 2
+-- how many items are accepted, and how many are there, after an effect of this kind
+abbrev accepted_by : EffectKind → ℕ → ℕ
+accepted_by kind.Append n = n + 1
+accepted_by kind.Take n = n
+accepted_by kind.Replace n = n + 1
+accepted_by kind.Front n = n
+accepted_by kind.Arrive n = n + 1
+accepted_by kind.Close n = n
+accepted_by kind.SelfClose n = n
 
--- a call just begun
-pub counted_begun : {T : Type 0} (busy : ℕ) (k : Call T) (n most : ℕ) → n ≤ most → (is_prompt k ≡ true → n ≤ 2) → Counted busy (begun k) n most
-counted_begun busy k n most low prompt = record { low = low; lone = λ e. omega (arith, low); crowd = λ e. refl; prompt = λ e. let two = prompt e in omega arith }
+abbrev length_by : EffectKind → ℕ → ℕ
+length_by kind.Append n = n + 1
+length_by kind.Take n = n - 1
+length_by kind.Replace n = n
+length_by kind.Front n = n - 1
+length_by kind.Arrive n = n + 1
+length_by kind.Close n = n
+length_by kind.SelfClose n = n
 
--- a call in progress where another begins
-pub counted_joined : {T : Type 0} (busy busy' : ℕ) (o : Open T) (n most : ℕ) → Counted busy o n most → Counted busy' (joined o) n most
-counted_joined busy busy' o n most c = record { low = c.low; lone = λ e. let low = c.low in omega arith; crowd = λ e. refl; prompt = c.prompt }
+length-rest : {T : Type 0} (xs : List T) → length (rest xs) ≡ length xs - 1
+length-rest [] = refl
+length-rest (x ∷ xs) = omega arith
 
--- after a step of another party, which may make what the call has read another word
-pub counted_watched : {T : Type 0} (busy busy' : ℕ) (Q : State T) (o : Open T) (n m most : ℕ) → busy ≢ 1 → m ≤ most → (is_prompt o.call ≡ true → m ≤ n) → Counted busy o n most → Counted busy' (watched Q o) m most
-counted_watched busy busy' Q o n m most many low same c = record {
-  low = low;
-  lone = λ e. let zero = c.crowd many in omega arith;
-  crowd = λ e. c.crowd many;
-  prompt = λ e. let old = c.prompt e in let less = same e in omega arith;
-}
+made-accepted : {T : Type 0} (e : Effect T) (Q : State T) → (made e Q).accepted ≡ accepted_by (kind_of e) Q.accepted
+made-accepted (effect.Append v) Q = refl
+made-accepted (effect.Take v) Q = refl
+made-accepted (effect.Replace old v) Q = refl
+made-accepted (effect.Front old v) Q = refl
+made-accepted effect.Arrive Q = refl
+made-accepted effect.Close Q = refl
+made-accepted effect.SelfClose Q = refl
 
--- after its own step: it has fewer steps before it where it is alone, and where it is prompt
-pub counted_own : {T : Type 0} (busy : ℕ) (o : Open T) (Q : State T) (es : List (Effect T)) (n m most : ℕ) → m ≤ most → (busy ≡ 1 → m < n) → (is_prompt o.call ≡ true → m < n)
-    → Counted busy o n most → Counted busy (after_own busy o Q es) m most
-counted_own {T} busy o Q es n m most low falls hurry c = record {
-  low = low;
-  lone = λ e. elim (eqb_tells busy 1) [ inl t ↦ rw t.0 (let old = c.lone e in let less = falls e in omega arith) | inr f ↦ absurd (f.1 e) ];
-  crowd = λ ne. elim (eqb_tells busy 1) [ inl t ↦ absurd (ne t.1) | inr f ↦ rw f.0 refl ];
-  prompt = λ e. let old = c.prompt e in let less = hurry e in omega arith;
-}
+made-length : {T : Type 0} (e : Effect T) (Q : State T) → Fits e Q → length (made e Q).items ≡ length_by (kind_of e) (length Q.items)
+made-length (effect.Append v) Q fits = omega (arith, length-append Q.items (v ∷ []))
+made-length (effect.Take v) Q fits = length-rest Q.items
+made-length (effect.Replace old v) Q fits = sym (ap length fits.2)
+made-length (effect.Front old v) Q fits = length-rest Q.items
+made-length effect.Arrive Q fits = ap (λ o. length (with_coming Q.items o)) fits.1 ∙ (omega (arith, length-append Q.items (fits.0 ∷ [])))
+made-length effect.Close Q fits = refl
+made-length effect.SelfClose Q fits = refl
 
--- a call that has a step before it goes on
-pub counted_stays : {T : Type 0} (busy : ℕ) (o : Open T) (n most : ℕ) → most < LONE_STEPS → 0 < n → IsBegun o.call o.effects → Counted busy o n most → Stays o
-counted_stays busy o n most small some begins c = record {
-  is_begun = begins;
-  lone = elim (eqb_tells busy 1) [ inl t ↦ (let old = c.lone t.1 in omega arith) | inr f ↦ (let zero = c.crowd f.1 in omega arith) ];
-  prompt = λ e. let old = c.prompt e in omega arith;
-}
+-- the same after what is told of an event, and of events
+abbrev counts_if : (EffectKind → ℕ → ℕ) → Option EffectKind → ℕ → ℕ
+counts_if f None n = n
+counts_if f (Some k) n = f k n
 
--- the two words for a prompt call
-pub prompt_kind : {T : Type 0} (k : Call T) → is_prompt k ≡ true → IsPrompt (call_kind k)
-prompt_kind (call.Push v) e = cc
-prompt_kind (call.ForcePush v) e = cc
-prompt_kind call.Pop e = cc
-prompt_kind call.Close e = tt
-prompt_kind call.IsClosed e = tt
-prompt_kind call.IsEmpty e = tt
-prompt_kind call.IsFull e = tt
-prompt_kind call.Len e = cc
-prompt_kind call.Capacity e = cc
+abbrev counts_told : {T : Type 0} → (EffectKind → ℕ → ℕ) → Told T → ℕ → ℕ
+counts_told f Skipped n = n
+counts_told f (Ran k r) n = counts_if f k n
+
+abbrev counts_all : {T : Type 0} → (EffectKind → ℕ → ℕ) → List (Told T) → ℕ → ℕ
+counts_all f [] n = n
+counts_all f (t ∷ ts) n = counts_all f ts (counts_told f t n)
+
+moves-accepted : {T : Type 0} (Q : State T) (o : Open T) (k : Option EffectKind) (R : State T) (es : List (Effect T)) → Moves Q o k R es → R.accepted ≡ counts_if accepted_by k Q.accepted
+moves-accepted Q o None R es m = ap (λ q. q.accepted) m.0
+moves-accepted Q o (Some k) R es m = ap (λ q. q.accepted) m.4 ∙ made-accepted m.0 Q ∙ ap (λ j. accepted_by j Q.accepted) m.1
+
+moves-length : {T : Type 0} (Q : State T) (o : Open T) (k : Option EffectKind) (R : State T) (es : List (Effect T)) → Moves Q o k R es → length R.items ≡ counts_if length_by k (length Q.items)
+moves-length Q o None R es m = ap (λ q. length q.items) m.0
+moves-length Q o (Some k) R es m = ap (λ q. length q.items) m.4 ∙ made-length m.0 Q m.3 ∙ ap (λ j. length_by j (length Q.items)) m.1
+
+happens-accepted : {T : Type 0} (cap : Option ℕ) (parties : ℕ) (b : Book T) (e : Event T) (t : Told T) (c : Book T) → Happens cap parties b e t c → c.queue.accepted ≡ counts_told accepted_by t b.queue.accepted
+happens-accepted cap parties b e Skipped c h = ap (λ x. x.queue.accepted) h.1
+happens-accepted cap parties b (Begin p k) (Ran None None) c h = ap (λ x. x.queue.accepted) h.2
+happens-accepted cap parties b (Begin p k) (Ran None (Some r)) c h = ap (λ x. x.queue.accepted) h.3
+happens-accepted cap parties b (Begin p k) (Ran (Some x) r) c h = absurd h
+happens-accepted cap parties b (Step p granted) (Ran k r) c h = moves-accepted b.queue h.1.o k c.queue h.1.effects h.1.moves
+
+happens-length : {T : Type 0} (cap : Option ℕ) (parties : ℕ) (b : Book T) (e : Event T) (t : Told T) (c : Book T) → Happens cap parties b e t c → length c.queue.items ≡ counts_told length_by t (length b.queue.items)
+happens-length cap parties b e Skipped c h = ap (λ x. length x.queue.items) h.1
+happens-length cap parties b (Begin p k) (Ran None None) c h = ap (λ x. length x.queue.items) h.2
+happens-length cap parties b (Begin p k) (Ran None (Some r)) c h = ap (λ x. length x.queue.items) h.3
+happens-length cap parties b (Begin p k) (Ran (Some x) r) c h = absurd h
+happens-length cap parties b (Step p granted) (Ran k r) c h = moves-length b.queue h.1.o k c.queue h.1.effects h.1.moves
+
+run-accepted : {T : Type 0} (cap : Option ℕ) (parties : ℕ) (b : Book T) (es : List (Event T)) (ts : List (Told T)) (c : Book T) → Run cap parties b es ts c → c.queue.accepted ≡ counts_all accepted_by ts b.queue.accepted
+run-accepted cap parties b [] [] c run = ap (λ x. x.queue.accepted) run
+run-accepted cap parties b (e ∷ es) (t ∷ ts) c run = run-accepted cap parties run.0 es ts c run.2 ∙ ap (counts_all accepted_by ts) (happens-accepted cap parties b e t run.0 run.1)
+run-accepted cap parties b [] (t ∷ ts) c run = absurd run
+run-accepted cap parties b (e ∷ es) [] c run = absurd run
+
+run-length : {T : Type 0} (cap : Option ℕ) (parties : ℕ) (b : Book T) (es : List (Event T)) (ts : List (Told T)) (c : Book T) → Run cap parties b es ts c → length c.queue.items ≡ counts_all length_by ts (length b.queue.items)
+run-length cap parties b [] [] c run = ap (λ x. length x.queue.items) run
+run-length cap parties b (e ∷ es) (t ∷ ts) c run = run-length cap parties run.0 es ts c run.2 ∙ ap (counts_all length_by ts) (happens-length cap parties b e t run.0 run.1)
+run-length cap parties b [] (t ∷ ts) c run = absurd run
+run-length cap parties b (e ∷ es) [] c run = absurd run
+
+-- so two runs of which the same is told end with as many accepted items, and span as many blocks
+pub same-accepted : {T : Type 0} (cap : Option ℕ) (parties : ℕ) (es ds : List (Event T)) (ts : List (Told T)) (c d : Book T)
+    → Run cap parties (opening cap) es ts c → Run cap parties (opening cap) ds ts d → c.queue.accepted ≡ d.queue.accepted
+same-accepted cap parties es ds ts c d run other = run-accepted cap parties (opening cap) es ts c run ∙ sym (run-accepted cap parties (opening cap) ds ts d other)
+
+pub same-blocks : {T : Type 0} (cap : Option ℕ) (parties : ℕ) (es ds : List (Event T)) (ts : List (Told T)) (c d : Book T)
+    → Run cap parties (opening cap) es ts c → Run cap parties (opening cap) ds ts d → blocks_of c.queue ≡ blocks_of d.queue
+same-blocks cap parties es ds ts c d run other =
+    let a = same-accepted cap parties es ds ts c d run other in
+    let n = run-length cap parties (opening cap) es ts c run ∙ sym (run-length cap parties (opening cap) ds ts d other) in
+    let k = run-cap cap parties (opening cap) es ts c run ∙ sym (run-cap cap parties (opening cap) ds ts d other) in
+    ap (λ o. spanned o c.queue.accepted (length c.queue.items)) k ∙ ap (λ m. spanned d.queue.cap m (length c.queue.items)) a ∙ ap (spanned d.queue.cap d.queue.accepted) n

@@ -1,7 +1,9 @@
 pub mod Busy
-pub mod Counting
+pub mod FewSteps
 pub mod Engine
 pub mod KindLaws
+pub mod Counted
+pub mod Plain
 pub mod Settled
 pub mod SingleRows
 pub mod SingleSteps
@@ -26,6 +28,9 @@ pub mod RingLeft
 pub mod RingKind
 pub mod Gathering
 pub mod Growing
+pub mod Handling
+pub mod Counting
+pub mod Peaking
 pub mod SoFar
 pub mod AllKinds
 pub mod OwnerRows

@@ -12,7 +12,7 @@ use Rattle.queue_machine.specs.Conforms.{capacity_of, party_of, entries_from, re
 use Rattle.queue_machine.specs.Left.{left_of, opening_world}
 use Rattle.queue_machine.specs.Machine.{event_of}
 use Rattle.queue_machine.specs.World.{World, call_at}
-use Rattle.queue_machine.proofs.Busy.{busy_of}
+use Rattle.queue_machine.specs.Present.{present}
 use Rattle.queue_machine.proofs.Engine as engine
 use Rattle.queue_machine.proofs.KindLaws.{KindLaws, SimulatesOf}
 use Rattle.queue_machine.proofs.Growing.{run-grows, run-cap}
@@ -63,7 +63,7 @@ length_replicate : {X : Type 0} (n : ℕ) (x : X) → length (replicate n x) ≡
 length_replicate zero x = refl
 length_replicate (suc n) x = ap suc (length_replicate n x)
 
-none_are_busy : (X : Type 0) (n : ℕ) → busy_of {X = X} (replicate n None) ≡ 0
+none_are_busy : (X : Type 0) (n : ℕ) → present {X = X} (replicate n None) ≡ 0
 none_are_busy X zero = refl
 none_are_busy X (suc n) = none_are_busy X n
 

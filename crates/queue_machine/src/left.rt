@@ -119,6 +119,9 @@ pub(crate) fn left<T: Drop, A: Allocator>(machine: Machine<T, A>, left: Vec<T, A
         tail,
         stamps: _,
         slots,
+        head_block: _,
+        tail_block: _,
+        blocks: _,
     } = cells;
     list(kind, lock, head, tail, settle(calls, slots), left)
 }

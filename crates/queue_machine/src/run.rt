@@ -104,11 +104,11 @@ pub fn replay<T: Drop, A: Allocator + Copy>(
     let count = events.len();
     let mut lists = Lists::new(alloc, count)?;
     let room = Vec::with_capacity(alloc, count)?;
-    let mut machine = Machine::new(alloc, kind, parties)?;
+    let mut machine = Machine::new(alloc, kind, parties, count)?;
     let mut number = 0;
     for event in events {
         let party = party(&event);
-        let told = machine.handle(event);
+        let told = machine.handle(alloc, event);
         lists.note(number, count, party, told);
         number += 1;
     }
