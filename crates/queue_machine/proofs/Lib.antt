@@ -2,6 +2,7 @@ pub mod Busy
 pub mod FewSteps
 pub mod Engine
 pub mod KindLaws
+pub mod ChainMoments
 pub mod Counted
 pub mod Plain
 pub mod Settled
