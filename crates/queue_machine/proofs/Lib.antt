@@ -3,6 +3,7 @@ pub mod FewSteps
 pub mod Engine
 pub mod KindLaws
 pub mod ChainMoments
+pub mod ChainFits
 pub mod Counted
 pub mod Plain
 pub mod Settled
