@@ -1,7 +1,7 @@
 -- How many of the first numbers have a property, and that a map with a way back leads to as many.
-use Rattle.std.proofs.Common.{ℕ, ◌+◌, ◌-◌, ◌<◌, ◌≤◌, ◌≡◌, ◌≢◌, ◌∙◌, ◌⊎◌, inl, inr, zero, suc, Bool, true, false, if◌then◌else◌, refl, sym, ap, arith}
+use Rattle.std.proofs.Common.{ℕ, ◌+◌, ◌<◌, ◌≤◌, ◌≡◌, ◌∙◌, ◌⊎◌, inl, inr, zero, suc, Bool, true, false, refl, sym, ap, arith}
 use Rattle.std.proofs.lemmas.Bool.Decides.{eqb_tells}
-use Rattle.chain_laws.proofs.ChainCells.{put, put_ok, put_same, put_other}
+use Rattle.chain_laws.proofs.ChainCells.{put, put_same, put_other}
 
 abbrev pub one_if : Bool → ℕ
 one_if true = 1
@@ -33,12 +33,12 @@ count_less : (Q : ℕ → Bool) (i n : ℕ) → i < n → Q i ≡ true → count
 count_less Q i zero lt is = absurd (omega arith)
 count_less Q i (suc n) lt is = elim (eqb_tells i n) [
   | inl e ↦ let before = count_same Q (put Q i false) n (λ j less. sym (put_other Q i j false (λ z. let y = e.1 in omega arith))) in
-  let here : one_if (Q n) ≡ 1 = ap one_if (ap Q (sym e.1) ∙ is) in
-  let gone : one_if (put Q i false n) ≡ 0 = ap one_if (ap (put Q i false) (sym e.1) ∙ put_same Q i false) in
-  omega arith
+      let here : one_if (Q n) ≡ 1 = ap one_if (ap Q (sym e.1) ∙ is) in
+      let gone : one_if (put Q i false n) ≡ 0 = ap one_if (ap (put Q i false) (sym e.1) ∙ put_same Q i false) in
+      omega arith
   | inr e ↦ let before = count_less Q i n (let ne = e.1 in omega arith) is in
-  let here : one_if (put Q i false n) ≡ one_if (Q n) = ap one_if (put_other Q i n false (λ z. e.1 (sym z))) in
-  omega arith
+      let here : one_if (put Q i false n) ≡ one_if (Q n) = ap one_if (put_other Q i n false (λ z. e.1 (sym z))) in
+      omega arith
 ]
 
 -- there are no more of these numbers than of those that they lead to, where a way leads back
@@ -46,14 +46,14 @@ pub count_into : (P Q : ℕ → Bool) (n m : ℕ) (to from : ℕ → ℕ) → ((
 count_into P Q zero m to from h = omega arith
 count_into P Q (suc n) m to from h = elim (P n) as (λ b. P n ≡ b → count P n + one_if b ≤ count Q m) [
   | true ↦ λ e. let here = h n (omega arith) e in
-  let others = count_into P (put Q (to n) false) n m to from (λ j lt is.
-  let there = h j (omega arith) is in (
-    there.0,
-    put_other Q (to n) (to j) false (λ z. let y : j ≡ n = sym there.2 ∙ (ap from z ∙ here.2) in absurd (omega arith)) ∙ there.1,
-    there.2,
-  )) in
-  let one = count_less Q (to n) m here.0 here.1 in
-  omega arith
+      let others = count_into P (put Q (to n) false) n m to from (λ j lt is.
+      let there = h j (omega arith) is in (
+        there.0,
+        put_other Q (to n) (to j) false (λ z. let y : j ≡ n = sym there.2 ∙ (ap from z ∙ here.2) in absurd (omega arith)) ∙ there.1,
+        there.2,
+      )) in
+      let one = count_less Q (to n) m here.0 here.1 in
+      omega arith
   | false ↦ λ e. let others = count_into P Q n m to from (λ j lt is. h j (omega arith) is) in omega arith
 ] refl
 

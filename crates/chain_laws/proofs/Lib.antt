@@ -32,3 +32,7 @@ pub mod ChainGiven
 pub mod ChainSpares
 pub mod ChainRight
 pub mod Count
+pub mod ChainHands
+pub mod ChainCount
+pub mod ChainSpan
+pub mod ChainFirst
