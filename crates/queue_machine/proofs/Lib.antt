@@ -40,7 +40,6 @@ pub mod ChainHolding
 pub mod Gathering
 pub mod Growing
 pub mod Handling
-pub mod OwnSteps
 pub mod Peaking
 pub mod SoFar
 pub mod AllKinds
