@@ -68,8 +68,8 @@ falls_left r (next.Reply x spare) m h = tt
 pub chain_goes : {A : Type 0} (Stands : Shared A → State A → Chain A → Type 0) (busy : ℕ) (s t : Shared A) (Q : State A) (g : Chain A) (p : ℕ) (x : Running A) (o : Open A) (a : Answer ℕ)
     → (ok : ChainOk g) (found : Answers g x.op a) (f : ChainFits busy s Q g p x o) → (busy ≡ 1 → (j : ℕ) → j ≢ p → ChainIdle g j)
     → ChainGoes A Stands busy t (queue_of (left_by (after_of f.here a) (unbounded_next (chain_of x.local) a))) (left_by (after_of f.here a) (unbounded_next (chain_of x.local) a)) p
-        (after_own busy o (queue_of (left_by (after_of f.here a) (unbounded_next (chain_of x.local) a))) (with_effect o.effects (step_right f.here a ok found f.spares).e))
-        (running_after (unbounded_next (chain_of x.local) a) (carried_of f.here)) (reply_after (unbounded_next (chain_of x.local) a) (carried_of f.here))
+    (after_own busy o (queue_of (left_by (after_of f.here a) (unbounded_next (chain_of x.local) a))) (with_effect o.effects (step_right f.here a ok found f.spares).e))
+    (running_after (unbounded_next (chain_of x.local) a) (carried_of f.here)) (reply_after (unbounded_next (chain_of x.local) a) (carried_of f.here))
 chain_goes {A} Stands busy s t Q g p x o a ok found f quiet =
     let right = step_right f.here a ok found f.spares in
     let r = after_of f.here a in

@@ -2,8 +2,6 @@ pub mod Busy
 pub mod FewSteps
 pub mod Engine
 pub mod KindLaws
-pub mod ChainMoments
-pub mod ChainFits
 pub mod Counted
 pub mod Plain
 pub mod Settled
@@ -37,9 +35,13 @@ pub mod ChainCodesPop
 pub mod ChainCodesAt
 pub mod ChainCodesWalk
 pub mod ChainHolding
+pub mod ChainMoments
+pub mod ChainFits
+pub mod ChainLaws
 pub mod Gathering
 pub mod Growing
 pub mod Handling
+pub mod Counting
 pub mod Peaking
 pub mod SoFar
 pub mod AllKinds
