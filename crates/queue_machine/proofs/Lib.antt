@@ -38,6 +38,7 @@ pub mod ChainHolding
 pub mod ChainMoments
 pub mod ChainFits
 pub mod ChainLaws
+pub mod ChainOpening
 pub mod Gathering
 pub mod Growing
 pub mod Handling
