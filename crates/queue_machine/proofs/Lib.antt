@@ -35,6 +35,7 @@ pub mod ChainCodesPop
 pub mod ChainCodesAt
 pub mod ChainCodesWalk
 pub mod ChainHolding
+pub mod ChainCounted
 pub mod Gathering
 pub mod Growing
 pub mod Handling
