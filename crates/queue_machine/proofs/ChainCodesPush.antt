@@ -45,9 +45,12 @@ codes_granted {A} {c = c} {blocks = blocks} who codes = record {
       (λ ne. elim (lt_or_ge f (length blocks)) [
     | inl lt ↦ subst (λ y. NameIs (renamed c (length blocks) (Spare who)) f (c.uses f) y) (sym (get_or_append_left blocks (Some fresh_block ∷ []) None f lt))
         (name_kept c (renamed c (length blocks) (Spare who)) f (c.uses f) (get_or blocks f None) (λ b named. (named, keeps_all c (renamed c (length blocks) (Spare who)) b refl refl refl refl)) (codes.name f))
-    | inr ge ↦ subst (λ u. NameIs (renamed c (length blocks) (Spare who)) f u (get_or (blocks ++ Some fresh_block ∷ []) f None)) (sym (codes.unused f ge)) tt
+    | inr ge ↦ subst (λ u. NameIs (renamed c (length blocks) (Spare who)) f u (get_or (blocks ++ Some fresh_block ∷ []) f None)) (sym (codes.unused f ge)) (past f ne ge)
   ]);
 }
+  where
+    past : (f : ℕ) → f ≢ length blocks → length blocks ≤ f → get_or (blocks ++ Some fresh_block ∷ []) f None ≡ None
+    past f ne ge = get_or_past (blocks ++ Some fresh_block ∷ []) f None (let n = length-append blocks (Some (fresh_block {T = A}) ∷ []) in omega arith)
 
 -- the name of a block that is there is another than that of a spare, and of the next block
 more_names : {A : Type 0} (c : Chain A) (f b g : ℕ) → IsNamed c b g → (b < c.blocks + 1) × (g ≡ put c.names c.blocks f b)

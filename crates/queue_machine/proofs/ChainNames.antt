@@ -18,7 +18,7 @@ HeldIs c b y = ((c.walks b ≡ GivenUp) × (y ≡ None)) ⊎ ((c.walks b ≢ Giv
 
 -- what stands under a name that is for this
 abbrev pub NameIs : {A : Type 0} → Chain A → ℕ → Use → Option (Block A) → Type 0
-NameIs c f Unused y = Unit {0}
+NameIs c f Unused y = y ≡ None
 NameIs c f (Spare who) y = y ≡ Some fresh_block
 NameIs c f (Chained b) y = IsNamed c b f × HeldIs c b y
 NameIs c f Lost y = y ≡ None
@@ -49,7 +49,7 @@ held_kept c s b y keeps (inr h) = inr ((λ e. h.0 (keeps.on e)), alive_kept c s 
 
 -- a name that is for the same
 pub name_kept : {A : Type 0} (c s : Chain A) (f : ℕ) (u : Use) (y : Option (Block A)) → ((b : ℕ) → IsNamed c b f → IsNamed s b f × Keeps c s b) → NameIs c f u y → NameIs s f u y
-name_kept c s f Unused y keeps h = tt
+name_kept c s f Unused y keeps h = h
 name_kept c s f (Spare who) y keeps h = h
 name_kept c s f (Chained b) y keeps h = let k = keeps b h.0 in (k.0, held_kept c s b y k.1 h.1)
 name_kept c s f Lost y keeps h = h
