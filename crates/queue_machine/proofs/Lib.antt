@@ -1,5 +1,5 @@
 pub mod Busy
-pub mod Counting
+pub mod FewSteps
 pub mod Engine
 pub mod KindLaws
 pub mod Counted
@@ -41,10 +41,18 @@ pub mod ChainCoded
 pub mod ChainCodedPush
 pub mod ChainCodedPop
 pub mod ChainCodedRead
+pub mod ChainCodedAll
+pub mod ChainMoments
+pub mod ChainFits
+pub mod ChainLaws
+pub mod ChainStands
+pub mod ChainOpening
+pub mod ChainCounted
+pub mod ChainKind
 pub mod Gathering
 pub mod Growing
 pub mod Handling
-pub mod OwnSteps
+pub mod Counting
 pub mod Peaking
 pub mod SoFar
 pub mod AllKinds
