@@ -50,6 +50,7 @@ pub mod ChainOpening
 pub mod ChainCounted
 pub mod ChainKind
 pub mod Gathering
+pub mod ChainGathering
 pub mod Growing
 pub mod Handling
 pub mod Counting
