@@ -106,8 +106,7 @@ unread_got c n who is e = let z : Reading who ≡ Done = sym is ∙ e in cc
 link_answers : {A : Type 0} {c : Chain A} (s : Shared A) (b name : ℕ) → ChainOk c → IsNamed c b name → c.walks b ≢ GivenUp → Stands s c
     → IsSome (block_of s.blocks name) × ((i : ℕ) → IsNamed c i name → answer.Linked (behind s.blocks name) ≡ answer.Linked (linked_of (c.links i) (c.names (i + 1))))
 link_answers {c = c} s b name right named on codes =
-    let x = block_at b name right named on codes in
-    (
+    let x = block_at b name right named on codes in (
       subst (λ y. IsSome y) (sym x.1) refl,
       λ i other. ap (λ y. answer.Linked (behind_in y)) x.1 ∙ ap (λ y. answer.Linked y) (x.2.linked ∙ ap (λ j. linked_of (c.links j) (c.names (j + 1))) (sym (one_block c b i name right named other))),
     )

@@ -70,16 +70,16 @@ block_put {A} c s b i x places next is low same here lies_here links = record {
   wide = length-set places i x ∙ is.wide;
   state = λ j lt unread. elim (eqb_tells j i) [
     | inl t ↦
-      subst (λ k. IsState s b k (get_or (set places i x) k blank).state) (sym t.1)
-      (subst (λ p. IsState s b i p.state) (sym (get_or-set_same places i x blank (let w = is.wide in omega arith))) (here (λ last. subst (λ k. s.readers (item_at b k) ≢ Done) t.1 (unread (t.1 ∙ last)))))
+        subst (λ k. IsState s b k (get_or (set places i x) k blank).state) (sym t.1)
+        (subst (λ p. IsState s b i p.state) (sym (get_or-set_same places i x blank (let w = is.wide in omega arith))) (here (λ last. subst (λ k. s.readers (item_at b k) ≢ Done) t.1 (unread (t.1 ∙ last)))))
     | inr t ↦
-      subst (λ p. IsState s b j p.state) (sym (get_or-set_other places i j x blank t.1))
-      (state_same c s b j (get_or places j blank).state (same j lt t.1) (is.state j lt (λ last. done_alike (c.readers (item_at b j)) (s.readers (item_at b j)) (sym (same j lt t.1).done) (unread last))))
+        subst (λ p. IsState s b j p.state) (sym (get_or-set_other places i j x blank t.1))
+        (state_same c s b j (get_or places j blank).state (same j lt t.1) (is.state j lt (λ last. done_alike (c.readers (item_at b j)) (s.readers (item_at b j)) (sym (same j lt t.1).done) (unread last))))
   ];
   slot = λ j lt. elim (eqb_tells j i) [
     | inl t ↦
-      subst (λ k. (get_or (set places i x) k blank).item ≡ lies (s.writers (item_at b k)) (s.readers (item_at b k))) (sym t.1)
-      (ap (λ p. p.item) (get_or-set_same places i x blank (let w = is.wide in omega arith)) ∙ lies_here)
+        subst (λ k. (get_or (set places i x) k blank).item ≡ lies (s.writers (item_at b k)) (s.readers (item_at b k))) (sym t.1)
+        (ap (λ p. p.item) (get_or-set_same places i x blank (let w = is.wide in omega arith)) ∙ lies_here)
     | inr t ↦ ap (λ p. p.item) (get_or-set_other places i j x blank t.1) ∙ (is.slot j lt ∙ lies_same c s b j (same j lt t.1))
   ];
   linked = is.linked ∙ links;

@@ -81,10 +81,13 @@ codes_written {A} {c = c} who n i f v x ok writing low at named on is changed co
       link = refl;
     })
     changed
-    (inr (on, block_put c (written c n v) b i (record { state = bit_or (get_or x.places i blank).state WRITE; item = Some v }) x.places x.next is low
-    (λ j lt ne. record { wrote = ap (λ w. wrote_in w) (put_other c.writers n (item_at b j) (Wrote v) (other_slot b i j n ne at)); done = refl; waits = refl })
-    (λ unread. state_written c (written c n v) b i (get_or x.places i blank).state v wrote refl refl (is.state i low unread))
-    (sym (ap (λ w. lies w (c.readers (item_at b i))) wrote ∙ ap (λ r. lies (Wrote v) r) refl ∙ kept)) refl))
+    (inr (
+      on,
+      block_put c (written c n v) b i (record { state = bit_or (get_or x.places i blank).state WRITE; item = Some v }) x.places x.next is low
+          (λ j lt ne. record { wrote = ap (λ w. wrote_in w) (put_other c.writers n (item_at b j) (Wrote v) (other_slot b i j n ne at)); done = refl; waits = refl })
+          (λ unread. state_written c (written c n v) b i (get_or x.places i blank).state v wrote refl refl (is.state i low unread))
+          (sym (ap (λ w. lies w (c.readers (item_at b i))) wrote ∙ ap (λ r. lies (Wrote v) r) refl ∙ kept)) refl,
+    ))
     codes
   where
     b : ℕ

@@ -42,10 +42,10 @@ codes_granted {A} {c = c} {blocks = blocks} who codes = record {
   name = λ f. put_ok c.uses (length blocks) f (Spare who) (λ j u. NameIs (renamed c (length blocks) (Spare who)) j u (get_or (blocks ++ Some fresh_block ∷ []) j None))
       (get_or-append_seam blocks (Some fresh_block) [] None)
       (λ ne. elim (lt_or_ge f (length blocks)) [
-    | inl lt ↦ subst (λ y. NameIs (renamed c (length blocks) (Spare who)) f (c.uses f) y) (sym (get_or_append_left blocks (Some fresh_block ∷ []) None f lt))
-        (name_kept c (renamed c (length blocks) (Spare who)) f (c.uses f) (get_or blocks f None) (λ b named. (named, keeps_all c (renamed c (length blocks) (Spare who)) b refl refl refl refl)) (codes.name f))
-    | inr ge ↦ subst (λ u. NameIs (renamed c (length blocks) (Spare who)) f u (get_or (blocks ++ Some fresh_block ∷ []) f None)) (sym (codes.unused f ge)) (past f ne ge)
-  ]);
+        | inl lt ↦ subst (λ y. NameIs (renamed c (length blocks) (Spare who)) f (c.uses f) y) (sym (get_or_append_left blocks (Some fresh_block ∷ []) None f lt))
+            (name_kept c (renamed c (length blocks) (Spare who)) f (c.uses f) (get_or blocks f None) (λ b named. (named, keeps_all c (renamed c (length blocks) (Spare who)) b refl refl refl refl)) (codes.name f))
+        | inr ge ↦ subst (λ u. NameIs (renamed c (length blocks) (Spare who)) f u (get_or (blocks ++ Some fresh_block ∷ []) f None)) (sym (codes.unused f ge)) (past f ne ge)
+      ]);
 }
   where
     past : (f : ℕ) → f ≢ length blocks → length blocks ≤ f → get_or (blocks ++ Some fresh_block ∷ []) f None ≡ None

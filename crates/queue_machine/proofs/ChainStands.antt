@@ -1,18 +1,9 @@
 -- Each step of a call on a chain leaves words, links and blocks that stand for the chain after it.
-use Rattle.std.proofs.Common.{ℕ, Bool, List}
-use Rattle.queue_steps.specs.State.{State}
-use Rattle.queue_steps.specs.declared.model.Call.{Call}
-use Rattle.queue_steps.specs.declared.model.Effect.{Effect}
-use Rattle.chain_laws.proofs.ChainCells.{Chain}
-use Rattle.chain_laws.proofs.ChainAt.{At}
 use Rattle.chain_laws.proofs.ChainStep.{step_good}
-use Rattle.chain_laws.proofs.ChainGiven.{Spares, spare_in}
 use Rattle.chain_laws.proofs.ChainRight.{step_right}
-use Rattle.queue_machine.specs.declared.machine.Running.{Running}
-use Rattle.queue_machine.specs.Cells.{Shared, answer_to}
-use Rattle.queue_machine.proofs.ChainHolding.{ChainHolds}
+use Rattle.queue_machine.specs.Cells.{answer_to}
 use Rattle.queue_machine.proofs.ChainCodedAll.{coded}
-use Rattle.queue_machine.proofs.ChainLaws.{StepStands, StepsStand}
+use Rattle.queue_machine.proofs.ChainLaws.{StepsStand}
 
 pub steps_stand : (A : Type 0) → StepsStand A
 steps_stand A ok s Q g p ms x k es holds at spares =
