@@ -24,6 +24,7 @@ use Rattle.queue_machine.specs.World.{World}
 use Rattle.queue_machine.proofs.KindLaws.{KindLaws}
 use Rattle.queue_machine.proofs.SingleLeft.{single_laws}
 use Rattle.queue_machine.proofs.RingKind.{ring_laws}
+use Rattle.queue_machine.proofs.ChainKind.{chain_laws}
 use Rattle.queue_steps.specs.declared.sizes.TheConstants.{MAX_CAPACITY}
 use Rattle.std.proofs.lemmas.Bool.{ltb-false}
 use Rattle.queue_machine.proofs.SoFar.{SoFar, so_far-first, so_far-more, so_far-can, so_far-end, so_far-room}
@@ -32,12 +33,12 @@ use Rattle.queue_machine.proofs.SoFar.{SoFar, so_far-first, so_far-more, so_far-
 abbrev pub HasMachine : Kind → Type 0
 HasMachine kind.Single = Unit {0}
 HasMachine (kind.Bounded n) = IsRing n
-HasMachine kind.Unbounded = ⊥
+HasMachine kind.Unbounded = Unit {0}
 
 pub laws_of : (T : Type 0) (k : Kind) → HasMachine k → KindLaws T k
 laws_of T kind.Single has = single_laws T
 laws_of T (kind.Bounded n) has = ring_laws T n has
-laws_of T kind.Unbounded has = absurd has
+laws_of T kind.Unbounded has = chain_laws T ?
 
 -- every call can begin
 can_start : {T : Type 0} (k : Kind) → HasMachine k → (c : Call T) → CanStart k c
@@ -59,7 +60,15 @@ can_start (kind.Bounded n) has call.IsEmpty = record { goes_on = has; replies = 
 can_start (kind.Bounded n) has call.IsFull = record { goes_on = has; replies = tt }
 can_start (kind.Bounded n) has call.Len = record { goes_on = has; replies = tt }
 can_start (kind.Bounded n) has call.Capacity = record { goes_on = has; replies = refl }
-can_start kind.Unbounded has c = absurd has
+can_start kind.Unbounded has (call.Push v) = record { goes_on = tt; replies = tt }
+can_start kind.Unbounded has (call.ForcePush v) = record { goes_on = tt; replies = tt }
+can_start kind.Unbounded has call.Pop = record { goes_on = tt; replies = tt }
+can_start kind.Unbounded has call.Close = record { goes_on = tt; replies = tt }
+can_start kind.Unbounded has call.IsClosed = record { goes_on = tt; replies = tt }
+can_start kind.Unbounded has call.IsEmpty = record { goes_on = tt; replies = tt }
+can_start kind.Unbounded has call.IsFull = record { goes_on = tt; replies = refl }
+can_start kind.Unbounded has call.Len = record { goes_on = tt; replies = tt }
+can_start kind.Unbounded has call.Capacity = record { goes_on = tt; replies = refl }
 
 -- what is known after these events, of a queue of any kind
 pub record Known {T : Type 0} (k : Kind) (parties : ℕ) (past : List (Event T)) (w : World (Shared T) (Running T)) (replies : List (ℕ × ℕ × Reply T)) (effects : List (ℕ × ℕ × EffectKind)) (skipped : List ℕ) (peak : Peak) : Type 0 where
@@ -100,7 +109,7 @@ known-none k parties past w rs es ss peak known = known.so_far.no_blocks
 pub has_machine : (k : Kind) → CanReplay k → is_too_large k ≡ false → HasMachine k
 has_machine kind.Single can small = tt
 has_machine (kind.Bounded n) can small = (can, ltb-false MAX_CAPACITY n small)
-has_machine kind.Unbounded can small = absurd can
+has_machine kind.Unbounded can small = tt
 
 pub has_slot : (k : Kind) → HasMachine k → HasSlot k
 has_slot kind.Single has = tt
