@@ -41,6 +41,7 @@ pub mod ChainLaws
 pub mod ChainOpening
 pub mod ChainCounted
 pub mod Gathering
+pub mod ChainGathering
 pub mod Growing
 pub mod Handling
 pub mod Counting

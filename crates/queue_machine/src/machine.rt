@@ -221,7 +221,7 @@ impl<T, A: Allocator> Cells<T, A> {
 }
 
 /// The block whose slot a step with this operation touches, on a chain.
-fn named_block(op: Op<usize>) -> Option<usize>
+pub(crate) fn named_block(op: Op<usize>) -> Option<usize>
     ensures { result ≡ block_touched op }
 {
     match op {
