@@ -39,6 +39,7 @@ pub mod ChainMoments
 pub mod ChainFits
 pub mod ChainLaws
 pub mod ChainOpening
+pub mod ChainRow
 pub mod ChainCounted
 pub mod Gathering
 pub mod ChainGathering
