@@ -1,13 +1,13 @@
 -- A row of blocks that are linked one to the next: what is gathered along the links is the list that their places hold.
-use Rattle.std.proofs.Common.{ℕ, zero, suc, ◌+◌, ◌-◌, ◌*◌, ◌<◌, ◌≤◌, ◌≡◌, ◌≢◌, ◌==◌, ◌∙◌, Bool, true, false, if◌then◌else◌, nat_lt, Option, Some, None, List, [], ◌∷◌, ◌++◌, length, refl, sym, ap, subst, arith, get_or, set, slice_get, get_or-set_other, append_assoc}
+use Rattle.std.proofs.Common.{ℕ, zero, suc, ◌+◌, ◌-◌, ◌*◌, ◌<◌, ◌≤◌, ◌≡◌, ◌∙◌, true, false, if◌then◌else◌, nat_lt, Option, Some, None, List, [], ◌∷◌, ◌++◌, length, refl, sym, ap, arith, get_or, set, slice_get, get_or-set_other, append_assoc}
 use Rattle.std.specs.Option.{option_to_list}
 use Rattle.std.proofs.lemmas.Bool.{lt-ltb, le-ltb, ltb-true, ltb-false}
-use Rattle.std.proofs.lemmas.List.{get_or_past, length-set}
+use Rattle.std.proofs.lemmas.List.{get_or_past}
 use Rattle.queue_steps.specs.declared.sizes.TheConstants.{BLOCK_SLOTS}
 use Rattle.chain_laws.proofs.ChainCells.{item_at}
 use Rattle.queue_machine.specs.declared.blocks.Place.{Place}
-use Rattle.queue_machine.specs.Blocks.{Block, blank, block_of, places_in, behind_in, without}
-use Rattle.queue_machine.specs.ChainLeft.{unread_in, unread, unread_at, behind_at, chained}
+use Rattle.queue_machine.specs.Blocks.{Block, blank, block_of}
+use Rattle.queue_machine.specs.ChainLeft.{unread_in, unread, chained}
 use Rattle.queue_machine.specs.Present.{present}
 use Rattle.queue_machine.proofs.Busy.{one_if, busy_set}
 
