@@ -63,8 +63,8 @@ codes_read {A} {c = c} n i f w q y x ok low at named is unread waits empty word 
     read = ap (put c.readers n Done) at ∙ put_same c.readers n Done
 
     state : (i ≡ LAST) ⊎ (q.state ≡ bit_or (get_or x.places i blank).state READ) → (i ≡ LAST → put c.readers n Done (item_at (n / BLOCK_SLOTS) i) ≢ Done) → IsState (reads c n w) (n / BLOCK_SLOTS) i q.state
-    state (inl last) open_still = absurd (open_still last read)
-    state (inr e) open_still = subst (λ z. IsState (reads c n w) (n / BLOCK_SLOTS) i z) (sym e) (state_read c (reads c n w) (n / BLOCK_SLOTS) i (get_or x.places i blank).state refl read (is.state i low (λ last d. unread (ap c.readers (sym at) ∙ d))))
+    state (inl last) unread_still = absurd (unread_still last read)
+    state (inr e) unread_still = subst (λ z. IsState (reads c n w) (n / BLOCK_SLOTS) i z) (sym e) (state_read c (reads c n w) (n / BLOCK_SLOTS) i (get_or x.places i blank).state refl read (is.state i low (λ last d. unread (ap c.readers (sym at) ∙ d))))
 
 -- W1, W2: the walk over the block is this then
 pub codes_walked : {A : Type 0} {c : Chain A} {head tail : ℕ} {front last : Option ℕ} {blocks after : List (Option (Block A))} (b i f : ℕ) (w : Walk) (q : Place A) (y : Option (Block A)) (x : Block A)
