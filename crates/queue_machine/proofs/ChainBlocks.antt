@@ -1,16 +1,14 @@
 -- What the machine's changes of a block do to the list of its blocks.
-use Rattle.std.proofs.Common.{ℕ, ◌<◌, ◌≤◌, ◌≡◌, ◌∙◌, ◌⊎◌, inl, inr, Option, Some, None, List, length, refl, sym, ap, subst, arith, get_or, set, get_or-set_same, get_or-set_other}
+use Rattle.std.proofs.Common.{ℕ, ◌<◌, ◌≡◌, ◌∙◌, inl, inr, Option, Some, None, List, length, refl, sym, ap, subst, get_or, set, get_or-set_same, get_or-set_other}
 use Rattle.std.proofs.lemmas.List.{get_or_past, length-set, set-set, set-get_or}
+use Rattle.std.proofs.lemmas.Bool.{cases_lt}
 use Rattle.queue_machine.specs.declared.blocks.Place.{Place}
 use Rattle.queue_machine.specs.Blocks.{Block, blank, places_in, with_place, with_next, state_of, put_state, put_item, put_next}
 use Rattle.queue_machine.proofs.ChainNames.{Changed}
 
-lt_or_ge : (m n : ℕ) → (m < n) ⊎ (n ≤ m)
-lt_or_ge m n = grind arith
-
 -- a block that is there has a number among those
 pub there : {A : Type 0} (bs : List (Option (Block A))) (f : ℕ) (x : Block A) → get_or bs f None ≡ Some x → f < length bs
-there bs f x is = elim (lt_or_ge f (length bs)) [ inl lt ↦ lt | inr ge ↦ (let z : None ≡ Some x = sym (get_or_past bs f None ge) ∙ is in cc) ]
+there bs f x is = elim (cases_lt f (length bs)) [ inl lt ↦ lt | inr ge ↦ (let z : None ≡ Some x = sym (get_or_past bs f None ge) ∙ is in cc) ]
 
 pub changed_set : {A : Type 0} (bs : List (Option (Block A))) (f : ℕ) (y : Option (Block A)) → f < length bs → Changed bs (set bs f y) f y
 changed_set bs f y lt = record { size = length-set bs f y; here = get_or-set_same bs f y None lt; others = λ g ne. get_or-set_other bs f g y None ne }

@@ -11,7 +11,7 @@ use Rattle.queue_steps.specs.declared.steps.types.Next.{Next}
 use Rattle.queue_steps.specs.declared.steps.bounded.TheConstants.{TAIL_STEP}
 use Rattle.queue_steps.specs.declared.steps.bounded.PushKind.{PushKind}
 use Rattle.queue_steps.specs.declared.steps.unbounded.UnboundedLocal.TheVariants as chain
-use Rattle.chain_laws.proofs.ChainCells.{Writing, Done, Rests, Laying, Opening, Linking, Showing, Spare, Chain, ItemOk, ChainOk, Write, Tail, Next as Behind, First, Holds, Nothing, item_at}
+use Rattle.chain_laws.proofs.ChainCells.{Done, Rests, Laying, Opening, Linking, Showing, Spare, Chain, ChainOk, Write, Tail, Next as Behind, First, Holds, Nothing, item_at}
 use Rattle.chain_laws.proofs.ChainFacts.{open_tail_of, IsNamed, TailBlockIs, HasSpare, SawTail, Claimed}
 use Rattle.chain_laws.proofs.ChainAnswers.{tail_word, last_of, tail_small, same_tail}
 use Rattle.chain_laws.proofs.ChainRight.{Gives, left_by}
@@ -29,7 +29,7 @@ use Rattle.chain_laws.proofs.ChainTransitions.{appended, displayed, laid_out, op
 use Rattle.chain_laws.proofs.ChainTransitions as moves
 use Rattle.chain_laws.proofs.ChainAt.{Only, Either, IsLast, Asks, push_tail, push_block, asking, installing, showing, claiming, laying, opening, chaining, writing, spending}
 use Rattle.queue_machine.proofs.ChainCodesPush.{codes_marked, codes_granted, codes_installed, codes_displayed, codes_appended, codes_laid_out, codes_opened}
-use Rattle.queue_machine.proofs.ChainCodesAt.{codes_chained, codes_written}
+use Rattle.queue_machine.proofs.ChainCodesAt.{unread_item, codes_chained, codes_written}
 
 -- U1
 pub coded_push_tail : {A : Type 0} (c : Chain A) (who : ℕ) (ms : List (State A)) (ok : Bool) (s : Shared A) (d : PushKind) (v : A) (spare : Option ℕ) (none : Holds c who Nothing) (spare_is : HasSpare c who spare)
@@ -160,15 +160,11 @@ coded_opening c who ms ok s d v n name f holds mine opens links named right code
   codes = λ fine gives. codes_left who (unbounded_next (chain.Opening d (open_tail_of n) name f) (answer.Found s.tail)) fine gives (codes_opened who right opens.0 codes);
 }
 
--- an item that is claimed is not read
-unread_claim : {A : Type 0} (c : Chain A) (n who : ℕ) (v : A) → ChainOk c → c.writers n ≡ Writing who v → c.readers n ≢ Done
-unread_claim c n who v right is e = let h : ItemOk c.head c.tail c.items n (Writing who v) Done = rw (is, e) at (right.item n) in absurd h
-
 -- U8
 pub coded_chaining : {A : Type 0} (c : Chain A) (who : ℕ) (ms : List (State A)) (ok : Bool) (s : Shared A) (d : PushKind) (v : A) (n name f : ℕ) (holds : Holds c who (Either (Write n) (Behind (n / BLOCK_SLOTS)))) (mine : Claimed c who n v name) (links : c.links (n / BLOCK_SLOTS) ≡ Linking who) (named : IsNamed c (n / BLOCK_SLOTS + 1) f)
     → ChainOk c → Stands s c → Coded c who ms ok s (chaining d v n name f holds mine links named)
 coded_chaining c who ms ok s d v n name f holds mine links named right codes =
-    let on = unread_on c n right (unread_claim c n who v right mine.mine) in
+    let on = unread_on c n right (unread_item c n who v right mine.mine) in
     let x = block_at (n / BLOCK_SLOTS) name right mine.named on codes in
     record {
       touches = tt;
@@ -212,7 +208,7 @@ coded_writing {A} c who ms ok s d v n name spare holds mine spare_is right codes
     at = let e = slot in omega arith
 
     unread : c.readers n ≢ Done
-    unread = unread_claim c n who v right mine.mine
+    unread = unread_item c n who v right mine.mine
 
     empty : lies (c.writers (item_at (n / BLOCK_SLOTS) (offset_of (open_tail_of n)))) (c.readers (item_at (n / BLOCK_SLOTS) (offset_of (open_tail_of n)))) ≡ None
     empty = ap (λ m. lies (c.writers m) (c.readers m)) at ∙ (ap (λ w. lies w (c.readers n)) mine.mine ∙ none_lies (is_done (c.readers n)))

@@ -2,7 +2,6 @@
 use Rattle.std.proofs.Common.{ℕ, ◌+◌, ◌/◌, ◌%◌, ◌<◌, ◌≡◌, ◌≢◌, ◌==◌, ◌∙◌, ◌⊎◌, inl, inr, Bool, true, false, if◌then◌else◌, Option, Some, None, List, length, refl, sym, ap, subst, arith, get_or, bit_or}
 use Rattle.std.proofs.lemmas.List.{length-set}
 use Rattle.std.proofs.lemmas.Bool.{le-ltb, lt-ltb, ne_eqb}
-use Rattle.std.proofs.lemmas.Bool.Decides.{eqb_tells}
 use Rattle.queue_steps.specs.declared.sizes.TheConstants.{BLOCK_SLOTS}
 use Rattle.queue_steps.specs.State.{State}
 use Rattle.queue_steps.specs.ChainWords.{offset_of}
@@ -27,17 +26,18 @@ use Rattle.queue_steps.specs.declared.model.Reply.TheVariants as reply
 use Rattle.queue_steps.specs.declared.steps.unbounded.TheConstants.{READ, DESTROY}
 use Rattle.chain_laws.proofs.ChainCells.{Walk, Before, Chained, put_same, WalkOk}
 use Rattle.chain_laws.proofs.ChainReads.{walk_after, reads, walked}
-use Rattle.chain_laws.proofs.ChainAnswers.{is_done, waits_at, IsState}
-use Rattle.chain_laws.proofs.ChainRead.{head_offset}
+use Rattle.chain_laws.proofs.ChainAnswers.{is_done, done_is, waits_at, IsState}
+use Rattle.chain_laws.proofs.ChainRead.{head_offset, waits_is}
+use Rattle.chain_laws.proofs.ChainWalk.{after_walker}
 use Rattle.chain_laws.proofs.ChainAt.{Only, IsLast, reading, beginning, walking, destroying}
 use Rattle.queue_machine.specs.declared.blocks.Place.{Place}
 use Rattle.queue_machine.specs.Blocks.{blank, places_in, state_of, put_item, put_state}
-use Rattle.queue_machine.proofs.ChainCodes.{BlockIs, lies, done_is}
+use Rattle.queue_machine.proofs.ChainCodes.{BlockIs, lies}
 use Rattle.queue_machine.proofs.ChainNames.{Changed}
 use Rattle.queue_machine.proofs.ChainBlocks.{placed, changed_twice, changed_set, changed_none}
 use Rattle.queue_machine.proofs.ChainFresh.{unwalked}
 use Rattle.queue_machine.proofs.ChainBits.{state_waits, state_passed}
-use Rattle.queue_machine.proofs.ChainCodesWalk.{Left, codes_read, codes_walked, after_waits, after_kinds, codes_given_block}
+use Rattle.queue_machine.proofs.ChainCodesWalk.{Left, codes_read, codes_walked, after_waits, codes_given_block}
 
 -- the blocks after a walk that goes on or gives the block up
 over_blocks : {A : Type 0} {bs cs : List (Option (Block A))} {f : ℕ} {x : Block A} → Changed bs cs f (Some x) → Changed bs (without (Some f) cs) f None
@@ -48,7 +48,7 @@ walk_on : {A : Type 0} {r : Walk → Chain A} {head tail : ℕ} {front last : Op
     → slot < LAST → Changed blocks changed name (Some x) → ((w : Walk) → (r w).uses name ≡ Chained b)
     → ((w : Walk) (y : Option (Block A)) (after : List (Option (Block A))) → w ≡ walk_after who slot → Changed blocks after name y → Left w y x → Codes (r w) head tail front last after)
     → Codes (left_by (r (walk_after who slot)) (walks_on name slot)) head tail front last (without (spare_in (walks_on name slot)) changed)
-walk_on {A} {r = r} {head = head} {tail = tail} {front = front} {last = last} {blocks = blocks} {changed = changed} who slot b name x low now used gives = go (after_kinds who slot)
+walk_on {A} {r = r} {head = head} {tail = tail} {front = front} {last = last} {blocks = blocks} {changed = changed} who slot b name x low now used gives = go (after_walker who slot)
   where
     n : Bool → Next ℕ
     n t = if t then walks name (slot + 1) touch.Nothing else next.Reply (reply.Pop (Ok tt)) (Some name)
@@ -157,10 +157,7 @@ coded_destroying {A} c who ms ok s x b name slot holds is named right codes = re
 
 -- a walk that waits at one slot waits at no other
 waits_once : (w : Walk) (i j : ℕ) → waits_at w i ≡ true → j ≢ i → waits_at w j ≡ false
-waits_once Before i j e ne = refl
-waits_once (Walker p k) i j e ne = refl
-waits_once GivenUp i j e ne = refl
-waits_once (Waits k) i j e ne = elim (eqb_tells k i) [ inl t ↦ ne_eqb k j (λ z. ne (sym z ∙ t.1)) | inr t ↦ (let z : false ≡ true = sym t.0 ∙ e in cc) ]
+waits_once w i j e ne = ap (λ x. waits_at x j) (waits_is w i e) ∙ ne_eqb i j (λ z. ne (sym z))
 
 -- what lies in a slot that is written and being read
 lies_there : {A : Type 0} (c : Chain A) (n m who : ℕ) (x : A) → m ≡ n → c.writers n ≡ Wrote x → c.readers n ≡ Reading who → lies (c.writers m) (c.readers m) ≡ Some x

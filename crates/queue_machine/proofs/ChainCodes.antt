@@ -1,10 +1,10 @@
 -- How a block of the machine stands for a block of a chain, and that it goes on doing so.
-use Rattle.std.proofs.Common.{ℕ, ◌+◌, ◌<◌, ◌≡◌, ◌≢◌, not, ◌∙◌, inl, inr, true, if◌then◌else◌, Option, Some, None, List, length, refl, sym, ap, subst, arith, get_or, set, get_or-set_same, get_or-set_other}
+use Rattle.std.proofs.Common.{ℕ, ◌+◌, ◌<◌, ◌≡◌, ◌≢◌, not, ◌∙◌, inl, inr, if◌then◌else◌, Option, Some, None, List, length, refl, sym, ap, subst, arith, get_or, set, get_or-set_same, get_or-set_other}
 use Rattle.std.proofs.lemmas.List.{length-set}
 use Rattle.std.proofs.lemmas.Bool.Decides.{eqb_tells}
 use Rattle.queue_steps.specs.declared.sizes.TheConstants.{BLOCK_SLOTS}
-use Rattle.chain_laws.proofs.ChainCells.{Writer, Free, Writing, Wrote, Reader, Unread, Reading, Done, Chain, item_at, LAST}
-use Rattle.chain_laws.proofs.ChainAnswers.{linked_of, is_wrote, is_done, waits_at, IsState}
+use Rattle.chain_laws.proofs.ChainCells.{Writer, Free, Writing, Wrote, Reader, Done, Chain, item_at, LAST}
+use Rattle.chain_laws.proofs.ChainAnswers.{linked_of, is_wrote, is_done, done_is, waits_at, IsState}
 use Rattle.queue_machine.specs.declared.blocks.Place.{Place}
 use Rattle.queue_machine.specs.Blocks.{blank}
 
@@ -28,11 +28,6 @@ wrote_alike Free (Wrote u) e = cc
 wrote_alike (Writing p v) (Wrote u) e = cc
 wrote_alike (Wrote v) Free e = cc
 wrote_alike (Wrote v) (Writing p u) e = cc
-
-pub done_is : (r : Reader) → is_done r ≡ true → r ≡ Done
-done_is Unread e = cc
-done_is (Reading p) e = cc
-done_is Done e = refl
 
 pub done_alike : (r x : Reader) → is_done r ≡ is_done x → x ≢ Done → r ≢ Done
 done_alike r x e ne d = ne (done_is x (sym e ∙ ap is_done d))

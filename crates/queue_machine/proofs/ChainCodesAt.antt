@@ -48,7 +48,7 @@ pub other_slot : (b i j n : ℕ) → j ≢ i → item_at b i ≡ n → item_at b
 other_slot b i j n ne at e = ne (omega arith)
 
 -- the items that are not written are not read
-unread_item : {A : Type 0} (c : Chain A) (n who : ℕ) (v : A) → ChainOk c → c.writers n ≡ Writing who v → c.readers n ≢ Done
+pub unread_item : {A : Type 0} (c : Chain A) (n who : ℕ) (v : A) → ChainOk c → c.writers n ≡ Writing who v → c.readers n ≢ Done
 unread_item c n who v ok is e = let h : ItemOk c.head c.tail c.items n (Writing who v) Done = rw (is, e) at (ok.item n) in absurd h
 
 not_done : (r : Reader) → r ≢ Done → is_done r ≡ false

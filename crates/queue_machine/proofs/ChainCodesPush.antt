@@ -2,6 +2,7 @@
 use Rattle.std.proofs.Common.{ℕ, ◌+◌, ◌-◌, ◌%◌, ◌<◌, ◌≤◌, ◌≡◌, ◌≢◌, ◌∙◌, ◌⊎◌, inl, inr, false, Option, Some, None, List, [], ◌∷◌, ◌++◌, length, refl, sym, ap, subst, arith, get_or, bit_or}
 use Rattle.std.proofs.lemmas.List.{get_or_append_left, get_or_past, length-append}
 use Rattle.std.proofs.Math.Seq.{get_or-append_seam}
+use Rattle.std.proofs.lemmas.Bool.{cases_lt}
 use Rattle.queue_steps.specs.declared.sizes.TheConstants.{BLOCK_SLOTS}
 use Rattle.queue_steps.specs.Words.{tail_of}
 use Rattle.queue_steps.specs.declared.steps.bounded.TheConstants.{MARK, TAIL_STEP}
@@ -15,9 +16,6 @@ use Rattle.queue_machine.proofs.RingWords.{mark_tail, next_tail}
 use Rattle.queue_machine.proofs.ChainCodes.{wrote_in}
 use Rattle.queue_machine.proofs.ChainNames.{NameIs, Codes, Keeps, name_kept, keeps_all}
 use Rattle.queue_machine.proofs.ChainFresh.{fresh_is, unlinked, last_name}
-
-lt_or_ge : (m n : ℕ) → (m < n) ⊎ (n ≤ m)
-lt_or_ge m n = grind arith
 
 -- the mark of a close
 pub codes_marked : {A : Type 0} {c : Chain A} {head tail : ℕ} {front last : Option ℕ} {blocks : List (Option (Block A))} → Codes c head tail front last blocks → Codes (marked c) head (bit_or tail MARK) front last blocks
@@ -41,7 +39,7 @@ codes_granted {A} {c = c} {blocks = blocks} who codes = record {
   unused = λ f le. let more = length-append blocks (Some (fresh_block {T = A}) ∷ []) in put_other c.uses (length blocks) f (Spare who) (λ e. absurd (omega arith)) ∙ codes.unused f (omega arith);
   name = λ f. put_ok c.uses (length blocks) f (Spare who) (λ j u. NameIs (renamed c (length blocks) (Spare who)) j u (get_or (blocks ++ Some fresh_block ∷ []) j None))
       (get_or-append_seam blocks (Some fresh_block) [] None)
-      (λ ne. elim (lt_or_ge f (length blocks)) [
+      (λ ne. elim (cases_lt f (length blocks)) [
         | inl lt ↦ subst (λ y. NameIs (renamed c (length blocks) (Spare who)) f (c.uses f) y) (sym (get_or_append_left blocks (Some fresh_block ∷ []) None f lt))
             (name_kept c (renamed c (length blocks) (Spare who)) f (c.uses f) (get_or blocks f None) (λ b named. (named, keeps_all c (renamed c (length blocks) (Spare who)) b refl refl refl refl)) (codes.name f))
         | inr ge ↦ subst (λ u. NameIs (renamed c (length blocks) (Spare who)) f u (get_or (blocks ++ Some fresh_block ∷ []) f None)) (sym (codes.unused f ge)) (past f ne ge)

@@ -1,7 +1,5 @@
 -- Where a call on a chain stands in the machine, by the laws of the chain, and where it stands after each step: nothing here knows a cell.
-use Rattle.std.proofs.Common.{ℕ, ◌+◌, ◌≤◌, ◌<◌, ◌≡◌, ◌≢◌, true, false, Option, Some, None, List, [], ◌∷◌, refl, sym, subst, arith}
-use Rattle.queue_steps.specs.Kinds.{call_kind}
-use Rattle.queue_steps.specs.Prompt.{IsPrompt}
+use Rattle.std.proofs.Common.{ℕ, ◌≡◌, ◌≢◌, true, Option, None, List, [], ◌∷◌, refl, sym, subst, arith}
 use Rattle.queue_steps.specs.State.{State}
 use Rattle.queue_steps.specs.UnboundedNext.{unbounded_next}
 use Rattle.queue_steps.specs.declared.model.Call.{Call}
@@ -25,7 +23,7 @@ use Rattle.chain_laws.proofs.ChainRight.{left_by, Ends, step_right}
 use Rattle.chain_laws.proofs.ChainRanks.{rank, longest, rank_small, rank_some, Falls}
 use Rattle.chain_laws.proofs.ChainRanksStep.{step_falls, prompt_falls, prompt_small}
 use Rattle.queue_machine.specs.declared.machine.Running.{Running}
-use Rattle.queue_machine.specs.Book.{Open, after_own, begun, is_prompt, joined, seen_by, watched}
+use Rattle.queue_machine.specs.Book.{Open, after_own, begun, is_prompt, joined, watched}
 use Rattle.queue_machine.specs.Cells.{Shared, CanStep, step_of, start_of, running_after, reply_after}
 use Rattle.queue_machine.proofs.Engine as engine
 use Rattle.queue_machine.proofs.FewSteps.{FewSteps, few_begun, few_joined, few_watched, few_own, few_stays, prompt_kind}

@@ -1,7 +1,8 @@
 -- A block that is there, and one that is given up with a reply.
-use Rattle.std.proofs.Common.{ℕ, ◌/◌, ◌%◌, ◌<◌, ◌≤◌, ◌≡◌, ◌≢◌, ◌==◌, ◌∙◌, ◌⊎◌, inl, inr, true, false, Option, Some, None, List, length, refl, sym, ap, subst, arith, get_or, set, get_or-set_same, get_or-set_other}
+use Rattle.std.proofs.Common.{ℕ, ◌/◌, ◌%◌, ◌<◌, ◌≡◌, ◌≢◌, ◌==◌, ◌∙◌, ◌⊎◌, inl, inr, true, false, Option, Some, None, List, length, refl, sym, ap, subst, arith, get_or, set, get_or-set_same, get_or-set_other}
 use Rattle.std.proofs.lemmas.List.{get_or_past, length-set}
 use Rattle.std.proofs.lemmas.Bool.Decides.{eqb_tells}
+use Rattle.std.proofs.lemmas.Bool.{cases_lt}
 use Rattle.queue_steps.specs.declared.sizes.TheConstants.{BLOCK_SLOTS}
 use Rattle.queue_steps.specs.declared.steps.types.Answer.TheVariants as answer
 use Rattle.queue_steps.specs.declared.steps.types.Next.{Next}
@@ -49,12 +50,9 @@ codes_reset {A} {c = c} {blocks = blocks} f none codes = record {
   name = λ g. subst (λ y. NameIs c g (c.uses g) y) (sym (same g)) (codes.name g);
 }
   where
-    there_or : (m n : ℕ) → (m < n) ⊎ (n ≤ m)
-    there_or m n = grind arith
-
     same : (g : ℕ) → get_or (set blocks f None) g None ≡ get_or blocks g None
     same g = elim (eqb_tells g f) [
-      | inl t ↦ subst (λ h. get_or (set blocks f None) h None ≡ get_or blocks h None) (sym t.1) (elim (there_or f (length blocks)) [
+      | inl t ↦ subst (λ h. get_or (set blocks f None) h None ≡ get_or blocks h None) (sym t.1) (elim (cases_lt f (length blocks)) [
         | inl lt ↦ get_or-set_same blocks f None None lt ∙ sym none
         | inr ge ↦ get_or_past (set blocks f None) f None (let n = length-set blocks f None in omega arith) ∙ sym none
       ])

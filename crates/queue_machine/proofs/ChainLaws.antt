@@ -1,16 +1,14 @@
 -- A chain keeps the laws of the engine, where each step of a call leaves words, links and blocks that stand for the chain after it.
-use Rattle.std.proofs.Common.{ℕ, ◌≡◌, ◌≢◌, ◌∙◌, Bool, Option, Some, None, IsSome, List, refl, sym, ap, subst}
+use Rattle.std.proofs.Common.{ℕ, ◌≡◌, ◌≢◌, Bool, Option, None, List, refl, sym, ap, subst}
 use Rattle.queue_steps.specs.State.{State}
 use Rattle.queue_steps.specs.Next.{CanNext, next_of}
 use Rattle.queue_steps.specs.UnboundedNext.{unbounded_next}
 use Rattle.queue_steps.specs.declared.model.Call.{Call}
 use Rattle.queue_steps.specs.declared.model.Effect.{Effect}
-use Rattle.queue_steps.specs.declared.steps.types.Answer.{Answer}
 use Rattle.queue_steps.specs.declared.steps.types.Kind.TheVariants as queue
-use Rattle.queue_steps.specs.declared.steps.types.Local.TheVariants as local
 use Rattle.queue_steps.specs.declared.steps.types.Next.{Next}
 use Rattle.queue_steps.specs.declared.steps.types.Next.TheVariants as next
-use Rattle.chain_laws.proofs.ChainCells.{Chain, queue_of, ChainOk}
+use Rattle.chain_laws.proofs.ChainCells.{Chain, queue_of}
 use Rattle.chain_laws.proofs.ChainAt.{At}
 use Rattle.chain_laws.proofs.ChainAnswers.{Answers}
 use Rattle.chain_laws.proofs.ChainGood.{with_effect}

@@ -47,6 +47,7 @@ pub mod ChainFits
 pub mod ChainLaws
 pub mod ChainStands
 pub mod ChainOpening
+pub mod ChainRow
 pub mod ChainCounted
 pub mod ChainKind
 pub mod Gathering
