@@ -36,6 +36,8 @@ pub mod ChainCodesAt
 pub mod ChainCodesWalk
 pub mod ChainHolding
 pub mod ChainCounted
+pub mod ChainDeeds
+pub mod ChainDeedsAt
 pub mod Gathering
 pub mod Growing
 pub mod Handling
