@@ -38,6 +38,7 @@ pub mod ChainHolding
 pub mod ChainCounted
 pub mod ChainDeeds
 pub mod ChainDeedsAt
+pub mod ChainDone
 pub mod Gathering
 pub mod Growing
 pub mod Handling
