@@ -23,7 +23,7 @@ item_free {A} c n ok high = go (c.writers n) (c.readers n) refl refl (ok.item n)
     go (Writing p v) Done e f h = absurd h
 
 -- the items of the next block are all beyond the tail
-next_high : (tail blocks : ℕ) (m : Mover) → BlocksOk tail blocks m → tail ≤ blocks * BLOCK_SLOTS
+pub next_high : (tail blocks : ℕ) (m : Mover) → BlocksOk tail blocks m → tail ≤ blocks * BLOCK_SLOTS
 next_high tail blocks Rests (inl h) = let e = h.0 in omega arith
 next_high tail blocks Rests (inr e) = omega arith
 next_high tail blocks (Laying who) h = let e = h.1 in omega arith

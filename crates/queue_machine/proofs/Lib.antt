@@ -39,6 +39,7 @@ pub mod ChainCounted
 pub mod ChainDeeds
 pub mod ChainDeedsAt
 pub mod ChainDone
+pub mod ChainShows
 pub mod Gathering
 pub mod Growing
 pub mod Handling
