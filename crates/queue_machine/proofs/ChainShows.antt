@@ -56,7 +56,7 @@ reads_claimed g q b i d ok lt claimed is =
     ap g.readers (sym (one_item g h.0 b i (g.names b) i ok lt h.2 refl refl)) ∙ h.1
 
 -- what a place shows of the list
-unread_none : {A : Type 0} (p : Place A) → p.item ≡ None → unread_in p ≡ []
+pub unread_none : {A : Type 0} (p : Place A) → p.item ≡ None → unread_in p ≡ []
 unread_none {A} p e = go (bit_and p.state READ == 0) (option_to_list p.item) (ap option_to_list e)
   where
     go : (t : Bool) (xs : List A) → xs ≡ [] → (if t then xs else []) ≡ []

@@ -40,6 +40,7 @@ pub mod ChainDeeds
 pub mod ChainDeedsAt
 pub mod ChainDone
 pub mod ChainShows
+pub mod ChainLinks
 pub mod Gathering
 pub mod Growing
 pub mod Handling
