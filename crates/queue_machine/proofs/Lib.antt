@@ -41,6 +41,7 @@ pub mod ChainDeedsAt
 pub mod ChainDone
 pub mod ChainShows
 pub mod ChainLinks
+pub mod ChainLeft
 pub mod Gathering
 pub mod Growing
 pub mod Handling
