@@ -49,6 +49,12 @@ pub mod ChainStands
 pub mod ChainOpening
 pub mod ChainRow
 pub mod ChainCounted
+pub mod ChainDeeds
+pub mod ChainDeedsAt
+pub mod ChainDone
+pub mod ChainShows
+pub mod ChainLinks
+pub mod ChainLeft
 pub mod ChainKind
 pub mod Gathering
 pub mod ChainGathering
