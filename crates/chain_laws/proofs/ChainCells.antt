@@ -141,6 +141,7 @@ pub record ChainOk {A : Type 0} (c : Chain A) : Type 0 where
   pub laid : BlocksOk c.tail c.blocks c.mover
   pub link : (b : ℕ) → LinkOk c.blocks b (c.links b)
   pub name : (b : ℕ) → b < c.blocks → c.uses (c.names b) ≡ Chained b
+  pub named : (f b : ℕ) → c.uses f ≡ Chained b → (b < c.blocks) × (c.names b ≡ f)
   pub fronted : FrontOk c.head c.front c.passer
   pub seen : ShownOk c.blocks c.head c.front c.known c.passer c.shown
   -- while the tail is moved on, its block is not linked yet, and the poppers are not past it

@@ -45,9 +45,9 @@ beyond {A} c n ok (inr (at_n, stands)) shown ne = go (eqb_tells c.tail n)
 
 -- V3
 pub good_pop_tail : {A : Type 0} (c : Chain A) (who : ℕ) (ms : List (State A)) (n : ℕ) (block : Option ℕ)
-    → ChainOk c → Holds c who Nothing → HeadIs c n → HeadBlockRead c n block → Good c who ms (chain.PopTail (head_of n false) block) None call.Pop [] (answer.Found (tail_word c))
+    → ChainOk c → Holds c who Nothing → HeadIs c n → HeadBlockRead c n block → Good c c who ms (chain.PopTail (head_of n false) block) None call.Pop [] (answer.Found (tail_word c))
 good_pop_tail {A} c who ms n block ok none is front =
-    still c who ms (chain.PopTail (head_of n false) block) None call.Pop [] (answer.Found (tail_word c)) ok (read_small c n false ok is) (go block front (eqb_tells (position_of (tail_word c)) (position_of (head_of n false))))
+    still c who ms (chain.PopTail (head_of n false) block) None call.Pop [] (answer.Found (tail_word c)) refl ok (read_small c n false ok is) (go block front (eqb_tells (position_of (tail_word c)) (position_of (head_of n false))))
   where
     at_place : position_of (head_of n false) ≡ place n
     at_place = omega arith

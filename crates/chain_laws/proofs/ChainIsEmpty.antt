@@ -30,9 +30,9 @@ some_is [] e = absurd (omega arith)
 some_is (x ∷ xs) e = refl
 
 pub good_empty_tail : {A : Type 0} (c : Chain A) (who : ℕ) (ms : List (State A)) (h : ℕ) → ChainOk c → Holds c who Nothing → IsWord h → SawEmpty (items_before (position_of h)) c ms
-    → Good c who ms (chain.EmptyTail h) None call.IsEmpty [] (answer.Found (tail_word c))
+    → Good c c who ms (chain.EmptyTail h) None call.IsEmpty [] (answer.Found (tail_word c))
 good_empty_tail {A} c who ms h ok none small saw =
-    still c who ms (chain.EmptyTail h) None call.IsEmpty [] (answer.Found (tail_word c)) ok (small, tail_small c ok) (go (eqb_tells (settled (position_of (tail_word c))) (settled (position_of h))))
+    still c who ms (chain.EmptyTail h) None call.IsEmpty [] (answer.Found (tail_word c)) refl ok (small, tail_small c ok) (go (eqb_tells (settled (position_of (tail_word c))) (settled (position_of h))))
   where
     go : (((settled (position_of (tail_word c)) == settled (position_of h)) ≡ true) × (settled (position_of (tail_word c)) ≡ settled (position_of h))) ⊎ (((settled (position_of (tail_word c)) == settled (position_of h)) ≡ false) × (settled (position_of (tail_word c)) ≢ settled (position_of h)))
         → Goes c who (queue_of c ∷ ms) (unbounded_next (chain.EmptyTail h) (answer.Found (tail_word c))) None call.IsEmpty []

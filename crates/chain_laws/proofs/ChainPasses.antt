@@ -28,6 +28,7 @@ pub record Passes {A : Type 0} (who : ℕ) (r s : Chain A) : Type 0 where
   pub linked : (b : ℕ) → r.links b ≡ Linked → s.links b ≡ Linked
   pub sees : r.shown ≡ Seen → s.shown ≡ Seen
   pub spares : (f other : ℕ) → other ≢ who → r.uses f ≡ Spare other → s.uses f ≡ Spare other
+  pub spared : (f other : ℕ) → other ≢ who → s.uses f ≡ Spare other → r.uses f ≡ Spare other
   pub held : (x : Part) (other : ℕ) → other ≢ who → owner r x ≡ Some other → Kept r s x
   pub owned : (x : Part) (other : ℕ) → other ≢ who → owner s x ≡ Some other → owner r x ≡ Some other
 
@@ -81,6 +82,7 @@ passes_same c who = record {
   linked = λ b e. e;
   sees = λ e. e;
   spares = λ f other ne e. e;
+  spared = λ f other ne e. e;
   held = held_same c who;
   owned = owned_same c who;
 }
@@ -118,6 +120,7 @@ passes_marked c who = record {
   linked = λ b e. e;
   sees = λ e. e;
   spares = λ f other ne e. e;
+  spared = λ f other ne e. e;
   held = held_marked c who;
   owned = owned_marked c who;
 }
@@ -155,6 +158,7 @@ passes_appended c who v m ok rest mine = record {
   linked = λ b e. e;
   sees = λ e. e;
   spares = λ f other ne e. e;
+  spared = λ f other ne e. e;
   held = held_appended c who v m ok rest mine;
   owned = owned_appended c who v m ok rest mine;
 }
@@ -192,6 +196,7 @@ passes_installed c who f ok none spare = record {
   linked = λ b e. e;
   sees = λ e. absurd (let z : Hidden ≡ Seen = sym (no_front c ok none).0 ∙ e in cc);
   spares = λ g other ne e. put_ok c.uses f g (Chained c.blocks) (λ j u. c.uses j ≡ Spare other → u ≡ Spare other) (λ e2. absurd (let z : Spare who ≡ Spare other = sym spare ∙ e2 in absurd (ne (let y : other ≡ who = cc in y)))) (λ no e2. e2) e;
+  spared = λ g other ne. put_ok c.uses f g (Chained c.blocks) (λ j u. u ≡ Spare other → c.uses j ≡ Spare other) (λ e. let z : Chained c.blocks ≡ Spare other = e in cc) (λ no e. e);
   held = held_installed c who f ok none spare;
   owned = owned_installed c who f ok none spare;
 }
@@ -229,6 +234,7 @@ passes_displayed c who is = record {
   linked = λ b e. e;
   sees = λ e. refl;
   spares = λ f other ne e. e;
+  spared = λ f other ne e. e;
   held = held_displayed c who is;
   owned = owned_displayed c who is;
 }

@@ -37,6 +37,7 @@ passes_laid_out c who f ok is lone spare = record {
   linked = λ b e. put_ok c.links (c.blocks - 1) b (Linking who) (λ j l. c.links j ≡ Linked → l ≡ Linked) (λ e2. absurd (let z : Unlinked ≡ Linked = sym lone ∙ e2 in cc)) (λ no e2. e2) e;
   sees = λ e. e;
   spares = λ g other ne e. put_ok c.uses f g (Chained c.blocks) (λ j u. c.uses j ≡ Spare other → u ≡ Spare other) (λ e2. absurd (let z : Spare who ≡ Spare other = sym spare ∙ e2 in absurd (ne (let y : other ≡ who = cc in y)))) (λ no e2. e2) e;
+  spared = λ g other ne. put_ok c.uses f g (Chained c.blocks) (λ j u. u ≡ Spare other → c.uses j ≡ Spare other) (λ e. let z : Chained c.blocks ≡ Spare other = e in cc) (λ no e. e);
   held = held_laid_out c who f ok is lone spare;
   owned = owned_laid_out c who f ok is lone spare;
 }
@@ -74,6 +75,7 @@ passes_opened c who is = record {
   linked = λ b e. e;
   sees = λ e. e;
   spares = λ f other ne e. e;
+  spared = λ f other ne e. e;
   held = held_opened c who is;
   owned = owned_opened c who is;
 }
@@ -111,6 +113,7 @@ passes_chained c who b is = record {
   linked = λ j e. put_ok c.links b j Linked (λ k l. c.links k ≡ Linked → l ≡ Linked) (λ e2. refl) (λ no e2. e2) e;
   sees = λ e. e;
   spares = λ f other ne e. e;
+  spared = λ f other ne e. e;
   held = held_chained c who b is;
   owned = owned_chained c who b is;
 }
@@ -148,6 +151,7 @@ passes_written c who n v is = record {
   linked = λ b e. e;
   sees = λ e. e;
   spares = λ f other ne e. e;
+  spared = λ f other ne e. e;
   held = held_written c who n v is;
   owned = owned_written c who n v is;
 }
@@ -171,8 +175,8 @@ owned_renamed c who f u mine (Next b) other ne e = e
 owned_renamed c who f u mine First other ne e = e
 owned_renamed c who f u mine (Passed b) other ne e = e
 
-pub passes_renamed : {A : Type 0} (c : Chain A) (who : ℕ) (f : ℕ) (u : Use) → ((other : ℕ) → other ≢ who → c.uses f ≢ Spare other) → Passes who c (renamed c f u)
-passes_renamed c who f u mine = record {
+pub passes_renamed : {A : Type 0} (c : Chain A) (who : ℕ) (f : ℕ) (u : Use) → ((other : ℕ) → other ≢ who → c.uses f ≢ Spare other) → ((other : ℕ) → other ≢ who → u ≢ Spare other) → Passes who c (renamed c f u)
+passes_renamed c who f u mine free = record {
   heads = inl refl;
   tails = inl refl;
   one = inl refl;
@@ -185,6 +189,7 @@ passes_renamed c who f u mine = record {
   linked = λ b e. e;
   sees = λ e. e;
   spares = λ g other ne e. put_ok c.uses f g u (λ j x. c.uses j ≡ Spare other → x ≡ Spare other) (λ e2. absurd (mine other ne e2)) (λ no e2. e2) e;
+  spared = λ g other ne. put_ok c.uses f g u (λ j x. x ≡ Spare other → c.uses j ≡ Spare other) (λ e. absurd (free other ne e)) (λ no e. e);
   held = held_renamed c who f u mine;
   owned = owned_renamed c who f u mine;
 }

@@ -38,6 +38,7 @@ passes_taken c who p more free stand mine = record {
   linked = λ b e. e;
   sees = λ e. e;
   spares = λ f other ne e. e;
+  spared = λ f other ne e. e;
   held = held_taken c who p more free stand mine;
   owned = owned_taken c who p more free stand mine;
 }
@@ -75,6 +76,7 @@ passes_passed c who is = record {
   linked = λ b e. e;
   sees = λ e. e;
   spares = λ f other ne e. e;
+  spared = λ f other ne e. e;
   held = held_passed c who is;
   owned = owned_passed c who is;
 }
@@ -112,6 +114,7 @@ passes_entered c who more is = record {
   linked = λ b e. e;
   sees = λ e. e;
   spares = λ f other ne e. e;
+  spared = λ f other ne e. e;
   held = held_entered c who more is;
   owned = owned_entered c who more is;
 }
@@ -149,6 +152,7 @@ passes_reads c who n w is free mine = record {
   linked = λ b e. e;
   sees = λ e. e;
   spares = λ f other ne e. e;
+  spared = λ f other ne e. e;
   held = held_reads c who n w is free mine;
   owned = owned_reads c who n w is free mine;
 }
@@ -186,6 +190,7 @@ passes_walked c who b w is mine = record {
   linked = λ b e. e;
   sees = λ e. e;
   spares = λ f other ne e. e;
+  spared = λ f other ne e. e;
   held = held_walked c who b w is mine;
   owned = owned_walked c who b w is mine;
 }

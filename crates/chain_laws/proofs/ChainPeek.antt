@@ -1,5 +1,5 @@
 -- Whether there is a block more behind the next one, and whether the chain is empty.
-use Rattle.std.proofs.Common.{ℕ, ◌+◌, ◌*◌, ◌/◌, ◌<◌, ◌≤◌, ◌≡◌, inl, inr, Bool, true, false, Some, None, List, [], ◌∷◌, subst, arith}
+use Rattle.std.proofs.Common.{ℕ, ◌+◌, ◌*◌, ◌/◌, ◌<◌, ◌≤◌, ◌≡◌, inl, inr, Bool, true, false, Some, None, List, [], ◌∷◌, subst, arith, refl}
 use Rattle.queue_steps.specs.declared.sizes.TheConstants.{BLOCK_SLOTS}
 use Rattle.queue_steps.specs.State.{State}
 use Rattle.queue_steps.specs.declared.model.Call.TheVariants as call
@@ -22,15 +22,15 @@ blocks_full tail blocks b (Opening who) h lt = let full = h.1 in omega arith
 -- V6
 pub good_peeking : {A : Type 0} (c : Chain A) (who : ℕ) (ms : List (State A)) (x : A) (n name after : ℕ) (more : Bool)
     → ChainOk c → Holds c who (Either (Read n) Head) → Got c who n x name → (c.passer ≡ Passing who) × (c.head ≡ n + 1) → IsBehind c n after
-    → Good c who ms (chain.Peeking (head_of n more) name after) None call.Pop (effect.Take x ∷ []) (answer.Linked (linked_of (c.links (n / BLOCK_SLOTS + 1)) (c.names (n / BLOCK_SLOTS + 1 + 1))))
+    → Good c c who ms (chain.Peeking (head_of n more) name after) None call.Pop (effect.Take x ∷ []) (answer.Linked (linked_of (c.links (n / BLOCK_SLOTS + 1)) (c.names (n / BLOCK_SLOTS + 1 + 1))))
 good_peeking {A} c who ms x n name after more ok holds got pass behind = go (c.links (n / BLOCK_SLOTS + 1)) (ok.link (n / BLOCK_SLOTS + 1))
   where
     front : FrontOk c.head c.front (Passing who)
     front = subst (λ p. FrontOk c.head c.front p) pass.0 ok.fronted
 
-    go : (l : Link) → LinkOk c.blocks (n / BLOCK_SLOTS + 1) l → Good c who ms (chain.Peeking (head_of n more) name after) None call.Pop (effect.Take x ∷ []) (answer.Linked (linked_of l (c.names (n / BLOCK_SLOTS + 1 + 1))))
-    go Unlinked h = still c who ms (chain.Peeking (head_of n more) name after) None call.Pop (effect.Take x ∷ []) (answer.Linked None) ok tt (passing x n name after more false holds got pass behind (λ e. cc))
-    go (Linking p) h = still c who ms (chain.Peeking (head_of n more) name after) None call.Pop (effect.Take x ∷ []) (answer.Linked None) ok tt (passing x n name after more false holds got pass behind (λ e. cc))
+    go : (l : Link) → LinkOk c.blocks (n / BLOCK_SLOTS + 1) l → Good c c who ms (chain.Peeking (head_of n more) name after) None call.Pop (effect.Take x ∷ []) (answer.Linked (linked_of l (c.names (n / BLOCK_SLOTS + 1 + 1))))
+    go Unlinked h = still c who ms (chain.Peeking (head_of n more) name after) None call.Pop (effect.Take x ∷ []) (answer.Linked None) refl ok tt (passing x n name after more false holds got pass behind (λ e. cc))
+    go (Linking p) h = still c who ms (chain.Peeking (head_of n more) name after) None call.Pop (effect.Take x ∷ []) (answer.Linked None) refl ok tt (passing x n name after more false holds got pass behind (λ e. cc))
     go Linked h =
-        still c who ms (chain.Peeking (head_of n more) name after) None call.Pop (effect.Take x ∷ []) (answer.Linked (Some (c.names (n / BLOCK_SLOTS + 1 + 1)))) ok tt
+        still c who ms (chain.Peeking (head_of n more) name after) None call.Pop (effect.Take x ∷ []) (answer.Linked (Some (c.names (n / BLOCK_SLOTS + 1 + 1)))) refl ok tt
         (passing x n name after more true holds got pass behind (λ e. let full = blocks_full c.tail c.blocks (n / BLOCK_SLOTS + 1) c.mover ok.laid h in let f = front in let at = pass.1 in omega arith))

@@ -50,16 +50,16 @@ refused_push kind.Push v = (reply.Push (Err (push.NoMemory v)), refl, (refl, ref
 refused_push kind.Force v = (reply.ForcePush (Err (force.NoMemory v)), refl, (refl, refl), tt)
 
 -- the ways on from a tail that a push found
-tail_ways : (d : PushKind) (x : ℕ) (spare : Option ℕ) (P : Next ℕ → Type 0)
+pub tail_ways : (d : PushKind) (x : ℕ) (spare : Option ℕ) (P : Next ℕ → Type 0)
     → (is_shut x ≡ true → P (next.Reply (closed_reply d) spare))
     → (is_shut x ≡ false → items_before (position_of x) ≡ LIMIT → P (at (chain.Spending d spare) touch.Nothing (op.Or word.Tail MARK)))
-    → P (loads (chain.PushTail d spare) word.Tail)
+    → (offset_of x ≡ BLOCK_SLOTS → P (loads (chain.PushTail d spare) word.Tail))
     → (is_shut x ≡ false → items_before (position_of x) ≢ LIMIT → offset_of x ≢ BLOCK_SLOTS → P (at (chain.PushBlock d x spare) touch.Nothing (op.LoadLink link.TailBlock)))
     → P (chain_tail_found d x spare)
 tail_ways d x spare P shut spent again on = at_mark (is_shut x) refl
   where
     at_end : is_shut x ≡ false → items_before (position_of x) ≢ LIMIT → (((offset_of x == BLOCK_SLOTS) ≡ true) × (offset_of x ≡ BLOCK_SLOTS)) ⊎ (((offset_of x == BLOCK_SLOTS) ≡ false) × (offset_of x ≢ BLOCK_SLOTS)) → P (chain_tail_found d x spare)
-    at_end f ne (inl e) = rw (f, ne_eqb (items_before (position_of x)) LIMIT ne, e.0) again
+    at_end f ne (inl e) = rw (f, ne_eqb (items_before (position_of x)) LIMIT ne, e.0) (again e.1)
     at_end f ne (inr e) = rw (f, ne_eqb (items_before (position_of x)) LIMIT ne, e.0) (on f ne e.1)
 
     at_limit : is_shut x ≡ false → (((items_before (position_of x) == LIMIT) ≡ true) × (items_before (position_of x) ≡ LIMIT)) ⊎ (((items_before (position_of x) == LIMIT) ≡ false) × (items_before (position_of x) ≢ LIMIT)) → P (chain_tail_found d x spare)
@@ -77,7 +77,7 @@ tail_goes {A} c who ms d v spare ok none spare_is =
     tail_ways d (tail_word c) spare (λ x. Goes c who (queue_of c ∷ ms) x (Some v) (pushes d v) [])
     (λ shut. let y = closed_push d v (queue_of c) (sym is ∙ shut) in (none, spare_gives c who spare spare_is, (y.0, y.1, y.2, λ e. inl (inl y.4))))
     (λ opened spent. spending d v spare none spare_is (let at = tail_items c ok in omega arith))
-    (push_tail d v spare none spare_is)
+    (λ over. push_tail d v spare none spare_is)
     (λ opened ne inner.
     let rests = tail_is_resting c ok inner in
     let most = ok.most in
@@ -94,9 +94,9 @@ tail_goes {A} c who ms d v spare ok none spare_is =
     at_block x = at (chain.PushBlock d x spare) touch.Nothing (op.LoadLink link.TailBlock)
 
 pub good_push_tail : {A : Type 0} (c : Chain A) (who : ℕ) (ms : List (State A)) (d : PushKind) (v : A) (spare : Option ℕ)
-    → ChainOk c → Holds c who Nothing → HasSpare c who spare → Good c who ms (chain.PushTail d spare) (Some v) (pushes d v) [] (answer.Found (tail_word c))
+    → ChainOk c → Holds c who Nothing → HasSpare c who spare → Good c c who ms (chain.PushTail d spare) (Some v) (pushes d v) [] (answer.Found (tail_word c))
 good_push_tail c who ms d v spare ok none spare_is =
-    still c who ms (chain.PushTail d spare) (Some v) (pushes d v) [] (answer.Found (tail_word c)) ok (tail_small c ok) (tail_goes c who ms d v spare ok none spare_is)
+    still c who ms (chain.PushTail d spare) (Some v) (pushes d v) [] (answer.Found (tail_word c)) refl ok (tail_small c ok) (tail_goes c who ms d v spare ok none spare_is)
 
 pub open_small : {A : Type 0} (c : Chain A) (q : ℕ) (ms : List (State A)) → SawTail c q ms → IsWord (open_tail_of q)
 open_small c q ms saw = let low = saw.below in omega arith
@@ -117,12 +117,12 @@ last_named {A} c q b ok (inr (at, rests)) e = go (subst (λ m. BlocksOk c.tail c
 offset_is : (q : ℕ) → offset_of (open_tail_of q) ≡ q % BLOCK_SLOTS
 offset_is q = omega arith
 
-none_spare : {A : Type 0} (c : Chain A) (who : ℕ) (spare : Option ℕ) → c.blocks ≡ 0 → HasSpare c who spare → spare ≡ None
+pub none_spare : {A : Type 0} (c : Chain A) (who : ℕ) (spare : Option ℕ) → c.blocks ≡ 0 → HasSpare c who spare → spare ≡ None
 none_spare c who None none h = refl
 none_spare c who (Some f) none h = absurd (let some = h.1 in omega arith)
 
 pub good_push_block : {A : Type 0} (c : Chain A) (who : ℕ) (ms : List (State A)) (d : PushKind) (v : A) (spare : Option ℕ) (q : ℕ)
-    → ChainOk c → Holds c who Nothing → HasSpare c who spare → SawTail c q ms → Good c who ms (chain.PushBlock d (open_tail_of q) spare) (Some v) (pushes d v) [] (answer.Linked (last_of c.names c.blocks))
+    → ChainOk c → Holds c who Nothing → HasSpare c who spare → SawTail c q ms → Good c c who ms (chain.PushBlock d (open_tail_of q) spare) (Some v) (pushes d v) [] (answer.Linked (last_of c.names c.blocks))
 good_push_block {A} c who ms d v spare q ok none spare_is saw = go c.blocks refl
   where
     with_block : (b : ℕ) (x : Option ℕ) → HasSpare c who x → c.blocks ≡ suc b → Goes c who (queue_of c ∷ ms) (tail_block_found d (open_tail_of q) (Some (c.names b)) x) (Some v) (pushes d v) []
@@ -134,21 +134,21 @@ good_push_block {A} c who ms d v spare q ok none spare_is saw = go c.blocks refl
         at_end (inl t) = rw t.0 (asking d v q (Some (c.names b)) none (saw_own c q ms (queue_of c) saw) (let at = t.1 in omega arith, last_named c q b ok saw.is e))
         at_end (inr t) = rw t.0 (claiming d v q (c.names b) None none tt (saw_own c q ms (queue_of c) saw) (last_named c q b ok saw.is e) (λ last. absurd (t.1 (omega arith))))
 
-    go : (n : ℕ) → c.blocks ≡ n → Good c who ms (chain.PushBlock d (open_tail_of q) spare) (Some v) (pushes d v) [] (answer.Linked (last_of c.names n))
+    go : (n : ℕ) → c.blocks ≡ n → Good c c who ms (chain.PushBlock d (open_tail_of q) spare) (Some v) (pushes d v) [] (answer.Linked (last_of c.names n))
     go zero e =
         let empty = no_block c ok e in
         let at : q ≡ 0 = elim saw.is [ inl lt ↦ absurd (let z = empty.1 in omega arith) | inr h ↦ (let z = empty.1 in let y = h.0 in omega arith) ] in
-        still c who ms (chain.PushBlock d (open_tail_of q) spare) (Some v) (pushes d v) [] (answer.Linked None) ok (open_small c q ms saw, λ _. none_spare c who spare e spare_is)
+        still c who ms (chain.PushBlock d (open_tail_of q) spare) (Some v) (pushes d v) [] (answer.Linked None) refl ok (open_small c q ms saw, λ _. none_spare c who spare e spare_is)
         (asking d v q None none (saw_own c q ms (queue_of c) saw) at)
     go (suc b) e =
-        still c who ms (chain.PushBlock d (open_tail_of q) spare) (Some v) (pushes d v) [] (answer.Linked (Some (c.names b))) ok (open_small c q ms saw, λ z. cc) (with_block b spare spare_is e)
+        still c who ms (chain.PushBlock d (open_tail_of q) spare) (Some v) (pushes d v) [] (answer.Linked (Some (c.names b))) refl ok (open_small c q ms saw, λ z. cc) (with_block b spare spare_is e)
 
 -- U3, refused: one of the call's moments allows it
 pub good_refused : {A : Type 0} (c : Chain A) (who : ℕ) (ms : List (State A)) (d : PushKind) (v : A) (q : ℕ) (block : Option ℕ)
-    → ChainOk c → Holds c who Nothing → SawTail c q ms → Asks c q block → Good c who ms (chain.Asking d (open_tail_of q) block) (Some v) (pushes d v) [] answer.Refused
+    → ChainOk c → Holds c who Nothing → SawTail c q ms → Asks c q block → Good c c who ms (chain.Asking d (open_tail_of q) block) (Some v) (pushes d v) [] answer.Refused
 good_refused {A} c who ms d v q block ok none saw asked =
     let y = refused_push d v in
-    still c who ms (chain.Asking d (open_tail_of q) block) (Some v) (pushes d v) [] answer.Refused ok tt
+    still c who ms (chain.Asking d (open_tail_of q) block) (Some v) (pushes d v) [] answer.Refused refl ok tt
     (none, tt, (y.0, y.1, y.2, λ e. inr (seen_map ms (λ m was. inr (y.3, (was.0, was.1, allowed block asked m was))) saw.moment)))
   where
     allowed : (block : Option ℕ) → Asks c q block → (m : State A) → WasOpenAt q m → (m.accepted ≡ 0) ⊎ (m.accepted % BLOCK_SLOTS ≡ BLOCK_SLOTS - 1)
@@ -157,16 +157,16 @@ good_refused {A} c who ms d v q block ok none saw asked =
 
 -- U3, granted: a block that was nobody's is the call's
 pub good_granted : {A : Type 0} (c : Chain A) (who : ℕ) (ms : List (State A)) (d : PushKind) (v : A) (q : ℕ) (block : Option ℕ) (f : ℕ)
-    → ChainOk c → Holds c who Nothing → SawTail c q ms → Asks c q block → c.uses f ≡ Unused → Good c who ms (chain.Asking d (open_tail_of q) block) (Some v) (pushes d v) [] (answer.Granted f)
+    → ChainOk c → Holds c who Nothing → SawTail c q ms → Asks c q block → c.uses f ≡ Unused → Good c (renamed c f (Spare who)) who ms (chain.Asking d (open_tail_of q) block) (Some v) (pushes d v) [] (answer.Granted f)
 good_granted {A} c who ms d v q block f ok none saw asked unused =
-    silent c s who ms (chain.Asking d (open_tail_of q) block) (Some v) (pushes d v) [] (answer.Granted f) ok2 refl
-    (passes_renamed c who f (Spare who) (λ other ne e. let z : Unused ≡ Spare other = sym unused ∙ e in cc)) (open_small c q ms saw) (go block asked)
+    silent c s who ms (chain.Asking d (open_tail_of q) block) (Some v) (pushes d v) [] (answer.Granted f) refl ok2 refl
+    (passes_renamed c who f (Spare who) (λ other ne e. let z : Unused ≡ Spare other = sym unused ∙ e in cc) (λ other ne e. ne (let z : Spare who ≡ Spare other = e in cc))) (open_small c q ms saw) (go block asked)
   where
     s : Chain A
     s = renamed c f (Spare who)
 
     ok2 : ChainOk (renamed c f (Spare who))
-    ok2 = rename_ok c f (Spare who) ok (λ b e. let z : Unused ≡ Chained b = sym unused ∙ e in cc)
+    ok2 = rename_ok c f (Spare who) ok (λ b e. let z : Unused ≡ Chained b = sym unused ∙ e in cc) (λ b e. let z : Spare who ≡ Chained b = e in cc)
 
     saw2 : SawTail (renamed c f (Spare who)) q (queue_of c ∷ ms)
     saw2 = record { below = saw.below; is = saw.is; moment = inr saw.moment }

@@ -8,12 +8,13 @@ use Rattle.queue_steps.specs.declared.model.Effect.TheVariants as effect
 use Rattle.queue_steps.specs.declared.steps.types.Answer.TheVariants as answer
 use Rattle.queue_steps.specs.declared.steps.unbounded.UnboundedLocal.TheVariants as chain
 use Rattle.chain_laws.proofs.ChainGood.{Goes, Good, still, silent}
-use Rattle.std.proofs.Common.{ℕ, ◌+◌, ◌/◌, ◌%◌, ◌<◌, ◌≡◌, ◌≢◌, ◌==◌, not, ◌∙◌, ◌⊎◌, inl, inr, Bool, true, false, Some, None, Ok, List, [], ◌∷◌, refl, sym, ap, subst, arith, bit_and}
+use Rattle.std.proofs.Common.{ℕ, ◌+◌, ◌/◌, ◌%◌, ◌<◌, ◌≡◌, ◌≢◌, ◌==◌, not, ◌∙◌, ◌⊎◌, inl, inr, Bool, true, false, if◌then◌else◌, Some, None, Ok, List, [], ◌∷◌, refl, sym, ap, subst, arith, bit_and}
 use Rattle.chain_laws.proofs.ChainCells.{Writer, Free, Writing, Wrote, Reading, Done, Walk, Before, Walker, Waits, GivenUp, Chain, queue_of, value, WalkOk, item_at, LAST, ChainOk, put, put_ok, put_same, Read, Passed, walker_of, Holds}
 use Rattle.chain_laws.proofs.ChainReads as moves
 use Rattle.chain_laws.proofs.ChainReads.{read_ok, walk_read, own_item, walk_after, walk_after_ok, walked_same}
 use Rattle.chain_laws.proofs.ChainPassesReads.{passes_reads}
 use Rattle.chain_laws.proofs.ChainAnswers.{IsState}
+use Rattle.chain_laws.proofs.ChainAfter.{if_read}
 use Rattle.chain_laws.proofs.ChainHolds.{after_read, after_read_on}
 use Rattle.queue_steps.specs.UnboundedNext.{written_found}
 use Rattle.queue_steps.specs.ChainWords.{offset_of}
@@ -34,7 +35,7 @@ wrote_is (Wrote v) x e t = ap (λ y. Wrote y) (cc)
 -- V9
 pub good_awaiting : {A : Type 0} (c : Chain A) (who : ℕ) (ms : List (State A)) (x : A) (n name : ℕ) (more : Bool) (st : ℕ)
     → ChainOk c → Holds c who (Only (Read n)) → Got c who n x name → IsState c (n / BLOCK_SLOTS) (n % BLOCK_SLOTS) st
-    → Good c who ms (chain.Awaiting (head_of n more) name) None call.Pop (effect.Take x ∷ []) (answer.Found st)
+    → Good c c who ms (chain.Awaiting (head_of n more) name) None call.Pop (effect.Take x ∷ []) (answer.Found st)
 good_awaiting {A} c who ms x n name more st ok holds got state = go (is_wrote (c.writers n)) refl
   where
     written : (bit_and st 1 == 0) ≡ not (is_wrote (c.writers n))
@@ -45,11 +46,11 @@ good_awaiting {A} c who ms x n name more st ok holds got state = go (is_wrote (c
     last t (inl e) = rw (written ∙ ap not t, e.0) (beginning x n name more holds got (wrote_is (c.writers n) x got.item t) (let o = head_offset n more in let l = e.1 in omega arith))
     last t (inr e) = rw (written ∙ ap not t, e.0) (reading x n name more holds got (wrote_is (c.writers n) x got.item t) (λ l. e.1 (let o = head_offset n more in omega arith)))
 
-    go : (t : Bool) → is_wrote (c.writers n) ≡ t → Good c who ms (chain.Awaiting (head_of n more) name) None call.Pop (effect.Take x ∷ []) (answer.Found st)
-    go false t = still c who ms (chain.Awaiting (head_of n more) name) None call.Pop (effect.Take x ∷ []) (answer.Found st) ok tt (rw (written ∙ ap not t) (awaiting x n name more holds got))
-    go true t = still c who ms (chain.Awaiting (head_of n more) name) None call.Pop (effect.Take x ∷ []) (answer.Found st) ok tt (last t (eqb_tells (offset_of (head_of n more) + 1) BLOCK_SLOTS))
+    go : (t : Bool) → is_wrote (c.writers n) ≡ t → Good c c who ms (chain.Awaiting (head_of n more) name) None call.Pop (effect.Take x ∷ []) (answer.Found st)
+    go false t = still c who ms (chain.Awaiting (head_of n more) name) None call.Pop (effect.Take x ∷ []) (answer.Found st) refl ok tt (rw (written ∙ ap not t) (awaiting x n name more holds got))
+    go true t = still c who ms (chain.Awaiting (head_of n more) name) None call.Pop (effect.Take x ∷ []) (answer.Found st) refl ok tt (last t (eqb_tells (offset_of (head_of n more) + 1) BLOCK_SLOTS))
 
-waits_is : (w : Walk) (slot : ℕ) → waits_at w slot ≡ true → w ≡ Waits slot
+pub waits_is : (w : Walk) (slot : ℕ) → waits_at w slot ≡ true → w ≡ Waits slot
 waits_is Before slot e = cc
 waits_is (Walker p i) slot e = cc
 waits_is GivenUp slot e = cc
@@ -62,7 +63,7 @@ not_waits w slot i e is same = let z : waits_at (Waits slot) slot ≡ false = su
 -- V10, in the middle of a block
 pub good_reading : {A : Type 0} (c : Chain A) (who : ℕ) (ms : List (State A)) (x : A) (n name i st : ℕ)
     → ChainOk c → Holds c who (Only (Read n)) → Got c who n x name → c.writers n ≡ Wrote x → (IsLast n → ⊥) → i ≡ n % BLOCK_SLOTS → IsState c (n / BLOCK_SLOTS) i st
-    → Good c who ms (chain.Reading name i) (Some x) call.Pop (effect.Take x ∷ []) (answer.Found st)
+    → Good c (if_read c who n i) who ms (chain.Reading name i) (Some x) call.Pop (effect.Take x ∷ []) (answer.Found st)
 good_reading {A} c who ms x n name i st ok holds got wrote inner is state = go (waits_at (c.walks (n / BLOCK_SLOTS)) i) refl
   where
     b : ℕ
@@ -80,11 +81,11 @@ good_reading {A} c who ms x n name i st ok holds got wrote inner is state = go (
     low : i < LAST
     low = omega (arith, is, inner)
 
-    go : (t : Bool) → waits_at (c.walks (n / BLOCK_SLOTS)) i ≡ t → Good c who ms (chain.Reading name i) (Some x) call.Pop (effect.Take x ∷ []) (answer.Found st)
+    go : (t : Bool) → waits_at (c.walks (n / BLOCK_SLOTS)) i ≡ t → Good c (moves.reads c n (if t then walk_after who i else c.walks (n / BLOCK_SLOTS))) who ms (chain.Reading name i) (Some x) call.Pop (effect.Take x ∷ []) (answer.Found st)
     go false t =
         let kept : WalkOk (put c.readers n Done) (n / BLOCK_SLOTS) (c.walks (n / BLOCK_SLOTS)) =
         walk_read c.readers n (n / BLOCK_SLOTS) (c.walks (n / BLOCK_SLOTS)) (λ e z. inner (omega (arith, z))) (λ j e z. not_waits (c.walks (n / BLOCK_SLOTS)) i j t e (let y = item in omega (arith, z, y))) (ok.walk (n / BLOCK_SLOTS)) in
-        silent c (moves.reads c n (c.walks (n / BLOCK_SLOTS))) who ms (chain.Reading name i) (Some x) call.Pop (effect.Take x ∷ []) (answer.Found st)
+        silent c (moves.reads c n (c.walks (n / BLOCK_SLOTS))) who ms (chain.Reading name i) (Some x) call.Pop (effect.Take x ∷ []) (answer.Found st) refl
         (read_ok c who n x (c.walks (n / BLOCK_SLOTS)) ok got.mine wrote kept) refl (passes_reads c who n (c.walks (n / BLOCK_SLOTS)) got.mine (λ other ne z. refl) (λ other ne z. z)) (let l = low in omega arith)
         (rw (tested ∙ ap not t) (after_read c who n (c.walks (n / BLOCK_SLOTS)) (λ z. let y = holds (Passed (n / BLOCK_SLOTS)) z in cc) holds, tt, (reply.Pop (Ok x), refl, refl, λ z. cc)))
     go true t =
@@ -93,7 +94,7 @@ good_reading {A} c who ms x n name i st ok holds got wrote inner is state = go (
         let keeps : (j : ℕ) → c.readers j ≡ Done → put c.readers n Done j ≡ Done = λ j. put_ok c.readers n j Done (λ k r. c.readers k ≡ Done → r ≡ Done) (λ e. refl) (λ ne e. e) in
         let next_ok : WalkOk (put c.readers n Done) (n / BLOCK_SLOTS) (walk_after who i) =
         walk_after_ok (put c.readers n Done) (n / BLOCK_SLOTS) who i low (walked_same c.readers (put c.readers n Done) (n / BLOCK_SLOTS) i keeps waiting.1) (ap (put c.readers n Done) item ∙ put_same c.readers n Done) in
-        silent c (moves.reads c n (walk_after who i)) who ms (chain.Reading name i) (Some x) call.Pop (effect.Take x ∷ []) (answer.Found st)
+        silent c (moves.reads c n (walk_after who i)) who ms (chain.Reading name i) (Some x) call.Pop (effect.Take x ∷ []) (answer.Found st) refl
         (read_ok c who n x (walk_after who i) ok got.mine wrote next_ok) refl
         (passes_reads c who n (walk_after who i) got.mine (λ other ne z. let y : None ≡ Some other = ap walker_of (sym at) ∙ z in cc) (λ other ne z. absurd (after_mine who other i ne z))) (let l = low in omega arith)
         (rw (tested ∙ ap not t) (on_goes (moves.reads c n (walk_after who i)) who (queue_of c ∷ ms) x (n / BLOCK_SLOTS) name i low got.named (put_same c.walks (n / BLOCK_SLOTS) (walk_after who i))

@@ -4,7 +4,7 @@ use Rattle.std.proofs.lemmas.List.{length-append}
 use Rattle.queue_steps.specs.declared.sizes.TheConstants.{LIMIT, BLOCK_SLOTS}
 use Rattle.queue_steps.specs.declared.model.Effect.TheVariants as effect
 use Rattle.queue_steps.specs.Effect.{Fits}
-use Rattle.chain_laws.proofs.ChainCells.{Writer, Free, Writing, Wrote, Reader, Unread, Reading, Done, Mover, Rests, Laying, Opening, Passer, Stands, Link, Unlinked, Linking, Linked, Shown, Hidden, Showing, Seen, Use, Spare, Chained, Chain, queue_of, ItemOk, BlocksOk, LinkOk, ShownOk, ChainOk, put, put_ok}
+use Rattle.chain_laws.proofs.ChainCells.{Writer, Free, Writing, Wrote, Reader, Unread, Reading, Done, Mover, Rests, Laying, Opening, Passer, Stands, Link, Unlinked, Linking, Linked, Shown, Hidden, Showing, Seen, Use, Spare, Chained, Chain, queue_of, ItemOk, BlocksOk, LinkOk, ShownOk, ChainOk, put, put_ok, put_same, put_other}
 
 front_stays : {X : Type 0} (xs : List X) (y : X) (k : ℕ) (v : X) → slice_get xs k ≡ Some v → slice_get (xs ++ y ∷ []) k ≡ Some v
 front_stays [] y k v e = cc
@@ -17,20 +17,24 @@ last_is [] y (suc k) e = absurd (omega arith)
 last_is (x ∷ xs) y zero e = absurd (omega arith)
 last_is (x ∷ xs) y (suc k) e = last_is xs y k (omega arith)
 
--- the place of the next item is free
-fresh_item : {A : Type 0} (head tail : ℕ) (items : List A) (w : Writer A) (r : Reader) → head ≤ tail → ItemOk head tail items tail w r → (w ≡ Free) × (r ≡ Unread)
-fresh_item head tail items Free Unread low ok = (refl, refl)
-fresh_item head tail items (Writing who v) Unread low ok = absurd (let lt = ok.1 in omega arith)
-fresh_item head tail items (Wrote v) Unread low ok = absurd (let lt = ok.1 in omega arith)
-fresh_item head tail items (Writing who v) (Reading p) low ok = absurd (omega arith)
-fresh_item head tail items (Wrote v) (Reading p) low ok = absurd (omega arith)
-fresh_item head tail items (Wrote v) Done low ok = absurd (omega arith)
-fresh_item head tail items Free (Reading p) low ok = absurd ok
-fresh_item head tail items Free Done low ok = absurd ok
-fresh_item head tail items (Writing who v) Done low ok = absurd ok
+-- the places of items beyond the tail are free
+fresh_item : {A : Type 0} (head tail : ℕ) (items : List A) (n : ℕ) (w : Writer A) (r : Reader) → head ≤ tail → tail ≤ n → ItemOk head tail items n w r → (w ≡ Free) × (r ≡ Unread)
+fresh_item head tail items n Free Unread low high ok = (refl, refl)
+fresh_item head tail items n (Writing who v) Unread low high ok = absurd (let lt = ok.1 in omega arith)
+fresh_item head tail items n (Wrote v) Unread low high ok = absurd (let lt = ok.1 in omega arith)
+fresh_item head tail items n (Writing who v) (Reading p) low high ok = absurd (omega arith)
+fresh_item head tail items n (Wrote v) (Reading p) low high ok = absurd (omega arith)
+fresh_item head tail items n (Wrote v) Done low high ok = absurd (omega arith)
+fresh_item head tail items n Free (Reading p) low high ok = absurd ok
+fresh_item head tail items n Free Done low high ok = absurd ok
+fresh_item head tail items n (Writing who v) Done low high ok = absurd ok
 
+pub item_free : {A : Type 0} (c : Chain A) (n : ℕ) → ChainOk c → c.tail ≤ n → (c.writers n ≡ Free) × (c.readers n ≡ Unread)
+item_free c n ok high = fresh_item c.head c.tail c.items n (c.writers n) (c.readers n) (let e = ok.count in omega arith) high (ok.item n)
+
+-- the place of the next item is free
 pub next_free : {A : Type 0} (c : Chain A) → ChainOk c → (c.writers c.tail ≡ Free) × (c.readers c.tail ≡ Unread)
-next_free c ok = fresh_item c.head c.tail c.items (c.writers c.tail) (c.readers c.tail) (let e = ok.count in omega arith) (ok.item c.tail)
+next_free c ok = item_free c c.tail ok (omega arith)
 
 -- an append leaves what is so of the other items
 item_append : {A : Type 0} (head tail : ℕ) (items : List A) (v : A) (n : ℕ) (w : Writer A) (r : Reader) → n ≢ tail → ItemOk head tail items n w r → ItemOk head (tail + 1) (items ++ v ∷ []) n w r
@@ -62,6 +66,7 @@ append_ok {A} c who v m ok opened below blocks other =
         laid = blocks;
         link = ok.link;
         name = ok.name;
+        named = ok.named;
         fronted = ok.fronted;
         opens = λ p e. absurd (other p e);
         reaches = λ p e. absurd (other p e);
@@ -110,6 +115,12 @@ name_more {A} c who f ok spare b lt =
     (λ other e2. named) refl)
     refl
 
+named_more : {A : Type 0} (c : Chain A) (f : ℕ) → ChainOk c → (g b : ℕ) → put c.uses f (Chained c.blocks) g ≡ Chained b → (b < c.blocks + 1) × (put c.names c.blocks f b ≡ g)
+named_more c f ok g b =
+    put_ok c.uses f g (Chained c.blocks) (λ j u. u ≡ Chained b → (b < c.blocks + 1) × (put c.names c.blocks f b ≡ j))
+    (λ e. let at : b ≡ c.blocks = cc in (omega arith, rw at (put_same c.names c.blocks f)))
+    (λ ne e. let h = ok.named g b e in let low = h.0 in (omega arith, put_other c.names c.blocks b f (λ z. omega arith) ∙ h.1))
+
 link_more : (blocks b : ℕ) (l : Link) → b + 1 ≢ blocks → LinkOk blocks b l → LinkOk (blocks + 1) b l
 link_more blocks b Unlinked ne h = omega arith
 link_more blocks b (Linking who) ne h = omega arith
@@ -131,6 +142,7 @@ install_ok c who f ok none spare =
       laid = rw (empty.0) (inr (omega arith));
       link = λ b. link_more c.blocks b (c.links b) (λ e. omega arith) (ok.link b);
       name = name_more c who f ok spare;
+      named = named_more c f ok;
       fronted = ok.fronted;
       opens = λ p e. absurd (let z : Rests ≡ Opening p = sym empty.0 ∙ e in cc);
       reaches = λ p e. absurd (let z : Rests ≡ Opening p = sym empty.0 ∙ e in cc);
@@ -154,6 +166,7 @@ display_ok c who ok is = record {
   laid = ok.laid;
   link = ok.link;
   name = ok.name;
+  named = ok.named;
   fronted = ok.fronted;
   opens = ok.opens;
   reaches = ok.reaches;
@@ -189,6 +202,7 @@ lay_ok c who f ok is spare =
       laid = (omega arith, omega arith);
       link = λ b. put_ok c.links (c.blocks - 1) b (Linking who) (λ j l. LinkOk (c.blocks + 1) j l) (omega arith) (λ ne. link_more c.blocks b (c.links b) (λ e. ne (omega arith)) (ok.link b));
       name = name_more c who f ok spare;
+      named = named_more c f ok;
       fronted = ok.fronted;
       opens = λ p e. put_ok c.links (c.blocks - 1) (c.blocks + 1 - 2) (Linking who) (λ j l. l ≡ Linking p) (ap (λ q. Linking q) (let z : who ≡ p = cc in z)) (λ ne. absurd (ne (omega arith)));
       reaches = λ p e. let low = front_low c.blocks c.head c.front c.known c.passer c.shown some ok.seen in omega arith;
@@ -212,6 +226,7 @@ open_ok c who ok is =
       laid = inr (omega arith);
       link = ok.link;
       name = ok.name;
+      named = ok.named;
       fronted = ok.fronted;
       opens = λ p e. cc;
       reaches = λ p e. cc;
@@ -232,6 +247,7 @@ chain_ok c who b ok is other = record {
   laid = ok.laid;
   link = λ j. put_ok c.links b j Linked (λ j l. LinkOk c.blocks j l) (let h : LinkOk c.blocks b (Linking who) = rw is at (ok.link b) in h) (λ ne. ok.link j);
   name = ok.name;
+  named = ok.named;
   fronted = ok.fronted;
   opens = λ p e. put_ok c.links b (c.blocks - 2) Linked (λ j l. j ≡ c.blocks - 2 → l ≡ Linking p) (λ at. absurd (other (let z : Linking p ≡ Linking who = sym (ok.opens p e) ∙ (ap c.links (sym at) ∙ is) in let w : p ≡ who = cc in e ∙ ap (λ q. Opening q) w))) (λ ne at. ok.opens p e) refl;
   reaches = ok.reaches;
@@ -258,6 +274,7 @@ write_ok {A} c who n v ok is = record {
   laid = ok.laid;
   link = ok.link;
   name = ok.name;
+  named = ok.named;
   fronted = ok.fronted;
   opens = ok.opens;
   reaches = ok.reaches;
@@ -278,6 +295,7 @@ mark_ok c ok = record {
   laid = ok.laid;
   link = ok.link;
   name = ok.name;
+  named = ok.named;
   fronted = ok.fronted;
   opens = ok.opens;
   reaches = ok.reaches;
@@ -286,18 +304,19 @@ mark_ok c ok = record {
   walk = ok.walk;
 }
 
--- U3: a block is granted, or a call gives its spare up: a name that is not the chain's is used otherwise
+-- U3: a block is granted, or a call gives its spare up: a name is used otherwise, and the chain's blocks are the same
 abbrev pub renamed : {A : Type 0} → Chain A → ℕ → Use → Chain A
 renamed c f u = record c { uses = put c.uses f u }
 
-pub rename_ok : {A : Type 0} (c : Chain A) (f : ℕ) (u : Use) → ChainOk c → ((b : ℕ) → c.uses f ≢ Chained b) → ChainOk (renamed c f u)
-rename_ok c f u ok ne = record {
+pub rename_ok : {A : Type 0} (c : Chain A) (f : ℕ) (u : Use) → ChainOk c → ((b : ℕ) → c.uses f ≡ Chained b → u ≡ Chained b) → ((b : ℕ) → u ≡ Chained b → c.uses f ≡ Chained b) → ChainOk (renamed c f u)
+rename_ok c f u ok keeps back = record {
   count = ok.count;
   most = ok.most;
   item = ok.item;
   laid = ok.laid;
   link = ok.link;
-  name = λ b lt. put_ok c.uses f (c.names b) u (λ j x. j ≡ c.names b → x ≡ Chained b) (λ e. absurd (ne b (ap c.uses e ∙ ok.name b lt))) (λ other e. ok.name b lt) refl;
+  name = λ b lt. put_ok c.uses f (c.names b) u (λ j x. j ≡ c.names b → x ≡ Chained b) (λ e. keeps b (ap c.uses e ∙ ok.name b lt)) (λ other e. ok.name b lt) refl;
+  named = λ g b. put_ok c.uses f g u (λ j x. x ≡ Chained b → (b < c.blocks) × (c.names b ≡ j)) (λ e. ok.named f b (back b e)) (λ other e. ok.named g b e);
   fronted = ok.fronted;
   opens = ok.opens;
   reaches = ok.reaches;

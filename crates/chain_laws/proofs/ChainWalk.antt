@@ -8,7 +8,7 @@ use Rattle.queue_steps.specs.declared.model.Effect.TheVariants as effect
 use Rattle.queue_steps.specs.declared.steps.types.Answer.TheVariants as answer
 use Rattle.queue_steps.specs.declared.steps.unbounded.UnboundedLocal.TheVariants as chain
 use Rattle.chain_laws.proofs.ChainGood.{Goes, Good, still, silent}
-use Rattle.std.proofs.Common.{ℕ, ◌+◌, ◌<◌, ◌≡◌, ◌≢◌, not, ◌∙◌, ◌⊎◌, inl, inr, Bool, true, false, Some, None, Ok, List, [], ◌∷◌, refl, sym, ap, subst, arith}
+use Rattle.std.proofs.Common.{ℕ, ◌+◌, ◌<◌, ◌≡◌, ◌≢◌, not, ◌∙◌, ◌⊎◌, inl, inr, Bool, true, false, if◌then◌else◌, Some, None, Ok, List, [], ◌∷◌, refl, sym, ap, subst, arith}
 use Rattle.queue_steps.specs.UnboundedNext.{walks_on}
 use Rattle.chain_laws.proofs.ChainCells.{Reader, Unread, Reading, Done, Walker, Waits, GivenUp, Chain, queue_of, WalkOk, IsWalked, item_at, LAST, ChainOk, put_same, Passed, walker_of, Holds, Nothing}
 use Rattle.chain_laws.proofs.ChainReads as moves
@@ -16,12 +16,13 @@ use Rattle.chain_laws.proofs.ChainReads.{read_ok, walk_read, own_item, walk_afte
 use Rattle.chain_laws.proofs.ChainPassesReads.{passes_walked}
 use Rattle.chain_laws.proofs.ChainFacts.{IsNamed}
 use Rattle.chain_laws.proofs.ChainAt.{Only, walking, destroying}
-use Rattle.chain_laws.proofs.ChainAnswers.{IsState, is_done}
+use Rattle.chain_laws.proofs.ChainAnswers.{done_is, IsState, is_done}
+use Rattle.chain_laws.proofs.ChainAfter.{if_walked, if_destroyed}
 use Rattle.chain_laws.proofs.ChainHolds.{after_walk, after_walk_on}
 use Rattle.std.proofs.lemmas.Bool.{lt-ltb, le-ltb}
 
 -- whose the walk is after a slot
-after_walker : (who slot : ℕ) → ((walk_after who slot ≡ GivenUp) × (slot + 1 ≡ LAST)) ⊎ ((walk_after who slot ≡ Walker who (slot + 1)) × (slot + 1 ≢ LAST))
+pub after_walker : (who slot : ℕ) → ((walk_after who slot ≡ GivenUp) × (slot + 1 ≡ LAST)) ⊎ ((walk_after who slot ≡ Walker who (slot + 1)) × (slot + 1 ≢ LAST))
 after_walker who slot = elim (eqb_tells (slot + 1) LAST) [ inl t ↦ inl (rw t.0 refl, t.1) | inr n ↦ inr (rw n.0 refl, n.1) ]
 
 -- the walk is no other party's
@@ -47,11 +48,6 @@ walker_ok c who b slot ok is = subst (λ w. WalkOk c.readers b w) is (ok.walk b)
 walks_mine : {A : Type 0} (c : Chain A) (who b slot : ℕ) → c.walks b ≡ Walker who slot → (other : ℕ) → other ≢ who → walker_of (c.walks b) ≢ Some other
 walks_mine c who b slot is other ne e = let z : Some who ≡ Some other = ap walker_of (sym is) ∙ e in absurd (ne (let y : other ≡ who = cc in y))
 
-done_is : (r : Reader) → is_done r ≡ true → r ≡ Done
-done_is Unread e = cc
-done_is (Reading p) e = cc
-done_is Done e = refl
-
 undone : (r : Reader) → is_done r ≡ false → r ≢ Done
 undone Unread e z = cc
 undone (Reading p) e z = cc
@@ -70,36 +66,36 @@ passes_slot c who ms x b name slot ok holds is named read =
 -- W1
 pub good_walking : {A : Type 0} (c : Chain A) (who : ℕ) (ms : List (State A)) (x : A) (b name slot st : ℕ)
     → ChainOk c → Holds c who (Only (Passed b)) → c.walks b ≡ Walker who slot → IsNamed c b name → IsState c b slot st
-    → Good c who ms (chain.Walking name slot) (Some x) call.Pop (effect.Take x ∷ []) (answer.Found st)
+    → Good c (if_walked c who b slot) who ms (chain.Walking name slot) (Some x) call.Pop (effect.Take x ∷ []) (answer.Found st)
 good_walking {A} c who ms x b name slot st ok holds is named state = go (is_done (c.readers (item_at b slot))) refl
   where
     low : slot < BLOCK_SLOTS
     low = let at = (walker_ok c who b slot ok is).0 in omega arith
 
-    go : (t : Bool) → is_done (c.readers (item_at b slot)) ≡ t → Good c who ms (chain.Walking name slot) (Some x) call.Pop (effect.Take x ∷ []) (answer.Found st)
+    go : (t : Bool) → is_done (c.readers (item_at b slot)) ≡ t → Good c (if t then moves.walked c b (walk_after who slot) else c) who ms (chain.Walking name slot) (Some x) call.Pop (effect.Take x ∷ []) (answer.Found st)
     go true e =
         let p = passes_slot c who (queue_of c ∷ ms) x b name slot ok holds is named (done_is (c.readers (item_at b slot)) e) in
-        silent c (moves.walked c b (walk_after who slot)) who ms (chain.Walking name slot) (Some x) call.Pop (effect.Take x ∷ []) (answer.Found st) p.0 refl
+        silent c (moves.walked c b (walk_after who slot)) who ms (chain.Walking name slot) (Some x) call.Pop (effect.Take x ∷ []) (answer.Found st) refl p.0 refl
         (passes_walked c who b (walk_after who slot) (walks_mine c who b slot is) (λ other ne. after_mine who other slot ne)) low (rw (state.read ∙ ap not e) p.1)
-    go false e = still c who ms (chain.Walking name slot) (Some x) call.Pop (effect.Take x ∷ []) (answer.Found st) ok low (rw (state.read ∙ ap not e) (destroying x b name slot holds is named))
+    go false e = still c who ms (chain.Walking name slot) (Some x) call.Pop (effect.Take x ∷ []) (answer.Found st) refl ok low (rw (state.read ∙ ap not e) (destroying x b name slot holds is named))
 
 -- W2
 pub good_destroying : {A : Type 0} (c : Chain A) (who : ℕ) (ms : List (State A)) (x : A) (b name slot st : ℕ)
     → ChainOk c → Holds c who (Only (Passed b)) → c.walks b ≡ Walker who slot → IsNamed c b name → IsState c b slot st
-    → Good c who ms (chain.Destroying name slot) (Some x) call.Pop (effect.Take x ∷ []) (answer.Found st)
+    → Good c (if_destroyed c who b slot) who ms (chain.Destroying name slot) (Some x) call.Pop (effect.Take x ∷ []) (answer.Found st)
 good_destroying {A} c who ms x b name slot st ok holds is named state = go (is_done (c.readers (item_at b slot))) refl
   where
     low : slot < BLOCK_SLOTS
     low = let at = (walker_ok c who b slot ok is).0 in omega arith
 
-    go : (t : Bool) → is_done (c.readers (item_at b slot)) ≡ t → Good c who ms (chain.Destroying name slot) (Some x) call.Pop (effect.Take x ∷ []) (answer.Found st)
+    go : (t : Bool) → is_done (c.readers (item_at b slot)) ≡ t → Good c (moves.walked c b (if t then walk_after who slot else Waits slot)) who ms (chain.Destroying name slot) (Some x) call.Pop (effect.Take x ∷ []) (answer.Found st)
     go true e =
         let p = passes_slot c who (queue_of c ∷ ms) x b name slot ok holds is named (done_is (c.readers (item_at b slot)) e) in
-        silent c (moves.walked c b (walk_after who slot)) who ms (chain.Destroying name slot) (Some x) call.Pop (effect.Take x ∷ []) (answer.Found st) p.0 refl
+        silent c (moves.walked c b (walk_after who slot)) who ms (chain.Destroying name slot) (Some x) call.Pop (effect.Take x ∷ []) (answer.Found st) refl p.0 refl
         (passes_walked c who b (walk_after who slot) (walks_mine c who b slot is) (λ other ne. after_mine who other slot ne)) low (rw (state.read ∙ ap not e) p.1)
     go false e =
         let at = walker_ok c who b slot ok is in
-        silent c (moves.walked c b (Waits slot)) who ms (chain.Destroying name slot) (Some x) call.Pop (effect.Take x ∷ []) (answer.Found st)
+        silent c (moves.walked c b (Waits slot)) who ms (chain.Destroying name slot) (Some x) call.Pop (effect.Take x ∷ []) (answer.Found st) refl
         (walk_ok c b (Waits slot) ok (at.0, at.1, undone (c.readers (item_at b slot)) e)) refl
         (passes_walked c who b (Waits slot) (walks_mine c who b slot is) (λ other ne z. let y : None ≡ Some other = z in cc)) low
         (rw (state.read ∙ ap not e) (after_walk c who b (Waits slot) (λ z. let y : None ≡ Some who = z in cc) holds, tt, (reply.Pop (Ok x), refl, refl, λ z. cc)))

@@ -9,6 +9,7 @@ pub mod ChainFacts
 pub mod ChainAt
 pub mod ChainAnswers
 pub mod ChainGood
+pub mod ChainAfter
 pub mod ChainPush
 pub mod ChainHolds
 pub mod ChainClaim
@@ -20,3 +21,18 @@ pub mod ChainEmpty
 pub mod ChainPeek
 pub mod ChainBegin
 pub mod ChainIsEmpty
+pub mod ChainStep
+pub mod ChainRanks
+pub mod ChainRanksPush
+pub mod ChainRanksPop
+pub mod ChainRanksWalk
+pub mod ChainRanksStep
+pub mod ChainStart
+pub mod ChainGiven
+pub mod ChainSpares
+pub mod ChainRight
+pub mod Count
+pub mod ChainHands
+pub mod ChainCount
+pub mod ChainSpan
+pub mod ChainFirst

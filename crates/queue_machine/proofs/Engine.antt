@@ -13,7 +13,8 @@ use Rattle.queue_machine.specs.declared.types.Event.{Event}
 use Rattle.queue_machine.specs.declared.types.Event.TheVariants.{Begin, Step}
 use Rattle.queue_machine.specs.Book.{Book, Open, Moves, GoesOn, Stays, Ends, Steps, Happens, put, watched, joined, at_open, after_own, begun, has_steps}
 use Rattle.queue_machine.specs.World.{World, Made, Begun, call_at, can_begin, stepped, stepped_if, began, began_by, world_event}
-use Rattle.queue_machine.proofs.Busy.{busy_of, busy_set, one_if, one_busy}
+use Rattle.queue_machine.specs.Present.{present}
+use Rattle.queue_machine.proofs.Busy.{busy_set, one_if, one_busy}
 
 both : (a b : Bool) → (a && b) ≡ true → (a ≡ true) × (b ≡ true)
 both true true e = (refl, refl)
@@ -77,7 +78,7 @@ module _ (T S R G : Type 0) (cap : Option ℕ) (step : Bool → S → R → Made
   pub record Simulates (parties : ℕ) (w : World S R) (b : Book T) : Type 0 where
     pub g : G
     pub parties_are : length w.calls ≡ parties
-    pub busy_is : b.busy ≡ busy_of w.calls
+    pub busy_is : b.busy ≡ present w.calls
     pub holds : Holds w.shared b.queue g
     pub each : (p : ℕ) → Party b.busy w.shared b.queue g p (call_at w p) (b.open_call p)
 
@@ -117,8 +118,8 @@ module _ (T S R G : Type 0) (cap : Option ℕ) (step : Bool → S → R → Made
 
   -- how the count of calls in progress goes on
   busy_after : (calls : List (Option R)) (p : ℕ) (r : R) (busy : ℕ) (x : Option R) (y : Option (Reply T)) (s : S) (Q : State T) (g : G) (o : Open T)
-      → Goes busy s Q g p o x y → p < length calls → get_or calls p None ≡ Some r → busy ≡ busy_of calls
-      → (if is_some y then busy - 1 else busy) ≡ busy_of (set calls p x)
+      → Goes busy s Q g p o x y → p < length calls → get_or calls p None ≡ Some r → busy ≡ present calls
+      → (if is_some y then busy - 1 else busy) ≡ present (set calls p x)
   busy_after calls p r busy (Some r') None s Q g o goes lt there is =
       let e = busy_set calls p (Some r') lt in
       let f : one_if (get_or calls p None) ≡ 1 = rw there refl in
@@ -189,7 +190,7 @@ module _ (T S R G : Type 0) (cap : Option ℕ) (step : Bool → S → R → Made
   same_fit : (parties : ℕ) (w : World S R) (b : Book T) (sim : Simulates parties w b) (p : ℕ) → (nat_lt p parties && is_none (b.open_call p)) ≡ can_begin w p
   same_fit parties w b sim p = rw (sim.parties_are, party_none b.busy w.shared b.queue sim.g p (call_at w p) (b.open_call p) (sim.each p)) refl
 
-  busy_begun : (calls : List (Option R)) (p : ℕ) (r : R) (busy : ℕ) → p < length calls → get_or calls p None ≡ None → busy ≡ busy_of calls → busy + 1 ≡ busy_of (set calls p (Some r))
+  busy_begun : (calls : List (Option R)) (p : ℕ) (r : R) (busy : ℕ) → p < length calls → get_or calls p None ≡ None → busy ≡ present calls → busy + 1 ≡ present (set calls p (Some r))
   busy_begun calls p r busy lt there is =
       let e = busy_set calls p (Some r) lt in
       let f : one_if (get_or calls p None) ≡ 0 = rw there refl in

@@ -25,7 +25,7 @@ use Rattle.queue_machine.specs.declared.types.EffectKind.{EffectKind}
 use Rattle.queue_machine.specs.declared.types.EffectKind.TheVariants as effect
 use Rattle.queue_machine.specs.declared.machine.Running.{Running}
 use Rattle.queue_machine.specs.Book.{is_prompt, kind_of}
-use Rattle.queue_machine.specs.Cells.{Shared, CanTouch, CanOperate, after_touch, answer_to, answered, operated, next_after, carried_then}
+use Rattle.queue_machine.specs.Cells.{Shared, CanTouch, CanOperate, slots_there, block_touched, after_touch, after_operation, answer_to, answered, operated, next_after, carried_then}
 use Rattle.queue_machine.specs.EffectOf.{effect_of}
 use Rattle.queue_machine.proofs.RingCells.{Ring, queue_of, RingOk, HoldsNone}
 use Rattle.queue_machine.proofs.RingPasses.{Passes, passes_same, Seen}
@@ -113,23 +113,23 @@ with_effect es (Some e) = es ++ e ∷ []
 pub record Good {A : Type 0} (cap : ℕ) (r : Ring A) (who : ℕ) (s : Shared A) (ms : List (State A)) (was : Bool) (x : Running A) (k : Call A) (es : List (Effect A)) : Type 0 where
   pub after : Ring A
   pub e : Option (Effect A)
-  pub touches : CanTouch x.touch (length s.slots)
+  pub touches : CanTouch x.touch (slots_there s (block_touched x.op))
   pub operates : CanOperate (after_touch s x) x.op
-  pub goes_on : CanNext (queue.Bounded cap) x.local (answer_to s x)
+  pub goes_on : CanNext (queue.Bounded cap) x.local (answer_to true s x)
   pub ok : RingOk cap after
-  pub codes : Codes cap after (operated (after_touch s x) x.op)
-  pub makes : Makes cap r after was (effect_of (queue.Bounded cap) x.local (answer_to s x)) e
+  pub codes : Codes cap after (after_operation true s x)
+  pub makes : Makes cap r after was (effect_of (queue.Bounded cap) x.local (answer_to true s x)) e
   pub passes : Passes who r after
-  pub goes : Goes cap r after who (queue_of cap after ∷ ms) (was || not after.closed) (next_after (queue.Bounded cap) s x) (carried_then s x) k (with_effect es e) (rank cap r x.local)
+  pub goes : Goes cap r after who (queue_of cap after ∷ ms) (was || not after.closed) (next_after (queue.Bounded cap) true s x) (carried_then s x) k (with_effect es e) (rank cap r x.local)
 
 abbrev pub running : {A : Type 0} → Local ℕ → Touch → Op ℕ → Option A → Running A
 running l t o v = record { local = l; touch = t; op = o; carried = v }
 
 -- a step that changes nothing
 pub still : {A : Type 0} (cap : ℕ) (r : Ring A) (who : ℕ) (s : Shared A) (ms : List (State A)) (was : Bool) (l : Local ℕ) (o : Op ℕ) (v : Option A) (k : Call A) (es : List (Effect A))
-    → RingOk cap r → Codes cap r s → CanOperate s o → operated s o ≡ s
-    → CanNext (queue.Bounded cap) l (answered s o) → effect_of (queue.Bounded cap) l (answered s o) ≡ None
-    → Goes cap r r who (queue_of cap r ∷ ms) (was || not r.closed) (next_of (queue.Bounded cap) l (answered s o)) v k es (rank cap r l)
+    → RingOk cap r → Codes cap r s → CanOperate s o → operated true s o ≡ s
+    → CanNext (queue.Bounded cap) l (answered true s o) → effect_of (queue.Bounded cap) l (answered true s o) ≡ None
+    → Goes cap r r who (queue_of cap r ∷ ms) (was || not r.closed) (next_of (queue.Bounded cap) l (answered true s o)) v k es (rank cap r l)
     → Good cap r who s ms was (running l touch.Nothing o v) k es
 still cap r who s ms was l o v k es ok codes operates same goes_on none goes = record {
   after = r;

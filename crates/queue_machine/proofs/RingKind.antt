@@ -1,8 +1,9 @@
 -- All that a ring owes the machine.
-use Rattle.std.proofs.Common.{ℕ}
+use Rattle.std.proofs.Common.{ℕ, ap}
 use Rattle.queue_steps.specs.Words.{IsRing}
 use Rattle.queue_steps.specs.declared.steps.types.Kind.TheVariants as kind
 use Rattle.queue_machine.proofs.KindLaws.{KindLaws}
+use Rattle.queue_machine.proofs.Counted.{counted-none}
 use Rattle.queue_machine.proofs.RingCells.{Ring}
 use Rattle.queue_machine.proofs.RingLaws.{RingHolds, RingIdle, RingFits, ring_steps}
 use Rattle.queue_machine.proofs.RingOpening.{opening_ring, ring_opens, ring_all_idle}
@@ -20,4 +21,5 @@ ring_laws T n ring = record {
   opens = ring_opens T n ring;
   all_idle = ring_all_idle T;
   leaves = λ parties w b sim. ring_leaves n parties w b sim;
+  counts = λ parties w b sim. counted-none w b n sim.holds.no_blocks (ap (λ q. q.cap) sim.holds.queue_is);
 }

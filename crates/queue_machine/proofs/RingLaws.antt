@@ -1,5 +1,5 @@
 -- A ring keeps the laws of the engine.
-use Rattle.std.proofs.Common.{ℕ, ◌+◌, ◌<◌, ◌≤◌, ◌≡◌, ◌≢◌, ◌==◌, ◌||◌, not, ◌∙◌, inl, inr, suc, Bool, true, false, if◌then◌else◌, Option, Some, None, List, [], ◌∷◌, refl, sym, ap, arith}
+use Rattle.std.proofs.Common.{ℕ, ◌+◌, ◌<◌, ◌≤◌, ◌≡◌, ◌≢◌, ◌==◌, ◌||◌, not, ◌∙◌, inl, inr, suc, Bool, true, false, if◌then◌else◌, Option, Some, None, List, [], ◌∷◌, refl, sym, ap, subst, arith}
 use Rattle.std.specs.List.{Any}
 use Rattle.std.proofs.lemmas.Bool.Decides.{eqb_tells}
 use Rattle.queue_steps.specs.declared.sizes.TheConstants.{LONE_STEPS}
@@ -23,12 +23,14 @@ use Rattle.queue_machine.specs.declared.types.EffectKind.{EffectKind}
 use Rattle.queue_machine.specs.declared.types.EffectKind.TheVariants as effect
 use Rattle.queue_machine.specs.declared.machine.Running.{Running}
 use Rattle.queue_machine.specs.Book.{Open, Moves, MayMake, Allows, after_own, begun, is_prompt, joined}
-use Rattle.queue_machine.specs.Cells.{Shared, CanStep, CanReply, step_of, start_of, next_after, carried_then, running_after, reply_after}
+use Rattle.queue_machine.specs.Cells.{Shared, CanStep, CanReply, step_of, start_of, next_after, carried_then, running_after, reply_after, after_operation}
 use Rattle.queue_machine.proofs.Engine as engine
 use Rattle.queue_machine.proofs.KindLaws.{LawsOf}
 use Rattle.queue_machine.proofs.RingCells.{Ring, queue_of, RingOk, HoldsNone}
 use Rattle.queue_machine.proofs.RingPasses.{Seen, none_stays}
-use Rattle.queue_machine.proofs.RingWords.{Codes}
+use Rattle.queue_machine.proofs.RingWords.{Codes, codes_blocks}
+use Rattle.queue_machine.proofs.Plain.{IsPlain, plain-can, plain-step, plain-blocks}
+use Rattle.queue_machine.specs.World.{Made}
 use Rattle.queue_machine.proofs.RingAt.{pushes, At, at_stays, at_begun, push_tail, push_stamp, claiming, filling, push_head, displacing, arriving, swapping, spending, pop_head, pop_stamp, taking, emptying, pop_tail, len_tail, len_head, len_again, empty_head, empty_tail, full_tail, full_head, closing, closed_tail}
 use Rattle.queue_machine.proofs.RingGood.{rank, rank_small, longest, IsQuiet, IsCalm, Goes, MayFront, Makes, with_effect, Good, running, not_prompt}
 use Rattle.queue_machine.proofs.RingPush.{good_push_tail, good_push_stamp}
@@ -99,6 +101,7 @@ pub record RingHolds {A : Type 0} (cap : ℕ) (s : Shared A) (Q : State A) (g : 
   pub ok : RingOk cap g
   pub codes : Codes cap g s
   pub queue_is : Q ≡ queue_of cap g
+  pub no_blocks : s.blocks ≡ []
 
 abbrev pub RingIdle : {A : Type 0} → Ring A → ℕ → Type 0
 RingIdle g p = HoldsNone g.cells p
@@ -161,23 +164,53 @@ can_reply : {A : Type 0} (cap : ℕ) (r s : Ring A) (who : ℕ) (ms : List (Stat
 can_reply cap r s who ms was (next.Step l t o) v k es m goes = tt
 can_reply cap r s who ms was (next.Reply x spare) v k es m goes = rw goes.1.1 refl
 
+-- a call on a ring needs no block
+plain : {A : Type 0} {cap : ℕ} {r : Ring A} {who : ℕ} {ms : List (State A)} {was : Bool} {l : Local ℕ} {t : Touch} {o : Op ℕ} {v : Option A} {k : Call A} {es : List (Effect A)}
+    → At cap r who ms was l t o v k es → IsPlain o
+plain (push_tail d v none) = tt
+plain (push_stamp d v t none saw) = tt
+plain (claiming d v t none saw free) = tt
+plain (filling d v q one) = tt
+plain (push_head v t none saw) = tt
+plain (displacing v t h none saw back full) = tt
+plain (arriving old v t h below back one) = tt
+plain (swapping old v h one) = tt
+plain (spending d v none high) = tt
+plain (pop_head none) = tt
+plain (pop_stamp h none low) = tt
+plain (taking h none low full) = tt
+plain (emptying x h one) = tt
+plain (pop_tail h none low free) = tt
+plain (len_tail none) = tt
+plain (len_head t none low) = tt
+plain (len_again t h none seen) = tt
+plain (empty_head none) = tt
+plain (empty_tail h none saw) = tt
+plain (full_tail none) = tt
+plain (full_head t none saw) = tt
+plain (closing none) = tt
+plain (closed_tail none) = tt
+
 pub ring_can_step : {A : Type 0} (cap busy : ℕ) (granted : Bool) (s : Shared A) (Q : State A) (g : Ring A) (p : ℕ) (x : Running A) (o : Open A)
     → RingHolds cap s Q g → RingFits cap busy s Q g p x o → CanStep (queue.Bounded cap) granted s x
 ring_can_step cap busy granted s Q g p x o holds f =
     let good = step_good cap g p s o.moments o.was_open holds.ok holds.codes f.here in
-    record {
+    plain-can (queue.Bounded cap) granted s x.local x.touch x.op x.carried (plain f.here) (record {
       touches = good.touches;
       operates = good.operates;
       goes_on = good.goes_on;
-      replies = can_reply cap g good.after p (queue_of cap good.after ∷ o.moments) (o.was_open || not good.after.closed) (next_after (queue.Bounded cap) s x) (carried_then s x) o.call (with_effect o.effects good.e) (rank cap g x.local) good.goes;
-    }
+      replies = can_reply cap g good.after p (queue_of cap good.after ∷ o.moments) (o.was_open || not good.after.closed) (next_after (queue.Bounded cap) true s x) (carried_then s x) o.call (with_effect o.effects good.e) (rank cap g x.local) good.goes;
+    })
 
 -- the engine's words at a ring
 abbrev RingGoes : (A : Type 0) → ℕ → ℕ → Shared A → State A → Ring A → ℕ → Open A → Option (Running A) → Option (Reply A) → Type 0
 RingGoes A cap = engine.Goes A (Shared A) (Running A) (Ring A) (Some cap) (step_of (queue.Bounded cap)) (start_of (queue.Bounded cap)) (CanStep (queue.Bounded cap)) (RingHolds cap) RingIdle (RingFits cap)
 
+abbrev RingMadeWell : (A : Type 0) → ℕ → ℕ → Shared A → State A → Ring A → ℕ → Open A → Made (Shared A) (Running A) A → Type 0
+RingMadeWell A cap busy s Q g p o t = engine.StepsWell A (Shared A) (Running A) (Ring A) (Some cap) (step_of (queue.Bounded cap)) (start_of (queue.Bounded cap)) (CanStep (queue.Bounded cap)) (RingHolds cap) RingIdle (RingFits cap) busy s Q g p o t
+
 abbrev RingStepsWell : (A : Type 0) → ℕ → ℕ → Shared A → State A → Ring A → ℕ → Open A → Running A → Bool → Type 0
-RingStepsWell A cap busy s Q g p o x granted = engine.StepsWell A (Shared A) (Running A) (Ring A) (Some cap) (step_of (queue.Bounded cap)) (start_of (queue.Bounded cap)) (CanStep (queue.Bounded cap)) (RingHolds cap) RingIdle (RingFits cap) busy s Q g p o (step_of (queue.Bounded cap) granted s x)
+RingStepsWell A cap busy s Q g p o x granted = RingMadeWell A cap busy s Q g p o (step_of (queue.Bounded cap) granted s x)
 
 -- the count of steps alone, after one more
 few_after : (busy alone n m : ℕ) → (busy ≡ 1 → alone + n ≤ longest) → (busy ≡ 1 → m < n) → (busy ≡ 1 → (if busy == 1 then alone + 1 else 0) + m ≤ longest) × (busy ≢ 1 → (if busy == 1 then alone + 1 else 0) ≡ 0)
@@ -222,20 +255,25 @@ goes_well {A} cap busy s g g' p o (next.Reply x spare) v es m quiet few prompt g
     let y = goes.1 in
     rw y.1 (goes.0, (y.2, λ e. seen_any (queue_of cap g' ∷ o.moments) (λ m. IsRightAt m o.call y.0) (Allows o.call y.0) (λ m right. inl right) (y.3 e)))
 
-pub ring_steps_well : {A : Type 0} (cap busy : ℕ) (granted : Bool) (s : Shared A) (Q : State A) (g : Ring A) (p : ℕ) (x : Running A) (o : Open A)
+steps_granted : {A : Type 0} (cap busy : ℕ) (s : Shared A) (Q : State A) (g : Ring A) (p : ℕ) (x : Running A) (o : Open A)
     → RingHolds cap s Q g → RingFits cap busy s Q g p x o → (busy ≡ 1 → (j : ℕ) → j ≢ p → RingIdle g j)
-    → RingStepsWell A cap busy s Q g p o x granted
-ring_steps_well {A} cap busy granted s Q g p x o holds f quiet =
+    → RingStepsWell A cap busy s Q g p o x true
+steps_granted {A} cap busy s Q g p x o holds f quiet =
     let good = step_good cap g p s o.moments o.was_open holds.ok holds.codes f.here in
     let after = good.after in
-    let s' = (step_of (queue.Bounded cap) granted s x).shared in
+    let t = step_of (queue.Bounded cap) true s x in
     record {
       after = queue_of cap after;
       kept = after;
       effects = with_effect o.effects good.e;
-      holds = record { ok = good.ok; codes = good.codes; queue_is = refl };
-      moves = makes_moves cap g after Q o (step_of (queue.Bounded cap) granted s x).effect good.e holds.queue_is good.makes;
-      goes = goes_well cap busy s' g after p o (next_after (queue.Bounded cap) s x) (carried_then s x) (with_effect o.effects good.e) (rank cap g x.local) quiet f.few f.prompt good.goes;
+      holds = record {
+        ok = good.ok;
+        codes = codes_blocks cap after (after_operation true s x) t.shared.blocks good.codes;
+        queue_is = refl;
+        no_blocks = plain-blocks (queue.Bounded cap) true s x (plain f.here) holds.no_blocks;
+      };
+      moves = makes_moves cap g after Q o t.effect good.e holds.queue_is good.makes;
+      goes = goes_well cap busy t.shared g after p o (next_after (queue.Bounded cap) true s x) (carried_then s x) (with_effect o.effects good.e) (rank cap g x.local) quiet f.few f.prompt good.goes;
       idle = λ j ne idle. none_stays p j ne good.passes idle;
       others = λ busy' j y m ne many h. record {
         here = at_stays holds.ok good.ok ne good.passes h.here;
@@ -244,6 +282,12 @@ ring_steps_well {A} cap busy granted s Q g p x o holds f quiet =
         prompt = λ e. let same = prompt_rank after h.here e in let old = h.prompt e in omega arith;
       };
     }
+
+pub ring_steps_well : {A : Type 0} (cap busy : ℕ) (granted : Bool) (s : Shared A) (Q : State A) (g : Ring A) (p : ℕ) (x : Running A) (o : Open A)
+    → RingHolds cap s Q g → RingFits cap busy s Q g p x o → (busy ≡ 1 → (j : ℕ) → j ≢ p → RingIdle g j)
+    → RingStepsWell A cap busy s Q g p o x granted
+ring_steps_well {A} cap busy granted s Q g p x o holds f quiet =
+    subst (λ t. RingMadeWell A cap busy s Q g p o t) (sym (plain-step (queue.Bounded cap) granted s x.local x.touch x.op x.carried (plain f.here))) (steps_granted cap busy s Q g p x o holds f quiet)
 
 -- a call just begun
 fresh : {A : Type 0} (cap : ℕ) (s : Shared A) (Q : State A) (g : Ring A) (p : ℕ) (k : Call A) (x : Running A)

@@ -50,6 +50,7 @@ ring_opens A cap ring = record {
     slot = λ i lt. get_or-replicate cap i None None lt;
   };
   queue_is = refl;
+  no_blocks = refl;
 }
 
 pub ring_all_idle : (A : Type 0) (p : ℕ) → RingIdle (opening_ring A) p

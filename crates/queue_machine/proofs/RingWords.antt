@@ -7,6 +7,7 @@ use Rattle.std.proofs.lemmas.Bool.Decides.{eqb_tells}
 use Rattle.queue_steps.specs.declared.sizes.TheConstants.{LIMIT}
 use Rattle.queue_steps.specs.Words.{IsWord, position_of, is_shut, tail_of, stamp_free, stamp_filled}
 use Rattle.queue_steps.specs.declared.steps.bounded.TheConstants.{MARK, TAIL_STEP}
+use Rattle.queue_machine.specs.Blocks.{Block}
 use Rattle.queue_machine.specs.Cells.{Shared}
 use Rattle.queue_machine.proofs.RingCells.{Cell, Free, Written, Full, Read, Coming, Swapped, Ring, CellOk, RingOk, together}
 use Rattle.queue_machine.proofs.RingTransitions.{in_ring}
@@ -37,6 +38,10 @@ pub record Codes {A : Type 0} (cap : ℕ) (r : Ring A) (s : Shared A) : Type 0 w
   pub slotted : length s.slots ≡ cap
   pub stamp : (i : ℕ) → i < cap → get_or s.stamps i 0 ≡ stamp_in (r.cells i)
   pub slot : (i : ℕ) → i < cap → get_or s.slots i None ≡ item_in (r.cells i)
+
+-- a ring's words and slots stay, whatever the blocks are
+pub codes_blocks : {A : Type 0} (cap : ℕ) (r : Ring A) (s : Shared A) (bs : List (Option (Block A))) → Codes cap r s → Codes cap r (record s { blocks = bs })
+codes_blocks cap r s bs c = record { head = c.head; tail = c.tail; stamped = c.stamped; slotted = c.slotted; stamp = c.stamp; slot = c.slot }
 
 pub position_tail : (q : ℕ) (c : Bool) → position_of (tail_of q c) ≡ q
 position_tail q true = omega arith

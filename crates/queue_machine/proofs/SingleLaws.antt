@@ -169,12 +169,12 @@ can_take {T} busy ok s Q g p r o holds f =
     rw holds.shared_is (
     let good = step_good f.here (share_of (p == g.who) g.hold) holds.stands ok holds.n o.moments o.was_open o.steps o.alone in
     let slot = one_slot holds.word holds.slot in
-    let can = can_operate holds.word holds.slot f.here in
+    let can = can_operate ok holds.word holds.slot f.here in
     record {
       touches = can.0;
       operates = can.1;
       goes_on = can.2;
-      replies = replies_if (next_after kind.Single slot r) (carried_then slot r) good.own' o.call good.es' (single good.items' good.c' good.n' ∷ o.moments) good.lands;
+      replies = replies_if (next_after kind.Single ok slot r) (carried_then slot r) good.own' o.call good.es' (single good.items' good.c' good.n' ∷ o.moments) good.lands;
     })
 
 fresh : {T : Type 0} (s : Shared T) (Q : State T) (g : Keeps T) (p : ℕ) (k : Call T) (r : Running T) → Idle g p → At r.local r.touch r.op r.carried Nobody k [] → (busy : ℕ) → FitsIn busy s Q g p r (begun k)

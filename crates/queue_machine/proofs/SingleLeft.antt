@@ -18,6 +18,7 @@ use Rattle.queue_machine.specs.Left.{left_of, settled}
 use Rattle.queue_machine.specs.World.{World, call_at}
 use Rattle.queue_machine.proofs.Engine as engine
 use Rattle.queue_machine.proofs.KindLaws.{SimulatesOf, KindLaws}
+use Rattle.queue_machine.proofs.Counted.{counted-none}
 use Rattle.queue_machine.proofs.Settled.{writes, writes_slot, settled-none, settled-one}
 use Rattle.queue_machine.proofs.SingleLaws.{Keeps, own_of, Holds, Idle, FitsIn, single_engine}
 use Rattle.queue_machine.proofs.SingleRows.{Hold, Nobody, Filling, Swapping, Taking, Stands, free_empty, free_full, filling, swapping, taking, At, push_try, push_put, force_try_empty, force_try_full, force_put_empty, force_put_full, pop_try, pop_take, close_try, look_at}
@@ -119,4 +120,5 @@ single_laws T = record {
   opens = record { word = 0; slot = None; items = []; c = false; n = 0; shared_is = refl; queue_is = refl; stands = free_empty false };
   all_idle = λ p. elim (p == 0) as (λ b. if◌then◌else◌ {A = Hold T} b Nobody Nobody ≡ Nobody) [ true ↦ refl | false ↦ refl ];
   leaves = λ parties w b sim. single_left parties w b sim;
+  counts = λ parties w b sim. counted-none w b 1 (ap (λ s. s.blocks) sim.holds.shared_is) (ap (λ q. q.cap) sim.holds.queue_is);
 }

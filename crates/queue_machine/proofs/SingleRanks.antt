@@ -11,7 +11,7 @@ use Rattle.queue_steps.specs.declared.steps.types.Look.TheVariants as look
 use Rattle.queue_steps.specs.declared.steps.types.Op.{Op}
 use Rattle.queue_steps.specs.declared.steps.types.Touch.{Touch}
 use Rattle.queue_machine.specs.Book.{is_prompt}
-use Rattle.queue_machine.specs.Cells.{CanTouch, CanOperate, answer_to, after_touch}
+use Rattle.queue_machine.specs.Cells.{CanTouch, CanOperate, answer_to, after_touch, slots_there, block_touched}
 use Rattle.queue_steps.specs.Next.{CanNext}
 use Rattle.queue_steps.specs.declared.steps.types.Kind.TheVariants as kind
 use Rattle.std.specs.Prelude.{◌≤◌}
@@ -68,18 +68,18 @@ prompt_ends word slot ok (look_at look.IsFull) e = refl
 prompt_ends word slot ok (look_at look.Len) e = cc
 
 -- the step touches the one slot and the one word, and its answer is what the call waits for
-pub can_operate : {T : Type 0} {l : Local ℕ} {t : Touch} {o : Op ℕ} {v : Option T} {own : Hold T} {k : Call T} {es : List (Effect T)} (word : ℕ) (slot : Option T)
-    → At l t o v own k es → CanTouch t 1 × CanOperate (after_touch (one_slot word slot) (record { local = l; touch = t; op = o; carried = v })) o × CanNext kind.Single l (answer_to (one_slot word slot) (record { local = l; touch = t; op = o; carried = v }))
-can_operate word slot (push_try v) = (tt, tt, tt)
-can_operate word slot (push_put v) = (omega arith, tt, tt)
-can_operate word slot (force_try_empty v) = (tt, tt, tt)
-can_operate word slot (force_try_full v) = (tt, tt, tt)
-can_operate word slot (force_put_empty v) = (omega arith, tt, tt)
-can_operate word slot (force_put_full old v) = (omega arith, tt, tt)
-can_operate word slot (pop_try d) = (tt, tt, tt)
-can_operate word slot (pop_take x) = (omega arith, tt, tt)
-can_operate word slot (close_try) = (tt, tt, tt)
-can_operate word slot (look_at l) = (tt, tt, tt)
+pub can_operate : {T : Type 0} {l : Local ℕ} {t : Touch} {o : Op ℕ} {v : Option T} {own : Hold T} {k : Call T} {es : List (Effect T)} (ok : Bool) (word : ℕ) (slot : Option T)
+    → At l t o v own k es → CanTouch t (slots_there (one_slot word slot) (block_touched o)) × CanOperate (after_touch (one_slot word slot) (record { local = l; touch = t; op = o; carried = v })) o × CanNext kind.Single l (answer_to ok (one_slot word slot) (record { local = l; touch = t; op = o; carried = v }))
+can_operate ok word slot (push_try v) = (tt, tt, tt)
+can_operate ok word slot (push_put v) = (omega arith, tt, tt)
+can_operate ok word slot (force_try_empty v) = (tt, tt, tt)
+can_operate ok word slot (force_try_full v) = (tt, tt, tt)
+can_operate ok word slot (force_put_empty v) = (omega arith, tt, tt)
+can_operate ok word slot (force_put_full old v) = (omega arith, tt, tt)
+can_operate ok word slot (pop_try d) = (tt, tt, tt)
+can_operate ok word slot (pop_take x) = (omega arith, tt, tt)
+can_operate ok word slot (close_try) = (tt, tt, tt)
+can_operate ok word slot (look_at l) = (tt, tt, tt)
 
 pub rank_small : (l : Local ℕ) (word : ℕ) → rank l word ≤ 3
 rank_small (local.Single Pushing) word = elim (word == 0) as (λ b. (if b then 2 else 1) ≤ 3) [ true ↦ omega arith | false ↦ omega arith ]

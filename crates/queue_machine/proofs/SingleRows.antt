@@ -90,7 +90,7 @@ single items c n = record { items = items; cap = Some 1; closed = c; coming = No
 
 -- the cells of a queue of one slot
 abbrev pub one_slot : {T : Type 0} → ℕ → Option T → Shared T
-one_slot word slot = record { lock = word; head = 0; tail = 0; stamps = []; slots = slot ∷ [] }
+one_slot word slot = record { lock = word; head = 0; tail = 0; stamps = []; slots = slot ∷ []; head_block = None; tail_block = None; blocks = [] }
 
 -- the call goes on from a known place, or ends with a reply that is right
 abbrev pub Lands : {T : Type 0} → Option (Running T) → Option (Reply T) → Hold T → Call T → List (Effect T) → List (State T) → Type 0

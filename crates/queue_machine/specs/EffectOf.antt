@@ -12,6 +12,8 @@ use Rattle.queue_steps.specs.declared.steps.single.SingleLocal.{SingleLocal}
 use Rattle.queue_steps.specs.declared.steps.single.SingleLocal.TheVariants as single
 use Rattle.queue_steps.specs.declared.steps.bounded.BoundedLocal.{BoundedLocal}
 use Rattle.queue_steps.specs.declared.steps.bounded.BoundedLocal.TheVariants as ring
+use Rattle.queue_steps.specs.declared.steps.unbounded.UnboundedLocal.{UnboundedLocal}
+use Rattle.queue_steps.specs.declared.steps.unbounded.UnboundedLocal.TheVariants as chain
 use Rattle.queue_machine.specs.declared.types.EffectKind.{EffectKind}
 use Rattle.queue_machine.specs.declared.types.EffectKind.TheVariants as effect
 
@@ -35,7 +37,16 @@ bounded_effect n (ring.Taking head) found = if found == head then Some effect.Ta
 bounded_effect n ring.Closing found = if is_shut found then None else Some effect.Close
 bounded_effect n _ found = None
 
+-- the effect of a step on a chain: the exchange of the tail or the head that wins, and the mark on an open tail
+abbrev pub unbounded_effect : {B : Type 0} → UnboundedLocal B → ℕ → Option EffectKind
+unbounded_effect (chain.Claiming p tail block spare) found = if found == tail then Some effect.Append else None
+unbounded_effect (chain.Spending p spare) found = if is_shut found then None else Some effect.SelfClose
+unbounded_effect (chain.Taking head block) found = if found == head then Some effect.Take else None
+unbounded_effect chain.Closing found = if is_shut found then None else Some effect.Close
+unbounded_effect _ found = None
+
 abbrev pub effect_of : {B : Type 0} → Kind → Local B → Answer B → Option EffectKind
 effect_of k (local.Single l) (answer.Found found) = single_effect l found
 effect_of (kind.Bounded n) (local.Bounded l) (answer.Found found) = bounded_effect n l found
+effect_of kind.Unbounded (local.Unbounded l) (answer.Found found) = unbounded_effect l found
 effect_of k _ _ = None

@@ -10,6 +10,7 @@ use Rattle.queue_steps.specs.declared.steps.types.Touch.TheVariants as touch
 use Rattle.queue_machine.specs.declared.machine.Running.{Running}
 use Rattle.queue_machine.specs.World.{World}
 use Rattle.queue_machine.specs.Cells.{Shared}
+use Rattle.queue_machine.specs.ChainLeft.{chain_left}
 
 -- the numbers below n, in their order
 abbrev pub numbers_below : ℕ → List ℕ
@@ -28,7 +29,7 @@ slot_count (kind.Bounded n) = n
 slot_count kind.Unbounded = 0
 
 abbrev pub opening_shared : {T : Type 0} → Kind → Shared T
-opening_shared k = record { lock = 0; head = 0; tail = 0; stamps = opening_stamps k; slots = replicate (slot_count k) None }
+opening_shared k = record { lock = 0; head = 0; tail = 0; stamps = opening_stamps k; slots = replicate (slot_count k) None; head_block = None; tail_block = None; blocks = [] }
 
 -- the parties are between calls, and the queue is empty and open
 abbrev pub opening_world : {T : Type 0} → Kind → ℕ → World (Shared T) (Running T)
@@ -67,4 +68,5 @@ listed_in kind.Unbounded lock head tail slots = []
 
 -- the list that a machine holds, with the items that are not yet written
 abbrev pub left_of : {T : Type 0} → Kind → World (Shared T) (Running T) → List T
+left_of kind.Unbounded w = chain_left w.calls w.shared.head_block w.shared.blocks
 left_of k w = listed_in k w.shared.lock w.shared.head w.shared.tail (settled w.calls w.shared.slots)

@@ -2,9 +2,13 @@ pub mod Book
 pub mod Conforms
 pub mod World
 pub mod EffectOf
+pub mod Present
+pub mod Blocks
 pub mod Cells
+pub mod ChainLeft
 pub mod Left
 pub mod Machine
+pub mod Peaks
 pub mod Replays
 pub mod OneOwner
 pub mod Meaning

@@ -1,5 +1,11 @@
 -- The words of a machine, as a value.
-use Rattle.std.specs.Prelude.{◌≡◌}
+use Rattle.std.specs.Prelude.{◌≡◌, ℕ, List}
+use Rattle.queue_steps.specs.declared.steps.types.Kind.{Kind}
+use Rattle.queue_machine.specs.declared.machine.Running.{Running}
+use Rattle.queue_machine.specs.declared.types.Event.{Event}
+use Rattle.queue_machine.specs.Left.{opening_world}
+use Rattle.queue_machine.specs.Machine.{Plays}
+use Rattle.queue_machine.specs.World.{World}
 use Rattle.queue_machine.specs.declared.words.Words.{Words}
 use Rattle.queue_machine.specs.Cells.{Shared}
 
@@ -9,3 +15,9 @@ pub record AreWords {T A : Type 0} (s : Shared T) (w : Words A) : Type 0 where
   pub head : w.head ≡ s.head
   pub tail : w.tail ≡ s.tail
   pub stamps : w.stamps.items ≡ s.stamps
+
+-- these are the words of a machine that comes from its opening by these events
+pub record AreWordsAfter {T A : Type 0} (k : Kind) (parties : ℕ) (events : List (Event T)) (w : Words A) : Type 0 where
+  pub last : World (Shared T) (Running T)
+  pub plays : Plays k (opening_world k parties) events last
+  pub words : AreWords last.shared w

@@ -1,9 +1,12 @@
 //! The machine: a queue whose parties take their atomic steps in any order that a list of events names.
 #![tactic(auto)]
 
+pub mod blocks;
+mod chain_left;
 pub mod laws;
 mod left;
 pub mod machine;
+mod peaks;
 mod run;
 pub mod types;
 pub mod words;

@@ -1,23 +1,28 @@
 //! The machine: the words and slots of a queue, and the call that each party is in.
-ghost use Rattle.std.specs.Prelude.{◌≡◌, ◌<◌, ℕ, None, IfOk, vec_len, replicate, true};
+ghost use Rattle.std.specs.Prelude.{◌≡◌, ◌<◌, ℕ, Bool, None, IfOk, vec_len, replicate, false};
 ghost use Rattle.queue_steps.specs.Next.{CanNext};
 ghost use Rattle.queue_steps.specs.BoundedNext.{FitsRing};
 ghost use Rattle.queue_steps.specs.Words.{IsRing};
 ghost use Rattle.queue_steps.specs.declared.steps.types.Answer.TheVariants.{Found as SpecFound};
-ghost use Rattle.queue_machine.specs.EffectOf.{single_effect, bounded_effect, effect_of};
-ghost use Rattle.queue_machine.specs.Cells.{HasWord, word_at, put_word, CanOperate, answered, operated, CanTouch, touched, shared_of, running_after, reply_after, CanReply, CanStep, step_of};
+ghost use Rattle.queue_machine.specs.EffectOf.{single_effect, bounded_effect, unbounded_effect, effect_of};
+ghost use Rattle.queue_machine.specs.Cells.{HasWord, word_at, put_word, HasLink, link_at, put_link, CanOperate, asked, granted_if, answered, operated, block_touched, slots_there, item_at, put_at, CanTouch, touched, handed, shared_of, running_after, reply_after, CanReply, CanStep, CanStart, step_of, spare_in};
+ghost use Rattle.queue_machine.specs.Machine.{HasRoom, KeepsRoom, HasSameRoom};
 ghost use Rattle.queue_machine.specs.World.{stepped};
 ghost use Rattle.queue_machine.specs.Left.{numbers_below, slot_count, opening_stamps, opening_world};
-ghost use Rattle.queue_machine.specs.Machine.{world_of, event_of, CanHandle};
+ghost use Rattle.queue_machine.specs.Machine.{world_of, event_of, CanHandle, Handles, HasRoomFor};
+ghost use Rattle.queue_machine.specs.declared.types.Event.TheVariants.{Begin};
+ghost use Rattle.queue_machine.specs.Blocks.{without};
 
+use crate::blocks::{self, Block};
 use crate::types::{EffectKind, Event, Told};
 
 /// The mark of a closed queue of one slot.
 const CLOSED: u64 = 4;
 
-use queue_steps::model::Reply;
+use queue_steps::model::{Call, Reply};
 use queue_steps::steps::{
-    Answer, BoundedLocal, Kind, Local, Next, Op, SingleLocal, Touch, Word, next, start,
+    Answer, BoundedLocal, Kind, Link, Local, Next, Op, SingleLocal, Touch, UnboundedLocal, Word,
+    next, start,
 };
 use std::alloc::{AllocError, Allocator};
 use std::mem;
@@ -48,6 +53,12 @@ pub struct Cells<T, A: Allocator> {
     pub stamps: Vec<u64, A>,
     /// What each slot holds.
     pub slots: Vec<Option<T>, A>,
+    /// The block of the poppers, by its number.
+    pub head_block: Option<usize>,
+    /// The block of the pushers, by its number.
+    pub tail_block: Option<usize>,
+    /// The blocks, by their numbers, in the order in which they were granted. A block that was given up is there no more.
+    pub blocks: Vec<Option<Block<T, A>>, A>,
 }
 
 impl<T, A: Allocator> Cells<T, A> {
@@ -61,31 +72,81 @@ impl<T, A: Allocator> Cells<T, A> {
             Word::Head => self.head,
             Word::Tail => self.tail,
             Word::Stamp(slot) => self.stamps[slot],
-            Word::State(_, _) => unreachable!(),
+            Word::State(block, slot) => blocks::state(&self.blocks, block, slot),
         }
     }
 
     /// Writes a word.
     fn store(&mut self, word: Word<usize>, value: u64)
         requires { HasWord (shared_of self.old) word }
-        ensures { shared_of self.new ≡ put_word (shared_of self.old) word value }
+        ensures cells { shared_of self.new ≡ put_word (shared_of self.old) word value }
+        ensures room { HasSameRoom self.old self.new }
     {
         match word {
             Word::Lock => self.lock = value,
             Word::Head => self.head = value,
             Word::Tail => self.tail = value,
             Word::Stamp(slot) => self.stamps[slot] = value,
-            Word::State(_, _) => unreachable!(),
+            Word::State(block, slot) => blocks::set_state(&mut self.blocks, block, slot, value),
         }
     }
 
-    /// One atomic operation on a word.
-    fn perform(&mut self, op: Op<usize>) -> Answer<usize>
-        requires { CanOperate (shared_of self.old) op }
-        ensures answer { result ≡ answered (shared_of self.old) op }
-        ensures cells { shared_of self.new ≡ operated (shared_of self.old) op }
+    /// The block in a link.
+    fn follow(&self, link: Link<usize>) -> Option<usize>
+        requires { HasLink (shared_of self.now) link }
+        ensures { result ≡ link_at (shared_of self.now) link }
     {
-        match op {
+        match link {
+            Link::HeadBlock => self.head_block,
+            Link::TailBlock => self.tail_block,
+            Link::Next(block) => blocks::next(&self.blocks, block),
+        }
+    }
+
+    /// Writes a link.
+    fn lead(&mut self, link: Link<usize>, block: usize)
+        requires { HasLink (shared_of self.old) link }
+        ensures cells { shared_of self.new ≡ put_link (shared_of self.old) link block }
+        ensures room { HasSameRoom self.old self.new }
+    {
+        match link {
+            Link::HeadBlock => self.head_block = Some(block),
+            Link::TailBlock => self.tail_block = Some(block),
+            Link::Next(before) => blocks::set_next(&mut self.blocks, before, block),
+        }
+    }
+
+    /// Asks for a block, unless it is refused from the start. Whether there is one is told beside the answer.
+    fn ask(&mut self, alloc: A, granted: bool) -> (Answer<usize>, bool)
+        requires { HasRoom self.old }
+        ensures refused { granted ≡ false → result.1 ≡ false }
+        ensures answer { result.0 ≡ asked result.1 (shared_of self.old) }
+        ensures cells { shared_of self.new ≡ granted_if result.1 (shared_of self.old) }
+        ensures room { KeepsRoom self.old self.new }
+    {
+        if !granted {
+            return (Answer::Refused, false);
+        }
+        match Block::new(alloc) {
+            Ok(block) => {
+                let number = self.blocks.len();
+                self.blocks.push_reserved(Some(block));
+                (Answer::Granted(number), true)
+            }
+            Err(_) => (Answer::Refused, false),
+        }
+    }
+
+    /// One atomic operation, or a request for a block. Whether that is granted is told beside the answer.
+    fn perform(&mut self, alloc: A, op: Op<usize>, granted: bool) -> (Answer<usize>, bool)
+        requires can { CanOperate (shared_of self.old) op }
+        requires room { HasRoom self.old }
+        ensures refused { granted ≡ false → result.1 ≡ false }
+        ensures answer { result.0 ≡ answered result.1 (shared_of self.old) op }
+        ensures cells { shared_of self.new ≡ operated result.1 (shared_of self.old) op }
+        ensures room { KeepsRoom self.old self.new }
+    {
+        let answer = match op {
             Op::Load(word) => Answer::Found(self.load(word)),
             Op::Store(word, value) => {
                 self.store(word, value);
@@ -113,23 +174,62 @@ impl<T, A: Allocator> Cells<T, A> {
                 }
                 Answer::Found(found)
             }
-            _ => unreachable!(),
-        }
+            Op::LoadLink(link) => Answer::Linked(self.follow(link)),
+            Op::StoreLink(link, block) => {
+                self.lead(link, block);
+                Answer::Done
+            }
+            Op::Install(block) => {
+                let before = self.tail_block;
+                if before.is_none() {
+                    self.tail_block = Some(block);
+                }
+                Answer::Linked(before)
+            }
+            Op::Ask => return self.ask(alloc, granted),
+        };
+        (answer, granted)
     }
 
     /// The slot and the call exchange what they hold.
-    fn touch(&mut self, touch: Touch, carried: Option<T>) -> Option<T>
-        requires { CanTouch touch (vec_len self.old.slots) }
-        ensures cells { shared_of self.new ≡ record (shared_of self.old) { slots = (touched touch self.old.slots.items carried).0 } }
-        ensures carried { result ≡ (touched touch self.old.slots.items carried).1 }
+    fn touch(&mut self, touch: Touch, op: Op<usize>, carried: Option<T>) -> Option<T>
+        requires { CanTouch touch (slots_there (shared_of self.old) (block_touched op)) }
+        ensures cells { shared_of self.new ≡ touched touch (block_touched op) (shared_of self.old) carried }
+        ensures carried { result ≡ handed touch (block_touched op) (shared_of self.old) carried }
+        ensures room { HasSameRoom self.old self.new }
     {
         match touch {
             Touch::Nothing => carried,
-            Touch::Put(slot) | Touch::Swap(slot) | Touch::Take(slot) => mem::replace(
-                &mut self.slots[slot],
+            Touch::Put(slot) | Touch::Swap(slot) | Touch::Take(slot) => self.replace(
+                named_block(op),
+                slot,
                 carried,
             ),
         }
+    }
+
+    /// A slot, of a queue with a capacity or of a block, holds this, and what it held is handed out.
+    fn replace(&mut self, block: Option<usize>, slot: usize, item: Option<T>) -> Option<T>
+        requires { slot < slots_there (shared_of self.old) block }
+        ensures cells { shared_of self.new ≡ put_at (shared_of self.old) block slot item }
+        ensures before { result ≡ item_at (shared_of self.old) block slot }
+        ensures room { HasSameRoom self.old self.new }
+    {
+        match block {
+            None => mem::replace(&mut self.slots[slot], item),
+            Some(block) => blocks::replace(&mut self.blocks, block, slot, item),
+        }
+    }
+}
+
+/// The block whose slot a step with this operation touches, on a chain.
+pub(crate) fn named_block(op: Op<usize>) -> Option<usize>
+    ensures { result ≡ block_touched op }
+{
+    match op {
+        Op::Load(Word::State(block, _)) => Some(block),
+        Op::Or(Word::State(block, _), _) => Some(block),
+        _ => None,
     }
 }
 
@@ -207,6 +307,35 @@ fn effect_on_ring(cap: u64, local: BoundedLocal, found: u64) -> Option<EffectKin
     }
 }
 
+/// What a step on a chain of blocks did to the queue.
+fn effect_on_chain(local: UnboundedLocal<usize>, found: u64) -> Option<EffectKind>
+    ensures { result ≡ unbounded_effect local found }
+{
+    match local {
+        UnboundedLocal::Claiming(_, tail, _, _) => if found == tail {
+            Some(EffectKind::Append)
+        } else {
+            None
+        },
+        UnboundedLocal::Spending(_, _) => if found % 2 == 1 {
+            None
+        } else {
+            Some(EffectKind::SelfClose)
+        },
+        UnboundedLocal::Taking(head, _) => if found == head {
+            Some(EffectKind::Take)
+        } else {
+            None
+        },
+        UnboundedLocal::Closing => if found % 2 == 1 {
+            None
+        } else {
+            Some(EffectKind::Close)
+        },
+        _ => None,
+    }
+}
+
 /// What a step did to the queue, told from where its call stood and what its operation found.
 fn effect(kind: Kind, local: Local<usize>, answer: Answer<usize>) -> Option<EffectKind>
     requires { CanNext kind local answer }
@@ -216,6 +345,9 @@ fn effect(kind: Kind, local: Local<usize>, answer: Answer<usize>) -> Option<Effe
         (_, Local::Single(local), Answer::Found(found)) => effect_on_single(local, found),
         (Kind::Bounded(cap), Local::Bounded(local), Answer::Found(found)) => effect_on_ring(
             cap as u64, local, found,
+        ),
+        (Kind::Unbounded, Local::Unbounded(local), Answer::Found(found)) => effect_on_chain(
+            local, found,
         ),
         _ => None,
     }
@@ -295,10 +427,16 @@ fn stamps_of(kind: Kind) -> usize
 }
 
 impl<T: Drop, A: Allocator + Copy> Machine<T, A> {
-    /// An empty open queue, and so many parties, all between calls.
-    pub fn new(alloc: A, kind: Kind, parties: usize) -> Result<Machine<T, A>, AllocError>
+    /// An empty open queue, and so many parties, all between calls, with room for the numbers of the blocks of so many events.
+    pub fn new(
+        alloc: A,
+        kind: Kind,
+        parties: usize,
+        events: usize,
+    ) -> Result<Machine<T, A>, AllocError>
         ensures kind { IfOk result (λ m. m.kind ≡ kind) }
         ensures world { IfOk result (λ m. world_of m ≡ opening_world kind parties) }
+        ensures room { IfOk result (λ m. HasRoomFor m.cells events) }
     {
         let cells = Cells {
             lock: 0,
@@ -306,6 +444,9 @@ impl<T: Drop, A: Allocator + Copy> Machine<T, A> {
             tail: 0,
             stamps: numbered(alloc, stamps_of(kind))?,
             slots: vacant(alloc, slots_of(kind))?,
+            head_block: None,
+            tail_block: None,
+            blocks: Vec::with_capacity(alloc, events)?,
         };
         Ok(Machine {
             kind,
@@ -315,46 +456,89 @@ impl<T: Drop, A: Allocator + Copy> Machine<T, A> {
     }
 }
 
+/// The block that a call gives up where it replies.
+fn spare(next: Next<usize>) -> Option<usize>
+    ensures { result ≡ spare_in next }
+{
+    match next {
+        Next::Step(_, _, _) => None,
+        Next::Reply(_, spare) => spare,
+    }
+}
+
+impl<T: Drop, A: Allocator> Cells<T, A> {
+    /// Gives the block of this number up, if there is one to be given up.
+    fn give_up(&mut self, block: Option<usize>)
+        ensures cells { shared_of self.new ≡ record (shared_of self.old) { blocks = without block self.old.blocks.items } }
+        ensures room { HasSameRoom self.old self.new }
+    {
+        if let Some(block) = block {
+            if block < self.blocks.len() {
+                self.blocks[block] = None;
+            }
+        }
+    }
+}
+
 impl<T: Drop, A: Allocator> Machine<T, A> {
-    /// One event.
-    pub fn handle(&mut self, event: Event<T>) -> Told<T>
-        requires { CanHandle self.old.kind (world_of self.old) event }
+    /// One event. A block that it asks for is asked of the allocator, unless the event refuses it.
+    pub fn handle(&mut self, alloc: A, event: Event<T>) -> Told<T>
+        requires can { CanHandle self.old.kind (world_of self.old) event }
+        requires room { HasRoom self.old.cells }
         ensures kind { self.new.kind ≡ self.old.kind }
-        ensures world { world_of self.new ≡ (event_of self.old.kind (world_of self.old) event).0 }
-        ensures told { result ≡ (event_of self.old.kind (world_of self.old) event).1 }
+        ensures handles { Handles self.old.kind (world_of self.old) event (world_of self.new) result }
+        ensures room { KeepsRoom self.old.cells self.new.cells }
     {
         match event {
-            Event::Begin(party, call) => {
-                if party >= self.calls.len() || self.calls[party].is_some() {
-                    return Told::Skipped;
-                }
-                let (call, carried) = call.split();
-                let first = next(self.kind, start(self.kind, call), Answer::Start);
-                let (running, reply) = advance(first, carried);
-                if let Some(running) = running {
-                    self.calls[party] = Some(running);
-                }
-                Told::Ran(None, reply)
-            }
-            Event::Step(party, _) => {
+            Event::Begin(party, call) => { self.begin(party, call) }
+            Event::Step(party, granted) => {
                 if party >= self.calls.len() {
                     return Told::Skipped;
                 }
                 match self.calls[party].take() {
                     None => Told::Skipped,
-                    Some(running) => self.step(party, running),
+                    Some(running) => self.step(alloc, granted, party, running).0,
                 }
             }
         }
     }
 
-    /// One step of a party's call, which stands no longer among the calls.
-    fn step(&mut self, party: usize, running: Running<T>) -> Told<T>
-        requires party { party < vec_len self.old.calls }
-        requires can { CanStep self.old.kind true (shared_of self.old.cells) running }
+    /// A party begins a call.
+    fn begin(&mut self, party: usize, call: Call<T>) -> Told<T>
+        requires { CanStart self.old.kind call }
         ensures kind { self.new.kind ≡ self.old.kind }
-        ensures world { world_of self.new ≡ (stepped (world_of self.old) party (step_of self.old.kind true (shared_of self.old.cells) running)).0 }
-        ensures told { result ≡ (stepped (world_of self.old) party (step_of self.old.kind true (shared_of self.old.cells) running)).1 }
+        ensures world { world_of self.new ≡ (event_of self.old.kind false (world_of self.old) (Begin party call)).0 }
+        ensures told { result ≡ (event_of self.old.kind false (world_of self.old) (Begin party call)).1 }
+        ensures room { HasSameRoom self.old.cells self.new.cells }
+    {
+        if party >= self.calls.len() || self.calls[party].is_some() {
+            return Told::Skipped;
+        }
+        let (call, carried) = call.split();
+        let first = next(self.kind, start(self.kind, call), Answer::Start);
+        let (running, reply) = advance(first, carried);
+        if let Some(running) = running {
+            self.calls[party] = Some(running);
+        }
+        Told::Ran(None, reply)
+    }
+
+    /// One step of a party's call, which stands no longer among the calls. Beside what is told of it stands whether a block that it asked for was granted.
+    fn step(
+        &mut self,
+        alloc: A,
+        granted: bool,
+        party: usize,
+        running: Running<T>,
+    ) -> (Told<T>, bool)
+        requires party { party < vec_len self.old.calls }
+        requires can { (ok : Bool) → CanStep self.old.kind ok (shared_of self.old.cells) running }
+        requires room { HasRoom self.old.cells }
+        ensures refused { granted ≡ false → result.1 ≡ false }
+        ensures kind { self.new.kind ≡ self.old.kind }
+        ensures world { world_of self.new ≡ (stepped (world_of self.old) party (step_of self.old.kind result.1 (shared_of self.old.cells) running)).0 }
+        ensures told { result.0 ≡ (stepped (world_of self.old) party (step_of self.old.kind result.1 (shared_of self.old.cells) running)).1 }
+        ensures room { KeepsRoom self.old.cells self.new.cells }
     {
         let Running {
             local,
@@ -362,11 +546,13 @@ impl<T: Drop, A: Allocator> Machine<T, A> {
             op,
             carried,
         } = running;
-        let carried = self.cells.touch(touch, carried);
-        let answer = self.cells.perform(op);
+        let carried = self.cells.touch(touch, op, carried);
+        let (answer, ok) = self.cells.perform(alloc, op, granted);
         let effect = effect(self.kind, local, answer);
-        let (running, reply) = advance(next(self.kind, local, answer), carried);
+        let next = next(self.kind, local, answer);
+        self.cells.give_up(spare(next));
+        let (running, reply) = advance(next, carried);
         self.calls[party] = running;
-        Told::Ran(effect, reply)
+        (Told::Ran(effect, reply), ok)
     }
 }

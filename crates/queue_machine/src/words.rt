@@ -1,9 +1,9 @@
 //! The words of a queue after a list of events.
 ghost use Rattle.std.specs.Prelude.{◌≡◌, true, IfOk, IsErr};
 ghost use Rattle.queue_machine.specs.Left.{opening_world};
-ghost use Rattle.queue_machine.specs.Machine.{CanHandle, event_of, played, world_of};
+ghost use Rattle.queue_machine.specs.Machine.{CanHandle, HasRoom, KeepsRoom, Passes, Plays, world_of};
 ghost use Rattle.queue_machine.specs.Replays.{CanReplay, is_too_large};
-ghost use Rattle.queue_machine.specs.WordsOf.{AreWords};
+ghost use Rattle.queue_machine.specs.WordsOf.{AreWordsAfter};
 
 use crate::machine::{Cells, Machine};
 use crate::run::too_large;
@@ -25,12 +25,14 @@ pub struct Words<A: Allocator = Global> {
 }
 
 /// One event, of which nothing is told.
-fn pass<T: Drop, A: Allocator>(machine: &mut Machine<T, A>, event: Event<T>)
-    requires { CanHandle machine.old.kind (world_of machine.old) event }
+fn pass<T: Drop, A: Allocator + Copy>(alloc: A, machine: &mut Machine<T, A>, event: Event<T>)
+    requires can { CanHandle machine.old.kind (world_of machine.old) event }
+    requires room { HasRoom machine.old.cells }
     ensures kind { machine.new.kind ≡ machine.old.kind }
-    ensures world { world_of machine.new ≡ (event_of machine.old.kind (world_of machine.old) event).0 }
+    ensures world { Passes machine.old.kind (world_of machine.old) event (world_of machine.new) }
+    ensures room { KeepsRoom machine.old.cells machine.new.cells }
 {
-    machine.handle(event);
+    machine.handle(alloc, event);
 }
 
 /// The words of the queue after these events, which run from the empty open queue.
@@ -45,15 +47,15 @@ pub fn words_after<T: Drop, A: Allocator + Copy>(
     events: Vec<Event<T>, A>,
 ) -> Result<Words<A>, AllocError>
     requires { CanReplay kind }
-    ensures words { IfOk result (λ w. AreWords (played kind (opening_world kind parties) events.items).shared w) }
+    ensures words { IfOk result (λ w. AreWordsAfter kind parties events.items w) }
     ensures limited { is_too_large kind ≡ true → IsErr result }
 {
     if too_large(kind) {
         return Err(AllocError);
     }
-    let mut machine = Machine::new(alloc, kind, parties)?;
+    let mut machine = Machine::new(alloc, kind, parties, events.len())?;
     for event in events {
-        pass(&mut machine, event);
+        pass(alloc, &mut machine, event);
     }
     let Machine {
         kind: _,
@@ -66,6 +68,9 @@ pub fn words_after<T: Drop, A: Allocator + Copy>(
         tail,
         stamps,
         slots: _,
+        head_block: _,
+        tail_block: _,
+        blocks: _,
     } = cells;
     Ok(Words {
         lock,

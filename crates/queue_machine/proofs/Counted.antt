@@ -1,0 +1,20 @@
+-- A queue with a capacity has no block.
+use Rattle.std.proofs.Common.{◌≡◌, ◌∙◌, ℕ, ◌<◌, ◌≤◌, Option, Some, None, List, [], length, refl, sym, ap, arith}
+use Rattle.queue_steps.specs.Sole.{blocks_of, spanned}
+use Rattle.queue_machine.specs.declared.machine.Running.{Running}
+use Rattle.queue_machine.specs.Book.{Book}
+use Rattle.queue_machine.specs.Cells.{Shared}
+use Rattle.queue_machine.specs.Present.{present}
+use Rattle.queue_machine.specs.World.{World}
+use Rattle.queue_machine.proofs.KindLaws.{IsCounted}
+
+pub counted-none : {T : Type 0} (w : World (Shared T) (Running T)) (b : Book T) (n : ℕ) → w.shared.blocks ≡ [] → b.queue.cap ≡ Some n → IsCounted w b
+counted-none w b n none capped =
+    let zero : present w.shared.blocks ≡ 0 = ap present none in
+    let spans : blocks_of b.queue ≡ 0 = ap (λ c. spanned c b.queue.accepted (length b.queue.items)) capped in
+    record {
+      within = omega arith;
+      spans = λ some. omega arith;
+      none = λ m e. zero;
+      held_is = λ some. absurd (omega arith);
+    }
