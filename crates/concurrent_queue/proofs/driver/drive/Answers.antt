@@ -5,7 +5,7 @@ use Rattle.concurrent_queue.proofs.driver.drive.Goals as goal
 pub loop-init : goal.loop-init
 loop-init g c =
     let m = g.M.Cells in
-    Ends-first m.can_touch m.touches m.can_perform m.performs m.idle m.owned c.kind-kind.result (m.kind_of c.args.cells.now) c.args.call c.start.result c.next-todo.result c.split-call.result c.args.cells.now
+    Ends-first m.can_touch m.touches m.can_perform m.performs m.can_release m.releases m.idle m.owned c.kind-kind.result (m.kind_of c.args.cells.now) c.args.call c.start.result c.next-todo.result c.split-call.result c.args.cells.now
     c.kind-kind.ensures c.split-call.ensures c.start.ensures c.next-todo.ensures (g.met.M.Cells.answers c.args.cells.now c.args.call c.requires)
 
 pub loop-preserved : goal.loop-preserved
@@ -32,7 +32,7 @@ returns-in-Reply-clause-sole g c =
 pub next-todo-requires : goal.next-todo-requires
 next-todo-requires g c =
     let m = g.M.Cells in
-    Ends-can m.can_touch m.touches m.can_perform m.performs m.idle m.owned c.kind-kind.result (m.kind_of c.args.cells.now) c.args.call c.start.result c.split-call.result c.args.cells.now
+    Ends-can m.can_touch m.touches m.can_perform m.performs m.can_release m.releases m.idle m.owned c.kind-kind.result (m.kind_of c.args.cells.now) c.args.call c.start.result c.split-call.result c.args.cells.now
     c.kind-kind.ensures c.split-call.ensures c.start.ensures (g.met.M.Cells.answers c.args.cells.now c.args.call c.requires)
 
 pub next-todo-requires-in-Step : goal.next-todo-requires-in-Step

@@ -8,14 +8,14 @@ pub next-todo-requires : goal.next-todo-requires
 next-todo-requires g c =
     let m = g.M.Cells in
     let a = kind-as_call {T = g.row.T.Denot} c.args.call c.requires.look in
-    Ends-can m.can_touch m.touches m.can_perform m.performs m.idle m.owned c.kind-kind.result (m.kind_of c.args.cells.now) (as_call c.args.call) c.start.result (c.args.call, None) c.args.cells.now
+    Ends-can m.can_touch m.touches m.can_perform m.performs m.can_release m.releases m.idle m.owned c.kind-kind.result (m.kind_of c.args.cells.now) (as_call c.args.call) c.start.result (c.args.call, None) c.args.cells.now
     c.kind-kind.ensures (cc) c.start.ensures (g.met.M.Cells.answers c.args.cells.now (as_call c.args.call) c.requires.idle)
 
 pub loop-init : goal.loop-init
 loop-init g c =
     let m = g.M.Cells in
     let a = kind-as_call {T = g.row.T.Denot} c.args.call c.requires.look in (
-      Ends-first m.can_touch m.touches m.can_perform m.performs m.idle m.owned c.kind-kind.result (m.kind_of c.args.cells.now) (as_call c.args.call) c.start.result c.next-todo.result (c.args.call, None) c.args.cells.now
+      Ends-first m.can_touch m.touches m.can_perform m.performs m.can_release m.releases m.idle m.owned c.kind-kind.result (m.kind_of c.args.cells.now) (as_call c.args.call) c.start.result c.next-todo.result (c.args.call, None) c.args.cells.now
           c.kind-kind.ensures (cc) c.start.ensures c.next-todo.ensures (g.met.M.Cells.answers c.args.cells.now (as_call c.args.call) c.requires.idle),
       rw (c.next-todo.ensures, c.start.ensures) (look_next-first _ c.kind-kind.result c.args.call c.requires.look),
     )

@@ -1,0 +1,204 @@
+//! A chain of blocks with one owner.
+ghost use Rattle.std.specs.Prelude.{◌≡◌};
+ghost use Rattle.queue_steps.specs.LookNext.{IsLoad};
+ghost use Rattle.concurrent_queue.specs.LineCells.{state_block as spec_state_block};
+
+use crate::cells::Cells;
+use block_web::block::{Link as Place, Loose};
+use block_web::chain::Chain;
+use queue_steps::steps::{Answer, Kind, Link, Op, Touch, Word};
+use std::alloc::{AllocError, Allocator};
+use std::marker::Model;
+use std::mem;
+
+/// A block: its number in the order in which the blocks were laid, and where it lies.
+pub(crate) struct Name<T> {
+    pub(crate) number: u64,
+    pub(crate) link: Place<T>,
+}
+
+impl<T> Clone for Name<T> {
+    ghost is_clone = { λ x y. y ≡ x };
+
+    ghost is_infallible = { λ _. Unit {0} };
+
+    fn clone(&self) -> Result<Name<T>, AllocError> {
+        Ok(*self)
+    }
+}
+
+impl<T> Copy for Name<T> {}
+
+/// A block that was granted and is not laid yet.
+pub(crate) struct Spare<T, A: Allocator> {
+    pub(crate) name: Name<T>,
+    pub(crate) block: Loose<T, A>,
+}
+
+/// The blocks, in the order in which they were laid, the positions of the front and of the next item to come, and the blocks of these two.
+///
+/// A contract sees the positions, the names of the blocks, and the words and items of those that are held.
+pub(crate) struct LinkedBlocks<T, A: Allocator> {
+    alloc: A,
+    chain: Chain<T, A>,
+    head: u64,
+    tail: u64,
+    head_block: Option<Name<T>>,
+    tail_block: Option<Name<T>>,
+    spare: Option<Spare<T, A>>,
+    laid: u64,
+    held: u64,
+}
+
+impl<T, A: Allocator> Model for LinkedBlocks<T, A> {
+    ghost use Rattle.concurrent_queue.specs.LineCells.{Line};
+
+    ghost Value = { Line T };
+
+    ghost use Rattle.concurrent_queue.specs.LinkedBlocks.{line_view, IsLinked};
+
+    ghost view = { line_view };
+
+    ghost invariant = { IsLinked };
+}
+
+/// The block whose state an operation names.
+#[inline(always)]
+fn state_block<T>(op: &Op<Name<T>>) -> Option<Name<T>>
+    ensures { result ≡ spec_state_block op.now }
+{
+    match op {
+        Op::Load(Word::State(block, _)) => Some(*block),
+        Op::Or(Word::State(block, _), _) => Some(*block),
+        _ => None,
+    }
+}
+
+impl<T, A: Allocator> LinkedBlocks<T, A> {
+    ghost use Rattle.std.specs.Prelude.{None, Some, length};
+    ghost use Rattle.queue_steps.specs.declared.steps.types.Answer.TheVariants.{Found, Linked, Done};
+    ghost use Rattle.queue_steps.specs.declared.steps.types.Op.TheVariants.{Load, Or, LoadLink, StoreLink, Ask};
+    ghost use Rattle.queue_steps.specs.declared.steps.types.Link.TheVariants.{Next};
+    ghost use Rattle.queue_steps.specs.declared.steps.types.Word.TheVariants.{State};
+    ghost use Rattle.concurrent_queue.specs.LineCells.{CanPut, CanTake, CanLay, exchanged, laid, line_can_perform, line_performed, line_asks};
+
+    /// An item goes into an empty slot.
+    #[inline(always)]
+    fn put(&mut self, block: Name<T>, slot: usize, carried: &mut Option<T>)
+        requires { CanPut self.old (Some block) slot }
+        ensures { (self.new, carried.new) ≡ exchanged self.old (Some block) slot carried.old }
+    {
+        match carried.take() {
+            Some(item) => self.chain.put(block.number, block.link, slot, item),
+            None => {}
+        }
+    }
+
+    /// An item goes out of a full slot.
+    #[inline(always)]
+    fn take(&mut self, block: Name<T>, slot: usize, carried: &mut Option<T>)
+        requires { CanTake self.old (Some block) slot }
+        ensures { (self.new, carried.new) ≡ exchanged self.old (Some block) slot carried.old }
+    {
+        let item = self.chain.take(block.number, block.link, slot);
+        match carried.replace(item) {
+            Some(other) => self.chain.put(block.number, block.link, slot, other),
+            None => {}
+        }
+    }
+
+    /// What a word holds.
+    #[inline(always)]
+    fn load(&mut self, word: Word<Name<T>>) -> u64
+        requires { line_can_perform self.old (Load word) }
+        ensures { (Found result, self.new) ≡ line_performed self.old (Load word) }
+    {
+        match word {
+            Word::Tail => self.tail,
+            Word::Head => self.head,
+            Word::State(block, slot) => self.chain.word(block.number, block.link, slot),
+            _ => unreachable!(),
+        }
+    }
+
+    /// Sets bits of a slot's state, and gives the state before.
+    #[inline(always)]
+    fn set_bits(&mut self, block: Name<T>, slot: usize, bits: u64) -> u64
+        requires { line_can_perform self.old (Or (State block slot) bits) }
+        ensures { (Found result, self.new) ≡ line_performed self.old (Or (State block slot) bits) }
+    {
+        let found = self.chain.word(block.number, block.link, slot);
+        self.chain.set_word(
+            block.number,
+            block.link,
+            slot,
+            found | bits,
+        );
+        found
+    }
+
+    /// The block behind this one: the last block has none.
+    #[inline(always)]
+    fn next(&mut self, block: Name<T>) -> Option<Name<T>>
+        requires { line_can_perform self.old (LoadLink (Next block)) }
+        ensures { (Linked result, self.new) ≡ line_performed self.old (LoadLink (Next block)) }
+    {
+        match self.tail_block {
+            Some(last) => {
+                if last.number == block.number {
+                    return None;
+                }
+                Some(Name {
+                    number: block.number + 1,
+                    link: self.chain.next(block.number, block.link),
+                })
+            }
+            None => unreachable!(),
+        }
+    }
+
+    /// Asks for a block.
+    #[inline(always)]
+    fn ask(&mut self) -> Answer<Name<T>>
+        requires { line_can_perform self.old Ask }
+        ensures { line_asks self.old result self.new }
+    {
+        match Loose::make(&self.alloc) {
+            Ok((link, block)) => {
+                let name = Name {
+                    number: self.laid,
+                    link,
+                };
+                match self.spare.replace(Spare { name, block }) {
+                    None => Answer::Granted(name),
+                    Some(_) => unreachable!(),
+                }
+            }
+            Err(AllocError) => Answer::Refused,
+        }
+    }
+
+    /// The block that was granted is laid at the end.
+    #[inline(always)]
+    fn lay(&mut self, block: Name<T>)
+        requires { CanLay self.old block }
+        ensures { self.new ≡ laid self.old block }
+    {
+        match self.spare.take() {
+            Some(Spare { name: _, block: loose }) => {
+                self.chain.lay(loose);
+                self.tail_block = Some(block);
+                self.laid += 1;
+                self.held += 1;
+            }
+            None => unreachable!(),
+        }
+    }
+
+    /// How many blocks are held.
+    pub(crate) fn blocks(&self) -> usize
+        ensures { result ≡ length self.now.pieces }
+    {
+        self.held as usize
+    }
+}
