@@ -9,6 +9,7 @@ pub mod RingRuns
 pub mod RingCalls
 pub mod RingLeaves
 pub mod RingAnswers
+pub mod LineCells
 pub mod LinkedBlocks
 pub mod Exclusive
 pub mod Known
