@@ -2,6 +2,9 @@ pub mod Goings
 pub mod Watching
 pub mod Slots
 pub mod Openings
+pub mod Pieces
+pub mod Linked
+pub mod Layings
 mod Totals
 mod Keeping
 mod Leading

@@ -1,8 +1,7 @@
 -- What a chain of raw blocks with one owner shows.
-use Rattle.std.specs.Prelude.{◌≡◌, ℕ, ◌+◌, ◌-◌, ◌<◌, ◌≤◌, true, List, [], ◌∷◌, length, replicate, Option, Some, None}
+use Rattle.std.specs.Prelude.{◌≡◌, ℕ, ◌+◌, ◌-◌, ◌^◌, ◌<◌, ◌≤◌, true, List, [], ◌∷◌, length, drop, replicate, Option, Some, None}
 use denote.RawPtr.{Ptr, block_ptr, null_ptr, InBlock}
-use Rattle.std.proofs.Math.ListN.{drop}
-use Rattle.block_web.specs.Web.{Block, Home, Content, block, vacant, Rests}
+use Rattle.block_web.specs.Web.{Block, Home, Content, block, vacant}
 use Rattle.block_web.specs.declared.sizes.TheConstants.{SLOTS}
 use Rattle.concurrent_queue.specs.LineCells.{Piece, Line}
 use Rattle.concurrent_queue.specs.declared.unbounded.Name.{Name}
@@ -53,12 +52,18 @@ line_view s = record {
   spare = spare_name s.spare;
 }
 
--- a block that is held: it has as many words and slots as a block has, and each slot has its content
-pub record IsHeld {T : Type 0} (blocks : List (Block T)) (k : ℕ) : Type 0 where
-  pub alive : (block blocks k).alive ≡ true
-  pub place : InBlock (block blocks k).at
-  pub words : length (block blocks k).words ≡ SLOTS
-  pub rests : (j : ℕ) → j < SLOTS → (c : Content T) × Rests blocks k j c
+-- slots that are at home
+abbrev pub at_home : {T : Type 0} → List (Content T) → List (Home T)
+at_home [] = []
+at_home (c ∷ cs) = Some c ∷ at_home cs
+
+-- a block that is held: it has as many words and slots as a block has, and each slot is at home
+pub record IsHeld {T : Type 0} (x : Block T) : Type 0 where
+  pub alive : x.alive ≡ true
+  pub place : InBlock x.at
+  pub words : length x.words ≡ SLOTS
+  pub homes : length x.homes ≡ SLOTS
+  pub home : at_home (contents x.homes) ≡ x.homes
 
 -- the block that was granted is as it was made, and its number is the next one
 abbrev pub IsFresh : {T A : Type 0} → A → ℕ → Option (Spare T A) → Type 0
@@ -71,6 +76,7 @@ IsFresh alloc laid (Some s) =
 pub record IsLinked {T A : Type 0} (s : Inside T A) : Type 0 where
   pub heap : s.chain.heap ≡ s.alloc
   pub laid : length s.chain.blocks ≡ s.laid
+  pub short : s.laid ≤ 2 ^ 63
   pub held : s.held ≤ s.laid
-  pub blocks : (k : ℕ) → s.laid - s.held ≤ k → k < s.laid → IsHeld s.chain.blocks k
+  pub blocks : (k : ℕ) → s.laid - s.held ≤ k → k < s.laid → IsHeld (block s.chain.blocks k)
   pub spare : IsFresh s.alloc s.laid s.spare
