@@ -10,6 +10,7 @@ pub mod RingCalls
 pub mod RingLeaves
 pub mod RingAnswers
 pub mod LineCells
+pub mod LineOwned
 pub mod Exclusive
 pub mod Known
 pub mod Turns
