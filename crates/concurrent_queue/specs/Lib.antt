@@ -11,6 +11,7 @@ pub mod RingLeaves
 pub mod RingAnswers
 pub mod LineCells
 pub mod LineOwned
+pub mod LineRuns
 pub mod Exclusive
 pub mod Known
 pub mod Turns
