@@ -12,6 +12,7 @@ pub mod RingAnswers
 pub mod LineCells
 pub mod LineOwned
 pub mod LineRuns
+pub mod LineKeeps
 pub mod Exclusive
 pub mod Known
 pub mod Turns
