@@ -10,8 +10,11 @@ pub mod RingCalls
 pub mod RingLeaves
 pub mod RingAnswers
 pub mod LineCells
-pub mod LinkedBlocks
+pub mod LineOwned
+pub mod LineRuns
+pub mod LineKeeps
 pub mod Exclusive
+pub mod LinkedBlocks
 pub mod Known
 pub mod Turns
 pub mod Seats
