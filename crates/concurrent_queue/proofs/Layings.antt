@@ -36,7 +36,7 @@ module _ {T : Type 0} where
       go (inl under) = subst IsHeld (sym (get_or_append_left bs (x ∷ []) (block [] 0) j under)) (all j above under)
       go (inr past) =
           let last : j - length bs ≡ 0 = omega arith in
-          subst IsHeld (sym (get_or-append_right bs (x ∷ []) (block [] 0) j past ∙ ap (λ i. get_or (x ∷ []) i (block [] 0)) last)) held
+          subst IsHeld (sym (get_or-append_right bs (x ∷ []) (length bs) j (block [] 0) refl past ∙ ap (λ i. get_or (x ∷ []) i (block [] 0)) last)) held
 
 module _ {T A : Type 0} where
   -- the block that was granted is as it was made

@@ -195,10 +195,152 @@ impl<T, A: Allocator> LinkedBlocks<T, A> {
         }
     }
 
+    /// Links a block to the one behind it.
+    #[inline(always)]
+    fn link(&mut self, block: Name<T>, after: Name<T>)
+        requires { line_can_perform self.old (StoreLink (Next block) after) }
+        ensures { (Done, self.new) ≡ line_performed self.old (StoreLink (Next block) after) }
+    {
+        self.chain.set_next(block.number, block.link, after.link);
+    }
+
     /// How many blocks are held.
     pub(crate) fn blocks(&self) -> usize
         ensures { result ≡ length self.now.pieces }
     {
         self.held as usize
+    }
+}
+
+impl<T, A: Allocator> Cells<T, Name<T>> for LinkedBlocks<T, A> {
+    ghost use Rattle.concurrent_queue.specs.LineCells.{kind_of_line, line_can_touch, line_touches, line_can_perform, line_performs, line_can_release, line_releases};
+    ghost use Rattle.concurrent_queue.specs.LineOwned.{IsIdle, line_owned};
+
+    ghost kind_of = { kind_of_line };
+
+    ghost idle = { IsIdle };
+
+    ghost owned = { line_owned };
+
+    ghost can_touch = { line_can_touch };
+
+    ghost touches = { line_touches };
+
+    ghost can_perform = { line_can_perform };
+
+    ghost performs = { line_performs };
+
+    ghost can_release = { line_can_release };
+
+    ghost releases = { line_releases };
+
+    ghost use Rattle.concurrent_queue.specs.LineAnswers.{line_answers, line_stays};
+
+    ghost stays = { line_stays };
+
+    ghost answers = { line_answers };
+
+    #[inline(always)]
+    fn kind(&self) -> Kind {
+        Kind::Unbounded
+    }
+
+    #[inline(always)]
+    fn touch(&mut self, touch: Touch, op: &Op<Name<T>>, carried: &mut Option<T>) {
+        match touch {
+            Touch::Nothing => {}
+            Touch::Put(slot) => match state_block(op) {
+                Some(block) => self.put(block, slot, carried),
+                None => unreachable!(),
+            },
+            Touch::Take(slot) => match state_block(op) {
+                Some(block) => self.take(block, slot, carried),
+                None => unreachable!(),
+            },
+            Touch::Swap(_) => unreachable!(),
+        }
+    }
+
+    #[inline(always)]
+    fn perform(&mut self, op: Op<Name<T>>) -> Answer<Name<T>>
+        requires { line_can_perform self.old op }
+        ensures { line_performs self.old op result self.new }
+    {
+        match op {
+            Op::Load(word) => Answer::Found(self.load(word)),
+            Op::Store(Word::Head, new) => {
+                self.head = new;
+                Answer::Done
+            }
+            Op::Add(Word::Tail, more) => {
+                let found = self.tail;
+                self.tail = found + more;
+                Answer::Found(found)
+            }
+            Op::Or(Word::Tail, bits) => {
+                let found = self.tail;
+                self.tail = found | bits;
+                Answer::Found(found)
+            }
+            Op::Or(Word::State(block, slot), bits) => Answer::Found(self.set_bits(block, slot, bits)),
+            Op::Exchange(Word::Tail, expected, new) => {
+                let found = self.tail;
+                if found == expected {
+                    self.tail = new;
+                }
+                Answer::Found(found)
+            }
+            Op::Exchange(Word::Head, expected, new) => {
+                let found = self.head;
+                if found == expected {
+                    self.head = new;
+                }
+                Answer::Found(found)
+            }
+            Op::LoadLink(Link::HeadBlock) => Answer::Linked(self.head_block),
+            Op::LoadLink(Link::TailBlock) => Answer::Linked(self.tail_block),
+            Op::LoadLink(Link::Next(block)) => Answer::Linked(self.next(block)),
+            Op::StoreLink(Link::HeadBlock, block) => {
+                self.head_block = Some(block);
+                Answer::Done
+            }
+            Op::StoreLink(Link::TailBlock, block) => {
+                self.lay(block);
+                Answer::Done
+            }
+            Op::StoreLink(Link::Next(block), after) => {
+                self.link(block, after);
+                Answer::Done
+            }
+            Op::Install(block) => {
+                self.lay(block);
+                Answer::Linked(None)
+            }
+            Op::Ask => self.ask(),
+            _ => unreachable!(),
+        }
+    }
+
+    #[inline(always)]
+    fn release(&mut self, block: Name<T>)
+        requires { line_can_release self.old block }
+        ensures { line_releases self.old block self.new }
+    {
+        let loose = self.chain.lift(block.number, block.link);
+        self.held -= 1;
+        loose.give_up(&self.alloc, block.link);
+    }
+
+    #[inline(always)]
+    fn look(&self, op: &Op<Name<T>>) -> Answer<Name<T>>
+        requires load { IsLoad op.now }
+        requires can { line_can_perform self.now op.now }
+        ensures { line_performs self.now op.now result self.now }
+    {
+        match op {
+            Op::Load(Word::Tail) => Answer::Found(self.tail),
+            Op::Load(Word::Head) => Answer::Found(self.head),
+            _ => unreachable!(),
+        }
     }
 }
