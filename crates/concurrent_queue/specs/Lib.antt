@@ -13,7 +13,6 @@ pub mod LineCells
 pub mod LineOwned
 pub mod LineRuns
 pub mod LineKeeps
-pub mod LineAnswers
 pub mod Exclusive
 pub mod LinkedBlocks
 pub mod Known

@@ -204,6 +204,32 @@ impl<T, A: Allocator> LinkedBlocks<T, A> {
         self.chain.set_next(block.number, block.link, after.link);
     }
 
+    /// The block that a link leads to.
+    #[inline(always)]
+    fn load_link(&mut self, link: Link<Name<T>>) -> Option<Name<T>>
+        requires { line_can_perform self.old (LoadLink link) }
+        ensures { (Linked result, self.new) ≡ line_performed self.old (LoadLink link) }
+    {
+        match link {
+            Link::HeadBlock => self.head_block,
+            Link::TailBlock => self.tail_block,
+            Link::Next(block) => self.next(block),
+        }
+    }
+
+    /// The link leads to this block from then on.
+    #[inline(always)]
+    fn store_link(&mut self, link: Link<Name<T>>, block: Name<T>)
+        requires { line_can_perform self.old (StoreLink link block) }
+        ensures { (Done, self.new) ≡ line_performed self.old (StoreLink link block) }
+    {
+        match link {
+            Link::HeadBlock => self.head_block = Some(block),
+            Link::TailBlock => self.lay(block),
+            Link::Next(before) => self.link(before, block),
+        }
+    }
+
     /// How many blocks are held.
     pub(crate) fn blocks(&self) -> usize
         ensures { result ≡ length self.now.pieces }
@@ -297,19 +323,9 @@ impl<T, A: Allocator> Cells<T, Name<T>> for LinkedBlocks<T, A> {
                 }
                 Answer::Found(found)
             }
-            Op::LoadLink(Link::HeadBlock) => Answer::Linked(self.head_block),
-            Op::LoadLink(Link::TailBlock) => Answer::Linked(self.tail_block),
-            Op::LoadLink(Link::Next(block)) => Answer::Linked(self.next(block)),
-            Op::StoreLink(Link::HeadBlock, block) => {
-                self.head_block = Some(block);
-                Answer::Done
-            }
-            Op::StoreLink(Link::TailBlock, block) => {
-                self.lay(block);
-                Answer::Done
-            }
-            Op::StoreLink(Link::Next(block), after) => {
-                self.link(block, after);
+            Op::LoadLink(link) => Answer::Linked(self.load_link(link)),
+            Op::StoreLink(link, block) => {
+                self.store_link(link, block);
                 Answer::Done
             }
             Op::Install(block) => {
