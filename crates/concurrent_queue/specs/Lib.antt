@@ -13,6 +13,8 @@ pub mod LineCells
 pub mod LineOwned
 pub mod LineRuns
 pub mod LineKeeps
+pub mod LineChains
+pub mod LineLeaves
 pub mod Exclusive
 pub mod Known
 pub mod Turns
