@@ -15,6 +15,8 @@ pub mod LineRuns
 pub mod LineKeeps
 pub mod LineChains
 pub mod LineLeaves
+pub mod LinePush
+pub mod LineSole
 pub mod Exclusive
 pub mod Known
 pub mod Turns
