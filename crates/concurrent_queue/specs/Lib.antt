@@ -13,6 +13,10 @@ pub mod LineCells
 pub mod LineOwned
 pub mod LineRuns
 pub mod LineKeeps
+pub mod LineChains
+pub mod LineLeaves
+pub mod LinePush
+pub mod LineSole
 pub mod Exclusive
 pub mod LinkedBlocks
 pub mod Known

@@ -48,9 +48,24 @@ cell-other {T} ps i slot j other state item below apart = go (same_or_not j i)
         let got : piece_at (slice_set ps i p) j ≡ piece_at ps j = get_or-set_other ps i j p _ differs in
         ap (λ x. cell_in x other) got
 
+-- what a block keeps where it changes, all blocks keep
+pub replaced-keeps : {T X : Type 0} (F : Piece T → X) (ps : List (Piece T)) (i : ℕ) (p : Piece T) (j : ℕ) → i < length ps → F p ≡ F (piece_at ps i) → F (piece_at (slice_set ps i p) j) ≡ F (piece_at ps j)
+replaced-keeps {T} {X} F ps i p j below same = go (same_or_not j i)
+  where
+    go : (j ≡ i) ⊎ (j ≢ i) → F (piece_at (slice_set ps i p) j) ≡ F (piece_at ps j)
+    go (inl e) = rw e (ap F (get_or-set_same ps i p _ below) ∙ same)
+    go (inr differs) = ap F (get_or-set_other ps i j p _ differs)
+
 -- the cell of an item changes
 abbrev pub set_item : {T : Type 0} → List (Piece T) → ℕ → ℕ → ℕ → Option T → List (Piece T)
 set_item ps base n state item = set_cell ps (n / BLOCK_SLOTS - base) (n % BLOCK_SLOTS) state item
+
+pub length-set_item : {T : Type 0} (ps : List (Piece T)) (base n state : ℕ) (item : Option T) → length (set_item ps base n state item) ≡ length ps
+length-set_item ps base n state item = length-set ps (n / BLOCK_SLOTS - base) (record (piece_at ps (n / BLOCK_SLOTS - base)) { states = slice_set (piece_at ps (n / BLOCK_SLOTS - base)).states (n % BLOCK_SLOTS) state; slots = slice_set (piece_at ps (n / BLOCK_SLOTS - base)).slots (n % BLOCK_SLOTS) item })
+
+-- and its block keeps its name
+pub name-set_item : {T : Type 0} (ps : List (Piece T)) (base n state : ℕ) (item : Option T) (j : ℕ) → n / BLOCK_SLOTS - base < length ps → (piece_at (set_item ps base n state item) j).name ≡ (piece_at ps j).name
+name-set_item ps base n state item j below = replaced-keeps (λ p. p.name) ps (n / BLOCK_SLOTS - base) (record (piece_at ps (n / BLOCK_SLOTS - base)) { states = slice_set (piece_at ps (n / BLOCK_SLOTS - base)).states (n % BLOCK_SLOTS) state; slots = slice_set (piece_at ps (n / BLOCK_SLOTS - base)).slots (n % BLOCK_SLOTS) item }) j below refl
 
 -- the cell of an item in a block that is there, and the cells of other items
 module _ {T : Type 0} (ps : List (Piece T)) (base first n state : ℕ) (item : Option T) (linked : Linked first ps) (low : base * BLOCK_SLOTS ≤ n) (high : n < (base + length ps) * BLOCK_SLOTS) where
@@ -98,14 +113,6 @@ length-items_from {T} ps base n (suc k) all =
     let item : (cell_of ps base n).1 ≡ Some here.0 = ap (λ (c : ℕ × Option T). c.1) here.1 in
     let rest = length-items_from ps base (n + 1) k (λ m low high. all m (omega arith) (omega arith)) in
     rw item (ap suc rest)
-
--- what a block keeps where it changes, all blocks keep
-pub replaced-keeps : {T X : Type 0} (F : Piece T → X) (ps : List (Piece T)) (i : ℕ) (p : Piece T) (j : ℕ) → i < length ps → F p ≡ F (piece_at ps i) → F (piece_at (slice_set ps i p) j) ≡ F (piece_at ps j)
-replaced-keeps {T} {X} F ps i p j below same = go (same_or_not j i)
-  where
-    go : (j ≡ i) ⊎ (j ≢ i) → F (piece_at (slice_set ps i p) j) ≡ F (piece_at ps j)
-    go (inl e) = rw e (ap F (get_or-set_same ps i p _ below) ∙ same)
-    go (inr differs) = ap F (get_or-set_other ps i j p _ differs)
 
 pub Linked-set : {T : Type 0} (first : ℕ) (ps : List (Piece T)) (i slot state : ℕ) (item : Option T) → i < length ps → Linked first ps → Linked first (set_cell ps i slot state item)
 Linked-set {T} first ps i slot state item below linked =

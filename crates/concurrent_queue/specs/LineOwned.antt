@@ -6,6 +6,7 @@ use Rattle.queue_steps.specs.State.{State}
 use Rattle.queue_steps.specs.Sole.{Owned}
 use Rattle.queue_steps.specs.Words.{position_of, is_shut}
 use Rattle.queue_steps.specs.ChainWords.{offset_of, items_before}
+use Rattle.concurrent_queue.specs.declared.unbounded.Name.{Name}
 use Rattle.concurrent_queue.specs.RingKeeps.{put_in}
 use Rattle.concurrent_queue.specs.LineCells.{Piece, Line, piece_at, state_in, item_in}
 
@@ -46,20 +47,21 @@ pub record Linked {T : Type 0} (first : ℕ) (pieces : List (Piece T)) : Type 0 
   pub next : (i : ℕ) → i + 1 < length pieces → (piece_at pieces i).next ≡ Some (piece_at pieces (i + 1)).name
   pub end : (i : ℕ) → i + 1 ≡ length pieces → (piece_at pieces i).next ≡ None
 
--- no block was laid
-pub record IsBare {T : Type 0} (r : Line T) : Type 0 where
-  pub none : r.pieces ≡ []
-  pub unused : accepted r ≡ 0
-  pub front : r.head_block ≡ None
-  pub back : r.tail_block ≡ None
+-- no block was laid, and t items were accepted: none
+pub record IsBare {T : Type 0} (first : ℕ) (pieces : List (Piece T)) (head_block tail_block : Option (Name T)) (t : ℕ) : Type 0 where
+  pub start : first ≡ 0
+  pub none : pieces ≡ []
+  pub unused : t ≡ 0
+  pub front : head_block ≡ None
+  pub back : tail_block ≡ None
 
--- there is a block for each item, from that of the front to that of the next one to come
-pub record IsLaid {T : Type 0} (r : Line T) : Type 0 where
-  pub count : length r.pieces + taken r / BLOCK_SLOTS ≡ accepted r / BLOCK_SLOTS + 1
-  pub linked : Linked r.first r.pieces
-  pub front : r.head_block ≡ Some (piece_at r.pieces 0).name
-  pub back : (i : ℕ) → i + 1 ≡ length r.pieces → r.tail_block ≡ Some (piece_at r.pieces i).name
-  pub holds : Holds r.pieces (taken r / BLOCK_SLOTS) (taken r) (accepted r)
+-- of t accepted items h were taken, and there is a block for each item from that of the front to that of the next one to come
+pub record IsLaid {T : Type 0} (first : ℕ) (pieces : List (Piece T)) (head_block tail_block : Option (Name T)) (h t : ℕ) : Type 0 where
+  pub count : length pieces + h / BLOCK_SLOTS ≡ t / BLOCK_SLOTS + 1
+  pub linked : Linked first pieces
+  pub front : head_block ≡ Some (piece_at pieces 0).name
+  pub back : (i : ℕ) → i + 1 ≡ length pieces → tail_block ≡ Some (piece_at pieces i).name
+  pub holds : Holds pieces (h / BLOCK_SLOTS) h t
 
 -- no call is on its way: neither position stands behind a block's last slot, and the head's bit is set only where the front's block is not the last
 pub record IsIdle {T : Type 0} (r : Line T) : Type 0 where
@@ -70,4 +72,4 @@ pub record IsIdle {T : Type 0} (r : Line T) : Type 0 where
   pub known : r.head % 2 ≡ 1 → taken r / BLOCK_SLOTS < accepted r / BLOCK_SLOTS
   pub few : r.first + length r.pieces ≤ accepted r / BLOCK_SLOTS + 1
   pub no_spare : r.spare ≡ None
-  pub blocks : IsBare r ⊎ IsLaid r
+  pub blocks : IsBare r.first r.pieces r.head_block r.tail_block (accepted r) ⊎ IsLaid r.first r.pieces r.head_block r.tail_block (taken r) (accepted r)

@@ -24,7 +24,7 @@ use Rattle.concurrent_queue.specs.Ends.{EndsRight, Answered}
 use Rattle.concurrent_queue.specs.RingCells.{RingState, kind_of_ring, ring_can_touch, ring_touches, ring_can_perform, ring_performs, ring_can_release, ring_releases}
 use Rattle.concurrent_queue.specs.RingKeeps.{next_lap, at_position, filled_slot}
 use Rattle.concurrent_queue.specs.RingOwned.{IsIdle, ring_queue, ring_owned}
-use Rattle.concurrent_queue.specs.RingRuns.{Ending, RingEnds, apart_nat, equal_nat}
+use Rattle.concurrent_queue.specs.RingRuns.{Ending, RingEnds, apart_nat, equal_nat, is_apart}
 use Rattle.concurrent_queue.specs.RingCalls.{marked, pushed, popped, displaced, run-closed, run-spent, run-room, run-full, run-displaced, run-pop, run-empty, run-close, run-is_closed, run-is_empty, run-is_full, run-len}
 use Rattle.concurrent_queue.specs.RingLeaves.{idle-marked, queue-marked, idle-pushed, queue-pushed, idle-popped, items-front, queue-popped, displaced-is, length-items}
 
@@ -47,12 +47,6 @@ sole {T} r done c x answers leaves =
 
 over_one : (n : ℕ) → 1 < n → nat_eq n 1 ≡ false
 over_one n h = grind arith
-
-is_equal : (m n : ℕ) → (m == n) ≡ true → m ≡ n
-is_equal m n e = grind arith
-
-is_apart : (m n : ℕ) → (m == n) ≡ false → m ≤ n → m < n
-is_apart m n e h = grind arith
 
 -- where the positions are a whole lap apart the ring is full, and else it has room
 full-is : {T : Type 0} (r : RingState T) → IsIdle r → (position_of r.tail ≡ r.head + r.cap) → is_full (ring_queue r) ≡ true

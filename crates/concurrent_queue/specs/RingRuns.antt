@@ -1,6 +1,6 @@
 -- How each call runs on a ring: from what it finds in the words and slots to its reply and what it leaves.
 use Rattle.std.specs.Prelude.{slice_set, ◌==◌, nat_lt}
-use Rattle.std.proofs.Common.{◌≡◌, ℕ, suc, ◌<◌, true, false, List, length, Option, None, refl, arith, sym, ap, ◌∙◌, subst}
+use Rattle.std.proofs.Common.{◌≡◌, ℕ, suc, ◌<◌, ◌≤◌, true, false, List, length, Option, None, refl, arith, sym, ap, ◌∙◌, subst}
 use Rattle.std.proofs.lemmas.List.{get_or-set_same, set-set, length-set}
 use Rattle.queue_steps.specs.declared.model.Reply.{Reply}
 use Rattle.queue_steps.specs.declared.steps.types.Kind.TheVariants as kind
@@ -65,6 +65,12 @@ equal_nat m n e = grind arith
 
 pub apart_nat : (m n : ℕ) → m < n → (m == n) ≡ false
 apart_nat m n h = grind arith
+
+pub is_equal : (m n : ℕ) → (m == n) ≡ true → m ≡ n
+is_equal m n e = grind arith
+
+pub is_apart : (m n : ℕ) → (m == n) ≡ false → m ≤ n → m < n
+is_apart m n e h = grind arith
 
 -- a slot of which first the item and then the stamp was changed
 written : {T : Type 0} (slots : List (RingSlot T)) (i before stamp : ℕ) (o : Option T) → i < length slots
