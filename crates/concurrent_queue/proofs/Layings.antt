@@ -1,18 +1,22 @@
 -- A block is laid behind the others, and the oldest one is given up.
-use Rattle.std.proofs.Common.{◌≡◌, ◌≢◌, ◌⊎◌, ℕ, ◌+◌, ◌-◌, ◌^◌, ◌<◌, ◌≤◌, true, List, [], ◌∷◌, ◌++◌, length, replicate, Option, Some, None, refl, arith, sym, ap, ◌∙◌, subst, inl, inr, get_or, set, length-append}
+use Rattle.std.proofs.Common.{◌≡◌, ◌≢◌, ◌⊎◌, ℕ, ◌+◌, ◌-◌, ◌%◌, ◌^◌, ◌<◌, ◌≤◌, true, List, [], ◌∷◌, ◌++◌, length, replicate, Option, Some, None, refl, arith, sym, ap, ◌∙◌, subst, inl, inr, get_or, set, bit_or, length-append}
 use Rattle.std.proofs.lemmas.List.{get_or-set_other, length-set, get_or_append_left, get_or-append_right}
 use denote.RawPtr.{Ptr, null_ptr, InBlock}
-use Rattle.block_web.specs.Web.{Block, Home, AllVacant, block, alive_at, vacant, without}
+use Rattle.block_web.specs.Web.{Block, Home, AllVacant, Lives, block, alive_at, vacant, with_word, without}
 use Rattle.block_web.specs.declared.sizes.TheConstants.{SLOTS}
 use Rattle.block_web.specs.declared.chain.Chain.{Chain}
 use Rattle.queue_steps.specs.Effect.{rest}
+use Rattle.queue_steps.specs.declared.sizes.TheConstants.{LIMIT, BLOCK_SLOTS}
 use Rattle.concurrent_queue.specs.declared.unbounded.Name.{Name}
 use Rattle.concurrent_queue.specs.declared.unbounded.Spare.{Spare}
 use Rattle.concurrent_queue.specs.declared.unbounded.LinkedBlocks.TheInside.{Inside}
 use Rattle.concurrent_queue.specs.LineCells.{Piece, Line, fresh_piece, laid, piece_of, IsEmptied}
-use Rattle.concurrent_queue.specs.LinkedBlocks.{IsHeld, IsLinked, IsFresh, spare_name, line_view, piece, pieces_of, contents, at_home}
+use Rattle.concurrent_queue.specs.LineOwned.{IsIdle}
+use Rattle.concurrent_queue.specs.LinkedBlocks.{IsHeld, IsLinked, IsFresh, spare_name, line_view, name_at, piece, pieces_of, contents, at_home}
 use Rattle.concurrent_queue.proofs.Pieces.{append-pieces_of, rest-pieces_of, vacant-at_home}
 use Rattle.concurrent_queue.proofs.Linked.{oldest, block_of, Knows}
+use Rattle.concurrent_queue.proofs.LineBegins.{HasRead, HasRead-none, HasRead-more, unread, begun, begun_piece, begun-idle}
+use Rattle.queue_steps.specs.declared.steps.unbounded.TheConstants.{WRITE, READ}
 
 module _ {T : Type 0} where
   -- a block as it is made, at p
@@ -105,3 +109,33 @@ module _ {T A : Type 0} where
   -- the slots of an empty block
   pub emptied-vacant : (s : Inside T A) (b : Name T) → Knows s b → IsEmptied (piece_of (line_view s) b).slots → AllVacant (block_of s b).homes
   emptied-vacant s b k h = subst AllVacant k.held.home (vacant-at_home (contents (block_of s b).homes) (subst (λ p. IsEmptied p.slots) k.piece h))
+
+-- a chain of one block at p, whose first k slots count as read
+pub record Opened {T : Type 0} (p : Ptr) (k : ℕ) (blocks : List (Block T)) : Type 0 where
+  pub states : List ℕ
+  pub is : blocks ≡ alive_at p null_ptr states (replicate SLOTS vacant) ∷ []
+  pub read : HasRead states k
+
+module _ {T : Type 0} where
+  pub Opened-none : (p : Ptr) (blocks : List (Block T)) → blocks ≡ made_at p ∷ [] → Opened p 0 blocks
+  Opened-none p blocks is = record { states = unread; is = is; read = HasRead-none }
+
+  pub Opened-more : (p : Ptr) (k : ℕ) (blocks new : List (Block T)) → k < SLOTS → new ≡ with_word blocks 0 k (bit_or WRITE READ) → Opened p k blocks → Opened p (k + 1) new
+  Opened-more p k blocks new below is o = record {
+    states = set o.states k (bit_or WRITE READ);
+    is = is ∙ ap (λ bs. with_word bs 0 k (bit_or WRITE READ)) o.is;
+    read = HasRead-more o.states k below o.read;
+  }
+
+  pub Opened-lives : (p : Ptr) (k : ℕ) (blocks : List (Block T)) → Opened p k blocks → Lives blocks 0 p
+  Opened-lives p k blocks o = subst (λ bs. Lives bs 0 p) (sym o.is) (refl, refl)
+
+  -- what it shows
+  abbrev pub opened_line : Name T → List (Block T) → ℕ → Line T
+  opened_line b blocks n = record (begun b unread n) { pieces = pieces_of 0 blocks }
+
+  pub opened-idle : (b : Name T) (k n : ℕ) (blocks : List (Block T)) → b.number ≡ 0 → n ≤ LIMIT → k ≡ n % BLOCK_SLOTS → Opened b.link.ptr k blocks → IsIdle (opened_line b blocks n)
+  opened-idle b k n blocks numbered below is o =
+      let named : piece 0 (alive_at b.link.ptr null_ptr o.states (replicate SLOTS vacant)) ≡ begun_piece b o.states = ap (λ j. record (begun_piece b o.states) { name = name_at j b.link.ptr }) (sym numbered) in
+      subst (λ bs. IsIdle (opened_line b bs n)) (sym o.is)
+      (subst (λ p. IsIdle (record (begun b unread n) { pieces = p ∷ [] })) (sym named) (begun-idle b o.states n numbered below (subst (HasRead o.states) is o.read)))

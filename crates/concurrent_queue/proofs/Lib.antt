@@ -5,6 +5,7 @@ pub mod Openings
 pub mod Pieces
 pub mod Linked
 pub mod Layings
+pub mod LineBegins
 mod Totals
 mod Keeping
 mod Leading

@@ -1,15 +1,17 @@
 //! A chain of blocks with one owner.
-ghost use Rattle.std.specs.Prelude.{◌≡◌};
+ghost use Rattle.std.specs.Prelude.{◌≡◌, ◌≤◌, IfOk};
 ghost use Rattle.queue_steps.specs.LookNext.{IsLoad};
+ghost use Rattle.queue_steps.specs.State.{start};
+ghost use Rattle.queue_steps.specs.declared.sizes.TheConstants.{LIMIT};
 ghost use Rattle.concurrent_queue.specs.LineCells.{state_block as spec_state_block};
 
 use crate::cells::Cells;
 use block_web::block::{Link as Place, Loose};
 use block_web::chain::Chain;
-use queue_steps::steps::{Answer, Kind, Link, Op, Touch, Word};
+use queue_steps::sizes::{BLOCK_POSITIONS, BLOCK_SLOTS};
+use queue_steps::steps::{Answer, Kind, Link, Op, READ, TAIL_STEP, Touch, WRITE, Word};
 use std::alloc::{AllocError, Allocator};
 use std::marker::Model;
-use std::mem;
 
 /// A block: its number in the order in which the blocks were laid, and where it lies.
 pub(crate) struct Name<T> {
@@ -75,12 +77,94 @@ fn state_block<T>(op: &Op<Name<T>>) -> Option<Name<T>>
 }
 
 impl<T, A: Allocator> LinkedBlocks<T, A> {
-    ghost use Rattle.std.specs.Prelude.{None, Some, length};
+    ghost use Rattle.std.specs.Prelude.{None, Some, [], length};
     ghost use Rattle.queue_steps.specs.declared.steps.types.Answer.TheVariants.{Found, Linked, Done};
     ghost use Rattle.queue_steps.specs.declared.steps.types.Op.TheVariants.{Load, Or, LoadLink, StoreLink, Ask};
     ghost use Rattle.queue_steps.specs.declared.steps.types.Link.TheVariants.{Next};
     ghost use Rattle.queue_steps.specs.declared.steps.types.Word.TheVariants.{State};
     ghost use Rattle.concurrent_queue.specs.LineCells.{CanPut, CanTake, CanLay, exchanged, laid, line_can_perform, line_performed, line_asks};
+    ghost use Rattle.concurrent_queue.specs.LineOwned.{IsIdle, line_owned, line_queue};
+
+    /// A chain without blocks.
+    pub(crate) fn new(alloc: A) -> Self
+        ensures idle { IsIdle result }
+        ensures empty { line_owned result ≡ record { queue = start None 0; blocks = 0 } }
+    {
+        let chain = Chain::empty(&alloc);
+        LinkedBlocks {
+            alloc,
+            chain,
+            head: 0,
+            tail: 0,
+            head_block: None,
+            tail_block: None,
+            spare: None,
+            laid: 0,
+            held: 0,
+        }
+    }
+
+    /// A chain of one block, whose positions stand as after `accepted` items that were accepted and taken.
+    ///
+    /// # Errors
+    ///
+    /// Where there is no memory.
+    pub(crate) fn after(alloc: A, accepted: u64) -> Result<Self, AllocError>
+        requires { accepted ≤ LIMIT }
+        ensures idle { IfOk result (λ line. IsIdle line) }
+        ensures empty { IfOk result (λ line. line_owned line ≡ record { queue = start None accepted; blocks = 1 }) }
+    {
+        let (link, block) = Loose::make(&alloc)?;
+        let mut chain = Chain::empty(&alloc);
+        chain.lay(block);
+        let offset = accepted % BLOCK_SLOTS;
+        for slot in 0..offset as usize {
+            chain.set_word(0, link, slot, WRITE | READ);
+        }
+        let word = (accepted / BLOCK_SLOTS * BLOCK_POSITIONS + offset) * TAIL_STEP;
+        let name = Name {
+            number: 0,
+            link,
+        };
+        Ok(LinkedBlocks {
+            alloc,
+            chain,
+            head: word,
+            tail: word,
+            head_block: Some(name),
+            tail_block: Some(name),
+            spare: None,
+            laid: 1,
+            held: 1,
+        })
+    }
+
+    /// Gives the memory of a chain back that has no items.
+    pub(crate) fn end(self)
+        requires idle { IsIdle self }
+        requires empty { (line_queue self).items ≡ [] }
+    {
+        let LinkedBlocks {
+            alloc,
+            mut chain,
+            head: _,
+            tail: _,
+            head_block,
+            tail_block: _,
+            spare,
+            laid: _,
+            held: _,
+        } = self;
+        match spare {
+            None => {}
+            Some(_) => unreachable!(),
+        }
+        match head_block {
+            None => {}
+            Some(last) => chain.lift(last.number, last.link).give_up(&alloc, last.link),
+        }
+        chain.leave();
+    }
 
     /// An item goes into an empty slot.
     #[inline(always)]
