@@ -17,6 +17,7 @@ pub mod LineChains
 pub mod LineLeaves
 pub mod LinePush
 pub mod LineSole
+pub mod LinePushes
 pub mod Exclusive
 pub mod Known
 pub mod Turns
