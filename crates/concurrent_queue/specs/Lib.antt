@@ -18,6 +18,7 @@ pub mod LineLeaves
 pub mod LinePush
 pub mod LineSole
 pub mod LinePushes
+pub mod LinePop
 pub mod Exclusive
 pub mod Known
 pub mod Turns
