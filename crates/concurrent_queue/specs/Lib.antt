@@ -17,6 +17,8 @@ pub mod LineChains
 pub mod LineLeaves
 pub mod LinePush
 pub mod LineSole
+pub mod LinePushes
+pub mod LinePop
 pub mod Exclusive
 pub mod LinkedBlocks
 pub mod Known
