@@ -6,6 +6,7 @@ pub mod Pieces
 pub mod Linked
 pub mod Layings
 pub mod LineBegins
+pub mod Pops
 mod Totals
 mod Keeping
 mod Leading
