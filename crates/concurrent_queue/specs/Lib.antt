@@ -19,6 +19,7 @@ pub mod LinePush
 pub mod LineSole
 pub mod LinePushes
 pub mod LinePop
+pub mod LinePops
 pub mod Exclusive
 pub mod Known
 pub mod Turns
