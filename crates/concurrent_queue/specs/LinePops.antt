@@ -185,3 +185,72 @@ module _ {T : Type 0} (r : Line T) (i : IsIdle r) (l : Laid r) where
         run-passed steps r first_name (piece_at r.pieces 1).name new front.0 (piece_of r (piece_at r.pieces 1).name).next (Right call.Pop r) enough (head-word r i) (omega arith)
         first-named (can-follow r i l 0 filled) next (can-follow r i l 1 below) refl
         (ap (λ (c : ℕ × Option T). c.0) cell) (ap (λ (c : ℕ × Option T). c.1) cell) (λ j low. ap (λ (c : ℕ × Option T). c.0) (read-cell outer j low)) (pass-ends outer)
+
+    -- a pop that claims the front, whatever bit the head gets
+    take-ends : (steps new : ℕ) → 29 < steps → position_of new ≡ position_of r.head + 1 → (new % 2 ≡ 1 → taken r / BLOCK_SLOTS < accepted r / BLOCK_SLOTS)
+        → LineEnds (suc (suc (suc (suc (suc (suc (suc steps))))))) (takes r.head first_name new) r None (Right call.Pop r)
+    take-ends steps new enough up known = go (slots (taken r))
+      where
+        slots : (n : ℕ) → (n % BLOCK_SLOTS + 1 < BLOCK_SLOTS) ⊎ (n % BLOCK_SLOTS + 1 ≡ BLOCK_SLOTS)
+        slots n = grind arith
+
+        go : (taken r % BLOCK_SLOTS + 1 < BLOCK_SLOTS) ⊎ (taken r % BLOCK_SLOTS + 1 ≡ BLOCK_SLOTS) → LineEnds (suc (suc (suc (suc (suc (suc (suc steps))))))) (takes r.head first_name new) r None (Right call.Pop r)
+        go (inl inner) =
+            let rests = i.head_rests in
+            take-here (suc (suc (suc steps))) new inner (record { rests = omega arith; counted = omega arith; known = λ bit. let more = known bit in omega arith })
+        go (inr outer) = take-last steps new enough outer
+
+    take-answers : LineEnds LONE_STEPS (loads chain.PopHead word.Head) r None (Right call.Pop r)
+    take-answers = go (r.head % 2 == 1) (block_at (position_of r.tail) == block_at (position_of r.head)) refl refl
+      where
+        rests : (offset_of r.head == BLOCK_SLOTS) ≡ false
+        rests = apart_nat (offset_of r.head) BLOCK_SLOTS i.head_rests
+
+        differ : (position_of r.tail == position_of r.head) ≡ false
+        differ = unequal (position_of r.tail) (position_of r.head) (let h = i.head_rests in let t = i.tail_rests in omega arith)
+          where
+            unequal : (m n : ℕ) → n < m → (m == n) ≡ false
+            unequal m n low = grind arith
+
+        not_same : (m n : ℕ) → (m == n) ≡ false → m ≢ n
+        not_same m n e = grind arith
+
+        go : (odd same : Bool) → (r.head % 2 == 1) ≡ odd → (block_at (position_of r.tail) == block_at (position_of r.head)) ≡ same → LineEnds LONE_STEPS (loads chain.PopHead word.Head) r None (Right call.Pop r)
+        go true same e1 e2 =
+            let bit = is_equal (r.head % 2) 1 e1 in
+            run-known r first_name (Right call.Pop r) (head-word r i) rests e1 l.front (take-ends (LONE_STEPS - 9) (r.head + TAIL_STEP) (omega arith) (omega arith) (λ e. i.known bit))
+        go false true e1 e2 =
+            let even = not_same (r.head % 2) 1 e1 in
+            run-tail r first_name (r.head + TAIL_STEP) (Right call.Pop r) (head-word r i) rests e1 l.front differ (rw e2 refl)
+            (take-ends (LONE_STEPS - 10) (r.head + TAIL_STEP) (omega arith) (omega arith) (λ e. absurd (even (omega arith))))
+        go false false e1 e2 =
+            let even = not_same (r.head % 2) 1 e1 in
+            let other = not_same (block_at (position_of r.tail)) (block_at (position_of r.head)) e2 in
+            let h = i.head_rests in
+            let t = i.tail_rests in
+            run-tail r first_name (r.head + TAIL_STEP + 1) (Right call.Pop r) (head-word r i) rests e1 l.front differ (rw e2 refl)
+            (take-ends (LONE_STEPS - 10) (r.head + TAIL_STEP + 1) (omega arith) (omega arith) (λ e. omega arith))
+
+pub pop-answers : {T : Type 0} (r : Line T) → IsIdle r → LineEnds LONE_STEPS (loads chain.PopHead word.Head) r None (Right call.Pop r)
+pop-answers {T} r i = go (cases (taken r) (accepted r) i.order) i.blocks
+  where
+    cases : (h t : ℕ) → h ≤ t → (t ≡ h) ⊎ (h < t)
+    cases h t o = grind arith
+
+    none-found : accepted r ≡ taken r → LineEnds LONE_STEPS (loads chain.PopHead word.Head) r None (Right call.Pop r)
+    none-found empty =
+        let h = i.head_rests in
+        let t = i.tail_rests in
+        let known = i.known in
+        let none : accepted r - taken r ≡ 0 = omega arith in
+        let odd : r.head % 2 ≢ 1 = λ e. let more = known e in omega arith in
+        run-empty r (Right call.Pop r) (head-word r i) (apart_nat (offset_of r.head) BLOCK_SLOTS h) (unequal (r.head % 2) 1 odd) odd (equal_nat (position_of r.tail) (position_of r.head) (omega arith))
+        (i, (reply.Pop (Err (if is_shut r.tail then pop.Closed else pop.Empty)), refl, sole r r call.Pop (reply.Pop (Err (if is_shut r.tail then pop.Closed else pop.Empty))) i (rw none refl) (rw none refl) (λ x. refl)))
+      where
+        unequal : (m n : ℕ) → m ≢ n → (m == n) ≡ false
+        unequal m n differs = grind arith
+
+    go : (accepted r ≡ taken r) ⊎ (taken r < accepted r) → IsBare r.first r.pieces r.head_block r.tail_block (accepted r) ⊎ Laid r → LineEnds LONE_STEPS (loads chain.PopHead word.Head) r None (Right call.Pop r)
+    go (inl empty) blocks = none-found empty
+    go (inr some) (inl bare) = let unused = bare.unused in absurd (omega arith)
+    go (inr some) (inr l) = take-answers r i l some
