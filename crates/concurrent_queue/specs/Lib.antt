@@ -20,6 +20,7 @@ pub mod LineSole
 pub mod LinePushes
 pub mod LinePop
 pub mod LinePops
+pub mod LineAnswers
 pub mod Exclusive
 pub mod Known
 pub mod Turns
