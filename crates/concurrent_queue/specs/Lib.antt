@@ -19,6 +19,8 @@ pub mod LinePush
 pub mod LineSole
 pub mod LinePushes
 pub mod LinePop
+pub mod LinePops
+pub mod LineAnswers
 pub mod Exclusive
 pub mod LinkedBlocks
 pub mod Known
