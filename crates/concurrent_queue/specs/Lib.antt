@@ -21,7 +21,6 @@ pub mod LinePushes
 pub mod LinePop
 pub mod LinePops
 pub mod LineAnswers
-pub mod LineBegins
 pub mod Exclusive
 pub mod Known
 pub mod Turns

@@ -1,7 +1,7 @@
 -- Blocks that are laid behind the last one, and the oldest block, which is given up.
-use Rattle.std.specs.Prelude.{slice_set, get_or, replicate}
-use Rattle.std.proofs.Common.{◌≡◌, ◌≢◌, ℕ, zero, suc, ◌+◌, ◌-◌, ◌*◌, ◌/◌, ◌%◌, ◌<◌, ◌≤◌, ◌⊎◌, List, [], ◌∷◌, ◌++◌, length, Option, Some, None, refl, arith, sym, ap, ◌∙◌, inl, inr}
-use Rattle.std.proofs.lemmas.List.{get_or-set_same, get_or-set_other, length-set, length-append, get_or_append_left, get_or-append_right, get_or-replicate, length-replicate}
+use Rattle.std.specs.Prelude.{slice_set, get_or}
+use Rattle.std.proofs.Common.{◌≡◌, ◌≢◌, ℕ, suc, ◌+◌, ◌-◌, ◌*◌, ◌/◌, ◌%◌, ◌<◌, ◌≤◌, ◌⊎◌, List, [], ◌∷◌, ◌++◌, length, Option, Some, None, refl, arith, sym, ap, ◌∙◌, inl, inr}
+use Rattle.std.proofs.lemmas.List.{get_or-set_same, get_or-set_other, length-set, length-append, get_or_append_left, get_or-append_right, get_or-replicate}
 use Rattle.queue_steps.specs.declared.sizes.TheConstants.{BLOCK_SLOTS}
 use Rattle.queue_steps.specs.Effect.{rest}
 use Rattle.concurrent_queue.specs.declared.unbounded.Name.{Name}

@@ -84,8 +84,11 @@ walks_on-ends {T} r b carried P named read end (suc k) slot (suc n) sum low =
 pub run-passed : {T : Type 0} (steps : ℕ) (r : Line T) (b after : Name T) (new : ℕ) (x : T) (further : Option (Name T)) (P : Ending T) → 29 < steps → IsWord r.head → offset_of r.head + 1 ≡ BLOCK_SLOTS
     → Named r b → CanFollow r b → (piece_of r b).next ≡ Some after → CanFollow r after → (piece_of r after).next ≡ further
     → state_in (piece_of r b) (offset_of r.head) ≡ WRITE → item_in (piece_of r b) (offset_of r.head) ≡ Some x → ((j : ℕ) → j + 1 < BLOCK_SLOTS → state_in (piece_of r b) j ≡ bit_or WRITE READ)
-    → P (reply.Pop (Ok tt)) (Some b) (Some x) (record r { head = (position_of r.head + 2) * 2 + (if is_some further then 1 else 0); head_block = Some after;
-      pieces = slice_set r.pieces (place_of r b) (record (piece_of r b) { slots = slice_set (piece_of r b).slots (offset_of r.head) None }) })
+    → P (reply.Pop (Ok tt)) (Some b) (Some x) (record r {
+      head = (position_of r.head + 2) * 2 + (if is_some further then 1 else 0);
+      head_block = Some after;
+      pieces = slice_set r.pieces (place_of r b) (record (piece_of r b) { slots = slice_set (piece_of r b).slots (offset_of r.head) None });
+    })
     → LineEnds (suc (suc (suc (suc (suc (suc (suc steps))))))) (takes r.head b new) r None P
 run-passed {T} steps r b after new x further P enough small outer named follow next follow_after next_after written full read end =
     let slot : ℕ = offset_of r.head in

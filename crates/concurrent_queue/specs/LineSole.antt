@@ -1,6 +1,6 @@
 -- What a call on a chain of blocks has to end with, and that it does where it leaves what the table of one owner says.
 use Rattle.std.specs.Prelude.{◌==◌, if◌then◌else◌}
-use Rattle.std.proofs.Common.{◌≡◌, ◌⊎◌, ℕ, ◌+◌, ◌-◌, ◌/◌, ◌%◌, ◌<◌, ◌≤◌, Bool, true, false, List, [], ◌∷◌, ◌++◌, length, Option, Some, None, Ok, Err, refl, arith, sym, ap, ◌∙◌, subst, inl, inr}
+use Rattle.std.proofs.Common.{◌≡◌, ◌⊎◌, ℕ, ◌+◌, ◌-◌, ◌/◌, ◌<◌, Bool, true, false, [], ◌∷◌, ◌++◌, length, Some, None, Ok, Err, refl, arith, ap, ◌∙◌, subst, inl, inr}
 use Rattle.queue_steps.specs.declared.sizes.TheConstants.{LIMIT, BLOCK_SLOTS}
 use Rattle.queue_steps.specs.declared.model.Call.{Call}
 use Rattle.queue_steps.specs.declared.model.Call.TheVariants as call
@@ -12,10 +12,10 @@ use Rattle.queue_steps.specs.declared.steps.bounded.PushKind.{PushKind}
 use Rattle.queue_steps.specs.declared.steps.bounded.PushKind.TheVariants as push_kind
 use Rattle.queue_steps.specs.State.{State}
 use Rattle.queue_steps.specs.Sole.{Sole, MayAsk, HoldsBlocks, blocks_of, sole_reply, sole_state, moved}
-use Rattle.queue_steps.specs.Words.{position_of, is_shut}
+use Rattle.queue_steps.specs.Words.{is_shut}
 use Rattle.queue_steps.specs.BoundedNext.{closed_reply, pushed_reply}
 use Rattle.queue_steps.specs.UnboundedNext.{gives_up}
-use Rattle.concurrent_queue.specs.Ends.{EndsRight, Replied, Answered}
+use Rattle.concurrent_queue.specs.Ends.{EndsRight, Answered}
 use Rattle.concurrent_queue.specs.RingRuns.{is_equal}
 use Rattle.concurrent_queue.specs.LineCells.{Line, kind_of_line, line_can_touch, line_touches, line_can_perform, line_performs, line_can_release, line_releases}
 use Rattle.concurrent_queue.specs.LineOwned.{taken, accepted, line_queue, line_owned, IsBare, IsLaid, IsIdle}
