@@ -22,6 +22,7 @@ pub mod LinePop
 pub mod LinePops
 pub mod LineAnswers
 pub mod Exclusive
+pub mod LinkedBlocks
 pub mod Known
 pub mod Turns
 pub mod Seats
