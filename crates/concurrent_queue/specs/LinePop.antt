@@ -1,6 +1,6 @@
 -- How a pop runs on a chain of blocks: its steps one after another, its reply, and what it leaves.
-use Rattle.std.specs.Prelude.{◌==◌, slice_set, bit_or, bit_and, nat_lt, not, is_some, if◌then◌else◌}
-use Rattle.std.proofs.Common.{◌≡◌, ◌≢◌, ◌⊎◌, ℕ, zero, suc, ◌+◌, ◌-◌, ◌*◌, ◌/◌, ◌%◌, ◌<◌, ◌≤◌, Bool, true, false, List, length, Option, Some, None, Ok, Err, refl, arith, sym, ap, ◌∙◌, subst, inl, inr}
+use Rattle.std.specs.Prelude.{◌==◌, slice_set, bit_or, nat_lt, is_some, if◌then◌else◌}
+use Rattle.std.proofs.Common.{◌≡◌, ◌≢◌, ℕ, zero, suc, ◌+◌, ◌-◌, ◌*◌, ◌%◌, ◌<◌, Bool, true, false, Option, Some, None, Ok, Err, refl, arith, ap, ◌∙◌}
 use Rattle.std.proofs.lemmas.List.{get_or-set_same}
 use Rattle.queue_steps.specs.declared.sizes.TheConstants.{BLOCK_SLOTS, LONE_STEPS}
 use Rattle.queue_steps.specs.declared.model.Reply.TheVariants as reply
@@ -18,8 +18,8 @@ use Rattle.queue_steps.specs.Words.{IsWord, position_of, is_shut}
 use Rattle.queue_steps.specs.ChainWords.{block_at, offset_of}
 use Rattle.queue_steps.specs.UnboundedNext.{at, loads, ends, is_last_slot, takes, follows, awaits, walks, walks_on}
 use Rattle.concurrent_queue.specs.declared.unbounded.Name.{Name}
-use Rattle.concurrent_queue.specs.RingRuns.{same_nat, equal_nat, apart_nat, less}
-use Rattle.concurrent_queue.specs.LineCells.{Piece, Line, piece_at, state_in, item_in, place_of, piece_of, with_piece, Named, CanFollow}
+use Rattle.concurrent_queue.specs.Numbers.{same_nat, equal_nat, apart_nat, less}
+use Rattle.concurrent_queue.specs.LineCells.{Piece, Line, state_in, item_in, place_of, piece_of, with_piece, Named, CanFollow}
 use Rattle.concurrent_queue.specs.LineRuns.{Ending, LineEnds, place_below, Named-with, line_step, bare_step, slot_step, set_cell}
 
 -- a pop that finds neither an item nor a head whose block is known not to be the last
@@ -59,7 +59,7 @@ run-taken {T} steps r b new x P inner named written full end =
     let slot : ℕ = offset_of r.head in
     let ahead : Line T = record r { head = new } in
     let same : (r.head == r.head) ≡ true = same_nat r.head in
-    let other : is_last_slot r.head ≡ false = apart_nat (slot + 1) BLOCK_SLOTS inner in
+    let other : is_last_slot r.head ≡ false = apart_nat (slot + 1) BLOCK_SLOTS (omega arith) in
     bare_step (suc (suc (suc steps))) (chain.Taking r.head b) (op.Exchange word.Head r.head new) r ahead None (answer.Found r.head) (awaits r.head b) P tt (λ x y e. e) (rw same refl) tt (rw (same, other) refl)
     (bare_step (suc (suc steps)) (chain.Awaiting r.head b) (op.Load (word.State b slot)) ahead ahead None (answer.Found WRITE) (at (chain.Reading b slot) (touch.Take slot) (op.Or (word.State b slot) READ)) P
     (named, omega arith) (λ x y e. e) (rw written refl) tt (rw other refl)

@@ -17,7 +17,7 @@ use Rattle.queue_steps.specs.ChainWords.{offset_of, items_before}
 use Rattle.queue_steps.specs.BoundedNext.{closed_reply, pushed_reply}
 use Rattle.queue_steps.specs.UnboundedNext.{at, loads, ends, is_last_slot, gives_up, tail_block_found, claims, asks, writes, lays}
 use Rattle.concurrent_queue.specs.declared.unbounded.Name.{Name}
-use Rattle.concurrent_queue.specs.RingRuns.{same_nat, equal_nat, apart_nat}
+use Rattle.concurrent_queue.specs.Numbers.{same_nat, equal_nat, apart_nat}
 use Rattle.concurrent_queue.specs.LineCells.{Line, piece_at, state_in, item_in, place_of, piece_of, Named, laid}
 use Rattle.concurrent_queue.specs.LineRuns.{Ending, LineEnds, Named-with, bare_step, ask_step, slot_step, set_cell}
 use Rattle.concurrent_queue.specs.LineChains.{laid_behind, chained}
@@ -59,7 +59,7 @@ pub run-here : {T : Type 0} (steps : ℕ) (r : Line T) (b : Name T) (v : T) (p :
 run-here {T} steps r b v p P small inner named free empty end =
     let ahead : Line T = record r { tail = r.tail + TAIL_STEP } in
     let same : (r.tail == r.tail) ≡ true = same_nat r.tail in
-    let other : is_last_slot r.tail ≡ false = apart_nat (offset_of r.tail + 1) BLOCK_SLOTS inner in
+    let other : is_last_slot r.tail ≡ false = apart_nat (offset_of r.tail + 1) BLOCK_SLOTS (omega arith) in
     bare_step (suc (suc steps)) (chain.Claiming p r.tail b None) (op.Exchange word.Tail r.tail (r.tail + TAIL_STEP)) r ahead (Some v) (answer.Found r.tail) (writes p r.tail b None) P
     tt (λ x y e. e) (rw same refl) (small, λ e outer. absurd (omega arith)) (rw (same, other) refl)
     (run-write steps ahead b (offset_of r.tail) v p P named (omega arith) free empty end)

@@ -13,7 +13,7 @@ use Rattle.queue_steps.specs.ChainWords.{offset_of}
 use Rattle.queue_steps.specs.BoundedNext.{pushed_reply}
 use Rattle.queue_steps.specs.UnboundedNext.{loads, is_last_slot, claims, asks}
 use Rattle.concurrent_queue.specs.declared.unbounded.Name.{Name}
-use Rattle.concurrent_queue.specs.RingRuns.{equal_nat, apart_nat, is_apart}
+use Rattle.concurrent_queue.specs.Numbers.{equal_nat, apart_nat, is_below, last_or_not}
 use Rattle.concurrent_queue.specs.LineCells.{Piece, Line, piece_at, place_of, piece_of, Named, laid}
 use Rattle.concurrent_queue.specs.LineOwned.{taken, accepted, cell_of, Linked, IsBare, IsIdle}
 use Rattle.concurrent_queue.specs.LineRuns.{Ending, LineEnds, ask_step, set_cell}
@@ -102,22 +102,14 @@ push-behind {T} steps r f v p P i l outer is end =
 -- a push into an open queue that accepts items still
 module _ {T : Type 0} (r : Line T) (v : T) (p : PushKind) (i : IsIdle r) (unshut : is_shut r.tail ≡ false) (unspent : (accepted r == LIMIT) ≡ false) where
   limit : accepted r < LIMIT
-  limit = is_apart (accepted r) LIMIT unspent i.below
+  limit = is_below (accepted r) LIMIT unspent i.below
 
   rests : (offset_of r.tail == BLOCK_SLOTS) ≡ false
-  rests = apart_nat (offset_of r.tail) BLOCK_SLOTS i.tail_rests
+  rests = apart_nat (offset_of r.tail) BLOCK_SLOTS (let t = i.tail_rests in omega arith)
 
   -- into a chain with blocks
-  into-laid : Laid r → (accepted r % BLOCK_SLOTS + 1 < BLOCK_SLOTS) ⊎ (accepted r % BLOCK_SLOTS + 1 ≡ BLOCK_SLOTS) → LineEnds LONE_STEPS (loads (chain.PushTail p None) word.Tail) r (Some v) (Right (push_call p v) r)
-  into-laid l (inl inner) =
-      let offset = tail-offset r i in
-      let other : is_last_slot r.tail ≡ false = apart_nat (offset_of r.tail + 1) BLOCK_SLOTS (omega arith) in
-      let ready = ready-here r i l (λ e. omega arith) in
-      let done : Line T = pushed r r.pieces r.tail_block (r.tail + TAIL_STEP) r.spare v in
-      run-block r v p (claims p r.tail (last_name r i l) None) (Right (push_call p v) r) (tail-word r i) unshut unspent rests (rw (last-is r i l, other) refl)
-      (push-here (LONE_STEPS - 5) r v p (Right (push_call p v) r) i l inner
-      (right-pushed r v i p done unshut unspent (idle-pushed r r.pieces r.tail_block (r.tail + TAIL_STEP) r.spare v i ready limit i.no_spare) ready.counted (queue-pushed r r.pieces r.tail_block (r.tail + TAIL_STEP) r.spare v i ready)))
-  into-laid l (inr outer) =
+  into-laid : Laid r → (accepted r % BLOCK_SLOTS + 1 ≡ BLOCK_SLOTS) ⊎ (accepted r % BLOCK_SLOTS + 1 < BLOCK_SLOTS) → LineEnds LONE_STEPS (loads (chain.PushTail p None) word.Tail) r (Some v) (Right (push_call p v) r)
+  into-laid l (inl outer) =
       let offset = tail-offset r i in
       let last : is_last_slot r.tail ≡ true = equal_nat (offset_of r.tail + 1) BLOCK_SLOTS (omega arith) in
       let b : Name T = last_name r i l in
@@ -132,6 +124,14 @@ module _ {T : Type 0} (r : Line T) (v : T) (p : PushKind) (i : IsIdle r) (unshut
             (right-pushed r v i p (pushed r ps (Some f) (r.tail + TAIL_STEP + TAIL_STEP) None v) unshut unspent (idle-pushed r ps (Some f) (r.tail + TAIL_STEP + TAIL_STEP) None v i ready limit refl) ready.counted
             (queue-pushed r ps (Some f) (r.tail + TAIL_STEP + TAIL_STEP) None v i ready)),
       )))
+  into-laid l (inr inner) =
+      let offset = tail-offset r i in
+      let other : is_last_slot r.tail ≡ false = apart_nat (offset_of r.tail + 1) BLOCK_SLOTS (omega arith) in
+      let ready = ready-here r i l (λ e. omega arith) in
+      let done : Line T = pushed r r.pieces r.tail_block (r.tail + TAIL_STEP) r.spare v in
+      run-block r v p (claims p r.tail (last_name r i l) None) (Right (push_call p v) r) (tail-word r i) unshut unspent rests (rw (last-is r i l, other) refl)
+      (push-here (LONE_STEPS - 5) r v p (Right (push_call p v) r) i l inner
+      (right-pushed r v i p done unshut unspent (idle-pushed r r.pieces r.tail_block (r.tail + TAIL_STEP) r.spare v i ready limit i.no_spare) ready.counted (queue-pushed r r.pieces r.tail_block (r.tail + TAIL_STEP) r.spare v i ready)))
 
   -- into a chain without blocks
   into-bare : IsBare r.first r.pieces r.head_block r.tail_block (accepted r) → LineEnds LONE_STEPS (loads (chain.PushTail p None) word.Tail) r (Some v) (Right (push_call p v) r)
@@ -160,12 +160,9 @@ module _ {T : Type 0} (r : Line T) (v : T) (p : PushKind) (i : IsIdle r) (unshut
 pub push-answers : {T : Type 0} (r : Line T) (v : T) (p : PushKind) → IsIdle r → LineEnds LONE_STEPS (loads (chain.PushTail p None) word.Tail) r (Some v) (Right (push_call p v) r)
 push-answers {T} r v p i = go (is_shut r.tail) (accepted r == LIMIT) refl refl i.blocks
   where
-    slots : (n : ℕ) → (n % BLOCK_SLOTS + 1 < BLOCK_SLOTS) ⊎ (n % BLOCK_SLOTS + 1 ≡ BLOCK_SLOTS)
-    slots n = grind arith
-
     go : (b1 b2 : Bool) → is_shut r.tail ≡ b1 → (accepted r == LIMIT) ≡ b2 → IsBare r.first r.pieces r.head_block r.tail_block (accepted r) ⊎ Laid r
         → LineEnds LONE_STEPS (loads (chain.PushTail p None) word.Tail) r (Some v) (Right (push_call p v) r)
     go true b2 e1 e2 blocks = run-closed r v p (Right (push_call p v) r) (tail-word r i) e1 (right-closed r v i p e1)
     go false true e1 e2 blocks = run-spent r v p (Right (push_call p v) r) (tail-word r i) e1 e2 (right-spent r v i p e1 e2)
     go false false e1 e2 (inl bare) = into-bare r v p i e1 e2 bare
-    go false false e1 e2 (inr l) = into-laid r v p i e1 e2 l (slots (accepted r))
+    go false false e1 e2 (inr l) = into-laid r v p i e1 e2 l (last_or_not (accepted r % BLOCK_SLOTS) BLOCK_SLOTS (omega arith))
