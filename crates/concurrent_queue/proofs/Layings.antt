@@ -65,7 +65,7 @@ module _ {T A : Type 0} where
         short = omega arith;
         held = omega (arith, i.held);
         blocks = λ j from under. subst (λ bs. IsHeld (block bs j)) (sym is)
-        (held-append s.chain.blocks (made_at b.link.ptr) (oldest s) (made-held b.link.ptr place) (λ k above below. i.blocks k above (omega (arith, i.laid))) j (omega arith) (omega (arith, i.laid)));
+            (held-append s.chain.blocks (made_at b.link.ptr) (oldest s) (made-held b.link.ptr place) (λ k above below. i.blocks k above (omega (arith, i.laid))) j (omega arith) (omega (arith, i.laid)));
         spare = tt;
       }
 

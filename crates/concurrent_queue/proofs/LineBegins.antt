@@ -11,7 +11,7 @@ use Rattle.queue_steps.specs.ChainWords.{offset_of, items_before}
 use Rattle.concurrent_queue.specs.declared.unbounded.Name.{Name}
 use Rattle.concurrent_queue.specs.LineCells.{Piece, Line, Named, piece_at, piece_of, state_in, item_in, IsEmptied}
 use Rattle.concurrent_queue.specs.LineOwned.{taken, accepted, cell_of, items_from, line_queue, line_owned, Holds, Linked, IsBare, IsLaid, IsIdle}
-use Rattle.concurrent_queue.specs.LineKeeps.{same_or_not}
+use Rattle.concurrent_queue.specs.Numbers.{same_or_not}
 use Rattle.concurrent_queue.specs.LineChains.{IsEmptied-all}
 use Rattle.concurrent_queue.specs.LineSole.{length-items}
 

@@ -173,7 +173,7 @@ module _ {T A : Type 0} where
       let next : Option (Name T) = (piece b.number (block_of s b)).next in
       let here : IsSome next = subst (λ p. IsSome p.next) k.piece there in
       let named : Some (name_at (b.number + 1) found.ptr) ≡ next =
-          ap (λ p. Some (name_at (b.number + 1) p)) h.1 ∙ sym (linked_name-some (b.number + 1) (block_of s b).next here) in
+      ap (λ p. Some (name_at (b.number + 1) p)) h.1 ∙ sym (linked_name-some (b.number + 1) (block_of s b).next here) in
       ap N h.0 ∙ ap G named ∙ ap (λ p. G p.next) (sym k.piece)
 
   -- a link is written

@@ -1,6 +1,6 @@
 -- Every call on a chain of blocks ends with its reply.
-use Rattle.std.specs.Prelude.{◌==◌, not}
-use Rattle.std.proofs.Common.{◌≡◌, ◌⊎◌, ℕ, ◌+◌, ◌-◌, ◌/◌, ◌%◌, ◌<◌, ◌≤◌, Bool, true, false, List, [], ◌∷◌, length, Option, Some, None, refl, arith, sym, ap, ◌∙◌}
+use Rattle.std.specs.Prelude.{◌==◌}
+use Rattle.std.proofs.Common.{◌≡◌, ℕ, ◌-◌, ◌%◌, ◌<◌, Bool, true, false, List, [], ◌∷◌, length, Option, None, refl, arith, sym, ap}
 use Rattle.queue_steps.specs.declared.sizes.TheConstants.{BLOCK_SLOTS, LONE_STEPS}
 use Rattle.queue_steps.specs.declared.model.Call.{Call}
 use Rattle.queue_steps.specs.declared.model.Call.TheVariants as call
@@ -15,10 +15,10 @@ use Rattle.queue_steps.specs.declared.steps.bounded.PushKind.TheVariants as push
 use Rattle.queue_steps.specs.declared.steps.unbounded.UnboundedLocal.TheVariants as chain
 use Rattle.queue_steps.specs.Replies.{is_empty}
 use Rattle.queue_steps.specs.Words.{position_of, is_shut}
-use Rattle.queue_steps.specs.ChainWords.{offset_at, items_before, settled}
+use Rattle.queue_steps.specs.ChainWords.{offset_at, settled}
 use Rattle.queue_steps.specs.UnboundedNext.{loads, ends}
 use Rattle.concurrent_queue.specs.declared.unbounded.Name.{Name}
-use Rattle.concurrent_queue.specs.RingRuns.{same_nat, equal_nat, apart_nat}
+use Rattle.concurrent_queue.specs.Numbers.{same_nat, equal_nat, apart_nat, is_even}
 use Rattle.concurrent_queue.specs.LineCells.{Line, line_touches}
 use Rattle.concurrent_queue.specs.LineOwned.{taken, accepted, line_queue, IsIdle}
 use Rattle.concurrent_queue.specs.LineRuns.{bare_step}
@@ -32,12 +32,9 @@ close-answers {T} r i = (
   tt,
   bare_step (LONE_STEPS - 1) chain.Closing (op.Or word.Tail MARK) r (marked r) None (answer.Found r.tail) (ends (reply.Close (r.tail % 2 == 0))) (Right call.Close r) tt (λ x y e. e) refl tt refl (
     idle-marked r i,
-    (reply.Close (r.tail % 2 == 0), refl, sole r (marked r) call.Close (reply.Close (r.tail % 2 == 0)) (idle-marked r i) (ap reply.Close (even r.tail)) (queue-marked r) (λ x. refl)),
+    (reply.Close (r.tail % 2 == 0), refl, sole r (marked r) call.Close (reply.Close (r.tail % 2 == 0)) (idle-marked r i) (ap reply.Close (is_even r.tail)) (queue-marked r) (λ x. refl)),
   ),
 )
-  where
-    even : (t : ℕ) → (t % 2 == 0) ≡ not (is_shut t)
-    even t = grind arith
 
 is_closed-answers : {T : Type 0} (r : Line T) → IsIdle r → LineAnswers r call.IsClosed
 is_closed-answers r i = (
@@ -59,14 +56,11 @@ is_empty-answers {T} r i = (
 )
   where
     unmoved : (p : ℕ) → offset_at p < BLOCK_SLOTS → settled p ≡ p
-    unmoved p rests = let other : (offset_at p == BLOCK_SLOTS) ≡ false = apart_nat (offset_at p) BLOCK_SLOTS rests in rw other refl
+    unmoved p rests = let other : (offset_at p == BLOCK_SLOTS) ≡ false = apart_nat (offset_at p) BLOCK_SLOTS (omega arith) in rw other refl
 
     same : (xs : List T) → length xs ≡ accepted r - taken r → (position_of r.tail == position_of r.head) ≡ is_empty xs
     same [] long = let h = i.head_rests in let t = i.tail_rests in let order = i.order in equal_nat (position_of r.tail) (position_of r.head) (omega arith)
-    same (x ∷ xs) long = let h = i.head_rests in let t = i.tail_rests in unequal (position_of r.tail) (position_of r.head) (omega arith)
-      where
-        unequal : (m n : ℕ) → n < m → (m == n) ≡ false
-        unequal m n low = grind arith
+    same (x ∷ xs) long = let h = i.head_rests in let t = i.tail_rests in apart_nat (position_of r.tail) (position_of r.head) (omega arith)
 
     is : (xs : List T) → length xs ≡ accepted r - taken r → met r ≡ is_empty xs
     is xs long = rw (unmoved (position_of r.tail) i.tail_rests, unmoved (position_of r.head) i.head_rests) (same xs long)

@@ -1,13 +1,14 @@
 -- Blocks that are laid behind the last one, and the oldest block, which is given up.
-use Rattle.std.specs.Prelude.{slice_set, get_or, replicate}
-use Rattle.std.proofs.Common.{◌≡◌, ◌≢◌, ℕ, zero, suc, ◌+◌, ◌-◌, ◌*◌, ◌/◌, ◌%◌, ◌<◌, ◌≤◌, ◌⊎◌, List, [], ◌∷◌, ◌++◌, length, Option, Some, None, refl, arith, sym, ap, ◌∙◌, inl, inr}
-use Rattle.std.proofs.lemmas.List.{get_or-set_same, get_or-set_other, length-set, length-append, get_or_append_left, get_or-append_right, get_or-replicate, length-replicate}
+use Rattle.std.specs.Prelude.{slice_set, get_or}
+use Rattle.std.proofs.Common.{◌≡◌, ◌≢◌, ℕ, suc, ◌+◌, ◌-◌, ◌*◌, ◌/◌, ◌%◌, ◌<◌, ◌≤◌, ◌⊎◌, List, [], ◌∷◌, ◌++◌, length, Option, Some, None, refl, arith, sym, ap, ◌∙◌, inl, inr}
+use Rattle.std.proofs.lemmas.List.{get_or-set_same, get_or-set_other, length-set, length-append, get_or_append_left, get_or-append_right, get_or-replicate}
 use Rattle.queue_steps.specs.declared.sizes.TheConstants.{BLOCK_SLOTS}
 use Rattle.queue_steps.specs.Effect.{rest}
 use Rattle.concurrent_queue.specs.declared.unbounded.Name.{Name}
+use Rattle.concurrent_queue.specs.Numbers.{same_or_not, below_or_not}
 use Rattle.concurrent_queue.specs.LineCells.{Piece, piece_at, state_in, item_in, fresh_piece, IsEmptied}
 use Rattle.concurrent_queue.specs.LineOwned.{cell_of, Holds, Linked}
-use Rattle.concurrent_queue.specs.LineKeeps.{cell_in, same_or_not, replaced-keeps}
+use Rattle.concurrent_queue.specs.LineKeeps.{cell_in, replaced-keeps}
 
 -- a block is laid behind the last one
 abbrev pub laid_behind : {T : Type 0} → List (Piece T) → Name T → List (Piece T)
@@ -118,11 +119,8 @@ module _ {T : Type 0} (ps : List (Piece T)) (first k : ℕ) (b : Name T) (last :
       record {
         read = λ n from before. lay-same base n (omega arith) ∙ holds.read n from before;
         written = λ n from before. let old = holds.written n from before in (old.0, lay-same base n (omega arith) ∙ old.1);
-        free = λ n from before. let long = length-chained in elim (cases n) [ inl old ↦ lay-same base n old ∙ holds.free n from old | inr new ↦ keeps-new (λ p. cell_in p (n % BLOCK_SLOTS)) (λ p. refl) (n / BLOCK_SLOTS - base) (omega arith) ∙ fresh-cell b (n % BLOCK_SLOTS) (omega arith) ];
+        free = λ n from before. let long = length-chained in elim (below_or_not n ((base + length ps) * BLOCK_SLOTS)) [ inl old ↦ lay-same base n old ∙ holds.free n from old | inr new ↦ keeps-new (λ p. cell_in p (n % BLOCK_SLOTS)) (λ p. refl) (n / BLOCK_SLOTS - base) (omega arith) ∙ fresh-cell b (n % BLOCK_SLOTS) (omega arith) ];
       }
-    where
-      cases : (n : ℕ) → (n < (base + length ps) * BLOCK_SLOTS) ⊎ ((base + length ps) * BLOCK_SLOTS ≤ n)
-      cases n = grind arith
 
 -- the oldest block leaves the list
 pub piece-rest : {T : Type 0} (ps : List (Piece T)) (i : ℕ) → 0 < length ps → piece_at (rest ps) i ≡ piece_at ps (suc i)
@@ -161,12 +159,9 @@ Holds-rest {T} ps base h t some order last holds =
     record {
       read = λ n from before. absurd (omega arith);
       written = λ n from before. let old = holds.written n (omega arith) before in (old.0, cell-rest ps base n some (omega arith) ∙ old.1);
-      free = λ n from before. free n from before (cases n);
+      free = λ n from before. free n from before (below_or_not n ((base + 1) * BLOCK_SLOTS));
     }
   where
-    cases : (n : ℕ) → (n < (base + 1) * BLOCK_SLOTS) ⊎ ((base + 1) * BLOCK_SLOTS ≤ n)
-    cases n = grind arith
-
     free : (n : ℕ) → t ≤ n → n < ((base + 1) + length (rest ps)) * BLOCK_SLOTS → (n < (base + 1) * BLOCK_SLOTS) ⊎ ((base + 1) * BLOCK_SLOTS ≤ n) → cell_of (rest ps) (base + 1) n ≡ (0, None)
     free n from before (inl low) = absurd (omega arith)
     free n from before (inr high) = let long = length-rest ps some in cell-rest ps base n some high ∙ holds.free n from (omega arith)

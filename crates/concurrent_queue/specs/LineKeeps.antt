@@ -1,17 +1,14 @@
 -- What the calls of one owner keep of a chain of blocks: which slots hold the items, and which are read or free.
-use Rattle.std.specs.Prelude.{slice_set, bit_or, get_or, replicate}
-use Rattle.std.proofs.Common.{◌≡◌, ◌≢◌, ℕ, zero, suc, ◌+◌, ◌-◌, ◌*◌, ◌/◌, ◌%◌, ◌<◌, ◌≤◌, ◌⊎◌, List, [], ◌∷◌, ◌++◌, length, Option, Some, None, refl, arith, sym, ap, ◌∙◌, inl, inr}
-use Rattle.std.proofs.lemmas.List.{get_or-set_same, get_or-set_other, length-set, length-append, get_or_append_left, get_or-append_right, get_or-replicate, length-replicate}
+use Rattle.std.specs.Prelude.{slice_set, bit_or}
+use Rattle.std.proofs.Common.{◌≡◌, ◌≢◌, ℕ, zero, suc, ◌+◌, ◌-◌, ◌*◌, ◌/◌, ◌%◌, ◌<◌, ◌≤◌, ◌⊎◌, List, [], ◌++◌, length, Option, Some, None, refl, arith, sym, ap, ◌∙◌, inl, inr}
+use Rattle.std.proofs.lemmas.List.{get_or-set_same, get_or-set_other, length-set}
 use Rattle.queue_steps.specs.declared.sizes.TheConstants.{BLOCK_SLOTS}
 use Rattle.queue_steps.specs.declared.steps.unbounded.TheConstants.{WRITE, READ}
-use Rattle.concurrent_queue.specs.declared.unbounded.Name.{Name}
+use Rattle.concurrent_queue.specs.Numbers.{same_or_not}
 use Rattle.concurrent_queue.specs.RingKeeps.{put_in}
-use Rattle.concurrent_queue.specs.LineCells.{Piece, piece_at, state_in, item_in, fresh_piece}
+use Rattle.concurrent_queue.specs.LineCells.{Piece, piece_at, state_in, item_in}
 use Rattle.concurrent_queue.specs.LineOwned.{cell_of, items_from, Holds, Linked}
 use Rattle.concurrent_queue.specs.LineRuns.{set_cell}
-
-pub same_or_not : (m n : ℕ) → (m ≡ n) ⊎ (m ≢ n)
-same_or_not m n = grind arith
 
 -- the state and the content of a slot of a block
 abbrev pub cell_in : {T : Type 0} → Piece T → ℕ → ℕ × Option T

@@ -1,21 +1,19 @@
 -- What the calls leave of the queue of a chain of blocks.
-use Rattle.std.specs.Prelude.{slice_set, bit_or}
-use Rattle.std.proofs.Common.{◌≡◌, ◌≢◌, ℕ, zero, suc, ◌+◌, ◌-◌, ◌*◌, ◌/◌, ◌%◌, ◌<◌, ◌≤◌, true, List, [], ◌∷◌, ◌++◌, length, Option, Some, None, refl, arith, sym, ap, ◌∙◌, subst, inl, inr}
-use Rattle.std.proofs.lemmas.List.{length-set}
+use Rattle.std.specs.Prelude.{bit_or}
+use Rattle.std.proofs.Common.{◌≡◌, ◌≢◌, ℕ, suc, ◌+◌, ◌-◌, ◌*◌, ◌/◌, ◌%◌, ◌<◌, ◌≤◌, true, List, [], ◌∷◌, ◌++◌, length, Option, Some, None, refl, arith, sym, ap, ◌∙◌, subst, inr}
 use Rattle.queue_steps.specs.declared.sizes.TheConstants.{LIMIT, BLOCK_SLOTS}
 use Rattle.queue_steps.specs.declared.steps.bounded.TheConstants.{MARK, TAIL_STEP}
 use Rattle.queue_steps.specs.declared.steps.unbounded.TheConstants.{WRITE, READ}
 use Rattle.queue_steps.specs.State.{State}
 use Rattle.queue_steps.specs.Effect.{rest}
 use Rattle.queue_steps.specs.Words.{IsWord, position_of, is_shut}
-use Rattle.queue_steps.specs.ChainWords.{block_at, offset_of, items_before}
+use Rattle.queue_steps.specs.ChainWords.{offset_of, items_before}
 use Rattle.concurrent_queue.specs.declared.unbounded.Name.{Name}
-use Rattle.concurrent_queue.specs.RingKeeps.{put_in}
 use Rattle.concurrent_queue.specs.RingLeaves.{odd_up, half_mark, odd_mark}
 use Rattle.concurrent_queue.specs.LineCells.{Piece, Line, piece_at, fresh_piece}
 use Rattle.concurrent_queue.specs.LineOwned.{taken, accepted, cell_of, items_from, line_queue, Holds, Linked, IsBare, IsLaid, IsIdle}
-use Rattle.concurrent_queue.specs.LineKeeps.{cell_in, set_item, length-set_item, name-set_item, item-same, item-other, items_from-same, items_from-more, replaced-keeps, Linked-set, Holds-push, Holds-pop}
-use Rattle.concurrent_queue.specs.LineChains.{lay-name, lay-name-new, laid_behind, chained, Linked-first, Holds-first, Linked-lay, Holds-lay, lay-same, length-chained, laid-old, length-rest, piece-rest, cell-rest, Linked-rest, Holds-rest}
+use Rattle.concurrent_queue.specs.LineKeeps.{set_item, length-set_item, name-set_item, item-same, item-other, items_from-same, items_from-more, Linked-set, Holds-push, Holds-pop}
+use Rattle.concurrent_queue.specs.LineChains.{lay-name, lay-name-new, laid_behind, chained, Linked-first, Holds-first, Linked-lay, Holds-lay, lay-same, length-chained, length-rest, piece-rest, cell-rest, Linked-rest, Holds-rest}
 
 -- the chain with a block for each item
 abbrev pub Laid : {T : Type 0} → Line T → Type 0

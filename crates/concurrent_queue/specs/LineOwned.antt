@@ -1,5 +1,5 @@
 -- The queue that a chain of blocks holds. The item of number n, counted from the first that was ever accepted, is in the block n / BLOCK_SLOTS at the slot n % BLOCK_SLOTS.
-use Rattle.std.specs.Prelude.{◌≡◌, ◌⊎◌, ℕ, zero, suc, ◌+◌, ◌-◌, ◌*◌, ◌/◌, ◌%◌, ◌<◌, ◌≤◌, bit_or, List, [], ◌∷◌, length, Option, Some, None}
+use Rattle.std.specs.Prelude.{◌≡◌, ◌⊎◌, ℕ, zero, suc, ◌+◌, ◌-◌, ◌*◌, ◌/◌, ◌%◌, ◌<◌, ◌≤◌, bit_or, List, [], length, Option, Some, None}
 use Rattle.queue_steps.specs.declared.sizes.TheConstants.{LIMIT, BLOCK_SLOTS}
 use Rattle.queue_steps.specs.declared.steps.unbounded.TheConstants.{WRITE, READ}
 use Rattle.queue_steps.specs.State.{State}

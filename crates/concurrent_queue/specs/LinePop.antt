@@ -1,6 +1,6 @@
 -- How a pop runs on a chain of blocks: its steps one after another, its reply, and what it leaves.
-use Rattle.std.specs.Prelude.{◌==◌, slice_set, bit_or, bit_and, nat_lt, not, is_some, if◌then◌else◌}
-use Rattle.std.proofs.Common.{◌≡◌, ◌≢◌, ◌⊎◌, ℕ, zero, suc, ◌+◌, ◌-◌, ◌*◌, ◌/◌, ◌%◌, ◌<◌, ◌≤◌, Bool, true, false, List, length, Option, Some, None, Ok, Err, refl, arith, sym, ap, ◌∙◌, subst, inl, inr}
+use Rattle.std.specs.Prelude.{◌==◌, slice_set, bit_or, nat_lt, is_some, if◌then◌else◌}
+use Rattle.std.proofs.Common.{◌≡◌, ◌≢◌, ℕ, zero, suc, ◌+◌, ◌-◌, ◌*◌, ◌%◌, ◌<◌, Bool, true, false, Option, Some, None, Ok, Err, refl, arith, ap, ◌∙◌}
 use Rattle.std.proofs.lemmas.List.{get_or-set_same}
 use Rattle.queue_steps.specs.declared.sizes.TheConstants.{BLOCK_SLOTS, LONE_STEPS}
 use Rattle.queue_steps.specs.declared.model.Reply.TheVariants as reply
@@ -18,8 +18,8 @@ use Rattle.queue_steps.specs.Words.{IsWord, position_of, is_shut}
 use Rattle.queue_steps.specs.ChainWords.{block_at, offset_of}
 use Rattle.queue_steps.specs.UnboundedNext.{at, loads, ends, is_last_slot, takes, follows, awaits, walks, walks_on}
 use Rattle.concurrent_queue.specs.declared.unbounded.Name.{Name}
-use Rattle.concurrent_queue.specs.RingRuns.{same_nat, equal_nat, apart_nat, less}
-use Rattle.concurrent_queue.specs.LineCells.{Piece, Line, piece_at, state_in, item_in, place_of, piece_of, with_piece, Named, CanFollow}
+use Rattle.concurrent_queue.specs.Numbers.{same_nat, equal_nat, apart_nat, less}
+use Rattle.concurrent_queue.specs.LineCells.{Piece, Line, state_in, item_in, place_of, piece_of, with_piece, Named, CanFollow}
 use Rattle.concurrent_queue.specs.LineRuns.{Ending, LineEnds, place_below, Named-with, line_step, bare_step, slot_step, set_cell}
 
 -- a pop that finds neither an item nor a head whose block is known not to be the last
@@ -59,7 +59,7 @@ run-taken {T} steps r b new x P inner named written full end =
     let slot : ℕ = offset_of r.head in
     let ahead : Line T = record r { head = new } in
     let same : (r.head == r.head) ≡ true = same_nat r.head in
-    let other : is_last_slot r.head ≡ false = apart_nat (slot + 1) BLOCK_SLOTS inner in
+    let other : is_last_slot r.head ≡ false = apart_nat (slot + 1) BLOCK_SLOTS (omega arith) in
     bare_step (suc (suc (suc steps))) (chain.Taking r.head b) (op.Exchange word.Head r.head new) r ahead None (answer.Found r.head) (awaits r.head b) P tt (λ x y e. e) (rw same refl) tt (rw (same, other) refl)
     (bare_step (suc (suc steps)) (chain.Awaiting r.head b) (op.Load (word.State b slot)) ahead ahead None (answer.Found WRITE) (at (chain.Reading b slot) (touch.Take slot) (op.Or (word.State b slot) READ)) P
     (named, omega arith) (λ x y e. e) (rw written refl) tt (rw other refl)
@@ -84,8 +84,11 @@ walks_on-ends {T} r b carried P named read end (suc k) slot (suc n) sum low =
 pub run-passed : {T : Type 0} (steps : ℕ) (r : Line T) (b after : Name T) (new : ℕ) (x : T) (further : Option (Name T)) (P : Ending T) → 29 < steps → IsWord r.head → offset_of r.head + 1 ≡ BLOCK_SLOTS
     → Named r b → CanFollow r b → (piece_of r b).next ≡ Some after → CanFollow r after → (piece_of r after).next ≡ further
     → state_in (piece_of r b) (offset_of r.head) ≡ WRITE → item_in (piece_of r b) (offset_of r.head) ≡ Some x → ((j : ℕ) → j + 1 < BLOCK_SLOTS → state_in (piece_of r b) j ≡ bit_or WRITE READ)
-    → P (reply.Pop (Ok tt)) (Some b) (Some x) (record r { head = (position_of r.head + 2) * 2 + (if is_some further then 1 else 0); head_block = Some after;
-      pieces = slice_set r.pieces (place_of r b) (record (piece_of r b) { slots = slice_set (piece_of r b).slots (offset_of r.head) None }) })
+    → P (reply.Pop (Ok tt)) (Some b) (Some x) (record r {
+      head = (position_of r.head + 2) * 2 + (if is_some further then 1 else 0);
+      head_block = Some after;
+      pieces = slice_set r.pieces (place_of r b) (record (piece_of r b) { slots = slice_set (piece_of r b).slots (offset_of r.head) None });
+    })
     → LineEnds (suc (suc (suc (suc (suc (suc (suc steps))))))) (takes r.head b new) r None P
 run-passed {T} steps r b after new x further P enough small outer named follow next follow_after next_after written full read end =
     let slot : ℕ = offset_of r.head in

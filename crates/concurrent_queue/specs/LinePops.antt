@@ -1,6 +1,6 @@
 -- Every pop on a chain of blocks ends with its reply.
 use Rattle.std.specs.Prelude.{◌==◌, slice_set, get_or, bit_or, is_some, IsSome, if◌then◌else◌}
-use Rattle.std.proofs.Common.{◌≡◌, ◌≢◌, ◌⊎◌, ℕ, zero, suc, ◌+◌, ◌-◌, ◌*◌, ◌/◌, ◌%◌, ◌<◌, ◌≤◌, Bool, true, false, List, [], ◌∷◌, length, Option, Some, None, Ok, Err, refl, arith, sym, ap, ◌∙◌, subst, inl, inr}
+use Rattle.std.proofs.Common.{◌≡◌, ◌≢◌, ◌⊎◌, ℕ, suc, ◌+◌, ◌-◌, ◌*◌, ◌/◌, ◌%◌, ◌<◌, Bool, true, false, List, length, Option, Some, None, Ok, Err, refl, arith, sym, ap, ◌∙◌, subst, inl, inr}
 use Rattle.std.proofs.lemmas.List.{get_or-set_same, get_or-set_other, length-set}
 use Rattle.queue_steps.specs.declared.sizes.TheConstants.{BLOCK_SLOTS, LONE_STEPS}
 use Rattle.queue_steps.specs.declared.model.Call.TheVariants as call
@@ -16,11 +16,11 @@ use Rattle.queue_steps.specs.ChainWords.{block_at, offset_of}
 use Rattle.queue_steps.specs.UnboundedNext.{loads, takes}
 use Rattle.concurrent_queue.specs.declared.unbounded.Name.{Name}
 use Rattle.concurrent_queue.specs.Ends.{Replied}
-use Rattle.concurrent_queue.specs.RingRuns.{equal_nat, apart_nat, is_equal}
-use Rattle.concurrent_queue.specs.LineCells.{Piece, Line, piece_at, state_in, item_in, place_of, piece_of, with_piece, Named, CanFollow, IsEmptied, line_can_release, line_releases}
-use Rattle.concurrent_queue.specs.LineOwned.{taken, accepted, cell_of, items_from, line_queue, line_owned, IsBare, IsLaid, IsIdle}
+use Rattle.concurrent_queue.specs.Numbers.{equal_nat, apart_nat, is_equal, is_apart, same_or_not, equal_or_above, last_or_not}
+use Rattle.concurrent_queue.specs.LineCells.{Piece, Line, piece_at, place_of, piece_of, with_piece, Named, CanFollow, IsEmptied}
+use Rattle.concurrent_queue.specs.LineOwned.{taken, accepted, cell_of, line_owned, IsBare, IsIdle}
 use Rattle.concurrent_queue.specs.LineRuns.{LineEnds, Named-with, place_below, set_cell}
-use Rattle.concurrent_queue.specs.LineKeeps.{cell_in, same_or_not}
+use Rattle.concurrent_queue.specs.LineKeeps.{cell_in}
 use Rattle.concurrent_queue.specs.LineChains.{rest-set, IsEmptied-all}
 use Rattle.concurrent_queue.specs.LineLeaves.{Laid, head-offset, head-word, Moved, popped, passed, idle-popped, idle-passed, items-front, queue-popped, queue-passed}
 use Rattle.concurrent_queue.specs.LinePop.{run-empty, run-known, run-tail, run-taken, run-passed}
@@ -29,16 +29,13 @@ use Rattle.concurrent_queue.specs.LineSole.{Right, sole}
 
 -- the numbers tell of each block whether there is one behind it
 can-follow : {T : Type 0} (r : Line T) (i : IsIdle r) (l : Laid r) (k : ℕ) → k < length r.pieces → CanFollow r (piece_at r.pieces k).name
-can-follow {T} r i l k below = (named-at r k l.linked below, (last_name r i l, last-is r i l, go (cases k (length r.pieces) below)))
+can-follow {T} r i l k below = (named-at r k l.linked below, (last_name r i l, last-is r i l, go (last_or_not k (length r.pieces) below)))
   where
     number : ((last_name r i l).number) ≡ r.first + (length r.pieces - 1)
     number = l.linked.number (length r.pieces - 1) (omega arith)
 
     place : place_of r (piece_at r.pieces k).name ≡ k
     place = place-is r k l.linked below
-
-    cases : (k n : ℕ) → k < n → (k + 1 ≡ n) ⊎ (k + 1 < n)
-    cases k n low = grind arith
 
     go : (k + 1 ≡ length r.pieces) ⊎ (k + 1 < length r.pieces)
         → (((last_name r i l).number ≡ (piece_at r.pieces k).name.number) × ((piece_of r (piece_at r.pieces k).name).next ≡ None)) ⊎ (((last_name r i l).number ≢ (piece_at r.pieces k).name.number) × IsSome (piece_of r (piece_at r.pieces k).name).next)
@@ -117,19 +114,16 @@ module _ {T : Type 0} (r : Line T) (i : IsIdle r) (l : Laid r) where
         go (Some b) is =
             let rests = i.head_rests in
             let count = l.count in
-            let more : 2 < length r.pieces = longer (cases (length r.pieces) below) in
+            let more : 2 < length r.pieces = longer (last_or_not 1 (length r.pieces) below) in
             record { rests = omega arith; counted = omega arith; known = λ bit. omega arith }
           where
-            cases : (n : ℕ) → 1 < n → (n ≡ 2) ⊎ (2 < n)
-            cases n low = grind arith
-
             place : place_of r (piece_at r.pieces 1).name ≡ 1
             place = place-is r 1 l.linked below
 
-            longer : (length r.pieces ≡ 2) ⊎ (2 < length r.pieces) → 2 < length r.pieces
+            longer : (2 ≡ length r.pieces) ⊎ (2 < length r.pieces) → 2 < length r.pieces
             longer (inr more) = more
             longer (inl two) =
-                let none : (piece_of r (piece_at r.pieces 1).name).next ≡ None = ap (λ j. (piece_at r.pieces j).next) place ∙ l.linked.end 1 (sym two) in
+                let none : (piece_of r (piece_at r.pieces 1).name).next ≡ None = ap (λ j. (piece_at r.pieces j).next) place ∙ l.linked.end 1 two in
                 absurd (differ b (sym is ∙ none))
               where
                 differ : (x : Name T) → ◌≡◌ {A = Option (Name T)} (Some x) None → ⊥
@@ -189,54 +183,42 @@ module _ {T : Type 0} (r : Line T) (i : IsIdle r) (l : Laid r) where
     -- a pop that claims the front, whatever bit the head gets
     take-ends : (steps new : ℕ) → 29 < steps → position_of new ≡ position_of r.head + 1 → (new % 2 ≡ 1 → taken r / BLOCK_SLOTS < accepted r / BLOCK_SLOTS)
         → LineEnds (suc (suc (suc (suc (suc (suc (suc steps))))))) (takes r.head first_name new) r None (Right call.Pop r)
-    take-ends steps new enough up known = go (slots (taken r))
+    take-ends steps new enough up known = go (last_or_not (taken r % BLOCK_SLOTS) BLOCK_SLOTS (omega arith))
       where
-        slots : (n : ℕ) → (n % BLOCK_SLOTS + 1 < BLOCK_SLOTS) ⊎ (n % BLOCK_SLOTS + 1 ≡ BLOCK_SLOTS)
-        slots n = grind arith
-
-        go : (taken r % BLOCK_SLOTS + 1 < BLOCK_SLOTS) ⊎ (taken r % BLOCK_SLOTS + 1 ≡ BLOCK_SLOTS) → LineEnds (suc (suc (suc (suc (suc (suc (suc steps))))))) (takes r.head first_name new) r None (Right call.Pop r)
-        go (inl inner) =
+        go : (taken r % BLOCK_SLOTS + 1 ≡ BLOCK_SLOTS) ⊎ (taken r % BLOCK_SLOTS + 1 < BLOCK_SLOTS) → LineEnds (suc (suc (suc (suc (suc (suc (suc steps))))))) (takes r.head first_name new) r None (Right call.Pop r)
+        go (inl outer) = take-last steps new enough outer
+        go (inr inner) =
             let rests = i.head_rests in
             take-here (suc (suc (suc steps))) new inner (record { rests = omega arith; counted = omega arith; known = λ bit. let more = known bit in omega arith })
-        go (inr outer) = take-last steps new enough outer
 
     take-answers : LineEnds LONE_STEPS (loads chain.PopHead word.Head) r None (Right call.Pop r)
     take-answers = go (r.head % 2 == 1) (block_at (position_of r.tail) == block_at (position_of r.head)) refl refl
       where
         rests : (offset_of r.head == BLOCK_SLOTS) ≡ false
-        rests = apart_nat (offset_of r.head) BLOCK_SLOTS i.head_rests
+        rests = apart_nat (offset_of r.head) BLOCK_SLOTS (let h = i.head_rests in omega arith)
 
         differ : (position_of r.tail == position_of r.head) ≡ false
-        differ = unequal (position_of r.tail) (position_of r.head) (let h = i.head_rests in let t = i.tail_rests in omega arith)
-          where
-            unequal : (m n : ℕ) → n < m → (m == n) ≡ false
-            unequal m n low = grind arith
-
-        not_same : (m n : ℕ) → (m == n) ≡ false → m ≢ n
-        not_same m n e = grind arith
+        differ = apart_nat (position_of r.tail) (position_of r.head) (let h = i.head_rests in let t = i.tail_rests in omega arith)
 
         go : (odd same : Bool) → (r.head % 2 == 1) ≡ odd → (block_at (position_of r.tail) == block_at (position_of r.head)) ≡ same → LineEnds LONE_STEPS (loads chain.PopHead word.Head) r None (Right call.Pop r)
         go true same e1 e2 =
             let bit = is_equal (r.head % 2) 1 e1 in
             run-known r first_name (Right call.Pop r) (head-word r i) rests e1 l.front (take-ends (LONE_STEPS - 9) (r.head + TAIL_STEP) (omega arith) (omega arith) (λ e. i.known bit))
         go false true e1 e2 =
-            let even = not_same (r.head % 2) 1 e1 in
+            let even = is_apart (r.head % 2) 1 e1 in
             run-tail r first_name (r.head + TAIL_STEP) (Right call.Pop r) (head-word r i) rests e1 l.front differ (rw e2 refl)
             (take-ends (LONE_STEPS - 10) (r.head + TAIL_STEP) (omega arith) (omega arith) (λ e. absurd (even (omega arith))))
         go false false e1 e2 =
-            let even = not_same (r.head % 2) 1 e1 in
-            let other = not_same (block_at (position_of r.tail)) (block_at (position_of r.head)) e2 in
+            let even = is_apart (r.head % 2) 1 e1 in
+            let other = is_apart (block_at (position_of r.tail)) (block_at (position_of r.head)) e2 in
             let h = i.head_rests in
             let t = i.tail_rests in
             run-tail r first_name (r.head + TAIL_STEP + 1) (Right call.Pop r) (head-word r i) rests e1 l.front differ (rw e2 refl)
             (take-ends (LONE_STEPS - 10) (r.head + TAIL_STEP + 1) (omega arith) (omega arith) (λ e. omega arith))
 
 pub pop-answers : {T : Type 0} (r : Line T) → IsIdle r → LineEnds LONE_STEPS (loads chain.PopHead word.Head) r None (Right call.Pop r)
-pop-answers {T} r i = go (cases (taken r) (accepted r) i.order) i.blocks
+pop-answers {T} r i = go (equal_or_above (taken r) (accepted r) i.order) i.blocks
   where
-    cases : (h t : ℕ) → h ≤ t → (t ≡ h) ⊎ (h < t)
-    cases h t o = grind arith
-
     none-found : accepted r ≡ taken r → LineEnds LONE_STEPS (loads chain.PopHead word.Head) r None (Right call.Pop r)
     none-found empty =
         let h = i.head_rests in
@@ -244,11 +226,8 @@ pop-answers {T} r i = go (cases (taken r) (accepted r) i.order) i.blocks
         let known = i.known in
         let none : accepted r - taken r ≡ 0 = omega arith in
         let odd : r.head % 2 ≢ 1 = λ e. let more = known e in omega arith in
-        run-empty r (Right call.Pop r) (head-word r i) (apart_nat (offset_of r.head) BLOCK_SLOTS h) (unequal (r.head % 2) 1 odd) odd (equal_nat (position_of r.tail) (position_of r.head) (omega arith))
+        run-empty r (Right call.Pop r) (head-word r i) (apart_nat (offset_of r.head) BLOCK_SLOTS (omega arith)) (apart_nat (r.head % 2) 1 odd) odd (equal_nat (position_of r.tail) (position_of r.head) (omega arith))
         (i, (reply.Pop (Err (if is_shut r.tail then pop.Closed else pop.Empty)), refl, sole r r call.Pop (reply.Pop (Err (if is_shut r.tail then pop.Closed else pop.Empty))) i (rw none refl) (rw none refl) (λ x. refl)))
-      where
-        unequal : (m n : ℕ) → m ≢ n → (m == n) ≡ false
-        unequal m n differs = grind arith
 
     go : (accepted r ≡ taken r) ⊎ (taken r < accepted r) → IsBare r.first r.pieces r.head_block r.tail_block (accepted r) ⊎ Laid r → LineEnds LONE_STEPS (loads chain.PopHead word.Head) r None (Right call.Pop r)
     go (inl empty) blocks = none-found empty

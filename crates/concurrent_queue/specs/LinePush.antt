@@ -1,6 +1,6 @@
 -- How a push runs on a chain of blocks: its steps one after another, its reply, and what it leaves.
-use Rattle.std.specs.Prelude.{◌==◌, bit_or, if◌then◌else◌}
-use Rattle.std.proofs.Common.{◌≡◌, ◌≢◌, ℕ, suc, ◌+◌, ◌-◌, ◌/◌, ◌%◌, ◌^◌, ◌<◌, ◌≤◌, true, false, List, length, Option, Some, None, Ok, Err, refl, arith, sym, ap, ◌∙◌, subst}
+use Rattle.std.specs.Prelude.{◌==◌}
+use Rattle.std.proofs.Common.{◌≡◌, ℕ, suc, ◌+◌, ◌-◌, ◌^◌, ◌<◌, true, false, length, Some, None, refl, arith}
 use Rattle.queue_steps.specs.declared.sizes.TheConstants.{LIMIT, BLOCK_SLOTS, LONE_STEPS}
 use Rattle.queue_steps.specs.declared.steps.types.Answer.TheVariants as answer
 use Rattle.queue_steps.specs.declared.steps.types.Link.TheVariants as link
@@ -15,10 +15,10 @@ use Rattle.queue_steps.specs.declared.steps.unbounded.UnboundedLocal.TheVariants
 use Rattle.queue_steps.specs.Words.{IsWord, position_of, is_shut}
 use Rattle.queue_steps.specs.ChainWords.{offset_of, items_before}
 use Rattle.queue_steps.specs.BoundedNext.{closed_reply, pushed_reply}
-use Rattle.queue_steps.specs.UnboundedNext.{at, loads, ends, is_last_slot, gives_up, tail_block_found, claims, asks, granted, installed, writes, lays}
+use Rattle.queue_steps.specs.UnboundedNext.{at, loads, ends, is_last_slot, gives_up, tail_block_found, claims, asks, writes, lays}
 use Rattle.concurrent_queue.specs.declared.unbounded.Name.{Name}
-use Rattle.concurrent_queue.specs.RingRuns.{same_nat, equal_nat, apart_nat}
-use Rattle.concurrent_queue.specs.LineCells.{Piece, Line, piece_at, state_in, item_in, place_of, piece_of, Named, laid}
+use Rattle.concurrent_queue.specs.Numbers.{same_nat, equal_nat, apart_nat}
+use Rattle.concurrent_queue.specs.LineCells.{Line, piece_at, state_in, item_in, place_of, piece_of, Named, laid}
 use Rattle.concurrent_queue.specs.LineRuns.{Ending, LineEnds, Named-with, bare_step, ask_step, slot_step, set_cell}
 use Rattle.concurrent_queue.specs.LineChains.{laid_behind, chained}
 use Rattle.concurrent_queue.specs.LineLeaves.{marked, opened}
@@ -59,7 +59,7 @@ pub run-here : {T : Type 0} (steps : ℕ) (r : Line T) (b : Name T) (v : T) (p :
 run-here {T} steps r b v p P small inner named free empty end =
     let ahead : Line T = record r { tail = r.tail + TAIL_STEP } in
     let same : (r.tail == r.tail) ≡ true = same_nat r.tail in
-    let other : is_last_slot r.tail ≡ false = apart_nat (offset_of r.tail + 1) BLOCK_SLOTS inner in
+    let other : is_last_slot r.tail ≡ false = apart_nat (offset_of r.tail + 1) BLOCK_SLOTS (omega arith) in
     bare_step (suc (suc steps)) (chain.Claiming p r.tail b None) (op.Exchange word.Tail r.tail (r.tail + TAIL_STEP)) r ahead (Some v) (answer.Found r.tail) (writes p r.tail b None) P
     tt (λ x y e. e) (rw same refl) (small, λ e outer. absurd (omega arith)) (rw (same, other) refl)
     (run-write steps ahead b (offset_of r.tail) v p P named (omega arith) free empty end)
@@ -96,9 +96,10 @@ pub run-first : {T : Type 0} (steps : ℕ) (r : Line T) (v : T) (p : PushKind) (
 run-first {T} steps r v p P free none small few refused more =
     ask_step (suc (suc (suc (suc (suc steps))))) (chain.Asking p r.tail None) r (Some v) P free tt refused
     (λ f is.
-        let r1 : Line T = record r { spare = Some f } in
-        (small,
-        bare_step (suc (suc (suc (suc steps)))) (chain.Installing p r.tail f) (op.Install f) r1 (laid r1 f) (Some v) (answer.Linked None) (at (chain.Showing p r.tail f) touch.Nothing (op.StoreLink link.HeadBlock f)) P
-        ((refl, few), none) (λ x y e. e) (rw none refl) tt refl
-        (bare_step (suc (suc (suc steps))) (chain.Showing p r.tail f) (op.StoreLink link.HeadBlock f) (laid r1 f) (opened r f) (Some v) answer.Done (claims p r.tail f None) P
-        tt (λ x y e. e) refl small refl (more f is))))
+    let r1 : Line T = record r { spare = Some f } in (
+      small,
+      bare_step (suc (suc (suc (suc steps)))) (chain.Installing p r.tail f) (op.Install f) r1 (laid r1 f) (Some v) (answer.Linked None) (at (chain.Showing p r.tail f) touch.Nothing (op.StoreLink link.HeadBlock f)) P
+          ((refl, few), none) (λ x y e. e) (rw none refl) tt refl
+          (bare_step (suc (suc (suc steps))) (chain.Showing p r.tail f) (op.StoreLink link.HeadBlock f) (laid r1 f) (opened r f) (Some v) answer.Done (claims p r.tail f None) P
+          tt (λ x y e. e) refl small refl (more f is)),
+    ))

@@ -1,24 +1,21 @@
 -- Every push on a chain of blocks ends with its reply.
-use Rattle.std.specs.Prelude.{◌==◌, if◌then◌else◌}
-use Rattle.std.proofs.Common.{◌≡◌, ◌≢◌, ◌⊎◌, ℕ, suc, ◌+◌, ◌-◌, ◌*◌, ◌/◌, ◌%◌, ◌^◌, ◌<◌, ◌≤◌, Bool, true, false, List, [], ◌∷◌, ◌++◌, length, Option, Some, None, refl, arith, sym, ap, ◌∙◌, subst, inl, inr}
+use Rattle.std.specs.Prelude.{◌==◌}
+use Rattle.std.proofs.Common.{◌≡◌, ◌⊎◌, ℕ, suc, ◌+◌, ◌-◌, ◌/◌, ◌%◌, ◌<◌, Bool, true, false, List, [], ◌∷◌, ◌++◌, length, Option, Some, None, refl, arith, sym, ap, ◌∙◌, subst, inl, inr}
 use Rattle.queue_steps.specs.declared.sizes.TheConstants.{LIMIT, BLOCK_SLOTS, LONE_STEPS}
-use Rattle.queue_steps.specs.declared.steps.types.Answer.{Answer}
-use Rattle.queue_steps.specs.declared.steps.types.Answer.TheVariants as answer
-use Rattle.queue_steps.specs.declared.steps.types.Next.{Next}
 use Rattle.queue_steps.specs.declared.steps.types.Word.TheVariants as word
 use Rattle.queue_steps.specs.declared.steps.bounded.TheConstants.{TAIL_STEP}
 use Rattle.queue_steps.specs.declared.steps.bounded.PushKind.{PushKind}
 use Rattle.queue_steps.specs.declared.steps.unbounded.TheConstants.{WRITE}
 use Rattle.queue_steps.specs.declared.steps.unbounded.UnboundedLocal.TheVariants as chain
 use Rattle.queue_steps.specs.State.{State}
-use Rattle.queue_steps.specs.Words.{IsWord, position_of, is_shut}
-use Rattle.queue_steps.specs.ChainWords.{offset_of, items_before}
-use Rattle.queue_steps.specs.BoundedNext.{closed_reply, pushed_reply}
-use Rattle.queue_steps.specs.UnboundedNext.{loads, is_last_slot, tail_block_found, claims, asks}
+use Rattle.queue_steps.specs.Words.{is_shut}
+use Rattle.queue_steps.specs.ChainWords.{offset_of}
+use Rattle.queue_steps.specs.BoundedNext.{pushed_reply}
+use Rattle.queue_steps.specs.UnboundedNext.{loads, is_last_slot, claims, asks}
 use Rattle.concurrent_queue.specs.declared.unbounded.Name.{Name}
-use Rattle.concurrent_queue.specs.RingRuns.{equal_nat, apart_nat, is_apart}
-use Rattle.concurrent_queue.specs.LineCells.{Piece, Line, piece_at, state_in, item_in, fresh_piece, place_of, piece_of, Named, laid}
-use Rattle.concurrent_queue.specs.LineOwned.{taken, accepted, cell_of, line_queue, line_owned, Linked, IsBare, IsLaid, IsIdle}
+use Rattle.concurrent_queue.specs.Numbers.{equal_nat, apart_nat, is_below, last_or_not}
+use Rattle.concurrent_queue.specs.LineCells.{Piece, Line, piece_at, place_of, piece_of, Named, laid}
+use Rattle.concurrent_queue.specs.LineOwned.{taken, accepted, cell_of, Linked, IsBare, IsIdle}
 use Rattle.concurrent_queue.specs.LineRuns.{Ending, LineEnds, ask_step, set_cell}
 use Rattle.concurrent_queue.specs.LineKeeps.{cell_in}
 use Rattle.concurrent_queue.specs.LineChains.{laid_behind, chained, length-laid, laid-old, laid-new, lay-same}
@@ -105,14 +102,29 @@ push-behind {T} steps r f v p P i l outer is end =
 -- a push into an open queue that accepts items still
 module _ {T : Type 0} (r : Line T) (v : T) (p : PushKind) (i : IsIdle r) (unshut : is_shut r.tail ≡ false) (unspent : (accepted r == LIMIT) ≡ false) where
   limit : accepted r < LIMIT
-  limit = is_apart (accepted r) LIMIT unspent i.below
+  limit = is_below (accepted r) LIMIT unspent i.below
 
   rests : (offset_of r.tail == BLOCK_SLOTS) ≡ false
-  rests = apart_nat (offset_of r.tail) BLOCK_SLOTS i.tail_rests
+  rests = apart_nat (offset_of r.tail) BLOCK_SLOTS (let t = i.tail_rests in omega arith)
 
   -- into a chain with blocks
-  into-laid : Laid r → (accepted r % BLOCK_SLOTS + 1 < BLOCK_SLOTS) ⊎ (accepted r % BLOCK_SLOTS + 1 ≡ BLOCK_SLOTS) → LineEnds LONE_STEPS (loads (chain.PushTail p None) word.Tail) r (Some v) (Right (push_call p v) r)
-  into-laid l (inl inner) =
+  into-laid : Laid r → (accepted r % BLOCK_SLOTS + 1 ≡ BLOCK_SLOTS) ⊎ (accepted r % BLOCK_SLOTS + 1 < BLOCK_SLOTS) → LineEnds LONE_STEPS (loads (chain.PushTail p None) word.Tail) r (Some v) (Right (push_call p v) r)
+  into-laid l (inl outer) =
+      let offset = tail-offset r i in
+      let last : is_last_slot r.tail ≡ true = equal_nat (offset_of r.tail + 1) BLOCK_SLOTS (omega arith) in
+      let b : Name T = last_name r i l in
+      run-block r v p (asks p r.tail (Some b)) (Right (push_call p v) r) (tail-word r i) unshut unspent rests (rw (last-is r i l, last) refl)
+      (ask_step (LONE_STEPS - 3) (chain.Asking p r.tail (Some b)) r (Some v) (Right (push_call p v) r) i.no_spare tt (right-refused r v i p (refl, unshut, inr (omega arith)))
+      (λ f is.
+      let ending : place_of r b + 1 ≡ length r.pieces = let place = last-place r i l in let count = l.count in let order = i.order in omega arith in
+      let ps : List (Piece T) = chained (laid_behind r.pieces f) (place_of r b) f in
+      let ready = ready-behind r (place_of r b) f i l outer ending is in (
+        tail-word r i,
+        push-behind (LONE_STEPS - 9) r f v p (Right (push_call p v) r) i l outer is
+            (right-pushed r v i p (pushed r ps (Some f) (r.tail + TAIL_STEP + TAIL_STEP) None v) unshut unspent (idle-pushed r ps (Some f) (r.tail + TAIL_STEP + TAIL_STEP) None v i ready limit refl) ready.counted
+            (queue-pushed r ps (Some f) (r.tail + TAIL_STEP + TAIL_STEP) None v i ready)),
+      )))
+  into-laid l (inr inner) =
       let offset = tail-offset r i in
       let other : is_last_slot r.tail ≡ false = apart_nat (offset_of r.tail + 1) BLOCK_SLOTS (omega arith) in
       let ready = ready-here r i l (λ e. omega arith) in
@@ -120,19 +132,6 @@ module _ {T : Type 0} (r : Line T) (v : T) (p : PushKind) (i : IsIdle r) (unshut
       run-block r v p (claims p r.tail (last_name r i l) None) (Right (push_call p v) r) (tail-word r i) unshut unspent rests (rw (last-is r i l, other) refl)
       (push-here (LONE_STEPS - 5) r v p (Right (push_call p v) r) i l inner
       (right-pushed r v i p done unshut unspent (idle-pushed r r.pieces r.tail_block (r.tail + TAIL_STEP) r.spare v i ready limit i.no_spare) ready.counted (queue-pushed r r.pieces r.tail_block (r.tail + TAIL_STEP) r.spare v i ready)))
-  into-laid l (inr outer) =
-      let offset = tail-offset r i in
-      let last : is_last_slot r.tail ≡ true = equal_nat (offset_of r.tail + 1) BLOCK_SLOTS (omega arith) in
-      let b : Name T = last_name r i l in
-      run-block r v p (asks p r.tail (Some b)) (Right (push_call p v) r) (tail-word r i) unshut unspent rests (rw (last-is r i l, last) refl)
-      (ask_step (LONE_STEPS - 3) (chain.Asking p r.tail (Some b)) r (Some v) (Right (push_call p v) r) i.no_spare tt (right-refused r v i p (refl, unshut, inr (omega arith)))
-      (λ f is.
-          let ending : place_of r b + 1 ≡ length r.pieces = let place = last-place r i l in let count = l.count in let order = i.order in omega arith in
-          let ps : List (Piece T) = chained (laid_behind r.pieces f) (place_of r b) f in
-          let ready = ready-behind r (place_of r b) f i l outer ending is in
-          (tail-word r i, push-behind (LONE_STEPS - 9) r f v p (Right (push_call p v) r) i l outer is
-          (right-pushed r v i p (pushed r ps (Some f) (r.tail + TAIL_STEP + TAIL_STEP) None v) unshut unspent (idle-pushed r ps (Some f) (r.tail + TAIL_STEP + TAIL_STEP) None v i ready limit refl) ready.counted
-          (queue-pushed r ps (Some f) (r.tail + TAIL_STEP + TAIL_STEP) None v i ready)))))
 
   -- into a chain without blocks
   into-bare : IsBare r.first r.pieces r.head_block r.tail_block (accepted r) → LineEnds LONE_STEPS (loads (chain.PushTail p None) word.Tail) r (Some v) (Right (push_call p v) r)
@@ -143,18 +142,17 @@ module _ {T : Type 0} (r : Line T) (v : T) (p : PushKind) (i : IsIdle r) (unshut
       run-block r v p (asks p r.tail None) (Right (push_call p v) r) (tail-word r i) unshut unspent rests (rw bare.back refl)
       (run-first (LONE_STEPS - 8) r v p (Right (push_call p v) r) i.no_spare bare.back (tail-word r i) (omega arith) (right-refused r v i p (refl, unshut, inl (unused, none)))
       (λ f is.
-          let s : Line T = opened r f in
-          let j = idle-opened r f i bare is in
-          let l = laid-opened r f i bare is in
-          let ready = ready-here s j l (λ e. omega arith) in
-          let done : Line T = pushed s s.pieces s.tail_block (s.tail + TAIL_STEP) s.spare v in
-          let Appended : State T → State T = λ q. record q { items = q.items ++ v ∷ []; accepted = q.accepted + 1 } in
-          let Claims : Name T → Type 0 = λ b. LineEnds (LONE_STEPS - 5) (claims p r.tail b None) s (Some v) (Right (push_call p v) r) in
-          subst Claims (sym (named f (last_name s j l) (last-is s j l)))
-          (push-here (LONE_STEPS - 8) s v p (Right (push_call p v) r) j l (omega arith)
-          (right-pushed r v i p done unshut unspent (idle-pushed s s.pieces s.tail_block (s.tail + TAIL_STEP) s.spare v j ready limit refl) ready.counted
-          (queue-pushed s s.pieces s.tail_block (s.tail + TAIL_STEP) s.spare v j ready ∙ ap Appended (queue-opened r f i bare is))))))
-
+      let s : Line T = opened r f in
+      let j = idle-opened r f i bare is in
+      let l = laid-opened r f i bare is in
+      let ready = ready-here s j l (λ e. omega arith) in
+      let done : Line T = pushed s s.pieces s.tail_block (s.tail + TAIL_STEP) s.spare v in
+      let Appended : State T → State T = λ q. record q { items = q.items ++ v ∷ []; accepted = q.accepted + 1 } in
+      let Claims : Name T → Type 0 = λ b. LineEnds (LONE_STEPS - 5) (claims p r.tail b None) s (Some v) (Right (push_call p v) r) in
+      subst Claims (sym (named f (last_name s j l) (last-is s j l)))
+      (push-here (LONE_STEPS - 8) s v p (Right (push_call p v) r) j l (omega arith)
+      (right-pushed r v i p done unshut unspent (idle-pushed s s.pieces s.tail_block (s.tail + TAIL_STEP) s.spare v j ready limit refl) ready.counted
+      (queue-pushed s s.pieces s.tail_block (s.tail + TAIL_STEP) s.spare v j ready ∙ ap Appended (queue-opened r f i bare is))))))
     where
       named : (x y : Name T) → ◌≡◌ {A = Option (Name T)} (Some x) (Some y) → x ≡ y
       named x y e = cc
@@ -162,12 +160,9 @@ module _ {T : Type 0} (r : Line T) (v : T) (p : PushKind) (i : IsIdle r) (unshut
 pub push-answers : {T : Type 0} (r : Line T) (v : T) (p : PushKind) → IsIdle r → LineEnds LONE_STEPS (loads (chain.PushTail p None) word.Tail) r (Some v) (Right (push_call p v) r)
 push-answers {T} r v p i = go (is_shut r.tail) (accepted r == LIMIT) refl refl i.blocks
   where
-    slots : (n : ℕ) → (n % BLOCK_SLOTS + 1 < BLOCK_SLOTS) ⊎ (n % BLOCK_SLOTS + 1 ≡ BLOCK_SLOTS)
-    slots n = grind arith
-
     go : (b1 b2 : Bool) → is_shut r.tail ≡ b1 → (accepted r == LIMIT) ≡ b2 → IsBare r.first r.pieces r.head_block r.tail_block (accepted r) ⊎ Laid r
         → LineEnds LONE_STEPS (loads (chain.PushTail p None) word.Tail) r (Some v) (Right (push_call p v) r)
     go true b2 e1 e2 blocks = run-closed r v p (Right (push_call p v) r) (tail-word r i) e1 (right-closed r v i p e1)
     go false true e1 e2 blocks = run-spent r v p (Right (push_call p v) r) (tail-word r i) e1 e2 (right-spent r v i p e1 e2)
     go false false e1 e2 (inl bare) = into-bare r v p i e1 e2 bare
-    go false false e1 e2 (inr l) = into-laid r v p i e1 e2 l (slots (accepted r))
+    go false false e1 e2 (inr l) = into-laid r v p i e1 e2 l (last_or_not (accepted r % BLOCK_SLOTS) BLOCK_SLOTS (omega arith))

@@ -1,6 +1,6 @@
 -- One step of a call on a chain of blocks, from what it finds to what it leaves.
-use Rattle.std.specs.Prelude.{slice_set, bit_or, get_or}
-use Rattle.std.proofs.Common.{◌≡◌, ℕ, suc, ◌+◌, ◌-◌, ◌<◌, ◌≤◌, List, length, Option, Some, None, refl, arith, sym, ap, ◌∙◌, subst}
+use Rattle.std.specs.Prelude.{slice_set, bit_or}
+use Rattle.std.proofs.Common.{◌≡◌, ℕ, suc, ◌+◌, ◌<◌, List, length, Option, Some, None, refl, arith, sym, ap, ◌∙◌, subst}
 use Rattle.std.proofs.lemmas.List.{get_or-set_same, set-set, length-set}
 use Rattle.queue_steps.specs.declared.sizes.TheConstants.{BLOCK_SLOTS}
 use Rattle.queue_steps.specs.declared.model.Reply.{Reply}
@@ -17,7 +17,7 @@ use Rattle.queue_steps.specs.declared.steps.unbounded.UnboundedLocal.{UnboundedL
 use Rattle.queue_steps.specs.UnboundedNext.{at, FitsChain, unbounded_next}
 use Rattle.concurrent_queue.specs.declared.unbounded.Name.{Name}
 use Rattle.concurrent_queue.specs.Ends.{Ends}
-use Rattle.concurrent_queue.specs.LineCells.{Piece, Line, piece_at, state_in, item_in, place_of, piece_of, with_piece, exchanged, Named, state_block, line_can_touch, line_touched, line_touches, line_can_perform, line_performed, line_performs}
+use Rattle.concurrent_queue.specs.LineCells.{Piece, Line, piece_at, state_in, item_in, place_of, piece_of, with_piece, exchanged, Named, line_can_touch, line_touched, line_touches, line_can_perform, line_performed, line_performs}
 
 -- what a call has to end with
 abbrev pub Ending : Type 0 → Type 1

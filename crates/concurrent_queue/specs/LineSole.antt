@@ -1,6 +1,6 @@
 -- What a call on a chain of blocks has to end with, and that it does where it leaves what the table of one owner says.
 use Rattle.std.specs.Prelude.{◌==◌, if◌then◌else◌}
-use Rattle.std.proofs.Common.{◌≡◌, ◌⊎◌, ℕ, ◌+◌, ◌-◌, ◌/◌, ◌%◌, ◌<◌, ◌≤◌, Bool, true, false, List, [], ◌∷◌, ◌++◌, length, Option, Some, None, Ok, Err, refl, arith, sym, ap, ◌∙◌, subst, inl, inr}
+use Rattle.std.proofs.Common.{◌≡◌, ◌⊎◌, ℕ, ◌+◌, ◌-◌, ◌/◌, ◌<◌, Bool, true, false, [], ◌∷◌, ◌++◌, length, Some, None, Ok, Err, refl, arith, ap, ◌∙◌, subst, inl, inr}
 use Rattle.queue_steps.specs.declared.sizes.TheConstants.{LIMIT, BLOCK_SLOTS}
 use Rattle.queue_steps.specs.declared.model.Call.{Call}
 use Rattle.queue_steps.specs.declared.model.Call.TheVariants as call
@@ -12,11 +12,11 @@ use Rattle.queue_steps.specs.declared.steps.bounded.PushKind.{PushKind}
 use Rattle.queue_steps.specs.declared.steps.bounded.PushKind.TheVariants as push_kind
 use Rattle.queue_steps.specs.State.{State}
 use Rattle.queue_steps.specs.Sole.{Sole, MayAsk, HoldsBlocks, blocks_of, sole_reply, sole_state, moved}
-use Rattle.queue_steps.specs.Words.{position_of, is_shut}
+use Rattle.queue_steps.specs.Words.{is_shut}
 use Rattle.queue_steps.specs.BoundedNext.{closed_reply, pushed_reply}
 use Rattle.queue_steps.specs.UnboundedNext.{gives_up}
-use Rattle.concurrent_queue.specs.Ends.{EndsRight, Replied, Answered}
-use Rattle.concurrent_queue.specs.RingRuns.{is_equal}
+use Rattle.concurrent_queue.specs.Ends.{EndsRight, Answered}
+use Rattle.concurrent_queue.specs.Numbers.{is_equal, is_apart, equal_or_above}
 use Rattle.concurrent_queue.specs.LineCells.{Line, kind_of_line, line_can_touch, line_touches, line_can_perform, line_performs, line_can_release, line_releases}
 use Rattle.concurrent_queue.specs.LineOwned.{taken, accepted, line_queue, line_owned, IsBare, IsLaid, IsIdle}
 use Rattle.concurrent_queue.specs.LineRuns.{Ending}
@@ -53,11 +53,8 @@ blocks-are {T} r i some = go i.blocks
 
 -- the blocks are as many as the abstract queue tells
 pub holds-blocks : {T : Type 0} (r : Line T) → IsIdle r → HoldsBlocks (line_owned r)
-holds-blocks {T} r i = go (cases (accepted r)) i.blocks
+holds-blocks {T} r i = go (equal_or_above 0 (accepted r) (omega arith)) i.blocks
   where
-    cases : (n : ℕ) → (n ≡ 0) ⊎ (0 < n)
-    cases n = grind arith
-
     go : (accepted r ≡ 0) ⊎ (0 < accepted r) → IsBare r.first r.pieces r.head_block r.tail_block (accepted r) ⊎ IsLaid r.first r.pieces r.head_block r.tail_block (taken r) (accepted r) → HoldsBlocks (line_owned r)
     go (inr some) blocks = inl (blocks-are r i some)
     go (inl none) (inl bare) = inr (ap length bare.none, none)
@@ -77,10 +74,7 @@ sole {T} r done c x i answers leaves same =
   where
     go : (b : Bool) → (accepted done == 0) ≡ b → ◌≡◌ {A = ℕ} (length done.pieces) (if b then length r.pieces else blocks_of (line_queue done))
     go true e = same (is_equal (accepted done) 0 e)
-    go false e = blocks-are done i (some (accepted done) e)
-      where
-        some : (n : ℕ) → (n == 0) ≡ false → 0 < n
-        some n e = grind arith
+    go false e = let some = is_apart (accepted done) 0 e in blocks-are done i (omega arith)
 
 -- a call of each kind of push
 abbrev pub push_call : {T : Type 0} → PushKind → T → Call T

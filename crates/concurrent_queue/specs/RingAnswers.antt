@@ -1,5 +1,5 @@
 -- Every call on a ring ends with its reply.
-use Rattle.std.specs.Prelude.{◌==◌, not, nat_eq, if◌then◌else◌}
+use Rattle.std.specs.Prelude.{◌==◌, nat_eq, if◌then◌else◌}
 use Rattle.std.proofs.Common.{◌≡◌, ◌⊎◌, ℕ, ◌+◌, ◌-◌, ◌%◌, ◌<◌, ◌≤◌, Bool, true, false, List, [], ◌∷◌, ◌++◌, length, Option, Some, None, Ok, Err, refl, arith, sym, ap, ◌∙◌, subst, inl, inr, mod-lt}
 use Rattle.queue_steps.specs.declared.sizes.TheConstants.{LIMIT, LONE_STEPS}
 use Rattle.queue_steps.specs.declared.model.Call.{Call}
@@ -21,10 +21,11 @@ use Rattle.queue_steps.specs.declared.steps.bounded.BoundedLocal.TheVariants as 
 use Rattle.queue_steps.specs.BoundedNext.{loads}
 use Rattle.queue_steps.specs.Words.{IsWord, position_of, is_shut, slot_at}
 use Rattle.concurrent_queue.specs.Ends.{EndsRight, Answered}
+use Rattle.concurrent_queue.specs.Numbers.{apart_nat, equal_nat, is_below, is_even, equal_or_above}
 use Rattle.concurrent_queue.specs.RingCells.{RingState, kind_of_ring, ring_can_touch, ring_touches, ring_can_perform, ring_performs, ring_can_release, ring_releases}
 use Rattle.concurrent_queue.specs.RingKeeps.{next_lap, at_position, filled_slot}
 use Rattle.concurrent_queue.specs.RingOwned.{IsIdle, ring_queue, ring_owned}
-use Rattle.concurrent_queue.specs.RingRuns.{Ending, RingEnds, apart_nat, equal_nat, is_apart}
+use Rattle.concurrent_queue.specs.RingRuns.{Ending, RingEnds}
 use Rattle.concurrent_queue.specs.RingCalls.{marked, pushed, popped, displaced, run-closed, run-spent, run-room, run-full, run-displaced, run-pop, run-empty, run-close, run-is_closed, run-is_empty, run-is_full, run-len}
 use Rattle.concurrent_queue.specs.RingLeaves.{idle-marked, queue-marked, idle-pushed, queue-pushed, idle-popped, items-front, queue-popped, displaced-is, length-items}
 
@@ -97,7 +98,7 @@ push-answers {T} r v i = (i.ring, go (is_shut r.tail) (position_of r.tail == LIM
         (i, (reply.Push (Err (push.Full v)), refl, sole r r (call.Push v) (reply.Push (Err (push.Full v))) (rw (e1, over_one r.cap i.ring.0, e2, f) refl) (rw (e1, over_one r.cap i.ring.0, e2, f) refl)))
     go false false (inr room) e1 e2 =
         let f = room-is r i room in
-        let below : position_of r.tail < LIMIT = is_apart (position_of r.tail) LIMIT e2 i.below in
+        let below : position_of r.tail < LIMIT = is_below (position_of r.tail) LIMIT e2 i.below in
         run-room r v push_kind.Push (Right (call.Push v) r) i.ring (tail-word r i) e1 e2 (inside r (position_of r.tail) i) (i.holds.free (position_of r.tail) (omega arith) room)
         (idle-pushed r v below room i, (reply.Push (Ok tt), refl, sole r (pushed r v) (call.Push v) (reply.Push (Ok tt)) (rw (e1, over_one r.cap i.ring.0, e2, f) refl) (queue-pushed r v room i ∙ rw (e1, over_one r.cap i.ring.0, e2, f) refl)))
 
@@ -118,7 +119,7 @@ force-answers {T} r v i = (i.ring, go (is_shut r.tail) (position_of r.tail == LI
         let s = i.holds.some in
         let some : r.head < position_of r.tail = omega arith in
         let room : position_of r.tail < (r.head + 1) + r.cap = omega arith in
-        let below : position_of r.tail < LIMIT = is_apart (position_of r.tail) LIMIT e2 i.below in
+        let below : position_of r.tail < LIMIT = is_below (position_of r.tail) LIMIT e2 i.below in
         let x = front-slot r i full in
         let f = full-is r i full in
         let items = items-front r x.0 some x.2 in
@@ -139,7 +140,7 @@ force-answers {T} r v i = (i.ring, go (is_shut r.tail) (position_of r.tail == LI
     go false false (inr room) e1 e2 =
         let many = over_one r.cap i.ring.0 in
         let f = room-is r i room in
-        let below : position_of r.tail < LIMIT = is_apart (position_of r.tail) LIMIT e2 i.below in
+        let below : position_of r.tail < LIMIT = is_below (position_of r.tail) LIMIT e2 i.below in
         run-room r v push_kind.Force (Right (call.ForcePush v) r) i.ring (tail-word r i) e1 e2 (inside r (position_of r.tail) i) (i.holds.free (position_of r.tail) (omega arith) room) (
           idle-pushed r v below room i,
           (
@@ -150,11 +151,8 @@ force-answers {T} r v i = (i.ring, go (is_shut r.tail) (position_of r.tail == LI
         )
 
 pop-answers : {T : Type 0} (r : RingState T) → IsIdle r → RingAnswers r call.Pop
-pop-answers {T} r i = (i.ring, go (order (position_of r.tail) r.head i.holds.order))
+pop-answers {T} r i = (i.ring, go (equal_or_above r.head (position_of r.tail) i.holds.order))
   where
-    order : (t h : ℕ) → h ≤ t → (t ≡ h) ⊎ (h < t)
-    order t h o = grind arith
-
     go : (position_of r.tail ≡ r.head) ⊎ (r.head < position_of r.tail) → RingEnds r.cap LONE_STEPS (loads ring.PopHead word.Head) r None (Right call.Pop r)
     go (inl empty) =
         let s = i.holds.some in
@@ -169,10 +167,7 @@ pop-answers {T} r i = (i.ring, go (order (position_of r.tail) r.head i.holds.ord
 
 close-answers : {T : Type 0} (r : RingState T) → IsIdle r → RingAnswers r call.Close
 close-answers {T} r i =
-    (i.ring, run-close r (Right call.Close r) i.ring (idle-marked r i, (reply.Close (r.tail % 2 == 0), refl, sole r (marked r) call.Close (reply.Close (r.tail % 2 == 0)) (ap reply.Close (even r.tail)) (queue-marked r))))
-  where
-    even : (t : ℕ) → (t % 2 == 0) ≡ not (is_shut t)
-    even t = grind arith
+    (i.ring, run-close r (Right call.Close r) i.ring (idle-marked r i, (reply.Close (r.tail % 2 == 0), refl, sole r (marked r) call.Close (reply.Close (r.tail % 2 == 0)) (ap reply.Close (is_even r.tail)) (queue-marked r))))
 
 is_empty-answers : {T : Type 0} (r : RingState T) → IsIdle r → RingAnswers r call.IsEmpty
 is_empty-answers {T} r i = (
@@ -189,10 +184,7 @@ is_empty-answers {T} r i = (
   where
     same : (t h : ℕ) (xs : List T) → h ≤ t → length xs ≡ t - h → (t == h) ≡ is_empty xs
     same t h [] o e = equal_nat t h (omega arith)
-    same t h (x ∷ xs) o e = not_equal t h (omega arith)
-      where
-        not_equal : (t h : ℕ) → h < t → (t == h) ≡ false
-        not_equal t h o = grind arith
+    same t h (x ∷ xs) o e = apart_nat t h (omega arith)
 
 is_full-answers : {T : Type 0} (r : RingState T) → IsIdle r → RingAnswers r call.IsFull
 is_full-answers {T} r i = (
@@ -209,10 +201,7 @@ is_full-answers {T} r i = (
   where
     same : (position_of r.tail ≡ r.head + r.cap) ⊎ (position_of r.tail < r.head + r.cap) → (r.head + r.cap == position_of r.tail) ≡ is_full (ring_queue r)
     same (inl full) = equal_nat (r.head + r.cap) (position_of r.tail) (sym full) ∙ sym (full-is r i full)
-    same (inr room) = not_equal (r.head + r.cap) (position_of r.tail) room ∙ sym (room-is r i room)
-      where
-        not_equal : (t h : ℕ) → h < t → (t == h) ≡ false
-        not_equal t h o = grind arith
+    same (inr room) = apart_nat (r.head + r.cap) (position_of r.tail) (omega arith) ∙ sym (room-is r i room)
 
 len-answers : {T : Type 0} (r : RingState T) → IsIdle r → RingAnswers r call.Len
 len-answers {T} r i = (

@@ -122,10 +122,7 @@ impl<T, A: Allocator> LinkedBlocks<T, A> {
             chain.set_word(0, link, slot, WRITE | READ);
         }
         let word = (accepted / BLOCK_SLOTS * BLOCK_POSITIONS + offset) * TAIL_STEP;
-        let name = Name {
-            number: 0,
-            link,
-        };
+        let name = Name { number: 0, link };
         Ok(LinkedBlocks {
             alloc,
             chain,
@@ -161,7 +158,9 @@ impl<T, A: Allocator> LinkedBlocks<T, A> {
         }
         match head_block {
             None => {}
-            Some(last) => chain.lift(last.number, last.link).give_up(&alloc, last.link),
+            Some(last) => chain
+                .lift(last.number, last.link)
+                .give_up(&alloc, last.link),
         }
         chain.leave();
     }
@@ -212,12 +211,8 @@ impl<T, A: Allocator> LinkedBlocks<T, A> {
         ensures { (Found result, self.new) ≡ line_performed self.old (Or (State block slot) bits) }
     {
         let found = self.chain.word(block.number, block.link, slot);
-        self.chain.set_word(
-            block.number,
-            block.link,
-            slot,
-            found | bits,
-        );
+        self.chain
+            .set_word(block.number, block.link, slot, found | bits);
         found
     }
 
@@ -269,7 +264,12 @@ impl<T, A: Allocator> LinkedBlocks<T, A> {
         ensures { self.new ≡ laid self.old block }
     {
         match self.spare.take() {
-            Some(Spare { name: _, block: loose }) => {
+            Some(
+                Spare {
+                    name: _,
+                    block: loose,
+                },
+            ) => {
                 self.chain.lay(loose);
                 self.tail_block = Some(block);
                 self.laid += 1;
@@ -392,7 +392,9 @@ impl<T, A: Allocator> Cells<T, Name<T>> for LinkedBlocks<T, A> {
                 self.tail = found | bits;
                 Answer::Found(found)
             }
-            Op::Or(Word::State(block, slot), bits) => Answer::Found(self.set_bits(block, slot, bits)),
+            Op::Or(Word::State(block, slot), bits) => Answer::Found(self.set_bits(
+                block, slot, bits,
+            )),
             Op::Exchange(Word::Tail, expected, new) => {
                 let found = self.tail;
                 if found == expected {
