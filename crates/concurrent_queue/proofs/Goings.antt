@@ -37,12 +37,12 @@ module _ {T B M : Type 0} (can_touch : M → Touch → Op B → Type 0) (touches
       rw (is, e) at h
 
   -- the first step of a run
-  pub Ends-first : (idle : M → Type 0) (owned : M → Owned T) (k kind : Kind) (c : Call T) (local : Local B) (todo : Next B) (parts : Call Unit × Option T) (cells : M)
+  pub Ends-first : (can_release : M → B → Type 0) (releases : M → B → M → Type 0) (idle : M → Type 0) (owned : M → Owned T) (k kind : Kind) (c : Call T) (local : Local B) (todo : Next B) (parts : Call Unit × Option T) (cells : M)
       → k ≡ kind → parts ≡ (call_kind c, call_value c) → local ≡ first_local parts.0 → todo ≡ next_of k local answer.Start
-      → EndsRight can_touch touches can_perform performs idle owned kind c cells
-      → Ends can_touch touches can_perform performs LONE_STEPS k todo cells parts.1 (Answered can_touch touches can_perform performs idle owned c cells)
-  Ends-first idle owned k kind c local todo parts cells is_kind is_parts is_local is_todo h =
-      let P : Reply Unit → Option B → Option T → M → Type 0 = Answered can_touch touches can_perform performs idle owned c cells in
+      → EndsRight can_touch touches can_perform performs can_release releases idle owned kind c cells
+      → Ends can_touch touches can_perform performs LONE_STEPS k todo cells parts.1 (Answered can_release releases idle owned c cells)
+  Ends-first can_release releases idle owned k kind c local todo parts cells is_kind is_parts is_local is_todo h =
+      let P : Reply Unit → Option B → Option T → M → Type 0 = Answered can_release releases idle owned c cells in
       let Whole : Kind → Next B → Option T → Type 0 = λ x y z. Ends can_touch touches can_perform performs LONE_STEPS x y cells z P in
       let OfKind : Kind → Type 0 = λ x. Whole x (next_of x (first_local (call_kind c)) answer.Start) (call_value c) in
       let OfParts : Call Unit × Option T → Type 0 = λ x. Whole k (next_of k (first_local x.0) answer.Start) x.1 in
@@ -51,7 +51,7 @@ module _ {T B M : Type 0} (can_touch : M → Touch → Op B → Type 0) (touches
       subst OfTodo (sym is_todo) (subst OfLocal (sym is_local) (subst OfParts (sym is_parts) (subst OfKind (sym is_kind) h.1)))
 
   -- and what it needs
-  pub Ends-can : (idle : M → Type 0) (owned : M → Owned T) (k kind : Kind) (c : Call T) (local : Local B) (parts : Call Unit × Option T) (cells : M)
+  pub Ends-can : (can_release : M → B → Type 0) (releases : M → B → M → Type 0) (idle : M → Type 0) (owned : M → Owned T) (k kind : Kind) (c : Call T) (local : Local B) (parts : Call Unit × Option T) (cells : M)
       → k ≡ kind → parts ≡ (call_kind c, call_value c) → local ≡ first_local parts.0
-      → EndsRight can_touch touches can_perform performs idle owned kind c cells → CanNext k local answer.Start
-  Ends-can idle owned k kind c local parts cells is_kind is_parts is_local h = rw (is_local, is_parts, is_kind) h.0
+      → EndsRight can_touch touches can_perform performs can_release releases idle owned kind c cells → CanNext k local answer.Start
+  Ends-can can_release releases idle owned k kind c local parts cells is_kind is_parts is_local h = rw (is_local, is_parts, is_kind) h.0

@@ -2,6 +2,11 @@ pub mod Goings
 pub mod Watching
 pub mod Slots
 pub mod Openings
+pub mod Pieces
+pub mod Linked
+pub mod Layings
+pub mod LineBegins
+pub mod Pops
 mod Totals
 mod Keeping
 mod Leading

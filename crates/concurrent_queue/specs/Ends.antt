@@ -26,12 +26,24 @@ module _ {T B M : Type 0} (can_touch : M → Touch → Op B → Type 0) (touches
       → can_perform touched o
       × ((a : Answer B) (done : M) → performs touched o a done → CanNext k l a × Ends n k (next_of k l a) done left P))
 
-  -- what a call c that began at the cells `first` has to end with: nothing is given up, and its reply is that of the one-owner table
-  abbrev pub Answered : (M → Type 0) → (M → Owned T) → Call T → M → Reply Unit → Option B → Option T → M → Type 0
-  Answered idle owned c first r spare carried left =
-      idle left × (spare ≡ None) × ((reply : Reply T) × (filled r carried ≡ Some reply) × Sole (owned first) c reply (owned left))
+-- no call is on its way, and the reply of the call c, which began at the cells `first`, is that of the one-owner table
+abbrev pub Replied : {T M : Type 0} → (M → Type 0) → (M → Owned T) → Call T → M → Reply Unit → Option T → M → Type 0
+Replied {T} idle owned c first r carried left = idle left × ((reply : Reply T) × (filled r carried ≡ Some reply) × Sole (owned first) c reply (owned left))
 
+module _ {B M : Type 0} (can_release : M → B → Type 0) (releases : M → B → M → Type 0) where
+  -- P holds once the block that the call gives up, if there is one, is released
+  abbrev pub Released : Option B → M → (M → Type 0) → Type 0
+  Released None cells P = P cells
+  Released (Some block) cells P = can_release cells block × ((after : M) → releases cells block after → P after)
+
+  -- what a call c that began at the cells `first` has to end with
+  abbrev pub Answered : {T : Type 0} → (M → Type 0) → (M → Owned T) → Call T → M → Reply Unit → Option B → Option T → M → Type 0
+  Answered idle owned c first r block carried left = Released block left (Replied idle owned c first r carried)
+
+module _ {T B M : Type 0} (can_touch : M → Touch → Op B → Type 0) (touches : M → Touch → Op B → Option T → M → Option T → Type 0)
+    (can_perform : M → Op B → Type 0) (performs : M → Op B → Answer B → M → Type 0) (can_release : M → B → Type 0) (releases : M → B → M → Type 0) where
   -- a call that begins at these cells ends with its reply
   abbrev pub EndsRight : (M → Type 0) → (M → Owned T) → Kind → Call T → M → Type 0
   EndsRight idle owned k c cells =
-      CanNext k (first_local {B = B} (call_kind c)) answer.Start × Ends LONE_STEPS k (next_of k (first_local (call_kind c)) answer.Start) cells (call_value c) (Answered idle owned c cells)
+      CanNext k (first_local {B = B} (call_kind c)) answer.Start
+      × Ends can_touch touches can_perform performs LONE_STEPS k (next_of k (first_local (call_kind c)) answer.Start) cells (call_value c) (Answered can_release releases idle owned c cells)

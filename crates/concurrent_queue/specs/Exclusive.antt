@@ -2,6 +2,7 @@
 use Rattle.queue_steps.specs.Sole.{Owned}
 use Rattle.concurrent_queue.specs.SingleCells as single
 use Rattle.concurrent_queue.specs.RingOwned as ring
+use Rattle.concurrent_queue.specs.LineOwned as line
 use Rattle.concurrent_queue.specs.declared.exclusive.Form.{Form}
 use Rattle.concurrent_queue.specs.declared.exclusive.Form.TheVariants as form
 use Rattle.concurrent_queue.specs.declared.exclusive.Exclusive.TheInside.{Inside}
@@ -9,11 +10,13 @@ use Rattle.concurrent_queue.specs.declared.exclusive.Exclusive.TheInside.{Inside
 abbrev pub form_owned : {T A : Type 0} → Form T A → Owned T
 form_owned (form.Single s) = single.single_owned s
 form_owned (form.Bounded r) = ring.ring_owned r
+form_owned (form.Unbounded r) = line.line_owned r
 
 -- no call is on its way
 abbrev pub IsFormIdle : {T A : Type 0} → Form T A → Type 0
 IsFormIdle (form.Single s) = single.IsIdle s
 IsFormIdle (form.Bounded r) = ring.IsIdle r
+IsFormIdle (form.Unbounded r) = line.IsIdle r
 
 abbrev pub exclusive_view : {T A : Type 0} → Inside T A → Owned T
 exclusive_view e = form_owned e.form

@@ -1,3 +1,4 @@
+pub mod Numbers
 pub mod Ends
 pub mod Runs
 pub mod SingleCells
@@ -9,7 +10,20 @@ pub mod RingRuns
 pub mod RingCalls
 pub mod RingLeaves
 pub mod RingAnswers
+pub mod LineCells
+pub mod LineOwned
+pub mod LineRuns
+pub mod LineKeeps
+pub mod LineChains
+pub mod LineLeaves
+pub mod LinePush
+pub mod LineSole
+pub mod LinePushes
+pub mod LinePop
+pub mod LinePops
+pub mod LineAnswers
 pub mod Exclusive
+pub mod LinkedBlocks
 pub mod Known
 pub mod Turns
 pub mod Seats

@@ -1,5 +1,5 @@
 -- Every call on a ring ends with its reply.
-use Rattle.std.specs.Prelude.{◌==◌, not, nat_eq, if◌then◌else◌}
+use Rattle.std.specs.Prelude.{◌==◌, nat_eq, if◌then◌else◌}
 use Rattle.std.proofs.Common.{◌≡◌, ◌⊎◌, ℕ, ◌+◌, ◌-◌, ◌%◌, ◌<◌, ◌≤◌, Bool, true, false, List, [], ◌∷◌, ◌++◌, length, Option, Some, None, Ok, Err, refl, arith, sym, ap, ◌∙◌, subst, inl, inr, mod-lt}
 use Rattle.queue_steps.specs.declared.sizes.TheConstants.{LIMIT, LONE_STEPS}
 use Rattle.queue_steps.specs.declared.model.Call.{Call}
@@ -21,19 +21,20 @@ use Rattle.queue_steps.specs.declared.steps.bounded.BoundedLocal.TheVariants as 
 use Rattle.queue_steps.specs.BoundedNext.{loads}
 use Rattle.queue_steps.specs.Words.{IsWord, position_of, is_shut, slot_at}
 use Rattle.concurrent_queue.specs.Ends.{EndsRight, Answered}
-use Rattle.concurrent_queue.specs.RingCells.{RingState, kind_of_ring, ring_can_touch, ring_touches, ring_can_perform, ring_performs}
+use Rattle.concurrent_queue.specs.Numbers.{apart_nat, equal_nat, is_below, is_even, equal_or_above}
+use Rattle.concurrent_queue.specs.RingCells.{RingState, kind_of_ring, ring_can_touch, ring_touches, ring_can_perform, ring_performs, ring_can_release, ring_releases}
 use Rattle.concurrent_queue.specs.RingKeeps.{next_lap, at_position, filled_slot}
 use Rattle.concurrent_queue.specs.RingOwned.{IsIdle, ring_queue, ring_owned}
-use Rattle.concurrent_queue.specs.RingRuns.{Ending, RingEnds, apart_nat, equal_nat}
+use Rattle.concurrent_queue.specs.RingRuns.{Ending, RingEnds}
 use Rattle.concurrent_queue.specs.RingCalls.{marked, pushed, popped, displaced, run-closed, run-spent, run-room, run-full, run-displaced, run-pop, run-empty, run-close, run-is_closed, run-is_empty, run-is_full, run-len}
 use Rattle.concurrent_queue.specs.RingLeaves.{idle-marked, queue-marked, idle-pushed, queue-pushed, idle-popped, items-front, queue-popped, displaced-is, length-items}
 
 -- what a call has to end with
 abbrev Right : {T : Type 0} → Call T → RingState T → Ending T
-Right c r = Answered ring_can_touch ring_touches ring_can_perform ring_performs IsIdle ring_owned c r
+Right c r = Answered ring_can_release ring_releases IsIdle ring_owned c r
 
 abbrev pub RingAnswers : {T : Type 0} → RingState T → Call T → Type 0
-RingAnswers r c = EndsRight ring_can_touch ring_touches ring_can_perform ring_performs IsIdle ring_owned (kind_of_ring r) c r
+RingAnswers r c = EndsRight ring_can_touch ring_touches ring_can_perform ring_performs ring_can_release ring_releases IsIdle ring_owned (kind_of_ring r) c r
 
 -- no block is held, before and after
 sole : {T : Type 0} (r done : RingState T) (c : Call T) (x : Reply T) → x ≡ sole_reply (ring_queue r) c → ring_queue done ≡ sole_state (ring_queue r) c → Sole (ring_owned r) c x (ring_owned done)
@@ -47,12 +48,6 @@ sole {T} r done c x answers leaves =
 
 over_one : (n : ℕ) → 1 < n → nat_eq n 1 ≡ false
 over_one n h = grind arith
-
-is_equal : (m n : ℕ) → (m == n) ≡ true → m ≡ n
-is_equal m n e = grind arith
-
-is_apart : (m n : ℕ) → (m == n) ≡ false → m ≤ n → m < n
-is_apart m n e h = grind arith
 
 -- where the positions are a whole lap apart the ring is full, and else it has room
 full-is : {T : Type 0} (r : RingState T) → IsIdle r → (position_of r.tail ≡ r.head + r.cap) → is_full (ring_queue r) ≡ true
@@ -92,20 +87,20 @@ push-answers {T} r v i = (i.ring, go (is_shut r.tail) (position_of r.tail == LIM
     go : (b1 b2 : Bool) → (position_of r.tail ≡ r.head + r.cap) ⊎ (position_of r.tail < r.head + r.cap) → is_shut r.tail ≡ b1 → (position_of r.tail == LIMIT) ≡ b2
         → RingEnds r.cap LONE_STEPS (loads (ring.PushTail push_kind.Push) word.Tail) r (Some v) (Right (call.Push v) r)
     go true b2 c e1 e2 =
-        run-closed r v push_kind.Push (Right (call.Push v) r) i.ring (tail-word r i) e1 (i, refl, (reply.Push (Err (push.Closed v)), refl, sole r r (call.Push v) (reply.Push (Err (push.Closed v))) (rw e1 refl) (rw e1 refl)))
+        run-closed r v push_kind.Push (Right (call.Push v) r) i.ring (tail-word r i) e1 (i, (reply.Push (Err (push.Closed v)), refl, sole r r (call.Push v) (reply.Push (Err (push.Closed v))) (rw e1 refl) (rw e1 refl)))
     go false true c e1 e2 =
         run-spent r v push_kind.Push (Right (call.Push v) r) i.ring (tail-word r i) e1 e2
-        (idle-marked r i, refl, (reply.Push (Err (push.Closed v)), refl, sole r (marked r) (call.Push v) (reply.Push (Err (push.Closed v))) (rw (e1, over_one r.cap i.ring.0, e2) refl) (queue-marked r ∙ rw (e1, over_one r.cap i.ring.0, e2) refl)))
+        (idle-marked r i, (reply.Push (Err (push.Closed v)), refl, sole r (marked r) (call.Push v) (reply.Push (Err (push.Closed v))) (rw (e1, over_one r.cap i.ring.0, e2) refl) (queue-marked r ∙ rw (e1, over_one r.cap i.ring.0, e2) refl)))
     go false false (inl full) e1 e2 =
         let front = front-slot r i full in
         let f = full-is r i full in
         run-full r front.0 v (Right (call.Push v) r) i.ring (tail-word r i) e1 e2 full (inside r (position_of r.tail) i) front.1
-        (i, refl, (reply.Push (Err (push.Full v)), refl, sole r r (call.Push v) (reply.Push (Err (push.Full v))) (rw (e1, over_one r.cap i.ring.0, e2, f) refl) (rw (e1, over_one r.cap i.ring.0, e2, f) refl)))
+        (i, (reply.Push (Err (push.Full v)), refl, sole r r (call.Push v) (reply.Push (Err (push.Full v))) (rw (e1, over_one r.cap i.ring.0, e2, f) refl) (rw (e1, over_one r.cap i.ring.0, e2, f) refl)))
     go false false (inr room) e1 e2 =
         let f = room-is r i room in
-        let below : position_of r.tail < LIMIT = is_apart (position_of r.tail) LIMIT e2 i.below in
+        let below : position_of r.tail < LIMIT = is_below (position_of r.tail) LIMIT e2 i.below in
         run-room r v push_kind.Push (Right (call.Push v) r) i.ring (tail-word r i) e1 e2 (inside r (position_of r.tail) i) (i.holds.free (position_of r.tail) (omega arith) room)
-        (idle-pushed r v below room i, refl, (reply.Push (Ok tt), refl, sole r (pushed r v) (call.Push v) (reply.Push (Ok tt)) (rw (e1, over_one r.cap i.ring.0, e2, f) refl) (queue-pushed r v room i ∙ rw (e1, over_one r.cap i.ring.0, e2, f) refl)))
+        (idle-pushed r v below room i, (reply.Push (Ok tt), refl, sole r (pushed r v) (call.Push v) (reply.Push (Ok tt)) (rw (e1, over_one r.cap i.ring.0, e2, f) refl) (queue-pushed r v room i ∙ rw (e1, over_one r.cap i.ring.0, e2, f) refl)))
 
 force-answers : {T : Type 0} (r : RingState T) (v : T) → IsIdle r → RingAnswers r (call.ForcePush v)
 force-answers {T} r v i = (i.ring, go (is_shut r.tail) (position_of r.tail == LIMIT) (cases r i) refl refl)
@@ -114,17 +109,17 @@ force-answers {T} r v i = (i.ring, go (is_shut r.tail) (position_of r.tail == LI
         → RingEnds r.cap LONE_STEPS (loads (ring.PushTail push_kind.Force) word.Tail) r (Some v) (Right (call.ForcePush v) r)
     go true b2 c e1 e2 =
         run-closed r v push_kind.Force (Right (call.ForcePush v) r) i.ring (tail-word r i) e1
-        (i, refl, (reply.ForcePush (Err (force.Closed v)), refl, sole r r (call.ForcePush v) (reply.ForcePush (Err (force.Closed v))) (rw e1 refl) (rw e1 refl)))
+        (i, (reply.ForcePush (Err (force.Closed v)), refl, sole r r (call.ForcePush v) (reply.ForcePush (Err (force.Closed v))) (rw e1 refl) (rw e1 refl)))
     go false true c e1 e2 =
         let many = over_one r.cap i.ring.0 in
         run-spent r v push_kind.Force (Right (call.ForcePush v) r) i.ring (tail-word r i) e1 e2
-        (idle-marked r i, refl, (reply.ForcePush (Err (force.Closed v)), refl, sole r (marked r) (call.ForcePush v) (reply.ForcePush (Err (force.Closed v))) (rw (e1, many, e2) refl) (queue-marked r ∙ rw (e1, many, e2) refl)))
+        (idle-marked r i, (reply.ForcePush (Err (force.Closed v)), refl, sole r (marked r) (call.ForcePush v) (reply.ForcePush (Err (force.Closed v))) (rw (e1, many, e2) refl) (queue-marked r ∙ rw (e1, many, e2) refl)))
     go false false (inl full) e1 e2 =
         let many = over_one r.cap i.ring.0 in
         let s = i.holds.some in
         let some : r.head < position_of r.tail = omega arith in
         let room : position_of r.tail < (r.head + 1) + r.cap = omega arith in
-        let below : position_of r.tail < LIMIT = is_apart (position_of r.tail) LIMIT e2 i.below in
+        let below : position_of r.tail < LIMIT = is_below (position_of r.tail) LIMIT e2 i.below in
         let x = front-slot r i full in
         let f = full-is r i full in
         let items = items-front r x.0 some x.2 in
@@ -136,7 +131,6 @@ force-answers {T} r v i = (i.ring, go (is_shut r.tail) (position_of r.tail == LI
         ap ring_queue done ∙ (queue-pushed (popped r) v room mid ∙ ap Queue (queue-popped r x.0 some x.2 i)) in
         run-displaced r x.0 v (Right (call.ForcePush v) r) i.ring (tail-word r i) e1 e2 full (inside r (position_of r.tail) i) x.1 (
           subst Idle (sym done) (idle-pushed (popped r) v below room mid),
-          refl,
           (
             reply.ForcePush (Ok (Some x.0)),
             refl,
@@ -146,10 +140,9 @@ force-answers {T} r v i = (i.ring, go (is_shut r.tail) (position_of r.tail == LI
     go false false (inr room) e1 e2 =
         let many = over_one r.cap i.ring.0 in
         let f = room-is r i room in
-        let below : position_of r.tail < LIMIT = is_apart (position_of r.tail) LIMIT e2 i.below in
+        let below : position_of r.tail < LIMIT = is_below (position_of r.tail) LIMIT e2 i.below in
         run-room r v push_kind.Force (Right (call.ForcePush v) r) i.ring (tail-word r i) e1 e2 (inside r (position_of r.tail) i) (i.holds.free (position_of r.tail) (omega arith) room) (
           idle-pushed r v below room i,
-          refl,
           (
             reply.ForcePush (Ok None),
             refl,
@@ -158,36 +151,29 @@ force-answers {T} r v i = (i.ring, go (is_shut r.tail) (position_of r.tail == LI
         )
 
 pop-answers : {T : Type 0} (r : RingState T) → IsIdle r → RingAnswers r call.Pop
-pop-answers {T} r i = (i.ring, go (order (position_of r.tail) r.head i.holds.order))
+pop-answers {T} r i = (i.ring, go (equal_or_above r.head (position_of r.tail) i.holds.order))
   where
-    order : (t h : ℕ) → h ≤ t → (t ≡ h) ⊎ (h < t)
-    order t h o = grind arith
-
     go : (position_of r.tail ≡ r.head) ⊎ (r.head < position_of r.tail) → RingEnds r.cap LONE_STEPS (loads ring.PopHead word.Head) r None (Right call.Pop r)
     go (inl empty) =
         let s = i.holds.some in
         let none : position_of r.tail - r.head ≡ 0 = omega arith in
         run-empty r (Right call.Pop r) i.ring (head-word r i) empty (inside r r.head i) (i.holds.free r.head (omega arith) (omega arith))
-        (i, refl, (reply.Pop (Err (if is_shut r.tail then pop.Closed else pop.Empty)), refl, sole r r call.Pop (reply.Pop (Err (if is_shut r.tail then pop.Closed else pop.Empty))) (rw none refl) (rw none refl)))
+        (i, (reply.Pop (Err (if is_shut r.tail then pop.Closed else pop.Empty)), refl, sole r r call.Pop (reply.Pop (Err (if is_shut r.tail then pop.Closed else pop.Empty))) (rw none refl) (rw none refl)))
     go (inr some) =
         let x = i.holds.filled r.head (omega arith) some in
         let items = items-front r x.0 some x.1 in
         run-pop r x.0 (Right call.Pop r) i.ring (head-word r i) (inside r r.head i) x.1
-        (idle-popped r some i, refl, (reply.Pop (Ok x.0), refl, sole r (popped r) call.Pop (reply.Pop (Ok x.0)) (rw items refl) (queue-popped r x.0 some x.1 i)))
+        (idle-popped r some i, (reply.Pop (Ok x.0), refl, sole r (popped r) call.Pop (reply.Pop (Ok x.0)) (rw items refl) (queue-popped r x.0 some x.1 i)))
 
 close-answers : {T : Type 0} (r : RingState T) → IsIdle r → RingAnswers r call.Close
 close-answers {T} r i =
-    (i.ring, run-close r (Right call.Close r) i.ring (idle-marked r i, refl, (reply.Close (r.tail % 2 == 0), refl, sole r (marked r) call.Close (reply.Close (r.tail % 2 == 0)) (ap reply.Close (even r.tail)) (queue-marked r))))
-  where
-    even : (t : ℕ) → (t % 2 == 0) ≡ not (is_shut t)
-    even t = grind arith
+    (i.ring, run-close r (Right call.Close r) i.ring (idle-marked r i, (reply.Close (r.tail % 2 == 0), refl, sole r (marked r) call.Close (reply.Close (r.tail % 2 == 0)) (ap reply.Close (is_even r.tail)) (queue-marked r))))
 
 is_empty-answers : {T : Type 0} (r : RingState T) → IsIdle r → RingAnswers r call.IsEmpty
 is_empty-answers {T} r i = (
   i.ring,
   run-is_empty r (Right call.IsEmpty r) i.ring (
     i,
-    refl,
     (
       reply.IsEmpty (position_of r.tail == r.head),
       refl,
@@ -198,17 +184,13 @@ is_empty-answers {T} r i = (
   where
     same : (t h : ℕ) (xs : List T) → h ≤ t → length xs ≡ t - h → (t == h) ≡ is_empty xs
     same t h [] o e = equal_nat t h (omega arith)
-    same t h (x ∷ xs) o e = not_equal t h (omega arith)
-      where
-        not_equal : (t h : ℕ) → h < t → (t == h) ≡ false
-        not_equal t h o = grind arith
+    same t h (x ∷ xs) o e = apart_nat t h (omega arith)
 
 is_full-answers : {T : Type 0} (r : RingState T) → IsIdle r → RingAnswers r call.IsFull
 is_full-answers {T} r i = (
   i.ring,
   run-is_full r (Right call.IsFull r) i.ring (head-word r i) (
     i,
-    refl,
     (
       reply.IsFull (r.head + r.cap == position_of r.tail),
       refl,
@@ -219,17 +201,13 @@ is_full-answers {T} r i = (
   where
     same : (position_of r.tail ≡ r.head + r.cap) ⊎ (position_of r.tail < r.head + r.cap) → (r.head + r.cap == position_of r.tail) ≡ is_full (ring_queue r)
     same (inl full) = equal_nat (r.head + r.cap) (position_of r.tail) (sym full) ∙ sym (full-is r i full)
-    same (inr room) = not_equal (r.head + r.cap) (position_of r.tail) room ∙ sym (room-is r i room)
-      where
-        not_equal : (t h : ℕ) → h < t → (t == h) ≡ false
-        not_equal t h o = grind arith
+    same (inr room) = apart_nat (r.head + r.cap) (position_of r.tail) (omega arith) ∙ sym (room-is r i room)
 
 len-answers : {T : Type 0} (r : RingState T) → IsIdle r → RingAnswers r call.Len
 len-answers {T} r i = (
   i.ring,
   run-len r (Right call.Len r) i.ring i.holds.order (
     i,
-    refl,
     (
       reply.Len (position_of r.tail - r.head),
       refl,
@@ -243,11 +221,11 @@ ring_answers r (call.Push v) i = push-answers r v i
 ring_answers r (call.ForcePush v) i = force-answers r v i
 ring_answers r call.Pop i = pop-answers r i
 ring_answers r call.Close i = close-answers r i
-ring_answers r call.IsClosed i = (i.ring, run-is_closed r (Right call.IsClosed r) i.ring (i, refl, (reply.IsClosed (is_shut r.tail), refl, sole r r call.IsClosed (reply.IsClosed (is_shut r.tail)) refl refl)))
+ring_answers r call.IsClosed i = (i.ring, run-is_closed r (Right call.IsClosed r) i.ring (i, (reply.IsClosed (is_shut r.tail), refl, sole r r call.IsClosed (reply.IsClosed (is_shut r.tail)) refl refl)))
 ring_answers r call.IsEmpty i = is_empty-answers r i
 ring_answers r call.IsFull i = is_full-answers r i
 ring_answers r call.Len i = len-answers r i
-ring_answers r call.Capacity i = (i.ring, (i, refl, (reply.Capacity (Some r.cap), refl, sole r r call.Capacity (reply.Capacity (Some r.cap)) refl refl)))
+ring_answers r call.Capacity i = (i.ring, (i, (reply.Capacity (Some r.cap), refl, sole r r call.Capacity (reply.Capacity (Some r.cap)) refl refl)))
 
 pub ring_stays : {T : Type 0} (r : RingState T) (o : Op Unit) (carried : Option T) → ring_touches r touch.Nothing o carried r carried
 ring_stays r o carried = refl

@@ -16,9 +16,10 @@ use Rattle.queue_steps.specs.declared.steps.bounded.PushKind.TheVariants as push
 use Rattle.queue_steps.specs.declared.steps.bounded.BoundedLocal.TheVariants as ring
 use Rattle.queue_steps.specs.Words.{IsRing, IsWord, position_of, is_shut, slot_at, stamp_filled, stamp_emptied}
 use Rattle.queue_steps.specs.BoundedNext.{at, loads, ends, closed_reply, pushed_reply, lap_found}
+use Rattle.concurrent_queue.specs.Numbers.{less, same_nat, equal_nat, apart_nat}
 use Rattle.concurrent_queue.specs.RingCells.{RingState}
 use Rattle.concurrent_queue.specs.RingKeeps.{at_position, filled_slot, free_slot}
-use Rattle.concurrent_queue.specs.RingRuns.{Ending, RingEnds, bare_step, slot_step, less, same_nat, equal_nat, apart_nat}
+use Rattle.concurrent_queue.specs.RingRuns.{Ending, RingEnds, bare_step, slot_step}
 
 -- what the calls leave: a closed queue, one item more, one item less, and one in the place of the front
 abbrev pub marked : {T : Type 0} → RingState T → RingState T

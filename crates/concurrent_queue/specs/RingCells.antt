@@ -77,3 +77,10 @@ ring_touches r t o carried after left = Touches ring_touchable ring_touched ring
 
 abbrev pub ring_performs : {T : Type 0} → RingState T → Op Unit → Answer Unit → RingState T → Type 0
 ring_performs {T} r o a after = Performs ring_touchable (ring_touched {T = T}) ring_operable ring_performed r o a after
+
+-- a ring has no block to give up
+abbrev pub ring_can_release : {T : Type 0} → RingState T → Unit {0} → Type 0
+ring_can_release r b = ⊥
+
+abbrev pub ring_releases : {T : Type 0} → RingState T → Unit {0} → RingState T → Type 0
+ring_releases r b after = ⊥

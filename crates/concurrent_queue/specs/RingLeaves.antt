@@ -18,7 +18,7 @@ use Rattle.concurrent_queue.specs.RingCalls.{marked, pushed, popped, displaced}
 half_up : (t : ℕ) → position_of (t + TAIL_STEP) ≡ position_of t + 1
 half_up t = omega arith
 
-odd_up : (t : ℕ) → (t + TAIL_STEP) % 2 ≡ t % 2
+pub odd_up : (t : ℕ) → (t + TAIL_STEP) % 2 ≡ t % 2
 odd_up t = omega arith
 
 mark_adds : (t : ℕ) → bit_or t MARK + t % 2 ≡ t + 1
@@ -27,10 +27,10 @@ mark_adds t =
     let last : bit_and t 1 ≡ t % 2 = and_mask t 1 in
     omega arith
 
-half_mark : (t : ℕ) → position_of (bit_or t MARK) ≡ position_of t
+pub half_mark : (t : ℕ) → position_of (bit_or t MARK) ≡ position_of t
 half_mark t = let e = mark_adds t in omega arith
 
-odd_mark : (t : ℕ) → (bit_or t MARK) % 2 ≡ 1
+pub odd_mark : (t : ℕ) → (bit_or t MARK) % 2 ≡ 1
 odd_mark t = let e = mark_adds t in omega arith
 
 pub idle-marked : {T : Type 0} (r : RingState T) → IsIdle r → IsIdle (marked r)

@@ -1,6 +1,6 @@
 -- How each call runs on a ring: from what it finds in the words and slots to its reply and what it leaves.
-use Rattle.std.specs.Prelude.{slice_set, ◌==◌, nat_lt}
-use Rattle.std.proofs.Common.{◌≡◌, ℕ, suc, ◌<◌, true, false, List, length, Option, None, refl, arith, sym, ap, ◌∙◌, subst}
+use Rattle.std.specs.Prelude.{slice_set, nat_lt}
+use Rattle.std.proofs.Common.{◌≡◌, ℕ, suc, ◌<◌, true, List, length, Option, None, refl, arith, sym, ap, ◌∙◌, subst}
 use Rattle.std.proofs.lemmas.List.{get_or-set_same, set-set, length-set}
 use Rattle.queue_steps.specs.declared.model.Reply.{Reply}
 use Rattle.queue_steps.specs.declared.steps.types.Kind.TheVariants as kind
@@ -18,6 +18,7 @@ use Rattle.queue_steps.specs.Next.{CanNext, next_of}
 use Rattle.queue_steps.specs.Words.{IsRing}
 use Rattle.queue_steps.specs.BoundedNext.{at, FitsRing, bounded_next}
 use Rattle.concurrent_queue.specs.declared.bounded.RingSlot.{RingSlot}
+use Rattle.concurrent_queue.specs.Numbers.{less}
 use Rattle.concurrent_queue.specs.Ends.{Ends}
 use Rattle.concurrent_queue.specs.Runs.{Ends-step}
 use Rattle.concurrent_queue.specs.RingCells.{RingState, slot_in, exchanged, ring_touchable, ring_touched, ring_operable, ring_performed, ring_can_touch, ring_touches, ring_can_perform, ring_performs}
@@ -53,18 +54,6 @@ pub bare_step : {T : Type 0} (n steps : ℕ) (l : BoundedLocal) (q : Op Unit) (r
     → IsRing n → FitsRing n l a → bounded_next n l a ≡ todo → RingEnds n steps todo done carried P → RingEnds n (suc steps) (at l touch.Nothing q) r carried P
 bare_step n steps l q r done carried a todo P can_perform performed is_ring fits next_is more =
     ring_step n steps l touch.Nothing q r r done carried carried a todo P refl refl can_perform performed is_ring fits next_is more
-
-pub less : (m n : ℕ) → m < n → nat_lt m n ≡ true
-less m n h = grind arith
-
-pub same_nat : (n : ℕ) → (n == n) ≡ true
-same_nat n = grind arith
-
-pub equal_nat : (m n : ℕ) → m ≡ n → (m == n) ≡ true
-equal_nat m n e = grind arith
-
-pub apart_nat : (m n : ℕ) → m < n → (m == n) ≡ false
-apart_nat m n h = grind arith
 
 -- a slot of which first the item and then the stamp was changed
 written : {T : Type 0} (slots : List (RingSlot T)) (i before stamp : ℕ) (o : Option T) → i < length slots

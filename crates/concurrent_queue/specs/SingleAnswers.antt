@@ -18,9 +18,9 @@ use Rattle.queue_steps.specs.declared.sizes.TheConstants.{LONE_STEPS}
 use Rattle.queue_steps.specs.Sole.{Sole}
 use Rattle.queue_steps.specs.SingleNext.{is_marked}
 use Rattle.concurrent_queue.specs.declared.single.Single.{Single}
-use Rattle.concurrent_queue.specs.Ends.{EndsRight, Answered}
+use Rattle.concurrent_queue.specs.Ends.{EndsRight, Released, Replied, Answered}
 use Rattle.concurrent_queue.specs.Runs.{Outcome, run_from, Ends-run}
-use Rattle.concurrent_queue.specs.SingleCells.{IsIdle, single_owned, single_touchable, single_operable, single_touched, single_performed, single_can_touch, single_can_perform, single_touches, single_performs, word_for}
+use Rattle.concurrent_queue.specs.SingleCells.{IsIdle, single_owned, single_touchable, single_operable, single_touched, single_performed, single_can_touch, single_can_perform, single_touches, single_performs, single_can_release, single_releases, word_for}
 
 -- the test of `CanNext` for one slot
 abbrev pub can_next : Kind → Local Unit → Answer Unit → Bool
@@ -84,13 +84,19 @@ single_run (Some x) false call.Capacity = (_, refl, refl, refl, (_, refl, inl (r
 single_run (Some x) true call.Capacity = (_, refl, refl, refl, (_, refl, inl (refl, refl)))
 
 abbrev pub SingleEnds : {T : Type 0} → Single T → Call T → Type 0
-SingleEnds {T} s c = EndsRight single_can_touch single_touches single_can_perform (single_performs {T = T}) IsIdle single_owned kind.Single c s
+SingleEnds {T} s c = EndsRight single_can_touch single_touches single_can_perform (single_performs {T = T}) single_can_release single_releases IsIdle single_owned kind.Single c s
 
 pub single_ends : {T : Type 0} (item : Option T) (lock : ℕ) (closed : Bool) (c : Call T) → lock ≡ word_for item closed → SingleEnds (slot_of item lock) c
 single_ends {T} item lock closed c is =
+    let first : Single T = slot_of item (word_for item closed) in
     let r = single_run item closed c in
+    let End : Option Unit → Type 0 = λ b. Released single_can_release single_releases b r.0.cells (Replied IsIdle single_owned c first r.0.reply r.0.carried) in
     let P : ℕ → Type 0 = λ w. SingleEnds (slot_of item w) c in
-    subst P (sym is) (tt, Ends-run single_touchable single_touched single_operable single_performed can_next can_next-is LONE_STEPS kind.Single (next_of kind.Single (first_local (call_kind c)) answer.Start) (slot_of item (word_for item closed)) (call_value c) (Answered single_can_touch single_touches single_can_perform (single_performs {T = T}) IsIdle single_owned c (slot_of item (word_for item closed))) r.0 r.1 (r.2, r.3, r.4))
+    subst P (sym is) (
+      tt,
+      Ends-run single_touchable single_touched single_operable single_performed can_next can_next-is LONE_STEPS kind.Single (next_of kind.Single (first_local (call_kind c)) answer.Start) first (call_value c)
+          (Answered single_can_release single_releases IsIdle single_owned c first) r.0 r.1 (subst End (sym r.3) (r.2, r.4)),
+    )
 
 pub single_answers : {T : Type 0} (s : Single T) (c : Call T) → IsIdle s → SingleEnds s c
 single_answers s c is = single_ends s.item s.lock (is_marked s.lock) c is

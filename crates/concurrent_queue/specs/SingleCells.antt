@@ -79,3 +79,10 @@ single_touches s t o carried after left = Touches single_touchable single_touche
 
 abbrev pub single_performs : {T : Type 0} → Single T → Op Unit → Answer Unit → Single T → Type 0
 single_performs {T} s o a after = Performs single_touchable (single_touched {T = T}) single_operable single_performed s o a after
+
+-- a slot has no block to give up
+abbrev pub single_can_release : {T : Type 0} → Single T → Unit {0} → Type 0
+single_can_release s b = ⊥
+
+abbrev pub single_releases : {T : Type 0} → Single T → Unit {0} → Single T → Type 0
+single_releases s b after = ⊥

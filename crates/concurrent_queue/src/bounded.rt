@@ -111,7 +111,7 @@ impl<T, A: Allocator> Ring<T, A> {
 }
 
 impl<T, A: Allocator> Cells<T, ()> for Ring<T, A> {
-    ghost use Rattle.concurrent_queue.specs.RingCells.{kind_of_ring, ring_can_touch, ring_touches, ring_can_perform, ring_performs};
+    ghost use Rattle.concurrent_queue.specs.RingCells.{kind_of_ring, ring_can_touch, ring_touches, ring_can_perform, ring_performs, ring_can_release, ring_releases};
     ghost use Rattle.concurrent_queue.specs.RingOwned.{IsIdle, ring_owned};
 
     ghost kind_of = { kind_of_ring };
@@ -127,6 +127,10 @@ impl<T, A: Allocator> Cells<T, ()> for Ring<T, A> {
     ghost can_perform = { ring_can_perform };
 
     ghost performs = { ring_performs };
+
+    ghost can_release = { ring_can_release };
+
+    ghost releases = { ring_releases };
 
     ghost use Rattle.concurrent_queue.specs.RingAnswers.{ring_answers, ring_stays};
 
@@ -187,6 +191,11 @@ impl<T, A: Allocator> Cells<T, ()> for Ring<T, A> {
             }
             _ => unreachable!(),
         }
+    }
+
+    #[inline(always)]
+    fn release(&mut self, _block: ()) {
+        unreachable!()
     }
 
     #[inline(always)]

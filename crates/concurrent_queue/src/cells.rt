@@ -35,6 +35,12 @@ pub(crate) trait Cells<T, B: Copy> {
     /// What an operation answers, and what it leaves.
     ghost performs: { Self → SpecOp B → SpecAnswer B → Self → Type 0 };
 
+    /// The block may be given up.
+    ghost can_release: { Self → B → Type 0 };
+
+    /// What the giving up of a block leaves.
+    ghost releases: { Self → B → Self → Type 0 };
+
     fn kind(&self) -> Kind
         ensures { result ≡ kind_of self.now };
 
@@ -48,6 +54,11 @@ pub(crate) trait Cells<T, B: Copy> {
         requires { can_perform self.old op }
         ensures { performs self.old op result self.new };
 
+    /// Gives up a block that a call has done with.
+    fn release(&mut self, block: B)
+        requires { can_release self.old block }
+        ensures { releases self.old block self.new };
+
     /// A load, which changes nothing.
     fn look(&self, op: &Op<B>) -> Answer<B>
         requires load { IsLoad op.now }
@@ -58,5 +69,5 @@ pub(crate) trait Cells<T, B: Copy> {
     ghost stays: { (cells : Self) (op : SpecOp B) (carried : Option T) → touches cells Nothing op carried cells carried };
 
     /// Every call ends, with its reply.
-    ghost answers: { (cells : Self) (call : SpecCall T) → idle cells → EndsRight can_touch touches can_perform performs idle owned (kind_of cells) call cells };
+    ghost answers: { (cells : Self) (call : SpecCall T) → idle cells → EndsRight can_touch touches can_perform performs can_release releases idle owned (kind_of cells) call cells };
 }

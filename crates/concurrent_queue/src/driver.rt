@@ -20,7 +20,13 @@ pub(crate) fn drive<T, B: Copy, M: Cells<T, B>>(cells: &mut M, call: Call<T>) ->
     let mut todo: Next<B> = steps::next(kind, steps::start(kind, call), Answer::Start);
     for _ in 0..LONE_STEPS {
         match todo {
-            Next::Reply(reply, _) => return Reply::fill(reply, carried),
+            Next::Reply(reply, given_up) => match given_up {
+                None => return Reply::fill(reply, carried),
+                Some(block) => {
+                    cells.release(block);
+                    return Reply::fill(reply, carried);
+                }
+            },
             Next::Step(local, touch, op) => {
                 cells.touch(touch, &op, &mut carried);
                 let answer = cells.perform(op);

@@ -1,16 +1,18 @@
 //! Queues with one owner.
-ghost use Rattle.std.specs.Prelude.{◌≡◌, ◌<◌, ◌≤◌, length, Some, IfOk, IsErr, IsOk};
+ghost use Rattle.std.specs.Prelude.{◌≡◌, ◌<◌, ◌≤◌, ◌==◌, if◌then◌else◌, length, None, Some, IfOk, IsErr, IsOk};
 ghost use Rattle.queue_steps.specs.declared.sizes.TheConstants.{LIMIT, MAX_CAPACITY};
 ghost use Rattle.queue_steps.specs.State.{start, is_full};
 ghost use Rattle.queue_steps.specs.Replies.{is_empty};
 ghost use Rattle.queue_steps.specs.Sole.{Sole, HoldsBlocks};
 ghost use Rattle.concurrent_queue.specs.SingleCells.{IsIdle, single_owned};
+ghost use Rattle.concurrent_queue.specs.LineOwned.{IsIdle as IsLineIdle};
 ghost use Rattle.queue_steps.specs.declared.model.Call.TheVariants as call;
 ghost use Rattle.queue_steps.specs.declared.model.Reply.TheVariants as reply;
 
 use crate::bounded::Ring;
 use crate::driver::{drive, observe};
 use crate::single::Single;
+use crate::unbounded::{LinkedBlocks, Name};
 use queue_steps::errors::{ForcePushError, PopError, PushError};
 use queue_steps::model::{Call, CallKind, Reply, ReplyKind};
 use std::alloc::{AllocError, Allocator, Global};
@@ -19,18 +21,18 @@ use std::marker::Model;
 /// A queue with one owner, first in first out, that can be closed.
 ///
 /// A contract sees the abstract queue and the number of blocks that it holds. Each call answers by the table of one owner, `Sole`.
-#[derive(Drop)]
 pub struct Exclusive<T, A: Allocator = Global> {
     form: Form<T, A>,
 }
 
 /// How the items are kept.
-#[derive(Drop)]
 enum Form<T, A: Allocator> {
     /// One slot.
     Single(Single<T>),
     /// A ring of slots.
     Bounded(Ring<T, A>),
+    /// A chain of blocks.
+    Unbounded(LinkedBlocks<T, A>),
 }
 
 impl<T, A: Allocator> Model for Exclusive<T, A> {
@@ -43,6 +45,33 @@ impl<T, A: Allocator> Model for Exclusive<T, A> {
     ghost view = { exclusive_view };
 
     ghost invariant = { IsExclusive };
+}
+
+impl<T: Drop, A: Allocator> Drop for Exclusive<T, A> {
+    fn drop(self) {
+        let Exclusive { form } = self;
+        match form {
+            Form::Single(single) => drop(single),
+            Form::Bounded(ring) => drop(ring),
+            Form::Unbounded(blocks) => give_up(blocks),
+        }
+    }
+}
+
+/// Drops the items that are left, and gives all memory back.
+fn give_up<T: Drop, A: Allocator>(mut blocks: LinkedBlocks<T, A>)
+    requires { IsLineIdle blocks }
+{
+    loop {
+        match drive::<T, Name<T>, LinkedBlocks<T, A>>(&mut blocks, Call::Pop) {
+            Reply::Pop(result) => match result {
+                Ok(item) => drop(item),
+                Err(_) => break,
+            },
+            _ => unreachable!(),
+        }
+    }
+    blocks.end();
 }
 
 impl<T, A: Allocator> Form<T, A> {
@@ -60,6 +89,7 @@ impl<T, A: Allocator> Form<T, A> {
         match self {
             Form::Single(single) => drive::<T, (), Single<T>>(single, call),
             Form::Bounded(ring) => drive::<T, (), Ring<T, A>>(ring, call),
+            Form::Unbounded(blocks) => drive::<T, Name<T>, LinkedBlocks<T, A>>(blocks, call),
         }
     }
 
@@ -73,6 +103,7 @@ impl<T, A: Allocator> Form<T, A> {
         match self {
             Form::Single(single) => observe::<T, (), Single<T>>(single, call),
             Form::Bounded(ring) => observe::<T, (), Ring<T, A>>(ring, call),
+            Form::Unbounded(blocks) => observe::<T, Name<T>, LinkedBlocks<T, A>>(blocks, call),
         }
     }
 }
@@ -116,6 +147,38 @@ impl<T, A: Allocator> Exclusive<T, A> {
         })
     }
 
+    /// An empty open queue without a capacity.
+    ///
+    /// It asks for no memory. Pushes do, for a block of 31 items at a time.
+    pub fn unbounded(alloc: A) -> Self
+        ensures { result ≡ record { queue = start None 0; blocks = 0 } }
+    {
+        Exclusive {
+            form: Form::Unbounded(LinkedBlocks::new(alloc)),
+        }
+    }
+
+    /// An empty open queue without a capacity, whose positions stand as after `n` items that were accepted and taken.
+    ///
+    /// It asks for the block where the next item goes, and for none where `n` is 0.
+    ///
+    /// # Errors
+    ///
+    /// Where there is no memory, and without a request where an item has 2^31 bytes or more.
+    pub fn unbounded_after(alloc: A, n: u64) -> Result<Self, AllocError>
+        requires { n ≤ LIMIT }
+        ensures empty { IfOk result (λ queue. queue ≡ record { queue = start None n; blocks = (if n == 0 then 0 else 1) }) }
+        ensures none { n ≡ 0 → IsOk result }
+    {
+        if n == 0 {
+            return Ok(Exclusive::unbounded(alloc));
+        }
+        let blocks = LinkedBlocks::after(alloc, n)?;
+        Ok(Exclusive {
+            form: Form::Unbounded(blocks),
+        })
+    }
+
     /// A queue of this slot, which no call holds.
     pub(crate) fn of_single(single: Single<T>) -> Self
         requires { IsIdle single }
@@ -128,9 +191,11 @@ impl<T, A: Allocator> Exclusive<T, A> {
 
     /// Appends `value`.
     ///
+    /// A queue without a capacity asks for a block before the first item, where it holds none, and where it has accepted 30 items modulo 31. No other call asks for memory.
+    ///
     /// # Errors
     ///
-    /// `Closed` with the value on a closed queue, `Full` with the value on a full one.
+    /// `Closed` with the value on a closed queue, `Full` with the value on a full one, `NoMemory` with the value where a block was asked for and refused. A queue that has accepted `LIMIT` items answers `Closed`, and is closed from then on.
     pub fn push(&mut self, value: T) -> Result<(), PushError<T>>
         ensures { Sole self.old (call.Push value) (reply.Push result) self.new }
     {
@@ -142,9 +207,11 @@ impl<T, A: Allocator> Exclusive<T, A> {
 
     /// Appends `value`, and takes the front off and hands it out where the queue was full.
     ///
+    /// On a queue without a capacity it is `push`.
+    ///
     /// # Errors
     ///
-    /// `Closed` with the value on a closed queue.
+    /// `Closed` with the value on a closed queue, `NoMemory` with the value where a block was asked for and refused.
     pub fn force_push(&mut self, value: T) -> Result<Option<T>, ForcePushError<T>>
         ensures { Sole self.old (call.ForcePush value) (reply.ForcePush result) self.new }
     {
@@ -218,7 +285,7 @@ impl<T, A: Allocator> Exclusive<T, A> {
         }
     }
 
-    /// The capacity in items.
+    /// The capacity in items, or none.
     pub fn capacity(&self) -> Option<usize>
         ensures { result ≡ self.now.queue.cap }
     {
@@ -228,7 +295,7 @@ impl<T, A: Allocator> Exclusive<T, A> {
         }
     }
 
-    /// The number of blocks that the queue holds: none, as it has a capacity.
+    /// The number of blocks that the queue holds: those from the front's to the one where the next item goes, and none where the queue has a capacity.
     pub fn blocks(&self) -> usize
         ensures count { result ≡ self.now.blocks }
         ensures held { HoldsBlocks self.now }
@@ -236,6 +303,7 @@ impl<T, A: Allocator> Exclusive<T, A> {
         match &self.form {
             Form::Single(_) => 0,
             Form::Bounded(_) => 0,
+            Form::Unbounded(blocks) => blocks.blocks(),
         }
     }
 }

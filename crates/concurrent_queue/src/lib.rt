@@ -14,6 +14,7 @@ pub mod shared;
 mod single;
 mod slot;
 mod turns;
+mod unbounded;
 
 pub use exclusive::Exclusive;
 pub use queue_steps::errors::{ForcePushError, PopError, PushError};

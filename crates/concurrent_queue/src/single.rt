@@ -26,7 +26,7 @@ impl<T> Single<T> {
 }
 
 impl<T> Cells<T, ()> for Single<T> {
-    ghost use Rattle.concurrent_queue.specs.SingleCells.{kind_of_single, IsIdle, single_owned, single_can_touch, single_touches, single_can_perform, single_performs};
+    ghost use Rattle.concurrent_queue.specs.SingleCells.{kind_of_single, IsIdle, single_owned, single_can_touch, single_touches, single_can_perform, single_performs, single_can_release, single_releases};
 
     ghost kind_of = { kind_of_single };
 
@@ -41,6 +41,10 @@ impl<T> Cells<T, ()> for Single<T> {
     ghost can_perform = { single_can_perform };
 
     ghost performs = { single_performs };
+
+    ghost can_release = { single_can_release };
+
+    ghost releases = { single_releases };
 
     ghost use Rattle.concurrent_queue.specs.SingleAnswers.{single_answers, single_stays};
 
@@ -79,6 +83,11 @@ impl<T> Cells<T, ()> for Single<T> {
             _ => unreachable!(),
         }
         Answer::Found(found)
+    }
+
+    #[inline(always)]
+    fn release(&mut self, _block: ()) {
+        unreachable!()
     }
 
     #[inline(always)]

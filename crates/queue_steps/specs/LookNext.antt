@@ -28,7 +28,9 @@ use Rattle.queue_steps.specs.BoundedNext.{ends, loads, bounded_next, FitsRing}
 use Rattle.queue_steps.specs.Looks.{IsLook}
 use Rattle.queue_steps.specs.Next.{CanNext, next_of, first_local}
 
+-- a load of a word that is in no block
 abbrev pub IsLoad : {B : Type 0} → Op B → Type 0
+IsLoad (op.Load (word.State b slot)) = ⊥
 IsLoad (op.Load w) = Unit {0}
 IsLoad _ = ⊥
 

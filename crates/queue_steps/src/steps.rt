@@ -14,7 +14,7 @@ mod unbounded;
 pub use bounded::{BoundedLocal, PushKind, TAIL_STEP};
 pub use single::SingleLocal;
 pub use types::{Answer, Kind, Link, Local, Look, Next, Op, Touch, Word};
-pub use unbounded::UnboundedLocal;
+pub use unbounded::{READ, UnboundedLocal, WRITE};
 
 /// The local state of a call that begins.
 #[inline(always)]

@@ -3,6 +3,8 @@
 
 pub mod callers;
 #[cfg(test)]
+mod chains;
+#[cfg(test)]
 mod errors;
 #[cfg(test)]
 mod one_slot;

@@ -62,7 +62,7 @@ fn displaced_fronts_over_laps(rt: HostRuntime) -> Result<(), Fail> {
 }
 
 /// An empty queue that is told about, filled with one item, emptied twice and closed.
-fn looked_at(rt: &impl Abort, mut queue: Exclusive<u64>, full_of_one: bool) {
+fn looked_at(rt: &impl Abort, mut queue: Exclusive<u64>, full_of_one: bool, blocks: usize) {
     assert!(rt; queue.is_empty() && !queue.is_full());
     assert_eq!(rt; queue.push(7), Ok(()));
     assert!(rt; queue.len() == 1 && !queue.is_empty() && queue.is_full() == full_of_one);
@@ -75,13 +75,14 @@ fn looked_at(rt: &impl Abort, mut queue: Exclusive<u64>, full_of_one: bool) {
     assert!(rt; queue.close());
     assert!(rt; queue.is_closed());
     assert!(rt; !queue.close());
-    assert_eq!(rt; queue.blocks(), 0);
+    assert_eq!(rt; queue.blocks(), blocks);
 }
 
 #[test]
 fn looks(rt: HostRuntime) -> Result<(), Fail> {
-    looked_at(&rt, Exclusive::bounded(rt.alloc(), 1)?, true);
-    looked_at(&rt, Exclusive::bounded(rt.alloc(), 2)?, false);
+    looked_at(&rt, Exclusive::bounded(rt.alloc(), 1)?, true, 0);
+    looked_at(&rt, Exclusive::bounded(rt.alloc(), 2)?, false, 0);
+    looked_at(&rt, Exclusive::unbounded(rt.alloc()), false, 1);
     let mut queue: Exclusive<u64> = Exclusive::bounded(rt.alloc(), 2)?;
     assert_eq!(rt; queue.push(1), Ok(()));
     assert_eq!(rt; queue.push(2), Ok(()));

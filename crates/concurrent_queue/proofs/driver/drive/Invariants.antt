@@ -8,4 +8,4 @@ abbrev pub invariant-loop : goal.invariant-loop
 invariant-loop g l =
     let m = g.M.Cells in
     Ends m.can_touch m.touches m.can_perform m.performs (LONE_STEPS - l.counter) l.kind l.todo l.cells l.carried
-    (Answered m.can_touch m.touches m.can_perform m.performs m.idle m.owned l.fn.call l.fn.cells)
+    (Answered m.can_release m.releases m.idle m.owned l.fn.call l.fn.cells)

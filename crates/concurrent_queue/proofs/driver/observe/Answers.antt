@@ -8,14 +8,14 @@ pub next-todo-requires : goal.next-todo-requires
 next-todo-requires g c =
     let m = g.M.Cells in
     let a = kind-as_call {T = g.row.T.Denot} c.args.call c.requires.look in
-    Ends-can m.can_touch m.touches m.can_perform m.performs m.idle m.owned c.kind-kind.result (m.kind_of c.args.cells.now) (as_call c.args.call) c.start.result (c.args.call, None) c.args.cells.now
+    Ends-can m.can_touch m.touches m.can_perform m.performs m.can_release m.releases m.idle m.owned c.kind-kind.result (m.kind_of c.args.cells.now) (as_call c.args.call) c.start.result (c.args.call, None) c.args.cells.now
     c.kind-kind.ensures (cc) c.start.ensures (g.met.M.Cells.answers c.args.cells.now (as_call c.args.call) c.requires.idle)
 
 pub loop-init : goal.loop-init
 loop-init g c =
     let m = g.M.Cells in
     let a = kind-as_call {T = g.row.T.Denot} c.args.call c.requires.look in (
-      Ends-first m.can_touch m.touches m.can_perform m.performs m.idle m.owned c.kind-kind.result (m.kind_of c.args.cells.now) (as_call c.args.call) c.start.result c.next-todo.result (c.args.call, None) c.args.cells.now
+      Ends-first m.can_touch m.touches m.can_perform m.performs m.can_release m.releases m.idle m.owned c.kind-kind.result (m.kind_of c.args.cells.now) (as_call c.args.call) c.start.result c.next-todo.result (c.args.call, None) c.args.cells.now
           c.kind-kind.ensures (cc) c.start.ensures c.next-todo.ensures (g.met.M.Cells.answers c.args.cells.now (as_call c.args.call) c.requires.idle),
       rw (c.next-todo.ensures, c.start.ensures) (look_next-first _ c.kind-kind.result c.args.call c.requires.look),
     )
@@ -46,4 +46,6 @@ pub returns-in-Reply : goal.returns-in-Reply
 returns-in-Reply g c =
     let m = g.M.Cells in
     let h = Ends-reply m.can_touch m.touches m.can_perform m.performs c.loop.counter c.kind-kind.result c.loop.todo c.in-Reply.reply c.in-Reply.field-1 c.args.cells.now None _ c.loop-test.true c.in-Reply.is c.loop.invariant.0 in
-    look-answer (m.owned c.args.cells.now) (m.owned c.args.cells.now) c.args.call c.in-Reply.reply h.2.0 c.requires.look h.2.1 h.2.2
+    let none = rw c.in-Reply.is at c.loop.invariant.1 in
+    let ended = rw none at h in
+    look-answer (m.owned c.args.cells.now) (m.owned c.args.cells.now) c.args.call c.in-Reply.reply ended.1.0 c.requires.look ended.1.1 ended.1.2
