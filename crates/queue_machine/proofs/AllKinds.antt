@@ -1,5 +1,5 @@
 -- Every kind of queue that the machine has keeps the laws, and so every run of it conforms.
-use Rattle.std.proofs.Common.{ℕ, ◌≤◌, ◌≡◌, false, Some, List, [], ◌∷◌, ◌++◌, length, refl, arith, ◌∙◌, sym, ap}
+use Rattle.std.proofs.Common.{ℕ, ◌≤◌, ◌≡◌, false, List, [], ◌∷◌, ◌++◌, length, refl, arith, ◌∙◌, ap}
 use Rattle.queue_steps.specs.declared.model.Call.{Call}
 use Rattle.queue_steps.specs.declared.model.Call.TheVariants as call
 use Rattle.queue_steps.specs.declared.model.Reply.{Reply}
@@ -18,7 +18,8 @@ use Rattle.queue_machine.specs.Left.{left_of, opening_world, HasSlot}
 use Rattle.queue_machine.specs.Replays.{CanReplay, is_too_large}
 use Rattle.queue_machine.specs.Conforms.{HasNoBlocks}
 use Rattle.queue_machine.specs.declared.types.Peak.{Peak}
-use Rattle.queue_machine.specs.Machine.{event_of, CanHandle, played}
+use Rattle.queue_machine.specs.Machine.{event_of, CanHandle, Handles, Passes, Plays}
+use Rattle.queue_machine.specs.Peaks.{opening_peak, peaked}
 use Rattle.queue_machine.specs.World.{World}
 use Rattle.queue_machine.proofs.KindLaws.{KindLaws}
 use Rattle.queue_machine.proofs.SingleLeft.{single_laws}
@@ -61,52 +62,45 @@ can_start (kind.Bounded n) has call.Capacity = record { goes_on = has; replies =
 can_start kind.Unbounded has c = absurd has
 
 -- what is known after these events, of a queue of any kind
-pub record Known {T : Type 0} (k : Kind) (parties : ℕ) (past : List (Event T)) (w : World (Shared T) (Running T)) (replies : List (ℕ × ℕ × Reply T)) (effects : List (ℕ × ℕ × EffectKind)) (skipped : List ℕ) : Type 0 where
+pub record Known {T : Type 0} (k : Kind) (parties : ℕ) (past : List (Event T)) (w : World (Shared T) (Running T)) (replies : List (ℕ × ℕ × Reply T)) (effects : List (ℕ × ℕ × EffectKind)) (skipped : List ℕ) (peak : Peak) : Type 0 where
   pub has : HasMachine k
-  pub so_far : SoFar (laws_of T k has) parties past w replies effects skipped
+  pub so_far : SoFar (laws_of T k has) parties past w replies effects skipped peak
 
-pub known-first : {T : Type 0} (k : Kind) (parties : ℕ) → HasMachine k → Known {T = T} k parties [] (opening_world k parties) [] [] []
+pub known-first : {T : Type 0} (k : Kind) (parties : ℕ) → HasMachine k → Known {T = T} k parties [] (opening_world k parties) [] [] [] opening_peak
 known-first {T} k parties has = record { has = has; so_far = so_far-first (laws_of T k has) parties }
 
 -- any event can be handled
-pub known-can : {T : Type 0} (k : Kind) (parties : ℕ) (past : List (Event T)) (w : World (Shared T) (Running T)) (replies : List (ℕ × ℕ × Reply T)) (effects : List (ℕ × ℕ × EffectKind)) (skipped : List ℕ)
-    → Known k parties past w replies effects skipped → (e : Event T) → CanHandle k w e
-known-can {T} k parties past w replies effects skipped known (Begin p c) = can_start k known.has c
-known-can {T} k parties past w replies effects skipped known (Step p granted) = so_far-can (laws_of T k known.has) parties past w replies effects skipped known.so_far p
+pub known-can : {T : Type 0} (k : Kind) (parties : ℕ) (past : List (Event T)) (w : World (Shared T) (Running T)) (rs : List (ℕ × ℕ × Reply T)) (es : List (ℕ × ℕ × EffectKind)) (ss : List ℕ) (peak : Peak)
+    → Known k parties past w rs es ss peak → (e : Event T) → CanHandle k w e
+known-can {T} k parties past w rs es ss peak known (Begin p c) = can_start k known.has c
+known-can {T} k parties past w rs es ss peak known (Step p granted) = λ ok. so_far-can (laws_of T k known.has) parties past w rs es ss peak known.so_far ok p
 
 -- after one event more, as a loop finds it
-pub known-next : {T : Type 0} (k : Kind) (parties : ℕ) (past : List (Event T)) (w w' : World (Shared T) (Running T)) (rs rs' : List (ℕ × ℕ × Reply T)) (es es' : List (ℕ × ℕ × EffectKind)) (ss ss' : List ℕ) (e : Event T) (n p : ℕ) (t : Told T)
-    → Known k parties past w rs es ss → n ≡ length past → p ≡ party_of e → t ≡ (event_of k w e).1 → w' ≡ (event_of k w e).0
-    → rs' ≡ rs ++ reply_entry n p t → es' ≡ es ++ effect_entry n p t → ss' ≡ ss ++ skipped_entry n p t
-    → Known k parties (past ++ e ∷ []) w' rs' es' ss'
-known-next {T} k parties past w w' rs rs' es es' ss ss' e n p t known en ep et ew er ee es-is =
-    rw (ew, er, ee, es-is, en, ep, et) (record { has = known.has; so_far = so_far-more (laws_of T k known.has) parties past w rs es ss e known.so_far })
+pub known-next : {T : Type 0} (k : Kind) (parties : ℕ) (past : List (Event T)) (w w' : World (Shared T) (Running T)) (rs rs' : List (ℕ × ℕ × Reply T)) (es es' : List (ℕ × ℕ × EffectKind)) (ss ss' : List ℕ) (peak peak' : Peak) (e : Event T) (n p : ℕ) (t : Told T)
+    → Known k parties past w rs es ss peak → n ≡ length past → p ≡ party_of e → Handles k w e w' t
+    → rs' ≡ rs ++ reply_entry n p t → es' ≡ es ++ effect_entry n p t → ss' ≡ ss ++ skipped_entry n p t → peak' ≡ peaked w' peak
+    → Known k parties (past ++ e ∷ []) w' rs' es' ss' peak'
+known-next {T} k parties past w w' rs rs' es es' ss ss' peak peak' e n p t known en ep handles er ee es-is peak_is =
+    rw (er, ee, es-is, peak_is, en, ep, handles.world, handles.told_is) (record { has = known.has; so_far = so_far-more (laws_of T k known.has) parties past w rs es ss peak handles.ok e known.so_far })
 
 -- what is left is no more than the events
-pub known-room : {T : Type 0} (k : Kind) (parties : ℕ) (past : List (Event T)) (w : World (Shared T) (Running T)) (rs : List (ℕ × ℕ × Reply T)) (es : List (ℕ × ℕ × EffectKind)) (ss : List ℕ) → Known k parties past w rs es ss → length (left_of k w) ≤ length past
-known-room {T} k parties past w rs es ss known = so_far-room (laws_of T k known.has) parties past w rs es ss known.so_far
-
--- a queue that the machine has has a capacity
-capped : (k : Kind) → HasMachine k → (n : ℕ) × (capacity_of k ≡ Some n)
-capped kind.Single has = (1, refl)
-capped (kind.Bounded n) has = (n, refl)
-capped kind.Unbounded has = absurd has
+pub known-room : {T : Type 0} (k : Kind) (parties : ℕ) (past : List (Event T)) (w : World (Shared T) (Running T)) (rs : List (ℕ × ℕ × Reply T)) (es : List (ℕ × ℕ × EffectKind)) (ss : List ℕ) (peak : Peak) → Known k parties past w rs es ss peak → length (left_of k w) ≤ length past
+known-room {T} k parties past w rs es ss peak known = so_far-room (laws_of T k known.has) parties past w rs es ss peak known.so_far
 
 -- the whole run
 pub known-end : {T A : Type 0} (k : Kind) (parties : ℕ) (events : List (Event T)) (w : World (Shared T) (Running T)) (r : Replay T A)
-    → Known k parties events w r.replies.items r.effects.items r.skipped.items → r.left.items ≡ left_of k w → (r.peak.blocks ≡ 0) × (r.peak.bound ≡ 2) → Conforms (capacity_of k) parties events r
-known-end {T} k parties events w r known left peak = so_far-end (laws_of T k known.has) parties events w r known.so_far left (capped k known.has).0 (capped k known.has).1 peak.0 peak.1
+    → Known k parties events w r.replies.items r.effects.items r.skipped.items r.peak → r.left.items ≡ left_of k w → Conforms (capacity_of k) parties events r
+known-end {T} k parties events w r known left = so_far-end (laws_of T k known.has) parties events w r known.so_far left
+
+-- with a capacity no block was held
+pub known-none : {T : Type 0} (k : Kind) (parties : ℕ) (past : List (Event T)) (w : World (Shared T) (Running T)) (rs : List (ℕ × ℕ × Reply T)) (es : List (ℕ × ℕ × EffectKind)) (ss : List ℕ) (peak : Peak) → Known k parties past w rs es ss peak → HasNoBlocks (capacity_of k) peak
+known-none k parties past w rs es ss peak known = known.so_far.no_blocks
 
 -- the machine has the queue that `replay` is asked for
 pub has_machine : (k : Kind) → CanReplay k → is_too_large k ≡ false → HasMachine k
 has_machine kind.Single can small = tt
 has_machine (kind.Bounded n) can small = (can, ltb-false MAX_CAPACITY n small)
 has_machine kind.Unbounded can small = absurd can
-
-pub has_no_blocks : (k : Kind) (peak : Peak) → (peak.blocks ≡ 0) × (peak.bound ≡ 2) → HasNoBlocks (capacity_of k) peak
-has_no_blocks kind.Single peak h = h
-has_no_blocks (kind.Bounded n) peak h = h
-has_no_blocks kind.Unbounded peak h = tt
 
 pub has_slot : (k : Kind) → HasMachine k → HasSlot k
 has_slot kind.Single has = tt
@@ -118,24 +112,28 @@ pub record Standing {T : Type 0} (k : Kind) (parties : ℕ) (past : List (Event 
   pub replies : List (ℕ × ℕ × Reply T)
   pub effects : List (ℕ × ℕ × EffectKind)
   pub skipped : List ℕ
-  pub known : Known k parties past w replies effects skipped
-  pub world_is : w ≡ played k (opening_world k parties) past
+  pub peak : Peak
+  pub known : Known k parties past w replies effects skipped peak
+  pub plays : Plays k (opening_world k parties) past w
 
 pub standing-first : {T : Type 0} (k : Kind) (parties : ℕ) → HasMachine k → Standing {T = T} k parties [] (opening_world k parties)
-standing-first k parties has = record { replies = []; effects = []; skipped = []; known = known-first k parties has; world_is = refl }
+standing-first k parties has = record { replies = []; effects = []; skipped = []; peak = opening_peak; known = known-first k parties has; plays = refl }
 
 pub standing-can : {T : Type 0} (k : Kind) (parties : ℕ) (past : List (Event T)) (w : World (Shared T) (Running T)) → Standing k parties past w → (e : Event T) → CanHandle k w e
-standing-can k parties past w s e = known-can k parties past w s.replies s.effects s.skipped s.known e
+standing-can k parties past w s e = known-can k parties past w s.replies s.effects s.skipped s.peak s.known e
 
-played-more : {T : Type 0} (k : Kind) (w : World (Shared T) (Running T)) (es : List (Event T)) (e : Event T) → played k w (es ++ e ∷ []) ≡ (event_of k (played k w es) e).0
-played-more k w [] e = refl
-played-more k w (x ∷ es) e = played-more k (event_of k w x).0 es e
+Plays-more : {T : Type 0} (k : Kind) (w v last : World (Shared T) (Running T)) (es : List (Event T)) (e : Event T) → Plays k w es v → Passes k v e last → Plays k w (es ++ e ∷ []) last
+Plays-more k w v last [] e plays pass = (pass.0, pass.1 ∙ ap (λ z. (event_of k pass.0 z e).0) plays)
+Plays-more k w v last (x ∷ es) e plays pass = (plays.0, Plays-more k (event_of k plays.0 w x).0 v last es e plays.1 pass)
 
-pub standing-next : {T : Type 0} (k : Kind) (parties : ℕ) (past : List (Event T)) (w w' : World (Shared T) (Running T)) (e : Event T) → Standing k parties past w → w' ≡ (event_of k w e).0 → Standing k parties (past ++ e ∷ []) w'
-standing-next k parties past w w' e s is = record {
-  replies = s.replies ++ reply_entry (length past) (party_of e) (event_of k w e).1;
-  effects = s.effects ++ effect_entry (length past) (party_of e) (event_of k w e).1;
-  skipped = s.skipped ++ skipped_entry (length past) (party_of e) (event_of k w e).1;
-  known = known-next k parties past w w' s.replies _ s.effects _ s.skipped _ e (length past) (party_of e) (event_of k w e).1 s.known refl refl refl is refl refl refl;
-  world_is = is ∙ ap (λ z. (event_of k z e).0) s.world_is ∙ sym (played-more k (opening_world k parties) past e);
-}
+pub standing-next : {T : Type 0} (k : Kind) (parties : ℕ) (past : List (Event T)) (w w' : World (Shared T) (Running T)) (e : Event T) → Standing k parties past w → Passes k w e w' → Standing k parties (past ++ e ∷ []) w'
+standing-next k parties past w w' e s pass =
+    let t = (event_of k pass.0 w e).1 in
+    record {
+      replies = s.replies ++ reply_entry (length past) (party_of e) t;
+      effects = s.effects ++ effect_entry (length past) (party_of e) t;
+      skipped = s.skipped ++ skipped_entry (length past) (party_of e) t;
+      peak = peaked w' s.peak;
+      known = known-next k parties past w w' s.replies _ s.effects _ s.skipped _ s.peak (peaked w' s.peak) e (length past) (party_of e) t s.known refl refl (record { ok = pass.0; world = pass.1; told_is = refl }) refl refl refl refl;
+      plays = Plays-more k (opening_world k parties) w w' past e s.plays pass;
+    }

@@ -1,5 +1,5 @@
 -- The list that a chain of blocks holds: what its calls in progress have claimed is done first.
-use Rattle.std.specs.Prelude.{ℕ, zero, suc, ◌==◌, if◌then◌else◌, Option, Some, None, List, [], ◌∷◌, ◌++◌, bit_and}
+use Rattle.std.specs.Prelude.{ℕ, zero, suc, ◌==◌, if◌then◌else◌, Option, Some, None, List, [], ◌∷◌, ◌++◌, length, bit_and}
 use Rattle.std.specs.Option.{option_to_list}
 use Rattle.queue_steps.specs.ChainWords.{offset_of}
 use Rattle.queue_steps.specs.declared.steps.types.Local.{Local}
@@ -29,20 +29,20 @@ reached (touch.Put i) (Some b) v bs = put_item bs b i v
 reached (touch.Take i) (Some b) v bs = marked b i bs
 reached _ _ v bs = bs
 
--- the blocks once a call that stands here has done what it has claimed
-abbrev pub settled_at : {T : Type 0} → UnboundedLocal ℕ → Touch → Op ℕ → Option T → List (Option (Block T)) → List (Option (Block T))
-settled_at (chain.Laying p tail block fresh) t o v bs = laid tail block fresh v bs
-settled_at (chain.Opening p tail block fresh) t o v bs = laid tail block fresh v bs
-settled_at (chain.Chaining p tail block fresh) t o v bs = laid tail block fresh v bs
-settled_at (chain.Following head block) t o v bs = marked block (offset_of head) bs
-settled_at (chain.Peeking head block after) t o v bs = marked block (offset_of head) bs
-settled_at (chain.Passing head block more) t o v bs = marked block (offset_of head) bs
-settled_at (chain.Entering head block) t o v bs = marked block (offset_of head) bs
-settled_at (chain.Awaiting head block) t o v bs = marked block (offset_of head) bs
-settled_at _ t o v bs = reached t (block_touched o) v bs
+-- the blocks once a call that stands here has done what it has claimed; its next operation names a state of this block, if of any
+abbrev pub settled_at : {T : Type 0} → UnboundedLocal ℕ → Touch → Option ℕ → Option T → List (Option (Block T)) → List (Option (Block T))
+settled_at (chain.Laying p tail block fresh) t b v bs = laid tail block fresh v bs
+settled_at (chain.Opening p tail block fresh) t b v bs = laid tail block fresh v bs
+settled_at (chain.Chaining p tail block fresh) t b v bs = laid tail block fresh v bs
+settled_at (chain.Following head block) t b v bs = marked block (offset_of head) bs
+settled_at (chain.Peeking head block after) t b v bs = marked block (offset_of head) bs
+settled_at (chain.Passing head block more) t b v bs = marked block (offset_of head) bs
+settled_at (chain.Entering head block) t b v bs = marked block (offset_of head) bs
+settled_at (chain.Awaiting head block) t b v bs = marked block (offset_of head) bs
+settled_at _ t b v bs = reached t b v bs
 
 abbrev pub settled_by : {T : Type 0} → Local ℕ → Touch → Op ℕ → Option T → List (Option (Block T)) → List (Option (Block T))
-settled_by (local.Unbounded l) t o v bs = settled_at l t o v bs
+settled_by (local.Unbounded l) t o v bs = settled_at l t (block_touched o) v bs
 settled_by _ t o v bs = bs
 
 -- the blocks once every call in progress has done what it has claimed
@@ -70,8 +70,20 @@ abbrev pub unread : {T : Type 0} → List (Place T) → List T
 unread [] = []
 unread (p ∷ ps) = unread_in p ++ unread ps
 
+-- the items of this block, and the block behind it
+abbrev pub unread_at : {T : Type 0} → List (Option (Block T)) → Option ℕ → List T
+unread_at bs None = []
+unread_at bs (Some b) = unread (places_in (block_of bs b))
+
+abbrev pub behind_at : {T : Type 0} → List (Option (Block T)) → Option ℕ → Option ℕ
+behind_at bs None = None
+behind_at bs (Some b) = behind bs b
+
 -- the items of this block and of so many at most behind it, each block taken out
 abbrev pub chained : {T : Type 0} → ℕ → List (Option (Block T)) → Option ℕ → List T
 chained zero bs b = []
-chained (suc n) bs None = []
-chained (suc n) bs (Some b) = unread (places_in (block_of bs b)) ++ chained n (without (Some b) bs) (behind bs b)
+chained (suc n) bs b = unread_at bs b ++ chained n (without b bs) (behind_at bs b)
+
+-- the list that the blocks hold, with the items that are not yet written, and without those that are about to be read
+abbrev pub chain_left : {T : Type 0} → List (Option (Running T)) → Option ℕ → List (Option (Block T)) → List T
+chain_left calls front bs = chained (length bs) (settled_blocks calls bs) (settled_front calls front)

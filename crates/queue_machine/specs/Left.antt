@@ -1,5 +1,5 @@
 -- How a machine begins, and the list that it holds.
-use Rattle.std.specs.Prelude.{ℕ, zero, suc, ◌+◌, ◌-◌, ◌<◌, if◌then◌else◌, Option, Some, None, List, [], ◌∷◌, ◌++◌, length, slice_index_or, slice_set, replicate}
+use Rattle.std.specs.Prelude.{ℕ, zero, suc, ◌+◌, ◌-◌, ◌<◌, if◌then◌else◌, Option, Some, None, List, [], ◌∷◌, ◌++◌, slice_index_or, slice_set, replicate}
 use Rattle.std.specs.Option.{option_to_list}
 use Rattle.queue_steps.specs.SingleNext.{is_pushed}
 use Rattle.queue_steps.specs.Words.{position_of, slot_at}
@@ -10,7 +10,7 @@ use Rattle.queue_steps.specs.declared.steps.types.Touch.TheVariants as touch
 use Rattle.queue_machine.specs.declared.machine.Running.{Running}
 use Rattle.queue_machine.specs.World.{World}
 use Rattle.queue_machine.specs.Cells.{Shared}
-use Rattle.queue_machine.specs.ChainLeft.{settled_blocks, settled_front, chained}
+use Rattle.queue_machine.specs.ChainLeft.{chain_left}
 
 -- the numbers below n, in their order
 abbrev pub numbers_below : ℕ → List ℕ
@@ -68,5 +68,5 @@ listed_in kind.Unbounded lock head tail slots = []
 
 -- the list that a machine holds, with the items that are not yet written
 abbrev pub left_of : {T : Type 0} → Kind → World (Shared T) (Running T) → List T
-left_of kind.Unbounded w = chained (length w.shared.blocks) (settled_blocks w.calls w.shared.blocks) (settled_front w.calls w.shared.head_block)
+left_of kind.Unbounded w = chain_left w.calls w.shared.head_block w.shared.blocks
 left_of k w = listed_in k w.shared.lock w.shared.head w.shared.tail (settled w.calls w.shared.slots)

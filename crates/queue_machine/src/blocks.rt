@@ -1,5 +1,5 @@
 //! The blocks of an unbounded queue, as the machine has them.
-ghost use Rattle.std.specs.Prelude.{◌≡◌, ◌<◌, IfOk, IsSome, None, Some, length, replicate, slice_index_or, slice_set, vec_len, vec_capacity};
+ghost use Rattle.std.specs.Prelude.{◌≡◌, ◌<◌, IfOk, IsSome, None, Some, is_some, nat_lt, length, replicate, slice_index_or, slice_set, vec_len, vec_capacity};
 ghost use Rattle.queue_machine.specs.Blocks.{Block as Places, blank, fresh_block, block_of, place_count, state_of, item_of, behind, put_state, put_item, put_next};
 
 use queue_steps::sizes::BLOCK_SLOTS;
@@ -53,6 +53,20 @@ impl<T, A: Allocator> Block<T, A> {
         ensures { result ≡ self.now.next }
     {
         self.next
+    }
+
+    /// Its places, in their order.
+    pub fn into_places(self) -> Vec<Place<T>, A>
+        ensures { result.items ≡ self.places }
+    {
+        self.places
+    }
+
+    /// How many places it has.
+    fn len(&self) -> usize
+        ensures { result ≡ length self.now.places }
+    {
+        self.places.len()
     }
 
     /// Puts a block behind it.
@@ -163,5 +177,29 @@ pub(crate) fn set_next<T, A: Allocator>(
 {
     if let Some(block) = &mut blocks[block] {
         block.set_next(next);
+    }
+}
+
+/// Whether the block of this number is there.
+pub(crate) fn has_block<T, A: Allocator>(blocks: &Vec<Option<Block<T, A>>, A>, block: usize) -> bool
+    ensures { result ≡ is_some (block_of blocks.now.items block) }
+{
+    block < blocks.len() && blocks[block].is_some()
+}
+
+/// Whether the block of this number has this slot.
+pub(crate) fn has_slot<T, A: Allocator>(
+    blocks: &Vec<Option<Block<T, A>>, A>,
+    block: usize,
+    slot: usize,
+) -> bool
+    ensures { result ≡ nat_lt slot (place_count blocks.now.items block) }
+{
+    if block >= blocks.len() {
+        return false;
+    }
+    match &blocks[block] {
+        Some(block) => slot < block.len(),
+        None => false,
     }
 }

@@ -6,6 +6,7 @@ ghost use Rattle.queue_machine.specs.Cells.{shared_of};
 ghost use Rattle.queue_machine.specs.Left.{written, settled, gathered, listed_in, HasSlot, left_of};
 ghost use Rattle.queue_machine.specs.Machine.{world_of};
 
+use crate::chain_left;
 use crate::machine::{Cells, Machine, Running};
 use queue_steps::steps::{Kind, Touch};
 use std::alloc::Allocator;
@@ -119,9 +120,12 @@ pub(crate) fn left<T: Drop, A: Allocator>(machine: Machine<T, A>, left: Vec<T, A
         tail,
         stamps: _,
         slots,
-        head_block: _,
+        head_block,
         tail_block: _,
-        blocks: _,
+        blocks,
     } = cells;
-    list(kind, lock, head, tail, settle(calls, slots), left)
+    match kind {
+        Kind::Unbounded => chain_left::left(calls, head_block, blocks, left),
+        _ => list(kind, lock, head, tail, settle(calls, slots), left),
+    }
 }

@@ -2,9 +2,11 @@
 #![tactic(auto)]
 
 pub mod blocks;
+mod chain_left;
 pub mod laws;
 mod left;
 pub mod machine;
+mod peaks;
 mod run;
 pub mod types;
 pub mod words;

@@ -6,7 +6,8 @@ ghost use Rattle.queue_machine.specs.Replays.{CanReplay, is_too_large, IsRoomy};
 
 use crate::left::left;
 use crate::machine::Machine;
-use crate::types::{EffectKind, Event, Peak, Replay, Told};
+use crate::peaks;
+use crate::types::{EffectKind, Event, Replay, Told};
 use queue_steps::model::Reply;
 use queue_steps::sizes::MAX_CAPACITY;
 use queue_steps::steps::Kind;
@@ -105,11 +106,13 @@ pub fn replay<T: Drop, A: Allocator + Copy>(
     let mut lists = Lists::new(alloc, count)?;
     let room = Vec::with_capacity(alloc, count)?;
     let mut machine = Machine::new(alloc, kind, parties, count)?;
+    let mut peak = peaks::opening();
     let mut number = 0;
     for event in events {
         let party = party(&event);
         let told = machine.handle(alloc, event);
         lists.note(number, count, party, told);
+        peak = peaks::peak(&machine, peak);
         number += 1;
     }
     let Lists {
@@ -122,9 +125,6 @@ pub fn replay<T: Drop, A: Allocator + Copy>(
         effects,
         skipped,
         left: left(machine, room),
-        peak: Peak {
-            blocks: 0,
-            bound: 2,
-        },
+        peak,
     })
 }

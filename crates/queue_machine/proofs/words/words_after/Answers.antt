@@ -1,14 +1,18 @@
-use Rattle.std.proofs.Common.{◌≡◌, ◌∙◌, ap, sym}
+use Rattle.std.proofs.Common.{◌≡◌, ◌∙◌, arith, refl, ap, sym, subst, length}
 use Rattle.std.proofs.lemmas.List.{map-id}
 use Rattle.std.proofs.lemmas.Iterator.Adapters.{YieldsList-from_vec}
 use Rattle.std.proofs.lemmas.Iterator.Consumers.{YieldsList-end}
 use Rattle.queue_machine.specs.Left.{opening_world}
-use Rattle.queue_machine.specs.Machine.{world_of, played}
+use Rattle.queue_machine.specs.Machine.{world_of, Plays}
 use Rattle.queue_machine.proofs.AllKinds.{standing-first, standing-can, standing-next, has_machine}
 use Rattle.queue_machine.proofs.words.words_after.Goals as goal
 
-pub pass-requires : goal.pass-requires
-pass-requires g c =
+pub pass-requires-clause-room : goal.pass-requires-clause-room
+pass-requires-clause-room g c =
+    let more = ap length c.in-Some.ensures.steps.0 in omega (arith, more, c.loop-event.invariant.blocks)
+
+pub pass-requires-clause-can : goal.pass-requires-clause-can
+pass-requires-clause-can g c =
     rw c.loop-event.invariant.kind_is (standing-can c.args.kind c.args.parties c.loop-event.yielded (world_of c.loop-event.machine) c.loop-event.invariant.standing c.in-Some.event)
 
 pub loop-event-init : goal.loop-event-init
@@ -18,6 +22,7 @@ loop-event-init g c =
       finite = tt;
       standing = rw c.in_ok-machine.ensures.world (standing-first c.args.kind c.args.parties (has_machine c.args.kind c.requires (sym c.too_large.ensures ∙ c.if-too_large.false)));
       kind_is = c.in_ok-machine.ensures.kind;
+      blocks = let all = ap length c.into_iter-event-iterator.ensures.into_iter_gives.0 in omega (arith, all, c.in_ok-machine.ensures.room, c.len.ensures, c.args.events.ok.0);
     }
 
 pub loop-event-preserved : goal.loop-event-preserved
@@ -27,6 +32,7 @@ loop-event-preserved g c =
       finite = tt;
       standing = standing-next c.args.kind c.args.parties c.loop-event.yielded (world_of c.loop-event.machine) (world_of c.pass.new.machine) c.in-Some.event c.loop-event.invariant.standing (rw c.loop-event.invariant.kind_is at c.pass.ensures.world);
       kind_is = c.pass.ensures.kind ∙ c.loop-event.invariant.kind_is;
+      blocks = let more = ap length c.in-Some.ensures.steps.0 in omega (arith, more, c.loop-event.invariant.blocks, c.pass.ensures.room.0, c.pass.ensures.room.1);
     }
 
 pub returns-clause-words : goal.returns-clause-words
@@ -34,10 +40,9 @@ returns-clause-words g c =
     let it = c.into_iter-event-iterator.ensures.into_iter_gives in
     let t = YieldsList-end (YieldsList-from_vec c.args.events.items it.0 (it.1 ∙ c.args.events.ok.0)) c.loop-event.yielded c.loop-event.event-iterator c.loop-event.yielded_by c.next.result c.next.new.self c.in-None.is c.next.ensures.steps in
     let all : c.loop-event.yielded ≡ c.args.events.items = sym (map-id c.loop-event.yielded) ∙ t.0 in
-    let world : world_of c.loop-event.machine ≡ played c.args.kind (opening_world c.args.kind c.args.parties) c.args.events.items = c.loop-event.invariant.standing.world_is ∙ ap (played c.args.kind (opening_world c.args.kind c.args.parties)) all in
+    let plays : Plays c.args.kind (opening_world c.args.kind c.args.parties) c.args.events.items (world_of c.loop-event.machine) = subst (λ es. Plays c.args.kind (opening_world c.args.kind c.args.parties) es (world_of c.loop-event.machine)) all c.loop-event.invariant.standing.plays in
     record {
-      lock = ap (λ w. w.shared.lock) world;
-      head = ap (λ w. w.shared.head) world;
-      tail = ap (λ w. w.shared.tail) world;
-      stamps = ap (λ w. w.shared.stamps) world;
+      last = world_of c.loop-event.machine;
+      plays = plays;
+      words = record { lock = refl; head = refl; tail = refl; stamps = refl };
     }

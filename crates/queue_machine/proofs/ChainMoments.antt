@@ -1,0 +1,129 @@
+-- What a step of a call on a chain is in the book: its effects begin those of a reply, its effect moves the queue, and its reply is right at a moment.
+use Rattle.std.proofs.Common.{ℕ, suc, ◌≡◌, ◌==◌, inl, inr, Bool, true, false, if◌then◌else◌, Option, Some, None, Ok, Err, List, [], ◌∷◌, refl, sym, subst, arith}
+use Rattle.std.specs.List.{Any}
+use Rattle.queue_steps.specs.State.{State}
+use Rattle.queue_steps.specs.Words.{is_shut}
+use Rattle.queue_steps.specs.declared.model.Call.{Call}
+use Rattle.queue_steps.specs.declared.model.Reply.{Reply}
+use Rattle.queue_steps.specs.declared.model.Reply.TheVariants as reply
+use Rattle.queue_steps.specs.declared.model.Effect.{Effect}
+use Rattle.queue_steps.specs.declared.model.Effect.TheVariants as effect
+use Rattle.queue_steps.specs.declared.errors.PopError.TheVariants as pop
+use Rattle.queue_steps.specs.declared.errors.PushError.TheVariants as push
+use Rattle.queue_steps.specs.declared.errors.ForcePushError.TheVariants as force
+use Rattle.queue_steps.specs.declared.steps.types.Answer.{Answer}
+use Rattle.queue_steps.specs.declared.steps.types.Answer.TheVariants as answer
+use Rattle.queue_steps.specs.declared.steps.types.Kind.TheVariants as queue
+use Rattle.queue_steps.specs.declared.steps.types.Local.{Local}
+use Rattle.queue_steps.specs.declared.steps.types.Local.TheVariants as local
+use Rattle.queue_steps.specs.declared.steps.types.Op.{Op}
+use Rattle.queue_steps.specs.declared.steps.types.Touch.{Touch}
+use Rattle.queue_steps.specs.declared.steps.bounded.PushKind.{PushKind}
+use Rattle.queue_steps.specs.declared.steps.bounded.PushKind.TheVariants as kind
+use Rattle.queue_steps.specs.declared.steps.unbounded.UnboundedLocal.{UnboundedLocal}
+use Rattle.queue_steps.specs.declared.steps.unbounded.UnboundedLocal.TheVariants as chain
+use Rattle.chain_laws.proofs.ChainCells.{Chain, queue_of}
+use Rattle.chain_laws.proofs.ChainFacts.{SeenIn}
+use Rattle.chain_laws.proofs.ChainFacts as facts
+use Rattle.chain_laws.proofs.ChainAt.{pushes, At, push_tail, push_block, asking, installing, showing, claiming, laying, opening, chaining, writing, spending, pop_head, pop_block, pop_tail, taking, following, peeking, passing, entering, awaiting, reading, beginning, walking, destroying, len_tail, len_head, len_again, empty_head, empty_tail, closing, closed_tail}
+use Rattle.chain_laws.proofs.ChainGood as good
+use Rattle.chain_laws.proofs.ChainGood.{Makes, Whether, IsEffect, with_effect}
+use Rattle.queue_machine.specs.declared.types.EffectKind.{EffectKind}
+use Rattle.queue_machine.specs.declared.types.EffectKind.TheVariants as told
+use Rattle.queue_machine.specs.Book.{Open, Moves, MayMake, Allows, IsBegun, IsRefusal, kind_of, seen_by}
+use Rattle.queue_machine.specs.EffectOf.{effect_of}
+
+begun_push : {A : Type 0} (d : PushKind) (v : A) → IsBegun (pushes d v) [] × IsBegun (pushes d v) (effect.Append v ∷ [])
+begun_push kind.Push v = ((reply.Push (Ok tt), effect.Append v ∷ [], refl), (reply.Push (Ok tt), [], refl))
+begun_push kind.Force v = ((reply.ForcePush (Ok None), effect.Append v ∷ [], refl), (reply.ForcePush (Ok None), [], refl))
+
+-- the effects of a call in progress begin those of some reply
+pub chain_begun : {A : Type 0} {c : Chain A} {who : ℕ} {ms : List (State A)} {l : Local ℕ} {t : Touch} {o : Op ℕ} {v : Option A} {k : Call A} {es : List (Effect A)} → At c who ms l t o v k es → IsBegun k es
+chain_begun (push_tail d x spare none spare_is) = (begun_push d x).0
+chain_begun (push_block d x spare q none spare_is saw) = (begun_push d x).0
+chain_begun (asking d x q block none saw asked) = (begun_push d x).0
+chain_begun (installing d x f none saw fresh) = (begun_push d x).0
+chain_begun (showing d x name first saw is named) = (begun_push d x).0
+chain_begun (claiming d x q name spare none spare_is saw block enough) = (begun_push d x).0
+chain_begun (laying d x n name f holds mine lays fresh) = (begun_push d x).1
+chain_begun (opening d x n name f holds mine opens links named) = (begun_push d x).1
+chain_begun (chaining d x n name f holds mine links named) = (begun_push d x).1
+chain_begun (writing d x n name spare holds mine spare_is) = (begun_push d x).1
+chain_begun (spending d x spare none spare_is spent) = (begun_push d x).0
+chain_begun (pop_head none) = (reply.Pop (Err pop.Empty), [], refl)
+chain_begun (pop_block n more none is room) = (reply.Pop (Err pop.Empty), [], refl)
+chain_begun (pop_tail n block none is front) = (reply.Pop (Err pop.Empty), [], refl)
+chain_begun (taking n name next more new none is front there word_is room) = (reply.Pop (Err pop.Empty), [], refl)
+chain_begun (following x n name more holds got pass) = (reply.Pop (Ok x), [], refl)
+chain_begun (peeking x n name after more holds got pass behind) = (reply.Pop (Ok x), [], refl)
+chain_begun (passing x n name after more further holds got pass behind room) = (reply.Pop (Ok x), [], refl)
+chain_begun (entering x n name more further holds got enters room) = (reply.Pop (Ok x), [], refl)
+chain_begun (awaiting x n name more holds got) = (reply.Pop (Ok x), [], refl)
+chain_begun (reading x n name more holds got wrote inner) = (reply.Pop (Ok x), [], refl)
+chain_begun (beginning x n name more holds got wrote last) = (reply.Pop (Ok x), [], refl)
+chain_begun (walking x b name slot holds is named) = (reply.Pop (Ok x), [], refl)
+chain_begun (destroying x b name slot holds is named) = (reply.Pop (Ok x), [], refl)
+chain_begun (len_tail none) = (reply.Len 0, [], refl)
+chain_begun (len_head w none small low) = (reply.Len 0, [], refl)
+chain_begun (len_again w h none small seen) = (reply.Len 0, [], refl)
+chain_begun (empty_head none) = (reply.IsEmpty true, [], refl)
+chain_begun (empty_tail h none small saw) = (reply.IsEmpty true, [], refl)
+chain_begun (closing none) = (reply.Close true, effect.Close ∷ [], refl)
+chain_begun (closed_tail none) = (reply.IsClosed true, [], refl)
+
+-- the words of the chain's laws, and those of the book
+refusal : {A : Type 0} (y : Reply A) → good.IsRefusal y → IsRefusal y
+refusal (reply.Push (Err (push.NoMemory v))) e = tt
+refusal (reply.ForcePush (Err (force.NoMemory v))) e = tt
+refusal _ e = absurd e
+
+allowed : {A : Type 0} (k : Call A) (y : Reply A) (m : State A) → good.Allows k y m → Allows k y m
+allowed k y m (inl right) = inl right
+allowed k y m (inr none) = inr (refusal y none.0, none.1)
+
+pub allowed_in : {A : Type 0} (k : Call A) (y : Reply A) (ms : List (State A)) → SeenIn ms (good.Allows k y) → Any (Allows k y) ms
+allowed_in k y [] seen = absurd seen
+allowed_in k y (m ∷ ms) (inl p) = (0, m, omega arith, refl, allowed k y m p)
+allowed_in k y (m ∷ ms) (inr seen) = let a = allowed_in k y ms seen in (suc a.0, a.1, omega arith, a.3, a.4)
+
+pub same_moments : {A : Type 0} (q : State A) (ms : List (State A)) → facts.seen_by q ms ≡ seen_by q ms
+same_moments q [] = refl
+same_moments q (m ∷ ms) = refl
+
+-- a step without effect leaves the queue
+no_move : {A : Type 0} (Q : State A) (c s : Chain A) (o : Open A) (e : Option (Effect A)) → Q ≡ queue_of c → e ≡ None → Makes c s e → Moves Q o None (queue_of s) (with_effect o.effects e)
+no_move {A} Q c s o e is none = subst (λ x. Makes c s x → Moves Q o None (queue_of s) (with_effect o.effects x)) (sym none) (λ same. (rw is same, refl))
+
+-- a step with this effect moves it
+moved : {A : Type 0} (Q : State A) (c s : Chain A) (o : Open A) (e : Option (Effect A)) (x : Effect A) (k : EffectKind) → Q ≡ queue_of c → e ≡ Some x → kind_of x ≡ k → MayMake k o → Makes c s e
+    → Moves Q o (Some k) (queue_of s) (with_effect o.effects e)
+moved {A} Q c s o e x k is some kind_is may = subst (λ y. Makes c s y → Moves Q o (Some k) (queue_of s) (with_effect o.effects y)) (sym some) (λ makes. rw is (x, kind_is, may, makes.0, makes.1, refl))
+
+-- the exchange that wins has an effect, and a mark has one where there was none
+won : {A : Type 0} (Q : State A) (c s : Chain A) (o : Open A) (e : Option (Effect A)) (k : EffectKind) (b : Bool) → Q ≡ queue_of c → MayMake k o → Whether b ((x : Effect A) × (e ≡ Some x) × (kind_of x ≡ k)) (e ≡ None) → Makes c s e
+    → Moves Q o (if b then Some k else None) (queue_of s) (with_effect o.effects e)
+won Q c s o e k true is may h makes = moved Q c s o e h.0 k is h.1 h.2 may makes
+won Q c s o e k false is may h makes = no_move Q c s o e is h makes
+
+marked : {A : Type 0} (Q : State A) (c s : Chain A) (o : Open A) (e : Option (Effect A)) (x : Effect A) (k : EffectKind) (b : Bool) → Q ≡ queue_of c → kind_of x ≡ k → MayMake k o → Whether b (e ≡ None) (e ≡ Some x) → Makes c s e
+    → Moves Q o (if b then None else Some k) (queue_of s) (with_effect o.effects e)
+marked Q c s o e x k true is kind_is may h makes = no_move Q c s o e is h makes
+marked Q c s o e x k false is kind_is may h makes = moved Q c s o e x k is h kind_is may makes
+
+appends : {A : Type 0} (b : Bool) (e : Option (Effect A)) → Whether b ((v : A) × (e ≡ Some (effect.Append v))) (e ≡ None) → Whether b ((x : Effect A) × (e ≡ Some x) × (kind_of x ≡ told.Append)) (e ≡ None)
+appends true e h = (effect.Append h.0, h.1, refl)
+appends false e h = h
+
+takes : {A : Type 0} (b : Bool) (e : Option (Effect A)) → Whether b ((v : A) × (e ≡ Some (effect.Take v))) (e ≡ None) → Whether b ((x : Effect A) × (e ≡ Some x) × (kind_of x ≡ told.Take)) (e ≡ None)
+takes true e h = (effect.Take h.0, h.1, refl)
+takes false e h = h
+
+-- the effect that is told of a step moves the queue
+pub chain_moves : {A : Type 0} (Q : State A) (c s : Chain A) (o : Open A) (l : UnboundedLocal ℕ) (a : Answer ℕ) (e : Option (Effect A)) → Q ≡ queue_of c → IsEffect l a e → Makes c s e
+    → Moves Q o (effect_of queue.Unbounded (local.Unbounded l) a) (queue_of s) (with_effect o.effects e)
+chain_moves Q c s o (chain.Claiming d tail name spare) (answer.Found found) e is h makes = won Q c s o e told.Append (found == tail) is tt (appends (found == tail) e h) makes
+chain_moves Q c s o (chain.Spending d spare) (answer.Found found) e is h makes = marked Q c s o e effect.SelfClose told.SelfClose (is_shut found) is refl tt h makes
+chain_moves Q c s o (chain.Taking head name) (answer.Found found) e is h makes = won Q c s o e told.Take (found == head) is tt (takes (found == head) e h) makes
+chain_moves Q c s o chain.Closing (answer.Found found) e is h makes = marked Q c s o e effect.Close told.Close (is_shut found) is refl tt h makes
+chain_moves Q c s o _ (answer.Found found) e is h makes = no_move Q c s o e is h makes
+chain_moves Q c s o _ _ e is h makes = no_move Q c s o e is h makes

@@ -1,0 +1,75 @@
+//! How many blocks a run held at most.
+ghost use Rattle.std.specs.Prelude.{◌≡◌, ◌<◌, ◌^◌};
+ghost use Rattle.queue_steps.specs.Words.{position_of};
+ghost use Rattle.queue_steps.specs.ChainWords.{items_before};
+ghost use Rattle.queue_machine.specs.Cells.{shared_of};
+ghost use Rattle.queue_machine.specs.Machine.{world_of};
+ghost use Rattle.queue_machine.specs.Peaks.{held, bound_of, opening_peak, peaked};
+ghost use Rattle.queue_machine.specs.Present.{present};
+
+use crate::machine::{Cells, Machine};
+use crate::types::Peak;
+use queue_steps::sizes::{BLOCK_POSITIONS, BLOCK_SLOTS};
+use std::alloc::Allocator;
+
+/// How many of these are there.
+fn present<X, A: Allocator>(places: &Vec<Option<X>, A>) -> usize
+    ensures count { result ≡ present places.now.items }
+    ensures few { result < 2 ^ 63 }
+{
+    let mut count = 0;
+    for place in 0..places.len() {
+        if places[place].is_some() {
+            count += 1;
+        }
+    }
+    count
+}
+
+/// How many items stand before a word's position.
+fn items(word: u64) -> u64
+    ensures { result ≡ items_before (position_of word) }
+{
+    let position = word / 2;
+    position / BLOCK_POSITIONS * BLOCK_SLOTS + position % BLOCK_POSITIONS
+}
+
+/// How many items a chain holds.
+fn held<T, A: Allocator>(cells: &Cells<T, A>) -> u64
+    ensures { result ≡ held (shared_of cells.now) }
+{
+    items(cells.tail).saturating_sub(items(cells.head))
+}
+
+/// The bound on the blocks of a chain.
+fn bound<T: Drop, A: Allocator>(machine: &Machine<T, A>) -> usize
+    ensures { result ≡ bound_of (world_of machine.now) }
+{
+    let filled = held(&machine.cells) / BLOCK_SLOTS;
+    filled as usize + 2 + present(&machine.calls)
+}
+
+/// Before the first event there is no block.
+pub(crate) fn opening() -> Peak
+    ensures { result ≡ opening_peak }
+{
+    Peak {
+        blocks: 0,
+        bound: 2,
+    }
+}
+
+/// The greatest number of blocks so far, and the bound at the first moment that had so many.
+pub(crate) fn peak<T: Drop, A: Allocator>(machine: &Machine<T, A>, peak: Peak) -> Peak
+    ensures { result ≡ peaked (world_of machine.now) peak }
+{
+    let blocks = present(&machine.cells.blocks);
+    if peak.blocks < blocks {
+        Peak {
+            blocks,
+            bound: bound(machine),
+        }
+    } else {
+        peak
+    }
+}
