@@ -169,8 +169,8 @@ reads_alone g who n x name more holds got =
 pub reads_and_passes : {A : Type 0} (g : Chain A) (who n : ℕ) (x : A) (name : ℕ) (more : Bool) → Holds g who (Either (Read n) Head) → Got g who n x name → g.head ≡ n + 1 → DeedIs g who (Reads name (offset_of (head_of n more))) (λ x. x)
 reads_and_passes g who n x name more holds got at =
     reads_it g who n (offset_of (head_of n more)) x name (Either (Read n) Head) holds got (head_offset n more)
-        (λ m z. elim z [ inl e ↦ cc | inr e ↦ cc ]) (λ m z. elim z [ inl e ↦ cc | inr e ↦ absurd (cc) ]) (λ b z. elim z [ inl e ↦ cc | inr e ↦ cc ]) (λ z. elim z [ inl e ↦ cc | inr e ↦ cc ]) (λ z. elim z [ inl e ↦ cc | inr e ↦ cc ])
-        (λ e. ap g.readers (let z : g.head - 1 ≡ n = omega arith in z) ∙ got.mine)
+    (λ m z. elim z [ inl e ↦ cc | inr e ↦ cc ]) (λ m z. elim z [ inl e ↦ cc | inr e ↦ absurd (cc) ]) (λ b z. elim z [ inl e ↦ cc | inr e ↦ cc ]) (λ z. elim z [ inl e ↦ cc | inr e ↦ cc ]) (λ z. elim z [ inl e ↦ cc | inr e ↦ cc ])
+    (λ e. ap g.readers (let z : g.head - 1 ≡ n = omega arith in z) ∙ got.mine)
 
 -- a party that writes this item
 pub writes_it : {A : Type 0} (g : Chain A) (who n : ℕ) (v : A) (name : ℕ) → Holds g who (Only (Write n)) → Claimed g who n v name → DeedIs g who (Puts name (offset_of (open_tail_of n)) (Some v)) (λ x. x)

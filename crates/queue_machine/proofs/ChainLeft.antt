@@ -118,10 +118,10 @@ not_over {A} g calls b ok each low over = let before = unwalked g b ok (unread g
     unread (Entering who) e h = let at = h.0 in inside (omega arith)
     unread (Passing who) e h = elim (eqb_tells b g.front) [
       | inl t ↦
-        let c = in_call g calls each who Head (ap passer_of e) in
-        let mine = (deed_at g calls ok each who c.0 c.1).passes e in
-        let at : item_at b LAST ≡ g.head - 1 = (let same = t.1 in omega arith) in
-        λ read. let z : Reading who ≡ Done = sym mine ∙ (ap g.readers (sym at) ∙ read) in cc
+          let c = in_call g calls each who Head (ap passer_of e) in
+          let mine = (deed_at g calls ok each who c.0 c.1).passes e in
+          let at : item_at b LAST ≡ g.head - 1 = (let same = t.1 in omega arith) in
+          λ read. let z : Reading who ≡ Done = sym mine ∙ (ap g.readers (sym at) ∙ read) in cc
       | inr t ↦ inside (let ne = t.1 in omega arith)
     ]
 
@@ -148,9 +148,9 @@ blocks_few s Q g holds =
         elim (nat_lt (g.names b) (length s.blocks)) as (λ t. nat_lt (g.names b) (length s.blocks) ≡ t → g.names b < length s.blocks) [
           | true ↦ λ is. ltb-true (g.names b) (length s.blocks) is
           | false ↦ λ is.
-            let past = holds.codes.unused (g.names b) (ltb-false (g.names b) (length s.blocks) is) in
-            let z : Chained b ≡ Unused = sym (holds.ok.name b lt) ∙ past in
-            cc
+              let past = holds.codes.unused (g.names b) (ltb-false (g.names b) (length s.blocks) is) in
+              let z : Chained b ≡ Unused = sym (holds.ok.name b lt) ∙ past in
+              cc
         ] refl
 
 -- the walk from the poppers' block on
