@@ -32,10 +32,7 @@ use Rattle.queue_machine.specs.declared.types.EffectKind.{EffectKind}
 use Rattle.queue_machine.specs.declared.types.EffectKind.TheVariants as told
 use Rattle.queue_machine.specs.Book.{Open, Moves, MayMake, Allows, IsBegun, IsRefusal, kind_of, seen_by}
 use Rattle.queue_machine.specs.EffectOf.{effect_of}
-
-begun_push : {A : Type 0} (d : PushKind) (v : A) → IsBegun (pushes d v) [] × IsBegun (pushes d v) (effect.Append v ∷ [])
-begun_push kind.Push v = ((reply.Push (Ok tt), effect.Append v ∷ [], refl), (reply.Push (Ok tt), [], refl))
-begun_push kind.Force v = ((reply.ForcePush (Ok None), effect.Append v ∷ [], refl), (reply.ForcePush (Ok None), [], refl))
+use Rattle.queue_machine.proofs.RingAt.{begun_push}
 
 -- the effects of a call in progress begin those of some reply
 pub chain_begun : {A : Type 0} {c : Chain A} {who : ℕ} {ms : List (State A)} {l : Local ℕ} {t : Touch} {o : Op ℕ} {v : Option A} {k : Call A} {es : List (Effect A)} → At c who ms l t o v k es → IsBegun k es
@@ -81,10 +78,14 @@ allowed : {A : Type 0} (k : Call A) (y : Reply A) (m : State A) → good.Allows 
 allowed k y m (inl right) = inl right
 allowed k y m (inr none) = inr (refusal y none.0, none.1)
 
+-- what was so at some moment is so at one of them
+pub any_in : {A : Type 0} (ms : List (State A)) (P R : State A → Type 0) → ((m : State A) → P m → R m) → SeenIn ms P → Any R ms
+any_in [] P R f seen = absurd seen
+any_in (m ∷ ms) P R f (inl p) = (0, m, omega arith, refl, f m p)
+any_in (m ∷ ms) P R f (inr seen) = let a = any_in ms P R f seen in (suc a.0, a.1, omega arith, a.3, a.4)
+
 pub allowed_in : {A : Type 0} (k : Call A) (y : Reply A) (ms : List (State A)) → SeenIn ms (good.Allows k y) → Any (Allows k y) ms
-allowed_in k y [] seen = absurd seen
-allowed_in k y (m ∷ ms) (inl p) = (0, m, omega arith, refl, allowed k y m p)
-allowed_in k y (m ∷ ms) (inr seen) = let a = allowed_in k y ms seen in (suc a.0, a.1, omega arith, a.3, a.4)
+allowed_in k y ms seen = any_in ms (good.Allows k y) (Allows k y) (λ m right. allowed k y m right) seen
 
 pub same_moments : {A : Type 0} (q : State A) (ms : List (State A)) → facts.seen_by q ms ≡ seen_by q ms
 same_moments q [] = refl
