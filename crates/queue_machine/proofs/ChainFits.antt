@@ -27,7 +27,8 @@ use Rattle.queue_machine.specs.Book.{Open, after_own, begun, is_prompt, joined, 
 use Rattle.queue_machine.specs.Cells.{Shared, CanStep, step_of, start_of, running_after, reply_after}
 use Rattle.queue_machine.proofs.Engine as engine
 use Rattle.queue_machine.proofs.FewSteps.{FewSteps, few_begun, few_joined, few_watched, few_own, few_stays, prompt_kind}
-use Rattle.queue_machine.proofs.ChainMoments.{chain_begun, allowed_in, same_moments}
+use Rattle.queue_machine.proofs.ChainMoments.{chain_begun, allowed_in}
+use Rattle.queue_machine.proofs.Moments.{same_moments}
 
 -- a party between calls holds no part and has no spare
 abbrev pub ChainIdle : {A : Type 0} → Chain A → ℕ → Type 0

@@ -1,5 +1,6 @@
 pub mod Busy
 pub mod FewSteps
+pub mod Moments
 pub mod Engine
 pub mod KindLaws
 pub mod Counted

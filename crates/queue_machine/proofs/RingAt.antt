@@ -23,6 +23,7 @@ use Rattle.queue_steps.specs.declared.steps.bounded.BoundedLocal.TheVariants as 
 use Rattle.chain_laws.proofs.ChainAt.{pushes}
 use Rattle.chain_laws.proofs.ChainFacts.{SeenIn, HeadWas, seen_by}
 use Rattle.queue_machine.specs.Book.{IsBegun}
+use Rattle.queue_machine.proofs.Moments.{begun_push}
 use Rattle.queue_machine.proofs.RingCells.{Written, Read, Coming, Swapped, Ring, queue_of, RingOk, HoldsNone, HoldsOne}
 use Rattle.queue_machine.proofs.RingPasses.{Passes, none_stays, one_stays, FreeAt, free_stays, FullAt, full_stays, TailWas, SawEmpty, SawFull, tail_was_stays, head_was_stays, saw_empty_stays, saw_full_stays, tail_grows, head_grows}
 
@@ -134,10 +135,6 @@ at_stays {cap = cap} {who = who} {other = other} {ms = ms} ok ok' ne pass (full_
     full_head t (none_stays who other ne pass none) (saw_full_stays cap who (position_of t) ms ok ok' pass saw)
 at_stays {who = who} {other = other} ok ok' ne pass (closing none) = closing (none_stays who other ne pass none)
 at_stays {who = who} {other = other} ok ok' ne pass (closed_tail none) = closed_tail (none_stays who other ne pass none)
-
-pub begun_push : {A : Type 0} (d : PushKind) (v : A) → IsBegun (pushes d v) [] × IsBegun (pushes d v) (effect.Append v ∷ [])
-begun_push kind.Push v = ((reply.Push (Ok tt), effect.Append v ∷ [], refl), (reply.Push (Ok tt), [], refl))
-begun_push kind.Force v = ((reply.ForcePush (Ok None), effect.Append v ∷ [], refl), (reply.ForcePush (Ok None), [], refl))
 
 -- the effects of a call in progress begin those of some reply
 pub at_begun : {A : Type 0} {cap : ℕ} {r : Ring A} {who : ℕ} {ms : List (State A)} {was : Bool} {l : Local ℕ} {t : Touch} {o : Op ℕ} {v : Option A} {k : Call A} {es : List (Effect A)}

@@ -1,8 +1,5 @@
 -- A ring keeps the laws of the engine.
-use Rattle.std.proofs.Common.{ℕ, ◌+◌, ◌<◌, ◌≤◌, ◌≡◌, ◌≢◌, ◌==◌, ◌||◌, not, ◌∙◌, inl, inr, suc, Bool, true, false, if◌then◌else◌, Option, Some, None, List, [], ◌∷◌, refl, sym, ap, subst, arith}
-use Rattle.std.specs.List.{Any}
-use Rattle.std.proofs.lemmas.Bool.Decides.{eqb_tells}
-use Rattle.queue_steps.specs.declared.sizes.TheConstants.{LONE_STEPS}
+use Rattle.std.proofs.Common.{ℕ, ◌+◌, ◌<◌, ◌≤◌, ◌≡◌, ◌≢◌, ◌==◌, ◌||◌, not, ◌∙◌, inl, Bool, true, false, Option, Some, None, List, [], ◌∷◌, refl, sym, ap, subst, arith}
 use Rattle.queue_steps.specs.State.{State}
 use Rattle.queue_steps.specs.Replies.{IsRightAt}
 use Rattle.queue_steps.specs.Words.{position_of, tail_of}
@@ -20,7 +17,6 @@ use Rattle.queue_steps.specs.declared.steps.types.Touch.{Touch}
 use Rattle.queue_steps.specs.declared.steps.bounded.PushKind.TheVariants as kind
 use Rattle.queue_steps.specs.declared.steps.bounded.BoundedLocal.TheVariants as ring
 use Rattle.chain_laws.proofs.ChainAt.{pushes}
-use Rattle.chain_laws.proofs.ChainFacts.{SeenIn}
 use Rattle.queue_machine.specs.declared.types.EffectKind.{EffectKind}
 use Rattle.queue_machine.specs.declared.types.EffectKind.TheVariants as effect
 use Rattle.queue_machine.specs.declared.machine.Running.{Running}
@@ -28,7 +24,7 @@ use Rattle.queue_machine.specs.Book.{Open, Moves, MayMake, Allows, after_own, be
 use Rattle.queue_machine.specs.Cells.{Shared, CanStep, CanReply, step_of, start_of, next_after, carried_then, running_after, reply_after, after_operation}
 use Rattle.chain_laws.proofs.ChainRanks.{either_some}
 use Rattle.queue_machine.proofs.Engine as engine
-use Rattle.queue_machine.proofs.ChainMoments.{any_in, same_moments}
+use Rattle.queue_machine.proofs.Moments.{any_in, same_moments}
 use Rattle.queue_machine.proofs.FewSteps.{FewSteps, few_begun, few_joined, few_watched, few_own, few_stays}
 use Rattle.queue_machine.proofs.KindLaws.{LawsOf}
 use Rattle.queue_machine.proofs.RingCells.{Ring, queue_of, RingOk, HoldsNone}
@@ -37,7 +33,7 @@ use Rattle.queue_machine.proofs.RingWords.{Codes, codes_blocks}
 use Rattle.queue_machine.proofs.Plain.{IsPlain, plain-can, plain-step, plain-blocks}
 use Rattle.queue_machine.specs.World.{Made}
 use Rattle.queue_machine.proofs.RingAt.{At, at_stays, at_begun, push_tail, push_stamp, claiming, filling, push_head, displacing, arriving, swapping, spending, pop_head, pop_stamp, taking, emptying, pop_tail, len_tail, len_head, len_again, empty_head, empty_tail, full_tail, full_head, closing, closed_tail}
-use Rattle.queue_machine.proofs.RingGood.{rank, rank_small, longest, IsQuiet, IsCalm, Goes, MayFront, Makes, with_effect, Good, running, not_prompt}
+use Rattle.queue_machine.proofs.RingGood.{rank, rank_small, longest, IsQuiet, Goes, MayFront, Makes, with_effect, Good, running, not_prompt}
 use Rattle.queue_machine.proofs.RingPush.{good_push_tail, good_push_stamp}
 use Rattle.queue_machine.proofs.RingClaim.{good_claiming, good_filling, good_push_head, good_spending}
 use Rattle.queue_machine.proofs.RingForce.{good_displacing, good_arriving, good_swapping}

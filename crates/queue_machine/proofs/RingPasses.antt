@@ -1,5 +1,5 @@
 -- What one party's step leaves of a ring for the others: counts that grow, and slots that stay.
-use Rattle.std.proofs.Common.{ℕ, ◌+◌, ◌%◌, ◌<◌, ◌≤◌, ◌≡◌, ◌≢◌, ◌∙◌, ◌⊎◌, inl, inr, false, Some, None, List, [], ◌∷◌, length, refl, sym, ap, arith}
+use Rattle.std.proofs.Common.{ℕ, ◌+◌, ◌%◌, ◌<◌, ◌≤◌, ◌≡◌, ◌≢◌, ◌∙◌, ◌⊎◌, inl, inr, false, Some, None, List, length, refl, sym, ap, arith}
 use Rattle.queue_steps.specs.State.{State}
 use Rattle.chain_laws.proofs.ChainFacts.{SeenIn, IsStarted, seen_by, seen_map, seen_later, seen_now, started_later, HeadWas, HasItems}
 use Rattle.queue_machine.proofs.RingCells.{Cell, Free, Written, Full, Read, Coming, Swapped, Ring, queue_of, RingOk, put, put_ok, put_owned, held_stays, owner, HoldsNone, HoldsOne}
