@@ -12,7 +12,7 @@ use Rattle.queue_steps.specs.declared.steps.types.Op.TheVariants as op
 use Rattle.queue_steps.specs.declared.steps.types.Word.TheVariants as word
 use Rattle.queue_steps.specs.declared.steps.unbounded.TheConstants.{WRITE, READ, DESTROY}
 use Rattle.chain_laws.proofs.ChainPlaces.{place}
-use Rattle.chain_laws.proofs.ChainCells.{Writer, Wrote, Reader, Done, Mover, Rests, Laying, Opening, Passer, Stands, Passing, Entering, Link, Linked, Shown, Seen, Walk, Waits, Unused, Chain, BlocksOk, FrontOk, ChainOk, item_at}
+use Rattle.chain_laws.proofs.ChainCells.{Writer, Wrote, Reader, Unread, Reading, Done, Mover, Rests, Laying, Opening, Passer, Stands, Passing, Entering, Link, Linked, Shown, Seen, Walk, Waits, Unused, Chain, BlocksOk, FrontOk, ChainOk, item_at}
 use Rattle.chain_laws.proofs.ChainFacts.{head_of, open_tail_of, HeadIs, TailIs, IsNamed}
 
 -- the positions of the tail and of the head: while a call moves it on, it is that without a slot
@@ -50,6 +50,11 @@ is_wrote _ = false
 abbrev pub is_done : Reader → Bool
 is_done Done = true
 is_done _ = false
+
+pub done_is : (r : Reader) → is_done r ≡ true → r ≡ Done
+done_is Unread e = cc
+done_is (Reading p) e = cc
+done_is Done e = refl
 
 abbrev pub waits_at : Walk → ℕ → Bool
 waits_at (Waits s) slot = s == slot

@@ -11,11 +11,11 @@ use Rattle.chain_laws.proofs.ChainAfter.{if_begun}
 use Rattle.chain_laws.proofs.ChainHolds.{after_read_on}
 use Rattle.chain_laws.proofs.ChainFacts.{Got}
 use Rattle.std.proofs.Common.{ℕ, ◌/◌, ◌≡◌, ◌≢◌, not, ◌∙◌, Bool, true, false, if◌then◌else◌, Some, None, List, [], ◌∷◌, refl, sym, ap, arith}
-use Rattle.chain_laws.proofs.ChainCells.{Wrote, Reader, Reading, Done, Walk, Before, Walker, Waits, GivenUp, Chain, queue_of, WalkOk, IsWalked, item_at, LAST, ChainOk, put, put_ok, put_same, Read, walker_of, Holds}
+use Rattle.chain_laws.proofs.ChainCells.{Wrote, Reading, Done, Walk, Before, Walker, Waits, GivenUp, Chain, queue_of, WalkOk, IsWalked, item_at, LAST, ChainOk, put, put_ok, put_same, Read, walker_of, Holds}
 use Rattle.chain_laws.proofs.ChainReads as moves
 use Rattle.chain_laws.proofs.ChainReads.{read_ok, walk_after, walk_after_ok}
 use Rattle.chain_laws.proofs.ChainAt.{Only, IsLast, destroying}
-use Rattle.chain_laws.proofs.ChainAnswers.{IsState, is_done}
+use Rattle.chain_laws.proofs.ChainAnswers.{done_is, IsState, is_done}
 use Rattle.chain_laws.proofs.ChainWalk.{after_mine, on_goes}
 
 -- W1 at the first slot, with the take of the last one
@@ -35,10 +35,6 @@ good_beginning {A} c who ms x n name st ok holds got wrote last state = go (is_d
 
     walked_none : IsWalked (put c.readers n Done) (n / BLOCK_SLOTS) 0
     walked_none = (ap (put c.readers n Done) item ∙ put_same c.readers n Done, λ j lt. absurd (omega arith))
-
-    done_is : (r : Reader) → is_done r ≡ true → r ≡ Done
-    done_is Done e = refl
-    done_is _ e = cc
 
     go : (t : Bool) → is_done (c.readers (item_at (n / BLOCK_SLOTS) 0)) ≡ t → Good c (moves.reads c n (if t then walk_after who 0 else Walker who 0)) who ms (chain.Walking name 0) (Some x) call.Pop (effect.Take x ∷ []) (answer.Found st)
     go true t =

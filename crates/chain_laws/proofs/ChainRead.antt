@@ -50,7 +50,7 @@ good_awaiting {A} c who ms x n name more st ok holds got state = go (is_wrote (c
     go false t = still c who ms (chain.Awaiting (head_of n more) name) None call.Pop (effect.Take x ∷ []) (answer.Found st) refl ok tt (rw (written ∙ ap not t) (awaiting x n name more holds got))
     go true t = still c who ms (chain.Awaiting (head_of n more) name) None call.Pop (effect.Take x ∷ []) (answer.Found st) refl ok tt (last t (eqb_tells (offset_of (head_of n more) + 1) BLOCK_SLOTS))
 
-waits_is : (w : Walk) (slot : ℕ) → waits_at w slot ≡ true → w ≡ Waits slot
+pub waits_is : (w : Walk) (slot : ℕ) → waits_at w slot ≡ true → w ≡ Waits slot
 waits_is Before slot e = cc
 waits_is (Walker p i) slot e = cc
 waits_is GivenUp slot e = cc

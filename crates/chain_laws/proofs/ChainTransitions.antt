@@ -17,20 +17,24 @@ last_is [] y (suc k) e = absurd (omega arith)
 last_is (x ∷ xs) y zero e = absurd (omega arith)
 last_is (x ∷ xs) y (suc k) e = last_is xs y k (omega arith)
 
--- the place of the next item is free
-fresh_item : {A : Type 0} (head tail : ℕ) (items : List A) (w : Writer A) (r : Reader) → head ≤ tail → ItemOk head tail items tail w r → (w ≡ Free) × (r ≡ Unread)
-fresh_item head tail items Free Unread low ok = (refl, refl)
-fresh_item head tail items (Writing who v) Unread low ok = absurd (let lt = ok.1 in omega arith)
-fresh_item head tail items (Wrote v) Unread low ok = absurd (let lt = ok.1 in omega arith)
-fresh_item head tail items (Writing who v) (Reading p) low ok = absurd (omega arith)
-fresh_item head tail items (Wrote v) (Reading p) low ok = absurd (omega arith)
-fresh_item head tail items (Wrote v) Done low ok = absurd (omega arith)
-fresh_item head tail items Free (Reading p) low ok = absurd ok
-fresh_item head tail items Free Done low ok = absurd ok
-fresh_item head tail items (Writing who v) Done low ok = absurd ok
+-- the places of items beyond the tail are free
+fresh_item : {A : Type 0} (head tail : ℕ) (items : List A) (n : ℕ) (w : Writer A) (r : Reader) → head ≤ tail → tail ≤ n → ItemOk head tail items n w r → (w ≡ Free) × (r ≡ Unread)
+fresh_item head tail items n Free Unread low high ok = (refl, refl)
+fresh_item head tail items n (Writing who v) Unread low high ok = absurd (let lt = ok.1 in omega arith)
+fresh_item head tail items n (Wrote v) Unread low high ok = absurd (let lt = ok.1 in omega arith)
+fresh_item head tail items n (Writing who v) (Reading p) low high ok = absurd (omega arith)
+fresh_item head tail items n (Wrote v) (Reading p) low high ok = absurd (omega arith)
+fresh_item head tail items n (Wrote v) Done low high ok = absurd (omega arith)
+fresh_item head tail items n Free (Reading p) low high ok = absurd ok
+fresh_item head tail items n Free Done low high ok = absurd ok
+fresh_item head tail items n (Writing who v) Done low high ok = absurd ok
 
+pub item_free : {A : Type 0} (c : Chain A) (n : ℕ) → ChainOk c → c.tail ≤ n → (c.writers n ≡ Free) × (c.readers n ≡ Unread)
+item_free c n ok high = fresh_item c.head c.tail c.items n (c.writers n) (c.readers n) (let e = ok.count in omega arith) high (ok.item n)
+
+-- the place of the next item is free
 pub next_free : {A : Type 0} (c : Chain A) → ChainOk c → (c.writers c.tail ≡ Free) × (c.readers c.tail ≡ Unread)
-next_free c ok = fresh_item c.head c.tail c.items (c.writers c.tail) (c.readers c.tail) (let e = ok.count in omega arith) (ok.item c.tail)
+next_free c ok = item_free c c.tail ok (omega arith)
 
 -- an append leaves what is so of the other items
 item_append : {A : Type 0} (head tail : ℕ) (items : List A) (v : A) (n : ℕ) (w : Writer A) (r : Reader) → n ≢ tail → ItemOk head tail items n w r → ItemOk head (tail + 1) (items ++ v ∷ []) n w r

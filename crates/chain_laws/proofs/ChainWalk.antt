@@ -16,13 +16,13 @@ use Rattle.chain_laws.proofs.ChainReads.{read_ok, walk_read, own_item, walk_afte
 use Rattle.chain_laws.proofs.ChainPassesReads.{passes_walked}
 use Rattle.chain_laws.proofs.ChainFacts.{IsNamed}
 use Rattle.chain_laws.proofs.ChainAt.{Only, walking, destroying}
-use Rattle.chain_laws.proofs.ChainAnswers.{IsState, is_done}
+use Rattle.chain_laws.proofs.ChainAnswers.{done_is, IsState, is_done}
 use Rattle.chain_laws.proofs.ChainAfter.{if_walked, if_destroyed}
 use Rattle.chain_laws.proofs.ChainHolds.{after_walk, after_walk_on}
 use Rattle.std.proofs.lemmas.Bool.{lt-ltb, le-ltb}
 
 -- whose the walk is after a slot
-after_walker : (who slot : ℕ) → ((walk_after who slot ≡ GivenUp) × (slot + 1 ≡ LAST)) ⊎ ((walk_after who slot ≡ Walker who (slot + 1)) × (slot + 1 ≢ LAST))
+pub after_walker : (who slot : ℕ) → ((walk_after who slot ≡ GivenUp) × (slot + 1 ≡ LAST)) ⊎ ((walk_after who slot ≡ Walker who (slot + 1)) × (slot + 1 ≢ LAST))
 after_walker who slot = elim (eqb_tells (slot + 1) LAST) [ inl t ↦ inl (rw t.0 refl, t.1) | inr n ↦ inr (rw n.0 refl, n.1) ]
 
 -- the walk is no other party's
@@ -47,11 +47,6 @@ walker_ok c who b slot ok is = subst (λ w. WalkOk c.readers b w) is (ok.walk b)
 
 walks_mine : {A : Type 0} (c : Chain A) (who b slot : ℕ) → c.walks b ≡ Walker who slot → (other : ℕ) → other ≢ who → walker_of (c.walks b) ≢ Some other
 walks_mine c who b slot is other ne e = let z : Some who ≡ Some other = ap walker_of (sym is) ∙ e in absurd (ne (let y : other ≡ who = cc in y))
-
-done_is : (r : Reader) → is_done r ≡ true → r ≡ Done
-done_is Unread e = cc
-done_is (Reading p) e = cc
-done_is Done e = refl
 
 undone : (r : Reader) → is_done r ≡ false → r ≢ Done
 undone Unread e z = cc

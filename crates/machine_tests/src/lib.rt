@@ -1,6 +1,8 @@
-//! Tests of the machine: worked runs of queues with a capacity.
+//! Tests of the machine: worked runs of queues of each kind.
 #![tactic(auto)]
 
+#[cfg(test)]
+mod chains;
 #[cfg(test)]
 mod displacements;
 #[cfg(test)]

@@ -21,7 +21,7 @@ fn pushed<'a>(heap: &'a Refusing<Global>) -> Result<Replay<u64, &'a Refusing<Glo
 /// Each request for room refused in turn: want of memory, and nothing stays allocated.
 #[test]
 fn each_request_refused(rt: HostRuntime) -> Result<(), Fail> {
-    for number in 1..9u64 {
+    for number in 1..10u64 {
         let heap = Refusing::new(rt.alloc(), Refusal::Nth(number));
         assert!(rt; pushed(&heap).is_err(), "at {number}");
         assert!(rt;
@@ -29,9 +29,9 @@ fn each_request_refused(rt: HostRuntime) -> Result<(), Fail> {
             "at {number}"
         );
     }
-    let heap = Refusing::new(rt.alloc(), Refusal::Nth(9));
+    let heap = Refusing::new(rt.alloc(), Refusal::Nth(10));
     let run = pushed(&heap)?;
-    assert_eq!(rt; heap.requests(), 8);
+    assert_eq!(rt; heap.requests(), 9);
     drop(run);
     assert_eq!(rt; heap.live(), 0);
     Ok(())

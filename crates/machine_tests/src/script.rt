@@ -6,6 +6,7 @@ use queue_steps::model::{Call, Reply};
 use queue_steps::sizes::LONE_STEPS;
 use queue_steps::steps::Kind;
 use std::alloc::{AllocError, Global};
+use std::ops::Range;
 
 /// A list of events that grows.
 #[derive(Drop)]
@@ -58,6 +59,26 @@ impl Script {
         let Script { alloc, events } = self;
         summarize(alloc, replay(alloc, Kind::Bounded(2), parties, events)?)
     }
+
+    /// What is told of the run on a chain of blocks.
+    pub(crate) fn on_chain(self, parties: usize) -> Result<Replay<u64>, AllocError> {
+        let Script { alloc, events } = self;
+        replay(alloc, Kind::Unbounded, parties, events)
+    }
+
+    /// The party takes one step, at which no block is granted.
+    pub(crate) fn refuse(&mut self, party: usize) -> Result<(), AllocError> {
+        self.events.push(Event::Step(party, false))?;
+        Ok(())
+    }
+
+    /// The party begins a call and takes as many steps as it needs, for each of these numbers.
+    pub(crate) fn push_all(&mut self, party: usize, numbers: Range<u64>) -> Result<(), AllocError> {
+        for number in numbers {
+            self.call(party, Call::Push(number))?;
+        }
+        Ok(())
+    }
 }
 
 /// The words of the ring of two slots after these events.
@@ -74,7 +95,7 @@ pub(crate) struct Summary {
     pub(crate) left: Vec<u64>,
 }
 
-fn summarize(alloc: Global, run: Replay<u64>) -> Result<Summary, AllocError> {
+pub(crate) fn summarize(alloc: Global, run: Replay<u64>) -> Result<Summary, AllocError> {
     let Replay {
         replies,
         effects,

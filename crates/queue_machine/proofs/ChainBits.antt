@@ -1,12 +1,12 @@
 -- What the steps of the calls do to the state word of a slot.
-use Rattle.std.proofs.Common.{ℕ, ◌≡◌, ◌≢◌, ◌==◌, not, ◌∙◌, inl, inr, false, Some, refl, sym, ap, bit_and, bit_or}
+use Rattle.std.proofs.Common.{ℕ, ◌≡◌, ◌≢◌, ◌==◌, not, ◌∙◌, inl, inr, false, refl, sym, ap, bit_and, bit_or}
 use Rattle.std.proofs.lemmas.Nat.{and_or_self, and_or_apart}
 use Rattle.std.proofs.lemmas.Bool.Decides.{eqb_tells}
 use Rattle.std.proofs.lemmas.Bool.{eq-eqb}
 use Rattle.queue_steps.specs.declared.steps.unbounded.TheConstants.{WRITE, READ, DESTROY}
 use Rattle.chain_laws.proofs.ChainCells.{Wrote, Done, Waits, Chain, item_at}
 use Rattle.chain_laws.proofs.ChainAnswers.{is_wrote, is_done, waits_at, IsState}
-use Rattle.queue_machine.proofs.ChainCodes.{wrote_in, wrote_alike, done_alike, SameItem}
+use Rattle.queue_machine.proofs.ChainCodes.{wrote_in, wrote_alike}
 
 -- a bit that is set, and one that is left
 bit_set : (x m : ℕ) → m ≢ 0 → (bit_and (bit_or x m) m == 0) ≡ false

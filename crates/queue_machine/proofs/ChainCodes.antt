@@ -1,12 +1,10 @@
 -- How a block of the machine stands for a block of a chain, and that it goes on doing so.
-use Rattle.std.proofs.Common.{ℕ, ◌+◌, ◌-◌, ◌*◌, ◌/◌, ◌%◌, ◌<◌, ◌≤◌, ◌≡◌, ◌≢◌, ◌==◌, not, ◌∙◌, ◌⊎◌, inl, inr, Bool, true, false, if◌then◌else◌, Option, Some, None, List, length, refl, sym, ap, subst, arith, get_or, set, get_or-set_same, get_or-set_other, bit_and}
-use Rattle.std.proofs.lemmas.List.{length-set, set-get_or}
+use Rattle.std.proofs.Common.{ℕ, ◌+◌, ◌<◌, ◌≡◌, ◌≢◌, not, ◌∙◌, inl, inr, if◌then◌else◌, Option, Some, None, List, length, refl, sym, ap, subst, arith, get_or, set, get_or-set_same, get_or-set_other}
+use Rattle.std.proofs.lemmas.List.{length-set}
 use Rattle.std.proofs.lemmas.Bool.Decides.{eqb_tells}
 use Rattle.queue_steps.specs.declared.sizes.TheConstants.{BLOCK_SLOTS}
-use Rattle.queue_steps.specs.declared.steps.unbounded.TheConstants.{WRITE, READ, DESTROY}
-use Rattle.chain_laws.proofs.ChainCells.{Writer, Free, Writing, Wrote, Reader, Unread, Reading, Done, Walk, GivenUp, Chain, item_at, LAST}
-use Rattle.chain_laws.proofs.ChainFacts.{IsNamed}
-use Rattle.chain_laws.proofs.ChainAnswers.{linked_of, is_wrote, is_done, waits_at, IsState}
+use Rattle.chain_laws.proofs.ChainCells.{Writer, Free, Writing, Wrote, Reader, Done, Chain, item_at, LAST}
+use Rattle.chain_laws.proofs.ChainAnswers.{linked_of, is_wrote, is_done, done_is, waits_at, IsState}
 use Rattle.queue_machine.specs.declared.blocks.Place.{Place}
 use Rattle.queue_machine.specs.Blocks.{blank}
 
@@ -30,11 +28,6 @@ wrote_alike Free (Wrote u) e = cc
 wrote_alike (Writing p v) (Wrote u) e = cc
 wrote_alike (Wrote v) Free e = cc
 wrote_alike (Wrote v) (Writing p u) e = cc
-
-pub done_is : (r : Reader) → is_done r ≡ true → r ≡ Done
-done_is Unread e = cc
-done_is (Reading p) e = cc
-done_is Done e = refl
 
 pub done_alike : (r x : Reader) → is_done r ≡ is_done x → x ≢ Done → r ≢ Done
 done_alike r x e ne d = ne (done_is x (sym e ∙ ap is_done d))
@@ -72,16 +65,16 @@ block_put {A} c s b i x places next is low same here lies_here links = record {
   wide = length-set places i x ∙ is.wide;
   state = λ j lt unread. elim (eqb_tells j i) [
     | inl t ↦
-      subst (λ k. IsState s b k (get_or (set places i x) k blank).state) (sym t.1)
-      (subst (λ p. IsState s b i p.state) (sym (get_or-set_same places i x blank (let w = is.wide in omega arith))) (here (λ last. subst (λ k. s.readers (item_at b k) ≢ Done) t.1 (unread (t.1 ∙ last)))))
+        subst (λ k. IsState s b k (get_or (set places i x) k blank).state) (sym t.1)
+        (subst (λ p. IsState s b i p.state) (sym (get_or-set_same places i x blank (let w = is.wide in omega arith))) (here (λ last. subst (λ k. s.readers (item_at b k) ≢ Done) t.1 (unread (t.1 ∙ last)))))
     | inr t ↦
-      subst (λ p. IsState s b j p.state) (sym (get_or-set_other places i j x blank t.1))
-      (state_same c s b j (get_or places j blank).state (same j lt t.1) (is.state j lt (λ last. done_alike (c.readers (item_at b j)) (s.readers (item_at b j)) (sym (same j lt t.1).done) (unread last))))
+        subst (λ p. IsState s b j p.state) (sym (get_or-set_other places i j x blank t.1))
+        (state_same c s b j (get_or places j blank).state (same j lt t.1) (is.state j lt (λ last. done_alike (c.readers (item_at b j)) (s.readers (item_at b j)) (sym (same j lt t.1).done) (unread last))))
   ];
   slot = λ j lt. elim (eqb_tells j i) [
     | inl t ↦
-      subst (λ k. (get_or (set places i x) k blank).item ≡ lies (s.writers (item_at b k)) (s.readers (item_at b k))) (sym t.1)
-      (ap (λ p. p.item) (get_or-set_same places i x blank (let w = is.wide in omega arith)) ∙ lies_here)
+        subst (λ k. (get_or (set places i x) k blank).item ≡ lies (s.writers (item_at b k)) (s.readers (item_at b k))) (sym t.1)
+        (ap (λ p. p.item) (get_or-set_same places i x blank (let w = is.wide in omega arith)) ∙ lies_here)
     | inr t ↦ ap (λ p. p.item) (get_or-set_other places i j x blank t.1) ∙ (is.slot j lt ∙ lies_same c s b j (same j lt t.1))
   ];
   linked = is.linked ∙ links;

@@ -1,18 +1,15 @@
 -- A step that changes one block leaves the machine standing for the chain after it.
-use Rattle.std.proofs.Common.{ℕ, ◌+◌, ◌-◌, ◌*◌, ◌/◌, ◌%◌, ◌<◌, ◌≤◌, ◌≡◌, ◌≢◌, ◌∙◌, ◌⊎◌, inl, inr, Bool, true, false, Option, Some, None, List, length, refl, sym, ap, subst, arith, get_or, set, bit_or}
-use Rattle.std.proofs.lemmas.List.{get_or_past}
+use Rattle.std.proofs.Common.{ℕ, ◌+◌, ◌/◌, ◌<◌, ◌≡◌, ◌≢◌, ◌∙◌, inl, inr, false, Option, Some, None, List, refl, sym, ap, subst, arith, get_or, set, bit_or}
 use Rattle.std.proofs.lemmas.Bool.Decides.{eqb_tells}
 use Rattle.queue_steps.specs.declared.sizes.TheConstants.{BLOCK_SLOTS}
-use Rattle.queue_steps.specs.declared.steps.unbounded.TheConstants.{WRITE, READ, DESTROY}
-use Rattle.chain_laws.proofs.ChainCells.{Writer, Writing, Wrote, Reader, Unread, Reading, Done, Link, Linking, Linked, Walk, Before, Walker, Waits, GivenUp, Use, Chained, Chain, ItemOk, ChainOk, item_at, LAST, put, put_ok, put_same, put_other}
+use Rattle.queue_steps.specs.declared.steps.unbounded.TheConstants.{WRITE}
+use Rattle.chain_laws.proofs.ChainCells.{Writer, Writing, Wrote, Reader, Unread, Reading, Done, Link, Linked, Walk, GivenUp, Chained, Chain, ItemOk, ChainOk, item_at, put, put_same, put_other}
 use Rattle.chain_laws.proofs.ChainTransitions.{chained, written}
-use Rattle.chain_laws.proofs.ChainReads.{reads, walked}
 use Rattle.chain_laws.proofs.ChainFacts.{IsNamed}
-use Rattle.chain_laws.proofs.ChainAnswers.{linked_of, is_done, waits_at, IsState}
-use Rattle.queue_machine.specs.declared.blocks.Place.{Place}
+use Rattle.chain_laws.proofs.ChainAnswers.{linked_of, is_done}
 use Rattle.queue_machine.specs.Blocks.{Block, blank}
-use Rattle.queue_machine.proofs.ChainCodes.{BlockIs, SameItem, wrote_in, lies, done_is, block_put, block_same}
-use Rattle.queue_machine.proofs.ChainBits.{state_written, state_read, state_waits, state_passed}
+use Rattle.queue_machine.proofs.ChainCodes.{BlockIs, wrote_in, lies, block_put, block_same}
+use Rattle.queue_machine.proofs.ChainBits.{state_written}
 use Rattle.queue_machine.proofs.ChainNames.{NameIs, HeldIs, Codes, Keeps, Changed, name_kept, one_name}
 
 -- the chain with other items, readers, links and walks
@@ -51,7 +48,7 @@ pub other_slot : (b i j n : ℕ) → j ≢ i → item_at b i ≡ n → item_at b
 other_slot b i j n ne at e = ne (omega arith)
 
 -- the items that are not written are not read
-unread_item : {A : Type 0} (c : Chain A) (n who : ℕ) (v : A) → ChainOk c → c.writers n ≡ Writing who v → c.readers n ≢ Done
+pub unread_item : {A : Type 0} (c : Chain A) (n who : ℕ) (v : A) → ChainOk c → c.writers n ≡ Writing who v → c.readers n ≢ Done
 unread_item c n who v ok is e = let h : ItemOk c.head c.tail c.items n (Writing who v) Done = rw (is, e) at (ok.item n) in absurd h
 
 not_done : (r : Reader) → r ≢ Done → is_done r ≡ false
@@ -84,10 +81,13 @@ codes_written {A} {c = c} who n i f v x ok writing low at named on is changed co
       link = refl;
     })
     changed
-    (inr (on, block_put c (written c n v) b i (record { state = bit_or (get_or x.places i blank).state WRITE; item = Some v }) x.places x.next is low
-    (λ j lt ne. record { wrote = ap (λ w. wrote_in w) (put_other c.writers n (item_at b j) (Wrote v) (other_slot b i j n ne at)); done = refl; waits = refl })
-    (λ unread. state_written c (written c n v) b i (get_or x.places i blank).state v wrote refl refl (is.state i low unread))
-    (sym (ap (λ w. lies w (c.readers (item_at b i))) wrote ∙ ap (λ r. lies (Wrote v) r) refl ∙ kept)) refl))
+    (inr (
+      on,
+      block_put c (written c n v) b i (record { state = bit_or (get_or x.places i blank).state WRITE; item = Some v }) x.places x.next is low
+          (λ j lt ne. record { wrote = ap (λ w. wrote_in w) (put_other c.writers n (item_at b j) (Wrote v) (other_slot b i j n ne at)); done = refl; waits = refl })
+          (λ unread. state_written c (written c n v) b i (get_or x.places i blank).state v wrote refl refl (is.state i low unread))
+          (sym (ap (λ w. lies w (c.readers (item_at b i))) wrote ∙ ap (λ r. lies (Wrote v) r) refl ∙ kept)) refl,
+    ))
     codes
   where
     b : ℕ

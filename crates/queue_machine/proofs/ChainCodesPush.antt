@@ -1,24 +1,21 @@
 -- The steps of pushes and of closes leave the machine standing for the chain after them.
-use Rattle.std.proofs.Common.{ℕ, ◌+◌, ◌-◌, ◌*◌, ◌/◌, ◌%◌, ◌<◌, ◌≤◌, ◌≡◌, ◌≢◌, ◌∙◌, ◌⊎◌, inl, inr, Bool, true, false, Option, Some, None, List, [], ◌∷◌, ◌++◌, length, refl, sym, ap, subst, arith, get_or, bit_or}
+use Rattle.std.proofs.Common.{ℕ, ◌+◌, ◌-◌, ◌%◌, ◌<◌, ◌≤◌, ◌≡◌, ◌≢◌, ◌∙◌, ◌⊎◌, inl, inr, false, Option, Some, None, List, [], ◌∷◌, ◌++◌, length, refl, sym, ap, subst, arith, get_or, bit_or}
 use Rattle.std.proofs.lemmas.List.{get_or_append_left, get_or_past, length-append}
 use Rattle.std.proofs.Math.Seq.{get_or-append_seam}
-use Rattle.std.proofs.lemmas.Bool.Decides.{eqb_tells}
+use Rattle.std.proofs.lemmas.Bool.{cases_lt}
 use Rattle.queue_steps.specs.declared.sizes.TheConstants.{BLOCK_SLOTS}
 use Rattle.queue_steps.specs.Words.{tail_of}
 use Rattle.queue_steps.specs.declared.steps.bounded.TheConstants.{MARK, TAIL_STEP}
 use Rattle.chain_laws.proofs.ChainPlaces.{place}
-use Rattle.chain_laws.proofs.ChainCells.{Free, Writing, Wrote, Mover, Rests, Laying, Opening, Link, Unlinked, Linking, Linked, Shown, Hidden, Showing, Seen, Use, Unused, Spare, Chained, Chain, BlocksOk, LinkOk, ShownOk, ChainOk, put, put_ok, put_same, put_other, item_at}
-use Rattle.chain_laws.proofs.ChainTransitions.{next_free, no_block, no_front, appended, installed, displayed, laid_out, opened, chained, written, marked, renamed}
+use Rattle.chain_laws.proofs.ChainCells.{Writing, Mover, Rests, Laying, Opening, Link, Unlinked, Linking, Linked, Shown, Hidden, Showing, Seen, Unused, Spare, Chained, Chain, BlocksOk, LinkOk, ShownOk, ChainOk, put, put_ok, put_same, put_other, item_at}
+use Rattle.chain_laws.proofs.ChainTransitions.{next_free, no_front, appended, installed, displayed, laid_out, opened, marked, renamed}
 use Rattle.chain_laws.proofs.ChainFacts.{open_tail_of, IsNamed}
-use Rattle.chain_laws.proofs.ChainAnswers.{tail_place, tail_word, last_of, shown_of, linked_of, resting_word}
+use Rattle.chain_laws.proofs.ChainAnswers.{tail_place, shown_of, linked_of}
 use Rattle.queue_machine.specs.Blocks.{Block, fresh_block}
 use Rattle.queue_machine.proofs.RingWords.{mark_tail, next_tail}
-use Rattle.queue_machine.proofs.ChainCodes.{BlockIs, SameItem, wrote_in}
-use Rattle.queue_machine.proofs.ChainNames.{NameIs, HeldIs, Codes, Keeps, name_kept, keeps_all}
+use Rattle.queue_machine.proofs.ChainCodes.{wrote_in}
+use Rattle.queue_machine.proofs.ChainNames.{NameIs, Codes, Keeps, name_kept, keeps_all}
 use Rattle.queue_machine.proofs.ChainFresh.{fresh_is, unlinked, last_name}
-
-lt_or_ge : (m n : ℕ) → (m < n) ⊎ (n ≤ m)
-lt_or_ge m n = grind arith
 
 -- the mark of a close
 pub codes_marked : {A : Type 0} {c : Chain A} {head tail : ℕ} {front last : Option ℕ} {blocks : List (Option (Block A))} → Codes c head tail front last blocks → Codes (marked c) head (bit_or tail MARK) front last blocks
@@ -42,11 +39,11 @@ codes_granted {A} {c = c} {blocks = blocks} who codes = record {
   unused = λ f le. let more = length-append blocks (Some (fresh_block {T = A}) ∷ []) in put_other c.uses (length blocks) f (Spare who) (λ e. absurd (omega arith)) ∙ codes.unused f (omega arith);
   name = λ f. put_ok c.uses (length blocks) f (Spare who) (λ j u. NameIs (renamed c (length blocks) (Spare who)) j u (get_or (blocks ++ Some fresh_block ∷ []) j None))
       (get_or-append_seam blocks (Some fresh_block) [] None)
-      (λ ne. elim (lt_or_ge f (length blocks)) [
-    | inl lt ↦ subst (λ y. NameIs (renamed c (length blocks) (Spare who)) f (c.uses f) y) (sym (get_or_append_left blocks (Some fresh_block ∷ []) None f lt))
-        (name_kept c (renamed c (length blocks) (Spare who)) f (c.uses f) (get_or blocks f None) (λ b named. (named, keeps_all c (renamed c (length blocks) (Spare who)) b refl refl refl refl)) (codes.name f))
-    | inr ge ↦ subst (λ u. NameIs (renamed c (length blocks) (Spare who)) f u (get_or (blocks ++ Some fresh_block ∷ []) f None)) (sym (codes.unused f ge)) (past f ne ge)
-  ]);
+      (λ ne. elim (cases_lt f (length blocks)) [
+        | inl lt ↦ subst (λ y. NameIs (renamed c (length blocks) (Spare who)) f (c.uses f) y) (sym (get_or_append_left blocks (Some fresh_block ∷ []) None f lt))
+            (name_kept c (renamed c (length blocks) (Spare who)) f (c.uses f) (get_or blocks f None) (λ b named. (named, keeps_all c (renamed c (length blocks) (Spare who)) b refl refl refl refl)) (codes.name f))
+        | inr ge ↦ subst (λ u. NameIs (renamed c (length blocks) (Spare who)) f u (get_or (blocks ++ Some fresh_block ∷ []) f None)) (sym (codes.unused f ge)) (past f ne ge)
+      ]);
 }
   where
     past : (f : ℕ) → f ≢ length blocks → length blocks ≤ f → get_or (blocks ++ Some fresh_block ∷ []) f None ≡ None

@@ -1,19 +1,18 @@
 -- The steps that read an item or walk over a passed block, and the block that is given up with a reply, leave the machine standing for the chain after them.
-use Rattle.std.proofs.Common.{ℕ, ◌+◌, ◌-◌, ◌*◌, ◌/◌, ◌%◌, ◌<◌, ◌≤◌, ◌≡◌, ◌≢◌, ◌==◌, ◌∙◌, ◌⊎◌, inl, inr, Bool, true, false, Option, Some, None, List, length, refl, sym, ap, subst, arith, get_or, set, bit_or}
+use Rattle.std.proofs.Common.{ℕ, ◌+◌, ◌/◌, ◌<◌, ◌≡◌, ◌≢◌, ◌∙◌, ◌⊎◌, inl, inr, false, Option, Some, None, List, refl, sym, ap, subst, arith, get_or, set, bit_or}
 use Rattle.std.proofs.lemmas.Bool.Decides.{eqb_tells}
 use Rattle.queue_steps.specs.declared.sizes.TheConstants.{BLOCK_SLOTS}
 use Rattle.queue_steps.specs.declared.steps.unbounded.TheConstants.{READ}
-use Rattle.chain_laws.proofs.ChainCells.{Wrote, Reader, Reading, Done, Walk, Before, Walker, Waits, GivenUp, Use, Unused, Spare, Chained, Lost, Chain, ChainOk, item_at, LAST, put, put_ok, put_same, put_other}
-use Rattle.chain_laws.proofs.ChainTransitions.{renamed}
+use Rattle.chain_laws.proofs.ChainCells.{Done, Walk, GivenUp, Unused, Spare, Chained, Chain, ChainOk, item_at, LAST, put, put_ok, put_same, put_other}
 use Rattle.chain_laws.proofs.ChainReads.{reads, walked, walk_after}
 use Rattle.chain_laws.proofs.ChainFacts.{IsNamed}
 use Rattle.chain_laws.proofs.ChainAnswers.{is_done, waits_at, IsState}
 use Rattle.chain_laws.proofs.ChainGiven.{given_up, lost_of}
 use Rattle.queue_machine.specs.declared.blocks.Place.{Place}
 use Rattle.queue_machine.specs.Blocks.{Block, blank}
-use Rattle.queue_machine.proofs.ChainCodes.{BlockIs, SameItem, wrote_in, lies, block_put}
+use Rattle.queue_machine.proofs.ChainCodes.{BlockIs, lies, block_put}
 use Rattle.queue_machine.proofs.ChainBits.{state_read}
-use Rattle.queue_machine.proofs.ChainNames.{NameIs, HeldIs, AliveIs, Codes, Keeps, Changed, name_kept, keeps_all}
+use Rattle.queue_machine.proofs.ChainNames.{NameIs, HeldIs, AliveIs, Codes, Changed, name_kept, keeps_all}
 use Rattle.queue_machine.proofs.ChainCodesAt.{codes_at, other_block, other_slot}
 
 -- the block after the step: it is given up with its walk, or is this
@@ -64,8 +63,8 @@ codes_read {A} {c = c} n i f w q y x ok low at named is unread waits empty word 
     read = ap (put c.readers n Done) at ∙ put_same c.readers n Done
 
     state : (i ≡ LAST) ⊎ (q.state ≡ bit_or (get_or x.places i blank).state READ) → (i ≡ LAST → put c.readers n Done (item_at (n / BLOCK_SLOTS) i) ≢ Done) → IsState (reads c n w) (n / BLOCK_SLOTS) i q.state
-    state (inl last) open_still = absurd (open_still last read)
-    state (inr e) open_still = subst (λ z. IsState (reads c n w) (n / BLOCK_SLOTS) i z) (sym e) (state_read c (reads c n w) (n / BLOCK_SLOTS) i (get_or x.places i blank).state refl read (is.state i low (λ last d. unread (ap c.readers (sym at) ∙ d))))
+    state (inl last) unread_still = absurd (unread_still last read)
+    state (inr e) unread_still = subst (λ z. IsState (reads c n w) (n / BLOCK_SLOTS) i z) (sym e) (state_read c (reads c n w) (n / BLOCK_SLOTS) i (get_or x.places i blank).state refl read (is.state i low (λ last d. unread (ap c.readers (sym at) ∙ d))))
 
 -- W1, W2: the walk over the block is this then
 pub codes_walked : {A : Type 0} {c : Chain A} {head tail : ℕ} {front last : Option ℕ} {blocks after : List (Option (Block A))} (b i f : ℕ) (w : Walk) (q : Place A) (y : Option (Block A)) (x : Block A)
@@ -93,10 +92,6 @@ codes_walked {A} {c = c} b i f w q y x ok low named is waits item state changed 
 -- a walk that goes on waits for nobody
 pub after_waits : (who slot j : ℕ) → waits_at (walk_after who slot) j ≡ false
 after_waits who slot j = elim (eqb_tells (slot + 1) LAST) [ inl t ↦ rw t.0 refl | inr n ↦ rw n.0 refl ]
-
--- the walk after a slot is over, or the party's at the next one
-pub after_kinds : (who slot : ℕ) → ((walk_after who slot ≡ GivenUp) × (slot + 1 ≡ LAST)) ⊎ ((walk_after who slot ≡ Walker who (slot + 1)) × (slot + 1 ≢ LAST))
-after_kinds who slot = elim (eqb_tells (slot + 1) LAST) [ inl t ↦ inl (rw t.0 refl, t.1) | inr n ↦ inr (rw n.0 refl, n.1) ]
 
 -- a spare that is given up
 pub codes_given_spare : {A : Type 0} {c : Chain A} {head tail : ℕ} {front last : Option ℕ} {blocks after : List (Option (Block A))} (who f : ℕ)

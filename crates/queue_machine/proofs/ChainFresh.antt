@@ -1,26 +1,12 @@
 -- A block that was just granted stands for a block of the chain that nobody has touched.
-use Rattle.std.proofs.Common.{ℕ, ◌+◌, ◌*◌, ◌/◌, ◌<◌, ◌≤◌, ◌≡◌, ◌≢◌, not, ◌∙◌, inl, inr, zero, suc, Option, Some, None, refl, sym, ap, subst, arith, get_or, replicate}
+use Rattle.std.proofs.Common.{ℕ, ◌+◌, ◌*◌, ◌≤◌, ◌≡◌, ◌≢◌, not, ◌∙◌, inl, inr, zero, suc, Some, None, refl, sym, ap, subst, arith}
 use Rattle.std.proofs.lemmas.List.{get_or-replicate, length-replicate}
 use Rattle.queue_steps.specs.declared.sizes.TheConstants.{BLOCK_SLOTS}
-use Rattle.chain_laws.proofs.ChainCells.{Writer, Free, Writing, Wrote, Reader, Unread, Reading, Done, Mover, Rests, Laying, Opening, Link, Unlinked, Linking, Linked, Walk, Before, Walker, Waits, GivenUp, Chain, ItemOk, BlocksOk, LinkOk, WalkOk, ChainOk, item_at, LAST}
+use Rattle.chain_laws.proofs.ChainCells.{Free, Unread, Done, Mover, Rests, Laying, Opening, Link, Unlinked, Linking, Linked, Walk, Before, Walker, Waits, GivenUp, Chain, BlocksOk, LinkOk, WalkOk, ChainOk, item_at, LAST}
+use Rattle.chain_laws.proofs.ChainTransitions.{item_free}
 use Rattle.chain_laws.proofs.ChainAnswers.{last_of, linked_of, is_wrote, is_done, waits_at, IsState}
 use Rattle.queue_machine.specs.Blocks.{blank, fresh_block}
 use Rattle.queue_machine.proofs.ChainCodes.{BlockIs, lies}
-
--- an item beyond the tail is nobody's
-item_free : {A : Type 0} (c : Chain A) (n : ℕ) → ChainOk c → c.tail ≤ n → (c.writers n ≡ Free) × (c.readers n ≡ Unread)
-item_free {A} c n ok high = go (c.writers n) (c.readers n) refl refl (ok.item n)
-  where
-    go : (w : Writer A) (r : Reader) → c.writers n ≡ w → c.readers n ≡ r → ItemOk c.head c.tail c.items n w r → (c.writers n ≡ Free) × (c.readers n ≡ Unread)
-    go Free Unread e f h = (e, f)
-    go (Writing p v) Unread e f h = absurd (let lt = h.1 in omega arith)
-    go (Wrote v) Unread e f h = absurd (let lt = h.1 in omega arith)
-    go (Writing p v) (Reading q) e f h = absurd (let k = ok.count in omega arith)
-    go (Wrote v) (Reading q) e f h = absurd (let k = ok.count in omega arith)
-    go (Wrote v) Done e f h = absurd (let k = ok.count in omega arith)
-    go Free (Reading q) e f h = absurd h
-    go Free Done e f h = absurd h
-    go (Writing p v) Done e f h = absurd h
 
 -- the items of the next block are all beyond the tail
 next_high : (tail blocks : ℕ) (m : Mover) → BlocksOk tail blocks m → tail ≤ blocks * BLOCK_SLOTS

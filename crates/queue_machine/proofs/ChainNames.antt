@@ -1,5 +1,5 @@
 -- How the words, links and blocks of the machine stand for a chain.
-use Rattle.std.proofs.Common.{ℕ, ◌+◌, ◌<◌, ◌≤◌, ◌≡◌, ◌≢◌, ◌==◌, ◌∙◌, ◌⊎◌, inl, inr, Option, Some, None, List, length, refl, sym, ap, subst, get_or, arith}
+use Rattle.std.proofs.Common.{ℕ, ◌+◌, ◌<◌, ◌≤◌, ◌≡◌, ◌≢◌, ◌∙◌, ◌⊎◌, inl, inr, Option, Some, None, List, length, refl, sym, ap, subst, get_or}
 use Rattle.queue_steps.specs.declared.sizes.TheConstants.{BLOCK_SLOTS}
 use Rattle.chain_laws.proofs.ChainCells.{item_at, GivenUp, Use, Unused, Spare, Chained, Lost, Chain}
 use Rattle.chain_laws.proofs.ChainFacts.{IsNamed}

@@ -9,7 +9,7 @@ use Rattle.queue_machine.specs.declared.run.Lists.{Lists}
 abbrev pub CanReplay : Kind → Type 0
 CanReplay kind.Single = Unit {0}
 CanReplay (kind.Bounded n) = 1 < n
-CanReplay kind.Unbounded = ⊥
+CanReplay kind.Unbounded = Unit {0}
 
 -- the capacity is more than any queue may have
 abbrev pub is_too_large : Kind → Bool

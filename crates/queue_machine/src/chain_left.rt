@@ -106,10 +106,7 @@ fn settle_at<T: Drop, A: Allocator>(
 }
 
 /// What a call in progress does to the blocks.
-fn settle_one<T: Drop, A: Allocator>(
-    running: Running<T>,
-    blocks: &mut Vec<Option<Block<T, A>>, A>,
-)
+fn settle_one<T: Drop, A: Allocator>(running: Running<T>, blocks: &mut Vec<Option<Block<T, A>>, A>)
     ensures { blocks.new.items ≡ settled_by running.local running.touch running.op running.carried blocks.old.items }
 {
     let Running {

@@ -201,7 +201,9 @@ impl<T, A: Allocator> Cells<T, A> {
         match touch {
             Touch::Nothing => carried,
             Touch::Put(slot) | Touch::Swap(slot) | Touch::Take(slot) => self.replace(
-                named_block(op), slot, carried,
+                named_block(op),
+                slot,
+                carried,
             ),
         }
     }
@@ -426,7 +428,12 @@ fn stamps_of(kind: Kind) -> usize
 
 impl<T: Drop, A: Allocator + Copy> Machine<T, A> {
     /// An empty open queue, and so many parties, all between calls, with room for the numbers of the blocks of so many events.
-    pub fn new(alloc: A, kind: Kind, parties: usize, events: usize) -> Result<Machine<T, A>, AllocError>
+    pub fn new(
+        alloc: A,
+        kind: Kind,
+        parties: usize,
+        events: usize,
+    ) -> Result<Machine<T, A>, AllocError>
         ensures kind { IfOk result (λ m. m.kind ≡ kind) }
         ensures world { IfOk result (λ m. world_of m ≡ opening_world kind parties) }
         ensures room { IfOk result (λ m. HasRoomFor m.cells events) }
@@ -483,9 +490,7 @@ impl<T: Drop, A: Allocator> Machine<T, A> {
         ensures room { KeepsRoom self.old.cells self.new.cells }
     {
         match event {
-            Event::Begin(party, call) => {
-                self.begin(party, call)
-            }
+            Event::Begin(party, call) => { self.begin(party, call) }
             Event::Step(party, granted) => {
                 if party >= self.calls.len() {
                     return Told::Skipped;
@@ -519,7 +524,13 @@ impl<T: Drop, A: Allocator> Machine<T, A> {
     }
 
     /// One step of a party's call, which stands no longer among the calls. Beside what is told of it stands whether a block that it asked for was granted.
-    fn step(&mut self, alloc: A, granted: bool, party: usize, running: Running<T>) -> (Told<T>, bool)
+    fn step(
+        &mut self,
+        alloc: A,
+        granted: bool,
+        party: usize,
+        running: Running<T>,
+    ) -> (Told<T>, bool)
         requires party { party < vec_len self.old.calls }
         requires can { (ok : Bool) → CanStep self.old.kind ok (shared_of self.old.cells) running }
         requires room { HasRoom self.old.cells }

@@ -21,7 +21,7 @@ loop-preserved g c =
     let rest = chained (n - (c.loop.counter + 1)) (without c.loop.at c.loop.blocks.items) (behind_at c.loop.blocks.items c.loop.at) in
     record {
       items = rw (c.gather_block-at.ensures.left, c.gather_block-at.ensures.blocks, c.gather_block-at.ensures.behind) (
-      first-taken c.loop.left.items (unread_at c.loop.blocks.items c.loop.at) rest all (chained-next n c.loop.counter c.loop.blocks.items c.loop.at c.loop.left.items all in_range c.loop.invariant.items));
+          first-taken c.loop.left.items (unread_at c.loop.blocks.items c.loop.at) rest all (chained-next n c.loop.counter c.loop.blocks.items c.loop.at c.loop.left.items all in_range c.loop.invariant.items));
       room = c.gather_block-at.ensures.room ∙ c.loop.invariant.room;
     }
 

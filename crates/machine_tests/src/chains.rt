@@ -1,0 +1,157 @@
+//! Runs on a chain of blocks, with calls that go on within each other.
+use crate::script::{Script, Summary, summarize};
+use queue_machine::replay;
+use queue_machine::types::{EffectKind, Event, Peak, Replay};
+use queue_steps::errors::{ForcePushError, PopError, PushError};
+use queue_steps::model::{Call, Reply};
+use queue_steps::steps::Kind;
+use std::alloc::{AllocError, Global};
+use std::test::Fail;
+use test_allocators::{Refusal, Refusing};
+
+/// The first request refused, and then granted; a step between calls and a stranger's call are skipped.
+#[test]
+fn refused_and_granted(rt: HostRuntime) -> Result<(), Fail> {
+    let mut script = Script::new(rt.alloc());
+    script.begin(0, Call::Push(7))?;
+    script.steps(0, 2)?;
+    script.refuse(0)?;
+    script.begin(0, Call::Push(8))?;
+    script.steps(0, 7)?;
+    script.steps(0, 1)?;
+    script.begin(1, Call::Pop)?;
+    let told = script.on_chain(1)?;
+    let replies = [
+        (3usize, 0usize, Reply::Push(Err(PushError::NoMemory(7u64)))),
+        (11, 0, Reply::Push(Ok(()))),
+    ];
+    assert_eq!(rt; told.replies.as_slice(), replies.as_slice());
+    assert_eq!(rt; told.skipped.as_slice(), [12usize, 13].as_slice());
+    assert_eq!(rt; told.left.as_slice(), [8u64].as_slice());
+    assert_eq!(rt; told.peak, Peak { blocks: 1, bound: 3 });
+    Ok(())
+}
+
+/// Two parties ask for the first block: one installs its own, and the other gives its own up.
+#[test]
+fn two_installers(rt: HostRuntime) -> Result<(), Fail> {
+    let mut script = Script::new(rt.alloc());
+    script.begin(0, Call::Push(1))?;
+    script.steps(0, 3)?;
+    script.begin(1, Call::Push(2))?;
+    script.steps(1, 3)?;
+    script.run(0)?;
+    script.run(1)?;
+    script.call(0, Call::Len)?;
+    let told = script.on_chain(2)?;
+    assert_eq!(rt; told.peak, Peak { blocks: 2, bound: 4 });
+    let told = summarize(rt.alloc(), told)?;
+    let effects = [(0usize, EffectKind::Append), (1, EffectKind::Append)];
+    assert_eq!(rt; told.effects.as_slice(), effects.as_slice());
+    let replies = [
+        (0usize, Reply::Push(Ok(()))),
+        (1, Reply::Push(Ok(()))),
+        (0, Reply::Len(2u64 as usize)),
+    ];
+    assert_eq!(rt; told.replies.as_slice(), replies.as_slice());
+    assert_eq!(rt; told.left.as_slice(), [1u64, 2].as_slice());
+    Ok(())
+}
+
+/// A pop of a block's last item, stopped once it has moved the head: others see an empty queue.
+#[test]
+fn last_item_of_a_block(rt: HostRuntime) -> Result<(), Fail> {
+    let mut script = Script::new(rt.alloc());
+    script.push_all(0, 1..32)?;
+    for _ in 0..30u64 {
+        script.call(0, Call::Pop)?;
+    }
+    script.begin(0, Call::Pop)?;
+    script.steps(0, 3)?;
+    script.call(1, Call::Len)?;
+    script.call(1, Call::IsEmpty)?;
+    script.run(0)?;
+    let told = summarize(rt.alloc(), script.on_chain(2)?)?;
+    let last = [
+        (1usize, Reply::Len(0)),
+        (1, Reply::IsEmpty(true)),
+        (0, Reply::Pop(Ok(31u64))),
+    ];
+    assert_eq!(rt; told.replies[61..], last[..]);
+    assert!(rt; told.left.is_empty());
+    Ok(())
+}
+
+/// A push stopped while it moves the tail over a block's end: a look, a close and a push go on within it.
+#[test]
+fn stopped_at_the_end_of_a_block(rt: HostRuntime) -> Result<(), Fail> {
+    let mut script = Script::new(rt.alloc());
+    script.push_all(0, 1..31)?;
+    script.begin(0, Call::Push(31))?;
+    script.steps(0, 4)?;
+    script.call(2, Call::Len)?;
+    script.call(1, Call::Push(99))?;
+    script.call(2, Call::Close)?;
+    script.run(1)?;
+    script.run(0)?;
+    let told = script.on_chain(3)?;
+    assert_eq!(rt; told.peak, Peak { blocks: 2, bound: 3 });
+    let told = summarize(rt.alloc(), told)?;
+    let last = [
+        (2usize, Reply::Len(31)),
+        (2, Reply::Close(true)),
+        (1, Reply::Push(Err(PushError::Closed(99u64)))),
+        (0, Reply::Push(Ok(()))),
+    ];
+    assert_eq!(rt; told.replies[30..], last[..]);
+    assert_eq!(rt; told.left.len(), 31);
+    Ok(())
+}
+
+/// A pop stopped before it reads the first slot of a block: whoever reads the last slot leaves the block to it, and it gives the block up.
+#[test]
+fn reader_that_gives_the_block_up(rt: HostRuntime) -> Result<(), Fail> {
+    let mut script = Script::new(rt.alloc());
+    script.push_all(0, 1..32)?;
+    script.begin(0, Call::Pop)?;
+    script.steps(0, 4)?;
+    for _ in 0..30u64 {
+        script.call(1, Call::Pop)?;
+    }
+    script.run(0)?;
+    let told = script.on_chain(2)?;
+    assert_eq!(rt; told.peak, Peak { blocks: 2, bound: 3 });
+    let told = summarize(rt.alloc(), told)?;
+    assert_eq!(rt; told.replies.len(), 62);
+    assert_eq!(rt; told.replies[60], (1usize, Reply::Pop(Ok(31u64))));
+    assert_eq!(rt; told.replies[61], (0usize, Reply::Pop(Ok(1u64))));
+    assert!(rt; told.left.is_empty());
+    Ok(())
+}
+
+/// The list that is left, where calls are in the middle: a push that has claimed its place and not written it, one that moves the tail over a
+/// block's end, and a pop that has claimed an item and not read it.
+#[test]
+fn left_in_the_middle_of_calls(rt: HostRuntime) -> Result<(), Fail> {
+    for steps in 4..9u64 {
+        let mut script = Script::new(rt.alloc());
+        script.push_all(0, 1..31)?;
+        script.begin(0, Call::Push(31))?;
+        script.steps(0, steps)?;
+        script.begin(1, Call::Pop)?;
+        script.steps(1, steps)?;
+        script.begin(2, Call::Push(32))?;
+        script.steps(2, steps - 1)?;
+        let told = script.on_chain(3)?;
+        for i in 0..30usize {
+            assert_eq!(rt; told.left[i], i as u64 + 2, "after {steps}");
+        }
+    }
+    let mut first = Script::new(rt.alloc());
+    first.begin(0, Call::Push(1))?;
+    first.steps(0, 4)?;
+    first.call(1, Call::Push(2))?;
+    first.call(1, Call::Push(3))?;
+    assert_eq!(rt; first.on_chain(2)?.left.as_slice(), [2u64, 3].as_slice());
+    Ok(())
+}
