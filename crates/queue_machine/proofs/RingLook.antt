@@ -16,11 +16,12 @@ use Rattle.queue_steps.specs.declared.steps.types.Word.TheVariants as word
 use Rattle.queue_steps.specs.declared.steps.bounded.TheConstants.{MARK}
 use Rattle.queue_steps.specs.declared.steps.bounded.BoundedLocal.TheVariants as ring
 use Rattle.chain_laws.proofs.ChainFacts.{HeadWas, HasItems, SeenIn, seen_map}
+use Rattle.chain_laws.proofs.ChainAnswers.{position_tail, shut_tail}
 use Rattle.queue_machine.specs.Cells.{Shared}
 use Rattle.queue_machine.proofs.RingCells.{Ring, queue_of, RingOk, HoldsNone}
 use Rattle.queue_machine.proofs.RingTransitions.{marked, mark_ok}
 use Rattle.queue_machine.proofs.RingPasses.{passes_marked, HasRoom, SawEmpty, SawFull}
-use Rattle.queue_machine.proofs.RingWords.{Codes, position_tail, shut_tail, mark_tail, head_small}
+use Rattle.queue_machine.proofs.RingWords.{Codes, mark_tail, head_small}
 use Rattle.queue_machine.proofs.RingAt.{len_tail, len_head, len_again, empty_tail, full_head}
 use Rattle.queue_machine.proofs.RingGood.{pick, Goes, Good, running, still}
 

@@ -2,7 +2,8 @@
 use Rattle.std.proofs.Common.{ℕ, ◌+◌, ◌%◌, ◌<◌, ◌≤◌, ◌≡◌, ◌≢◌, ◌∙◌, ◌⊎◌, inl, inr, false, Some, None, List, length, refl, sym, ap, arith}
 use Rattle.queue_steps.specs.State.{State}
 use Rattle.chain_laws.proofs.ChainFacts.{SeenIn, IsStarted, seen_by, seen_map, seen_later, seen_now, started_later, HeadWas, HasItems}
-use Rattle.queue_machine.proofs.RingCells.{Cell, Free, Written, Full, Read, Coming, Swapped, Ring, queue_of, RingOk, put, put_ok, put_owned, held_stays, owner, HoldsNone, HoldsOne}
+use Rattle.chain_laws.proofs.ChainCells.{put, put_ok}
+use Rattle.queue_machine.proofs.RingCells.{Cell, Free, Written, Full, Read, Coming, Swapped, Ring, queue_of, RingOk, put_owned, held_stays, owner, HoldsNone, HoldsOne}
 use Rattle.queue_machine.proofs.RingTransitions.{appended, taken, written, fronted, arrived, marked}
 
 -- a step of this party leads from the ring r to the ring s
