@@ -49,7 +49,7 @@ not_not true e = refl
 not_not false e = cc
 
 -- the number of the chain's block
-abbrev number_of : Use → ℕ
+abbrev pub number_of : Use → ℕ
 number_of (Chained b) = b
 number_of _ = 0
 

@@ -15,7 +15,7 @@ abbrev place_of : ℕ → Use → ℕ
 place_of next (Chained b) = b
 place_of next _ = next
 
-not_done : {A : Type 0} (head tail : ℕ) (items : List A) (n : ℕ) (w : Writer A) (r : Reader) → ItemOk head tail items n w r → head ≤ n → r ≢ Done
+pub not_done : {A : Type 0} (head tail : ℕ) (items : List A) (n : ℕ) (w : Writer A) (r : Reader) → ItemOk head tail items n w r → head ≤ n → r ≢ Done
 not_done head tail items n (Wrote v) Done ok le e = omega arith
 not_done head tail items n Free Done ok le e = ok
 not_done head tail items n (Writing who v) Done ok le e = ok

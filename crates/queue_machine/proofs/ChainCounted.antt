@@ -44,7 +44,7 @@ present_count [] = refl
 present_count (None ∷ xs) = let rest = present_count xs in let front = count_front (λ i. is_some (get_or (None ∷ xs) i None)) (length xs) in omega arith
 present_count (Some x ∷ xs) = let rest = present_count xs in let front = count_front (λ i. is_some (get_or (Some x ∷ xs) i None)) (length xs) in omega arith
 
-within_list : {X : Type 0} (xs : List (Option X)) (i : ℕ) → is_some (get_or xs i None) ≡ true → i < length xs
+pub within_list : {X : Type 0} (xs : List (Option X)) (i : ℕ) → is_some (get_or xs i None) ≡ true → i < length xs
 within_list xs i e =
     elim (nat_lt i (length xs)) as (λ b. nat_lt i (length xs) ≡ b → i < length xs) [
       | true ↦ λ is. ltb-true i (length xs) is

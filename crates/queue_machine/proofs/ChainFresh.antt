@@ -9,7 +9,7 @@ use Rattle.queue_machine.specs.Blocks.{blank, fresh_block}
 use Rattle.queue_machine.proofs.ChainCodes.{BlockIs, lies}
 
 -- the items of the next block are all beyond the tail
-next_high : (tail blocks : ℕ) (m : Mover) → BlocksOk tail blocks m → tail ≤ blocks * BLOCK_SLOTS
+pub next_high : (tail blocks : ℕ) (m : Mover) → BlocksOk tail blocks m → tail ≤ blocks * BLOCK_SLOTS
 next_high tail blocks Rests (inl h) = let e = h.0 in omega arith
 next_high tail blocks Rests (inr e) = omega arith
 next_high tail blocks (Laying who) h = let e = h.1 in omega arith

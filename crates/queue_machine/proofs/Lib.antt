@@ -48,8 +48,13 @@ pub mod ChainFits
 pub mod ChainLaws
 pub mod ChainStands
 pub mod ChainOpening
-pub mod ChainRow
 pub mod ChainCounted
+pub mod ChainDeeds
+pub mod ChainDeedsAt
+pub mod ChainDone
+pub mod ChainShows
+pub mod ChainLinks
+pub mod ChainLeft
 pub mod ChainKind
 pub mod Gathering
 pub mod ChainGathering
