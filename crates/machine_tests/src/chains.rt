@@ -1,5 +1,5 @@
 //! Runs on a chain of blocks, with calls that go on within each other.
-use crate::script::{Script, Summary, summarize};
+use crate::script::{Script, summarize};
 use queue_machine::replay;
 use queue_machine::types::{EffectKind, Event, Peak, Replay};
 use queue_steps::errors::{ForcePushError, PopError, PushError};
@@ -153,5 +153,109 @@ fn left_in_the_middle_of_calls(rt: HostRuntime) -> Result<(), Fail> {
     first.call(1, Call::Push(2))?;
     first.call(1, Call::Push(3))?;
     assert_eq!(rt; first.on_chain(2)?.left.as_slice(), [2u64, 3].as_slice());
+    Ok(())
+}
+
+/// So many pushes, each with as many steps as it needs.
+fn pushes<'a>(heap: &'a Refusing<Global>, count: u64) -> Result<Vec<Event<u64>, &'a Refusing<Global>>, AllocError> {
+    let mut events = Vec::with_capacity(heap, count as usize * 16)?;
+    for number in 0..count {
+        events.push(Event::Begin(0, Call::Push(number)))?;
+        for _ in 0..9u64 {
+            events.push(Event::Step(0, true))?;
+        }
+    }
+    Ok(events)
+}
+
+/// The peak is the greatest number of blocks that the allocator counts beside the seven lists of a run.
+#[test]
+fn peak_is_what_is_allocated(rt: HostRuntime) -> Result<(), Fail> {
+    for (count, blocks) in [(1u64, 1u64), (30, 1), (31, 2), (61, 2), (62, 3)] {
+        let heap = Refusing::new(rt.alloc(), Refusal::Never);
+        let told = replay(&heap, Kind::Unbounded, 1, pushes(&heap, count)?)?;
+        assert_eq!(rt; told.peak.blocks as u64, blocks, "of {count}");
+        assert_eq!(rt; heap.requests(), blocks + 7, "of {count}");
+        assert_eq!(rt; heap.most(), blocks + 7, "of {count}");
+        drop(told);
+        assert_eq!(rt; heap.live(), 0);
+    }
+    Ok(())
+}
+
+/// Each request of a run is refused in turn: room that is refused is want of memory, a block that is refused is so to its push alone.
+#[test]
+fn each_request_refused(rt: HostRuntime) -> Result<(), Fail> {
+    for number in 1..12u64 {
+        let heap = Refusing::new(rt.alloc(), Refusal::Nth(number));
+        let run = forty_pushes(&heap);
+        if number <= 7 {
+            assert!(rt; run.is_err(), "at {number}");
+            assert_eq!(rt; heap.requests(), number);
+        } else if let Ok(told) = run {
+            let refused = number < 10;
+            assert_eq!(rt; told.left.len(), if refused { 39 } else { 40 }, "at {number}");
+            assert_eq!(rt; heap.requests(), if refused { 10 } else { 9 }, "at {number}");
+            drop(told);
+        } else {
+            assert!(rt; false, "at {number}");
+        }
+        assert_eq!(rt; heap.live(), 0, "at {number}");
+    }
+    Ok(())
+}
+
+/// Forty pushes.
+fn forty_pushes<'a>(heap: &'a Refusing<Global>) -> Result<Replay<u64, &'a Refusing<Global>>, AllocError> {
+    let events = pushes(heap, 40)?;
+    replay(heap, Kind::Unbounded, 1, events)
+}
+
+/// Blocks are given up on the way: a thousand pushes and pops in turn hold two blocks at most.
+#[test]
+fn blocks_are_given_up(rt: HostRuntime) -> Result<(), Fail> {
+    let mut script = Script::new(rt.alloc());
+    for number in 0..1000u64 {
+        script.call(0, Call::Push(number))?;
+        script.call(0, Call::Pop)?;
+    }
+    let told = script.on_chain(1)?;
+    assert_eq!(rt; told.peak.blocks, 2);
+    assert_eq!(rt; told.replies.len(), 2000);
+    assert_eq!(rt; told.replies[1999].2, Reply::Pop(Ok(999u64)));
+    assert!(rt; told.left.is_empty());
+    Ok(())
+}
+
+/// What a queue without a capacity answers at once, and what its observers see.
+#[test]
+fn observers(rt: HostRuntime) -> Result<(), Fail> {
+    let mut script = Script::new(rt.alloc());
+    script.begin(0, Call::Capacity)?;
+    script.begin(0, Call::IsFull)?;
+    script.call(0, Call::IsEmpty)?;
+    script.call(0, Call::Pop)?;
+    script.call(0, Call::ForcePush(5))?;
+    script.call(0, Call::Len)?;
+    script.call(0, Call::Close)?;
+    script.call(0, Call::IsClosed)?;
+    script.call(0, Call::ForcePush(6))?;
+    script.call(0, Call::Pop)?;
+    script.call(0, Call::Pop)?;
+    let told = summarize(rt.alloc(), script.on_chain(1)?)?;
+    let replies = [
+        (0usize, Reply::Capacity(None)),
+        (0, Reply::IsFull(false)),
+        (0, Reply::IsEmpty(true)),
+        (0, Reply::Pop(Err(PopError::Empty))),
+        (0, Reply::ForcePush(Ok(None))),
+        (0, Reply::Len(1)),
+        (0, Reply::Close(true)),
+        (0, Reply::IsClosed(true)),
+        (0, Reply::ForcePush(Err(ForcePushError::Closed(6u64)))),
+        (0, Reply::Pop(Ok(5))),
+        (0, Reply::Pop(Err(PopError::Closed))),
+    ];
+    assert_eq!(rt; told.replies.as_slice(), replies.as_slice());
     Ok(())
 }

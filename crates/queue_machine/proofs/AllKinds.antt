@@ -1,5 +1,5 @@
 -- Every kind of queue that the machine has keeps the laws, and so every run of it conforms.
-use Rattle.std.proofs.Common.{ℕ, ◌≤◌, ◌≡◌, false, List, [], ◌∷◌, ◌++◌, length, refl, arith, ◌∙◌, ap}
+use Rattle.std.proofs.Common.{ℕ, ◌≤◌, ◌≡◌, nat_lt, false, if◌then◌else◌, List, [], ◌∷◌, ◌++◌, length, refl, arith, ◌∙◌, ap, sym, subst}
 use Rattle.queue_steps.specs.declared.model.Call.{Call}
 use Rattle.queue_steps.specs.declared.model.Call.TheVariants as call
 use Rattle.queue_steps.specs.declared.model.Reply.{Reply}
@@ -24,20 +24,23 @@ use Rattle.queue_machine.specs.World.{World}
 use Rattle.queue_machine.proofs.KindLaws.{KindLaws}
 use Rattle.queue_machine.proofs.SingleLeft.{single_laws}
 use Rattle.queue_machine.proofs.RingKind.{ring_laws}
+use Rattle.queue_machine.proofs.ChainKind.{chain_laws}
 use Rattle.queue_steps.specs.declared.sizes.TheConstants.{MAX_CAPACITY}
 use Rattle.std.proofs.lemmas.Bool.{ltb-false}
+use Rattle.queue_machine.proofs.Peaking.{peaked-if}
+use Rattle.queue_machine.proofs.Presence.{Sparing, event-sparing}
 use Rattle.queue_machine.proofs.SoFar.{SoFar, so_far-first, so_far-more, so_far-can, so_far-end, so_far-room}
 
 -- the machine has queues of this kind
 abbrev pub HasMachine : Kind → Type 0
 HasMachine kind.Single = Unit {0}
 HasMachine (kind.Bounded n) = IsRing n
-HasMachine kind.Unbounded = ⊥
+HasMachine kind.Unbounded = Unit {0}
 
 pub laws_of : (T : Type 0) (k : Kind) → HasMachine k → KindLaws T k
 laws_of T kind.Single has = single_laws T
 laws_of T (kind.Bounded n) has = ring_laws T n has
-laws_of T kind.Unbounded has = absurd has
+laws_of T kind.Unbounded has = chain_laws T
 
 -- every call can begin
 can_start : {T : Type 0} (k : Kind) → HasMachine k → (c : Call T) → CanStart k c
@@ -59,7 +62,15 @@ can_start (kind.Bounded n) has call.IsEmpty = record { goes_on = has; replies = 
 can_start (kind.Bounded n) has call.IsFull = record { goes_on = has; replies = tt }
 can_start (kind.Bounded n) has call.Len = record { goes_on = has; replies = tt }
 can_start (kind.Bounded n) has call.Capacity = record { goes_on = has; replies = refl }
-can_start kind.Unbounded has c = absurd has
+can_start kind.Unbounded has (call.Push v) = record { goes_on = tt; replies = tt }
+can_start kind.Unbounded has (call.ForcePush v) = record { goes_on = tt; replies = tt }
+can_start kind.Unbounded has call.Pop = record { goes_on = tt; replies = tt }
+can_start kind.Unbounded has call.Close = record { goes_on = tt; replies = tt }
+can_start kind.Unbounded has call.IsClosed = record { goes_on = tt; replies = tt }
+can_start kind.Unbounded has call.IsEmpty = record { goes_on = tt; replies = tt }
+can_start kind.Unbounded has call.IsFull = record { goes_on = tt; replies = refl }
+can_start kind.Unbounded has call.Len = record { goes_on = tt; replies = tt }
+can_start kind.Unbounded has call.Capacity = record { goes_on = tt; replies = refl }
 
 -- what is known after these events, of a queue of any kind
 pub record Known {T : Type 0} (k : Kind) (parties : ℕ) (past : List (Event T)) (w : World (Shared T) (Running T)) (replies : List (ℕ × ℕ × Reply T)) (effects : List (ℕ × ℕ × EffectKind)) (skipped : List ℕ) (peak : Peak) : Type 0 where
@@ -74,6 +85,13 @@ pub known-can : {T : Type 0} (k : Kind) (parties : ℕ) (past : List (Event T)) 
     → Known k parties past w rs es ss peak → (e : Event T) → CanHandle k w e
 known-can {T} k parties past w rs es ss peak known (Begin p c) = can_start k known.has c
 known-can {T} k parties past w rs es ss peak known (Step p granted) = λ ok. so_far-can (laws_of T k known.has) parties past w rs es ss peak known.so_far ok p
+
+-- the peak after one event more, as a loop finds it: where no number of a block was given out, it stays
+pub known-peak : {T : Type 0} (k : Kind) (parties : ℕ) (past : List (Event T)) (w w' : World (Shared T) (Running T)) (rs : List (ℕ × ℕ × Reply T)) (es : List (ℕ × ℕ × EffectKind)) (ss : List ℕ) (peak : Peak) (e : Event T) (t : Told T) (n n' : ℕ)
+    → Known k parties past w rs es ss peak → Handles k w e w' t → n ≡ length w.shared.blocks → n' ≡ length w'.shared.blocks
+    → (if nat_lt n n' then peaked w' peak else peak) ≡ peaked w' peak
+known-peak k parties past w w' rs es ss peak e t n n' known handles en en' =
+    peaked-if w w' peak n n' en en' (subst (λ v. Sparing w.shared.blocks v.shared.blocks) (sym handles.world) (event-sparing k handles.ok w e)) known.so_far.covers
 
 -- after one event more, as a loop finds it
 pub known-next : {T : Type 0} (k : Kind) (parties : ℕ) (past : List (Event T)) (w w' : World (Shared T) (Running T)) (rs rs' : List (ℕ × ℕ × Reply T)) (es es' : List (ℕ × ℕ × EffectKind)) (ss ss' : List ℕ) (peak peak' : Peak) (e : Event T) (n p : ℕ) (t : Told T)
@@ -100,7 +118,7 @@ known-none k parties past w rs es ss peak known = known.so_far.no_blocks
 pub has_machine : (k : Kind) → CanReplay k → is_too_large k ≡ false → HasMachine k
 has_machine kind.Single can small = tt
 has_machine (kind.Bounded n) can small = (can, ltb-false MAX_CAPACITY n small)
-has_machine kind.Unbounded can small = absurd can
+has_machine kind.Unbounded can small = tt
 
 pub has_slot : (k : Kind) → HasMachine k → HasSlot k
 has_slot kind.Single has = tt

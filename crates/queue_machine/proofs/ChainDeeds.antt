@@ -65,7 +65,7 @@ touch_done (touch.Take i) (Some b) v bs = refl
 touch_done (touch.Swap i) None v bs = refl
 touch_done (touch.Swap i) (Some b) v bs = refl
 
-chain_done : {A : Type 0} (l : UnboundedLocal ℕ) (t : Touch) (o : Op ℕ) (v : Option A) (bs : List (Option (Block A))) → settled_at l t o v bs ≡ done (chain_deed l t o v) bs
+chain_done : {A : Type 0} (l : UnboundedLocal ℕ) (t : Touch) (o : Op ℕ) (v : Option A) (bs : List (Option (Block A))) → settled_at l t (block_touched o) v bs ≡ done (chain_deed l t o v) bs
 chain_done (chain.Laying p tail block fresh) t o v bs = refl
 chain_done (chain.Opening p tail block fresh) t o v bs = refl
 chain_done (chain.Chaining p tail block fresh) t o v bs = refl

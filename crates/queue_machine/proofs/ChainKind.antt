@@ -7,7 +7,6 @@ use Rattle.queue_machine.specs.declared.machine.Running.{Running}
 use Rattle.queue_machine.specs.Book.{Book, Open}
 use Rattle.queue_machine.specs.Cells.{Shared, CanStep, step_of, start_of}
 use Rattle.queue_machine.proofs.Engine as engine
-use Rattle.queue_machine.specs.Left.{left_of}
 use Rattle.queue_machine.specs.World.{World, call_at}
 use Rattle.queue_machine.proofs.KindLaws.{KindLaws, SimulatesOf, IsCounted}
 use Rattle.queue_machine.proofs.ChainHolding.{ChainHolds}
@@ -16,6 +15,7 @@ use Rattle.queue_machine.proofs.ChainLaws.{chain_steps}
 use Rattle.queue_machine.proofs.ChainStands.{steps_stand}
 use Rattle.queue_machine.proofs.ChainOpening.{chain_opens, chain_all_idle}
 use Rattle.queue_machine.proofs.ChainCounted.{StandsAt, chain_counted}
+use Rattle.queue_machine.proofs.ChainLeft.{chain_left}
 
 -- each party of a run on a chain stands between its calls or in one
 party_stands : {A : Type 0} (s : Shared A) (g : Chain A) (p : ℕ) (r : Option (Running A)) (o : Option (Open A)) (busy : ℕ) (b : Book A)
@@ -30,8 +30,8 @@ counts : {A : Type 0} (parties : ℕ) (w : World (Shared A) (Running A)) (b : Bo
 counts parties w b sim = chain_counted w b sim.g sim.holds sim.busy_is (λ p. party_stands w.shared sim.g p (call_at w p) (b.open_call p) b.busy b (sim.each p))
 
 -- a chain of blocks keeps the laws of the machine
-pub chain_laws : (T : Type 0) → ((parties : ℕ) (w : World (Shared T) (Running T)) (b : Book T) → SimulatesOf T kind.Unbounded (Chain T) ChainHolds ChainIdle ChainFits parties w b → left_of kind.Unbounded w ≡ b.queue.items) → KindLaws T kind.Unbounded
-chain_laws T leaves = record {
+pub chain_laws : (T : Type 0) → KindLaws T kind.Unbounded
+chain_laws T = record {
   G = Chain T;
   Holds = ChainHolds;
   Idle = ChainIdle;
@@ -40,6 +40,6 @@ chain_laws T leaves = record {
   first = first;
   opens = chain_opens T;
   all_idle = chain_all_idle T;
-  leaves = leaves;
+  leaves = λ parties w b sim. chain_left w b sim.g sim.holds (λ p. party_stands w.shared sim.g p (call_at w p) (b.open_call p) b.busy b (sim.each p));
   counts = counts;
 }

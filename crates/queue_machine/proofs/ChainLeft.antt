@@ -30,7 +30,7 @@ use Rattle.queue_machine.proofs.ChainLinks.{next_is, last_next, spare_empty, fro
 -- from no block on there is nothing
 chained_none : {A : Type 0} (n : ℕ) (bs : List (Option (Block A))) → chained n bs None ≡ []
 chained_none zero bs = refl
-chained_none (suc n) bs = refl
+chained_none (suc n) bs = chained_none n bs
 
 -- from a block on that shows nothing and is the last, there is nothing
 chained_empty : {A : Type 0} (n : ℕ) (bs : List (Option (Block A))) (f : ℕ) (x : Block A) → get_or bs f None ≡ Some x → unread x.places ≡ [] → x.next ≡ None → chained n bs (Some f) ≡ []

@@ -61,6 +61,7 @@ pub mod ChainGathering
 pub mod Growing
 pub mod Handling
 pub mod Counting
+pub mod Presence
 pub mod Peaking
 pub mod SoFar
 pub mod AllKinds

@@ -1,7 +1,7 @@
 -- The greatest number of blocks of a run, one event more at a time.
 use Rattle.std.proofs.Common.{◌≡◌, ◌∙◌, ◌⊎◌, inl, inr, ℕ, ◌+◌, ◌<◌, ◌≤◌, nat_lt, Bool, true, false, if◌then◌else◌, Option, Some, None, List, [], ◌∷◌, ◌++◌, length, refl, sym, ap, subst, arith, append_assoc, append-nil, length-append, suc}
 use Rattle.std.proofs.lemmas.List.{length_push}
-use Rattle.std.proofs.lemmas.Bool.{ltb-true, ltb-false}
+use Rattle.std.proofs.lemmas.Bool.{ltb-true, ltb-false, le-ltb}
 use Rattle.queue_steps.specs.Sole.{blocks_of}
 use Rattle.queue_machine.specs.declared.machine.Running.{Running}
 use Rattle.queue_machine.specs.declared.types.Event.{Event}
@@ -14,6 +14,7 @@ use Rattle.queue_machine.specs.Present.{present}
 use Rattle.queue_machine.specs.Cells.{Shared}
 use Rattle.queue_machine.specs.World.{World}
 use Rattle.queue_machine.proofs.Counting.{same-accepted, same-blocks}
+use Rattle.queue_machine.proofs.Presence.{Sparing}
 
 -- a beginning of a list with one entry more is all of it, or a beginning of the list
 abbrev IsSplit : {A : Type 0} → List A → A → List A → List A → Type 0
@@ -137,4 +138,26 @@ peak-more cap parties es ts e t w c p as_long run peak within bound spans =
             bound_is = peak.bound_is;
             spans = spans-more cap parties es ts e t c p.blocks p.blocks as_long run peak.spans (omega arith) (λ some. let now = spans some in omega arith);
           }
+    ] refl
+
+-- there are no more blocks than the peak has
+pub peaked-covers : {T : Type 0} (w : World (Shared T) (Running T)) (p : Peak) → present w.shared.blocks ≤ (peaked w p).blocks
+peaked-covers w p =
+    elim (nat_lt p.blocks (present w.shared.blocks)) as (λ b. nat_lt p.blocks (present w.shared.blocks) ≡ b → present w.shared.blocks ≤ (if b then record { blocks = present w.shared.blocks; bound = bound_of w } else p).blocks) [
+      | true ↦ λ is. omega arith
+      | false ↦ λ is. ltb-false p.blocks (present w.shared.blocks) is
+    ] refl
+
+-- where no number was given out, the peak stays
+pub peaked-if : {T : Type 0} (w w' : World (Shared T) (Running T)) (p : Peak) (n n' : ℕ) → n ≡ length w.shared.blocks → n' ≡ length w'.shared.blocks → Sparing w.shared.blocks w'.shared.blocks → present w.shared.blocks ≤ p.blocks
+    → (if nat_lt n n' then peaked w' p else p) ≡ peaked w' p
+peaked-if w w' p n n' en en' spares covers =
+    elim (nat_lt n n') as (λ b. nat_lt n n' ≡ b → (if b then peaked w' p else p) ≡ peaked w' p) [
+      | true ↦ λ is. refl
+      | false ↦ λ is.
+          let few = ltb-false n n' is in
+          let at_least = spares.0 in
+          let less = spares.1 (omega arith) in
+          let test : nat_lt p.blocks (present w'.shared.blocks) ≡ false = le-ltb p.blocks (present w'.shared.blocks) (omega arith) in
+          rw test refl
     ] refl

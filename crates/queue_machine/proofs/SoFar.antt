@@ -17,7 +17,7 @@ use Rattle.queue_machine.specs.Present.{present}
 use Rattle.queue_machine.proofs.Engine as engine
 use Rattle.queue_machine.proofs.KindLaws.{KindLaws, SimulatesOf}
 use Rattle.queue_machine.proofs.Growing.{run-grows, run-cap}
-use Rattle.queue_machine.proofs.Peaking.{Run-length, peak-first, peak-more}
+use Rattle.queue_machine.proofs.Peaking.{Run-length, peak-first, peak-more, peaked-covers}
 use Rattle.queue_machine.specs.Peaks.{bound_of, opening_peak, peaked}
 use Rattle.queue_machine.specs.declared.types.Peak.{Peak}
 use Rattle.queue_machine.specs.World.{World}
@@ -53,6 +53,7 @@ pub record SoFar {T : Type 0} {k : Kind} (laws : KindLaws T k) (parties : ℕ) (
   pub skipped_are : skipped ≡ entries_from skipped_entry 0 past told
   pub highest : IsPeak (capacity_of k) parties past told peak
   pub no_blocks : HasNoBlocks (capacity_of k) peak
+  pub covers : present w.shared.blocks ≤ peak.blocks
 
 nobody_calls : {X : Type 0} (n p : ℕ) (x : X) → get_or (replicate n x) p x ≡ x
 nobody_calls zero p x = refl
@@ -85,6 +86,7 @@ so_far-first {T} {k} laws parties = record {
   skipped_are = refl;
   highest = peak-first (capacity_of k) parties;
   no_blocks = none-first (capacity_of k);
+  covers = omega arith;
 }
   where
     none-first : (cap : Option ℕ) → HasNoBlocks cap opening_peak
@@ -127,6 +129,7 @@ so_far-more {T} {k} laws parties past w replies effects skipped peak ok e s =
       skipped_are = ap (λ l. l ++ skipped_entry (length past) (party_of e) t) s.skipped_are ∙ sym (entries-more skipped_entry 0 (length past) past s.told e t same (omega arith));
       highest = peak-more (capacity_of k) parties past s.told e t after next.0 peak same run s.highest counts.within (bound-share laws parties after next.0 next.2) counts.spans;
       no_blocks = none-more (capacity_of k) after peak (λ n capped. counts.none n (run-cap (capacity_of k) parties (opening (capacity_of k)) (past ++ e ∷ []) (s.told ++ t ∷ []) next.0 run ∙ capped)) s.no_blocks;
+      covers = peaked-covers after peak;
     }
 
 -- the next step of a call in progress can be taken

@@ -1,5 +1,5 @@
 //! How many blocks a run held at most.
-ghost use Rattle.std.specs.Prelude.{◌≡◌, ◌<◌, ◌^◌};
+ghost use Rattle.std.specs.Prelude.{◌≡◌, ◌<◌, ◌^◌, nat_lt, if◌then◌else◌, length};
 ghost use Rattle.queue_steps.specs.Words.{position_of};
 ghost use Rattle.queue_steps.specs.ChainWords.{items_before};
 ghost use Rattle.queue_machine.specs.Cells.{shared_of};
@@ -60,7 +60,7 @@ pub(crate) fn opening() -> Peak
 }
 
 /// The greatest number of blocks so far, and the bound at the first moment that had so many.
-pub(crate) fn peak<T: Drop, A: Allocator>(machine: &Machine<T, A>, peak: Peak) -> Peak
+fn peak<T: Drop, A: Allocator>(machine: &Machine<T, A>, peak: Peak) -> Peak
     ensures { result ≡ peaked (world_of machine.now) peak }
 {
     let blocks = present(&machine.cells.blocks);
@@ -71,5 +71,27 @@ pub(crate) fn peak<T: Drop, A: Allocator>(machine: &Machine<T, A>, peak: Peak) -
         }
     } else {
         peak
+    }
+}
+
+/// How many numbers of blocks were given out.
+pub(crate) fn numbers<T: Drop, A: Allocator>(machine: &Machine<T, A>) -> usize
+    ensures { result ≡ length machine.now.cells.blocks.items }
+{
+    machine.cells.blocks.len()
+}
+
+/// The same after an event before which so many numbers of blocks were given out: where none was since, there are no more blocks than before.
+pub(crate) fn after<T: Drop, A: Allocator>(
+    machine: &Machine<T, A>,
+    before: usize,
+    highest: Peak,
+) -> Peak
+    ensures { result ≡ (if nat_lt before (length machine.now.cells.blocks.items) then peaked (world_of machine.now) highest else highest) }
+{
+    if before < numbers(machine) {
+        peak(machine, highest)
+    } else {
+        highest
     }
 }

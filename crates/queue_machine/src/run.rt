@@ -110,9 +110,10 @@ pub fn replay<T: Drop, A: Allocator + Copy>(
     let mut number = 0;
     for event in events {
         let party = party(&event);
+        let before = peaks::numbers(&machine);
         let told = machine.handle(alloc, event);
         lists.note(number, count, party, told);
-        peak = peaks::peak(&machine, peak);
+        peak = peaks::after(&machine, before, peak);
         number += 1;
     }
     let Lists {

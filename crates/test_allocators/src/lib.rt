@@ -23,6 +23,7 @@ struct Tally {
     refusal: Refusal,
     requests: u64,
     live: u64,
+    most: u64,
 }
 
 /// An allocator that passes each request on, unless it refuses it. Collections take a `&` to it.
@@ -40,6 +41,7 @@ impl<B: Allocator> Refusing<B> {
                 refusal,
                 requests: 0,
                 live: 0,
+                most: 0,
             }),
         }
     }
@@ -52,6 +54,11 @@ impl<B: Allocator> Refusing<B> {
     /// How many blocks were passed on and not given back.
     pub fn live(&self) -> u64 {
         self.tally.get().live
+    }
+
+    /// How many there were at most at one time.
+    pub fn most(&self) -> u64 {
+        self.tally.get().most
     }
 }
 
@@ -79,6 +86,7 @@ fn is_refused(tally: &Cell<Tally>) -> bool {
         refusal: before.refusal,
         requests,
         live,
+        most: before.most.max(live),
     });
     refused
 }
@@ -90,6 +98,7 @@ fn give_back(tally: &Cell<Tally>) {
         refusal: before.refusal,
         requests: before.requests,
         live: before.live.wrapping_sub(1),
+        most: before.most,
     });
 }
 

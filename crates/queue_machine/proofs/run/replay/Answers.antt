@@ -7,7 +7,7 @@ use Rattle.queue_machine.specs.Conforms.{Conforms, capacity_of}
 use Rattle.queue_machine.specs.Left.{left_of}
 use Rattle.queue_machine.proofs.OneOwnerRun.{one_owner}
 use Rattle.queue_machine.specs.Machine.{world_of}
-use Rattle.queue_machine.proofs.AllKinds.{known-first, known-can, known-next, known-room, known-end, known-none, has_machine}
+use Rattle.queue_machine.proofs.AllKinds.{known-first, known-can, known-peak, known-next, known-room, known-end, known-none, has_machine}
 use Rattle.queue_machine.proofs.run.replay.Goals as goal
 
 pub handle-told-requires-clause-can : goal.handle-told-requires-clause-can
@@ -37,12 +37,15 @@ loop-event-preserved g c =
     record {
       can = tt;
       finite = tt;
-      known = known-next c.args.kind c.args.parties c.loop-event.yielded (world_of c.loop-event.machine) (world_of c.handle-told.new.self)
-          c.loop-event.lists.replies.items c.note.new.self.replies.items c.loop-event.lists.effects.items c.note.new.self.effects.items c.loop-event.lists.skipped.items c.note.new.self.skipped.items c.loop-event.peak c.peak-peak.result
+      known = let same = known-peak c.args.kind c.args.parties c.loop-event.yielded (world_of c.loop-event.machine) (world_of c.handle-told.new.self)
+          c.loop-event.lists.replies.items c.loop-event.lists.effects.items c.loop-event.lists.skipped.items c.loop-event.peak c.in-Some.event c.handle-told.result
+          c.numbers-before.result (length c.handle-told.new.self.cells.blocks.items) c.loop-event.invariant.known (rw c.loop-event.invariant.kind_is at c.handle-told.ensures.handles) c.numbers-before.ensures refl in
+      known-next c.args.kind c.args.parties c.loop-event.yielded (world_of c.loop-event.machine) (world_of c.handle-told.new.self)
+          c.loop-event.lists.replies.items c.note.new.self.replies.items c.loop-event.lists.effects.items c.note.new.self.effects.items c.loop-event.lists.skipped.items c.note.new.self.skipped.items c.loop-event.peak c.after-peak.result
           c.in-Some.event c.loop-event.number c.party-party.result c.handle-told.result
           c.loop-event.invariant.known c.loop-event.invariant.number_is c.party-party.ensures
           (rw c.loop-event.invariant.kind_is at c.handle-told.ensures.handles)
-          c.note.ensures.replies c.note.ensures.effects c.note.ensures.skipped c.peak-peak.ensures;
+          c.note.ensures.replies c.note.ensures.effects c.note.ensures.skipped (c.after-peak.ensures ∙ same);
       kind_is = c.handle-told.ensures.kind ∙ c.loop-event.invariant.kind_is;
       number_is = omega (arith, length_push c.loop-event.yielded c.in-Some.event, c.loop-event.invariant.number_is);
       room = c.note.ensures.room;
