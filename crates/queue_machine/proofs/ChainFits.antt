@@ -44,7 +44,7 @@ pub record ChainFits {A : Type 0} (busy : ℕ) (s : Shared A) (Q : State A) (g :
 abbrev pub ChainGoes : (A : Type 0) (Stands : Shared A → State A → Chain A → Type 0) → ℕ → Shared A → State A → Chain A → ℕ → Open A → Option (Running A) → Option (Reply A) → Type 0
 ChainGoes A Stands = engine.Goes A (Shared A) (Running A) (Chain A) None (step_of queue.Unbounded) (start_of queue.Unbounded) (CanStep queue.Unbounded) Stands ChainIdle ChainFits
 
-abbrev pub ChainBegins : (A : Type 0) (Stands : Shared A → State A → Chain A → Type 0) → Shared A → State A → Chain A → ℕ → Call A → Option (Running A) → Option (Reply A) → Type 0
+abbrev ChainBegins : (A : Type 0) (Stands : Shared A → State A → Chain A → Type 0) → Shared A → State A → Chain A → ℕ → Call A → Option (Running A) → Option (Reply A) → Type 0
 ChainBegins A Stands = engine.BeginsWell A (Shared A) (Running A) (Chain A) None (step_of queue.Unbounded) (start_of queue.Unbounded) (CanStep queue.Unbounded) Stands ChainIdle ChainFits
 
 -- where the call stands after its step, or its reply
