@@ -13,16 +13,13 @@ use Rattle.chain_laws.proofs.ChainAt.{At}
 use Rattle.chain_laws.proofs.ChainAnswers.{Answers}
 use Rattle.chain_laws.proofs.ChainStep.{chain_of, carried_of, after_of}
 use Rattle.chain_laws.proofs.ChainRight.{Gives, left_by}
-use Rattle.queue_machine.specs.declared.machine.Running.{Running}
 use Rattle.queue_machine.specs.Cells.{Shared, CanTouch, CanOperate, slots_there, block_touched, after_touch, carried_then, answer_to, shared_then}
+use Rattle.queue_machine.proofs.RingGood.{running}
 use Rattle.queue_machine.proofs.ChainNames.{Codes}
 
 -- the words, the links and the blocks of the machine are those of the chain
 abbrev pub Stands : {A : Type 0} → Shared A → Chain A → Type 0
 Stands s c = Codes c s.head s.tail s.head_block s.tail_block s.blocks
-
-abbrev pub running : {A : Type 0} → Local ℕ → Touch → Op ℕ → Option A → Running A
-running l t o v = record { local = l; touch = t; op = o; carried = v }
 
 -- the next step of the call can be taken, it is answered by what the chain says, and it leaves the machine standing for the chain after it
 pub record Coded {A : Type 0} (c : Chain A) (who : ℕ) (ms : List (State A)) {l : Local ℕ} {t : Touch} {o : Op ℕ} {v : Option A} {k : Call A} {es : List (Effect A)} (granted : Bool) (s : Shared A) (at : At c who ms l t o v k es) : Type 0 where

@@ -6,6 +6,7 @@ use Rattle.queue_steps.specs.declared.sizes.TheConstants.{BLOCK_SLOTS}
 use Rattle.queue_steps.specs.State.{State}
 use Rattle.queue_steps.specs.ChainWords.{offset_of}
 use Rattle.queue_steps.specs.UnboundedNext.{at, walks, walks_on}
+use Rattle.queue_steps.specs.declared.steps.types.Answer.TheVariants as answer
 use Rattle.queue_steps.specs.declared.steps.types.Next.{Next}
 use Rattle.queue_steps.specs.declared.steps.types.Next.TheVariants as next
 use Rattle.queue_steps.specs.declared.steps.types.Op.TheVariants as op
@@ -15,7 +16,7 @@ use Rattle.queue_steps.specs.declared.steps.unbounded.UnboundedLocal.TheVariants
 use Rattle.chain_laws.proofs.ChainCells.{Wrote, Reading, Done, Walker, Waits, GivenUp, Chain, ChainOk, Read, Passed, Holds, item_at, LAST}
 use Rattle.chain_laws.proofs.ChainFacts.{head_of, IsNamed, Got}
 use Rattle.chain_laws.proofs.ChainRight.{left_by}
-use Rattle.queue_machine.specs.Blocks.{Block, without}
+use Rattle.queue_machine.specs.Blocks.{place_count, Block, without, blank, places_in, state_of, put_item, put_state}
 use Rattle.queue_machine.specs.Cells.{Shared, spare_in}
 use Rattle.queue_machine.proofs.ChainNames.{Codes}
 use Rattle.queue_machine.proofs.ChainBlocks.{there, place_in, item_put, state_put, state_is, state_left, both_put, placed_same}
@@ -26,12 +27,11 @@ use Rattle.queue_steps.specs.declared.model.Reply.TheVariants as reply
 use Rattle.queue_steps.specs.declared.steps.unbounded.TheConstants.{READ, DESTROY}
 use Rattle.chain_laws.proofs.ChainCells.{Walk, Before, Chained, put_same, WalkOk}
 use Rattle.chain_laws.proofs.ChainReads.{walk_after, reads, walked}
-use Rattle.chain_laws.proofs.ChainAnswers.{is_done, done_is, waits_at, IsState}
+use Rattle.chain_laws.proofs.ChainAnswers.{is_done, done_is, waits_at, IsState, StateAnswers}
 use Rattle.chain_laws.proofs.ChainRead.{head_offset, waits_is}
 use Rattle.chain_laws.proofs.ChainWalk.{after_walker}
 use Rattle.chain_laws.proofs.ChainAt.{Only, IsLast, reading, beginning, walking, destroying}
 use Rattle.queue_machine.specs.declared.blocks.Place.{Place}
-use Rattle.queue_machine.specs.Blocks.{blank, places_in, state_of, put_item, put_state}
 use Rattle.queue_machine.proofs.ChainCodes.{BlockIs, lies}
 use Rattle.queue_machine.proofs.ChainNames.{Changed}
 use Rattle.queue_machine.proofs.ChainBlocks.{placed, changed_twice, changed_set, changed_none}
@@ -62,28 +62,51 @@ walk_on {A} {r = r} {head = head} {tail = tail} {front = front} {last = last} {b
         subst (λ t. Codes (left_by (r (walk_after who slot)) (n t)) head tail front last (without (spare_in (n t)) changed)) (sym (lt-ltb (slot + 2) BLOCK_SLOTS (let ne = h.1 in omega arith)))
         (gives (walk_after who slot) (Some x) changed refl now (inr ((λ e. let z : Walker who (slot + 1) ≡ GivenUp = sym h.0 ∙ e in cc), refl)))
 
+-- the block that a walk is at, and the state word of the slot there
+record WalkBlock {A : Type 0} (c : Chain A) (s : Shared A) (b name slot : ℕ) : Type 0 where
+  x : Block A
+  is : get_or s.blocks name None ≡ Some x
+  block : BlockIs c b x.places x.next
+  low : slot < LAST
+  state : IsState c b slot (state_of s.blocks name slot)
+
+walk_block : {A : Type 0} (c : Chain A) (who : ℕ) (s : Shared A) (b name slot : ℕ) → ChainOk c → Stands s c → c.walks b ≡ Walker who slot → IsNamed c b name → WalkBlock c s b name slot
+walk_block c who s b name slot right codes is named =
+    let x = block_at b name right named (λ e. let z : Walker who slot ≡ GivenUp = sym is ∙ e in cc) codes in
+    let walk : WalkOk c.readers b (Walker who slot) = subst (λ w. WalkOk c.readers b w) is (right.walk b) in
+    let low = walk.0 in
+    record {
+      x = x.0;
+      is = x.1;
+      block = x.2;
+      low = low;
+      state = subst (λ m. IsState c b slot m) (sym (state_is s.blocks name slot x.0 x.1)) (x.2.state slot (omega arith) (λ last. absurd (omega arith)));
+    }
+
+-- what the state word of a walk's slot answers
+walk_answers : {A : Type 0} (c : Chain A) (s : Shared A) (b name slot : ℕ) → ChainOk c → IsNamed c b name → WalkBlock c s b name slot → (slot < place_count s.blocks name) × StateAnswers c name slot (answer.Found (state_of s.blocks name slot))
+walk_answers c s b name slot right named at_walk =
+    let low = at_walk.low in (
+      has_place s.blocks b name slot at_walk.x at_walk.is at_walk.block (omega arith),
+      state_answers s.blocks b name slot (state_of s.blocks name slot) at_walk.x right named at_walk.block (omega arith) (λ last. absurd (omega arith)) (state_is s.blocks name slot at_walk.x at_walk.is),
+    )
+
 -- W1
 pub coded_walking : {A : Type 0} (c : Chain A) (who : ℕ) (ms : List (State A)) (ok : Bool) (s : Shared A) (x : A) (b name slot : ℕ) (holds : Holds c who (Only (Passed b))) (is : c.walks b ≡ Walker who slot) (named : IsNamed c b name)
     → ChainOk c → Stands s c → Coded c who ms ok s (walking x b name slot holds is named)
 coded_walking {A} c who ms ok s x b name slot holds is named right codes = record {
   touches = tt;
-  operates = has_place s.blocks b name slot block.0 block.1 block.2 wide;
-  answers = state_answers s.blocks b name slot (state_of s.blocks name slot) block.0 right named block.2 wide (λ last. absurd (let l = low in omega arith)) (state_is s.blocks name slot block.0 block.1);
+  operates = found.0;
+  answers = found.1;
   carried = refl;
-  codes = λ fine gives. go (is_done (c.readers (item_at b slot))) (bit_and (state_of s.blocks name slot) READ == 0) refl state.read;
+  codes = λ fine gives. go (is_done (c.readers (item_at b slot))) (bit_and (state_of s.blocks name slot) READ == 0) refl at_walk.state.read;
 }
   where
-    low : slot < LAST
-    low = (let h : WalkOk c.readers b (Walker who slot) = subst (λ w. WalkOk c.readers b w) is (right.walk b) in h.0)
+    at_walk : WalkBlock c s b name slot
+    at_walk = walk_block c who s b name slot right codes is named
 
-    wide : slot < BLOCK_SLOTS
-    wide = let l = low in omega arith
-
-    block : (y : Block A) × (get_or s.blocks name None ≡ Some y) × BlockIs c b y.places y.next
-    block = block_at b name right named (λ e. let z : Walker who slot ≡ GivenUp = sym is ∙ e in cc) codes
-
-    state : IsState c b slot (state_of s.blocks name slot)
-    state = subst (λ m. IsState c b slot m) (sym (state_is s.blocks name slot block.0 block.1)) (block.2.state slot wide (λ last. absurd (let l = low in omega arith)))
+    found : (slot < place_count s.blocks name) × StateAnswers c name slot (answer.Found (state_of s.blocks name slot))
+    found = walk_answers c s b name slot right named at_walk
 
     n : Bool → Next ℕ
     n u = if not u then walks_on name slot else at (chain.Destroying name slot) touch.Nothing (op.Or (word.State name slot) DESTROY)
@@ -91,11 +114,11 @@ coded_walking {A} c who ms ok s x b name slot holds is named right codes = recor
     go : (t u : Bool) → is_done (c.readers (item_at b slot)) ≡ t → u ≡ not t → Codes (left_by (if t then walked c b (walk_after who slot) else c) (n u)) s.head s.tail s.head_block s.tail_block (without (spare_in (n u)) s.blocks)
     go false u done e = subst (λ u. Codes (left_by c (n u)) s.head s.tail s.head_block s.tail_block (without (spare_in (n u)) s.blocks)) (sym e) codes
     go true u done e =
-        let same = block.2.state slot wide (λ last. absurd (let l = low in omega arith)) in
-        let z = placed block.0 slot (place_in block.0 slot) in
+        let same = (let low = at_walk.low in at_walk.block.state slot (omega arith) (λ last. absurd (omega arith))) in
+        let z = placed at_walk.x slot (place_in at_walk.x slot) in
         subst (λ u. Codes (left_by (walked c b (walk_after who slot)) (n u)) s.head s.tail s.head_block s.tail_block (without (spare_in (n u)) s.blocks)) (sym e)
-        (walk_on {r = λ w. walked c b w} who slot b name z low (changed_none block.1 (ap (λ y. Some y) (sym (placed_same block.0 slot)))) (λ w. ap c.uses named.1 ∙ right.name b named.0)
-        (λ w y after way changed left. codes_walked b slot name w (place_in block.0 slot) y block.0 right low named block.2
+        (walk_on {r = λ w. walked c b w} who slot b name z at_walk.low (changed_none at_walk.is (ap (λ y. Some y) (sym (placed_same at_walk.x slot)))) (λ w. ap c.uses named.1 ∙ right.name b named.0)
+        (λ w y after way changed left. codes_walked b slot name w (place_in at_walk.x slot) y at_walk.x right at_walk.low named at_walk.block
         (λ j ne. ap (λ v. waits_at v j) way ∙ (after_waits who slot j ∙ sym (ap (λ v. waits_at v j) is)))
         refl
         (record { written = same.written; read = same.read; destroyed = λ ne. absurd (ne (done_is (c.readers (item_at b slot)) done)) })
@@ -106,32 +129,26 @@ pub coded_destroying : {A : Type 0} (c : Chain A) (who : ℕ) (ms : List (State 
     → ChainOk c → Stands s c → Coded c who ms ok s (destroying x b name slot holds is named)
 coded_destroying {A} c who ms ok s x b name slot holds is named right codes = record {
   touches = tt;
-  operates = has_place s.blocks b name slot block.0 block.1 block.2 wide;
-  answers = state_answers s.blocks b name slot (state_of s.blocks name slot) block.0 right named block.2 wide (λ last. absurd (let l = low in omega arith)) (state_is s.blocks name slot block.0 block.1);
+  operates = found.0;
+  answers = found.1;
   carried = refl;
-  codes = λ fine gives. go (is_done (c.readers (item_at b slot))) (bit_and (state_of s.blocks name slot) READ == 0) refl state.read;
+  codes = λ fine gives. go (is_done (c.readers (item_at b slot))) (bit_and (state_of s.blocks name slot) READ == 0) refl at_walk.state.read;
 }
   where
-    low : slot < LAST
-    low = (let h : WalkOk c.readers b (Walker who slot) = subst (λ w. WalkOk c.readers b w) is (right.walk b) in h.0)
+    at_walk : WalkBlock c s b name slot
+    at_walk = walk_block c who s b name slot right codes is named
 
-    wide : slot < BLOCK_SLOTS
-    wide = let l = low in omega arith
-
-    block : (y : Block A) × (get_or s.blocks name None ≡ Some y) × BlockIs c b y.places y.next
-    block = block_at b name right named (λ e. let z : Walker who slot ≡ GivenUp = sym is ∙ e in cc) codes
-
-    state : IsState c b slot (state_of s.blocks name slot)
-    state = subst (λ m. IsState c b slot m) (sym (state_is s.blocks name slot block.0 block.1)) (block.2.state slot wide (λ last. absurd (let l = low in omega arith)))
+    found : (slot < place_count s.blocks name) × StateAnswers c name slot (answer.Found (state_of s.blocks name slot))
+    found = walk_answers c s b name slot right named at_walk
 
     marked_word : ℕ
     marked_word = bit_or (state_of s.blocks name slot) DESTROY
 
     p : Place A
-    p = record (place_in block.0 slot) { state = marked_word }
+    p = record (place_in at_walk.x slot) { state = marked_word }
 
-    changed : Changed s.blocks (put_state s.blocks name slot marked_word) name (Some (placed block.0 slot p))
-    changed = state_put s.blocks name slot marked_word block.0 block.1
+    changed : Changed s.blocks (put_state s.blocks name slot marked_word) name (Some (placed at_walk.x slot p))
+    changed = state_put s.blocks name slot marked_word at_walk.x at_walk.is
 
     n : Bool → Next ℕ
     n u = if not u then walks_on name slot else next.Reply (reply.Pop (Ok tt)) None
@@ -140,19 +157,19 @@ coded_destroying {A} c who ms ok s x b name slot holds is named right codes = re
         → Codes (left_by (walked c b (if t then walk_after who slot else Waits slot)) (n u)) s.head s.tail s.head_block s.tail_block (without (spare_in (n u)) (put_state s.blocks name slot marked_word))
     go false u done e =
         subst (λ u. Codes (left_by (walked c b (Waits slot)) (n u)) s.head s.tail s.head_block s.tail_block (without (spare_in (n u)) (put_state s.blocks name slot marked_word))) (sym e)
-        (codes_walked b slot name (Waits slot) p (Some (placed block.0 slot p)) block.0 right low named block.2
+        (codes_walked b slot name (Waits slot) p (Some (placed at_walk.x slot p)) at_walk.x right at_walk.low named at_walk.block
         (λ j ne. ne_eqb slot j (λ z. ne (sym z)) ∙ sym (ap (λ v. waits_at v j) is))
         refl
-        (state_waits c (walked c b (Waits slot)) b slot (state_of s.blocks name slot) refl refl (put_same c.walks b (Waits slot)) state)
+        (state_waits c (walked c b (Waits slot)) b slot (state_of s.blocks name slot) refl refl (put_same c.walks b (Waits slot)) at_walk.state)
         changed (inr ((λ z. cc), refl)) codes)
     go true u done e =
         let read = done_is (c.readers (item_at b slot)) done in
         subst (λ u. Codes (left_by (walked c b (walk_after who slot)) (n u)) s.head s.tail s.head_block s.tail_block (without (spare_in (n u)) (put_state s.blocks name slot marked_word))) (sym e)
-        (walk_on {r = λ w. walked c b w} who slot b name (placed block.0 slot p) low changed (λ w. ap c.uses named.1 ∙ right.name b named.0)
-        (λ w y after way now left. codes_walked b slot name w p y block.0 right low named block.2
+        (walk_on {r = λ w. walked c b w} who slot b name (placed at_walk.x slot p) at_walk.low changed (λ w. ap c.uses named.1 ∙ right.name b named.0)
+        (λ w y after way now left. codes_walked b slot name w p y at_walk.x right at_walk.low named at_walk.block
         (λ j ne. ap (λ v. waits_at v j) way ∙ (after_waits who slot j ∙ sym (ap (λ v. waits_at v j) is)))
         refl
-        (state_passed c (walked c b w) b slot (state_of s.blocks name slot) refl read read state)
+        (state_passed c (walked c b w) b slot (state_of s.blocks name slot) refl read read at_walk.state)
         now left codes))
 
 -- a walk that waits at one slot waits at no other

@@ -1,5 +1,5 @@
 -- The blocks of a machine over a chain are within the bound, and no fewer than its items span.
-use Rattle.std.proofs.Common.{ℕ, ◌+◌, ◌<◌, ◌≤◌, ◌≡◌, ◌≢◌, not, nat_lt, ◌∙◌, inl, inr, Bool, true, false, Option, Some, None, is_some, List, [], ◌∷◌, length, refl, sym, ap, subst, arith, get_or}
+use Rattle.std.proofs.Common.{ℕ, ◌<◌, ◌≡◌, ◌≢◌, not, nat_lt, ◌∙◌, inl, inr, true, false, Option, Some, None, is_some, List, [], ◌∷◌, length, refl, sym, ap, subst, arith, get_or}
 use Rattle.std.proofs.lemmas.Bool.{ltb-true, ltb-false}
 use Rattle.std.proofs.lemmas.List.{get_or_past}
 use Rattle.queue_steps.specs.State.{State}
@@ -17,11 +17,9 @@ use Rattle.queue_machine.specs.declared.machine.Running.{Running}
 use Rattle.queue_machine.specs.Blocks.{Block}
 use Rattle.queue_machine.specs.Book.{Book}
 use Rattle.queue_machine.specs.Cells.{Shared}
-use Rattle.queue_machine.specs.Conforms.{share}
-use Rattle.queue_machine.specs.Peaks.{held}
 use Rattle.queue_machine.specs.Present.{present}
 use Rattle.queue_machine.specs.World.{World, call_at}
-use Rattle.queue_machine.proofs.ChainNames.{NameIs, HeldIs, AliveIs, Codes}
+use Rattle.queue_machine.proofs.ChainNames.{NameIs}
 use Rattle.queue_machine.proofs.ChainHolding.{ChainHolds}
 use Rattle.queue_machine.proofs.KindLaws.{IsCounted}
 

@@ -1,10 +1,7 @@
 -- What a call on a chain has claimed and is still to do to a block: to put its item, to lay a block behind, or to read.
-use Rattle.std.proofs.Common.{ℕ, ◌+◌, ◌-◌, ◌/◌, ◌%◌, ◌≡◌, ◌==◌, ◌∙◌, ◌⊎◌, inl, inr, Bool, if◌then◌else◌, Option, Some, None, List, refl, sym, ap, set, get_or, arith}
+use Rattle.std.proofs.Common.{ℕ, ◌+◌, ◌-◌, ◌/◌, ◌%◌, ◌≡◌, ◌∙◌, ◌⊎◌, inl, inr, Bool, Option, Some, None, List, refl, sym, ap, arith}
 use Rattle.queue_steps.specs.declared.sizes.TheConstants.{BLOCK_SLOTS}
-use Rattle.queue_steps.specs.State.{State}
 use Rattle.queue_steps.specs.ChainWords.{offset_of}
-use Rattle.queue_steps.specs.declared.model.Call.{Call}
-use Rattle.queue_steps.specs.declared.model.Effect.{Effect}
 use Rattle.queue_steps.specs.declared.steps.types.Local.{Local}
 use Rattle.queue_steps.specs.declared.steps.types.Local.TheVariants as local
 use Rattle.queue_steps.specs.declared.steps.types.Op.{Op}
@@ -13,13 +10,13 @@ use Rattle.queue_steps.specs.declared.steps.types.Touch.TheVariants as touch
 use Rattle.queue_steps.specs.declared.steps.unbounded.TheConstants.{READ}
 use Rattle.queue_steps.specs.declared.steps.unbounded.UnboundedLocal.{UnboundedLocal}
 use Rattle.queue_steps.specs.declared.steps.unbounded.UnboundedLocal.TheVariants as chain
-use Rattle.chain_laws.proofs.ChainCells.{Writing, Reading, Laying, Opening, Passing, Entering, Linking, Showing, Walker, Spare, Chain, ChainOk, BlocksOk, Part, Write, Read, Tail, Head, Next, First, Passed, writer_of, reader_of, mover_of, passer_of, linker_of, shower_of, Holds, Nothing}
+use Rattle.chain_laws.proofs.ChainCells.{Writing, Reading, Laying, Passing, Linking, Showing, Spare, Chain, Part, Write, Read, Tail, Head, Next, First, Passed, writer_of, reader_of, mover_of, passer_of, linker_of, shower_of, Holds, Nothing}
 use Rattle.chain_laws.proofs.ChainFacts.{head_of, open_tail_of, IsNamed, Claimed, Got}
-use Rattle.chain_laws.proofs.ChainAt.{Only, Either, At, push_tail, push_block, asking, installing, showing, claiming, laying, opening, chaining, writing, spending, pop_head, pop_block, pop_tail, taking, following, peeking, passing, entering, awaiting, reading, beginning, walking, destroying, len_tail, len_head, len_again, empty_head, empty_tail, closing, closed_tail}
+use Rattle.chain_laws.proofs.ChainAt.{Only, Either}
 use Rattle.chain_laws.proofs.ChainRead.{head_offset}
 use Rattle.queue_machine.specs.Blocks.{Block, put_state, put_item, put_next}
 use Rattle.queue_machine.specs.Cells.{block_touched}
-use Rattle.queue_machine.specs.ChainLeft.{reached, settled_at, settled_by, front_at}
+use Rattle.queue_machine.specs.ChainLeft.{reached, settled_at, settled_by}
 
 -- nothing; to put this into a slot; that, and to link the block to a fresh one; to read a slot
 pub data Deed (A : Type 0) : Type 0 where
@@ -169,8 +166,8 @@ reads_alone g who n x name more holds got =
 pub reads_and_passes : {A : Type 0} (g : Chain A) (who n : ℕ) (x : A) (name : ℕ) (more : Bool) → Holds g who (Either (Read n) Head) → Got g who n x name → g.head ≡ n + 1 → DeedIs g who (Reads name (offset_of (head_of n more))) (λ x. x)
 reads_and_passes g who n x name more holds got at =
     reads_it g who n (offset_of (head_of n more)) x name (Either (Read n) Head) holds got (head_offset n more)
-        (λ m z. elim z [ inl e ↦ cc | inr e ↦ cc ]) (λ m z. elim z [ inl e ↦ cc | inr e ↦ absurd (cc) ]) (λ b z. elim z [ inl e ↦ cc | inr e ↦ cc ]) (λ z. elim z [ inl e ↦ cc | inr e ↦ cc ]) (λ z. elim z [ inl e ↦ cc | inr e ↦ cc ])
-        (λ e. ap g.readers (let z : g.head - 1 ≡ n = omega arith in z) ∙ got.mine)
+    (λ m z. elim z [ inl e ↦ cc | inr e ↦ cc ]) (λ m z. elim z [ inl e ↦ cc | inr e ↦ absurd (cc) ]) (λ b z. elim z [ inl e ↦ cc | inr e ↦ cc ]) (λ z. elim z [ inl e ↦ cc | inr e ↦ cc ]) (λ z. elim z [ inl e ↦ cc | inr e ↦ cc ])
+    (λ e. ap g.readers (let z : g.head - 1 ≡ n = omega arith in z) ∙ got.mine)
 
 -- a party that writes this item
 pub writes_it : {A : Type 0} (g : Chain A) (who n : ℕ) (v : A) (name : ℕ) → Holds g who (Only (Write n)) → Claimed g who n v name → DeedIs g who (Puts name (offset_of (open_tail_of n)) (Some v)) (λ x. x)

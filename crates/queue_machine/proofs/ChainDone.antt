@@ -1,6 +1,6 @@
 -- A block of the machine once every call in progress has done what it has claimed.
 use Rattle.std.proofs.Common.{ℕ, suc, zero, ◌<◌, ◌≡◌, ◌≢◌, ◌==◌, ◌∙◌, inl, inr, Bool, true, false, if◌then◌else◌, Option, Some, None, List, [], ◌∷◌, length, refl, sym, ap, subst, set, get_or, get_or-set_same, get_or-set_other, bit_and, arith}
-use Rattle.std.proofs.lemmas.List.{get_or_past, length-set}
+use Rattle.std.proofs.lemmas.List.{length-set}
 use Rattle.std.proofs.lemmas.Bool.Decides.{eqb_tells}
 use Rattle.queue_steps.specs.declared.sizes.TheConstants.{BLOCK_SLOTS}
 use Rattle.queue_steps.specs.declared.steps.unbounded.TheConstants.{READ}
@@ -131,7 +131,7 @@ unread_kept (Puts b j y) f i t x lt w only q =
     if_at b f (SaysUnread i t) x (with_item j y x) (λ e. put_at x.places j i (record (get_or x.places j blank) { item = y }) (λ p. (bit_and p.state READ == 0) ≡ t) (omega arith) (λ s. subst (λ k. (bit_and (get_or x.places k blank).state READ == 0) ≡ t) (sym s) q) (λ ne. q)) (λ ne. q)
 unread_kept (Lays b j y fresh) f i t x lt w only q =
     if_at b f (SaysUnread i t) x (record (with_item j y x) { next = Some fresh })
-        (λ e. put_at x.places j i (record (get_or x.places j blank) { item = y }) (λ p. (bit_and p.state READ == 0) ≡ t) (omega arith) (λ s. subst (λ k. (bit_and (get_or x.places k blank).state READ == 0) ≡ t) (sym s) q) (λ ne. q)) (λ ne. q)
+    (λ e. put_at x.places j i (record (get_or x.places j blank) { item = y }) (λ p. (bit_and p.state READ == 0) ≡ t) (omega arith) (λ s. subst (λ k. (bit_and (get_or x.places k blank).state READ == 0) ≡ t) (sym s) q) (λ ne. q)) (λ ne. q)
 unread_kept {A} (Reads b j) f i t x lt w only q =
     if_at b f (SaysUnread i t) x (with_read j x) (λ e. put_at x.places j i (record (get_or x.places j blank) { state = READ }) (λ p. (bit_and p.state READ == 0) ≡ t) (omega arith) (λ s. sym (only (ap (λ g. Reads g j) e ∙ ap (λ k. Reads f k) s))) (λ ne. q)) (λ ne. q)
 

@@ -1,25 +1,25 @@
 -- The list that a chain of blocks holds, once every call in progress has done what it has claimed, is that of the queue.
-use Rattle.std.proofs.Common.{ℕ, suc, zero, ◌+◌, ◌-◌, ◌*◌, ◌/◌, ◌<◌, ◌≤◌, ◌≡◌, ◌≢◌, nat_lt, ◌∙◌, ◌⊎◌, inl, inr, Bool, true, false, Option, Some, None, List, [], ◌∷◌, ◌++◌, length, refl, sym, ap, subst, get_or, set, get_or-set_other, drop, arith}
+use Rattle.std.proofs.Common.{ℕ, suc, zero, ◌+◌, ◌-◌, ◌*◌, ◌<◌, ◌≤◌, ◌≡◌, ◌≢◌, nat_lt, ◌∙◌, ◌⊎◌, inl, inr, true, false, Option, Some, None, List, [], ◌∷◌, ◌++◌, length, refl, sym, ap, subst, get_or, set, get_or-set_other, drop, arith}
 use Rattle.std.proofs.lemmas.Bool.{ltb-true, ltb-false}
 use Rattle.std.proofs.lemmas.Bool.Decides.{eqb_tells}
 use Rattle.std.proofs.lemmas.List.{drop_all}
 use Rattle.queue_steps.specs.State.{State}
 use Rattle.queue_steps.specs.declared.sizes.TheConstants.{BLOCK_SLOTS}
 use Rattle.queue_steps.specs.declared.steps.types.Kind.TheVariants as kind
-use Rattle.chain_laws.proofs.ChainCells.{Reading, Done, Passer, Stands, Passing, Entering, Shown, Hidden, Showing, Seen, GivenUp, Before, Use, Unused, Spare, Chained, Chain, queue_of, ChainOk, FrontOk, ShownOk, item_at, LAST, Head, passer_of}
+use Rattle.chain_laws.proofs.ChainCells.{Reading, Done, Passer, Stands, Passing, Entering, Shown, Hidden, Showing, Seen, GivenUp, Before, Unused, Spare, Chained, Chain, ChainOk, FrontOk, ShownOk, item_at, LAST, Head, passer_of}
 use Rattle.chain_laws.proofs.ChainTransitions.{no_block}
 use Rattle.chain_laws.proofs.ChainCount.{number_of}
 use Rattle.chain_laws.proofs.ChainSpan.{not_done}
-use Rattle.chain_laws.proofs.Count.{count, count_all, count_into}
+use Rattle.chain_laws.proofs.Count.{count_all, count_into}
 use Rattle.queue_machine.specs.declared.machine.Running.{Running}
-use Rattle.queue_machine.specs.Blocks.{Block, fresh_block, block_of, places_in, behind, behind_in, without}
+use Rattle.queue_machine.specs.Blocks.{Block, fresh_block, places_in, behind_in, without}
 use Rattle.queue_machine.specs.Book.{Book}
 use Rattle.queue_machine.specs.Cells.{Shared}
-use Rattle.queue_machine.specs.ChainLeft.{unread, chained, settled_blocks, settled_front}
+use Rattle.queue_machine.specs.ChainLeft.{unread, chained, settled_blocks}
 use Rattle.queue_machine.specs.Left.{left_of}
 use Rattle.queue_machine.specs.World.{World, call_at}
 use Rattle.queue_machine.proofs.ChainCodes.{BlockIs}
-use Rattle.queue_machine.proofs.ChainNames.{NameIs, Codes, name_of, alive_of}
+use Rattle.queue_machine.proofs.ChainNames.{NameIs, name_of, alive_of}
 use Rattle.queue_machine.proofs.ChainFresh.{next_high, unwalked}
 use Rattle.queue_machine.proofs.ChainHolding.{ChainHolds}
 use Rattle.queue_machine.proofs.ChainCounted.{StandsAt}
@@ -118,10 +118,10 @@ not_over {A} g calls b ok each low over = let before = unwalked g b ok (unread g
     unread (Entering who) e h = let at = h.0 in inside (omega arith)
     unread (Passing who) e h = elim (eqb_tells b g.front) [
       | inl t ↦
-        let c = in_call g calls each who Head (ap passer_of e) in
-        let mine = (deed_at g calls ok each who c.0 c.1).passes e in
-        let at : item_at b LAST ≡ g.head - 1 = (let same = t.1 in omega arith) in
-        λ read. let z : Reading who ≡ Done = sym mine ∙ (ap g.readers (sym at) ∙ read) in cc
+          let c = in_call g calls each who Head (ap passer_of e) in
+          let mine = (deed_at g calls ok each who c.0 c.1).passes e in
+          let at : item_at b LAST ≡ g.head - 1 = (let same = t.1 in omega arith) in
+          λ read. let z : Reading who ≡ Done = sym mine ∙ (ap g.readers (sym at) ∙ read) in cc
       | inr t ↦ inside (let ne = t.1 in omega arith)
     ]
 
@@ -148,9 +148,9 @@ blocks_few s Q g holds =
         elim (nat_lt (g.names b) (length s.blocks)) as (λ t. nat_lt (g.names b) (length s.blocks) ≡ t → g.names b < length s.blocks) [
           | true ↦ λ is. ltb-true (g.names b) (length s.blocks) is
           | false ↦ λ is.
-            let past = holds.codes.unused (g.names b) (ltb-false (g.names b) (length s.blocks) is) in
-            let z : Chained b ≡ Unused = sym (holds.ok.name b lt) ∙ past in
-            cc
+              let past = holds.codes.unused (g.names b) (ltb-false (g.names b) (length s.blocks) is) in
+              let z : Chained b ≡ Unused = sym (holds.ok.name b lt) ∙ past in
+              cc
         ] refl
 
 -- the walk from the poppers' block on

@@ -1,5 +1,5 @@
 -- How the blocks are linked once every call in progress has done what it has claimed, and which block is the first.
-use Rattle.std.proofs.Common.{ℕ, suc, zero, ◌+◌, ◌-◌, ◌*◌, ◌/◌, ◌<◌, ◌≤◌, ◌≡◌, ◌≢◌, ◌∙◌, ◌⊎◌, inl, inr, Option, Some, None, List, [], ◌∷◌, length, refl, sym, ap, subst, get_or, arith}
+use Rattle.std.proofs.Common.{ℕ, suc, zero, ◌+◌, ◌-◌, ◌/◌, ◌<◌, ◌≡◌, ◌≢◌, ◌∙◌, ◌⊎◌, inl, inr, Option, Some, None, List, [], ◌∷◌, length, refl, sym, ap, subst, get_or, arith}
 use Rattle.std.proofs.lemmas.List.{get_or-replicate, length-replicate}
 use Rattle.queue_steps.specs.declared.sizes.TheConstants.{BLOCK_SLOTS}
 use Rattle.chain_laws.proofs.ChainCells.{Mover, Rests, Laying, Opening, Link, Unlinked, Linking, Linked, Shown, Hidden, Showing, Seen, Spare, Chained, Chain, ChainOk, LinkOk, Next, First, Tail, mover_of, linker_of, shower_of}
@@ -11,7 +11,7 @@ use Rattle.queue_machine.specs.Blocks.{Block, blank, fresh_block}
 use Rattle.queue_machine.specs.ChainLeft.{unread, settled_front, front_at}
 use Rattle.queue_machine.proofs.ChainCodes.{BlockIs}
 use Rattle.queue_machine.proofs.ChainCounted.{InCall, StandsAt}
-use Rattle.queue_machine.proofs.ChainDeeds.{Deed, Rest, Puts, Lays, Reads, PutsAt, LinksTo, IsClaimed, IsSlotOf, IsLaid, DeedIs}
+use Rattle.queue_machine.proofs.ChainDeeds.{Deed, Rest, Puts, Lays, Reads, PutsAt, LinksTo, IsClaimed, IsLaid}
 use Rattle.queue_machine.proofs.ChainDone.{all_done, done_to, keeps_all, makes_all, IsWide, wide_done, HasItem, item_kept, HasNext, next_kept, next_made}
 use Rattle.queue_machine.proofs.ChainShows.{AllStand, deed_in, deed_at, in_call, unread_none}
 

@@ -1,19 +1,18 @@
 -- A block of a chain, once every call in progress has done what it has claimed, shows its part of the list.
-use Rattle.std.proofs.Common.{ℕ, suc, zero, ◌+◌, ◌-◌, ◌*◌, ◌/◌, ◌%◌, ◌<◌, ◌≤◌, ◌≡◌, ◌≢◌, ◌==◌, not, ◌∙◌, ◌⊎◌, inl, inr, Bool, true, false, if◌then◌else◌, Option, Some, None, List, [], ◌∷◌, ◌++◌, length, refl, sym, ap, subst, get_or, slice_get, drop, bit_and, arith}
+use Rattle.std.proofs.Common.{ℕ, suc, zero, ◌+◌, ◌-◌, ◌*◌, ◌/◌, ◌%◌, ◌<◌, ◌≤◌, ◌≡◌, ◌==◌, not, ◌∙◌, Bool, true, false, if◌then◌else◌, Option, Some, None, List, [], ◌∷◌, ◌++◌, length, refl, sym, ap, subst, get_or, slice_get, drop, bit_and, arith}
 use Rattle.std.proofs.lemmas.List.{append_assoc, drop_all}
 use Rattle.std.specs.Option.{option_to_list}
 use Rattle.queue_steps.specs.declared.sizes.TheConstants.{BLOCK_SLOTS}
 use Rattle.queue_steps.specs.declared.steps.unbounded.TheConstants.{READ}
-use Rattle.chain_laws.proofs.ChainCells.{Writer, Free, Writing, Wrote, Reader, Unread, Reading, Done, Mover, Rests, Laying, Opening, Link, Unlinked, Linking, Linked, Spare, Chained, Chain, ChainOk, ItemOk, LinkOk, BlocksOk, item_at, LAST, Part, Write, Read, Tail, Head, Next, First, Passed, owner, writer_of, reader_of, mover_of, linker_of}
-use Rattle.chain_laws.proofs.ChainFacts.{IsNamed}
-use Rattle.chain_laws.proofs.ChainAnswers.{is_done, linked_of}
+use Rattle.chain_laws.proofs.ChainCells.{Writer, Free, Writing, Wrote, Reader, Unread, Reading, Done, Chained, Chain, ChainOk, ItemOk, item_at, Part, Write, Read, owner, writer_of, reader_of}
+use Rattle.chain_laws.proofs.ChainAnswers.{is_done}
 use Rattle.queue_machine.specs.declared.blocks.Place.{Place}
 use Rattle.queue_machine.specs.declared.machine.Running.{Running}
 use Rattle.queue_machine.specs.Blocks.{Block, blank}
 use Rattle.queue_machine.specs.ChainLeft.{unread_in, unread, front_at}
 use Rattle.queue_machine.proofs.ChainCodes.{BlockIs, lies}
 use Rattle.queue_machine.proofs.ChainCounted.{InCall, StandsAt}
-use Rattle.queue_machine.proofs.ChainDeeds.{Deed, Rest, Puts, Lays, Reads, deed_of, PutsAt, LinksTo, IsSlotOf, IsClaimed, DeedIs}
+use Rattle.queue_machine.proofs.ChainDeeds.{Deed, Rest, Puts, Lays, Reads, deed_of, PutsAt, IsSlotOf, IsClaimed, DeedIs}
 use Rattle.queue_machine.proofs.ChainDeedsAt.{at_deed}
 use Rattle.queue_machine.proofs.ChainDone.{all_done, done_to, keeps_all, makes_all, IsWide, wide_done, HasItem, item_kept, item_made, SaysUnread, unread_kept, read_made}
 
