@@ -19,7 +19,8 @@ use Rattle.chain_laws.proofs.ChainAnswers.{tail_word, tail_place, position_tail,
 use Rattle.chain_laws.proofs.ChainGood.{Goes, Good, still}
 use Rattle.chain_laws.proofs.ChainPop.{read_small, head_low}
 
-none_left : {A : Type 0} (xs : List A) → length xs ≡ 0 → xs ≡ []
+-- a list of no length
+pub none_left : {A : Type 0} (xs : List A) → length xs ≡ 0 → xs ≡ []
 none_left [] e = refl
 none_left (x ∷ xs) e = absurd (omega arith)
 

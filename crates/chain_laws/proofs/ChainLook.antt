@@ -20,10 +20,6 @@ use Rattle.chain_laws.proofs.ChainAt.{len_tail, len_head, len_again, empty_tail}
 use Rattle.chain_laws.proofs.ChainAnswers.{tail_word, tail_place, head_word, shut_tail, tail_items, tail_small, head_items, head_small}
 use Rattle.chain_laws.proofs.ChainGood.{Goes, Good, still}
 
-none_left : {A : Type 0} (xs : List A) → length xs ≡ 0 → xs ≡ []
-none_left [] e = refl
-none_left (x ∷ xs) e = absurd (omega arith)
-
 pub good_closed_tail : {A : Type 0} (c : Chain A) (who : ℕ) (ms : List (State A)) → ChainOk c → Holds c who Nothing → Good c c who ms chain.ClosedTail None call.IsClosed [] (answer.Found (tail_word c))
 good_closed_tail c who ms ok none =
     still c who ms chain.ClosedTail None call.IsClosed [] (answer.Found (tail_word c)) refl ok tt

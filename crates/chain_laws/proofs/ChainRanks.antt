@@ -68,11 +68,12 @@ longest = 42
 lag_small : (now read more : ℕ) → lag now read more ≤ more
 lag_small now read more = elim (now == read) as (λ b. (if b then 0 else more) ≤ more) [ true ↦ omega arith | false ↦ omega arith ]
 
-either_small : (b : Bool) (m n most : ℕ) → m ≤ most → n ≤ most → (if b then m else n) ≤ most
+-- one of two numbers, by a test
+pub either_small : (b : Bool) (m n most : ℕ) → m ≤ most → n ≤ most → (if b then m else n) ≤ most
 either_small true m n most lm ln = lm
 either_small false m n most lm ln = ln
 
-either_some : (b : Bool) (m n : ℕ) → 0 < m → 0 < n → 0 < (if b then m else n)
+pub either_some : (b : Bool) (m n : ℕ) → 0 < m → 0 < n → 0 < (if b then m else n)
 either_some true m n lm ln = lm
 either_some false m n lm ln = ln
 

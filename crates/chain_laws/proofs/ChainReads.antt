@@ -7,17 +7,17 @@ use Rattle.queue_steps.specs.Effect.{Fits, rest}
 use Rattle.chain_laws.proofs.ChainCells.{Writer, Free, Writing, Wrote, Reader, Unread, Reading, Done, Passer, Stands, Passing, Entering, Linking, Linked, Shown, Hidden, Showing, Seen, Walk, Before, Walker, Waits, GivenUp, Chain, queue_of, value, ItemOk, LinkOk, FrontOk, ShownOk, WalkOk, IsWalked, item_at, LAST, ChainOk, put, put_ok}
 
 -- the item behind the front
-behind : {X : Type 0} (xs : List X) (n head : ℕ) (v : X) → head < n → slice_get xs (n - head) ≡ Some v → slice_get (rest xs) (n - (head + 1)) ≡ Some v
+pub behind : {X : Type 0} (xs : List X) (n head : ℕ) (v : X) → head < n → slice_get xs (n - head) ≡ Some v → slice_get (rest xs) (n - (head + 1)) ≡ Some v
 behind [] n head v lt e = cc
 behind (x ∷ xs) n head v lt e =
     let at : n - head ≡ suc (n - (head + 1)) = omega arith in
     rw at at e
 
-first : {X : Type 0} (xs : List X) (x : X) → slice_get xs 0 ≡ Some x → (others : List X) × (xs ≡ x ∷ others)
+pub first : {X : Type 0} (xs : List X) (x : X) → slice_get xs 0 ≡ Some x → (others : List X) × (xs ≡ x ∷ others)
 first [] x e = cc
 first (y ∷ xs) x e = (xs, (cc))
 
-length-rest : {X : Type 0} (xs : List X) (x : X) → slice_get xs 0 ≡ Some x → length (rest xs) + 1 ≡ length xs
+pub length-rest : {X : Type 0} (xs : List X) (x : X) → slice_get xs 0 ≡ Some x → length (rest xs) + 1 ≡ length xs
 length-rest [] x e = cc
 length-rest (y ∷ xs) x e = omega arith
 

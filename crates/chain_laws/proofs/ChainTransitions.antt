@@ -6,12 +6,12 @@ use Rattle.queue_steps.specs.declared.model.Effect.TheVariants as effect
 use Rattle.queue_steps.specs.Effect.{Fits}
 use Rattle.chain_laws.proofs.ChainCells.{Writer, Free, Writing, Wrote, Reader, Unread, Reading, Done, Mover, Rests, Laying, Opening, Passer, Stands, Link, Unlinked, Linking, Linked, Shown, Hidden, Showing, Seen, Use, Spare, Chained, Chain, queue_of, ItemOk, BlocksOk, LinkOk, ShownOk, ChainOk, put, put_ok, put_same, put_other}
 
-front_stays : {X : Type 0} (xs : List X) (y : X) (k : ℕ) (v : X) → slice_get xs k ≡ Some v → slice_get (xs ++ y ∷ []) k ≡ Some v
+pub front_stays : {X : Type 0} (xs : List X) (y : X) (k : ℕ) (v : X) → slice_get xs k ≡ Some v → slice_get (xs ++ y ∷ []) k ≡ Some v
 front_stays [] y k v e = cc
 front_stays (x ∷ xs) y zero v e = e
 front_stays (x ∷ xs) y (suc k) v e = front_stays xs y k v e
 
-last_is : {X : Type 0} (xs : List X) (y : X) (k : ℕ) → k ≡ length xs → slice_get (xs ++ y ∷ []) k ≡ Some y
+pub last_is : {X : Type 0} (xs : List X) (y : X) (k : ℕ) → k ≡ length xs → slice_get (xs ++ y ∷ []) k ≡ Some y
 last_is [] y zero e = refl
 last_is [] y (suc k) e = absurd (omega arith)
 last_is (x ∷ xs) y zero e = absurd (omega arith)

@@ -27,7 +27,8 @@ use Rattle.queue_machine.specs.Book.{Open, after_own, begun, is_prompt, joined, 
 use Rattle.queue_machine.specs.Cells.{Shared, CanStep, step_of, start_of, running_after, reply_after}
 use Rattle.queue_machine.proofs.Engine as engine
 use Rattle.queue_machine.proofs.FewSteps.{FewSteps, few_begun, few_joined, few_watched, few_own, few_stays, prompt_kind}
-use Rattle.queue_machine.proofs.ChainMoments.{chain_begun, allowed_in, same_moments}
+use Rattle.queue_machine.proofs.ChainMoments.{chain_begun, allowed_in}
+use Rattle.queue_machine.proofs.Moments.{same_moments}
 
 -- a party between calls holds no part and has no spare
 abbrev pub ChainIdle : {A : Type 0} → Chain A → ℕ → Type 0
@@ -43,7 +44,7 @@ pub record ChainFits {A : Type 0} (busy : ℕ) (s : Shared A) (Q : State A) (g :
 abbrev pub ChainGoes : (A : Type 0) (Stands : Shared A → State A → Chain A → Type 0) → ℕ → Shared A → State A → Chain A → ℕ → Open A → Option (Running A) → Option (Reply A) → Type 0
 ChainGoes A Stands = engine.Goes A (Shared A) (Running A) (Chain A) None (step_of queue.Unbounded) (start_of queue.Unbounded) (CanStep queue.Unbounded) Stands ChainIdle ChainFits
 
-abbrev pub ChainBegins : (A : Type 0) (Stands : Shared A → State A → Chain A → Type 0) → Shared A → State A → Chain A → ℕ → Call A → Option (Running A) → Option (Reply A) → Type 0
+abbrev ChainBegins : (A : Type 0) (Stands : Shared A → State A → Chain A → Type 0) → Shared A → State A → Chain A → ℕ → Call A → Option (Running A) → Option (Reply A) → Type 0
 ChainBegins A Stands = engine.BeginsWell A (Shared A) (Running A) (Chain A) None (step_of queue.Unbounded) (start_of queue.Unbounded) (CanStep queue.Unbounded) Stands ChainIdle ChainFits
 
 -- where the call stands after its step, or its reply

@@ -1,5 +1,5 @@
 -- What a step of a call on a chain is in the book: its effects begin those of a reply, its effect moves the queue, and its reply is right at a moment.
-use Rattle.std.proofs.Common.{ℕ, suc, ◌≡◌, ◌==◌, inl, inr, Bool, true, false, if◌then◌else◌, Option, Some, None, Ok, Err, List, [], ◌∷◌, refl, sym, subst, arith}
+use Rattle.std.proofs.Common.{ℕ, ◌≡◌, ◌==◌, inl, inr, Bool, true, false, if◌then◌else◌, Option, Some, None, Ok, Err, List, [], ◌∷◌, refl, sym, subst}
 use Rattle.std.specs.List.{Any}
 use Rattle.queue_steps.specs.State.{State}
 use Rattle.queue_steps.specs.Words.{is_shut}
@@ -18,24 +18,18 @@ use Rattle.queue_steps.specs.declared.steps.types.Local.{Local}
 use Rattle.queue_steps.specs.declared.steps.types.Local.TheVariants as local
 use Rattle.queue_steps.specs.declared.steps.types.Op.{Op}
 use Rattle.queue_steps.specs.declared.steps.types.Touch.{Touch}
-use Rattle.queue_steps.specs.declared.steps.bounded.PushKind.{PushKind}
-use Rattle.queue_steps.specs.declared.steps.bounded.PushKind.TheVariants as kind
 use Rattle.queue_steps.specs.declared.steps.unbounded.UnboundedLocal.{UnboundedLocal}
 use Rattle.queue_steps.specs.declared.steps.unbounded.UnboundedLocal.TheVariants as chain
 use Rattle.chain_laws.proofs.ChainCells.{Chain, queue_of}
 use Rattle.chain_laws.proofs.ChainFacts.{SeenIn}
-use Rattle.chain_laws.proofs.ChainFacts as facts
-use Rattle.chain_laws.proofs.ChainAt.{pushes, At, push_tail, push_block, asking, installing, showing, claiming, laying, opening, chaining, writing, spending, pop_head, pop_block, pop_tail, taking, following, peeking, passing, entering, awaiting, reading, beginning, walking, destroying, len_tail, len_head, len_again, empty_head, empty_tail, closing, closed_tail}
+use Rattle.chain_laws.proofs.ChainAt.{At, push_tail, push_block, asking, installing, showing, claiming, laying, opening, chaining, writing, spending, pop_head, pop_block, pop_tail, taking, following, peeking, passing, entering, awaiting, reading, beginning, walking, destroying, len_tail, len_head, len_again, empty_head, empty_tail, closing, closed_tail}
 use Rattle.chain_laws.proofs.ChainGood as good
 use Rattle.chain_laws.proofs.ChainGood.{Makes, Whether, IsEffect, with_effect}
 use Rattle.queue_machine.specs.declared.types.EffectKind.{EffectKind}
 use Rattle.queue_machine.specs.declared.types.EffectKind.TheVariants as told
-use Rattle.queue_machine.specs.Book.{Open, Moves, MayMake, Allows, IsBegun, IsRefusal, kind_of, seen_by}
+use Rattle.queue_machine.specs.Book.{Open, Moves, MayMake, Allows, IsBegun, IsRefusal, kind_of}
 use Rattle.queue_machine.specs.EffectOf.{effect_of}
-
-begun_push : {A : Type 0} (d : PushKind) (v : A) → IsBegun (pushes d v) [] × IsBegun (pushes d v) (effect.Append v ∷ [])
-begun_push kind.Push v = ((reply.Push (Ok tt), effect.Append v ∷ [], refl), (reply.Push (Ok tt), [], refl))
-begun_push kind.Force v = ((reply.ForcePush (Ok None), effect.Append v ∷ [], refl), (reply.ForcePush (Ok None), [], refl))
+use Rattle.queue_machine.proofs.Moments.{any_in, begun_push}
 
 -- the effects of a call in progress begin those of some reply
 pub chain_begun : {A : Type 0} {c : Chain A} {who : ℕ} {ms : List (State A)} {l : Local ℕ} {t : Touch} {o : Op ℕ} {v : Option A} {k : Call A} {es : List (Effect A)} → At c who ms l t o v k es → IsBegun k es
@@ -82,13 +76,7 @@ allowed k y m (inl right) = inl right
 allowed k y m (inr none) = inr (refusal y none.0, none.1)
 
 pub allowed_in : {A : Type 0} (k : Call A) (y : Reply A) (ms : List (State A)) → SeenIn ms (good.Allows k y) → Any (Allows k y) ms
-allowed_in k y [] seen = absurd seen
-allowed_in k y (m ∷ ms) (inl p) = (0, m, omega arith, refl, allowed k y m p)
-allowed_in k y (m ∷ ms) (inr seen) = let a = allowed_in k y ms seen in (suc a.0, a.1, omega arith, a.3, a.4)
-
-pub same_moments : {A : Type 0} (q : State A) (ms : List (State A)) → facts.seen_by q ms ≡ seen_by q ms
-same_moments q [] = refl
-same_moments q (m ∷ ms) = refl
+allowed_in k y ms seen = any_in ms (good.Allows k y) (Allows k y) (λ m right. allowed k y m right) seen
 
 -- a step without effect leaves the queue
 no_move : {A : Type 0} (Q : State A) (c s : Chain A) (o : Open A) (e : Option (Effect A)) → Q ≡ queue_of c → e ≡ None → Makes c s e → Moves Q o None (queue_of s) (with_effect o.effects e)

@@ -1,5 +1,6 @@
 pub mod Busy
 pub mod FewSteps
+pub mod Moments
 pub mod Engine
 pub mod KindLaws
 pub mod Counted
@@ -47,7 +48,6 @@ pub mod ChainFits
 pub mod ChainLaws
 pub mod ChainStands
 pub mod ChainOpening
-pub mod ChainRow
 pub mod ChainCounted
 pub mod ChainDeeds
 pub mod ChainDeedsAt

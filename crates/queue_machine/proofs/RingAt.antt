@@ -20,21 +20,19 @@ use Rattle.queue_steps.specs.declared.steps.bounded.TheConstants.{MARK, TAIL_STE
 use Rattle.queue_steps.specs.declared.steps.bounded.PushKind.{PushKind}
 use Rattle.queue_steps.specs.declared.steps.bounded.PushKind.TheVariants as kind
 use Rattle.queue_steps.specs.declared.steps.bounded.BoundedLocal.TheVariants as ring
-use Rattle.queue_machine.specs.Book.{IsBegun, seen_by}
+use Rattle.chain_laws.proofs.ChainAt.{pushes}
+use Rattle.chain_laws.proofs.ChainFacts.{SeenIn, HeadWas, seen_by}
+use Rattle.queue_machine.specs.Book.{IsBegun}
+use Rattle.queue_machine.proofs.Moments.{begun_push}
 use Rattle.queue_machine.proofs.RingCells.{Written, Read, Coming, Swapped, Ring, queue_of, RingOk, HoldsNone, HoldsOne}
-use Rattle.queue_machine.proofs.RingPasses.{Passes, none_stays, one_stays, FreeAt, free_stays, FullAt, full_stays, Seen, TailWas, HeadWas, SawEmpty, SawFull, tail_was_stays, head_was_stays, saw_empty_stays, saw_full_stays, tail_grows, head_grows}
-
--- the call that pushes v so
-abbrev pub pushes : {A : Type 0} → PushKind → A → Call A
-pushes kind.Push v = call.Push v
-pushes kind.Force v = call.ForcePush v
+use Rattle.queue_machine.proofs.RingPasses.{Passes, none_stays, one_stays, FreeAt, free_stays, FullAt, full_stays, TailWas, SawEmpty, SawFull, tail_was_stays, head_was_stays, saw_empty_stays, saw_full_stays, tail_grows, head_grows}
 
 -- a push read the tail at t, of an open queue below its limit
 pub record SawTail {A : Type 0} (cap : ℕ) (r : Ring A) (t : ℕ) (ms : List (State A)) (was : Bool) : Type 0 where
   pub unshut : is_shut t ≡ false
   pub below : position_of t < LIMIT
   pub behind : position_of t ≤ r.tail
-  pub moment : Seen ms (TailWas cap (position_of t) r.head)
+  pub moment : SeenIn ms (TailWas cap (position_of t) r.head)
   pub opened : was ≡ true
 
 -- Where a call of the party who stands: its local state, touch and operation, its value, the call, and its effects so far.
@@ -71,7 +69,7 @@ pub data At {A : Type 0} (cap : ℕ) (r : Ring A) (who : ℕ) (ms : List (State 
       → At cap r who ms was (local.Bounded ring.LenTail) touch.Nothing (op.Load word.Tail) None call.Len []
   len_head : (t : ℕ) → HoldsNone r.cells who → position_of t ≤ r.tail
       → At cap r who ms was (local.Bounded (ring.LenHead t)) touch.Nothing (op.Load word.Head) None call.Len []
-  len_again : (t h : ℕ) → HoldsNone r.cells who → Seen ms (HeadWas h (position_of t) r.tail)
+  len_again : (t h : ℕ) → HoldsNone r.cells who → SeenIn ms (HeadWas h (position_of t) r.tail)
       → At cap r who ms was (local.Bounded (ring.LenAgain t h)) touch.Nothing (op.Load word.Tail) None call.Len []
   empty_head : HoldsNone r.cells who
       → At cap r who ms was (local.Bounded ring.EmptyHead) touch.Nothing (op.Load word.Head) None call.IsEmpty []
@@ -137,10 +135,6 @@ at_stays {cap = cap} {who = who} {other = other} {ms = ms} ok ok' ne pass (full_
     full_head t (none_stays who other ne pass none) (saw_full_stays cap who (position_of t) ms ok ok' pass saw)
 at_stays {who = who} {other = other} ok ok' ne pass (closing none) = closing (none_stays who other ne pass none)
 at_stays {who = who} {other = other} ok ok' ne pass (closed_tail none) = closed_tail (none_stays who other ne pass none)
-
-begun_push : {A : Type 0} (d : PushKind) (v : A) → IsBegun (pushes d v) [] × IsBegun (pushes d v) (effect.Append v ∷ [])
-begun_push kind.Push v = ((reply.Push (Ok tt), effect.Append v ∷ [], refl), (reply.Push (Ok tt), [], refl))
-begun_push kind.Force v = ((reply.ForcePush (Ok None), effect.Append v ∷ [], refl), (reply.ForcePush (Ok None), [], refl))
 
 -- the effects of a call in progress begin those of some reply
 pub at_begun : {A : Type 0} {cap : ℕ} {r : Ring A} {who : ℕ} {ms : List (State A)} {was : Bool} {l : Local ℕ} {t : Touch} {o : Op ℕ} {v : Option A} {k : Call A} {es : List (Effect A)}

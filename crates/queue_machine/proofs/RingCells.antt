@@ -1,10 +1,10 @@
 -- A ring by positions: what each slot is for, and the state of the queue that it stands for.
-use Rattle.std.proofs.Common.{ℕ, ◌+◌, ◌-◌, ◌*◌, ◌%◌, ◌<◌, ◌≤◌, ◌≡◌, ◌≢◌, ◌==◌, ◌∙◌, ◌⊎◌, inl, inr, Bool, if◌then◌else◌, Option, Some, None, List, length, refl, sym, ap, arith, slice_get}
+use Rattle.std.proofs.Common.{ℕ, ◌+◌, ◌-◌, ◌*◌, ◌%◌, ◌<◌, ◌≤◌, ◌≡◌, ◌≢◌, ◌∙◌, ◌⊎◌, inl, inr, Bool, Option, Some, None, List, length, refl, sym, ap, arith, slice_get}
 use Rattle.std.proofs.Math.Nat.{add-mul-mod_self_left}
-use Rattle.std.proofs.lemmas.Bool.Decides.{eqb_tells}
 use Rattle.queue_steps.specs.declared.sizes.TheConstants.{LIMIT}
 use Rattle.queue_steps.specs.State.{State}
 use Rattle.queue_steps.specs.Words.{IsRing}
+use Rattle.chain_laws.proofs.ChainCells.{put, put_ok, put_same, put_other}
 use Rattle.queue_machine.proofs.Settled.{slots-apart}
 
 -- What a slot is for, by its position: free for it; claimed by a push and not yet stamped; filled; claimed by a pop; its item taken
@@ -66,20 +66,6 @@ together n p t some same low high = go (cases p t low)
     go : (p ≡ t) ⊎ (p < t) → p ≡ t
     go (inl e) = e
     go (inr lt) = absurd (apart n p t some lt high same)
-
--- the cells with another in the slot i
-abbrev pub put : {A : Type 0} → (ℕ → Cell A) → ℕ → Cell A → ℕ → Cell A
-put cells i c = λ j. if j == i then c else cells j
-
-pub put_ok : {A : Type 0} (cells : ℕ → Cell A) (i j : ℕ) (c : Cell A) (P : ℕ → Cell A → Type 0) → P i c → (j ≢ i → P j (cells j)) → P j (put cells i c j)
-put_ok cells i j c P here there =
-    elim (eqb_tells j i) [ inl t ↦ rw (t.0, t.1) here | inr f ↦ rw f.0 (there f.1) ]
-
-pub put_same : {A : Type 0} (cells : ℕ → Cell A) (i : ℕ) (c : Cell A) → put cells i c i ≡ c
-put_same cells i c = put_ok cells i i c (λ j d. j ≡ i → d ≡ c) (λ e. refl) (λ ne e. absurd (ne e)) refl
-
-pub put_other : {A : Type 0} (cells : ℕ → Cell A) (i j : ℕ) (c : Cell A) → j ≢ i → put cells i c j ≡ cells j
-put_other cells i j c ne = put_ok cells i j c (λ k d. k ≡ j → d ≡ cells j) (λ e. absurd (ne (sym e))) (λ no e. ap cells e) refl
 
 -- whose slot it is just now
 abbrev pub owner : {A : Type 0} → Cell A → Option ℕ

@@ -20,12 +20,15 @@ use Rattle.queue_steps.specs.declared.steps.bounded.TheConstants.{MARK, TAIL_STE
 use Rattle.queue_steps.specs.declared.steps.bounded.PushKind.{PushKind}
 use Rattle.queue_steps.specs.declared.steps.bounded.PushKind.TheVariants as kind
 use Rattle.queue_steps.specs.declared.steps.bounded.BoundedLocal.TheVariants as ring
+use Rattle.chain_laws.proofs.ChainAt.{pushes}
+use Rattle.chain_laws.proofs.ChainFacts.{seen_map}
+use Rattle.chain_laws.proofs.ChainAnswers.{shut_tail}
 use Rattle.queue_machine.specs.Cells.{Shared}
 use Rattle.queue_machine.proofs.RingCells.{Free, Written, Full, Ring, queue_of, RingOk, HoldsNone, HoldsOne, claims, lets_go}
 use Rattle.queue_machine.proofs.RingTransitions.{in_ring, appended, append_ok, written, write_ok, marked, mark_ok, not_single}
-use Rattle.queue_machine.proofs.RingPasses.{passes_append, passes_written, passes_marked, seen_map, TailWas, FreeAt}
-use Rattle.queue_machine.proofs.RingWords.{Codes, item_in, shut_tail, mark_tail, next_tail, same_tail, open_tail, head_small}
-use Rattle.queue_machine.proofs.RingAt.{pushes, SawTail, push_tail, filling}
+use Rattle.queue_machine.proofs.RingPasses.{passes_append, passes_written, passes_marked, TailWas, FreeAt}
+use Rattle.queue_machine.proofs.RingWords.{Codes, item_in, mark_tail, next_tail, same_tail, open_tail, head_small}
+use Rattle.queue_machine.proofs.RingAt.{SawTail, push_tail, filling}
 use Rattle.queue_machine.proofs.RingGood.{pick, Goes, Good, running, still}
 use Rattle.queue_machine.proofs.RingSlots.{codes_claim, codes_store}
 use Rattle.queue_machine.proofs.RingPush.{closed_push, appended_push, tail_goes, tail_word, saw_word}

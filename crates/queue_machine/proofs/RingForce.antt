@@ -16,8 +16,9 @@ use Rattle.queue_steps.specs.declared.steps.types.Word.TheVariants as word
 use Rattle.queue_steps.specs.declared.steps.bounded.TheConstants.{TAIL_STEP}
 use Rattle.queue_steps.specs.declared.steps.bounded.PushKind.TheVariants as kind
 use Rattle.queue_steps.specs.declared.steps.bounded.BoundedLocal.TheVariants as ring
+use Rattle.chain_laws.proofs.ChainCells.{put}
 use Rattle.queue_machine.specs.Cells.{Shared}
-use Rattle.queue_machine.proofs.RingCells.{Full, Coming, Swapped, Ring, queue_of, CellOk, RingOk, put, wraps, HoldsNone, HoldsOne, claims, keeps_on, lets_go}
+use Rattle.queue_machine.proofs.RingCells.{Full, Coming, Swapped, Ring, queue_of, CellOk, RingOk, wraps, HoldsNone, HoldsOne, claims, keeps_on, lets_go}
 use Rattle.queue_machine.proofs.RingTransitions.{in_ring, fronted, front_ok, arrived, arrive_ok, written, swap_ok}
 use Rattle.queue_machine.proofs.RingPasses.{passes_front, passes_arrive, passes_written, FullAt}
 use Rattle.queue_machine.proofs.RingWords.{Codes, item_in, next_tail, word_small, head_small}

@@ -1,5 +1,5 @@
 -- What is owed of each step of a call on a ring, and how many steps a call takes at most while it is alone.
-use Rattle.std.proofs.Common.{ℕ, ◌+◌, ◌<◌, ◌≤◌, ◌≡◌, ◌≢◌, ◌==◌, ◌||◌, not, inr, Bool, true, false, if◌then◌else◌, Option, Some, None, List, [], ◌∷◌, ◌++◌, length, refl, sym, ap, subst, arith}
+use Rattle.std.proofs.Common.{ℕ, ◌+◌, ◌<◌, ◌≤◌, ◌≡◌, ◌≢◌, ◌==◌, ◌||◌, not, inr, Bool, true, false, if◌then◌else◌, Option, Some, None, List, [], ◌∷◌, ◌++◌, refl, sym, ap, subst, arith}
 use Rattle.std.proofs.lemmas.Bool.{eq-eqb}
 use Rattle.queue_steps.specs.State.{State}
 use Rattle.queue_steps.specs.Effect.{Fits, made}
@@ -21,6 +21,9 @@ use Rattle.queue_steps.specs.declared.steps.types.Touch.TheVariants as touch
 use Rattle.queue_steps.specs.declared.steps.bounded.PushKind.{PushKind}
 use Rattle.queue_steps.specs.declared.steps.bounded.PushKind.TheVariants as kind
 use Rattle.queue_steps.specs.declared.steps.bounded.BoundedLocal.TheVariants as ring
+use Rattle.chain_laws.proofs.ChainRanks.{either_small}
+use Rattle.chain_laws.proofs.ChainAt.{pushes}
+use Rattle.chain_laws.proofs.ChainFacts.{SeenIn}
 use Rattle.queue_machine.specs.declared.types.EffectKind.{EffectKind}
 use Rattle.queue_machine.specs.declared.types.EffectKind.TheVariants as effect
 use Rattle.queue_machine.specs.declared.machine.Running.{Running}
@@ -28,9 +31,9 @@ use Rattle.queue_machine.specs.Book.{is_prompt, kind_of}
 use Rattle.queue_machine.specs.Cells.{Shared, CanTouch, CanOperate, slots_there, block_touched, after_touch, after_operation, answer_to, answered, operated, next_after, carried_then}
 use Rattle.queue_machine.specs.EffectOf.{effect_of}
 use Rattle.queue_machine.proofs.RingCells.{Ring, queue_of, RingOk, HoldsNone}
-use Rattle.queue_machine.proofs.RingPasses.{Passes, passes_same, Seen}
+use Rattle.queue_machine.proofs.RingPasses.{Passes, passes_same}
 use Rattle.queue_machine.proofs.RingWords.{Codes}
-use Rattle.queue_machine.proofs.RingAt.{pushes, SawTail, At}
+use Rattle.queue_machine.proofs.RingAt.{SawTail, At}
 
 -- how many steps a call takes from here at most, while no other party holds a slot: what it read may be stale, and is not once it has read again
 abbrev pub rank : {A : Type 0} → ℕ → Ring A → Local ℕ → ℕ
@@ -59,24 +62,20 @@ longest = 7
 pub pick : (p q a b : ℕ) → p ≡ q → (if p == q then a else b) ≡ a
 pick p q a b e = ap (λ t. if t then a else b) (eq-eqb p q e)
 
-pub either : (t : Bool) (a b n : ℕ) → a ≤ n → b ≤ n → (if t then a else b) ≤ n
-either true a b n la lb = la
-either false a b n la lb = lb
-
 pub rank_small : {A : Type 0} (cap : ℕ) (r : Ring A) (l : Local ℕ) → rank cap r l ≤ longest
 rank_small cap r (local.Bounded (ring.PushTail d)) = omega arith
-rank_small cap r (local.Bounded (ring.PushStamp d t)) = either (position_of t == r.tail) 4 7 longest (omega arith) (omega arith)
-rank_small cap r (local.Bounded (ring.Claiming d t)) = either (position_of t == r.tail) 2 5 longest (omega arith) (omega arith)
-rank_small cap r (local.Bounded (ring.PushHead t)) = either (r.head + cap == position_of t) 1 6 longest (omega arith) (omega arith)
-rank_small cap r (local.Bounded (ring.Displacing t)) = either (r.head + cap == position_of t) 3 6 longest (omega arith) (omega arith)
+rank_small cap r (local.Bounded (ring.PushStamp d t)) = either_small (position_of t == r.tail) 4 7 longest (omega arith) (omega arith)
+rank_small cap r (local.Bounded (ring.Claiming d t)) = either_small (position_of t == r.tail) 2 5 longest (omega arith) (omega arith)
+rank_small cap r (local.Bounded (ring.PushHead t)) = either_small (r.head + cap == position_of t) 1 6 longest (omega arith) (omega arith)
+rank_small cap r (local.Bounded (ring.Displacing t)) = either_small (r.head + cap == position_of t) 3 6 longest (omega arith) (omega arith)
 rank_small cap r (local.Bounded (ring.Arriving t)) = omega arith
 rank_small cap r (local.Bounded ring.PopHead) = omega arith
-rank_small cap r (local.Bounded (ring.PopStamp h)) = either (h == r.head) 3 6 longest (omega arith) (omega arith)
-rank_small cap r (local.Bounded (ring.Taking h)) = either (h == r.head) 2 4 longest (omega arith) (omega arith)
-rank_small cap r (local.Bounded (ring.PopTail h)) = either (r.tail == h) 1 5 longest (omega arith) (omega arith)
+rank_small cap r (local.Bounded (ring.PopStamp h)) = either_small (h == r.head) 3 6 longest (omega arith) (omega arith)
+rank_small cap r (local.Bounded (ring.Taking h)) = either_small (h == r.head) 2 4 longest (omega arith) (omega arith)
+rank_small cap r (local.Bounded (ring.PopTail h)) = either_small (r.tail == h) 1 5 longest (omega arith) (omega arith)
 rank_small cap r (local.Bounded ring.LenTail) = omega arith
-rank_small cap r (local.Bounded (ring.LenHead t)) = either (t == tail_of r.tail r.closed) 2 5 longest (omega arith) (omega arith)
-rank_small cap r (local.Bounded (ring.LenAgain t h)) = either (t == tail_of r.tail r.closed) 1 4 longest (omega arith) (omega arith)
+rank_small cap r (local.Bounded (ring.LenHead t)) = either_small (t == tail_of r.tail r.closed) 2 5 longest (omega arith) (omega arith)
+rank_small cap r (local.Bounded (ring.LenAgain t h)) = either_small (t == tail_of r.tail r.closed) 1 4 longest (omega arith) (omega arith)
 rank_small cap r (local.Bounded ring.EmptyHead) = omega arith
 rank_small cap r (local.Bounded ring.FullTail) = omega arith
 rank_small cap r _ = omega arith
@@ -93,7 +92,7 @@ IsCalm r who k = is_prompt k ≡ false → IsQuiet r who
 abbrev pub Goes : {A : Type 0} → ℕ → Ring A → Ring A → ℕ → List (State A) → Bool → Next ℕ → Option A → Call A → List (Effect A) → ℕ → Type 0
 Goes cap r s who ms was (next.Step l t o) v k es n = At cap s who ms was l t o v k es × (IsCalm r who k → rank cap s l < n)
 Goes {A} cap r s who ms was (next.Reply x spare) v k es n =
-    HoldsNone s.cells who × ((y : Reply A) × (filled x v ≡ Some y) × Tells k y es × (es ≡ [] → Seen ms (λ m. IsRightAt m k y)))
+    HoldsNone s.cells who × ((y : Reply A) × (filled x v ≡ Some y) × Tells k y es × (es ≡ [] → SeenIn ms (λ m. IsRightAt m k y)))
 
 abbrev pub MayFront : EffectKind → Bool → Type 0
 MayFront effect.Front was = was ≡ true

@@ -1,8 +1,5 @@
 -- A ring keeps the laws of the engine.
-use Rattle.std.proofs.Common.{ℕ, ◌+◌, ◌<◌, ◌≤◌, ◌≡◌, ◌≢◌, ◌==◌, ◌||◌, not, ◌∙◌, inl, inr, suc, Bool, true, false, if◌then◌else◌, Option, Some, None, List, [], ◌∷◌, refl, sym, ap, subst, arith}
-use Rattle.std.specs.List.{Any}
-use Rattle.std.proofs.lemmas.Bool.Decides.{eqb_tells}
-use Rattle.queue_steps.specs.declared.sizes.TheConstants.{LONE_STEPS}
+use Rattle.std.proofs.Common.{ℕ, ◌+◌, ◌<◌, ◌≤◌, ◌≡◌, ◌≢◌, ◌==◌, ◌||◌, not, ◌∙◌, inl, Bool, true, false, Option, Some, None, List, [], ◌∷◌, refl, sym, ap, subst, arith}
 use Rattle.queue_steps.specs.State.{State}
 use Rattle.queue_steps.specs.Replies.{IsRightAt}
 use Rattle.queue_steps.specs.Words.{position_of, tail_of}
@@ -19,20 +16,24 @@ use Rattle.queue_steps.specs.declared.steps.types.Op.{Op}
 use Rattle.queue_steps.specs.declared.steps.types.Touch.{Touch}
 use Rattle.queue_steps.specs.declared.steps.bounded.PushKind.TheVariants as kind
 use Rattle.queue_steps.specs.declared.steps.bounded.BoundedLocal.TheVariants as ring
+use Rattle.chain_laws.proofs.ChainAt.{pushes}
 use Rattle.queue_machine.specs.declared.types.EffectKind.{EffectKind}
 use Rattle.queue_machine.specs.declared.types.EffectKind.TheVariants as effect
 use Rattle.queue_machine.specs.declared.machine.Running.{Running}
 use Rattle.queue_machine.specs.Book.{Open, Moves, MayMake, Allows, after_own, begun, is_prompt, joined}
 use Rattle.queue_machine.specs.Cells.{Shared, CanStep, CanReply, step_of, start_of, next_after, carried_then, running_after, reply_after, after_operation}
+use Rattle.chain_laws.proofs.ChainRanks.{either_some}
 use Rattle.queue_machine.proofs.Engine as engine
+use Rattle.queue_machine.proofs.Moments.{any_in, same_moments}
+use Rattle.queue_machine.proofs.FewSteps.{FewSteps, few_begun, few_joined, few_watched, few_own, few_stays}
 use Rattle.queue_machine.proofs.KindLaws.{LawsOf}
 use Rattle.queue_machine.proofs.RingCells.{Ring, queue_of, RingOk, HoldsNone}
-use Rattle.queue_machine.proofs.RingPasses.{Seen, none_stays}
+use Rattle.queue_machine.proofs.RingPasses.{none_stays}
 use Rattle.queue_machine.proofs.RingWords.{Codes, codes_blocks}
 use Rattle.queue_machine.proofs.Plain.{IsPlain, plain-can, plain-step, plain-blocks}
 use Rattle.queue_machine.specs.World.{Made}
-use Rattle.queue_machine.proofs.RingAt.{pushes, At, at_stays, at_begun, push_tail, push_stamp, claiming, filling, push_head, displacing, arriving, swapping, spending, pop_head, pop_stamp, taking, emptying, pop_tail, len_tail, len_head, len_again, empty_head, empty_tail, full_tail, full_head, closing, closed_tail}
-use Rattle.queue_machine.proofs.RingGood.{rank, rank_small, longest, IsQuiet, IsCalm, Goes, MayFront, Makes, with_effect, Good, running, not_prompt}
+use Rattle.queue_machine.proofs.RingAt.{At, at_stays, at_begun, push_tail, push_stamp, claiming, filling, push_head, displacing, arriving, swapping, spending, pop_head, pop_stamp, taking, emptying, pop_tail, len_tail, len_head, len_again, empty_head, empty_tail, full_tail, full_head, closing, closed_tail}
+use Rattle.queue_machine.proofs.RingGood.{rank, rank_small, longest, IsQuiet, Goes, MayFront, Makes, with_effect, Good, running, not_prompt}
 use Rattle.queue_machine.proofs.RingPush.{good_push_tail, good_push_stamp}
 use Rattle.queue_machine.proofs.RingClaim.{good_claiming, good_filling, good_push_head, good_spending}
 use Rattle.queue_machine.proofs.RingForce.{good_displacing, good_arriving, good_swapping}
@@ -109,28 +110,22 @@ RingIdle g p = HoldsNone g.cells p
 -- where the party's call stands, and that it has few steps before it
 pub record RingFits {A : Type 0} (cap busy : ℕ) (s : Shared A) (Q : State A) (g : Ring A) (p : ℕ) (x : Running A) (o : Open A) : Type 0 where
   pub here : At cap g p o.moments o.was_open x.local x.touch x.op x.carried o.call o.effects
-  pub few : busy ≡ 1 → o.alone + rank cap g x.local ≤ longest
-  pub none : busy ≢ 1 → o.alone ≡ 0
-  pub prompt : is_prompt o.call ≡ true → o.steps + rank cap g x.local ≤ 2
-
-some_if : (t : Bool) (a b : ℕ) → 0 < a → 0 < b → 0 < (if t then a else b)
-some_if true a b la lb = la
-some_if false a b la lb = lb
+  pub few : FewSteps busy o (rank cap g x.local) longest
 
 rank_some : {A : Type 0} (cap : ℕ) (r : Ring A) (l : Local ℕ) → 0 < rank cap r l
 rank_some cap r (local.Bounded (ring.PushTail d)) = omega arith
-rank_some cap r (local.Bounded (ring.PushStamp d t)) = some_if (position_of t == r.tail) 4 7 (omega arith) (omega arith)
-rank_some cap r (local.Bounded (ring.Claiming d t)) = some_if (position_of t == r.tail) 2 5 (omega arith) (omega arith)
-rank_some cap r (local.Bounded (ring.PushHead t)) = some_if (r.head + cap == position_of t) 1 6 (omega arith) (omega arith)
-rank_some cap r (local.Bounded (ring.Displacing t)) = some_if (r.head + cap == position_of t) 3 6 (omega arith) (omega arith)
+rank_some cap r (local.Bounded (ring.PushStamp d t)) = either_some (position_of t == r.tail) 4 7 (omega arith) (omega arith)
+rank_some cap r (local.Bounded (ring.Claiming d t)) = either_some (position_of t == r.tail) 2 5 (omega arith) (omega arith)
+rank_some cap r (local.Bounded (ring.PushHead t)) = either_some (r.head + cap == position_of t) 1 6 (omega arith) (omega arith)
+rank_some cap r (local.Bounded (ring.Displacing t)) = either_some (r.head + cap == position_of t) 3 6 (omega arith) (omega arith)
 rank_some cap r (local.Bounded (ring.Arriving t)) = omega arith
 rank_some cap r (local.Bounded ring.PopHead) = omega arith
-rank_some cap r (local.Bounded (ring.PopStamp h)) = some_if (h == r.head) 3 6 (omega arith) (omega arith)
-rank_some cap r (local.Bounded (ring.Taking h)) = some_if (h == r.head) 2 4 (omega arith) (omega arith)
-rank_some cap r (local.Bounded (ring.PopTail h)) = some_if (r.tail == h) 1 5 (omega arith) (omega arith)
+rank_some cap r (local.Bounded (ring.PopStamp h)) = either_some (h == r.head) 3 6 (omega arith) (omega arith)
+rank_some cap r (local.Bounded (ring.Taking h)) = either_some (h == r.head) 2 4 (omega arith) (omega arith)
+rank_some cap r (local.Bounded (ring.PopTail h)) = either_some (r.tail == h) 1 5 (omega arith) (omega arith)
 rank_some cap r (local.Bounded ring.LenTail) = omega arith
-rank_some cap r (local.Bounded (ring.LenHead t)) = some_if (t == tail_of r.tail r.closed) 2 5 (omega arith) (omega arith)
-rank_some cap r (local.Bounded (ring.LenAgain t h)) = some_if (t == tail_of r.tail r.closed) 1 4 (omega arith) (omega arith)
+rank_some cap r (local.Bounded (ring.LenHead t)) = either_some (t == tail_of r.tail r.closed) 2 5 (omega arith) (omega arith)
+rank_some cap r (local.Bounded (ring.LenAgain t h)) = either_some (t == tail_of r.tail r.closed) 1 4 (omega arith) (omega arith)
 rank_some cap r (local.Bounded ring.EmptyHead) = omega arith
 rank_some cap r (local.Bounded ring.FullTail) = omega arith
 rank_some cap r _ = omega arith
@@ -151,12 +146,6 @@ makes_moves cap r s Q o (Some k) (Some e) is h = rw is (e, h.0, may k h.1, h.2, 
     may effect.SelfClose m = m
 makes_moves cap r s Q o None (Some e) is h = absurd h
 makes_moves cap r s Q o (Some k) None is h = absurd h
-
--- what was so at some moment is so at one of them
-seen_any : {A : Type 0} (ms : List (State A)) (P R : State A → Type 0) → ((m : State A) → P m → R m) → Seen ms P → Any R ms
-seen_any [] P R f seen = absurd seen
-seen_any (m ∷ ms) P R f (inl p) = (0, m, omega arith, refl, f m p)
-seen_any (m ∷ ms) P R f (inr seen) = let a = seen_any ms P R f seen in (suc a.0, a.1, omega arith, a.3, a.4)
 
 -- a call may reply at its step: its value is there
 can_reply : {A : Type 0} (cap : ℕ) (r s : Ring A) (who : ℕ) (ms : List (State A)) (was : Bool) (n : Next ℕ) (v : Option A) (k : Call A) (es : List (Effect A)) (m : ℕ)
@@ -212,48 +201,17 @@ RingMadeWell A cap busy s Q g p o t = engine.StepsWell A (Shared A) (Running A) 
 abbrev RingStepsWell : (A : Type 0) → ℕ → ℕ → Shared A → State A → Ring A → ℕ → Open A → Running A → Bool → Type 0
 RingStepsWell A cap busy s Q g p o x granted = RingMadeWell A cap busy s Q g p o (step_of (queue.Bounded cap) granted s x)
 
--- the count of steps alone, after one more
-few_after : (busy alone n m : ℕ) → (busy ≡ 1 → alone + n ≤ longest) → (busy ≡ 1 → m < n) → (busy ≡ 1 → (if busy == 1 then alone + 1 else 0) + m ≤ longest) × (busy ≢ 1 → (if busy == 1 then alone + 1 else 0) ≡ 0)
-few_after busy alone n m old falls =
-    elim (eqb_tells busy 1) [
-      | inl t ↦ rw t.0 ((λ e. let x = old e in let y = falls e in omega arith), (λ ne. absurd (ne t.1)))
-      | inr f ↦ rw f.0 ((λ e. absurd (f.1 e)), (λ ne. refl))
-    ]
-
-few_alone : (busy alone n : ℕ) → (busy ≡ 1 → alone + n ≤ longest) → (if busy == 1 then alone + 1 else 0) < LONE_STEPS
-few_alone busy alone n old =
-    elim (eqb_tells busy 1) [
-      | inl t ↦ rw t.0 (let x = old t.1 in omega arith)
-      | inr f ↦ rw f.0 (omega arith)
-    ]
-
-calm_if : {A : Type 0} (g : Ring A) (p : ℕ) (k : Call A) → (b : Bool) → is_prompt k ≡ b → (b ≡ false → IsQuiet g p) → IsCalm g p k
-calm_if g p k true is quiet = λ e. let f : true ≡ false = sym is ∙ e in cc
-calm_if g p k false is quiet = λ e. quiet refl
-
 -- where the call stands after its step
 goes_well : {A : Type 0} (cap busy : ℕ) (s : Shared A) (g g' : Ring A) (p : ℕ) (o : Open A) (n : Next ℕ) (v : Option A) (es : List (Effect A)) (m : ℕ)
-    → (busy ≡ 1 → IsQuiet g p) → (busy ≡ 1 → o.alone + m ≤ longest) → (is_prompt o.call ≡ true → o.steps + m ≤ 2)
+    → (busy ≡ 1 → IsQuiet g p) → FewSteps busy o m longest
     → Goes cap g g' p (queue_of cap g' ∷ o.moments) (o.was_open || not g'.closed) n v o.call es m
     → RingGoes A cap busy s (queue_of cap g') g' p (after_own busy o (queue_of cap g') es) (running_after n v) (reply_after n v)
-goes_well {A} cap busy s g g' p o (next.Step l t x) v es m quiet few prompt goes =
-    let counts = few_after busy o.alone m (rank cap g' l) few (λ one. goes.1 (λ _. quiet one)) in
-    let hurry : is_prompt o.call ≡ true → rank cap g' l < m = λ e. goes.1 (λ f. let no : true ≡ false = sym e ∙ f in cc) in (
-      record {
-        here = goes.0;
-        few = counts.0;
-        none = counts.1;
-        prompt = λ e. let a = hurry e in let b = prompt e in omega arith;
-      },
-      record {
-        is_begun = at_begun goes.0;
-        lone = few_alone busy o.alone m few;
-        prompt = λ e. let a = hurry e in let b = prompt e in let c = rank_some cap g' l in omega arith;
-      },
-    )
-goes_well {A} cap busy s g g' p o (next.Reply x spare) v es m quiet few prompt goes =
+goes_well {A} cap busy s g g' p o (next.Step l t x) v es m quiet few goes =
+    let less = few_own busy o (queue_of cap g') es m (rank cap g' l) longest (rank_small cap g' l) (λ one. goes.1 (λ _. quiet one)) (λ e. goes.1 (λ f. let no : true ≡ false = sym e ∙ f in cc)) few in
+    (record { here = goes.0; few = less }, few_stays busy (after_own busy o (queue_of cap g') es) (rank cap g' l) longest (omega arith) (rank_some cap g' l) (at_begun goes.0) less)
+goes_well {A} cap busy s g g' p o (next.Reply x spare) v es m quiet few goes =
     let y = goes.1 in
-    rw y.1 (goes.0, (y.2, λ e. seen_any (queue_of cap g' ∷ o.moments) (λ m. IsRightAt m o.call y.0) (Allows o.call y.0) (λ m right. inl right) (y.3 e)))
+    rw y.1 (goes.0, (y.2, λ e. any_in (queue_of cap g' ∷ o.moments) (λ m. IsRightAt m o.call y.0) (Allows o.call y.0) (λ m right. inl right) (y.3 e)))
 
 steps_granted : {A : Type 0} (cap busy : ℕ) (s : Shared A) (Q : State A) (g : Ring A) (p : ℕ) (x : Running A) (o : Open A)
     → RingHolds cap s Q g → RingFits cap busy s Q g p x o → (busy ≡ 1 → (j : ℕ) → j ≢ p → RingIdle g j)
@@ -273,13 +231,11 @@ steps_granted {A} cap busy s Q g p x o holds f quiet =
         no_blocks = plain-blocks (queue.Bounded cap) true s x (plain f.here) holds.no_blocks;
       };
       moves = makes_moves cap g after Q o t.effect good.e holds.queue_is good.makes;
-      goes = goes_well cap busy t.shared g after p o (next_after (queue.Bounded cap) true s x) (carried_then s x) (with_effect o.effects good.e) (rank cap g x.local) quiet f.few f.prompt good.goes;
+      goes = goes_well cap busy t.shared g after p o (next_after (queue.Bounded cap) true s x) (carried_then s x) (with_effect o.effects good.e) (rank cap g x.local) quiet f.few good.goes;
       idle = λ j ne idle. none_stays p j ne good.passes idle;
       others = λ busy' j y m ne many h. record {
-        here = at_stays holds.ok good.ok ne good.passes h.here;
-        few = λ e. let zero = h.none many in let small = rank_small cap after y.local in omega arith;
-        none = λ e. h.none many;
-        prompt = λ e. let same = prompt_rank after h.here e in let old = h.prompt e in omega arith;
+        here = subst (λ ms. At cap after j ms m.was_open y.local y.touch y.op y.carried m.call m.effects) (same_moments (queue_of cap after) m.moments) (at_stays holds.ok good.ok ne good.passes h.here);
+        few = few_watched busy busy' (queue_of cap after) m (rank cap g y.local) (rank cap after y.local) longest many (rank_small cap after y.local) (λ e. let same = prompt_rank after h.here e in omega arith) h.few;
       };
     }
 
@@ -292,12 +248,7 @@ ring_steps_well {A} cap busy granted s Q g p x o holds f quiet =
 -- a call just begun
 fresh : {A : Type 0} (cap : ℕ) (s : Shared A) (Q : State A) (g : Ring A) (p : ℕ) (k : Call A) (x : Running A)
     → At cap g p [] false x.local x.touch x.op x.carried k [] → (is_prompt k ≡ true → rank cap g x.local ≤ 2) → (busy : ℕ) → RingFits cap busy s Q g p x (begun k)
-fresh cap s Q g p k x at prompt busy = record {
-  here = at;
-  few = λ e. let small = rank_small cap g x.local in omega arith;
-  none = λ e. refl;
-  prompt = λ e. let a = prompt e in omega arith;
-}
+fresh cap s Q g p k x at prompt busy = record { here = at; few = few_begun busy k (rank cap g x.local) longest (rank_small cap g x.local) prompt }
 
 pub ring_begins_well : {A : Type 0} (cap : ℕ) (s : Shared A) (Q : State A) (g : Ring A) (p : ℕ) (k : Call A) → RingHolds cap s Q g → RingIdle g p
     → engine.BeginsWell A (Shared A) (Running A) (Ring A) (Some cap) (step_of (queue.Bounded cap)) (start_of (queue.Bounded cap)) (CanStep (queue.Bounded cap)) (RingHolds cap) RingIdle (RingFits cap)
@@ -313,12 +264,7 @@ ring_begins_well cap s Q g p call.Len holds idle = (refl, fresh cap s Q g p call
 ring_begins_well cap s Q g p call.Capacity holds idle = (refl, sym (ap (λ q. q.cap) holds.queue_is))
 
 pub ring_joins_well : {A : Type 0} (cap busy busy' : ℕ) (s : Shared A) (Q : State A) (g : Ring A) (p : ℕ) (x : Running A) (o : Open A) → RingFits cap busy s Q g p x o → RingFits cap busy' s Q g p x (joined o)
-ring_joins_well cap busy busy' s Q g p x o f = record {
-  here = f.here;
-  few = λ e. let small = rank_small cap g x.local in omega arith;
-  none = λ e. refl;
-  prompt = f.prompt;
-}
+ring_joins_well cap busy busy' s Q g p x o f = record { here = f.here; few = few_joined busy busy' o (rank cap g x.local) longest f.few }
 
 -- each step of a call on a ring is right
 pub ring_steps : {A : Type 0} (cap : ℕ) → LawsOf A (queue.Bounded cap) (Ring A) (RingHolds cap) RingIdle (RingFits cap)

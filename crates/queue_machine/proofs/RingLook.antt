@@ -15,11 +15,13 @@ use Rattle.queue_steps.specs.declared.steps.types.Touch.TheVariants as touch
 use Rattle.queue_steps.specs.declared.steps.types.Word.TheVariants as word
 use Rattle.queue_steps.specs.declared.steps.bounded.TheConstants.{MARK}
 use Rattle.queue_steps.specs.declared.steps.bounded.BoundedLocal.TheVariants as ring
+use Rattle.chain_laws.proofs.ChainFacts.{HeadWas, HasItems, SeenIn, seen_map}
+use Rattle.chain_laws.proofs.ChainAnswers.{position_tail, shut_tail}
 use Rattle.queue_machine.specs.Cells.{Shared}
 use Rattle.queue_machine.proofs.RingCells.{Ring, queue_of, RingOk, HoldsNone}
 use Rattle.queue_machine.proofs.RingTransitions.{marked, mark_ok}
-use Rattle.queue_machine.proofs.RingPasses.{passes_marked, HeadWas, HasItems, HasRoom, SawEmpty, SawFull, Seen, seen_map}
-use Rattle.queue_machine.proofs.RingWords.{Codes, position_tail, shut_tail, mark_tail, head_small}
+use Rattle.queue_machine.proofs.RingPasses.{passes_marked, HasRoom, SawEmpty, SawFull}
+use Rattle.queue_machine.proofs.RingWords.{Codes, mark_tail, head_small}
 use Rattle.queue_machine.proofs.RingAt.{len_tail, len_head, len_again, empty_tail, full_head}
 use Rattle.queue_machine.proofs.RingGood.{pick, Goes, Good, running, still}
 
@@ -42,7 +44,7 @@ good_len_head cap r who s ms was t ok codes none low =
     )
 
 pub good_len_again : {A : Type 0} (cap : ℕ) (r : Ring A) (who : ℕ) (s : Shared A) (ms : List (State A)) (was : Bool) (t h : ℕ)
-    → RingOk cap r → Codes cap r s → HoldsNone r.cells who → Seen ms (HeadWas h (position_of t) r.tail)
+    → RingOk cap r → Codes cap r s → HoldsNone r.cells who → SeenIn ms (HeadWas h (position_of t) r.tail)
     → Good cap r who s ms was (running (local.Bounded (ring.LenAgain t h)) touch.Nothing (op.Load word.Tail) None) call.Len []
 good_len_again {A} cap r who s ms was t h ok codes none seen =
     still cap r who s ms was (local.Bounded (ring.LenAgain t h)) (op.Load word.Tail) None call.Len [] ok codes tt refl
@@ -52,7 +54,7 @@ good_len_again {A} cap r who s ms was t h ok codes none seen =
     at_tail : s.tail ≡ t → position_of t ≡ r.tail
     at_tail e = ap position_of (sym e ∙ codes.tail) ∙ position_tail r.tail r.closed
 
-    low_of : position_of t ≡ r.tail → (ns : List (State A)) → Seen ns (HeadWas h (position_of t) r.tail) → h ≤ position_of t
+    low_of : position_of t ≡ r.tail → (ns : List (State A)) → SeenIn ns (HeadWas h (position_of t) r.tail) → h ≤ position_of t
     low_of e [] seen = absurd seen
     low_of e (m ∷ ns) (inl was) = let a = was.0 in let c = was.2 in omega arith
     low_of e (m ∷ ns) (inr seen) = low_of e ns seen
@@ -73,7 +75,7 @@ good_empty_head {A} cap r who s ms was ok codes none =
     still cap r who s ms was (local.Bounded ring.EmptyHead) (op.Load word.Head) None call.IsEmpty [] ok codes tt refl (ok.ring, tt) refl
     (empty_tail s.head none (tt, (let a = codes.head in omega arith), seen r.items refl), λ calm. omega arith)
   where
-    seen : (xs : List A) → r.items ≡ xs → Seen (queue_of cap r ∷ ms) HasItems ⊎ (r.tail ≡ s.head)
+    seen : (xs : List A) → r.items ≡ xs → SeenIn (queue_of cap r ∷ ms) HasItems ⊎ (r.tail ≡ s.head)
     seen [] e = let a = codes.head in let b : length r.items ≡ 0 = ap length e in let c = ok.count in inr (omega arith)
     seen (x ∷ xs) e = let b : length r.items ≡ length xs + 1 = ap length e ∙ (omega arith) in inl (inl (omega arith))
 
@@ -96,7 +98,7 @@ good_empty_tail {A} cap r who s ms was h ok codes none saw =
     at = ap position_of codes.tail ∙ position_tail r.tail r.closed
 
     go : (((r.tail == h) ≡ true) × (r.tail ≡ h)) ⊎ (((r.tail == h) ≡ false) × (r.tail ≢ h))
-        → Seen (queue_of cap r ∷ ms) (λ m. (r.tail == h) ≡ is_empty m.items)
+        → SeenIn (queue_of cap r ∷ ms) (λ m. (r.tail == h) ≡ is_empty m.items)
     go (inl e) =
         let low = saw.1 in
         let count = ok.count in
@@ -120,7 +122,7 @@ good_full_tail {A} cap r who s ms was ok codes none =
     cases : (m n : ℕ) → (m < n) ⊎ (n ≤ m)
     cases m n = grind arith
 
-    seen : (length r.items < cap) ⊎ (cap ≤ length r.items) → Seen (queue_of cap r ∷ ms) (HasRoom cap) ⊎ (r.head + cap ≡ position_of s.tail)
+    seen : (length r.items < cap) ⊎ (cap ≤ length r.items) → SeenIn (queue_of cap r ∷ ms) (HasRoom cap) ⊎ (r.head + cap ≡ position_of s.tail)
     seen (inl lt) = inl (inl (refl, lt))
     seen (inr full) = let count = ok.count in let room = ok.room in let a = at in inr (omega arith)
 
@@ -133,7 +135,7 @@ good_full_head {A} cap r who s ms was t ok codes none saw =
     (rw codes.head (none, (reply.IsFull (r.head + cap == position_of t), refl, refl, λ _. go (eqb_tells (r.head + cap) (position_of t)))))
   where
     go : (((r.head + cap == position_of t) ≡ true) × (r.head + cap ≡ position_of t)) ⊎ (((r.head + cap == position_of t) ≡ false) × (r.head + cap ≢ position_of t))
-        → Seen (queue_of cap r ∷ ms) (λ m. (r.head + cap == position_of t) ≡ is_full m)
+        → SeenIn (queue_of cap r ∷ ms) (λ m. (r.head + cap == position_of t) ≡ is_full m)
     go (inl e) =
         let low = saw.1 in
         let count = ok.count in

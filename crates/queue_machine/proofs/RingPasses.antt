@@ -1,8 +1,9 @@
 -- What one party's step leaves of a ring for the others: counts that grow, and slots that stay.
-use Rattle.std.proofs.Common.{ℕ, ◌+◌, ◌%◌, ◌<◌, ◌≤◌, ◌≡◌, ◌≢◌, ◌∙◌, ◌⊎◌, inl, inr, false, Some, None, List, [], ◌∷◌, length, refl, sym, ap, arith}
+use Rattle.std.proofs.Common.{ℕ, ◌+◌, ◌%◌, ◌<◌, ◌≤◌, ◌≡◌, ◌≢◌, ◌∙◌, ◌⊎◌, inl, inr, false, Some, None, List, length, refl, sym, ap, arith}
 use Rattle.queue_steps.specs.State.{State}
-use Rattle.queue_machine.specs.Book.{seen_by}
-use Rattle.queue_machine.proofs.RingCells.{Cell, Free, Written, Full, Read, Coming, Swapped, Ring, queue_of, RingOk, put, put_ok, put_owned, held_stays, owner, HoldsNone, HoldsOne}
+use Rattle.chain_laws.proofs.ChainFacts.{SeenIn, IsStarted, seen_by, seen_map, seen_later, seen_now, started_later, HeadWas, HasItems}
+use Rattle.chain_laws.proofs.ChainCells.{put, put_ok}
+use Rattle.queue_machine.proofs.RingCells.{Cell, Free, Written, Full, Read, Coming, Swapped, Ring, queue_of, RingOk, put_owned, held_stays, owner, HoldsNone, HoldsOne}
 use Rattle.queue_machine.proofs.RingTransitions.{appended, taken, written, fronted, arrived, marked}
 
 -- a step of this party leads from the ring r to the ring s
@@ -132,61 +133,28 @@ pub full_stays : {A : Type 0} {r s : Ring A} (cap who h : ℕ) → Passes who r 
 full_stays cap who h pass (inl lt) = let g = head_grows who pass in inl (omega arith)
 full_stays cap who h pass (inr (x, is)) = elim (pass.full (h % cap) h x is) [ inl lt ↦ inl lt | inr f ↦ inr (x, f) ]
 
--- some moment was so
-abbrev pub Seen : {A : Type 0} → List (State A) → (State A → Type 0) → Type 0
-Seen [] P = ⊥
-Seen (q ∷ qs) P = P q ⊎ Seen qs P
-
--- the call has taken its first step
-abbrev pub IsStarted : {A : Type 0} → List (State A) → Type 0
-IsStarted [] = ⊥
-IsStarted (m ∷ ms) = Unit {0}
-
-pub seen_map : {A : Type 0} (ms : List (State A)) {P Q : State A → Type 0} → ((m : State A) → P m → Q m) → Seen ms P → Seen ms Q
-seen_map [] f s = s
-seen_map (m ∷ ms) f (inl p) = inl (f m p)
-seen_map (m ∷ ms) f (inr s) = inr (seen_map ms f s)
-
-pub seen_later : {A : Type 0} (ms : List (State A)) (q : State A) (P : State A → Type 0) → Seen ms P → Seen (seen_by q ms) P
-seen_later [] q P s = s
-seen_later (m ∷ ms) q P s = inr s
-
-pub seen_now : {A : Type 0} (ms : List (State A)) (q : State A) (P : State A → Type 0) → IsStarted ms → P q → Seen (seen_by q ms) P
-seen_now [] q P started p = absurd started
-seen_now (m ∷ ms) q P started p = inl p
-
-pub started_later : {A : Type 0} (ms : List (State A)) (q : State A) → IsStarted ms → IsStarted (seen_by q ms)
-started_later [] q s = s
-started_later (m ∷ ms) q s = tt
-
 -- a moment at which the tail stood at q, the queue was open, and no more items had left than by now
 abbrev pub TailWas : {A : Type 0} → ℕ → ℕ → ℕ → State A → Type 0
 TailWas cap q head m = (m.cap ≡ Some cap) × (m.closed ≡ false) × (m.accepted ≡ q) × (q ≤ length m.items + head) × (length m.items ≤ cap)
 
--- a moment at which h items had left, and the tail stood between q and where it stands now
-abbrev pub HeadWas : {A : Type 0} → ℕ → ℕ → ℕ → State A → Type 0
-HeadWas h q tail m = (m.accepted ≡ h + length m.items) × (q ≤ m.accepted) × (m.accepted ≤ tail)
-
-abbrev pub HasItems : {A : Type 0} → State A → Type 0
-HasItems m = 0 < length m.items
-
+-- a moment at which the list had room
 abbrev pub HasRoom : {A : Type 0} → ℕ → State A → Type 0
 HasRoom cap m = (m.cap ≡ Some cap) × (length m.items < cap)
 
 -- after the head was read at h: the list was seen with an item, or nothing was accepted since
 abbrev pub SawEmpty : {A : Type 0} → ℕ → Ring A → List (State A) → Type 0
-SawEmpty h r ms = IsStarted ms × (h ≤ r.head) × (Seen ms HasItems ⊎ (r.tail ≡ h))
+SawEmpty h r ms = IsStarted ms × (h ≤ r.head) × (SeenIn ms HasItems ⊎ (r.tail ≡ h))
 
 -- after the tail was read at q: the list was seen with room, or nothing left since
 abbrev pub SawFull : {A : Type 0} → ℕ → ℕ → Ring A → List (State A) → Type 0
-SawFull cap q r ms = IsStarted ms × (q ≤ r.tail) × (Seen ms (HasRoom cap) ⊎ (r.head + cap ≡ q))
+SawFull cap q r ms = IsStarted ms × (q ≤ r.tail) × (SeenIn ms (HasRoom cap) ⊎ (r.head + cap ≡ q))
 
-pub tail_was_stays : {A : Type 0} {r s : Ring A} (cap who q : ℕ) (ms : List (State A)) (t : State A) → Passes who r s → Seen ms (TailWas cap q r.head) → Seen (seen_by t ms) (TailWas cap q s.head)
+pub tail_was_stays : {A : Type 0} {r s : Ring A} (cap who q : ℕ) (ms : List (State A)) (t : State A) → Passes who r s → SeenIn ms (TailWas cap q r.head) → SeenIn (seen_by t ms) (TailWas cap q s.head)
 tail_was_stays {A} {r = r} {s = s} cap who q ms t pass seen =
     let g = head_grows who pass in
     seen_later ms t (TailWas cap q s.head) (seen_map ms (λ m p. (p.0, p.1, p.2, (let low = p.3 in omega arith), p.4)) seen)
 
-pub head_was_stays : {A : Type 0} {r s : Ring A} (who h q : ℕ) (ms : List (State A)) (t : State A) → Passes who r s → Seen ms (HeadWas h q r.tail) → Seen (seen_by t ms) (HeadWas h q s.tail)
+pub head_was_stays : {A : Type 0} {r s : Ring A} (who h q : ℕ) (ms : List (State A)) (t : State A) → Passes who r s → SeenIn ms (HeadWas h q r.tail) → SeenIn (seen_by t ms) (HeadWas h q s.tail)
 head_was_stays {r = r} {s = s} who h q ms t pass seen =
     let g = tail_grows who pass in
     seen_later ms t (HeadWas h q s.tail) (seen_map ms (λ m p. (p.0, p.1, (let high = p.2 in omega arith))) seen)

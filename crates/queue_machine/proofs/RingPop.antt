@@ -1,5 +1,5 @@
 -- The steps of a pop from a ring.
-use Rattle.std.proofs.Common.{ℕ, ◌+◌, ◌%◌, ◌<◌, ◌≤◌, ◌≡◌, ◌≢◌, ◌==◌, ◌||◌, not, ◌∙◌, ◌⊎◌, inl, inr, Bool, true, false, if◌then◌else◌, Some, None, Ok, Err, List, [], ◌∷◌, length, refl, sym, ap, subst, arith, get_or}
+use Rattle.std.proofs.Common.{ℕ, ◌+◌, ◌%◌, ◌<◌, ◌≤◌, ◌≡◌, ◌≢◌, ◌==◌, ◌||◌, not, ◌∙◌, ◌⊎◌, inl, inr, Bool, true, false, if◌then◌else◌, Some, None, Ok, Err, List, [], ◌∷◌, refl, sym, ap, subst, arith, get_or}
 use Rattle.std.proofs.lemmas.Bool.{ne_eqb}
 use Rattle.std.proofs.lemmas.Bool.Decides.{eqb_tells}
 use Rattle.queue_steps.specs.State.{State}
@@ -14,11 +14,14 @@ use Rattle.queue_steps.specs.declared.steps.types.Op.TheVariants as op
 use Rattle.queue_steps.specs.declared.steps.types.Touch.TheVariants as touch
 use Rattle.queue_steps.specs.declared.steps.types.Word.TheVariants as word
 use Rattle.queue_steps.specs.declared.steps.bounded.BoundedLocal.TheVariants as ring
+use Rattle.chain_laws.proofs.ChainCells.{put}
+use Rattle.chain_laws.proofs.ChainAnswers.{position_tail, shut_tail}
+use Rattle.chain_laws.proofs.ChainEmpty.{none_left}
 use Rattle.queue_machine.specs.Cells.{Shared}
-use Rattle.queue_machine.proofs.RingCells.{Free, Full, Read, Ring, queue_of, RingOk, put, HoldsNone, HoldsOne, claims, lets_go}
+use Rattle.queue_machine.proofs.RingCells.{Free, Full, Read, Ring, queue_of, RingOk, HoldsNone, HoldsOne, claims, lets_go}
 use Rattle.queue_machine.proofs.RingTransitions.{in_ring, none_coming, taken, take_ok, written, read_ok}
 use Rattle.queue_machine.proofs.RingPasses.{passes_take, passes_written, FreeAt, FullAt}
-use Rattle.queue_machine.proofs.RingWords.{Codes, stamp_in, item_in, position_tail, shut_tail, head_small}
+use Rattle.queue_machine.proofs.RingWords.{Codes, stamp_in, item_in, head_small}
 use Rattle.queue_machine.proofs.RingAt.{pop_head, pop_stamp, taking, emptying, pop_tail}
 use Rattle.queue_machine.proofs.RingGood.{pick, IsCalm, Goes, Good, running, still}
 use Rattle.queue_machine.proofs.RingSlots.{stamp_free_at, stamp_full_at, nobody, head_slot, codes_claim, codes_store}
@@ -151,10 +154,6 @@ good_emptying {A} cap r who s ms was x h ok codes one =
       passes = passes_written r who i (Read h who x) (Free (h + cap)) one.0 refl refl;
       goes = rw hand (lets_go r.cells who i (Read h who x) (Free (h + cap)) refl one, (reply.Pop (Ok x), refl, refl, λ e. cc));
     }
-
-none_left : {A : Type 0} (xs : List A) → length xs ≡ 0 → xs ≡ []
-none_left [] e = refl
-none_left (x ∷ xs) e = absurd (omega arith)
 
 pub good_pop_tail : {A : Type 0} (cap : ℕ) (r : Ring A) (who : ℕ) (s : Shared A) (ms : List (State A)) (was : Bool) (h : ℕ)
     → RingOk cap r → Codes cap r s → HoldsNone r.cells who → h ≤ r.head → FreeAt cap r h

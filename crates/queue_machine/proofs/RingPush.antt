@@ -19,12 +19,14 @@ use Rattle.queue_steps.specs.declared.steps.types.Word.TheVariants as word
 use Rattle.queue_steps.specs.declared.steps.bounded.PushKind.{PushKind}
 use Rattle.queue_steps.specs.declared.steps.bounded.PushKind.TheVariants as kind
 use Rattle.queue_steps.specs.declared.steps.bounded.BoundedLocal.TheVariants as ring
+use Rattle.chain_laws.proofs.ChainAt.{pushes}
+use Rattle.chain_laws.proofs.ChainAnswers.{position_tail, shut_tail}
 use Rattle.queue_machine.specs.Cells.{Shared}
 use Rattle.queue_machine.proofs.RingCells.{Free, Full, Ring, queue_of, RingOk, wraps, HoldsNone}
 use Rattle.queue_machine.proofs.RingTransitions.{in_ring}
 use Rattle.queue_machine.proofs.RingPasses.{FullAt}
-use Rattle.queue_machine.proofs.RingWords.{Codes, stamp_in, position_tail, shut_tail, word_small}
-use Rattle.queue_machine.proofs.RingAt.{pushes, SawTail, push_tail, push_stamp, claiming, push_head, displacing, spending}
+use Rattle.queue_machine.proofs.RingWords.{Codes, stamp_in, word_small}
+use Rattle.queue_machine.proofs.RingAt.{SawTail, push_tail, push_stamp, claiming, push_head, displacing, spending}
 use Rattle.queue_machine.proofs.RingGood.{pick, IsCalm, Goes, Good, running, still, opened_now, not_prompt, saw_own}
 use Rattle.queue_machine.proofs.RingSlots.{stamp_free_at, stamp_full_at, stamp_small, stamp_lapped, nobody, tail_slot}
 

@@ -3,8 +3,9 @@ use Rattle.std.proofs.Common.{ℕ, ◌+◌, ◌%◌, ◌<◌, ◌≤◌, ◌≡�
 use Rattle.std.proofs.lemmas.List.{length-set}
 use Rattle.std.proofs.lemmas.Bool.Decides.{eqb_tells}
 use Rattle.queue_steps.specs.Words.{IsWord, tail_of}
+use Rattle.chain_laws.proofs.ChainCells.{put, put_ok}
 use Rattle.queue_machine.specs.Cells.{Shared}
-use Rattle.queue_machine.proofs.RingCells.{Cell, Free, Written, Full, Read, Coming, Swapped, Ring, CellOk, RingOk, wraps, together, put, put_ok, owner, HoldsNone}
+use Rattle.queue_machine.proofs.RingCells.{Cell, Free, Written, Full, Read, Coming, Swapped, Ring, CellOk, RingOk, wraps, together, owner, HoldsNone}
 use Rattle.queue_machine.proofs.RingTransitions.{in_ring, written}
 use Rattle.queue_machine.proofs.RingPasses.{FreeAt, FullAt}
 use Rattle.queue_machine.proofs.RingWords.{Codes, stamp_in, item_in, IsFreeCell, is_free, is_written, IsFullCell, is_full, is_read, is_coming, is_swapped, stamp_is_free, stamp_is_full}

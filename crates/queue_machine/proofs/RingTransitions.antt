@@ -1,5 +1,5 @@
 -- What each step that changes a ring does to the queue.
-use Rattle.std.proofs.Common.{ℕ, ◌+◌, ◌-◌, ◌%◌, ◌<◌, ◌≡◌, ◌≢◌, ◌∙◌, inr, true, false, Option, Some, None, List, [], ◌∷◌, ◌++◌, length, refl, sym, ap, arith, zero, suc, slice_get}
+use Rattle.std.proofs.Common.{ℕ, ◌+◌, ◌-◌, ◌%◌, ◌<◌, ◌≡◌, ◌≢◌, ◌∙◌, inr, true, false, Option, Some, None, List, [], ◌∷◌, ◌++◌, length, refl, sym, ap, arith, slice_get}
 use Rattle.std.proofs.lemmas.List.{length-append}
 use Rattle.std.proofs.lemmas.Bool.{ne_eqb, eq-eqb}
 use Rattle.queue_steps.specs.declared.sizes.TheConstants.{LIMIT}
@@ -7,25 +7,10 @@ use Rattle.queue_steps.specs.declared.model.Effect.TheVariants as effect
 use Rattle.queue_steps.specs.State.{is_single_cap}
 use Rattle.queue_steps.specs.Effect.{Fits, rest, with_coming}
 use Rattle.queue_steps.specs.Words.{IsRing}
-use Rattle.queue_machine.proofs.RingCells.{Cell, Free, Written, Full, Read, Coming, Swapped, Ring, queue_of, CellOk, RingOk, wraps, put, put_ok}
-
-front_stays : {X : Type 0} (xs : List X) (y : X) (k : ℕ) (v : X) → slice_get xs k ≡ Some v → slice_get (xs ++ y ∷ []) k ≡ Some v
-front_stays [] y k v e = cc
-front_stays (x ∷ xs) y zero v e = e
-front_stays (x ∷ xs) y (suc k) v e = front_stays xs y k v e
-
-last_is : {X : Type 0} (xs : List X) (y : X) (k : ℕ) → k ≡ length xs → slice_get (xs ++ y ∷ []) k ≡ Some y
-last_is [] y zero e = refl
-last_is [] y (suc k) e = absurd (omega arith)
-last_is (x ∷ xs) y zero e = absurd (omega arith)
-last_is (x ∷ xs) y (suc k) e = last_is xs y k (omega arith)
-
--- the item behind the front
-behind : {X : Type 0} (xs : List X) (p head : ℕ) (v : X) → head < p → slice_get xs (p - head) ≡ Some v → slice_get (rest xs) (p - (head + 1)) ≡ Some v
-behind [] p head v lt e = cc
-behind (x ∷ xs) p head v lt e =
-    let at : p - head ≡ suc (p - (head + 1)) = omega arith in
-    rw at at e
+use Rattle.chain_laws.proofs.ChainCells.{put, put_ok}
+use Rattle.chain_laws.proofs.ChainTransitions.{front_stays, last_is}
+use Rattle.chain_laws.proofs.ChainReads.{behind, first, length-rest}
+use Rattle.queue_machine.proofs.RingCells.{Cell, Free, Written, Full, Read, Coming, Swapped, Ring, queue_of, CellOk, RingOk, wraps}
 
 -- an append leaves what is so of the other slots
 cell_append : {A : Type 0} (cap head tail : ℕ) (items : List A) (coming coming' : Option A) (v : A) (i : ℕ) (c : Cell A)
@@ -100,14 +85,6 @@ append_ok {A = A} cap r who v ok opened below free =
         comes = λ w e. let f : None ≡ Some w = sym none ∙ e in cc;
       },
     )
-
-pub first : {X : Type 0} (xs : List X) (x : X) → slice_get xs 0 ≡ Some x → (others : List X) × (xs ≡ x ∷ others)
-first [] x e = cc
-first (y ∷ xs) x e = (xs, (cc))
-
-length-rest : {X : Type 0} (xs : List X) (x : X) → slice_get xs 0 ≡ Some x → length (rest xs) + 1 ≡ length xs
-length-rest [] x e = cc
-length-rest (y ∷ xs) x e = omega arith
 
 -- the item of a full slot at the head is the front
 pub front_is : {A : Type 0} (cap : ℕ) (r : Ring A) (x : A) → RingOk cap r → r.cells (r.head % cap) ≡ Full r.head x → slice_get r.items 0 ≡ Some x

@@ -2,11 +2,11 @@
 use Rattle.std.proofs.Common.{ℕ, ◌+◌, ◌*◌, ◌%◌, ◌<◌, ◌≤◌, ◌≡◌, ◌∙◌, ◌⊎◌, inl, inr, Bool, true, false, Option, Some, None, List, length, refl, sym, ap, arith, get_or, bit_and, bit_or}
 use Rattle.std.specs.Int.Bits.{or_add_and}
 use Rattle.std.proofs.lemmas.Nat.{and_mask}
-use Rattle.std.proofs.lemmas.Bool.{ne_eqb, eq-eqb}
 use Rattle.std.proofs.lemmas.Bool.Decides.{eqb_tells}
 use Rattle.queue_steps.specs.declared.sizes.TheConstants.{LIMIT}
 use Rattle.queue_steps.specs.Words.{IsWord, position_of, is_shut, tail_of, stamp_free, stamp_filled}
 use Rattle.queue_steps.specs.declared.steps.bounded.TheConstants.{MARK, TAIL_STEP}
+use Rattle.chain_laws.proofs.ChainAnswers.{position_tail, shut_tail}
 use Rattle.queue_machine.specs.Blocks.{Block}
 use Rattle.queue_machine.specs.Cells.{Shared}
 use Rattle.queue_machine.proofs.RingCells.{Cell, Free, Written, Full, Read, Coming, Swapped, Ring, CellOk, RingOk, together}
@@ -42,14 +42,6 @@ pub record Codes {A : Type 0} (cap : ℕ) (r : Ring A) (s : Shared A) : Type 0 w
 -- a ring's words and slots stay, whatever the blocks are
 pub codes_blocks : {A : Type 0} (cap : ℕ) (r : Ring A) (s : Shared A) (bs : List (Option (Block A))) → Codes cap r s → Codes cap r (record s { blocks = bs })
 codes_blocks cap r s bs c = record { head = c.head; tail = c.tail; stamped = c.stamped; slotted = c.slotted; stamp = c.stamp; slot = c.slot }
-
-pub position_tail : (q : ℕ) (c : Bool) → position_of (tail_of q c) ≡ q
-position_tail q true = omega arith
-position_tail q false = omega arith
-
-pub shut_tail : (q : ℕ) (c : Bool) → is_shut (tail_of q c) ≡ c
-shut_tail q true = eq-eqb ((q * 2 + 1) % 2) 1 (omega arith)
-shut_tail q false = ne_eqb ((q * 2) % 2) 1 (λ e. absurd (let z : (q * 2) % 2 ≡ 0 = omega arith in omega arith))
 
 -- a word that is no closed queue's tail is twice its position
 pub open_tail : (t : ℕ) → is_shut t ≡ false → t ≡ tail_of (position_of t) false

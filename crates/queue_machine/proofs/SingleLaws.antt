@@ -1,5 +1,5 @@
 -- One slot keeps the laws of the engine.
-use Rattle.std.proofs.Common.{ℕ, ◌+◌, ◌<◌, ◌≤◌, ◌≡◌, ◌≢◌, ◌==◌, ◌∙◌, inl, inr, Bool, true, false, if◌then◌else◌, Option, Some, None, List, [], ◌∷◌, refl, sym, ap, arith, IsSome}
+use Rattle.std.proofs.Common.{ℕ, ◌<◌, ◌≤◌, ◌≡◌, ◌≢◌, ◌==◌, ◌∙◌, inl, inr, Bool, true, false, if◌then◌else◌, Option, Some, None, List, [], ◌∷◌, refl, sym, ap, arith, IsSome}
 use Rattle.std.proofs.lemmas.Bool.{eq-eqb}
 use Rattle.std.proofs.lemmas.Bool.Decides.{eqb_tells}
 use Rattle.queue_steps.specs.State.{State}
@@ -16,10 +16,11 @@ use Rattle.queue_machine.specs.declared.machine.Running.{Running}
 use Rattle.queue_machine.specs.Book.{Open, is_prompt, after_own, begun}
 use Rattle.queue_machine.specs.Cells.{Shared, CanStep, CanReply, step_of, start_of, running_after, reply_after, next_after, carried_then}
 use Rattle.queue_machine.proofs.Engine as engine
+use Rattle.queue_machine.proofs.FewSteps.{FewSteps, few_begun, few_joined, few_watched, few_own, few_stays}
 use Rattle.queue_machine.proofs.KindLaws.{LawsOf}
 use Rattle.queue_machine.proofs.SingleRows.{Hold, Nobody, Filling, Swapping, Taking, Stands, At, push_try, force_try_empty, pop_try, close_try, look_at, Share, idle, fills, swaps, takes, Passes, stays, changes, single, one_slot, Lands, rank, Falls}
 use Rattle.queue_machine.proofs.SingleSteps.{step_good}
-use Rattle.queue_machine.proofs.SingleRanks.{step_falls, prompt_ends, can_operate, rank_small}
+use Rattle.queue_machine.proofs.SingleRanks.{step_falls, prompt_ends, prompt_one, can_operate, rank_small, rank_some}
 
 -- what the proof keeps: which party has the lock, and what it is about to do
 pub record Keeps (T : Type 0) : Type 0 where
@@ -43,12 +44,10 @@ pub record Holds {T : Type 0} (s : Shared T) (Q : State T) (g : Keeps T) : Type 
 abbrev pub Idle : {T : Type 0} → Keeps T → ℕ → Type 0
 Idle g p = own_of g.who g.hold p ≡ Nobody
 
--- where the call stands; how few steps it has left where it is the only one
+-- where the call stands, and that it has few steps before it
 pub record FitsIn {T : Type 0} (busy : ℕ) (s : Shared T) (Q : State T) (g : Keeps T) (p : ℕ) (r : Running T) (o : Open T) : Type 0 where
   pub here : At r.local r.touch r.op r.carried (own_of g.who g.hold p) o.call o.effects
-  pub few : busy ≡ 1 → o.alone + rank r.local s.lock ≤ 3
-  pub none : busy ≢ 1 → o.alone ≡ 0
-  pub prompt : is_prompt o.call ≡ true → o.steps ≡ 0
+  pub few : FewSteps busy o (rank r.local s.lock) 3
 
 share_whole : {T : Type 0} (h : Hold T) → Share h h
 share_whole Nobody = idle Nobody
@@ -88,37 +87,20 @@ own_alone g p others =
       | inr f ↦ rw f.0 (sym (rw (eq-eqb g.who g.who refl) at (others g.who (λ e. f.1 (sym e)))))
     ]
 
-alone_after : (busy alone n m : ℕ) → (busy ≡ 1 → alone + n ≤ 3) → (busy ≡ 1 → m < n) → m ≤ 3
-    → (busy ≡ 1 → (if busy == 1 then alone + 1 else 0) + m ≤ 3) × (busy ≢ 1 → (if busy == 1 then alone + 1 else 0) ≡ 0)
-alone_after busy alone n m old falls small =
-    elim (eqb_tells busy 1) [
-      | inl t ↦ rw t.0 ((λ e. let x = old e in let y = falls e in omega arith), (λ ne. absurd (ne t.1)))
-      | inr f ↦ rw f.0 ((λ e. absurd (f.1 e)), (λ ne. refl))
-    ]
-
-few_alone : (busy alone n : ℕ) → (busy ≡ 1 → alone + n ≤ 3) → (if busy == 1 then alone + 1 else 0) < 64
-few_alone busy alone n old =
-    elim (eqb_tells busy 1) [
-      | inl t ↦ rw t.0 (let x = old t.1 in omega arith)
-      | inr f ↦ rw f.0 (omega arith)
-    ]
-
 abbrev GoesWell : {T : Type 0} → ℕ → Shared T → State T → Keeps T → ℕ → Open T → Option (Running T) → Option (Reply T) → Type 0
 GoesWell {T} = engine.Goes T (Shared T) (Running T) (Keeps T) (Some 1) (step_of kind.Single) (start_of kind.Single) (CanStep kind.Single) Holds Idle FitsIn
 
 -- where the call stands after its step
 lands_well : {T : Type 0} (x : Option (Running T)) (y : Option (Reply T)) (busy : ℕ) (s : Shared T) (Q : State T) (g : Keeps T) (p : ℕ) (o : Open T) (own : Hold T) (n : ℕ)
     → own ≡ own_of g.who g.hold p → Lands x y own o.call o.effects o.moments
-    → ((m : ℕ) → m ≤ 3 → (busy ≡ 1 → m < n) → (busy ≡ 1 → o.alone + m ≤ 3) × (busy ≢ 1 → o.alone ≡ 0)) → (busy ≡ 1 → Falls x n s.lock)
-    → o.alone < 64 → (is_prompt o.call ≡ true → x ≡ None) → GoesWell busy s Q g p o x y
-lands_well (Some r) None busy s Q g p o own n is lands counts falls few prompt =
-    let a = counts (rank r.local s.lock) (rank_small r.local s.lock) falls in (
-      record { here = rw (sym is) lands.0; few = a.0; none = a.1; prompt = λ e. let none = prompt e in cc },
-      record { is_begun = lands.1; lone = few; prompt = λ e. let none = prompt e in cc },
-    )
-lands_well None (Some x) busy s Q g p o own n is lands counts falls few prompt = (sym is ∙ lands.0, (lands.1, lands.2))
-lands_well None None busy s Q g p o own n is lands counts falls few prompt = absurd lands
-lands_well (Some r) (Some x) busy s Q g p o own n is lands counts falls few prompt = absurd lands
+    → ((m : ℕ) → m ≤ 3 → (busy ≡ 1 → m < n) → (is_prompt o.call ≡ true → m < n) → FewSteps busy o m 3) → (busy ≡ 1 → Falls x n s.lock)
+    → (is_prompt o.call ≡ true → x ≡ None) → GoesWell busy s Q g p o x y
+lands_well (Some r) None busy s Q g p o own n is lands counts falls prompt =
+    let less = counts (rank r.local s.lock) (rank_small r.local s.lock) falls (λ e. let none = prompt e in cc) in
+    (record { here = rw (sym is) lands.0; few = less }, few_stays busy o (rank r.local s.lock) 3 (omega arith) (rank_some r.local s.lock) lands.1 less)
+lands_well None (Some x) busy s Q g p o own n is lands counts falls prompt = (sym is ∙ lands.0, (lands.1, lands.2))
+lands_well None None busy s Q g p o own n is lands counts falls prompt = absurd lands
+lands_well (Some r) (Some x) busy s Q g p o own n is lands counts falls prompt = absurd lands
 
 stepped_well : {T : Type 0} (busy : ℕ) (ok : Bool) (s : Shared T) (Q : State T) (g : Keeps T) (p : ℕ) (r : Running T) (o : Open T)
     → Holds s Q g → FitsIn busy s Q g p r o → (busy ≡ 1 → (j : ℕ) → j ≢ p → Idle g j)
@@ -126,7 +108,7 @@ stepped_well : {T : Type 0} (busy : ℕ) (ok : Bool) (s : Shared T) (Q : State T
 stepped_well {T} busy ok s Q g p r o holds f others =
     rw holds.shared_is (from_here (rw holds.shared_is at f.few))
   where
-    from_here : (busy ≡ 1 → o.alone + rank r.local holds.word ≤ 3)
+    from_here : FewSteps busy o (rank r.local holds.word) 3
         → engine.StepsWell T (Shared T) (Running T) (Keeps T) (Some 1) (step_of kind.Single) (start_of kind.Single) (CanStep kind.Single) Holds Idle FitsIn busy (one_slot holds.word holds.slot) Q g p o (step_of kind.Single ok (one_slot holds.word holds.slot) r)
     from_here few =
         let good = step_good f.here (share_of (p == g.who) g.hold) holds.stands ok holds.n o.moments o.was_open o.steps o.alone in
@@ -141,16 +123,14 @@ stepped_well {T} busy ok s Q g p r o holds f others =
           moves = rw holds.queue_is good.moves;
           goes = lands_well t.call t.reply busy t.shared Q' g' p (after_own busy o Q' good.es') good.own' (rank r.local holds.word)
               (own_self good.passes g.who p refl) good.lands
-              (λ m small falls. alone_after busy o.alone (rank r.local holds.word) m few falls small)
+              (λ m small falls hurry. few_own busy o Q' good.es' (rank r.local holds.word) m 3 small falls hurry few)
               (λ one. step_falls ok (rw (own_alone g p (others one)) at f.here) holds.stands)
-              (few_alone busy o.alone (rank r.local holds.word) few)
               (λ e. prompt_ends holds.word holds.slot ok f.here e);
           idle = λ j ne free. own_other good.passes g.who p j refl ne ∙ free;
           others = λ busy' j x m ne many h. record {
             here = rw (own_other good.passes g.who p j refl ne) h.here;
-            few = λ e. let none = h.none many in omega (arith, rank_small x.local t.shared.lock);
-            none = λ e. h.none many;
-            prompt = h.prompt;
+            few = few_watched busy busy' Q' m (rank x.local holds.word) (rank x.local t.shared.lock) 3 many (rank_small x.local t.shared.lock)
+                (λ e. let a = prompt_one t.shared.lock h.here e in let b = prompt_one holds.word h.here e in omega arith) h.few;
           };
         }
 
@@ -178,7 +158,7 @@ can_take {T} busy ok s Q g p r o holds f =
     })
 
 fresh : {T : Type 0} (s : Shared T) (Q : State T) (g : Keeps T) (p : ℕ) (k : Call T) (r : Running T) → Idle g p → At r.local r.touch r.op r.carried Nobody k [] → (busy : ℕ) → FitsIn busy s Q g p r (begun k)
-fresh s Q g p k r free here busy = record { here = rw free here; few = λ e. omega (arith, rank_small r.local s.lock); none = λ e. refl; prompt = λ e. refl }
+fresh s Q g p k r free here busy = record { here = rw free here; few = few_begun busy k (rank r.local s.lock) 3 (rank_small r.local s.lock) (λ e. let one = prompt_one s.lock here e in omega arith) }
 
 begun_well : {T : Type 0} (s : Shared T) (Q : State T) (g : Keeps T) (p : ℕ) (k : Call T) → Holds s Q g → Idle g p
     → engine.BeginsWell T (Shared T) (Running T) (Keeps T) (Some 1) (step_of kind.Single) (start_of kind.Single) (CanStep kind.Single) Holds Idle FitsIn s Q g p k (start_of kind.Single k).call (start_of kind.Single k).reply
@@ -197,5 +177,5 @@ single_engine {T} = record {
   can_step = λ busy ok s Q g p r o holds f. can_take busy ok s Q g p r o holds f;
   steps_well = λ busy ok s Q g p r o holds f others. stepped_well busy ok s Q g p r o holds f others;
   begins_well = λ s Q g p k holds free. begun_well s Q g p k holds free;
-  joins_well = λ busy busy' s Q g p r o f. record { here = f.here; few = λ e. omega (arith, rank_small r.local s.lock); none = λ e. refl; prompt = f.prompt };
+  joins_well = λ busy busy' s Q g p r o f. record { here = f.here; few = few_joined busy busy' o (rank r.local s.lock) 3 f.few };
 }

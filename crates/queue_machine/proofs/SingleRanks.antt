@@ -1,5 +1,5 @@
 -- One slot: a lone call comes nearer to its reply, a prompt call replies at once, and a step touches what is there.
-use Rattle.std.specs.Prelude.{◌≡◌, ℕ, ◌==◌, Bool, true, false, Option, None, List, if◌then◌else◌}
+use Rattle.std.specs.Prelude.{◌≡◌, ℕ, ◌<◌, ◌==◌, Bool, true, false, Option, None, List, if◌then◌else◌}
 use Rattle.std.proofs.Common.{refl, arith}
 use Rattle.queue_steps.specs.SingleNext.{is_marked, is_pushed}
 use Rattle.queue_steps.specs.declared.model.Call.{Call}
@@ -15,6 +15,7 @@ use Rattle.queue_machine.specs.Cells.{CanTouch, CanOperate, answer_to, after_tou
 use Rattle.queue_steps.specs.Next.{CanNext}
 use Rattle.queue_steps.specs.declared.steps.types.Kind.TheVariants as kind
 use Rattle.std.specs.Prelude.{◌≤◌}
+use Rattle.chain_laws.proofs.ChainRanks.{either_small, either_some}
 use Rattle.queue_machine.proofs.SingleRows.{Hold, Stands, free_empty, free_full, At, push_try, push_put, force_try_empty, force_try_full, force_put_empty, force_put_full, pop_try, pop_take, close_try, look_at, one_slot, made_by, rank, Falls}
 
 -- alone, a call comes nearer to its reply
@@ -82,7 +83,27 @@ can_operate ok word slot (close_try) = (tt, tt, tt)
 can_operate ok word slot (look_at l) = (tt, tt, tt)
 
 pub rank_small : (l : Local ℕ) (word : ℕ) → rank l word ≤ 3
-rank_small (local.Single Pushing) word = elim (word == 0) as (λ b. (if b then 2 else 1) ≤ 3) [ true ↦ omega arith | false ↦ omega arith ]
-rank_small (local.Single (Forcing s)) word = elim (is_marked word) as (λ b. (if b then 1 else (if word == s then 2 else 3)) ≤ 3) [ true ↦ omega arith | false ↦ elim (word == s) as (λ b. (if b then 2 else 3) ≤ 3) [ true ↦ omega arith | false ↦ omega arith ] ]
-rank_small (local.Single (Popping s)) word = elim (word == s) as (λ b. (if b then 2 else (if is_pushed word then 3 else 1)) ≤ 3) [ true ↦ omega arith | false ↦ elim (is_pushed word) as (λ b. (if b then 3 else 1) ≤ 3) [ true ↦ omega arith | false ↦ omega arith ] ]
+rank_small (local.Single Pushing) word = either_small (word == 0) 2 1 3 (omega arith) (omega arith)
+rank_small (local.Single (Forcing s)) word = either_small (is_marked word) 1 (if word == s then 2 else 3) 3 (omega arith) (either_small (word == s) 2 3 3 (omega arith) (omega arith))
+rank_small (local.Single (Popping s)) word = either_small (word == s) 2 (if is_pushed word then 3 else 1) 3 (omega arith) (either_small (is_pushed word) 3 1 3 (omega arith) (omega arith))
 rank_small _ word = omega arith
+
+-- a call in progress has a step before it
+pub rank_some : (l : Local ℕ) (word : ℕ) → 0 < rank l word
+rank_some (local.Single Pushing) word = either_some (word == 0) 2 1 (omega arith) (omega arith)
+rank_some (local.Single (Forcing s)) word = either_some (is_marked word) 1 (if word == s then 2 else 3) (omega arith) (either_some (word == s) 2 3 (omega arith) (omega arith))
+rank_some (local.Single (Popping s)) word = either_some (word == s) 2 (if is_pushed word then 3 else 1) (omega arith) (either_some (is_pushed word) 3 1 (omega arith) (omega arith))
+rank_some _ word = omega arith
+
+-- a prompt call has one, whatever the word
+pub prompt_one : {T : Type 0} {l : Local ℕ} {t : Touch} {o : Op ℕ} {v : Option T} {own : Hold T} {k : Call T} {es : List (Effect T)} (word : ℕ) → At l t o v own k es → is_prompt k ≡ true → rank l word ≡ 1
+prompt_one word (push_try v) e = cc
+prompt_one word (push_put v) e = refl
+prompt_one word (force_try_empty v) e = cc
+prompt_one word (force_try_full v) e = cc
+prompt_one word (force_put_empty v) e = refl
+prompt_one word (force_put_full old v) e = refl
+prompt_one word (pop_try d) e = cc
+prompt_one word (pop_take x) e = refl
+prompt_one word close_try e = refl
+prompt_one word (look_at l) e = refl
