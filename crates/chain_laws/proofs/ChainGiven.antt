@@ -5,7 +5,7 @@ use Rattle.queue_steps.specs.declared.steps.types.Local.{Local}
 use Rattle.queue_steps.specs.declared.steps.types.Local.TheVariants as local
 use Rattle.queue_steps.specs.declared.steps.unbounded.UnboundedLocal.{UnboundedLocal}
 use Rattle.queue_steps.specs.declared.steps.unbounded.UnboundedLocal.TheVariants as chain
-use Rattle.chain_laws.proofs.ChainCells.{Use, Unused, Spare, Chained, Lost, Chain, queue_of, ChainOk, put_ok, Part, Write, Read, Tail, Head, Next, First, Passed, owner, Holds}
+use Rattle.chain_laws.proofs.ChainCells.{Use, Unused, Spare, Chained, Lost, Chain, ChainOk, put_ok, Part, Write, Read, Tail, Head, Next, First, Passed, owner, Holds}
 use Rattle.chain_laws.proofs.ChainTransitions.{renamed, rename_ok}
 use Rattle.chain_laws.proofs.ChainPasses.{Kept, Passes}
 use Rattle.chain_laws.proofs.ChainGood.{GivesUp, Makes}
@@ -69,7 +69,7 @@ kept_renamed r s f u (Next b) h = h
 kept_renamed r s f u First h = h
 kept_renamed r s f u (Passed b) h = h
 
-pub owner_renamed : {A : Type 0} (s : Chain A) (f : ℕ) (u : Use) (x : Part) → owner (renamed s f u) x ≡ owner s x
+owner_renamed : {A : Type 0} (s : Chain A) (f : ℕ) (u : Use) (x : Part) → owner (renamed s f u) x ≡ owner s x
 owner_renamed s f u (Write n) = refl
 owner_renamed s f u (Read n) = refl
 owner_renamed s f u Tail = refl
@@ -107,10 +107,6 @@ pub makes_given : {A : Type 0} (r s : Chain A) (spare : Option ℕ) (e : Option 
 makes_given r s None e h = h
 makes_given r s (Some f) None h = h
 makes_given r s (Some f) (Some e) h = h
-
-pub queue_given : {A : Type 0} (s : Chain A) (spare : Option ℕ) → queue_of (given_up s spare) ≡ queue_of s
-queue_given s None = refl
-queue_given s (Some f) = refl
 
 pub holds_given : {A : Type 0} (s : Chain A) (who : ℕ) (spare : Option ℕ) (P : Part → Type 0) → Holds s who P → Holds (given_up s spare) who P
 holds_given s who None P holds = holds

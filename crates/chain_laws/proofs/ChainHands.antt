@@ -24,7 +24,7 @@ pub record InHand {A : Type 0} (c : Chain A) (who : ℕ) (h : Hand) : Type 0 whe
   pub walks : (b slot : ℕ) → c.walks b ≡ Walker who slot → h ≡ OfBlock b
   pub lays : c.mover ≡ Laying who → (f : ℕ) × (c.uses f ≡ Spare who)
 
-abbrev pub spare_hand : Option ℕ → Hand
+abbrev spare_hand : Option ℕ → Hand
 spare_hand None = Empty
 spare_hand (Some f) = OfSpare f
 

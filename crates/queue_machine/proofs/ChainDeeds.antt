@@ -25,12 +25,12 @@ pub data Deed (A : Type 0) : Type 0 where
   Lays : ℕ → ℕ → Option A → ℕ → Deed A
   Reads : ℕ → ℕ → Deed A
 
-abbrev pub touch_deed : {A : Type 0} → Touch → Option ℕ → Option A → Deed A
+abbrev touch_deed : {A : Type 0} → Touch → Option ℕ → Option A → Deed A
 touch_deed (touch.Put i) (Some b) v = Puts b i v
 touch_deed (touch.Take i) (Some b) v = Reads b i
 touch_deed _ _ v = Rest
 
-abbrev pub chain_deed : {A : Type 0} → UnboundedLocal ℕ → Touch → Op ℕ → Option A → Deed A
+abbrev chain_deed : {A : Type 0} → UnboundedLocal ℕ → Touch → Op ℕ → Option A → Deed A
 chain_deed (chain.Laying p tail block fresh) t o v = Lays block (offset_of tail) v fresh
 chain_deed (chain.Opening p tail block fresh) t o v = Lays block (offset_of tail) v fresh
 chain_deed (chain.Chaining p tail block fresh) t o v = Lays block (offset_of tail) v fresh
