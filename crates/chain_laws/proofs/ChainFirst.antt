@@ -3,6 +3,7 @@ use Rattle.std.proofs.Common.{ℕ, inl, false, None, [], refl, arith}
 use Rattle.chain_laws.proofs.ChainCells.{Free, Unread, Rests, Stands, Unlinked, Hidden, Before, Unused, Chain, ChainOk, Write, Read, Tail, Head, Next, First, Passed, Holds, Nothing}
 use Rattle.chain_laws.proofs.ChainGiven.{Spares}
 
+-- nothing was accepted, and no name was given out
 abbrev pub first : {A : Type 0} → Chain A
 first = record {
   head = 0;

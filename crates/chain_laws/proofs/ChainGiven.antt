@@ -21,6 +21,7 @@ spare_of (chain.Writing d spare) = spare
 spare_of (chain.Spending d spare) = spare
 spare_of _ = None
 
+-- the same of any local state: none but a chain's has a spare
 abbrev pub spare_in : Local ℕ → Option ℕ
 spare_in (local.Unbounded l) = spare_of l
 spare_in _ = None
@@ -39,6 +40,7 @@ lost_of (Spare who) = Lost
 lost_of (Chained b) = Chained b
 lost_of Lost = Lost
 
+-- the chain once this block is given up, if there is one to be given up
 abbrev pub given_up : {A : Type 0} → Chain A → Option ℕ → Chain A
 given_up c None = c
 given_up c (Some f) = renamed c f (lost_of (c.uses f))

@@ -29,6 +29,7 @@ use Rattle.chain_laws.proofs.ChainGood.{Goes, with_effect}
 use Rattle.chain_laws.proofs.ChainGiven.{spare_in, Spares, given_up, spares_given, none_given}
 use Rattle.chain_laws.proofs.ChainStep.{chain_of, carried_of, if_granted, after_of, step_good}
 
+-- whether the call pushes
 abbrev is_push : {A : Type 0} → Call A → Bool
 is_push (call.Push v) = true
 is_push (call.ForcePush v) = true

@@ -20,6 +20,7 @@ use Rattle.queue_machine.proofs.ChainDone.{all_done, done_to, keeps_all, makes_a
 abbrev pub AllStand : {A : Type 0} → Chain A → List (Option (Running A)) → Type 0
 AllStand g calls = (p : ℕ) → StandsAt g p (get_or calls p None)
 
+-- what a call in progress is still to do
 abbrev pub deed_in : {A : Type 0} → Running A → Deed A
 deed_in r = deed_of r.local r.touch r.op r.carried
 
