@@ -164,7 +164,7 @@ impl<T, A: Allocator> Exclusive<T, A> {
     ///
     /// # Errors
     ///
-    /// Where there is no memory, and without a request where 31 items are more than an allocation may have.
+    /// Where there is no memory, and without a request where an item has 2^31 bytes or more.
     pub fn unbounded_after(alloc: A, n: u64) -> Result<Self, AllocError>
         requires { n ≤ LIMIT }
         ensures empty { IfOk result (λ queue. queue ≡ record { queue = start None n; blocks = (if n == 0 then 0 else 1) }) }

@@ -1,5 +1,6 @@
 //! Callers that are proved from the public contracts alone; `CALLING.md` of each library shows one.
-ghost use Rattle.std.specs.Prelude.{◌≡◌, Some, IfOk};
+ghost use Rattle.std.specs.Prelude.{◌≡◌, Some, IfOk, IfErr};
+ghost use Rattle.queue_steps.specs.declared.errors.PushError.TheVariants as push;
 ghost use Rattle.queue_steps.specs.declared.steps.types.Next.TheVariants as next;
 ghost use Rattle.queue_steps.specs.declared.steps.types.Local.TheVariants as local;
 ghost use Rattle.queue_steps.specs.declared.steps.types.Touch.TheVariants as touch;
@@ -9,7 +10,7 @@ ghost use Rattle.queue_steps.specs.declared.steps.single.SingleLocal.TheVariants
 
 use concurrent_queue::model::Call;
 use concurrent_queue::steps::{Answer, Kind, Next};
-use concurrent_queue::{Exclusive, steps};
+use concurrent_queue::{Exclusive, PushError, steps};
 use std::alloc::{AllocError, Allocator};
 
 /// Puts `value` through a queue of one slot, and gives what comes out of it.
@@ -19,6 +20,19 @@ pub fn through_a_slot<A: Allocator>(alloc: A, value: u64) -> Result<Option<u64>,
     let mut queue: Exclusive<u64, A> = Exclusive::bounded(alloc, 1)?;
     let _ = queue.push(value);
     Ok(queue.pop().ok())
+}
+
+/// Puts `value` through a queue without a capacity, and gives what comes out of it, or hands the value back where there is no memory for a block.
+pub fn through_a_chain<A: Allocator>(alloc: A, value: u64) -> Result<u64, PushError<u64>>
+    ensures out { IfOk result (λ out. out ≡ value) }
+    ensures lost { IfErr result (λ error. error ≡ push.NoMemory value) }
+{
+    let mut queue: Exclusive<u64, A> = Exclusive::unbounded(alloc);
+    queue.push(value)?;
+    match queue.pop() {
+        Ok(item) => Ok(item),
+        Err(_) => unreachable!(),
+    }
 }
 
 /// The first step of a pop on one slot, which is the exchange of the word of an unlocked slot with an item.
