@@ -79,7 +79,10 @@ fn blocks_from_the_front_on(rt: HostRuntime) {
         assert_eq!(rt; queue.push(value), Ok(()));
     }
     for value in 0..31u64 {
-        assert!(rt; queue.blocks() == 2 && heap.live() == 2, "before item {value}");
+        assert!(rt;
+            queue.blocks() == 2 && heap.live() == 2,
+            "before item {value}"
+        );
         assert_eq!(rt; queue.pop(), Ok(value));
     }
     assert!(rt; queue.blocks() == 1 && heap.live() == 1);
@@ -114,7 +117,10 @@ fn with_refusals(rt: &impl Abort, heap: &Refusing<Global>) {
                 assert!(rt; asks);
             }
         }
-        assert_eq!(rt; heap.requests(), if asks { before.wrapping_add(1) } else { before });
+        assert_eq!(rt;
+            heap.requests(),
+            if asks { before.wrapping_add(1) } else { before }
+        );
         assert_eq!(rt; queue.len() as u64, accepted);
         assert_eq!(rt; queue.blocks() as u64, heap.live());
         if accepted > 0 {
@@ -124,7 +130,11 @@ fn with_refusals(rt: &impl Abort, heap: &Refusing<Global>) {
     for taken in 1..36u64 {
         assert!(rt; queue.pop().is_ok());
         assert_eq!(rt; queue.blocks() as u64, heap.live());
-        assert_eq!(rt; heap.live(), spanned(accepted, taken), "once {taken} were taken");
+        assert_eq!(rt;
+            heap.live(),
+            spanned(accepted, taken),
+            "once {taken} were taken"
+        );
     }
     drop(queue);
     assert_eq!(rt; heap.live(), 0);
@@ -132,7 +142,12 @@ fn with_refusals(rt: &impl Abort, heap: &Refusing<Global>) {
 
 #[test]
 fn each_request_refused(rt: HostRuntime) {
-    for refusal in [Refusal::Never, Refusal::Nth(1), Refusal::Nth(2), Refusal::Nth(3)] {
+    for refusal in [
+        Refusal::Never,
+        Refusal::Nth(1),
+        Refusal::Nth(2),
+        Refusal::Nth(3),
+    ] {
         let heap = Refusing::new(rt.alloc(), refusal);
         with_refusals(&rt, &heap);
     }
