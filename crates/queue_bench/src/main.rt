@@ -18,9 +18,16 @@ fn time(rt: &HostRuntime, mut queue: Exclusive<u64>, pairs: u64) -> io::Result<(
         }
     }
     let micros = start.elapsed(rt)?.as_micros();
-    let capacity = queue.capacity().unwrap_or(0);
-    println!(rt; "capacity {capacity}: sum {sum}")?;
-    eprintln!(rt; "capacity {capacity}: {pairs} pairs in {micros} microseconds")
+    match queue.capacity() {
+        Some(capacity) => {
+            println!(rt; "capacity {capacity}: sum {sum}")?;
+            eprintln!(rt; "capacity {capacity}: {pairs} pairs in {micros} microseconds")
+        }
+        None => {
+            println!(rt; "no capacity: sum {sum}")?;
+            eprintln!(rt; "no capacity: {pairs} pairs in {micros} microseconds")
+        }
+    }
 }
 
 /// The number of pairs that the arguments ask for.
@@ -37,5 +44,5 @@ fn main(rt: HostRuntime) -> io::Result<()> {
     for capacity in [1usize, 2, 3, 4, 1000] {
         time(&rt, Exclusive::bounded(rt.alloc(), capacity)?, pairs)?;
     }
-    Ok(())
+    time(&rt, Exclusive::unbounded(rt.alloc()), pairs)
 }

@@ -1,7 +1,9 @@
 //! The whole program as a function of its arguments, its input and its two outputs.
 ghost use Rattle.std.specs.Prelude.{◌≡◌, ◌<◌, map, string_bytes, MatchResult};
 ghost use Rattle.queue_command.specs.declared.verdict.Verdict.TheVariants as verdict;
+ghost use Rattle.queue_command.specs.declared.faults.Fault.TheVariants as fault;
 ghost use Rattle.queue_command.specs.Ends.{IsEnd, IsDone, IsFaultOf};
+ghost use Rattle.queue_command.specs.Faults.{fault_status};
 
 use crate::args::{Form, parse_form};
 use crate::faults::Fault;
@@ -32,11 +34,23 @@ pub fn command<R: Threads + Wait + Sync, I: Read, O: Write, F: Write>(
 {
     match run(rt, alloc, &args, input, output) {
         Ok(verdict) => verdict.status(),
-        Err(fault) => {
-            let _ = writeln!(faults, "{fault}");
-            fault.status()
-        }
+        Err(fault) => tell(fault, faults),
     }
+}
+
+/// Tells that there was no memory for the arguments, and answers the status to end with.
+pub fn lack_memory<F: Write>(faults: &mut F) -> u8
+    ensures { result ≡ fault_status fault.NoMemory }
+{
+    tell(Fault::NoMemory, faults)
+}
+
+// Tells of a fault, and answers the status to end with.
+fn tell<F: Write>(fault: Fault, faults: &mut F) -> u8
+    ensures { result ≡ fault_status fault }
+{
+    let _ = writeln!(faults, "{fault}");
+    fault.status()
 }
 
 // Does what the arguments say.

@@ -1,12 +1,15 @@
 //! Runs queues from the command line.
 #![tactic(auto)]
 
-use queue_command::command::command;
+use queue_command::command::{command, lack_memory};
+use std::alloc::AllocError;
 use std::env;
 use std::process::ExitCode;
 
 fn main(rt: HostRuntime) -> ExitCode {
-    let args = given(&rt);
+    let Ok(args) = given(&rt) else {
+        return ExitCode::from(lack_memory(&mut rt.stderr()));
+    };
     let status = command(
         &rt,
         rt.alloc(),
@@ -18,12 +21,7 @@ fn main(rt: HostRuntime) -> ExitCode {
     ExitCode::from(status)
 }
 
-// The arguments after the program's name. Arguments that cannot be had are wrong ones, as none are.
-fn given(rt: &(impl std::rt::Env + AllocGlobal)) -> Vec<String> {
-    let Ok(args) = env::args(rt) else {
-        return Vec::new(rt.alloc());
-    };
-    args.skip(1)
-        .collect(rt.alloc())
-        .unwrap_or_else(|_| Vec::new(rt.alloc()))
+// The arguments after the program's name.
+fn given(rt: &(impl std::rt::Env + AllocGlobal)) -> Result<Vec<String>, AllocError> {
+    env::args(rt)?.skip(1).collect(rt.alloc())
 }
