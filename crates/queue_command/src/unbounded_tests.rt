@@ -31,12 +31,19 @@ fn scripts_tell_of_the_blocks(rt: HostRuntime) -> Result<(), Fail> {
             "force 10\nlen\npush 20\nlen\nclose\nclose\npush 30\npop\npop\npop\n",
             "ok\n1\nok\n2\ntrue\nfalse\nclosed 30\nitem 10\nitem 20\nclosed\nblocks 1\nleft\n",
         ),
-        ("capacity\nis_full\npush 5\nis_full", "none\nfalse\nok\nfalse\nblocks 1\nleft 5\n"),
+        (
+            "capacity\nis_full\npush 5\nis_full",
+            "none\nfalse\nok\nfalse\nblocks 1\nleft 5\n",
+        ),
     ];
     for (input, wanted) in scripts {
         let outcome = run(&rt, rt.alloc(), &["script", "unbounded"], input.as_bytes())?;
         assert_eq!(rt; outcome.status, 0, "at {input:?}");
-        assert_eq!(rt; outcome.output.as_slice(), wanted.as_bytes(), "at {input:?}");
+        assert_eq!(rt;
+            outcome.output.as_slice(),
+            wanted.as_bytes(),
+            "at {input:?}"
+        );
         assert_eq!(rt; outcome.faults.as_slice(), b"".as_slice(), "at {input:?}");
     }
     Ok(())
@@ -56,9 +63,11 @@ fn replays<R: Threads + Wait + Sync>(
         &["replay", "unbounded", parties],
         input.as_str().as_bytes(),
     )?;
-    Ok(outcome.status == 0
-        && outcome.output.as_slice() == wanted.as_str().as_bytes()
-        && outcome.faults.is_empty())
+    Ok(
+        outcome.status == 0
+            && outcome.output.as_slice() == wanted.as_str().as_bytes()
+            && outcome.faults.is_empty(),
+    )
 }
 
 #[test]
@@ -116,7 +125,9 @@ fn a_pusher_stops_before_the_tail_is_opened(rt: HostRuntime) -> Result<(), Fail>
     input.push_str("2 len\n2 run\n1 push 99\n1 run\n2 close\n2 run\n1 run\n0 run\n")?;
     let mut wanted = String::new(rt.alloc());
     write_pushes(&mut wanted, 1, 30)?;
-    wanted.push_str("65 0 append\n67 2 31\n71 2 close\n71 2 true\n72 1 closed 99\n73 0 ok\nblocks 2 of 3\nleft")?;
+    wanted.push_str(
+        "65 0 append\n67 2 31\n71 2 close\n71 2 true\n72 1 closed 99\n73 0 ok\nblocks 2 of 3\nleft",
+    )?;
     for item in 1u64..32 {
         write!(wanted, " {item}")?;
     }
