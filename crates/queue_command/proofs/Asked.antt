@@ -1,5 +1,5 @@
 -- Arguments that ask for nothing that can be run, and how a form that they ask for ends.
-use Rattle.std.proofs.Common.{◌≡◌, ◌≢◌, ℕ, Bool, true, false, List, [], get_or, Option, Some, None, Result, Ok, Err, MatchResult, refl, sym, ap, ◌∙◌, arith}
+use Rattle.std.proofs.Common.{◌≡◌, ◌≢◌, ℕ, true, false, List, [], get_or, Option, Some, None, Result, Ok, Err, MatchResult, refl, sym, ap, ◌∙◌, arith}
 use Rattle.std.specs.Io.KnownBytes.{Keeps}
 use Rattle.queue_command.specs.KindNames.{is_one_slot, is_built, form_words, IsForm}
 use Rattle.queue_command.specs.Ends.{AskFor, AskForRun, Does, Fails, IsDone, IsFaultOf}

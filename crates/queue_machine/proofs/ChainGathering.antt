@@ -1,5 +1,5 @@
 -- One turn of each loop that makes the list that a chain of blocks leaves.
-use Rattle.std.proofs.Common.{◌≡◌, ◌∙◌, ℕ, suc, zero, ◌+◌, ◌-◌, ◌<◌, ◌≤◌, Option, Some, None, List, [], ◌∷◌, ◌++◌, length, refl, sym, ap, arith, append_assoc, append-nil, length-append}
+use Rattle.std.proofs.Common.{◌≡◌, ◌∙◌, ℕ, suc, ◌+◌, ◌-◌, ◌<◌, ◌≤◌, Option, Some, None, List, [], ◌∷◌, ◌++◌, length, refl, sym, ap, arith, append_assoc, append-nil, length-append}
 use Rattle.std.proofs.lemmas.List.{length-set}
 use Rattle.queue_steps.specs.ChainWords.{offset_of}
 use Rattle.queue_steps.specs.declared.steps.types.Local.{Local}

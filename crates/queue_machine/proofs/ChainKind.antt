@@ -1,5 +1,5 @@
 -- All that a chain of blocks owes the machine.
-use Rattle.std.proofs.Common.{ℕ, ◌≡◌, Option, Some, None}
+use Rattle.std.proofs.Common.{ℕ, Option, Some, None}
 use Rattle.queue_steps.specs.declared.steps.types.Kind.TheVariants as kind
 use Rattle.chain_laws.proofs.ChainCells.{Chain}
 use Rattle.chain_laws.proofs.ChainFirst.{first}

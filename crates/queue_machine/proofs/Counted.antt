@@ -1,5 +1,5 @@
 -- A queue with a capacity has no block.
-use Rattle.std.proofs.Common.{◌≡◌, ◌∙◌, ℕ, ◌<◌, ◌≤◌, Option, Some, None, List, [], length, refl, sym, ap, arith}
+use Rattle.std.proofs.Common.{◌≡◌, ℕ, Some, [], length, ap, arith}
 use Rattle.queue_steps.specs.Sole.{blocks_of, spanned}
 use Rattle.queue_machine.specs.declared.machine.Running.{Running}
 use Rattle.queue_machine.specs.Book.{Book}

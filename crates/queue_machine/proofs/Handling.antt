@@ -1,7 +1,6 @@
 -- What the code of an event makes is what the event makes of the machine as a value.
 use Rattle.std.proofs.Common.{◌≡◌, ◌∙◌, ◌&&◌, ℕ, Bool, true, false, Option, Some, None, List, refl, sym, ap, slice_set}
 use Rattle.std.proofs.lemmas.List.{set-set}
-use Rattle.queue_steps.specs.declared.model.Call.{Call}
 use Rattle.queue_steps.specs.declared.steps.types.Kind.{Kind}
 use Rattle.queue_machine.specs.declared.machine.Running.{Running}
 use Rattle.queue_machine.specs.declared.types.Event.TheVariants.{Step}

@@ -1,5 +1,5 @@
 -- Operations on the words of a queue with a capacity: they need no block, and where there is none, none comes.
-use Rattle.std.proofs.Common.{◌≡◌, ◌∙◌, ◌==◌, ℕ, Bool, true, false, if◌then◌else◌, Option, Some, None, List, [], refl, ap, slice_set}
+use Rattle.std.proofs.Common.{◌≡◌, ◌∙◌, ◌==◌, ℕ, Bool, true, false, if◌then◌else◌, Option, Some, None, [], refl, ap}
 use Rattle.queue_steps.specs.declared.steps.types.Kind.{Kind}
 use Rattle.queue_steps.specs.declared.steps.types.Local.{Local}
 use Rattle.queue_steps.specs.declared.steps.types.Op.{Op}
@@ -9,8 +9,8 @@ use Rattle.queue_steps.specs.declared.steps.types.Touch.TheVariants as touch
 use Rattle.queue_steps.specs.declared.steps.types.Word.{Word}
 use Rattle.queue_steps.specs.declared.steps.types.Word.TheVariants as word
 use Rattle.queue_machine.specs.declared.machine.Running.{Running}
-use Rattle.queue_machine.specs.Blocks.{Block, without}
-use Rattle.queue_machine.specs.Cells.{Shared, word_at, put_word, operated, block_touched, touched, put_at, after_touch, after_operation, shared_then, step_of, CanStep}
+use Rattle.queue_machine.specs.Blocks.{without}
+use Rattle.queue_machine.specs.Cells.{Shared, word_at, put_word, operated, block_touched, touched, after_touch, after_operation, shared_then, step_of, CanStep}
 
 abbrev pub IsPlainWord : Word ℕ → Type 0
 IsPlainWord (word.State b i) = ⊥

@@ -1,6 +1,5 @@
 -- No event makes more blocks than there were, unless one was granted.
-use Rattle.std.proofs.Common.{◌≡◌, ◌∙◌, ◌==◌, ◌&&◌, ℕ, ◌+◌, ◌<◌, ◌≤◌, nat_lt, zero, suc, Bool, true, false, if◌then◌else◌, Option, Some, None, List, [], ◌∷◌, ◌++◌, length, refl, sym, ap, subst, arith, get_or, set, length-append}
-use Rattle.std.proofs.lemmas.Bool.{ltb-true}
+use Rattle.std.proofs.Common.{◌≡◌, ◌==◌, ◌&&◌, ℕ, ◌+◌, ◌≤◌, zero, suc, Bool, true, false, if◌then◌else◌, Option, Some, None, List, [], ◌∷◌, ◌++◌, length, refl, arith, get_or, set, length-append}
 use Rattle.std.proofs.lemmas.List.{length-set}
 use Rattle.queue_steps.specs.declared.model.Reply.{Reply}
 use Rattle.queue_steps.specs.declared.steps.types.Kind.{Kind}
@@ -18,7 +17,7 @@ use Rattle.queue_machine.specs.declared.types.Event.{Event}
 use Rattle.queue_machine.specs.declared.types.Event.TheVariants.{Begin, Step}
 use Rattle.queue_machine.specs.declared.types.Told.{Told}
 use Rattle.queue_machine.specs.declared.types.Told.TheVariants.{Skipped}
-use Rattle.queue_machine.specs.Blocks.{Block, fresh_block, block_of, with_place, with_next, put_state, put_item, put_next, without}
+use Rattle.queue_machine.specs.Blocks.{Block, fresh_block, block_of, with_place, with_next, without}
 use Rattle.queue_machine.specs.Cells.{Shared, word_at, put_word, put_link, put_at, touched, operated, block_touched, after_touch, after_operation, next_after, spare_in, shared_then, step_of, start_of}
 use Rattle.queue_machine.specs.Machine.{event_of}
 use Rattle.queue_machine.specs.Present.{present}

@@ -1,4 +1,4 @@
-use Rattle.std.proofs.Common.{◌≡◌, ◌∙◌, ◌-◌, ◌+◌, ◌<◌, ◌≤◌, arith, length}
+use Rattle.std.proofs.Common.{◌∙◌, ◌-◌, ◌+◌, ◌<◌, ◌≤◌, arith, length}
 use Rattle.queue_machine.specs.Blocks.{without}
 use Rattle.queue_machine.specs.ChainLeft.{unread_at, behind_at, chained}
 use Rattle.queue_machine.proofs.ChainGathering.{first-fits, first-taken, chained-next, chained-end}

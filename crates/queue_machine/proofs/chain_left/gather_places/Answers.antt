@@ -1,4 +1,4 @@
-use Rattle.std.proofs.Common.{◌≡◌, ◌∙◌, ◌++◌, ◌∷◌, arith, ap, sym, length, length-append}
+use Rattle.std.proofs.Common.{◌≡◌, ◌∙◌, ◌++◌, ◌∷◌, arith, ap, sym, length-append}
 use Rattle.queue_machine.specs.ChainLeft.{unread, unread_in}
 use Rattle.queue_machine.proofs.ChainGathering.{first-fits}
 use Rattle.queue_machine.proofs.chain_left.gather_places.Goals as goal

@@ -2,7 +2,6 @@ use Rattle.std.proofs.Common.{◌≡◌, ◌∙◌, arith, ap, sym, length}
 use Rattle.std.proofs.lemmas.List.{map-id}
 use Rattle.std.proofs.lemmas.Iterator.Adapters.{YieldsList-from_vec}
 use Rattle.std.proofs.lemmas.Iterator.Consumers.{YieldsList-end}
-use Rattle.queue_machine.specs.ChainLeft.{chained, chain_left}
 use Rattle.queue_machine.proofs.ChainGathering.{blocks-append, blocks-append_none, front-append, front-append_none, settled-left}
 use Rattle.queue_machine.proofs.chain_left.left.Goals as goal
 

@@ -1,4 +1,4 @@
-use Rattle.std.proofs.Common.{◌≡◌, length}
+use Rattle.std.proofs.Common.{◌≡◌}
 use Rattle.queue_machine.specs.ChainLeft.{settled_blocks, settled_front}
 use Rattle.queue_machine.proofs.chain_left.left.Given as goal
 

@@ -1,4 +1,4 @@
-use Rattle.std.proofs.Common.{◌≡◌, Some, None, refl, arith, slice_set}
+use Rattle.std.proofs.Common.{◌≡◌, Some, arith, slice_set}
 use Rattle.std.proofs.lemmas.Grind.{common_steps}
 use Rattle.queue_machine.specs.World.{call_at}
 use Rattle.queue_machine.specs.Machine.{CanHandle, world_of}
