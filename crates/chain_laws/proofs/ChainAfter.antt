@@ -19,6 +19,7 @@ claimed_if c who v true true = appended c who v (Laying who)
 claimed_if c who v true false = appended c who v Rests
 claimed_if c who v false last = c
 
+-- the chain after the exchange of the tail that was read at q
 abbrev pub if_claimed : {A : Type 0} → Chain A → ℕ → ℕ → A → Chain A
 if_claimed c who q v = claimed_if c who v (tail_word c == open_tail_of q) (offset_of (open_tail_of q) + 1 == BLOCK_SLOTS)
 
@@ -28,6 +29,7 @@ taken_if c who new true true = taken c who (Passing who) new
 taken_if c who new true false = taken c who Stands new
 taken_if c who new false last = c
 
+-- the chain after the exchange of the head that was read at n
 abbrev pub if_taken : {A : Type 0} → Chain A → ℕ → ℕ → Bool → Bool → Chain A
 if_taken c who n more new = taken_if c who new (head_word c == head_of n more) (offset_of (head_of n more) + 1 == BLOCK_SLOTS)
 

@@ -6,6 +6,7 @@ use Rattle.chain_laws.proofs.ChainCells.{Writer, Free, Writing, Wrote, Reader, U
 use Rattle.chain_laws.proofs.ChainHands.{Hand, Empty, OfSpare, OfBlock, InHand, HandOf, hand_of, hand_is, full_hand}
 use Rattle.chain_laws.proofs.Count.{count, count_all, count_into, count_split}
 
+-- whether the walk over a block has given it up
 abbrev pub is_given_up : Walk → Bool
 is_given_up GivenUp = true
 is_given_up _ = false
@@ -85,6 +86,7 @@ walk_holder readers b (Walker who slot) = who
 walk_holder readers b (Waits slot) = reader_is (readers (item_at b slot))
 walk_holder readers b GivenUp = 0
 
+-- for whose sake a block of this use is alive
 abbrev holder : {A : Type 0} → Chain A → Use → ℕ
 holder c (Spare who) = who
 holder c (Chained b) = walk_holder c.readers b (c.walks b)

@@ -1,9 +1,9 @@
 -- The chain before the first call: no item, and no block.
-use Rattle.std.proofs.Common.{ℕ, ◌≡◌, inl, false, None, [], refl, arith}
-use Rattle.queue_steps.specs.State.{start}
-use Rattle.chain_laws.proofs.ChainCells.{Free, Unread, Rests, Stands, Unlinked, Hidden, Before, Unused, Chain, queue_of, ChainOk, Write, Read, Tail, Head, Next, First, Passed, Holds, Nothing}
+use Rattle.std.proofs.Common.{ℕ, inl, false, None, [], refl, arith}
+use Rattle.chain_laws.proofs.ChainCells.{Free, Unread, Rests, Stands, Unlinked, Hidden, Before, Unused, Chain, ChainOk, Write, Read, Tail, Head, Next, First, Passed, Holds, Nothing}
 use Rattle.chain_laws.proofs.ChainGiven.{Spares}
 
+-- nothing was accepted, and no name was given out
 abbrev pub first : {A : Type 0} → Chain A
 first = record {
   head = 0;
@@ -40,10 +40,6 @@ first_ok = record {
   knows = λ e s. cc;
   walk = λ b e. cc;
 }
-
--- it stands for the empty open queue
-pub first_queue : {A : Type 0} → queue_of (first {A = A}) ≡ start None 0
-first_queue = refl
 
 -- every party is idle
 pub first_idle : (A : Type 0) (who : ℕ) → Holds (first {A = A}) who Nothing

@@ -5,7 +5,7 @@ use Rattle.queue_steps.specs.declared.steps.types.Local.{Local}
 use Rattle.queue_steps.specs.declared.steps.types.Local.TheVariants as local
 use Rattle.queue_steps.specs.declared.steps.unbounded.UnboundedLocal.{UnboundedLocal}
 use Rattle.queue_steps.specs.declared.steps.unbounded.UnboundedLocal.TheVariants as chain
-use Rattle.chain_laws.proofs.ChainCells.{Use, Unused, Spare, Chained, Lost, Chain, queue_of, ChainOk, put_ok, Part, Write, Read, Tail, Head, Next, First, Passed, owner, Holds}
+use Rattle.chain_laws.proofs.ChainCells.{Use, Unused, Spare, Chained, Lost, Chain, ChainOk, put_ok, Part, Write, Read, Tail, Head, Next, First, Passed, owner, Holds}
 use Rattle.chain_laws.proofs.ChainTransitions.{renamed, rename_ok}
 use Rattle.chain_laws.proofs.ChainPasses.{Kept, Passes}
 use Rattle.chain_laws.proofs.ChainGood.{GivesUp, Makes}
@@ -21,6 +21,7 @@ spare_of (chain.Writing d spare) = spare
 spare_of (chain.Spending d spare) = spare
 spare_of _ = None
 
+-- the same of any local state: none but a chain's has a spare
 abbrev pub spare_in : Local ℕ → Option ℕ
 spare_in (local.Unbounded l) = spare_of l
 spare_in _ = None
@@ -39,6 +40,7 @@ lost_of (Spare who) = Lost
 lost_of (Chained b) = Chained b
 lost_of Lost = Lost
 
+-- the chain once this block is given up, if there is one to be given up
 abbrev pub given_up : {A : Type 0} → Chain A → Option ℕ → Chain A
 given_up c None = c
 given_up c (Some f) = renamed c f (lost_of (c.uses f))
@@ -69,7 +71,7 @@ kept_renamed r s f u (Next b) h = h
 kept_renamed r s f u First h = h
 kept_renamed r s f u (Passed b) h = h
 
-pub owner_renamed : {A : Type 0} (s : Chain A) (f : ℕ) (u : Use) (x : Part) → owner (renamed s f u) x ≡ owner s x
+owner_renamed : {A : Type 0} (s : Chain A) (f : ℕ) (u : Use) (x : Part) → owner (renamed s f u) x ≡ owner s x
 owner_renamed s f u (Write n) = refl
 owner_renamed s f u (Read n) = refl
 owner_renamed s f u Tail = refl
@@ -107,10 +109,6 @@ pub makes_given : {A : Type 0} (r s : Chain A) (spare : Option ℕ) (e : Option 
 makes_given r s None e h = h
 makes_given r s (Some f) None h = h
 makes_given r s (Some f) (Some e) h = h
-
-pub queue_given : {A : Type 0} (s : Chain A) (spare : Option ℕ) → queue_of (given_up s spare) ≡ queue_of s
-queue_given s None = refl
-queue_given s (Some f) = refl
 
 pub holds_given : {A : Type 0} (s : Chain A) (who : ℕ) (spare : Option ℕ) (P : Part → Type 0) → Holds s who P → Holds (given_up s spare) who P
 holds_given s who None P holds = holds

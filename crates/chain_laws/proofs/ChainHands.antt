@@ -24,7 +24,8 @@ pub record InHand {A : Type 0} (c : Chain A) (who : ℕ) (h : Hand) : Type 0 whe
   pub walks : (b slot : ℕ) → c.walks b ≡ Walker who slot → h ≡ OfBlock b
   pub lays : c.mover ≡ Laying who → (f : ℕ) × (c.uses f ≡ Spare who)
 
-abbrev pub spare_hand : Option ℕ → Hand
+-- the hand of a party that has this spare at most
+abbrev spare_hand : Option ℕ → Hand
 spare_hand None = Empty
 spare_hand (Some f) = OfSpare f
 
@@ -133,6 +134,7 @@ abbrev pub HandOf : {A : Type 0} → Chain A → ℕ → Bool → Type 0
 HandOf c who true = (h : Hand) × InHand c who h
 HandOf c who false = InHand c who Empty
 
+-- that hand
 abbrev pub hand_of : {A : Type 0} (c : Chain A) (who : ℕ) (in_call : Bool) → HandOf c who in_call → Hand
 hand_of c who true h = h.0
 hand_of c who false h = Empty

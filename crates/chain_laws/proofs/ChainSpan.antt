@@ -43,7 +43,7 @@ spans_by {A} c names end name here within =
     omega (arith, many, all)
 
 -- at least the blocks that the items span are alive
-pub spans_alive : {A : Type 0} (c : Chain A) (names : ℕ) → ChainOk c → 0 < c.tail → ((who : ℕ) → c.mover ≡ Laying who → (f : ℕ) × (c.uses f ≡ Spare who)) → ((f : ℕ) → alive c f ≡ true → f < names)
+spans_alive : {A : Type 0} (c : Chain A) (names : ℕ) → ChainOk c → 0 < c.tail → ((who : ℕ) → c.mover ≡ Laying who → (f : ℕ) × (c.uses f ≡ Spare who)) → ((f : ℕ) → alive c f ≡ true → f < names)
     → blocks_of (queue_of c) ≤ count (alive c) names
 spans_alive {A} c names ok some lays within = go c.mover refl ok.laid
   where

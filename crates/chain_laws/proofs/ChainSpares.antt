@@ -29,7 +29,8 @@ use Rattle.chain_laws.proofs.ChainGood.{Goes, with_effect}
 use Rattle.chain_laws.proofs.ChainGiven.{spare_in, Spares, given_up, spares_given, none_given}
 use Rattle.chain_laws.proofs.ChainStep.{chain_of, carried_of, if_granted, after_of, step_good}
 
-abbrev pub is_push : {A : Type 0} → Call A → Bool
+-- whether the call pushes
+abbrev is_push : {A : Type 0} → Call A → Bool
 is_push (call.Push v) = true
 is_push (call.ForcePush v) = true
 is_push _ = false
@@ -47,7 +48,7 @@ no_push : {A : Type 0} (d : PushKind) (v : A) (X : Type 0) → is_push (pushes d
 no_push d v X e = let z : true ≡ false = sym (push_is d v) ∙ e in cc
 
 -- a call that is no push has no spare in its hands
-pub no_spare : {A : Type 0} {c : Chain A} {who : ℕ} {ms : List (State A)} {l : Local ℕ} {t : Touch} {o : Op ℕ} {v : Option A} {k : Call A} {es : List (Effect A)} → At c who ms l t o v k es → is_push k ≡ false → spare_in l ≡ None
+no_spare : {A : Type 0} {c : Chain A} {who : ℕ} {ms : List (State A)} {l : Local ℕ} {t : Touch} {o : Op ℕ} {v : Option A} {k : Call A} {es : List (Effect A)} → At c who ms l t o v k es → is_push k ≡ false → spare_in l ≡ None
 no_spare (push_tail d x spare none spare_is) e = no_push d x (spare ≡ None) e
 no_spare (push_block d x spare q none spare_is saw) e = no_push d x (spare ≡ None) e
 no_spare (installing d x f none saw fresh) e = no_push d x (Some f ≡ None) e

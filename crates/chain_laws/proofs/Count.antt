@@ -3,6 +3,7 @@ use Rattle.std.proofs.Common.{ℕ, ◌+◌, ◌<◌, ◌≤◌, ◌≡◌, ◌�
 use Rattle.std.proofs.lemmas.Bool.Decides.{eqb_tells}
 use Rattle.chain_laws.proofs.ChainCells.{put, put_same, put_other}
 
+-- one, where it is so
 abbrev pub one_if : Bool → ℕ
 one_if true = 1
 one_if false = 0

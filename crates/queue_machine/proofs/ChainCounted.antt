@@ -37,7 +37,7 @@ StandsAt g who None = Holds g who Nothing × Spares g who None
 StandsAt g who (Some r) = InCall g who r
 
 -- how many there are, by their places
-pub present_count : {X : Type 0} (xs : List (Option X)) → present xs ≡ count (λ i. is_some (get_or xs i None)) (length xs)
+present_count : {X : Type 0} (xs : List (Option X)) → present xs ≡ count (λ i. is_some (get_or xs i None)) (length xs)
 present_count [] = refl
 present_count (None ∷ xs) = let rest = present_count xs in let front = count_front (λ i. is_some (get_or (None ∷ xs) i None)) (length xs) in omega arith
 present_count (Some x ∷ xs) = let rest = present_count xs in let front = count_front (λ i. is_some (get_or (Some x ∷ xs) i None)) (length xs) in omega arith

@@ -25,12 +25,14 @@ pub data Deed (A : Type 0) : Type 0 where
   Lays : ℕ → ℕ → Option A → ℕ → Deed A
   Reads : ℕ → ℕ → Deed A
 
-abbrev pub touch_deed : {A : Type 0} → Touch → Option ℕ → Option A → Deed A
+-- what a touch of a slot of this block does
+abbrev touch_deed : {A : Type 0} → Touch → Option ℕ → Option A → Deed A
 touch_deed (touch.Put i) (Some b) v = Puts b i v
 touch_deed (touch.Take i) (Some b) v = Reads b i
 touch_deed _ _ v = Rest
 
-abbrev pub chain_deed : {A : Type 0} → UnboundedLocal ℕ → Touch → Op ℕ → Option A → Deed A
+-- what a call at this local state of a chain is still to do
+abbrev chain_deed : {A : Type 0} → UnboundedLocal ℕ → Touch → Op ℕ → Option A → Deed A
 chain_deed (chain.Laying p tail block fresh) t o v = Lays block (offset_of tail) v fresh
 chain_deed (chain.Opening p tail block fresh) t o v = Lays block (offset_of tail) v fresh
 chain_deed (chain.Chaining p tail block fresh) t o v = Lays block (offset_of tail) v fresh
@@ -77,12 +79,13 @@ pub deed_done : {A : Type 0} (l : Local ℕ) (t : Touch) (o : Op ℕ) (v : Optio
 deed_done (local.Unbounded l) t o v bs = chain_done l t o v bs
 deed_done _ t o v bs = refl
 
--- it puts this into this slot; it links this block to this one
+-- it puts this into this slot
 abbrev pub PutsAt : {A : Type 0} → Deed A → ℕ → ℕ → Option A → Type 0
 PutsAt (Puts b i x) f j v = (b ≡ f) × (i ≡ j) × (x ≡ v)
 PutsAt (Lays b i x fresh) f j v = (b ≡ f) × (i ≡ j) × (x ≡ v)
 PutsAt _ f j v = ⊥
 
+-- it links this block to this one
 abbrev pub LinksTo : {A : Type 0} → Deed A → ℕ → ℕ → Type 0
 LinksTo (Lays b i x fresh) f h = (b ≡ f) × (fresh ≡ h)
 LinksTo _ f h = ⊥

@@ -11,11 +11,12 @@ use Rattle.queue_machine.specs.ChainLeft.{settled_by, settled_blocks}
 use Rattle.queue_machine.proofs.ChainDeeds.{Deed, Rest, Puts, Lays, Reads, deed_of, done, deed_done, PutsAt, LinksTo}
 use Rattle.queue_machine.proofs.ChainCounted.{within_list}
 
--- the block with this item in a place; with a place read
-abbrev pub with_item : {A : Type 0} → ℕ → Option A → Block A → Block A
+-- the block with this item in a place
+abbrev with_item : {A : Type 0} → ℕ → Option A → Block A → Block A
 with_item i v x = record x { places = set x.places i (record (get_or x.places i blank) { item = v }) }
 
-abbrev pub with_read : {A : Type 0} → ℕ → Block A → Block A
+-- the block with a place read
+abbrev with_read : {A : Type 0} → ℕ → Block A → Block A
 with_read i x = record x { places = set x.places i (record (get_or x.places i blank) { state = READ }) }
 
 -- the block of this name once the deed is done

@@ -53,7 +53,7 @@ spare_name : {A : Type 0} (g : Chain A) (f p j : ℕ) → ChainOk g → g.uses f
 spare_name g f p j ok spare lt e = let twice : Spare p ≡ Chained j = sym spare ∙ (ap g.uses e ∙ ok.name j lt) in cc
 
 -- what is so of the walk along the chain's links from the block F on: the blocks are there
-pub record Walks {A : Type 0} (g : Chain A) (calls : List (Option (Running A))) (blocks : List (Option (Block A))) (start : ℕ) : Type 0 where
+record Walks {A : Type 0} (g : Chain A) (calls : List (Option (Running A))) (blocks : List (Option (Block A))) (start : ℕ) : Type 0 where
   pub ok : ChainOk g
   pub each : AllStand g calls
   pub block : (b : ℕ) → start ≤ b → b < g.blocks → (x : Block A) × (get_or blocks (g.names b) None ≡ Some x) × BlockIs g b x.places x.next

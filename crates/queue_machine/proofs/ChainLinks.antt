@@ -135,7 +135,7 @@ spare_empty {A} g calls f p ok each spare = (nothing (all_done calls f fresh_blo
     nothing (q ∷ ps) all = rw (unread_none q (all 0 (omega arith))) (nothing ps (λ i lt. all (suc i) (omega arith)))
 
 -- the first block that the poppers see, or that is shown to them
-pub front_kept : {A : Type 0} (calls : List (Option (Running A))) (Q : Option ℕ → Type 0) → ((p : ℕ) (r : Running A) → get_or calls p None ≡ Some r → (x : Option ℕ) → Q x → Q (front_at r.local x)) → (x : Option ℕ) → Q x → Q (settled_front calls x)
+front_kept : {A : Type 0} (calls : List (Option (Running A))) (Q : Option ℕ → Type 0) → ((p : ℕ) (r : Running A) → get_or calls p None ≡ Some r → (x : Option ℕ) → Q x → Q (front_at r.local x)) → (x : Option ℕ) → Q x → Q (settled_front calls x)
 front_kept [] Q keeps x q = q
 front_kept (None ∷ calls) Q keeps x q = front_kept calls Q (λ p r e. keeps (suc p) r e) x q
 front_kept (Some r ∷ calls) Q keeps x q = front_kept calls Q (λ p s e. keeps (suc p) s e) (front_at r.local x) (keeps 0 r refl x q)

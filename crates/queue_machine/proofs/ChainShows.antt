@@ -20,6 +20,7 @@ use Rattle.queue_machine.proofs.ChainDone.{all_done, done_to, keeps_all, makes_a
 abbrev pub AllStand : {A : Type 0} → Chain A → List (Option (Running A)) → Type 0
 AllStand g calls = (p : ℕ) → StandsAt g p (get_or calls p None)
 
+-- what a call in progress is still to do
 abbrev pub deed_in : {A : Type 0} → Running A → Deed A
 deed_in r = deed_of r.local r.touch r.op r.carried
 
@@ -35,7 +36,7 @@ in_call {A} g calls each p x own = go (get_or calls p None) (each p)
     go (Some r) h = (r, refl)
 
 -- a slot of the chain's block b is that of one item
-pub one_item : {A : Type 0} (g : Chain A) (n b i f j : ℕ) → ChainOk g → b < g.blocks → IsSlotOf g n f j → f ≡ g.names b → j ≡ i → n ≡ item_at b i
+one_item : {A : Type 0} (g : Chain A) (n b i f j : ℕ) → ChainOk g → b < g.blocks → IsSlotOf g n f j → f ≡ g.names b → j ≡ i → n ≡ item_at b i
 one_item g n b i f j ok lt slot same at =
     let twice : Chained (n / BLOCK_SLOTS) ≡ Chained b = sym (ok.name (n / BLOCK_SLOTS) slot.0.0) ∙ (ap g.uses (sym slot.0.1 ∙ same) ∙ ok.name b lt) in
     let block : n / BLOCK_SLOTS ≡ b = cc in
@@ -43,13 +44,13 @@ one_item g n b i f j ok lt slot same at =
     omega (arith, block, place, at)
 
 -- who puts something into a slot has claimed its item; who reads it reads its item
-pub puts_claimed : {A : Type 0} (g : Chain A) (q b i : ℕ) (d : Deed A) (y : Option A) → ChainOk g → b < g.blocks → IsClaimed g q d → PutsAt d (g.names b) i y → (v : A) × (g.writers (item_at b i) ≡ Writing q v) × (y ≡ Some v)
+puts_claimed : {A : Type 0} (g : Chain A) (q b i : ℕ) (d : Deed A) (y : Option A) → ChainOk g → b < g.blocks → IsClaimed g q d → PutsAt d (g.names b) i y → (v : A) × (g.writers (item_at b i) ≡ Writing q v) × (y ≡ Some v)
 puts_claimed g q b i Rest y ok lt claimed puts = absurd puts
 puts_claimed g q b i (Reads f j) y ok lt claimed puts = absurd puts
 puts_claimed g q b i (Puts f j x) y ok lt (n, v, mine, slot, is) puts = (v, ap g.writers (sym (one_item g n b i f j ok lt slot puts.0 puts.1)) ∙ mine, sym puts.2 ∙ is)
 puts_claimed g q b i (Lays f j x fresh) y ok lt (n, v, mine, slot, is, laid) puts = (v, ap g.writers (sym (one_item g n b i f j ok lt slot puts.0 puts.1)) ∙ mine, sym puts.2 ∙ is)
 
-pub reads_claimed : {A : Type 0} (g : Chain A) (q b i : ℕ) (d : Deed A) → ChainOk g → b < g.blocks → IsClaimed g q d → d ≡ Reads (g.names b) i → g.readers (item_at b i) ≡ Reading q
+reads_claimed : {A : Type 0} (g : Chain A) (q b i : ℕ) (d : Deed A) → ChainOk g → b < g.blocks → IsClaimed g q d → d ≡ Reads (g.names b) i → g.readers (item_at b i) ≡ Reading q
 reads_claimed g q b i d ok lt claimed is =
     let h : IsClaimed g q (Reads (g.names b) i) = subst (λ e. IsClaimed g q e) is claimed in
     ap g.readers (sym (one_item g h.0 b i (g.names b) i ok lt h.2 refl refl)) ∙ h.1
@@ -68,7 +69,7 @@ drop_one (x ∷ xs) zero v e = ap (λ y. y ∷ xs) (let z : v ≡ x = cc in z)
 drop_one (x ∷ xs) (suc i) v e = drop_one xs i v e
 
 -- this place shows the item n, if that is in the list
-abbrev pub Shows : {A : Type 0} → Chain A → ℕ → Place A → Type 0
+abbrev Shows : {A : Type 0} → Chain A → ℕ → Place A → Type 0
 Shows g n p = unread_in p ++ drop (n + 1 - g.head) g.items ≡ drop (n - g.head) g.items
 
 shows_gone : {A : Type 0} (g : Chain A) (n : ℕ) (p : Place A) → unread_in p ≡ [] → n < g.head → Shows g n p
@@ -82,7 +83,7 @@ shows_item g n v p item unread low at =
     rw (unread, item) (ap (λ k. v ∷ drop k g.items) (let e : n + 1 - g.head ≡ suc (n - g.head) = omega arith in e) ∙ drop_one g.items (n - g.head) v at)
 
 -- each place of a block of the chain shows its item
-pub slot_shows : {A : Type 0} (g : Chain A) (calls : List (Option (Running A))) (b i : ℕ) (x : Block A) → ChainOk g → AllStand g calls → b < g.blocks → i < BLOCK_SLOTS → BlockIs g b x.places x.next
+slot_shows : {A : Type 0} (g : Chain A) (calls : List (Option (Running A))) (b i : ℕ) (x : Block A) → ChainOk g → AllStand g calls → b < g.blocks → i < BLOCK_SLOTS → BlockIs g b x.places x.next
     → Shows g (item_at b i) (get_or (all_done calls (g.names b) x).places i blank)
 slot_shows {A} g calls b i x ok each lt low is = go (g.writers n) (g.readers n) refl refl (ok.item n)
   where
@@ -162,7 +163,7 @@ slot_shows {A} g calls b i x ok each lt low is = go (g.writers n) (g.readers n) 
     go (Writing p v) Done e f h = absurd h
 
 -- places that show their items one after another show them all
-pub places_show : {A : Type 0} (g : Chain A) (ps : List (Place A)) (m : ℕ) → ((i : ℕ) → i < length ps → Shows g (m + i) (get_or ps i blank)) → unread ps ++ drop (m + length ps - g.head) g.items ≡ drop (m - g.head) g.items
+places_show : {A : Type 0} (g : Chain A) (ps : List (Place A)) (m : ℕ) → ((i : ℕ) → i < length ps → Shows g (m + i) (get_or ps i blank)) → unread ps ++ drop (m + length ps - g.head) g.items ≡ drop (m - g.head) g.items
 places_show g [] m all = ap (λ k. drop k g.items) (let e : m + 0 - g.head ≡ m - g.head = omega arith in e)
 places_show g (p ∷ ps) m all =
     let others = places_show g ps (m + 1) (λ i lt. subst (λ k. Shows g k (get_or ps i blank)) (let e : m + suc i ≡ m + 1 + i = omega arith in e) (all (suc i) (omega arith))) in

@@ -40,7 +40,7 @@ loop-event-preserved g c =
       known = let same = known-peak c.args.kind c.args.parties c.loop-event.yielded (world_of c.loop-event.machine) (world_of c.handle-told.new.self)
           c.loop-event.lists.replies.items c.loop-event.lists.effects.items c.loop-event.lists.skipped.items c.loop-event.peak c.in-Some.event c.handle-told.result
           c.numbers-before.result (length c.handle-told.new.self.cells.blocks.items) c.loop-event.invariant.known (rw c.loop-event.invariant.kind_is at c.handle-told.ensures.handles) c.numbers-before.ensures refl in
-      known-next c.args.kind c.args.parties c.loop-event.yielded (world_of c.loop-event.machine) (world_of c.handle-told.new.self)
+          known-next c.args.kind c.args.parties c.loop-event.yielded (world_of c.loop-event.machine) (world_of c.handle-told.new.self)
           c.loop-event.lists.replies.items c.note.new.self.replies.items c.loop-event.lists.effects.items c.note.new.self.effects.items c.loop-event.lists.skipped.items c.note.new.self.skipped.items c.loop-event.peak c.after-peak.result
           c.in-Some.event c.loop-event.number c.party-party.result c.handle-told.result
           c.loop-event.invariant.known c.loop-event.invariant.number_is c.party-party.ensures
