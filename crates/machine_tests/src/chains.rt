@@ -216,33 +216,37 @@ fn peak_is_what_is_allocated(rt: HostRuntime) -> Result<(), Fail> {
     Ok(())
 }
 
-/// Each request of a run is refused in turn: room that is refused is want of memory, a block that is refused is so to its push alone.
+/// Each request for room refused in turn is want of memory, and no block was asked for.
 #[test]
-fn each_request_refused(rt: HostRuntime) -> Result<(), Fail> {
-    for number in 1..12u64 {
+fn each_request_for_room_refused(rt: HostRuntime) -> Result<(), Fail> {
+    for number in 1..8u64 {
         let heap = Refusing::new(rt.alloc(), Refusal::Nth(number));
-        let run = forty_pushes(&heap);
-        if number <= 7 {
-            assert!(rt; run.is_err(), "at {number}");
-            assert_eq!(rt; heap.requests(), number);
-        } else if let Ok(told) = run {
-            let refused = number < 10;
-            assert_eq!(rt;
-                told.left.len(),
-                if refused { 39 } else { 40 },
-                "at {number}"
-            );
-            assert_eq!(rt;
-                heap.requests(),
-                if refused { 10 } else { 9 },
-                "at {number}"
-            );
-            drop(told);
-        } else {
-            assert!(rt; false, "at {number}");
-        }
+        assert!(rt; forty_pushes(&heap).is_err(), "at {number}");
+        assert!(rt;
+            heap.requests() == number && heap.live() == 0,
+            "at {number}"
+        );
+    }
+    Ok(())
+}
+
+/// Each of the two requests for a block refused in turn is want of memory to its push alone: the next push asks again.
+#[test]
+fn each_block_refused(rt: HostRuntime) -> Result<(), Fail> {
+    for number in 8..10u64 {
+        let heap = Refusing::new(rt.alloc(), Refusal::Nth(number));
+        let told = forty_pushes(&heap)?;
+        assert_eq!(rt; told.left.len(), 39, "at {number}");
+        assert_eq!(rt; heap.requests(), 10, "at {number}");
+        drop(told);
         assert_eq!(rt; heap.live(), 0, "at {number}");
     }
+    let heap = Refusing::new(rt.alloc(), Refusal::Nth(10));
+    let told = forty_pushes(&heap)?;
+    assert_eq!(rt; told.left.len(), 40);
+    assert_eq!(rt; heap.requests(), 9);
+    drop(told);
+    assert_eq!(rt; heap.live(), 0);
     Ok(())
 }
 
