@@ -89,6 +89,7 @@ fn last_item_of_a_block(rt: HostRuntime) -> Result<(), Fail> {
         (1, Reply::IsEmpty(true)),
         (0, Reply::Pop(Ok(31u64))),
     ];
+    assert_eq!(rt; told.replies.len(), 64);
     assert_eq!(rt; told.replies[61..], last[..]);
     assert!(rt; told.left.is_empty());
     Ok(())
@@ -121,6 +122,7 @@ fn stopped_at_the_end_of_a_block(rt: HostRuntime) -> Result<(), Fail> {
         (1, Reply::Push(Err(PushError::Closed(99u64)))),
         (0, Reply::Push(Ok(()))),
     ];
+    assert_eq!(rt; told.replies.len(), 34);
     assert_eq!(rt; told.replies[30..], last[..]);
     assert_eq!(rt; told.left.len(), 31);
     Ok(())
@@ -167,8 +169,12 @@ fn left_in_the_middle_of_calls(rt: HostRuntime) -> Result<(), Fail> {
         script.begin(2, Call::Push(32))?;
         script.steps(2, steps - 1)?;
         let told = script.on_chain(3)?;
-        for i in 0..30usize {
-            assert_eq!(rt; told.left[i], i as u64 + 2, "after {steps}");
+        let claimed = if steps < 6 { 30 } else { 31 };
+        assert_eq!(rt; told.left.len(), claimed, "after {steps}");
+        let mut next = 2u64;
+        for item in told.left.iter() {
+            assert_eq!(rt; *item, next, "after {steps}");
+            next = next.wrapping_add(1);
         }
     }
     let mut first = Script::new(rt.alloc());
@@ -185,7 +191,7 @@ fn pushes<'a>(
     heap: &'a Refusing<Global>,
     count: u64,
 ) -> Result<Vec<Event<u64>, &'a Refusing<Global>>, AllocError> {
-    let mut events = Vec::with_capacity(heap, count as usize * 16)?;
+    let mut events = Vec::with_capacity(heap, 1024)?;
     for number in 0..count {
         events.push(Event::Begin(0, Call::Push(number)))?;
         for _ in 0..9u64 {
@@ -210,33 +216,37 @@ fn peak_is_what_is_allocated(rt: HostRuntime) -> Result<(), Fail> {
     Ok(())
 }
 
-/// Each request of a run is refused in turn: room that is refused is want of memory, a block that is refused is so to its push alone.
+/// Each request for room refused in turn is want of memory, and no block was asked for.
 #[test]
-fn each_request_refused(rt: HostRuntime) -> Result<(), Fail> {
-    for number in 1..12u64 {
+fn each_request_for_room_refused(rt: HostRuntime) -> Result<(), Fail> {
+    for number in 1..8u64 {
         let heap = Refusing::new(rt.alloc(), Refusal::Nth(number));
-        let run = forty_pushes(&heap);
-        if number <= 7 {
-            assert!(rt; run.is_err(), "at {number}");
-            assert_eq!(rt; heap.requests(), number);
-        } else if let Ok(told) = run {
-            let refused = number < 10;
-            assert_eq!(rt;
-                told.left.len(),
-                if refused { 39 } else { 40 },
-                "at {number}"
-            );
-            assert_eq!(rt;
-                heap.requests(),
-                if refused { 10 } else { 9 },
-                "at {number}"
-            );
-            drop(told);
-        } else {
-            assert!(rt; false, "at {number}");
-        }
+        assert!(rt; forty_pushes(&heap).is_err(), "at {number}");
+        assert!(rt;
+            heap.requests() == number && heap.live() == 0,
+            "at {number}"
+        );
+    }
+    Ok(())
+}
+
+/// Each of the two requests for a block refused in turn is want of memory to its push alone: the next push asks again.
+#[test]
+fn each_block_refused(rt: HostRuntime) -> Result<(), Fail> {
+    for number in 8..10u64 {
+        let heap = Refusing::new(rt.alloc(), Refusal::Nth(number));
+        let told = forty_pushes(&heap)?;
+        assert_eq!(rt; told.left.len(), 39, "at {number}");
+        assert_eq!(rt; heap.requests(), 10, "at {number}");
+        drop(told);
         assert_eq!(rt; heap.live(), 0, "at {number}");
     }
+    let heap = Refusing::new(rt.alloc(), Refusal::Nth(10));
+    let told = forty_pushes(&heap)?;
+    assert_eq!(rt; told.left.len(), 40);
+    assert_eq!(rt; heap.requests(), 9);
+    drop(told);
+    assert_eq!(rt; heap.live(), 0);
     Ok(())
 }
 
