@@ -1,8 +1,8 @@
 -- A block is laid behind the others, and the oldest one is given up.
-use Rattle.std.proofs.Common.{◌≡◌, ◌≢◌, ◌⊎◌, ℕ, ◌+◌, ◌-◌, ◌%◌, ◌^◌, ◌<◌, ◌≤◌, true, List, [], ◌∷◌, ◌++◌, length, replicate, Option, Some, None, refl, arith, sym, ap, ◌∙◌, subst, inl, inr, get_or, set, bit_or, length-append}
+use Rattle.std.proofs.Common.{◌≡◌, ◌≢◌, ◌⊎◌, ℕ, ◌+◌, ◌-◌, ◌%◌, ◌^◌, ◌<◌, ◌≤◌, List, [], ◌∷◌, ◌++◌, length, replicate, Some, None, refl, arith, sym, ap, ◌∙◌, subst, inl, inr, get_or, set, bit_or, length-append}
 use Rattle.std.proofs.lemmas.List.{get_or-set_other, length-set, get_or_append_left, get_or-append_right}
 use denote.RawPtr.{Ptr, null_ptr, InBlock}
-use Rattle.block_web.specs.Web.{Block, Home, AllVacant, Lives, block, alive_at, vacant, with_word, without}
+use Rattle.block_web.specs.Web.{Block, AllVacant, Lives, block, alive_at, vacant, with_word, without}
 use Rattle.block_web.specs.declared.sizes.TheConstants.{SLOTS}
 use Rattle.block_web.specs.declared.chain.Chain.{Chain}
 use Rattle.queue_steps.specs.Effect.{rest}
@@ -12,7 +12,7 @@ use Rattle.concurrent_queue.specs.declared.unbounded.Spare.{Spare}
 use Rattle.concurrent_queue.specs.declared.unbounded.LinkedBlocks.TheInside.{Inside}
 use Rattle.concurrent_queue.specs.LineCells.{Piece, Line, fresh_piece, laid, piece_of, IsEmptied}
 use Rattle.concurrent_queue.specs.LineOwned.{IsIdle}
-use Rattle.concurrent_queue.specs.LinkedBlocks.{IsHeld, IsLinked, IsFresh, spare_name, line_view, name_at, piece, pieces_of, contents, at_home}
+use Rattle.concurrent_queue.specs.LinkedBlocks.{IsHeld, IsLinked, IsFresh, spare_name, line_view, name_at, piece, pieces_of, contents}
 use Rattle.concurrent_queue.proofs.Pieces.{append-pieces_of, rest-pieces_of, vacant-at_home}
 use Rattle.concurrent_queue.proofs.Linked.{oldest, block_of, Knows}
 use Rattle.concurrent_queue.proofs.LineBegins.{HasRead, HasRead-none, HasRead-more, unread, begun, begun_piece, begun-idle}

@@ -1,5 +1,5 @@
 -- Raw blocks under the names that a call has of them, and what each step on one does to what a contract sees.
-use Rattle.std.proofs.Common.{◌≡◌, ◌≢◌, ◌⊎◌, ℕ, ◌+◌, ◌-◌, ◌<◌, ◌≤◌, Bool, true, false, List, [], ◌∷◌, ◌++◌, length, Option, Some, None, IsSome, refl, arith, sym, ap, ◌∙◌, subst, inl, inr, get_or, set, bit_or, eqb}
+use Rattle.std.proofs.Common.{◌≡◌, ◌≢◌, ◌⊎◌, ℕ, ◌+◌, ◌-◌, ◌<◌, ◌≤◌, true, false, List, [], length, Option, Some, None, IsSome, refl, arith, sym, ap, ◌∙◌, subst, inl, inr, set, bit_or, eqb}
 use Rattle.std.proofs.lemmas.List.{get_or-set_same, get_or-set_other, length-set, set-set}
 use Rattle.std.proofs.lemmas.Bool.Decides.{eqb_tells}
 use Rattle.atomic_table.proofs.Lists.{set_here}

@@ -1,6 +1,6 @@
 -- Raw blocks as pieces of a chain: what a change of a block is among the pieces.
-use Rattle.std.proofs.Common.{◌≡◌, ◌≢◌, ◌⊎◌, ℕ, zero, suc, ◌+◌, ◌-◌, ◌<◌, ◌≤◌, List, [], ◌∷◌, ◌++◌, length, Option, Some, None, refl, arith, sym, ap, ◌∙◌, subst, inl, inr, get_or, set, drop}
-use Rattle.std.proofs.lemmas.List.{get_or-set_same, get_or-set_other, length-set, get_or-drop, length-drop, drop-set-add, drop-set-lt, drop_more, drop-append-le}
+use Rattle.std.proofs.Common.{◌≡◌, ℕ, zero, suc, ◌+◌, ◌-◌, ◌<◌, ◌≤◌, List, [], ◌∷◌, ◌++◌, length, Some, None, refl, arith, sym, ap, ◌∙◌, get_or, set, drop}
+use Rattle.std.proofs.lemmas.List.{get_or-drop, length-drop, drop-set-add, drop-set-lt, drop_more, drop-append-le}
 use mathlib.Core.Option.{some}
 use lib.ListN.{get_elem?}
 use Rattle.block_web.specs.Web.{Block, Home, Content, AllVacant, block}

@@ -4,7 +4,6 @@ use Rattle.queue_steps.specs.Effect.{rest}
 use Rattle.queue_steps.specs.Sole.{Owned, Sole, pop_result}
 use Rattle.queue_steps.specs.declared.errors.PopError.{PopError}
 use Rattle.queue_steps.specs.declared.model.Call.TheVariants as call
-use Rattle.queue_steps.specs.declared.model.Reply.{Reply}
 use Rattle.queue_steps.specs.declared.model.Reply.TheVariants as reply
 
 module _ {T : Type 0} where

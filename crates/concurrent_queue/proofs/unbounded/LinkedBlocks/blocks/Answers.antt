@@ -1,4 +1,4 @@
-use Rattle.std.proofs.Common.{◌≡◌, ◌-◌, length, arith}
+use Rattle.std.proofs.Common.{◌-◌, arith}
 use Rattle.concurrent_queue.proofs.Pieces.{length-pieces_of}
 use Rattle.concurrent_queue.proofs.unbounded.LinkedBlocks.blocks.Goals as goal
 

@@ -1,5 +1,4 @@
-use Rattle.std.proofs.Common.{◌≡◌, ◌+◌, ◌^◌, ◌<◌, arith, ap, ◌∙◌, [], ◌∷◌, ◌++◌}
-use Rattle.concurrent_queue.specs.LinkedBlocks.{line_view}
+use Rattle.std.proofs.Common.{◌^◌, ◌<◌, arith, ap, ◌∙◌, [], ◌∷◌, ◌++◌}
 use Rattle.concurrent_queue.proofs.Pieces.{length-pieces_of}
 use Rattle.concurrent_queue.proofs.Linked.{oldest, blocks_in}
 use Rattle.concurrent_queue.proofs.Layings.{spare-made, laid-linked, laid-view}

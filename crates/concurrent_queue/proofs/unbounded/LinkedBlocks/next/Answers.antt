@@ -1,6 +1,4 @@
-use Rattle.std.proofs.Common.{◌≡◌, ◌≢◌, ◌⊎◌, IsSome, Some, None, arith, inl, inr}
-use Rattle.concurrent_queue.specs.LineCells.{piece_of}
-use Rattle.concurrent_queue.specs.LinkedBlocks.{line_view}
+use Rattle.std.proofs.Common.{arith}
 use Rattle.concurrent_queue.proofs.Linked.{Knows-named, lives, in_block, next-read, links_on}
 use Rattle.concurrent_queue.proofs.unbounded.LinkedBlocks.next.Goals as goal
 

@@ -1,4 +1,4 @@
-use Rattle.std.proofs.Common.{◌≡◌, Some, None, sym, subst, ◌∙◌}
+use Rattle.std.proofs.Common.{Some, sym, subst, ◌∙◌}
 use Rattle.block_web.specs.Web.{Rests}
 use Rattle.concurrent_queue.proofs.Linked.{Knows-named, blocks_in, block_of, lives, in_block, rests, homed-held, set-linked, put-result}
 use Rattle.concurrent_queue.proofs.unbounded.LinkedBlocks.put.Goals as goal

@@ -1,5 +1,4 @@
-use Rattle.std.proofs.Common.{◌≡◌, ap, sym, ◌∙◌, subst}
-use Rattle.block_web.specs.Web.{AllVacant}
+use Rattle.std.proofs.Common.{◌∙◌}
 use Rattle.concurrent_queue.proofs.Linked.{Knows-named, lives}
 use Rattle.concurrent_queue.proofs.Layings.{lifted-linked, lifted-view, emptied-vacant}
 use Rattle.concurrent_queue.proofs.unbounded.LinkedBlocksCellsName.release.Goals as goal
