@@ -53,10 +53,11 @@ state_in p slot = get_or p.states slot 0
 abbrev pub item_in : {T : Type 0} → Piece T → ℕ → Option T
 item_in p slot = get_or p.slots slot None
 
--- the block of this name
+-- where in the list the block of this name is
 abbrev pub place_of : {T : Type 0} → Line T → Name T → ℕ
 place_of r b = b.number - r.first
 
+-- the block of this name
 abbrev pub piece_of : {T : Type 0} → Line T → Name T → Piece T
 piece_of r b = piece_at r.pieces (place_of r b)
 

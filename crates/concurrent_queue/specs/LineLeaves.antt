@@ -53,11 +53,11 @@ module _ {T : Type 0} (r : Line T) (i : IsIdle r) where
   pub head-word : IsWord r.head
   head-word = let rests = i.head_rests in let below = i.below in let order = i.order in omega arith
 
-  -- while all slots of the last block hold items or did, there is one more
+  -- the next item to come has a slot in the last block
   pub room : Laid r → accepted r < (taken r / BLOCK_SLOTS + length r.pieces) * BLOCK_SLOTS
   room l = let count = l.count in omega arith
 
--- the chain that an item is written into: its blocks, the pushers' block and the tail, which counts the item already
+-- what holds before an item is written, with these blocks, this pushers' block and this tail, which counts the item already
 pub record Ready {T : Type 0} (r : Line T) (ps : List (Piece T)) (back : Option (Name T)) (tail : ℕ) : Type 0 where
   pub rests : offset_of tail < BLOCK_SLOTS
   pub counted : items_before (position_of tail) ≡ accepted r + 1
