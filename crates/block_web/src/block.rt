@@ -176,3 +176,5 @@ impl<S, A: Allocator> Loose<S, A> {
 }
 
 unsafe impl<S: Send, A: Allocator + Send> Send for Loose<S, A> {}
+
+unsafe impl<S: Send, A: Allocator + Send> Sync for Loose<S, A> {}

@@ -157,3 +157,5 @@ impl<S, A: Allocator> Chain<S, A> {
 }
 
 unsafe impl<S: Send, A: Allocator + Send> Send for Chain<S, A> {}
+
+unsafe impl<S: Send, A: Allocator + Send> Sync for Chain<S, A> {}

@@ -225,3 +225,14 @@ fn drops_what_is_left(rt: HostRuntime) {
         assert_eq!(rt; heap.live(), 0, "with {count} items");
     }
 }
+
+fn is_sent<T: Send>(_value: &T) {}
+
+fn is_shared<T: Sync>(_value: &T) {}
+
+#[test]
+fn may_be_sent(rt: HostRuntime) {
+    let queue: Exclusive<u64> = Exclusive::unbounded(rt.alloc());
+    is_sent(&queue);
+    is_shared(&queue);
+}
