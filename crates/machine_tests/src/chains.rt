@@ -38,10 +38,9 @@ fn refused_and_granted(rt: HostRuntime) -> Result<(), Fail> {
     Ok(())
 }
 
-/// Two parties ask for the first block: one installs its own, and the other gives its own up.
-#[test]
-fn two_installers(rt: HostRuntime) -> Result<(), Fail> {
-    let mut script = Script::new(rt.alloc());
+/// Two parties that ask for the first block.
+fn installing(alloc: Global) -> Result<Script, AllocError> {
+    let mut script = Script::new(alloc);
     script.begin(0, Call::Push(1))?;
     script.steps(0, 3)?;
     script.begin(1, Call::Push(2))?;
@@ -49,7 +48,13 @@ fn two_installers(rt: HostRuntime) -> Result<(), Fail> {
     script.run(0)?;
     script.run(1)?;
     script.call(0, Call::Len)?;
-    let told = script.on_chain(2)?;
+    Ok(script)
+}
+
+/// Two parties ask for the first block: one installs its own, and the other gives its own up.
+#[test]
+fn two_installers(rt: HostRuntime) -> Result<(), Fail> {
+    let told = installing(rt.alloc())?.on_chain(2)?;
     assert_eq!(rt;
         told.peak,
         Peak {
@@ -70,14 +75,20 @@ fn two_installers(rt: HostRuntime) -> Result<(), Fail> {
     Ok(())
 }
 
-/// A pop of a block's last item, stopped once it has moved the head: others see an empty queue.
-#[test]
-fn last_item_of_a_block(rt: HostRuntime) -> Result<(), Fail> {
-    let mut script = Script::new(rt.alloc());
+/// A queue that holds the last item of its first block alone.
+fn all_but_one(alloc: Global) -> Result<Script, AllocError> {
+    let mut script = Script::new(alloc);
     script.push_all(0, 1..32)?;
     for _ in 0..30u64 {
         script.call(0, Call::Pop)?;
     }
+    Ok(script)
+}
+
+/// A pop of a block's last item, stopped once it has moved the head: others see an empty queue.
+#[test]
+fn last_item_of_a_block(rt: HostRuntime) -> Result<(), Fail> {
+    let mut script = all_but_one(rt.alloc())?;
     script.begin(0, Call::Pop)?;
     script.steps(0, 3)?;
     script.call(1, Call::Len)?;
@@ -95,10 +106,9 @@ fn last_item_of_a_block(rt: HostRuntime) -> Result<(), Fail> {
     Ok(())
 }
 
-/// A push stopped while it moves the tail over a block's end: a look, a close and a push go on within it.
-#[test]
-fn stopped_at_the_end_of_a_block(rt: HostRuntime) -> Result<(), Fail> {
-    let mut script = Script::new(rt.alloc());
+/// A push that stops while it moves the tail over a block's end, and other calls within it.
+fn stopping(alloc: Global) -> Result<Script, AllocError> {
+    let mut script = Script::new(alloc);
     script.push_all(0, 1..31)?;
     script.begin(0, Call::Push(31))?;
     script.steps(0, 4)?;
@@ -107,7 +117,13 @@ fn stopped_at_the_end_of_a_block(rt: HostRuntime) -> Result<(), Fail> {
     script.call(2, Call::Close)?;
     script.run(1)?;
     script.run(0)?;
-    let told = script.on_chain(3)?;
+    Ok(script)
+}
+
+/// A push stopped while it moves the tail over a block's end: a look, a close and a push go on within it.
+#[test]
+fn stopped_at_the_end_of_a_block(rt: HostRuntime) -> Result<(), Fail> {
+    let told = stopping(rt.alloc())?.on_chain(3)?;
     assert_eq!(rt;
         told.peak,
         Peak {
@@ -128,10 +144,9 @@ fn stopped_at_the_end_of_a_block(rt: HostRuntime) -> Result<(), Fail> {
     Ok(())
 }
 
-/// A pop stopped before it reads the first slot of a block: whoever reads the last slot leaves the block to it, and it gives the block up.
-#[test]
-fn reader_that_gives_the_block_up(rt: HostRuntime) -> Result<(), Fail> {
-    let mut script = Script::new(rt.alloc());
+/// A pop that stops before it reads the first slot of a block, while another party reads all others.
+fn reading(alloc: Global) -> Result<Script, AllocError> {
+    let mut script = Script::new(alloc);
     script.push_all(0, 1..32)?;
     script.begin(0, Call::Pop)?;
     script.steps(0, 4)?;
@@ -139,7 +154,13 @@ fn reader_that_gives_the_block_up(rt: HostRuntime) -> Result<(), Fail> {
         script.call(1, Call::Pop)?;
     }
     script.run(0)?;
-    let told = script.on_chain(2)?;
+    Ok(script)
+}
+
+/// A pop stopped before it reads the first slot of a block: whoever reads the last slot leaves the block to it, and it gives the block up.
+#[test]
+fn reader_that_gives_the_block_up(rt: HostRuntime) -> Result<(), Fail> {
+    let told = reading(rt.alloc())?.on_chain(2)?;
     assert_eq!(rt;
         told.peak,
         Peak {
@@ -258,19 +279,134 @@ fn forty_pushes<'a>(
     replay(heap, Kind::Unbounded, 1, events)
 }
 
-/// Blocks are given up on the way: a thousand pushes and pops in turn hold two blocks at most.
-#[test]
-fn blocks_are_given_up(rt: HostRuntime) -> Result<(), Fail> {
-    let mut script = Script::new(rt.alloc());
-    for number in 0..1000u64 {
+/// The events, in memory that is counted.
+fn counted<'a>(
+    heap: &'a Refusing<Global>,
+    script: Script,
+) -> Result<Vec<Event<u64>, &'a Refusing<Global>>, AllocError> {
+    let events = script.into_events();
+    let mut copies = Vec::with_capacity(heap, events.len())?;
+    for event in events {
+        copies.push(event)?;
+    }
+    Ok(copies)
+}
+
+/// The peak of a run, and the greatest number of blocks that the allocator counts beside the seven lists.
+fn measured(alloc: Global, script: Script, parties: usize) -> Result<(Peak, u64), AllocError> {
+    let heap = Refusing::new(alloc, Refusal::Never);
+    let told = replay(&heap, Kind::Unbounded, parties, counted(&heap, script)?)?;
+    let peak = told.peak;
+    drop(told);
+    Ok((peak, heap.most().wrapping_sub(7)))
+}
+
+/// So many pushes and pops in turn.
+fn in_turn(alloc: Global, count: u64) -> Result<Script, AllocError> {
+    let mut script = Script::new(alloc);
+    for number in 0..count {
         script.call(0, Call::Push(number))?;
         script.call(0, Call::Pop)?;
     }
-    let told = script.on_chain(1)?;
-    assert_eq!(rt; told.peak.blocks, 2);
+    Ok(script)
+}
+
+/// Blocks are given up on the way: a thousand pushes and pops in turn hold two blocks at most.
+#[test]
+fn blocks_are_given_up(rt: HostRuntime) -> Result<(), Fail> {
+    let (peak, most) = measured(rt.alloc(), in_turn(rt.alloc(), 1000)?, 1)?;
+    assert_eq!(rt; peak.blocks, 2);
+    assert_eq!(rt; most, 2);
+    let told = in_turn(rt.alloc(), 1000)?.on_chain(1)?;
     assert_eq!(rt; told.replies.len(), 2000);
     assert_eq!(rt; told.replies[1999].2, Reply::Pop(Ok(999u64)));
     assert!(rt; told.left.is_empty());
+    Ok(())
+}
+
+/// The peak is what the allocator counts where calls go on within each other too.
+#[test]
+fn peak_within_calls(rt: HostRuntime) -> Result<(), Fail> {
+    let (installers, two) = measured(rt.alloc(), installing(rt.alloc())?, 2)?;
+    assert_eq!(rt;
+        installers,
+        Peak {
+            blocks: 2,
+            bound: 4
+        }
+    );
+    assert_eq!(rt; two, 2);
+    let (stopped, laid) = measured(rt.alloc(), stopping(rt.alloc())?, 3)?;
+    assert_eq!(rt;
+        stopped,
+        Peak {
+            blocks: 2,
+            bound: 3
+        }
+    );
+    assert_eq!(rt; laid, 2);
+    let (reader, read) = measured(rt.alloc(), reading(rt.alloc())?, 2)?;
+    assert_eq!(rt;
+        reader,
+        Peak {
+            blocks: 2,
+            bound: 3
+        }
+    );
+    assert_eq!(rt; read, 2);
+    Ok(())
+}
+
+/// After each step of a pop of a block's last item the queue is empty exactly where its length is 0.
+#[test]
+fn empty_where_the_length_is_zero(rt: HostRuntime) -> Result<(), Fail> {
+    for steps in 0..40u64 {
+        let mut script = all_but_one(rt.alloc())?;
+        script.begin(0, Call::Pop)?;
+        script.steps(0, steps)?;
+        script.call(1, Call::Len)?;
+        script.call(1, Call::IsEmpty)?;
+        let told = summarize(rt.alloc(), script.on_chain(2)?)?;
+        let claimed = steps > 2;
+        let seen = [
+            (1usize, Reply::Len(if claimed { 0 } else { 1 })),
+            (1, Reply::IsEmpty(claimed)),
+        ];
+        let count = if steps < 38 { 63 } else { 64 };
+        assert_eq!(rt; told.replies.len(), count, "after {steps}");
+        assert_eq!(rt; told.replies[count - 2..], seen[..], "after {steps}");
+    }
+    Ok(())
+}
+
+/// A request that is granted is never called refused: of a push and of a forced push, with nothing accepted and one item short of a block.
+#[test]
+fn granted_requests(rt: HostRuntime) -> Result<(), Fail> {
+    for accepted in [0u64, 30, 61] {
+        let mut script = Script::new(rt.alloc());
+        script.push_all(0, 0..accepted)?;
+        script.begin(0, Call::Push(7))?;
+        script.steps(0, 2)?;
+        script.refuse(0)?;
+        script.begin(0, Call::ForcePush(8))?;
+        script.steps(0, 2)?;
+        script.refuse(0)?;
+        script.call(0, Call::ForcePush(9))?;
+        script.call(0, Call::Push(10))?;
+        let told = summarize(rt.alloc(), script.on_chain(1)?)?;
+        let last = [
+            (0usize, Reply::Push(Err(PushError::NoMemory(7u64)))),
+            (0, Reply::ForcePush(Err(ForcePushError::NoMemory(8)))),
+            (0, Reply::ForcePush(Ok(None))),
+            (0, Reply::Push(Ok(()))),
+        ];
+        assert!(rt; told.replies.len() >= 4, "at {accepted}");
+        assert_eq!(rt;
+            told.replies[told.replies.len() - 4..],
+            last[..],
+            "at {accepted}"
+        );
+    }
     Ok(())
 }
 

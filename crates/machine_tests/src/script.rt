@@ -66,6 +66,11 @@ impl Script {
         summarize(alloc, replay(alloc, Kind::Bounded(3), parties, events)?)
     }
 
+    /// The events.
+    pub(crate) fn into_events(self) -> Vec<Event<u64>> {
+        self.events
+    }
+
     /// What is told of the run on a chain of blocks.
     pub(crate) fn on_chain(self, parties: usize) -> Result<Replay<u64>, AllocError> {
         let Script { alloc, events } = self;
@@ -78,7 +83,7 @@ impl Script {
         Ok(())
     }
 
-    /// The party begins a call and takes as many steps as it needs, for each of these numbers.
+    /// The party pushes each of these numbers, with as many steps as it needs.
     pub(crate) fn push_all(&mut self, party: usize, numbers: Range<u64>) -> Result<(), AllocError> {
         for number in numbers {
             self.call(party, Call::Push(number))?;
