@@ -48,7 +48,9 @@ pub(crate) struct LinkedBlocks<T, A: Allocator> {
     head_block: Option<Name<T>>,
     tail_block: Option<Name<T>>,
     spare: Option<Spare<T, A>>,
+    /// How many blocks were laid so far.
     laid: u64,
+    /// How many of them are held.
     held: u64,
 }
 
