@@ -2,6 +2,8 @@
 #![tactic(auto)]
 
 #[cfg(test)]
+mod chain_memory;
+#[cfg(test)]
 mod chains;
 #[cfg(test)]
 mod displacements;

@@ -1,4 +1,4 @@
-//! The words of a queue after a list of events.
+//! A machine after a list of events, and its words.
 ghost use Rattle.std.specs.Prelude.{◌≡◌, true, IfOk, IsErr};
 ghost use Rattle.queue_machine.specs.Left.{opening_world};
 ghost use Rattle.queue_machine.specs.Machine.{CanHandle, HasRoom, KeepsRoom, Passes, Plays, world_of};
@@ -35,6 +35,31 @@ fn pass<T: Drop, A: Allocator + Copy>(alloc: A, machine: &mut Machine<T, A>, eve
     machine.handle(alloc, event);
 }
 
+/// The machine after these events, which run from the empty open queue.
+///
+/// # Errors
+///
+/// Where there is no memory, as of a replay.
+pub fn machine_after<T: Drop, A: Allocator + Copy>(
+    alloc: A,
+    kind: Kind,
+    parties: usize,
+    events: Vec<Event<T>, A>,
+) -> Result<Machine<T, A>, AllocError>
+    requires { CanReplay kind }
+    ensures plays { IfOk result (λ m. Plays kind (opening_world kind parties) events.items (world_of m)) }
+    ensures limited { is_too_large kind ≡ true → IsErr result }
+{
+    if too_large(kind) {
+        return Err(AllocError);
+    }
+    let mut machine = Machine::new(alloc, kind, parties, events.len())?;
+    for event in events {
+        pass(alloc, &mut machine, event);
+    }
+    Ok(machine)
+}
+
 /// The words of the queue after these events, which run from the empty open queue.
 ///
 /// # Errors
@@ -50,18 +75,11 @@ pub fn words_after<T: Drop, A: Allocator + Copy>(
     ensures words { IfOk result (λ w. AreWordsAfter kind parties events.items w) }
     ensures limited { is_too_large kind ≡ true → IsErr result }
 {
-    if too_large(kind) {
-        return Err(AllocError);
-    }
-    let mut machine = Machine::new(alloc, kind, parties, events.len())?;
-    for event in events {
-        pass(alloc, &mut machine, event);
-    }
     let Machine {
         kind: _,
         cells,
         calls: _,
-    } = machine;
+    } = machine_after(alloc, kind, parties, events)?;
     let Cells {
         lock,
         head,

@@ -1,7 +1,7 @@
 use Rattle.std.proofs.Common.{◌≡◌, length}
 use Rattle.queue_machine.specs.Machine.{world_of, HasRoomFor}
 use Rattle.queue_machine.proofs.AllKinds.{Standing}
-use Rattle.queue_machine.proofs.words.words_after.Given as goal
+use Rattle.queue_machine.proofs.words.machine_after.Given as goal
 
 abbrev pub invariant-loop-event : goal.invariant-loop-event
 invariant-loop-event g l =

@@ -1,11 +1,11 @@
-use Rattle.std.proofs.Common.{◌≡◌, ◌∙◌, arith, refl, ap, sym, subst, length}
+use Rattle.std.proofs.Common.{◌≡◌, ◌∙◌, arith, ap, sym, subst, length}
 use Rattle.std.proofs.lemmas.List.{map-id}
 use Rattle.std.proofs.lemmas.Iterator.Adapters.{YieldsList-from_vec}
 use Rattle.std.proofs.lemmas.Iterator.Consumers.{YieldsList-end}
 use Rattle.queue_machine.specs.Left.{opening_world}
 use Rattle.queue_machine.specs.Machine.{world_of, Plays}
 use Rattle.queue_machine.proofs.AllKinds.{standing-first, standing-can, standing-next, has_machine}
-use Rattle.queue_machine.proofs.words.words_after.Goals as goal
+use Rattle.queue_machine.proofs.words.machine_after.Goals as goal
 
 pub pass-requires-clause-room : goal.pass-requires-clause-room
 pass-requires-clause-room g c =
@@ -35,14 +35,9 @@ loop-event-preserved g c =
       blocks = let more = ap length c.in-Some.ensures.steps.0 in omega (arith, more, c.loop-event.invariant.blocks, c.pass.ensures.room.0, c.pass.ensures.room.1);
     }
 
-pub returns-clause-words : goal.returns-clause-words
-returns-clause-words g c =
+pub returns-clause-plays : goal.returns-clause-plays
+returns-clause-plays g c =
     let it = c.into_iter-event-iterator.ensures.into_iter_gives in
     let t = YieldsList-end (YieldsList-from_vec c.args.events.items it.0 (it.1 ∙ c.args.events.ok.0)) c.loop-event.yielded c.loop-event.event-iterator c.loop-event.yielded_by c.next.result c.next.new.self c.in-None.is c.next.ensures.steps in
     let all : c.loop-event.yielded ≡ c.args.events.items = sym (map-id c.loop-event.yielded) ∙ t.0 in
-    let plays : Plays c.args.kind (opening_world c.args.kind c.args.parties) c.args.events.items (world_of c.loop-event.machine) = subst (λ es. Plays c.args.kind (opening_world c.args.kind c.args.parties) es (world_of c.loop-event.machine)) all c.loop-event.invariant.standing.plays in
-    record {
-      last = world_of c.loop-event.machine;
-      plays = plays;
-      words = record { lock = refl; head = refl; tail = refl; stamps = refl };
-    }
+    subst (λ es. Plays c.args.kind (opening_world c.args.kind c.args.parties) es (world_of c.loop-event.machine)) all c.loop-event.invariant.standing.plays
