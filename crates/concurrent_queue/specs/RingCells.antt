@@ -1,5 +1,5 @@
 -- What the steps of a call do on a ring.
-use Rattle.std.specs.Prelude.{ℕ, ◌+◌, ◌^◌, Bool, true, false, ◌==◌, bit_or, List, length, slice_set, get_or, Option, None, if◌then◌else◌, nat_lt}
+use Rattle.std.specs.Prelude.{◌≡◌, ℕ, ◌+◌, ◌^◌, Bool, true, false, ◌==◌, bit_or, List, length, slice_set, get_or, Option, None, if◌then◌else◌, nat_lt}
 use Rattle.queue_steps.specs.declared.steps.types.Kind.{Kind}
 use Rattle.queue_steps.specs.declared.steps.types.Kind.TheVariants as kind
 use Rattle.queue_steps.specs.declared.steps.types.Answer.{Answer}
@@ -78,9 +78,9 @@ ring_touches r t o carried after left = Touches ring_touchable ring_touched ring
 abbrev pub ring_performs : {T : Type 0} → RingState T → Op Unit → Answer Unit → RingState T → Type 0
 ring_performs {T} r o a after = Performs ring_touchable (ring_touched {T = T}) ring_operable ring_performed r o a after
 
--- a ring has no block to give up
+-- a ring has no blocks, so nothing is given up
 abbrev pub ring_can_release : {T : Type 0} → RingState T → Unit {0} → Type 0
-ring_can_release r b = ⊥
+ring_can_release r b = Unit {0}
 
 abbrev pub ring_releases : {T : Type 0} → RingState T → Unit {0} → RingState T → Type 0
-ring_releases r b after = ⊥
+ring_releases r b after = after ≡ r

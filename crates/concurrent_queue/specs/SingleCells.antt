@@ -80,9 +80,9 @@ single_touches s t o carried after left = Touches single_touchable single_touche
 abbrev pub single_performs : {T : Type 0} → Single T → Op Unit → Answer Unit → Single T → Type 0
 single_performs {T} s o a after = Performs single_touchable (single_touched {T = T}) single_operable single_performed s o a after
 
--- a slot has no block to give up
+-- a slot has no blocks, so nothing is given up
 abbrev pub single_can_release : {T : Type 0} → Single T → Unit {0} → Type 0
-single_can_release s b = ⊥
+single_can_release s b = Unit {0}
 
 abbrev pub single_releases : {T : Type 0} → Single T → Unit {0} → Single T → Type 0
-single_releases s b after = ⊥
+single_releases s b after = after ≡ s

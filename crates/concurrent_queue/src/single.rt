@@ -86,9 +86,7 @@ impl<T> Cells<T, ()> for Single<T> {
     }
 
     #[inline(always)]
-    fn release(&mut self, _block: ()) {
-        unreachable!()
-    }
+    fn release(&mut self, _block: ()) {}
 
     #[inline(always)]
     fn look(&self, op: &Op<()>) -> Answer<()>
