@@ -4,11 +4,14 @@ ghost use Rattle.std.specs.Prelude.{◌≡◌, ◌+◌, ◌-◌, ◌%◌, ◌^�
 ghost use prog.Atomic.{either};
 ghost use denote.RawPtr.{InBlock, Testable};
 ghost use Rattle.block_web.specs.Seats.{Sits, Same};
-ghost use Rattle.block_web.specs.Web.{step, sitter, if_unset, Allows, AllowsLink, Stands, CanFork, CanMerge};
+ghost use Rattle.block_web.specs.Words.{becomes, told};
+ghost use Rattle.block_web.specs.Web.{Step, step, sitter, if_unset, Allows, AllowsLink, Stands, CanFork, CanMerge};
 
 use crate::block::{Link, Node};
+use crate::operation::Operation;
 use crate::sizes::SLOTS;
 use crate::web::{LinkPlay, Play, Seat, Web, WebRule};
+use crate::word::operate;
 use atomic_table::{Join, Split, exchange};
 use std::alloc::Allocator;
 use std::marker::{Brand, PhantomData};
@@ -26,6 +29,32 @@ impl<S, V, K, P: WebRule<S, V, K>, A: Allocator> Web<S, V, K, P, A> {
             raw::load::<Brand>(
                 (&raw const (*link.ptr).words as *const u64).add(word),
                 SeqCst,
+            )
+        }
+    }
+
+    // Does the operation on the word, and answers with the number that it tells. `taken` is the step as the play sees it.
+    #[inline(always)]
+    fn operate<M: Play<S, V>>(
+        &self,
+        seat: &mut Seat<S, V, A>,
+        block: u64,
+        link: Link<S>,
+        word: usize,
+        operation: Operation,
+        first: u64,
+        second: u64,
+    ) -> u64
+        ghost taken: { Step S }
+        requires { Sits seat.old self.now × InBlock link.ptr × (word < SLOTS) × Allows (P.holds self.now.key) seat.old.id seat.old.sitter block link.ptr word (becomes operation first second) (λ n. M.then taken seat.old.sitter (told operation first n)) }
+        ensures { Same seat.new seat.old × M.then taken seat.old.sitter result seat.new.sitter }
+    {
+        unsafe {
+            operate::<Brand>(
+                (&raw const (*link.ptr).words as *const u64).add(word),
+                operation,
+                first,
+                second,
             )
         }
     }
