@@ -3,7 +3,10 @@ use Rattle.std.proofs.Common.{◌≡◌, ℕ, List, [], ◌∷◌, refl, ap, ◌
 use lib.Dec.{T}
 use mir.Val.{Val, of_list, has_ty, WT}
 use denote.Laws.{Is}
-use denote.Param.Shared.{copy_shared}
+use denote.Shadow.{makes_shadow}
+use seplogic.Ra.Ura.{Ura}
+use base.Logic.{ent, emp}
+use types.Logic.{Logic, sem}
 use types.Match.{live}
 use mir.Syntax.{Ty}
 use denote.RattleType.{RattleType}
@@ -42,3 +45,16 @@ operation_good does.Subtract = (tt, (record { fits = lit< tt }, tt))
 operation_good does.Or = (tt, (record { fits = lit< tt }, tt))
 operation_good does.And = (tt, (record { fits = lit< tt }, tt))
 operation_good does.Exchange = (tt, (record { fits = lit< tt }, tt))
+
+module _ {M : Type 1} {𝓤 : Ura M} (𝓛 : Logic 𝓤) where
+  abbrev Made : Operation → Type 1
+  Made op = ent 𝓤 (emp 𝓤) (sem 𝓛 (operation.the_row.own_val op (operation_val op ∷ [])))
+
+  pub operation_made : (op : Operation) → Made op
+  operation_made does.Load = makes_shadow 𝓛 (operation.the_row.own_val does.Load (operation_val does.Load ∷ [])) (λ us. (tt, (λ vss. (tt, tt)))) ([], (refl, (tt, (refl, tt))))
+  operation_made does.Store = makes_shadow 𝓛 (operation.the_row.own_val does.Store (operation_val does.Store ∷ [])) (λ us. (tt, (λ vss. (tt, tt)))) ([], (refl, (tt, (refl, tt))))
+  operation_made does.Add = makes_shadow 𝓛 (operation.the_row.own_val does.Add (operation_val does.Add ∷ [])) (λ us. (tt, (λ vss. (tt, tt)))) ([], (refl, (tt, (refl, tt))))
+  operation_made does.Subtract = makes_shadow 𝓛 (operation.the_row.own_val does.Subtract (operation_val does.Subtract ∷ [])) (λ us. (tt, (λ vss. (tt, tt)))) ([], (refl, (tt, (refl, tt))))
+  operation_made does.Or = makes_shadow 𝓛 (operation.the_row.own_val does.Or (operation_val does.Or ∷ [])) (λ us. (tt, (λ vss. (tt, tt)))) ([], (refl, (tt, (refl, tt))))
+  operation_made does.And = makes_shadow 𝓛 (operation.the_row.own_val does.And (operation_val does.And ∷ [])) (λ us. (tt, (λ vss. (tt, tt)))) ([], (refl, (tt, (refl, tt))))
+  operation_made does.Exchange = makes_shadow 𝓛 (operation.the_row.own_val does.Exchange (operation_val does.Exchange ∷ [])) (λ us. (tt, (λ vss. (tt, tt)))) ([], (refl, (tt, (refl, tt))))
