@@ -11,6 +11,7 @@ use types.Match.{live}
 use mir.Syntax.{Ty}
 use denote.RattleType.{RattleType}
 use denote.Memory.{lone}
+use Rattle.block_web.specs.Words.{told, IsTold}
 use Rattle.block_web.specs.declared.operation.Operation.{Operation}
 use Rattle.block_web.specs.declared.operation.Operation.TheVariants as does
 use Rattle.block_web.specs.contracts.operation.Operation as operation
@@ -45,6 +46,15 @@ operation_good does.Subtract = (tt, (record { fits = lit< tt }, tt))
 operation_good does.Or = (tt, (record { fits = lit< tt }, tt))
 operation_good does.And = (tt, (record { fits = lit< tt }, tt))
 operation_good does.Exchange = (tt, (record { fits = lit< tt }, tt))
+
+pub is_told : (op : Operation) (a n : ℕ) → IsTold op a (told op a n)
+is_told does.Load a n = tt
+is_told does.Store a n = refl
+is_told does.Add a n = tt
+is_told does.Subtract a n = tt
+is_told does.Or a n = tt
+is_told does.And a n = tt
+is_told does.Exchange a n = tt
 
 module _ {M : Type 1} {𝓤 : Ura M} (𝓛 : Logic 𝓤) where
   abbrev Made : Operation → Type 1

@@ -1,5 +1,5 @@
 -- What an operation makes of a word, and what it tells.
-use Rattle.std.specs.Prelude.{ℕ, ◌+◌, ◌-◌, ◌%◌, ◌^◌, ◌==◌, bit_and, bit_or}
+use Rattle.std.specs.Prelude.{◌≡◌, ℕ, ◌+◌, ◌-◌, ◌%◌, ◌^◌, ◌==◌, bit_and, bit_or}
 use prog.Atomic.{either}
 use Rattle.block_web.specs.declared.operation.Operation.{Operation}
 use Rattle.block_web.specs.declared.operation.Operation.TheVariants as does
@@ -23,3 +23,13 @@ told does.Subtract a n = n
 told does.Or a n = n
 told does.And a n = n
 told does.Exchange a n = n
+
+-- What is known of the number n that an operation tells.
+abbrev pub IsTold : Operation → ℕ → ℕ → Type 0
+IsTold does.Store a n = n ≡ a
+IsTold does.Load a n = Unit {0}
+IsTold does.Add a n = Unit {0}
+IsTold does.Subtract a n = Unit {0}
+IsTold does.Or a n = Unit {0}
+IsTold does.And a n = Unit {0}
+IsTold does.Exchange a n = Unit {0}

@@ -4,8 +4,8 @@ ghost use Rattle.std.specs.Prelude.{◌≡◌, ◌+◌, ◌-◌, ◌%◌, ◌^�
 ghost use prog.Atomic.{either};
 ghost use denote.RawPtr.{InBlock, Testable};
 ghost use Rattle.block_web.specs.Seats.{Sits, Same};
-ghost use Rattle.block_web.specs.Words.{becomes, told};
-ghost use Rattle.block_web.specs.Web.{Step, step, sitter, if_unset, Allows, AllowsLink, Stands, CanFork, CanMerge};
+ghost use Rattle.block_web.specs.Words.{becomes, told, IsTold};
+ghost use Rattle.block_web.specs.Web.{step, sitter, if_unset, Allows, AllowsLink, Stands, CanFork, CanMerge};
 
 use crate::block::{Link, Node};
 use crate::operation::Operation;
@@ -33,7 +33,7 @@ impl<S, V, K, P: WebRule<S, V, K>, A: Allocator> Web<S, V, K, P, A> {
         }
     }
 
-    // Does the operation on the word, and answers with the number that it tells. `taken` is the step as the play sees it.
+    // Does the operation on the word, and answers with the number that it tells.
     #[inline(always)]
     fn operate<M: Play<S, V>>(
         &self,
@@ -45,9 +45,8 @@ impl<S, V, K, P: WebRule<S, V, K>, A: Allocator> Web<S, V, K, P, A> {
         first: u64,
         second: u64,
     ) -> u64
-        ghost taken: { Step S }
-        requires { Sits seat.old self.now × InBlock link.ptr × (word < SLOTS) × Allows (P.holds self.now.key) seat.old.id seat.old.sitter block link.ptr word (becomes operation first second) (λ n. M.then taken seat.old.sitter (told operation first n)) }
-        ensures { Same seat.new seat.old × M.then taken seat.old.sitter result seat.new.sitter }
+        requires { Sits seat.old self.now × InBlock link.ptr × (word < SLOTS) × Allows (P.holds self.now.key) seat.old.id seat.old.sitter block link.ptr word (becomes operation first second) (λ n. M.then (step block link.ptr word first second None) seat.old.sitter (told operation first n)) }
+        ensures { Same seat.new seat.old × IsTold operation first result × M.then (step block link.ptr word first second None) seat.old.sitter result seat.new.sitter }
     {
         unsafe {
             operate::<Brand>(
@@ -71,12 +70,7 @@ impl<S, V, K, P: WebRule<S, V, K>, A: Allocator> Web<S, V, K, P, A> {
         requires { Sits seat.old self.now × InBlock link.ptr × (word < SLOTS) × Allows (P.holds self.now.key) seat.old.id seat.old.sitter block link.ptr word (λ n. n) (M.then (step block link.ptr word 0 0 None) seat.old.sitter) }
         ensures { Same seat.new seat.old × M.then (step block link.ptr word 0 0 None) seat.old.sitter result seat.new.sitter }
     {
-        unsafe {
-            raw::load::<Brand>(
-                (&raw const (*link.ptr).words as *const u64).add(word),
-                SeqCst,
-            )
-        }
+        self.operate::<M>(seat, block, link, word, Operation::Load, 0, 0)
     }
 
     /// Adds to a word, round the end of its range. It answers with the word as it was.
@@ -92,13 +86,7 @@ impl<S, V, K, P: WebRule<S, V, K>, A: Allocator> Web<S, V, K, P, A> {
         requires { Sits seat.old self.now × InBlock link.ptr × (word < SLOTS) × Allows (P.holds self.now.key) seat.old.id seat.old.sitter block link.ptr word (λ n. (n + k) % 2 ^ 64) (M.then (step block link.ptr word k 0 None) seat.old.sitter) }
         ensures { Same seat.new seat.old × M.then (step block link.ptr word k 0 None) seat.old.sitter result seat.new.sitter }
     {
-        unsafe {
-            raw::fetch_add::<Brand>(
-                (&raw const (*link.ptr).words as *const u64).add(word),
-                k,
-                SeqCst,
-            )
-        }
+        self.operate::<M>(seat, block, link, word, Operation::Add, k, 0)
     }
 
     /// Subtracts from a word, round the end of its range. It answers with the word as it was.
@@ -114,13 +102,7 @@ impl<S, V, K, P: WebRule<S, V, K>, A: Allocator> Web<S, V, K, P, A> {
         requires { Sits seat.old self.now × InBlock link.ptr × (word < SLOTS) × Allows (P.holds self.now.key) seat.old.id seat.old.sitter block link.ptr word (λ n. (n + (2 ^ 64 - k)) % 2 ^ 64) (M.then (step block link.ptr word k 0 None) seat.old.sitter) }
         ensures { Same seat.new seat.old × M.then (step block link.ptr word k 0 None) seat.old.sitter result seat.new.sitter }
     {
-        unsafe {
-            raw::fetch_sub::<Brand>(
-                (&raw const (*link.ptr).words as *const u64).add(word),
-                k,
-                SeqCst,
-            )
-        }
+        self.operate::<M>(seat, block, link, word, Operation::Subtract, k, 0)
     }
 
     /// Sets bits of a word. It answers with the word as it was.
@@ -136,13 +118,7 @@ impl<S, V, K, P: WebRule<S, V, K>, A: Allocator> Web<S, V, K, P, A> {
         requires { Sits seat.old self.now × InBlock link.ptr × (word < SLOTS) × Allows (P.holds self.now.key) seat.old.id seat.old.sitter block link.ptr word (λ n. bit_or n k) (M.then (step block link.ptr word k 0 None) seat.old.sitter) }
         ensures { Same seat.new seat.old × M.then (step block link.ptr word k 0 None) seat.old.sitter result seat.new.sitter }
     {
-        unsafe {
-            raw::fetch_or::<Brand>(
-                (&raw const (*link.ptr).words as *const u64).add(word),
-                k,
-                SeqCst,
-            )
-        }
+        self.operate::<M>(seat, block, link, word, Operation::Or, k, 0)
     }
 
     /// Clears the other bits of a word. It answers with the word as it was.
@@ -158,13 +134,7 @@ impl<S, V, K, P: WebRule<S, V, K>, A: Allocator> Web<S, V, K, P, A> {
         requires { Sits seat.old self.now × InBlock link.ptr × (word < SLOTS) × Allows (P.holds self.now.key) seat.old.id seat.old.sitter block link.ptr word (λ n. bit_and n k) (M.then (step block link.ptr word k 0 None) seat.old.sitter) }
         ensures { Same seat.new seat.old × M.then (step block link.ptr word k 0 None) seat.old.sitter result seat.new.sitter }
     {
-        unsafe {
-            raw::fetch_and::<Brand>(
-                (&raw const (*link.ptr).words as *const u64).add(word),
-                k,
-                SeqCst,
-            )
-        }
+        self.operate::<M>(seat, block, link, word, Operation::And, k, 0)
     }
 
     /// Writes a word.
@@ -180,13 +150,7 @@ impl<S, V, K, P: WebRule<S, V, K>, A: Allocator> Web<S, V, K, P, A> {
         requires { Sits seat.old self.now × InBlock link.ptr × (word < SLOTS) × Allows (P.holds self.now.key) seat.old.id seat.old.sitter block link.ptr word (λ _. new) (λ _. M.then (step block link.ptr word new 0 None) seat.old.sitter new) }
         ensures { Same seat.new seat.old × M.then (step block link.ptr word new 0 None) seat.old.sitter new seat.new.sitter }
     {
-        unsafe {
-            raw::store::<Brand>(
-                (&raw const (*link.ptr).words as *const u64).add(word),
-                new,
-                SeqCst,
-            )
-        }
+        self.operate::<M>(seat, block, link, word, Operation::Store, new, 0);
     }
 
     /// Writes `new` where the word is `old`. It answers with the word as it was. `said` is a value that
