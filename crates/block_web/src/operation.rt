@@ -1,4 +1,6 @@
-// What one step does with a word.
+// What one step does with a word, and what it announces.
+ghost use Rattle.std.specs.Prelude.{Option, Some, None};
+
 #[derive(Clone, Copy)]
 pub(crate) enum Operation {
     Load,
@@ -9,4 +11,19 @@ pub(crate) enum Operation {
     And,
     /// Writes the second operand where the word is the first.
     Exchange,
+}
+
+// A value of `S` that a step announces to the rule, or none.
+pub(crate) trait Announces<S> {
+    ghost said: { Self → Option S };
+}
+
+pub(crate) struct Nothing;
+
+impl<S> Announces<S> for Nothing {
+    ghost said = { λ _. None };
+}
+
+impl<S> Announces<S> for &S {
+    ghost said = { λ x. Some x.now };
 }

@@ -16,27 +16,27 @@ use Rattle.block_web.proofs.web.Web.operate.Code as code
 
 pub operate_spec : {M : Type 1} → statement M
 unfolding Rattle.block_web.specs.Laid.seal
-operate_spec 𝓤 𝓛 𝓜 𝓡 wired S V K P A M _ _ _ _ _ _ g d ga da dd g' d' _ _ _ _ =
-    let H = 𝓛.H in let 𝓣 = tables 𝓤 H 𝓜 𝓡 𝓡.env in let R : RattleType = param 0 S in let W : RattleType = param 1 V in let X : RattleType = param 2 K in let Y : RattleType = param 3 P in let Z : RattleType = param 4 A in
+operate_spec 𝓤 𝓛 𝓜 𝓡 wired S V K P A M T _ _ _ _ _ _ _ g d ga da dd g' d' gT dT _ _ _ _ _ =
+    let H = 𝓛.H in let 𝓣 = tables 𝓤 H 𝓜 𝓡 𝓡.env in let R : RattleType = param 0 S in let W : RattleType = param 1 V in let X : RattleType = param 2 K in let Y : RattleType = param 3 P in let Z : RattleType = param 4 A in let U : RattleType = param 6 T in
     let Web : RattleType = web.the_row R W X Y Z g ga in let Seat : RattleType = seat.the_row R W Z ga in let Link : RattleType = link.the_row R in let code_of : Coded V.Denot = W.coded in
-    let goal = ended S V K P A M g d ga da dd g' d' in let c = clauses S V K P A M g d ga da dd g' d' 𝓛 𝓜.mem 𝓡.returns in
-    let at_types = bounded (a_type ∷ a_type ∷ a_type ∷ a_type ∷ a_type ∷ a_type ∷ []) (S, (V, (K, (P, (A, (M, tt)))))) (dcons d (dcons da (dcons dd (dcons d' dnil)))) in let mir = inst_fn at_types code.function in
-    let kept_of : Stays goal.signature.params goal.kept = (stay_dropped (RefOf (0 ∷ []) tt (plain (λ _. Web)) (λ _. tt)) yes, (stay_ref (1 ∷ []) tt (plain (λ _. Seat)), (stay_dropped (plain (λ _. u64)) yes, (stay_dropped (plain (λ _. Link)) no, (stay_dropped (plain (λ _. usize)) yes, (stay_dropped (plain (λ _. operation.the_row)) yes, (stay_dropped (plain (λ _. u64)) yes, (stay_dropped (plain (λ _. u64)) yes, tt)))))))) in
-    proved 𝓛 goal kept_of c 𝓜 𝓡 (Goes-dropped 𝓛 8 (RefOf (0 ∷ []) tt (plain (λ _. Web)) (λ _. tt)) yes (λ κs x f. refl), (Goes-ref 𝓛 8 1 tt (plain (λ _. Seat)), (Goes-dropped 𝓛 8 (plain (λ _. u64)) yes (λ κs x f. refl), (Goes-dropped 𝓛 8 (plain (λ _. Link)) no (λ κs x f. refl), (Goes-dropped 𝓛 8 (plain (λ _. usize)) yes (λ κs x f. refl), (Goes-dropped 𝓛 8 (plain (λ _. operation.the_row)) yes (λ κs x f. refl), (Goes-dropped 𝓛 8 (plain (λ _. u64)) yes (λ κs x f. refl), (Goes-dropped 𝓛 8 (plain (λ _. u64)) yes (λ κs x f. refl), tt)))))))) (#self at_types) mir
-    (code.unfolded 𝓤 H 𝓜 𝓡 wired (S, (V, (K, (P, (A, (M, tt)))))) d da dd d') (λ κs. (shr_vals, (mut_vals, (uint_vals w64, ((λ x. place_val x.ptr ∷ []), (uint_vals w64, ((λ x. operation_val x ∷ []), (uint_vals w64, (uint_vals w64, tt)))))))))
-    (λ κs. (shr_Tells (named 0) κs.0 Web, (mut_Tells (named 1) κs.1.0 Seat, (uint_Tells w64, (place_told R, (uint_Tells w64, (operation_told, (uint_Tells w64, (uint_Tells w64, tt))))))))) (λ κs qs bounds a ghost are.
+    let goal = ended S V K P A M T g d ga da dd g' d' gT dT in let c = clauses S V K P A M T g d ga da dd g' d' gT dT 𝓛 𝓜.mem 𝓡.returns in
+    let at_types = bounded (a_type ∷ a_type ∷ a_type ∷ a_type ∷ a_type ∷ a_type ∷ a_type ∷ []) (S, (V, (K, (P, (A, (M, (T, tt))))))) (dcons d (dcons da (dcons dd (dcons d' (dcons dT dnil))))) in let mir = inst_fn at_types code.function in
+    let kept_of : Stays goal.signature.params goal.kept = (stay_dropped (RefOf (0 ∷ []) tt (plain (λ _. Web)) (λ _. tt)) yes, (stay_ref (1 ∷ []) tt (plain (λ _. Seat)), (stay_dropped (plain (λ _. u64)) yes, (stay_dropped (plain (λ _. Link)) no, (stay_dropped (plain (λ _. usize)) yes, (stay_dropped (plain (λ _. operation.the_row)) yes, (stay_dropped (plain (λ _. u64)) yes, (stay_dropped (plain (λ _. u64)) yes, (stay_dropped (RefOf (2 ∷ []) tt (plain (λ _. U)) (λ _. tt)) yes, tt))))))))) in
+    proved 𝓛 goal kept_of c 𝓜 𝓡 (Goes-dropped 𝓛 10 (RefOf (0 ∷ []) tt (plain (λ _. Web)) (λ _. tt)) yes (λ κs x f. refl), (Goes-ref 𝓛 10 1 tt (plain (λ _. Seat)), (Goes-dropped 𝓛 10 (plain (λ _. u64)) yes (λ κs x f. refl), (Goes-dropped 𝓛 10 (plain (λ _. Link)) no (λ κs x f. refl), (Goes-dropped 𝓛 10 (plain (λ _. usize)) yes (λ κs x f. refl), (Goes-dropped 𝓛 10 (plain (λ _. operation.the_row)) yes (λ κs x f. refl), (Goes-dropped 𝓛 10 (plain (λ _. u64)) yes (λ κs x f. refl), (Goes-dropped 𝓛 10 (plain (λ _. u64)) yes (λ κs x f. refl), (Goes-dropped 𝓛 10 (RefOf (2 ∷ []) tt (plain (λ _. U)) (λ _. tt)) yes (λ κs x f. refl), tt))))))))) (#self at_types) mir
+    (code.unfolded 𝓤 H 𝓜 𝓡 wired (S, (V, (K, (P, (A, (M, (T, tt))))))) d da dd d' dT) (λ κs. (shr_vals, (mut_vals, (uint_vals w64, ((λ x. place_val x.ptr ∷ []), (uint_vals w64, ((λ x. operation_val x ∷ []), (uint_vals w64, (uint_vals w64, (shr_vals, tt))))))))))
+    (λ κs. (shr_Tells (named 0) κs.0 Web, (mut_Tells (named 1) κs.1.0 Seat, (uint_Tells w64, (place_told R, (uint_Tells w64, (operation_told, (uint_Tells w64, (uint_Tells w64, (shr_Tells (named 2) κs.1.1.0 U, tt)))))))))) (λ κs qs bounds a ghost are.
     let op : Operation = a.1.1.1.1.1.0 in let n₁ : ℕ = a.1.1.1.1.1.1.0 in let n₂ : ℕ = a.1.1.1.1.1.1.1.0 in
-    let y : (walk_of 𝓛 goal kept_of c).Ghost = ((κs, qs, bounds, a, (vptr a.0.ref_ptr.0 a.0.ref_ptr.1 ∷ [], (vptr a.1.0.ref_ptr.0 a.1.0.ref_ptr.1 ∷ [], (vint w64 a.1.1.0 ∷ [], (place_val a.1.1.1.0.ptr ∷ [], (vint w64 a.1.1.1.1.0 ∷ [], (operation_val op ∷ [], (vint w64 n₁ ∷ [], (vint w64 n₂ ∷ [], tt))))))))), ghost) in let Post : Val → SProp 𝓤 = (walk_of 𝓛 goal kept_of c).post y in
+    let y : (walk_of 𝓛 goal kept_of c).Ghost = ((κs, qs, bounds, a, (vptr a.0.ref_ptr.0 a.0.ref_ptr.1 ∷ [], (vptr a.1.0.ref_ptr.0 a.1.0.ref_ptr.1 ∷ [], (vint w64 a.1.1.0 ∷ [], (place_val a.1.1.1.0.ptr ∷ [], (vint w64 a.1.1.1.1.0 ∷ [], (operation_val op ∷ [], (vint w64 n₁ ∷ [], (vint w64 n₂ ∷ [], (vptr a.1.1.1.1.1.1.1.1.0.ref_ptr.0 a.1.1.1.1.1.1.1.1.0.ref_ptr.1 ∷ [], tt)))))))))), ghost) in let Post : Val → SProp 𝓤 = (walk_of 𝓛 goal kept_of c).post y in
     let t : Web.Denot = a.0.now in let z : WebId = t.id in let α : Lft = age z in let token : Ty → Ptr → Fml = ga.dealloc_token t.heap in let holds = g.holds t.key in
     let b' : ℕ = a.1.0.ref_ptr.0 in let o' : ℕ = a.1.0.ref_ptr.1 in let h : Seat.Denot = a.1.0.now in let id : ℕ = h.id in let m : Sitter S.Denot V.Denot = h.sitter in let k : ℕ = a.1.1.0 in let p : Ptr = a.1.1.1.0.ptr in
-    let i : ℕ = a.1.1.1.1.0 in let f : ℕ → ℕ = becomes op n₁ n₂ in let then : ℕ → Sitter S.Denot V.Denot → Type 0 = g'.then (step k p i n₁ n₂ None) m in let knows : ℕ → Sitter S.Denot V.Denot → Type 0 = λ n x. IsTold op n₁ n × then n x in
-    let seated : Sitter S.Denot V.Denot → Seat.Denot = λ x. record { marker = h.marker; web = z; heap = t.heap; id = id; sitter = x } in let others : Fml = fsep (flft κs.1.1.0 qs.1.1.0) (fsep (flft κs.1.1.1.0 qs.1.1.1.0) (fsep (flft κs.1.1.1.1.0 qs.1.1.1.1.0) (fsep (flft κs.1.1.1.1.1.0 qs.1.1.1.1.1.0) (fsep (flft κs.1.1.1.1.1.1.0 qs.1.1.1.1.1.1.0) (fsep (flft κs.1.1.1.1.1.1.1.0 qs.1.1.1.1.1.1.1.0) (ftrue)))))) in
-    qed 𝓛 (((‵ (flft κs.0 qs.0) ⊛ ‵ (flft κs.1.0 qs.1.0) ⊛ ‵ others) ⊛ ‵ (owns (types_at goal.signature.params κs) a y.0.4)) ∷ raw (fact 𝓤 _) ∷ raw (fact 𝓤 _) ∷ raw (fact 𝓤 _) ∷ raw (fact 𝓤 _) ∷ raw (fact 𝓤 _) ∷ raw (fact 𝓤 _)
+    let i : ℕ = a.1.1.1.1.0 in let f : ℕ → ℕ = becomes op n₁ n₂ in let then : ℕ → Sitter S.Denot V.Denot → Type 0 = g'.then (step k p i n₁ n₂ (gT.said a.1.1.1.1.1.1.1.1.0.now)) m in let knows : ℕ → Sitter S.Denot V.Denot → Type 0 = λ n x. IsTold op n₁ n × then n x in
+    let seated : Sitter S.Denot V.Denot → Seat.Denot = λ x. record { marker = h.marker; web = z; heap = t.heap; id = id; sitter = x } in let others : Fml = fsep (flft κs.1.1.0 qs.1.1.0) (fsep (flft κs.1.1.1.0 qs.1.1.1.0) (fsep (flft κs.1.1.1.1.0 qs.1.1.1.1.0) (fsep (flft κs.1.1.1.1.1.0 qs.1.1.1.1.1.0) (fsep (flft κs.1.1.1.1.1.1.0 qs.1.1.1.1.1.1.0) (fsep (flft κs.1.1.1.1.1.1.1.0 qs.1.1.1.1.1.1.1.0) (fsep (flft κs.1.1.1.1.1.1.1.1.0 qs.1.1.1.1.1.1.1.1.0) (fsep (flft κs.1.1.1.1.1.1.1.1.1.0 qs.1.1.1.1.1.1.1.1.1.0) (ftrue)))))))) in
+    qed 𝓛 (((‵ (flft κs.0 qs.0) ⊛ ‵ (flft κs.1.0 qs.1.0) ⊛ ‵ others) ⊛ ‵ (owns (types_at goal.signature.params κs) a y.0.4)) ∷ raw (fact 𝓤 _) ∷ raw (fact 𝓤 _) ∷ raw (fact 𝓤 _) ∷ raw (fact 𝓤 _) ∷ raw (fact 𝓤 _) ∷ raw (fact 𝓤 _) ∷ raw (fact 𝓤 _)
     ∷ given (Sits h t × InBlock p × (i < SLOTS) × Allows holds id m k p i f (λ n. then (told op n₁ n))) (‵ ftrue) ∷ []) ∵
-    keep ! (7 ∷ 0 ∷ []) $ learn ! (λ asked. drop ! $ split ! $ split3 ! $ move ! (3 ∷ []) $ fsplit3 ! $ fsplit ! $ move ! (2 ∷ []) $ fsplit3 ! $ keep ! (4 ∷ 6 ∷ 1 ∷ 2 ∷ 7 ∷ 8 ∷ []) $ unhide ! $ fsplit ! $ drop ! $ fsplit ! $
-    let us : Ptr → List Val = λ u. vptr a.0.ref_ptr.0 a.0.ref_ptr.1 ∷ vptr a.1.0.ref_ptr.0 a.1.0.ref_ptr.1 ∷ vint w64 a.1.1.0 ∷ place_val u ∷ vint w64 a.1.1.1.1.0 ∷ operation_val op ∷ vint w64 n₁ ∷ vint w64 n₂ ∷ [] in let Run : List Val → SProp 𝓤 = λ ws. WpFn 𝓤 H 𝓣.C 𝓣.Λ mir ws Post in let p' : Ptr = block_ptr (block_of p) (count_of p) in
+    keep ! (8 ∷ 0 ∷ []) $ learn ! (λ asked. drop ! $ split ! $ split3 ! $ move ! (3 ∷ []) $ fsplit3 ! $ fsplit ! $ move ! (2 ∷ []) $ fsplit3 ! $ keep ! (4 ∷ 6 ∷ 1 ∷ 2 ∷ 7 ∷ 8 ∷ []) $ unhide ! $ fsplit ! $ drop ! $ fsplit ! $
+    let us : Ptr → List Val = λ u. vptr a.0.ref_ptr.0 a.0.ref_ptr.1 ∷ vptr a.1.0.ref_ptr.0 a.1.0.ref_ptr.1 ∷ vint w64 a.1.1.0 ∷ place_val u ∷ vint w64 a.1.1.1.1.0 ∷ operation_val op ∷ vint w64 n₁ ∷ vint w64 n₂ ∷ vptr a.1.1.1.1.1.1.1.1.0.ref_ptr.0 a.1.1.1.1.1.1.1.1.0.ref_ptr.1 ∷ [] in let Run : List Val → SProp 𝓤 = λ ws. WpFn 𝓤 H 𝓣.C 𝓣.Λ mir ws Post in let p' : Ptr = block_ptr (block_of p) (count_of p) in
     suffices ! (Run (us p')) (subst (λ (u : Ptr). ent 𝓤 (Run (us p')) (Run (us u))) (sym (at_block p asked.1)) (id⊢ 𝓤 (Run (us p')))) $
-    enter ! 𝓣.C 𝓣.Λ mir (us p') Post $ alloc_all ! (λ l. pass_all ! refl ((tt, tt), ((tt, tt), ((tt, record { fits = are.1.1.0.1 }), ((tt, (tt, tt)), ((tt, record { fits = are.1.1.1.1.0.1 }), (operation_good op, ((tt, record { fits = are.1.1.1.1.1.1.0.1 }), ((tt, record { fits = are.1.1.1.1.1.1.1.0.1 }), tt)))))))) $ let locals = env mir.locals l in
+    enter ! 𝓣.C 𝓣.Λ mir (us p') Post $ alloc_all ! (λ l. pass_all ! refl ((tt, tt), ((tt, tt), ((tt, record { fits = are.1.1.0.1 }), ((tt, (tt, tt)), ((tt, record { fits = are.1.1.1.1.0.1 }), (operation_good op, ((tt, record { fits = are.1.1.1.1.1.1.0.1 }), ((tt, record { fits = are.1.1.1.1.1.1.1.0.1 }), ((tt, tt), tt))))))))) $ let locals = env mir.locals l in
     begins_step ! tt Seat (tokens_halve 𝓛 α) b' o' (λ s ts. fsplit ! $
     rewrite ! 1 (λ (x : WebId × A.Denot). ‵ (seat_owns R (ga.dealloc_token x.1) code_of.code x.0 id m)) (λ j. (asked.0.0 j, asked.0.1 j)) refl $ first ! $ blocks ! $
     -- [the seat's fields; the seat; its place in three; the web's open token; its token; the invariant; the other tokens]
@@ -49,6 +49,6 @@ operate_spec 𝓤 𝓛 𝓜 𝓡 wired S V K P A M _ _ _ _ _ _ g d ga da dd g' d
     Calls-last ! (fm 𝓛 𝓜 𝓡) (found out) (and_then ! (get ! refl) (and_then ! (get ! refl) (and_then ! (get ! refl) (and_then ! (get ! refl) (no_more !))))) (λ u. finds ! out (λ n fits.
     lands_last ! refl (tt, record { fits = fits }) $ exec ! 𝓣.C 𝓣.Λ locals (after 1 mir.body) (at_ret locals Post) $ sets ! (of_opd ! (get ! refl)) refl (tt, record { fits = fits }) $
     ends_step ! tt Seat b' o' ts seated (λ x. refl) (λ m' so. let h' : Seat.Denot = seated m' in feq_i ! (List Val) (vptr b' o' ∷ []) (vptr b' o' ∷ []) refl $ fjoin3 ! $
-    nothing ! $ nothing ! $ fjoin ! $ nothing ! $ fjoin ! $ nothing ! $ fjoin ! $ nothing ! $ fjoin ! $ nothing ! $ fjoin ! $ nothing ! $ fjoin ! $ move ! (1 ∷ 0 ∷ []) $ fjoin ! $ nothing ! $ fjoin ! $ move ! (1 ∷ 3 ∷ []) $ join ! $ move ! (2 ∷ 0 ∷ []) $ join ! $
+    nothing ! $ nothing ! $ fjoin ! $ nothing ! $ fjoin ! $ nothing ! $ fjoin ! $ nothing ! $ fjoin ! $ nothing ! $ fjoin ! $ nothing ! $ fjoin ! $ nothing ! $ fjoin ! $ move ! (1 ∷ 0 ∷ []) $ fjoin ! $ nothing ! $ fjoin ! $ move ! (1 ∷ 3 ∷ []) $ join ! $ move ! (2 ∷ 0 ∷ []) $ join ! $
     let Told : Type 0 = Same h' h × IsTold op n₁ n × then n m' in use0 𝓛 (raw (fact 𝓤 Told)) (fact_i 𝓤 Told (emp 𝓤) ((sym asked.0.0, sym asked.0.1, refl), so.0, so.1)) $ flt_i ! n (2 ^ 64) fits $ feq_i ! (List Val) (vint w64 n ∷ []) (vint w64 n ∷ []) refl $ fjoin ! $
-    returns ! (look_at ! 0 refl) $ free_all ! refl $ keep ! (2 ∷ 3 ∷ 0 ∷ 1 ∷ []) $ by ! (leaves 𝓛 goal kept_of c y (vint w64 n) n (tt, (h', (tt, (tt, (tt, (tt, (tt, (tt, tt)))))))) (tt, (tt, (tt, (tt, (tt, (tt, (tt, (tt, tt))))))))))))))))
+    returns ! (look_at ! 0 refl) $ free_all ! refl $ keep ! (2 ∷ 3 ∷ 0 ∷ 1 ∷ []) $ by ! (leaves 𝓛 goal kept_of c y (vint w64 n) n (tt, (h', (tt, (tt, (tt, (tt, (tt, (tt, (tt, tt))))))))) (tt, (tt, (tt, (tt, (tt, (tt, (tt, (tt, (tt, tt)))))))))))))))))
