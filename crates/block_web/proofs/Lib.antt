@@ -1,3 +1,4 @@
+pub mod Notation
 pub mod Borrowed
 pub mod Blocks
 pub mod Moves
