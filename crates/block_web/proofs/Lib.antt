@@ -1,4 +1,3 @@
-pub mod Notation
 pub mod Borrowed
 pub mod Blocks
 pub mod Moves
