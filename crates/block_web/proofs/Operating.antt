@@ -1,25 +1,24 @@
 -- A call of `operate` at `Brand`, whose outcome the caller's proof picks. Assumes `Logic`.
 use Rattle.std.proofs.Common.{◌≡◌, ℕ, ◌^◌, ◌<◌, List, [], ◌∷◌, sym, refl, ap, w64}
 use seplogic.Ra.Ura.{Ura}
-use mir.Syntax.{Callee, dcons, dnil, tnil, ty_struct, impl}
+use mir.Syntax.{dnil, tnil, ty_struct, impl}
 use mir.Val.{Val, vint}
 use base.Fraction.{full_share}
-use base.Logic.{SProp, ent, sep, emp, via, fst∗, emp∗, comm∗, id⊢}
+use base.Logic.{SProp, ent, sep, emp, via, fst∗, emp∗, comm∗}
 use base.Fml.{Fml, ftrue, fsep, flft}
 use prog.Model.{Model}
 use prog.Wired.{Wired}
-use types.Logic.{Logic, sem}
-use types.Kit.{mean, ‵, raw, ◌⊛◌, some, given, later, ◌$◌, ◌∵◌, !, qed, by, move, drop, split, join, fsplit, fjoin, feq_i, feq_l, flt_i, flt_l, pick, show, check, use0, updating, await, now, done}
+use types.Logic.{Logic}
+use types.Kit.{mean, ‵, raw, ◌⊛◌, some, given, later, ◌$◌, ◌∵◌, !, qed, drop, split, join, fsplit, fjoin, feq_i, feq_l, flt_i, flt_l, pick, show, check, use0, updating, await, now, done}
 use contract.Monad.{fact, fact_i}
 use contract.BorrowLft.{◌⊑◌, ⊑_static}
 use contract.Running.{Running, tables}
-use denote.RattleType.{RattleType, owns}
-use denote.Signature.{types_at}
+use denote.RattleType.{RattleType}
 use denote.Builtin.{u64}
 use denote.RawPtr.{Ptr, ptr_val}
 use denote.Exit.{no}
 use denote.Param.{arg}
-use denote.Param.Laws.{Laws, arg_laws}
+use denote.Param.Laws.{arg_laws}
 use denote.Steps.{nothing, only}
 use denote.Triple.Spec.{triple_of}
 use Rattle.std.specs.Sync.RawAtomic.{asks, always}

@@ -8,8 +8,6 @@ use seplogic.Ra.Ura.{Ura}
 use base.Logic.{ent, emp}
 use types.Logic.{Logic, sem}
 use types.Match.{live}
-use mir.Syntax.{Ty}
-use denote.RattleType.{RattleType}
 use denote.Memory.{lone}
 use Rattle.block_web.specs.Words.{told, IsTold}
 use Rattle.block_web.specs.declared.operation.Operation.{Operation}

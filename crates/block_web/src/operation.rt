@@ -18,9 +18,10 @@ pub(crate) trait Announces<S> {
     ghost said: { Self → Option S };
 }
 
-pub(crate) struct Nothing;
+// It announces nothing.
+pub(crate) struct Silent;
 
-impl<S> Announces<S> for Nothing {
+impl<S> Announces<S> for Silent {
     ghost said = { λ _. None };
 }
 

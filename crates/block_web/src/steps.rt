@@ -8,7 +8,7 @@ ghost use Rattle.block_web.specs.Words.{becomes, told, IsTold};
 ghost use Rattle.block_web.specs.Web.{step, sitter, if_unset, Allows, AllowsLink, Stands, CanFork, CanMerge};
 
 use crate::block::{Link, Node};
-use crate::operation::{Announces, Nothing, Operation};
+use crate::operation::{Announces, Operation, Silent};
 use crate::sizes::SLOTS;
 use crate::web::{LinkPlay, Play, Seat, Web, WebRule};
 use crate::word::operate;
@@ -72,7 +72,7 @@ impl<S, V, K, P: WebRule<S, V, K>, A: Allocator> Web<S, V, K, P, A> {
         requires { Sits seat.old self.now × InBlock link.ptr × (word < SLOTS) × Allows (P.holds self.now.key) seat.old.id seat.old.sitter block link.ptr word (λ n. n) (M.then (step block link.ptr word 0 0 None) seat.old.sitter) }
         ensures { Same seat.new seat.old × M.then (step block link.ptr word 0 0 None) seat.old.sitter result seat.new.sitter }
     {
-        self.operate::<M, Nothing>(seat, block, link, word, Operation::Load, 0, 0, &Nothing)
+        self.operate::<M, Silent>(seat, block, link, word, Operation::Load, 0, 0, &Silent)
     }
 
     /// Adds to a word, round the end of its range. It answers with the word as it was.
@@ -88,7 +88,7 @@ impl<S, V, K, P: WebRule<S, V, K>, A: Allocator> Web<S, V, K, P, A> {
         requires { Sits seat.old self.now × InBlock link.ptr × (word < SLOTS) × Allows (P.holds self.now.key) seat.old.id seat.old.sitter block link.ptr word (λ n. (n + k) % 2 ^ 64) (M.then (step block link.ptr word k 0 None) seat.old.sitter) }
         ensures { Same seat.new seat.old × M.then (step block link.ptr word k 0 None) seat.old.sitter result seat.new.sitter }
     {
-        self.operate::<M, Nothing>(seat, block, link, word, Operation::Add, k, 0, &Nothing)
+        self.operate::<M, Silent>(seat, block, link, word, Operation::Add, k, 0, &Silent)
     }
 
     /// Subtracts from a word, round the end of its range. It answers with the word as it was.
@@ -104,7 +104,7 @@ impl<S, V, K, P: WebRule<S, V, K>, A: Allocator> Web<S, V, K, P, A> {
         requires { Sits seat.old self.now × InBlock link.ptr × (word < SLOTS) × Allows (P.holds self.now.key) seat.old.id seat.old.sitter block link.ptr word (λ n. (n + (2 ^ 64 - k)) % 2 ^ 64) (M.then (step block link.ptr word k 0 None) seat.old.sitter) }
         ensures { Same seat.new seat.old × M.then (step block link.ptr word k 0 None) seat.old.sitter result seat.new.sitter }
     {
-        self.operate::<M, Nothing>(seat, block, link, word, Operation::Subtract, k, 0, &Nothing)
+        self.operate::<M, Silent>(seat, block, link, word, Operation::Subtract, k, 0, &Silent)
     }
 
     /// Sets bits of a word. It answers with the word as it was.
@@ -120,7 +120,7 @@ impl<S, V, K, P: WebRule<S, V, K>, A: Allocator> Web<S, V, K, P, A> {
         requires { Sits seat.old self.now × InBlock link.ptr × (word < SLOTS) × Allows (P.holds self.now.key) seat.old.id seat.old.sitter block link.ptr word (λ n. bit_or n k) (M.then (step block link.ptr word k 0 None) seat.old.sitter) }
         ensures { Same seat.new seat.old × M.then (step block link.ptr word k 0 None) seat.old.sitter result seat.new.sitter }
     {
-        self.operate::<M, Nothing>(seat, block, link, word, Operation::Or, k, 0, &Nothing)
+        self.operate::<M, Silent>(seat, block, link, word, Operation::Or, k, 0, &Silent)
     }
 
     /// Clears the other bits of a word. It answers with the word as it was.
@@ -136,7 +136,7 @@ impl<S, V, K, P: WebRule<S, V, K>, A: Allocator> Web<S, V, K, P, A> {
         requires { Sits seat.old self.now × InBlock link.ptr × (word < SLOTS) × Allows (P.holds self.now.key) seat.old.id seat.old.sitter block link.ptr word (λ n. bit_and n k) (M.then (step block link.ptr word k 0 None) seat.old.sitter) }
         ensures { Same seat.new seat.old × M.then (step block link.ptr word k 0 None) seat.old.sitter result seat.new.sitter }
     {
-        self.operate::<M, Nothing>(seat, block, link, word, Operation::And, k, 0, &Nothing)
+        self.operate::<M, Silent>(seat, block, link, word, Operation::And, k, 0, &Silent)
     }
 
     /// Writes a word.
@@ -152,7 +152,7 @@ impl<S, V, K, P: WebRule<S, V, K>, A: Allocator> Web<S, V, K, P, A> {
         requires { Sits seat.old self.now × InBlock link.ptr × (word < SLOTS) × Allows (P.holds self.now.key) seat.old.id seat.old.sitter block link.ptr word (λ _. new) (λ _. M.then (step block link.ptr word new 0 None) seat.old.sitter new) }
         ensures { Same seat.new seat.old × M.then (step block link.ptr word new 0 None) seat.old.sitter new seat.new.sitter }
     {
-        self.operate::<M, Nothing>(seat, block, link, word, Operation::Store, new, 0, &Nothing);
+        self.operate::<M, Silent>(seat, block, link, word, Operation::Store, new, 0, &Silent);
     }
 
     /// Writes `new` where the word is `old`. It answers with the word as it was. `said` is a value that
@@ -171,7 +171,16 @@ impl<S, V, K, P: WebRule<S, V, K>, A: Allocator> Web<S, V, K, P, A> {
         requires { Sits seat.old self.now × InBlock link.ptr × (word < SLOTS) × Allows (P.holds self.now.key) seat.old.id seat.old.sitter block link.ptr word (λ n. either (n == old) new n) (M.then (step block link.ptr word old new (Some said.now)) seat.old.sitter) }
         ensures { Same seat.new seat.old × M.then (step block link.ptr word old new (Some said.now)) seat.old.sitter result seat.new.sitter }
     {
-        self.operate::<M, &S>(seat, block, link, word, Operation::Exchange, old, new, &said)
+        self.operate::<M, &S>(
+            seat,
+            block,
+            link,
+            word,
+            Operation::Exchange,
+            old,
+            new,
+            &said,
+        )
     }
 
     /// Reads the link of a block.
