@@ -1,25 +1,11 @@
 -- A block among the others, its words, its link and its slots, and what acts do to them. Assumes `Logic`.
-use Rattle.std.proofs.Common.{◌≡◌, ℕ, zero, suc, ◌+◌, ◌*◌, ◌<◌, ◌≤◌, Bool, true, List, [], ◌∷◌, ◌++◌, length, get_or, set, sym, refl, ap, ◌∙◌, subst, arith, length-set, suc-mul, zero-mul, true≢false}
-use Rattle.std.specs.Prelude.{Option, Some}
-use Rattle.std.specs.Sync.RawAtomic.Pointer.{cell}
+use Rattle.block_web.proofs.Walks.{◌≡◌, ℕ, zero, suc, ◌+◌, ◌*◌, ◌<◌, ◌≤◌, Bool, true, List, [], ◌∷◌, ◌++◌, length, get_or, set, sym, refl, ap, ◌∙◌, subst, arith, length-set, true≢false, Option, Some, cell, get_elem?, Ura, Ty, SProp, ent, sep, wand, all, guard, apply∗, all_e, id⊢, Fml, ftrue, Logic, sem, ‵, raw, ◌⊛◌, given, ◌$◌, ◌∵◌, !, qed, by, move, keep, drop, use1, use2, split, fsplit, fsplit3, fjoin, fjoin3, fpick, fpack, learn, check, frame, each, assume, rewrite, done, RattleType, mem, Ptr, block_of, count_of, InBlock, nothing, word, row, Content, Home, Hand, Block, Sitter, Act, away, block, Lives, Rests, word_of, gone, with_word, with_next, with_home, without, blocks_after, sitter_after, Small, slots_at, content_owns, slot_owns, slots_own, Sized, hand_owns, edge, block_owns, laid_owns, chain_owns, spare_owns, SLOTS}
+use Rattle.std.proofs.Common.{suc-mul, zero-mul}
 use mathlib.Core.Option as maybe
-use lib.ListN.{get_elem?}
 use lib.Seq.{set-get_or}
-use seplogic.Ra.Ura.{Ura}
-use mir.Syntax.{Ty}
-use base.Logic.{SProp, ent, sep, wand, all, guard, apply∗, all_e, id⊢}
-use base.Fml.{Fml, ftrue}
-use types.Logic.{Logic, sem}
-use types.Kit.{‵, raw, ◌⊛◌, given, ◌$◌, ◌∵◌, !, qed, by, move, keep, drop, use1, use2, split, fsplit, fsplit3, fjoin, fjoin3, fpick, fpack, learn, check, frame, each, assume, rewrite, done}
-use denote.RattleType.{RattleType}
-use denote.Memory.{mem}
-use denote.RawPtr.{Ptr, block_of, count_of, InBlock}
-use denote.Steps.{nothing}
-use Rattle.atomic_table.specs.Seated.{word, row}
 use Rattle.atomic_table.proofs.Roster.{row_at, Reset}
-use Rattle.block_web.specs.Web.{Content, Home, Hand, Block, Sitter, Act, takes, gives, lays, lifts, away, block, Lives, Rests, word_of, worded, linked, homed, gone, with_word, with_next, with_home, without, acted, blocks_after, sitter_acted, sitter_after, May, Mays}
-use Rattle.block_web.specs.Laid.{Small, slots_at, content_owns, slot_owns, slots_own, Sized, hand_owns, edge, block_owns, if_alive, laid_owns, chain_owns, spare_owns}
-use Rattle.block_web.specs.declared.sizes.TheConstants.{SLOTS}
+use Rattle.block_web.specs.Web.{takes, gives, lays, lifts, worded, linked, homed, acted, sitter_acted, May, Mays}
+use Rattle.block_web.specs.Laid.{if_alive}
 
 -- where a list has an entry
 found_there : {X : Type 0} (xs : List X) (j : ℕ) (x y : X) → get_elem? xs j ≡ maybe.some x → (j < length xs) × (get_or xs j y ≡ x)

@@ -1,18 +1,10 @@
 -- How a step finds its word or its link in an invariant that holds a borrow, which a token of the borrow's lifetime opens. Assumes `Logic`.
-use mathlib.Core.Bool.{Bool, true, false, cond}
-use mathlib.Core.Path.{◌≡◌, refl, subst}
-use mathlib.Core.List.{List, [], ◌∷◌, Mem, not-mem-nil}
-use Prim.Native.Nat.{ℕ}
-use seplogic.Ra.Ura.{Ura}
-use mir.Val.{vnull, ptr_same}
-use base.Logic.{SProp, ent, sep, wand, ex, guard, upd, emp, ex_i, upd_i, apply∗}
-use base.Fml.{Lft, Share, Fml, ftrue, fsep, flft, fbor, finv, fnamed}
-use types.Logic.{Logic, sem}
-use types.Kit.{‵, raw, ◌⊛◌, some, ◌$◌, ◌∵◌, !, qed, by, move, keep, split, split3, join, pick, show, check, frame, each, assume, suffices, settle, use1, use2, fpack, done}
-use denote.RawPtr.{Ptr, block_ptr, null_ptr, ptr_val, Testable, tests_null}
-use denote.Steps.{nothing}
-use Rattle.std.specs.Sync.RawAtomic.{Shift, rests, opens, shuts, enters, leaves, word, if_none, along, shifted, back, found, asks, always}
-use Rattle.std.specs.Sync.RawAtomic.Pointer.{cell, alike, found_ptr, asks_by_cases, compares}
+use Rattle.block_web.proofs.Walks.{Bool, true, false, cond, ◌≡◌, refl, subst, List, [], ◌∷◌, ℕ, Ura, vnull, ptr_same, SProp, ent, sep, wand, ex, guard, upd, emp, upd_i, apply∗, Lft, Share, Fml, ftrue, fsep, flft, fbor, finv, Logic, sem, ‵, raw, ◌⊛◌, some, ◌$◌, ◌∵◌, !, qed, by, move, keep, split, split3, join, pick, show, check, frame, each, assume, suffices, settle, use1, use2, fpack, done, Ptr, block_ptr, null_ptr, ptr_val, Testable, tests_null, nothing, asks, always, cell, alike, compares}
+use mathlib.Core.List.{Mem, not-mem-nil}
+use base.Logic.{ex_i}
+use base.Fml.{fnamed}
+use Rattle.std.specs.Sync.RawAtomic.{Shift, rests, opens, shuts, enters, leaves, word, if_none, along, shifted, back, found}
+use Rattle.std.specs.Sync.RawAtomic.Pointer.{found_ptr, asks_by_cases}
 
 module _ {M : Type 1} {𝓤 : Ura M} (𝓛 : Logic 𝓤) where
   open 𝓛 use {H, A}

@@ -1,6 +1,8 @@
 pub mod Borrowed
 pub mod Blocks
 pub mod Moves
+pub mod Operations
+pub mod Operating
 pub mod Shown
 pub mod Sent
 pub mod Rooms

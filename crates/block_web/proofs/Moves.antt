@@ -1,32 +1,18 @@
 -- What a step of a seat does to the web, while the invariant is open for that step; and the web's first and last moments. Assumes `Logic`.
-use Rattle.std.proofs.Common.{◌≡◌, ℕ, ◌+◌, ◌*◌, ◌<◌, T, List, [], ◌∷◌, ◌++◌, set, sym, refl, subst, arith, w64}
-use Rattle.std.specs.Prelude.{None}
-use Rattle.std.specs.Sync.RawAtomic.{asks, always}
-use Rattle.std.specs.Sync.RawAtomic.Pointer.{cell, alike, asks_ptr, compares}
-use mathlib.Core.Bool.{Bool, cond}
+use Rattle.block_web.proofs.Walks.{◌≡◌, ℕ, ◌+◌, ◌*◌, ◌<◌, List, [], ◌∷◌, ◌++◌, set, sym, refl, subst, arith, w64, None, asks, always, cell, alike, compares, Bool, cond, get_elem?, Ura, Ty, ty_int, vint, vnull, ptr_same, has_ty, WT, full_share, Coded, SProp, ent, sep, wand, ex, all, guard, upd, emp, via, apply∗, all_e, upd_i, Lft, Share, Fml, ftrue, fsep, fex, fbor, finv, flft, Logic, sem, ‵, raw, ◌⊛◌, some, given, later, ◌$◌, ◌∵◌, !, qed, by, move, keep, drop, use0, use1, use2, use3, split, split3, fsplit, fsplit3, fjoin, fjoin3, fpick, fpack, pick, learn, check, show, frame, each, assume, suffices, await, rewrite, settle, done, RattleType, Ptr, block_ptr, null_ptr, ptr_val, block_of, count_of, Testable, nothing, word, Block, Sitter, Act, sitter, block, Lives, word_of, with_word, with_next, blocks_after, sitter_after, if_unset, Allows, AllowsLink, Stands, CanFork, CanMerge, LastBlocks, LastBlocksBy, WebId, age, hand_owns, chain_owns, spare_owns, seat_owns, inside_owns, web_owns, SLOTS}
+use Rattle.std.proofs.Common.{T}
+use Rattle.std.specs.Sync.RawAtomic.Pointer.{asks_ptr}
 use mathlib.Core.Option as maybe
-use lib.ListN.{get_elem?}
-use seplogic.Ra.Ura.{Ura}
-use mir.Syntax.{Ty, ty_int}
-use mir.Val.{vint, vnull, ptr_same, has_ty, WT}
-use base.Fraction.{full_share}
 use base.Share.{quarter, three_quarters}
-use base.Stored.{Coded}
-use base.Logic.{SProp, ent, sep, wand, ex, all, guard, upd, emp, via, apply∗, all_e, upd_i}
-use base.Fml.{Lft, Share, Fml, ftrue, fsep, fex, fbor, finv, flft, flent}
-use types.Logic.{Logic, sem}
-use types.Kit.{‵, raw, ◌⊛◌, some, given, later, ◌$◌, ◌∵◌, !, qed, by, move, keep, drop, use0, use1, use2, use3, split, split3, fsplit, fsplit3, fjoin, fjoin3, fpick, fpack, pick, learn, check, show, frame, each, assume, suffices, await, updating, now, rewrite, settle, done}
+use base.Fml.{flent}
+use types.Kit.{updating, now}
 use types.Owned.{basic}
 use types.Keyed.{entries_new, entries_take}
 use types.Tokens.{lft_new, lft_end, bor_new, lent_back}
-use denote.RattleType.{RattleType}
-use denote.RawPtr.{Ptr, block_ptr, null_ptr, ptr_val, block_of, count_of, Testable}
-use denote.Steps.{nothing}
-use Rattle.atomic_table.specs.Seated.{word, fact, seen, roster, halved, unused}
+use Rattle.atomic_table.specs.Seated.{fact, seen, roster, halved, unused}
 use Rattle.atomic_table.proofs.Roster.{Moved, moves, Joined, joins, apart, resets}
-use Rattle.block_web.specs.Web.{Block, State, Sitter, Act, sitter, block, Lives, word_of, with_word, with_next, blocks_after, sitter_after, viewed, if_unset, Goes, Allows, AllowsLink, Stands, CanFork, CanMerge, LastBlocks, LastBlocksBy}
-use Rattle.block_web.specs.Laid.{WebId, age, hand_owns, chain_owns, spare_owns, seat_owns, state_owns, inside_owns, known_to_all, web_owns}
-use Rattle.block_web.specs.declared.sizes.TheConstants.{SLOTS}
+use Rattle.block_web.specs.Web.{State, viewed, Goes}
+use Rattle.block_web.specs.Laid.{state_owns, known_to_all}
 use Rattle.block_web.proofs.Borrowed.{word_step, Word-found, link_step, Link-found, null_step, null_tested}
 use Rattle.block_web.proofs.Blocks.{acts, Reworded, word_at, Relinked, link_at, same_word}
 

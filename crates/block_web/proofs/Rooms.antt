@@ -1,24 +1,10 @@
 -- How the room of a block becomes its parts, and the parts a room again. Assumes `Logic`.
-use Rattle.std.proofs.Common.{◌≡◌, ℕ, zero, suc, ◌+◌, ◌*◌, T, List, [], ◌∷◌, length, replicate, sym, refl, ap, subst, arith, lit<, w64}
-use seplogic.Ra.Ura.{Ura}
-use mir.Syntax.{Ty, ty_ptr, ty_int, ty_array, tcons, tnil}
-use mir.Val.{vint, vstruct, of_list, has_ty, WT}
-use mir.Raw.{raw as bare}
-use base.Fraction.{full_share}
-use base.Logic.{SProp, ent, sep, wand, via, apply∗, id⊢, mono∗, mono_r}
-use base.Fml.{Fml, ftrue, fsep, fwand, froom}
-use prog.Memory.{size, up, align}
-use prog.RawLaws.{size-raw, align-raw}
-use types.Logic.{Logic, sem}
-use types.Kit.{‵, raw, ◌⊛◌, ◌$◌, ◌∵◌, !, qed, move, keep, drop, use1, use2, split, fsplit, fsplit3, fjoin, fjoin3, fpick, frame, assume, rewrite, done}
-use denote.RattleType.{RattleType}
-use denote.Memory.{mem, lone}
-use denote.RawPtr.{Ptr, ptr_val, block_of, count_of}
-use denote.Steps.{nothing}
-use Rattle.atomic_table.specs.Seated.{word, row}
-use Rattle.block_web.specs.Web.{Home, Block, alive_at, vacant, AllVacant}
-use Rattle.block_web.specs.Laid.{node_ty, node_rooms, hub_ty, hub_rooms, hub_rim, head_of, block_ty, slots_at, slot_owns, slots_own, rooms, rim, edge, block_owns}
-use Rattle.block_web.specs.declared.sizes.TheConstants.{SLOTS}
+use Rattle.block_web.proofs.Walks.{◌≡◌, ℕ, zero, suc, ◌+◌, ◌*◌, List, [], ◌∷◌, length, replicate, sym, refl, ap, subst, arith, lit<, w64, Ura, Ty, ty_ptr, ty_int, ty_array, vint, vstruct, of_list, has_ty, WT, bare, full_share, SProp, ent, sep, wand, via, apply∗, id⊢, Fml, ftrue, fsep, fwand, froom, size, align, size-raw, align-raw, Logic, sem, ‵, raw, ◌⊛◌, ◌$◌, ◌∵◌, !, qed, move, keep, drop, use1, use2, split, fsplit, fsplit3, fjoin, fjoin3, fpick, frame, assume, rewrite, done, RattleType, mem, lone, Ptr, ptr_val, block_of, count_of, nothing, word, row, Home, Block, alive_at, vacant, AllVacant, hub_ty, hub_rooms, hub_rim, head_of, block_ty, slots_at, slot_owns, slots_own, rooms, rim, edge, block_owns, SLOTS}
+use Rattle.std.proofs.Common.{T}
+use mir.Syntax.{tcons, tnil}
+use base.Logic.{mono∗, mono_r}
+use prog.Memory.{up}
+use Rattle.block_web.specs.Laid.{node_ty, node_rooms}
 
 -- a row of zeros has its type
 zeros_fit : (n : ℕ) → WT (vstruct (of_list (replicate n (vint w64 0))))

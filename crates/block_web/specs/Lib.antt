@@ -2,3 +2,4 @@ pub mod Web
 pub mod Laid
 pub mod Line
 pub mod Seats
+pub mod Words

@@ -8,9 +8,11 @@ pub mod closing;
 pub mod hub;
 pub mod line;
 pub mod low;
+mod operation;
 pub mod seats;
 pub mod sizes;
 pub mod steps;
 #[cfg(test)]
 mod tests;
 pub mod web;
+mod word;

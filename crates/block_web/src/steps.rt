@@ -4,12 +4,15 @@ ghost use Rattle.std.specs.Prelude.{◌≡◌, ◌+◌, ◌-◌, ◌%◌, ◌^�
 ghost use prog.Atomic.{either};
 ghost use denote.RawPtr.{InBlock, Testable};
 ghost use Rattle.block_web.specs.Seats.{Sits, Same};
+ghost use Rattle.block_web.specs.Words.{becomes, told, IsTold};
 ghost use Rattle.block_web.specs.Web.{step, sitter, if_unset, Allows, AllowsLink, Stands, CanFork, CanMerge};
 
 use crate::block::{Link, Node};
+use crate::operation::{Announces, Operation, Silent};
 use crate::sizes::SLOTS;
 use crate::web::{LinkPlay, Play, Seat, Web, WebRule};
-use atomic_table::{Join, Split, exchange};
+use crate::word::operate;
+use atomic_table::{Join, Split};
 use std::alloc::Allocator;
 use std::marker::{Brand, PhantomData};
 use std::sync::atomic::Ordering::SeqCst;
@@ -30,6 +33,33 @@ impl<S, V, K, P: WebRule<S, V, K>, A: Allocator> Web<S, V, K, P, A> {
         }
     }
 
+    // Does the operation on the word, and answers with the number that it tells.
+    #[inline(always)]
+    fn operate<M: Play<S, V>, T: Announces<S>>(
+        &self,
+        seat: &mut Seat<S, V, A>,
+        block: u64,
+        link: Link<S>,
+        word: usize,
+        operation: Operation,
+        first: u64,
+        second: u64,
+        said: &T,
+    ) -> u64
+        requires { Sits seat.old self.now × InBlock link.ptr × (word < SLOTS) × Allows (P.holds self.now.key) seat.old.id seat.old.sitter block link.ptr word (becomes operation first second) (λ n. M.then (step block link.ptr word first second (T.said said.now)) seat.old.sitter (told operation first n)) }
+        ensures { Same seat.new seat.old × IsTold operation first result × M.then (step block link.ptr word first second (T.said said.now)) seat.old.sitter result seat.new.sitter }
+    {
+        let _ = said;
+        unsafe {
+            operate::<Brand>(
+                (&raw const (*link.ptr).words as *const u64).add(word),
+                operation,
+                first,
+                second,
+            )
+        }
+    }
+
     /// Reads a word. It answers with the word as it was.
     #[inline(always)]
     pub fn load<M: Play<S, V>>(
@@ -42,12 +72,7 @@ impl<S, V, K, P: WebRule<S, V, K>, A: Allocator> Web<S, V, K, P, A> {
         requires { Sits seat.old self.now × InBlock link.ptr × (word < SLOTS) × Allows (P.holds self.now.key) seat.old.id seat.old.sitter block link.ptr word (λ n. n) (M.then (step block link.ptr word 0 0 None) seat.old.sitter) }
         ensures { Same seat.new seat.old × M.then (step block link.ptr word 0 0 None) seat.old.sitter result seat.new.sitter }
     {
-        unsafe {
-            raw::load::<Brand>(
-                (&raw const (*link.ptr).words as *const u64).add(word),
-                SeqCst,
-            )
-        }
+        self.operate::<M, Silent>(seat, block, link, word, Operation::Load, 0, 0, &Silent)
     }
 
     /// Adds to a word, round the end of its range. It answers with the word as it was.
@@ -63,13 +88,7 @@ impl<S, V, K, P: WebRule<S, V, K>, A: Allocator> Web<S, V, K, P, A> {
         requires { Sits seat.old self.now × InBlock link.ptr × (word < SLOTS) × Allows (P.holds self.now.key) seat.old.id seat.old.sitter block link.ptr word (λ n. (n + k) % 2 ^ 64) (M.then (step block link.ptr word k 0 None) seat.old.sitter) }
         ensures { Same seat.new seat.old × M.then (step block link.ptr word k 0 None) seat.old.sitter result seat.new.sitter }
     {
-        unsafe {
-            raw::fetch_add::<Brand>(
-                (&raw const (*link.ptr).words as *const u64).add(word),
-                k,
-                SeqCst,
-            )
-        }
+        self.operate::<M, Silent>(seat, block, link, word, Operation::Add, k, 0, &Silent)
     }
 
     /// Subtracts from a word, round the end of its range. It answers with the word as it was.
@@ -85,13 +104,7 @@ impl<S, V, K, P: WebRule<S, V, K>, A: Allocator> Web<S, V, K, P, A> {
         requires { Sits seat.old self.now × InBlock link.ptr × (word < SLOTS) × Allows (P.holds self.now.key) seat.old.id seat.old.sitter block link.ptr word (λ n. (n + (2 ^ 64 - k)) % 2 ^ 64) (M.then (step block link.ptr word k 0 None) seat.old.sitter) }
         ensures { Same seat.new seat.old × M.then (step block link.ptr word k 0 None) seat.old.sitter result seat.new.sitter }
     {
-        unsafe {
-            raw::fetch_sub::<Brand>(
-                (&raw const (*link.ptr).words as *const u64).add(word),
-                k,
-                SeqCst,
-            )
-        }
+        self.operate::<M, Silent>(seat, block, link, word, Operation::Subtract, k, 0, &Silent)
     }
 
     /// Sets bits of a word. It answers with the word as it was.
@@ -107,13 +120,7 @@ impl<S, V, K, P: WebRule<S, V, K>, A: Allocator> Web<S, V, K, P, A> {
         requires { Sits seat.old self.now × InBlock link.ptr × (word < SLOTS) × Allows (P.holds self.now.key) seat.old.id seat.old.sitter block link.ptr word (λ n. bit_or n k) (M.then (step block link.ptr word k 0 None) seat.old.sitter) }
         ensures { Same seat.new seat.old × M.then (step block link.ptr word k 0 None) seat.old.sitter result seat.new.sitter }
     {
-        unsafe {
-            raw::fetch_or::<Brand>(
-                (&raw const (*link.ptr).words as *const u64).add(word),
-                k,
-                SeqCst,
-            )
-        }
+        self.operate::<M, Silent>(seat, block, link, word, Operation::Or, k, 0, &Silent)
     }
 
     /// Clears the other bits of a word. It answers with the word as it was.
@@ -129,13 +136,7 @@ impl<S, V, K, P: WebRule<S, V, K>, A: Allocator> Web<S, V, K, P, A> {
         requires { Sits seat.old self.now × InBlock link.ptr × (word < SLOTS) × Allows (P.holds self.now.key) seat.old.id seat.old.sitter block link.ptr word (λ n. bit_and n k) (M.then (step block link.ptr word k 0 None) seat.old.sitter) }
         ensures { Same seat.new seat.old × M.then (step block link.ptr word k 0 None) seat.old.sitter result seat.new.sitter }
     {
-        unsafe {
-            raw::fetch_and::<Brand>(
-                (&raw const (*link.ptr).words as *const u64).add(word),
-                k,
-                SeqCst,
-            )
-        }
+        self.operate::<M, Silent>(seat, block, link, word, Operation::And, k, 0, &Silent)
     }
 
     /// Writes a word.
@@ -151,13 +152,7 @@ impl<S, V, K, P: WebRule<S, V, K>, A: Allocator> Web<S, V, K, P, A> {
         requires { Sits seat.old self.now × InBlock link.ptr × (word < SLOTS) × Allows (P.holds self.now.key) seat.old.id seat.old.sitter block link.ptr word (λ _. new) (λ _. M.then (step block link.ptr word new 0 None) seat.old.sitter new) }
         ensures { Same seat.new seat.old × M.then (step block link.ptr word new 0 None) seat.old.sitter new seat.new.sitter }
     {
-        unsafe {
-            raw::store::<Brand>(
-                (&raw const (*link.ptr).words as *const u64).add(word),
-                new,
-                SeqCst,
-            )
-        }
+        self.operate::<M, Silent>(seat, block, link, word, Operation::Store, new, 0, &Silent);
     }
 
     /// Writes `new` where the word is `old`. It answers with the word as it was. `said` is a value that
@@ -176,14 +171,16 @@ impl<S, V, K, P: WebRule<S, V, K>, A: Allocator> Web<S, V, K, P, A> {
         requires { Sits seat.old self.now × InBlock link.ptr × (word < SLOTS) × Allows (P.holds self.now.key) seat.old.id seat.old.sitter block link.ptr word (λ n. either (n == old) new n) (M.then (step block link.ptr word old new (Some said.now)) seat.old.sitter) }
         ensures { Same seat.new seat.old × M.then (step block link.ptr word old new (Some said.now)) seat.old.sitter result seat.new.sitter }
     {
-        let _ = said;
-        unsafe {
-            exchange::<Brand>(
-                (&raw const (*link.ptr).words as *const u64).add(word),
-                old,
-                new,
-            )
-        }
+        self.operate::<M, &S>(
+            seat,
+            block,
+            link,
+            word,
+            Operation::Exchange,
+            old,
+            new,
+            &said,
+        )
     }
 
     /// Reads the link of a block.
