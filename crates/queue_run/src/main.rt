@@ -2,13 +2,18 @@
 #![tactic(auto)]
 
 use queue_command::command::{command, lack_memory};
-use std::alloc::AllocError;
-use std::env;
+use std::io::ErrorKind;
 use std::process::ExitCode;
+use std::{env, io};
 
 fn main(rt: HostRuntime) -> ExitCode {
-    let Ok(args) = given(&rt) else {
-        return ExitCode::from(lack_memory(&mut rt.stderr()));
+    let args = match given(&rt) {
+        Ok(args) => args,
+        Err(error) if error.kind() == ErrorKind::OutOfMemory => {
+            return ExitCode::from(lack_memory(&mut rt.stderr()));
+        }
+        // Arguments that are no text are wrong ones, as none are.
+        Err(_) => Vec::new(rt.alloc()),
     };
     let status = command(
         &rt,
@@ -22,6 +27,6 @@ fn main(rt: HostRuntime) -> ExitCode {
 }
 
 // The arguments after the program's name.
-fn given(rt: &(impl std::rt::Env + AllocGlobal)) -> Result<Vec<String>, AllocError> {
-    env::args(rt)?.skip(1).collect(rt.alloc())
+fn given(rt: &(impl std::rt::Env + AllocGlobal)) -> io::Result<Vec<String>> {
+    Ok(env::args(rt)?.skip(1).collect(rt.alloc())?)
 }
