@@ -1,4 +1,5 @@
 //! Queues without a capacity and with one owner: replies from the table of the abstract queue, the ends of ranges, the blocks that are held, and want of memory.
+use crate::counted::Counted;
 use concurrent_queue::Exclusive;
 use concurrent_queue::errors::{ForcePushError, PopError, PushError};
 use queue_steps::sizes::LIMIT;
@@ -197,18 +198,6 @@ fn constructors_and_memory(rt: HostRuntime) -> Result<(), Fail> {
     Ok(())
 }
 
-/// An item that counts its drop.
-struct Counted<'a> {
-    drops: &'a Cell<u64>,
-}
-
-impl<'a> Drop for Counted<'a> {
-    fn drop(self) {
-        let Counted { drops } = self;
-        drops.set(drops.get().wrapping_add(1));
-    }
-}
-
 #[test]
 fn drops_what_is_left(rt: HostRuntime) {
     for count in [0, 1, 30, 31, 32, 62, 63] {
@@ -216,7 +205,7 @@ fn drops_what_is_left(rt: HostRuntime) {
         let drops = Cell::new(0);
         let mut queue: Exclusive<Counted, &Refusing<Global>> = Exclusive::unbounded(&heap);
         for _ in 0..count {
-            assert!(rt; queue.push(Counted { drops: &drops }).is_ok());
+            assert!(rt; queue.push(Counted::by(&drops)).is_ok());
         }
         let taken = if queue.pop().is_ok() { 1 } else { 0 };
         assert_eq!(rt; drops.get(), taken);

@@ -5,6 +5,8 @@ pub mod callers;
 #[cfg(test)]
 mod chains;
 #[cfg(test)]
+mod counted;
+#[cfg(test)]
 mod errors;
 #[cfg(test)]
 mod one_slot;

@@ -28,26 +28,6 @@ fn forced_pushes_displace(rt: HostRuntime) -> Result<(), AllocError> {
     Ok(())
 }
 
-#[test]
-fn observers_tell_of_one_slot(rt: HostRuntime) -> Result<(), AllocError> {
-    let mut queue: Exclusive<u64> = Exclusive::bounded(rt.alloc(), 1)?;
-    assert!(rt; queue.is_empty() && !queue.is_full() && queue.len() == 0);
-    assert_eq!(rt; queue.capacity(), Some(1));
-    assert_eq!(rt; queue.blocks(), 0);
-    assert_eq!(rt; queue.push(7), Ok(()));
-    assert!(rt; queue.len() == 1 && !queue.is_empty() && queue.is_full());
-    assert_eq!(rt; queue.pop(), Ok(7));
-    assert!(rt; queue.len() == 0 && queue.is_empty() && !queue.is_full());
-    assert_eq!(rt; queue.push(8), Ok(()));
-    assert_eq!(rt; queue.pop(), Ok(8));
-    assert_eq!(rt; queue.pop(), Err(PopError::Empty));
-    assert!(rt; !queue.is_closed());
-    assert!(rt; queue.close());
-    assert!(rt; queue.is_closed());
-    assert!(rt; !queue.close());
-    Ok(())
-}
-
 /// What is refused is handed back, and what is left is dropped once with the queue.
 #[test]
 fn what_is_left_is_dropped_once(rt: HostRuntime) -> Result<(), AllocError> {

@@ -1,4 +1,5 @@
 //! Rings with one owner: replies from the table of the abstract queue, the ends of ranges, and want of memory.
+use crate::counted::Counted;
 use concurrent_queue::Exclusive;
 use concurrent_queue::errors::{ForcePushError, PopError, PushError};
 use queue_steps::sizes::{LIMIT, MAX_CAPACITY};
@@ -61,11 +62,13 @@ fn displaced_fronts_over_laps(rt: HostRuntime) -> Result<(), Fail> {
     Ok(())
 }
 
-/// An empty queue that is told about, filled with one item, emptied twice and closed.
-fn looked_at(rt: &impl Abort, mut queue: Exclusive<u64>, full_of_one: bool, blocks: usize) {
-    assert!(rt; queue.is_empty() && !queue.is_full());
+/// An empty queue of this capacity that is told about, filled with one item, emptied twice and closed.
+fn looked_at(rt: &impl Abort, mut queue: Exclusive<u64>, capacity: Option<usize>) {
+    assert_eq!(rt; queue.capacity(), capacity);
+    assert_eq!(rt; queue.blocks(), 0);
+    assert!(rt; queue.is_empty() && !queue.is_full() && queue.len() == 0);
     assert_eq!(rt; queue.push(7), Ok(()));
-    assert!(rt; queue.len() == 1 && !queue.is_empty() && queue.is_full() == full_of_one);
+    assert!(rt; queue.len() == 1 && !queue.is_empty() && queue.is_full() == (capacity == Some(1)));
     assert_eq!(rt; queue.pop(), Ok(7));
     assert!(rt; queue.len() == 0 && queue.is_empty() && !queue.is_full());
     assert_eq!(rt; queue.push(8), Ok(()));
@@ -75,14 +78,14 @@ fn looked_at(rt: &impl Abort, mut queue: Exclusive<u64>, full_of_one: bool, bloc
     assert!(rt; queue.close());
     assert!(rt; queue.is_closed());
     assert!(rt; !queue.close());
-    assert_eq!(rt; queue.blocks(), blocks);
+    assert_eq!(rt; queue.blocks(), if capacity.is_none() { 1 } else { 0 });
 }
 
 #[test]
 fn looks(rt: HostRuntime) -> Result<(), Fail> {
-    looked_at(&rt, Exclusive::bounded(rt.alloc(), 1)?, true, 0);
-    looked_at(&rt, Exclusive::bounded(rt.alloc(), 2)?, false, 0);
-    looked_at(&rt, Exclusive::unbounded(rt.alloc()), false, 1);
+    looked_at(&rt, Exclusive::bounded(rt.alloc(), 1)?, Some(1));
+    looked_at(&rt, Exclusive::bounded(rt.alloc(), 2)?, Some(2));
+    looked_at(&rt, Exclusive::unbounded(rt.alloc()), None);
     let mut queue: Exclusive<u64> = Exclusive::bounded(rt.alloc(), 2)?;
     assert_eq!(rt; queue.push(1), Ok(()));
     assert_eq!(rt; queue.push(2), Ok(()));
@@ -211,24 +214,12 @@ fn one_request_for_each_ring(rt: HostRuntime) -> Result<(), Fail> {
     Ok(())
 }
 
-/// An item that counts its drop.
-struct Counted<'a> {
-    drops: &'a Cell<u64>,
-}
-
-impl<'a> Drop for Counted<'a> {
-    fn drop(self) {
-        let Counted { drops } = self;
-        drops.set(drops.get().wrapping_add(1));
-    }
-}
-
 #[test]
 fn drops_what_is_left(rt: HostRuntime) -> Result<(), Fail> {
     let drops = Cell::new(0);
     let mut queue: Exclusive<Counted> = Exclusive::bounded(rt.alloc(), 3)?;
     for _ in 0..5u64 {
-        assert!(rt; queue.force_push(Counted { drops: &drops }).is_ok());
+        assert!(rt; queue.force_push(Counted::by(&drops)).is_ok());
     }
     assert_eq!(rt; drops.get(), 2);
     assert!(rt; queue.pop().is_ok());

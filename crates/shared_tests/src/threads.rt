@@ -1,4 +1,5 @@
 //! Threads that share one slot, a party each.
+ghost use Rattle.std.specs.Prelude.{◌<◌};
 ghost use Rattle.concurrent_queue.specs.Shared.{IsPartyOf};
 ghost use denote.Param.Send.{IsSync};
 
@@ -181,83 +182,35 @@ fn act<R: Wait>(
     (party, right)
 }
 
-/// Two threads.
-fn two<R: Wait + Threads + Sync>(
+/// A thread, doubled so many times: two of them have one role each, and of more than two each has as many as the other.
+fn crew<R: Wait + Threads + Sync>(
     rt: &R,
     queue: &Queue,
     party: Party<u64>,
     board: &Board,
+    doublings: u64,
     first: Role,
     second: Role,
 ) -> (Party<u64>, bool)
     requires { IsPartyOf party queue.now }
     ensures { IsPartyOf result.0 queue.now }
 {
-    match queue.split(party) {
-        Err(party) => (party, false),
-        Ok((a, b)) => {
-            let ((a, right), (b, right_too)) = join(
-                rt,
-                || act(rt, queue, a, board, first),
-                || act(rt, queue, b, board, second),
-            );
-            (queue.join(a, b), right && right_too)
-        }
+    if doublings == 0 {
+        return act(rt, queue, party, board, first);
     }
-}
-
-/// Four threads, two of each role.
-fn four<R: Wait + Threads + Sync>(
-    rt: &R,
-    queue: &Queue,
-    party: Party<u64>,
-    board: &Board,
-    first: Role,
-    second: Role,
-) -> (Party<u64>, bool)
-    requires { IsPartyOf party queue.now }
-    ensures { IsPartyOf result.0 queue.now }
-{
     match queue.split(party) {
         Err(party) => (party, false),
         Ok((a, b)) => {
             let ((a, right), (b, right_too)) = join(
                 rt,
-                ||
-                    requires { IsSync R.row × IsPartyOf a queue.now }
-                { two(rt, queue, a, board, first, second) },
-                ||
-                    requires { IsSync R.row × IsPartyOf b queue.now }
-                { two(rt, queue, b, board, first, second) },
-            );
-            (queue.join(a, b), right && right_too)
-        }
-    }
-}
-
-/// Eight threads, four of each role.
-fn eight<R: Wait + Threads + Sync>(
-    rt: &R,
-    queue: &Queue,
-    party: Party<u64>,
-    board: &Board,
-    first: Role,
-    second: Role,
-) -> (Party<u64>, bool)
-    requires { IsPartyOf party queue.now }
-    ensures { IsPartyOf result.0 queue.now }
-{
-    match queue.split(party) {
-        Err(party) => (party, false),
-        Ok((a, b)) => {
-            let ((a, right), (b, right_too)) = join(
-                rt,
-                ||
-                    requires { IsSync R.row × IsPartyOf a queue.now }
-                { four(rt, queue, a, board, first, second) },
-                ||
-                    requires { IsSync R.row × IsPartyOf b queue.now }
-                { four(rt, queue, b, board, first, second) },
+                || -> (Party<u64>, bool)
+                    requires { IsSync R.row × IsPartyOf a queue.now × (0 < doublings) }
+                    ensures { IsPartyOf result.0 queue.entry.now }
+                { crew(rt, queue, a, board, doublings - 1, first, second) },
+                || -> (Party<u64>, bool)
+                    requires { IsSync R.row × IsPartyOf b queue.now × (0 < doublings) }
+                    ensures { IsPartyOf result.0 queue.entry.now }
+                { crew(rt, queue, b, board, doublings - 1, second, first) },
             );
             (queue.join(a, b), right && right_too)
         }
@@ -270,7 +223,15 @@ fn in_order_from_one_thread_to_another(rt: HostRuntime) {
     else {
         panic!(rt; "no memory");
     };
-    let (party, right) = two(&rt, &queue, party, &board, Role::Push, Role::PopInOrder);
+    let (party, right) = crew(
+        &rt,
+        &queue,
+        party,
+        &board,
+        1,
+        Role::Push,
+        Role::PopInOrder,
+    );
     assert!(rt; right);
     let Ok(left) = queue.finish(party) else {
         panic!(rt; "not finished");
@@ -284,7 +245,7 @@ fn four_pushers_and_four_poppers(rt: HostRuntime) {
     else {
         panic!(rt; "no memory");
     };
-    let (party, right) = eight(&rt, &queue, party, &board, Role::Push, Role::Pop);
+    let (party, right) = crew(&rt, &queue, party, &board, 3, Role::Push, Role::Pop);
     assert!(rt; right);
     assert!(rt; board.each_came(4));
     let Ok(left) = queue.finish(party) else {
@@ -299,11 +260,12 @@ fn linearizable(rt: HostRuntime) {
     else {
         panic!(rt; "no memory");
     };
-    let (party, right) = four(
+    let (party, right) = crew(
         &rt,
         &queue,
         party,
         &board,
+        2,
         Role::PushAndPop,
         Role::ForceAndPop,
     );
@@ -320,7 +282,7 @@ fn ring_buffer_of_one_thread(rt: HostRuntime) {
     else {
         panic!(rt; "no memory");
     };
-    let (party, right) = two(&rt, &queue, party, &board, Role::Force, Role::Drain);
+    let (party, right) = crew(&rt, &queue, party, &board, 1, Role::Force, Role::Drain);
     assert!(rt; right);
     assert!(rt; board.each_came(1));
     assert!(rt; queue.finish(party).is_ok());
@@ -332,7 +294,7 @@ fn ring_buffer_of_four_threads(rt: HostRuntime) {
     else {
         panic!(rt; "no memory");
     };
-    let (party, right) = eight(&rt, &queue, party, &board, Role::Force, Role::Drain);
+    let (party, right) = crew(&rt, &queue, party, &board, 3, Role::Force, Role::Drain);
     assert!(rt; right);
     assert!(rt; board.each_came(4));
     assert!(rt; queue.finish(party).is_ok());
