@@ -11,7 +11,7 @@ use Rattle.queue_steps.specs.declared.steps.types.Op.{Op}
 use Rattle.queue_steps.specs.declared.steps.types.Op.TheVariants as op
 use Rattle.queue_steps.specs.declared.steps.types.Word.TheVariants as word
 use Rattle.queue_steps.specs.declared.steps.unbounded.TheConstants.{WRITE, READ, DESTROY}
-use Rattle.chain_laws.proofs.ChainPlaces.{place}
+use Rattle.chain_laws.proofs.ChainPlaces.{place, place_offset}
 use Rattle.chain_laws.proofs.ChainCells.{Writer, Wrote, Reader, Unread, Reading, Done, Mover, Rests, Laying, Opening, Passer, Stands, Passing, Entering, Link, Linked, Shown, Seen, Walk, Waits, Unused, Chain, BlocksOk, FrontOk, ChainOk, item_at}
 use Rattle.chain_laws.proofs.ChainFacts.{head_of, open_tail_of, HeadIs, TailIs, IsNamed}
 
@@ -91,6 +91,9 @@ Answers c _ a = ⊥
 pub position_tail : (q : ℕ) (c : Bool) → position_of (tail_of q c) ≡ q
 position_tail q true = omega arith
 position_tail q false = omega arith
+
+pub head_offset : (n : ℕ) (more : Bool) → offset_of (head_of n more) ≡ n % BLOCK_SLOTS
+head_offset n more = ap offset_at (position_tail (place n) more) ∙ place_offset n
 
 pub shut_tail : (q : ℕ) (c : Bool) → is_shut (tail_of q c) ≡ c
 shut_tail q true = eq-eqb ((q * 2 + 1) % 2) 1 (omega arith)

@@ -15,14 +15,13 @@ use Rattle.queue_steps.specs.declared.steps.types.Op.TheVariants as op
 use Rattle.queue_steps.specs.declared.steps.types.Touch.TheVariants as touch
 use Rattle.queue_steps.specs.declared.steps.bounded.TheConstants.{TAIL_STEP}
 use Rattle.queue_steps.specs.declared.steps.unbounded.UnboundedLocal.TheVariants as chain
-use Rattle.chain_laws.proofs.ChainPlaces.{place}
 use Rattle.chain_laws.proofs.ChainCells.{Stands, Passing, Entering, Link, Unlinked, Linking, Linked, Shown, Hidden, Showing, Seen, Reading, Chain, queue_of, FrontOk, ShownOk, LinkOk, ChainOk, put_same, Read, Head, Holds, Nothing}
 use Rattle.chain_laws.proofs.ChainReads as moves
 use Rattle.chain_laws.proofs.ChainReads.{front_is, take_ok, pass_ok, enter_ok}
 use Rattle.chain_laws.proofs.ChainPassesReads.{passes_taken, passes_passed, passes_entered}
 use Rattle.chain_laws.proofs.ChainFacts.{head_of, HeadIs, HeadBlockIs, IsMore, IsNamed, Got}
 use Rattle.chain_laws.proofs.ChainAt.{Either, IsBehind, IsFurther, pop_head, pop_block, pop_tail, taking, following, peeking, entering, awaiting}
-use Rattle.chain_laws.proofs.ChainAnswers.{head_word, shown_of, linked_of, position_tail, head_is_standing, standing_word, same_head}
+use Rattle.chain_laws.proofs.ChainAnswers.{head_word, shown_of, linked_of, head_offset, head_is_standing, standing_word, same_head}
 use Rattle.chain_laws.proofs.ChainGood.{Goes, Good, still, silent}
 use Rattle.chain_laws.proofs.ChainAfter.{if_taken, taken_if}
 use Rattle.chain_laws.proofs.ChainHolds.{after_take, after_take_last, after_pass, after_enter}
@@ -114,15 +113,12 @@ good_taking {A} c who ms n name next more new ok none is front there room = go (
         stood : FrontOk c.head c.front Stands
         stood = subst (λ p. FrontOk c.head c.front p) same.2 ok.fronted
 
-        offset : offset_of (head_of n more) ≡ n % BLOCK_SLOTS
-        offset = ap (λ p. p % 32) (position_tail (place n) more) ∙ (let z : place n % 32 ≡ n % BLOCK_SLOTS = omega arith in z)
-
         at_end : (((offset_of (head_of n more) + 1 == BLOCK_SLOTS) ≡ true) × (offset_of (head_of n more) + 1 ≡ BLOCK_SLOTS)) ⊎ (((offset_of (head_of n more) + 1 == BLOCK_SLOTS) ≡ false) × (offset_of (head_of n more) + 1 ≢ BLOCK_SLOTS))
             → Good c (taken_if c who new true (offset_of (head_of n more) + 1 == BLOCK_SLOTS)) who ms (chain.Taking (head_of n more) name) None call.Pop [] (answer.Found (head_word c))
         at_end (inr t) =
             let f = front_is c ok lt in
             let at_n = same.1 in
-            let off = offset in
+            let off = head_offset n more in
             let good = take_ok c who Stands new f.1.0 ok lt f.1.1 front.0 (let s = stood in let ne = t.1 in omega arith) (λ k s. let r = (room k).1 in let ne = t.1 in omega arith) in
             subst (λ b. Good c (taken_if c who new true b) who ms (chain.Taking (head_of n more) name) None call.Pop [] (answer.Found (head_word c))) (sym t.0) (record {
               e = Some (effect.Take f.1.0);
@@ -137,7 +133,7 @@ good_taking {A} c who ms n name next more new ok none is front there room = go (
         at_end (inl t) =
             let f = front_is c ok lt in
             let at_n = same.1 in
-            let off = offset in
+            let off = head_offset n more in
             let good = take_ok c who (Passing who) new f.1.0 ok lt f.1.1 front.0 (let s = stood in let last = t.1 in omega arith) (λ k s. cc) in
             subst (λ b. Good c (taken_if c who new true b) who ms (chain.Taking (head_of n more) name) None call.Pop [] (answer.Found (head_word c))) (sym t.0) (record {
               e = Some (effect.Take f.1.0);

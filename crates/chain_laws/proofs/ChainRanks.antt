@@ -2,6 +2,7 @@
 use Rattle.std.proofs.Common.{ℕ, ◌+◌, ◌-◌, ◌<◌, ◌≤◌, ◌≡◌, ◌≢◌, ◌==◌, ◌∙◌, Bool, true, false, if◌then◌else◌, Option, Some, None, inl, inr, refl, ap, arith}
 use Rattle.std.proofs.lemmas.Bool.{eq-eqb}
 use Rattle.std.proofs.lemmas.Bool.Decides.{eqb_tells}
+use Rattle.queue_steps.specs.declared.sizes.TheConstants.{BLOCK_SLOTS}
 use Rattle.queue_steps.specs.declared.steps.types.Local.{Local}
 use Rattle.queue_steps.specs.declared.steps.types.Local.TheVariants as local
 use Rattle.queue_steps.specs.declared.steps.types.Next.{Next}
@@ -25,8 +26,8 @@ asking_rank c tail (Some block) = 6 + lag (tail_word c) tail 5
 
 -- the steps of a pop that is to read the tail. Where it saw no block and the first one is shown since, it begins again
 abbrev pub tail_rank : {A : Type 0} → Chain A → ℕ → Option ℕ → ℕ
-tail_rank c head None = if is_seen c.shown then 41 else 1
-tail_rank c head (Some block) = 38 + lag (head_word c) head 3
+tail_rank c head None = if is_seen c.shown then BLOCK_SLOTS + 10 else 1
+tail_rank c head (Some block) = BLOCK_SLOTS + 7 + lag (head_word c) head 3
 
 -- the steps of the walk over a passed block from this slot on
 abbrev pub walk_rank : ℕ → ℕ
@@ -43,15 +44,15 @@ rank c (local.Unbounded (chain.Claiming d tail block spare)) = 5 + lag (tail_wor
 rank c (local.Unbounded (chain.Laying d tail block fresh)) = 4
 rank c (local.Unbounded (chain.Opening d tail block fresh)) = 3
 rank c (local.Unbounded (chain.Chaining d tail block fresh)) = 2
-rank c (local.Unbounded chain.PopHead) = 40
-rank c (local.Unbounded (chain.PopBlock head)) = 39 + lag (head_word c) head 3
+rank c (local.Unbounded chain.PopHead) = BLOCK_SLOTS + 9
+rank c (local.Unbounded (chain.PopBlock head)) = BLOCK_SLOTS + 8 + lag (head_word c) head 3
 rank c (local.Unbounded (chain.PopTail head block)) = tail_rank c head block
-rank c (local.Unbounded (chain.Taking head block)) = 37 + lag (head_word c) head 3
-rank c (local.Unbounded (chain.Following head block)) = 36
-rank c (local.Unbounded (chain.Peeking head block after)) = 35
-rank c (local.Unbounded (chain.Passing head block more)) = 34
-rank c (local.Unbounded (chain.Entering head block)) = 33
-rank c (local.Unbounded (chain.Awaiting head block)) = 32
+rank c (local.Unbounded (chain.Taking head block)) = BLOCK_SLOTS + 6 + lag (head_word c) head 3
+rank c (local.Unbounded (chain.Following head block)) = BLOCK_SLOTS + 5
+rank c (local.Unbounded (chain.Peeking head block after)) = BLOCK_SLOTS + 4
+rank c (local.Unbounded (chain.Passing head block more)) = BLOCK_SLOTS + 3
+rank c (local.Unbounded (chain.Entering head block)) = BLOCK_SLOTS + 2
+rank c (local.Unbounded (chain.Awaiting head block)) = BLOCK_SLOTS + 1
 rank c (local.Unbounded (chain.Reading block slot)) = walk_rank slot
 rank c (local.Unbounded (chain.Walking block slot)) = walk_rank slot
 rank c (local.Unbounded (chain.Destroying block slot)) = walk_rank slot
@@ -63,7 +64,7 @@ rank c _ = 1
 
 -- the most steps that a call has before it, wherever it stands
 abbrev pub longest : ℕ
-longest = 42
+longest = BLOCK_SLOTS + 11
 
 lag_small : (now read more : ℕ) → lag now read more ≤ more
 lag_small now read more = elim (now == read) as (λ b. (if b then 0 else more) ≤ more) [ true ↦ omega arith | false ↦ omega arith ]
@@ -82,7 +83,7 @@ asking_small c tail None = let x = lag_small (tail_word c) tail 5 in either_smal
 asking_small c tail (Some block) = let x = lag_small (tail_word c) tail 5 in omega arith
 
 tail_small : {A : Type 0} (c : Chain A) (head : ℕ) (block : Option ℕ) → tail_rank c head block ≤ longest
-tail_small c head None = either_small (is_seen c.shown) 41 1 longest (omega arith) (omega arith)
+tail_small c head None = either_small (is_seen c.shown) (BLOCK_SLOTS + 10) 1 longest (omega arith) (omega arith)
 tail_small c head (Some block) = let x = lag_small (head_word c) head 3 in omega arith
 
 pub rank_small : {A : Type 0} (c : Chain A) (l : Local ℕ) → rank c l ≤ longest
@@ -119,7 +120,7 @@ asking_some c tail None = either_some (c.blocks == 0) (8 + lag (tail_word c) tai
 asking_some c tail (Some block) = omega arith
 
 tail_some : {A : Type 0} (c : Chain A) (head : ℕ) (block : Option ℕ) → 0 < tail_rank c head block
-tail_some c head None = either_some (is_seen c.shown) 41 1 (omega arith) (omega arith)
+tail_some c head None = either_some (is_seen c.shown) (BLOCK_SLOTS + 10) 1 (omega arith) (omega arith)
 tail_some c head (Some block) = omega arith
 
 -- a call in progress has a step before it

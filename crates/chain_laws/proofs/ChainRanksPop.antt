@@ -30,17 +30,17 @@ standing_slot c stood e =
     absurd (omega (arith, z))
 
 -- V1, and after a head that a pop found in place of the one that it had read
-pub head_falls : {A : Type 0} (c : Chain A) → c.passer ≡ Stands → Falls c (chain_head_found (head_word c)) 40
-head_falls c stood = rw (ne_eqb (offset_of (head_word c)) BLOCK_SLOTS (standing_slot c stood)) (lag_none (head_word c) 39 3 40 (omega arith))
+pub head_falls : {A : Type 0} (c : Chain A) → c.passer ≡ Stands → Falls c (chain_head_found (head_word c)) (BLOCK_SLOTS + 9)
+head_falls c stood = rw (ne_eqb (offset_of (head_word c)) BLOCK_SLOTS (standing_slot c stood)) (lag_none (head_word c) (BLOCK_SLOTS + 8) 3 (BLOCK_SLOTS + 9) (omega arith))
 
 -- V2
-pub pop_block_falls : {A : Type 0} (c : Chain A) (n : ℕ) (more : Bool) → IsMore c n more → Falls c (head_block_found (head_of n more) (shown_of c.shown (c.names c.front))) (39 + lag (head_word c) (head_of n more) 3)
+pub pop_block_falls : {A : Type 0} (c : Chain A) (n : ℕ) (more : Bool) → IsMore c n more → Falls c (head_block_found (head_of n more) (shown_of c.shown (c.names c.front))) (BLOCK_SLOTS + 8 + lag (head_word c) (head_of n more) 3)
 pop_block_falls {A} c n true room =
-    subst (λ s. Falls c (head_block_found (head_of n true) (shown_of s (c.names c.front))) (39 + lag (head_word c) (head_of n true) 3)) (sym (room refl).0)
+    subst (λ s. Falls c (head_block_found (head_of n true) (shown_of s (c.names c.front))) (BLOCK_SLOTS + 8 + lag (head_word c) (head_of n true) 3)) (sym (room refl).0)
     (rw (eq-eqb (head_of n true % 2) 1 (omega arith)) (omega arith))
 pop_block_falls {A} c n false room = go c.shown refl
   where
-    go : (s : Shown) → c.shown ≡ s → Falls c (head_block_found (head_of n false) (shown_of s (c.names c.front))) (39 + lag (head_word c) (head_of n false) 3)
+    go : (s : Shown) → c.shown ≡ s → Falls c (head_block_found (head_of n false) (shown_of s (c.names c.front))) (BLOCK_SLOTS + 8 + lag (head_word c) (head_of n false) 3)
     go Seen e = rw (ne_eqb (head_of n false % 2) 1 (λ z. absurd (omega arith))) (omega arith)
     go Hidden e = rw (ne_eqb (head_of n false % 2) 1 (λ z. absurd (omega arith)), ap is_seen e) (omega arith)
     go (Showing p) e = rw (ne_eqb (head_of n false % 2) 1 (λ z. absurd (omega arith)), ap is_seen e) (omega arith)
@@ -69,18 +69,18 @@ pop_tail_falls {A} c n block ok free is = go block (eqb_tells (position_of (tail
     go None (inr e) = rw (e.0, shown_then c n ok free is e.1) (omega arith)
     go (Some name) (inr e) =
         rw e.0 (elim (block_at (position_of (tail_word c)) == block_at (position_of (head_of n false)))
-        as (λ b. Falls c (if b then takes (head_of n false) name (head_of n false + TAIL_STEP) else takes (head_of n false) name (head_of n false + TAIL_STEP + 1)) (38 + lag (head_word c) (head_of n false) 3))
+        as (λ b. Falls c (if b then takes (head_of n false) name (head_of n false + TAIL_STEP) else takes (head_of n false) name (head_of n false + TAIL_STEP + 1)) (BLOCK_SLOTS + 7 + lag (head_word c) (head_of n false) 3))
         [ true ↦ omega arith | false ↦ omega arith ])
 
 -- V4, won
-got_falls : {A : Type 0} (s : Chain A) (head name : ℕ) → Falls s (steps.taken head name) 37
-got_falls s head name = elim (is_last_slot head) as (λ b. Falls s (if b then steps.follows head name else steps.awaits head name) 37) [ true ↦ omega arith | false ↦ omega arith ]
+got_falls : {A : Type 0} (s : Chain A) (head name : ℕ) → Falls s (steps.taken head name) (BLOCK_SLOTS + 6)
+got_falls s head name = elim (is_last_slot head) as (λ b. Falls s (if b then steps.follows head name else steps.awaits head name) (BLOCK_SLOTS + 6)) [ true ↦ omega arith | false ↦ omega arith ]
 
 -- V4
 pub taking_falls : {A : Type 0} (c : Chain A) (who head name : ℕ) (new : Bool) → c.passer ≡ Stands
-    → Falls (taken_if c who new (head_word c == head) (is_last_slot head)) (if head_word c == head then steps.taken head name else chain_head_found (head_word c)) (37 + lag (head_word c) head 3)
+    → Falls (taken_if c who new (head_word c == head) (is_last_slot head)) (if head_word c == head then steps.taken head name else chain_head_found (head_word c)) (BLOCK_SLOTS + 6 + lag (head_word c) head 3)
 taking_falls c who head name new stood =
-    elim (head_word c == head) as (λ b. Falls (taken_if c who new b (is_last_slot head)) (if b then steps.taken head name else chain_head_found (head_word c)) (37 + (if b then 0 else 3))) [
+    elim (head_word c == head) as (λ b. Falls (taken_if c who new b (is_last_slot head)) (if b then steps.taken head name else chain_head_found (head_word c)) (BLOCK_SLOTS + 6 + (if b then 0 else 3))) [
       | true ↦ got_falls (taken_if c who new true (is_last_slot head)) head name
       | false ↦ head_falls c stood
     ]
@@ -103,9 +103,9 @@ linked_then {A} c who n ok rest free pass = go (c.links (n / BLOCK_SLOTS)) refl 
 
 -- V5
 pub following_falls : {A : Type 0} (c : Chain A) (who n head name : ℕ) → ChainOk c → c.mover ≡ Rests → ((p : ℕ) → linker_of (c.links (n / BLOCK_SLOTS)) ≢ Some p) → (c.passer ≡ Passing who) × (c.head ≡ n + 1)
-    → Falls c (followed head name (linked_of (c.links (n / BLOCK_SLOTS)) (c.names (n / BLOCK_SLOTS + 1)))) 36
+    → Falls c (followed head name (linked_of (c.links (n / BLOCK_SLOTS)) (c.names (n / BLOCK_SLOTS + 1)))) (BLOCK_SLOTS + 5)
 following_falls c who n head name ok rest free pass =
-    subst (λ l. Falls c (followed head name (linked_of l (c.names (n / BLOCK_SLOTS + 1)))) 36) (sym (linked_then c who n ok rest free pass)) (omega arith)
+    subst (λ l. Falls c (followed head name (linked_of l (c.names (n / BLOCK_SLOTS + 1)))) (BLOCK_SLOTS + 5)) (sym (linked_then c who n ok rest free pass)) (omega arith)
 
 -- where nobody is to write the item that a pop claimed, it is written
 pub wrote_then : {A : Type 0} (c : Chain A) (who n : ℕ) → ChainOk c → ((p : ℕ) → writer_of (c.writers n) ≢ Some p) → c.readers n ≡ Reading who → is_wrote (c.writers n) ≡ true
@@ -117,9 +117,9 @@ wrote_then {A} c who n ok free reading = go (c.writers n) refl (subst (λ r. Ite
     go Free e h = absurd h
 
 -- V9
-pub awaiting_falls : {A : Type 0} (c : Chain A) (head name st : ℕ) → (bit_and st WRITE == 0) ≡ false → Falls c (written_found head name st) 32
+pub awaiting_falls : {A : Type 0} (c : Chain A) (head name st : ℕ) → (bit_and st WRITE == 0) ≡ false → Falls c (written_found head name st) (BLOCK_SLOTS + 1)
 awaiting_falls {A} c head name st written = (last (eqb_tells (offset_of head + 1) BLOCK_SLOTS))
   where
-    last : (((offset_of head + 1 == BLOCK_SLOTS) ≡ true) × (offset_of head + 1 ≡ BLOCK_SLOTS)) ⊎ (((offset_of head + 1 == BLOCK_SLOTS) ≡ false) × (offset_of head + 1 ≢ BLOCK_SLOTS)) → Falls c (written_found head name st) 32
+    last : (((offset_of head + 1 == BLOCK_SLOTS) ≡ true) × (offset_of head + 1 ≡ BLOCK_SLOTS)) ⊎ (((offset_of head + 1 == BLOCK_SLOTS) ≡ false) × (offset_of head + 1 ≢ BLOCK_SLOTS)) → Falls c (written_found head name st) (BLOCK_SLOTS + 1)
     last (inl e) = rw (written, e.0) (omega arith)
     last (inr e) = rw (written, e.0) (omega arith)

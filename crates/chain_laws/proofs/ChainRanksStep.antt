@@ -19,9 +19,8 @@ use Rattle.chain_laws.proofs.ChainCells.{Reading, Unread, Chain, ChainOk, item_a
 use Rattle.chain_laws.proofs.ChainReads.{own_item}
 use Rattle.chain_laws.proofs.ChainFacts.{head_of, open_tail_of}
 use Rattle.chain_laws.proofs.ChainAt.{pushes, Only, Either, At, push_tail, push_block, asking, installing, showing, claiming, laying, opening, chaining, writing, spending, pop_head, pop_block, pop_tail, taking, following, peeking, passing, entering, awaiting, reading, beginning, walking, destroying, len_tail, len_head, len_again, empty_head, empty_tail, closing, closed_tail}
-use Rattle.chain_laws.proofs.ChainAnswers.{Answers, IsState, tail_word, is_wrote}
+use Rattle.chain_laws.proofs.ChainAnswers.{Answers, IsState, tail_word, is_wrote, head_offset}
 use Rattle.chain_laws.proofs.ChainAfter.{if_read, if_walked, if_begun, if_destroyed}
-use Rattle.chain_laws.proofs.ChainRead.{head_offset}
 use Rattle.chain_laws.proofs.ChainStep.{chain_of, after_of}
 use Rattle.chain_laws.proofs.ChainRanks.{rank, Falls, lag_none, IsQuiet, unowned}
 use Rattle.chain_laws.proofs.ChainRanksPush.{rests, push_tail_falls, push_block_falls, granted_falls, installing_falls, showing_falls, claiming_falls}

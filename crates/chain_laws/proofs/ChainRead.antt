@@ -18,14 +18,10 @@ use Rattle.chain_laws.proofs.ChainAfter.{if_read}
 use Rattle.chain_laws.proofs.ChainHolds.{after_read, after_read_on}
 use Rattle.queue_steps.specs.UnboundedNext.{written_found}
 use Rattle.queue_steps.specs.ChainWords.{offset_of}
-use Rattle.chain_laws.proofs.ChainPlaces.{place}
 use Rattle.chain_laws.proofs.ChainFacts.{head_of, Got}
 use Rattle.chain_laws.proofs.ChainAt.{Only, IsLast, awaiting, reading, beginning}
-use Rattle.chain_laws.proofs.ChainAnswers.{is_wrote, waits_at, position_tail}
+use Rattle.chain_laws.proofs.ChainAnswers.{is_wrote, waits_at, head_offset}
 use Rattle.chain_laws.proofs.ChainWalk.{after_mine, on_goes}
-
-pub head_offset : (n : ℕ) (more : Bool) → offset_of (head_of n more) ≡ n % BLOCK_SLOTS
-head_offset n more = ap (λ p. p % 32) (position_tail (place n) more) ∙ (let z : place n % 32 ≡ n % BLOCK_SLOTS = omega arith in z)
 
 wrote_is : {A : Type 0} (w : Writer A) (x : A) → value w ≡ Some x → is_wrote w ≡ true → w ≡ Wrote x
 wrote_is Free x e t = cc

@@ -18,7 +18,7 @@ use Rattle.chain_laws.proofs.ChainTransitions.{displayed, laid_out, opened, chai
 use Rattle.chain_laws.proofs.ChainReads.{passed, entered}
 use Rattle.chain_laws.proofs.ChainFacts.{head_of}
 use Rattle.chain_laws.proofs.ChainAt.{At, push_tail, push_block, asking, installing, showing, claiming, laying, opening, chaining, writing, spending, pop_head, pop_block, pop_tail, taking, following, peeking, passing, entering, awaiting, reading, beginning, walking, destroying, len_tail, len_head, len_again, empty_head, empty_tail, closing, closed_tail}
-use Rattle.chain_laws.proofs.ChainAnswers.{Answers, IsState}
+use Rattle.chain_laws.proofs.ChainAnswers.{Answers, IsState, head_offset}
 use Rattle.chain_laws.proofs.ChainAfter.{if_installed, if_claimed, if_taken, if_read, if_begun, if_walked, if_destroyed}
 use Rattle.chain_laws.proofs.ChainGood.{Good}
 use Rattle.chain_laws.proofs.ChainPush.{good_push_tail, good_push_block, good_refused, good_granted}
@@ -26,7 +26,7 @@ use Rattle.chain_laws.proofs.ChainClaim.{good_installing, good_showing, good_cla
 use Rattle.chain_laws.proofs.ChainPop.{good_pop_head, good_pop_block, good_taking, good_following, good_passing, good_entering, read_small}
 use Rattle.chain_laws.proofs.ChainEmpty.{good_pop_tail}
 use Rattle.chain_laws.proofs.ChainPeek.{good_peeking}
-use Rattle.chain_laws.proofs.ChainRead.{good_awaiting, good_reading, head_offset}
+use Rattle.chain_laws.proofs.ChainRead.{good_awaiting, good_reading}
 use Rattle.chain_laws.proofs.ChainBegin.{good_beginning}
 use Rattle.chain_laws.proofs.ChainWalk.{good_walking, good_destroying}
 use Rattle.chain_laws.proofs.ChainLook.{good_closed_tail, good_len_tail, good_len_head, good_len_again, good_empty_head, good_closing}

@@ -81,7 +81,7 @@ walks_on-ends {T} r b carried P named read end (suc k) slot (suc n) sum low =
     (bare_step n (chain.Walking b (slot + 1)) (op.Load (word.State b (slot + 1))) r r carried (answer.Found (bit_or WRITE READ)) (walks_on b (slot + 1)) P (named, omega arith) (λ x y e. e) (rw state refl) (omega arith) refl rest)
 
 -- a pop of the last item of its block passes to the next one, and gives the block up
-pub run-passed : {T : Type 0} (steps : ℕ) (r : Line T) (b after : Name T) (new : ℕ) (x : T) (further : Option (Name T)) (P : Ending T) → 29 < steps → IsWord r.head → offset_of r.head + 1 ≡ BLOCK_SLOTS
+pub run-passed : {T : Type 0} (steps : ℕ) (r : Line T) (b after : Name T) (new : ℕ) (x : T) (further : Option (Name T)) (P : Ending T) → BLOCK_SLOTS - 2 < steps → IsWord r.head → offset_of r.head + 1 ≡ BLOCK_SLOTS
     → Named r b → CanFollow r b → (piece_of r b).next ≡ Some after → CanFollow r after → (piece_of r after).next ≡ further
     → state_in (piece_of r b) (offset_of r.head) ≡ WRITE → item_in (piece_of r b) (offset_of r.head) ≡ Some x → ((j : ℕ) → j + 1 < BLOCK_SLOTS → state_in (piece_of r b) j ≡ bit_or WRITE READ)
     → P (reply.Pop (Ok tt)) (Some b) (Some x) (record r {
@@ -115,4 +115,4 @@ run-passed {T} steps r b after new x further P enough small outer named follow n
     (named, omega arith) (λ x y e. e) (rw written refl) tt (rw last refl)
     (line_step steps (chain.Walking b 0) (touch.Take slot) (op.Load (word.State b 0)) r3 r4 r4 None (Some x) (answer.Found (bit_or WRITE READ)) (walks_on b 0) P
     (named, omega arith, (x, full)) (rw full refl) (named4, omega arith) (λ x y e. e) (rw (read4 0 (omega arith)) refl) (omega arith) refl
-    (walks_on-ends r4 b (Some x) P named4 read4 end 29 0 steps refl enough)))))))
+    (walks_on-ends r4 b (Some x) P named4 read4 end (BLOCK_SLOTS - 2) 0 steps refl enough)))))))

@@ -170,7 +170,7 @@ module _ {T : Type 0} (r : Line T) (i : IsIdle r) (l : Laid r) where
         ((Named-with left first_name emptied first-named first-named.2, number ∙ omega arith, subst Empty (sym got) (all-empty outer)), λ y is. subst After (sym (is ∙ same)) replied)
 
     -- a pop of the last item of its block
-    take-last : (steps new : ℕ) → 29 < steps → taken r % BLOCK_SLOTS + 1 ≡ BLOCK_SLOTS → LineEnds (suc (suc (suc (suc (suc (suc (suc steps))))))) (takes r.head first_name new) r None (Right call.Pop r)
+    take-last : (steps new : ℕ) → BLOCK_SLOTS - 2 < steps → taken r % BLOCK_SLOTS + 1 ≡ BLOCK_SLOTS → LineEnds (suc (suc (suc (suc (suc (suc (suc steps))))))) (takes r.head first_name new) r None (Right call.Pop r)
     take-last steps new enough outer =
         let offset = head-offset r i in
         let cell = front-cell in
@@ -181,7 +181,7 @@ module _ {T : Type 0} (r : Line T) (i : IsIdle r) (l : Laid r) where
         (ap (λ (c : ℕ × Option T). c.0) cell) (ap (λ (c : ℕ × Option T). c.1) cell) (λ j low. ap (λ (c : ℕ × Option T). c.0) (read-cell outer j low)) (pass-ends outer)
 
     -- a pop that claims the front, whatever bit the head gets
-    take-ends : (steps new : ℕ) → 29 < steps → position_of new ≡ position_of r.head + 1 → (new % 2 ≡ 1 → taken r / BLOCK_SLOTS < accepted r / BLOCK_SLOTS)
+    take-ends : (steps new : ℕ) → BLOCK_SLOTS - 2 < steps → position_of new ≡ position_of r.head + 1 → (new % 2 ≡ 1 → taken r / BLOCK_SLOTS < accepted r / BLOCK_SLOTS)
         → LineEnds (suc (suc (suc (suc (suc (suc (suc steps))))))) (takes r.head first_name new) r None (Right call.Pop r)
     take-ends steps new enough up known = go (last_or_not (taken r % BLOCK_SLOTS) BLOCK_SLOTS (omega arith))
       where

@@ -22,8 +22,7 @@ use Rattle.queue_machine.proofs.ChainCoded.{Stands, Coded}
 use Rattle.chain_laws.proofs.ChainCells.{Free, Unread, ItemOk}
 use Rattle.chain_laws.proofs.ChainReads.{front_is, taken}
 use Rattle.chain_laws.proofs.ChainAfter.{taken_if, if_taken}
-use Rattle.chain_laws.proofs.ChainAnswers.{linked_of, same_head}
-use Rattle.chain_laws.proofs.ChainRead.{head_offset}
+use Rattle.chain_laws.proofs.ChainAnswers.{linked_of, same_head, head_offset}
 use Rattle.chain_laws.proofs.ChainFacts.{SawEmpty, HeadWas, SeenIn}
 use Rattle.chain_laws.proofs.ChainAt.{Only, Either, IsBehind, IsFurther, pop_head, pop_block, pop_tail, taking, following, peeking, passing, entering, awaiting, len_tail, len_head, len_again, empty_head, empty_tail, closing, closed_tail}
 use Rattle.queue_machine.proofs.ChainCodesPush.{codes_marked}

@@ -27,8 +27,8 @@ use Rattle.queue_steps.specs.declared.model.Reply.TheVariants as reply
 use Rattle.queue_steps.specs.declared.steps.unbounded.TheConstants.{READ, DESTROY}
 use Rattle.chain_laws.proofs.ChainCells.{Walk, Before, Chained, put_same, WalkOk}
 use Rattle.chain_laws.proofs.ChainReads.{walk_after, reads, walked}
-use Rattle.chain_laws.proofs.ChainAnswers.{is_done, done_is, waits_at, IsState, StateAnswers}
-use Rattle.chain_laws.proofs.ChainRead.{head_offset, waits_is}
+use Rattle.chain_laws.proofs.ChainAnswers.{is_done, done_is, waits_at, IsState, StateAnswers, head_offset}
+use Rattle.chain_laws.proofs.ChainRead.{waits_is}
 use Rattle.chain_laws.proofs.ChainWalk.{after_walker}
 use Rattle.chain_laws.proofs.ChainAt.{Only, IsLast, reading, beginning, walking, destroying}
 use Rattle.queue_machine.specs.declared.blocks.Place.{Place}

@@ -13,7 +13,7 @@ use Rattle.queue_steps.specs.declared.steps.unbounded.UnboundedLocal.TheVariants
 use Rattle.chain_laws.proofs.ChainCells.{Writing, Reading, Laying, Passing, Linking, Showing, Spare, Chain, Part, Write, Read, Tail, Head, Next, First, Passed, writer_of, reader_of, mover_of, passer_of, linker_of, shower_of, Holds, Nothing}
 use Rattle.chain_laws.proofs.ChainFacts.{head_of, open_tail_of, IsNamed, Claimed, Got}
 use Rattle.chain_laws.proofs.ChainAt.{Only, Either}
-use Rattle.chain_laws.proofs.ChainRead.{head_offset}
+use Rattle.chain_laws.proofs.ChainAnswers.{head_offset}
 use Rattle.queue_machine.specs.Blocks.{Block, put_state, put_item, put_next}
 use Rattle.queue_machine.specs.Cells.{block_touched}
 use Rattle.queue_machine.specs.ChainLeft.{reached, settled_at, settled_by}

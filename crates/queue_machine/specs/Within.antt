@@ -48,7 +48,7 @@ EachTold P (e ∷ es) (t ∷ ts) = P e t × EachTold P es ts
 EachTold P _ _ = Unit {0}
 
 -- A run comes from its opening to the book b and goes on over the events es. At b party p is in a call and every other party is between calls. While no
--- call begins and p has not replied, it takes fewer than 64 steps: so it replies by its 64th.
+-- call begins and p has not replied, it takes fewer than LONE_STEPS steps: so it replies by the step of that number.
 abbrev pub LoneCallsReply : Type 0 → Type 0
 LoneCallsReply T = (cap : Option ℕ) (parties : ℕ) (past es : List (Event T)) (told ts : List (Told T)) (b c : Book T) (p : ℕ) (o : Open T)
     → Run cap parties (opening cap) past told b → Run cap parties b es ts c

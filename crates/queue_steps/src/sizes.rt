@@ -10,10 +10,10 @@ pub const MAX_CAPACITY: usize = 1 << 59;
 pub const BLOCK_SLOTS: u64 = 31;
 
 /// How many positions a block takes up: one for each slot, and one that holds nothing.
-pub const BLOCK_POSITIONS: u64 = 32;
+pub const BLOCK_POSITIONS: u64 = BLOCK_SLOTS + 1;
 
-/// How many steps of its own a call takes at most from where it is alone.
-pub const LONE_STEPS: u64 = 64;
+/// How many steps of its own a call takes at most from where it is alone: two for each position of a block, of which a pop may walk over a whole one.
+pub const LONE_STEPS: u64 = 2 * BLOCK_POSITIONS;
 
 /// How many parties may share a queue.
 pub const MAX_PARTIES: u64 = 1 << 31;
