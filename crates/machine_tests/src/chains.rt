@@ -1,13 +1,10 @@
 //! Runs on a chain of blocks, with calls that go on within each other.
 use crate::script::{Script, summarize};
-use queue_machine::replay;
-use queue_machine::types::{EffectKind, Event, Peak, Replay};
+use queue_machine::types::Peak;
 use queue_steps::errors::{ForcePushError, PopError, PushError};
 use queue_steps::model::{Call, Reply};
-use queue_steps::steps::Kind;
 use std::alloc::{AllocError, Global};
 use std::test::Fail;
-use test_allocators::{Refusal, Refusing};
 
 /// The first request refused, and then granted; a step between calls and a stranger's call are skipped.
 #[test]
@@ -38,43 +35,6 @@ fn refused_and_granted(rt: HostRuntime) -> Result<(), Fail> {
     Ok(())
 }
 
-/// Two parties that ask for the first block.
-pub(crate) fn installing(alloc: Global) -> Result<Script, AllocError> {
-    let mut script = Script::new(alloc);
-    script.begin(0, Call::Push(1))?;
-    script.steps(0, 3)?;
-    script.begin(1, Call::Push(2))?;
-    script.steps(1, 3)?;
-    script.run(0)?;
-    script.run(1)?;
-    script.call(0, Call::Len)?;
-    Ok(script)
-}
-
-/// Two parties ask for the first block: one installs its own, and the other gives its own up.
-#[test]
-fn two_installers(rt: HostRuntime) -> Result<(), Fail> {
-    let told = installing(rt.alloc())?.on_chain(2)?;
-    assert_eq!(rt;
-        told.peak,
-        Peak {
-            blocks: 2,
-            bound: 4
-        }
-    );
-    let told = summarize(rt.alloc(), told)?;
-    let effects = [(0usize, EffectKind::Append), (1, EffectKind::Append)];
-    assert_eq!(rt; told.effects.as_slice(), effects.as_slice());
-    let replies = [
-        (0usize, Reply::Push(Ok(()))),
-        (1, Reply::Push(Ok(()))),
-        (0, Reply::Len(2u64 as usize)),
-    ];
-    assert_eq!(rt; told.replies.as_slice(), replies.as_slice());
-    assert_eq!(rt; told.left.as_slice(), [1u64, 2].as_slice());
-    Ok(())
-}
-
 /// A queue that holds the last item of its first block alone.
 fn all_but_one(alloc: Global) -> Result<Script, AllocError> {
     let mut script = Script::new(alloc);
@@ -102,82 +62,6 @@ fn last_item_of_a_block(rt: HostRuntime) -> Result<(), Fail> {
     ];
     assert_eq!(rt; told.replies.len(), 64);
     assert_eq!(rt; told.replies[61..], last[..]);
-    assert!(rt; told.left.is_empty());
-    Ok(())
-}
-
-/// A push that stops while it moves the tail over a block's end, and other calls within it.
-pub(crate) fn stopping(alloc: Global) -> Result<Script, AllocError> {
-    let mut script = Script::new(alloc);
-    script.push_all(0, 1..31)?;
-    script.begin(0, Call::Push(31))?;
-    script.steps(0, 4)?;
-    script.call(2, Call::Len)?;
-    script.call(1, Call::Push(99))?;
-    script.call(2, Call::Close)?;
-    script.run(1)?;
-    script.run(0)?;
-    Ok(script)
-}
-
-/// A push stopped while it moves the tail over a block's end: a look, a close and a push go on within it.
-#[test]
-fn stopped_at_the_end_of_a_block(rt: HostRuntime) -> Result<(), Fail> {
-    let told = stopping(rt.alloc())?.on_chain(3)?;
-    assert_eq!(rt;
-        told.peak,
-        Peak {
-            blocks: 2,
-            bound: 3
-        }
-    );
-    let told = summarize(rt.alloc(), told)?;
-    let last = [
-        (2usize, Reply::Len(31)),
-        (2, Reply::Close(true)),
-        (1, Reply::Push(Err(PushError::Closed(99u64)))),
-        (0, Reply::Push(Ok(()))),
-    ];
-    assert_eq!(rt; told.replies.len(), 34);
-    assert_eq!(rt; told.replies[30..], last[..]);
-    assert_eq!(rt; told.left.len(), 31);
-    Ok(())
-}
-
-/// A pop that stops before it reads the first slot of a block, while another party reads all others.
-pub(crate) fn passing(alloc: Global) -> Result<Script, AllocError> {
-    let mut script = Script::new(alloc);
-    script.push_all(0, 1..32)?;
-    script.begin(0, Call::Pop)?;
-    script.steps(0, 4)?;
-    for _ in 0..30u64 {
-        script.call(1, Call::Pop)?;
-    }
-    Ok(script)
-}
-
-/// The same, and then the pop goes on.
-pub(crate) fn reading(alloc: Global) -> Result<Script, AllocError> {
-    let mut script = passing(alloc)?;
-    script.run(0)?;
-    Ok(script)
-}
-
-/// A pop stopped before it reads the first slot of a block: whoever reads the last slot leaves the block to it, and it gives the block up.
-#[test]
-fn reader_that_gives_the_block_up(rt: HostRuntime) -> Result<(), Fail> {
-    let told = reading(rt.alloc())?.on_chain(2)?;
-    assert_eq!(rt;
-        told.peak,
-        Peak {
-            blocks: 2,
-            bound: 3
-        }
-    );
-    let told = summarize(rt.alloc(), told)?;
-    assert_eq!(rt; told.replies.len(), 62);
-    assert_eq!(rt; told.replies[60], (1usize, Reply::Pop(Ok(31u64))));
-    assert_eq!(rt; told.replies[61], (0usize, Reply::Pop(Ok(1u64))));
     assert!(rt; told.left.is_empty());
     Ok(())
 }

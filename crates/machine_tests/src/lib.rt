@@ -2,8 +2,6 @@
 #![tactic(auto)]
 
 #[cfg(test)]
-mod chain_memory;
-#[cfg(test)]
 mod chains;
 #[cfg(test)]
 mod displacements;

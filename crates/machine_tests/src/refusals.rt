@@ -1,4 +1,4 @@
-//! Requests for room that are refused.
+//! Requests for room, and for blocks, that are refused.
 use queue_machine::replay;
 use queue_machine::types::{Event, Replay};
 use queue_steps::model::Call;
@@ -18,7 +18,7 @@ fn pushed<'a>(heap: &'a Refusing<Global>) -> Result<Replay<u64, &'a Refusing<Glo
     replay(heap, Kind::Bounded(2), 2, events)
 }
 
-/// Each request for room refused in turn: want of memory, and nothing stays allocated.
+/// Each request for room of a ring refused in turn: want of memory, and nothing stays allocated.
 #[test]
 fn each_request_refused(rt: HostRuntime) -> Result<(), Fail> {
     for number in 1..10u64 {
@@ -51,4 +51,52 @@ fn refused_without_a_request(rt: HostRuntime) {
         assert!(rt; run.is_err());
         assert_eq!(rt; heap.requests(), 0);
     }
+}
+
+/// Forty pushes without a capacity, each with as many steps as it needs.
+fn forty_pushes<'a>(
+    heap: &'a Refusing<Global>,
+) -> Result<Replay<u64, &'a Refusing<Global>>, AllocError> {
+    let mut events = Vec::with_capacity(heap, 1024)?;
+    for number in 0..40u64 {
+        events.push(Event::Begin(0, Call::Push(number)))?;
+        for _ in 0..9u64 {
+            events.push(Event::Step(0, true))?;
+        }
+    }
+    replay(heap, Kind::Unbounded, 1, events)
+}
+
+/// Each request for room of a chain refused in turn is want of memory, and no block was asked for.
+#[test]
+fn each_request_for_room_refused(rt: HostRuntime) -> Result<(), Fail> {
+    for number in 1..8u64 {
+        let heap = Refusing::new(rt.alloc(), Refusal::Nth(number));
+        assert!(rt; forty_pushes(&heap).is_err(), "at {number}");
+        assert!(rt;
+            heap.requests() == number && heap.live() == 0,
+            "at {number}"
+        );
+    }
+    Ok(())
+}
+
+/// Each of the two requests for a block refused in turn is want of memory to its push alone: the next push asks again.
+#[test]
+fn each_block_refused(rt: HostRuntime) -> Result<(), Fail> {
+    for number in 8..10u64 {
+        let heap = Refusing::new(rt.alloc(), Refusal::Nth(number));
+        let told = forty_pushes(&heap)?;
+        assert_eq!(rt; told.left.len(), 39, "at {number}");
+        assert_eq!(rt; heap.requests(), 10, "at {number}");
+        drop(told);
+        assert_eq!(rt; heap.live(), 0, "at {number}");
+    }
+    let heap = Refusing::new(rt.alloc(), Refusal::Nth(10));
+    let told = forty_pushes(&heap)?;
+    assert_eq!(rt; told.left.len(), 40);
+    assert_eq!(rt; heap.requests(), 9);
+    drop(told);
+    assert_eq!(rt; heap.live(), 0);
+    Ok(())
 }

@@ -66,11 +66,6 @@ impl Script {
         summarize(alloc, replay(alloc, Kind::Bounded(3), parties, events)?)
     }
 
-    /// The events.
-    pub(crate) fn into_events(self) -> Vec<Event<u64>> {
-        self.events
-    }
-
     /// What is told of the run on a chain of blocks.
     pub(crate) fn on_chain(self, parties: usize) -> Result<Replay<u64>, AllocError> {
         let Script { alloc, events } = self;

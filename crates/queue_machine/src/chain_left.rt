@@ -7,11 +7,8 @@ ghost use Rattle.queue_machine.specs.ChainLeft.{laid, marked, reached, settled_a
 use crate::blocks::{self, Block, Place};
 use crate::machine::{Running, named_block};
 use queue_steps::sizes::BLOCK_POSITIONS;
-use queue_steps::steps::{Local, Touch, UnboundedLocal};
+use queue_steps::steps::{Local, READ, Touch, UnboundedLocal};
 use std::alloc::Allocator;
-
-/// The mark of a slot that is read, in its state.
-const READ: u64 = 2;
 
 /// The slot of a word's position.
 fn slot_of(word: u64) -> usize

@@ -1,4 +1,4 @@
-//! A machine after a list of events, and its words.
+//! The words of a machine after a list of events.
 ghost use Rattle.std.specs.Prelude.{◌≡◌, true, IfOk, IsErr};
 ghost use Rattle.queue_machine.specs.Left.{opening_world};
 ghost use Rattle.queue_machine.specs.Machine.{CanHandle, HasRoom, KeepsRoom, Passes, Plays, world_of};
@@ -40,7 +40,7 @@ fn pass<T: Drop, A: Allocator + Copy>(alloc: A, machine: &mut Machine<T, A>, eve
 /// # Errors
 ///
 /// Where there is no memory, as of a replay.
-pub fn machine_after<T: Drop, A: Allocator + Copy>(
+pub(crate) fn machine_after<T: Drop, A: Allocator + Copy>(
     alloc: A,
     kind: Kind,
     parties: usize,
