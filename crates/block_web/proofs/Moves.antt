@@ -1,5 +1,5 @@
 -- What a step of a seat does to the web, while the invariant is open for that step; and the web's first and last moments. Assumes `Logic`.
-use Rattle.block_web.proofs.Walks.{◌≡◌, ℕ, ◌+◌, ◌*◌, ◌<◌, List, [], ◌∷◌, ◌++◌, set, sym, refl, subst, arith, w64, None, asks, always, cell, alike, compares, Bool, cond, get_elem?, Ura, Ty, ty_int, vint, vnull, ptr_same, has_ty, WT, full_share, Coded, SProp, ent, sep, wand, ex, all, guard, upd, emp, via, apply∗, all_e, upd_i, Lft, Share, Fml, ftrue, fsep, fex, fbor, finv, flft, Logic, sem, ‵, raw, ◌⊛◌, some, given, later, ◌$◌, ◌∵◌, !, qed, by, move, keep, drop, use0, use1, use2, use3, split, split3, fsplit, fsplit3, fjoin, fjoin3, fpick, fpack, pick, learn, check, show, frame, each, assume, suffices, await, rewrite, settle, done, RattleType, Ptr, block_ptr, null_ptr, ptr_val, block_of, count_of, Testable, nothing, word, Block, Sitter, Act, sitter, block, Lives, word_of, with_word, with_next, blocks_after, sitter_after, if_unset, Allows, AllowsLink, Stands, CanFork, CanMerge, LastBlocks, LastBlocksBy, WebId, age, hand_owns, chain_owns, spare_owns, seat_owns, inside_owns, web_owns, SLOTS}
+use Rattle.block_web.proofs.Walks.{puts_back, ◌≡◌, ℕ, ◌+◌, ◌*◌, ◌<◌, List, [], ◌∷◌, ◌++◌, set, sym, refl, subst, arith, w64, None, asks, always, cell, alike, Bool, cond, get_elem?, Ura, Ty, ty_int, vint, vnull, ptr_same, has_ty, WT, full_share, Coded, SProp, ent, sep, wand, ex, all, guard, upd, emp, via, apply∗, all_e, upd_i, Lft, Share, Fml, ftrue, fsep, fex, fbor, finv, flft, Logic, sem, ‵, raw, ◌⊛◌, some, given, later, ◌$◌, ◌∵◌, !, qed, by, move, keep, drop, use0, use1, use2, use3, split, split3, fsplit, fsplit3, fjoin, fjoin3, fpick, fpack, pick, learn, check, show, frame, each, assume, suffices, await, rewrite, settle, done, RattleType, Ptr, block_ptr, null_ptr, ptr_val, block_of, count_of, Testable, nothing, word, Block, Sitter, Act, sitter, block, Lives, word_of, with_word, with_next, blocks_after, sitter_after, if_unset, Allows, AllowsLink, Stands, CanFork, CanMerge, LastBlocks, LastBlocksBy, WebId, age, hand_owns, chain_owns, spare_owns, seat_owns, inside_owns, web_owns, SLOTS}
 use Rattle.std.proofs.Common.{T}
 use Rattle.std.specs.Sync.RawAtomic.Pointer.{asks_ptr}
 use mathlib.Core.Option as maybe
@@ -13,6 +13,10 @@ use Rattle.atomic_table.specs.Seated.{fact, seen, roster, halved, unused}
 use Rattle.atomic_table.proofs.Roster.{Moved, moves, Joined, joins, apart, resets}
 use Rattle.block_web.specs.Web.{State, viewed, Goes}
 use Rattle.block_web.specs.Laid.{state_owns, known_to_all}
+use Rattle.block_web.specs.Links.{leads_to, told_place, IsToldPlace}
+use Rattle.block_web.specs.declared.operation.LinkOperation.{LinkOperation}
+use Rattle.block_web.specs.declared.operation.LinkOperation.TheVariants as does
+use Rattle.block_web.proofs.Turning.{turn_tag, asks_turn}
 use Rattle.block_web.proofs.Borrowed.{word_step, Word-found, link_step, Link-found, null_step, null_tested}
 use Rattle.block_web.proofs.Blocks.{acts, Reworded, word_at, Relinked, link_at, same_word}
 
@@ -96,7 +100,7 @@ module _ {M : Type 1} {𝓤 : Ura M} (𝓛 : Logic 𝓤) (R : RattleType) (token
           use1 𝓛 (‵ (word b e n) ⊛ raw (all 𝓤 (Reworded 𝓛 R token s.blocks k p i))) (word_at 𝓛 R token s.blocks k p i near lies) $ split ! $
           use1 𝓛 (given (T (has_ty (ty_int w64) (vint w64 n)) × WT (vint w64 n)) (‵ (word b e n))) (𝓛.laws.at_wt full_share (ty_int w64) b e (vint w64 n)) $ learn ! (λ typed.
           show ! (Word-found 𝓛 κ q I b e f gain) n $ frame ! $
-          use1 𝓛 (raw (Reworded 𝓛 R token s.blocks k p i (f n))) (all_e 𝓤 (Reworded 𝓛 R token s.blocks k p i) (f n)) $ assume ! (‵ (word b e (f n))) $ use2 𝓛 (‵ W) (apply∗ 𝓤 ⟦ word b e (f n) ⟧ ⟦ W ⟧) $ move ! (1 ∷ []) $
+          assume ! (‵ (word b e (f n))) $ puts_back ! (word b e) (λ j. chain_owns R token (with_word s.blocks k i j)) (f n) $ move ! (1 ∷ []) $
           use1 𝓛 (raw (⟦ W ⟧ -∗ Z)) (all_e 𝓤 Then typed.1.fits) $ move ! (1 ∷ 0 ∷ []) $ by ! (apply∗ 𝓤 ⟦ W ⟧ Z))))))
 
       -- The views after a load that changes no block, with what it leaves.
@@ -142,9 +146,7 @@ module _ {M : Type 1} {𝓤 : Ura M} (𝓛 : Logic 𝓤) (R : RattleType) (token
             use1 𝓛 (‵ (cell b e u) ⊛ raw (all 𝓤 (Relinked 𝓛 R token s.blocks k p))) (link_at 𝓛 R token s.blocks k p r.0) $ split ! $
             use0 𝓛 (some (λ (c : C). given ((was c ≡ u) × (new c ≡ f u)) (‵ (tells c)))) (cases u r.1.0) $ pick ! (λ c. learn ! (λ is. show ! L c $
             rewrite ! 1 (λ (x : Ptr). ‵ (cell b e x)) (sym is.0) refl $ move ! (1 ∷ 0 ∷ []) $ frame ! $ frame ! $
-            assume ! (‵ (cell b e (new c))) $ rewrite ! 0 (λ (x : Ptr). ‵ (cell b e x)) is.1 refl $ move ! (1 ∷ []) $
-            use1 𝓛 (raw (Relinked 𝓛 R token s.blocks k p (f u))) (all_e 𝓤 (Relinked 𝓛 R token s.blocks k p) (f u)) $ move ! (1 ∷ 0 ∷ []) $
-            use2 𝓛 (‵ (chain_owns R token bs)) (apply∗ 𝓤 ⟦ cell b e (f u) ⟧ ⟦ chain_owns R token bs ⟧) $
+            assume ! (‵ (cell b e (new c))) $ rewrite ! 0 (λ (x : Ptr). ‵ (cell b e x)) is.1 refl $ puts_back ! (cell b e) (λ x. chain_owns R token (with_next s.blocks k x)) (f u) $
             by ! (subst (λ (x : Ptr). ⟦ chain_owns R token bs ⟧ ∗ Moves ∗ (⟦ hand_owns R m.hand ⟧ ∗ ⟦ spare_owns R token m.spare ⟧) ⊢ upd 𝓤 (⟦ I ⟧ ∗ ⟦ told φ then x ⟧)) (sym is.0)
             (carries_on s bs id m (λ x. φ u × then u x) (goes.0, goes.1, goes.2, goes.3, (says u r.1.0, goes.4)))))))))
 
@@ -154,27 +156,23 @@ module _ {M : Type 1} {𝓤 : Ura M} (𝓛 : Logic 𝓤) (R : RattleType) (token
         relinks f φ then says law = link_step 𝓛 κ q I b (count_of p + 0) Ptr (λ u. u) f (λ _. ftrue) (told φ then) ⟦ sat id m ⟧ (links_by Ptr (λ u. u) f f (λ _. ftrue) φ then says
             (λ u low. qed 𝓛 (raw (emp 𝓤) ∷ []) ∵ show ! (λ (c : Ptr). guard 𝓤 ((c ≡ u) × (f c ≡ f u)) (emp 𝓤)) u $ check ! (refl, refl) $ done !) law)
 
-        pub follows : (then : Ptr → Sitter S V → Type 0) → AllowsLink holds id m k p (λ u. u) then → A.inv (fbor κ I) ∗ A.lft κ q ∗ ⟦ sat id m ⟧ ⊢ asks_ptr 𝓛 (block_ptr b (count_of p + 0)) (λ u. u) (λ u. fsep (flft κ q) (told Testable then u))
-        follows then law = relinks (λ u. u) Testable then (λ u low. low) law
-
-        pub leads : (new : Ptr) (then : Sitter S V → Type 0) → AllowsLink holds id m k p (λ _. new) (λ _. then)
-            → A.inv (fbor κ I) ∗ A.lft κ q ∗ ⟦ sat id m ⟧ ⊢ asks_ptr 𝓛 (block_ptr b (count_of p + 0)) (λ _. new) (λ _. fsep (flft κ q) (told (λ _. Unit {0}) (λ _. then) new))
-        leads new then law = relinks (λ _. new) (λ _. Unit {0}) (λ _. then) (λ u low. tt) law
-
         null_cond : (new u : Ptr) → cond (ptr_same (ptr_val u) vnull) new u ≡ if_unset new u
         null_cond new (block_ptr c o) = refl
         null_cond new null_ptr = refl
 
-        pub installs : (new : Ptr) (then : Ptr → Sitter S V → Type 0) → AllowsLink holds id m k p (if_unset new) then
-            → A.inv (fbor κ I) ∗ A.lft κ q ∗ ⟦ sat id m ⟧ ⊢ compares 𝓛 (block_ptr b (count_of p + 0)) null_ptr new (λ u. fsep (flft κ q) (told Testable then u)) (λ u. fsep (flft κ q) (told Testable then u))
-        installs new then law = let C : Type 0 = Ptr × Bool in let was : C → Ptr = λ c. c.0 in let new' : C → Ptr = λ c. cond c.1 new c.0 in let tells : C → Fml = λ c. alike c.0 null_ptr c.1 in
+        -- one step on the link
+        pub turns : (op : LinkOperation) (new : Ptr) (then : Ptr → Sitter S V → Type 0) → AllowsLink holds id m k p (leads_to op new) (λ u. then (told_place op new u))
+            → A.inv (fbor κ I) ∗ A.lft κ q ∗ ⟦ sat id m ⟧ ⊢ asks_turn 𝓛 (block_ptr b (count_of p + 0)) new (λ u. fsep (flft κ q) (told (IsToldPlace op new) then u)) (turn_tag op)
+        turns does.Load new then law = relinks (λ u. u) Testable then (λ u low. low) law
+        turns does.Store new then law = relinks (λ _. new) (λ _. new ≡ new) (λ _. then new) (λ u low. refl) law
+        turns does.Install new then law = let C : Type 0 = Ptr × Bool in let was : C → Ptr = λ c. c.0 in let new' : C → Ptr = λ c. cond c.1 new c.0 in let tells : C → Fml = λ c. alike c.0 null_ptr c.1 in
             null_step 𝓛 κ q I b (count_of p + 0) new (told Testable then) ⟦ sat id m ⟧ (links_by C was (if_unset new) new' tells Testable then (λ u low. low)
             (λ u low. let y : Bool = ptr_same (ptr_val u) vnull in qed 𝓛 (raw (emp 𝓤) ∷ []) ∵ show ! (λ (c : C). guard 𝓤 ((was c ≡ u) × (new' c ≡ if_unset new u)) ⟦ tells c ⟧) (u, y) $ check ! (refl, null_cond new u) $ by ! (null_tested 𝓛 u low)) law)
 
         -- a view cut in two
         module _ (l r : V) where
           abbrev pub Two : ℕ → Fml
-          Two j = fsep (sat id (sitter l m.hand m.spare)) (sat j (sitter r None None))
+          Two j = fsep (sat j (sitter r None None)) (sat id (sitter l m.hand m.spare))
 
           pub forks : CanFork holds k p id m.view l r → A.inv (fbor κ I) ∗ A.lft κ q ∗ ⟦ sat id m ⟧ ⊢ asks 𝓛 (block_ptr b (word_place 0)) (λ n. n) always (λ n. fsep (flft κ q) (fex ℕ Two))
           forks law = reads_by 0 (fex ℕ Two) ⟦ sat id m ⟧ (omega arith) (λ s so. let vs : List V = set s.views id l in let Z : Pr = ex 𝓤 (Viewed s.blocks (fex ℕ Two)) in
@@ -182,7 +180,7 @@ module _ {M : Type 1} {𝓤 : Ura M} (𝓛 : Logic 𝓤) (R : RattleType) (token
               use2 𝓛 (given (Found-view s) (raw (all 𝓤 (Moved 𝓛 cv γ 0 s.views id id)))) (moves 𝓛 cv γ s.views 0 id id m.view (omega arith)) $ learn ! (λ at. let good = law s so at in check ! good.0 $
               use1 𝓛 (raw (Moved 𝓛 cv γ 0 s.views id id l)) (all_e 𝓤 (Moved 𝓛 cv γ 0 s.views id id) l) $ settle 𝓛 Z (‵ (roster cv.code γ 0 vs) ⊛ ‵ (part id l)) $ split ! $
               use1 𝓛 (raw (upd 𝓤 (ex 𝓤 (Joined 𝓛 cv γ 0 vs r)))) (joins 𝓛 cv γ vs 0 r) $ settle 𝓛 Z (some (λ (j : ℕ). ‵ (roster cv.code γ 0 (vs ++ r ∷ [])) ⊛ ‵ (part j r))) $ pick ! (λ j. split ! $ suffices ! _ (upd_i 𝓤 Z) $
-              show ! (Viewed s.blocks (fex ℕ Two)) (vs ++ r ∷ []) $ check ! good.1 $ frame ! $ show ! (λ (x : ℕ). ⟦ Two x ⟧) j $ nothing ! $ nothing ! $ move ! (2 ∷ 0 ∷ 1 ∷ []) $ fjoin3 ! $ move ! (1 ∷ 2 ∷ 3 ∷ []) $ fjoin3 ! $ done !)))
+              show ! (Viewed s.blocks (fex ℕ Two)) (vs ++ r ∷ []) $ check ! good.1 $ frame ! $ show ! (λ (x : ℕ). ⟦ Two x ⟧) j $ nothing ! $ nothing ! $ move ! (2 ∷ 0 ∷ 1 ∷ []) $ fjoin3 ! $ move ! (1 ∷ 2 ∷ 3 ∷ []) $ fjoin3 ! $ move ! (1 ∷ 0 ∷ []) $ fjoin ! $ done !)))
 
         -- a view taken in
         module _ (other : ℕ) (it : Sitter S V) (both spent : V) where

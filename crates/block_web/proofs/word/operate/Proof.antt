@@ -1,5 +1,5 @@
 -- `operate` is one step for each operation.
-use Rattle.block_web.proofs.Walks.{ℕ, ◌^◌, ◌<◌, List, [], ◌∷◌, refl, lit<, w64, a_type, dcons, dnil, Val, vint, inst_fn, SProp, ent, Fml, WpFn, Wp, after_seq, at_return, mean, ‵, raw, ◌⊛◌, at_ret, any_q, ◌$◌, ◌∵◌, !, qed, by, keep, use1, split, fjoin, feq_i, flt_i, stop, fld, lit, of_opd, no_more, and_then, first, blocks, exec, Calls-last, returns, enter, alloc_all, pass_all, free_all, look_at, get, get_tag, sets, sets_last, lands_last, env, vrt, agg, all_of_it, switches_on, tables, fact, yes, owns, types_at, plain, Ptr, RawPtr, ptr_val, rawptr_vals, rawptr_Tells, nothing, bounded, u64, uint_vals, uint_Tells, alive, Stays, stay_dropped, walk_of, Goes-dropped, proved, leaves, fm, seq_cst, found, stored, finds, has_stored, loads, stores, adds, subs, ors, ands, exchanges, asks, always, head, after, arm_body, ptr_good}
+use Rattle.block_web.proofs.Walks.{ℕ, ◌^◌, ◌<◌, List, [], ◌∷◌, refl, lit<, w64, a_type, dcons, dnil, Val, vint, inst_fn, SProp, ent, Fml, WpFn, Wp, after_seq, at_return, mean, ‵, raw, ◌⊛◌, at_ret, any_q, ◌$◌, ◌∵◌, !, qed, by, keep, use1, split, stop, fld, lit, of_opd, no_more, and_then, first, blocks, exec, Calls-last, returns, enter, alloc_all, pass_all, free_all, look_at, get, get_tag, sets, sets_last, lands_last, env, vrt, agg, all_of_it, switches_on, tables, fact, yes, owns, types_at, plain, Ptr, RawPtr, ptr_val, rawptr_vals, rawptr_Tells, bounded, u64, uint_vals, uint_Tells, alive, Stays, stay_dropped, walk_of, Goes-dropped, proved, leaves, fm, seq_cst, found, stored, finds, has_stored, loads, stores, adds, subs, ors, ands, exchanges, asks, always, head, after, arm_body, ptr_good, numbers, spends}
 use types.Kit.{Sq, prop}
 use Rattle.block_web.specs.Words.{becomes, told}
 use Rattle.block_web.specs.declared.operation.Operation.{Operation}
@@ -25,7 +25,7 @@ operate_spec 𝓤 𝓛 𝓜 𝓡 wired O _ g d _ =
     let out : Operation → ℕ → Fml = λ op n. g.after (told op x n) in let tokens : SProp 𝓤 = alive 𝓛 goal.signature κs qs in
     let Pre : Operation → SProp 𝓤 = λ op. W.pre (y op) in let args : Operation → Fml = λ op. owns (types_at goal.signature.params κs) (p, (op, (x, (z, tt)))) (y op).0.4 in
     let ends : (op : Operation) (n : ℕ) → n < 2 ^ 64 → Sq 𝓛 (‵ (g.after n) ∷ raw tokens ∷ []) (prop (Post op (vint w64 n))) = λ op n fits.
-    flt_i ! n (2 ^ 64) fits $ feq_i ! (List Val) (vint w64 n ∷ []) (vint w64 n ∷ []) refl $ fjoin ! $ nothing ! $ nothing ! $ fjoin ! $ nothing ! $ fjoin ! $ nothing ! $ fjoin ! $ nothing ! $ fjoin ! $
+    numbers ! n fits $ spends ! 4 $
     keep ! (3 ∷ 0 ∷ 1 ∷ 2 ∷ []) $ by ! (leaves 𝓛 goal kept_of c (y op) (vint w64 n) n (tt, (tt, (tt, (tt, tt)))) (tt, (tt, (tt, (tt, tt))))) in
     elim a.1.0 as (λ (op : Operation). ent 𝓤 (Pre op) (WpFn 𝓤 H 𝓣.C 𝓣.Λ mir (us op) (Post op))) [
       | does.Load ↦ qed 𝓛 ((raw tokens ⊛ ‵ (args does.Load)) ∷ raw (fact 𝓤 _) ∷ raw (asks 𝓛 p (becomes does.Load x z) always (out does.Load)) ∷ []) ∵ split ! $ keep ! (3 ∷ 0 ∷ []) $

@@ -1,5 +1,5 @@
 -- `tested` asks the allocator, and hands the block on.
-use Rattle.block_web.proofs.Walks.{◌≡◌, ℕ, List, [], ◌∷◌, length, sym, refl, ap, Ty, a_type, dcons, dnil, named, ty_ptr, Val, vptr, inst_fn, bare, left, right, SProp, emp, id⊢, Lft, Share, Fml, ftrue, fsep, flft, Incl-trans, ‵, raw, ◌⊛◌, some, later, ◌$◌, ◌∵◌, !, qed, by, move, keep, drop, use0, use1, use2, split, split3, join, fsplit, fsplit3, fjoin, fjoin3, pick, await, rewrite, feq_i, stop, fld, of_opd, no_more, and_then, returns, enter, alloc_all, pass_all, free_all, look_at, get, get_in, sets, lands_as, agg, sub, all_of_it, tables, fact, fact_i, ◌⊑◌, ⊑_refl, yes, no, RattleType, owns, types_at, plain, Ptr, ptr_val, Testable, nothing, heard, only, param, bounded, RefOf, unit, shr_vals, shr_Tells, Tuple, calls_at, triple_of, Stays, stay_dropped, walk_of, Goes-dropped, Good-round, proved, leaves, fm, Block, alive_at, edge, rim, block_owns, block_ty, SLOTS, ptr_good, blank_val, place_val, Blank, blank_told, blank_made, place_told}
+use Rattle.block_web.proofs.Walks.{◌≡◌, ℕ, List, [], ◌∷◌, length, sym, refl, ap, Ty, a_type, dcons, dnil, named, ty_ptr, Val, vptr, inst_fn, bare, left, right, SProp, emp, id⊢, Lft, Share, Fml, ftrue, fsep, flft, Incl-trans, ‵, raw, ◌⊛◌, some, later, ◌$◌, ◌∵◌, !, qed, by, move, keep, drop, use0, use1, use2, split, split3, join, fsplit, fsplit3, fjoin, fjoin3, pick, await, rewrite, feq_i, stop, fld, of_opd, no_more, and_then, returns, enter, alloc_all, pass_all, free_all, look_at, get, get_in, sets, lands_as, agg, sub, all_of_it, tables, fact, fact_i, ◌⊑◌, ⊑_refl, yes, no, RattleType, owns, types_at, plain, Ptr, ptr_val, Testable, nothing, heard, only, param, bounded, RefOf, unit, shr_vals, shr_Tells, Tuple, calls_at, triple_of, Stays, stay_dropped, walk_of, Goes-dropped, Good-round, proved, leaves, fm, Block, alive_at, edge, rim, block_owns, block_ty, SLOTS, ptr_good, blank_val, place_val, blank_told, place_told, tells, blank, spends}
 use types.Kit.{feq_l}
 use Rattle.block_web.specs.contracts.block.Link as link
 use Rattle.block_web.specs.contracts.block.Loose as loose
@@ -43,6 +43,6 @@ tested_spec 𝓤 𝓛 𝓜 𝓡 wired S A L LA ga da dd gl dl met _ metl =
     move ! (3 ∷ 0 ∷ []) $ fjoin ! $ use1 𝓛 (‵ (edge R token h.homes p)) (parts.edges 𝓛 R token h.homes p asked.2) $ move ! (3 ∷ 4 ∷ 0 ∷ []) $ fjoin3 ! $ move ! (3 ∷ 4 ∷ 0 ∷ []) $ fjoin3 ! $
     rewrite ! 0 (λ (u : A.Denot × Ptr). ‵ (block_owns R (ga.dealloc_token u.0) (x u.1))) (λ i. (sym asked.0 i, sym asked.1 i)) refl $
     sets ! (agg ! (no_more !)) refl (tt, tt) $ sets ! (agg ! (and_then ! (get ! refl) (no_more !))) refl (tt, (tt, tt)) $
-    use0 𝓛 (‵ ((Blank (Tuple (R ∷ Z ∷ []))).own_val (record {}, tt) (blank_val ∷ []))) (blank_made (Tuple (R ∷ Z ∷ [])) 𝓛) $ fjoin ! $
-    move ! (1 ∷ 3 ∷ []) $ join ! $ use0 𝓛 (raw (fact 𝓤 (Testable p))) (fact_i 𝓤 (Testable p) (emp 𝓤) low) $ use0 𝓛 (raw (fact 𝓤 (h ≡ h))) (fact_i 𝓤 (h ≡ h) (emp 𝓤) refl) $ join ! $
-    nothing ! $ nothing ! $ fjoin ! $ nothing ! $ fjoin ! $ nothing ! $ fjoin ! $ returns ! (look_at ! 0 refl) $ free_all ! refl $ keep ! (2 ∷ 0 ∷ 3 ∷ 1 ∷ []) $ by ! (leaves 𝓛 goal kept_of c y blank_val h (tt, (tt, (tt, tt))) (tt, (tt, (tt, tt)))))))))))))
+    blank ! (Tuple (R ∷ Z ∷ [])) $
+    move ! (1 ∷ 3 ∷ []) $ join ! $ tells ! (Testable p) low $ tells ! (h ≡ h) refl $ join ! $
+    spends ! 3 $ returns ! (look_at ! 0 refl) $ free_all ! refl $ keep ! (2 ∷ 0 ∷ 3 ∷ 1 ∷ []) $ by ! (leaves 𝓛 goal kept_of c y blank_val h (tt, (tt, (tt, tt))) (tt, (tt, (tt, tt)))))))))))))

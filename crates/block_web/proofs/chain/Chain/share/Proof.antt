@@ -1,5 +1,5 @@
 -- `share` begins the web's lifetime, and lends the blocks to its invariant.
-use Rattle.block_web.proofs.Walks.{◌≡◌, List, [], ◌∷◌, refl, None, Ty, a_type, dcons, dnil, named, Val, vptr, vstruct, vcons, vnil, inst_fn, Coded, SProp, emp, Fml, ‵, raw, ◌⊛◌, some, later, ◌$◌, ◌∵◌, !, qed, by, move, keep, drop, use0, use1, split, join, fsplit, fjoin, fjoin3, fpack, pick, await, feq_i, no_more, and_then, returns, enter, alloc_all, pass_all, free_all, look_at, get, sets, env, agg, tables, fact, fact_i, yes, no, RattleType, Valss, owns, types_at, plain, Ptr, RawPtr, nothing, heard, param, bounded, RefOf, shr_vals, shr_Tells, within, Tuple, tuple_type, alive, Stays, stay_dropped, walk_of, Goes-dropped, proved, leaves, Block, sitter, WebId, seat_owns, web_owns, blank_val, Blank, blank_told, blank_made}
+use Rattle.block_web.proofs.Walks.{◌≡◌, List, [], ◌∷◌, refl, None, Ty, a_type, dcons, dnil, named, Val, vptr, vstruct, vcons, vnil, inst_fn, Coded, SProp, Fml, ‵, raw, ◌⊛◌, some, later, ◌$◌, ◌∵◌, !, qed, by, move, keep, drop, use1, split, join, fsplit, fjoin, fjoin3, fpack, pick, await, feq_i, no_more, and_then, returns, enter, alloc_all, pass_all, free_all, look_at, get, sets, env, agg, tables, fact, yes, no, RattleType, Valss, owns, types_at, plain, Ptr, RawPtr, nothing, heard, param, bounded, RefOf, shr_vals, shr_Tells, within, Tuple, tuple_type, alive, Stays, stay_dropped, walk_of, Goes-dropped, proved, leaves, Block, sitter, WebId, seat_owns, web_owns, blank_val, blank_told, tells, blank, spends}
 use denote.Struct.Declared as declared
 use Rattle.block_web.specs.contracts.web.Web as web
 use Rattle.block_web.specs.contracts.web.Seat as seat
@@ -33,8 +33,8 @@ share_spec 𝓤 𝓛 𝓜 𝓡 wired S A V K P _ _ _ _ _ ga da dd g d _ _ _ =
     sets ! (agg ! (no_more !)) refl (tt, tt) $ sets ! (agg ! (and_then ! (get ! refl) (no_more !))) refl (tt, (tt, tt)) $
     sets ! (agg ! (no_more !)) refl (tt, tt) $ sets ! (agg ! (and_then ! (get ! refl) (no_more !))) refl (tt, (tt, tt)) $
     sets ! (agg ! (and_then ! (get ! refl) (and_then ! (get ! refl) (no_more !)))) refl (tt, ((tt, tt), ((tt, tt), tt))) $
-    use0 𝓛 (‵ ((Blank RawPtr).own_val (record {}, tt) (blank_val ∷ []))) (blank_made RawPtr 𝓛) $ fjoin ! $ move ! (1 ∷ []) $
-    use0 𝓛 (‵ ((Blank (Tuple (R ∷ W ∷ Z ∷ []))).own_val (record {}, tt) (blank_val ∷ []))) (blank_made (Tuple (R ∷ W ∷ Z ∷ [])) 𝓛) $ fjoin ! $ nothing ! $ move ! (2 ∷ 1 ∷ 0 ∷ []) $ fjoin3 ! $ feq_i ! (List Val) (pair ∷ []) (pair ∷ []) refl $ fjoin ! $
+    blank ! RawPtr $ move ! (1 ∷ []) $
+    blank ! (Tuple (R ∷ W ∷ Z ∷ [])) $ nothing ! $ move ! (2 ∷ 1 ∷ 0 ∷ []) $ fjoin3 ! $ feq_i ! (List Val) (pair ∷ []) (pair ∷ []) refl $ fjoin ! $
     fpack ! (Valss (Web ∷ Seat ∷ [])) (within (declared.shape (tuple_type (Web ∷ Seat ∷ []))) (w, (r, tt)) (pair ∷ [])) (blank_val ∷ [], (blank_val ∷ [], tt)) $
-    use0 𝓛 (raw (fact 𝓤 Seated)) (fact_i 𝓤 Seated (emp 𝓤) (refl, refl, refl, refl)) $ use0 𝓛 (raw (fact 𝓤 Made)) (fact_i 𝓤 Made (emp 𝓤) (refl, refl)) $ join ! $ nothing ! $ nothing ! $ fjoin ! $ nothing ! $ fjoin ! $
+    tells ! Seated (refl, refl, refl, refl) $ tells ! Made (refl, refl) $ join ! $ spends ! 2 $
     returns ! (look_at ! 0 refl) $ free_all ! refl $ keep ! (3 ∷ 0 ∷ 2 ∷ 1 ∷ []) $ by ! (leaves 𝓛 goal kept_of c y pair (w, r) (tt, (tt, tt)) (tt, (tt, tt)))))))

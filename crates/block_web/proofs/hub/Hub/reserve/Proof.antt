@@ -1,5 +1,5 @@
 -- `reserve` asks the allocator for room, cuts it into the parts of both ends, and writes their links and words.
-use Rattle.block_web.proofs.Walks.{◌≡◌, ℕ, ◌+◌, ◌*◌, true, false, List, [], ◌∷◌, replicate, sym, refl, ap, arith, lit<, w64, Ty, Body, a_type, dcons, dnil, named, Val, vint, vptr, vstruct, vcons, vnil, WT, inst_fn, bare, SProp, emp, Lft, Share, Fml, ftrue, fsep, fwand, froom, flft, Incl-trans, align, Wp, after_seq, at_return, ‵, raw, ◌⊛◌, later, at_ret, any_q, ◌$◌, ◌∵◌, !, qed, by, move, keep, drop, use0, use1, use2, split, join, fsplit, fsplit3, fjoin, fpack, await, feq_i, stop, fld, addr, lit, of_opd, no_more, and_then, first, blocks, exec, returns, enter, assigns_last, assigns, init, switches_on, alloc_all, pass_all, free_all, look_at, get, get_in, get_tag, through, sets, sets_last, lands_as, is, env, live, vrt, in_variant, agg, rep, all_of_it, tables, fact, fact_i, ◌⊑◌, yes, RattleType, Valss, owns, types_at, plain, Ptr, block_ptr, null_ptr, InBlock, nothing, heard, param, bounded, RefOf, usize, shr_vals, shr_Tells, uint_vals, uint_Tells, makes_shadow, within, Tuple, tuple_type, calls_at, Stays, stay_dropped, walk_of, Goes-dropped, Ok, Err, row, proved, leaves, fm, Home, alive_at, Small, Sized, hub_ty, hub_rooms, hub_size, SLOTS, head, after, arm_body, ptr_good, blank_val, place_val, Blank, blank_made, place_made, ok_of, err_of}
+use Rattle.block_web.proofs.Walks.{◌≡◌, ℕ, ◌+◌, ◌*◌, true, false, List, [], ◌∷◌, replicate, sym, refl, ap, arith, lit<, w64, Ty, Body, a_type, dcons, dnil, named, Val, vint, vptr, vstruct, vcons, vnil, WT, inst_fn, bare, SProp, Lft, Share, Fml, ftrue, fsep, fwand, froom, flft, Incl-trans, align, Wp, after_seq, at_return, ‵, raw, ◌⊛◌, later, at_ret, any_q, ◌$◌, ◌∵◌, !, qed, by, move, keep, drop, use0, use1, use2, split, join, fsplit, fsplit3, fjoin, fpack, await, feq_i, stop, fld, addr, lit, of_opd, no_more, and_then, first, blocks, exec, returns, enter, assigns_last, assigns, init, switches_on, alloc_all, pass_all, free_all, look_at, get, get_in, get_tag, through, sets, sets_last, lands_as, is, env, live, vrt, in_variant, agg, rep, all_of_it, tables, fact, ◌⊑◌, yes, RattleType, Valss, owns, types_at, plain, Ptr, block_ptr, null_ptr, InBlock, nothing, heard, param, bounded, RefOf, usize, shr_vals, shr_Tells, uint_vals, uint_Tells, makes_shadow, within, Tuple, tuple_type, calls_at, Stays, stay_dropped, walk_of, Goes-dropped, Ok, Err, row, proved, leaves, fm, Home, alive_at, Small, Sized, hub_ty, hub_rooms, hub_size, SLOTS, head, after, arm_body, ptr_good, blank_val, place_val, place_made, ok_of, err_of, tells, blank, spends}
 use Rattle.std.proofs.alloc.Calls.{Al as Handle, Answer-typed, Takes, at_takes, Answered, Takes-goes, Takes-gives, answers}
 use denote.Struct.Declared as declared
 use Rattle.std.specs.contracts.result.Result as Res
@@ -53,18 +53,18 @@ reserve_spec 𝓤 𝓛 𝓜 𝓡 wired S A L LA ga da dd met _ =
     sets ! (agg ! (and_then ! (get ! refl) (no_more !))) refl (tt, (tt, tt)) $ sets ! (agg ! (and_then ! (get ! refl) (no_more !))) refl (tt, (tt, tt)) $ sets ! (agg ! (and_then ! (get ! refl) (no_more !))) refl (tt, (tt, tt)) $ sets ! (agg ! (and_then ! (get ! refl) (no_more !))) refl (tt, (tt, tt)) $
     sets ! (agg ! (and_then ! (get ! refl) (and_then ! (get ! refl) (and_then ! (get ! refl) (and_then ! (get ! refl) (and_then ! (get ! refl) (no_more !))))))) refl (tt, five_good) $
     sets_last ! (agg ! (and_then ! (lit ! tt) (and_then ! (get ! refl) (no_more !)))) refl (tt, good) $ exec ! 𝓣.C 𝓣.Λ locals (after 2 mir.body) (at_ret locals Post) $ sets ! (of_opd ! (get ! refl)) refl (tt, good) $
-    move ! (1 ∷ []) $ use1 𝓛 (‵ (row b (o' + 8) ns)) (parts.zeroed 𝓛 b (o' + 8)) $ nothing ! $ nothing ! $ fjoin ! $ move ! (1 ∷ 0 ∷ []) $ fjoin ! $ move ! (1 ∷ 0 ∷ []) $ fjoin ! $ nothing ! $ fpack ! (Sized R (alive_at p' null_ptr ns [])) (λ _. ftrue) (tt, small, refl, omega arith) $ fjoin ! $ use0 𝓛 (‵ ((Blank (Tuple (R ∷ Z ∷ []))).own_val (record {}, tt) (blank_val ∷ []))) (blank_made (Tuple (R ∷ Z ∷ [])) 𝓛) $ fjoin ! $
-    move ! (2 ∷ []) $ use1 𝓛 (‵ (row b (o + 8) ns)) (parts.zeroed 𝓛 b (o + 8)) $ nothing ! $ nothing ! $ fjoin ! $ move ! (1 ∷ 0 ∷ []) $ fjoin ! $ move ! (2 ∷ 0 ∷ []) $ fjoin ! $ nothing ! $ fpack ! (Sized R (alive_at p null_ptr ns [])) (λ _. ftrue) (tt, small, refl, omega arith) $ fjoin ! $ use0 𝓛 (‵ ((Blank (Tuple (R ∷ Z ∷ []))).own_val (record {}, tt) (blank_val ∷ []))) (blank_made (Tuple (R ∷ Z ∷ [])) 𝓛) $ fjoin ! $
-    move ! (2 ∷ []) $ use0 𝓛 (‵ ((Blank (Tuple (R ∷ Z ∷ []))).own_val (record {}, tt) (blank_val ∷ []))) (blank_made (Tuple (R ∷ Z ∷ [])) 𝓛) $ fjoin ! $ nothing ! $ move ! (3 ∷ 0 ∷ []) $ fjoin ! $ use0 𝓛 (‵ (Link.own_val (record { ptr = p' }) (place_val p' ∷ []))) (place_made R 𝓛 p') $ fjoin ! $ move ! (2 ∷ 0 ∷ []) $ fjoin ! $
+    move ! (1 ∷ []) $ use1 𝓛 (‵ (row b (o' + 8) ns)) (parts.zeroed 𝓛 b (o' + 8)) $ nothing ! $ nothing ! $ fjoin ! $ move ! (1 ∷ 0 ∷ []) $ fjoin ! $ move ! (1 ∷ 0 ∷ []) $ fjoin ! $ nothing ! $ fpack ! (Sized R (alive_at p' null_ptr ns [])) (λ _. ftrue) (tt, small, refl, omega arith) $ fjoin ! $ blank ! (Tuple (R ∷ Z ∷ [])) $
+    move ! (2 ∷ []) $ use1 𝓛 (‵ (row b (o + 8) ns)) (parts.zeroed 𝓛 b (o + 8)) $ nothing ! $ nothing ! $ fjoin ! $ move ! (1 ∷ 0 ∷ []) $ fjoin ! $ move ! (2 ∷ 0 ∷ []) $ fjoin ! $ nothing ! $ fpack ! (Sized R (alive_at p null_ptr ns [])) (λ _. ftrue) (tt, small, refl, omega arith) $ fjoin ! $ blank ! (Tuple (R ∷ Z ∷ [])) $
+    move ! (2 ∷ []) $ blank ! (Tuple (R ∷ Z ∷ [])) $ nothing ! $ move ! (3 ∷ 0 ∷ []) $ fjoin ! $ use0 𝓛 (‵ (Link.own_val (record { ptr = p' }) (place_val p' ∷ []))) (place_made R 𝓛 p') $ fjoin ! $ move ! (2 ∷ 0 ∷ []) $ fjoin ! $
     use0 𝓛 (‵ (Link.own_val (record { ptr = p }) (place_val p ∷ []))) (place_made R 𝓛 p) $ fjoin ! $ move ! (1 ∷ 0 ∷ []) $ fjoin ! $ feq_i ! (List Val) (five ∷ []) (five ∷ []) refl $ fjoin ! $
     fpack ! (Valss (Hub ∷ Link ∷ Loose ∷ Link ∷ Loose ∷ [])) (within (declared.shape (tuple_type (Hub ∷ Link ∷ Loose ∷ Link ∷ Loose ∷ []))) (x, (record { ptr = p }, (end p, (record { ptr = p' }, (end p', tt))))) (five ∷ [])) (blank_val ∷ [], (place_val p ∷ [], (blank_val ∷ [], (place_val p' ∷ [], (blank_val ∷ [], tt))))) $
     use1 𝓛 (‵ (Out.own_val (Ok made) (val ∷ []))) (ok_of 𝓛 Five refusal.the_row made five) $
-    use0 𝓛 (raw (fact 𝓤 (End p'))) (fact_i 𝓤 (End p') (emp 𝓤) (refl, refl, refl, refl, refl)) $ use0 𝓛 (raw (fact 𝓤 (End p))) (fact_i 𝓤 (End p) (emp 𝓤) (refl, refl, refl, refl, refl)) $ join ! $ use0 𝓛 (raw (fact 𝓤 Both)) (fact_i 𝓤 Both (emp 𝓤) (refl, refl, tt, refl)) $ join ! $ nothing ! $ nothing ! $ fjoin ! $ nothing ! $ fjoin ! $
+    tells ! (End p') (refl, refl, refl, refl, refl) $ tells ! (End p) (refl, refl, refl, refl, refl) $ join ! $ tells ! Both (refl, refl, tt, refl) $ join ! $ spends ! 2 $
     returns ! (look_at ! 0 refl) $ free_all ! refl $ keep ! (3 ∷ 0 ∷ 2 ∷ 1 ∷ []) $ by ! (leaves 𝓛 goal kept_of c y val (Ok made) (tt, (tt, tt)) (tt, (tt, tt))))
     (λ e. let val : Val = live 1 (vcons (vstruct vnil) vnil) in let good : WT val = (record { fits = lit< tt }, (tt, tt)) in let F : Fml = refusal.the_row.own_val (record {}) (vstruct vnil ∷ []) in let Nil : Type 0 = Unit {0} in
     lands_as ! e refl (Answer-typed false 0 0) $ first ! $ switches_on ! (get_tag ! (vrt ! refl (fld ! refl (stop !))) (all_of_it !)) $ exec ! 𝓣.C 𝓣.Λ locals (arm_body 1 both) Then $
     sets ! (of_opd ! (get_in ! (vrt ! refl (fld ! refl (stop !))) (in_variant ! 1 0 refl refl (all_of_it !)))) refl (tt, tt) $
     sets_last ! (agg ! (and_then ! (lit ! tt) (and_then ! (get ! refl) (no_more !)))) refl (tt, good) $ exec ! 𝓣.C 𝓣.Λ locals (after 2 mir.body) (at_ret locals Post) $ sets ! (of_opd ! (get ! refl)) refl (tt, good) $
     use0 𝓛 (‵ F) (makes_shadow 𝓛 F (λ uss. (tt, tt)) (tt, (refl, tt))) $ use1 𝓛 (‵ (Out.own_val (Err (record {})) (val ∷ []))) (err_of 𝓛 Five refusal.the_row (record {}) (vstruct vnil)) $
-    use0 𝓛 (raw (fact 𝓤 Nil)) (fact_i 𝓤 Nil (emp 𝓤) tt) $ use0 𝓛 (raw (fact 𝓤 Nil)) (fact_i 𝓤 Nil (emp 𝓤) tt) $ join ! $ use0 𝓛 (raw (fact 𝓤 Nil)) (fact_i 𝓤 Nil (emp 𝓤) tt) $ join ! $ nothing ! $ nothing ! $ fjoin ! $ nothing ! $ fjoin ! $
+    tells ! Nil tt $ tells ! Nil tt $ join ! $ tells ! Nil tt $ join ! $ spends ! 2 $
     returns ! (look_at ! 0 refl) $ free_all ! refl $ keep ! (3 ∷ 0 ∷ 2 ∷ 1 ∷ []) $ by ! (leaves 𝓛 goal kept_of c y val (Err (record {})) (tt, (tt, tt)) (tt, (tt, tt)))))))))

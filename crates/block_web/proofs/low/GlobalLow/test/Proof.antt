@@ -1,5 +1,5 @@
 -- The right to free a block of the usual allocator shows that its place is the start of a block.
-use Rattle.block_web.proofs.Walks.{List, [], ◌∷◌, refl, named, Val, vunit, vptr, emp, guard_i, Fml, sem, ‵, raw, ◌⊛◌, given, ◌$◌, ◌∵◌, !, qed, by, move, keep, use0, use1, split, join, fjoin, learn, feq_i, unit_lit, of_opd, returns, enter, alloc_all, pass_all, free_all, look_at, sets, tables, fact, fact_i, fact_use, yes, owns, types_at, plain, Ptr, RawPtr, ptr_val, Testable, rawptr_vals, rawptr_Tells, nothing, RefOf, shr_vals, shr_Tells, alive, Stays, stay_dropped, walk_of, Goes-dropped, proved, leaves, ptr_good}
+use Rattle.block_web.proofs.Walks.{List, [], ◌∷◌, refl, named, Val, vunit, vptr, guard_i, Fml, sem, ‵, raw, ◌⊛◌, given, ◌$◌, ◌∵◌, !, qed, by, move, keep, use1, split, join, learn, feq_i, unit_lit, of_opd, returns, enter, alloc_all, pass_all, free_all, look_at, sets, tables, fact_use, yes, owns, types_at, plain, Ptr, RawPtr, ptr_val, Testable, rawptr_vals, rawptr_Tells, RefOf, shr_vals, shr_Tells, alive, Stays, stay_dropped, walk_of, Goes-dropped, proved, leaves, ptr_good, tells, spends}
 use Rattle.std.specs.contracts.alloc.Global as heap
 use Rattle.std.specs.contracts.impls.GlobalAllocator.TheImpl.{ghosts}
 use Rattle.std.proofs.GlobalToken.{dealloc_token-Testable}
@@ -19,5 +19,5 @@ test_spec 𝓤 𝓛 𝓜 𝓡 wired =
     qed 𝓛 ((raw (alive 𝓛 ended.signature κs qs) ⊛ ‵ (owns (types_at ended.signature.params κs) a y.0.4)) ∷ ‵ token ∷ []) ∵ split ! $ keep ! (0 ∷ 2 ∷ []) $
     enter ! 𝓣.C 𝓣.Λ code.function us (W.post y) $ alloc_all ! (λ l. pass_all ! refl ((tt, tt), (ptr_good p, tt)) $ sets ! (of_opd ! (unit_lit !)) refl (tt, tt) $ move ! (1 ∷ []) $
     use1 𝓛 (given (Testable p) (‵ token)) (fact_use 𝓤 (Testable p) (dealloc_token-Testable 𝓛 a.0.now τ p) (guard_i 𝓤 (Testable p) (sem 𝓛 token))) $ learn ! (λ low.
-    use0 𝓛 (raw (fact 𝓤 (Testable p))) (fact_i 𝓤 (Testable p) (emp 𝓤) low) $ join ! $ feq_i ! (List Val) (vunit ∷ []) (vunit ∷ []) refl $ nothing ! $ nothing ! $ fjoin ! $ nothing ! $ fjoin ! $
+    tells ! (Testable p) low $ join ! $ feq_i ! (List Val) (vunit ∷ []) (vunit ∷ []) refl $ spends ! 2 $
     returns ! (look_at ! 0 refl) $ free_all ! refl $ keep ! (3 ∷ 0 ∷ 1 ∷ 2 ∷ []) $ by ! (leaves 𝓛 ended kept_of c y vunit tt (tt, (tt, tt)) (tt, (tt, tt))))))

@@ -1,5 +1,5 @@
 -- `finish` ends the web's lifetime, and has its blocks back.
-use Rattle.block_web.proofs.Walks.{◌≡◌, List, [], ◌∷◌, refl, Ty, a_type, dcons, dnil, Val, inst_fn, Coded, SProp, emp, Fml, ‵, raw, ◌⊛◌, some, given, later, ◌$◌, ◌∵◌, !, qed, by, move, keep, drop, use0, use2, split, fsplit, fsplit3, fjoin, pick, learn, await, rewrite, no_more, and_then, returns, enter, alloc_all, pass_all, free_all, look_at, get, sets, env, agg, tables, fact, fact_i, no, RattleType, owns, types_at, plain, Ptr, RawPtr, nothing, heard, param, bounded, Tuple, alive, Stays, stay_dropped, walk_of, Goes-dropped, proved, leaves, Block, Sitter, LastBlocksBy, Sits, WebId, chain_owns, seat_owns, blank_val, Blank, blank_told, blank_made}
+use Rattle.block_web.proofs.Walks.{◌≡◌, List, [], ◌∷◌, refl, Ty, a_type, dcons, dnil, Val, inst_fn, Coded, SProp, Fml, ‵, raw, ◌⊛◌, some, given, later, ◌$◌, ◌∵◌, !, qed, by, move, keep, drop, use2, split, fsplit, fsplit3, pick, learn, await, rewrite, no_more, and_then, returns, enter, alloc_all, pass_all, free_all, look_at, get, sets, env, agg, tables, fact, no, RattleType, owns, types_at, plain, Ptr, RawPtr, heard, param, bounded, Tuple, alive, Stays, stay_dropped, walk_of, Goes-dropped, proved, leaves, Block, Sitter, LastBlocksBy, Sits, WebId, chain_owns, seat_owns, blank_val, blank_told, tells, blank, spends}
 use Rattle.block_web.specs.contracts.web.Web as web
 use Rattle.block_web.specs.contracts.web.Seat as seat
 use Rattle.block_web.specs.contracts.chain.Chain as chain
@@ -29,5 +29,5 @@ finish_spec 𝓤 𝓛 𝓜 𝓡 wired S V A K P _ _ _ _ _ ga da dd g d _ _ _ =
     use2 𝓛 (later (some (λ (bs : List (Block S.Denot)). given (LastBlocksBy holds h.id m.view bs) (‵ (chain_owns R token bs))))) (moves.ends_by 𝓛 R token code_of holds t.id h.id m) $ await ! tt $ pick ! (λ bs. learn ! (λ so.
     let r : Chain.Denot = record { marker = record {}; heap = t.heap; blocks = bs } in let Told : Type 0 = (t.heap ≡ t.heap) × LastBlocksBy holds h.id m.view bs in
     sets ! (agg ! (no_more !)) refl (tt, tt) $ sets ! (agg ! (and_then ! (get ! refl) (no_more !))) refl (tt, (tt, tt)) $
-    use0 𝓛 (‵ ((Blank (Tuple (R ∷ Z ∷ []))).own_val (record {}, tt) (blank_val ∷ []))) (blank_made (Tuple (R ∷ Z ∷ [])) 𝓛) $ fjoin ! $ use0 𝓛 (raw (fact 𝓤 Told)) (fact_i 𝓤 Told (emp 𝓤) (refl, so)) $ nothing ! $ nothing ! $ fjoin ! $ nothing ! $ fjoin ! $
+    blank ! (Tuple (R ∷ Z ∷ [])) $ tells ! Told (refl, so) $ spends ! 2 $
     returns ! (look_at ! 0 refl) $ free_all ! refl $ keep ! (3 ∷ 0 ∷ 2 ∷ 1 ∷ []) $ by ! (leaves 𝓛 goal kept_of c y blank_val r (tt, (tt, tt)) (tt, (tt, tt))))))))
