@@ -8,7 +8,10 @@ use base.Logic.{SProp, ent, wand, all, emp, id⊢, apply∗, all_e}
 use base.Fml.{Lft, Share, GName, Fml, ftrue, feq, flt, fhide, fsep, fex, fobs, fauth, fbor, fobor, flft, fshr_bor}
 use types.Logic.{Logic, sem}
 use types.SemTy.{Body}
-use types.Kit.{Item, Seq, Step, step, Goal, prop, Soaks, ‵, raw, ◌⊛◌, ◌$◌, move, drop, split, split3, join, fsplit, fsplit3, fjoin, fjoin3, feq_i, flt_i, fpick, rewrite, suffices, use0, use1, use2}
+use mir.Syntax.{Fn}
+use prog.Wp.{Calls, Loops, WpFn}
+use types.Run.{enter}
+use types.Kit.{Item, Seq, Step, step, Goal, allocs, params', runs, at_ret, prop, Soaks, ‵, raw, ◌⊛◌, ◌$◌, move, drop, split, split3, join, fsplit, fsplit3, fjoin, fjoin3, feq_i, flt_i, fpick, rewrite, suffices, use0, use1, use2}
 use ghost.Rules.{Halves}
 use types.Tokens.{shr_bor-open, obor_close}
 use contract.Monad.{fact, fact_i}
@@ -36,8 +39,13 @@ module _ {M : Type 1} {𝓤 : Ura M} {𝓛 : Logic 𝓤} {K : Type 0} {Γ : List
   open 𝓛 use {H}
 
   -- A pointer into a block is its block at its offset: what is shown of that holds of the pointer.
-  pub in_block : K → (p : Ptr) → InBlock p → (F : Ptr → SProp 𝓤) → Step K 𝓛 Γ (prop (F (block_ptr (block_of p) (count_of p)))) Γ (prop (F p))
+  in_block : K → (p : Ptr) → InBlock p → (F : Ptr → SProp 𝓤) → Step K 𝓛 Γ (prop (F (block_ptr (block_of p) (count_of p)))) Γ (prop (F p))
   in_block t p inside F = let there : Ptr = block_ptr (block_of p) (count_of p) in suffices t (F there) (subst (λ (u : Ptr). ent 𝓤 (F there) (F u)) (sym (at_block p inside)) (id⊢ 𝓤 (F there)))
+
+  -- A call is entered whose arguments have the pointer in them.
+  pub enters_at : K → (p : Ptr) → InBlock p → (C : Calls 𝓤 H) (Λ : Loops 𝓤 H) (f : Fn) (vs : Ptr → List Val) (Kf : Val → SProp 𝓤)
+      → Step K 𝓛 Γ (allocs f.locals (λ E. params' E (vs (block_ptr (block_of p) (count_of p))) (runs C Λ E f.body (at_ret E Kf)))) Γ (prop (WpFn 𝓤 H C Λ f (vs p) Kf))
+  enters_at t p inside C Λ f vs Kf = step (λ s. in_block t p inside (λ u. WpFn 𝓤 H C Λ f (vs u) Kf) $ enter t C Λ f (vs (block_ptr (block_of p) (count_of p))) Kf $ s)
 
   module _ {G : Goal 𝓤 H} where
     -- a fact that the call ensures
@@ -71,9 +79,6 @@ module _ {M : Type 1} {𝓤 : Ura M} {𝓛 : Logic 𝓤} {K : Type 0} {Γ : List
   pub alone : K → (n : ℕ) {P : Fml} → Step K 𝓛 (‵ (fsep P (spent n)) ∷ Γ) G (‵ P ∷ Γ) G
   alone t n = step (λ s. spends t n $ move t (1 ∷ 0 ∷ []) $ fjoin t $ s)
 
-module _ {M : Type 1} {𝓤 : Ura M} {𝓛 : Logic 𝓤} {K : Type 0} {Γ : List (Item 𝓤)} {G : Goal 𝓤 𝓛.H} where
-  open 𝓛 use {H}
-
   -- The first parameter of a call is a `&mut`, and its others hold nothing.
   pub takes_ref : K → {same seen lent more life others : Fml} → Step K 𝓛 (‵ seen ∷ ‵ lent ∷ ‵ life ∷ ‵ others ∷ Γ) G (((‵ life ⊛ ‵ others) ⊛ ‵ (fsep (fsep same (fsep seen lent)) more)) ∷ Γ) G
   takes_ref t = step (λ s. split t $ split t $ move t (2 ∷ []) $ fsplit t $ fsplit3 t $ drop t $ move t (2 ∷ []) $ drop t $ s)
@@ -88,9 +93,6 @@ module _ {M : Type 1} {𝓤 : Ura M} {𝓛 : Logic 𝓤} {K : Type 0} {Γ : List
       → ((ts : List Val) → Seq K 𝓛 (‵ owned ∷ ‵ (fields ts) ∷ ‵ (cell_at full_share Sr.mir ts b o) ∷ ‵ (fobor κ q (Body (mem Sr) b o γ)) ∷ ‵ (fobs γ (Sr.coded.code h)) ∷ ‵ (fauth γ (Sr.coded.code h)) ∷ Γ) G)
       → Seq K 𝓛 (‵ (fobs γ (Sr.coded.code h)) ∷ ‵ (fbor κ (Body (mem Sr) b o γ)) ∷ ‵ (flft κ q) ∷ Γ) G
   opens_ref t z Sr h b o same k = opens t z Sr b o (λ ts. move t (1 ∷ []) $ rewrite t 0 (λ (F : Fml). ‵ F) (same ts) refl $ fsplit t $ move t (1 ∷ []) $ k ts)
-
-module _ {M : Type 1} {𝓤 : Ura M} {𝓛 : Logic 𝓤} {K : Type 0} {Γ : List (Item 𝓤)} {G : Goal 𝓤 𝓛.H} where
-  open 𝓛 use {H}
 
   -- It is closed with h in its place.
   pub closes_ref : K → Soaks G → (Sr : RattleType) (h : Sr.Denot) {κ : Lft} {q : Share} {owned fields : Fml} {u v : Gv} {γ : GName} (ts : List Val) {us : List Val} (b o : ℕ) → us ≡ vptr b o ∷ [] → Sr.own_val h ts ≡ fsep fields owned
@@ -114,10 +116,9 @@ module _ {M : Type 1} {𝓤 : Ura M} {𝓛 : Logic 𝓤} {K : Type 0} {Γ : List
       → Seq K 𝓛 (‵ (fshr_bor κ Φ) ∷ ‵ C ∷ ‵ (flft κ q) ∷ ‵ (fobs γ (Sr.coded.code h)) ∷ ‵ (fbor κ' (Body (mem Sr) b o γ)) ∷ ‵ (flft κ' q') ∷ Γ) G
   begins_step t z Sr h halves b o owned e same k = move t (0 ∷ 2 ∷ []) $ shr_bor-open t z halves (λ s. move t (3 ∷ 4 ∷ 5 ∷ []) $ opens_ref t z Sr h b o same (λ ts. rewrite t 0 (λ u. ‵ (owned u)) e refl $ k s ts))
 
-module _ {M : Type 1} {𝓤 : Ura M} {𝓛 : Logic 𝓤} {K : Type 0} {Γ : List (Item 𝓤)} {G : Goal 𝓤 𝓛.H} where
   -- The token T is shut in again, and a seat `new x` stands in its place. The `&`, the seat's `&mut` and n parameters that hold nothing are given back, with the tokens.
   pub ends_step : K → Soaks G → (Sr : RattleType) {κ κ' : Lft} {q q' : Share} {T fields others : Fml} {X : Type 0} {more sat : X → Fml} {u v : Gv} {γ : GName} (b o : ℕ) (ts : List Val) (n : ℕ) (new : X → Sr.Denot) → ((x : X) → Sr.own_val (new x) ts ≡ fsep fields (sat x))
       → ((x : X) → Seq K 𝓛 (‵ (more x) ∷ (‵ (flft κ q) ⊛ ‵ (flft κ' q') ⊛ ‵ others) ∷ ‵ (fsep ftrue (lent_back Sr κ' (vptr b o ∷ []) b o γ (new x) n)) ∷ Γ) G)
       → Seq K 𝓛 (‵ (fsep T (fex X (λ x. fsep (more x) (sat x)))) ∷ ‵ fields ∷ ‵ (cell_at full_share Sr.mir ts b o) ∷ ‵ (fobor κ' q' (Body (mem Sr) b o γ)) ∷ ‵ (fobs γ u) ∷ ‵ (fauth γ v) ∷ ‵ (fobor κ q T) ∷ ‵ others ∷ Γ) G
   ends_step t z Sr b o ts n new same k = fsplit t $ move t (7 ∷ 0 ∷ []) $ obor_close t z $ drop t $ move t (1 ∷ []) $ fpick t (λ x. fsplit t $ move t (1 ∷ 3 ∷ 4 ∷ 5 ∷ 6 ∷ 7 ∷ 8 ∷ []) $
-      shuts_ref t z Sr (new x) ts b o n refl (same x) $ move t (1 ∷ []) $ nothing t $ fjoin t $ move t (3 ∷ 1 ∷ []) $ join t $ move t (2 ∷ 0 ∷ []) $ k x)
+      closes_ref t z Sr (new x) ts b o refl (same x) $ alone t n $ nothing t $ fjoin t $ move t (1 ∷ 2 ∷ []) $ join t $ move t (3 ∷ 0 ∷ []) $ join t $ move t (2 ∷ 0 ∷ []) $ k x)

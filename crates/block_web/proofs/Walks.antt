@@ -64,4 +64,4 @@ pub use mathlib.Core.Bool.{cond}
 pub use seplogic.Ra.Ura.{Ura}
 pub use Rattle.block_web.specs.declared.sizes.TheConstants.{SLOTS}
 pub use Rattle.block_web.proofs.Made.{head, after, arm_body, ptr_good, blank_val, place_val, Blank, blank_told, blank_made, place_told, place_made, word_laws, full_product, ok_of, err_of}
-pub use Rattle.block_web.proofs.Stepping.{spent, lent_back, in_block, tells, numbers, blank, puts_back, gives_back, spends, alone, takes_ref, takes_step, opens_ref, closes_ref, shuts_ref, begins_step, ends_step}
+pub use Rattle.block_web.proofs.Stepping.{spent, lent_back, enters_at, tells, numbers, blank, puts_back, gives_back, spends, alone, takes_ref, takes_step, opens_ref, closes_ref, shuts_ref, begins_step, ends_step}

@@ -17,8 +17,7 @@ tells_set null_ptr e = absurd (true≢false e)
 pub is_unset_spec : {M : Type 1} → statement M
 is_unset_spec 𝓤 𝓛 𝓜 𝓡 wired S L =
     let H = 𝓛.H in let 𝓣 = tables 𝓤 H 𝓜 𝓡 𝓡.env in let R : RattleType = param 0 S in let Link : RattleType = link.the_row R in
-    let goal = ended S in let c = clauses S 𝓛 𝓜.mem 𝓡.returns in let at_types = layouts (a_type ∷ []) (S, tt) in let mir = inst_fn at_types code.function in
-    let kept_of : Stays goal.signature.params goal.kept = (stay_dropped (plain (λ _. Link)) no, tt) in
+    let goal = ended S in let c = clauses S 𝓛 𝓜.mem 𝓡.returns in let at_types = layouts (a_type ∷ []) (S, tt) in let mir = inst_fn at_types code.function in let kept_of : Stays goal.signature.params goal.kept = (stay_dropped (plain (λ _. Link)) no, tt) in
     proved 𝓛 goal kept_of c 𝓜 𝓡 (Goes-dropped 𝓛 1 (plain (λ _. Link)) no (λ κs x f. refl), tt) (#self at_types) mir (code.unfolded 𝓤 H 𝓜 𝓡 wired (S, tt))
     (λ κs. ((λ x. place_val x.ptr ∷ []), tt)) (λ κs. (place_told R, tt)) (λ κs qs bounds a ghost are.
     let p : Ptr = a.0.ptr in let y : (walk_of 𝓛 goal kept_of c).Ghost = ((κs, qs, bounds, a, (place_val p ∷ [], tt)), ghost) in let Post : Val → SProp 𝓤 = (walk_of 𝓛 goal kept_of c).post y in

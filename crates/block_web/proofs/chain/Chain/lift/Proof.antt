@@ -11,10 +11,8 @@ use Rattle.block_web.proofs.chain.Chain.lift.Code as code
 
 pub lift_spec : {M : Type 1} → statement M
 lift_spec 𝓤 𝓛 𝓜 𝓡 wired S A L _ ga da dd _ _ =
-    let H = 𝓛.H in let 𝓣 = tables 𝓤 H 𝓜 𝓡 𝓡.env in let R : RattleType = param 0 S in let Z : RattleType = param 1 A in
-    let Chain : RattleType = chain.the_row R Z ga in let Link : RattleType = link.the_row R in let Loose : RattleType = loose.the_row R Z ga in
-    let goal = ended S A ga da dd in let c = clauses S A ga da dd 𝓛 𝓜.mem 𝓡.returns in
-    let at_types = bounded (a_type ∷ a_type ∷ []) (S, (A, tt)) (dcons da (dcons dd dnil)) in let mir = inst_fn at_types code.function in
+    let H = 𝓛.H in let 𝓣 = tables 𝓤 H 𝓜 𝓡 𝓡.env in let R : RattleType = param 0 S in let Z : RattleType = param 1 A in let Chain : RattleType = chain.the_row R Z ga in let Link : RattleType = link.the_row R in let Loose : RattleType = loose.the_row R Z ga in
+    let goal = ended S A ga da dd in let c = clauses S A ga da dd 𝓛 𝓜.mem 𝓡.returns in let at_types = bounded (a_type ∷ a_type ∷ []) (S, (A, tt)) (dcons da (dcons dd dnil)) in let mir = inst_fn at_types code.function in
     let kept_of : Stays goal.signature.params goal.kept = (stay_ref (0 ∷ []) tt (plain (λ _. Chain)), (stay_dropped (plain (λ _. u64)) yes, (stay_dropped (plain (λ _. Link)) no, tt))) in
     proved 𝓛 goal kept_of c 𝓜 𝓡 (Goes-ref 𝓛 3 0 tt (plain (λ _. Chain)), (Goes-dropped 𝓛 3 (plain (λ _. u64)) yes (λ κs x f. refl), (Goes-dropped 𝓛 3 (plain (λ _. Link)) no (λ κs x f. refl), tt))) (#self at_types) mir
     (code.unfolded 𝓤 H 𝓜 𝓡 wired (S, (A, tt)) da dd) (λ κs. (mut_vals, (uint_vals w64, ((λ x. place_val x.ptr ∷ []), tt))))
@@ -29,6 +27,5 @@ lift_spec 𝓤 𝓛 𝓜 𝓡 wired S A L _ ga da dd _ _ =
     enter ! 𝓣.C 𝓣.Λ mir (vptr b' o' ∷ vint w64 k ∷ place_val p ∷ []) Post $ alloc_all ! (λ l. pass_all ! refl ((tt, tt), ((tt, record { fits = are.1.0.1 }), ((Good-round [] ty_ptr _ (ptr_good a.1.1.0.ptr)), tt))) $ let locals = env mir.locals l in
     opens_ref ! tt Chain h b' o' (λ ts. refl) (λ ts. use1 𝓛 (‵ (chain_owns R token (without bs k)) ⊛ ‵ (block_owns R token x)) (blocks.lifts_out 𝓛 R token bs k asked.0) $ split ! $
     rewrite ! 1 (λ (u : Ptr). ‵ (block_owns R token (alive_at u x.next x.words x.homes))) asked.1 refl $ move ! (0 ∷ 2 ∷ 3 ∷ 4 ∷ 5 ∷ 6 ∷ 7 ∷ []) $ shuts_ref ! tt Chain h' ts b' o' 2 refl refl $ move ! (2 ∷ []) $ blank ! (Tuple (R ∷ Z ∷ [])) $
-    sets ! (agg ! (no_more !)) refl (tt, tt) $ sets ! (agg ! (and_then ! (get ! refl) (no_more !))) refl (tt, (tt, tt)) $
-    tells ! Out (refl, refl, refl, refl, refl) $ tells ! Left (refl, refl) $ join ! $
+    sets ! (agg ! (no_more !)) refl (tt, tt) $ sets ! (agg ! (and_then ! (get ! refl) (no_more !))) refl (tt, (tt, tt)) $ tells ! Out (refl, refl, refl, refl, refl) $ tells ! Left (refl, refl) $ join ! $
     returns ! (look_at ! 0 refl) $ free_all ! refl $ keep ! (2 ∷ 3 ∷ 1 ∷ 0 ∷ []) $ by ! (leaves 𝓛 goal kept_of c y blank_val r (h', (tt, (tt, tt))) (tt, (tt, (tt, tt))))))))

@@ -1,5 +1,5 @@
 -- `put` writes the slot that the seat has in hand.
-use Rattle.block_web.proofs.Walks.{◌≡◌, ℕ, ◌+◌, ◌*◌, ◌^◌, ◌<◌, ◌≤◌, List, [], ◌∷◌, ◌++◌, sym, refl, ap, subst, arith, w64, Option, Some, None, mul-le-mul_right, a_type, dcons, dnil, Val, vunit, vint, vptr, inst_fn, bare, full_share, Coded, SProp, ent, id⊢, Fml, ftrue, fsep, froom, fat, flft, WpFn, ‵, raw, ◌⊛◌, at_ret, ◌$◌, ◌∵◌, !, qed, by, move, keep, drop, use1, split, join, fsplit, fsplit3, fjoin, fjoin3, fpick, fpack, suffices, rewrite, feq_i, stop, fld, addr, unit_lit, size_word, of_opd, bin, first, blocks, exec, returns, enter, assigns_last, init, alloc_all, pass_all, free_all, look_at, get, get_in, through, sets, is, env, sub, all_of_it, tables, fact, yes, no, RattleType, owns, types_at, plain, mem, Ptr, block_ptr, block_of, count_of, InBlock, nothing, heard, param, bounded, layout, param_laws, usize, Member, Stays, stay_dropped, stay_ref, walk_of, Goes-dropped, Goes-ref, one, gather, proved_at, leaves, Hand, Sitter, sitter, Same, slots_at, hand_owns, SLOTS, after, place_val, place_told, full_product, tells, opens_ref, in_block, shuts_ref}
+use Rattle.block_web.proofs.Walks.{◌≡◌, ℕ, ◌+◌, ◌*◌, ◌^◌, ◌<◌, ◌≤◌, List, [], ◌∷◌, ◌++◌, sym, refl, ap, subst, arith, w64, Option, Some, None, mul-le-mul_right, a_type, dcons, dnil, Val, vunit, vint, vptr, inst_fn, bare, full_share, Coded, SProp, ent, id⊢, Fml, ftrue, fsep, froom, fat, flft, WpFn, ‵, raw, ◌⊛◌, at_ret, ◌$◌, ◌∵◌, !, qed, by, move, keep, drop, use1, split, join, fsplit, fsplit3, fjoin, fjoin3, fpick, fpack, suffices, rewrite, feq_i, stop, fld, addr, unit_lit, size_word, of_opd, bin, first, blocks, exec, returns, enter, assigns_last, init, alloc_all, pass_all, free_all, look_at, get, get_in, through, sets, is, env, sub, all_of_it, tables, fact, yes, no, RattleType, owns, types_at, plain, mem, Ptr, block_ptr, block_of, count_of, InBlock, nothing, heard, param, bounded, layout, param_laws, usize, Member, Stays, stay_dropped, stay_ref, walk_of, Goes-dropped, Goes-ref, one, gather, proved_at, leaves, Hand, Sitter, sitter, Same, slots_at, hand_owns, SLOTS, after, place_val, place_told, full_product, tells, opens_ref, shuts_ref, enters_at}
 use Rattle.block_web.specs.contracts.block.Link as link
 use Rattle.block_web.specs.contracts.web.Seat as seat
 use Rattle.block_web.proofs.Blocks as blocks
@@ -11,8 +11,7 @@ use Rattle.block_web.proofs.web.Seat.put.Code as code
 pub put_spec : {M : Type 1} → statement M
 put_spec 𝓤 𝓛 𝓜 𝓡 wired S V A L _ _ ga da dd _ _ =
     let H = 𝓛.H in let 𝓣 = tables 𝓤 H 𝓜 𝓡 𝓡.env in let R : RattleType = param 0 S in let W : RattleType = param 1 V in let Z : RattleType = param 2 A in
-    let Seat : RattleType = seat.the_row R W Z ga in let code_of : Coded V.Denot = W.coded in let Link : RattleType = link.the_row R in
-    let goal = ended S V A ga da dd in let c = clauses S V A ga da dd 𝓛 𝓜.mem 𝓡.returns in
+    let Seat : RattleType = seat.the_row R W Z ga in let code_of : Coded V.Denot = W.coded in let Link : RattleType = link.the_row R in let goal = ended S V A ga da dd in let c = clauses S V A ga da dd 𝓛 𝓜.mem 𝓡.returns in
     let at_types = bounded (a_type ∷ a_type ∷ a_type ∷ []) (S, (V, (A, tt))) (dcons da (dcons dd dnil)) in let mir = inst_fn at_types code.function in
     let kept_of : Stays goal.signature.params goal.kept = (stay_ref (0 ∷ []) tt (plain (λ _. Seat)), (stay_dropped (plain (λ _. Link)) no, (stay_dropped (plain (λ _. usize)) yes, (stay_dropped (plain (λ _. R)) no, tt)))) in
     proved_at 𝓛 goal kept_of c 𝓜 𝓡 (Goes-ref 𝓛 4 0 tt (plain (λ _. Seat)), (Goes-dropped 𝓛 4 (plain (λ _. Link)) no (λ κs x f. refl), (Goes-dropped 𝓛 4 (plain (λ _. usize)) yes (λ κs x f. refl), (Goes-dropped 𝓛 4 (plain (λ _. R)) no (λ κs x f. refl), tt)))) (#self at_types) mir
@@ -23,10 +22,8 @@ put_spec 𝓤 𝓛 𝓜 𝓡 wired S V A L _ _ ga da dd _ _ =
     let sz : ℕ = (mem R).size in let b : ℕ = block_of p in let e : ℕ = j * sz + slots_at R (count_of p) in let Placed : Type 0 = blocks.Placed 𝓛 R (ga.dealloc_token h.heap) p j in
     qed 𝓛 (((‵ (flft κs.0 qs.0) ⊛ ‵ others) ⊛ ‵ (owns (types_at goal.signature.params κs) a vss)) ∷ raw (fact 𝓤 _) ∷ raw (fact 𝓤 _) ∷ raw (fact 𝓤 _) ∷ raw (fact 𝓤 Asked) ∷ []) ∵
     keep ! (4 ∷ 0 ∷ []) $ heard ! Asked (λ asked. split ! $ split ! $ move ! (2 ∷ []) $ fsplit3 ! $ fsplit3 ! $ move ! (4 ∷ []) $ fsplit3 ! $ keep ! (4 ∷ 5 ∷ 7 ∷ 1 ∷ 8 ∷ []) $
-    rewrite ! 3 (λ (ws : List Val). ‵ (R.own_val new ws)) got.1 refl $ let us : Ptr → List Val = λ u. vptr b' o' ∷ place_val u ∷ vint w64 j ∷ vy ∷ [] in
-    let Run : List Val → SProp 𝓤 = λ ws. WpFn 𝓤 H 𝓣.C 𝓣.Λ mir ws Post in
-    suffices ! (Run (us p)) (subst (λ (ws : List Val). ent 𝓤 (Run (us p)) (Run ws)) (sym (λ i. are.0.0 i ++ (place_told R a.1.0 vss.1.0 are.1.0 i ++ (are.1.1.0.0 i ++ (got.1 i ++ []))))) (id⊢ 𝓤 (Run (us p)))) $ in_block ! p asked.0 (λ u. Run (us u)) $
-    enter ! 𝓣.C 𝓣.Λ mir (us (block_ptr b (count_of p))) Post $ alloc_all ! (λ l. pass_all ! refl ((tt, tt), ((tt, (tt, tt)), ((tt, record { fits = are.1.1.0.1 }), (got.2, tt)))) $ let locals = env mir.locals l in
+    rewrite ! 3 (λ (ws : List Val). ‵ (R.own_val new ws)) got.1 refl $ let us : Ptr → List Val = λ u. vptr b' o' ∷ place_val u ∷ vint w64 j ∷ vy ∷ [] in let Run : List Val → SProp 𝓤 = λ ws. WpFn 𝓤 H 𝓣.C 𝓣.Λ mir ws Post in
+    suffices ! (Run (us p)) (subst (λ (ws : List Val). ent 𝓤 (Run (us p)) (Run ws)) (sym (λ i. are.0.0 i ++ (place_told R a.1.0 vss.1.0 are.1.0 i ++ (are.1.1.0.0 i ++ (got.1 i ++ []))))) (id⊢ 𝓤 (Run (us p)))) $ enters_at ! p asked.0 𝓣.C 𝓣.Λ mir us Post $ alloc_all ! (λ l. pass_all ! refl ((tt, tt), ((tt, (tt, tt)), ((tt, record { fits = are.1.1.0.1 }), (got.2, tt)))) $ let locals = env mir.locals l in
     opens_ref ! tt Seat h b' o' (λ ts. refl) (λ ts. fsplit3 ! $ rewrite ! 1 (λ (u : Option (Hand S.Denot)). ‵ (hand_owns R u)) asked.1 refl $ move ! (1 ∷ []) $ fsplit ! $ fpick ! (λ at. drop ! $
     let near : j < SLOTS = at.2 in let less : j * sz ≤ SLOTS * sz = mul-le-mul_right sz (omega arith) in let tiny : sz < 2 ^ 31 = at.1 in let small : j * sz < 2 ^ 64 = omega arith in use1 𝓛 (‵ (froom (layout S) b e)) (𝓛.laws.raw-room (layout S) b e) $ first ! $ blocks ! $
     sets ! (of_opd ! (get_in ! (fld ! refl (stop !)) (sub ! 0 refl (all_of_it !)))) refl (tt, tt) $ sets ! (addr ! (through ! refl (fld ! refl (stop !)))) refl (tt, tt) $

@@ -1,5 +1,5 @@
 -- `split` is one load, by which the seat's view is cut in two.
-use Rattle.block_web.proofs.Walks.{◌≡◌, ℕ, ◌+◌, ◌*◌, List, [], ◌∷◌, sym, refl, subst, arith, lit<, w64, None, Ty, a_type, dcons, dnil, named, Val, vint, vptr, inst_fn, Coded, SProp, ent, sep, via, Lft, Fml, ftrue, fsep, fex, flft, fbor, WpFn, sem, mean, ‵, raw, ◌⊛◌, given, at_ret, ◌$◌, ◌∵◌, !, qed, by, move, keep, drop, use3, join, learn, stop, from, fld, hop, addr, lit, no_more, and_then, first, blocks, exec, Calls-last, returns, enter, alloc_all, pass_all, free_all, look_at, look_in_at, get, sets, lands_last, env, agg, sub, all_of_it, tokens_halve, tables, fact, yes, no, RattleType, owns, types_at, plain, Ptr, block_ptr, block_of, count_of, InBlock, param, bounded, RefOf, u64, mut_vals, mut_Tells, shr_vals, shr_Tells, uint_vals, uint_Tells, Tuple, Stays, stay_dropped, stay_ref, walk_of, Goes-dropped, Goes-ref, asks, always, proved, leaves, fm, seq_cst, found, finds, loads, Sitter, sitter, CanFork, Sits, Same, WebId, age, seat_owns, inside_owns, after, blank_val, place_val, place_told, begins_step, in_block, tells, blank, takes_step, ends_step}
+use Rattle.block_web.proofs.Walks.{◌≡◌, ℕ, ◌+◌, ◌*◌, List, [], ◌∷◌, sym, refl, subst, arith, lit<, w64, None, Ty, a_type, dcons, dnil, named, Val, vint, vptr, inst_fn, Coded, SProp, ent, sep, via, Lft, Fml, ftrue, fsep, fex, flft, fbor, WpFn, sem, mean, ‵, raw, ◌⊛◌, given, at_ret, ◌$◌, ◌∵◌, !, qed, by, move, keep, drop, use3, join, learn, stop, from, fld, hop, addr, lit, no_more, and_then, first, blocks, exec, Calls-last, returns, enter, alloc_all, pass_all, free_all, look_at, look_in_at, get, sets, lands_last, env, agg, sub, all_of_it, tokens_halve, tables, fact, yes, no, RattleType, owns, types_at, plain, Ptr, block_ptr, block_of, count_of, InBlock, param, bounded, RefOf, u64, mut_vals, mut_Tells, shr_vals, shr_Tells, uint_vals, uint_Tells, Tuple, Stays, stay_dropped, stay_ref, walk_of, Goes-dropped, Goes-ref, asks, always, proved, leaves, fm, seq_cst, found, finds, loads, Sitter, sitter, CanFork, Sits, Same, WebId, age, seat_owns, inside_owns, after, blank_val, place_val, place_told, begins_step, tells, blank, takes_step, ends_step, enters_at}
 use Rattle.block_web.specs.contracts.block.Link as link
 use Rattle.block_web.specs.contracts.web.Web as web
 use Rattle.block_web.specs.contracts.web.Seat as seat
@@ -26,15 +26,11 @@ split_spec 𝓤 𝓛 𝓜 𝓡 wired S V K P A M _ _ _ _ _ _ g d ga da dd g' d' 
     let l₁ : V.Denot = g'.left m.view in let r₁ : V.Denot = g'.right m.view in let others : Fml = fsep (flft κs.1.1.0 qs.1.1.0) (fsep (flft κs.1.1.1.0 qs.1.1.1.0) (fsep (flft κs.1.1.1.1.0 qs.1.1.1.1.0) (fsep (flft κs.1.1.1.1.1.0 qs.1.1.1.1.1.0) (fsep (flft κs.1.1.1.1.1.1.0 qs.1.1.1.1.1.1.0) (fsep (flft κs.1.1.1.1.1.1.1.0 qs.1.1.1.1.1.1.1.0) (ftrue)))))) in
     qed 𝓛 (((‵ (flft κs.0 qs.0) ⊛ ‵ (flft κs.1.0 qs.1.0) ⊛ ‵ others) ⊛ ‵ (owns (types_at goal.signature.params κs) a y.0.4)) ∷ raw (fact 𝓤 _) ∷ raw (fact 𝓤 _) ∷ raw (fact 𝓤 _) ∷ raw (fact 𝓤 _) ∷ raw (fact 𝓤 _) ∷ raw (fact 𝓤 _) ∷ given (Sits h t × InBlock p × CanFork holds k p id m.view l₁ r₁) (‵ ftrue) ∷ []) ∵
     keep ! (7 ∷ 0 ∷ []) $ learn ! (λ asked. drop ! $ takes_step ! $
-    let us : Ptr → List Val = λ u. vptr a.0.ref_ptr.0 a.0.ref_ptr.1 ∷ vptr a.1.0.ref_ptr.0 a.1.0.ref_ptr.1 ∷ vint w64 a.1.1.0 ∷ place_val u ∷ [] in
-    in_block ! p asked.1 (λ u. WpFn 𝓤 H 𝓣.C 𝓣.Λ mir (us u) Post) $
-    enter ! 𝓣.C 𝓣.Λ mir (us (block_ptr (block_of p) (count_of p))) Post $ alloc_all ! (λ l. pass_all ! refl ((tt, tt), ((tt, tt), ((tt, record { fits = are.1.1.0.1 }), ((tt, (tt, tt)), tt)))) $ let locals = env mir.locals l in
+    enters_at ! p asked.1 𝓣.C 𝓣.Λ mir (λ u. vptr a.0.ref_ptr.0 a.0.ref_ptr.1 ∷ vptr a.1.0.ref_ptr.0 a.1.0.ref_ptr.1 ∷ vint w64 a.1.1.0 ∷ place_val u ∷ []) Post $ alloc_all ! (λ l. pass_all ! refl ((tt, tt), ((tt, tt), ((tt, record { fits = are.1.1.0.1 }), ((tt, (tt, tt)), tt)))) $ let locals = env mir.locals l in
     begins_step ! tt Seat h (tokens_halve 𝓛 α) b' o' (λ (x : WebId × A.Denot). seat_owns R (ga.dealloc_token x.1) code_of.code x.0 id m) (λ j. (asked.0.0 j, asked.0.1 j)) (λ ts. refl) (λ s ts. first ! $ blocks ! $
-    let e : ℕ = count_of p + 8 in let zero_is : 0 * 8 + e ≡ e = omega arith in sets ! (addr ! (from ! (fld ! refl (hop ! (look_in_at ! 4 (sub ! 0 refl (all_of_it !))) (fld ! refl (stop !)))))) refl (tt, tt) $
+    let e : ℕ = count_of p + 8 in sets ! (addr ! (from ! (fld ! refl (hop ! (look_in_at ! 4 (sub ! 0 refl (all_of_it !))) (fld ! refl (stop !)))))) refl (tt, tt) $
     move ! (8 ∷ 7 ∷ 0 ∷ []) $ let Two : ℕ → Fml = moves.Two 𝓛 R token code_of holds z s k p id m l₁ r₁ in let out : ℕ → Fml = λ n. fsep (flft α s) (fex ℕ Two) in
-    use3 𝓛 (raw (𝓣.C _ (vptr (block_of p) e ∷ seq_cst ∷ []) (λ u. mean 𝓛 (found out u))))
-    (via 𝓤 _ (subst (λ (j : ℕ). ent 𝓤 (sep 𝓤 (𝓛.A.inv (fbor α (inside_owns R token code_of.code z holds))) (sep 𝓤 (𝓛.A.lft α s) (sem 𝓛 (seat_owns R token code_of.code z id m)))) (asks 𝓛 (block_ptr (block_of p) j) (λ n. n) always out)) zero_is
-    (moves.forks 𝓛 R token code_of holds z s k p id m l₁ r₁ asked.2)) (loads 𝓛 𝓜 𝓡 (code.calls-std::sync::atomic::raw::load 𝓡.env wired) (block_ptr (block_of p) e) out)) $
+    use3 𝓛 (raw (𝓣.C _ (vptr (block_of p) e ∷ seq_cst ∷ []) (λ u. mean 𝓛 (found out u)))) (via 𝓤 _ (moves.forks 𝓛 R token code_of holds z s k p id m l₁ r₁ asked.2) (loads 𝓛 𝓜 𝓡 (code.calls-std::sync::atomic::raw::load 𝓡.env wired) (block_ptr (block_of p) e) out)) $
     sets ! (agg ! (and_then ! (lit ! tt) (no_more !))) refl (tt, (record { fits = lit< tt }, tt)) $
     Calls-last ! (fm 𝓛 𝓜 𝓡) (found out) (and_then ! (get ! refl) (and_then ! (get ! refl) (no_more !))) (λ u. finds ! out (λ n fits. lands_last ! refl (tt, record { fits = fits }) $ exec ! 𝓣.C 𝓣.Λ locals (after 1 mir.body) (at_ret locals Post) $
     sets ! (agg ! (no_more !)) refl (tt, tt) $ sets ! (agg ! (and_then ! (get ! refl) (no_more !))) refl (tt, (tt, tt)) $

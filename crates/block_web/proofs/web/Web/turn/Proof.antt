@@ -1,5 +1,5 @@
 -- `turn` is one step on a link, and the seat goes with it.
-use Rattle.block_web.proofs.Walks.{ℕ, ◌+◌, List, [], ◌∷◌, sym, refl, w64, Ty, Body, a_type, dcons, dnil, named, ty_ptr, Val, vint, vnull, vptr, inst_fn, Coded, SProp, Lft, Fml, ftrue, fsep, flft, WpFn, Wp, after_seq, at_return, mean, ‵, raw, ◌⊛◌, given, at_ret, any_q, ◌$◌, ◌∵◌, !, qed, by, move, keep, drop, use0, use1, use3, learn, rewrite, stop, from, fld, hop, addr, lit, of_opd, switches, no_more, and_then, first, blocks, exec, Calls-last, returns, enter, switches_on, alloc_all, pass_all, free_all, look_at, look_in_at, get, get_in, get_tag, sets, sets_last, lands_last, env, vrt, in_variant, agg, sub, all_of_it, tokens_halve, tables, fact, yes, no, RattleType, owns, types_at, plain, Ptr, block_ptr, null_ptr, ptr_val, block_of, count_of, InBlock, param, bounded, RefOf, u64, mut_vals, mut_Tells, shr_vals, shr_Tells, uint_vals, uint_Tells, Stays, stay_dropped, stay_ref, walk_of, Goes-dropped, Goes-ref, Ok, Err, Good-round, proved, leaves, fm, seq_cst, stored, has_stored, Sitter, AllowsLink, Sits, Same, WebId, age, seat_owns, head, after, arm_body, ptr_good, place_val, place_told, place_made, word_laws, in_block, tells, fpick, lent_back, begins_step, ends_step, takes_step}
+use Rattle.block_web.proofs.Walks.{ℕ, ◌+◌, List, [], ◌∷◌, sym, refl, w64, Ty, Body, a_type, dcons, dnil, named, ty_ptr, Val, vint, vnull, vptr, inst_fn, Coded, SProp, Lft, Fml, ftrue, fsep, flft, WpFn, Wp, after_seq, at_return, mean, ‵, raw, ◌⊛◌, given, at_ret, any_q, ◌$◌, ◌∵◌, !, qed, by, move, keep, drop, use0, use1, use3, learn, rewrite, stop, from, fld, hop, addr, lit, of_opd, switches, no_more, and_then, first, blocks, exec, Calls-last, returns, enter, switches_on, alloc_all, pass_all, free_all, look_at, look_in_at, get, get_in, get_tag, sets, sets_last, lands_last, env, vrt, in_variant, agg, sub, all_of_it, tokens_halve, tables, fact, yes, no, RattleType, owns, types_at, plain, Ptr, block_ptr, null_ptr, ptr_val, block_of, count_of, InBlock, param, bounded, RefOf, u64, mut_vals, mut_Tells, shr_vals, shr_Tells, uint_vals, uint_Tells, Stays, stay_dropped, stay_ref, walk_of, Goes-dropped, Goes-ref, Ok, Err, Good-round, proved, leaves, fm, seq_cst, stored, has_stored, Sitter, AllowsLink, Sits, Same, WebId, age, seat_owns, head, after, arm_body, ptr_good, place_val, place_told, place_made, word_laws, tells, fpick, lent_back, begins_step, ends_step, takes_step, enters_at}
 use Rattle.block_web.specs.contracts.block.Link as link
 use Rattle.block_web.specs.contracts.web.Web as web
 use Rattle.block_web.specs.contracts.web.Seat as seat
@@ -37,9 +37,7 @@ turn_spec 𝓤 𝓛 𝓜 𝓡 wired S V K P A M _ _ _ _ _ _ g d ga da dd g' d' _
     qed 𝓛 (((‵ (flft κs.0 qs.0) ⊛ ‵ (flft κs.1.0 qs.1.0) ⊛ ‵ others) ⊛ ‵ (owns (types_at goal.signature.params κs) a y.0.4)) ∷ raw (fact 𝓤 _) ∷ raw (fact 𝓤 _) ∷ raw (fact 𝓤 _) ∷ raw (fact 𝓤 _) ∷ raw (fact 𝓤 _) ∷ raw (fact 𝓤 _)
     ∷ given (Sits h t × InBlock p × AllowsLink holds id m k p (leads_to op n) (λ q. then (told_place op n q))) (‵ ftrue) ∷ []) ∵
     keep ! (7 ∷ 0 ∷ []) $ learn ! (λ asked. drop ! $ takes_step ! $
-    let us : Ptr → List Val = λ u. vptr a.0.ref_ptr.0 a.0.ref_ptr.1 ∷ vptr b' o' ∷ vint w64 k ∷ place_val u ∷ turn_val op ∷ place_val n ∷ [] in let p' : Ptr = block_ptr (block_of p) (count_of p) in
-    in_block ! p asked.1 (λ u. WpFn 𝓤 H 𝓣.C 𝓣.Λ mir (us u) Post) $
-    enter ! 𝓣.C 𝓣.Λ mir (us p') Post $ alloc_all ! (λ l. pass_all ! refl ((tt, tt), ((tt, tt), ((tt, record { fits = are.1.1.0.1 }), ((tt, (tt, tt)), (turn_good op, ((Good-round [] ty_ptr _ (ptr_good n)), tt)))))) $ let locals = env mir.locals l in
+    enters_at ! p asked.1 𝓣.C 𝓣.Λ mir (λ u. vptr a.0.ref_ptr.0 a.0.ref_ptr.1 ∷ vptr b' o' ∷ vint w64 k ∷ place_val u ∷ turn_val op ∷ place_val n ∷ []) Post $ alloc_all ! (λ l. pass_all ! refl ((tt, tt), ((tt, tt), ((tt, record { fits = are.1.1.0.1 }), ((tt, (tt, tt)), (turn_good op, ((Good-round [] ty_ptr _ (ptr_good n)), tt)))))) $ let locals = env mir.locals l in
     begins_step ! tt Seat h (tokens_halve 𝓛 α) b' o' (λ (x : WebId × A.Denot). seat_owns R (ga.dealloc_token x.1) code_of.code x.0 id m) (λ j. (asked.0.0 j, asked.0.1 j)) (λ ts. refl) (λ s ts.
     -- [the seat; its fields; its place in three; the web's open token; its token; the invariant; the other tokens]
     let out : Ptr → Fml = λ u. fsep (flft α s) (moves.told 𝓛 R token code_of holds z s k p id m (IsToldPlace op n) then u) in let more : Body = after 4 mir.body in let arm : ℕ → Body = λ i. arm_body i (head (after 3 mir.body)) in
@@ -60,8 +58,7 @@ turn_spec 𝓤 𝓛 𝓜 𝓡 wired S V K P A M _ _ _ _ _ _ g d ga da dd g' d' _
             ends_step ! tt Seat b' o' ts 4 seated (λ x. refl) (λ m'. fpick ! (λ so. drop ! $ lands_last ! refl (tt, tt) $ exec ! 𝓣.C 𝓣.Λ locals (after 1 (arm 1)) (any_q Then) $ sets_last ! (of_opd ! (get ! refl)) refl (ptr_good n) $ exec ! 𝓣.C 𝓣.Λ locals more (at_ret locals Post) $ forget_but ! locals (13 ∷ []) refl $ ends n m' so))))),
         (
           (λ e. rewrite ! 0 (λ (i : ℕ). raw (asks_turn 𝓛 place n out i)) e refl $ use1 𝓛 (raw (𝓣.C _ (ptr_val place ∷ vnull ∷ ptr_val n ∷ seq_cst ∷ seq_cst ∷ []) (λ u. mean 𝓛 (pointers.answered 𝓛 out out u)))) (pointers.exchanges 𝓛 𝓜 𝓡 (code.calls-std::sync::atomic::raw::ptr::compare_exchange 𝓡.env wired) u64 word_laws place null_ptr n out out) $
-              first ! $ blocks ! $ sets ! (agg ! (and_then ! (lit ! tt) (no_more !))) refl pointers.seq_cst_good $ sets ! (agg ! (and_then ! (lit ! tt) (no_more !))) refl pointers.seq_cst_good $
-              let Last = goes_on Then (after 3 (arm 2)) in
+              first ! $ blocks ! $ sets ! (agg ! (and_then ! (lit ! tt) (no_more !))) refl pointers.seq_cst_good $ sets ! (agg ! (and_then ! (lit ! tt) (no_more !))) refl pointers.seq_cst_good $ let Last = goes_on Then (after 3 (arm 2)) in
               Calls-last ! (fm 𝓛 𝓜 𝓡) (pointers.answered 𝓛 out out) (and_then ! (get ! refl) (and_then ! (lit ! tt) (and_then ! (get ! refl) (and_then ! (get ! refl) (and_then ! (get ! refl) (no_more !)))))) (λ u. pointers.hears ! out out
               (λ q. ends_step ! tt Seat b' o' ts 4 seated (λ x. refl) (λ m'. fpick ! (λ so. drop ! $ lands_last ! refl (pointers.answer_good (Ok q)) $ exec ! 𝓣.C 𝓣.Λ locals (after 1 (arm 2)) (any_q Then) $ sets ! (of_opd ! (get ! refl)) refl (pointers.answer_good (Ok q)) $
               first ! $ switches_on ! (get_tag ! (vrt ! refl (fld ! refl (stop !))) (all_of_it !)) $ exec ! 𝓣.C 𝓣.Λ locals (arm_body 0 (head (after 2 (arm 2)))) (any_q Last) $ sets ! (of_opd ! (get_in ! (vrt ! refl (fld ! refl (stop !))) (in_variant ! 0 0 refl refl (all_of_it !)))) refl (ptr_good q) $
