@@ -1,5 +1,5 @@
 -- A block among the others, its words, its link and its slots, and what acts do to them. Assumes `Logic`.
-use Rattle.block_web.proofs.Walks.{◌≡◌, ℕ, zero, suc, ◌+◌, ◌*◌, ◌<◌, ◌≤◌, Bool, true, List, [], ◌∷◌, ◌++◌, length, get_or, set, sym, refl, ap, ◌∙◌, subst, arith, length-set, true≢false, Option, Some, cell, get_elem?, Ura, Ty, SProp, ent, sep, wand, all, guard, apply∗, all_e, id⊢, Fml, ftrue, Logic, sem, ‵, raw, ◌⊛◌, given, ◌$◌, ◌∵◌, !, qed, by, move, keep, drop, use1, use2, split, fsplit, fsplit3, fjoin, fjoin3, fpick, fpack, learn, check, frame, each, assume, rewrite, done, RattleType, mem, Ptr, block_of, count_of, InBlock, nothing, word, row, Content, Home, Hand, Block, Sitter, Act, away, block, Lives, Rests, word_of, gone, with_word, with_next, with_home, without, blocks_after, sitter_after, Small, slots_at, content_owns, slot_owns, slots_own, Sized, hand_owns, edge, block_owns, laid_owns, chain_owns, spare_owns, SLOTS}
+use Rattle.block_web.proofs.Walks.{puts_back, ◌≡◌, ℕ, zero, suc, ◌+◌, ◌*◌, ◌<◌, ◌≤◌, Bool, true, List, [], ◌∷◌, ◌++◌, length, get_or, set, sym, refl, ap, ◌∙◌, subst, arith, length-set, true≢false, Option, Some, cell, get_elem?, Ura, Ty, SProp, ent, sep, wand, all, guard, id⊢, Fml, ftrue, Logic, sem, ‵, raw, ◌⊛◌, given, ◌$◌, ◌∵◌, !, qed, by, move, keep, drop, use1, use2, split, fsplit, fsplit3, fjoin, fjoin3, fpick, fpack, learn, check, frame, each, assume, rewrite, done, RattleType, mem, Ptr, block_of, count_of, InBlock, nothing, word, row, Content, Home, Hand, Block, Sitter, Act, away, block, Lives, Rests, word_of, gone, with_word, with_next, with_home, without, blocks_after, sitter_after, Small, slots_at, content_owns, slot_owns, slots_own, Sized, hand_owns, edge, block_owns, laid_owns, chain_owns, spare_owns, SLOTS}
 use Rattle.std.proofs.Common.{suc-mul, zero-mul}
 use mathlib.Core.Option as maybe
 use lib.Seq.{set-get_or}
@@ -54,11 +54,10 @@ module _ {M : Type 1} {𝓤 : Ura M} (𝓛 : Logic 𝓤) (R : RattleType) (token
   one_block [] k e = absurd (true≢false (sym e))
   one_block (x ∷ xs) zero e = qed 𝓛 (‵ (laid_owns R token x) ∷ ‵ (chain_owns R token xs) ∷ []) ∵ use1 𝓛 (‵ (block_owns R token x)) (awake x e) $ frame ! $ each ! (Replace (x ∷ xs) 0) (λ y. assume ! (‵ (laid_owns R token y)) $ done !)
   one_block (x ∷ xs) (suc k) e = qed 𝓛 (‵ (laid_owns R token x) ∷ ‵ (chain_owns R token xs) ∷ []) ∵ move ! (1 ∷ []) $ use1 𝓛 (‵ (block_owns R token (block xs k)) ⊛ raw (all 𝓤 (Replace xs k))) (one_block xs k e) $ split ! $ frame ! $
-      each ! (Replace (x ∷ xs) (suc k)) (λ y. use1 𝓛 (raw (Replace xs k y)) (all_e 𝓤 (Replace xs k) y) $ assume ! (‵ (laid_owns R token y)) $
-      use2 𝓛 (‵ (chain_owns R token (set xs k y))) (apply∗ 𝓤 ⟦ laid_owns R token y ⟧ ⟦ chain_owns R token (set xs k y) ⟧) $ move ! (1 ∷ 0 ∷ []) $ done !)
+      each ! (Replace (x ∷ xs) (suc k)) (λ y. assume ! (‵ (laid_owns R token y)) $ puts_back ! (laid_owns R token) (λ z. chain_owns R token (set xs k z)) y $ move ! (1 ∷ 0 ∷ []) $ done !)
 
   pub replaces : (bs : List (Block S)) (k : ℕ) (x : Block S) → ⟦ laid_owns R token x ⟧ ∗ all 𝓤 (Replace bs k) ⊢ ⟦ chain_owns R token (set bs k x) ⟧
-  replaces bs k x = qed 𝓛 (‵ (laid_owns R token x) ∷ raw (all 𝓤 (Replace bs k)) ∷ []) ∵ move ! (1 ∷ []) $ use1 𝓛 (raw (Replace bs k x)) (all_e 𝓤 (Replace bs k) x) $ move ! (1 ∷ 0 ∷ []) $ by ! (apply∗ 𝓤 ⟦ laid_owns R token x ⟧ ⟦ chain_owns R token (set bs k x) ⟧)
+  replaces bs k x = qed 𝓛 (‵ (laid_owns R token x) ∷ raw (all 𝓤 (Replace bs k)) ∷ []) ∵ puts_back ! (laid_owns R token) (λ y. chain_owns R token (set bs k y)) x $ done !
 
   pub lays_last : (bs : List (Block S)) (x : Block S) → ⟦ chain_owns R token bs ⟧ ∗ ⟦ laid_owns R token x ⟧ ⊢ ⟦ chain_owns R token (bs ++ x ∷ []) ⟧
   lays_last [] x = qed 𝓛 (‵ ftrue ∷ ‵ (laid_owns R token x) ∷ []) ∵ move ! (1 ∷ 0 ∷ []) $ done !
@@ -78,8 +77,7 @@ module _ {M : Type 1} {𝓤 : Ura M} (𝓛 : Logic 𝓤) (R : RattleType) (token
       each ! (Reshelve (h ∷ hs) 0 b e e') (λ u. assume ! (‵ (slot_owns R u b e')) $ rewrite ! 0 (λ (i : ℕ). ‵ (slot_owns R u b i)) (sym same) refl $ done !)
   shelf_at (h ∷ hs) (suc j) b e e' is near = let z = suc-mul j s in qed 𝓛 (‵ (slot_owns R h b e) ∷ ‵ (slots_own R hs b (e + s)) ∷ []) ∵ move ! (1 ∷ []) $
       use1 𝓛 (‵ (slot_owns R (get_or hs j away) b e') ⊛ raw (all 𝓤 (Reshelve hs j b (e + s) e'))) (shelf_at hs j b (e + s) e' (omega arith) (omega arith)) $ split ! $ frame ! $
-      each ! (Reshelve (h ∷ hs) (suc j) b e e') (λ u. use1 𝓛 (raw (Reshelve hs j b (e + s) e' u)) (all_e 𝓤 (Reshelve hs j b (e + s) e') u) $ assume ! (‵ (slot_owns R u b e')) $
-      use2 𝓛 (‵ (slots_own R (set hs j u) b (e + s))) (apply∗ 𝓤 ⟦ slot_owns R u b e' ⟧ ⟦ slots_own R (set hs j u) b (e + s) ⟧) $ move ! (1 ∷ 0 ∷ []) $ done !)
+      each ! (Reshelve (h ∷ hs) (suc j) b e e') (λ u. assume ! (‵ (slot_owns R u b e')) $ puts_back ! (λ v. slot_owns R v b e') (λ v. slots_own R (set hs j v) b (e + s)) u $ move ! (1 ∷ 0 ∷ []) $ done !)
 
   edge_again : (hs : List (Home S)) (j : ℕ) (h : Home S) (p : Ptr) → ⟦ edge R token hs p ⟧ ⊢ ⟦ edge R token (set hs j h) p ⟧
   edge_again [] j h p = id⊢ 𝓤 _
@@ -103,14 +101,12 @@ module _ {M : Type 1} {𝓤 : Ura M} (𝓛 : Logic 𝓤) (R : RattleType) (token
       let x : Block S = block bs k in let b : ℕ = block_of x.at in let o : ℕ = slots_at R (count_of x.at) in let e : ℕ = j * s + o in
       qed 𝓛 (‵ (chain_owns R token bs) ∷ []) ∵ use1 𝓛 (‵ (block_owns R token x) ⊛ raw (all 𝓤 (Replace bs k))) (one_block bs k lies.0) $ split ! $ fsplit3 ! $ fpick ! (λ so. drop ! $ move ! (1 ∷ []) $ fsplit3 ! $ move ! (1 ∷ []) $
       check ! (so.0, so.1, (let short = so.3 in omega arith)) $ use1 𝓛 (‵ (slot_owns R (get_or x.homes j away) b e) ⊛ raw (all 𝓤 (Reshelve x.homes j b o e))) (shelf_at x.homes j b o e refl near) $ split ! $ frame ! $
-      each ! (Rehome bs k x.at j) (λ h. let x' : Block S = homed x j h in use1 𝓛 (raw (Reshelve x.homes j b o e h)) (all_e 𝓤 (Reshelve x.homes j b o e) h) $ assume ! (‵ (slot_owns R h b e)) $
-      use2 𝓛 (‵ (slots_own R x'.homes b o)) (apply∗ 𝓤 ⟦ slot_owns R h b e ⟧ ⟦ slots_own R x'.homes b o ⟧) $ move ! (2 ∷ []) $ use1 𝓛 (‵ (edge R token x'.homes x.at)) (edge_again x.homes j h x.at) $
+      each ! (Rehome bs k x.at j) (λ h. let x' : Block S = homed x j h in assume ! (‵ (slot_owns R h b e)) $ puts_back ! (λ u. slot_owns R u b e) (λ u. slots_own R (set x.homes j u) b o) h $ move ! (2 ∷ []) $ use1 𝓛 (‵ (edge R token x'.homes x.at)) (edge_again x.homes j h x.at) $
       move ! (2 ∷ 1 ∷ 0 ∷ []) $ fjoin3 ! $ nothing ! $ fpack ! (Sized R x') (λ _. ftrue) (so.0, so.1, so.2, subst (λ (n : ℕ). n ≤ SLOTS) (sym (length-set x.homes j h)) so.3) $ move ! (0 ∷ 2 ∷ 1 ∷ []) $ fjoin3 ! $
       use1 𝓛 (‵ (laid_owns R token x')) (asleep x' lies.0) $ by ! (replaces bs k x'))))
 
   pub rehomes : (bs : List (Block S)) (k : ℕ) (p : Ptr) (j : ℕ) (h : Home S) → ⟦ slot_owns R h (block_of p) (slot_place p j) ⟧ ∗ all 𝓤 (Rehome bs k p j) ⊢ ⟦ chain_owns R token (with_home bs k j h) ⟧
-  rehomes bs k p j h = let X : Pr = ⟦ slot_owns R h (block_of p) (slot_place p j) ⟧ in let W : Pr = ⟦ chain_owns R token (with_home bs k j h) ⟧ in
-      qed 𝓛 (‵ (slot_owns R h (block_of p) (slot_place p j)) ∷ raw (all 𝓤 (Rehome bs k p j)) ∷ []) ∵ move ! (1 ∷ []) $ use1 𝓛 (raw (Rehome bs k p j h)) (all_e 𝓤 (Rehome bs k p j) h) $ move ! (1 ∷ 0 ∷ []) $ by ! (apply∗ 𝓤 X W)
+  rehomes bs k p j h = qed 𝓛 (‵ (slot_owns R h (block_of p) (slot_place p j)) ∷ raw (all 𝓤 (Rehome bs k p j)) ∷ []) ∵ puts_back ! (λ u. slot_owns R u (block_of p) (slot_place p j)) (λ u. chain_owns R token (with_home bs k j u)) h $ done !
 
   -- the same for a slot with a content at home
   pub content_at : (bs : List (Block S)) (k : ℕ) (p : Ptr) (j : ℕ) (c : Content S) → Lives bs k p → Rests bs k j c
@@ -149,8 +145,7 @@ module _ {M : Type 1} {𝓤 : Ura M} (𝓛 : Logic 𝓤) (R : RattleType) (token
       let x : Block S = block bs k in let b : ℕ = block_of x.at in let o : ℕ = count_of x.at + 8 in let e : ℕ = i * 8 + o in
       qed 𝓛 (‵ (chain_owns R token bs) ∷ []) ∵ use1 𝓛 (‵ (block_owns R token x) ⊛ raw (all 𝓤 (Replace bs k))) (one_block bs k lies.0) $ split ! $ fsplit3 ! $ fpick ! (λ so. drop ! $ move ! (1 ∷ []) $ fsplit ! $ let long = so.2 in
       use1 𝓛 (‵ (word b e (get_or x.words i 0)) ⊛ raw (all 𝓤 (Reset 𝓛 b o e x.words i))) (row_at 𝓛 b o e x.words i (omega arith) refl) $ split ! $ frame ! $
-      each ! (Reworded bs k x.at i) (λ n. let x' : Block S = worded x i n in use1 𝓛 (raw (Reset 𝓛 b o e x.words i n)) (all_e 𝓤 (Reset 𝓛 b o e x.words i) n) $ assume ! (‵ (word b e n)) $
-      use2 𝓛 (‵ (row b o (set x.words i n))) (apply∗ 𝓤 ⟦ word b e n ⟧ ⟦ row b o (set x.words i n) ⟧) $ fjoin ! $
+      each ! (Reworded bs k x.at i) (λ n. let x' : Block S = worded x i n in assume ! (‵ (word b e n)) $ puts_back ! (word b e) (λ m. row b o (set x.words i m)) n $ fjoin ! $
       nothing ! $ fpack ! (Sized R x') (λ _. ftrue) (so.0, so.1, length-set x.words i n ∙ so.2, so.3) $ move ! (0 ∷ 2 ∷ 1 ∷ []) $ fjoin3 ! $ use1 𝓛 (‵ (laid_owns R token x')) (asleep x' lies.0) $ by ! (replaces bs k x'))))
 
   -- ---- the link of a block, and another in its place

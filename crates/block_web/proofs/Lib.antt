@@ -3,6 +3,7 @@ pub mod Blocks
 pub mod Moves
 pub mod Operations
 pub mod Operating
+pub mod Turning
 pub mod Shown
 pub mod Sent
 pub mod Rooms

@@ -1,11 +1,11 @@
 -- What a step of a seat does to the web, while the invariant is open for that step; and the web's first and last moments. Assumes `Logic`.
-use Rattle.block_web.proofs.Walks.{◌≡◌, ℕ, ◌+◌, ◌*◌, ◌<◌, List, [], ◌∷◌, ◌++◌, set, sym, refl, subst, arith, w64, None, asks, always, cell, alike, compares, Bool, cond, get_elem?, Ura, Ty, ty_int, vint, vnull, ptr_same, has_ty, WT, full_share, Coded, SProp, ent, sep, wand, ex, all, guard, upd, emp, via, apply∗, all_e, upd_i, Lft, Share, Fml, ftrue, fsep, fex, fbor, finv, flft, Logic, sem, ‵, raw, ◌⊛◌, some, given, later, ◌$◌, ◌∵◌, !, qed, by, move, keep, drop, use0, use1, use2, use3, split, split3, fsplit, fsplit3, fjoin, fjoin3, fpick, fpack, pick, learn, check, show, frame, each, assume, suffices, await, rewrite, settle, done, RattleType, Ptr, block_ptr, null_ptr, ptr_val, block_of, count_of, Testable, nothing, word, Block, Sitter, Act, sitter, block, Lives, word_of, with_word, with_next, blocks_after, sitter_after, if_unset, Allows, AllowsLink, Stands, CanFork, CanMerge, LastBlocks, LastBlocksBy, WebId, age, hand_owns, chain_owns, spare_owns, seat_owns, inside_owns, web_owns, SLOTS}
+use Rattle.block_web.proofs.Walks.{puts_back, ◌≡◌, ℕ, ◌+◌, ◌*◌, ◌<◌, List, [], ◌∷◌, ◌++◌, set, sym, refl, subst, arith, w64, None, asks, always, cell, alike, Bool, cond, get_elem?, Ura, Ty, ty_int, vint, vnull, ptr_same, has_ty, WT, full_share, Coded, SProp, ent, sep, wand, ex, all, guard, upd, emp, via, apply∗, all_e, upd_i, Lft, Share, Fml, ftrue, fsep, fex, fbor, finv, flft, Logic, sem, ‵, raw, ◌⊛◌, some, given, later, ◌$◌, ◌∵◌, !, qed, by, move, keep, drop, use0, use1, use2, use3, split, split3, fsplit, fsplit3, fjoin, fjoin3, fpick, fpack, pick, learn, check, show, frame, each, assume, suffices, await, rewrite, settle, done, RattleType, Ptr, block_ptr, null_ptr, ptr_val, block_of, count_of, Testable, nothing, word, Block, Sitter, Act, sitter, block, Lives, word_of, with_word, with_next, blocks_after, sitter_after, if_unset, Allows, AllowsLink, Stands, CanFork, CanMerge, LastBlocks, LastBlocksBy, WebId, age, hand_owns, chain_owns, spare_owns, seat_owns, inside_owns, web_owns, SLOTS}
 use Rattle.std.proofs.Common.{T}
 use Rattle.std.specs.Sync.RawAtomic.Pointer.{asks_ptr}
 use mathlib.Core.Option as maybe
 use base.Share.{quarter, three_quarters}
 use base.Fml.{flent}
-use types.Kit.{updating, now}
+use types.Kit.{Item, Seq, Step, step, Goal, prop, updating, now}
 use types.Owned.{basic}
 use types.Keyed.{entries_new, entries_take}
 use types.Tokens.{lft_new, lft_end, bor_new, lent_back}
@@ -13,6 +13,10 @@ use Rattle.atomic_table.specs.Seated.{fact, seen, roster, halved, unused}
 use Rattle.atomic_table.proofs.Roster.{Moved, moves, Joined, joins, apart, resets}
 use Rattle.block_web.specs.Web.{State, viewed, Goes}
 use Rattle.block_web.specs.Laid.{state_owns, known_to_all}
+use Rattle.block_web.specs.Links.{leads_to, told_place, IsToldPlace}
+use Rattle.block_web.specs.declared.operation.LinkOperation.{LinkOperation}
+use Rattle.block_web.specs.declared.operation.LinkOperation.TheVariants as does
+use Rattle.block_web.proofs.Turning.{turn_tag, asks_turn}
 use Rattle.block_web.proofs.Borrowed.{word_step, Word-found, link_step, Link-found, null_step, null_tested}
 use Rattle.block_web.proofs.Blocks.{acts, Reworded, word_at, Relinked, link_at, same_word}
 
@@ -60,6 +64,19 @@ module _ {M : Type 1} {𝓤 : Ura M} (𝓛 : Logic 𝓤) (R : RattleType) (token
     shuts_in bs vs good = let t : State S V = record { blocks = bs; views = vs } in qed 𝓛 (‵ (chain_owns R token bs) ∷ ‵ (roster cv.code γ 0 vs) ∷ []) ∵
         nothing ! $ fpack ! (holds t) (λ _. ftrue) good $ move ! (1 ∷ 2 ∷ 0 ∷ []) $ fjoin3 ! $ fpack ! (State S V) (state_owns R token cv.code z holds) t $ done !
 
+    module _ {K : Type 0} {Γ : List (Item 𝓤)} where
+      -- the invariant is opened
+      looks_in : K → {G : Goal 𝓤 H} → ((s : State S V) → holds s → Seq K 𝓛 (‵ (chain_owns R token s.blocks) ∷ ‵ (roster cv.code γ 0 s.views) ∷ Γ) G) → Seq K 𝓛 (‵ I ∷ Γ) G
+      looks_in t k = fpick t (λ s. fsplit3 t $ move t (2 ∷ []) $ fpick t (λ so. drop t $ k s so))
+
+      -- a seat's part of its view shows that the view stands among the views
+      knows : K → {G : Goal 𝓤 H} (vs : List V) (j : ℕ) (v : V) → (get_elem? vs j ≡ maybe.some v → Seq K 𝓛 (raw (all 𝓤 (Moved 𝓛 cv γ 0 vs j j)) ∷ Γ) G) → Seq K 𝓛 (‵ (roster cv.code γ 0 vs) ∷ ‵ (part j v) ∷ Γ) G
+      knows t vs j v k = use2 𝓛 (given (get_elem? vs j ≡ maybe.some v) (raw (all 𝓤 (Moved 𝓛 cv γ 0 vs j j)))) (moves 𝓛 cv γ vs 0 j j v (omega arith)) $ learn t k
+
+      -- and another takes its place
+      renews : K → (vs : List V) (j : ℕ) (w : V) (P : Pr) → Step K 𝓛 (‵ (roster cv.code γ 0 (set vs j w)) ∷ ‵ (part j w) ∷ Γ) (prop (upd 𝓤 P)) (raw (all 𝓤 (Moved 𝓛 cv γ 0 vs j j)) ∷ Γ) (prop (upd 𝓤 P))
+      renews t vs j w P = step (λ s. use1 𝓛 (raw (Moved 𝓛 cv γ 0 vs j j w)) (all_e 𝓤 (Moved 𝓛 cv γ 0 vs j j) w) $ settle 𝓛 P (‵ (roster cv.code γ 0 (set vs j w)) ⊛ ‵ (part j w)) $ split t $ s)
+
     abbrev pub Seated : ℕ → (Sitter S V → Type 0) → Sitter S V → Fml
     Seated id then u = fsep (fact (then u)) (sat id u)
 
@@ -72,7 +89,7 @@ module _ {M : Type 1} {𝓤 : Ura M} (𝓛 : Logic 𝓤) (R : RattleType) (token
         → ⟦ chain_owns R token bs ⟧ ∗ all 𝓤 (Moved 𝓛 cv γ 0 s.views id id) ∗ (⟦ hand_owns R m.hand ⟧ ∗ ⟦ spare_owns R token m.spare ⟧) ⊢ upd 𝓤 (⟦ I ⟧ ∗ ⟦ after id then ⟧)
     carries_on s bs id m then r = let w : V = r.0 in let more : List (Act S) = r.1 in let u : Sitter S V = viewed w (sitter_after bs m more) in let Z : Pr = ⟦ I ⟧ ∗ ⟦ after id then ⟧ in let vs : List V = set s.views id w in
         qed 𝓛 (‵ (chain_owns R token bs) ∷ raw (all 𝓤 (Moved 𝓛 cv γ 0 s.views id id)) ∷ ‵ (hand_owns R m.hand) ∷ ‵ (spare_owns R token m.spare) ∷ []) ∵ move ! (1 ∷ []) $
-        use1 𝓛 (raw (Moved 𝓛 cv γ 0 s.views id id w)) (all_e 𝓤 (Moved 𝓛 cv γ 0 s.views id id) w) $ settle 𝓛 Z (‵ (roster cv.code γ 0 vs) ⊛ ‵ (part id w)) $ split ! $ move ! (2 ∷ 3 ∷ 4 ∷ []) $
+        renews ! s.views id w Z $ move ! (2 ∷ 3 ∷ 4 ∷ []) $
         use3 𝓛 (‵ (chain_owns R token (blocks_after bs more)) ⊛ ‵ (hand_owns R u.hand) ⊛ ‵ (spare_owns R token u.spare)) (acts 𝓛 R token bs m more r.2) $ split3 ! $ move ! (0 ∷ 3 ∷ []) $
         use2 𝓛 (‵ I) (shuts_in (blocks_after bs more) vs r.3) $ suffices ! _ (upd_i 𝓤 Z) $ frame ! $ show ! (λ (x : Sitter S V). ⟦ Seated id then x ⟧) u $
         nothing ! $ fpack ! (then u) (λ _. ftrue) r.4 $ move ! (0 ∷ 3 ∷ 1 ∷ 2 ∷ []) $ done !
@@ -90,14 +107,14 @@ module _ {M : Type 1} {𝓤 : Ura M} (𝓛 : Logic 𝓤) (R : RattleType) (token
           ⟦ chain_owns R token (with_word s.blocks k i (f (word_of s.blocks k i))) ⟧ -∗ upd 𝓤 (⟦ I ⟧ ∗ ⟦ gain (word_of s.blocks k i) ⟧))))
           → A.inv (fbor κ I) ∗ A.lft κ q ∗ X ⊢ asks 𝓛 (block_ptr b (word_place i)) f always (λ n. fsep (flft κ q) (gain n))
       words_by i f gain X near law = let e : ℕ = word_place i in let G : Pr = ex 𝓤 (Word-found 𝓛 κ q I b e f gain) in
-          word_step 𝓛 κ q I b e f gain X (qed 𝓛 (‵ I ∷ raw X ∷ []) ∵ suffices ! _ (upd_i 𝓤 G) $ fpick ! (λ s. fsplit3 ! $ move ! (2 ∷ []) $ fpick ! (λ so. drop ! $ move ! (1 ∷ 2 ∷ []) $
+          word_step 𝓛 κ q I b e f gain X (qed 𝓛 (‵ I ∷ raw X ∷ []) ∵ suffices ! _ (upd_i 𝓤 G) $ looks_in ! (λ s so. move ! (1 ∷ 2 ∷ []) $
           let n : ℕ = word_of s.blocks k i in let W : Fml = chain_owns R token (with_word s.blocks k i (f n)) in let Z : Pr = upd 𝓤 (⟦ I ⟧ ∗ ⟦ gain n ⟧) in let Then : n < 18446744073709551616 → Pr = λ _. ⟦ W ⟧ -∗ Z in
           use2 𝓛 (given (Lives s.blocks k p) (raw (all 𝓤 Then))) (law s so) $ learn ! (λ lies. move ! (1 ∷ []) $
           use1 𝓛 (‵ (word b e n) ⊛ raw (all 𝓤 (Reworded 𝓛 R token s.blocks k p i))) (word_at 𝓛 R token s.blocks k p i near lies) $ split ! $
           use1 𝓛 (given (T (has_ty (ty_int w64) (vint w64 n)) × WT (vint w64 n)) (‵ (word b e n))) (𝓛.laws.at_wt full_share (ty_int w64) b e (vint w64 n)) $ learn ! (λ typed.
           show ! (Word-found 𝓛 κ q I b e f gain) n $ frame ! $
-          use1 𝓛 (raw (Reworded 𝓛 R token s.blocks k p i (f n))) (all_e 𝓤 (Reworded 𝓛 R token s.blocks k p i) (f n)) $ assume ! (‵ (word b e (f n))) $ use2 𝓛 (‵ W) (apply∗ 𝓤 ⟦ word b e (f n) ⟧ ⟦ W ⟧) $ move ! (1 ∷ []) $
-          use1 𝓛 (raw (⟦ W ⟧ -∗ Z)) (all_e 𝓤 Then typed.1.fits) $ move ! (1 ∷ 0 ∷ []) $ by ! (apply∗ 𝓤 ⟦ W ⟧ Z))))))
+          assume ! (‵ (word b e (f n))) $ puts_back ! (word b e) (λ j. chain_owns R token (with_word s.blocks k i j)) (f n) $ move ! (1 ∷ []) $
+          use1 𝓛 (raw (⟦ W ⟧ -∗ Z)) (all_e 𝓤 Then typed.1.fits) $ move ! (1 ∷ 0 ∷ []) $ by ! (apply∗ 𝓤 ⟦ W ⟧ Z)))))
 
       -- The views after a load that changes no block, with what it leaves.
       abbrev Viewed : List (Block S) → Fml → List V → Pr
@@ -110,6 +127,11 @@ module _ {M : Type 1} {𝓤 : Ura M} (𝓛 : Logic 𝓤) (R : RattleType) (token
           each ! (λ (_ : n < 18446744073709551616). ⟦ W ⟧ -∗ upd 𝓤 Done) (λ _. assume ! (‵ W) $ rewrite ! 0 (λ (bs : List (Block S)). ‵ (chain_owns R token bs)) (same_word 𝓛 R token s.blocks k i) refl $ move ! (1 ∷ []) $
           settle 𝓛 Done (some (λ (vs : List V). given (holds record { blocks = s.blocks; views = vs }) (‵ (roster cv.code γ 0 vs) ⊛ ‵ gain))) $ pick ! (λ vs. learn ! (λ good. split ! $ move ! (2 ∷ 0 ∷ []) $
           use2 𝓛 (‵ I) (shuts_in s.blocks vs good) $ suffices ! _ (upd_i 𝓤 Done) $ frame ! $ done !)))))
+
+      -- the same of the first word
+      reads_first : (gain : Fml) (X : Pr) → ((s : State S V) → holds s → ⟦ roster cv.code γ 0 s.views ⟧ ∗ X ⊢ guard 𝓤 (Lives s.blocks k p) (upd 𝓤 (ex 𝓤 (Viewed s.blocks gain))))
+          → A.inv (fbor κ I) ∗ A.lft κ q ∗ X ⊢ asks 𝓛 (block_ptr b (count_of p + 8)) (λ n. n) always (λ n. fsep (flft κ q) gain)
+      reads_first gain X law = let first : word_place 0 ≡ count_of p + 8 = omega arith in subst (λ (j : ℕ). A.inv (fbor κ I) ∗ A.lft κ q ∗ X ⊢ asks 𝓛 (block_ptr b j) (λ n. n) always (λ n. fsep (flft κ q) gain)) first (reads_by 0 gain X (omega arith) law)
 
       -- a load without a seat
       pub peeks_at : (i : ℕ) → i < SLOTS → Stands holds k p → A.inv (fbor κ I) ∗ A.lft κ q ∗ emp 𝓤 ⊢ asks 𝓛 (block_ptr b (word_place i)) (λ n. n) always (λ n. fsep (flft κ q) ftrue)
@@ -124,7 +146,7 @@ module _ {M : Type 1} {𝓤 : Ura M} (𝓛 : Logic 𝓤) (R : RattleType) (token
             → A.inv (fbor κ I) ∗ A.lft κ q ∗ ⟦ sat id m ⟧ ⊢ asks 𝓛 (block_ptr b (word_place i)) f always (λ n. fsep (flft κ q) (after id (then n)))
         steps i f then near law = words_by i f (λ n. after id (then n)) ⟦ sat id m ⟧ near (λ s so. let n : ℕ = word_of s.blocks k i in let bs : List (Block S) = with_word s.blocks k i (f n) in
             qed 𝓛 (‵ (roster cv.code γ 0 s.views) ∷ ‵ (part id m.view) ∷ ‵ (hand_owns R m.hand) ∷ ‵ (spare_owns R token m.spare) ∷ []) ∵
-            use2 𝓛 (given (Found-view s) (raw (all 𝓤 (Moved 𝓛 cv γ 0 s.views id id)))) (moves 𝓛 cv γ s.views 0 id id m.view (omega arith)) $ learn ! (λ at. let r = law s so at in check ! r.0 $
+            knows ! s.views id m.view (λ at. let r = law s so at in check ! r.0 $
             each ! (λ (_ : n < 18446744073709551616). ⟦ chain_owns R token bs ⟧ -∗ upd 𝓤 (⟦ I ⟧ ∗ ⟦ after id (then n) ⟧)) (λ small. assume ! (‵ (chain_owns R token bs)) $ by ! (carries_on s bs id m (then n) (r.1 small)))))
 
         -- what a step on a link leaves: the seat, and a fact on the place found
@@ -137,16 +159,14 @@ module _ {M : Type 1} {𝓤 : Ura M} (𝓛 : Logic 𝓤) (R : RattleType) (token
             → ⟦ I ⟧ ∗ ⟦ sat id m ⟧ ⊢ upd 𝓤 (ex 𝓤 (Link-found 𝓛 κ q I b (count_of p + 0) C was new tells (λ c. told φ then (was c))))
         links_by C was f new tells φ then says cases law = let e : ℕ = count_of p + 0 in let L : C → Pr = Link-found 𝓛 κ q I b e C was new tells (λ c. told φ then (was c)) in
             qed 𝓛 (‵ I ∷ ‵ (part id m.view) ∷ ‵ (hand_owns R m.hand) ∷ ‵ (spare_owns R token m.spare) ∷ []) ∵ suffices ! _ (upd_i 𝓤 (ex 𝓤 L)) $
-            fpick ! (λ s. fsplit3 ! $ move ! (2 ∷ []) $ fpick ! (λ so. drop ! $ move ! (1 ∷ 2 ∷ []) $ let u : Ptr = (block s.blocks k).next in let bs : List (Block S) = with_next s.blocks k (f u) in let Moves : Pr = all 𝓤 (Moved 𝓛 cv γ 0 s.views id id) in
-            use2 𝓛 (given (Found-view s) (raw Moves)) (moves 𝓛 cv γ s.views 0 id id m.view (omega arith)) $ learn ! (λ at. let r = law s so at in let goes = r.1.1 in move ! (1 ∷ []) $
+            looks_in ! (λ s so. move ! (1 ∷ 2 ∷ []) $ let u : Ptr = (block s.blocks k).next in let bs : List (Block S) = with_next s.blocks k (f u) in let Moves : Pr = all 𝓤 (Moved 𝓛 cv γ 0 s.views id id) in
+            knows ! s.views id m.view (λ at. let r = law s so at in let goes = r.1.1 in move ! (1 ∷ []) $
             use1 𝓛 (‵ (cell b e u) ⊛ raw (all 𝓤 (Relinked 𝓛 R token s.blocks k p))) (link_at 𝓛 R token s.blocks k p r.0) $ split ! $
             use0 𝓛 (some (λ (c : C). given ((was c ≡ u) × (new c ≡ f u)) (‵ (tells c)))) (cases u r.1.0) $ pick ! (λ c. learn ! (λ is. show ! L c $
             rewrite ! 1 (λ (x : Ptr). ‵ (cell b e x)) (sym is.0) refl $ move ! (1 ∷ 0 ∷ []) $ frame ! $ frame ! $
-            assume ! (‵ (cell b e (new c))) $ rewrite ! 0 (λ (x : Ptr). ‵ (cell b e x)) is.1 refl $ move ! (1 ∷ []) $
-            use1 𝓛 (raw (Relinked 𝓛 R token s.blocks k p (f u))) (all_e 𝓤 (Relinked 𝓛 R token s.blocks k p) (f u)) $ move ! (1 ∷ 0 ∷ []) $
-            use2 𝓛 (‵ (chain_owns R token bs)) (apply∗ 𝓤 ⟦ cell b e (f u) ⟧ ⟦ chain_owns R token bs ⟧) $
+            assume ! (‵ (cell b e (new c))) $ rewrite ! 0 (λ (x : Ptr). ‵ (cell b e x)) is.1 refl $ puts_back ! (cell b e) (λ x. chain_owns R token (with_next s.blocks k x)) (f u) $
             by ! (subst (λ (x : Ptr). ⟦ chain_owns R token bs ⟧ ∗ Moves ∗ (⟦ hand_owns R m.hand ⟧ ∗ ⟦ spare_owns R token m.spare ⟧) ⊢ upd 𝓤 (⟦ I ⟧ ∗ ⟦ told φ then x ⟧)) (sym is.0)
-            (carries_on s bs id m (λ x. φ u × then u x) (goes.0, goes.1, goes.2, goes.3, (says u r.1.0, goes.4)))))))))
+            (carries_on s bs id m (λ x. φ u × then u x) (goes.0, goes.1, goes.2, goes.3, (says u r.1.0, goes.4))))))))
 
         -- a load, or a store of what f says
         relinks : (f : Ptr → Ptr) (φ : Ptr → Type 0) (then : Ptr → Sitter S V → Type 0) → ((u : Ptr) → Testable u → φ u) → AllowsLink holds id m k p f then
@@ -154,35 +174,30 @@ module _ {M : Type 1} {𝓤 : Ura M} (𝓛 : Logic 𝓤) (R : RattleType) (token
         relinks f φ then says law = link_step 𝓛 κ q I b (count_of p + 0) Ptr (λ u. u) f (λ _. ftrue) (told φ then) ⟦ sat id m ⟧ (links_by Ptr (λ u. u) f f (λ _. ftrue) φ then says
             (λ u low. qed 𝓛 (raw (emp 𝓤) ∷ []) ∵ show ! (λ (c : Ptr). guard 𝓤 ((c ≡ u) × (f c ≡ f u)) (emp 𝓤)) u $ check ! (refl, refl) $ done !) law)
 
-        pub follows : (then : Ptr → Sitter S V → Type 0) → AllowsLink holds id m k p (λ u. u) then → A.inv (fbor κ I) ∗ A.lft κ q ∗ ⟦ sat id m ⟧ ⊢ asks_ptr 𝓛 (block_ptr b (count_of p + 0)) (λ u. u) (λ u. fsep (flft κ q) (told Testable then u))
-        follows then law = relinks (λ u. u) Testable then (λ u low. low) law
-
-        pub leads : (new : Ptr) (then : Sitter S V → Type 0) → AllowsLink holds id m k p (λ _. new) (λ _. then)
-            → A.inv (fbor κ I) ∗ A.lft κ q ∗ ⟦ sat id m ⟧ ⊢ asks_ptr 𝓛 (block_ptr b (count_of p + 0)) (λ _. new) (λ _. fsep (flft κ q) (told (λ _. Unit {0}) (λ _. then) new))
-        leads new then law = relinks (λ _. new) (λ _. Unit {0}) (λ _. then) (λ u low. tt) law
-
         null_cond : (new u : Ptr) → cond (ptr_same (ptr_val u) vnull) new u ≡ if_unset new u
         null_cond new (block_ptr c o) = refl
         null_cond new null_ptr = refl
 
-        pub installs : (new : Ptr) (then : Ptr → Sitter S V → Type 0) → AllowsLink holds id m k p (if_unset new) then
-            → A.inv (fbor κ I) ∗ A.lft κ q ∗ ⟦ sat id m ⟧ ⊢ compares 𝓛 (block_ptr b (count_of p + 0)) null_ptr new (λ u. fsep (flft κ q) (told Testable then u)) (λ u. fsep (flft κ q) (told Testable then u))
-        installs new then law = let C : Type 0 = Ptr × Bool in let was : C → Ptr = λ c. c.0 in let new' : C → Ptr = λ c. cond c.1 new c.0 in let tells : C → Fml = λ c. alike c.0 null_ptr c.1 in
+        -- one step on the link
+        pub turns : (op : LinkOperation) (new : Ptr) (then : Ptr → Sitter S V → Type 0) → AllowsLink holds id m k p (leads_to op new) (λ u. then (told_place op new u))
+            → A.inv (fbor κ I) ∗ A.lft κ q ∗ ⟦ sat id m ⟧ ⊢ asks_turn 𝓛 (block_ptr b (count_of p + 0)) new (λ u. fsep (flft κ q) (told (IsToldPlace op new) then u)) (turn_tag op)
+        turns does.Load new then law = relinks (λ u. u) Testable then (λ u low. low) law
+        turns does.Store new then law = relinks (λ _. new) (λ _. new ≡ new) (λ _. then new) (λ u low. refl) law
+        turns does.Install new then law = let C : Type 0 = Ptr × Bool in let was : C → Ptr = λ c. c.0 in let new' : C → Ptr = λ c. cond c.1 new c.0 in let tells : C → Fml = λ c. alike c.0 null_ptr c.1 in
             null_step 𝓛 κ q I b (count_of p + 0) new (told Testable then) ⟦ sat id m ⟧ (links_by C was (if_unset new) new' tells Testable then (λ u low. low)
             (λ u low. let y : Bool = ptr_same (ptr_val u) vnull in qed 𝓛 (raw (emp 𝓤) ∷ []) ∵ show ! (λ (c : C). guard 𝓤 ((was c ≡ u) × (new' c ≡ if_unset new u)) ⟦ tells c ⟧) (u, y) $ check ! (refl, null_cond new u) $ by ! (null_tested 𝓛 u low)) law)
 
         -- a view cut in two
         module _ (l r : V) where
           abbrev pub Two : ℕ → Fml
-          Two j = fsep (sat id (sitter l m.hand m.spare)) (sat j (sitter r None None))
+          Two j = fsep (sat j (sitter r None None)) (sat id (sitter l m.hand m.spare))
 
-          pub forks : CanFork holds k p id m.view l r → A.inv (fbor κ I) ∗ A.lft κ q ∗ ⟦ sat id m ⟧ ⊢ asks 𝓛 (block_ptr b (word_place 0)) (λ n. n) always (λ n. fsep (flft κ q) (fex ℕ Two))
-          forks law = reads_by 0 (fex ℕ Two) ⟦ sat id m ⟧ (omega arith) (λ s so. let vs : List V = set s.views id l in let Z : Pr = ex 𝓤 (Viewed s.blocks (fex ℕ Two)) in
+          pub forks : CanFork holds k p id m.view l r → A.inv (fbor κ I) ∗ A.lft κ q ∗ ⟦ sat id m ⟧ ⊢ asks 𝓛 (block_ptr b (count_of p + 8)) (λ n. n) always (λ n. fsep (flft κ q) (fex ℕ Two))
+          forks law = reads_first (fex ℕ Two) ⟦ sat id m ⟧ (λ s so. let vs : List V = set s.views id l in let Z : Pr = ex 𝓤 (Viewed s.blocks (fex ℕ Two)) in
               qed 𝓛 (‵ (roster cv.code γ 0 s.views) ∷ ‵ (part id m.view) ∷ ‵ (hand_owns R m.hand) ∷ ‵ (spare_owns R token m.spare) ∷ []) ∵
-              use2 𝓛 (given (Found-view s) (raw (all 𝓤 (Moved 𝓛 cv γ 0 s.views id id)))) (moves 𝓛 cv γ s.views 0 id id m.view (omega arith)) $ learn ! (λ at. let good = law s so at in check ! good.0 $
-              use1 𝓛 (raw (Moved 𝓛 cv γ 0 s.views id id l)) (all_e 𝓤 (Moved 𝓛 cv γ 0 s.views id id) l) $ settle 𝓛 Z (‵ (roster cv.code γ 0 vs) ⊛ ‵ (part id l)) $ split ! $
+              knows ! s.views id m.view (λ at. let good = law s so at in check ! good.0 $ renews ! s.views id l Z $
               use1 𝓛 (raw (upd 𝓤 (ex 𝓤 (Joined 𝓛 cv γ 0 vs r)))) (joins 𝓛 cv γ vs 0 r) $ settle 𝓛 Z (some (λ (j : ℕ). ‵ (roster cv.code γ 0 (vs ++ r ∷ [])) ⊛ ‵ (part j r))) $ pick ! (λ j. split ! $ suffices ! _ (upd_i 𝓤 Z) $
-              show ! (Viewed s.blocks (fex ℕ Two)) (vs ++ r ∷ []) $ check ! good.1 $ frame ! $ show ! (λ (x : ℕ). ⟦ Two x ⟧) j $ nothing ! $ nothing ! $ move ! (2 ∷ 0 ∷ 1 ∷ []) $ fjoin3 ! $ move ! (1 ∷ 2 ∷ 3 ∷ []) $ fjoin3 ! $ done !)))
+              show ! (Viewed s.blocks (fex ℕ Two)) (vs ++ r ∷ []) $ check ! good.1 $ frame ! $ show ! (λ (x : ℕ). ⟦ Two x ⟧) j $ nothing ! $ nothing ! $ move ! (2 ∷ 0 ∷ 1 ∷ []) $ fjoin3 ! $ move ! (1 ∷ 2 ∷ 3 ∷ []) $ fjoin3 ! $ move ! (1 ∷ 0 ∷ []) $ fjoin ! $ done !)))
 
         -- a view taken in
         module _ (other : ℕ) (it : Sitter S V) (both spent : V) where
@@ -190,15 +205,12 @@ module _ {M : Type 1} {𝓤 : Ura M} (𝓛 : Logic 𝓤) (R : RattleType) (token
           Merged = fsep (sat id (sitter both m.hand m.spare)) (sat other (sitter spent it.hand it.spare))
 
           pub absorbs : CanMerge holds k p id m.view other it.view both spent
-              → A.inv (fbor κ I) ∗ A.lft κ q ∗ (⟦ sat id m ⟧ ∗ ⟦ sat other it ⟧) ⊢ asks 𝓛 (block_ptr b (word_place 0)) (λ n. n) always (λ n. fsep (flft κ q) Merged)
-          absorbs law = reads_by 0 Merged (⟦ sat id m ⟧ ∗ ⟦ sat other it ⟧) (omega arith) (λ s so. let good = law s so in let vs : List V = set s.views id both in let us : List V = set vs other spent in let Z : Pr = ex 𝓤 (Viewed s.blocks Merged) in
+              → A.inv (fbor κ I) ∗ A.lft κ q ∗ (⟦ sat id m ⟧ ∗ ⟦ sat other it ⟧) ⊢ asks 𝓛 (block_ptr b (count_of p + 8)) (λ n. n) always (λ n. fsep (flft κ q) Merged)
+          absorbs law = reads_first Merged (⟦ sat id m ⟧ ∗ ⟦ sat other it ⟧) (λ s so. let good = law s so in let vs : List V = set s.views id both in let us : List V = set vs other spent in let Z : Pr = ex 𝓤 (Viewed s.blocks Merged) in
               qed 𝓛 (‵ (roster cv.code γ 0 s.views) ∷ ‵ (sat id m) ∷ ‵ (sat other it) ∷ []) ∵ check ! good.0 $ move ! (1 ∷ []) $ fsplit ! $ move ! (3 ∷ []) $ fsplit ! $ move ! (2 ∷ 0 ∷ []) $
               -- [both views; what the other holds; what this one holds; the roster]
               use2 𝓛 (given (¬ (other ≡ id)) (‵ (part id m.view) ⊛ ‵ (part other it.view))) (apart 𝓛 cv γ id other m.view it.view) $ learn ! (λ distinct. split ! $ move ! (4 ∷ 0 ∷ []) $
-              use2 𝓛 (given (Found-view s) (raw (all 𝓤 (Moved 𝓛 cv γ 0 s.views id id)))) (moves 𝓛 cv γ s.views 0 id id m.view (omega arith)) $ learn ! (λ at.
-              use1 𝓛 (raw (Moved 𝓛 cv γ 0 s.views id id both)) (all_e 𝓤 (Moved 𝓛 cv γ 0 s.views id id) both) $ settle 𝓛 Z (‵ (roster cv.code γ 0 vs) ⊛ ‵ (part id both)) $ split ! $ move ! (0 ∷ 2 ∷ []) $
-              use2 𝓛 (given (get_elem? vs other ≡ maybe.some it.view) (raw (all 𝓤 (Moved 𝓛 cv γ 0 vs other other)))) (moves 𝓛 cv γ vs 0 other other it.view (omega arith)) $ learn ! (λ there.
-              use1 𝓛 (raw (Moved 𝓛 cv γ 0 vs other other spent)) (all_e 𝓤 (Moved 𝓛 cv γ 0 vs other other) spent) $ settle 𝓛 Z (‵ (roster cv.code γ 0 us) ⊛ ‵ (part other spent)) $ split ! $ suffices ! _ (upd_i 𝓤 Z) $
+              knows ! s.views id m.view (λ at. renews ! s.views id both Z $ move ! (0 ∷ 2 ∷ []) $ knows ! vs other it.view (λ there. renews ! vs other spent Z $ suffices ! _ (upd_i 𝓤 Z) $
               show ! (Viewed s.blocks Merged) us $ check ! (good.1 at distinct there) $ frame ! $ move ! (0 ∷ 2 ∷ []) $ fjoin ! $ move ! (1 ∷ 2 ∷ []) $ fjoin ! $ done !))))
 
     -- ---- the end
@@ -208,7 +220,7 @@ module _ {M : Type 1} {𝓤 : Ura M} (𝓛 : Logic 𝓤) (R : RattleType) (token
     pub ends : ⟦ web_owns R token cv.code z holds ⟧ ⊢ H.⇛ (ex 𝓤 Ended)
     unfolding Rattle.block_web.specs.Laid.seal
     ends = qed 𝓛 (‵ (flft κ full_share) ∷ ‵ (known_to_all R token cv.code z holds) ∷ ‵ (flent κ I) ∷ []) ∵ updating ! $ lft_end ! tt $ keep ! (0 ∷ 2 ∷ []) $ lent_back ! tt $
-        fpick ! (λ s. fsplit3 ! $ move ! (2 ∷ []) $ fpick ! (λ so. now ! $ show ! Ended s.blocks $ check ! (s.views, so) $ keep ! (1 ∷ []) $ done !))
+        looks_in ! (λ s so. now ! $ show ! Ended s.blocks $ check ! (s.views, so) $ keep ! (0 ∷ []) $ done !)
 
     module _ (id : ℕ) (m : Sitter S V) where
       abbrev pub EndedBy : List (Block S) → Pr
@@ -217,9 +229,7 @@ module _ {M : Type 1} {𝓤 : Ura M} (𝓛 : Logic 𝓤) (R : RattleType) (token
       pub ends_by : ⟦ sat id m ⟧ ∗ ⟦ web_owns R token cv.code z holds ⟧ ⊢ H.⇛ (ex 𝓤 EndedBy)
       unfolding Rattle.block_web.specs.Laid.seal
       ends_by = qed 𝓛 (‵ (sat id m) ∷ (‵ (flft κ full_share) ⊛ ‵ (known_to_all R token cv.code z holds) ⊛ ‵ (flent κ I)) ∷ []) ∵ fsplit ! $ keep ! (0 ∷ 2 ∷ []) $ move ! (1 ∷ []) $ split3 ! $ updating ! $ lft_end ! tt $ keep ! (0 ∷ 2 ∷ 3 ∷ []) $ lent_back ! tt $
-          fpick ! (λ s. fsplit3 ! $ move ! (2 ∷ []) $ fpick ! (λ so. drop ! $ move ! (1 ∷ 2 ∷ []) $
-          use2 𝓛 (given (get_elem? s.views id ≡ maybe.some m.view) (raw (all 𝓤 (Moved 𝓛 cv γ 0 s.views id id)))) (moves 𝓛 cv γ s.views 0 id id m.view (omega arith)) $ learn ! (λ at.
-          now ! $ show ! EndedBy s.blocks $ check ! (s.views, so, at) $ keep ! (1 ∷ []) $ done !)))
+          looks_in ! (λ s so. move ! (1 ∷ 2 ∷ []) $ knows ! s.views id m.view (λ at. now ! $ show ! EndedBy s.blocks $ check ! (s.views, so, at) $ keep ! (1 ∷ []) $ done !))
 
   -- ---- the beginning
   module _ (bs : List (Block S)) (v : V) where

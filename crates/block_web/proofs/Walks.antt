@@ -21,7 +21,7 @@ pub use prog.RawLaws.{size-raw, align-raw}
 pub use prog.Wp.{WpFn, Wp, after_seq, at_return}
 pub use types.Logic.{sem, Logic}
 pub use types.Kit.{mean, ‵, raw, ◌⊛◌, some, given, later, at_ret, any_q, ◌$◌, ◌∵◌, !, qed, by, move, keep, drop, use0, use1, use2, use3, split, split3, join, fsplit, fsplit3, fjoin, fjoin3, fpick, fpack, pick, learn, check, each, assume, suffices, await, rewrite, feq_i, flt_i, done, show, frame, settle}
-pub use types.Run.{stop, from, fld, hop, load, addr, lit, unit_lit, size_word, align_word, of_opd, bin, no_more, and_then, first, blocks, exec, Calls-last, returns, enter, assigns_last, assigns, look, look_raw, store, store_raw, init, switches_on}
+pub use types.Run.{switches, stop, from, fld, hop, load, addr, lit, unit_lit, size_word, align_word, of_opd, bin, no_more, and_then, first, blocks, exec, Calls-last, returns, enter, assigns_last, assigns, look, look_raw, store, store_raw, init, switches_on}
 pub use types.ByLocal.{alloc_all, pass_all, free_all, look_at, look_in_at, get, get_in, get_tag, through, sets, sets_last, lands_as, lands_last, is, env}
 pub use types.Match.{live, vrt, in_variant}
 pub use types.Part.{agg, sub, rep, whole as all_of_it}
@@ -64,4 +64,4 @@ pub use mathlib.Core.Bool.{cond}
 pub use seplogic.Ra.Ura.{Ura}
 pub use Rattle.block_web.specs.declared.sizes.TheConstants.{SLOTS}
 pub use Rattle.block_web.proofs.Made.{head, after, arm_body, ptr_good, blank_val, place_val, Blank, blank_told, blank_made, place_told, place_made, word_laws, full_product, ok_of, err_of}
-pub use Rattle.block_web.proofs.Stepping.{begins_step, ends_step}
+pub use Rattle.block_web.proofs.Stepping.{spent, lent_back, enters_at, tells, numbers, blank, puts_back, gives_back, spends, alone, takes_ref, takes_step, opens_ref, closes_ref, shuts_ref, begins_step, ends_step}

@@ -1,4 +1,4 @@
-// What one step does with a word, and what it announces.
+// What one step does with a word or a link, and what it announces.
 ghost use Rattle.std.specs.Prelude.{Option, Some, None};
 
 #[derive(Clone, Copy)]
@@ -11,6 +11,15 @@ pub(crate) enum Operation {
     And,
     /// Writes the second operand where the word is the first.
     Exchange,
+}
+
+// What one step does with a link.
+#[derive(Clone, Copy)]
+pub(crate) enum LinkOperation {
+    Load,
+    Store,
+    /// Writes the operand where the link is unset.
+    Install,
 }
 
 // A value of `S` that a step announces to the rule, or none.

@@ -5,10 +5,11 @@ ghost use prog.Atomic.{either};
 ghost use denote.RawPtr.{InBlock, Testable};
 ghost use Rattle.block_web.specs.Seats.{Sits, Same};
 ghost use Rattle.block_web.specs.Words.{becomes, told, IsTold};
+ghost use Rattle.block_web.specs.Links.{leads_to, told_place, IsToldPlace};
 ghost use Rattle.block_web.specs.Web.{step, sitter, if_unset, Allows, AllowsLink, Stands, CanFork, CanMerge};
 
 use crate::block::{Link, Node};
-use crate::operation::{Announces, Operation, Silent};
+use crate::operation::{Announces, LinkOperation, Operation, Silent};
 use crate::sizes::SLOTS;
 use crate::web::{LinkPlay, Play, Seat, Web, WebRule};
 use crate::word::operate;
@@ -183,6 +184,47 @@ impl<S, V, K, P: WebRule<S, V, K>, A: Allocator> Web<S, V, K, P, A> {
         )
     }
 
+    // Does the operation on the link, and answers with the place that it tells.
+    #[inline(always)]
+    fn turn<M: LinkPlay<S, V>>(
+        &self,
+        seat: &mut Seat<S, V, A>,
+        block: u64,
+        link: Link<S>,
+        operation: LinkOperation,
+        new: Link<S>,
+    ) -> Link<S>
+        requires { Sits seat.old self.now × InBlock link.ptr × AllowsLink (P.holds self.now.key) seat.old.id seat.old.sitter block link.ptr (leads_to operation new.ptr) (λ q. M.then block seat.old.sitter (told_place operation new.ptr q)) }
+        ensures { Same seat.new seat.old × IsToldPlace operation new.ptr result.ptr × M.then block seat.old.sitter result.ptr seat.new.sitter }
+    {
+        let place = unsafe { &raw const (*link.ptr).next as *const *mut u64 };
+        let operand = new.ptr as *mut u64;
+        let found = match operation {
+            LinkOperation::Load => unsafe { ptr::load::<u64, Brand>(place, SeqCst) },
+            LinkOperation::Store => {
+                unsafe { ptr::store::<u64, Brand>(place, operand, SeqCst) };
+                operand
+            }
+            LinkOperation::Install => {
+                match unsafe {
+                    ptr::compare_exchange::<u64, Brand>(
+                        place,
+                        std::ptr::null_mut(),
+                        operand,
+                        SeqCst,
+                        SeqCst,
+                    )
+                } {
+                    Ok(found) => found,
+                    Err(found) => found,
+                }
+            }
+        };
+        Link {
+            ptr: found as *mut Node<S>,
+        }
+    }
+
     /// Reads the link of a block.
     #[inline(always)]
     pub fn follow<M: LinkPlay<S, V>>(
@@ -194,12 +236,7 @@ impl<S, V, K, P: WebRule<S, V, K>, A: Allocator> Web<S, V, K, P, A> {
         requires { Sits seat.old self.now × InBlock link.ptr × AllowsLink (P.holds self.now.key) seat.old.id seat.old.sitter block link.ptr (λ q. q) (M.then block seat.old.sitter) }
         ensures { Same seat.new seat.old × Testable result.ptr × M.then block seat.old.sitter result.ptr seat.new.sitter }
     {
-        let found = unsafe {
-            ptr::load::<u64, Brand>(&raw const (*link.ptr).next as *const *mut u64, SeqCst)
-        };
-        Link {
-            ptr: found as *mut Node<S>,
-        }
+        self.turn::<M>(seat, block, link, LinkOperation::Load, link)
     }
 
     /// Sets the link of a block.
@@ -214,13 +251,7 @@ impl<S, V, K, P: WebRule<S, V, K>, A: Allocator> Web<S, V, K, P, A> {
         requires { Sits seat.old self.now × InBlock link.ptr × AllowsLink (P.holds self.now.key) seat.old.id seat.old.sitter block link.ptr (λ _. new.ptr) (λ _. M.then block seat.old.sitter new.ptr) }
         ensures { Same seat.new seat.old × M.then block seat.old.sitter new.ptr seat.new.sitter }
     {
-        unsafe {
-            ptr::store::<u64, Brand>(
-                &raw const (*link.ptr).next as *const *mut u64,
-                new.ptr as *mut u64,
-                SeqCst,
-            )
-        }
+        self.turn::<M>(seat, block, link, LinkOperation::Store, new);
     }
 
     /// Sets the link of a block where it is unset. It answers with the link as it was.
@@ -235,23 +266,7 @@ impl<S, V, K, P: WebRule<S, V, K>, A: Allocator> Web<S, V, K, P, A> {
         requires { Sits seat.old self.now × InBlock link.ptr × AllowsLink (P.holds self.now.key) seat.old.id seat.old.sitter block link.ptr (if_unset new.ptr) (M.then block seat.old.sitter) }
         ensures { Same seat.new seat.old × Testable result.ptr × M.then block seat.old.sitter result.ptr seat.new.sitter }
     {
-        let answer = unsafe {
-            ptr::compare_exchange::<u64, Brand>(
-                &raw const (*link.ptr).next as *const *mut u64,
-                std::ptr::null_mut(),
-                new.ptr as *mut u64,
-                SeqCst,
-                SeqCst,
-            )
-        };
-        match answer {
-            Ok(found) => Link {
-                ptr: found as *mut Node<S>,
-            },
-            Err(found) => Link {
-                ptr: found as *mut Node<S>,
-            },
-        }
+        self.turn::<M>(seat, block, link, LinkOperation::Install, new)
     }
 
     /// Cuts a seat's view in two, and makes a seat with the second.

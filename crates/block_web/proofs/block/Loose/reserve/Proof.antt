@@ -1,5 +1,5 @@
 -- `reserve` asks the allocator for room, cuts it into the parts of a block, and writes the link and the words.
-use Rattle.block_web.proofs.Walks.{◌≡◌, ℕ, ◌+◌, true, false, List, [], ◌∷◌, replicate, refl, ap, arith, lit<, Ty, Body, a_type, dcons, dnil, named, Val, vptr, vstruct, vcons, vnil, WT, inst_fn, bare, SProp, emp, Lft, Share, Fml, ftrue, fsep, fwand, froom, flft, Incl-trans, size, align, capped, capped_fits, size-raw, align-raw, Wp, after_seq, at_return, ‵, raw, ◌⊛◌, later, at_ret, any_q, ◌$◌, ◌∵◌, !, qed, by, move, keep, drop, use0, use1, use2, split, join, fsplit, fsplit3, fjoin, fjoin3, fpack, await, feq_i, stop, fld, addr, lit, size_word, align_word, of_opd, no_more, and_then, first, blocks, exec, returns, enter, assigns_last, assigns, init, switches_on, alloc_all, pass_all, free_all, look_at, get, get_in, get_tag, through, sets, sets_last, lands_as, is, env, live, vrt, in_variant, agg, rep, all_of_it, tables, fact, fact_i, ◌⊑◌, yes, RattleType, Valss, owns, types_at, plain, Ptr, block_ptr, null_ptr, InBlock, nothing, heard, param, bounded, RefOf, shr_vals, shr_Tells, makes_shadow, within, Tuple, tuple_type, calls_at, Stays, stay_dropped, walk_of, Goes-dropped, Ok, Err, row, proved, leaves, fm, Home, alive_at, vacant, Small, Sized, slots_at, slots_own, block_ty, rooms, SLOTS, head, after, arm_body, ptr_good, blank_val, place_val, Blank, blank_made, place_made, ok_of, err_of}
+use Rattle.block_web.proofs.Walks.{◌≡◌, ℕ, ◌+◌, true, false, List, [], ◌∷◌, replicate, refl, ap, arith, lit<, Ty, Body, a_type, dcons, dnil, named, Val, vptr, vstruct, vcons, vnil, WT, inst_fn, bare, SProp, Lft, Share, Fml, ftrue, fsep, fwand, froom, flft, Incl-trans, size, align, capped, capped_fits, size-raw, align-raw, Wp, after_seq, at_return, ‵, raw, ◌⊛◌, later, at_ret, any_q, ◌$◌, ◌∵◌, !, qed, by, move, keep, drop, use0, use1, use2, split, join, fsplit, fsplit3, fjoin, fjoin3, fpack, await, feq_i, stop, fld, addr, lit, size_word, align_word, of_opd, no_more, and_then, first, blocks, exec, returns, enter, assigns_last, assigns, init, switches_on, alloc_all, pass_all, free_all, look_at, get, get_in, get_tag, through, sets, sets_last, lands_as, is, env, live, vrt, in_variant, agg, rep, all_of_it, tables, fact, ◌⊑◌, yes, RattleType, Valss, owns, types_at, plain, Ptr, block_ptr, null_ptr, InBlock, nothing, heard, param, bounded, RefOf, shr_vals, shr_Tells, makes_shadow, within, Tuple, tuple_type, calls_at, Stays, stay_dropped, walk_of, Goes-dropped, Ok, Err, row, proved, leaves, fm, Home, alive_at, vacant, Small, Sized, slots_at, slots_own, block_ty, rooms, SLOTS, head, after, arm_body, ptr_good, blank_val, place_val, place_made, ok_of, err_of, tells, blank, spends}
 use Rattle.std.proofs.alloc.Calls.{Al as Handle, Answer-typed, Takes, at_takes, Answered, Takes-goes, Takes-gives, answers}
 use denote.Struct.Declared as declared
 use Rattle.std.specs.contracts.result.Result as Res
@@ -15,8 +15,7 @@ use Rattle.block_web.proofs.block.Loose.reserve.Code as code
 pub reserve_spec : {M : Type 1} → statement M
 reserve_spec 𝓤 𝓛 𝓜 𝓡 wired S A L LA ga da dd met _ =
     let H = 𝓛.H in let 𝓣 = tables 𝓤 H 𝓜 𝓡 𝓡.env in let R : RattleType = param 0 S in let Z : RattleType = param 1 A in
-    let Link : RattleType = link.the_row R in let Loose : RattleType = loose.the_row R Z ga in let Two : RattleType = Tuple (Link ∷ Loose ∷ []) in let Out : RattleType = Res.the_row Two refusal.the_row in
-    let goal = ended S A ga da dd in let c = clauses S A ga da dd 𝓛 𝓜.mem 𝓡.returns in
+    let Link : RattleType = link.the_row R in let Loose : RattleType = loose.the_row R Z ga in let Two : RattleType = Tuple (Link ∷ Loose ∷ []) in let Out : RattleType = Res.the_row Two refusal.the_row in let goal = ended S A ga da dd in let c = clauses S A ga da dd 𝓛 𝓜.mem 𝓡.returns in
     let at_types = bounded (a_type ∷ a_type ∷ []) (S, (A, tt)) (dcons da (dcons dd dnil)) in let mir = inst_fn at_types code.function in
     let kept_of : Stays goal.signature.params goal.kept = (stay_dropped (RefOf (0 ∷ []) tt (plain (λ _. Z)) (λ _. tt)) yes, tt) in
     proved 𝓛 goal kept_of c 𝓜 𝓡 (Goes-dropped 𝓛 3 (RefOf (0 ∷ []) tt (plain (λ _. Z)) (λ _. tt)) yes (λ κs x f. refl), tt) (#self at_types) mir
@@ -31,8 +30,7 @@ reserve_spec 𝓤 𝓛 𝓜 𝓡 wired S A L LA ga da dd met _ =
     let Then = any_q (after_seq 𝓤 H (Wp 𝓤 H 𝓣.C 𝓣.Λ locals (after 2 mir.body) (at_return 𝓤 H locals Post)) (at_return 𝓤 H locals Post)) in let Asked = Takes handle_of 𝓛 𝓜.mem 𝓡.returns in let w : Asked.Ghost = at_takes handle_of 𝓛 𝓜.mem 𝓡.returns κ q place heap n al (bare τ) in
     use2 𝓛 (raw (Asked.pre w)) (Takes-goes handle_of 𝓛 𝓜.mem 𝓡.returns κ q place heap (Incl-trans bounds.0 inside) n al (bare τ) (ap capped (size-raw τ)) (ap capped (align-raw τ)) (capped_fits (size τ)) (capped_fits (align τ))) $
     calls_at ! (fm 𝓛 𝓜 𝓡) Asked (met.allocate dd) w (and_then ! (get ! refl) (and_then ! (size_word !) (and_then ! (align_word !) (no_more !)))) (λ u.
-    use1 𝓛 (later (raw (Answered handle_of 𝓛 𝓜.mem 𝓡.returns heap (bare τ) u) ⊛ ‵ (flft κ q))) (Takes-gives handle_of 𝓛 𝓜.mem 𝓡.returns κ q place heap n al (bare τ) u) $ await ! tt $ split ! $ move ! (1 ∷ 2 ∷ []) $ join ! $ move ! (1 ∷ []) $
-    answers handle_of ! 𝓜.mem 𝓡.returns heap (bare τ) u
+    use1 𝓛 (later (raw (Answered handle_of 𝓛 𝓜.mem 𝓡.returns heap (bare τ) u) ⊛ ‵ (flft κ q))) (Takes-gives handle_of 𝓛 𝓜.mem 𝓡.returns κ q place heap n al (bare τ) u) $ await ! tt $ split ! $ move ! (1 ∷ 2 ∷ []) $ join ! $ move ! (1 ∷ []) $ answers handle_of ! 𝓜.mem 𝓡.returns heap (bare τ) u
     (λ b o e. let p : Ptr = block_ptr b o in let ns : List ℕ = replicate SLOTS 0 in let hs₀ : List (Home S.Denot) = replicate SLOTS vacant in let r : Loose.Denot = record { marker = record {}; heap = heap; at = p; next = null_ptr; words = ns; homes = hs₀ } in
     let pair : Val = vstruct (vcons (place_val p) (vcons blank_val vnil)) in let val : Val = live 0 (vcons pair vnil) in let good : WT val = (record { fits = lit< tt }, (((tt, tt), ((tt, tt), tt)), tt)) in let arm : Body = arm_body 0 both in
     let Told : Type 0 = (heap ≡ heap) × (p ≡ p) × InBlock p × (null_ptr ≡ null_ptr) × (ns ≡ ns) × (hs₀ ≡ hs₀) in let flat : o + 0 ≡ o = omega arith in
@@ -48,17 +46,14 @@ reserve_spec 𝓤 𝓛 𝓜 𝓡 wired S A L LA ga da dd met _ =
     sets ! (agg ! (and_then ! (get ! refl) (and_then ! (get ! refl) (no_more !)))) refl (tt, ((tt, tt), ((tt, tt), tt))) $
     sets_last ! (agg ! (and_then ! (lit ! tt) (and_then ! (get ! refl) (no_more !)))) refl (tt, good) $ exec ! 𝓣.C 𝓣.Λ locals (after 2 mir.body) (at_ret locals Post) $ sets ! (of_opd ! (get ! refl)) refl (tt, good) $
     move ! (2 ∷ []) $ fsplit ! $ use1 𝓛 (‵ (slots_own R hs₀ b (slots_at R o))) (parts.emptied 𝓛 R token SLOTS b (slots_at R o)) $ move ! (3 ∷ []) $ use1 𝓛 (‵ (row b (o + 8) ns)) (parts.zeroed 𝓛 b (o + 8)) $
-    move ! (0 ∷ 1 ∷ 4 ∷ []) $ fjoin3 ! $ move ! (1 ∷ []) $ fpack ! (Sized R (alive_at p null_ptr ns hs₀)) (λ _. ftrue) (tt, small, refl, omega arith) $ move ! (0 ∷ 2 ∷ 1 ∷ []) $ fjoin3 ! $
-    use0 𝓛 (‵ ((Blank (Tuple (R ∷ Z ∷ []))).own_val (record {}, tt) (blank_val ∷ []))) (blank_made (Tuple (R ∷ Z ∷ [])) 𝓛) $ fjoin ! $ nothing ! $ move ! (1 ∷ 0 ∷ []) $ fjoin ! $
+    move ! (0 ∷ 1 ∷ 4 ∷ []) $ fjoin3 ! $ move ! (1 ∷ []) $ fpack ! (Sized R (alive_at p null_ptr ns hs₀)) (λ _. ftrue) (tt, small, refl, omega arith) $ move ! (0 ∷ 2 ∷ 1 ∷ []) $ fjoin3 ! $ blank ! (Tuple (R ∷ Z ∷ [])) $ nothing ! $ move ! (1 ∷ 0 ∷ []) $ fjoin ! $
     use0 𝓛 (‵ (Link.own_val (record { ptr = p }) (place_val p ∷ []))) (place_made R 𝓛 p) $ fjoin ! $ feq_i ! (List Val) (pair ∷ []) (pair ∷ []) refl $ fjoin ! $
     fpack ! (Valss (Link ∷ Loose ∷ [])) (within (declared.shape (tuple_type (Link ∷ Loose ∷ []))) (record { ptr = p }, (r, tt)) (pair ∷ [])) (place_val p ∷ [], (blank_val ∷ [], tt)) $
-    use1 𝓛 (‵ (Out.own_val (Ok (record { ptr = p }, r)) (val ∷ []))) (ok_of 𝓛 Two refusal.the_row (record { ptr = p }, r) pair) $
-    use0 𝓛 (raw (fact 𝓤 Told)) (fact_i 𝓤 Told (emp 𝓤) (refl, refl, tt, refl, refl, refl)) $ nothing ! $ nothing ! $ fjoin ! $
+    use1 𝓛 (‵ (Out.own_val (Ok (record { ptr = p }, r)) (val ∷ []))) (ok_of 𝓛 Two refusal.the_row (record { ptr = p }, r) pair) $ tells ! Told (refl, refl, tt, refl, refl, refl) $ spends ! 1 $
     returns ! (look_at ! 0 refl) $ free_all ! refl $ keep ! (3 ∷ 0 ∷ 2 ∷ 1 ∷ []) $ by ! (leaves 𝓛 goal kept_of c y val (Ok (record { ptr = p }, r)) (tt, tt) (tt, tt)))
     (λ e. let val : Val = live 1 (vcons (vstruct vnil) vnil) in let good : WT val = (record { fits = lit< tt }, (tt, tt)) in let F : Fml = refusal.the_row.own_val (record {}) (vstruct vnil ∷ []) in
     lands_as ! e refl (Answer-typed false 0 0) $ first ! $ switches_on ! (get_tag ! (vrt ! refl (fld ! refl (stop !))) (all_of_it !)) $ exec ! 𝓣.C 𝓣.Λ locals (arm_body 1 both) Then $
     sets ! (of_opd ! (get_in ! (vrt ! refl (fld ! refl (stop !))) (in_variant ! 1 0 refl refl (all_of_it !)))) refl (tt, tt) $
     sets_last ! (agg ! (and_then ! (lit ! tt) (and_then ! (get ! refl) (no_more !)))) refl (tt, good) $ exec ! 𝓣.C 𝓣.Λ locals (after 2 mir.body) (at_ret locals Post) $ sets ! (of_opd ! (get ! refl)) refl (tt, good) $
-    use0 𝓛 (‵ F) (makes_shadow 𝓛 F (λ uss. (tt, tt)) (tt, (refl, tt))) $ use1 𝓛 (‵ (Out.own_val (Err (record {})) (val ∷ []))) (err_of 𝓛 Two refusal.the_row (record {}) (vstruct vnil)) $
-    use0 𝓛 (raw (fact 𝓤 (Unit {0}))) (fact_i 𝓤 (Unit {0}) (emp 𝓤) tt) $ nothing ! $ nothing ! $ fjoin ! $
+    use0 𝓛 (‵ F) (makes_shadow 𝓛 F (λ uss. (tt, tt)) (tt, (refl, tt))) $ use1 𝓛 (‵ (Out.own_val (Err (record {})) (val ∷ []))) (err_of 𝓛 Two refusal.the_row (record {}) (vstruct vnil)) $ tells ! (Unit {0}) tt $ spends ! 1 $
     returns ! (look_at ! 0 refl) $ free_all ! refl $ keep ! (3 ∷ 0 ∷ 2 ∷ 1 ∷ []) $ by ! (leaves 𝓛 goal kept_of c y val (Err (record {})) (tt, tt) (tt, tt))))))))

@@ -1,5 +1,5 @@
 -- `lift` takes a block out of the chain.
-use Rattle.block_web.proofs.Walks.{◌≡◌, ℕ, List, [], ◌∷◌, refl, w64, Ty, a_type, dcons, dnil, named, ty_ptr, Val, vint, vptr, inst_fn, SProp, emp, Fml, ftrue, fsep, flft, ‵, raw, ◌⊛◌, ◌$◌, ◌∵◌, !, qed, by, move, keep, use0, use1, split, join, fsplit, fsplit3, fjoin, fjoin3, rewrite, feq_i, no_more, and_then, returns, enter, alloc_all, pass_all, free_all, look_at, get, sets, env, agg, tables, fact, fact_i, yes, no, RattleType, owns, types_at, plain, Ptr, nothing, heard, opens, closes, param, bounded, u64, mut_vals, mut_Tells, uint_vals, uint_Tells, Tuple, Stays, stay_dropped, stay_ref, walk_of, Goes-dropped, Goes-ref, Good-round, proved, leaves, Block, alive_at, block, Lives, without, block_owns, chain_owns, ptr_good, blank_val, place_val, Blank, blank_made, place_told}
+use Rattle.block_web.proofs.Walks.{◌≡◌, ℕ, List, [], ◌∷◌, refl, w64, Ty, a_type, dcons, dnil, named, ty_ptr, Val, vint, vptr, inst_fn, SProp, Fml, ftrue, fsep, flft, ‵, raw, ◌⊛◌, ◌$◌, ◌∵◌, !, qed, by, move, keep, use1, split, join, rewrite, no_more, and_then, returns, enter, alloc_all, pass_all, free_all, look_at, get, sets, env, agg, tables, fact, yes, no, RattleType, owns, types_at, plain, Ptr, heard, param, bounded, u64, mut_vals, mut_Tells, uint_vals, uint_Tells, Tuple, Stays, stay_dropped, stay_ref, walk_of, Goes-dropped, Goes-ref, Good-round, proved, leaves, Block, alive_at, block, Lives, without, block_owns, chain_owns, ptr_good, blank_val, place_val, place_told, tells, blank, takes_ref, opens_ref, shuts_ref}
 use Rattle.block_web.specs.contracts.block.Link as link
 use Rattle.block_web.specs.contracts.block.Loose as loose
 use Rattle.block_web.specs.contracts.chain.Chain as chain
@@ -11,10 +11,8 @@ use Rattle.block_web.proofs.chain.Chain.lift.Code as code
 
 pub lift_spec : {M : Type 1} → statement M
 lift_spec 𝓤 𝓛 𝓜 𝓡 wired S A L _ ga da dd _ _ =
-    let H = 𝓛.H in let 𝓣 = tables 𝓤 H 𝓜 𝓡 𝓡.env in let R : RattleType = param 0 S in let Z : RattleType = param 1 A in
-    let Chain : RattleType = chain.the_row R Z ga in let Link : RattleType = link.the_row R in let Loose : RattleType = loose.the_row R Z ga in
-    let goal = ended S A ga da dd in let c = clauses S A ga da dd 𝓛 𝓜.mem 𝓡.returns in
-    let at_types = bounded (a_type ∷ a_type ∷ []) (S, (A, tt)) (dcons da (dcons dd dnil)) in let mir = inst_fn at_types code.function in
+    let H = 𝓛.H in let 𝓣 = tables 𝓤 H 𝓜 𝓡 𝓡.env in let R : RattleType = param 0 S in let Z : RattleType = param 1 A in let Chain : RattleType = chain.the_row R Z ga in let Link : RattleType = link.the_row R in let Loose : RattleType = loose.the_row R Z ga in
+    let goal = ended S A ga da dd in let c = clauses S A ga da dd 𝓛 𝓜.mem 𝓡.returns in let at_types = bounded (a_type ∷ a_type ∷ []) (S, (A, tt)) (dcons da (dcons dd dnil)) in let mir = inst_fn at_types code.function in
     let kept_of : Stays goal.signature.params goal.kept = (stay_ref (0 ∷ []) tt (plain (λ _. Chain)), (stay_dropped (plain (λ _. u64)) yes, (stay_dropped (plain (λ _. Link)) no, tt))) in
     proved 𝓛 goal kept_of c 𝓜 𝓡 (Goes-ref 𝓛 3 0 tt (plain (λ _. Chain)), (Goes-dropped 𝓛 3 (plain (λ _. u64)) yes (λ κs x f. refl), (Goes-dropped 𝓛 3 (plain (λ _. Link)) no (λ κs x f. refl), tt))) (#self at_types) mir
     (code.unfolded 𝓤 H 𝓜 𝓡 wired (S, (A, tt)) da dd) (λ κs. (mut_vals, (uint_vals w64, ((λ x. place_val x.ptr ∷ []), tt))))
@@ -25,11 +23,9 @@ lift_spec 𝓤 𝓛 𝓜 𝓡 wired S A L _ ga da dd _ _ =
     let r : Loose.Denot = record { marker = record {}; heap = h.heap; at = p; next = x.next; words = x.words; homes = x.homes } in
     let Left : Type 0 = (h.heap ≡ h.heap) × (h'.blocks ≡ h'.blocks) in let Out : Type 0 = (h.heap ≡ h.heap) × (p ≡ p) × (x.next ≡ x.next) × (x.words ≡ x.words) × (x.homes ≡ x.homes) in
     qed 𝓛 (((‵ (flft κs.0 qs.0) ⊛ ‵ others) ⊛ ‵ (owns (types_at goal.signature.params κs) a y.0.4)) ∷ raw (fact 𝓤 _) ∷ raw (fact 𝓤 _) ∷ raw (fact 𝓤 Asked) ∷ []) ∵
-    keep ! (3 ∷ 0 ∷ []) $ heard ! Asked (λ asked. split ! $ split ! $ move ! (2 ∷ []) $ fsplit ! $ fsplit3 ! $ keep ! (1 ∷ 2 ∷ 4 ∷ 5 ∷ []) $
+    keep ! (3 ∷ 0 ∷ []) $ heard ! Asked (λ asked. takes_ref ! $
     enter ! 𝓣.C 𝓣.Λ mir (vptr b' o' ∷ vint w64 k ∷ place_val p ∷ []) Post $ alloc_all ! (λ l. pass_all ! refl ((tt, tt), ((tt, record { fits = are.1.0.1 }), ((Good-round [] ty_ptr _ (ptr_good a.1.1.0.ptr)), tt))) $ let locals = env mir.locals l in
-    opens ! tt Chain b' o' (λ ts. move ! (1 ∷ []) $ fsplit ! $ move ! (1 ∷ []) $ use1 𝓛 (‵ (chain_owns R token (without bs k)) ⊛ ‵ (block_owns R token x)) (blocks.lifts_out 𝓛 R token bs k asked.0) $ split ! $
-    rewrite ! 1 (λ (u : Ptr). ‵ (block_owns R token (alive_at u x.next x.words x.homes))) asked.1 refl $ move ! (2 ∷ 0 ∷ []) $ fjoin ! $ move ! (2 ∷ 0 ∷ 3 ∷ 4 ∷ 5 ∷ []) $ closes ! tt Chain h' ts b' o' $ feq_i ! (List Val) (vptr b' o' ∷ []) (vptr b' o' ∷ []) refl $ fjoin3 ! $
-    nothing ! $ nothing ! $ fjoin ! $ nothing ! $ fjoin ! $ move ! (1 ∷ 0 ∷ []) $ fjoin ! $ move ! (1 ∷ 3 ∷ []) $ join ! $ move ! (2 ∷ []) $ use0 𝓛 (‵ ((Blank (Tuple (R ∷ Z ∷ []))).own_val (record {}, tt) (blank_val ∷ []))) (blank_made (Tuple (R ∷ Z ∷ [])) 𝓛) $ fjoin ! $
-    sets ! (agg ! (no_more !)) refl (tt, tt) $ sets ! (agg ! (and_then ! (get ! refl) (no_more !))) refl (tt, (tt, tt)) $
-    use0 𝓛 (raw (fact 𝓤 Out)) (fact_i 𝓤 Out (emp 𝓤) (refl, refl, refl, refl, refl)) $ use0 𝓛 (raw (fact 𝓤 Left)) (fact_i 𝓤 Left (emp 𝓤) (refl, refl)) $ join ! $
+    opens_ref ! tt Chain h b' o' (λ ts. refl) (λ ts. use1 𝓛 (‵ (chain_owns R token (without bs k)) ⊛ ‵ (block_owns R token x)) (blocks.lifts_out 𝓛 R token bs k asked.0) $ split ! $
+    rewrite ! 1 (λ (u : Ptr). ‵ (block_owns R token (alive_at u x.next x.words x.homes))) asked.1 refl $ move ! (0 ∷ 2 ∷ 3 ∷ 4 ∷ 5 ∷ 6 ∷ 7 ∷ []) $ shuts_ref ! tt Chain h' ts b' o' 2 refl refl $ move ! (2 ∷ []) $ blank ! (Tuple (R ∷ Z ∷ [])) $
+    sets ! (agg ! (no_more !)) refl (tt, tt) $ sets ! (agg ! (and_then ! (get ! refl) (no_more !))) refl (tt, (tt, tt)) $ tells ! Out (refl, refl, refl, refl, refl) $ tells ! Left (refl, refl) $ join ! $
     returns ! (look_at ! 0 refl) $ free_all ! refl $ keep ! (2 ∷ 3 ∷ 1 ∷ 0 ∷ []) $ by ! (leaves 𝓛 goal kept_of c y blank_val r (h', (tt, (tt, tt))) (tt, (tt, (tt, tt))))))))

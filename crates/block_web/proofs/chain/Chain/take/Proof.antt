@@ -1,5 +1,5 @@
 -- `take` reads a full slot of a block.
-use Rattle.block_web.proofs.Walks.{◌≡◌, ℕ, ◌+◌, ◌*◌, ◌^◌, ◌<◌, ◌≤◌, List, [], ◌∷◌, sym, refl, ap, subst, arith, w64, Some, mul-le-mul_right, Ty, a_type, dcons, dnil, named, Val, vint, vptr, inst_fn, bare, SProp, ent, emp, all, id⊢, Fml, ftrue, fsep, froom, flft, WpFn, ‵, raw, ◌⊛◌, given, at_ret, ◌$◌, ◌∵◌, !, qed, by, move, keep, use0, use1, use2, split, join, fsplit, fsplit3, fjoin, fjoin3, learn, suffices, feq_i, stop, fld, load, addr, size_word, of_opd, bin, first, blocks, exec, returns, enter, look_raw, alloc_all, pass_all, free_all, look_at, get, get_in, through, sets, sets_last, is, env, sub, all_of_it, tables, fact, fact_i, yes, no, RattleType, owns, types_at, plain, mem, Ptr, block_ptr, block_of, count_of, at_block, InBlock, nothing, heard, opens, closes, param, bounded, layout, param_laws, u64, usize, mut_vals, mut_Tells, uint_vals, uint_Tells, Member, Stays, stay_dropped, stay_ref, walk_of, Goes-dropped, Goes-ref, spread, proved, leaves, Block, vacant, Lives, Rests, with_home, slots_at, content_owns, chain_owns, SLOTS, after, place_val, place_told, full_product}
+use Rattle.block_web.proofs.Walks.{◌≡◌, ℕ, ◌+◌, ◌*◌, ◌^◌, ◌<◌, ◌≤◌, List, [], ◌∷◌, sym, refl, ap, subst, arith, w64, Some, mul-le-mul_right, Ty, a_type, dcons, dnil, named, Val, vint, vptr, inst_fn, bare, SProp, all, Fml, ftrue, fsep, froom, flft, WpFn, ‵, raw, ◌⊛◌, given, at_ret, ◌$◌, ◌∵◌, !, qed, by, move, keep, use1, use2, split, join, learn, stop, fld, load, addr, size_word, of_opd, bin, first, blocks, exec, returns, enter, look_raw, alloc_all, pass_all, free_all, look_at, get, get_in, through, sets, sets_last, is, env, sub, all_of_it, tables, fact, yes, no, RattleType, owns, types_at, plain, mem, Ptr, block_ptr, block_of, count_of, InBlock, heard, param, bounded, layout, param_laws, u64, usize, mut_vals, mut_Tells, uint_vals, uint_Tells, Member, Stays, stay_dropped, stay_ref, walk_of, Goes-dropped, Goes-ref, spread, proved, leaves, Block, vacant, Lives, Rests, with_home, slots_at, content_owns, chain_owns, SLOTS, after, place_val, place_told, full_product, tells, takes_ref, opens_ref, shuts_ref, enters_at}
 use Rattle.block_web.specs.contracts.block.Link as link
 use Rattle.block_web.specs.contracts.chain.Chain as chain
 use Rattle.block_web.proofs.Blocks as blocks
@@ -10,9 +10,7 @@ use Rattle.block_web.proofs.chain.Chain.take.Code as code
 
 pub take_spec : {M : Type 1} → statement M
 take_spec 𝓤 𝓛 𝓜 𝓡 wired S A L _ ga da dd _ _ =
-    let H = 𝓛.H in let 𝓣 = tables 𝓤 H 𝓜 𝓡 𝓡.env in let R : RattleType = param 0 S in let Z : RattleType = param 1 A in
-    let Chain : RattleType = chain.the_row R Z ga in let Link : RattleType = link.the_row R in
-    let goal = ended S A ga da dd in let c = clauses S A ga da dd 𝓛 𝓜.mem 𝓡.returns in
+    let H = 𝓛.H in let 𝓣 = tables 𝓤 H 𝓜 𝓡 𝓡.env in let R : RattleType = param 0 S in let Z : RattleType = param 1 A in let Chain : RattleType = chain.the_row R Z ga in let Link : RattleType = link.the_row R in let goal = ended S A ga da dd in let c = clauses S A ga da dd 𝓛 𝓜.mem 𝓡.returns in
     let at_types = bounded (a_type ∷ a_type ∷ []) (S, (A, tt)) (dcons da (dcons dd dnil)) in let mir = inst_fn at_types code.function in
     let kept_of : Stays goal.signature.params goal.kept = (stay_ref (0 ∷ []) tt (plain (λ _. Chain)), (stay_dropped (plain (λ _. u64)) yes, (stay_dropped (plain (λ _. Link)) no, (stay_dropped (plain (λ _. usize)) yes, tt)))) in
     proved 𝓛 goal kept_of c 𝓜 𝓡 (Goes-ref 𝓛 3 0 tt (plain (λ _. Chain)), (Goes-dropped 𝓛 3 (plain (λ _. u64)) yes (λ κs x f. refl), (Goes-dropped 𝓛 3 (plain (λ _. Link)) no (λ κs x f. refl), (Goes-dropped 𝓛 3 (plain (λ _. usize)) yes (λ κs x f. refl), tt)))) (#self at_types) mir
@@ -24,18 +22,13 @@ take_spec 𝓤 𝓛 𝓜 𝓡 wired S A L _ ga da dd _ _ =
     let others : Fml = fsep (flft κs.1.0 qs.1.0) (fsep (flft κs.1.1.0 qs.1.1.0) (ftrue)) in let Asked : Type 0 = InBlock p × Lives bs k p × ((x : S.Denot) × Rests bs k j (Some x)) in
     let sz : ℕ = (mem R).size in let b : ℕ = block_of p in let e : ℕ = j * sz + slots_at R (count_of p) in let h' : Chain.Denot = record { marker = h.marker; heap = h.heap; blocks = with_home bs k j vacant } in let Told : Type 0 = (h.heap ≡ h.heap) × (h'.blocks ≡ h'.blocks) in
     qed 𝓛 (((‵ (flft κs.0 qs.0) ⊛ ‵ others) ⊛ ‵ (owns (types_at goal.signature.params κs) a y.0.4)) ∷ raw (fact 𝓤 _) ∷ raw (fact 𝓤 _) ∷ raw (fact 𝓤 Asked) ∷ []) ∵
-    keep ! (3 ∷ 0 ∷ []) $ heard ! Asked (λ asked. let x : S.Denot = asked.2.0 in split ! $ split ! $ move ! (2 ∷ []) $ fsplit ! $ fsplit3 ! $ keep ! (1 ∷ 2 ∷ 4 ∷ 5 ∷ []) $
-    let us : Ptr → List Val = λ u. vptr a.0.ref_ptr.0 a.0.ref_ptr.1 ∷ vint w64 a.1.0 ∷ place_val u ∷ vint w64 a.1.1.1.0 ∷ [] in let Run : List Val → SProp 𝓤 = λ ws. WpFn 𝓤 H 𝓣.C 𝓣.Λ mir ws Post in let p' : Ptr = block_ptr (block_of p) (count_of p) in
-    suffices ! (Run (us p')) (subst (λ (u : Ptr). ent 𝓤 (Run (us p')) (Run (us u))) (sym (at_block p asked.0)) (id⊢ 𝓤 (Run (us p')))) $
-    enter ! 𝓣.C 𝓣.Λ mir (us p') Post $ alloc_all ! (λ l. pass_all ! refl ((tt, tt), ((tt, record { fits = are.1.0.1 }), ((tt, (tt, tt)), ((tt, record { fits = are.1.1.1.0.1 }), tt)))) $ let locals = env mir.locals l in
-    opens ! tt Chain b' o' (λ ts. move ! (1 ∷ []) $ fsplit ! $ move ! (1 ∷ []) $ use1 𝓛 (given (blocks.Placed 𝓛 R token p j) (‵ (content_owns R (Some x) b e) ⊛ raw (all 𝓤 (blocks.Rehome 𝓛 R token bs k p j)))) (blocks.content_at 𝓛 R token bs k p j (Some x) asked.1 asked.2.1) $ learn ! (λ at. split ! $
+    keep ! (3 ∷ 0 ∷ []) $ heard ! Asked (λ asked. let x : S.Denot = asked.2.0 in takes_ref ! $
+    enters_at ! p asked.0 𝓣.C 𝓣.Λ mir (λ u. vptr a.0.ref_ptr.0 a.0.ref_ptr.1 ∷ vint w64 a.1.0 ∷ place_val u ∷ vint w64 a.1.1.1.0 ∷ []) Post $ alloc_all ! (λ l. pass_all ! refl ((tt, tt), ((tt, record { fits = are.1.0.1 }), ((tt, (tt, tt)), ((tt, record { fits = are.1.1.1.0.1 }), tt)))) $ let locals = env mir.locals l in
+    opens_ref ! tt Chain h b' o' (λ ts. refl) (λ ts. use1 𝓛 (given (blocks.Placed 𝓛 R token p j) (‵ (content_owns R (Some x) b e) ⊛ raw (all 𝓤 (blocks.Rehome 𝓛 R token bs k p j)))) (blocks.content_at 𝓛 R token bs k p j (Some x) asked.1 asked.2.1) $ learn ! (λ at. split ! $
     let near : j < SLOTS = at.2 in let less : j * sz ≤ SLOTS * sz = mul-le-mul_right sz (omega arith) in let tiny : sz < 2 ^ 31 = at.1 in let small : j * sz < 2 ^ 64 = omega arith in spread v ! lawful x b e (λ w good. first ! $ blocks ! $
     sets ! (of_opd ! (get_in ! (fld ! refl (stop !)) (sub ! 0 refl (all_of_it !)))) refl (tt, tt) $ sets ! (addr ! (through ! refl (fld ! refl (stop !)))) refl (tt, tt) $
     sets ! (is ! (bin ! (get ! refl) (size_word !) (record { fits = subst (λ (n : ℕ). n < 2 ^ 64) (sym (full_product j sz small)) small })) (ap (vint w64) (full_product j sz small))) refl (tt, record { fits = small }) $ sets ! (bin ! (get ! refl) (get ! refl) tt) refl (tt, tt) $
-    sets_last ! (of_opd ! (load ! (through ! refl (stop !)) (look_raw ! 0 refl))) refl good $ exec ! 𝓣.C 𝓣.Λ locals (after 1 mir.body) (at_ret locals Post) $ sets ! (of_opd ! (get ! refl)) refl good $
-    use1 𝓛 (‵ (froom (bare (layout S)) b e)) (𝓛.laws.at_room (bare (layout S)) b e w) $
+    sets_last ! (of_opd ! (load ! (through ! refl (stop !)) (look_raw ! 0 refl))) refl good $ exec ! 𝓣.C 𝓣.Λ locals (after 1 mir.body) (at_ret locals Post) $ sets ! (of_opd ! (get ! refl)) refl good $ use1 𝓛 (‵ (froom (bare (layout S)) b e)) (𝓛.laws.at_room (bare (layout S)) b e w) $
     -- [the slot; the value; the way back; the chain's fields; its place in four; the other tokens]
-    move ! (0 ∷ 2 ∷ []) $ use2 𝓛 (‵ (chain_owns R token h'.blocks)) (blocks.rehomes 𝓛 R token bs k p j vacant) $ move ! (2 ∷ 0 ∷ []) $ fjoin ! $ move ! (2 ∷ 0 ∷ 3 ∷ 4 ∷ 5 ∷ []) $
-    closes ! tt Chain h' ts b' o' $ feq_i ! (List Val) (vptr b' o' ∷ []) (vptr b' o' ∷ []) refl $ fjoin3 ! $ nothing ! $ nothing ! $ fjoin ! $ nothing ! $ fjoin ! $ nothing ! $ fjoin ! $ move ! (1 ∷ 0 ∷ []) $ fjoin ! $ move ! (1 ∷ 3 ∷ []) $ join ! $
-    use0 𝓛 (raw (fact 𝓤 (Rests bs k j (Some x)))) (fact_i 𝓤 (Rests bs k j (Some x)) (emp 𝓤) asked.2.1) $ use0 𝓛 (raw (fact 𝓤 Told)) (fact_i 𝓤 Told (emp 𝓤) (refl, refl)) $ join ! $
+    move ! (0 ∷ 2 ∷ []) $ use2 𝓛 (‵ (chain_owns R token h'.blocks)) (blocks.rehomes 𝓛 R token bs k p j vacant) $ move ! (0 ∷ 2 ∷ 3 ∷ 4 ∷ 5 ∷ 6 ∷ 7 ∷ []) $ shuts_ref ! tt Chain h' ts b' o' 3 refl refl $ tells ! (Rests bs k j (Some x)) asked.2.1 $ tells ! Told (refl, refl) $ join ! $
     returns ! (look_at ! 0 refl) $ free_all ! refl $ keep ! (1 ∷ 2 ∷ 3 ∷ 0 ∷ []) $ by ! (leaves 𝓛 goal kept_of c y w x (h', (tt, (tt, (tt, tt)))) (tt, (tt, (tt, (tt, tt)))))))))))

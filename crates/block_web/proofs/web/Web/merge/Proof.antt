@@ -1,5 +1,5 @@
 -- `merge` is one load, by which one seat's view takes another's in.
-use Rattle.block_web.proofs.Walks.{◌≡◌, ℕ, ◌+◌, ◌*◌, List, [], ◌∷◌, sym, refl, subst, arith, lit<, w64, Ty, a_type, dcons, dnil, named, Val, vunit, vint, vptr, inst_fn, Coded, SProp, ent, sep, emp, via, id⊢, Lft, Fml, ftrue, fsep, flft, fbor, WpFn, sem, mean, ‵, raw, ◌⊛◌, given, at_ret, ◌$◌, ◌∵◌, !, qed, by, move, keep, drop, use0, use3, split, split3, join, fsplit, fsplit3, fjoin, fjoin3, learn, suffices, rewrite, feq_i, stop, from, fld, hop, addr, lit, unit_lit, of_opd, no_more, and_then, first, blocks, exec, Calls-last, returns, enter, alloc_all, pass_all, free_all, look_at, look_in_at, get, sets, lands_last, env, agg, sub, all_of_it, obor_close, tokens_halve, tables, fact, fact_i, yes, no, RattleType, owns, types_at, plain, Ptr, block_ptr, block_of, count_of, at_block, InBlock, nothing, opens, closes, unhide, param, bounded, RefOf, u64, mut_vals, mut_Tells, shr_vals, shr_Tells, uint_vals, uint_Tells, Stays, stay_dropped, stay_ref, walk_of, Goes-dropped, Goes-ref, asks, always, proved, leaves, fm, seq_cst, found, finds, loads, Sitter, sitter, CanMerge, Sits, Same, WebId, age, seat_owns, inside_owns, after, place_val, place_told, begins_step}
+use Rattle.block_web.proofs.Walks.{◌≡◌, ℕ, ◌+◌, ◌*◌, List, [], ◌∷◌, sym, refl, subst, arith, lit<, w64, Ty, a_type, dcons, dnil, named, Val, vunit, vint, vptr, inst_fn, Coded, SProp, ent, sep, via, Lft, Fml, ftrue, fsep, flft, fbor, WpFn, sem, mean, ‵, raw, ◌⊛◌, given, at_ret, ◌$◌, ◌∵◌, !, qed, by, move, keep, drop, use3, split, split3, join, fsplit, fsplit3, fjoin, learn, rewrite, feq_i, stop, from, fld, hop, addr, lit, unit_lit, of_opd, no_more, and_then, first, blocks, exec, Calls-last, returns, enter, alloc_all, pass_all, free_all, look_at, look_in_at, get, sets, lands_last, env, agg, sub, all_of_it, obor_close, tokens_halve, tables, fact, yes, no, RattleType, owns, types_at, plain, Ptr, block_ptr, block_of, count_of, InBlock, nothing, unhide, param, bounded, RefOf, u64, mut_vals, mut_Tells, shr_vals, shr_Tells, uint_vals, uint_Tells, Stays, stay_dropped, stay_ref, walk_of, Goes-dropped, Goes-ref, asks, always, proved, leaves, fm, seq_cst, found, finds, loads, Sitter, sitter, CanMerge, Sits, Same, WebId, age, seat_owns, inside_owns, after, place_val, place_told, begins_step, tells, alone, opens_ref, closes_ref, enters_at}
 use Rattle.block_web.specs.contracts.block.Link as link
 use Rattle.block_web.specs.contracts.web.Web as web
 use Rattle.block_web.specs.contracts.web.Seat as seat
@@ -29,25 +29,17 @@ merge_spec 𝓤 𝓛 𝓜 𝓡 wired S V K P A M _ _ _ _ _ _ g d ga da dd g' d' 
     ∷ given (Sits h t × Sits h₂ t × InBlock p × CanMerge holds k p id m.view h₂.id it.view both g'.spent) (‵ ftrue) ∷ []) ∵
     keep ! (7 ∷ 0 ∷ []) $ learn ! (λ asked. drop ! $ split ! $ split3 ! $ move ! (2 ∷ []) $ split ! $ move ! (4 ∷ []) $ fsplit3 ! $ fsplit ! $ move ! (2 ∷ []) $ fsplit3 ! $ move ! (5 ∷ []) $ fsplit ! $ fsplit3 ! $
     keep ! (8 ∷ 11 ∷ 5 ∷ 6 ∷ 12 ∷ 1 ∷ 2 ∷ 9 ∷ 10 ∷ []) $ unhide ! $ fsplit ! $ drop ! $ fsplit ! $
-    let us : Ptr → List Val = λ u. vptr a.0.ref_ptr.0 a.0.ref_ptr.1 ∷ vptr a.1.0.ref_ptr.0 a.1.0.ref_ptr.1 ∷ vptr a.1.1.0.ref_ptr.0 a.1.1.0.ref_ptr.1 ∷ vint w64 a.1.1.1.0 ∷ place_val u ∷ [] in let Run : List Val → SProp 𝓤 = λ ws. WpFn 𝓤 H 𝓣.C 𝓣.Λ mir ws Post in let p' : Ptr = block_ptr (block_of p) (count_of p) in
-    suffices ! (Run (us p')) (subst (λ (u : Ptr). ent 𝓤 (Run (us p')) (Run (us u))) (sym (at_block p asked.2)) (id⊢ 𝓤 (Run (us p')))) $
-    enter ! 𝓣.C 𝓣.Λ mir (us p') Post $ alloc_all ! (λ l. pass_all ! refl ((tt, tt), ((tt, tt), ((tt, tt), ((tt, record { fits = are.1.1.1.0.1 }), ((tt, (tt, tt)), tt))))) $ let locals = env mir.locals l in
-    begins_step ! tt Seat (tokens_halve 𝓛 α) b' o' (λ s ts. fsplit ! $
-    rewrite ! 1 (λ (x : WebId × A.Denot). ‵ (seat_owns R (ga.dealloc_token x.1) code_of.code x.0 id m)) (λ j. (asked.0.0 j, asked.0.1 j)) refl $ move ! (9 ∷ 10 ∷ 11 ∷ []) $ opens ! tt Seat b₂ o₂ (λ us₂. move ! (1 ∷ []) $ fsplit ! $
-    rewrite ! 1 (λ (x : WebId × A.Denot). ‵ (seat_owns R (ga.dealloc_token x.1) code_of.code x.0 h₂.id it)) (λ j. (asked.1.0 j, asked.1.1 j)) refl $ first ! $ blocks ! $
-    let e : ℕ = count_of p + 8 in let zero_is : 0 * 8 + e ≡ e = omega arith in sets ! (addr ! (from ! (fld ! refl (hop ! (look_in_at ! 5 (sub ! 0 refl (all_of_it !))) (fld ! refl (stop !)))))) refl (tt, tt) $ move ! (7 ∷ 1 ∷ []) $ join ! $ move ! (13 ∷ 12 ∷ 0 ∷ []) $
+    enters_at ! p asked.2 𝓣.C 𝓣.Λ mir (λ u. vptr a.0.ref_ptr.0 a.0.ref_ptr.1 ∷ vptr a.1.0.ref_ptr.0 a.1.0.ref_ptr.1 ∷ vptr a.1.1.0.ref_ptr.0 a.1.1.0.ref_ptr.1 ∷ vint w64 a.1.1.1.0 ∷ place_val u ∷ []) Post $ alloc_all ! (λ l. pass_all ! refl ((tt, tt), ((tt, tt), ((tt, tt), ((tt, record { fits = are.1.1.1.0.1 }), ((tt, (tt, tt)), tt))))) $ let locals = env mir.locals l in
+    begins_step ! tt Seat h (tokens_halve 𝓛 α) b' o' (λ (x : WebId × A.Denot). seat_owns R (ga.dealloc_token x.1) code_of.code x.0 id m) (λ j. (asked.0.0 j, asked.0.1 j)) (λ ts. refl) (λ s ts. move ! (9 ∷ 10 ∷ 11 ∷ []) $ opens_ref ! tt Seat h₂ b₂ o₂ (λ us₂. refl) (λ us₂.
+    rewrite ! 0 (λ (x : WebId × A.Denot). ‵ (seat_owns R (ga.dealloc_token x.1) code_of.code x.0 h₂.id it)) (λ j. (asked.1.0 j, asked.1.1 j)) refl $ first ! $ blocks ! $
+    let e : ℕ = count_of p + 8 in sets ! (addr ! (from ! (fld ! refl (hop ! (look_in_at ! 5 (sub ! 0 refl (all_of_it !))) (fld ! refl (stop !)))))) refl (tt, tt) $ move ! (6 ∷ 0 ∷ []) $ join ! $ move ! (13 ∷ 12 ∷ 0 ∷ []) $
     let out : ℕ → Fml = λ n. fsep (flft α s) (moves.Merged 𝓛 R token code_of holds z s k p id m h₂.id it both g'.spent) in
-    use3 𝓛 (raw (𝓣.C _ (vptr (block_of p) e ∷ seq_cst ∷ []) (λ u. mean 𝓛 (found out u))))
-    (via 𝓤 _ (subst (λ (j : ℕ). ent 𝓤 (sep 𝓤 (𝓛.A.inv (fbor α (inside_owns R token code_of.code z holds))) (sep 𝓤 (𝓛.A.lft α s) (sep 𝓤 (sem 𝓛 (seat_owns R token code_of.code z id m)) (sem 𝓛 (seat_owns R token code_of.code z h₂.id it))))) (asks 𝓛 (block_ptr (block_of p) j) (λ n. n) always out)) zero_is
-    (moves.absorbs 𝓛 R token code_of holds z s k p id m h₂.id it both g'.spent asked.3)) (loads 𝓛 𝓜 𝓡 (code.calls-std::sync::atomic::raw::load 𝓡.env wired) (block_ptr (block_of p) e) out)) $
+    use3 𝓛 (raw (𝓣.C _ (vptr (block_of p) e ∷ seq_cst ∷ []) (λ u. mean 𝓛 (found out u)))) (via 𝓤 _ (moves.absorbs 𝓛 R token code_of holds z s k p id m h₂.id it both g'.spent asked.3) (loads 𝓛 𝓜 𝓡 (code.calls-std::sync::atomic::raw::load 𝓡.env wired) (block_ptr (block_of p) e) out)) $
     sets ! (agg ! (and_then ! (lit ! tt) (no_more !))) refl (tt, (record { fits = lit< tt }, tt)) $
     Calls-last ! (fm 𝓛 𝓜 𝓡) (found out) (and_then ! (get ! refl) (and_then ! (get ! refl) (no_more !))) (λ u. finds ! out (λ n fits. lands_last ! refl (tt, record { fits = fits }) $ exec ! 𝓣.C 𝓣.Λ locals (after 1 mir.body) (at_ret locals Post) $
     sets ! (of_opd ! (unit_lit !)) refl (tt, tt) $ fsplit ! $ move ! (12 ∷ 0 ∷ []) $ obor_close ! tt $ drop ! $ move ! (1 ∷ []) $ fsplit ! $
     let m' : Sitter S.Denot V.Denot = sitter both m.hand m.spare in let h' : Seat.Denot = record { marker = h.marker; web = z; heap = t.heap; id = id; sitter = m' } in
     let h₃ : Seat.Denot = record { marker = h₂.marker; web = z; heap = t.heap; id = h₂.id; sitter = sitter g'.spent it.hand it.spare } in let Told : Type 0 = Same h' h × (m' ≡ m') in
-    move ! (8 ∷ 0 ∷ []) $ fjoin ! $ move ! (8 ∷ 0 ∷ 9 ∷ 10 ∷ 11 ∷ []) $ closes ! tt Seat h' ts b' o' $ feq_i ! (List Val) (vptr b' o' ∷ []) (vptr b' o' ∷ []) refl $ fjoin3 ! $
-    move ! (4 ∷ 2 ∷ []) $ fjoin ! $ move ! (4 ∷ 0 ∷ 5 ∷ 6 ∷ 7 ∷ []) $ closes ! tt Seat h₃ us₂ b₂ o₂ $ feq_i ! (List Val) (vptr b₂ o₂ ∷ []) (vptr b₂ o₂ ∷ []) refl $ fjoin3 ! $
-    nothing ! $ nothing ! $ fjoin ! $ nothing ! $ fjoin ! $ move ! (1 ∷ 0 ∷ []) $ fjoin ! $ move ! (2 ∷ 0 ∷ []) $ fjoin ! $ nothing ! $ fjoin ! $
-    move ! (1 ∷ 4 ∷ []) $ join ! $ move ! (2 ∷ 0 ∷ []) $ join ! $ move ! (2 ∷ 0 ∷ []) $ join ! $
-    use0 𝓛 (raw (fact 𝓤 Told)) (fact_i 𝓤 Told (emp 𝓤) ((sym asked.0.0, sym asked.0.1, refl), refl)) $ feq_i ! (List Val) (vunit ∷ []) (vunit ∷ []) refl $
+    move ! (1 ∷ 3 ∷ 4 ∷ 5 ∷ 6 ∷ 7 ∷ []) $ closes_ref ! tt Seat h₃ us₂ b₂ o₂ refl refl $ alone ! 2 $ move ! (2 ∷ 4 ∷ 5 ∷ 6 ∷ 7 ∷ 8 ∷ []) $ closes_ref ! tt Seat h' ts b' o' refl refl $
+    move ! (0 ∷ 2 ∷ []) $ fjoin ! $ nothing ! $ fjoin ! $ move ! (2 ∷ 4 ∷ []) $ join ! $ move ! (2 ∷ 0 ∷ []) $ join ! $ move ! (2 ∷ 0 ∷ []) $ join ! $ tells ! Told ((sym asked.0.0, sym asked.0.1, refl), refl) $ feq_i ! (List Val) (vunit ∷ []) (vunit ∷ []) refl $
     returns ! (look_at ! 0 refl) $ free_all ! refl $ keep ! (2 ∷ 3 ∷ 0 ∷ 1 ∷ []) $ by ! (leaves 𝓛 goal kept_of c y vunit tt (tt, (h', (h₃, (tt, (tt, tt))))) (tt, (tt, (tt, (tt, (tt, tt)))))))))))))

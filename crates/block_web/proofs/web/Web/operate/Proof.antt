@@ -1,5 +1,5 @@
 -- `operate` is one step on a word, and the seat goes with it.
-use Rattle.block_web.proofs.Walks.{ℕ, ◌+◌, ◌*◌, ◌^◌, ◌<◌, List, [], ◌∷◌, sym, refl, subst, arith, w64, Ty, a_type, dcons, dnil, named, Val, vint, vptr, inst_fn, Coded, SProp, ent, emp, via, id⊢, Lft, Fml, ftrue, fsep, flft, WpFn, mean, ‵, raw, ◌⊛◌, given, at_ret, ◌$◌, ◌∵◌, !, qed, by, move, keep, drop, use0, use3, split, split3, join, fsplit, fsplit3, fjoin, fjoin3, learn, suffices, rewrite, feq_i, flt_i, stop, from, fld, hop, addr, lit, of_opd, bin, no_more, and_then, first, blocks, exec, Calls-last, returns, enter, alloc_all, pass_all, free_all, look_at, look_in_at, get, sets, lands_last, env, sub, all_of_it, tokens_halve, tables, fact, fact_i, yes, no, RattleType, owns, types_at, plain, Ptr, block_ptr, block_of, count_of, at_block, InBlock, nothing, unhide, param, bounded, RefOf, u64, usize, mut_vals, mut_Tells, shr_vals, shr_Tells, uint_vals, uint_Tells, Stays, stay_dropped, stay_ref, walk_of, Goes-dropped, Goes-ref, proved, leaves, fm, found, finds, Sitter, step, Allows, Sits, Same, WebId, age, seat_owns, SLOTS, word_of, after, place_val, place_told, begins_step, ends_step}
+use Rattle.block_web.proofs.Walks.{ℕ, ◌+◌, ◌*◌, ◌^◌, ◌<◌, List, [], ◌∷◌, sym, refl, arith, w64, Ty, a_type, dcons, dnil, named, Val, vint, vptr, inst_fn, Coded, SProp, via, Lft, Fml, ftrue, fsep, flft, WpFn, mean, ‵, raw, ◌⊛◌, given, at_ret, ◌$◌, ◌∵◌, !, qed, by, move, keep, drop, use3, learn, stop, from, fld, hop, addr, lit, of_opd, bin, no_more, and_then, first, blocks, exec, Calls-last, returns, enter, alloc_all, pass_all, free_all, look_at, look_in_at, get, sets, lands_last, env, sub, all_of_it, tokens_halve, tables, fact, yes, no, RattleType, owns, types_at, plain, Ptr, block_ptr, block_of, count_of, InBlock, param, bounded, RefOf, u64, usize, mut_vals, mut_Tells, shr_vals, shr_Tells, uint_vals, uint_Tells, Stays, stay_dropped, stay_ref, walk_of, Goes-dropped, Goes-ref, proved, leaves, fm, found, finds, Sitter, step, Allows, Sits, Same, WebId, age, seat_owns, SLOTS, word_of, after, place_val, place_told, fpick, tells, numbers, begins_step, ends_step, takes_step, enters_at}
 use Rattle.block_web.specs.contracts.block.Link as link
 use Rattle.block_web.specs.contracts.web.Web as web
 use Rattle.block_web.specs.contracts.web.Seat as seat
@@ -33,22 +33,16 @@ operate_spec 𝓤 𝓛 𝓜 𝓡 wired S V K P A M T _ _ _ _ _ _ _ g d ga da dd 
     let seated : Sitter S.Denot V.Denot → Seat.Denot = λ x. record { marker = h.marker; web = z; heap = t.heap; id = id; sitter = x } in let others : Fml = fsep (flft κs.1.1.0 qs.1.1.0) (fsep (flft κs.1.1.1.0 qs.1.1.1.0) (fsep (flft κs.1.1.1.1.0 qs.1.1.1.1.0) (fsep (flft κs.1.1.1.1.1.0 qs.1.1.1.1.1.0) (fsep (flft κs.1.1.1.1.1.1.0 qs.1.1.1.1.1.1.0) (fsep (flft κs.1.1.1.1.1.1.1.0 qs.1.1.1.1.1.1.1.0) (fsep (flft κs.1.1.1.1.1.1.1.1.0 qs.1.1.1.1.1.1.1.1.0) (fsep (flft κs.1.1.1.1.1.1.1.1.1.0 qs.1.1.1.1.1.1.1.1.1.0) (ftrue)))))))) in
     qed 𝓛 (((‵ (flft κs.0 qs.0) ⊛ ‵ (flft κs.1.0 qs.1.0) ⊛ ‵ others) ⊛ ‵ (owns (types_at goal.signature.params κs) a y.0.4)) ∷ raw (fact 𝓤 _) ∷ raw (fact 𝓤 _) ∷ raw (fact 𝓤 _) ∷ raw (fact 𝓤 _) ∷ raw (fact 𝓤 _) ∷ raw (fact 𝓤 _) ∷ raw (fact 𝓤 _)
     ∷ given (Sits h t × InBlock p × (i < SLOTS) × Allows holds id m k p i f (λ n. then (told op n₁ n))) (‵ ftrue) ∷ []) ∵
-    keep ! (8 ∷ 0 ∷ []) $ learn ! (λ asked. drop ! $ split ! $ split3 ! $ move ! (3 ∷ []) $ fsplit3 ! $ fsplit ! $ move ! (2 ∷ []) $ fsplit3 ! $ keep ! (4 ∷ 6 ∷ 1 ∷ 2 ∷ 7 ∷ 8 ∷ []) $ unhide ! $ fsplit ! $ drop ! $ fsplit ! $
-    let us : Ptr → List Val = λ u. vptr a.0.ref_ptr.0 a.0.ref_ptr.1 ∷ vptr a.1.0.ref_ptr.0 a.1.0.ref_ptr.1 ∷ vint w64 a.1.1.0 ∷ place_val u ∷ vint w64 a.1.1.1.1.0 ∷ operation_val op ∷ vint w64 n₁ ∷ vint w64 n₂ ∷ vptr a.1.1.1.1.1.1.1.1.0.ref_ptr.0 a.1.1.1.1.1.1.1.1.0.ref_ptr.1 ∷ [] in let Run : List Val → SProp 𝓤 = λ ws. WpFn 𝓤 H 𝓣.C 𝓣.Λ mir ws Post in let p' : Ptr = block_ptr (block_of p) (count_of p) in
-    suffices ! (Run (us p')) (subst (λ (u : Ptr). ent 𝓤 (Run (us p')) (Run (us u))) (sym (at_block p asked.1)) (id⊢ 𝓤 (Run (us p')))) $
-    enter ! 𝓣.C 𝓣.Λ mir (us p') Post $ alloc_all ! (λ l. pass_all ! refl ((tt, tt), ((tt, tt), ((tt, record { fits = are.1.1.0.1 }), ((tt, (tt, tt)), ((tt, record { fits = are.1.1.1.1.0.1 }), (operation_good op, ((tt, record { fits = are.1.1.1.1.1.1.0.1 }), ((tt, record { fits = are.1.1.1.1.1.1.1.0.1 }), ((tt, tt), tt))))))))) $ let locals = env mir.locals l in
-    begins_step ! tt Seat (tokens_halve 𝓛 α) b' o' (λ s ts. fsplit ! $
-    rewrite ! 1 (λ (x : WebId × A.Denot). ‵ (seat_owns R (ga.dealloc_token x.1) code_of.code x.0 id m)) (λ j. (asked.0.0 j, asked.0.1 j)) refl $ first ! $ blocks ! $
-    -- [the seat's fields; the seat; its place in three; the web's open token; its token; the invariant; the other tokens]
+    keep ! (8 ∷ 0 ∷ []) $ learn ! (λ asked. drop ! $ takes_step ! $
+    enters_at ! p asked.1 𝓣.C 𝓣.Λ mir (λ u. vptr a.0.ref_ptr.0 a.0.ref_ptr.1 ∷ vptr a.1.0.ref_ptr.0 a.1.0.ref_ptr.1 ∷ vint w64 a.1.1.0 ∷ place_val u ∷ vint w64 a.1.1.1.1.0 ∷ operation_val op ∷ vint w64 n₁ ∷ vint w64 n₂ ∷ vptr a.1.1.1.1.1.1.1.1.0.ref_ptr.0 a.1.1.1.1.1.1.1.1.0.ref_ptr.1 ∷ []) Post $ alloc_all ! (λ l. pass_all ! refl ((tt, tt), ((tt, tt), ((tt, record { fits = are.1.1.0.1 }), ((tt, (tt, tt)), ((tt, record { fits = are.1.1.1.1.0.1 }), (operation_good op, ((tt, record { fits = are.1.1.1.1.1.1.0.1 }), ((tt, record { fits = are.1.1.1.1.1.1.1.0.1 }), ((tt, tt), tt))))))))) $ let locals = env mir.locals l in
+    begins_step ! tt Seat h (tokens_halve 𝓛 α) b' o' (λ (x : WebId × A.Denot). seat_owns R (ga.dealloc_token x.1) code_of.code x.0 id m) (λ j. (asked.0.0 j, asked.0.1 j)) (λ ts. refl) (λ s ts. first ! $ blocks ! $
+    -- [the seat; its fields; its place in three; the web's open token; its token; the invariant; the other tokens]
     let small : i * 8 < 2 ^ 64 = (let near = asked.2 in omega arith) in let e : ℕ = i * 8 + (count_of p + 8) in sets ! (addr ! (from ! (fld ! refl (hop ! (look_in_at ! 4 (sub ! 0 refl (all_of_it !))) (fld ! refl (stop !)))))) refl (tt, tt) $
-    sets ! (bin ! (get ! refl) (lit ! tt) (record { fits = small })) refl (tt, record { fits = small }) $ sets ! (bin ! (get ! refl) (get ! refl) tt) refl (tt, tt) $
-    move ! (8 ∷ 7 ∷ 1 ∷ []) $ let out = λ (n : ℕ). fsep (flft α s) (moves.after 𝓛 R token code_of holds z id (knows n)) in
+    sets ! (bin ! (get ! refl) (lit ! tt) (record { fits = small })) refl (tt, record { fits = small }) $ sets ! (bin ! (get ! refl) (get ! refl) tt) refl (tt, tt) $ move ! (8 ∷ 7 ∷ 0 ∷ []) $ let out = λ (n : ℕ). fsep (flft α s) (moves.after 𝓛 R token code_of holds z id (knows n)) in
     let allowed : Allows holds id m k p i f (λ n. knows (told op n₁ n)) = λ st so at. let r = asked.3 st so at in (r.0, λ small. let go = r.1 small in (go.0, go.1, go.2, go.3, (is_told op n₁ (word_of st.blocks k i), go.4))) in
     use3 𝓛 (raw (𝓣.C _ (vptr (block_of p) e ∷ operation_val op ∷ vint w64 n₁ ∷ vint w64 n₂ ∷ []) (λ u. mean 𝓛 (found out u)))) (via 𝓤 _ (moves.steps 𝓛 R token code_of holds z s k p id m i f (λ n. knows (told op n₁ n)) asked.2 allowed)
     (operates 𝓛 𝓜 𝓡 (code.calls-block_web::word::operate 𝓡.env wired) op (block_ptr (block_of p) e) n₁ n₂ are.1.1.1.1.1.1.0.1 are.1.1.1.1.1.1.1.0.1 out)) $
     Calls-last ! (fm 𝓛 𝓜 𝓡) (found out) (and_then ! (get ! refl) (and_then ! (get ! refl) (and_then ! (get ! refl) (and_then ! (get ! refl) (no_more !))))) (λ u. finds ! out (λ n fits.
     lands_last ! refl (tt, record { fits = fits }) $ exec ! 𝓣.C 𝓣.Λ locals (after 1 mir.body) (at_ret locals Post) $ sets ! (of_opd ! (get ! refl)) refl (tt, record { fits = fits }) $
-    ends_step ! tt Seat b' o' ts seated (λ x. refl) (λ m' so. let h' : Seat.Denot = seated m' in feq_i ! (List Val) (vptr b' o' ∷ []) (vptr b' o' ∷ []) refl $ fjoin3 ! $
-    nothing ! $ nothing ! $ fjoin ! $ nothing ! $ fjoin ! $ nothing ! $ fjoin ! $ nothing ! $ fjoin ! $ nothing ! $ fjoin ! $ nothing ! $ fjoin ! $ nothing ! $ fjoin ! $ move ! (1 ∷ 0 ∷ []) $ fjoin ! $ nothing ! $ fjoin ! $ move ! (1 ∷ 3 ∷ []) $ join ! $ move ! (2 ∷ 0 ∷ []) $ join ! $
-    let Told : Type 0 = Same h' h × IsTold op n₁ n × then n m' in use0 𝓛 (raw (fact 𝓤 Told)) (fact_i 𝓤 Told (emp 𝓤) ((sym asked.0.0, sym asked.0.1, refl), so.0, so.1)) $ flt_i ! n (2 ^ 64) fits $ feq_i ! (List Val) (vint w64 n ∷ []) (vint w64 n ∷ []) refl $ fjoin ! $
-    returns ! (look_at ! 0 refl) $ free_all ! refl $ keep ! (2 ∷ 3 ∷ 0 ∷ 1 ∷ []) $ by ! (leaves 𝓛 goal kept_of c y (vint w64 n) n (tt, (h', (tt, (tt, (tt, (tt, (tt, (tt, (tt, tt))))))))) (tt, (tt, (tt, (tt, (tt, (tt, (tt, (tt, (tt, tt)))))))))))))))))
+    ends_step ! tt Seat b' o' ts 7 seated (λ x. refl) (λ m'. fpick ! (λ so. drop ! $ let h' : Seat.Denot = seated m' in tells ! (Same h' h × IsTold op n₁ n × then n m') ((sym asked.0.0, sym asked.0.1, refl), so.0, so.1) $ numbers ! n fits $
+    returns ! (look_at ! 0 refl) $ free_all ! refl $ keep ! (2 ∷ 3 ∷ 0 ∷ 1 ∷ []) $ by ! (leaves 𝓛 goal kept_of c y (vint w64 n) n (tt, (h', (tt, (tt, (tt, (tt, (tt, (tt, (tt, tt))))))))) (tt, (tt, (tt, (tt, (tt, (tt, (tt, (tt, (tt, tt))))))))))))))))))

@@ -1,5 +1,5 @@
 -- `split` is one load, by which the seat's view is cut in two.
-use Rattle.block_web.proofs.Walks.{◌≡◌, ℕ, ◌+◌, ◌*◌, List, [], ◌∷◌, sym, refl, subst, arith, lit<, w64, None, Ty, a_type, dcons, dnil, named, Val, vint, vptr, inst_fn, Coded, SProp, ent, sep, emp, via, id⊢, Lft, Fml, ftrue, fsep, fex, flft, fbor, WpFn, sem, mean, ‵, raw, ◌⊛◌, given, at_ret, ◌$◌, ◌∵◌, !, qed, by, move, keep, drop, use0, use3, split, split3, join, fsplit, fsplit3, fjoin, fjoin3, fpick, learn, suffices, rewrite, feq_i, stop, from, fld, hop, addr, lit, no_more, and_then, first, blocks, exec, Calls-last, returns, enter, alloc_all, pass_all, free_all, look_at, look_in_at, get, sets, lands_last, env, agg, sub, all_of_it, obor_close, tokens_halve, tables, fact, fact_i, yes, no, RattleType, owns, types_at, plain, Ptr, block_ptr, block_of, count_of, at_block, InBlock, nothing, closes, unhide, param, bounded, RefOf, u64, mut_vals, mut_Tells, shr_vals, shr_Tells, uint_vals, uint_Tells, Tuple, Stays, stay_dropped, stay_ref, walk_of, Goes-dropped, Goes-ref, asks, always, proved, leaves, fm, seq_cst, found, finds, loads, Sitter, sitter, CanFork, Sits, Same, WebId, age, seat_owns, inside_owns, after, blank_val, place_val, Blank, blank_made, place_told, begins_step}
+use Rattle.block_web.proofs.Walks.{◌≡◌, ℕ, ◌+◌, ◌*◌, List, [], ◌∷◌, sym, refl, subst, arith, lit<, w64, None, Ty, a_type, dcons, dnil, named, Val, vint, vptr, inst_fn, Coded, SProp, ent, sep, via, Lft, Fml, ftrue, fsep, fex, flft, fbor, WpFn, sem, mean, ‵, raw, ◌⊛◌, given, at_ret, ◌$◌, ◌∵◌, !, qed, by, move, keep, drop, use3, join, learn, stop, from, fld, hop, addr, lit, no_more, and_then, first, blocks, exec, Calls-last, returns, enter, alloc_all, pass_all, free_all, look_at, look_in_at, get, sets, lands_last, env, agg, sub, all_of_it, tokens_halve, tables, fact, yes, no, RattleType, owns, types_at, plain, Ptr, block_ptr, block_of, count_of, InBlock, param, bounded, RefOf, u64, mut_vals, mut_Tells, shr_vals, shr_Tells, uint_vals, uint_Tells, Tuple, Stays, stay_dropped, stay_ref, walk_of, Goes-dropped, Goes-ref, asks, always, proved, leaves, fm, seq_cst, found, finds, loads, Sitter, sitter, CanFork, Sits, Same, WebId, age, seat_owns, inside_owns, after, blank_val, place_val, place_told, begins_step, tells, blank, takes_step, ends_step, enters_at}
 use Rattle.block_web.specs.contracts.block.Link as link
 use Rattle.block_web.specs.contracts.web.Web as web
 use Rattle.block_web.specs.contracts.web.Seat as seat
@@ -25,25 +25,16 @@ split_spec 𝓤 𝓛 𝓜 𝓡 wired S V K P A M _ _ _ _ _ _ g d ga da dd g' d' 
     let b' : ℕ = a.1.0.ref_ptr.0 in let o' : ℕ = a.1.0.ref_ptr.1 in let h : Seat.Denot = a.1.0.now in let id : ℕ = h.id in let m : Sitter S.Denot V.Denot = h.sitter in let k : ℕ = a.1.1.0 in let p : Ptr = a.1.1.1.0.ptr in
     let l₁ : V.Denot = g'.left m.view in let r₁ : V.Denot = g'.right m.view in let others : Fml = fsep (flft κs.1.1.0 qs.1.1.0) (fsep (flft κs.1.1.1.0 qs.1.1.1.0) (fsep (flft κs.1.1.1.1.0 qs.1.1.1.1.0) (fsep (flft κs.1.1.1.1.1.0 qs.1.1.1.1.1.0) (fsep (flft κs.1.1.1.1.1.1.0 qs.1.1.1.1.1.1.0) (fsep (flft κs.1.1.1.1.1.1.1.0 qs.1.1.1.1.1.1.1.0) (ftrue)))))) in
     qed 𝓛 (((‵ (flft κs.0 qs.0) ⊛ ‵ (flft κs.1.0 qs.1.0) ⊛ ‵ others) ⊛ ‵ (owns (types_at goal.signature.params κs) a y.0.4)) ∷ raw (fact 𝓤 _) ∷ raw (fact 𝓤 _) ∷ raw (fact 𝓤 _) ∷ raw (fact 𝓤 _) ∷ raw (fact 𝓤 _) ∷ raw (fact 𝓤 _) ∷ given (Sits h t × InBlock p × CanFork holds k p id m.view l₁ r₁) (‵ ftrue) ∷ []) ∵
-    keep ! (7 ∷ 0 ∷ []) $ learn ! (λ asked. drop ! $ split ! $ split3 ! $ move ! (3 ∷ []) $ fsplit3 ! $ fsplit ! $ move ! (2 ∷ []) $ fsplit3 ! $ keep ! (4 ∷ 6 ∷ 1 ∷ 2 ∷ 7 ∷ 8 ∷ []) $ unhide ! $ fsplit ! $ drop ! $ fsplit ! $
-    let us : Ptr → List Val = λ u. vptr a.0.ref_ptr.0 a.0.ref_ptr.1 ∷ vptr a.1.0.ref_ptr.0 a.1.0.ref_ptr.1 ∷ vint w64 a.1.1.0 ∷ place_val u ∷ [] in let Run : List Val → SProp 𝓤 = λ ws. WpFn 𝓤 H 𝓣.C 𝓣.Λ mir ws Post in let p' : Ptr = block_ptr (block_of p) (count_of p) in
-    suffices ! (Run (us p')) (subst (λ (u : Ptr). ent 𝓤 (Run (us p')) (Run (us u))) (sym (at_block p asked.1)) (id⊢ 𝓤 (Run (us p')))) $
-    enter ! 𝓣.C 𝓣.Λ mir (us p') Post $ alloc_all ! (λ l. pass_all ! refl ((tt, tt), ((tt, tt), ((tt, record { fits = are.1.1.0.1 }), ((tt, (tt, tt)), tt)))) $ let locals = env mir.locals l in
-    begins_step ! tt Seat (tokens_halve 𝓛 α) b' o' (λ s ts. fsplit ! $
-    rewrite ! 1 (λ (x : WebId × A.Denot). ‵ (seat_owns R (ga.dealloc_token x.1) code_of.code x.0 id m)) (λ j. (asked.0.0 j, asked.0.1 j)) refl $ first ! $ blocks ! $
-    let e : ℕ = count_of p + 8 in let zero_is : 0 * 8 + e ≡ e = omega arith in sets ! (addr ! (from ! (fld ! refl (hop ! (look_in_at ! 4 (sub ! 0 refl (all_of_it !))) (fld ! refl (stop !)))))) refl (tt, tt) $
-    move ! (8 ∷ 7 ∷ 1 ∷ []) $ let Two : ℕ → Fml = moves.Two 𝓛 R token code_of holds z s k p id m l₁ r₁ in let out : ℕ → Fml = λ n. fsep (flft α s) (fex ℕ Two) in
-    use3 𝓛 (raw (𝓣.C _ (vptr (block_of p) e ∷ seq_cst ∷ []) (λ u. mean 𝓛 (found out u))))
-    (via 𝓤 _ (subst (λ (j : ℕ). ent 𝓤 (sep 𝓤 (𝓛.A.inv (fbor α (inside_owns R token code_of.code z holds))) (sep 𝓤 (𝓛.A.lft α s) (sem 𝓛 (seat_owns R token code_of.code z id m)))) (asks 𝓛 (block_ptr (block_of p) j) (λ n. n) always out)) zero_is
-    (moves.forks 𝓛 R token code_of holds z s k p id m l₁ r₁ asked.2)) (loads 𝓛 𝓜 𝓡 (code.calls-std::sync::atomic::raw::load 𝓡.env wired) (block_ptr (block_of p) e) out)) $
+    keep ! (7 ∷ 0 ∷ []) $ learn ! (λ asked. drop ! $ takes_step ! $
+    enters_at ! p asked.1 𝓣.C 𝓣.Λ mir (λ u. vptr a.0.ref_ptr.0 a.0.ref_ptr.1 ∷ vptr a.1.0.ref_ptr.0 a.1.0.ref_ptr.1 ∷ vint w64 a.1.1.0 ∷ place_val u ∷ []) Post $ alloc_all ! (λ l. pass_all ! refl ((tt, tt), ((tt, tt), ((tt, record { fits = are.1.1.0.1 }), ((tt, (tt, tt)), tt)))) $ let locals = env mir.locals l in
+    begins_step ! tt Seat h (tokens_halve 𝓛 α) b' o' (λ (x : WebId × A.Denot). seat_owns R (ga.dealloc_token x.1) code_of.code x.0 id m) (λ j. (asked.0.0 j, asked.0.1 j)) (λ ts. refl) (λ s ts. first ! $ blocks ! $
+    let e : ℕ = count_of p + 8 in sets ! (addr ! (from ! (fld ! refl (hop ! (look_in_at ! 4 (sub ! 0 refl (all_of_it !))) (fld ! refl (stop !)))))) refl (tt, tt) $
+    move ! (8 ∷ 7 ∷ 0 ∷ []) $ let Two : ℕ → Fml = moves.Two 𝓛 R token code_of holds z s k p id m l₁ r₁ in let out : ℕ → Fml = λ n. fsep (flft α s) (fex ℕ Two) in
+    use3 𝓛 (raw (𝓣.C _ (vptr (block_of p) e ∷ seq_cst ∷ []) (λ u. mean 𝓛 (found out u)))) (via 𝓤 _ (moves.forks 𝓛 R token code_of holds z s k p id m l₁ r₁ asked.2) (loads 𝓛 𝓜 𝓡 (code.calls-std::sync::atomic::raw::load 𝓡.env wired) (block_ptr (block_of p) e) out)) $
     sets ! (agg ! (and_then ! (lit ! tt) (no_more !))) refl (tt, (record { fits = lit< tt }, tt)) $
     Calls-last ! (fm 𝓛 𝓜 𝓡) (found out) (and_then ! (get ! refl) (and_then ! (get ! refl) (no_more !))) (λ u. finds ! out (λ n fits. lands_last ! refl (tt, record { fits = fits }) $ exec ! 𝓣.C 𝓣.Λ locals (after 1 mir.body) (at_ret locals Post) $
     sets ! (agg ! (no_more !)) refl (tt, tt) $ sets ! (agg ! (and_then ! (get ! refl) (no_more !))) refl (tt, (tt, tt)) $
-    fsplit ! $ move ! (7 ∷ 0 ∷ []) $ obor_close ! tt $ drop ! $ move ! (1 ∷ []) $ fpick ! (λ j. fsplit ! $
-    let m' : Sitter S.Denot V.Denot = sitter l₁ m.hand m.spare in let h' : Seat.Denot = record { marker = h.marker; web = z; heap = t.heap; id = id; sitter = m' } in let new : Seat.Denot = record { marker = record {}; web = z; heap = t.heap; id = j; sitter = sitter r₁ None None } in
-    let Old : Type 0 = Same h' h × (m' ≡ m') in let New : Type 0 = (z ≡ h.web) × (t.heap ≡ h.heap) × (new.sitter ≡ new.sitter) in
-    move ! (3 ∷ 0 ∷ []) $ fjoin ! $ move ! (3 ∷ 0 ∷ 4 ∷ 5 ∷ 6 ∷ []) $ closes ! tt Seat h' ts b' o' $ feq_i ! (List Val) (vptr b' o' ∷ []) (vptr b' o' ∷ []) refl $ fjoin3 ! $
-    nothing ! $ nothing ! $ fjoin ! $ nothing ! $ fjoin ! $ move ! (1 ∷ 0 ∷ []) $ fjoin ! $ nothing ! $ fjoin ! $ move ! (1 ∷ 4 ∷ []) $ join ! $ move ! (3 ∷ 0 ∷ []) $ join ! $
-    move ! (2 ∷ []) $ use0 𝓛 (‵ ((Blank (Tuple (R ∷ W ∷ Z ∷ []))).own_val (record {}, tt) (blank_val ∷ []))) (blank_made (Tuple (R ∷ W ∷ Z ∷ [])) 𝓛) $ fjoin ! $
-    use0 𝓛 (raw (fact 𝓤 New)) (fact_i 𝓤 New (emp 𝓤) (sym asked.0.0, sym asked.0.1, refl)) $ use0 𝓛 (raw (fact 𝓤 Old)) (fact_i 𝓤 Old (emp 𝓤) ((sym asked.0.0, sym asked.0.1, refl), refl)) $ join ! $
+    let m' : Sitter S.Denot V.Denot = sitter l₁ m.hand m.spare in let h' : Seat.Denot = record { marker = h.marker; web = z; heap = t.heap; id = id; sitter = m' } in ends_step ! tt Seat b' o' ts 2 (λ _. h') (λ j. refl) (λ j.
+    let new : Seat.Denot = record { marker = record {}; web = z; heap = t.heap; id = j; sitter = sitter r₁ None None } in blank ! (Tuple (R ∷ W ∷ Z ∷ [])) $
+    tells ! ((z ≡ h.web) × (t.heap ≡ h.heap) × (new.sitter ≡ new.sitter)) (sym asked.0.0, sym asked.0.1, refl) $ tells ! (Same h' h × (m' ≡ m')) ((sym asked.0.0, sym asked.0.1, refl), refl) $ join ! $
     returns ! (look_at ! 0 refl) $ free_all ! refl $ keep ! (2 ∷ 3 ∷ 1 ∷ 0 ∷ []) $ by ! (leaves 𝓛 goal kept_of c y blank_val new (tt, (h', (tt, (tt, tt)))) (tt, (tt, (tt, (tt, tt))))))))))))
