@@ -1,13 +1,14 @@
 //! A ring of slots, each with a stamp, with one owner.
 ghost use Rattle.std.specs.Prelude.{◌≡◌, ◌+◌, ◌%◌, ◌<◌, ◌≤◌, IfOk, IsErr, Some};
 ghost use Rattle.queue_steps.specs.LookNext.{IsLoad};
+ghost use Rattle.queue_steps.specs.Next.{CanNext, next_of};
 ghost use Rattle.queue_steps.specs.State.{start};
 ghost use Rattle.queue_steps.specs.Words.{slot_at};
 ghost use Rattle.queue_steps.specs.declared.sizes.TheConstants.{LIMIT, MAX_CAPACITY};
 
 use crate::cells::Cells;
 use queue_steps::sizes::MAX_CAPACITY;
-use queue_steps::steps::{Answer, Kind, Op, TAIL_STEP, Touch, Word};
+use queue_steps::steps::{self, Answer, Kind, Local, Next, Op, TAIL_STEP, Touch, Word};
 use std::alloc::{AllocError, Allocator};
 use std::marker::Model;
 use std::mem;
@@ -111,7 +112,7 @@ impl<T, A: Allocator> Ring<T, A> {
 }
 
 impl<T, A: Allocator> Cells<T, ()> for Ring<T, A> {
-    ghost use Rattle.concurrent_queue.specs.RingCells.{kind_of_ring, ring_can_touch, ring_touches, ring_can_perform, ring_performs, ring_can_release, ring_releases};
+    ghost use Rattle.concurrent_queue.specs.RingCells.{RingState, kind_of_ring, ring_can_touch, ring_touches, ring_can_perform, ring_performs, ring_can_release, ring_releases};
     ghost use Rattle.concurrent_queue.specs.RingOwned.{IsIdle, ring_owned};
 
     ghost kind_of = { kind_of_ring };
@@ -141,6 +142,18 @@ impl<T, A: Allocator> Cells<T, ()> for Ring<T, A> {
     #[inline(always)]
     fn kind(&self) -> Kind {
         Kind::Bounded(self.capacity)
+    }
+
+    #[inline(always)]
+    fn next(kind: Kind, local: Local<()>, answer: Answer<()>) -> Next<()>
+        requires of { (cells : RingState T) × (kind ≡ kind_of_ring cells) }
+        requires can { CanNext kind local answer }
+        ensures { result ≡ next_of kind local answer }
+    {
+        match kind {
+            Kind::Bounded(cap) => steps::next_bounded(cap, local, answer),
+            _ => unreachable!(),
+        }
     }
 
     #[inline(always)]

@@ -8,9 +8,10 @@ ghost use Rattle.queue_steps.specs.declared.steps.types.Answer.{Answer as SpecAn
 ghost use Rattle.queue_steps.specs.declared.steps.types.Touch.TheVariants.{Nothing};
 ghost use Rattle.queue_steps.specs.Sole.{Owned};
 ghost use Rattle.queue_steps.specs.LookNext.{IsLoad};
+ghost use Rattle.queue_steps.specs.Next.{CanNext, next_of};
 ghost use Rattle.concurrent_queue.specs.Ends.{EndsRight};
 
-use queue_steps::steps::{Answer, Kind, Op, Touch};
+use queue_steps::steps::{Answer, Kind, Local, Next, Op, Touch};
 
 /// Where the steps of a call are done.
 pub(crate) trait Cells<T, B: Copy> {
@@ -43,6 +44,12 @@ pub(crate) trait Cells<T, B: Copy> {
 
     fn kind(&self) -> Kind
         ensures { result ≡ kind_of self.now };
+
+    /// What a call does next on cells of this kind.
+    fn next(kind: Kind, local: Local<B>, answer: Answer<B>) -> Next<B>
+        requires of { (cells : Self) × (kind ≡ kind_of cells) }
+        requires can { CanNext kind local answer }
+        ensures { result ≡ next_of kind local answer };
 
     /// The slot and the call's own place change their content.
     fn touch(&mut self, touch: Touch, op: &Op<B>, carried: &mut Option<T>)

@@ -6,10 +6,10 @@ ghost use Rattle.queue_steps.specs.Looks.{IsLook, look_reply};
 use crate::cells::Cells;
 use queue_steps::model::{Call, CallKind, Reply, ReplyKind};
 use queue_steps::sizes::LONE_STEPS;
-use queue_steps::steps::{self, Answer, Next};
+use queue_steps::steps::{self, Answer, Local, Next};
 
 /// Runs a call to its end, which comes within the steps that a lone call takes at most.
-#[inline(always)]
+#[inline]
 pub(crate) fn drive<T, B: Copy, M: Cells<T, B>>(cells: &mut M, call: Call<T>) -> Reply<T>
     requires { M.idle cells.old }
     ensures idle { M.idle cells.new }
@@ -17,8 +17,10 @@ pub(crate) fn drive<T, B: Copy, M: Cells<T, B>>(cells: &mut M, call: Call<T>) ->
 {
     let kind = cells.kind();
     let (call, mut carried) = call.split();
-    let mut todo: Next<B> = steps::next(kind, steps::start(kind, call), Answer::Start);
+    let mut local: Local<B> = steps::start(kind, call);
+    let mut answer: Answer<B> = Answer::Start;
     for _ in 0..LONE_STEPS {
+        let todo = M::next(kind, local, answer);
         match todo {
             Next::Reply(reply, given_up) => match given_up {
                 None => return Reply::fill(reply, carried),
@@ -27,14 +29,24 @@ pub(crate) fn drive<T, B: Copy, M: Cells<T, B>>(cells: &mut M, call: Call<T>) ->
                     return Reply::fill(reply, carried);
                 }
             },
-            Next::Step(local, touch, op) => {
+            Next::Step(after, touch, op) => {
                 cells.touch(touch, &op, &mut carried);
-                let answer = cells.perform(op);
-                todo = steps::next(kind, local, answer);
+                answer = cells.perform(op);
+                local = after;
             }
         }
     }
     unreachable!()
+}
+
+/// Runs a call to its end, in a function of its own: rings and chains have too many steps to stand in each caller.
+#[inline(never)]
+pub(crate) fn drive_apart<T, B: Copy, M: Cells<T, B>>(cells: &mut M, call: Call<T>) -> Reply<T>
+    requires { M.idle cells.old }
+    ensures idle { M.idle cells.new }
+    ensures sole { Sole (M.owned cells.old) call result (M.owned cells.new) }
+{
+    drive(cells, call)
 }
 
 /// Runs a call that changes nothing to its end.
@@ -45,13 +57,15 @@ pub(crate) fn observe<T, B: Copy, M: Cells<T, B>>(cells: &M, call: CallKind) -> 
     ensures { result ≡ look_reply (M.owned cells.now).queue call }
 {
     let kind = cells.kind();
-    let mut todo: Next<B> = steps::next(kind, steps::start(kind, call), Answer::Start);
+    let mut local: Local<B> = steps::start(kind, call);
+    let mut answer: Answer<B> = Answer::Start;
     for _ in 0..LONE_STEPS {
+        let todo = M::next(kind, local, answer);
         match todo {
             Next::Reply(reply, _) => return reply,
-            Next::Step(local, _, op) => {
-                let answer = cells.look(&op);
-                todo = steps::next(kind, local, answer);
+            Next::Step(after, _, op) => {
+                answer = cells.look(&op);
+                local = after;
             }
         }
     }

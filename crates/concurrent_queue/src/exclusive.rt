@@ -10,7 +10,7 @@ ghost use Rattle.queue_steps.specs.declared.model.Call.TheVariants as call;
 ghost use Rattle.queue_steps.specs.declared.model.Reply.TheVariants as reply;
 
 use crate::bounded::Ring;
-use crate::driver::{drive, observe};
+use crate::driver::{drive, drive_apart, observe};
 use crate::single::Single;
 use crate::unbounded::{LinkedBlocks, Name};
 use queue_steps::errors::{ForcePushError, PopError, PushError};
@@ -63,7 +63,7 @@ fn give_up<T: Drop, A: Allocator>(mut blocks: LinkedBlocks<T, A>)
     requires { IsLineIdle blocks }
 {
     loop {
-        match drive::<T, Name<T>, LinkedBlocks<T, A>>(&mut blocks, Call::Pop) {
+        match drive_apart::<T, Name<T>, LinkedBlocks<T, A>>(&mut blocks, Call::Pop) {
             Reply::Pop(result) => match result {
                 Ok(item) => drop(item),
                 Err(_) => break,
@@ -88,8 +88,8 @@ impl<T, A: Allocator> Form<T, A> {
     {
         match self {
             Form::Single(single) => drive::<T, (), Single<T>>(single, call),
-            Form::Bounded(ring) => drive::<T, (), Ring<T, A>>(ring, call),
-            Form::Unbounded(blocks) => drive::<T, Name<T>, LinkedBlocks<T, A>>(blocks, call),
+            Form::Bounded(ring) => drive_apart::<T, (), Ring<T, A>>(ring, call),
+            Form::Unbounded(blocks) => drive_apart::<T, Name<T>, LinkedBlocks<T, A>>(blocks, call),
         }
     }
 

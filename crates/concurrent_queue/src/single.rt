@@ -1,9 +1,10 @@
 //! One slot under one word, with one owner.
 ghost use Rattle.std.specs.Prelude.{◌≡◌};
 ghost use Rattle.queue_steps.specs.LookNext.{IsLoad};
+ghost use Rattle.queue_steps.specs.Next.{CanNext, next_of};
 
 use crate::cells::Cells;
-use queue_steps::steps::{Answer, Kind, Op, Touch, Word};
+use queue_steps::steps::{self, Answer, Kind, Local, Next, Op, Touch, Word};
 use std::mem;
 
 /// The slot, and the word that says what is in it.
@@ -55,6 +56,16 @@ impl<T> Cells<T, ()> for Single<T> {
     #[inline(always)]
     fn kind(&self) -> Kind {
         Kind::Single
+    }
+
+    #[inline(always)]
+    fn next(kind: Kind, local: Local<()>, answer: Answer<()>) -> Next<()>
+        requires of { (cells : Single T) × (kind ≡ kind_of_single cells) }
+        requires can { CanNext kind local answer }
+        ensures { result ≡ next_of kind local answer }
+    {
+        let _ = kind;
+        steps::next_single(local, answer)
     }
 
     #[inline(always)]

@@ -13,7 +13,7 @@ use crate::party::PartyRule;
 use crate::single::Single;
 use crate::turns::Turns;
 use atomic_table::{Play, Seat, Shared, Table, TableRule};
-use queue_steps::steps::{Answer, Kind, Op, Touch, Word};
+use queue_steps::steps::{self, Answer, Kind, Local, Next, Op, Touch, Word};
 use std::alloc::{AllocError, Allocator};
 
 /// The word that says what is in the slot.
@@ -152,11 +152,11 @@ impl<T, A: Allocator> Turns<T, (), Seat<Option<T>, Doing<T>>> for SharedSlot<T, 
     ghost use Rattle.concurrent_queue.specs.Turns.{leads-through};
     ghost use Rattle.concurrent_queue.specs.SlotCalls.{slot_begins, slot_goes_on, slot_prompt};
     ghost use Rattle.queue_steps.specs.Kinds.{call_kind, call_value};
-    ghost use Rattle.queue_steps.specs.Next.{next_of, first_local};
+    ghost use Rattle.queue_steps.specs.Next.{CanNext, next_of, first_local};
     ghost use Rattle.queue_steps.specs.declared.steps.types.Answer.TheVariants as answer;
-    ghost use Rattle.queue_steps.specs.declared.steps.types.Kind.TheVariants as kind;
+    ghost use Rattle.queue_steps.specs.declared.steps.types.Kind.TheVariants as kinds;
 
-    ghost kind_of = { λ m. kind.Single };
+    ghost kind_of = { λ m. kinds.Single };
 
     ghost rests = { λ m s. IsAtSlot m.table.shared.table_id (s.table_id, s.me) };
 
@@ -168,15 +168,25 @@ impl<T, A: Allocator> Turns<T, (), Seat<Option<T>, Doing<T>>> for SharedSlot<T, 
 
     ghost ended = { λ m s c r q. SlotEnded m.table.shared.table_id (s.table_id, s.me) c r (q.table_id, q.me) };
 
-    ghost begins = { λ m s c h. let b = slot_begins T m.table.shared.table_id (s.table_id, s.me) h c in (b.0, leads-through CanTurn Turned SlotStands SlotEnded (λ m. m.table.shared.table_id) (λ s. (s.table_id, s.me)) m s s c (next_of kind.Single (first_local (call_kind c)) answer.Start) (call_value c) b.1) };
+    ghost begins = { λ m s c h. let b = slot_begins T m.table.shared.table_id (s.table_id, s.me) h c in (b.0, leads-through CanTurn Turned SlotStands SlotEnded (λ m. m.table.shared.table_id) (λ s. (s.table_id, s.me)) m s s c (next_of kinds.Single (first_local (call_kind c)) answer.Start) (call_value c) b.1) };
 
-    ghost goes_on = { λ m first c l a s x h. let g = slot_goes_on T m.table.shared.table_id (first.table_id, first.me) c l a (s.table_id, s.me) x h in (g.0, leads-through CanTurn Turned SlotStands SlotEnded (λ m. m.table.shared.table_id) (λ s. (s.table_id, s.me)) m first s c (next_of kind.Single l a) x g.1) };
+    ghost goes_on = { λ m first c l a s x h. let g = slot_goes_on T m.table.shared.table_id (first.table_id, first.me) c l a (s.table_id, s.me) x h in (g.0, leads-through CanTurn Turned SlotStands SlotEnded (λ m. m.table.shared.table_id) (λ s. (s.table_id, s.me)) m first s c (next_of kinds.Single l a) x g.1) };
 
     ghost prompt = { λ m c h. slot_prompt (call_kind c) h };
 
     #[inline(always)]
     fn kind(&self) -> Kind {
         Kind::Single
+    }
+
+    #[inline(always)]
+    fn next(kind: Kind, local: Local<()>, answer: Answer<()>) -> Next<()>
+        requires of { kind ≡ kinds.Single }
+        requires can { CanNext kind local answer }
+        ensures { result ≡ next_of kind local answer }
+    {
+        let _ = kind;
+        steps::next_single(local, answer)
     }
 
     #[inline(always)]

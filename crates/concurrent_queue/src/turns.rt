@@ -8,13 +8,14 @@ ghost use Rattle.queue_steps.specs.declared.steps.types.Touch.{Touch as SpecTouc
 ghost use Rattle.queue_steps.specs.declared.steps.types.Answer.{Answer as SpecAnswer};
 ghost use Rattle.queue_steps.specs.declared.steps.types.Local.{Local as SpecLocal};
 ghost use Rattle.queue_steps.specs.Kinds.{call_kind};
+ghost use Rattle.queue_steps.specs.Next.{CanNext, next_of};
 ghost use Rattle.queue_steps.specs.Prompt.{IsPrompt, EndsPromptly};
 ghost use Rattle.concurrent_queue.specs.Turns.{Begins, GoesOn};
 
 use crate::gate::Gate;
 use queue_steps::model::{Call, Reply};
 use queue_steps::sizes::PROMPT_STEPS;
-use queue_steps::steps::{self, Answer, Kind, Next, Op, Touch};
+use queue_steps::steps::{self, Answer, Kind, Local, Next, Op, Touch};
 use std::sync::Wait;
 
 /// Where the steps of calls of many parties are done. `S` is what a party does them with.
@@ -39,6 +40,12 @@ pub(crate) trait Turns<T, B: Copy, S> {
 
     fn kind(&self) -> Kind
         ensures { result ≡ kind_of self.now };
+
+    /// What a call does next on queues of this kind.
+    fn next(kind: Kind, local: Local<B>, answer: Answer<B>) -> Next<B>
+        requires of { (queue : Self) × (kind ≡ kind_of queue) }
+        requires can { CanNext kind local answer }
+        ensures { result ≡ next_of kind local answer };
 
     /// One step: the touch of a slot, and then the operation.
     fn turn(
@@ -75,15 +82,18 @@ pub(crate) fn drive<T, B: Copy, S, M: Turns<T, B, S>, G: Gate, R: Wait>(
 {
     let kind = queue.kind();
     let (call, mut carried) = call.split();
-    let mut todo: Next<B> = steps::next(kind, steps::start(kind, call), Answer::Start);
+    let mut local: Local<B> = steps::start(kind, call);
+    let mut answer: Answer<B> = Answer::Start;
     for _ in rt.forever() {
+        let todo = M::next(kind, local, answer);
         match todo {
             Next::Reply(reply, _) => return Reply::fill(reply, carried),
-            Next::Step(local, touch, op) => {
+            Next::Step(after, touch, op) => {
                 gate.pass(&op);
-                let (answer, left) = queue.turn(seat, touch, op, carried);
+                let (found, left) = queue.turn(seat, touch, op, carried);
                 carried = left;
-                todo = steps::next(kind, local, answer);
+                answer = found;
+                local = after;
             }
         }
     }
@@ -104,15 +114,18 @@ pub(crate) fn drive_promptly<T, B: Copy, S, M: Turns<T, B, S>, G: Gate>(
 {
     let kind = queue.kind();
     let (call, mut carried) = call.split();
-    let mut todo: Next<B> = steps::next(kind, steps::start(kind, call), Answer::Start);
+    let mut local: Local<B> = steps::start(kind, call);
+    let mut answer: Answer<B> = Answer::Start;
     for _ in 0..PROMPT_STEPS + 1 {
+        let todo = M::next(kind, local, answer);
         match todo {
             Next::Reply(reply, _) => return Reply::fill(reply, carried),
-            Next::Step(local, touch, op) => {
+            Next::Step(after, touch, op) => {
                 gate.pass(&op);
-                let (answer, left) = queue.turn(seat, touch, op, carried);
+                let (found, left) = queue.turn(seat, touch, op, carried);
                 carried = left;
-                todo = steps::next(kind, local, answer);
+                answer = found;
+                local = after;
             }
         }
     }

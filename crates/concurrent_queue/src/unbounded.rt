@@ -1,6 +1,7 @@
 //! A chain of blocks with one owner.
 ghost use Rattle.std.specs.Prelude.{◌≡◌, ◌≤◌, IfOk};
 ghost use Rattle.queue_steps.specs.LookNext.{IsLoad};
+ghost use Rattle.queue_steps.specs.Next.{CanNext, next_of};
 ghost use Rattle.queue_steps.specs.State.{start};
 ghost use Rattle.queue_steps.specs.declared.sizes.TheConstants.{LIMIT};
 ghost use Rattle.concurrent_queue.specs.LineCells.{state_block as spec_state_block};
@@ -9,7 +10,7 @@ use crate::cells::Cells;
 use block_web::block::{Link as Place, Loose};
 use block_web::chain::Chain;
 use queue_steps::sizes::{BLOCK_POSITIONS, BLOCK_SLOTS};
-use queue_steps::steps::{Answer, Kind, Link, Op, READ, TAIL_STEP, Touch, WRITE, Word};
+use queue_steps::steps::{self, Answer, Kind, Link, Local, Op, READ, TAIL_STEP, Touch, WRITE, Word};
 use std::alloc::{AllocError, Allocator};
 use std::marker::Model;
 
@@ -325,7 +326,7 @@ impl<T, A: Allocator> LinkedBlocks<T, A> {
 }
 
 impl<T, A: Allocator> Cells<T, Name<T>> for LinkedBlocks<T, A> {
-    ghost use Rattle.concurrent_queue.specs.LineCells.{kind_of_line, line_can_touch, line_touches, line_can_perform, line_performs, line_can_release, line_releases};
+    ghost use Rattle.concurrent_queue.specs.LineCells.{Line, kind_of_line, line_can_touch, line_touches, line_can_perform, line_performs, line_can_release, line_releases};
     ghost use Rattle.concurrent_queue.specs.LineOwned.{IsIdle, line_owned};
 
     ghost kind_of = { kind_of_line };
@@ -355,6 +356,16 @@ impl<T, A: Allocator> Cells<T, Name<T>> for LinkedBlocks<T, A> {
     #[inline(always)]
     fn kind(&self) -> Kind {
         Kind::Unbounded
+    }
+
+    #[inline(always)]
+    fn next(kind: Kind, local: Local<Name<T>>, answer: Answer<Name<T>>) -> steps::Next<Name<T>>
+        requires of { (cells : Line T) × (kind ≡ kind_of_line cells) }
+        requires can { CanNext kind local answer }
+        ensures { result ≡ next_of kind local answer }
+    {
+        let _ = kind;
+        steps::next_unbounded(local, answer)
     }
 
     #[inline(always)]

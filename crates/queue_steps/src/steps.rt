@@ -3,6 +3,7 @@
 //! Whoever runs a call, its one owner, a thread or the machine, does each step and hands the answer back.
 ghost use Rattle.std.specs.Prelude.{◌≡◌};
 ghost use Rattle.queue_steps.specs.Next.{CanNext, first_local, next_of};
+ghost use Rattle.queue_steps.specs.declared.steps.types.Kind.TheVariants as kind;
 
 use crate::model::CallKind;
 
@@ -24,21 +25,53 @@ pub fn start<B: Copy>(_kind: Kind, call: CallKind) -> Local<B>
     Local::Begin(call)
 }
 
-/// What a call does next. The answer is `Start` at first, and then what the operation gave that was asked for.
+/// What a call on one slot does next. The answer is `Start` at first, and then what the operation gave that was asked for.
 #[inline(always)]
+pub fn next_single<B: Copy>(local: Local<B>, answer: Answer<B>) -> Next<B>
+    requires { CanNext kind.Single local answer }
+    ensures { result ≡ next_of kind.Single local answer }
+{
+    match (local, answer) {
+        (Local::Begin(call), Answer::Start) => single::begin(call),
+        (Local::Single(local), Answer::Found(word)) => single::next(local, word),
+        _ => unreachable!(),
+    }
+}
+
+/// What a call on a ring of `cap` slots does next.
+#[inline(always)]
+pub fn next_bounded<B: Copy>(cap: usize, local: Local<B>, answer: Answer<B>) -> Next<B>
+    requires { CanNext (kind.Bounded cap) local answer }
+    ensures { result ≡ next_of (kind.Bounded cap) local answer }
+{
+    match (local, answer) {
+        (Local::Begin(call), Answer::Start) => bounded::begin(cap, call),
+        (Local::Bounded(local), answer) => bounded::next(cap as u64, local, answer),
+        _ => unreachable!(),
+    }
+}
+
+/// What a call on a chain of blocks does next.
+#[inline(always)]
+pub fn next_unbounded<B: Copy>(local: Local<B>, answer: Answer<B>) -> Next<B>
+    requires { CanNext kind.Unbounded local answer }
+    ensures { result ≡ next_of kind.Unbounded local answer }
+{
+    match (local, answer) {
+        (Local::Begin(call), Answer::Start) => unbounded::begin(call),
+        (Local::Unbounded(local), answer) => unbounded::next(local, answer),
+        _ => unreachable!(),
+    }
+}
+
+/// What a call does next on a queue of a kind that is told when it runs.
 pub fn next<B: Copy>(kind: Kind, local: Local<B>, answer: Answer<B>) -> Next<B>
     requires { CanNext kind local answer }
     ensures { result ≡ next_of kind local answer }
 {
-    match (kind, local, answer) {
-        (Kind::Single, Local::Begin(call), Answer::Start) => single::begin(call),
-        (Kind::Single, Local::Single(local), Answer::Found(word)) => single::next(local, word),
-        (Kind::Bounded(cap), Local::Begin(call), Answer::Start) => bounded::begin(cap, call),
-        (Kind::Bounded(cap), Local::Bounded(local), answer) => bounded::next(
-            cap as u64, local, answer,
-        ),
-        (Kind::Unbounded, Local::Begin(call), Answer::Start) => unbounded::begin(call),
-        (Kind::Unbounded, Local::Unbounded(local), answer) => unbounded::next(local, answer),
-        _ => unreachable!(),
+    match kind {
+        Kind::Single => next_single(local, answer),
+        Kind::Bounded(cap) => next_bounded(cap, local, answer),
+        Kind::Unbounded => next_unbounded(local, answer),
     }
 }

@@ -95,7 +95,7 @@ fn load<B: Copy>(local: BoundedLocal, word: Word<B>) -> Next<B>
 }
 
 /// The first step of a call.
-#[inline]
+#[inline(always)]
 pub(super) fn begin<B: Copy>(cap: usize, call: CallKind) -> Next<B>
     ensures { result ≡ bounded_begin cap call }
 {
@@ -237,7 +237,7 @@ fn after_pop_tail<B: Copy>(head: u64, tail: u64) -> Next<B>
 }
 
 /// What follows the answer to the last step.
-#[inline]
+#[inline(always)]
 pub(super) fn next<B: Copy>(cap: u64, local: BoundedLocal, answer: Answer<B>) -> Next<B>
     requires ring { IsRing cap }
     requires fits { FitsRing cap local answer }

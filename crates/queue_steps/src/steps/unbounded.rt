@@ -158,7 +158,7 @@ fn no_memory(push: PushKind) -> ReplyKind
 }
 
 /// What follows a tail that a push found.
-#[inline(always)]
+#[inline]
 fn after_tail<B: Copy>(push: PushKind, tail: u64, spare: Option<B>) -> Next<B>
     requires { IsWord tail }
     ensures { result ≡ chain_tail_found push tail spare }
@@ -230,7 +230,7 @@ fn after_tail_block<B: Copy>(
 }
 
 /// What follows a block that was granted: the first one is installed, any other is kept as the spare.
-#[inline(always)]
+#[inline]
 fn after_grant<B: Copy>(push: PushKind, tail: u64, block: Option<B>, fresh: B) -> Next<B>
     requires { IsWord tail }
     ensures { result ≡ granted push tail block fresh }
@@ -246,7 +246,7 @@ fn after_grant<B: Copy>(push: PushKind, tail: u64, block: Option<B>, fresh: B) -
 }
 
 /// What follows the installing of a first block: where another was there, this one is kept as the spare.
-#[inline(always)]
+#[inline]
 fn after_install<B: Copy>(push: PushKind, tail: u64, fresh: B, before: Option<B>) -> Next<B>
     ensures { result ≡ installed push tail fresh before }
 {
@@ -388,7 +388,7 @@ fn follow<B: Copy>(head: u64, block: B) -> Next<B>
 }
 
 /// What follows the block behind a passed one: it has to be there before the poppers enter it.
-#[inline(always)]
+#[inline]
 fn after_following<B: Copy>(head: u64, block: B, after: Option<B>) -> Next<B>
     ensures { result ≡ followed head block after }
 {
@@ -427,7 +427,7 @@ fn walk<B: Copy>(block: B, slot: u64, touch: Touch) -> Next<B>
 }
 
 /// The walk goes on after this slot.
-#[inline(always)]
+#[inline]
 fn walk_on<B: Copy>(block: B, slot: u64) -> Next<B>
     requires { slot < BLOCK_SLOTS }
     ensures { result ≡ walks_on block slot }
@@ -459,7 +459,7 @@ fn after_state<B: Copy>(head: u64, block: B, state: u64) -> Next<B>
 }
 
 /// What follows the answer to the last step.
-#[inline]
+#[inline(always)]
 pub(super) fn next<B: Copy>(local: UnboundedLocal<B>, answer: Answer<B>) -> Next<B>
     requires { FitsChain local answer }
     ensures { result ≡ unbounded_next local answer }
