@@ -1,11 +1,5 @@
-pub mod ReadNumber
-pub mod FirstLine
-pub mod ReadCall
-pub mod ReadArgs
 pub mod Asked
 pub mod Playing
-pub mod Parting
 pub mod ReadBack
 pub mod Reporting
-pub mod ReadLoad
 pub mod Running

@@ -4,7 +4,7 @@ use Rattle.std.proofs.lemmas.List.{flat_map_more}
 use Rattle.queue_steps.specs.Sole.{Owned, Sole, SoleRun}
 use Rattle.queue_steps.specs.declared.model.Call.{Call}
 use Rattle.queue_steps.specs.declared.model.Reply.{Reply}
-use Rattle.queue_command.specs.Texts.{reply_text}
+use Rattle.queue_text.specs.Replies.{reply_text}
 use Rattle.queue_command.specs.Scripts.{PlaysAs}
 
 -- a run, and one call behind it

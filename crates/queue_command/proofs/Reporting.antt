@@ -11,13 +11,13 @@ use Rattle.queue_machine.specs.Conforms.{Conforms, IsPeak, capacity_of as capaci
 use Rattle.queue_machine.specs.Replays.{is_too_large}
 use Rattle.queue_machine.specs.declared.types.Event.{Event}
 use Rattle.queue_machine.specs.declared.types.Replay.{Replay}
-use Rattle.queue_command.specs.KindNames.{capacity_of}
+use Rattle.queue_text.specs.KindNames.{capacity_of}
+use Rattle.queue_text.specs.declared.actions.ReplayLine.{ReplayLine}
+use Rattle.queue_text.specs.declared.args.KindName.{KindName}
 use Rattle.queue_command.specs.Reports.{IsReport, peak_text}
-use Rattle.queue_command.specs.Texts.{left_text}
+use Rattle.queue_command.specs.Left.{left_text}
 use Rattle.queue_command.specs.Turns.{turns_from, turn_event, events_of, turns_text}
 use Rattle.queue_command.specs.Unread.{unread_text}
-use Rattle.queue_command.specs.declared.actions.ReplayLine.{ReplayLine}
-use Rattle.queue_command.specs.declared.args.KindName.{KindName}
 use Rattle.queue_command.specs.declared.turns.Turn.{Turn}
 use Rattle.queue_command.proofs.ReadBack.{read_back, run_lengths}
 

@@ -2,9 +2,9 @@
 use Rattle.std.specs.Prelude.{◌≡◌, ℕ, ◌==◌, not, List, [], ◌∷◌, ◌++◌, codes, length, slice_index, position, Option, Some, None}
 use Rattle.std.specs.Fmt.{decimal}
 use Rattle.std.specs.Io.KnownBytes.{Appends}
+use Rattle.queue_text.specs.declared.load.Load.{Load}
 use Rattle.queue_command.specs.declared.counts.Finding.{Finding}
 use Rattle.queue_command.specs.declared.counts.Finding.TheVariants as finding
-use Rattle.queue_command.specs.declared.load.Load.{Load}
 use Rattle.queue_command.specs.declared.verdict.Verdict.{Verdict}
 use Rattle.queue_command.specs.declared.verdict.Verdict.TheVariants as verdict
 

@@ -1,19 +1,19 @@
 -- How the program may end.
 use Rattle.std.specs.Prelude.{◌≡◌, ◌⊎◌, ℕ, true, List, Option}
 use Rattle.std.specs.Io.KnownBytes.{Keeps, Appends}
-use Rattle.queue_command.specs.Actions.{replay_line_text, IsReplayLine}
-use Rattle.queue_command.specs.Calls.{call_text, IsCallOfWord}
-use Rattle.queue_command.specs.KindNames.{is_built, form_words, IsForm}
-use Rattle.queue_command.specs.Faults.{fault_status}
+use Rattle.queue_text.specs.Actions.{replay_line_text, IsReplayLine}
+use Rattle.queue_text.specs.Calls.{call_text, IsCallOfWord}
+use Rattle.queue_text.specs.KindNames.{is_built, form_words, IsForm}
+use Rattle.queue_text.specs.Faults.{fault_status}
+use Rattle.queue_text.specs.declared.args.Form.{Form}
+use Rattle.queue_text.specs.declared.args.Form.TheVariants as form
+use Rattle.queue_text.specs.declared.faults.Fault.{Fault}
+use Rattle.queue_text.specs.declared.faults.Fault.TheVariants as fault
 use Rattle.queue_command.specs.Counts.{IsCounted, handshake_text}
 use Rattle.queue_command.specs.Reports.{IsReport}
 use Rattle.queue_command.specs.Runs.{IsRun, IsRunFault}
 use Rattle.queue_command.specs.Scripts.{IsTranscript}
 use Rattle.queue_command.specs.Verdicts.{verdict_status, IsOutputFault}
-use Rattle.queue_command.specs.declared.args.Form.{Form}
-use Rattle.queue_command.specs.declared.args.Form.TheVariants as form
-use Rattle.queue_command.specs.declared.faults.Fault.{Fault}
-use Rattle.queue_command.specs.declared.faults.Fault.TheVariants as fault
 use Rattle.queue_command.specs.declared.verdict.Verdict.{Verdict}
 use Rattle.queue_command.specs.declared.verdict.Verdict.TheVariants as verdict
 

@@ -1,13 +1,7 @@
-pub mod Reading
-pub mod Faults
-pub mod Lines
-pub mod Calls
-pub mod KindNames
-pub mod Texts
+pub mod Effects
+pub mod Left
 pub mod Scripts
 pub mod Runs
-pub mod Spaces
-pub mod Actions
 pub mod Turns
 pub mod Unread
 pub mod Reports

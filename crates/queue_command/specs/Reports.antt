@@ -7,12 +7,12 @@ use Rattle.queue_machine.specs.Book.{Book, Run, opening}
 use Rattle.queue_machine.specs.Conforms.{IsPeak}
 use Rattle.queue_machine.specs.declared.types.Peak.{Peak}
 use Rattle.queue_machine.specs.declared.types.Told.{Told}
-use Rattle.queue_command.specs.KindNames.{capacity_of}
-use Rattle.queue_command.specs.Texts.{left_text}
+use Rattle.queue_text.specs.KindNames.{capacity_of}
+use Rattle.queue_text.specs.declared.actions.ReplayLine.{ReplayLine}
+use Rattle.queue_text.specs.declared.args.KindName.{KindName}
+use Rattle.queue_text.specs.declared.args.KindName.TheVariants as kind
+use Rattle.queue_command.specs.Left.{left_text}
 use Rattle.queue_command.specs.Turns.{turns_from, events_of, turns_text}
-use Rattle.queue_command.specs.declared.actions.ReplayLine.{ReplayLine}
-use Rattle.queue_command.specs.declared.args.KindName.{KindName}
-use Rattle.queue_command.specs.declared.args.KindName.TheVariants as kind
 
 -- the line of the greatest number of blocks and its bound, which a queue without a capacity alone has
 abbrev pub peak_text : KindName → Peak → List ℕ

@@ -2,9 +2,9 @@
 use Rattle.std.specs.Prelude.{◌≡◌, ℕ, List, Option}
 use Rattle.std.specs.Option.{IfSome}
 use Rattle.std.specs.Io.KnownBytes.{Appends, Keeps}
-use Rattle.queue_command.specs.Lines.{lines_of, AreRead, IsFirstUnread}
-use Rattle.queue_command.specs.declared.faults.Fault.{Fault}
-use Rattle.queue_command.specs.declared.faults.Fault.TheVariants as fault
+use Rattle.queue_text.specs.Lines.{lines_of, AreRead, IsFirstUnread}
+use Rattle.queue_text.specs.declared.faults.Fault.{Fault}
+use Rattle.queue_text.specs.declared.faults.Fault.TheVariants as fault
 
 -- these bytes were read: all that the reader had, where that is known
 abbrev pub IsInput : Option (List ℕ) → List ℕ → Type 0

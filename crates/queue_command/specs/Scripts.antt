@@ -5,10 +5,11 @@ use Rattle.queue_steps.specs.State.{start}
 use Rattle.queue_steps.specs.Sole.{Owned, SoleRun}
 use Rattle.queue_steps.specs.declared.model.Call.{Call}
 use Rattle.queue_steps.specs.declared.model.Reply.{Reply}
-use Rattle.queue_command.specs.KindNames.{capacity_of}
-use Rattle.queue_command.specs.Texts.{replies_text, left_text}
-use Rattle.queue_command.specs.declared.args.KindName.{KindName}
-use Rattle.queue_command.specs.declared.args.KindName.TheVariants as kind
+use Rattle.queue_text.specs.KindNames.{capacity_of}
+use Rattle.queue_text.specs.Replies.{replies_text}
+use Rattle.queue_text.specs.declared.args.KindName.{KindName}
+use Rattle.queue_text.specs.declared.args.KindName.TheVariants as kind
+use Rattle.queue_command.specs.Left.{left_text}
 
 -- the calls lead from P to R, and what was written is their replies, one a line
 pub record PlaysAs (P : Owned ℕ) (calls : List (Call ℕ)) (R : Owned ℕ) (old new : List ℕ) : Type 0 where

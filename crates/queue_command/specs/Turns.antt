@@ -8,10 +8,11 @@ use Rattle.queue_machine.specs.declared.types.Event.TheVariants.{Begin, Step}
 use Rattle.queue_machine.specs.declared.types.EffectKind.{EffectKind}
 use Rattle.queue_machine.specs.declared.types.Told.{Told}
 use Rattle.queue_machine.specs.declared.types.Told.TheVariants.{Skipped, Ran}
-use Rattle.queue_command.specs.Texts.{effect_text, reply_text}
-use Rattle.queue_command.specs.declared.actions.Action.{Action}
-use Rattle.queue_command.specs.declared.actions.Action.TheVariants as action
-use Rattle.queue_command.specs.declared.actions.ReplayLine.{ReplayLine}
+use Rattle.queue_text.specs.Replies.{reply_text}
+use Rattle.queue_text.specs.declared.actions.Action.{Action}
+use Rattle.queue_text.specs.declared.actions.Action.TheVariants as action
+use Rattle.queue_text.specs.declared.actions.ReplayLine.{ReplayLine}
+use Rattle.queue_command.specs.Effects.{effect_text}
 use Rattle.queue_command.specs.declared.turns.Turn.{Turn}
 
 abbrev pub event_by : ℕ → Action → Event ℕ

@@ -1,8 +1,8 @@
 -- The status that a run ends with which came to its end, and the faults of a run that reads nothing.
 use Rattle.std.specs.Prelude.{ℕ, List, Option}
 use Rattle.std.specs.Io.KnownBytes.{Keeps}
-use Rattle.queue_command.specs.declared.faults.Fault.{Fault}
-use Rattle.queue_command.specs.declared.faults.Fault.TheVariants as fault
+use Rattle.queue_text.specs.declared.faults.Fault.{Fault}
+use Rattle.queue_text.specs.declared.faults.Fault.TheVariants as fault
 use Rattle.queue_command.specs.declared.verdict.Verdict.{Verdict}
 use Rattle.queue_command.specs.declared.verdict.Verdict.TheVariants as verdict
 

@@ -1,17 +1,17 @@
 //! The whole program as a function of its arguments, its input and its two outputs.
 ghost use Rattle.std.specs.Prelude.{◌≡◌, ◌<◌, map, string_bytes, MatchResult};
+ghost use Rattle.queue_text.specs.declared.faults.Fault.TheVariants as fault;
+ghost use Rattle.queue_text.specs.Faults.{fault_status};
 ghost use Rattle.queue_command.specs.declared.verdict.Verdict.TheVariants as verdict;
-ghost use Rattle.queue_command.specs.declared.faults.Fault.TheVariants as fault;
 ghost use Rattle.queue_command.specs.Ends.{IsEnd, IsDone, IsFaultOf};
-ghost use Rattle.queue_command.specs.Faults.{fault_status};
 
-use crate::args::{Form, parse_form};
-use crate::faults::Fault;
 use crate::handshake::handshake;
 use crate::replay::replay;
 use crate::script::script;
 use crate::threads::threads;
 use crate::verdict::Verdict;
+use queue_text::args::{Form, parse_form};
+use queue_text::faults::Fault;
 use std::alloc::Global;
 use std::io::{Read, Write};
 use std::sync::Wait;

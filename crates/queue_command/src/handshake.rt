@@ -7,10 +7,10 @@ ghost use Rattle.queue_command.specs.Verdicts.{IsOutputFault};
 ghost use denote.Param.Send.{IsSync};
 
 use crate::crew::Queue;
-use crate::faults::Fault;
 use crate::streams::write_output;
 use crate::verdict::Verdict;
 use concurrent_queue::{Party, PopError};
+use queue_text::faults::Fault;
 use std::alloc::{AllocError, Global};
 use std::io::Write;
 use std::sync::Wait;

@@ -1,19 +1,13 @@
 //! The program `queue_run` as a function of its arguments, its input and its outputs.
 #![tactic(auto)]
 
-mod actions;
-mod args;
-mod calls;
 pub mod command;
 mod counts;
 mod crew;
 #[cfg(test)]
 mod crew_tests;
-mod faults;
+mod effects;
 mod handshake;
-mod lines;
-mod load;
-mod numbers;
 mod replay;
 #[cfg(test)]
 mod replay_tests;
@@ -21,7 +15,6 @@ mod script;
 mod streams;
 #[cfg(test)]
 mod tests;
-mod texts;
 mod threads;
 #[cfg(test)]
 mod threads_tests;

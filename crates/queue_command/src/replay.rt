@@ -3,24 +3,25 @@ ghost use Rattle.std.specs.Prelude.{◌≡◌, ◌++◌, is_some, if◌then◌el
 ghost use Rattle.queue_machine.specs.Conforms.{capacity_of as capacity_of_kind};
 ghost use Rattle.queue_machine.specs.Replays.{CanReplay};
 ghost use Rattle.queue_machine.specs.declared.types.Told.TheVariants.{Skipped, Ran};
-ghost use Rattle.queue_command.specs.Actions.{replay_line_text, IsReplayLine};
+ghost use Rattle.queue_text.specs.Actions.{replay_line_text, IsReplayLine};
+ghost use Rattle.queue_text.specs.KindNames.{IsKindName, capacity_of};
 ghost use Rattle.queue_command.specs.Runs.{IsRun, IsRunFault};
-ghost use Rattle.queue_command.specs.KindNames.{IsKindName, capacity_of};
 ghost use Rattle.queue_command.specs.Reports.{IsReport, peak_text};
-ghost use Rattle.queue_command.specs.Texts.{left_text};
+ghost use Rattle.queue_command.specs.Left.{left_text};
 ghost use Rattle.queue_command.specs.Turns.{turn_text};
 ghost use Rattle.queue_command.specs.Unread.{first_of, behind, number_of, content_at, itself, unread_text};
 
-use crate::actions::{Action, ReplayLine};
-use crate::args::KindName;
-use crate::faults::Fault;
-use crate::lines::read_lines;
+use crate::effects::ShownEffect;
 use crate::streams::{read_input, write_output};
-use crate::texts::{Shown, ShownEffect};
 use crate::turns::{Turn, events_of, turns_of};
 use queue_machine::types::{EffectKind, Peak, Replay, Told};
 use queue_steps::model::Reply;
 use queue_steps::steps::Kind;
+use queue_text::actions::{Action, ReplayLine};
+use queue_text::args::KindName;
+use queue_text::faults::Fault;
+use queue_text::lines::read_lines;
+use queue_text::replies::Shown;
 use std::alloc::{AllocError, Allocator};
 use std::io::{Read, Write};
 

@@ -2,19 +2,19 @@
 ghost use Rattle.std.specs.Prelude.{◌≡◌, ◌++◌, IfOk, OnOk, MatchResult, string_bytes};
 ghost use Rattle.queue_steps.specs.Legal.{IsSoundOwned};
 ghost use Rattle.queue_steps.specs.Sole.{Sole, HoldsBlocks};
-ghost use Rattle.queue_command.specs.Texts.{left_text};
-ghost use Rattle.queue_command.specs.Calls.{call_text, IsCallOfWord};
+ghost use Rattle.queue_text.specs.Calls.{call_text, IsCallOfWord};
+ghost use Rattle.queue_text.specs.KindNames.{IsKindName};
+ghost use Rattle.queue_command.specs.Left.{left_text};
 ghost use Rattle.queue_command.specs.Runs.{IsRun, IsRunFault};
-ghost use Rattle.queue_command.specs.KindNames.{IsKindName};
 ghost use Rattle.queue_command.specs.Scripts.{PlaysAs, IsTranscript, opening, blocks_text};
 
-use crate::args::KindName;
-use crate::faults::Fault;
-use crate::lines::read_lines;
 use crate::streams::{read_input, write_output};
-use crate::texts::Shown;
 use concurrent_queue::exclusive::Exclusive;
 use queue_steps::model::{Call, Reply};
+use queue_text::args::KindName;
+use queue_text::faults::Fault;
+use queue_text::lines::read_lines;
+use queue_text::replies::Shown;
 use std::alloc::{AllocError, Allocator};
 use std::io::{Read, Write};
 

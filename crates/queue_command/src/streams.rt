@@ -1,10 +1,10 @@
 //! All of the input, and all of the output.
 ghost use Rattle.std.specs.Prelude.{◌≡◌, ◌⊎◌, MatchResult};
 ghost use Rattle.std.specs.Io.KnownBytes.{Appends};
+ghost use Rattle.queue_text.specs.declared.faults.Fault.TheVariants as fault;
 ghost use Rattle.queue_command.specs.Runs.{IsInput};
-ghost use Rattle.queue_command.specs.declared.faults.Fault.TheVariants as fault;
 
-use crate::faults::Fault;
+use queue_text::faults::Fault;
 use std::alloc::Allocator;
 use std::io::{ErrorKind, Read, Write};
 

@@ -1,15 +1,15 @@
 //! The form `threads`: how often each value came out of a queue that threads share.
 ghost use Rattle.std.specs.Prelude.{◌≡◌, ◌<◌, IfOk, MatchResult, vec_len};
-ghost use Rattle.queue_command.specs.KindNames.{IsLoad};
+ghost use Rattle.queue_text.specs.KindNames.{IsLoad};
 ghost use Rattle.queue_command.specs.Counts.{IsCounted};
 ghost use Rattle.queue_command.specs.Verdicts.{IsOutputFault};
 
 use crate::counts::{Board, judge};
 use crate::crew::{Plan, Queue, run_all};
-use crate::faults::Fault;
-use crate::load::Load;
 use crate::streams::write_output;
 use crate::verdict::Verdict;
+use queue_text::faults::Fault;
+use queue_text::load::Load;
 use std::alloc::{AllocError, Global};
 use std::io::Write;
 use std::sync::Wait;

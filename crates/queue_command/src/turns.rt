@@ -2,9 +2,9 @@
 ghost use Rattle.std.specs.Prelude.{◌≡◌, ◌++◌, IfOk, OnOk, map, replicate};
 ghost use Rattle.queue_command.specs.Turns.{event_of, turn_count, turn_event, turns_from};
 
-use crate::actions::{Action, ReplayLine};
 use queue_machine::types::Event;
 use queue_steps::sizes::LONE_STEPS;
+use queue_text::actions::{Action, ReplayLine};
 use std::alloc::{AllocError, Allocator};
 
 /// A turn of a party.

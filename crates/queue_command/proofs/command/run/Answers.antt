@@ -1,5 +1,5 @@
 use Rattle.std.proofs.Common.{rules, ◌≡◌, false}
-use Rattle.queue_command.specs.KindNames.{is_built}
+use Rattle.queue_text.specs.KindNames.{is_built}
 use Rattle.queue_command.proofs.Asked.{no_form, none_built, Keeps-same}
 use Rattle.queue_command.proofs.command.run.Goals as goal
 

@@ -1,4 +1,4 @@
-use Rattle.queue_command.specs.Actions.{replay_line_text, IsReplayLine}
+use Rattle.queue_text.specs.Actions.{replay_line_text, IsReplayLine}
 use Rattle.queue_command.specs.Reports.{IsReport}
 use Rattle.queue_command.proofs.Running.{written}
 use Rattle.queue_command.proofs.replay.replay.Goals as goal

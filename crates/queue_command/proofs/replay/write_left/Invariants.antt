@@ -1,5 +1,5 @@
 use Rattle.std.proofs.Common.{◌≡◌, ◌++◌, take, string_bytes, codes}
-use Rattle.queue_command.specs.Texts.{items_text}
+use Rattle.queue_command.specs.Left.{items_text}
 use Rattle.queue_command.proofs.replay.write_left.Given as goal
 
 -- the items so far are written

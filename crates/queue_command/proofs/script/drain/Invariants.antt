@@ -1,5 +1,5 @@
 use Rattle.std.proofs.Common.{◌≡◌, ◌+◌, ◌++◌, length, string_bytes, codes}
-use Rattle.queue_command.specs.Texts.{items_text}
+use Rattle.queue_command.specs.Left.{items_text}
 use Rattle.queue_command.proofs.script.drain.Given as goal
 
 -- the items taken off so far are written

@@ -1,5 +1,0 @@
-use Rattle.queue_command.proofs.ReadCall.{no_plain_call}
-use Rattle.queue_command.proofs.calls.plain_call.Goals as goal
-
-pub returns-in_default : goal.returns-in_default
-returns-in_default c = no_plain_call c.args.line.now c.in_default.ensures.cases.0

@@ -1,0 +1,76 @@
+-- The arguments are read back.
+use Rattle.std.proofs.Common.{◌≡◌, ◌≢◌, ℕ, List, [], ◌∷◌, ◌++◌, length, get_or, codes, ap, ◌∙◌, refl, sym, arith, ◌<◌, ◌⊎◌, inl, inr}
+use Rattle.std.specs.Fmt.{decimal}
+use Rattle.std.proofs.lemmas.Fmt.{decimal_injective}
+use Rattle.queue_text.specs.declared.args.KindName.{KindName}
+use Rattle.queue_text.specs.declared.args.KindName.TheVariants as kind
+use Rattle.queue_text.specs.declared.args.Form.{Form}
+use Rattle.queue_text.specs.declared.args.Form.TheVariants as form
+use Rattle.queue_text.specs.declared.args.TheConstants.{MOST_PARTIES}
+use Rattle.queue_text.specs.Reading.{IsWord}
+use Rattle.queue_text.specs.KindNames.{kind_text, IsKindName, IsPartyCount, is_one_slot, is_built, form_words, IsForm}
+
+-- no kind has the capacity 0
+pub no_capacity : (text digits : List ℕ) → text ≡ codes "bounded:" ++ digits → decimal 0 ≡ digits → (k : KindName) → IsKindName k → kind_text k ≢ text
+no_capacity text digits e zero kind.Single is same = let first : ◌≡◌ {A = ℕ} 115 98 = ap (λ t. get_or t 0 0) (same ∙ e) in absurd (omega arith)
+no_capacity text digits e zero (kind.Bounded count) is same = let none : count ≡ 0 = decimal_injective count 0 is.0 (omega arith) (cc) in absurd (omega arith)
+no_capacity text digits e zero kind.Unbounded is same = let first : ◌≡◌ {A = ℕ} 117 98 = ap (λ t. get_or t 0 0) (same ∙ e) in absurd (omega arith)
+
+-- a list of five elements
+pub five : {X : Type 0} (xs : List X) (a b c d e : X) → length xs ≡ 5 → a ≡ get_or xs 0 a → b ≡ get_or xs 1 b → c ≡ get_or xs 2 c → d ≡ get_or xs 3 d → e ≡ get_or xs 4 e → xs ≡ a ∷ b ∷ c ∷ d ∷ e ∷ []
+five [] a b c d e n p q r s t = absurd (omega arith)
+five (x ∷ []) a b c d e n p q r s t = absurd (omega arith)
+five (x ∷ y ∷ []) a b c d e n p q r s t = absurd (omega arith)
+five (x ∷ y ∷ z ∷ []) a b c d e n p q r s t = absurd (omega arith)
+five (x ∷ y ∷ z ∷ u ∷ []) a b c d e n p q r s t = absurd (omega arith)
+five (x ∷ y ∷ z ∷ u ∷ v ∷ []) a b c d e n p q r s t = cc
+five (x ∷ y ∷ z ∷ u ∷ v ∷ w ∷ ws) a b c d e n p q r s t = absurd (omega arith)
+
+-- a list of three elements
+pub three : {X : Type 0} (xs : List X) (a b c : X) → length xs ≡ 3 → a ≡ get_or xs 0 a → b ≡ get_or xs 1 b → c ≡ get_or xs 2 c → xs ≡ a ∷ b ∷ c ∷ []
+three [] a b c h e f g = absurd (omega arith)
+three (x ∷ []) a b c h e f g = absurd (omega arith)
+three (x ∷ y ∷ []) a b c h e f g = absurd (omega arith)
+three (x ∷ y ∷ z ∷ []) a b c h e f g = cc
+three (x ∷ y ∷ z ∷ w ∷ ws) a b c h e f g = absurd (omega arith)
+
+-- no party count is spelled as 0 or as more than the most
+pub no_such_count : (count : ℕ) (text : List ℕ) → IsWord count → decimal count ≡ text → (count ≡ 0) ⊎ (MOST_PARTIES < count) → (n : ℕ) → IsPartyCount n → decimal n ≢ text
+no_such_count count text small spelled wrong n is same =
+    let one : n ≡ count = decimal_injective n count (omega arith) small (same ∙ sym spelled) in
+    elim wrong [ inl e ↦ absurd (omega (arith, e)) | inr e ↦ absurd (omega (arith, e)) ]
+
+-- no two kinds are spelled alike
+pub kind_spelled : (k j : KindName) → IsKindName k → IsKindName j → kind_text k ≡ kind_text j → k ≡ j
+kind_spelled kind.Single kind.Single is js same = refl
+kind_spelled kind.Single (kind.Bounded n) is js same = let first : ◌≡◌ {A = ℕ} 115 98 = ap (λ t. get_or t 0 0) same in absurd (omega arith)
+kind_spelled kind.Single kind.Unbounded is js same = let first : ◌≡◌ {A = ℕ} 115 117 = ap (λ t. get_or t 0 0) same in absurd (omega arith)
+kind_spelled (kind.Bounded m) kind.Single is js same = let first : ◌≡◌ {A = ℕ} 98 115 = ap (λ t. get_or t 0 0) same in absurd (omega arith)
+kind_spelled (kind.Bounded m) (kind.Bounded n) is js same = ap kind.Bounded (decimal_injective m n is.0 js.0 (cc))
+kind_spelled (kind.Bounded m) kind.Unbounded is js same = let first : ◌≡◌ {A = ℕ} 98 117 = ap (λ t. get_or t 0 0) same in absurd (omega arith)
+kind_spelled kind.Unbounded kind.Single is js same = let first : ◌≡◌ {A = ℕ} 117 115 = ap (λ t. get_or t 0 0) same in absurd (omega arith)
+kind_spelled kind.Unbounded (kind.Bounded n) is js same = let first : ◌≡◌ {A = ℕ} 117 98 = ap (λ t. get_or t 0 0) same in absurd (omega arith)
+kind_spelled kind.Unbounded kind.Unbounded is js same = refl
+
+-- the first letter of the words
+abbrev letter : List (List ℕ) → ℕ
+letter words = get_or (get_or words 0 []) 0 0
+
+-- forms that are spelled alike can both be run, or neither
+pub both_built : (f g : Form) → IsForm f → IsForm g → form_words f ≡ form_words g → is_built f ≡ is_built g
+both_built (form.Script k) (form.Script j) is js same = refl
+both_built (form.Script k) (form.Replay j q) is js same = let first : ◌≡◌ {A = ℕ} 115 114 = ap letter same in absurd (omega arith)
+both_built (form.Script k) (form.Threads m) is js same = let first : ◌≡◌ {A = ℕ} 115 116 = ap letter same in absurd (omega arith)
+both_built (form.Script k) form.Handshake is js same = let first : ◌≡◌ {A = ℕ} 115 104 = ap letter same in absurd (omega arith)
+both_built (form.Replay k p) (form.Script j) is js same = let first : ◌≡◌ {A = ℕ} 114 115 = ap letter same in absurd (omega arith)
+both_built (form.Replay k p) (form.Replay j q) is js same = refl
+both_built (form.Replay k p) (form.Threads m) is js same = let first : ◌≡◌ {A = ℕ} 114 116 = ap letter same in absurd (omega arith)
+both_built (form.Replay k p) form.Handshake is js same = let first : ◌≡◌ {A = ℕ} 114 104 = ap letter same in absurd (omega arith)
+both_built (form.Threads l) (form.Script j) is js same = let first : ◌≡◌ {A = ℕ} 116 115 = ap letter same in absurd (omega arith)
+both_built (form.Threads l) (form.Replay j q) is js same = let first : ◌≡◌ {A = ℕ} 116 114 = ap letter same in absurd (omega arith)
+both_built (form.Threads l) (form.Threads m) is js same = ap is_one_slot (kind_spelled l.kind m.kind is.0 js.0 (ap (λ ws. get_or ws 1 []) same))
+both_built (form.Threads l) form.Handshake is js same = let first : ◌≡◌ {A = ℕ} 116 104 = ap letter same in absurd (omega arith)
+both_built form.Handshake (form.Script j) is js same = let first : ◌≡◌ {A = ℕ} 104 115 = ap letter same in absurd (omega arith)
+both_built form.Handshake (form.Replay j q) is js same = let first : ◌≡◌ {A = ℕ} 104 114 = ap letter same in absurd (omega arith)
+both_built form.Handshake (form.Threads m) is js same = let first : ◌≡◌ {A = ℕ} 104 116 = ap letter same in absurd (omega arith)
+both_built form.Handshake form.Handshake is js same = refl

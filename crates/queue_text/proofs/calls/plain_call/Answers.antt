@@ -1,0 +1,5 @@
+use Rattle.queue_text.proofs.ReadCall.{no_plain_call}
+use Rattle.queue_text.proofs.calls.plain_call.Goals as goal
+
+pub returns-in_default : goal.returns-in_default
+returns-in_default c = no_plain_call c.args.line.now c.in_default.ensures.cases.0

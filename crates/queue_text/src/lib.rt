@@ -1,0 +1,11 @@
+//! What the program reads and prints: the grammar of its arguments and of its input, and the texts of replies and faults.
+#![tactic(auto)]
+
+pub mod actions;
+pub mod args;
+mod calls;
+pub mod faults;
+pub mod lines;
+pub mod load;
+mod numbers;
+pub mod replies;
