@@ -10,7 +10,9 @@ use crate::cells::Cells;
 use block_web::block::{Link as Place, Loose};
 use block_web::chain::Chain;
 use queue_steps::sizes::{BLOCK_POSITIONS, BLOCK_SLOTS};
-use queue_steps::steps::{self, Answer, Kind, Link, Local, Op, READ, TAIL_STEP, Touch, WRITE, Word};
+use queue_steps::steps::{
+    self, Answer, Kind, Link, Local, Op, READ, TAIL_STEP, Touch, WRITE, Word,
+};
 use std::alloc::{AllocError, Allocator};
 use std::marker::Model;
 

@@ -223,15 +223,7 @@ fn in_order_from_one_thread_to_another(rt: HostRuntime) {
     else {
         panic!(rt; "no memory");
     };
-    let (party, right) = crew(
-        &rt,
-        &queue,
-        party,
-        &board,
-        1,
-        Role::Push,
-        Role::PopInOrder,
-    );
+    let (party, right) = crew(&rt, &queue, party, &board, 1, Role::Push, Role::PopInOrder);
     assert!(rt; right);
     let Ok(left) = queue.finish(party) else {
         panic!(rt; "not finished");

@@ -1,4 +1,4 @@
-use Rattle.std.proofs.Common.{ℕ, ◌-◌, ◌*◌}
+use Rattle.std.proofs.Common.{◌-◌, ◌*◌}
 use Rattle.shared_tests.proofs.threads.+crew+fn-crew-join+arg2+fn-crew-join+arg3.Given as goal
 
 -- each half has one doubling less, and stands between its crew and the half's own
