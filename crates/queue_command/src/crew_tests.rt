@@ -11,22 +11,33 @@ use std::sync::Wait;
 use std::test::Fail;
 use std::thread::{Threads, join, yield_now};
 
+/// How often each of three values came, of these values.
+fn counts_of(alloc: Global, values: &[u64]) -> Result<Vec<u64>, AllocError> {
+    let board = Board::new(alloc, 3)?;
+    for value in values {
+        board.count(*value);
+    }
+    board.read(alloc)
+}
+
 #[test]
 fn wrong_counts_are_found(rt: HostRuntime) -> Result<(), Fail> {
-    let board = Board::new(rt.alloc(), 3)?;
-    for value in [0, 0, 1, 2, 2, 2, 3, u64::MAX] {
-        board.count(value);
-    }
-    let counts = board.read(rt.alloc())?;
+    let counts = counts_of(rt.alloc(), &[0, 0, 1, 2, 2, 2, 3, u64::MAX])?;
     assert_eq!(rt; counts.as_slice(), [2u64, 1, 3].as_slice());
-    let lost = judge(2, &counts);
-    assert_eq!(rt; lost, Finding::Wrong { value: 1, times: 1 });
-    assert_eq!(rt; lost.verdict(), Verdict::Wrong);
-    assert_eq!(rt; lost.verdict().status(), 1);
+    let findings = [judge(2, &counts), judge(1, &counts)];
+    let lost = Finding::Wrong { value: 1, times: 1 };
+    let doubled = Finding::Wrong { value: 0, times: 2 };
+    assert_eq!(rt; findings, [lost, doubled]);
+    Ok(())
+}
+
+#[test]
+fn a_wrong_count_is_told(rt: HostRuntime) -> Result<(), Fail> {
+    let lost = Finding::Wrong { value: 1, times: 1 };
+    let verdict = lost.verdict();
+    assert_eq!(rt; (verdict, verdict.status()), (Verdict::Wrong, 1));
     let text = format!(in rt.alloc(); "{lost}")?;
     assert_eq!(rt; text.as_str(), "value 1 counted 1 times");
-    let doubled = judge(1, &counts);
-    assert_eq!(rt; doubled, Finding::Wrong { value: 0, times: 2 });
     Ok(())
 }
 
@@ -66,23 +77,50 @@ fn nothing_is_done_on_a_closed_queue(rt: HostRuntime) -> Result<(), Fail> {
     Ok(())
 }
 
-/// The item that a closed queue still has is popped and counted; then the poppers find it closed.
-#[test]
-fn what_a_closed_queue_has_is_counted(rt: HostRuntime) -> Result<(), Fail> {
-    let board = Board::new(rt.alloc(), 2)?;
-    let (queue, mut party) = Queue::bounded(rt.alloc(), 1)?;
-    assert_eq!(rt; queue.push(&rt, &mut party, 1), Ok(()));
-    assert!(rt; queue.close(&mut party));
+/// What is seen of threads on a queue that was closed before, with an item in it.
+#[derive(Clone, Copy, Debug, PartialEq)]
+struct Emptied {
+    pushed: bool,
+    closed: bool,
+    done: bool,
+    counted: [u64; 2],
+    finished: bool,
+}
+
+/// What is seen where a closed queue has the item 1, of which one thread is to push more and two are to pop one each.
+fn empty_closed<R: Threads + Wait + Sync>(rt: &R, alloc: Global) -> Result<Emptied, AllocError> {
+    let board = Board::new(alloc, 2)?;
+    let (queue, mut party) = Queue::bounded(alloc, 1)?;
+    let pushed = queue.push(rt, &mut party, 1).is_ok();
+    let closed = queue.close(&mut party);
     let plan = Plan {
         pushers: 1,
         poppers: 2,
         items: 1,
         share: 1,
     };
-    let (party, done) = run_all(&rt, &queue, party, &board, plan);
-    assert!(rt; !done);
-    assert_eq!(rt; board.read(rt.alloc())?.as_slice(), [0u64, 1].as_slice());
-    assert!(rt; queue.finish(party).is_ok());
+    let (party, done) = run_all(rt, &queue, party, &board, plan);
+    let counts = board.read(alloc)?;
+    Ok(Emptied {
+        pushed,
+        closed,
+        done,
+        counted: [counts[0], counts[1]],
+        finished: queue.finish(party).is_ok(),
+    })
+}
+
+/// The item that a closed queue still has is popped and counted; then the poppers find it closed.
+#[test]
+fn what_a_closed_queue_has_is_counted(rt: HostRuntime) -> Result<(), Fail> {
+    let wanted = Emptied {
+        pushed: true,
+        closed: true,
+        done: false,
+        counted: [0, 1],
+        finished: true,
+    };
+    assert_eq!(rt; empty_closed(&rt, rt.alloc())?, wanted);
     Ok(())
 }
 
@@ -136,29 +174,36 @@ fn a_close_ends_threads_that_wait(rt: HostRuntime) -> Result<(), Fail> {
     Ok(())
 }
 
-/// All parties are joined again at the end of a run, and nothing is left.
-#[test]
-fn a_run_gives_its_party_back(rt: HostRuntime) -> Result<(), Fail> {
-    let board = Board::new(rt.alloc(), 100)?;
-    let (queue, party) = Queue::bounded(rt.alloc(), 1)?;
+/// What is seen of a run that ends well: whether all was done, what the counts show, and whether the queue is empty and open then.
+type Run = (bool, Finding, Option<(bool, bool)>);
+
+/// What is seen of a run of four pushers and two poppers.
+fn run_of_six<R: Threads + Wait + Sync>(rt: &R, alloc: Global) -> Result<Run, AllocError> {
+    let board = Board::new(alloc, 100)?;
+    let (queue, party) = Queue::bounded(alloc, 1)?;
     let plan = Plan {
         pushers: 4,
         poppers: 2,
         items: 100,
         share: 200,
     };
-    let (party, done) = run_all(&rt, &queue, party, &board, plan);
-    assert!(rt; done);
-    assert_eq!(rt;
-        judge(4, &board.read(rt.alloc())?),
-        Finding::Right {
-            values: 100,
-            times: 4
-        }
-    );
-    let Ok(left) = queue.finish(party) else {
-        panic!(rt; "a party is missing");
+    let (party, done) = run_all(rt, &queue, party, &board, plan);
+    let finding = judge(4, &board.read(alloc)?);
+    let left = match queue.finish(party) {
+        Ok(left) => Some((left.is_empty(), !left.is_closed())),
+        Err(_) => None,
     };
-    assert!(rt; left.is_empty() && !left.is_closed());
+    Ok((done, finding, left))
+}
+
+/// All parties are joined again at the end of a run, and nothing is left.
+#[test]
+fn a_run_gives_its_party_back(rt: HostRuntime) -> Result<(), Fail> {
+    let right = Finding::Right {
+        values: 100,
+        times: 4,
+    };
+    let wanted: Run = (true, right, Some((true, true)));
+    assert_eq!(rt; run_of_six(&rt, rt.alloc())?, wanted);
     Ok(())
 }

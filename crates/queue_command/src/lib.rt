@@ -11,6 +11,8 @@ mod handshake;
 mod replay;
 #[cfg(test)]
 mod replay_tests;
+#[cfg(test)]
+mod rows;
 mod script;
 mod streams;
 #[cfg(test)]
