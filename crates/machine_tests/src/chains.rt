@@ -1,99 +1,94 @@
 //! Runs on a chain of blocks, with calls that go on within each other.
-use crate::script::{Script, summarize};
-use queue_machine::types::Peak;
+use crate::script::{Line, leaves, told_of};
 use queue_steps::errors::{ForcePushError, PopError, PushError};
 use queue_steps::model::{Call, Reply};
-use std::alloc::{AllocError, Global};
+use queue_steps::steps::Kind;
 use std::test::Fail;
 
 /// The first request refused, and then granted; a step between calls and a stranger's call are skipped.
 #[test]
 fn refused_and_granted(rt: HostRuntime) -> Result<(), Fail> {
-    let mut script = Script::new(rt.alloc());
-    script.begin(0, Call::Push(7))?;
-    script.steps(0, 2)?;
-    script.refuse(0)?;
-    script.begin(0, Call::Push(8))?;
-    script.steps(0, 7)?;
-    script.steps(0, 1)?;
-    script.begin(1, Call::Pop)?;
-    let told = script.on_chain(1)?;
-    let replies = [
-        (3usize, 0usize, Reply::Push(Err(PushError::NoMemory(7u64)))),
-        (11, 0, Reply::Push(Ok(()))),
+    let lines = [
+        Line::Begins(0, Call::Push(7)),
+        Line::Steps(0, 2),
+        Line::IsRefused(0),
+        Line::Begins(0, Call::Push(8)),
+        Line::Steps(0, 8),
+        Line::Begins(1, Call::Pop),
     ];
-    assert_eq!(rt; told.replies.as_slice(), replies.as_slice());
-    assert_eq!(rt; told.skipped.as_slice(), [12usize, 13].as_slice());
-    assert_eq!(rt; told.left.as_slice(), [8u64].as_slice());
-    assert_eq!(rt;
-        told.peak,
-        Peak {
-            blocks: 1,
-            bound: 3
-        }
+    let told = told_of(rt.alloc(), Kind::Unbounded, 1, &lines)?;
+    told.numbered_replies_are(
+        &rt,
+        &[
+            (3, 0, Reply::Push(Err(PushError::NoMemory(7)))),
+            (11, 0, Reply::Push(Ok(()))),
+        ],
     );
+    told.skipped_are(&rt, &[12, 13]);
+    told.left_is(&rt, &[8]);
+    told.peak_is(&rt, 1, 3);
     Ok(())
-}
-
-/// A queue that holds the last item of its first block alone.
-fn all_but_one(alloc: Global) -> Result<Script, AllocError> {
-    let mut script = Script::new(alloc);
-    script.push_all(0, 1..32)?;
-    for _ in 0..30u64 {
-        script.call(0, Call::Pop)?;
-    }
-    Ok(script)
 }
 
 /// A pop of a block's last item, stopped once it has moved the head: others see an empty queue.
 #[test]
 fn last_item_of_a_block(rt: HostRuntime) -> Result<(), Fail> {
-    let mut script = all_but_one(rt.alloc())?;
-    script.begin(0, Call::Pop)?;
-    script.steps(0, 3)?;
-    script.call(1, Call::Len)?;
-    script.call(1, Call::IsEmpty)?;
-    script.run(0)?;
-    let told = summarize(rt.alloc(), script.on_chain(2)?)?;
-    let last = [
-        (1usize, Reply::Len(0)),
-        (1, Reply::IsEmpty(true)),
-        (0, Reply::Pop(Ok(31u64))),
+    let lines = [
+        Line::Pushes(0, 31),
+        Line::Pops(0, 30),
+        Line::Begins(0, Call::Pop),
+        Line::Steps(0, 3),
+        Line::Calls(1, Call::Len),
+        Line::Calls(1, Call::IsEmpty),
+        Line::Runs(0),
     ];
-    assert_eq!(rt; told.replies.len(), 64);
-    assert_eq!(rt; told.replies[61..], last[..]);
-    assert!(rt; told.left.is_empty());
+    let told = told_of(rt.alloc(), Kind::Unbounded, 2, &lines)?;
+    told.replies_after(
+        &rt,
+        61,
+        &[
+            (1, Reply::Len(0)),
+            (1, Reply::IsEmpty(true)),
+            (0, Reply::Pop(Ok(31))),
+        ],
+    );
+    told.left_is(&rt, &[]);
     Ok(())
 }
 
+const TWO_TO_32: [u64; 31] = [
+    2, 3, 4, 5, 6, 7, 8, 9, 10, 11, 12, 13, 14, 15, 16, 17, 18, 19, 20, 21, 22, 23, 24, 25, 26, 27,
+    28, 29, 30, 31, 32,
+];
+
 /// The list that is left, where calls are in the middle: a push that has claimed its place and not written it, one that moves the tail over a
-/// block's end, and a pop that has claimed an item and not read it.
+/// block's end, and a pop that has claimed an item and not read it; and a push that has installed the first block and claimed no place.
 #[test]
 fn left_in_the_middle_of_calls(rt: HostRuntime) -> Result<(), Fail> {
     for steps in 4..9u64 {
-        let mut script = Script::new(rt.alloc());
-        script.push_all(0, 1..31)?;
-        script.begin(0, Call::Push(31))?;
-        script.steps(0, steps)?;
-        script.begin(1, Call::Pop)?;
-        script.steps(1, steps)?;
-        script.begin(2, Call::Push(32))?;
-        script.steps(2, steps - 1)?;
-        let told = script.on_chain(3)?;
-        let claimed = if steps < 6 { 30 } else { 31 };
-        assert_eq!(rt; told.left.len(), claimed, "after {steps}");
-        let mut next = 2u64;
-        for item in told.left.iter() {
-            assert_eq!(rt; *item, next, "after {steps}");
-            next = next.wrapping_add(1);
-        }
+        let lines = [
+            Line::Pushes(0, 30),
+            Line::Begins(0, Call::Push(31)),
+            Line::Steps(0, steps),
+            Line::Begins(1, Call::Pop),
+            Line::Steps(1, steps),
+            Line::Begins(2, Call::Push(32)),
+            Line::Steps(2, steps - 1),
+        ];
+        let left = if steps < 6 {
+            &TWO_TO_32[..30]
+        } else {
+            &TWO_TO_32[..]
+        };
+        leaves(&rt, rt.alloc(), Kind::Unbounded, 3, &lines, left)?;
     }
-    let mut first = Script::new(rt.alloc());
-    first.begin(0, Call::Push(1))?;
-    first.steps(0, 4)?;
-    first.call(1, Call::Push(2))?;
-    first.call(1, Call::Push(3))?;
-    assert_eq!(rt; first.on_chain(2)?.left.as_slice(), [2u64, 3].as_slice());
+    let first = [
+        Line::Begins(0, Call::Push(1)),
+        Line::Steps(0, 4),
+        Line::Calls(1, Call::Push(2)),
+        Line::Calls(1, Call::Push(3)),
+    ];
+    leaves(&rt, rt.alloc(), Kind::Unbounded, 2, &first, &[2, 3])?;
     Ok(())
 }
 
@@ -101,20 +96,23 @@ fn left_in_the_middle_of_calls(rt: HostRuntime) -> Result<(), Fail> {
 #[test]
 fn empty_where_the_length_is_zero(rt: HostRuntime) -> Result<(), Fail> {
     for steps in 0..40u64 {
-        let mut script = all_but_one(rt.alloc())?;
-        script.begin(0, Call::Pop)?;
-        script.steps(0, steps)?;
-        script.call(1, Call::Len)?;
-        script.call(1, Call::IsEmpty)?;
-        let told = summarize(rt.alloc(), script.on_chain(2)?)?;
-        let claimed = steps > 2;
-        let seen = [
-            (1usize, Reply::Len(if claimed { 0 } else { 1 })),
-            (1, Reply::IsEmpty(claimed)),
+        let lines = [
+            Line::Pushes(0, 31),
+            Line::Pops(0, 30),
+            Line::Begins(0, Call::Pop),
+            Line::Steps(0, steps),
+            Line::Calls(1, Call::Len),
+            Line::Calls(1, Call::IsEmpty),
         ];
-        let count = if steps < 38 { 63 } else { 64 };
-        assert_eq!(rt; told.replies.len(), count, "after {steps}");
-        assert_eq!(rt; told.replies[count - 2..], seen[..], "after {steps}");
+        let told = told_of(rt.alloc(), Kind::Unbounded, 2, &lines)?;
+        let replied = if steps < 38 { 61 } else { 62 };
+        let claimed = steps > 2;
+        let len = if claimed { 0 } else { 1 };
+        told.replies_after(
+            &rt,
+            replied,
+            &[(1, Reply::Len(len)), (1, Reply::IsEmpty(claimed))],
+        );
     }
     Ok(())
 }
@@ -123,28 +121,26 @@ fn empty_where_the_length_is_zero(rt: HostRuntime) -> Result<(), Fail> {
 #[test]
 fn granted_requests(rt: HostRuntime) -> Result<(), Fail> {
     for accepted in [0u64, 30, 61] {
-        let mut script = Script::new(rt.alloc());
-        script.push_all(0, 0..accepted)?;
-        script.begin(0, Call::Push(7))?;
-        script.steps(0, 2)?;
-        script.refuse(0)?;
-        script.begin(0, Call::ForcePush(8))?;
-        script.steps(0, 2)?;
-        script.refuse(0)?;
-        script.call(0, Call::ForcePush(9))?;
-        script.call(0, Call::Push(10))?;
-        let told = summarize(rt.alloc(), script.on_chain(1)?)?;
-        let last = [
-            (0usize, Reply::Push(Err(PushError::NoMemory(7u64)))),
-            (0, Reply::ForcePush(Err(ForcePushError::NoMemory(8)))),
-            (0, Reply::ForcePush(Ok(None))),
-            (0, Reply::Push(Ok(()))),
+        let lines = [
+            Line::Pushes(0, accepted),
+            Line::Begins(0, Call::Push(7)),
+            Line::Steps(0, 2),
+            Line::IsRefused(0),
+            Line::Begins(0, Call::ForcePush(8)),
+            Line::Steps(0, 2),
+            Line::IsRefused(0),
+            Line::Calls(0, Call::ForcePush(9)),
+            Line::Calls(0, Call::Push(10)),
         ];
-        assert!(rt; told.replies.len() >= 4, "at {accepted}");
-        assert_eq!(rt;
-            told.replies[told.replies.len() - 4..],
-            last[..],
-            "at {accepted}"
+        told_of(rt.alloc(), Kind::Unbounded, 1, &lines)?.replies_after(
+            &rt,
+            accepted as usize,
+            &[
+                (0, Reply::Push(Err(PushError::NoMemory(7)))),
+                (0, Reply::ForcePush(Err(ForcePushError::NoMemory(8)))),
+                (0, Reply::ForcePush(Ok(None))),
+                (0, Reply::Push(Ok(()))),
+            ],
         );
     }
     Ok(())
@@ -153,32 +149,33 @@ fn granted_requests(rt: HostRuntime) -> Result<(), Fail> {
 /// What a queue without a capacity answers at once, and what its observers see.
 #[test]
 fn observers(rt: HostRuntime) -> Result<(), Fail> {
-    let mut script = Script::new(rt.alloc());
-    script.begin(0, Call::Capacity)?;
-    script.begin(0, Call::IsFull)?;
-    script.call(0, Call::IsEmpty)?;
-    script.call(0, Call::Pop)?;
-    script.call(0, Call::ForcePush(5))?;
-    script.call(0, Call::Len)?;
-    script.call(0, Call::Close)?;
-    script.call(0, Call::IsClosed)?;
-    script.call(0, Call::ForcePush(6))?;
-    script.call(0, Call::Pop)?;
-    script.call(0, Call::Pop)?;
-    let told = summarize(rt.alloc(), script.on_chain(1)?)?;
-    let replies = [
-        (0usize, Reply::Capacity(None)),
-        (0, Reply::IsFull(false)),
-        (0, Reply::IsEmpty(true)),
-        (0, Reply::Pop(Err(PopError::Empty))),
-        (0, Reply::ForcePush(Ok(None))),
-        (0, Reply::Len(1)),
-        (0, Reply::Close(true)),
-        (0, Reply::IsClosed(true)),
-        (0, Reply::ForcePush(Err(ForcePushError::Closed(6u64)))),
-        (0, Reply::Pop(Ok(5))),
-        (0, Reply::Pop(Err(PopError::Closed))),
+    let lines = [
+        Line::Begins(0, Call::Capacity),
+        Line::Begins(0, Call::IsFull),
+        Line::Calls(0, Call::IsEmpty),
+        Line::Calls(0, Call::Pop),
+        Line::Calls(0, Call::ForcePush(5)),
+        Line::Calls(0, Call::Len),
+        Line::Calls(0, Call::Close),
+        Line::Calls(0, Call::IsClosed),
+        Line::Calls(0, Call::ForcePush(6)),
+        Line::Pops(0, 2),
     ];
-    assert_eq!(rt; told.replies.as_slice(), replies.as_slice());
+    told_of(rt.alloc(), Kind::Unbounded, 1, &lines)?.replies_are(
+        &rt,
+        &[
+            (0, Reply::Capacity(None)),
+            (0, Reply::IsFull(false)),
+            (0, Reply::IsEmpty(true)),
+            (0, Reply::Pop(Err(PopError::Empty))),
+            (0, Reply::ForcePush(Ok(None))),
+            (0, Reply::Len(1)),
+            (0, Reply::Close(true)),
+            (0, Reply::IsClosed(true)),
+            (0, Reply::ForcePush(Err(ForcePushError::Closed(6)))),
+            (0, Reply::Pop(Ok(5))),
+            (0, Reply::Pop(Err(PopError::Closed))),
+        ],
+    );
     Ok(())
 }

@@ -1,4 +1,7 @@
 //! Requests for room, and for blocks, that are refused.
+ghost use Rattle.queue_machine.specs.Replays.{CanReplay};
+
+use crate::script::{Line, Script};
 use queue_machine::replay;
 use queue_machine::types::{Event, Replay};
 use queue_steps::model::Call;
@@ -8,32 +11,101 @@ use std::alloc::{AllocError, Global};
 use std::test::Fail;
 use test_allocators::{Refusal, Refusing};
 
-/// A push into a ring of two slots with room for four events, and a pop that has begun.
-fn pushed<'a>(heap: &'a Refusing<Global>) -> Result<Replay<u64, &'a Refusing<Global>>, AllocError> {
-    let mut events = Vec::with_capacity(heap, 4)?;
-    events.push(Event::Begin(0, Call::Push(7u64)))?;
-    events.push(Event::Step(0, true))?;
-    events.push(Event::Begin(1, Call::Pop))?;
-    events.push(Event::Step(1, true))?;
-    replay(heap, Kind::Bounded(2), 2, events)
+/// What is told of a run in memory that is counted.
+type Run<'a> = Replay<u64, &'a Refusing<Global>>;
+
+/// What is seen of a run in memory that is counted.
+#[derive(Debug, Drop, PartialEq)]
+struct Seen {
+    /// How many items are left, where there was memory for the run.
+    left: Option<usize>,
+    /// How many requests there were.
+    requests: u64,
+    /// How many allocations stay once the run is dropped.
+    live: u64,
+}
+
+impl Seen {
+    fn of(heap: &Refusing<Global>, run: Result<Run<'_>, AllocError>) -> Seen {
+        let left = match run {
+            Ok(told) => Some(told.left.len()),
+            Err(_) => None,
+        };
+        Seen {
+            left,
+            requests: heap.requests(),
+            live: heap.live(),
+        }
+    }
+
+    /// Want of memory after so many requests, and nothing stays allocated.
+    fn want_of_memory(requests: u64) -> Seen {
+        Seen {
+            left: None,
+            requests,
+            live: 0,
+        }
+    }
+
+    /// A run that leaves so many items, after so many requests, and nothing stays allocated.
+    fn run(left: usize, requests: u64) -> Seen {
+        Seen {
+            left: Some(left),
+            requests,
+            live: 0,
+        }
+    }
+}
+
+/// The run of these events, in memory that is counted.
+fn run<'a>(
+    heap: &'a Refusing<Global>,
+    kind: Kind,
+    parties: usize,
+    events: &[Event<u64>],
+) -> Result<Run<'a>, AllocError>
+    requires { CanReplay kind }
+{
+    let events = events.to_vec(heap)?;
+    replay(heap, kind, parties, events)
+}
+
+/// What is seen of the run of these lines, of which requests are refused.
+fn seen_of(
+    alloc: Global,
+    refusal: Refusal,
+    kind: Kind,
+    parties: usize,
+    lines: &[Line],
+) -> Result<Seen, AllocError>
+    requires { CanReplay kind }
+{
+    let Script { events } = Script::of(alloc, lines)?;
+    let heap = Refusing::new(alloc, refusal);
+    let run = run(&heap, kind, parties, events.as_slice());
+    Ok(Seen::of(&heap, run))
+}
+
+/// A push into a ring of two slots, and a pop that has begun.
+fn on_ring(alloc: Global, refusal: Refusal) -> Result<Seen, AllocError> {
+    let lines = [
+        Line::Begins(0, Call::Push(7)),
+        Line::Steps(0, 1),
+        Line::Begins(1, Call::Pop),
+        Line::Steps(1, 1),
+    ];
+    seen_of(alloc, refusal, Kind::Bounded(2), 2, &lines)
 }
 
 /// Each request for room of a ring refused in turn: want of memory, and nothing stays allocated.
 #[test]
 fn each_request_refused(rt: HostRuntime) -> Result<(), Fail> {
     for number in 1..10u64 {
-        let heap = Refusing::new(rt.alloc(), Refusal::Nth(number));
-        assert!(rt; pushed(&heap).is_err(), "at {number}");
-        assert!(rt;
-            heap.requests() == number && heap.live() == 0,
-            "at {number}"
-        );
+        let seen = on_ring(rt.alloc(), Refusal::Nth(number))?;
+        assert_eq!(rt; seen, Seen::want_of_memory(number));
     }
-    let heap = Refusing::new(rt.alloc(), Refusal::Nth(10));
-    let run = pushed(&heap)?;
-    assert_eq!(rt; heap.requests(), 9);
-    drop(run);
-    assert_eq!(rt; heap.live(), 0);
+    let seen = on_ring(rt.alloc(), Refusal::Nth(10))?;
+    assert_eq!(rt; seen, Seen::run(0, 9));
     Ok(())
 }
 
@@ -42,41 +114,22 @@ fn each_request_refused(rt: HostRuntime) -> Result<(), Fail> {
 fn refused_without_a_request(rt: HostRuntime) {
     for cap in [MAX_CAPACITY + 1, usize::MAX] {
         let heap = Refusing::new(rt.alloc(), Refusal::Never);
-        let run: Result<Replay<u64, &Refusing<Global>>, AllocError> = replay(
-            &heap,
-            Kind::Bounded(cap),
-            1,
-            Vec::new(&heap),
-        );
-        assert!(rt; run.is_err());
-        assert_eq!(rt; heap.requests(), 0);
+        let run = replay(&heap, Kind::Bounded(cap), 1, Vec::new(&heap));
+        assert_eq!(rt; Seen::of(&heap, run), Seen::want_of_memory(0));
     }
 }
 
-/// Forty pushes without a capacity, each with as many steps as it needs.
-fn forty_pushes<'a>(
-    heap: &'a Refusing<Global>,
-) -> Result<Replay<u64, &'a Refusing<Global>>, AllocError> {
-    let mut events = Vec::with_capacity(heap, 1024)?;
-    for number in 0..40u64 {
-        events.push(Event::Begin(0, Call::Push(number)))?;
-        for _ in 0..9u64 {
-            events.push(Event::Step(0, true))?;
-        }
-    }
-    replay(heap, Kind::Unbounded, 1, events)
+/// Forty pushes without a capacity.
+fn on_chain(alloc: Global, refusal: Refusal) -> Result<Seen, AllocError> {
+    seen_of(alloc, refusal, Kind::Unbounded, 1, &[Line::Pushes(0, 40)])
 }
 
 /// Each request for room of a chain refused in turn is want of memory, and no block was asked for.
 #[test]
 fn each_request_for_room_refused(rt: HostRuntime) -> Result<(), Fail> {
     for number in 1..8u64 {
-        let heap = Refusing::new(rt.alloc(), Refusal::Nth(number));
-        assert!(rt; forty_pushes(&heap).is_err(), "at {number}");
-        assert!(rt;
-            heap.requests() == number && heap.live() == 0,
-            "at {number}"
-        );
+        let seen = on_chain(rt.alloc(), Refusal::Nth(number))?;
+        assert_eq!(rt; seen, Seen::want_of_memory(number));
     }
     Ok(())
 }
@@ -85,18 +138,10 @@ fn each_request_for_room_refused(rt: HostRuntime) -> Result<(), Fail> {
 #[test]
 fn each_block_refused(rt: HostRuntime) -> Result<(), Fail> {
     for number in 8..10u64 {
-        let heap = Refusing::new(rt.alloc(), Refusal::Nth(number));
-        let told = forty_pushes(&heap)?;
-        assert_eq!(rt; told.left.len(), 39, "at {number}");
-        assert_eq!(rt; heap.requests(), 10, "at {number}");
-        drop(told);
-        assert_eq!(rt; heap.live(), 0, "at {number}");
+        let seen = on_chain(rt.alloc(), Refusal::Nth(number))?;
+        assert_eq!(rt; seen, Seen::run(39, 10));
     }
-    let heap = Refusing::new(rt.alloc(), Refusal::Nth(10));
-    let told = forty_pushes(&heap)?;
-    assert_eq!(rt; told.left.len(), 40);
-    assert_eq!(rt; heap.requests(), 9);
-    drop(told);
-    assert_eq!(rt; heap.live(), 0);
+    let seen = on_chain(rt.alloc(), Refusal::Nth(10))?;
+    assert_eq!(rt; seen, Seen::run(40, 9));
     Ok(())
 }

@@ -1,125 +1,234 @@
-//! Lists of events, and what is told of their runs.
+//! Scripts: what the parties of a run do, line by line, and what is told of it.
+ghost use Rattle.queue_machine.specs.Replays.{CanReplay};
+
 use queue_machine::replay;
-use queue_machine::types::{EffectKind, Event, Replay};
+use queue_machine::types::{EffectKind, Event, Peak, Replay};
 use queue_machine::words::{Words, words_after};
 use queue_steps::model::{Call, Reply};
 use queue_steps::sizes::LONE_STEPS;
 use queue_steps::steps::Kind;
 use std::alloc::{AllocError, Global};
-use std::ops::Range;
+use std::fmt::Debug;
+use std::process::Abort;
+
+/// A line of a script. Its first part is the party that does it.
+#[derive(Clone, Copy)]
+pub(crate) enum Line {
+    /// Begins a call, and takes no step of it.
+    Begins(usize, Call<u64>),
+    /// Takes so many steps.
+    Steps(usize, u64),
+    /// Takes one step, at which no block is granted.
+    IsRefused(usize),
+    /// Takes as many steps as a lone call ever does.
+    Runs(usize),
+    /// Begins a call, and takes as many steps as a lone call ever does.
+    Calls(usize, Call<u64>),
+    /// Pushes 1, 2 and so on, so many numbers, each with as many steps as a lone call ever takes.
+    Pushes(usize, u64),
+    /// Pops so many times, each with as many steps as a lone call ever takes.
+    Pops(usize, u64),
+}
 
 /// A list of events that grows.
 #[derive(Drop)]
 pub(crate) struct Script {
-    alloc: Global,
-    events: Vec<Event<u64>>,
+    pub(crate) events: Vec<Event<u64>>,
 }
 
 impl Script {
-    pub(crate) fn new(alloc: Global) -> Script {
-        Script {
-            alloc,
+    /// The events of these lines, one after another.
+    pub(crate) fn of(alloc: Global, lines: &[Line]) -> Result<Script, AllocError> {
+        let mut script = Script {
             events: Vec::new(alloc),
+        };
+        for line in lines {
+            script.add(*line)?;
+        }
+        Ok(script)
+    }
+
+    fn add(&mut self, line: Line) -> Result<(), AllocError> {
+        match line {
+            Line::Begins(party, call) => self.begin(party, call),
+            Line::Steps(party, count) => self.steps(party, count),
+            Line::IsRefused(party) => self.refuse(party),
+            Line::Runs(party) => self.steps(party, LONE_STEPS),
+            Line::Calls(party, call) => self.call(party, call),
+            Line::Pushes(party, count) => self.pushes(party, count),
+            Line::Pops(party, count) => self.pops(party, count),
         }
     }
 
-    /// The party begins a call.
-    pub(crate) fn begin(&mut self, party: usize, call: Call<u64>) -> Result<(), AllocError> {
+    fn begin(&mut self, party: usize, call: Call<u64>) -> Result<(), AllocError> {
         self.events.push(Event::Begin(party, call))?;
         Ok(())
     }
 
-    /// The party takes so many steps.
-    pub(crate) fn steps(&mut self, party: usize, count: u64) -> Result<(), AllocError> {
+    fn steps(&mut self, party: usize, count: u64) -> Result<(), AllocError> {
         for _ in 0..count {
             self.events.push(Event::Step(party, true))?;
         }
         Ok(())
     }
 
-    /// The party takes as many steps as a lone call ever does.
-    pub(crate) fn run(&mut self, party: usize) -> Result<(), AllocError> {
-        self.steps(party, LONE_STEPS)
-    }
-
-    /// The party begins a call and takes as many steps as a lone call ever does.
-    pub(crate) fn call(&mut self, party: usize, call: Call<u64>) -> Result<(), AllocError> {
-        self.begin(party, call)?;
-        self.run(party)
-    }
-
-    /// What is told of the run on one slot.
-    pub(crate) fn on_single(self, parties: usize) -> Result<Summary, AllocError> {
-        let Script { alloc, events } = self;
-        summarize(alloc, replay(alloc, Kind::Single, parties, events)?)
-    }
-
-    /// What is told of the run on a ring of two slots.
-    pub(crate) fn on_two(self, parties: usize) -> Result<Summary, AllocError> {
-        let Script { alloc, events } = self;
-        summarize(alloc, replay(alloc, Kind::Bounded(2), parties, events)?)
-    }
-
-    /// What is told of the run on a ring of three slots.
-    pub(crate) fn on_three(self, parties: usize) -> Result<Summary, AllocError> {
-        let Script { alloc, events } = self;
-        summarize(alloc, replay(alloc, Kind::Bounded(3), parties, events)?)
-    }
-
-    /// What is told of the run on a chain of blocks.
-    pub(crate) fn on_chain(self, parties: usize) -> Result<Replay<u64>, AllocError> {
-        let Script { alloc, events } = self;
-        replay(alloc, Kind::Unbounded, parties, events)
-    }
-
-    /// The party takes one step, at which no block is granted.
-    pub(crate) fn refuse(&mut self, party: usize) -> Result<(), AllocError> {
+    fn refuse(&mut self, party: usize) -> Result<(), AllocError> {
         self.events.push(Event::Step(party, false))?;
         Ok(())
     }
 
-    /// The party pushes each of these numbers, with as many steps as it needs.
-    pub(crate) fn push_all(&mut self, party: usize, numbers: Range<u64>) -> Result<(), AllocError> {
-        for number in numbers {
-            self.call(party, Call::Push(number))?;
+    fn call(&mut self, party: usize, call: Call<u64>) -> Result<(), AllocError> {
+        self.begin(party, call)?;
+        self.steps(party, LONE_STEPS)
+    }
+
+    fn pushes(&mut self, party: usize, count: u64) -> Result<(), AllocError> {
+        for before in 0..count {
+            self.call(party, Call::Push(before + 1))?;
+        }
+        Ok(())
+    }
+
+    fn pops(&mut self, party: usize, count: u64) -> Result<(), AllocError> {
+        for _ in 0..count {
+            self.call(party, Call::Pop)?;
         }
         Ok(())
     }
 }
 
-/// The words of the ring of two slots after these events.
-pub(crate) fn words_of(script: Script, parties: usize) -> Result<Words, AllocError> {
-    let Script { alloc, events } = script;
-    words_after(alloc, Kind::Bounded(2), parties, events)
-}
-
-/// What is told of a run, without the numbers of the events.
-#[derive(Drop)]
-pub(crate) struct Summary {
-    pub(crate) effects: Vec<(usize, EffectKind)>,
-    pub(crate) replies: Vec<(usize, Reply<u64>)>,
-    pub(crate) left: Vec<u64>,
-}
-
-pub(crate) fn summarize(alloc: Global, run: Replay<u64>) -> Result<Summary, AllocError> {
-    let Replay {
-        replies,
+/// What is told of the run of these lines.
+pub(crate) fn told_of(
+    alloc: Global,
+    kind: Kind,
+    parties: usize,
+    lines: &[Line],
+) -> Result<Told, AllocError>
+    requires { CanReplay kind }
+{
+    let Script { events } = Script::of(alloc, lines)?;
+    let run = replay(alloc, kind, parties, events)?;
+    let effects = without_numbers(alloc, run.effects.as_slice())?;
+    let replies = without_numbers(alloc, run.replies.as_slice())?;
+    Ok(Told {
+        run,
         effects,
-        skipped: _,
-        left,
-        peak: _,
-    } = run;
-    let mut kinds = Vec::new(alloc);
-    for (_, party, kind) in effects {
-        kinds.push((party, kind))?;
-    }
-    let mut answers = Vec::new(alloc);
-    for (_, party, reply) in replies {
-        answers.push((party, reply))?;
-    }
-    Ok(Summary {
-        effects: kinds,
-        replies: answers,
-        left,
+        replies,
     })
+}
+
+/// Asserts the list that is left by the run of these lines.
+pub(crate) fn leaves(
+    rt: &impl Abort,
+    alloc: Global,
+    kind: Kind,
+    parties: usize,
+    lines: &[Line],
+    left: &[u64],
+) -> Result<(), AllocError>
+    requires { CanReplay kind }
+{
+    told_of(alloc, kind, parties, lines)?.left_is(rt, left);
+    Ok(())
+}
+
+/// The words of a queue after these lines.
+pub(crate) fn words_of(
+    alloc: Global,
+    kind: Kind,
+    parties: usize,
+    lines: &[Line],
+) -> Result<Words, AllocError>
+    requires { CanReplay kind }
+{
+    let Script { events } = Script::of(alloc, lines)?;
+    words_after(alloc, kind, parties, events)
+}
+
+/// What is told of events, without their numbers.
+fn without_numbers<T: Copy>(
+    alloc: Global,
+    entries: &[(usize, usize, T)],
+) -> Result<Vec<(usize, T)>, AllocError> {
+    let mut kept = Vec::new(alloc);
+    for (_, party, told) in entries {
+        kept.push((*party, *told))?;
+    }
+    Ok(kept)
+}
+
+/// Asserts that this is what is told.
+pub(crate) fn is_told<T: Debug + PartialEq>(rt: &impl Abort, told: &[T], expected: &[T]) {
+    assert_eq!(rt; told, expected);
+}
+
+/// What is told of a run.
+#[derive(Drop)]
+pub(crate) struct Told {
+    run: Replay<u64>,
+    /// Its effects, without the numbers of the events.
+    effects: Vec<(usize, EffectKind)>,
+    /// Its replies, without the numbers of the events.
+    replies: Vec<(usize, Reply<u64>)>,
+}
+
+impl Told {
+    /// Asserts each effect, with its party.
+    pub(crate) fn effects_are(&self, rt: &impl Abort, effects: &[(usize, EffectKind)]) {
+        is_told(rt, self.effects.as_slice(), effects);
+    }
+
+    /// Asserts each effect, with the number of its event and its party.
+    pub(crate) fn numbered_effects_are(
+        &self,
+        rt: &impl Abort,
+        effects: &[(usize, usize, EffectKind)],
+    ) {
+        is_told(rt, self.run.effects.as_slice(), effects);
+    }
+
+    /// Asserts each reply, with its party.
+    pub(crate) fn replies_are(&self, rt: &impl Abort, replies: &[(usize, Reply<u64>)]) {
+        is_told(rt, self.replies.as_slice(), replies);
+    }
+
+    /// Asserts each reply, with the number of its event and its party.
+    pub(crate) fn numbered_replies_are(
+        &self,
+        rt: &impl Abort,
+        replies: &[(usize, usize, Reply<u64>)],
+    ) {
+        is_told(rt, self.run.replies.as_slice(), replies);
+    }
+
+    /// Asserts each reply after so many, with its party.
+    pub(crate) fn replies_after(
+        &self,
+        rt: &impl Abort,
+        count: usize,
+        replies: &[(usize, Reply<u64>)],
+    ) {
+        assert!(rt; count <= self.replies.len());
+        is_told(rt, &self.replies[count..], replies);
+    }
+
+    /// Asserts how many replies there are.
+    pub(crate) fn replies_count(&self, rt: &impl Abort, count: usize) {
+        is_told(rt, &[self.replies.len()], &[count]);
+    }
+
+    /// Asserts which events were skipped.
+    pub(crate) fn skipped_are(&self, rt: &impl Abort, skipped: &[usize]) {
+        is_told(rt, self.run.skipped.as_slice(), skipped);
+    }
+
+    /// Asserts the list that is left.
+    pub(crate) fn left_is(&self, rt: &impl Abort, left: &[u64]) {
+        is_told(rt, self.run.left.as_slice(), left);
+    }
+
+    /// Asserts how many blocks there were at most, and their bound.
+    pub(crate) fn peak_is(&self, rt: &impl Abort, blocks: usize, bound: usize) {
+        is_told(rt, &[self.run.peak], &[Peak { blocks, bound }]);
+    }
 }
