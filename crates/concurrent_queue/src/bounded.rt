@@ -6,7 +6,7 @@ ghost use Rattle.queue_steps.specs.State.{start};
 ghost use Rattle.queue_steps.specs.Words.{slot_at};
 ghost use Rattle.queue_steps.specs.declared.sizes.TheConstants.{LIMIT, MAX_CAPACITY};
 
-use crate::cells::Cells;
+use crate::cells::{Cells, exchange};
 use queue_steps::sizes::MAX_CAPACITY;
 use queue_steps::steps::{self, Answer, Kind, Local, Next, Op, TAIL_STEP, Touch, Word};
 use std::alloc::{AllocError, Allocator};
@@ -174,20 +174,8 @@ impl<T, A: Allocator> Cells<T, ()> for Ring<T, A> {
     {
         match op {
             Op::Load(word) => Answer::Found(self.load(word)),
-            Op::Exchange(Word::Tail, expected, new) => {
-                let found = self.tail;
-                if found == expected {
-                    self.tail = new;
-                }
-                Answer::Found(found)
-            }
-            Op::Exchange(Word::Head, expected, new) => {
-                let found = self.head;
-                if found == expected {
-                    self.head = new;
-                }
-                Answer::Found(found)
-            }
+            Op::Exchange(Word::Tail, expected, new) => Answer::Found(exchange(&mut self.tail, expected, new)),
+            Op::Exchange(Word::Head, expected, new) => Answer::Found(exchange(&mut self.head, expected, new)),
             Op::Or(Word::Tail, bits) => {
                 let found = self.tail;
                 self.tail = found | bits;

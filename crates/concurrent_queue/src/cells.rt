@@ -1,5 +1,5 @@
 //! Words and slots of one owner, on which the steps of a call are done.
-ghost use Rattle.std.specs.Prelude.{◌≡◌, Option};
+ghost use Rattle.std.specs.Prelude.{◌≡◌, ◌==◌, Option, if◌then◌else◌};
 ghost use Rattle.queue_steps.specs.declared.model.Call.{Call as SpecCall};
 ghost use Rattle.queue_steps.specs.declared.steps.types.Kind.{Kind as SpecKind};
 ghost use Rattle.queue_steps.specs.declared.steps.types.Op.{Op as SpecOp};
@@ -77,4 +77,17 @@ pub(crate) trait Cells<T, B: Copy> {
 
     /// Every call ends, with its reply.
     ghost answers: { (cells : Self) (call : SpecCall T) → idle cells → EndsRight can_touch touches can_perform performs can_release releases idle owned (kind_of cells) call cells };
+}
+
+/// Changes a word of one owner that is as expected, and gives what it was.
+#[inline(always)]
+pub(crate) fn exchange(word: &mut u64, expected: u64, new: u64) -> u64
+    ensures before { result ≡ word.old }
+    ensures after { word.new ≡ if word.old == expected then new else word.old }
+{
+    let found = *word;
+    if found == expected {
+        *word = new;
+    }
+    found
 }

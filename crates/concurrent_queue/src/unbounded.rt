@@ -6,7 +6,7 @@ ghost use Rattle.queue_steps.specs.State.{start};
 ghost use Rattle.queue_steps.specs.declared.sizes.TheConstants.{LIMIT};
 ghost use Rattle.concurrent_queue.specs.LineCells.{state_block as spec_state_block};
 
-use crate::cells::Cells;
+use crate::cells::{Cells, exchange};
 use block_web::block::{Link as Place, Loose};
 use block_web::chain::Chain;
 use queue_steps::sizes::{BLOCK_POSITIONS, BLOCK_SLOTS};
@@ -410,20 +410,8 @@ impl<T, A: Allocator> Cells<T, Name<T>> for LinkedBlocks<T, A> {
             Op::Or(Word::State(block, slot), bits) => Answer::Found(self.set_bits(
                 block, slot, bits,
             )),
-            Op::Exchange(Word::Tail, expected, new) => {
-                let found = self.tail;
-                if found == expected {
-                    self.tail = new;
-                }
-                Answer::Found(found)
-            }
-            Op::Exchange(Word::Head, expected, new) => {
-                let found = self.head;
-                if found == expected {
-                    self.head = new;
-                }
-                Answer::Found(found)
-            }
+            Op::Exchange(Word::Tail, expected, new) => Answer::Found(exchange(&mut self.tail, expected, new)),
+            Op::Exchange(Word::Head, expected, new) => Answer::Found(exchange(&mut self.head, expected, new)),
             Op::LoadLink(link) => Answer::Linked(self.load_link(link)),
             Op::StoreLink(link, block) => {
                 self.store_link(link, block);
