@@ -1,5 +1,5 @@
 -- `next` reads the link of a block.
-use Rattle.block_web.proofs.Walks.{◌≡◌, ℕ, ◌+◌, List, [], ◌∷◌, refl, w64, Ty, a_type, dcons, dnil, named, ty_ptr, Val, vint, vptr, inst_fn, SProp, all, Fml, ftrue, fsep, flft, WpFn, ‵, raw, ◌⊛◌, at_ret, ◌$◌, ◌∵◌, !, qed, by, keep, use0, use1, split, rewrite, stop, from, fld, hop, load, of_opd, no_more, and_then, first, blocks, exec, returns, enter, look, alloc_all, pass_all, free_all, look_at, look_in_at, get, sets, sets_last, env, agg, sub, all_of_it, tables, fact, yes, no, RattleType, owns, types_at, plain, Ptr, block_ptr, block_of, count_of, InBlock, heard, param, bounded, u64, mut_vals, mut_Tells, uint_vals, uint_Tells, Stays, stay_dropped, stay_ref, walk_of, Goes-dropped, Goes-ref, cell, Good-round, proved, leaves, Block, block, Lives, with_next, chain_owns, after, ptr_good, place_val, place_told, place_made, tells, takes_ref, puts_back, opens_ref, shuts_ref, enters_at}
+use Rattle.block_web.proofs.Walks.{◌≡◌, ℕ, ◌+◌, List, [], ◌∷◌, refl, w64, Ty, a_type, dcons, dnil, named, ty_ptr, Val, vint, vptr, inst_fn, SProp, all, Fml, ftrue, fsep, flft, ‵, raw, ◌⊛◌, at_ret, ◌$◌, ◌∵◌, !, qed, by, keep, use0, use1, split, rewrite, stop, from, fld, hop, load, of_opd, no_more, and_then, first, blocks, exec, returns, look, alloc_all, pass_all, free_all, look_at, look_in_at, get, sets, sets_last, env, agg, sub, all_of_it, tables, fact, yes, no, RattleType, owns, types_at, plain, Ptr, block_of, count_of, InBlock, heard, param, bounded, u64, mut_vals, mut_Tells, uint_vals, uint_Tells, Stays, stay_dropped, stay_ref, walk_of, Goes-dropped, Goes-ref, cell, Good-round, proved, leaves, Block, block, Lives, with_next, chain_owns, after, ptr_good, place_val, place_told, place_made, tells, takes_ref, puts_back, opens_ref, shuts_ref, enters_at}
 use Rattle.block_web.specs.contracts.block.Link as link
 use Rattle.block_web.specs.contracts.chain.Chain as chain
 use Rattle.block_web.proofs.Blocks as blocks

@@ -1,5 +1,5 @@
 -- `set_word` writes a word of a block.
-use Rattle.block_web.proofs.Walks.{◌≡◌, ℕ, ◌+◌, ◌*◌, ◌^◌, ◌<◌, List, [], ◌∷◌, refl, arith, w64, Ty, a_type, dcons, dnil, named, Val, vunit, vint, vptr, inst_fn, SProp, all, Fml, ftrue, fsep, flft, WpFn, ‵, raw, ◌⊛◌, at_ret, ◌$◌, ◌∵◌, !, qed, by, keep, use1, split, feq_i, stop, from, fld, hop, addr, lit, unit_lit, of_opd, bin, first, blocks, exec, returns, enter, assigns_last, store, alloc_all, pass_all, free_all, look_at, look_in_at, get, through, sets, env, sub, all_of_it, tables, fact, yes, no, RattleType, owns, types_at, plain, Ptr, block_ptr, block_of, count_of, InBlock, heard, param, bounded, u64, usize, mut_vals, mut_Tells, uint_vals, uint_Tells, Stays, stay_dropped, stay_ref, walk_of, Goes-dropped, Goes-ref, word, proved, leaves, Block, Lives, word_of, with_word, chain_owns, SLOTS, after, place_val, place_told, tells, takes_ref, puts_back, opens_ref, shuts_ref, enters_at}
+use Rattle.block_web.proofs.Walks.{◌≡◌, ℕ, ◌+◌, ◌*◌, ◌^◌, ◌<◌, List, [], ◌∷◌, refl, arith, w64, Ty, a_type, dcons, dnil, named, Val, vunit, vint, vptr, inst_fn, SProp, all, Fml, ftrue, fsep, flft, ‵, raw, ◌⊛◌, at_ret, ◌$◌, ◌∵◌, !, qed, by, keep, use1, split, feq_i, stop, from, fld, hop, addr, lit, unit_lit, of_opd, bin, first, blocks, exec, returns, assigns_last, store, alloc_all, pass_all, free_all, look_at, look_in_at, get, through, sets, env, sub, all_of_it, tables, fact, yes, no, RattleType, owns, types_at, plain, Ptr, block_of, count_of, InBlock, heard, param, bounded, u64, usize, mut_vals, mut_Tells, uint_vals, uint_Tells, Stays, stay_dropped, stay_ref, walk_of, Goes-dropped, Goes-ref, word, proved, leaves, Block, Lives, word_of, with_word, chain_owns, SLOTS, after, place_val, place_told, tells, takes_ref, puts_back, opens_ref, shuts_ref, enters_at}
 use Rattle.block_web.specs.contracts.block.Link as link
 use Rattle.block_web.specs.contracts.chain.Chain as chain
 use Rattle.block_web.proofs.Blocks as blocks

@@ -1,5 +1,5 @@
 -- `take` reads a full slot of a block.
-use Rattle.block_web.proofs.Walks.{◌≡◌, ℕ, ◌+◌, ◌*◌, ◌^◌, ◌<◌, ◌≤◌, List, [], ◌∷◌, sym, refl, ap, subst, arith, w64, Some, mul-le-mul_right, Ty, a_type, dcons, dnil, named, Val, vint, vptr, inst_fn, bare, SProp, all, Fml, ftrue, fsep, froom, flft, WpFn, ‵, raw, ◌⊛◌, given, at_ret, ◌$◌, ◌∵◌, !, qed, by, move, keep, use1, use2, split, join, learn, stop, fld, load, addr, size_word, of_opd, bin, first, blocks, exec, returns, enter, look_raw, alloc_all, pass_all, free_all, look_at, get, get_in, through, sets, sets_last, is, env, sub, all_of_it, tables, fact, yes, no, RattleType, owns, types_at, plain, mem, Ptr, block_ptr, block_of, count_of, InBlock, heard, param, bounded, layout, param_laws, u64, usize, mut_vals, mut_Tells, uint_vals, uint_Tells, Member, Stays, stay_dropped, stay_ref, walk_of, Goes-dropped, Goes-ref, spread, proved, leaves, Block, vacant, Lives, Rests, with_home, slots_at, content_owns, chain_owns, SLOTS, after, place_val, place_told, full_product, tells, takes_ref, opens_ref, shuts_ref, enters_at}
+use Rattle.block_web.proofs.Walks.{◌≡◌, ℕ, ◌+◌, ◌*◌, ◌^◌, ◌<◌, ◌≤◌, List, [], ◌∷◌, sym, refl, ap, subst, arith, w64, Some, mul-le-mul_right, Ty, a_type, dcons, dnil, named, Val, vint, vptr, inst_fn, bare, SProp, all, Fml, ftrue, fsep, froom, flft, ‵, raw, ◌⊛◌, given, at_ret, ◌$◌, ◌∵◌, !, qed, by, move, keep, use1, use2, split, join, learn, stop, fld, load, addr, size_word, of_opd, bin, first, blocks, exec, returns, look_raw, alloc_all, pass_all, free_all, look_at, get, get_in, through, sets, sets_last, is, env, sub, all_of_it, tables, fact, yes, no, RattleType, owns, types_at, plain, mem, Ptr, block_of, count_of, InBlock, heard, param, bounded, layout, param_laws, u64, usize, mut_vals, mut_Tells, uint_vals, uint_Tells, Member, Stays, stay_dropped, stay_ref, walk_of, Goes-dropped, Goes-ref, spread, proved, leaves, Block, vacant, Lives, Rests, with_home, slots_at, content_owns, chain_owns, SLOTS, after, place_val, place_told, full_product, tells, takes_ref, opens_ref, shuts_ref, enters_at}
 use Rattle.block_web.specs.contracts.block.Link as link
 use Rattle.block_web.specs.contracts.chain.Chain as chain
 use Rattle.block_web.proofs.Blocks as blocks

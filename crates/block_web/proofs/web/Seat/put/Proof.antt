@@ -1,5 +1,5 @@
 -- `put` writes the slot that the seat has in hand.
-use Rattle.block_web.proofs.Walks.{◌≡◌, ℕ, ◌+◌, ◌*◌, ◌^◌, ◌<◌, ◌≤◌, List, [], ◌∷◌, ◌++◌, sym, refl, ap, subst, arith, w64, Option, Some, None, mul-le-mul_right, a_type, dcons, dnil, Val, vunit, vint, vptr, inst_fn, bare, full_share, Coded, SProp, ent, id⊢, Fml, ftrue, fsep, froom, fat, flft, WpFn, ‵, raw, ◌⊛◌, at_ret, ◌$◌, ◌∵◌, !, qed, by, move, keep, drop, use1, split, join, fsplit, fsplit3, fjoin, fjoin3, fpick, fpack, suffices, rewrite, feq_i, stop, fld, addr, unit_lit, size_word, of_opd, bin, first, blocks, exec, returns, enter, assigns_last, init, alloc_all, pass_all, free_all, look_at, get, get_in, through, sets, is, env, sub, all_of_it, tables, fact, yes, no, RattleType, owns, types_at, plain, mem, Ptr, block_ptr, block_of, count_of, InBlock, nothing, heard, param, bounded, layout, param_laws, usize, Member, Stays, stay_dropped, stay_ref, walk_of, Goes-dropped, Goes-ref, one, gather, proved_at, leaves, Hand, Sitter, sitter, Same, slots_at, hand_owns, SLOTS, after, place_val, place_told, full_product, tells, opens_ref, shuts_ref, enters_at}
+use Rattle.block_web.proofs.Walks.{◌≡◌, ℕ, ◌+◌, ◌*◌, ◌^◌, ◌<◌, ◌≤◌, List, [], ◌∷◌, ◌++◌, sym, refl, ap, subst, arith, w64, Option, Some, None, mul-le-mul_right, a_type, dcons, dnil, Val, vunit, vint, vptr, inst_fn, bare, full_share, Coded, SProp, ent, id⊢, Fml, ftrue, fsep, froom, fat, flft, WpFn, ‵, raw, ◌⊛◌, at_ret, ◌$◌, ◌∵◌, !, qed, by, move, keep, drop, use1, split, join, fsplit, fsplit3, fjoin, fjoin3, fpick, fpack, suffices, rewrite, feq_i, stop, fld, addr, unit_lit, size_word, of_opd, bin, first, blocks, exec, returns, assigns_last, init, alloc_all, pass_all, free_all, look_at, get, get_in, through, sets, is, env, sub, all_of_it, tables, fact, yes, no, RattleType, owns, types_at, plain, mem, Ptr, block_of, count_of, InBlock, nothing, heard, param, bounded, layout, param_laws, usize, Member, Stays, stay_dropped, stay_ref, walk_of, Goes-dropped, Goes-ref, one, gather, proved_at, leaves, Hand, Sitter, sitter, Same, slots_at, hand_owns, SLOTS, after, place_val, place_told, full_product, tells, opens_ref, shuts_ref, enters_at}
 use Rattle.block_web.specs.contracts.block.Link as link
 use Rattle.block_web.specs.contracts.web.Seat as seat
 use Rattle.block_web.proofs.Blocks as blocks

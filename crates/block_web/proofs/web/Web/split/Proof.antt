@@ -1,5 +1,5 @@
 -- `split` is one load, by which the seat's view is cut in two.
-use Rattle.block_web.proofs.Walks.{◌≡◌, ℕ, ◌+◌, ◌*◌, List, [], ◌∷◌, sym, refl, subst, arith, lit<, w64, None, Ty, a_type, dcons, dnil, named, Val, vint, vptr, inst_fn, Coded, SProp, ent, sep, via, Lft, Fml, ftrue, fsep, fex, flft, fbor, WpFn, sem, mean, ‵, raw, ◌⊛◌, given, at_ret, ◌$◌, ◌∵◌, !, qed, by, move, keep, drop, use3, join, learn, stop, from, fld, hop, addr, lit, no_more, and_then, first, blocks, exec, Calls-last, returns, enter, alloc_all, pass_all, free_all, look_at, look_in_at, get, sets, lands_last, env, agg, sub, all_of_it, tokens_halve, tables, fact, yes, no, RattleType, owns, types_at, plain, Ptr, block_ptr, block_of, count_of, InBlock, param, bounded, RefOf, u64, mut_vals, mut_Tells, shr_vals, shr_Tells, uint_vals, uint_Tells, Tuple, Stays, stay_dropped, stay_ref, walk_of, Goes-dropped, Goes-ref, asks, always, proved, leaves, fm, seq_cst, found, finds, loads, Sitter, sitter, CanFork, Sits, Same, WebId, age, seat_owns, inside_owns, after, blank_val, place_val, place_told, begins_step, tells, blank, takes_step, ends_step, enters_at}
+use Rattle.block_web.proofs.Walks.{◌≡◌, ℕ, ◌+◌, [], ◌∷◌, sym, refl, lit<, w64, None, Ty, a_type, dcons, dnil, named, Val, vint, vptr, inst_fn, Coded, SProp, via, Lft, Fml, ftrue, fsep, fex, flft, mean, ‵, raw, ◌⊛◌, given, at_ret, ◌$◌, ◌∵◌, !, qed, by, move, keep, drop, use3, join, learn, stop, from, fld, hop, addr, lit, no_more, and_then, first, blocks, exec, Calls-last, returns, alloc_all, pass_all, free_all, look_at, look_in_at, get, sets, lands_last, env, agg, sub, all_of_it, tokens_halve, tables, fact, yes, no, RattleType, owns, types_at, plain, Ptr, block_ptr, block_of, count_of, InBlock, param, bounded, RefOf, u64, mut_vals, mut_Tells, shr_vals, shr_Tells, uint_vals, uint_Tells, Tuple, Stays, stay_dropped, stay_ref, walk_of, Goes-dropped, Goes-ref, proved, leaves, fm, seq_cst, found, finds, loads, Sitter, sitter, CanFork, Sits, Same, WebId, age, seat_owns, after, blank_val, place_val, place_told, begins_step, tells, blank, takes_step, ends_step, enters_at}
 use Rattle.block_web.specs.contracts.block.Link as link
 use Rattle.block_web.specs.contracts.web.Web as web
 use Rattle.block_web.specs.contracts.web.Seat as seat

@@ -1,5 +1,5 @@
 -- `turn` is one step on a link, and the seat goes with it.
-use Rattle.block_web.proofs.Walks.{ℕ, ◌+◌, List, [], ◌∷◌, sym, refl, w64, Ty, Body, a_type, dcons, dnil, named, ty_ptr, Val, vint, vnull, vptr, inst_fn, Coded, SProp, Lft, Fml, ftrue, fsep, flft, WpFn, Wp, after_seq, at_return, mean, ‵, raw, ◌⊛◌, given, at_ret, any_q, ◌$◌, ◌∵◌, !, qed, by, move, keep, drop, use0, use1, use3, learn, rewrite, stop, from, fld, hop, addr, lit, of_opd, switches, no_more, and_then, first, blocks, exec, Calls-last, returns, enter, switches_on, alloc_all, pass_all, free_all, look_at, look_in_at, get, get_in, get_tag, sets, sets_last, lands_last, env, vrt, in_variant, agg, sub, all_of_it, tokens_halve, tables, fact, yes, no, RattleType, owns, types_at, plain, Ptr, block_ptr, null_ptr, ptr_val, block_of, count_of, InBlock, param, bounded, RefOf, u64, mut_vals, mut_Tells, shr_vals, shr_Tells, uint_vals, uint_Tells, Stays, stay_dropped, stay_ref, walk_of, Goes-dropped, Goes-ref, Ok, Err, Good-round, proved, leaves, fm, seq_cst, stored, has_stored, Sitter, AllowsLink, Sits, Same, WebId, age, seat_owns, head, after, arm_body, ptr_good, place_val, place_told, place_made, word_laws, tells, fpick, lent_back, begins_step, ends_step, takes_step, enters_at}
+use Rattle.block_web.proofs.Walks.{ℕ, ◌+◌, List, [], ◌∷◌, sym, refl, w64, Ty, Body, a_type, dcons, dnil, named, ty_ptr, Val, vint, vnull, vptr, inst_fn, Coded, SProp, Lft, Fml, ftrue, fsep, flft, Wp, after_seq, at_return, mean, ‵, raw, ◌⊛◌, given, at_ret, any_q, ◌$◌, ◌∵◌, !, qed, by, move, keep, drop, use0, use1, use3, learn, rewrite, stop, from, fld, hop, addr, lit, of_opd, switches, no_more, and_then, first, blocks, exec, Calls-last, returns, switches_on, alloc_all, pass_all, free_all, look_at, look_in_at, get, get_in, get_tag, sets, sets_last, lands_last, env, vrt, in_variant, agg, sub, all_of_it, tokens_halve, tables, fact, yes, no, RattleType, owns, types_at, plain, Ptr, block_ptr, null_ptr, ptr_val, block_of, count_of, InBlock, param, bounded, RefOf, u64, mut_vals, mut_Tells, shr_vals, shr_Tells, uint_vals, uint_Tells, Stays, stay_dropped, stay_ref, walk_of, Goes-dropped, Goes-ref, Ok, Err, Good-round, proved, leaves, fm, seq_cst, stored, has_stored, Sitter, AllowsLink, Sits, Same, WebId, age, seat_owns, head, after, arm_body, ptr_good, place_val, place_told, place_made, word_laws, tells, fpick, lent_back, begins_step, ends_step, takes_step, enters_at}
 use Rattle.block_web.specs.contracts.block.Link as link
 use Rattle.block_web.specs.contracts.web.Web as web
 use Rattle.block_web.specs.contracts.web.Seat as seat
