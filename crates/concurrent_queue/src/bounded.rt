@@ -174,8 +174,16 @@ impl<T, A: Allocator> Cells<T, ()> for Ring<T, A> {
     {
         match op {
             Op::Load(word) => Answer::Found(self.load(word)),
-            Op::Exchange(Word::Tail, expected, new) => Answer::Found(exchange(&mut self.tail, expected, new)),
-            Op::Exchange(Word::Head, expected, new) => Answer::Found(exchange(&mut self.head, expected, new)),
+            Op::Exchange(Word::Tail, expected, new) => Answer::Found(exchange(
+                &mut self.tail,
+                expected,
+                new,
+            )),
+            Op::Exchange(Word::Head, expected, new) => Answer::Found(exchange(
+                &mut self.head,
+                expected,
+                new,
+            )),
             Op::Or(Word::Tail, bits) => {
                 let found = self.tail;
                 self.tail = found | bits;

@@ -410,8 +410,16 @@ impl<T, A: Allocator> Cells<T, Name<T>> for LinkedBlocks<T, A> {
             Op::Or(Word::State(block, slot), bits) => Answer::Found(self.set_bits(
                 block, slot, bits,
             )),
-            Op::Exchange(Word::Tail, expected, new) => Answer::Found(exchange(&mut self.tail, expected, new)),
-            Op::Exchange(Word::Head, expected, new) => Answer::Found(exchange(&mut self.head, expected, new)),
+            Op::Exchange(Word::Tail, expected, new) => Answer::Found(exchange(
+                &mut self.tail,
+                expected,
+                new,
+            )),
+            Op::Exchange(Word::Head, expected, new) => Answer::Found(exchange(
+                &mut self.head,
+                expected,
+                new,
+            )),
             Op::LoadLink(link) => Answer::Linked(self.load_link(link)),
             Op::StoreLink(link, block) => {
                 self.store_link(link, block);
