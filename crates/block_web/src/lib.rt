@@ -12,7 +12,5 @@ mod operation;
 pub mod seats;
 pub mod sizes;
 pub mod steps;
-#[cfg(test)]
-mod tests;
 pub mod web;
 mod word;

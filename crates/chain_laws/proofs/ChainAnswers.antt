@@ -1,6 +1,5 @@
 -- How the words and links of a chain stand for it, and what the operations of the calls answer.
 use Rattle.std.proofs.Common.{ℕ, ◌+◌, ◌-◌, ◌*◌, ◌%◌, ◌^◌, ◌<◌, ◌≤◌, ◌≡◌, ◌≢◌, ◌==◌, not, ◌∙◌, ◌⊎◌, inl, inr, zero, suc, Bool, true, false, Option, Some, None, refl, sym, ap, arith, bit_and}
-use Rattle.std.proofs.lemmas.Bool.{ne_eqb, eq-eqb}
 use Rattle.queue_steps.specs.declared.sizes.TheConstants.{LIMIT, BLOCK_SLOTS}
 use Rattle.queue_steps.specs.Words.{IsWord, position_of, is_shut, tail_of}
 use Rattle.queue_steps.specs.ChainWords.{offset_at, offset_of, items_before}
@@ -11,6 +10,7 @@ use Rattle.queue_steps.specs.declared.steps.types.Op.{Op}
 use Rattle.queue_steps.specs.declared.steps.types.Op.TheVariants as op
 use Rattle.queue_steps.specs.declared.steps.types.Word.TheVariants as word
 use Rattle.queue_steps.specs.declared.steps.unbounded.TheConstants.{WRITE, READ, DESTROY}
+use Rattle.queue_laws.proofs.Tails.{position_tail, shut_tail}
 use Rattle.chain_laws.proofs.ChainPlaces.{place, place_offset}
 use Rattle.chain_laws.proofs.ChainCells.{Writer, Wrote, Reader, Unread, Reading, Done, Mover, Rests, Laying, Opening, Passer, Stands, Passing, Entering, Link, Linked, Shown, Seen, Walk, Waits, Unused, Chain, BlocksOk, FrontOk, ChainOk, item_at}
 use Rattle.chain_laws.proofs.ChainFacts.{head_of, open_tail_of, HeadIs, TailIs, IsNamed}
@@ -88,16 +88,8 @@ Answers c (op.Install x) a = a ≡ answer.Linked (last_of c.names c.blocks)
 Answers c op.Ask a = (a ≡ answer.Refused) ⊎ ((f : ℕ) × (a ≡ answer.Granted f) × (c.uses f ≡ Unused))
 Answers c _ a = ⊥
 
-pub position_tail : (q : ℕ) (c : Bool) → position_of (tail_of q c) ≡ q
-position_tail q true = omega arith
-position_tail q false = omega arith
-
 pub head_offset : (n : ℕ) (more : Bool) → offset_of (head_of n more) ≡ n % BLOCK_SLOTS
 head_offset n more = ap offset_at (position_tail (place n) more) ∙ place_offset n
-
-pub shut_tail : (q : ℕ) (c : Bool) → is_shut (tail_of q c) ≡ c
-shut_tail q true = eq-eqb ((q * 2 + 1) % 2) 1 (omega arith)
-shut_tail q false = ne_eqb ((q * 2) % 2) 1 (λ e. absurd (let z : (q * 2) % 2 ≡ 0 = omega arith in omega arith))
 
 pub word_small : (q : ℕ) (c : Bool) → q < 2 ^ 62 → IsWord (tail_of q c)
 word_small q true lt = omega arith

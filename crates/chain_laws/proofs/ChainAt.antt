@@ -19,12 +19,13 @@ use Rattle.queue_steps.specs.declared.steps.types.Word.TheVariants as word
 use Rattle.queue_steps.specs.declared.steps.bounded.TheConstants.{MARK, TAIL_STEP}
 use Rattle.queue_steps.specs.declared.steps.unbounded.TheConstants.{WRITE, READ, DESTROY}
 use Rattle.queue_steps.specs.declared.steps.bounded.PushKind.{PushKind}
-use Rattle.queue_steps.specs.declared.steps.bounded.PushKind.TheVariants as kind
 use Rattle.queue_steps.specs.declared.steps.unbounded.UnboundedLocal.TheVariants as chain
+use Rattle.queue_laws.proofs.Moments.{SeenIn, seen_by, HeadWas}
+use Rattle.queue_laws.proofs.Pushes.{pushes}
 use Rattle.chain_laws.proofs.ChainPlaces.{place}
 use Rattle.chain_laws.proofs.ChainCells.{Wrote, Laying, Opening, Passing, Entering, Linking, Linked, Showing, Walker, Spare, Chain, queue_of, ChainOk, Part, Write, Read, Tail, Head, Next, First, Passed, Holds, Nothing}
 use Rattle.chain_laws.proofs.ChainPasses.{Passes}
-use Rattle.chain_laws.proofs.ChainFacts.{head_of, open_tail_of, tail_grows, HeadIs, head_is_stays, IsNamed, named_stays, TailBlockIs, tail_block_stays, HeadBlockIs, head_block_stays, HeadBlockRead, head_read_stays, IsMore, more_stays, HasSpare, spare_stays, holds_stays, SeenIn, seen_by, HeadWas, head_was_stays, SawEmpty, saw_empty_stays, SawTail, saw_stays, Claimed, claimed_stays, Got, got_stays, lays_stays, opens_stays, passing_stays, entering_stays, linking_stays, showing_stays, walker_stays}
+use Rattle.chain_laws.proofs.ChainFacts.{head_of, open_tail_of, tail_grows, HeadIs, head_is_stays, IsNamed, named_stays, TailBlockIs, tail_block_stays, HeadBlockIs, head_block_stays, HeadBlockRead, head_read_stays, IsMore, more_stays, HasSpare, spare_stays, holds_stays, head_was_stays, SawEmpty, saw_empty_stays, SawTail, saw_stays, Claimed, claimed_stays, Got, got_stays, lays_stays, opens_stays, passing_stays, entering_stays, linking_stays, showing_stays, walker_stays}
 
 -- this part, and one of these two
 abbrev pub Only : Part → Part → Type 0
@@ -32,11 +33,6 @@ Only p x = x ≡ p
 
 abbrev pub Either : Part → Part → Part → Type 0
 Either p q x = (x ≡ p) ⊎ (x ≡ q)
-
--- the call that pushes v so
-abbrev pub pushes : {A : Type 0} → PushKind → A → Call A
-pushes kind.Push v = call.Push v
-pushes kind.Force v = call.ForcePush v
 
 -- whether the item takes the last slot of its block
 abbrev pub IsLast : ℕ → Type 0

@@ -11,7 +11,8 @@ use Rattle.chain_laws.proofs.ChainAfter.{if_begun}
 use Rattle.chain_laws.proofs.ChainHolds.{after_read_on}
 use Rattle.chain_laws.proofs.ChainFacts.{Got}
 use Rattle.std.proofs.Common.{ℕ, ◌/◌, ◌≡◌, ◌≢◌, not, ◌∙◌, Bool, true, false, if◌then◌else◌, Some, None, List, [], ◌∷◌, refl, sym, ap, arith}
-use Rattle.chain_laws.proofs.ChainCells.{Wrote, Reading, Done, Walk, Before, Walker, Waits, GivenUp, Chain, queue_of, WalkOk, IsWalked, item_at, LAST, ChainOk, put, put_ok, put_same, Read, walker_of, Holds}
+use Rattle.queue_laws.proofs.Puts.{put, put_ok, put_same}
+use Rattle.chain_laws.proofs.ChainCells.{Wrote, Reading, Done, Walk, Before, Walker, Waits, GivenUp, Chain, queue_of, WalkOk, IsWalked, item_at, LAST, ChainOk, Read, walker_of, Holds}
 use Rattle.chain_laws.proofs.ChainReads as moves
 use Rattle.chain_laws.proofs.ChainReads.{read_ok, walk_after, walk_after_ok}
 use Rattle.chain_laws.proofs.ChainAt.{Only, IsLast, destroying}

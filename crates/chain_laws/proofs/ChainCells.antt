@@ -1,6 +1,5 @@
 -- A chain of blocks by the numbers of its items: what each part of it is for, whose it is just now, and the state of the queue that it stands for.
-use Rattle.std.proofs.Common.{ℕ, ◌+◌, ◌-◌, ◌*◌, ◌/◌, ◌<◌, ◌≤◌, ◌≡◌, ◌≢◌, ◌==◌, ◌⊎◌, inl, inr, Bool, true, false, if◌then◌else◌, Option, Some, None, List, length, refl, sym, ap, slice_get}
-use Rattle.std.proofs.lemmas.Bool.Decides.{eqb_tells}
+use Rattle.std.proofs.Common.{ℕ, ◌+◌, ◌-◌, ◌*◌, ◌/◌, ◌<◌, ◌≤◌, ◌≡◌, ◌≢◌, ◌⊎◌, Bool, true, false, Option, Some, None, List, length, slice_get}
 use Rattle.queue_steps.specs.declared.sizes.TheConstants.{LIMIT, BLOCK_SLOTS}
 use Rattle.queue_steps.specs.State.{State}
 
@@ -149,19 +148,6 @@ pub record ChainOk {A : Type 0} (c : Chain A) : Type 0 where
   pub reaches : (who : ℕ) → c.mover ≡ Opening who → c.front + 1 < c.blocks
   pub knows : c.known ≡ true → c.passer ≡ Stands → c.head / BLOCK_SLOTS * BLOCK_SLOTS + BLOCK_SLOTS ≤ c.tail
   pub walk : (b : ℕ) → WalkOk c.readers b (c.walks b)
-
--- a function with another value at one number
-abbrev pub put : {X : Type 0} → (ℕ → X) → ℕ → X → ℕ → X
-put f i x = λ j. if j == i then x else f j
-
-pub put_ok : {X : Type 0} (f : ℕ → X) (i j : ℕ) (x : X) (P : ℕ → X → Type 0) → P i x → (j ≢ i → P j (f j)) → P j (put f i x j)
-put_ok f i j x P here there = elim (eqb_tells j i) [ inl t ↦ rw (t.0, t.1) here | inr n ↦ rw n.0 (there n.1) ]
-
-pub put_same : {X : Type 0} (f : ℕ → X) (i : ℕ) (x : X) → put f i x i ≡ x
-put_same f i x = put_ok f i i x (λ j d. j ≡ i → d ≡ x) (λ e. refl) (λ ne e. absurd (ne e)) refl
-
-pub put_other : {X : Type 0} (f : ℕ → X) (i j : ℕ) (x : X) → j ≢ i → put f i x j ≡ f j
-put_other f i j x ne = put_ok f i j x (λ k d. k ≡ j → d ≡ f j) (λ e. absurd (ne (sym e))) (λ no e. ap f e) refl
 
 -- the parts of a chain that a party may hold
 pub data Part : Type 0 where

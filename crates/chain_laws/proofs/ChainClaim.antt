@@ -12,18 +12,21 @@ use Rattle.std.proofs.Common.{ℕ, ◌+◌, ◌-◌, ◌/◌, ◌<◌, ◌≤◌
 use Rattle.queue_steps.specs.Words.{IsWord}
 use Rattle.queue_steps.specs.ChainWords.{offset_of}
 use Rattle.queue_steps.specs.UnboundedNext.{lays, writes}
-use Rattle.chain_laws.proofs.ChainCells.{Writing, Rests, Laying, Opening, Link, Unlinked, Linking, Linked, Showing, Spare, Chain, queue_of, BlocksOk, LinkOk, ChainOk, put_ok, put_same, Write, Tail, Next, First, mover_of, Holds, Nothing}
+use Rattle.queue_laws.proofs.Puts.{put_ok, put_same}
+use Rattle.queue_laws.proofs.Tails.{shut_tail}
+use Rattle.queue_laws.proofs.Pushes.{pushes, closed_push, appended_push}
+use Rattle.chain_laws.proofs.ChainCells.{Writing, Rests, Laying, Opening, Link, Unlinked, Linking, Linked, Showing, Spare, Chain, queue_of, BlocksOk, LinkOk, ChainOk, Write, Tail, Next, First, mover_of, Holds, Nothing}
 use Rattle.chain_laws.proofs.ChainTransitions as moves
 use Rattle.chain_laws.proofs.ChainTransitions.{append_ok, append_within, append_last, install_ok, display_ok, lay_ok, open_ok, chain_ok, write_ok, mark_ok, no_block}
 use Rattle.chain_laws.proofs.ChainPasses.{Passes, passes_marked, passes_appended, passes_installed, passes_displayed}
 use Rattle.chain_laws.proofs.ChainPassesLaying.{passes_laid_out, passes_opened, passes_chained, passes_written}
 use Rattle.chain_laws.proofs.ChainFacts.{open_tail_of, TailBlockIs, IsNamed, named_stays, HasSpare, SawTail, Claimed}
-use Rattle.chain_laws.proofs.ChainAt.{pushes, Only, Either, IsLast, push_tail, showing, claiming, laying, opening, chaining, writing}
-use Rattle.chain_laws.proofs.ChainAnswers.{tail_word, tail_place, shut_tail, last_of, same_tail, tail_small}
+use Rattle.chain_laws.proofs.ChainAt.{Only, Either, IsLast, push_tail, showing, claiming, laying, opening, chaining, writing}
+use Rattle.chain_laws.proofs.ChainAnswers.{tail_word, tail_place, last_of, same_tail, tail_small}
 use Rattle.chain_laws.proofs.ChainGood.{Goes, Good, still, silent, spare_gives}
 use Rattle.chain_laws.proofs.ChainAfter.{if_installed, if_claimed, claimed_if}
 use Rattle.chain_laws.proofs.ChainHolds.{after_install, after_display, after_append, after_append_last, after_lay, after_open, after_chain, after_write}
-use Rattle.chain_laws.proofs.ChainPush.{closed_push, pushed_push, tail_goes, open_small}
+use Rattle.chain_laws.proofs.ChainPush.{tail_goes, open_small}
 
 -- the first block is there, and has this name
 first_named : {A : Type 0} (c : Chain A) (who f : ℕ) → c.blocks ≡ 0 → IsNamed (moves.installed c who f) 0 f
@@ -172,7 +175,7 @@ pub good_writing : {A : Type 0} (c : Chain A) (who : ℕ) (ms : List (State A)) 
     → ChainOk c → Holds c who (Only (Write n)) → Claimed c who n v name → HasSpare c who spare → Good c (moves.written c n v) who ms (chain.Writing d spare) None (pushes d v) (effect.Append v ∷ []) (answer.Found x)
 good_writing {A} c who ms d v n name spare x ok holds mine spare_is =
     silent c (moves.written c n v) who ms (chain.Writing d spare) None (pushes d v) (effect.Append v ∷ []) (answer.Found x) refl (write_ok c who n v ok mine.mine) refl (passes_written c who n v mine.mine) tt
-    (after_write c who n v holds, spare_gives (moves.written c n v) who spare (has spare spare_is), ((pushed_push d v).0, (pushed_push d v).1, (pushed_push d v).2, λ e. cc))
+    (after_write c who n v holds, spare_gives (moves.written c n v) who spare (has spare spare_is), ((appended_push d v).0, (appended_push d v).1, (appended_push d v).2, λ e. cc))
   where
     has : (x : Option ℕ) → HasSpare c who x → HasSpare (moves.written c n v) who x
     has None h = tt
@@ -195,7 +198,7 @@ good_spending {A} c who ms d v spare ok none spare_is spent = go c.closed refl
       ok = mark_ok c ok;
       makes = ap (λ b. queue_of (record c { closed = b })) (sym shut);
       passes = passes_marked c who;
-      goes = (none, spare_gives (moves.marked c) who spare (has spare spare_is), ((closed_push d v (queue_of (moves.marked c)) refl).0, (closed_push d v (queue_of (moves.marked c)) refl).1, (closed_push d v (queue_of (moves.marked c)) refl).2, λ e. inl (inl (closed_push d v (queue_of (moves.marked c)) refl).4)));
+      goes = (none, spare_gives (moves.marked c) who spare (has spare spare_is), ((closed_push d v).0, (closed_push d v).1, (closed_push d v).2, λ e. inl (inl ((closed_push d v).4 (queue_of (moves.marked c)) refl))));
     }
     go false opened = record {
       e = Some effect.SelfClose;
@@ -204,5 +207,5 @@ good_spending {A} c who ms d v spare ok none spare_is spent = go c.closed refl
       ok = mark_ok c ok;
       makes = ((opened, refl, (let most = ok.most in omega arith)), refl);
       passes = passes_marked c who;
-      goes = (none, spare_gives (moves.marked c) who spare (has spare spare_is), ((closed_push d v (queue_of (moves.marked c)) refl).0, (closed_push d v (queue_of (moves.marked c)) refl).1, (closed_push d v (queue_of (moves.marked c)) refl).3, λ e. cc));
+      goes = (none, spare_gives (moves.marked c) who spare (has spare spare_is), ((closed_push d v).0, (closed_push d v).1, (closed_push d v).3, λ e. cc));
     }

@@ -1,5 +1,5 @@
 -- The step by which a pop finds the queue empty, or that it is not.
-use Rattle.std.proofs.Common.{ℕ, ◌+◌, ◌<◌, ◌≡◌, ◌≢◌, ◌==◌, ◌∙◌, ◌⊎◌, inl, inr, Bool, true, false, if◌then◌else◌, Option, Some, None, Err, List, [], ◌∷◌, length, refl, sym, ap, subst, arith}
+use Rattle.std.proofs.Common.{ℕ, ◌+◌, ◌<◌, ◌≡◌, ◌≢◌, ◌==◌, ◌∙◌, ◌⊎◌, inl, inr, Bool, true, false, if◌then◌else◌, Option, Some, None, Err, List, [], ◌∷◌, refl, sym, ap, subst, arith}
 use Rattle.std.proofs.lemmas.Bool.Decides.{eqb_tells}
 use Rattle.queue_steps.specs.State.{State}
 use Rattle.queue_steps.specs.Words.{position_of}
@@ -11,18 +11,15 @@ use Rattle.queue_steps.specs.declared.errors.PopError.TheVariants as pop
 use Rattle.queue_steps.specs.declared.steps.types.Answer.TheVariants as answer
 use Rattle.queue_steps.specs.declared.steps.bounded.TheConstants.{TAIL_STEP}
 use Rattle.queue_steps.specs.declared.steps.unbounded.UnboundedLocal.TheVariants as chain
+use Rattle.queue_laws.proofs.Lists.{none_left}
+use Rattle.queue_laws.proofs.Tails.{position_tail, shut_tail}
 use Rattle.chain_laws.proofs.ChainPlaces.{place}
 use Rattle.chain_laws.proofs.ChainCells.{Mover, Rests, Laying, Opening, Stands, Seen, Chain, queue_of, BlocksOk, FrontOk, ShownOk, ChainOk, Holds, Nothing}
 use Rattle.chain_laws.proofs.ChainFacts.{head_of, HeadIs, HeadBlockIs, HeadBlockRead}
 use Rattle.chain_laws.proofs.ChainAt.{pop_head, taking}
-use Rattle.chain_laws.proofs.ChainAnswers.{tail_word, tail_place, position_tail, shut_tail, tail_items}
+use Rattle.chain_laws.proofs.ChainAnswers.{tail_word, tail_place, tail_items}
 use Rattle.chain_laws.proofs.ChainGood.{Goes, Good, still}
 use Rattle.chain_laws.proofs.ChainPop.{read_small, head_low}
-
--- a list of no length
-pub none_left : {A : Type 0} (xs : List A) → length xs ≡ 0 → xs ≡ []
-none_left [] e = refl
-none_left (x ∷ xs) e = absurd (omega arith)
 
 -- a tail at another position than the head that was read is beyond it
 pub beyond : {A : Type 0} (c : Chain A) (n : ℕ) → ChainOk c → HeadIs c n → c.shown ≡ Seen → position_of (tail_word c) ≢ place n → n < c.tail

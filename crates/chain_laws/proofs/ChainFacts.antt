@@ -1,8 +1,9 @@
 -- What a call on a chain carries between its steps, and that no step of another party takes it away.
-use Rattle.std.proofs.Common.{ℕ, ◌+◌, ◌*◌, ◌/◌, ◌<◌, ◌≤◌, ◌≡◌, ◌≢◌, ◌∙◌, ◌⊎◌, inl, inr, Bool, true, false, Option, Some, None, List, [], ◌∷◌, length, refl, sym, arith}
+use Rattle.std.proofs.Common.{ℕ, ◌+◌, ◌*◌, ◌/◌, ◌<◌, ◌≤◌, ◌≡◌, ◌≢◌, ◌∙◌, ◌⊎◌, inl, inr, Bool, true, false, Option, Some, None, List, length, refl, sym, arith}
 use Rattle.queue_steps.specs.declared.sizes.TheConstants.{LIMIT, BLOCK_SLOTS}
 use Rattle.queue_steps.specs.State.{State}
 use Rattle.queue_steps.specs.Words.{tail_of}
+use Rattle.queue_laws.proofs.Moments.{SeenIn, seen_by, IsStarted, seen_map, seen_later, seen_now, started_later, HeadWas, HasItems}
 use Rattle.chain_laws.proofs.ChainPlaces.{place}
 use Rattle.chain_laws.proofs.ChainCells.{Writing, Reading, Rests, Laying, Opening, Stands, Passing, Entering, Linking, Showing, Seen, Walker, Spare, Chain, queue_of, value, ChainOk, Part, Write, Read, Tail, Head, Next, First, Passed, Holds}
 use Rattle.chain_laws.proofs.ChainPasses.{Passes}
@@ -89,47 +90,9 @@ spare_stays who other (Some f) ne pass h = let g = pass.grows in (pass.spares f 
 pub holds_stays : {A : Type 0} {r s : Chain A} (who other : ℕ) (P : Part → Type 0) → other ≢ who → Passes who r s → Holds r other P → Holds s other P
 holds_stays who other P ne pass holds = λ x e. holds x (pass.owned x other ne e)
 
--- some moment was so
-abbrev pub SeenIn : {A : Type 0} → List (State A) → (State A → Type 0) → Type 0
-SeenIn [] P = ⊥
-SeenIn (q ∷ qs) P = P q ⊎ SeenIn qs P
-
--- the state is a moment of each call that has taken its first step
-abbrev pub seen_by : {A : Type 0} → State A → List (State A) → List (State A)
-seen_by q [] = []
-seen_by q (m ∷ ms) = q ∷ m ∷ ms
-
-abbrev pub IsStarted : {A : Type 0} → List (State A) → Type 0
-IsStarted [] = ⊥
-IsStarted (m ∷ ms) = Unit {0}
-
-pub seen_map : {A : Type 0} (ms : List (State A)) {P Q : State A → Type 0} → ((m : State A) → P m → Q m) → SeenIn ms P → SeenIn ms Q
-seen_map [] f s = s
-seen_map (m ∷ ms) f (inl p) = inl (f m p)
-seen_map (m ∷ ms) f (inr s) = inr (seen_map ms f s)
-
-pub seen_later : {A : Type 0} (ms : List (State A)) (q : State A) (P : State A → Type 0) → SeenIn ms P → SeenIn (seen_by q ms) P
-seen_later [] q P s = s
-seen_later (m ∷ ms) q P s = inr s
-
-pub seen_now : {A : Type 0} (ms : List (State A)) (q : State A) (P : State A → Type 0) → IsStarted ms → P q → SeenIn (seen_by q ms) P
-seen_now [] q P started p = absurd started
-seen_now (m ∷ ms) q P started p = inl p
-
-pub started_later : {A : Type 0} (ms : List (State A)) (q : State A) → IsStarted ms → IsStarted (seen_by q ms)
-started_later [] q s = s
-started_later (m ∷ ms) q s = tt
-
 -- a moment at which the queue was open and had accepted q items
 abbrev pub WasOpenAt : {A : Type 0} → ℕ → State A → Type 0
 WasOpenAt q m = (m.cap ≡ None) × (m.closed ≡ false) × (m.accepted ≡ q)
-
--- a moment at which h items had left, and at least q and at most so many as now were accepted
-abbrev pub HeadWas : {A : Type 0} → ℕ → ℕ → ℕ → State A → Type 0
-HeadWas h q tail m = (m.accepted ≡ h + length m.items) × (q ≤ m.accepted) × (m.accepted ≤ tail)
-
-abbrev pub HasItems : {A : Type 0} → State A → Type 0
-HasItems m = 0 < length m.items
 
 -- after the head was read at h: the list was seen with an item, or nothing was accepted since
 abbrev pub SawEmpty : {A : Type 0} → ℕ → Chain A → List (State A) → Type 0

@@ -5,10 +5,12 @@ use Rattle.queue_steps.specs.declared.steps.types.Local.{Local}
 use Rattle.queue_steps.specs.declared.steps.types.Local.TheVariants as local
 use Rattle.queue_steps.specs.declared.steps.unbounded.UnboundedLocal.{UnboundedLocal}
 use Rattle.queue_steps.specs.declared.steps.unbounded.UnboundedLocal.TheVariants as chain
-use Rattle.chain_laws.proofs.ChainCells.{Use, Unused, Spare, Chained, Lost, Chain, ChainOk, put_ok, Part, Write, Read, Tail, Head, Next, First, Passed, owner, Holds}
+use Rattle.queue_laws.proofs.Puts.{put_ok}
+use Rattle.queue_laws.proofs.Effects.{Leads}
+use Rattle.chain_laws.proofs.ChainCells.{Use, Unused, Spare, Chained, Lost, Chain, queue_of, ChainOk, Part, Write, Read, Tail, Head, Next, First, Passed, owner, Holds}
 use Rattle.chain_laws.proofs.ChainTransitions.{renamed, rename_ok}
 use Rattle.chain_laws.proofs.ChainPasses.{Kept, Passes}
-use Rattle.chain_laws.proofs.ChainGood.{GivesUp, Makes}
+use Rattle.chain_laws.proofs.ChainGood.{GivesUp}
 
 -- the spare that a call has at this local state
 abbrev pub spare_of : UnboundedLocal ℕ → Option ℕ
@@ -105,7 +107,7 @@ passes_given r s who (Some f) ok gives pass = record {
   owned = λ x other ne e. pass.owned x other ne (sym (owner_renamed s f (lost_of (s.uses f)) x) ∙ e);
 }
 
-pub makes_given : {A : Type 0} (r s : Chain A) (spare : Option ℕ) (e : Option (Effect A)) → Makes r s e → Makes r (given_up s spare) e
+pub makes_given : {A : Type 0} (r s : Chain A) (spare : Option ℕ) (e : Option (Effect A)) → Leads (queue_of r) e (queue_of s) → Leads (queue_of r) e (queue_of (given_up s spare))
 makes_given r s None e h = h
 makes_given r s (Some f) None h = h
 makes_given r s (Some f) (Some e) h = h

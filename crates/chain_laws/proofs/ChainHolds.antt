@@ -1,7 +1,8 @@
 -- What a party holds of a chain after each of its own steps.
 use Rattle.std.proofs.Common.{ℕ, ◌-◌, ◌/◌, ◌≡◌, ◌≢◌, ◌⊎◌, inl, inr, Bool, Some, None, refl, ap}
 use Rattle.queue_steps.specs.declared.sizes.TheConstants.{BLOCK_SLOTS}
-use Rattle.chain_laws.proofs.ChainCells.{Writing, Wrote, Reading, Done, Rests, Laying, Stands, Passing, Linking, Linked, Walk, Chain, put_ok, Part, Write, Read, Tail, Head, Next, First, Passed, writer_of, reader_of, linker_of, walker_of, Holds, Nothing}
+use Rattle.queue_laws.proofs.Puts.{put_ok}
+use Rattle.chain_laws.proofs.ChainCells.{Writing, Wrote, Reading, Done, Rests, Laying, Stands, Passing, Linking, Linked, Walk, Chain, Part, Write, Read, Tail, Head, Next, First, Passed, writer_of, reader_of, linker_of, walker_of, Holds, Nothing}
 use Rattle.chain_laws.proofs.ChainTransitions.{appended, installed, displayed, laid_out, opened, chained, written}
 use Rattle.chain_laws.proofs.ChainReads.{taken, passed, entered, reads, walked}
 use Rattle.chain_laws.proofs.ChainAt.{Only, Either}

@@ -11,9 +11,10 @@ use Rattle.queue_steps.specs.declared.model.Call.TheVariants as call
 use Rattle.queue_steps.specs.declared.model.Reply.TheVariants as reply
 use Rattle.queue_steps.specs.declared.steps.types.Answer.TheVariants as answer
 use Rattle.queue_steps.specs.declared.steps.unbounded.UnboundedLocal.TheVariants as chain
+use Rattle.queue_laws.proofs.Moments.{seen_map}
 use Rattle.chain_laws.proofs.ChainPlaces.{place}
 use Rattle.chain_laws.proofs.ChainCells.{Chain, queue_of, ChainOk, Holds, Nothing}
-use Rattle.chain_laws.proofs.ChainFacts.{SawEmpty, seen_map}
+use Rattle.chain_laws.proofs.ChainFacts.{SawEmpty}
 use Rattle.chain_laws.proofs.ChainAnswers.{tail_word, tail_items, tail_small}
 use Rattle.chain_laws.proofs.ChainGood.{Goes, Good, still}
 

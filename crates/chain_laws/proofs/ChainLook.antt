@@ -11,13 +11,14 @@ use Rattle.queue_steps.specs.declared.model.Reply.TheVariants as reply
 use Rattle.queue_steps.specs.declared.model.Effect.TheVariants as effect
 use Rattle.queue_steps.specs.declared.steps.types.Answer.TheVariants as answer
 use Rattle.queue_steps.specs.declared.steps.unbounded.UnboundedLocal.TheVariants as chain
+use Rattle.queue_laws.proofs.Tails.{shut_tail}
+use Rattle.queue_laws.proofs.Moments.{SeenIn, seen_map, HeadWas, HasItems}
 use Rattle.chain_laws.proofs.ChainCells.{Chain, queue_of, ChainOk, Holds, Nothing}
 use Rattle.chain_laws.proofs.ChainTransitions as moves
 use Rattle.chain_laws.proofs.ChainTransitions.{mark_ok}
 use Rattle.chain_laws.proofs.ChainPasses.{passes_marked}
-use Rattle.chain_laws.proofs.ChainFacts.{HeadWas, HasItems, SeenIn, seen_map}
 use Rattle.chain_laws.proofs.ChainAt.{len_tail, len_head, len_again, empty_tail}
-use Rattle.chain_laws.proofs.ChainAnswers.{tail_word, tail_place, head_word, shut_tail, tail_items, tail_small, head_items, head_small}
+use Rattle.chain_laws.proofs.ChainAnswers.{tail_word, tail_place, head_word, tail_items, tail_small, head_items, head_small}
 use Rattle.chain_laws.proofs.ChainGood.{Goes, Good, still}
 
 pub good_closed_tail : {A : Type 0} (c : Chain A) (who : ℕ) (ms : List (State A)) → ChainOk c → Holds c who Nothing → Good c c who ms chain.ClosedTail None call.IsClosed [] (answer.Found (tail_word c))

@@ -1,6 +1,7 @@
 -- What one party's step leaves of a chain for the others: counts that grow, and parts that stay.
 use Rattle.std.proofs.Common.{ℕ, ◌+◌, ◌<◌, ◌≤◌, ◌≡◌, ◌≢◌, ◌∙◌, ◌⊎◌, inl, inr, Option, Some, None, refl, sym, ap, arith}
-use Rattle.chain_laws.proofs.ChainCells.{Free, Writing, Wrote, Mover, Rests, Laying, Stands, Linked, Hidden, Showing, Seen, Spare, Chained, Chain, value, ChainOk, put, put_ok, put_other, Part, Write, Read, Tail, Head, Next, First, Passed, writer_of, mover_of, shower_of, owner}
+use Rattle.queue_laws.proofs.Puts.{put, put_ok, put_other}
+use Rattle.chain_laws.proofs.ChainCells.{Free, Writing, Wrote, Mover, Rests, Laying, Stands, Linked, Hidden, Showing, Seen, Spare, Chained, Chain, value, ChainOk, Part, Write, Read, Tail, Head, Next, First, Passed, writer_of, mover_of, shower_of, owner}
 use Rattle.chain_laws.proofs.ChainTransitions.{next_free, no_front, appended, installed, displayed, marked}
 
 -- the part is the same

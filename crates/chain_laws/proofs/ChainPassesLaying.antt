@@ -1,6 +1,7 @@
 -- What the laying of a block, and the writing of an item, leave of what other parties hold.
 use Rattle.std.proofs.Common.{ℕ, ◌-◌, ◌≡◌, ◌≢◌, ◌∙◌, inl, inr, Some, None, refl, sym, ap, arith}
-use Rattle.chain_laws.proofs.ChainCells.{Writing, Wrote, Rests, Laying, Opening, Unlinked, Linking, Linked, Use, Spare, Chained, Chain, value, ChainOk, put_ok, put_other, Part, Write, Read, Tail, Head, Next, First, Passed, writer_of, mover_of, linker_of, owner}
+use Rattle.queue_laws.proofs.Puts.{put_ok, put_other}
+use Rattle.chain_laws.proofs.ChainCells.{Writing, Wrote, Rests, Laying, Opening, Unlinked, Linking, Linked, Use, Spare, Chained, Chain, value, ChainOk, Part, Write, Read, Tail, Head, Next, First, Passed, writer_of, mover_of, linker_of, owner}
 use Rattle.chain_laws.proofs.ChainTransitions.{laid_out, opened, chained, written, renamed}
 use Rattle.chain_laws.proofs.ChainPasses.{Passes, held_put, owned_put, nobodys, owns, own, Kept}
 

@@ -1,7 +1,8 @@
 -- What a step of a pop leaves of a chain for the others.
 use Rattle.std.proofs.Common.{ℕ, ◌/◌, ◌≡◌, ◌≢◌, ◌∙◌, ◌⊎◌, inl, inr, Bool, Some, None, refl, sym, arith}
 use Rattle.queue_steps.specs.declared.sizes.TheConstants.{BLOCK_SLOTS}
-use Rattle.chain_laws.proofs.ChainCells.{Unread, Reading, Done, Passer, Stands, Passing, Entering, Walk, Chain, put_ok, Part, Write, Read, Tail, Head, Next, First, Passed, reader_of, passer_of, walker_of, owner}
+use Rattle.queue_laws.proofs.Puts.{put_ok}
+use Rattle.chain_laws.proofs.ChainCells.{Unread, Reading, Done, Passer, Stands, Passing, Entering, Walk, Chain, Part, Write, Read, Tail, Head, Next, First, Passed, reader_of, passer_of, walker_of, owner}
 use Rattle.chain_laws.proofs.ChainReads.{taken, passed, entered, reads, walked}
 use Rattle.chain_laws.proofs.ChainPasses.{Kept, Passes, held_put, owned_put, nobodys, owns, own}
 

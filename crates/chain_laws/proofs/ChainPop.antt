@@ -15,7 +15,8 @@ use Rattle.queue_steps.specs.declared.steps.types.Op.TheVariants as op
 use Rattle.queue_steps.specs.declared.steps.types.Touch.TheVariants as touch
 use Rattle.queue_steps.specs.declared.steps.bounded.TheConstants.{TAIL_STEP}
 use Rattle.queue_steps.specs.declared.steps.unbounded.UnboundedLocal.TheVariants as chain
-use Rattle.chain_laws.proofs.ChainCells.{Stands, Passing, Entering, Link, Unlinked, Linking, Linked, Shown, Hidden, Showing, Seen, Reading, Chain, queue_of, FrontOk, ShownOk, LinkOk, ChainOk, put_same, Read, Head, Holds, Nothing}
+use Rattle.queue_laws.proofs.Puts.{put_same}
+use Rattle.chain_laws.proofs.ChainCells.{Stands, Passing, Entering, Link, Unlinked, Linking, Linked, Shown, Hidden, Showing, Seen, Reading, Chain, queue_of, FrontOk, ShownOk, LinkOk, ChainOk, Read, Head, Holds, Nothing}
 use Rattle.chain_laws.proofs.ChainReads as moves
 use Rattle.chain_laws.proofs.ChainReads.{front_is, take_ok, pass_ok, enter_ok}
 use Rattle.chain_laws.proofs.ChainPassesReads.{passes_taken, passes_passed, passes_entered}

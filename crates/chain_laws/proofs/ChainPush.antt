@@ -1,14 +1,14 @@
 -- The steps of a push that read: the tail and the pushers' block, and the request for a block.
-use Rattle.std.proofs.Common.{ℕ, ◌+◌, ◌-◌, ◌/◌, ◌%◌, ◌<◌, ◌≡◌, ◌≢◌, ◌==◌, ◌∙◌, ◌⊎◌, inl, inr, zero, suc, Bool, true, false, Option, Some, None, Ok, Err, List, [], ◌∷◌, refl, sym, ap, subst, arith}
+use Rattle.std.proofs.Common.{ℕ, ◌+◌, ◌-◌, ◌/◌, ◌%◌, ◌<◌, ◌≡◌, ◌≢◌, ◌==◌, ◌∙◌, ◌⊎◌, inl, inr, zero, suc, Bool, true, false, Option, Some, None, Err, List, [], ◌∷◌, refl, sym, ap, subst, arith}
 use Rattle.std.proofs.lemmas.Bool.{ne_eqb, eq-eqb}
 use Rattle.std.proofs.lemmas.Bool.Decides.{eqb_tells}
 use Rattle.queue_steps.specs.declared.sizes.TheConstants.{LIMIT, BLOCK_SLOTS}
 use Rattle.queue_steps.specs.State.{State}
-use Rattle.queue_steps.specs.Replies.{Tells, IsRightAt}
+use Rattle.queue_steps.specs.Replies.{Tells, MayAsk, LacksMemory}
 use Rattle.queue_steps.specs.Kinds.{filled}
 use Rattle.queue_steps.specs.Words.{IsWord, position_of, is_shut, tail_of}
 use Rattle.queue_steps.specs.ChainWords.{offset_of, items_before}
-use Rattle.queue_steps.specs.BoundedNext.{closed_reply, pushed_reply}
+use Rattle.queue_steps.specs.BoundedNext.{closed_reply}
 use Rattle.queue_steps.specs.declared.steps.types.Next.{Next}
 use Rattle.queue_steps.specs.declared.steps.types.Next.TheVariants as next
 use Rattle.queue_steps.specs.declared.steps.types.Link.TheVariants as link
@@ -19,35 +19,27 @@ use Rattle.queue_steps.specs.declared.steps.bounded.TheConstants.{MARK}
 use Rattle.queue_steps.specs.UnboundedNext.{at, loads, chain_tail_found, tail_block_found, gives_up, granted}
 use Rattle.queue_steps.specs.declared.model.Reply.{Reply}
 use Rattle.queue_steps.specs.declared.model.Reply.TheVariants as reply
-use Rattle.queue_steps.specs.declared.model.Effect.TheVariants as effect
 use Rattle.queue_steps.specs.declared.errors.PushError.TheVariants as push
 use Rattle.queue_steps.specs.declared.errors.ForcePushError.TheVariants as force
 use Rattle.queue_steps.specs.declared.steps.types.Answer.TheVariants as answer
 use Rattle.queue_steps.specs.declared.steps.bounded.PushKind.{PushKind}
 use Rattle.queue_steps.specs.declared.steps.bounded.PushKind.TheVariants as kind
 use Rattle.queue_steps.specs.declared.steps.unbounded.UnboundedLocal.TheVariants as chain
+use Rattle.queue_laws.proofs.Tails.{shut_tail}
+use Rattle.queue_laws.proofs.Moments.{seen_map}
+use Rattle.queue_laws.proofs.Pushes.{pushes, closed_push}
 use Rattle.chain_laws.proofs.ChainPlaces.{place}
 use Rattle.chain_laws.proofs.ChainCells.{Rests, Spare, Unused, Chained, Chain, queue_of, BlocksOk, ChainOk, Holds, Nothing}
 use Rattle.chain_laws.proofs.ChainTransitions.{no_block, renamed, rename_ok}
 use Rattle.chain_laws.proofs.ChainPassesLaying.{passes_renamed}
-use Rattle.chain_laws.proofs.ChainFacts.{open_tail_of, TailIs, TailBlockIs, HasSpare, seen_map, SawTail, WasOpenAt}
-use Rattle.chain_laws.proofs.ChainAt.{pushes, IsLast, Asks, push_tail, push_block, asking, installing, claiming, spending}
-use Rattle.chain_laws.proofs.ChainAnswers.{tail_word, tail_place, last_of, shut_tail, tail_items, tail_small, tail_is_resting, resting_word}
-use Rattle.chain_laws.proofs.ChainGood.{IsRefusal, Goes, Good, still, silent, spare_gives}
+use Rattle.chain_laws.proofs.ChainFacts.{open_tail_of, TailIs, TailBlockIs, HasSpare, SawTail, WasOpenAt}
+use Rattle.chain_laws.proofs.ChainAt.{IsLast, Asks, push_tail, push_block, asking, installing, claiming, spending}
+use Rattle.chain_laws.proofs.ChainAnswers.{tail_word, tail_place, last_of, tail_items, tail_small, tail_is_resting, resting_word}
+use Rattle.chain_laws.proofs.ChainGood.{Goes, Good, still, silent, spare_gives}
 
--- the replies of a push to a closed queue, and to an accepted item
-pub closed_push : {A : Type 0} (d : PushKind) (v : A) (m : State A) → m.closed ≡ true
-    → (y : Reply A) × (filled (closed_reply d) (Some v) ≡ Some y) × Tells (pushes d v) y [] × Tells (pushes d v) y (effect.SelfClose ∷ []) × IsRightAt m (pushes d v) y
-closed_push kind.Push v m e = (reply.Push (Err (push.Closed v)), refl, (refl, inr refl), (refl, inl refl), (refl, e))
-closed_push kind.Force v m e = (reply.ForcePush (Err (force.Closed v)), refl, (refl, inr refl), (refl, inl refl), (refl, e))
-
-pub pushed_push : {A : Type 0} (d : PushKind) (v : A) → (y : Reply A) × (filled (pushed_reply d) None ≡ Some y) × Tells (pushes d v) y (effect.Append v ∷ [])
-pushed_push kind.Push v = (reply.Push (Ok tt), refl, refl)
-pushed_push kind.Force v = (reply.ForcePush (Ok None), refl, refl)
-
-refused_push : {A : Type 0} (d : PushKind) (v : A) → (y : Reply A) × (filled (gives_up d) (Some v) ≡ Some y) × Tells (pushes d v) y [] × IsRefusal y
-refused_push kind.Push v = (reply.Push (Err (push.NoMemory v)), refl, (refl, refl), tt)
-refused_push kind.Force v = (reply.ForcePush (Err (force.NoMemory v)), refl, (refl, refl), tt)
+refused_push : {A : Type 0} (d : PushKind) (v : A) → (y : Reply A) × (filled (gives_up d) (Some v) ≡ Some y) × Tells (pushes d v) y [] × ((m : State A) → MayAsk m → LacksMemory m (pushes d v) y)
+refused_push kind.Push v = (reply.Push (Err (push.NoMemory v)), refl, (refl, refl), λ m may. (refl, may))
+refused_push kind.Force v = (reply.ForcePush (Err (force.NoMemory v)), refl, (refl, refl), λ m may. (refl, may))
 
 -- the ways on from a tail that a push found
 pub tail_ways : (d : PushKind) (x : ℕ) (spare : Option ℕ) (P : Next ℕ → Type 0)
@@ -75,7 +67,7 @@ pub tail_goes : {A : Type 0} (c : Chain A) (who : ℕ) (ms : List (State A)) (d 
     → ChainOk c → Holds c who Nothing → HasSpare c who spare → Goes c who (queue_of c ∷ ms) (chain_tail_found d (tail_word c) spare) (Some v) (pushes d v) []
 tail_goes {A} c who ms d v spare ok none spare_is =
     tail_ways d (tail_word c) spare (λ x. Goes c who (queue_of c ∷ ms) x (Some v) (pushes d v) [])
-    (λ shut. let y = closed_push d v (queue_of c) (sym is ∙ shut) in (none, spare_gives c who spare spare_is, (y.0, y.1, y.2, λ e. inl (inl y.4))))
+    (λ shut. let y = closed_push d v in (none, spare_gives c who spare spare_is, (y.0, y.1, y.2, λ e. inl (inl (y.4 (queue_of c) (sym is ∙ shut))))))
     (λ opened spent. spending d v spare none spare_is (let at = tail_items c ok in omega arith))
     (λ over. push_tail d v spare none spare_is)
     (λ opened ne inner.
@@ -149,7 +141,7 @@ pub good_refused : {A : Type 0} (c : Chain A) (who : ℕ) (ms : List (State A)) 
 good_refused {A} c who ms d v q block ok none saw asked =
     let y = refused_push d v in
     still c who ms (chain.Asking d (open_tail_of q) block) (Some v) (pushes d v) [] answer.Refused refl ok tt
-    (none, tt, (y.0, y.1, y.2, λ e. inr (seen_map ms (λ m was. inr (y.3, (was.0, was.1, allowed block asked m was))) saw.moment)))
+    (none, tt, (y.0, y.1, y.2, λ e. inr (seen_map ms (λ m was. inr (y.3 m (was.0, was.1, allowed block asked m was))) saw.moment)))
   where
     allowed : (block : Option ℕ) → Asks c q block → (m : State A) → WasOpenAt q m → (m.accepted ≡ 0) ⊎ (m.accepted % BLOCK_SLOTS ≡ BLOCK_SLOTS - 1)
     allowed None h m was = inl (was.2 ∙ h)

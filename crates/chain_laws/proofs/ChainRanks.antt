@@ -8,6 +8,7 @@ use Rattle.queue_steps.specs.declared.steps.types.Local.TheVariants as local
 use Rattle.queue_steps.specs.declared.steps.types.Next.{Next}
 use Rattle.queue_steps.specs.declared.steps.types.Next.TheVariants as next
 use Rattle.queue_steps.specs.declared.steps.unbounded.UnboundedLocal.TheVariants as chain
+use Rattle.queue_laws.proofs.Ranks.{either_small, either_some}
 use Rattle.chain_laws.proofs.ChainCells.{Mover, Rests, Laying, Opening, Passer, Stands, Passing, Entering, Shown, Seen, Chain, LAST, Part, owner, mover_of, passer_of, Holds, Nothing}
 use Rattle.chain_laws.proofs.ChainAnswers.{tail_word, head_word}
 
@@ -68,15 +69,6 @@ longest = BLOCK_SLOTS + 11
 
 lag_small : (now read more : ℕ) → lag now read more ≤ more
 lag_small now read more = elim (now == read) as (λ b. (if b then 0 else more) ≤ more) [ true ↦ omega arith | false ↦ omega arith ]
-
--- one of two numbers, by a test
-pub either_small : (b : Bool) (m n most : ℕ) → m ≤ most → n ≤ most → (if b then m else n) ≤ most
-either_small true m n most lm ln = lm
-either_small false m n most lm ln = ln
-
-pub either_some : (b : Bool) (m n : ℕ) → 0 < m → 0 < n → 0 < (if b then m else n)
-either_some true m n lm ln = lm
-either_some false m n lm ln = ln
 
 asking_small : {A : Type 0} (c : Chain A) (tail : ℕ) (block : Option ℕ) → asking_rank c tail block ≤ longest
 asking_small c tail None = let x = lag_small (tail_word c) tail 5 in either_small (c.blocks == 0) (8 + lag (tail_word c) tail 5) 13 longest (omega arith) (omega arith)

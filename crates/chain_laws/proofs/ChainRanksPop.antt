@@ -9,11 +9,12 @@ use Rattle.queue_steps.specs.UnboundedNext as steps
 use Rattle.queue_steps.specs.UnboundedNext.{chain_head_found, head_block_found, chain_pop_tail_found, takes, followed, written_found, is_last_slot}
 use Rattle.queue_steps.specs.declared.steps.bounded.TheConstants.{TAIL_STEP}
 use Rattle.queue_steps.specs.declared.steps.unbounded.TheConstants.{WRITE}
+use Rattle.queue_laws.proofs.Tails.{position_tail}
 use Rattle.chain_laws.proofs.ChainPlaces.{place, place_offset}
 use Rattle.chain_laws.proofs.ChainCells.{Writer, Free, Writing, Wrote, Reading, Rests, Stands, Passing, Link, Unlinked, Linking, Linked, Shown, Hidden, Showing, Seen, Chain, ItemOk, BlocksOk, LinkOk, FrontOk, ShownOk, ChainOk, Part, Head, linker_of, shower_of, writer_of, Holds}
 use Rattle.chain_laws.proofs.ChainTransitions.{no_block}
 use Rattle.chain_laws.proofs.ChainFacts.{head_of, HeadIs, IsMore}
-use Rattle.chain_laws.proofs.ChainAnswers.{tail_word, head_word, shown_of, linked_of, is_wrote, position_tail, resting_word, standing_word}
+use Rattle.chain_laws.proofs.ChainAnswers.{tail_word, head_word, shown_of, linked_of, is_wrote, resting_word, standing_word}
 use Rattle.chain_laws.proofs.ChainAfter.{taken_if}
 use Rattle.chain_laws.proofs.ChainPop.{head_low}
 use Rattle.chain_laws.proofs.ChainRanks.{lag, is_seen, tail_rank, Falls, lag_none, IsQuiet, unowned, stands_if}

@@ -9,10 +9,11 @@ use Rattle.queue_steps.specs.UnboundedNext.{chain_tail_found, tail_block_found, 
 use Rattle.queue_steps.specs.declared.steps.types.Local.TheVariants as local
 use Rattle.queue_steps.specs.declared.steps.bounded.PushKind.{PushKind}
 use Rattle.queue_steps.specs.declared.steps.unbounded.UnboundedLocal.TheVariants as chain
+use Rattle.queue_laws.proofs.Tails.{position_tail}
 use Rattle.chain_laws.proofs.ChainPlaces.{place, place_offset}
 use Rattle.chain_laws.proofs.ChainCells.{Rests, Spare, Chain, Part, Tail, Holds}
 use Rattle.chain_laws.proofs.ChainTransitions.{displayed, renamed}
-use Rattle.chain_laws.proofs.ChainAnswers.{tail_word, last_of, position_tail, resting_word}
+use Rattle.chain_laws.proofs.ChainAnswers.{tail_word, last_of, resting_word}
 use Rattle.chain_laws.proofs.ChainAfter.{if_installed, claimed_if}
 use Rattle.chain_laws.proofs.ChainPush.{tail_ways}
 use Rattle.chain_laws.proofs.ChainRanks.{lag, asking_rank, rank, Falls, lag_none, IsQuiet, unowned, rests_if}

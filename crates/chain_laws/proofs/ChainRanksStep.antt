@@ -1,8 +1,7 @@
 -- Each step of a call on a chain leaves fewer steps before it while no other party holds a part of the chain, and each step of a prompt call always.
-use Rattle.std.proofs.Common.{ℕ, ◌+◌, ◌/◌, ◌%◌, ◌<◌, ◌≤◌, ◌≡◌, ◌==◌, not, ◌∙◌, inl, inr, Option, List, refl, sym, ap, subst, arith, bit_and}
+use Rattle.std.proofs.Common.{true, ℕ, ◌+◌, ◌/◌, ◌%◌, ◌<◌, ◌≤◌, ◌≡◌, ◌==◌, not, ◌∙◌, inl, inr, Option, List, refl, sym, ap, subst, arith, bit_and}
 use Rattle.queue_steps.specs.declared.sizes.TheConstants.{BLOCK_SLOTS}
-use Rattle.queue_steps.specs.Kinds.{call_kind}
-use Rattle.queue_steps.specs.Prompt.{IsPrompt}
+use Rattle.queue_steps.specs.Prompt.{is_prompt}
 use Rattle.queue_steps.specs.State.{State}
 use Rattle.queue_steps.specs.ChainWords.{offset_of}
 use Rattle.queue_steps.specs.UnboundedNext.{unbounded_next}
@@ -12,13 +11,12 @@ use Rattle.queue_steps.specs.declared.steps.types.Answer.{Answer}
 use Rattle.queue_steps.specs.declared.steps.types.Local.{Local}
 use Rattle.queue_steps.specs.declared.steps.types.Op.{Op}
 use Rattle.queue_steps.specs.declared.steps.types.Touch.{Touch}
-use Rattle.queue_steps.specs.declared.steps.bounded.PushKind.{PushKind}
-use Rattle.queue_steps.specs.declared.steps.bounded.PushKind.TheVariants as kind
 use Rattle.queue_steps.specs.declared.steps.unbounded.TheConstants.{READ, DESTROY}
+use Rattle.queue_laws.proofs.Pushes.{never_push}
 use Rattle.chain_laws.proofs.ChainCells.{Reading, Unread, Chain, ChainOk, item_at, LAST, Write, Read, Head, Next, First, Passed, Nothing}
 use Rattle.chain_laws.proofs.ChainReads.{own_item}
 use Rattle.chain_laws.proofs.ChainFacts.{head_of, open_tail_of}
-use Rattle.chain_laws.proofs.ChainAt.{pushes, Only, Either, At, push_tail, push_block, asking, installing, showing, claiming, laying, opening, chaining, writing, spending, pop_head, pop_block, pop_tail, taking, following, peeking, passing, entering, awaiting, reading, beginning, walking, destroying, len_tail, len_head, len_again, empty_head, empty_tail, closing, closed_tail}
+use Rattle.chain_laws.proofs.ChainAt.{Only, Either, At, push_tail, push_block, asking, installing, showing, claiming, laying, opening, chaining, writing, spending, pop_head, pop_block, pop_tail, taking, following, peeking, passing, entering, awaiting, reading, beginning, walking, destroying, len_tail, len_head, len_again, empty_head, empty_tail, closing, closed_tail}
 use Rattle.chain_laws.proofs.ChainAnswers.{Answers, IsState, tail_word, is_wrote, head_offset}
 use Rattle.chain_laws.proofs.ChainAfter.{if_read, if_walked, if_begun, if_destroyed}
 use Rattle.chain_laws.proofs.ChainStep.{chain_of, after_of}
@@ -85,14 +83,9 @@ step_falls (empty_tail h none small saw) a ok found quiet = rw found tt
 step_falls (closing none) a ok found quiet = rw found tt
 step_falls (closed_tail none) a ok found quiet = rw found tt
 
--- no push is prompt
-never_push : {A : Type 0} (d : PushKind) (v : A) → IsPrompt (call_kind (pushes d v)) → ⊥
-never_push kind.Push v e = e
-never_push kind.Force v e = e
-
 -- each step of a prompt call leaves fewer steps before it, whoever holds a part
 pub prompt_falls : {A : Type 0} {c : Chain A} {who : ℕ} {ms : List (State A)} {l : Local ℕ} {t : Touch} {o : Op ℕ} {v : Option A} {k : Call A} {es : List (Effect A)} (at : At c who ms l t o v k es) (a : Answer ℕ)
-    → Answers c o a → IsPrompt (call_kind k) → Falls (after_of at a) (unbounded_next (chain_of l) a) (rank c l)
+    → Answers c o a → is_prompt k ≡ true → Falls (after_of at a) (unbounded_next (chain_of l) a) (rank c l)
 prompt_falls (push_tail d x spare none spare_is) a found prompt = absurd (never_push d x prompt)
 prompt_falls (push_block d x spare q none spare_is saw) a found prompt = absurd (never_push d x prompt)
 prompt_falls (asking d x q block none saw asked) a found prompt = absurd (never_push d x prompt)
@@ -104,22 +97,22 @@ prompt_falls (opening d x n name f holds mine opens links named) a found prompt 
 prompt_falls (chaining d x n name f holds mine links named) a found prompt = absurd (never_push d x prompt)
 prompt_falls (writing d x n name spare holds mine spare_is) a found prompt = absurd (never_push d x prompt)
 prompt_falls (spending d x spare none spare_is spent) a found prompt = absurd (never_push d x prompt)
-prompt_falls (pop_head none) a found prompt = absurd prompt
-prompt_falls (pop_block n more none is room) a found prompt = absurd prompt
-prompt_falls (pop_tail n block none is front) a found prompt = absurd prompt
-prompt_falls (taking n name next more new none is front there word_is room) a found prompt = absurd prompt
-prompt_falls (following x n name more holds got pass) a found prompt = absurd prompt
-prompt_falls (peeking x n name after more holds got pass behind) a found prompt = absurd prompt
-prompt_falls (passing x n name after more further holds got pass behind room) a found prompt = absurd prompt
-prompt_falls (entering x n name more further holds got enters room) a found prompt = absurd prompt
-prompt_falls (awaiting x n name more holds got) a found prompt = absurd prompt
-prompt_falls (reading x n name more holds got wrote inner) a found prompt = absurd prompt
-prompt_falls (beginning x n name more holds got wrote last) a found prompt = absurd prompt
-prompt_falls (walking x b name slot holds is named) a found prompt = absurd prompt
-prompt_falls (destroying x b name slot holds is named) a found prompt = absurd prompt
-prompt_falls (len_tail none) a found prompt = absurd prompt
-prompt_falls (len_head w none small low) a found prompt = absurd prompt
-prompt_falls (len_again w h none small seen) a found prompt = absurd prompt
+prompt_falls (pop_head none) a found prompt = cc
+prompt_falls (pop_block n more none is room) a found prompt = cc
+prompt_falls (pop_tail n block none is front) a found prompt = cc
+prompt_falls (taking n name next more new none is front there word_is room) a found prompt = cc
+prompt_falls (following x n name more holds got pass) a found prompt = cc
+prompt_falls (peeking x n name after more holds got pass behind) a found prompt = cc
+prompt_falls (passing x n name after more further holds got pass behind room) a found prompt = cc
+prompt_falls (entering x n name more further holds got enters room) a found prompt = cc
+prompt_falls (awaiting x n name more holds got) a found prompt = cc
+prompt_falls (reading x n name more holds got wrote inner) a found prompt = cc
+prompt_falls (beginning x n name more holds got wrote last) a found prompt = cc
+prompt_falls (walking x b name slot holds is named) a found prompt = cc
+prompt_falls (destroying x b name slot holds is named) a found prompt = cc
+prompt_falls (len_tail none) a found prompt = cc
+prompt_falls (len_head w none small low) a found prompt = cc
+prompt_falls (len_again w h none small seen) a found prompt = cc
 prompt_falls (empty_head none) a found prompt = rw found (omega arith)
 prompt_falls (empty_tail h none small saw) a found prompt = rw found tt
 prompt_falls (closing none) a found prompt = rw found tt
@@ -127,7 +120,7 @@ prompt_falls (closed_tail none) a found prompt = rw found tt
 
 -- a prompt call has two steps before it at most, whatever the chain
 pub prompt_small : {A : Type 0} {c : Chain A} {who : ℕ} {ms : List (State A)} {l : Local ℕ} {t : Touch} {o : Op ℕ} {v : Option A} {k : Call A} {es : List (Effect A)} (s : Chain A)
-    → At c who ms l t o v k es → IsPrompt (call_kind k) → (rank s l ≤ 2) × (rank s l ≡ rank c l)
+    → At c who ms l t o v k es → is_prompt k ≡ true → (rank s l ≤ 2) × (rank s l ≡ rank c l)
 prompt_small s (push_tail d x spare none spare_is) prompt = absurd (never_push d x prompt)
 prompt_small s (push_block d x spare q none spare_is saw) prompt = absurd (never_push d x prompt)
 prompt_small s (asking d x q block none saw asked) prompt = absurd (never_push d x prompt)
@@ -139,22 +132,22 @@ prompt_small s (opening d x n name f holds mine opens links named) prompt = absu
 prompt_small s (chaining d x n name f holds mine links named) prompt = absurd (never_push d x prompt)
 prompt_small s (writing d x n name spare holds mine spare_is) prompt = absurd (never_push d x prompt)
 prompt_small s (spending d x spare none spare_is spent) prompt = absurd (never_push d x prompt)
-prompt_small s (pop_head none) prompt = absurd prompt
-prompt_small s (pop_block n more none is room) prompt = absurd prompt
-prompt_small s (pop_tail n block none is front) prompt = absurd prompt
-prompt_small s (taking n name next more new none is front there word_is room) prompt = absurd prompt
-prompt_small s (following x n name more holds got pass) prompt = absurd prompt
-prompt_small s (peeking x n name after more holds got pass behind) prompt = absurd prompt
-prompt_small s (passing x n name after more further holds got pass behind room) prompt = absurd prompt
-prompt_small s (entering x n name more further holds got enters room) prompt = absurd prompt
-prompt_small s (awaiting x n name more holds got) prompt = absurd prompt
-prompt_small s (reading x n name more holds got wrote inner) prompt = absurd prompt
-prompt_small s (beginning x n name more holds got wrote last) prompt = absurd prompt
-prompt_small s (walking x b name slot holds is named) prompt = absurd prompt
-prompt_small s (destroying x b name slot holds is named) prompt = absurd prompt
-prompt_small s (len_tail none) prompt = absurd prompt
-prompt_small s (len_head w none small low) prompt = absurd prompt
-prompt_small s (len_again w h none small seen) prompt = absurd prompt
+prompt_small s (pop_head none) prompt = cc
+prompt_small s (pop_block n more none is room) prompt = cc
+prompt_small s (pop_tail n block none is front) prompt = cc
+prompt_small s (taking n name next more new none is front there word_is room) prompt = cc
+prompt_small s (following x n name more holds got pass) prompt = cc
+prompt_small s (peeking x n name after more holds got pass behind) prompt = cc
+prompt_small s (passing x n name after more further holds got pass behind room) prompt = cc
+prompt_small s (entering x n name more further holds got enters room) prompt = cc
+prompt_small s (awaiting x n name more holds got) prompt = cc
+prompt_small s (reading x n name more holds got wrote inner) prompt = cc
+prompt_small s (beginning x n name more holds got wrote last) prompt = cc
+prompt_small s (walking x b name slot holds is named) prompt = cc
+prompt_small s (destroying x b name slot holds is named) prompt = cc
+prompt_small s (len_tail none) prompt = cc
+prompt_small s (len_head w none small low) prompt = cc
+prompt_small s (len_again w h none small seen) prompt = cc
 prompt_small s (empty_head none) prompt = (omega arith, refl)
 prompt_small s (empty_tail h none small saw) prompt = (omega arith, refl)
 prompt_small s (closing none) prompt = (omega arith, refl)

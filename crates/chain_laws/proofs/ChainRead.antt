@@ -9,7 +9,7 @@ use Rattle.queue_steps.specs.declared.steps.types.Answer.TheVariants as answer
 use Rattle.queue_steps.specs.declared.steps.unbounded.UnboundedLocal.TheVariants as chain
 use Rattle.chain_laws.proofs.ChainGood.{Goes, Good, still, silent}
 use Rattle.std.proofs.Common.{ℕ, ◌+◌, ◌/◌, ◌%◌, ◌<◌, ◌≡◌, ◌≢◌, ◌==◌, not, ◌∙◌, ◌⊎◌, inl, inr, Bool, true, false, if◌then◌else◌, Some, None, Ok, List, [], ◌∷◌, refl, sym, ap, subst, arith, bit_and}
-use Rattle.chain_laws.proofs.ChainCells.{Writer, Free, Writing, Wrote, Reading, Done, Walk, Before, Walker, Waits, GivenUp, Chain, queue_of, value, WalkOk, item_at, LAST, ChainOk, put, put_ok, put_same, Read, Passed, walker_of, Holds}
+use Rattle.chain_laws.proofs.ChainCells.{Writer, Free, Writing, Wrote, Reading, Done, Walk, Before, Walker, Waits, GivenUp, Chain, queue_of, value, WalkOk, item_at, LAST, ChainOk, Read, Passed, walker_of, Holds}
 use Rattle.chain_laws.proofs.ChainReads as moves
 use Rattle.chain_laws.proofs.ChainReads.{read_ok, walk_read, own_item, walk_after, walk_after_ok, walked_same}
 use Rattle.chain_laws.proofs.ChainPassesReads.{passes_reads}
@@ -18,6 +18,7 @@ use Rattle.chain_laws.proofs.ChainAfter.{if_read}
 use Rattle.chain_laws.proofs.ChainHolds.{after_read, after_read_on}
 use Rattle.queue_steps.specs.UnboundedNext.{written_found}
 use Rattle.queue_steps.specs.ChainWords.{offset_of}
+use Rattle.queue_laws.proofs.Puts.{put, put_ok, put_same}
 use Rattle.chain_laws.proofs.ChainFacts.{head_of, Got}
 use Rattle.chain_laws.proofs.ChainAt.{Only, IsLast, awaiting, reading, beginning}
 use Rattle.chain_laws.proofs.ChainAnswers.{is_wrote, waits_at, head_offset}

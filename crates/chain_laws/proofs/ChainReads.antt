@@ -1,25 +1,12 @@
 -- The steps of pops that change a chain: each keeps the chain right, and its effect fits.
-use Rattle.std.proofs.Common.{ℕ, ◌+◌, ◌-◌, ◌*◌, ◌/◌, ◌%◌, ◌<◌, ◌≤◌, ◌≡◌, ◌≢◌, ◌==◌, ◌∙◌, inl, inr, suc, Bool, true, if◌then◌else◌, Some, List, [], ◌∷◌, length, refl, sym, ap, subst, arith, slice_get}
+use Rattle.std.proofs.Common.{ℕ, ◌+◌, ◌-◌, ◌*◌, ◌/◌, ◌%◌, ◌<◌, ◌≤◌, ◌≡◌, ◌≢◌, ◌==◌, ◌∙◌, inl, inr, Bool, true, if◌then◌else◌, Some, List, refl, sym, ap, subst, arith, slice_get}
 use Rattle.std.proofs.lemmas.Bool.Decides.{eqb_tells}
 use Rattle.queue_steps.specs.declared.sizes.TheConstants.{BLOCK_SLOTS}
 use Rattle.queue_steps.specs.declared.model.Effect.TheVariants as effect
 use Rattle.queue_steps.specs.Effect.{Fits, rest}
-use Rattle.chain_laws.proofs.ChainCells.{Writer, Free, Writing, Wrote, Reader, Unread, Reading, Done, Passer, Stands, Passing, Entering, Linking, Linked, Shown, Hidden, Showing, Seen, Walk, Before, Walker, Waits, GivenUp, Chain, queue_of, value, ItemOk, LinkOk, FrontOk, ShownOk, WalkOk, IsWalked, item_at, LAST, ChainOk, put, put_ok}
-
--- the item behind the front
-pub behind : {X : Type 0} (xs : List X) (n head : ℕ) (v : X) → head < n → slice_get xs (n - head) ≡ Some v → slice_get (rest xs) (n - (head + 1)) ≡ Some v
-behind [] n head v lt e = cc
-behind (x ∷ xs) n head v lt e =
-    let at : n - head ≡ suc (n - (head + 1)) = omega arith in
-    rw at at e
-
-pub first : {X : Type 0} (xs : List X) (x : X) → slice_get xs 0 ≡ Some x → (others : List X) × (xs ≡ x ∷ others)
-first [] x e = cc
-first (y ∷ xs) x e = (xs, (cc))
-
-pub length-rest : {X : Type 0} (xs : List X) (x : X) → slice_get xs 0 ≡ Some x → length (rest xs) + 1 ≡ length xs
-length-rest [] x e = cc
-length-rest (y ∷ xs) x e = omega arith
+use Rattle.queue_laws.proofs.Puts.{put, put_ok}
+use Rattle.queue_laws.proofs.Lists.{behind, first, length-rest}
+use Rattle.chain_laws.proofs.ChainCells.{Writer, Free, Writing, Wrote, Reader, Unread, Reading, Done, Passer, Stands, Passing, Entering, Linking, Linked, Shown, Hidden, Showing, Seen, Walk, Before, Walker, Waits, GivenUp, Chain, queue_of, value, ItemOk, LinkOk, FrontOk, ShownOk, WalkOk, IsWalked, item_at, LAST, ChainOk}
 
 -- an item that is in the list: nobody reads it, and it is the one at its place
 pub in_list : {A : Type 0} (head tail : ℕ) (items : List A) (n : ℕ) (w : Writer A) (r : Reader) → head ≤ n → n < tail → ItemOk head tail items n w r

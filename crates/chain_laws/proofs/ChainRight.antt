@@ -2,7 +2,7 @@
 use Rattle.std.proofs.Common.{ℕ, ◌≡◌, Option, Some, None, List, [], ◌∷◌}
 use Rattle.queue_steps.specs.State.{State}
 use Rattle.queue_steps.specs.Kinds.{filled}
-use Rattle.queue_steps.specs.Replies.{Tells}
+use Rattle.queue_steps.specs.Replies.{Tells, Allows}
 use Rattle.queue_steps.specs.UnboundedNext.{FitsChain, unbounded_next}
 use Rattle.queue_steps.specs.declared.model.Call.{Call}
 use Rattle.queue_steps.specs.declared.model.Reply.{Reply}
@@ -14,12 +14,13 @@ use Rattle.queue_steps.specs.declared.steps.types.Next.TheVariants as next
 use Rattle.queue_steps.specs.declared.steps.types.Op.{Op}
 use Rattle.queue_steps.specs.declared.steps.types.Touch.{Touch}
 use Rattle.queue_steps.specs.declared.steps.unbounded.UnboundedLocal.{UnboundedLocal}
+use Rattle.queue_laws.proofs.Moments.{SeenIn}
+use Rattle.queue_laws.proofs.Effects.{Leads, with_effect}
 use Rattle.chain_laws.proofs.ChainCells.{Chain, queue_of, ChainOk, Holds, Nothing}
 use Rattle.chain_laws.proofs.ChainPasses.{Passes}
-use Rattle.chain_laws.proofs.ChainFacts.{SeenIn}
 use Rattle.chain_laws.proofs.ChainAt.{At}
 use Rattle.chain_laws.proofs.ChainAnswers.{Answers}
-use Rattle.chain_laws.proofs.ChainGood.{Allows, GivesUp, Goes, IsEffect, Makes, with_effect}
+use Rattle.chain_laws.proofs.ChainGood.{GivesUp, Goes, IsEffect}
 use Rattle.chain_laws.proofs.ChainStep.{chain_of, carried_of, after_of, step_good}
 use Rattle.chain_laws.proofs.ChainGiven.{spare_in, Spares, given_up, given_ok, passes_given, makes_given, holds_given}
 use Rattle.chain_laws.proofs.ChainSpares.{SparesAfter, step_spares}
@@ -46,7 +47,7 @@ pub record Right {A : Type 0} (c r : Chain A) (who : ℕ) (ms : List (State A)) 
   pub goes_on : FitsChain l a
   pub gives : Gives r who (unbounded_next l a)
   pub ok : ChainOk (left_by r (unbounded_next l a))
-  pub makes : Makes c (left_by r (unbounded_next l a)) e
+  pub makes : Leads (queue_of c) e (queue_of (left_by r (unbounded_next l a)))
   pub passes : Passes who c (left_by r (unbounded_next l a))
   pub ends : Ends (left_by r (unbounded_next l a)) who (queue_of (left_by r (unbounded_next l a)) ∷ ms) (unbounded_next l a) v k (with_effect es e)
 
@@ -58,7 +59,7 @@ left_ok : {A : Type 0} (r : Chain A) (n : Next ℕ) → ChainOk r → ChainOk (l
 left_ok r (next.Step l t o) ok = ok
 left_ok r (next.Reply x spare) ok = given_ok r spare ok
 
-left_makes : {A : Type 0} (c r : Chain A) (n : Next ℕ) (e : Option (Effect A)) → Makes c r e → Makes c (left_by r n) e
+left_makes : {A : Type 0} (c r : Chain A) (n : Next ℕ) (e : Option (Effect A)) → Leads (queue_of c) e (queue_of r) → Leads (queue_of c) e (queue_of (left_by r n))
 left_makes c r (next.Step l t o) e h = h
 left_makes c r (next.Reply x spare) e h = makes_given c r spare e h
 

@@ -4,7 +4,8 @@ use Rattle.queue_steps.specs.declared.sizes.TheConstants.{BLOCK_SLOTS}
 use Rattle.queue_steps.specs.Sole.{blocks_of}
 use Rattle.queue_steps.specs.Words.{position_of}
 use Rattle.queue_steps.specs.ChainWords.{items_before}
-use Rattle.chain_laws.proofs.ChainCells.{Writer, Free, Writing, Wrote, Reader, Unread, Reading, Done, Mover, Rests, Laying, Opening, Walk, Before, Walker, Waits, GivenUp, Use, Spare, Chained, Chain, queue_of, ItemOk, BlocksOk, WalkOk, item_at, LAST, ChainOk, put, put_ok}
+use Rattle.queue_laws.proofs.Puts.{put, put_ok}
+use Rattle.chain_laws.proofs.ChainCells.{Writer, Free, Writing, Wrote, Reader, Unread, Reading, Done, Mover, Rests, Laying, Opening, Walk, Before, Walker, Waits, GivenUp, Use, Spare, Chained, Chain, queue_of, ItemOk, BlocksOk, WalkOk, item_at, LAST, ChainOk}
 use Rattle.chain_laws.proofs.ChainAnswers.{tail_word, head_word, tail_items, head_items}
 use Rattle.chain_laws.proofs.ChainHands.{HandOf, hand_is}
 use Rattle.chain_laws.proofs.ChainCount.{is_given_up, is_alive, alive}

@@ -17,15 +17,18 @@ use Rattle.queue_steps.specs.declared.steps.types.Touch.{Touch}
 use Rattle.queue_steps.specs.declared.steps.bounded.PushKind.{PushKind}
 use Rattle.queue_steps.specs.declared.steps.bounded.PushKind.TheVariants as kind
 use Rattle.queue_steps.specs.declared.steps.unbounded.UnboundedLocal.TheVariants as chain
-use Rattle.chain_laws.proofs.ChainCells.{Spare, Chained, Chain, queue_of, item_at, ChainOk, put_ok}
+use Rattle.queue_laws.proofs.Puts.{put_ok}
+use Rattle.queue_laws.proofs.Effects.{with_effect}
+use Rattle.queue_laws.proofs.Pushes.{pushes}
+use Rattle.chain_laws.proofs.ChainCells.{Spare, Chained, Chain, queue_of, item_at, ChainOk}
 use Rattle.chain_laws.proofs.ChainTransitions.{laid_out, written, marked, renamed}
 use Rattle.chain_laws.proofs.ChainReads.{walk_after, walked}
 use Rattle.chain_laws.proofs.ChainFacts.{head_of, open_tail_of, HasSpare}
-use Rattle.chain_laws.proofs.ChainAt.{pushes, At, push_tail, push_block, asking, installing, showing, claiming, laying, opening, chaining, writing, spending, taking, walking}
+use Rattle.chain_laws.proofs.ChainAt.{At, push_tail, push_block, asking, installing, showing, claiming, laying, opening, chaining, writing, spending, taking, walking}
 use Rattle.chain_laws.proofs.ChainAnswers.{Answers, tail_word, head_word, last_of, is_done}
 use Rattle.chain_laws.proofs.ChainAfter.{if_installed, claimed_if, if_claimed, taken_if}
 use Rattle.chain_laws.proofs.ChainPush.{tail_ways, none_spare}
-use Rattle.chain_laws.proofs.ChainGood.{Goes, with_effect}
+use Rattle.chain_laws.proofs.ChainGood.{Goes}
 use Rattle.chain_laws.proofs.ChainGiven.{spare_in, Spares, given_up, spares_given, none_given}
 use Rattle.chain_laws.proofs.ChainStep.{chain_of, carried_of, if_granted, after_of, step_good}
 

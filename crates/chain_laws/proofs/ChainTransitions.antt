@@ -1,21 +1,12 @@
 -- The steps of pushes and of closes that change a chain: each keeps the chain right, and its effect fits.
-use Rattle.std.proofs.Common.{ℕ, ◌+◌, ◌-◌, ◌%◌, ◌<◌, ◌≤◌, ◌≡◌, ◌≢◌, ◌∙◌, inl, inr, zero, suc, Bool, true, false, Some, List, [], ◌∷◌, ◌++◌, length, refl, sym, ap, subst, arith, slice_get}
+use Rattle.std.proofs.Common.{ℕ, ◌+◌, ◌-◌, ◌%◌, ◌<◌, ◌≤◌, ◌≡◌, ◌≢◌, ◌∙◌, inl, inr, Bool, true, false, List, [], ◌∷◌, ◌++◌, refl, sym, ap, subst, arith}
 use Rattle.std.proofs.lemmas.List.{length-append}
 use Rattle.queue_steps.specs.declared.sizes.TheConstants.{LIMIT, BLOCK_SLOTS}
 use Rattle.queue_steps.specs.declared.model.Effect.TheVariants as effect
 use Rattle.queue_steps.specs.Effect.{Fits}
-use Rattle.chain_laws.proofs.ChainCells.{Writer, Free, Writing, Wrote, Reader, Unread, Reading, Done, Mover, Rests, Laying, Opening, Passer, Stands, Link, Unlinked, Linking, Linked, Shown, Hidden, Showing, Seen, Use, Spare, Chained, Chain, queue_of, ItemOk, BlocksOk, LinkOk, ShownOk, ChainOk, put, put_ok, put_same, put_other}
-
-pub front_stays : {X : Type 0} (xs : List X) (y : X) (k : ℕ) (v : X) → slice_get xs k ≡ Some v → slice_get (xs ++ y ∷ []) k ≡ Some v
-front_stays [] y k v e = cc
-front_stays (x ∷ xs) y zero v e = e
-front_stays (x ∷ xs) y (suc k) v e = front_stays xs y k v e
-
-pub last_is : {X : Type 0} (xs : List X) (y : X) (k : ℕ) → k ≡ length xs → slice_get (xs ++ y ∷ []) k ≡ Some y
-last_is [] y zero e = refl
-last_is [] y (suc k) e = absurd (omega arith)
-last_is (x ∷ xs) y zero e = absurd (omega arith)
-last_is (x ∷ xs) y (suc k) e = last_is xs y k (omega arith)
+use Rattle.queue_laws.proofs.Puts.{put, put_ok, put_same, put_other}
+use Rattle.queue_laws.proofs.Lists.{front_stays, last_is}
+use Rattle.chain_laws.proofs.ChainCells.{Writer, Free, Writing, Wrote, Reader, Unread, Reading, Done, Mover, Rests, Laying, Opening, Passer, Stands, Link, Unlinked, Linking, Linked, Shown, Hidden, Showing, Seen, Use, Spare, Chained, Chain, queue_of, ItemOk, BlocksOk, LinkOk, ShownOk, ChainOk}
 
 -- the places of items beyond the tail are free
 fresh_item : {A : Type 0} (head tail : ℕ) (items : List A) (n : ℕ) (w : Writer A) (r : Reader) → head ≤ tail → tail ≤ n → ItemOk head tail items n w r → (w ≡ Free) × (r ≡ Unread)

@@ -10,7 +10,7 @@ use Rattle.queue_steps.specs.declared.steps.unbounded.UnboundedLocal.TheVariants
 use Rattle.chain_laws.proofs.ChainGood.{Goes, Good, still, silent}
 use Rattle.std.proofs.Common.{ℕ, ◌+◌, ◌<◌, ◌≡◌, ◌≢◌, not, ◌∙◌, ◌⊎◌, inl, inr, Bool, true, false, if◌then◌else◌, Some, None, Ok, List, [], ◌∷◌, refl, sym, ap, subst, arith}
 use Rattle.queue_steps.specs.UnboundedNext.{walks_on}
-use Rattle.chain_laws.proofs.ChainCells.{Reader, Unread, Reading, Done, Walker, Waits, GivenUp, Chain, queue_of, WalkOk, IsWalked, item_at, LAST, ChainOk, put_same, Passed, walker_of, Holds, Nothing}
+use Rattle.chain_laws.proofs.ChainCells.{Reader, Unread, Reading, Done, Walker, Waits, GivenUp, Chain, queue_of, WalkOk, IsWalked, item_at, LAST, ChainOk, Passed, walker_of, Holds, Nothing}
 use Rattle.chain_laws.proofs.ChainReads as moves
 use Rattle.chain_laws.proofs.ChainReads.{read_ok, walk_read, own_item, walk_after, walk_after_ok, walk_ok, walked_same}
 use Rattle.chain_laws.proofs.ChainPassesReads.{passes_walked}
@@ -20,6 +20,7 @@ use Rattle.chain_laws.proofs.ChainAnswers.{done_is, IsState, is_done}
 use Rattle.chain_laws.proofs.ChainAfter.{if_walked, if_destroyed}
 use Rattle.chain_laws.proofs.ChainHolds.{after_walk, after_walk_on}
 use Rattle.std.proofs.lemmas.Bool.{lt-ltb, le-ltb}
+use Rattle.queue_laws.proofs.Puts.{put_same}
 
 -- whose the walk is after a slot
 pub after_walker : (who slot : ℕ) → ((walk_after who slot ≡ GivenUp) × (slot + 1 ≡ LAST)) ⊎ ((walk_after who slot ≡ Walker who (slot + 1)) × (slot + 1 ≢ LAST))

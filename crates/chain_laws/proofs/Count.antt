@@ -1,7 +1,7 @@
 -- How many of the first numbers have a property, and that a map with a way back leads to as many.
 use Rattle.std.proofs.Common.{ℕ, ◌+◌, ◌<◌, ◌≤◌, ◌≡◌, ◌∙◌, ◌⊎◌, inl, inr, zero, suc, Bool, true, false, refl, sym, ap, arith}
 use Rattle.std.proofs.lemmas.Bool.Decides.{eqb_tells}
-use Rattle.chain_laws.proofs.ChainCells.{put, put_same, put_other}
+use Rattle.queue_laws.proofs.Puts.{put, put_same, put_other}
 
 -- one, where it is so
 abbrev pub one_if : Bool → ℕ

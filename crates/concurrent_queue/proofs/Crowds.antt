@@ -6,16 +6,16 @@ use mathlib.Core.List.{map-append}
 use lib.ListN.{get_elem?}
 use lib.Seq.{map-set}
 use mathlib.Core.Logic.{dite}
-use native.Mathlib.Decide.{ℕ_discrete, dec_le}
+use native.Mathlib.Decide.{dec_le}
 use native.Mathlib.Nat.{add-mod_right}
 use Rattle.atomic_table.specs.Table.{step, keeps, Allows, Splits, Joins}
 use Rattle.atomic_table.proofs.Lists.{at_set, at_snoc, at_map, set_again, set_else, at_longer}
 use Rattle.queue_steps.specs.declared.sizes.TheConstants.{MAX_PARTIES}
 use Rattle.concurrent_queue.specs.declared.known.Known.{Known}
 use Rattle.concurrent_queue.specs.declared.known.Doing.{Doing}
-use Rattle.concurrent_queue.specs.Known.{party, nobody, looked, granted, refused, withdrawn, united, one_of, other_of, pair_of, alone, Kept}
+use Rattle.concurrent_queue.specs.Known.{party, nobody, looked, granted, refused, withdrawn, united, one_of, other_of, pair_of, Kept}
 use Rattle.concurrent_queue.specs.Seats.{Table, Seated, is_busy, known_by, idle, empty_seat, count_of, OnlyViews, KeepsParties, Entered, Withdrew, United, LookedOn, Counted, first_part, second_part, both_parts}
-use Rattle.concurrent_queue.proofs.Keeping.{few, grants, refuses, withdraws, unites, finds_alone, looks, parts_apart, spawns, pairs_up}
+use Rattle.concurrent_queue.proofs.Keeping.{few, grants, refuses, withdraws, unites, one_entire, entire_one, looks, parts_apart, spawns, pairs_up}
 
 down : (n : ℕ) → 0 < n → n < 2 ^ 64 → (n + (2 ^ 64 - 1)) % 2 ^ 64 ≡ n - 1
 down n pos low = ap (λ (z : ℕ). z % 2 ^ 64) (let e : n + (2 ^ 64 - 1) ≡ n - 1 + 2 ^ 64 = omega arith in e) ∙ (add-mod_right (n - 1) (2 ^ 64) ∙ mod-eq_of_lt (let g : n - 1 < 2 ^ 64 = omega arith in g))
@@ -66,7 +66,7 @@ module _ (T : Type 0) (Rule : Table T → Type 0) (law : KeepsParties Rule) wher
         keeps,
         tt,
         recounts s r id ((y + 1) % 2 ^ 64) me.0 v at rests (subst (λ (z : ℕ). Kept k.cap k.history z (set vs id v)) (sym up) (refuses T k.cap k.history y vs id me.0.known k.kept at' one none)),
-        ((λ less. absurd (omega arith)), λ _. refl),
+        ((λ less. absurd (omega arith)), λ _. (refl, λ entire. absurd (omega (arith, entire_one T k.cap k.history y vs id me.0.known k.kept at' one none entire)))),
       ))
       (λ room. let v = granted me.0.known in (
         idle v,
@@ -111,23 +111,17 @@ module _ (T : Type 0) (Rule : Table T → Type 0) (law : KeepsParties Rule) wher
 
   pub counts_one : (n id : ℕ) (me : Seated T) → is_busy me.0.work ≡ false → me.0 ≡ idle me.0.known → me.0.known.parts ≡ 1 → me.0.known.extra ≡ 0 → Allows Rule n id me 0 (λ y. y) (Counted (step n 0 0 0 maybe.none) me)
   counts_one n id me rests is_idle one none s r wide at fits =
-      let y : ℕ = count_of s in let vs : List (Known T) = map known_by s.views in let at' = at_map known_by s.views id me.0 at in let k = (law s r).0 in
-      dite (ℕ_discrete y 1)
-      (λ is. let v = alone k.history me.0.known in
-      let w = finds_alone T k.cap k.history vs id me.0.known (subst (λ (z : ℕ). Kept k.cap k.history z vs) is k.kept) at' one none in (
-        idle v,
-        keeps,
-        tt,
-        recounts s r id y me.0 v at rests (subst (λ (z : ℕ). Kept k.cap k.history z (set vs id v)) (sym is) w.0),
-        ((λ _. (k.history, refl, w.1)), λ other. absurd (other is)),
-      ))
-      (λ other. (
+      let y : ℕ = count_of s in let vs : List (Known T) = map known_by s.views in let at' = at_map known_by s.views id me.0 at in let k = (law s r).0 in (
         idle me.0.known,
         keeps,
         tt,
         recounts s r id y me.0 me.0.known at rests (subst (Kept k.cap k.history y) (sym (set_again vs id me.0.known at')) k.kept),
-        ((λ is. absurd (other is)), λ _. λ i. (sym is_idle i, me.1)),
-      ))
+        (
+          λ i. (sym is_idle i, me.1),
+          (λ is. one_entire T k.cap k.history vs id me.0.known (subst (λ (z : ℕ). Kept k.cap k.history z vs) is k.kept) at' one none),
+          λ other entire. absurd (other (entire_one T k.cap k.history y vs id me.0.known k.kept at' one none entire)),
+        ),
+      )
 
   -- a seat that is at nothing becomes two
   divides : (s : Table T) (r : Rule s) (id : ℕ) (v : Doing T) (l q : Known T) → get_elem? s.views id ≡ some v → is_busy v.work ≡ false
@@ -148,13 +142,13 @@ module _ (T : Type 0) (Rule : Table T → Type 0) (law : KeepsParties Rule) wher
   splits_apart id v rests two none s r at = let k = (law s r).0 in
       divides s r id v (one_of v.known) (other_of v.known) at rests (parts_apart T k.cap k.history (count_of s) (map known_by s.views) id v.known k.kept (at_map known_by s.views id v at) two none)
 
-  pub splits_off : (id : ℕ) (v : Doing T) → v ≡ idle v.known → 0 < v.known.parts → v.known.sole ≡ false → Splits Rule id v v empty_seat
-  splits_off id v is_idle counts many s r at = let k = (law s r).0 in
+  pub splits_off : (id : ℕ) (v : Doing T) → v ≡ idle v.known → Splits Rule id v v empty_seat
+  splits_off id v is_idle s r at = let k = (law s r).0 in
       subst (λ (z : Doing T). Rule record { words = s.words; homes = s.homes; views = set s.views id z ++ empty_seat ∷ [] }) (sym is_idle)
-      (divides s r id v v.known (nobody None) at (ap (λ (d : Doing T). is_busy d.work) is_idle) (spawns T k.cap None k.history (count_of s) (map known_by s.views) id v.known k.kept (at_map known_by s.views id v at) counts many))
+      (divides s r id v v.known (nobody None) at (ap (λ (d : Doing T). is_busy d.work) is_idle) (spawns T k.cap None k.history (count_of s) (map known_by s.views) id v.known k.kept (at_map known_by s.views id v at)))
 
   -- two seats that are at nothing become one
-  pub joins_up : (id : ℕ) (v : Doing T) (other : ℕ) (w : Doing T) → is_busy v.work ≡ false → is_busy w.work ≡ false → v.known ≡ party v.known.cap v.known.seen v.known.mine → w.known ≡ party w.known.cap w.known.seen w.known.mine
+  pub joins_up : (id : ℕ) (v : Doing T) (other : ℕ) (w : Doing T) → is_busy v.work ≡ false → is_busy w.work ≡ false → v.known ≡ party v.known.cap v.known.seen v.known.mine v.known.share → w.known ≡ party w.known.cap w.known.seen w.known.mine w.known.share
       → Joins Rule id v other w (both_parts v w) empty_seat
   joins_up id v other w rests rests' is_v is_w s r at two at' =
       let b : Doing T = both_parts v w in let vs : List (Doing T) = set s.views id b in let ks : List (Known T) = map known_by s.views in let l = law s r in

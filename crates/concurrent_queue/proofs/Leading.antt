@@ -16,7 +16,7 @@ use Rattle.queue_steps.specs.Prompt.{EndsBefore, EndsPromptly}
 use Rattle.queue_steps.specs.Kinds.{call_kind, call_value, filled}
 use Rattle.concurrent_queue.specs.Turns.{Leads, Begins}
 
-module _ {T B M S : Type 0} (can : M → S → Touch → Op B → Option T → Type 0) (does : M → S → Touch → Op B → Option T → Answer B → S → Option T → Type 0)
+module _ {T B M S : Type 0} (can : M → S → Call Unit → Local B → Touch → Op B → Option T → Type 0) (does : M → S → Call Unit → Local B → Touch → Op B → Option T → Answer B → S → Option T → Type 0)
     (stands : M → S → Call T → Local B → Answer B → S → Option T → Type 0) (ended : M → S → Call T → Reply T → S → Type 0) where
   -- where a call begins
   pub begins-first : (k kind : Kind) (m : M) (s : S) (c : Call T) (local : Local B) (parts : Call Unit × Option T)
@@ -31,7 +31,7 @@ module _ {T B M S : Type 0} (can : M → S → Touch → Op B → Option T → T
 
   -- a step
   pub leads-step : (k : Kind) (m : M) (first : S) (c : Call T) (from : Local B) (found : Answer B) {made : Next B} (l : Local B) (t : Touch) (o : Op B) (s : S) (x : Option T) → made ≡ next_of k from found → made ≡ next.Step l t o → Leads can does stands ended m first c (next_of k from found) s x
-      → can m s t o x × ((a : Answer B) (after : S) (left : Option T) → does m s t o x a after left → stands m first c l a after left)
+      → can m s (call_kind c) l t o x × ((a : Answer B) (after : S) (left : Option T) → does m s (call_kind c) l t o x a after left → stands m first c l a after left)
   leads-step k m first c from found l t o s x made is h = subst (λ (z : Next B). Leads can does stands ended m first c z s x) (sym made ∙ is) h
 
   -- the reply

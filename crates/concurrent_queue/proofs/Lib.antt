@@ -7,12 +7,27 @@ pub mod Linked
 pub mod Layings
 pub mod LineBegins
 pub mod Pops
+mod Soundness
 mod Totals
 mod Keeping
 mod Leading
+mod Alone
+mod Answered
 mod Crowds
 mod Meetings
+mod FirstParty
+mod Persons
 mod SlotRule
 mod Views
 mod SlotOperations
 mod SlotEnding
+pub mod KeptWords
+mod Callings
+mod Owns
+mod TableSteps
+mod RingAllows
+mod RingOperations
+mod RingTouches
+mod RingEnding
+mod RingRests
+mod RingFinish

@@ -1,30 +1,24 @@
 -- How the table of a shared slot begins and ends.
-use Rattle.std.proofs.Common.{◌≡◌, ◌≢◌, ℕ, zero, suc, ◌≤◌, Bool, true, false, List, [], ◌∷◌, length, get_or, map, Option, Some, None, inl, refl, ap, sym, ◌∙◌, subst, arith}
+use Rattle.std.proofs.Common.{◌≡◌, ◌≢◌, ℕ, ◌≤◌, Bool, true, false, List, [], ◌∷◌, length, get_or, map, Option, Some, None, inl, refl, ap, sym, ◌∙◌, subst, arith}
 use mathlib.Core.Option.{some, some-injective, some-ne-none}
 use mathlib.Core.Option as maybe
 use lib.ListN.{get_elem?}
 use Rattle.atomic_table.specs.Table.{Final, Seen, opening}
-use Rattle.atomic_table.specs.Seated.{TableId}
 use Rattle.atomic_table.proofs.Lists.{at_map}
-use Rattle.queue_steps.specs.declared.model.Call.{Call}
-use Rattle.queue_steps.specs.declared.model.Reply.{Reply}
 use Rattle.queue_steps.specs.declared.model.Effect.{Effect}
 use Rattle.queue_steps.specs.State.{State}
 use Rattle.queue_steps.specs.Legal.{IsShown}
 use Rattle.queue_steps.specs.Sole.{front}
 use Rattle.queue_steps.specs.SingleNext.{is_marked}
-use Rattle.queue_steps.specs.Parties.{IsView, times, once_below, IsWhole}
+use Rattle.queue_steps.specs.Parties.{IsWhole}
 use Rattle.concurrent_queue.specs.declared.known.Known.{Known}
 use Rattle.concurrent_queue.specs.declared.known.Doing.{Doing}
-use Rattle.concurrent_queue.specs.Known.{party, view_of, IsTrueOf}
-use Rattle.concurrent_queue.specs.Seats.{view_at, is_busy, known_by, IsAlone}
-use Rattle.concurrent_queue.specs.Shared.{IsPerson}
+use Rattle.concurrent_queue.specs.Known.{view_of}
+use Rattle.concurrent_queue.specs.Seats.{is_busy, known_by, IsAlone}
 use Rattle.concurrent_queue.specs.OneSlot.{word_of, lock_word, is_out, slot_state, IsSingle, OneSlot, first_seat}
-use Rattle.concurrent_queue.specs.SlotTurns.{Place, SlotEnded}
 use Rattle.concurrent_queue.specs.SingleCells.{items_in, state_of, word_for}
-use Rattle.concurrent_queue.proofs.Totals.{once_none}
-use Rattle.concurrent_queue.proofs.Keeping.{is_whole}
-use Rattle.concurrent_queue.proofs.Views.{still_view}
+use Rattle.concurrent_queue.proofs.FirstParty.{first_rests, first_kept}
+use Rattle.concurrent_queue.proofs.Alone.{alone}
 
 module _ (T : Type 0) where
   -- the beginning
@@ -37,31 +31,11 @@ module _ (T : Type 0) where
     single = record { one = refl; none_coming = refl; short = omega arith };
     lock = refl;
     at_home = λ _. refl;
-    held = λ j d e busy. absurd (first_rests j d e busy);
+    held = λ j d e busy. absurd (first_rests (Some 1) j d e busy);
     busy = λ j out. absurd (some-ne-none j (sym out));
-    active = λ j d e busy. absurd (first_rests j d e busy);
-    kept = record {
-      legal = tt;
-      true_of = first_true;
-      owned = λ p. omega (arith, once_none p);
-      counted = refl;
-      limited = omega arith;
-      sole = λ j v e s. absurd (first_not j v e s);
-    };
+    active = λ j d e busy. absurd (first_rests (Some 1) j d e busy);
+    kept = first_kept (Some 1);
   }
-    where
-      first_rests : (j : ℕ) (d : Doing T) → get_elem? (first_seat ∷ []) j ≡ some d → is_busy d.work ≡ true → ⊥
-      first_rests zero d e busy = let h = ap (λ (x : Doing T). is_busy x.work) (some-injective first_seat d e) in cc
-      first_rests (suc j) d e busy = some-ne-none d (sym e)
-
-      first_not : (j : ℕ) (v : Known T) → get_elem? (party (Some 1) [] [] ∷ []) j ≡ some v → v.sole ≡ true → ⊥
-      first_not zero v e s = let h = ap (λ (x : Known T). x.sole) (some-injective (party (Some 1) [] []) v e) in cc
-      first_not (suc j) v e s = some-ne-none v (sym e)
-
-      first_true : (j : ℕ) (v : Known T) → get_elem? (party (Some 1) [] [] ∷ []) j ≡ some v → IsTrueOf (Some 1) [] v
-      first_true zero v e = subst (IsTrueOf (Some 1) []) (some-injective (party (Some 1) [] []) v e)
-          record { capped = λ _. refl; begins = ([], refl); heard = ([], refl); within = λ p m. absurd (omega arith); empty = λ none. absurd (omega arith); extra = omega arith }
-      first_true (suc j) v e = absurd (some-ne-none v (sym e))
 
   -- the word and the content of a slot that no call holds, of a queue at Q
   abbrev pub Left : ℕ → Option T → State T → Type 0
@@ -96,12 +70,10 @@ module _ (T : Type 0) where
       → (word ≡ word_for x (is_marked word)) × IsShown (state_of word x) (slot_state d.known.seen) × IsWhole (view_of d.known)
   slot_ends id d ws xs word x is end at_word at_slot =
       let s = end.0 in let r = end.1.0 in let at = end.1.1 in let v : Known T = d.known in
-      let w = is_whole T (Some 1) r.history (get_or s.words 0 0) (map known_by s.views) id v r.kept (at_map known_by s.views id d at) (ap (λ (z : Doing T). z.known.sole) is) (ap (λ (z : Doing T). z.known.told) is) in
-      let same : v.seen ≡ r.history = w.1 in
-      let none_theirs : v.theirs ≡ [] = ap (λ (z : Doing T). z.known.theirs) is in
-      let one : v.parts ≡ 1 = ap (λ (z : Doing T). z.known.parts) is in
+      let w = alone (Some 1) v.cap r.history v.seen (get_or s.words 0 0) (map known_by s.views) id v v.mine v.share r.kept (at_map known_by s.views id d at) (ap (λ (z : Doing T). z.known) is.0) is.1 in
+      let same : v.seen ≡ r.history = w.seen in
       let free : r.holder ≡ maybe.none = no_one r.holder (λ j out. let b = r.busy j out in
-      busy_no id j d b.0 s.views at b.1 b.2 (ap (λ (z : Doing T). is_busy z.work) is) (λ other. let gone = w.2 j b.0.known other (at_map known_by s.views j b.0 b.1) (omega arith) in let some_part = r.active j b.0 b.1 b.2 in omega arith)) in
+      busy_no id j d b.0 s.views at b.1 b.2 (ap (λ (z : Doing T). is_busy z.work) is.0) (λ other. let gone = w.others j b.0.known other (at_map known_by s.views j b.0 b.1) in let some_part = r.active j b.0 b.1 b.2 in omega arith)) in
       let here : get_elem? xs 0 ≡ some (front (slot_state r.history).items) = end.4 0 _ (r.at_home free) in
       let x_is : front (slot_state r.history).items ≡ x = sym (some-injective x (front (slot_state r.history).items) (sym at_slot ∙ here)) in
       let found : get_or s.words 1 0 ≡ word = ap (λ (l : List ℕ). get_or l 1 0) end.2 ∙ second_word ws word at_word in
@@ -109,7 +81,7 @@ module _ (T : Type 0) where
       let left : Left word x (slot_state r.history) = subst (λ (z : ℕ × Option T). Left z.0 z.1 (slot_state r.history)) (λ i. (word_is i, x_is i)) (left_by (slot_state r.history) r.single) in (
         left.0,
         subst (λ (h : List (Effect T)). IsShown (state_of word x) (slot_state h)) (sym same) left.1,
-        λ p. (omega (arith, w.0 p, ap (times p) none_theirs, ap (λ (l : List (Effect T)). once_below p (length l)) same)),
+        w.whole,
       )
     where
       no_one : (o : maybe.Option ℕ) → ((j : ℕ) → o ≡ some j → ⊥) → o ≡ maybe.none
@@ -126,7 +98,3 @@ module _ (T : Type 0) where
       second_word [] word e = absurd (some-ne-none word (sym e))
       second_word (y ∷ []) word e = absurd (some-ne-none word (sym e))
       second_word (y ∷ z ∷ ws) word e = some-injective z word e
-
-  -- a party whose call ended is between its calls
-  pub slot_person : (t : TableId) (p q : Place T) (c : Call T) (r : Reply T) → IsPerson p.1 → SlotEnded t p c r q → IsPerson q.1
-  slot_person t p q c r is e = (e.0.1, subst (λ (z : Option ℕ). IsView z (view_at q.1)) (sym e.0.2) (still_view p.1.0.known.cap (Some 1) (view_at p.1) (view_at q.1) c r is.1 e.1))

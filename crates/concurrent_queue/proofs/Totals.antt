@@ -1,9 +1,10 @@
 -- Sums over lists of views.
-use Rattle.std.proofs.Common.{◌≡◌, ℕ, zero, suc, ◌+◌, ◌<◌, ◌≤◌, ◌≢◌, ◌==◌, if◌then◌else◌, List, [], ◌∷◌, ◌++◌, set, refl, ap, sym, arith}
+use Rattle.std.proofs.Common.{◌≡◌, ℕ, zero, suc, ◌+◌, ◌*◌, ◌<◌, ◌≤◌, ◌≢◌, ◌==◌, if◌then◌else◌, List, [], ◌∷◌, ◌++◌, set, refl, ap, sym, ◌∙◌, arith}
+use Rattle.std.proofs.Math.Nat.{zero-mul, add-mul}
 use Rattle.std.proofs.lemmas.Bool.Decides.{nat_tests}
 use mathlib.Core.Option.{some, some-injective, some-ne-none}
 use lib.ListN.{get_elem?}
-use Rattle.queue_steps.specs.Parties.{times, once_below}
+use Rattle.concurrent_queue.specs.Counting.{times, once_below}
 use Rattle.concurrent_queue.specs.Known.{total}
 
 module _ {A : Type 0} (f : A → ℕ) where
@@ -47,6 +48,12 @@ module _ {A : Type 0} (f : A → ℕ) where
         total_at' [] i a e = absurd (some-ne-none a (sym e))
         total_at' (x ∷ xs) zero a e = let p = ap g (some-injective x a e) in omega arith
         total_at' (x ∷ xs) (suc i) a e = omega (arith, total_at' xs i a e)
+
+module _ {A : Type 0} (f g : A → ℕ) (c : ℕ) where
+  -- where each is c times as much, so is the sum
+  pub total_times : (l : List A) → ((j : ℕ) (v : A) → get_elem? l j ≡ some v → g v ≡ f v * c) → total g l ≡ total f l * c
+  total_times [] h = sym (zero-mul c)
+  total_times (x ∷ xs) h = (λ i. h 0 x refl i + total_times xs (λ j v e. h (suc j) v e) i) ∙ sym (add-mul (f x) (total f xs) c)
 
 pub times_snoc : (p : ℕ) (xs : List ℕ) (k : ℕ) → times p (xs ++ k ∷ []) ≡ times p xs + (if k == p then 1 else 0)
 times_snoc p [] k = omega arith

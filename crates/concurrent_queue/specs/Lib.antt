@@ -24,10 +24,12 @@ pub mod LinePops
 pub mod LineAnswers
 pub mod Exclusive
 pub mod LinkedBlocks
+pub mod Counting
 pub mod Known
 pub mod Turns
 pub mod Seats
 pub mod Shared
+pub mod AtTable
 pub mod OneSlot
 pub mod SlotTurns
 pub mod SlotStands
@@ -37,3 +39,10 @@ pub mod SlotLaws
 pub mod SlotShows
 pub mod SlotCalls
 pub mod SlotParties
+pub mod Calling
+pub mod RingRule
+pub mod RingTurns
+pub mod RingOpening
+pub mod RingLeads
+pub mod RingParties
+pub mod KeptRings

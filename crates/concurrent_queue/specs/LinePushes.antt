@@ -114,7 +114,7 @@ module _ {T : Type 0} (r : Line T) (v : T) (p : PushKind) (i : IsIdle r) (unshut
       let last : is_last_slot r.tail ≡ true = equal_nat (offset_of r.tail + 1) BLOCK_SLOTS (omega arith) in
       let b : Name T = last_name r i l in
       run-block r v p (asks p r.tail (Some b)) (Right (push_call p v) r) (tail-word r i) unshut unspent rests (rw (last-is r i l, last) refl)
-      (ask_step (LONE_STEPS - 3) (chain.Asking p r.tail (Some b)) r (Some v) (Right (push_call p v) r) i.no_spare tt (right-refused r v i p (refl, unshut, inr (omega arith)))
+      (ask_step (LONE_STEPS - 3) (chain.Asking p r.tail (Some b)) r (Some v) (Right (push_call p v) r) i.no_spare tt (right-refused r v i p (refl, unshut, inr (omega arith)) (λ unused. absurd (omega arith)))
       (λ f is.
       let ending : place_of r b + 1 ≡ length r.pieces = let place = last-place r i l in let count = l.count in let order = i.order in omega arith in
       let ps : List (Piece T) = chained (laid_behind r.pieces f) (place_of r b) f in
@@ -140,7 +140,7 @@ module _ {T : Type 0} (r : Line T) (v : T) (p : PushKind) (i : IsIdle r) (unshut
       let unused = bare.unused in
       let none : length r.pieces ≡ 0 = ap length bare.none in
       run-block r v p (asks p r.tail None) (Right (push_call p v) r) (tail-word r i) unshut unspent rests (rw bare.back refl)
-      (run-first (LONE_STEPS - 8) r v p (Right (push_call p v) r) i.no_spare bare.back (tail-word r i) (omega arith) (right-refused r v i p (refl, unshut, inl (unused, none)))
+      (run-first (LONE_STEPS - 8) r v p (Right (push_call p v) r) i.no_spare bare.back (tail-word r i) (omega arith) (right-refused r v i p (refl, unshut, inl unused) (λ unused. none))
       (λ f is.
       let s : Line T = opened r f in
       let j = idle-opened r f i bare is in

@@ -11,7 +11,8 @@ use Rattle.queue_steps.specs.declared.errors.ForcePushError.TheVariants as force
 use Rattle.queue_steps.specs.declared.steps.bounded.PushKind.{PushKind}
 use Rattle.queue_steps.specs.declared.steps.bounded.PushKind.TheVariants as push_kind
 use Rattle.queue_steps.specs.State.{State}
-use Rattle.queue_steps.specs.Sole.{Sole, MayAsk, HoldsBlocks, blocks_of, sole_reply, sole_state, moved}
+use Rattle.queue_steps.specs.Replies.{MayAsk}
+use Rattle.queue_steps.specs.Sole.{Sole, HoldsBlocks, blocks_of, sole_reply, sole_state, moved}
 use Rattle.queue_steps.specs.Words.{is_shut}
 use Rattle.queue_steps.specs.BoundedNext.{closed_reply, pushed_reply}
 use Rattle.queue_steps.specs.UnboundedNext.{gives_up}
@@ -88,15 +89,15 @@ module _ {T : Type 0} (r : Line T) (v : T) (i : IsIdle r) where
 
   pub right-spent : (p : PushKind) → is_shut r.tail ≡ false → (accepted r == LIMIT) ≡ true → Right (push_call p v) r (closed_reply p) None (Some v) (marked r)
   right-spent push_kind.Push e1 e2 =
-      (idle-marked r i, (reply.Push (Err (push.Closed v)), refl, sole r (marked r) (call.Push v) (reply.Push (Err (push.Closed v))) (idle-marked r i) (rw (e1, e2) refl) (queue-marked r ∙ rw (e1, e2) refl) (λ x. refl)))
+      (idle-marked r i, (reply.Push (Err (push.Closed v)), refl, sole r (marked r) (call.Push v) (reply.Push (Err (push.Closed v))) (idle-marked r i) (rw (sole_reply, e1, sole_reply, e2) refl) (queue-marked r ∙ rw (sole_state, e1, sole_state, e2) refl) (λ x. refl)))
   right-spent push_kind.Force e1 e2 =
-      (idle-marked r i, (reply.ForcePush (Err (force.Closed v)), refl, sole r (marked r) (call.ForcePush v) (reply.ForcePush (Err (force.Closed v))) (idle-marked r i) (rw (e1, e2) refl) (queue-marked r ∙ rw (e1, e2) refl) (λ x. refl)))
+      (idle-marked r i, (reply.ForcePush (Err (force.Closed v)), refl, sole r (marked r) (call.ForcePush v) (reply.ForcePush (Err (force.Closed v))) (idle-marked r i) (rw (sole_reply, e1, sole_reply, e2) refl) (queue-marked r ∙ rw (sole_state, e1, sole_state, e2) refl) (λ x. refl)))
 
   pub right-pushed : (p : PushKind) (done : Line T) → is_shut r.tail ≡ false → (accepted r == LIMIT) ≡ false → IsIdle done → accepted done ≡ accepted r + 1
       → line_queue done ≡ record (line_queue r) { items = (line_queue r).items ++ v ∷ []; accepted = (line_queue r).accepted + 1 } → Right (push_call p v) r (pushed_reply p) None None done
-  right-pushed push_kind.Push done e1 e2 idle more leaves = (idle, (reply.Push (Ok tt), refl, sole r done (call.Push v) (reply.Push (Ok tt)) idle (rw (e1, e2) refl) (leaves ∙ rw (e1, e2) refl) (λ none. absurd (omega arith))))
-  right-pushed push_kind.Force done e1 e2 idle more leaves = (idle, (reply.ForcePush (Ok None), refl, sole r done (call.ForcePush v) (reply.ForcePush (Ok None)) idle (rw (e1, e2) refl) (leaves ∙ rw (e1, e2) refl) (λ none. absurd (omega arith))))
+  right-pushed push_kind.Push done e1 e2 idle more leaves = (idle, (reply.Push (Ok tt), refl, sole r done (call.Push v) (reply.Push (Ok tt)) idle (rw (sole_reply, e1, sole_reply, e2) refl) (leaves ∙ rw (sole_state, e1, sole_state, e2) refl) (λ none. absurd (omega arith))))
+  right-pushed push_kind.Force done e1 e2 idle more leaves = (idle, (reply.ForcePush (Ok None), refl, sole r done (call.ForcePush v) (reply.ForcePush (Ok None)) idle (rw (sole_reply, e1, sole_reply, e2) refl) (leaves ∙ rw (sole_state, e1, sole_state, e2) refl) (λ none. absurd (omega arith))))
 
-  pub right-refused : (p : PushKind) → MayAsk (line_owned r) → Right (push_call p v) r (gives_up p) None (Some v) r
-  right-refused push_kind.Push may = (i, (reply.Push (Err (push.NoMemory v)), refl, inr ((may, refl), refl)))
-  right-refused push_kind.Force may = (i, (reply.ForcePush (Err (force.NoMemory v)), refl, inr ((may, refl), refl)))
+  pub right-refused : (p : PushKind) → MayAsk (line_queue r) → (accepted r ≡ 0 → length r.pieces ≡ 0) → Right (push_call p v) r (gives_up p) None (Some v) r
+  right-refused push_kind.Push may none = (i, (reply.Push (Err (push.NoMemory v)), refl, inr ((refl, may), none, refl)))
+  right-refused push_kind.Force may none = (i, (reply.ForcePush (Err (force.NoMemory v)), refl, inr ((refl, may), none, refl)))

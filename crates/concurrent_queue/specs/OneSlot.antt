@@ -10,6 +10,7 @@ use Rattle.queue_steps.specs.declared.steps.single.TheConstants.{LOCKED, PUSHED,
 use Rattle.queue_steps.specs.State.{State}
 use Rattle.queue_steps.specs.Effect.{Fits, made, after}
 use Rattle.queue_steps.specs.Sole.{front}
+use Rattle.queue_steps.specs.Shares.{entire}
 use Rattle.concurrent_queue.specs.declared.known.Known.{Known}
 use Rattle.concurrent_queue.specs.declared.known.Work.{Work}
 use Rattle.concurrent_queue.specs.declared.known.Work.TheVariants as work
@@ -46,6 +47,7 @@ is_out (some j) = true
 abbrev pub item_of : {T : Type 0} → Work T → Option T
 item_of work.Nothing = None
 item_of (work.HoldsSlot x) = x
+item_of (work.Calls c) = None
 
 -- the state of a queue of one slot
 pub record IsSingle {T : Type 0} (Q : State T) : Type 0 where
@@ -75,7 +77,7 @@ pub record OneSlot {T : Type 0} (s : Table T) : Type 0 where
   pub kept : Kept (Some 1) history (slice_index_or s.words 0 0) (map known_by s.views)
 
 abbrev pub first_seat : {T : Type 0} → Doing T
-first_seat = idle (party (Some 1) [] [])
+first_seat = idle (party (Some 1) [] [] entire)
 
 -- the word shows the last state of the history that was seen
 abbrev pub Shows : {T : Type 0} → ℕ → Known T → Type 0

@@ -15,7 +15,8 @@ use Rattle.queue_steps.specs.declared.steps.bounded.PushKind.TheVariants as push
 use Rattle.queue_steps.specs.State.{State, is_full}
 use Rattle.queue_steps.specs.Effect.{rest}
 use Rattle.queue_steps.specs.Replies.{is_empty}
-use Rattle.queue_steps.specs.Sole.{Sole, sole_reply, sole_state, moved}
+use Rattle.queue_steps.specs.Sole.{Sole, owner_table, sole_reply, sole_state, moved}
+use Rattle.queue_steps.proofs.Lines.{at_spent, at_full, at_room}
 use Rattle.queue_steps.specs.declared.steps.types.Word.TheVariants as word
 use Rattle.queue_steps.specs.declared.steps.bounded.BoundedLocal.TheVariants as ring
 use Rattle.queue_steps.specs.BoundedNext.{loads}
@@ -45,6 +46,13 @@ sole {T} r done c x answers leaves =
     either : (b : Bool) → ◌≡◌ {A = ℕ} (if b then 0 else 0) 0
     either true = refl
     either false = refl
+
+-- the reply and the queue that is left are those of a line of the table
+abbrev Leaves : {T : Type 0} → RingState T → Reply T → Reply T × State T → Type 0
+Leaves done x l = (x ≡ l.0) × (ring_queue done ≡ l.1)
+
+by_line : {T : Type 0} (r done : RingState T) (c : Call T) (x : Reply T) → Leaves done x (owner_table (ring_queue r) c) → Sole (ring_owned r) c x (ring_owned done)
+by_line r done c x line = sole r done c x line.0 line.1
 
 over_one : (n : ℕ) → 1 < n → nat_eq n 1 ≡ false
 over_one n h = grind arith
@@ -90,17 +98,17 @@ push-answers {T} r v i = (i.ring, go (is_shut r.tail) (position_of r.tail == LIM
         run-closed r v push_kind.Push (Right (call.Push v) r) i.ring (tail-word r i) e1 (i, (reply.Push (Err (push.Closed v)), refl, sole r r (call.Push v) (reply.Push (Err (push.Closed v))) (rw e1 refl) (rw e1 refl)))
     go false true c e1 e2 =
         run-spent r v push_kind.Push (Right (call.Push v) r) i.ring (tail-word r i) e1 e2
-        (idle-marked r i, (reply.Push (Err (push.Closed v)), refl, sole r (marked r) (call.Push v) (reply.Push (Err (push.Closed v))) (rw (e1, over_one r.cap i.ring.0, e2) refl) (queue-marked r ∙ rw (e1, over_one r.cap i.ring.0, e2) refl)))
+        (idle-marked r i, (reply.Push (Err (push.Closed v)), refl, by_line r (marked r) (call.Push v) (reply.Push (Err (push.Closed v))) (at_spent (Leaves (marked r) (reply.Push (Err (push.Closed v)))) (ring_queue r) _ _ _ _ e1 (rw (over_one r.cap i.ring.0, e2) refl) (refl, queue-marked r))))
     go false false (inl full) e1 e2 =
         let front = front-slot r i full in
         let f = full-is r i full in
         run-full r front.0 v (Right (call.Push v) r) i.ring (tail-word r i) e1 e2 full (inside r (position_of r.tail) i) front.1
-        (i, (reply.Push (Err (push.Full v)), refl, sole r r (call.Push v) (reply.Push (Err (push.Full v))) (rw (e1, over_one r.cap i.ring.0, e2, f) refl) (rw (e1, over_one r.cap i.ring.0, e2, f) refl)))
+        (i, (reply.Push (Err (push.Full v)), refl, by_line r r (call.Push v) (reply.Push (Err (push.Full v))) (at_full (Leaves r (reply.Push (Err (push.Full v)))) (ring_queue r) _ _ _ _ e1 (rw (over_one r.cap i.ring.0, e2) refl) f (refl, refl))))
     go false false (inr room) e1 e2 =
         let f = room-is r i room in
         let below : position_of r.tail < LIMIT = is_below (position_of r.tail) LIMIT e2 i.below in
         run-room r v push_kind.Push (Right (call.Push v) r) i.ring (tail-word r i) e1 e2 (inside r (position_of r.tail) i) (i.holds.free (position_of r.tail) (omega arith) room)
-        (idle-pushed r v below room i, (reply.Push (Ok tt), refl, sole r (pushed r v) (call.Push v) (reply.Push (Ok tt)) (rw (e1, over_one r.cap i.ring.0, e2, f) refl) (queue-pushed r v room i ∙ rw (e1, over_one r.cap i.ring.0, e2, f) refl)))
+        (idle-pushed r v below room i, (reply.Push (Ok tt), refl, by_line r (pushed r v) (call.Push v) (reply.Push (Ok tt)) (at_room (Leaves (pushed r v) (reply.Push (Ok tt))) (ring_queue r) _ _ _ _ e1 (rw (over_one r.cap i.ring.0, e2) refl) f (refl, queue-pushed r v room i ∙ rw (over_one r.cap i.ring.0) refl))))
 
 force-answers : {T : Type 0} (r : RingState T) (v : T) → IsIdle r → RingAnswers r (call.ForcePush v)
 force-answers {T} r v i = (i.ring, go (is_shut r.tail) (position_of r.tail == LIMIT) (cases r i) refl refl)
@@ -113,7 +121,7 @@ force-answers {T} r v i = (i.ring, go (is_shut r.tail) (position_of r.tail == LI
     go false true c e1 e2 =
         let many = over_one r.cap i.ring.0 in
         run-spent r v push_kind.Force (Right (call.ForcePush v) r) i.ring (tail-word r i) e1 e2
-        (idle-marked r i, (reply.ForcePush (Err (force.Closed v)), refl, sole r (marked r) (call.ForcePush v) (reply.ForcePush (Err (force.Closed v))) (rw (e1, many, e2) refl) (queue-marked r ∙ rw (e1, many, e2) refl)))
+        (idle-marked r i, (reply.ForcePush (Err (force.Closed v)), refl, by_line r (marked r) (call.ForcePush v) (reply.ForcePush (Err (force.Closed v))) (at_spent (Leaves (marked r) (reply.ForcePush (Err (force.Closed v)))) (ring_queue r) _ _ _ _ e1 (rw (many, e2) refl) (refl, queue-marked r))))
     go false false (inl full) e1 e2 =
         let many = over_one r.cap i.ring.0 in
         let s = i.holds.some in
@@ -134,7 +142,7 @@ force-answers {T} r v i = (i.ring, go (is_shut r.tail) (position_of r.tail == LI
           (
             reply.ForcePush (Ok (Some x.0)),
             refl,
-            sole r (displaced r v) (call.ForcePush v) (reply.ForcePush (Ok (Some x.0))) (rw (e1, many, e2, f, items) refl) (leaves ∙ rw (e1, many, e2, f) refl),
+            by_line r (displaced r v) (call.ForcePush v) (reply.ForcePush (Ok (Some x.0))) (at_full (Leaves (displaced r v) (reply.ForcePush (Ok (Some x.0)))) (ring_queue r) _ _ _ _ e1 (rw (many, e2) refl) f (rw items refl, leaves ∙ rw many refl)),
           ),
         )
     go false false (inr room) e1 e2 =
@@ -146,7 +154,7 @@ force-answers {T} r v i = (i.ring, go (is_shut r.tail) (position_of r.tail == LI
           (
             reply.ForcePush (Ok None),
             refl,
-            sole r (pushed r v) (call.ForcePush v) (reply.ForcePush (Ok None)) (rw (e1, many, e2, f) refl) (queue-pushed r v room i ∙ rw (e1, many, e2, f) refl),
+            by_line r (pushed r v) (call.ForcePush v) (reply.ForcePush (Ok None)) (at_room (Leaves (pushed r v) (reply.ForcePush (Ok None))) (ring_queue r) _ _ _ _ e1 (rw (many, e2) refl) f (refl, queue-pushed r v room i ∙ rw (over_one r.cap i.ring.0) refl)),
           ),
         )
 

@@ -5,12 +5,13 @@ use lib.ListN.{get_elem?}
 use Rattle.atomic_table.specs.Table.{State, Me, Step}
 use Rattle.queue_steps.specs.declared.sizes.TheConstants.{MAX_PARTIES}
 use Rattle.queue_steps.specs.declared.model.Effect.{Effect}
+use Rattle.queue_steps.specs.Shares.{IsEntire}
 use Rattle.queue_steps.specs.Parties.{View}
 use Rattle.concurrent_queue.specs.declared.known.Known.{Known}
 use Rattle.concurrent_queue.specs.declared.known.Work.{Work}
 use Rattle.concurrent_queue.specs.declared.known.Work.TheVariants as work
 use Rattle.concurrent_queue.specs.declared.known.Doing.{Doing}
-use Rattle.concurrent_queue.specs.Known.{known, party, nobody, view_of, looked, granted, refused, withdrawn, united, one_of, other_of, pair_of, alone, Kept, Sees}
+use Rattle.concurrent_queue.specs.Known.{party, nobody, view_of, looked, granted, refused, withdrawn, united, one_of, other_of, pair_of, Kept, Sees}
 
 -- a table, and what a seat knows and holds
 abbrev pub Table : Type 0 → Type 0
@@ -23,6 +24,7 @@ Seated T = Me (Option T) (Doing T)
 abbrev pub is_busy : {T : Type 0} → Work T → Bool
 is_busy work.Nothing = false
 is_busy (work.HoldsSlot x) = true
+is_busy (work.Calls c) = true
 
 abbrev pub known_by : {T : Type 0} → Doing T → Known T
 known_by d = d.known
@@ -37,7 +39,7 @@ empty_seat = idle (nobody None)
 
 -- the seat of one party that is between its calls
 abbrev pub Rests : {T : Type 0} → Seated T → Type 0
-Rests m = m ≡ (idle (party m.0.known.cap m.0.known.seen m.0.known.mine), [])
+Rests m = m ≡ (idle (party m.0.known.cap m.0.known.seen m.0.known.mine m.0.known.share), [])
 
 abbrev pub view_at : {T : Type 0} → Seated T → View T
 view_at m = view_of m.0.known
@@ -65,9 +67,9 @@ pub record OnlyViews {T : Type 0} (s t : Table T) : Type 0 where
 abbrev pub KeepsParties : {T : Type 0} → (Table T → Type 0) → Type 0
 KeepsParties {T} Rule = (s : Table T) → Rule s → (k : Sharing s) × (0 < length s.words) × ((t : Table T) → OnlyViews s t → Kept k.cap k.history (count_of t) (map known_by t.views) → Rule t)
 
--- the count of parties was raised: for a second party, or in vain as it was too high
+-- the count of parties was raised: for a second party, or in vain as it was too high, and then there were other parties
 abbrev pub Entered : {T : Type 0} → Step (Option T) → Seated T → ℕ → Seated T → Type 0
-Entered st m n m' = (n < MAX_PARTIES → m' ≡ (idle (granted m.0.known), m.1)) × (MAX_PARTIES ≤ n → m' ≡ (idle (refused m.0.known), m.1))
+Entered st m n m' = (n < MAX_PARTIES → m' ≡ (idle (granted m.0.known), m.1)) × (MAX_PARTIES ≤ n → (m' ≡ (idle (refused m.0.known), m.1)) × ¬ (IsEntire m.0.known.share))
 
 -- the count of parties, raised in vain, was lowered
 abbrev pub Withdrew : {T : Type 0} → Step (Option T) → Seated T → ℕ → Seated T → Type 0
@@ -87,17 +89,13 @@ United st m n m' = BecameOne m m'
 abbrev pub LookedOn : {T : Type 0} → Step (Option T) → Seated T → ℕ → Seated T → Type 0
 LookedOn st m n m' = SawAll m m'
 
--- the party is the only one, and saw the history h
-abbrev pub FoundAlone : {T : Type 0} → Seated T → Seated T → Type 0
-FoundAlone {T} m m' = (h : List (Effect T)) × (m' ≡ (idle (alone h m.0.known), m.1)) × Sees m.0.known (looked h m.0.known)
-
--- the seat of the only party, which has seen the whole history
+-- the seat of the party that has all shares
 abbrev pub IsAlone : {T : Type 0} → Doing T → Type 0
-IsAlone d = d ≡ idle (known d.known.cap d.known.seen [] d.known.mine [] 1 0 true)
+IsAlone d = (d ≡ idle (party d.known.cap d.known.seen d.known.mine d.known.share)) × IsEntire d.known.share
 
--- the count told the party whether it is the only one. If it is not, nothing changed
+-- the count is one exactly where the party has all shares. Nothing changed
 abbrev pub Counted : {T : Type 0} → Step (Option T) → Seated T → ℕ → Seated T → Type 0
-Counted st m n m' = (n ≡ 1 → FoundAlone m m') × (n ≢ 1 → m' ≡ m)
+Counted st m n m' = (m' ≡ m) × (n ≡ 1 → IsEntire m.0.known.share) × (n ≢ 1 → ¬ (IsEntire m.0.known.share))
 
 -- of two parties in one seat, the one and the other
 abbrev pub first_part : {T : Type 0} → Doing T → Doing T

@@ -1,5 +1,6 @@
 -- Each step that a call on a shared slot asks for may be done, and leads on to a reply that makes it a shared call.
 use Rattle.std.proofs.Common.{◌≡◌, ◌≢◌, ◌⊎◌, ℕ, zero, suc, ◌+◌, ◌<◌, ◌==◌, inl, inr, Bool, true, false, not, eq-eqb, ne_eqb, List, [], ◌∷◌, ◌++◌, length, Option, Some, None, Ok, Err, if◌then◌else◌, bit_and, bit_or, refl, ap, sym, ◌∙◌, subst, arith}
+use Rattle.std.specs.List.{Contains}
 use mathlib.Core.Logic.{dite}
 use native.Mathlib.Decide.{ℕ_discrete}
 use Rattle.atomic_table.specs.Table.{rest}
@@ -31,20 +32,24 @@ use Rattle.queue_steps.specs.declared.steps.single.SingleLocal.TheVariants.{Push
 use Rattle.queue_steps.specs.declared.steps.single.TheConstants.{LOCKED, PUSHED, CLOSED, UNPUSHED}
 use Rattle.queue_steps.specs.Effect.{IsHistory}
 use Rattle.queue_steps.specs.Replies.{IsRightAt, Tells}
-use Rattle.queue_steps.specs.Kinds.{filled}
+use Rattle.queue_steps.specs.Kinds.{call_kind, filled}
 use Rattle.queue_steps.specs.SingleNext.{at, ends, is_marked, is_pushed, unlocked, unlocks, single_next}
 use Rattle.queue_steps.specs.Next.{CanNext, next_of}
-use Rattle.queue_steps.specs.Prompt.{IsPrompt, EndsBefore, EndsPromptly}
-use Rattle.queue_steps.specs.Parties.{SharedCall}
+use Rattle.queue_steps.specs.Prompt.{is_prompt, EndsBefore, EndsPromptly}
+use Rattle.queue_steps.specs.Shares.{IsEntire}
+use Rattle.queue_steps.specs.Parties.{SharedCall, IsWhole}
+use Rattle.concurrent_queue.specs.Counting.{once_below}
 use Rattle.concurrent_queue.specs.declared.known.Work.TheVariants as work
-use Rattle.concurrent_queue.specs.Known.{party, looked, gained}
+use Rattle.concurrent_queue.specs.declared.known.Known.{Known}
+use Rattle.concurrent_queue.specs.Known.{party, looked, gained, has, share_of}
 use Rattle.concurrent_queue.specs.Seats.{Seated, Rests, idle, view_at}
 use Rattle.concurrent_queue.specs.Turns.{Leads, Begins, GoesOn}
+use Rattle.concurrent_queue.specs.AtTable.{Place, CanTouch, Swapped, Touched, IsAt, Ended, rests_as}
 use Rattle.concurrent_queue.specs.OneSlot.{closed_bit, slot_state, EffectAt, Law, Won, Looked, Released, Shut, item_before, item_after}
-use Rattle.concurrent_queue.specs.SlotTurns.{Place, CanTouch, Swapped, Touched, CanOperate, Operated, CanTurn, Turned, IsAtSlot, SlotEnded}
-use Rattle.concurrent_queue.specs.SlotStands.{Fresh, Added, At, look_call, SlotStands}
+use Rattle.concurrent_queue.specs.SlotTurns.{CanOperate, Operated, CanTurn, Turned}
+use Rattle.concurrent_queue.specs.SlotStands.{OwnsFrom, Fresh, Added, At, look_call, SlotStands}
 use Rattle.concurrent_queue.specs.Histories.{prefix_self, prefix_trans}
-use Rattle.concurrent_queue.specs.SharedCalls.{cap_after, quiet, adds}
+use Rattle.concurrent_queue.specs.SharedCalls.{cap_after, quiet, adds, owns}
 use Rattle.concurrent_queue.specs.SlotLaws.{law_append, law_replace, law_take}
 use Rattle.concurrent_queue.specs.SlotShows.{shows_closed, shows_empty, shows_full, shows_len, empty_if, below_if, again_open, again_full}
 
@@ -71,7 +76,7 @@ module _ (T : Type 0) (t : TableId) (p : Place T) (c : Call T) where
 
   -- what is to be done leads the call on, from the seat m with x carried
   abbrev Good : S → Option T → Next Unit → Type 0
-  Good m x todo = (q : Place T) → q.0 ≡ t → q.1 ≡ m → Leads CanTurn Turned SlotStands SlotEnded t p c todo q x
+  Good m x todo = (q : Place T) → q.0 ≡ t → q.1 ≡ m → Leads CanTurn Turned SlotStands (Ended 1) t p c todo q x
 
   -- a step without a touch
   plain : (l : SingleLocal) (o : Op Unit) (m : S) (x : Option T) → CanOperate o m x → ((n : ℕ) (m' : S) → Operated o m x n m' → At p.1 c l n m' x) → Good m x (at l touch.Nothing o)
@@ -94,27 +99,29 @@ module _ (T : Type 0) (t : TableId) (p : Place T) (c : Call T) where
   )
 
   -- the end of the call
-  answers : (r : Reply Unit) (m : S) (x : Option T) (full : Reply T) → filled r x ≡ Some full → Rests m → m.0.known.cap ≡ Some 1 → SharedCall (Some 1) (view_at p.1) (view_at m) c full → Good m x (ends r)
-  answers r m x full is_full rests one calls q same is =
-      (refl, (full, is_full, ((same, subst Rests (sym is) rests, ap (λ (z : S). z.0.known.cap) is ∙ one, subst (λ (z : S). IsHistory (Some 1) z.0.known.seen) (sym is) calls.legal), subst (λ (z : S). SharedCall (Some 1) (view_at p.1) (view_at z) c full) (sym is) calls)))
-
-  rests_as : (cap : Option ℕ) (seen : List (Effect T)) (mine : List ℕ) (m : S) → m ≡ (idle (party cap seen mine), []) → Rests m
-  rests_as cap seen mine m is = is ∙ sym (ap (λ (z : S). (idle (party z.0.known.cap z.0.known.seen z.0.known.mine), [])) is)
+  answers : (r : Reply Unit) (m : S) (x : Option T) (full : Reply T) → filled r x ≡ Some full → Rests m → m.0.known.cap ≡ Some 1 → OwnsFrom p.1 m → SharedCall (Some 1) (view_at p.1) (view_at m) c full → Good m x (ends r)
+  answers r m x full is_full rests one own calls q same is =
+      (refl, (full, is_full, ((same, subst Rests (sym is) rests, ap (λ (z : S). z.0.known.cap) is ∙ one, subst (λ (z : S). IsHistory (Some 1) z.0.known.seen) (sym is) calls.legal, subst (λ (z : S). IsEntire z.0.known.share → IsWhole (view_at z)) (sym is) (λ entire. own (subst IsEntire calls.share entire))), subst (λ (z : S). SharedCall (Some 1) (view_at p.1) (view_at z) c full) (sym is) calls)))
 
   -- the end of a call that added an effect
   added : (r : Reply Unit) (m : S) (x : Option T) (full : Reply T) (e : Effect T) → filled r x ≡ Some full → Added p.1 e m → Tells c full (e ∷ []) → Good m x (ends r)
   added r m x full e is_full a tells =
       let seen : List (Effect T) = a.0 ++ e ∷ [] in let mine : List ℕ = p.1.0.known.mine ++ length a.0 ∷ [] in
-      answers r m x full is_full (rests_as (Some 1) seen mine m a.3) (ap (λ (z : S). z.0.known.cap) a.3)
+      answers r m x full is_full (rests_as (Some 1) seen mine p.1.0.known.share m a.3) (ap (λ (z : S). z.0.known.cap) a.3) a.4
       (subst (λ (z : S). SharedCall (Some 1) (view_at p.1) (view_at z) c full) (sym a.3) (adds (Some 1) (view_at p.1) a.0 e c full a.1 a.2 tells))
 
   -- a lost exchange or a look leaves the party as it was, but for what it has seen
   lost : (m0 m : S) (n : ℕ) → Fresh p.1 m0 → Looked m0 n m → Fresh p.1 m
   lost m0 m n fresh l =
-      let known_is : m.0.known ≡ party (Some 1) m.0.known.seen p.1.0.known.mine = l.0.same ∙ ap (λ (z : S). looked m.0.known.seen z.0.known) fresh.1 in
+      let known_is : m.0.known ≡ party (Some 1) m.0.known.seen p.1.0.known.mine p.1.0.known.share = l.0.same ∙ ap (λ (z : S). looked m.0.known.seen z.0.known) fresh.1 in
       let work_is : m.0.work ≡ work.Nothing = l.2 ∙ ap (λ (z : S). z.0.work) fresh.1 in
       let out : m.1 ≡ [] = l.3 ∙ ap (λ (z : S). z.1) fresh.1 in
-      (prefix_trans p.1.0.known.seen m0.0.known.seen m.0.known.seen fresh.0 l.0.later, λ i. (record { known = known_is i; work = work_is i }, out i))
+      let was : m0.0.known ≡ party (Some 1) m0.0.known.seen p.1.0.known.mine p.1.0.known.share = ap (λ (z : S). z.0.known) fresh.1 in (
+        prefix_trans p.1.0.known.seen m0.0.known.seen m.0.known.seen fresh.0 l.0.later,
+        λ i. (record { known = known_is i; work = work_is i }, out i),
+        λ entire. subst (λ (k : List ℕ). (q : ℕ) → q < length m.0.known.seen → Contains k q) (ap (λ (k : Known T). k.mine) (sym known_is))
+            (owns m0.0.known m0.0.known (Some 1) (Some 1) m0.0.known.seen m0.0.known.seen p.1.0.known.mine p.1.0.known.mine p.1.0.known.share (length m.0.known.seen) was was l.0.whole entire),
+      )
 
   fresh_counts : (m : S) → Fresh p.1 m → 0 < m.0.known.parts
   fresh_counts m fresh = let one : m.0.known.parts ≡ 1 = ap (λ (z : S). z.0.known.parts) fresh.1 in omega arith
@@ -124,8 +131,18 @@ module _ (T : Type 0) (t : TableId) (p : Place T) (c : Call T) where
   right_now r m0 m n x full fresh l is_full tells right =
       let f = lost m0 m n fresh l in let cap_is : m.0.known.cap ≡ Some 1 = ap (λ (z : S). z.0.known.cap) f.1 in
       let legal : IsHistory (Some 1) m.0.known.seen = subst (λ (z : S). IsHistory z.0.known.cap m.0.known.seen) fresh.1 l.0.legal in
-      answers r m x full is_full (rests_as (Some 1) m.0.known.seen p.1.0.known.mine m f.1) cap_is
-      (quiet (Some 1) (view_at p.1) (view_at m) m.0.known.seen c full f.0 (prefix_self m.0.known.seen) legal (ap (λ (z : S). z.0.known.mine) f.1) tells right)
+      answers r m x full is_full (rests_as (Some 1) m.0.known.seen p.1.0.known.mine p.1.0.known.share m f.1) cap_is f.2
+      (quiet (Some 1) (view_at p.1) (view_at m) m.0.known.seen c full f.0 (prefix_self m.0.known.seen) legal (ap (λ (z : S). z.0.known.mine) f.1) (ap (λ (z : S). z.0.known.share) f.1) tells right)
+
+  -- a party with all of the share has every place after its effect too
+  owns_all : (m0 m m' : S) (e : Effect T) (before : List (Effect T)) → Fresh p.1 m0 → m.0.known ≡ party (Some 1) (before ++ e ∷ []) (p.1.0.known.mine ++ length before ∷ []) p.1.0.known.share
+      → (IsEntire (share_of m0.0.known) → (q : ℕ) → has q m.0.known ≡ once_below q (length m.0.known.seen))
+      → m' ≡ (idle (party (Some 1) (before ++ e ∷ []) (p.1.0.known.mine ++ length before ∷ []) p.1.0.known.share), []) → OwnsFrom p.1 m'
+  owns_all m0 m m' e before fresh known_is whole is entire =
+      let was : m0.0.known ≡ party (Some 1) m0.0.known.seen p.1.0.known.mine p.1.0.known.share = ap (λ (z : S). z.0.known) fresh.1 in
+      subst (λ (z : S). IsWhole (view_at z)) (sym is)
+      (owns m0.0.known m.0.known (Some 1) (Some 1) m0.0.known.seen (before ++ e ∷ []) p.1.0.known.mine (p.1.0.known.mine ++ length before ∷ []) p.1.0.known.share (length (before ++ e ∷ [])) was known_is
+      (λ all q. whole all q ∙ ap (λ (k : Known T). once_below q (length k.seen)) known_is) entire)
 
   -- a won exchange is settled by the next step
   settles : (m0 m : S) (E : Effect T → Type 0) (e : Effect T) (x : Option T) → Fresh p.1 m0 → (won : Won E m0 m) → won.0 ≡ e → x ≡ item_after e → (m2 : S) (y : Option T) → Swapped 0 m x m2 y
@@ -137,13 +154,13 @@ module _ (T : Type 0) (t : TableId) (p : Place T) (c : Call T) where
         (refl, (x, work_is, out_is)),
         λ n m' back.
             let before : List (Effect T) = g.before in
-            let known_is : m.0.known ≡ party (Some 1) (before ++ e ∷ []) (p.1.0.known.mine ++ length before ∷ []) =
+            let known_is : m.0.known ≡ party (Some 1) (before ++ e ∷ []) (p.1.0.known.mine ++ length before ∷ []) p.1.0.known.share =
             g.same ∙ (λ i. gained before (is i) (fresh.1 i).0.known) in
             let legal : IsHistory (Some 1) (before ++ e ∷ []) = subst (λ (z : Option ℕ × List (Effect T)). IsHistory z.0 z.1) (λ i. ((fresh.1 i).0.known.cap, (known_is i).seen)) g.legal in
-            let seat_is : m'.0 ≡ idle (party (Some 1) (before ++ e ∷ []) (p.1.0.known.mine ++ length before ∷ [])) = back.0 ∙ (ap (λ (z : S). idle z.0.known) swap.1 ∙ ap idle known_is) in
+            let seat_is : m'.0 ≡ idle (party (Some 1) (before ++ e ∷ []) (p.1.0.known.mine ++ length before ∷ []) p.1.0.known.share) = back.0 ∙ (ap (λ (z : S). idle z.0.known) swap.1 ∙ ap idle known_is) in
             let none_out : m'.1 ≡ [] = back.1 ∙ (ap (λ (z : S). rest z.1) swap.1 ∙ (ap rest won.4 ∙ ap (λ (z : S). z.1) fresh.1)) in (
               first_is y (item_before won.0) (rest m.1) m0.1 (sym swap.0 ∙ won.4) ∙ ap item_before is,
-              (before, prefix_trans p.1.0.known.seen m0.0.known.seen before fresh.0 g.later, legal, λ i. (seat_is i, none_out i)),
+              (before, prefix_trans p.1.0.known.seen m0.0.known.seen before fresh.0 g.later, legal, λ i. (seat_is i, none_out i), owns_all m0 m m' e before fresh known_is g.whole (λ i. (seat_is i, none_out i))),
             ),
       )
     where
@@ -291,11 +308,11 @@ module _ (T : Type 0) (t : TableId) (p : Place T) (c : Call T) where
           let d = shut.0 clear in let g = d.0 in let full = reply.Close true in
           let is : single_next Closing n ≡ ends (reply.Close true) = ap (λ (b : Bool). ends (reply.Close (not (not b)))) (eq-eqb (bit_and n CLOSED) 0 clear) in
           let before : List (Effect T) = g.before in let e : Effect T = effect.Close in
-          let known_is : m.0.known ≡ party (Some 1) (before ++ e ∷ []) (p.1.0.known.mine ++ length before ∷ []) = g.same ∙ (λ i. gained before e (fresh.1 i).0.known) in
+          let known_is : m.0.known ≡ party (Some 1) (before ++ e ∷ []) (p.1.0.known.mine ++ length before ∷ []) p.1.0.known.share = g.same ∙ (λ i. gained before e (fresh.1 i).0.known) in
           let legal : IsHistory (Some 1) (before ++ e ∷ []) = subst (λ (z : Option ℕ × List (Effect T)). IsHistory z.0 z.1) (λ i. ((fresh.1 i).0.known.cap, (known_is i).seen)) g.legal in
           let work_is : m.0.work ≡ work.Nothing = d.1 ∙ ap (λ (z : S). z.0.work) fresh.1 in
           let out : m.1 ≡ [] = d.2 ∙ ap (λ (z : S). z.1) fresh.1 in
-          let a : Added p.1 e m = (before, prefix_trans p.1.0.known.seen m0.0.known.seen before fresh.0 g.later, legal, λ i. (record { known = known_is i; work = work_is i }, out i)) in
+          let a : Added p.1 e m = (before, prefix_trans p.1.0.known.seen m0.0.known.seen before fresh.0 g.later, legal, λ i. (record { known = known_is i; work = work_is i }, out i), owns_all m0 m m e before fresh known_is g.whole (λ i. (record { known = known_is i; work = work_is i }, out i))) in
           subst (Good m None) (sym is) (added (reply.Close true) m None full e refl a (told_one full e call.Close stands.0 refl))
       by_bit m0 fresh shut (inr set_bit) =
           let d = shut.1 set_bit in let full = reply.Close false in
@@ -326,25 +343,25 @@ module _ (T : Type 0) (t : TableId) (p : Place T) (c : Call T) where
   at_any Closing n m x stands = at_closing n m x stands
   at_any (Looking l) n m x stands = at_looking l n m x stands
 
-  pub slot_goes_on : (l : Local Unit) (a : Answer Unit) (q : Place T) (x : Option T) → SlotStands t p c l a q x → GoesOn CanTurn Turned SlotStands SlotEnded kind.Single t p c l a q x
+  pub slot_goes_on : (l : Local Unit) (a : Answer Unit) (q : Place T) (x : Option T) → SlotStands t p c l a q x → GoesOn CanTurn Turned SlotStands (Ended 1) kind.Single t p c l a q x
   slot_goes_on (local.Single l) (answer.Found n) q x stands = (tt, at_any l n q.1 x stands.1 q stands.0 refl)
   slot_goes_on _ _ q x stands = absurd stands
 
-  begins_fresh : Rests p.1 → p.1.0.known.cap ≡ Some 1 → Fresh p.1 p.1
-  begins_fresh rests one = (prefix_self p.1.0.known.seen, rests ∙ (λ i. (idle (party (one i) p.1.0.known.seen p.1.0.known.mine), [])))
+  begins_fresh : IsAt 1 t p → Fresh p.1 p.1
+  begins_fresh at_slot = (prefix_self p.1.0.known.seen, at_slot.1 ∙ (λ i. (idle (party (at_slot.2 i) p.1.0.known.seen p.1.0.known.mine p.1.0.known.share), [])), at_slot.4)
 
-module _ (T : Type 0) (t : TableId) (p : Place T) (at_slot : IsAtSlot t p) where
+module _ (T : Type 0) (t : TableId) (p : Place T) (at_slot : IsAt 1 t p) where
   -- a call begins
-  pub slot_begins : (c : Call T) → Begins CanTurn Turned SlotStands SlotEnded kind.Single t p c
-  slot_begins (call.Push v) = let c = call.Push v in (tt, tries_push T t p c v p.1 (begins_fresh T t p c at_slot.1 at_slot.2) refl p at_slot.0 refl)
-  slot_begins (call.ForcePush v) = let c = call.ForcePush v in (tt, tries_force T t p c v 0 p.1 (begins_fresh T t p c at_slot.1 at_slot.2) refl (inl refl) p at_slot.0 refl)
-  slot_begins call.Pop = (tt, tries_pop T t p call.Pop PUSHED p.1 (begins_fresh T t p call.Pop at_slot.1 at_slot.2) refl false refl p at_slot.0 refl)
-  slot_begins call.Close = let f = begins_fresh T t p call.Close at_slot.1 at_slot.2 in
+  pub slot_begins : (c : Call T) → Begins CanTurn Turned SlotStands (Ended 1) kind.Single t p c
+  slot_begins (call.Push v) = let c = call.Push v in (tt, tries_push T t p c v p.1 (begins_fresh T t p c at_slot) refl p at_slot.0 refl)
+  slot_begins (call.ForcePush v) = let c = call.ForcePush v in (tt, tries_force T t p c v 0 p.1 (begins_fresh T t p c at_slot) refl (inl refl) p at_slot.0 refl)
+  slot_begins call.Pop = (tt, tries_pop T t p call.Pop PUSHED p.1 (begins_fresh T t p call.Pop at_slot) refl false refl p at_slot.0 refl)
+  slot_begins call.Close = let f = begins_fresh T t p call.Close at_slot in
       (tt, plain T t p call.Close Closing (op.Or Lock CLOSED) p.1 None (refl, fresh_counts T t p call.Close p.1 f) (λ n m' did. (refl, refl, (p.1, f, did))) p at_slot.0 refl)
-  slot_begins call.IsClosed = (tt, looks_at T t p call.IsClosed look.IsClosed p.1 (begins_fresh T t p call.IsClosed at_slot.1 at_slot.2) refl p at_slot.0 refl)
-  slot_begins call.IsEmpty = (tt, looks_at T t p call.IsEmpty look.IsEmpty p.1 (begins_fresh T t p call.IsEmpty at_slot.1 at_slot.2) refl p at_slot.0 refl)
-  slot_begins call.IsFull = (tt, looks_at T t p call.IsFull look.IsFull p.1 (begins_fresh T t p call.IsFull at_slot.1 at_slot.2) refl p at_slot.0 refl)
-  slot_begins call.Len = (tt, looks_at T t p call.Len look.Len p.1 (begins_fresh T t p call.Len at_slot.1 at_slot.2) refl p at_slot.0 refl)
+  slot_begins call.IsClosed = (tt, looks_at T t p call.IsClosed look.IsClosed p.1 (begins_fresh T t p call.IsClosed at_slot) refl p at_slot.0 refl)
+  slot_begins call.IsEmpty = (tt, looks_at T t p call.IsEmpty look.IsEmpty p.1 (begins_fresh T t p call.IsEmpty at_slot) refl p at_slot.0 refl)
+  slot_begins call.IsFull = (tt, looks_at T t p call.IsFull look.IsFull p.1 (begins_fresh T t p call.IsFull at_slot) refl p at_slot.0 refl)
+  slot_begins call.Len = (tt, looks_at T t p call.Len look.Len p.1 (begins_fresh T t p call.Len at_slot) refl p at_slot.0 refl)
   slot_begins call.Capacity = (
     tt,
     (
@@ -354,7 +371,7 @@ module _ (T : Type 0) (t : TableId) (p : Place T) (at_slot : IsAtSlot t p) where
         refl,
         (
           at_slot,
-          quiet (Some 1) (view_at p.1) (view_at p.1) p.1.0.known.seen call.Capacity (reply.Capacity (Some 1)) (prefix_self p.1.0.known.seen) (prefix_self p.1.0.known.seen) at_slot.3 refl refl
+          quiet (Some 1) (view_at p.1) (view_at p.1) p.1.0.known.seen call.Capacity (reply.Capacity (Some 1)) (prefix_self p.1.0.known.seen) (prefix_self p.1.0.known.seen) at_slot.3 refl refl refl
               (sym (cap_after (Some 1) p.1.0.known.seen)),
         ),
       ),
@@ -367,13 +384,13 @@ ends_next l h (answer.Found n) can = h n
 ends_next l h _ can = absurd can
 
 -- the prompt calls take one step
-pub slot_prompt : (c : Call Unit) → IsPrompt c → EndsPromptly Unit kind.Single c
+pub slot_prompt : {T : Type 0} (c : Call T) → is_prompt c ≡ true → EndsPromptly Unit kind.Single (call_kind c)
 slot_prompt call.Close h = λ a can. ends_next Closing (λ n. tt) a can
 slot_prompt call.IsClosed h = λ a can. ends_next (Looking look.IsClosed) (λ n. tt) a can
 slot_prompt call.IsEmpty h = λ a can. ends_next (Looking look.IsEmpty) (λ n. tt) a can
 slot_prompt call.IsFull h = λ a can. ends_next (Looking look.IsFull) (λ n. tt) a can
-slot_prompt (call.Push v) h = absurd h
-slot_prompt (call.ForcePush v) h = absurd h
-slot_prompt call.Pop h = absurd h
-slot_prompt call.Len h = absurd h
-slot_prompt call.Capacity h = absurd h
+slot_prompt (call.Push v) h = cc
+slot_prompt (call.ForcePush v) h = cc
+slot_prompt call.Pop h = cc
+slot_prompt call.Len h = cc
+slot_prompt call.Capacity h = cc

@@ -16,19 +16,25 @@ use Rattle.queue_steps.specs.declared.steps.single.SingleLocal.{SingleLocal}
 use Rattle.queue_steps.specs.declared.steps.single.SingleLocal.TheVariants.{Pushing, Pushed, Forcing, Forced, Popping, Popped, Closing, Looking}
 use Rattle.queue_steps.specs.declared.steps.single.TheConstants.{PUSHED}
 use Rattle.queue_steps.specs.Effect.{IsHistory}
+use Rattle.queue_steps.specs.Shares.{IsEntire}
+use Rattle.queue_steps.specs.Parties.{IsWhole}
 use Rattle.concurrent_queue.specs.Known.{party}
-use Rattle.concurrent_queue.specs.Seats.{Seated, idle}
+use Rattle.concurrent_queue.specs.Seats.{Seated, idle, view_at}
 use Rattle.concurrent_queue.specs.OneSlot.{closed_bit, Tried, Shut, Looked}
-use Rattle.concurrent_queue.specs.SlotTurns.{Place}
+use Rattle.concurrent_queue.specs.AtTable.{Place}
 
 module _ {T : Type 0} where
+  -- a party that began as m with all of the share has every place of what it has seen
+  abbrev pub OwnsFrom : Seated T → Seated T → Type 0
+  OwnsFrom m m' = IsEntire m.0.known.share → IsWhole (view_at m')
+
   -- since it began as m the party has seen more, and added nothing
   abbrev pub Fresh : Seated T → Seated T → Type 0
-  Fresh m m' = IsPrefix m.0.known.seen m'.0.known.seen × (m' ≡ (idle (party (Some 1) m'.0.known.seen m.0.known.mine), []))
+  Fresh m m' = IsPrefix m.0.known.seen m'.0.known.seen × (m' ≡ (idle (party (Some 1) m'.0.known.seen m.0.known.mine m.0.known.share), [])) × OwnsFrom m m'
 
   -- since it began as m the party has added this effect, and given the slot back
   abbrev pub Added : Seated T → Effect T → Seated T → Type 0
-  Added m e m' = (h : List (Effect T)) × IsPrefix m.0.known.seen h × IsHistory (Some 1) (h ++ e ∷ []) × (m' ≡ (idle (party (Some 1) (h ++ e ∷ []) (m.0.known.mine ++ length h ∷ [])), []))
+  Added m e m' = (h : List (Effect T)) × IsPrefix m.0.known.seen h × IsHistory (Some 1) (h ++ e ∷ []) × (m' ≡ (idle (party (Some 1) (h ++ e ∷ []) (m.0.known.mine ++ length h ∷ []) m.0.known.share), [])) × OwnsFrom m m'
 
   -- its last step was this exchange
   abbrev pub Tries : Seated T → ℕ → Option T → ℕ → Seated T → Type 0

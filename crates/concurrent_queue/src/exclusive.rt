@@ -1,18 +1,24 @@
 //! Queues with one owner.
-ghost use Rattle.std.specs.Prelude.{◌≡◌, ◌<◌, ◌≤◌, ◌==◌, if◌then◌else◌, length, None, Some, IfOk, IsErr, IsOk};
+ghost use Rattle.std.specs.Prelude.{◌≡◌, ◌+◌, ◌<◌, ◌≤◌, ◌==◌, if◌then◌else◌, length, None, Some, IfOk, IsErr, IsOk};
 ghost use Rattle.queue_steps.specs.declared.sizes.TheConstants.{LIMIT, MAX_CAPACITY};
 ghost use Rattle.queue_steps.specs.State.{start, is_full};
 ghost use Rattle.queue_steps.specs.Replies.{is_empty};
 ghost use Rattle.queue_steps.specs.Sole.{Sole, HoldsBlocks};
+ghost use Rattle.queue_steps.specs.Legal.{IsSoundOwned};
 ghost use Rattle.concurrent_queue.specs.SingleCells.{IsIdle, single_owned};
+ghost use Rattle.concurrent_queue.specs.RingOwned.{IsIdle as IsRingIdle, ring_owned};
+ghost use Rattle.concurrent_queue.specs.KeptRings.{ring_in};
+ghost use Rattle.std.specs.Mem.Slots.{slots_items, slots_len, IsFull};
 ghost use Rattle.concurrent_queue.specs.LineOwned.{IsIdle as IsLineIdle};
 ghost use Rattle.queue_steps.specs.declared.model.Call.TheVariants as call;
 ghost use Rattle.queue_steps.specs.declared.model.Reply.TheVariants as reply;
 
 use crate::bounded::Ring;
 use crate::driver::{drive, drive_apart, observe};
+use crate::kept::KeptRing;
 use crate::single::Single;
 use crate::unbounded::{LinkedBlocks, Name};
+use atomic_table::Closed;
 use queue_steps::errors::{ForcePushError, PopError, PushError};
 use queue_steps::model::{Call, CallKind, Reply, ReplyKind};
 use std::alloc::{AllocError, Allocator, Global};
@@ -31,6 +37,8 @@ enum Form<T, A: Allocator> {
     Single(Single<T>),
     /// A ring of slots.
     Bounded(Ring<T, A>),
+    /// A ring of slots in the memory of a table that was shared.
+    Kept(KeptRing<T, A>),
     /// A chain of blocks.
     Unbounded(LinkedBlocks<T, A>),
 }
@@ -53,6 +61,7 @@ impl<T: Drop, A: Allocator> Drop for Exclusive<T, A> {
         match form {
             Form::Single(single) => drop(single),
             Form::Bounded(ring) => drop(ring),
+            Form::Kept(ring) => drop(ring),
             Form::Unbounded(blocks) => give_up(blocks),
         }
     }
@@ -89,6 +98,7 @@ impl<T, A: Allocator> Form<T, A> {
         match self {
             Form::Single(single) => drive::<T, (), Single<T>>(single, call),
             Form::Bounded(ring) => drive_apart::<T, (), Ring<T, A>>(ring, call),
+            Form::Kept(ring) => drive_apart::<T, (), KeptRing<T, A>>(ring, call),
             Form::Unbounded(blocks) => drive_apart::<T, Name<T>, LinkedBlocks<T, A>>(blocks, call),
         }
     }
@@ -103,6 +113,7 @@ impl<T, A: Allocator> Form<T, A> {
         match self {
             Form::Single(single) => observe::<T, (), Single<T>>(single, call),
             Form::Bounded(ring) => observe::<T, (), Ring<T, A>>(ring, call),
+            Form::Kept(ring) => observe::<T, (), KeptRing<T, A>>(ring, call),
             Form::Unbounded(blocks) => observe::<T, Name<T>, LinkedBlocks<T, A>>(blocks, call),
         }
     }
@@ -187,6 +198,26 @@ impl<T, A: Allocator> Exclusive<T, A> {
         Exclusive {
             form: Form::Single(single),
         }
+    }
+
+    /// A queue in the memory of a table that is no longer shared, whose words and slots are those of a ring of this capacity.
+    pub(crate) fn of_table(capacity: usize, memory: Closed<Option<T>, A>) -> Self
+        requires full { IsFull memory.words × IsFull memory.slots }
+        requires sized { (slots_len memory.words ≡ capacity + 3) × (slots_len memory.slots ≡ capacity) }
+        requires idle { IsRingIdle (ring_in capacity (slots_items memory.words) (slots_items memory.slots)) }
+        ensures { result ≡ ring_owned (ring_in capacity (slots_items memory.words) (slots_items memory.slots)) }
+    {
+        Exclusive {
+            form: Form::Kept(KeptRing { capacity, memory }),
+        }
+    }
+
+    /// Does nothing. Its contract tells what holds of every queue with one owner: nothing is on its way in, the items fit into the capacity, no more than
+    /// `LIMIT` were accepted, and the blocks are as many as a queue in this state holds.
+    pub fn show_sound(&self)
+        ensures { IsSoundOwned self.now }
+    {
+        let _ = &self.form;
     }
 
     /// Appends `value`.
@@ -303,6 +334,7 @@ impl<T, A: Allocator> Exclusive<T, A> {
         match &self.form {
             Form::Single(_) => 0,
             Form::Bounded(_) => 0,
+            Form::Kept(_) => 0,
             Form::Unbounded(blocks) => blocks.blocks(),
         }
     }

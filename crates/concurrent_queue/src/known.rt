@@ -1,11 +1,12 @@
 //! What a seat at the table of a shared queue knows, and what it is at. No value of these types is made.
 
-use queue_steps::model::Effect;
+use queue_steps::model::{Call, Effect};
+use queue_steps::steps::{Local, Op, Touch};
 use std::collections::LinkedList;
 
 /// What a party knows, or two that are being brought together: the queue's capacity, a beginning of the one history, another one of which it was told,
 /// its own places in the history, the places of a second party that it stands for too, how many parties it counts for, how many more it was counted for,
-/// and whether it is the only one.
+/// its share of all parties, and that of the second one.
 pub struct Known<T> {
     pub cap: Option<usize>,
     pub seen: LinkedList<Effect<T>>,
@@ -14,13 +15,31 @@ pub struct Known<T> {
     pub theirs: LinkedList<usize>,
     pub parts: usize,
     pub extra: usize,
-    pub sole: bool,
+    pub share: (usize, usize),
+    pub other: (usize, usize),
 }
 
-/// What a seat is at: no call is on its way, or the seat holds the one slot, which has this content once it goes back.
+/// A call on a ring on its way, between two of its steps: the step that it does next and what it carries, its effects and their places so far, what its party had
+/// seen and done when it began, its party's share, and the slots that it has.
+pub struct InCall<T> {
+    pub call: Call<T>,
+    pub local: Local<usize>,
+    pub touch: Touch,
+    pub op: Op<usize>,
+    pub carried: Option<T>,
+    pub effects: LinkedList<Effect<T>>,
+    pub places: LinkedList<usize>,
+    pub since: LinkedList<Effect<T>>,
+    pub before: LinkedList<usize>,
+    pub share: (usize, usize),
+    pub lends: LinkedList<(usize, Option<T>)>,
+}
+
+/// What a seat is at: no call is on its way; or the seat holds the one slot, which has this content once it goes back; or a call on a ring is on its way.
 pub enum Work<T> {
     Nothing,
     HoldsSlot(Option<T>),
+    Calls(InCall<T>),
 }
 
 /// What a seat knows, and what it is at.

@@ -8,11 +8,14 @@ pub mod exclusive;
 mod gate;
 #[cfg(test)]
 mod held;
+mod kept;
 mod known;
 mod party;
+mod ring;
 pub mod shared;
 mod single;
 mod slot;
+mod touching;
 mod turns;
 mod unbounded;
 

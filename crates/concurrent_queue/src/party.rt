@@ -1,7 +1,8 @@
 //! The parties of a shared queue: how they are counted, parted, joined and brought together, whatever the queue is made of.
-ghost use Rattle.std.specs.Prelude.{◌≡◌, ◌<◌, MatchResult, MatchBool};
+ghost use Rattle.std.specs.Prelude.{ℕ, ◌≡◌, ◌<◌, MatchResult, MatchBool};
 ghost use Rattle.queue_steps.specs.Parties.{IsView};
-ghost use Rattle.concurrent_queue.specs.Seats.{KeepsParties, FoundAlone, Rests};
+ghost use Rattle.queue_steps.specs.Shares.{IsEntire};
+ghost use Rattle.concurrent_queue.specs.Seats.{KeepsParties, Rests};
 ghost use Rattle.concurrent_queue.specs.Shared.{Person, Parts, Joins as JoinsTwo, Meets};
 
 use crate::known::Doing;
@@ -14,8 +15,8 @@ use std::mem;
 pub(crate) const PARTIES: usize = 0;
 
 /// A rule that stays true where only the views change: parties can be parted and joined under it.
-pub(crate) trait PartyRule<T>: TableRule<Option<T>, Doing<T>, ()> {
-    ghost keeps_parties: { KeepsParties (Self.holds tt) };
+pub(crate) trait PartyRule<T>: TableRule<Option<T>, Doing<T>, usize> {
+    ghost keeps_parties: { (k : ℕ) → KeepsParties (Self.holds k) };
 }
 
 /// The count is raised for a second party.
@@ -113,8 +114,8 @@ impl<T> Model for Party<T> {
 }
 
 impl<T> Party<T> {
-    /// Does nothing. Its contract tells what holds of every party: what it has seen is a history of a queue of its capacity, and its places lie in that,
-    /// none twice.
+    /// Does nothing. Its contract tells what holds of every party: what it has seen is a history of a queue of its capacity, its places lie in that, none
+    /// twice, and its share is some part of one. If it is all, every place of what the party has seen is its own.
     pub fn show_view(&self)
         ensures { IsView self.now.queue.cap self.now.view }
     {
@@ -122,13 +123,13 @@ impl<T> Party<T> {
     }
 }
 
-/// Parts a party in two, or hands it back where there are too many.
+/// Parts a party in two, or hands it back where there are too many. The only party is parted.
 pub(crate) fn split<T, P: PartyRule<T>>(
-    table: &Shared<Option<T>, Doing<T>, (), P>,
+    table: &Shared<Option<T>, Doing<T>, usize, P>,
     party: Party<T>,
 ) -> Result<(Party<T>, Party<T>), Party<T>>
     requires { (party.queue.table ≡ table.now.table_id) × (0 < table.now.table_id.words) }
-    ensures { MatchResult result (λ r. Parts party r.0 r.1) (λ p. p ≡ party) }
+    ensures { MatchResult result (λ r. Parts party r.0 r.1) (λ p. (p ≡ party) × ¬ (IsEntire party.view.share)) }
 {
     let Party { mut seat } = party;
     if table.fetch_add::<Enter>(&mut seat, PARTIES, 1) >= MAX_PARTIES {
@@ -141,7 +142,7 @@ pub(crate) fn split<T, P: PartyRule<T>>(
 
 /// Makes one party of two.
 pub(crate) fn join<T, P: PartyRule<T>>(
-    table: &Shared<Option<T>, Doing<T>, (), P>,
+    table: &Shared<Option<T>, Doing<T>, usize, P>,
     first: Party<T>,
     second: Party<T>,
 ) -> Party<T>
@@ -157,7 +158,7 @@ pub(crate) fn join<T, P: PartyRule<T>>(
 
 /// Lets two parties see what either has seen.
 pub(crate) fn meet<T, P: PartyRule<T>>(
-    table: &Shared<Option<T>, Doing<T>, (), P>,
+    table: &Shared<Option<T>, Doing<T>, usize, P>,
     first: &mut Party<T>,
     second: &mut Party<T>,
 )
@@ -171,15 +172,15 @@ pub(crate) fn meet<T, P: PartyRule<T>>(
     second.seat = table.split_seat::<Halves>(&mut first.seat);
 }
 
-/// Whether this is the only party. If it is, its seat is left with the whole history; if not, as it was.
+/// Whether this is the only party, which it is exactly where all shares are its own.
 pub(crate) fn is_only<T, P: PartyRule<T>>(
-    table: &Shared<Option<T>, Doing<T>, (), P>,
+    table: &Shared<Option<T>, Doing<T>, usize, P>,
     seat: &mut Seat<Option<T>, Doing<T>>,
 ) -> bool
     requires table { (seat.old.table_id ≡ table.now.table_id) × (0 < table.now.table_id.words) }
     requires rests { Rests seat.old.me }
-    ensures same { (seat.new.table_id ≡ seat.old.table_id) × (seat.new.id ≡ seat.old.id) }
-    ensures counted { MatchBool result (FoundAlone seat.old.me seat.new.me) (seat.new.me ≡ seat.old.me) }
+    ensures same { (seat.new.table_id ≡ seat.old.table_id) × (seat.new.id ≡ seat.old.id) × (seat.new.me ≡ seat.old.me) }
+    ensures counted { MatchBool result (IsEntire seat.old.me.0.known.share) (¬ (IsEntire seat.old.me.0.known.share)) }
 {
     table.load::<Count>(seat, PARTIES) == 1
 }

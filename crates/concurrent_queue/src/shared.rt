@@ -1,15 +1,18 @@
 //! Queues that many parties share, first in first out, that can be closed.
-ghost use Rattle.std.specs.Prelude.{◌≡◌, Some, [], IfOk, MatchResult};
+ghost use Rattle.std.specs.Prelude.{◌≡◌, ◌<◌, true, Some, [], IfOk, IsErr, MatchResult};
+ghost use Rattle.queue_steps.specs.declared.sizes.TheConstants.{MAX_CAPACITY};
 ghost use Rattle.queue_steps.specs.declared.model.Call.TheVariants as call;
 ghost use Rattle.queue_steps.specs.declared.model.Reply.TheVariants as reply;
 ghost use Rattle.queue_steps.specs.Kinds.{call_kind};
-ghost use Rattle.queue_steps.specs.Prompt.{IsPrompt};
+ghost use Rattle.queue_steps.specs.Prompt.{is_prompt};
+ghost use Rattle.queue_steps.specs.Shares.{entire, IsEntire};
 ghost use Rattle.concurrent_queue.specs.Shared.{IsPartyOf, Calls, Parts, Joins, Meets, Finishes};
 
 use crate::exclusive::Exclusive;
 use crate::gate::{Gate, Open};
 pub use crate::party::Party;
 use crate::party::{is_only, join, meet, split};
+use crate::ring::SharedRing;
 use crate::slot::SharedSlot;
 use crate::turns::{drive, drive_promptly};
 use queue_steps::errors::{ForcePushError, PopError, PushError};
@@ -30,7 +33,10 @@ pub struct ConcurrentQueue<T, A: Allocator = Global> {
 /// How the items are kept.
 #[derive(Drop)]
 enum Form<T, A: Allocator> {
+    /// One slot.
     Single(SharedSlot<T, A>),
+    /// A ring of slots.
+    Ring(SharedRing<T, A>),
 }
 
 impl<T, A: Allocator> Model for ConcurrentQueue<T, A> {
@@ -42,22 +48,26 @@ impl<T, A: Allocator> Model for ConcurrentQueue<T, A> {
 }
 
 impl<T, A: Allocator + Clone> ConcurrentQueue<T, A> {
-    /// An empty open queue of this capacity, which is 1, and its only party, which has seen nothing.
+    /// An empty open queue of this capacity, and its only party, which has seen nothing and has all of the share.
+    ///
+    /// It asks for all its memory here.
     ///
     /// # Errors
     ///
-    /// The allocator refused.
+    /// Where there is no memory. A capacity above `MAX_CAPACITY` is refused without a request.
     pub fn bounded(alloc: A, cap: usize) -> Result<(Self, Party<T>), AllocError>
-        requires { cap ≡ 1 }
-        ensures { IfOk result (λ r. IsPartyOf r.1 r.0 × (r.0.cap ≡ Some cap) × (r.1.view ≡ record { seen = []; mine = [] })) }
+        requires { 0 < cap }
+        ensures first { IfOk result (λ r. IsPartyOf r.1 r.0 × (r.0.cap ≡ Some cap) × (r.1.view ≡ record { seen = []; mine = []; share = entire })) }
+        ensures limited { MAX_CAPACITY < cap → IsErr result }
     {
-        let (slot, seat) = SharedSlot::new(alloc)?;
-        Ok((
-            ConcurrentQueue {
-                form: Form::Single(slot),
-            },
-            Party { seat },
-        ))
+        let (form, seat) = if cap == 1 {
+            let (slot, seat) = SharedSlot::new(alloc)?;
+            (Form::Single(slot), seat)
+        } else {
+            let (ring, seat) = SharedRing::new(alloc, cap)?;
+            (Form::Ring(ring), seat)
+        };
+        Ok((ConcurrentQueue { form }, Party { seat }))
     }
 }
 
@@ -76,6 +86,7 @@ impl<T, A: Allocator> ConcurrentQueue<T, A> {
     {
         match &self.form {
             Form::Single(slot) => drive(slot, rt, gate, &mut party.seat, call),
+            Form::Ring(ring) => drive(ring, rt, gate, &mut party.seat, call),
         }
     }
 
@@ -83,25 +94,27 @@ impl<T, A: Allocator> ConcurrentQueue<T, A> {
     #[inline(always)]
     fn answer_promptly<G: Gate>(&self, gate: &G, party: &mut Party<T>, call: Call<T>) -> Reply<T>
         requires of { IsPartyOf party.old self.now }
-        requires prompt { IsPrompt (call_kind call) }
+        requires prompt { is_prompt call ≡ true }
         ensures { Calls party.old call result party.new }
     {
         match &self.form {
             Form::Single(slot) => drive_promptly(slot, gate, &mut party.seat, call),
+            Form::Ring(ring) => drive_promptly(ring, gate, &mut party.seat, call),
         }
     }
 
-    /// Parts a party in two. The first keeps what the party has done, and both have seen what it has.
+    /// Parts a party in two. The first keeps what the party has done, both have seen what it has, and each has half of its share.
     ///
     /// # Errors
     ///
-    /// The party itself, where the queue has as many parties as it may.
+    /// The party itself, where the queue has as many parties as it may; so it is not the only one.
     pub fn split(&self, party: Party<T>) -> Result<(Party<T>, Party<T>), Party<T>>
         requires { IsPartyOf party self.now }
-        ensures { MatchResult result (λ r. Parts party r.0 r.1) (λ p. p ≡ party) }
+        ensures { MatchResult result (λ r. Parts party r.0 r.1) (λ p. (p ≡ party) × ¬ (IsEntire party.view.share)) }
     {
         match &self.form {
             Form::Single(slot) => split(&slot.table.shared, party),
+            Form::Ring(ring) => split(&ring.table.shared, party),
         }
     }
 
@@ -112,6 +125,7 @@ impl<T, A: Allocator> ConcurrentQueue<T, A> {
     {
         match &self.form {
             Form::Single(slot) => join(&slot.table.shared, first, second),
+            Form::Ring(ring) => join(&ring.table.shared, first, second),
         }
     }
 
@@ -122,6 +136,7 @@ impl<T, A: Allocator> ConcurrentQueue<T, A> {
     {
         match &self.form {
             Form::Single(slot) => meet(&slot.table.shared, first, second),
+            Form::Ring(ring) => meet(&ring.table.shared, first, second),
         }
     }
 
@@ -236,31 +251,43 @@ impl<T, A: Allocator> ConcurrentQueue<T, A> {
     {
         match &self.form {
             Form::Single(_) => Some(1),
+            Form::Ring(ring) => Some(ring.capacity()),
         }
     }
 
-    /// Ends the sharing: the queue with its one owner, as it is after the whole history.
+    /// Ends the sharing: the queue with its one owner, as it is after the whole history. It does so exactly where the party has all of the share.
     ///
     /// # Errors
     ///
     /// The queue and the party, both unchanged, where a party that was split off has not been joined back.
     pub fn finish(self, party: Party<T>) -> Result<Exclusive<T, A>, (Self, Party<T>)>
         requires { IsPartyOf party self }
-        ensures { MatchResult result (λ e. Finishes party e) (λ r. (r.0 ≡ self) × (r.1 ≡ party)) }
+        ensures { MatchResult result (λ e. Finishes party e) (λ r. (r.0 ≡ self) × (r.1 ≡ party) × ¬ (IsEntire party.view.share)) }
     {
         let Party { mut seat } = party;
-        match self.form {
+        let ConcurrentQueue { form } = self;
+        match form {
             Form::Single(slot) => {
                 if is_only(&slot.table.shared, &mut seat) {
-                    Ok(Exclusive::of_single(slot.into_single(seat)))
-                } else {
-                    Err((
-                        ConcurrentQueue {
-                            form: Form::Single(slot),
-                        },
-                        Party { seat },
-                    ))
+                    return Ok(Exclusive::of_single(slot.into_single(seat)));
                 }
+                Err((
+                    ConcurrentQueue {
+                        form: Form::Single(slot),
+                    },
+                    Party { seat },
+                ))
+            }
+            Form::Ring(ring) => {
+                if is_only(&ring.table.shared, &mut seat) {
+                    return Ok(ring.into_owned(seat));
+                }
+                Err((
+                    ConcurrentQueue {
+                        form: Form::Ring(ring),
+                    },
+                    Party { seat },
+                ))
             }
         }
     }

@@ -2,17 +2,20 @@
 ghost use Rattle.std.specs.Prelude.{◌≡◌, ◌<◌, [], IfOk, Some};
 ghost use Rattle.queue_steps.specs.Legal.{IsShown};
 ghost use Rattle.queue_steps.specs.Parties.{IsWhole};
+ghost use Rattle.queue_steps.specs.Shares.{entire};
 ghost use Rattle.concurrent_queue.specs.Seats.{idle, IsAlone};
 ghost use Rattle.concurrent_queue.specs.Known.{party, view_of};
 ghost use Rattle.concurrent_queue.specs.OneSlot.{slot_state};
 ghost use Rattle.concurrent_queue.specs.SingleCells.{IsIdle, single_owned};
-ghost use Rattle.concurrent_queue.specs.SlotTurns.{CanTouch, Touched, CanOperate, Operated};
+ghost use Rattle.concurrent_queue.specs.SlotTurns.{CanOperate, Operated};
 
 use crate::known::Doing;
 use crate::party::PartyRule;
 use crate::single::Single;
+use crate::touching::touch;
 use crate::turns::Turns;
-use atomic_table::{Play, Seat, Shared, Table, TableRule};
+use atomic_table::{Play, Seat, Table, TableRule};
+use queue_steps::model::CallKind;
 use queue_steps::steps::{self, Answer, Kind, Local, Next, Op, Touch, Word};
 use std::alloc::{AllocError, Allocator};
 
@@ -22,7 +25,7 @@ pub(crate) const LOCK: usize = 1;
 /// The rule of the table: what its word and its slot are to the one history.
 pub(crate) struct OneSlot;
 
-impl<T> TableRule<Option<T>, Doing<T>, ()> for OneSlot {
+impl<T> TableRule<Option<T>, Doing<T>, usize> for OneSlot {
     ghost use Rattle.concurrent_queue.specs.OneSlot.{OneSlot, first_seat};
 
     ghost holds = { λ _. OneSlot };
@@ -33,7 +36,7 @@ impl<T> TableRule<Option<T>, Doing<T>, ()> for OneSlot {
 impl<T> PartyRule<T> for OneSlot {
     ghost use Rattle.concurrent_queue.specs.SlotParties.{slot_keeps_parties};
 
-    ghost keeps_parties = { slot_keeps_parties T };
+    ghost keeps_parties = { λ _. slot_keeps_parties T };
 }
 
 /// The word is read.
@@ -75,38 +78,17 @@ impl<T> Play<Option<T>, Doing<T>> for Shut {
 /// A slot that parties share.
 #[derive(Drop)]
 pub(crate) struct SharedSlot<T, A: Allocator> {
-    pub(crate) table: Table<Option<T>, Doing<T>, (), OneSlot, A>,
+    pub(crate) table: Table<Option<T>, Doing<T>, usize, OneSlot, A>,
     ghost sized: { (table.shared.table_id.words ≡ 2) × (table.shared.table_id.slots ≡ 1) },
 }
 
 impl<T, A: Allocator + Clone> SharedSlot<T, A> {
     /// An empty open slot, and the seat of its only party.
     pub(crate) fn new(alloc: A) -> Result<(Self, Seat<Option<T>, Doing<T>>), AllocError>
-        ensures { IfOk result (λ r. (r.1.table_id ≡ r.0.table.shared.table_id) × (r.1.me ≡ (idle (party (Some 1) [] []), []))) }
+        ensures { IfOk result (λ r. (r.1.table_id ≡ r.0.table.shared.table_id) × (r.1.me ≡ (idle (party (Some 1) [] [] entire), []))) }
     {
-        let (table, seat) = Table::vacant(alloc, &[1, 0], 1, &())?;
+        let (table, seat) = Table::vacant(alloc, &[1, 0], 1, &1)?;
         Ok((SharedSlot { table }, seat))
-    }
-}
-
-/// The slot that a seat holds and what a call carries change places, where a touch is asked for.
-#[inline(always)]
-pub(crate) fn touch<T, P: TableRule<Option<T>, Doing<T>, ()>>(
-    table: &Shared<Option<T>, Doing<T>, (), P>,
-    seat: &mut Seat<Option<T>, Doing<T>>,
-    touch: Touch,
-    carried: Option<T>,
-) -> Option<T>
-    requires table { seat.old.table_id ≡ table.now.table_id }
-    requires can { CanTouch touch seat.old.me }
-    ensures same { (seat.new.table_id ≡ seat.old.table_id) × (seat.new.id ≡ seat.old.id) }
-    ensures touched { Touched touch seat.old.me carried seat.new.me result }
-{
-    match touch {
-        Touch::Nothing => carried,
-        Touch::Put(slot) | Touch::Swap(slot) | Touch::Take(slot) => {
-            table.exchange(seat, slot, carried)
-        }
     }
 }
 
@@ -147,7 +129,8 @@ impl<T, A: Allocator> SharedSlot<T, A> {
 }
 
 impl<T, A: Allocator> Turns<T, (), Seat<Option<T>, Doing<T>>> for SharedSlot<T, A> {
-    ghost use Rattle.concurrent_queue.specs.SlotTurns.{IsAtSlot, CanTurn, Turned, SlotEnded};
+    ghost use Rattle.concurrent_queue.specs.AtTable.{IsAt, Ended};
+    ghost use Rattle.concurrent_queue.specs.SlotTurns.{CanTurn, Turned};
     ghost use Rattle.concurrent_queue.specs.SlotStands.{SlotStands};
     ghost use Rattle.concurrent_queue.specs.Turns.{leads-through};
     ghost use Rattle.concurrent_queue.specs.SlotCalls.{slot_begins, slot_goes_on, slot_prompt};
@@ -158,21 +141,21 @@ impl<T, A: Allocator> Turns<T, (), Seat<Option<T>, Doing<T>>> for SharedSlot<T, 
 
     ghost kind_of = { λ m. kinds.Single };
 
-    ghost rests = { λ m s. IsAtSlot m.table.shared.table_id (s.table_id, s.me) };
+    ghost rests = { λ m s. IsAt 1 m.table.shared.table_id (s.table_id, s.me) };
 
-    ghost can = { λ m s u o x. CanTurn m.table.shared.table_id (s.table_id, s.me) u o x };
+    ghost can = { λ m s k l u o x. CanTurn m.table.shared.table_id (s.table_id, s.me) k l u o x };
 
-    ghost does = { λ m s u o x a q y. Turned m.table.shared.table_id (s.table_id, s.me) u o x a (q.table_id, q.me) y };
+    ghost does = { λ m s k l u o x a q y. Turned m.table.shared.table_id (s.table_id, s.me) k l u o x a (q.table_id, q.me) y };
 
     ghost stands = { λ m s c l a q x. SlotStands m.table.shared.table_id (s.table_id, s.me) c l a (q.table_id, q.me) x };
 
-    ghost ended = { λ m s c r q. SlotEnded m.table.shared.table_id (s.table_id, s.me) c r (q.table_id, q.me) };
+    ghost ended = { λ m s c r q. Ended 1 m.table.shared.table_id (s.table_id, s.me) c r (q.table_id, q.me) };
 
-    ghost begins = { λ m s c h. let b = slot_begins T m.table.shared.table_id (s.table_id, s.me) h c in (b.0, leads-through CanTurn Turned SlotStands SlotEnded (λ m. m.table.shared.table_id) (λ s. (s.table_id, s.me)) m s s c (next_of kinds.Single (first_local (call_kind c)) answer.Start) (call_value c) b.1) };
+    ghost begins = { λ m s c h. let b = slot_begins T m.table.shared.table_id (s.table_id, s.me) h c in (b.0, leads-through CanTurn Turned SlotStands (Ended 1) (λ m. m.table.shared.table_id) (λ s. (s.table_id, s.me)) m s s c (next_of kinds.Single (first_local (call_kind c)) answer.Start) (call_value c) b.1) };
 
-    ghost goes_on = { λ m first c l a s x h. let g = slot_goes_on T m.table.shared.table_id (first.table_id, first.me) c l a (s.table_id, s.me) x h in (g.0, leads-through CanTurn Turned SlotStands SlotEnded (λ m. m.table.shared.table_id) (λ s. (s.table_id, s.me)) m first s c (next_of kinds.Single l a) x g.1) };
+    ghost goes_on = { λ m first c l a s x h. let g = slot_goes_on T m.table.shared.table_id (first.table_id, first.me) c l a (s.table_id, s.me) x h in (g.0, leads-through CanTurn Turned SlotStands (Ended 1) (λ m. m.table.shared.table_id) (λ s. (s.table_id, s.me)) m first s c (next_of kinds.Single l a) x g.1) };
 
-    ghost prompt = { λ m c h. slot_prompt (call_kind c) h };
+    ghost prompt = { λ m c h. slot_prompt c h };
 
     #[inline(always)]
     fn kind(&self) -> Kind {
@@ -193,13 +176,17 @@ impl<T, A: Allocator> Turns<T, (), Seat<Option<T>, Doing<T>>> for SharedSlot<T, 
     fn turn(
         &self,
         seat: &mut Seat<Option<T>, Doing<T>>,
+        call: &CallKind,
+        local: &Local<()>,
         todo: Touch,
         op: Op<()>,
         carried: Option<T>,
     ) -> (Answer<()>, Option<T>)
-        requires { CanTurn self.now.table.shared.table_id (seat.old.table_id, seat.old.me) todo op carried }
-        ensures { Turned self.now.table.shared.table_id (seat.old.table_id, seat.old.me) todo op carried result.0 (seat.new.table_id, seat.new.me) result.1 }
+        requires { CanTurn self.now.table.shared.table_id (seat.old.table_id, seat.old.me) call.now local.now todo op carried }
+        ensures { Turned self.now.table.shared.table_id (seat.old.table_id, seat.old.me) call.now local.now todo op carried result.0 (seat.new.table_id, seat.new.me) result.1 }
     {
+        let _ = call;
+        let _ = local;
         let left = touch(&self.table.shared, seat, todo, carried);
         let found = self.operate(seat, op, &left);
         (Answer::Found(found), left)

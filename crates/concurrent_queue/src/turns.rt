@@ -1,5 +1,5 @@
 //! A party's driver: it asks for the next step, does it where other parties do theirs, and asks again, until the reply.
-ghost use Rattle.std.specs.Prelude.{◌≡◌, Option};
+ghost use Rattle.std.specs.Prelude.{◌≡◌, true, Option};
 ghost use Rattle.queue_steps.specs.declared.model.Call.{Call as SpecCall};
 ghost use Rattle.queue_steps.specs.declared.model.Reply.{Reply as SpecReply};
 ghost use Rattle.queue_steps.specs.declared.steps.types.Kind.{Kind as SpecKind};
@@ -9,11 +9,11 @@ ghost use Rattle.queue_steps.specs.declared.steps.types.Answer.{Answer as SpecAn
 ghost use Rattle.queue_steps.specs.declared.steps.types.Local.{Local as SpecLocal};
 ghost use Rattle.queue_steps.specs.Kinds.{call_kind};
 ghost use Rattle.queue_steps.specs.Next.{CanNext, next_of};
-ghost use Rattle.queue_steps.specs.Prompt.{IsPrompt, EndsPromptly};
+ghost use Rattle.queue_steps.specs.Prompt.{is_prompt, EndsPromptly};
 ghost use Rattle.concurrent_queue.specs.Turns.{Begins, GoesOn};
 
 use crate::gate::Gate;
-use queue_steps::model::{Call, Reply};
+use queue_steps::model::{Call, CallKind, Reply};
 use queue_steps::sizes::PROMPT_STEPS;
 use queue_steps::steps::{self, Answer, Kind, Local, Next, Op, Touch};
 use std::sync::Wait;
@@ -27,10 +27,10 @@ pub(crate) trait Turns<T, B: Copy, S> {
     ghost rests: { Self → S → Type 0 };
 
     /// The seat may do this step with what the call carries.
-    ghost can: { Self → S → SpecTouch → SpecOp B → Option T → Type 0 };
+    ghost can: { Self → S → SpecCall Unit → SpecLocal B → SpecTouch → SpecOp B → Option T → Type 0 };
 
     /// What the step answers, and what it leaves of the seat and of what the call carries.
-    ghost does: { Self → S → SpecTouch → SpecOp B → Option T → SpecAnswer B → S → Option T → Type 0 };
+    ghost does: { Self → S → SpecCall Unit → SpecLocal B → SpecTouch → SpecOp B → Option T → SpecAnswer B → S → Option T → Type 0 };
 
     /// Where a call stands that the seat began, once its last operation was answered.
     ghost stands: { Self → S → SpecCall T → SpecLocal B → SpecAnswer B → S → Option T → Type 0 };
@@ -51,12 +51,14 @@ pub(crate) trait Turns<T, B: Copy, S> {
     fn turn(
         &self,
         seat: &mut S,
+        call: &CallKind,
+        local: &Local<B>,
         touch: Touch,
         op: Op<B>,
         carried: Option<T>,
     ) -> (Answer<B>, Option<T>)
-        requires { can self.now seat.old touch op carried }
-        ensures { does self.now seat.old touch op carried result.0 seat.new result.1 };
+        requires { can self.now seat.old call.now local.now touch op carried }
+        ensures { does self.now seat.old call.now local.now touch op carried result.0 seat.new result.1 };
 
     /// A call that begins leads on.
     ghost begins: { (m : Self) (s : S) (c : SpecCall T) → rests m s → Begins can does stands ended (kind_of m) m s c };
@@ -65,7 +67,7 @@ pub(crate) trait Turns<T, B: Copy, S> {
     ghost goes_on: { (m : Self) (first : S) (c : SpecCall T) (l : SpecLocal B) (a : SpecAnswer B) (s : S) (x : Option T) → stands m first c l a s x → GoesOn can does stands ended (kind_of m) m first c l a s x };
 
     /// The prompt calls end by their second step.
-    ghost prompt: { (m : Self) (c : SpecCall T) → IsPrompt (call_kind c) → EndsPromptly B (kind_of m) (call_kind c) };
+    ghost prompt: { (m : Self) (c : SpecCall T) → is_prompt c ≡ true → EndsPromptly B (kind_of m) (call_kind c) };
 }
 
 /// Runs a call to its end.
@@ -90,7 +92,7 @@ pub(crate) fn drive<T, B: Copy, S, M: Turns<T, B, S>, G: Gate, R: Wait>(
             Next::Reply(reply, _) => return Reply::fill(reply, carried),
             Next::Step(after, touch, op) => {
                 gate.pass(&op);
-                let (found, left) = queue.turn(seat, touch, op, carried);
+                let (found, left) = queue.turn(seat, &call, &after, touch, op, carried);
                 carried = left;
                 answer = found;
                 local = after;
@@ -109,7 +111,7 @@ pub(crate) fn drive_promptly<T, B: Copy, S, M: Turns<T, B, S>, G: Gate>(
     call: Call<T>,
 ) -> Reply<T>
     requires rests { M.rests queue.now seat.old }
-    requires prompt { IsPrompt (call_kind call) }
+    requires prompt { is_prompt call ≡ true }
     ensures { M.ended queue.now seat.old call result seat.new }
 {
     let kind = queue.kind();
@@ -122,7 +124,7 @@ pub(crate) fn drive_promptly<T, B: Copy, S, M: Turns<T, B, S>, G: Gate>(
             Next::Reply(reply, _) => return Reply::fill(reply, carried),
             Next::Step(after, touch, op) => {
                 gate.pass(&op);
-                let (found, left) = queue.turn(seat, touch, op, carried);
+                let (found, left) = queue.turn(seat, &call, &after, touch, op, carried);
                 carried = left;
                 answer = found;
                 local = after;

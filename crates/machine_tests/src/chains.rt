@@ -1,5 +1,6 @@
 //! Runs on a chain of blocks, with calls that go on within each other.
-use crate::script::{Line, leaves, told_of};
+use crate::script::{Line, leave, told_of};
+use queue_machine::types::EffectKind;
 use queue_steps::errors::{ForcePushError, PopError, PushError};
 use queue_steps::model::{Call, Reply};
 use queue_steps::steps::Kind;
@@ -56,6 +57,11 @@ fn last_item_of_a_block(rt: HostRuntime) -> Result<(), Fail> {
     Ok(())
 }
 
+const ONE_TO_31: [u64; 31] = [
+    1, 2, 3, 4, 5, 6, 7, 8, 9, 10, 11, 12, 13, 14, 15, 16, 17, 18, 19, 20, 21, 22, 23, 24, 25, 26,
+    27, 28, 29, 30, 31,
+];
+
 const TWO_TO_32: [u64; 31] = [
     2, 3, 4, 5, 6, 7, 8, 9, 10, 11, 12, 13, 14, 15, 16, 17, 18, 19, 20, 21, 22, 23, 24, 25, 26, 27,
     28, 29, 30, 31, 32,
@@ -80,7 +86,7 @@ fn left_in_the_middle_of_calls(rt: HostRuntime) -> Result<(), Fail> {
         } else {
             &TWO_TO_32[..]
         };
-        leaves(&rt, rt.alloc(), Kind::Unbounded, 3, &lines, left)?;
+        leave(&rt, rt.alloc(), Kind::Unbounded, &[(&lines, left)])?;
     }
     let first = [
         Line::Begins(0, Call::Push(1)),
@@ -88,7 +94,7 @@ fn left_in_the_middle_of_calls(rt: HostRuntime) -> Result<(), Fail> {
         Line::Calls(1, Call::Push(2)),
         Line::Calls(1, Call::Push(3)),
     ];
-    leaves(&rt, rt.alloc(), Kind::Unbounded, 2, &first, &[2, 3])?;
+    leave(&rt, rt.alloc(), Kind::Unbounded, &[(&first, &[2, 3])])?;
     Ok(())
 }
 
@@ -177,5 +183,99 @@ fn observers(rt: HostRuntime) -> Result<(), Fail> {
             (0, Reply::Pop(Err(PopError::Closed))),
         ],
     );
+    Ok(())
+}
+
+/// What is told of a run whose calls go on within each other: the effects that come next after so many, and the last replies.
+#[derive(Clone, Copy)]
+struct Row<'a> {
+    lines: &'a [Line],
+    effects_before: usize,
+    effects: &'a [(usize, EffectKind)],
+    replies_before: usize,
+    replies: &'a [(usize, Reply<u64>)],
+    left: &'a [u64],
+}
+
+/// Two parties that install the first block; a push stopped while it moves the tail over a block's end, with a look, a push and a close within it;
+/// and a pop stopped before it reads the first slot of a block, of which another party takes all other items.
+#[test]
+fn calls_within_each_other(rt: HostRuntime) -> Result<(), Fail> {
+    use EffectKind::{Append, Close, Take};
+    let installers = [
+        Line::Begins(0, Call::Push(1)),
+        Line::Steps(0, 3),
+        Line::Begins(1, Call::Push(2)),
+        Line::Steps(1, 3),
+        Line::Runs(0),
+        Line::Runs(1),
+        Line::Calls(0, Call::Len),
+    ];
+    let stopped = [
+        Line::Pushes(0, 30),
+        Line::Begins(0, Call::Push(31)),
+        Line::Steps(0, 4),
+        Line::Calls(2, Call::Len),
+        Line::Calls(1, Call::Push(99)),
+        Line::Calls(2, Call::Close),
+        Line::Runs(1),
+        Line::Runs(0),
+    ];
+    let reading = [
+        Line::Pushes(0, 31),
+        Line::Begins(0, Call::Pop),
+        Line::Steps(0, 4),
+        Line::Pops(1, 30),
+        Line::Runs(0),
+    ];
+    let rows = [
+        Row {
+            lines: &installers,
+            effects_before: 0,
+            effects: &[(0, Append), (1, Append)],
+            replies_before: 0,
+            replies: &[
+                (0, Reply::Push(Ok(()))),
+                (1, Reply::Push(Ok(()))),
+                (0, Reply::Len(2)),
+            ],
+            left: &[1, 2],
+        },
+        Row {
+            lines: &stopped,
+            effects_before: 30,
+            effects: &[(0, Append), (2, Close)],
+            replies_before: 30,
+            replies: &[
+                (2, Reply::Len(31)),
+                (2, Reply::Close(true)),
+                (1, Reply::Push(Err(PushError::Closed(99)))),
+                (0, Reply::Push(Ok(()))),
+            ],
+            left: &ONE_TO_31,
+        },
+        Row {
+            lines: &reading,
+            effects_before: 31,
+            effects: &[(0, Take), (1, Take)],
+            replies_before: 60,
+            replies: &[(1, Reply::Pop(Ok(31))), (0, Reply::Pop(Ok(1)))],
+            left: &[],
+        },
+        Row {
+            lines: &[Line::Turns(0, 1400)],
+            effects_before: 2798,
+            effects: &[(0, Append), (0, Take)],
+            replies_before: 2799,
+            replies: &[(0, Reply::Pop(Ok(1400)))],
+            left: &[],
+        },
+    ];
+    for row in rows {
+        let told = told_of(rt.alloc(), Kind::Unbounded, 3, row.lines)?;
+        told.effects_after(&rt, row.effects_before, row.effects);
+        told.replies_after(&rt, row.replies_before, row.replies);
+        told.left_is(&rt, row.left);
+    }
     Ok(())
 }

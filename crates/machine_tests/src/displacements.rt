@@ -1,13 +1,13 @@
 //! Runs on a ring of two slots, with calls that go on within each other.
-use crate::script::{Line, is_told, leaves, told_of, words_of};
+use crate::script::{Line, leave, told_of, words_of};
 use queue_machine::replay;
 use queue_machine::types::EffectKind;
+use queue_machine::words::Words;
 use queue_steps::errors::{ForcePushError, PopError, PushError};
 use queue_steps::model::{Call, Reply};
 use queue_steps::sizes::MAX_CAPACITY;
 use queue_steps::steps::Kind;
-use std::alloc::{AllocError, Global};
-use std::process::Abort;
+use std::alloc::Global;
 use std::test::Fail;
 
 const RING: Kind = Kind::Bounded(2);
@@ -56,25 +56,9 @@ fn close_within_a_displacement(rt: HostRuntime) -> Result<(), Fail> {
     Ok(())
 }
 
-/// Asserts the tail, the head and the stamps after these lines.
-fn words_are(
-    rt: &impl Abort,
-    alloc: Global,
-    lines: &[Line],
-    tail: u64,
-    head: u64,
-    stamps: &[u64],
-) -> Result<(), AllocError> {
-    let words = words_of(alloc, RING, 2, lines)?;
-    is_told(rt, &[words.tail, words.head], &[tail, head]);
-    is_told(rt, words.stamps.as_slice(), stamps);
-    Ok(())
-}
-
-/// The words on the way through a displacement: the tail is twice the position, and one more once the queue is closed.
+/// The tail, the head and the stamps on the way through a displacement: the tail is twice the position, and one more once the queue is closed.
 #[test]
 fn words_within_a_displacement(rt: HostRuntime) -> Result<(), Fail> {
-    let alloc = rt.alloc();
     let lines = [
         Line::Pushes(0, 2),
         Line::Begins(0, Call::ForcePush(3)),
@@ -84,11 +68,25 @@ fn words_within_a_displacement(rt: HostRuntime) -> Result<(), Fail> {
         Line::Calls(1, Call::Pop),
         Line::Runs(0),
     ];
-    words_are(&rt, alloc, &lines[..1], 4, 0, &[1, 2])?;
-    words_are(&rt, alloc, &lines[..3], 4, 1, &[1, 2])?;
-    words_are(&rt, alloc, &lines[..4], 5, 1, &[1, 2])?;
-    words_are(&rt, alloc, &lines[..5], 5, 2, &[1, 3])?;
-    words_are(&rt, alloc, &lines, 7, 2, &[3, 3])?;
+    let rows: [(&[Line], [u64; 4]); 5] = [
+        (&lines[..1], [4, 0, 1, 2]),
+        (&lines[..3], [4, 1, 1, 2]),
+        (&lines[..4], [5, 1, 1, 2]),
+        (&lines[..5], [5, 2, 1, 3]),
+        (&lines, [7, 2, 3, 3]),
+    ];
+    for (lines, words) in rows {
+        let Words {
+            lock: _,
+            head,
+            tail,
+            stamps,
+        } = words_of(rt.alloc(), RING, 2, lines)?;
+        assert_eq!(rt;
+            (tail, head, stamps.as_slice()),
+            (words[0], words[1], &words[2..])
+        );
+    }
     Ok(())
 }
 
@@ -203,35 +201,10 @@ fn forced_push_that_read_the_queue_open(rt: HostRuntime) -> Result<(), Fail> {
     Ok(())
 }
 
-/// Asserts what is told of a close after so many steps of a displacement, and then the rest of it.
-fn closes_after(
-    rt: &impl Abort,
-    alloc: Global,
-    steps: u64,
-    effects: &[(usize, EffectKind)],
-    replies: &[(usize, Reply<u64>)],
-    left: &[u64],
-) -> Result<(), AllocError> {
-    let lines = [
-        Line::Pushes(0, 2),
-        Line::Begins(0, Call::ForcePush(3)),
-        Line::Steps(0, steps),
-        Line::Calls(1, Call::Close),
-        Line::Runs(0),
-        Line::Calls(1, Call::IsClosed),
-    ];
-    let told = told_of(alloc, RING, 2, &lines)?;
-    told.effects_are(rt, effects);
-    told.replies_are(rt, replies);
-    told.left_is(rt, left);
-    Ok(())
-}
-
 /// A close before each step of a displacement, and after it.
 #[test]
 fn closes_at_each_step_of_a_displacement(rt: HostRuntime) -> Result<(), Fail> {
     use EffectKind::{Append, Arrive, Close, Front};
-    let alloc = rt.alloc();
     let closed = [(0, Append), (0, Append), (1, Close)];
     let before = [
         (0, Append),
@@ -275,21 +248,37 @@ fn closes_at_each_step_of_a_displacement(rt: HostRuntime) -> Result<(), Fail> {
         (1, Reply::Close(true)),
         (1, Reply::IsClosed(true)),
     ];
-    closes_after(&rt, alloc, 0, &closed, &refused, &[1, 2])?;
-    closes_after(&rt, alloc, 1, &before, &within, &[2, 3])?;
-    closes_after(&rt, alloc, 2, &before, &within, &[2, 3])?;
-    closes_after(&rt, alloc, 3, &between, &within, &[2, 3])?;
-    closes_after(&rt, alloc, 4, &after, &within, &[2, 3])?;
-    closes_after(&rt, alloc, 5, &after, &ended, &[2, 3])?;
+    let rows: [(&[(usize, EffectKind)], &[(usize, Reply<u64>)], &[u64]); 6] = [
+        (&closed, &refused, &[1, 2]),
+        (&before, &within, &[2, 3]),
+        (&before, &within, &[2, 3]),
+        (&between, &within, &[2, 3]),
+        (&after, &within, &[2, 3]),
+        (&after, &ended, &[2, 3]),
+    ];
+    let mut steps = 0u64;
+    for (effects, replies, left) in rows {
+        let lines = [
+            Line::Pushes(0, 2),
+            Line::Begins(0, Call::ForcePush(3)),
+            Line::Steps(0, steps),
+            Line::Calls(1, Call::Close),
+            Line::Runs(0),
+            Line::Calls(1, Call::IsClosed),
+        ];
+        let told = told_of(rt.alloc(), RING, 2, &lines)?;
+        told.effects_are(&rt, effects);
+        told.replies_are(&rt, replies);
+        told.left_is(&rt, left);
+        steps = steps.wrapping_add(1);
+    }
     Ok(())
 }
 
 /// Items appended or arrived and not yet written are in the list; an item displaced, on its way in or taken is not.
 #[test]
 fn left_in_the_middle_of_calls(rt: HostRuntime) -> Result<(), Fail> {
-    let alloc = rt.alloc();
     let appended = [Line::Begins(0, Call::Push(1)), Line::Steps(0, 3)];
-    leaves(&rt, alloc, RING, 1, &appended, &[1])?;
     let displaced = [
         Line::Pushes(0, 2),
         Line::Begins(0, Call::ForcePush(3)),
@@ -297,15 +286,23 @@ fn left_in_the_middle_of_calls(rt: HostRuntime) -> Result<(), Fail> {
         Line::Steps(0, 1),
         Line::Steps(0, 1),
     ];
-    leaves(&rt, alloc, RING, 1, &displaced[..3], &[2])?;
-    leaves(&rt, alloc, RING, 1, &displaced[..4], &[2, 3])?;
-    leaves(&rt, alloc, RING, 1, &displaced, &[2, 3])?;
     let taken = [
         Line::Pushes(0, 2),
         Line::Begins(0, Call::Pop),
         Line::Steps(0, 3),
     ];
-    leaves(&rt, alloc, RING, 1, &taken, &[2])?;
+    leave(
+        &rt,
+        rt.alloc(),
+        RING,
+        &[
+            (&appended, &[1]),
+            (&displaced[..3], &[2]),
+            (&displaced[..4], &[2, 3]),
+            (&displaced, &[2, 3]),
+            (&taken, &[2]),
+        ],
+    )?;
     Ok(())
 }
 

@@ -1,10 +1,8 @@
 //! The list that is left of a ring of three slots where calls have not ended: what is appended or has arrived is in it, written or not; what is taken or displaced is not.
-use crate::script::{Line, leaves, told_of};
+use crate::script::{Line, leave, told_of};
 use queue_machine::types::EffectKind;
 use queue_steps::model::Call;
 use queue_steps::steps::Kind;
-use std::alloc::{AllocError, Global};
-use std::process::Abort;
 use std::test::Fail;
 
 const RING: Kind = Kind::Bounded(3);
@@ -12,28 +10,34 @@ const RING: Kind = Kind::Bounded(3);
 /// After an append that is not yet written, in each slot.
 #[test]
 fn appended_and_not_written(rt: HostRuntime) -> Result<(), Fail> {
-    let alloc = rt.alloc();
     let first = [Line::Begins(1, Call::Push(9)), Line::Steps(1, 3)];
-    leaves(&rt, alloc, RING, 2, &first, &[9])?;
     let second = [
         Line::Pushes(0, 1),
         Line::Begins(1, Call::Push(9)),
         Line::Steps(1, 3),
     ];
-    leaves(&rt, alloc, RING, 2, &second, &[1, 9])?;
     let third = [
         Line::Pushes(0, 2),
         Line::Begins(1, Call::ForcePush(9)),
         Line::Steps(1, 3),
     ];
-    leaves(&rt, alloc, RING, 2, &third, &[1, 2, 9])?;
     let first_again = [
         Line::Pushes(0, 3),
         Line::Calls(0, Call::Pop),
         Line::Begins(1, Call::Push(9)),
         Line::Steps(1, 3),
     ];
-    leaves(&rt, alloc, RING, 2, &first_again, &[2, 3, 9])?;
+    leave(
+        &rt,
+        rt.alloc(),
+        RING,
+        &[
+            (&first, &[9]),
+            (&second, &[1, 9]),
+            (&third, &[1, 2, 9]),
+            (&first_again, &[2, 3, 9]),
+        ],
+    )?;
     Ok(())
 }
 
@@ -60,32 +64,10 @@ fn appended_out_of_order(rt: HostRuntime) -> Result<(), Fail> {
     Ok(())
 }
 
-/// Asserts what is told of a forced push into a ring that holds 1, 2 and 3, after so many of its steps.
-fn displaces(
-    rt: &impl Abort,
-    alloc: Global,
-    steps: u64,
-    effects: &[(usize, EffectKind)],
-    replies: usize,
-    left: &[u64],
-) -> Result<(), AllocError> {
-    let lines = [
-        Line::Pushes(0, 3),
-        Line::Begins(1, Call::ForcePush(9)),
-        Line::Steps(1, steps),
-    ];
-    let told = told_of(alloc, RING, 2, &lines)?;
-    told.effects_are(rt, effects);
-    told.replies_count(rt, replies);
-    told.left_is(rt, left);
-    Ok(())
-}
-
 /// After a forced push's front, with its item on the way in; after the arrival, before the item is swapped in; and after that.
 #[test]
 fn displaced_arrived_and_swapped(rt: HostRuntime) -> Result<(), Fail> {
     use EffectKind::{Append, Arrive, Front};
-    let alloc = rt.alloc();
     let effects = [
         (0, Append),
         (0, Append),
@@ -93,10 +75,23 @@ fn displaced_arrived_and_swapped(rt: HostRuntime) -> Result<(), Fail> {
         (1, Front),
         (1, Arrive),
     ];
-    displaces(&rt, alloc, 2, &effects[..3], 3, &[1, 2, 3])?;
-    displaces(&rt, alloc, 3, &effects[..4], 3, &[2, 3])?;
-    displaces(&rt, alloc, 4, &effects, 3, &[2, 3, 9])?;
-    displaces(&rt, alloc, 5, &effects, 4, &[2, 3, 9])?;
+    let rows: [(u64, &[(usize, EffectKind)], usize, &[u64]); 4] = [
+        (2, &effects[..3], 3, &[1, 2, 3]),
+        (3, &effects[..4], 3, &[2, 3]),
+        (4, &effects, 3, &[2, 3, 9]),
+        (5, &effects, 4, &[2, 3, 9]),
+    ];
+    for (steps, effects, replies, left) in rows {
+        let lines = [
+            Line::Pushes(0, 3),
+            Line::Begins(1, Call::ForcePush(9)),
+            Line::Steps(1, steps),
+        ];
+        let told = told_of(rt.alloc(), RING, 2, &lines)?;
+        told.effects_are(&rt, effects);
+        told.replies_count(&rt, replies);
+        told.left_is(&rt, left);
+    }
     Ok(())
 }
 
@@ -108,15 +103,11 @@ fn taken_and_not_read(rt: HostRuntime) -> Result<(), Fail> {
         Line::Begins(1, Call::Pop),
         Line::Steps(1, 3),
     ];
-    let told = told_of(rt.alloc(), RING, 2, &front)?;
-    told.left_is(&rt, &[2, 3]);
-    told.replies_count(&rt, 3);
     let only = [
         Line::Pushes(0, 1),
         Line::Begins(1, Call::Pop),
         Line::Steps(1, 3),
     ];
-    leaves(&rt, rt.alloc(), RING, 2, &only, &[])?;
     let second_lap = [
         Line::Pushes(0, 3),
         Line::Calls(0, Call::ForcePush(4)),
@@ -125,29 +116,18 @@ fn taken_and_not_read(rt: HostRuntime) -> Result<(), Fail> {
         Line::Begins(1, Call::Pop),
         Line::Steps(1, 3),
     ];
-    leaves(&rt, rt.alloc(), RING, 2, &second_lap, &[5, 6])?;
+    leave(
+        &rt,
+        rt.alloc(),
+        RING,
+        &[(&front, &[2, 3]), (&only, &[]), (&second_lap, &[5, 6])],
+    )?;
     Ok(())
 }
 
-/// 1 is displaced by 9, which has arrived and is not yet swapped in; 2 is taken and not yet read; 3 stays.
+/// 1 is displaced by 9, which has arrived and is not yet swapped in; 2 is taken and not yet read; 3 stays. Then the calls end.
 #[test]
 fn displaced_and_taken_at_once(rt: HostRuntime) -> Result<(), Fail> {
-    let lines = [
-        Line::Pushes(0, 3),
-        Line::Begins(1, Call::ForcePush(9)),
-        Line::Steps(1, 4),
-        Line::Begins(0, Call::Pop),
-        Line::Steps(0, 3),
-    ];
-    let told = told_of(rt.alloc(), RING, 2, &lines)?;
-    told.left_is(&rt, &[3, 9]);
-    told.replies_count(&rt, 3);
-    Ok(())
-}
-
-/// The same, and then the calls end.
-#[test]
-fn displaced_and_taken_to_the_end(rt: HostRuntime) -> Result<(), Fail> {
     let lines = [
         Line::Pushes(0, 3),
         Line::Begins(1, Call::ForcePush(9)),
@@ -157,8 +137,11 @@ fn displaced_and_taken_to_the_end(rt: HostRuntime) -> Result<(), Fail> {
         Line::Runs(0),
         Line::Runs(1),
     ];
-    let told = told_of(rt.alloc(), RING, 2, &lines)?;
-    told.left_is(&rt, &[3, 9]);
-    told.replies_count(&rt, 5);
+    let rows: [(&[Line], usize); 2] = [(&lines[..5], 3), (&lines, 5)];
+    for (lines, replies) in rows {
+        let told = told_of(rt.alloc(), RING, 2, lines)?;
+        told.left_is(&rt, &[3, 9]);
+        told.replies_count(&rt, replies);
+    }
     Ok(())
 }

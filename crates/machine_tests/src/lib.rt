@@ -6,7 +6,11 @@ mod chains;
 #[cfg(test)]
 mod displacements;
 #[cfg(test)]
+mod items;
+#[cfg(test)]
 mod left_on_three;
+#[cfg(test)]
+mod memory;
 #[cfg(test)]
 mod refusals;
 #[cfg(test)]

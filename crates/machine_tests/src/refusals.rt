@@ -12,7 +12,7 @@ use std::test::Fail;
 use test_allocators::{Refusal, Refusing};
 
 /// What is told of a run in memory that is counted.
-type Run<'a> = Replay<u64, &'a Refusing<Global>>;
+pub(crate) type Run<'a> = Replay<u64, &'a Refusing<Global>>;
 
 /// What is seen of a run in memory that is counted.
 #[derive(Debug, Drop, PartialEq)]
@@ -58,7 +58,7 @@ impl Seen {
 }
 
 /// The run of these events, in memory that is counted.
-fn run<'a>(
+pub(crate) fn run<'a>(
     heap: &'a Refusing<Global>,
     kind: Kind,
     parties: usize,

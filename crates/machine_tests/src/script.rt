@@ -28,6 +28,8 @@ pub(crate) enum Line {
     Pushes(usize, u64),
     /// Pops so many times, each with as many steps as a lone call ever takes.
     Pops(usize, u64),
+    /// Pushes 1, 2 and so on, so many numbers, and pops after each push, each call with as many steps as a lone call ever takes.
+    Turns(usize, u64),
 }
 
 /// A list of events that grows.
@@ -57,6 +59,7 @@ impl Script {
             Line::Calls(party, call) => self.call(party, call),
             Line::Pushes(party, count) => self.pushes(party, count),
             Line::Pops(party, count) => self.pops(party, count),
+            Line::Turns(party, count) => self.turns(party, count),
         }
     }
 
@@ -89,6 +92,14 @@ impl Script {
         Ok(())
     }
 
+    fn turns(&mut self, party: usize, count: u64) -> Result<(), AllocError> {
+        for before in 0..count {
+            self.call(party, Call::Push(before + 1))?;
+            self.call(party, Call::Pop)?;
+        }
+        Ok(())
+    }
+
     fn pops(&mut self, party: usize, count: u64) -> Result<(), AllocError> {
         for _ in 0..count {
             self.call(party, Call::Pop)?;
@@ -117,18 +128,18 @@ pub(crate) fn told_of(
     })
 }
 
-/// Asserts the list that is left by the run of these lines.
-pub(crate) fn leaves(
+/// Asserts the list that is left by each of these runs.
+pub(crate) fn leave(
     rt: &impl Abort,
     alloc: Global,
     kind: Kind,
-    parties: usize,
-    lines: &[Line],
-    left: &[u64],
+    rows: &[(&[Line], &[u64])],
 ) -> Result<(), AllocError>
     requires { CanReplay kind }
 {
-    told_of(alloc, kind, parties, lines)?.left_is(rt, left);
+    for (lines, left) in rows {
+        told_of(alloc, kind, 3, lines)?.left_is(rt, left);
+    }
     Ok(())
 }
 
@@ -176,6 +187,17 @@ impl Told {
     /// Asserts each effect, with its party.
     pub(crate) fn effects_are(&self, rt: &impl Abort, effects: &[(usize, EffectKind)]) {
         is_told(rt, self.effects.as_slice(), effects);
+    }
+
+    /// Asserts the effects that come next after so many, with their parties.
+    pub(crate) fn effects_after(
+        &self,
+        rt: &impl Abort,
+        count: usize,
+        effects: &[(usize, EffectKind)],
+    ) {
+        assert!(rt; count <= self.effects.len() && effects.len() <= self.effects.len() - count);
+        is_told(rt, &self.effects[count..count + effects.len()], effects);
     }
 
     /// Asserts each effect, with the number of its event and its party.

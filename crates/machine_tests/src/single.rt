@@ -1,5 +1,5 @@
 //! Runs on one slot.
-use crate::script::{Line, leaves, told_of};
+use crate::script::{Line, leave, told_of};
 use queue_machine::types::EffectKind;
 use queue_steps::errors::PopError;
 use queue_steps::model::{Call, Reply};
@@ -91,20 +91,22 @@ fn refused_steps_and_strangers(rt: HostRuntime) -> Result<(), Fail> {
 /// An item that is appended and not yet written is in the list that is left; one that is taken is not.
 #[test]
 fn left_in_the_middle_of_calls(rt: HostRuntime) -> Result<(), Fail> {
-    let alloc = rt.alloc();
     let appended = [Line::Begins(0, Call::Push(1)), Line::Steps(0, 1)];
-    leaves(&rt, alloc, Kind::Single, 1, &appended, &[1])?;
     let taken = [
         Line::Pushes(0, 1),
         Line::Begins(0, Call::Pop),
         Line::Steps(0, 1),
     ];
-    leaves(&rt, alloc, Kind::Single, 1, &taken, &[])?;
     let replaced = [
         Line::Pushes(0, 1),
         Line::Begins(0, Call::ForcePush(2)),
         Line::Steps(0, 2),
     ];
-    leaves(&rt, alloc, Kind::Single, 1, &replaced, &[2])?;
+    leave(
+        &rt,
+        rt.alloc(),
+        Kind::Single,
+        &[(&appended, &[1]), (&taken, &[]), (&replaced, &[2])],
+    )?;
     Ok(())
 }

@@ -1,12 +1,26 @@
 -- What counts of values show, and what is written of it.
-use Rattle.std.specs.Prelude.{◌≡◌, ℕ, ◌==◌, not, List, [], ◌∷◌, ◌++◌, codes, length, slice_index, position, Option, Some, None}
+use Rattle.std.specs.Prelude.{◌≡◌, ℕ, ◌+◌, ◌<◌, ◌^◌, ◌==◌, set, get_or, not, List, [], ◌∷◌, ◌++◌, codes, length, slice_index, position, Option, Some, None}
 use Rattle.std.specs.Fmt.{decimal}
 use Rattle.std.specs.Io.KnownBytes.{Appends}
+use Rattle.queue_steps.specs.Shares.{IsEntire}
+use Rattle.queue_steps.specs.Parties.{View, IsView}
 use Rattle.queue_text.specs.declared.load.Load.{Load}
+use Rattle.queue_command.specs.Doings.{takes}
 use Rattle.queue_command.specs.declared.counts.Finding.{Finding}
 use Rattle.queue_command.specs.declared.counts.Finding.TheVariants as finding
 use Rattle.queue_command.specs.declared.verdict.Verdict.{Verdict}
 use Rattle.queue_command.specs.declared.verdict.Verdict.TheVariants as verdict
+
+-- the value has come once more
+abbrev pub counted : ℕ → List ℕ → List ℕ
+counted value counts = set counts value (get_or counts value 0 + 1)
+
+-- no sum of two counts is past the greatest word
+abbrev pub EachSumFits : List ℕ → List ℕ → Type 0
+EachSumFits counts more = (x : ℕ) → x < length counts → get_or counts x 0 + get_or more x 0 < 2 ^ 64
+
+abbrev pub AreSums : List ℕ → List ℕ → List ℕ → Type 0
+AreSums counts more sums = (length sums ≡ length counts) × ((x : ℕ) → x < length counts → get_or sums x 0 ≡ get_or counts x 0 + get_or more x 0)
 
 -- the first value that did not come as often as there are pushers
 abbrev pub first_wrong : ℕ → List ℕ → Option ℕ
@@ -28,14 +42,18 @@ abbrev pub finding_verdict : Finding → Verdict
 finding_verdict (finding.Right values times) = verdict.Right
 finding_verdict (finding.Wrong value times) = verdict.Wrong
 
--- each value of the load was counted, and what the counts show was written as a line
+-- There is one party of a queue of one slot, which all parties have become: it has all of the share, so that every place of the whole history is its own.
+-- Each value below `items` is counted as often as it was taken
+pub record IsTally (items : ℕ) (counts : List ℕ) : Type 0 where
+  pub view : View ℕ
+  pub seen : IsView (Some 1) view
+  pub whole : IsEntire view.share
+  pub complete : length counts ≡ items
+  pub taken : (x : ℕ) → x < items → get_or counts x 0 ≡ takes x view
+
+-- what came of the load was counted, and what the counts show was written as a line
 pub record IsCounted (l : Load) (old new : Option (List ℕ)) (v : Verdict) : Type 0 where
   pub counts : List ℕ
-  pub complete : length counts ≡ l.items
+  pub tally : IsTally l.items counts
   pub written : Appends old new (finding_text (judged l.pushers counts) ++ 10 ∷ [])
   pub shown : v ≡ finding_verdict (judged l.pushers counts)
-
--- whether both threads of a handshake got the other's item was written
-abbrev pub handshake_text : Verdict → List ℕ
-handshake_text verdict.Right = codes "both\n"
-handshake_text verdict.Wrong = codes "alone\n"

@@ -1,6 +1,6 @@
 -- How the program may end.
 use Rattle.std.specs.Prelude.{◌≡◌, ◌⊎◌, ℕ, true, List, Option}
-use Rattle.std.specs.Io.KnownBytes.{Keeps, Appends}
+use Rattle.std.specs.Io.KnownBytes.{Keeps}
 use Rattle.queue_text.specs.Actions.{replay_line_text, IsReplayLine}
 use Rattle.queue_text.specs.Calls.{call_text, IsCallOfWord}
 use Rattle.queue_text.specs.KindNames.{is_built, form_words, IsForm}
@@ -9,7 +9,8 @@ use Rattle.queue_text.specs.declared.args.Form.{Form}
 use Rattle.queue_text.specs.declared.args.Form.TheVariants as form
 use Rattle.queue_text.specs.declared.faults.Fault.{Fault}
 use Rattle.queue_text.specs.declared.faults.Fault.TheVariants as fault
-use Rattle.queue_command.specs.Counts.{IsCounted, handshake_text}
+use Rattle.queue_command.specs.Counts.{IsCounted}
+use Rattle.queue_command.specs.Meetings.{Handshake}
 use Rattle.queue_command.specs.Reports.{IsReport}
 use Rattle.queue_command.specs.Runs.{IsRun, IsRunFault}
 use Rattle.queue_command.specs.Scripts.{IsTranscript}
@@ -30,7 +31,7 @@ abbrev pub Does : Form → Option (List ℕ) → Option (List ℕ) → Option (L
 Does (form.Script k) known old new v = (v ≡ verdict.Right) × IsRun IsCallOfWord call_text (IsTranscript k) known old new
 Does (form.Replay k parties) known old new v = (v ≡ verdict.Right) × IsRun IsReplayLine replay_line_text (IsReport k parties) known old new
 Does (form.Threads l) known old new v = IsCounted l old new v
-Does form.Handshake known old new v = Appends old new (handshake_text v)
+Does form.Handshake known old new v = Handshake old new v
 
 -- the work of the form met this fault
 abbrev pub Fails : Form → Option (List ℕ) → Option (List ℕ) → Option (List ℕ) → Fault → Type 0

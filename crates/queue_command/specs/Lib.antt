@@ -6,5 +6,8 @@ pub mod Turns
 pub mod Unread
 pub mod Reports
 pub mod Verdicts
+pub mod Doings
+pub mod Works
+pub mod Meetings
 pub mod Counts
 pub mod Ends

@@ -1,8 +1,7 @@
 -- A script: calls on a queue with one owner, and what is written of them.
 use Rattle.std.specs.Prelude.{◌≡◌, ℕ, List, [], ◌∷◌, ◌++◌, codes}
 use Rattle.std.specs.Fmt.{decimal}
-use Rattle.queue_steps.specs.State.{start}
-use Rattle.queue_steps.specs.Sole.{Owned, SoleRun}
+use Rattle.queue_steps.specs.Sole.{Owned, fresh, SoleRun}
 use Rattle.queue_steps.specs.declared.model.Call.{Call}
 use Rattle.queue_steps.specs.declared.model.Reply.{Reply}
 use Rattle.queue_text.specs.KindNames.{capacity_of}
@@ -17,10 +16,6 @@ pub record PlaysAs (P : Owned ℕ) (calls : List (Call ℕ)) (R : Owned ℕ) (ol
   pub plays : SoleRun P calls replies R
   pub written : new ≡ old ++ replies_text replies
 
--- an empty open queue of this kind, which holds no block
-abbrev pub opening : KindName → Owned ℕ
-opening k = record { queue = start (capacity_of k) 0; blocks = 0 }
-
 -- the line of the blocks that are held, which a queue without a capacity alone has
 abbrev pub blocks_text : KindName → ℕ → List ℕ
 blocks_text kind.Unbounded count = codes "blocks " ++ decimal count ++ 10 ∷ []
@@ -30,5 +25,5 @@ blocks_text _ count = []
 pub record IsTranscript (k : KindName) (calls : List (Call ℕ)) (text : List ℕ) : Type 0 where
   pub replies : List (Reply ℕ)
   pub after : Owned ℕ
-  pub plays : SoleRun (opening k) calls replies after
+  pub plays : SoleRun (fresh (capacity_of k)) calls replies after
   pub written : text ≡ (replies_text replies ++ blocks_text k after.blocks) ++ left_text after.queue.items

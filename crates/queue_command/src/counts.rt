@@ -1,46 +1,40 @@
 //! How often each value came.
-ghost use Rattle.std.specs.Prelude.{◌≡◌, Some, IfOk, vec_len};
-ghost use Rattle.queue_command.specs.Counts.{first_wrong, judged, finding_text, finding_verdict};
+ghost use Rattle.std.specs.Prelude.{◌≡◌, ◌<◌, ◌-◌, ◌^◌, All, Some, IfOk, replicate};
+ghost use Rattle.queue_command.specs.Counts.{counted, EachSumFits, AreSums, first_wrong, judged, finding_text, finding_verdict};
 
 use crate::verdict::Verdict;
 use std::alloc::{AllocError, Global};
 use std::fmt;
-use std::sync::atomic::{AtomicU64, Ordering};
 
-/// How often each value has come, for threads to share.
-#[derive(Drop)]
-pub struct Board {
-    counts: Vec<AtomicU64>,
+/// No value below `items` has come.
+pub fn none_counted(alloc: Global, items: u64) -> Result<Vec<u64>, AllocError>
+    ensures { IfOk result (λ counts. counts.items ≡ replicate items 0) }
+{
+    let mut counts = Vec::new(alloc);
+    for _ in 0..items {
+        counts.push(0)?;
+    }
+    Ok(counts)
 }
 
-impl Board {
-    /// No value below `items` has come.
-    pub fn new(alloc: Global, items: u64) -> Result<Board, AllocError>
-        ensures { IfOk result (λ b. vec_len b.counts ≡ items) }
-    {
-        let mut counts = Vec::new(alloc);
-        for _ in 0..items {
-            counts.push(AtomicU64::new(0))?;
-        }
-        Ok(Board { counts })
+/// The value has come once more. A value past the last count is not counted.
+pub fn count(counts: &mut Vec<u64>, value: u64)
+    requires { All (λ c. c < 2 ^ 64 - 1) counts.old.items }
+    ensures { counts.new.items ≡ counted value counts.old.items }
+{
+    let index = value as usize;
+    if index < counts.len() {
+        counts[index] += 1;
     }
+}
 
-    /// The value has come once more. A value that is not on the board is not counted.
-    pub fn count(&self, value: u64) {
-        if let Some(count) = self.counts.get(value as usize) {
-            count.fetch_add(1, Ordering::SeqCst);
-        }
-    }
-
-    /// How often each value has come.
-    pub fn read(&self, alloc: Global) -> Result<Vec<u64>, AllocError>
-        ensures { IfOk result (λ counts. vec_len counts ≡ vec_len self.now.counts) }
-    {
-        let mut counts = Vec::new(alloc);
-        for count in &self.counts {
-            counts.push(count.load(Ordering::SeqCst))?;
-        }
-        Ok(counts)
+/// Each value has come as often as both say. A value past the end of `more` came no more often.
+pub fn add(counts: &mut [u64], more: &[u64])
+    requires { EachSumFits counts.old more.now }
+    ensures { AreSums counts.old more.now counts.new }
+{
+    for index in 0..counts.len().min(more.len()) {
+        counts[index] += more[index];
     }
 }
 

@@ -2,25 +2,13 @@
 #![tactic(auto)]
 
 pub mod command;
-mod counts;
-mod crew;
-#[cfg(test)]
-mod crew_tests;
+pub mod counts;
+pub mod crew;
 mod effects;
 mod handshake;
 mod replay;
-#[cfg(test)]
-mod replay_tests;
-#[cfg(test)]
-mod rows;
 mod script;
 mod streams;
-#[cfg(test)]
-mod tests;
 mod threads;
-#[cfg(test)]
-mod threads_tests;
 mod turns;
-#[cfg(test)]
-mod unbounded_tests;
-mod verdict;
+pub mod verdict;

@@ -1,12 +1,11 @@
 //! A script: calls on a queue with one owner, their replies, and the items that are left.
 ghost use Rattle.std.specs.Prelude.{◌≡◌, ◌++◌, IfOk, OnOk, MatchResult, string_bytes};
-ghost use Rattle.queue_steps.specs.Legal.{IsSoundOwned};
-ghost use Rattle.queue_steps.specs.Sole.{Sole, HoldsBlocks};
+ghost use Rattle.queue_steps.specs.Sole.{Sole, HoldsBlocks, fresh};
 ghost use Rattle.queue_text.specs.Calls.{call_text, IsCallOfWord};
-ghost use Rattle.queue_text.specs.KindNames.{IsKindName};
+ghost use Rattle.queue_text.specs.KindNames.{IsKindName, capacity_of};
 ghost use Rattle.queue_command.specs.Left.{left_text};
 ghost use Rattle.queue_command.specs.Runs.{IsRun, IsRunFault};
-ghost use Rattle.queue_command.specs.Scripts.{PlaysAs, IsTranscript, opening, blocks_text};
+ghost use Rattle.queue_command.specs.Scripts.{PlaysAs, IsTranscript, blocks_text};
 
 use crate::streams::{read_input, write_output};
 use concurrent_queue::exclusive::Exclusive;
@@ -65,7 +64,7 @@ pub fn transcript<'a, A: Allocator>(
 // An empty open queue of this kind.
 fn queue_of<A: Allocator>(alloc: A, kind: KindName) -> Result<Exclusive<u64, A>, AllocError>
     requires { IsKindName kind }
-    ensures { IfOk result (λ queue. queue ≡ opening kind) }
+    ensures { IfOk result (λ queue. queue ≡ fresh (capacity_of kind)) }
 {
     match kind {
         KindName::Single => Exclusive::bounded(alloc, 1),
@@ -94,10 +93,10 @@ fn play<A: Allocator, B: Allocator>(
     calls: &[Call<u64>],
     text: &mut String<B>,
 ) -> Result<(), AllocError>
-    requires { IsSoundOwned queue.old }
     ensures { OnOk result (PlaysAs queue.old calls.now queue.new (string_bytes text.old) (string_bytes text.new)) }
 {
     for call in calls {
+        queue.show_sound();
         let reply = answer(queue, *call);
         writeln!(text, "{}", Shown(reply))?;
     }

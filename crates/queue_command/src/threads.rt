@@ -1,11 +1,11 @@
 //! The form `threads`: how often each value came out of a queue that threads share.
-ghost use Rattle.std.specs.Prelude.{◌≡◌, ◌<◌, IfOk, MatchResult, vec_len};
+ghost use Rattle.std.specs.Prelude.{◌≡◌, ◌<◌, ◌+◌, ◌*◌, ◌^◌, IfOk, MatchResult};
 ghost use Rattle.queue_text.specs.KindNames.{IsLoad};
-ghost use Rattle.queue_command.specs.Counts.{IsCounted};
+ghost use Rattle.queue_command.specs.Counts.{IsCounted, IsTally};
 ghost use Rattle.queue_command.specs.Verdicts.{IsOutputFault};
 
-use crate::counts::{Board, judge};
-use crate::crew::{Plan, Queue, run_all};
+use crate::counts::judge;
+use crate::crew::{Plan, Queue, Work, run_all};
 use crate::streams::write_output;
 use crate::verdict::Verdict;
 use queue_text::faults::Fault;
@@ -44,26 +44,42 @@ pub fn threads<R: Threads + Wait + Sync, O: Write>(
     Ok(finding.verdict())
 }
 
-// How often each value came.
+// How often each value came. The sharing is ended, as all threads are joined.
 fn count_all<R: Threads + Wait + Sync>(
     rt: &R,
     alloc: Global,
     load: Load,
 ) -> Result<Vec<u64>, AllocError>
     requires { IsLoad load }
-    ensures { IfOk result (λ counts. vec_len counts ≡ load.items) }
+    ensures { IfOk result (λ counts. IsTally load.items counts.items) }
 {
-    let board = Board::new(alloc, load.items)?;
     let (queue, party) = Queue::bounded(alloc, 1)?;
-    let plan = Plan {
+    let Work {
+        party,
+        counts,
+        done,
+    } = run_all(rt, alloc, &queue, party, plan_of(load))?;
+    if !done {
+        return Err(AllocError);
+    }
+    party.show_view();
+    match queue.finish(party) {
+        Ok(_left) => Ok(counts),
+        Err(_) => unreachable!(),
+    }
+}
+
+// What the threads have to do: the poppers share the items evenly.
+fn plan_of(load: Load) -> Plan
+    requires { IsLoad load }
+    ensures items { result.items ≡ load.items }
+    ensures threads { result.pushers + result.poppers < 2 ^ 64 }
+    ensures few { (result.pushers + result.poppers) * result.share < 2 ^ 64 }
+{
+    Plan {
         pushers: load.pushers,
         poppers: load.poppers,
         items: load.items,
         share: load.pushers * load.items / load.poppers,
-    };
-    let (_, done) = run_all(rt, &queue, party, &board, plan);
-    if !done {
-        return Err(AllocError);
     }
-    board.read(alloc)
 }

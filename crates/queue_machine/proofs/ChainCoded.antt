@@ -14,8 +14,11 @@ use Rattle.chain_laws.proofs.ChainAnswers.{Answers}
 use Rattle.chain_laws.proofs.ChainStep.{chain_of, carried_of, after_of}
 use Rattle.chain_laws.proofs.ChainRight.{Gives, left_by}
 use Rattle.queue_machine.specs.Cells.{Shared, CanTouch, CanOperate, slots_there, block_touched, after_touch, carried_then, answer_to, shared_then}
-use Rattle.queue_machine.proofs.RingGood.{running}
+use Rattle.queue_machine.specs.declared.machine.Running.{Running}
 use Rattle.queue_machine.proofs.ChainNames.{Codes}
+
+abbrev running : {A : Type 0} → Local ℕ → Touch → Op ℕ → Option A → Running A
+running l t o v = record { local = l; touch = t; op = o; carried = v }
 
 -- the words, the links and the blocks of the machine are those of the chain
 abbrev pub Stands : {A : Type 0} → Shared A → Chain A → Type 0

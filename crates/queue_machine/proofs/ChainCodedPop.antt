@@ -9,6 +9,7 @@ use Rattle.queue_steps.specs.UnboundedNext.{unbounded_next}
 use Rattle.queue_steps.specs.declared.steps.types.Answer.TheVariants as answer
 use Rattle.queue_steps.specs.declared.steps.bounded.TheConstants.{TAIL_STEP}
 use Rattle.queue_steps.specs.declared.steps.unbounded.UnboundedLocal.TheVariants as chain
+use Rattle.queue_laws.proofs.Moments.{HeadWas, SeenIn}
 use Rattle.chain_laws.proofs.ChainPlaces.{place}
 use Rattle.chain_laws.proofs.ChainCells.{Writer, Writing, Wrote, Reader, Reading, Done, Stands as Rested, Passing, Entering, GivenUp, Chain, FrontOk, ChainOk, Read, Head, Holds, Nothing, item_at}
 use Rattle.chain_laws.proofs.ChainFacts.{head_of, HeadIs, IsNamed, HeadBlockIs, HeadBlockRead, IsMore, Got}
@@ -23,7 +24,7 @@ use Rattle.chain_laws.proofs.ChainCells.{Free, Unread, ItemOk}
 use Rattle.chain_laws.proofs.ChainReads.{front_is, taken}
 use Rattle.chain_laws.proofs.ChainAfter.{taken_if, if_taken}
 use Rattle.chain_laws.proofs.ChainAnswers.{linked_of, same_head, head_offset}
-use Rattle.chain_laws.proofs.ChainFacts.{SawEmpty, HeadWas, SeenIn}
+use Rattle.chain_laws.proofs.ChainFacts.{SawEmpty}
 use Rattle.chain_laws.proofs.ChainAt.{Only, Either, IsBehind, IsFurther, pop_head, pop_block, pop_tail, taking, following, peeking, passing, entering, awaiting, len_tail, len_head, len_again, empty_head, empty_tail, closing, closed_tail}
 use Rattle.queue_machine.proofs.ChainCodesPush.{codes_marked}
 use Rattle.queue_machine.proofs.ChainCodesPop.{codes_taken, codes_passed, codes_entered}

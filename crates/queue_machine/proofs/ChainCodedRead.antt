@@ -25,7 +25,8 @@ use Rattle.queue_machine.proofs.ChainCoded.{Stands, Coded}
 use Rattle.std.proofs.Common.{not, Ok, bit_and, get_or-set_other}
 use Rattle.queue_steps.specs.declared.model.Reply.TheVariants as reply
 use Rattle.queue_steps.specs.declared.steps.unbounded.TheConstants.{READ, DESTROY}
-use Rattle.chain_laws.proofs.ChainCells.{Walk, Before, Chained, put_same, WalkOk}
+use Rattle.queue_laws.proofs.Puts.{put_same}
+use Rattle.chain_laws.proofs.ChainCells.{Walk, Before, Chained, WalkOk}
 use Rattle.chain_laws.proofs.ChainReads.{walk_after, reads, walked}
 use Rattle.chain_laws.proofs.ChainAnswers.{is_done, done_is, waits_at, IsState, StateAnswers, head_offset}
 use Rattle.chain_laws.proofs.ChainRead.{waits_is}

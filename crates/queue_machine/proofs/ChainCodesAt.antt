@@ -3,7 +3,8 @@ use Rattle.std.proofs.Common.{ℕ, ◌+◌, ◌/◌, ◌<◌, ◌≡◌, ◌≢�
 use Rattle.std.proofs.lemmas.Bool.Decides.{eqb_tells}
 use Rattle.queue_steps.specs.declared.sizes.TheConstants.{BLOCK_SLOTS}
 use Rattle.queue_steps.specs.declared.steps.unbounded.TheConstants.{WRITE}
-use Rattle.chain_laws.proofs.ChainCells.{Writer, Writing, Wrote, Reader, Unread, Reading, Done, Link, Linked, Walk, GivenUp, Chained, Chain, ItemOk, ChainOk, item_at, put, put_same, put_other}
+use Rattle.queue_laws.proofs.Puts.{put, put_other, put_same}
+use Rattle.chain_laws.proofs.ChainCells.{Writer, Writing, Wrote, Reader, Unread, Reading, Done, Link, Linked, Walk, GivenUp, Chained, Chain, ItemOk, ChainOk, item_at}
 use Rattle.chain_laws.proofs.ChainTransitions.{chained, written}
 use Rattle.chain_laws.proofs.ChainFacts.{IsNamed}
 use Rattle.chain_laws.proofs.ChainAnswers.{linked_of, is_done}

@@ -3,11 +3,13 @@ use Rattle.std.proofs.Common.{ℕ, ◌+◌, ◌*◌, ◌%◌, ◌≡◌, ◌≢�
 use Rattle.queue_steps.specs.declared.sizes.TheConstants.{BLOCK_SLOTS}
 use Rattle.queue_steps.specs.Words.{tail_of, position_of}
 use Rattle.queue_steps.specs.declared.steps.bounded.TheConstants.{TAIL_STEP}
+use Rattle.queue_laws.proofs.Puts.{put_ok}
+use Rattle.queue_laws.proofs.Tails.{position_tail}
 use Rattle.chain_laws.proofs.ChainPlaces.{place}
-use Rattle.chain_laws.proofs.ChainCells.{Unread, Reading, Passer, Stands, Passing, Entering, Chain, FrontOk, ChainOk, item_at, put_ok}
+use Rattle.chain_laws.proofs.ChainCells.{Unread, Reading, Passer, Stands, Passing, Entering, Chain, FrontOk, ChainOk, item_at}
 use Rattle.chain_laws.proofs.ChainReads.{taken, passed, passer_sees, entered}
 use Rattle.chain_laws.proofs.ChainFacts.{head_of, IsNamed}
-use Rattle.chain_laws.proofs.ChainAnswers.{head_place, shown_of, is_done, position_tail}
+use Rattle.chain_laws.proofs.ChainAnswers.{head_place, shown_of, is_done}
 use Rattle.queue_machine.specs.Blocks.{Block}
 use Rattle.queue_machine.proofs.ChainNames.{Codes, Keeps, name_kept, keeps_all}
 

@@ -6,13 +6,14 @@ use Rattle.std.proofs.lemmas.Bool.{cases_lt}
 use Rattle.queue_steps.specs.declared.sizes.TheConstants.{BLOCK_SLOTS}
 use Rattle.queue_steps.specs.Words.{tail_of}
 use Rattle.queue_steps.specs.declared.steps.bounded.TheConstants.{MARK, TAIL_STEP}
+use Rattle.queue_laws.proofs.Puts.{put, put_ok, put_other, put_same}
+use Rattle.queue_laws.proofs.Tails.{mark_tail, next_tail}
 use Rattle.chain_laws.proofs.ChainPlaces.{place}
-use Rattle.chain_laws.proofs.ChainCells.{Writing, Mover, Rests, Laying, Opening, Link, Unlinked, Linking, Linked, Shown, Hidden, Showing, Seen, Unused, Spare, Chained, Chain, BlocksOk, LinkOk, ShownOk, ChainOk, put, put_ok, put_same, put_other, item_at}
+use Rattle.chain_laws.proofs.ChainCells.{Writing, Mover, Rests, Laying, Opening, Link, Unlinked, Linking, Linked, Shown, Hidden, Showing, Seen, Unused, Spare, Chained, Chain, BlocksOk, LinkOk, ShownOk, ChainOk, item_at}
 use Rattle.chain_laws.proofs.ChainTransitions.{next_free, no_front, appended, installed, displayed, laid_out, opened, marked, renamed}
 use Rattle.chain_laws.proofs.ChainFacts.{open_tail_of, IsNamed}
 use Rattle.chain_laws.proofs.ChainAnswers.{tail_place, shown_of, linked_of}
 use Rattle.queue_machine.specs.Blocks.{Block, fresh_block}
-use Rattle.queue_machine.proofs.RingWords.{mark_tail, next_tail}
 use Rattle.queue_machine.proofs.ChainCodes.{wrote_in}
 use Rattle.queue_machine.proofs.ChainNames.{NameIs, Codes, Keeps, name_kept, keeps_all}
 use Rattle.queue_machine.proofs.ChainFresh.{fresh_is, unlinked, last_name}

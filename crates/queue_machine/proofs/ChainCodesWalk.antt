@@ -3,7 +3,8 @@ use Rattle.std.proofs.Common.{ℕ, ◌+◌, ◌/◌, ◌<◌, ◌≡◌, ◌≢�
 use Rattle.std.proofs.lemmas.Bool.Decides.{eqb_tells}
 use Rattle.queue_steps.specs.declared.sizes.TheConstants.{BLOCK_SLOTS}
 use Rattle.queue_steps.specs.declared.steps.unbounded.TheConstants.{READ}
-use Rattle.chain_laws.proofs.ChainCells.{Done, Walk, GivenUp, Unused, Spare, Chained, Chain, ChainOk, item_at, LAST, put, put_ok, put_same, put_other}
+use Rattle.queue_laws.proofs.Puts.{put, put_ok, put_other, put_same}
+use Rattle.chain_laws.proofs.ChainCells.{Done, Walk, GivenUp, Unused, Spare, Chained, Chain, ChainOk, item_at, LAST}
 use Rattle.chain_laws.proofs.ChainReads.{reads, walked, walk_after}
 use Rattle.chain_laws.proofs.ChainFacts.{IsNamed}
 use Rattle.chain_laws.proofs.ChainAnswers.{is_done, waits_at, IsState}

@@ -10,12 +10,12 @@ use Rattle.queue_steps.specs.declared.steps.types.Answer.{Answer}
 use Rattle.queue_steps.specs.declared.steps.types.Kind.TheVariants as queue
 use Rattle.queue_steps.specs.declared.steps.types.Next.{Next}
 use Rattle.queue_steps.specs.declared.steps.types.Next.TheVariants as next
+use Rattle.queue_laws.proofs.Effects.{with_effect}
 use Rattle.chain_laws.proofs.ChainCells.{Chain, queue_of, ChainOk, Holds, Nothing}
 use Rattle.chain_laws.proofs.ChainPasses.{Passes}
 use Rattle.chain_laws.proofs.ChainFacts.{holds_stays}
 use Rattle.chain_laws.proofs.ChainAt.{At, at_stays}
 use Rattle.chain_laws.proofs.ChainAnswers.{Answers}
-use Rattle.chain_laws.proofs.ChainGood.{with_effect}
 use Rattle.chain_laws.proofs.ChainStep.{chain_of, after_of, carried_of}
 use Rattle.chain_laws.proofs.ChainStart.{at_begun}
 use Rattle.chain_laws.proofs.ChainGiven.{Spares, spare_in, spares_stay}
@@ -26,7 +26,7 @@ use Rattle.queue_machine.specs.declared.machine.Running.{Running}
 use Rattle.queue_machine.specs.Book.{Open, after_own, begun, is_prompt, joined, watched}
 use Rattle.queue_machine.specs.Cells.{Shared, CanStep, step_of, start_of, running_after, reply_after}
 use Rattle.queue_machine.proofs.Engine as engine
-use Rattle.queue_machine.proofs.FewSteps.{FewSteps, few_begun, few_joined, few_watched, few_own, few_stays, prompt_kind}
+use Rattle.queue_machine.proofs.FewSteps.{FewSteps, few_begun, few_joined, few_watched, few_own, few_stays}
 use Rattle.queue_machine.proofs.ChainMoments.{chain_begun, allowed_in}
 use Rattle.queue_machine.proofs.Moments.{same_moments}
 
@@ -75,7 +75,7 @@ chain_goes {A} Stands busy s t Q g p x o a ok found f quiet =
     let n = unbounded_next (chain_of x.local) a in
     goes_on Stands busy t (left_by r n) p o n (carried_of f.here) (with_effect o.effects right.e) (rank g x.local) f.few
     (λ one. falls_left r n (rank g x.local) (step_falls f.here a ok found (λ j ne. (quiet one j ne).0)))
-    (λ e. falls_left r n (rank g x.local) (prompt_falls f.here a found (prompt_kind o.call e))) right.ends
+    (λ e. falls_left r n (rank g x.local) (prompt_falls f.here a found e)) right.ends
 
 -- a call of another party stands where it stood
 pub chain_watched : {A : Type 0} (busy busy' : ℕ) (s t : Shared A) (Q : State A) (g h : Chain A) (p j : ℕ) (x : Running A) (o : Open A) → ChainOk g → ChainOk h → j ≢ p → Passes p g h → busy ≢ 1
@@ -83,7 +83,7 @@ pub chain_watched : {A : Type 0} (busy busy' : ℕ) (s t : Shared A) (Q : State 
 chain_watched busy busy' s t Q g h p j x o ok after ne pass many f = record {
   here = subst (λ ms. At h j ms x.local x.touch x.op x.carried o.call o.effects) (same_moments (queue_of h) o.moments) (at_stays ok after ne pass f.here);
   spares = spares_stay p j (spare_in x.local) ne pass f.spares;
-  few = few_watched busy busy' (queue_of h) o (rank g x.local) (rank h x.local) longest many (rank_small h x.local) (λ e. let same = (prompt_small h f.here (prompt_kind o.call e)).1 in omega arith) f.few;
+  few = few_watched busy busy' (queue_of h) o (rank g x.local) (rank h x.local) longest many (rank_small h x.local) (λ e. let same = (prompt_small h f.here e).1 in omega arith) f.few;
 }
 
 -- a party between calls stays so
@@ -99,7 +99,7 @@ fresh : {A : Type 0} (s : Shared A) (Q : State A) (g : Chain A) (p : ℕ) (k : C
 fresh s Q g p k x here spares busy = record {
   here = here;
   spares = spares;
-  few = few_begun busy k (rank g x.local) longest (rank_small g x.local) (λ e. (prompt_small g here (prompt_kind k e)).0);
+  few = few_begun busy k (rank g x.local) longest (rank_small g x.local) (λ e. (prompt_small g here e).0);
 }
 
 pub chain_begins : {A : Type 0} (Stands : Shared A → State A → Chain A → Type 0) (s : Shared A) (Q : State A) (g : Chain A) (p : ℕ) (k : Call A) → Q.cap ≡ None → ChainIdle g p

@@ -8,10 +8,10 @@ use Rattle.queue_steps.specs.declared.model.Effect.{Effect}
 use Rattle.queue_steps.specs.declared.steps.types.Kind.TheVariants as queue
 use Rattle.queue_steps.specs.declared.steps.types.Next.{Next}
 use Rattle.queue_steps.specs.declared.steps.types.Next.TheVariants as next
+use Rattle.queue_laws.proofs.Effects.{with_effect}
 use Rattle.chain_laws.proofs.ChainCells.{Chain, queue_of}
 use Rattle.chain_laws.proofs.ChainAt.{At}
 use Rattle.chain_laws.proofs.ChainAnswers.{Answers}
-use Rattle.chain_laws.proofs.ChainGood.{with_effect}
 use Rattle.chain_laws.proofs.ChainStep.{chain_of, after_of, carried_of, is_chain}
 use Rattle.chain_laws.proofs.ChainGiven.{Spares, spare_in}
 use Rattle.chain_laws.proofs.ChainRight.{Ends, left_by, step_right}

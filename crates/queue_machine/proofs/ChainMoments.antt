@@ -1,5 +1,5 @@
 -- What a step of a call on a chain is in the book: its effects begin those of a reply, its effect moves the queue, and its reply is right at a moment.
-use Rattle.std.proofs.Common.{ℕ, ◌≡◌, ◌==◌, inl, inr, Bool, true, false, if◌then◌else◌, Option, Some, None, Ok, Err, List, [], ◌∷◌, refl, sym, subst}
+use Rattle.std.proofs.Common.{ℕ, ◌≡◌, ◌==◌, true, Option, Ok, Err, List, [], ◌∷◌, refl}
 use Rattle.std.specs.List.{Any}
 use Rattle.queue_steps.specs.State.{State}
 use Rattle.queue_steps.specs.Words.{is_shut}
@@ -9,8 +9,6 @@ use Rattle.queue_steps.specs.declared.model.Reply.TheVariants as reply
 use Rattle.queue_steps.specs.declared.model.Effect.{Effect}
 use Rattle.queue_steps.specs.declared.model.Effect.TheVariants as effect
 use Rattle.queue_steps.specs.declared.errors.PopError.TheVariants as pop
-use Rattle.queue_steps.specs.declared.errors.PushError.TheVariants as push
-use Rattle.queue_steps.specs.declared.errors.ForcePushError.TheVariants as force
 use Rattle.queue_steps.specs.declared.steps.types.Answer.{Answer}
 use Rattle.queue_steps.specs.declared.steps.types.Answer.TheVariants as answer
 use Rattle.queue_steps.specs.declared.steps.types.Kind.TheVariants as queue
@@ -20,16 +18,16 @@ use Rattle.queue_steps.specs.declared.steps.types.Op.{Op}
 use Rattle.queue_steps.specs.declared.steps.types.Touch.{Touch}
 use Rattle.queue_steps.specs.declared.steps.unbounded.UnboundedLocal.{UnboundedLocal}
 use Rattle.queue_steps.specs.declared.steps.unbounded.UnboundedLocal.TheVariants as chain
+use Rattle.queue_laws.proofs.Moments.{SeenIn}
+use Rattle.queue_laws.proofs.Effects.{Leads, with_effect}
 use Rattle.chain_laws.proofs.ChainCells.{Chain, queue_of}
-use Rattle.chain_laws.proofs.ChainFacts.{SeenIn}
 use Rattle.chain_laws.proofs.ChainAt.{At, push_tail, push_block, asking, installing, showing, claiming, laying, opening, chaining, writing, spending, pop_head, pop_block, pop_tail, taking, following, peeking, passing, entering, awaiting, reading, beginning, walking, destroying, len_tail, len_head, len_again, empty_head, empty_tail, closing, closed_tail}
-use Rattle.chain_laws.proofs.ChainGood as good
-use Rattle.chain_laws.proofs.ChainGood.{Makes, Whether, IsEffect, with_effect}
-use Rattle.queue_machine.specs.declared.types.EffectKind.{EffectKind}
+use Rattle.chain_laws.proofs.ChainGood.{IsEffect}
 use Rattle.queue_machine.specs.declared.types.EffectKind.TheVariants as told
-use Rattle.queue_machine.specs.Book.{Open, Moves, MayMake, Allows, IsBegun, IsRefusal, kind_of}
+use Rattle.queue_machine.specs.Book.{Open, Moves, Allows, IsBegun}
 use Rattle.queue_machine.specs.EffectOf.{effect_of}
 use Rattle.queue_machine.proofs.Moments.{any_in, begun_push}
+use Rattle.queue_machine.proofs.Moving.{no_move, won, marked, appends, takes}
 
 -- the effects of a call in progress begin those of some reply
 pub chain_begun : {A : Type 0} {c : Chain A} {who : ℕ} {ms : List (State A)} {l : Local ℕ} {t : Touch} {o : Op ℕ} {v : Option A} {k : Call A} {es : List (Effect A)} → At c who ms l t o v k es → IsBegun k es
@@ -65,53 +63,15 @@ chain_begun (empty_tail h none small saw) = (reply.IsEmpty true, [], refl)
 chain_begun (closing none) = (reply.Close true, effect.Close ∷ [], refl)
 chain_begun (closed_tail none) = (reply.IsClosed true, [], refl)
 
--- the words of the chain's laws, and those of the book
-refusal : {A : Type 0} (y : Reply A) → good.IsRefusal y → IsRefusal y
-refusal (reply.Push (Err (push.NoMemory v))) e = tt
-refusal (reply.ForcePush (Err (force.NoMemory v))) e = tt
-refusal _ e = absurd e
-
-allowed : {A : Type 0} (k : Call A) (y : Reply A) (m : State A) → good.Allows k y m → Allows k y m
-allowed k y m (inl right) = inl right
-allowed k y m (inr none) = inr (refusal y none.0, none.1)
-
-pub allowed_in : {A : Type 0} (k : Call A) (y : Reply A) (ms : List (State A)) → SeenIn ms (good.Allows k y) → Any (Allows k y) ms
-allowed_in k y ms seen = any_in ms (good.Allows k y) (Allows k y) (λ m right. allowed k y m right) seen
-
--- a step without effect leaves the queue
-no_move : {A : Type 0} (Q : State A) (c s : Chain A) (o : Open A) (e : Option (Effect A)) → Q ≡ queue_of c → e ≡ None → Makes c s e → Moves Q o None (queue_of s) (with_effect o.effects e)
-no_move {A} Q c s o e is none = subst (λ x. Makes c s x → Moves Q o None (queue_of s) (with_effect o.effects x)) (sym none) (λ same. (rw is same, refl))
-
--- a step with this effect moves it
-moved : {A : Type 0} (Q : State A) (c s : Chain A) (o : Open A) (e : Option (Effect A)) (x : Effect A) (k : EffectKind) → Q ≡ queue_of c → e ≡ Some x → kind_of x ≡ k → MayMake k o → Makes c s e
-    → Moves Q o (Some k) (queue_of s) (with_effect o.effects e)
-moved {A} Q c s o e x k is some kind_is may = subst (λ y. Makes c s y → Moves Q o (Some k) (queue_of s) (with_effect o.effects y)) (sym some) (λ makes. rw is (x, kind_is, may, makes.0, makes.1, refl))
-
--- the exchange that wins has an effect, and a mark has one where there was none
-won : {A : Type 0} (Q : State A) (c s : Chain A) (o : Open A) (e : Option (Effect A)) (k : EffectKind) (b : Bool) → Q ≡ queue_of c → MayMake k o → Whether b ((x : Effect A) × (e ≡ Some x) × (kind_of x ≡ k)) (e ≡ None) → Makes c s e
-    → Moves Q o (if b then Some k else None) (queue_of s) (with_effect o.effects e)
-won Q c s o e k true is may h makes = moved Q c s o e h.0 k is h.1 h.2 may makes
-won Q c s o e k false is may h makes = no_move Q c s o e is h makes
-
-marked : {A : Type 0} (Q : State A) (c s : Chain A) (o : Open A) (e : Option (Effect A)) (x : Effect A) (k : EffectKind) (b : Bool) → Q ≡ queue_of c → kind_of x ≡ k → MayMake k o → Whether b (e ≡ None) (e ≡ Some x) → Makes c s e
-    → Moves Q o (if b then None else Some k) (queue_of s) (with_effect o.effects e)
-marked Q c s o e x k true is kind_is may h makes = no_move Q c s o e is h makes
-marked Q c s o e x k false is kind_is may h makes = moved Q c s o e x k is h kind_is may makes
-
-appends : {A : Type 0} (b : Bool) (e : Option (Effect A)) → Whether b ((v : A) × (e ≡ Some (effect.Append v))) (e ≡ None) → Whether b ((x : Effect A) × (e ≡ Some x) × (kind_of x ≡ told.Append)) (e ≡ None)
-appends true e h = (effect.Append h.0, h.1, refl)
-appends false e h = h
-
-takes : {A : Type 0} (b : Bool) (e : Option (Effect A)) → Whether b ((v : A) × (e ≡ Some (effect.Take v))) (e ≡ None) → Whether b ((x : Effect A) × (e ≡ Some x) × (kind_of x ≡ told.Take)) (e ≡ None)
-takes true e h = (effect.Take h.0, h.1, refl)
-takes false e h = h
+pub allowed_in : {A : Type 0} (k : Call A) (y : Reply A) (ms : List (State A)) → SeenIn ms (Allows k y) → Any (Allows k y) ms
+allowed_in k y ms seen = any_in ms (Allows k y) (Allows k y) (λ m right. right) seen
 
 -- the effect that is told of a step moves the queue
-pub chain_moves : {A : Type 0} (Q : State A) (c s : Chain A) (o : Open A) (l : UnboundedLocal ℕ) (a : Answer ℕ) (e : Option (Effect A)) → Q ≡ queue_of c → IsEffect l a e → Makes c s e
+pub chain_moves : {A : Type 0} (Q : State A) (c s : Chain A) (o : Open A) (l : UnboundedLocal ℕ) (a : Answer ℕ) (e : Option (Effect A)) → Q ≡ queue_of c → IsEffect l a e → Leads (queue_of c) e (queue_of s)
     → Moves Q o (effect_of queue.Unbounded (local.Unbounded l) a) (queue_of s) (with_effect o.effects e)
-chain_moves Q c s o (chain.Claiming d tail name spare) (answer.Found found) e is h makes = won Q c s o e told.Append (found == tail) is tt (appends (found == tail) e h) makes
-chain_moves Q c s o (chain.Spending d spare) (answer.Found found) e is h makes = marked Q c s o e effect.SelfClose told.SelfClose (is_shut found) is refl tt h makes
-chain_moves Q c s o (chain.Taking head name) (answer.Found found) e is h makes = won Q c s o e told.Take (found == head) is tt (takes (found == head) e h) makes
-chain_moves Q c s o chain.Closing (answer.Found found) e is h makes = marked Q c s o e effect.Close told.Close (is_shut found) is refl tt h makes
-chain_moves Q c s o _ (answer.Found found) e is h makes = no_move Q c s o e is h makes
-chain_moves Q c s o _ _ e is h makes = no_move Q c s o e is h makes
+chain_moves Q c s o (chain.Claiming d tail name spare) (answer.Found found) e is h makes = won Q (queue_of c) (queue_of s) o e told.Append (found == tail) is tt (appends (found == tail) e h) makes
+chain_moves Q c s o (chain.Spending d spare) (answer.Found found) e is h makes = marked Q (queue_of c) (queue_of s) o e effect.SelfClose told.SelfClose (is_shut found) is refl tt h makes
+chain_moves Q c s o (chain.Taking head name) (answer.Found found) e is h makes = won Q (queue_of c) (queue_of s) o e told.Take (found == head) is tt (takes (found == head) e h) makes
+chain_moves Q c s o chain.Closing (answer.Found found) e is h makes = marked Q (queue_of c) (queue_of s) o e effect.Close told.Close (is_shut found) is refl tt h makes
+chain_moves Q c s o _ (answer.Found found) e is h makes = no_move Q (queue_of c) (queue_of s) o e is h makes
+chain_moves Q c s o _ _ e is h makes = no_move Q (queue_of c) (queue_of s) o e is h makes

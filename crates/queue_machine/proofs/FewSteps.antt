@@ -1,12 +1,9 @@
 -- How few steps a call in progress has before it: at most so many while it is alone, and two if it is prompt.
 use Rattle.std.proofs.Common.{◌≡◌, ◌≢◌, ℕ, ◌+◌, ◌<◌, ◌≤◌, true, List, inl, inr, refl, arith}
 use Rattle.std.proofs.lemmas.Bool.Decides.{eqb_tells}
-use Rattle.queue_steps.specs.declared.sizes.TheConstants.{LONE_STEPS}
-use Rattle.queue_steps.specs.Kinds.{call_kind}
-use Rattle.queue_steps.specs.Prompt.{IsPrompt}
+use Rattle.queue_steps.specs.declared.sizes.TheConstants.{LONE_STEPS, PROMPT_STEPS}
 use Rattle.queue_steps.specs.State.{State}
 use Rattle.queue_steps.specs.declared.model.Call.{Call}
-use Rattle.queue_steps.specs.declared.model.Call.TheVariants as call
 use Rattle.queue_steps.specs.declared.model.Effect.{Effect}
 use Rattle.queue_machine.specs.Book.{Open, IsBegun, Stays, after_own, begun, is_prompt, joined, watched}
 
@@ -15,10 +12,10 @@ pub record FewSteps {T : Type 0} (busy : ℕ) (o : Open T) (n most : ℕ) : Type
   pub low : n ≤ most
   pub lone : busy ≡ 1 → o.alone + n ≤ most
   pub crowd : busy ≢ 1 → o.alone ≡ 0
-  pub prompt : is_prompt o.call ≡ true → o.steps + n ≤ 2
+  pub prompt : is_prompt o.call ≡ true → o.steps + n ≤ PROMPT_STEPS
 
 -- a call just begun
-pub few_begun : {T : Type 0} (busy : ℕ) (k : Call T) (n most : ℕ) → n ≤ most → (is_prompt k ≡ true → n ≤ 2) → FewSteps busy (begun k) n most
+pub few_begun : {T : Type 0} (busy : ℕ) (k : Call T) (n most : ℕ) → n ≤ most → (is_prompt k ≡ true → n ≤ PROMPT_STEPS) → FewSteps busy (begun k) n most
 few_begun busy k n most low prompt = record { low = low; lone = λ e. omega (arith, low); crowd = λ e. refl; prompt = λ e. let two = prompt e in omega arith }
 
 -- a call in progress where another begins
@@ -51,15 +48,3 @@ few_stays busy o n most small some begins c = record {
   lone = elim (eqb_tells busy 1) [ inl t ↦ (let old = c.lone t.1 in omega arith) | inr f ↦ (let zero = c.crowd f.1 in omega arith) ];
   prompt = λ e. let old = c.prompt e in omega arith;
 }
-
--- the two words for a prompt call
-pub prompt_kind : {T : Type 0} (k : Call T) → is_prompt k ≡ true → IsPrompt (call_kind k)
-prompt_kind (call.Push v) e = cc
-prompt_kind (call.ForcePush v) e = cc
-prompt_kind call.Pop e = cc
-prompt_kind call.Close e = tt
-prompt_kind call.IsClosed e = tt
-prompt_kind call.IsEmpty e = tt
-prompt_kind call.IsFull e = tt
-prompt_kind call.Len e = cc
-prompt_kind call.Capacity e = cc

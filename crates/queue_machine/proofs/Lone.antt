@@ -2,7 +2,7 @@
 use Rattle.std.proofs.Common.{◌≡◌, ◌≢◌, ◌⊎◌, ◌∙◌, ℕ, zero, suc, ◌+◌, ◌<◌, ◌&&◌, nat_lt, Bool, true, false, Option, Some, None, is_some, is_none, List, [], ◌∷◌, refl, sym, ap, subst, arith, inl, inr}
 use Rattle.std.proofs.lemmas.Bool.{ltb-true, eq-eqb}
 use Rattle.std.proofs.lemmas.Bool.Decides.{eqb_tells}
-use Rattle.queue_steps.specs.declared.sizes.TheConstants.{LONE_STEPS}
+use Rattle.queue_steps.specs.declared.sizes.TheConstants.{LONE_STEPS, PROMPT_STEPS}
 use Rattle.queue_steps.specs.declared.model.Reply.{Reply}
 use Rattle.queue_machine.specs.declared.types.EffectKind.{EffectKind}
 use Rattle.queue_machine.specs.declared.types.Event.{Event}
@@ -68,12 +68,12 @@ pub record Counts {T : Type 0} (parties : ℕ) (b : Book T) : Type 0 where
   pub busy : b.busy ≡ count parties b.open_call
   pub within : (j : ℕ) (o : Open T) → b.open_call j ≡ Some o → j < parties
   pub lone : (j : ℕ) (o : Open T) → b.open_call j ≡ Some o → o.alone < LONE_STEPS
-  pub prompt : (j : ℕ) (o : Open T) → b.open_call j ≡ Some o → is_prompt o.call ≡ true → o.steps < 2
+  pub prompt : (j : ℕ) (o : Open T) → b.open_call j ≡ Some o → is_prompt o.call ≡ true → o.steps < PROMPT_STEPS
 
 pub counts-first : (T : Type 0) (cap : Option ℕ) (parties : ℕ) → Counts {T = T} parties (opening cap)
 counts-first T cap parties = record { busy = sym (count-none (Open T) parties); within = λ j o e. cc; lone = λ j o e. cc; prompt = λ j o e. cc }
 
-and-left : (a b : Bool) → (a && b) ≡ true → a ≡ true
+pub and-left : (a b : Bool) → (a && b) ≡ true → a ≡ true
 and-left true b e = refl
 and-left false b e = cc
 
@@ -81,7 +81,7 @@ pub and-right : (a b : Bool) → (a && b) ≡ true → b ≡ true
 and-right true b e = e
 and-right false b e = cc
 
-none-if : {X : Type 0} (o : Option X) → is_none o ≡ true → o ≡ None
+pub none-if : {X : Type 0} (o : Option X) → is_none o ≡ true → o ≡ None
 none-if None e = refl
 none-if (Some x) e = cc
 
@@ -133,8 +133,8 @@ counts-stepped {T} parties b c p k None h lt s = record {
     | inr m ↦ let old = at_open-cases (watched c.queue) (b.open_call j) o m.1 in subst (λ z. z.alone < LONE_STEPS) old.2 (h.lone j old.0 old.1)
   ];
   prompt = λ j o e is_p. elim (put-cases others p j (Some mine) o (sym (ap (λ z. z j) s.calls) ∙ e)) [
-    | inl m ↦ let is : mine ≡ o = let x = m.1 in cc in subst (λ z. z.steps < 2) is (s.goes.prompt (ap (λ z. is_prompt z.call) is ∙ is_p))
-    | inr m ↦ let old = at_open-cases (watched c.queue) (b.open_call j) o m.1 in subst (λ z. z.steps < 2) old.2 (h.prompt j old.0 old.1 (ap (λ z. is_prompt z.call) old.2 ∙ is_p))
+    | inl m ↦ let is : mine ≡ o = let x = m.1 in cc in subst (λ z. z.steps < PROMPT_STEPS) is (s.goes.prompt (ap (λ z. is_prompt z.call) is ∙ is_p))
+    | inr m ↦ let old = at_open-cases (watched c.queue) (b.open_call j) o m.1 in subst (λ z. z.steps < PROMPT_STEPS) old.2 (h.prompt j old.0 old.1 (ap (λ z. is_prompt z.call) old.2 ∙ is_p))
   ];
 }
   where
@@ -162,7 +162,7 @@ counts-stepped {T} parties b c p k (Some r) h lt s = record {
   ];
   prompt = λ j o e is_p. elim (put-cases others p j None o (sym (ap (λ z. z j) s.calls) ∙ e)) [
     | inl m ↦ let x = m.1 in cc
-    | inr m ↦ let old = at_open-cases (watched c.queue) (b.open_call j) o m.1 in subst (λ z. z.steps < 2) old.2 (h.prompt j old.0 old.1 (ap (λ z. is_prompt z.call) old.2 ∙ is_p))
+    | inr m ↦ let old = at_open-cases (watched c.queue) (b.open_call j) o m.1 in subst (λ z. z.steps < PROMPT_STEPS) old.2 (h.prompt j old.0 old.1 (ap (λ z. is_prompt z.call) old.2 ∙ is_p))
   ];
 }
   where

@@ -6,9 +6,9 @@ use Rattle.queue_steps.specs.declared.model.Reply.TheVariants as reply
 use Rattle.queue_steps.specs.declared.model.Effect.TheVariants as effect
 use Rattle.queue_steps.specs.declared.steps.bounded.PushKind.{PushKind}
 use Rattle.queue_steps.specs.declared.steps.bounded.PushKind.TheVariants as kind
-use Rattle.chain_laws.proofs.ChainFacts as facts
-use Rattle.chain_laws.proofs.ChainFacts.{SeenIn}
-use Rattle.chain_laws.proofs.ChainAt.{pushes}
+use Rattle.queue_laws.proofs.Moments as laws
+use Rattle.queue_laws.proofs.Moments.{SeenIn}
+use Rattle.queue_laws.proofs.Pushes.{pushes}
 use Rattle.queue_machine.specs.Book.{IsBegun, seen_by}
 
 -- what was so at some moment is so at one of them
@@ -17,8 +17,8 @@ any_in [] P R f seen = absurd seen
 any_in (m ∷ ms) P R f (inl p) = (0, m, omega arith, refl, f m p)
 any_in (m ∷ ms) P R f (inr seen) = let a = any_in ms P R f seen in (suc a.0, a.1, omega arith, a.3, a.4)
 
--- the moments with one more, in the words of the chain's laws and of the book
-pub same_moments : {A : Type 0} (q : State A) (ms : List (State A)) → facts.seen_by q ms ≡ seen_by q ms
+-- the moments with one more, in the words of the laws and of the book
+pub same_moments : {A : Type 0} (q : State A) (ms : List (State A)) → laws.seen_by q ms ≡ seen_by q ms
 same_moments q [] = refl
 same_moments q (m ∷ ms) = refl
 

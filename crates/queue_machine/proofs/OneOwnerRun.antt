@@ -4,7 +4,7 @@ use Rattle.std.specs.Option.{option_to_list}
 use Rattle.std.proofs.lemmas.Bool.{ltb-true}
 use Rattle.queue_steps.specs.State.{start}
 use Rattle.queue_steps.specs.Legal.{IsShown}
-use Rattle.queue_steps.specs.Sole.{Owned, SoleRun}
+use Rattle.queue_steps.specs.Sole.{Owned, SoleRun, fresh}
 use Rattle.queue_steps.specs.declared.model.Call.{Call}
 use Rattle.queue_steps.specs.declared.model.Reply.{Reply}
 use Rattle.queue_machine.specs.declared.types.Event.{Event}
@@ -14,7 +14,7 @@ use Rattle.queue_machine.specs.declared.types.Told.{Told}
 use Rattle.queue_machine.specs.declared.types.Told.TheVariants.{Skipped, Ran}
 use Rattle.queue_machine.specs.Book.{Book, Open, Run, begun, after_own, opening}
 use Rattle.queue_machine.specs.Conforms.{Conforms, entries_from, reply_entry}
-use Rattle.queue_machine.specs.OneOwner.{begun_calls, fresh, reply_in, IsSoleRun}
+use Rattle.queue_machine.specs.OneOwner.{begun_calls, reply_in, IsSoleRun}
 use Rattle.queue_machine.proofs.OneOwner.{Agrees, Ready, Midway, midway-more, midway-ends, at_once}
 use Rattle.queue_machine.proofs.Peaking.{Run-length}
 

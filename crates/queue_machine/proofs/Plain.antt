@@ -90,7 +90,7 @@ untouched-or word.Tail x p = refl
 untouched-or (word.Stamp i) x p = refl
 untouched-or (word.State _ _) x p = absurd p
 
-plain-untouched : (o : Op ℕ) → IsPlain o → block_touched o ≡ None
+pub plain-untouched : (o : Op ℕ) → IsPlain o → block_touched o ≡ None
 plain-untouched (op.Load w) p = untouched w p
 plain-untouched (op.Store w x) p = refl
 plain-untouched (op.Add w x) p = refl
@@ -111,7 +111,7 @@ touched-blocks s (touch.Put i) (Some b) v e = cc
 touched-blocks s (touch.Swap i) (Some b) v e = cc
 touched-blocks s (touch.Take i) (Some b) v e = cc
 
-without-none : {T : Type 0} (b : Option ℕ) → without {T = T} b [] ≡ []
+pub without-none : {T : Type 0} (b : Option ℕ) → without {T = T} b [] ≡ []
 without-none None = refl
 without-none (Some b) = refl
 

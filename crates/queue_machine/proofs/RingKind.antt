@@ -4,7 +4,7 @@ use Rattle.queue_steps.specs.Words.{IsRing}
 use Rattle.queue_steps.specs.declared.steps.types.Kind.TheVariants as kind
 use Rattle.queue_machine.proofs.KindLaws.{KindLaws}
 use Rattle.queue_machine.proofs.Counted.{counted-none}
-use Rattle.queue_machine.proofs.RingCells.{Ring}
+use Rattle.ring_laws.proofs.RingCells.{Ring}
 use Rattle.queue_machine.proofs.RingLaws.{RingHolds, RingIdle, RingFits, ring_steps}
 use Rattle.queue_machine.proofs.RingOpening.{opening_ring, ring_opens, ring_all_idle}
 use Rattle.queue_machine.proofs.RingLeft.{ring_leaves}

@@ -10,7 +10,7 @@ use Rattle.queue_steps.specs.declared.steps.types.Kind.TheVariants as queue
 use Rattle.queue_steps.specs.declared.steps.types.Local.{Local}
 use Rattle.queue_steps.specs.declared.steps.types.Op.{Op}
 use Rattle.queue_steps.specs.declared.steps.types.Touch.{Touch}
-use Rattle.chain_laws.proofs.ChainAnswers.{position_tail}
+use Rattle.queue_laws.proofs.Tails.{position_tail}
 use Rattle.queue_machine.specs.declared.machine.Running.{Running}
 use Rattle.queue_machine.specs.Book.{Book, Open}
 use Rattle.queue_machine.specs.World.{World}
@@ -19,10 +19,10 @@ use Rattle.queue_machine.specs.Left.{left_of, settled, gathered}
 use Rattle.queue_machine.proofs.Engine as engine
 use Rattle.queue_machine.proofs.KindLaws.{SimulatesOf}
 use Rattle.queue_machine.proofs.Settled.{writes, writes_slot, settled-none, settled-one, nth, gathered-items}
-use Rattle.queue_machine.proofs.RingCells.{Cell, Free, Written, Full, Read, Coming, Swapped, Ring, CellOk, RingOk, wraps, apart, together, owner}
-use Rattle.queue_machine.proofs.RingTransitions.{in_ring}
-use Rattle.queue_machine.proofs.RingWords.{item_in}
-use Rattle.queue_machine.proofs.RingAt.{At, push_tail, push_stamp, claiming, filling, push_head, displacing, arriving, swapping, spending, pop_head, pop_stamp, taking, emptying, pop_tail, len_tail, len_head, len_again, empty_head, empty_tail, full_tail, full_head, closing, closed_tail}
+use Rattle.ring_laws.proofs.RingCells.{Cell, Free, Written, Full, Read, Coming, Swapped, Ring, CellOk, RingOk, wraps, apart, together, owner}
+use Rattle.ring_laws.proofs.RingTransitions.{in_ring}
+use Rattle.ring_laws.proofs.RingWords.{item_in}
+use Rattle.ring_laws.proofs.RingAt.{At, push_tail, push_stamp, claiming, filling, push_head, displacing, arriving, swapping, spending, pop_head, pop_stamp, taking, emptying, pop_tail, len_tail, len_head, len_again, empty_head, empty_tail, full_tail, full_head, closing, closed_tail}
 use Rattle.queue_machine.proofs.RingLaws.{RingHolds, RingIdle, RingFits}
 
 -- what a slot will hold that its holder has written: the item of its push

@@ -8,7 +8,7 @@ use Rattle.queue_steps.specs.State.{start}
 use Rattle.queue_steps.specs.Words.{IsRing}
 use Rattle.queue_steps.specs.declared.steps.types.Kind.TheVariants as queue
 use Rattle.queue_machine.specs.Left.{opening_shared, numbers_below}
-use Rattle.queue_machine.proofs.RingCells.{Free, Ring}
+use Rattle.ring_laws.proofs.RingCells.{Free, Ring}
 use Rattle.queue_machine.proofs.RingLaws.{RingHolds, RingIdle}
 
 abbrev pub opening_ring : (A : Type 0) → Ring A

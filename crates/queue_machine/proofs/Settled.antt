@@ -1,11 +1,11 @@
 -- The slots once every call that is about to write has written, and the items that are gathered from them.
-use Rattle.std.proofs.Common.{◌≡◌, ◌≢◌, ◌⊎◌, ◌∙◌, ℕ, zero, suc, ◌+◌, ◌*◌, ◌/◌, ◌%◌, ◌<◌, ◌≤◌, ◌==◌, Bool, true, false, Option, Some, None, List, [], ◌∷◌, length, get_or, set, get_or-set_same, get_or-set_other, refl, sym, ap, arith, inl, inr}
-use Rattle.std.proofs.Math.Nat.{div-add-mod, mul-le-mul_left}
+use Rattle.std.proofs.Common.{◌≡◌, ◌≢◌, ◌∙◌, ℕ, zero, suc, ◌+◌, ◌<◌, ◌≤◌, ◌==◌, Bool, true, false, Option, Some, None, List, [], ◌∷◌, length, get_or, set, get_or-set_same, get_or-set_other, refl, sym, ap, arith, inl, inr}
 use Rattle.std.proofs.lemmas.List.{length-set}
 use Rattle.std.proofs.lemmas.Bool.Decides.{eqb_tells}
 use Rattle.queue_steps.specs.declared.steps.types.Touch.{Touch}
 use Rattle.queue_steps.specs.declared.steps.types.Touch.TheVariants as touch
 use Rattle.queue_steps.specs.Words.{slot_at}
+use Rattle.ring_laws.proofs.RingCells.{slots-apart}
 use Rattle.queue_machine.specs.declared.machine.Running.{Running}
 use Rattle.queue_machine.specs.Left.{written, written_by, settled, gathered}
 
@@ -71,21 +71,6 @@ settled-one (x ∷ xs) slots i zero r lt there here others =
 settled-one (x ∷ xs) slots i (suc who) r lt there here others =
     let long : i < length (written_by x slots) = rw (length-written_by x slots) lt in
     settled-one xs (written_by x slots) i who r long there here (λ p ne. others (suc p) (λ e. ne (omega arith)))
-
--- two positions less than a lap apart have slots of their own
-pub slots-apart : (n p t : ℕ) → 0 < n → p < t → t < p + n → slot_at n t ≢ slot_at n p
-slots-apart n p t some before within same =
-    go (p / n) (t / n) (div-add-mod p n) (div-add-mod t n)
-  where
-    cases : (i j : ℕ) → (j ≤ i) ⊎ (i + 1 ≤ j)
-    cases i j = grind arith
-
-    order : (i j : ℕ) → n * i + p % n ≡ p → n * j + t % n ≡ t → (j ≤ i) ⊎ (i + 1 ≤ j) → ⊥
-    order i j a b (inl le) = let m : n * j ≤ n * i = mul-le-mul_left n le in omega arith
-    order i j a b (inr le) = let m : n * (i + 1) ≤ n * j = mul-le-mul_left n le in let e : n * (i + 1) ≡ n * i + n = omega arith in omega arith
-
-    go : (i j : ℕ) → n * i + p % n ≡ p → n * j + t % n ≡ t → ⊥
-    go i j a b = order i j a b (cases i j)
 
 -- the j-th of these items, if there are so many
 abbrev pub nth : {T : Type 0} → List T → ℕ → Option T

@@ -11,6 +11,8 @@ use Rattle.queue_steps.specs.declared.steps.types.Kind.TheVariants as kind
 use Rattle.queue_steps.specs.declared.steps.types.Local.{Local}
 use Rattle.queue_steps.specs.declared.steps.types.Op.{Op}
 use Rattle.queue_steps.specs.declared.steps.types.Touch.{Touch}
+use Rattle.slot_laws.proofs.SlotRows.{Hold, Nobody, Filling, Swapping, Taking, Stands, free_empty, free_full, filling, swapping, taking, At, push_try, push_put, force_try_empty, force_try_full, force_put_empty, force_put_full, pop_try, pop_take, close_try, look_at}
+use Rattle.slot_laws.proofs.SlotHolder.{Keeps, Idle, own_of}
 use Rattle.queue_machine.specs.declared.machine.Running.{Running}
 use Rattle.queue_machine.specs.Book.{Book, Open}
 use Rattle.queue_machine.specs.Cells.{Shared, CanStep, step_of, start_of}
@@ -20,8 +22,7 @@ use Rattle.queue_machine.proofs.Engine as engine
 use Rattle.queue_machine.proofs.KindLaws.{SimulatesOf, KindLaws}
 use Rattle.queue_machine.proofs.Counted.{counted-none}
 use Rattle.queue_machine.proofs.Settled.{writes, writes_slot, settled-none, settled-one}
-use Rattle.queue_machine.proofs.SingleLaws.{Keeps, own_of, Holds, Idle, FitsIn, single_engine}
-use Rattle.queue_machine.proofs.SingleRows.{Hold, Nobody, Filling, Swapping, Taking, Stands, free_empty, free_full, filling, swapping, taking, At, push_try, push_put, force_try_empty, force_try_full, force_put_empty, force_put_full, pop_try, pop_take, close_try, look_at}
+use Rattle.queue_machine.proofs.SingleLaws.{Holds, FitsIn, single_engine}
 
 -- what the lock's holder is about to write
 abbrev wait_of : {T : Type 0} → Hold T → Option T

@@ -1,79 +1,74 @@
 -- Exactly the events that do not fit are skipped.
-use Rattle.std.proofs.Common.{◌≡◌, ◌≢◌, ◌⊎◌, ℕ, zero, suc, ◌+◌, ◌<◌, ◌≤◌, Bool, true, false, Option, Some, None, List, [], ◌∷◌, ◌++◌, length, refl, sym, subst, arith, inl, inr}
+use Rattle.std.proofs.Common.{◌≡◌, ◌≢◌, ◌⊎◌, ℕ, zero, suc, ◌+◌, ◌<◌, ◌≤◌, Bool, true, false, Option, Some, None, List, [], ◌∷◌, ◌++◌, length, refl, subst, arith, inl, inr, slice_get, Contains}
+use Rattle.std.specs.List.{AllByRecursion}
+use Rattle.std.proofs.lemmas.List.Elements.{All-contains, All-from_recursion, Contains-append_left, Contains-push_cases}
 use Rattle.queue_steps.specs.declared.model.Reply.{Reply}
 use Rattle.queue_machine.specs.declared.types.Event.{Event}
 use Rattle.queue_machine.specs.declared.types.Event.TheVariants.{Begin, Step}
-use Rattle.queue_machine.specs.Meaning.{Each, event_at, IsUnanswered}
-use Rattle.queue_machine.specs.Skips.{IsIn, IsNotIn, IsInCall, IsExact}
-use Rattle.queue_machine.proofs.Entries.{each-more, event-more}
-use Rattle.queue_machine.proofs.Trace.{answered}
+use Rattle.queue_machine.specs.InCall.{HasRun, IsUnanswered, IsInCall}
+use Rattle.queue_machine.specs.Skips.{IsExact}
+use Rattle.queue_machine.proofs.Calls.{answered, in-call-late, in-call-on}
+use Rattle.queue_machine.proofs.Entries.{each-all}
+
+pub last-or-earlier : (m n : ℕ) → m < n + 1 → (m ≡ n) ⊎ (m < n)
+last-or-earlier m n lt = grind arith
 
 -- the skipped events after the event n, which was skipped or not
 abbrev pub noted : ℕ → Bool → List ℕ → List ℕ
 noted n true S = S ++ n ∷ []
 noted n false S = S
 
-each-front : {X : Type 0} (P : X → Type 0) (xs ys : List X) → Each P (xs ++ ys) → Each P xs
+each-front : {X : Type 0} (P : X → Type 0) (xs ys : List X) → AllByRecursion P (xs ++ ys) → AllByRecursion P xs
 each-front P [] ys all = tt
 each-front P (x ∷ xs) ys all = (all.0, each-front P xs ys all.1)
 
-each-end : {X : Type 0} (P : X → Type 0) (xs : List X) (x : X) → Each P (xs ++ x ∷ []) → P x
+each-end : {X : Type 0} (P : X → Type 0) (xs : List X) (x : X) → AllByRecursion P (xs ++ x ∷ []) → P x
 each-end P [] x all = all.0
 each-end P (y ∷ xs) x all = each-end P xs x all.1
 
-in-front : (n : ℕ) (xs ys : List ℕ) → IsIn n xs → IsIn n (xs ++ ys)
-in-front n [] ys h = absurd h
-in-front n (x ∷ xs) ys (inl e) = inl e
-in-front n (x ∷ xs) ys (inr h) = inr (in-front n xs ys h)
-
-pub in-end : (n : ℕ) (xs : List ℕ) → IsIn n (xs ++ n ∷ [])
-in-end n [] = inl refl
-in-end n (x ∷ xs) = inr (in-end n xs)
-
-pub event-less : {X : Type 0} (xs ys : List X) (n : ℕ) (x : X) → n < length xs → event_at (xs ++ ys) n ≡ Some x → event_at xs n ≡ Some x
+pub event-less : {X : Type 0} (xs ys : List X) (n : ℕ) (x : X) → n < length xs → slice_get (xs ++ ys) n ≡ Some x → slice_get xs n ≡ Some x
 event-less [] ys n x lt e = absurd (omega arith)
 event-less (y ∷ xs) ys zero x lt e = e
 event-less (y ∷ xs) ys (suc n) x lt e = event-less xs ys n x (omega arith) e
 
 -- the numbers of earlier events are other numbers
-pub not-in-later : (n : ℕ) (S : List ℕ) → Each (λ m. m < n) S → IsNotIn n S
-not-in-later n [] all = tt
-not-in-later n (m ∷ S) all = ((λ e. let lt = all.0 in absurd (omega arith)), not-in-later n S all.1)
+pub not-in-later : (n : ℕ) (S : List ℕ) → AllByRecursion (λ m. m < n) S → Contains S n → ⊥
+not-in-later n S all is = let lt = All-contains (λ m. m < n) S n (All-from_recursion (λ m. m < n) S all) is in absurd (omega arith)
 
-not-in-noted : (n m : ℕ) (b : Bool) (S : List ℕ) → m < n → IsNotIn m S → IsNotIn m (noted n b S)
-not-in-noted n m true S lt all = each-more (λ k. k ≢ m) S n all (λ e. absurd (omega arith))
-not-in-noted n m false S lt all = all
+not-in-noted : (n m : ℕ) (b : Bool) (S : List ℕ) → m < n → (Contains S m → ⊥) → Contains (noted n b S) m → ⊥
+not-in-noted n m true S lt absent is = elim (Contains-push_cases S n m is) [ inl old ↦ absent old | inr e ↦ absurd (omega arith) ]
+not-in-noted n m false S lt absent is = absent is
 
-in-noted : (n m : ℕ) (b : Bool) (S : List ℕ) → IsIn m S → IsIn m (noted n b S)
-in-noted n m true S h = in-front m S (n ∷ []) h
-in-noted n m false S h = h
+in-noted : (n m : ℕ) (b : Bool) (S : List ℕ) → Contains S m → Contains (noted n b S) m
+in-noted n m true S is = Contains-append_left S (n ∷ []) m is
+in-noted n m false S is = is
 
-not-in-before : (n m : ℕ) (b : Bool) (S : List ℕ) → IsNotIn m (noted n b S) → IsNotIn m S
-not-in-before n m true S all = each-front (λ k. k ≢ m) S (n ∷ []) all
-not-in-before n m false S all = all
+ran-noted : {T : Type 0} (events : List (Event T)) (S : List ℕ) (n m : ℕ) (b : Bool) (e : Event T) → m < n → HasRun events S m e → HasRun events (noted n b S) m e
+ran-noted events S n m b e lt h = (h.0, not-in-noted n m b S lt h.1)
 
-module _ (T : Type 0) (past : List (Event T)) (x : Event T) (S : List ℕ) (R : List (ℕ × ℕ × Reply T)) (n p : ℕ) (b : Bool) (r : Option (Reply T)) (len : n ≡ length past) (early : Each (λ y. y.0 < n) R) where
+abbrev in-call-noted : {T : Type 0} (events : List (Event T)) (S : List ℕ) (R : List (ℕ × ℕ × Reply T)) (n q m : ℕ) (b : Bool) (c : IsInCall events S R q m) → c.first < n → IsInCall events (noted n b S) R q m
+in-call-noted events S R n q m b c lt = record { first = c.first; call = c.call; begins = ran-noted events S n c.first b (Begin q c.call) lt c.begins; before = c.before; unanswered = c.unanswered }
+
+module _ (T : Type 0) (past : List (Event T)) (x : Event T) (S : List ℕ) (R : List (ℕ × ℕ × Reply T)) (n p : ℕ) (b : Bool) (r : Option (Reply T)) (len : n ≡ length past) (early : AllByRecursion (λ y. y.0 < n) R) where
   abbrev now : List (Event T)
   now = past ++ x ∷ []
 
-  unanswered-before : (q first m : ℕ) → (y : Option (Reply T)) → IsUnanswered (answered n p y R) q first m → IsUnanswered R q first m
+  pub unanswered-before : (q first m : ℕ) → (y : Option (Reply T)) → IsUnanswered (answered n p y R) q first m → IsUnanswered R q first m
   unanswered-before q first m None all = all
   unanswered-before q first m (Some z) all = each-front _ R ((n, p, z) ∷ []) all
 
-  unanswered-now : (q first m : ℕ) → m ≤ n → (y : Option (Reply T)) → IsUnanswered R q first m → IsUnanswered (answered n p y R) q first m
-  unanswered-now q first m le None all = all
-  unanswered-now q first m le (Some z) all = each-more _ R (n, p, z) all (λ e. inr le)
+  -- what had run before this event had run
+  pub ran-before : (m : ℕ) (e : Event T) → m < n → HasRun now (noted n b S) m e → HasRun past S m e
+  ran-before m e lt h = (event-less past (x ∷ []) m e (omega arith) h.0, λ is. h.1 (in-noted n m b S is))
 
   -- before an earlier event, and before this one, a party is in a call as it was
   pub earlier-now : (q m : ℕ) → m ≤ n → IsInCall past S R q m → IsInCall now (noted n b S) (answered n p r R) q m
-  earlier-now q m le c =
-      let lt = c.before in
-      record { first = c.first; call = c.call; begins = event-more past (x ∷ []) c.first (Begin q c.call) c.begins; before = c.before; ran = not-in-noted n c.first b S (omega arith) c.ran; unanswered = unanswered-now q c.first m le r c.unanswered }
+  earlier-now q m le c = let lt = c.before in in-call-noted now S (answered n p r R) n q m b (in-call-late past (x ∷ []) S R n p q m r le c) (omega arith)
 
-  pub earlier-before : (q m : ℕ) → m ≤ n → IsInCall now (noted n b S) (answered n p r R) q m → IsInCall past S R q m
+  abbrev pub earlier-before : (q m : ℕ) → m ≤ n → IsInCall now (noted n b S) (answered n p r R) q m → IsInCall past S R q m
   earlier-before q m le c =
       let lt = c.before in
-      record { first = c.first; call = c.call; begins = event-less past (x ∷ []) c.first (Begin q c.call) (omega arith) c.begins; before = c.before; ran = not-in-before n c.first b S c.ran; unanswered = unanswered-before q c.first m r c.unanswered }
+      record { first = c.first; call = c.call; begins = ran-before c.first (Begin q c.call) (omega arith) c.begins; before = c.before; unanswered = unanswered-before q c.first m r c.unanswered }
 
   -- an earlier event is exact as it was
   pub exact-now : (m : ℕ) (y : Event T) (parties : ℕ) → m < n → IsExact parties past S R m y → IsExact parties now (noted n b S) (answered n p r R) m y
@@ -84,39 +79,18 @@ module _ (T : Type 0) (past : List (Event T)) (x : Event T) (S : List ℕ) (R : 
 
   -- after this event a call goes on
   pub goes-on : (q : ℕ) → (r ≡ None) ⊎ (q ≢ p) → IsInCall past S R q n → IsInCall now (noted n b S) (answered n p r R) q (n + 1)
-  goes-on q other c =
-      let lt = c.before in
-      record {
-        first = c.first;
-        call = c.call;
-        begins = event-more past (x ∷ []) c.first (Begin q c.call) c.begins;
-        before = omega arith;
-        ran = not-in-noted n c.first b S c.before c.ran;
-        unanswered = later r other;
-      }
-    where
-      old : (xs : List (ℕ × ℕ × Reply T)) → Each (λ y. y.0 < n) xs → IsUnanswered xs q c.first n → IsUnanswered xs q c.first (n + 1)
-      old [] e all = tt
-      old (y ∷ xs) e all = ((λ same. elim (all.0 same) [ inl lt ↦ inl lt | inr le ↦ let before = e.0 in absurd (omega arith) ]), old xs e.1 all.1)
+  goes-on q other c = let lt = c.before in in-call-noted now S (answered n p r R) n q (n + 1) b (in-call-on past (x ∷ []) S R n p q r other early c) (omega arith)
 
-      later : (y : Option (Reply T)) → (y ≡ None) ⊎ (q ≢ p) → IsUnanswered (answered n p y R) q c.first (n + 1)
-      later None other = old R early c.unanswered
-      later (Some z) (inl none) = cc
-      later (Some z) (inr ne) = each-more _ R (n, p, z) (old R early c.unanswered) (λ e. absurd (ne (sym e)))
+  pub nearer : (q first : ℕ) (xs : List (ℕ × ℕ × Reply T)) → IsUnanswered xs q first (n + 1) → IsUnanswered xs q first n
+  nearer q first xs all = each-all _ _ xs (λ y before same. elim (before same) [ inl less ↦ inl less | inr le ↦ inr (omega arith) ]) all
 
-  -- a call after this event was there before it, or began at it
-  pub was-there : (q : ℕ) → (c : IsInCall now (noted n b S) (answered n p r R) q (n + 1)) → (c.first ≡ n) ⊎ IsInCall past S R q n
-  was-there q c = elim (cases c.first c.before) [
-    | inl e ↦ inl e
-    | inr lt ↦ inr (record { first = c.first; call = c.call; begins = event-less past (x ∷ []) c.first (Begin q c.call) (omega arith) c.begins; before = lt; ran = not-in-before n c.first b S c.ran; unanswered = nearer R (unanswered-before q c.first (n + 1) r c.unanswered) })
-  ]
-    where
-      cases : (m : ℕ) → m < n + 1 → (m ≡ n) ⊎ (m < n)
-      cases m lt = grind arith
+  -- a call after this event that began before it was there before it
+  abbrev pub there-before : (q : ℕ) (c : IsInCall now (noted n b S) (answered n p r R) q (n + 1)) → c.first < n → IsInCall past S R q n
+  there-before q c lt = record { first = c.first; call = c.call; begins = ran-before c.first (Begin q c.call) lt c.begins; before = lt; unanswered = nearer q c.first R (unanswered-before q c.first (n + 1) r c.unanswered) }
 
-      nearer : (xs : List (ℕ × ℕ × Reply T)) → IsUnanswered xs q c.first (n + 1) → IsUnanswered xs q c.first n
-      nearer [] all = tt
-      nearer (y ∷ xs) all = ((λ same. elim (all.0 same) [ inl lt ↦ inl lt | inr le ↦ inr (omega arith) ]), nearer xs all.1)
+  -- or it began at it
+  pub was-there : (q : ℕ) → (c : IsInCall now (noted n b S) (answered n p r R) q (n + 1)) → (c.first ≡ n) ⊎ (c.first < n)
+  was-there q c = last-or-earlier c.first n c.before
 
   -- a call that this event answered is over
   pub is-over : (z : Reply T) → r ≡ Some z → IsInCall now (noted n b S) (answered n p r R) p (n + 1) → ⊥

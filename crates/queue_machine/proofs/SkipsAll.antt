@@ -1,15 +1,19 @@
 -- Exactly the events that do not fit are skipped, in every conforming replay.
-use Rattle.std.proofs.Common.{◌≡◌, ◌∙◌, ℕ, ◌+◌, if◌then◌else◌, Option, Some, None, is_some, List, [], ◌∷◌, ◌++◌, refl, sym, ap, arith, append-nil, append_assoc}
+use Rattle.std.proofs.Common.{◌≡◌, ◌⊎◌, ◌∙◌, ℕ, ◌+◌, ◌<◌, if◌then◌else◌, Option, Some, None, is_some, List, [], ◌∷◌, ◌++◌, refl, sym, ap, arith, inl, inr, length, append-nil, append_assoc, slice_get}
+use Rattle.queue_steps.specs.declared.model.Call.{Call}
 use Rattle.queue_steps.specs.declared.model.Reply.{Reply}
 use Rattle.queue_machine.specs.declared.types.Event.{Event}
 use Rattle.queue_machine.specs.declared.types.Event.TheVariants.{Begin, Step}
 use Rattle.queue_machine.specs.declared.types.Told.{Told}
 use Rattle.queue_machine.specs.declared.types.Told.TheVariants.{Skipped, Ran}
 use Rattle.queue_machine.specs.Book.{Book, Open, Happens, Run, begun, joined, watched, at_open, after_own, opening}
-use Rattle.queue_machine.specs.Conforms.{party_of}
-use Rattle.queue_machine.specs.Skips.{SkippedIsExact}
+use Rattle.queue_machine.specs.declared.types.Replay.{Replay}
+use Rattle.queue_machine.specs.Conforms.{Conforms, party_of}
+use Rattle.queue_machine.specs.InCall.{IsInCall}
+use Rattle.queue_machine.specs.Skips.{IsExact, SkippedIsExact}
 use Rattle.queue_machine.proofs.Lone.{put-same, put-other}
-use Rattle.queue_machine.proofs.Trace.{answered}
+use Rattle.queue_machine.proofs.Calls.{answered}
+use Rattle.queue_machine.proofs.Entries.{each-all}
 use Rattle.queue_machine.proofs.Skips.{noted}
 use Rattle.queue_machine.proofs.SkipsRun.{Fair, is_skipped, reply_told, fair-skipped, fair-begun, fair-at-once, fair-step}
 
@@ -22,7 +26,7 @@ over-if : {T : Type 0} (r : Option (Reply T)) (o : Open T) → (if is_some r the
 over-if None o e = cc
 over-if (Some z) o e = (z, refl)
 
-fair-next : {T : Type 0} (cap : Option ℕ) (parties : ℕ) (past : List (Event T)) (told : List (Told T)) (n : ℕ) (S : List ℕ) (R : List (ℕ × ℕ × Reply T)) (b c : Book T) (x : Event T) (t : Told T) → Fair parties past told n S R b → Happens cap parties b x t c
+pub fair-next : {T : Type 0} (cap : Option ℕ) (parties : ℕ) (past : List (Event T)) (told : List (Told T)) (n : ℕ) (S : List ℕ) (R : List (ℕ × ℕ × Reply T)) (b c : Book T) (x : Event T) (t : Told T) → Fair parties past told n S R b → Happens cap parties b x t c
     → Fair parties (past ++ x ∷ []) (told ++ t ∷ []) (n + 1) (noted n (is_skipped t) S) (answered n (party_of x) (reply_told t) R) c
 fair-next {T} cap parties past told n S R b c x Skipped f h = fair-skipped T parties past told n S R b f x c h.0 h.1
 fair-next {T} cap parties past told n S R b c (Begin p k) (Ran None None) f h =
@@ -55,18 +59,68 @@ run-fair cap parties past (x ∷ es) told (t ∷ ts) n S R b c f run =
 run-fair cap parties past [] told (t ∷ ts) n S R b c f run = absurd run
 run-fair cap parties past (x ∷ es) told [] n S R b c f run = absurd run
 
+pub fair-first : (T : Type 0) (cap : Option ℕ) (parties : ℕ) → Fair {T = T} parties [] [] 0 [] [] (opening cap)
+fair-first T cap parties = record {
+  len = refl;
+  same = refl;
+  skipped = refl;
+  replies = refl;
+  early = tt;
+  early_skipped = tt;
+  inside = λ q o e. cc;
+  outside = λ q e in_call. let before = in_call.before in absurd (omega arith);
+  exact = λ m y e. cc;
+}
+
+-- at the end of a replay
+whole-fair : {T A : Type 0} (cap : Option ℕ) (parties : ℕ) (events : List (Event T)) (r : Replay T A) (c : Conforms cap parties events r) → Fair parties events c.told (length events) r.skipped.items r.replies.items c.last
+whole-fair {T} cap parties events r c =
+    let whole = run-fair cap parties [] events [] c.told 0 [] [] (opening cap) c.last (fair-first T cap parties) c.run in
+    rw (← whole.fair.len, c.skipped ∙ sym whole.fair.skipped, c.replies ∙ sym whole.fair.replies) whole.fair
+
 pub skipped_is_exact : {T A : Type 0} → SkippedIsExact T A
-skipped_is_exact {T} cap parties events r c n x at =
-    let begins : Fair {T = T} parties [] [] 0 [] [] (opening cap) = record {
-      len = refl;
-      same = refl;
-      skipped = refl;
-      replies = refl;
-      early = tt;
-      early_skipped = tt;
-      inside = λ q o e. cc;
-      outside = λ q e in_call. let before = in_call.before in absurd (omega arith);
-      exact = λ m y e. cc;
-    } in
-    let whole = run-fair cap parties [] events [] c.told 0 [] [] (opening cap) c.last begins c.run in
-    rw (c.skipped ∙ sym whole.fair.skipped, c.replies ∙ sym whole.fair.replies) (whole.fair.exact n x at)
+skipped_is_exact cap parties events r c n x at = (whole-fair cap parties events r c).exact n x at
+
+-- where what is skipped is exact, a party is in one call at most
+one-begin : {T : Type 0} (parties : ℕ) (events : List (Event T)) (S : List ℕ) (R : List (ℕ × ℕ × Reply T)) (p n : ℕ) (c d : IsInCall events S R p n) → ((m : ℕ) (y : Event T) → slice_get events m ≡ Some y → IsExact parties events S R m y) → c.first < d.first → ⊥
+one-begin parties events S R p n c d exact lt = elim (exact d.first (Begin p d.call) d.begins.0) [
+  | inl ran ↦ ran.0.1 (record { first = c.first; call = c.call; begins = c.begins; before = lt; unanswered = each-all _ _ R (λ y before same. elim (before same) [ inl less ↦ inl less | inr le ↦ let less = d.before in inr (omega arith) ]) c.unanswered })
+  | inr skipped ↦ d.begins.1 skipped.1
+]
+
+less-or-same : (a b : ℕ) → (a ≡ b) ⊎ (a < b) ⊎ (b < a)
+less-or-same a b = grind arith
+
+one-first : {T : Type 0} (parties : ℕ) (events : List (Event T)) (S : List ℕ) (R : List (ℕ × ℕ × Reply T)) (p n : ℕ) (c d : IsInCall events S R p n) → ((m : ℕ) (y : Event T) → slice_get events m ≡ Some y → IsExact parties events S R m y) → c.first ≡ d.first
+one-first parties events S R p n c d exact = elim (less-or-same c.first d.first) [
+  | inl e ↦ e
+  | inr (inl lt) ↦ absurd (one-begin parties events S R p n c d exact lt)
+  | inr (inr lt) ↦ absurd (one-begin parties events S R p n d c exact lt)
+]
+
+begin-call : {T : Type 0} (p : ℕ) (a b : Call T) → Some (Begin p a) ≡ Some (Begin p b) → a ≡ b
+begin-call p a b e = cc
+
+pub some-open : {T : Type 0} (o : Option (Open T)) → (o ≡ None → ⊥) → (x : Open T) × (o ≡ Some x)
+some-open None some = absurd (some refl)
+some-open (Some x) some = (x, refl)
+
+-- a party in a call at the end of a replay has an open call there, and is in no other
+pub record InCallAtEnd {T : Type 0} (events : List (Event T)) (S : List ℕ) (R : List (ℕ × ℕ × Reply T)) (b : Book T) (p : ℕ) (c : IsInCall events S R p (length events)) : Type 0 where
+  pub opened : Open T
+  pub is_open : b.open_call p ≡ Some opened
+  pub one : (d : IsInCall events S R p (length events)) → c.first ≡ d.first
+  pub one_call : (d : IsInCall events S R p (length events)) → c.call ≡ d.call
+
+pub in-call-at-end : {T A : Type 0} (cap : Option ℕ) (parties : ℕ) (events : List (Event T)) (r : Replay T A) (c : Conforms cap parties events r) (p : ℕ) (k : IsInCall events r.skipped.items r.replies.items p (length events))
+    → InCallAtEnd events r.skipped.items r.replies.items c.last p k
+in-call-at-end {T} cap parties events r c p k =
+    let fair = whole-fair cap parties events r c in
+    let is = some-open (c.last.open_call p) (λ none. fair.outside p none k) in
+    let one : (d : IsInCall events r.skipped.items r.replies.items p (length events)) → k.first ≡ d.first = λ d. one-first parties events r.skipped.items r.replies.items p (length events) k d fair.exact in
+    record {
+      opened = is.0;
+      is_open = is.1;
+      one = one;
+      one_call = λ d. begin-call p k.call d.call (sym k.begins.0 ∙ ap (slice_get events) (one d) ∙ d.begins.0);
+    }

@@ -1,5 +1,8 @@
 -- A whole run skips exactly the events that do not fit.
-use Rattle.std.proofs.Common.{◌≡◌, ◌≢◌, ◌⊎◌, ◌∙◌, ℕ, ◌+◌, ◌<◌, ◌&&◌, nat_lt, Bool, true, false, Option, Some, None, is_some, is_none, List, [], ◌∷◌, ◌++◌, length, refl, sym, ap, subst, arith, inl, inr, append-nil, length-append}
+use Rattle.std.proofs.Common.{◌≡◌, ◌≢◌, ◌∙◌, ℕ, ◌+◌, ◌<◌, ◌&&◌, nat_lt, Bool, true, false, Option, Some, None, is_some, is_none, List, [], ◌∷◌, ◌++◌, length, refl, sym, ap, subst, arith, inl, inr, append-nil, slice_get, Contains}
+use Rattle.std.specs.List.{AllByRecursion}
+use Rattle.std.proofs.lemmas.List.Elements.{Contains-push}
+use Rattle.std.proofs.lemmas.Option.{slice_get_within}
 use Rattle.std.proofs.lemmas.Bool.{ltb-true, lt-ltb}
 use Rattle.std.proofs.lemmas.Bool.Decides.{eqb_tells}
 use Rattle.queue_steps.specs.declared.model.Call.{Call}
@@ -11,12 +14,13 @@ use Rattle.queue_machine.specs.declared.types.Told.{Told}
 use Rattle.queue_machine.specs.declared.types.Told.TheVariants.{Skipped, Ran}
 use Rattle.queue_machine.specs.Book.{Book, Open, fits, joined, watched, at_open}
 use Rattle.queue_machine.specs.Conforms.{party_of, entries_from, reply_entry, skipped_entry}
-use Rattle.queue_machine.specs.Meaning.{Each, event_at}
-use Rattle.queue_machine.specs.Skips.{IsNotIn, IsInCall, ShouldRun, IsExact}
-use Rattle.queue_machine.proofs.Entries.{each-more, each-all, event-within, event-last}
+use Rattle.queue_machine.specs.InCall.{IsInCall}
+use Rattle.queue_machine.specs.Skips.{ShouldRun, IsExact}
+use Rattle.queue_machine.proofs.Calls.{answered, early-answered}
+use Rattle.queue_machine.proofs.Entries.{each-more, each-all, event-last, length-one}
+use Rattle.queue_machine.proofs.Lone.{and-left, and-right, none-if}
 use Rattle.queue_machine.proofs.SoFar.{entries-more}
-use Rattle.queue_machine.proofs.Trace.{answered}
-use Rattle.queue_machine.proofs.Skips.{noted, event-less, in-end, not-in-later, earlier-now, earlier-before, exact-now, goes-on, was-there, is-over}
+use Rattle.queue_machine.proofs.Skips.{noted, event-less, not-in-later, earlier-now, earlier-before, exact-now, goes-on, there-before, was-there, is-over, last-or-earlier}
 
 -- what is known of the skipped events so far
 pub record Fair {T : Type 0} (parties : ℕ) (past : List (Event T)) (told : List (Told T)) (n : ℕ) (S : List ℕ) (R : List (ℕ × ℕ × Reply T)) (b : Book T) : Type 0 where
@@ -24,11 +28,11 @@ pub record Fair {T : Type 0} (parties : ℕ) (past : List (Event T)) (told : Lis
   pub same : length past ≡ length told
   pub skipped : S ≡ entries_from skipped_entry 0 past told
   pub replies : R ≡ entries_from reply_entry 0 past told
-  pub early : Each (λ y. y.0 < n) R
-  pub early_skipped : Each (λ m. m < n) S
+  pub early : AllByRecursion (λ y. y.0 < n) R
+  pub early_skipped : AllByRecursion (λ m. m < n) S
   pub inside : (q : ℕ) (o : Open T) → b.open_call q ≡ Some o → IsInCall past S R q n
   pub outside : (q : ℕ) → b.open_call q ≡ None → IsInCall past S R q n → ⊥
-  pub exact : (m : ℕ) (y : Event T) → event_at past m ≡ Some y → IsExact parties past S R m y
+  pub exact : (m : ℕ) (y : Event T) → slice_get past m ≡ Some y → IsExact parties past S R m y
 
 abbrev pub is_skipped : {T : Type 0} → Told T → Bool
 is_skipped Skipped = true
@@ -47,19 +51,9 @@ answered-append n p Skipped R = sym (append-nil R)
 answered-append n p (Ran k None) R = sym (append-nil R)
 answered-append n p (Ran k (Some r)) R = refl
 
-early-noted : (n : ℕ) (b : Bool) (S : List ℕ) → Each (λ m. m < n) S → Each (λ m. m < n + 1) (noted n b S)
+early-noted : (n : ℕ) (b : Bool) (S : List ℕ) → AllByRecursion (λ m. m < n) S → AllByRecursion (λ m. m < n + 1) (noted n b S)
 early-noted n true S all = each-more _ S n (each-all _ _ S (λ m lt. omega arith) all) (omega arith)
 early-noted n false S all = each-all _ _ S (λ m lt. omega arith) all
-
-early-answered : {T : Type 0} (n p : ℕ) (r : Option (Reply T)) (R : List (ℕ × ℕ × Reply T)) → Each (λ y. y.0 < n) R → Each (λ y. y.0 < n + 1) (answered n p r R)
-early-answered n p None R all = each-all _ _ R (λ y lt. omega arith) all
-early-answered n p (Some r) R all = each-more _ R _ (each-all _ _ R (λ y lt. omega arith) all) (omega arith)
-
-last-or-earlier : (m n : ℕ) → m < n + 1 → (m ≡ n) ⊎ (m < n)
-last-or-earlier m n lt = grind arith
-
-length-one : {X : Type 0} (xs : List X) (y : X) → length (xs ++ y ∷ []) ≡ length xs + 1
-length-one xs y = length-append xs (y ∷ [])
 
 some-same : {X : Type 0} (x y : X) → Some x ≡ Some y → x ≡ y
 some-same x y e = cc
@@ -80,30 +74,14 @@ fair-more {T} parties past told n S R b c x t f here inside outside = record {
   inside = inside;
   outside = outside;
   exact = λ m y e.
-      let within = event-within (past ++ x ∷ []) m y e in
+      let within = slice_get_within (past ++ x ∷ []) m y e in
       elim (last-or-earlier m n (omega (arith, within, length-one past x, f.len))) [
         | inl at ↦
-            let is : x ≡ y = let last = event-last past n x f.len in let e' : event_at (past ++ x ∷ []) n ≡ Some y = subst (λ k. event_at (past ++ x ∷ []) k ≡ Some y) at e in some-same x y (sym last ∙ e') in
+            let is : x ≡ y = let last = event-last past n x f.len in let e' : slice_get (past ++ x ∷ []) n ≡ Some y = subst (λ k. slice_get (past ++ x ∷ []) k ≡ Some y) at e in some-same x y (sym last ∙ e') in
             subst (λ k. IsExact parties (past ++ x ∷ []) (noted n (is_skipped t) S) (answered n (party_of x) (reply_told t) R) k y) (sym at) (subst (λ z. IsExact parties (past ++ x ∷ []) (noted n (is_skipped t) S) (answered n (party_of x) (reply_told t) R) n z) is here)
         | inr lt ↦ exact-now T past x S R n (party_of x) (is_skipped t) (reply_told t) f.len f.early m y parties lt (f.exact m y (event-less past (x ∷ []) m y (omega (arith, f.len)) e))
       ];
 }
-
-and-left : (a b : Bool) → (a && b) ≡ true → a ≡ true
-and-left true b e = refl
-and-left false b e = cc
-
-and-right : (a b : Bool) → (a && b) ≡ true → b ≡ true
-and-right true b e = e
-and-right false b e = cc
-
-none-if : {X : Type 0} (o : Option X) → is_none o ≡ true → o ≡ None
-none-if None e = refl
-none-if (Some x) e = cc
-
-some-if : {X : Type 0} (o : Option X) → is_some o ≡ true → (x : X) × (o ≡ Some x)
-some-if None e = cc
-some-if (Some x) e = (x, refl)
 
 false-of : (b : Bool) → (true && b) ≡ false → b ≡ false
 false-of true e = e
@@ -142,17 +120,13 @@ module _ (T : Type 0) (parties : ℕ) (past : List (Event T)) (told : List (Told
 
   -- an event that is skipped
   pub fair-skipped : (x : Event T) (c : Book T) → fits parties b x ≡ false → c ≡ b → next x Skipped c
-  fair-skipped x c bad same = fair-more parties past told n S R b c x Skipped f (inr (not_right x bad, in-end n S))
+  fair-skipped x c bad same = fair-more parties past told n S R b c x Skipped f (inr (not_right x bad, Contains-push S n))
       (λ q o e. goes-on T past x S R n (party_of x) true None f.len f.early q (inl refl) (f.inside q o (sym (ap (λ z. z.open_call q) same) ∙ e)))
       (λ q e in_call. elim (was-there T past x S R n (party_of x) true None f.len f.early q in_call) [
-        | inl at ↦ absurd (not-last S in_call.first at in_call.ran)
-        | inr old ↦ f.outside q (sym (ap (λ z. z.open_call q) same) ∙ e) old
+        | inl at ↦ absurd (in_call.begins.1 (subst (Contains (S ++ n ∷ [])) (sym at) (Contains-push S n)))
+        | inr lt ↦ f.outside q (sym (ap (λ z. z.open_call q) same) ∙ e) (there-before T past x S R n (party_of x) true None f.len f.early q in_call lt)
       ])
     where
-      not-last : (S : List ℕ) (m : ℕ) → m ≡ n → IsNotIn m (S ++ n ∷ []) → ⊥
-      not-last [] m e all = all.0 (sym e)
-      not-last (k ∷ S) m e all = not-last S m e all.1
-
       not_right : (x : Event T) → fits parties b x ≡ false → ShouldRun parties (past ++ x ∷ []) (S ++ n ∷ []) R n x → ⊥
       not_right (Begin p k) bad should =
           let some = is_none-false (b.open_call p) (not-both p parties (is_none (b.open_call p)) bad should.0) in
@@ -172,13 +146,13 @@ module _ (T : Type 0) (parties : ℕ) (past : List (Event T)) (told : List (Told
       (λ q e in_call. elim (eqb_tells q p) [
         | inl t ↦ let there : c.open_call p ≡ None = ap c.open_call (sym t.1) ∙ e in let h = mine in cc
         | inr t ↦ elim (was-there T past (Begin p k) S R n p false None f.len f.early q in_call) [
-          | inl at ↦ absurd (t.1 (begin-party p q k in_call.call (sym (event-last past n (Begin p k) f.len) ∙ subst (λ m. event_at (past ++ Begin p k ∷ []) m ≡ Some (Begin q in_call.call)) at in_call.begins)))
-          | inr old ↦ f.outside q (open-none joined (b.open_call q) (sym (others q t.1) ∙ e)) old
+          | inl at ↦ absurd (t.1 (begin-party p q k in_call.call (sym (event-last past n (Begin p k) f.len) ∙ subst (λ m. slice_get (past ++ Begin p k ∷ []) m ≡ Some (Begin q in_call.call)) at in_call.begins.0)))
+          | inr lt ↦ f.outside q (open-none joined (b.open_call q) (sym (others q t.1) ∙ e)) (there-before T past (Begin p k) S R n p false None f.len f.early q in_call lt)
         ]
       ])
     where
       fresh : IsInCall (past ++ Begin p k ∷ []) S R p (n + 1)
-      fresh = record { first = n; call = k; begins = event-last past n (Begin p k) f.len; before = omega arith; ran = not-in-later n S f.early_skipped; unanswered = each-all _ _ R (λ y lt e. inl lt) f.early }
+      fresh = record { first = n; call = k; begins = (event-last past n (Begin p k) f.len, not-in-later n S f.early_skipped); before = omega arith; unanswered = each-all _ _ R (λ y lt e. inl lt) f.early }
 
   -- a call that replies where it begins
   pub fair-at-once : (p : ℕ) (k : Call T) (r : Reply T) (c : Book T) → fits parties b (Begin p k) ≡ true → c ≡ b → next (Begin p k) (Ran None (Some r)) c
@@ -191,9 +165,9 @@ module _ (T : Type 0) (parties : ℕ) (past : List (Event T)) (told : List (Told
       goes-on T past (Begin p k) S R n p false (Some r) f.len f.early q (inr (λ s. let g : b.open_call q ≡ None = ap b.open_call s ∙ free in cc)) (f.inside q x was))
       (λ q e in_call. elim (was-there T past (Begin p k) S R n p false (Some r) f.len f.early q in_call) [
         | inl at ↦
-            let is = begin-party p q k in_call.call (sym (event-last past n (Begin p k) f.len) ∙ subst (λ m. event_at (past ++ Begin p k ∷ []) m ≡ Some (Begin q in_call.call)) at in_call.begins) in
+            let is = begin-party p q k in_call.call (sym (event-last past n (Begin p k) f.len) ∙ subst (λ m. slice_get (past ++ Begin p k ∷ []) m ≡ Some (Begin q in_call.call)) at in_call.begins.0) in
             is-over T past (Begin p k) S R n p false (Some r) f.len f.early r refl (subst (λ z. IsInCall (past ++ Begin p k ∷ []) S (R ++ (n, p, r) ∷ []) z (n + 1)) is in_call)
-        | inr old ↦ f.outside q (sym (ap (λ z. z.open_call q) same) ∙ e) old
+        | inr lt ↦ f.outside q (sym (ap (λ z. z.open_call q) same) ∙ e) (there-before T past (Begin p k) S R n p false (Some r) f.len f.early q in_call lt)
       ])
 
   -- a step
@@ -208,7 +182,7 @@ module _ (T : Type 0) (parties : ℕ) (past : List (Event T)) (told : List (Told
       (λ q e in_call. elim (eqb_tells q p) [
         | inl t ↦ let z = over (ap c.open_call (sym t.1) ∙ e) in is-over T past (Step p g) S R n p false r f.len f.early z.0 z.1 (subst (λ y. IsInCall (past ++ Step p g ∷ []) S (answered n p r R) y (n + 1)) t.1 in_call)
         | inr t ↦ elim (was-there T past (Step p g) S R n p false r f.len f.early q in_call) [
-          | inl at ↦ absurd (begin-not-step p q in_call.call g (sym (event-last past n (Step p g) f.len) ∙ subst (λ m. event_at (past ++ Step p g ∷ []) m ≡ Some (Begin q in_call.call)) at in_call.begins))
-          | inr old ↦ f.outside q (open-none (watched c.queue) (b.open_call q) (sym (others q t.1) ∙ e)) old
+          | inl at ↦ absurd (begin-not-step p q in_call.call g (sym (event-last past n (Step p g) f.len) ∙ subst (λ m. slice_get (past ++ Step p g ∷ []) m ≡ Some (Begin q in_call.call)) at in_call.begins.0))
+          | inr lt ↦ f.outside q (open-none (watched c.queue) (b.open_call q) (sym (others q t.1) ∙ e)) (there-before T past (Step p g) S R n p false r f.len f.early q in_call lt)
         ]
       ])

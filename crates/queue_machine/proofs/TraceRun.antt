@@ -1,7 +1,8 @@
 -- Every run leaves a trace, and so a conforming replay has a history.
-use Rattle.std.proofs.Common.{zero, suc, length, ◌≤◌, ◌≡◌, ◌≢◌, ◌⊎◌, ◌∙◌, ℕ, ◌+◌, ◌<◌, ◌&&◌, nat_lt, Bool, true, false, if◌then◌else◌, Option, Some, None, is_some, is_none, Ok, Err, List, [], ◌∷◌, ◌++◌, refl, sym, ap, subst, arith, inl, inr, append-nil, append_assoc}
-use Rattle.queue_steps.specs.State.{State}
-use Rattle.queue_steps.specs.Replies.{IsRightAt, Tells}
+use Rattle.std.proofs.Common.{zero, suc, length, ◌≤◌, ◌≡◌, ◌≢◌, ◌⊎◌, ◌∙◌, ℕ, ◌+◌, ◌<◌, nat_lt, Bool, false, if◌then◌else◌, Option, Some, None, is_some, is_none, Ok, Err, List, [], ◌∷◌, ◌++◌, refl, sym, ap, subst, arith, inl, inr, append-nil, append_assoc, slice_get, Contains}
+use Rattle.std.specs.List.{AllByRecursion}
+use Rattle.std.proofs.lemmas.List.Elements.{All-contains, All-from_recursion}
+use Rattle.queue_steps.specs.Replies.{IsRightAt}
 use Rattle.queue_steps.specs.declared.model.Call.{Call}
 use Rattle.queue_steps.specs.declared.model.Call.TheVariants as call
 use Rattle.queue_steps.specs.declared.model.Effect.{Effect}
@@ -16,10 +17,15 @@ use Rattle.queue_machine.specs.declared.types.Told.{Told}
 use Rattle.queue_machine.specs.declared.types.Told.TheVariants.{Skipped, Ran}
 use Rattle.queue_machine.specs.Book.{Book, Open, IsBegun, Steps, GoesOn, Happens, Run, has_steps, begun, joined, watched, after_own, put, at_open, opening}
 use Rattle.queue_machine.specs.Conforms.{entries_from, reply_entry, skipped_entry}
-use Rattle.queue_machine.specs.Meaning.{Each, event_at, Entry, state_after, IsAnswer, ConformingHasHistory}
+use Rattle.queue_machine.specs.InCall.{IsInCall}
+use Rattle.queue_machine.specs.Meaning.{Entry, state_after, own_effects, RepliesAtOnce, ConformingHasHistory}
+use Rattle.queue_machine.proofs.Calls.{answered}
+use Rattle.queue_machine.proofs.Displacing.{pending}
 use Rattle.queue_machine.proofs.Entries.{each-all, each-more, event-last, state-last, own-none}
-use Rattle.queue_machine.proofs.Trace.{Since, Trace, ReplyOwes, trace-more, added, answered, leads-added}
-use Rattle.queue_machine.proofs.TraceSteps.{put-cases, at_open-cases, since-other, since-joined, since-watched, moves-does, Does, since-own, answer-own, entry-owes}
+use Rattle.queue_machine.proofs.Lone.{and-right, none-if}
+use Rattle.queue_machine.proofs.SkipsAll.{in-call-at-end}
+use Rattle.queue_machine.proofs.Trace.{Since, Trace, ReplyOwes, FitsIf, trace-more, added, leads-added}
+use Rattle.queue_machine.proofs.TraceSteps.{put-cases, at_open-cases, since-other, since-joined, since-watched, moves-does, Does, since-own, answer-own, entry-owes, others-wait}
 
 -- no effect begins the effects of every call
 begun-nil : {T : Type 0} (c : Call T) → IsBegun c []
@@ -33,28 +39,6 @@ begun-nil call.IsFull = (reply.IsFull false, [], refl)
 begun-nil call.Len = (reply.Len 0, [], refl)
 begun-nil call.Capacity = (reply.Capacity None, [], refl)
 
--- a call without steps tells of no effect
-right-tells : {T : Type 0} (Q : State T) (cap : Option ℕ) (c : Call T) (x : Reply T) → has_steps cap c ≡ false → IsRightAt Q c x → Tells c x []
-right-tells Q cap call.Capacity (reply.Capacity y) e right = refl
-right-tells Q cap call.IsFull (reply.IsFull y) e right = refl
-right-tells Q cap call.Capacity _ e right = absurd right
-right-tells Q cap call.IsFull _ e right = absurd right
-right-tells Q cap (call.Push v) x e right = cc
-right-tells Q cap (call.ForcePush v) x e right = cc
-right-tells Q cap call.Pop x e right = cc
-right-tells Q cap call.Close x e right = cc
-right-tells Q cap call.IsClosed x e right = cc
-right-tells Q cap call.IsEmpty x e right = cc
-right-tells Q cap call.Len x e right = cc
-
-and-right : (a b : Bool) → (a && b) ≡ true → b ≡ true
-and-right true b e = e
-and-right false b e = cc
-
-none-if : {X : Type 0} (o : Option X) → is_none o ≡ true → o ≡ None
-none-if None e = refl
-none-if (Some x) e = cc
-
 -- the trace after one event more
 record Next {T : Type 0} (cap : Option ℕ) (S : List ℕ) (past : List (Event T)) (told : List (Told T)) (n : ℕ) (x : Event T) (t : Told T) (c : Book T) : Type 0 where
   H : List (Entry T)
@@ -66,11 +50,11 @@ skipped-next cap S past told n H R b c x tr same = record {
   H = H;
   R = R;
   trace = trace-more cap S past told n H R b c x Skipped None None tr refl refl tt (ap (λ z. z.queue) same) tt tt
-      (λ p o open_. since-other cap S past (x ∷ []) H R n p p None None o tr.early (inl refl) (inl refl) (tr.open_calls p o (sym (ap (λ z. z.open_call p) same) ∙ open_)));
+      (λ p o open_. since-other cap S past (x ∷ []) H R n p p None None o tr.early tr.early_replies (inl refl) (inl refl) (λ f is waits. waits) (tr.open_calls p o (sym (ap (λ z. z.open_call p) same) ∙ open_)));
 }
 
 began-next : {T : Type 0} (cap : Option ℕ) (S : List ℕ) (past : List (Event T)) (told : List (Told T)) (n : ℕ) (H : List (Entry T)) (R : List (ℕ × ℕ × Reply T)) (b c : Book T) (p : ℕ) (k : Call T) → Trace cap S past told n H R b
-    → Each (λ m. m ≢ n) S → c ≡ record { queue = b.queue; busy = b.busy + 1; open_call = put (λ j. at_open joined (b.open_call j)) p (Some (begun k)) } → Next cap S past told n (Begin p k) (Ran None None) c
+    → (Contains S n → ⊥) → c ≡ record { queue = b.queue; busy = b.busy + 1; open_call = put (λ j. at_open joined (b.open_call j)) p (Some (begun k)) } → Next cap S past told n (Begin p k) (Ran None None) c
 began-next {T} cap S past told n H R b c p k tr ran same = record {
   H = H;
   R = R;
@@ -80,14 +64,13 @@ began-next {T} cap S past told n H R b c p k tr ran same = record {
   where
     fresh : Since cap S (past ++ Begin p k ∷ []) H R p (n + 1) (begun k)
     fresh = record {
-      first = n;
-      begins = event-last past n (Begin p k) tr.len;
-      ran = ran;
-      unanswered = each-all _ _ R (λ y lt e. lt) tr.early_replies;
+      in_call = record { first = n; call = k; begins = (event-last past n (Begin p k) tr.len, ran); before = omega arith; unanswered = each-all _ _ R (λ y lt e. inl lt) tr.early_replies };
+      same_call = refl;
       own = own-none p n (n + 1) H tr.early;
       moments = tt;
       opened = λ e. cc;
       begun = begun-nil k;
+      displaces = λ old v e. cc;
     }
 
     opens : (j : ℕ) (o : Open T) → ((j ≡ p) × (Some (begun k) ≡ Some o)) ⊎ ((j ≢ p) × (at_open joined (b.open_call j) ≡ Some o)) → Since cap S (past ++ Begin p k ∷ []) H R j (n + 1) o
@@ -97,36 +80,33 @@ began-next {T} cap S past told n H R b c p k tr ran same = record {
     opens j o (inr m) =
         let old = at_open-cases joined (b.open_call j) o m.1 in
         subst (λ z. Since cap S (past ++ Begin p k ∷ []) H R j (n + 1) z) old.2
-        (since-joined cap S (past ++ Begin p k ∷ []) H R j (n + 1) old.0 (since-other cap S past (Begin p k ∷ []) H R n p j None None old.0 tr.early (inl refl) (inl refl) (tr.open_calls j old.0 old.1)))
+        (since-joined cap S (past ++ Begin p k ∷ []) H R j (n + 1) old.0 (since-other cap S past (Begin p k ∷ []) H R n p j None None old.0 tr.early tr.early_replies (inl refl) (inl refl) (λ f is waits. waits) (tr.open_calls j old.0 old.1)))
 
 at-once-next : {T : Type 0} (cap : Option ℕ) (S : List ℕ) (past : List (Event T)) (told : List (Told T)) (n : ℕ) (H : List (Entry T)) (R : List (ℕ × ℕ × Reply T)) (b c : Book T) (p : ℕ) (k : Call T) (x : Reply T) → Trace cap S past told n H R b
-    → Each (λ m. m ≢ n) S → b.open_call p ≡ None → has_steps cap k ≡ false → IsRightAt b.queue k x → c ≡ b → Next cap S past told n (Begin p k) (Ran None (Some x)) c
+    → (Contains S n → ⊥) → b.open_call p ≡ None → has_steps cap k ≡ false → IsRightAt b.queue k x → c ≡ b → Next cap S past told n (Begin p k) (Ran None (Some x)) c
 at-once-next {T} cap S past told n H R b c p k x tr ran free no_steps right same = record {
   H = H;
   R = R ++ (n, p, x) ∷ [];
-  trace = trace-more cap S past told n H R b c (Begin p k) (Ran None (Some x)) None (Some x) tr refl refl tt (ap (λ z. z.queue) same) tt answer
+  trace = trace-more cap S past told n H R b c (Begin p k) (Ran None (Some x)) None (Some x) tr refl refl tt (ap (λ z. z.queue) same) tt (inr answer)
       (λ j o open_. let was = sym (ap (λ z. z.open_call j) same) ∙ open_ in
-      since-other cap S past (Begin p k ∷ []) H R n p j None (Some x) o tr.early (inl refl) (inr (λ e. let f : b.open_call j ≡ None = ap b.open_call e ∙ free in let g = was in cc)) (tr.open_calls j o was));
+      since-other cap S past (Begin p k ∷ []) H R n p j None (Some x) o tr.early tr.early_replies (inl refl) (inr (λ e. let f : b.open_call j ≡ None = ap b.open_call e ∙ free in let g = was in cc)) (λ f is waits. waits) (tr.open_calls j o was));
 }
   where
-    answer : IsAnswer cap S (past ++ Begin p k ∷ []) H (R ++ (n, p, x) ∷ []) n p x
+    answer : RepliesAtOnce cap (past ++ Begin p k ∷ []) S H n p x
     answer = record {
-      first = n;
       call = k;
-      begins = event-last past n (Begin p k) tr.len;
-      ran = ran;
-      unanswered = each-more _ R _ (each-all _ _ R (λ y lt e. inl lt) tr.early_replies) (λ e. inr (omega arith));
-      tells = rw (own-none p n n H tr.early) (right-tells b.queue cap k x no_steps right);
-      right = λ none. inr (no_steps, refl, rw (state-last cap n n H tr.early (omega arith) ∙ tr.leads) right);
+      begins = (event-last past n (Begin p k) tr.len, ran);
+      no_steps = no_steps;
+      right = rw (state-last cap n n H tr.early (omega arith) ∙ tr.leads) right;
     }
 
 step-next : {T : Type 0} (cap : Option ℕ) (S : List ℕ) (past : List (Event T)) (told : List (Told T)) (n : ℕ) (H : List (Entry T)) (R : List (ℕ × ℕ × Reply T)) (b c : Book T) (p : ℕ) (granted : Bool) (k : Option EffectKind) (r : Option (Reply T)) → Trace cap S past told n H R b
-    → Steps b p k r c → Next cap S past told n (Step p granted) (Ran k r) c
-step-next {T} cap S past told n H R b c p granted k r tr s = record {
+    → (Contains S n → ⊥) → Steps b p k r c → Next cap S past told n (Step p granted) (Ran k r) c
+step-next {T} cap S past told n H R b c p granted k r tr ran s = record {
   H = added n p does.e H;
   R = answered n p r R;
   trace = trace-more cap S past told n H R b c (Step p granted) (Ran k r) does.e r tr (does.entry n p r) (replied r) does.fits does.leads
-      (entry-owes T cap S past H R n p granted tr.len tr.early s.o since does.e r b.busy c.queue s.effects is does.effects does.may)
+      (entry-owes T cap S past H R n p granted tr.len ran tr.early tr.early_replies s.o since does.e r b.busy c.queue s.effects is does.effects s.goes does.may)
       (reply-owes r refl s.goes)
       (λ j o open_. opens j o (put-cases (λ j. at_open (watched c.queue) (b.open_call j)) p j (if is_some r then None else Some mine) o (sym (ap (λ z. z j) s.calls) ∙ open_)));
 }
@@ -140,12 +120,15 @@ step-next {T} cap S past told n H R b c p granted k r tr s = record {
     mine : Open T
     mine = after_own b.busy s.o c.queue s.effects
 
-    early-now : (e : Option (Effect T)) → Each (λ x. x.event < n + 1) (added n p e H)
+    early-now : (e : Option (Effect T)) → AllByRecursion (λ x. x.event < n + 1) (added n p e H)
     early-now None = each-all _ _ H (λ x lt. omega arith) tr.early
     early-now (Some e) = each-more _ H _ (each-all _ _ H (λ x lt. omega arith) tr.early) (omega arith)
 
     is : c.queue ≡ state_after cap (added n p does.e H) n
     is = does.leads ∙ sym (leads-added cap n p does.e H b.queue tr.leads) ∙ sym (state-last cap (n + 1) n (added n p does.e H) (early-now does.e) (omega arith))
+
+    waits : (j : ℕ) → j ≢ p → (f : Entry T) → f.party ≡ j → pending None H ≡ Some f → pending None (added n p does.e H) ≡ Some f
+    waits = others-wait T cap S past H R n p granted tr.len ran tr.early tr.early_replies s.o since does.e r b.busy c.queue s.effects is does.effects s.goes (subst (FitsIf does.e) (sym tr.leads) does.fits)
 
     replied : (y : Option (Reply T)) → reply_entry n p (Ran k y) ≡ answered n p y []
     replied None = refl
@@ -153,13 +136,13 @@ step-next {T} cap S past told n H R b c p granted k r tr s = record {
 
     reply-owes : (y : Option (Reply T)) → r ≡ y → GoesOn mine y → ReplyOwes cap S (past ++ Step p granted ∷ []) (added n p does.e H) (answered n p r R) n p r
     reply-owes None e goes = rw e tt
-    reply-owes (Some y) e goes = answer-own T cap S past H R n p granted tr.len tr.early s.o since does.e r b.busy c.queue s.effects is does.effects y goes e
+    reply-owes (Some y) e goes = answer-own T cap S past H R n p granted tr.len ran tr.early tr.early_replies s.o since does.e r b.busy c.queue s.effects is does.effects s.goes y goes e
 
     own-open : (y : Option (Reply T)) → r ≡ y → GoesOn mine y → (o : Open T) → (if is_some y then None else Some mine) ≡ Some o → Since cap S (past ++ Step p granted ∷ []) (added n p does.e H) (answered n p r R) p (n + 1) o
     own-open None e goes o some =
         let same : mine ≡ o = cc in
         subst (λ z. Since cap S (past ++ Step p granted ∷ []) (added n p does.e H) (answered n p r R) p (n + 1) z) same
-        (since-own T cap S past H R n p granted tr.len tr.early s.o since does.e r b.busy c.queue s.effects is does.effects goes e)
+        (since-own T cap S past H R n p granted tr.len ran tr.early tr.early_replies s.o since does.e r b.busy c.queue s.effects is does.effects s.goes e)
     own-open (Some y) e goes o some = cc
 
     opens : (j : ℕ) (o : Open T) → ((j ≡ p) × ((if is_some r then None else Some mine) ≡ Some o)) ⊎ ((j ≢ p) × (at_open (watched c.queue) (b.open_call j) ≡ Some o))
@@ -169,12 +152,12 @@ step-next {T} cap S past told n H R b c p granted k r tr s = record {
         let old = at_open-cases (watched c.queue) (b.open_call j) o m.1 in
         subst (λ z. Since cap S (past ++ Step p granted ∷ []) (added n p does.e H) (answered n p r R) j (n + 1) z) old.2
         (since-watched cap S (past ++ Step p granted ∷ []) (added n p does.e H) (answered n p r R) j n c.queue old.0 is
-        (since-other cap S past (Step p granted ∷ []) H R n p j does.e r old.0 tr.early (inr m.0) (inr m.0) (tr.open_calls j old.0 old.1)))
+        (since-other cap S past (Step p granted ∷ []) H R n p j does.e r old.0 tr.early tr.early_replies (inr m.0) (inr m.0) (waits j m.0) (tr.open_calls j old.0 old.1)))
 
 -- where the event n ran, it is none of these
 abbrev RanIf : {T : Type 0} → List ℕ → ℕ → Told T → Type 0
 RanIf S n Skipped = Unit {0}
-RanIf S n (Ran k r) = Each (λ m. m ≢ n) S
+RanIf S n (Ran k r) = Contains S n → ⊥
 
 happens-next : {T : Type 0} (cap : Option ℕ) (S : List ℕ) (parties : ℕ) (past : List (Event T)) (told : List (Told T)) (n : ℕ) (H : List (Entry T)) (R : List (ℕ × ℕ × Reply T)) (b c : Book T) (x : Event T) (t : Told T) → Trace cap S past told n H R b → RanIf S n t → Happens cap parties b x t c → Next cap S past told n x t c
 happens-next cap S parties past told n H R b c x Skipped tr ran h = skipped-next cap S past told n H R b c x tr h.1
@@ -182,7 +165,7 @@ happens-next cap S parties past told n H R b c (Begin p k) (Ran None None) tr ra
 happens-next cap S parties past told n H R b c (Begin p k) (Ran None (Some y)) tr ran h =
     at-once-next cap S past told n H R b c p k y tr ran (none-if (b.open_call p) (and-right (nat_lt p parties) (is_none (b.open_call p)) h.0)) h.1 h.2 h.3
 happens-next cap S parties past told n H R b c (Begin p k) (Ran (Some e) r) tr ran h = absurd h
-happens-next cap S parties past told n H R b c (Step p granted) (Ran k r) tr ran h = step-next cap S past told n H R b c p granted k r tr h.1
+happens-next cap S parties past told n H R b c (Step p granted) (Ran k r) tr ran h = step-next cap S past told n H R b c p granted k r tr ran h.1
 
 -- the trace of a whole run
 record Whole {T : Type 0} (cap : Option ℕ) (S : List ℕ) (events : List (Event T)) (told : List (Told T)) (c : Book T) : Type 0 where
@@ -191,7 +174,7 @@ record Whole {T : Type 0} (cap : Option ℕ) (S : List ℕ) (events : List (Even
   R : List (ℕ × ℕ × Reply T)
   trace : Trace cap S events told n H R c
 
-event-mid : {X : Type 0} (xs ys : List X) (y : X) (n : ℕ) → n ≡ length xs → event_at (xs ++ y ∷ ys) n ≡ Some y
+event-mid : {X : Type 0} (xs ys : List X) (y : X) (n : ℕ) → n ≡ length xs → slice_get (xs ++ y ∷ ys) n ≡ Some y
 event-mid [] ys y zero e = refl
 event-mid [] ys y (suc n) e = absurd (omega arith)
 event-mid (x ∷ xs) ys y zero e = absurd (omega arith)
@@ -199,9 +182,9 @@ event-mid (x ∷ xs) ys y (suc n) e = event-mid xs ys y n (omega arith)
 
 -- no event that ran is one of these
 abbrev AllRan : {T : Type 0} → List ℕ → List (Told T) → Type 0
-AllRan {T} S told = (m : ℕ) (k : Option EffectKind) (r : Option (Reply T)) → event_at told m ≡ Some (Ran k r) → Each (λ i. i ≢ m) S
+AllRan {T} S told = (m : ℕ) (k : Option EffectKind) (r : Option (Reply T)) → slice_get told m ≡ Some (Ran k r) → Contains S m → ⊥
 
-ran-if : {T : Type 0} (S : List ℕ) (told : List (Told T)) (n : ℕ) (t : Told T) → AllRan S told → event_at told n ≡ Some t → RanIf S n t
+ran-if : {T : Type 0} (S : List ℕ) (told : List (Told T)) (n : ℕ) (t : Told T) → AllRan S told → slice_get told n ≡ Some t → RanIf S n t
 ran-if S told n Skipped all e = tt
 ran-if S told n (Ran k r) all e = all n k r e
 
@@ -217,14 +200,14 @@ run-trace cap S parties past [] told (t ∷ ts) n H R b c tr all run = absurd ru
 run-trace cap S parties past (x ∷ es) told [] n H R b c tr all run = absurd run
 
 -- the numbers of the skipped events from n on are at least n
-skipped-from : {T : Type 0} (n : ℕ) (es : List (Event T)) (ts : List (Told T)) → Each (λ i. n ≤ i) (entries_from skipped_entry n es ts)
+skipped-from : {T : Type 0} (n : ℕ) (es : List (Event T)) (ts : List (Told T)) → AllByRecursion (λ i. n ≤ i) (entries_from skipped_entry n es ts)
 skipped-from n [] ts = tt
 skipped-from n (e ∷ es) [] = tt
 skipped-from n (e ∷ es) (Skipped ∷ ts) = (omega arith, each-all _ _ (entries_from skipped_entry (n + 1) es ts) (λ i le. omega arith) (skipped-from (n + 1) es ts))
 skipped-from n (e ∷ es) (Ran k r ∷ ts) = each-all _ _ (entries_from skipped_entry (n + 1) es ts) (λ i le. omega arith) (skipped-from (n + 1) es ts)
 
 -- an event that ran is none of the skipped
-skipped-ran : {T : Type 0} (n : ℕ) (es : List (Event T)) (ts : List (Told T)) (m : ℕ) (k : Option EffectKind) (r : Option (Reply T)) → event_at ts m ≡ Some (Ran k r) → Each (λ i. i ≢ n + m) (entries_from skipped_entry n es ts)
+skipped-ran : {T : Type 0} (n : ℕ) (es : List (Event T)) (ts : List (Told T)) (m : ℕ) (k : Option EffectKind) (r : Option (Reply T)) → slice_get ts m ≡ Some (Ran k r) → AllByRecursion (λ i. i ≢ n + m) (entries_from skipped_entry n es ts)
 skipped-ran n [] ts m k r e = tt
 skipped-ran n (x ∷ es) [] m k r e = tt
 skipped-ran n (x ∷ es) (Skipped ∷ ts) zero k r e = cc
@@ -232,41 +215,43 @@ skipped-ran n (x ∷ es) (Ran k' r' ∷ ts) zero k r e = each-all _ _ (entries_f
 skipped-ran n (x ∷ es) (Skipped ∷ ts) (suc m) k r e = ((λ same. absurd (omega arith)), each-all _ _ (entries_from skipped_entry (n + 1) es ts) (λ i ne same. ne (omega arith)) (skipped-ran (n + 1) es ts m k r e))
 skipped-ran n (x ∷ es) (Ran k' r' ∷ ts) (suc m) k r e = each-all _ _ (entries_from skipped_entry (n + 1) es ts) (λ i ne same. ne (omega arith)) (skipped-ran (n + 1) es ts m k r e)
 
+-- the effects of a call that has not ended, which is the only one of its party
+unended-since : {T : Type 0} (cap : Option ℕ) (S : List ℕ) (events : List (Event T)) (H : List (Entry T)) (R : List (ℕ × ℕ × Reply T)) (p n : ℕ) (o : Open T) (s : Since cap S events H R p n o) (k : IsInCall events S R p n)
+    → ((d : IsInCall events S R p n) → k.first ≡ d.first) → ((d : IsInCall events S R p n) → k.call ≡ d.call) → IsBegun k.call (own_effects p k.first n H)
+unended-since cap S events H R p n o s k one one_call = rw (one s.in_call, one_call s.in_call, s.own, s.same_call) s.begun
+
 pub has_history : {T A : Type 0} → ConformingHasHistory T A
-has_history {T} {A} cap parties events r c =
+has_history {T} cap parties events r c =
     let begins : Trace {T = T} cap r.skipped.items [] [] 0 [] [] (opening cap) = record {
       len = refl;
       same = refl;
       early = tt;
+      in_order = λ i j d lt within. absurd (omega arith);
       legal = tt;
       leads = refl;
       kinds = refl;
       replies = refl;
       own = tt;
-      fronts = tt;
+      arrivals = tt;
       answers = tt;
       early_replies = tt;
       open_calls = λ p o e. cc;
     } in
-    let ran : AllRan r.skipped.items c.told = λ m k x e. rw c.skipped (each-all _ _ (entries_from skipped_entry 0 events c.told) (λ i ne same. ne (omega arith)) (skipped-ran 0 events c.told m k x e)) in
+    let ran : AllRan r.skipped.items c.told = λ m k x e. rw c.skipped (λ is.
+    All-contains (λ i. i ≢ m) (entries_from skipped_entry 0 events c.told) m (All-from_recursion (λ i. i ≢ m) (entries_from skipped_entry 0 events c.told)
+    (each-all _ _ (entries_from skipped_entry 0 events c.told) (λ i ne same. ne (omega arith)) (skipped-ran 0 events c.told m k x e))) is refl) in
     let whole = run-trace cap r.skipped.items parties [] events [] c.told 0 [] [] (opening cap) c.last begins ran c.run in
-    let tr = whole.trace in
-    let same : r.replies.items ≡ whole.R = c.replies ∙ sym tr.replies in
+    let tr : Trace cap r.skipped.items events c.told (length events) whole.H r.replies.items c.last = rw (← whole.trace.len, c.replies ∙ sym whole.trace.replies) whole.trace in
     record {
       history = whole.H;
+      in_order = tr.in_order;
       legal = tr.legal;
       kinds = c.effects ∙ sym tr.kinds;
       left = c.left ∙ ap (λ q. q.items) (sym tr.leads);
       own = tr.own;
-      fronts = rw same tr.fronts;
-      answers = rw same tr.answers;
-      unended = λ p o open_.
-          let s = tr.open_calls p o open_ in
-          record {
-            first = s.first;
-            begins = s.begins;
-            ran = s.ran;
-            unanswered = rw same s.unanswered;
-            begun = rw (← tr.len) (rw s.own s.begun);
-          };
+      arrivals = tr.arrivals;
+      answers = tr.answers;
+      unended = λ p k.
+          let at = in-call-at-end cap parties events r c p k in
+          unended-since cap r.skipped.items events whole.H r.replies.items p (length events) at.opened (tr.open_calls p at.opened at.is_open) k at.one at.one_call;
     }

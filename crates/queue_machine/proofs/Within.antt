@@ -1,14 +1,14 @@
--- Nothing is appended within a displacement, and how soon a call replies.
+-- Nothing is appended within a displacement.
 use Rattle.std.proofs.Common.{◌≡◌, Some, List, [], ◌∷◌, refl}
+use Rattle.std.specs.List.{AllByRecursion}
 use Rattle.queue_steps.specs.State.{State}
 use Rattle.queue_steps.specs.Effect.{made, Runs}
 use Rattle.queue_steps.specs.declared.model.Effect.{Effect}
 use Rattle.queue_steps.specs.declared.model.Effect.TheVariants as effect
-use Rattle.queue_machine.specs.Meaning.{Each}
 use Rattle.queue_machine.specs.Within.{IsNotArrive, IsNotAppend, NothingAppendedWithin}
 
 -- while an item is on its way in
-coming-within : {T : Type 0} (Q : State T) (v : T) (es : List (Effect T)) → Q.coming ≡ Some v → Runs Q es → Each IsNotArrive es → Each IsNotAppend es
+coming-within : {T : Type 0} (Q : State T) (v : T) (es : List (Effect T)) → Q.coming ≡ Some v → Runs Q es → AllByRecursion IsNotArrive es → AllByRecursion IsNotAppend es
 coming-within Q v [] is runs all = tt
 coming-within Q v (effect.Append w ∷ es) is runs all = absurd (let none = runs.0.1 in cc)
 coming-within Q v (effect.Front old w ∷ es) is runs all = absurd (let none = runs.0.2 in cc)

@@ -1,18 +1,17 @@
 -- What a reader of a run keeps, and what an event may do to it.
-use Rattle.std.specs.Prelude.{◌≡◌, ◌⊎◌, ℕ, ◌+◌, ◌-◌, ◌%◌, ◌<◌, ◌==◌, ◌&&◌, ◌||◌, nat_lt, Bool, true, false, not, if◌then◌else◌, Option, Some, None, is_some, is_none, Err, List, [], ◌∷◌, ◌++◌}
+use Rattle.std.specs.Prelude.{◌≡◌, ℕ, ◌+◌, ◌-◌, ◌<◌, ◌==◌, ◌&&◌, ◌||◌, nat_lt, Bool, true, false, not, if◌then◌else◌, Option, Some, None, is_some, is_none, List, [], ◌∷◌, ◌++◌}
 use Rattle.std.specs.List.{Any}
-use Rattle.queue_steps.specs.declared.sizes.TheConstants.{BLOCK_SLOTS, LONE_STEPS}
+use Rattle.queue_steps.specs.declared.sizes.TheConstants.{LONE_STEPS, PROMPT_STEPS}
 use Rattle.queue_steps.specs.State.{State, start}
 use Rattle.queue_steps.specs.Effect.{Fits, made}
 use Rattle.queue_steps.specs.Replies.{IsRightAt, Tells}
+pub use Rattle.queue_steps.specs.Replies.{Allows}
+pub use Rattle.queue_steps.specs.Prompt.{is_prompt}
 use Rattle.queue_steps.specs.declared.model.Call.{Call}
 use Rattle.queue_steps.specs.declared.model.Call.TheVariants as call
 use Rattle.queue_steps.specs.declared.model.Reply.{Reply}
-use Rattle.queue_steps.specs.declared.model.Reply.TheVariants as reply
 use Rattle.queue_steps.specs.declared.model.Effect.{Effect}
 use Rattle.queue_steps.specs.declared.model.Effect.TheVariants as effect
-use Rattle.queue_steps.specs.declared.errors.PushError.TheVariants as push
-use Rattle.queue_steps.specs.declared.errors.ForcePushError.TheVariants as force
 use Rattle.queue_machine.specs.declared.types.Event.{Event}
 use Rattle.queue_machine.specs.declared.types.Event.TheVariants.{Begin, Step}
 use Rattle.queue_machine.specs.declared.types.Told.{Told}
@@ -93,14 +92,6 @@ has_steps cap call.Capacity = false
 has_steps None call.IsFull = false
 has_steps cap _ = true
 
--- the calls that reply by their second step
-abbrev pub is_prompt : {T : Type 0} → Call T → Bool
-is_prompt call.Close = true
-is_prompt call.IsClosed = true
-is_prompt call.IsEmpty = true
-is_prompt call.IsFull = true
-is_prompt _ = false
-
 -- a front may leave by a displacing call only once the call has seen the queue open, at a step before
 abbrev pub MayMake : {T : Type 0} → EffectKind → Open T → Type 0
 MayMake kind.Front o = o.was_open ≡ true
@@ -110,20 +101,6 @@ MayMake _ o = Unit {0}
 abbrev pub Moves : {T : Type 0} → State T → Open T → Option EffectKind → State T → List (Effect T) → Type 0
 Moves Q o None R es = (R ≡ Q) × (es ≡ o.effects)
 Moves {T} Q o (Some k) R es = (e : Effect T) × (kind_of e ≡ k) × MayMake k o × Fits e Q × (R ≡ made e Q) × (es ≡ o.effects ++ e ∷ [])
-
--- a push may ask for a block at this state: before the first item, and one item short of a block
-abbrev pub MayAskAt : {T : Type 0} → State T → Type 0
-MayAskAt Q = (Q.cap ≡ None) × (Q.closed ≡ false) × ((Q.accepted ≡ 0) ⊎ (Q.accepted % BLOCK_SLOTS ≡ BLOCK_SLOTS - 1))
-
--- the reply tells that a block was refused
-abbrev pub IsRefusal : {T : Type 0} → Reply T → Type 0
-IsRefusal (reply.Push (Err (push.NoMemory v))) = Unit {0}
-IsRefusal (reply.ForcePush (Err (force.NoMemory v))) = Unit {0}
-IsRefusal _ = ⊥
-
--- at this state a reply without effect is right, or a block may be refused
-abbrev pub Allows : {T : Type 0} → Call T → Reply T → State T → Type 0
-Allows c r Q = IsRightAt Q c r ⊎ (IsRefusal r × MayAskAt Q)
 
 -- the call may end with this reply: its effects are those that the reply stands for; without effects one of its moments allows the reply
 abbrev pub Ends : {T : Type 0} → Open T → Reply T → Type 0
@@ -137,7 +114,7 @@ IsBegun {T} c es = (r : Reply T) × (more : List (Effect T)) × Tells c r (es ++
 pub record Stays {T : Type 0} (o : Open T) : Type 0 where
   pub is_begun : IsBegun o.call o.effects
   pub lone : o.alone < LONE_STEPS
-  pub prompt : is_prompt o.call ≡ true → o.steps < 2
+  pub prompt : is_prompt o.call ≡ true → o.steps < PROMPT_STEPS
 
 -- the call goes on, or ends with the reply
 abbrev pub GoesOn : {T : Type 0} → Open T → Option (Reply T) → Type 0

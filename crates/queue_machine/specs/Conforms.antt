@@ -2,9 +2,8 @@
 use Rattle.std.specs.Prelude.{◌≡◌, ℕ, ◌+◌, ◌/◌, ◌<◌, ◌≤◌, Option, Some, None, List, [], ◌∷◌, ◌++◌, length}
 use Rattle.queue_steps.specs.declared.sizes.TheConstants.{BLOCK_SLOTS}
 use Rattle.queue_steps.specs.Sole.{blocks_of}
+pub use Rattle.queue_steps.specs.Next.{capacity_of}
 use Rattle.queue_steps.specs.declared.model.Reply.{Reply}
-use Rattle.queue_steps.specs.declared.steps.types.Kind.{Kind}
-use Rattle.queue_steps.specs.declared.steps.types.Kind.TheVariants as kind
 use Rattle.queue_machine.specs.declared.types.Told.{Told}
 use Rattle.queue_machine.specs.declared.types.Told.TheVariants.{Skipped, Ran}
 use Rattle.queue_machine.specs.declared.types.Event.{Event}
@@ -13,12 +12,6 @@ use Rattle.queue_machine.specs.declared.types.EffectKind.{EffectKind}
 use Rattle.queue_machine.specs.declared.types.Peak.{Peak}
 use Rattle.queue_machine.specs.declared.types.Replay.{Replay}
 use Rattle.queue_machine.specs.Book.{Book, Run, opening}
-
--- the capacity of a queue of this kind
-abbrev pub capacity_of : Kind → Option ℕ
-capacity_of kind.Single = Some 1
-capacity_of (kind.Bounded n) = Some n
-capacity_of kind.Unbounded = None
 
 abbrev pub party_of : {T : Type 0} → Event T → ℕ
 party_of (Begin p c) = p

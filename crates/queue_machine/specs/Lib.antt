@@ -11,6 +11,7 @@ pub mod Machine
 pub mod Peaks
 pub mod Replays
 pub mod OneOwner
+pub mod InCall
 pub mod Meaning
 pub mod Within
 pub mod Skips

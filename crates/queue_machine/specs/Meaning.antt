@@ -1,29 +1,20 @@
 -- What a conforming replay means: one legal history, in which every finished call stands between its own first and last step.
-use Rattle.std.specs.Prelude.{◌≡◌, ◌≢◌, ◌⊎◌, ℕ, zero, suc, ◌+◌, ◌<◌, ◌≤◌, ◌==◌, ◌&&◌, nat_lt, Bool, false, if◌then◌else◌, Option, Some, None, List, [], ◌∷◌, length}
+use Rattle.std.specs.Prelude.{◌≡◌, ◌⊎◌, ℕ, ◌+◌, ◌<◌, ◌≤◌, ◌==◌, ◌&&◌, nat_lt, Bool, false, if◌then◌else◌, Option, Some, None, List, [], ◌∷◌, length, AllPairs}
+use Rattle.std.specs.List.{AllByRecursion}
 use Rattle.queue_steps.specs.State.{State}
 use Rattle.queue_steps.specs.Effect.{IsHistory, after}
 use Rattle.queue_steps.specs.Replies.{IsRightAt, Tells}
 use Rattle.queue_steps.specs.declared.model.Call.{Call}
 use Rattle.queue_steps.specs.declared.model.Effect.{Effect}
+use Rattle.queue_steps.specs.declared.model.Effect.TheVariants as effect
 use Rattle.queue_steps.specs.declared.model.Reply.{Reply}
 use Rattle.queue_machine.specs.declared.types.EffectKind.{EffectKind}
-use Rattle.queue_machine.specs.declared.types.EffectKind.TheVariants as kind
 use Rattle.queue_machine.specs.declared.types.Event.{Event}
-use Rattle.queue_machine.specs.declared.types.Event.TheVariants.{Begin, Step}
+use Rattle.queue_machine.specs.declared.types.Event.TheVariants.{Begin}
 use Rattle.queue_machine.specs.declared.types.Replay.{Replay}
-use Rattle.queue_machine.specs.Book.{Open, Allows, IsBegun, has_steps, kind_of}
+use Rattle.queue_machine.specs.Book.{Allows, IsBegun, has_steps, kind_of}
 use Rattle.queue_machine.specs.Conforms.{Conforms}
-
--- this holds of each element
-abbrev pub Each : {X : Type 0} → (X → Type 0) → List X → Type 0
-Each P [] = Unit {0}
-Each P (x ∷ xs) = P x × Each P xs
-
--- the event of this number
-abbrev pub event_at : {X : Type 0} → List X → ℕ → Option X
-event_at [] n = None
-event_at (e ∷ es) zero = Some e
-event_at (e ∷ es) (suc n) = event_at es n
+use Rattle.queue_machine.specs.InCall.{HasRun, IsStepOf, IsUnanswered, IsInCall}
 
 -- one effect of a run: the number of its event, the party whose step it was, and what it did
 pub record Entry (T : Type 0) : Type 0 where
@@ -53,76 +44,83 @@ state_after cap H n = after cap (chosen (λ x. nat_lt x.event (n + 1)) H)
 abbrev pub own_effects : {T : Type 0} → ℕ → ℕ → ℕ → List (Entry T) → List (Effect T)
 own_effects p first last H = chosen (λ x. (x.party == p) && (nat_lt first x.event && nat_lt x.event (last + 1))) H
 
--- party p has no reply from the event `first` on, before the event `last`
-abbrev pub IsUnanswered : {T : Type 0} → List (ℕ × ℕ × Reply T) → ℕ → ℕ → ℕ → Type 0
-IsUnanswered replies p first last = Each (λ y. y.1 ≡ p → (y.0 < first) ⊎ (last ≤ y.0)) replies
-
--- a moment of a call of party p that began at the event `first`: the state Q after the event `at`, which is no earlier than some step of the party's own, and not after `last`
-pub record IsMoment {T : Type 0} (cap : Option ℕ) (events : List (Event T)) (H : List (Entry T)) (p first last : ℕ) (Q : State T) : Type 0 where
+-- Before the event `end`, a moment of a call of party p that began at the event `first`: the state Q after the event `at`, which is no earlier than some step of the call
+pub record IsMoment {T : Type 0} (cap : Option ℕ) (events : List (Event T)) (skipped : List ℕ) (H : List (Entry T)) (p first end : ℕ) (Q : State T) : Type 0 where
   pub step : ℕ
-  pub granted : Bool
   pub at : ℕ
-  pub own_step : event_at events step ≡ Some (Step p granted)
+  pub own : IsStepOf events skipped p step
   pub later : first < step
   pub from : step ≤ at
-  pub upto : at ≤ last
+  pub upto : at < end
   pub state : Q ≡ state_after cap H at
 
--- a reply without effect is right at a moment of the call, or where it began if it has no steps
-abbrev pub IsRightBetween : {T : Type 0} → Option ℕ → List (Event T) → List (Entry T) → ℕ → ℕ → ℕ → Call T → Reply T → Type 0
-IsRightBetween {T} cap events H p first last c x =
-    ((Q : State T) × IsMoment cap events H p first last Q × Allows c x Q)
-    ⊎ ((has_steps cap c ≡ false) × (last ≡ first) × IsRightAt (state_after cap H last) c x)
-
--- the reply x, told of party p at the event `last`, answers the call that the party began last, at an event that was not skipped, whose effects since then are those that the reply stands for; without effects it is right between
-pub record IsAnswer {T : Type 0} (cap : Option ℕ) (skipped : List ℕ) (events : List (Event T)) (H : List (Entry T)) (replies : List (ℕ × ℕ × Reply T)) (last p : ℕ) (x : Reply T) : Type 0 where
-  pub first : ℕ
-  pub call : Call T
-  pub begins : event_at events first ≡ Some (Begin p call)
-  pub ran : Each (λ m. m ≢ first) skipped
-  pub unanswered : IsUnanswered replies p first last
-  pub tells : Tells call x (own_effects p first last H)
-  pub right : own_effects p first last H ≡ [] → IsRightBetween cap events H p first last call x
-
--- the call had seen the queue open after an earlier step of its party's own, with no reply of the party between
-pub record SawOpen {T : Type 0} (cap : Option ℕ) (events : List (Event T)) (H : List (Entry T)) (replies : List (ℕ × ℕ × Reply T)) (x : Entry T) : Type 0 where
+-- before the event `end`, a call of party p that began at the event `first` saw the queue open, after a step of its own
+pub record SawOpen {T : Type 0} (cap : Option ℕ) (events : List (Event T)) (skipped : List ℕ) (H : List (Entry T)) (p first end : ℕ) : Type 0 where
   pub step : ℕ
-  pub granted : Bool
-  pub own_step : event_at events step ≡ Some (Step x.party granted)
-  pub before : step < x.event
-  pub unanswered : IsUnanswered replies x.party step x.event
+  pub own : IsStepOf events skipped p step
+  pub later : first < step
+  pub upto : step < end
   pub was_open : (state_after cap H step).closed ≡ false
 
--- a front is taken off by a call that had seen the queue open
-abbrev pub FrontSawOpen : {T : Type 0} → Option ℕ → List (Event T) → List (Entry T) → List (ℕ × ℕ × Reply T) → Entry T → EffectKind → Type 0
-FrontSawOpen cap events H replies x kind.Front = SawOpen cap events H replies x
-FrontSawOpen cap events H replies x _ = Unit {0}
+-- An effect stands at a step of the call that its party is in; where it is a front, the call had seen the queue open at a step before.
+pub record IsOwn {T : Type 0} (cap : Option ℕ) (events : List (Event T)) (skipped : List ℕ) (H : List (Entry T)) (replies : List (ℕ × ℕ × Reply T)) (x : Entry T) : Type 0 where
+  pub step : IsStepOf events skipped x.party x.event
+  pub in_call : IsInCall events skipped replies x.party x.event
+  pub saw_open : (old v : T) → x.effect ≡ effect.Front old v → SawOpen cap events skipped H x.party in_call.first x.event
 
--- an effect stands at a step of its party's own
-abbrev pub IsOwn : {T : Type 0} → List (Event T) → Entry T → Type 0
-IsOwn events x = (granted : Bool) × (event_at events x.event ≡ Some (Step x.party granted))
+-- the front whose item is on its way in after the entry x, of this effect, if it was that of f before
+abbrev pub displacing : {T : Type 0} → Option (Entry T) → Entry T → Effect T → Option (Entry T)
+displacing f x (effect.Front old v) = Some x
+displacing f x effect.Arrive = None
+displacing f x _ = f
 
--- the call o of party p has not ended: its effects begin those of one of its replies
-pub record IsUnended {T : Type 0} (skipped : List ℕ) (events : List (Event T)) (H : List (Entry T)) (replies : List (ℕ × ℕ × Reply T)) (p : ℕ) (o : Open T) : Type 0 where
-  pub first : ℕ
-  pub begins : event_at events first ≡ Some (Begin p o.call)
-  pub ran : Each (λ m. m ≢ first) skipped
-  pub unanswered : Each (λ y. y.1 ≡ p → y.0 < first) replies
-  pub begun : IsBegun o.call (own_effects p first (length events) H)
+-- there is such a front, and the entry x is of the same call: of the same party, which has no reply between the two
+abbrev pub IsOfItsFront : {T : Type 0} → List (ℕ × ℕ × Reply T) → Option (Entry T) → Entry T → Type 0
+IsOfItsFront replies None x = ⊥
+IsOfItsFront replies (Some f) x = (x.party ≡ f.party) × IsUnanswered replies f.party f.event x.event
 
--- One legal history, whose kinds are the effects that are told, in their order, and whose last state has the items that are left. Each effect is
--- at a step of its party's own; each reply answers a call with its effects, or is right between the call's first and last step; each call that
--- has not ended has a beginning of the effects of one of its replies.
-pub record HasHistory {T A : Type 0} (cap : Option ℕ) (parties : ℕ) (events : List (Event T)) (r : Replay T A) (c : Conforms cap parties events r) : Type 0 where
+abbrev pub IsArrivalOf : {T : Type 0} → List (ℕ × ℕ × Reply T) → Option (Entry T) → Entry T → Effect T → Type 0
+IsArrivalOf replies f x effect.Arrive = IsOfItsFront replies f x
+IsArrivalOf replies f x _ = Unit {0}
+
+-- each arrive is of the same call as the last front before it, and no other arrive stands between
+abbrev pub FrontsArrive : {T : Type 0} → List (ℕ × ℕ × Reply T) → Option (Entry T) → List (Entry T) → Type 0
+FrontsArrive replies f [] = Unit {0}
+FrontsArrive replies f (x ∷ xs) = IsArrivalOf replies f x x.effect × FrontsArrive replies (displacing f x x.effect) xs
+
+-- The reply x ends the call that party p is in, at a step of its own, the event `last`: the call's effects are those that the reply stands for; without effects the reply is
+-- right at one of the call's moments.
+pub record EndsCall {T : Type 0} (cap : Option ℕ) (events : List (Event T)) (skipped : List ℕ) (H : List (Entry T)) (replies : List (ℕ × ℕ × Reply T)) (last p : ℕ) (x : Reply T) : Type 0 where
+  pub step : IsStepOf events skipped p last
+  pub in_call : IsInCall events skipped replies p last
+  pub tells : Tells in_call.call x (own_effects p in_call.first last H)
+  pub right : own_effects p in_call.first last H ≡ [] → (Q : State T) × IsMoment cap events skipped H p in_call.first (last + 1) Q × Allows in_call.call x Q
+
+-- a call without steps replies at the event at which it begins, and the reply is right there
+pub record RepliesAtOnce {T : Type 0} (cap : Option ℕ) (events : List (Event T)) (skipped : List ℕ) (H : List (Entry T)) (last p : ℕ) (x : Reply T) : Type 0 where
+  pub call : Call T
+  pub begins : HasRun events skipped last (Begin p call)
+  pub no_steps : has_steps cap call ≡ false
+  pub right : IsRightAt (state_after cap H last) call x
+
+-- the reply that is told of a party at an event ends the call that the party is in, or is that of a call without steps which begins there
+abbrev pub IsAnswer : {T : Type 0} → Option ℕ → List (Event T) → List ℕ → List (Entry T) → List (ℕ × ℕ × Reply T) → ℕ × ℕ × Reply T → Type 0
+IsAnswer cap events skipped H replies y = EndsCall cap events skipped H replies y.0 y.1 y.2 ⊎ RepliesAtOnce cap events skipped H y.0 y.1 y.2
+
+-- One legal history in the order of its events, at most one effect an event, whose kinds are the effects that are told and whose last state has the items that are left. Each effect is
+-- at a step of the call that its party is in, and an item arrives by the call that took the front; each reply ends a call with its effects, or is
+-- right between the call's first and last step; each call that has not ended has a beginning of the effects of one of its replies.
+pub record HasHistory {T A : Type 0} (cap : Option ℕ) (events : List (Event T)) (r : Replay T A) : Type 0 where
   pub history : List (Entry T)
+  pub in_order : AllPairs (λ x y. x.event < y.event) history
   pub legal : IsHistory cap (effects_in history)
   pub kinds : r.effects.items ≡ kinds_in history
   pub left : r.left.items ≡ (after cap (effects_in history)).items
-  pub own : Each (IsOwn events) history
-  pub fronts : Each (λ x. FrontSawOpen cap events history r.replies.items x (kind_of x.effect)) history
-  pub answers : Each (λ y. IsAnswer cap r.skipped.items events history r.replies.items y.0 y.1 y.2) r.replies.items
-  pub unended : (p : ℕ) (o : Open T) → c.last.open_call p ≡ Some o → IsUnended r.skipped.items events history r.replies.items p o
+  pub own : AllByRecursion (IsOwn cap events r.skipped.items history r.replies.items) history
+  pub arrivals : FrontsArrive r.replies.items None history
+  pub answers : AllByRecursion (IsAnswer cap events r.skipped.items history r.replies.items) r.replies.items
+  pub unended : (p : ℕ) (c : IsInCall events r.skipped.items r.replies.items p (length events)) → IsBegun c.call (own_effects p c.first (length events) history)
 
 -- every replay that conforms has such a history
 abbrev pub ConformingHasHistory : Type 0 → Type 0 → Type 0
-ConformingHasHistory T A = (cap : Option ℕ) (parties : ℕ) (events : List (Event T)) (r : Replay T A) (c : Conforms cap parties events r) → HasHistory cap parties events r c
+ConformingHasHistory T A = (cap : Option ℕ) (parties : ℕ) (events : List (Event T)) (r : Replay T A) → Conforms cap parties events r → HasHistory cap events r

@@ -1,9 +1,8 @@
 -- With one party the machine is a queue with one owner.
 use Rattle.std.specs.Prelude.{◌≡◌, ℕ, Option, None, List, [], ◌∷◌, ◌++◌, map}
 use Rattle.std.specs.Option.{option_to_list}
-use Rattle.queue_steps.specs.State.{start}
 use Rattle.queue_steps.specs.Legal.{IsShown}
-use Rattle.queue_steps.specs.Sole.{Owned, SoleRun}
+use Rattle.queue_steps.specs.Sole.{Owned, fresh, SoleRun}
 use Rattle.queue_steps.specs.declared.model.Call.{Call}
 use Rattle.queue_steps.specs.declared.model.Reply.{Reply}
 use Rattle.queue_machine.specs.declared.types.Event.{Event}
@@ -18,10 +17,6 @@ abbrev pub begun_calls : {T : Type 0} → List (Event T) → List (Told T) → L
 begun_calls (Begin p c ∷ es) (Ran k r ∷ ts) = c ∷ begun_calls es ts
 begun_calls (_ ∷ es) (_ ∷ ts) = begun_calls es ts
 begun_calls _ _ = []
-
--- a queue that one owner has just made
-abbrev pub fresh : {T : Type 0} → Option ℕ → Owned T
-fresh cap = record { queue = start cap 0; blocks = 0 }
 
 abbrev pub reply_in : {T : Type 0} → ℕ × ℕ × Reply T → Reply T
 reply_in x = x.2

@@ -1,16 +1,18 @@
 -- Laws of runs: what stands within a displacement, and how soon a call replies.
-use Rattle.std.specs.Prelude.{◌≡◌, ◌≢◌, ℕ, ◌+◌, ◌<◌, true, Option, Some, None, List, ◌∷◌, if◌then◌else◌, ◌==◌}
-use Rattle.queue_steps.specs.declared.sizes.TheConstants.{LONE_STEPS}
+use Rattle.std.specs.Prelude.{◌≡◌, ◌≢◌, ℕ, ◌<◌, ◌≤◌, ◌==◌, Bool, true, false, Option, List, ◌∷◌, length, drop, take, count_by}
+use Rattle.std.specs.List.{AllByRecursion}
+use Rattle.queue_steps.specs.declared.sizes.TheConstants.{LONE_STEPS, PROMPT_STEPS}
 use Rattle.queue_steps.specs.State.{State}
 use Rattle.queue_steps.specs.Effect.{Runs}
 use Rattle.queue_steps.specs.declared.model.Effect.{Effect}
 use Rattle.queue_steps.specs.declared.model.Effect.TheVariants as effect
+use Rattle.queue_steps.specs.declared.model.Reply.{Reply}
 use Rattle.queue_machine.specs.declared.types.Event.{Event}
 use Rattle.queue_machine.specs.declared.types.Event.TheVariants.{Begin, Step}
-use Rattle.queue_machine.specs.declared.types.Told.{Told}
-use Rattle.queue_machine.specs.declared.types.Told.TheVariants.{Ran}
-use Rattle.queue_machine.specs.Book.{Book, Open, Run, is_prompt, opening}
-use Rattle.queue_machine.specs.Meaning.{Each}
+use Rattle.queue_machine.specs.declared.types.Replay.{Replay}
+use Rattle.queue_machine.specs.Book.{is_prompt}
+use Rattle.queue_machine.specs.Conforms.{Conforms}
+use Rattle.queue_machine.specs.InCall.{IsInCall}
 
 abbrev pub IsNotArrive : {T : Type 0} → Effect T → Type 0
 IsNotArrive effect.Arrive = ⊥
@@ -24,39 +26,30 @@ IsNotAppend _ = Unit {0}
 
 -- from a front on, up to its arrival, nothing is appended
 abbrev pub NothingAppendedWithin : Type 0 → Type 0
-NothingAppendedWithin T = (Q : State T) (old v : T) (es : List (Effect T)) → Runs Q (effect.Front old v ∷ es) → Each IsNotArrive es → Each IsNotAppend es
+NothingAppendedWithin T = (Q : State T) (old v : T) (es : List (Effect T)) → Runs Q (effect.Front old v ∷ es) → AllByRecursion IsNotArrive es → AllByRecursion IsNotAppend es
 
--- how many steps of party p these events are, those that were skipped left out
-abbrev pub own_steps : {T : Type 0} → ℕ → List (Event T) → List (Told T) → ℕ
-own_steps p (Step q granted ∷ es) (Ran k r ∷ ts) = if q == p then own_steps p es ts + 1 else own_steps p es ts
-own_steps p (_ ∷ es) (_ ∷ ts) = own_steps p es ts
-own_steps p _ _ = 0
+-- the event is a step of party p
+abbrev pub is_step_of : {T : Type 0} → ℕ → Event T → Bool
+is_step_of p (Begin q call) = false
+is_step_of p (Step q granted) = q == p
 
--- party p does not reply at this event
-abbrev pub IsSilent : {T : Type 0} → ℕ → Event T → Told T → Type 0
-IsSilent p (Step q granted) (Ran k (Some r)) = q ≢ p
-IsSilent p _ _ = Unit {0}
+-- How many steps of party p stand from the event `first` on, before the event `last`. None is skipped while the party is in a call.
+abbrev pub steps_between : {T : Type 0} → List (Event T) → ℕ → ℕ → ℕ → ℕ
+steps_between events p first last = count_by (is_step_of p) (drop first (take last events))
 
--- no call begins at this event, but for one that replies at once
-abbrev pub IsNoBeginning : {T : Type 0} → Event T → Told T → Type 0
-IsNoBeginning (Begin q c) (Ran k None) = ⊥
-IsNoBeginning _ _ = Unit {0}
+-- from the event `first` on, up to the event `last`, no party but p is in a call
+abbrev pub IsAlone : {T : Type 0} → List (Event T) → List ℕ → List (ℕ × ℕ × Reply T) → ℕ → ℕ → ℕ → Type 0
+IsAlone events skipped replies p first last = (q n : ℕ) → q ≢ p → first ≤ n → n ≤ last → IsInCall events skipped replies q n → ⊥
 
--- this holds of each event and what is told of it
-abbrev pub EachTold : {T : Type 0} → (Event T → Told T → Type 0) → List (Event T) → List (Told T) → Type 0
-EachTold P (e ∷ es) (t ∷ ts) = P e t × EachTold P es ts
-EachTold P _ _ = Unit {0}
+-- A call that is in progress before the event `last`, and since the event `since` is the only one, has taken fewer than LONE_STEPS steps in that
+-- time: so it replies by the step of that number.
+abbrev pub LoneCallsReply : Type 0 → Type 0 → Type 0
+LoneCallsReply T A = (cap : Option ℕ) (parties : ℕ) (events : List (Event T)) (r : Replay T A) → Conforms cap parties events r
+    → (p since last : ℕ) (c : IsInCall events r.skipped.items r.replies.items p last) → last ≤ length events → c.first ≤ since
+    → IsAlone events r.skipped.items r.replies.items p since last → steps_between events p since last < LONE_STEPS
 
--- A run comes from its opening to the book b and goes on over the events es. At b party p is in a call and every other party is between calls. While no
--- call begins and p has not replied, it takes fewer than LONE_STEPS steps: so it replies by the step of that number.
-abbrev pub LoneCallsReply : Type 0 → Type 0
-LoneCallsReply T = (cap : Option ℕ) (parties : ℕ) (past es : List (Event T)) (told ts : List (Told T)) (b c : Book T) (p : ℕ) (o : Open T)
-    → Run cap parties (opening cap) past told b → Run cap parties b es ts c
-    → b.open_call p ≡ Some o → ((j : ℕ) → j ≢ p → b.open_call j ≡ None)
-    → EachTold IsNoBeginning es ts → EachTold (IsSilent p) es ts → own_steps p es ts < LONE_STEPS
-
--- A prompt call that is in progress has taken one step at most: so it replies by its second.
-abbrev pub PromptCallsReply : Type 0 → Type 0
-PromptCallsReply T = (cap : Option ℕ) (parties : ℕ) (past es : List (Event T)) (told ts : List (Told T)) (b c : Book T) (p : ℕ) (o : Open T)
-    → Run cap parties (opening cap) past told b → Run cap parties b es ts c
-    → b.open_call p ≡ Some o → is_prompt o.call ≡ true → EachTold (IsSilent p) es ts → own_steps p es ts < 2
+-- A prompt call that is in progress before the event `last` has taken one step at most: so it replies by its second.
+abbrev pub PromptCallsReply : Type 0 → Type 0 → Type 0
+PromptCallsReply T A = (cap : Option ℕ) (parties : ℕ) (events : List (Event T)) (r : Replay T A) → Conforms cap parties events r
+    → (p last : ℕ) (c : IsInCall events r.skipped.items r.replies.items p last) → last ≤ length events → is_prompt c.call ≡ true
+    → steps_between events p c.first last < PROMPT_STEPS

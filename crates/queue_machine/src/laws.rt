@@ -7,9 +7,10 @@ use std::alloc::Allocator;
 
 /// What a conforming replay tells is one legal history, whose kinds are the effects, in their order, and whose last state has the items that are left.
 ///
-/// Each effect is at a step of its party's own, and a front is taken off by a call that had seen the queue open. Each reply answers the call that its party
-/// began last: the effects of that call are those that the reply stands for, and a reply without effect is right at a moment between the call's first step and its last.
-/// A call that has not ended has a beginning of the effects of one of its replies.
+/// Each effect is at a step of the call that its party is in. A front is taken off by a call that had seen the queue open at a step before, and the next item that arrives
+/// does so by the same call. Each reply ends the call that its party is in: the effects of that call are those that the reply stands for, and a reply without effect is right
+/// at a moment between the call's first step and its last; a call without steps replies where it begins. A call that has not ended has a beginning of the effects of one of
+/// its replies.
 pub fn has_history<T, A: Allocator>()
     ensures { ConformingHasHistory T A }
 {}
@@ -25,11 +26,11 @@ pub fn nothing_appended_within<T>()
 {}
 
 /// A call that is in progress, while every other party is between calls and begins none, replies within 64 steps of its own.
-pub fn lone_calls_reply<T>()
-    ensures { LoneCallsReply T }
+pub fn lone_calls_reply<T, A: Allocator>()
+    ensures { LoneCallsReply T A }
 {}
 
 /// `close`, `is_closed`, `is_empty` and `is_full` reply by their second step, whatever the other parties do.
-pub fn prompt_calls_reply<T>()
-    ensures { PromptCallsReply T }
+pub fn prompt_calls_reply<T, A: Allocator>()
+    ensures { PromptCallsReply T A }
 {}

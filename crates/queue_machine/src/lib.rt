@@ -6,8 +6,6 @@ mod chain_left;
 pub mod laws;
 mod left;
 pub mod machine;
-#[cfg(test)]
-mod memory_tests;
 mod peaks;
 mod run;
 pub mod types;

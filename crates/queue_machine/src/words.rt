@@ -40,7 +40,7 @@ fn pass<T: Drop, A: Allocator + Copy>(alloc: A, machine: &mut Machine<T, A>, eve
 /// # Errors
 ///
 /// Where there is no memory, as of a replay.
-pub(crate) fn machine_after<T: Drop, A: Allocator + Copy>(
+pub fn machine_after<T: Drop, A: Allocator + Copy>(
     alloc: A,
     kind: Kind,
     parties: usize,

@@ -10,6 +10,7 @@ use Rattle.queue_steps.specs.State.{State, start, is_single_cap, fills, is_full}
 use Rattle.queue_steps.specs.Effect.{Fits, made, rest, with_coming, Runs, after_from}
 use Rattle.queue_steps.specs.Laws.{StaysClosed, StaysWithin}
 use Rattle.queue_steps.specs.Legal.{IsSound, IsWithin, KeepsSound}
+use Rattle.queue_steps.proofs.Lines.{lines}
 use Rattle.queue_steps.specs.Sole.{Owned, HoldsBlocks, moved, spanned, blocks_of, sole_state, is_spent, shut, appended, displaced}
 
 closed-made : {T : Type 0} (e : Effect T) (Q : State T) → Fits e Q → Q.closed ≡ true → (made e Q).closed ≡ true
@@ -98,26 +99,21 @@ counted-up true n e s = inl refl
 counted-up false n e (inl h) = inl h
 counted-up false n e (inr h) = inr (grind arith)
 
+shut-sound : {T : Type 0} (Q : State T) → IsSound Q → IsSound (shut Q)
+shut-sound Q s = record { none_coming = s.none_coming; within = s.within; counted = s.counted }
+
+appended-sound : {T : Type 0} (Q : State T) (v : T) → IsSound Q → is_spent Q ≡ false → is_full Q ≡ false → IsSound (appended Q v)
+appended-sound Q v s e2 e3 = record { none_coming = s.none_coming; within = within-append Q.cap Q.items v e3 s.within; counted = counted-up (is_single_cap Q.cap) Q.accepted e2 s.counted }
+
+displaced-sound : {T : Type 0} (Q : State T) (v : T) → IsSound Q → is_spent Q ≡ false → is_full Q ≡ true → IsSound (displaced Q v)
+displaced-sound Q v s e2 e3 = record { none_coming = s.none_coming; within = within-displace Q.cap Q.items v e3 s.within; counted = counted-up (is_single_cap Q.cap) Q.accepted e2 s.counted }
+
 sound-state : {T : Type 0} (Q : State T) (c : Call T) → IsSound Q → IsSound (sole_state Q c)
-sound-state {T} Q (call.Push v) s = go Q.closed (is_spent Q) (is_full Q) refl refl
-  where
-    go : (b1 b2 b3 : Bool) → is_spent Q ≡ b2 → is_full Q ≡ b3 → IsSound (if b1 then Q else (if b2 then shut Q else (if b3 then Q else appended Q v)))
-    go true b2 b3 e2 e3 = s
-    go false true b3 e2 e3 = record { none_coming = s.none_coming; within = s.within; counted = s.counted }
-    go false false true e2 e3 = s
-    go false false false e2 e3 =
-        record { none_coming = s.none_coming; within = within-append Q.cap Q.items v e3 s.within; counted = counted-up (is_single_cap Q.cap) Q.accepted e2 s.counted }
-sound-state {T} Q (call.ForcePush v) s = go Q.closed (is_spent Q) (is_full Q) refl refl
-  where
-    go : (b1 b2 b3 : Bool) → is_spent Q ≡ b2 → is_full Q ≡ b3 → IsSound (if b1 then Q else (if b2 then shut Q else (if b3 then displaced Q v else appended Q v)))
-    go true b2 b3 e2 e3 = s
-    go false true b3 e2 e3 = record { none_coming = s.none_coming; within = s.within; counted = s.counted }
-    go false false true e2 e3 =
-        record { none_coming = s.none_coming; within = within-displace Q.cap Q.items v e3 s.within; counted = counted-up (is_single_cap Q.cap) Q.accepted e2 s.counted }
-    go false false false e2 e3 =
-        record { none_coming = s.none_coming; within = within-append Q.cap Q.items v e3 s.within; counted = counted-up (is_single_cap Q.cap) Q.accepted e2 s.counted }
+sound-state Q (call.Push v) s = lines (λ l. IsSound l.1) Q _ _ _ _ (λ e1. s) (λ e1 e2. shut-sound Q s) (λ e1 e2 e3. s) (λ e1 e2 e3. appended-sound Q v s e2 e3)
+sound-state Q (call.ForcePush v) s =
+    lines (λ l. IsSound l.1) Q _ _ _ _ (λ e1. s) (λ e1 e2. shut-sound Q s) (λ e1 e2 e3. displaced-sound Q v s e2 e3) (λ e1 e2 e3. appended-sound Q v s e2 e3)
 sound-state Q call.Pop s = record { none_coming = s.none_coming; within = within-rest Q.cap Q.items s.within; counted = s.counted }
-sound-state Q call.Close s = record { none_coming = s.none_coming; within = s.within; counted = s.counted }
+sound-state Q call.Close s = shut-sound Q s
 sound-state Q call.IsClosed s = s
 sound-state Q call.IsEmpty s = s
 sound-state Q call.IsFull s = s
@@ -129,20 +125,8 @@ is_zero m e = grind arith
 
 -- a call changes no capacity
 cap-sole : {T : Type 0} (Q : State T) (c : Call T) → (sole_state Q c).cap ≡ Q.cap
-cap-sole {T} Q (call.Push v) = go Q.closed (is_spent Q) (is_full Q)
-  where
-    go : (b1 b2 b3 : Bool) → (if b1 then Q else (if b2 then shut Q else (if b3 then Q else appended Q v))).cap ≡ Q.cap
-    go true b2 b3 = refl
-    go false true b3 = refl
-    go false false true = refl
-    go false false false = refl
-cap-sole {T} Q (call.ForcePush v) = go Q.closed (is_spent Q) (is_full Q)
-  where
-    go : (b1 b2 b3 : Bool) → (if b1 then Q else (if b2 then shut Q else (if b3 then displaced Q v else appended Q v))).cap ≡ Q.cap
-    go true b2 b3 = refl
-    go false true b3 = refl
-    go false false true = refl
-    go false false false = refl
+cap-sole Q (call.Push v) = lines (λ l. l.1.cap ≡ Q.cap) Q _ _ _ _ (λ e1. refl) (λ e1 e2. refl) (λ e1 e2 e3. refl) (λ e1 e2 e3. refl)
+cap-sole Q (call.ForcePush v) = lines (λ l. l.1.cap ≡ Q.cap) Q _ _ _ _ (λ e1. refl) (λ e1 e2. refl) (λ e1 e2 e3. refl) (λ e1 e2 e3. refl)
 cap-sole Q call.Pop = refl
 cap-sole Q call.Close = refl
 cap-sole Q call.IsClosed = refl
@@ -151,26 +135,28 @@ cap-sole Q call.IsFull = refl
 cap-sole Q call.Len = refl
 cap-sole Q call.Capacity = refl
 
+-- nor is anything on its way in after it that was not before
+pub coming-sole : {T : Type 0} (Q : State T) (c : Call T) → (sole_state Q c).coming ≡ Q.coming
+coming-sole Q (call.Push v) = lines (λ l. l.1.coming ≡ Q.coming) Q _ _ _ _ (λ e1. refl) (λ e1 e2. refl) (λ e1 e2 e3. refl) (λ e1 e2 e3. refl)
+coming-sole Q (call.ForcePush v) = lines (λ l. l.1.coming ≡ Q.coming) Q _ _ _ _ (λ e1. refl) (λ e1 e2. refl) (λ e1 e2 e3. refl) (λ e1 e2 e3. refl)
+coming-sole Q call.Pop = refl
+coming-sole Q call.Close = refl
+coming-sole Q call.IsClosed = refl
+coming-sole Q call.IsEmpty = refl
+coming-sole Q call.IsFull = refl
+coming-sole Q call.Len = refl
+coming-sole Q call.Capacity = refl
+
 counted-zero : (single : Bool) (n : ℕ) → (if single then n else n + 1) ≡ 0 → n ≡ 0
 counted-zero true n e = e
 counted-zero false n e = omega arith
 
 -- a queue that has accepted nothing had accepted nothing before the call
 zero-sole : {T : Type 0} (Q : State T) (c : Call T) → (sole_state Q c).accepted ≡ 0 → Q.accepted ≡ 0
-zero-sole {T} Q (call.Push v) e = go Q.closed (is_spent Q) (is_full Q) e
-  where
-    go : (b1 b2 b3 : Bool) → (if b1 then Q else (if b2 then shut Q else (if b3 then Q else appended Q v))).accepted ≡ 0 → Q.accepted ≡ 0
-    go true b2 b3 e = e
-    go false true b3 e = e
-    go false false true e = e
-    go false false false e = counted-zero (is_single_cap Q.cap) Q.accepted e
-zero-sole {T} Q (call.ForcePush v) e = go Q.closed (is_spent Q) (is_full Q) e
-  where
-    go : (b1 b2 b3 : Bool) → (if b1 then Q else (if b2 then shut Q else (if b3 then displaced Q v else appended Q v))).accepted ≡ 0 → Q.accepted ≡ 0
-    go true b2 b3 e = e
-    go false true b3 e = e
-    go false false true e = counted-zero (is_single_cap Q.cap) Q.accepted e
-    go false false false e = counted-zero (is_single_cap Q.cap) Q.accepted e
+zero-sole Q (call.Push v) e =
+    lines (λ l. l.1.accepted ≡ 0 → Q.accepted ≡ 0) Q _ _ _ _ (λ e1 e. e) (λ e1 e2 e. e) (λ e1 e2 e3 e. e) (λ e1 e2 e3. counted-zero (is_single_cap Q.cap) Q.accepted) e
+zero-sole Q (call.ForcePush v) e =
+    lines (λ l. l.1.accepted ≡ 0 → Q.accepted ≡ 0) Q _ _ _ _ (λ e1 e. e) (λ e1 e2 e. e) (λ e1 e2 e3. counted-zero (is_single_cap Q.cap) Q.accepted) (λ e1 e2 e3. counted-zero (is_single_cap Q.cap) Q.accepted) e
 zero-sole Q call.Pop e = e
 zero-sole Q call.Close e = e
 zero-sole Q call.IsClosed e = e
@@ -200,4 +186,4 @@ moved-holds {T} P Q same before h = go (Q.accepted == 0) refl
 
 pub keeps_sound : {T : Type 0} → KeepsSound T
 keeps_sound P R c r s (inl h) = rw h.1 (sound-state P.queue c s.0, moved-holds P (sole_state P.queue c) (cap-sole P.queue c) (zero-sole P.queue c) s.1)
-keeps_sound P R c r s (inr h) = rw h.1 s
+keeps_sound P R c r s (inr h) = rw h.2 s

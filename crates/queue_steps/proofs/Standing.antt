@@ -3,24 +3,25 @@ use Rattle.std.specs.Prelude.{◌≡◌, ◌⊎◌, ℕ, ◌+◌, ◌<◌, ◌�
 use Rattle.std.proofs.Common.{refl, sym, inl, inr, ap, ◌∙◌, arith}
 use Rattle.queue_steps.specs.declared.sizes.TheConstants.{LIMIT}
 use Rattle.queue_steps.specs.declared.model.Effect.TheVariants as effect
-use Rattle.queue_steps.specs.State.{is_single_cap, fills, is_full}
+use Rattle.queue_steps.specs.State.{State, is_single_cap, fills, is_full}
 use Rattle.queue_steps.specs.Effect.{rest}
-use Rattle.queue_steps.specs.Replies.{IsRightAt, Tells, is_empty}
-use Rattle.queue_steps.specs.Sole.{Owned, LacksMemory, sole_reply, sole_state, is_spent, shut, appended, displaced, front, pop_result}
+use Rattle.queue_steps.specs.Replies.{Allows, LacksMemory, Tells, is_empty}
+use Rattle.queue_steps.specs.Sole.{owner_table, is_spent, shut, appended, displaced, front, pop_result}
 use Rattle.queue_steps.specs.declared.errors.PushError.TheVariants as push
 use Rattle.queue_steps.specs.declared.errors.ForcePushError.TheVariants as force
+use Rattle.queue_steps.proofs.Lines.{lines}
 use Rattle.queue_steps.specs.Legal.{IsSound, IsWithin, Stands, SoleStands}
 use Rattle.queue_steps.specs.declared.model.Call.{Call}
 use Rattle.queue_steps.specs.declared.model.Call.TheVariants as call
 use Rattle.queue_steps.specs.declared.model.Reply.{Reply}
 use Rattle.queue_steps.specs.declared.model.Reply.TheVariants as reply
 
-abbrev Line : {T : Type 0} → Owned T → Call T → Type 0
-Line P c = Stands P c (sole_reply P.queue c) (sole_state P.queue c)
+abbrev Line : {T : Type 0} → State T → Call T → Reply T × State T → Type 0
+Line Q c l = Stands Q c l.0 l.1
 
 -- a call without effects, after which the state is the same
-quiet : {T : Type 0} (P : Owned T) (c : Call T) (r : Reply T) → Tells c r [] → IsRightAt P.queue c r ⊎ LacksMemory P c r → Stands P c r P.queue
-quiet P c r tells right =
+quiet : {T : Type 0} (Q : State T) (c : Call T) (r : Reply T) → Tells c r [] → Allows c r Q → Stands Q c r Q
+quiet Q c r tells right =
     record { effects = []; tells = tells; runs = tt; shows = record { items = refl; cap = refl; closed = refl; coming = refl; accepted = inr refl }; right = λ _. right }
 
 -- a queue that is not spent may accept one item more
@@ -49,9 +50,9 @@ has_front (Some c) [] w e = grind (arith, w.0)
 has_front (Some c) (x ∷ xs) w e = (x, (xs, refl))
 
 -- a spent queue closes itself
-closes : {T : Type 0} (P : Owned T) (c : Call T) (r : Reply T) → Tells c r (effect.SelfClose ∷ []) → P.queue.closed ≡ false → is_spent P.queue ≡ true → Stands P c r (shut P.queue)
-closes P c r tells e1 e2 =
-    let h = spent (is_single_cap P.queue.cap) P.queue.accepted e2 in
+closes : {T : Type 0} (Q : State T) (c : Call T) (r : Reply T) → Tells c r (effect.SelfClose ∷ []) → Q.closed ≡ false → is_spent Q ≡ true → Stands Q c r (shut Q)
+closes Q c r tells e1 e2 =
+    let h = spent (is_single_cap Q.cap) Q.accepted e2 in
     record {
       effects = effect.SelfClose ∷ [];
       tells = tells;
@@ -61,28 +62,23 @@ closes P c r tells e1 e2 =
     }
 
 -- an item is appended
-appends : {T : Type 0} (P : Owned T) (c : Call T) (r : Reply T) (v : T) → IsSound P.queue → Tells c r (effect.Append v ∷ []) → P.queue.closed ≡ false → is_spent P.queue ≡ false → is_full P.queue ≡ false
-    → Stands P c r (appended P.queue v)
-appends P c r v s tells e1 e2 e3 =
+appends : {T : Type 0} (Q : State T) (c : Call T) (r : Reply T) (v : T) → IsSound Q → Tells c r (effect.Append v ∷ []) → Q.closed ≡ false → is_spent Q ≡ false → is_full Q ≡ false
+    → Stands Q c r (appended Q v)
+appends Q c r v s tells e1 e2 e3 =
     record {
       effects = effect.Append v ∷ [];
       tells = tells;
-      runs = ((e1, s.none_coming, e3, below (is_single_cap P.queue.cap) P.queue.accepted e2 s.counted), tt);
-      shows = record { items = refl; cap = refl; closed = refl; coming = refl; accepted = counts (is_single_cap P.queue.cap) P.queue.accepted };
+      runs = ((e1, s.none_coming, e3, below (is_single_cap Q.cap) Q.accepted e2 s.counted), tt);
+      shows = record { items = refl; cap = refl; closed = refl; coming = refl; accepted = counts (is_single_cap Q.cap) Q.accepted };
       right = λ e. cc;
     }
 
-push-line : {T : Type 0} (P : Owned T) (v : T) → IsSound P.queue → Line P (call.Push v)
-push-line {T} P v s = go P.queue.closed (is_spent P.queue) (is_full P.queue) refl refl refl
-  where
-    go : (b1 b2 b3 : Bool) → P.queue.closed ≡ b1 → is_spent P.queue ≡ b2 → is_full P.queue ≡ b3
-        → Stands P (call.Push v) (reply.Push (if b1 then Err (push.Closed v) else (if b2 then Err (push.Closed v) else (if b3 then Err (push.Full v) else Ok tt))))
-        (if b1 then P.queue else (if b2 then shut P.queue else (if b3 then P.queue else appended P.queue v)))
-    go true b2 b3 e1 e2 e3 = quiet P (call.Push v) (reply.Push (Err (push.Closed v))) (refl, inr refl) (inl (refl, e1))
-    go false true b3 e1 e2 e3 = closes P (call.Push v) (reply.Push (Err (push.Closed v))) (refl, inl refl) e1 e2
-    go false false true e1 e2 e3 =
-        quiet P (call.Push v) (reply.Push (Err (push.Full v))) (refl, refl) (inl (refl, e1, e3, below (is_single_cap P.queue.cap) P.queue.accepted e2 s.counted))
-    go false false false e1 e2 e3 = appends P (call.Push v) (reply.Push (Ok tt)) v s refl e1 e2 e3
+push-line : {T : Type 0} (Q : State T) (v : T) → IsSound Q → Line Q (call.Push v) (owner_table Q (call.Push v))
+push-line Q v s =
+    lines (Line Q (call.Push v)) Q _ _ _ _ (λ e1. quiet Q (call.Push v) (reply.Push (Err (push.Closed v))) (refl, inr refl) (inl (refl, e1)))
+    (λ e1 e2. closes Q (call.Push v) (reply.Push (Err (push.Closed v))) (refl, inl refl) e1 e2)
+    (λ e1 e2 e3. quiet Q (call.Push v) (reply.Push (Err (push.Full v))) (refl, refl) (inl (refl, e1, e3, below (is_single_cap Q.cap) Q.accepted e2 s.counted)))
+    (λ e1 e2 e3. appends Q (call.Push v) (reply.Push (Ok tt)) v s refl e1 e2 e3)
 
 -- the list of a full queue of one slot has one item
 alone : {T : Type 0} (c : Option ℕ) (x : T) (xs : List T) → is_single_cap c ≡ true → fills c (length (x ∷ xs)) ≡ true → xs ≡ []
@@ -90,43 +86,46 @@ alone None x xs one full = cc
 alone (Some c) x [] one full = refl
 alone (Some c) x (y ∷ ys) one full = grind arith
 
-force-line : {T : Type 0} (P : Owned T) (v : T) → IsSound P.queue → Line P (call.ForcePush v)
-force-line {T} P v s = go P.queue.closed (is_spent P.queue) (is_full P.queue) P.queue.items (is_single_cap P.queue.cap) refl refl refl refl refl
+-- the front of a full queue gives way
+displaces : {T : Type 0} (Q : State T) (v : T) → IsSound Q → Q.closed ≡ false → is_spent Q ≡ false → is_full Q ≡ true
+    → Line Q (call.ForcePush v) (reply.ForcePush (Ok (front Q.items)), displaced Q v)
+displaces {T} Q v s e1 e2 e3 = go Q.items (is_single_cap Q.cap) refl refl
   where
-    go : (b1 b2 b3 : Bool) (xs : List T) (single : Bool) → P.queue.closed ≡ b1 → is_spent P.queue ≡ b2 → is_full P.queue ≡ b3 → P.queue.items ≡ xs → is_single_cap P.queue.cap ≡ single
-        → Stands P (call.ForcePush v) (reply.ForcePush (if b1 then Err (force.Closed v) else (if b2 then Err (force.Closed v) else (if b3 then Ok (front xs) else Ok None))))
-        (if b1 then P.queue else (if b2 then shut P.queue else (if b3 then displaced P.queue v else appended P.queue v)))
-    go true b2 b3 xs single e1 e2 e3 e4 e5 = quiet P (call.ForcePush v) (reply.ForcePush (Err (force.Closed v))) (refl, inr refl) (inl (refl, e1))
-    go false true b3 xs single e1 e2 e3 e4 e5 = closes P (call.ForcePush v) (reply.ForcePush (Err (force.Closed v))) (refl, inl refl) e1 e2
-    go false false true [] single e1 e2 e3 e4 e5 =
-        let h = has_front P.queue.cap P.queue.items s.within e3 in
+    go : (xs : List T) (single : Bool) → Q.items ≡ xs → is_single_cap Q.cap ≡ single → Line Q (call.ForcePush v) (reply.ForcePush (Ok (front xs)), displaced Q v)
+    go [] single e4 e5 =
+        let h = has_front Q.cap Q.items s.within e3 in
         let none : h.0 ∷ h.1.0 ≡ [] = sym h.1.1 ∙ e4 in
         absurd (cc)
-    go false false true (x ∷ xs) true e1 e2 e3 e4 e5 =
-        let full : fills P.queue.cap (length (x ∷ xs)) ≡ true = ap (λ ys. fills P.queue.cap (length ys)) (sym e4) ∙ e3 in
-        let last : xs ≡ [] = alone P.queue.cap x xs e5 full in
-        let only : P.queue.items ≡ x ∷ [] = e4 ∙ ap (λ ys. x ∷ ys) last in
+    go (x ∷ xs) true e4 e5 =
+        let full : fills Q.cap (length (x ∷ xs)) ≡ true = ap (λ ys. fills Q.cap (length ys)) (sym e4) ∙ e3 in
+        let last : xs ≡ [] = alone Q.cap x xs e5 full in
+        let only : Q.items ≡ x ∷ [] = e4 ∙ ap (λ ys. x ∷ ys) last in
         record {
           effects = effect.Replace x v ∷ [];
           tells = inl refl;
-          runs = ((one P.queue.cap e5, e1, only), tt);
+          runs = ((one Q.cap e5, e1, only), tt);
           shows = record { items = ap (λ ys. rest ys ++ v ∷ []) only; cap = refl; closed = refl; coming = refl; accepted = inl e5 };
           right = λ e. cc;
         }
-    go false false true (x ∷ xs) false e1 e2 e3 e4 e5 =
+    go (x ∷ xs) false e4 e5 =
         record {
           effects = effect.Front x v ∷ effect.Arrive ∷ [];
           tells = inr refl;
-          runs = ((e5, e3, s.none_coming, below (is_single_cap P.queue.cap) P.queue.accepted e2 s.counted, (xs, e4)), ((v, refl), tt));
-          shows = record { items = refl; cap = refl; closed = refl; coming = s.none_coming; accepted = counts (is_single_cap P.queue.cap) P.queue.accepted };
+          runs = ((e5, e3, s.none_coming, below (is_single_cap Q.cap) Q.accepted e2 s.counted, (xs, e4)), ((v, refl), tt));
+          shows = record { items = refl; cap = refl; closed = refl; coming = s.none_coming; accepted = counts (is_single_cap Q.cap) Q.accepted };
           right = λ e. cc;
         }
-    go false false false xs single e1 e2 e3 e4 e5 = appends P (call.ForcePush v) (reply.ForcePush (Ok None)) v s refl e1 e2 e3
 
-pop-line : {T : Type 0} (P : Owned T) → IsSound P.queue → Line P call.Pop
-pop-line {T} P s = go P.queue.closed P.queue.items refl refl
+force-line : {T : Type 0} (Q : State T) (v : T) → IsSound Q → Line Q (call.ForcePush v) (owner_table Q (call.ForcePush v))
+force-line Q v s =
+    lines (Line Q (call.ForcePush v)) Q _ _ _ _ (λ e1. quiet Q (call.ForcePush v) (reply.ForcePush (Err (force.Closed v))) (refl, inr refl) (inl (refl, e1)))
+    (λ e1 e2. closes Q (call.ForcePush v) (reply.ForcePush (Err (force.Closed v))) (refl, inl refl) e1 e2) (displaces Q v s)
+    (λ e1 e2 e3. appends Q (call.ForcePush v) (reply.ForcePush (Ok None)) v s refl e1 e2 e3)
+
+pop-line : {T : Type 0} (Q : State T) → IsSound Q → Line Q call.Pop (owner_table Q call.Pop)
+pop-line {T} Q s = go Q.closed Q.items refl refl
   where
-    go : (b : Bool) (xs : List T) → P.queue.closed ≡ b → P.queue.items ≡ xs → Stands P call.Pop (reply.Pop (pop_result b xs)) (record P.queue { items = rest xs })
+    go : (b : Bool) (xs : List T) → Q.closed ≡ b → Q.items ≡ xs → Stands Q call.Pop (reply.Pop (pop_result b xs)) (record Q { items = rest xs })
     go false [] e1 e2 =
         record { effects = []; tells = refl; runs = tt; shows = record { items = sym e2; cap = refl; closed = refl; coming = refl; accepted = inr refl }; right = λ e. inl (e2, s.none_coming, e1) }
     go true [] e1 e2 =
@@ -140,36 +139,30 @@ pop-line {T} P s = go P.queue.closed P.queue.items refl refl
           right = λ e. cc;
         }
 
-close-line : {T : Type 0} (P : Owned T) → Line P call.Close
-close-line {T} P = go P.queue.closed refl
+close-line : {T : Type 0} (Q : State T) → Line Q call.Close (owner_table Q call.Close)
+close-line {T} Q = go Q.closed refl
   where
-    go : (b : Bool) → P.queue.closed ≡ b → Stands P call.Close (reply.Close (not b)) (shut P.queue)
+    go : (b : Bool) → Q.closed ≡ b → Stands Q call.Close (reply.Close (not b)) (shut Q)
     go true e = record { effects = []; tells = refl; runs = tt; shows = record { items = refl; cap = refl; closed = sym e; coming = refl; accepted = inr refl }; right = λ _. inl e }
     go false e =
         record { effects = effect.Close ∷ []; tells = refl; runs = (e, tt); shows = record { items = refl; cap = refl; closed = refl; coming = refl; accepted = inr refl }; right = λ e. cc }
 
-line : {T : Type 0} (P : Owned T) (c : Call T) → IsSound P.queue → Line P c
-line P (call.Push v) s = push-line P v s
-line P (call.ForcePush v) s = force-line P v s
-line P call.Pop s = pop-line P s
-line P call.Close s = close-line P
-line P call.IsClosed s = quiet P call.IsClosed (reply.IsClosed P.queue.closed) refl (inl refl)
-line P call.IsEmpty s = quiet P call.IsEmpty (reply.IsEmpty (is_empty P.queue.items)) refl (inl refl)
-line P call.IsFull s = quiet P call.IsFull (reply.IsFull (is_full P.queue)) refl (inl refl)
-line P call.Len s = quiet P call.Len (reply.Len (length P.queue.items)) refl (inl refl)
-line P call.Capacity s = quiet P call.Capacity (reply.Capacity P.queue.cap) refl (inl refl)
+line : {T : Type 0} (Q : State T) (c : Call T) → IsSound Q → Line Q c (owner_table Q c)
+line Q (call.Push v) s = push-line Q v s
+line Q (call.ForcePush v) s = force-line Q v s
+line Q call.Pop s = pop-line Q s
+line Q call.Close s = close-line Q
+line Q call.IsClosed s = quiet Q call.IsClosed (reply.IsClosed Q.closed) refl (inl refl)
+line Q call.IsEmpty s = quiet Q call.IsEmpty (reply.IsEmpty (is_empty Q.items)) refl (inl refl)
+line Q call.IsFull s = quiet Q call.IsFull (reply.IsFull (is_full Q)) refl (inl refl)
+line Q call.Len s = quiet Q call.Len (reply.Len (length Q.items)) refl (inl refl)
+line Q call.Capacity s = quiet Q call.Capacity (reply.Capacity Q.cap) refl (inl refl)
 
-lacks : {T : Type 0} (P : Owned T) (c : Call T) (r : Reply T) → LacksMemory P c r → Stands P c r P.queue
-lacks P (call.Push v) r h = quiet P (call.Push v) r (rw h.1 (refl, refl)) (inr h)
-lacks P (call.ForcePush v) r h = quiet P (call.ForcePush v) r (rw h.1 (refl, refl)) (inr h)
-lacks P call.Pop r h = absurd h
-lacks P call.Close r h = absurd h
-lacks P call.IsClosed r h = absurd h
-lacks P call.IsEmpty r h = absurd h
-lacks P call.IsFull r h = absurd h
-lacks P call.Len r h = absurd h
-lacks P call.Capacity r h = absurd h
+lacks : {T : Type 0} (Q : State T) (c : Call T) (r : Reply T) → LacksMemory Q c r → Stands Q c r Q
+lacks Q (call.Push v) (reply.Push (Err (push.NoMemory w))) h = quiet Q (call.Push v) (reply.Push (Err (push.NoMemory w))) (h.0, refl) (inr h)
+lacks Q (call.ForcePush v) (reply.ForcePush (Err (force.NoMemory w))) h = quiet Q (call.ForcePush v) (reply.ForcePush (Err (force.NoMemory w))) (h.0, refl) (inr h)
+lacks Q _ _ h = absurd h
 
 pub sole_stands : {T : Type 0} → SoleStands T
-sole_stands P R c r s (inl h) = rw (h.0, h.1) (line P c s)
-sole_stands P R c r s (inr h) = rw h.1 (lacks P c r h.0)
+sole_stands P R c r s (inl h) = rw (h.0, h.1) (line P.queue c s)
+sole_stands P R c r s (inr h) = rw h.2 (lacks P.queue c r h.0)

@@ -122,6 +122,10 @@ pop_tail_found head tail =
     if position_of tail == head then ends (reply.Pop (Err (if is_shut tail then pop.Closed else pop.Empty)))
     else loads ring.PopHead word.Head
 
+-- after the second read of a tail
+abbrev pub len_found : {B : Type 0} → ℕ → ℕ → ℕ → Next B
+len_found tail head again = if again == tail then ends (reply.Len (position_of tail - head)) else loads ring.LenTail word.Tail
+
 -- after the answer to the last step. The last line stands for what `FitsRing` excludes
 abbrev pub bounded_next : {B : Type 0} → ℕ → BoundedLocal → Answer B → Next B
 bounded_next n (ring.PushTail p) (Found tail) = tail_found n p tail
@@ -149,9 +153,7 @@ bounded_next n ring.Emptying Done = ends (reply.Pop (Ok tt))
 bounded_next n (ring.PopTail head) (Found tail) = pop_tail_found head tail
 bounded_next n ring.LenTail (Found tail) = loads (ring.LenHead tail) word.Head
 bounded_next n (ring.LenHead tail) (Found head) = loads (ring.LenAgain tail head) word.Tail
-bounded_next n (ring.LenAgain tail head) (Found again) =
-    if again == tail then ends (reply.Len (position_of tail - head))
-    else loads ring.LenTail word.Tail
+bounded_next n (ring.LenAgain tail head) (Found again) = len_found tail head again
 bounded_next n ring.EmptyHead (Found head) = loads (ring.EmptyTail head) word.Tail
 bounded_next n (ring.EmptyTail head) (Found tail) = ends (reply.IsEmpty (position_of tail == head))
 bounded_next n ring.FullTail (Found tail) = loads (ring.FullHead tail) word.Head

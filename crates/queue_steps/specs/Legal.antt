@@ -4,8 +4,8 @@ use Rattle.queue_steps.specs.declared.sizes.TheConstants.{LIMIT}
 use Rattle.queue_steps.specs.State.{State, is_single_cap}
 use Rattle.queue_steps.specs.declared.model.Effect.{Effect}
 use Rattle.queue_steps.specs.Effect.{Runs, after_from}
-use Rattle.queue_steps.specs.Replies.{IsRightAt, Tells}
-use Rattle.queue_steps.specs.Sole.{Owned, HoldsBlocks, LacksMemory, Sole}
+use Rattle.queue_steps.specs.Replies.{Allows, Tells}
+use Rattle.queue_steps.specs.Sole.{Owned, HoldsBlocks, Sole}
 use Rattle.queue_steps.specs.declared.model.Call.{Call}
 use Rattle.queue_steps.specs.declared.model.Reply.{Reply}
 
@@ -28,20 +28,20 @@ pub record IsShown {T : Type 0} (R P : State T) : Type 0 where
   pub coming : R.coming ≡ P.coming
   pub accepted : (is_single_cap R.cap ≡ true) ⊎ (R.accepted ≡ P.accepted)
 
--- the call has effects that may stand at Q, which its reply stands for and which lead to R; without effects the reply is right at Q
-pub record Stands {T : Type 0} (P : Owned T) (c : Call T) (r : Reply T) (R : State T) : Type 0 where
+-- the call has effects that may stand at Q, which its reply stands for and which lead to R; without effects Q allows the reply
+pub record Stands {T : Type 0} (Q : State T) (c : Call T) (r : Reply T) (R : State T) : Type 0 where
   pub effects : List (Effect T)
   pub tells : Tells c r effects
-  pub runs : Runs P.queue effects
-  pub shows : IsShown R (after_from P.queue effects)
-  pub right : effects ≡ [] → IsRightAt P.queue c r ⊎ LacksMemory P c r
+  pub runs : Runs Q effects
+  pub shows : IsShown R (after_from Q effects)
+  pub right : effects ≡ [] → Allows c r Q
 
 -- what holds of a queue with one owner holds of its blocks too
 abbrev pub IsSoundOwned : {T : Type 0} → Owned T → Type 0
 IsSoundOwned P = IsSound P.queue × HoldsBlocks P
 
 abbrev pub SoleStands : Type 0 → Type 0
-SoleStands T = (P R : Owned T) (c : Call T) (r : Reply T) → IsSound P.queue → Sole P c r R → Stands P c r R.queue
+SoleStands T = (P R : Owned T) (c : Call T) (r : Reply T) → IsSound P.queue → Sole P c r R → Stands P.queue c r R.queue
 
 abbrev pub KeepsSound : Type 0 → Type 0
 KeepsSound T = (P R : Owned T) (c : Call T) (r : Reply T) → IsSoundOwned P → Sole P c r R → IsSoundOwned R

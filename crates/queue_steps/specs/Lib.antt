@@ -14,5 +14,7 @@ pub mod ChainWords
 pub mod UnboundedNext
 pub mod Next
 pub mod LookNext
+pub mod Shares
 pub mod Parties
+pub mod SoleCalls
 pub mod Prompt

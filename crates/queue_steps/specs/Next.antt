@@ -1,5 +1,5 @@
 -- What a call does next, from where it stands and the answer to its last step.
-use Rattle.std.specs.Prelude.{None}
+use Rattle.std.specs.Prelude.{ℕ, Option, Some, None}
 use Rattle.queue_steps.specs.declared.model.Call.{Call}
 use Rattle.queue_steps.specs.declared.model.Reply.TheVariants as reply
 use Rattle.queue_steps.specs.declared.steps.types.Kind.{Kind}
@@ -14,6 +14,12 @@ use Rattle.queue_steps.specs.Words.{IsRing}
 use Rattle.queue_steps.specs.SingleNext.{single_begin, single_next}
 use Rattle.queue_steps.specs.BoundedNext.{bounded_begin, bounded_next, FitsRing}
 use Rattle.queue_steps.specs.UnboundedNext.{unbounded_begin, unbounded_next, FitsChain}
+
+-- the capacity of a queue of this kind
+abbrev pub capacity_of : Kind → Option ℕ
+capacity_of kind.Single = Some 1
+capacity_of (kind.Bounded cap) = Some cap
+capacity_of kind.Unbounded = None
 
 abbrev pub first_local : {B : Type 0} → Call Unit → Local B
 first_local c = local.Begin c

@@ -1,5 +1,6 @@
 -- What the parties of a queue know of its one history, what a shared call adds to that, and how parties are parted and brought together.
-use Rattle.std.specs.Prelude.{◌≡◌, ◌⊎◌, ℕ, ◌+◌, ◌<◌, ◌≤◌, ◌==◌, false, List, [], ◌∷◌, ◌++◌, length, Option, if◌then◌else◌, nat_lt}
+use Rattle.std.specs.Prelude.{◌≡◌, ◌≢◌, ◌⊎◌, ℕ, ◌+◌, ◌<◌, ◌≤◌, false, List, [], ◌∷◌, ◌++◌, length, Option}
+use Rattle.std.specs.List.{All, AllPairs, Contains}
 use mathlib.Core.Option.{some}
 use mathlib.Core.List.{IsPrefix}
 use lib.ListN.{get_elem?}
@@ -9,28 +10,27 @@ use Rattle.queue_steps.specs.declared.model.Reply.{Reply}
 use Rattle.queue_steps.specs.declared.model.Effect.{Effect}
 use Rattle.queue_steps.specs.declared.model.Effect.TheVariants as effect
 use Rattle.queue_steps.specs.Effect.{IsHistory, after}
-use Rattle.queue_steps.specs.Replies.{IsRightAt, Tells}
-use Rattle.queue_steps.specs.Sole.{LacksMemory}
+use Rattle.queue_steps.specs.Replies.{Allows, Tells}
+use Rattle.queue_steps.specs.Shares.{Share, half, plus, IsEntire, IsSome, IsPart}
 
--- a party's view: the beginning of the history that it has seen, and its own places in that
+-- a party's view: the beginning of the history that it has seen, its own places in that, and which part it is of all parties
 pub record View (T : Type 0) : Type 0 where
   pub seen : List (Effect T)
   pub mine : List ℕ
+  pub share : Share
 
--- how often the place stands in the list
-abbrev pub times : ℕ → List ℕ → ℕ
-times p [] = 0
-times p (x ∷ xs) = (if x == p then 1 else 0) + times p xs
+-- every place of what the party has seen is its own
+abbrev pub IsWhole : {T : Type 0} → View T → Type 0
+IsWhole v = (p : ℕ) → p < length v.seen → Contains v.mine p
 
--- one for each place of a history of this length
-abbrev pub once_below : ℕ → ℕ → ℕ
-once_below p n = if nat_lt p n then 1 else 0
-
--- what was seen is a history of a queue of this capacity; the party's places lie in it, none twice
+-- what was seen is a history of a queue of this capacity; the party's places lie in it, none twice. Its share is some part of one, and the party that has all of it is whole
 pub record IsView {T : Type 0} (cap : Option ℕ) (v : View T) : Type 0 where
   pub legal : IsHistory cap v.seen
-  pub inside : (p : ℕ) → 0 < times p v.mine → p < length v.seen
-  pub once : (p : ℕ) → times p v.mine ≤ 1
+  pub inside : All (λ p. p < length v.seen) v.mine
+  pub once : AllPairs (λ p q. p ≢ q) v.mine
+  pub some : IsSome v.share
+  pub part : IsPart v.share
+  pub whole : IsEntire v.share → IsWhole v
 
 -- the fact holds of the state after some history between s and t
 abbrev pub Between : {T : Type 0} → Option ℕ → List (Effect T) → List (Effect T) → (State T → Type 0) → Type 0
@@ -49,10 +49,6 @@ Displaces {T} cap s t (p ∷ q ∷ ps) =
     × ((k : ℕ) → p < k → k < q → ¬ (get_elem? t k ≡ some effect.Arrive))
 Displaces cap s t _ = Unit {0}
 
--- a request for a block may be refused here, where the number of blocks that a queue holds is not counted
-abbrev pub MayLackMemory : {T : Type 0} → Call T → Reply T → State T → Type 0
-MayLackMemory c r Q = LacksMemory (record { queue = Q; blocks = 0 }) c r
-
 -- the call c that is answered r takes its party's view from v to w
 pub record SharedCall {T : Type 0} (cap : Option ℕ) (v w : View T) (c : Call T) (r : Reply T) : Type 0 where
   pub begins : IsPrefix v.seen w.seen
@@ -62,20 +58,23 @@ pub record SharedCall {T : Type 0} (cap : Option ℕ) (v w : View T) (c : Call T
   pub tells : Tells c r effects
   pub stand : StandAt w.seen (length v.seen) places effects
   pub mine : w.mine ≡ v.mine ++ places
-  pub right : effects ≡ [] → Between cap v.seen w.seen (λ Q. IsRightAt Q c r ⊎ MayLackMemory c r Q)
+  pub share : w.share ≡ v.share
+  pub right : effects ≡ [] → Between cap v.seen w.seen (Allows c r)
   pub displaces : Displaces cap v.seen w.seen places
 
--- two views of one history, with no place that is both's
+-- two views of one history, with no place that is both's, and shares that are together no more than one
 pub record Apart {T : Type 0} (a b : View T) : Type 0 where
   pub comparable : IsPrefix a.seen b.seen ⊎ IsPrefix b.seen a.seen
-  pub disjoint : (p : ℕ) → times p a.mine + times p b.mine ≤ 1
+  pub disjoint : (p : ℕ) → Contains a.mine p → ¬ Contains b.mine p
+  pub part : IsPart (plus a.share b.share)
 
--- a party v is split in two: both have seen the same, and the first keeps the places
+-- a party v is split in two: both have seen the same, the first keeps the places, and each has half of the share
 pub record Split {T : Type 0} (cap : Option ℕ) (v a b : View T) : Type 0 where
   pub begins : IsPrefix v.seen a.seen
   pub same : b.seen ≡ a.seen
   pub legal : IsHistory cap a.seen
   pub mine : (a.mine ≡ v.mine) × (b.mine ≡ [])
+  pub share : (a.share ≡ half v.share) × (b.share ≡ half v.share)
 
 -- two parties become one, which has seen and done what both have
 pub record Join {T : Type 0} (cap : Option ℕ) (a b w : View T) : Type 0 where
@@ -83,15 +82,13 @@ pub record Join {T : Type 0} (cap : Option ℕ) (a b w : View T) : Type 0 where
   pub legal : IsHistory cap w.seen
   pub begins : IsPrefix a.seen w.seen × IsPrefix b.seen w.seen
   pub mine : w.mine ≡ a.mine ++ b.mine
+  pub share : w.share ≡ plus a.share b.share
 
--- two parties have then seen what either had seen, and keep their places
+-- two parties have then seen what either had seen, and keep their places and their shares
 pub record Meet {T : Type 0} (cap : Option ℕ) (a b c d : View T) : Type 0 where
   pub apart : Apart a b
   pub legal : IsHistory cap c.seen
   pub begins : IsPrefix a.seen c.seen × IsPrefix b.seen c.seen
   pub same : d.seen ≡ c.seen
   pub mine : (c.mine ≡ a.mine) × (d.mine ≡ b.mine)
-
--- every place of what the party has seen is its own
-abbrev pub IsWhole : {T : Type 0} → View T → Type 0
-IsWhole v = (p : ℕ) → times p v.mine ≡ once_below p (length v.seen)
+  pub share : (c.share ≡ a.share) × (d.share ≡ b.share)

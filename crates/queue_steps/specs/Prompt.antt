@@ -1,5 +1,5 @@
 -- The calls that end by their second step, whatever other parties do in between.
-use Rattle.std.specs.Prelude.{ℕ, zero, suc, ◌+◌}
+use Rattle.std.specs.Prelude.{ℕ, zero, suc, ◌+◌, Bool, true, false}
 use Rattle.queue_steps.specs.declared.sizes.TheConstants.{PROMPT_STEPS}
 use Rattle.queue_steps.specs.declared.model.Call.{Call}
 use Rattle.queue_steps.specs.declared.model.Call.TheVariants as call
@@ -10,12 +10,12 @@ use Rattle.queue_steps.specs.declared.steps.types.Next.{Next}
 use Rattle.queue_steps.specs.declared.steps.types.Next.TheVariants as next
 use Rattle.queue_steps.specs.Next.{CanNext, next_of, first_local}
 
-abbrev pub IsPrompt : Call Unit → Type 0
-IsPrompt call.Close = Unit {0}
-IsPrompt call.IsClosed = Unit {0}
-IsPrompt call.IsEmpty = Unit {0}
-IsPrompt call.IsFull = Unit {0}
-IsPrompt _ = ⊥
+abbrev pub is_prompt : {T : Type 0} → Call T → Bool
+is_prompt call.Close = true
+is_prompt call.IsClosed = true
+is_prompt call.IsEmpty = true
+is_prompt call.IsFull = true
+is_prompt _ = false
 
 -- the reply comes before n more steps, whatever they answer
 abbrev pub EndsBefore : {B : Type 0} → ℕ → Kind → Next B → Type 0

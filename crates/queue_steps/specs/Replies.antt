@@ -1,5 +1,6 @@
--- Where a reply is right, and which effects a reply stands for. A reply of another call is neither.
-use Rattle.std.specs.Prelude.{◌≡◌, ◌⊎◌, Bool, true, false, List, [], ◌∷◌, length, Some, None, Ok, Err}
+-- Where a reply is right, where a push may lack memory, and which effects a reply stands for. A reply of another call is none of these.
+use Rattle.std.specs.Prelude.{◌≡◌, ◌⊎◌, ◌-◌, ◌%◌, Bool, true, false, List, [], ◌∷◌, length, Some, None, Ok, Err}
+use Rattle.queue_steps.specs.declared.sizes.TheConstants.{BLOCK_SLOTS}
 use Rattle.queue_steps.specs.State.{State, is_full, IsBelow}
 use Rattle.queue_steps.specs.declared.model.Call.{Call}
 use Rattle.queue_steps.specs.declared.model.Call.TheVariants as call
@@ -29,6 +30,20 @@ IsRightAt Q call.IsFull (reply.IsFull b) = b ≡ is_full Q
 IsRightAt Q call.Len (reply.Len n) = n ≡ length Q.items
 IsRightAt Q call.Capacity (reply.Capacity c) = c ≡ Q.cap
 IsRightAt Q _ _ = ⊥
+
+-- a push may ask for a block: the queue has no capacity and is open, and it has accepted nothing or is one item short of a block
+abbrev pub MayAsk : {T : Type 0} → State T → Type 0
+MayAsk Q = (Q.cap ≡ None) × (Q.closed ≡ false) × ((Q.accepted ≡ 0) ⊎ (Q.accepted % BLOCK_SLOTS ≡ BLOCK_SLOTS - 1))
+
+-- a push was refused a block at this state, and hands back the value that it brought
+abbrev pub LacksMemory : {T : Type 0} → State T → Call T → Reply T → Type 0
+LacksMemory Q (call.Push v) (reply.Push (Err (push.NoMemory w))) = (w ≡ v) × MayAsk Q
+LacksMemory Q (call.ForcePush v) (reply.ForcePush (Err (force.NoMemory w))) = (w ≡ v) × MayAsk Q
+LacksMemory Q _ _ = ⊥
+
+-- the call may end at this state with this reply and no effect
+abbrev pub Allows : {T : Type 0} → Call T → Reply T → State T → Type 0
+Allows c r Q = IsRightAt Q c r ⊎ LacksMemory Q c r
 
 -- the call's own effects, in their order, are those that its reply stands for
 abbrev pub Tells : {T : Type 0} → Call T → Reply T → List (Effect T) → Type 0

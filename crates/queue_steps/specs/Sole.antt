@@ -1,16 +1,14 @@
 -- What each call of a queue with one owner answers, and what it leaves: the first line that fits decides.
-use Rattle.std.specs.Prelude.{◌≡◌, ◌⊎◌, ℕ, ◌+◌, ◌-◌, ◌/◌, ◌%◌, Bool, true, false, not, ◌&&◌, ◌==◌, if◌then◌else◌, List, [], ◌∷◌, ◌++◌, length, Option, Some, None, Result, Ok, Err}
+use Rattle.std.specs.Prelude.{◌≡◌, ◌⊎◌, ℕ, ◌+◌, ◌-◌, ◌/◌, Bool, true, not, ◌&&◌, ◌==◌, if◌then◌else◌, List, [], ◌∷◌, ◌++◌, length, Option, Some, None, Result, Ok, Err}
 use Rattle.queue_steps.specs.declared.sizes.TheConstants.{LIMIT, BLOCK_SLOTS}
-use Rattle.queue_steps.specs.State.{State, is_full, is_single_cap}
+use Rattle.queue_steps.specs.State.{State, start, is_full, is_single_cap}
 use Rattle.queue_steps.specs.Effect.{rest}
-use Rattle.queue_steps.specs.Replies.{is_empty}
+use Rattle.queue_steps.specs.Replies.{is_empty, LacksMemory}
 use Rattle.queue_steps.specs.declared.model.Call.{Call}
 use Rattle.queue_steps.specs.declared.model.Reply.{Reply}
 use Rattle.queue_steps.specs.declared.model.Call.TheVariants as call
 use Rattle.queue_steps.specs.declared.model.Reply.TheVariants as reply
 use Rattle.queue_steps.specs.declared.errors.PopError.{PopError}
-use Rattle.queue_steps.specs.declared.errors.PushError.{PushError}
-use Rattle.queue_steps.specs.declared.errors.ForcePushError.{ForcePushError}
 use Rattle.queue_steps.specs.declared.errors.PopError.TheVariants as pop
 use Rattle.queue_steps.specs.declared.errors.PushError.TheVariants as push
 use Rattle.queue_steps.specs.declared.errors.ForcePushError.TheVariants as force
@@ -38,66 +36,44 @@ abbrev pub front : {T : Type 0} → List T → Option T
 front [] = None
 front (x ∷ xs) = Some x
 
-abbrev pub push_reply : {T : Type 0} → State T → T → Result Unit (PushError T)
-push_reply Q v =
-    if Q.closed then Err (push.Closed v)
-    else (if is_spent Q then Err (push.Closed v)
-    else (if is_full Q then Err (push.Full v)
-    else Ok tt))
-
-abbrev pub push_state : {T : Type 0} → State T → T → State T
-push_state Q v =
-    if Q.closed then Q
-    else (if is_spent Q then shut Q
-    else (if is_full Q then Q
-    else appended Q v))
-
-abbrev pub force_push_reply : {T : Type 0} → State T → T → Result (Option T) (ForcePushError T)
-force_push_reply Q v =
-    if Q.closed then Err (force.Closed v)
-    else (if is_spent Q then Err (force.Closed v)
-    else (if is_full Q then Ok (front Q.items)
-    else Ok None))
-
-abbrev pub force_push_state : {T : Type 0} → State T → T → State T
-force_push_state Q v =
-    if Q.closed then Q
-    else (if is_spent Q then shut Q
-    else (if is_full Q then displaced Q v
-    else appended Q v))
-
 abbrev pub pop_result : {T : Type 0} → Bool → List T → Result T PopError
 pop_result closed [] = Err (if closed then pop.Closed else pop.Empty)
 pop_result closed (x ∷ xs) = Ok x
 
-abbrev pub pop_reply : {T : Type 0} → State T → Result T PopError
-pop_reply Q = pop_result Q.closed Q.items
-
-abbrev pub pop_state : {T : Type 0} → State T → State T
-pop_state Q = record Q { items = rest Q.items }
+-- the table: what the call answers, and the state that it leaves
+abbrev pub owner_table : {T : Type 0} → State T → Call T → Reply T × State T
+owner_table Q (call.Push v) =
+    if Q.closed then (reply.Push (Err (push.Closed v)), Q)
+    else (if is_spent Q then (reply.Push (Err (push.Closed v)), shut Q)
+    else (if is_full Q then (reply.Push (Err (push.Full v)), Q)
+    else (reply.Push (Ok tt), appended Q v)))
+owner_table Q (call.ForcePush v) =
+    if Q.closed then (reply.ForcePush (Err (force.Closed v)), Q)
+    else (if is_spent Q then (reply.ForcePush (Err (force.Closed v)), shut Q)
+    else (if is_full Q then (reply.ForcePush (Ok (front Q.items)), displaced Q v)
+    else (reply.ForcePush (Ok None), appended Q v)))
+owner_table Q call.Pop = (reply.Pop (pop_result Q.closed Q.items), record Q { items = rest Q.items })
+owner_table Q call.Close = (reply.Close (not Q.closed), shut Q)
+owner_table Q call.IsClosed = (reply.IsClosed Q.closed, Q)
+owner_table Q call.IsEmpty = (reply.IsEmpty (is_empty Q.items), Q)
+owner_table Q call.IsFull = (reply.IsFull (is_full Q), Q)
+owner_table Q call.Len = (reply.Len (length Q.items), Q)
+owner_table Q call.Capacity = (reply.Capacity Q.cap, Q)
 
 abbrev pub sole_reply : {T : Type 0} → State T → Call T → Reply T
-sole_reply Q (call.Push v) = reply.Push (push_reply Q v)
-sole_reply Q (call.ForcePush v) = reply.ForcePush (force_push_reply Q v)
-sole_reply Q call.Pop = reply.Pop (pop_reply Q)
-sole_reply Q call.Close = reply.Close (not Q.closed)
-sole_reply Q call.IsClosed = reply.IsClosed Q.closed
-sole_reply Q call.IsEmpty = reply.IsEmpty (is_empty Q.items)
-sole_reply Q call.IsFull = reply.IsFull (is_full Q)
-sole_reply Q call.Len = reply.Len (length Q.items)
-sole_reply Q call.Capacity = reply.Capacity Q.cap
+sole_reply Q c = (owner_table Q c).0
 
 abbrev pub sole_state : {T : Type 0} → State T → Call T → State T
-sole_state Q (call.Push v) = push_state Q v
-sole_state Q (call.ForcePush v) = force_push_state Q v
-sole_state Q call.Pop = pop_state Q
-sole_state Q call.Close = shut Q
-sole_state Q _ = Q
+sole_state Q c = (owner_table Q c).1
 
 -- a queue with one owner: the abstract queue, and how many blocks it holds
 pub record Owned (T : Type 0) : Type 0 where
   pub queue : State T
   pub blocks : ℕ
+
+-- an empty open queue of this capacity, just made
+abbrev pub fresh : {T : Type 0} → Option ℕ → Owned T
+fresh cap = record { queue = start cap 0; blocks = 0 }
 
 -- the blocks from the first item's to the last one's: none for a queue with a capacity
 abbrev pub spanned : Option ℕ → ℕ → ℕ → ℕ
@@ -115,19 +91,9 @@ HoldsBlocks P = (P.blocks ≡ blocks_of P.queue) ⊎ ((P.blocks ≡ 0) × (P.que
 abbrev pub moved : {T : Type 0} → Owned T → State T → Owned T
 moved P Q = record { queue = Q; blocks = if Q.accepted == 0 then P.blocks else blocks_of Q }
 
--- a push may ask for a block here: before the first item, where no block is held, and one item short of a block
-abbrev pub MayAsk : {T : Type 0} → Owned T → Type 0
-MayAsk P = (P.queue.cap ≡ None) × (P.queue.closed ≡ false) × (((P.queue.accepted ≡ 0) × (P.blocks ≡ 0)) ⊎ (P.queue.accepted % BLOCK_SLOTS ≡ BLOCK_SLOTS - 1))
-
--- the call was refused a block
-abbrev pub LacksMemory : {T : Type 0} → Owned T → Call T → Reply T → Type 0
-LacksMemory P (call.Push v) r = MayAsk P × (r ≡ reply.Push (Err (push.NoMemory v)))
-LacksMemory P (call.ForcePush v) r = MayAsk P × (r ≡ reply.ForcePush (Err (force.NoMemory v)))
-LacksMemory P _ r = ⊥
-
--- with one owner, this call at P answers r and leaves R: the table, or want of memory, which changes nothing
+-- with one owner, this call at P answers r and leaves R: the table, or want of memory, which changes nothing. A queue that has accepted nothing and holds a block lacks none
 abbrev pub Sole : {T : Type 0} → Owned T → Call T → Reply T → Owned T → Type 0
-Sole P c r R = ((r ≡ sole_reply P.queue c) × (R ≡ moved P (sole_state P.queue c))) ⊎ (LacksMemory P c r × (R ≡ P))
+Sole P c r R = ((r ≡ sole_reply P.queue c) × (R ≡ moved P (sole_state P.queue c))) ⊎ (LacksMemory P.queue c r × (P.queue.accepted ≡ 0 → P.blocks ≡ 0) × (R ≡ P))
 
 -- a run of calls, each of which begins where the one before it left off
 abbrev pub SoleRun : {T : Type 0} → Owned T → List (Call T) → List (Reply T) → Owned T → Type 0

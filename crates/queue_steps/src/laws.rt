@@ -1,6 +1,8 @@
 //! Laws of the abstract queue. Each function is there for its contract alone, which holds of all queues.
 ghost use Rattle.queue_steps.specs.Legal.{SoleStands, KeepsSound};
 ghost use Rattle.queue_steps.specs.Laws.{StaysClosed, StaysWithin};
+ghost use Rattle.queue_steps.specs.Shares.{SharesAddUp};
+ghost use Rattle.queue_steps.specs.SoleCalls.{WholeCalls};
 
 /// Each line of the table of one owner stands in a legal history, with a reply that is right there.
 pub fn sole_stands<T>()
@@ -20,4 +22,14 @@ pub fn stays_closed<T>()
 /// A queue never holds more items than its capacity.
 pub fn stays_within<T>()
     ensures { StaysWithin T }
+{}
+
+/// A shared call of a party that has all of the share is a call of one owner: its reply and the state that it leaves are the table's.
+pub fn whole_calls<T>()
+    ensures { WholeCalls T }
+{}
+
+/// Shares add up, and two halves of a share are that share.
+pub fn shares_add_up()
+    ensures { SharesAddUp }
 {}

@@ -20,3 +20,16 @@ pub const MAX_PARTIES: u64 = 1 << 31;
 
 /// How many steps of its own a `close`, `is_closed`, `is_empty` or `is_full` takes at most, whatever other parties do.
 pub const PROMPT_STEPS: u64 = 2;
+
+// The sizes as they are promised, so that none changes unseen.
+const _: () = prove!(LIMIT == 2305843009213693952);
+
+const _: () = prove!(MAX_CAPACITY == 576460752303423488);
+
+const _: () = prove!(BLOCK_SLOTS == 31);
+
+const _: () = prove!(LONE_STEPS == 64);
+
+const _: () = prove!(MAX_PARTIES == 2147483648);
+
+const _: () = prove!(PROMPT_STEPS == 2);

@@ -1,10 +1,13 @@
 //! Queues without a capacity and with one owner: replies from the table of the abstract queue, the ends of ranges, the blocks that are held, and want of memory.
 use crate::counted::Counted;
+use crate::rows::replies_are;
 use concurrent_queue::Exclusive;
 use concurrent_queue::errors::{ForcePushError, PopError, PushError};
+use queue_steps::model::{Call, Reply};
 use queue_steps::sizes::LIMIT;
-use std::alloc::Global;
+use std::alloc::{Allocator, Global};
 use std::cell::Cell;
+use std::ops::Range;
 use std::process::Abort;
 use std::test::Fail;
 use test_allocators::{Refusal, Refusing};
@@ -12,33 +15,67 @@ use test_allocators::{Refusal, Refusing};
 /// A queue whose requests are counted.
 type Counting<'a> = Exclusive<u64, &'a Refusing<Global>>;
 
-#[test]
-fn fifty_in_and_out(rt: HostRuntime) {
-    let mut queue: Exclusive<u64> = Exclusive::unbounded(rt.alloc());
-    assert_eq!(rt; queue.capacity(), None);
-    for value in 1..51u64 {
+/// Asserts that the queue holds so many blocks, that so many allocations live, and how many requests there were.
+fn holds(rt: &impl Abort, queue: &Counting, heap: &Refusing<Global>, blocks: u64, requests: u64) {
+    assert_eq!(rt;
+        (queue.blocks() as u64, heap.live(), heap.requests()),
+        (blocks, blocks, requests)
+    );
+}
+
+/// Pushes these numbers, each of which is accepted.
+fn push_all<A: Allocator>(rt: &impl Abort, queue: &mut Exclusive<u64, A>, values: Range<u64>) {
+    for value in values {
         assert_eq!(rt; queue.push(value), Ok(()));
-        assert_eq!(rt; queue.len() as u64, value);
     }
-    for value in 1..51u64 {
-        assert_eq!(rt; queue.pop(), Ok(value));
-        assert_eq!(rt; queue.len() as u64, 50 - value);
+}
+
+/// As many as a block has, and far more: each is accepted, and comes out in its turn.
+#[test]
+fn in_and_out(rt: HostRuntime) {
+    for (count, blocks) in [(50u64, 2), (1400, 46)] {
+        let heap = Refusing::new(rt.alloc(), Refusal::Never);
+        let mut queue: Counting = Exclusive::unbounded(&heap);
+        assert_eq!(rt; queue.capacity(), None);
+        for value in 0..count {
+            assert_eq!(rt;
+                (queue.push(value + 1), queue.len() as u64),
+                (Ok(()), value + 1)
+            );
+        }
+        holds(&rt, &queue, &heap, blocks, blocks);
+        for value in 0..count {
+            assert_eq!(rt;
+                (queue.pop(), queue.len() as u64),
+                (Ok(value + 1), count - value - 1)
+            );
+        }
+        assert_eq!(rt; queue.pop(), Err(PopError::Empty));
+        holds(&rt, &queue, &heap, 1, blocks);
     }
-    assert_eq!(rt; queue.pop(), Err(PopError::Empty));
 }
 
 #[test]
 fn force_push_is_push(rt: HostRuntime) {
     let mut queue: Exclusive<u64> = Exclusive::unbounded(rt.alloc());
-    assert_eq!(rt; queue.force_push(10), Ok(None));
-    assert_eq!(rt; queue.push(20), Ok(()));
-    assert!(rt; queue.close());
-    assert!(rt; !queue.close());
-    assert_eq!(rt; queue.push(30), Err(PushError::Closed(30)));
-    assert_eq!(rt; queue.force_push(40), Err(ForcePushError::Closed(40)));
-    assert_eq!(rt; queue.pop(), Ok(10));
-    assert_eq!(rt; queue.pop(), Ok(20));
-    assert_eq!(rt; queue.pop(), Err(PopError::Closed));
+    replies_are(
+        &rt,
+        &mut queue,
+        &[
+            (Call::ForcePush(10), Reply::ForcePush(Ok(None))),
+            (Call::Push(20), Reply::Push(Ok(()))),
+            (Call::Close, Reply::Close(true)),
+            (Call::Close, Reply::Close(false)),
+            (Call::Push(30), Reply::Push(Err(PushError::Closed(30)))),
+            (
+                Call::ForcePush(40),
+                Reply::ForcePush(Err(ForcePushError::Closed(40))),
+            ),
+            (Call::Pop, Reply::Pop(Ok(10))),
+            (Call::Pop, Reply::Pop(Ok(20))),
+            (Call::Pop, Reply::Pop(Err(PopError::Closed))),
+        ],
+    );
     assert_eq!(rt; queue.blocks(), 1);
 }
 
@@ -46,111 +83,106 @@ fn force_push_is_push(rt: HostRuntime) {
 fn no_memory_for_the_second_block(rt: HostRuntime) {
     let heap = Refusing::new(rt.alloc(), Refusal::Nth(2));
     let mut queue: Counting = Exclusive::unbounded(&heap);
-    for value in 0..30u64 {
-        assert_eq!(rt; queue.push(value), Ok(()));
-    }
-    assert_eq!(rt; queue.push(77), Err(PushError::NoMemory(77)));
-    assert!(rt; queue.len() == 30 && queue.blocks() == 1 && heap.live() == 1);
-    assert_eq!(rt; queue.push(77), Ok(()));
-    assert!(rt; queue.len() == 31 && queue.blocks() == 2 && heap.live() == 2);
-    assert_eq!(rt; heap.requests(), 3);
+    push_all(&rt, &mut queue, 0..30);
+    replies_are(
+        &rt,
+        &mut queue,
+        &[
+            (Call::Push(77), Reply::Push(Err(PushError::NoMemory(77)))),
+            (Call::Len, Reply::Len(30)),
+        ],
+    );
+    holds(&rt, &queue, &heap, 1, 2);
+    replies_are(
+        &rt,
+        &mut queue,
+        &[
+            (Call::Push(77), Reply::Push(Ok(()))),
+            (Call::Len, Reply::Len(31)),
+        ],
+    );
+    holds(&rt, &queue, &heap, 2, 3);
 }
 
 #[test]
 fn no_memory_for_the_first_block(rt: HostRuntime) {
     let heap = Refusing::new(rt.alloc(), Refusal::Always);
     let mut queue: Counting = Exclusive::unbounded(&heap);
-    assert_eq!(rt; heap.requests(), 0);
-    assert_eq!(rt; queue.push(77), Err(PushError::NoMemory(77)));
-    assert_eq!(rt; queue.force_push(78), Err(ForcePushError::NoMemory(78)));
-    assert!(rt; queue.is_empty() && queue.blocks() == 0 && heap.live() == 0);
-    assert_eq!(rt; queue.pop(), Err(PopError::Empty));
-    assert_eq!(rt; heap.requests(), 2);
-    assert!(rt; queue.close());
-    assert_eq!(rt; queue.push(79), Err(PushError::Closed(79)));
-    assert_eq!(rt; queue.pop(), Err(PopError::Closed));
-    assert_eq!(rt; heap.requests(), 2);
+    holds(&rt, &queue, &heap, 0, 0);
+    replies_are(
+        &rt,
+        &mut queue,
+        &[
+            (Call::Push(77), Reply::Push(Err(PushError::NoMemory(77)))),
+            (
+                Call::ForcePush(78),
+                Reply::ForcePush(Err(ForcePushError::NoMemory(78))),
+            ),
+            (Call::IsEmpty, Reply::IsEmpty(true)),
+            (Call::Pop, Reply::Pop(Err(PopError::Empty))),
+        ],
+    );
+    holds(&rt, &queue, &heap, 0, 2);
+    replies_are(
+        &rt,
+        &mut queue,
+        &[
+            (Call::Close, Reply::Close(true)),
+            (Call::Push(79), Reply::Push(Err(PushError::Closed(79)))),
+            (Call::Pop, Reply::Pop(Err(PopError::Closed))),
+        ],
+    );
+    holds(&rt, &queue, &heap, 0, 2);
 }
 
 #[test]
 fn blocks_from_the_front_on(rt: HostRuntime) {
     let heap = Refusing::new(rt.alloc(), Refusal::Never);
     let mut queue: Counting = Exclusive::unbounded(&heap);
+    push_all(&rt, &mut queue, 0..31);
     for value in 0..31u64 {
-        assert_eq!(rt; queue.push(value), Ok(()));
-    }
-    for value in 0..31u64 {
-        assert!(rt;
-            queue.blocks() == 2 && heap.live() == 2,
-            "before item {value}"
-        );
+        holds(&rt, &queue, &heap, 2, 2);
         assert_eq!(rt; queue.pop(), Ok(value));
     }
-    assert!(rt; queue.blocks() == 1 && heap.live() == 1);
+    holds(&rt, &queue, &heap, 1, 2);
     drop(queue);
-    assert!(rt; heap.live() == 0 && heap.requests() == 2);
+    assert_eq!(rt; (heap.live(), heap.requests()), (0, 2));
 
     let heap = Refusing::new(rt.alloc(), Refusal::Never);
     let mut queue: Counting = Exclusive::unbounded(&heap);
-    for value in 0..62u64 {
-        assert_eq!(rt; queue.push(value), Ok(()));
-    }
-    assert!(rt; queue.blocks() == 3 && heap.live() == 3);
+    push_all(&rt, &mut queue, 0..62);
+    holds(&rt, &queue, &heap, 3, 3);
 }
 
-/// How many blocks a queue holds that accepted so many items, some of which were taken.
-fn spanned(accepted: u64, taken: u64) -> u64 {
-    let passed = taken / 31;
-    (accepted / 31).saturating_sub(passed).wrapping_add(1)
-}
-
-/// Pushes 1 to 63, of whose requests some are refused, and pops all items but one block's. Then the queue is dropped.
-fn with_refusals(rt: &impl Abort, heap: &Refusing<Global>) {
-    let mut queue: Counting = Exclusive::unbounded(heap);
-    let mut accepted: u64 = 0;
-    for value in 1..64u64 {
-        let before = heap.requests();
-        let asks = (accepted == 0 && queue.blocks() == 0) || accepted % 31 == 30;
-        match queue.push(value) {
-            Ok(()) => accepted = accepted.wrapping_add(1),
-            Err(error) => {
-                assert_eq!(rt; error, PushError::NoMemory(value));
-                assert!(rt; asks);
-            }
-        }
-        assert_eq!(rt;
-            heap.requests(),
-            if asks { before.wrapping_add(1) } else { before }
-        );
-        assert_eq!(rt; queue.len() as u64, accepted);
-        assert_eq!(rt; queue.blocks() as u64, heap.live());
-        if accepted > 0 {
-            assert_eq!(rt; heap.live(), spanned(accepted, 0), "after {value}");
-        }
-    }
-    for taken in 1..36u64 {
-        assert!(rt; queue.pop().is_ok());
-        assert_eq!(rt; queue.blocks() as u64, heap.live());
-        assert_eq!(rt;
-            heap.live(),
-            spanned(accepted, taken),
-            "once {taken} were taken"
-        );
-    }
-    drop(queue);
-    assert_eq!(rt; heap.live(), 0);
-}
-
+/// Pushes 1 to 63, of which the one is refused whose request is, and pops all items but one block's. Then the queue is dropped.
 #[test]
 fn each_request_refused(rt: HostRuntime) {
-    for refusal in [
-        Refusal::Never,
-        Refusal::Nth(1),
-        Refusal::Nth(2),
-        Refusal::Nth(3),
+    for (refusal, refused, requests, accepted) in [
+        (Refusal::Never, 0u64, 3, 63),
+        (Refusal::Nth(1), 1, 4, 62),
+        (Refusal::Nth(2), 31, 4, 62),
+        (Refusal::Nth(3), 62, 4, 62),
     ] {
         let heap = Refusing::new(rt.alloc(), refusal);
-        with_refusals(&rt, &heap);
+        let mut queue: Counting = Exclusive::unbounded(&heap);
+        for value in 1..64u64 {
+            let expected = if value == refused {
+                Err(PushError::NoMemory(value))
+            } else {
+                Ok(())
+            };
+            assert_eq!(rt; queue.push(value), expected);
+            assert_eq!(rt; queue.blocks() as u64, heap.live());
+        }
+        assert_eq!(rt; queue.len(), accepted);
+        holds(&rt, &queue, &heap, 3, requests);
+        for _ in 1..36u64 {
+            assert!(rt; queue.pop().is_ok());
+            assert_eq!(rt; queue.blocks() as u64, heap.live());
+        }
+        holds(&rt, &queue, &heap, 2, requests);
+        drop(queue);
+        assert_eq!(rt; (heap.live(), heap.requests()), (0, requests));
     }
 }
 
@@ -158,11 +190,18 @@ fn each_request_refused(rt: HostRuntime) {
 fn after_thirty_items(rt: HostRuntime) -> Result<(), Fail> {
     let heap = Refusing::new(rt.alloc(), Refusal::Never);
     let mut queue: Counting = Exclusive::unbounded_after(&heap, 30)?;
-    assert!(rt; queue.blocks() == 1 && queue.is_empty() && heap.requests() == 1);
-    assert_eq!(rt; queue.push(5), Ok(()));
-    assert!(rt; queue.blocks() == 2 && heap.requests() == 2);
-    assert_eq!(rt; queue.pop(), Ok(5));
-    assert!(rt; queue.blocks() == 1 && heap.live() == 1);
+    holds(&rt, &queue, &heap, 1, 1);
+    replies_are(
+        &rt,
+        &mut queue,
+        &[
+            (Call::IsEmpty, Reply::IsEmpty(true)),
+            (Call::Push(5), Reply::Push(Ok(()))),
+        ],
+    );
+    holds(&rt, &queue, &heap, 2, 2);
+    replies_are(&rt, &mut queue, &[(Call::Pop, Reply::Pop(Ok(5)))]);
+    holds(&rt, &queue, &heap, 1, 2);
     Ok(())
 }
 
@@ -170,17 +209,32 @@ fn after_thirty_items(rt: HostRuntime) -> Result<(), Fail> {
 fn last_item(rt: HostRuntime) -> Result<(), Fail> {
     let heap = Refusing::new(rt.alloc(), Refusal::Nth(3));
     let mut queue: Counting = Exclusive::unbounded_after(&heap, LIMIT)?;
-    assert_eq!(rt; queue.push(1), Err(PushError::Closed(1)));
-    assert_eq!(rt; queue.pop(), Err(PopError::Closed));
-    assert!(rt; queue.blocks() == 1 && heap.requests() == 1 && !queue.close());
+    replies_are(
+        &rt,
+        &mut queue,
+        &[
+            (Call::Push(1), Reply::Push(Err(PushError::Closed(1)))),
+            (Call::Pop, Reply::Pop(Err(PopError::Closed))),
+            (Call::Close, Reply::Close(false)),
+        ],
+    );
+    holds(&rt, &queue, &heap, 1, 1);
+    drop(queue);
 
     let mut queue: Counting = Exclusive::unbounded_after(&heap, LIMIT - 1)?;
-    assert_eq!(rt; queue.push(1), Ok(()));
-    assert_eq!(rt; queue.push(2), Err(PushError::Closed(2)));
-    assert!(rt; queue.is_closed() && !queue.close());
-    assert_eq!(rt; queue.pop(), Ok(1));
-    assert_eq!(rt; queue.pop(), Err(PopError::Closed));
-    assert!(rt; queue.blocks() == 1 && heap.requests() == 2);
+    replies_are(
+        &rt,
+        &mut queue,
+        &[
+            (Call::Push(1), Reply::Push(Ok(()))),
+            (Call::Push(2), Reply::Push(Err(PushError::Closed(2)))),
+            (Call::IsClosed, Reply::IsClosed(true)),
+            (Call::Close, Reply::Close(false)),
+            (Call::Pop, Reply::Pop(Ok(1))),
+            (Call::Pop, Reply::Pop(Err(PopError::Closed))),
+        ],
+    );
+    holds(&rt, &queue, &heap, 1, 2);
     Ok(())
 }
 

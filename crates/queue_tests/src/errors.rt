@@ -1,79 +1,100 @@
 //! The errors: their texts, what they hand back, and when two are equal.
 use concurrent_queue::{ForcePushError, PopError, PushError};
-use std::alloc::AllocError;
+use std::alloc::{AllocError, Global};
+use std::fmt::{Debug, Display};
+use std::process::Abort;
 
-#[test]
-fn display_prints_the_name_of_the_variant(rt: HostRuntime) -> Result<(), AllocError> {
-    let alloc = rt.alloc();
-    let pops = format!(in alloc; "{} {}", PopError::Empty, PopError::Closed)?;
-    assert_eq!(rt; pops.as_str(), "Empty Closed");
-    let pushes = format!(in alloc;
-        "{} {} {}",
-        PushError::Full(7u64),
-        PushError::Closed(7u64),
-        PushError::NoMemory(7u64)
-    )?;
-    assert_eq!(rt; pushes.as_str(), "Full Closed NoMemory");
-    let forced = format!(in alloc;
-        "{} {}",
-        ForcePushError::Closed(7u64),
-        ForcePushError::NoMemory(7u64)
-    )?;
-    assert_eq!(rt; forced.as_str(), "Closed NoMemory");
-    let padded = format!(in alloc; "[{:>7}]", PopError::Empty)?;
-    assert_eq!(rt; padded.as_str(), "[  Empty]");
+/// Asserts how an error is printed: as it is, at the right and at the left of a field of ten, and for debugging.
+fn is_printed<E: Display + Debug + Drop>(
+    rt: &impl Abort,
+    alloc: Global,
+    error: E,
+    expected: &str,
+) -> Result<(), AllocError> {
+    let text = format!(in alloc; "{error}|{error:>10}|{error:<10}|{error:?}")?;
+    assert_eq!(rt; text.as_str(), expected);
     Ok(())
 }
 
 #[test]
-fn debug_prints_the_variant_with_its_value(rt: HostRuntime) -> Result<(), AllocError> {
-    let alloc = rt.alloc();
-    let pops = format!(in alloc; "{:?} {:?}", PopError::Empty, PopError::Closed)?;
-    assert_eq!(rt; pops.as_str(), "Empty Closed");
-    let pushes = format!(in alloc;
-        "{:?} {:?} {:?}",
-        PushError::Full(7u64),
-        PushError::Closed(7u64),
-        PushError::NoMemory(7u64)
-    )?;
-    assert_eq!(rt; pushes.as_str(), "Full(7) Closed(7) NoMemory(7)");
-    let forced = format!(in alloc;
-        "{:?} {:?}",
-        ForcePushError::Closed(7u64),
-        ForcePushError::NoMemory(7u64)
-    )?;
-    assert_eq!(rt; forced.as_str(), "Closed(7) NoMemory(7)");
+fn each_error_is_printed(rt: HostRuntime) -> Result<(), AllocError> {
+    for (error, expected) in [
+        (PopError::Empty, "Empty|     Empty|Empty     |Empty"),
+        (PopError::Closed, "Closed|    Closed|Closed    |Closed"),
+    ] {
+        is_printed(&rt, rt.alloc(), error, expected)?;
+    }
+    for (error, expected) in [
+        (PushError::Full(7u64), "Full|      Full|Full      |Full(7)"),
+        (
+            PushError::Closed(7),
+            "Closed|    Closed|Closed    |Closed(7)",
+        ),
+        (
+            PushError::NoMemory(7),
+            "NoMemory|  NoMemory|NoMemory  |NoMemory(7)",
+        ),
+    ] {
+        is_printed(&rt, rt.alloc(), error, expected)?;
+    }
+    for (error, expected) in [
+        (
+            ForcePushError::Closed(7u64),
+            "Closed|    Closed|Closed    |Closed(7)",
+        ),
+        (
+            ForcePushError::NoMemory(7),
+            "NoMemory|  NoMemory|NoMemory  |NoMemory(7)",
+        ),
+    ] {
+        is_printed(&rt, rt.alloc(), error, expected)?;
+    }
     Ok(())
 }
 
 #[test]
 fn each_predicate_is_true_on_its_variant_alone(rt: HostRuntime) {
-    assert!(rt; PopError::Empty.is_empty() && !PopError::Empty.is_closed());
-    assert!(rt; PopError::Closed.is_closed() && !PopError::Closed.is_empty());
-    let full = PushError::Full(7u64);
-    let closed = PushError::Closed(7u64);
-    let no_memory = PushError::NoMemory(7u64);
-    assert!(rt; full.is_full() && !full.is_closed());
-    assert!(rt; closed.is_closed() && !closed.is_full());
-    assert!(rt; !no_memory.is_full() && !no_memory.is_closed());
+    for (error, empty, closed) in [
+        (PopError::Empty, true, false),
+        (PopError::Closed, false, true),
+    ] {
+        assert_eq!(rt; (error.is_empty(), error.is_closed()), (empty, closed));
+    }
+    for (error, full, closed) in [
+        (PushError::Full(7u64), true, false),
+        (PushError::Closed(7), false, true),
+        (PushError::NoMemory(7), false, false),
+    ] {
+        assert_eq!(rt; (error.is_full(), error.is_closed()), (full, closed));
+    }
 }
 
 #[test]
 fn into_inner_hands_the_value_back(rt: HostRuntime) {
-    assert_eq!(rt; PushError::Full(7u64).into_inner(), 7);
-    assert_eq!(rt; PushError::Closed(8u64).into_inner(), 8);
-    assert_eq!(rt; PushError::NoMemory(9u64).into_inner(), 9);
-    assert_eq!(rt; ForcePushError::Closed(7u64).into_inner(), 7);
-    assert_eq!(rt; ForcePushError::NoMemory(8u64).into_inner(), 8);
+    for (error, value) in [
+        (PushError::Full(7u64), 7),
+        (PushError::Closed(8), 8),
+        (PushError::NoMemory(9), 9),
+    ] {
+        assert_eq!(rt; error.into_inner(), value);
+    }
+    for (error, value) in [
+        (ForcePushError::Closed(7u64), 7),
+        (ForcePushError::NoMemory(8), 8),
+    ] {
+        assert_eq!(rt; error.into_inner(), value);
+    }
 }
 
 #[test]
 fn errors_are_equal_by_variant_and_value(rt: HostRuntime) {
-    let full = PushError::Full(7u64);
-    let copy = full;
-    assert!(rt; full == copy);
-    assert!(rt; full != PushError::Full(8));
-    assert!(rt; full != PushError::Closed(7));
+    for (one, other, equal) in [
+        (PushError::Full(7u64), PushError::Full(7), true),
+        (PushError::Full(7), PushError::Full(8), false),
+        (PushError::Full(7), PushError::Closed(7), false),
+    ] {
+        assert_eq!(rt; one == other, equal);
+    }
     assert!(rt; PopError::Empty != PopError::Closed);
     assert!(rt; ForcePushError::Closed(7u64) != ForcePushError::NoMemory(7));
 }

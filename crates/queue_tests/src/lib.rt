@@ -12,3 +12,5 @@ mod errors;
 mod one_slot;
 #[cfg(test)]
 mod rings;
+#[cfg(test)]
+mod rows;

@@ -1,30 +1,45 @@
 //! Queues of one slot with one owner: worked examples.
+use crate::rows::replies_are;
 use concurrent_queue::{Exclusive, ForcePushError, PopError, PushError};
+use queue_steps::model::{Call, Reply};
 use std::alloc::AllocError;
 use std::sync::Arc;
 
 #[test]
 fn a_full_slot_and_a_closed_one_refuse(rt: HostRuntime) -> Result<(), AllocError> {
-    let mut queue: Exclusive<u64> = Exclusive::bounded(rt.alloc(), 1)?;
-    assert_eq!(rt; queue.push(10), Ok(()));
-    assert_eq!(rt; queue.push(20), Err(PushError::Full(20)));
-    assert!(rt; queue.close());
-    assert_eq!(rt; queue.push(20), Err(PushError::Closed(20)));
-    assert_eq!(rt; queue.pop(), Ok(10));
-    assert_eq!(rt; queue.push(20), Err(PushError::Closed(20)));
+    replies_are(
+        &rt,
+        &mut Exclusive::bounded(rt.alloc(), 1)?,
+        &[
+            (Call::Push(10), Reply::Push(Ok(()))),
+            (Call::Push(20), Reply::Push(Err(PushError::Full(20)))),
+            (Call::Close, Reply::Close(true)),
+            (Call::Push(20), Reply::Push(Err(PushError::Closed(20)))),
+            (Call::Pop, Reply::Pop(Ok(10))),
+            (Call::Push(20), Reply::Push(Err(PushError::Closed(20)))),
+        ],
+    );
     Ok(())
 }
 
 #[test]
 fn forced_pushes_displace(rt: HostRuntime) -> Result<(), AllocError> {
-    let mut queue: Exclusive<u64> = Exclusive::bounded(rt.alloc(), 1)?;
-    assert_eq!(rt; queue.force_push(10), Ok(None));
-    assert_eq!(rt; queue.force_push(20), Ok(Some(10)));
-    assert_eq!(rt; queue.force_push(30), Ok(Some(20)));
-    assert!(rt; queue.close());
-    assert_eq!(rt; queue.force_push(40), Err(ForcePushError::Closed(40)));
-    assert_eq!(rt; queue.pop(), Ok(30));
-    assert_eq!(rt; queue.pop(), Err(PopError::Closed));
+    replies_are(
+        &rt,
+        &mut Exclusive::bounded(rt.alloc(), 1)?,
+        &[
+            (Call::ForcePush(10), Reply::ForcePush(Ok(None))),
+            (Call::ForcePush(20), Reply::ForcePush(Ok(Some(10)))),
+            (Call::ForcePush(30), Reply::ForcePush(Ok(Some(20)))),
+            (Call::Close, Reply::Close(true)),
+            (
+                Call::ForcePush(40),
+                Reply::ForcePush(Err(ForcePushError::Closed(40))),
+            ),
+            (Call::Pop, Reply::Pop(Ok(30))),
+            (Call::Pop, Reply::Pop(Err(PopError::Closed))),
+        ],
+    );
     Ok(())
 }
 
@@ -33,16 +48,12 @@ fn forced_pushes_displace(rt: HostRuntime) -> Result<(), AllocError> {
 fn what_is_left_is_dropped_once(rt: HostRuntime) -> Result<(), AllocError> {
     let counter = Arc::new(rt.alloc(), ())?;
     let mut queue: Exclusive<Arc<()>> = Exclusive::bounded(rt.alloc(), 1)?;
-    match queue.push(counter.clone()?) {
-        Ok(()) => {}
-        Err(why) => drop(why.into_inner()),
+    for _ in 0..2u64 {
+        if let Err(why) = queue.push(counter.clone()?) {
+            drop(why.into_inner());
+        }
+        assert_eq!(rt; Arc::strong_count(&counter), 2);
     }
-    assert_eq!(rt; Arc::strong_count(&counter), 2);
-    match queue.push(counter.clone()?) {
-        Ok(()) => {}
-        Err(why) => drop(why.into_inner()),
-    }
-    assert_eq!(rt; Arc::strong_count(&counter), 2);
     drop(queue);
     assert_eq!(rt; Arc::strong_count(&counter), 1);
     Ok(())

@@ -1,7 +1,9 @@
 //! Rings with one owner: replies from the table of the abstract queue, the ends of ranges, and want of memory.
 use crate::counted::Counted;
+use crate::rows::{Row, replies_are};
 use concurrent_queue::Exclusive;
 use concurrent_queue::errors::{ForcePushError, PopError, PushError};
+use queue_steps::model::{Call, Reply};
 use queue_steps::sizes::{LIMIT, MAX_CAPACITY};
 use std::alloc::{AllocError, Global};
 use std::cell::Cell;
@@ -23,61 +25,96 @@ fn first_in_first_out(rt: HostRuntime) -> Result<(), Fail> {
 
 #[test]
 fn displaced_fronts(rt: HostRuntime) -> Result<(), Fail> {
-    let mut queue: Exclusive<u64> = Exclusive::bounded(rt.alloc(), 3)?;
-    for value in 1..4u64 {
-        assert_eq!(rt; queue.force_push(value), Ok(None));
-    }
-    assert_eq!(rt; queue.push(4), Err(PushError::Full(4)));
-    assert_eq!(rt; queue.force_push(5), Ok(Some(1)));
-    assert_eq!(rt; queue.force_push(6), Ok(Some(2)));
-    assert!(rt; queue.close());
-    assert_eq!(rt; queue.force_push(7), Err(ForcePushError::Closed(7)));
-    for value in [3, 5, 6] {
-        assert_eq!(rt; queue.pop(), Ok(value));
-    }
-    assert_eq!(rt; queue.pop(), Err(PopError::Closed));
+    replies_are(
+        &rt,
+        &mut Exclusive::bounded(rt.alloc(), 3)?,
+        &[
+            (Call::ForcePush(1), Reply::ForcePush(Ok(None))),
+            (Call::ForcePush(2), Reply::ForcePush(Ok(None))),
+            (Call::ForcePush(3), Reply::ForcePush(Ok(None))),
+            (Call::Push(4), Reply::Push(Err(PushError::Full(4)))),
+            (Call::ForcePush(5), Reply::ForcePush(Ok(Some(1)))),
+            (Call::ForcePush(6), Reply::ForcePush(Ok(Some(2)))),
+            (Call::Close, Reply::Close(true)),
+            (
+                Call::ForcePush(7),
+                Reply::ForcePush(Err(ForcePushError::Closed(7))),
+            ),
+            (Call::Pop, Reply::Pop(Ok(3))),
+            (Call::Pop, Reply::Pop(Ok(5))),
+            (Call::Pop, Reply::Pop(Ok(6))),
+            (Call::Pop, Reply::Pop(Err(PopError::Closed))),
+        ],
+    );
     Ok(())
 }
 
 #[test]
 fn displaced_fronts_over_laps(rt: HostRuntime) -> Result<(), Fail> {
-    let mut queue: Exclusive<u64> = Exclusive::bounded(rt.alloc(), 5)?;
-    for value in 1..6u64 {
-        assert_eq!(rt; queue.force_push(value), Ok(None));
-    }
-    for value in 6..11u64 {
-        assert_eq!(rt; queue.force_push(value), Ok(Some(value - 5)));
-    }
-    assert_eq!(rt; queue.pop(), Ok(6));
-    assert_eq!(rt; queue.force_push(11), Ok(None));
-    for value in 12..16u64 {
-        assert_eq!(rt; queue.force_push(value), Ok(Some(value - 5)));
-    }
-    assert!(rt; queue.close());
-    assert_eq!(rt; queue.force_push(40), Err(ForcePushError::Closed(40)));
-    for value in 11..16u64 {
-        assert_eq!(rt; queue.pop(), Ok(value));
-    }
-    assert_eq!(rt; queue.pop(), Err(PopError::Closed));
+    replies_are(
+        &rt,
+        &mut Exclusive::bounded(rt.alloc(), 5)?,
+        &[
+            (Call::ForcePush(1), Reply::ForcePush(Ok(None))),
+            (Call::ForcePush(2), Reply::ForcePush(Ok(None))),
+            (Call::ForcePush(3), Reply::ForcePush(Ok(None))),
+            (Call::ForcePush(4), Reply::ForcePush(Ok(None))),
+            (Call::ForcePush(5), Reply::ForcePush(Ok(None))),
+            (Call::ForcePush(6), Reply::ForcePush(Ok(Some(1)))),
+            (Call::ForcePush(7), Reply::ForcePush(Ok(Some(2)))),
+            (Call::ForcePush(8), Reply::ForcePush(Ok(Some(3)))),
+            (Call::ForcePush(9), Reply::ForcePush(Ok(Some(4)))),
+            (Call::ForcePush(10), Reply::ForcePush(Ok(Some(5)))),
+            (Call::Pop, Reply::Pop(Ok(6))),
+            (Call::ForcePush(11), Reply::ForcePush(Ok(None))),
+            (Call::ForcePush(12), Reply::ForcePush(Ok(Some(7)))),
+            (Call::ForcePush(13), Reply::ForcePush(Ok(Some(8)))),
+            (Call::ForcePush(14), Reply::ForcePush(Ok(Some(9)))),
+            (Call::ForcePush(15), Reply::ForcePush(Ok(Some(10)))),
+            (Call::Close, Reply::Close(true)),
+            (
+                Call::ForcePush(40),
+                Reply::ForcePush(Err(ForcePushError::Closed(40))),
+            ),
+            (Call::Pop, Reply::Pop(Ok(11))),
+            (Call::Pop, Reply::Pop(Ok(12))),
+            (Call::Pop, Reply::Pop(Ok(13))),
+            (Call::Pop, Reply::Pop(Ok(14))),
+            (Call::Pop, Reply::Pop(Ok(15))),
+            (Call::Pop, Reply::Pop(Err(PopError::Closed))),
+        ],
+    );
     Ok(())
 }
 
 /// An empty queue of this capacity that is told about, filled with one item, emptied twice and closed.
 fn looked_at(rt: &impl Abort, mut queue: Exclusive<u64>, capacity: Option<usize>) {
-    assert_eq!(rt; queue.capacity(), capacity);
     assert_eq!(rt; queue.blocks(), 0);
-    assert!(rt; queue.is_empty() && !queue.is_full() && queue.len() == 0);
-    assert_eq!(rt; queue.push(7), Ok(()));
-    assert!(rt; queue.len() == 1 && !queue.is_empty() && queue.is_full() == (capacity == Some(1)));
-    assert_eq!(rt; queue.pop(), Ok(7));
-    assert!(rt; queue.len() == 0 && queue.is_empty() && !queue.is_full());
-    assert_eq!(rt; queue.push(8), Ok(()));
-    assert_eq!(rt; queue.pop(), Ok(8));
-    assert_eq!(rt; queue.pop(), Err(PopError::Empty));
-    assert!(rt; !queue.is_closed());
-    assert!(rt; queue.close());
-    assert!(rt; queue.is_closed());
-    assert!(rt; !queue.close());
+    replies_are(
+        rt,
+        &mut queue,
+        &[
+            (Call::Capacity, Reply::Capacity(capacity)),
+            (Call::IsEmpty, Reply::IsEmpty(true)),
+            (Call::IsFull, Reply::IsFull(false)),
+            (Call::Len, Reply::Len(0)),
+            (Call::Push(7), Reply::Push(Ok(()))),
+            (Call::Len, Reply::Len(1)),
+            (Call::IsEmpty, Reply::IsEmpty(false)),
+            (Call::IsFull, Reply::IsFull(capacity == Some(1))),
+            (Call::Pop, Reply::Pop(Ok(7))),
+            (Call::Len, Reply::Len(0)),
+            (Call::IsEmpty, Reply::IsEmpty(true)),
+            (Call::IsFull, Reply::IsFull(false)),
+            (Call::Push(8), Reply::Push(Ok(()))),
+            (Call::Pop, Reply::Pop(Ok(8))),
+            (Call::Pop, Reply::Pop(Err(PopError::Empty))),
+            (Call::IsClosed, Reply::IsClosed(false)),
+            (Call::Close, Reply::Close(true)),
+            (Call::IsClosed, Reply::IsClosed(true)),
+            (Call::Close, Reply::Close(false)),
+        ],
+    );
     assert_eq!(rt; queue.blocks(), if capacity.is_none() { 1 } else { 0 });
 }
 
@@ -86,60 +123,95 @@ fn looks(rt: HostRuntime) -> Result<(), Fail> {
     looked_at(&rt, Exclusive::bounded(rt.alloc(), 1)?, Some(1));
     looked_at(&rt, Exclusive::bounded(rt.alloc(), 2)?, Some(2));
     looked_at(&rt, Exclusive::unbounded(rt.alloc()), None);
-    let mut queue: Exclusive<u64> = Exclusive::bounded(rt.alloc(), 2)?;
-    assert_eq!(rt; queue.push(1), Ok(()));
-    assert_eq!(rt; queue.push(2), Ok(()));
-    assert!(rt; queue.len() == 2 && !queue.is_empty() && queue.is_full());
-    assert_eq!(rt; queue.pop(), Ok(1));
-    assert!(rt; queue.len() == 1 && !queue.is_empty() && !queue.is_full());
+    replies_are(
+        &rt,
+        &mut Exclusive::bounded(rt.alloc(), 2)?,
+        &[
+            (Call::Push(1), Reply::Push(Ok(()))),
+            (Call::Push(2), Reply::Push(Ok(()))),
+            (Call::Len, Reply::Len(2)),
+            (Call::IsEmpty, Reply::IsEmpty(false)),
+            (Call::IsFull, Reply::IsFull(true)),
+            (Call::Pop, Reply::Pop(Ok(1))),
+            (Call::Len, Reply::Len(1)),
+            (Call::IsEmpty, Reply::IsEmpty(false)),
+            (Call::IsFull, Reply::IsFull(false)),
+        ],
+    );
     Ok(())
 }
 
+/// The last items that a queue accepts: by the number of items accepted before, the calls.
 #[test]
-fn last_item(rt: HostRuntime) -> Result<(), Fail> {
-    let mut queue: Exclusive<u64> = Exclusive::bounded_after(rt.alloc(), 2, LIMIT - 1)?;
-    assert_eq!(rt; queue.push(1), Ok(()));
-    assert_eq!(rt; queue.push(2), Err(PushError::Closed(2)));
-    assert!(rt; queue.is_closed());
-    assert!(rt; !queue.close());
-    assert_eq!(rt; queue.pop(), Ok(1));
-    assert_eq!(rt; queue.pop(), Err(PopError::Closed));
-    Ok(())
-}
-
-/// A queue of two slots that has two items, the last that it accepts.
-fn with_last_two(rt: &impl Abort, alloc: Global) -> Result<Exclusive<u64>, AllocError> {
-    let mut queue = Exclusive::bounded_after(alloc, 2, LIMIT - 2)?;
-    assert_eq!(rt; queue.push(1), Ok(()));
-    assert_eq!(rt; queue.push(2), Ok(()));
-    Ok(queue)
-}
-
-#[test]
-fn last_two_items(rt: HostRuntime) -> Result<(), Fail> {
-    let mut queue = with_last_two(&rt, rt.alloc())?;
-    assert_eq!(rt; queue.push(3), Err(PushError::Closed(3)));
-    assert!(rt; !queue.close());
-    assert_eq!(rt; queue.pop(), Ok(1));
-    assert_eq!(rt; queue.pop(), Ok(2));
-    assert_eq!(rt; queue.pop(), Err(PopError::Closed));
-
-    let mut queue = with_last_two(&rt, rt.alloc())?;
-    assert!(rt; !queue.is_closed());
-    assert_eq!(rt; queue.force_push(3), Err(ForcePushError::Closed(3)));
-    assert_eq!(rt; queue.len(), 2);
-
-    let mut queue = with_last_two(&rt, rt.alloc())?;
-    assert!(rt; queue.close());
-    assert_eq!(rt; queue.push(3), Err(PushError::Closed(3)));
-    assert_eq!(rt; queue.pop(), Ok(1));
-    assert_eq!(rt; queue.pop(), Ok(2));
-    assert_eq!(rt; queue.pop(), Err(PopError::Closed));
-
-    let mut queue: Exclusive<u64> = Exclusive::bounded_after(rt.alloc(), 2, LIMIT)?;
-    assert_eq!(rt; queue.force_push(1), Err(ForcePushError::Closed(1)));
-    assert!(rt; !queue.close());
-    assert_eq!(rt; queue.pop(), Err(PopError::Closed));
+fn last_items(rt: HostRuntime) -> Result<(), Fail> {
+    let tables: [(u64, &[Row]); 5] = [
+        (
+            LIMIT - 1,
+            &[
+                (Call::Push(1), Reply::Push(Ok(()))),
+                (Call::Push(2), Reply::Push(Err(PushError::Closed(2)))),
+                (Call::IsClosed, Reply::IsClosed(true)),
+                (Call::Close, Reply::Close(false)),
+                (Call::Pop, Reply::Pop(Ok(1))),
+                (Call::Pop, Reply::Pop(Err(PopError::Closed))),
+            ],
+        ),
+        (
+            LIMIT - 2,
+            &[
+                (Call::Push(1), Reply::Push(Ok(()))),
+                (Call::Push(2), Reply::Push(Ok(()))),
+                (Call::Push(3), Reply::Push(Err(PushError::Closed(3)))),
+                (Call::Close, Reply::Close(false)),
+                (Call::Pop, Reply::Pop(Ok(1))),
+                (Call::Pop, Reply::Pop(Ok(2))),
+                (Call::Pop, Reply::Pop(Err(PopError::Closed))),
+            ],
+        ),
+        (
+            LIMIT - 2,
+            &[
+                (Call::Push(1), Reply::Push(Ok(()))),
+                (Call::Push(2), Reply::Push(Ok(()))),
+                (Call::IsClosed, Reply::IsClosed(false)),
+                (
+                    Call::ForcePush(3),
+                    Reply::ForcePush(Err(ForcePushError::Closed(3))),
+                ),
+                (Call::Len, Reply::Len(2)),
+            ],
+        ),
+        (
+            LIMIT - 2,
+            &[
+                (Call::Push(1), Reply::Push(Ok(()))),
+                (Call::Push(2), Reply::Push(Ok(()))),
+                (Call::Close, Reply::Close(true)),
+                (Call::Push(3), Reply::Push(Err(PushError::Closed(3)))),
+                (Call::Pop, Reply::Pop(Ok(1))),
+                (Call::Pop, Reply::Pop(Ok(2))),
+                (Call::Pop, Reply::Pop(Err(PopError::Closed))),
+            ],
+        ),
+        (
+            LIMIT,
+            &[
+                (
+                    Call::ForcePush(1),
+                    Reply::ForcePush(Err(ForcePushError::Closed(1))),
+                ),
+                (Call::Close, Reply::Close(false)),
+                (Call::Pop, Reply::Pop(Err(PopError::Closed))),
+            ],
+        ),
+    ];
+    for (accepted, rows) in tables {
+        replies_are(
+            &rt,
+            &mut Exclusive::bounded_after(rt.alloc(), 2, accepted)?,
+            rows,
+        );
+    }
     Ok(())
 }
 

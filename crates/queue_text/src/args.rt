@@ -10,6 +10,8 @@ use crate::numbers::parse_number;
 /// The most parties that a replay may have.
 pub const MOST_PARTIES: u64 = 64;
 
+const _: () = prove!(MOST_PARTIES == 64);
+
 /// The kind of a queue, as an argument names it.
 #[derive(Clone, Copy, Debug, PartialEq, Eq)]
 pub enum KindName {

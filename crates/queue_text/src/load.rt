@@ -13,6 +13,8 @@ pub const MOST_THREADS: u64 = 64;
 /// The most items that a thread may push.
 pub const MOST_ITEMS: u64 = 1_000_000;
 
+const _: () = prove!(MOST_THREADS == 64 && MOST_ITEMS == 1_000_000);
+
 /// The kind of a queue, how many threads push and how many pop, and how many items each of the first pushes.
 #[derive(Clone, Copy, Debug, PartialEq, Eq)]
 pub struct Load {

@@ -1,7 +1,9 @@
-//! The caller that `concurrent_queue/CALLING.md` shows.
+//! The callers that `concurrent_queue/CALLING.md` shows.
+ghost use Rattle.std.specs.Prelude.{◌≡◌, IfOk};
+ghost use Rattle.queue_steps.specs.Shares.{SamePart};
 ghost use Rattle.concurrent_queue.specs.Shared.{IsPartyOf};
 
-use concurrent_queue::{ConcurrentQueue, Party, PopError};
+use concurrent_queue::{ConcurrentQueue, Party, PopError, PushError};
 use std::alloc::{AllocError, Global};
 use std::sync::Wait;
 use std::thread::{Threads, join, yield_now};
@@ -14,7 +16,7 @@ fn send_all<R: Wait>(
     count: u64,
 ) -> Party<u64>
     requires { IsPartyOf party queue.now }
-    ensures { IsPartyOf result queue.now }
+    ensures { IsPartyOf result queue.now × (result.view.share ≡ party.view.share) }
 {
     let mut next = 0;
     for _ in rt.forever() {
@@ -38,7 +40,7 @@ fn receive_all<R: Wait>(
     mut party: Party<u64>,
 ) -> (Party<u64>, u64)
     requires { IsPartyOf party queue.now }
-    ensures { IsPartyOf result.0 queue.now }
+    ensures { IsPartyOf result.0 queue.now × (result.0.view.share ≡ party.view.share) }
 {
     let mut sum: u64 = 0;
     for _ in rt.forever() {
@@ -56,10 +58,10 @@ pub fn hand_over<R: Threads + Wait + Sync>(
     rt: &R,
     alloc: Global,
     count: u64,
-) -> Result<Option<(u64, usize)>, AllocError> {
+) -> Result<(u64, usize), AllocError> {
     let (queue, party) = ConcurrentQueue::bounded(alloc, 1)?;
     let Ok((first, second)) = queue.split(party) else {
-        return Ok(None);
+        unreachable!()
     };
     let (first, (second, sum)) = join(
         rt,
@@ -68,7 +70,70 @@ pub fn hand_over<R: Threads + Wait + Sync>(
     );
     let party = queue.join(first, second);
     match queue.finish(party) {
-        Ok(left) => Ok(Some((sum, left.len()))),
-        Err((_queue, _party)) => Ok(None),
+        Ok(left) => Ok((sum, left.len())),
+        Err(_) => unreachable!(),
+    }
+}
+
+/// Puts `value` through a queue that only one party uses, and `other` into it while it is full. Gives what came out and what was handed back.
+pub fn through_a_shared_slot<R: Wait>(
+    rt: &R,
+    alloc: Global,
+    value: u64,
+    other: u64,
+) -> Result<(u64, u64), AllocError>
+    ensures { IfOk result (λ out. out ≡ (value, other)) }
+{
+    let (queue, mut party) = ConcurrentQueue::bounded(alloc, 1)?;
+    let Ok(()) = queue.push(rt, &mut party, value) else {
+        unreachable!()
+    };
+    let Err(PushError::Full(back)) = queue.push(rt, &mut party, other) else {
+        unreachable!()
+    };
+    let Ok(out) = queue.pop(rt, &mut party) else {
+        unreachable!()
+    };
+    let true = queue.close(&mut party) else {
+        unreachable!()
+    };
+    let Err(PopError::Closed) = queue.pop(rt, &mut party) else {
+        unreachable!()
+    };
+    match queue.finish(party) {
+        Ok(_left) => Ok((out, back)),
+        Err(_) => unreachable!(),
+    }
+}
+
+/// Parts off a party, so many times over. All of them close the queue, and become one party again. Gives it, and how many parties were refused.
+fn close_by_many(
+    queue: &ConcurrentQueue<u64>,
+    mut party: Party<u64>,
+    count: u64,
+) -> (Party<u64>, u64)
+    requires { IsPartyOf party queue.now }
+    ensures { IsPartyOf result.0 queue.now × SamePart result.0.view.share party.view.share }
+{
+    queue.close(&mut party);
+    if count == 0 {
+        return (party, 0);
+    }
+    match queue.split(party) {
+        Err(party) => (party, count),
+        Ok((first, second)) => {
+            let (second, refused) = close_by_many(queue, second, count - 1);
+            (queue.join(first, second), refused)
+        }
+    }
+}
+
+/// Lets many parties close a queue, and ends the sharing, which it can as all are joined. Gives whether the queue is closed, and how many parties were refused.
+pub fn closed_by_many(alloc: Global, count: u64) -> Result<(bool, u64), AllocError> {
+    let (queue, party) = ConcurrentQueue::bounded(alloc, 1)?;
+    let (party, refused) = close_by_many(&queue, party, count);
+    match queue.finish(party) {
+        Ok(left) => Ok((left.is_closed(), refused)),
+        Err(_) => unreachable!(),
     }
 }

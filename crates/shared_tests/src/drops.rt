@@ -1,11 +1,13 @@
 //! Every accepted item is dropped once.
-ghost use Rattle.std.specs.Prelude.{◌≡◌};
+ghost use Rattle.std.specs.Prelude.{◌≡◌, ◌<◌};
 ghost use Rattle.concurrent_queue.specs.Shared.{IsPartyOf};
 
 use concurrent_queue::{ConcurrentQueue, Party, PushError};
+use std::alloc::Global;
+use std::process::Abort;
 use std::sync::atomic::{AtomicU64, Ordering};
 use std::sync::{Arc, Wait};
-use std::thread::{join, yield_now};
+use std::thread::{Threads, join, yield_now};
 
 /// Counts when it is dropped.
 struct Counted {
@@ -81,11 +83,19 @@ fn pop_all<R: Wait>(rt: &R, queue: &Queue, mut party: Party<Counted>, count: u64
     unreachable!()
 }
 
-#[test]
-fn every_item_once(rt: HostRuntime) {
+/// Pops and drops so many items while another thread pushes them and as many more as are left in a queue of this capacity, and drops the queue.
+fn each_dropped_once<R: Wait + Threads + Sync + Abort>(
+    rt: &R,
+    alloc: Global,
+    cap: usize,
+    popped: u64,
+    left: u64,
+)
+    requires { (0 < cap) × (popped < 100000) × (left < 100000) }
+{
     let (Ok(drops), Ok((queue, party))) = (
-        Arc::new(rt.alloc(), AtomicU64::new(0)),
-        Queue::bounded(rt.alloc(), 1),
+        Arc::new(alloc, AtomicU64::new(0)),
+        Queue::bounded(alloc, cap),
     ) else {
         panic!(rt; "no memory");
     };
@@ -93,14 +103,24 @@ fn every_item_once(rt: HostRuntime) {
         panic!(rt; "no second party");
     };
     let (a, b) = join(
-        &rt,
-        || push_all(&rt, &queue, a, &drops, 1001),
-        || pop_all(&rt, &queue, b, 1000),
+        rt,
+        || push_all(rt, &queue, a, &drops, popped + left),
+        || pop_all(rt, &queue, b, popped),
     );
     let party = queue.join(a, b);
-    assert!(rt; drops.load(Ordering::SeqCst) == 1000);
+    assert!(rt; drops.load(Ordering::SeqCst) == popped);
     drop(party);
-    assert!(rt; drops.load(Ordering::SeqCst) == 1000);
+    assert!(rt; drops.load(Ordering::SeqCst) == popped);
     drop(queue);
-    assert!(rt; drops.load(Ordering::SeqCst) == 1001);
+    assert!(rt; drops.load(Ordering::SeqCst) == popped + left);
+}
+
+#[test]
+fn every_item_of_a_slot_once(rt: HostRuntime) {
+    each_dropped_once(&rt, rt.alloc(), 1, 1000, 1);
+}
+
+#[test]
+fn every_item_of_a_ring_once(rt: HostRuntime) {
+    each_dropped_once(&rt, rt.alloc(), 50, 1000, 20);
 }

@@ -7,6 +7,8 @@ mod drops;
 #[cfg(test)]
 mod refusals;
 #[cfg(test)]
+mod rings;
+#[cfg(test)]
 mod rows;
 #[cfg(test)]
 mod threads;

@@ -3,9 +3,10 @@ ghost use Rattle.std.specs.Prelude.{◌<◌};
 ghost use Rattle.concurrent_queue.specs.Shared.{IsPartyOf};
 ghost use denote.Param.Send.{IsSync};
 
-use crate::callers::hand_over;
+use crate::callers::{closed_by_many, hand_over, through_a_shared_slot};
 use concurrent_queue::{ConcurrentQueue, Party};
 use std::alloc::{AllocError, Global};
+use std::process::Abort;
 use std::sync::Wait;
 use std::sync::atomic::{AtomicU64, Ordering};
 use std::thread::{Threads, join, yield_now};
@@ -15,23 +16,42 @@ const TURNS: u64 = 25_000;
 
 type Queue = ConcurrentQueue<u64>;
 
-/// How often each value came out, and how many threads push.
+/// How often a thread looks for the others at most.
+const LOOKS: u64 = 10_000_000;
+
+/// How often each value came out, how many threads push, and how many of all threads have come.
 #[derive(Drop)]
 struct Board {
     counts: Vec<AtomicU64>,
     running: AtomicU64,
+    here: AtomicU64,
+    threads: u64,
 }
 
 impl Board {
-    fn new(alloc: Global, running: u64) -> Result<Board, AllocError> {
+    fn new(alloc: Global, threads: u64) -> Result<Board, AllocError> {
         let mut counts = Vec::new(alloc);
         for _ in 0..TURNS {
             counts.push(AtomicU64::new(0))?;
         }
         Ok(Board {
             counts,
-            running: AtomicU64::new(running),
+            running: AtomicU64::new(threads / 2),
+            here: AtomicU64::new(0),
+            threads,
         })
+    }
+
+    /// Waits until all threads have come, though not for ever. Gives whether they have: on one thread after another they never do.
+    fn all_are_here(&self) -> bool {
+        self.here.fetch_add(1, Ordering::SeqCst);
+        for _ in 0..LOOKS {
+            if self.here.load(Ordering::SeqCst) == self.threads {
+                return true;
+            }
+            yield_now();
+        }
+        false
     }
 
     fn count(&self, value: u64) {
@@ -53,7 +73,7 @@ impl Board {
 
 /// What a thread does.
 #[derive(Clone, Copy)]
-enum Role {
+pub(crate) enum Role {
     /// Pushes each value, and tries again where the queue is full.
     Push,
     /// Pops as many items as there are values, and tries again where the queue is empty.
@@ -159,7 +179,7 @@ fn drain<R: Wait>(rt: &R, queue: &Queue, party: &mut Party<u64>, board: &Board)
     }
 }
 
-/// All turns of a thread.
+/// All turns of a thread, which begin once all threads have come.
 fn act<R: Wait>(
     rt: &R,
     queue: &Queue,
@@ -170,7 +190,7 @@ fn act<R: Wait>(
     requires { IsPartyOf party queue.now }
     ensures { IsPartyOf result.0 queue.now }
 {
-    let mut right = true;
+    let mut right = board.all_are_here();
     for value in 0..TURNS {
         right = turn(rt, queue, &mut party, board, role, value) && right;
     }
@@ -217,82 +237,76 @@ fn crew<R: Wait + Threads + Sync>(
     }
 }
 
-#[test]
-fn in_order_from_one_thread_to_another(rt: HostRuntime) {
-    let (Ok(board), Ok((queue, party))) = (Board::new(rt.alloc(), 1), Queue::bounded(rt.alloc(), 1))
+/// Lets so many threads, one doubled so many times, work on a queue of this capacity. Asserts that they ran at one time, that each got what it had to, that each value was counted so often, and that nothing is left.
+pub(crate) fn works<R: Wait + Threads + Sync + Abort>(
+    rt: &R,
+    alloc: Global,
+    cap: usize,
+    threads: u64,
+    doublings: u64,
+    roles: (Role, Role),
+    times: u64,
+)
+    requires { 0 < cap }
+{
+    let (first, second) = roles;
+    let (Ok(board), Ok((queue, party))) = (Board::new(alloc, threads), Queue::bounded(alloc, cap))
     else {
         panic!(rt; "no memory");
     };
-    let (party, right) = crew(&rt, &queue, party, &board, 1, Role::Push, Role::PopInOrder);
+    let (party, right) = crew(rt, &queue, party, &board, doublings, first, second);
     assert!(rt; right);
+    assert!(rt; board.each_came(times));
     let Ok(left) = queue.finish(party) else {
         panic!(rt; "not finished");
     };
     assert!(rt; left.is_empty());
+}
+
+#[test]
+fn in_order_from_one_thread_to_another(rt: HostRuntime) {
+    works(&rt, rt.alloc(), 1, 2, 1, (Role::Push, Role::PopInOrder), 0);
 }
 
 #[test]
 fn four_pushers_and_four_poppers(rt: HostRuntime) {
-    let (Ok(board), Ok((queue, party))) = (Board::new(rt.alloc(), 4), Queue::bounded(rt.alloc(), 1))
-    else {
-        panic!(rt; "no memory");
-    };
-    let (party, right) = crew(&rt, &queue, party, &board, 3, Role::Push, Role::Pop);
-    assert!(rt; right);
-    assert!(rt; board.each_came(4));
-    let Ok(left) = queue.finish(party) else {
-        panic!(rt; "not finished");
-    };
-    assert!(rt; left.is_empty());
+    works(&rt, rt.alloc(), 1, 8, 3, (Role::Push, Role::Pop), 4);
 }
 
 #[test]
 fn linearizable(rt: HostRuntime) {
-    let (Ok(board), Ok((queue, party))) = (Board::new(rt.alloc(), 4), Queue::bounded(rt.alloc(), 1))
-    else {
-        panic!(rt; "no memory");
-    };
-    let (party, right) = crew(
+    works(
         &rt,
-        &queue,
-        party,
-        &board,
+        rt.alloc(),
+        1,
+        4,
         2,
-        Role::PushAndPop,
-        Role::ForceAndPop,
+        (Role::PushAndPop, Role::ForceAndPop),
+        0,
     );
-    assert!(rt; right);
-    let Ok(left) = queue.finish(party) else {
-        panic!(rt; "not finished");
-    };
-    assert!(rt; left.is_empty());
 }
 
 #[test]
 fn ring_buffer_of_one_thread(rt: HostRuntime) {
-    let (Ok(board), Ok((queue, party))) = (Board::new(rt.alloc(), 1), Queue::bounded(rt.alloc(), 1))
-    else {
-        panic!(rt; "no memory");
-    };
-    let (party, right) = crew(&rt, &queue, party, &board, 1, Role::Force, Role::Drain);
-    assert!(rt; right);
-    assert!(rt; board.each_came(1));
-    assert!(rt; queue.finish(party).is_ok());
+    works(&rt, rt.alloc(), 1, 2, 1, (Role::Force, Role::Drain), 1);
 }
 
 #[test]
 fn ring_buffer_of_four_threads(rt: HostRuntime) {
-    let (Ok(board), Ok((queue, party))) = (Board::new(rt.alloc(), 4), Queue::bounded(rt.alloc(), 1))
-    else {
-        panic!(rt; "no memory");
-    };
-    let (party, right) = crew(&rt, &queue, party, &board, 3, Role::Force, Role::Drain);
-    assert!(rt; right);
-    assert!(rt; board.each_came(4));
-    assert!(rt; queue.finish(party).is_ok());
+    works(&rt, rt.alloc(), 1, 8, 3, (Role::Force, Role::Drain), 4);
 }
 
 #[test]
 fn handed_over(rt: HostRuntime) {
-    assert!(rt; hand_over(&rt, rt.alloc(), TURNS) == Ok(Some((312_487_500, 0))));
+    assert_eq!(rt; hand_over(&rt, rt.alloc(), TURNS), Ok((312_487_500, 0)));
+}
+
+#[test]
+fn through_one_party(rt: HostRuntime) {
+    assert_eq!(rt; through_a_shared_slot(&rt, rt.alloc(), 7, 8), Ok((7, 8)));
+}
+
+#[test]
+fn closed_by_two_thousand(rt: HostRuntime) {
+    assert_eq!(rt; closed_by_many(rt.alloc(), 2000), Ok((true, 0)));
 }

@@ -1,8 +1,8 @@
 //! The steps of a ring. `Tail` is twice the position of the next item to come, and one more once the queue is closed; `Head` is the position of the front.
 //! A slot's stamp is the position for which it is free, and one more once it is filled for it.
-ghost use Rattle.std.specs.Prelude.{◌≡◌, ◌%◌, ◌<◌};
-ghost use Rattle.queue_steps.specs.BoundedNext.{loads, bounded_begin, bounded_next, tail_found, head_found, push_stamp_found, pop_stamp_found, pop_tail_found, closed_reply, pushed_reply, FitsRing, FitsStamp};
-ghost use Rattle.queue_steps.specs.Words.{IsRing, IsWord};
+ghost use Rattle.std.specs.Prelude.{◌≡◌, ◌+◌, ◌%◌, ◌<◌, ◌≤◌};
+ghost use Rattle.queue_steps.specs.BoundedNext.{at, loads, bounded_begin, bounded_next, tail_found, head_found, push_stamp_found, pop_stamp_found, pop_tail_found, len_found, closed_reply, pushed_reply, FitsRing, FitsStamp};
+ghost use Rattle.queue_steps.specs.Words.{IsRing, IsWord, position_of, slot_at, stamp_filled};
 
 use crate::errors::{ForcePushError, PopError, PushError};
 use crate::model::{Call, CallKind, Reply, ReplyKind};
@@ -23,7 +23,7 @@ pub enum PushKind {
 }
 
 /// Where a call on a ring stands, with the words that it remembers.
-#[derive(Clone, Copy, Debug, PartialEq, Eq)]
+#[derive(Clone, Copy)]
 pub enum BoundedLocal {
     /// B1: the read of the tail.
     PushTail(PushKind),
@@ -86,12 +86,20 @@ fn slot_of(cap: u64, position: u64) -> usize
     }
 }
 
+/// A step, after which the call waits there.
+#[inline(always)]
+fn step<B: Copy>(local: BoundedLocal, touch: Touch, op: Op<B>) -> Next<B>
+    ensures { result ≡ at local touch op }
+{
+    Next::Step(Local::Bounded(local), touch, op)
+}
+
 /// A step that only loads a word.
 #[inline(always)]
 fn load<B: Copy>(local: BoundedLocal, word: Word<B>) -> Next<B>
     ensures { result ≡ loads local word }
 {
-    Next::Step(Local::Bounded(local), Touch::Nothing, Op::Load(word))
+    step(local, Touch::Nothing, Op::Load(word))
 }
 
 /// The first step of a call.
@@ -103,8 +111,8 @@ pub(super) fn begin<B: Copy>(cap: usize, call: CallKind) -> Next<B>
         Call::Push(()) => load(BoundedLocal::PushTail(PushKind::Push), Word::Tail),
         Call::ForcePush(()) => load(BoundedLocal::PushTail(PushKind::Force), Word::Tail),
         Call::Pop => load(BoundedLocal::PopHead, Word::Head),
-        Call::Close => Next::Step(
-            Local::Bounded(BoundedLocal::Closing),
+        Call::Close => step(
+            BoundedLocal::Closing,
             Touch::Nothing,
             Op::Or(Word::Tail, MARK),
         ),
@@ -147,8 +155,8 @@ fn after_tail<B: Copy>(cap: u64, push: PushKind, tail: u64) -> Next<B>
     if tail % 2 == 1 {
         Next::Reply(closed(push), None)
     } else if tail / 2 == LIMIT {
-        Next::Step(
-            Local::Bounded(BoundedLocal::Spending(push)),
+        step(
+            BoundedLocal::Spending(push),
             Touch::Nothing,
             Op::Or(Word::Tail, MARK),
         )
@@ -160,6 +168,16 @@ fn after_tail<B: Copy>(cap: u64, push: PushKind, tail: u64) -> Next<B>
     }
 }
 
+/// B3.
+#[inline(always)]
+fn claim<B: Copy>(push: PushKind, tail: u64) -> Next<B>
+    requires { IsWord tail }
+    ensures { result ≡ at (BoundedLocal.Claiming push tail) Touch.Nothing (Op.Exchange Word.Tail tail (tail + TAIL_STEP)) }
+{
+    let exchange = Op::Exchange(Word::Tail, tail, tail + TAIL_STEP);
+    step(BoundedLocal::Claiming(push, tail), Touch::Nothing, exchange)
+}
+
 /// What follows the stamp of that tail's slot.
 #[inline(always)]
 fn after_push_stamp<B: Copy>(cap: u64, push: PushKind, tail: u64, stamp: u64) -> Next<B>
@@ -169,16 +187,12 @@ fn after_push_stamp<B: Copy>(cap: u64, push: PushKind, tail: u64, stamp: u64) ->
 {
     let position = tail / 2;
     if stamp == position {
-        Next::Step(
-            Local::Bounded(BoundedLocal::Claiming(push, tail)),
-            Touch::Nothing,
-            Op::Exchange(Word::Tail, tail, tail + TAIL_STEP),
-        )
+        claim(push, tail)
     } else if stamp + cap == position + 1 {
         match push {
             PushKind::Push => load(BoundedLocal::PushHead(tail), Word::Head),
-            PushKind::Force => Next::Step(
-                Local::Bounded(BoundedLocal::Displacing(tail)),
+            PushKind::Force => step(
+                BoundedLocal::Displacing(tail),
                 Touch::Nothing,
                 Op::Exchange(Word::Head, position - cap, position - cap + 1),
             ),
@@ -207,11 +221,8 @@ fn after_pop_stamp<B: Copy>(head: u64, stamp: u64) -> Next<B>
     ensures { result ≡ pop_stamp_found head stamp }
 {
     if stamp == head + 1 {
-        Next::Step(
-            Local::Bounded(BoundedLocal::Taking(head)),
-            Touch::Nothing,
-            Op::Exchange(Word::Head, head, head + 1),
-        )
+        let exchange = Op::Exchange(Word::Head, head, head + 1);
+        step(BoundedLocal::Taking(head), Touch::Nothing, exchange)
     } else if stamp == head {
         load(BoundedLocal::PopTail(head), Word::Tail)
     } else {
@@ -224,15 +235,103 @@ fn after_pop_stamp<B: Copy>(head: u64, stamp: u64) -> Next<B>
 fn after_pop_tail<B: Copy>(head: u64, tail: u64) -> Next<B>
     ensures { result ≡ pop_tail_found head tail }
 {
-    if tail / 2 == head {
-        let why = if tail % 2 == 1 {
-            PopError::Closed
-        } else {
-            PopError::Empty
-        };
-        Next::Reply(Reply::Pop(Err(why)), None)
+    if tail / 2 != head {
+        return load(BoundedLocal::PopHead, Word::Head);
+    }
+    let why = if tail % 2 == 1 {
+        PopError::Closed
     } else {
-        load(BoundedLocal::PopHead, Word::Head)
+        PopError::Empty
+    };
+    Next::Reply(Reply::Pop(Err(why)), None)
+}
+
+/// What follows the exchange of a tail.
+#[inline(always)]
+fn after_claim<B: Copy>(cap: u64, push: PushKind, tail: u64, found: u64) -> Next<B>
+    requires ring { IsRing cap }
+    requires word { IsWord tail }
+    ensures { result ≡ bounded_next cap (BoundedLocal.Claiming push tail) (Answer.Found found) }
+{
+    if found == tail {
+        let slot = slot_of(cap, tail / 2);
+        let stamp = Op::Store(Word::Stamp(slot), tail / 2 + 1);
+        step(BoundedLocal::Filling(push), Touch::Put(slot), stamp)
+    } else {
+        after_tail(cap, push, found)
+    }
+}
+
+/// What follows the head that a push found which may be into a full ring.
+#[inline(always)]
+fn after_push_head<B: Copy>(cap: u64, tail: u64, head: u64) -> Next<B>
+    requires ring { IsRing cap }
+    requires words { IsWord tail × IsWord head }
+    ensures { result ≡ bounded_next cap (BoundedLocal.PushHead tail) (Answer.Found head) }
+{
+    if head + cap == tail / 2 {
+        Next::Reply(Reply::Push(Err(PushError::Full(()))), None)
+    } else {
+        load(BoundedLocal::PushTail(PushKind::Push), Word::Tail)
+    }
+}
+
+/// What follows the exchange of a head by which the front leaves.
+#[inline(always)]
+fn after_displacing<B: Copy>(cap: u64, tail: u64, head: u64) -> Next<B>
+    requires ring { IsRing cap }
+    requires words { IsWord tail × IsWord head }
+    ensures { result ≡ bounded_next cap (BoundedLocal.Displacing tail) (Answer.Found head) }
+{
+    if head + cap == tail / 2 {
+        step(
+            BoundedLocal::Arriving(tail),
+            Touch::Nothing,
+            Op::Add(Word::Tail, TAIL_STEP),
+        )
+    } else {
+        load(BoundedLocal::PushTail(PushKind::Force), Word::Tail)
+    }
+}
+
+/// F7: the item is put in the place of the front.
+#[inline(always)]
+fn swap<B: Copy>(cap: u64, tail: u64) -> Next<B>
+    requires ring { IsRing cap }
+    requires word { IsWord tail }
+    ensures { result ≡ at BoundedLocal.Swapping (Touch.Swap (slot_at cap (position_of tail))) (Op.Store (Word.Stamp (slot_at cap (position_of tail))) (stamp_filled (position_of tail))) }
+{
+    let slot = slot_of(cap, tail / 2);
+    let stamp = Op::Store(Word::Stamp(slot), tail / 2 + 1);
+    step(BoundedLocal::Swapping, Touch::Swap(slot), stamp)
+}
+
+/// What follows the exchange of a head by which a pop takes the front.
+#[inline(always)]
+fn after_take<B: Copy>(cap: u64, head: u64, found: u64) -> Next<B>
+    requires ring { IsRing cap }
+    requires word { IsWord head }
+    ensures { result ≡ bounded_next cap (BoundedLocal.Taking head) (Answer.Found found) }
+{
+    if found == head {
+        let slot = slot_of(cap, head);
+        let stamp = Op::Store(Word::Stamp(slot), head + cap);
+        step(BoundedLocal::Emptying, Touch::Take(slot), stamp)
+    } else {
+        after_head(cap, found)
+    }
+}
+
+/// What follows the second read of a tail.
+#[inline(always)]
+fn after_len<B: Copy>(tail: u64, head: u64, again: u64) -> Next<B>
+    requires { again ≡ tail → head ≤ position_of tail }
+    ensures { result ≡ len_found tail head again }
+{
+    if again == tail {
+        Next::Reply(Reply::Len((tail / 2 - head) as usize), None)
+    } else {
+        load(BoundedLocal::LenTail, Word::Tail)
     }
 }
 
@@ -248,61 +347,18 @@ pub(super) fn next<B: Copy>(cap: u64, local: BoundedLocal, answer: Answer<B>) ->
         (BoundedLocal::PushStamp(push, tail), Answer::Found(stamp)) => after_push_stamp(
             cap, push, tail, stamp,
         ),
-        (BoundedLocal::Claiming(push, tail), Answer::Found(found)) => {
-            if found == tail {
-                let slot = slot_of(cap, tail / 2);
-                Next::Step(
-                    Local::Bounded(BoundedLocal::Filling(push)),
-                    Touch::Put(slot),
-                    Op::Store(Word::Stamp(slot), tail / 2 + 1),
-                )
-            } else {
-                after_tail(cap, push, found)
-            }
-        }
+        (BoundedLocal::Claiming(push, tail), Answer::Found(found)) => after_claim(
+            cap, push, tail, found,
+        ),
         (BoundedLocal::Filling(push), Answer::Done) => Next::Reply(pushed(push), None),
-        (BoundedLocal::PushHead(tail), Answer::Found(head)) => {
-            if head + cap == tail / 2 {
-                Next::Reply(Reply::Push(Err(PushError::Full(()))), None)
-            } else {
-                load(BoundedLocal::PushTail(PushKind::Push), Word::Tail)
-            }
-        }
-        (BoundedLocal::Displacing(tail), Answer::Found(head)) => {
-            if head + cap == tail / 2 {
-                Next::Step(
-                    Local::Bounded(BoundedLocal::Arriving(tail)),
-                    Touch::Nothing,
-                    Op::Add(Word::Tail, TAIL_STEP),
-                )
-            } else {
-                load(BoundedLocal::PushTail(PushKind::Force), Word::Tail)
-            }
-        }
-        (BoundedLocal::Arriving(tail), Answer::Found(_)) => {
-            let slot = slot_of(cap, tail / 2);
-            Next::Step(
-                Local::Bounded(BoundedLocal::Swapping),
-                Touch::Swap(slot),
-                Op::Store(Word::Stamp(slot), tail / 2 + 1),
-            )
-        }
+        (BoundedLocal::PushHead(tail), Answer::Found(head)) => after_push_head(cap, tail, head),
+        (BoundedLocal::Displacing(tail), Answer::Found(head)) => after_displacing(cap, tail, head),
+        (BoundedLocal::Arriving(tail), Answer::Found(_)) => swap(cap, tail),
         (BoundedLocal::Swapping, Answer::Done) => Next::Reply(Reply::ForcePush(Ok(Some(()))), None),
         (BoundedLocal::Spending(push), Answer::Found(_)) => Next::Reply(closed(push), None),
         (BoundedLocal::PopHead, Answer::Found(head)) => after_head(cap, head),
         (BoundedLocal::PopStamp(head), Answer::Found(stamp)) => after_pop_stamp(head, stamp),
-        (BoundedLocal::Taking(head), Answer::Found(found)) => {
-            if found == head {
-                let slot = slot_of(cap, head);
-                Next::Step(
-                    Local::Bounded(BoundedLocal::Emptying),
-                    Touch::Take(slot),
-                    Op::Store(Word::Stamp(slot), head + cap),
-                )
-            } else {
-                after_head(cap, found)
-            }
-        }
+        (BoundedLocal::Taking(head), Answer::Found(found)) => after_take(cap, head, found),
         (BoundedLocal::Emptying, Answer::Done) => Next::Reply(Reply::Pop(Ok(())), None),
         (BoundedLocal::PopTail(head), Answer::Found(tail)) => after_pop_tail(head, tail),
         (BoundedLocal::LenTail, Answer::Found(tail)) => load(
@@ -313,13 +369,7 @@ pub(super) fn next<B: Copy>(cap: u64, local: BoundedLocal, answer: Answer<B>) ->
             BoundedLocal::LenAgain(tail, head),
             Word::Tail,
         ),
-        (BoundedLocal::LenAgain(tail, head), Answer::Found(again)) => {
-            if again == tail {
-                Next::Reply(Reply::Len((tail / 2 - head) as usize), None)
-            } else {
-                load(BoundedLocal::LenTail, Word::Tail)
-            }
-        }
+        (BoundedLocal::LenAgain(tail, head), Answer::Found(again)) => after_len(tail, head, again),
         (BoundedLocal::EmptyHead, Answer::Found(head)) => load(
             BoundedLocal::EmptyTail(head),
             Word::Tail,

@@ -1,8 +1,11 @@
 //! What a call is asked to do, and what it is told. `B` names a block of an unbounded queue.
+ghost use Rattle.std.specs.Prelude.{◌≡◌, ⊤};
+
 use crate::model::{CallKind, ReplyKind};
 use crate::steps::bounded::BoundedLocal;
 use crate::steps::single::SingleLocal;
 use crate::steps::unbounded::UnboundedLocal;
+use std::alloc::AllocError;
 
 /// Which queue.
 #[derive(Clone, Copy, Debug, PartialEq, Eq)]
@@ -16,7 +19,7 @@ pub enum Kind {
 }
 
 /// A word of 64 bits.
-#[derive(Clone, Copy, Debug, Drop, PartialEq, Eq)]
+#[derive(Copy, Drop)]
 pub enum Word<B> {
     /// What is in the slot of a queue of one slot, and whether a call holds it.
     Lock,
@@ -30,8 +33,18 @@ pub enum Word<B> {
     State(B, usize),
 }
 
+impl<B: Copy> Clone for Word<B> {
+    ghost is_clone = { λ x y. y ≡ x };
+
+    ghost is_infallible = { λ _. ⊤ };
+
+    fn clone(&self) -> Result<Word<B>, AllocError> {
+        Ok(*self)
+    }
+}
+
 /// A place for a block or none.
-#[derive(Clone, Copy, Debug, Drop, PartialEq, Eq)]
+#[derive(Copy, Drop)]
 pub enum Link<B> {
     /// The block of the poppers.
     HeadBlock,
@@ -41,8 +54,18 @@ pub enum Link<B> {
     Next(B),
 }
 
+impl<B: Copy> Clone for Link<B> {
+    ghost is_clone = { λ x y. y ≡ x };
+
+    ghost is_infallible = { λ _. ⊤ };
+
+    fn clone(&self) -> Result<Link<B>, AllocError> {
+        Ok(*self)
+    }
+}
+
 /// One atomic operation, or a request for a block.
-#[derive(Clone, Copy, Debug, Drop, PartialEq, Eq)]
+#[derive(Copy, Drop)]
 pub enum Op<B> {
     /// Reads the word.
     Load(Word<B>),
@@ -66,8 +89,18 @@ pub enum Op<B> {
     Ask,
 }
 
+impl<B: Copy> Clone for Op<B> {
+    ghost is_clone = { λ x y. y ≡ x };
+
+    ghost is_infallible = { λ _. ⊤ };
+
+    fn clone(&self) -> Result<Op<B>, AllocError> {
+        Ok(*self)
+    }
+}
+
 /// What is done to a slot just before the operation, in the same step. On a chain it is a slot of the block whose state the operation names.
-#[derive(Clone, Copy, Debug, PartialEq, Eq)]
+#[derive(Clone, Copy)]
 pub enum Touch {
     /// Nothing.
     Nothing,
@@ -80,7 +113,7 @@ pub enum Touch {
 }
 
 /// What the last operation gave.
-#[derive(Clone, Copy, Debug, Drop, PartialEq, Eq)]
+#[derive(Copy, Drop)]
 pub enum Answer<B> {
     /// There was none: the call begins.
     Start,
@@ -96,8 +129,18 @@ pub enum Answer<B> {
     Done,
 }
 
+impl<B: Copy> Clone for Answer<B> {
+    ghost is_clone = { λ x y. y ≡ x };
+
+    ghost is_infallible = { λ _. ⊤ };
+
+    fn clone(&self) -> Result<Answer<B>, AllocError> {
+        Ok(*self)
+    }
+}
+
 /// A call that looks at the queue and changes nothing.
-#[derive(Clone, Copy, Debug, PartialEq, Eq)]
+#[derive(Clone, Copy)]
 pub enum Look {
     IsClosed,
     IsEmpty,
@@ -106,7 +149,7 @@ pub enum Look {
 }
 
 /// Where a call stands: what it asked last, and what it has to remember.
-#[derive(Clone, Copy, Debug, Drop, PartialEq, Eq)]
+#[derive(Copy, Drop)]
 pub enum Local<B> {
     /// Before the first step.
     Begin(CallKind),
@@ -118,11 +161,31 @@ pub enum Local<B> {
     Unbounded(UnboundedLocal<B>),
 }
 
+impl<B: Copy> Clone for Local<B> {
+    ghost is_clone = { λ x y. y ≡ x };
+
+    ghost is_infallible = { λ _. ⊤ };
+
+    fn clone(&self) -> Result<Local<B>, AllocError> {
+        Ok(*self)
+    }
+}
+
 /// The next step, or the reply with the block that the call gives up.
-#[derive(Clone, Copy, Debug, Drop, PartialEq, Eq)]
+#[derive(Copy, Drop)]
 pub enum Next<B> {
     /// The touch and then the operation; the call then stands at the local state.
     Step(Local<B>, Touch, Op<B>),
     /// The call ends.
     Reply(ReplyKind, Option<B>),
+}
+
+impl<B: Copy> Clone for Next<B> {
+    ghost is_clone = { λ x y. y ≡ x };
+
+    ghost is_infallible = { λ _. ⊤ };
+
+    fn clone(&self) -> Result<Next<B>, AllocError> {
+        Ok(*self)
+    }
 }

@@ -1,16 +1,17 @@
 //! The steps of a chain of blocks. `Tail` is twice the position of the next item to come, and one more once the queue is closed; `Head` is twice the position
 //! of the front, and one more if its block is known not to be the last. Position `p` is in block `p / BLOCK_POSITIONS` at offset `p % BLOCK_POSITIONS`; the last
 //! offset of a block has no slot, and a tail or a head stands there only while a call moves it to the next block.
-ghost use Rattle.std.specs.Prelude.{◌≡◌, ◌+◌, ◌%◌, ◌<◌, None, IsSome};
+ghost use Rattle.std.specs.Prelude.{◌≡◌, ◌+◌, ◌%◌, ◌<◌, ⊤, Some, None, IsSome};
 ghost use Rattle.queue_steps.specs.Words.{IsWord};
 ghost use Rattle.queue_steps.specs.ChainWords.{offset_of, items_before, settled};
-ghost use Rattle.queue_steps.specs.UnboundedNext.{loads, unbounded_begin, unbounded_next, chain_tail_found, tail_block_found, granted, claims, claimed, chain_head_found, head_block_found, chain_pop_tail_found, takes, taken, awaits, written_found, follows, followed, installed, walks, walks_on, writes, FitsChain, gives_up};
+ghost use Rattle.queue_steps.specs.UnboundedNext.{at, asks, lays, loads, unbounded_begin, unbounded_next, chain_tail_found, tail_block_found, granted, claims, claimed, chain_head_found, head_block_found, chain_pop_tail_found, takes, awaits, written_found, follows, followed, installed, walks, walks_on, writes, FitsChain, gives_up};
 
 use crate::errors::{ForcePushError, PopError, PushError};
 use crate::model::{Call, CallKind, Reply, ReplyKind};
 use crate::sizes::{BLOCK_POSITIONS, BLOCK_SLOTS, LIMIT};
 use crate::steps::bounded::{MARK, PushKind, TAIL_STEP, closed, pushed};
 use crate::steps::{Answer, Link, Local, Next, Op, Touch, Word};
+use std::alloc::AllocError;
 
 /// The slot's item is written.
 pub const WRITE: u64 = 1;
@@ -22,7 +23,7 @@ pub const READ: u64 = 2;
 pub const DESTROY: u64 = 4;
 
 /// Where a call on a chain stands, with the words and blocks that it remembers. A push holds at most one spare block.
-#[derive(Clone, Copy, Debug, Drop, PartialEq, Eq)]
+#[derive(Copy, Drop)]
 pub enum UnboundedLocal<B> {
     /// U1: the read of the tail, with the spare.
     PushTail(PushKind, Option<B>),
@@ -86,6 +87,16 @@ pub enum UnboundedLocal<B> {
     ClosedTail,
 }
 
+impl<B: Copy> Clone for UnboundedLocal<B> {
+    ghost is_clone = { λ x y. y ≡ x };
+
+    ghost is_infallible = { λ _. ⊤ };
+
+    fn clone(&self) -> Result<UnboundedLocal<B>, AllocError> {
+        Ok(*self)
+    }
+}
+
 /// The offset of a word's position in its block.
 #[inline(always)]
 fn offset(word: u64) -> u64
@@ -116,12 +127,20 @@ fn settle(position: u64) -> u64
     }
 }
 
+/// A step, after which the call waits there.
+#[inline(always)]
+fn step<B: Copy>(local: UnboundedLocal<B>, touch: Touch, op: Op<B>) -> Next<B>
+    ensures { result ≡ at local touch op }
+{
+    Next::Step(Local::Unbounded(local), touch, op)
+}
+
 /// A step that only loads a word.
 #[inline(always)]
 fn load<B: Copy>(local: UnboundedLocal<B>, word: Word<B>) -> Next<B>
     ensures { result ≡ loads local word }
 {
-    Next::Step(Local::Unbounded(local), Touch::Nothing, Op::Load(word))
+    step(local, Touch::Nothing, Op::Load(word))
 }
 
 /// The first step of a call.
@@ -133,8 +152,8 @@ pub(super) fn begin<B: Copy>(call: CallKind) -> Next<B>
         Call::Push(()) => load(UnboundedLocal::PushTail(PushKind::Push, None), Word::Tail),
         Call::ForcePush(()) => load(UnboundedLocal::PushTail(PushKind::Force, None), Word::Tail),
         Call::Pop => load(UnboundedLocal::PopHead, Word::Head),
-        Call::Close => Next::Step(
-            Local::Unbounded(UnboundedLocal::Closing),
+        Call::Close => step(
+            UnboundedLocal::Closing,
             Touch::Nothing,
             Op::Or(Word::Tail, MARK),
         ),
@@ -166,20 +185,32 @@ fn after_tail<B: Copy>(push: PushKind, tail: u64, spare: Option<B>) -> Next<B>
     if tail % 2 == 1 {
         Next::Reply(closed(push), spare)
     } else if items(tail / 2) == LIMIT {
-        Next::Step(
-            Local::Unbounded(UnboundedLocal::Spending(push, spare)),
+        step(
+            UnboundedLocal::Spending(push, spare),
             Touch::Nothing,
             Op::Or(Word::Tail, MARK),
         )
     } else if offset(tail) == BLOCK_SLOTS {
         load(UnboundedLocal::PushTail(push, spare), Word::Tail)
     } else {
-        Next::Step(
-            Local::Unbounded(UnboundedLocal::PushBlock(push, tail, spare)),
+        step(
+            UnboundedLocal::PushBlock(push, tail, spare),
             Touch::Nothing,
             Op::LoadLink(Link::TailBlock),
         )
     }
+}
+
+/// U3.
+#[inline(always)]
+fn ask<B: Copy>(push: PushKind, tail: u64, block: Option<B>) -> Next<B>
+    ensures { result ≡ asks push tail block }
+{
+    step(
+        UnboundedLocal::Asking(push, tail, block),
+        Touch::Nothing,
+        Op::Ask,
+    )
 }
 
 /// U5.
@@ -188,8 +219,8 @@ fn claim<B: Copy>(push: PushKind, tail: u64, block: B, spare: Option<B>) -> Next
     requires { IsWord tail }
     ensures { result ≡ claims push tail block spare }
 {
-    Next::Step(
-        Local::Unbounded(UnboundedLocal::Claiming(push, tail, block, spare)),
+    step(
+        UnboundedLocal::Claiming(push, tail, block, spare),
         Touch::Nothing,
         Op::Exchange(Word::Tail, tail, tail + TAIL_STEP),
     )
@@ -211,20 +242,12 @@ fn after_tail_block<B: Copy>(
         (Some(block), Some(spare)) => claim(push, tail, block, Some(spare)),
         (Some(block), None) => {
             if offset(tail) + 1 == BLOCK_SLOTS {
-                Next::Step(
-                    Local::Unbounded(UnboundedLocal::Asking(push, tail, Some(block))),
-                    Touch::Nothing,
-                    Op::Ask,
-                )
+                ask(push, tail, Some(block))
             } else {
                 claim(push, tail, block, None)
             }
         }
-        (None, None) => Next::Step(
-            Local::Unbounded(UnboundedLocal::Asking(push, tail, None)),
-            Touch::Nothing,
-            Op::Ask,
-        ),
+        (None, None) => ask(push, tail, None),
         (None, Some(_)) => unreachable!(),
     }
 }
@@ -236,8 +259,8 @@ fn after_grant<B: Copy>(push: PushKind, tail: u64, block: Option<B>, fresh: B) -
     ensures { result ≡ granted push tail block fresh }
 {
     match block {
-        None => Next::Step(
-            Local::Unbounded(UnboundedLocal::Installing(push, tail, fresh)),
+        None => step(
+            UnboundedLocal::Installing(push, tail, fresh),
             Touch::Nothing,
             Op::Install(fresh),
         ),
@@ -251,13 +274,25 @@ fn after_install<B: Copy>(push: PushKind, tail: u64, fresh: B, before: Option<B>
     ensures { result ≡ installed push tail fresh before }
 {
     match before {
-        None => Next::Step(
-            Local::Unbounded(UnboundedLocal::Showing(push, tail, fresh)),
+        None => step(
+            UnboundedLocal::Showing(push, tail, fresh),
             Touch::Nothing,
             Op::StoreLink(Link::HeadBlock, fresh),
         ),
         Some(_) => load(UnboundedLocal::PushTail(push, Some(fresh)), Word::Tail),
     }
+}
+
+/// U6.
+#[inline(always)]
+fn lay<B: Copy>(push: PushKind, tail: u64, block: B, fresh: B) -> Next<B>
+    ensures { result ≡ lays push tail block (Some fresh) }
+{
+    step(
+        UnboundedLocal::Laying(push, tail, block, fresh),
+        Touch::Nothing,
+        Op::StoreLink(Link::TailBlock, fresh),
+    )
 }
 
 /// U9.
@@ -266,8 +301,8 @@ fn write<B: Copy>(push: PushKind, tail: u64, block: B, spare: Option<B>) -> Next
     ensures { result ≡ writes push tail block spare }
 {
     let slot = offset(tail) as usize;
-    Next::Step(
-        Local::Unbounded(UnboundedLocal::Writing(push, spare)),
+    step(
+        UnboundedLocal::Writing(push, spare),
         Touch::Put(slot),
         Op::Or(Word::State(block, slot), WRITE),
     )
@@ -279,18 +314,11 @@ fn after_claim<B: Copy>(push: PushKind, tail: u64, block: B, spare: Option<B>) -
     requires { offset_of tail + 1 ≡ BLOCK_SLOTS → IsSome spare }
     ensures { result ≡ claimed push tail block spare }
 {
-    if offset(tail) + 1 == BLOCK_SLOTS {
-        match spare {
-            Some(fresh) => Next::Step(
-                Local::Unbounded(UnboundedLocal::Laying(push, tail, block, fresh)),
-                Touch::Nothing,
-                Op::StoreLink(Link::TailBlock, fresh),
-            ),
-            None => unreachable!(),
-        }
-    } else {
-        write(push, tail, block, spare)
+    if offset(tail) + 1 != BLOCK_SLOTS {
+        return write(push, tail, block, spare);
     }
+    let Some(fresh) = spare else { unreachable!() };
+    lay(push, tail, block, fresh)
 }
 
 /// What follows a head that a pop found.
@@ -301,8 +329,8 @@ fn after_head<B: Copy>(head: u64) -> Next<B>
     if offset(head) == BLOCK_SLOTS {
         load(UnboundedLocal::PopHead, Word::Head)
     } else {
-        Next::Step(
-            Local::Unbounded(UnboundedLocal::PopBlock(head)),
+        step(
+            UnboundedLocal::PopBlock(head),
             Touch::Nothing,
             Op::LoadLink(Link::HeadBlock),
         )
@@ -314,8 +342,8 @@ fn after_head<B: Copy>(head: u64) -> Next<B>
 fn take<B: Copy>(head: u64, block: B, new: u64) -> Next<B>
     ensures { result ≡ takes head block new }
 {
-    Next::Step(
-        Local::Unbounded(UnboundedLocal::Taking(head, block)),
+    step(
+        UnboundedLocal::Taking(head, block),
         Touch::Nothing,
         Op::Exchange(Word::Head, head, new),
     )
@@ -380,8 +408,8 @@ fn await_item<B: Copy>(head: u64, block: B) -> Next<B>
 fn follow<B: Copy>(head: u64, block: B) -> Next<B>
     ensures { result ≡ follows head block }
 {
-    Next::Step(
-        Local::Unbounded(UnboundedLocal::Following(head, block)),
+    step(
+        UnboundedLocal::Following(head, block),
         Touch::Nothing,
         Op::LoadLink(Link::Next(block)),
     )
@@ -394,20 +422,22 @@ fn after_following<B: Copy>(head: u64, block: B, after: Option<B>) -> Next<B>
 {
     match after {
         None => follow(head, block),
-        Some(after) => Next::Step(
-            Local::Unbounded(UnboundedLocal::Peeking(head, block, after)),
+        Some(after) => step(
+            UnboundedLocal::Peeking(head, block, after),
             Touch::Nothing,
             Op::LoadLink(Link::Next(after)),
         ),
     }
 }
 
-/// What follows a head that was claimed: after the last slot of a block the poppers pass to the next one.
+/// What follows the exchange of a head: after the last slot of a block the poppers pass to the next one.
 #[inline(always)]
-fn after_take<B: Copy>(head: u64, block: B) -> Next<B>
-    ensures { result ≡ taken head block }
+fn after_take<B: Copy>(head: u64, block: B, found: u64) -> Next<B>
+    ensures { result ≡ unbounded_next (UnboundedLocal.Taking head block) (Answer.Found found) }
 {
-    if offset(head) + 1 == BLOCK_SLOTS {
+    if found != head {
+        after_head(found)
+    } else if offset(head) + 1 == BLOCK_SLOTS {
         follow(head, block)
     } else {
         await_item(head, block)
@@ -419,8 +449,8 @@ fn after_take<B: Copy>(head: u64, block: B) -> Next<B>
 fn walk<B: Copy>(block: B, slot: u64, touch: Touch) -> Next<B>
     ensures { result ≡ walks block slot touch }
 {
-    Next::Step(
-        Local::Unbounded(UnboundedLocal::Walking(block, slot)),
+    step(
+        UnboundedLocal::Walking(block, slot),
         touch,
         Op::Load(Word::State(block, slot as usize)),
     )
@@ -450,8 +480,8 @@ fn after_state<B: Copy>(head: u64, block: B, state: u64) -> Next<B>
     } else if slot + 1 == BLOCK_SLOTS {
         walk(block, 0, Touch::Take(slot as usize))
     } else {
-        Next::Step(
-            Local::Unbounded(UnboundedLocal::Reading(block, slot)),
+        step(
+            UnboundedLocal::Reading(block, slot),
             Touch::Take(slot as usize),
             Op::Or(Word::State(block, slot as usize), READ),
         )
@@ -488,13 +518,13 @@ pub(super) fn next<B: Copy>(local: UnboundedLocal<B>, answer: Answer<B>) -> Next
                 after_tail(push, found, spare)
             }
         }
-        (UnboundedLocal::Laying(push, tail, block, fresh), Answer::Done) => Next::Step(
-            Local::Unbounded(UnboundedLocal::Opening(push, tail, block, fresh)),
+        (UnboundedLocal::Laying(push, tail, block, fresh), Answer::Done) => step(
+            UnboundedLocal::Opening(push, tail, block, fresh),
             Touch::Nothing,
             Op::Add(Word::Tail, TAIL_STEP),
         ),
-        (UnboundedLocal::Opening(push, tail, block, fresh), Answer::Found(_)) => Next::Step(
-            Local::Unbounded(UnboundedLocal::Chaining(push, tail, block, fresh)),
+        (UnboundedLocal::Opening(push, tail, block, fresh), Answer::Found(_)) => step(
+            UnboundedLocal::Chaining(push, tail, block, fresh),
             Touch::Nothing,
             Op::StoreLink(Link::Next(block), fresh),
         ),
@@ -514,23 +544,19 @@ pub(super) fn next<B: Copy>(local: UnboundedLocal<B>, answer: Answer<B>) -> Next
         (UnboundedLocal::PopTail(head, block), Answer::Found(tail)) => after_pop_tail(
             head, block, tail,
         ),
-        (UnboundedLocal::Taking(head, block), Answer::Found(found)) => {
-            if found == head {
-                after_take(head, block)
-            } else {
-                after_head(found)
-            }
-        }
+        (UnboundedLocal::Taking(head, block), Answer::Found(found)) => after_take(
+            head, block, found,
+        ),
         (UnboundedLocal::Following(head, block), Answer::Linked(after)) => after_following(
             head, block, after,
         ),
-        (UnboundedLocal::Peeking(head, block, after), Answer::Linked(further)) => Next::Step(
-            Local::Unbounded(UnboundedLocal::Passing(head, block, further.is_some())),
+        (UnboundedLocal::Peeking(head, block, after), Answer::Linked(further)) => step(
+            UnboundedLocal::Passing(head, block, further.is_some()),
             Touch::Nothing,
             Op::StoreLink(Link::HeadBlock, after),
         ),
-        (UnboundedLocal::Passing(head, block, more), Answer::Done) => Next::Step(
-            Local::Unbounded(UnboundedLocal::Entering(head, block)),
+        (UnboundedLocal::Passing(head, block, more), Answer::Done) => step(
+            UnboundedLocal::Entering(head, block),
             Touch::Nothing,
             Op::Store(Word::Head, (head / 2 + 2) * 2 + if more { 1 } else { 0 }),
         ),
@@ -549,8 +575,8 @@ pub(super) fn next<B: Copy>(local: UnboundedLocal<B>, answer: Answer<B>) -> Next
             if state & READ != 0 {
                 walk_on(block, slot)
             } else {
-                Next::Step(
-                    Local::Unbounded(UnboundedLocal::Destroying(block, slot)),
+                step(
+                    UnboundedLocal::Destroying(block, slot),
                     Touch::Nothing,
                     Op::Or(Word::State(block, slot as usize), DESTROY),
                 )

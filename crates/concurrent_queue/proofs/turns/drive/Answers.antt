@@ -1,4 +1,5 @@
-use Rattle.std.proofs.Common.{◌≡◌, refl}
+use Rattle.std.proofs.Common.{◌≡◌, refl, ap, sym, subst}
+use Rattle.queue_steps.specs.Kinds.{call_kind}
 use Rattle.concurrent_queue.proofs.Leading.{begins-first, leads-step, leads-reply}
 use Rattle.concurrent_queue.proofs.turns.drive.Goals as goal
 
@@ -11,13 +12,17 @@ loop-init g c =
 pub turn-found-requires : goal.turn-found-requires
 turn-found-requires g c =
     let m = g.M.Turns in
+    let kind : call_kind c.args.call ≡ c.split-call.result.0 = sym (ap (λ z. z.0) c.split-call.ensures) in
+    subst (λ k. m.can c.args.queue.now c.loop.seat k c.in-Step.after c.in-Step.touch c.in-Step.op c.loop.carried) kind
     (leads-step m.can m.does m.stands m.ended c.kind-kind.result c.args.queue.now c.args.seat.now c.args.call c.loop.local c.loop.answer c.in-Step.after c.in-Step.touch c.in-Step.op c.loop.seat c.loop.carried c.next-todo.ensures c.in-Step.is c.loop.invariant.1).0
 
 pub loop-preserved : goal.loop-preserved
 loop-preserved g c =
     let m = g.M.Turns in
     let h = leads-step m.can m.does m.stands m.ended c.kind-kind.result c.args.queue.now c.args.seat.now c.args.call c.loop.local c.loop.answer c.in-Step.after c.in-Step.touch c.in-Step.op c.loop.seat c.loop.carried c.next-todo.ensures c.in-Step.is c.loop.invariant.1 in
-    let at = h.1 c.turn-found.result.0 c.turn-found.new.seat c.turn-found.result.1 c.turn-found.ensures in
+    let kind : call_kind c.args.call ≡ c.split-call.result.0 = sym (ap (λ z. z.0) c.split-call.ensures) in
+    let did = subst (λ k. m.does c.args.queue.now c.loop.seat k c.in-Step.after c.in-Step.touch c.in-Step.op c.loop.carried c.turn-found.result.0 c.turn-found.new.seat c.turn-found.result.1) (sym kind) c.turn-found.ensures in
+    let at = h.1 c.turn-found.result.0 c.turn-found.new.seat c.turn-found.result.1 did in
     rw c.kind-kind.ensures (g.met.M.Turns.goes_on c.args.queue.now c.args.seat.now c.args.call c.in-Step.after c.turn-found.result.0 c.turn-found.new.seat c.turn-found.result.1 at)
 
 pub fill-requires : goal.fill-requires

@@ -1,6 +1,7 @@
-use Rattle.concurrent_queue.specs.Shared.{IsPartyOf}
+use Rattle.std.proofs.Common.{[]}
+use Rattle.queue_command.specs.Doings.{Acts}
 use Rattle.queue_command.proofs.crew.pop_one.Given as goal
 
--- the party is still one of the queue's
+-- the party is still the queue's, and has done nothing
 abbrev pub invariant-loop : goal.invariant-loop
-invariant-loop g l = IsPartyOf l.party l.fn.queue
+invariant-loop g l = Acts l.fn.party l.party []

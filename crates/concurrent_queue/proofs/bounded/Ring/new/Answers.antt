@@ -1,4 +1,4 @@
-use Rattle.std.proofs.Common.{◌≡◌, ◌*◌, arith}
+use Rattle.std.proofs.Common.{rules, ◌≡◌, ◌*◌, arith}
 use Rattle.queue_steps.specs.Words.{position_of}
 use Rattle.concurrent_queue.proofs.Openings.{Opened-more, Opened-holds}
 use Rattle.concurrent_queue.proofs.bounded.Ring.new.Goals as goal
@@ -23,3 +23,9 @@ returns-clause-idle g c =
       below = omega arith;
       holds = rw half (Opened-holds c.args.accepted c.args.capacity c.loop-slot.slots.items (omega arith) (rw whole at i.opened));
     }
+
+pub returns-clause-limited : goal.returns-clause-limited
+returns-clause-limited g c = search rules
+
+pub first_position-requires-clause-capacity : goal.first_position-requires-clause-capacity
+first_position-requires-clause-capacity g c = search rules

@@ -36,3 +36,6 @@ unreachable-requires g c =
       | in_default-via-in-Closing+in_default w ↦ search rules
       | in_default-via-in-ClosedTail+in_default w ↦ search rules
     ]
+
+pub returns-in-EmptyTail-Found : goal.returns-in-EmptyTail-Found
+returns-in-EmptyTail-Found g c = search rules

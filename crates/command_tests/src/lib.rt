@@ -1,0 +1,15 @@
+//! Tests of the program: what it is given, how it ends, and what it writes.
+#![tactic(auto)]
+
+#[cfg(test)]
+mod crew;
+#[cfg(test)]
+mod replays;
+#[cfg(test)]
+mod rows;
+#[cfg(test)]
+mod scripts;
+#[cfg(test)]
+mod threads;
+#[cfg(test)]
+mod unbounded;

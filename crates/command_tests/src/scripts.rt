@@ -1,0 +1,344 @@
+//! Rows of scripts, run through `command`.
+use crate::rows::{End, Outcome, USAGE, ends, run, run_over};
+use std::alloc::{AllocError, Global};
+use std::io;
+use std::io::{ErrorKind, Read, Write};
+use std::sync::Wait;
+use std::test::Fail;
+use std::thread::Threads;
+
+static WRONG: [&str; 22] = [
+    "",
+    "script",
+    "script double",
+    "script Single",
+    "script bounded",
+    "script bounded:",
+    "script bounded:0",
+    "script bounded:01",
+    "script bounded:18446744073709551616",
+    "script single single",
+    "scripts single",
+    "replay",
+    "replay single",
+    "replay single 0",
+    "replay single 65",
+    "replay single 01",
+    "replay single two",
+    "replay single 18446744073709551617",
+    "replay bounded:0 1",
+    "replay single 1 1",
+    "script single 1",
+    "handshakes",
+];
+
+#[test]
+fn wrong_arguments_give_the_usage_text(rt: HostRuntime) -> Result<(), Fail> {
+    for line in WRONG.iter() {
+        ends(&rt, rt.alloc(), line, b"pop\n", End::fault(2, USAGE))?;
+    }
+    Ok(())
+}
+
+static UNREADABLE: [(&[u8], &str); 20] = [
+    (b"push 07", "line 1: unreadable\n"),
+    (b"push 18446744073709551616\n", "line 1: unreadable\n"),
+    (b"push  1\n", "line 1: unreadable\n"),
+    (b" push 1\n", "line 1: unreadable\n"),
+    (b"pop\r\n", "line 1: unreadable\n"),
+    (b"force", "line 1: unreadable\n"),
+    (b"force ", "line 1: unreadable\n"),
+    (b"len ", "line 1: unreadable\n"),
+    (b"push +1\n", "line 1: unreadable\n"),
+    (b"push -1\n", "line 1: unreadable\n"),
+    (b"push 00\n", "line 1: unreadable\n"),
+    (b"push 1 \n", "line 1: unreadable\n"),
+    (b"Pop\n", "line 1: unreadable\n"),
+    (b"pop 1\n", "line 1: unreadable\n"),
+    (b"\n", "line 1: unreadable\n"),
+    (b"pop\n\n", "line 2: unreadable\n"),
+    (b"pop\n\npop\n", "line 2: unreadable\n"),
+    (b"pop\nlen\n\xff\n", "line 3: unreadable\n"),
+    (b"push 1\npush \xd9\xa1\nforce\n", "line 2: unreadable\n"),
+    (b"pop\0\n", "line 1: unreadable\n"),
+];
+
+#[test]
+fn the_first_unreadable_line_is_told(rt: HostRuntime) -> Result<(), Fail> {
+    for (input, fault) in UNREADABLE.iter() {
+        ends(
+            &rt,
+            rt.alloc(),
+            "script single",
+            input,
+            End::fault(2, fault),
+        )?;
+    }
+    Ok(())
+}
+
+static SCRIPTS: [(&str, &str); 8] = [
+    ("", "left\n"),
+    (
+        "push 18446744073709551615",
+        "ok\nleft 18446744073709551615\n",
+    ),
+    (
+        "push 1\npush 2\npop\nclose\npop\n",
+        "ok\nfull 2\nitem 1\ntrue\nclosed\nleft\n",
+    ),
+    (
+        "push 10\npush 20\nclose\npush 20\npop\npush 20\n",
+        "ok\nfull 20\ntrue\nclosed 20\nitem 10\nclosed 20\nleft\n",
+    ),
+    (
+        "force 10\nforce 20\nforce 30\nclose\nforce 40\npop\npop\n",
+        "ok\ndisplaced 10\ndisplaced 20\ntrue\nclosed 40\nitem 30\nclosed\nleft\n",
+    ),
+    (
+        "is_empty\nis_full\npush 7\nlen\nis_empty\nis_full\npop\nlen\nis_empty\nis_full\n",
+        "true\nfalse\nok\n1\nfalse\ntrue\nitem 7\n0\ntrue\nfalse\nleft\n",
+    ),
+    (
+        "push 8\npop\npop\nis_closed\nclose\nis_closed\nclose\n",
+        "ok\nitem 8\nempty\nfalse\ntrue\ntrue\nfalse\nleft\n",
+    ),
+    ("capacity\npush 0", "1\nok\nleft 0\n"),
+];
+
+#[test]
+fn scripts_print_the_replies_and_what_is_left(rt: HostRuntime) -> Result<(), Fail> {
+    for (input, output) in SCRIPTS.iter() {
+        let input = input.as_bytes();
+        ends(&rt, rt.alloc(), "script single", input, End::right(output))?;
+        ends(
+            &rt,
+            rt.alloc(),
+            "script bounded:1",
+            input,
+            End::right(output),
+        )?;
+    }
+    Ok(())
+}
+
+#[test]
+fn rings_are_run_by_their_capacity(rt: HostRuntime) -> Result<(), Fail> {
+    ends(
+        &rt,
+        rt.alloc(),
+        "script bounded:3",
+        b"force 1\nforce 2\nforce 3\npush 4\nforce 5\nforce 6\nclose\nforce 7\npop\npop\npop\n",
+        End::right(
+            "ok\nok\nok\nfull 4\ndisplaced 1\ndisplaced 2\ntrue\nclosed 7\nitem 3\nitem 5\nitem 6\nleft\n",
+        ),
+    )?;
+    Ok(())
+}
+
+#[test]
+fn a_capacity_past_the_longest_is_want_of_memory(rt: HostRuntime) -> Result<(), Fail> {
+    ends(
+        &rt,
+        rt.alloc(),
+        "script bounded:576460752303423489",
+        b"push 1\n",
+        End::fault(3, "no memory\n"),
+    )?;
+    Ok(())
+}
+
+/// Gives a few bytes, and fails so then.
+#[derive(Drop)]
+struct BrokenReader {
+    rest: &'static [u8],
+    kind: ErrorKind,
+}
+
+impl Read for BrokenReader {
+    fn read(&mut self, buf: &mut [u8]) -> io::Result<usize> {
+        if self.rest.is_empty() {
+            return Err(io::Error::from(self.kind));
+        }
+        self.rest.read(buf)
+    }
+}
+
+static STARTS: [&[u8]; 3] = [b"", b"push 1\npop\n", b"unreadable\n"];
+
+/// What is told of a read that fails so.
+static FAILED_READS: [(ErrorKind, &str); 2] = [
+    (ErrorKind::BrokenPipe, "input failed\n"),
+    (ErrorKind::OutOfMemory, "no memory\n"),
+];
+
+#[test]
+fn a_failed_read_prints_nothing(rt: HostRuntime) -> Result<(), Fail> {
+    for (kind, fault) in FAILED_READS.iter() {
+        for start in STARTS.iter() {
+            let mut input = BrokenReader {
+                rest: start,
+                kind: *kind,
+            };
+            let outcome = run(&rt, rt.alloc(), "script single", &mut input)?;
+            outcome.is(&rt, "script single", start, End::fault(3, fault));
+        }
+    }
+    Ok(())
+}
+
+/// Keeps what it takes back until it is flushed.
+#[derive(Drop)]
+struct LateWriter {
+    held: Vec<u8>,
+    taken: Vec<u8>,
+}
+
+impl Write for LateWriter {
+    fn write(&mut self, buf: &[u8]) -> io::Result<usize> {
+        self.held.extend_from_slice(buf)?;
+        Ok(buf.len())
+    }
+
+    fn flush(&mut self) -> io::Result<()> {
+        self.taken.extend_from_slice(self.held.as_slice())?;
+        self.held.clear();
+        Ok(())
+    }
+}
+
+/// A run whose output is held back until it is flushed.
+fn run_held<R: Threads + Wait + Sync>(
+    rt: &R,
+    alloc: Global,
+    line: &str,
+) -> Result<Outcome, AllocError> {
+    let mut input: &[u8] = b"";
+    let mut output = LateWriter {
+        held: Vec::new(alloc),
+        taken: Vec::new(alloc),
+    };
+    let mut faults = Vec::new(alloc);
+    let status = run_over(rt, alloc, line, &mut input, &mut output, &mut faults)?;
+    Ok(Outcome {
+        status,
+        output: output.taken,
+        faults,
+    })
+}
+
+static FLUSHED: [(&str, &str); 4] = [
+    ("script single", "left\n"),
+    ("replay single 1", "left\n"),
+    ("threads single 1 1 2", "2 values, each counted 1 times\n"),
+    ("handshake", "both\n"),
+];
+
+#[test]
+fn all_output_is_flushed(rt: HostRuntime) -> Result<(), Fail> {
+    for (line, output) in FLUSHED.iter() {
+        let outcome = run_held(&rt, rt.alloc(), line)?;
+        outcome.is(&rt, line, b"", End::right(output));
+    }
+    Ok(())
+}
+
+/// Takes so many bytes, a few at a time, and fails then.
+#[derive(Drop)]
+struct ShortWriter {
+    room: usize,
+    taken: Vec<u8>,
+}
+
+impl Write for ShortWriter {
+    fn write(&mut self, buf: &[u8]) -> io::Result<usize> {
+        let count = buf.len().min(self.room).min(3);
+        if count == 0 {
+            return Err(io::Error::from(ErrorKind::StorageFull));
+        }
+        self.taken.extend_from_slice(&buf[..count])?;
+        self.room -= count;
+        Ok(count)
+    }
+
+    fn flush(&mut self) -> io::Result<()> {
+        Ok(())
+    }
+}
+
+/// A script whose output has so much room.
+fn run_in<R: Threads + Wait + Sync>(
+    rt: &R,
+    alloc: Global,
+    mut input: &[u8],
+    room: usize,
+) -> Result<Outcome, AllocError> {
+    let mut output = ShortWriter {
+        room,
+        taken: Vec::new(alloc),
+    };
+    let mut faults = Vec::new(alloc);
+    let status = run_over(
+        rt,
+        alloc,
+        "script single",
+        &mut input,
+        &mut output,
+        &mut faults,
+    )?;
+    Ok(Outcome {
+        status,
+        output: output.taken,
+        faults,
+    })
+}
+
+#[test]
+fn a_failed_write_leaves_a_beginning(rt: HostRuntime) -> Result<(), Fail> {
+    let input = b"push 1\npush 2\npop\n";
+    let wanted = b"ok\nfull 2\nitem 1\nleft\n";
+    for room in 0..wanted.len() {
+        let end = End {
+            status: 3,
+            output: &wanted[..room],
+            faults: b"output failed\n",
+        };
+        run_in(&rt, rt.alloc(), input, room)?.is(&rt, "script single", input, end);
+    }
+    Ok(())
+}
+
+/// A script whose faults have so much room.
+fn run_telling_in<R: Threads + Wait + Sync>(
+    rt: &R,
+    alloc: Global,
+    mut input: &[u8],
+    room: usize,
+) -> Result<Outcome, AllocError> {
+    let mut output = Vec::new(alloc);
+    let mut faults = ShortWriter {
+        room,
+        taken: Vec::new(alloc),
+    };
+    let status = run_over(
+        rt,
+        alloc,
+        "script single",
+        &mut input,
+        &mut output,
+        &mut faults,
+    )?;
+    Ok(Outcome {
+        status,
+        output,
+        faults: faults.taken,
+    })
+}
+
+#[test]
+fn a_fault_that_cannot_be_told_keeps_its_status(rt: HostRuntime) -> Result<(), Fail> {
+    let input = b"pop \n";
+    let outcome = run_telling_in(&rt, rt.alloc(), input, 4)?;
+    outcome.is(&rt, "script single", input, End::fault(2, "line"));
+    Ok(())
+}

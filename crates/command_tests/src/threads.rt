@@ -1,0 +1,133 @@
+//! Rows of the forms that start threads, run through `command`.
+use crate::rows::{End, Outcome, USAGE, ends, run_over};
+use std::alloc::{AllocError, Global};
+use std::io;
+use std::io::Write;
+use std::process::Abort;
+use std::sync::Wait;
+use std::test::Fail;
+use std::thread::Threads;
+
+/// Asserts that the program ends so on a line of arguments, with an input that it is not to read.
+fn ends_unread<R: Abort + Threads + Wait + Sync>(
+    rt: &R,
+    alloc: Global,
+    line: &str,
+    end: End<'_>,
+) -> Result<(), AllocError> {
+    ends(rt, alloc, line, b"not read\n", end)
+}
+
+/// A program that runs the two sides one after the other, on one thread, prints `alone`: the first waits for an item that the second is yet to send.
+#[test]
+fn both_threads_of_a_handshake_get_an_item(rt: HostRuntime) -> Result<(), Fail> {
+    ends_unread(&rt, rt.alloc(), "handshake", End::right("both\n"))?;
+    Ok(())
+}
+
+/// On one thread the second push would wait for a pop that is yet to come, and the test would not end.
+#[test]
+fn one_thread_a_side(rt: HostRuntime) -> Result<(), Fail> {
+    let end = End::right("1000 values, each counted 1 times\n");
+    ends_unread(&rt, rt.alloc(), "threads single 1 1 1000", end)?;
+    Ok(())
+}
+
+#[test]
+fn four_threads_a_side(rt: HostRuntime) -> Result<(), Fail> {
+    let end = End::right("1000 values, each counted 4 times\n");
+    ends_unread(&rt, rt.alloc(), "threads single 4 4 1000", end)?;
+    Ok(())
+}
+
+/// More poppers, more pushers, and no items.
+static UNEQUAL: [(&str, &str); 3] = [
+    (
+        "threads bounded:1 3 6 100",
+        "100 values, each counted 3 times\n",
+    ),
+    (
+        "threads single 64 1 10",
+        "10 values, each counted 64 times\n",
+    ),
+    ("threads single 5 3 0", "0 values, each counted 5 times\n"),
+];
+
+#[test]
+fn unequal_sides(rt: HostRuntime) -> Result<(), Fail> {
+    for (line, output) in UNEQUAL.iter() {
+        ends_unread(&rt, rt.alloc(), line, End::right(output))?;
+    }
+    Ok(())
+}
+
+static WRONG: [&str; 21] = [
+    "threads",
+    "threads single",
+    "threads single 1 1",
+    "threads single 1 1 1 1",
+    "thread single 1 1 1",
+    "threads double 1 1 1",
+    "threads single 1 3 2",
+    "threads single 0 1 1",
+    "threads single 1 0 1",
+    "threads single 65 1 1",
+    "threads single 1 65 65",
+    "threads single 1 1 1000001",
+    "threads single 1 1 -1",
+    "threads single 01 1 1",
+    "threads single 1 1 18446744073709551616",
+    "threads unbounded 1 1 1",
+    "threads bounded:2 1 1 1",
+    "threads bounded:0 1 1 1",
+    "handshake single",
+    "handshakes",
+    "script",
+];
+
+#[test]
+fn wrong_loads_give_the_usage_text(rt: HostRuntime) -> Result<(), Fail> {
+    for line in WRONG.iter() {
+        ends_unread(&rt, rt.alloc(), line, End::fault(2, USAGE))?;
+    }
+    Ok(())
+}
+
+/// A writer that takes nothing.
+#[derive(Drop)]
+struct Broken;
+
+impl Write for Broken {
+    fn write(&mut self, _bytes: &[u8]) -> io::Result<usize> {
+        Err(io::Error::from(io::ErrorKind::BrokenPipe))
+    }
+
+    fn flush(&mut self) -> io::Result<()> {
+        Ok(())
+    }
+}
+
+/// A run without an input, whose output takes nothing.
+fn run_broken<R: Threads + Wait + Sync>(
+    rt: &R,
+    alloc: Global,
+    line: &str,
+) -> Result<Outcome, AllocError> {
+    let mut input: &[u8] = b"";
+    let mut faults = Vec::new(alloc);
+    let status = run_over(rt, alloc, line, &mut input, &mut Broken, &mut faults)?;
+    Ok(Outcome {
+        status,
+        output: Vec::new(alloc),
+        faults,
+    })
+}
+
+#[test]
+fn a_failed_write_is_told(rt: HostRuntime) -> Result<(), Fail> {
+    for line in ["handshake", "threads single 1 1 1"] {
+        let outcome = run_broken(&rt, rt.alloc(), line)?;
+        outcome.is(&rt, line, b"", End::fault(3, "output failed\n"));
+    }
+    Ok(())
+}

@@ -1,0 +1,131 @@
+-- What is left of a shared ring that its only party ended is a ring with one owner, in the state after the history.
+use Rattle.std.proofs.Common.{◌≡◌, ℕ, zero, suc, ◌+◌, ◌-◌, ◌%◌, ◌<◌, ◌≤◌, List, [], ◌∷◌, length, get_or, Option, Some, None, inr, refl, ap, sym, ◌∙◌, subst, arith, slice_get}
+use mathlib.Core.Option.{some, some-injective, some-ne-none}
+use lib.ListN.{get_elem?}
+use Rattle.atomic_table.specs.Table.{Final, Seen}
+use Rattle.queue_steps.specs.State.{State}
+use Rattle.queue_steps.specs.Effect.{after}
+use Rattle.queue_steps.specs.Legal.{IsShown}
+use Rattle.queue_steps.specs.Words.{position_of, is_shut, stamp_free, stamp_filled}
+use Rattle.queue_steps.specs.Parties.{IsWhole}
+use Rattle.queue_laws.proofs.Tails.{position_tail, shut_tail}
+use Rattle.ring_laws.proofs.RingCells.{Ring, queue_of, RingOk}
+use Rattle.ring_laws.proofs.RingShared.{Shared}
+use Rattle.ring_laws.proofs.RingTransitions.{in_ring}
+use Rattle.ring_laws.proofs.RingWords.{Codes}
+use Rattle.ring_laws.proofs.RingIdle.{AtRest}
+use Rattle.concurrent_queue.specs.declared.known.Doing.{Doing}
+use Rattle.concurrent_queue.specs.Known.{view_of}
+use Rattle.concurrent_queue.specs.Seats.{count_of, IsAlone}
+use Rattle.concurrent_queue.specs.RingRule.{words_of, OneRing}
+use Rattle.concurrent_queue.specs.declared.bounded.RingSlot.{RingSlot}
+use Rattle.concurrent_queue.specs.RingCells.{slot_in}
+use Rattle.concurrent_queue.specs.RingKeeps.{at_position, Holds, put_in, items_of}
+use Rattle.concurrent_queue.specs.RingOwned.{IsIdle, ring_queue}
+use Rattle.concurrent_queue.specs.KeptRings.{paired, ring_in}
+use Rattle.concurrent_queue.proofs.RingRests.{ring_ends}
+
+module _ {T : Type 0} where
+  pub length_paired : (ss : List ℕ) (xs : List (Option T)) (n : ℕ) → length ss ≡ n → length xs ≡ n → length (paired ss xs) ≡ n
+  length_paired [] [] n is is' = is
+  length_paired [] (x ∷ xs) n is is' = is
+  length_paired (s ∷ ss) [] n is is' = is'
+  length_paired (s ∷ ss) (x ∷ xs) zero is is' = absurd (omega arith)
+  length_paired (s ∷ ss) (x ∷ xs) (suc n) is is' = ap suc (length_paired ss xs n (omega (arith, is)) (omega (arith, is')))
+
+  -- a pair has the stamp and the slot of its number
+  pub pair_at : (ss : List ℕ) (xs : List (Option T)) (i : ℕ) → length ss ≡ length xs → slot_in (paired ss xs) i ≡ record { stamp = get_or ss i 0; item = get_or xs i None }
+  pair_at [] [] i same = refl
+  pair_at [] (x ∷ xs) i same = absurd (omega (arith, same))
+  pair_at (s ∷ ss) [] i same = absurd (omega (arith, same))
+  pair_at (s ∷ ss) (x ∷ xs) zero same = refl
+  pair_at (s ∷ ss) (x ∷ xs) (suc i) same = pair_at ss xs i (omega (arith, same))
+
+  at_or : (xs : List (Option T)) (i : ℕ) (x : Option T) → get_elem? xs i ≡ some x → get_or xs i None ≡ x
+  at_or [] i x is = absurd (some-ne-none x (sym is))
+  at_or (y ∷ xs) zero x is = some-injective y x is
+  at_or (y ∷ xs) (suc i) x is = at_or xs i x is
+
+  -- items that lie one after the other from position p on are the list of those positions
+  items_are : (n k p : ℕ) (slots : List (RingSlot T)) (items : List T) → length items ≡ k → ((i : ℕ) → i < k → (x : T) × ((at_position n slots (p + i)).item ≡ Some x) × (slice_get items i ≡ Some x)) → items_of n slots p k ≡ items
+  items_are n zero p slots [] long at = refl
+  items_are n zero p slots (x ∷ items) long at = absurd (omega (arith, long))
+  items_are n (suc k) p slots [] long at = absurd (omega (arith, long))
+  items_are n (suc k) p slots (x ∷ items) long at =
+      let first = at 0 (omega arith) in
+      let here : p + 0 ≡ p = omega arith in
+      let x_is : Some first.0 ≡ Some x = sym first.2 in
+      let item : (at_position n slots p).item ≡ Some x = ap (λ q. (at_position n slots q).item) (sym here) ∙ (first.1 ∙ x_is) in
+      let behind : items_of n slots (p + 1) k ≡ items = items_are n k (p + 1) slots items (omega (arith, long)) (λ i lt.
+      let a = at (suc i) (omega arith) in
+      let next : p + 1 + i ≡ p + suc i = omega arith in
+      (a.0, ap (λ q. (at_position n slots q).item) next ∙ a.1, a.2)) in
+      ap (λ o. put_in o (items_of n slots (p + 1) k)) item ∙ ap (λ l. x ∷ l) behind
+
+  -- a ring at rest, in these words and slots, is one with one owner, in the same state
+  module _ (cap : ℕ) (r : Ring T) (s : Shared T) (n : ℕ) (xs : List (Option T)) (ok : RingOk cap r) (codes : Codes cap r s) (rest : AtRest cap r s) (long : length xs ≡ cap)
+      (lies : (i : ℕ) → i < cap → get_or xs i None ≡ get_or s.slots i None) where
+    abbrev slots : List (RingSlot T)
+    slots = paired s.stamps xs
+
+    tail_is : position_of s.tail ≡ r.tail
+    tail_is = ap position_of codes.tail ∙ position_tail r.tail r.closed
+
+    shut_is : is_shut s.tail ≡ r.closed
+    shut_is = ap is_shut codes.tail ∙ shut_tail r.tail r.closed
+
+    at_is : (p : ℕ) → at_position cap slots p ≡ record { stamp = get_or s.stamps (p % cap) 0; item = get_or s.slots (p % cap) None }
+    at_is p = pair_at s.stamps xs (p % cap) (codes.stamped ∙ sym long) ∙ ap (λ (x : Option T). record { stamp = get_or s.stamps (p % cap) 0; item = x }) (lies (p % cap) (in_ring cap p ok.ring))
+
+    filled_at : (p : ℕ) → r.head ≤ p → p < r.tail → (x : T) × (at_position cap slots p ≡ record { stamp = stamp_filled p; item = Some x }) × (slice_get r.items (p - r.head) ≡ Some x)
+    filled_at p low high = let f = rest.filled p low high in (f.0, at_is p ∙ (λ i. record { stamp = f.1 i; item = f.2 i }), f.3)
+
+    free_at : (p : ℕ) → r.tail ≤ p → p < r.head + cap → at_position cap slots p ≡ record { stamp = stamp_free p; item = None }
+    free_at p low high = let f = rest.free p low high in at_is p ∙ (λ i. record { stamp = f.0 i; item = f.1 i })
+
+    holds : Holds cap r.head r.tail slots
+    holds = record {
+      some = let wide : 1 < cap = ok.ring.0 in omega arith;
+      slotted = length_paired s.stamps xs cap codes.stamped long;
+      order = let c = ok.count in omega arith;
+      within = ok.room;
+      filled = λ p low high. let f = filled_at p low high in (f.0, f.1);
+      free = free_at;
+    }
+
+    items : items_of cap slots r.head (r.tail - r.head) ≡ r.items
+    items = items_are cap (r.tail - r.head) r.head slots r.items (let c = ok.count in omega arith) (λ i lt.
+        let f = filled_at (r.head + i) (omega arith) (omega arith) in
+        let back : r.head + i - r.head ≡ i = omega arith in
+        (f.0, ap (λ (z : RingSlot T). z.item) f.1, ap (slice_get r.items) (sym back) ∙ f.2))
+
+    pub owned_idle : IsIdle (ring_in cap (words_of n s) xs)
+    owned_idle = record {
+      ring = ok.ring;
+      below = let m = ok.most in omega (arith, tail_is, m);
+      holds = subst (λ (z : ℕ × ℕ). Holds cap z.0 z.1 slots) (λ i. (sym codes.head i, sym tail_is i)) holds;
+    }
+
+    pub owned_shown : IsShown (ring_queue (ring_in cap (words_of n s) xs)) (queue_of cap r)
+    owned_shown = record {
+      items = (λ i. items_of cap slots (codes.head i) (tail_is i - codes.head i)) ∙ items;
+      cap = refl;
+      closed = shut_is;
+      coming = sym rest.none_coming;
+      accepted = inr tail_is;
+    }
+
+  -- the end: the only party has every place, no call is on its way, and the words and slots are those of a ring with one owner after what the party has seen
+  pub ring_finishes : (cap id : ℕ) (d : Doing T) (ws : List ℕ) (xs : List (Option T)) → IsAlone d → Final (Seen (OneRing cap) id d) ws xs
+      → IsIdle (ring_in cap ws xs) × IsShown (ring_queue (ring_in cap ws xs)) (after (Some cap) d.known.seen) × IsWhole (view_of d.known)
+  ring_finishes cap id d ws xs is end =
+      let s = end.0 in let rule : OneRing cap s = end.1.0 in
+      let e = ring_ends cap s id d rule end.1.1 is in
+      let long : length xs ≡ cap = sym end.3 ∙ rule.homes.0 in
+      let lies : (i : ℕ) → i < cap → get_or xs i None ≡ get_or rule.shared.slots i None = λ i lt. at_or xs i (get_or rule.shared.slots i None) (end.4 i (get_or rule.shared.slots i None) (e.homes i lt)) in
+      let words : words_of (count_of s) rule.shared ≡ ws = sym rule.words ∙ end.2 in
+      let state : queue_of cap rule.ring ≡ after (Some cap) d.known.seen = rule.state ∙ ap (after (Some cap)) (sym e.seen) in (
+        subst (λ (z : List ℕ). IsIdle (ring_in cap z xs)) words (owned_idle cap rule.ring rule.shared (count_of s) xs rule.ok rule.codes e.rest long lies),
+        subst (λ (z : List ℕ × State T). IsShown (ring_queue (ring_in cap z.0 xs)) z.1) (λ i. (words i, state i)) (owned_shown cap rule.ring rule.shared (count_of s) xs rule.ok rule.codes e.rest long lies),
+        e.whole,
+      )

@@ -1,0 +1,259 @@
+//! The blocks of runs on a chain, by an allocator that tells them from lists by their layout.
+use crate::refusals::run;
+use crate::script::{Line, Script};
+use queue_machine::blocks::Place;
+use queue_machine::types::Peak;
+use queue_machine::words::machine_after;
+use queue_steps::model::Call;
+use queue_steps::sizes::BLOCK_SLOTS;
+use queue_steps::steps::Kind;
+use std::alloc::{Global, Layout, LayoutError};
+use std::process::Abort;
+use std::test::Fail;
+use test_allocators::{Refusal, Refusing};
+
+/// The lists of a machine: its calls and its blocks.
+const MACHINE_LISTS: u64 = 2;
+
+/// The lists of a run: those of its machine, the events, and what is told.
+const RUN_LISTS: u64 = MACHINE_LISTS + 5;
+
+/// Counts the places of a block apart, which are its one allocation.
+fn counting(alloc: Global) -> Result<Refusing<Global>, LayoutError> {
+    let places = Layout::array::<Place<u64>>(BLOCK_SLOTS as usize)?;
+    Ok(Refusing::watching(alloc, Refusal::Never, places))
+}
+
+/// A run of up to three parties, and the blocks that it takes.
+#[derive(Clone, Copy)]
+struct Row<'a> {
+    lines: &'a [Line],
+    /// How many blocks are granted.
+    granted: u64,
+    /// How many blocks there are at most at one time, and the bound on them at the first moment that has so many.
+    blocks: u64,
+    bound: usize,
+}
+
+/// What is counted of a run.
+#[derive(Debug, Drop, PartialEq)]
+struct Memory {
+    /// What the run tells of its blocks.
+    peak: Peak,
+    /// How many blocks there were at most at one time, how many allocations, and how many requests.
+    most_blocks: u64,
+    most: u64,
+    requests: u64,
+    /// How many allocations stay once the run is dropped.
+    live: u64,
+}
+
+impl Row<'_> {
+    /// What is to be counted: nothing but the lists and the blocks is asked for.
+    fn expected(&self) -> Memory {
+        Memory {
+            peak: Peak {
+                blocks: self.blocks as usize,
+                bound: self.bound,
+            },
+            most_blocks: self.blocks,
+            most: self.blocks.wrapping_add(RUN_LISTS),
+            requests: self.granted.wrapping_add(RUN_LISTS),
+            live: 0,
+        }
+    }
+
+    /// What is counted.
+    fn counted(&self, alloc: Global) -> Result<Memory, Fail> {
+        let Script { events } = Script::of(alloc, self.lines)?;
+        let heap = counting(alloc)?;
+        let told = run(&heap, Kind::Unbounded, 3, events.as_slice())?;
+        let peak = told.peak;
+        drop(told);
+        Ok(Memory {
+            peak,
+            most_blocks: heap.most_watched(),
+            most: heap.most(),
+            requests: heap.requests(),
+            live: heap.live(),
+        })
+    }
+}
+
+/// Asserts what is counted of each run.
+fn are_counted(rt: &impl Abort, alloc: Global, rows: &[Row]) -> Result<(), Fail> {
+    for row in rows {
+        assert_eq!(rt; row.counted(alloc)?, row.expected());
+    }
+    Ok(())
+}
+
+/// A pop of the first of 31 items that stops once it has claimed it, while another party takes all others; and then the pop goes on.
+const READING: [Line; 5] = [
+    Line::Pushes(0, 31),
+    Line::Begins(0, Call::Pop),
+    Line::Steps(0, 4),
+    Line::Pops(1, 30),
+    Line::Runs(0),
+];
+
+/// The peak is the greatest number of blocks that the allocator counts, each granted request asks the allocator once, and no list has the layout of a block.
+#[test]
+fn peak_is_what_is_allocated(rt: HostRuntime) -> Result<(), Fail> {
+    let rows = [
+        Row {
+            lines: &[Line::Pushes(0, 1)],
+            granted: 1,
+            blocks: 1,
+            bound: 3,
+        },
+        Row {
+            lines: &[Line::Pushes(0, 30)],
+            granted: 1,
+            blocks: 1,
+            bound: 3,
+        },
+        Row {
+            lines: &[Line::Pushes(0, 31)],
+            granted: 2,
+            blocks: 2,
+            bound: 3,
+        },
+        Row {
+            lines: &[Line::Pushes(0, 61)],
+            granted: 2,
+            blocks: 2,
+            bound: 3,
+        },
+        Row {
+            lines: &[Line::Pushes(0, 62)],
+            granted: 3,
+            blocks: 3,
+            bound: 4,
+        },
+    ];
+    are_counted(&rt, rt.alloc(), &rows)
+}
+
+/// A request that is granted is never called refused, however many were granted before: with all blocks kept, and with each given up on the way.
+#[test]
+fn many_blocks(rt: HostRuntime) -> Result<(), Fail> {
+    let rows = [
+        Row {
+            lines: &[Line::Pushes(0, 1400)],
+            granted: 46,
+            blocks: 46,
+            bound: 47,
+        },
+        Row {
+            lines: &[Line::Turns(0, 1400)],
+            granted: 46,
+            blocks: 2,
+            bound: 3,
+        },
+    ];
+    are_counted(&rt, rt.alloc(), &rows)
+}
+
+/// Two parties ask for the first block, and the one that does not install its own gives it up; a push is stopped while it moves the tail over a block's end; whoever
+/// reads the last slot of a block leaves it to a pop that has not yet read the first.
+#[test]
+fn blocks_of_calls_within_each_other(rt: HostRuntime) -> Result<(), Fail> {
+    let installers = [
+        Line::Begins(0, Call::Push(1)),
+        Line::Steps(0, 3),
+        Line::Begins(1, Call::Push(2)),
+        Line::Steps(1, 3),
+        Line::Runs(0),
+        Line::Runs(1),
+    ];
+    let stopped = [
+        Line::Pushes(0, 30),
+        Line::Begins(0, Call::Push(31)),
+        Line::Steps(0, 4),
+        Line::Calls(1, Call::Push(99)),
+        Line::Calls(2, Call::Close),
+        Line::Runs(1),
+        Line::Runs(0),
+    ];
+    let rows = [
+        Row {
+            lines: &installers,
+            granted: 2,
+            blocks: 2,
+            bound: 4,
+        },
+        Row {
+            lines: &stopped,
+            granted: 2,
+            blocks: 2,
+            bound: 3,
+        },
+        Row {
+            lines: &READING,
+            granted: 2,
+            blocks: 2,
+            bound: 3,
+        },
+    ];
+    are_counted(&rt, rt.alloc(), &rows)
+}
+
+/// A step at which no block is granted asks the allocator for none: of the first block, and of the one behind it.
+#[test]
+fn refused_steps_ask_for_nothing(rt: HostRuntime) -> Result<(), Fail> {
+    let first = [
+        Line::Begins(0, Call::Push(1)),
+        Line::Steps(0, 2),
+        Line::IsRefused(0),
+        Line::Begins(0, Call::ForcePush(2)),
+        Line::Steps(0, 2),
+        Line::IsRefused(0),
+    ];
+    let second = [
+        Line::Pushes(0, 30),
+        Line::Begins(0, Call::Push(31)),
+        Line::Steps(0, 2),
+        Line::IsRefused(0),
+    ];
+    let rows = [
+        Row {
+            lines: &first,
+            granted: 0,
+            blocks: 0,
+            bound: 2,
+        },
+        Row {
+            lines: &second,
+            granted: 1,
+            blocks: 1,
+            bound: 3,
+        },
+    ];
+    are_counted(&rt, rt.alloc(), &rows)
+}
+
+/// How many blocks live in the machine after these lines, and how many allocations in all; and how many once it is dropped.
+fn lives_after(alloc: Global, lines: &[Line]) -> Result<(u64, u64, u64), Fail> {
+    let Script { events } = Script::of(alloc, lines)?;
+    let heap = counting(alloc)?;
+    let machine = machine_after(&heap, Kind::Unbounded, 2, events.to_vec(&heap)?)?;
+    let blocks = heap.live_watched();
+    let all = heap.live();
+    drop(machine);
+    Ok((blocks, all, heap.live()))
+}
+
+/// A block that all others have passed stays while its last reader has not read, and this reader gives it up: one block is left then.
+#[test]
+fn one_block_is_left(rt: HostRuntime) -> Result<(), Fail> {
+    let idle = [Line::Steps(0, 3)];
+    let rows: [(&[Line], u64); 3] = [(&idle, 0), (&READING[..4], 2), (&READING, 1)];
+    for (lines, blocks) in rows {
+        assert_eq!(rt;
+            lives_after(rt.alloc(), lines)?,
+            (blocks, blocks.wrapping_add(MACHINE_LISTS), 0)
+        );
+    }
+    Ok(())
+}

@@ -1,0 +1,20 @@
+-- What a step does to the queue.
+use Rattle.std.proofs.Common.{◌≡◌, Bool, true, false, Option, Some, None, List, [], ◌∷◌, ◌++◌}
+use Rattle.queue_steps.specs.State.{State}
+use Rattle.queue_steps.specs.Effect.{Fits, made}
+use Rattle.queue_steps.specs.declared.model.Effect.{Effect}
+
+-- the step has no effect and leaves the queue, or has this effect, which fits there
+abbrev pub Leads : {A : Type 0} → State A → Option (Effect A) → State A → Type 0
+Leads Q None R = R ≡ Q
+Leads Q (Some e) R = Fits e Q × (R ≡ made e Q)
+
+-- the call's effects then
+abbrev pub with_effect : {A : Type 0} → List (Effect A) → Option (Effect A) → List (Effect A)
+with_effect es None = es
+with_effect es (Some e) = es ++ e ∷ []
+
+-- one of two facts, by a test
+abbrev pub Whether : Bool → Type 0 → Type 0 → Type 0
+Whether true P Q = P
+Whether false P Q = Q

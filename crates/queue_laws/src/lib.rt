@@ -1,0 +1,2 @@
+//! What the laws of rings and of chains share. It stands in `proofs/`.
+#![tactic(auto)]

@@ -1,0 +1,161 @@
+//! Rings that parties share: short stories with known replies, and threads with a party each.
+use crate::rows::{Line, Queue, Row, one_party, two_parties};
+use crate::threads::{Role, works};
+use concurrent_queue::{ForcePushError, PopError, PushError};
+use queue_steps::model::{Call, Reply};
+use std::alloc::AllocError;
+
+#[test]
+fn stories_of_one_party(rt: HostRuntime) -> Result<(), AllocError> {
+    let stories: [(&[Row], &[u64], bool); 3] = [
+        (
+            &[
+                (Call::Push(1), Reply::Push(Ok(()))),
+                (Call::Push(2), Reply::Push(Ok(()))),
+                (Call::IsFull, Reply::IsFull(false)),
+                (Call::Push(3), Reply::Push(Ok(()))),
+                (Call::IsFull, Reply::IsFull(true)),
+                (Call::Push(4), Reply::Push(Err(PushError::Full(4)))),
+                (Call::Len, Reply::Len(3)),
+                (Call::Pop, Reply::Pop(Ok(1))),
+                (Call::Push(4), Reply::Push(Ok(()))),
+            ],
+            &[2, 3, 4],
+            false,
+        ),
+        (
+            &[
+                (Call::ForcePush(1), Reply::ForcePush(Ok(None))),
+                (Call::ForcePush(2), Reply::ForcePush(Ok(None))),
+                (Call::ForcePush(3), Reply::ForcePush(Ok(None))),
+                (Call::Push(4), Reply::Push(Err(PushError::Full(4)))),
+                (Call::ForcePush(5), Reply::ForcePush(Ok(Some(1)))),
+                (Call::ForcePush(6), Reply::ForcePush(Ok(Some(2)))),
+                (Call::Close, Reply::Close(true)),
+                (
+                    Call::ForcePush(7),
+                    Reply::ForcePush(Err(ForcePushError::Closed(7))),
+                ),
+                (Call::Pop, Reply::Pop(Ok(3))),
+            ],
+            &[5, 6],
+            true,
+        ),
+        (
+            &[
+                (Call::Capacity, Reply::Capacity(Some(3))),
+                (Call::IsEmpty, Reply::IsEmpty(true)),
+                (Call::Push(7), Reply::Push(Ok(()))),
+                (Call::Len, Reply::Len(1)),
+                (Call::IsEmpty, Reply::IsEmpty(false)),
+                (Call::Pop, Reply::Pop(Ok(7))),
+                (Call::Len, Reply::Len(0)),
+                (Call::IsEmpty, Reply::IsEmpty(true)),
+                (Call::Pop, Reply::Pop(Err(PopError::Empty))),
+                (Call::IsClosed, Reply::IsClosed(false)),
+                (Call::Close, Reply::Close(true)),
+                (Call::IsClosed, Reply::IsClosed(true)),
+                (Call::Close, Reply::Close(false)),
+                (Call::Pop, Reply::Pop(Err(PopError::Closed))),
+            ],
+            &[],
+            true,
+        ),
+    ];
+    for (rows, left, closed) in stories {
+        let (queue, party) = Queue::bounded(rt.alloc(), 3)?;
+        one_party(&rt, queue, party, rows, left, closed);
+    }
+    Ok(())
+}
+
+#[test]
+fn stories_of_two_parties(rt: HostRuntime) -> Result<(), AllocError> {
+    let stories: [(&[Line], &[u64], bool); 3] = [
+        (
+            &[
+                Line::First(Call::Push(5), Reply::Push(Ok(()))),
+                Line::Meet,
+                Line::Second(Call::IsEmpty, Reply::IsEmpty(false)),
+                Line::Second(Call::Pop, Reply::Pop(Ok(5))),
+                Line::Second(Call::IsEmpty, Reply::IsEmpty(true)),
+                Line::First(Call::Push(6), Reply::Push(Ok(()))),
+                Line::First(Call::Close, Reply::Close(true)),
+                Line::Second(Call::Len, Reply::Len(1)),
+                Line::Second(Call::IsEmpty, Reply::IsEmpty(false)),
+                Line::Second(Call::IsClosed, Reply::IsClosed(true)),
+                Line::Second(Call::Pop, Reply::Pop(Ok(6))),
+                Line::Second(Call::Pop, Reply::Pop(Err(PopError::Closed))),
+            ],
+            &[],
+            true,
+        ),
+        (
+            &[
+                Line::Second(Call::IsEmpty, Reply::IsEmpty(true)),
+                Line::First(Call::Push(1), Reply::Push(Ok(()))),
+                Line::Second(Call::IsEmpty, Reply::IsEmpty(false)),
+                Line::Second(Call::IsFull, Reply::IsFull(false)),
+                Line::First(Call::Push(2), Reply::Push(Ok(()))),
+                Line::Second(Call::IsFull, Reply::IsFull(true)),
+                Line::Second(Call::Len, Reply::Len(2)),
+                Line::Second(Call::Push(3), Reply::Push(Err(PushError::Full(3)))),
+                Line::Second(Call::IsClosed, Reply::IsClosed(false)),
+                Line::First(Call::Close, Reply::Close(true)),
+                Line::Second(Call::IsClosed, Reply::IsClosed(true)),
+                Line::Second(Call::Close, Reply::Close(false)),
+            ],
+            &[1, 2],
+            true,
+        ),
+        (
+            &[
+                Line::First(Call::ForcePush(1), Reply::ForcePush(Ok(None))),
+                Line::Second(Call::ForcePush(2), Reply::ForcePush(Ok(None))),
+                Line::First(Call::ForcePush(3), Reply::ForcePush(Ok(Some(1)))),
+                Line::Second(Call::ForcePush(4), Reply::ForcePush(Ok(Some(2)))),
+                Line::First(Call::Pop, Reply::Pop(Ok(3))),
+            ],
+            &[4],
+            false,
+        ),
+    ];
+    for (lines, left, closed) in stories {
+        let (queue, party) = Queue::bounded(rt.alloc(), 2)?;
+        two_parties(&rt, queue, party, lines, left, closed);
+    }
+    Ok(())
+}
+
+#[test]
+fn in_order_from_one_thread_to_another(rt: HostRuntime) {
+    works(&rt, rt.alloc(), 3, 2, 1, (Role::Push, Role::PopInOrder), 0);
+}
+
+#[test]
+fn four_pushers_and_four_poppers(rt: HostRuntime) {
+    works(&rt, rt.alloc(), 3, 8, 3, (Role::Push, Role::Pop), 4);
+}
+
+#[test]
+fn linearizable(rt: HostRuntime) {
+    works(
+        &rt,
+        rt.alloc(),
+        4,
+        4,
+        2,
+        (Role::PushAndPop, Role::ForceAndPop),
+        0,
+    );
+}
+
+#[test]
+fn ring_buffer_of_one_thread(rt: HostRuntime) {
+    works(&rt, rt.alloc(), 3, 2, 1, (Role::Force, Role::Drain), 1);
+}
+
+#[test]
+fn ring_buffer_of_four_threads(rt: HostRuntime) {
+    works(&rt, rt.alloc(), 3, 8, 3, (Role::Force, Role::Drain), 4);
+}

@@ -1,0 +1,5 @@
+pub mod SlotShared
+pub mod SlotRows
+pub mod SlotSteps
+pub mod SlotRanks
+pub mod SlotHolder

@@ -1,0 +1,85 @@
+//! Webs that two threads share, a seat each.
+ghost use Rattle.std.specs.Prelude.{◌≡◌};
+ghost use denote.RawPtr.{InBlock};
+ghost use Rattle.block_web.specs.Seats.{Sits, Same};
+ghost use Rattle.block_web.specs.Line.{Keeps};
+
+use block_web::block::Link;
+use block_web::closing;
+use block_web::line::{Line, Place, View};
+use block_web::web::{Seat, Web};
+use std::alloc::Global;
+use std::sync::atomic::{AtomicBool, Ordering};
+use std::test::*;
+use std::thread::{join_mut, yield_now};
+
+/// How often a thread looks, at most, for what the other is to do.
+const LOOKS: u64 = 10_000_000;
+
+/// A queue that can be closed.
+type Queue = Web<u8, View, Place<u8>, Line, Global>;
+
+/// A party of it.
+type Party = Seat<u8, View, Global>;
+
+/// Looks until the queue is closed, and tells whether it came to see that.
+fn sees_it_closed(queue: &Queue, party: &mut Party, tail: Link<u8>) -> bool
+    requires { Sits party.old queue.now × InBlock tail.ptr × (tail.ptr ≡ queue.now.key.tail.ptr) }
+    ensures seat { Same party.new party.old }
+    ensures kept { Keeps party.old.sitter party.new.sitter }
+{
+    for _ in 0..LOOKS {
+        if closing::is_closed(queue, party, tail) {
+            return true;
+        }
+        yield_now();
+    }
+    false
+}
+
+/// Closes the queue, and tells whether it did and then saw the other thread's answer.
+fn calls(queue: &Queue, party: &mut Party, tail: Link<u8>, answer: &AtomicBool) -> bool
+    requires { Sits party.old queue.now × InBlock tail.ptr × (tail.ptr ≡ queue.now.key.tail.ptr) }
+    ensures seat { Same party.new party.old }
+    ensures kept { Keeps party.old.sitter party.new.sitter }
+{
+    if !closing::close(queue, party, tail) {
+        return false;
+    }
+    for _ in 0..LOOKS {
+        if answer.load(Ordering::SeqCst) {
+            return true;
+        }
+        yield_now();
+    }
+    false
+}
+
+/// Waits until the other thread has closed the queue, which it cannot do again, and answers.
+fn answers(queue: &Queue, party: &mut Party, tail: Link<u8>, answer: &AtomicBool) -> bool
+    requires { Sits party.old queue.now × InBlock tail.ptr × (tail.ptr ≡ queue.now.key.tail.ptr) }
+    ensures seat { Same party.new party.old }
+    ensures kept { Keeps party.old.sitter party.new.sitter }
+{
+    let right = sees_it_closed(queue, party, tail) && !closing::close(queue, party, tail);
+    answer.store(right, Ordering::SeqCst);
+    right
+}
+
+/// Each thread waits for what the other one does, so neither of them alone comes to a good end.
+#[test]
+fn two_threads_see_each_other(rt: HostRuntime) -> Result<(), Fail> {
+    let alloc: Global = rt.alloc();
+    let answer = AtomicBool::new(false);
+    let (queue, mut seat, hub, tail, head) = closing::open::<u8, Global>(&alloc)?;
+    let mut other = closing::part(&queue, &mut seat, tail);
+    let seen = join_mut(
+        &rt,
+        &mut || calls(&queue, &mut seat, tail, &answer),
+        &mut || answers(&queue, &mut other, tail, &answer),
+    );
+    closing::take_back(&queue, &mut seat, other, tail);
+    closing::end(queue, seat, hub, &alloc, tail, head);
+    assert_eq!(rt; seen, (true, true));
+    Ok(())
+}
