@@ -17,6 +17,7 @@ mod Crowds
 mod Meetings
 mod FirstParty
 mod Persons
+pub mod Sent
 mod SlotRule
 mod Views
 mod SlotOperations

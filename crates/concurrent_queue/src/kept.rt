@@ -52,6 +52,10 @@ impl<T: Drop, A: Allocator> Drop for KeptRing<T, A> {
     }
 }
 
+unsafe impl<T: Send, A: Allocator + Send> Send for KeptRing<T, A> {}
+
+unsafe impl<T: Sync, A: Allocator + Send + Sync> Sync for KeptRing<T, A> {}
+
 impl<T, A: Allocator> KeptRing<T, A> {
     ghost use Rattle.std.specs.Prelude.{true};
     ghost use Rattle.queue_steps.specs.declared.steps.types.Answer.TheVariants.{Found};
