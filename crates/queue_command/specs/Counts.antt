@@ -1,9 +1,12 @@
 -- What counts of values show, and what is written of it.
-use Rattle.std.specs.Prelude.{◌≡◌, ℕ, ◌+◌, ◌<◌, ◌^◌, ◌==◌, set, get_or, not, List, [], ◌∷◌, ◌++◌, codes, length, slice_index, position, Option, Some, None}
+use Rattle.std.specs.Prelude.{◌≡◌, ℕ, ◌+◌, ◌<◌, ◌≤◌, ◌^◌, ◌==◌, set, get_or, not, List, [], ◌∷◌, ◌++◌, codes, length, slice_index, position, Option, Some, None}
 use Rattle.std.specs.Fmt.{decimal}
 use Rattle.std.specs.Io.KnownBytes.{Appends}
+use Rattle.std.specs.Option.{IfSome}
 use Rattle.queue_steps.specs.Shares.{IsEntire}
+use Rattle.queue_steps.specs.declared.sizes.TheConstants.{MAX_CAPACITY}
 use Rattle.queue_steps.specs.Parties.{View, IsView}
+use Rattle.queue_text.specs.KindNames.{capacity_of}
 use Rattle.queue_text.specs.declared.load.Load.{Load}
 use Rattle.queue_command.specs.Doings.{takes}
 use Rattle.queue_command.specs.declared.counts.Finding.{Finding}
@@ -42,18 +45,19 @@ abbrev pub finding_verdict : Finding → Verdict
 finding_verdict (finding.Right values times) = verdict.Right
 finding_verdict (finding.Wrong value times) = verdict.Wrong
 
--- There is one party of a queue of one slot, which all parties have become: it has all of the share, so that every place of the whole history is its own.
--- Each value below `items` is counted as often as it was taken
-pub record IsTally (items : ℕ) (counts : List ℕ) : Type 0 where
+-- There is one party of a queue of the load's capacity, which all parties have become: it has all of the share, so that every place of the whole history
+-- is its own. Each value that the load has is counted as often as it was taken
+pub record IsTally (l : Load) (counts : List ℕ) : Type 0 where
+  pub within : IfSome (capacity_of l.kind) (λ size. size ≤ MAX_CAPACITY)
   pub view : View ℕ
-  pub seen : IsView (Some 1) view
+  pub seen : IsView (capacity_of l.kind) view
   pub whole : IsEntire view.share
-  pub complete : length counts ≡ items
-  pub taken : (x : ℕ) → x < items → get_or counts x 0 ≡ takes x view
+  pub complete : length counts ≡ l.items
+  pub taken : (x : ℕ) → x < l.items → get_or counts x 0 ≡ takes x view
 
 -- what came of the load was counted, and what the counts show was written as a line
 pub record IsCounted (l : Load) (old new : Option (List ℕ)) (v : Verdict) : Type 0 where
   pub counts : List ℕ
-  pub tally : IsTally l.items counts
+  pub tally : IsTally l counts
   pub written : Appends old new (finding_text (judged l.pushers counts) ++ 10 ∷ [])
   pub shown : v ≡ finding_verdict (judged l.pushers counts)

@@ -1,6 +1,10 @@
 //! The form `threads`: how often each value came out of a queue that threads share.
-ghost use Rattle.std.specs.Prelude.{◌≡◌, ◌<◌, ◌+◌, ◌*◌, ◌^◌, IfOk, MatchResult};
-ghost use Rattle.queue_text.specs.KindNames.{IsLoad};
+ghost use Rattle.std.specs.Prelude.{◌≡◌, ◌<◌, ◌≤◌, ◌+◌, ◌*◌, ◌^◌, true, [], IfOk, MatchResult};
+ghost use Rattle.std.specs.Option.{IfSome};
+ghost use Rattle.queue_steps.specs.declared.sizes.TheConstants.{MAX_CAPACITY};
+ghost use Rattle.queue_steps.specs.Shares.{entire};
+ghost use Rattle.queue_text.specs.KindNames.{IsKindName, IsLoad, capacity_of, has_capacity};
+ghost use Rattle.concurrent_queue.specs.Shared.{IsPartyOf};
 ghost use Rattle.queue_command.specs.Counts.{IsCounted, IsTally};
 ghost use Rattle.queue_command.specs.Verdicts.{IsOutputFault};
 
@@ -8,6 +12,8 @@ use crate::counts::judge;
 use crate::crew::{Plan, Queue, Work, run_all};
 use crate::streams::write_output;
 use crate::verdict::Verdict;
+use concurrent_queue::Party;
+use queue_text::args::KindName;
 use queue_text::faults::Fault;
 use queue_text::load::Load;
 use std::alloc::{AllocError, Global};
@@ -15,12 +21,12 @@ use std::io::Write;
 use std::sync::Wait;
 use std::thread::Threads;
 
-/// Lets threads push and pop as the load says, on a queue of one slot, and writes whether each value came as often as
+/// Lets threads push and pop as the load says, on a queue of its kind, and writes whether each value came as often as
 /// it was pushed.
 ///
 /// # Errors
 ///
-/// `NoMemory`, also where a thread cannot be started, and `OutputFailed`, where a beginning of the output may be
+/// `NoMemory`, also where a thread cannot be started or no queue may have the capacity, and `OutputFailed`, where a beginning of the output may be
 /// written.
 pub fn threads<R: Threads + Wait + Sync, O: Write>(
     rt: &R,
@@ -28,7 +34,8 @@ pub fn threads<R: Threads + Wait + Sync, O: Write>(
     load: Load,
     output: &mut O,
 ) -> Result<Verdict, Fault>
-    requires { IsLoad load }
+    requires load { IsLoad load }
+    requires built { has_capacity load.kind ≡ true }
     ensures { MatchResult result
         (IsCounted load (O.contents output.old) (O.contents output.new))
         (IsOutputFault (O.contents output.old) (O.contents output.new)) }
@@ -50,10 +57,11 @@ fn count_all<R: Threads + Wait + Sync>(
     alloc: Global,
     load: Load,
 ) -> Result<Vec<u64>, AllocError>
-    requires { IsLoad load }
-    ensures { IfOk result (λ counts. IsTally load.items counts.items) }
+    requires load { IsLoad load }
+    requires built { has_capacity load.kind ≡ true }
+    ensures { IfOk result (λ counts. IsTally load counts.items) }
 {
-    let (queue, party) = Queue::bounded(alloc, 1)?;
+    let (queue, party) = queue_of(alloc, load.kind)?;
     let Work {
         party,
         counts,
@@ -66,6 +74,20 @@ fn count_all<R: Threads + Wait + Sync>(
     match queue.finish(party) {
         Ok(_left) => Ok(counts),
         Err(_) => unreachable!(),
+    }
+}
+
+// An empty open queue of this kind, and its only party.
+fn queue_of(alloc: Global, kind: KindName) -> Result<(Queue, Party<u64>), AllocError>
+    requires named { IsKindName kind }
+    requires built { has_capacity kind ≡ true }
+    ensures first { IfOk result (λ r. IsPartyOf r.1 r.0 × (r.0.cap ≡ capacity_of kind) × (r.1.view ≡ record { seen = []; mine = []; share = entire })) }
+    ensures within { IfOk result (λ _. IfSome (capacity_of kind) (λ size. size ≤ MAX_CAPACITY)) }
+{
+    match kind {
+        KindName::Single => Queue::bounded(alloc, 1),
+        KindName::Bounded(cap) => Queue::bounded(alloc, cap),
+        KindName::Unbounded => unreachable!(),
     }
 }
 
