@@ -102,6 +102,14 @@ pub close_quits : (u v w : Person ℕ) (b : Bool) → IsView v.queue.cap v.view 
 close_quits u v w true is before made = made_closed u v w call.Close (reply.Close true) effect.Close is before made made.1.tells refl (λ x. refl)
 close_quits u v w false is before made = found_closed u v w call.Close (reply.Close false) is before made made.1.tells (λ Q. ⊎_elim (λ closed. closed) (λ lacks. absurd lacks))
 
+-- a party that had done nothing before it quit
+pub then_quits : (u v w : Person ℕ) → Acts u v [] → Quits v w → Quits u w
+then_quits u v w before quits = record {
+  queue = quits.queue ∙ before.queue;
+  taken = λ x. quits.taken x ∙ (before.did (is_take x) ∙ add-zero _);
+  closed = quits.closed;
+}
+
 pub pop_quits : (u v w : Person ℕ) → IsView v.queue.cap v.view → Acts u v [] → Calls v call.Pop (reply.Pop (Err pop.Closed)) w → Quits u w
 pop_quits u v w is before made = found_closed u v w call.Pop (reply.Pop (Err pop.Closed)) is before made made.1.tells (λ Q. ⊎_elim (λ right. right.2) (λ lacks. absurd lacks))
 

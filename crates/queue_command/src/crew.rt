@@ -136,14 +136,22 @@ fn start_from<'s, E, R: Threads + Wait + Sync>(
     }
 }
 
+/// Closes the queue, so that whoever works on it ends.
+fn shut(queue: &Queue, party: &mut Party<u64>)
+    requires { IsPartyOf party.old queue.now }
+    ensures { Quits party.old party.new }
+{
+    party.show_view();
+    queue.close(party);
+}
+
 /// Closes the queue, so that the threads that were started end.
 fn give_up(queue: &Queue, mut party: Party<u64>, counts: Vec<u64>) -> Work
     requires { IsPartyOf party queue.now }
     ensures quits { Quits party result.party }
     ensures same { (result.counts.items ≡ counts.items) × (result.done ≡ false) }
 {
-    party.show_view();
-    queue.close(&mut party);
+    shut(queue, &mut party);
     Work {
         party,
         counts,
@@ -262,8 +270,7 @@ fn push_one<R: Wait>(rt: &R, queue: &Queue, party: &mut Party<u64>, value: u64) 
             Err(PushError::Full(_)) => backoff.snooze(),
             Err(PushError::Closed(_)) => return false,
             Err(PushError::NoMemory(_)) => {
-                party.show_view();
-                queue.close(party);
+                shut(queue, party);
                 return false;
             }
         }

@@ -3,7 +3,7 @@ use Rattle.queue_steps.specs.declared.model.Call.TheVariants as call
 use Rattle.queue_steps.specs.declared.model.Reply.TheVariants as reply
 use Rattle.queue_steps.specs.declared.model.Effect.TheVariants as effect
 use Rattle.queue_steps.specs.declared.errors.PushError.TheVariants as push
-use Rattle.queue_command.proofs.Works.{first_acts, close_quits, push_quits}
+use Rattle.queue_command.proofs.Works.{first_acts, then_quits, push_quits}
 use Rattle.queue_command.proofs.crew.push_one.Goals as goal
 
 pub returns-in-Ok : goal.returns-in-Ok
@@ -25,4 +25,4 @@ pub returns-in-Err-NoMemory : goal.returns-in-Err-NoMemory
 returns-in-Err-NoMemory g c =
     let pushed = rw c.in-Err-NoMemory.field-0-is at c.in-Err-NoMemory.ensures in
     let acts = first_acts c.args.party.now c.loop.party c.push.new.party (call.Push c.args.value) (reply.Push (Err (push.NoMemory c.in-Err-NoMemory.field-0-0))) [] c.show_view.ensures c.loop.invariant pushed pushed.1.tells.1 in
-    close_quits c.args.party.now c.push.new.party c.close.new.party c.close.result c.show_view-in-Err-NoMemory.ensures acts c.close.ensures
+    then_quits c.args.party.now c.push.new.party c.shut.new.party acts c.shut.ensures

@@ -1,5 +1,5 @@
 use Rattle.concurrent_queue.specs.Shared.{IsPartyOf}
-use Rattle.concurrent_queue.proofs.held.call_meanwhile.Given as goal
+use Rattle.concurrent_queue.proofs.held.are_answered.Given as goal
 
 -- the party is still one of the queue's
 abbrev pub invariant-loop-call : goal.invariant-loop-call
