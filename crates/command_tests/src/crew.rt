@@ -3,9 +3,9 @@ ghost use Rattle.std.specs.Prelude.{◌≡◌, ◌<◌, ◌+◌, ◌*◌, ◌^�
 ghost use Rattle.concurrent_queue.specs.Shared.{IsPartyOf};
 
 use concurrent_queue::Party;
-use queue_command::counts::{Finding, count, judge, none_counted};
-use queue_command::crew::{Plan, Queue, Work, run_all};
-use queue_command::verdict::Verdict;
+use queue_threads::counts::{Finding, count, judge, none_counted};
+use queue_threads::crew::{Plan, Queue, Work, run_all};
+use queue_threads::verdict::Verdict;
 use std::alloc::{AllocError, Global};
 use std::sync::Wait;
 use std::test::Fail;

@@ -61,7 +61,39 @@ fn unequal_sides(rt: HostRuntime) -> Result<(), Fail> {
     Ok(())
 }
 
-static WRONG: [&str; 21] = [
+/// Through rings: that of the reference's tests, one for fewer items than it has slots, and one for many more.
+static RINGS: [(&str, &str); 3] = [
+    (
+        "threads bounded:3 4 4 25000",
+        "25000 values, each counted 4 times\n",
+    ),
+    (
+        "threads bounded:1000 3 2 200",
+        "200 values, each counted 3 times\n",
+    ),
+    (
+        "threads bounded:2 1 4 1000",
+        "1000 values, each counted 1 times\n",
+    ),
+];
+
+#[test]
+fn through_rings(rt: HostRuntime) -> Result<(), Fail> {
+    for (line, output) in RINGS.iter() {
+        ends_unread(&rt, rt.alloc(), line, End::right(output))?;
+    }
+    Ok(())
+}
+
+/// No queue has more slots than 2^59.
+#[test]
+fn no_ring_of_too_many_slots(rt: HostRuntime) -> Result<(), Fail> {
+    let line = "threads bounded:576460752303423489 1 1 1";
+    ends_unread(&rt, rt.alloc(), line, End::fault(3, "no memory\n"))?;
+    Ok(())
+}
+
+static WRONG: [&str; 24] = [
     "threads",
     "threads single",
     "threads single 1 1",
@@ -78,8 +110,11 @@ static WRONG: [&str; 21] = [
     "threads single 01 1 1",
     "threads single 1 1 18446744073709551616",
     "threads unbounded 1 1 1",
-    "threads bounded:2 1 1 1",
+    "threads bounded 1 1 1",
+    "threads bounded: 1 1 1",
+    "threads bounded:02 1 1 1",
     "threads bounded:0 1 1 1",
+    "threads bounded:3 2 3 100",
     "handshake single",
     "handshakes",
     "script",

@@ -8,7 +8,7 @@ use Rattle.queue_text.specs.declared.args.Form.{Form}
 use Rattle.queue_text.specs.declared.args.Form.TheVariants as form
 use Rattle.queue_text.proofs.ReadArgs.{both_built}
 use Rattle.queue_command.specs.Ends.{AskFor, AskForRun, Does, Fails, IsDone, IsFaultOf}
-use Rattle.queue_command.specs.declared.verdict.Verdict.{Verdict}
+use Rattle.queue_threads.specs.declared.verdict.Verdict.{Verdict}
 
 -- they name no form
 pub no_form : (words : List (List ℕ)) → ((f : Form) → IsForm f → form_words f ≢ words) → AskForRun words → ⊥

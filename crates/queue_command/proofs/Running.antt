@@ -4,7 +4,8 @@ use Rattle.std.specs.Io.KnownBytes.{Appends}
 use Rattle.queue_text.specs.Lines.{lines_of, AreRead}
 use Rattle.queue_text.specs.declared.faults.Fault.{Fault}
 use Rattle.queue_text.specs.declared.faults.Fault.TheVariants as fault
-use Rattle.queue_command.specs.Runs.{IsInput, IsRun, IsRunFault}
+use Rattle.queue_text.specs.Streams.{IsInput}
+use Rattle.queue_command.specs.Runs.{IsRun, IsRunFault}
 
 pub written : {V : Type 0} (IsValue : V → Type 0) (text_of : V → List ℕ) (IsTold : List V → List ℕ → Type 0) (known old new : Option (List ℕ)) (bytes : List ℕ) (values : List V) (text : List ℕ) (r : Result Unit Fault)
     → IsInput known bytes → AreRead IsValue text_of (lines_of bytes) values → IsTold values text → MatchResult r (λ u. Appends old new text) (λ why. why ≡ fault.OutputFailed)

@@ -9,14 +9,14 @@ use Rattle.queue_text.specs.declared.args.Form.{Form}
 use Rattle.queue_text.specs.declared.args.Form.TheVariants as form
 use Rattle.queue_text.specs.declared.faults.Fault.{Fault}
 use Rattle.queue_text.specs.declared.faults.Fault.TheVariants as fault
-use Rattle.queue_command.specs.Counts.{IsCounted}
-use Rattle.queue_command.specs.Meetings.{Handshake}
+use Rattle.queue_threads.specs.Counts.{IsCounted}
+use Rattle.queue_threads.specs.Meetings.{Handshake}
 use Rattle.queue_command.specs.Reports.{IsReport}
 use Rattle.queue_command.specs.Runs.{IsRun, IsRunFault}
 use Rattle.queue_command.specs.Scripts.{IsTranscript}
-use Rattle.queue_command.specs.Verdicts.{verdict_status, IsOutputFault}
-use Rattle.queue_command.specs.declared.verdict.Verdict.{Verdict}
-use Rattle.queue_command.specs.declared.verdict.Verdict.TheVariants as verdict
+use Rattle.queue_threads.specs.Verdicts.{verdict_status, IsOutputFault}
+use Rattle.queue_threads.specs.declared.verdict.Verdict.{Verdict}
+use Rattle.queue_threads.specs.declared.verdict.Verdict.TheVariants as verdict
 
 -- the arguments ask for this form, which can be run
 abbrev pub AskFor : List (List ℕ) → Form → Type 0

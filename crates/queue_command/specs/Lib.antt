@@ -5,9 +5,4 @@ pub mod Runs
 pub mod Turns
 pub mod Unread
 pub mod Reports
-pub mod Verdicts
-pub mod Doings
-pub mod Works
-pub mod Meetings
-pub mod Counts
 pub mod Ends

@@ -1,14 +1,10 @@
 -- A run of the program whatever the lines of its input say, and how it may end.
-use Rattle.std.specs.Prelude.{◌≡◌, ℕ, List, Option}
-use Rattle.std.specs.Option.{IfSome}
+use Rattle.std.specs.Prelude.{ℕ, List, Option}
 use Rattle.std.specs.Io.KnownBytes.{Appends, Keeps}
 use Rattle.queue_text.specs.Lines.{lines_of, AreRead, IsFirstUnread}
+use Rattle.queue_text.specs.Streams.{IsInput}
 use Rattle.queue_text.specs.declared.faults.Fault.{Fault}
 use Rattle.queue_text.specs.declared.faults.Fault.TheVariants as fault
-
--- these bytes were read: all that the reader had, where that is known
-abbrev pub IsInput : Option (List ℕ) → List ℕ → Type 0
-IsInput known bytes = IfSome known (λ xs. bytes ≡ xs)
 
 -- each line of the input was read as a value, and a text that tells of the values was written
 pub record IsRun {V : Type 0} (IsValue : V → Type 0) (text_of : V → List ℕ) (IsTold : List V → List ℕ → Type 0) (known old new : Option (List ℕ)) : Type 0 where

@@ -2,16 +2,16 @@
 ghost use Rattle.std.specs.Prelude.{◌≡◌, ◌<◌, map, string_bytes, MatchResult};
 ghost use Rattle.queue_text.specs.declared.faults.Fault.TheVariants as fault;
 ghost use Rattle.queue_text.specs.Faults.{fault_status};
-ghost use Rattle.queue_command.specs.declared.verdict.Verdict.TheVariants as verdict;
+ghost use Rattle.queue_threads.specs.declared.verdict.Verdict.TheVariants as verdict;
 ghost use Rattle.queue_command.specs.Ends.{IsEnd, IsDone, IsFaultOf};
 
-use crate::handshake::handshake;
 use crate::replay::replay;
 use crate::script::script;
-use crate::threads::threads;
-use crate::verdict::Verdict;
 use queue_text::args::{Form, parse_form};
 use queue_text::faults::Fault;
+use queue_threads::handshake::handshake;
+use queue_threads::threads::threads;
+use queue_threads::verdict::Verdict;
 use std::alloc::Global;
 use std::io::{Read, Write};
 use std::sync::Wait;

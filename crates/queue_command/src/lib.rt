@@ -2,13 +2,7 @@
 #![tactic(auto)]
 
 pub mod command;
-pub mod counts;
-pub mod crew;
 mod effects;
-mod handshake;
 mod replay;
 mod script;
-mod streams;
-mod threads;
 mod turns;
-pub mod verdict;

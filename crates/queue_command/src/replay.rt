@@ -12,7 +12,6 @@ ghost use Rattle.queue_command.specs.Turns.{turn_text};
 ghost use Rattle.queue_command.specs.Unread.{first_of, behind, number_of, content_at, itself, unread_text};
 
 use crate::effects::ShownEffect;
-use crate::streams::{read_input, write_output};
 use crate::turns::{Turn, events_of, turns_of};
 use queue_machine::types::{EffectKind, Peak, Replay, Told};
 use queue_steps::model::Reply;
@@ -22,6 +21,7 @@ use queue_text::args::KindName;
 use queue_text::faults::Fault;
 use queue_text::lines::read_lines;
 use queue_text::replies::Shown;
+use queue_text::streams::{read_input, write_output};
 use std::alloc::{AllocError, Allocator};
 use std::io::{Read, Write};
 

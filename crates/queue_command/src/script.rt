@@ -7,13 +7,13 @@ ghost use Rattle.queue_command.specs.Left.{left_text};
 ghost use Rattle.queue_command.specs.Runs.{IsRun, IsRunFault};
 ghost use Rattle.queue_command.specs.Scripts.{PlaysAs, IsTranscript, blocks_text};
 
-use crate::streams::{read_input, write_output};
 use concurrent_queue::exclusive::Exclusive;
 use queue_steps::model::{Call, Reply};
 use queue_text::args::KindName;
 use queue_text::faults::Fault;
 use queue_text::lines::read_lines;
 use queue_text::replies::Shown;
+use queue_text::streams::{read_input, write_output};
 use std::alloc::{AllocError, Allocator};
 use std::io::{Read, Write};
 

@@ -8,7 +8,7 @@ use Rattle.queue_text.specs.declared.args.Form.{Form}
 use Rattle.queue_text.specs.declared.args.Form.TheVariants as form
 use Rattle.queue_text.specs.declared.args.TheConstants.{MOST_PARTIES}
 use Rattle.queue_text.specs.Reading.{IsWord}
-use Rattle.queue_text.specs.KindNames.{kind_text, IsKindName, IsPartyCount, is_one_slot, is_built, form_words, IsForm}
+use Rattle.queue_text.specs.KindNames.{kind_text, IsKindName, IsPartyCount, has_capacity, is_built, form_words, IsForm}
 
 -- no kind has the capacity 0
 pub no_capacity : (text digits : List ℕ) → text ≡ codes "bounded:" ++ digits → decimal 0 ≡ digits → (k : KindName) → IsKindName k → kind_text k ≢ text
@@ -68,7 +68,7 @@ both_built (form.Replay k p) (form.Threads m) is js same = let first : ◌≡◌
 both_built (form.Replay k p) form.Handshake is js same = let first : ◌≡◌ {A = ℕ} 114 104 = ap letter same in absurd (omega arith)
 both_built (form.Threads l) (form.Script j) is js same = let first : ◌≡◌ {A = ℕ} 116 115 = ap letter same in absurd (omega arith)
 both_built (form.Threads l) (form.Replay j q) is js same = let first : ◌≡◌ {A = ℕ} 116 114 = ap letter same in absurd (omega arith)
-both_built (form.Threads l) (form.Threads m) is js same = ap is_one_slot (kind_spelled l.kind m.kind is.0 js.0 (ap (λ ws. get_or ws 1 []) same))
+both_built (form.Threads l) (form.Threads m) is js same = ap has_capacity (kind_spelled l.kind m.kind is.0 js.0 (ap (λ ws. get_or ws 1 []) same))
 both_built (form.Threads l) form.Handshake is js same = let first : ◌≡◌ {A = ℕ} 116 104 = ap letter same in absurd (omega arith)
 both_built form.Handshake (form.Script j) is js same = let first : ◌≡◌ {A = ℕ} 104 115 = ap letter same in absurd (omega arith)
 both_built form.Handshake (form.Replay j q) is js same = let first : ◌≡◌ {A = ℕ} 104 114 = ap letter same in absurd (omega arith)

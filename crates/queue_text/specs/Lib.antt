@@ -6,3 +6,4 @@ pub mod KindNames
 pub mod Replies
 pub mod Spaces
 pub mod Actions
+pub mod Streams

@@ -36,15 +36,14 @@ pub enum Form {
 
 impl KindName {
     ghost use Rattle.std.specs.Prelude.{◌≡◌};
-    ghost use Rattle.queue_text.specs.KindNames.{is_one_slot};
+    ghost use Rattle.queue_text.specs.KindNames.{has_capacity};
 
-    /// Whether a queue of this kind has one slot.
-    pub fn is_one_slot(self) -> bool
-        ensures { result ≡ is_one_slot self }
+    /// Whether a queue of this kind has a capacity.
+    pub fn has_capacity(self) -> bool
+        ensures { result ≡ has_capacity self }
     {
         match self {
-            KindName::Single => true,
-            KindName::Bounded(cap) => cap == 1,
+            KindName::Single | KindName::Bounded(_) => true,
             KindName::Unbounded => false,
         }
     }
@@ -54,13 +53,13 @@ impl Form {
     ghost use Rattle.std.specs.Prelude.{◌≡◌};
     ghost use Rattle.queue_text.specs.KindNames.{is_built};
 
-    /// Whether this form can be run. Threads share queues of one slot alone.
+    /// Whether this form can be run. Threads share queues with a capacity alone.
     pub fn is_built(self) -> bool
         ensures { result ≡ is_built self }
     {
         match self {
             Form::Script(_) | Form::Replay(_, _) | Form::Handshake => true,
-            Form::Threads(load) => load.kind.is_one_slot(),
+            Form::Threads(load) => load.kind.has_capacity(),
         }
     }
 }

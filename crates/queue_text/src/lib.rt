@@ -9,3 +9,4 @@ pub mod lines;
 pub mod load;
 mod numbers;
 pub mod replies;
+pub mod streams;

@@ -5,6 +5,10 @@ pub mod callers;
 #[cfg(test)]
 mod drops;
 #[cfg(test)]
+mod left;
+#[cfg(test)]
+mod lengths;
+#[cfg(test)]
 mod refusals;
 #[cfg(test)]
 mod rings;

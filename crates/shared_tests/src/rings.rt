@@ -7,8 +7,22 @@ use std::alloc::AllocError;
 
 #[test]
 fn stories_of_one_party(rt: HostRuntime) -> Result<(), AllocError> {
-    let stories: [(&[Row], &[u64], bool); 3] = [
+    let stories: [(usize, &[Row], &[u64], bool); 6] = [
         (
+            2,
+            &[
+                (Call::Push(1), Reply::Push(Ok(()))),
+                (Call::Push(2), Reply::Push(Ok(()))),
+                (Call::Push(3), Reply::Push(Err(PushError::Full(3)))),
+                (Call::Pop, Reply::Pop(Ok(1))),
+                (Call::Pop, Reply::Pop(Ok(2))),
+                (Call::Pop, Reply::Pop(Err(PopError::Empty))),
+            ],
+            &[],
+            false,
+        ),
+        (
+            3,
             &[
                 (Call::Push(1), Reply::Push(Ok(()))),
                 (Call::Push(2), Reply::Push(Ok(()))),
@@ -24,6 +38,7 @@ fn stories_of_one_party(rt: HostRuntime) -> Result<(), AllocError> {
             false,
         ),
         (
+            3,
             &[
                 (Call::ForcePush(1), Reply::ForcePush(Ok(None))),
                 (Call::ForcePush(2), Reply::ForcePush(Ok(None))),
@@ -42,15 +57,49 @@ fn stories_of_one_party(rt: HostRuntime) -> Result<(), AllocError> {
             true,
         ),
         (
+            5,
             &[
-                (Call::Capacity, Reply::Capacity(Some(3))),
+                (Call::ForcePush(1), Reply::ForcePush(Ok(None))),
+                (Call::ForcePush(2), Reply::ForcePush(Ok(None))),
+                (Call::ForcePush(3), Reply::ForcePush(Ok(None))),
+                (Call::ForcePush(4), Reply::ForcePush(Ok(None))),
+                (Call::ForcePush(5), Reply::ForcePush(Ok(None))),
+                (Call::ForcePush(6), Reply::ForcePush(Ok(Some(1)))),
+                (Call::ForcePush(7), Reply::ForcePush(Ok(Some(2)))),
+                (Call::ForcePush(8), Reply::ForcePush(Ok(Some(3)))),
+                (Call::ForcePush(9), Reply::ForcePush(Ok(Some(4)))),
+                (Call::ForcePush(10), Reply::ForcePush(Ok(Some(5)))),
+                (Call::Pop, Reply::Pop(Ok(6))),
+                (Call::ForcePush(11), Reply::ForcePush(Ok(None))),
+                (Call::ForcePush(12), Reply::ForcePush(Ok(Some(7)))),
+                (Call::ForcePush(13), Reply::ForcePush(Ok(Some(8)))),
+                (Call::ForcePush(14), Reply::ForcePush(Ok(Some(9)))),
+                (Call::ForcePush(15), Reply::ForcePush(Ok(Some(10)))),
+                (Call::Close, Reply::Close(true)),
+                (
+                    Call::ForcePush(40),
+                    Reply::ForcePush(Err(ForcePushError::Closed(40))),
+                ),
+            ],
+            &[11, 12, 13, 14, 15],
+            true,
+        ),
+        (
+            2,
+            &[
+                (Call::Capacity, Reply::Capacity(Some(2))),
                 (Call::IsEmpty, Reply::IsEmpty(true)),
+                (Call::IsFull, Reply::IsFull(false)),
                 (Call::Push(7), Reply::Push(Ok(()))),
                 (Call::Len, Reply::Len(1)),
                 (Call::IsEmpty, Reply::IsEmpty(false)),
+                (Call::IsFull, Reply::IsFull(false)),
                 (Call::Pop, Reply::Pop(Ok(7))),
                 (Call::Len, Reply::Len(0)),
                 (Call::IsEmpty, Reply::IsEmpty(true)),
+                (Call::IsFull, Reply::IsFull(false)),
+                (Call::Push(8), Reply::Push(Ok(()))),
+                (Call::Pop, Reply::Pop(Ok(8))),
                 (Call::Pop, Reply::Pop(Err(PopError::Empty))),
                 (Call::IsClosed, Reply::IsClosed(false)),
                 (Call::Close, Reply::Close(true)),
@@ -61,10 +110,36 @@ fn stories_of_one_party(rt: HostRuntime) -> Result<(), AllocError> {
             &[],
             true,
         ),
+        (
+            2,
+            &[
+                (Call::Push(1), Reply::Push(Ok(()))),
+                (Call::Push(2), Reply::Push(Ok(()))),
+                (Call::Len, Reply::Len(2)),
+                (Call::IsEmpty, Reply::IsEmpty(false)),
+                (Call::IsFull, Reply::IsFull(true)),
+                (Call::Pop, Reply::Pop(Ok(1))),
+                (Call::Len, Reply::Len(1)),
+                (Call::IsEmpty, Reply::IsEmpty(false)),
+                (Call::IsFull, Reply::IsFull(false)),
+            ],
+            &[2],
+            false,
+        ),
     ];
-    for (rows, left, closed) in stories {
-        let (queue, party) = Queue::bounded(rt.alloc(), 3)?;
+    for (cap, rows, left, closed) in stories {
+        let (queue, party) = Queue::bounded(rt.alloc(), cap)?;
         one_party(&rt, queue, party, rows, left, closed);
+    }
+    Ok(())
+}
+
+#[test]
+fn each_capacity_is_told(rt: HostRuntime) -> Result<(), AllocError> {
+    for cap in 1..10usize {
+        let (queue, party) = Queue::bounded(rt.alloc(), cap)?;
+        let rows = [(Call::Capacity, Reply::Capacity(Some(cap)))];
+        one_party(&rt, queue, party, &rows, &[], false);
     }
     Ok(())
 }
@@ -92,8 +167,11 @@ fn stories_of_two_parties(rt: HostRuntime) -> Result<(), AllocError> {
         ),
         (
             &[
+                Line::Second(Call::Capacity, Reply::Capacity(Some(2))),
+                Line::Second(Call::Len, Reply::Len(0)),
                 Line::Second(Call::IsEmpty, Reply::IsEmpty(true)),
                 Line::First(Call::Push(1), Reply::Push(Ok(()))),
+                Line::Second(Call::Len, Reply::Len(1)),
                 Line::Second(Call::IsEmpty, Reply::IsEmpty(false)),
                 Line::Second(Call::IsFull, Reply::IsFull(false)),
                 Line::First(Call::Push(2), Reply::Push(Ok(()))),

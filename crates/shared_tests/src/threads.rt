@@ -80,6 +80,10 @@ pub(crate) enum Role {
     Pop,
     /// Pops the values in their order.
     PopInOrder,
+    /// Pushes each value, and finds no more items in the queue than so many.
+    PushWithin(usize),
+    /// Pops each value in its turn, and finds no more items in the queue than so many.
+    PopInOrderWithin(usize),
     /// Pushes each value by force, and counts what it displaces.
     Force,
     /// Pops until no thread pushes and the queue is empty.
@@ -141,6 +145,14 @@ fn turn<R: Wait>(
             true
         }
         Role::PopInOrder => pop_one(rt, queue, party) == value,
+        Role::PushWithin(most) => {
+            push_one(rt, queue, party, value);
+            queue.len(rt, party) <= most
+        }
+        Role::PopInOrderWithin(most) => {
+            let in_order = pop_one(rt, queue, party) == value;
+            queue.len(rt, party) <= most && in_order
+        }
         Role::Force => {
             if let Ok(Some(old)) = queue.force_push(rt, party, value) {
                 board.count(old);

@@ -1,0 +1,5 @@
+pub mod Verdicts
+pub mod Doings
+pub mod Works
+pub mod Meetings
+pub mod Counts

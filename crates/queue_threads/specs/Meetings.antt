@@ -1,0 +1,59 @@
+-- A handshake: what each of its threads has taken, and what is written of it.
+use Rattle.std.specs.Prelude.{◌≡◌, ℕ, ◌+◌, ◌<◌, true, List, codes, Option, Some}
+use Rattle.std.specs.Io.KnownBytes.{Appends}
+use Rattle.queue_steps.specs.Shares.{entire, half, plus, IsEntire}
+use Rattle.queue_steps.specs.Parties.{View, IsView}
+use Rattle.concurrent_queue.specs.Shared.{QueueId, Person, IsPartyOf}
+use Rattle.queue_threads.specs.Doings.{takes}
+use Rattle.queue_threads.specs.declared.handshake.Hands.{Hands}
+use Rattle.queue_threads.specs.declared.handshake.Shaken.{Shaken}
+use Rattle.queue_threads.specs.declared.verdict.Verdict.{Verdict}
+use Rattle.queue_threads.specs.declared.verdict.Verdict.TheVariants as verdict
+
+abbrev pub AreHandsOf : Hands → QueueId → QueueId → Type 0
+AreHandsOf h out back = IsPartyOf h.sends out × IsPartyOf h.takes back
+
+-- half of the shares of both parties
+abbrev pub AreHalves : Hands → Hands → Type 0
+AreHalves whole part = (part.sends.view.share ≡ half whole.sends.view.share) × (part.takes.view.share ≡ half whole.takes.view.share)
+
+abbrev pub AreQuarter : Hands → Type 0
+AreQuarter h = (h.sends.view.share ≡ half (half entire)) × (h.takes.view.share ≡ half (half entire))
+
+-- a quarter, a half and a quarter of the shares of both queues
+abbrev pub AreThreeParts : Hands → Hands → Hands → Type 0
+AreThreeParts kept first second = AreQuarter kept × ((first.sends.view.share ≡ half entire) × (first.takes.view.share ≡ half entire)) × AreQuarter second
+
+-- the party has the shares of these three, and took what they took
+abbrev pub Unites : Person ℕ → Person ℕ → Person ℕ → Person ℕ → Type 0
+Unites a b c w = (w.view.share ≡ plus (plus a.view.share b.view.share) c.view.share) × ((x : ℕ) → takes x w.view ≡ takes x a.view + takes x b.view + takes x c.view)
+
+-- A thread with the parties v gives them back with their shares. If its item came, a take of it stands at a place of the one that takes
+pub record IsShaken (out back : QueueId) (item : ℕ) (v : Hands) (s : Shaken) : Type 0 where
+  pub hands : AreHandsOf s.hands out back
+  pub share : (s.hands.sends.view.share ≡ v.sends.view.share) × (s.hands.takes.view.share ≡ v.takes.view.share)
+  pub came : s.came ≡ true → 0 < takes item s.hands.takes.view
+
+-- All parties of both queues are joined, with all of the share. If both items came, 1 was taken from the one queue, and 2 from the other
+pub record IsMeeting (there back : QueueId) (s : Shaken) : Type 0 where
+  pub hands : AreHandsOf s.hands there back
+  pub whole : IsEntire s.hands.sends.view.share × IsEntire s.hands.takes.view.share
+  pub came : s.came ≡ true → (0 < takes 1 s.hands.sends.view) × (0 < takes 2 s.hands.takes.view)
+
+-- Two queues of one slot have each a party with all of the share, so that every place of the whole history is its own: 1 was taken from the one, 2 from the other
+pub record HandsMet : Type 0 where
+  pub there : View ℕ
+  pub back : View ℕ
+  pub seen : IsView (Some 1) there × IsView (Some 1) back
+  pub whole : IsEntire there.share × IsEntire back.share
+  pub taken : (0 < takes 1 there) × (0 < takes 2 back)
+
+-- whether both threads of a handshake got the other's item was written
+abbrev pub handshake_text : Verdict → List ℕ
+handshake_text verdict.Right = codes "both\n"
+handshake_text verdict.Wrong = codes "alone\n"
+
+-- what was written; that both met is written only where they did
+pub record Handshake (old new : Option (List ℕ)) (v : Verdict) : Type 0 where
+  pub written : Appends old new (handshake_text v)
+  pub met : v ≡ verdict.Right → HandsMet

@@ -1,0 +1,8 @@
+//! What the program does with threads: counts what they push and pop through a queue, or lets two of them hand an item to each other.
+#![tactic(auto)]
+
+pub mod counts;
+pub mod crew;
+pub mod handshake;
+pub mod threads;
+pub mod verdict;

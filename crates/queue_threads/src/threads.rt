@@ -1,0 +1,107 @@
+//! The form `threads`: how often each value came out of a queue that threads share.
+ghost use Rattle.std.specs.Prelude.{◌≡◌, ◌<◌, ◌≤◌, ◌+◌, ◌*◌, ◌^◌, true, [], IfOk, MatchResult};
+ghost use Rattle.std.specs.Option.{IfSome};
+ghost use Rattle.queue_steps.specs.declared.sizes.TheConstants.{MAX_CAPACITY};
+ghost use Rattle.queue_steps.specs.Shares.{entire};
+ghost use Rattle.queue_text.specs.KindNames.{IsKindName, IsLoad, capacity_of, has_capacity};
+ghost use Rattle.concurrent_queue.specs.Shared.{IsPartyOf};
+ghost use Rattle.queue_threads.specs.Counts.{IsCounted, IsTally};
+ghost use Rattle.queue_threads.specs.Verdicts.{IsOutputFault};
+
+use crate::counts::judge;
+use crate::crew::{Plan, Queue, Work, run_all};
+use crate::verdict::Verdict;
+use concurrent_queue::Party;
+use queue_text::args::KindName;
+use queue_text::faults::Fault;
+use queue_text::load::Load;
+use queue_text::streams::write_output;
+use std::alloc::{AllocError, Global};
+use std::io::Write;
+use std::sync::Wait;
+use std::thread::Threads;
+
+/// Lets threads push and pop as the load says, on a queue of its kind, and writes whether each value came as often as
+/// it was pushed.
+///
+/// # Errors
+///
+/// `NoMemory`, also where a thread cannot be started or no queue may have the capacity, and `OutputFailed`, where a beginning of the output may be
+/// written.
+pub fn threads<R: Threads + Wait + Sync, O: Write>(
+    rt: &R,
+    alloc: Global,
+    load: Load,
+    output: &mut O,
+) -> Result<Verdict, Fault>
+    requires load { IsLoad load }
+    requires built { has_capacity load.kind ≡ true }
+    ensures { MatchResult result
+        (IsCounted load (O.contents output.old) (O.contents output.new))
+        (IsOutputFault (O.contents output.old) (O.contents output.new)) }
+{
+    let Ok(counts) = count_all(rt, alloc, load) else {
+        return Err(Fault::NoMemory);
+    };
+    let finding = judge(load.pushers, &counts);
+    let Ok(text) = format!(in alloc; "{finding}\n") else {
+        return Err(Fault::NoMemory);
+    };
+    write_output(output, text.as_bytes())?;
+    Ok(finding.verdict())
+}
+
+// How often each value came. The sharing is ended, as all threads are joined.
+fn count_all<R: Threads + Wait + Sync>(
+    rt: &R,
+    alloc: Global,
+    load: Load,
+) -> Result<Vec<u64>, AllocError>
+    requires load { IsLoad load }
+    requires built { has_capacity load.kind ≡ true }
+    ensures { IfOk result (λ counts. IsTally load counts.items) }
+{
+    let (queue, party) = queue_of(alloc, load.kind)?;
+    let Work {
+        party,
+        counts,
+        done,
+    } = run_all(rt, alloc, &queue, party, plan_of(load))?;
+    if !done {
+        return Err(AllocError);
+    }
+    party.show_view();
+    match queue.finish(party) {
+        Ok(_left) => Ok(counts),
+        Err(_) => unreachable!(),
+    }
+}
+
+// An empty open queue of this kind, and its only party.
+fn queue_of(alloc: Global, kind: KindName) -> Result<(Queue, Party<u64>), AllocError>
+    requires named { IsKindName kind }
+    requires built { has_capacity kind ≡ true }
+    ensures first { IfOk result (λ r. IsPartyOf r.1 r.0 × (r.0.cap ≡ capacity_of kind) × (r.1.view ≡ record { seen = []; mine = []; share = entire })) }
+    ensures within { IfOk result (λ _. IfSome (capacity_of kind) (λ size. size ≤ MAX_CAPACITY)) }
+{
+    match kind {
+        KindName::Single => Queue::bounded(alloc, 1),
+        KindName::Bounded(cap) => Queue::bounded(alloc, cap),
+        KindName::Unbounded => unreachable!(),
+    }
+}
+
+// What the threads have to do: the poppers share the items evenly.
+fn plan_of(load: Load) -> Plan
+    requires { IsLoad load }
+    ensures items { result.items ≡ load.items }
+    ensures threads { result.pushers + result.poppers < 2 ^ 64 }
+    ensures few { (result.pushers + result.poppers) * result.share < 2 ^ 64 }
+{
+    Plan {
+        pushers: load.pushers,
+        poppers: load.poppers,
+        items: load.items,
+        share: load.pushers * load.items / load.poppers,
+    }
+}
