@@ -24,10 +24,9 @@ mod SlotEnding
 pub mod KeptWords
 mod Callings
 mod Owns
-mod TableSteps
-mod RingAllows
-mod RingOperations
-mod RingTouches
+mod TableAllows
+mod TableOperations
+mod TableTouches
 mod RingEnding
-mod RingRests
+mod TableRests
 mod RingFinish

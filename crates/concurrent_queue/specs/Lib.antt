@@ -40,9 +40,12 @@ pub mod SlotShows
 pub mod SlotCalls
 pub mod SlotParties
 pub mod Calling
-pub mod RingRule
-pub mod RingTurns
+pub mod TableRule
+pub mod TableTurns
 pub mod RingOpening
-pub mod RingLeads
-pub mod RingParties
+pub mod TableLeads
+pub mod RingTable
+pub mod RingPrompt
+pub mod RingSteps
+pub mod TableParties
 pub mod KeptRings

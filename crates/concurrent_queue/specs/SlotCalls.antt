@@ -76,7 +76,7 @@ module _ (T : Type 0) (t : TableId) (p : Place T) (c : Call T) where
 
   -- what is to be done leads the call on, from the seat m with x carried
   abbrev Good : S → Option T → Next Unit → Type 0
-  Good m x todo = (q : Place T) → q.0 ≡ t → q.1 ≡ m → Leads CanTurn Turned SlotStands (Ended 1) t p c todo q x
+  Good m x todo = (q : Place T) → q.0 ≡ t → q.1 ≡ m → Leads CanTurn Turned SlotStands (Ended (Some 1)) t p c todo q x
 
   -- a step without a touch
   plain : (l : SingleLocal) (o : Op Unit) (m : S) (x : Option T) → CanOperate o m x → ((n : ℕ) (m' : S) → Operated o m x n m' → At p.1 c l n m' x) → Good m x (at l touch.Nothing o)
@@ -343,16 +343,16 @@ module _ (T : Type 0) (t : TableId) (p : Place T) (c : Call T) where
   at_any Closing n m x stands = at_closing n m x stands
   at_any (Looking l) n m x stands = at_looking l n m x stands
 
-  pub slot_goes_on : (l : Local Unit) (a : Answer Unit) (q : Place T) (x : Option T) → SlotStands t p c l a q x → GoesOn CanTurn Turned SlotStands (Ended 1) kind.Single t p c l a q x
+  pub slot_goes_on : (l : Local Unit) (a : Answer Unit) (q : Place T) (x : Option T) → SlotStands t p c l a q x → GoesOn CanTurn Turned SlotStands (Ended (Some 1)) kind.Single t p c l a q x
   slot_goes_on (local.Single l) (answer.Found n) q x stands = (tt, at_any l n q.1 x stands.1 q stands.0 refl)
   slot_goes_on _ _ q x stands = absurd stands
 
-  begins_fresh : IsAt 1 t p → Fresh p.1 p.1
+  begins_fresh : IsAt (Some 1) t p → Fresh p.1 p.1
   begins_fresh at_slot = (prefix_self p.1.0.known.seen, at_slot.1 ∙ (λ i. (idle (party (at_slot.2 i) p.1.0.known.seen p.1.0.known.mine p.1.0.known.share), [])), at_slot.4)
 
-module _ (T : Type 0) (t : TableId) (p : Place T) (at_slot : IsAt 1 t p) where
+module _ (T : Type 0) (t : TableId) (p : Place T) (at_slot : IsAt (Some 1) t p) where
   -- a call begins
-  pub slot_begins : (c : Call T) → Begins CanTurn Turned SlotStands (Ended 1) kind.Single t p c
+  pub slot_begins : (c : Call T) → Begins CanTurn Turned SlotStands (Ended (Some 1)) kind.Single t p c
   slot_begins (call.Push v) = let c = call.Push v in (tt, tries_push T t p c v p.1 (begins_fresh T t p c at_slot) refl p at_slot.0 refl)
   slot_begins (call.ForcePush v) = let c = call.ForcePush v in (tt, tries_force T t p c v 0 p.1 (begins_fresh T t p c at_slot) refl (inl refl) p at_slot.0 refl)
   slot_begins call.Pop = (tt, tries_pop T t p call.Pop PUSHED p.1 (begins_fresh T t p call.Pop at_slot) refl false refl p at_slot.0 refl)

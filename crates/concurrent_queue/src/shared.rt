@@ -12,8 +12,9 @@ use crate::exclusive::Exclusive;
 use crate::gate::{Gate, Open};
 pub use crate::party::Party;
 use crate::party::{is_only, join, meet, split};
-use crate::ring::SharedRing;
+use crate::ring::{Rings, end_ring, open_ring};
 use crate::slot::SharedSlot;
+use crate::table::SharedTable;
 use crate::turns::{drive, drive_promptly};
 use queue_steps::errors::{ForcePushError, PopError, PushError};
 use queue_steps::model::{Call, Reply};
@@ -36,7 +37,7 @@ enum Form<T, A: Allocator> {
     /// One slot.
     Single(SharedSlot<T, A>),
     /// A ring of slots.
-    Ring(SharedRing<T, A>),
+    Ring(SharedTable<T, Rings, A>),
 }
 
 impl<T, A: Allocator> Model for ConcurrentQueue<T, A> {
@@ -64,7 +65,7 @@ impl<T, A: Allocator + Clone> ConcurrentQueue<T, A> {
             let (slot, seat) = SharedSlot::new(alloc)?;
             (Form::Single(slot), seat)
         } else {
-            let (ring, seat) = SharedRing::new(alloc, cap)?;
+            let (ring, seat) = open_ring(alloc, cap)?;
             (Form::Ring(ring), seat)
         };
         Ok((ConcurrentQueue { form }, Party { seat }))
@@ -251,7 +252,7 @@ impl<T, A: Allocator> ConcurrentQueue<T, A> {
     {
         match &self.form {
             Form::Single(_) => Some(1),
-            Form::Ring(ring) => Some(ring.capacity()),
+            Form::Ring(ring) => Some(ring.slots()),
         }
     }
 
@@ -280,7 +281,7 @@ impl<T, A: Allocator> ConcurrentQueue<T, A> {
             }
             Form::Ring(ring) => {
                 if is_only(&ring.table.shared, &mut seat) {
-                    return Ok(ring.into_owned(seat));
+                    return Ok(end_ring(ring, seat));
                 }
                 Err((
                     ConcurrentQueue {

@@ -141,7 +141,7 @@ impl<T, A: Allocator> Turns<T, (), Seat<Option<T>, Doing<T>>> for SharedSlot<T, 
 
     ghost kind_of = { λ m. kinds.Single };
 
-    ghost rests = { λ m s. IsAt 1 m.table.shared.table_id (s.table_id, s.me) };
+    ghost rests = { λ m s. IsAt (Some 1) m.table.shared.table_id (s.table_id, s.me) };
 
     ghost can = { λ m s k l u o x. CanTurn m.table.shared.table_id (s.table_id, s.me) k l u o x };
 
@@ -149,11 +149,11 @@ impl<T, A: Allocator> Turns<T, (), Seat<Option<T>, Doing<T>>> for SharedSlot<T, 
 
     ghost stands = { λ m s c l a q x. SlotStands m.table.shared.table_id (s.table_id, s.me) c l a (q.table_id, q.me) x };
 
-    ghost ended = { λ m s c r q. Ended 1 m.table.shared.table_id (s.table_id, s.me) c r (q.table_id, q.me) };
+    ghost ended = { λ m s c r q. Ended (Some 1) m.table.shared.table_id (s.table_id, s.me) c r (q.table_id, q.me) };
 
-    ghost begins = { λ m s c h. let b = slot_begins T m.table.shared.table_id (s.table_id, s.me) h c in (b.0, leads-through CanTurn Turned SlotStands (Ended 1) (λ m. m.table.shared.table_id) (λ s. (s.table_id, s.me)) m s s c (next_of kinds.Single (first_local (call_kind c)) answer.Start) (call_value c) b.1) };
+    ghost begins = { λ m s c h. let b = slot_begins T m.table.shared.table_id (s.table_id, s.me) h c in (b.0, leads-through CanTurn Turned SlotStands (Ended (Some 1)) (λ m. m.table.shared.table_id) (λ s. (s.table_id, s.me)) m s s c (next_of kinds.Single (first_local (call_kind c)) answer.Start) (call_value c) b.1) };
 
-    ghost goes_on = { λ m first c l a s x h. let g = slot_goes_on T m.table.shared.table_id (first.table_id, first.me) c l a (s.table_id, s.me) x h in (g.0, leads-through CanTurn Turned SlotStands (Ended 1) (λ m. m.table.shared.table_id) (λ s. (s.table_id, s.me)) m first s c (next_of kinds.Single l a) x g.1) };
+    ghost goes_on = { λ m first c l a s x h. let g = slot_goes_on T m.table.shared.table_id (first.table_id, first.me) c l a (s.table_id, s.me) x h in (g.0, leads-through CanTurn Turned SlotStands (Ended (Some 1)) (λ m. m.table.shared.table_id) (λ s. (s.table_id, s.me)) m first s c (next_of kinds.Single l a) x g.1) };
 
     ghost prompt = { λ m c h. slot_prompt c h };
 

@@ -14,5 +14,5 @@ returns-then-is_only g c =
 pub returns-then-is_only-2 : goal.returns-then-is_only-2
 returns-then-is_only-2 g c =
     let one : c.args.party.queue.cap ≡ Some c.in-Ring.ring.table.shared.table_id.slots = search rules in
-    let e = c.into_owned.ensures in
-    finishes (Some c.in-Ring.ring.table.shared.table_id.slots) c.args.party _ c.party.inside.seat.me c.is_only-in-Ring.new.seat.me c.into_owned.result c.party.view_is one c.is_only-in-Ring.ensures.same.2 c.if-is_only-2.ensures.counted e.0 e.1 e.2
+    let e = c.end_ring.ensures in
+    finishes (Some c.in-Ring.ring.table.shared.table_id.slots) c.args.party _ c.party.inside.seat.me c.is_only-in-Ring.new.seat.me c.end_ring.result c.party.view_is one c.is_only-in-Ring.ensures.same.2 c.if-is_only-2.ensures.counted e.0 e.1 e.2

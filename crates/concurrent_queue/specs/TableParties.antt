@@ -1,6 +1,6 @@
--- The rule of a shared ring stays true where only the views change.
-use Rattle.std.specs.Prelude.{◌≡◌, ◌<◌, ℕ, suc, true, false, Bool, List, [], ◌∷◌, length, Some}
-use Rattle.std.proofs.Common.{ap, refl, sym, ◌∙◌, arith, get_or}
+-- The rule of a shared table stays true where only the views change.
+use Rattle.std.specs.Prelude.{◌≡◌, ◌<◌, ℕ, suc, true, false, Bool, List, [], ◌∷◌, length}
+use Rattle.std.proofs.Common.{ap, refl, sym, ◌∙◌, subst, arith, get_or}
 use mathlib.Core.Option.{some}
 use lib.ListN.{get_elem?}
 use Rattle.concurrent_queue.specs.declared.known.Doing.{Doing}
@@ -9,7 +9,8 @@ use Rattle.concurrent_queue.specs.declared.known.Work.{Work}
 use Rattle.concurrent_queue.specs.declared.known.Work.TheVariants as work
 use Rattle.concurrent_queue.specs.declared.known.InCall.{InCall}
 use Rattle.concurrent_queue.specs.Seats.{KeepsParties, is_busy, count_of}
-use Rattle.concurrent_queue.specs.RingRule.{OneRing}
+use Rattle.concurrent_queue.specs.Calling.{cap_of}
+use Rattle.concurrent_queue.specs.TableRule.{TableOf, Rule}
 
 -- lists of one length that differ in their first alone
 same_tail : (xs ys : List ℕ) → length ys ≡ length xs → ((k : ℕ) → ¬ (k ≡ 0) → get_or ys k 0 ≡ get_or xs k 0) → (n : ℕ) (zs : List ℕ) → xs ≡ n ∷ zs → ys ≡ get_or ys 0 0 ∷ zs
@@ -31,26 +32,25 @@ pub false_if : (b : Bool) → (b ≡ true → ⊥) → b ≡ false
 false_if false never = refl
 false_if true never = absurd (never refl)
 
-pub ring_keeps_parties : (T : Type 0) (cap : ℕ) → KeepsParties (OneRing {T = T} cap)
-ring_keeps_parties T cap s r = (
+pub table_keeps_parties : (T : Type 0) (K : TableOf T) → KeepsParties (Rule K)
+table_keeps_parties T K s r = (
   record {
-    cap = Some cap;
+    cap = cap_of K.calls;
     history = r.history;
     kept = r.kept;
     active = λ j d there busy. counts j d there d.work refl busy;
   },
-  (let a = ap length r.words in omega arith),
+  (let a = ap length r.counted in omega arith),
   λ t only kept. record {
-    ring = r.ring;
-    shared = r.shared;
+    cells = r.cells;
+    words = r.words;
     history = r.history;
     ok = r.ok;
-    codes = r.codes;
-    words = same_tail s.words t.words only.long only.words (count_of s) (r.shared.tail ∷ r.shared.head ∷ r.shared.stamps) r.words;
-    homes = (ap length only.homes ∙ r.homes.0, λ i lt. ap (λ l. get_elem? l i) only.homes ∙ r.homes.1 i lt);
+    counted = same_tail s.words t.words only.long only.words (count_of s) r.words r.counted;
+    coded = subst (K.Coded r.cells r.words) (sym only.homes) r.coded;
     state = r.state;
     calls = λ j d c there is. r.calls j d c (only.was j d (calls_busy d.work c is) there) is;
-    ringed = λ j d x there is. r.ringed j d x (only.was j d (ap is_busy is) there) is;
+    slotless = λ j d x there is. r.slotless j d x (only.was j d (ap is_busy is) there) is;
     free = λ j none. r.free j (λ d there. false_if (is_busy d.work) (λ busy. let f : true ≡ false = sym busy ∙ none d (only.stays j d busy there) in cc));
     kept = kept;
   },
@@ -58,5 +58,5 @@ ring_keeps_parties T cap s r = (
   where
     counts : (j : ℕ) (d : Doing T) → get_elem? s.views j ≡ some d → (w : Work T) → d.work ≡ w → is_busy w ≡ true → 0 < d.known.parts
     counts j d there work.Nothing is busy = absurd (let f : false ≡ true = busy in cc)
-    counts j d there (work.HoldsSlot x) is busy = absurd (r.ringed j d x there is)
+    counts j d there (work.HoldsSlot x) is busy = absurd (r.slotless j d x there is)
     counts j d there (work.Calls c) is busy = let st = r.calls j d c there is in let one : d.known.parts ≡ 1 = ap (λ (k : Known T). k.parts) st.knows in omega arith

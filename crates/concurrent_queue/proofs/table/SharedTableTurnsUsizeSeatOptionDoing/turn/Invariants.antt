@@ -1,5 +1,5 @@
-use Rattle.concurrent_queue.specs.RingLeads.{call_at}
-use Rattle.concurrent_queue.proofs.ring.SharedRingTurnsUsizeSeatOptionDoing.turn.Given as goal
+use Rattle.concurrent_queue.specs.TableLeads.{call_at}
+use Rattle.concurrent_queue.proofs.table.SharedTableTurnsUsizeSeatOptionDoing.turn.Given as goal
 
 -- the call whose step is done
 abbrev pub ghosts-operate : goal.ghosts-operate
