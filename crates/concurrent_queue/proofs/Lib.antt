@@ -17,10 +17,7 @@ mod Crowds
 mod Meetings
 mod FirstParty
 mod Persons
-mod SlotRule
 mod Views
-mod SlotOperations
-mod SlotEnding
 pub mod KeptWords
 mod Callings
 mod Owns
@@ -30,3 +27,4 @@ mod TableTouches
 mod RingEnding
 mod TableRests
 mod RingFinish
+mod SlotFinish

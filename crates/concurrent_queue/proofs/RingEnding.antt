@@ -74,7 +74,6 @@ module _ (T : Type 0) (cap : ℕ) where
     );
     state = refl;
     calls = λ j d c e is. absurd (first_rests (Some cap) j d e (ap is_busy is));
-    slotless = λ j d x e is. absurd (first_rests (Some cap) j d e (ap is_busy is));
     free = λ j none. λ k e. cc;
     kept = first_kept (Some cap);
   }

@@ -73,7 +73,6 @@ module _ {T : Type 0} where
 
   call_in : InCall T → Work T → InCall T
   call_in c work.Nothing = c
-  call_in c (work.HoldsSlot x) = c
   call_in c (work.Calls d) = d
 
 module _ {T : Type 0} (K : TableOf T) (laws : TableLaws K) where
@@ -87,7 +86,6 @@ module _ {T : Type 0} (K : TableOf T) (laws : TableLaws K) where
   record OwnAfter (g : K.calls.Cells) (h : List (Effect T)) (who : ℕ) (k : Known T) (c : InCall T) (v : Option T) (n : Next ℕ) (xs : List (ℕ × Option T)) : Type 0 where
     pub does : Work T
     pub calls : (d : InCall T) → does ≡ work.Calls d → Standing C g h who k d
-    pub slotless : (x : Option T) → does ≡ work.HoldsSlot x → ⊥
     pub free : is_busy does ≡ false → K.calls.Lent g who []
     pub tells : After K c v n (record { known = k; work = does }, xs)
 
@@ -101,7 +99,6 @@ module _ {T : Type 0} (K : TableOf T) (laws : TableLaws K) where
       let stands = own_stands C r s h e who k c l t o v xs seen state st may lent goes in record {
         does = work.Calls d;
         calls = λ d' is. subst (Standing C s (grown h e) who (known_after h e k)) (ap (call_in d) is) stands;
-        slotless = λ y is. let f : work.Calls d ≡ work.HoldsSlot y = is in cc;
         free = λ no. absurd (let f : true ≡ false = no in cc);
         tells = (
           d,
@@ -123,7 +120,6 @@ module _ {T : Type 0} (K : TableOf T) (laws : TableLaws K) where
       let empty = laws.calls.lent_none s who xs lent goes.0 in record {
         does = work.Nothing;
         calls = λ d is. absurd (let f : work.Nothing ≡ work.Calls d = is in cc);
-        slotless = λ y is. let f : work.Nothing ≡ work.HoldsSlot y = is in cc;
         free = λ no. goes.0;
         tells = (
           goes.1,
@@ -186,7 +182,6 @@ module _ {T : Type 0} (K : TableOf T) (laws : TableLaws K) where
       coded = moved.1;
       state = made_is.0;
       calls = calls;
-      slotless = slotless;
       free = free;
       kept = subst (λ (z : ℕ × List (Known T)). Kept cap (grown h g.effect) z.0 z.1) (λ i. (sym count i, sym (map-set known_by s.views id w) i)) kept;
     },
@@ -253,12 +248,6 @@ module _ {T : Type 0} (K : TableOf T) (laws : TableLaws K) where
           (λ (t : (j ≡ id) × (w ≡ d)). subst (λ (z : ℕ × Known T). Standing C g.after (grown h g.effect) z.0 z.1 b) (λ k. (sym t.0 k, (t.1 k).known)) (own.calls b (ap (λ (z : Doing T). z.work) t.1 ∙ is)))
           (λ (t : (j ≢ id) × (get_elem? s.views j ≡ some d)).
           others_stay C laws.calls rule.cells g.after h g.effect id j d.known b rule.ok g.ok t.0 g.passes made_is.0 made_is.2 (other j d t.0 t.1) (rule.calls j d b t.1 is))
-          (at_set s.views id j w d there)
-
-      slotless : (j : ℕ) (d : Doing T) (y : Option T) → get_elem? (set s.views id w) j ≡ some d → d.work ≡ work.HoldsSlot y → ⊥
-      slotless j d y there is = ⊎_elim
-          (λ (t : (j ≡ id) × (w ≡ d)). own.slotless y (ap (λ (z : Doing T). z.work) t.1 ∙ is))
-          (λ (t : (j ≢ id) × (get_elem? s.views j ≡ some d)). rule.slotless j d y t.1 is)
           (at_set s.views id j w d there)
 
       free : (j : ℕ) → ((d : Doing T) → get_elem? (set s.views id w) j ≡ some d → is_busy d.work ≡ false) → K.calls.Lent g.after j []

@@ -30,15 +30,8 @@ pub mod Turns
 pub mod Seats
 pub mod Shared
 pub mod AtTable
-pub mod OneSlot
-pub mod SlotTurns
-pub mod SlotStands
 pub mod Histories
 pub mod SharedCalls
-pub mod SlotLaws
-pub mod SlotShows
-pub mod SlotCalls
-pub mod SlotParties
 pub mod Calling
 pub mod TableRule
 pub mod TableTurns
@@ -47,5 +40,7 @@ pub mod TableLeads
 pub mod RingTable
 pub mod RingPrompt
 pub mod RingSteps
+pub mod SlotTable
+pub mod SlotSteps
 pub mod TableParties
 pub mod KeptRings

@@ -53,7 +53,6 @@ with_value _ x = call.Pop
 
 abbrev pub call_of_work : {T : Type 0} → InCall T → Work T → InCall T
 call_of_work c work.Nothing = c
-call_of_work c (work.HoldsSlot x) = c
 call_of_work c (work.Calls d) = d
 
 -- the call that a seat is at, or is about to begin

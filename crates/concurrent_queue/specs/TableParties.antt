@@ -50,7 +50,6 @@ table_keeps_parties T K s r = (
     coded = subst (K.Coded r.cells r.words) (sym only.homes) r.coded;
     state = r.state;
     calls = λ j d c there is. r.calls j d c (only.was j d (calls_busy d.work c is) there) is;
-    slotless = λ j d x there is. r.slotless j d x (only.was j d (ap is_busy is) there) is;
     free = λ j none. r.free j (λ d there. false_if (is_busy d.work) (λ busy. let f : true ≡ false = sym busy ∙ none d (only.stays j d busy there) in cc));
     kept = kept;
   },
@@ -58,5 +57,4 @@ table_keeps_parties T K s r = (
   where
     counts : (j : ℕ) (d : Doing T) → get_elem? s.views j ≡ some d → (w : Work T) → d.work ≡ w → is_busy w ≡ true → 0 < d.known.parts
     counts j d there work.Nothing is busy = absurd (let f : false ≡ true = busy in cc)
-    counts j d there (work.HoldsSlot x) is busy = absurd (r.slotless j d x there is)
     counts j d there (work.Calls c) is busy = let st = r.calls j d c there is in let one : d.known.parts ≡ 1 = ap (λ (k : Known T). k.parts) st.knows in omega arith

@@ -38,7 +38,7 @@ pub record TableOf (T : Type 0) : Type 1 where
   pub Coded : calls.Cells → List ℕ → List (maybe.Option (Option T)) → Type 0
 
 -- There are cells, in the state after the one history, for which the words and the slots stand. Each call stands at them where the laws of its kind have it,
--- no seat is at a call on the one slot, and whoever is at nothing has no slot
+-- and whoever is at nothing has no slot
 pub record Rule {T : Type 0} (K : TableOf T) (s : Table T) : Type 0 where
   pub cells : K.calls.Cells
   pub words : List ℕ
@@ -48,7 +48,6 @@ pub record Rule {T : Type 0} (K : TableOf T) (s : Table T) : Type 0 where
   pub coded : K.Coded cells words s.homes
   pub state : K.calls.queue_of cells ≡ after (cap_of K.calls) history
   pub calls : (j : ℕ) (d : Doing T) (c : InCall T) → get_elem? s.views j ≡ some d → d.work ≡ work.Calls c → Standing K.calls cells history j d.known c
-  pub slotless : (j : ℕ) (d : Doing T) (x : Option T) → get_elem? s.views j ≡ some d → d.work ≡ work.HoldsSlot x → ⊥
   pub free : (j : ℕ) → ((d : Doing T) → get_elem? s.views j ≡ some d → is_busy d.work ≡ false) → K.calls.Lent cells j []
   pub kept : Kept (cap_of K.calls) history (count_of s) (map known_by s.views)
 

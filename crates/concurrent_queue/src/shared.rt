@@ -13,7 +13,7 @@ use crate::gate::{Gate, Open};
 pub use crate::party::Party;
 use crate::party::{is_only, join, meet, split};
 use crate::ring::{Rings, end_ring, open_ring};
-use crate::slot::SharedSlot;
+use crate::slot::{Slots, end_slot, open_slot};
 use crate::table::SharedTable;
 use crate::turns::{drive, drive_promptly};
 use queue_steps::errors::{ForcePushError, PopError, PushError};
@@ -35,7 +35,7 @@ pub struct ConcurrentQueue<T, A: Allocator = Global> {
 #[derive(Drop)]
 enum Form<T, A: Allocator> {
     /// One slot.
-    Single(SharedSlot<T, A>),
+    Single(SharedTable<T, Slots, A>),
     /// A ring of slots.
     Ring(SharedTable<T, Rings, A>),
 }
@@ -62,7 +62,7 @@ impl<T, A: Allocator + Clone> ConcurrentQueue<T, A> {
         ensures limited { MAX_CAPACITY < cap → IsErr result }
     {
         let (form, seat) = if cap == 1 {
-            let (slot, seat) = SharedSlot::new(alloc)?;
+            let (slot, seat) = open_slot(alloc)?;
             (Form::Single(slot), seat)
         } else {
             let (ring, seat) = open_ring(alloc, cap)?;
@@ -270,7 +270,7 @@ impl<T, A: Allocator> ConcurrentQueue<T, A> {
         match form {
             Form::Single(slot) => {
                 if is_only(&slot.table.shared, &mut seat) {
-                    return Ok(Exclusive::of_single(slot.into_single(seat)));
+                    return Ok(Exclusive::of_single(end_slot(slot, seat)));
                 }
                 Err((
                     ConcurrentQueue {
