@@ -7,18 +7,14 @@ use Rattle.atomic_table.proofs.Lists.{at_longer, at_snoc}
 use Rattle.queue_steps.specs.declared.model.Effect.{Effect}
 use Rattle.queue_steps.specs.declared.model.Effect.TheVariants as effect
 use Rattle.queue_steps.specs.State.{State}
-use Rattle.queue_steps.specs.Effect.{after, made}
+use Rattle.queue_steps.specs.Effect.{after}
 use Rattle.queue_steps.specs.Parties.{StandAt}
 use Rattle.queue_laws.proofs.Moments.{seen_by}
-use Rattle.ring_laws.proofs.RingCells.{Ring, queue_of, RingOk}
-use Rattle.ring_laws.proofs.RingPasses.{Passes}
-use Rattle.ring_laws.proofs.RingAt.{At, at_stays}
-use Rattle.ring_laws.proofs.RingStart.{IsBetween, at_coming}
-use Rattle.ring_laws.proofs.RingHands.{lent_stays}
+use Rattle.queue_laws.proofs.Effects.{IsBetween}
 use Rattle.concurrent_queue.specs.declared.known.Known.{Known}
 use Rattle.concurrent_queue.specs.declared.known.InCall.{InCall}
 use Rattle.concurrent_queue.specs.Histories.{prefix_self, prefix_trans, prefix_more}
-use Rattle.concurrent_queue.specs.Calling.{IsMoment, AreMoments, WasOpen, Opened, Waits, Standing}
+use Rattle.concurrent_queue.specs.Calling.{CallsOf, CallLaws, cap_of, IsMoment, AreMoments, WasOpen, Opened, Waits, Standing}
 
 -- the history with what a step adds to it
 abbrev pub grown : {T : Type 0} → List (Effect T) → Option (Effect T) → List (Effect T)
@@ -94,29 +90,26 @@ module _ {T : Type 0} where
   waits_later h (Some e) n (effect.Close ∷ es) ps other stand w = tt
   waits_later h (Some e) n (effect.SelfClose ∷ es) ps other stand w = tt
 
--- after an arrival nothing is coming
-none_comes : {T : Type 0} (cap : ℕ) (r s : Ring T) (e : Option (Effect T)) → queue_of cap s ≡ made effect.Arrive (queue_of cap r) → s.coming ≡ None
-none_comes cap r s e is = ap (λ q. q.coming) is
-
--- the call of another party stands where it stood, by the laws of the ring
-pub others_stay : {T : Type 0} (cap : ℕ) (r s : Ring T) (h : List (Effect T)) (e : Option (Effect T)) (who j : ℕ) (k : Known T) (c : InCall T)
-    → RingOk cap r → RingOk cap s → j ≢ who → Passes who r s → queue_of cap s ≡ after (Some cap) (grown h e) → (e ≡ Some effect.Arrive → s.coming ≡ None)
-    → IsPrefix k.seen h → Standing cap r h j k c → Standing cap s (grown h e) j k c
-others_stay {T} cap r s h e who j k c ok ok' ne pass state gone seen st = record {
-  ms = seen_by (queue_of cap s) st.ms;
+-- the call of another party stands where it stood, by the laws of its kind
+pub others_stay : {T : Type 0} (K : CallsOf T) (laws : CallLaws K) (g s : K.Cells) (h : List (Effect T)) (e : Option (Effect T)) (who j : ℕ) (k : Known T) (c : InCall T)
+    → K.Ok g → K.Ok s → j ≢ who → K.Passes who g s → K.queue_of s ≡ after (cap_of K) (grown h e) → (e ≡ Some effect.Arrive → (K.queue_of s).coming ≡ None)
+    → IsPrefix k.seen h → Standing K g h j k c → Standing K s (grown h e) j k c
+others_stay {T} K laws g s h e who j k c ok ok' ne pass state gone seen st = record {
+  ms = seen_by (K.queue_of s) st.ms;
   was = st.was;
   here = now;
-  lent = lent_stays who j c.lends ne pass st.lent;
-  moments = moments_seen (Some cap) c.since (grown h e) (queue_of cap s) st.ms (grown_more c.since h e from) state (moments_later (Some cap) c.since h (grown h e) st.ms (grown_more h h e (prefix_self h)) st.moments);
-  opened = opened_later (Some cap) c.since h e st.was c.effects c.places st.opened;
-  waits = waits_later h e (length c.since) c.effects c.places (λ b is. let x = at_coming ok' now b in (let f : None ≡ Some x.0 = sym (gone is) ∙ x.1 in cc)) st.stand st.waits;
+  lent = laws.lent_stays g s who j c.lends ne pass st.lent;
+  moments = moments_seen (cap_of K) c.since (grown h e) (K.queue_of s) st.ms (grown_more c.since h e from) state (moments_later (cap_of K) c.since h (grown h e) st.ms (grown_more h h e (prefix_self h)) st.moments);
+  opened = opened_later (cap_of K) c.since h e st.was c.effects c.places st.opened;
+  waits = waits_later h e (length c.since) c.effects c.places
+      (λ b is. let x = laws.coming s j (seen_by (K.queue_of s) st.ms) st.was c.local c.touch c.op c.carried c.call c.effects ok' now b in (let f : None ≡ Some x.0 = sym (gone is) ∙ x.1 in cc)) st.stand st.waits;
   stand = stand_later h e (length c.since) c.places c.effects st.stand;
   since = st.since;
   knows = st.knows;
 }
   where
-    now : At cap s j (seen_by (queue_of cap s) st.ms) st.was c.local c.touch c.op c.carried c.call c.effects
-    now = at_stays ok ok' ne pass st.here
+    now : K.At s j (seen_by (K.queue_of s) st.ms) st.was c.local c.touch c.op c.carried c.call c.effects
+    now = laws.at_stays g s who j st.ms st.was c.local c.touch c.op c.carried c.call c.effects ok ok' ne pass st.here
 
     from : IsPrefix c.since h
     from = prefix_trans c.since k.seen h st.since seen

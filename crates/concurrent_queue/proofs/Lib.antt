@@ -18,17 +18,14 @@ mod Meetings
 mod FirstParty
 mod Persons
 pub mod Sent
-mod SlotRule
 mod Views
-mod SlotOperations
-mod SlotEnding
 pub mod KeptWords
 mod Callings
 mod Owns
-mod TableSteps
-mod RingAllows
-mod RingOperations
-mod RingTouches
+mod TableAllows
+mod TableOperations
+mod TableTouches
 mod RingEnding
-mod RingRests
+mod TableRests
 mod RingFinish
+mod SlotFinish

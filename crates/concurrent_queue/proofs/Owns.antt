@@ -19,15 +19,12 @@ use Rattle.queue_steps.specs.Replies.{IsRightAt, Allows, Tells}
 use Rattle.queue_steps.specs.Shares.{Share}
 use Rattle.queue_steps.specs.Parties.{View, StandAt, Between, Displaces, SharedCall}
 use Rattle.queue_laws.proofs.Moments.{SeenIn}
-use Rattle.ring_laws.proofs.RingCells.{Ring, queue_of}
-use Rattle.ring_laws.proofs.RingAt.{At}
 use Rattle.queue_laws.proofs.Effects.{with_effect}
-use Rattle.ring_laws.proofs.RingHands.{Lent}
 use Rattle.concurrent_queue.specs.declared.known.Known.{Known}
 use Rattle.concurrent_queue.specs.declared.known.InCall.{InCall}
 use Rattle.concurrent_queue.specs.Known.{party, looked, gained, view_of}
 use Rattle.concurrent_queue.specs.Histories.{prefix_self, prefix_trans, prefix_length}
-use Rattle.concurrent_queue.specs.Calling.{AreMoments, Opened, Waits, Standing}
+use Rattle.concurrent_queue.specs.Calling.{CallsOf, cap_of, AreMoments, Opened, Waits, Standing, MayFront}
 use Rattle.concurrent_queue.proofs.Callings.{grown, grown_more, moments_later, moment_now, open_later, shorter, below_at}
 
 -- what a party knows after a step of its own at the history h
@@ -68,10 +65,10 @@ not_true false e = refl
 not_true true e = cc
 
 module _ {T : Type 0} where
-  pub knows_after : (cap : ℕ) (h : List (Effect T)) (e : Option (Effect T)) (k : Known T) (before ps : List ℕ) (share : Share) → k ≡ party (Some cap) k.seen (before ++ ps) share
-      → known_after h e k ≡ party (Some cap) (grown h e) (before ++ with_place ps e (length h)) share
+  pub knows_after : (cap : Option ℕ) (h : List (Effect T)) (e : Option (Effect T)) (k : Known T) (before ps : List ℕ) (share : Share) → k ≡ party cap k.seen (before ++ ps) share
+      → known_after h e k ≡ party cap (grown h e) (before ++ with_place ps e (length h)) share
   knows_after cap h None k before ps share is = ap (looked h) is
-  knows_after cap h (Some e) k before ps share is = ap (gained h e) is ∙ ap (λ (z : List ℕ). party (Some cap) (h ++ e ∷ []) z share) (append_assoc before ps (length h ∷ []))
+  knows_after cap h (Some e) k before ps share is = ap (gained h e) is ∙ ap (λ (z : List ℕ). party cap (h ++ e ∷ []) z share) (append_assoc before ps (length h ∷ []))
 
   stand_snoc : (h : List (Effect T)) (e : Effect T) (n : ℕ) (ps : List ℕ) (es : List (Effect T)) → n ≤ length h → StandAt h n ps es → StandAt (h ++ e ∷ []) n (ps ++ length h ∷ []) (es ++ e ∷ [])
   stand_snoc h e n [] [] le s = (le, at_last h e (length h) refl, tt)
@@ -82,11 +79,6 @@ module _ {T : Type 0} where
   pub stand_after : (h : List (Effect T)) (e : Option (Effect T)) (n : ℕ) (ps : List ℕ) (es : List (Effect T)) → n ≤ length h → StandAt h n ps es → StandAt (grown h e) n (with_place ps e (length h)) (with_effect es e)
   stand_after h None n ps es le s = s
   stand_after h (Some e) n ps es le s = stand_snoc h e n ps es le s
-
-  -- a front is made only by a call that saw the queue open
-  abbrev pub MayFront : Option (Effect T) → Bool → Type 0
-  MayFront (Some (effect.Front old v)) was = was ≡ true
-  MayFront _ was = Unit {0}
 
   pub opened_after : (cap : Option ℕ) (s h : List (Effect T)) (e : Option (Effect T)) (was closed : Bool) (n : ℕ) (es : List (Effect T)) (ps : List ℕ) → IsPrefix s h → (after cap (grown h e)).closed ≡ closed → MayFront e was
       → StandAt h n ps es → Opened cap s h was es ps → Opened cap s (grown h e) (was || not closed) (with_effect es e) (with_place ps e (length h))
@@ -263,47 +255,47 @@ module _ {T : Type 0} where
   displaces cap s t was n c r (x ∷ []) (p ∷ q ∷ ps) tells stand o w = absurd stand.2
   displaces cap s t was n c r [] (p ∷ q ∷ ps) tells stand o w = absurd stand
 
--- after a step of its own a call that goes on stands where the laws of the ring have it
-pub own_stands : {T : Type 0} (cap : ℕ) (r s : Ring T) (h : List (Effect T)) (e : Option (Effect T)) (who : ℕ) (k : Known T) (c : InCall T) (l : Local ℕ) (t : Touch) (o : Op ℕ) (v : Option T) (lends : List (ℕ × Option T))
-    → IsPrefix k.seen h → queue_of cap s ≡ after (Some cap) (grown h e) → (st : Standing cap r h who k c) → MayFront e st.was → Lent s who lends
-    → At cap s who (queue_of cap s ∷ st.ms) (st.was || not s.closed) l t o v c.call (with_effect c.effects e)
-    → Standing cap s (grown h e) who (known_after h e k) (call_after c h e l t o v lends)
-own_stands {T} cap r s h e who k c l t o v lends seen state st may lent goes = record {
-  ms = queue_of cap s ∷ st.ms;
-  was = st.was || not s.closed;
+-- after a step of its own a call that goes on stands where the laws of its kind have it
+pub own_stands : {T : Type 0} (K : CallsOf T) (r s : K.Cells) (h : List (Effect T)) (e : Option (Effect T)) (who : ℕ) (k : Known T) (c : InCall T) (l : Local ℕ) (t : Touch) (o : Op ℕ) (v : Option T) (lends : List (ℕ × Option T))
+    → IsPrefix k.seen h → K.queue_of s ≡ after (cap_of K) (grown h e) → (st : Standing K r h who k c) → MayFront e st.was → K.Lent s who lends
+    → K.At s who (K.queue_of s ∷ st.ms) (st.was || not (K.queue_of s).closed) l t o v c.call (with_effect c.effects e)
+    → Standing K s (grown h e) who (known_after h e k) (call_after c h e l t o v lends)
+own_stands {T} K r s h e who k c l t o v lends seen state st may lent goes = record {
+  ms = K.queue_of s ∷ st.ms;
+  was = st.was || not (K.queue_of s).closed;
   here = goes;
   lent = lent;
-  moments = (moment_now (Some cap) c.since (grown h e) (queue_of cap s) (grown_more c.since h e from) state, moments_later (Some cap) c.since h (grown h e) st.ms (grown_more h h e (prefix_self h)) st.moments);
-  opened = opened_after (Some cap) c.since h e st.was s.closed (length c.since) c.effects c.places from (ap (λ q. q.closed) (sym state)) may st.stand st.opened;
+  moments = (moment_now (cap_of K) c.since (grown h e) (K.queue_of s) (grown_more c.since h e from) state, moments_later (cap_of K) c.since h (grown h e) st.ms (grown_more h h e (prefix_self h)) st.moments);
+  opened = opened_after (cap_of K) c.since h e st.was (K.queue_of s).closed (length c.since) c.effects c.places from (ap (λ q. q.closed) (sym state)) may st.stand st.opened;
   waits = waits_after h e (length c.since) c.effects c.places st.stand st.waits;
   stand = stand_after h e (length c.since) c.places c.effects (prefix_length c.since h from) st.stand;
   since = subst (IsPrefix c.since) (sym (ap (λ z. z.seen) knows)) (grown_more c.since h e from);
-  knows = knows ∙ ap (λ (g : List (Effect T)). party (Some cap) g (c.before ++ with_place c.places e (length h)) c.share) (sym (ap (λ z. z.seen) knows));
+  knows = knows ∙ ap (λ (g : List (Effect T)). party (cap_of K) g (c.before ++ with_place c.places e (length h)) c.share) (sym (ap (λ z. z.seen) knows));
 }
   where
     from : IsPrefix c.since h
     from = prefix_trans c.since k.seen h st.since seen
 
-    knows : known_after h e k ≡ party (Some cap) (grown h e) (c.before ++ with_place c.places e (length h)) c.share
-    knows = knows_after cap h e k c.before c.places c.share st.knows
+    knows : known_after h e k ≡ party (cap_of K) (grown h e) (c.before ++ with_place c.places e (length h)) c.share
+    knows = knows_after (cap_of K) h e k c.before c.places c.share st.knows
 
 -- and one that ends is a shared call
-pub own_ends : {T : Type 0} (cap : ℕ) (r s : Ring T) (h : List (Effect T)) (e : Option (Effect T)) (who : ℕ) (k : Known T) (c : InCall T) (y : Reply T)
-    → IsPrefix k.seen h → IsHistory (Some cap) (grown h e) → queue_of cap s ≡ after (Some cap) (grown h e) → (st : Standing cap r h who k c) → MayFront e st.was
-    → Tells c.call y (with_effect c.effects e) → (with_effect c.effects e ≡ [] → SeenIn (queue_of cap s ∷ st.ms) (λ m. IsRightAt m c.call y))
-    → SharedCall (Some cap) (view_before c) (view_of (known_after h e k)) c.call y
-own_ends {T} cap r s h e who k c y seen legal state st may tells right = subst (λ (z : Known T). SharedCall (Some cap) (view_before c) (view_of z) c.call y) (sym knows) made
+pub own_ends : {T : Type 0} (K : CallsOf T) (r s : K.Cells) (h : List (Effect T)) (e : Option (Effect T)) (who : ℕ) (k : Known T) (c : InCall T) (y : Reply T)
+    → IsPrefix k.seen h → IsHistory (cap_of K) (grown h e) → K.queue_of s ≡ after (cap_of K) (grown h e) → (st : Standing K r h who k c) → MayFront e st.was
+    → Tells c.call y (with_effect c.effects e) → (with_effect c.effects e ≡ [] → SeenIn (K.queue_of s ∷ st.ms) (λ m. IsRightAt m c.call y))
+    → SharedCall (cap_of K) (view_before c) (view_of (known_after h e k)) c.call y
+own_ends {T} K r s h e who k c y seen legal state st may tells right = subst (λ (z : Known T). SharedCall (cap_of K) (view_before c) (view_of z) c.call y) (sym knows) made
   where
     from : IsPrefix c.since h
     from = prefix_trans c.since k.seen h st.since seen
 
-    knows : known_after h e k ≡ party (Some cap) (grown h e) (c.before ++ with_place c.places e (length h)) c.share
-    knows = knows_after cap h e k c.before c.places c.share st.knows
+    knows : known_after h e k ≡ party (cap_of K) (grown h e) (c.before ++ with_place c.places e (length h)) c.share
+    knows = knows_after (cap_of K) h e k c.before c.places c.share st.knows
 
     stand : StandAt (grown h e) (length c.since) (with_place c.places e (length h)) (with_effect c.effects e)
     stand = stand_after h e (length c.since) c.places c.effects (prefix_length c.since h from) st.stand
 
-    made : SharedCall (Some cap) (view_before c) (view_of (party (Some cap) (grown h e) (c.before ++ with_place c.places e (length h)) c.share)) c.call y
+    made : SharedCall (cap_of K) (view_before c) (view_of (party (cap_of K) (grown h e) (c.before ++ with_place c.places e (length h)) c.share)) c.call y
     made = record {
       begins = grown_more c.since h e from;
       legal = legal;
@@ -313,9 +305,9 @@ own_ends {T} cap r s h e who k c y seen legal state st may tells right = subst (
       stand = stand;
       mine = refl;
       share = refl;
-      right = λ none. between (Some cap) c.since (grown h e) (queue_of cap s ∷ st.ms) c.call y
-          (moment_now (Some cap) c.since (grown h e) (queue_of cap s) (grown_more c.since h e from) state, moments_later (Some cap) c.since h (grown h e) st.ms (grown_more h h e (prefix_self h)) st.moments) (right none);
-      displaces = displaces (Some cap) c.since (grown h e) (st.was || not s.closed) (length c.since) c.call y (with_effect c.effects e) (with_place c.places e (length h)) tells stand
-          (opened_after (Some cap) c.since h e st.was s.closed (length c.since) c.effects c.places from (ap (λ q. q.closed) (sym state)) may st.stand st.opened)
+      right = λ none. between (cap_of K) c.since (grown h e) (K.queue_of s ∷ st.ms) c.call y
+          (moment_now (cap_of K) c.since (grown h e) (K.queue_of s) (grown_more c.since h e from) state, moments_later (cap_of K) c.since h (grown h e) st.ms (grown_more h h e (prefix_self h)) st.moments) (right none);
+      displaces = displaces (cap_of K) c.since (grown h e) (st.was || not (K.queue_of s).closed) (length c.since) c.call y (with_effect c.effects e) (with_place c.places e (length h)) tells stand
+          (opened_after (cap_of K) c.since h e st.was (K.queue_of s).closed (length c.since) c.effects c.places from (ap (λ q. q.closed) (sym state)) may st.stand st.opened)
           (waits_after h e (length c.since) c.effects c.places st.stand st.waits);
     }

@@ -14,7 +14,8 @@ use Rattle.ring_laws.proofs.RingCells.{Free, Ring}
 use Rattle.concurrent_queue.specs.declared.known.Doing.{Doing}
 use Rattle.concurrent_queue.specs.Known.{party}
 use Rattle.concurrent_queue.specs.Seats.{idle, is_busy}
-use Rattle.concurrent_queue.specs.RingRule.{OneRing}
+use Rattle.concurrent_queue.specs.TableRule.{Rule}
+use Rattle.concurrent_queue.specs.RingTable.{ring_table}
 use Rattle.concurrent_queue.specs.RingOpening.{numbers_below, first_words}
 use Rattle.concurrent_queue.proofs.FirstParty.{first_rests, first_kept}
 
@@ -51,25 +52,28 @@ module _ (T : Type 0) (cap : ℕ) where
   abbrev pub seat : Doing T
   seat = idle (party (Some cap) [] [] entire)
 
-  pub ring_opens : IsRing cap → OneRing cap (opening (first_words cap) (replicate cap None) seat)
+  pub ring_opens : IsRing cap → Rule (ring_table cap) (opening (first_words cap) (replicate cap None) seat)
   ring_opens ring = record {
-    ring = opening_ring T;
-    shared = record { head = 0; tail = 0; stamps = numbers_below cap; slots = replicate cap None };
+    cells = opening_ring T;
+    words = 0 ∷ 0 ∷ numbers_below cap;
     history = [];
     ok = record { ring = ring; count = refl; room = omega arith; most = omega arith; cell = λ i lt. (mod-eq_of_lt lt, omega arith, omega arith); comes = λ v e. cc };
-    codes = record {
-      head = refl;
-      tail = refl;
-      stamped = count_below cap;
-      slotted = length-replicate cap None;
-      stamp = λ i lt. number_at cap i lt;
-      slot = λ i lt. get_or-replicate cap i None None lt;
-    };
-    words = refl;
-    homes = (homes_long cap None, λ i lt. homes_at cap i None lt);
+    counted = refl;
+    coded = (
+      record { head = 0; tail = 0; stamps = numbers_below cap; slots = replicate cap None },
+      record {
+        head = refl;
+        tail = refl;
+        stamped = count_below cap;
+        slotted = length-replicate cap None;
+        stamp = λ i lt. number_at cap i lt;
+        slot = λ i lt. get_or-replicate cap i None None lt;
+      },
+      refl,
+      (homes_long cap None, λ i lt. homes_at cap i None lt),
+    );
     state = refl;
     calls = λ j d c e is. absurd (first_rests (Some cap) j d e (ap is_busy is));
-    ringed = λ j d x e is. absurd (first_rests (Some cap) j d e (ap is_busy is));
     free = λ j none. λ k e. cc;
     kept = first_kept (Some cap);
   }

@@ -1,6 +1,7 @@
 -- What is left of a shared ring that its only party ended is a ring with one owner, in the state after the history.
 use Rattle.std.proofs.Common.{◌≡◌, ℕ, zero, suc, ◌+◌, ◌-◌, ◌%◌, ◌<◌, ◌≤◌, List, [], ◌∷◌, length, get_or, Option, Some, None, inr, refl, ap, sym, ◌∙◌, subst, arith, slice_get}
 use mathlib.Core.Option.{some, some-injective, some-ne-none}
+use mathlib.Core.Option as maybe
 use lib.ListN.{get_elem?}
 use Rattle.atomic_table.specs.Table.{Final, Seen}
 use Rattle.queue_steps.specs.State.{State}
@@ -9,21 +10,26 @@ use Rattle.queue_steps.specs.Legal.{IsShown}
 use Rattle.queue_steps.specs.Words.{position_of, is_shut, stamp_free, stamp_filled}
 use Rattle.queue_steps.specs.Parties.{IsWhole}
 use Rattle.queue_laws.proofs.Tails.{position_tail, shut_tail}
-use Rattle.ring_laws.proofs.RingCells.{Ring, queue_of, RingOk}
+use Rattle.ring_laws.proofs.RingCells.{Ring, queue_of, RingOk, owner}
 use Rattle.ring_laws.proofs.RingShared.{Shared}
 use Rattle.ring_laws.proofs.RingTransitions.{in_ring}
-use Rattle.ring_laws.proofs.RingWords.{Codes}
-use Rattle.ring_laws.proofs.RingIdle.{AtRest}
+use Rattle.ring_laws.proofs.RingWords.{Codes, item_in}
+use Rattle.ring_laws.proofs.RingIdle.{NobodyHolds, AtRest, at_rest}
 use Rattle.concurrent_queue.specs.declared.known.Doing.{Doing}
 use Rattle.concurrent_queue.specs.Known.{view_of}
 use Rattle.concurrent_queue.specs.Seats.{count_of, IsAlone}
-use Rattle.concurrent_queue.specs.RingRule.{words_of, OneRing}
+use Rattle.concurrent_queue.specs.TableRule.{Rule}
+use Rattle.concurrent_queue.specs.RingTable.{home_when, Homes, ring_words, ring_table}
 use Rattle.concurrent_queue.specs.declared.bounded.RingSlot.{RingSlot}
 use Rattle.concurrent_queue.specs.RingCells.{slot_in}
 use Rattle.concurrent_queue.specs.RingKeeps.{at_position, Holds, put_in, items_of}
 use Rattle.concurrent_queue.specs.RingOwned.{IsIdle, ring_queue}
 use Rattle.concurrent_queue.specs.KeptRings.{paired, ring_in}
-use Rattle.concurrent_queue.proofs.RingRests.{ring_ends}
+use Rattle.concurrent_queue.proofs.TableRests.{table_ends}
+
+none_if : {X : Type 0} (o : Option X) → ((x : X) → o ≡ Some x → ⊥) → o ≡ None
+none_if None never = refl
+none_if (Some x) never = absurd (never x refl)
 
 module _ {T : Type 0} where
   pub length_paired : (ss : List ℕ) (xs : List (Option T)) (n : ℕ) → length ss ≡ n → length xs ≡ n → length (paired ss xs) ≡ n
@@ -99,14 +105,14 @@ module _ {T : Type 0} where
         let back : r.head + i - r.head ≡ i = omega arith in
         (f.0, ap (λ (z : RingSlot T). z.item) f.1, ap (slice_get r.items) (sym back) ∙ f.2))
 
-    pub owned_idle : IsIdle (ring_in cap (words_of n s) xs)
+    pub owned_idle : IsIdle (ring_in cap (n ∷ ring_words s) xs)
     owned_idle = record {
       ring = ok.ring;
       below = let m = ok.most in omega (arith, tail_is, m);
       holds = subst (λ (z : ℕ × ℕ). Holds cap z.0 z.1 slots) (λ i. (sym codes.head i, sym tail_is i)) holds;
     }
 
-    pub owned_shown : IsShown (ring_queue (ring_in cap (words_of n s) xs)) (queue_of cap r)
+    pub owned_shown : IsShown (ring_queue (ring_in cap (n ∷ ring_words s) xs)) (queue_of cap r)
     owned_shown = record {
       items = (λ i. items_of cap slots (codes.head i) (tail_is i - codes.head i)) ∙ items;
       cap = refl;
@@ -115,17 +121,24 @@ module _ {T : Type 0} where
       accepted = inr tail_is;
     }
 
+  -- where nobody has a slot all are at home
+  all_home : (cap : ℕ) (r : Ring T) (s : Shared T) (hs : List (maybe.Option (Option T))) → Codes cap r s → Homes cap r hs → NobodyHolds r → (i : ℕ) → i < cap → get_elem? hs i ≡ some (some (get_or s.slots i None))
+  all_home cap r s hs codes homes nobody i lt =
+      homes.1 i lt ∙ (ap (λ o. some (home_when o (item_in (r.cells i)))) (none_if (owner (r.cells i)) (λ who e. nobody who i e)) ∙ ap (λ (o : Option T). some (some o)) (sym (codes.slot i lt)))
+
   -- the end: the only party has every place, no call is on its way, and the words and slots are those of a ring with one owner after what the party has seen
-  pub ring_finishes : (cap id : ℕ) (d : Doing T) (ws : List ℕ) (xs : List (Option T)) → IsAlone d → Final (Seen (OneRing cap) id d) ws xs
+  pub ring_finishes : (cap id : ℕ) (d : Doing T) (ws : List ℕ) (xs : List (Option T)) → IsAlone d → Final (Seen (Rule (ring_table cap)) id d) ws xs
       → IsIdle (ring_in cap ws xs) × IsShown (ring_queue (ring_in cap ws xs)) (after (Some cap) d.known.seen) × IsWhole (view_of d.known)
   ring_finishes cap id d ws xs is end =
-      let s = end.0 in let rule : OneRing cap s = end.1.0 in
-      let e = ring_ends cap s id d rule end.1.1 is in
-      let long : length xs ≡ cap = sym end.3 ∙ rule.homes.0 in
-      let lies : (i : ℕ) → i < cap → get_or xs i None ≡ get_or rule.shared.slots i None = λ i lt. at_or xs i (get_or rule.shared.slots i None) (end.4 i (get_or rule.shared.slots i None) (e.homes i lt)) in
-      let words : words_of (count_of s) rule.shared ≡ ws = sym rule.words ∙ end.2 in
-      let state : queue_of cap rule.ring ≡ after (Some cap) d.known.seen = rule.state ∙ ap (after (Some cap)) (sym e.seen) in (
-        subst (λ (z : List ℕ). IsIdle (ring_in cap z xs)) words (owned_idle cap rule.ring rule.shared (count_of s) xs rule.ok rule.codes e.rest long lies),
-        subst (λ (z : List ℕ × State T). IsShown (ring_queue (ring_in cap z.0 xs)) z.1) (λ i. (words i, state i)) (owned_shown cap rule.ring rule.shared (count_of s) xs rule.ok rule.codes e.rest long lies),
+      let s = end.0 in let rule : Rule (ring_table cap) s = end.1.0 in let r : Ring T = rule.cells in
+      let shared : Shared T = rule.coded.0 in let codes : Codes cap r shared = rule.coded.1 in let homes : Homes cap r s.homes = rule.coded.3 in
+      let e = table_ends (ring_table cap) s id d rule end.1.1 is in
+      let rest : AtRest cap r shared = at_rest cap r shared rule.ok codes e.nobody in
+      let long : length xs ≡ cap = sym end.3 ∙ homes.0 in
+      let lies : (i : ℕ) → i < cap → get_or xs i None ≡ get_or shared.slots i None = λ i lt. at_or xs i (get_or shared.slots i None) (end.4 i (get_or shared.slots i None) (all_home cap r shared s.homes codes homes e.nobody i lt)) in
+      let words : count_of s ∷ ring_words shared ≡ ws = ap (λ y. count_of s ∷ y) (sym rule.coded.2) ∙ (sym rule.counted ∙ end.2) in
+      let state : queue_of cap r ≡ after (Some cap) d.known.seen = rule.state ∙ ap (after (Some cap)) (sym e.seen) in (
+        subst (λ (z : List ℕ). IsIdle (ring_in cap z xs)) words (owned_idle cap r shared (count_of s) xs rule.ok codes rest long lies),
+        subst (λ (z : List ℕ × State T). IsShown (ring_queue (ring_in cap z.0 xs)) z.1) (λ i. (words i, state i)) (owned_shown cap r shared (count_of s) xs rule.ok codes rest long lies),
         e.whole,
       )

@@ -1,5 +1,5 @@
 -- A party's seat at the table of a shared queue: between calls, where a slot is touched, and when a call ended.
-use Rattle.std.specs.Prelude.{◌≡◌, ℕ, List, [], ◌∷◌, Option, Some}
+use Rattle.std.specs.Prelude.{◌≡◌, ℕ, List, [], ◌∷◌, Option}
 use Rattle.std.proofs.Common.{ap, sym, ◌∙◌}
 use Rattle.atomic_table.specs.Table.{rest}
 use Rattle.atomic_table.specs.Seated.{TableId}
@@ -43,9 +43,9 @@ abbrev pub OwnsAll : {T : Type 0} → Seated T → Type 0
 OwnsAll m = IsEntire m.0.known.share → IsWhole (view_at m)
 
 -- the seat of a party of the queue of this capacity at the table t, between its calls
-abbrev pub IsAt : {T : Type 0} → ℕ → TableId → Place T → Type 0
-IsAt cap t p = (p.0 ≡ t) × Rests p.1 × (p.1.0.known.cap ≡ Some cap) × IsHistory (Some cap) p.1.0.known.seen × OwnsAll p.1
+abbrev pub IsAt : {T : Type 0} → Option ℕ → TableId → Place T → Type 0
+IsAt cap t p = (p.0 ≡ t) × Rests p.1 × (p.1.0.known.cap ≡ cap) × IsHistory cap p.1.0.known.seen × OwnsAll p.1
 
 -- the call that began at the place p ended at q
-abbrev pub Ended : {T : Type 0} → ℕ → TableId → Place T → Call T → Reply T → Place T → Type 0
-Ended cap t p c r q = IsAt cap t q × SharedCall (Some cap) (view_at p.1) (view_at q.1) c r
+abbrev pub Ended : {T : Type 0} → Option ℕ → TableId → Place T → Call T → Reply T → Place T → Type 0
+Ended cap t p c r q = IsAt cap t q × SharedCall cap (view_at p.1) (view_at q.1) c r

@@ -20,10 +20,9 @@ Table T = State (Option T) (Doing T)
 abbrev pub Seated : Type 0 → Type 0
 Seated T = Me (Option T) (Doing T)
 
--- a call is on its way at this seat, between its effect and its end
+-- a call is on its way at this seat, between two of its steps
 abbrev pub is_busy : {T : Type 0} → Work T → Bool
 is_busy work.Nothing = false
-is_busy (work.HoldsSlot x) = true
 is_busy (work.Calls c) = true
 
 abbrev pub known_by : {T : Type 0} → Doing T → Known T

@@ -19,7 +19,7 @@ pub struct Known<T> {
     pub other: (usize, usize),
 }
 
-/// A call on a ring on its way, between two of its steps: the step that it does next and what it carries, its effects and their places so far, what its party had
+/// A call on its way, between two of its steps: the step that it does next and what it carries, its effects and their places so far, what its party had
 /// seen and done when it began, its party's share, and the slots that it has.
 pub struct InCall<T> {
     pub call: Call<T>,
@@ -35,10 +35,9 @@ pub struct InCall<T> {
     pub lends: LinkedList<(usize, Option<T>)>,
 }
 
-/// What a seat is at: no call is on its way; or the seat holds the one slot, which has this content once it goes back; or a call on a ring is on its way.
+/// What a seat is at: nothing, or a call on its way.
 pub enum Work<T> {
     Nothing,
-    HoldsSlot(Option<T>),
     Calls(InCall<T>),
 }
 

@@ -15,6 +15,7 @@ mod ring;
 pub mod shared;
 mod single;
 mod slot;
+mod table;
 mod touching;
 mod turns;
 mod unbounded;

@@ -12,8 +12,9 @@ use crate::exclusive::Exclusive;
 use crate::gate::{Gate, Open};
 pub use crate::party::Party;
 use crate::party::{is_only, join, meet, split};
-use crate::ring::SharedRing;
-use crate::slot::SharedSlot;
+use crate::ring::{Rings, end_ring, open_ring};
+use crate::slot::{Slots, end_slot, open_slot};
+use crate::table::SharedTable;
 use crate::turns::{drive, drive_promptly};
 use queue_steps::errors::{ForcePushError, PopError, PushError};
 use queue_steps::model::{Call, Reply};
@@ -34,9 +35,9 @@ pub struct ConcurrentQueue<T, A: Allocator = Global> {
 #[derive(Drop)]
 enum Form<T, A: Allocator> {
     /// One slot.
-    Single(SharedSlot<T, A>),
+    Single(SharedTable<T, Slots, A>),
     /// A ring of slots.
-    Ring(SharedRing<T, A>),
+    Ring(SharedTable<T, Rings, A>),
 }
 
 impl<T, A: Allocator> Model for ConcurrentQueue<T, A> {
@@ -61,10 +62,10 @@ impl<T, A: Allocator + Clone> ConcurrentQueue<T, A> {
         ensures limited { MAX_CAPACITY < cap → IsErr result }
     {
         let (form, seat) = if cap == 1 {
-            let (slot, seat) = SharedSlot::new(alloc)?;
+            let (slot, seat) = open_slot(alloc)?;
             (Form::Single(slot), seat)
         } else {
-            let (ring, seat) = SharedRing::new(alloc, cap)?;
+            let (ring, seat) = open_ring(alloc, cap)?;
             (Form::Ring(ring), seat)
         };
         Ok((ConcurrentQueue { form }, Party { seat }))
@@ -251,7 +252,7 @@ impl<T, A: Allocator> ConcurrentQueue<T, A> {
     {
         match &self.form {
             Form::Single(_) => Some(1),
-            Form::Ring(ring) => Some(ring.capacity()),
+            Form::Ring(ring) => Some(ring.slots()),
         }
     }
 
@@ -269,7 +270,7 @@ impl<T, A: Allocator> ConcurrentQueue<T, A> {
         match form {
             Form::Single(slot) => {
                 if is_only(&slot.table.shared, &mut seat) {
-                    return Ok(Exclusive::of_single(slot.into_single(seat)));
+                    return Ok(Exclusive::of_single(end_slot(slot, seat)));
                 }
                 Err((
                     ConcurrentQueue {
@@ -280,7 +281,7 @@ impl<T, A: Allocator> ConcurrentQueue<T, A> {
             }
             Form::Ring(ring) => {
                 if is_only(&ring.table.shared, &mut seat) {
-                    return Ok(ring.into_owned(seat));
+                    return Ok(end_ring(ring, seat));
                 }
                 Err((
                     ConcurrentQueue {

@@ -1,8 +1,11 @@
--- What a step does to the queue.
-use Rattle.std.proofs.Common.{◌≡◌, Bool, true, false, Option, Some, None, List, [], ◌∷◌, ◌++◌}
+-- What a step does to the queue, and what it touches.
+use Rattle.std.proofs.Common.{◌≡◌, ℕ, Bool, true, false, Option, Some, None, List, [], ◌∷◌, ◌++◌}
 use Rattle.queue_steps.specs.State.{State}
 use Rattle.queue_steps.specs.Effect.{Fits, made}
 use Rattle.queue_steps.specs.declared.model.Effect.{Effect}
+use Rattle.queue_steps.specs.declared.model.Effect.TheVariants as effect
+use Rattle.queue_steps.specs.declared.steps.types.Touch.{Touch}
+use Rattle.queue_steps.specs.declared.steps.types.Touch.TheVariants as touch
 
 -- the step has no effect and leaves the queue, or has this effect, which fits there
 abbrev pub Leads : {A : Type 0} → State A → Option (Effect A) → State A → Type 0
@@ -18,3 +21,15 @@ with_effect es (Some e) = es ++ e ∷ []
 abbrev pub Whether : Bool → Type 0 → Type 0 → Type 0
 Whether true P Q = P
 Whether false P Q = Q
+
+-- the call has taken the front off, and its own item has not arrived
+abbrev pub IsBetween : {A : Type 0} → List (Effect A) → Type 0
+IsBetween (effect.Front old v ∷ []) = Unit {0}
+IsBetween _ = ⊥
+
+-- the touch is one of the slot i
+abbrev pub Touches : Touch → ℕ → Type 0
+Touches touch.Nothing i = ⊥
+Touches (touch.Put k) i = k ≡ i
+Touches (touch.Swap k) i = k ≡ i
+Touches (touch.Take k) i = k ≡ i

@@ -3,16 +3,10 @@ use Rattle.std.proofs.Common.{ℕ, ◌<◌, ◌≡◌, ◌≢◌, ◌∙◌, Opt
 use Rattle.queue_steps.specs.declared.steps.types.Touch.{Touch}
 use Rattle.queue_steps.specs.declared.steps.types.Touch.TheVariants as touch
 use Rattle.queue_laws.proofs.Puts.{put}
+use Rattle.queue_laws.proofs.Effects.{Touches}
 use Rattle.ring_laws.proofs.RingCells.{Cell, Ring, owner, HoldsNone}
 use Rattle.ring_laws.proofs.RingPasses.{Passes, none_stays}
 use Rattle.ring_laws.proofs.RingWords.{item_in}
-
--- the touch is one of the slot i
-abbrev pub Touches : Touch → ℕ → Type 0
-Touches touch.Nothing i = ⊥
-Touches (touch.Put k) i = k ≡ i
-Touches (touch.Swap k) i = k ≡ i
-Touches (touch.Take k) i = k ≡ i
 
 -- What a step with this touch does to the slots, where v is carried: nothing; it claims one that is nobody's; it goes on with its own; it gives its own back with v
 pub data Shift {A : Type 0} (cap who : ℕ) (r s : Ring A) (t : Touch) (v : Option A) : Type 0 where

@@ -3,3 +3,4 @@ pub mod SlotRows
 pub mod SlotSteps
 pub mod SlotRanks
 pub mod SlotHolder
+pub mod SlotCells

@@ -5,12 +5,12 @@ use Rattle.concurrent_queue.proofs.shared.ConcurrentQueue.answer_promptly.Goals 
 pub invariant_of-party : goal.invariant_of-party
 invariant_of-party g c =
     let s = c.party.inside.seat in let s' = c.drive_promptly.new.seat in
-    ended_person _ 1 _ (s.table_id, s.me) (s'.table_id, s'.me) c.args.call c.drive_promptly.result c.party.invariant c.drive_promptly.ensures
+    ended_person _ _ _ (s.table_id, s.me) (s'.table_id, s'.me) c.args.call c.drive_promptly.result c.party.invariant c.drive_promptly.ensures
 
 pub returns-in-Single : goal.returns-in-Single
 returns-in-Single g c =
     let s = c.party.inside.seat in let s' = c.drive_promptly.new.seat in
-    ended_calls _ 1 _ (s.table_id, s.me) (s'.table_id, s'.me) c.args.party.now c.args.call c.drive_promptly.result c.party.view_is (search rules) (search rules) c.party.invariant c.drive_promptly.ensures
+    ended_calls _ _ _ (s.table_id, s.me) (s'.table_id, s'.me) c.args.party.now c.args.call c.drive_promptly.result c.party.view_is (search rules) (search rules) c.party.invariant c.drive_promptly.ensures
 
 pub invariant_of-party-in-Ring : goal.invariant_of-party-in-Ring
 invariant_of-party-in-Ring g c =

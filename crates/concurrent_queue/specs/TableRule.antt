@@ -1,0 +1,125 @@
+-- The rule of a queue that parties share over a table, whatever its kind: the first word counts the parties, the other words and the slots are the kind's.
+use Rattle.std.specs.Prelude.{◌≡◌, ℕ, ◌+◌, ◌%◌, ◌^◌, ◌<◌, ◌==◌, ◌||◌, not, Bool, true, false, List, [], ◌∷◌, map, Option, bit_and, bit_or, slice_index_or, slice_set}
+use mathlib.Core.Option.{some}
+use mathlib.Core.Option as maybe
+use lib.ListN.{get_elem?}
+use prog.Atomic.{either}
+use Rattle.atomic_table.specs.Table.{Act, Valid, carried_after, homes_after}
+use Rattle.queue_steps.specs.declared.model.Call.{Call}
+use Rattle.queue_steps.specs.declared.model.Effect.{Effect}
+use Rattle.queue_steps.specs.declared.steps.types.Answer.{Answer}
+use Rattle.queue_steps.specs.declared.steps.types.Answer.TheVariants as answer
+use Rattle.queue_steps.specs.declared.steps.types.Local.{Local}
+use Rattle.queue_steps.specs.declared.steps.types.Op.{Op}
+use Rattle.queue_steps.specs.declared.steps.types.Op.TheVariants as op
+use Rattle.queue_steps.specs.declared.steps.types.Touch.{Touch}
+use Rattle.queue_steps.specs.declared.steps.types.Word.{Word}
+use Rattle.queue_steps.specs.declared.steps.types.Word.TheVariants as word
+use Rattle.queue_steps.specs.Effect.{after}
+use Rattle.queue_steps.specs.Kinds.{call_kind}
+use Rattle.queue_steps.specs.Next.{CanNext, first_local, next_of}
+use Rattle.queue_steps.specs.Prompt.{is_prompt, EndsPromptly}
+use Rattle.queue_steps.specs.State.{State}
+use Rattle.queue_laws.proofs.Effects.{Leads, with_effect}
+use Rattle.concurrent_queue.specs.declared.known.Doing.{Doing}
+use Rattle.concurrent_queue.specs.declared.known.InCall.{InCall}
+use Rattle.concurrent_queue.specs.declared.known.Work.TheVariants as work
+use Rattle.concurrent_queue.specs.Known.{Kept}
+use Rattle.concurrent_queue.specs.Seats.{Table, count_of, is_busy, known_by}
+use Rattle.concurrent_queue.specs.Calling.{CallsOf, CallLaws, cap_of, Standing, touched_list, handed_by, MayFront, Goes, first_of, Opens}
+
+-- A kind of queue in a table: how many words there are, which of the steps' words it has and where, and how the words behind the count and the slots at home
+-- stand for its cells
+pub record TableOf (T : Type 0) : Type 1 where
+  pub calls : CallsOf T
+  pub words : ℕ
+  pub HasWord : Word ℕ → Type 0
+  pub place : Word ℕ → ℕ
+  pub Coded : calls.Cells → List ℕ → List (maybe.Option (Option T)) → Type 0
+
+-- There are cells, in the state after the one history, for which the words and the slots stand. Each call stands at them where the laws of its kind have it,
+-- and whoever is at nothing has no slot
+pub record Rule {T : Type 0} (K : TableOf T) (s : Table T) : Type 0 where
+  pub cells : K.calls.Cells
+  pub words : List ℕ
+  pub history : List (Effect T)
+  pub ok : K.calls.Ok cells
+  pub counted : s.words ≡ count_of s ∷ words
+  pub coded : K.Coded cells words s.homes
+  pub state : K.calls.queue_of cells ≡ after (cap_of K.calls) history
+  pub calls : (j : ℕ) (d : Doing T) (c : InCall T) → get_elem? s.views j ≡ some d → d.work ≡ work.Calls c → Standing K.calls cells history j d.known c
+  pub free : (j : ℕ) → ((d : Doing T) → get_elem? s.views j ≡ some d → is_busy d.work ≡ false) → K.calls.Lent cells j []
+  pub kept : Kept (cap_of K.calls) history (count_of s) (map known_by s.views)
+
+-- the word that an operation is on
+abbrev pub op_word : Op ℕ → Word ℕ
+op_word (op.Load w) = w
+op_word (op.Store w x) = w
+op_word (op.Add w x) = w
+op_word (op.Or w x) = w
+op_word (op.And w x) = w
+op_word (op.Exchange w a b) = w
+op_word _ = word.Lock
+
+-- what the operation makes of the word
+abbrev pub op_makes : Op ℕ → ℕ → ℕ
+op_makes (op.Load w) n = n
+op_makes (op.Store w x) n = x
+op_makes (op.Add w x) n = (n + x) % 2 ^ 64
+op_makes (op.Or w x) n = bit_or n x
+op_makes (op.And w x) n = bit_and n x
+op_makes (op.Exchange w a b) n = either (n == a) b n
+op_makes _ n = n
+
+-- what it answers where it found n
+abbrev pub answer_for : Op ℕ → ℕ → Answer ℕ
+answer_for (op.Store w x) n = answer.Done
+answer_for _ n = answer.Found n
+
+-- the operation is one on a word that the table has
+abbrev pub InTable : {T : Type 0} → TableOf T → Op ℕ → Type 0
+InTable K (op.Load w) = K.HasWord w
+InTable K (op.Store w x) = K.HasWord w
+InTable K (op.Add w x) = K.HasWord w
+InTable K (op.Or w x) = K.HasWord w
+InTable K (op.And w x) = K.HasWord w
+InTable K (op.Exchange w a b) = K.HasWord w
+InTable K _ = ⊥
+
+-- what the operation o finds in these words
+abbrev pub found_by : {T : Type 0} → TableOf T → Op ℕ → List ℕ → ℕ
+found_by K o ws = slice_index_or ws (K.place (op_word o)) 0
+
+-- What the next step of a call of the party who does at these cells, for which the words ws, of them n counts the parties, and the homes hs stand: an effect at
+-- most, an act on the slots, of which the party has xs, and cells that are right again, at which the call goes on or ends
+pub record Stepped {T : Type 0} (K : TableOf T) (g : K.calls.Cells) (who n : ℕ) (ws : List ℕ) (hs : List (maybe.Option (Option T))) (ms : List (State T)) (was : Bool) (l : Local ℕ) (t : Touch) (o : Op ℕ) (v : Option T) (k : Call T) (es : List (Effect T)) (xs : List (ℕ × Option T)) : Type 0 where
+  pub after : K.calls.Cells
+  pub words : List ℕ
+  pub effect : Option (Effect T)
+  pub act : Act (Option T)
+  pub can_next : CanNext K.calls.kind l (answer_for o (found_by K o (n ∷ ws)))
+  pub ok : K.calls.Ok after
+  pub written : slice_set (n ∷ ws) (K.place (op_word o)) (op_makes o (found_by K o (n ∷ ws))) ≡ n ∷ words
+  pub valid : Valid hs (touched_list t v xs) act
+  pub coded : K.Coded after words (homes_after hs (touched_list t v xs) act)
+  pub lent : K.calls.Lent after who (carried_after (touched_list t v xs) act)
+  pub front : MayFront effect was
+  pub makes : Leads (K.calls.queue_of g) effect (K.calls.queue_of after)
+  pub passes : K.calls.Passes who g after
+  pub goes : Goes K.calls after who (K.calls.queue_of after ∷ ms) (was || not (K.calls.queue_of after).closed)
+      (next_of K.calls.kind l (answer_for o (found_by K o (n ∷ ws)))) (handed_by t v xs) k (with_effect es effect)
+
+-- the first step of a call is on a word of the table
+abbrev pub OpensIn : {T : Type 0} → TableOf T → Call T → Type 0
+OpensIn K c = CanNext K.calls.kind (first_local {B = ℕ} (call_kind c)) answer.Start × Opens K.calls (InTable K) c (first_of K.calls.kind c)
+
+-- what a kind owes of its table
+pub record TableLaws {T : Type 0} (K : TableOf T) : Type 0 where
+  pub calls : CallLaws K.calls
+  pub below : (w : Word ℕ) → K.HasWord w → K.place w < K.words
+  pub at_word : (g : K.calls.Cells) (j : ℕ) (ms : List (State T)) (was : Bool) (l : Local ℕ) (t : Touch) (o : Op ℕ) (v : Option T) (k : Call T) (es : List (Effect T))
+      → K.calls.Ok g → K.calls.At g j ms was l t o v k es → InTable K o
+  pub steps : (g : K.calls.Cells) (who n : ℕ) (ws : List ℕ) (hs : List (maybe.Option (Option T))) (ms : List (State T)) (was : Bool) (l : Local ℕ) (t : Touch) (o : Op ℕ) (v : Option T) (k : Call T) (es : List (Effect T)) (xs : List (ℕ × Option T))
+      → K.calls.Ok g → K.Coded g ws hs → K.calls.At g who ms was l t o v k es → K.calls.Lent g who xs → Stepped K g who n ws hs ms was l t o v k es xs
+  pub opens : (c : Call T) → OpensIn K c
+  pub prompt : (c : Call T) → is_prompt c ≡ true → EndsPromptly ℕ K.calls.kind (call_kind c)
