@@ -1,18 +1,7 @@
-pub mod Goings
-pub mod Watching
-pub mod Slots
-pub mod Openings
-pub mod Pieces
-pub mod Linked
-pub mod Layings
-pub mod LineBegins
-pub mod Pops
-mod Soundness
 mod Totals
 mod Keeping
 mod Leading
 mod Alone
-mod Answered
 mod Crowds
 mod Meetings
 mod FirstParty
@@ -21,7 +10,6 @@ mod SlotRule
 mod Views
 mod SlotOperations
 mod SlotEnding
-pub mod KeptWords
 mod Callings
 mod Owns
 mod TableSteps

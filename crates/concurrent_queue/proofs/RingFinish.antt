@@ -18,11 +18,11 @@ use Rattle.concurrent_queue.specs.declared.known.Doing.{Doing}
 use Rattle.concurrent_queue.specs.Known.{view_of}
 use Rattle.concurrent_queue.specs.Seats.{count_of, IsAlone}
 use Rattle.concurrent_queue.specs.RingRule.{words_of, OneRing}
-use Rattle.concurrent_queue.specs.declared.bounded.RingSlot.{RingSlot}
-use Rattle.concurrent_queue.specs.RingCells.{slot_in}
-use Rattle.concurrent_queue.specs.RingKeeps.{at_position, Holds, put_in, items_of}
-use Rattle.concurrent_queue.specs.RingOwned.{IsIdle, ring_queue}
-use Rattle.concurrent_queue.specs.KeptRings.{paired, ring_in}
+use Rattle.exclusive_queue.specs.declared.bounded.RingSlot.{RingSlot}
+use Rattle.exclusive_queue.specs.RingCells.{slot_in}
+use Rattle.exclusive_queue.specs.RingKeeps.{at_position, Holds, put_in, items_of}
+use Rattle.exclusive_queue.specs.RingOwned.{IsIdle, ring_queue}
+use Rattle.exclusive_queue.specs.KeptRings.{paired, ring_in}
 use Rattle.concurrent_queue.proofs.RingRests.{ring_ends}
 
 module _ {T : Type 0} where

@@ -16,7 +16,7 @@ use Rattle.concurrent_queue.specs.declared.known.Doing.{Doing}
 use Rattle.concurrent_queue.specs.Known.{view_of}
 use Rattle.concurrent_queue.specs.Seats.{is_busy, known_by, IsAlone}
 use Rattle.concurrent_queue.specs.OneSlot.{word_of, lock_word, is_out, slot_state, IsSingle, OneSlot, first_seat}
-use Rattle.concurrent_queue.specs.SingleCells.{items_in, state_of, word_for}
+use Rattle.exclusive_queue.specs.SingleCells.{items_in, state_of, word_for}
 use Rattle.concurrent_queue.proofs.FirstParty.{first_rests, first_kept}
 use Rattle.concurrent_queue.proofs.Alone.{alone}
 

@@ -13,12 +13,12 @@ ghost use Rattle.ring_laws.proofs.RingStart.{HasPlace, InRing};
 ghost use Rattle.concurrent_queue.specs.RingTurns.{word_index, answer_for, touched_list, Ready, Follows};
 ghost use Rattle.concurrent_queue.specs.RingLeads.{CanOperate, call_at, RingCan, RingDoes};
 
-use crate::exclusive::Exclusive;
 use crate::known::Doing;
 use crate::party::PartyRule;
 use crate::touching::touch;
 use crate::turns::Turns;
 use atomic_table::{Play, Seat, Table, TableRule};
+use exclusive_queue::Exclusive;
 use queue_steps::model::CallKind;
 use queue_steps::sizes::MAX_CAPACITY;
 use queue_steps::steps::{self, Answer, Kind, Local, Next, Op, Touch, Word};

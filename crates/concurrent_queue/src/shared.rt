@@ -8,13 +8,13 @@ ghost use Rattle.queue_steps.specs.Prompt.{is_prompt};
 ghost use Rattle.queue_steps.specs.Shares.{entire, IsEntire};
 ghost use Rattle.concurrent_queue.specs.Shared.{IsPartyOf, Calls, Parts, Joins, Meets, Finishes};
 
-use crate::exclusive::Exclusive;
 use crate::gate::{Gate, Open};
 pub use crate::party::Party;
 use crate::party::{is_only, join, meet, split};
 use crate::ring::SharedRing;
 use crate::slot::SharedSlot;
 use crate::turns::{drive, drive_promptly};
+use exclusive_queue::Exclusive;
 use queue_steps::errors::{ForcePushError, PopError, PushError};
 use queue_steps::model::{Call, Reply};
 use std::alloc::{AllocError, Allocator, Global};

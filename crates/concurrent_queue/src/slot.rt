@@ -6,15 +6,15 @@ ghost use Rattle.queue_steps.specs.Shares.{entire};
 ghost use Rattle.concurrent_queue.specs.Seats.{idle, IsAlone};
 ghost use Rattle.concurrent_queue.specs.Known.{party, view_of};
 ghost use Rattle.concurrent_queue.specs.OneSlot.{slot_state};
-ghost use Rattle.concurrent_queue.specs.SingleCells.{IsIdle, single_owned};
+ghost use Rattle.exclusive_queue.specs.SingleCells.{IsIdle, single_owned};
 ghost use Rattle.concurrent_queue.specs.SlotTurns.{CanOperate, Operated};
 
 use crate::known::Doing;
 use crate::party::PartyRule;
-use crate::single::Single;
 use crate::touching::touch;
 use crate::turns::Turns;
 use atomic_table::{Play, Seat, Table, TableRule};
+use exclusive_queue::Single;
 use queue_steps::model::CallKind;
 use queue_steps::steps::{self, Answer, Kind, Local, Next, Op, Touch, Word};
 use std::alloc::{AllocError, Allocator};
