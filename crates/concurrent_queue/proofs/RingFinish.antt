@@ -20,11 +20,11 @@ use Rattle.concurrent_queue.specs.Known.{view_of}
 use Rattle.concurrent_queue.specs.Seats.{count_of, IsAlone}
 use Rattle.concurrent_queue.specs.TableRule.{Rule}
 use Rattle.concurrent_queue.specs.RingTable.{home_when, Homes, ring_words, ring_table}
-use Rattle.concurrent_queue.specs.declared.bounded.RingSlot.{RingSlot}
-use Rattle.concurrent_queue.specs.RingCells.{slot_in}
-use Rattle.concurrent_queue.specs.RingKeeps.{at_position, Holds, put_in, items_of}
-use Rattle.concurrent_queue.specs.RingOwned.{IsIdle, ring_queue}
-use Rattle.concurrent_queue.specs.KeptRings.{paired, ring_in}
+use Rattle.exclusive_queue.specs.declared.bounded.RingSlot.{RingSlot}
+use Rattle.exclusive_queue.specs.RingCells.{slot_in}
+use Rattle.exclusive_queue.specs.RingKeeps.{at_position, Holds, put_in, items_of}
+use Rattle.exclusive_queue.specs.RingOwned.{IsIdle, ring_queue}
+use Rattle.exclusive_queue.specs.KeptRings.{paired, ring_in}
 use Rattle.concurrent_queue.proofs.TableRests.{table_ends}
 
 none_if : {X : Type 0} (o : Option X) → ((x : X) → o ≡ Some x → ⊥) → o ≡ None

@@ -15,7 +15,7 @@ use Rattle.slot_laws.proofs.SlotCells.{Slot, queue_of, lent_by, all_nobody}
 use Rattle.concurrent_queue.specs.declared.known.Doing.{Doing}
 use Rattle.concurrent_queue.specs.Known.{party, view_of}
 use Rattle.concurrent_queue.specs.Seats.{idle, is_busy, count_of, IsAlone}
-use Rattle.concurrent_queue.specs.SingleCells.{state_of, word_for}
+use Rattle.exclusive_queue.specs.SingleCells.{state_of, word_for}
 use Rattle.concurrent_queue.specs.TableRule.{Rule}
 use Rattle.concurrent_queue.specs.SlotTable.{home_under, slot_table}
 use Rattle.concurrent_queue.proofs.FirstParty.{first_rests, first_kept}

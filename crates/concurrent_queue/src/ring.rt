@@ -10,10 +10,10 @@ ghost use Rattle.concurrent_queue.specs.Known.{party, view_of};
 ghost use Rattle.concurrent_queue.specs.RingOpening.{first_words};
 ghost use Rattle.concurrent_queue.specs.Seats.{idle, IsAlone};
 
-use crate::exclusive::Exclusive;
 use crate::known::Doing;
 use crate::table::{SharedTable, Sizes, TableKind, TableSteps};
 use atomic_table::{Seat, Table};
+use exclusive_queue::Exclusive;
 use queue_steps::sizes::MAX_CAPACITY;
 use queue_steps::steps::{self, Answer, Kind, Local, Next, Word};
 use std::alloc::{AllocError, Allocator};

@@ -8,7 +8,6 @@ ghost use Rattle.queue_steps.specs.Prompt.{is_prompt};
 ghost use Rattle.queue_steps.specs.Shares.{entire, IsEntire};
 ghost use Rattle.concurrent_queue.specs.Shared.{IsPartyOf, Calls, Parts, Joins, Meets, Finishes};
 
-use crate::exclusive::Exclusive;
 use crate::gate::{Gate, Open};
 pub use crate::party::Party;
 use crate::party::{is_only, join, meet, split};
@@ -16,6 +15,7 @@ use crate::ring::{Rings, end_ring, open_ring};
 use crate::slot::{Slots, end_slot, open_slot};
 use crate::table::SharedTable;
 use crate::turns::{drive, drive_promptly};
+use exclusive_queue::Exclusive;
 use queue_steps::errors::{ForcePushError, PopError, PushError};
 use queue_steps::model::{Call, Reply};
 use std::alloc::{AllocError, Allocator, Global};

@@ -6,12 +6,12 @@ ghost use Rattle.queue_steps.specs.Parties.{IsWhole};
 ghost use Rattle.queue_steps.specs.Shares.{entire};
 ghost use Rattle.concurrent_queue.specs.Known.{party, view_of};
 ghost use Rattle.concurrent_queue.specs.Seats.{idle, IsAlone};
-ghost use Rattle.concurrent_queue.specs.SingleCells.{IsIdle, single_owned};
+ghost use Rattle.exclusive_queue.specs.SingleCells.{IsIdle, single_owned};
 
 use crate::known::Doing;
-use crate::single::Single;
 use crate::table::{SharedTable, Sizes, TableKind, TableSteps};
 use atomic_table::{Seat, Table};
+use exclusive_queue::Single;
 use queue_steps::steps::{self, Answer, Kind, Local, Next, Word};
 use std::alloc::{AllocError, Allocator};
 

@@ -8,9 +8,9 @@ ghost use Rattle.queue_steps.specs.declared.steps.types.Op.TheVariants as op;
 ghost use Rattle.queue_steps.specs.declared.steps.types.Word.TheVariants as word;
 ghost use Rattle.queue_steps.specs.declared.steps.single.SingleLocal.TheVariants as slot;
 
-use concurrent_queue::model::Call;
-use concurrent_queue::steps::{Answer, Kind, Next};
-use concurrent_queue::{Exclusive, PushError, steps};
+use exclusive_queue::model::Call;
+use exclusive_queue::steps::{Answer, Kind, Next};
+use exclusive_queue::{Exclusive, PushError, steps};
 use std::alloc::{AllocError, Allocator};
 
 /// Puts `value` through a queue of one slot, and gives what comes out of it.

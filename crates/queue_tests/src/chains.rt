@@ -1,8 +1,8 @@
 //! Queues without a capacity and with one owner: replies from the table of the abstract queue, the ends of ranges, the blocks that are held, and want of memory.
 use crate::counted::Counted;
 use crate::rows::replies_are;
-use concurrent_queue::Exclusive;
-use concurrent_queue::errors::{ForcePushError, PopError, PushError};
+use exclusive_queue::Exclusive;
+use exclusive_queue::errors::{ForcePushError, PopError, PushError};
 use queue_steps::model::{Call, Reply};
 use queue_steps::sizes::LIMIT;
 use std::alloc::{Allocator, Global};

@@ -1,5 +1,5 @@
 //! The errors: their texts, what they hand back, and when two are equal.
-use concurrent_queue::{ForcePushError, PopError, PushError};
+use exclusive_queue::{ForcePushError, PopError, PushError};
 use std::alloc::{AllocError, Global};
 use std::fmt::{Debug, Display};
 use std::process::Abort;

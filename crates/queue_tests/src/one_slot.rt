@@ -1,6 +1,6 @@
 //! Queues of one slot with one owner: worked examples.
 use crate::rows::replies_are;
-use concurrent_queue::{Exclusive, ForcePushError, PopError, PushError};
+use exclusive_queue::{Exclusive, ForcePushError, PopError, PushError};
 use queue_steps::model::{Call, Reply};
 use std::alloc::AllocError;
 use std::sync::Arc;

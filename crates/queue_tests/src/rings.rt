@@ -1,8 +1,8 @@
 //! Rings with one owner: replies from the table of the abstract queue, the ends of ranges, and want of memory.
 use crate::counted::Counted;
 use crate::rows::{Row, replies_are};
-use concurrent_queue::Exclusive;
-use concurrent_queue::errors::{ForcePushError, PopError, PushError};
+use exclusive_queue::Exclusive;
+use exclusive_queue::errors::{ForcePushError, PopError, PushError};
 use queue_steps::model::{Call, Reply};
 use queue_steps::sizes::{LIMIT, MAX_CAPACITY};
 use std::alloc::{AllocError, Global};

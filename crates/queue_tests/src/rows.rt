@@ -1,5 +1,5 @@
 //! Rows: calls and the replies that they get.
-use concurrent_queue::Exclusive;
+use exclusive_queue::Exclusive;
 use queue_steps::model::{Call, Reply};
 use std::alloc::Allocator;
 use std::process::Abort;

@@ -2,8 +2,8 @@ use Rattle.std.proofs.Common.{◌≡◌, ◌+◌, ℕ, Some, sym, ap, ◌∙◌,
 use Rattle.std.specs.Mem.Slots.{slots_items}
 use Rattle.queue_steps.specs.Effect.{after}
 use Rattle.queue_steps.specs.Legal.{IsShown}
-use Rattle.concurrent_queue.specs.RingOwned.{IsIdle, ring_owned}
-use Rattle.concurrent_queue.specs.KeptRings.{ring_in}
+use Rattle.exclusive_queue.specs.RingOwned.{IsIdle, ring_owned}
+use Rattle.exclusive_queue.specs.KeptRings.{ring_in}
 use Rattle.concurrent_queue.proofs.RingFinish.{ring_finishes}
 use Rattle.concurrent_queue.proofs.ring.end_ring.Goals as goal
 

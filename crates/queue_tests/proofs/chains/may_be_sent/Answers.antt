@@ -1,4 +1,4 @@
-use Rattle.concurrent_queue.proofs.Sent.{crosses}
+use Rattle.exclusive_queue.proofs.Sent.{crosses}
 use Rattle.queue_tests.proofs.chains.may_be_sent.Goals as goal
 
 pub is_sent-requires-send-T : goal.is_sent-requires-send-T

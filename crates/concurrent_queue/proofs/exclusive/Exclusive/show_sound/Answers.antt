@@ -1,5 +1,0 @@
-use Rattle.concurrent_queue.proofs.Soundness.{sound}
-use Rattle.concurrent_queue.proofs.exclusive.Exclusive.show_sound.Goals as goal
-
-pub returns : goal.returns
-returns g c = rw (← c.self.view_is) (sound c.self.inside.form c.self.invariant)

@@ -1,0 +1,13 @@
+pub mod Goings
+pub mod Watching
+pub mod Slots
+pub mod Openings
+pub mod Pieces
+pub mod Linked
+pub mod Layings
+pub mod LineBegins
+pub mod Pops
+mod Soundness
+mod Answered
+pub mod KeptWords
+pub mod Sent

@@ -1,0 +1,7 @@
+use Rattle.exclusive_queue.specs.LineSole.{holds-blocks}
+use Rattle.exclusive_queue.proofs.exclusive.Exclusive.blocks.Goals as goal
+
+pub returns-in-Unbounded-clause-held : goal.returns-in-Unbounded-clause-held
+returns-in-Unbounded-clause-held g c =
+    let idle = rw c.in-Unbounded.is at c.self.invariant in
+    rw (← c.self.view_is, c.in-Unbounded.is) (holds-blocks c.in-Unbounded.blocks idle)

@@ -1,0 +1,341 @@
+//! Queues with one owner.
+ghost use Rattle.std.specs.Prelude.{◌≡◌, ◌+◌, ◌<◌, ◌≤◌, ◌==◌, if◌then◌else◌, length, None, Some, IfOk, IsErr, IsOk};
+ghost use Rattle.queue_steps.specs.declared.sizes.TheConstants.{LIMIT, MAX_CAPACITY};
+ghost use Rattle.queue_steps.specs.State.{start, is_full};
+ghost use Rattle.queue_steps.specs.Replies.{is_empty};
+ghost use Rattle.queue_steps.specs.Sole.{Sole, HoldsBlocks};
+ghost use Rattle.queue_steps.specs.Legal.{IsSoundOwned};
+ghost use Rattle.exclusive_queue.specs.SingleCells.{IsIdle, single_owned};
+ghost use Rattle.exclusive_queue.specs.RingOwned.{IsIdle as IsRingIdle, ring_owned};
+ghost use Rattle.exclusive_queue.specs.KeptRings.{ring_in};
+ghost use Rattle.std.specs.Mem.Slots.{slots_items, slots_len, IsFull};
+ghost use Rattle.exclusive_queue.specs.LineOwned.{IsIdle as IsLineIdle};
+ghost use Rattle.queue_steps.specs.declared.model.Call.TheVariants as call;
+ghost use Rattle.queue_steps.specs.declared.model.Reply.TheVariants as reply;
+
+use crate::bounded::Ring;
+use crate::driver::{drive, drive_apart, observe};
+use crate::kept::KeptRing;
+use crate::single::Single;
+use crate::unbounded::{LinkedBlocks, Name};
+use atomic_table::Closed;
+use queue_steps::errors::{ForcePushError, PopError, PushError};
+use queue_steps::model::{Call, CallKind, Reply, ReplyKind};
+use std::alloc::{AllocError, Allocator, Global};
+use std::marker::Model;
+
+/// A queue with one owner, first in first out, that can be closed.
+///
+/// A contract sees the abstract queue and the number of blocks that it holds. Each call answers by the table of one owner, `Sole`.
+pub struct Exclusive<T, A: Allocator = Global> {
+    form: Form<T, A>,
+}
+
+/// How the items are kept.
+enum Form<T, A: Allocator> {
+    /// One slot.
+    Single(Single<T>),
+    /// A ring of slots.
+    Bounded(Ring<T, A>),
+    /// A ring of slots in the memory of a table that was shared.
+    Kept(KeptRing<T, A>),
+    /// A chain of blocks.
+    Unbounded(LinkedBlocks<T, A>),
+}
+
+impl<T, A: Allocator> Model for Exclusive<T, A> {
+    ghost use Rattle.queue_steps.specs.Sole.{Owned};
+
+    ghost Value = { Owned T };
+
+    ghost use Rattle.exclusive_queue.specs.Exclusive.{exclusive_view, IsExclusive};
+
+    ghost view = { exclusive_view };
+
+    ghost invariant = { IsExclusive };
+}
+
+impl<T: Drop, A: Allocator> Drop for Exclusive<T, A> {
+    fn drop(self) {
+        let Exclusive { form } = self;
+        match form {
+            Form::Single(single) => drop(single),
+            Form::Bounded(ring) => drop(ring),
+            Form::Kept(ring) => drop(ring),
+            Form::Unbounded(blocks) => give_up(blocks),
+        }
+    }
+}
+
+/// Drops the items that are left, and gives all memory back.
+fn give_up<T: Drop, A: Allocator>(mut blocks: LinkedBlocks<T, A>)
+    requires { IsLineIdle blocks }
+{
+    loop {
+        match drive_apart::<T, Name<T>, LinkedBlocks<T, A>>(&mut blocks, Call::Pop) {
+            Reply::Pop(result) => match result {
+                Ok(item) => drop(item),
+                Err(_) => break,
+            },
+            _ => unreachable!(),
+        }
+    }
+    blocks.end();
+}
+
+impl<T, A: Allocator> Form<T, A> {
+    ghost use Rattle.std.specs.Prelude.{IsTrue};
+    ghost use Rattle.queue_steps.specs.Looks.{IsLook, look_reply};
+    ghost use Rattle.exclusive_queue.specs.Exclusive.{form_owned, IsFormIdle};
+
+    /// Runs a call to its end.
+    #[inline(always)]
+    fn answer(&mut self, call: Call<T>) -> Reply<T>
+        requires { IsFormIdle self.old }
+        ensures idle { IsFormIdle self.new }
+        ensures sole { Sole (form_owned self.old) call result (form_owned self.new) }
+    {
+        match self {
+            Form::Single(single) => drive::<T, (), Single<T>>(single, call),
+            Form::Bounded(ring) => drive_apart::<T, (), Ring<T, A>>(ring, call),
+            Form::Kept(ring) => drive_apart::<T, (), KeptRing<T, A>>(ring, call),
+            Form::Unbounded(blocks) => drive_apart::<T, Name<T>, LinkedBlocks<T, A>>(blocks, call),
+        }
+    }
+
+    /// Runs a call that changes nothing to its end.
+    #[inline(always)]
+    fn look(&self, call: CallKind) -> ReplyKind
+        requires idle { IsFormIdle self.now }
+        requires look { IsLook call }
+        ensures { result ≡ look_reply (form_owned self.now).queue call }
+    {
+        match self {
+            Form::Single(single) => observe::<T, (), Single<T>>(single, call),
+            Form::Bounded(ring) => observe::<T, (), Ring<T, A>>(ring, call),
+            Form::Kept(ring) => observe::<T, (), KeptRing<T, A>>(ring, call),
+            Form::Unbounded(blocks) => observe::<T, Name<T>, LinkedBlocks<T, A>>(blocks, call),
+        }
+    }
+}
+
+impl<T, A: Allocator> Exclusive<T, A> {
+    /// An empty open queue of this capacity.
+    ///
+    /// A queue of capacity 1 asks for no memory. Any other asks for all its memory here.
+    ///
+    /// # Errors
+    ///
+    /// Where there is no memory. A capacity above `MAX_CAPACITY`, or one whose room is more than an allocation may have, is refused without a request.
+    pub fn bounded(alloc: A, cap: usize) -> Result<Self, AllocError>
+        requires { 0 < cap }
+        ensures empty { IfOk result (λ queue. queue ≡ record { queue = start (Some cap) 0; blocks = 0 }) }
+        ensures limited { MAX_CAPACITY < cap → IsErr result }
+        ensures single { cap ≡ 1 → IsOk result }
+    {
+        if cap == 1 {
+            return Ok(Exclusive {
+                form: Form::Single(Single::new()),
+            });
+        }
+        Exclusive::bounded_after(alloc, cap, 0)
+    }
+
+    /// An empty open queue of this capacity, whose positions stand as after `n` items that were accepted and taken.
+    ///
+    /// # Errors
+    ///
+    /// As `bounded`.
+    pub fn bounded_after(alloc: A, cap: usize, n: u64) -> Result<Self, AllocError>
+        requires many { 1 < cap }
+        requires below { n ≤ LIMIT }
+        ensures empty { IfOk result (λ queue. queue ≡ record { queue = start (Some cap) n; blocks = 0 }) }
+        ensures limited { MAX_CAPACITY < cap → IsErr result }
+    {
+        let ring = Ring::new(alloc, cap, n)?;
+        Ok(Exclusive {
+            form: Form::Bounded(ring),
+        })
+    }
+
+    /// An empty open queue without a capacity.
+    ///
+    /// It asks for no memory. Pushes do, for a block of 31 items at a time.
+    pub fn unbounded(alloc: A) -> Self
+        ensures { result ≡ record { queue = start None 0; blocks = 0 } }
+    {
+        Exclusive {
+            form: Form::Unbounded(LinkedBlocks::new(alloc)),
+        }
+    }
+
+    /// An empty open queue without a capacity, whose positions stand as after `n` items that were accepted and taken.
+    ///
+    /// It asks for the block where the next item goes, and for none where `n` is 0.
+    ///
+    /// # Errors
+    ///
+    /// Where there is no memory, and without a request where an item has 2^31 bytes or more.
+    pub fn unbounded_after(alloc: A, n: u64) -> Result<Self, AllocError>
+        requires { n ≤ LIMIT }
+        ensures empty { IfOk result (λ queue. queue ≡ record { queue = start None n; blocks = (if n == 0 then 0 else 1) }) }
+        ensures none { n ≡ 0 → IsOk result }
+    {
+        if n == 0 {
+            return Ok(Exclusive::unbounded(alloc));
+        }
+        let blocks = LinkedBlocks::after(alloc, n)?;
+        Ok(Exclusive {
+            form: Form::Unbounded(blocks),
+        })
+    }
+
+    /// A queue of this slot, which no call holds.
+    pub fn of_single(single: Single<T>) -> Self
+        requires { IsIdle single }
+        ensures { result ≡ single_owned single }
+    {
+        Exclusive {
+            form: Form::Single(single),
+        }
+    }
+
+    /// A queue in the memory of a table that is no longer shared, whose words and slots are those of a ring of this capacity.
+    pub fn of_table(capacity: usize, memory: Closed<Option<T>, A>) -> Self
+        requires full { IsFull memory.words × IsFull memory.slots }
+        requires sized { (slots_len memory.words ≡ capacity + 3) × (slots_len memory.slots ≡ capacity) }
+        requires idle { IsRingIdle (ring_in capacity (slots_items memory.words) (slots_items memory.slots)) }
+        ensures { result ≡ ring_owned (ring_in capacity (slots_items memory.words) (slots_items memory.slots)) }
+    {
+        Exclusive {
+            form: Form::Kept(KeptRing { capacity, memory }),
+        }
+    }
+
+    /// Does nothing. Its contract tells what holds of every queue with one owner: nothing is on its way in, the items fit into the capacity, no more than
+    /// `LIMIT` were accepted, and the blocks are as many as a queue in this state holds.
+    pub fn show_sound(&self)
+        ensures { IsSoundOwned self.now }
+    {
+        let _ = &self.form;
+    }
+
+    /// Appends `value`.
+    ///
+    /// A queue without a capacity asks for a block before the first item, where it holds none, and where it has accepted 30 items modulo 31. No other call asks for memory.
+    ///
+    /// # Errors
+    ///
+    /// `Closed` with the value on a closed queue, `Full` with the value on a full one, `NoMemory` with the value where a block was asked for and refused. A queue that has accepted `LIMIT` items answers `Closed`, and is closed from then on.
+    pub fn push(&mut self, value: T) -> Result<(), PushError<T>>
+        ensures { Sole self.old (call.Push value) (reply.Push result) self.new }
+    {
+        match self.form.answer(Call::Push(value)) {
+            Reply::Push(result) => result,
+            _ => unreachable!(),
+        }
+    }
+
+    /// Appends `value`, and takes the front off and hands it out where the queue was full.
+    ///
+    /// On a queue without a capacity it is `push`.
+    ///
+    /// # Errors
+    ///
+    /// `Closed` with the value on a closed queue, `NoMemory` with the value where a block was asked for and refused.
+    pub fn force_push(&mut self, value: T) -> Result<Option<T>, ForcePushError<T>>
+        ensures { Sole self.old (call.ForcePush value) (reply.ForcePush result) self.new }
+    {
+        match self.form.answer(Call::ForcePush(value)) {
+            Reply::ForcePush(result) => result,
+            _ => unreachable!(),
+        }
+    }
+
+    /// Takes the front off.
+    ///
+    /// # Errors
+    ///
+    /// On an empty queue `Empty`, or `Closed` if it is closed.
+    pub fn pop(&mut self) -> Result<T, PopError>
+        ensures { Sole self.old call.Pop (reply.Pop result) self.new }
+    {
+        match self.form.answer(Call::Pop) {
+            Reply::Pop(result) => result,
+            _ => unreachable!(),
+        }
+    }
+
+    /// Closes the queue, and tells whether this call did it. The items stay.
+    pub fn close(&mut self) -> bool
+        ensures { Sole self.old call.Close (reply.Close result) self.new }
+    {
+        match self.form.answer(Call::Close) {
+            Reply::Close(result) => result,
+            _ => unreachable!(),
+        }
+    }
+
+    /// Whether the queue is closed.
+    pub fn is_closed(&self) -> bool
+        ensures { result ≡ self.now.queue.closed }
+    {
+        match self.form.look(Call::IsClosed) {
+            Reply::IsClosed(result) => result,
+            _ => unreachable!(),
+        }
+    }
+
+    /// Whether the queue has no item.
+    pub fn is_empty(&self) -> bool
+        ensures { result ≡ is_empty self.now.queue.items }
+    {
+        match self.form.look(Call::IsEmpty) {
+            Reply::IsEmpty(result) => result,
+            _ => unreachable!(),
+        }
+    }
+
+    /// Whether the queue has as many items as its capacity.
+    pub fn is_full(&self) -> bool
+        ensures { result ≡ is_full self.now.queue }
+    {
+        match self.form.look(Call::IsFull) {
+            Reply::IsFull(result) => result,
+            _ => unreachable!(),
+        }
+    }
+
+    /// The number of items.
+    pub fn len(&self) -> usize
+        ensures { result ≡ length self.now.queue.items }
+    {
+        match self.form.look(Call::Len) {
+            Reply::Len(result) => result,
+            _ => unreachable!(),
+        }
+    }
+
+    /// The capacity in items, or none.
+    pub fn capacity(&self) -> Option<usize>
+        ensures { result ≡ self.now.queue.cap }
+    {
+        match self.form.look(Call::Capacity) {
+            Reply::Capacity(result) => result,
+            _ => unreachable!(),
+        }
+    }
+
+    /// The number of blocks that the queue holds: those from the front's to the one where the next item goes, and none where the queue has a capacity.
+    pub fn blocks(&self) -> usize
+        ensures count { result ≡ self.now.blocks }
+        ensures held { HoldsBlocks self.now }
+    {
+        match &self.form {
+            Form::Single(_) => 0,
+            Form::Bounded(_) => 0,
+            Form::Kept(_) => 0,
+            Form::Unbounded(blocks) => blocks.blocks(),
+        }
+    }
+}

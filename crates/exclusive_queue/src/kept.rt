@@ -1,0 +1,247 @@
+//! A ring with one owner in the memory of a table that is no longer shared.
+ghost use Rattle.std.specs.Prelude.{◌≡◌, ◌+◌, ◌<◌, length, slice_set};
+ghost use Rattle.std.specs.Mem.Slots.{slots_items, slots_len, IsFull};
+ghost use Rattle.queue_steps.specs.LookNext.{IsLoad};
+ghost use Rattle.queue_steps.specs.Next.{CanNext, next_of};
+ghost use Rattle.exclusive_queue.specs.RingCells.{slot_in};
+
+use crate::cells::Cells;
+use atomic_table::Closed;
+use queue_steps::steps::{self, Answer, Kind, Local, Next, Op, Touch, Word};
+use std::alloc::Allocator;
+use std::marker::Model;
+use std::mem;
+
+/// The words of the tail, of the head, and of the first stamp.
+const TAIL: usize = 1;
+
+const HEAD: usize = 2;
+
+const STAMPS: usize = 3;
+
+/// The slots with their stamps, and the positions of the front and of the next item to come, as they lay in the table.
+///
+/// A contract sees the two positions, the capacity and the slots.
+pub(crate) struct KeptRing<T, A: Allocator> {
+    pub(crate) capacity: usize,
+    pub(crate) memory: Closed<Option<T>, A>,
+    ghost full: { IsFull memory.words × IsFull memory.slots },
+    ghost sized: { (slots_len memory.words ≡ capacity + 3) × (slots_len memory.slots ≡ capacity) },
+}
+
+impl<T, A: Allocator> Model for KeptRing<T, A> {
+    ghost use Rattle.std.specs.Mem.Slots.{slots_items};
+    ghost use Rattle.exclusive_queue.specs.RingCells.{RingState};
+    ghost use Rattle.exclusive_queue.specs.KeptRings.{ring_in};
+
+    ghost Value = { RingState T };
+
+    ghost view = { λ r. ring_in r.capacity (slots_items r.memory.words) (slots_items r.memory.slots) };
+}
+
+impl<T: Drop, A: Allocator> Drop for KeptRing<T, A> {
+    fn drop(self) {
+        let KeptRing {
+            capacity,
+            mut memory,
+        } = self;
+        for slot in 0..capacity {
+            drop(memory.take(slot));
+        }
+        memory.free();
+    }
+}
+
+unsafe impl<T: Send, A: Allocator + Send> Send for KeptRing<T, A> {}
+
+unsafe impl<T: Sync, A: Allocator + Send + Sync> Sync for KeptRing<T, A> {}
+
+impl<T, A: Allocator> KeptRing<T, A> {
+    ghost use Rattle.std.specs.Prelude.{true};
+    ghost use Rattle.queue_steps.specs.declared.steps.types.Answer.TheVariants.{Found};
+    ghost use Rattle.queue_steps.specs.declared.steps.types.Op.TheVariants.{Load};
+    ghost use Rattle.exclusive_queue.specs.RingCells.{ring_operable, ring_performed};
+
+    #[inline(always)]
+    fn head(&self) -> u64
+        ensures { result ≡ self.now.head }
+    {
+        self.memory.word(HEAD)
+    }
+
+    #[inline(always)]
+    fn tail(&self) -> u64
+        ensures { result ≡ self.now.tail }
+    {
+        self.memory.word(TAIL)
+    }
+
+    #[inline(always)]
+    fn stamp(&self, slot: usize) -> u64
+        requires { slot < length self.now.slots }
+        ensures { result ≡ (slot_in self.now.slots slot).stamp }
+    {
+        self.memory.word(STAMPS + slot)
+    }
+
+    #[inline(always)]
+    fn set_head(&mut self, word: u64)
+        ensures { self.new ≡ record self.old { head = word } }
+    {
+        self.memory.words.put(HEAD, word);
+    }
+
+    #[inline(always)]
+    fn set_tail(&mut self, word: u64)
+        ensures { self.new ≡ record self.old { tail = word } }
+    {
+        self.memory.words.put(TAIL, word);
+    }
+
+    #[inline(always)]
+    fn set_stamp(&mut self, slot: usize, stamp: u64)
+        requires { slot < length self.old.slots }
+        ensures { self.new ≡ record self.old { slots = slice_set self.old.slots slot (record { stamp = stamp; item = (slot_in self.old.slots slot).item }) } }
+    {
+        self.memory.words.put(STAMPS + slot, stamp);
+    }
+
+    /// A value and a slot's content change places.
+    #[inline(always)]
+    fn exchange(&mut self, slot: usize, value: Option<T>) -> Option<T>
+        requires { slot < length self.old.slots }
+        ensures taken { result ≡ (slot_in self.old.slots slot).item }
+        ensures put { self.new ≡ record self.old { slots = slice_set self.old.slots slot (record { stamp = (slot_in self.old.slots slot).stamp; item = value }) } }
+    {
+        let item = self.memory.slots.take(slot);
+        self.memory.slots.put(slot, value);
+        item
+    }
+
+    /// What a word holds.
+    #[inline(always)]
+    fn load(&self, word: Word<()>) -> u64
+        requires { ring_operable self.now (Load word) ≡ true }
+        ensures { ring_performed self.now (Load word) ≡ (Found result, self.now) }
+    {
+        match word {
+            Word::Tail => self.tail(),
+            Word::Head => self.head(),
+            Word::Stamp(i) => self.stamp(i),
+            _ => unreachable!(),
+        }
+    }
+}
+
+impl<T, A: Allocator> Cells<T, ()> for KeptRing<T, A> {
+    ghost use Rattle.exclusive_queue.specs.RingCells.{RingState, kind_of_ring, ring_can_touch, ring_touches, ring_can_perform, ring_performs, ring_can_release, ring_releases};
+    ghost use Rattle.exclusive_queue.specs.RingOwned.{IsIdle, ring_owned};
+
+    ghost kind_of = { kind_of_ring };
+
+    ghost idle = { IsIdle };
+
+    ghost owned = { ring_owned };
+
+    ghost can_touch = { ring_can_touch };
+
+    ghost touches = { ring_touches };
+
+    ghost can_perform = { ring_can_perform };
+
+    ghost performs = { ring_performs };
+
+    ghost can_release = { ring_can_release };
+
+    ghost releases = { ring_releases };
+
+    ghost use Rattle.exclusive_queue.specs.RingAnswers.{ring_answers, ring_stays};
+
+    ghost stays = { ring_stays };
+
+    ghost answers = { ring_answers };
+
+    #[inline(always)]
+    fn kind(&self) -> Kind {
+        Kind::Bounded(self.capacity)
+    }
+
+    #[inline(always)]
+    fn next(kind: Kind, local: Local<()>, answer: Answer<()>) -> Next<()>
+        requires of { (cells : RingState T) × (kind ≡ kind_of_ring cells) }
+        requires can { CanNext kind local answer }
+        ensures { result ≡ next_of kind local answer }
+    {
+        match kind {
+            Kind::Bounded(cap) => steps::next_bounded(cap, local, answer),
+            _ => unreachable!(),
+        }
+    }
+
+    #[inline(always)]
+    fn touch(&mut self, touch: Touch, _op: &Op<()>, carried: &mut Option<T>) {
+        match touch {
+            Touch::Nothing => {}
+            Touch::Put(i) | Touch::Swap(i) | Touch::Take(i) => {
+                let value = mem::replace(carried, None);
+                let left = self.exchange(i, value);
+                let none = mem::replace(carried, left);
+                let None = none else { unreachable!() };
+            }
+        }
+    }
+
+    #[inline(always)]
+    fn perform(&mut self, op: Op<()>) -> Answer<()>
+        requires { ring_can_perform self.old op }
+        ensures { ring_performs self.old op result self.new }
+    {
+        match op {
+            Op::Load(word) => Answer::Found(self.load(word)),
+            Op::Exchange(Word::Tail, expected, new) => {
+                let found = self.tail();
+                if found == expected {
+                    self.set_tail(new);
+                }
+                Answer::Found(found)
+            }
+            Op::Exchange(Word::Head, expected, new) => {
+                let found = self.head();
+                if found == expected {
+                    self.set_head(new);
+                }
+                Answer::Found(found)
+            }
+            Op::Or(Word::Tail, bits) => {
+                let found = self.tail();
+                self.set_tail(found | bits);
+                Answer::Found(found)
+            }
+            Op::Add(Word::Tail, more) => {
+                let found = self.tail();
+                self.set_tail(found + more);
+                Answer::Found(found)
+            }
+            Op::Store(Word::Stamp(i), stamp) => {
+                self.set_stamp(i, stamp);
+                Answer::Done
+            }
+            _ => unreachable!(),
+        }
+    }
+
+    #[inline(always)]
+    fn release(&mut self, _block: ()) {}
+
+    #[inline(always)]
+    fn look(&self, op: &Op<()>) -> Answer<()>
+        requires load { IsLoad op.now }
+        requires can { ring_can_perform self.now op.now }
+        ensures { ring_performs self.now op.now result self.now }
+    {
+        match op {
+            Op::Load(word) => Answer::Found(self.load(*word)),
+            _ => unreachable!(),
+        }
+    }
+}

@@ -1,0 +1,15 @@
+//! Closable queues with one owner, first in first out.
+#![tactic(auto)]
+
+mod bounded;
+mod cells;
+mod driver;
+pub mod exclusive;
+mod kept;
+mod single;
+mod unbounded;
+
+pub use exclusive::Exclusive;
+pub use queue_steps::errors::{ForcePushError, PopError, PushError};
+pub use queue_steps::{errors as errors, model as model, steps as steps};
+pub use single::Single;
