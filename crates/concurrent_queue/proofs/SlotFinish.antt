@@ -1,7 +1,6 @@
 -- How the table of one slot that is shared begins, and what is left of it: one slot with one owner, in the state after the history.
 use Rattle.std.proofs.Common.{◌≡◌, ℕ, ◌==◌, Bool, true, false, List, [], ◌∷◌, get_or, Option, Some, None, if◌then◌else◌, inl, refl, ap, sym, ◌∙◌, subst}
 use mathlib.Core.Option.{some, some-injective, some-ne-none}
-use mathlib.Core.Option as maybe
 use lib.ListN.{get_elem?}
 use Rattle.atomic_table.specs.Table.{Final, Seen, opening}
 use Rattle.queue_steps.specs.Effect.{after}

@@ -1,5 +1,5 @@
 -- Each step of a call on a shared table keeps the rule: the laws of its kind say so, wherever the call stands.
-use Rattle.std.proofs.Common.{◌≡◌, ◌≢◌, ℕ, zero, suc, ◌+◌, ◌<◌, ◌||◌, not, inl, inr, Bool, true, false, List, [], ◌∷◌, ◌++◌, map, length, get_or, set, Option, Some, None, refl, ap, sym, ◌∙◌, subst, ⊎_elim, arith}
+use Rattle.std.proofs.Common.{◌≡◌, ◌≢◌, ℕ, zero, suc, ◌<◌, ◌||◌, not, inl, inr, true, false, List, [], ◌∷◌, ◌++◌, map, length, get_or, set, Option, Some, None, refl, ap, sym, ◌∙◌, subst, ⊎_elim, arith}
 use Rattle.std.proofs.lemmas.List.{append-nil}
 use mathlib.Core.Option.{some, some-injective, some-ne-none}
 use mathlib.Core.List.{IsPrefix}
@@ -34,7 +34,7 @@ use Rattle.concurrent_queue.specs.Known.{party, view_of, Kept}
 use Rattle.concurrent_queue.specs.Histories.{prefix_self, after_snoc, runs_snoc}
 use Rattle.concurrent_queue.specs.Seats.{Table, Seated, count_of, is_busy, idle, known_by}
 use Rattle.concurrent_queue.specs.AtTable.{rests_as}
-use Rattle.concurrent_queue.specs.Calling.{CallsOf, CallLaws, cap_of, Standing, touched_list, handed_by, HasTouched, MayFront, Goes, first_of, Opens}
+use Rattle.concurrent_queue.specs.Calling.{CallsOf, cap_of, Standing, touched_list, handed_by, MayFront, Goes, first_of, Opens}
 use Rattle.concurrent_queue.specs.TableRule.{TableOf, Rule, op_word, op_makes, answer_for, found_by, InTable, Stepped, TableLaws}
 use Rattle.concurrent_queue.specs.TableTurns.{IsFirst, Ready, After, Follows}
 use Rattle.concurrent_queue.proofs.Keeping.{looks, gains}

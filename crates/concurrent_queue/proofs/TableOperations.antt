@@ -24,6 +24,11 @@ module _ {T : Type 0} (kinds : ℕ → TableOf T) (key slots id : ℕ) (m : Seat
   pub stored : (w : Word ℕ) (x : ℕ) → c.op ≡ op.Store w x → Allows (Rule (kinds key)) slots id m ((kinds slots).place w) (λ n. x) (λ n q. Follows (kinds slots) c x q)
   stored w x is s rule wide at small =
       let d = allowed (op.Store w x) is s rule wide at small in
-      let answers : (n : ℕ) → answer_for c.op n ≡ answer_for c.op x = λ n. ap (λ z. answer_for z n) is ∙ sym (ap (λ z. answer_for z x) is) in
-      (d.0, d.1, d.2, d.3, subst (λ (a : Answer ℕ). CanNext (kinds slots).calls.kind c.local a × After (kinds slots) c (handed_by c.touch c.carried c.lends) (next_of (kinds slots).calls.kind c.local a) (d.0, carried_after m.1 d.1))
-          (answers (found_by (kinds slots) (op.Store w x) s.words)) d.4)
+      let answers : (n : ℕ) → answer_for c.op n ≡ answer_for c.op x = λ n. ap (λ z. answer_for z n) is ∙ sym (ap (λ z. answer_for z x) is) in (
+        d.0,
+        d.1,
+        d.2,
+        d.3,
+        subst (λ (a : Answer ℕ). CanNext (kinds slots).calls.kind c.local a × After (kinds slots) c (handed_by c.touch c.carried c.lends) (next_of (kinds slots).calls.kind c.local a) (d.0, carried_after m.1 d.1))
+            (answers (found_by (kinds slots) (op.Store w x) s.words)) d.4,
+      )

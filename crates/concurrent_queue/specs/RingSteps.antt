@@ -17,7 +17,6 @@ use Rattle.queue_steps.specs.declared.model.Call.{Call}
 use Rattle.queue_steps.specs.declared.model.Call.TheVariants as call
 use Rattle.queue_steps.specs.declared.model.Reply.TheVariants as reply
 use Rattle.queue_steps.specs.declared.model.Effect.{Effect}
-use Rattle.queue_steps.specs.declared.model.Effect.TheVariants as effect
 use Rattle.queue_steps.specs.declared.steps.types.Answer.{Answer}
 use Rattle.queue_steps.specs.declared.steps.types.Answer.TheVariants as answer
 use Rattle.queue_steps.specs.declared.steps.types.Kind.TheVariants as queue
@@ -35,7 +34,6 @@ use Rattle.ring_laws.proofs.RingCells.{Cell, Ring, queue_of, RingOk, owner, Hold
 use Rattle.ring_laws.proofs.RingWords.{Codes, item_in}
 use Rattle.ring_laws.proofs.RingShared.{Shared, HasWord, word_at, put_word, CanOperate, CanTouch, answered, operated, touched, handed}
 use Rattle.queue_laws.proofs.Effects.{Touches, Whether, with_effect}
-use Rattle.ring_laws.proofs.RingPasses.{Passes}
 use Rattle.ring_laws.proofs.RingAt.{At, at_stays, push_tail, pop_head, len_tail, empty_head, full_tail, closing, closed_tail}
 use Rattle.ring_laws.proofs.RingRanks.{rank}
 use Rattle.ring_laws.proofs.RingGood.{IsEffect, Goes as RingGoes, Good}

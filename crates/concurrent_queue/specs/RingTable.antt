@@ -1,5 +1,5 @@
 -- A ring that parties share, as a kind of queue in a table: the tail, the head and the stamps are the words behind the count of parties.
-use Rattle.std.specs.Prelude.{◌≡◌, ℕ, suc, ◌+◌, ◌<◌, List, [], ◌∷◌, length, Option, Some, None}
+use Rattle.std.specs.Prelude.{◌≡◌, ℕ, suc, ◌+◌, ◌<◌, List, ◌∷◌, length, Option, Some, None}
 use mathlib.Core.Option.{some}
 use mathlib.Core.Option as maybe
 use lib.ListN.{get_elem?}

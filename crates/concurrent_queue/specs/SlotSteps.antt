@@ -1,8 +1,7 @@
 -- The laws of one slot in a table: what each step of a call does to the word and the slot, and where calls begin.
-use Rattle.std.proofs.Common.{◌≡◌, ◌≢◌, ℕ, ◌<◌, ◌==◌, ◌||◌, not, Bool, true, false, List, [], ◌∷◌, get_or, set, Option, Some, None, if◌then◌else◌, refl, ap, sym, ◌∙◌, subst, arith}
+use Rattle.std.proofs.Common.{◌≡◌, ℕ, ◌==◌, ◌||◌, not, Bool, true, false, List, [], ◌∷◌, get_or, set, Option, Some, None, if◌then◌else◌, refl, ap, sym, ◌∙◌, subst, arith}
 use mathlib.Core.Option.{some}
 use mathlib.Core.Option as maybe
-use lib.ListN.{get_elem?}
 use prog.Atomic.{either}
 use Rattle.atomic_table.specs.Table.{Act, keeps, takes, gives, Valid, carried_after, homes_after}
 use Rattle.queue_steps.specs.declared.model.Call.{Call}
@@ -22,7 +21,6 @@ use Rattle.queue_steps.specs.declared.steps.types.Op.{Op}
 use Rattle.queue_steps.specs.declared.steps.types.Op.TheVariants as op
 use Rattle.queue_steps.specs.declared.steps.types.Touch.{Touch}
 use Rattle.queue_steps.specs.declared.steps.types.Touch.TheVariants as touch
-use Rattle.queue_steps.specs.declared.steps.types.Word.{Word}
 use Rattle.queue_steps.specs.declared.steps.types.Word.TheVariants as word
 use Rattle.queue_steps.specs.declared.steps.single.TheConstants.{UNLOCKED}
 use Rattle.queue_steps.specs.declared.steps.single.SingleLocal.{SingleLocal}
@@ -32,13 +30,13 @@ use Rattle.queue_steps.specs.Kinds.{call_kind}
 use Rattle.queue_steps.specs.Next.{CanNext, next_of}
 use Rattle.queue_steps.specs.Prompt.{is_prompt, EndsBefore, EndsPromptly}
 use Rattle.queue_laws.proofs.Effects.{Leads, with_effect}
-use Rattle.slot_laws.proofs.SlotShared.{Shared, one_slot, IsLock, CanOperate, answered, operated, touched, handed}
-use Rattle.slot_laws.proofs.SlotRows.{Hold, Nobody, Filling, Swapping, Taking, Stands, At, push_try, push_put, force_try_empty, force_try_full, force_put_empty, force_put_full, pop_try, pop_take, close_try, look_at, Share, idle, fills, swaps, takes as takes_share, Passes, stays, changes, single, Lands, Good}
+use Rattle.slot_laws.proofs.SlotShared.{Shared, one_slot, CanOperate, answered, operated, touched, handed}
+use Rattle.slot_laws.proofs.SlotRows.{Hold, Nobody, Filling, Swapping, Taking, Stands, At, push_try, push_put, force_try_empty, force_try_full, force_put_empty, force_put_full, pop_try, pop_take, close_try, look_at, Share, fills, swaps, takes as takes_share, Passes, stays, changes, single, Lands, Good}
 use Rattle.slot_laws.proofs.SlotSteps.{step_good}
 use Rattle.slot_laws.proofs.SlotRanks.{can_operate}
-use Rattle.slot_laws.proofs.SlotHolder.{own_of, share_of, next_who, own_self, own_other}
+use Rattle.slot_laws.proofs.SlotHolder.{share_of, next_who, own_self, own_other}
 use Rattle.slot_laws.proofs.SlotCells.{Slot, queue_of, own_in, lent_by, Lent, nobody_if, IsHeld, held_lent, at_stays, lent_stays, at_whole, at_lock, at_touches}
-use Rattle.concurrent_queue.specs.Calling.{touched_list, lies_in, handed_by, HasTouched, MayFront, Goes, CallLaws}
+use Rattle.concurrent_queue.specs.Calling.{touched_list, lies_in, handed_by, MayFront, Goes, CallLaws}
 use Rattle.concurrent_queue.specs.TableRule.{op_makes, answer_for, InTable, Stepped, OpensIn, TableLaws}
 use Rattle.concurrent_queue.specs.SlotTable.{home_under, SlotCoded, slot_calls, slot_table}
 

@@ -168,7 +168,8 @@ impl<T, K: TableSteps<T>, A: Allocator> SharedTable<T, K, A> {
     }
 }
 
-impl<T, K: TableSteps<T>, A: Allocator> Turns<T, usize, Seat<Option<T>, Doing<T>>> for SharedTable<T, K, A> {
+impl<T, K: TableSteps<T>, A: Allocator> Turns<T, usize, Seat<Option<T>, Doing<T>>>
+    for SharedTable<T, K, A> {
     ghost use Rattle.concurrent_queue.specs.AtTable.{IsAt};
     ghost use Rattle.concurrent_queue.specs.Calling.{cap_of};
     ghost use Rattle.concurrent_queue.specs.TableLeads.{TableCan, TableDoes, TableStands, TableEnded, table_begins, table_goes_on};

@@ -1,5 +1,5 @@
 -- One slot as a value, with who has the lock: where a call stands there, what a step of one party leaves for the others, and who has the slot.
-use Rattle.std.proofs.Common.{ℕ, ◌≡◌, ◌≢◌, ◌==◌, ◌∙◌, Bool, true, false, Option, Some, None, List, [], ◌∷◌, if◌then◌else◌, refl, sym, ap, subst}
+use Rattle.std.proofs.Common.{ℕ, ◌≡◌, ◌≢◌, ◌∙◌, Bool, Option, Some, None, List, [], ◌∷◌, refl, sym, ap, subst}
 use Rattle.std.proofs.lemmas.Bool.{eq-eqb}
 use Rattle.queue_steps.specs.State.{State}
 use Rattle.queue_steps.specs.declared.model.Call.{Call}
@@ -8,7 +8,7 @@ use Rattle.queue_steps.specs.declared.steps.types.Local.{Local}
 use Rattle.queue_steps.specs.declared.steps.types.Op.{Op}
 use Rattle.queue_steps.specs.declared.steps.types.Touch.{Touch}
 use Rattle.queue_laws.proofs.Effects.{IsBetween, Touches}
-use Rattle.slot_laws.proofs.SlotShared.{IsLock, CanOperate}
+use Rattle.slot_laws.proofs.SlotShared.{CanOperate}
 use Rattle.slot_laws.proofs.SlotRows.{Hold, Nobody, Filling, Swapping, Taking, Stands, free_empty, free_full, filling, swapping, taking, At, push_try, push_put, force_try_empty, force_try_full, force_put_empty, force_put_full, pop_try, pop_take, close_try, look_at, single}
 use Rattle.slot_laws.proofs.SlotHolder.{Keeps, own_of}
 

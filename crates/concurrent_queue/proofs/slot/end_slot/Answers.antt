@@ -1,4 +1,3 @@
-use Rattle.std.proofs.Common.{subst}
 use Rattle.concurrent_queue.proofs.SlotFinish.{slot_ends}
 use Rattle.concurrent_queue.proofs.slot.end_slot.Goals as goal
 

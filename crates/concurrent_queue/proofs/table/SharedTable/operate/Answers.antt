@@ -90,4 +90,3 @@ store-requires g c =
     let both = subst (λ (k : ℕ). (k < t.table_id.words) × Allows (Rule (K t.key)) n m.id m.me k (λ x. c.in-Store.new) (λ x q. Follows (K n) j c.in-Store.new q)) (sym (c.place-in-Store.ensures n))
     (subst (λ (w : ℕ). (K n).place c.in-Store.word < w) (laws.1 ∙ sym sized.0) (laws.0.below c.in-Store.word has), stored K t.key n m.id m.me j laws.0 sized.1 c.requires.ready c.in-Store.word c.in-Store.new (c.requires.op.0 ∙ c.in-Store.is)) in
     (c.requires.table, both.0, both.1)
-

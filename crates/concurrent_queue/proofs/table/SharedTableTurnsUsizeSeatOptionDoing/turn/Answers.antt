@@ -1,4 +1,4 @@
-use Rattle.concurrent_queue.proofs.TableTouches.{can_touch, touched_at}
+use Rattle.concurrent_queue.proofs.TableTouches.{can_touch}
 use Rattle.concurrent_queue.proofs.table.SharedTableTurnsUsizeSeatOptionDoing.turn.Goals as goal
 
 pub touch-left-requires-clause-can : goal.touch-left-requires-clause-can
