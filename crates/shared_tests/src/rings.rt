@@ -5,131 +5,133 @@ use concurrent_queue::{ForcePushError, PopError, PushError};
 use queue_steps::model::{Call, Reply};
 use std::alloc::AllocError;
 
+/// The capacity of a ring, the calls of its only party, what is left, and whether it is closed.
+static ONE_PARTY: [(usize, &[Row], &[u64], bool); 6] = [
+    (
+        2,
+        &[
+            (Call::Push(1), Reply::Push(Ok(()))),
+            (Call::Push(2), Reply::Push(Ok(()))),
+            (Call::Push(3), Reply::Push(Err(PushError::Full(3)))),
+            (Call::Pop, Reply::Pop(Ok(1))),
+            (Call::Pop, Reply::Pop(Ok(2))),
+            (Call::Pop, Reply::Pop(Err(PopError::Empty))),
+        ],
+        &[],
+        false,
+    ),
+    (
+        3,
+        &[
+            (Call::Push(1), Reply::Push(Ok(()))),
+            (Call::Push(2), Reply::Push(Ok(()))),
+            (Call::IsFull, Reply::IsFull(false)),
+            (Call::Push(3), Reply::Push(Ok(()))),
+            (Call::IsFull, Reply::IsFull(true)),
+            (Call::Push(4), Reply::Push(Err(PushError::Full(4)))),
+            (Call::Len, Reply::Len(3)),
+            (Call::Pop, Reply::Pop(Ok(1))),
+            (Call::Push(4), Reply::Push(Ok(()))),
+        ],
+        &[2, 3, 4],
+        false,
+    ),
+    (
+        3,
+        &[
+            (Call::ForcePush(1), Reply::ForcePush(Ok(None))),
+            (Call::ForcePush(2), Reply::ForcePush(Ok(None))),
+            (Call::ForcePush(3), Reply::ForcePush(Ok(None))),
+            (Call::Push(4), Reply::Push(Err(PushError::Full(4)))),
+            (Call::ForcePush(5), Reply::ForcePush(Ok(Some(1)))),
+            (Call::ForcePush(6), Reply::ForcePush(Ok(Some(2)))),
+            (Call::Close, Reply::Close(true)),
+            (
+                Call::ForcePush(7),
+                Reply::ForcePush(Err(ForcePushError::Closed(7))),
+            ),
+            (Call::Pop, Reply::Pop(Ok(3))),
+        ],
+        &[5, 6],
+        true,
+    ),
+    (
+        5,
+        &[
+            (Call::ForcePush(1), Reply::ForcePush(Ok(None))),
+            (Call::ForcePush(2), Reply::ForcePush(Ok(None))),
+            (Call::ForcePush(3), Reply::ForcePush(Ok(None))),
+            (Call::ForcePush(4), Reply::ForcePush(Ok(None))),
+            (Call::ForcePush(5), Reply::ForcePush(Ok(None))),
+            (Call::ForcePush(6), Reply::ForcePush(Ok(Some(1)))),
+            (Call::ForcePush(7), Reply::ForcePush(Ok(Some(2)))),
+            (Call::ForcePush(8), Reply::ForcePush(Ok(Some(3)))),
+            (Call::ForcePush(9), Reply::ForcePush(Ok(Some(4)))),
+            (Call::ForcePush(10), Reply::ForcePush(Ok(Some(5)))),
+            (Call::Pop, Reply::Pop(Ok(6))),
+            (Call::ForcePush(11), Reply::ForcePush(Ok(None))),
+            (Call::ForcePush(12), Reply::ForcePush(Ok(Some(7)))),
+            (Call::ForcePush(13), Reply::ForcePush(Ok(Some(8)))),
+            (Call::ForcePush(14), Reply::ForcePush(Ok(Some(9)))),
+            (Call::ForcePush(15), Reply::ForcePush(Ok(Some(10)))),
+            (Call::Close, Reply::Close(true)),
+            (
+                Call::ForcePush(40),
+                Reply::ForcePush(Err(ForcePushError::Closed(40))),
+            ),
+        ],
+        &[11, 12, 13, 14, 15],
+        true,
+    ),
+    (
+        2,
+        &[
+            (Call::Capacity, Reply::Capacity(Some(2))),
+            (Call::IsEmpty, Reply::IsEmpty(true)),
+            (Call::IsFull, Reply::IsFull(false)),
+            (Call::Push(7), Reply::Push(Ok(()))),
+            (Call::Len, Reply::Len(1)),
+            (Call::IsEmpty, Reply::IsEmpty(false)),
+            (Call::IsFull, Reply::IsFull(false)),
+            (Call::Pop, Reply::Pop(Ok(7))),
+            (Call::Len, Reply::Len(0)),
+            (Call::IsEmpty, Reply::IsEmpty(true)),
+            (Call::IsFull, Reply::IsFull(false)),
+            (Call::Push(8), Reply::Push(Ok(()))),
+            (Call::Pop, Reply::Pop(Ok(8))),
+            (Call::Pop, Reply::Pop(Err(PopError::Empty))),
+            (Call::IsClosed, Reply::IsClosed(false)),
+            (Call::Close, Reply::Close(true)),
+            (Call::IsClosed, Reply::IsClosed(true)),
+            (Call::Close, Reply::Close(false)),
+            (Call::Pop, Reply::Pop(Err(PopError::Closed))),
+        ],
+        &[],
+        true,
+    ),
+    (
+        2,
+        &[
+            (Call::Push(1), Reply::Push(Ok(()))),
+            (Call::Push(2), Reply::Push(Ok(()))),
+            (Call::Len, Reply::Len(2)),
+            (Call::IsEmpty, Reply::IsEmpty(false)),
+            (Call::IsFull, Reply::IsFull(true)),
+            (Call::Pop, Reply::Pop(Ok(1))),
+            (Call::Len, Reply::Len(1)),
+            (Call::IsEmpty, Reply::IsEmpty(false)),
+            (Call::IsFull, Reply::IsFull(false)),
+        ],
+        &[2],
+        false,
+    ),
+];
+
 #[test]
 fn stories_of_one_party(rt: HostRuntime) -> Result<(), AllocError> {
-    let stories: [(usize, &[Row], &[u64], bool); 6] = [
-        (
-            2,
-            &[
-                (Call::Push(1), Reply::Push(Ok(()))),
-                (Call::Push(2), Reply::Push(Ok(()))),
-                (Call::Push(3), Reply::Push(Err(PushError::Full(3)))),
-                (Call::Pop, Reply::Pop(Ok(1))),
-                (Call::Pop, Reply::Pop(Ok(2))),
-                (Call::Pop, Reply::Pop(Err(PopError::Empty))),
-            ],
-            &[],
-            false,
-        ),
-        (
-            3,
-            &[
-                (Call::Push(1), Reply::Push(Ok(()))),
-                (Call::Push(2), Reply::Push(Ok(()))),
-                (Call::IsFull, Reply::IsFull(false)),
-                (Call::Push(3), Reply::Push(Ok(()))),
-                (Call::IsFull, Reply::IsFull(true)),
-                (Call::Push(4), Reply::Push(Err(PushError::Full(4)))),
-                (Call::Len, Reply::Len(3)),
-                (Call::Pop, Reply::Pop(Ok(1))),
-                (Call::Push(4), Reply::Push(Ok(()))),
-            ],
-            &[2, 3, 4],
-            false,
-        ),
-        (
-            3,
-            &[
-                (Call::ForcePush(1), Reply::ForcePush(Ok(None))),
-                (Call::ForcePush(2), Reply::ForcePush(Ok(None))),
-                (Call::ForcePush(3), Reply::ForcePush(Ok(None))),
-                (Call::Push(4), Reply::Push(Err(PushError::Full(4)))),
-                (Call::ForcePush(5), Reply::ForcePush(Ok(Some(1)))),
-                (Call::ForcePush(6), Reply::ForcePush(Ok(Some(2)))),
-                (Call::Close, Reply::Close(true)),
-                (
-                    Call::ForcePush(7),
-                    Reply::ForcePush(Err(ForcePushError::Closed(7))),
-                ),
-                (Call::Pop, Reply::Pop(Ok(3))),
-            ],
-            &[5, 6],
-            true,
-        ),
-        (
-            5,
-            &[
-                (Call::ForcePush(1), Reply::ForcePush(Ok(None))),
-                (Call::ForcePush(2), Reply::ForcePush(Ok(None))),
-                (Call::ForcePush(3), Reply::ForcePush(Ok(None))),
-                (Call::ForcePush(4), Reply::ForcePush(Ok(None))),
-                (Call::ForcePush(5), Reply::ForcePush(Ok(None))),
-                (Call::ForcePush(6), Reply::ForcePush(Ok(Some(1)))),
-                (Call::ForcePush(7), Reply::ForcePush(Ok(Some(2)))),
-                (Call::ForcePush(8), Reply::ForcePush(Ok(Some(3)))),
-                (Call::ForcePush(9), Reply::ForcePush(Ok(Some(4)))),
-                (Call::ForcePush(10), Reply::ForcePush(Ok(Some(5)))),
-                (Call::Pop, Reply::Pop(Ok(6))),
-                (Call::ForcePush(11), Reply::ForcePush(Ok(None))),
-                (Call::ForcePush(12), Reply::ForcePush(Ok(Some(7)))),
-                (Call::ForcePush(13), Reply::ForcePush(Ok(Some(8)))),
-                (Call::ForcePush(14), Reply::ForcePush(Ok(Some(9)))),
-                (Call::ForcePush(15), Reply::ForcePush(Ok(Some(10)))),
-                (Call::Close, Reply::Close(true)),
-                (
-                    Call::ForcePush(40),
-                    Reply::ForcePush(Err(ForcePushError::Closed(40))),
-                ),
-            ],
-            &[11, 12, 13, 14, 15],
-            true,
-        ),
-        (
-            2,
-            &[
-                (Call::Capacity, Reply::Capacity(Some(2))),
-                (Call::IsEmpty, Reply::IsEmpty(true)),
-                (Call::IsFull, Reply::IsFull(false)),
-                (Call::Push(7), Reply::Push(Ok(()))),
-                (Call::Len, Reply::Len(1)),
-                (Call::IsEmpty, Reply::IsEmpty(false)),
-                (Call::IsFull, Reply::IsFull(false)),
-                (Call::Pop, Reply::Pop(Ok(7))),
-                (Call::Len, Reply::Len(0)),
-                (Call::IsEmpty, Reply::IsEmpty(true)),
-                (Call::IsFull, Reply::IsFull(false)),
-                (Call::Push(8), Reply::Push(Ok(()))),
-                (Call::Pop, Reply::Pop(Ok(8))),
-                (Call::Pop, Reply::Pop(Err(PopError::Empty))),
-                (Call::IsClosed, Reply::IsClosed(false)),
-                (Call::Close, Reply::Close(true)),
-                (Call::IsClosed, Reply::IsClosed(true)),
-                (Call::Close, Reply::Close(false)),
-                (Call::Pop, Reply::Pop(Err(PopError::Closed))),
-            ],
-            &[],
-            true,
-        ),
-        (
-            2,
-            &[
-                (Call::Push(1), Reply::Push(Ok(()))),
-                (Call::Push(2), Reply::Push(Ok(()))),
-                (Call::Len, Reply::Len(2)),
-                (Call::IsEmpty, Reply::IsEmpty(false)),
-                (Call::IsFull, Reply::IsFull(true)),
-                (Call::Pop, Reply::Pop(Ok(1))),
-                (Call::Len, Reply::Len(1)),
-                (Call::IsEmpty, Reply::IsEmpty(false)),
-                (Call::IsFull, Reply::IsFull(false)),
-            ],
-            &[2],
-            false,
-        ),
-    ];
-    for (cap, rows, left, closed) in stories {
-        let (queue, party) = Queue::bounded(rt.alloc(), cap)?;
-        one_party(&rt, queue, party, rows, left, closed);
+    for (cap, rows, left, closed) in ONE_PARTY.iter() {
+        let (queue, party) = Queue::bounded(rt.alloc(), *cap)?;
+        one_party(&rt, queue, party, rows, left, *closed);
     }
     Ok(())
 }
@@ -144,63 +146,65 @@ fn each_capacity_is_told(rt: HostRuntime) -> Result<(), AllocError> {
     Ok(())
 }
 
+/// The lines of a story of two parties of a ring, what is left, and whether it is closed.
+static TWO_PARTIES: [(&[Line], &[u64], bool); 3] = [
+    (
+        &[
+            Line::First(Call::Push(5), Reply::Push(Ok(()))),
+            Line::Meet,
+            Line::Second(Call::IsEmpty, Reply::IsEmpty(false)),
+            Line::Second(Call::Pop, Reply::Pop(Ok(5))),
+            Line::Second(Call::IsEmpty, Reply::IsEmpty(true)),
+            Line::First(Call::Push(6), Reply::Push(Ok(()))),
+            Line::First(Call::Close, Reply::Close(true)),
+            Line::Second(Call::Len, Reply::Len(1)),
+            Line::Second(Call::IsEmpty, Reply::IsEmpty(false)),
+            Line::Second(Call::IsClosed, Reply::IsClosed(true)),
+            Line::Second(Call::Pop, Reply::Pop(Ok(6))),
+            Line::Second(Call::Pop, Reply::Pop(Err(PopError::Closed))),
+        ],
+        &[],
+        true,
+    ),
+    (
+        &[
+            Line::Second(Call::Capacity, Reply::Capacity(Some(2))),
+            Line::Second(Call::Len, Reply::Len(0)),
+            Line::Second(Call::IsEmpty, Reply::IsEmpty(true)),
+            Line::First(Call::Push(1), Reply::Push(Ok(()))),
+            Line::Second(Call::Len, Reply::Len(1)),
+            Line::Second(Call::IsEmpty, Reply::IsEmpty(false)),
+            Line::Second(Call::IsFull, Reply::IsFull(false)),
+            Line::First(Call::Push(2), Reply::Push(Ok(()))),
+            Line::Second(Call::IsFull, Reply::IsFull(true)),
+            Line::Second(Call::Len, Reply::Len(2)),
+            Line::Second(Call::Push(3), Reply::Push(Err(PushError::Full(3)))),
+            Line::Second(Call::IsClosed, Reply::IsClosed(false)),
+            Line::First(Call::Close, Reply::Close(true)),
+            Line::Second(Call::IsClosed, Reply::IsClosed(true)),
+            Line::Second(Call::Close, Reply::Close(false)),
+        ],
+        &[1, 2],
+        true,
+    ),
+    (
+        &[
+            Line::First(Call::ForcePush(1), Reply::ForcePush(Ok(None))),
+            Line::Second(Call::ForcePush(2), Reply::ForcePush(Ok(None))),
+            Line::First(Call::ForcePush(3), Reply::ForcePush(Ok(Some(1)))),
+            Line::Second(Call::ForcePush(4), Reply::ForcePush(Ok(Some(2)))),
+            Line::First(Call::Pop, Reply::Pop(Ok(3))),
+        ],
+        &[4],
+        false,
+    ),
+];
+
 #[test]
 fn stories_of_two_parties(rt: HostRuntime) -> Result<(), AllocError> {
-    let stories: [(&[Line], &[u64], bool); 3] = [
-        (
-            &[
-                Line::First(Call::Push(5), Reply::Push(Ok(()))),
-                Line::Meet,
-                Line::Second(Call::IsEmpty, Reply::IsEmpty(false)),
-                Line::Second(Call::Pop, Reply::Pop(Ok(5))),
-                Line::Second(Call::IsEmpty, Reply::IsEmpty(true)),
-                Line::First(Call::Push(6), Reply::Push(Ok(()))),
-                Line::First(Call::Close, Reply::Close(true)),
-                Line::Second(Call::Len, Reply::Len(1)),
-                Line::Second(Call::IsEmpty, Reply::IsEmpty(false)),
-                Line::Second(Call::IsClosed, Reply::IsClosed(true)),
-                Line::Second(Call::Pop, Reply::Pop(Ok(6))),
-                Line::Second(Call::Pop, Reply::Pop(Err(PopError::Closed))),
-            ],
-            &[],
-            true,
-        ),
-        (
-            &[
-                Line::Second(Call::Capacity, Reply::Capacity(Some(2))),
-                Line::Second(Call::Len, Reply::Len(0)),
-                Line::Second(Call::IsEmpty, Reply::IsEmpty(true)),
-                Line::First(Call::Push(1), Reply::Push(Ok(()))),
-                Line::Second(Call::Len, Reply::Len(1)),
-                Line::Second(Call::IsEmpty, Reply::IsEmpty(false)),
-                Line::Second(Call::IsFull, Reply::IsFull(false)),
-                Line::First(Call::Push(2), Reply::Push(Ok(()))),
-                Line::Second(Call::IsFull, Reply::IsFull(true)),
-                Line::Second(Call::Len, Reply::Len(2)),
-                Line::Second(Call::Push(3), Reply::Push(Err(PushError::Full(3)))),
-                Line::Second(Call::IsClosed, Reply::IsClosed(false)),
-                Line::First(Call::Close, Reply::Close(true)),
-                Line::Second(Call::IsClosed, Reply::IsClosed(true)),
-                Line::Second(Call::Close, Reply::Close(false)),
-            ],
-            &[1, 2],
-            true,
-        ),
-        (
-            &[
-                Line::First(Call::ForcePush(1), Reply::ForcePush(Ok(None))),
-                Line::Second(Call::ForcePush(2), Reply::ForcePush(Ok(None))),
-                Line::First(Call::ForcePush(3), Reply::ForcePush(Ok(Some(1)))),
-                Line::Second(Call::ForcePush(4), Reply::ForcePush(Ok(Some(2)))),
-                Line::First(Call::Pop, Reply::Pop(Ok(3))),
-            ],
-            &[4],
-            false,
-        ),
-    ];
-    for (lines, left, closed) in stories {
+    for (lines, left, closed) in TWO_PARTIES.iter() {
         let (queue, party) = Queue::bounded(rt.alloc(), 2)?;
-        two_parties(&rt, queue, party, lines, left, closed);
+        two_parties(&rt, queue, party, lines, left, *closed);
     }
     Ok(())
 }

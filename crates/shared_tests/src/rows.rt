@@ -124,136 +124,140 @@ pub(crate) fn two_parties<R: Wait + Abort>(
     is_left(rt, alone, left, closed);
 }
 
+/// The calls of the only party of a slot, what is left, and whether it is closed.
+static ONE_PARTY: [(&[Row], &[u64], bool); 4] = [
+    (
+        &[
+            (Call::Push(10), Reply::Push(Ok(()))),
+            (Call::Push(20), Reply::Push(Err(PushError::Full(20)))),
+            (Call::Close, Reply::Close(true)),
+            (Call::Push(20), Reply::Push(Err(PushError::Closed(20)))),
+            (Call::Pop, Reply::Pop(Ok(10))),
+            (Call::Push(20), Reply::Push(Err(PushError::Closed(20)))),
+        ],
+        &[],
+        true,
+    ),
+    (
+        &[
+            (Call::ForcePush(10), Reply::ForcePush(Ok(None))),
+            (Call::ForcePush(20), Reply::ForcePush(Ok(Some(10)))),
+            (Call::ForcePush(30), Reply::ForcePush(Ok(Some(20)))),
+            (Call::Close, Reply::Close(true)),
+            (
+                Call::ForcePush(40),
+                Reply::ForcePush(Err(ForcePushError::Closed(40))),
+            ),
+            (Call::Pop, Reply::Pop(Ok(30))),
+            (Call::Pop, Reply::Pop(Err(PopError::Closed))),
+        ],
+        &[],
+        true,
+    ),
+    (
+        &[
+            (Call::Capacity, Reply::Capacity(Some(1))),
+            (Call::IsEmpty, Reply::IsEmpty(true)),
+            (Call::IsFull, Reply::IsFull(false)),
+            (Call::Push(7), Reply::Push(Ok(()))),
+            (Call::Len, Reply::Len(1)),
+            (Call::IsEmpty, Reply::IsEmpty(false)),
+            (Call::IsFull, Reply::IsFull(true)),
+            (Call::Pop, Reply::Pop(Ok(7))),
+            (Call::Len, Reply::Len(0)),
+            (Call::IsEmpty, Reply::IsEmpty(true)),
+            (Call::IsFull, Reply::IsFull(false)),
+            (Call::Push(8), Reply::Push(Ok(()))),
+            (Call::Pop, Reply::Pop(Ok(8))),
+            (Call::Pop, Reply::Pop(Err(PopError::Empty))),
+            (Call::IsClosed, Reply::IsClosed(false)),
+            (Call::Close, Reply::Close(true)),
+            (Call::IsClosed, Reply::IsClosed(true)),
+            (Call::Close, Reply::Close(false)),
+        ],
+        &[],
+        true,
+    ),
+    (&[(Call::Push(4), Reply::Push(Ok(())))], &[4], false),
+];
+
 #[test]
 fn stories_of_one_party(rt: HostRuntime) -> Result<(), AllocError> {
-    let tables: [(&[Row], &[u64], bool); 4] = [
-        (
-            &[
-                (Call::Push(10), Reply::Push(Ok(()))),
-                (Call::Push(20), Reply::Push(Err(PushError::Full(20)))),
-                (Call::Close, Reply::Close(true)),
-                (Call::Push(20), Reply::Push(Err(PushError::Closed(20)))),
-                (Call::Pop, Reply::Pop(Ok(10))),
-                (Call::Push(20), Reply::Push(Err(PushError::Closed(20)))),
-            ],
-            &[],
-            true,
-        ),
-        (
-            &[
-                (Call::ForcePush(10), Reply::ForcePush(Ok(None))),
-                (Call::ForcePush(20), Reply::ForcePush(Ok(Some(10)))),
-                (Call::ForcePush(30), Reply::ForcePush(Ok(Some(20)))),
-                (Call::Close, Reply::Close(true)),
-                (
-                    Call::ForcePush(40),
-                    Reply::ForcePush(Err(ForcePushError::Closed(40))),
-                ),
-                (Call::Pop, Reply::Pop(Ok(30))),
-                (Call::Pop, Reply::Pop(Err(PopError::Closed))),
-            ],
-            &[],
-            true,
-        ),
-        (
-            &[
-                (Call::Capacity, Reply::Capacity(Some(1))),
-                (Call::IsEmpty, Reply::IsEmpty(true)),
-                (Call::IsFull, Reply::IsFull(false)),
-                (Call::Push(7), Reply::Push(Ok(()))),
-                (Call::Len, Reply::Len(1)),
-                (Call::IsEmpty, Reply::IsEmpty(false)),
-                (Call::IsFull, Reply::IsFull(true)),
-                (Call::Pop, Reply::Pop(Ok(7))),
-                (Call::Len, Reply::Len(0)),
-                (Call::IsEmpty, Reply::IsEmpty(true)),
-                (Call::IsFull, Reply::IsFull(false)),
-                (Call::Push(8), Reply::Push(Ok(()))),
-                (Call::Pop, Reply::Pop(Ok(8))),
-                (Call::Pop, Reply::Pop(Err(PopError::Empty))),
-                (Call::IsClosed, Reply::IsClosed(false)),
-                (Call::Close, Reply::Close(true)),
-                (Call::IsClosed, Reply::IsClosed(true)),
-                (Call::Close, Reply::Close(false)),
-            ],
-            &[],
-            true,
-        ),
-        (&[(Call::Push(4), Reply::Push(Ok(())))], &[4], false),
-    ];
-    for (rows, left, closed) in tables {
+    for (rows, left, closed) in ONE_PARTY.iter() {
         let (queue, party) = Queue::bounded(rt.alloc(), 1)?;
-        one_party(&rt, queue, party, rows, left, closed);
+        one_party(&rt, queue, party, rows, left, *closed);
     }
     Ok(())
 }
 
+/// The lines of a story of two parties of a slot, what is left, and whether it is closed.
+static TWO_PARTIES: [(&[Line], &[u64], bool); 4] = [
+    (
+        &[
+            Line::First(Call::ForcePush(10), Reply::ForcePush(Ok(None))),
+            Line::Meet,
+            Line::Second(Call::IsEmpty, Reply::IsEmpty(false)),
+            Line::Second(Call::IsFull, Reply::IsFull(true)),
+            Line::Second(Call::Len, Reply::Len(1)),
+            Line::Second(Call::ForcePush(20), Reply::ForcePush(Ok(Some(10)))),
+            Line::Second(Call::Close, Reply::Close(true)),
+            Line::Meet,
+            Line::First(Call::Push(30), Reply::Push(Err(PushError::Closed(30)))),
+        ],
+        &[20],
+        true,
+    ),
+    (
+        &[
+            Line::First(Call::Push(5), Reply::Push(Ok(()))),
+            Line::Meet,
+            Line::Second(Call::IsEmpty, Reply::IsEmpty(false)),
+            Line::Second(Call::Pop, Reply::Pop(Ok(5))),
+            Line::Second(Call::IsEmpty, Reply::IsEmpty(true)),
+            Line::First(Call::Push(6), Reply::Push(Ok(()))),
+            Line::First(Call::Close, Reply::Close(true)),
+            Line::Second(Call::Len, Reply::Len(1)),
+            Line::Second(Call::IsEmpty, Reply::IsEmpty(false)),
+            Line::Second(Call::IsClosed, Reply::IsClosed(true)),
+            Line::Second(Call::Pop, Reply::Pop(Ok(6))),
+            Line::Second(Call::Pop, Reply::Pop(Err(PopError::Closed))),
+        ],
+        &[],
+        true,
+    ),
+    (
+        &[
+            Line::Second(Call::IsEmpty, Reply::IsEmpty(true)),
+            Line::First(Call::Push(1), Reply::Push(Ok(()))),
+            Line::Second(Call::IsEmpty, Reply::IsEmpty(false)),
+            Line::First(Call::Pop, Reply::Pop(Ok(1))),
+            Line::Second(Call::IsFull, Reply::IsFull(false)),
+            Line::First(Call::Push(2), Reply::Push(Ok(()))),
+            Line::Second(Call::IsFull, Reply::IsFull(true)),
+            Line::First(Call::Pop, Reply::Pop(Ok(2))),
+            Line::Second(Call::Len, Reply::Len(0)),
+            Line::First(Call::Push(3), Reply::Push(Ok(()))),
+            Line::Second(Call::Len, Reply::Len(1)),
+            Line::Second(Call::IsClosed, Reply::IsClosed(false)),
+            Line::First(Call::Close, Reply::Close(true)),
+            Line::Second(Call::IsClosed, Reply::IsClosed(true)),
+            Line::Second(Call::Close, Reply::Close(false)),
+        ],
+        &[3],
+        true,
+    ),
+    (
+        &[Line::Second(Call::Push(1), Reply::Push(Ok(())))],
+        &[1],
+        false,
+    ),
+];
+
 #[test]
 fn stories_of_two_parties(rt: HostRuntime) -> Result<(), AllocError> {
-    let stories: [(&[Line], &[u64], bool); 4] = [
-        (
-            &[
-                Line::First(Call::ForcePush(10), Reply::ForcePush(Ok(None))),
-                Line::Meet,
-                Line::Second(Call::IsEmpty, Reply::IsEmpty(false)),
-                Line::Second(Call::IsFull, Reply::IsFull(true)),
-                Line::Second(Call::Len, Reply::Len(1)),
-                Line::Second(Call::ForcePush(20), Reply::ForcePush(Ok(Some(10)))),
-                Line::Second(Call::Close, Reply::Close(true)),
-                Line::Meet,
-                Line::First(Call::Push(30), Reply::Push(Err(PushError::Closed(30)))),
-            ],
-            &[20],
-            true,
-        ),
-        (
-            &[
-                Line::First(Call::Push(5), Reply::Push(Ok(()))),
-                Line::Meet,
-                Line::Second(Call::IsEmpty, Reply::IsEmpty(false)),
-                Line::Second(Call::Pop, Reply::Pop(Ok(5))),
-                Line::Second(Call::IsEmpty, Reply::IsEmpty(true)),
-                Line::First(Call::Push(6), Reply::Push(Ok(()))),
-                Line::First(Call::Close, Reply::Close(true)),
-                Line::Second(Call::Len, Reply::Len(1)),
-                Line::Second(Call::IsEmpty, Reply::IsEmpty(false)),
-                Line::Second(Call::IsClosed, Reply::IsClosed(true)),
-                Line::Second(Call::Pop, Reply::Pop(Ok(6))),
-                Line::Second(Call::Pop, Reply::Pop(Err(PopError::Closed))),
-            ],
-            &[],
-            true,
-        ),
-        (
-            &[
-                Line::Second(Call::IsEmpty, Reply::IsEmpty(true)),
-                Line::First(Call::Push(1), Reply::Push(Ok(()))),
-                Line::Second(Call::IsEmpty, Reply::IsEmpty(false)),
-                Line::First(Call::Pop, Reply::Pop(Ok(1))),
-                Line::Second(Call::IsFull, Reply::IsFull(false)),
-                Line::First(Call::Push(2), Reply::Push(Ok(()))),
-                Line::Second(Call::IsFull, Reply::IsFull(true)),
-                Line::First(Call::Pop, Reply::Pop(Ok(2))),
-                Line::Second(Call::Len, Reply::Len(0)),
-                Line::First(Call::Push(3), Reply::Push(Ok(()))),
-                Line::Second(Call::Len, Reply::Len(1)),
-                Line::Second(Call::IsClosed, Reply::IsClosed(false)),
-                Line::First(Call::Close, Reply::Close(true)),
-                Line::Second(Call::IsClosed, Reply::IsClosed(true)),
-                Line::Second(Call::Close, Reply::Close(false)),
-            ],
-            &[3],
-            true,
-        ),
-        (
-            &[Line::Second(Call::Push(1), Reply::Push(Ok(())))],
-            &[1],
-            false,
-        ),
-    ];
-    for (lines, left, closed) in stories {
+    for (lines, left, closed) in TWO_PARTIES.iter() {
         let (queue, party) = Queue::bounded(rt.alloc(), 1)?;
-        two_parties(&rt, queue, party, lines, left, closed);
+        two_parties(&rt, queue, party, lines, left, *closed);
     }
     Ok(())
 }
