@@ -305,7 +305,7 @@ module _ {T : Type 0} where
     touches = λ g j ms was l t o v k es xs here lent i e. let h = at_touches i here e in (h.0, lent ∙ h.1);
   }
 
-  pub slot_table_laws : TableLaws {T = T} slot_table
+  pub slot_table_laws : TableLaws {T = T} slot_table 2
   slot_table_laws = record {
     calls = slot_call_laws;
     below = λ w has. omega arith;
