@@ -75,7 +75,7 @@ module _ {T : Type 0} where
   call_in c work.Nothing = c
   call_in c (work.Calls d) = d
 
-module _ {T : Type 0} (K : TableOf T) (laws : TableLaws K) where
+module _ {T : Type 0} (K : TableOf T) (words : ℕ) (laws : TableLaws K words) where
   abbrev C : CallsOf T
   C = K.calls
 

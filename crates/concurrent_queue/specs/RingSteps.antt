@@ -25,7 +25,6 @@ use Rattle.queue_steps.specs.declared.steps.types.Local.TheVariants as local
 use Rattle.queue_steps.specs.declared.steps.types.Next.{Next}
 use Rattle.queue_steps.specs.declared.steps.types.Next.TheVariants as next
 use Rattle.queue_steps.specs.declared.steps.bounded.BoundedLocal.TheVariants as ring
-use Rattle.queue_steps.specs.declared.steps.bounded.PushKind.TheVariants as kind
 use Rattle.queue_steps.specs.State.{State}
 use Rattle.queue_steps.specs.Words.{IsRing, position_of, is_shut}
 use Rattle.queue_steps.specs.Next.{CanNext, next_of}
@@ -34,10 +33,10 @@ use Rattle.ring_laws.proofs.RingCells.{Cell, Ring, queue_of, RingOk, owner, Hold
 use Rattle.ring_laws.proofs.RingWords.{Codes, item_in}
 use Rattle.ring_laws.proofs.RingShared.{Shared, HasWord, word_at, put_word, CanOperate, CanTouch, answered, operated, touched, handed}
 use Rattle.queue_laws.proofs.Effects.{Touches, Whether, with_effect}
-use Rattle.ring_laws.proofs.RingAt.{At, at_stays, push_tail, pop_head, len_tail, empty_head, full_tail, closing, closed_tail}
+use Rattle.ring_laws.proofs.RingAt.{At, at_stays}
 use Rattle.ring_laws.proofs.RingRanks.{rank}
 use Rattle.ring_laws.proofs.RingGood.{IsEffect, Goes as RingGoes, Good}
-use Rattle.ring_laws.proofs.RingStart.{at_touches, at_coming, HasPlace, InRing, at_word}
+use Rattle.ring_laws.proofs.RingStart.{at_first, at_touches, at_coming, HasPlace, InRing, at_word}
 use Rattle.ring_laws.proofs.RingStep.{step_good}
 use Rattle.ring_laws.proofs.RingHands.{lent_stays, Shift, Rests, Claims, GoesOn, Returns, Lent}
 use Rattle.concurrent_queue.specs.Calling.{touched_list, lies_in, handed_by, HasTouched, MayFront, Goes, CallLaws}
@@ -311,14 +310,14 @@ module _ {T : Type 0} where
       handed_is = hands_over cap g s who t v xs codes good.touches (λ i e. at_touches i here e) lent
 
   ring_opens_in : (cap : ℕ) → IsRing cap → (c : Call T) → OpensIn (ring_table cap) c
-  ring_opens_in cap ring (call.Push v) = (ring, (refl, tt, λ g j none. push_tail kind.Push v none))
-  ring_opens_in cap ring (call.ForcePush v) = (ring, (refl, tt, λ g j none. push_tail kind.Force v none))
-  ring_opens_in cap ring call.Pop = (ring, (refl, tt, λ g j none. pop_head none))
-  ring_opens_in cap ring call.Close = (ring, (refl, tt, λ g j none. closing none))
-  ring_opens_in cap ring call.IsClosed = (ring, (refl, tt, λ g j none. closed_tail none))
-  ring_opens_in cap ring call.IsEmpty = (ring, (refl, tt, λ g j none. empty_head none))
-  ring_opens_in cap ring call.IsFull = (ring, (refl, tt, λ g j none. full_tail none))
-  ring_opens_in cap ring call.Len = (ring, (refl, tt, λ g j none. len_tail none))
+  ring_opens_in cap ring (call.Push v) = (ring, (refl, tt, λ g j none. at_first cap g j (call.Push v) none))
+  ring_opens_in cap ring (call.ForcePush v) = (ring, (refl, tt, λ g j none. at_first cap g j (call.ForcePush v) none))
+  ring_opens_in cap ring call.Pop = (ring, (refl, tt, λ g j none. at_first cap g j call.Pop none))
+  ring_opens_in cap ring call.Close = (ring, (refl, tt, λ g j none. at_first cap g j call.Close none))
+  ring_opens_in cap ring call.IsClosed = (ring, (refl, tt, λ g j none. at_first cap g j call.IsClosed none))
+  ring_opens_in cap ring call.IsEmpty = (ring, (refl, tt, λ g j none. at_first cap g j call.IsEmpty none))
+  ring_opens_in cap ring call.IsFull = (ring, (refl, tt, λ g j none. at_first cap g j call.IsFull none))
+  ring_opens_in cap ring call.Len = (ring, (refl, tt, λ g j none. at_first cap g j call.Len none))
   ring_opens_in cap ring call.Capacity = (ring, (refl, (reply.Capacity (Some cap), refl, refl, λ m is. sym is)))
 
   pub ring_call_laws : (cap : ℕ) → CallLaws {T = T} (ring_calls cap)
@@ -330,7 +329,7 @@ module _ {T : Type 0} where
     touches = λ g j ms was l t o v k es xs here lent. has_touched cap g j ms was l t o v k es xs here lent;
   }
 
-  pub ring_table_laws : (cap : ℕ) → IsRing cap → TableLaws {T = T} (ring_table cap)
+  pub ring_table_laws : (cap : ℕ) → IsRing cap → TableLaws {T = T} (ring_table cap) (cap + 3)
   ring_table_laws cap ring = record {
     calls = ring_call_laws cap;
     below = place_below cap;

@@ -1,5 +1,5 @@
 -- A ring that parties share, as a kind of queue in a table: the tail, the head and the stamps are the words behind the count of parties.
-use Rattle.std.specs.Prelude.{◌≡◌, ℕ, suc, ◌+◌, ◌<◌, List, ◌∷◌, length, Option, Some, None}
+use Rattle.std.specs.Prelude.{◌≡◌, ℕ, suc, ◌<◌, List, ◌∷◌, length, Option, Some, None}
 use mathlib.Core.Option.{some}
 use mathlib.Core.Option as maybe
 use lib.ListN.{get_elem?}
@@ -58,7 +58,6 @@ ring_calls {T} cap = record {
 abbrev pub ring_table : {T : Type 0} → ℕ → TableOf T
 ring_table cap = record {
   calls = ring_calls cap;
-  words = cap + 3;
   HasWord = λ w. HasPlace cap w;
   place = word_index;
   Coded = λ g ws hs. RingCoded cap g ws hs;

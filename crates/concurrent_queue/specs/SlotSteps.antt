@@ -21,8 +21,6 @@ use Rattle.queue_steps.specs.declared.steps.types.Op.{Op}
 use Rattle.queue_steps.specs.declared.steps.types.Op.TheVariants as op
 use Rattle.queue_steps.specs.declared.steps.types.Touch.{Touch}
 use Rattle.queue_steps.specs.declared.steps.types.Touch.TheVariants as touch
-use Rattle.queue_steps.specs.declared.steps.types.Word.TheVariants as word
-use Rattle.queue_steps.specs.declared.steps.single.TheConstants.{UNLOCKED}
 use Rattle.queue_steps.specs.declared.steps.single.SingleLocal.{SingleLocal}
 use Rattle.queue_steps.specs.declared.steps.single.SingleLocal.TheVariants.{Closing, Looking}
 use Rattle.queue_steps.specs.State.{State}
@@ -177,6 +175,16 @@ module _ {T : Type 0} where
     handed_is = refl;
   }
 
+  from_held : {l : Local ℕ} {t : Touch} {o : Op ℕ} {v : Option T} {word : ℕ} {slot : Option T} {own : Hold T} {items : List T} {c : Bool} {k : Call T} {es : List (Effect T)} {n : ℕ} {ms : List (State T)}
+      → (good : Good l t o v word slot own own items c n k es ms) → Stands word slot own items c → IsHeld own → good.own' ≡ Nobody
+      → touched_list t v (lent_by own) ≡ (0, v) ∷ [] → handed_by t v (lent_by own) ≡ lies_in (lent_by own) → (touched (one_slot word slot) t v).slot ≡ v → handed (one_slot word slot) t v ≡ slot
+      → Shifts word slot own own good.own' good.h' good.slot' t v
+  from_held {t = t} {o = o} {v = v} {word = word} {slot = slot} {own = own} good st held gone list lies put took = record {
+    moved = subst (Moved own slot good.h' good.slot' good.own') (sym list)
+        (gives_slot slot good.slot' v own own good.own' good.h' good.passes held gone (left_there (touched (one_slot word slot) t v) o good.word' good.slot' good.leaves ∙ put));
+    handed_is = took ∙ (sym (ap lies_in (held_lent st held)) ∙ sym lies);
+  }
+
   shifts : {l : Local ℕ} {t : Touch} {o : Op ℕ} {v : Option T} {word : ℕ} {slot : Option T} {own h : Hold T} {items : List T} {c : Bool} {k : Call T} {es : List (Effect T)} {n : ℕ} {ms : List (State T)}
       → At l t o v own k es → Share own h → Stands word slot h items c → (good : Good l t o v word slot own h items c n k es ms) → Shifts word slot own h good.own' good.h' good.slot' t v
   shifts (push_try v) share st good = from_free good
@@ -185,22 +193,10 @@ module _ {T : Type 0} where
   shifts (pop_try d) share st good = from_free good
   shifts close_try share st good = from_free good
   shifts (look_at l) share st good = from_free good
-  shifts {word = w} {slot = slot} (push_put v) (fills _) st good = record {
-    moved = gives_slot slot good.slot' (Some v) (Filling v) (Filling v) good.own' good.h' good.passes tt good.lands.0 (left_there (touched (one_slot w slot) (touch.Put 0) (Some v)) (op.And word.Lock UNLOCKED) good.word' good.slot' good.leaves);
-    handed_is = sym (ap lies_in (held_lent st tt));
-  }
-  shifts {word = w} {slot = slot} (force_put_empty v) (fills _) st good = record {
-    moved = gives_slot slot good.slot' (Some v) (Filling v) (Filling v) good.own' good.h' good.passes tt good.lands.0 (left_there (touched (one_slot w slot) (touch.Put 0) (Some v)) (op.And word.Lock UNLOCKED) good.word' good.slot' good.leaves);
-    handed_is = sym (ap lies_in (held_lent st tt));
-  }
-  shifts {word = w} {slot = slot} (force_put_full old v) (swaps _ _) st good = record {
-    moved = gives_slot slot good.slot' (Some v) (Swapping old v) (Swapping old v) good.own' good.h' good.passes tt good.lands.0 (left_there (touched (one_slot w slot) (touch.Swap 0) (Some v)) (op.And word.Lock UNLOCKED) good.word' good.slot' good.leaves);
-    handed_is = sym (ap lies_in (held_lent st tt));
-  }
-  shifts {word = w} {slot = slot} (pop_take x) (takes_share _) st good = record {
-    moved = gives_slot slot good.slot' None (Taking x) (Taking x) good.own' good.h' good.passes tt good.lands.0 (left_there (touched (one_slot w slot) (touch.Take 0) None) (op.And word.Lock UNLOCKED) good.word' good.slot' good.leaves);
-    handed_is = sym (ap lies_in (held_lent st tt));
-  }
+  shifts (push_put v) (fills _) st good = from_held good st tt good.lands.0 refl refl refl refl
+  shifts (force_put_empty v) (fills _) st good = from_held good st tt good.lands.0 refl refl refl refl
+  shifts (force_put_full old v) (swaps _ _) st good = from_held good st tt good.lands.0 refl refl refl refl
+  shifts (pop_take x) (takes_share _) st good = from_held good st tt good.lands.0 refl refl refl refl
 
   -- one slot has no fronts
   no_front : (items : List T) (c was : Bool) (n : ℕ) (e : Option (Effect T)) (R : State T) → Leads (single items c n) e R → MayFront e was
@@ -305,7 +301,7 @@ module _ {T : Type 0} where
     touches = λ g j ms was l t o v k es xs here lent i e. let h = at_touches i here e in (h.0, lent ∙ h.1);
   }
 
-  pub slot_table_laws : TableLaws {T = T} slot_table
+  pub slot_table_laws : TableLaws {T = T} slot_table 2
   slot_table_laws = record {
     calls = slot_call_laws;
     below = λ w has. omega arith;

@@ -33,7 +33,6 @@ slot_calls {T} = record {
 abbrev pub slot_table : {T : Type 0} → TableOf T
 slot_table = record {
   calls = slot_calls;
-  words = 2;
   HasWord = IsLock;
   place = λ w. 1;
   Coded = λ g ws hs. SlotCoded g ws hs;

@@ -224,5 +224,5 @@ module _ (T : Type 0) (K : ℕ → TableOf T) (t : TableId) where
       let cap : Option ℕ = cap_of (K t.slots).calls in let h = p.1.0.known.seen in
       (none, (y, fill, (at, quiet cap (view_at p.1) (view_at p.1) h c y (prefix_self h) (prefix_self h) at.3 refl refl tells (right (after cap h) (cap_after cap h)))))
 
-  pub table_begins : TableLaws (K t.slots) → (p : Place T) (c : Call T) → IsAt (cap_of (K t.slots).calls) t p → Begins (TableCan K) (TableDoes K) (TableStands K) (TableEnded K) (K t.slots).calls.kind t p c
-  table_begins laws p c at = let o = laws.opens c in (o.0, opens_leads p c (first_of (K t.slots).calls.kind c) at refl o.1)
+  pub table_begins : (words : ℕ) → TableLaws (K t.slots) words → (p : Place T) (c : Call T) → IsAt (cap_of (K t.slots).calls) t p → Begins (TableCan K) (TableDoes K) (TableStands K) (TableEnded K) (K t.slots).calls.kind t p c
+  table_begins words laws p c at = let o = laws.opens c in (o.0, opens_leads p c (first_of (K t.slots).calls.kind c) at refl o.1)

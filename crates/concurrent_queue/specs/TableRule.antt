@@ -28,11 +28,9 @@ use Rattle.concurrent_queue.specs.Known.{Kept}
 use Rattle.concurrent_queue.specs.Seats.{Table, count_of, is_busy, known_by}
 use Rattle.concurrent_queue.specs.Calling.{CallsOf, CallLaws, cap_of, Standing, touched_list, handed_by, MayFront, Goes, first_of, Opens}
 
--- A kind of queue in a table: how many words there are, which of the steps' words it has and where, and how the words behind the count and the slots at home
--- stand for its cells
+-- A kind of queue in a table: which of the steps' words it has and where, and how the words behind the count and the slots at home stand for its cells
 pub record TableOf (T : Type 0) : Type 1 where
   pub calls : CallsOf T
-  pub words : ℕ
   pub HasWord : Word ℕ → Type 0
   pub place : Word ℕ → ℕ
   pub Coded : calls.Cells → List ℕ → List (maybe.Option (Option T)) → Type 0
@@ -113,10 +111,10 @@ pub record Stepped {T : Type 0} (K : TableOf T) (g : K.calls.Cells) (who n : ℕ
 abbrev pub OpensIn : {T : Type 0} → TableOf T → Call T → Type 0
 OpensIn K c = CanNext K.calls.kind (first_local {B = ℕ} (call_kind c)) answer.Start × Opens K.calls (InTable K) c (first_of K.calls.kind c)
 
--- what a kind owes of its table
-pub record TableLaws {T : Type 0} (K : TableOf T) : Type 0 where
+-- what a kind owes of its table of so many words
+pub record TableLaws {T : Type 0} (K : TableOf T) (words : ℕ) : Type 0 where
   pub calls : CallLaws K.calls
-  pub below : (w : Word ℕ) → K.HasWord w → K.place w < K.words
+  pub below : (w : Word ℕ) → K.HasWord w → K.place w < words
   pub at_word : (g : K.calls.Cells) (j : ℕ) (ms : List (State T)) (was : Bool) (l : Local ℕ) (t : Touch) (o : Op ℕ) (v : Option T) (k : Call T) (es : List (Effect T))
       → K.calls.Ok g → K.calls.At g j ms was l t o v k es → InTable K o
   pub steps : (g : K.calls.Cells) (who n : ℕ) (ws : List ℕ) (hs : List (maybe.Option (Option T))) (ms : List (State T)) (was : Bool) (l : Local ℕ) (t : Touch) (o : Op ℕ) (v : Option T) (k : Call T) (es : List (Effect T)) (xs : List (ℕ × Option T))

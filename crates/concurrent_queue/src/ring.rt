@@ -46,7 +46,6 @@ impl<T> TableKind<T> for Rings {
 }
 
 impl<T> TableSteps<T> for Rings {
-    ghost use Rattle.std.proofs.Common.{refl};
     ghost use Rattle.queue_steps.specs.declared.sizes.TheConstants.{MAX_CAPACITY};
     ghost use Rattle.concurrent_queue.specs.RingSteps.{ring_table_laws};
     ghost use Rattle.queue_steps.specs.declared.steps.types.Kind.TheVariants as kinds;
@@ -54,7 +53,7 @@ impl<T> TableSteps<T> for Rings {
     ghost use Rattle.ring_laws.proofs.RingStart.{HasPlace};
     ghost use Rattle.concurrent_queue.specs.RingTable.{word_index};
 
-    ghost laws = { λ slots wide small. (ring_table_laws slots (wide, small), refl) };
+    ghost laws = { λ slots wide small. ring_table_laws slots (wide, small) };
 
     #[inline(always)]
     fn kind(slots: usize) -> Kind {

@@ -36,12 +36,11 @@ impl<T> TableKind<T> for Slots {
 }
 
 impl<T> TableSteps<T> for Slots {
-    ghost use Rattle.std.proofs.Common.{refl};
     ghost use Rattle.queue_steps.specs.declared.steps.types.Kind.TheVariants as kinds;
     ghost use Rattle.queue_steps.specs.Next.{CanNext, next_of};
     ghost use Rattle.concurrent_queue.specs.SlotSteps.{slot_table_laws};
 
-    ghost laws = { λ slots some one. (slot_table_laws, refl) };
+    ghost laws = { λ slots some one. slot_table_laws };
 
     #[inline(always)]
     fn kind(_slots: usize) -> Kind {

@@ -51,7 +51,7 @@ pub(crate) trait TableSteps<T>: Sizes + TableKind<T> {
         ensures { (slots : ℕ) → result ≡ (Self.layout slots).place word };
 
     /// Each step of a call is right, wherever the call stands.
-    ghost laws: { (slots : ℕ) → Self.least ≤ slots → slots ≤ Self.most → TableLaws (Self.layout slots) × ((Self.layout slots).words ≡ Self.words slots) };
+    ghost laws: { (slots : ℕ) → Self.least ≤ slots → slots ≤ Self.most → TableLaws (Self.layout slots) (Self.words slots) };
 }
 
 /// The rule of the table: what its words and slots are to the one history.
@@ -190,11 +190,11 @@ impl<T, K: TableSteps<T>, A: Allocator> Turns<T, usize, Seat<Option<T>, Doing<T>
 
     ghost ended = { λ m s c r q. TableEnded K.layout m.table.shared.table_id (s.table_id, s.me) c r (q.table_id, q.me) };
 
-    ghost begins = { λ m s c h. let b = table_begins T K.layout m.table.shared.table_id (K.laws m.table.shared.table_id.slots m.sized.2 m.sized.3).0 (s.table_id, s.me) c h in (b.0, leads-through (TableCan K.layout) (TableDoes K.layout) (TableStands K.layout) (TableEnded K.layout) (λ m. m.table.shared.table_id) (λ s. (s.table_id, s.me)) m s s c (next_of (K.layout m.table.shared.table_id.slots).calls.kind (first_local (call_kind c)) answer.Start) (call_value c) b.1) };
+    ghost begins = { λ m s c h. let b = table_begins T K.layout m.table.shared.table_id (K.words m.table.shared.table_id.slots) (K.laws m.table.shared.table_id.slots m.sized.2 m.sized.3) (s.table_id, s.me) c h in (b.0, leads-through (TableCan K.layout) (TableDoes K.layout) (TableStands K.layout) (TableEnded K.layout) (λ m. m.table.shared.table_id) (λ s. (s.table_id, s.me)) m s s c (next_of (K.layout m.table.shared.table_id.slots).calls.kind (first_local (call_kind c)) answer.Start) (call_value c) b.1) };
 
     ghost goes_on = { λ m first c l a s x h. let g = table_goes_on T K.layout m.table.shared.table_id (first.table_id, first.me) c l a (s.table_id, s.me) x h in (g.0, leads-through (TableCan K.layout) (TableDoes K.layout) (TableStands K.layout) (TableEnded K.layout) (λ m. m.table.shared.table_id) (λ s. (s.table_id, s.me)) m first s c (next_of (K.layout m.table.shared.table_id.slots).calls.kind l a) x g.1) };
 
-    ghost prompt = { λ m c h. (K.laws m.table.shared.table_id.slots m.sized.2 m.sized.3).0.prompt c h };
+    ghost prompt = { λ m c h. (K.laws m.table.shared.table_id.slots m.sized.2 m.sized.3).prompt c h };
 
     #[inline(always)]
     fn kind(&self) -> Kind {
