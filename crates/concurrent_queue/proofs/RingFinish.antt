@@ -1,7 +1,5 @@
 -- What is left of a shared ring that its only party ended is a ring with one owner, in the state after the history.
 use Rattle.std.proofs.Common.{◌≡◌, ℕ, zero, suc, ◌+◌, ◌-◌, ◌%◌, ◌<◌, ◌≤◌, List, [], ◌∷◌, length, get_or, Option, Some, None, inr, refl, ap, sym, ◌∙◌, subst, arith, slice_get}
-use mathlib.Core.Option.{some, some-injective, some-ne-none}
-use lib.ListN.{get_elem?}
 use Rattle.atomic_table.specs.Table.{Final, Seen}
 use Rattle.queue_steps.specs.State.{State}
 use Rattle.queue_steps.specs.Effect.{after}
@@ -18,34 +16,15 @@ use Rattle.concurrent_queue.specs.declared.known.Doing.{Doing}
 use Rattle.concurrent_queue.specs.Known.{view_of}
 use Rattle.concurrent_queue.specs.Seats.{count_of, IsAlone}
 use Rattle.concurrent_queue.specs.RingRule.{words_of, OneRing}
-use Rattle.exclusive_queue.specs.declared.bounded.RingSlot.{RingSlot}
+use Rattle.exclusive_queue.specs.RingCells.{RingSlot}
 use Rattle.exclusive_queue.specs.RingCells.{slot_in}
 use Rattle.exclusive_queue.specs.RingKeeps.{at_position, Holds, put_in, items_of}
 use Rattle.exclusive_queue.specs.RingOwned.{IsIdle, ring_queue}
-use Rattle.exclusive_queue.specs.KeptRings.{paired, ring_in}
+use Rattle.exclusive_queue.specs.RingMemory.{paired, ring_in}
+use Rattle.exclusive_queue.proofs.RingWrites.{elem_or, length_paired, pair_at}
 use Rattle.concurrent_queue.proofs.RingRests.{ring_ends}
 
 module _ {T : Type 0} where
-  pub length_paired : (ss : List ℕ) (xs : List (Option T)) (n : ℕ) → length ss ≡ n → length xs ≡ n → length (paired ss xs) ≡ n
-  length_paired [] [] n is is' = is
-  length_paired [] (x ∷ xs) n is is' = is
-  length_paired (s ∷ ss) [] n is is' = is'
-  length_paired (s ∷ ss) (x ∷ xs) zero is is' = absurd (omega arith)
-  length_paired (s ∷ ss) (x ∷ xs) (suc n) is is' = ap suc (length_paired ss xs n (omega (arith, is)) (omega (arith, is')))
-
-  -- a pair has the stamp and the slot of its number
-  pub pair_at : (ss : List ℕ) (xs : List (Option T)) (i : ℕ) → length ss ≡ length xs → slot_in (paired ss xs) i ≡ record { stamp = get_or ss i 0; item = get_or xs i None }
-  pair_at [] [] i same = refl
-  pair_at [] (x ∷ xs) i same = absurd (omega (arith, same))
-  pair_at (s ∷ ss) [] i same = absurd (omega (arith, same))
-  pair_at (s ∷ ss) (x ∷ xs) zero same = refl
-  pair_at (s ∷ ss) (x ∷ xs) (suc i) same = pair_at ss xs i (omega (arith, same))
-
-  at_or : (xs : List (Option T)) (i : ℕ) (x : Option T) → get_elem? xs i ≡ some x → get_or xs i None ≡ x
-  at_or [] i x is = absurd (some-ne-none x (sym is))
-  at_or (y ∷ xs) zero x is = some-injective y x is
-  at_or (y ∷ xs) (suc i) x is = at_or xs i x is
-
   -- items that lie one after the other from position p on are the list of those positions
   items_are : (n k p : ℕ) (slots : List (RingSlot T)) (items : List T) → length items ≡ k → ((i : ℕ) → i < k → (x : T) × ((at_position n slots (p + i)).item ≡ Some x) × (slice_get items i ≡ Some x)) → items_of n slots p k ≡ items
   items_are n zero p slots [] long at = refl
@@ -122,7 +101,7 @@ module _ {T : Type 0} where
       let s = end.0 in let rule : OneRing cap s = end.1.0 in
       let e = ring_ends cap s id d rule end.1.1 is in
       let long : length xs ≡ cap = sym end.3 ∙ rule.homes.0 in
-      let lies : (i : ℕ) → i < cap → get_or xs i None ≡ get_or rule.shared.slots i None = λ i lt. at_or xs i (get_or rule.shared.slots i None) (end.4 i (get_or rule.shared.slots i None) (e.homes i lt)) in
+      let lies : (i : ℕ) → i < cap → get_or xs i None ≡ get_or rule.shared.slots i None = λ i lt. elem_or None xs i (get_or rule.shared.slots i None) (end.4 i (get_or rule.shared.slots i None) (e.homes i lt)) in
       let words : words_of (count_of s) rule.shared ≡ ws = sym rule.words ∙ end.2 in
       let state : queue_of cap rule.ring ≡ after (Some cap) d.known.seen = rule.state ∙ ap (after (Some cap)) (sym e.seen) in (
         subst (λ (z : List ℕ). IsIdle (ring_in cap z xs)) words (owned_idle cap rule.ring rule.shared (count_of s) xs rule.ok rule.codes e.rest long lies),
