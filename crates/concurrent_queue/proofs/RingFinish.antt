@@ -20,11 +20,11 @@ use Rattle.concurrent_queue.specs.Known.{view_of}
 use Rattle.concurrent_queue.specs.Seats.{count_of, IsAlone}
 use Rattle.concurrent_queue.specs.TableRule.{Rule}
 use Rattle.concurrent_queue.specs.RingTable.{home_when, Homes, ring_words, ring_table}
-use Rattle.exclusive_queue.specs.declared.bounded.RingSlot.{RingSlot}
-use Rattle.exclusive_queue.specs.RingCells.{slot_in}
+use Rattle.exclusive_queue.specs.RingCells.{RingSlot, slot_in}
 use Rattle.exclusive_queue.specs.RingKeeps.{at_position, Holds, put_in, items_of}
 use Rattle.exclusive_queue.specs.RingOwned.{IsIdle, ring_queue}
-use Rattle.exclusive_queue.specs.KeptRings.{paired, ring_in}
+use Rattle.exclusive_queue.specs.RingMemory.{paired, ring_in}
+use Rattle.exclusive_queue.proofs.RingWrites.{elem_or, length_paired, pair_at}
 use Rattle.concurrent_queue.proofs.TableRests.{table_ends}
 
 none_if : {X : Type 0} (o : Option X) → ((x : X) → o ≡ Some x → ⊥) → o ≡ None
@@ -32,26 +32,6 @@ none_if None never = refl
 none_if (Some x) never = absurd (never x refl)
 
 module _ {T : Type 0} where
-  pub length_paired : (ss : List ℕ) (xs : List (Option T)) (n : ℕ) → length ss ≡ n → length xs ≡ n → length (paired ss xs) ≡ n
-  length_paired [] [] n is is' = is
-  length_paired [] (x ∷ xs) n is is' = is
-  length_paired (s ∷ ss) [] n is is' = is'
-  length_paired (s ∷ ss) (x ∷ xs) zero is is' = absurd (omega arith)
-  length_paired (s ∷ ss) (x ∷ xs) (suc n) is is' = ap suc (length_paired ss xs n (omega (arith, is)) (omega (arith, is')))
-
-  -- a pair has the stamp and the slot of its number
-  pub pair_at : (ss : List ℕ) (xs : List (Option T)) (i : ℕ) → length ss ≡ length xs → slot_in (paired ss xs) i ≡ record { stamp = get_or ss i 0; item = get_or xs i None }
-  pair_at [] [] i same = refl
-  pair_at [] (x ∷ xs) i same = absurd (omega (arith, same))
-  pair_at (s ∷ ss) [] i same = absurd (omega (arith, same))
-  pair_at (s ∷ ss) (x ∷ xs) zero same = refl
-  pair_at (s ∷ ss) (x ∷ xs) (suc i) same = pair_at ss xs i (omega (arith, same))
-
-  at_or : (xs : List (Option T)) (i : ℕ) (x : Option T) → get_elem? xs i ≡ some x → get_or xs i None ≡ x
-  at_or [] i x is = absurd (some-ne-none x (sym is))
-  at_or (y ∷ xs) zero x is = some-injective y x is
-  at_or (y ∷ xs) (suc i) x is = at_or xs i x is
-
   -- items that lie one after the other from position p on are the list of those positions
   items_are : (n k p : ℕ) (slots : List (RingSlot T)) (items : List T) → length items ≡ k → ((i : ℕ) → i < k → (x : T) × ((at_position n slots (p + i)).item ≡ Some x) × (slice_get items i ≡ Some x)) → items_of n slots p k ≡ items
   items_are n zero p slots [] long at = refl
@@ -135,7 +115,7 @@ module _ {T : Type 0} where
       let e = table_ends (ring_table cap) s id d rule end.1.1 is in
       let rest : AtRest cap r shared = at_rest cap r shared rule.ok codes e.nobody in
       let long : length xs ≡ cap = sym end.3 ∙ homes.0 in
-      let lies : (i : ℕ) → i < cap → get_or xs i None ≡ get_or shared.slots i None = λ i lt. at_or xs i (get_or shared.slots i None) (end.4 i (get_or shared.slots i None) (all_home cap r shared s.homes codes homes e.nobody i lt)) in
+      let lies : (i : ℕ) → i < cap → get_or xs i None ≡ get_or shared.slots i None = λ i lt. elem_or None xs i (get_or shared.slots i None) (end.4 i (get_or shared.slots i None) (all_home cap r shared s.homes codes homes e.nobody i lt)) in
       let words : count_of s ∷ ring_words shared ≡ ws = ap (λ y. count_of s ∷ y) (sym rule.coded.2) ∙ (sym rule.counted ∙ end.2) in
       let state : queue_of cap r ≡ after (Some cap) d.known.seen = rule.state ∙ ap (after (Some cap)) (sym e.seen) in (
         subst (λ (z : List ℕ). IsIdle (ring_in cap z xs)) words (owned_idle cap r shared (count_of s) xs rule.ok codes rest long lies),

@@ -9,5 +9,5 @@ pub mod LineBegins
 pub mod Pops
 mod Soundness
 mod Answered
-pub mod KeptWords
+pub mod RingWrites
 pub mod Sent

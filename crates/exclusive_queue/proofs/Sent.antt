@@ -18,13 +18,12 @@ use Rattle.std.proofs.Crossing.{frees, send, sync}
 use Rattle.std.specs.Mem.Slots.Ownership.{bytes_of, slot, slots, slot_lent, slots_lent}
 use Rattle.atomic_table.specs.contracts.owned.Closed.{the_row, the_type}
 use Rattle.block_web.proofs.chain.Chain.TheSendSync.{the_send as chain_send, the_sync as chain_sync}
-use Rattle.exclusive_queue.specs.contracts.kept.KeptRing.{the_row as kept_row}
-use Rattle.exclusive_queue.specs.contracts.kept.KeptRing.TheInside.{the_type as kept_type}
+use Rattle.exclusive_queue.specs.contracts.bounded.Ring.{the_row as ring_row}
+use Rattle.exclusive_queue.specs.contracts.bounded.Ring.TheInside.{the_type as ring_type}
 use Rattle.std.proofs.option.Option.TheSendSync.{the_send as option_send, the_sync as option_sync}
 use Rattle.exclusive_queue.specs.contracts.exclusive.Form.{the_row as form_row, enum as form_enum}
 use Rattle.exclusive_queue.specs.contracts.exclusive.Exclusive.{the_row as exclusive_row}
 use Rattle.exclusive_queue.specs.contracts.exclusive.Exclusive.TheInside.{the_type as exclusive_type}
-use Rattle.exclusive_queue.proofs.bounded.Ring.TheSendSync.{the_send as ring_send, the_sync as ring_sync}
 use Rattle.exclusive_queue.proofs.unbounded.LinkedBlocks.TheSendSync.{the_send as blocks_send, the_sync as blocks_sync}
 use Rattle.exclusive_queue.proofs.single.Single.TheSendSync.{the_send as single_send, the_sync as single_sync}
 
@@ -75,20 +74,20 @@ closed_sync S A g s t f = declared_sync (the_type S A g) (
   ),
 )
 
-pub kept_send : (T A : RattleType) (g : Allocator.Ghosts A.Denot) → IsSend T → IsSend A → Frees g g.dealloc_token → IsSend (kept_row T A g)
-kept_send T A g s t f = view_send _ _ _ _ _ (declared_send (kept_type T A g) (search sendable, (closed_send _ A g (option_send T s) t f, tt)))
+pub ring_send : (T A : RattleType) (g : Allocator.Ghosts A.Denot) → IsSend T → IsSend A → Frees g g.dealloc_token → IsSend (ring_row T A g)
+ring_send T A g s t f = view_send _ _ _ _ _ (declared_send (ring_type T A g) (search sendable, (closed_send _ A g (option_send T s) t f, tt)))
 
 form_send : (T A : RattleType) (g : Allocator.Ghosts A.Denot) → IsSend T → IsSend A → Frees g g.dealloc_token → IsSend (form_row T A g)
-form_send T A g s t f = variants_send (form_enum T A g) ((single_send T s, tt), ((ring_send T A g s t f, tt), ((kept_send T A g s t f, tt), ((blocks_send T A g s t f, tt), tt))))
+form_send T A g s t f = variants_send (form_enum T A g) ((single_send T s, tt), ((ring_send T A g s t f, tt), (((blocks_send T A g s t f, tt), tt))))
 
 pub exclusive_send_over : (T A : RattleType) (g : Allocator.Ghosts A.Denot) → IsSend T → IsSend A → Frees g g.dealloc_token → IsSend (exclusive_row T A g)
 exclusive_send_over T A g s t f = view_send _ _ _ _ _ (declared_send (exclusive_type T A g) (form_send T A g s t f, tt))
 
-pub kept_sync : (T A : RattleType) (g : Allocator.Ghosts A.Denot) → IsSync T → IsSync A → Frees g g.dealloc_token → IsSync (kept_row T A g)
-kept_sync T A g s t f = view_sync _ _ _ _ _ (declared_sync (kept_type T A g) (search sendable, (closed_sync _ A g (option_sync T s) t f, tt)))
+pub ring_sync : (T A : RattleType) (g : Allocator.Ghosts A.Denot) → IsSync T → IsSync A → Frees g g.dealloc_token → IsSync (ring_row T A g)
+ring_sync T A g s t f = view_sync _ _ _ _ _ (declared_sync (ring_type T A g) (search sendable, (closed_sync _ A g (option_sync T s) t f, tt)))
 
 form_sync : (T A : RattleType) (g : Allocator.Ghosts A.Denot) → IsSend T → IsSync T → IsSend A → IsSync A → Frees g g.dealloc_token → IsSync (form_row T A g)
-form_sync T A g s ys t yt f = variants_sync (form_enum T A g) ((single_sync T ys, tt), ((ring_sync T A g ys yt, tt), ((kept_sync T A g ys yt f, tt), ((blocks_sync T A g s t yt f, tt), tt))))
+form_sync T A g s ys t yt f = variants_sync (form_enum T A g) ((single_sync T ys, tt), ((ring_sync T A g ys yt f, tt), (((blocks_sync T A g s t yt f, tt), tt))))
 
 pub exclusive_sync_over : (T A : RattleType) (g : Allocator.Ghosts A.Denot) → IsSend T → IsSync T → IsSend A → IsSync A → Frees g g.dealloc_token → IsSync (exclusive_row T A g)
 exclusive_sync_over T A g s ys t yt f = view_sync _ _ _ _ _ (declared_sync (exclusive_type T A g) (form_sync T A g s ys t yt f, tt))

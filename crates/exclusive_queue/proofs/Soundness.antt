@@ -26,6 +26,5 @@ pub sound : {T A : Type 0} (f : Form T A) → IsFormIdle f → IsSoundOwned (for
 sound (form.Single s) idle =
     (record { none_coming = refl; within = (omega arith, one_at_most s.item); counted = inl refl }, inl refl)
 sound (form.Bounded r) idle = sound_ring r idle
-sound (form.Kept r) idle = sound_ring r idle
 sound (form.Unbounded r) idle =
     (record { none_coming = refl; within = tt; counted = inr idle.below }, holds-blocks r idle)

@@ -10,14 +10,12 @@ use Rattle.exclusive_queue.specs.declared.exclusive.Exclusive.TheInside.{Inside}
 abbrev pub form_owned : {T A : Type 0} → Form T A → Owned T
 form_owned (form.Single s) = single.single_owned s
 form_owned (form.Bounded r) = ring.ring_owned r
-form_owned (form.Kept r) = ring.ring_owned r
 form_owned (form.Unbounded r) = line.line_owned r
 
 -- no call is on its way
 abbrev pub IsFormIdle : {T A : Type 0} → Form T A → Type 0
 IsFormIdle (form.Single s) = single.IsIdle s
 IsFormIdle (form.Bounded r) = ring.IsIdle r
-IsFormIdle (form.Kept r) = ring.IsIdle r
 IsFormIdle (form.Unbounded r) = line.IsIdle r
 
 abbrev pub exclusive_view : {T A : Type 0} → Inside T A → Owned T

@@ -4,6 +4,8 @@ pub mod Runs
 pub mod SingleCells
 pub mod SingleAnswers
 pub mod RingCells
+pub mod RingMemory
+pub mod RingOpening
 pub mod RingKeeps
 pub mod RingOwned
 pub mod RingRuns
@@ -24,4 +26,3 @@ pub mod LinePops
 pub mod LineAnswers
 pub mod Exclusive
 pub mod LinkedBlocks
-pub mod KeptRings

@@ -9,8 +9,12 @@ use Rattle.queue_steps.specs.declared.steps.types.Op.TheVariants as op
 use Rattle.queue_steps.specs.declared.steps.types.Word.TheVariants as word
 use Rattle.queue_steps.specs.declared.steps.types.Touch.{Touch}
 use Rattle.queue_steps.specs.declared.steps.types.Touch.TheVariants as touch
-use Rattle.exclusive_queue.specs.declared.bounded.RingSlot.{RingSlot}
 use Rattle.exclusive_queue.specs.Runs.{CanTouch, Touches, CanPerform, Performs}
+
+-- a slot, and the stamp that says for which position it is free or filled
+pub record RingSlot (T : Type 0) : Type 0 where
+  pub stamp : ℕ
+  pub item : Option T
 
 -- what is in a ring: how many slots, the two positions in their words, and the slots
 pub record RingState (T : Type 0) : Type 0 where

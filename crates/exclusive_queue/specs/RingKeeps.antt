@@ -5,7 +5,7 @@ use Rattle.std.proofs.Math.Nat.{div-add-mod, mul-le-mul_left, add-mod_right}
 use Rattle.std.proofs.lemmas.List.{get_or-set_same, get_or-set_other}
 use Rattle.std.proofs.lemmas.Grind.{common_steps}
 use Rattle.queue_steps.specs.Words.{slot_at, stamp_free, stamp_filled, stamp_emptied}
-use Rattle.exclusive_queue.specs.declared.bounded.RingSlot.{RingSlot}
+use Rattle.exclusive_queue.specs.RingCells.{RingSlot}
 use Rattle.exclusive_queue.specs.RingCells.{slot_in}
 
 -- two positions less than a lap apart have slots of their own

@@ -17,7 +17,7 @@ use Rattle.queue_steps.specs.declared.steps.bounded.BoundedLocal.{BoundedLocal}
 use Rattle.queue_steps.specs.Next.{CanNext, next_of}
 use Rattle.queue_steps.specs.Words.{IsRing}
 use Rattle.queue_steps.specs.BoundedNext.{at, FitsRing, bounded_next}
-use Rattle.exclusive_queue.specs.declared.bounded.RingSlot.{RingSlot}
+use Rattle.exclusive_queue.specs.RingCells.{RingSlot}
 use Rattle.exclusive_queue.specs.Numbers.{less}
 use Rattle.exclusive_queue.specs.Ends.{Ends}
 use Rattle.exclusive_queue.specs.Runs.{Ends-step}

@@ -1,42 +1,64 @@
-//! A ring of slots, each with a stamp, with one owner.
-ghost use Rattle.std.specs.Prelude.{◌≡◌, ◌+◌, ◌%◌, ◌<◌, ◌≤◌, IfOk, IsErr, Some};
+//! A ring of slots, each with a stamp, with one owner. Its words and slots lie in the memory of a closed table, as a ring that was shared leaves it.
+ghost use Rattle.std.specs.Prelude.{◌≡◌, ◌+◌, ◌%◌, ◌<◌, ◌≤◌, length, slice_set, IfOk, IsErr, Some};
+ghost use Rattle.std.specs.Mem.Slots.{slots_items, slots_len, IsFull};
 ghost use Rattle.queue_steps.specs.LookNext.{IsLoad};
 ghost use Rattle.queue_steps.specs.Next.{CanNext, next_of};
 ghost use Rattle.queue_steps.specs.State.{start};
 ghost use Rattle.queue_steps.specs.Words.{slot_at};
 ghost use Rattle.queue_steps.specs.declared.sizes.TheConstants.{LIMIT, MAX_CAPACITY};
+ghost use Rattle.exclusive_queue.specs.RingCells.{slot_in};
+ghost use Rattle.exclusive_queue.specs.RingOpening.{IsOpening};
 
-use crate::cells::{Cells, exchange};
+use crate::cells::Cells;
+use atomic_table::{Closed, Table, TableRule};
 use queue_steps::sizes::MAX_CAPACITY;
 use queue_steps::steps::{self, Answer, Kind, Local, Next, Op, TAIL_STEP, Touch, Word};
 use std::alloc::{AllocError, Allocator};
 use std::marker::Model;
 use std::mem;
 
-/// A slot, and the stamp that says for which position it is free or filled.
-#[derive(Drop)]
-pub(crate) struct RingSlot<T> {
-    stamp: u64,
-    item: Option<T>,
-}
+/// The words of the tail, of the head, and of the first stamp.
+const TAIL: usize = 1;
 
-/// The slots, and the positions of the front and of the next item to come.
+const HEAD: usize = 2;
+
+const STAMPS: usize = 3;
+
+/// The slots with their stamps, and the positions of the front and of the next item to come, as they lay in the table.
 ///
 /// A contract sees the two positions, the capacity and the slots.
-#[derive(Drop)]
 pub(crate) struct Ring<T, A: Allocator> {
-    capacity: usize,
-    head: u64,
-    tail: u64,
-    slots: Vec<RingSlot<T>, A>,
+    pub(crate) capacity: usize,
+    pub(crate) memory: Closed<Option<T>, A>,
+    ghost full: { IsFull memory.words × IsFull memory.slots },
+    ghost sized: { (slots_len memory.words ≡ capacity + 3) × (slots_len memory.slots ≡ capacity) },
 }
 
 impl<T, A: Allocator> Model for Ring<T, A> {
+    ghost use Rattle.std.specs.Mem.Slots.{slots_items};
     ghost use Rattle.exclusive_queue.specs.RingCells.{RingState};
+    ghost use Rattle.exclusive_queue.specs.RingMemory.{ring_in};
 
     ghost Value = { RingState T };
 
-    ghost view = { λ r. record { cap = r.capacity; head = r.head; tail = r.tail; slots = r.slots.items } };
+    ghost view = { λ r. ring_in r.capacity (slots_items r.memory.words) (slots_items r.memory.slots) };
+}
+
+unsafe impl<T: Send, A: Allocator + Send> Send for Ring<T, A> {}
+
+unsafe impl<T: Sync, A: Allocator + Send + Sync> Sync for Ring<T, A> {}
+
+impl<T: Drop, A: Allocator> Drop for Ring<T, A> {
+    fn drop(self) {
+        let Ring {
+            capacity,
+            mut memory,
+        } = self;
+        for slot in 0..capacity {
+            drop(memory.take(slot));
+        }
+        memory.free();
+    }
 }
 
 /// The first position of this slot that is not below `accepted`.
@@ -57,11 +79,38 @@ fn first_position(capacity: u64, accepted: u64, slot: u64) -> u64
     }
 }
 
-impl<T, A: Allocator> Ring<T, A> {
-    ghost use Rattle.std.specs.Prelude.{true};
-    ghost use Rattle.queue_steps.specs.declared.steps.types.Answer.TheVariants.{Found};
-    ghost use Rattle.queue_steps.specs.declared.steps.types.Op.TheVariants.{Load};
-    ghost use Rattle.exclusive_queue.specs.RingCells.{ring_operable, ring_performed};
+/// The rule of a table on which no step is done: its words are those that it was made with, and its slots are empty.
+struct Untouched;
+
+impl<T, A: Allocator> TableRule<Option<T>, (), Vec<u64, A>> for Untouched {
+    ghost use Rattle.exclusive_queue.specs.RingOpening.{IsUntouched};
+
+    ghost holds = { λ words. IsUntouched words.items };
+
+    ghost first = { λ _. tt };
+}
+
+/// The words of the table of an empty open ring whose positions stand as after `accepted` items.
+fn first_words<A: Allocator>(
+    alloc: A,
+    capacity: usize,
+    accepted: u64,
+) -> Result<Vec<u64, A>, AllocError>
+    requires capacity { capacity ≤ MAX_CAPACITY }
+    requires accepted { accepted ≤ LIMIT }
+    ensures { IfOk result (λ words. IsOpening capacity accepted words.items) }
+{
+    let mut words = Vec::with_capacity(alloc, capacity + STAMPS)?;
+    words.push_reserved(1);
+    words.push_reserved(accepted * TAIL_STEP);
+    words.push_reserved(accepted);
+    for slot in 0..capacity as u64 {
+        words.push_reserved(first_position(capacity as u64, accepted, slot));
+    }
+    Ok(words)
+}
+
+impl<T, A: Allocator + Clone> Ring<T, A> {
     ghost use Rattle.exclusive_queue.specs.RingOwned.{IsIdle, ring_owned};
 
     /// An empty open ring whose positions stand as after `accepted` items that were accepted and taken.
@@ -81,19 +130,78 @@ impl<T, A: Allocator> Ring<T, A> {
         if capacity > MAX_CAPACITY {
             return Err(AllocError);
         }
-        let mut slots = Vec::with_capacity(alloc, capacity)?;
-        for slot in 0..capacity as u64 {
-            slots.push_reserved(RingSlot {
-                stamp: first_position(capacity as u64, accepted, slot),
-                item: None,
-            });
-        }
-        Ok(Ring {
+        let words = first_words(alloc.clone()?, capacity, accepted)?;
+        let (table, _seat): (Table<Option<T>, (), Vec<u64, A>, Untouched, A>, _) = Table::vacant(
+            alloc,
+            words.as_slice(),
             capacity,
-            head: accepted,
-            tail: accepted * TAIL_STEP,
-            slots,
-        })
+            &words,
+        )?;
+        let memory = table.close();
+        Ok(Ring { capacity, memory })
+    }
+}
+
+impl<T, A: Allocator> Ring<T, A> {
+    ghost use Rattle.std.specs.Prelude.{true};
+    ghost use Rattle.queue_steps.specs.declared.steps.types.Answer.TheVariants.{Found};
+    ghost use Rattle.queue_steps.specs.declared.steps.types.Op.TheVariants.{Load};
+    ghost use Rattle.exclusive_queue.specs.RingCells.{ring_operable, ring_performed};
+
+    #[inline(always)]
+    fn head(&self) -> u64
+        ensures { result ≡ self.now.head }
+    {
+        self.memory.word(HEAD)
+    }
+
+    #[inline(always)]
+    fn tail(&self) -> u64
+        ensures { result ≡ self.now.tail }
+    {
+        self.memory.word(TAIL)
+    }
+
+    #[inline(always)]
+    fn stamp(&self, slot: usize) -> u64
+        requires { slot < length self.now.slots }
+        ensures { result ≡ (slot_in self.now.slots slot).stamp }
+    {
+        self.memory.word(STAMPS + slot)
+    }
+
+    #[inline(always)]
+    fn set_head(&mut self, word: u64)
+        ensures { self.new ≡ record self.old { head = word } }
+    {
+        self.memory.words.put(HEAD, word);
+    }
+
+    #[inline(always)]
+    fn set_tail(&mut self, word: u64)
+        ensures { self.new ≡ record self.old { tail = word } }
+    {
+        self.memory.words.put(TAIL, word);
+    }
+
+    #[inline(always)]
+    fn set_stamp(&mut self, slot: usize, stamp: u64)
+        requires { slot < length self.old.slots }
+        ensures { self.new ≡ record self.old { slots = slice_set self.old.slots slot (record { stamp = stamp; item = (slot_in self.old.slots slot).item }) } }
+    {
+        self.memory.words.put(STAMPS + slot, stamp);
+    }
+
+    /// A value and a slot's content change places.
+    #[inline(always)]
+    fn exchange(&mut self, slot: usize, value: Option<T>) -> Option<T>
+        requires { slot < length self.old.slots }
+        ensures taken { result ≡ (slot_in self.old.slots slot).item }
+        ensures put { self.new ≡ record self.old { slots = slice_set self.old.slots slot (record { stamp = (slot_in self.old.slots slot).stamp; item = value }) } }
+    {
+        let item = self.memory.slots.take(slot);
+        self.memory.slots.put(slot, value);
+        item
     }
 
     /// What a word holds.
@@ -103,9 +211,9 @@ impl<T, A: Allocator> Ring<T, A> {
         ensures { ring_performed self.now (Load word) ≡ (Found result, self.now) }
     {
         match word {
-            Word::Tail => self.tail,
-            Word::Head => self.head,
-            Word::Stamp(i) => self.slots[i].stamp,
+            Word::Tail => self.tail(),
+            Word::Head => self.head(),
+            Word::Stamp(i) => self.stamp(i),
             _ => unreachable!(),
         }
     }
@@ -160,10 +268,12 @@ impl<T, A: Allocator> Cells<T, ()> for Ring<T, A> {
     fn touch(&mut self, touch: Touch, _op: &Op<()>, carried: &mut Option<T>) {
         match touch {
             Touch::Nothing => {}
-            Touch::Put(i) | Touch::Swap(i) | Touch::Take(i) => mem::swap(
-                &mut self.slots[i].item,
-                carried,
-            ),
+            Touch::Put(i) | Touch::Swap(i) | Touch::Take(i) => {
+                let value = mem::replace(carried, None);
+                let left = self.exchange(i, value);
+                let none = mem::replace(carried, left);
+                let None = none else { unreachable!() };
+            }
         }
     }
 
@@ -174,28 +284,32 @@ impl<T, A: Allocator> Cells<T, ()> for Ring<T, A> {
     {
         match op {
             Op::Load(word) => Answer::Found(self.load(word)),
-            Op::Exchange(Word::Tail, expected, new) => Answer::Found(exchange(
-                &mut self.tail,
-                expected,
-                new,
-            )),
-            Op::Exchange(Word::Head, expected, new) => Answer::Found(exchange(
-                &mut self.head,
-                expected,
-                new,
-            )),
+            Op::Exchange(Word::Tail, expected, new) => {
+                let found = self.tail();
+                if found == expected {
+                    self.set_tail(new);
+                }
+                Answer::Found(found)
+            }
+            Op::Exchange(Word::Head, expected, new) => {
+                let found = self.head();
+                if found == expected {
+                    self.set_head(new);
+                }
+                Answer::Found(found)
+            }
             Op::Or(Word::Tail, bits) => {
-                let found = self.tail;
-                self.tail = found | bits;
+                let found = self.tail();
+                self.set_tail(found | bits);
                 Answer::Found(found)
             }
             Op::Add(Word::Tail, more) => {
-                let found = self.tail;
-                self.tail = found + more;
+                let found = self.tail();
+                self.set_tail(found + more);
                 Answer::Found(found)
             }
             Op::Store(Word::Stamp(i), stamp) => {
-                self.slots[i].stamp = stamp;
+                self.set_stamp(i, stamp);
                 Answer::Done
             }
             _ => unreachable!(),

@@ -7,7 +7,7 @@ ghost use Rattle.queue_steps.specs.Sole.{Sole, HoldsBlocks};
 ghost use Rattle.queue_steps.specs.Legal.{IsSoundOwned};
 ghost use Rattle.exclusive_queue.specs.SingleCells.{IsIdle, single_owned};
 ghost use Rattle.exclusive_queue.specs.RingOwned.{IsIdle as IsRingIdle, ring_owned};
-ghost use Rattle.exclusive_queue.specs.KeptRings.{ring_in};
+ghost use Rattle.exclusive_queue.specs.RingMemory.{ring_in};
 ghost use Rattle.std.specs.Mem.Slots.{slots_items, slots_len, IsFull};
 ghost use Rattle.exclusive_queue.specs.LineOwned.{IsIdle as IsLineIdle};
 ghost use Rattle.queue_steps.specs.declared.model.Call.TheVariants as call;
@@ -15,7 +15,6 @@ ghost use Rattle.queue_steps.specs.declared.model.Reply.TheVariants as reply;
 
 use crate::bounded::Ring;
 use crate::driver::{drive, drive_apart, observe};
-use crate::kept::KeptRing;
 use crate::single::Single;
 use crate::unbounded::{LinkedBlocks, Name};
 use atomic_table::Closed;
@@ -37,8 +36,6 @@ enum Form<T, A: Allocator> {
     Single(Single<T>),
     /// A ring of slots.
     Bounded(Ring<T, A>),
-    /// A ring of slots in the memory of a table that was shared.
-    Kept(KeptRing<T, A>),
     /// A chain of blocks.
     Unbounded(LinkedBlocks<T, A>),
 }
@@ -61,7 +58,6 @@ impl<T: Drop, A: Allocator> Drop for Exclusive<T, A> {
         match form {
             Form::Single(single) => drop(single),
             Form::Bounded(ring) => drop(ring),
-            Form::Kept(ring) => drop(ring),
             Form::Unbounded(blocks) => give_up(blocks),
         }
     }
@@ -98,7 +94,6 @@ impl<T, A: Allocator> Form<T, A> {
         match self {
             Form::Single(single) => drive::<T, (), Single<T>>(single, call),
             Form::Bounded(ring) => drive_apart::<T, (), Ring<T, A>>(ring, call),
-            Form::Kept(ring) => drive_apart::<T, (), KeptRing<T, A>>(ring, call),
             Form::Unbounded(blocks) => drive_apart::<T, Name<T>, LinkedBlocks<T, A>>(blocks, call),
         }
     }
@@ -113,20 +108,19 @@ impl<T, A: Allocator> Form<T, A> {
         match self {
             Form::Single(single) => observe::<T, (), Single<T>>(single, call),
             Form::Bounded(ring) => observe::<T, (), Ring<T, A>>(ring, call),
-            Form::Kept(ring) => observe::<T, (), KeptRing<T, A>>(ring, call),
             Form::Unbounded(blocks) => observe::<T, Name<T>, LinkedBlocks<T, A>>(blocks, call),
         }
     }
 }
 
-impl<T, A: Allocator> Exclusive<T, A> {
+impl<T, A: Allocator + Clone> Exclusive<T, A> {
     /// An empty open queue of this capacity.
     ///
     /// A queue of capacity 1 asks for no memory. Any other asks for all its memory here.
     ///
     /// # Errors
     ///
-    /// Where there is no memory. A capacity above `MAX_CAPACITY`, or one whose room is more than an allocation may have, is refused without a request.
+    /// Where there is no memory. A capacity above `MAX_CAPACITY` is refused without a request.
     pub fn bounded(alloc: A, cap: usize) -> Result<Self, AllocError>
         requires { 0 < cap }
         ensures empty { IfOk result (λ queue. queue ≡ record { queue = start (Some cap) 0; blocks = 0 }) }
@@ -157,7 +151,9 @@ impl<T, A: Allocator> Exclusive<T, A> {
             form: Form::Bounded(ring),
         })
     }
+}
 
+impl<T, A: Allocator> Exclusive<T, A> {
     /// An empty open queue without a capacity.
     ///
     /// It asks for no memory. Pushes do, for a block of 31 items at a time.
@@ -208,7 +204,7 @@ impl<T, A: Allocator> Exclusive<T, A> {
         ensures { result ≡ ring_owned (ring_in capacity (slots_items memory.words) (slots_items memory.slots)) }
     {
         Exclusive {
-            form: Form::Kept(KeptRing { capacity, memory }),
+            form: Form::Bounded(Ring { capacity, memory }),
         }
     }
 
@@ -334,7 +330,6 @@ impl<T, A: Allocator> Exclusive<T, A> {
         match &self.form {
             Form::Single(_) => 0,
             Form::Bounded(_) => 0,
-            Form::Kept(_) => 0,
             Form::Unbounded(blocks) => blocks.blocks(),
         }
     }

@@ -5,7 +5,6 @@ mod bounded;
 mod cells;
 mod driver;
 pub mod exclusive;
-mod kept;
 mod single;
 mod unbounded;
 

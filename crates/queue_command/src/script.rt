@@ -62,7 +62,7 @@ pub fn transcript<'a, A: Allocator>(
 }
 
 // An empty open queue of this kind.
-fn queue_of<A: Allocator>(alloc: A, kind: KindName) -> Result<Exclusive<u64, A>, AllocError>
+fn queue_of<A: Allocator + Clone>(alloc: A, kind: KindName) -> Result<Exclusive<u64, A>, AllocError>
     requires { IsKindName kind }
     ensures { IfOk result (λ queue. queue ≡ fresh (capacity_of kind)) }
 {

@@ -14,7 +14,7 @@ use exclusive_queue::{Exclusive, PushError, steps};
 use std::alloc::{AllocError, Allocator};
 
 /// Puts `value` through a queue of one slot, and gives what comes out of it.
-pub fn through_a_slot<A: Allocator>(alloc: A, value: u64) -> Result<Option<u64>, AllocError>
+pub fn through_a_slot<A: Allocator + Clone>(alloc: A, value: u64) -> Result<Option<u64>, AllocError>
     ensures { IfOk result (λ out. out ≡ Some value) }
 {
     let mut queue: Exclusive<u64, A> = Exclusive::bounded(alloc, 1)?;

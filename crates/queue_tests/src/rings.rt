@@ -224,17 +224,16 @@ fn capacities(rt: HostRuntime) -> Result<(), Fail> {
     Ok(())
 }
 
+/// What the constructors answer, over an allocator that counts and refuses.
+type Made<'a> = Result<Exclusive<u64, &'a Refusing<Global>>, AllocError>;
+
 #[test]
 fn refused_without_a_request(rt: HostRuntime) {
-    for cap in [MAX_CAPACITY + 1, MAX_CAPACITY, usize::MAX] {
+    for cap in [MAX_CAPACITY + 1, usize::MAX] {
         let heap = Refusing::new(rt.alloc(), Refusal::Never);
-        let queue: Result<Exclusive<u64, &Refusing<Global>>, AllocError> = Exclusive::bounded(
-            &heap, cap,
-        );
+        let queue: Made = Exclusive::bounded(&heap, cap);
         assert!(rt; queue.is_err());
-        let queue: Result<Exclusive<u64, &Refusing<Global>>, AllocError> = Exclusive::bounded_after(
-            &heap, cap, 7,
-        );
+        let queue: Made = Exclusive::bounded_after(&heap, cap, 7);
         assert!(rt; queue.is_err());
         assert_eq!(rt; heap.requests(), 0, "at {cap}");
     }
@@ -242,42 +241,42 @@ fn refused_without_a_request(rt: HostRuntime) {
 
 #[test]
 fn refused_requests(rt: HostRuntime) {
-    for refusal in [Refusal::Always, Refusal::Nth(1)] {
-        for cap in [2, 3, 1 << 40] {
-            let heap = Refusing::new(rt.alloc(), refusal);
-            let queue: Result<Exclusive<u64, &Refusing<Global>>, AllocError> = Exclusive::bounded(
-                &heap, cap,
-            );
-            assert!(rt; queue.is_err());
-            assert!(rt; heap.requests() == 1 && heap.live() == 0);
-        }
-        let heap = Refusing::new(rt.alloc(), refusal);
-        let queue: Result<Exclusive<u64, &Refusing<Global>>, AllocError> = Exclusive::bounded_after(
-            &heap, 4, LIMIT,
-        );
+    for cap in [2, 3, 1 << 40, MAX_CAPACITY] {
+        let heap = Refusing::new(rt.alloc(), Refusal::Always);
+        let queue: Made = Exclusive::bounded(&heap, cap);
         assert!(rt; queue.is_err());
         assert!(rt; heap.requests() == 1 && heap.live() == 0);
     }
-    let heap = Refusing::new(rt.alloc(), Refusal::Always);
-    let queue: Result<Exclusive<u64, &Refusing<Global>>, AllocError> = Exclusive::bounded(
-        &heap,
-        MAX_CAPACITY,
-    );
-    assert!(rt; queue.is_err());
+}
+
+/// A ring asks for its first words and its first slots, and for the two blocks that it keeps. Each request is refused in turn: no request comes after it, and nothing stays allocated.
+#[test]
+fn each_request_of_a_ring_refused(rt: HostRuntime) {
+    for number in 1..=4u64 {
+        for accepted in [0, LIMIT] {
+            let heap = Refusing::new(rt.alloc(), Refusal::Nth(number));
+            let queue: Made = Exclusive::bounded_after(&heap, 3, accepted);
+            assert!(rt; queue.is_err());
+            assert!(rt;
+                heap.requests() == number && heap.live() == 0,
+                "at {number}"
+            );
+        }
+    }
 }
 
 #[test]
-fn one_request_for_each_ring(rt: HostRuntime) -> Result<(), Fail> {
-    let heap = Refusing::new(rt.alloc(), Refusal::Nth(2));
+fn no_request_after_the_constructor(rt: HostRuntime) -> Result<(), Fail> {
+    let heap = Refusing::new(rt.alloc(), Refusal::Nth(5));
     let mut queue: Exclusive<u64, &Refusing<Global>> = Exclusive::bounded(&heap, 3)?;
     for value in 0..10u64 {
         assert!(rt; queue.force_push(value).is_ok());
     }
     assert_eq!(rt; queue.pop(), Ok(7));
     assert!(rt; queue.close());
-    assert!(rt; heap.requests() == 1 && heap.live() == 1);
+    assert!(rt; heap.requests() == 4 && heap.live() == 2);
     drop(queue);
-    assert!(rt; heap.requests() == 1 && heap.live() == 0);
+    assert!(rt; heap.requests() == 4 && heap.live() == 0);
 
     let heap = Refusing::new(rt.alloc(), Refusal::Always);
     let mut queue: Exclusive<u64, &Refusing<Global>> = Exclusive::bounded(&heap, 1)?;

@@ -3,7 +3,7 @@ use Rattle.std.specs.Mem.Slots.{slots_items}
 use Rattle.queue_steps.specs.Effect.{after}
 use Rattle.queue_steps.specs.Legal.{IsShown}
 use Rattle.exclusive_queue.specs.RingOwned.{IsIdle, ring_owned}
-use Rattle.exclusive_queue.specs.KeptRings.{ring_in}
+use Rattle.exclusive_queue.specs.RingMemory.{ring_in}
 use Rattle.concurrent_queue.proofs.RingFinish.{ring_finishes}
 use Rattle.concurrent_queue.proofs.ring.end_ring.Goals as goal
 

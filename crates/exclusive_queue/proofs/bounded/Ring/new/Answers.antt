@@ -1,31 +1,17 @@
-use Rattle.std.proofs.Common.{rules, ◌≡◌, ◌*◌, arith}
-use Rattle.queue_steps.specs.Words.{position_of}
-use Rattle.exclusive_queue.proofs.Openings.{Opened-more, Opened-holds}
+use Rattle.std.proofs.Common.{ℕ, List, None, ap, sym, ◌∙◌, arith, subst}
+use Rattle.std.specs.Mem.Slots.{slots_items, slots_counts}
+use Rattle.atomic_table.specs.Table.{Final}
+use Rattle.exclusive_queue.specs.RingOpening.{IsUntouched}
+use Rattle.exclusive_queue.proofs.Openings.{ring_opens, homes_at}
 use Rattle.exclusive_queue.proofs.bounded.Ring.new.Goals as goal
 
-pub loop-slot-preserved : goal.loop-slot-preserved
-loop-slot-preserved g c =
-    let i = c.loop-slot.invariant in
-    let first = c.first_position.ensures in
-    record {
-      opened = rw c.push_reserved.ensures.items (Opened-more c.args.accepted c.args.capacity c.loop-slot.slot c.first_position.result c.loop-slot.slots.items first.least first.within first.slot i.opened);
-      counted = omega arith;
-      room = omega arith;
-    }
+pub vacant-requires : goal.vacant-requires
+vacant-requires g c = (c.as_slice.ensures.value, λ k. homes_at c.args.capacity k None)
 
 pub returns-clause-idle : goal.returns-clause-idle
 returns-clause-idle g c =
-    let i = c.loop-slot.invariant in
-    let whole : c.loop-slot.slot ≡ c.args.capacity = omega arith in
-    let half : position_of (c.args.accepted * 2) ≡ c.args.accepted = omega arith in
-    record {
-      ring = (c.requires.many, omega arith);
-      below = omega arith;
-      holds = rw half (Opened-holds c.args.accepted c.args.capacity c.loop-slot.slots.items (omega arith) (rw whole at i.opened));
-    }
-
-pub returns-clause-limited : goal.returns-clause-limited
-returns-clause-limited g c = search rules
-
-pub first_position-requires-clause-capacity : goal.first_position-requires-clause-capacity
-first_position-requires-clause-capacity g c = search rules
+    let m = c.close-memory.result in let k = c.close-memory.ensures in let t = c.in_ok-table.ensures in
+    let ws = slots_items m.words in let xs = slots_items m.slots in
+    let words = ap (λ v. v.items) t.5 in
+    (ring_opens c.args.capacity c.args.accepted c.in_ok-words.words.items ws xs (c.requires.many, omega (arith, c.if-capacity-gt-MAX_CAPACITY.false)) c.requires.below c.in_ok-words.ensures
+    (sym (slots_counts m.slots).0 ∙ (k.counts.1 ∙ t.1)) (subst (λ (z : List ℕ). Final (IsUntouched z) ws xs) words k.values.2)).0

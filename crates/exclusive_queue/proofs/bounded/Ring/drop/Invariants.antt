@@ -1,7 +1,7 @@
 use Rattle.std.specs.Prelude.{slice_index_or}
 use Rattle.std.proofs.Common.{◌≡◌, ℕ, ◌<◌, ◌≤◌, true, false}
 use Rattle.std.specs.Mem.Slots.{slots_len, slots_filled}
-use Rattle.exclusive_queue.proofs.kept.KeptRing.drop.Given as goal
+use Rattle.exclusive_queue.proofs.bounded.Ring.drop.Given as goal
 
 -- the slots before this one are empty, and the others are not
 abbrev pub invariant-loop-slot : goal.invariant-loop-slot

@@ -1,17 +1,32 @@
 -- Writes to the words and slots of a ring with one owner in the memory of a table.
-use Rattle.std.proofs.Common.{◌≡◌, ℕ, zero, suc, ◌+◌, ◌<◌, List, [], ◌∷◌, length, get_or, set, Option, refl, ap, sym, ◌∙◌, arith}
+use Rattle.std.proofs.Common.{◌≡◌, ℕ, zero, suc, ◌+◌, ◌<◌, List, [], ◌∷◌, length, get_or, set, Option, None, refl, ap, sym, ◌∙◌, arith}
 use mathlib.Core.Option.{some, some-injective, some-ne-none}
 use lib.ListN.{get_elem?}
-use Rattle.exclusive_queue.specs.declared.bounded.RingSlot.{RingSlot}
+use Rattle.exclusive_queue.specs.RingCells.{RingSlot}
 use Rattle.exclusive_queue.specs.RingCells.{slot_in}
-use Rattle.exclusive_queue.specs.KeptRings.{paired, ring_in}
+use Rattle.exclusive_queue.specs.RingMemory.{paired, ring_in}
 
-pub word_or : (ws : List ℕ) (i x : ℕ) → get_elem? ws i ≡ some x → x ≡ get_or ws i 0
-word_or [] i x is = absurd (some-ne-none x (sym is))
-word_or (w ∷ ws) zero x is = sym (some-injective w x is)
-word_or (w ∷ ws) (suc i) x is = word_or ws i x is
+-- an element that is there
+pub elem_or : {A : Type 0} (d : A) (xs : List A) (i : ℕ) (x : A) → get_elem? xs i ≡ some x → get_or xs i d ≡ x
+elem_or d [] i x is = absurd (some-ne-none x (sym is))
+elem_or d (y ∷ xs) zero x is = some-injective y x is
+elem_or d (y ∷ xs) (suc i) x is = elem_or d xs i x is
 
 module _ {T : Type 0} where
+  pub length_paired : (ss : List ℕ) (xs : List (Option T)) (n : ℕ) → length ss ≡ n → length xs ≡ n → length (paired ss xs) ≡ n
+  length_paired [] xs n is is' = is
+  length_paired (s ∷ ss) [] n is is' = is'
+  length_paired (s ∷ ss) (x ∷ xs) zero is is' = absurd (omega (arith, is))
+  length_paired (s ∷ ss) (x ∷ xs) (suc n) is is' = ap suc (length_paired ss xs n (omega (arith, is)) (omega (arith, is')))
+
+  -- a pair has the stamp and the slot of its number
+  pub pair_at : (ss : List ℕ) (xs : List (Option T)) (i : ℕ) → length ss ≡ length xs → slot_in (paired ss xs) i ≡ record { stamp = get_or ss i 0; item = get_or xs i None }
+  pair_at [] [] i same = refl
+  pair_at [] (x ∷ xs) i same = absurd (omega (arith, same))
+  pair_at (s ∷ ss) [] i same = absurd (omega (arith, same))
+  pair_at (s ∷ ss) (x ∷ xs) zero same = refl
+  pair_at (s ∷ ss) (x ∷ xs) (suc i) same = pair_at ss xs i (omega (arith, same))
+
   -- a stamp is written
   pub pair_stamp : (ss : List ℕ) (xs : List (Option T)) (i x : ℕ) → length ss ≡ length xs → paired (set ss i x) xs ≡ set (paired ss xs) i (record { stamp = x; item = (slot_in (paired ss xs) i).item })
   pair_stamp [] [] i x same = refl
@@ -32,7 +47,7 @@ module _ {T : Type 0} where
   stamp_or [] xs cap i k x at_k long slots is = absurd (omega (arith, long))
   stamp_or (n ∷ []) xs cap i k x at_k long slots is = absurd (omega (arith, long))
   stamp_or (n ∷ t ∷ []) xs cap i k x at_k long slots is = absurd (omega (arith, long))
-  stamp_or (n ∷ t ∷ h ∷ ss) xs cap i k x at_k long slots is = word_or ss i x (ap (get_elem? (n ∷ t ∷ h ∷ ss)) (sym at_k) ∙ is) ∙ at ss xs i (omega (arith, long, slots))
+  stamp_or (n ∷ t ∷ h ∷ ss) xs cap i k x at_k long slots is = sym (elem_or 0 ss i x (ap (get_elem? (n ∷ t ∷ h ∷ ss)) (sym at_k) ∙ is)) ∙ at ss xs i (omega (arith, long, slots))
     where
       at : (us : List ℕ) (ys : List (Option T)) (i : ℕ) → length us ≡ length ys → get_or us i 0 ≡ (slot_in (paired us ys) i).stamp
       at [] [] i same = refl
@@ -85,10 +100,4 @@ module _ {T : Type 0} where
   slots_count cap [] xs long slots = absurd (omega (arith, long))
   slots_count cap (n ∷ []) xs long slots = absurd (omega (arith, long))
   slots_count cap (n ∷ t ∷ []) xs long slots = absurd (omega (arith, long))
-  slots_count cap (n ∷ t ∷ h ∷ ss) xs long slots = count ss xs cap (omega (arith, long)) slots
-    where
-      count : (us : List ℕ) (ys : List (Option T)) (n : ℕ) → length us ≡ n → length ys ≡ n → length (paired us ys) ≡ n
-      count [] ys n is is' = is
-      count (u ∷ us) [] n is is' = is'
-      count (u ∷ us) (y ∷ ys) zero is is' = absurd (omega (arith, is))
-      count (u ∷ us) (y ∷ ys) (suc n) is is' = ap suc (count us ys n (omega (arith, is)) (omega (arith, is')))
+  slots_count cap (n ∷ t ∷ h ∷ ss) xs long slots = length_paired ss xs cap (omega (arith, long)) slots

@@ -1,6 +1,6 @@
 -- A ring in the words and slots of a table.
 use Rattle.std.specs.Prelude.{ℕ, List, [], ◌∷◌, get_or, drop, Option}
-use Rattle.exclusive_queue.specs.declared.bounded.RingSlot.{RingSlot}
+use Rattle.exclusive_queue.specs.RingCells.{RingSlot}
 use Rattle.exclusive_queue.specs.RingCells.{RingState}
 
 -- each stamp with its slot

@@ -1,9 +1,9 @@
 use Rattle.std.proofs.Common.{◌≡◌, ◌+◌, ◌<◌, set, length, sym, ap, ◌∙◌, arith}
 use Rattle.std.specs.Mem.Slots.{slots_items, slots_counts}
 use Rattle.exclusive_queue.specs.RingCells.{slot_in}
-use Rattle.exclusive_queue.specs.KeptRings.{ring_in}
-use Rattle.exclusive_queue.proofs.KeptWords.{item_or, item_set, slots_count}
-use Rattle.exclusive_queue.proofs.kept.KeptRing.exchange.Goals as goal
+use Rattle.exclusive_queue.specs.RingMemory.{ring_in}
+use Rattle.exclusive_queue.proofs.RingWrites.{item_or, item_set, slots_count}
+use Rattle.exclusive_queue.proofs.bounded.Ring.exchange.Goals as goal
 
 pub take-item-requires : goal.take-item-requires
 take-item-requires g c =
