@@ -6,7 +6,8 @@ use Rattle.queue_machine.proofs.KindLaws.{KindLaws}
 use Rattle.queue_machine.proofs.Counted.{counted-none}
 use Rattle.ring_laws.proofs.RingCells.{Ring}
 use Rattle.queue_machine.proofs.RingLaws.{RingHolds, RingIdle, RingFits, ring_steps}
-use Rattle.queue_machine.proofs.RingOpening.{opening_ring, ring_opens, ring_all_idle}
+use Rattle.ring_laws.proofs.RingOpening.{opening_ring}
+use Rattle.queue_machine.proofs.RingOpening.{ring_opens, ring_all_idle}
 use Rattle.queue_machine.proofs.RingLeft.{ring_leaves}
 
 -- a ring of n slots keeps the laws of the machine

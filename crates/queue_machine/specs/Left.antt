@@ -7,15 +7,11 @@ use Rattle.queue_steps.specs.declared.steps.types.Kind.{Kind}
 use Rattle.queue_steps.specs.declared.steps.types.Kind.TheVariants as kind
 use Rattle.queue_steps.specs.declared.steps.types.Touch.{Touch}
 use Rattle.queue_steps.specs.declared.steps.types.Touch.TheVariants as touch
+use Rattle.ring_laws.proofs.RingOpening.{numbers_below}
 use Rattle.queue_machine.specs.declared.machine.Running.{Running}
 use Rattle.queue_machine.specs.World.{World}
 use Rattle.queue_machine.specs.Cells.{Shared}
 use Rattle.queue_machine.specs.ChainLeft.{chain_left}
-
--- the numbers below n, in their order
-abbrev pub numbers_below : ℕ → List ℕ
-numbers_below zero = []
-numbers_below (suc n) = numbers_below n ++ n ∷ []
 
 -- the stamps of a queue of this kind at its beginning: each slot of a ring is free for the position of its own number
 abbrev pub opening_stamps : Kind → List ℕ

@@ -8,7 +8,8 @@ ghost use Rattle.queue_machine.specs.EffectOf.{single_effect, bounded_effect, un
 ghost use Rattle.queue_machine.specs.Cells.{HasWord, word_at, put_word, HasLink, link_at, put_link, CanOperate, asked, granted_if, answered, operated, block_touched, slots_there, item_at, put_at, CanTouch, touched, handed, shared_of, running_after, reply_after, CanReply, CanStep, CanStart, step_of, spare_in};
 ghost use Rattle.queue_machine.specs.Machine.{HasRoom, KeepsRoom, HasSameRoom};
 ghost use Rattle.queue_machine.specs.World.{stepped};
-ghost use Rattle.queue_machine.specs.Left.{numbers_below, slot_count, opening_stamps, opening_world};
+ghost use Rattle.ring_laws.proofs.RingOpening.{numbers_below};
+ghost use Rattle.queue_machine.specs.Left.{slot_count, opening_stamps, opening_world};
 ghost use Rattle.queue_machine.specs.Machine.{world_of, event_of, CanHandle, Handles, HasRoomFor};
 ghost use Rattle.queue_machine.specs.declared.types.Event.TheVariants.{Begin};
 ghost use Rattle.queue_machine.specs.Blocks.{without};

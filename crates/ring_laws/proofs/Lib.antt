@@ -16,3 +16,4 @@ pub mod RingPop
 pub mod RingLook
 pub mod RingStep
 pub mod RingStart
+pub mod RingOpening

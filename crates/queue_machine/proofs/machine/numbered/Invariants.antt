@@ -1,5 +1,5 @@
 use Rattle.std.proofs.Common.{◌≡◌, vec_len, vec_capacity}
-use Rattle.queue_machine.specs.Left.{numbers_below}
+use Rattle.ring_laws.proofs.RingOpening.{numbers_below}
 use Rattle.queue_machine.proofs.machine.numbered.Given as goal
 
 abbrev pub invariant-loop-number : goal.invariant-loop-number
