@@ -12,8 +12,9 @@ ghost use Rattle.concurrent_queue.specs.Seats.{idle, IsAlone};
 
 use crate::known::Doing;
 use crate::table::{SharedTable, Sizes, TableKind, TableSteps};
-use atomic_table::{Seat, Table};
+use atomic_table::Seat;
 use exclusive_queue::Exclusive;
+use exclusive_queue::vacant::{discard, empty_slots, table_of};
 use queue_steps::sizes::MAX_CAPACITY;
 use queue_steps::steps::{self, Answer, Kind, Local, Next, Word};
 use std::alloc::{AllocError, Allocator};
@@ -113,8 +114,13 @@ pub(crate) fn open_ring<T, A: Allocator + Clone>(
     if capacity > MAX_CAPACITY {
         return Err(AllocError);
     }
-    let words = first_words(alloc.clone()?, capacity)?;
-    let (table, seat) = Table::vacant(alloc, words.as_slice(), capacity, &capacity)?;
+    let for_words = alloc.clone()?;
+    let slots = empty_slots::<T, A>(alloc.clone()?, capacity)?;
+    let Ok(words) = first_words(for_words, capacity) else {
+        discard(slots);
+        return Err(AllocError);
+    };
+    let (table, seat) = table_of(alloc, words.as_slice(), slots, &capacity)?;
     Ok((
         SharedTable {
             table,

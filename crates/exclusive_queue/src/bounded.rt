@@ -10,6 +10,7 @@ ghost use Rattle.exclusive_queue.specs.RingCells.{slot_in};
 ghost use Rattle.exclusive_queue.specs.RingOpening.{IsOpening};
 
 use crate::cells::Cells;
+use crate::vacant::{discard, empty_slots, table_of};
 use atomic_table::{Closed, Table, TableRule};
 use queue_steps::sizes::MAX_CAPACITY;
 use queue_steps::steps::{self, Answer, Kind, Local, Next, Op, TAIL_STEP, Touch, Word};
@@ -119,7 +120,7 @@ impl<T, A: Allocator + Clone> Ring<T, A> {
     ///
     /// # Errors
     ///
-    /// Where there is no memory, and without a request for a capacity that no queue may have.
+    /// Where there is no memory. A capacity above `MAX_CAPACITY`, or one whose slots are more bytes than one allocation may have, is refused without a request.
     pub(crate) fn new(alloc: A, capacity: usize, accepted: u64) -> Result<Self, AllocError>
         requires many { 1 < capacity }
         requires below { accepted ≤ LIMIT }
@@ -130,11 +131,16 @@ impl<T, A: Allocator + Clone> Ring<T, A> {
         if capacity > MAX_CAPACITY {
             return Err(AllocError);
         }
-        let words = first_words(alloc.clone()?, capacity, accepted)?;
-        let (table, _seat): (Table<Option<T>, (), Vec<u64, A>, Untouched, A>, _) = Table::vacant(
+        let for_words = alloc.clone()?;
+        let slots = empty_slots::<T, A>(alloc.clone()?, capacity)?;
+        let Ok(words) = first_words(for_words, capacity, accepted) else {
+            discard(slots);
+            return Err(AllocError);
+        };
+        let (table, _seat): (Table<Option<T>, (), Vec<u64, A>, Untouched, A>, _) = table_of(
             alloc,
             words.as_slice(),
-            capacity,
+            slots,
             &words,
         )?;
         let memory = table.close();

@@ -120,7 +120,7 @@ impl<T, A: Allocator + Clone> Exclusive<T, A> {
     ///
     /// # Errors
     ///
-    /// Where there is no memory. A capacity above `MAX_CAPACITY` is refused without a request.
+    /// Where there is no memory. A capacity above `MAX_CAPACITY`, or one whose slots are more bytes than one allocation may have, is refused without a request.
     pub fn bounded(alloc: A, cap: usize) -> Result<Self, AllocError>
         requires { 0 < cap }
         ensures empty { IfOk result (λ queue. queue ≡ record { queue = start (Some cap) 0; blocks = 0 }) }

@@ -7,6 +7,7 @@ mod driver;
 pub mod exclusive;
 mod single;
 mod unbounded;
+pub mod vacant;
 
 pub use exclusive::Exclusive;
 pub use queue_steps::errors::{ForcePushError, PopError, PushError};
