@@ -11,6 +11,7 @@ use Rattle.atomic_table.specs.Table.{opening}
 use Rattle.queue_steps.specs.Words.{IsRing}
 use Rattle.queue_steps.specs.Shares.{entire}
 use Rattle.ring_laws.proofs.RingCells.{Free, Ring}
+use Rattle.exclusive_queue.specs.RingWords.{words_behind}
 use Rattle.concurrent_queue.specs.declared.known.Doing.{Doing}
 use Rattle.concurrent_queue.specs.Known.{party}
 use Rattle.concurrent_queue.specs.Seats.{idle, is_busy}
@@ -55,7 +56,7 @@ module _ (T : Type 0) (cap : ℕ) where
   pub ring_opens : IsRing cap → Rule (ring_table cap) (opening (first_words cap) (replicate cap None) seat)
   ring_opens ring = record {
     cells = opening_ring T;
-    words = 0 ∷ 0 ∷ numbers_below cap;
+    words = words_behind 0 0 (numbers_below cap);
     history = [];
     ok = record { ring = ring; count = refl; room = omega arith; most = omega arith; cell = λ i lt. (mod-eq_of_lt lt, omega arith, omega arith); comes = λ v e. cc };
     counted = refl;

@@ -20,7 +20,7 @@ use Rattle.concurrent_queue.specs.Known.{view_of}
 use Rattle.concurrent_queue.specs.Seats.{count_of, IsAlone}
 use Rattle.concurrent_queue.specs.TableRule.{Rule}
 use Rattle.concurrent_queue.specs.RingTable.{home_when, Homes, ring_words, ring_table}
-use Rattle.exclusive_queue.specs.RingCells.{RingSlot, slot_in}
+use Rattle.exclusive_queue.specs.RingCells.{RingSlot}
 use Rattle.exclusive_queue.specs.RingKeeps.{at_position, Holds, put_in, items_of}
 use Rattle.exclusive_queue.specs.RingOwned.{IsIdle, ring_queue}
 use Rattle.exclusive_queue.specs.RingMemory.{paired, ring_in}

@@ -1,6 +1,6 @@
 -- The laws of a ring in a table: what each step of a call does to the words and slots, and where calls begin.
-use Rattle.std.proofs.Common.{◌≡◌, ◌≢◌, ℕ, ◌+◌, ◌%◌, ◌<◌, ◌^◌, ◌==◌, ◌||◌, not, length, Bool, true, false, List, [], ◌∷◌, get_or, set, Option, Some, None, if◌then◌else◌, bit_or, refl, ap, sym, ◌∙◌, subst, arith, length-set}
-use Rattle.std.proofs.lemmas.List.{set-get_or}
+use Rattle.std.proofs.Common.{◌≡◌, ◌≢◌, ℕ, ◌+◌, ◌-◌, ◌%◌, ◌<◌, ◌^◌, ◌==◌, ◌||◌, not, length, Bool, true, false, List, [], ◌∷◌, get_or, set, Option, Some, None, if◌then◌else◌, bit_or, refl, ap, sym, ◌∙◌, subst, arith, length-set}
+use Rattle.std.proofs.lemmas.List.{set-get_or, get_or-drop, set-append_right}
 use mathlib.Core.Option.{some, some-injective}
 use mathlib.Core.Option as maybe
 use lib.ListN.{get_elem?}
@@ -39,13 +39,15 @@ use Rattle.ring_laws.proofs.RingGood.{IsEffect, Goes as RingGoes, Good}
 use Rattle.ring_laws.proofs.RingStart.{at_first, at_touches, at_coming, HasPlace, InRing, at_word}
 use Rattle.ring_laws.proofs.RingStep.{step_good}
 use Rattle.ring_laws.proofs.RingHands.{lent_stays, Shift, Rests, Claims, GoesOn, Returns, Lent}
+use Rattle.exclusive_queue.specs.RingWords.{words_behind}
+use Rattle.exclusive_queue.specs.declared.ring_words.TheConstants.{STAMPS}
 use Rattle.concurrent_queue.specs.Calling.{touched_list, lies_in, handed_by, HasTouched, MayFront, Goes, CallLaws}
 use Rattle.concurrent_queue.specs.TableRule.{op_word, op_makes, answer_for, found_by, Stepped, InTable, OpensIn, TableLaws}
 use Rattle.concurrent_queue.specs.RingTable.{home_when, home_of, Homes, ring_words, word_index, RingCoded, ring_calls, ring_table}
 use Rattle.concurrent_queue.specs.RingPrompt.{ring_prompt}
 
 -- the table has the word
-place_below : (cap : ℕ) (w : Word ℕ) → HasPlace cap w → word_index w < cap + 3
+place_below : (cap : ℕ) (w : Word ℕ) → HasPlace cap w → word_index w < cap + STAMPS
 place_below cap word.Tail has = omega arith
 place_below cap word.Head has = omega arith
 place_below cap (word.Stamp i) has = omega arith
@@ -65,14 +67,16 @@ module _ {T : Type 0} where
   word_found : (n : ℕ) (s : Shared T) (w : Word ℕ) → HasWord s w → get_or (n ∷ ring_words s) (word_index w) 0 ≡ word_at s w
   word_found n s word.Tail has = refl
   word_found n s word.Head has = refl
-  word_found n s (word.Stamp i) has = refl
+  word_found n s (word.Stamp i) has = sym (get_or-drop STAMPS (n ∷ ring_words s) i 0)
   word_found n s word.Lock has = absurd has
   word_found n s (word.State b i) has = absurd has
 
   word_put : (n : ℕ) (s : Shared T) (w : Word ℕ) (x : ℕ) → HasWord s w → set (n ∷ ring_words s) (word_index w) x ≡ n ∷ ring_words (put_word s w x)
   word_put n s word.Tail x has = refl
   word_put n s word.Head x has = refl
-  word_put n s (word.Stamp i) x has = refl
+  word_put n s (word.Stamp i) x has =
+      let behind : STAMPS + i - STAMPS ≡ i = omega arith in
+      set-append_right (n ∷ words_behind s.tail s.head []) s.stamps STAMPS (STAMPS + i) x refl (omega arith) ∙ ap (λ k. n ∷ words_behind s.tail s.head (set s.stamps k x)) behind
   word_put n s word.Lock x has = absurd has
   word_put n s (word.State b i) x has = absurd has
 
@@ -329,7 +333,7 @@ module _ {T : Type 0} where
     touches = λ g j ms was l t o v k es xs here lent. has_touched cap g j ms was l t o v k es xs here lent;
   }
 
-  pub ring_table_laws : (cap : ℕ) → IsRing cap → TableLaws {T = T} (ring_table cap) (cap + 3)
+  pub ring_table_laws : (cap : ℕ) → IsRing cap → TableLaws {T = T} (ring_table cap) (cap + STAMPS)
   ring_table_laws cap ring = record {
     calls = ring_call_laws cap;
     below = place_below cap;

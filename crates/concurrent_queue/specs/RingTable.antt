@@ -1,5 +1,5 @@
 -- A ring that parties share, as a kind of queue in a table: the tail, the head and the stamps are the words behind the count of parties.
-use Rattle.std.specs.Prelude.{◌≡◌, ℕ, suc, ◌<◌, List, ◌∷◌, length, Option, Some, None}
+use Rattle.std.specs.Prelude.{◌≡◌, ℕ, ◌+◌, ◌<◌, List, length, Option, Some, None}
 use mathlib.Core.Option.{some}
 use mathlib.Core.Option as maybe
 use lib.ListN.{get_elem?}
@@ -13,6 +13,8 @@ use Rattle.ring_laws.proofs.RingPasses.{Passes}
 use Rattle.ring_laws.proofs.RingAt.{At}
 use Rattle.ring_laws.proofs.RingHands.{Lent}
 use Rattle.ring_laws.proofs.RingStart.{HasPlace}
+use Rattle.exclusive_queue.specs.RingWords.{words_behind}
+use Rattle.exclusive_queue.specs.declared.ring_words.TheConstants.{TAIL, HEAD, STAMPS}
 use Rattle.concurrent_queue.specs.Calling.{CallsOf}
 use Rattle.concurrent_queue.specs.TableRule.{TableOf}
 
@@ -30,13 +32,13 @@ Homes cap g hs = (length hs ≡ cap) × ((i : ℕ) → i < cap → get_elem? hs 
 
 -- the words of a ring
 abbrev pub ring_words : {T : Type 0} → Shared T → List ℕ
-ring_words s = s.tail ∷ s.head ∷ s.stamps
+ring_words s = words_behind s.tail s.head s.stamps
 
 -- the number of a word in the table
 abbrev pub word_index : Word ℕ → ℕ
-word_index word.Tail = 1
-word_index word.Head = 2
-word_index (word.Stamp i) = suc (suc (suc i))
+word_index word.Tail = TAIL
+word_index word.Head = HEAD
+word_index (word.Stamp i) = STAMPS + i
 word_index _ = 0
 
 -- the words and the slots at home are those of the ring

@@ -14,17 +14,11 @@ use crate::known::Doing;
 use crate::table::{SharedTable, Sizes, TableKind, TableSteps};
 use atomic_table::Seat;
 use exclusive_queue::Exclusive;
+use exclusive_queue::ring_words::{HEAD, STAMPS, TAIL, words_before_stamps};
 use exclusive_queue::vacant::{discard, empty_slots, table_of};
 use queue_steps::sizes::MAX_CAPACITY;
 use queue_steps::steps::{self, Answer, Kind, Local, Next, Word};
 use std::alloc::{AllocError, Allocator};
-
-/// The words of the tail, of the head, and of the first stamp.
-const TAIL: usize = 1;
-
-const HEAD: usize = 2;
-
-const STAMPS: usize = 3;
 
 /// Rings of more than one slot.
 pub(crate) struct Rings;
@@ -32,12 +26,13 @@ pub(crate) struct Rings;
 impl Sizes for Rings {
     ghost use Rattle.std.specs.Prelude.{◌+◌};
     ghost use Rattle.queue_steps.specs.declared.sizes.TheConstants.{MAX_CAPACITY};
+    ghost use Rattle.exclusive_queue.specs.declared.ring_words.TheConstants.{STAMPS};
 
     ghost least = { 2 };
 
     ghost most = { MAX_CAPACITY };
 
-    ghost words = { λ slots. slots + 3 };
+    ghost words = { λ slots. slots + STAMPS };
 }
 
 impl<T> TableKind<T> for Rings {
@@ -92,10 +87,7 @@ fn first_words<A: Allocator>(alloc: A, capacity: usize) -> Result<Vec<u64, A>, A
     requires { IsRing capacity }
     ensures { IfOk result (λ v. v.items ≡ first_words capacity) }
 {
-    let mut words = Vec::with_capacity(alloc, capacity + STAMPS)?;
-    words.push_reserved(1);
-    words.push_reserved(0);
-    words.push_reserved(0);
+    let mut words = words_before_stamps(alloc, capacity, 0, 0)?;
     for stamp in 0..capacity {
         words.push_reserved(stamp as u64);
     }

@@ -12,6 +12,7 @@ use Rattle.queue_steps.specs.State.{start}
 use Rattle.queue_steps.specs.Words.{IsRing, position_of, is_shut, slot_at}
 use Rattle.exclusive_queue.specs.RingKeeps.{Holds, apart, items_of}
 use Rattle.exclusive_queue.specs.RingMemory.{paired, ring_in}
+use Rattle.exclusive_queue.specs.RingWords.{words_behind}
 use Rattle.exclusive_queue.specs.RingOpening.{Opened, IsOpening, IsUntouched}
 use Rattle.exclusive_queue.specs.RingOwned.{IsIdle, ring_owned}
 use Rattle.exclusive_queue.proofs.RingWrites.{elem_or, length_paired, pair_at}
@@ -79,7 +80,7 @@ module _ {T : Type 0} where
 
   -- with empty slots they are an empty open ring
   opens : (cap n : ℕ) (stamps : List ℕ) (xs : List (Option T)) → IsRing cap → n ≤ LIMIT → length xs ≡ cap → ((k : ℕ) → k < cap → get_or xs k None ≡ None) → Opened n cap cap stamps
-      → IsIdle (ring_in cap (1 ∷ n * 2 ∷ n ∷ stamps) xs) × (ring_owned (ring_in cap (1 ∷ n * 2 ∷ n ∷ stamps) xs) ≡ record { queue = start (Some cap) n; blocks = 0 })
+      → IsIdle (ring_in cap (1 ∷ words_behind (n * 2) n stamps) xs) × (ring_owned (ring_in cap (1 ∷ words_behind (n * 2) n stamps) xs) ≡ record { queue = start (Some cap) n; blocks = 0 })
   opens cap n stamps xs ring below long empty o =
       let half : position_of (n * 2) ≡ n = omega arith in
       let open_is : is_shut (n * 2) ≡ false = grind arith in
@@ -97,6 +98,6 @@ module _ {T : Type 0} where
       → IsIdle (ring_in cap ws xs) × (ring_owned (ring_in cap ws xs) ≡ record { queue = start (Some cap) n; blocks = 0 })
   ring_opens cap n first ws xs ring below opening long end =
       let s = end.0 in let rule : IsUntouched first s = end.1 in
-      let words : ws ≡ 1 ∷ n * 2 ∷ n ∷ opening.0 = sym end.2 ∙ (rule.0 ∙ opening.1) in
+      let words : ws ≡ 1 ∷ words_behind (n * 2) n opening.0 = sym end.2 ∙ (rule.0 ∙ opening.1) in
       let empty : (k : ℕ) → k < cap → get_or xs k None ≡ None = λ k lt. elem_or None xs k None (end.4 k None (rule.1 k (omega (arith, lt, long, end.3)))) in
       rw words (opens cap n opening.0 xs ring below long empty opening.2)

@@ -4,6 +4,7 @@ pub mod Runs
 pub mod SingleCells
 pub mod SingleAnswers
 pub mod RingCells
+pub mod RingWords
 pub mod RingMemory
 pub mod RingOpening
 pub mod RingKeeps

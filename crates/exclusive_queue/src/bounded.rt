@@ -8,8 +8,10 @@ ghost use Rattle.queue_steps.specs.Words.{slot_at};
 ghost use Rattle.queue_steps.specs.declared.sizes.TheConstants.{LIMIT, MAX_CAPACITY};
 ghost use Rattle.exclusive_queue.specs.RingCells.{slot_in};
 ghost use Rattle.exclusive_queue.specs.RingOpening.{IsOpening};
+ghost use Rattle.exclusive_queue.specs.declared.ring_words.TheConstants.{STAMPS};
 
 use crate::cells::Cells;
+use crate::ring_words::{HEAD, STAMPS, TAIL, words_before_stamps};
 use crate::vacant::{discard, empty_slots, table_of};
 use atomic_table::{Closed, Table, TableRule};
 use queue_steps::sizes::MAX_CAPACITY;
@@ -18,13 +20,6 @@ use std::alloc::{AllocError, Allocator};
 use std::marker::Model;
 use std::mem;
 
-/// The words of the tail, of the head, and of the first stamp.
-const TAIL: usize = 1;
-
-const HEAD: usize = 2;
-
-const STAMPS: usize = 3;
-
 /// The slots with their stamps, and the positions of the front and of the next item to come, as they lay in the table.
 ///
 /// A contract sees the two positions, the capacity and the slots.
@@ -32,7 +27,7 @@ pub(crate) struct Ring<T, A: Allocator> {
     pub(crate) capacity: usize,
     pub(crate) memory: Closed<Option<T>, A>,
     ghost full: { IsFull memory.words × IsFull memory.slots },
-    ghost sized: { (slots_len memory.words ≡ capacity + 3) × (slots_len memory.slots ≡ capacity) },
+    ghost sized: { (slots_len memory.words ≡ capacity + STAMPS) × (slots_len memory.slots ≡ capacity) },
 }
 
 impl<T, A: Allocator> Model for Ring<T, A> {
@@ -101,10 +96,7 @@ fn first_words<A: Allocator>(
     requires accepted { accepted ≤ LIMIT }
     ensures { IfOk result (λ words. IsOpening capacity accepted words.items) }
 {
-    let mut words = Vec::with_capacity(alloc, capacity + STAMPS)?;
-    words.push_reserved(1);
-    words.push_reserved(accepted * TAIL_STEP);
-    words.push_reserved(accepted);
+    let mut words = words_before_stamps(alloc, capacity, accepted * TAIL_STEP, accepted)?;
     for slot in 0..capacity as u64 {
         words.push_reserved(first_position(capacity as u64, accepted, slot));
     }

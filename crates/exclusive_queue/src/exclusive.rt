@@ -8,6 +8,7 @@ ghost use Rattle.queue_steps.specs.Legal.{IsSoundOwned};
 ghost use Rattle.exclusive_queue.specs.SingleCells.{IsIdle, single_owned};
 ghost use Rattle.exclusive_queue.specs.RingOwned.{IsIdle as IsRingIdle, ring_owned};
 ghost use Rattle.exclusive_queue.specs.RingMemory.{ring_in};
+ghost use Rattle.exclusive_queue.specs.declared.ring_words.TheConstants.{STAMPS};
 ghost use Rattle.std.specs.Mem.Slots.{slots_items, slots_len, IsFull};
 ghost use Rattle.exclusive_queue.specs.LineOwned.{IsIdle as IsLineIdle};
 ghost use Rattle.queue_steps.specs.declared.model.Call.TheVariants as call;
@@ -199,7 +200,7 @@ impl<T, A: Allocator> Exclusive<T, A> {
     /// A queue in the memory of a table that is no longer shared, whose words and slots are those of a ring of this capacity.
     pub fn of_table(capacity: usize, memory: Closed<Option<T>, A>) -> Self
         requires full { IsFull memory.words × IsFull memory.slots }
-        requires sized { (slots_len memory.words ≡ capacity + 3) × (slots_len memory.slots ≡ capacity) }
+        requires sized { (slots_len memory.words ≡ capacity + STAMPS) × (slots_len memory.slots ≡ capacity) }
         requires idle { IsRingIdle (ring_in capacity (slots_items memory.words) (slots_items memory.slots)) }
         ensures { result ≡ ring_owned (ring_in capacity (slots_items memory.words) (slots_items memory.slots)) }
     {

@@ -5,6 +5,7 @@ mod bounded;
 mod cells;
 mod driver;
 pub mod exclusive;
+pub mod ring_words;
 mod single;
 mod unbounded;
 pub mod vacant;

@@ -4,6 +4,7 @@ use Rattle.queue_steps.specs.Effect.{after}
 use Rattle.queue_steps.specs.Legal.{IsShown}
 use Rattle.exclusive_queue.specs.RingOwned.{IsIdle, ring_owned}
 use Rattle.exclusive_queue.specs.RingMemory.{ring_in}
+use Rattle.exclusive_queue.specs.declared.ring_words.TheConstants.{STAMPS}
 use Rattle.concurrent_queue.proofs.RingFinish.{ring_finishes}
 use Rattle.concurrent_queue.proofs.ring.end_ring.Goals as goal
 
@@ -15,7 +16,7 @@ of_table-requires g c =
     let f = ring_finishes t.key c.args.seat.id c.args.seat.me.0 ws xs c.requires.alone k.values.2 in
     record {
       full = (k.values.0, k.values.1);
-      sized = (k.counts.0 ∙ (c.args.ring.sized.0 ∙ ap (λ n. n + 3) (sym c.args.ring.counted)), k.counts.1 ∙ sym c.args.ring.counted);
+      sized = (k.counts.0 ∙ (c.args.ring.sized.0 ∙ ap (λ n. n + STAMPS) (sym c.args.ring.counted)), k.counts.1 ∙ sym c.args.ring.counted);
       idle = subst (λ (z : ℕ). IsIdle (ring_in z ws xs)) cap f.0;
     }
 

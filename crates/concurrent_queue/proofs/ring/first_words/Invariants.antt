@@ -1,4 +1,5 @@
 use Rattle.std.proofs.Common.{◌≡◌, ◌+◌, vec_len, vec_capacity}
+use Rattle.exclusive_queue.specs.declared.ring_words.TheConstants.{STAMPS}
 use Rattle.concurrent_queue.specs.RingOpening.{first_words}
 use Rattle.concurrent_queue.proofs.ring.first_words.Given as goal
 
@@ -6,6 +7,6 @@ abbrev pub invariant-loop-stamp : goal.invariant-loop-stamp
 invariant-loop-stamp g l =
     record {
       items : l.words.items ≡ first_words l.stamp;
-      len : vec_len l.words ≡ l.stamp + 3;
-      room : vec_capacity l.words ≡ l.fn.capacity + 3;
+      len : vec_len l.words ≡ l.stamp + STAMPS;
+      room : vec_capacity l.words ≡ l.fn.capacity + STAMPS;
     }

@@ -5,7 +5,7 @@ use Rattle.exclusive_queue.proofs.bounded.first_words.Goals as goal
 pub loop-slot-preserved : goal.loop-slot-preserved
 loop-slot-preserved g c =
     let i = c.loop-slot.invariant in
-    let p = c.push_reserved-in-loop-slot.ensures in
+    let p = c.push_reserved.ensures in
     let first = c.first_position in
     record {
       opened = (
