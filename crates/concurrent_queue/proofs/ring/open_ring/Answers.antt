@@ -1,4 +1,5 @@
-use Rattle.std.proofs.Common.{rules, ◌≡◌, ℕ, List, length, None, replicate, subst, sym, ◌∙◌, ap, arith}
+use Rattle.std.proofs.Common.{rules, ◌≡◌, ℕ, List, length, Option, None, subst, sym, ◌∙◌, ap, arith}
+use Rattle.std.proofs.lemmas.List.{length-replicate}
 use Rattle.atomic_table.specs.Table.{opening}
 use Rattle.queue_steps.specs.Words.{IsRing}
 use Rattle.concurrent_queue.specs.TableRule.{Rule}
@@ -7,22 +8,22 @@ use Rattle.concurrent_queue.specs.RingOpening.{first_words}
 use Rattle.concurrent_queue.proofs.RingEnding.{seat, ring_opens, count_below}
 use Rattle.concurrent_queue.proofs.ring.open_ring.Goals as goal
 
-pub vacant-requires : goal.vacant-requires
-vacant-requires g c =
+pub table_of-requires-clause-holds : goal.table_of-requires-clause-holds
+table_of-requires-clause-holds g c =
     let cap = c.args.capacity in
     let ring : IsRing cap = search rules in
-    let same : c.as_slice.result.now ≡ first_words cap = c.as_slice.ensures.value ∙ c.in_ok-words.ensures in
-    subst (λ (ws : List ℕ). Rule (ring_table cap) (opening ws (replicate cap None) (seat _ cap))) (sym same) (ring_opens _ cap ring)
+    let same : c.as_slice.result.now ≡ first_words cap = c.as_slice.ensures.value ∙ c.in-Ok.ensures in
+    subst (λ (z : List ℕ × List (Option g.row.T.Denot)). Rule (ring_table cap) (opening z.0 z.1 (seat _ cap))) (λ i. (sym same i, sym c.in_ok-slots.ensures i)) (ring_opens _ cap ring)
 
 pub invariant_of-result : goal.invariant_of-result
 invariant_of-result g c =
     let cap = c.args.capacity in
     let ring : IsRing cap = search rules in
     let made = c.in_ok-table.ensures in
-    let same : c.as_slice.result.now ≡ first_words cap = c.as_slice.ensures.value ∙ c.in_ok-words.ensures in
+    let same : c.as_slice.result.now ≡ first_words cap = c.as_slice.ensures.value ∙ c.in-Ok.ensures in
     let long = ap length same in
     let count = count_below cap in
-    let slots = made.1 in
+    let slots = made.1 ∙ (ap length c.in_ok-slots.ensures ∙ length-replicate cap None) in
     record {
       counted = sym slots;
       sized = ((let a = made.0 in omega arith), made.5 ∙ sym slots, (subst IsRing (sym slots) ring).0, (subst IsRing (sym slots) ring).1);
