@@ -22,7 +22,7 @@ opening_ring A = record { head = 0; tail = 0; closed = false; items = []; coming
 abbrev pub opening_shared : (A : Type 0) → ℕ → Shared A
 opening_shared A cap = record { head = 0; tail = 0; stamps = numbers_below cap; slots = replicate cap None }
 
-count_below : (n : ℕ) → length (numbers_below n) ≡ n
+pub count_below : (n : ℕ) → length (numbers_below n) ≡ n
 count_below zero = refl
 count_below (suc n) = let e = count_below n in omega (arith, length-append (numbers_below n) (n ∷ []))
 

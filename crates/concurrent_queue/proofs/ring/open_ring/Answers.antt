@@ -5,7 +5,8 @@ use Rattle.queue_steps.specs.Words.{IsRing}
 use Rattle.concurrent_queue.specs.TableRule.{Rule}
 use Rattle.concurrent_queue.specs.RingTable.{ring_table}
 use Rattle.concurrent_queue.specs.RingOpening.{first_words}
-use Rattle.concurrent_queue.proofs.RingEnding.{seat, ring_opens, count_below}
+use Rattle.ring_laws.proofs.RingOpening.{count_below}
+use Rattle.concurrent_queue.proofs.RingEnding.{seat, ring_opens}
 use Rattle.concurrent_queue.proofs.ring.open_ring.Goals as goal
 
 pub table_of-requires-clause-holds : goal.table_of-requires-clause-holds
