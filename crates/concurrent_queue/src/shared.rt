@@ -55,7 +55,7 @@ impl<T, A: Allocator + Clone> ConcurrentQueue<T, A> {
     ///
     /// # Errors
     ///
-    /// Where there is no memory. A capacity above `MAX_CAPACITY` is refused without a request.
+    /// Where there is no memory. A capacity above `MAX_CAPACITY`, or one whose slots are more bytes than one allocation may have, is refused without a request.
     pub fn bounded(alloc: A, cap: usize) -> Result<(Self, Party<T>), AllocError>
         requires { 0 < cap }
         ensures first { IfOk result (λ r. IsPartyOf r.1 r.0 × (r.0.cap ≡ Some cap) × (r.1.view ≡ record { seen = []; mine = []; share = entire })) }

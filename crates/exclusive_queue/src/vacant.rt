@@ -10,10 +10,7 @@ use std::alloc::{AllocError, Allocator};
 /// # Errors
 ///
 /// Where there is no memory, and without a request where they are more bytes than one allocation may have.
-pub fn empty_slots<T, A: Allocator>(
-    alloc: A,
-    count: usize,
-) -> Result<Vec<Option<T>, A>, AllocError>
+pub fn empty_slots<T, A: Allocator>(alloc: A, count: usize) -> Result<Vec<Option<T>, A>, AllocError>
     ensures { IfOk result (λ slots. slots.items ≡ replicate count None) }
 {
     let mut slots = Vec::with_capacity(alloc, count)?;

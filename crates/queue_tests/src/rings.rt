@@ -229,7 +229,7 @@ type Made<'a> = Result<Exclusive<u64, &'a Refusing<Global>>, AllocError>;
 
 #[test]
 fn refused_without_a_request(rt: HostRuntime) {
-    for cap in [MAX_CAPACITY + 1, usize::MAX] {
+    for cap in [MAX_CAPACITY + 1, MAX_CAPACITY, usize::MAX] {
         let heap = Refusing::new(rt.alloc(), Refusal::Never);
         let queue: Made = Exclusive::bounded(&heap, cap);
         assert!(rt; queue.is_err());
@@ -241,7 +241,7 @@ fn refused_without_a_request(rt: HostRuntime) {
 
 #[test]
 fn refused_requests(rt: HostRuntime) {
-    for cap in [2, 3, 1 << 40, MAX_CAPACITY] {
+    for cap in [2, 3, 1 << 40] {
         let heap = Refusing::new(rt.alloc(), Refusal::Always);
         let queue: Made = Exclusive::bounded(&heap, cap);
         assert!(rt; queue.is_err());
@@ -249,7 +249,7 @@ fn refused_requests(rt: HostRuntime) {
     }
 }
 
-/// A ring asks for its first words and its first slots, and for the two blocks that it keeps. Each request is refused in turn: no request comes after it, and nothing stays allocated.
+/// A ring asks for its first slots and its first words, and for the two blocks that it keeps. Each request is refused in turn: no request comes after it, and nothing stays allocated.
 #[test]
 fn each_request_of_a_ring_refused(rt: HostRuntime) {
     for number in 1..=4u64 {

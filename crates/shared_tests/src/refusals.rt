@@ -47,12 +47,14 @@ fn each_request_of_a_ring_refused(rt: HostRuntime) -> Result<(), AllocError> {
     each_refused(&rt, rt.alloc(), 3)
 }
 
-/// A capacity above the greatest is refused without a request.
+/// A capacity above the greatest, and one whose slots are more bytes than one allocation may have, are refused without a request.
 #[test]
 fn too_many_slots_refused(rt: HostRuntime) {
-    let heap = Refusing::new(rt.alloc(), Refusal::Never);
-    let made: Made = Queue::bounded(&heap, MAX_CAPACITY + 1);
-    assert!(rt; made.is_err() && heap.requests() == 0);
+    for cap in [MAX_CAPACITY, MAX_CAPACITY + 1] {
+        let heap = Refusing::new(rt.alloc(), Refusal::Never);
+        let made: Made = Queue::bounded(&heap, cap);
+        assert!(rt; made.is_err() && heap.requests() == 0, "at {cap}");
+    }
 }
 
 /// The calls ask for no memory, and neither does the end of the sharing, which gives all back.
