@@ -231,7 +231,7 @@ fn after_pop_stamp<B: Copy>(head: u64, stamp: u64) -> Next<B>
 }
 
 /// What follows the tail that a pop found after an empty slot.
-#[inline(always)]
+#[inline]
 fn after_pop_tail<B: Copy>(head: u64, tail: u64) -> Next<B>
     ensures { result ≡ pop_tail_found head tail }
 {
@@ -263,7 +263,7 @@ fn after_claim<B: Copy>(cap: u64, push: PushKind, tail: u64, found: u64) -> Next
 }
 
 /// What follows the head that a push found which may be into a full ring.
-#[inline(always)]
+#[inline]
 fn after_push_head<B: Copy>(cap: u64, tail: u64, head: u64) -> Next<B>
     requires ring { IsRing cap }
     requires words { IsWord tail × IsWord head }
@@ -277,7 +277,7 @@ fn after_push_head<B: Copy>(cap: u64, tail: u64, head: u64) -> Next<B>
 }
 
 /// What follows the exchange of a head by which the front leaves.
-#[inline(always)]
+#[inline]
 fn after_displacing<B: Copy>(cap: u64, tail: u64, head: u64) -> Next<B>
     requires ring { IsRing cap }
     requires words { IsWord tail × IsWord head }
@@ -295,7 +295,7 @@ fn after_displacing<B: Copy>(cap: u64, tail: u64, head: u64) -> Next<B>
 }
 
 /// F7: the item is put in the place of the front.
-#[inline(always)]
+#[inline]
 fn swap<B: Copy>(cap: u64, tail: u64) -> Next<B>
     requires ring { IsRing cap }
     requires word { IsWord tail }
@@ -323,7 +323,7 @@ fn after_take<B: Copy>(cap: u64, head: u64, found: u64) -> Next<B>
 }
 
 /// What follows the second read of a tail.
-#[inline(always)]
+#[inline]
 fn after_len<B: Copy>(tail: u64, head: u64, again: u64) -> Next<B>
     requires { again ≡ tail → head ≤ position_of tail }
     ensures { result ≡ len_found tail head again }

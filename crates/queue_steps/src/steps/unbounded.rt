@@ -166,7 +166,7 @@ pub(super) fn begin<B: Copy>(call: CallKind) -> Next<B>
 }
 
 /// What a push answers that was refused a block.
-#[inline(always)]
+#[inline]
 fn no_memory(push: PushKind) -> ReplyKind
     ensures { result ≡ gives_up push }
 {
@@ -202,7 +202,7 @@ fn after_tail<B: Copy>(push: PushKind, tail: u64, spare: Option<B>) -> Next<B>
 }
 
 /// U3.
-#[inline(always)]
+#[inline]
 fn ask<B: Copy>(push: PushKind, tail: u64, block: Option<B>) -> Next<B>
     ensures { result ≡ asks push tail block }
 {
@@ -284,7 +284,7 @@ fn after_install<B: Copy>(push: PushKind, tail: u64, fresh: B, before: Option<B>
 }
 
 /// U6.
-#[inline(always)]
+#[inline]
 fn lay<B: Copy>(push: PushKind, tail: u64, block: B, fresh: B) -> Next<B>
     ensures { result ≡ lays push tail block (Some fresh) }
 {
@@ -393,7 +393,7 @@ fn after_pop_tail<B: Copy>(head: u64, block: Option<B>, tail: u64) -> Next<B>
 }
 
 /// V9.
-#[inline(always)]
+#[inline]
 fn await_item<B: Copy>(head: u64, block: B) -> Next<B>
     ensures { result ≡ awaits head block }
 {
@@ -404,7 +404,7 @@ fn await_item<B: Copy>(head: u64, block: B) -> Next<B>
 }
 
 /// V5.
-#[inline(always)]
+#[inline]
 fn follow<B: Copy>(head: u64, block: B) -> Next<B>
     ensures { result ≡ follows head block }
 {
@@ -445,7 +445,7 @@ fn after_take<B: Copy>(head: u64, block: B, found: u64) -> Next<B>
 }
 
 /// The walk over a passed block, from this slot on: past the last one that others read, the block is given up.
-#[inline(always)]
+#[inline]
 fn walk<B: Copy>(block: B, slot: u64, touch: Touch) -> Next<B>
     ensures { result ≡ walks block slot touch }
 {
