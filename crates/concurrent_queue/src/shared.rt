@@ -14,7 +14,7 @@ use crate::party::{is_only, join, meet, split};
 use crate::ring::{Rings, end_ring, open_ring};
 use crate::slot::{Slots, end_slot, open_slot};
 use crate::table::SharedTable;
-use crate::turns::{drive, drive_promptly};
+use crate::turns::{drive, drive_apart, drive_promptly};
 use exclusive_queue::Exclusive;
 use queue_steps::errors::{ForcePushError, PopError, PushError};
 use queue_steps::model::{Call, Reply};
@@ -87,7 +87,7 @@ impl<T, A: Allocator> ConcurrentQueue<T, A> {
     {
         match &self.form {
             Form::Single(slot) => drive(slot, rt, gate, &mut party.seat, call),
-            Form::Ring(ring) => drive(ring, rt, gate, &mut party.seat, call),
+            Form::Ring(ring) => drive_apart(ring, rt, gate, &mut party.seat, call),
         }
     }
 

@@ -102,6 +102,21 @@ pub(crate) fn drive<T, B: Copy, S, M: Turns<T, B, S>, G: Gate, R: Wait>(
     unreachable!()
 }
 
+/// Runs a call to its end, in a function of its own: rings have too many steps to stand in each caller.
+#[inline(never)]
+pub(crate) fn drive_apart<T, B: Copy, S, M: Turns<T, B, S>, G: Gate, R: Wait>(
+    queue: &M,
+    rt: &R,
+    gate: &G,
+    seat: &mut S,
+    call: Call<T>,
+) -> Reply<T>
+    requires { M.rests queue.now seat.old }
+    ensures { M.ended queue.now seat.old call result seat.new }
+{
+    drive(queue, rt, gate, seat, call)
+}
+
 /// Runs a prompt call to its end, which comes by its second step.
 #[inline(always)]
 pub(crate) fn drive_promptly<T, B: Copy, S, M: Turns<T, B, S>, G: Gate>(

@@ -14,10 +14,10 @@ returns-in-Single g c =
 
 pub invariant_of-party-in-Ring : goal.invariant_of-party-in-Ring
 invariant_of-party-in-Ring g c =
-    let s = c.party.inside.seat in let s' = c.drive-in-Ring.new.seat in
-    ended_person _ _ _ (s.table_id, s.me) (s'.table_id, s'.me) c.args.call c.drive-in-Ring.result c.party.invariant c.drive-in-Ring.ensures
+    let s = c.party.inside.seat in let s' = c.drive_apart.new.seat in
+    ended_person _ _ _ (s.table_id, s.me) (s'.table_id, s'.me) c.args.call c.drive_apart.result c.party.invariant c.drive_apart.ensures
 
 pub returns-in-Ring : goal.returns-in-Ring
 returns-in-Ring g c =
-    let s = c.party.inside.seat in let s' = c.drive-in-Ring.new.seat in
-    ended_calls _ _ _ (s.table_id, s.me) (s'.table_id, s'.me) c.args.party.now c.args.call c.drive-in-Ring.result c.party.view_is (search rules) (search rules) c.party.invariant c.drive-in-Ring.ensures
+    let s = c.party.inside.seat in let s' = c.drive_apart.new.seat in
+    ended_calls _ _ _ (s.table_id, s.me) (s'.table_id, s'.me) c.args.party.now c.args.call c.drive_apart.result c.party.view_is (search rules) (search rules) c.party.invariant c.drive_apart.ensures
