@@ -2,6 +2,7 @@
 use Rattle.block_web.proofs.Walks.{puts_back, ◌≡◌, ℕ, zero, suc, ◌+◌, ◌*◌, ◌<◌, ◌≤◌, Bool, true, List, [], ◌∷◌, ◌++◌, length, get_or, set, sym, refl, ap, ◌∙◌, subst, arith, length-set, true≢false, Option, Some, cell, get_elem?, Ura, Ty, SProp, ent, sep, wand, all, guard, id⊢, Fml, ftrue, Logic, sem, ‵, raw, ◌⊛◌, given, ◌$◌, ◌∵◌, !, qed, by, move, keep, drop, use1, use2, split, fsplit, fsplit3, fjoin, fjoin3, fpick, fpack, learn, check, frame, each, assume, rewrite, done, RattleType, mem, Ptr, block_of, count_of, InBlock, nothing, word, row, Content, Home, Hand, Block, Sitter, Act, away, block, Lives, Rests, word_of, gone, with_word, with_next, with_home, without, blocks_after, sitter_after, Small, slots_at, content_owns, slot_owns, slots_own, Sized, hand_owns, edge, block_owns, laid_owns, chain_owns, spare_owns, SLOTS}
 use Rattle.std.proofs.Common.{suc-mul, zero-mul}
 use mathlib.Core.Option as maybe
+use lib.ListN as lists
 use lib.Seq.{set-get_or}
 use Rattle.atomic_table.proofs.Roster.{row_at, Reset}
 use Rattle.block_web.specs.Web.{takes, gives, lays, lifts, worded, linked, homed, acted, sitter_acted, May, Mays}
@@ -62,6 +63,12 @@ module _ {M : Type 1} {𝓤 : Ura M} (𝓛 : Logic 𝓤) (R : RattleType) (token
   pub lays_last : (bs : List (Block S)) (x : Block S) → ⟦ chain_owns R token bs ⟧ ∗ ⟦ laid_owns R token x ⟧ ⊢ ⟦ chain_owns R token (bs ++ x ∷ []) ⟧
   lays_last [] x = qed 𝓛 (‵ ftrue ∷ ‵ (laid_owns R token x) ∷ []) ∵ move ! (1 ∷ 0 ∷ []) $ done !
   lays_last (y ∷ ys) x = qed 𝓛 (‵ (chain_owns R token (y ∷ ys)) ∷ ‵ (laid_owns R token x) ∷ []) ∵ fsplit ! $ frame ! $ by ! (lays_last ys x)
+
+  -- a list without its first blocks
+  pub forgets : (n : ℕ) (bs : List (Block S)) → ⟦ chain_owns R token bs ⟧ ⊢ ⟦ chain_owns R token (lists.drop n bs) ⟧
+  forgets zero bs = id⊢ 𝓤 _
+  forgets (suc n) [] = id⊢ 𝓤 _
+  forgets (suc n) (x ∷ xs) = qed 𝓛 (‵ (chain_owns R token (x ∷ xs)) ∷ []) ∵ fsplit ! $ drop ! $ by ! (forgets n xs)
 
   pub lifts_out : (bs : List (Block S)) (k : ℕ) → (block bs k).alive ≡ true → ⟦ chain_owns R token bs ⟧ ⊢ ⟦ chain_owns R token (without bs k) ⟧ ∗ ⟦ block_owns R token (block bs k) ⟧
   lifts_out bs k e = let x : Block S = block bs k in qed 𝓛 (‵ (chain_owns R token bs) ∷ []) ∵ use1 𝓛 (‵ (block_owns R token x) ⊛ raw (all 𝓤 (Replace bs k))) (one_block bs k e) $ split ! $ nothing ! $ move ! (0 ∷ 2 ∷ []) $

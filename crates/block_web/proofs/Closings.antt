@@ -91,8 +91,9 @@ module _ {S : Type 0} (key : Place S) (id : ℕ) (m : Sitter S View) (p : Ptr) (
     good,
   )
 
-  pub closes : Allows (Holds key) id m 0 p 0 (λ n. bit_or n 1) (told.closes m)
+  pub closes : Allows (Holds key) id m p 0 (λ n. bit_or n 1) (told.closes m)
   closes s r here = (
+    0,
     (r.tail.0, r.tail.1 ∙ sym ep),
     λ small. let n : ℕ = word_of s.blocks 0 0 in let begins = (r.views id v here).0 in ⊎_elim
         (λ (clear : mark r.log ≡ 0). let e : n ≡ 0 = r.word ∙ clear in (
@@ -106,15 +107,17 @@ module _ {S : Type 0} (key : Place S) (id : ℕ) (m : Sitter S View) (p : Ptr) (
         (mark_is r.log),
   )
 
-  pub looks : Allows (Holds key) id m 0 p 0 (λ n. n) (told.looks m)
+  pub looks : Allows (Holds key) id m p 0 (λ n. n) (told.looks m)
   looks s r here = (
+    0,
     (r.tail.0, r.tail.1 ∙ sym ep),
     λ small. let n : ℕ = word_of s.blocks 0 0 in let begins = (r.views id v here).0 in let is = r.word in
         stays s r (λ x. x) (told.looks m n) refl here ((refl, refl), (λ e. (begins, sym is ∙ e, refl)), λ ne. (begins, ⊎_elim (λ (clear : mark r.log ≡ 0). absurd (ne (is ∙ clear))) (λ shut. shut) (mark_is r.log), refl)),
   )
 
-  pub parts : CanFork (Holds key) 0 p id v v (told.newcomer v)
+  pub parts : CanFork (Holds key) p id v v (told.newcomer v)
   parts s r here = (
+    0,
     (r.tail.0, r.tail.1 ∙ sym ep),
     record {
       log = r.log;
@@ -128,8 +131,9 @@ module _ {S : Type 0} (key : Place S) (id : ℕ) (m : Sitter S View) (p : Ptr) (
     },
   )
 
-  pub returns : (other : ℕ) (w : View) → CanMerge (Holds key) 0 p id v other w v told.nothing
+  pub returns : (other : ℕ) (w : View) → CanMerge (Holds key) p id v other w v told.nothing
   returns other w s r = (
+    0,
     (r.tail.0, r.tail.1 ∙ sym ep),
     λ here apart there. record {
       log = r.log;

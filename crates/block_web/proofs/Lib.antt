@@ -5,6 +5,7 @@ pub mod Operations
 pub mod Operating
 pub mod Turning
 pub mod Shown
+pub mod Tests
 pub mod Sent
 pub mod Rooms
 pub mod Made

@@ -12,7 +12,7 @@ use denote.Param.Send.{IsSend, part_keyless}
 use types.Keyed.{entry_keyless, entries_keyless}
 use Rattle.atomic_table.specs.Seated.{row, halved, roster}
 use Rattle.block_web.specs.Web.{Content, Home, Hand, Block, State, Sitter}
-use Rattle.block_web.specs.Laid.{WebId, content_owns, slot_owns, slots_own, edge, hub_rim, hand_owns, block_owns, if_alive, laid_owns, chain_owns, spare_owns, seat_owns, inside_owns, web_owns, web_shares}
+use Rattle.block_web.specs.Laid.{WebId, content_owns, slot_owns, slots_own, edge, hub_rim, hand_owns, block_owns, if_alive, laid_owns, chain_owns, spare_owns, seat_owns, rested_owns, inside_owns, web_owns, web_shares}
 
 words_sent : (b o : ℕ) (ns : List ℕ) → Keyless (row b o ns)
 words_sent b o [] = tt
@@ -21,6 +21,10 @@ words_sent b o (n ∷ ns) = (tt, words_sent b (o + 8) ns)
 views_sent : {V : Type 0} (c : V → Gv) (γ k : ℕ) (vs : List V) → Keyless (roster c γ k vs)
 views_sent c γ k [] = λ v. entries_keyless halved γ k (λ _. (full_share, c v))
 views_sent c γ k (v ∷ vs) = (entry_keyless halved γ k _, views_sent c γ (suc k) vs)
+
+pub rested_sent : {V : Type 0} (c : V → Gv) (z : WebId) (id : ℕ) (asleep : Bool) (v : V) → Keyless (rested_owns c z id asleep v)
+rested_sent c z id true v = entry_keyless halved z.0 id _
+rested_sent c z id false v = tt
 
 module _ (R : RattleType) (s : IsSend R) (token : Ty → Ptr → Fml) (frees : (τ : Ty) (p : Ptr) → Keyless (token τ p)) where
   kept_sent : (c : Content R.Denot) (b e : ℕ) → Keyless (content_owns R c b e)

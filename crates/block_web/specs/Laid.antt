@@ -134,6 +134,11 @@ module _ (R : RattleType) where
 abbrev pub lasts : WebId → Lft → Fml
 lasts z κ = fshr_bor κ (λ q. flft (age z) q)
 
+-- What a seat at rest owns: three quarters of its view, while it is asleep.
+abbrev pub rested_owns : {V : Type 0} → (V → Gv) → WebId → ℕ → Bool → V → Fml
+rested_owns c z id true v = seen c z.0 id three_quarters v
+rested_owns c z id false v = ftrue
+
 -- It keeps the rule in sight as an argument, where `search` can match it.
 unfoldable pub seal : (X : Type 1) → X → (X → Fml) → Fml
 seal X x F = F x

@@ -38,17 +38,16 @@ pub record Sitter (S V : Type 0) : Type 0 where
   pub hand : Option (Hand S)
   pub spare : Option (Block S)
 
--- A step on a word: the block's number and place, the word, the operands, and the value that the step announces.
+-- A step on a word: the block's place, the word, the operands, and the value that the step announces.
 pub record Step (S : Type 0) : Type 0 where
-  pub block : ℕ
   pub at : Ptr
   pub word : ℕ
   pub first : ℕ
   pub second : ℕ
   pub said : Option S
 
-abbrev pub step : {S : Type 0} → ℕ → Ptr → ℕ → ℕ → ℕ → Option S → Step S
-step k p i a b x = record { block = k; at = p; word = i; first = a; second = b; said = x }
+abbrev pub step : {S : Type 0} → Ptr → ℕ → ℕ → ℕ → Option S → Step S
+step p i a b x = record { at = p; word = i; first = a; second = b; said = x }
 
 -- What a seat does to the blocks beside the step itself.
 pub data Act (S : Type 0) : Type 0 where
@@ -111,6 +110,11 @@ module _ {S : Type 0} where
   -- The slot j of the block k is at home with the content c.
   abbrev pub Rests : List (Block S) → ℕ → ℕ → Content S → Type 0
   Rests bs k j c = get_elem? (block bs k).homes j ≡ some (Some c)
+
+  -- No block of a row is in the web any more.
+  abbrev pub AllGone : List (Block S) → Type 0
+  AllGone [] = Unit {0}
+  AllGone (x ∷ xs) = (x.alive ≡ false) × AllGone xs
 
   -- No slot of a row of homes is away or full.
   abbrev pub AllVacant : List (Home S) → Type 0
@@ -184,29 +188,24 @@ module _ {S V : Type 0} where
     abbrev pub Goes : State S V → List (Block S) → ℕ → Sitter S V → (Sitter S V → Type 0) → Type 0
     Goes s bs id m then = (w : V) × (acts : List (Act S)) × Mays bs m acts × holds record { blocks = blocks_after bs acts; views = slice_set s.views id w } × then (viewed w (sitter_after bs m acts))
 
-    -- Whatever the web is, the block k lies at p.
-    abbrev pub Stands : ℕ → Ptr → Type 0
-    Stands k p = (s : State S V) → holds s → Lives s.blocks k p
+    -- Whatever the web is where the seat id has the seat's view, some block of it lies at p, and the step may turn the block's word i into f of what it was.
+    abbrev pub Allows : ℕ → Sitter S V → Ptr → ℕ → (ℕ → ℕ) → (ℕ → Sitter S V → Type 0) → Type 0
+    Allows id m p i f then = (s : State S V) → holds s → get_elem? s.views id ≡ some m.view
+        → (k : ℕ) × Lives s.blocks k p × (let n : ℕ = word_of s.blocks k i in n < 18446744073709551616 → Goes s (with_word s.blocks k i (f n)) id m (then n))
 
-    -- Whatever the web is where the seat id has the view v, the block k lies at p, and more holds.
-    abbrev pub Whenever : ℕ → V → ℕ → Ptr → (State S V → Type 0) → Type 0
-    Whenever id v k p more = (s : State S V) → holds s → get_elem? s.views id ≡ some v → Lives s.blocks k p × more s
+    -- The same of the block's link, which can be compared with null.
+    abbrev pub AllowsLink : ℕ → Sitter S V → Ptr → (Ptr → Ptr) → (Ptr → Sitter S V → Type 0) → Type 0
+    AllowsLink id m p f then = (s : State S V) → holds s → get_elem? s.views id ≡ some m.view
+        → (k : ℕ) × Lives s.blocks k p × (let q : Ptr = (block s.blocks k).next in Testable q × Goes s (with_next s.blocks k (f q)) id m (then q))
 
-    -- The step may turn the word i into f of what it was.
-    abbrev pub Allows : ℕ → Sitter S V → ℕ → Ptr → ℕ → (ℕ → ℕ) → (ℕ → Sitter S V → Type 0) → Type 0
-    Allows id m k p i f then = Whenever id m.view k p (λ s. let n : ℕ = word_of s.blocks k i in n < 18446744073709551616 → Goes s (with_word s.blocks k i (f n)) id m (then n))
+    -- Some block of the web lies at p, and a seat's view may be cut in two, of which a new seat has the second.
+    abbrev pub CanFork : Ptr → ℕ → V → V → V → Type 0
+    CanFork p id v left right = (s : State S V) → holds s → get_elem? s.views id ≡ some v
+        → (k : ℕ) × Lives s.blocks k p × holds record { blocks = s.blocks; views = slice_set s.views id left ++ right ∷ [] }
 
-    -- The step may turn the link into f of what it was, and the link can be compared with null.
-    abbrev pub AllowsLink : ℕ → Sitter S V → ℕ → Ptr → (Ptr → Ptr) → (Ptr → Sitter S V → Type 0) → Type 0
-    AllowsLink id m k p f then = Whenever id m.view k p (λ s. let q : Ptr = (block s.blocks k).next in Testable q × Goes s (with_next s.blocks k (f q)) id m (then q))
-
-    -- A seat's view may be cut in two, and a new seat has the second.
-    abbrev pub CanFork : ℕ → Ptr → ℕ → V → V → V → Type 0
-    CanFork k p id v left right = Whenever id v k p (λ s. holds record { blocks = s.blocks; views = slice_set s.views id left ++ right ∷ [] })
-
-    -- A seat may take in another's view, and the other is spent.
-    abbrev pub CanMerge : ℕ → Ptr → ℕ → V → ℕ → V → V → V → Type 0
-    CanMerge k p id v other w both spent = (s : State S V) → holds s → Lives s.blocks k p × (get_elem? s.views id ≡ some v → ¬ (other ≡ id) → get_elem? (slice_set s.views id both) other ≡ some w
+    -- Some block of the web lies at p, and a seat may take in another's view, which is spent.
+    abbrev pub CanMerge : Ptr → ℕ → V → ℕ → V → V → V → Type 0
+    CanMerge p id v other w both spent = (s : State S V) → holds s → (k : ℕ) × Lives s.blocks k p × (get_elem? s.views id ≡ some v → ¬ (other ≡ id) → get_elem? (slice_set s.views id both) other ≡ some w
         → holds record { blocks = s.blocks; views = slice_set (slice_set s.views id both) other spent })
 
     -- The blocks of some state that keeps the rule.

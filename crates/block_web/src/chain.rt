@@ -1,8 +1,8 @@
 // Blocks with one owner, which reads and writes them as plain memory.
-ghost use Rattle.std.specs.Prelude.{◌≡◌, ◌<◌, List, [], ◌∷◌, ◌++◌, None, Some};
+ghost use Rattle.std.specs.Prelude.{◌≡◌, ◌<◌, ℕ, List, [], ◌∷◌, ◌++◌, take, drop, None, Some};
 ghost use base.Stored.{coded_list};
 ghost use denote.RawPtr.{InBlock};
-ghost use Rattle.block_web.specs.Web.{Block, block_coded, block, alive_at, sitter, vacant, full, Lives, Rests, word_of, with_word, with_next, with_home, without};
+ghost use Rattle.block_web.specs.Web.{Block, block_coded, block, alive_at, sitter, vacant, full, Lives, Rests, word_of, with_word, with_next, with_home, without, AllGone};
 ghost use Rattle.block_web.specs.Laid.{chain_owns};
 
 use crate::block::{Block, Link, Loose};
@@ -61,6 +61,14 @@ impl<S, A: Allocator> Chain<S, A> {
             marker: PhantomData,
         }
     }
+
+    /// Forgets the first `count` blocks, which were all lifted, so that the next block is number 0.
+    #[inline(always)]
+    pub fn forget(&mut self)
+        ghost count: { ℕ }
+        requires { AllGone (take count self.old.blocks) }
+        ensures { (self.new.heap ≡ self.old.heap) × (self.new.blocks ≡ drop count self.old.blocks) }
+    {}
 
     /// Reads a word.
     #[inline(always)]

@@ -52,7 +52,7 @@ pub fn close<S, A: Allocator>(
     ensures did { result ≡ true → Closed seat.old.sitter.view seat.new.sitter.view }
     ensures was { result ≡ false → Saw 1 seat.old.sitter.view seat.new.sitter.view }
 {
-    web.fetch_or::<Closes>(seat, 0, tail, 0, 1) == 0
+    web.fetch_or::<Closes>(seat, tail, 0, 1) == 0
 }
 
 /// Whether the queue is closed.
@@ -68,7 +68,7 @@ pub fn is_closed<S, A: Allocator>(
     ensures closed { result ≡ true → Saw 1 seat.old.sitter.view seat.new.sitter.view }
     ensures open { result ≡ false → Saw 0 seat.old.sitter.view seat.new.sitter.view }
 {
-    web.load::<Looks>(seat, 0, tail, 0) != 0
+    web.load::<Looks>(seat, tail, 0) != 0
 }
 
 /// Cuts a party in two.
@@ -82,7 +82,7 @@ pub fn part<S, A: Allocator>(
     ensures old { Same seat.new seat.old × (seat.new.sitter.view ≡ seat.old.sitter.view) }
     ensures new { (result.web ≡ seat.old.web) × (result.heap ≡ seat.old.heap) × (result.sitter ≡ sitter (newcomer seat.old.sitter.view) None None) }
 {
-    web.split::<Parts>(seat, 0, tail)
+    web.split::<Parts>(seat, tail)
 }
 
 /// Takes a party back.
@@ -96,7 +96,7 @@ pub fn take_back<S, A: Allocator>(
     requires { Sits seat.old web.now × Sits other web.now × (other.sitter.hand ≡ None) × (other.sitter.spare ≡ None) × InBlock tail.ptr × (tail.ptr ≡ web.now.key.tail.ptr) }
     ensures { Same seat.new seat.old × (seat.new.sitter.view ≡ seat.old.sitter.view) }
 {
-    web.join::<Returns>(seat, other, 0, tail);
+    web.join::<Returns>(seat, other, tail);
 }
 
 /// Ends the queue, and gives its memory back.

@@ -23,3 +23,10 @@ unsafe impl Low for Global {
     #[inline(always)]
     fn test(&self, _place: *mut u8) {}
 }
+
+unsafe impl<A: Low> Low for &A {
+    #[inline(always)]
+    fn test(&self, place: *mut u8) {
+        A::test(*self, place)
+    }
+}

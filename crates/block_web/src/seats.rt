@@ -1,12 +1,12 @@
 // How a web ends, and what a seat does without a step.
-ghost use Rattle.std.specs.Prelude.{◌≡◌, ℕ, List, Some, None};
+ghost use Rattle.std.specs.Prelude.{◌≡◌, ℕ, true, List, Some, None};
 ghost use denote.RawPtr.{Ptr, InBlock};
 ghost use Rattle.block_web.specs.Web.{Home, sitter, alive_at, LastBlocks, LastBlocksBy};
 ghost use Rattle.block_web.specs.Seats.{Sits, Same};
 
 use crate::block::{Block, Link, Loose};
 use crate::chain::Chain;
-use crate::web::{Seat, Web, WebRule};
+use crate::web::{Rested, Seat, Web, WebRule};
 use std::alloc::Allocator;
 use std::marker::PhantomData;
 
@@ -33,6 +33,18 @@ impl<S, V, A: Allocator> Seat<S, V, A> {
         let Self { marker: _ } = self;
         let Web { marker: _ } = web;
         Chain {
+            marker: PhantomData,
+        }
+    }
+
+    /// The view alone.
+    #[inline(always)]
+    pub fn rests(self) -> Rested<V>
+        requires { (self.sitter.hand ≡ None) × (self.sitter.spare ≡ None) }
+        ensures { (result.asleep ≡ true) × (result.web ≡ self.web) × (result.id ≡ self.id) × (result.view ≡ self.sitter.view) }
+    {
+        let Self { marker: _ } = self;
+        Rested {
             marker: PhantomData,
         }
     }

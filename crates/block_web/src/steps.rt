@@ -1,12 +1,11 @@
-// The atomic steps of a seat: each is one access to a word or to the link of a block. The number `block` tells the rule
-// which block is meant, and has no part in the access.
+// The atomic steps of a seat: each is one access to a word or to the link of a block.
 ghost use Rattle.std.specs.Prelude.{◌≡◌, ◌+◌, ◌-◌, ◌%◌, ◌^◌, ◌<◌, ◌==◌, Some, None, bit_and, bit_or};
 ghost use prog.Atomic.{either};
 ghost use denote.RawPtr.{InBlock, Testable};
 ghost use Rattle.block_web.specs.Seats.{Sits, Same};
 ghost use Rattle.block_web.specs.Words.{becomes, told, IsTold};
 ghost use Rattle.block_web.specs.Links.{leads_to, told_place, IsToldPlace};
-ghost use Rattle.block_web.specs.Web.{step, sitter, if_unset, Allows, AllowsLink, Stands, CanFork, CanMerge};
+ghost use Rattle.block_web.specs.Web.{step, sitter, if_unset, Allows, AllowsLink, CanFork, CanMerge};
 
 use crate::block::{Link, Node};
 use crate::operation::{Announces, LinkOperation, Operation, Silent};
@@ -21,25 +20,11 @@ use std::sync::atomic::raw;
 use std::sync::atomic::raw::ptr;
 
 impl<S, V, K, P: WebRule<S, V, K>, A: Allocator> Web<S, V, K, P, A> {
-    /// A load without a seat, which tells nothing.
-    #[inline(always)]
-    pub fn peek(&self, block: u64, link: Link<S>, word: usize) -> u64
-        requires { InBlock link.ptr × (word < SLOTS) × Stands (P.holds self.now.key) block link.ptr }
-    {
-        unsafe {
-            raw::load::<Brand>(
-                (&raw const (*link.ptr).words as *const u64).add(word),
-                SeqCst,
-            )
-        }
-    }
-
     // Does the operation on the word, and answers with the number that it tells.
     #[inline(always)]
     fn operate<M: Play<S, V>, T: Announces<S>>(
         &self,
         seat: &mut Seat<S, V, A>,
-        block: u64,
         link: Link<S>,
         word: usize,
         operation: Operation,
@@ -47,8 +32,8 @@ impl<S, V, K, P: WebRule<S, V, K>, A: Allocator> Web<S, V, K, P, A> {
         second: u64,
         said: &T,
     ) -> u64
-        requires { Sits seat.old self.now × InBlock link.ptr × (word < SLOTS) × Allows (P.holds self.now.key) seat.old.id seat.old.sitter block link.ptr word (becomes operation first second) (λ n. M.then (step block link.ptr word first second (T.said said.now)) seat.old.sitter (told operation first n)) }
-        ensures { Same seat.new seat.old × IsTold operation first result × M.then (step block link.ptr word first second (T.said said.now)) seat.old.sitter result seat.new.sitter }
+        requires { Sits seat.old self.now × InBlock link.ptr × (word < SLOTS) × Allows (P.holds self.now.key) seat.old.id seat.old.sitter link.ptr word (becomes operation first second) (λ n. M.then (step link.ptr word first second (T.said said.now)) seat.old.sitter (told operation first n)) }
+        ensures { Same seat.new seat.old × IsTold operation first result × M.then (step link.ptr word first second (T.said said.now)) seat.old.sitter result seat.new.sitter }
     {
         let _ = said;
         unsafe {
@@ -63,17 +48,11 @@ impl<S, V, K, P: WebRule<S, V, K>, A: Allocator> Web<S, V, K, P, A> {
 
     /// Reads a word. It answers with the word as it was.
     #[inline(always)]
-    pub fn load<M: Play<S, V>>(
-        &self,
-        seat: &mut Seat<S, V, A>,
-        block: u64,
-        link: Link<S>,
-        word: usize,
-    ) -> u64
-        requires { Sits seat.old self.now × InBlock link.ptr × (word < SLOTS) × Allows (P.holds self.now.key) seat.old.id seat.old.sitter block link.ptr word (λ n. n) (M.then (step block link.ptr word 0 0 None) seat.old.sitter) }
-        ensures { Same seat.new seat.old × M.then (step block link.ptr word 0 0 None) seat.old.sitter result seat.new.sitter }
+    pub fn load<M: Play<S, V>>(&self, seat: &mut Seat<S, V, A>, link: Link<S>, word: usize) -> u64
+        requires { Sits seat.old self.now × InBlock link.ptr × (word < SLOTS) × Allows (P.holds self.now.key) seat.old.id seat.old.sitter link.ptr word (λ n. n) (M.then (step link.ptr word 0 0 None) seat.old.sitter) }
+        ensures { Same seat.new seat.old × M.then (step link.ptr word 0 0 None) seat.old.sitter result seat.new.sitter }
     {
-        self.operate::<M, Silent>(seat, block, link, word, Operation::Load, 0, 0, &Silent)
+        self.operate::<M, Silent>(seat, link, word, Operation::Load, 0, 0, &Silent)
     }
 
     /// Adds to a word, round the end of its range. It answers with the word as it was.
@@ -81,15 +60,14 @@ impl<S, V, K, P: WebRule<S, V, K>, A: Allocator> Web<S, V, K, P, A> {
     pub fn fetch_add<M: Play<S, V>>(
         &self,
         seat: &mut Seat<S, V, A>,
-        block: u64,
         link: Link<S>,
         word: usize,
         k: u64,
     ) -> u64
-        requires { Sits seat.old self.now × InBlock link.ptr × (word < SLOTS) × Allows (P.holds self.now.key) seat.old.id seat.old.sitter block link.ptr word (λ n. (n + k) % 2 ^ 64) (M.then (step block link.ptr word k 0 None) seat.old.sitter) }
-        ensures { Same seat.new seat.old × M.then (step block link.ptr word k 0 None) seat.old.sitter result seat.new.sitter }
+        requires { Sits seat.old self.now × InBlock link.ptr × (word < SLOTS) × Allows (P.holds self.now.key) seat.old.id seat.old.sitter link.ptr word (λ n. (n + k) % 2 ^ 64) (M.then (step link.ptr word k 0 None) seat.old.sitter) }
+        ensures { Same seat.new seat.old × M.then (step link.ptr word k 0 None) seat.old.sitter result seat.new.sitter }
     {
-        self.operate::<M, Silent>(seat, block, link, word, Operation::Add, k, 0, &Silent)
+        self.operate::<M, Silent>(seat, link, word, Operation::Add, k, 0, &Silent)
     }
 
     /// Subtracts from a word, round the end of its range. It answers with the word as it was.
@@ -97,15 +75,14 @@ impl<S, V, K, P: WebRule<S, V, K>, A: Allocator> Web<S, V, K, P, A> {
     pub fn fetch_sub<M: Play<S, V>>(
         &self,
         seat: &mut Seat<S, V, A>,
-        block: u64,
         link: Link<S>,
         word: usize,
         k: u64,
     ) -> u64
-        requires { Sits seat.old self.now × InBlock link.ptr × (word < SLOTS) × Allows (P.holds self.now.key) seat.old.id seat.old.sitter block link.ptr word (λ n. (n + (2 ^ 64 - k)) % 2 ^ 64) (M.then (step block link.ptr word k 0 None) seat.old.sitter) }
-        ensures { Same seat.new seat.old × M.then (step block link.ptr word k 0 None) seat.old.sitter result seat.new.sitter }
+        requires { Sits seat.old self.now × InBlock link.ptr × (word < SLOTS) × Allows (P.holds self.now.key) seat.old.id seat.old.sitter link.ptr word (λ n. (n + (2 ^ 64 - k)) % 2 ^ 64) (M.then (step link.ptr word k 0 None) seat.old.sitter) }
+        ensures { Same seat.new seat.old × M.then (step link.ptr word k 0 None) seat.old.sitter result seat.new.sitter }
     {
-        self.operate::<M, Silent>(seat, block, link, word, Operation::Subtract, k, 0, &Silent)
+        self.operate::<M, Silent>(seat, link, word, Operation::Subtract, k, 0, &Silent)
     }
 
     /// Sets bits of a word. It answers with the word as it was.
@@ -113,15 +90,14 @@ impl<S, V, K, P: WebRule<S, V, K>, A: Allocator> Web<S, V, K, P, A> {
     pub fn fetch_or<M: Play<S, V>>(
         &self,
         seat: &mut Seat<S, V, A>,
-        block: u64,
         link: Link<S>,
         word: usize,
         k: u64,
     ) -> u64
-        requires { Sits seat.old self.now × InBlock link.ptr × (word < SLOTS) × Allows (P.holds self.now.key) seat.old.id seat.old.sitter block link.ptr word (λ n. bit_or n k) (M.then (step block link.ptr word k 0 None) seat.old.sitter) }
-        ensures { Same seat.new seat.old × M.then (step block link.ptr word k 0 None) seat.old.sitter result seat.new.sitter }
+        requires { Sits seat.old self.now × InBlock link.ptr × (word < SLOTS) × Allows (P.holds self.now.key) seat.old.id seat.old.sitter link.ptr word (λ n. bit_or n k) (M.then (step link.ptr word k 0 None) seat.old.sitter) }
+        ensures { Same seat.new seat.old × M.then (step link.ptr word k 0 None) seat.old.sitter result seat.new.sitter }
     {
-        self.operate::<M, Silent>(seat, block, link, word, Operation::Or, k, 0, &Silent)
+        self.operate::<M, Silent>(seat, link, word, Operation::Or, k, 0, &Silent)
     }
 
     /// Clears the other bits of a word. It answers with the word as it was.
@@ -129,15 +105,14 @@ impl<S, V, K, P: WebRule<S, V, K>, A: Allocator> Web<S, V, K, P, A> {
     pub fn fetch_and<M: Play<S, V>>(
         &self,
         seat: &mut Seat<S, V, A>,
-        block: u64,
         link: Link<S>,
         word: usize,
         k: u64,
     ) -> u64
-        requires { Sits seat.old self.now × InBlock link.ptr × (word < SLOTS) × Allows (P.holds self.now.key) seat.old.id seat.old.sitter block link.ptr word (λ n. bit_and n k) (M.then (step block link.ptr word k 0 None) seat.old.sitter) }
-        ensures { Same seat.new seat.old × M.then (step block link.ptr word k 0 None) seat.old.sitter result seat.new.sitter }
+        requires { Sits seat.old self.now × InBlock link.ptr × (word < SLOTS) × Allows (P.holds self.now.key) seat.old.id seat.old.sitter link.ptr word (λ n. bit_and n k) (M.then (step link.ptr word k 0 None) seat.old.sitter) }
+        ensures { Same seat.new seat.old × M.then (step link.ptr word k 0 None) seat.old.sitter result seat.new.sitter }
     {
-        self.operate::<M, Silent>(seat, block, link, word, Operation::And, k, 0, &Silent)
+        self.operate::<M, Silent>(seat, link, word, Operation::And, k, 0, &Silent)
     }
 
     /// Writes a word.
@@ -145,15 +120,14 @@ impl<S, V, K, P: WebRule<S, V, K>, A: Allocator> Web<S, V, K, P, A> {
     pub fn store<M: Play<S, V>>(
         &self,
         seat: &mut Seat<S, V, A>,
-        block: u64,
         link: Link<S>,
         word: usize,
         new: u64,
     )
-        requires { Sits seat.old self.now × InBlock link.ptr × (word < SLOTS) × Allows (P.holds self.now.key) seat.old.id seat.old.sitter block link.ptr word (λ _. new) (λ _. M.then (step block link.ptr word new 0 None) seat.old.sitter new) }
-        ensures { Same seat.new seat.old × M.then (step block link.ptr word new 0 None) seat.old.sitter new seat.new.sitter }
+        requires { Sits seat.old self.now × InBlock link.ptr × (word < SLOTS) × Allows (P.holds self.now.key) seat.old.id seat.old.sitter link.ptr word (λ _. new) (λ _. M.then (step link.ptr word new 0 None) seat.old.sitter new) }
+        ensures { Same seat.new seat.old × M.then (step link.ptr word new 0 None) seat.old.sitter new seat.new.sitter }
     {
-        self.operate::<M, Silent>(seat, block, link, word, Operation::Store, new, 0, &Silent);
+        self.operate::<M, Silent>(seat, link, word, Operation::Store, new, 0, &Silent);
     }
 
     /// Writes `new` where the word is `old`. It answers with the word as it was. `said` is a value that
@@ -162,26 +136,32 @@ impl<S, V, K, P: WebRule<S, V, K>, A: Allocator> Web<S, V, K, P, A> {
     pub fn compare_exchange<M: Play<S, V>>(
         &self,
         seat: &mut Seat<S, V, A>,
-        block: u64,
         link: Link<S>,
         word: usize,
         old: u64,
         new: u64,
         said: &S,
     ) -> u64
-        requires { Sits seat.old self.now × InBlock link.ptr × (word < SLOTS) × Allows (P.holds self.now.key) seat.old.id seat.old.sitter block link.ptr word (λ n. either (n == old) new n) (M.then (step block link.ptr word old new (Some said.now)) seat.old.sitter) }
-        ensures { Same seat.new seat.old × M.then (step block link.ptr word old new (Some said.now)) seat.old.sitter result seat.new.sitter }
+        requires { Sits seat.old self.now × InBlock link.ptr × (word < SLOTS) × Allows (P.holds self.now.key) seat.old.id seat.old.sitter link.ptr word (λ n. either (n == old) new n) (M.then (step link.ptr word old new (Some said.now)) seat.old.sitter) }
+        ensures { Same seat.new seat.old × M.then (step link.ptr word old new (Some said.now)) seat.old.sitter result seat.new.sitter }
     {
-        self.operate::<M, &S>(
-            seat,
-            block,
-            link,
-            word,
-            Operation::Exchange,
-            old,
-            new,
-            &said,
-        )
+        self.operate::<M, &S>(seat, link, word, Operation::Exchange, old, new, &said)
+    }
+
+    /// The same, and it announces nothing.
+    #[inline(always)]
+    pub fn exchange<M: Play<S, V>>(
+        &self,
+        seat: &mut Seat<S, V, A>,
+        link: Link<S>,
+        word: usize,
+        old: u64,
+        new: u64,
+    ) -> u64
+        requires { Sits seat.old self.now × InBlock link.ptr × (word < SLOTS) × Allows (P.holds self.now.key) seat.old.id seat.old.sitter link.ptr word (λ n. either (n == old) new n) (M.then (step link.ptr word old new None) seat.old.sitter) }
+        ensures { Same seat.new seat.old × M.then (step link.ptr word old new None) seat.old.sitter result seat.new.sitter }
+    {
+        self.operate::<M, Silent>(seat, link, word, Operation::Exchange, old, new, &Silent)
     }
 
     // Does the operation on the link, and answers with the place that it tells.
@@ -189,13 +169,12 @@ impl<S, V, K, P: WebRule<S, V, K>, A: Allocator> Web<S, V, K, P, A> {
     fn turn<M: LinkPlay<S, V>>(
         &self,
         seat: &mut Seat<S, V, A>,
-        block: u64,
         link: Link<S>,
         operation: LinkOperation,
         new: Link<S>,
     ) -> Link<S>
-        requires { Sits seat.old self.now × InBlock link.ptr × AllowsLink (P.holds self.now.key) seat.old.id seat.old.sitter block link.ptr (leads_to operation new.ptr) (λ q. M.then block seat.old.sitter (told_place operation new.ptr q)) }
-        ensures { Same seat.new seat.old × IsToldPlace operation new.ptr result.ptr × M.then block seat.old.sitter result.ptr seat.new.sitter }
+        requires { Sits seat.old self.now × InBlock link.ptr × AllowsLink (P.holds self.now.key) seat.old.id seat.old.sitter link.ptr (leads_to operation new.ptr) (λ q. M.then seat.old.sitter (told_place operation new.ptr q)) }
+        ensures { Same seat.new seat.old × IsToldPlace operation new.ptr result.ptr × M.then seat.old.sitter result.ptr seat.new.sitter }
     {
         let place = unsafe { &raw const (*link.ptr).next as *const *mut u64 };
         let operand = new.ptr as *mut u64;
@@ -227,31 +206,20 @@ impl<S, V, K, P: WebRule<S, V, K>, A: Allocator> Web<S, V, K, P, A> {
 
     /// Reads the link of a block.
     #[inline(always)]
-    pub fn follow<M: LinkPlay<S, V>>(
-        &self,
-        seat: &mut Seat<S, V, A>,
-        block: u64,
-        link: Link<S>,
-    ) -> Link<S>
-        requires { Sits seat.old self.now × InBlock link.ptr × AllowsLink (P.holds self.now.key) seat.old.id seat.old.sitter block link.ptr (λ q. q) (M.then block seat.old.sitter) }
-        ensures { Same seat.new seat.old × Testable result.ptr × M.then block seat.old.sitter result.ptr seat.new.sitter }
+    pub fn follow<M: LinkPlay<S, V>>(&self, seat: &mut Seat<S, V, A>, link: Link<S>) -> Link<S>
+        requires { Sits seat.old self.now × InBlock link.ptr × AllowsLink (P.holds self.now.key) seat.old.id seat.old.sitter link.ptr (λ q. q) (M.then seat.old.sitter) }
+        ensures { Same seat.new seat.old × Testable result.ptr × M.then seat.old.sitter result.ptr seat.new.sitter }
     {
-        self.turn::<M>(seat, block, link, LinkOperation::Load, link)
+        self.turn::<M>(seat, link, LinkOperation::Load, link)
     }
 
     /// Sets the link of a block.
     #[inline(always)]
-    pub fn lead<M: LinkPlay<S, V>>(
-        &self,
-        seat: &mut Seat<S, V, A>,
-        block: u64,
-        link: Link<S>,
-        new: Link<S>,
-    )
-        requires { Sits seat.old self.now × InBlock link.ptr × AllowsLink (P.holds self.now.key) seat.old.id seat.old.sitter block link.ptr (λ _. new.ptr) (λ _. M.then block seat.old.sitter new.ptr) }
-        ensures { Same seat.new seat.old × M.then block seat.old.sitter new.ptr seat.new.sitter }
+    pub fn lead<M: LinkPlay<S, V>>(&self, seat: &mut Seat<S, V, A>, link: Link<S>, new: Link<S>)
+        requires { Sits seat.old self.now × InBlock link.ptr × AllowsLink (P.holds self.now.key) seat.old.id seat.old.sitter link.ptr (λ _. new.ptr) (λ _. M.then seat.old.sitter new.ptr) }
+        ensures { Same seat.new seat.old × M.then seat.old.sitter new.ptr seat.new.sitter }
     {
-        self.turn::<M>(seat, block, link, LinkOperation::Store, new);
+        self.turn::<M>(seat, link, LinkOperation::Store, new);
     }
 
     /// Sets the link of a block where it is unset. It answers with the link as it was.
@@ -259,25 +227,19 @@ impl<S, V, K, P: WebRule<S, V, K>, A: Allocator> Web<S, V, K, P, A> {
     pub fn install<M: LinkPlay<S, V>>(
         &self,
         seat: &mut Seat<S, V, A>,
-        block: u64,
         link: Link<S>,
         new: Link<S>,
     ) -> Link<S>
-        requires { Sits seat.old self.now × InBlock link.ptr × AllowsLink (P.holds self.now.key) seat.old.id seat.old.sitter block link.ptr (if_unset new.ptr) (M.then block seat.old.sitter) }
-        ensures { Same seat.new seat.old × Testable result.ptr × M.then block seat.old.sitter result.ptr seat.new.sitter }
+        requires { Sits seat.old self.now × InBlock link.ptr × AllowsLink (P.holds self.now.key) seat.old.id seat.old.sitter link.ptr (if_unset new.ptr) (M.then seat.old.sitter) }
+        ensures { Same seat.new seat.old × Testable result.ptr × M.then seat.old.sitter result.ptr seat.new.sitter }
     {
-        self.turn::<M>(seat, block, link, LinkOperation::Install, new)
+        self.turn::<M>(seat, link, LinkOperation::Install, new)
     }
 
     /// Cuts a seat's view in two, and makes a seat with the second.
     #[inline(always)]
-    pub fn split<M: Split<V>>(
-        &self,
-        seat: &mut Seat<S, V, A>,
-        block: u64,
-        link: Link<S>,
-    ) -> Seat<S, V, A>
-        requires { Sits seat.old self.now × InBlock link.ptr × CanFork (P.holds self.now.key) block link.ptr seat.old.id seat.old.sitter.view (M.left seat.old.sitter.view) (M.right seat.old.sitter.view) }
+    pub fn split<M: Split<V>>(&self, seat: &mut Seat<S, V, A>, link: Link<S>) -> Seat<S, V, A>
+        requires { Sits seat.old self.now × InBlock link.ptr × CanFork (P.holds self.now.key) link.ptr seat.old.id seat.old.sitter.view (M.left seat.old.sitter.view) (M.right seat.old.sitter.view) }
         ensures old { Same seat.new seat.old × (seat.new.sitter ≡ sitter (M.left seat.old.sitter.view) seat.old.sitter.hand seat.old.sitter.spare) }
         ensures new { (result.web ≡ seat.old.web) × (result.heap ≡ seat.old.heap) × (result.sitter ≡ sitter (M.right seat.old.sitter.view) None None) }
     {
@@ -289,14 +251,8 @@ impl<S, V, K, P: WebRule<S, V, K>, A: Allocator> Web<S, V, K, P, A> {
 
     // Both views change, and the other's is spent.
     #[inline(always)]
-    fn merge<M: Join<V>>(
-        &self,
-        seat: &mut Seat<S, V, A>,
-        other: &mut Seat<S, V, A>,
-        block: u64,
-        link: Link<S>,
-    )
-        requires { Sits seat.old self.now × Sits other.old self.now × InBlock link.ptr × CanMerge (P.holds self.now.key) block link.ptr seat.old.id seat.old.sitter.view other.old.id other.old.sitter.view (M.both seat.old.sitter.view other.old.sitter.view) M.spent }
+    fn merge<M: Join<V>>(&self, seat: &mut Seat<S, V, A>, other: &mut Seat<S, V, A>, link: Link<S>)
+        requires { Sits seat.old self.now × Sits other.old self.now × InBlock link.ptr × CanMerge (P.holds self.now.key) link.ptr seat.old.id seat.old.sitter.view other.old.id other.old.sitter.view (M.both seat.old.sitter.view other.old.sitter.view) M.spent }
         ensures { Same seat.new seat.old × (seat.new.sitter ≡ sitter (M.both seat.old.sitter.view other.old.sitter.view) seat.old.sitter.hand seat.old.sitter.spare) }
     {
         unsafe { raw::load::<Brand>(&raw const (*link.ptr).words as *const u64, SeqCst) };
@@ -308,13 +264,12 @@ impl<S, V, K, P: WebRule<S, V, K>, A: Allocator> Web<S, V, K, P, A> {
         &self,
         seat: &mut Seat<S, V, A>,
         mut other: Seat<S, V, A>,
-        block: u64,
         link: Link<S>,
     )
-        requires { Sits seat.old self.now × Sits other self.now × (other.sitter.hand ≡ None) × (other.sitter.spare ≡ None) × InBlock link.ptr × CanMerge (P.holds self.now.key) block link.ptr seat.old.id seat.old.sitter.view other.id other.sitter.view (M.both seat.old.sitter.view other.sitter.view) M.spent }
+        requires { Sits seat.old self.now × Sits other self.now × (other.sitter.hand ≡ None) × (other.sitter.spare ≡ None) × InBlock link.ptr × CanMerge (P.holds self.now.key) link.ptr seat.old.id seat.old.sitter.view other.id other.sitter.view (M.both seat.old.sitter.view other.sitter.view) M.spent }
         ensures { Same seat.new seat.old × (seat.new.sitter ≡ sitter (M.both seat.old.sitter.view other.sitter.view) seat.old.sitter.hand seat.old.sitter.spare) }
     {
-        self.merge::<M>(seat, &mut other, block, link);
+        self.merge::<M>(seat, &mut other, link);
         other.leave();
     }
 }

@@ -85,6 +85,34 @@ fn through_rings(rt: HostRuntime) -> Result<(), Fail> {
     Ok(())
 }
 
+/// Without a capacity: one item, as many as the reference's tests push, an item past a block of 31, and none.
+static UNBOUNDED: [(&str, &str); 4] = [
+    (
+        "threads unbounded 1 1 1",
+        "1 values, each counted 1 times\n",
+    ),
+    (
+        "threads unbounded 4 4 25000",
+        "25000 values, each counted 4 times\n",
+    ),
+    (
+        "threads unbounded 1 2 32",
+        "32 values, each counted 1 times\n",
+    ),
+    (
+        "threads unbounded 2 3 0",
+        "0 values, each counted 2 times\n",
+    ),
+];
+
+#[test]
+fn through_chains(rt: HostRuntime) -> Result<(), Fail> {
+    for (line, output) in UNBOUNDED.iter() {
+        ends_unread(&rt, rt.alloc(), line, End::right(output))?;
+    }
+    Ok(())
+}
+
 /// No queue has more slots than 2^59.
 #[test]
 fn no_ring_of_too_many_slots(rt: HostRuntime) -> Result<(), Fail> {
@@ -93,7 +121,7 @@ fn no_ring_of_too_many_slots(rt: HostRuntime) -> Result<(), Fail> {
     Ok(())
 }
 
-static WRONG: [&str; 24] = [
+static WRONG: [&str; 26] = [
     "threads",
     "threads single",
     "threads single 1 1",
@@ -109,7 +137,9 @@ static WRONG: [&str; 24] = [
     "threads single 1 1 -1",
     "threads single 01 1 1",
     "threads single 1 1 18446744073709551616",
-    "threads unbounded 1 1 1",
+    "threads unbounded 1 1",
+    "threads unbounded 1 2 3",
+    "threads unbounded:1 1 1 1",
     "threads bounded 1 1 1",
     "threads bounded: 1 1 1",
     "threads bounded:02 1 1 1",

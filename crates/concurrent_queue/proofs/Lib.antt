@@ -1,14 +1,7 @@
-mod Totals
-mod Keeping
 mod Leading
-mod Alone
 mod Crowds
-mod Meetings
-mod FirstParty
 mod Persons
-mod Views
-mod Callings
-mod Owns
+mod WebParties
 mod TableAllows
 mod TableOperations
 mod TableTouches

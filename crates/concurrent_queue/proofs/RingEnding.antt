@@ -8,13 +8,13 @@ use Rattle.queue_steps.specs.Words.{IsRing}
 use Rattle.queue_steps.specs.Shares.{entire}
 use Rattle.ring_laws.proofs.RingOpening.{numbers_below, opening_ring, opening_shared, opening_ok, opening_codes}
 use Rattle.exclusive_queue.specs.RingWords.{words_behind}
-use Rattle.concurrent_queue.specs.declared.known.Doing.{Doing}
-use Rattle.concurrent_queue.specs.Known.{party}
-use Rattle.concurrent_queue.specs.Seats.{idle, is_busy}
+use Rattle.queue_parties.specs.declared.known.Doing.{Doing}
+use Rattle.queue_parties.specs.Known.{party}
+use Rattle.queue_parties.specs.Doings.{idle, is_busy}
 use Rattle.concurrent_queue.specs.TableRule.{Rule}
 use Rattle.concurrent_queue.specs.RingTable.{ring_table}
 use Rattle.concurrent_queue.specs.RingOpening.{first_words}
-use Rattle.concurrent_queue.proofs.FirstParty.{first_rests, first_kept}
+use Rattle.queue_parties.proofs.FirstParty.{first_rests, first_kept}
 
 homes_at : {A : Type 0} (n i : ℕ) (a : A) → i < n → get_elem? (map some (replicate n a)) i ≡ some (some a)
 homes_at zero i a lt = absurd (omega arith)
@@ -34,11 +34,13 @@ module _ (T : Type 0) (cap : ℕ) where
     cells = opening_ring T;
     words = words_behind 0 0 (numbers_below cap);
     history = [];
-    ok = opening_ok T cap ring;
     counted = refl;
     coded = (opening_shared T cap, opening_codes T cap, refl, (homes_long cap None, λ i lt. homes_at cap i None lt));
-    state = refl;
-    calls = λ j d c e is. absurd (first_rests (Some cap) j d e (ap is_busy is));
-    free = λ j none. λ k e. cc;
-    kept = first_kept (Some cap);
+    all = record {
+      ok = opening_ok T cap ring;
+      state = refl;
+      calls = λ j d c e is. absurd (first_rests (Some cap) j d e (ap is_busy is));
+      free = λ j none. λ k e. cc;
+      kept = first_kept (Some cap);
+    };
   }

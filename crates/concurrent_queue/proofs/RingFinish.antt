@@ -15,9 +15,10 @@ use Rattle.ring_laws.proofs.RingShared.{Shared}
 use Rattle.ring_laws.proofs.RingTransitions.{in_ring}
 use Rattle.ring_laws.proofs.RingWords.{Codes, item_in}
 use Rattle.ring_laws.proofs.RingIdle.{NobodyHolds, AtRest, at_rest}
-use Rattle.concurrent_queue.specs.declared.known.Doing.{Doing}
-use Rattle.concurrent_queue.specs.Known.{view_of}
-use Rattle.concurrent_queue.specs.Seats.{count_of, IsAlone}
+use Rattle.queue_parties.specs.declared.known.Doing.{Doing}
+use Rattle.queue_parties.specs.Known.{view_of}
+use Rattle.concurrent_queue.specs.Seats.{count_of}
+use Rattle.queue_parties.specs.Doings.{IsAlone}
 use Rattle.concurrent_queue.specs.TableRule.{Rule}
 use Rattle.concurrent_queue.specs.RingTable.{home_when, Homes, ring_words, ring_table}
 use Rattle.exclusive_queue.specs.RingCells.{RingSlot}
@@ -113,12 +114,12 @@ module _ {T : Type 0} where
       let s = end.0 in let rule : Rule (ring_table cap) s = end.1.0 in let r : Ring T = rule.cells in
       let shared : Shared T = rule.coded.0 in let codes : Codes cap r shared = rule.coded.1 in let homes : Homes cap r s.homes = rule.coded.3 in
       let e = table_ends (ring_table cap) s id d rule end.1.1 is in
-      let rest : AtRest cap r shared = at_rest cap r shared rule.ok codes e.nobody in
+      let rest : AtRest cap r shared = at_rest cap r shared rule.all.ok codes e.nobody in
       let long : length xs ≡ cap = sym end.3 ∙ homes.0 in
       let lies : (i : ℕ) → i < cap → get_or xs i None ≡ get_or shared.slots i None = λ i lt. elem_or None xs i (get_or shared.slots i None) (end.4 i (get_or shared.slots i None) (all_home cap r shared s.homes codes homes e.nobody i lt)) in
       let words : count_of s ∷ ring_words shared ≡ ws = ap (λ y. count_of s ∷ y) (sym rule.coded.2) ∙ (sym rule.counted ∙ end.2) in
-      let state : queue_of cap r ≡ after (Some cap) d.known.seen = rule.state ∙ ap (after (Some cap)) (sym e.seen) in (
-        subst (λ (z : List ℕ). IsIdle (ring_in cap z xs)) words (owned_idle cap r shared (count_of s) xs rule.ok codes rest long lies),
-        subst (λ (z : List ℕ × State T). IsShown (ring_queue (ring_in cap z.0 xs)) z.1) (λ i. (words i, state i)) (owned_shown cap r shared (count_of s) xs rule.ok codes rest long lies),
+      let state : queue_of cap r ≡ after (Some cap) d.known.seen = rule.all.state ∙ ap (after (Some cap)) (sym e.seen) in (
+        subst (λ (z : List ℕ). IsIdle (ring_in cap z xs)) words (owned_idle cap r shared (count_of s) xs rule.all.ok codes rest long lies),
+        subst (λ (z : List ℕ × State T). IsShown (ring_queue (ring_in cap z.0 xs)) z.1) (λ i. (words i, state i)) (owned_shown cap r shared (count_of s) xs rule.all.ok codes rest long lies),
         e.whole,
       )

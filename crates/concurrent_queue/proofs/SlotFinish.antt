@@ -11,13 +11,14 @@ use Rattle.queue_steps.specs.SingleNext.{is_marked}
 use Rattle.queue_steps.specs.State.{State}
 use Rattle.slot_laws.proofs.SlotRows.{Hold, Nobody, Stands, free_empty, free_full, single}
 use Rattle.slot_laws.proofs.SlotCells.{Slot, queue_of, lent_by, all_nobody}
-use Rattle.concurrent_queue.specs.declared.known.Doing.{Doing}
-use Rattle.concurrent_queue.specs.Known.{party, view_of}
-use Rattle.concurrent_queue.specs.Seats.{idle, is_busy, count_of, IsAlone}
+use Rattle.queue_parties.specs.declared.known.Doing.{Doing}
+use Rattle.queue_parties.specs.Known.{party, view_of}
+use Rattle.concurrent_queue.specs.Seats.{count_of}
+use Rattle.queue_parties.specs.Doings.{idle, is_busy, IsAlone}
 use Rattle.exclusive_queue.specs.SingleCells.{state_of, word_for}
 use Rattle.concurrent_queue.specs.TableRule.{Rule}
 use Rattle.concurrent_queue.specs.SlotTable.{home_under, slot_table}
-use Rattle.concurrent_queue.proofs.FirstParty.{first_rests, first_kept}
+use Rattle.queue_parties.proofs.FirstParty.{first_rests, first_kept}
 use Rattle.concurrent_queue.proofs.TableRests.{table_ends}
 
 module _ (T : Type 0) where
@@ -38,13 +39,15 @@ module _ (T : Type 0) where
     cells = opening_slot;
     words = 0 ∷ [];
     history = [];
-    ok = tt;
     counted = refl;
     coded = (0, None, free_empty false, refl, refl);
-    state = refl;
-    calls = λ j d c e is. absurd (first_rests (Some 1) j d e (ap is_busy is));
-    free = λ j none. never (j == 0);
-    kept = first_kept (Some 1);
+    all = record {
+      ok = tt;
+      state = refl;
+      calls = λ j d c e is. absurd (first_rests (Some 1) j d e (ap is_busy is));
+      free = λ j none. never (j == 0);
+      kept = first_kept (Some 1);
+    };
   }
 
   -- the word and the content of a slot that no call holds, of a queue at Q
@@ -77,6 +80,6 @@ module _ (T : Type 0) where
       let word_is : w ≡ word = ap (λ (l : List ℕ). get_or l 1 0) found ∙ second_word ws word at_word in
       let home : get_elem? s.homes 0 ≡ some (some y) = ap (λ l. get_elem? l 0) rule.coded.4 ∙ ap (λ h. some (home_under h y)) nobody in
       let slot_is : y ≡ x = some-injective y x (sym (end.4 0 y home) ∙ at_slot) in
-      let state : queue_of g ≡ after (Some 1) d.known.seen = rule.state ∙ ap (after (Some 1)) (sym e.seen) in
+      let state : queue_of g ≡ after (Some 1) d.known.seen = rule.all.state ∙ ap (after (Some 1)) (sym e.seen) in
       let left : Left word x (after (Some 1) d.known.seen) = subst (λ (z : ℕ × Option T × State T). Left z.0 z.1 z.2) (λ i. (word_is i, slot_is i, state i)) (left_by w y g.keeps.hold g.items g.closed g.accepted nobody rule.coded.2) in
       (left.0, left.1, e.whole)

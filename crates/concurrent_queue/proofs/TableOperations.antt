@@ -6,11 +6,13 @@ use Rattle.queue_steps.specs.declared.steps.types.Op.{Op}
 use Rattle.queue_steps.specs.declared.steps.types.Op.TheVariants as op
 use Rattle.queue_steps.specs.declared.steps.types.Word.{Word}
 use Rattle.queue_steps.specs.Next.{CanNext, next_of}
-use Rattle.concurrent_queue.specs.declared.known.InCall.{InCall}
+use Rattle.queue_parties.specs.declared.known.InCall.{InCall}
 use Rattle.concurrent_queue.specs.Seats.{Seated}
-use Rattle.concurrent_queue.specs.Calling.{touched_list, handed_by}
-use Rattle.concurrent_queue.specs.TableRule.{TableOf, Rule, TableLaws, InTable, op_word, op_makes, answer_for, found_by}
-use Rattle.concurrent_queue.specs.TableTurns.{Ready, After, Follows}
+use Rattle.queue_parties.specs.Calling.{touched_list, handed_by}
+use Rattle.concurrent_queue.specs.TableRule.{TableOf, Rule, TableLaws, InTable, found_by}
+use Rattle.queue_parties.specs.Operations.{op_word, op_makes, answer_for}
+use Rattle.concurrent_queue.specs.TableTurns.{After, Follows}
+use Rattle.queue_parties.specs.CallsAt.{Ready}
 use Rattle.concurrent_queue.proofs.TableAllows.{table_allows}
 
 has_word : {T : Type 0} (K : TableOf T) (o : Op ℕ) → InTable K o → K.HasWord (op_word o)

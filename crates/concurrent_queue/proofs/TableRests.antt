@@ -7,13 +7,15 @@ use native.Mathlib.Decide.{ℕ_discrete}
 use lib.ListN.{get_elem?}
 use Rattle.atomic_table.proofs.Lists.{at_map}
 use Rattle.queue_steps.specs.Parties.{IsWhole}
-use Rattle.concurrent_queue.specs.declared.known.Doing.{Doing}
-use Rattle.concurrent_queue.specs.Known.{view_of}
-use Rattle.concurrent_queue.specs.Seats.{Table, is_busy, known_by, count_of, IsAlone}
-use Rattle.concurrent_queue.specs.Calling.{cap_of}
+use Rattle.queue_parties.specs.declared.known.Doing.{Doing}
+use Rattle.queue_parties.specs.Known.{view_of}
+use Rattle.concurrent_queue.specs.Seats.{Table, count_of}
+use Rattle.queue_parties.specs.Doings.{is_busy, known_by, IsAlone}
+use Rattle.queue_parties.specs.Calling.{cap_of}
 use Rattle.concurrent_queue.specs.TableRule.{TableOf, Rule}
-use Rattle.concurrent_queue.specs.TableParties.{false_if, table_keeps_parties}
-use Rattle.concurrent_queue.proofs.Alone.{Alone, alone}
+use Rattle.concurrent_queue.specs.TableParties.{table_keeps_parties}
+use Rattle.queue_parties.proofs.Sharings.{false_if}
+use Rattle.queue_parties.proofs.Alone.{Alone, alone}
 
 -- what is so of a table by its rule, where the seat id has all of the share
 pub record Ends {T : Type 0} (K : TableOf T) (s : Table T) (id : ℕ) (d : Doing T) (rule : Rule K s) : Type 0 where
@@ -22,7 +24,7 @@ pub record Ends {T : Type 0} (K : TableOf T) (s : Table T) (id : ℕ) (d : Doing
   -- the other seats count for nobody
   pub others : (j : ℕ) (e : Doing T) → j ≢ id → get_elem? s.views j ≡ some e → e.known.parts ≡ 0
   pub quiet : (j : ℕ) (e : Doing T) → get_elem? s.views j ≡ some e → is_busy e.work ≡ false
-  pub nobody : (who : ℕ) → K.calls.Lent rule.cells who []
+  pub nobody : (who : ℕ) → K.calls.Idle rule.cells who
 
 pub table_ends : {T : Type 0} (K : TableOf T) (s : Table T) (id : ℕ) (d : Doing T) (rule : Rule K s) → get_elem? s.views id ≡ some d → IsAlone d → Ends K s id d rule
 table_ends {T} K s id d rule at is = record {
@@ -30,11 +32,11 @@ table_ends {T} K s id d rule at is = record {
   seen = lone.seen;
   others = others;
   quiet = quiet;
-  nobody = λ who. rule.free who (λ e there. quiet who e there);
+  nobody = λ who. rule.all.free who (λ e there. quiet who e there);
 }
   where
     lone : Alone rule.history (map known_by s.views) id d.known
-    lone = alone (cap_of K.calls) d.known.cap rule.history d.known.seen (count_of s) (map known_by s.views) id d.known d.known.mine d.known.share rule.kept (at_map known_by s.views id d at) (ap (λ (z : Doing T). z.known) is.0) is.1
+    lone = alone (cap_of K.calls) d.known.cap rule.history d.known.seen (count_of s) (map known_by s.views) id d.known d.known.mine d.known.share rule.all.kept (at_map known_by s.views id d at) (ap (λ (z : Doing T). z.known) is.0) is.1
 
     others : (j : ℕ) (e : Doing T) → j ≢ id → get_elem? s.views j ≡ some e → e.known.parts ≡ 0
     others j e ne there = lone.others j e.known ne (at_map known_by s.views j e there)

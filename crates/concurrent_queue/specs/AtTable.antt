@@ -11,8 +11,9 @@ use Rattle.queue_steps.specs.declared.steps.types.Touch.TheVariants as touch
 use Rattle.queue_steps.specs.Effect.{IsHistory}
 use Rattle.queue_steps.specs.Shares.{Share, IsEntire}
 use Rattle.queue_steps.specs.Parties.{SharedCall, IsWhole}
-use Rattle.concurrent_queue.specs.Known.{party}
-use Rattle.concurrent_queue.specs.Seats.{Seated, Rests, idle, view_at}
+use Rattle.queue_parties.specs.Known.{party}
+use Rattle.concurrent_queue.specs.Seats.{Seated, Rests, view_at}
+use Rattle.queue_parties.specs.Doings.{HasAll}
 
 -- the table at which a party sits, and its seat
 abbrev pub Place : Type 0 → Type 0
@@ -35,16 +36,9 @@ Touched (touch.Put k) m x m' x' = Swapped k m x m' x'
 Touched (touch.Swap k) m x m' x' = Swapped k m x m' x'
 Touched (touch.Take k) m x m' x' = Swapped k m x m' x'
 
-pub rests_as : {T : Type 0} (cap : Option ℕ) (seen : List (Effect T)) (mine : List ℕ) (share : Share) (m : Seated T) → m ≡ (idle (party cap seen mine share), []) → Rests m
-rests_as cap seen mine share m is = is ∙ sym (ap (λ z. (idle (party z.0.known.cap z.0.known.seen z.0.known.mine z.0.known.share), [])) is)
-
--- a party with all of the share has every place of what it has seen
-abbrev pub OwnsAll : {T : Type 0} → Seated T → Type 0
-OwnsAll m = IsEntire m.0.known.share → IsWhole (view_at m)
-
 -- the seat of a party of the queue of this capacity at the table t, between its calls
 abbrev pub IsAt : {T : Type 0} → Option ℕ → TableId → Place T → Type 0
-IsAt cap t p = (p.0 ≡ t) × Rests p.1 × (p.1.0.known.cap ≡ cap) × IsHistory cap p.1.0.known.seen × OwnsAll p.1
+IsAt cap t p = (p.0 ≡ t) × Rests p.1 × (p.1.0.known.cap ≡ cap) × IsHistory cap p.1.0.known.seen × HasAll p.1.0
 
 -- the call that began at the place p ended at q
 abbrev pub Ended : {T : Type 0} → Option ℕ → TableId → Place T → Call T → Reply T → Place T → Type 0

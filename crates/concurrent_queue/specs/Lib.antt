@@ -1,12 +1,7 @@
-pub mod Counting
-pub mod Known
 pub mod Turns
 pub mod Seats
 pub mod Shared
 pub mod AtTable
-pub mod Histories
-pub mod SharedCalls
-pub mod Calling
 pub mod TableRule
 pub mod TableTurns
 pub mod RingOpening
@@ -17,3 +12,5 @@ pub mod RingSteps
 pub mod SlotTable
 pub mod SlotSteps
 pub mod TableParties
+pub mod ChainTurns
+pub mod InWeb

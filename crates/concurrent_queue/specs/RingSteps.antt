@@ -1,5 +1,5 @@
 -- The laws of a ring in a table: what each step of a call does to the words and slots, and where calls begin.
-use Rattle.std.proofs.Common.{◌≡◌, ◌≢◌, ℕ, ◌+◌, ◌-◌, ◌%◌, ◌<◌, ◌^◌, ◌==◌, ◌||◌, not, length, Bool, true, false, List, [], ◌∷◌, get_or, set, Option, Some, None, if◌then◌else◌, bit_or, refl, ap, sym, ◌∙◌, subst, arith, length-set}
+use Rattle.std.proofs.Common.{◌≡◌, ◌≢◌, ℕ, ◌+◌, ◌-◌, ◌%◌, ◌<◌, ◌^◌, ◌==◌, ◌||◌, not, length, Bool, true, false, List, [], ◌∷◌, get_or, set, Option, Some, None, if◌then◌else◌, bit_or, refl, ap, sym, ◌∙◌, subst, inl, arith, length-set}
 use Rattle.std.proofs.lemmas.List.{set-get_or, get_or-drop, set-append_right}
 use mathlib.Core.Option.{some, some-injective}
 use mathlib.Core.Option as maybe
@@ -41,8 +41,10 @@ use Rattle.ring_laws.proofs.RingStep.{step_good}
 use Rattle.ring_laws.proofs.RingHands.{lent_stays, Shift, Rests, Claims, GoesOn, Returns, Lent}
 use Rattle.exclusive_queue.specs.RingWords.{words_behind}
 use Rattle.exclusive_queue.specs.declared.ring_words.TheConstants.{STAMPS}
-use Rattle.concurrent_queue.specs.Calling.{touched_list, lies_in, handed_by, HasTouched, MayFront, Goes, CallLaws}
-use Rattle.concurrent_queue.specs.TableRule.{op_word, op_makes, answer_for, found_by, Stepped, InTable, OpensIn, TableLaws}
+use Rattle.queue_laws.proofs.Moments.{seen_map}
+use Rattle.queue_parties.specs.Calling.{touched_list, lies_in, handed_by, HasTouched, MayFront, Goes, CallLaws}
+use Rattle.concurrent_queue.specs.TableRule.{found_by, Stepped, InTable, OpensIn, TableLaws}
+use Rattle.queue_parties.specs.Operations.{op_word, op_makes, answer_for}
 use Rattle.concurrent_queue.specs.RingTable.{home_when, home_of, Homes, ring_words, word_index, RingCoded, ring_calls, ring_table}
 use Rattle.concurrent_queue.specs.RingPrompt.{ring_prompt}
 
@@ -271,7 +273,7 @@ module _ {T : Type 0} where
   goes_well : (cap : ℕ) (r s : Ring T) (who : ℕ) (ms : List (State T)) (was : Bool) (n : Next ℕ) (v : Option T) (k : Call T) (es : List (Effect T)) (m : ℕ)
       → RingGoes cap r s who ms was n v k es m → Goes (ring_calls cap) s who ms was n v k es
   goes_well cap r s who ms was (next.Step l t o) v k es m goes = goes.0
-  goes_well cap r s who ms was (next.Reply x spare) v k es m goes = goes
+  goes_well cap r s who ms was (next.Reply x spare) v k es m goes = let y = goes.2 in (goes.0, goes.1, (y.0, y.1, y.2, λ none. seen_map ms (λ q p. inl p) (y.3 none)))
 
   -- each step of a call does what the table is owed
   ring_steps : (cap : ℕ) (g : Ring T) (who n : ℕ) (ws : List ℕ) (hs : List (maybe.Option (Option T))) (ms : List (State T)) (was : Bool) (l : Local ℕ) (t : Touch) (o : Op ℕ) (v : Option T) (k : Call T) (es : List (Effect T)) (xs : List (ℕ × Option T))
@@ -328,7 +330,9 @@ module _ {T : Type 0} where
   ring_call_laws cap = record {
     at_stays = λ g s who j ms was l t o v k es ok ok' ne pass here. at_stays ok ok' ne pass here;
     lent_stays = λ g s who j xs ne pass lent. lent_stays who j xs ne pass lent;
-    lent_none = λ g j xs lent none. lent_none g j xs lent none;
+    idle_stays = λ g s who j ne pass idle. lent_stays who j [] ne pass idle;
+    idle_none = λ g j xs idle lent. lent_none g j xs lent idle;
+    idle_lent = λ g j idle. idle;
     coming = λ g j ms was l t o v k es ok here b. at_coming ok here b;
     touches = λ g j ms was l t o v k es xs here lent. has_touched cap g j ms was l t o v k es xs here lent;
   }
@@ -339,6 +343,7 @@ module _ {T : Type 0} where
     below = place_below cap;
     at_word = λ g j ms was l t o v k es ok here. in_table T cap o (at_word ok here);
     steps = λ g who n ws hs ms was l t o v k es xs ok coded here lent. ring_steps cap g who n ws hs ms was l t o v k es xs ok coded here lent;
+    gives = λ spare none. none;
     opens = ring_opens_in cap ring;
     prompt = ring_prompt cap;
   }

@@ -1,5 +1,5 @@
 -- A ring that parties share, as a kind of queue in a table: the tail, the head and the stamps are the words behind the count of parties.
-use Rattle.std.specs.Prelude.{◌≡◌, ℕ, ◌+◌, ◌<◌, List, length, Option, Some, None}
+use Rattle.std.specs.Prelude.{◌≡◌, ℕ, ◌+◌, ◌<◌, List, [], length, Option, Some, None}
 use mathlib.Core.Option.{some}
 use mathlib.Core.Option as maybe
 use lib.ListN.{get_elem?}
@@ -15,7 +15,7 @@ use Rattle.ring_laws.proofs.RingHands.{Lent}
 use Rattle.ring_laws.proofs.RingStart.{HasPlace}
 use Rattle.exclusive_queue.specs.RingWords.{words_behind}
 use Rattle.exclusive_queue.specs.declared.ring_words.TheConstants.{TAIL, HEAD, STAMPS}
-use Rattle.concurrent_queue.specs.Calling.{CallsOf}
+use Rattle.queue_parties.specs.Calling.{CallsOf}
 use Rattle.concurrent_queue.specs.TableRule.{TableOf}
 
 -- what lies in a slot that nobody has; a slot that somebody has is out
@@ -55,6 +55,8 @@ ring_calls {T} cap = record {
   At = λ g who ms was l t o v k es. At cap g who ms was l t o v k es;
   Passes = λ who g s. Passes who g s;
   Lent = λ g who xs. Lent g who xs;
+  Idle = λ g who. Lent g who [];
+  Gives = λ spare. spare ≡ None;
 }
 
 abbrev pub ring_table : {T : Type 0} → ℕ → TableOf T

@@ -1,21 +1,34 @@
 -- Queues that parties share, as contracts see them.
-use Rattle.std.specs.Prelude.{◌≡◌, ℕ, Option, Some}
+use Rattle.std.specs.Prelude.{◌≡◌, ◌≢◌, ℕ, true, [], Option, Some, None}
 use Rattle.atomic_table.specs.Seated.{TableId}
 use Rattle.queue_steps.specs.declared.model.Call.{Call}
 use Rattle.queue_steps.specs.declared.model.Reply.{Reply}
 use Rattle.queue_steps.specs.Shares.{IsEntire}
-use Rattle.queue_steps.specs.Parties.{View, IsView, SharedCall, Split, Join, Meet, IsWhole}
+use Rattle.queue_steps.specs.Parties.{View, SharedCall, Split, Join, Meet, IsWhole}
 use Rattle.queue_steps.specs.SoleCalls.{SoleCall}
 use Rattle.queue_steps.specs.Effect.{after}
 use Rattle.queue_steps.specs.Legal.{IsShown}
 use Rattle.queue_steps.specs.Sole.{Owned}
+use Rattle.chain_web.specs.Turning.{web_of}
 use Rattle.concurrent_queue.specs.declared.shared.Form.{Form}
 use Rattle.concurrent_queue.specs.declared.shared.Form.TheVariants as form
-use Rattle.concurrent_queue.specs.Seats.{Seated, Rests, view_at}
+use Rattle.block_web.specs.Laid.{WebId}
+use Rattle.queue_parties.specs.declared.known.Doing.{Doing}
+use Rattle.queue_parties.specs.Known.{view_of}
+use Rattle.queue_parties.specs.Doings.{empty_seat}
+use Rattle.queue_parties.specs.Parting.{IsParty}
+use Rattle.concurrent_queue.specs.declared.party.Hold.{Hold}
+use Rattle.concurrent_queue.specs.declared.party.Hold.TheVariants as hold
+
+-- by what a queue is told from others: its table, or its web. A seat that is away is of none
+pub data QueueName : Type 0 where
+  at_table : TableId → QueueName
+  in_web : WebId → QueueName
+  nowhere : QueueName
 
 -- which queue, and its capacity
 pub record QueueId : Type 0 where
-  pub table : TableId
+  pub name : QueueName
   pub cap : Option ℕ
 
 -- a party: its queue, and its view of that queue's history
@@ -27,12 +40,21 @@ pub record Person (T : Type 0) : Type 0 where
 abbrev pub IsPartyOf : {T : Type 0} → Person T → QueueId → Type 0
 IsPartyOf p q = p.queue ≡ q
 
-abbrev pub person : {T : Type 0} → TableId → Seated T → Person T
-person t m = record { queue = record { table = t; cap = m.0.known.cap }; view = view_at m }
+-- the party that knows this, of the queue of this name
+abbrev pub person : {T : Type 0} → QueueName → Doing T → Person T
+person n d = record { queue = record { name = n; cap = d.known.cap }; view = view_of d.known }
+
+-- the party with this seat
+abbrev pub person_of : {T : Type 0} → Hold T → Person T
+person_of (hold.Table s) = person (at_table s.table_id) s.me.0
+person_of (hold.Web r) = person (in_web r.web) r.view
+person_of hold.Away = person nowhere empty_seat
 
 -- between its calls
-abbrev pub IsPerson : {T : Type 0} → Seated T → Type 0
-IsPerson m = Rests m × IsView m.0.known.cap (view_at m)
+abbrev pub IsHeld : {T : Type 0} → Hold T → Type 0
+IsHeld (hold.Table s) = IsParty s.me.0 × (s.me.1 ≡ [])
+IsHeld (hold.Web r) = IsParty r.view × (r.asleep ≡ true)
+IsHeld hold.Away = ⊥
 
 -- the call takes the party from v to w. If it has all of the share, the call is one of one owner
 abbrev pub Calls : {T : Type 0} → Person T → Call T → Reply T → Person T → Type 0
@@ -52,9 +74,10 @@ Meets a b c d = (c.queue ≡ a.queue) × (d.queue ≡ b.queue) × Meet a.queue.c
 
 -- which queue this is
 abbrev pub form_id : {T A : Type 0} → Form T A → QueueId
-form_id (form.Single s) = record { table = s.table.shared.table_id; cap = Some 1 }
-form_id (form.Ring r) = record { table = r.table.shared.table_id; cap = Some r.table.shared.table_id.slots }
+form_id (form.Single s) = record { name = at_table s.table.shared.table_id; cap = Some 1 }
+form_id (form.Ring r) = record { name = at_table r.table.shared.table_id; cap = Some r.table.shared.table_id.slots }
+form_id (form.Chain w) = record { name = in_web (web_of w.chain); cap = None }
 
--- the queue ended with its only party p, which has all of the share, as a queue with one owner
+-- The queue ended with its only party p, which has all of the share, as a queue with one owner. One with a capacity holds no block
 abbrev pub Finishes : {T : Type 0} → Person T → Owned T → Type 0
-Finishes p e = IsEntire p.view.share × IsWhole p.view × IsShown e.queue (after p.queue.cap p.view.seen) × (e.blocks ≡ 0)
+Finishes p e = IsEntire p.view.share × IsWhole p.view × IsShown e.queue (after p.queue.cap p.view.seen) × (p.queue.cap ≢ None → e.blocks ≡ 0)

@@ -1,5 +1,5 @@
 -- The laws of one slot in a table: what each step of a call does to the word and the slot, and where calls begin.
-use Rattle.std.proofs.Common.{◌≡◌, ℕ, ◌==◌, ◌||◌, not, Bool, true, false, List, [], ◌∷◌, get_or, set, Option, Some, None, if◌then◌else◌, refl, ap, sym, ◌∙◌, subst, arith}
+use Rattle.std.proofs.Common.{◌≡◌, ℕ, ◌==◌, ◌||◌, not, Bool, true, false, List, [], ◌∷◌, get_or, set, Option, Some, None, if◌then◌else◌, refl, ap, sym, ◌∙◌, subst, inl, arith}
 use mathlib.Core.Option.{some}
 use mathlib.Core.Option as maybe
 use prog.Atomic.{either}
@@ -34,8 +34,10 @@ use Rattle.slot_laws.proofs.SlotSteps.{step_good}
 use Rattle.slot_laws.proofs.SlotRanks.{can_operate}
 use Rattle.slot_laws.proofs.SlotHolder.{share_of, next_who, own_self, own_other}
 use Rattle.slot_laws.proofs.SlotCells.{Slot, queue_of, own_in, lent_by, Lent, nobody_if, IsHeld, held_lent, at_stays, lent_stays, at_whole, at_lock, at_touches}
-use Rattle.concurrent_queue.specs.Calling.{touched_list, lies_in, handed_by, MayFront, Goes, CallLaws}
-use Rattle.concurrent_queue.specs.TableRule.{op_makes, answer_for, InTable, Stepped, OpensIn, TableLaws}
+use Rattle.queue_laws.proofs.Moments.{seen_map}
+use Rattle.queue_parties.specs.Calling.{touched_list, lies_in, handed_by, MayFront, Goes, CallLaws}
+use Rattle.concurrent_queue.specs.TableRule.{InTable, Stepped, OpensIn, TableLaws}
+use Rattle.queue_parties.specs.Operations.{op_makes, answer_for}
 use Rattle.concurrent_queue.specs.SlotTable.{home_under, SlotCoded, slot_calls, slot_table}
 
 -- the prompt calls take one step
@@ -212,7 +214,7 @@ module _ {T : Type 0} where
   -- where the call stands after its step, or that it ends right
   goes_well : (g : Slot T) (who : ℕ) (own : Hold T) (ms : List (State T)) (was : Bool) (x : Next ℕ) (v : Option T) (k : Call T) (es : List (Effect T)) → own ≡ own_in g who → Lands x v own k es ms → Goes slot_calls g who ms was x v k es
   goes_well g who own ms was (next.Step l t o) v k es is lands = subst (λ h. At l t o v h k es) is lands
-  goes_well g who own ms was (next.Reply x spare) v k es is lands = (ap lent_by (sym lands.0 ∙ is), lands.1, lands.2)
+  goes_well g who own ms was (next.Reply x spare) v k es is lands = let y = lands.2 in (ap lent_by (sym lands.0 ∙ is), lands.1, (y.0, y.1, y.2, λ none. seen_map ms (λ q p. inl p) (y.3 none)))
 
   -- each step of a call does what the table is owed
   slot_steps : (g : Slot T) (who n : ℕ) (ws : List ℕ) (hs : List (maybe.Option (Option T))) (ms : List (State T)) (was : Bool) (l : Local ℕ) (t : Touch) (o : Op ℕ) (v : Option T) (k : Call T) (es : List (Effect T)) (xs : List (ℕ × Option T))
@@ -296,7 +298,9 @@ module _ {T : Type 0} where
   slot_call_laws = record {
     at_stays = λ g s who j ms was l t o v k es ok ok' ne pass here. at_stays g s who j ne pass here;
     lent_stays = λ g s who j xs ne pass lent. lent_stays g s who j xs ne pass lent;
-    lent_none = λ g j xs lent none. lent ∙ sym none;
+    idle_stays = λ g s who j ne pass idle. lent_stays g s who j [] ne pass idle;
+    idle_none = λ g j xs idle lent. lent ∙ sym idle;
+    idle_lent = λ g j idle. idle;
     coming = λ g j ms was l t o v k es ok here b. absurd (at_whole here b);
     touches = λ g j ms was l t o v k es xs here lent i e. let h = at_touches i here e in (h.0, lent ∙ h.1);
   }
@@ -307,6 +311,7 @@ module _ {T : Type 0} where
     below = λ w has. omega arith;
     at_word = λ g j ms was l t o v k es ok here. in_table T o (at_lock here);
     steps = λ g who n ws hs ms was l t o v k es xs ok coded here lent. slot_steps g who n ws hs ms was l t o v k es xs coded here lent;
+    gives = λ spare none. none;
     opens = slot_opens_in;
     prompt = slot_prompt;
   }

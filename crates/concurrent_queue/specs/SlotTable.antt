@@ -1,12 +1,12 @@
 -- One slot that parties share, as a kind of queue in a table: the word behind the count of parties is the slot's.
-use Rattle.std.specs.Prelude.{◌≡◌, ℕ, List, [], ◌∷◌, Option}
+use Rattle.std.specs.Prelude.{None, ◌≡◌, ℕ, List, [], ◌∷◌, Option}
 use mathlib.Core.Option.{some}
 use mathlib.Core.Option as maybe
 use Rattle.queue_steps.specs.declared.steps.types.Kind.TheVariants as queue
 use Rattle.slot_laws.proofs.SlotShared.{IsLock}
 use Rattle.slot_laws.proofs.SlotRows.{Hold, Nobody, Stands, At}
 use Rattle.slot_laws.proofs.SlotCells.{Slot, queue_of, own_in, Passes, Lent}
-use Rattle.concurrent_queue.specs.Calling.{CallsOf}
+use Rattle.queue_parties.specs.Calling.{CallsOf}
 use Rattle.concurrent_queue.specs.TableRule.{TableOf}
 
 -- what lies in a slot that nobody has; a slot that somebody has is out
@@ -28,6 +28,8 @@ slot_calls {T} = record {
   At = λ g who ms was l t o v k es. At l t o v (own_in g who) k es;
   Passes = λ who g s. Passes who g s;
   Lent = λ g who xs. Lent g who xs;
+  Idle = λ g who. Lent g who [];
+  Gives = λ spare. spare ≡ None;
 }
 
 abbrev pub slot_table : {T : Type 0} → TableOf T

@@ -17,46 +17,29 @@ use Rattle.queue_steps.specs.declared.steps.types.Touch.TheVariants as touch
 use Rattle.queue_steps.specs.Effect.{after}
 use Rattle.queue_steps.specs.Kinds.{call_kind, call_value}
 use Rattle.queue_steps.specs.Next.{CanNext, next_of}
-use Rattle.queue_steps.specs.Shares.{nothing}
 use Rattle.queue_steps.specs.Parties.{View, SharedCall}
 use Rattle.queue_laws.proofs.Effects.{Touches}
-use Rattle.concurrent_queue.specs.declared.known.InCall.{InCall}
-use Rattle.concurrent_queue.specs.declared.known.Work.{Work}
-use Rattle.concurrent_queue.specs.declared.known.Work.TheVariants as work
-use Rattle.concurrent_queue.specs.Known.{party}
-use Rattle.concurrent_queue.specs.Seats.{Seated, idle, view_at}
+use Rattle.queue_parties.specs.declared.known.Doing.{Doing}
+use Rattle.queue_parties.specs.declared.known.InCall.{InCall}
+use Rattle.queue_parties.specs.declared.known.Work.{Work}
+use Rattle.queue_parties.specs.declared.known.Work.TheVariants as work
+use Rattle.queue_parties.specs.Known.{party}
+use Rattle.concurrent_queue.specs.Seats.{Seated, view_at}
+use Rattle.queue_parties.specs.Doings.{idle}
 use Rattle.concurrent_queue.specs.AtTable.{Place, IsAt, Ended}
-use Rattle.concurrent_queue.specs.Calling.{cap_of, touched_list, handed_by, HasTouched, first_of, Opens}
-use Rattle.concurrent_queue.specs.TableRule.{TableOf, TableLaws, answer_for, InTable}
-use Rattle.concurrent_queue.specs.TableTurns.{Ready, begun_at, After, Follows}
-use Rattle.concurrent_queue.specs.Histories.{prefix_self}
-use Rattle.concurrent_queue.specs.SharedCalls.{quiet, cap_after}
+use Rattle.queue_parties.specs.Calling.{cap_of, touched_list, handed_by, HasTouched, first_of, Opens}
+use Rattle.concurrent_queue.specs.TableRule.{TableOf, TableLaws, InTable}
+use Rattle.queue_parties.specs.Operations.{answer_for}
+use Rattle.concurrent_queue.specs.TableTurns.{After, Follows}
+use Rattle.queue_parties.specs.CallsAt.{Ready, begun_at}
+use Rattle.queue_parties.specs.Called.{with_value, whole, call_of_work, called_at}
+use Rattle.queue_parties.specs.Histories.{prefix_self}
+use Rattle.queue_parties.specs.SharedCalls.{quiet, cap_after}
 use Rattle.concurrent_queue.specs.Turns.{Leads, Begins, GoesOn}
-
--- a call that is none
-abbrev pub nothing_called : {T : Type 0} → InCall T
-nothing_called = record { call = call.Pop; local = local.Begin call.Pop; touch = touch.Nothing; op = op.Ask; carried = None; effects = []; places = []; since = []; before = []; share = nothing; lends = [] }
-
--- the call of this kind with this value
-abbrev pub with_value : {T : Type 0} → Call Unit → Option T → Call T
-with_value (call.Push u) (Some v) = call.Push v
-with_value (call.ForcePush u) (Some v) = call.ForcePush v
-with_value call.Close x = call.Close
-with_value call.IsClosed x = call.IsClosed
-with_value call.IsEmpty x = call.IsEmpty
-with_value call.IsFull x = call.IsFull
-with_value call.Len x = call.Len
-with_value call.Capacity x = call.Capacity
-with_value _ x = call.Pop
-
-abbrev pub call_of_work : {T : Type 0} → InCall T → Work T → InCall T
-call_of_work c work.Nothing = c
-call_of_work c (work.Calls d) = d
 
 -- the call that a seat is at, or is about to begin
 abbrev pub call_at : {T : Type 0} → Seated T → Call Unit → Local ℕ → Touch → Op ℕ → Option T → InCall T
-call_at m k l u o x =
-    call_of_work (record { call = with_value k x; local = l; touch = u; op = o; carried = x; effects = []; places = []; since = m.0.known.seen; before = m.0.known.mine; share = m.0.known.share; lends = [] }) m.0.work
+call_at m k l u o x = called_at m.0 k l u o x
 
 -- the seat m at the call c may do this step
 pub record CanDo {T : Type 0} (K : TableOf T) (m : Seated T) (l : Local ℕ) (u : Touch) (o : Op ℕ) (x : Option T) (c : InCall T) : Type 0 where
@@ -72,6 +55,13 @@ pub record CanDo {T : Type 0} (K : TableOf T) (m : Seated T) (l : Local ℕ) (u 
 -- the seat has its slot touched, and may do the operation
 abbrev pub CanOperate : {T : Type 0} → TableOf T → Seated T → Op ℕ → InCall T → Type 0
 CanOperate K m o c = Ready K.calls m.0 c × (m.1 ≡ touched_list c.touch c.carried c.lends) × (c.op ≡ o) × InTable K o
+
+-- no reply of a call on a table hands out a block
+abbrev pub NoBlock : {T : Type 0} → TableId → Place T → ℕ → Type 0
+NoBlock t p b = ⊥
+
+abbrev pub NoGift : {T : Type 0} → TableId → Place T → ℕ → Place T → Type 0
+NoGift t p b q = ⊥
 
 -- K tells the kind of a table by its number of slots
 module _ {T : Type 0} (K : ℕ → TableOf T) where
@@ -92,7 +82,7 @@ module _ {T : Type 0} (K : ℕ → TableOf T) where
 
 module _ (T : Type 0) (K : ℕ → TableOf T) (t : TableId) where
   abbrev TableLeads : Place T → Call T → Next ℕ → Place T → Option T → Type 0
-  TableLeads p c n q y = Leads (TableCan K) (TableDoes K) (TableStands K) (TableEnded K) t p c n q y
+  TableLeads p c n q y = Leads (TableCan K) (TableDoes K) NoBlock NoGift (TableStands K) (TableEnded K) t p c n q y
 
   -- what a step told leads on
   told_leads : (p : Place T) (c : Call T) (q : Place T) (y : Option T) (b : InCall T) (n : Next ℕ) → q.0 ≡ t → b.call ≡ c → begun_at b ≡ view_at p.1 → After (K t.slots) b y n q.1 → TableLeads p c n q y
@@ -132,12 +122,13 @@ module _ (T : Type 0) (K : ℕ → TableOf T) (t : TableId) where
 
       handed : (z : Option T) → z ≡ handed_by u y (call_at q.1 (call_kind c) l u o y).lends → handed_by d.touch d.carried d.lends ≡ z
       handed z e = (λ i. handed_by (touch_is i) (carried_is i) d.lends) ∙ sym (e ∙ ap (λ (x : InCall T). handed_by u y x.lends) call_same)
-  told_leads p c q y b (next.Reply r spare) same is begun (none, (x, fill, rests, cap_is, owns, calls)) = (
-    none,
+  told_leads p c q y b (next.Reply r (Some block)) same is begun (none, told) = absurd (let f : Some block ≡ None = none in cc)
+  told_leads p c q y b (next.Reply r None) same is begun (none, (x, fill, rests, cap_is, owns, calls)) = (
+    tt,
     (
       x,
       fill,
-      (
+      λ after still. subst (TableEnded K t p c x) (sym still) (
         (same, rests, cap_is, calls.legal, owns),
         subst (λ (e : View T × Call T). SharedCall (cap_of (K t.slots).calls) e.0 (view_at q.1) e.1 x) (λ i. (begun i, is i)) calls,
       ),
@@ -145,24 +136,12 @@ module _ (T : Type 0) (K : ℕ → TableOf T) (t : TableId) where
   )
 
   pub table_goes_on : (p : Place T) (c : Call T) (l : Local ℕ) (a : Answer ℕ) (q : Place T) (y : Option T) → TableStands K t p c l a q y
-      → GoesOn (TableCan K) (TableDoes K) (TableStands K) (TableEnded K) (K t.slots).calls.kind t p c l a q y
+      → GoesOn (TableCan K) (TableDoes K) NoBlock NoGift (TableStands K) (TableEnded K) (K t.slots).calls.kind t p c l a q y
   table_goes_on p c l a q y st = (st.1.3, told_leads p c q y st.1.0 (next_of (K t.slots).calls.kind l a) st.0 st.1.1 st.1.2 st.1.4)
 
   -- a party at rest is at nothing, and has no slot
   rests_nothing : (p : Place T) → IsAt (cap_of (K t.slots).calls) t p → (p.1.0.work ≡ work.Nothing) × (p.1.1 ≡ [])
-  rests_nothing p at = (ap (λ (m : Seated T). m.0.work) at.1, ap (λ (m : Seated T). m.1) at.1)
-
-  -- the kind and the value of a call are all of it
-  whole : (c : Call T) → with_value (call_kind c) (call_value c) ≡ c
-  whole (call.Push v) = refl
-  whole (call.ForcePush v) = refl
-  whole call.Pop = refl
-  whole call.Close = refl
-  whole call.IsClosed = refl
-  whole call.IsEmpty = refl
-  whole call.IsFull = refl
-  whole call.Len = refl
-  whole call.Capacity = refl
+  rests_nothing p at = (ap (λ (d : Doing T). d.work) at.1.0, at.1.1)
 
   -- the first step of a call that takes steps
   begins_step : (p : Place T) (c : Call T) (l : Local ℕ) (u : Touch) (o : Op ℕ) → IsAt (cap_of (K t.slots).calls) t p → u ≡ touch.Nothing → InTable (K t.slots) o
@@ -212,7 +191,7 @@ module _ (T : Type 0) (K : ℕ → TableOf T) (t : TableId) where
       same = ap (call_of_work d) (rests_nothing p at).0
 
       rests : p.1.0 ≡ idle (party (cap_of (K t.slots).calls) p.1.0.known.seen p.1.0.known.mine p.1.0.known.share)
-      rests = ap (λ (m : Seated T). m.0) at.1 ∙ ap (λ (k : Option ℕ). idle (party k p.1.0.known.seen p.1.0.known.mine p.1.0.known.share)) at.2
+      rests = at.1.0 ∙ ap (λ (k : Option ℕ). idle (party k p.1.0.known.seen p.1.0.known.mine p.1.0.known.share)) at.2
 
       handed : (z : Option T) → z ≡ handed_by u (call_value c) (call_at p.1 (call_kind c) l u o (call_value c)).lends → handed_by u (call_value c) [] ≡ z
       handed z e = sym (e ∙ ap (λ (x : InCall T). handed_by u (call_value c) x.lends) same)
@@ -220,9 +199,10 @@ module _ (T : Type 0) (K : ℕ → TableOf T) (t : TableId) where
   -- what a call does first leads on
   opens_leads : (p : Place T) (c : Call T) (n : Next ℕ) → IsAt (cap_of (K t.slots).calls) t p → first_of (K t.slots).calls.kind c ≡ n → Opens (K t.slots).calls (InTable (K t.slots)) c n → TableLeads p c n p (call_value c)
   opens_leads p c (next.Step l u o) at step opens = begins_step p c l u o at opens.0 opens.1 step
-  opens_leads p c (next.Reply x spare) at step (none, (y, fill, tells, right)) =
+  opens_leads p c (next.Reply x (Some block)) at step (none, right) = absurd (let f : Some block ≡ None = none in cc)
+  opens_leads p c (next.Reply x None) at step (none, (y, fill, tells, right)) =
       let cap : Option ℕ = cap_of (K t.slots).calls in let h = p.1.0.known.seen in
-      (none, (y, fill, (at, quiet cap (view_at p.1) (view_at p.1) h c y (prefix_self h) (prefix_self h) at.3 refl refl tells (right (after cap h) (cap_after cap h)))))
+      (tt, (y, fill, λ last still. subst (TableEnded K t p c y) (sym still) (at, quiet cap (view_at p.1) (view_at p.1) h c y (prefix_self h) (prefix_self h) at.3 refl refl tells (right (after cap h) (cap_after cap h)))))
 
-  pub table_begins : (words : ℕ) → TableLaws (K t.slots) words → (p : Place T) (c : Call T) → IsAt (cap_of (K t.slots).calls) t p → Begins (TableCan K) (TableDoes K) (TableStands K) (TableEnded K) (K t.slots).calls.kind t p c
+  pub table_begins : (words : ℕ) → TableLaws (K t.slots) words → (p : Place T) (c : Call T) → IsAt (cap_of (K t.slots).calls) t p → Begins (TableCan K) (TableDoes K) NoBlock NoGift (TableStands K) (TableEnded K) (K t.slots).calls.kind t p c
   table_begins words laws p c at = let o = laws.opens c in (o.0, opens_leads p c (first_of (K t.slots).calls.kind c) at refl o.1)

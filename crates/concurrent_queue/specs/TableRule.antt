@@ -1,5 +1,5 @@
 -- The rule of a queue that parties share over a table, whatever its kind: the first word counts the parties, the other words and the slots are the kind's.
-use Rattle.std.specs.Prelude.{◌≡◌, ℕ, ◌+◌, ◌%◌, ◌^◌, ◌<◌, ◌==◌, ◌||◌, not, Bool, true, false, List, [], ◌∷◌, map, Option, bit_and, bit_or, slice_index_or, slice_set}
+use Rattle.std.specs.Prelude.{None, ◌≡◌, ℕ, ◌+◌, ◌%◌, ◌^◌, ◌<◌, ◌==◌, ◌||◌, not, Bool, true, false, List, [], ◌∷◌, map, Option, bit_and, bit_or, slice_index_or, slice_set}
 use mathlib.Core.Option.{some}
 use mathlib.Core.Option as maybe
 use lib.ListN.{get_elem?}
@@ -21,12 +21,15 @@ use Rattle.queue_steps.specs.Next.{CanNext, first_local, next_of}
 use Rattle.queue_steps.specs.Prompt.{is_prompt, EndsPromptly}
 use Rattle.queue_steps.specs.State.{State}
 use Rattle.queue_laws.proofs.Effects.{Leads, with_effect}
-use Rattle.concurrent_queue.specs.declared.known.Doing.{Doing}
-use Rattle.concurrent_queue.specs.declared.known.InCall.{InCall}
-use Rattle.concurrent_queue.specs.declared.known.Work.TheVariants as work
-use Rattle.concurrent_queue.specs.Known.{Kept}
-use Rattle.concurrent_queue.specs.Seats.{Table, count_of, is_busy, known_by}
-use Rattle.concurrent_queue.specs.Calling.{CallsOf, CallLaws, cap_of, Standing, touched_list, handed_by, MayFront, Goes, first_of, Opens}
+use Rattle.queue_parties.specs.declared.known.Doing.{Doing}
+use Rattle.queue_parties.specs.declared.known.InCall.{InCall}
+use Rattle.queue_parties.specs.declared.known.Work.TheVariants as work
+use Rattle.queue_parties.specs.Known.{Kept}
+use Rattle.concurrent_queue.specs.Seats.{Table, count_of}
+use Rattle.queue_parties.specs.Doings.{is_busy, known_by}
+use Rattle.queue_parties.specs.Operations.{op_word, op_makes, answer_for}
+use Rattle.queue_parties.specs.CallsAt.{CallsAt}
+use Rattle.queue_parties.specs.Calling.{CallsOf, CallLaws, cap_of, Standing, touched_list, handed_by, MayFront, Goes, first_of, Opens}
 
 -- A kind of queue in a table: which of the steps' words it has and where, and how the words behind the count and the slots at home stand for its cells
 pub record TableOf (T : Type 0) : Type 1 where
@@ -35,44 +38,14 @@ pub record TableOf (T : Type 0) : Type 1 where
   pub place : Word ℕ → ℕ
   pub Coded : calls.Cells → List ℕ → List (maybe.Option (Option T)) → Type 0
 
--- There are cells, in the state after the one history, for which the words and the slots stand. Each call stands at them where the laws of its kind have it,
--- and whoever is at nothing has no slot
+-- There are cells, in the state after the one history, for which the words and the slots stand, and at which all calls stand
 pub record Rule {T : Type 0} (K : TableOf T) (s : Table T) : Type 0 where
   pub cells : K.calls.Cells
   pub words : List ℕ
   pub history : List (Effect T)
-  pub ok : K.calls.Ok cells
   pub counted : s.words ≡ count_of s ∷ words
   pub coded : K.Coded cells words s.homes
-  pub state : K.calls.queue_of cells ≡ after (cap_of K.calls) history
-  pub calls : (j : ℕ) (d : Doing T) (c : InCall T) → get_elem? s.views j ≡ some d → d.work ≡ work.Calls c → Standing K.calls cells history j d.known c
-  pub free : (j : ℕ) → ((d : Doing T) → get_elem? s.views j ≡ some d → is_busy d.work ≡ false) → K.calls.Lent cells j []
-  pub kept : Kept (cap_of K.calls) history (count_of s) (map known_by s.views)
-
--- the word that an operation is on
-abbrev pub op_word : Op ℕ → Word ℕ
-op_word (op.Load w) = w
-op_word (op.Store w x) = w
-op_word (op.Add w x) = w
-op_word (op.Or w x) = w
-op_word (op.And w x) = w
-op_word (op.Exchange w a b) = w
-op_word _ = word.Lock
-
--- what the operation makes of the word
-abbrev pub op_makes : Op ℕ → ℕ → ℕ
-op_makes (op.Load w) n = n
-op_makes (op.Store w x) n = x
-op_makes (op.Add w x) n = (n + x) % 2 ^ 64
-op_makes (op.Or w x) n = bit_or n x
-op_makes (op.And w x) n = bit_and n x
-op_makes (op.Exchange w a b) n = either (n == a) b n
-op_makes _ n = n
-
--- what it answers where it found n
-abbrev pub answer_for : Op ℕ → ℕ → Answer ℕ
-answer_for (op.Store w x) n = answer.Done
-answer_for _ n = answer.Found n
+  pub all : CallsAt K.calls cells history (count_of s) s.views
 
 -- the operation is one on a word that the table has
 abbrev pub InTable : {T : Type 0} → TableOf T → Op ℕ → Type 0
@@ -119,5 +92,6 @@ pub record TableLaws {T : Type 0} (K : TableOf T) (words : ℕ) : Type 0 where
       → K.calls.Ok g → K.calls.At g j ms was l t o v k es → InTable K o
   pub steps : (g : K.calls.Cells) (who n : ℕ) (ws : List ℕ) (hs : List (maybe.Option (Option T))) (ms : List (State T)) (was : Bool) (l : Local ℕ) (t : Touch) (o : Op ℕ) (v : Option T) (k : Call T) (es : List (Effect T)) (xs : List (ℕ × Option T))
       → K.calls.Ok g → K.Coded g ws hs → K.calls.At g who ms was l t o v k es → K.calls.Lent g who xs → Stepped K g who n ws hs ms was l t o v k es xs
+  pub gives : (spare : Option ℕ) → K.calls.Gives spare → spare ≡ None
   pub opens : (c : Call T) → OpensIn K c
   pub prompt : (c : Call T) → is_prompt c ≡ true → EndsPromptly ℕ K.calls.kind (call_kind c)

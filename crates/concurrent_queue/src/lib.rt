@@ -1,13 +1,14 @@
 //! Closable queues, first in first out, with one owner or shared by many parties.
 #![tactic(auto)]
 
+mod chain;
 mod gate;
 #[cfg(test)]
 mod held;
-mod known;
 mod party;
 mod ring;
 pub mod shared;
+mod shared_chain;
 mod slot;
 mod table;
 mod touching;

@@ -1,12 +1,15 @@
 //! The parties of a shared queue: how they are counted, parted, joined and brought together, whatever the queue is made of.
-ghost use Rattle.std.specs.Prelude.{ℕ, ◌≡◌, ◌<◌, MatchResult, MatchBool};
+ghost use Rattle.std.specs.Prelude.{ℕ, [], ◌≡◌, ◌<◌, MatchResult, MatchBool, true};
 ghost use Rattle.queue_steps.specs.Parties.{IsView};
 ghost use Rattle.queue_steps.specs.Shares.{IsEntire};
+ghost use Rattle.queue_parties.specs.Parting.{IsParty};
 ghost use Rattle.concurrent_queue.specs.Seats.{KeepsParties, Rests};
-ghost use Rattle.concurrent_queue.specs.Shared.{Person, Parts, Joins as JoinsTwo, Meets};
+ghost use Rattle.concurrent_queue.specs.Shared.{Parts, Joins as JoinsTwo, Meets, at_table, person, in_web};
 
-use crate::known::Doing;
-use atomic_table::{Join, Play, Seat, Shared, Split, TableRule};
+use atomic_table::{Play, Seat, Shared, TableRule};
+use block_web::web::Rested;
+use queue_parties::known::Doing;
+use queue_parties::parting::{Both, Halves};
 use queue_steps::sizes::MAX_PARTIES;
 use std::marker::Model;
 use std::mem;
@@ -23,103 +26,106 @@ pub(crate) trait PartyRule<T>: TableRule<Option<T>, Doing<T>, usize> {
 pub(crate) struct Enter;
 
 impl<T> Play<Option<T>, Doing<T>> for Enter {
-    ghost use Rattle.concurrent_queue.specs.Seats.{Entered};
+    ghost use Rattle.queue_parties.specs.Parting.{Entered};
+    ghost use Rattle.concurrent_queue.specs.Seats.{OfView};
 
-    ghost then = { Entered };
+    ghost then = { λ st m n q. OfView (Entered n) m q };
 }
 
 /// The count, raised in vain, is lowered.
 pub(crate) struct Withdraw;
 
 impl<T> Play<Option<T>, Doing<T>> for Withdraw {
-    ghost use Rattle.concurrent_queue.specs.Seats.{Withdrew};
+    ghost use Rattle.queue_parties.specs.Parting.{Withdrew};
+    ghost use Rattle.concurrent_queue.specs.Seats.{OfView};
 
-    ghost then = { Withdrew };
+    ghost then = { λ st m n q. OfView Withdrew m q };
 }
 
 /// The count is lowered for two parties that are one.
 pub(crate) struct Unite;
 
 impl<T> Play<Option<T>, Doing<T>> for Unite {
-    ghost use Rattle.concurrent_queue.specs.Seats.{United};
+    ghost use Rattle.queue_parties.specs.Parting.{BecameOne};
+    ghost use Rattle.concurrent_queue.specs.Seats.{OfView};
 
-    ghost then = { United };
+    ghost then = { λ st m n q. OfView BecameOne m q };
 }
 
 /// The count is read by two parties that meet.
 pub(crate) struct LookOn;
 
 impl<T> Play<Option<T>, Doing<T>> for LookOn {
-    ghost use Rattle.concurrent_queue.specs.Seats.{LookedOn};
+    ghost use Rattle.queue_parties.specs.Parting.{SawAll};
+    ghost use Rattle.concurrent_queue.specs.Seats.{OfView};
 
-    ghost then = { LookedOn };
+    ghost then = { λ st m n q. OfView SawAll m q };
 }
 
 /// The count is read by a party that may be the only one.
 pub(crate) struct Count;
 
 impl<T> Play<Option<T>, Doing<T>> for Count {
-    ghost use Rattle.concurrent_queue.specs.Seats.{Counted};
+    ghost use Rattle.queue_parties.specs.Parting.{Counted};
+    ghost use Rattle.concurrent_queue.specs.Seats.{OfView};
 
-    ghost then = { Counted };
+    ghost then = { λ st m n q. OfView (Counted n) m q };
 }
 
-/// A seat of two parties becomes two seats.
-pub(crate) struct Halves;
-
-impl<T> Split<Doing<T>> for Halves {
-    ghost use Rattle.concurrent_queue.specs.Seats.{first_part, second_part};
-
-    ghost left = { first_part };
-
-    ghost right = { second_part };
-}
-
-/// A seat for nobody is made.
-pub(crate) struct Spare;
-
-impl<T> Split<Doing<T>> for Spare {
-    ghost use Rattle.concurrent_queue.specs.Seats.{empty_seat};
-
-    ghost left = { λ v. v };
-
-    ghost right = { λ v. empty_seat };
-}
-
-/// Two parties' seats become one seat.
-pub(crate) struct Both;
-
-impl<T> Join<Doing<T>> for Both {
-    ghost use Rattle.concurrent_queue.specs.Seats.{both_parts, empty_seat};
-
-    ghost both = { both_parts };
-
-    ghost spent = { empty_seat };
+/// Where a party sits.
+#[derive(Drop)]
+pub(crate) enum Hold<T> {
+    /// At the table of a queue with a capacity.
+    Table(Seat<Option<T>, Doing<T>>),
+    /// In the web of a queue without one, between its calls.
+    Web(Rested<Doing<T>>),
+    /// Nowhere: a call has its seat.
+    Away,
 }
 
 /// A party of a shared queue. It sees a beginning of the queue's one history, and some places of that are its own: those of the effects of its calls.
 #[derive(Drop)]
 pub struct Party<T> {
-    pub(crate) seat: Seat<Option<T>, Doing<T>>,
+    pub(crate) hold: Hold<T>,
 }
 
 impl<T> Model for Party<T> {
-    ghost use Rattle.concurrent_queue.specs.Shared.{Person, IsPerson, person};
+    ghost use Rattle.concurrent_queue.specs.Shared.{Person, IsHeld, person_of};
 
     ghost Value = { Person T };
 
-    ghost view = { λ p. person p.seat.table_id p.seat.me };
+    ghost view = { λ p. person_of p.hold };
 
-    ghost invariant = { λ p. IsPerson p.seat.me };
+    ghost invariant = { λ p. IsHeld p.hold };
 }
 
 impl<T> Party<T> {
+    /// The party that sits at a table.
+    pub(crate) fn at_table(seat: Seat<Option<T>, Doing<T>>) -> Self
+        requires { IsParty seat.me.0 × (seat.me.1 ≡ []) }
+        ensures { result ≡ person (at_table seat.table_id) seat.me.0 }
+    {
+        Party {
+            hold: Hold::Table(seat),
+        }
+    }
+
+    /// The party that sits in a web.
+    pub(crate) fn in_web(rested: Rested<Doing<T>>) -> Self
+        requires { (rested.asleep ≡ true) × IsParty rested.view }
+        ensures { result ≡ person (in_web rested.web) rested.view }
+    {
+        Party {
+            hold: Hold::Web(rested),
+        }
+    }
+
     /// Does nothing. Its contract tells what holds of every party: what it has seen is a history of a queue of its capacity, its places lie in that, none
     /// twice, and its share is some part of one. If it is all, every place of what the party has seen is its own.
     pub fn show_view(&self)
         ensures { IsView self.now.queue.cap self.now.view }
     {
-        let _ = &self.seat;
+        let _ = &self.hold;
     }
 }
 
@@ -128,16 +134,18 @@ pub(crate) fn split<T, P: PartyRule<T>>(
     table: &Shared<Option<T>, Doing<T>, usize, P>,
     party: Party<T>,
 ) -> Result<(Party<T>, Party<T>), Party<T>>
-    requires { (party.queue.table ≡ table.now.table_id) × (0 < table.now.table_id.words) }
+    requires { (party.queue.name ≡ at_table table.now.table_id) × (0 < table.now.table_id.words) }
     ensures { MatchResult result (λ r. Parts party r.0 r.1) (λ p. (p ≡ party) × ¬ (IsEntire party.view.share)) }
 {
-    let Party { mut seat } = party;
+    let Hold::Table(mut seat) = party.hold else {
+        unreachable!();
+    };
     if table.fetch_add::<Enter>(&mut seat, PARTIES, 1) >= MAX_PARTIES {
         table.fetch_sub::<Withdraw>(&mut seat, PARTIES, 1);
-        return Err(Party { seat });
+        return Err(Party::at_table(seat));
     }
     let other = table.split_seat::<Halves>(&mut seat);
-    Ok((Party { seat }, Party { seat: other }))
+    Ok((Party::at_table(seat), Party::at_table(other)))
 }
 
 /// Makes one party of two.
@@ -146,14 +154,15 @@ pub(crate) fn join<T, P: PartyRule<T>>(
     first: Party<T>,
     second: Party<T>,
 ) -> Party<T>
-    requires { (first.queue.table ≡ table.now.table_id) × (second.queue ≡ first.queue) × (0 < table.now.table_id.words) }
+    requires { (first.queue.name ≡ at_table table.now.table_id) × (second.queue ≡ first.queue) × (0 < table.now.table_id.words) }
     ensures { JoinsTwo first second result }
 {
-    let Party { mut seat } = first;
-    let Party { seat: other } = second;
+    let (Hold::Table(mut seat), Hold::Table(other)) = (first.hold, second.hold) else {
+        unreachable!();
+    };
     table.join_seat::<Both>(&mut seat, other);
     table.fetch_sub::<Unite>(&mut seat, PARTIES, 1);
-    Party { seat }
+    Party::at_table(seat)
 }
 
 /// Lets two parties see what either has seen.
@@ -162,14 +171,20 @@ pub(crate) fn meet<T, P: PartyRule<T>>(
     first: &mut Party<T>,
     second: &mut Party<T>,
 )
-    requires { (first.old.queue.table ≡ table.now.table_id) × (second.old.queue ≡ first.old.queue) × (0 < table.now.table_id.words) }
+    requires { (first.old.queue.name ≡ at_table table.now.table_id) × (second.old.queue ≡ first.old.queue) × (0 < table.now.table_id.words) }
     ensures { Meets first.old second.old first.new second.new }
 {
-    let spare = table.split_seat::<Spare>(&mut first.seat);
-    let other = mem::replace(&mut second.seat, spare);
-    table.join_seat::<Both>(&mut first.seat, other);
-    table.load::<LookOn>(&mut first.seat, PARTIES);
-    second.seat = table.split_seat::<Halves>(&mut first.seat);
+    let Hold::Table(mut seat) = mem::replace(&mut first.hold, Hold::Away) else {
+        unreachable!();
+    };
+    let Hold::Table(other) = mem::replace(&mut second.hold, Hold::Away) else {
+        unreachable!();
+    };
+    table.join_seat::<Both>(&mut seat, other);
+    table.load::<LookOn>(&mut seat, PARTIES);
+    let other = table.split_seat::<Halves>(&mut seat);
+    first.hold = Hold::Table(seat);
+    second.hold = Hold::Table(other);
 }
 
 /// Whether this is the only party, which it is exactly where all shares are its own.

@@ -6,11 +6,11 @@ ghost use Rattle.queue_steps.specs.Legal.{IsShown};
 ghost use Rattle.queue_steps.specs.Parties.{IsWhole};
 ghost use Rattle.queue_steps.specs.Shares.{entire};
 ghost use Rattle.queue_steps.specs.Words.{IsRing};
-ghost use Rattle.concurrent_queue.specs.Known.{party, view_of};
+ghost use Rattle.queue_parties.specs.Known.{party, view_of};
 ghost use Rattle.concurrent_queue.specs.RingOpening.{first_words};
-ghost use Rattle.concurrent_queue.specs.Seats.{idle, IsAlone};
+ghost use Rattle.queue_parties.specs.Doings.{idle, IsAlone};
 
-use crate::known::Doing;
+use queue_parties::known::Doing;
 use crate::table::{SharedTable, Sizes, TableKind, TableSteps};
 use atomic_table::Seat;
 use exclusive_queue::Exclusive;

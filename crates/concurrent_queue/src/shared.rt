@@ -1,5 +1,5 @@
 //! Queues that many parties share, first in first out, that can be closed.
-ghost use Rattle.std.specs.Prelude.{◌≡◌, ◌<◌, true, Some, [], IfOk, IsErr, MatchResult};
+ghost use Rattle.std.specs.Prelude.{◌≡◌, ◌<◌, true, Some, None, [], IfOk, IsErr, MatchResult};
 ghost use Rattle.queue_steps.specs.declared.sizes.TheConstants.{MAX_CAPACITY};
 ghost use Rattle.queue_steps.specs.declared.model.Call.TheVariants as call;
 ghost use Rattle.queue_steps.specs.declared.model.Reply.TheVariants as reply;
@@ -8,13 +8,18 @@ ghost use Rattle.queue_steps.specs.Prompt.{is_prompt};
 ghost use Rattle.queue_steps.specs.Shares.{entire, IsEntire};
 ghost use Rattle.concurrent_queue.specs.Shared.{IsPartyOf, Calls, Parts, Joins, Meets, Finishes};
 
+use crate::chain;
 use crate::gate::{Gate, Open};
 pub use crate::party::Party;
-use crate::party::{is_only, join, meet, split};
+use crate::party::{Hold, is_only, join, meet, split};
+use crate::shared_chain::SharedChain;
 use crate::ring::{Rings, end_ring, open_ring};
 use crate::slot::{Slots, end_slot, open_slot};
 use crate::table::SharedTable;
 use crate::turns::{drive, drive_apart, drive_promptly};
+use block_web::low::Low;
+use chain_web::source::{Granting, Refusing, Source};
+use chain_web::web::ChainWeb;
 use exclusive_queue::Exclusive;
 use queue_steps::errors::{ForcePushError, PopError, PushError};
 use queue_steps::model::{Call, Reply};
@@ -26,18 +31,18 @@ use std::sync::Wait;
 ///
 /// A contract sees which queue it is, and its capacity. There is one history of the effects of all calls; each party has seen a beginning of it, and each
 /// of its places is one party's.
-#[derive(Drop)]
 pub struct ConcurrentQueue<T, A: Allocator = Global> {
     form: Form<T, A>,
 }
 
 /// How the items are kept.
-#[derive(Drop)]
 enum Form<T, A: Allocator> {
     /// One slot.
     Single(SharedTable<T, Slots, A>),
     /// A ring of slots.
     Ring(SharedTable<T, Rings, A>),
+    /// A chain of blocks.
+    Chain(SharedChain<T, A>),
 }
 
 impl<T, A: Allocator> Model for ConcurrentQueue<T, A> {
@@ -46,6 +51,21 @@ impl<T, A: Allocator> Model for ConcurrentQueue<T, A> {
     ghost Value = { QueueId };
 
     ghost view = { λ q. form_id q.form };
+}
+
+impl<T: Drop, A: Allocator> Drop for ConcurrentQueue<T, A> {
+    /// Drops the items that are left, and gives all memory back.
+    fn drop(self) {
+        let ConcurrentQueue { form } = self;
+        match form {
+            Form::Single(slot) => drop(slot),
+            Form::Ring(ring) => drop(ring),
+            Form::Chain(queue) => {
+                let SharedChain { alloc, chain } = queue;
+                chain.discard(&alloc);
+            }
+        }
+    }
 }
 
 impl<T, A: Allocator + Clone> ConcurrentQueue<T, A> {
@@ -68,14 +88,31 @@ impl<T, A: Allocator + Clone> ConcurrentQueue<T, A> {
             let (ring, seat) = open_ring(alloc, cap)?;
             (Form::Ring(ring), seat)
         };
-        Ok((ConcurrentQueue { form }, Party { seat }))
+        Ok((ConcurrentQueue { form }, Party::at_table(seat)))
     }
 }
 
 impl<T, A: Allocator> ConcurrentQueue<T, A> {
-    /// Runs a call to its end.
+    /// An empty open queue without a capacity, and its only party, which has seen nothing and has all of the share.
+    ///
+    /// It is one request. Pushes ask for more: before the first item, and where 30 items modulo 31 were accepted.
+    ///
+    /// # Errors
+    ///
+    /// Where there is no memory, and where an item has 2^31 bytes or more: then no request is made.
+    pub fn unbounded(alloc: A) -> Result<(Self, Party<T>), AllocError>
+    where
+        A: Low,
+        ensures { IfOk result (λ r. IsPartyOf r.1 r.0 × (r.0.cap ≡ None) × (r.1.view ≡ record { seen = []; mine = []; share = entire })) }
+    {
+        let (chain, seat) = ChainWeb::open(&alloc)?;
+        let form = Form::Chain(SharedChain { alloc, chain });
+        Ok((ConcurrentQueue { form }, Party::in_web(seat.rests())))
+    }
+
+    /// Runs a call to its end. The blocks that it asks for come from `Q`.
     #[inline(always)]
-    pub(crate) fn answer<R: Wait, G: Gate>(
+    pub(crate) fn answer<Q: Source<T, A>, R: Wait, G: Gate>(
         &self,
         rt: &R,
         gate: &G,
@@ -85,9 +122,13 @@ impl<T, A: Allocator> ConcurrentQueue<T, A> {
         requires { IsPartyOf party.old self.now }
         ensures { Calls party.old call result party.new }
     {
-        match &self.form {
-            Form::Single(slot) => drive(slot, rt, gate, &mut party.seat, call),
-            Form::Ring(ring) => drive_apart(ring, rt, gate, &mut party.seat, call),
+        match (&self.form, &mut party.hold) {
+            (Form::Single(slot), Hold::Table(seat)) => drive(slot, rt, gate, seat, call),
+            (Form::Ring(ring), Hold::Table(seat)) => drive_apart(ring, rt, gate, seat, call),
+            (Form::Chain(chain), Hold::Web(rested)) => {
+                chain::answer::<T, A, Q, G, R>(chain, rt, gate, rested, call)
+            }
+            _ => unreachable!(),
         }
     }
 
@@ -98,9 +139,13 @@ impl<T, A: Allocator> ConcurrentQueue<T, A> {
         requires prompt { is_prompt call ≡ true }
         ensures { Calls party.old call result party.new }
     {
-        match &self.form {
-            Form::Single(slot) => drive_promptly(slot, gate, &mut party.seat, call),
-            Form::Ring(ring) => drive_promptly(ring, gate, &mut party.seat, call),
+        match (&self.form, &mut party.hold) {
+            (Form::Single(slot), Hold::Table(seat)) => drive_promptly(slot, gate, seat, call),
+            (Form::Ring(ring), Hold::Table(seat)) => drive_promptly(ring, gate, seat, call),
+            (Form::Chain(chain), Hold::Web(rested)) => {
+                chain::answer_promptly(chain, gate, rested, call)
+            }
+            _ => unreachable!(),
         }
     }
 
@@ -116,6 +161,7 @@ impl<T, A: Allocator> ConcurrentQueue<T, A> {
         match &self.form {
             Form::Single(slot) => split(&slot.table.shared, party),
             Form::Ring(ring) => split(&ring.table.shared, party),
+            Form::Chain(chain) => chain::split(chain, party),
         }
     }
 
@@ -127,6 +173,7 @@ impl<T, A: Allocator> ConcurrentQueue<T, A> {
         match &self.form {
             Form::Single(slot) => join(&slot.table.shared, first, second),
             Form::Ring(ring) => join(&ring.table.shared, first, second),
+            Form::Chain(chain) => chain::join(chain, first, second),
         }
     }
 
@@ -138,6 +185,7 @@ impl<T, A: Allocator> ConcurrentQueue<T, A> {
         match &self.form {
             Form::Single(slot) => meet(&slot.table.shared, first, second),
             Form::Ring(ring) => meet(&ring.table.shared, first, second),
+            Form::Chain(chain) => chain::meet(chain, first, second),
         }
     }
 
@@ -145,12 +193,14 @@ impl<T, A: Allocator> ConcurrentQueue<T, A> {
     ///
     /// # Errors
     ///
-    /// `Closed` with the value on a closed queue, `Full` with the value on a full one.
+    /// `Closed` with the value on a closed queue, `Full` with the value on a full one, `NoMemory` with the value where a block was asked for and refused: that changes nothing.
     pub fn push<R: Wait>(&self, rt: &R, party: &mut Party<T>, value: T) -> Result<(), PushError<T>>
+    where
+        A: Low,
         requires { IsPartyOf party.old self.now }
         ensures { Calls party.old (call.Push value) (reply.Push result) party.new }
     {
-        match self.answer(rt, &Open, party, Call::Push(value)) {
+        match self.answer::<Granting, R, Open>(rt, &Open, party, Call::Push(value)) {
             Reply::Push(result) => result,
             _ => unreachable!(),
         }
@@ -167,10 +217,12 @@ impl<T, A: Allocator> ConcurrentQueue<T, A> {
         party: &mut Party<T>,
         value: T,
     ) -> Result<Option<T>, ForcePushError<T>>
+    where
+        A: Low,
         requires { IsPartyOf party.old self.now }
         ensures { Calls party.old (call.ForcePush value) (reply.ForcePush result) party.new }
     {
-        match self.answer(rt, &Open, party, Call::ForcePush(value)) {
+        match self.answer::<Granting, R, Open>(rt, &Open, party, Call::ForcePush(value)) {
             Reply::ForcePush(result) => result,
             _ => unreachable!(),
         }
@@ -185,7 +237,7 @@ impl<T, A: Allocator> ConcurrentQueue<T, A> {
         requires { IsPartyOf party.old self.now }
         ensures { Calls party.old call.Pop (reply.Pop result) party.new }
     {
-        match self.answer(rt, &Open, party, Call::Pop) {
+        match self.answer::<Refusing, R, Open>(rt, &Open, party, Call::Pop) {
             Reply::Pop(result) => result,
             _ => unreachable!(),
         }
@@ -196,7 +248,7 @@ impl<T, A: Allocator> ConcurrentQueue<T, A> {
         requires { IsPartyOf party.old self.now }
         ensures { Calls party.old call.Len (reply.Len result) party.new }
     {
-        match self.answer(rt, &Open, party, Call::Len) {
+        match self.answer::<Refusing, R, Open>(rt, &Open, party, Call::Len) {
             Reply::Len(result) => result,
             _ => unreachable!(),
         }
@@ -253,6 +305,7 @@ impl<T, A: Allocator> ConcurrentQueue<T, A> {
         match &self.form {
             Form::Single(_) => Some(1),
             Form::Ring(ring) => Some(ring.slots()),
+            Form::Chain(_) => None,
         }
     }
 
@@ -265,31 +318,32 @@ impl<T, A: Allocator> ConcurrentQueue<T, A> {
         requires { IsPartyOf party self }
         ensures { MatchResult result (λ e. Finishes party e) (λ r. (r.0 ≡ self) × (r.1 ≡ party) × ¬ (IsEntire party.view.share)) }
     {
-        let Party { mut seat } = party;
         let ConcurrentQueue { form } = self;
-        match form {
-            Form::Single(slot) => {
+        match (form, party.hold) {
+            (Form::Single(slot), Hold::Table(mut seat)) => {
                 if is_only(&slot.table.shared, &mut seat) {
                     return Ok(Exclusive::of_single(end_slot(slot, seat)));
                 }
-                Err((
-                    ConcurrentQueue {
-                        form: Form::Single(slot),
-                    },
-                    Party { seat },
-                ))
+                let form = Form::Single(slot);
+                Err((ConcurrentQueue { form }, Party::at_table(seat)))
             }
-            Form::Ring(ring) => {
+            (Form::Ring(ring), Hold::Table(mut seat)) => {
                 if is_only(&ring.table.shared, &mut seat) {
                     return Ok(end_ring(ring, seat));
                 }
-                Err((
-                    ConcurrentQueue {
-                        form: Form::Ring(ring),
-                    },
-                    Party { seat },
-                ))
+                let form = Form::Ring(ring);
+                Err((ConcurrentQueue { form }, Party::at_table(seat)))
             }
+            (Form::Chain(queue), Hold::Web(mut rested)) => {
+                let SharedChain { alloc, chain } = queue;
+                let mut seat = chain.wake(&mut rested);
+                if chain.is_only(&mut seat) {
+                    return Ok(chain.end(alloc, seat));
+                }
+                let form = Form::Chain(SharedChain { alloc, chain });
+                Err((ConcurrentQueue { form }, Party::in_web(seat.rests())))
+            }
+            _ => unreachable!(),
         }
     }
 }

@@ -1,12 +1,15 @@
 //! A queue that parties share over a table: the first word counts the parties, the other words and the slots are those of its kind.
 ghost use Rattle.std.specs.Prelude.{◌≡◌, ◌≤◌, ℕ};
 ghost use Rattle.queue_steps.specs.Next.{CanNext, next_of};
-ghost use Rattle.concurrent_queue.specs.Calling.{touched_list};
-ghost use Rattle.concurrent_queue.specs.TableRule.{TableOf, TableLaws, InTable, answer_for};
-ghost use Rattle.concurrent_queue.specs.TableTurns.{Ready, Follows};
+ghost use Rattle.queue_parties.specs.Calling.{touched_list};
+ghost use Rattle.concurrent_queue.specs.TableRule.{TableOf, TableLaws, InTable};
+ghost use Rattle.queue_parties.specs.Operations.{answer_for};
+ghost use Rattle.concurrent_queue.specs.TableTurns.{Follows};
+ghost use Rattle.queue_parties.specs.CallsAt.{Ready};
 ghost use Rattle.concurrent_queue.specs.TableLeads.{TableCan, TableDoes};
 
-use crate::known::Doing;
+use queue_parties::known::Doing;
+use queue_parties::task::Task;
 use crate::party::PartyRule;
 use crate::touching::touch;
 use crate::turns::Turns;
@@ -61,10 +64,10 @@ pub(crate) struct RuleOf<K> {
 
 impl<T, K: TableKind<T>> TableRule<Option<T>, Doing<T>, usize> for RuleOf<K> {
     ghost use Rattle.std.specs.Prelude.{[]};
-    ghost use Rattle.concurrent_queue.specs.Calling.{cap_of};
+    ghost use Rattle.queue_parties.specs.Calling.{cap_of};
     ghost use Rattle.concurrent_queue.specs.TableRule.{Rule};
-    ghost use Rattle.concurrent_queue.specs.Seats.{idle};
-    ghost use Rattle.concurrent_queue.specs.Known.{party};
+    ghost use Rattle.queue_parties.specs.Doings.{idle};
+    ghost use Rattle.queue_parties.specs.Known.{party};
     ghost use Rattle.queue_steps.specs.Shares.{entire};
 
     ghost holds = { λ slots. Rule (K.layout slots) };
@@ -76,19 +79,6 @@ impl<T, K: TableKind<T>> PartyRule<T> for RuleOf<K> {
     ghost use Rattle.concurrent_queue.specs.TableParties.{table_keeps_parties};
 
     ghost keeps_parties = { λ slots. table_keeps_parties T (K.layout slots) };
-}
-
-/// The call whose step a seat does.
-pub(crate) trait Task<T> {
-    ghost use Rattle.concurrent_queue.specs.declared.known.InCall.{InCall as SpecInCall};
-
-    ghost call: { SpecInCall T };
-}
-
-impl<T> Task<T> for Brand {
-    ghost use Rattle.concurrent_queue.specs.TableLeads.{nothing_called};
-
-    ghost call = { nothing_called };
 }
 
 /// One step of a call.
@@ -171,8 +161,8 @@ impl<T, K: TableSteps<T>, A: Allocator> SharedTable<T, K, A> {
 impl<T, K: TableSteps<T>, A: Allocator> Turns<T, usize, Seat<Option<T>, Doing<T>>>
     for SharedTable<T, K, A> {
     ghost use Rattle.concurrent_queue.specs.AtTable.{IsAt};
-    ghost use Rattle.concurrent_queue.specs.Calling.{cap_of};
-    ghost use Rattle.concurrent_queue.specs.TableLeads.{TableCan, TableDoes, TableStands, TableEnded, table_begins, table_goes_on};
+    ghost use Rattle.queue_parties.specs.Calling.{cap_of};
+    ghost use Rattle.concurrent_queue.specs.TableLeads.{TableCan, TableDoes, NoBlock, NoGift, TableStands, TableEnded, table_begins, table_goes_on};
     ghost use Rattle.concurrent_queue.specs.Turns.{leads-through};
     ghost use Rattle.queue_steps.specs.Kinds.{call_kind, call_value};
     ghost use Rattle.queue_steps.specs.Next.{CanNext, next_of, first_local};
@@ -186,13 +176,17 @@ impl<T, K: TableSteps<T>, A: Allocator> Turns<T, usize, Seat<Option<T>, Doing<T>
 
     ghost does = { λ m s k l u o x a q y. TableDoes K.layout m.table.shared.table_id (s.table_id, s.me) k l u o x a (q.table_id, q.me) y };
 
+    ghost spares = { λ m s b. NoBlock m.table.shared.table_id (s.table_id, s.me) b };
+
+    ghost gives = { λ m s b q. NoGift m.table.shared.table_id (s.table_id, s.me) b (q.table_id, q.me) };
+
     ghost stands = { λ m s c l a q x. TableStands K.layout m.table.shared.table_id (s.table_id, s.me) c l a (q.table_id, q.me) x };
 
     ghost ended = { λ m s c r q. TableEnded K.layout m.table.shared.table_id (s.table_id, s.me) c r (q.table_id, q.me) };
 
-    ghost begins = { λ m s c h. let b = table_begins T K.layout m.table.shared.table_id (K.words m.table.shared.table_id.slots) (K.laws m.table.shared.table_id.slots m.sized.2 m.sized.3) (s.table_id, s.me) c h in (b.0, leads-through (TableCan K.layout) (TableDoes K.layout) (TableStands K.layout) (TableEnded K.layout) (λ m. m.table.shared.table_id) (λ s. (s.table_id, s.me)) m s s c (next_of (K.layout m.table.shared.table_id.slots).calls.kind (first_local (call_kind c)) answer.Start) (call_value c) b.1) };
+    ghost begins = { λ m s c h. let b = table_begins T K.layout m.table.shared.table_id (K.words m.table.shared.table_id.slots) (K.laws m.table.shared.table_id.slots m.sized.2 m.sized.3) (s.table_id, s.me) c h in (b.0, leads-through (TableCan K.layout) (TableDoes K.layout) NoBlock NoGift (TableStands K.layout) (TableEnded K.layout) (λ m. m.table.shared.table_id) (λ s. (s.table_id, s.me)) m s s c (next_of (K.layout m.table.shared.table_id.slots).calls.kind (first_local (call_kind c)) answer.Start) (call_value c) b.1) };
 
-    ghost goes_on = { λ m first c l a s x h. let g = table_goes_on T K.layout m.table.shared.table_id (first.table_id, first.me) c l a (s.table_id, s.me) x h in (g.0, leads-through (TableCan K.layout) (TableDoes K.layout) (TableStands K.layout) (TableEnded K.layout) (λ m. m.table.shared.table_id) (λ s. (s.table_id, s.me)) m first s c (next_of (K.layout m.table.shared.table_id.slots).calls.kind l a) x g.1) };
+    ghost goes_on = { λ m first c l a s x h. let g = table_goes_on T K.layout m.table.shared.table_id (first.table_id, first.me) c l a (s.table_id, s.me) x h in (g.0, leads-through (TableCan K.layout) (TableDoes K.layout) NoBlock NoGift (TableStands K.layout) (TableEnded K.layout) (λ m. m.table.shared.table_id) (λ s. (s.table_id, s.me)) m first s c (next_of (K.layout m.table.shared.table_id.slots).calls.kind l a) x g.1) };
 
     ghost prompt = { λ m c h. (K.laws m.table.shared.table_id.slots m.sized.2 m.sized.3).prompt c h };
 
@@ -226,5 +220,11 @@ impl<T, K: TableSteps<T>, A: Allocator> Turns<T, usize, Seat<Option<T>, Doing<T>
         let left = touch(&self.table.shared, seat, todo, carried);
         let found = self.operate::<Brand>(seat, call, local, todo, op, &left);
         (found, left)
+    }
+    /// No reply has a block.
+    fn give_up(&self, seat: &mut Seat<Option<T>, Doing<T>>, block: usize) {
+        let _ = seat;
+        let _ = block;
+        unreachable!()
     }
 }

@@ -2,7 +2,7 @@
 ghost use Rattle.std.specs.Prelude.{◌≡◌};
 ghost use Rattle.concurrent_queue.specs.AtTable.{CanTouch, Touched};
 
-use crate::known::Doing;
+use queue_parties::known::Doing;
 use atomic_table::{Seat, Shared, TableRule};
 use queue_steps::steps::Touch;
 

@@ -1,5 +1,5 @@
 //! A party's driver: it asks for the next step, does it where other parties do theirs, and asks again, until the reply.
-ghost use Rattle.std.specs.Prelude.{◌≡◌, true, Option};
+ghost use Rattle.std.specs.Prelude.{◌≡◌, true, Option, Some};
 ghost use Rattle.queue_steps.specs.declared.model.Call.{Call as SpecCall};
 ghost use Rattle.queue_steps.specs.declared.model.Reply.{Reply as SpecReply};
 ghost use Rattle.queue_steps.specs.declared.steps.types.Kind.{Kind as SpecKind};
@@ -7,10 +7,10 @@ ghost use Rattle.queue_steps.specs.declared.steps.types.Op.{Op as SpecOp};
 ghost use Rattle.queue_steps.specs.declared.steps.types.Touch.{Touch as SpecTouch};
 ghost use Rattle.queue_steps.specs.declared.steps.types.Answer.{Answer as SpecAnswer};
 ghost use Rattle.queue_steps.specs.declared.steps.types.Local.{Local as SpecLocal};
-ghost use Rattle.queue_steps.specs.Kinds.{call_kind};
+ghost use Rattle.queue_steps.specs.Kinds.{call_kind, filled};
 ghost use Rattle.queue_steps.specs.Next.{CanNext, next_of};
 ghost use Rattle.queue_steps.specs.Prompt.{is_prompt, EndsPromptly};
-ghost use Rattle.concurrent_queue.specs.Turns.{Begins, GoesOn};
+ghost use Rattle.concurrent_queue.specs.Turns.{MayGive, Gave, Begins, GoesOn};
 
 use crate::gate::Gate;
 use queue_steps::model::{Call, CallKind, Reply};
@@ -31,6 +31,12 @@ pub(crate) trait Turns<T, B: Copy, S> {
 
     /// What the step answers, and what it leaves of the seat and of what the call carries.
     ghost does: { Self → S → SpecCall Unit → SpecLocal B → SpecTouch → SpecOp B → Option T → SpecAnswer B → S → Option T → Type 0 };
+
+    /// The seat may give up this block, which a reply hands out.
+    ghost spares: { Self → S → B → Type 0 };
+
+    /// What giving up the block leaves of the seat.
+    ghost gives: { Self → S → B → S → Type 0 };
 
     /// Where a call stands that the seat began, once its last operation was answered.
     ghost stands: { Self → S → SpecCall T → SpecLocal B → SpecAnswer B → S → Option T → Type 0 };
@@ -60,14 +66,39 @@ pub(crate) trait Turns<T, B: Copy, S> {
         requires { can self.now seat.old call.now local.now touch op carried }
         ensures { does self.now seat.old call.now local.now touch op carried result.0 seat.new result.1 };
 
+    /// Gives up a block that a reply hands out.
+    fn give_up(&self, seat: &mut S, block: B)
+        requires { spares self.now seat.old block }
+        ensures { gives self.now seat.old block seat.new };
+
     /// A call that begins leads on.
-    ghost begins: { (m : Self) (s : S) (c : SpecCall T) → rests m s → Begins can does stands ended (kind_of m) m s c };
+    ghost begins: { (m : Self) (s : S) (c : SpecCall T) → rests m s → Begins can does spares gives stands ended (kind_of m) m s c };
 
     /// Wherever a call stands, it leads on.
-    ghost goes_on: { (m : Self) (first : S) (c : SpecCall T) (l : SpecLocal B) (a : SpecAnswer B) (s : S) (x : Option T) → stands m first c l a s x → GoesOn can does stands ended (kind_of m) m first c l a s x };
+    ghost goes_on: { (m : Self) (first : S) (c : SpecCall T) (l : SpecLocal B) (a : SpecAnswer B) (s : S) (x : Option T) → stands m first c l a s x → GoesOn can does spares gives stands ended (kind_of m) m first c l a s x };
 
     /// The prompt calls end by their second step.
     ghost prompt: { (m : Self) (c : SpecCall T) → is_prompt c ≡ true → EndsPromptly B (kind_of m) (call_kind c) };
+}
+
+/// Gives up the block that a reply hands out, and puts the value into the reply.
+#[inline(always)]
+fn end<T, B: Copy, S, M: Turns<T, B, S>>(
+    queue: &M,
+    seat: &mut S,
+    reply: Reply<()>,
+    spare: Option<B>,
+    carried: Option<T>,
+) -> Reply<T>
+    requires gives { MayGive M.spares queue.now seat.old spare }
+    requires fills { (whole : SpecReply T) × (filled reply carried ≡ Some whole) }
+    ensures gave { Gave M.gives queue.now seat.old spare seat.new }
+    ensures fills { filled reply carried ≡ Some result }
+{
+    if let Some(block) = spare {
+        queue.give_up(seat, block);
+    }
+    Reply::fill(reply, carried)
 }
 
 /// Runs a call to its end.
@@ -89,7 +120,7 @@ pub(crate) fn drive<T, B: Copy, S, M: Turns<T, B, S>, G: Gate, R: Wait>(
     for _ in rt.forever() {
         let todo = M::next(kind, local, answer);
         match todo {
-            Next::Reply(reply, _) => return Reply::fill(reply, carried),
+            Next::Reply(reply, spare) => return end(queue, seat, reply, spare, carried),
             Next::Step(after, touch, op) => {
                 gate.pass(&op);
                 let (found, left) = queue.turn(seat, &call, &after, touch, op, carried);
@@ -136,7 +167,7 @@ pub(crate) fn drive_promptly<T, B: Copy, S, M: Turns<T, B, S>, G: Gate>(
     for _ in 0..PROMPT_STEPS + 1 {
         let todo = M::next(kind, local, answer);
         match todo {
-            Next::Reply(reply, _) => return Reply::fill(reply, carried),
+            Next::Reply(reply, spare) => return end(queue, seat, reply, spare, carried),
             Next::Step(after, touch, op) => {
                 gate.pass(&op);
                 let (found, left) = queue.turn(seat, &call, &after, touch, op, carried);

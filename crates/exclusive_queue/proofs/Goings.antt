@@ -1,5 +1,5 @@
 -- How a run that ends begins, goes on, and ends.
-use Rattle.std.proofs.Common.{◌≡◌, ℕ, suc, ◌+◌, ◌-◌, ◌<◌, Option, arith, sym, subst, ◌∙◌}
+use Rattle.std.proofs.Common.{◌≡◌, ℕ, zero, suc, ◌+◌, ◌-◌, ◌<◌, Option, arith, sym, subst, ◌∙◌}
 use Rattle.queue_steps.specs.declared.model.Call.{Call}
 use Rattle.queue_steps.specs.declared.model.Reply.{Reply}
 use Rattle.queue_steps.specs.declared.steps.types.Kind.{Kind}
@@ -15,6 +15,9 @@ use Rattle.queue_steps.specs.Kinds.{call_kind, call_value}
 use Rattle.queue_steps.specs.declared.sizes.TheConstants.{LONE_STEPS}
 use Rattle.queue_steps.specs.Sole.{Owned}
 use Rattle.exclusive_queue.specs.Ends.{Ends, EndsRight, Answered}
+use Rattle.exclusive_queue.specs.Rounds.{GoesOn}
+use Rattle.exclusive_queue.specs.declared.cells.Cells.{Ghosts}
+use Rattle.exclusive_queue.specs.declared.driver.Standing.{Standing}
 
 module _ {T B M : Type 0} (can_touch : M → Touch → Op B → Type 0) (touches : M → Touch → Op B → Option T → M → Option T → Type 0)
     (can_perform : M → Op B → Type 0) (performs : M → Op B → Answer B → M → Type 0) where
@@ -49,3 +52,21 @@ module _ {T B M : Type 0} (can_touch : M → Touch → Op B → Type 0) (touches
       let OfParts : Call Unit × Option T → Type 0 = λ x. Whole k (first_local x.0) x.1 in
       let OfLocal : Local B → Type 0 = λ x. Whole k x parts.1 in
       subst OfLocal (sym is_local) (subst OfParts (sym is_parts) (subst OfKind (sym is_kind) h))
+
+  -- a run that ends within n steps ends within one more
+  pub Ends-more : (n : ℕ) (k : Kind) (todo : Next B) (cells : M) (carried : Option T) (P : Reply Unit → Option B → Option T → M → Type 0)
+      → Ends can_touch touches can_perform performs n k todo cells carried P → Ends can_touch touches can_perform performs (suc n) k todo cells carried P
+  Ends-more zero k todo cells carried P h = absurd h
+  Ends-more (suc n) k (next.Reply r spare) cells carried P h = h
+  Ends-more (suc n) k (next.Step l t o) cells carried P h = (
+    h.0,
+    λ touched left is.
+        let after = h.1 touched left is in
+        (after.0, λ a done was. let on = after.1 a done was in (on.0, Ends-more n k (next_of k l a) done left P on.1)),
+  )
+
+module _ {T B M : Type 0} (m : Ghosts M T B) where
+  -- a call that ends right before n more steps does so before one more
+  pub GoesOn-more : (n : ℕ) (k : Kind) (c : Call T) (first : M) (s : Standing T B) (cells : M) → GoesOn m n k c first s cells → GoesOn m (suc n) k c first s cells
+  GoesOn-more n k c first s cells h =
+      (h.0, Ends-more m.can_touch m.touches m.can_perform m.performs n k (next_of k s.local s.answer) cells s.carried (Answered m.can_release m.releases m.idle m.owned c first) h.1)

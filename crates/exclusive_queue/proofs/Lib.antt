@@ -6,6 +6,7 @@ pub mod Pieces
 pub mod Linked
 pub mod Layings
 pub mod LineBegins
+pub mod ChainBegins
 pub mod Pops
 mod Soundness
 mod Answered

@@ -1,5 +1,6 @@
 pub mod Numbers
 pub mod Ends
+pub mod Rounds
 pub mod Runs
 pub mod SingleCells
 pub mod SingleAnswers
@@ -27,3 +28,4 @@ pub mod LinePops
 pub mod LineAnswers
 pub mod Exclusive
 pub mod LinkedBlocks
+pub mod ChainMemory

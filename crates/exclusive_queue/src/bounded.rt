@@ -1,7 +1,8 @@
 //! A ring of slots, each with a stamp, with one owner. Its words and slots lie in the memory of a closed table, as a ring that was shared leaves it.
-ghost use Rattle.std.specs.Prelude.{◌≡◌, ◌+◌, ◌%◌, ◌<◌, ◌≤◌, length, slice_set, IfOk, IsErr, Some};
+ghost use Rattle.std.specs.Prelude.{◌≡◌, true, ◌+◌, ◌%◌, ◌<◌, ◌≤◌, length, slice_set, IfOk, IsErr, Some};
 ghost use Rattle.std.specs.Mem.Slots.{slots_items, slots_len, IsFull};
 ghost use Rattle.queue_steps.specs.LookNext.{IsLoad};
+ghost use Rattle.queue_steps.specs.CommonNext.{is_common_of, is_walk_of};
 ghost use Rattle.queue_steps.specs.Next.{CanNext, next_of};
 ghost use Rattle.queue_steps.specs.State.{start};
 ghost use Rattle.queue_steps.specs.Words.{slot_at};
@@ -141,7 +142,6 @@ impl<T, A: Allocator + Clone> Ring<T, A> {
 }
 
 impl<T, A: Allocator> Ring<T, A> {
-    ghost use Rattle.std.specs.Prelude.{true};
     ghost use Rattle.queue_steps.specs.declared.steps.types.Answer.TheVariants.{Found};
     ghost use Rattle.queue_steps.specs.declared.steps.types.Op.TheVariants.{Load};
     ghost use Rattle.exclusive_queue.specs.RingCells.{ring_operable, ring_performed};
@@ -260,6 +260,46 @@ impl<T, A: Allocator> Cells<T, ()> for Ring<T, A> {
             Kind::Bounded(cap) => steps::next_bounded(cap, local, answer),
             _ => unreachable!(),
         }
+    }
+
+    #[inline(always)]
+    fn is_common(kind: Kind, local: &Local<()>, answer: &Answer<()>) -> bool
+        requires of { (cells : RingState T) × (kind ≡ kind_of_ring cells) }
+        requires can { CanNext kind local.now answer.now }
+        ensures { result ≡ is_common_of kind local.now answer.now }
+    {
+        match kind {
+            Kind::Bounded(cap) => steps::is_common_bounded(cap, local, answer),
+            _ => unreachable!(),
+        }
+    }
+
+    #[inline(always)]
+    fn next_common(kind: Kind, local: Local<()>, answer: Answer<()>) -> Next<()>
+        requires of { (cells : RingState T) × (kind ≡ kind_of_ring cells) }
+        requires can { CanNext kind local answer }
+        requires common { is_common_of kind local answer ≡ true }
+        ensures { result ≡ next_of kind local answer }
+    {
+        match kind {
+            Kind::Bounded(cap) => steps::next_common_bounded(cap, local, answer),
+            _ => unreachable!(),
+        }
+    }
+
+    #[inline(always)]
+    fn is_walk(_kind: Kind, _local: &Local<()>, _answer: &Answer<()>) -> bool {
+        false
+    }
+
+    #[inline(always)]
+    fn next_walk(kind: Kind, local: Local<()>, answer: Answer<()>) -> Next<()>
+        requires of { (cells : RingState T) × (kind ≡ kind_of_ring cells) }
+        requires can { CanNext kind local answer }
+        requires walk { is_walk_of kind local answer ≡ true }
+        ensures { result ≡ next_of kind local answer }
+    {
+        Self::next(kind, local, answer)
     }
 
     #[inline(always)]

@@ -1,5 +1,5 @@
 //! Words and slots of one owner, on which the steps of a call are done.
-ghost use Rattle.std.specs.Prelude.{◌≡◌, ◌==◌, Option, if◌then◌else◌};
+ghost use Rattle.std.specs.Prelude.{◌≡◌, ◌==◌, true, Option, if◌then◌else◌};
 ghost use Rattle.queue_steps.specs.declared.model.Call.{Call as SpecCall};
 ghost use Rattle.queue_steps.specs.declared.steps.types.Kind.{Kind as SpecKind};
 ghost use Rattle.queue_steps.specs.declared.steps.types.Op.{Op as SpecOp};
@@ -8,6 +8,7 @@ ghost use Rattle.queue_steps.specs.declared.steps.types.Answer.{Answer as SpecAn
 ghost use Rattle.queue_steps.specs.declared.steps.types.Touch.TheVariants.{Nothing};
 ghost use Rattle.queue_steps.specs.Sole.{Owned};
 ghost use Rattle.queue_steps.specs.LookNext.{IsLoad};
+ghost use Rattle.queue_steps.specs.CommonNext.{is_common_of, is_walk_of};
 ghost use Rattle.queue_steps.specs.Next.{CanNext, next_of};
 ghost use Rattle.exclusive_queue.specs.Ends.{EndsRight};
 
@@ -49,6 +50,32 @@ pub(crate) trait Cells<T, B: Copy> {
     fn next(kind: Kind, local: Local<B>, answer: Answer<B>) -> Next<B>
         requires of { (cells : Self) × (kind ≡ kind_of cells) }
         requires can { CanNext kind local answer }
+        ensures { result ≡ next_of kind local answer };
+
+    /// Whether `next_common` tells what a call does next.
+    fn is_common(kind: Kind, local: &Local<B>, answer: &Answer<B>) -> bool
+        requires of { (cells : Self) × (kind ≡ kind_of cells) }
+        requires can { CanNext kind local.now answer.now }
+        ensures { result ≡ is_common_of kind local.now answer.now };
+
+    /// What a call does next on cells of this kind, where that is one of the few steps that most calls are made of.
+    fn next_common(kind: Kind, local: Local<B>, answer: Answer<B>) -> Next<B>
+        requires of { (cells : Self) × (kind ≡ kind_of cells) }
+        requires can { CanNext kind local answer }
+        requires common { is_common_of kind local answer ≡ true }
+        ensures { result ≡ next_of kind local answer };
+
+    /// Whether a call walks over a block, as `next_walk` tells.
+    fn is_walk(kind: Kind, local: &Local<B>, answer: &Answer<B>) -> bool
+        requires of { (cells : Self) × (kind ≡ kind_of cells) }
+        requires can { CanNext kind local.now answer.now }
+        ensures { result ≡ is_walk_of kind local.now answer.now };
+
+    /// What a call does next that walks over a block.
+    fn next_walk(kind: Kind, local: Local<B>, answer: Answer<B>) -> Next<B>
+        requires of { (cells : Self) × (kind ≡ kind_of cells) }
+        requires can { CanNext kind local answer }
+        requires walk { is_walk_of kind local answer ≡ true }
         ensures { result ≡ next_of kind local answer };
 
     /// The slot and the call's own place change their content.

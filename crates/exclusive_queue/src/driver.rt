@@ -1,52 +1,333 @@
 //! One owner's driver: it asks for the next step, does it, and asks again, until the reply.
-ghost use Rattle.std.specs.Prelude.{◌≡◌};
+//!
+//! The first rounds stand one after another, so that the compiler knows in each where the call stands. They do common steps alone; any other step leaves for the loop, which goes on to the reply.
+ghost use Rattle.std.specs.Prelude.{◌≡◌, ℕ, suc, true};
+ghost use Rattle.queue_steps.specs.CommonNext.{is_common_of, is_walk_of};
 ghost use Rattle.queue_steps.specs.Sole.{Sole};
 ghost use Rattle.queue_steps.specs.Looks.{IsLook, look_reply};
+ghost use Rattle.exclusive_queue.specs.Rounds.{GoesOn, IsUnderWay, EndsRightly, GoesAhead};
+ghost use Rattle.queue_steps.specs.declared.sizes.TheConstants.{LONE_STEPS};
 
 use crate::cells::Cells;
 use queue_steps::model::{Call, CallKind, Reply, ReplyKind};
 use queue_steps::sizes::LONE_STEPS;
-use queue_steps::steps::{self, Answer, Local, Next};
+use queue_steps::steps::{self, Answer, Kind, Local, Next};
+use std::ops::ControlFlow;
 
-/// Runs a call to its end, which comes within the steps that a lone call takes at most.
-#[inline]
-pub(crate) fn drive<T, B: Copy, M: Cells<T, B>>(cells: &mut M, call: Call<T>) -> Reply<T>
-    requires { M.idle cells.old }
-    ensures idle { M.idle cells.new }
-    ensures sole { Sole (M.owned cells.old) call result (M.owned cells.new) }
-{
-    let kind = cells.kind();
-    let (call, mut carried) = call.split();
-    let mut local: Local<B> = steps::start(kind, call);
-    let mut answer: Answer<B> = Answer::Start;
-    for _ in 0..LONE_STEPS {
-        let todo = M::next(kind, local, answer);
-        match todo {
+/// Where a call stands that is on its way, with the answer to its last operation and the value that it carries.
+pub(crate) struct Standing<T, B> {
+    pub(crate) local: Local<B>,
+    pub(crate) answer: Answer<B>,
+    pub(crate) carried: Option<T>,
+}
+
+/// Does what the call does next, and tells where it then stands, or its reply. A function that takes a `Next` would have it in memory.
+macro_rules! done {
+    ($cells:ident, $todo:ident, $carried:ident) => {
+        match $todo {
             Next::Reply(reply, given_up) => match given_up {
-                None => return Reply::fill(reply, carried),
+                None => ControlFlow::Break(Reply::fill(reply, $carried)),
                 Some(block) => {
-                    cells.release(block);
-                    return Reply::fill(reply, carried);
+                    $cells.release(block);
+                    ControlFlow::Break(Reply::fill(reply, $carried))
                 }
             },
             Next::Step(after, touch, op) => {
-                cells.touch(touch, &op, &mut carried);
-                answer = cells.perform(op);
-                local = after;
+                $cells.touch(touch, &op, &mut $carried);
+                let answer = $cells.perform(op);
+                ControlFlow::Continue(Standing {
+                    local: after,
+                    answer,
+                    carried: $carried,
+                })
             }
+        }
+    };
+}
+
+/// One round of a call whose step is a common one: that step, or the reply.
+///
+/// The compiler puts a private function where its only call stands. `W` and `AT` tell the calls of this one apart, so that each is a function of its own.
+#[inline(always)]
+fn common_round<T, B: Copy, M: Cells<T, B>, W, const AT: u64>(
+    cells: &mut M,
+    kind: Kind,
+    standing: Standing<T, B>,
+) -> ControlFlow<Reply<T>, Standing<T, B>>
+    requires common { is_common_of kind standing.local standing.answer ≡ true }
+    requires goes { (n : ℕ) × IsUnderWay M.Cells (suc n) kind standing cells.old }
+    ensures { GoesAhead M.Cells kind standing cells.old cells.new result }
+{
+    let Standing {
+        local,
+        answer,
+        mut carried,
+    } = standing;
+    let todo = M::next_common(kind, local, answer);
+    done!(cells, todo, carried)
+}
+
+/// One round of a call that walks over a block.
+#[inline(always)]
+fn walk_round<T, B: Copy, M: Cells<T, B>>(
+    cells: &mut M,
+    kind: Kind,
+    standing: Standing<T, B>,
+) -> ControlFlow<Reply<T>, Standing<T, B>>
+    requires walk { is_walk_of kind standing.local standing.answer ≡ true }
+    requires goes { (n : ℕ) × IsUnderWay M.Cells (suc n) kind standing cells.old }
+    ensures { GoesAhead M.Cells kind standing cells.old cells.new result }
+{
+    let Standing {
+        local,
+        answer,
+        mut carried,
+    } = standing;
+    let todo = M::next_walk(kind, local, answer);
+    done!(cells, todo, carried)
+}
+
+/// One round of a call, whatever its step is.
+#[inline(always)]
+fn round<T, B: Copy, M: Cells<T, B>>(
+    cells: &mut M,
+    kind: Kind,
+    standing: Standing<T, B>,
+) -> ControlFlow<Reply<T>, Standing<T, B>>
+    requires { (n : ℕ) × IsUnderWay M.Cells (suc n) kind standing cells.old }
+    ensures { GoesAhead M.Cells kind standing cells.old cells.new result }
+{
+    let Standing {
+        local,
+        answer,
+        mut carried,
+    } = standing;
+    let todo = M::next(kind, local, answer);
+    done!(cells, todo, carried)
+}
+
+/// One round of the loop. The walk over a block is most of what it does.
+#[inline(always)]
+fn turn<T, B: Copy, M: Cells<T, B>>(
+    cells: &mut M,
+    kind: Kind,
+    standing: Standing<T, B>,
+) -> ControlFlow<Reply<T>, Standing<T, B>>
+    requires { (n : ℕ) × IsUnderWay M.Cells (suc n) kind standing cells.old }
+    ensures { GoesAhead M.Cells kind standing cells.old cells.new result }
+{
+    if M::is_walk(kind, &standing.local, &standing.answer) {
+        walk_round::<T, B, M>(cells, kind, standing)
+    } else {
+        round::<T, B, M>(cells, kind, standing)
+    }
+}
+
+/// The rounds of a call in a loop.
+#[inline(never)]
+fn turns<T, B: Copy, M: Cells<T, B>>(
+    cells: &mut M,
+    kind: Kind,
+    standing: Standing<T, B>,
+) -> Reply<T>
+    requires { IsUnderWay M.Cells LONE_STEPS kind standing cells.old }
+    ensures { EndsRightly M.Cells kind standing cells.old cells.new result }
+{
+    let mut standing = standing;
+    for _ in 0..LONE_STEPS {
+        match turn::<T, B, M>(cells, kind, standing) {
+            ControlFlow::Break(reply) => return reply,
+            ControlFlow::Continue(after) => standing = after,
         }
     }
     unreachable!()
 }
 
-/// Runs a call to its end, in a function of its own: rings and chains have too many steps to stand in each caller.
-#[inline(never)]
+/// Goes on in the loop. What the loop is handed is made here alone, so that the rounds before it write none of it.
+#[inline(always)]
+fn leave<T, B: Copy, M: Cells<T, B>>(
+    cells: &mut M,
+    kind: Kind,
+    standing: Standing<T, B>,
+) -> Reply<T>
+    requires { IsUnderWay M.Cells LONE_STEPS kind standing cells.old }
+    ensures { EndsRightly M.Cells kind standing cells.old cells.new result }
+{
+    turns::<T, B, M>(cells, kind, standing)
+}
+
+/// One common round, and then the loop.
+#[inline(always)]
+fn one_common<T, B: Copy, M: Cells<T, B>, W>(
+    cells: &mut M,
+    kind: Kind,
+    standing: Standing<T, B>,
+) -> Reply<T>
+    requires { IsUnderWay M.Cells LONE_STEPS kind standing cells.old }
+    ensures { EndsRightly M.Cells kind standing cells.old cells.new result }
+{
+    if !M::is_common(kind, &standing.local, &standing.answer) {
+        return leave::<T, B, M>(cells, kind, standing);
+    }
+    match common_round::<T, B, M, W, 1>(cells, kind, standing) {
+        ControlFlow::Break(reply) => reply,
+        ControlFlow::Continue(after) => leave::<T, B, M>(cells, kind, after),
+    }
+}
+
+/// Two common rounds one after another, and then the loop.
+#[inline(always)]
+fn two_common<T, B: Copy, M: Cells<T, B>, W>(
+    cells: &mut M,
+    kind: Kind,
+    standing: Standing<T, B>,
+) -> Reply<T>
+    requires { IsUnderWay M.Cells LONE_STEPS kind standing cells.old }
+    ensures { EndsRightly M.Cells kind standing cells.old cells.new result }
+{
+    if !M::is_common(kind, &standing.local, &standing.answer) {
+        return leave::<T, B, M>(cells, kind, standing);
+    }
+    match common_round::<T, B, M, W, 2>(cells, kind, standing) {
+        ControlFlow::Break(reply) => reply,
+        ControlFlow::Continue(after) => one_common::<T, B, M, W>(cells, kind, after),
+    }
+}
+
+/// Three common rounds one after another, and then the loop.
+#[inline(always)]
+fn three_common<T, B: Copy, M: Cells<T, B>, W>(
+    cells: &mut M,
+    kind: Kind,
+    standing: Standing<T, B>,
+) -> Reply<T>
+    requires { IsUnderWay M.Cells LONE_STEPS kind standing cells.old }
+    ensures { EndsRightly M.Cells kind standing cells.old cells.new result }
+{
+    if !M::is_common(kind, &standing.local, &standing.answer) {
+        return leave::<T, B, M>(cells, kind, standing);
+    }
+    match common_round::<T, B, M, W, 3>(cells, kind, standing) {
+        ControlFlow::Break(reply) => reply,
+        ControlFlow::Continue(after) => two_common::<T, B, M, W>(cells, kind, after),
+    }
+}
+
+/// Four common rounds one after another, and then the loop.
+#[inline(always)]
+fn four_common<T, B: Copy, M: Cells<T, B>, W>(
+    cells: &mut M,
+    kind: Kind,
+    standing: Standing<T, B>,
+) -> Reply<T>
+    requires { IsUnderWay M.Cells LONE_STEPS kind standing cells.old }
+    ensures { EndsRightly M.Cells kind standing cells.old cells.new result }
+{
+    if !M::is_common(kind, &standing.local, &standing.answer) {
+        return leave::<T, B, M>(cells, kind, standing);
+    }
+    match common_round::<T, B, M, W, 4>(cells, kind, standing) {
+        ControlFlow::Break(reply) => reply,
+        ControlFlow::Continue(after) => three_common::<T, B, M, W>(cells, kind, after),
+    }
+}
+
+/// Five common rounds one after another, and then the loop.
+#[inline(always)]
+fn five_common<T, B: Copy, M: Cells<T, B>, W>(
+    cells: &mut M,
+    kind: Kind,
+    standing: Standing<T, B>,
+) -> Reply<T>
+    requires { IsUnderWay M.Cells LONE_STEPS kind standing cells.old }
+    ensures { EndsRightly M.Cells kind standing cells.old cells.new result }
+{
+    if !M::is_common(kind, &standing.local, &standing.answer) {
+        return leave::<T, B, M>(cells, kind, standing);
+    }
+    match common_round::<T, B, M, W, 5>(cells, kind, standing) {
+        ControlFlow::Break(reply) => reply,
+        ControlFlow::Continue(after) => four_common::<T, B, M, W>(cells, kind, after),
+    }
+}
+
+/// Six common rounds one after another, and then the loop.
+#[inline(always)]
+fn six_common<T, B: Copy, M: Cells<T, B>, W>(
+    cells: &mut M,
+    kind: Kind,
+    standing: Standing<T, B>,
+) -> Reply<T>
+    requires { IsUnderWay M.Cells LONE_STEPS kind standing cells.old }
+    ensures { EndsRightly M.Cells kind standing cells.old cells.new result }
+{
+    if !M::is_common(kind, &standing.local, &standing.answer) {
+        return leave::<T, B, M>(cells, kind, standing);
+    }
+    match common_round::<T, B, M, W, 6>(cells, kind, standing) {
+        ControlFlow::Break(reply) => reply,
+        ControlFlow::Continue(after) => five_common::<T, B, M, W>(cells, kind, after),
+    }
+}
+
+/// Seven common rounds one after another, and then the loop.
+#[inline(always)]
+fn seven_common<T, B: Copy, M: Cells<T, B>, W>(
+    cells: &mut M,
+    kind: Kind,
+    standing: Standing<T, B>,
+) -> Reply<T>
+    requires { IsUnderWay M.Cells LONE_STEPS kind standing cells.old }
+    ensures { EndsRightly M.Cells kind standing cells.old cells.new result }
+{
+    if !M::is_common(kind, &standing.local, &standing.answer) {
+        return leave::<T, B, M>(cells, kind, standing);
+    }
+    match common_round::<T, B, M, W, 7>(cells, kind, standing) {
+        ControlFlow::Break(reply) => reply,
+        ControlFlow::Continue(after) => six_common::<T, B, M, W>(cells, kind, after),
+    }
+}
+
+/// A call on its way, before its first step.
+#[inline(always)]
+fn begin<T, B: Copy, M: Cells<T, B>>(cells: &M, call: Call<T>) -> (Kind, Standing<T, B>)
+    requires { M.idle cells.now }
+    ensures of { result.0 ≡ M.kind_of cells.now }
+    ensures goes { GoesOn M.Cells LONE_STEPS result.0 call cells.now result.1 cells.now }
+{
+    let kind = cells.kind();
+    let (call, carried) = call.split();
+    let local: Local<B> = steps::start(kind, call);
+    (
+        kind,
+        Standing {
+            local,
+            answer: Answer::Start,
+            carried,
+        },
+    )
+}
+
+/// Runs a call to its end, which comes within the steps that a lone call takes at most. Seven common rounds do for each push that finds room, and each pop that finds an item, where no block begins or ends.
+#[inline(always)]
+pub(crate) fn drive<T, B: Copy, M: Cells<T, B>, W>(cells: &mut M, call: Call<T>) -> Reply<T>
+    requires { M.idle cells.old }
+    ensures idle { M.idle cells.new }
+    ensures sole { Sole (M.owned cells.old) call result (M.owned cells.new) }
+{
+    let (kind, standing) = begin::<T, B, M>(cells, call);
+    seven_common::<T, B, M, W>(cells, kind, standing)
+}
+
+/// Runs a call to its end, in the loop alone.
 pub(crate) fn drive_apart<T, B: Copy, M: Cells<T, B>>(cells: &mut M, call: Call<T>) -> Reply<T>
     requires { M.idle cells.old }
     ensures idle { M.idle cells.new }
     ensures sole { Sole (M.owned cells.old) call result (M.owned cells.new) }
 {
-    drive(cells, call)
+    let (kind, standing) = begin::<T, B, M>(cells, call);
+    turns::<T, B, M>(cells, kind, standing)
 }
 
 /// Runs a call that changes nothing to its end.

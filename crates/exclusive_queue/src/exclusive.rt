@@ -10,7 +10,8 @@ ghost use Rattle.exclusive_queue.specs.RingOwned.{IsIdle as IsRingIdle, ring_own
 ghost use Rattle.exclusive_queue.specs.RingMemory.{ring_in};
 ghost use Rattle.exclusive_queue.specs.declared.ring_words.TheConstants.{STAMPS};
 ghost use Rattle.std.specs.Mem.Slots.{slots_items, slots_len, IsFull};
-ghost use Rattle.exclusive_queue.specs.LineOwned.{IsIdle as IsLineIdle};
+ghost use Rattle.exclusive_queue.specs.LineOwned.{IsIdle as IsLineIdle, line_owned};
+ghost use Rattle.exclusive_queue.specs.ChainMemory.{AreHeld, line_in};
 ghost use Rattle.queue_steps.specs.declared.model.Call.TheVariants as call;
 ghost use Rattle.queue_steps.specs.declared.model.Reply.TheVariants as reply;
 
@@ -19,6 +20,8 @@ use crate::driver::{drive, drive_apart, observe};
 use crate::single::Single;
 use crate::unbounded::{LinkedBlocks, Name};
 use atomic_table::Closed;
+use block_web::block::Link;
+use block_web::chain::Chain;
 use queue_steps::errors::{ForcePushError, PopError, PushError};
 use queue_steps::model::{Call, CallKind, Reply, ReplyKind};
 use std::alloc::{AllocError, Allocator, Global};
@@ -30,6 +33,15 @@ use std::marker::Model;
 pub struct Exclusive<T, A: Allocator = Global> {
     form: Form<T, A>,
 }
+
+/// The calls, for the driver: each has rounds of its own.
+struct Pushes;
+
+struct Displaces;
+
+struct Pops;
+
+struct Closes;
 
 /// How the items are kept.
 enum Form<T, A: Allocator> {
@@ -87,15 +99,15 @@ impl<T, A: Allocator> Form<T, A> {
 
     /// Runs a call to its end.
     #[inline(always)]
-    fn answer(&mut self, call: Call<T>) -> Reply<T>
+    fn answer<W>(&mut self, call: Call<T>) -> Reply<T>
         requires { IsFormIdle self.old }
         ensures idle { IsFormIdle self.new }
         ensures sole { Sole (form_owned self.old) call result (form_owned self.new) }
     {
         match self {
-            Form::Single(single) => drive::<T, (), Single<T>>(single, call),
-            Form::Bounded(ring) => drive_apart::<T, (), Ring<T, A>>(ring, call),
-            Form::Unbounded(blocks) => drive_apart::<T, Name<T>, LinkedBlocks<T, A>>(blocks, call),
+            Form::Single(single) => drive::<T, (), Single<T>, W>(single, call),
+            Form::Bounded(ring) => drive::<T, (), Ring<T, A>, W>(ring, call),
+            Form::Unbounded(blocks) => drive::<T, Name<T>, LinkedBlocks<T, A>, W>(blocks, call),
         }
     }
 
@@ -209,6 +221,26 @@ impl<T, A: Allocator> Exclusive<T, A> {
         }
     }
 
+    /// A queue in a chain of blocks that is no longer shared: those from the front's to the one where the next item goes, or none.
+    /// `head` and `tail` are the words of the two positions, `front` and `back` the links to the first and the last block.
+    pub fn of_chain(
+        alloc: A,
+        chain: Chain<T, A>,
+        head: u64,
+        tail: u64,
+        front: Option<Link<T>>,
+        back: Option<Link<T>>,
+    ) -> Self
+        requires heap { chain.heap ≡ alloc }
+        requires held { AreHeld chain.blocks }
+        requires idle { IsLineIdle (line_in head tail front back chain.blocks) }
+        ensures { result ≡ line_owned (line_in head tail front back chain.blocks) }
+    {
+        Exclusive {
+            form: Form::Unbounded(LinkedBlocks::of_chain(alloc, chain, head, tail, front, back)),
+        }
+    }
+
     /// Does nothing. Its contract tells what holds of every queue with one owner: nothing is on its way in, the items fit into the capacity, no more than
     /// `LIMIT` were accepted, and the blocks are as many as a queue in this state holds.
     pub fn show_sound(&self)
@@ -227,7 +259,7 @@ impl<T, A: Allocator> Exclusive<T, A> {
     pub fn push(&mut self, value: T) -> Result<(), PushError<T>>
         ensures { Sole self.old (call.Push value) (reply.Push result) self.new }
     {
-        match self.form.answer(Call::Push(value)) {
+        match self.form.answer::<Pushes>(Call::Push(value)) {
             Reply::Push(result) => result,
             _ => unreachable!(),
         }
@@ -243,7 +275,7 @@ impl<T, A: Allocator> Exclusive<T, A> {
     pub fn force_push(&mut self, value: T) -> Result<Option<T>, ForcePushError<T>>
         ensures { Sole self.old (call.ForcePush value) (reply.ForcePush result) self.new }
     {
-        match self.form.answer(Call::ForcePush(value)) {
+        match self.form.answer::<Displaces>(Call::ForcePush(value)) {
             Reply::ForcePush(result) => result,
             _ => unreachable!(),
         }
@@ -257,7 +289,7 @@ impl<T, A: Allocator> Exclusive<T, A> {
     pub fn pop(&mut self) -> Result<T, PopError>
         ensures { Sole self.old call.Pop (reply.Pop result) self.new }
     {
-        match self.form.answer(Call::Pop) {
+        match self.form.answer::<Pops>(Call::Pop) {
             Reply::Pop(result) => result,
             _ => unreachable!(),
         }
@@ -267,7 +299,7 @@ impl<T, A: Allocator> Exclusive<T, A> {
     pub fn close(&mut self) -> bool
         ensures { Sole self.old call.Close (reply.Close result) self.new }
     {
-        match self.form.answer(Call::Close) {
+        match self.form.answer::<Closes>(Call::Close) {
             Reply::Close(result) => result,
             _ => unreachable!(),
         }

@@ -1,10 +1,12 @@
 //! A chain of blocks with one owner.
-ghost use Rattle.std.specs.Prelude.{◌≡◌, ◌≤◌, IfOk};
+ghost use Rattle.std.specs.Prelude.{◌≡◌, true, ◌≤◌, IfOk};
 ghost use Rattle.queue_steps.specs.LookNext.{IsLoad};
+ghost use Rattle.queue_steps.specs.CommonNext.{is_common_of, is_walk_of};
 ghost use Rattle.queue_steps.specs.Next.{CanNext, next_of};
 ghost use Rattle.queue_steps.specs.State.{start};
 ghost use Rattle.queue_steps.specs.declared.sizes.TheConstants.{LIMIT};
 ghost use Rattle.exclusive_queue.specs.LineCells.{state_block as spec_state_block};
+ghost use Rattle.exclusive_queue.specs.ChainMemory.{block_of as spec_block_of};
 
 use crate::cells::{Cells, exchange};
 use block_web::block::{Link as Place, Loose};
@@ -81,6 +83,14 @@ fn state_block<T>(op: &Op<Name<T>>) -> Option<Name<T>>
     }
 }
 
+/// The number of the block that a word's position is in, of all blocks that were ever laid.
+#[inline(always)]
+fn block_of(word: u64) -> u64
+    ensures { result ≡ spec_block_of word }
+{
+    word / TAIL_STEP / BLOCK_POSITIONS
+}
+
 impl<T, A: Allocator> LinkedBlocks<T, A> {
     ghost use Rattle.std.specs.Prelude.{None, Some, [], length};
     ghost use Rattle.queue_steps.specs.declared.steps.types.Answer.TheVariants.{Found, Linked, Done};
@@ -89,6 +99,7 @@ impl<T, A: Allocator> LinkedBlocks<T, A> {
     ghost use Rattle.queue_steps.specs.declared.steps.types.Word.TheVariants.{State};
     ghost use Rattle.exclusive_queue.specs.LineCells.{CanPut, CanTake, CanLay, exchanged, laid, line_can_perform, line_performed, line_asks};
     ghost use Rattle.exclusive_queue.specs.LineOwned.{IsIdle, line_owned, line_queue};
+    ghost use Rattle.exclusive_queue.specs.ChainMemory.{AreHeld, line_in};
 
     /// A chain without blocks.
     pub(crate) fn new(alloc: A) -> Self
@@ -139,6 +150,49 @@ impl<T, A: Allocator> LinkedBlocks<T, A> {
             laid: 1,
             held: 1,
         })
+    }
+
+    /// A chain that is no longer shared, whose blocks are those from the front's to the one where the next item goes:
+    /// the words of its head and its tail, and the links to the first and the last of its blocks.
+    pub(crate) fn of_chain(
+        alloc: A,
+        chain: Chain<T, A>,
+        head: u64,
+        tail: u64,
+        front: Option<Place<T>>,
+        back: Option<Place<T>>,
+    ) -> Self
+        requires heap { chain.heap ≡ alloc }
+        requires held { AreHeld chain.blocks }
+        requires idle { IsIdle (line_in head tail front back chain.blocks) }
+        ensures { result ≡ line_in head tail front back chain.blocks }
+    {
+        let held = match back {
+            None => 0,
+            Some(_) => block_of(tail) - block_of(head) + 1,
+        };
+        let head_block = match front {
+            None => None,
+            Some(link) => Some(Name { number: 0, link }),
+        };
+        let tail_block = match back {
+            None => None,
+            Some(link) => Some(Name {
+                number: held - 1,
+                link,
+            }),
+        };
+        LinkedBlocks {
+            alloc,
+            chain,
+            head,
+            tail,
+            head_block,
+            tail_block,
+            spare: None,
+            laid: held,
+            held,
+        }
     }
 
     /// Gives the memory of a chain back that has no items.
@@ -368,6 +422,52 @@ impl<T, A: Allocator> Cells<T, Name<T>> for LinkedBlocks<T, A> {
     {
         let _ = kind;
         steps::next_unbounded(local, answer)
+    }
+
+    #[inline(always)]
+    fn is_common(kind: Kind, local: &Local<Name<T>>, answer: &Answer<Name<T>>) -> bool
+        requires of { (cells : Line T) × (kind ≡ kind_of_line cells) }
+        requires can { CanNext kind local.now answer.now }
+        ensures { result ≡ is_common_of kind local.now answer.now }
+    {
+        let _ = kind;
+        steps::is_common_unbounded(local, answer)
+    }
+
+    #[inline(always)]
+    fn next_common(
+        kind: Kind,
+        local: Local<Name<T>>,
+        answer: Answer<Name<T>>,
+    ) -> steps::Next<Name<T>>
+        requires of { (cells : Line T) × (kind ≡ kind_of_line cells) }
+        requires can { CanNext kind local answer }
+        requires common { is_common_of kind local answer ≡ true }
+        ensures { result ≡ next_of kind local answer }
+    {
+        let _ = kind;
+        steps::next_common_unbounded(local, answer)
+    }
+
+    #[inline(always)]
+    fn is_walk(kind: Kind, local: &Local<Name<T>>, answer: &Answer<Name<T>>) -> bool
+        requires of { (cells : Line T) × (kind ≡ kind_of_line cells) }
+        requires can { CanNext kind local.now answer.now }
+        ensures { result ≡ is_walk_of kind local.now answer.now }
+    {
+        let _ = kind;
+        steps::is_walk(local, answer)
+    }
+
+    #[inline(always)]
+    fn next_walk(kind: Kind, local: Local<Name<T>>, answer: Answer<Name<T>>) -> steps::Next<Name<T>>
+        requires of { (cells : Line T) × (kind ≡ kind_of_line cells) }
+        requires can { CanNext kind local answer }
+        requires walk { is_walk_of kind local answer ≡ true }
+        ensures { result ≡ next_of kind local answer }
+    {
+        let _ = kind;
+        steps::next_walk(local, answer)
     }
 
     #[inline(always)]

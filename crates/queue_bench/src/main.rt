@@ -93,7 +93,7 @@ fn pairs(rt: &HostRuntime) -> io::Result<u64> {
 
 fn main(rt: HostRuntime) -> io::Result<()> {
     let pairs = pairs(&rt)?;
-    for capacity in [1usize, 2, 3, 4, 1000] {
+    for capacity in [1usize, 2, 3, 4, 1000, 1024] {
         time(
             &rt,
             "owned",

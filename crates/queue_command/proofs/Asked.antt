@@ -1,25 +1,17 @@
--- Arguments that ask for nothing that can be run, and how a form that they ask for ends.
-use Rattle.std.proofs.Common.{◌≡◌, ◌≢◌, ℕ, true, false, List, Option, Some, None, Result, Ok, Err, MatchResult, refl, sym, ◌∙◌}
+-- Arguments that ask for no form, and how a form that they ask for ends.
+use Rattle.std.proofs.Common.{◌≢◌, ℕ, List, Option, Some, None, Result, Ok, Err, MatchResult, refl}
 use Rattle.std.specs.Io.KnownBytes.{Keeps}
-use Rattle.queue_text.specs.KindNames.{is_built, form_words, IsForm}
+use Rattle.queue_text.specs.KindNames.{form_words, IsForm}
 use Rattle.queue_text.specs.declared.faults.Fault.{Fault}
 use Rattle.queue_text.specs.declared.faults.Fault.TheVariants as fault
 use Rattle.queue_text.specs.declared.args.Form.{Form}
 use Rattle.queue_text.specs.declared.args.Form.TheVariants as form
-use Rattle.queue_text.proofs.ReadArgs.{both_built}
-use Rattle.queue_command.specs.Ends.{AskFor, AskForRun, Does, Fails, IsDone, IsFaultOf}
+use Rattle.queue_command.specs.Ends.{AskFor, AskForForm, Does, Fails, IsDone, IsFaultOf}
 use Rattle.queue_threads.specs.declared.verdict.Verdict.{Verdict}
 
 -- they name no form
-pub no_form : (words : List (List ℕ)) → ((f : Form) → IsForm f → form_words f ≢ words) → AskForRun words → ⊥
-no_form words h asked = h asked.0 asked.1.0 asked.1.2
-
--- they name a form that cannot be run
-pub none_built : (words : List (List ℕ)) (f : Form) → IsForm f → form_words f ≡ words → is_built f ≡ false → AskForRun words → ⊥
-none_built words f is named none asked =
-    let same : is_built f ≡ is_built asked.0 = both_built f asked.0 is asked.1.0 (named ∙ sym asked.1.2) in
-    let missing : false ≡ true = sym none ∙ same ∙ asked.1.1 in
-    absurd (cc)
+pub no_form : (words : List (List ℕ)) → ((f : Form) → IsForm f → form_words f ≢ words) → AskForForm words → ⊥
+no_form words h asked = h asked.0 asked.1.0 asked.1.1
 
 -- a form that they ask for has ended
 pub form_ended : (words : List (List ℕ)) (known old new : Option (List ℕ)) (f : Form) (r : Result Verdict Fault) → AskFor words f

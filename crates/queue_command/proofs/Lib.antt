@@ -1,5 +1,5 @@
 pub mod Asked
 pub mod Playing
-pub mod ReadBack
+pub mod Taking
 pub mod Reporting
 pub mod Running

@@ -1,9 +1,9 @@
 -- How the program may end.
-use Rattle.std.specs.Prelude.{◌≡◌, ◌⊎◌, ℕ, true, List, Option}
+use Rattle.std.specs.Prelude.{◌≡◌, ◌⊎◌, ℕ, List, Option}
 use Rattle.std.specs.Io.KnownBytes.{Keeps}
 use Rattle.queue_text.specs.Actions.{replay_line_text, IsReplayLine}
 use Rattle.queue_text.specs.Calls.{call_text, IsCallOfWord}
-use Rattle.queue_text.specs.KindNames.{is_built, form_words, IsForm}
+use Rattle.queue_text.specs.KindNames.{form_words, IsForm}
 use Rattle.queue_text.specs.Faults.{fault_status}
 use Rattle.queue_text.specs.declared.args.Form.{Form}
 use Rattle.queue_text.specs.declared.args.Form.TheVariants as form
@@ -18,13 +18,13 @@ use Rattle.queue_threads.specs.Verdicts.{verdict_status, IsOutputFault}
 use Rattle.queue_threads.specs.declared.verdict.Verdict.{Verdict}
 use Rattle.queue_threads.specs.declared.verdict.Verdict.TheVariants as verdict
 
--- the arguments ask for this form, which can be run
+-- the arguments ask for this form
 abbrev pub AskFor : List (List ℕ) → Form → Type 0
-AskFor words f = IsForm f × (is_built f ≡ true) × (form_words f ≡ words)
+AskFor words f = IsForm f × (form_words f ≡ words)
 
--- the arguments ask for what can be run
-abbrev pub AskForRun : List (List ℕ) → Type 0
-AskForRun words = (f : Form) × AskFor words f
+-- the arguments ask for a form
+abbrev pub AskForForm : List (List ℕ) → Type 0
+AskForForm words = (f : Form) × AskFor words f
 
 -- the work of the form was done, and has shown this
 abbrev pub Does : Form → Option (List ℕ) → Option (List ℕ) → Option (List ℕ) → Verdict → Type 0
@@ -35,14 +35,14 @@ Does form.Handshake known old new v = Handshake old new v
 
 -- the work of the form met this fault
 abbrev pub Fails : Form → Option (List ℕ) → Option (List ℕ) → Option (List ℕ) → Fault → Type 0
-Fails (form.Script k) known old new why = IsRunFault IsCallOfWord call_text known old new why
-Fails (form.Replay k parties) known old new why = IsRunFault IsReplayLine replay_line_text known old new why
+Fails (form.Script k) known old new why = IsRunFault IsCallOfWord call_text (IsTranscript k) known old new why
+Fails (form.Replay k parties) known old new why = IsRunFault IsReplayLine replay_line_text (IsReport k parties) known old new why
 Fails (form.Threads l) known old new why = IsOutputFault old new why
 Fails form.Handshake known old new why = IsOutputFault old new why
 
--- why the work was not done: the arguments ask for nothing that can be run, or what they ask for met a fault
+-- why the work was not done: the arguments ask for no form, or what they ask for met a fault
 abbrev pub IsFaultOf : List (List ℕ) → Option (List ℕ) → Option (List ℕ) → Option (List ℕ) → Fault → Type 0
-IsFaultOf words known old new fault.Usage = (AskForRun words → ⊥) × Keeps old new
+IsFaultOf words known old new fault.Usage = (AskForForm words → ⊥) × Keeps old new
 IsFaultOf words known old new why = (f : Form) × AskFor words f × Fails f known old new why
 
 -- the work that the arguments ask for was done, and has shown this

@@ -3,6 +3,6 @@ pub mod Left
 pub mod Scripts
 pub mod Runs
 pub mod Turns
-pub mod Unread
+pub mod Takes
 pub mod Reports
 pub mod Ends

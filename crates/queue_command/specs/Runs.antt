@@ -2,7 +2,7 @@
 use Rattle.std.specs.Prelude.{ℕ, List, Option}
 use Rattle.std.specs.Io.KnownBytes.{Appends, Keeps}
 use Rattle.queue_text.specs.Lines.{lines_of, AreRead, IsFirstUnread}
-use Rattle.queue_text.specs.Streams.{IsInput}
+use Rattle.queue_text.specs.Streams.{IsBegun, IsInput}
 use Rattle.queue_text.specs.declared.faults.Fault.{Fault}
 use Rattle.queue_text.specs.declared.faults.Fault.TheVariants as fault
 
@@ -16,10 +16,20 @@ pub record IsRun {V : Type 0} (IsValue : V → Type 0) (text_of : V → List ℕ
   pub told : IsTold values text
   pub output : Appends old new text
 
+-- each line of the input was read as a value, and a beginning of a text that tells of the values was written
+pub record IsBegunRun {V : Type 0} (IsValue : V → Type 0) (text_of : V → List ℕ) (IsTold : List V → List ℕ → Type 0) (known old new : Option (List ℕ)) : Type 0 where
+  pub bytes : List ℕ
+  pub input : IsInput known bytes
+  pub values : List V
+  pub read : AreRead IsValue text_of (lines_of bytes) values
+  pub text : List ℕ
+  pub told : IsTold values text
+  pub output : IsBegun old new text
+
 -- why the lines were not run to their end. But for a failed write, nothing is written then
-abbrev pub IsRunFault : {V : Type 0} → (V → Type 0) → (V → List ℕ) → Option (List ℕ) → Option (List ℕ) → Option (List ℕ) → Fault → Type 0
-IsRunFault IsValue text_of known old new fault.Usage = ⊥
-IsRunFault IsValue text_of known old new (fault.Unreadable n) = (bytes : List ℕ) × IsInput known bytes × IsFirstUnread IsValue text_of (lines_of bytes) n × Keeps old new
-IsRunFault IsValue text_of known old new fault.NoMemory = Keeps old new
-IsRunFault IsValue text_of known old new fault.InputFailed = Keeps old new
-IsRunFault IsValue text_of known old new fault.OutputFailed = Unit {0}
+abbrev pub IsRunFault : {V : Type 0} → (V → Type 0) → (V → List ℕ) → (List V → List ℕ → Type 0) → Option (List ℕ) → Option (List ℕ) → Option (List ℕ) → Fault → Type 0
+IsRunFault IsValue text_of IsTold known old new fault.Usage = ⊥
+IsRunFault IsValue text_of IsTold known old new (fault.Unreadable n) = (bytes : List ℕ) × IsInput known bytes × IsFirstUnread IsValue text_of (lines_of bytes) n × Keeps old new
+IsRunFault IsValue text_of IsTold known old new fault.NoMemory = Keeps old new
+IsRunFault IsValue text_of IsTold known old new fault.InputFailed = Keeps old new
+IsRunFault IsValue text_of IsTold known old new fault.OutputFailed = IsBegunRun IsValue text_of IsTold known old new

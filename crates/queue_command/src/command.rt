@@ -70,9 +70,6 @@ fn run<R: Threads + Wait + Sync, I: Read, O: Write>(
     let Some(form) = parse_form(args) else {
         return Err(Fault::Usage);
     };
-    if !form.is_built() {
-        return Err(Fault::Usage);
-    }
     match form {
         Form::Script(kind) => shown(script(&alloc, kind, input, output)),
         Form::Replay(kind, parties) => shown(replay(&alloc, kind, parties, input, output)),

@@ -1,20 +1,23 @@
 //! A replay: calls and single steps of several parties, what each did, and the items that are left.
-ghost use Rattle.std.specs.Prelude.{◌≡◌, ◌++◌, is_some, if◌then◌else◌, IfOk, OnOk, MatchResult, string_bytes};
+ghost use Rattle.std.specs.Prelude.{◌≡◌, [], ◌∷◌, ◌++◌, replicate, IfOk, OnOk, MatchResult, string_bytes};
+ghost use Rattle.queue_steps.specs.declared.sizes.TheConstants.{LONE_STEPS};
 ghost use Rattle.queue_machine.specs.Conforms.{capacity_of as capacity_of_kind};
+ghost use Rattle.queue_machine.specs.Courses.{IsOnCourse};
 ghost use Rattle.queue_machine.specs.Replays.{CanReplay};
-ghost use Rattle.queue_machine.specs.declared.types.Told.TheVariants.{Skipped, Ran};
 ghost use Rattle.queue_text.specs.Actions.{replay_line_text, IsReplayLine};
 ghost use Rattle.queue_text.specs.KindNames.{IsKindName, capacity_of};
+ghost use Rattle.queue_text.specs.declared.actions.Action.TheVariants.{Run};
 ghost use Rattle.queue_command.specs.Runs.{IsRun, IsRunFault};
 ghost use Rattle.queue_command.specs.Reports.{IsReport, peak_text};
 ghost use Rattle.queue_command.specs.Left.{left_text};
-ghost use Rattle.queue_command.specs.Turns.{turn_text};
-ghost use Rattle.queue_command.specs.Unread.{first_of, behind, number_of, content_at, itself, unread_text};
+ghost use Rattle.queue_command.specs.Takes.{Takes};
+ghost use Rattle.queue_command.specs.Turns.{turn_count, turn_text, turns_from};
 
 use crate::effects::ShownEffect;
-use crate::turns::{Turn, events_of, turns_of};
-use queue_machine::types::{EffectKind, Peak, Replay, Told};
-use queue_steps::model::Reply;
+use crate::turns::{Turn, event_of};
+use queue_machine::course::Course;
+use queue_machine::types::{Peak, Told};
+use queue_steps::sizes::LONE_STEPS;
 use queue_steps::steps::Kind;
 use queue_text::actions::{Action, ReplayLine};
 use queue_text::args::KindName;
@@ -31,7 +34,7 @@ use std::io::{Read, Write};
 /// # Errors
 ///
 /// `InputFailed`, then `Unreadable`, then `OutputFailed`, and `NoMemory` wherever it is met, as where no queue may have the capacity.
-/// On `OutputFailed` a beginning of the output may be written.
+/// On `OutputFailed` a beginning of the right output may be written.
 pub fn replay<A: Allocator, I: Read, O: Write>(
     alloc: &A,
     kind: KindName,
@@ -43,7 +46,7 @@ pub fn replay<A: Allocator, I: Read, O: Write>(
     ensures { MatchResult result
         (λ _. IsRun IsReplayLine replay_line_text (IsReport kind parties)
         (I.remaining input.old) (O.contents output.old) (O.contents output.new))
-        (IsRunFault IsReplayLine replay_line_text
+        (IsRunFault IsReplayLine replay_line_text (IsReport kind parties)
         (I.remaining input.old) (O.contents output.old) (O.contents output.new)) }
 {
     let bytes = read_input(alloc, input)?;
@@ -64,13 +67,12 @@ pub fn report<'a, A: Allocator>(
     requires { IsKindName kind }
     ensures { IfOk result (λ text. IsReport kind parties lines.now (string_bytes text)) }
 {
-    let turns = turns_of(alloc, lines)?;
-    let events = events_of(alloc, &turns)?;
-    let told = queue_machine::replay(alloc, kind_of(kind), parties, events)?;
+    let mut course = Course::new(alloc, kind_of(kind), parties, 0)?;
     let mut text = String::new(alloc);
-    write_turns(&turns, &told, &mut text)?;
-    write_peak(kind, told.peak, &mut text)?;
-    write_left(&told.left, &mut text)?;
+    take_lines(alloc, &mut course, lines, &mut text)?;
+    let ended = course.end(alloc)?;
+    write_peak(kind, ended.peak, &mut text)?;
+    write_left(&ended.left, &mut text)?;
     Ok(text)
 }
 
@@ -101,64 +103,75 @@ fn write_peak<A: Allocator>(
     }
 }
 
-// Appends what is told of each turn.
-fn write_turns<A: Allocator, B: Allocator>(
-    turns: &[Turn],
-    told: &Replay<u64, A>,
+// Gives the parties the turns that the lines ask for, and appends what is told of each.
+fn take_lines<A: Allocator + Copy, B: Allocator>(
+    alloc: A,
+    course: &mut Course<u64, A>,
+    lines: &[ReplayLine],
     text: &mut String<B>,
 ) -> Result<(), AllocError>
-    ensures { OnOk result (string_bytes text.new ≡ string_bytes text.old
-        ++ unread_text 0 turns.now told.now.replies.items told.now.effects.items told.now.skipped.items) }
+    requires { IsOnCourse course.old }
+    ensures { OnOk result (Takes (turns_from 1 lines.now) course.old (string_bytes text.old) course.new (string_bytes text.new)) }
 {
-    let mut replies = told.replies.as_slice();
-    let mut effects = told.effects.as_slice();
-    let mut skipped = told.skipped.as_slice();
-    for (number, turn) in turns.iter().enumerate() {
-        let (is_skipped, later_skipped) = split_skipped(skipped, number);
-        let (effect, later_effects) = split_entry(effects, number);
-        let (reply, later_replies) = split_entry(replies, number);
-        write_turn(*turn, told_of(is_skipped, effect, reply), text)?;
-        skipped = later_skipped;
-        effects = later_effects;
-        replies = later_replies;
+    for (index, said) in lines.iter().enumerate() {
+        let turn = Turn {
+            line: index + 1,
+            said: *said,
+        };
+        take_line(alloc, course, turn, text)?;
     }
     Ok(())
 }
 
-// What the first entry holds, if it is of the event of this number, and the entries behind it.
-fn split_entry<X: Copy>(
-    entries: &[(usize, usize, X)],
-    number: usize,
-) -> (Option<X>, &[(usize, usize, X)])
-    ensures found { result.0 ≡ content_at number entries.now }
-    ensures later { result.1.now ≡ behind number_of number entries.now }
+// Gives a party the turns that a line asks for.
+fn take_line<A: Allocator + Copy, B: Allocator>(
+    alloc: A,
+    course: &mut Course<u64, A>,
+    turn: Turn,
+    text: &mut String<B>,
+) -> Result<(), AllocError>
+    requires { IsOnCourse course.old }
+    ensures { OnOk result (Takes (replicate (turn_count turn.said.action) turn) course.old (string_bytes text.old) course.new (string_bytes text.new)) }
 {
-    match entries {
-        [(event, _, content), later @ ..] if *event == number => (Some(*content), later),
-        _ => (None, entries),
+    match turn.said.action {
+        Action::Run => take_run(alloc, course, turn, text),
+        _ => take_turn(alloc, course, turn, text),
     }
 }
 
-// Whether the first of these is the event of this number, and the events behind it.
-fn split_skipped(events: &[usize], number: usize) -> (bool, &[usize])
-    ensures found { result.0 ≡ is_some (first_of itself number events.now) }
-    ensures later { result.1.now ≡ behind itself number events.now }
+// Gives a party as many turns as a lone call can need. Those behind the end of its call would be skipped without a word, so they are not made.
+fn take_run<A: Allocator + Copy, B: Allocator>(
+    alloc: A,
+    course: &mut Course<u64, A>,
+    turn: Turn,
+    text: &mut String<B>,
+) -> Result<(), AllocError>
+    requires on_course { IsOnCourse course.old }
+    requires run { turn.said.action ≡ Run }
+    ensures { OnOk result (Takes (replicate LONE_STEPS turn) course.old (string_bytes text.old) course.new (string_bytes text.new)) }
 {
-    match events {
-        [event, later @ ..] if *event == number => (true, later),
-        _ => (false, events),
+    for _ in 0..LONE_STEPS {
+        if !course.is_in_call(turn.said.party as usize) {
+            return Ok(());
+        }
+        take_turn(alloc, course, turn, text)?;
     }
+    Ok(())
 }
 
-// What is told of an event that was skipped, or had this effect and this reply.
-fn told_of(is_skipped: bool, effect: Option<EffectKind>, reply: Option<Reply<u64>>) -> Told<u64>
-    ensures { result ≡ (if is_skipped then Skipped else Ran effect reply) }
+// Gives a party one turn.
+fn take_turn<A: Allocator + Copy, B: Allocator>(
+    alloc: A,
+    course: &mut Course<u64, A>,
+    turn: Turn,
+    text: &mut String<B>,
+) -> Result<(), AllocError>
+    requires { IsOnCourse course.old }
+    ensures { OnOk result (Takes (turn ∷ []) course.old (string_bytes text.old) course.new (string_bytes text.new)) }
 {
-    if is_skipped {
-        Told::Skipped
-    } else {
-        Told::Ran(effect, reply)
-    }
+    course.make_room()?;
+    let told = course.handle(alloc, event_of(turn.said));
+    write_turn(turn, told, text)
 }
 
 // Appends what is told of one turn.

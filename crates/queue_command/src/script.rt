@@ -22,7 +22,7 @@ use std::io::{Read, Write};
 /// # Errors
 ///
 /// `InputFailed`, then `Unreadable`, then `OutputFailed`, and `NoMemory` wherever it is met. On `OutputFailed` a
-/// beginning of the output may be written.
+/// beginning of the right output may be written.
 pub fn script<A: Allocator, I: Read, O: Write>(
     alloc: &A,
     kind: KindName,
@@ -33,7 +33,7 @@ pub fn script<A: Allocator, I: Read, O: Write>(
     ensures { MatchResult result
         (λ _. IsRun IsCallOfWord call_text (IsTranscript kind)
         (I.remaining input.old) (O.contents output.old) (O.contents output.new))
-        (IsRunFault IsCallOfWord call_text
+        (IsRunFault IsCallOfWord call_text (IsTranscript kind)
         (I.remaining input.old) (O.contents output.old) (O.contents output.new)) }
 {
     let bytes = read_input(alloc, input)?;

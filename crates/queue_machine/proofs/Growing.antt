@@ -32,7 +32,7 @@ moves-grows : {T : Type 0} (Q : State T) (o : Open T) (k : Option EffectKind) (R
 moves-grows Q o None R es m = let e : length R.items ≡ length Q.items = ap (λ q. length q.items) m.0 in omega arith
 moves-grows Q o (Some k) R es m = let e : length R.items ≡ length (made m.0 Q).items = ap (λ q. length q.items) m.4 in omega (arith, made-grows m.0 Q)
 
-happens-grows : {T : Type 0} (cap : Option ℕ) (parties : ℕ) (b : Book T) (e : Event T) (t : Told T) (c : Book T) → Happens cap parties b e t c → length c.queue.items ≤ length b.queue.items + 1
+pub happens-grows : {T : Type 0} (cap : Option ℕ) (parties : ℕ) (b : Book T) (e : Event T) (t : Told T) (c : Book T) → Happens cap parties b e t c → length c.queue.items ≤ length b.queue.items + 1
 happens-grows cap parties b e Skipped c h = let s : length c.queue.items ≡ length b.queue.items = ap (λ x. length x.queue.items) h.1 in omega arith
 happens-grows cap parties b (Begin p k) (Ran None None) c h = let s : length c.queue.items ≡ length b.queue.items = ap (λ x. length x.queue.items) h.2 in omega arith
 happens-grows cap parties b (Begin p k) (Ran None (Some r)) c h = let s : length c.queue.items ≡ length b.queue.items = ap (λ x. length x.queue.items) h.3 in omega arith

@@ -55,6 +55,8 @@ pub mod Presence
 pub mod Peaking
 pub mod SoFar
 pub mod AllKinds
+pub mod Courses
+pub mod Noting
 pub mod OneOwner
 pub mod OneOwnerRun
 pub mod Entries

@@ -1,5 +1,5 @@
 -- No event makes more blocks than there were, unless one was granted.
-use Rattle.std.proofs.Common.{◌≡◌, ◌==◌, ◌&&◌, ℕ, ◌+◌, ◌≤◌, zero, suc, Bool, true, false, if◌then◌else◌, Option, Some, None, List, [], ◌∷◌, ◌++◌, length, refl, arith, get_or, set, length-append}
+use Rattle.std.proofs.Common.{◌≡◌, ◌==◌, ◌&&◌, ℕ, ◌+◌, ◌≤◌, zero, suc, Bool, true, false, if◌then◌else◌, Option, Some, None, is_some, List, [], ◌∷◌, ◌++◌, length, refl, arith, get_or, set, length-append}
 use Rattle.std.proofs.lemmas.List.{length-set}
 use Rattle.queue_steps.specs.declared.model.Reply.{Reply}
 use Rattle.queue_steps.specs.declared.steps.types.Kind.{Kind}
@@ -33,6 +33,40 @@ present-set (Some y ∷ xs) zero None le = omega arith
 present-set (Some y ∷ xs) zero (Some x) le = omega arith
 present-set (None ∷ xs) (suc i) x le = present-set xs i x le
 present-set (Some y ∷ xs) (suc i) x le = let a = present-set xs i x le in omega arith
+
+-- where one that is there gives way to another, or none to none, there are as many
+present-same : {X : Type 0} (xs : List (Option X)) (i : ℕ) (x : Option X) → one_if x ≡ one_if (get_or xs i None) → present (set xs i x) ≡ present xs
+present-same [] i x same = refl
+present-same (None ∷ xs) zero None same = refl
+present-same (None ∷ xs) zero (Some x) same = absurd (omega arith)
+present-same (Some y ∷ xs) zero None same = absurd (omega arith)
+present-same (Some y ∷ xs) zero (Some x) same = refl
+present-same (None ∷ xs) (suc i) x same = present-same xs i x same
+present-same (Some y ∷ xs) (suc i) x same = let a = present-same xs i x same in omega arith
+
+-- where a block is written, there are as many
+pub written-present : {X : Type 0} (xs : List (Option X)) (i : ℕ) (x y : X) → get_or xs i None ≡ Some x → present (set xs i (Some y)) ≡ present xs
+written-present xs i x y there = present-same xs i (Some y) (rw there refl)
+
+-- where a block is taken away, if it is there, there is one less
+pub taken-present : {X : Type 0} (xs : List (Option X)) (i : ℕ) → present xs ≡ present (set xs i None) + (if is_some (get_or xs i None) then 1 else 0)
+taken-present [] i = refl
+taken-present (None ∷ xs) zero = omega arith
+taken-present (Some y ∷ xs) zero = refl
+taken-present (None ∷ xs) (suc i) = taken-present xs i
+taken-present (Some y ∷ xs) (suc i) = let a = taken-present xs i in omega arith
+
+-- where one is put behind the others, there is one more
+pub granted-present : {X : Type 0} (xs : List (Option X)) (x : X) → present (xs ++ Some x ∷ []) ≡ present xs + 1
+granted-present [] x = refl
+granted-present (None ∷ xs) x = granted-present xs x
+granted-present (Some y ∷ xs) x = let a = granted-present xs x in omega arith
+
+-- there are no more than places for them
+pub present-few : {X : Type 0} (xs : List (Option X)) → present xs ≤ length xs
+present-few [] = omega arith
+present-few (None ∷ xs) = let a = present-few xs in omega arith
+present-few (Some y ∷ xs) = let a = present-few xs in omega arith
 
 -- as many numbers are given out, and no more blocks are there
 abbrev NoMore : {T : Type 0} → List (Option (Block T)) → List (Option (Block T)) → Type 0

@@ -1,28 +1,25 @@
 -- A run of the machine so far, and what is told of it. Whatever kind of queue it is, it keeps its laws.
 use Rattle.std.proofs.Common.{ℕ, ◌+◌, ◌/◌, ◌<◌, ◌≤◌, ◌≡◌, ◌∙◌, Bool, Option, Some, None, List, [], ◌∷◌, ◌++◌, length, refl, sym, ap, subst, arith, zero, suc, append_assoc, append-nil, get_or, replicate}
-use Rattle.queue_steps.specs.declared.model.Reply.{Reply}
 use Rattle.queue_steps.specs.declared.sizes.TheConstants.{BLOCK_SLOTS}
 use Rattle.queue_steps.specs.declared.steps.types.Kind.{Kind}
 use Rattle.queue_machine.specs.declared.machine.Running.{Running}
-use Rattle.queue_machine.specs.declared.types.EffectKind.{EffectKind}
 use Rattle.queue_machine.specs.declared.types.Event.{Event}
 use Rattle.queue_machine.specs.declared.types.Told.{Told}
 use Rattle.queue_machine.specs.Book.{Book, Run, Happens, opening}
 use Rattle.queue_machine.specs.Cells.{Shared, CanStep, step_of, start_of}
-use Rattle.queue_machine.specs.Conforms.{capacity_of, party_of, entries_from, reply_entry, effect_entry, skipped_entry}
+use Rattle.queue_machine.specs.Conforms.{capacity_of, party_of, entries_from}
 use Rattle.queue_machine.specs.Left.{left_of, opening_world}
 use Rattle.queue_machine.specs.Machine.{event_of}
 use Rattle.queue_machine.specs.World.{World, call_at}
 use Rattle.queue_machine.specs.Present.{present}
 use Rattle.queue_machine.proofs.Engine as engine
 use Rattle.queue_machine.proofs.KindLaws.{KindLaws, SimulatesOf}
-use Rattle.queue_machine.proofs.Growing.{run-grows, run-cap}
+use Rattle.queue_machine.proofs.Growing.{run-grows, run-cap, happens-grows}
 use Rattle.queue_machine.proofs.Peaking.{Run-length, peak-first, peak-more, peaked-covers}
 use Rattle.queue_machine.specs.Peaks.{bound_of, opening_peak, peaked}
 use Rattle.queue_machine.specs.declared.types.Peak.{Peak}
 use Rattle.queue_machine.specs.World.{World}
-use Rattle.queue_machine.specs.declared.types.Replay.{Replay}
-use Rattle.queue_machine.specs.Conforms.{Conforms, IsPeak, HasNoBlocks, share}
+use Rattle.queue_machine.specs.Conforms.{IsPeak, HasNoBlocks, share}
 
 -- a run goes on by one event
 Run-more : {T : Type 0} (cap : Option ℕ) (parties : ℕ) (b : Book T) (es : List (Event T)) (ts : List (Told T)) (mid : Book T) (e : Event T) (t : Told T) (c : Book T)
@@ -42,15 +39,17 @@ entries-more entry n k (x ∷ es) (y ∷ ts) e t same is =
 entries-more entry n k [] (y ∷ ts) e t same is = cc
 entries-more entry n k (x ∷ es) [] e t same is = cc
 
+-- the entries of one event more, as a list of them has them
+pub noted : {T E : Type 0} (entry : ℕ → ℕ → Told T → List E) (n p : ℕ) (past : List (Event T)) (told : List (Told T)) (e : Event T) (t : Told T) (xs ys : List E)
+    → length past ≡ length told → n ≡ length past → p ≡ party_of e → xs ≡ entries_from entry 0 past told → ys ≡ xs ++ entry n p t → ys ≡ entries_from entry 0 (past ++ e ∷ []) (told ++ t ∷ [])
+noted entry n p past told e t xs ys same number party before after =
+    after ∙ ap (λ q. xs ++ entry n q t) party ∙ ap (λ l. l ++ entry n (party_of e) t) before ∙ sym (entries-more entry 0 n past told e t same (omega arith))
+
 -- what is known after these events
-pub record SoFar {T : Type 0} {k : Kind} (laws : KindLaws T k) (parties : ℕ) (past : List (Event T)) (w : World (Shared T) (Running T)) (replies : List (ℕ × ℕ × Reply T)) (effects : List (ℕ × ℕ × EffectKind)) (skipped : List ℕ) (peak : Peak) : Type 0 where
-  pub told : List (Told T)
+pub record SoFar {T : Type 0} {k : Kind} (laws : KindLaws T k) (parties : ℕ) (past : List (Event T)) (told : List (Told T)) (w : World (Shared T) (Running T)) (peak : Peak) : Type 0 where
   pub book : Book T
   pub run : Run (capacity_of k) parties (opening (capacity_of k)) past told book
   pub simulates : SimulatesOf T k laws.G laws.Holds laws.Idle laws.Fits parties w book
-  pub replies_are : replies ≡ entries_from reply_entry 0 past told
-  pub effects_are : effects ≡ entries_from effect_entry 0 past told
-  pub skipped_are : skipped ≡ entries_from skipped_entry 0 past told
   pub highest : IsPeak (capacity_of k) parties past told peak
   pub no_blocks : HasNoBlocks (capacity_of k) peak
   pub covers : present w.shared.blocks ≤ peak.blocks
@@ -69,9 +68,8 @@ none_are_busy X zero = refl
 none_are_busy X (suc n) = none_are_busy X n
 
 -- before the first event
-pub so_far-first : {T : Type 0} {k : Kind} (laws : KindLaws T k) (parties : ℕ) → SoFar laws parties [] (opening_world k parties) [] [] [] opening_peak
+pub so_far-first : {T : Type 0} {k : Kind} (laws : KindLaws T k) (parties : ℕ) → SoFar laws parties [] [] (opening_world k parties) opening_peak
 so_far-first {T} {k} laws parties = record {
-  told = [];
   book = opening (capacity_of k);
   run = refl;
   simulates = record {
@@ -81,9 +79,6 @@ so_far-first {T} {k} laws parties = record {
     holds = laws.opens;
     each = λ p. rw (nobody_calls {X = Option (Running T)} parties p None) (laws.all_idle p);
   };
-  replies_are = refl;
-  effects_are = refl;
-  skipped_are = refl;
   highest = peak-first (capacity_of k) parties;
   no_blocks = none-first (capacity_of k);
   covers = omega arith;
@@ -105,56 +100,48 @@ none-more None w p none h = tt
 none-more (Some n) w p none h = rw (none n refl, h.0) (refl, h.1)
 
 -- after one event more
-pub so_far-more : {T : Type 0} {k : Kind} (laws : KindLaws T k) (parties : ℕ) (past : List (Event T)) (w : World (Shared T) (Running T)) (replies : List (ℕ × ℕ × Reply T)) (effects : List (ℕ × ℕ × EffectKind)) (skipped : List ℕ) (peak : Peak) (ok : Bool) (e : Event T)
-    → SoFar laws parties past w replies effects skipped peak
-    → SoFar laws parties (past ++ e ∷ []) (event_of k ok w e).0
-    (replies ++ reply_entry (length past) (party_of e) (event_of k ok w e).1)
-    (effects ++ effect_entry (length past) (party_of e) (event_of k ok w e).1)
-    (skipped ++ skipped_entry (length past) (party_of e) (event_of k ok w e).1)
-    (peaked (event_of k ok w e).0 peak)
-so_far-more {T} {k} laws parties past w replies effects skipped peak ok e s =
+pub so_far-more : {T : Type 0} {k : Kind} (laws : KindLaws T k) (parties : ℕ) (past : List (Event T)) (told : List (Told T)) (w : World (Shared T) (Running T)) (peak : Peak) (ok : Bool) (e : Event T)
+    → SoFar laws parties past told w peak
+    → SoFar laws parties (past ++ e ∷ []) (told ++ (event_of k ok w e).1 ∷ []) (event_of k ok w e).0 (peaked (event_of k ok w e).0 peak)
+so_far-more {T} {k} laws parties past told w peak ok e s =
     let t = (event_of k ok w e).1 in
     let after = (event_of k ok w e).0 in
     let next = engine.simulates_event T (Shared T) (Running T) laws.G (capacity_of k) (step_of k) (start_of k) (CanStep k) laws.Holds laws.Idle laws.Fits laws.laws parties w s.book s.simulates ok e in
-    let same = Run-length (capacity_of k) parties (opening (capacity_of k)) past s.told s.book s.run in
-    let run = Run-more (capacity_of k) parties (opening (capacity_of k)) past s.told s.book e t next.0 s.run next.1 in
+    let same = Run-length (capacity_of k) parties (opening (capacity_of k)) past told s.book s.run in
+    let run = Run-more (capacity_of k) parties (opening (capacity_of k)) past told s.book e t next.0 s.run next.1 in
     let counts = laws.counts parties after next.0 next.2 in
     record {
-      told = s.told ++ t ∷ [];
       book = next.0;
       run = run;
       simulates = next.2;
-      replies_are = ap (λ l. l ++ reply_entry (length past) (party_of e) t) s.replies_are ∙ sym (entries-more reply_entry 0 (length past) past s.told e t same (omega arith));
-      effects_are = ap (λ l. l ++ effect_entry (length past) (party_of e) t) s.effects_are ∙ sym (entries-more effect_entry 0 (length past) past s.told e t same (omega arith));
-      skipped_are = ap (λ l. l ++ skipped_entry (length past) (party_of e) t) s.skipped_are ∙ sym (entries-more skipped_entry 0 (length past) past s.told e t same (omega arith));
-      highest = peak-more (capacity_of k) parties past s.told e t after next.0 peak same run s.highest counts.within (bound-share laws parties after next.0 next.2) counts.spans;
-      no_blocks = none-more (capacity_of k) after peak (λ n capped. counts.none n (run-cap (capacity_of k) parties (opening (capacity_of k)) (past ++ e ∷ []) (s.told ++ t ∷ []) next.0 run ∙ capped)) s.no_blocks;
+      highest = peak-more (capacity_of k) parties past told e t after next.0 peak same run s.highest counts.within (bound-share laws parties after next.0 next.2) counts.spans;
+      no_blocks = none-more (capacity_of k) after peak (λ n capped. counts.none n (run-cap (capacity_of k) parties (opening (capacity_of k)) (past ++ e ∷ []) (told ++ t ∷ []) next.0 run ∙ capped)) s.no_blocks;
       covers = peaked-covers after peak;
     }
 
 -- the next step of a call in progress can be taken
-pub so_far-can : {T : Type 0} {k : Kind} (laws : KindLaws T k) (parties : ℕ) (past : List (Event T)) (w : World (Shared T) (Running T)) (replies : List (ℕ × ℕ × Reply T)) (effects : List (ℕ × ℕ × EffectKind)) (skipped : List ℕ) (peak : Peak)
-    → SoFar laws parties past w replies effects skipped peak → (ok : Bool) (p : ℕ) (r : Running T) → call_at w p ≡ Some r → CanStep k ok w.shared r
-so_far-can {T} {k} laws parties past w replies effects skipped peak s ok p r in_call =
+pub so_far-can : {T : Type 0} {k : Kind} (laws : KindLaws T k) (parties : ℕ) (past : List (Event T)) (told : List (Told T)) (w : World (Shared T) (Running T)) (peak : Peak)
+    → SoFar laws parties past told w peak → (ok : Bool) (p : ℕ) (r : Running T) → call_at w p ≡ Some r → CanStep k ok w.shared r
+so_far-can {T} {k} laws parties past told w peak s ok p r in_call =
     engine.can_take T (Shared T) (Running T) laws.G (capacity_of k) (step_of k) (start_of k) (CanStep k) laws.Holds laws.Idle laws.Fits laws.laws parties w s.book s.simulates ok p r in_call
 
 -- what is left is no more than the events
-pub so_far-room : {T : Type 0} {k : Kind} (laws : KindLaws T k) (parties : ℕ) (past : List (Event T)) (w : World (Shared T) (Running T)) (replies : List (ℕ × ℕ × Reply T)) (effects : List (ℕ × ℕ × EffectKind)) (skipped : List ℕ) (peak : Peak)
-    → SoFar laws parties past w replies effects skipped peak → length (left_of k w) ≤ length past
-so_far-room {T} {k} laws parties past w replies effects skipped peak s =
+pub so_far-room : {T : Type 0} {k : Kind} (laws : KindLaws T k) (parties : ℕ) (past : List (Event T)) (told : List (Told T)) (w : World (Shared T) (Running T)) (peak : Peak)
+    → SoFar laws parties past told w peak → length (left_of k w) ≤ length past
+so_far-room {T} {k} laws parties past told w peak s =
     let left = ap (λ l. length l) (laws.leaves parties w s.book s.simulates) in
-    omega (arith, left, run-grows (capacity_of k) parties (opening (capacity_of k)) past s.told s.book s.run)
+    omega (arith, left, run-grows (capacity_of k) parties (opening (capacity_of k)) past told s.book s.run)
 
--- the whole run
-pub so_far-end : {T A : Type 0} {k : Kind} (laws : KindLaws T k) (parties : ℕ) (events : List (Event T)) (w : World (Shared T) (Running T)) (r : Replay T A)
-    → SoFar laws parties events w r.replies.items r.effects.items r.skipped.items r.peak → r.left.items ≡ left_of k w → Conforms (capacity_of k) parties events r
-so_far-end laws parties events w r s left = record {
-  told = s.told;
-  last = s.book;
-  run = s.run;
-  replies = s.replies_are;
-  effects = s.effects_are;
-  skipped = s.skipped_are;
-  left = left ∙ laws.leaves parties w s.book s.simulates;
-  peak = s.highest;
-}
+-- and an event leaves one more at most
+pub so_far-grows : {T : Type 0} {k : Kind} (laws : KindLaws T k) (parties : ℕ) (past : List (Event T)) (told : List (Told T)) (w : World (Shared T) (Running T)) (peak : Peak) (ok : Bool) (e : Event T)
+    → SoFar laws parties past told w peak → length (left_of k (event_of k ok w e).0) ≤ length (left_of k w) + 1
+so_far-grows {T} {k} laws parties past told w peak ok e s =
+    let next = engine.simulates_event T (Shared T) (Running T) laws.G (capacity_of k) (step_of k) (start_of k) (CanStep k) laws.Holds laws.Idle laws.Fits laws.laws parties w s.book s.simulates ok e in
+    let before = ap (λ l. length l) (laws.leaves parties w s.book s.simulates) in
+    let after = ap (λ l. length l) (laws.leaves parties (event_of k ok w e).0 next.0 next.2) in
+    omega (arith, before, after, happens-grows (capacity_of k) parties s.book e (event_of k ok w e).1 next.0 next.1)
+
+-- what is left is the list of the last book
+pub so_far-left : {T : Type 0} {k : Kind} (laws : KindLaws T k) (parties : ℕ) (past : List (Event T)) (told : List (Told T)) (w : World (Shared T) (Running T)) (peak : Peak)
+    → (s : SoFar laws parties past told w peak) → left_of k w ≡ s.book.queue.items
+so_far-left laws parties past told w peak s = laws.leaves parties w s.book s.simulates

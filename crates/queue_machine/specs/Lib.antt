@@ -10,6 +10,7 @@ pub mod Left
 pub mod Machine
 pub mod Peaks
 pub mod Replays
+pub mod Courses
 pub mod OneOwner
 pub mod InCall
 pub mod Meaning

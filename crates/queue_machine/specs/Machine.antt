@@ -7,6 +7,7 @@ use Rattle.queue_machine.specs.declared.machine.Running.{Running}
 use Rattle.queue_machine.specs.declared.types.Event.{Event}
 use Rattle.queue_machine.specs.declared.types.Event.TheVariants.{Begin, Step}
 use Rattle.queue_machine.specs.declared.types.Told.{Told}
+use Rattle.queue_machine.specs.Present.{present}
 use Rattle.queue_machine.specs.World.{World, call_at, world_event}
 use Rattle.queue_machine.specs.Cells.{Shared, shared_of, CanStart, CanStep, step_of, start_of}
 
@@ -26,6 +27,10 @@ HasSameRoom c d = (vec_len d.blocks ≡ vec_len c.blocks) × (vec_capacity d.blo
 
 abbrev pub KeepsRoom : {T A : Type 0} → Cells T A → Cells T A → Type 0
 KeepsRoom c d = (vec_len d.blocks ≤ vec_len c.blocks + 1) × (vec_capacity d.blocks ≡ vec_capacity c.blocks)
+
+-- the count that stands beside the blocks is how many of them are there
+abbrev pub HasCount : {T A : Type 0} → Cells T A → Type 0
+HasCount c = c.alive ≡ present c.blocks.items
 
 -- the machine after an event, and what is told of it. `ok` says whether the allocator grants a block that is asked for
 abbrev pub event_of : {T : Type 0} → Kind → Bool → World (Shared T) (Running T) → Event T → World (Shared T) (Running T) × Told T

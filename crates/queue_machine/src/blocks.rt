@@ -1,6 +1,7 @@
 //! The blocks of an unbounded queue, as the machine has them.
-ghost use Rattle.std.specs.Prelude.{◌≡◌, ◌<◌, IfOk, IsSome, None, Some, is_some, nat_lt, length, replicate, slice_index_or, slice_set, vec_len, vec_capacity};
-ghost use Rattle.queue_machine.specs.Blocks.{Block as Places, blank, fresh_block, block_of, place_count, state_of, item_of, behind, put_state, put_item, put_next};
+ghost use Rattle.std.specs.Prelude.{◌≡◌, ◌<◌, ◌+◌, if◌then◌else◌, IfOk, IsSome, None, Some, is_some, nat_lt, length, replicate, slice_index_or, slice_set, vec_len, vec_capacity};
+ghost use Rattle.queue_machine.specs.Present.{present};
+ghost use Rattle.queue_machine.specs.Blocks.{Block as Places, blank, fresh_block, block_of, place_count, state_of, item_of, behind, put_state, put_item, put_next, without};
 
 use queue_steps::sizes::BLOCK_SLOTS;
 use std::alloc::{AllocError, Allocator};
@@ -126,6 +127,7 @@ pub(crate) fn set_state<T, A: Allocator>(
 )
     requires { slot < place_count blocks.old.items block }
     ensures blocks { blocks.new.items ≡ put_state blocks.old.items block slot state }
+    ensures count { present blocks.new.items ≡ present blocks.old.items }
     ensures room { (vec_len blocks.new ≡ vec_len blocks.old) × (vec_capacity blocks.new ≡ vec_capacity blocks.old) }
 {
     if let Some(block) = &mut blocks[block] {
@@ -143,6 +145,7 @@ pub(crate) fn replace<T, A: Allocator>(
     requires { slot < place_count blocks.old.items block }
     ensures blocks { blocks.new.items ≡ put_item blocks.old.items block slot item }
     ensures before { result ≡ item_of blocks.old.items block slot }
+    ensures count { present blocks.new.items ≡ present blocks.old.items }
     ensures room { (vec_len blocks.new ≡ vec_len blocks.old) × (vec_capacity blocks.new ≡ vec_capacity blocks.old) }
 {
     match &mut blocks[block] {
@@ -173,10 +176,26 @@ pub(crate) fn set_next<T, A: Allocator>(
 )
     requires { IsSome (block_of blocks.old.items block) }
     ensures blocks { blocks.new.items ≡ put_next blocks.old.items block (Some next) }
+    ensures count { present blocks.new.items ≡ present blocks.old.items }
     ensures room { (vec_len blocks.new ≡ vec_len blocks.old) × (vec_capacity blocks.new ≡ vec_capacity blocks.old) }
 {
     if let Some(block) = &mut blocks[block] {
         block.set_next(next);
+    }
+}
+
+/// Gives the block of this number up, and tells whether there was one to be given up.
+pub(crate) fn give_up<T: Drop, A: Allocator>(
+    blocks: &mut Vec<Option<Block<T, A>>, A>,
+    block: Option<usize>,
+) -> bool
+    ensures blocks { blocks.new.items ≡ without block blocks.old.items }
+    ensures count { present blocks.old.items ≡ present blocks.new.items + (if result then 1 else 0) }
+    ensures room { (vec_len blocks.new ≡ vec_len blocks.old) × (vec_capacity blocks.new ≡ vec_capacity blocks.old) }
+{
+    match block {
+        Some(block) if block < blocks.len() => blocks[block].take().is_some(),
+        _ => false,
     }
 }
 

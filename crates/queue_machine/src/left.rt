@@ -123,6 +123,7 @@ pub(crate) fn left<T: Drop, A: Allocator>(machine: Machine<T, A>, left: Vec<T, A
         head_block,
         tail_block: _,
         blocks,
+        alive: _,
     } = cells;
     match kind {
         Kind::Unbounded => chain_left::left(calls, head_block, blocks, left),

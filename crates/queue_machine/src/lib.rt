@@ -3,6 +3,7 @@
 
 pub mod blocks;
 mod chain_left;
+pub mod course;
 pub mod laws;
 mod left;
 pub mod machine;

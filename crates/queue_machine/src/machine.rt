@@ -6,7 +6,7 @@ ghost use Rattle.queue_steps.specs.Words.{IsRing};
 ghost use Rattle.queue_steps.specs.declared.steps.types.Answer.TheVariants.{Found as SpecFound};
 ghost use Rattle.queue_machine.specs.EffectOf.{single_effect, bounded_effect, unbounded_effect, effect_of};
 ghost use Rattle.queue_machine.specs.Cells.{HasWord, word_at, put_word, HasLink, link_at, put_link, CanOperate, asked, granted_if, answered, operated, block_touched, slots_there, item_at, put_at, CanTouch, touched, handed, shared_of, running_after, reply_after, CanReply, CanStep, CanStart, step_of, spare_in};
-ghost use Rattle.queue_machine.specs.Machine.{HasRoom, KeepsRoom, HasSameRoom};
+ghost use Rattle.queue_machine.specs.Machine.{HasRoom, KeepsRoom, HasSameRoom, HasCount};
 ghost use Rattle.queue_machine.specs.World.{stepped};
 ghost use Rattle.ring_laws.proofs.RingOpening.{numbers_below};
 ghost use Rattle.queue_machine.specs.Left.{slot_count, opening_stamps, opening_world};
@@ -60,6 +60,8 @@ pub struct Cells<T, A: Allocator> {
     pub tail_block: Option<usize>,
     /// The blocks, by their numbers, in the order in which they were granted. A block that was given up is there no more.
     pub blocks: Vec<Option<Block<T, A>>, A>,
+    /// How many of the blocks are there.
+    pub alive: usize,
 }
 
 impl<T, A: Allocator> Cells<T, A> {
@@ -79,9 +81,11 @@ impl<T, A: Allocator> Cells<T, A> {
 
     /// Writes a word.
     fn store(&mut self, word: Word<usize>, value: u64)
-        requires { HasWord (shared_of self.old) word }
+        requires can { HasWord (shared_of self.old) word }
+        requires counted { HasCount self.old }
         ensures cells { shared_of self.new ≡ put_word (shared_of self.old) word value }
         ensures room { HasSameRoom self.old self.new }
+        ensures counted { HasCount self.new }
     {
         match word {
             Word::Lock => self.lock = value,
@@ -106,9 +110,11 @@ impl<T, A: Allocator> Cells<T, A> {
 
     /// Writes a link.
     fn lead(&mut self, link: Link<usize>, block: usize)
-        requires { HasLink (shared_of self.old) link }
+        requires can { HasLink (shared_of self.old) link }
+        requires counted { HasCount self.old }
         ensures cells { shared_of self.new ≡ put_link (shared_of self.old) link block }
         ensures room { HasSameRoom self.old self.new }
+        ensures counted { HasCount self.new }
     {
         match link {
             Link::HeadBlock => self.head_block = Some(block),
@@ -119,11 +125,13 @@ impl<T, A: Allocator> Cells<T, A> {
 
     /// Asks for a block, unless it is refused from the start. Whether there is one is told beside the answer.
     fn ask(&mut self, alloc: A, granted: bool) -> (Answer<usize>, bool)
-        requires { HasRoom self.old }
+        requires room { HasRoom self.old }
+        requires counted { HasCount self.old }
         ensures refused { granted ≡ false → result.1 ≡ false }
         ensures answer { result.0 ≡ asked result.1 (shared_of self.old) }
         ensures cells { shared_of self.new ≡ granted_if result.1 (shared_of self.old) }
         ensures room { KeepsRoom self.old self.new }
+        ensures counted { HasCount self.new }
     {
         if !granted {
             return (Answer::Refused, false);
@@ -132,6 +140,7 @@ impl<T, A: Allocator> Cells<T, A> {
             Ok(block) => {
                 let number = self.blocks.len();
                 self.blocks.push_reserved(Some(block));
+                self.alive += 1;
                 (Answer::Granted(number), true)
             }
             Err(_) => (Answer::Refused, false),
@@ -142,10 +151,12 @@ impl<T, A: Allocator> Cells<T, A> {
     fn perform(&mut self, alloc: A, op: Op<usize>, granted: bool) -> (Answer<usize>, bool)
         requires can { CanOperate (shared_of self.old) op }
         requires room { HasRoom self.old }
+        requires counted { HasCount self.old }
         ensures refused { granted ≡ false → result.1 ≡ false }
         ensures answer { result.0 ≡ answered result.1 (shared_of self.old) op }
         ensures cells { shared_of self.new ≡ operated result.1 (shared_of self.old) op }
         ensures room { KeepsRoom self.old self.new }
+        ensures counted { HasCount self.new }
     {
         let answer = match op {
             Op::Load(word) => Answer::Found(self.load(word)),
@@ -194,10 +205,12 @@ impl<T, A: Allocator> Cells<T, A> {
 
     /// The slot and the call exchange what they hold.
     fn touch(&mut self, touch: Touch, op: Op<usize>, carried: Option<T>) -> Option<T>
-        requires { CanTouch touch (slots_there (shared_of self.old) (block_touched op)) }
+        requires can { CanTouch touch (slots_there (shared_of self.old) (block_touched op)) }
+        requires counted { HasCount self.old }
         ensures cells { shared_of self.new ≡ touched touch (block_touched op) (shared_of self.old) carried }
         ensures carried { result ≡ handed touch (block_touched op) (shared_of self.old) carried }
         ensures room { HasSameRoom self.old self.new }
+        ensures counted { HasCount self.new }
     {
         match touch {
             Touch::Nothing => carried,
@@ -211,10 +224,12 @@ impl<T, A: Allocator> Cells<T, A> {
 
     /// A slot, of a queue with a capacity or of a block, holds this, and what it held is handed out.
     fn replace(&mut self, block: Option<usize>, slot: usize, item: Option<T>) -> Option<T>
-        requires { slot < slots_there (shared_of self.old) block }
+        requires can { slot < slots_there (shared_of self.old) block }
+        requires counted { HasCount self.old }
         ensures cells { shared_of self.new ≡ put_at (shared_of self.old) block slot item }
         ensures before { result ≡ item_at (shared_of self.old) block slot }
         ensures room { HasSameRoom self.old self.new }
+        ensures counted { HasCount self.new }
     {
         match block {
             None => mem::replace(&mut self.slots[slot], item),
@@ -438,6 +453,7 @@ impl<T: Drop, A: Allocator + Copy> Machine<T, A> {
         ensures kind { IfOk result (λ m. m.kind ≡ kind) }
         ensures world { IfOk result (λ m. world_of m ≡ opening_world kind parties) }
         ensures room { IfOk result (λ m. HasRoomFor m.cells events) }
+        ensures counted { IfOk result (λ m. HasCount m.cells) }
     {
         let cells = Cells {
             lock: 0,
@@ -448,6 +464,7 @@ impl<T: Drop, A: Allocator + Copy> Machine<T, A> {
             head_block: None,
             tail_block: None,
             blocks: Vec::with_capacity(alloc, events)?,
+            alive: 0,
         };
         Ok(Machine {
             kind,
@@ -470,13 +487,13 @@ fn spare(next: Next<usize>) -> Option<usize>
 impl<T: Drop, A: Allocator> Cells<T, A> {
     /// Gives the block of this number up, if there is one to be given up.
     fn give_up(&mut self, block: Option<usize>)
+        requires counted { HasCount self.old }
         ensures cells { shared_of self.new ≡ record (shared_of self.old) { blocks = without block self.old.blocks.items } }
         ensures room { HasSameRoom self.old self.new }
+        ensures counted { HasCount self.new }
     {
-        if let Some(block) = block {
-            if block < self.blocks.len() {
-                self.blocks[block] = None;
-            }
+        if blocks::give_up(&mut self.blocks, block) {
+            self.alive -= 1;
         }
     }
 }
@@ -486,9 +503,11 @@ impl<T: Drop, A: Allocator> Machine<T, A> {
     pub fn handle(&mut self, alloc: A, event: Event<T>) -> Told<T>
         requires can { CanHandle self.old.kind (world_of self.old) event }
         requires room { HasRoom self.old.cells }
+        requires counted { HasCount self.old.cells }
         ensures kind { self.new.kind ≡ self.old.kind }
         ensures handles { Handles self.old.kind (world_of self.old) event (world_of self.new) result }
         ensures room { KeepsRoom self.old.cells self.new.cells }
+        ensures counted { HasCount self.new.cells }
     {
         match event {
             Event::Begin(party, call) => { self.begin(party, call) }
@@ -506,11 +525,13 @@ impl<T: Drop, A: Allocator> Machine<T, A> {
 
     /// A party begins a call.
     fn begin(&mut self, party: usize, call: Call<T>) -> Told<T>
-        requires { CanStart self.old.kind call }
+        requires can { CanStart self.old.kind call }
+        requires counted { HasCount self.old.cells }
         ensures kind { self.new.kind ≡ self.old.kind }
         ensures world { world_of self.new ≡ (event_of self.old.kind false (world_of self.old) (Begin party call)).0 }
         ensures told { result ≡ (event_of self.old.kind false (world_of self.old) (Begin party call)).1 }
         ensures room { HasSameRoom self.old.cells self.new.cells }
+        ensures counted { HasCount self.new.cells }
     {
         if party >= self.calls.len() || self.calls[party].is_some() {
             return Told::Skipped;
@@ -535,11 +556,13 @@ impl<T: Drop, A: Allocator> Machine<T, A> {
         requires party { party < vec_len self.old.calls }
         requires can { (ok : Bool) → CanStep self.old.kind ok (shared_of self.old.cells) running }
         requires room { HasRoom self.old.cells }
+        requires counted { HasCount self.old.cells }
         ensures refused { granted ≡ false → result.1 ≡ false }
         ensures kind { self.new.kind ≡ self.old.kind }
         ensures world { world_of self.new ≡ (stepped (world_of self.old) party (step_of self.old.kind result.1 (shared_of self.old.cells) running)).0 }
         ensures told { result.0 ≡ (stepped (world_of self.old) party (step_of self.old.kind result.1 (shared_of self.old.cells) running)).1 }
         ensures room { KeepsRoom self.old.cells self.new.cells }
+        ensures counted { HasCount self.new.cells }
     {
         let Running {
             local,

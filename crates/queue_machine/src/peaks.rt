@@ -3,7 +3,7 @@ ghost use Rattle.std.specs.Prelude.{◌≡◌, ◌<◌, ◌^◌, nat_lt, if◌th
 ghost use Rattle.queue_steps.specs.Words.{position_of};
 ghost use Rattle.queue_steps.specs.ChainWords.{items_before};
 ghost use Rattle.queue_machine.specs.Cells.{shared_of};
-ghost use Rattle.queue_machine.specs.Machine.{world_of};
+ghost use Rattle.queue_machine.specs.Machine.{world_of, HasCount};
 ghost use Rattle.queue_machine.specs.Peaks.{held, bound_of, opening_peak, peaked};
 ghost use Rattle.queue_machine.specs.Present.{present};
 
@@ -61,9 +61,10 @@ pub(crate) fn opening() -> Peak
 
 /// The greatest number of blocks so far, and the bound at the first moment that had so many.
 fn peak<T: Drop, A: Allocator>(machine: &Machine<T, A>, peak: Peak) -> Peak
+    requires { HasCount machine.now.cells }
     ensures { result ≡ peaked (world_of machine.now) peak }
 {
-    let blocks = present(&machine.cells.blocks);
+    let blocks = machine.cells.alive;
     if peak.blocks < blocks {
         Peak {
             blocks,
@@ -87,6 +88,7 @@ pub(crate) fn after<T: Drop, A: Allocator>(
     before: usize,
     highest: Peak,
 ) -> Peak
+    requires { HasCount machine.now.cells }
     ensures { result ≡ (if nat_lt before (length machine.now.cells.blocks.items) then peaked (world_of machine.now) highest else highest) }
 {
     if before < numbers(machine) {

@@ -4,9 +4,7 @@ ghost use Rattle.queue_machine.specs.Conforms.{Conforms, HasNoBlocks, capacity_o
 ghost use Rattle.queue_machine.specs.OneOwner.{IsSoleRun};
 ghost use Rattle.queue_machine.specs.Replays.{CanReplay, is_too_large, IsRoomy};
 
-use crate::left::left;
-use crate::machine::Machine;
-use crate::peaks;
+use crate::course::{Course, Ended};
 use crate::types::{EffectKind, Event, Replay, Told};
 use queue_steps::model::Reply;
 use queue_steps::sizes::MAX_CAPACITY;
@@ -105,15 +103,12 @@ pub fn replay<T: Drop, A: Allocator + Copy>(
     let count = events.len();
     let mut lists = Lists::new(alloc, count)?;
     let room = Vec::with_capacity(alloc, count)?;
-    let mut machine = Machine::new(alloc, kind, parties, count)?;
-    let mut peak = peaks::opening();
+    let mut course = Course::new(alloc, kind, parties, count)?;
     let mut number = 0;
     for event in events {
         let party = party(&event);
-        let before = peaks::numbers(&machine);
-        let told = machine.handle(alloc, event);
+        let told = course.handle(alloc, event);
         lists.note(number, count, party, told);
-        peak = peaks::after(&machine, before, peak);
         number += 1;
     }
     let Lists {
@@ -121,11 +116,12 @@ pub fn replay<T: Drop, A: Allocator + Copy>(
         effects,
         skipped,
     } = lists;
+    let Ended { left, peak } = course.end_in(room);
     Ok(Replay {
         replies,
         effects,
         skipped,
-        left: left(machine, room),
+        left,
         peak,
     })
 }

@@ -1,7 +1,7 @@
 //! The words of a machine after a list of events.
 ghost use Rattle.std.specs.Prelude.{◌≡◌, true, IfOk, IsErr};
 ghost use Rattle.queue_machine.specs.Left.{opening_world};
-ghost use Rattle.queue_machine.specs.Machine.{CanHandle, HasRoom, KeepsRoom, Passes, Plays, world_of};
+ghost use Rattle.queue_machine.specs.Machine.{CanHandle, HasCount, HasRoom, KeepsRoom, Passes, Plays, world_of};
 ghost use Rattle.queue_machine.specs.Replays.{CanReplay, is_too_large};
 ghost use Rattle.queue_machine.specs.WordsOf.{AreWordsAfter};
 
@@ -28,9 +28,11 @@ pub struct Words<A: Allocator = Global> {
 fn pass<T: Drop, A: Allocator + Copy>(alloc: A, machine: &mut Machine<T, A>, event: Event<T>)
     requires can { CanHandle machine.old.kind (world_of machine.old) event }
     requires room { HasRoom machine.old.cells }
+    requires counted { HasCount machine.old.cells }
     ensures kind { machine.new.kind ≡ machine.old.kind }
     ensures world { Passes machine.old.kind (world_of machine.old) event (world_of machine.new) }
     ensures room { KeepsRoom machine.old.cells machine.new.cells }
+    ensures counted { HasCount machine.new.cells }
 {
     machine.handle(alloc, event);
 }
@@ -89,6 +91,7 @@ pub fn words_after<T: Drop, A: Allocator + Copy>(
         head_block: _,
         tail_block: _,
         blocks: _,
+        alive: _,
     } = cells;
     Ok(Words {
         lock,

@@ -1,7 +1,8 @@
 //! The steps of each call: from a call's local state and the answer to its last step, the next step or the reply.
 //!
 //! Whoever runs a call, its one owner, a thread or the machine, does each step and hands the answer back.
-ghost use Rattle.std.specs.Prelude.{◌≡◌};
+ghost use Rattle.std.specs.Prelude.{◌≡◌, true};
+ghost use Rattle.queue_steps.specs.CommonNext.{is_common_of, is_walk_of};
 ghost use Rattle.queue_steps.specs.Next.{CanNext, first_local, next_of};
 ghost use Rattle.queue_steps.specs.declared.steps.types.Kind.TheVariants as kind;
 
@@ -38,15 +39,96 @@ pub fn next_single<B: Copy>(local: Local<B>, answer: Answer<B>) -> Next<B>
     }
 }
 
+/// Whether a call on a ring is at a step that `next_common_bounded` tells.
+#[inline(always)]
+pub fn is_common_bounded<B: Copy>(cap: usize, local: &Local<B>, answer: &Answer<B>) -> bool
+    requires { CanNext (kind.Bounded cap) local.now answer.now }
+    ensures { result ≡ is_common_of (kind.Bounded cap) local.now answer.now }
+{
+    match local {
+        Local::Begin(_) => true,
+        Local::Bounded(local) => bounded::is_common(cap as u64, local, answer),
+        _ => unreachable!(),
+    }
+}
+
+/// What a call on a ring of `cap` slots does next, where it is what calls commonly do: it finds room or an item, and meets no other call.
+#[inline(always)]
+pub fn next_common_bounded<B: Copy>(cap: usize, local: Local<B>, answer: Answer<B>) -> Next<B>
+    requires can { CanNext (kind.Bounded cap) local answer }
+    requires common { is_common_of (kind.Bounded cap) local answer ≡ true }
+    ensures { result ≡ next_of (kind.Bounded cap) local answer }
+{
+    match (local, answer) {
+        (Local::Begin(call), Answer::Start) => bounded::begin(cap, call),
+        (Local::Bounded(local), answer) => bounded::next_common(cap as u64, local, answer),
+        _ => unreachable!(),
+    }
+}
+
 /// What a call on a ring of `cap` slots does next.
 #[inline(always)]
 pub fn next_bounded<B: Copy>(cap: usize, local: Local<B>, answer: Answer<B>) -> Next<B>
     requires { CanNext (kind.Bounded cap) local answer }
     ensures { result ≡ next_of (kind.Bounded cap) local answer }
 {
+    if is_common_bounded(cap, &local, &answer) {
+        return next_common_bounded(cap, local, answer);
+    }
+    match local {
+        Local::Bounded(local) => bounded::next_other(cap as u64, local, answer),
+        _ => unreachable!(),
+    }
+}
+
+/// Whether a call on a chain of blocks is at a step that `next_common_unbounded` tells.
+#[inline(always)]
+pub fn is_common_unbounded<B: Copy>(local: &Local<B>, answer: &Answer<B>) -> bool
+    requires { CanNext kind.Unbounded local.now answer.now }
+    ensures { result ≡ is_common_of kind.Unbounded local.now answer.now }
+{
+    match local {
+        Local::Begin(_) => true,
+        Local::Unbounded(local) => unbounded::is_common(local, answer),
+        _ => unreachable!(),
+    }
+}
+
+/// What a call on a chain of blocks does next, where it is what calls commonly do: it finds room or an item within a block, and meets no other call.
+#[inline(always)]
+pub fn next_common_unbounded<B: Copy>(local: Local<B>, answer: Answer<B>) -> Next<B>
+    requires can { CanNext kind.Unbounded local answer }
+    requires common { is_common_of kind.Unbounded local answer ≡ true }
+    ensures { result ≡ next_of kind.Unbounded local answer }
+{
     match (local, answer) {
-        (Local::Begin(call), Answer::Start) => bounded::begin(cap, call),
-        (Local::Bounded(local), answer) => bounded::next(cap as u64, local, answer),
+        (Local::Begin(call), Answer::Start) => unbounded::begin(call),
+        (Local::Unbounded(local), answer) => unbounded::next_common(local, answer),
+        _ => unreachable!(),
+    }
+}
+
+/// Whether a call on a chain of blocks walks over one, as `next_walk` tells.
+#[inline(always)]
+pub fn is_walk<B: Copy>(local: &Local<B>, answer: &Answer<B>) -> bool
+    requires { CanNext kind.Unbounded local.now answer.now }
+    ensures { result ≡ is_walk_of kind.Unbounded local.now answer.now }
+{
+    match local {
+        Local::Unbounded(local) => unbounded::is_walk(local, answer),
+        _ => false,
+    }
+}
+
+/// What a call on a chain of blocks does next, where it walks over one.
+#[inline(always)]
+pub fn next_walk<B: Copy>(local: Local<B>, answer: Answer<B>) -> Next<B>
+    requires can { CanNext kind.Unbounded local answer }
+    requires walk { is_walk_of kind.Unbounded local answer ≡ true }
+    ensures { result ≡ next_of kind.Unbounded local answer }
+{
+    match local {
+        Local::Unbounded(local) => unbounded::next_walk(local, answer),
         _ => unreachable!(),
     }
 }
@@ -57,9 +139,14 @@ pub fn next_unbounded<B: Copy>(local: Local<B>, answer: Answer<B>) -> Next<B>
     requires { CanNext kind.Unbounded local answer }
     ensures { result ≡ next_of kind.Unbounded local answer }
 {
-    match (local, answer) {
-        (Local::Begin(call), Answer::Start) => unbounded::begin(call),
-        (Local::Unbounded(local), answer) => unbounded::next(local, answer),
+    if is_common_unbounded(&local, &answer) {
+        return next_common_unbounded(local, answer);
+    }
+    if is_walk(&local, &answer) {
+        return next_walk(local, answer);
+    }
+    match local {
+        Local::Unbounded(local) => unbounded::next_other(local, answer),
         _ => unreachable!(),
     }
 }

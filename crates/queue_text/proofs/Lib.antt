@@ -4,3 +4,4 @@ pub mod ReadCall
 pub mod ReadArgs
 pub mod ReadLoad
 pub mod Parting
+pub mod Writing

@@ -4,11 +4,9 @@ use Rattle.std.specs.Fmt.{decimal}
 use Rattle.std.proofs.lemmas.Fmt.{decimal_injective}
 use Rattle.queue_text.specs.declared.args.KindName.{KindName}
 use Rattle.queue_text.specs.declared.args.KindName.TheVariants as kind
-use Rattle.queue_text.specs.declared.args.Form.{Form}
-use Rattle.queue_text.specs.declared.args.Form.TheVariants as form
 use Rattle.queue_text.specs.declared.args.TheConstants.{MOST_PARTIES}
 use Rattle.queue_text.specs.Reading.{IsWord}
-use Rattle.queue_text.specs.KindNames.{kind_text, IsKindName, IsPartyCount, has_capacity, is_built, form_words, IsForm}
+use Rattle.queue_text.specs.KindNames.{kind_text, IsKindName, IsPartyCount}
 
 -- no kind has the capacity 0
 pub no_capacity : (text digits : List ℕ) → text ≡ codes "bounded:" ++ digits → decimal 0 ≡ digits → (k : KindName) → IsKindName k → kind_text k ≢ text
@@ -39,38 +37,3 @@ pub no_such_count : (count : ℕ) (text : List ℕ) → IsWord count → decimal
 no_such_count count text small spelled wrong n is same =
     let one : n ≡ count = decimal_injective n count (omega arith) small (same ∙ sym spelled) in
     elim wrong [ inl e ↦ absurd (omega (arith, e)) | inr e ↦ absurd (omega (arith, e)) ]
-
--- no two kinds are spelled alike
-pub kind_spelled : (k j : KindName) → IsKindName k → IsKindName j → kind_text k ≡ kind_text j → k ≡ j
-kind_spelled kind.Single kind.Single is js same = refl
-kind_spelled kind.Single (kind.Bounded n) is js same = let first : ◌≡◌ {A = ℕ} 115 98 = ap (λ t. get_or t 0 0) same in absurd (omega arith)
-kind_spelled kind.Single kind.Unbounded is js same = let first : ◌≡◌ {A = ℕ} 115 117 = ap (λ t. get_or t 0 0) same in absurd (omega arith)
-kind_spelled (kind.Bounded m) kind.Single is js same = let first : ◌≡◌ {A = ℕ} 98 115 = ap (λ t. get_or t 0 0) same in absurd (omega arith)
-kind_spelled (kind.Bounded m) (kind.Bounded n) is js same = ap kind.Bounded (decimal_injective m n is.0 js.0 (cc))
-kind_spelled (kind.Bounded m) kind.Unbounded is js same = let first : ◌≡◌ {A = ℕ} 98 117 = ap (λ t. get_or t 0 0) same in absurd (omega arith)
-kind_spelled kind.Unbounded kind.Single is js same = let first : ◌≡◌ {A = ℕ} 117 115 = ap (λ t. get_or t 0 0) same in absurd (omega arith)
-kind_spelled kind.Unbounded (kind.Bounded n) is js same = let first : ◌≡◌ {A = ℕ} 117 98 = ap (λ t. get_or t 0 0) same in absurd (omega arith)
-kind_spelled kind.Unbounded kind.Unbounded is js same = refl
-
--- the first letter of the words
-abbrev letter : List (List ℕ) → ℕ
-letter words = get_or (get_or words 0 []) 0 0
-
--- forms that are spelled alike can both be run, or neither
-pub both_built : (f g : Form) → IsForm f → IsForm g → form_words f ≡ form_words g → is_built f ≡ is_built g
-both_built (form.Script k) (form.Script j) is js same = refl
-both_built (form.Script k) (form.Replay j q) is js same = let first : ◌≡◌ {A = ℕ} 115 114 = ap letter same in absurd (omega arith)
-both_built (form.Script k) (form.Threads m) is js same = let first : ◌≡◌ {A = ℕ} 115 116 = ap letter same in absurd (omega arith)
-both_built (form.Script k) form.Handshake is js same = let first : ◌≡◌ {A = ℕ} 115 104 = ap letter same in absurd (omega arith)
-both_built (form.Replay k p) (form.Script j) is js same = let first : ◌≡◌ {A = ℕ} 114 115 = ap letter same in absurd (omega arith)
-both_built (form.Replay k p) (form.Replay j q) is js same = refl
-both_built (form.Replay k p) (form.Threads m) is js same = let first : ◌≡◌ {A = ℕ} 114 116 = ap letter same in absurd (omega arith)
-both_built (form.Replay k p) form.Handshake is js same = let first : ◌≡◌ {A = ℕ} 114 104 = ap letter same in absurd (omega arith)
-both_built (form.Threads l) (form.Script j) is js same = let first : ◌≡◌ {A = ℕ} 116 115 = ap letter same in absurd (omega arith)
-both_built (form.Threads l) (form.Replay j q) is js same = let first : ◌≡◌ {A = ℕ} 116 114 = ap letter same in absurd (omega arith)
-both_built (form.Threads l) (form.Threads m) is js same = ap has_capacity (kind_spelled l.kind m.kind is.0 js.0 (ap (λ ws. get_or ws 1 []) same))
-both_built (form.Threads l) form.Handshake is js same = let first : ◌≡◌ {A = ℕ} 116 104 = ap letter same in absurd (omega arith)
-both_built form.Handshake (form.Script j) is js same = let first : ◌≡◌ {A = ℕ} 104 115 = ap letter same in absurd (omega arith)
-both_built form.Handshake (form.Replay j q) is js same = let first : ◌≡◌ {A = ℕ} 104 114 = ap letter same in absurd (omega arith)
-both_built form.Handshake (form.Threads m) is js same = let first : ◌≡◌ {A = ℕ} 104 116 = ap letter same in absurd (omega arith)
-both_built form.Handshake form.Handshake is js same = refl

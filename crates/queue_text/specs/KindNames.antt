@@ -1,5 +1,5 @@
 -- The words that name a kind of queue, and the arguments that name a form.
-use Rattle.std.specs.Prelude.{◌≡◌, ℕ, ◌<◌, ◌≤◌, ◌*◌, ◌%◌, Bool, true, is_some, List, [], ◌∷◌, ◌++◌, codes, Option, Some, None}
+use Rattle.std.specs.Prelude.{◌≡◌, ℕ, ◌<◌, ◌≤◌, ◌*◌, ◌%◌, List, [], ◌∷◌, ◌++◌, codes, Option, Some, None}
 use Rattle.std.specs.Fmt.{decimal}
 use Rattle.queue_text.specs.Reading.{IsWord}
 use Rattle.queue_text.specs.declared.args.TheConstants.{MOST_PARTIES}
@@ -56,14 +56,3 @@ abbrev pub capacity_of : KindName → Option ℕ
 capacity_of kind.Single = Some 1
 capacity_of (kind.Bounded count) = Some count
 capacity_of kind.Unbounded = None
-
--- a queue of this kind has a capacity
-abbrev pub has_capacity : KindName → Bool
-has_capacity k = is_some (capacity_of k)
-
--- the form can be run: threads share queues with a capacity alone
-abbrev pub is_built : Form → Bool
-is_built (form.Script k) = true
-is_built (form.Replay k parties) = true
-is_built (form.Threads l) = has_capacity l.kind
-is_built form.Handshake = true

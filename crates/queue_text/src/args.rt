@@ -34,36 +34,6 @@ pub enum Form {
     Handshake,
 }
 
-impl KindName {
-    ghost use Rattle.std.specs.Prelude.{◌≡◌};
-    ghost use Rattle.queue_text.specs.KindNames.{has_capacity};
-
-    /// Whether a queue of this kind has a capacity.
-    pub fn has_capacity(self) -> bool
-        ensures { result ≡ has_capacity self }
-    {
-        match self {
-            KindName::Single | KindName::Bounded(_) => true,
-            KindName::Unbounded => false,
-        }
-    }
-}
-
-impl Form {
-    ghost use Rattle.std.specs.Prelude.{◌≡◌};
-    ghost use Rattle.queue_text.specs.KindNames.{is_built};
-
-    /// Whether this form can be run. Threads share queues with a capacity alone.
-    pub fn is_built(self) -> bool
-        ensures { result ≡ is_built self }
-    {
-        match self {
-            Form::Script(_) | Form::Replay(_, _) | Form::Handshake => true,
-            Form::Threads(load) => load.kind.has_capacity(),
-        }
-    }
-}
-
 /// The form that the arguments name.
 pub fn parse_form(args: &[String]) -> Option<Form>
     ensures { IsReading IsForm form_words (map string_bytes args.now) result }

@@ -7,7 +7,7 @@ use std::fmt;
 /// Why a run ended before its work was done.
 #[derive(Clone, Copy, Debug, PartialEq, Eq)]
 pub enum Fault {
-    /// The arguments name nothing that can be run.
+    /// The arguments name no form.
     Usage,
     /// The line of this number, counted from 1, is the first that cannot be read.
     Unreadable(usize),

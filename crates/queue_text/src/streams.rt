@@ -1,8 +1,8 @@
 //! All of the input, and all of the output.
-ghost use Rattle.std.specs.Prelude.{◌≡◌, ◌⊎◌, MatchResult};
-ghost use Rattle.std.specs.Io.KnownBytes.{Appends};
+ghost use Rattle.std.specs.Prelude.{◌≡◌, ◌⊎◌, ⊤, MatchResult, OnErr};
+ghost use Rattle.std.specs.Io.KnownBytes.{Appends, Keeps};
 ghost use Rattle.queue_text.specs.declared.faults.Fault.TheVariants as fault;
-ghost use Rattle.queue_text.specs.Streams.{IsInput};
+ghost use Rattle.queue_text.specs.Streams.{IsBegun, IsInput};
 
 use crate::faults::Fault;
 use std::alloc::Allocator;
@@ -23,13 +23,38 @@ pub fn read_input<A: Allocator, I: Read>(alloc: A, input: &mut I) -> Result<Vec<
 }
 
 /// Writes all of the output.
+///
+/// # Errors
+///
+/// `OutputFailed`; a beginning of the text may be written then.
 pub fn write_output<O: Write>(output: &mut O, text: &[u8]) -> Result<(), Fault>
-    ensures { MatchResult result
+    ensures written { MatchResult result
         (λ _. Appends (O.contents output.old) (O.contents output.new) text.now)
         (λ why. why ≡ fault.OutputFailed) }
+    ensures begun { OnErr result (IsBegun (O.contents output.old) (O.contents output.new) text.now) }
 {
-    if output.write_all(text).is_err() || output.flush().is_err() {
-        return Err(Fault::OutputFailed);
+    let mut rest = text;
+    for _ in 0..u64::MAX {
+        if rest.is_empty() {
+            return finish(output);
+        }
+        match output.write(rest) {
+            Ok(0) => return Err(Fault::OutputFailed),
+            Ok(count) => rest = &rest[count..],
+            Err(error) if error.kind() == ErrorKind::Interrupted => {}
+            Err(_) => return Err(Fault::OutputFailed),
+        }
     }
-    Ok(())
+    Err(Fault::OutputFailed)
+}
+
+// Has a writer hand on what it took.
+fn finish<O: Write>(output: &mut O) -> Result<(), Fault>
+    ensures kept { Keeps (O.contents output.old) (O.contents output.new) }
+    ensures why { MatchResult result (λ _. ⊤) (λ why. why ≡ fault.OutputFailed) }
+{
+    match output.flush() {
+        Ok(()) => Ok(()),
+        Err(_) => Err(Fault::OutputFailed),
+    }
 }

@@ -3,7 +3,7 @@ ghost use Rattle.std.specs.Prelude.{◌≡◌, ◌<◌, ◌≤◌, ◌+◌, ◌*
 ghost use Rattle.std.specs.Option.{IfSome};
 ghost use Rattle.queue_steps.specs.declared.sizes.TheConstants.{MAX_CAPACITY};
 ghost use Rattle.queue_steps.specs.Shares.{entire};
-ghost use Rattle.queue_text.specs.KindNames.{IsKindName, IsLoad, capacity_of, has_capacity};
+ghost use Rattle.queue_text.specs.KindNames.{IsKindName, IsLoad, capacity_of};
 ghost use Rattle.concurrent_queue.specs.Shared.{IsPartyOf};
 ghost use Rattle.queue_threads.specs.Counts.{IsCounted, IsTally};
 ghost use Rattle.queue_threads.specs.Verdicts.{IsOutputFault};
@@ -26,16 +26,15 @@ use std::thread::Threads;
 ///
 /// # Errors
 ///
-/// `NoMemory`, also where a thread cannot be started or no queue may have the capacity, and `OutputFailed`, where a beginning of the output may be
-/// written.
+/// `NoMemory`, also where a thread cannot be started, a push gets no block or no queue may have the capacity, and
+/// `OutputFailed`, where a beginning of the output may be written.
 pub fn threads<R: Threads + Wait + Sync, O: Write>(
     rt: &R,
     alloc: Global,
     load: Load,
     output: &mut O,
 ) -> Result<Verdict, Fault>
-    requires load { IsLoad load }
-    requires built { has_capacity load.kind ≡ true }
+    requires { IsLoad load }
     ensures { MatchResult result
         (IsCounted load (O.contents output.old) (O.contents output.new))
         (IsOutputFault (O.contents output.old) (O.contents output.new)) }
@@ -57,8 +56,7 @@ fn count_all<R: Threads + Wait + Sync>(
     alloc: Global,
     load: Load,
 ) -> Result<Vec<u64>, AllocError>
-    requires load { IsLoad load }
-    requires built { has_capacity load.kind ≡ true }
+    requires { IsLoad load }
     ensures { IfOk result (λ counts. IsTally load counts.items) }
 {
     let (queue, party) = queue_of(alloc, load.kind)?;
@@ -79,15 +77,14 @@ fn count_all<R: Threads + Wait + Sync>(
 
 // An empty open queue of this kind, and its only party.
 fn queue_of(alloc: Global, kind: KindName) -> Result<(Queue, Party<u64>), AllocError>
-    requires named { IsKindName kind }
-    requires built { has_capacity kind ≡ true }
+    requires { IsKindName kind }
     ensures first { IfOk result (λ r. IsPartyOf r.1 r.0 × (r.0.cap ≡ capacity_of kind) × (r.1.view ≡ record { seen = []; mine = []; share = entire })) }
     ensures within { IfOk result (λ _. IfSome (capacity_of kind) (λ size. size ≤ MAX_CAPACITY)) }
 {
     match kind {
         KindName::Single => Queue::bounded(alloc, 1),
         KindName::Bounded(cap) => Queue::bounded(alloc, cap),
-        KindName::Unbounded => unreachable!(),
+        KindName::Unbounded => Queue::unbounded(alloc),
     }
 }
 

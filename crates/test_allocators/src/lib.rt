@@ -3,6 +3,7 @@
 
 ghost use Rattle.std.specs.Prelude.{◌≡◌};
 
+use block_web::low::Low;
 use std::alloc::{AllocError, Allocator, Layout};
 use std::cell::Cell;
 
@@ -200,5 +201,11 @@ unsafe impl<B: Allocator> Allocator for Refusing<B> {
     unsafe fn deallocate(&self, ptr: *mut u8, size: usize, align: usize) {
         give_back(&self.tally, size, align);
         self.inner.deallocate(ptr, size, align);
+    }
+}
+
+unsafe impl<B: Low> Low for Refusing<B> {
+    fn test(&self, place: *mut u8) {
+        B::test(&self.inner, place);
     }
 }

@@ -123,3 +123,44 @@ fn a_link_tells_whether_it_leads_anywhere(rt: HostRuntime) -> Result<(), Fail> {
     block.give_up(&alloc, link);
     Ok(())
 }
+
+#[test]
+fn a_counted_block_tells_that_it_is_somewhere(rt: HostRuntime) -> Result<(), Fail> {
+    let heap = Heap::new(rt.alloc(), Refusal::Never);
+    let alloc = &heap;
+    let (link, block) = Loose::<u8, &Heap>::make_testable(&alloc)?;
+    let found = link.get().is_some();
+    let made = heap.live();
+    block.give_up(&alloc, link);
+    assert!(rt; found);
+    assert_eq!(rt; (made, heap.live(), heap.requests()), (1, 0, 1));
+    Ok(())
+}
+
+/// The second of two blocks is the first, once the one before it is gone and forgotten.
+#[test]
+fn a_chain_forgets_a_block_that_is_gone(rt: HostRuntime) -> Result<(), Fail> {
+    let heap = Heap::new(rt.alloc(), Refusal::Never);
+    let alloc = &heap;
+    let (first, one) = Loose::<u8, &Heap>::make(&alloc)?;
+    match Loose::<u8, &Heap>::make(&alloc) {
+        Ok((second, two)) => {
+            let mut chain = Chain::empty(&alloc);
+            chain.lay(one);
+            chain.lay(two);
+            chain.lift(0, first).give_up(&alloc, first);
+            chain.forget();
+            chain.set_word(0, second, 3, 9);
+            assert_eq!(rt; chain.word(0, second, 3), 9);
+            let kept = heap.live();
+            chain.lift(0, second).give_up(&alloc, second);
+            chain.leave();
+            assert_eq!(rt; (kept, heap.live(), heap.requests()), (1, 0, 2));
+            Ok(())
+        }
+        Err(error) => {
+            one.give_up(&alloc, first);
+            Err(error.into())
+        }
+    }
+}

@@ -1,5 +1,5 @@
 //! Webs that two threads share, a seat each.
-ghost use Rattle.std.specs.Prelude.{◌≡◌};
+ghost use Rattle.std.specs.Prelude.{◌≡◌, true};
 ghost use denote.RawPtr.{InBlock};
 ghost use Rattle.block_web.specs.Seats.{Sits, Same};
 ghost use Rattle.block_web.specs.Line.{Keeps};
@@ -7,7 +7,7 @@ ghost use Rattle.block_web.specs.Line.{Keeps};
 use block_web::block::Link;
 use block_web::closing;
 use block_web::line::{Line, Place, View};
-use block_web::web::{Seat, Web};
+use block_web::web::{Rested, Seat, Web};
 use std::alloc::Global;
 use std::sync::atomic::{AtomicBool, Ordering};
 use std::test::*;
@@ -79,6 +79,40 @@ fn two_threads_see_each_other(rt: HostRuntime) -> Result<(), Fail> {
         &mut || answers(&queue, &mut other, tail, &answer),
     );
     closing::take_back(&queue, &mut seat, other, tail);
+    closing::end(queue, seat, hub, &alloc, tail, head);
+    assert_eq!(rt; seen, (true, true));
+    Ok(())
+}
+
+/// Wakes, waits until the other thread has closed the queue and answers, and rests again.
+fn wakes_and_answers(
+    queue: &Queue,
+    party: &mut Rested<View>,
+    tail: Link<u8>,
+    answer: &AtomicBool,
+) -> bool
+    requires { (party.old.asleep ≡ true) × (party.old.web ≡ queue.now.id) × InBlock tail.ptr × (tail.ptr ≡ queue.now.key.tail.ptr) }
+    ensures { (party.new.asleep ≡ true) × (party.new.web ≡ party.old.web) }
+{
+    let mut seat = party.take(queue);
+    let right = answers(queue, &mut seat, tail, answer);
+    *party = seat.rests();
+    right
+}
+
+/// A seat comes to rest, wakes and rests again in the other thread, and wakes here.
+#[test]
+fn a_seat_rests_and_wakes_in_another_thread(rt: HostRuntime) -> Result<(), Fail> {
+    let alloc: Global = rt.alloc();
+    let answer = AtomicBool::new(false);
+    let (queue, mut seat, hub, tail, head) = closing::open::<u8, Global>(&alloc)?;
+    let mut other = closing::part(&queue, &mut seat, tail).rests();
+    let seen = join_mut(
+        &rt,
+        &mut || calls(&queue, &mut seat, tail, &answer),
+        &mut || wakes_and_answers(&queue, &mut other, tail, &answer),
+    );
+    closing::take_back(&queue, &mut seat, other.wakes(&queue), tail);
     closing::end(queue, seat, hub, &alloc, tail, head);
     assert_eq!(rt; seen, (true, true));
     Ok(())

@@ -1,8 +1,9 @@
 //! The steps of a ring. `Tail` is twice the position of the next item to come, and one more once the queue is closed; `Head` is the position of the front.
 //! A slot's stamp is the position for which it is free, and one more once it is filled for it.
-ghost use Rattle.std.specs.Prelude.{◌≡◌, ◌+◌, ◌%◌, ◌<◌, ◌≤◌};
+ghost use Rattle.std.specs.Prelude.{◌≡◌, ◌==◌, ℕ, true, false, ◌+◌, ◌%◌, ◌<◌, ◌≤◌};
 ghost use Rattle.queue_steps.specs.BoundedNext.{at, loads, bounded_begin, bounded_next, tail_found, head_found, push_stamp_found, pop_stamp_found, pop_tail_found, len_found, closed_reply, pushed_reply, FitsRing, FitsStamp};
-ghost use Rattle.queue_steps.specs.Words.{IsRing, IsWord, position_of, slot_at, stamp_filled};
+ghost use Rattle.queue_steps.specs.CommonNext.{is_open_tail, is_ring_common};
+ghost use Rattle.queue_steps.specs.Words.{IsRing, IsWord, position_of, slot_at, stamp_free, stamp_filled, stamp_emptied};
 
 use crate::errors::{ForcePushError, PopError, PushError};
 use crate::model::{Call, CallKind, Reply, ReplyKind};
@@ -146,25 +147,53 @@ pub(super) fn pushed(push: PushKind) -> ReplyKind
     }
 }
 
-/// What follows a tail that a push found.
+/// Whether a push that found this tail goes on to its slot.
 #[inline(always)]
-fn after_tail<B: Copy>(cap: u64, push: PushKind, tail: u64) -> Next<B>
+fn has_room(tail: u64) -> bool
+    ensures { result ≡ is_open_tail tail }
+{
+    tail % 2 != 1 && tail / 2 != LIMIT
+}
+
+/// B2.
+#[inline(always)]
+fn read_push_stamp<B: Copy>(cap: u64, push: PushKind, tail: u64) -> Next<B>
     requires { 0 < cap }
-    ensures { result ≡ tail_found cap push tail }
+    ensures { result ≡ loads (BoundedLocal.PushStamp push tail) (Word.Stamp (slot_at cap (position_of tail))) }
+{
+    load(
+        BoundedLocal::PushStamp(push, tail),
+        Word::Stamp(slot_of(cap, tail / 2)),
+    )
+}
+
+/// What follows a tail behind which nothing is accepted.
+#[inline]
+fn turn_away<B: Copy>(push: PushKind, tail: u64) -> Next<B>
+    requires { is_open_tail tail ≡ false }
+    ensures { (n : ℕ) → result ≡ tail_found n push tail }
 {
     if tail % 2 == 1 {
         Next::Reply(closed(push), None)
-    } else if tail / 2 == LIMIT {
+    } else {
         step(
             BoundedLocal::Spending(push),
             Touch::Nothing,
             Op::Or(Word::Tail, MARK),
         )
+    }
+}
+
+/// What follows a tail that a push found in the place of another.
+#[inline]
+fn after_tail<B: Copy>(cap: u64, push: PushKind, tail: u64) -> Next<B>
+    requires { 0 < cap }
+    ensures { result ≡ tail_found cap push tail }
+{
+    if has_room(tail) {
+        read_push_stamp(cap, push, tail)
     } else {
-        load(
-            BoundedLocal::PushStamp(push, tail),
-            Word::Stamp(slot_of(cap, tail / 2)),
-        )
+        turn_away(push, tail)
     }
 }
 
@@ -178,17 +207,28 @@ fn claim<B: Copy>(push: PushKind, tail: u64) -> Next<B>
     step(BoundedLocal::Claiming(push, tail), Touch::Nothing, exchange)
 }
 
-/// What follows the stamp of that tail's slot.
+/// B4.
 #[inline(always)]
-fn after_push_stamp<B: Copy>(cap: u64, push: PushKind, tail: u64, stamp: u64) -> Next<B>
+fn fill<B: Copy>(cap: u64, push: PushKind, tail: u64) -> Next<B>
+    requires ring { IsRing cap }
+    requires word { IsWord tail }
+    ensures { result ≡ at (BoundedLocal.Filling push) (Touch.Put (slot_at cap (position_of tail))) (Op.Store (Word.Stamp (slot_at cap (position_of tail))) (stamp_filled (position_of tail))) }
+{
+    let slot = slot_of(cap, tail / 2);
+    let stamp = Op::Store(Word::Stamp(slot), tail / 2 + 1);
+    step(BoundedLocal::Filling(push), Touch::Put(slot), stamp)
+}
+
+/// What follows the stamp of that tail's slot where the slot is not free.
+#[inline]
+fn after_full_slot<B: Copy>(cap: u64, push: PushKind, tail: u64, stamp: u64) -> Next<B>
     requires ring { IsRing cap }
     requires fits { FitsStamp cap tail stamp }
+    requires full { (stamp == stamp_free (position_of tail)) ≡ false }
     ensures { result ≡ push_stamp_found cap push tail stamp }
 {
     let position = tail / 2;
-    if stamp == position {
-        claim(push, tail)
-    } else if stamp + cap == position + 1 {
+    if stamp + cap == position + 1 {
         match push {
             PushKind::Push => load(BoundedLocal::PushHead(tail), Word::Head),
             PushKind::Force => step(
@@ -214,16 +254,35 @@ fn after_head<B: Copy>(cap: u64, head: u64) -> Next<B>
     )
 }
 
-/// What follows the stamp of that head's slot.
+/// O3.
 #[inline(always)]
-fn after_pop_stamp<B: Copy>(head: u64, stamp: u64) -> Next<B>
+fn take<B: Copy>(head: u64) -> Next<B>
     requires { IsWord head }
+    ensures { result ≡ at (BoundedLocal.Taking head) Touch.Nothing (Op.Exchange Word.Head head (head + 1)) }
+{
+    let exchange = Op::Exchange(Word::Head, head, head + 1);
+    step(BoundedLocal::Taking(head), Touch::Nothing, exchange)
+}
+
+/// O4.
+#[inline(always)]
+fn empty<B: Copy>(cap: u64, head: u64) -> Next<B>
+    requires ring { IsRing cap }
+    requires word { IsWord head }
+    ensures { result ≡ at BoundedLocal.Emptying (Touch.Take (slot_at cap head)) (Op.Store (Word.Stamp (slot_at cap head)) (stamp_emptied cap head)) }
+{
+    let slot = slot_of(cap, head);
+    let stamp = Op::Store(Word::Stamp(slot), head + cap);
+    step(BoundedLocal::Emptying, Touch::Take(slot), stamp)
+}
+
+/// What follows the stamp of that head's slot where the slot is not filled.
+#[inline]
+fn after_empty_slot<B: Copy>(head: u64, stamp: u64) -> Next<B>
+    requires { (stamp == stamp_filled head) ≡ false }
     ensures { result ≡ pop_stamp_found head stamp }
 {
-    if stamp == head + 1 {
-        let exchange = Op::Exchange(Word::Head, head, head + 1);
-        step(BoundedLocal::Taking(head), Touch::Nothing, exchange)
-    } else if stamp == head {
+    if stamp == head {
         load(BoundedLocal::PopTail(head), Word::Tail)
     } else {
         load(BoundedLocal::PopHead, Word::Head)
@@ -244,22 +303,6 @@ fn after_pop_tail<B: Copy>(head: u64, tail: u64) -> Next<B>
         PopError::Empty
     };
     Next::Reply(Reply::Pop(Err(why)), None)
-}
-
-/// What follows the exchange of a tail.
-#[inline(always)]
-fn after_claim<B: Copy>(cap: u64, push: PushKind, tail: u64, found: u64) -> Next<B>
-    requires ring { IsRing cap }
-    requires word { IsWord tail }
-    ensures { result ≡ bounded_next cap (BoundedLocal.Claiming push tail) (Answer.Found found) }
-{
-    if found == tail {
-        let slot = slot_of(cap, tail / 2);
-        let stamp = Op::Store(Word::Stamp(slot), tail / 2 + 1);
-        step(BoundedLocal::Filling(push), Touch::Put(slot), stamp)
-    } else {
-        after_tail(cap, push, found)
-    }
 }
 
 /// What follows the head that a push found which may be into a full ring.
@@ -306,22 +349,6 @@ fn swap<B: Copy>(cap: u64, tail: u64) -> Next<B>
     step(BoundedLocal::Swapping, Touch::Swap(slot), stamp)
 }
 
-/// What follows the exchange of a head by which a pop takes the front.
-#[inline(always)]
-fn after_take<B: Copy>(cap: u64, head: u64, found: u64) -> Next<B>
-    requires ring { IsRing cap }
-    requires word { IsWord head }
-    ensures { result ≡ bounded_next cap (BoundedLocal.Taking head) (Answer.Found found) }
-{
-    if found == head {
-        let slot = slot_of(cap, head);
-        let stamp = Op::Store(Word::Stamp(slot), head + cap);
-        step(BoundedLocal::Emptying, Touch::Take(slot), stamp)
-    } else {
-        after_head(cap, found)
-    }
-}
-
 /// What follows the second read of a tail.
 #[inline]
 fn after_len<B: Copy>(tail: u64, head: u64, again: u64) -> Next<B>
@@ -335,31 +362,69 @@ fn after_len<B: Copy>(tail: u64, head: u64, again: u64) -> Next<B>
     }
 }
 
-/// What follows the answer to the last step.
+/// Whether `next_common` tells the step that follows.
 #[inline(always)]
-pub(super) fn next<B: Copy>(cap: u64, local: BoundedLocal, answer: Answer<B>) -> Next<B>
+pub(super) fn is_common<B: Copy>(cap: u64, local: &BoundedLocal, answer: &Answer<B>) -> bool
+    requires { FitsRing cap local.now answer.now }
+    ensures { result ≡ is_ring_common local.now answer.now }
+{
+    let _ = cap;
+    match (local, answer) {
+        (BoundedLocal::PushTail(_), Answer::Found(tail)) => has_room(*tail),
+        (BoundedLocal::PushStamp(_, tail), Answer::Found(stamp)) => *stamp == *tail / 2,
+        (BoundedLocal::Claiming(_, tail), Answer::Found(found)) => *found == *tail,
+        (BoundedLocal::Filling(_), Answer::Done) => true,
+        (BoundedLocal::Swapping, Answer::Done) => true,
+        (BoundedLocal::PopHead, Answer::Found(_)) => true,
+        (BoundedLocal::PopStamp(head), Answer::Found(stamp)) => *stamp == *head + 1,
+        (BoundedLocal::Taking(head), Answer::Found(found)) => *found == *head,
+        (BoundedLocal::Emptying, Answer::Done) => true,
+        _ => false,
+    }
+}
+
+/// What follows the answer to the last step, where it is a common one.
+#[inline(always)]
+pub(super) fn next_common<B: Copy>(cap: u64, local: BoundedLocal, answer: Answer<B>) -> Next<B>
     requires ring { IsRing cap }
     requires fits { FitsRing cap local answer }
+    requires common { is_ring_common local answer ≡ true }
     ensures { result ≡ bounded_next cap local answer }
 {
     match (local, answer) {
-        (BoundedLocal::PushTail(push), Answer::Found(tail)) => after_tail(cap, push, tail),
-        (BoundedLocal::PushStamp(push, tail), Answer::Found(stamp)) => after_push_stamp(
+        (BoundedLocal::PushTail(push), Answer::Found(tail)) => read_push_stamp(cap, push, tail),
+        (BoundedLocal::PushStamp(push, tail), Answer::Found(_)) => claim(push, tail),
+        (BoundedLocal::Claiming(push, tail), Answer::Found(_)) => fill(cap, push, tail),
+        (BoundedLocal::Filling(push), Answer::Done) => Next::Reply(pushed(push), None),
+        (BoundedLocal::Swapping, Answer::Done) => Next::Reply(Reply::ForcePush(Ok(Some(()))), None),
+        (BoundedLocal::PopHead, Answer::Found(head)) => after_head(cap, head),
+        (BoundedLocal::PopStamp(head), Answer::Found(_)) => take(head),
+        (BoundedLocal::Taking(head), Answer::Found(_)) => empty(cap, head),
+        (BoundedLocal::Emptying, Answer::Done) => Next::Reply(Reply::Pop(Ok(())), None),
+        _ => unreachable!(),
+    }
+}
+
+/// What follows the answer to the last step, where it is no common one.
+#[inline(always)]
+pub(super) fn next_other<B: Copy>(cap: u64, local: BoundedLocal, answer: Answer<B>) -> Next<B>
+    requires ring { IsRing cap }
+    requires fits { FitsRing cap local answer }
+    requires other { is_ring_common local answer ≡ false }
+    ensures { result ≡ bounded_next cap local answer }
+{
+    match (local, answer) {
+        (BoundedLocal::PushTail(push), Answer::Found(tail)) => turn_away(push, tail),
+        (BoundedLocal::PushStamp(push, tail), Answer::Found(stamp)) => after_full_slot(
             cap, push, tail, stamp,
         ),
-        (BoundedLocal::Claiming(push, tail), Answer::Found(found)) => after_claim(
-            cap, push, tail, found,
-        ),
-        (BoundedLocal::Filling(push), Answer::Done) => Next::Reply(pushed(push), None),
+        (BoundedLocal::Claiming(push, _), Answer::Found(tail)) => after_tail(cap, push, tail),
         (BoundedLocal::PushHead(tail), Answer::Found(head)) => after_push_head(cap, tail, head),
         (BoundedLocal::Displacing(tail), Answer::Found(head)) => after_displacing(cap, tail, head),
         (BoundedLocal::Arriving(tail), Answer::Found(_)) => swap(cap, tail),
-        (BoundedLocal::Swapping, Answer::Done) => Next::Reply(Reply::ForcePush(Ok(Some(()))), None),
         (BoundedLocal::Spending(push), Answer::Found(_)) => Next::Reply(closed(push), None),
-        (BoundedLocal::PopHead, Answer::Found(head)) => after_head(cap, head),
-        (BoundedLocal::PopStamp(head), Answer::Found(stamp)) => after_pop_stamp(head, stamp),
-        (BoundedLocal::Taking(head), Answer::Found(found)) => after_take(cap, head, found),
-        (BoundedLocal::Emptying, Answer::Done) => Next::Reply(Reply::Pop(Ok(())), None),
+        (BoundedLocal::PopStamp(head), Answer::Found(stamp)) => after_empty_slot(head, stamp),
+        (BoundedLocal::Taking(_), Answer::Found(head)) => after_head(cap, head),
         (BoundedLocal::PopTail(head), Answer::Found(tail)) => after_pop_tail(head, tail),
         (BoundedLocal::LenTail, Answer::Found(tail)) => load(
             BoundedLocal::LenHead(tail),

@@ -1,46 +1,52 @@
-use Rattle.std.proofs.Common.{rules, ap, sym, ◌∙◌, subst, ◌≡◌, arith}
-use Rattle.concurrent_queue.specs.Seats.{is_busy, Rests}
-use Rattle.concurrent_queue.specs.Shared.{person, IsPerson}
-use Rattle.concurrent_queue.proofs.Crowds.{splits_off, joins_up, looks_on, splits_apart}
-use Rattle.concurrent_queue.proofs.Meetings.{rests_idle, meets, meets_persons}
+use Rattle.std.proofs.Common.{rules, ap, sym, ◌∙◌, subst, ◌≡◌, ◌+◌, ◌-◌, ◌%◌, ◌^◌}
+use Rattle.queue_parties.specs.Doings.{is_busy}
+use Rattle.queue_parties.specs.Parting.{SawAll}
+use Rattle.queue_parties.proofs.Crowds.{joins_up, looks_on, splits_apart}
+use Rattle.queue_parties.proofs.Meetings as meeting
+use Rattle.concurrent_queue.specs.Shared.{IsHeld, Meets, at_table, person_of}
+use Rattle.concurrent_queue.proofs.Crowds.{recounts, joins, splits}
+use Rattle.concurrent_queue.proofs.Persons.{meets_persons}
 use Rattle.concurrent_queue.proofs.party.meet.Goals as goal
-
-pub split_seat-spare-requires : goal.split_seat-spare-requires
-split_seat-spare-requires g c =
-    let h = c.first.invariant.0 in
-    (search rules, search rules, splits_off _ _ (g.met.P.PartyRule.keeps_parties c.args.table.now.key) _ c.first.inside.seat.me.0 (rests_idle _ c.first.inside.seat.me h))
 
 pub join_seat-requires : goal.join_seat-requires
 join_seat-requires g c =
-    let a = subst (λ m. Rests m) (sym c.split_seat-spare.ensures.2) c.first.invariant.0 in let b = subst (λ s. Rests s.me) (sym c.replace-other.ensures.value) c.second.invariant.0 in
-    (search rules, search rules, ap (λ m. m.1) b, search rules, joins_up _ _ (g.met.P.PartyRule.keeps_parties c.args.table.now.key) _ c.split_seat-spare.new.seat.me.0 _ c.replace-other.result.me.0 (ap (λ m. is_busy m.0.work) a) (ap (λ m. is_busy m.0.work) b) (ap (λ m. m.0.known) a) (ap (λ m. m.0.known) b))
+    let s = c.in-Table.seat in let o = c.in-Table-replace.other in
+    let a = subst IsHeld (sym c.replace.ensures.value ∙ c.in-Table.is) c.first.invariant in let b = subst IsHeld (sym c.replace-2.ensures.value ∙ c.in-Table-replace.is) c.second.invariant in
+    (search rules, search rules, b.1, search rules, joins _ (g.met.P.PartyRule.keeps_parties c.args.table.now.key) _ s.me.0 _ o.me.0 _ _ (λ n vs k at ne at'. joins_up k _ _ s.me.0 o.me.0 at ne at' a.0.0 b.0.0))
 
 pub load-requires : goal.load-requires
 load-requires g c =
-    let k = c.join_seat.ensures.2 in
-    let two : c.join_seat.new.seat.me.0.known.parts ≡ 2 = ap (λ m. m.0.known.parts) k in
-    (search rules, search rules, looks_on _ _ (g.met.P.PartyRule.keeps_parties c.args.table.now.key) _ _ c.join_seat.new.seat.me (ap (λ m. is_busy m.0.work) k) (omega (arith, two)))
+    let s = c.in-Table.seat in let o = c.in-Table-replace.other in let m = c.join_seat.new.seat.me in
+    let both = ap (λ z. z.0) c.join_seat.ensures.2 in
+    (search rules, search rules, recounts _ (g.met.P.PartyRule.keeps_parties c.args.table.now.key) _ _ m (λ n. n) (λ n. SawAll) (λ n vs k at. looks_on k _ m.0 s.me.0.known o.me.0.known at both))
 
-pub split_seat-requires : goal.split_seat-requires
-split_seat-requires g c =
-    let k = c.join_seat.ensures.2 in let l = c.load.ensures.2.1 in
-    (search rules, search rules, splits_apart _ _ (g.met.P.PartyRule.keeps_parties c.args.table.now.key) _ c.load.new.seat.me.0 (ap (λ m. is_busy m.0.work) l) (ap (λ m. m.0.known.parts) l ∙ ap (λ m. m.0.known.parts) k) (ap (λ m. m.0.known.extra) l ∙ ap (λ m. m.0.known.extra) k))
+pub split_seat-other-requires : goal.split_seat-other-requires
+split_seat-other-requires g c =
+    let d = c.load.new.seat.me.0 in let saw = c.load.ensures.2.0.1 in let both = ap (λ z. z.0) c.join_seat.ensures.2 in
+    (search rules, search rules, splits _ (g.met.P.PartyRule.keeps_parties c.args.table.now.key) _ d _ _ (λ n vs k at. splits_apart k _ d at (ap (λ z. is_busy z.work) saw) (ap (λ z. z.known.parts) saw ∙ ap (λ z. z.known.parts) both) (ap (λ z. z.known.extra) saw ∙ ap (λ z. z.known.extra) both)))
 
 pub invariant_of-first : goal.invariant_of-first
 invariant_of-first g c =
-    let at_a = subst (λ m. IsPerson m) (sym c.split_seat-spare.ensures.2) c.first.invariant in let at_b = subst (λ s. IsPerson s.me) (sym c.replace-other.ensures.value) c.second.invariant in
-    (meets _ c.split_seat-spare.new.seat.me c.replace-other.result.me c.join_seat.new.seat.me c.load.new.seat.me c.split_seat.new.seat.me c.split_seat.result.me at_a at_b c.join_seat.ensures.2 c.load.ensures.2 c.split_seat.ensures.2 c.split_seat.ensures.4).1
+    let s = c.in-Table.seat in let o = c.in-Table-replace.other in
+    let a = subst IsHeld (sym c.replace.ensures.value ∙ c.in-Table.is) c.first.invariant in let b = subst IsHeld (sym c.replace-2.ensures.value ∙ c.in-Table-replace.is) c.second.invariant in
+    let end = c.split_seat-other.new.seat in let far = c.split_seat-other.result in let cut = c.split_seat-other.ensures in
+    let j = meeting.meets s.me.0 o.me.0 c.join_seat.new.seat.me.0 c.load.new.seat.me.0 end.me.0 far.me.0 a.0 b.0 (ap (λ z. z.0) c.join_seat.ensures.2) c.load.ensures.2.0 (ap (λ z. z.0) cut.2) (ap (λ z. z.0) cut.4) in
+    (j.0, ap (λ z. z.1) cut.2 ∙ (c.load.ensures.2.1 ∙ (ap (λ z. z.1) c.join_seat.ensures.2 ∙ a.1)))
 
 pub invariant_of-second : goal.invariant_of-second
 invariant_of-second g c =
-    let at_a = subst (λ m. IsPerson m) (sym c.split_seat-spare.ensures.2) c.first.invariant in let at_b = subst (λ s. IsPerson s.me) (sym c.replace-other.ensures.value) c.second.invariant in
-    (meets _ c.split_seat-spare.new.seat.me c.replace-other.result.me c.join_seat.new.seat.me c.load.new.seat.me c.split_seat.new.seat.me c.split_seat.result.me at_a at_b c.join_seat.ensures.2 c.load.ensures.2 c.split_seat.ensures.2 c.split_seat.ensures.4).2
+    let s = c.in-Table.seat in let o = c.in-Table-replace.other in
+    let a = subst IsHeld (sym c.replace.ensures.value ∙ c.in-Table.is) c.first.invariant in let b = subst IsHeld (sym c.replace-2.ensures.value ∙ c.in-Table-replace.is) c.second.invariant in
+    let end = c.split_seat-other.new.seat in let far = c.split_seat-other.result in let cut = c.split_seat-other.ensures in
+    let j = meeting.meets s.me.0 o.me.0 c.join_seat.new.seat.me.0 c.load.new.seat.me.0 end.me.0 far.me.0 a.0 b.0 (ap (λ z. z.0) c.join_seat.ensures.2) c.load.ensures.2.0 (ap (λ z. z.0) cut.2) (ap (λ z. z.0) cut.4) in
+    (j.1, ap (λ z. z.1) cut.4)
 
 pub returns : goal.returns
 returns g c =
-    let spare = c.split_seat-spare.ensures.2 in let other = c.replace-other.ensures.value in let d = c.split_seat.ensures in
-    let a = c.split_seat-spare.new.seat.me in let b = c.replace-other.result.me in let t = c.first.inside.seat.table_id in let u = c.second.inside.seat.table_id in
-    let at_a = subst (λ m. IsPerson m) (sym spare) c.first.invariant in let at_b = subst (λ s. IsPerson s.me) (sym other) c.second.invariant in
-    let j = meets _ a b c.join_seat.new.seat.me c.load.new.seat.me c.split_seat.new.seat.me c.split_seat.result.me at_a at_b c.join_seat.ensures.2 c.load.ensures.2 d.2 d.4 in
-    meets_persons _ c.args.first.now c.args.second.now t c.split_seat.new.seat.table_id u c.split_seat.result.table_id a b c.split_seat.new.seat.me c.split_seat.result.me
-    (ap (λ m. person t m) spare ∙ c.first.view_is) (ap (λ s. person u s.me) other ∙ c.second.view_is) (search rules) (search rules) (search rules) j
+    let s = c.in-Table.seat in let o = c.in-Table-replace.other in
+    let is_s = sym c.replace.ensures.value ∙ c.in-Table.is in let is_o = sym c.replace-2.ensures.value ∙ c.in-Table-replace.is in
+    let a = subst IsHeld is_s c.first.invariant in let b = subst IsHeld is_o c.second.invariant in
+    let end = c.split_seat-other.new.seat in let far = c.split_seat-other.result in let cut = c.split_seat-other.ensures in
+    let j = meeting.meets s.me.0 o.me.0 c.join_seat.new.seat.me.0 c.load.new.seat.me.0 end.me.0 far.me.0 a.0 b.0 (ap (λ z. z.0) c.join_seat.ensures.2) c.load.ensures.2.0 (ap (λ z. z.0) cut.2) (ap (λ z. z.0) cut.4) in
+    let is_a = subst (λ h. person_of h ≡ c.args.first.now) is_s c.first.view_is in let is_b = subst (λ h. person_of h ≡ c.args.second.now) is_o c.second.view_is in
+    meets_persons c.args.first.now c.args.second.now (at_table s.table_id) (at_table o.table_id) (at_table end.table_id) (at_table far.table_id) s.me.0 o.me.0 end.me.0 far.me.0 is_a is_b (search rules) (ap at_table (search rules)) (ap at_table (search rules)) j

@@ -6,7 +6,7 @@ use Rattle.concurrent_queue.proofs.turns.drive.Goals as goal
 pub loop-init : goal.loop-init
 loop-init g c =
     let m = g.M.Turns in
-    begins-first m.can m.does m.stands m.ended c.kind-kind.result (m.kind_of c.args.queue.now) c.args.queue.now c.args.seat.now c.args.call c.start-local.result c.split-call.result
+    begins-first m.can m.does m.spares m.gives m.stands m.ended c.kind-kind.result (m.kind_of c.args.queue.now) c.args.queue.now c.args.seat.now c.args.call c.start-local.result c.split-call.result
     c.kind-kind.ensures c.split-call.ensures c.start-local.ensures (g.met.M.Turns.begins c.args.queue.now c.args.seat.now c.args.call c.requires)
 
 pub turn-found-requires : goal.turn-found-requires
@@ -14,27 +14,26 @@ turn-found-requires g c =
     let m = g.M.Turns in
     let kind : call_kind c.args.call ≡ c.split-call.result.0 = sym (ap (λ z. z.0) c.split-call.ensures) in
     subst (λ k. m.can c.args.queue.now c.loop.seat k c.in-Step.after c.in-Step.touch c.in-Step.op c.loop.carried) kind
-    (leads-step m.can m.does m.stands m.ended c.kind-kind.result c.args.queue.now c.args.seat.now c.args.call c.loop.local c.loop.answer c.in-Step.after c.in-Step.touch c.in-Step.op c.loop.seat c.loop.carried c.next-todo.ensures c.in-Step.is c.loop.invariant.1).0
+    (leads-step m.can m.does m.spares m.gives m.stands m.ended c.kind-kind.result c.args.queue.now c.args.seat.now c.args.call c.loop.local c.loop.answer c.in-Step.after c.in-Step.touch c.in-Step.op c.loop.seat c.loop.carried c.next-todo.ensures c.in-Step.is c.loop.invariant.1).0
 
 pub loop-preserved : goal.loop-preserved
 loop-preserved g c =
     let m = g.M.Turns in
-    let h = leads-step m.can m.does m.stands m.ended c.kind-kind.result c.args.queue.now c.args.seat.now c.args.call c.loop.local c.loop.answer c.in-Step.after c.in-Step.touch c.in-Step.op c.loop.seat c.loop.carried c.next-todo.ensures c.in-Step.is c.loop.invariant.1 in
+    let h = leads-step m.can m.does m.spares m.gives m.stands m.ended c.kind-kind.result c.args.queue.now c.args.seat.now c.args.call c.loop.local c.loop.answer c.in-Step.after c.in-Step.touch c.in-Step.op c.loop.seat c.loop.carried c.next-todo.ensures c.in-Step.is c.loop.invariant.1 in
     let kind : call_kind c.args.call ≡ c.split-call.result.0 = sym (ap (λ z. z.0) c.split-call.ensures) in
     let did = subst (λ k. m.does c.args.queue.now c.loop.seat k c.in-Step.after c.in-Step.touch c.in-Step.op c.loop.carried c.turn-found.result.0 c.turn-found.new.seat c.turn-found.result.1) (sym kind) c.turn-found.ensures in
     let at = h.1 c.turn-found.result.0 c.turn-found.new.seat c.turn-found.result.1 did in
     rw c.kind-kind.ensures (g.met.M.Turns.goes_on c.args.queue.now c.args.seat.now c.args.call c.in-Step.after c.turn-found.result.0 c.turn-found.new.seat c.turn-found.result.1 at)
 
-pub fill-requires : goal.fill-requires
-fill-requires g c =
+pub end-requires : goal.end-requires
+end-requires g c =
     let m = g.M.Turns in
-    let h = leads-reply m.can m.does m.stands m.ended c.kind-kind.result c.args.queue.now c.args.seat.now c.args.call c.loop.local c.loop.answer c.in-Reply.reply c.in-Reply.field-1 c.loop.seat c.loop.carried c.next-todo.ensures c.in-Reply.is c.loop.invariant.1 in
-    let is = h.1.1 in
-    rw is refl
+    let h = leads-reply m.can m.does m.spares m.gives m.stands m.ended c.kind-kind.result c.args.queue.now c.args.seat.now c.args.call c.loop.local c.loop.answer c.in-Reply.reply c.in-Reply.spare c.loop.seat c.loop.carried c.next-todo.ensures c.in-Reply.is c.loop.invariant.1 in
+    record { gives = h.0; fills = (h.1.0, h.1.1) }
 
 pub returns-in-Reply : goal.returns-in-Reply
 returns-in-Reply g c =
     let m = g.M.Turns in
-    let h = leads-reply m.can m.does m.stands m.ended c.kind-kind.result c.args.queue.now c.args.seat.now c.args.call c.loop.local c.loop.answer c.in-Reply.reply c.in-Reply.field-1 c.loop.seat c.loop.carried c.next-todo.ensures c.in-Reply.is c.loop.invariant.1 in
-    let same : h.1.0 ≡ c.fill.result = cc in
-    rw same at h.1.2
+    let h = leads-reply m.can m.does m.spares m.gives m.stands m.ended c.kind-kind.result c.args.queue.now c.args.seat.now c.args.call c.loop.local c.loop.answer c.in-Reply.reply c.in-Reply.spare c.loop.seat c.loop.carried c.next-todo.ensures c.in-Reply.is c.loop.invariant.1 in
+    let same : h.1.0 ≡ c.end.result = let e = c.end.ensures.fills in cc in
+    rw same at h.1.2 c.end.new.seat c.end.ensures.gave

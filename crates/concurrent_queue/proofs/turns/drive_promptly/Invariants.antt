@@ -11,5 +11,5 @@ invariant-loop g l =
     let m = g.M.Turns in
     let todo = next_of l.kind l.local l.answer in
     CanNext l.kind l.local l.answer
-    × Leads m.can m.does m.stands m.ended l.fn.queue l.fn.seat l.fn.call todo l.seat l.carried
+    × Leads m.can m.does m.spares m.gives m.stands m.ended l.fn.queue l.fn.seat l.fn.call todo l.seat l.carried
     × EndsBefore (PROMPT_STEPS + 1 - l.counter) l.kind todo

@@ -23,6 +23,7 @@ loop-event-init g c =
       standing = rw c.in_ok-machine.ensures.world (standing-first c.args.kind c.args.parties (has_machine c.args.kind c.requires (sym c.too_large.ensures ∙ c.if-too_large.false)));
       kind_is = c.in_ok-machine.ensures.kind;
       blocks = let all = ap length c.into_iter-event-iterator.ensures.into_iter_gives.0 in omega (arith, all, c.in_ok-machine.ensures.room, c.len.ensures, c.args.events.ok.0);
+      counted = c.in_ok-machine.ensures.counted;
     }
 
 pub loop-event-preserved : goal.loop-event-preserved
@@ -33,6 +34,7 @@ loop-event-preserved g c =
       standing = standing-next c.args.kind c.args.parties c.loop-event.yielded (world_of c.loop-event.machine) (world_of c.pass.new.machine) c.in-Some.event c.loop-event.invariant.standing (rw c.loop-event.invariant.kind_is at c.pass.ensures.world);
       kind_is = c.pass.ensures.kind ∙ c.loop-event.invariant.kind_is;
       blocks = let more = ap length c.in-Some.ensures.steps.0 in omega (arith, more, c.loop-event.invariant.blocks, c.pass.ensures.room.0, c.pass.ensures.room.1);
+      counted = c.pass.ensures.counted;
     }
 
 pub returns-clause-plays : goal.returns-clause-plays

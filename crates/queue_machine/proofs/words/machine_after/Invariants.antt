@@ -1,5 +1,5 @@
 use Rattle.std.proofs.Common.{◌≡◌, length}
-use Rattle.queue_machine.specs.Machine.{world_of, HasRoomFor}
+use Rattle.queue_machine.specs.Machine.{world_of, HasRoomFor, HasCount}
 use Rattle.queue_machine.proofs.AllKinds.{Standing}
 use Rattle.queue_machine.proofs.words.machine_after.Given as goal
 
@@ -11,4 +11,5 @@ invariant-loop-event g l =
       standing : Standing l.fn.kind l.fn.parties l.yielded (world_of l.machine);
       kind_is : l.machine.kind ≡ l.fn.kind;
       blocks : HasRoomFor l.machine.cells (length l.event-iterator.rest.items);
+      counted : HasCount l.machine.cells;
     }

@@ -2,8 +2,8 @@ use Rattle.std.proofs.Common.{true, arith, rules}
 use Rattle.std.proofs.lemmas.Grind.{common_steps}
 use Rattle.queue_machine.proofs.machine.Machine.step.Goals as goal
 
-pub touch-carried-requires : goal.touch-carried-requires
-touch-carried-requires g c =
+pub touch-carried-requires-clause-can : goal.touch-carried-requires-clause-can
+touch-carried-requires-clause-can g c =
     let can = (c.requires.can true).touches in grind (arith, common_steps)
 
 pub perform-answer-requires-clause-can : goal.perform-answer-requires-clause-can

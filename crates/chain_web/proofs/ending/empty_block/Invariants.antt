@@ -1,0 +1,12 @@
+use Rattle.std.proofs.Common.{◌≡◌, ◌<◌}
+use Rattle.block_web.specs.Web.{block}
+use Rattle.chain_web.specs.Leftover.{SameBut, Emptied}
+use Rattle.chain_web.proofs.ending.empty_block.Given as goal
+
+-- the slots so far were emptied, as far as no call has them
+abbrev pub invariant-loop-slot : goal.invariant-loop-slot
+invariant-loop-slot g l = record {
+  heap : l.chain.heap ≡ l.fn.chain.heap;
+  same : SameBut l.number l.fn.chain.blocks l.chain.blocks;
+  emptied : Emptied (λ j. j < l.slot) l.empty (block l.fn.chain.blocks l.number) (block l.chain.blocks l.number);
+}

@@ -1,0 +1,9 @@
+pub mod Spots
+pub mod Names
+pub mod ChainCalls
+pub mod Rule
+pub mod Steps
+pub mod Turning
+pub mod Parties
+pub mod Ending
+pub mod Leftover

@@ -1,0 +1,50 @@
+//! The touch of a slot that a party's seat has in hand.
+ghost use Rattle.std.specs.Prelude.{◌≡◌};
+ghost use Rattle.block_web.specs.Seats.{Same};
+ghost use Rattle.chain_web.specs.Names.{state_block as spec_state_block};
+ghost use Rattle.chain_web.specs.Turning.{CanTouch, Touched};
+
+use crate::web::ChainSeat;
+use block_web::block::Link as Place;
+use queue_steps::steps::{Op, Touch, Word};
+use std::alloc::Allocator;
+
+/// The block whose state an operation names.
+#[inline(always)]
+fn state_block<T>(op: Op<Place<T>>) -> Option<Place<T>>
+    ensures { result ≡ spec_state_block op }
+{
+    match op {
+        Op::Load(Word::State(block, _)) | Op::Or(Word::State(block, _), _) => Some(block),
+        _ => None,
+    }
+}
+
+/// The value that a call carries goes into the slot in its seat's hand, or that slot's value to the call, where a touch is asked for.
+#[inline(always)]
+pub(crate) fn touch<T, A: Allocator>(
+    seat: &mut ChainSeat<T, A>,
+    touch: Touch,
+    op: Op<Place<T>>,
+    carried: Option<T>,
+) -> Option<T>
+    requires { CanTouch seat.old.sitter touch op carried }
+    ensures same { Same seat.new seat.old }
+    ensures touched { Touched seat.old.sitter touch carried seat.new.sitter result }
+{
+    match (touch, carried) {
+        (Touch::Nothing, carried) => carried,
+        (Touch::Put(slot), Some(value)) => match state_block(op) {
+            Some(block) => {
+                seat.put(block, slot, value);
+                None
+            }
+            None => unreachable!(),
+        },
+        (Touch::Take(slot), None) => match state_block(op) {
+            Some(block) => Some(seat.take(block, slot)),
+            None => unreachable!(),
+        },
+        _ => unreachable!(),
+    }
+}

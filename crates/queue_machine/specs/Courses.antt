@@ -1,0 +1,60 @@
+-- A run of the machine, one event after another: what brought it where it is, and what it leaves.
+use Rattle.std.specs.Prelude.{◌≡◌, ℕ, ◌+◌, ◌<◌, ◌≤◌, ◌^◌, Bool, false, List, [], ◌∷◌, ◌++◌, length}
+use Rattle.queue_steps.specs.declared.steps.types.Kind.{Kind}
+use Rattle.queue_machine.specs.declared.course.Course.{Course}
+use Rattle.queue_machine.specs.declared.course.Ended.{Ended}
+use Rattle.queue_machine.specs.declared.machine.Running.{Running}
+use Rattle.queue_machine.specs.declared.types.Event.{Event}
+use Rattle.queue_machine.specs.declared.types.Peak.{Peak}
+use Rattle.queue_machine.specs.declared.types.Told.{Told}
+use Rattle.queue_machine.specs.Book.{Book, Run, opening}
+use Rattle.queue_machine.specs.Cells.{Shared}
+use Rattle.queue_machine.specs.Conforms.{HasNoBlocks, IsPeak, capacity_of}
+use Rattle.queue_machine.specs.Left.{left_of, opening_world}
+use Rattle.queue_machine.specs.Machine.{HasCount, HasRoom, event_of, world_of}
+use Rattle.queue_machine.specs.Peaks.{opening_peak, peaked}
+use Rattle.queue_machine.specs.Replays.{CanReplay, is_too_large}
+use Rattle.queue_machine.specs.World.{World}
+
+-- the machine comes from w, with the peak p, to the last world and the last peak by these events, of which this is told
+abbrev pub Comes : {T : Type 0} → Kind → World (Shared T) (Running T) → Peak → List (Event T) → List (Told T) → World (Shared T) (Running T) → Peak → Type 0
+Comes k w p [] [] last top = (last ≡ w) × (top ≡ p)
+Comes k w p (e ∷ es) (t ∷ ts) last top = (ok : Bool) × (t ≡ (event_of k ok w e).1) × Comes k (event_of k ok w e).0 (peaked (event_of k ok w e).0 p) es ts last top
+Comes k w p _ _ last top = ⊥
+
+-- the run comes by these events, of which this was told, from the empty open queue of this kind that so many parties share
+pub record IsCourse {T A : Type 0} (k : Kind) (parties : ℕ) (events : List (Event T)) (told : List (Told T)) (c : Course T A) : Type 0 where
+  pub can : CanReplay k
+  pub small : is_too_large k ≡ false
+  pub kind_is : c.machine.kind ≡ k
+  pub comes : Comes k (opening_world k parties) opening_peak events told (world_of c.machine) c.peak
+  pub counted : HasCount c.machine.cells
+  pub few : length (left_of k (world_of c.machine)) ≤ c.handled
+
+-- the run comes by some events
+abbrev pub IsOnCourse : {T A : Type 0} → Course T A → Type 0
+IsOnCourse {T} c = (k : Kind) × (parties : ℕ) × (events : List (Event T)) × (told : List (Told T)) × IsCourse k parties events told c
+
+-- there is room for one event more
+abbrev pub CanGoOn : {T A : Type 0} → Course T A → Type 0
+CanGoOn c = HasRoom c.machine.cells × (c.handled + 1 < 2 ^ 64)
+
+-- whatever brought the run to c has brought it to d
+abbrev pub IsSameCourse : {T A : Type 0} → Course T A → Course T A → Type 0
+IsSameCourse {T} c d = (k : Kind) (parties : ℕ) (events : List (Event T)) (told : List (Told T)) → IsCourse k parties events told c → IsCourse k parties events told d
+
+-- whatever brought the run to c, this event leads on to d, and this is told of it
+abbrev pub Continues : {T A : Type 0} → Course T A → Event T → Told T → Course T A → Type 0
+Continues {T} c e t d = (k : Kind) (parties : ℕ) (events : List (Event T)) (told : List (Told T)) → IsCourse k parties events told c → IsCourse k parties (events ++ e ∷ []) (told ++ t ∷ []) d
+
+-- what is told of these events leads from the empty open queue to a last book, whose items are left; and the peak is theirs, which is none with a capacity
+pub record EndsAs {T A : Type 0} (k : Kind) (parties : ℕ) (events : List (Event T)) (told : List (Told T)) (r : Ended T A) : Type 0 where
+  pub last : Book T
+  pub run : Run (capacity_of k) parties (opening (capacity_of k)) events told last
+  pub left : r.left.items ≡ last.queue.items
+  pub peak : IsPeak (capacity_of k) parties events told r.peak
+  pub no_blocks : HasNoBlocks (capacity_of k) r.peak
+
+-- whatever brought the run to c, it ends so
+abbrev pub Leaves : {T A : Type 0} → Course T A → Ended T A → Type 0
+Leaves {T} c r = (k : Kind) (parties : ℕ) (events : List (Event T)) (told : List (Told T)) → IsCourse k parties events told c → EndsAs k parties events told r

@@ -1,0 +1,128 @@
+//! A run of the machine, one event after another.
+ghost use Rattle.std.specs.Prelude.{◌≡◌, ◌+◌, ◌≤◌, [], Bool, true, false, IfOk, IsErr, OnOk, vec_len, vec_capacity};
+ghost use Rattle.queue_machine.specs.Courses.{CanGoOn, Continues, IsCourse, IsOnCourse, IsSameCourse, Leaves};
+ghost use Rattle.queue_machine.specs.Machine.{HasRoomFor, KeepsRoom};
+ghost use Rattle.queue_machine.specs.Replays.{CanReplay, is_too_large};
+ghost use Rattle.queue_machine.specs.declared.types.Event.TheVariants.{Step};
+ghost use Rattle.queue_machine.specs.declared.types.Told.TheVariants.{Skipped};
+
+use crate::left::left;
+use crate::machine::Machine;
+use crate::peaks;
+use crate::run::too_large;
+use crate::types::{Event, Peak, Told};
+use queue_steps::steps::Kind;
+use std::alloc::{AllocError, Allocator, Global};
+
+/// A run of the machine so far: the machine, the blocks that it held at most, and how many events it handled.
+#[derive(Drop)]
+pub struct Course<T, A: Allocator> {
+    machine: Machine<T, A>,
+    peak: Peak,
+    handled: usize,
+}
+
+/// What a run leaves.
+#[derive(Debug, Drop)]
+pub struct Ended<T, A: Allocator = Global> {
+    /// The list at the end, front first, with the items that their push has not yet written.
+    pub left: Vec<T, A>,
+    /// The blocks that the run held at most.
+    pub peak: Peak,
+}
+
+impl<T: Drop, A: Allocator + Copy> Course<T, A> {
+    /// A run without an event yet, from the empty open queue, with room for the numbers of the blocks of so many events.
+    ///
+    /// # Errors
+    ///
+    /// Where there is no memory. A capacity that no queue may have is answered so without a request.
+    pub fn new(
+        alloc: A,
+        kind: Kind,
+        parties: usize,
+        events: usize,
+    ) -> Result<Course<T, A>, AllocError>
+        requires { CanReplay kind }
+        ensures opens { IfOk result (λ c. IsCourse kind parties [] [] c) }
+        ensures room { IfOk result (λ c. HasRoomFor c.machine.cells events × (c.handled ≡ 0)) }
+        ensures limited { is_too_large kind ≡ true → IsErr result }
+    {
+        if too_large(kind) {
+            return Err(AllocError);
+        }
+        Ok(Course {
+            machine: Machine::new(alloc, kind, parties, events)?,
+            peak: peaks::opening(),
+            handled: 0,
+        })
+    }
+
+    /// Makes room for what one event more may need.
+    ///
+    /// # Errors
+    ///
+    /// Where there is no memory, or 2^64 - 1 events were handled.
+    pub fn make_room(&mut self) -> Result<(), AllocError>
+        ensures stays { IsSameCourse self.old self.new }
+        ensures room { OnOk result (CanGoOn self.new) }
+    {
+        if self.handled == usize::MAX {
+            return Err(AllocError);
+        }
+        self.machine.cells.blocks.reserve(1)
+    }
+
+    /// Runs one event, and tells of it. An event that does not fit is skipped. Room for it is made before.
+    pub fn handle(&mut self, alloc: A, event: Event<T>) -> Told<T>
+        requires on_course { IsOnCourse self.old }
+        requires room { CanGoOn self.old }
+        ensures goes_on { Continues self.old event result self.new }
+        ensures room { KeepsRoom self.old.machine.cells self.new.machine.cells }
+        ensures handled { self.new.handled ≡ self.old.handled + 1 }
+    {
+        let before = peaks::numbers(&self.machine);
+        let told = self.machine.handle(alloc, event);
+        self.peak = peaks::after(&self.machine, before, self.peak);
+        self.handled += 1;
+        told
+    }
+
+    /// Whether the party is in a call. Where it is in none, its step would be skipped, and change nothing.
+    pub fn is_in_call(&self, party: usize) -> bool
+        ensures { result ≡ false → (granted : Bool) → Continues self.now (Step party granted) Skipped self.now }
+    {
+        party < self.machine.calls.len() && self.machine.calls[party].is_some()
+    }
+
+    /// Ends the run. `room` is an empty list with room for what is left.
+    pub(crate) fn end_in(self, room: Vec<T, A>) -> Ended<T, A>
+        requires on_course { IsOnCourse self }
+        requires empty { vec_len room ≡ 0 }
+        requires room { self.handled ≤ vec_capacity room }
+        ensures { Leaves self result }
+    {
+        let Course {
+            machine,
+            peak,
+            handled: _,
+        } = self;
+        Ended {
+            left: left(machine, room),
+            peak,
+        }
+    }
+
+    /// Ends the run, and gives what it leaves.
+    ///
+    /// # Errors
+    ///
+    /// Where there is no memory for what is left.
+    pub fn end(self, alloc: A) -> Result<Ended<T, A>, AllocError>
+        requires { IsOnCourse self }
+        ensures { IfOk result (λ ended. Leaves self ended) }
+    {
+        let room = Vec::with_capacity(alloc, self.handled)?;
+        Ok(self.end_in(room))
+    }
+}

@@ -1,0 +1,10 @@
+pub mod Counting
+pub mod Known
+pub mod Histories
+pub mod SharedCalls
+pub mod Doings
+pub mod Parting
+pub mod Operations
+pub mod Calling
+pub mod CallsAt
+pub mod Called

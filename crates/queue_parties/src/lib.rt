@@ -1,0 +1,6 @@
+//! What the parties of a shared queue know, and where their calls stand, whatever the queue is made of.
+#![tactic(auto)]
+
+pub mod known;
+pub mod task;
+pub mod parting;

@@ -1,0 +1,209 @@
+//! The steps of a pop from a chain of blocks.
+ghost use Rattle.std.specs.Prelude.{◌≡◌, ◌==◌, ◌&&◌, ◌+◌, ◌%◌, ◌<◌, nat_lt, not, Some, IsSome, true, false, bit_and};
+ghost use Rattle.queue_steps.specs.Words.{IsWord, position_of};
+ghost use Rattle.queue_steps.specs.ChainWords.{offset_of};
+ghost use Rattle.queue_steps.specs.declared.steps.unbounded.TheConstants.{WRITE};
+ghost use Rattle.queue_steps.specs.declared.steps.types.Answer.TheVariants.{Found};
+ghost use Rattle.queue_steps.specs.UnboundedNext.{at, chain_head_found, head_block_found, chain_pop_tail_found, takes, awaits, written_found, follows, followed, walks, walks_on, is_last_slot, unbounded_next};
+
+use crate::errors::PopError;
+use crate::model::Reply;
+use crate::sizes::{BLOCK_POSITIONS, BLOCK_SLOTS};
+use crate::steps::bounded::TAIL_STEP;
+use crate::steps::unbounded::{READ, UnboundedLocal, WRITE, load, offset, step};
+use crate::steps::{Link, Next, Op, Touch, Word};
+
+/// V2.
+#[inline(always)]
+pub(super) fn read_block<B: Copy>(head: u64) -> Next<B>
+    ensures { result ≡ at (UnboundedLocal.PopBlock head) Touch.Nothing (Op.LoadLink Link.HeadBlock) }
+{
+    step(
+        UnboundedLocal::PopBlock(head),
+        Touch::Nothing,
+        Op::LoadLink(Link::HeadBlock),
+    )
+}
+
+/// What follows a head that a pop found.
+#[inline]
+pub(super) fn after_head<B: Copy>(head: u64) -> Next<B>
+    ensures { result ≡ chain_head_found head }
+{
+    if offset(head) == BLOCK_SLOTS {
+        load(UnboundedLocal::PopHead, Word::Head)
+    } else {
+        read_block(head)
+    }
+}
+
+/// V4: the head moves on, to this word.
+#[inline(always)]
+pub(super) fn take<B: Copy>(head: u64, block: B, new: u64) -> Next<B>
+    ensures { result ≡ takes head block new }
+{
+    step(
+        UnboundedLocal::Taking(head, block),
+        Touch::Nothing,
+        Op::Exchange(Word::Head, head, new),
+    )
+}
+
+/// What follows the poppers' block: where it may be the last, the tail tells whether the queue is empty.
+#[inline(always)]
+pub(super) fn after_head_block<B: Copy>(head: u64, block: Option<B>) -> Next<B>
+    requires word { IsWord head }
+    requires shown { head % 2 ≡ 1 → IsSome block }
+    ensures { result ≡ head_block_found head block }
+{
+    if head % 2 == 1 {
+        match block {
+            Some(block) => take(head, block, head + TAIL_STEP),
+            None => unreachable!(),
+        }
+    } else {
+        load(UnboundedLocal::PopTail(head, block), Word::Tail)
+    }
+}
+
+/// What follows the tail that a pop found which is not that of an empty queue: where it is in another block, the head's block is not the last, and the new head says so.
+#[inline(always)]
+pub(super) fn take_before<B: Copy>(head: u64, block: B, tail: u64) -> Next<B>
+    requires word { IsWord head }
+    requires some { (position_of tail == position_of head) ≡ false }
+    ensures { result ≡ chain_pop_tail_found head (Some block) tail }
+{
+    if tail / 2 / BLOCK_POSITIONS == head / 2 / BLOCK_POSITIONS {
+        take(head, block, head + TAIL_STEP)
+    } else {
+        take(head, block, head + TAIL_STEP + 1)
+    }
+}
+
+/// What follows the tail that a pop found which is that of an empty queue, or was there before any block.
+#[inline]
+pub(super) fn after_pop_tail<B: Copy>(head: u64, block: Option<B>, tail: u64) -> Next<B>
+    requires { (IsSome block → (position_of tail == position_of head) ≡ true) }
+    ensures { result ≡ chain_pop_tail_found head block tail }
+{
+    if tail / 2 != head / 2 {
+        return load(UnboundedLocal::PopHead, Word::Head);
+    }
+    let why = if tail % 2 == 1 {
+        PopError::Closed
+    } else {
+        PopError::Empty
+    };
+    Next::Reply(Reply::Pop(Err(why)), None)
+}
+
+/// V9.
+#[inline]
+pub(super) fn await_item<B: Copy>(head: u64, block: B) -> Next<B>
+    ensures { result ≡ awaits head block }
+{
+    load(
+        UnboundedLocal::Awaiting(head, block),
+        Word::State(block, offset(head) as usize),
+    )
+}
+
+/// V5.
+#[inline]
+pub(super) fn follow<B: Copy>(head: u64, block: B) -> Next<B>
+    ensures { result ≡ follows head block }
+{
+    step(
+        UnboundedLocal::Following(head, block),
+        Touch::Nothing,
+        Op::LoadLink(Link::Next(block)),
+    )
+}
+
+/// What follows the block behind a passed one: it has to be there before the poppers enter it.
+#[inline]
+pub(super) fn after_following<B: Copy>(head: u64, block: B, after: Option<B>) -> Next<B>
+    ensures { result ≡ followed head block after }
+{
+    match after {
+        None => follow(head, block),
+        Some(after) => step(
+            UnboundedLocal::Peeking(head, block, after),
+            Touch::Nothing,
+            Op::LoadLink(Link::Next(after)),
+        ),
+    }
+}
+
+/// What follows the exchange of a head that was another, or stood at the last slot of its block: there the poppers pass to the next one.
+#[inline]
+pub(super) fn after_take<B: Copy>(head: u64, block: B, found: u64) -> Next<B>
+    requires { ((found == head) && not (is_last_slot head)) ≡ false }
+    ensures { result ≡ unbounded_next (UnboundedLocal.Taking head block) (Found found) }
+{
+    if found != head {
+        after_head(found)
+    } else {
+        follow(head, block)
+    }
+}
+
+/// The walk over a passed block, from this slot on: past the last one that others read, the block is given up.
+#[inline]
+pub(super) fn walk<B: Copy>(block: B, slot: u64, touch: Touch) -> Next<B>
+    ensures { result ≡ walks block slot touch }
+{
+    step(
+        UnboundedLocal::Walking(block, slot),
+        touch,
+        Op::Load(Word::State(block, slot as usize)),
+    )
+}
+
+/// Whether there is another slot that a walk looks at after this one.
+#[inline(always)]
+pub(super) fn goes_on(slot: u64) -> bool
+    requires { slot < BLOCK_SLOTS }
+    ensures { result ≡ nat_lt (slot + 2) BLOCK_SLOTS }
+{
+    slot + 2 < BLOCK_SLOTS
+}
+
+/// The walk goes on after this slot.
+#[inline]
+pub(super) fn walk_on<B: Copy>(block: B, slot: u64) -> Next<B>
+    requires { slot < BLOCK_SLOTS }
+    ensures { result ≡ walks_on block slot }
+{
+    if goes_on(slot) {
+        walk(block, slot + 1, Touch::Nothing)
+    } else {
+        Next::Reply(Reply::Pop(Ok(())), Some(block))
+    }
+}
+
+/// V10.
+#[inline(always)]
+pub(super) fn read<B: Copy>(head: u64, block: B) -> Next<B>
+    ensures { result ≡ at (UnboundedLocal.Reading block (offset_of head)) (Touch.Take (offset_of head)) (Op.Or (Word.State block (offset_of head)) READ) }
+{
+    let slot = offset(head);
+    step(
+        UnboundedLocal::Reading(block, slot),
+        Touch::Take(slot as usize),
+        Op::Or(Word::State(block, slot as usize), READ),
+    )
+}
+
+/// What follows the state of the slot at the head that is not written yet, or is the last of its block, whose reader begins the walk.
+#[inline]
+pub(super) fn after_state<B: Copy>(head: u64, block: B, state: u64) -> Next<B>
+    requires { (not (bit_and state WRITE == 0) && not (is_last_slot head)) ≡ false }
+    ensures { result ≡ written_found head block state }
+{
+    if state & WRITE == 0 {
+        await_item(head, block)
+    } else {
+        walk(block, 0, Touch::Take(offset(head) as usize))
+    }
+}
