@@ -6,6 +6,7 @@ pub mod block;
 pub mod chain;
 pub mod closing;
 pub mod hub;
+pub mod item;
 pub mod line;
 pub mod low;
 mod operation;

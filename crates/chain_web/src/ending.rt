@@ -18,9 +18,9 @@ ghost use Rattle.chain_web.specs.Leftover.{SlotLeft, BlockLeft, BlocksLeft, Same
 
 use crate::ends::Ends;
 use crate::rule::Chained;
-use block_web::block::Link;
 use block_web::chain::Chain;
 use block_web::hub::{HEAD, Hub, TAIL};
+use block_web::item::{Item, Place};
 use block_web::sizes::SLOTS;
 use block_web::web::{Seat, Web};
 use exclusive_queue::Exclusive;
@@ -36,17 +36,17 @@ const FIRST_BLOCK: u64 = 2;
 struct Rest<T> {
     head: u64,
     tail: u64,
-    front: Option<Link<T>>,
-    back: Option<Link<T>>,
+    front: Option<Place<T>>,
+    back: Option<Place<T>>,
 }
 
 /// Takes the ends out of a chain that nobody shares any more, and gives their memory back.
 fn take_ends<T, A: Allocator>(
     alloc: &A,
-    chain: &mut Chain<T, A>,
-    hub: Hub<T, A>,
-    tail: Link<T>,
-    head: Link<T>,
+    chain: &mut Chain<Item<T>, A>,
+    hub: Hub<Item<T>, A>,
+    tail: Place<T>,
+    head: Place<T>,
 ) -> Rest<T>
     requires heap { (chain.old.heap ≡ alloc.now) × (hub.heap ≡ alloc.now) }
     requires ends { InBlock tail.ptr × (hub.at ≡ tail.ptr) × (head.ptr ≡ head_of tail.ptr) }
@@ -72,11 +72,11 @@ fn take_ends<T, A: Allocator>(
 /// What is left when the only party ends the queue: a queue with one owner, in the same blocks. It makes no request.
 pub(crate) fn end<T, A: Allocator>(
     alloc: A,
-    web: Web<T, Doing<T>, Ends<T>, Chained, A>,
-    seat: Seat<T, Doing<T>, A>,
-    hub: Hub<T, A>,
-    tail: Link<T>,
-    head: Link<T>,
+    web: Web<Item<T>, Doing<T>, Ends<T>, Chained, A>,
+    seat: Seat<Item<T>, Doing<T>, A>,
+    hub: Hub<Item<T>, A>,
+    tail: Place<T>,
+    head: Place<T>,
 ) -> Exclusive<T, A>
     requires seat { Sits seat web }
     requires heap { (web.heap ≡ alloc) × (hub.heap ≡ alloc) }
@@ -102,10 +102,10 @@ pub(crate) fn end<T, A: Allocator>(
 /// item's block. Where such a call was moving the head over a block's end, all blocks are lost with it.
 pub(crate) fn give_up<T: Drop, A: Allocator>(
     alloc: &A,
-    web: Web<T, Doing<T>, Ends<T>, Chained, A>,
-    hub: Hub<T, A>,
-    tail: Link<T>,
-    head: Link<T>,
+    web: Web<Item<T>, Doing<T>, Ends<T>, Chained, A>,
+    hub: Hub<Item<T>, A>,
+    tail: Place<T>,
+    head: Place<T>,
 )
     requires heap { (web.heap ≡ alloc.now) × (hub.heap ≡ alloc.now) }
     requires ends { (tail.ptr ≡ web.key.tail.ptr) × (head.ptr ≡ web.key.head.ptr) }
@@ -156,10 +156,10 @@ fn items_before(word: u64) -> u64
 /// Empties the blocks from the front's on, as far as they are linked, and gives up each that is empty then.
 fn give_up_blocks<T: Drop, A: Allocator>(
     alloc: &A,
-    chain: &mut Chain<T, A>,
+    chain: &mut Chain<Item<T>, A>,
     head: u64,
     tail: u64,
-    front: Link<T>,
+    front: Place<T>,
 )
     requires heap { chain.old.heap ≡ alloc.now }
     requires left { BlocksLeft (spec_items_before (position_of head)) (spec_items_before (position_of tail)) (spec_block_of head) chain.old.blocks }
@@ -182,9 +182,9 @@ fn give_up_blocks<T: Drop, A: Allocator>(
 
 /// Drops the items of a block, whose first slot is that of the item `first`, and tells whether all its slots are empty then.
 fn empty_block<T: Drop, A: Allocator>(
-    chain: &mut Chain<T, A>,
+    chain: &mut Chain<Item<T>, A>,
     number: u64,
-    link: Link<T>,
+    link: Place<T>,
     first: u64,
     taken: u64,
     accepted: u64,
@@ -206,9 +206,9 @@ fn empty_block<T: Drop, A: Allocator>(
 
 /// Drops what is in the slot of an item, and tells whether the slot is empty then: it is not where a call that never ended has it.
 fn empty_slot<T: Drop, A: Allocator>(
-    chain: &mut Chain<T, A>,
+    chain: &mut Chain<Item<T>, A>,
     number: u64,
-    link: Link<T>,
+    link: Place<T>,
     slot: usize,
     item: u64,
     taken: u64,

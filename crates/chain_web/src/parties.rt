@@ -9,8 +9,8 @@ ghost use Rattle.queue_parties.specs.Parting.{IsParty, Parts, Joins, Meets};
 use crate::ends::Ends;
 use crate::rule::Chained;
 use crate::web::{ChainSeat, ChainWeb};
-use block_web::block::Link;
 use block_web::hub::PARTIES;
+use block_web::item::{Item, Place};
 use block_web::web::{Play, Rested, Seat, Web};
 use queue_parties::known::Doing;
 use queue_parties::parting::{Both, Halves};
@@ -20,7 +20,7 @@ use std::alloc::Allocator;
 /// The count is raised for a second party.
 pub struct Enter;
 
-impl<T> Play<T, Doing<T>> for Enter {
+impl<T> Play<Item<T>, Doing<T>> for Enter {
     ghost use Rattle.queue_parties.specs.Parting.{Entered};
     ghost use Rattle.chain_web.specs.Parties.{OfView};
 
@@ -30,7 +30,7 @@ impl<T> Play<T, Doing<T>> for Enter {
 /// The count, raised in vain, is lowered.
 pub struct Withdraw;
 
-impl<T> Play<T, Doing<T>> for Withdraw {
+impl<T> Play<Item<T>, Doing<T>> for Withdraw {
     ghost use Rattle.queue_parties.specs.Parting.{Withdrew};
     ghost use Rattle.chain_web.specs.Parties.{OfView};
 
@@ -40,7 +40,7 @@ impl<T> Play<T, Doing<T>> for Withdraw {
 /// The count is lowered for two parties that are one.
 pub struct Unite;
 
-impl<T> Play<T, Doing<T>> for Unite {
+impl<T> Play<Item<T>, Doing<T>> for Unite {
     ghost use Rattle.queue_parties.specs.Parting.{BecameOne};
     ghost use Rattle.chain_web.specs.Parties.{OfView};
 
@@ -50,7 +50,7 @@ impl<T> Play<T, Doing<T>> for Unite {
 /// The count is read by two parties that meet.
 pub struct LookOn;
 
-impl<T> Play<T, Doing<T>> for LookOn {
+impl<T> Play<Item<T>, Doing<T>> for LookOn {
     ghost use Rattle.queue_parties.specs.Parting.{SawAll};
     ghost use Rattle.chain_web.specs.Parties.{OfView};
 
@@ -60,7 +60,7 @@ impl<T> Play<T, Doing<T>> for LookOn {
 /// The count is read by a party that may be the only one.
 pub struct Count;
 
-impl<T> Play<T, Doing<T>> for Count {
+impl<T> Play<Item<T>, Doing<T>> for Count {
     ghost use Rattle.queue_parties.specs.Parting.{Counted};
     ghost use Rattle.chain_web.specs.Parties.{OfView};
 
@@ -68,12 +68,12 @@ impl<T> Play<T, Doing<T>> for Count {
 }
 
 /// A web that stands for a chain.
-type Line<T, A> = Web<T, Doing<T>, Ends<T>, Chained, A>;
+type Line<T, A> = Web<Item<T>, Doing<T>, Ends<T>, Chained, A>;
 
 /// Parts a party in two, or hands it back where there are too many. The only party is parted. The count lies at `tail`, the end of the tail.
 fn split<T, A: Allocator>(
     web: &Line<T, A>,
-    tail: Link<T>,
+    tail: Place<T>,
     party: Rested<Doing<T>>,
 ) -> Result<(Rested<Doing<T>>, Rested<Doing<T>>), Rested<Doing<T>>>
     requires asleep { party.asleep ≡ true }
@@ -93,7 +93,7 @@ fn split<T, A: Allocator>(
 /// Makes one party of two. The count lies at `tail`, the end of the tail.
 fn join<T, A: Allocator>(
     web: &Line<T, A>,
-    tail: Link<T>,
+    tail: Place<T>,
     first: Rested<Doing<T>>,
     second: Rested<Doing<T>>,
 ) -> Rested<Doing<T>>
@@ -112,7 +112,7 @@ fn join<T, A: Allocator>(
 /// Lets two parties see what either has seen. The count lies at `tail`, the end of the tail.
 fn meet<T, A: Allocator>(
     web: &Line<T, A>,
-    tail: Link<T>,
+    tail: Place<T>,
     first: Rested<Doing<T>>,
     second: Rested<Doing<T>>,
 ) -> (Rested<Doing<T>>, Rested<Doing<T>>)
@@ -132,8 +132,8 @@ fn meet<T, A: Allocator>(
 /// Whether this is the only party, which it is exactly where all shares are its own. The count lies at `tail`, the end of the tail.
 fn is_only<T, A: Allocator>(
     web: &Line<T, A>,
-    tail: Link<T>,
-    seat: &mut Seat<T, Doing<T>, A>,
+    tail: Place<T>,
+    seat: &mut Seat<Item<T>, Doing<T>, A>,
 ) -> bool
     requires web { Sits seat.old web.now × InBlock tail.ptr × (tail.ptr ≡ web.now.key.tail.ptr) }
     requires rests { IsResting seat.old.sitter.view }

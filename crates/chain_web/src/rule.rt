@@ -1,5 +1,6 @@
 //! The rule of a shared chain, and what its steps tell.
 use crate::ends::Ends;
+use block_web::item::Item;
 use block_web::web::{LinkPlay, Play, WebRule};
 use queue_parties::known::Doing;
 use queue_parties::task::Task;
@@ -8,7 +9,7 @@ use std::marker::PhantomData;
 /// A web that stands for a chain.
 pub struct Chained;
 
-impl<T> WebRule<T, Doing<T>, Ends<T>> for Chained {
+impl<T> WebRule<Item<T>, Doing<T>, Ends<T>> for Chained {
     ghost use Rattle.chain_web.specs.Rule.{chained, first_seat};
 
     ghost holds = { chained };
@@ -21,14 +22,14 @@ pub struct Steps<J> {
     of: PhantomData<J>,
 }
 
-impl<T, J: Task<T>> Play<T, Doing<T>> for Steps<J> {
+impl<T, J: Task<T>> Play<Item<T>, Doing<T>> for Steps<J> {
     ghost use Rattle.queue_parties.specs.Operations.{answer_for};
     ghost use Rattle.chain_web.specs.Steps.{Follows};
 
     ghost then = { λ st m n q. Follows J.call (answer_for J.call.op n) q };
 }
 
-impl<T, J: Task<T>> LinkPlay<T, Doing<T>> for Steps<J> {
+impl<T, J: Task<T>> LinkPlay<Item<T>, Doing<T>> for Steps<J> {
     ghost use Rattle.chain_web.specs.Steps.{FollowsLink};
 
     ghost then = { λ m p q. FollowsLink J.call p q };
@@ -39,7 +40,7 @@ pub struct Stores<J> {
     of: PhantomData<J>,
 }
 
-impl<T, J: Task<T>> LinkPlay<T, Doing<T>> for Stores<J> {
+impl<T, J: Task<T>> LinkPlay<Item<T>, Doing<T>> for Stores<J> {
     ghost use Rattle.queue_steps.specs.declared.steps.types.Answer.TheVariants as answer;
     ghost use Rattle.chain_web.specs.Steps.{Follows};
 
@@ -51,7 +52,7 @@ pub struct Grants<J> {
     of: PhantomData<J>,
 }
 
-impl<T, J: Task<T>> Play<T, Doing<T>> for Grants<J> {
+impl<T, J: Task<T>> Play<Item<T>, Doing<T>> for Grants<J> {
     ghost use Rattle.chain_web.specs.Steps.{FollowsGrant};
     ghost use Rattle.chain_web.specs.Turning.{carried_place};
 
@@ -63,7 +64,7 @@ pub struct Refusals<J> {
     of: PhantomData<J>,
 }
 
-impl<T, J: Task<T>> Play<T, Doing<T>> for Refusals<J> {
+impl<T, J: Task<T>> Play<Item<T>, Doing<T>> for Refusals<J> {
     ghost use Rattle.queue_steps.specs.declared.steps.types.Answer.TheVariants as answer;
     ghost use Rattle.chain_web.specs.Steps.{Follows};
 

@@ -5,7 +5,7 @@ ghost use Rattle.chain_web.specs.Names.{state_block as spec_state_block};
 ghost use Rattle.chain_web.specs.Turning.{CanTouch, Touched};
 
 use crate::web::ChainSeat;
-use block_web::block::Link as Place;
+use block_web::item::{Item, Place};
 use queue_steps::steps::{Op, Touch, Word};
 use std::alloc::Allocator;
 
@@ -36,13 +36,13 @@ pub(crate) fn touch<T, A: Allocator>(
         (Touch::Nothing, carried) => carried,
         (Touch::Put(slot), Some(value)) => match state_block(op) {
             Some(block) => {
-                seat.put(block, slot, value);
+                seat.put(block, slot, Item::new(value));
                 None
             }
             None => unreachable!(),
         },
         (Touch::Take(slot), None) => match state_block(op) {
-            Some(block) => Some(seat.take(block, slot)),
+            Some(block) => Some(seat.take(block, slot).into_inner()),
             None => unreachable!(),
         },
         _ => unreachable!(),

@@ -16,9 +16,9 @@ use crate::ends::Ends;
 use crate::rule::{Chained, Grants, Refusals, Steps, Stores};
 use crate::source::Source;
 use crate::touching::touch;
-use block_web::block::Link as Place;
 use block_web::chain::Chain;
 use block_web::hub::{HEAD, Hub, PARTIES, TAIL};
+use block_web::item::{Item, Place};
 use block_web::sizes::SLOTS;
 use block_web::web::{Seat, Web};
 use exclusive_queue::Exclusive;
@@ -33,16 +33,16 @@ use std::marker::Brand;
 ///
 /// The allocator of its blocks is kept beside it.
 pub struct ChainWeb<T, A: Allocator> {
-    pub(crate) web: Web<T, Doing<T>, Ends<T>, Chained, A>,
+    pub(crate) web: Web<Item<T>, Doing<T>, Ends<T>, Chained, A>,
     pub(crate) tail: Place<T>,
     pub(crate) head: Place<T>,
-    pub(crate) hub: Hub<T, A>,
+    pub(crate) hub: Hub<Item<T>, A>,
     ghost heaps: { hub.heap ≡ web.heap },
     ghost ends: { (web.key.tail.ptr ≡ tail.ptr) × (web.key.head.ptr ≡ head.ptr) × (hub.at ≡ tail.ptr) × (head.ptr ≡ head_of tail.ptr) × (tail.ptr ≡ block_ptr (block_of tail.ptr) (count_of tail.ptr)) },
 }
 
 /// A party's seat.
-pub type ChainSeat<T, A> = Seat<T, Doing<T>, A>;
+pub type ChainSeat<T, A> = Seat<Item<T>, Doing<T>, A>;
 
 impl<T, A: Allocator> ChainWeb<T, A> {
     ghost use Rattle.chain_web.specs.Turning.{CanOperate, Operated, Carries, GaveUp, SitsAt, ChainCan, ChainDoes, heap_of};

@@ -13,7 +13,7 @@ use crate::gate::Gate;
 use crate::party::{Hold, Party};
 use crate::shared_chain::SharedChain;
 use crate::turns::{Turns, drive_apart, drive_promptly};
-use block_web::block::Link as Place;
+use block_web::item::Place;
 use block_web::web::Rested;
 use chain_web::source::{Refusing, Source};
 use chain_web::web::{ChainSeat, ChainWeb};

@@ -20,8 +20,8 @@ use crate::driver::{drive, drive_apart, observe};
 use crate::single::Single;
 use crate::unbounded::{LinkedBlocks, Name};
 use atomic_table::Closed;
-use block_web::block::Link;
 use block_web::chain::Chain;
+use block_web::item::{Item, Place};
 use queue_steps::errors::{ForcePushError, PopError, PushError};
 use queue_steps::model::{Call, CallKind, Reply, ReplyKind};
 use std::alloc::{AllocError, Allocator, Global};
@@ -225,11 +225,11 @@ impl<T, A: Allocator> Exclusive<T, A> {
     /// `head` and `tail` are the words of the two positions, `front` and `back` the links to the first and the last block.
     pub fn of_chain(
         alloc: A,
-        chain: Chain<T, A>,
+        chain: Chain<Item<T>, A>,
         head: u64,
         tail: u64,
-        front: Option<Link<T>>,
-        back: Option<Link<T>>,
+        front: Option<Place<T>>,
+        back: Option<Place<T>>,
     ) -> Self
         requires heap { chain.heap ≡ alloc }
         requires held { AreHeld chain.blocks }

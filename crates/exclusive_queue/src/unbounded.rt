@@ -9,8 +9,9 @@ ghost use Rattle.exclusive_queue.specs.LineCells.{state_block as spec_state_bloc
 ghost use Rattle.exclusive_queue.specs.ChainMemory.{block_of as spec_block_of};
 
 use crate::cells::{Cells, exchange};
-use block_web::block::{Link as Place, Loose};
+use block_web::block::Loose;
 use block_web::chain::Chain;
+use block_web::item::{Item, Place};
 use queue_steps::sizes::{BLOCK_POSITIONS, BLOCK_SLOTS};
 use queue_steps::steps::{
     self, Answer, Kind, Link, Local, Op, READ, TAIL_STEP, Touch, WRITE, Word,
@@ -39,7 +40,7 @@ impl<T> Copy for Name<T> {}
 /// A block that was granted and is not laid yet.
 pub(crate) struct Spare<T, A: Allocator> {
     pub(crate) name: Name<T>,
-    pub(crate) block: Loose<T, A>,
+    pub(crate) block: Loose<Item<T>, A>,
 }
 
 /// The blocks, in the order in which they were laid, the positions of the front and of the next item to come, and the blocks of these two.
@@ -47,7 +48,7 @@ pub(crate) struct Spare<T, A: Allocator> {
 /// A contract sees the positions, the names of the blocks, and the words and items of those that are held.
 pub(crate) struct LinkedBlocks<T, A: Allocator> {
     alloc: A,
-    chain: Chain<T, A>,
+    chain: Chain<Item<T>, A>,
     head: u64,
     tail: u64,
     head_block: Option<Name<T>>,
@@ -156,7 +157,7 @@ impl<T, A: Allocator> LinkedBlocks<T, A> {
     /// the words of its head and its tail, and the links to the first and the last of its blocks.
     pub(crate) fn of_chain(
         alloc: A,
-        chain: Chain<T, A>,
+        chain: Chain<Item<T>, A>,
         head: u64,
         tail: u64,
         front: Option<Place<T>>,
@@ -231,7 +232,9 @@ impl<T, A: Allocator> LinkedBlocks<T, A> {
         ensures { (self.new, carried.new) ≡ exchanged self.old (Some block) slot carried.old }
     {
         match carried.take() {
-            Some(item) => self.chain.put(block.number, block.link, slot, item),
+            Some(item) => self
+                .chain
+                .put(block.number, block.link, slot, Item::new(item)),
             None => {}
         }
     }
@@ -243,8 +246,10 @@ impl<T, A: Allocator> LinkedBlocks<T, A> {
         ensures { (self.new, carried.new) ≡ exchanged self.old (Some block) slot carried.old }
     {
         let item = self.chain.take(block.number, block.link, slot);
-        match carried.replace(item) {
-            Some(other) => self.chain.put(block.number, block.link, slot, other),
+        match carried.replace(item.into_inner()) {
+            Some(other) => self
+                .chain
+                .put(block.number, block.link, slot, Item::new(other)),
             None => {}
         }
     }
