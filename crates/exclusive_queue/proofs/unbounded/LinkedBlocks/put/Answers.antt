@@ -17,7 +17,7 @@ invariant_of-self g c =
     let b = c.args.block in
     let can = rw (← c.self.view_is) at c.requires in
     let k = Knows-named s b c.self.invariant can.0 in
-    set-linked s b.number _ c.put.new.self c.self.invariant k.below (homed-held (block_of s b) c.args.slot (Some c.in-Some.item) k.held) c.put.ensures.0 c.put.ensures.1
+    set-linked s b.number _ c.put.new.self c.self.invariant k.below (homed-held (block_of s b) c.args.slot (Some c.in-Some.item) k.held) c.put.ensures.0 (rw c.new.ensures at c.put.ensures.1)
 
 pub returns-in-Some : goal.returns-in-Some
 returns-in-Some g c =
@@ -25,4 +25,4 @@ returns-in-Some g c =
     let b = c.args.block in
     let can = rw (← c.self.view_is) at c.requires in
     let k = Knows-named s b c.self.invariant can.0 in
-    rw (← c.self.view_is) (put-result s b c.args.slot c.in-Some.item c.put.new.self c.args.carried.now c.take.new.self k can.2 (sym c.take.ensures.value ∙ c.in-Some.is) c.take.ensures.after c.put.ensures.1)
+    rw (← c.self.view_is) (put-result s b c.args.slot c.in-Some.item c.put.new.self c.args.carried.now c.take.new.self k can.2 (sym c.take.ensures.value ∙ c.in-Some.is) c.take.ensures.after (rw c.new.ensures at c.put.ensures.1))

@@ -36,7 +36,7 @@ returns-in-None g c =
     let k = Knows-named s b c.self.invariant can.0 in
     let none : c.args.carried.now ≡ None = sym c.replace.ensures.value ∙ c.in-None.is in
     rw (← c.self.view_is)
-    (take-result s b c.args.slot c.take-item.result c.take-item.new.self c.args.carried.now c.replace.new.self k can.1 c.take-item.ensures.value c.replace.ensures.after
+    (take-result s b c.args.slot c.take-item.result c.take-item.new.self c.args.carried.now c.replace.new.self k can.1 c.take-item.ensures.value (rw c.into_inner.ensures at c.replace.ensures.after)
     (rw none c.take-item.ensures.chain.1))
 
 pub invariant_of-self : goal.invariant_of-self
@@ -45,7 +45,7 @@ invariant_of-self g c =
     let b = c.args.block in
     let can = rw (← c.self.view_is) at c.requires in
     let k = Knows-named s b c.self.invariant can.0 in
-    let both = c.put.ensures.1 ∙ ap (λ bs. with_home bs b.number c.args.slot (full c.in-Some.other)) c.take-item.ensures.chain.1
+    let both = (rw c.new.ensures at c.put.ensures.1) ∙ ap (λ bs. with_home bs b.number c.args.slot (full c.in-Some.other)) c.take-item.ensures.chain.1
     ∙ home-twice (blocks_in s) b.number c.args.slot vacant (full c.in-Some.other) (omega (arith, k.below, c.self.invariant.laid)) in
     set-linked s b.number _ c.put.new.self c.self.invariant k.below (homed-held (block_of s b) c.args.slot (Some c.in-Some.other) k.held) (c.put.ensures.0 ∙ c.take-item.ensures.chain.0) both
 
@@ -56,7 +56,7 @@ returns-in-Some g c =
     let can = rw (← c.self.view_is) at c.requires in
     let k = Knows-named s b c.self.invariant can.0 in
     let some : c.args.carried.now ≡ Some c.in-Some.other = sym c.replace.ensures.value ∙ c.in-Some.is in
-    let both = c.put.ensures.1 ∙ ap (λ bs. with_home bs b.number c.args.slot (full c.in-Some.other)) c.take-item.ensures.chain.1
+    let both = (rw c.new.ensures at c.put.ensures.1) ∙ ap (λ bs. with_home bs b.number c.args.slot (full c.in-Some.other)) c.take-item.ensures.chain.1
     ∙ home-twice (blocks_in s) b.number c.args.slot vacant (full c.in-Some.other) (omega (arith, k.below, c.self.invariant.laid)) in
     rw (← c.self.view_is)
-    (take-result s b c.args.slot c.take-item.result c.put.new.self c.args.carried.now c.replace.new.self k can.1 c.take-item.ensures.value c.replace.ensures.after (rw some both))
+    (take-result s b c.args.slot c.take-item.result c.put.new.self c.args.carried.now c.replace.new.self k can.1 c.take-item.ensures.value (rw c.into_inner.ensures at c.replace.ensures.after) (rw some both))
