@@ -1,4 +1,5 @@
-use Rattle.std.proofs.Common.{◌∙◌, ℕ, None, List, drop, sym, ap, subst}
+use Rattle.std.proofs.Common.{◌∙◌, ℕ, None, List, [], drop, sym, ap, subst}
+use contract.BorrowLft.{⊑_meet, ⊑_static}
 use Rattle.block_web.specs.Web.{Block}
 use Rattle.queue_steps.specs.Effect.{after}
 use Rattle.queue_steps.specs.Legal.{IsShown}
@@ -9,7 +10,10 @@ use Rattle.chain_web.proofs.Finished.{gone_take, keeps_held, keeps_idle, keeps_s
 use Rattle.chain_web.proofs.ending.end.Goals as goal
 
 pub forget-requires : goal.forget-requires
-forget-requires g c κs within = (within.0, (within.1, gone_take c.take_ends-head.new.chain.blocks))
+forget-requires g c κs within =
+    -- an item's own lives, and those of its value
+    let lives = ⊑_meet _ _ [] within.0 (⊑_static _) in
+    (⊑_meet _ _ _ lives lives, (within.1, gone_take c.take_ends-head.new.chain.blocks))
 
 pub of_chain-requires-clause-held : goal.of_chain-requires-clause-held
 of_chain-requires-clause-held g c =
