@@ -49,7 +49,6 @@ use Rattle.chain_web.proofs.Tested.{alive_within, next_tested, count_kept}
 can_next : (l : Local ℕ) (a : Answer ℕ) → l ≡ local.Unbounded (chain_of l) → FitsChain (chain_of l) a → CanNext queue.Unbounded l a × (next_of queue.Unbounded l a ≡ unbounded_next (chain_of l) a)
 can_next l a is fits = (subst (λ z. CanNext queue.Unbounded z a) (sym is) fits, ap (λ z. next_of queue.Unbounded z a) is)
 
-
 module _ {A : Type 0} where
   -- a chain makes no front
   no_front : (c r : Chain A) (e : Option (Effect A)) (was : Bool) → Leads (queue_of c) e (queue_of r) → MayFront e was
@@ -88,16 +87,15 @@ module _ {A : Type 0} where
     -- it keeps the rule, and tells how the call goes on
     pub follows : (s : State A (Doing A)) (r : Rule te he s) (id : ℕ) (u : Doing A) (c : InCall A) → get_elem? s.views id ≡ some u → (st : Standing chain_calls r.cells r.history id u.known c) → (a : Answer ℕ) (bs : List (Block A)) (q : Sitter A (Doing A))
         → word_of bs 0 PARTIES ≡ word_of s.blocks 0 PARTIES → Found r.cells id st.here.0 a bs q → (w : Doing A) × Rule te he record { blocks = bs; views = set s.views id w } × Follows c a (viewed w q)
-    follows s r id u c at st a bs q count f =
-        (
-          stepping.view,
-          record { cells = after; history = grown r.history right.e; codes = f.codes; all = subst (λ (n : ℕ). CallsAt chain_calls after (grown r.history right.e) n (set s.views id stepping.view)) (sym count) stepping.all },
-          (
-            can.0,
-            subst (λ (n : Next ℕ). After c v n (viewed stepping.view q)) (sym can.1)
-                (f.lends, stepping.tells, holds_viewed stepping.view f.lends todo q f.holds, may),
-          ),
-        )
+    follows s r id u c at st a bs q count f = (
+      stepping.view,
+      record { cells = after; history = grown r.history right.e; codes = f.codes; all = subst (λ (n : ℕ). CallsAt chain_calls after (grown r.history right.e) n (set s.views id stepping.view)) (sym count) stepping.all },
+      (
+        can.0,
+        subst (λ (n : Next ℕ). After c v n (viewed stepping.view q)) (sym can.1)
+            (f.lends, stepping.tells, holds_viewed stepping.view f.lends todo q f.holds, may),
+      ),
+    )
       where
         here : At r.cells.chain id st.ms c.local c.touch c.op c.carried c.call c.effects
         here = st.here.0

@@ -72,18 +72,25 @@ module _ {A : Type 0} where
   -- where none of that changed, the block stands for it as before
   pub there_same : (g r : OutChain A) (b : ℕ) (x : Block A) → SameBlock g r b → IsThere g b x → IsThere r b x
   there_same g r b x s (lies, inl gone) = (lies ∙ ap spot (sym s.name), inl (s.walk ∙ gone.0, gone.1))
-  there_same g r b x s (lies, inr on) = (lies ∙ ap spot (sym s.name), inr ((λ e. on.0 (sym s.walk ∙ e)), on.1, record {
-    words = on.2.words;
-    homes = on.2.homes;
-    state = λ i low ne. let z = on.2.state i low (λ last e. ne last (s.readers i low ∙ e)) in record {
-      written = z.written ∙ ap (λ w. not (is_wrote w)) (sym (s.writers i low));
-      read = z.read ∙ ap (λ w. not (is_done w)) (sym (s.readers i low));
-      destroyed = λ u. z.destroyed (λ e. u (s.readers i low ∙ e)) ∙ ap (λ w. not (waits_at w i)) (sym s.walk);
-    };
-    plain = λ before i low. on.2.plain (sym s.walk ∙ before) i low ∙ (λ j. plain_state (sym (s.writers i low) j) (sym (s.readers i low) j));
-    slot = λ i low. on.2.slot i low ∙ (λ j. some (home_of (sym (s.writers i low) j) (sym (s.readers i low) j) (sym (s.out i low) j)));
-    linked = on.2.linked ∙ sym s.link;
-  }))
+  there_same g r b x s (lies, inr on) = (
+    lies ∙ ap spot (sym s.name),
+    inr (
+      (λ e. on.0 (sym s.walk ∙ e)),
+      on.1,
+      record {
+        words = on.2.words;
+        homes = on.2.homes;
+        state = λ i low ne. let z = on.2.state i low (λ last e. ne last (s.readers i low ∙ e)) in record {
+          written = z.written ∙ ap (λ w. not (is_wrote w)) (sym (s.writers i low));
+          read = z.read ∙ ap (λ w. not (is_done w)) (sym (s.readers i low));
+          destroyed = λ u. z.destroyed (λ e. u (s.readers i low ∙ e)) ∙ ap (λ w. not (waits_at w i)) (sym s.walk);
+        };
+        plain = λ before i low. on.2.plain (sym s.walk ∙ before) i low ∙ (λ j. plain_state (sym (s.writers i low) j) (sym (s.readers i low) j));
+        slot = λ i low. on.2.slot i low ∙ (λ j. some (home_of (sym (s.writers i low) j) (sym (s.readers i low) j) (sym (s.out i low) j)));
+        linked = on.2.linked ∙ sym s.link;
+      },
+    ),
+  )
 
   -- a block that a reply gives up is a spare, or left the web before
   pub codes_left : (tail_end head_end : Ptr) (c : Chain A) (out : ℕ → Bool) (bs : List (Block A)) (n : Next ℕ) → Codes tail_end head_end (record { chain = c; out = out }) bs → Codes tail_end head_end (record { chain = left_by c n; out = out }) bs

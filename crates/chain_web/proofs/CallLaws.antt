@@ -43,12 +43,10 @@ part_item (Write n) = n
 part_item (Read n) = n
 part_item _ = 0
 
-
 -- every operation but the question for a block is on a block of the web
 abbrev pub OnBlocks : Op ℕ → Type 0
 OnBlocks op.Ask = ⊥
 OnBlocks _ = Unit {0}
-
 
 module _ {T : Type 0} where
   -- a slot that another party has stays its own, and with what lies in it

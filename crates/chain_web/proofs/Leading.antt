@@ -80,7 +80,7 @@ module _ {T A : Type 0} (w : ChainWeb T A) where
           fill,
           λ q gave.
               let done : IsFree (sitter s.sitter.view s.sitter.hand None) × SharedCall None (view_of p.sitter.view.known) (view_of s.sitter.view.known) c y =
-                  ((h.0, refl, rests, cap, calls.legal, owns), subst (λ (e : View T × Call T). SharedCall None e.0 (view_of s.sitter.view.known) e.1 y) (λ i. (begun i, is i)) calls) in
+              ((h.0, refl, rests, cap, calls.legal, owns), subst (λ (e : View T × Call T). SharedCall None e.0 (view_of s.sitter.view.known) e.1 y) (λ i. (begun i, is i)) calls) in
               let at = subst (λ (m : Sitter T (Doing T)). IsFree m × SharedCall None (view_of p.sitter.view.known) (view_of m.view.known) c y) (sym gave.1) done in
               ((sits_still w.web s q gave.0 sits, at.0), at.1),
         ),
@@ -124,7 +124,7 @@ module _ {T A : Type 0} (w : ChainWeb T A) where
   begins_reply p c y rests tells right q gave =
       let k = p.sitter.view.known in
       let done : IsFree (sitter p.sitter.view p.sitter.hand None) × SharedCall None (view_of k) (view_of k) c y =
-          ((rests.1.0, refl, rests.1.2, rests.1.3, rests.1.4, rests.1.5), quiet None (view_of k) (view_of k) k.seen c y (prefix_self k.seen) (prefix_self k.seen) rests.1.4 refl refl tells (right (after None k.seen) (cap_after None k.seen))) in
+      ((rests.1.0, refl, rests.1.2, rests.1.3, rests.1.4, rests.1.5), quiet None (view_of k) (view_of k) k.seen c y (prefix_self k.seen) (prefix_self k.seen) rests.1.4 refl refl tells (right (after None k.seen) (cap_after None k.seen))) in
       let at = subst (λ (m : Sitter T (Doing T)). IsFree m × SharedCall None (view_of k) (view_of m.view.known) c y) (sym gave.1) done in
       ((sits_still w.web p q gave.0 rests.0, at.0), at.1)
 

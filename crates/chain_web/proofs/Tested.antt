@@ -92,7 +92,7 @@ module _ {A : Type 0} where
   word_count : (bs : List (Block A)) (b i n : ℕ) → 0 < length bs → (b ≡ 0 → i ≡ 0) → word_of (with_word bs b i n) 0 PARTIES ≡ word_of bs 0 PARTIES
   word_count bs b i n lt at = dite (ℕ_discrete b 0)
       (λ same. subst (λ z. word_of (with_word bs z i n) 0 PARTIES ≡ word_of bs 0 PARTIES) (sym same)
-          (ap (λ (x : Block A). get_or x.words PARTIES 0) (word_here bs 0 i n lt) ∙ get_or-set_other (block bs 0).words i PARTIES n 0 (λ e. absurd (let z = at same in omega arith))))
+      (ap (λ (x : Block A). get_or x.words PARTIES 0) (word_here bs 0 i n lt) ∙ get_or-set_other (block bs 0).words i PARTIES n 0 (λ e. absurd (let z = at same in omega arith))))
       (λ ne. ap (λ (x : Block A). get_or x.words PARTIES 0) (word_else bs b i n 0 (λ e. ne (sym e))))
 
   written_count : (bs : List (Block A)) (b i n : ℕ) → 0 < length bs → (b ≡ 0 → i ≡ 0) → (word_of (with_word bs b i n) 0 PARTIES ≡ word_of bs 0 PARTIES) × (0 < length (with_word bs b i n))

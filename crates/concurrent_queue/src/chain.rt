@@ -90,8 +90,15 @@ impl<T, A: Allocator, Q: Source<T, A>> Turns<T, Place<T>, Asking<T, A, Q>> for S
         requires { ChainCan self.now.chain asking.old.seat call.now local.now todo op carried }
         ensures { ChainDoes asking.old.seat call.now local.now todo op carried result.0 asking.new.seat result.1 }
     {
-        self.chain
-            .turn::<Q>(&self.alloc, &mut asking.seat, call, local, todo, op, carried)
+        self.chain.turn::<Q>(
+            &self.alloc,
+            &mut asking.seat,
+            call,
+            local,
+            todo,
+            op,
+            carried,
+        )
     }
 
     fn give_up(&self, asking: &mut Asking<T, A, Q>, block: Place<T>)

@@ -10,12 +10,12 @@ ghost use Rattle.queue_parties.specs.Known.{party, view_of};
 ghost use Rattle.concurrent_queue.specs.RingOpening.{first_words};
 ghost use Rattle.queue_parties.specs.Doings.{idle, IsAlone};
 
-use queue_parties::known::Doing;
 use crate::table::{SharedTable, Sizes, TableKind, TableSteps};
 use atomic_table::Seat;
 use exclusive_queue::Exclusive;
 use exclusive_queue::ring_words::{HEAD, STAMPS, TAIL, words_before_stamps};
 use exclusive_queue::vacant::{discard, empty_slots, table_of};
+use queue_parties::known::Doing;
 use queue_steps::sizes::MAX_CAPACITY;
 use queue_steps::steps::{self, Answer, Kind, Local, Next, Word};
 use std::alloc::{AllocError, Allocator};

@@ -8,10 +8,10 @@ ghost use Rattle.queue_parties.specs.Known.{party, view_of};
 ghost use Rattle.queue_parties.specs.Doings.{idle, IsAlone};
 ghost use Rattle.exclusive_queue.specs.SingleCells.{IsIdle, single_owned};
 
-use queue_parties::known::Doing;
 use crate::table::{SharedTable, Sizes, TableKind, TableSteps};
 use atomic_table::{Seat, Table};
 use exclusive_queue::Single;
+use queue_parties::known::Doing;
 use queue_steps::steps::{self, Answer, Kind, Local, Next, Word};
 use std::alloc::{AllocError, Allocator};
 

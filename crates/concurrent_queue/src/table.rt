@@ -8,12 +8,12 @@ ghost use Rattle.concurrent_queue.specs.TableTurns.{Follows};
 ghost use Rattle.queue_parties.specs.CallsAt.{Ready};
 ghost use Rattle.concurrent_queue.specs.TableLeads.{TableCan, TableDoes};
 
-use queue_parties::known::Doing;
-use queue_parties::task::Task;
 use crate::party::PartyRule;
 use crate::touching::touch;
 use crate::turns::Turns;
 use atomic_table::{Play, Seat, Table, TableRule};
+use queue_parties::known::Doing;
+use queue_parties::task::Task;
 use queue_steps::model::CallKind;
 use queue_steps::steps::{Answer, Kind, Local, Next, Op, Touch, Word};
 use std::alloc::Allocator;

@@ -2,8 +2,8 @@
 ghost use Rattle.std.specs.Prelude.{◌≡◌};
 ghost use Rattle.concurrent_queue.specs.AtTable.{CanTouch, Touched};
 
-use queue_parties::known::Doing;
 use atomic_table::{Seat, Shared, TableRule};
+use queue_parties::known::Doing;
 use queue_steps::steps::Touch;
 
 /// The slot that a seat holds and what a call carries change places, where a touch is asked for.

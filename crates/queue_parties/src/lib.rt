@@ -2,5 +2,5 @@
 #![tactic(auto)]
 
 pub mod known;
-pub mod task;
 pub mod parting;
+pub mod task;

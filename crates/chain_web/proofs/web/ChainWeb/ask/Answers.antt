@@ -7,8 +7,7 @@ use Rattle.chain_web.proofs.web.ChainWeb.ask.Goals as goal
 
 pub load-requires : goal.load-requires
 load-requires g c =
-    let w = c.args.self.now in let m = c.args.seat.now in let made = c.in-Ok.ensures.made in let b = c.in-Ok.block in
-    (
+    let w = c.args.self.now in let m = c.args.seat.now in let made = c.in-Ok.ensures.made in let b = c.in-Ok.block in (
       sits_still w.web m c.hold.new.self c.hold.ensures.same c.requires.sits,
       subst InBlock (sym w.ends.4) tt,
       lit< tt,

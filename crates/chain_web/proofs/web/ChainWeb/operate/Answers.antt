@@ -64,8 +64,7 @@ lead-requires g c =
 pub install-requires : goal.install-requires
 install-requires g c =
     let w = c.args.self.now in let key = w.web.key in let m = c.args.seat.now in let j = g.J.Task.call in
-    let n = named m.sitter c.args.op j c.requires.can (op.Install c.in-Install.new) c.in-Install.is in
-    (
+    let n = named m.sitter c.args.op j c.requires.can (op.Install c.in-Install.new) c.in-Install.is in (
       c.requires.sits,
       subst InBlock (sym w.ends.4) tt,
       subst (λ q. AllowsLink (Rule key.tail.ptr key.head.ptr) m.id m.sitter w.tail.ptr (if_unset q) (λ q k. FollowsLink j q k)) (sym (ap (λ z. z.ptr) n.2))

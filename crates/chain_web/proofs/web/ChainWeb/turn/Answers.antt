@@ -11,8 +11,7 @@ operate-found-requires-clause-can g c = (touched_at c.args.call.now c.args.local
 
 pub returns : goal.returns
 returns g c =
-    let h = touched_at c.args.call.now c.args.local.now c.args.todo c.args.op c.args.carried c.args.seat.now.sitter _ _ c.requires.can.1 c.touch-left.ensures.touched in
-    (
+    let h = touched_at c.args.call.now c.args.local.now c.args.todo c.args.op c.args.carried c.args.seat.now.sitter _ _ c.requires.can.1 c.touch-left.ensures.touched in (
       same_twice c.args.seat.now c.touch-left.new.seat c.operate-found.new.seat c.operate-found.ensures.same c.touch-left.ensures.same,
       h.handed,
       subst (λ z. Operated z c.operate-found.result c.operate-found.new.seat.sitter) h.same c.operate-found.ensures.did,

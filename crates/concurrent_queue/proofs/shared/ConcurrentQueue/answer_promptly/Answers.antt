@@ -7,7 +7,7 @@ use Rattle.concurrent_queue.proofs.shared.ConcurrentQueue.answer_promptly.Goals 
 
 pub invariant_of-party : goal.invariant_of-party
 invariant_of-party g c = elim c.match-self.branch [
-  in-Single-Table w ↦
+  | in-Single-Table w ↦
       let b = w.in-Single-Table in let s = b.seat in let s' = w.drive_promptly.new.seat in let held = subst IsHeld b.is-1 c.party.invariant in
       subst (λ p. IsHeld p.hold) (sym w.party-inside-is) (ended_person _ _ (s.table_id, s.me) (s'.table_id, s'.me) c.args.call w.drive_promptly.result held.0 w.drive_promptly.ensures)
   | in-Ring-Table w ↦
@@ -16,11 +16,11 @@ invariant_of-party g c = elim c.match-self.branch [
   | in-Chain-Web w ↦
       let b = w.in-Chain-Web in let held = subst IsHeld b.is-1 c.party.invariant in
       subst (λ p. IsHeld p.hold) (sym w.party-inside-is) (held_ended b.rested w.answer_promptly.new.party c.args.call w.answer_promptly.result held.0 w.answer_promptly.ensures)
-  ]
+]
 
 pub returns : goal.returns
 returns g c = let v = c.args.party.now in let k = c.args.call in elim c.match-self.branch [
-  in-Single-Table w ↦
+  | in-Single-Table w ↦
       let b = w.in-Single-Table in let s = b.seat in let s' = w.drive_promptly.new.seat in let held = subst IsHeld b.is-1 c.party.invariant in let is_v = subst (λ h. person_of h ≡ v) b.is-1 c.party.view_is in
       subst (λ r. Calls v k r (person_of c.match-self.party-inside.hold)) (sym w.result-is) (subst (λ p. Calls v k w.drive_promptly.result (person_of p.hold)) (sym w.party-inside-is)
       (ended_calls _ _ (s.table_id, s.me) (s'.table_id, s'.me) v k w.drive_promptly.result is_v (search rules) (search rules) held.0 w.drive_promptly.ensures))
@@ -32,4 +32,4 @@ returns g c = let v = c.args.party.now in let k = c.args.call in elim c.match-se
       let b = w.in-Chain-Web in let held = subst IsHeld b.is-1 c.party.invariant in let is_v = subst (λ h. person_of h ≡ v) b.is-1 c.party.view_is in
       subst (λ r. Calls v k r (person_of c.match-self.party-inside.hold)) (sym w.result-is) (subst (λ p. Calls v k w.answer_promptly.result (person_of p.hold)) (sym w.party-inside-is)
       (calls_ended b.rested w.answer_promptly.new.party v k w.answer_promptly.result is_v (search rules) held.0 w.answer_promptly.ensures))
-  ]
+]
