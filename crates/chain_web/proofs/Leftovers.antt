@@ -1,17 +1,19 @@
 -- Blocks of a chain that nobody shares any more are emptied, one slot after the other.
-use Rattle.std.proofs.Common.{◌≡◌, ◌∙◌, ℕ, suc, ◌+◌, ◌<◌, true, bit_and, List, [], ◌∷◌, length, Option, Some, refl, sym, ap, subst, arith}
+use Rattle.std.proofs.Common.{◌≡◌, ◌∙◌, ◌⊎◌, inl, inr, ℕ, suc, ◌+◌, ◌*◌, ◌^◌, ◌<◌, ◌≤◌, true, bit_and, List, [], ◌∷◌, length, Option, Some, None, IfSome, refl, sym, ap, subst, arith}
 use Rattle.std.proofs.lemmas.List.{length-set}
 use Rattle.atomic_table.proofs.Lists.{set_else}
 use mathlib.Core.Option.{some, some-injective}
 use lib.ListN.{get_elem?}
+use denote.RawPtr.{Ptr, null_ptr, InBlock, Testable}
 use Rattle.std.specs.Prelude.{slice_index_or}
 use Rattle.queue_steps.specs.declared.steps.unbounded.TheConstants.{WRITE, READ}
-use Rattle.block_web.specs.Web.{Block, Home, block, homed, with_home, vacant, full, AllVacant}
+use Rattle.queue_steps.specs.declared.sizes.TheConstants.{BLOCK_SLOTS}
+use Rattle.block_web.specs.Web.{Block, Home, block, homed, with_home, without, vacant, full, AllVacant, Lives}
 use Rattle.block_web.specs.declared.block.Link.{Link}
 use Rattle.block_web.specs.declared.sizes.TheConstants.{SLOTS}
 use Rattle.queue_parties.proofs.CallSteps.{set_at}
-use Rattle.chain_web.specs.Leftover.{SlotLeft, Emptied, IsHere}
-use Rattle.chain_web.proofs.Blocks.{home_here}
+use Rattle.chain_web.specs.Leftover.{SlotLeft, BlockLeft, StaysLeft, BlocksLeft, SameBut, Emptied, IsHere}
+use Rattle.chain_web.proofs.Blocks.{home_here, gone_else}
 use Rattle.chain_web.proofs.Tested.{alive_within}
 
 module _ {A : Type 0} where
@@ -47,3 +49,47 @@ module _ {A : Type 0} where
   -- the block that a link leads to is there
   pub here_within : (n : ℕ) (o : Option (Link A)) (l : Link A) (bs : List (Block A)) → o ≡ Some l → IsHere n o bs → n + 2 < length bs
   here_within n o l bs is here = let h = subst (λ z. IsHere n z bs) is here in alive_within bs (n + 2) h.1.0
+
+  -- blocks that were emptied, or taken out, before this one
+  pub same_behind : (k : ℕ) (old mid new : List (Block A)) → SameBut k old mid → (new ≡ mid) ⊎ (new ≡ without mid k) → SameBut k old new
+  same_behind k old mid new same (inl is) = subst (λ ys. SameBut k old ys) (sym is) same
+  same_behind k old mid new same (inr is) = subst (λ ys. SameBut k old ys) (sym is) (record {
+    long = length-set mid k _ ∙ same.long;
+    others = λ j ne. gone_else mid k j ne ∙ same.others j ne;
+  })
+
+  -- what stays left of the blocks behind one at which something was done
+  module _ (taken accepted b : ℕ) (old new : List (Block A)) (same : SameBut (b + 2) old new) (left : BlocksLeft taken accepted b old) where
+    stays_behind : (j : ℕ) → b + 1 ≤ j → j + 2 < length new → StaysLeft taken accepted j new
+    stays_behind j le lt =
+        let long = same.long in
+        let here : block new (j + 2) ≡ block old (j + 2) = same.others (j + 2) (λ e. omega (arith, e, le)) in
+        let next : block new (j + 3) ≡ block old (j + 3) = same.others (j + 3) (λ e. omega (arith, e, le)) in
+        let was = left.stays j (omega (arith, le)) (omega (arith, lt, long)) in
+        record {
+          alive = ap (λ (x : Block A). x.alive) here ∙ was.alive;
+          block_left = subst (λ (x : Block A). BlockLeft taken accepted (j * BLOCK_SLOTS) x) (sym here) was.block_left;
+          tested = subst (λ (x : Block A). Testable x.next) (sym here) was.tested;
+          leads = subst (λ (z : Block A × Block A × ℕ). (z.0.next ≡ null_ptr) ⊎ ((j + 3 < z.2) × (z.0.next ≡ z.1.at))) (λ i. (sym here i, sym next i, sym long i)) was.leads;
+        }
+
+    pub left_behind : BlocksLeft taken accepted (b + 1) new
+    left_behind = record {
+      few = subst (λ n. n * BLOCK_SLOTS ≤ 2 ^ 62) (sym same.long) left.few;
+      stays = stays_behind;
+    }
+
+    -- the link of the block leads to the one behind it, or nowhere
+    pub here_behind : (o : Option (Link A)) (p : Ptr) → b + 2 < length old → p ≡ (block old (b + 2)).next → IfSome o (λ l. (l.ptr ≡ p) × InBlock l.ptr) → IsHere (b + 1) o new
+    here_behind None p lt is found = tt
+    here_behind (Some l) p lt is found = (found.1, go (left.stays b (omega arith) lt).leads) where
+      number : b + 3 ≡ b + 1 + 2
+      number = omega arith
+
+      go : ((block old (b + 2)).next ≡ null_ptr) ⊎ ((b + 3 < length old) × ((block old (b + 2)).next ≡ (block old (b + 3)).at)) → Lives new (b + 1 + 2) l.ptr
+      go (inl null) = absurd (subst InBlock (found.0 ∙ is ∙ null) found.1)
+      go (inr at) =
+          let next = same.others (b + 1 + 2) (λ e. omega (arith, e)) in (
+            ap (λ (x : Block A). x.alive) next ∙ (left.stays (b + 1) (omega arith) (omega (arith, at.0))).alive,
+            ap (λ (x : Block A). x.at) next ∙ sym (found.0 ∙ is ∙ at.1 ∙ ap (λ n. (block old n).at) number),
+          )
