@@ -110,3 +110,5 @@ impl<S, A: Allocator> Hub<S, A> {
 }
 
 unsafe impl<S: Send, A: Allocator + Send> Send for Hub<S, A> {}
+
+unsafe impl<S: Send, A: Allocator + Send> Sync for Hub<S, A> {}

@@ -2,7 +2,7 @@
 ghost use Rattle.std.specs.Prelude.{◌≡◌, true, ◌+◌, ◌%◌, ◌<◌, ◌≤◌, length, slice_set, IfOk, IsErr, Some};
 ghost use Rattle.std.specs.Mem.Slots.{slots_items, slots_len, IsFull};
 ghost use Rattle.queue_steps.specs.LookNext.{IsLoad};
-ghost use Rattle.queue_steps.specs.CommonNext.{is_common_of, is_walk_of};
+ghost use Rattle.queue_steps.specs.CommonNext.{is_common_of};
 ghost use Rattle.queue_steps.specs.Next.{CanNext, next_of};
 ghost use Rattle.queue_steps.specs.State.{start};
 ghost use Rattle.queue_steps.specs.Words.{slot_at};
@@ -296,7 +296,6 @@ impl<T, A: Allocator> Cells<T, ()> for Ring<T, A> {
     fn next_walk(kind: Kind, local: Local<()>, answer: Answer<()>) -> Next<()>
         requires of { (cells : RingState T) × (kind ≡ kind_of_ring cells) }
         requires can { CanNext kind local answer }
-        requires walk { is_walk_of kind local answer ≡ true }
         ensures { result ≡ next_of kind local answer }
     {
         Self::next(kind, local, answer)

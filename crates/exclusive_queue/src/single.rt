@@ -1,7 +1,7 @@
 //! One slot under one word, with one owner.
 ghost use Rattle.std.specs.Prelude.{◌≡◌, true};
 ghost use Rattle.queue_steps.specs.LookNext.{IsLoad};
-ghost use Rattle.queue_steps.specs.CommonNext.{is_common_of, is_walk_of};
+ghost use Rattle.queue_steps.specs.CommonNext.{is_common_of};
 ghost use Rattle.queue_steps.specs.Next.{CanNext, next_of};
 
 use crate::cells::Cells;
@@ -94,7 +94,6 @@ impl<T> Cells<T, ()> for Single<T> {
     fn next_walk(kind: Kind, local: Local<()>, answer: Answer<()>) -> Next<()>
         requires of { (cells : Single T) × (kind ≡ kind_of_single cells) }
         requires can { CanNext kind local answer }
-        requires walk { is_walk_of kind local answer ≡ true }
         ensures { result ≡ next_of kind local answer }
     {
         Self::next(kind, local, answer)

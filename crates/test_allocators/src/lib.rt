@@ -1,11 +1,14 @@
-//! An allocator for tests: it counts what is asked of it and what is given back, and refuses what it is told to refuse.
+//! An allocator for tests, of one thread or of many: it counts what is asked of it and what is given back, refuses what it is told to refuse, and can hold a request.
 #![tactic(auto)]
 
 ghost use Rattle.std.specs.Prelude.{◌≡◌};
 
 use block_web::low::Low;
 use std::alloc::{AllocError, Allocator, Layout};
-use std::cell::Cell;
+use std::sync::atomic::{AtomicBool, AtomicU64, Ordering};
+
+/// How often a thread looks for another one's sign at most.
+const LOOKS: u64 = 1_000_000_000;
 
 /// Which requests are refused. The first request is number 1.
 #[derive(Clone, Copy)]
@@ -18,98 +21,129 @@ pub enum Refusal {
     Nth(u64),
 }
 
+impl Refusal {
+    /// Whether the request of this number is refused.
+    fn refuses(self, request: u64) -> bool {
+        match self {
+            Refusal::Never => false,
+            Refusal::Always => true,
+            Refusal::Nth(number) => number == request,
+        }
+    }
+}
+
+/// Waits for a sign, though not for ever. Gives whether it came.
+fn wait_for(sign: &AtomicBool) -> bool {
+    for _ in 0..LOOKS {
+        if sign.load(Ordering::SeqCst) {
+            return true;
+        }
+    }
+    false
+}
+
 /// How many allocations are live, and how many were at most at one time.
-#[derive(Clone, Copy)]
+#[derive(Drop)]
 struct Count {
-    live: u64,
-    most: u64,
+    live: AtomicU64,
+    most: AtomicU64,
 }
 
 impl Count {
     /// Of no allocation.
     fn zero() -> Count {
-        Count { live: 0, most: 0 }
-    }
-
-    /// With one live allocation more.
-    fn with_one_more(self) -> Count {
-        let live = self.live.wrapping_add(1);
         Count {
-            live,
-            most: self.most.max(live),
+            live: AtomicU64::new(0),
+            most: AtomicU64::new(0),
         }
     }
 
-    /// With one live allocation less.
-    fn with_one_less(self) -> Count {
-        Count {
-            live: self.live.wrapping_sub(1),
-            most: self.most,
+    /// Counts one live allocation more.
+    fn add(&self) {
+        let live = self.live.fetch_add(1, Ordering::SeqCst).wrapping_add(1);
+        self.most.fetch_max(live, Ordering::SeqCst);
+    }
+
+    /// Counts one live allocation less.
+    fn subtract(&self) {
+        self.live.fetch_sub(1, Ordering::SeqCst);
+    }
+}
+
+/// Where a request waits until another thread lets it go.
+#[derive(Drop)]
+struct Hold {
+    /// Whether the next request is to be held.
+    next: AtomicBool,
+    /// Whether one was.
+    held: AtomicBool,
+    let_go: AtomicBool,
+    /// Whether it was let go while it was held.
+    in_time: AtomicBool,
+}
+
+impl Hold {
+    /// Of no request.
+    fn open() -> Hold {
+        Hold {
+            next: AtomicBool::new(false),
+            held: AtomicBool::new(false),
+            let_go: AtomicBool::new(false),
+            in_time: AtomicBool::new(false),
+        }
+    }
+
+    /// Lets a request pass, or holds it until it is let go, though not for ever.
+    fn pass(&self) {
+        if self.next.swap(false, Ordering::SeqCst) {
+            self.held.store(true, Ordering::SeqCst);
+            let in_time = wait_for(&self.let_go);
+            self.in_time.store(in_time, Ordering::SeqCst);
         }
     }
 }
 
 /// What was asked so far.
-#[derive(Clone, Copy)]
+#[derive(Drop)]
 struct Tally {
     refusal: Refusal,
     watched: Option<Layout>,
-    requests: u64,
+    hold: Hold,
+    requests: AtomicU64,
     all: Count,
     of_watched: Count,
 }
 
 impl Tally {
     /// Whether allocations of this size and alignment are counted apart.
-    fn watches(self, size: usize, align: usize) -> bool {
+    fn watches(&self, size: usize, align: usize) -> bool {
         match self.watched {
             Some(layout) => layout.size() == size && layout.align() == align,
             None => false,
         }
     }
 
-    /// Whether the request of this number is refused.
-    fn refuses(self, request: u64) -> bool {
-        match self.refusal {
-            Refusal::Never => false,
-            Refusal::Always => true,
-            Refusal::Nth(number) => number == request,
+    /// Counts one live allocation more.
+    fn add(&self, size: usize, align: usize) {
+        self.all.add();
+        if self.watches(size, align) {
+            self.of_watched.add();
         }
     }
 
-    /// With one live allocation more.
-    fn with_one_more(self, size: usize, align: usize) -> Tally {
-        let of_watched = if self.watches(size, align) {
-            self.of_watched.with_one_more()
-        } else {
-            self.of_watched
-        };
-        Tally {
-            all: self.all.with_one_more(),
-            of_watched,
-            ..self
-        }
-    }
-
-    /// With one live allocation less.
-    fn with_one_less(self, size: usize, align: usize) -> Tally {
-        let of_watched = if self.watches(size, align) {
-            self.of_watched.with_one_less()
-        } else {
-            self.of_watched
-        };
-        Tally {
-            all: self.all.with_one_less(),
-            of_watched,
-            ..self
+    /// Counts one live allocation less.
+    fn subtract(&self, size: usize, align: usize) {
+        self.all.subtract();
+        if self.watches(size, align) {
+            self.of_watched.subtract();
         }
     }
 }
 
-/// An allocator that passes each request on, unless it refuses it. Collections take a `&` to it.
+/// An allocator that passes each request on, unless it refuses it. Collections take a `&` to it. Threads may share it.
 pub struct Refusing<B: Allocator> {
     inner: B,
-    tally: Cell<Tally>,
+    tally: Tally,
 }
 
 impl<B: Allocator> Refusing<B> {
@@ -127,39 +161,60 @@ impl<B: Allocator> Refusing<B> {
     fn starting(inner: B, refusal: Refusal, watched: Option<Layout>) -> Refusing<B> {
         Refusing {
             inner,
-            tally: Cell::new(Tally {
+            tally: Tally {
                 refusal,
                 watched,
-                requests: 0,
+                hold: Hold::open(),
+                requests: AtomicU64::new(0),
                 all: Count::zero(),
                 of_watched: Count::zero(),
-            }),
+            },
         }
     }
 
     /// How many requests there were, refused ones included.
     pub fn requests(&self) -> u64 {
-        self.tally.get().requests
+        self.tally.requests.load(Ordering::SeqCst)
     }
 
     /// How many allocations were passed on and not given back.
     pub fn live(&self) -> u64 {
-        self.tally.get().all.live
+        self.tally.all.live.load(Ordering::SeqCst)
     }
 
     /// How many there were at most at one time.
     pub fn most(&self) -> u64 {
-        self.tally.get().all.most
+        self.tally.all.most.load(Ordering::SeqCst)
     }
 
     /// How many allocations of the watched layout were passed on and not given back.
     pub fn live_watched(&self) -> u64 {
-        self.tally.get().of_watched.live
+        self.tally.of_watched.live.load(Ordering::SeqCst)
     }
 
     /// How many of them there were at most at one time.
     pub fn most_watched(&self) -> u64 {
-        self.tally.get().of_watched.most
+        self.tally.of_watched.most.load(Ordering::SeqCst)
+    }
+
+    /// The next request is held until another thread lets it go, though not for ever.
+    pub fn hold_next(&self) {
+        self.tally.hold.next.store(true, Ordering::SeqCst);
+    }
+
+    /// Waits until a request is held, though not for ever. Gives whether one is.
+    pub fn comes_to_hold(&self) -> bool {
+        wait_for(&self.tally.hold.held)
+    }
+
+    /// Lets the request go that is held.
+    pub fn let_go(&self) {
+        self.tally.hold.let_go.store(true, Ordering::SeqCst);
+    }
+
+    /// Whether a request was held until it was let go.
+    pub fn held_until_let_go(&self) -> bool {
+        self.tally.hold.in_time.load(Ordering::SeqCst)
     }
 }
 
@@ -169,23 +224,20 @@ impl<B: Allocator> Drop for Refusing<B> {
     }
 }
 
-/// Counts a request, and tells whether it is refused.
-fn is_refused(tally: &Cell<Tally>, size: usize, align: usize) -> bool {
-    let before = tally.get();
-    let requests = before.requests.wrapping_add(1);
-    let counted = Tally { requests, ..before };
-    let refused = before.refuses(requests);
-    tally.set(if refused {
-        counted
-    } else {
-        counted.with_one_more(size, align)
-    });
+/// Counts a request, holds it where it is to be held, and tells whether it is refused.
+fn is_refused(tally: &Tally, size: usize, align: usize) -> bool {
+    let before = tally.requests.fetch_add(1, Ordering::SeqCst);
+    tally.hold.pass();
+    let refused = tally.refusal.refuses(before.wrapping_add(1));
+    if !refused {
+        tally.add(size, align);
+    }
     refused
 }
 
 /// Counts an allocation that is given back.
-fn give_back(tally: &Cell<Tally>, size: usize, align: usize) {
-    tally.set(tally.get().with_one_less(size, align));
+fn give_back(tally: &Tally, size: usize, align: usize) {
+    tally.subtract(size, align);
 }
 
 unsafe impl<B: Allocator> Allocator for Refusing<B> {

@@ -81,6 +81,7 @@ module _ (Z : Al) {M : Type 1} {𝓤 : Ura M} (𝓛 : Logic 𝓤) (at_mem : Memo
         let h : Z.row.Denot = r.now.inner in
         let p : ℕ × ℕ = inner_at Z r.ref_ptr in
         let c : ℕ × ℕ = tally_at Z r.ref_ptr in
+        let t : Counted.Denot = r.now.tally in
         let y : (Takes Z 𝓛 at_mem run).Ghost = at_takes Z 𝓛 at_mem run κ₁ q₁ p h n a τ in
         let no_block : Sq 𝓛 (‵ (flft κ₁ q₁) ∷ (‵ (flft κ₂ q₂) ⊛ ‵ ftrue) ∷ []) (prop (Post (answer_val false 0 0))) =
         suffices ! _ (ends_at 𝓛 (ended Z) (stayed Z) held bound (answer_val false 0 0) (Err (record {})) (tt, (tt, (tt, tt))) (tt, (tt, (tt, tt)))) $
@@ -89,12 +90,12 @@ module _ (Z : Al) {M : Type 1} {𝓤 : Ura M} (𝓛 : Logic 𝓤) (at_mem : Memo
         let Sized : Type 0 = (capped (size τ) ≡ n) × (capped (align τ) ≡ a) in
         qed 𝓛 (((‵ (flft κ₁ q₁) ⊛ ‵ (flft κ₂ q₂) ⊛ ‵ ftrue) ⊛ ‵ (owns (types_at (ended Z).signature.params bound.0.0) bound.0.3 bound.0.4)) ∷ (raw (fact 𝓤 (κ₂ ⊑ Z.row.lives)) ⊛ raw (fact 𝓤 Sized)) ∷ []) ∵
         move ! (1 ∷ []) $ split ! $ heard ! (κ₂ ⊑ Z.row.lives) (λ lives. heard ! Sized (λ sized.
-        split ! $ split ! $ move ! (2 ∷ []) $ fsplit ! $ fsplit ! $ move ! (1 ∷ []) $ use1 𝓛 (‵ (seen Z κ₁ p h) ⊛ ‵ (hidden_shr Counted κ₁ (record { value = tt }) c.0 c.1)) (fields-seen Z 𝓛 κ₁ r.ref_ptr r.now) $ split ! $ keep ! (1 ∷ 4 ∷ 0 ∷ 5 ∷ []) $
+        split ! $ split ! $ move ! (2 ∷ []) $ fsplit ! $ fsplit ! $ move ! (1 ∷ []) $ use1 𝓛 (‵ (seen Z κ₁ p h) ⊛ ‵ (hidden_shr Counted κ₁ t c.0 c.1)) (fields-seen Z 𝓛 κ₁ r.ref_ptr r.now) $ split ! $ keep ! (1 ∷ 4 ∷ 0 ∷ 5 ∷ []) $
         enter ! 𝓣.C 𝓣.Λ (here Z) values _ $ alloc_all ! (λ l. pass_all ! refl ((tt, tt), ((tt, record { fits = fits_n }), ((tt, record { fits = fits_a }), tt))) $
         sets ! (addr ! (through ! refl (fld ! refl (stop !)))) refl (tt, tt) $
-        use2 𝓛 (raw ((IsRefused 𝓛 at_mem run).pre (at_refused 𝓛 at_mem run κ₁ q₁ c n a))) (IsRefused-goes 𝓛 at_mem run κ₁ q₁ c n a fits_n fits_a) $
-        calls_at ! (fm_of 𝓤 H 𝓛.laws 𝓣) (IsRefused 𝓛 at_mem run) counts (at_refused 𝓛 at_mem run κ₁ q₁ c n a) (and_then ! (get ! refl) (and_then ! (get ! refl) (and_then ! (get ! refl) (no_more !)))) (λ u.
-        use1 𝓛 (later (some (λ (f : Bool). given (u ≡ vbool f) (‵ (flft κ₁ q₁))))) (IsRefused-gives 𝓛 at_mem run κ₁ q₁ c n a u) $ await ! tt $ pick ! (λ f. learn ! (λ eu.
+        use2 𝓛 (raw ((IsRefused 𝓛 at_mem run).pre (at_refused 𝓛 at_mem run κ₁ q₁ c t n a))) (IsRefused-goes 𝓛 at_mem run κ₁ q₁ c t n a fits_n fits_a) $
+        calls_at ! (fm_of 𝓤 H 𝓛.laws 𝓣) (IsRefused 𝓛 at_mem run) counts (at_refused 𝓛 at_mem run κ₁ q₁ c t n a) (and_then ! (get ! refl) (and_then ! (get ! refl) (and_then ! (get ! refl) (no_more !)))) (λ u.
+        use1 𝓛 (later (some (λ (f : Bool). given (u ≡ vbool f) (‵ (flft κ₁ q₁))))) (IsRefused-gives 𝓛 at_mem run κ₁ q₁ c t n a u) $ await ! tt $ pick ! (λ f. learn ! (λ eu.
         lands_as ! eu refl (tt, tt) $ move ! (1 ∷ []) $
         first ! $ branches ! (get ! refl)
         (λ yes_refused. drop ! $

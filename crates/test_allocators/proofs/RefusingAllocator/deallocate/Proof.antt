@@ -89,16 +89,17 @@ module _ (Z : Al) {M : Type 1} {𝓤 : Ura M} (𝓛 : Logic 𝓤) (at_mem : Memo
         let h : Z.row.Denot = r.now.inner in
         let p : ℕ × ℕ = inner_at Z r.ref_ptr in
         let c : ℕ × ℕ = tally_at Z r.ref_ptr in
+        let t : Counted.Denot = r.now.tally in
         let x : Ptr = block_ptr b o in
         let y : (Gives Z 𝓛 at_mem run).Ghost = at_gives Z 𝓛 at_mem run κ₁ q₁ p h b o n a τ in
         qed 𝓛 (entry x ∷ (raw (fact 𝓤 (κ₂ ⊑ Z.row.lives)) ⊛ raw (fact 𝓤 Sized) ⊛ ‵ (fsep (froom τ b o) (token Z h τ x))) ∷ []) ∵
         move ! (1 ∷ []) $ split3 ! $ heard ! (κ₂ ⊑ Z.row.lives) (λ lives. heard ! Sized (λ sized. move ! (1 ∷ []) $
-        split ! $ split ! $ move ! (2 ∷ []) $ fsplit ! $ fsplit ! $ move ! (1 ∷ []) $ use1 𝓛 (‵ (seen Z κ₁ p h) ⊛ ‵ (hidden_shr Counted κ₁ (record { value = tt }) c.0 c.1)) (fields-seen Z 𝓛 κ₁ r.ref_ptr r.now) $ split ! $ keep ! (1 ∷ 4 ∷ 0 ∷ 5 ∷ 6 ∷ []) $
+        split ! $ split ! $ move ! (2 ∷ []) $ fsplit ! $ fsplit ! $ move ! (1 ∷ []) $ use1 𝓛 (‵ (seen Z κ₁ p h) ⊛ ‵ (hidden_shr Counted κ₁ t c.0 c.1)) (fields-seen Z 𝓛 κ₁ r.ref_ptr r.now) $ split ! $ keep ! (1 ∷ 4 ∷ 0 ∷ 5 ∷ 6 ∷ []) $
         enter ! 𝓣.C 𝓣.Λ (here Z) (values x) _ $ alloc_all ! (λ l. pass_all ! refl ((tt, tt), ((tt, tt), ((tt, record { fits = fits_n }), ((tt, record { fits = fits_a }), tt)))) $
         sets ! (addr ! (through ! refl (fld ! refl (stop !)))) refl (tt, tt) $
-        use2 𝓛 (raw ((GivesBack 𝓛 at_mem run).pre (at_back 𝓛 at_mem run κ₁ q₁ c n a))) (GivesBack-goes 𝓛 at_mem run κ₁ q₁ c n a fits_n fits_a) $
-        calls_at ! (fm_of 𝓤 H 𝓛.laws 𝓣) (GivesBack 𝓛 at_mem run) counts (at_back 𝓛 at_mem run κ₁ q₁ c n a) (and_then ! (get ! refl) (and_then ! (get ! refl) (and_then ! (get ! refl) (no_more !)))) (λ u.
-        use1 𝓛 (later (given (u ≡ vunit) (‵ (flft κ₁ q₁)))) (GivesBack-gives 𝓛 at_mem run κ₁ q₁ c n a u) $ await ! tt $ learn ! (λ eu. lands_as ! eu refl (tt, tt) $ move ! (1 ∷ []) $
+        use2 𝓛 (raw ((GivesBack 𝓛 at_mem run).pre (at_back 𝓛 at_mem run κ₁ q₁ c t n a))) (GivesBack-goes 𝓛 at_mem run κ₁ q₁ c t n a fits_n fits_a) $
+        calls_at ! (fm_of 𝓤 H 𝓛.laws 𝓣) (GivesBack 𝓛 at_mem run) counts (at_back 𝓛 at_mem run κ₁ q₁ c t n a) (and_then ! (get ! refl) (and_then ! (get ! refl) (and_then ! (get ! refl) (no_more !)))) (λ u.
+        use1 𝓛 (later (given (u ≡ vunit) (‵ (flft κ₁ q₁)))) (GivesBack-gives 𝓛 at_mem run κ₁ q₁ c t n a u) $ await ! tt $ learn ! (λ eu. lands_as ! eu refl (tt, tt) $ move ! (1 ∷ []) $
         sets ! (addr ! (through ! refl (fld ! refl (stop !)))) refl (tt, tt) $
         join ! $ move ! (2 ∷ []) $ fsplit ! $ move ! (1 ∷ 2 ∷ []) $ join ! $ move ! (1 ∷ 0 ∷ []) $ join ! $
         use1 𝓛 (raw ((Gives Z 𝓛 at_mem run).pre y)) (Gives-goes Z 𝓛 at_mem run κ₁ q₁ p h (⊑_trans κ₁ κ₂ Z.row.lives within lives) b o n a τ sized.0 sized.1 fits_n fits_a) $

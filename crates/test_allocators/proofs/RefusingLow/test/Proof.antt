@@ -24,7 +24,7 @@ test_spec 𝓤 𝓛 𝓜 𝓡 wired Y L gl dl ga da dd metl _ _ =
     let us : List Val = vptr place.0 place.1 ∷ ptr_val x ∷ [] in let w = asked_at Z gl dl 𝓛 𝓜.mem 𝓡.returns κ q p heap x τ in
     qed 𝓛 (((‵ (flft κ q) ⊛ ‵ (flft κs.1.0 qs.1.0) ⊛ ‵ ftrue) ⊛ ‵ (owns (types_at goal.signature.params κs) a y.0.4)) ∷ (raw (fact 𝓤 (κs.1.0 ⊑ Y.lives)) ⊛ ‵ (token Z heap τ x)) ∷ []) ∵
     move ! (1 ∷ []) $ split ! $ heard ! (κs.1.0 ⊑ Y.lives) (λ inside. move ! (1 ∷ []) $ split ! $ split ! $ move ! (2 ∷ []) $ fsplit ! $ fsplit ! $ move ! (1 ∷ []) $
-    use1 𝓛 (‵ (seen Z κ p heap) ⊛ ‵ (hidden_shr Counted κ (record { value = tt }) t.0 t.1)) (fields-seen Z 𝓛 κ place a.0.now) $ split ! $ keep ! (6 ∷ 0 ∷ 4 ∷ 5 ∷ []) $
+    use1 𝓛 (‵ (seen Z κ p heap) ⊛ ‵ (hidden_shr Counted κ a.0.now.tally t.0 t.1)) (fields-seen Z 𝓛 κ place a.0.now) $ split ! $ keep ! (6 ∷ 0 ∷ 4 ∷ 5 ∷ []) $
     -- [the right to free the block; the inner allocator; the token of its lifetime; the other tokens]
     enter ! 𝓣.C 𝓣.Λ mir us Post $ alloc_all ! (λ l. pass_all ! refl ((tt, tt), (ptr_good x, tt)) $
     sets ! (addr ! (through ! refl (fld ! refl (stop !)))) refl (tt, tt) $
