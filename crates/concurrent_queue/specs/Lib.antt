@@ -1,4 +1,5 @@
 pub mod Turns
+pub mod Rounds
 pub mod Seats
 pub mod Shared
 pub mod AtTable

@@ -1,6 +1,7 @@
 //! A chain of blocks that parties share: how the driver takes a call's steps on it, and its parties.
 ghost use Rattle.std.specs.Prelude.{◌≡◌, true, false, None, Some, MatchResult};
 ghost use Rattle.block_web.specs.Web.{sitter};
+ghost use Rattle.queue_steps.specs.CommonNext.{is_common_of};
 ghost use Rattle.queue_steps.specs.Prompt.{is_prompt};
 ghost use Rattle.queue_steps.specs.Next.{CanNext, next_of};
 ghost use Rattle.queue_steps.specs.Shares.{IsEntire};
@@ -9,10 +10,11 @@ ghost use Rattle.chain_web.specs.Turning.{Carries, GaveUp, SitsAt, ChainCan, Cha
 ghost use Rattle.concurrent_queue.specs.InWeb.{RestsAt, EndedAt};
 ghost use Rattle.concurrent_queue.specs.Shared.{in_web, Parts, Joins as JoinsTwo, Meets};
 
+use crate::driver::{drive, drive_promptly};
 use crate::gate::Gate;
 use crate::party::{Hold, Party};
 use crate::shared_chain::SharedChain;
-use crate::turns::{Turns, drive_apart, drive_promptly};
+use crate::turns::Turns;
 use block_web::item::Place;
 use block_web::web::Rested;
 use chain_web::source::{Refusing, Source};
@@ -78,6 +80,27 @@ impl<T, A: Allocator, Q: Source<T, A>> Turns<T, Place<T>, Asking<T, A, Q>> for S
     }
 
     #[inline(always)]
+    fn is_common(kind: Kind, local: &Local<Place<T>>, answer: &Answer<Place<T>>) -> bool
+        requires of { (queue : SharedChain T A) × (kind ≡ kinds.Unbounded) }
+        requires can { CanNext kind local.now answer.now }
+        ensures { result ≡ is_common_of kind local.now answer.now }
+    {
+        let _ = kind;
+        steps::is_common_unbounded(local, answer)
+    }
+
+    #[inline(always)]
+    fn next_common(kind: Kind, local: Local<Place<T>>, answer: Answer<Place<T>>) -> Next<Place<T>>
+        requires of { (queue : SharedChain T A) × (kind ≡ kinds.Unbounded) }
+        requires can { CanNext kind local answer }
+        requires common { is_common_of kind local answer ≡ true }
+        ensures { result ≡ next_of kind local answer }
+    {
+        let _ = kind;
+        steps::next_common_unbounded(local, answer)
+    }
+
+    #[inline(always)]
     fn turn(
         &self,
         asking: &mut Asking<T, A, Q>,
@@ -136,7 +159,7 @@ impl<T, A: Allocator, Q> Asking<T, A, Q> {
 
 /// Runs a call of a party to its end. The blocks that it asks for come from `Q`.
 #[inline(always)]
-pub(crate) fn answer<T, A: Allocator, Q: Source<T, A>, G: Gate, R: Wait>(
+pub(crate) fn answer<T, A: Allocator, Q: Source<T, A>, G: Gate, R: Wait, W>(
     queue: &SharedChain<T, A>,
     rt: &R,
     gate: &G,
@@ -147,7 +170,13 @@ pub(crate) fn answer<T, A: Allocator, Q: Source<T, A>, G: Gate, R: Wait>(
     ensures { EndedAt party.old call result party.new }
 {
     let mut asking: Asking<T, A, Q> = Asking::wake(&queue.chain, party);
-    let reply = drive_apart(queue, rt, gate, &mut asking, call);
+    let reply = drive::<T, Place<T>, Asking<T, A, Q>, SharedChain<T, A>, G, R, W>(
+        queue,
+        rt,
+        gate,
+        &mut asking,
+        call,
+    );
     *party = asking.rests();
     reply
 }

@@ -4,6 +4,7 @@ ghost use Rattle.concurrent_queue.specs.Shared.{IsPartyOf};
 
 use crate::gate::{Gate, Open};
 use crate::shared::{ConcurrentQueue, Party};
+use chain_web::source::Granting;
 use queue_steps::errors::{PopError, PushError};
 use queue_steps::model::{Call, Reply};
 use queue_steps::steps::{Op, TAIL_STEP, Word};
@@ -17,6 +18,9 @@ use std::thread::{Threads, join};
 const LOOKS: u64 = 1_000_000_000;
 
 type Queue = ConcurrentQueue<u64>;
+
+/// The calls of a story, for the driver.
+struct Told;
 
 /// A call, and its reply.
 type Row = (Call<u64>, Reply<u64>);
@@ -104,7 +108,7 @@ fn call_held<R: Wait>(
         answered,
         in_time: AtomicBool::new(false),
     };
-    let reply = queue.answer(rt, &gate, &mut party, call);
+    let reply = queue.answer::<Granting, R, Holding<'_>, Told>(rt, &gate, &mut party, call);
     (party, (reply, gate.in_time.load(Ordering::SeqCst)))
 }
 
@@ -115,7 +119,7 @@ fn are_answered<R: Wait>(rt: &R, queue: &Queue, party: &mut Party<u64>, rows: &[
 {
     let mut right = true;
     for (call, reply) in rows {
-        right = queue.answer(rt, &Open, party, *call) == *reply && right;
+        right = queue.answer::<Granting, R, Open, Told>(rt, &Open, party, *call) == *reply && right;
     }
     right
 }

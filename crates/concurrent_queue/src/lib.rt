@@ -2,6 +2,7 @@
 #![tactic(auto)]
 
 mod chain;
+mod driver;
 mod gate;
 #[cfg(test)]
 mod held;

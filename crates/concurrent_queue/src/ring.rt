@@ -1,6 +1,7 @@
 //! A ring that parties share: a table of the count of parties, the tail, the head and the stamps, and of the slots.
-ghost use Rattle.std.specs.Prelude.{◌≡◌, ◌<◌, ◌≤◌, ℕ, [], Some, IfOk, IsErr};
+ghost use Rattle.std.specs.Prelude.{◌≡◌, ◌<◌, ◌≤◌, ℕ, [], Some, IfOk, IsErr, true};
 ghost use Rattle.queue_steps.specs.declared.sizes.TheConstants.{MAX_CAPACITY};
+ghost use Rattle.queue_steps.specs.CommonNext.{is_common_of};
 ghost use Rattle.queue_steps.specs.Effect.{after};
 ghost use Rattle.queue_steps.specs.Legal.{IsShown};
 ghost use Rattle.queue_steps.specs.Parties.{IsWhole};
@@ -64,6 +65,31 @@ impl<T> TableSteps<T> for Rings {
     {
         match kind {
             Kind::Bounded(capacity) => steps::next_bounded(capacity, local, answer),
+            _ => unreachable!(),
+        }
+    }
+
+    #[inline(always)]
+    fn is_common(kind: Kind, local: &Local<usize>, answer: &Answer<usize>) -> bool
+        requires of { (slots : _) × (kind ≡ kinds.Bounded slots) }
+        requires can { CanNext kind local.now answer.now }
+        ensures { result ≡ is_common_of kind local.now answer.now }
+    {
+        match kind {
+            Kind::Bounded(capacity) => steps::is_common_bounded(capacity, local, answer),
+            _ => unreachable!(),
+        }
+    }
+
+    #[inline(always)]
+    fn next_common(kind: Kind, local: Local<usize>, answer: Answer<usize>) -> Next<usize>
+        requires of { (slots : _) × (kind ≡ kinds.Bounded slots) }
+        requires can { CanNext kind local answer }
+        requires common { is_common_of kind local answer ≡ true }
+        ensures { result ≡ next_of kind local answer }
+    {
+        match kind {
+            Kind::Bounded(capacity) => steps::next_common_bounded(capacity, local, answer),
             _ => unreachable!(),
         }
     }

@@ -9,6 +9,7 @@ ghost use Rattle.queue_steps.specs.Shares.{entire, IsEntire};
 ghost use Rattle.concurrent_queue.specs.Shared.{IsPartyOf, Calls, Parts, Joins, Meets, Finishes};
 
 use crate::chain;
+use crate::driver::{drive, drive_promptly, drive_shortly};
 use crate::gate::{Gate, Open};
 pub use crate::party::Party;
 use crate::party::{Hold, is_only, join, meet, split};
@@ -16,11 +17,12 @@ use crate::ring::{Rings, end_ring, open_ring};
 use crate::shared_chain::SharedChain;
 use crate::slot::{Slots, end_slot, open_slot};
 use crate::table::SharedTable;
-use crate::turns::{drive, drive_apart, drive_promptly};
+use atomic_table::Seat;
 use block_web::low::Low;
 use chain_web::source::{Granting, Refusing, Source};
 use chain_web::web::ChainWeb;
 use exclusive_queue::Exclusive;
+use queue_parties::known::Doing;
 use queue_steps::errors::{ForcePushError, PopError, PushError};
 use queue_steps::model::{Call, Reply};
 use std::alloc::{AllocError, Allocator, Global};
@@ -34,6 +36,15 @@ use std::sync::Wait;
 pub struct ConcurrentQueue<T, A: Allocator = Global> {
     form: Form<T, A>,
 }
+
+/// The calls, for the driver: each has rounds of its own.
+struct Pushes;
+
+struct Displaces;
+
+struct Pops;
+
+struct Counts;
 
 /// How the items are kept.
 enum Form<T, A: Allocator> {
@@ -112,7 +123,7 @@ impl<T, A: Allocator> ConcurrentQueue<T, A> {
 
     /// Runs a call to its end. The blocks that it asks for come from `Q`.
     #[inline(always)]
-    pub(crate) fn answer<Q: Source<T, A>, R: Wait, G: Gate>(
+    pub(crate) fn answer<Q: Source<T, A>, R: Wait, G: Gate, W>(
         &self,
         rt: &R,
         gate: &G,
@@ -123,10 +134,26 @@ impl<T, A: Allocator> ConcurrentQueue<T, A> {
         ensures { Calls party.old call result party.new }
     {
         match (&self.form, &mut party.hold) {
-            (Form::Single(slot), Hold::Table(seat)) => drive(slot, rt, gate, seat, call),
-            (Form::Ring(ring), Hold::Table(seat)) => drive_apart(ring, rt, gate, seat, call),
+            (Form::Single(slot), Hold::Table(seat)) => drive_shortly::<
+                T,
+                usize,
+                Seat<Option<T>, Doing<T>>,
+                SharedTable<T, Slots, A>,
+                G,
+                R,
+                W,
+            >(slot, rt, gate, seat, call),
+            (Form::Ring(ring), Hold::Table(seat)) => drive::<
+                T,
+                usize,
+                Seat<Option<T>, Doing<T>>,
+                SharedTable<T, Rings, A>,
+                G,
+                R,
+                W,
+            >(ring, rt, gate, seat, call),
             (Form::Chain(chain), Hold::Web(rested)) => {
-                chain::answer::<T, A, Q, G, R>(chain, rt, gate, rested, call)
+                chain::answer::<T, A, Q, G, R, W>(chain, rt, gate, rested, call)
             }
             _ => unreachable!(),
         }
@@ -200,7 +227,7 @@ impl<T, A: Allocator> ConcurrentQueue<T, A> {
         requires { IsPartyOf party.old self.now }
         ensures { Calls party.old (call.Push value) (reply.Push result) party.new }
     {
-        match self.answer::<Granting, R, Open>(rt, &Open, party, Call::Push(value)) {
+        match self.answer::<Granting, R, Open, Pushes>(rt, &Open, party, Call::Push(value)) {
             Reply::Push(result) => result,
             _ => unreachable!(),
         }
@@ -222,7 +249,12 @@ impl<T, A: Allocator> ConcurrentQueue<T, A> {
         requires { IsPartyOf party.old self.now }
         ensures { Calls party.old (call.ForcePush value) (reply.ForcePush result) party.new }
     {
-        match self.answer::<Granting, R, Open>(rt, &Open, party, Call::ForcePush(value)) {
+        match self.answer::<Granting, R, Open, Displaces>(
+            rt,
+            &Open,
+            party,
+            Call::ForcePush(value),
+        ) {
             Reply::ForcePush(result) => result,
             _ => unreachable!(),
         }
@@ -237,7 +269,7 @@ impl<T, A: Allocator> ConcurrentQueue<T, A> {
         requires { IsPartyOf party.old self.now }
         ensures { Calls party.old call.Pop (reply.Pop result) party.new }
     {
-        match self.answer::<Refusing, R, Open>(rt, &Open, party, Call::Pop) {
+        match self.answer::<Refusing, R, Open, Pops>(rt, &Open, party, Call::Pop) {
             Reply::Pop(result) => result,
             _ => unreachable!(),
         }
@@ -248,7 +280,7 @@ impl<T, A: Allocator> ConcurrentQueue<T, A> {
         requires { IsPartyOf party.old self.now }
         ensures { Calls party.old call.Len (reply.Len result) party.new }
     {
-        match self.answer::<Refusing, R, Open>(rt, &Open, party, Call::Len) {
+        match self.answer::<Refusing, R, Open, Counts>(rt, &Open, party, Call::Len) {
             Reply::Len(result) => result,
             _ => unreachable!(),
         }

@@ -1,5 +1,6 @@
 //! One slot that parties share: a table of the count of parties, the slot's word, and the slot.
-ghost use Rattle.std.specs.Prelude.{◌≡◌, [], IfOk, Some};
+ghost use Rattle.std.specs.Prelude.{◌≡◌, [], IfOk, Some, true};
+ghost use Rattle.queue_steps.specs.CommonNext.{is_common_of};
 ghost use Rattle.queue_steps.specs.Effect.{after};
 ghost use Rattle.queue_steps.specs.Legal.{IsShown};
 ghost use Rattle.queue_steps.specs.Parties.{IsWhole};
@@ -51,6 +52,26 @@ impl<T> TableSteps<T> for Slots {
     fn next(kind: Kind, local: Local<usize>, answer: Answer<usize>) -> Next<usize>
         requires of { kind ≡ kinds.Single }
         requires can { CanNext kind local answer }
+        ensures { result ≡ next_of kind local answer }
+    {
+        let _ = kind;
+        steps::next_single(local, answer)
+    }
+
+    #[inline(always)]
+    fn is_common(kind: Kind, _local: &Local<usize>, _answer: &Answer<usize>) -> bool
+        requires of { kind ≡ kinds.Single }
+        ensures { result ≡ is_common_of kind _local.now _answer.now }
+    {
+        let _ = kind;
+        true
+    }
+
+    #[inline(always)]
+    fn next_common(kind: Kind, local: Local<usize>, answer: Answer<usize>) -> Next<usize>
+        requires of { kind ≡ kinds.Single }
+        requires can { CanNext kind local answer }
+        requires common { is_common_of kind local answer ≡ true }
         ensures { result ≡ next_of kind local answer }
     {
         let _ = kind;

@@ -1,5 +1,6 @@
 //! A queue that parties share over a table: the first word counts the parties, the other words and the slots are those of its kind.
-ghost use Rattle.std.specs.Prelude.{◌≡◌, ◌≤◌, ℕ};
+ghost use Rattle.std.specs.Prelude.{◌≡◌, ◌≤◌, ℕ, true};
+ghost use Rattle.queue_steps.specs.CommonNext.{is_common_of};
 ghost use Rattle.queue_steps.specs.Next.{CanNext, next_of};
 ghost use Rattle.queue_parties.specs.Calling.{touched_list};
 ghost use Rattle.concurrent_queue.specs.TableRule.{TableOf, TableLaws, InTable};
@@ -46,6 +47,19 @@ pub(crate) trait TableSteps<T>: Sizes + TableKind<T> {
     fn next(kind: Kind, local: Local<usize>, answer: Answer<usize>) -> Next<usize>
         requires of { (slots : ℕ) × (kind ≡ (Self.layout slots).calls.kind) }
         requires can { CanNext kind local answer }
+        ensures { result ≡ next_of kind local answer };
+
+    /// Whether `next_common` tells what a call does next.
+    fn is_common(kind: Kind, local: &Local<usize>, answer: &Answer<usize>) -> bool
+        requires of { (slots : ℕ) × (kind ≡ (Self.layout slots).calls.kind) }
+        requires can { CanNext kind local.now answer.now }
+        ensures { result ≡ is_common_of kind local.now answer.now };
+
+    /// What a call does next on queues of this kind, where that is one of the few steps that most calls are made of.
+    fn next_common(kind: Kind, local: Local<usize>, answer: Answer<usize>) -> Next<usize>
+        requires of { (slots : ℕ) × (kind ≡ (Self.layout slots).calls.kind) }
+        requires can { CanNext kind local answer }
+        requires common { is_common_of kind local answer ≡ true }
         ensures { result ≡ next_of kind local answer };
 
     /// Where the table has the word.
@@ -202,6 +216,25 @@ impl<T, K: TableSteps<T>, A: Allocator> Turns<T, usize, Seat<Option<T>, Doing<T>
         ensures { result ≡ next_of kind local answer }
     {
         K::next(kind, local, answer)
+    }
+
+    #[inline(always)]
+    fn is_common(kind: Kind, local: &Local<usize>, answer: &Answer<usize>) -> bool
+        requires of { (slots : _) × (kind ≡ (K.layout slots).calls.kind) }
+        requires can { CanNext kind local.now answer.now }
+        ensures { result ≡ is_common_of kind local.now answer.now }
+    {
+        K::is_common(kind, local, answer)
+    }
+
+    #[inline(always)]
+    fn next_common(kind: Kind, local: Local<usize>, answer: Answer<usize>) -> Next<usize>
+        requires of { (slots : _) × (kind ≡ (K.layout slots).calls.kind) }
+        requires can { CanNext kind local answer }
+        requires common { is_common_of kind local answer ≡ true }
+        ensures { result ≡ next_of kind local answer }
+    {
+        K::next_common(kind, local, answer)
     }
 
     #[inline(always)]

@@ -1,5 +1,5 @@
-//! A party's driver: it asks for the next step, does it where other parties do theirs, and asks again, until the reply.
-ghost use Rattle.std.specs.Prelude.{◌≡◌, true, Option, Some};
+//! Where the steps of calls of many parties are done, for the driver.
+ghost use Rattle.std.specs.Prelude.{◌≡◌, true, Option};
 ghost use Rattle.queue_steps.specs.declared.model.Call.{Call as SpecCall};
 ghost use Rattle.queue_steps.specs.declared.model.Reply.{Reply as SpecReply};
 ghost use Rattle.queue_steps.specs.declared.steps.types.Kind.{Kind as SpecKind};
@@ -7,16 +7,14 @@ ghost use Rattle.queue_steps.specs.declared.steps.types.Op.{Op as SpecOp};
 ghost use Rattle.queue_steps.specs.declared.steps.types.Touch.{Touch as SpecTouch};
 ghost use Rattle.queue_steps.specs.declared.steps.types.Answer.{Answer as SpecAnswer};
 ghost use Rattle.queue_steps.specs.declared.steps.types.Local.{Local as SpecLocal};
-ghost use Rattle.queue_steps.specs.Kinds.{call_kind, filled};
+ghost use Rattle.queue_steps.specs.CommonNext.{is_common_of};
+ghost use Rattle.queue_steps.specs.Kinds.{call_kind};
 ghost use Rattle.queue_steps.specs.Next.{CanNext, next_of};
 ghost use Rattle.queue_steps.specs.Prompt.{is_prompt, EndsPromptly};
-ghost use Rattle.concurrent_queue.specs.Turns.{MayGive, Gave, Begins, GoesOn};
+ghost use Rattle.concurrent_queue.specs.Turns.{Begins, GoesOn};
 
-use crate::gate::Gate;
-use queue_steps::model::{Call, CallKind, Reply};
-use queue_steps::sizes::PROMPT_STEPS;
-use queue_steps::steps::{self, Answer, Kind, Local, Next, Op, Touch};
-use std::sync::Wait;
+use queue_steps::model::CallKind;
+use queue_steps::steps::{Answer, Kind, Local, Next, Op, Touch};
 
 /// Where the steps of calls of many parties are done. `S` is what a party does them with.
 pub(crate) trait Turns<T, B: Copy, S> {
@@ -53,6 +51,19 @@ pub(crate) trait Turns<T, B: Copy, S> {
         requires can { CanNext kind local answer }
         ensures { result ≡ next_of kind local answer };
 
+    /// Whether `next_common` tells what a call does next.
+    fn is_common(kind: Kind, local: &Local<B>, answer: &Answer<B>) -> bool
+        requires of { (queue : Self) × (kind ≡ kind_of queue) }
+        requires can { CanNext kind local.now answer.now }
+        ensures { result ≡ is_common_of kind local.now answer.now };
+
+    /// What a call does next on queues of this kind, where that is one of the few steps that most calls are made of.
+    fn next_common(kind: Kind, local: Local<B>, answer: Answer<B>) -> Next<B>
+        requires of { (queue : Self) × (kind ≡ kind_of queue) }
+        requires can { CanNext kind local answer }
+        requires common { is_common_of kind local answer ≡ true }
+        ensures { result ≡ next_of kind local answer };
+
     /// One step: the touch of a slot, and then the operation.
     fn turn(
         &self,
@@ -79,103 +90,4 @@ pub(crate) trait Turns<T, B: Copy, S> {
 
     /// The prompt calls end by their second step.
     ghost prompt: { (m : Self) (c : SpecCall T) → is_prompt c ≡ true → EndsPromptly B (kind_of m) (call_kind c) };
-}
-
-/// Gives up the block that a reply hands out, and puts the value into the reply.
-#[inline(always)]
-fn end<T, B: Copy, S, M: Turns<T, B, S>>(
-    queue: &M,
-    seat: &mut S,
-    reply: Reply<()>,
-    spare: Option<B>,
-    carried: Option<T>,
-) -> Reply<T>
-    requires gives { MayGive M.spares queue.now seat.old spare }
-    requires fills { (whole : SpecReply T) × (filled reply carried ≡ Some whole) }
-    ensures gave { Gave M.gives queue.now seat.old spare seat.new }
-    ensures fills { filled reply carried ≡ Some result }
-{
-    if let Some(block) = spare {
-        queue.give_up(seat, block);
-    }
-    Reply::fill(reply, carried)
-}
-
-/// Runs a call to its end.
-#[inline(always)]
-pub(crate) fn drive<T, B: Copy, S, M: Turns<T, B, S>, G: Gate, R: Wait>(
-    queue: &M,
-    rt: &R,
-    gate: &G,
-    seat: &mut S,
-    call: Call<T>,
-) -> Reply<T>
-    requires { M.rests queue.now seat.old }
-    ensures { M.ended queue.now seat.old call result seat.new }
-{
-    let kind = queue.kind();
-    let (call, mut carried) = call.split();
-    let mut local: Local<B> = steps::start(kind, call);
-    let mut answer: Answer<B> = Answer::Start;
-    for _ in rt.forever() {
-        let todo = M::next(kind, local, answer);
-        match todo {
-            Next::Reply(reply, spare) => return end(queue, seat, reply, spare, carried),
-            Next::Step(after, touch, op) => {
-                gate.pass(&op);
-                let (found, left) = queue.turn(seat, &call, &after, touch, op, carried);
-                carried = left;
-                answer = found;
-                local = after;
-            }
-        }
-    }
-    unreachable!()
-}
-
-/// Runs a call to its end, in a function of its own: rings have too many steps to stand in each caller.
-#[inline(never)]
-pub(crate) fn drive_apart<T, B: Copy, S, M: Turns<T, B, S>, G: Gate, R: Wait>(
-    queue: &M,
-    rt: &R,
-    gate: &G,
-    seat: &mut S,
-    call: Call<T>,
-) -> Reply<T>
-    requires { M.rests queue.now seat.old }
-    ensures { M.ended queue.now seat.old call result seat.new }
-{
-    drive(queue, rt, gate, seat, call)
-}
-
-/// Runs a prompt call to its end, which comes by its second step.
-#[inline(always)]
-pub(crate) fn drive_promptly<T, B: Copy, S, M: Turns<T, B, S>, G: Gate>(
-    queue: &M,
-    gate: &G,
-    seat: &mut S,
-    call: Call<T>,
-) -> Reply<T>
-    requires rests { M.rests queue.now seat.old }
-    requires prompt { is_prompt call ≡ true }
-    ensures { M.ended queue.now seat.old call result seat.new }
-{
-    let kind = queue.kind();
-    let (call, mut carried) = call.split();
-    let mut local: Local<B> = steps::start(kind, call);
-    let mut answer: Answer<B> = Answer::Start;
-    for _ in 0..PROMPT_STEPS + 1 {
-        let todo = M::next(kind, local, answer);
-        match todo {
-            Next::Reply(reply, spare) => return end(queue, seat, reply, spare, carried),
-            Next::Step(after, touch, op) => {
-                gate.pass(&op);
-                let (found, left) = queue.turn(seat, &call, &after, touch, op, carried);
-                carried = left;
-                answer = found;
-                local = after;
-            }
-        }
-    }
-    unreachable!()
 }

@@ -2,10 +2,10 @@ use Rattle.std.proofs.Common.{sym, ap, ◌∙◌}
 use Rattle.concurrent_queue.proofs.WebParties.{wakes_free, rests_ended}
 use Rattle.concurrent_queue.proofs.chain.answer.Goals as goal
 
-pub drive_apart-reply-requires : goal.drive_apart-reply-requires
-drive_apart-reply-requires g c = let s = c.wake-asking.ensures.seat in (s.0, wakes_free _ c.args.party.now c.wake-asking.result.seat.sitter c.requires s.1)
+pub drive-reply-requires : goal.drive-reply-requires
+drive-reply-requires g c = let s = c.wake-asking.ensures.seat in (s.0, wakes_free _ c.args.party.now c.wake-asking.result.seat.sitter c.requires s.1)
 
 pub returns : goal.returns
 returns g c =
-    let s = c.wake-asking.ensures.seat in let d = c.drive_apart-reply.ensures in let out = c.rests.ensures in
-    rests_ended c.args.party.now c.rests.result c.wake-asking.result.seat.sitter c.drive_apart-reply.new.seat.seat.sitter c.args.call c.drive_apart-reply.result s.1 d.0.1 d.1 out.0 (out.1 ∙ (d.0.0.0 ∙ sym c.requires.1)) out.2
+    let s = c.wake-asking.ensures.seat in let d = c.drive-reply.ensures in let out = c.rests.ensures in
+    rests_ended c.args.party.now c.rests.result c.wake-asking.result.seat.sitter c.drive-reply.new.seat.seat.sitter c.args.call c.drive-reply.result s.1 d.0.1 d.1 out.0 (out.1 ∙ (d.0.0.0 ∙ sym c.requires.1)) out.2

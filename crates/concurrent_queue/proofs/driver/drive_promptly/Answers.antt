@@ -1,13 +1,19 @@
 use Rattle.std.proofs.Common.{◌≡◌, refl, ap, sym, subst}
 use Rattle.queue_steps.specs.Kinds.{call_kind}
-use Rattle.concurrent_queue.proofs.Leading.{begins-first, leads-step, leads-reply}
-use Rattle.concurrent_queue.proofs.turns.drive.Goals as goal
+use Rattle.queue_steps.specs.Next.{CanNext}
+use Rattle.concurrent_queue.proofs.Leading.{ends-first, ends-step, begins-first, leads-step, leads-reply}
+use Rattle.concurrent_queue.proofs.driver.drive_promptly.Goals as goal
 
 pub loop-init : goal.loop-init
 loop-init g c =
     let m = g.M.Turns in
-    begins-first m.can m.does m.spares m.gives m.stands m.ended c.kind-kind.result (m.kind_of c.args.queue.now) c.args.queue.now c.args.seat.now c.args.call c.start-local.result c.split-call.result
-    c.kind-kind.ensures c.split-call.ensures c.start-local.ensures (g.met.M.Turns.begins c.args.queue.now c.args.seat.now c.args.call c.requires)
+    let first = begins-first m.can m.does m.spares m.gives m.stands m.ended c.kind-kind.result (m.kind_of c.args.queue.now) c.args.queue.now c.args.seat.now c.args.call c.start-local.result c.split-call.result
+    c.kind-kind.ensures c.split-call.ensures c.start-local.ensures (g.met.M.Turns.begins c.args.queue.now c.args.seat.now c.args.call c.requires.rests) in (
+      first.0,
+      first.1,
+      ends-first c.kind-kind.result (m.kind_of c.args.queue.now) (call_kind c.args.call) c.start-local.result c.split-call.result.0
+          c.kind-kind.ensures (ap (λ z. z.0) c.split-call.ensures) c.start-local.ensures (g.met.M.Turns.prompt c.args.queue.now c.args.call c.requires.prompt),
+    )
 
 pub turn-found-requires : goal.turn-found-requires
 turn-found-requires g c =
@@ -23,7 +29,12 @@ loop-preserved g c =
     let kind : call_kind c.args.call ≡ c.split-call.result.0 = sym (ap (λ z. z.0) c.split-call.ensures) in
     let did = subst (λ k. m.does c.args.queue.now c.loop.seat k c.in-Step.after c.in-Step.touch c.in-Step.op c.loop.carried c.turn-found.result.0 c.turn-found.new.seat c.turn-found.result.1) (sym kind) c.turn-found.ensures in
     let at = h.1 c.turn-found.result.0 c.turn-found.new.seat c.turn-found.result.1 did in
-    rw c.kind-kind.ensures (g.met.M.Turns.goes_on c.args.queue.now c.args.seat.now c.args.call c.in-Step.after c.turn-found.result.0 c.turn-found.new.seat c.turn-found.result.1 at)
+    let next = g.met.M.Turns.goes_on c.args.queue.now c.args.seat.now c.args.call c.in-Step.after c.turn-found.result.0 c.turn-found.new.seat c.turn-found.result.1 at in
+    let can : CanNext c.kind-kind.result c.in-Step.after c.turn-found.result.0 = rw c.kind-kind.ensures next.0 in (
+      can,
+      rw c.kind-kind.ensures next.1,
+      ends-step c.loop.counter c.kind-kind.result c.loop.local c.loop.answer c.in-Step.after c.in-Step.touch c.in-Step.op c.turn-found.result.0 c.loop-test.true c.next-todo.ensures c.in-Step.is c.loop.invariant.2 can,
+    )
 
 pub end-requires : goal.end-requires
 end-requires g c =

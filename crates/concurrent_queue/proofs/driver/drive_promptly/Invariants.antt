@@ -3,7 +3,7 @@ use Rattle.queue_steps.specs.declared.sizes.TheConstants.{PROMPT_STEPS}
 use Rattle.queue_steps.specs.Next.{CanNext, next_of}
 use Rattle.queue_steps.specs.Prompt.{EndsBefore}
 use Rattle.concurrent_queue.specs.Turns.{Leads}
-use Rattle.concurrent_queue.proofs.turns.drive_promptly.Given as goal
+use Rattle.concurrent_queue.proofs.driver.drive_promptly.Given as goal
 
 -- the answer fits where the call stands, and what is left to do leads the call on, and to its end within the steps that are left
 abbrev pub invariant-loop : goal.invariant-loop

@@ -1,0 +1,416 @@
+//! A party's driver: it asks for the next step, does it where other parties do theirs, and asks again, until the reply.
+//!
+//! The first rounds stand one after another, so that the compiler knows in each where the call stands. They do common steps alone; any other step leaves for the loop, which goes on to the reply.
+ghost use Rattle.std.specs.Prelude.{◌≡◌, true, Some};
+ghost use Rattle.queue_steps.specs.declared.model.Reply.{Reply as SpecReply};
+ghost use Rattle.queue_steps.specs.CommonNext.{is_common_of};
+ghost use Rattle.queue_steps.specs.Kinds.{filled};
+ghost use Rattle.queue_steps.specs.Prompt.{is_prompt};
+ghost use Rattle.concurrent_queue.specs.Turns.{MayGive, Gave};
+ghost use Rattle.concurrent_queue.specs.Rounds.{OnWay, IsUnderWay, EndsRightly, GoesAhead};
+
+use crate::gate::Gate;
+use crate::turns::Turns;
+use queue_steps::model::{Call, CallKind, Reply};
+use queue_steps::sizes::PROMPT_STEPS;
+use queue_steps::steps::{self, Answer, Kind, Local, Next};
+use std::ops::ControlFlow;
+use std::sync::Wait;
+
+/// Where a call stands that is on its way, with the answer to its last operation and the value that it carries.
+pub(crate) struct Standing<T, B> {
+    pub(crate) local: Local<B>,
+    pub(crate) answer: Answer<B>,
+    pub(crate) carried: Option<T>,
+}
+
+/// Gives up the block that a reply hands out, and puts the value into the reply.
+#[inline(always)]
+fn end<T, B: Copy, S, M: Turns<T, B, S>>(
+    queue: &M,
+    seat: &mut S,
+    reply: Reply<()>,
+    spare: Option<B>,
+    carried: Option<T>,
+) -> Reply<T>
+    requires gives { MayGive M.spares queue.now seat.old spare }
+    requires fills { (whole : SpecReply T) × (filled reply carried ≡ Some whole) }
+    ensures gave { Gave M.gives queue.now seat.old spare seat.new }
+    ensures fills { filled reply carried ≡ Some result }
+{
+    if let Some(block) = spare {
+        queue.give_up(seat, block);
+    }
+    Reply::fill(reply, carried)
+}
+
+/// Does what the call does next, and tells where it then stands, or its reply. A function that takes a `Next` would have it in memory.
+macro_rules! done {
+    ($queue:ident, $gate:ident, $call:ident, $seat:ident, $todo:ident, $carried:ident) => {
+        match $todo {
+            Next::Reply(reply, spare) => {
+                ControlFlow::Break(end($queue, $seat, reply, spare, $carried))
+            }
+            Next::Step(after, touch, op) => {
+                $gate.pass(&op);
+                let (answer, carried) = $queue.turn($seat, &$call, &after, touch, op, $carried);
+                ControlFlow::Continue(Standing {
+                    local: after,
+                    answer,
+                    carried,
+                })
+            }
+        }
+    };
+}
+
+/// One round of a call whose step is a common one: that step, or the reply.
+///
+/// The compiler puts a private function where its only call stands. `W` and `AT` tell the calls of this one apart, so that each is a function of its own.
+#[inline(always)]
+fn common_round<T, B: Copy, S, M: Turns<T, B, S>, G: Gate, W, const AT: u64>(
+    queue: &M,
+    gate: &G,
+    kind: Kind,
+    call: CallKind,
+    seat: &mut S,
+    standing: Standing<T, B>,
+) -> ControlFlow<Reply<T>, Standing<T, B>>
+    requires common { is_common_of kind standing.local standing.answer ≡ true }
+    requires goes { IsUnderWay M.Turns kind call queue.now standing seat.old }
+    ensures { GoesAhead M.Turns kind call queue.now standing seat.old seat.new result }
+{
+    let Standing {
+        local,
+        answer,
+        carried,
+    } = standing;
+    let todo = M::next_common(kind, local, answer);
+    done!(queue, gate, call, seat, todo, carried)
+}
+
+/// One round of a call, whatever its step is.
+#[inline(always)]
+fn round<T, B: Copy, S, M: Turns<T, B, S>, G: Gate>(
+    queue: &M,
+    gate: &G,
+    kind: Kind,
+    call: CallKind,
+    seat: &mut S,
+    standing: Standing<T, B>,
+) -> ControlFlow<Reply<T>, Standing<T, B>>
+    requires { IsUnderWay M.Turns kind call queue.now standing seat.old }
+    ensures { GoesAhead M.Turns kind call queue.now standing seat.old seat.new result }
+{
+    let Standing {
+        local,
+        answer,
+        carried,
+    } = standing;
+    let todo = M::next(kind, local, answer);
+    done!(queue, gate, call, seat, todo, carried)
+}
+
+/// The rounds of a call in a loop.
+#[inline(never)]
+fn go_on<T, B: Copy, S, M: Turns<T, B, S>, G: Gate, R: Wait>(
+    queue: &M,
+    rt: &R,
+    gate: &G,
+    kind: Kind,
+    call: CallKind,
+    seat: &mut S,
+    standing: Standing<T, B>,
+) -> Reply<T>
+    requires { IsUnderWay M.Turns kind call queue.now standing seat.old }
+    ensures { EndsRightly M.Turns kind call queue.now standing seat.old seat.new result }
+{
+    let mut standing = standing;
+    for _ in rt.forever() {
+        match round(queue, gate, kind, call, seat, standing) {
+            ControlFlow::Break(reply) => return reply,
+            ControlFlow::Continue(after) => standing = after,
+        }
+    }
+    unreachable!()
+}
+
+/// Goes on in the loop. What the loop is handed is made here alone, so that the rounds before it write none of it.
+#[inline(always)]
+fn leave<T, B: Copy, S, M: Turns<T, B, S>, G: Gate, R: Wait>(
+    queue: &M,
+    rt: &R,
+    gate: &G,
+    kind: Kind,
+    call: CallKind,
+    seat: &mut S,
+    standing: Standing<T, B>,
+) -> Reply<T>
+    requires { IsUnderWay M.Turns kind call queue.now standing seat.old }
+    ensures { EndsRightly M.Turns kind call queue.now standing seat.old seat.new result }
+{
+    go_on(queue, rt, gate, kind, call, seat, standing)
+}
+
+/// One common round, and then the loop.
+#[inline(always)]
+fn one_common<T, B: Copy, S, M: Turns<T, B, S>, G: Gate, R: Wait, W>(
+    queue: &M,
+    rt: &R,
+    gate: &G,
+    kind: Kind,
+    call: CallKind,
+    seat: &mut S,
+    standing: Standing<T, B>,
+) -> Reply<T>
+    requires { IsUnderWay M.Turns kind call queue.now standing seat.old }
+    ensures { EndsRightly M.Turns kind call queue.now standing seat.old seat.new result }
+{
+    if !M::is_common(kind, &standing.local, &standing.answer) {
+        return leave(queue, rt, gate, kind, call, seat, standing);
+    }
+    match common_round::<T, B, S, M, G, W, 1>(queue, gate, kind, call, seat, standing) {
+        ControlFlow::Break(reply) => reply,
+        ControlFlow::Continue(after) => leave(queue, rt, gate, kind, call, seat, after),
+    }
+}
+
+/// Two common rounds one after another, and then the loop.
+#[inline(always)]
+fn two_common<T, B: Copy, S, M: Turns<T, B, S>, G: Gate, R: Wait, W>(
+    queue: &M,
+    rt: &R,
+    gate: &G,
+    kind: Kind,
+    call: CallKind,
+    seat: &mut S,
+    standing: Standing<T, B>,
+) -> Reply<T>
+    requires { IsUnderWay M.Turns kind call queue.now standing seat.old }
+    ensures { EndsRightly M.Turns kind call queue.now standing seat.old seat.new result }
+{
+    if !M::is_common(kind, &standing.local, &standing.answer) {
+        return leave(queue, rt, gate, kind, call, seat, standing);
+    }
+    match common_round::<T, B, S, M, G, W, 2>(queue, gate, kind, call, seat, standing) {
+        ControlFlow::Break(reply) => reply,
+        ControlFlow::Continue(after) => one_common::<T, B, S, M, G, R, W>(
+            queue, rt, gate, kind, call, seat, after,
+        ),
+    }
+}
+
+/// Three common rounds one after another, and then the loop.
+#[inline(always)]
+fn three_common<T, B: Copy, S, M: Turns<T, B, S>, G: Gate, R: Wait, W>(
+    queue: &M,
+    rt: &R,
+    gate: &G,
+    kind: Kind,
+    call: CallKind,
+    seat: &mut S,
+    standing: Standing<T, B>,
+) -> Reply<T>
+    requires { IsUnderWay M.Turns kind call queue.now standing seat.old }
+    ensures { EndsRightly M.Turns kind call queue.now standing seat.old seat.new result }
+{
+    if !M::is_common(kind, &standing.local, &standing.answer) {
+        return leave(queue, rt, gate, kind, call, seat, standing);
+    }
+    match common_round::<T, B, S, M, G, W, 3>(queue, gate, kind, call, seat, standing) {
+        ControlFlow::Break(reply) => reply,
+        ControlFlow::Continue(after) => two_common::<T, B, S, M, G, R, W>(
+            queue, rt, gate, kind, call, seat, after,
+        ),
+    }
+}
+
+/// Four common rounds one after another, and then the loop.
+#[inline(always)]
+fn four_common<T, B: Copy, S, M: Turns<T, B, S>, G: Gate, R: Wait, W>(
+    queue: &M,
+    rt: &R,
+    gate: &G,
+    kind: Kind,
+    call: CallKind,
+    seat: &mut S,
+    standing: Standing<T, B>,
+) -> Reply<T>
+    requires { IsUnderWay M.Turns kind call queue.now standing seat.old }
+    ensures { EndsRightly M.Turns kind call queue.now standing seat.old seat.new result }
+{
+    if !M::is_common(kind, &standing.local, &standing.answer) {
+        return leave(queue, rt, gate, kind, call, seat, standing);
+    }
+    match common_round::<T, B, S, M, G, W, 4>(queue, gate, kind, call, seat, standing) {
+        ControlFlow::Break(reply) => reply,
+        ControlFlow::Continue(after) => three_common::<T, B, S, M, G, R, W>(
+            queue, rt, gate, kind, call, seat, after,
+        ),
+    }
+}
+
+/// Five common rounds one after another, and then the loop.
+#[inline(always)]
+fn five_common<T, B: Copy, S, M: Turns<T, B, S>, G: Gate, R: Wait, W>(
+    queue: &M,
+    rt: &R,
+    gate: &G,
+    kind: Kind,
+    call: CallKind,
+    seat: &mut S,
+    standing: Standing<T, B>,
+) -> Reply<T>
+    requires { IsUnderWay M.Turns kind call queue.now standing seat.old }
+    ensures { EndsRightly M.Turns kind call queue.now standing seat.old seat.new result }
+{
+    if !M::is_common(kind, &standing.local, &standing.answer) {
+        return leave(queue, rt, gate, kind, call, seat, standing);
+    }
+    match common_round::<T, B, S, M, G, W, 5>(queue, gate, kind, call, seat, standing) {
+        ControlFlow::Break(reply) => reply,
+        ControlFlow::Continue(after) => four_common::<T, B, S, M, G, R, W>(
+            queue, rt, gate, kind, call, seat, after,
+        ),
+    }
+}
+
+/// Six common rounds one after another, and then the loop.
+#[inline(always)]
+fn six_common<T, B: Copy, S, M: Turns<T, B, S>, G: Gate, R: Wait, W>(
+    queue: &M,
+    rt: &R,
+    gate: &G,
+    kind: Kind,
+    call: CallKind,
+    seat: &mut S,
+    standing: Standing<T, B>,
+) -> Reply<T>
+    requires { IsUnderWay M.Turns kind call queue.now standing seat.old }
+    ensures { EndsRightly M.Turns kind call queue.now standing seat.old seat.new result }
+{
+    if !M::is_common(kind, &standing.local, &standing.answer) {
+        return leave(queue, rt, gate, kind, call, seat, standing);
+    }
+    match common_round::<T, B, S, M, G, W, 6>(queue, gate, kind, call, seat, standing) {
+        ControlFlow::Break(reply) => reply,
+        ControlFlow::Continue(after) => five_common::<T, B, S, M, G, R, W>(
+            queue, rt, gate, kind, call, seat, after,
+        ),
+    }
+}
+
+/// Seven common rounds one after another, and then the loop.
+#[inline(always)]
+fn seven_common<T, B: Copy, S, M: Turns<T, B, S>, G: Gate, R: Wait, W>(
+    queue: &M,
+    rt: &R,
+    gate: &G,
+    kind: Kind,
+    call: CallKind,
+    seat: &mut S,
+    standing: Standing<T, B>,
+) -> Reply<T>
+    requires { IsUnderWay M.Turns kind call queue.now standing seat.old }
+    ensures { EndsRightly M.Turns kind call queue.now standing seat.old seat.new result }
+{
+    if !M::is_common(kind, &standing.local, &standing.answer) {
+        return leave(queue, rt, gate, kind, call, seat, standing);
+    }
+    match common_round::<T, B, S, M, G, W, 7>(queue, gate, kind, call, seat, standing) {
+        ControlFlow::Break(reply) => reply,
+        ControlFlow::Continue(after) => six_common::<T, B, S, M, G, R, W>(
+            queue, rt, gate, kind, call, seat, after,
+        ),
+    }
+}
+
+/// A call on its way, before its first step.
+#[inline(always)]
+fn begin<T, B: Copy, S, M: Turns<T, B, S>>(
+    queue: &M,
+    seat: &S,
+    call: Call<T>,
+) -> (Kind, CallKind, Standing<T, B>)
+    requires { M.rests queue.now seat.now }
+    ensures of { result.0 ≡ M.kind_of queue.now }
+    ensures goes { OnWay M.Turns result.0 result.1 queue.now seat.now call result.2 seat.now }
+{
+    let _ = seat;
+    let kind = queue.kind();
+    let (call, carried) = call.split();
+    let local: Local<B> = steps::start(kind, call);
+    (
+        kind,
+        call,
+        Standing {
+            local,
+            answer: Answer::Start,
+            carried,
+        },
+    )
+}
+
+/// Runs a call to its end. Seven common rounds do for each push that finds room, and each pop that finds an item, where no block begins or ends and no other call is met.
+#[inline(always)]
+pub(crate) fn drive<T, B: Copy, S, M: Turns<T, B, S>, G: Gate, R: Wait, W>(
+    queue: &M,
+    rt: &R,
+    gate: &G,
+    seat: &mut S,
+    call: Call<T>,
+) -> Reply<T>
+    requires { M.rests queue.now seat.old }
+    ensures { M.ended queue.now seat.old call result seat.new }
+{
+    let (kind, call, standing) = begin(queue, seat, call);
+    seven_common::<T, B, S, M, G, R, W>(queue, rt, gate, kind, call, seat, standing)
+}
+
+/// Runs a call to its end, with three common rounds: a call on one slot has no more steps where it meets no other call.
+#[inline(always)]
+pub(crate) fn drive_shortly<T, B: Copy, S, M: Turns<T, B, S>, G: Gate, R: Wait, W>(
+    queue: &M,
+    rt: &R,
+    gate: &G,
+    seat: &mut S,
+    call: Call<T>,
+) -> Reply<T>
+    requires { M.rests queue.now seat.old }
+    ensures { M.ended queue.now seat.old call result seat.new }
+{
+    let (kind, call, standing) = begin(queue, seat, call);
+    three_common::<T, B, S, M, G, R, W>(queue, rt, gate, kind, call, seat, standing)
+}
+
+/// Runs a prompt call to its end, which comes by its second step.
+#[inline(always)]
+pub(crate) fn drive_promptly<T, B: Copy, S, M: Turns<T, B, S>, G: Gate>(
+    queue: &M,
+    gate: &G,
+    seat: &mut S,
+    call: Call<T>,
+) -> Reply<T>
+    requires rests { M.rests queue.now seat.old }
+    requires prompt { is_prompt call ≡ true }
+    ensures { M.ended queue.now seat.old call result seat.new }
+{
+    let kind = queue.kind();
+    let (call, mut carried) = call.split();
+    let mut local: Local<B> = steps::start(kind, call);
+    let mut answer: Answer<B> = Answer::Start;
+    for _ in 0..PROMPT_STEPS + 1 {
+        let todo = M::next(kind, local, answer);
+        match todo {
+            Next::Reply(reply, spare) => return end(queue, seat, reply, spare, carried),
+            Next::Step(after, touch, op) => {
+                gate.pass(&op);
+                let (found, left) = queue.turn(seat, &call, &after, touch, op, carried);
+                carried = left;
+                answer = found;
+                local = after;
+            }
+        }
+    }
+    unreachable!()
+}
