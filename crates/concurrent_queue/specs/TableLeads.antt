@@ -56,12 +56,12 @@ pub record CanDo {T : Type 0} (K : TableOf T) (m : Seated T) (l : Local ℕ) (u 
 abbrev pub CanOperate : {T : Type 0} → TableOf T → Seated T → Op ℕ → InCall T → Type 0
 CanOperate K m o c = Ready K.calls m.0 c × (m.1 ≡ touched_list c.touch c.carried c.lends) × (c.op ≡ o) × InTable K o
 
--- no reply of a call on a table hands out a block
+-- no reply of a call on a table hands out a block; a block that were given up would leave the seat as it is
 abbrev pub NoBlock : {T : Type 0} → TableId → Place T → ℕ → Type 0
 NoBlock t p b = ⊥
 
 abbrev pub NoGift : {T : Type 0} → TableId → Place T → ℕ → Place T → Type 0
-NoGift t p b q = ⊥
+NoGift t p b q = q ≡ p
 
 -- K tells the kind of a table by its number of slots
 module _ {T : Type 0} (K : ℕ → TableOf T) where

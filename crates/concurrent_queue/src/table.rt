@@ -254,10 +254,12 @@ impl<T, K: TableSteps<T>, A: Allocator> Turns<T, usize, Seat<Option<T>, Doing<T>
         let found = self.operate::<Brand>(seat, call, local, todo, op, &left);
         (found, left)
     }
-    /// No reply has a block.
-    fn give_up(&self, seat: &mut Seat<Option<T>, Doing<T>>, block: usize) {
+
+    /// No reply has a block, so nothing is done.
+    fn give_up(&self, seat: &mut Seat<Option<T>, Doing<T>>, block: usize)
+        ensures { NoGift self.now.table.shared.table_id (seat.old.table_id, seat.old.me) block (seat.new.table_id, seat.new.me) }
+    {
         let _ = seat;
         let _ = block;
-        unreachable!()
     }
 }
