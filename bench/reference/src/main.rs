@@ -1,109 +1,288 @@
-//! Times the reference crate as `queue_bench` and `queue_run threads` time this one: `pairs N`, or `threads KIND P C N`.
+//! Times the reference crate as `queue_bench` times this one. The arguments are its own: `alone KIND WORK BYTES COUNT` or `threads KIND PUSHERS POPPERS COUNT`. It has one form of queue, so `owned` and `ended` are not known here.
 
 use concurrent_queue::{ConcurrentQueue, PopError};
 use std::env;
+use std::fs;
 use std::hint::black_box;
 use std::process::ExitCode;
-use std::sync::Arc;
 use std::thread;
-use std::time::Instant;
+use std::time::{Duration, Instant};
 
-/// The queue of this kind, `single`, `bounded:CAP` or `unbounded`.
-fn queue_of(kind: &str) -> Option<ConcurrentQueue<u64>> {
+/// A value that carries a number, in so many bytes.
+trait Item: Copy {
+    fn numbered(number: u64) -> Self;
+    fn number(&self) -> u64;
+
+    /// Does all rounds on a queue.
+    fn run(queue: &ConcurrentQueue<Self>, rounds: Rounds) -> Taken<Self>;
+}
+
+impl Item for u64 {
+    fn numbered(number: u64) -> u64 {
+        number
+    }
+
+    fn number(&self) -> u64 {
+        *self
+    }
+
+    fn run(queue: &ConcurrentQueue<u64>, rounds: Rounds) -> Taken<u64> {
+        if rounds.puts == 1 && rounds.takes == 1 {
+            alternate(queue, rounds.first, rounds.count)
+        } else {
+            run_rounds(queue, rounds)
+        }
+    }
+}
+
+impl<const WORDS: usize> Item for [u64; WORDS] {
+    fn numbered(number: u64) -> [u64; WORDS] {
+        [number; WORDS]
+    }
+
+    fn number(&self) -> u64 {
+        self.first().copied().unwrap_or(0)
+    }
+
+    fn run(queue: &ConcurrentQueue<[u64; WORDS]>, rounds: Rounds) -> Taken<[u64; WORDS]> {
+        run_rounds(queue, rounds)
+    }
+}
+
+/// In which order pushes and pops come.
+#[derive(Clone, Copy)]
+enum Work {
+    /// A push and a pop in turn, on a queue that had so many items before.
+    Behind(u64),
+    /// So many pushes, and then as many pops.
+    Batch(u64),
+}
+
+/// What came of a run: the sum of the numbers that were popped, and how long it took.
+struct Run {
+    sum: u64,
+    took: Duration,
+}
+
+/// An empty queue of the kind that this word names: `single`, `bounded:CAP` or `unbounded`.
+fn open<T>(kind: &str) -> Option<ConcurrentQueue<T>> {
     match kind.split_once(':') {
-        Some(("bounded", capacity)) => capacity.parse().ok().map(ConcurrentQueue::bounded),
+        Some(("bounded", capacity)) => {
+            let capacity = capacity.parse().ok()?;
+            (capacity > 0).then(|| ConcurrentQueue::bounded(capacity))
+        }
         None if kind == "single" => Some(ConcurrentQueue::bounded(1)),
         None if kind == "unbounded" => Some(ConcurrentQueue::unbounded()),
         _ => None,
     }
 }
 
-/// Times so many pairs of a push and a pop by one thread.
-fn pairs(kind: &str, count: u64) {
-    let queue = black_box(queue_of(kind).expect("a kind"));
-    let start = Instant::now();
-    let mut sum = 0u64;
-    for item in 0..count {
-        let _ = queue.push(black_box(item));
-        if let Ok(popped) = queue.pop() {
-            sum = sum.wrapping_add(popped);
-        }
+/// The work that this word names: `behind:ITEMS` or `batch:ITEMS`.
+fn work_of(word: &str) -> Option<Work> {
+    let (order, items) = word.split_once(':')?;
+    let items = items.parse().ok()?;
+    match order {
+        "behind" => Some(Work::Behind(items)),
+        "batch" => Some(Work::Batch(items)),
+        _ => None,
     }
-    let nanos = start.elapsed().as_nanos() as f64 / count as f64;
-    println!("{kind}: {nanos:.1} ns a pair (sum {sum})");
 }
 
-/// Times pushers of `count` values each, and poppers that take until the closed queue is empty.
-fn threads(kind: &str, pushers: u64, poppers: u64, count: u64) {
-    let queue = Arc::new(queue_of(kind).expect("a kind"));
-    let start = Instant::now();
-    let pushing: Vec<_> = (0..pushers)
-        .map(|pusher| {
-            let queue = Arc::clone(&queue);
-            thread::spawn(move || {
-                for item in 0..count {
-                    while queue.push(pusher * count + item).is_err() {
-                        thread::yield_now();
-                    }
-                }
-            })
-        })
-        .collect();
-    let popping: Vec<_> = (0..poppers)
-        .map(|_| {
-            let queue = Arc::clone(&queue);
-            thread::spawn(move || {
-                let mut taken = 0u64;
-                loop {
-                    match queue.pop() {
-                        Ok(_) => taken += 1,
-                        Err(PopError::Empty) => thread::yield_now(),
-                        Err(PopError::Closed) => return taken,
-                    }
-                }
-            })
-        })
-        .collect();
-    for pusher in pushing {
-        pusher.join().expect("a pusher");
+/// Rounds of so many pushes, each with as many pops after them as are wanted. The items are numbered on from the first.
+struct Rounds {
+    first: u64,
+    count: u64,
+    puts: u64,
+    takes: u64,
+}
+
+impl Work {
+    /// What comes before the clock is started: the items that lie behind.
+    fn filling(self) -> Rounds {
+        let puts = match self {
+            Work::Behind(items) => items,
+            Work::Batch(_) => 0,
+        };
+        Rounds {
+            first: 0,
+            count: 1,
+            puts,
+            takes: 0,
+        }
     }
-    queue.close();
-    let taken: u64 = popping
-        .into_iter()
-        .map(|popper| popper.join().expect("a popper"))
-        .sum();
-    println!(
-        "{kind}: {taken} values in {:.3} s",
-        start.elapsed().as_secs_f64()
-    );
+
+    /// What is timed, for so many pairs.
+    fn timed(self, pairs: u64) -> Rounds {
+        match self {
+            Work::Behind(items) => Rounds {
+                first: items,
+                count: pairs,
+                puts: 1,
+                takes: 1,
+            },
+            Work::Batch(items) => Rounds {
+                first: 0,
+                count: pairs.checked_div(items).unwrap_or(0),
+                puts: items,
+                takes: items,
+            },
+        }
+    }
+}
+
+/// What was popped: the sum of the numbers, and the last item.
+struct Taken<T> {
+    sum: u64,
+    last: T,
+}
+
+impl<T: Item> Taken<T> {
+    #[inline(always)]
+    fn add(&mut self, item: Option<T>) {
+        if let Some(item) = item {
+            self.sum = self.sum.wrapping_add(item.number());
+            self.last = item;
+        }
+    }
+}
+
+/// Does all rounds.
+#[inline(never)]
+fn run_rounds<T: Item>(queue: &ConcurrentQueue<T>, rounds: Rounds) -> Taken<T> {
+    let mut taken = Taken {
+        sum: 0,
+        last: T::numbered(0),
+    };
+    let mut number = rounds.first;
+    for _ in 0..rounds.count {
+        for _ in 0..rounds.puts {
+            let _ = queue.push(T::numbered(number));
+            number = number.wrapping_add(1);
+        }
+        for _ in 0..rounds.takes {
+            taken.add(queue.pop().ok());
+        }
+    }
+    taken
+}
+
+/// Does rounds of one push and one pop, so many of them.
+#[inline(never)]
+fn alternate<T: Item>(queue: &ConcurrentQueue<T>, first: u64, count: u64) -> Taken<T> {
+    let mut taken = Taken {
+        sum: 0,
+        last: T::numbered(0),
+    };
+    let mut number = first;
+    for _ in 0..count {
+        let _ = queue.push(T::numbered(number));
+        number = number.wrapping_add(1);
+        taken.add(queue.pop().ok());
+    }
+    taken
+}
+
+/// Times pairs by one thread.
+fn time_pairs<T: Item>(kind: &str, work: Work, pairs: u64) -> Option<Run> {
+    let queue: ConcurrentQueue<T> = black_box(open(kind)?);
+    T::run(&queue, work.filling());
+    let start = Instant::now();
+    let taken = T::run(&queue, work.timed(pairs));
+    let took = start.elapsed();
+    Some(Run {
+        sum: taken.sum.wrapping_add(taken.last.number()),
+        took,
+    })
+}
+
+/// Pushes the numbers from 0 up to the count, which is left out, each again for as long as the queue is full.
+fn push_all(queue: &ConcurrentQueue<u64>, count: u64) {
+    for number in 0..count {
+        while queue.push(number).is_err() {
+            thread::yield_now();
+        }
+    }
+}
+
+/// Pops so many numbers, and waits where the queue is empty. Gives their sum.
+fn pop_all(queue: &ConcurrentQueue<u64>, count: u64) -> u64 {
+    let mut sum = 0u64;
+    let mut left = count;
+    while left > 0 {
+        match queue.pop() {
+            Ok(number) => {
+                sum = sum.wrapping_add(number);
+                left -= 1;
+            }
+            Err(PopError::Empty) => thread::yield_now(),
+            Err(PopError::Closed) => break,
+        }
+    }
+    sum
+}
+
+/// Times threads: each pusher pushes so many numbers, and the poppers share them evenly.
+fn time_threads(kind: &str, pushers: u64, poppers: u64, count: u64) -> Option<Run> {
+    let queue: ConcurrentQueue<u64> = black_box(open(kind)?);
+    let share = (pushers * count).checked_div(poppers)?;
+    let start = Instant::now();
+    let sum = thread::scope(|scope| {
+        for _ in 0..pushers {
+            scope.spawn(|| push_all(&queue, count));
+        }
+        let popping: Vec<_> = (0..poppers)
+            .map(|_| scope.spawn(|| pop_all(&queue, share)))
+            .collect();
+        popping
+            .into_iter()
+            .map(|popper| popper.join().expect("a popper"))
+            .fold(0u64, u64::wrapping_add)
+    });
+    let took = start.elapsed();
+    Some(Run { sum, took })
+}
+
+/// Runs the load that these words name.
+fn run(words: &[&str]) -> Option<Run> {
+    match words {
+        ["alone", kind, work, bytes, count] => {
+            let (work, count) = (work_of(work)?, count.parse().ok()?);
+            match *bytes {
+                "8" => time_pairs::<u64>(kind, work, count),
+                "64" => time_pairs::<[u64; 8]>(kind, work, count),
+                "1024" => time_pairs::<[u64; 128]>(kind, work, count),
+                _ => None,
+            }
+        }
+        ["threads", kind, pushers, poppers, count] => time_threads(
+            kind,
+            pushers.parse().ok()?,
+            poppers.parse().ok()?,
+            count.parse().ok()?,
+        ),
+        _ => None,
+    }
+}
+
+/// The most memory that this process has had so far, in KiB, where the system tells.
+fn peak() -> Option<u64> {
+    let status = fs::read_to_string("/proc/self/status").ok()?;
+    let size = status.lines().find_map(|line| line.strip_prefix("VmHWM:"))?;
+    size.trim().strip_suffix(" kB")?.parse().ok()
 }
 
 fn main() -> ExitCode {
     let args: Vec<String> = env::args().skip(1).collect();
     let words: Vec<&str> = args.iter().map(String::as_str).collect();
-    match words.as_slice() {
-        ["pairs", count] => {
-            let count = count.parse().expect("a number");
-            for kind in [
-                "single",
-                "bounded:2",
-                "bounded:3",
-                "bounded:4",
-                "bounded:1000",
-                "unbounded",
-            ] {
-                pairs(kind, count);
-            }
-            ExitCode::SUCCESS
-        }
-        ["threads", kind, pushers, poppers, count] => {
-            let number = |text: &str| text.parse().expect("a number");
-            threads(kind, number(pushers), number(poppers), number(count));
-            ExitCode::SUCCESS
-        }
-        _ => {
-            eprintln!("pairs N | threads KIND P C N");
-            ExitCode::FAILURE
-        }
+    let Some(Run { sum, took }) = run(&words) else {
+        eprintln!("alone KIND WORK BYTES COUNT | threads KIND PUSHERS POPPERS COUNT");
+        return ExitCode::FAILURE;
+    };
+    let (line, nanos) = (words.join(" "), took.as_nanos());
+    println!("{line}: sum {sum}");
+    match peak() {
+        Some(peak) => eprintln!("{line}: {nanos} ns, peak {peak} KiB"),
+        None => eprintln!("{line}: {nanos} ns"),
     }
+    ExitCode::SUCCESS
 }

@@ -1,106 +1,103 @@
-//! Times pairs of a push and a pop on queues with one owner, on queues that one party shares with no other, and on what is left of these when they are no longer shared.
+//! Times pushes and pops: by one owner, by the only party of a shared queue, once its sharing has ended, and by threads.
 //!
-//! The argument is the number of pairs for each queue, 1000 if it is left out. What was popped is added up on standard output; the times go to standard error.
+//! The arguments are `FORM KIND WORK BYTES COUNT` or `threads KIND PUSHERS POPPERS COUNT`, for one run. `FORM` is `owned`, `alone` or `ended`; `KIND` is `single`, `bounded:CAP` or `unbounded`; `WORK` is `behind:ITEMS` or `batch:ITEMS`; `BYTES` is 8, 64 or 1024. Without arguments there is a short run of each.
+//!
+//! Standard output tells the sum of what was popped, which no time changes. Standard error tells how long it took, and the most memory that the process has had.
 #![tactic(auto)]
 
-ghost use Rattle.std.specs.Prelude.{◌≡◌, ◌<◌};
-ghost use Rattle.concurrent_queue.specs.Shared.{IsPartyOf};
+mod crew;
+mod items;
+mod lanes;
+mod load;
+mod pairs;
+mod queues;
+mod runs;
 
-use concurrent_queue::{ConcurrentQueue, Exclusive, Party};
+use crate::load::parse_load;
+use crate::runs::{Run, time};
+use std::io::ErrorKind;
 use std::sync::Wait;
-use std::time::{Duration, Instant};
-use std::{env, io};
+use std::thread::Threads;
+use std::{env, fs, io};
 
-/// Prints the sum of what was popped, and tells how long it took.
-fn tell(
-    rt: &HostRuntime,
-    which: &str,
-    capacity: Option<usize>,
-    sum: u64,
-    pairs: u64,
-    took: Duration,
-) -> io::Result<()> {
-    let micros = took.as_micros();
-    match capacity {
-        Some(capacity) => {
-            println!(rt; "{which}, capacity {capacity}: sum {sum}")?;
-            eprintln!(rt; "{which}, capacity {capacity}: {pairs} pairs in {micros} microseconds")
-        }
-        None => {
-            println!(rt; "{which}, no capacity: sum {sum}")?;
-            eprintln!(rt; "{which}, no capacity: {pairs} pairs in {micros} microseconds")
-        }
-    }
-}
-
-/// Runs so many pairs on a queue with one owner.
-fn time(rt: &HostRuntime, which: &str, mut queue: Exclusive<u64>, pairs: u64) -> io::Result<()> {
-    let start = Instant::now(rt)?;
-    let mut sum = 0u64;
-    for item in 0..pairs {
-        let _ = queue.push(item);
-        if let Ok(popped) = queue.pop() {
-            sum = sum.wrapping_add(popped);
-        }
-    }
-    let took = start.elapsed(rt)?;
-    tell(rt, which, queue.capacity(), sum, pairs, took)
-}
-
-/// Runs so many pairs by a party of a shared queue. Gives the party, and the sum of what was popped.
-fn run_shared<R: Wait>(
-    rt: &R,
-    queue: &ConcurrentQueue<u64>,
-    mut party: Party<u64>,
-    pairs: u64,
-) -> (Party<u64>, u64)
-    requires { IsPartyOf party queue.now }
-    ensures { IsPartyOf result.0 queue.now × (result.0.view.share ≡ party.view.share) }
-{
-    let mut sum = 0u64;
-    for item in 0..pairs {
-        let _ = queue.push(rt, &mut party, item);
-        if let Ok(popped) = queue.pop(rt, &mut party) {
-            sum = sum.wrapping_add(popped);
-        }
-    }
-    (party, sum)
-}
-
-/// Times so many pairs by the only party of a shared queue, and as many once it is no longer shared.
-fn time_shared<R: Wait>(rt: &HostRuntime, waits: &R, capacity: usize, pairs: u64) -> io::Result<()>
-    requires { 0 < capacity }
-{
-    let (queue, party) = ConcurrentQueue::bounded(rt.alloc(), capacity)?;
-    let start = Instant::now(rt)?;
-    let (party, sum) = run_shared(waits, &queue, party, pairs);
-    let took = start.elapsed(rt)?;
-    tell(rt, "shared", queue.capacity(), sum, pairs, took)?;
-    match queue.finish(party) {
-        Ok(left) => time(rt, "no longer shared", left, pairs),
-        Err(_) => unreachable!(),
-    }
-}
-
-/// The number of pairs that the arguments ask for.
-fn pairs(rt: &HostRuntime) -> io::Result<u64> {
-    let given = env::args(rt)?.nth(1);
-    Ok(match given {
-        Some(text) => text.as_str().parse().unwrap_or(1000),
-        None => 1000,
-    })
-}
+/// What is run where there are no arguments.
+static SHORT: [&str; 33] = [
+    "owned single behind:0 8 1000",
+    "owned bounded:2 behind:0 8 1000",
+    "owned bounded:3 behind:1 8 1000",
+    "owned bounded:4 behind:0 8 1000",
+    "owned bounded:1000 behind:100 8 1000",
+    "owned bounded:1024 batch:1000 8 2000",
+    "owned unbounded behind:0 8 1000",
+    "owned unbounded behind:100 8 1000",
+    "owned unbounded batch:1000 8 2000",
+    "owned single behind:0 64 1000",
+    "owned bounded:1000 batch:1000 64 2000",
+    "owned unbounded behind:100 64 1000",
+    "owned single behind:0 1024 1000",
+    "owned bounded:1000 behind:100 1024 1000",
+    "owned unbounded batch:100 1024 1000",
+    "alone single behind:0 8 1000",
+    "alone bounded:2 behind:0 8 1000",
+    "alone bounded:3 behind:1 8 1000",
+    "alone bounded:1000 batch:1000 8 2000",
+    "alone unbounded behind:100 8 1000",
+    "alone single behind:0 64 1000",
+    "alone bounded:1000 behind:100 1024 1000",
+    "alone unbounded batch:100 64 1000",
+    "ended single behind:0 8 1000",
+    "ended bounded:3 behind:0 8 1000",
+    "ended unbounded behind:100 8 1000",
+    "ended bounded:1000 batch:1000 1024 2000",
+    "threads single 1 1 1000",
+    "threads bounded:3 1 1 1000",
+    "threads bounded:1000 4 4 1000",
+    "threads unbounded 1 1 1000",
+    "threads single 4 4 1000",
+    "threads unbounded 4 4 1000",
+];
 
 fn main(rt: HostRuntime) -> io::Result<()> {
-    let pairs = pairs(&rt)?;
-    for capacity in [1usize, 2, 3, 4, 1000, 1024] {
-        time(
-            &rt,
-            "owned",
-            Exclusive::bounded(rt.alloc(), capacity)?,
-            pairs,
-        )?;
-        time_shared(&rt, &rt, capacity, pairs)?;
+    let mut line = String::new(rt.alloc());
+    for word in env::args(&rt)?.skip(1) {
+        if !line.is_empty() {
+            line.push(' ')?;
+        }
+        line.push_str(word.as_str())?;
     }
-    time(&rt, "owned", Exclusive::unbounded(rt.alloc()), pairs)
+    if !line.is_empty() {
+        return tell(&rt, &rt, line.as_str());
+    }
+    for line in SHORT {
+        tell(&rt, &rt, line)?;
+    }
+    Ok(())
+}
+
+/// Runs the load that this line names, and tells what came of it.
+fn tell<R: Threads + Wait + Sync>(rt: &HostRuntime, threads: &R, line: &str) -> io::Result<()> {
+    let Some(load) = parse_load(line) else {
+        return Err(io::Error::from(ErrorKind::InvalidInput));
+    };
+    let Run { sum, took } = time(rt, threads, load)?;
+    println!(rt; "{line}: sum {sum}")?;
+    let nanos = took.as_nanos();
+    match peak(rt) {
+        Ok(peak) => eprintln!(rt; "{line}: {nanos} ns, peak {peak} KiB"),
+        Err(_) => eprintln!(rt; "{line}: {nanos} ns"),
+    }
+}
+
+/// The most memory that this process has had so far, in KiB, where the system tells.
+fn peak(rt: &HostRuntime) -> io::Result<u64> {
+    let status = fs::read_to_string(rt, "/proc/self/status")?;
+    for line in status.lines() {
+        if let Some(size) = line.strip_prefix("VmHWM:")
+            && let Some(digits) = size.trim().strip_suffix(" kB")
+            && let Ok(peak) = digits.parse()
+        {
+            return Ok(peak);
+        }
+    }
+    Err(io::Error::from(ErrorKind::NotFound))
 }

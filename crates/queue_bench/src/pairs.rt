@@ -1,0 +1,87 @@
+//! Pushes and pops by one thread.
+use crate::items::Item;
+use crate::lanes::Lane;
+
+/// Rounds of so many pushes, each with as many pops after them as are wanted. The items are numbered on from the first.
+#[derive(Clone, Copy, Debug)]
+pub struct Rounds {
+    pub first: u64,
+    pub count: u64,
+    pub puts: u64,
+    pub takes: u64,
+}
+
+/// What was popped: the sum of the numbers, and the last item.
+#[derive(Clone, Copy, Debug)]
+pub struct Taken<T> {
+    pub sum: u64,
+    pub last: T,
+}
+
+impl<T: Item> Taken<T> {
+    #[inline(always)]
+    fn add(&mut self, item: Option<T>) {
+        if let Some(item) = item {
+            self.sum = self.sum.wrapping_add(item.number());
+            self.last = item;
+        }
+    }
+}
+
+/// Does all rounds. Large items have their calls here alone, so that these are compiled once for each size and kind of lane.
+#[inline(never)]
+pub fn run_rounds<T: Item, L: Lane<T>>(lane: &mut L, rounds: Rounds) -> Taken<T> {
+    let mut taken = Taken {
+        sum: 0,
+        last: T::numbered(0),
+    };
+    let mut number = rounds.first;
+    for _ in 0..rounds.count {
+        for _ in 0..rounds.puts {
+            lane.put(T::numbered(number));
+            number = number.wrapping_add(1);
+        }
+        for _ in 0..rounds.takes {
+            taken.add(lane.take());
+        }
+    }
+    taken
+}
+
+/// Does rounds of one push and one pop, so many of them.
+#[inline(never)]
+pub fn alternate<T: Item, L: Lane<T>>(lane: &mut L, first: u64, count: u64) -> Taken<T> {
+    let mut taken = Taken {
+        sum: 0,
+        last: T::numbered(0),
+    };
+    let mut number = first;
+    for _ in 0..count {
+        lane.put(T::numbered(number));
+        number = number.wrapping_add(1);
+        taken.add(lane.take());
+    }
+    taken
+}
+
+/// An item, and how its rounds are done.
+pub trait Runs: Item {
+    /// Does all rounds on a lane.
+    fn run<L: Lane<Self>>(lane: &mut L, rounds: Rounds) -> Taken<Self>;
+}
+
+impl Runs for u64 {
+    fn run<L: Lane<u64>>(lane: &mut L, rounds: Rounds) -> Taken<u64> {
+        if rounds.puts == 1 && rounds.takes == 1 {
+            alternate(lane, rounds.first, rounds.count)
+        } else {
+            run_rounds(lane, rounds)
+        }
+    }
+}
+
+impl<const WORDS: usize> Runs for [u64; WORDS] {
+    fn run<L: Lane<[u64; WORDS]>>(lane: &mut L, rounds: Rounds) -> Taken<[u64; WORDS]> {
+        run_rounds(lane, rounds)
+    }
+}
