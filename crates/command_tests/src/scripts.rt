@@ -308,6 +308,63 @@ fn a_failed_write_leaves_a_beginning(rt: HostRuntime) -> Result<(), Fail> {
     Ok(())
 }
 
+/// How often a line stands in a script whose output is longer than two pieces.
+const TIMES: usize = 6_000;
+
+/// A text of a first line, of another so many times behind it, and of a last one.
+fn repeated(alloc: Global, first: &str, again: &str, last: &str) -> Result<Vec<u8>, AllocError> {
+    let mut text = Vec::from_slice(alloc, first.as_bytes())?;
+    for _ in 0..TIMES {
+        text.extend_from_slice(again.as_bytes())?;
+    }
+    text.extend_from_slice(last.as_bytes())?;
+    Ok(text)
+}
+
+/// The room of an output that fails on either side of a piece's end, or in the last piece.
+static ROOMS: [usize; 6] = [0, 65_535, 65_536, 65_537, 131_072, 150_000];
+
+#[test]
+fn a_failed_write_of_a_later_piece_leaves_a_beginning(rt: HostRuntime) -> Result<(), Fail> {
+    let again = "push 18446744073709551615\n";
+    let input = repeated(rt.alloc(), "push 1\n", again, "")?;
+    let wanted = repeated(
+        rt.alloc(),
+        "ok\n",
+        "full 18446744073709551615\n",
+        "left 1\n",
+    )?;
+    for room in ROOMS.iter() {
+        let (begun, _) = wanted.split_at((*room).min(wanted.len()));
+        let end = End {
+            status: 3,
+            output: begun,
+            faults: b"output failed\n",
+        };
+        run_in(&rt, rt.alloc(), &input, *room)?.is(&rt, "script single", &input, end);
+    }
+    Ok(())
+}
+
+#[test]
+fn output_in_pieces_is_whole(rt: HostRuntime) -> Result<(), Fail> {
+    let again = "push 18446744073709551615\n";
+    let input = repeated(rt.alloc(), "push 1\n", again, "")?;
+    let wanted = repeated(
+        rt.alloc(),
+        "ok\n",
+        "full 18446744073709551615\n",
+        "left 1\n",
+    )?;
+    let end = End {
+        status: 0,
+        output: wanted.as_slice(),
+        faults: b"",
+    };
+    run_in(&rt, rt.alloc(), &input, wanted.len())?.is(&rt, "script single", &input, end);
+    Ok(())
+}
+
 /// A script whose faults have so much room.
 fn run_telling_in<R: Threads + Wait + Sync>(
     rt: &R,

@@ -33,3 +33,21 @@ IsRunFault IsValue text_of IsTold known old new (fault.Unreadable n) = (bytes : 
 IsRunFault IsValue text_of IsTold known old new fault.NoMemory = Keeps old new
 IsRunFault IsValue text_of IsTold known old new fault.InputFailed = Keeps old new
 IsRunFault IsValue text_of IsTold known old new fault.OutputFailed = IsBegunRun IsValue text_of IsTold known old new
+
+-- a text of this sort was written
+pub record IsWritten (IsText : List ℕ → Type 0) (old new : Option (List ℕ)) : Type 0 where
+  pub text : List ℕ
+  pub is_text : IsText text
+  pub output : Appends old new text
+
+-- a beginning of a text of this sort was written
+pub record IsPartWritten (IsText : List ℕ → Type 0) (old new : Option (List ℕ)) : Type 0 where
+  pub text : List ℕ
+  pub is_text : IsText text
+  pub output : IsBegun old new text
+
+-- why no text of this sort was written to its end. But for a failed write, nothing is written then
+abbrev pub IsWriteFault : (List ℕ → Type 0) → Option (List ℕ) → Option (List ℕ) → Fault → Type 0
+IsWriteFault IsText old new fault.NoMemory = Keeps old new
+IsWriteFault IsText old new fault.OutputFailed = IsPartWritten IsText old new
+IsWriteFault IsText old new _ = ⊥

@@ -1,20 +1,28 @@
 -- A script: calls on a queue with one owner, and what is written of them.
-use Rattle.std.specs.Prelude.{◌≡◌, ℕ, List, [], ◌∷◌, ◌++◌, codes}
+use Rattle.std.specs.Prelude.{◌≡◌, ℕ, List, [], ◌∷◌, ◌++◌, codes, Option}
 use Rattle.std.specs.Fmt.{decimal}
 use Rattle.queue_steps.specs.Sole.{Owned, fresh, SoleRun}
 use Rattle.queue_steps.specs.declared.model.Call.{Call}
 use Rattle.queue_steps.specs.declared.model.Reply.{Reply}
 use Rattle.queue_text.specs.KindNames.{capacity_of}
 use Rattle.queue_text.specs.Replies.{replies_text}
+use Rattle.queue_text.specs.Streams.{IsBegun, LeavesRest}
 use Rattle.queue_text.specs.declared.args.KindName.{KindName}
 use Rattle.queue_text.specs.declared.args.KindName.TheVariants as kind
 use Rattle.queue_command.specs.Left.{left_text}
 
--- the calls lead from P to R, and what was written is their replies, one a line
-pub record PlaysAs (P : Owned ℕ) (calls : List (Call ℕ)) (R : Owned ℕ) (old new : List ℕ) : Type 0 where
+-- the calls lead from P to R, and their replies, one a line, were put behind what was held
+pub record PlaysAs (P : Owned ℕ) (calls : List (Call ℕ)) (R : Owned ℕ) (held kept : List ℕ) (old new : Option (List ℕ)) : Type 0 where
   pub replies : List (Reply ℕ)
   pub plays : SoleRun P calls replies R
-  pub written : new ≡ old ++ replies_text replies
+  pub put : LeavesRest old new (held ++ replies_text replies) kept
+
+-- the calls lead from P on, and a beginning of what was held and of their replies was written
+pub record BeginsToPlay (P : Owned ℕ) (calls : List (Call ℕ)) (held : List ℕ) (old new : Option (List ℕ)) : Type 0 where
+  pub replies : List (Reply ℕ)
+  pub after : Owned ℕ
+  pub plays : SoleRun P calls replies after
+  pub begun : IsBegun old new (held ++ replies_text replies)
 
 -- the line of the blocks that are held, which a queue without a capacity alone has
 abbrev pub blocks_text : KindName → ℕ → List ℕ

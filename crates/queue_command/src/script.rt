@@ -1,11 +1,15 @@
 //! A script: calls on a queue with one owner, their replies, and the items that are left.
-ghost use Rattle.std.specs.Prelude.{◌≡◌, ◌++◌, IfOk, OnOk, MatchResult, string_bytes};
+ghost use Rattle.std.specs.Prelude.{◌≡◌, [], ◌∷◌, ◌++◌, IfOk, MatchResult};
+ghost use Rattle.std.specs.Fmt.{decimal};
 ghost use Rattle.queue_steps.specs.Sole.{Sole, HoldsBlocks, fresh};
 ghost use Rattle.queue_text.specs.Calls.{call_text, IsCallOfWord};
 ghost use Rattle.queue_text.specs.KindNames.{IsKindName, capacity_of};
+ghost use Rattle.queue_text.specs.Replies.{reply_text, number_text};
+ghost use Rattle.queue_text.specs.Streams.{Puts};
+ghost use Rattle.queue_text.specs.declared.faults.Fault.TheVariants as fault;
 ghost use Rattle.queue_command.specs.Left.{left_text};
-ghost use Rattle.queue_command.specs.Runs.{IsRun, IsRunFault};
-ghost use Rattle.queue_command.specs.Scripts.{PlaysAs, IsTranscript, blocks_text};
+ghost use Rattle.queue_command.specs.Runs.{IsRun, IsRunFault, IsWritten, IsWriteFault};
+ghost use Rattle.queue_command.specs.Scripts.{PlaysAs, BeginsToPlay, IsTranscript, blocks_text};
 
 use concurrent_queue::exclusive::Exclusive;
 use queue_steps::model::{Call, Reply};
@@ -13,7 +17,7 @@ use queue_text::args::KindName;
 use queue_text::faults::Fault;
 use queue_text::lines::read_lines;
 use queue_text::replies::Shown;
-use queue_text::streams::{read_input, write_output};
+use queue_text::streams::{Pieces, read_input};
 use std::alloc::{AllocError, Allocator};
 use std::io::{Read, Write};
 
@@ -38,27 +42,35 @@ pub fn script<A: Allocator, I: Read, O: Write>(
 {
     let bytes = read_input(alloc, input)?;
     let calls = read_lines::<Call<u64>, &A>(alloc, &bytes)?;
-    let Ok(text) = transcript(alloc, kind, &calls) else {
-        return Err(Fault::NoMemory);
-    };
-    write_output(output, text.as_bytes())
+    transcript(alloc, kind, &calls, output)
 }
 
-/// What a script of these calls prints.
-pub fn transcript<'a, A: Allocator>(
-    alloc: &'a A,
+/// Writes what a script of these calls prints, piece by piece while they run.
+///
+/// # Errors
+///
+/// `NoMemory` before anything is written, and `OutputFailed`, where a beginning of the right output may be written.
+pub fn transcript<A: Allocator, O: Write>(
+    alloc: &A,
     kind: KindName,
     calls: &[Call<u64>],
-) -> Result<String<&'a A>, AllocError>
+    output: &mut O,
+) -> Result<(), Fault>
     requires { IsKindName kind }
-    ensures { IfOk result (λ text. IsTranscript kind calls.now (string_bytes text)) }
+    ensures { MatchResult result
+        (λ _. IsWritten (IsTranscript kind calls.now) (O.contents output.old) (O.contents output.new))
+        (IsWriteFault (IsTranscript kind calls.now) (O.contents output.old) (O.contents output.new)) }
 {
-    let mut queue = queue_of(alloc, kind)?;
-    let mut text = String::new(alloc);
-    play(&mut queue, calls, &mut text)?;
-    write_blocks(kind, queue.blocks(), &mut text)?;
-    drain(&mut queue, &mut text)?;
-    Ok(text)
+    let Ok(mut queue) = queue_of(alloc, kind) else {
+        return Err(Fault::NoMemory);
+    };
+    let Ok(mut pieces) = Pieces::new(alloc) else {
+        return Err(Fault::NoMemory);
+    };
+    play(&mut queue, calls, &mut pieces, output)?;
+    put_blocks(kind, queue.blocks(), &mut pieces, output)?;
+    drain(&mut queue, &mut pieces, output)?;
+    pieces.end(output)
 }
 
 // An empty open queue of this kind.
@@ -73,34 +85,80 @@ fn queue_of<A: Allocator + Clone>(alloc: A, kind: KindName) -> Result<Exclusive<
     }
 }
 
-// Appends the line that tells of the blocks, if a queue of this kind has it.
-fn write_blocks<A: Allocator>(
+// Puts the line that tells of the blocks, if a queue of this kind has it.
+#[tactic(auto, using(queue_text::proofs::Writing::put_nothing))]
+fn put_blocks<A: Allocator, O: Write>(
     kind: KindName,
     count: usize,
-    text: &mut String<A>,
-) -> Result<(), AllocError>
-    ensures { OnOk result (string_bytes text.new ≡ string_bytes text.old ++ blocks_text kind count) }
+    pieces: &mut Pieces<A>,
+    output: &mut O,
+) -> Result<(), Fault>
+    ensures { Puts pieces.old (blocks_text kind count) pieces.new (O.contents output.old) (O.contents output.new) result }
 {
     match kind {
-        KindName::Unbounded => writeln!(text, "blocks {count}"),
+        KindName::Unbounded => put_line("blocks ", Some(count as u64), pieces, output),
         _ => Ok(()),
     }
 }
 
-// Runs the calls, and appends the reply to each as a line.
-fn play<A: Allocator, B: Allocator>(
+// Runs the calls, and puts the reply to each as a line.
+fn play<A: Allocator, B: Allocator, O: Write>(
     queue: &mut Exclusive<u64, A>,
     calls: &[Call<u64>],
-    text: &mut String<B>,
-) -> Result<(), AllocError>
-    ensures { OnOk result (PlaysAs queue.old calls.now queue.new (string_bytes text.old) (string_bytes text.new)) }
+    pieces: &mut Pieces<B>,
+    output: &mut O,
+) -> Result<(), Fault>
+    ensures { MatchResult result
+        (λ _. PlaysAs queue.old calls.now queue.new pieces.old pieces.new (O.contents output.old) (O.contents output.new))
+        (λ why. (why ≡ fault.OutputFailed) × BeginsToPlay queue.old calls.now pieces.old (O.contents output.old) (O.contents output.new)) }
 {
     for call in calls {
         queue.show_sound();
         let reply = answer(queue, *call);
-        writeln!(text, "{}", Shown(reply))?;
+        put_reply(reply, pieces, output)?;
     }
     Ok(())
+}
+
+// Puts a reply as a line.
+fn put_reply<A: Allocator, O: Write>(
+    reply: Reply<u64>,
+    pieces: &mut Pieces<A>,
+    output: &mut O,
+) -> Result<(), Fault>
+    ensures { Puts pieces.old (reply_text reply ++ 10 ∷ []) pieces.new (O.contents output.old) (O.contents output.new) result }
+{
+    let (words, number) = Shown(reply).parts();
+    put_line(words, number, pieces, output)
+}
+
+// Puts a line of words, and of a number behind them, if there is one.
+fn put_line<A: Allocator, O: Write>(
+    words: &str,
+    number: Option<u64>,
+    pieces: &mut Pieces<A>,
+    output: &mut O,
+) -> Result<(), Fault>
+    ensures { Puts pieces.old ((words.now ++ number_text number) ++ 10 ∷ []) pieces.new (O.contents output.old) (O.contents output.new) result }
+{
+    pieces.put(words.as_bytes(), output)?;
+    put_some(number, pieces, output)?;
+    pieces.put(b"\n", output)
+}
+
+// Puts a number, if there is one.
+#[tactic(auto, using(queue_text::proofs::Writing::put_nothing))]
+fn put_some<A: Allocator, O: Write>(
+    number: Option<u64>,
+    pieces: &mut Pieces<A>,
+    output: &mut O,
+) -> Result<(), Fault>
+    ensures { Puts pieces.old (number_text number) pieces.new (O.contents output.old) (O.contents output.new) result }
+{
+    match number {
+        Some(number) => pieces.put_number(number, output),
+        None => Ok(()),
+    }
 }
 
 // Makes one call.
@@ -121,18 +179,31 @@ fn answer<A: Allocator>(queue: &mut Exclusive<u64, A>, call: Call<u64>) -> Reply
     }
 }
 
-// Pops the items that are left, and appends the line that tells of them.
-fn drain<A: Allocator, B: Allocator>(
+// Pops the items that are left, and puts the line that tells of them.
+fn drain<A: Allocator, B: Allocator, O: Write>(
     queue: &mut Exclusive<u64, A>,
-    text: &mut String<B>,
-) -> Result<(), AllocError>
-    ensures { OnOk result (string_bytes text.new ≡ string_bytes text.old ++ left_text queue.old.queue.items) }
+    pieces: &mut Pieces<B>,
+    output: &mut O,
+) -> Result<(), Fault>
+    ensures { Puts pieces.old (left_text queue.old.queue.items) pieces.new (O.contents output.old) (O.contents output.new) result }
 {
-    text.push_str("left")?;
+    pieces.put(b"left", output)?;
     for _ in 0..queue.len() {
         if let Ok(item) = queue.pop() {
-            write!(text, " {item}")?;
+            put_item(item, pieces, output)?;
         }
     }
-    text.push('\n')
+    pieces.put(b"\n", output)
+}
+
+// Puts an item behind a space.
+fn put_item<A: Allocator, O: Write>(
+    item: u64,
+    pieces: &mut Pieces<A>,
+    output: &mut O,
+) -> Result<(), Fault>
+    ensures { Puts pieces.old (32 ∷ decimal item) pieces.new (O.contents output.old) (O.contents output.new) result }
+{
+    pieces.put(b" ", output)?;
+    pieces.put_number(item, output)
 }

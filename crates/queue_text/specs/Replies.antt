@@ -1,5 +1,5 @@
 -- What is printed of replies.
-use Rattle.std.specs.Prelude.{ℕ, true, false, List, [], ◌∷◌, ◌++◌, codes, flat_map, Some, None, Ok, Err, Bool}
+use Rattle.std.specs.Prelude.{ℕ, true, false, List, [], ◌∷◌, ◌++◌, codes, flat_map, Option, Some, None, Ok, Err, Bool}
 use Rattle.std.specs.Fmt.{decimal}
 use Rattle.queue_steps.specs.declared.model.Reply.{Reply}
 use Rattle.queue_steps.specs.declared.model.Reply.TheVariants as reply
@@ -10,6 +10,11 @@ use Rattle.queue_steps.specs.declared.errors.ForcePushError.TheVariants as force
 abbrev pub truth_text : Bool → List ℕ
 truth_text true = codes "true"
 truth_text false = codes "false"
+
+-- a number, if there is one
+abbrev pub number_text : Option ℕ → List ℕ
+number_text None = []
+number_text (Some n) = decimal n
 
 abbrev pub reply_text : Reply ℕ → List ℕ
 reply_text (reply.Push (Ok u)) = codes "ok"

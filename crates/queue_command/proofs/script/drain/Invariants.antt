@@ -1,10 +1,10 @@
-use Rattle.std.proofs.Common.{◌≡◌, ◌+◌, ◌++◌, length, string_bytes, codes}
-use Rattle.queue_command.specs.Left.{items_text}
+use Rattle.std.proofs.Common.{◌≡◌, ◌+◌, length}
+use Rattle.queue_command.proofs.Draining.{Drains}
 use Rattle.queue_command.proofs.script.drain.Given as goal
 
--- the items taken off so far are written
+-- the items taken off so far are put
 abbrev pub invariant-loop : goal.invariant-loop
 invariant-loop g l = record {
   count : l.counter + length l.queue.queue.items ≡ length l.fn.queue.queue.items;
-  written : string_bytes l.text ++ items_text l.queue.queue.items ≡ string_bytes l.fn.text ++ (codes "left" ++ items_text l.fn.queue.queue.items);
+  put : Drains l.fn.pieces l.pieces l.fn.queue.queue.items l.queue.queue.items (g.O.Write.contents l.fn.output) (g.O.Write.contents l.output);
 }

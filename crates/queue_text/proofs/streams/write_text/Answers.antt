@@ -1,6 +1,6 @@
 use Rattle.queue_text.proofs.Writing.{writes-more, writes-kept, slice_from}
-use Rattle.queue_text.proofs.streams.write_output.Goals as goal
-use Rattle.queue_text.proofs.streams.write_output.Goals.{in-Ok, in-Err}
+use Rattle.queue_text.proofs.streams.write_text.Goals as goal
+use Rattle.queue_text.proofs.streams.write_text.Goals.{in-Ok, in-Err}
 
 pub loop-preserved : goal.loop-preserved
 loop-preserved g c = elim c.match-write.branch [
