@@ -1,12 +1,14 @@
 //! The blocks of queues without a capacity that parties share: how many live, requests that are refused or held, and what is left of a queue that is dropped.
 ghost use Rattle.std.specs.Prelude.{◌≡◌, ◌<◌};
 ghost use Rattle.concurrent_queue.specs.Shared.{IsPartyOf};
+ghost use denote.Param.Send.{IsSync};
 
 use crate::drops::Counted;
 use crate::left::{End, in_order, push_all};
 use crate::threads::{Meeting, pop_one};
+use block_web::low::Low;
 use concurrent_queue::{ConcurrentQueue, Party, PopError, PushError};
-use std::alloc::{AllocError, Global};
+use std::alloc::{AllocError, Allocator, Global};
 use std::ops::Range;
 use std::process::Abort;
 use std::sync::atomic::{AtomicU64, Ordering};
@@ -28,9 +30,9 @@ const ITEMS: u64 = 100_000;
 const EACH: u64 = 1000;
 
 /// Pushes a thread's items once all threads have come. Gives whether they came, and each item was accepted.
-fn meet_and_push<R: Wait>(
+fn meet_and_push<A: Low, R: Wait>(
     rt: &R,
-    queue: &Queue<'_>,
+    queue: &ConcurrentQueue<u64, A>,
     party: Party<u64>,
     meeting: &Meeting,
     items: Range<u64>,
@@ -44,9 +46,9 @@ fn meet_and_push<R: Wait>(
 }
 
 /// Pops once all threads have come, as often as there are items. Gives whether they came, and the items in their order.
-fn meet_and_pop<R: Wait>(
+fn meet_and_pop<A: Allocator, R: Wait>(
     rt: &R,
-    queue: &Queue<'_>,
+    queue: &ConcurrentQueue<u64, A>,
     mut party: Party<u64>,
     meeting: &Meeting,
     items: Range<u64>,
@@ -61,58 +63,11 @@ fn meet_and_pop<R: Wait>(
     (party, right)
 }
 
-/// Of all blocks that items went through one is left, beside the allocation of both ends, which the end of the sharing gives back.
-#[test]
-fn passed_blocks_are_given_back(rt: HostRuntime) -> Result<(), Fail> {
-    let heap = Heap::new(rt.alloc(), Refusal::Never);
-    let (queue, party) = Queue::unbounded(&heap)?;
-    let Ok((a, b)) = queue.split(party) else {
-        panic!(rt; "no second party");
-    };
-    let meeting = Meeting::of(2);
-    let ((a, pushed), (b, popped)) = join(
-        &rt,
-        || meet_and_push(&rt, &queue, a, &meeting, 0..ITEMS),
-        || meet_and_pop(&rt, &queue, b, &meeting, 0..ITEMS),
-    );
-    let party = queue.join(a, b);
-    assert_eq!(rt; (pushed, popped, heap.live()), (true, true, 2));
-    let Ok(alone) = queue.finish(party) else {
-        panic!(rt; "not finished");
-    };
-    assert_eq!(rt; (alone.len(), alone.blocks(), heap.live()), (0, 1, 1));
-    Ok(())
-}
-
-/// Pushes a thread's items once all threads have come. After the first one it lets the push go whose request is held, if it is another thread's. Gives whether all came, and each item was accepted.
-fn start_and_push<R: Wait>(
+/// Lets one thread push items and another one pop them. Gives whether both ran at one time, and each item was accepted and came in its turn.
+fn hand_over<A: Low + Send + Sync, R: Wait + Threads + Sync>(
     rt: &R,
-    queue: &Queue<'_>,
+    queue: &ConcurrentQueue<u64, A>,
     party: Party<u64>,
-    heap: &Heap,
-    meeting: &Meeting,
-    items: Range<u64>,
-) -> (Party<u64>, bool)
-    requires { IsPartyOf party queue.now }
-    ensures { IsPartyOf result.0 queue.now }
-{
-    let first = items.start;
-    let second = first.wrapping_add(1);
-    let (party, started) = meet_and_push(rt, queue, party, meeting, first..second);
-    heap.let_go();
-    let (party, right) = push_all(rt, queue, party, second..items.end);
-    (party, started && right)
-}
-
-/// Lets two threads push items. Gives whether all threads came, and each item was accepted.
-fn push_by_two<R: Wait + Threads + Sync>(
-    rt: &R,
-    queue: &Queue<'_>,
-    party: Party<u64>,
-    heap: &Heap,
-    meeting: &Meeting,
-    first: Range<u64>,
-    second: Range<u64>,
 ) -> (Party<u64>, bool)
     requires { IsPartyOf party queue.now }
     ensures { IsPartyOf result.0 queue.now }
@@ -120,10 +75,113 @@ fn push_by_two<R: Wait + Threads + Sync>(
     match queue.split(party) {
         Err(party) => (party, false),
         Ok((a, b)) => {
+            let meeting = Meeting::of(2);
+            let ((a, pushed), (b, popped)) = join(
+                rt,
+                || -> (Party<u64>, bool)
+                    requires { IsPartyOf a queue.now }
+                    ensures { IsPartyOf result.0 queue.entry.now }
+                { meet_and_push(rt, queue, a, &meeting, 0..ITEMS) },
+                || -> (Party<u64>, bool)
+                    requires { IsPartyOf b queue.now }
+                    ensures { IsPartyOf result.0 queue.entry.now }
+                { meet_and_pop(rt, queue, b, &meeting, 0..ITEMS) },
+            );
+            (queue.join(a, b), pushed && popped)
+        }
+    }
+}
+
+/// Of all blocks that items went through one is left, beside the allocation of both ends, which the end of the sharing gives back.
+#[test]
+fn passed_blocks_are_given_back(rt: HostRuntime) -> Result<(), Fail> {
+    let heap = Heap::new(rt.alloc(), Refusal::Never);
+    let (queue, party) = Queue::unbounded(&heap)?;
+    let (party, right) = hand_over(&rt, &queue, party);
+    assert_eq!(rt; (right, heap.live()), (true, 2));
+    let Ok(alone) = queue.finish(party) else {
+        panic!(rt; "not finished");
+    };
+    assert_eq!(rt; (alone.len(), alone.blocks(), heap.live()), (0, 1, 1));
+    Ok(())
+}
+
+/// Pushes a thread's items, which are numbers from this one on, once all threads have come. After the first one it lets the push go whose request is held, if it is another thread's. Gives whether all came, and each item was accepted.
+fn start_and_push<A: Low, R: Wait>(
+    rt: &R,
+    queue: &ConcurrentQueue<u64, A>,
+    party: Party<u64>,
+    heap: &Heap,
+    meeting: &Meeting,
+    first: u64,
+) -> (Party<u64>, bool)
+    requires { IsPartyOf party queue.now }
+    ensures { IsPartyOf result.0 queue.now }
+{
+    let second = first.wrapping_add(1);
+    let end = first.wrapping_add(EACH);
+    let (party, started) = meet_and_push(rt, queue, party, meeting, first..second);
+    heap.let_go();
+    let (party, right) = push_all(rt, queue, party, second..end);
+    (party, started && right)
+}
+
+/// Lets two threads push. Gives whether all threads came, and each item was accepted.
+fn push_by_two<A: Low + Send + Sync, R: Wait + Threads + Sync>(
+    rt: &R,
+    queue: &ConcurrentQueue<u64, A>,
+    party: Party<u64>,
+    heap: &Heap,
+    meeting: &Meeting,
+    first: u64,
+) -> (Party<u64>, bool)
+    requires { IsPartyOf party queue.now }
+    ensures { IsPartyOf result.0 queue.now }
+{
+    let second = first.wrapping_add(EACH);
+    match queue.split(party) {
+        Err(party) => (party, false),
+        Ok((a, b)) => {
             let ((a, right), (b, right_too)) = join(
                 rt,
-                || start_and_push(rt, queue, a, heap, meeting, first),
-                || start_and_push(rt, queue, b, heap, meeting, second),
+                || -> (Party<u64>, bool)
+                    requires { IsPartyOf a queue.now }
+                    ensures { IsPartyOf result.0 queue.entry.now }
+                { start_and_push(rt, queue, a, heap, meeting, first) },
+                || -> (Party<u64>, bool)
+                    requires { IsPartyOf b queue.now }
+                    ensures { IsPartyOf result.0 queue.entry.now }
+                { start_and_push(rt, queue, b, heap, meeting, second) },
+            );
+            (queue.join(a, b), right && right_too)
+        }
+    }
+}
+
+/// Lets four threads push. Gives whether all came, and each item was accepted.
+fn push_by_four<A: Low + Send + Sync, R: Wait + Threads + Sync>(
+    rt: &R,
+    queue: &ConcurrentQueue<u64, A>,
+    party: Party<u64>,
+    heap: &Heap,
+) -> (Party<u64>, bool)
+    requires { IsPartyOf party queue.now }
+    ensures { IsPartyOf result.0 queue.now }
+{
+    match queue.split(party) {
+        Err(party) => (party, false),
+        Ok((a, b)) => {
+            let meeting = Meeting::of(4);
+            let ((a, right), (b, right_too)) = join(
+                rt,
+                || -> (Party<u64>, bool)
+                    requires { IsSync R.row × IsPartyOf a queue.now }
+                    ensures { IsPartyOf result.0 queue.entry.now }
+                { push_by_two(rt, queue, a, heap, &meeting, 0) },
+                || -> (Party<u64>, bool)
+                    requires { IsSync R.row × IsPartyOf b queue.now }
+                    ensures { IsPartyOf result.0 queue.entry.now }
+                { push_by_two(rt, queue, b, heap, &meeting, 2 * EACH) },
             );
             (queue.join(a, b), right && right_too)
         }
@@ -135,27 +193,12 @@ fn push_by_two<R: Wait + Threads + Sync>(
 fn two_of_four_threads_ask_for_the_first_block(rt: HostRuntime) -> Result<(), Fail> {
     let heap = Heap::new(rt.alloc(), Refusal::Never);
     let (queue, party) = Queue::unbounded(&heap)?;
-    let Ok((a, b)) = queue.split(party) else {
-        panic!(rt; "no second party");
-    };
-    let meeting = Meeting::of(4);
     heap.hold_next();
-    let ((a, right), (b, right_too)) = join(
-        &rt,
-        || push_by_two(&rt, &queue, a, &heap, &meeting, 0..EACH, EACH..2 * EACH),
-        || push_by_two(
-            &rt,
-            &queue,
-            b,
-            &heap,
-            &meeting,
-            2 * EACH..3 * EACH,
-            3 * EACH..4 * EACH,
-        ),
+    let (party, right) = push_by_four(&rt, &queue, party, &heap);
+    assert_eq!(rt;
+        (right, heap.held_until_let_go(), heap.live()),
+        (true, true, 131)
     );
-    let party = queue.join(a, b);
-    assert!(rt; right && right_too && heap.held_until_let_go());
-    assert_eq!(rt; heap.live(), 131);
     let Ok(alone) = queue.finish(party) else {
         panic!(rt; "not finished");
     };
@@ -168,9 +211,9 @@ fn two_of_four_threads_ask_for_the_first_block(rt: HostRuntime) -> Result<(), Fa
 }
 
 /// Once a request of the other party's push is held, calls pop, and lets it go. Gives whether it was held, and what pop answered.
-fn pop_meanwhile<R: Wait>(
+fn pop_meanwhile<A: Allocator, R: Wait>(
     rt: &R,
-    queue: &Queue<'_>,
+    queue: &ConcurrentQueue<u64, A>,
     mut party: Party<u64>,
     heap: &Heap,
 ) -> (Party<u64>, (bool, Result<u64, PopError>))
@@ -183,24 +226,45 @@ fn pop_meanwhile<R: Wait>(
     (party, (held, popped))
 }
 
+/// Lets one thread push 0 and another one pop while the push's request is held. Gives whether the push was accepted, whether a request was held, and what pop answered.
+fn pop_while_a_push_is_held<A: Low + Send + Sync, R: Wait + Threads + Sync>(
+    rt: &R,
+    queue: &ConcurrentQueue<u64, A>,
+    party: Party<u64>,
+    heap: &Heap,
+) -> (Party<u64>, (bool, (bool, Result<u64, PopError>)))
+    requires { IsPartyOf party queue.now }
+    ensures { IsPartyOf result.0 queue.now }
+{
+    match queue.split(party) {
+        Err(party) => (party, (false, (false, Err(PopError::Empty)))),
+        Ok((a, b)) => {
+            let ((a, pushed), (b, popped)) = join(
+                rt,
+                || -> (Party<u64>, bool)
+                    requires { IsPartyOf a queue.now }
+                    ensures { IsPartyOf result.0 queue.entry.now }
+                { push_all(rt, queue, a, 0..1) },
+                || -> (Party<u64>, (bool, Result<u64, PopError>))
+                    requires { IsPartyOf b queue.now }
+                    ensures { IsPartyOf result.0 queue.entry.now }
+                { pop_meanwhile(rt, queue, b, heap) },
+            );
+            (queue.join(a, b), (pushed, popped))
+        }
+    }
+}
+
 /// While the allocator keeps a push waiting for the first block, another thread's pop is answered.
 #[test]
 fn empty_while_a_push_asks_for_memory(rt: HostRuntime) -> Result<(), Fail> {
     let heap = Heap::new(rt.alloc(), Refusal::Never);
     let (queue, party) = Queue::unbounded(&heap)?;
-    let Ok((a, b)) = queue.split(party) else {
-        panic!(rt; "no second party");
-    };
     heap.hold_next();
-    let ((a, pushed), (b, popped)) = join(
-        &rt,
-        || push_all(&rt, &queue, a, 0..1),
-        || pop_meanwhile(&rt, &queue, b, &heap),
-    );
-    let party = queue.join(a, b);
+    let (party, answers) = pop_while_a_push_is_held(&rt, &queue, party, &heap);
     assert_eq!(rt;
-        (pushed, popped, heap.held_until_let_go()),
-        (true, (true, Err(PopError::Empty)), true)
+        (answers, heap.held_until_let_go()),
+        ((true, (true, Err(PopError::Empty))), true)
     );
     let Ok(mut alone) = queue.finish(party) else {
         panic!(rt; "not finished");
@@ -349,7 +413,7 @@ fn is_sent<T: Send>(_value: &T) {}
 
 fn is_shared<T: Sync>(_value: &T) {}
 
-/// A queue and its parties may be sent to threads and shared between them.
+/// A queue may be sent to threads and shared between them, and its parties may be sent.
 #[test]
 fn may_be_sent(rt: HostRuntime) -> Result<(), Fail> {
     let heap = Heap::new(rt.alloc(), Refusal::Never);
@@ -357,6 +421,5 @@ fn may_be_sent(rt: HostRuntime) -> Result<(), Fail> {
     is_sent(&queue);
     is_shared(&queue);
     is_sent(&party);
-    is_shared(&party);
     Ok(())
 }

@@ -1,17 +1,27 @@
 //! Every accepted item is dropped once.
-ghost use Rattle.std.specs.Prelude.{◌≡◌, ◌<◌};
+ghost use Rattle.std.specs.Prelude.{◌≡◌, ◌<◌, IfSome};
 ghost use Rattle.concurrent_queue.specs.Shared.{IsPartyOf};
 
-use concurrent_queue::{ConcurrentQueue, Party, PushError};
-use std::alloc::Global;
+use crate::opening::open;
+use concurrent_queue::{ConcurrentQueue, Party};
+use std::alloc::{AllocError, Global};
 use std::process::Abort;
 use std::sync::atomic::{AtomicU64, Ordering};
 use std::sync::{Arc, Wait};
 use std::thread::{Threads, join, yield_now};
 
-/// Counts when it is dropped.
-struct Counted {
+/// An item that counts its drop.
+pub(crate) struct Counted {
     drops: Arc<AtomicU64>,
+}
+
+impl Counted {
+    /// An item whose drop is counted here.
+    pub(crate) fn by(drops: &Arc<AtomicU64>) -> Result<Counted, AllocError> {
+        Ok(Counted {
+            drops: drops.clone()?,
+        })
+    }
 }
 
 impl Drop for Counted {
@@ -22,6 +32,24 @@ impl Drop for Counted {
 }
 
 type Queue = ConcurrentQueue<Counted>;
+
+/// Pushes an item, and tries again while the queue is full.
+fn push_one<R: Wait>(rt: &R, queue: &Queue, party: &mut Party<Counted>, item: Counted)
+    requires { IsPartyOf party.old queue.now }
+    ensures { IsPartyOf party.new queue.now }
+{
+    let mut next = item;
+    for _ in rt.forever() {
+        match queue.push(rt, party, next) {
+            Ok(()) => return,
+            Err(error) => {
+                next = error.into_inner();
+                yield_now();
+            }
+        }
+    }
+    unreachable!()
+}
 
 /// Pushes so many items.
 fn push_all<R: Wait>(
@@ -34,32 +62,12 @@ fn push_all<R: Wait>(
     requires { IsPartyOf party queue.now }
     ensures { IsPartyOf result queue.now }
 {
-    let mut left = count;
-    let Ok(first) = drops.clone() else {
-        return party;
-    };
-    let mut next = Counted { drops: first };
-    for _ in rt.forever() {
-        match queue.push(rt, &mut party, next) {
-            Ok(()) => {
-                if left <= 1 {
-                    return party;
-                }
-                left -= 1;
-                let Ok(more) = drops.clone() else {
-                    return party;
-                };
-                next = Counted { drops: more };
-            }
-            Err(PushError::Full(back)) => {
-                next = back;
-                yield_now();
-            }
-            Err(PushError::Closed(back)) => next = back,
-            Err(PushError::NoMemory(back)) => next = back,
+    for _ in 0..count {
+        if let Ok(item) = Counted::by(drops) {
+            push_one(rt, queue, &mut party, item);
         }
     }
-    unreachable!()
+    party
 }
 
 /// Pops so many items, and drops them.
@@ -83,20 +91,18 @@ fn pop_all<R: Wait>(rt: &R, queue: &Queue, mut party: Party<Counted>, count: u64
     unreachable!()
 }
 
-/// Pops and drops so many items while another thread pushes them and as many more as are left in a queue of this capacity, and drops the queue.
+/// Pops and drops so many items while another thread pushes them and as many more as are left in a queue of this capacity, or without one, and drops the queue.
 fn each_dropped_once<R: Wait + Threads + Sync + Abort>(
     rt: &R,
     alloc: Global,
-    cap: usize,
+    cap: Option<usize>,
     popped: u64,
     left: u64,
 )
-    requires { (0 < cap) × (popped < 100000) × (left < 100000) }
+    requires { IfSome cap (λ slots. 0 < slots) × (popped < 100000) × (left < 100000) }
 {
-    let (Ok(drops), Ok((queue, party))) = (
-        Arc::new(alloc, AtomicU64::new(0)),
-        Queue::bounded(alloc, cap),
-    ) else {
+    let (Ok(drops), Ok((queue, party))) = (Arc::new(alloc, AtomicU64::new(0)), open(alloc, cap))
+    else {
         panic!(rt; "no memory");
     };
     let Ok((a, b)) = queue.split(party) else {
@@ -116,11 +122,8 @@ fn each_dropped_once<R: Wait + Threads + Sync + Abort>(
 }
 
 #[test]
-fn every_item_of_a_slot_once(rt: HostRuntime) {
-    each_dropped_once(&rt, rt.alloc(), 1, 1000, 1);
-}
-
-#[test]
-fn every_item_of_a_ring_once(rt: HostRuntime) {
-    each_dropped_once(&rt, rt.alloc(), 50, 1000, 20);
+fn every_item_once(rt: HostRuntime) {
+    for (cap, left) in [(Some(1), 1), (Some(50), 20), (None, 77)] {
+        each_dropped_once(&rt, rt.alloc(), cap, 1000, left);
+    }
 }

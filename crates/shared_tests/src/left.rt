@@ -1,76 +1,76 @@
-//! What threads leave in a ring, and a sharing that does not end while a party is missing.
-ghost use Rattle.std.specs.Prelude.{◌<◌};
+//! What threads leave in a queue, and a sharing that does not end while a party is missing.
+ghost use Rattle.std.specs.Prelude.{◌<◌, IfSome};
 ghost use Rattle.concurrent_queue.specs.Shared.{IsPartyOf};
 
+use crate::opening::open;
+use block_web::low::Low;
 use concurrent_queue::{ConcurrentQueue, Exclusive, Party};
-use std::alloc::{AllocError, Global};
+use std::alloc::{AllocError, Allocator, Global};
+use std::ops::Range;
 use std::sync::Wait;
 use std::thread::{Threads, join};
-
-type Queue = ConcurrentQueue<u64>;
 
 /// How many items each of two threads pushes.
 const EACH: u64 = 100;
 
 /// What becomes of the second thread's party.
 #[derive(Clone, Copy, Debug)]
-enum End {
+pub(crate) enum End {
     Joined,
     Kept,
     Dropped,
 }
 
-/// Pushes a thread's items, which are numbers from this one on. Gives whether each was accepted.
-fn push_from<R: Wait>(
+/// Pushes a thread's items. Gives whether each was accepted.
+pub(crate) fn push_all<A: Low, R: Wait>(
     rt: &R,
-    queue: &Queue,
+    queue: &ConcurrentQueue<u64, A>,
     mut party: Party<u64>,
-    first: u64,
+    items: Range<u64>,
 ) -> (Party<u64>, bool)
     requires { IsPartyOf party queue.now }
     ensures { IsPartyOf result.0 queue.now }
 {
     let mut right = true;
-    for number in 0..EACH {
-        let item = first.wrapping_add(number);
+    for item in items {
         right = queue.push(rt, &mut party, item).is_ok() && right;
     }
     (party, right)
 }
 
-/// Pops all items. Gives how many of each thread came in their order.
-fn in_order(mut alone: Exclusive<u64>) -> (u64, u64) {
-    let mut low = 0u64;
-    let mut high = 0u64;
+/// Pops all items, which are those of up to four threads, so many of each: the numbers from 0 on, from so many on, and so on. Gives how many of each thread came in their order.
+pub(crate) fn in_order<A: Allocator>(mut alone: Exclusive<u64, A>, each: u64) -> [u64; 4]
+    requires { 0 < each }
+{
+    let mut counts = [0u64; 4];
     for _ in 0..alone.len() {
-        if let Ok(item) = alone.pop() {
-            if item == low {
-                low = low.wrapping_add(1);
-            } else if item == high.wrapping_add(EACH) {
-                high = high.wrapping_add(1);
-            }
+        if let Ok(item) = alone.pop()
+            && let Some(count) = counts.get_mut((item / each) as usize)
+            && *count == item % each
+        {
+            *count = count.wrapping_add(1);
         }
     }
-    (low, high)
+    counts
 }
 
-/// Lets two threads push into a ring of this capacity. Gives whether each item was accepted, and where the sharing ends how many of each thread came out in their order.
+/// Lets two threads push into a queue of this capacity, or without one. Gives whether each item was accepted, and where the sharing ends how many of each thread came out in their order.
 fn left_by_two<R: Wait + Threads + Sync>(
     rt: &R,
     alloc: Global,
-    cap: usize,
+    cap: Option<usize>,
     end: End,
-) -> Result<(bool, Option<(u64, u64)>), AllocError>
-    requires { 0 < cap }
+) -> Result<(bool, Option<[u64; 4]>), AllocError>
+    requires { IfSome cap (λ slots. 0 < slots) }
 {
-    let (queue, party) = Queue::bounded(alloc, cap)?;
+    let (queue, party) = open(alloc, cap)?;
     let Ok((a, b)) = queue.split(party) else {
         return Ok((false, None));
     };
     let ((a, right), (b, right_too)) = join(
         rt,
-        || push_from(rt, &queue, a, 0),
-        || push_from(rt, &queue, b, EACH),
+        || push_all(rt, &queue, a, 0..EACH),
+        || push_all(rt, &queue, b, EACH..2 * EACH),
     );
     let (party, kept) = match end {
         End::Joined => (queue.join(a, b), None),
@@ -81,7 +81,7 @@ fn left_by_two<R: Wait + Threads + Sync>(
         }
     };
     let left = match queue.finish(party) {
-        Ok(alone) => Some(in_order(alone)),
+        Ok(alone) => Some(in_order(alone, EACH)),
         Err(_) => None,
     };
     drop(kept);
@@ -92,13 +92,15 @@ fn left_by_two<R: Wait + Threads + Sync>(
 #[test]
 fn two_threads_leave_what_they_pushed(rt: HostRuntime) -> Result<(), AllocError> {
     let ends = [
-        (End::Joined, Some((EACH, EACH))),
+        (End::Joined, Some([EACH, EACH, 0, 0])),
         (End::Kept, None),
         (End::Dropped, None),
     ];
     for (end, left) in ends {
-        let found = left_by_two(&rt, rt.alloc(), 400, end)?;
-        assert_eq!(rt; found, (true, left), "{end:?}");
+        for cap in [Some(400), None] {
+            let found = left_by_two(&rt, rt.alloc(), cap, end)?;
+            assert_eq!(rt; found, (true, left), "{end:?}, with {cap:?}");
+        }
     }
     Ok(())
 }

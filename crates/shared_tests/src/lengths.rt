@@ -1,6 +1,7 @@
-//! The length of a ring, after each call of its only party and while two threads work on it.
+//! The length of a queue, after each call of its only party and while two threads work on it.
 ghost use Rattle.concurrent_queue.specs.Shared.{IsPartyOf};
 
+use crate::opening::open;
 use crate::threads::{Role, works};
 use concurrent_queue::{ConcurrentQueue, Party};
 use std::alloc::AllocError;
@@ -51,15 +52,17 @@ fn swings<R: Wait>(rt: &R, queue: &Queue, party: &mut Party<u64>, items: u64, ti
 
 #[test]
 fn length_after_each_call(rt: HostRuntime) -> Result<(), AllocError> {
-    let (queue, mut party) = Queue::bounded(rt.alloc(), 1000)?;
-    let few = swings(&rt, &queue, &mut party, 50, 100);
-    let all = swings(&rt, &queue, &mut party, 1000, 1);
-    assert_eq!(rt; (few, all), (true, true));
+    for cap in [Some(1000), None] {
+        let (queue, mut party) = open(rt.alloc(), cap)?;
+        let few = swings(&rt, &queue, &mut party, 50, 100);
+        let all = swings(&rt, &queue, &mut party, 1000, 1);
+        assert_eq!(rt; (few, all), (true, true), "with {cap:?}");
+    }
     Ok(())
 }
 
 #[test]
 fn no_length_above_the_capacity(rt: HostRuntime) {
     let roles = (Role::PushWithin(1000), Role::PopInOrderWithin(1000));
-    works(&rt, rt.alloc(), 1000, 2, 1, roles, 0);
+    works(&rt, rt.alloc(), Some(1000), 2, 1, roles, 0);
 }

@@ -1,13 +1,19 @@
 //! Callers and tests of the queues that parties share, as a user calls them.
 #![tactic(auto)]
 
+#[cfg(test)]
+mod blocks;
 pub mod callers;
+#[cfg(test)]
+mod chains;
 #[cfg(test)]
 mod drops;
 #[cfg(test)]
 mod left;
 #[cfg(test)]
 mod lengths;
+#[cfg(test)]
+mod opening;
 #[cfg(test)]
 mod refusals;
 #[cfg(test)]

@@ -1,7 +1,8 @@
 //! Requests of the constructor that are refused.
-ghost use Rattle.std.specs.Prelude.{◌<◌};
+ghost use Rattle.std.specs.Prelude.{◌<◌, IfSome};
 
-use concurrent_queue::{ConcurrentQueue, Party};
+use crate::opening::{Opened, open};
+use concurrent_queue::ConcurrentQueue;
 use queue_steps::sizes::MAX_CAPACITY;
 use std::alloc::{AllocError, Global};
 use std::process::Abort;
@@ -12,22 +13,27 @@ use test_allocators::{Refusal, Refusing};
 type Queue<'a> = ConcurrentQueue<u64, &'a Refusing<Global>>;
 
 /// What the constructor answers.
-type Made<'a> = Result<(Queue<'a>, Party<u64>), AllocError>;
+type Made<'a> = Opened<u64, &'a Refusing<Global>>;
 
-/// Refuses each request for a queue of this capacity in turn: want of memory, no request after it, and nothing stays allocated. With ample memory two blocks stay, that of the words and that of the slots.
-fn each_refused<R: Abort>(rt: &R, alloc: Global, cap: usize) -> Result<(), AllocError>
-    requires { 0 < cap }
+/// Refuses each request for a queue of this capacity, or without one, in turn: want of memory, no request after it, and nothing stays allocated. With ample memory so many blocks stay.
+fn each_refused<R: Abort>(
+    rt: &R,
+    alloc: Global,
+    cap: Option<usize>,
+    blocks: u64,
+) -> Result<(), AllocError>
+    requires { IfSome cap (λ slots. 0 < slots) }
 {
     let ample = Refusing::new(alloc, Refusal::Never);
-    let (queue, party) = Queue::bounded(&ample, cap)?;
+    let (queue, party): (Queue, _) = open(&ample, cap)?;
     let requests = ample.requests();
-    assert!(rt; requests >= 2 && ample.live() == 2);
+    assert!(rt; requests >= blocks && ample.live() == blocks);
     drop(party);
     drop(queue);
     assert_eq!(rt; ample.live(), 0);
     for number in 1..=requests {
         let heap = Refusing::new(alloc, Refusal::Nth(number));
-        let made: Made = Queue::bounded(&heap, cap);
+        let made: Made = open(&heap, cap);
         assert!(rt; made.is_err(), "at {number}");
         assert!(rt;
             heap.requests() == number && heap.live() == 0,
@@ -37,14 +43,13 @@ fn each_refused<R: Abort>(rt: &R, alloc: Global, cap: usize) -> Result<(), Alloc
     Ok(())
 }
 
+/// A queue with a capacity has a block of words and one of slots, one without has a block of both its ends.
 #[test]
-fn each_request_of_a_slot_refused(rt: HostRuntime) -> Result<(), AllocError> {
-    each_refused(&rt, rt.alloc(), 1)
-}
-
-#[test]
-fn each_request_of_a_ring_refused(rt: HostRuntime) -> Result<(), AllocError> {
-    each_refused(&rt, rt.alloc(), 3)
+fn each_request_refused(rt: HostRuntime) -> Result<(), AllocError> {
+    for (cap, blocks) in [(Some(1), 2), (Some(3), 2), (None, 1)] {
+        each_refused(&rt, rt.alloc(), cap, blocks)?;
+    }
+    Ok(())
 }
 
 /// A capacity above the greatest, and one whose slots are more bytes than one allocation may have, are refused without a request.

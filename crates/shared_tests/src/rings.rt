@@ -1,6 +1,5 @@
-//! Rings that parties share: short stories with known replies, and threads with a party each.
+//! Rings that parties share: short stories with known replies.
 use crate::rows::{Line, Queue, Row, one_party, two_parties};
-use crate::threads::{Role, works};
 use concurrent_queue::{ForcePushError, PopError, PushError};
 use queue_steps::model::{Call, Reply};
 use std::alloc::AllocError;
@@ -207,37 +206,4 @@ fn stories_of_two_parties(rt: HostRuntime) -> Result<(), AllocError> {
         two_parties(&rt, queue, party, lines, left, *closed);
     }
     Ok(())
-}
-
-#[test]
-fn in_order_from_one_thread_to_another(rt: HostRuntime) {
-    works(&rt, rt.alloc(), 3, 2, 1, (Role::Push, Role::PopInOrder), 0);
-}
-
-#[test]
-fn four_pushers_and_four_poppers(rt: HostRuntime) {
-    works(&rt, rt.alloc(), 3, 8, 3, (Role::Push, Role::Pop), 4);
-}
-
-#[test]
-fn linearizable(rt: HostRuntime) {
-    works(
-        &rt,
-        rt.alloc(),
-        4,
-        4,
-        2,
-        (Role::PushAndPop, Role::ForceAndPop),
-        0,
-    );
-}
-
-#[test]
-fn ring_buffer_of_one_thread(rt: HostRuntime) {
-    works(&rt, rt.alloc(), 3, 2, 1, (Role::Force, Role::Drain), 1);
-}
-
-#[test]
-fn ring_buffer_of_four_threads(rt: HostRuntime) {
-    works(&rt, rt.alloc(), 3, 8, 3, (Role::Force, Role::Drain), 4);
 }

@@ -1,11 +1,12 @@
-//! Threads that share one slot, a party each.
-ghost use Rattle.std.specs.Prelude.{◌<◌};
+//! Threads that share a queue, a party each.
+ghost use Rattle.std.specs.Prelude.{◌<◌, IfSome};
 ghost use Rattle.concurrent_queue.specs.Shared.{IsPartyOf};
 ghost use denote.Param.Send.{IsSync};
 
 use crate::callers::{closed_by_many, hand_over, through_a_shared_slot};
+use crate::opening::open;
 use concurrent_queue::{ConcurrentQueue, Party};
-use std::alloc::{AllocError, Global};
+use std::alloc::{AllocError, Allocator, Global};
 use std::process::Abort;
 use std::sync::Wait;
 use std::sync::atomic::{AtomicU64, Ordering};
@@ -19,13 +20,40 @@ type Queue = ConcurrentQueue<u64>;
 /// How often a thread looks for the others at most.
 const LOOKS: u64 = 10_000_000;
 
-/// How often each value came out, how many threads push, and how many of all threads have come.
+/// So many threads that wait for one another.
+#[derive(Drop)]
+pub(crate) struct Meeting {
+    here: AtomicU64,
+    threads: u64,
+}
+
+impl Meeting {
+    pub(crate) fn of(threads: u64) -> Meeting {
+        Meeting {
+            here: AtomicU64::new(0),
+            threads,
+        }
+    }
+
+    /// Waits until all threads have come, though not for ever. Gives whether they have: on one thread after another they never do.
+    pub(crate) fn all_are_here(&self) -> bool {
+        self.here.fetch_add(1, Ordering::SeqCst);
+        for _ in 0..LOOKS {
+            if self.here.load(Ordering::SeqCst) == self.threads {
+                return true;
+            }
+            yield_now();
+        }
+        false
+    }
+}
+
+/// How often each value came out, how many threads push, and whether all threads have come.
 #[derive(Drop)]
 struct Board {
     counts: Vec<AtomicU64>,
     running: AtomicU64,
-    here: AtomicU64,
-    threads: u64,
+    meeting: Meeting,
 }
 
 impl Board {
@@ -37,21 +65,8 @@ impl Board {
         Ok(Board {
             counts,
             running: AtomicU64::new(threads / 2),
-            here: AtomicU64::new(0),
-            threads,
+            meeting: Meeting::of(threads),
         })
-    }
-
-    /// Waits until all threads have come, though not for ever. Gives whether they have: on one thread after another they never do.
-    fn all_are_here(&self) -> bool {
-        self.here.fetch_add(1, Ordering::SeqCst);
-        for _ in 0..LOOKS {
-            if self.here.load(Ordering::SeqCst) == self.threads {
-                return true;
-            }
-            yield_now();
-        }
-        false
     }
 
     fn count(&self, value: u64) {
@@ -109,7 +124,11 @@ fn push_one<R: Wait>(rt: &R, queue: &Queue, party: &mut Party<u64>, value: u64)
 }
 
 /// Pops an item, and tries again while the queue is empty.
-fn pop_one<R: Wait>(rt: &R, queue: &Queue, party: &mut Party<u64>) -> u64
+pub(crate) fn pop_one<A: Allocator, R: Wait>(
+    rt: &R,
+    queue: &ConcurrentQueue<u64, A>,
+    party: &mut Party<u64>,
+) -> u64
     requires { IsPartyOf party.old queue.now }
     ensures { IsPartyOf party.new queue.now }
 {
@@ -202,7 +221,7 @@ fn act<R: Wait>(
     requires { IsPartyOf party queue.now }
     ensures { IsPartyOf result.0 queue.now }
 {
-    let mut right = board.all_are_here();
+    let mut right = board.meeting.all_are_here();
     for value in 0..TURNS {
         right = turn(rt, queue, &mut party, board, role, value) && right;
     }
@@ -249,26 +268,25 @@ fn crew<R: Wait + Threads + Sync>(
     }
 }
 
-/// Lets so many threads, one doubled so many times, work on a queue of this capacity. Asserts that they ran at one time, that each got what it had to, that each value was counted so often, and that nothing is left.
+/// Lets so many threads, one doubled so many times, work on a queue of this capacity, or without one. Asserts that they ran at one time, that each got what it had to, that each value was counted so often, and that nothing is left.
 pub(crate) fn works<R: Wait + Threads + Sync + Abort>(
     rt: &R,
     alloc: Global,
-    cap: usize,
+    cap: Option<usize>,
     threads: u64,
     doublings: u64,
     roles: (Role, Role),
     times: u64,
 )
-    requires { 0 < cap }
+    requires { IfSome cap (λ slots. 0 < slots) }
 {
     let (first, second) = roles;
-    let (Ok(board), Ok((queue, party))) = (Board::new(alloc, threads), Queue::bounded(alloc, cap))
-    else {
+    let (Ok(board), Ok((queue, party))) = (Board::new(alloc, threads), open(alloc, cap)) else {
         panic!(rt; "no memory");
     };
     let (party, right) = crew(rt, &queue, party, &board, doublings, first, second);
-    assert!(rt; right);
-    assert!(rt; board.each_came(times));
+    assert!(rt; right, "with {cap:?}");
+    assert!(rt; board.each_came(times), "with {cap:?}");
     let Ok(left) = queue.finish(party) else {
         panic!(rt; "not finished");
     };
@@ -277,35 +295,42 @@ pub(crate) fn works<R: Wait + Threads + Sync + Abort>(
 
 #[test]
 fn in_order_from_one_thread_to_another(rt: HostRuntime) {
-    works(&rt, rt.alloc(), 1, 2, 1, (Role::Push, Role::PopInOrder), 0);
+    let roles = (Role::Push, Role::PopInOrder);
+    for cap in [Some(1), Some(3), None] {
+        works(&rt, rt.alloc(), cap, 2, 1, roles, 0);
+    }
 }
 
 #[test]
 fn four_pushers_and_four_poppers(rt: HostRuntime) {
-    works(&rt, rt.alloc(), 1, 8, 3, (Role::Push, Role::Pop), 4);
+    let roles = (Role::Push, Role::Pop);
+    for cap in [Some(1), Some(3), None] {
+        works(&rt, rt.alloc(), cap, 8, 3, roles, 4);
+    }
 }
 
 #[test]
 fn linearizable(rt: HostRuntime) {
-    works(
-        &rt,
-        rt.alloc(),
-        1,
-        4,
-        2,
-        (Role::PushAndPop, Role::ForceAndPop),
-        0,
-    );
+    let roles = (Role::PushAndPop, Role::ForceAndPop);
+    for cap in [Some(1), Some(4), None] {
+        works(&rt, rt.alloc(), cap, 4, 2, roles, 0);
+    }
 }
 
 #[test]
 fn ring_buffer_of_one_thread(rt: HostRuntime) {
-    works(&rt, rt.alloc(), 1, 2, 1, (Role::Force, Role::Drain), 1);
+    let roles = (Role::Force, Role::Drain);
+    for cap in [Some(1), Some(3), None] {
+        works(&rt, rt.alloc(), cap, 2, 1, roles, 1);
+    }
 }
 
 #[test]
 fn ring_buffer_of_four_threads(rt: HostRuntime) {
-    works(&rt, rt.alloc(), 1, 8, 3, (Role::Force, Role::Drain), 4);
+    let roles = (Role::Force, Role::Drain);
+    for cap in [Some(1), Some(3), None] {
+        works(&rt, rt.alloc(), cap, 8, 3, roles, 4);
+    }
 }
 
 #[test]
