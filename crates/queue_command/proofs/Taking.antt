@@ -1,5 +1,5 @@
 -- Turns of a run are taken one after another.
-use Rattle.std.proofs.Common.{◌≡◌, ◌∙◌, ℕ, zero, suc, ◌+◌, ◌-◌, ◌<◌, ◌≤◌, List, [], ◌∷◌, ◌++◌, length, map, drop, drop-cons, add-one, get_or, replicate, append_assoc, append-nil, length-append, true, refl, sym, ap, subst, arith}
+use Rattle.std.proofs.Common.{◌≡◌, ◌∙◌, ℕ, zero, suc, ◌+◌, ◌<◌, ◌≤◌, List, [], ◌∷◌, ◌++◌, length, map, drop, drop-cons, add-one, get_or, replicate, append_assoc, append-nil, length-append, true, refl, sym, ap, subst, arith}
 use Rattle.std.proofs.lemmas.List.{drop_all}
 use Rattle.queue_machine.specs.Courses.{Continues, IsOnCourse, IsSameCourse}
 use Rattle.queue_machine.specs.declared.course.Course.{Course}

@@ -1,5 +1,5 @@
 -- The arguments are read back.
-use Rattle.std.proofs.Common.{◌≡◌, ◌≢◌, ℕ, List, [], ◌∷◌, ◌++◌, length, get_or, codes, ap, ◌∙◌, refl, sym, arith, ◌<◌, ◌⊎◌, inl, inr}
+use Rattle.std.proofs.Common.{◌≡◌, ◌≢◌, ℕ, List, [], ◌∷◌, ◌++◌, length, get_or, codes, ap, ◌∙◌, sym, arith, ◌<◌, ◌⊎◌, inl, inr}
 use Rattle.std.specs.Fmt.{decimal}
 use Rattle.std.proofs.lemmas.Fmt.{decimal_injective}
 use Rattle.queue_text.specs.declared.args.KindName.{KindName}

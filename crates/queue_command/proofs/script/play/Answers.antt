@@ -1,5 +1,5 @@
-use Rattle.std.proofs.Common.{rules, ◌≡◌, ◌∙◌, ◌+◌, ◌++◌, take, drop, sym, ap}
-use Rattle.std.proofs.lemmas.List.{take_more, take-append-drop}
+use Rattle.std.proofs.Common.{rules}
+use Rattle.std.proofs.lemmas.List.{take_more}
 use Rattle.queue_command.proofs.Playing.{played_more, played_part}
 use Rattle.queue_command.proofs.script.play.Goals as goal
 
