@@ -250,7 +250,6 @@ fn run(words: &[&str]) -> Option<Run> {
             match *bytes {
                 "8" => time_pairs::<u64>(kind, work, count),
                 "64" => time_pairs::<[u64; 8]>(kind, work, count),
-                "1024" => time_pairs::<[u64; 128]>(kind, work, count),
                 _ => None,
             }
         }

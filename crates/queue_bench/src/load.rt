@@ -30,7 +30,6 @@ pub enum Work {
 pub enum Size {
     Bytes8,
     Bytes64,
-    Bytes1024,
 }
 
 /// So many pairs of a push and a pop by one thread.
@@ -113,7 +112,6 @@ fn parse_size(word: &str) -> Option<Size> {
     match word {
         "8" => Some(Size::Bytes8),
         "64" => Some(Size::Bytes64),
-        "1024" => Some(Size::Bytes1024),
         _ => None,
     }
 }

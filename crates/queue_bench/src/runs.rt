@@ -30,7 +30,6 @@ pub fn time<R: Threads + Wait + Sync>(rt: &HostRuntime, threads: &R, load: Load)
         Task::Pairs(pairs) => match pairs.size {
             Size::Bytes8 => time_pairs::<u64, R>(rt, threads, load.kind, pairs),
             Size::Bytes64 => time_pairs::<[u64; 8], R>(rt, threads, load.kind, pairs),
-            Size::Bytes1024 => time_pairs::<[u64; 128], R>(rt, threads, load.kind, pairs),
         },
     }
 }
