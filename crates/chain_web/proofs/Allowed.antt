@@ -1,22 +1,15 @@
 -- What the web asks of the steps of a call on a shared chain: each may be done, and tells how the call goes on.
-use Rattle.std.proofs.Common.{ℕ, ◌+◌, ◌<◌, ◌≡◌, ◌≢◌, ◌∙◌, Bool, true, false, Option, Some, None, List, [], ◌∷◌, length, refl, sym, ap, subst, arith, set}
+use Rattle.std.proofs.Common.{ℕ, ◌≡◌, Option, None, List, refl, sym, subst, arith, set}
 use mathlib.Core.Option.{some}
 use lib.ListN.{get_elem?}
 use denote.RawPtr.{Ptr, Testable}
-use Rattle.queue_steps.specs.declared.model.Call.{Call}
-use Rattle.queue_steps.specs.declared.model.Effect.{Effect}
 use Rattle.queue_steps.specs.declared.steps.types.Answer.{Answer}
 use Rattle.queue_steps.specs.declared.steps.types.Answer.TheVariants as answer
 use Rattle.queue_steps.specs.declared.steps.types.Link.{Link}
-use Rattle.queue_steps.specs.declared.steps.types.Local.{Local}
 use Rattle.queue_steps.specs.declared.steps.types.Op.{Op}
 use Rattle.queue_steps.specs.declared.steps.types.Op.TheVariants as op
-use Rattle.queue_steps.specs.declared.steps.types.Touch.{Touch}
-use Rattle.queue_steps.specs.State.{State as Queue}
-use Rattle.chain_laws.proofs.ChainCells.{Chain, ChainOk}
-use Rattle.chain_laws.proofs.ChainAt.{At}
+use Rattle.chain_laws.proofs.ChainCells.{Chain}
 use Rattle.chain_laws.proofs.ChainAnswers.{last_of}
-use Rattle.chain_laws.proofs.ChainGiven.{Spares, spare_in}
 use Rattle.block_web.specs.Web.{Block, State, Sitter, Lives, viewed, block, word_of, with_word, with_next, blocks_after, sitter_after, Goes, Allows, AllowsLink}
 use Rattle.block_web.specs.declared.hub.TheConstants.{PARTIES}
 use Rattle.queue_parties.specs.declared.known.Doing.{Doing}
@@ -25,13 +18,13 @@ use Rattle.queue_parties.specs.Calling.{Standing, touched_list}
 use Rattle.queue_parties.specs.CallsAt.{Ready}
 use Rattle.queue_parties.specs.Operations.{op_word, op_makes, answer_for}
 use Rattle.queue_parties.proofs.CallSteps.{stands_at}
-use Rattle.chain_web.specs.ChainCalls.{OutChain, SlotsAs, ChainLent, chain_calls}
-use Rattle.chain_web.specs.Rule.{lead_of, Codes, Rule}
+use Rattle.chain_web.specs.ChainCalls.{chain_calls}
+use Rattle.chain_web.specs.Rule.{lead_of, Rule}
 use Rattle.chain_web.specs.Spots.{spot}
 use Rattle.chain_web.specs.Steps.{HoldsBy, op_place, word_index, link_makes, blocks_made, link_found, answered, LeadsThere, BlockStep, Follows, FollowsLink}
 use Rattle.chain_web.proofs.CallLaws.{chain_call_laws, OnBlocks, chain_opens}
-use Rattle.chain_web.proofs.Allowing.{Found, follows}
-use Rattle.chain_web.proofs.Tested.{alive_within, next_tested, count_kept}
+use Rattle.chain_web.proofs.Allowing.{follows}
+use Rattle.chain_web.proofs.Tested.{next_tested, count_kept}
 use Rattle.chain_web.proofs.BlockSteps.{block_steps}
 use Rattle.chain_web.proofs.Written.{out_wrote}
 

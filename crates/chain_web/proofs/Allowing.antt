@@ -1,50 +1,43 @@
 -- Each step of a call on a shared chain keeps the rule of the web, and tells its seat how the call goes on: what it finds in the blocks and makes of them, and the
 -- laws of the chain, say so.
-use Rattle.std.proofs.Common.{ℕ, ◌+◌, ◌<◌, ◌%◌, ◌≡◌, ◌≢◌, ◌⊎◌, ◌∙◌, ◌||◌, not, inl, inr, Bool, true, false, Option, Some, None, List, [], ◌∷◌, length, refl, sym, ap, subst, arith, set}
+use Rattle.std.proofs.Common.{ℕ, ◌≡◌, ◌≢◌, ◌||◌, not, Bool, Option, Some, None, List, ◌∷◌, sym, ap, subst, set}
 use mathlib.Core.Option.{some}
 use lib.ListN.{get_elem?}
-use denote.RawPtr.{Ptr, Testable}
+use denote.RawPtr.{Ptr}
 use Rattle.queue_steps.specs.declared.model.Call.{Call}
 use Rattle.queue_steps.specs.declared.model.Effect.{Effect}
 use Rattle.queue_steps.specs.declared.model.Effect.TheVariants as effect
 use Rattle.queue_steps.specs.declared.steps.types.Answer.{Answer}
-use Rattle.queue_steps.specs.declared.steps.types.Answer.TheVariants as answer
 use Rattle.queue_steps.specs.declared.steps.types.Kind.TheVariants as queue
 use Rattle.queue_steps.specs.declared.steps.types.Local.{Local}
 use Rattle.queue_steps.specs.declared.steps.types.Local.TheVariants as local
 use Rattle.queue_steps.specs.declared.steps.types.Next.{Next}
 use Rattle.queue_steps.specs.declared.steps.types.Next.TheVariants as next
 use Rattle.queue_steps.specs.declared.steps.types.Op.{Op}
-use Rattle.queue_steps.specs.declared.steps.types.Op.TheVariants as op
 use Rattle.queue_steps.specs.declared.steps.types.Touch.{Touch}
-use Rattle.queue_steps.specs.declared.steps.types.Touch.TheVariants as touch
 use Rattle.queue_steps.specs.Next.{CanNext, next_of}
 use Rattle.queue_steps.specs.State.{State as Queue}
 use Rattle.queue_steps.specs.UnboundedNext.{FitsChain, unbounded_next}
 use Rattle.queue_laws.proofs.Effects.{Leads, with_effect}
-use Rattle.chain_laws.proofs.ChainCells.{Reading, Chain, queue_of, ChainOk}
+use Rattle.chain_laws.proofs.ChainCells.{Reading, Chain, queue_of}
 use Rattle.chain_laws.proofs.ChainAt.{At}
 use Rattle.chain_laws.proofs.ChainAnswers.{Answers}
-use Rattle.chain_laws.proofs.ChainGiven.{Spares, spare_in}
-use Rattle.chain_laws.proofs.ChainRight.{left_by, Ends, Right, step_right}
+use Rattle.chain_laws.proofs.ChainRight.{Ends, Right, step_right}
 use Rattle.chain_laws.proofs.ChainStep.{chain_of, carried_of, after_of, is_chain}
-use Rattle.block_web.specs.Web.{Block, State, Sitter, Act, block, Lives, word_of, with_word, with_next, Mays, blocks_after, sitter_after, viewed, Goes, Allows, AllowsLink}
-use Rattle.block_web.specs.declared.hub.TheConstants.{TAIL, PARTIES, HEAD}
+use Rattle.block_web.specs.Web.{Block, State, Sitter, word_of, viewed}
+use Rattle.block_web.specs.declared.hub.TheConstants.{PARTIES}
 use Rattle.queue_parties.specs.declared.known.Doing.{Doing}
 use Rattle.queue_parties.specs.declared.known.InCall.{InCall}
-use Rattle.queue_parties.specs.Calling.{cap_of, Standing, MayFront, Goes as GoesOn, handed_by, touched_list}
-use Rattle.queue_parties.specs.CallsAt.{CallsAt, Ready, Told}
-use Rattle.queue_parties.specs.Operations.{op_word, op_makes, answer_for}
+use Rattle.queue_parties.specs.Calling.{Standing, MayFront, Goes as GoesOn, handed_by}
+use Rattle.queue_parties.specs.CallsAt.{CallsAt}
 use Rattle.queue_parties.proofs.Callings.{grown}
-use Rattle.queue_parties.proofs.CallSteps.{stands_at, Stepping, call_step}
-use Rattle.chain_web.specs.Spots.{spot}
-use Rattle.chain_web.specs.ChainCalls.{OutChain, SlotsAs, ChainLent, ChainAt, PassesOut, chain_calls}
-use Rattle.chain_web.specs.Rule.{lead_of, Codes, Rule}
-use Rattle.chain_web.specs.Steps.{HoldsBy, HoldsFor, is_link, op_place, word_index, link_makes, blocks_made, link_found, answered, LeadsThere, chain_then, SlotsFor, BlockStep, MayGoOn, After, Follows, FollowsLink}
-use Rattle.chain_web.proofs.CallLaws.{chain_call_laws, OnBlocks, chain_opens}
+use Rattle.queue_parties.proofs.CallSteps.{Stepping, call_step}
+use Rattle.chain_web.specs.ChainCalls.{OutChain, ChainLent, chain_calls}
+use Rattle.chain_web.specs.Rule.{Codes, Rule}
+use Rattle.chain_web.specs.Steps.{HoldsFor, chain_then, SlotsFor, MayGoOn, After, Follows}
+use Rattle.chain_web.proofs.CallLaws.{chain_call_laws}
 use Rattle.chain_web.proofs.Carrying.{carried_is}
 use Rattle.chain_web.proofs.MaySteps.{may_go_on}
-use Rattle.chain_web.proofs.Tested.{alive_within, next_tested, count_kept}
 
 can_next : (l : Local ℕ) (a : Answer ℕ) → l ≡ local.Unbounded (chain_of l) → FitsChain (chain_of l) a → CanNext queue.Unbounded l a × (next_of queue.Unbounded l a ≡ unbounded_next (chain_of l) a)
 can_next l a is fits = (subst (λ z. CanNext queue.Unbounded z a) (sym is) fits, ap (λ z. next_of queue.Unbounded z a) is)

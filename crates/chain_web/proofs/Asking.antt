@@ -1,20 +1,18 @@
 -- The question for a block is no step on a block: a load of the tail's word makes it known to the web that a block was granted, which has a name from then on, or refused.
-use Rattle.std.proofs.Common.{ℕ, ◌+◌, ◌<◌, ◌≤◌, ◌≡◌, ◌≢◌, ◌∙◌, Bool, Option, Some, None, List, [], ◌∷◌, length, refl, sym, ap, subst, arith, set}
+use Rattle.std.proofs.Common.{ℕ, ◌≡◌, ◌∙◌, Option, Some, None, List, [], refl, sym, ap, subst}
 use mathlib.Core.Option.{some}
 use lib.ListN.{get_elem?}
 use denote.RawPtr.{Ptr, block_ptr, null_ptr, InBlock, Testable}
 use Rattle.queue_steps.specs.declared.model.Call.{Call}
 use Rattle.queue_steps.specs.declared.model.Effect.{Effect}
-use Rattle.queue_steps.specs.declared.steps.types.Answer.{Answer}
 use Rattle.queue_steps.specs.declared.steps.types.Answer.TheVariants as answer
 use Rattle.queue_steps.specs.declared.steps.types.Local.{Local}
 use Rattle.queue_steps.specs.declared.steps.types.Op.{Op}
 use Rattle.queue_steps.specs.declared.steps.types.Op.TheVariants as op
 use Rattle.queue_steps.specs.declared.steps.types.Touch.{Touch}
 use Rattle.queue_steps.specs.State.{State as Queue}
-use Rattle.chain_laws.proofs.ChainCells.{Chain}
 use Rattle.chain_laws.proofs.ChainAt.{At, push_tail, push_block, asking, installing, showing, claiming, laying, opening, chaining, writing, spending, pop_head, pop_block, pop_tail, taking, following, peeking, passing, entering, awaiting, reading, beginning, walking, destroying, len_tail, len_head, len_again, empty_head, empty_tail, closing, closed_tail}
-use Rattle.block_web.specs.Web.{Block, State, Sitter, block, word_of, with_word, Goes, Allows}
+use Rattle.block_web.specs.Web.{Block, State, Sitter, block, word_of, Goes, Allows}
 use Rattle.block_web.specs.declared.hub.TheConstants.{TAIL, PARTIES}
 use Rattle.queue_parties.specs.declared.known.Doing.{Doing}
 use Rattle.queue_parties.specs.declared.known.InCall.{InCall}
@@ -24,11 +22,11 @@ use Rattle.queue_parties.proofs.CallSteps.{stands_at}
 use Rattle.chain_web.specs.ChainCalls.{OutChain, SlotsAs, ChainLent, chain_calls}
 use Rattle.chain_web.specs.Rule.{Codes, Rule}
 use Rattle.chain_web.specs.Spots.{spot}
-use Rattle.chain_web.specs.Steps.{fresh_at, hand_by, carried_by, HoldsBy, Follows, FollowsGrant}
+use Rattle.chain_web.specs.Steps.{fresh_at, hand_by, Follows, FollowsGrant}
 use Rattle.chain_web.proofs.CallLaws.{chain_call_laws, OnBlocks, chain_opens}
 use Rattle.chain_web.proofs.Allowing.{Found, follows}
 use Rattle.chain_web.proofs.Blocks.{word_same}
-use Rattle.chain_web.proofs.Links.{Leaves, nothing_lent}
+use Rattle.chain_web.proofs.Links.{nothing_lent}
 use Rattle.chain_web.proofs.Granting.{granted_at, refused_codes}
 
 module _ {A : Type 0} (te he : Ptr) where

@@ -1,5 +1,5 @@
 -- What each step of a call does to the blocks of the web, wherever the call stands.
-use Rattle.std.proofs.Common.{ℕ, Option, List, Some, None}
+use Rattle.std.proofs.Common.{ℕ, Option, List}
 use denote.RawPtr.{Ptr}
 use Rattle.queue_steps.specs.declared.model.Call.{Call}
 use Rattle.queue_steps.specs.declared.model.Effect.{Effect}
@@ -9,7 +9,6 @@ use Rattle.queue_steps.specs.declared.steps.types.Touch.{Touch}
 use Rattle.queue_steps.specs.State.{State}
 use Rattle.chain_laws.proofs.ChainCells.{ChainOk}
 use Rattle.chain_laws.proofs.ChainAt.{At, push_tail, push_block, asking, installing, showing, claiming, laying, opening, chaining, writing, spending, pop_head, pop_block, pop_tail, taking, following, peeking, passing, entering, awaiting, reading, beginning, walking, destroying, len_tail, len_head, len_again, empty_head, empty_tail, closing, closed_tail}
-use Rattle.chain_laws.proofs.ChainGiven.{Spares, spare_in}
 use Rattle.block_web.specs.Web.{Block, Sitter}
 use Rattle.queue_parties.specs.declared.known.Doing.{Doing}
 use Rattle.queue_parties.specs.Calling.{touched_list}

@@ -1,16 +1,14 @@
 -- What changes of one word, link or slot leave of the blocks of a web, and which changes of a chain leave its blocks as they are.
-use Rattle.std.proofs.Common.{ℕ, zero, suc, ◌+◌, ◌<◌, ◌≡◌, ◌≢◌, ◌==◌, ◌∙◌, not, inl, inr, Bool, Option, Some, None, List, [], ◌∷◌, length, refl, sym, ap, subst, arith, bit_and, get_or, set, get_or-set_same, get_or-set_other, length-set}
+use Rattle.std.proofs.Common.{ℕ, ◌+◌, ◌<◌, ◌≡◌, ◌≢◌, ◌∙◌, not, inl, inr, Bool, Some, None, List, length, refl, sym, ap, set, get_or-set_same, get_or-set_other}
 use Rattle.std.proofs.lemmas.List.{set-get_or}
 use mathlib.Core.Option.{some}
-use lib.ListN.{get_elem?}
 use denote.RawPtr.{Ptr}
 use Rattle.queue_steps.specs.declared.sizes.TheConstants.{BLOCK_SLOTS}
 use Rattle.queue_steps.specs.declared.steps.types.Next.{Next}
 use Rattle.queue_steps.specs.declared.steps.types.Next.TheVariants as next
-use Rattle.queue_steps.specs.declared.steps.unbounded.TheConstants.{WRITE, READ, DESTROY}
 use Rattle.queue_laws.proofs.Puts.{put_ok}
-use Rattle.chain_laws.proofs.ChainCells.{Before, GivenUp, Unused, Spare, Chained, Lost, Use, Chain, item_at, LAST, Done}
-use Rattle.chain_laws.proofs.ChainAnswers.{linked_of, is_wrote, is_done, waits_at, IsState}
+use Rattle.chain_laws.proofs.ChainCells.{GivenUp, Unused, Spare, Chained, Lost, Use, Chain, item_at}
+use Rattle.chain_laws.proofs.ChainAnswers.{linked_of, is_wrote, is_done, waits_at}
 use Rattle.chain_laws.proofs.ChainGiven.{lost_of}
 use Rattle.chain_laws.proofs.ChainRight.{left_by}
 use Rattle.block_web.specs.Web.{Block, block, worded, linked, homed, gone, with_word, with_next, with_home, without, word_of, Home, Lives}

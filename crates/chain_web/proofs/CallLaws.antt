@@ -1,5 +1,5 @@
 -- What a shared chain owes of its calls: no step of another party takes away what a call knows, and where each call begins.
-use Rattle.std.proofs.Common.{ℕ, ◌+◌, ◌*◌, ◌/◌, ◌%◌, ◌<◌, ◌≡◌, ◌≢◌, ◌∙◌, ◌⊎◌, inl, inr, Bool, true, false, List, [], ◌∷◌, Option, Some, None, refl, sym, ap, subst, arith}
+use Rattle.std.proofs.Common.{ℕ, ◌%◌, ◌≡◌, ◌≢◌, ◌∙◌, inl, inr, true, false, List, [], ◌∷◌, Option, Some, None, refl, sym, ap}
 use Rattle.queue_steps.specs.declared.sizes.TheConstants.{BLOCK_SLOTS}
 use Rattle.queue_steps.specs.declared.model.Call.{Call}
 use Rattle.queue_steps.specs.declared.model.Call.TheVariants as call
@@ -11,24 +11,20 @@ use Rattle.queue_steps.specs.declared.steps.types.Local.TheVariants as local
 use Rattle.queue_steps.specs.declared.steps.types.Op.{Op}
 use Rattle.queue_steps.specs.declared.steps.types.Op.TheVariants as op
 use Rattle.queue_steps.specs.declared.steps.types.Touch.{Touch}
-use Rattle.queue_steps.specs.declared.steps.bounded.PushKind.TheVariants as kind
 use Rattle.queue_steps.specs.declared.steps.unbounded.UnboundedLocal.TheVariants as chain
 use Rattle.queue_steps.specs.State.{State}
 use Rattle.queue_steps.specs.ChainWords.{offset_at, offset_of}
-use Rattle.queue_steps.specs.UnboundedNext.{unbounded_begin}
-use Rattle.queue_laws.proofs.Effects.{IsBetween, Touches}
-use Rattle.queue_laws.proofs.Moments.{seen_by}
+use Rattle.queue_laws.proofs.Effects.{IsBetween}
 use Rattle.queue_laws.proofs.Tails.{position_tail}
 use Rattle.chain_laws.proofs.ChainPlaces.{place, place_offset}
-use Rattle.chain_laws.proofs.ChainCells.{Writing, Wrote, Reader, Unread, Reading, Done, Chain, queue_of, ChainOk, Part, Write, Read, Holds, Nothing, writer_of, reader_of}
-use Rattle.chain_laws.proofs.ChainPasses.{Passes}
-use Rattle.chain_laws.proofs.ChainFacts.{head_of, open_tail_of, Claimed, Got, holds_stays}
+use Rattle.chain_laws.proofs.ChainCells.{Wrote, Reader, Unread, Reading, Done, Chain, Part, Write, Read, Holds, Nothing, writer_of, reader_of}
+use Rattle.chain_laws.proofs.ChainFacts.{open_tail_of, holds_stays}
 use Rattle.chain_laws.proofs.ChainAnswers.{head_offset}
-use Rattle.chain_laws.proofs.ChainAt.{Only, Either, At, at_stays, push_tail, push_block, asking, installing, showing, claiming, laying, opening, chaining, writing, spending, pop_head, pop_block, pop_tail, taking, following, peeking, passing, entering, awaiting, reading, beginning, walking, destroying, len_tail, len_head, len_again, empty_head, empty_tail, closing, closed_tail}
-use Rattle.chain_laws.proofs.ChainGiven.{Spares, spare_in, spares_stay}
+use Rattle.chain_laws.proofs.ChainAt.{Only, At, at_stays, push_tail, push_block, asking, installing, showing, claiming, laying, opening, chaining, writing, spending, pop_head, pop_block, pop_tail, taking, following, peeking, passing, entering, awaiting, reading, beginning, walking, destroying, len_tail, len_head, len_again, empty_head, empty_tail, closing, closed_tail}
+use Rattle.chain_laws.proofs.ChainGiven.{spare_in, spares_stay}
 use Rattle.chain_laws.proofs.ChainStart.{at_begun}
-use Rattle.queue_parties.specs.Calling.{CallsOf, CallLaws, HasTouched, first_of, Opens}
-use Rattle.chain_web.specs.ChainCalls.{OutChain, has_slot, HasOut, Out, ChainLent, ChainIdle, SlotsAs, ChainAt, PassesOut, chain_calls}
+use Rattle.queue_parties.specs.Calling.{CallLaws, HasTouched, first_of, Opens}
+use Rattle.chain_web.specs.ChainCalls.{OutChain, HasOut, Out, ChainLent, ChainIdle, SlotsAs, PassesOut, chain_calls}
 
 pub reader_is : (r : Reader) (j : ℕ) → reader_of r ≡ Some j → r ≡ Reading j
 reader_is Unread j e = cc

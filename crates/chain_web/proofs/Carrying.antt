@@ -1,6 +1,5 @@
 -- What a call carries after its touch is what lay in the slot that it has.
-use Rattle.std.proofs.Common.{ℕ, ◌%◌, ◌≡◌, ◌∙◌, true, Option, Some, None, List, [], ◌∷◌, refl, sym, ap}
-use Rattle.queue_steps.specs.declared.sizes.TheConstants.{BLOCK_SLOTS}
+use Rattle.std.proofs.Common.{ℕ, ◌≡◌, Option, List, refl, sym, ap}
 use Rattle.queue_steps.specs.declared.model.Call.{Call}
 use Rattle.queue_steps.specs.declared.model.Effect.{Effect}
 use Rattle.queue_steps.specs.declared.steps.types.Local.{Local}

@@ -1,9 +1,9 @@
 -- The steps that count parties, part them and bring them together keep the rule of the web, which lets the views and the count change.
-use Rattle.std.proofs.Common.{◌≡◌, ◌≢◌, ℕ, zero, suc, ◌+◌, ◌<◌, List, [], ◌∷◌, ◌++◌, length, set, inl, inr, refl, ap, sym, ◌∙◌, subst, get_or, get_or-set_same, get_or-set_other, length-set, arith}
+use Rattle.std.proofs.Common.{◌≡◌, ◌≢◌, ℕ, ◌+◌, ◌<◌, List, [], ◌∷◌, ◌++◌, length, set, refl, ap, sym, ◌∙◌, subst, get_or, get_or-set_same, get_or-set_other, length-set, arith}
 use mathlib.Core.Option.{some}
 use lib.ListN.{get_elem?}
 use denote.RawPtr.{Ptr}
-use Rattle.block_web.specs.Web.{Block, State, Sitter, block, Lives, word_of, with_word, Allows, CanFork, CanMerge}
+use Rattle.block_web.specs.Web.{Block, State, Sitter, block, word_of, with_word, Allows, CanFork, CanMerge}
 use Rattle.block_web.specs.declared.hub.TheConstants.{TAIL, PARTIES, HEAD}
 use Rattle.queue_parties.specs.declared.known.Doing.{Doing}
 use Rattle.queue_parties.specs.Doings.{Sharing}

@@ -6,7 +6,6 @@ use lib.ListN.{get_elem?}
 use denote.RawPtr.{Ptr, null_ptr, InBlock}
 use Rattle.queue_steps.specs.declared.sizes.TheConstants.{BLOCK_SLOTS}
 use Rattle.queue_steps.specs.declared.steps.unbounded.TheConstants.{WRITE}
-use Rattle.chain_laws.proofs.ChainPlaces.{place}
 use Rattle.chain_laws.proofs.ChainCells.{Before, GivenUp, Chain, ChainOk, item_at}
 use Rattle.chain_laws.proofs.ChainAnswers.{linked_of}
 use Rattle.block_web.specs.Web.{Block, Home, Content, block}

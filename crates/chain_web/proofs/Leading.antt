@@ -1,5 +1,5 @@
 -- The laws of a party's driver on a shared chain: what a step told leads on, and so does what a call does first.
-use Rattle.std.proofs.Common.{ℕ, ◌≡◌, ◌∙◌, false, Option, Some, None, List, [], ◌∷◌, refl, sym, ap, subst, inl, inr}
+use Rattle.std.proofs.Common.{ℕ, ◌≡◌, ◌∙◌, false, Option, Some, None, List, [], refl, sym, ap, subst, inl, inr}
 use Rattle.queue_steps.specs.declared.model.Call.{Call}
 use Rattle.queue_steps.specs.declared.model.Call.TheVariants as call
 use Rattle.queue_steps.specs.declared.model.Reply.{Reply}
@@ -13,8 +13,8 @@ use Rattle.queue_steps.specs.declared.steps.types.Next.TheVariants as next
 use Rattle.queue_steps.specs.declared.steps.types.Op.{Op}
 use Rattle.queue_steps.specs.declared.steps.types.Touch.{Touch}
 use Rattle.queue_steps.specs.declared.steps.types.Touch.TheVariants as touch
-use Rattle.queue_steps.specs.Effect.{IsHistory, after}
-use Rattle.queue_steps.specs.Kinds.{call_kind, call_value, filled}
+use Rattle.queue_steps.specs.Effect.{after}
+use Rattle.queue_steps.specs.Kinds.{call_kind, call_value}
 use Rattle.queue_steps.specs.Next.{CanNext, next_of, first_local}
 use Rattle.queue_steps.specs.Parties.{View, SharedCall}
 use Rattle.queue_steps.specs.Replies.{Tells, IsRightAt}
@@ -30,13 +30,13 @@ use Rattle.queue_parties.specs.Known.{party, view_of}
 use Rattle.queue_parties.specs.Doings.{idle}
 use Rattle.queue_parties.specs.Calling.{handed_by, first_of}
 use Rattle.queue_parties.specs.CallsAt.{begun_at}
-use Rattle.queue_parties.specs.Called.{with_value, whole, call_of_work, begun_by}
+use Rattle.queue_parties.specs.Called.{whole, call_of_work, begun_by}
 use Rattle.queue_parties.specs.Histories.{prefix_self}
 use Rattle.queue_parties.specs.SharedCalls.{quiet, cap_after}
 use Rattle.chain_web.specs.declared.web.ChainWeb.{ChainWeb}
-use Rattle.chain_web.specs.Names.{link_of, name_map, local_map, op_map, answer_map, next_map}
-use Rattle.chain_web.specs.Steps.{HoldsBy, HoldsFor, MayDo, MayStep, After, Follows, carried_by}
-use Rattle.chain_web.specs.Turning.{unnamed, call_at, CanDo, Operated, Carries, IsFree, ChainCan, ChainDoes, ChainStands, ChainRests, ChainEnded, GaveUp, ChainLeads}
+use Rattle.chain_web.specs.Names.{link_of, name_map, local_map, op_map, next_map}
+use Rattle.chain_web.specs.Steps.{HoldsBy, HoldsFor, MayDo, MayStep, After, carried_by}
+use Rattle.chain_web.specs.Turning.{unnamed, call_at, CanDo, Operated, Carries, IsFree, ChainStands, ChainRests, ChainEnded, GaveUp, ChainLeads}
 use Rattle.chain_web.proofs.Turns.{sits_still}
 use Rattle.chain_web.proofs.Renamed.{can_next_map, next_of_map}
 

@@ -1,5 +1,5 @@
 -- Blocks of a chain that nobody shares any more are emptied, one slot after the other.
-use Rattle.std.proofs.Common.{◌≡◌, ◌∙◌, ◌⊎◌, inl, inr, ℕ, suc, ◌+◌, ◌*◌, ◌^◌, ◌<◌, ◌≤◌, true, bit_and, List, [], ◌∷◌, length, Option, Some, None, IfSome, refl, sym, ap, subst, arith}
+use Rattle.std.proofs.Common.{◌≡◌, ◌∙◌, ◌⊎◌, inl, inr, ℕ, suc, ◌+◌, ◌*◌, ◌^◌, ◌<◌, ◌≤◌, ◌&&◌, ◌||◌, Bool, true, false, not, bit_and, List, [], ◌∷◌, length, Option, Some, None, IfSome, refl, sym, ap, subst, arith}
 use Rattle.std.proofs.lemmas.List.{length-set}
 use Rattle.atomic_table.proofs.Lists.{set_else}
 use mathlib.Core.Option.{some, some-injective}
@@ -12,9 +12,13 @@ use Rattle.block_web.specs.Web.{Block, Home, block, homed, with_home, without, v
 use Rattle.block_web.specs.declared.block.Link.{Link}
 use Rattle.block_web.specs.declared.sizes.TheConstants.{SLOTS}
 use Rattle.queue_parties.proofs.CallSteps.{set_at}
-use Rattle.chain_web.specs.Leftover.{SlotLeft, BlockLeft, StaysLeft, BlocksLeft, SameBut, Emptied, IsHere}
+use Rattle.chain_web.specs.Leftover.{SlotLeft, BlockLeft, StaysLeft, BlocksLeft, SameBut, Emptied, IsHere, is_held, any_held}
 use Rattle.chain_web.proofs.Blocks.{home_here, gone_else}
 use Rattle.chain_web.proofs.Tested.{alive_within}
+
+negated : (b h : Bool) → not b && not h ≡ not (b || h)
+negated true h = refl
+negated false h = refl
 
 module _ {A : Type 0} where
   -- the item of a slot is taken out
@@ -37,6 +41,19 @@ module _ {A : Type 0} where
     written = λ le set. let w = left.written le (λ e. set (ap (λ ws. bit_and (slice_index_or ws i 0) WRITE) words ∙ e)) in (w.0, home ∙ w.1);
     free = λ le. home ∙ left.free le;
   }
+
+  -- whether a call has one of the slots, which are looked at one after the other
+  module _ (taken accepted n : ℕ) (old new : Block A) where
+    pub none_held : true ≡ not (any_held taken accepted n 0 old)
+    unfolding any_held
+    none_held = refl
+
+    pub told_on : (i : ℕ) (e v : Bool) → new.words ≡ old.words → e ≡ not (any_held taken accepted n i old) → v ≡ not (is_held taken accepted (n + i) i new) → (e && v) ≡ not (any_held taken accepted n (i + 1) old)
+    unfolding any_held
+    told_on i e v words before here =
+        let next : i + 1 ≡ suc i = omega arith in
+        let same : is_held taken accepted (n + i) i new ≡ is_held taken accepted (n + i) i old = rw words refl in
+        rw (next, before, here ∙ ap not same) (negated (any_held taken accepted n i old) (is_held taken accepted (n + i) i old))
 
   vacant_all : (hs : List (Home A)) → ((j : ℕ) → j < length hs → get_elem? hs j ≡ some vacant) → AllVacant hs
   vacant_all [] all = tt

@@ -10,12 +10,12 @@ use Rattle.queue_steps.specs.declared.steps.types.Op.{Op}
 use Rattle.queue_steps.specs.declared.steps.types.Touch.{Touch}
 use Rattle.queue_steps.specs.State.{State}
 use Rattle.queue_steps.specs.ChainWords.{offset_of}
-use Rattle.chain_laws.proofs.ChainCells.{Writer, Free, Writing, Wrote, Reader, Reading, Walker, WalkOk, ChainOk, Write, Read, Passed, writer_of, reader_of, Holds, Nothing}
+use Rattle.chain_laws.proofs.ChainCells.{Writing, Reading, Walker, WalkOk, ChainOk, Write, Read, writer_of, reader_of, Holds, Nothing}
 use Rattle.chain_laws.proofs.ChainFacts.{head_of, open_tail_of}
 use Rattle.chain_laws.proofs.ChainAnswers.{head_offset}
-use Rattle.chain_laws.proofs.ChainAt.{Only, At, push_tail, push_block, asking, installing, showing, claiming, laying, opening, chaining, writing, spending, pop_head, pop_block, pop_tail, taking, following, peeking, passing, entering, awaiting, reading, beginning, walking, destroying, len_tail, len_head, len_again, empty_head, empty_tail, closing, closed_tail}
+use Rattle.chain_laws.proofs.ChainAt.{Only, push_tail, push_block, asking, installing, showing, claiming, laying, opening, chaining, writing, spending, pop_head, pop_block, pop_tail, taking, following, peeking, passing, entering, awaiting, reading, beginning, walking, destroying, len_tail, len_head, len_again, empty_head, empty_tail, closing, closed_tail}
 use Rattle.chain_laws.proofs.ChainRight.{Ends}
-use Rattle.chain_web.specs.ChainCalls.{OutChain, HasOut, Out, ChainLent, ChainAt}
+use Rattle.chain_web.specs.ChainCalls.{OutChain, ChainLent, ChainAt}
 use Rattle.chain_web.specs.Steps.{SlotsFor, MayStep, MayGoOn}
 
 low : (n : ℕ) → n % BLOCK_SLOTS < BLOCK_SLOTS

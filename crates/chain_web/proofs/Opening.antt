@@ -1,5 +1,5 @@
 -- The rule holds at the beginning: two ends, no block, and one party.
-use Rattle.std.proofs.Common.{ℕ, ◌+◌, ◌<◌, ◌≤◌, ◌≡◌, ◌∙◌, true, false, Option, Some, None, List, [], ◌∷◌, ◌++◌, replicate, refl, sym, ap, subst, arith}
+use Rattle.std.proofs.Common.{◌≡◌, ◌∙◌, false, None, List, [], ◌∷◌, ◌++◌, replicate, refl, sym, ap, subst, arith}
 use denote.RawPtr.{Ptr, null_ptr}
 use Rattle.block_web.specs.Web.{Block, alive_at, with_word}
 use Rattle.block_web.specs.declared.sizes.TheConstants.{SLOTS}

@@ -1,29 +1,27 @@
 -- The operation of a ready call's step may be done on the chain, and what it answered at run time is what it answered with names.
-use Rattle.std.proofs.Common.{ℕ, ◌<◌, ◌≡◌, ◌≢◌, ◌∙◌, Option, Some, None, List, [], ◌∷◌, refl, sym, ap, subst}
+use Rattle.std.proofs.Common.{ℕ, ◌<◌, ◌≡◌, ◌∙◌, Option, Some, None, List, [], refl, sym, ap, subst}
 use denote.RawPtr.{Ptr, InBlock, Testable, null_ptr}
 use Rattle.queue_steps.specs.declared.steps.types.Answer.{Answer}
 use Rattle.queue_steps.specs.declared.steps.types.Answer.TheVariants as answer
 use Rattle.queue_steps.specs.declared.steps.types.Link.{Link}
-use Rattle.queue_steps.specs.declared.steps.types.Link.TheVariants as link
 use Rattle.queue_steps.specs.declared.steps.types.Local.{Local}
 use Rattle.queue_steps.specs.declared.steps.types.Op.{Op}
 use Rattle.queue_steps.specs.declared.steps.types.Op.TheVariants as op
 use Rattle.queue_steps.specs.declared.steps.types.Touch.{Touch}
 use Rattle.queue_steps.specs.declared.steps.types.Touch.TheVariants as touch
 use Rattle.queue_steps.specs.declared.steps.types.Word.{Word}
-use Rattle.block_web.specs.Web.{State, Block, Sitter, Allows, AllowsLink, sitter, alive_at}
+use Rattle.block_web.specs.Web.{State, Block, Sitter, Allows, AllowsLink, sitter}
 use Rattle.block_web.specs.declared.block.Link.{Link as Place}
 use Rattle.block_web.specs.declared.hub.TheConstants.{TAIL}
 use Rattle.block_web.specs.declared.sizes.TheConstants.{SLOTS}
 use Rattle.queue_parties.specs.declared.known.Doing.{Doing}
 use Rattle.queue_parties.specs.declared.known.InCall.{InCall}
 use Rattle.queue_parties.specs.Calling.{touched_list}
-use Rattle.queue_parties.specs.CallsAt.{Ready}
 use Rattle.queue_parties.specs.Operations.{op_word, op_makes, answer_for}
 use Rattle.chain_web.specs.Spots.{spot}
-use Rattle.chain_web.specs.Names.{link_of, name_map, word_map, link_map, op_map, answer_map}
-use Rattle.chain_web.specs.Rule.{Rule, lead_of}
-use Rattle.chain_web.specs.Steps.{HasWord, MayDo, MayTouch, fresh_at, op_place, word_index, link_makes, hand_by, slot_block, carried_by, Follows, FollowsLink, FollowsGrant}
+use Rattle.chain_web.specs.Names.{link_of, word_map, link_map, op_map, answer_map}
+use Rattle.chain_web.specs.Rule.{Rule}
+use Rattle.chain_web.specs.Steps.{MayDo, MayTouch, fresh_at, op_place, word_index, link_makes, hand_by, slot_block, carried_by, Follows, FollowsLink, FollowsGrant}
 use Rattle.chain_web.specs.Turning.{CanOperate, Operated, carried_place}
 use Rattle.chain_web.proofs.Allowed.{IsWordOp, IsRead, allows_word, allows_link, allows_store}
 use Rattle.chain_web.proofs.Asking.{allows_grant, allows_refusal}

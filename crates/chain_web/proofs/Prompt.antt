@@ -1,5 +1,5 @@
 -- The prompt calls on a chain end by their second step.
-use Rattle.std.proofs.Common.{ℕ, ◌≡◌, true, refl}
+use Rattle.std.proofs.Common.{ℕ, ◌≡◌, true}
 use Rattle.queue_steps.specs.declared.model.Call.{Call}
 use Rattle.queue_steps.specs.declared.model.Call.TheVariants as call
 use Rattle.queue_steps.specs.declared.steps.types.Answer.{Answer}

@@ -1,33 +1,24 @@
 -- The steps of a chain ask nothing of the names of blocks: with other names the next step is the same, with those names.
-use Rattle.std.proofs.Common.{ℕ, ◌+◌, ◌-◌, ◌*◌, ◌%◌, ◌≡◌, ◌==◌, Bool, true, false, not, if◌then◌else◌, Option, Some, None, IsSome, Ok, Err, refl, bit_and}
+use Rattle.std.proofs.Common.{ℕ, ◌+◌, ◌%◌, ◌≡◌, ◌==◌, Bool, true, false, not, if◌then◌else◌, Option, Some, None, IsSome, refl, bit_and}
 use Rattle.std.specs.Prelude.{nat_lt, is_some}
 use Rattle.queue_steps.specs.declared.sizes.TheConstants.{LIMIT, BLOCK_SLOTS}
-use Rattle.queue_steps.specs.declared.model.Reply.{Reply}
-use Rattle.queue_steps.specs.declared.model.Reply.TheVariants as reply
-use Rattle.queue_steps.specs.declared.errors.PopError.TheVariants as pop
 use Rattle.queue_steps.specs.declared.steps.types.Answer.{Answer}
 use Rattle.queue_steps.specs.declared.steps.types.Answer.TheVariants.{Start, Found, Linked, Granted, Refused, Done}
-use Rattle.queue_steps.specs.declared.steps.types.Link.TheVariants as link
 use Rattle.queue_steps.specs.declared.steps.types.Local.{Local}
 use Rattle.queue_steps.specs.declared.steps.types.Local.TheVariants as local
 use Rattle.queue_steps.specs.declared.steps.types.Next.{Next}
-use Rattle.queue_steps.specs.declared.steps.types.Next.TheVariants as next
-use Rattle.queue_steps.specs.declared.steps.types.Op.TheVariants as op
-use Rattle.queue_steps.specs.declared.steps.types.Touch.TheVariants as touch
-use Rattle.queue_steps.specs.declared.steps.types.Word.TheVariants as word
 use Rattle.queue_steps.specs.declared.steps.bounded.PushKind.{PushKind}
 use Rattle.queue_steps.specs.declared.steps.unbounded.UnboundedLocal.{UnboundedLocal}
 use Rattle.queue_steps.specs.declared.steps.unbounded.UnboundedLocal.TheVariants as chain
 use Rattle.queue_steps.specs.declared.steps.unbounded.TheConstants.{WRITE, READ, DESTROY}
-use Rattle.queue_steps.specs.declared.steps.bounded.TheConstants.{MARK, TAIL_STEP}
 use Rattle.queue_steps.specs.Words.{position_of, is_shut}
 use Rattle.queue_steps.specs.ChainWords.{block_at, offset_of, items_before}
-use Rattle.queue_steps.specs.UnboundedNext.{is_last_slot, chain_tail_found, tail_block_found, granted, installed, lays, claimed, chain_head_found, head_block_found, chain_pop_tail_found, taken, followed, walks_on, written_found, FitsChain, unbounded_begin, unbounded_next}
+use Rattle.queue_steps.specs.UnboundedNext.{is_last_slot, chain_tail_found, tail_block_found, granted, installed, lays, chain_head_found, head_block_found, chain_pop_tail_found, followed, walks_on, FitsChain, unbounded_begin, unbounded_next}
 use Rattle.queue_steps.specs.declared.model.Call.{Call}
 use Rattle.queue_steps.specs.declared.model.Call.TheVariants as call
 use Rattle.queue_steps.specs.declared.steps.types.Kind.TheVariants as queue
-use Rattle.queue_steps.specs.Next.{CanNext, next_of, first_local}
-use Rattle.chain_web.specs.Names.{name_map, word_map, link_map, op_map, answer_map, chain_map, local_map, next_map}
+use Rattle.queue_steps.specs.Next.{CanNext, next_of}
+use Rattle.chain_web.specs.Names.{name_map, answer_map, chain_map, local_map, next_map}
 
 module _ {B C : Type 0} (f : B → C) where
   if_map : (b : Bool) (x y : Next B) (u v : Next C) → u ≡ next_map f x → v ≡ next_map f y → (if b then u else v) ≡ next_map f (if b then x else y)

@@ -1,19 +1,19 @@
 -- Every link of the web can be compared with null, and neither a step of a call nor the acts beside it touch the count of parties.
-use Rattle.std.proofs.Common.{ℕ, zero, suc, ◌+◌, ◌<◌, ◌≤◌, ◌≡◌, ◌≢◌, ◌⊎◌, ◌∙◌, inl, inr, Bool, true, false, Option, Some, None, List, [], ◌∷◌, ◌++◌, length, refl, sym, ap, subst, arith, get_or, set, get_or-set_same, get_or-set_other, length-set, length-append}
+use Rattle.std.proofs.Common.{ℕ, zero, suc, ◌+◌, ◌<◌, ◌≡◌, ◌∙◌, inl, inr, true, false, Some, None, List, [], ◌∷◌, ◌++◌, length, refl, sym, ap, subst, arith, get_or, get_or-set_other, length-set, length-append}
 use mathlib.Core.Logic.{dite}
 use native.Mathlib.Decide.{ℕ_discrete}
-use denote.RawPtr.{Ptr, null_ptr, Testable}
+use denote.RawPtr.{Ptr, Testable}
 use Rattle.queue_steps.specs.declared.steps.types.Op.{Op}
 use Rattle.queue_steps.specs.declared.steps.types.Op.TheVariants as op
-use Rattle.chain_laws.proofs.ChainCells.{Link, Unlinked, Linking, Linked, Shown, Hidden, Showing, Seen, Passer, GivenUp, Use, Chained, Chain, ChainOk, LinkOk, ShownOk}
+use Rattle.chain_laws.proofs.ChainCells.{Link, Unlinked, Linking, Linked, Shown, Hidden, Showing, Seen, Use, Chained, ChainOk, LinkOk, ShownOk}
 use Rattle.chain_laws.proofs.ChainAnswers.{last_of, shown_of, linked_of}
 use Rattle.block_web.specs.Web.{Block, Home, Act, takes, gives, lays, lifts, block, word_of, homed, gone, linked, worded, with_word, with_next, with_home, without, acted, blocks_after, if_unset}
-use Rattle.block_web.specs.declared.hub.TheConstants.{TAIL, PARTIES, HEAD}
+use Rattle.block_web.specs.declared.hub.TheConstants.{PARTIES}
 use Rattle.queue_parties.specs.Operations.{op_word, op_makes}
 use Rattle.chain_web.specs.Spots.{spot}
 use Rattle.chain_web.specs.ChainCalls.{OutChain}
-use Rattle.chain_web.specs.Rule.{lead_of, IsUsed, BlockIs, IsThere, Codes}
-use Rattle.chain_web.specs.Steps.{word_index, is_link, blocks_made}
+use Rattle.chain_web.specs.Rule.{lead_of, IsUsed, IsThere, Codes}
+use Rattle.chain_web.specs.Steps.{word_index, blocks_made}
 use Rattle.chain_web.proofs.Blocks.{word_here, word_else, next_here, next_else, home_here, home_else, gone_here, gone_else}
 
 used_chained : (u : Use) (b : ℕ) → u ≡ Chained b → IsUsed u

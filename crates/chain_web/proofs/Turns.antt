@@ -9,7 +9,7 @@ use Rattle.queue_steps.specs.declared.steps.types.Op.TheVariants as op
 use Rattle.queue_steps.specs.declared.steps.types.Touch.{Touch}
 use Rattle.queue_steps.specs.declared.steps.types.Touch.TheVariants as touch
 use Rattle.queue_steps.specs.declared.steps.types.Word.TheVariants as word
-use Rattle.block_web.specs.Web.{Block, Hand, Sitter, sitter, alive_at}
+use Rattle.block_web.specs.Web.{Block, Hand, Sitter, alive_at}
 use Rattle.block_web.specs.Seats.{Sits, Same}
 use Rattle.block_web.specs.declared.block.Link.{Link as Place}
 use Rattle.block_web.specs.declared.web.Seat.{Seat}

@@ -10,7 +10,7 @@ use Rattle.queue_steps.specs.declared.steps.types.Op.{Op}
 use Rattle.queue_steps.specs.declared.steps.types.Touch.{Touch}
 use Rattle.queue_steps.specs.declared.steps.unbounded.UnboundedLocal.TheVariants as chain
 use Rattle.queue_steps.specs.State.{State}
-use Rattle.chain_laws.proofs.ChainCells.{Writer, Wrote, Reading, Chain, queue_of, ChainOk, Holds, Nothing, writer_of}
+use Rattle.chain_laws.proofs.ChainCells.{Wrote, Reading, Chain, queue_of, ChainOk, Holds, Nothing, writer_of}
 use Rattle.chain_laws.proofs.ChainPasses.{Passes}
 use Rattle.chain_laws.proofs.ChainAt.{At}
 use Rattle.chain_laws.proofs.ChainGiven.{Spares, spare_in}

@@ -1,5 +1,5 @@
 -- What is left of a chain that nobody shares any more, where calls may have been given up on their way.
-use Rattle.std.specs.Prelude.{◌≡◌, ◌≢◌, ◌⊎◌, ℕ, ◌+◌, ◌*◌, ◌^◌, ◌<◌, ◌≤◌, Bool, true, bit_and, List, length, slice_index_or, Option, Some, None}
+use Rattle.std.specs.Prelude.{◌≡◌, ◌≢◌, ◌⊎◌, ℕ, zero, suc, ◌+◌, ◌*◌, ◌^◌, ◌<◌, ◌≤◌, ◌==◌, ◌&&◌, ◌||◌, if◌then◌else◌, nat_lt, Bool, true, false, bit_and, List, length, slice_index_or, Option, Some, None}
 use mathlib.Core.Option.{some}
 use lib.ListN.{get_elem?}
 use denote.RawPtr.{null_ptr, InBlock, Testable}
@@ -15,6 +15,17 @@ pub record SlotLeft {T : Type 0} (taken accepted n i : ℕ) (x : Block T) : Type
   pub read : n < taken → bit_and (slice_index_or x.words i 0) READ ≢ 0 → get_elem? x.homes i ≡ some vacant
   pub written : taken ≤ n → bit_and (slice_index_or x.words i 0) WRITE ≢ 0 → (v : T) × (get_elem? x.homes i ≡ some (full v))
   pub free : accepted ≤ n → get_elem? x.homes i ≡ some vacant
+
+-- whether a call that never ended has that slot: the item was taken and is not read, or it was accepted, was not taken, and is not written
+abbrev pub is_held : {T : Type 0} → ℕ → ℕ → ℕ → ℕ → Block T → Bool
+is_held taken accepted n i x =
+    if nat_lt n taken then bit_and (slice_index_or x.words i 0) READ == 0
+    else (bit_and (slice_index_or x.words i 0) WRITE == 0) && nat_lt n accepted
+
+-- whether such a call has one of the first k slots of a block, whose first slot is that of the item n
+unfoldable pub any_held : {T : Type 0} → ℕ → ℕ → ℕ → ℕ → Block T → Bool
+any_held taken accepted n zero x = false
+any_held taken accepted n (suc k) x = any_held taken accepted n k x || is_held taken accepted (n + k) k x
 
 -- a block, whose first slot is that of the item n
 pub record BlockLeft {T : Type 0} (taken accepted n : ℕ) (x : Block T) : Type 0 where

@@ -7,7 +7,7 @@ use Rattle.queue_steps.specs.declared.sizes.TheConstants.{BLOCK_SLOTS}
 use Rattle.queue_steps.specs.declared.steps.unbounded.TheConstants.{WRITE, READ}
 use Rattle.queue_steps.specs.declared.model.Effect.{Effect}
 use Rattle.queue_steps.specs.Shares.{entire}
-use Rattle.chain_laws.proofs.ChainCells.{Writer, Free, Writing, Wrote, Reader, Unread, Reading, Done, Before, GivenUp, Use, Unused, Spare, Chained, Lost, Chain, item_at, LAST}
+use Rattle.chain_laws.proofs.ChainCells.{Writer, Free, Writing, Wrote, Reader, Unread, Reading, Done, Before, GivenUp, Use, Unused, Spare, Chained, item_at, LAST}
 use Rattle.chain_laws.proofs.ChainAnswers.{tail_word, head_word, last_of, shown_of, linked_of, IsState}
 use Rattle.block_web.specs.Web.{Block, State, Home, block, Lives, word_of, away, vacant, full}
 use Rattle.block_web.specs.declared.hub.TheConstants.{TAIL, PARTIES, HEAD}

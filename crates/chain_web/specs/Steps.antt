@@ -1,5 +1,5 @@
 -- What the step of a call does to the blocks of a web, and what it tells its seat.
-use Rattle.std.specs.Prelude.{◌≡◌, ◌≢◌, ◌⊎◌, ℕ, ◌+◌, ◌-◌, ◌<◌, Bool, true, false, List, [], ◌∷◌, replicate, length, Option, Some, None}
+use Rattle.std.specs.Prelude.{◌≡◌, ◌≢◌, ℕ, ◌+◌, ◌-◌, ◌<◌, Bool, true, false, List, [], ◌∷◌, replicate, length, Option, Some, None}
 use denote.RawPtr.{Ptr, null_ptr}
 use Rattle.queue_steps.specs.declared.sizes.TheConstants.{BLOCK_SLOTS}
 use Rattle.queue_steps.specs.declared.model.Call.{Call}
@@ -32,7 +32,7 @@ use Rattle.chain_laws.proofs.ChainStep.{chain_of, after_of}
 use Rattle.block_web.specs.Web.{Block, Hand, Sitter, Act, block, Lives, word_of, with_word, with_next, if_unset, alive_at, vacant, AllVacant, Mays, blocks_after, sitter_after}
 use Rattle.queue_parties.specs.declared.known.Doing.{Doing}
 use Rattle.queue_parties.specs.declared.known.InCall.{InCall}
-use Rattle.queue_parties.specs.Calling.{handed_by, touched_list}
+use Rattle.queue_parties.specs.Calling.{handed_by}
 use Rattle.queue_parties.specs.CallsAt.{Told}
 use Rattle.queue_parties.specs.Operations.{op_word, op_makes, answer_for}
 use Rattle.chain_web.specs.Spots.{spot}

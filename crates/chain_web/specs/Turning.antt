@@ -1,5 +1,5 @@
 -- What a party's driver may do with a seat at a shared chain, and what that leaves: at run time, where names are places.
-use Rattle.std.specs.Prelude.{◌≡◌, ℕ, length, List, [], ◌∷◌, Option, Some, None, true}
+use Rattle.std.specs.Prelude.{◌≡◌, ℕ, length, Option, Some, None, true}
 use denote.RawPtr.{Ptr, InBlock, null_ptr}
 use Rattle.queue_steps.specs.declared.sizes.TheConstants.{BLOCK_SLOTS}
 use Rattle.queue_steps.specs.declared.model.Call.{Call}

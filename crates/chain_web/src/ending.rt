@@ -1,5 +1,5 @@
 //! How a shared chain ends: as a queue with one owner, or dropped.
-ghost use Rattle.std.specs.Prelude.{◌≡◌, ◌+◌, ◌^◌, ◌<◌, ◌≤◌, None};
+ghost use Rattle.std.specs.Prelude.{◌≡◌, ◌+◌, ◌^◌, ◌<◌, ◌≤◌, not, None};
 ghost use denote.RawPtr.{InBlock, Testable};
 ghost use Rattle.block_web.specs.Web.{block, Lives, word_of, without};
 ghost use Rattle.block_web.specs.Laid.{head_of};
@@ -14,7 +14,7 @@ ghost use Rattle.queue_steps.specs.Words.{position_of};
 ghost use Rattle.queue_steps.specs.ChainWords.{offset_of as spec_offset_of, items_before as spec_items_before};
 ghost use Rattle.exclusive_queue.specs.ChainMemory.{block_of as spec_block_of};
 ghost use Rattle.chain_web.specs.Ending.{LeadsTo, IntoBlock};
-ghost use Rattle.chain_web.specs.Leftover.{SlotLeft, BlockLeft, BlocksLeft, SameBut, Emptied};
+ghost use Rattle.chain_web.specs.Leftover.{SlotLeft, BlockLeft, BlocksLeft, SameBut, Emptied, is_held, any_held};
 
 use crate::ends::Ends;
 use crate::rule::Chained;
@@ -194,6 +194,7 @@ fn empty_block<T: Drop, A: Allocator>(
     requires small { first ≤ 2 ^ 62 }
     ensures chain { (chain.new.heap ≡ chain.old.heap) × SameBut number chain.old.blocks chain.new.blocks }
     ensures emptied { Emptied (λ j. j < SLOTS) result (block chain.old.blocks number) (block chain.new.blocks number) }
+    ensures told { result ≡ not (any_held taken accepted first SLOTS (block chain.old.blocks number)) }
 {
     let mut empty = true;
     for slot in 0..SLOTS {
@@ -218,6 +219,7 @@ fn empty_slot<T: Drop, A: Allocator>(
     requires left { SlotLeft taken accepted item slot (block chain.old.blocks number) }
     ensures chain { (chain.new.heap ≡ chain.old.heap) × SameBut number chain.old.blocks chain.new.blocks }
     ensures emptied { Emptied (λ j. j ≡ slot) result (block chain.old.blocks number) (block chain.new.blocks number) }
+    ensures told { result ≡ not (is_held taken accepted item slot (block chain.old.blocks number)) }
 {
     let word = chain.word(number, link, slot);
     if item < taken {

@@ -1,4 +1,4 @@
-use Rattle.std.proofs.Common.{rules, lit<, ap, sym, ◌∙◌, subst, refl, ◌≡◌, ◌+◌, ◌-◌, ◌%◌, ◌^◌}
+use Rattle.std.proofs.Common.{rules, lit<, ap, sym, ◌∙◌, subst, ◌≡◌, ◌+◌, ◌-◌, ◌%◌, ◌^◌}
 use Rattle.queue_parties.specs.Doings.{IsResting}
 use Rattle.queue_parties.specs.Parting.{BecameOne, IsParty, Joins}
 use Rattle.queue_parties.proofs.Crowds.{joins_up, unites_two}
