@@ -15,7 +15,7 @@ mod table;
 mod touching;
 mod turns;
 
-pub use exclusive_queue::{Exclusive, exclusive as exclusive};
+pub use exclusive_queue::{Exclusive, Store, exclusive as exclusive, run};
 pub use queue_steps::errors::{ForcePushError, PopError, PushError};
 pub use queue_steps::{errors as errors, model as model, steps as steps};
 pub use shared::{ConcurrentQueue, Party};

@@ -8,7 +8,7 @@ pub mod Layings
 pub mod LineBegins
 pub mod ChainBegins
 pub mod Pops
+pub mod SoleRuns
 mod Soundness
-mod Answered
 pub mod RingWrites
 pub mod Sent

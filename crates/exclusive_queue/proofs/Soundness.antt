@@ -2,12 +2,15 @@
 use Rattle.std.proofs.Common.{◌-◌, ◌≤◌, length, Option, Some, None, refl, arith, inl, inr}
 use Rattle.queue_steps.specs.Words.{position_of}
 use Rattle.queue_steps.specs.Legal.{IsSoundOwned}
-use Rattle.exclusive_queue.specs.SingleCells.{items_in}
+use Rattle.exclusive_queue.specs.SingleCells.{items_in, single_owned, IsIdle as IsSlotIdle}
 use Rattle.exclusive_queue.specs.RingKeeps.{length-items_of}
 use Rattle.exclusive_queue.specs.RingCells.{RingState}
 use Rattle.exclusive_queue.specs.RingOwned.{IsIdle, ring_owned}
 use Rattle.exclusive_queue.specs.LineSole.{holds-blocks}
+use Rattle.exclusive_queue.specs.LineCells.{Line}
+use Rattle.exclusive_queue.specs.LineOwned.{line_owned, IsIdle as IsLineIdle}
 use Rattle.exclusive_queue.specs.Exclusive.{form_owned, IsFormIdle}
+use Rattle.exclusive_queue.specs.declared.single.Single.{Single as Slot}
 use Rattle.exclusive_queue.specs.declared.exclusive.Form.{Form}
 use Rattle.exclusive_queue.specs.declared.exclusive.Form.TheVariants as form
 
@@ -15,16 +18,20 @@ one_at_most : {T : Type 0} (item : Option T) → length (items_in item) ≤ 1
 one_at_most None = omega arith
 one_at_most (Some x) = omega arith
 
-sound_ring : {T : Type 0} (r : RingState T) → IsIdle r → IsSoundOwned (ring_owned r)
+pub sound_ring : {T : Type 0} (r : RingState T) → IsIdle r → IsSoundOwned (ring_owned r)
 sound_ring r idle =
     let order = idle.holds.order in
     let within = idle.holds.within in
     let long = length-items_of r.cap r.head (position_of r.tail - r.head) r.slots (λ p from to. idle.holds.filled p from (omega arith)) in
     (record { none_coming = refl; within = (idle.holds.some, omega arith); counted = inr idle.below }, inl refl)
 
+pub sound_slot : {T : Type 0} (s : Slot T) → IsSlotIdle s → IsSoundOwned (single_owned s)
+sound_slot s idle = (record { none_coming = refl; within = (omega arith, one_at_most s.item); counted = inl refl }, inl refl)
+
+pub sound_blocks : {T : Type 0} (l : Line T) → IsLineIdle l → IsSoundOwned (line_owned l)
+sound_blocks l idle = (record { none_coming = refl; within = tt; counted = inr idle.below }, holds-blocks l idle)
+
 pub sound : {T A : Type 0} (f : Form T A) → IsFormIdle f → IsSoundOwned (form_owned f)
-sound (form.Single s) idle =
-    (record { none_coming = refl; within = (omega arith, one_at_most s.item); counted = inl refl }, inl refl)
+sound (form.Single s) idle = sound_slot s idle
 sound (form.Bounded r) idle = sound_ring r idle
-sound (form.Unbounded r) idle =
-    (record { none_coming = refl; within = tt; counted = inr idle.below }, holds-blocks r idle)
+sound (form.Unbounded l) idle = sound_blocks l idle

@@ -17,7 +17,9 @@ ghost use Rattle.queue_steps.specs.declared.model.Reply.TheVariants as reply;
 
 use crate::bounded::Ring;
 use crate::driver::{drive, drive_apart, observe};
+use crate::sealed::Sealed;
 use crate::single::Single;
+use crate::store::Store;
 use crate::unbounded::{LinkedBlocks, Name};
 use atomic_table::Closed;
 use block_web::chain::Chain;
@@ -33,15 +35,6 @@ use std::marker::Model;
 pub struct Exclusive<T, A: Allocator = Global> {
     form: Form<T, A>,
 }
-
-/// The calls, for the driver: each has rounds of its own.
-struct Pushes;
-
-struct Displaces;
-
-struct Pops;
-
-struct Closes;
 
 /// How the items are kept.
 enum Form<T, A: Allocator> {
@@ -123,6 +116,29 @@ impl<T, A: Allocator> Form<T, A> {
             Form::Bounded(ring) => observe::<T, (), Ring<T, A>>(ring, call),
             Form::Unbounded(blocks) => observe::<T, Name<T>, LinkedBlocks<T, A>>(blocks, call),
         }
+    }
+}
+
+impl<T, A: Allocator> Sealed<T> for Exclusive<T, A> {
+    ghost idle = { λ _. Unit {0} };
+
+    ghost owned = { λ queue. queue };
+
+    #[inline(always)]
+    fn answer<W>(&mut self, call: Call<T>) -> Reply<T>
+        ensures idle { Unit {0} }
+        ensures sole { Sole self.old call result self.new }
+    {
+        self.form.answer::<W>(call)
+    }
+
+    #[inline(always)]
+    fn look(&self, call: CallKind) -> ReplyKind {
+        self.form.look(call)
+    }
+
+    fn show_sound(&self) {
+        let _ = &self.form;
     }
 }
 
@@ -246,7 +262,7 @@ impl<T, A: Allocator> Exclusive<T, A> {
     pub fn show_sound(&self)
         ensures { IsSoundOwned self.now }
     {
-        let _ = &self.form;
+        Sealed::show_sound(self);
     }
 
     /// Appends `value`.
@@ -259,10 +275,7 @@ impl<T, A: Allocator> Exclusive<T, A> {
     pub fn push(&mut self, value: T) -> Result<(), PushError<T>>
         ensures { Sole self.old (call.Push value) (reply.Push result) self.new }
     {
-        match self.form.answer::<Pushes>(Call::Push(value)) {
-            Reply::Push(result) => result,
-            _ => unreachable!(),
-        }
+        Store::push(self, value)
     }
 
     /// Appends `value`, and takes the front off and hands it out where the queue was full.
@@ -275,10 +288,7 @@ impl<T, A: Allocator> Exclusive<T, A> {
     pub fn force_push(&mut self, value: T) -> Result<Option<T>, ForcePushError<T>>
         ensures { Sole self.old (call.ForcePush value) (reply.ForcePush result) self.new }
     {
-        match self.form.answer::<Displaces>(Call::ForcePush(value)) {
-            Reply::ForcePush(result) => result,
-            _ => unreachable!(),
-        }
+        Store::force_push(self, value)
     }
 
     /// Takes the front off.
@@ -289,70 +299,49 @@ impl<T, A: Allocator> Exclusive<T, A> {
     pub fn pop(&mut self) -> Result<T, PopError>
         ensures { Sole self.old call.Pop (reply.Pop result) self.new }
     {
-        match self.form.answer::<Pops>(Call::Pop) {
-            Reply::Pop(result) => result,
-            _ => unreachable!(),
-        }
+        Store::pop(self)
     }
 
     /// Closes the queue, and tells whether this call did it. The items stay.
     pub fn close(&mut self) -> bool
         ensures { Sole self.old call.Close (reply.Close result) self.new }
     {
-        match self.form.answer::<Closes>(Call::Close) {
-            Reply::Close(result) => result,
-            _ => unreachable!(),
-        }
+        Store::close(self)
     }
 
     /// Whether the queue is closed.
     pub fn is_closed(&self) -> bool
         ensures { result ≡ self.now.queue.closed }
     {
-        match self.form.look(Call::IsClosed) {
-            Reply::IsClosed(result) => result,
-            _ => unreachable!(),
-        }
+        Store::is_closed(self)
     }
 
     /// Whether the queue has no item.
     pub fn is_empty(&self) -> bool
         ensures { result ≡ is_empty self.now.queue.items }
     {
-        match self.form.look(Call::IsEmpty) {
-            Reply::IsEmpty(result) => result,
-            _ => unreachable!(),
-        }
+        Store::is_empty(self)
     }
 
     /// Whether the queue has as many items as its capacity.
     pub fn is_full(&self) -> bool
         ensures { result ≡ is_full self.now.queue }
     {
-        match self.form.look(Call::IsFull) {
-            Reply::IsFull(result) => result,
-            _ => unreachable!(),
-        }
+        Store::is_full(self)
     }
 
     /// The number of items.
     pub fn len(&self) -> usize
         ensures { result ≡ length self.now.queue.items }
     {
-        match self.form.look(Call::Len) {
-            Reply::Len(result) => result,
-            _ => unreachable!(),
-        }
+        Store::len(self)
     }
 
     /// The capacity in items, or none.
     pub fn capacity(&self) -> Option<usize>
         ensures { result ≡ self.now.queue.cap }
     {
-        match self.form.look(Call::Capacity) {
-            Reply::Capacity(result) => result,
-            _ => unreachable!(),
-        }
+        Store::capacity(self)
     }
 
     /// The number of blocks that the queue holds: those from the front's to the one where the next item goes, and none where the queue has a capacity.

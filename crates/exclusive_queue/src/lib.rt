@@ -6,7 +6,9 @@ mod cells;
 mod driver;
 pub mod exclusive;
 pub mod ring_words;
+mod sealed;
 mod single;
+pub mod store;
 mod unbounded;
 pub mod vacant;
 
@@ -14,3 +16,4 @@ pub use exclusive::Exclusive;
 pub use queue_steps::errors::{ForcePushError, PopError, PushError};
 pub use queue_steps::{errors as errors, model as model, steps as steps};
 pub use single::Single;
+pub use store::{Store, run};

@@ -1,5 +1,5 @@
 -- What a script prints is put part by part: the replies, the line of the blocks, and what is left.
-use Rattle.std.proofs.Common.{◌≡◌, ℕ, List, [], ◌++◌, Option, Result, Ok, Err, MatchResult, OnErr, refl}
+use Rattle.std.proofs.Common.{◌≡◌, ℕ, List, [], ◌++◌, Option, Result, Ok, Err, MatchResult, OnErr, refl, inr}
 use Rattle.std.specs.Io.KnownBytes.{Appends}
 use Rattle.queue_steps.specs.Sole.{Owned, fresh}
 use Rattle.queue_steps.specs.declared.model.Call.{Call}
@@ -10,6 +10,7 @@ use Rattle.queue_text.specs.declared.args.KindName.{KindName}
 use Rattle.queue_text.specs.declared.faults.Fault.{Fault}
 use Rattle.queue_text.specs.declared.faults.Fault.TheVariants as fault
 use Rattle.queue_text.proofs.Writing.{begun-more, rest-then, begun-then, rest-all, rest-begun}
+use Rattle.queue_command.proofs.Playing.{played_none, played_so}
 use Rattle.queue_command.specs.Left.{left_text}
 use Rattle.queue_command.specs.Runs.{IsWritten, IsPartWritten, IsWriteFault}
 use Rattle.queue_command.specs.Scripts.{PlaysAs, BeginsToPlay, IsTranscript, blocks_text}
@@ -34,6 +35,11 @@ part_of_replies k calls P held old new made none played =
       is_text = record { replies = b.replies; after = b.after; plays = b.plays; written = refl };
       output = begun-more old new (replies ++ blocks) left (begun-more old new replies blocks b.begun);
     }
+
+-- nothing could be put
+pub part_of_none : (k : KindName) (calls : List (Call ℕ)) (old : Option (List ℕ)) → IsPartWritten (IsTranscript k calls) old old
+part_of_none k calls old =
+    let P : Owned ℕ = fresh (capacity_of k) in part_of_replies k calls P [] old old refl refl (played_so P P calls calls [] [] old old (played_none P calls calls [] old refl))
 
 -- the line of the blocks could not be put
 pub part_of_blocks : (k : KindName) (calls : List (Call ℕ)) (Q : Owned ℕ) (count : ℕ) (kept : List ℕ) (old now new : Option (List ℕ)) → Played k calls Q kept old now → count ≡ Q.blocks → IsBegun now new (kept ++ blocks_text k count)
@@ -83,4 +89,4 @@ all_put k calls Q count kept mid last old now next then new r played counts told
     by_end : (r : Result Unit Fault) → MatchResult r (λ u. Appends then new last) (λ why. why ≡ fault.OutputFailed) → OnErr r (IsBegun then new last)
         → MatchResult r (λ u. IsWritten (IsTranscript k calls) old new) (IsWriteFault (IsTranscript k calls) old new)
     by_end (Ok u) wrote begun = record { text = text; is_text = is_text; output = rest-all old then new text last put wrote }
-    by_end (Err why) failed begun = rw failed (record { text = text; is_text = is_text; output = rest-begun old then new text last put begun })
+    by_end (Err why) failed begun = (inr failed, record { text = text; is_text = is_text; output = rest-begun old then new text last put begun })

@@ -12,7 +12,7 @@ use Rattle.queue_text.specs.declared.faults.Fault.TheVariants as fault
 use Rattle.queue_threads.specs.Counts.{IsCounted}
 use Rattle.queue_threads.specs.Meetings.{Handshake}
 use Rattle.queue_command.specs.Reports.{IsReport}
-use Rattle.queue_command.specs.Runs.{IsRun, IsRunFault}
+use Rattle.queue_command.specs.Runs.{IsRun, IsRunFault, IsPartRunFault}
 use Rattle.queue_command.specs.Scripts.{IsTranscript}
 use Rattle.queue_threads.specs.Verdicts.{verdict_status, IsOutputFault}
 use Rattle.queue_threads.specs.declared.verdict.Verdict.{Verdict}
@@ -35,7 +35,7 @@ Does form.Handshake known old new v = Handshake old new v
 
 -- the work of the form met this fault
 abbrev pub Fails : Form → Option (List ℕ) → Option (List ℕ) → Option (List ℕ) → Fault → Type 0
-Fails (form.Script k) known old new why = IsRunFault IsCallOfWord call_text (IsTranscript k) known old new why
+Fails (form.Script k) known old new why = IsPartRunFault IsCallOfWord call_text (IsTranscript k) known old new why
 Fails (form.Replay k parties) known old new why = IsRunFault IsReplayLine replay_line_text (IsReport k parties) known old new why
 Fails (form.Threads l) known old new why = IsOutputFault old new why
 Fails form.Handshake known old new why = IsOutputFault old new why

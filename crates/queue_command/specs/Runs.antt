@@ -1,5 +1,5 @@
 -- A run of the program whatever the lines of its input say, and how it may end.
-use Rattle.std.specs.Prelude.{ℕ, List, Option}
+use Rattle.std.specs.Prelude.{◌≡◌, ◌⊎◌, ℕ, List, Option}
 use Rattle.std.specs.Io.KnownBytes.{Appends, Keeps}
 use Rattle.queue_text.specs.Lines.{lines_of, AreRead, IsFirstUnread}
 use Rattle.queue_text.specs.Streams.{IsBegun, IsInput}
@@ -34,6 +34,11 @@ IsRunFault IsValue text_of IsTold known old new fault.NoMemory = Keeps old new
 IsRunFault IsValue text_of IsTold known old new fault.InputFailed = Keeps old new
 IsRunFault IsValue text_of IsTold known old new fault.OutputFailed = IsBegunRun IsValue text_of IsTold known old new
 
+-- the same of a run that asks for memory while it writes. Where there is none, nothing is written, or a beginning once each line was read
+abbrev pub IsPartRunFault : {V : Type 0} → (V → Type 0) → (V → List ℕ) → (List V → List ℕ → Type 0) → Option (List ℕ) → Option (List ℕ) → Option (List ℕ) → Fault → Type 0
+IsPartRunFault IsValue text_of IsTold known old new fault.NoMemory = Keeps old new ⊎ IsBegunRun IsValue text_of IsTold known old new
+IsPartRunFault IsValue text_of IsTold known old new why = IsRunFault IsValue text_of IsTold known old new why
+
 -- a text of this sort was written
 pub record IsWritten (IsText : List ℕ → Type 0) (old new : Option (List ℕ)) : Type 0 where
   pub text : List ℕ
@@ -46,8 +51,10 @@ pub record IsPartWritten (IsText : List ℕ → Type 0) (old new : Option (List 
   pub is_text : IsText text
   pub output : IsBegun old new text
 
--- why no text of this sort was written to its end. But for a failed write, nothing is written then
+-- what may end a run while it writes
+abbrev pub IsPartFault : Fault → Type 0
+IsPartFault why = (why ≡ fault.NoMemory) ⊎ (why ≡ fault.OutputFailed)
+
+-- no text of this sort was written to its end, and why. A beginning of one was
 abbrev pub IsWriteFault : (List ℕ → Type 0) → Option (List ℕ) → Option (List ℕ) → Fault → Type 0
-IsWriteFault IsText old new fault.NoMemory = Keeps old new
-IsWriteFault IsText old new fault.OutputFailed = IsPartWritten IsText old new
-IsWriteFault IsText old new _ = ⊥
+IsWriteFault IsText old new why = IsPartFault why × IsPartWritten IsText old new

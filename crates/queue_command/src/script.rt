@@ -1,17 +1,16 @@
 //! A script: calls on a queue with one owner, their replies, and the items that are left.
 ghost use Rattle.std.specs.Prelude.{◌≡◌, [], ◌∷◌, ◌++◌, IfOk, MatchResult};
 ghost use Rattle.std.specs.Fmt.{decimal};
-ghost use Rattle.queue_steps.specs.Sole.{Sole, HoldsBlocks, fresh};
+ghost use Rattle.queue_steps.specs.Sole.{SoleRun, fresh};
 ghost use Rattle.queue_text.specs.Calls.{call_text, IsCallOfWord};
 ghost use Rattle.queue_text.specs.KindNames.{IsKindName, capacity_of};
-ghost use Rattle.queue_text.specs.Replies.{reply_text, number_text};
+ghost use Rattle.queue_text.specs.Replies.{reply_text, replies_text, number_text};
 ghost use Rattle.queue_text.specs.Streams.{Puts};
-ghost use Rattle.queue_text.specs.declared.faults.Fault.TheVariants as fault;
 ghost use Rattle.queue_command.specs.Left.{left_text};
-ghost use Rattle.queue_command.specs.Runs.{IsRun, IsRunFault, IsWritten, IsWriteFault};
+ghost use Rattle.queue_command.specs.Runs.{IsRun, IsPartRunFault, IsWritten, IsPartFault, IsWriteFault};
 ghost use Rattle.queue_command.specs.Scripts.{PlaysAs, BeginsToPlay, IsTranscript, blocks_text};
 
-use concurrent_queue::exclusive::Exclusive;
+use concurrent_queue::{Exclusive, run};
 use queue_steps::model::{Call, Reply};
 use queue_text::args::KindName;
 use queue_text::faults::Fault;
@@ -21,12 +20,17 @@ use queue_text::streams::{Pieces, read_input};
 use std::alloc::{AllocError, Allocator};
 use std::io::{Read, Write};
 
+/// How many calls are run at a time, so that their replies are written while the script runs.
+pub const CALLS_AT_ONCE: usize = 1_024;
+
+const _: () = prove!(CALLS_AT_ONCE == 1_024);
+
 /// Reads a script, runs it on a queue of this kind, and writes the replies, the blocks that a queue without a capacity holds, and what is left.
 ///
 /// # Errors
 ///
-/// `InputFailed`, then `Unreadable`, then `OutputFailed`, and `NoMemory` wherever it is met. On `OutputFailed` a
-/// beginning of the right output may be written.
+/// `InputFailed`, then `Unreadable`, then `OutputFailed`, and `NoMemory` wherever it is met. On `OutputFailed`, and on
+/// `NoMemory` once the lines are read, a beginning of the right output may be written.
 pub fn script<A: Allocator, I: Read, O: Write>(
     alloc: &A,
     kind: KindName,
@@ -37,7 +41,7 @@ pub fn script<A: Allocator, I: Read, O: Write>(
     ensures { MatchResult result
         (λ _. IsRun IsCallOfWord call_text (IsTranscript kind)
         (I.remaining input.old) (O.contents output.old) (O.contents output.new))
-        (IsRunFault IsCallOfWord call_text (IsTranscript kind)
+        (IsPartRunFault IsCallOfWord call_text (IsTranscript kind)
         (I.remaining input.old) (O.contents output.old) (O.contents output.new)) }
 {
     let bytes = read_input(alloc, input)?;
@@ -49,7 +53,7 @@ pub fn script<A: Allocator, I: Read, O: Write>(
 ///
 /// # Errors
 ///
-/// `NoMemory` before anything is written, and `OutputFailed`, where a beginning of the right output may be written.
+/// `NoMemory` and `OutputFailed`; a beginning of the right output may be written then.
 pub fn transcript<A: Allocator, O: Write>(
     alloc: &A,
     kind: KindName,
@@ -67,7 +71,7 @@ pub fn transcript<A: Allocator, O: Write>(
     let Ok(mut pieces) = Pieces::new(alloc) else {
         return Err(Fault::NoMemory);
     };
-    play(&mut queue, calls, &mut pieces, output)?;
+    play(alloc, &mut queue, calls, &mut pieces, output)?;
     put_blocks(kind, queue.blocks(), &mut pieces, output)?;
     drain(&mut queue, &mut pieces, output)?;
     pieces.end(output)
@@ -101,21 +105,48 @@ fn put_blocks<A: Allocator, O: Write>(
     }
 }
 
-// Runs the calls, and puts the reply to each as a line.
-fn play<A: Allocator, B: Allocator, O: Write>(
+// Runs the calls, a part of them at a time, and puts the reply to each as a line.
+fn play<A: Allocator + Copy, O: Write>(
+    alloc: A,
     queue: &mut Exclusive<u64, A>,
     calls: &[Call<u64>],
-    pieces: &mut Pieces<B>,
+    pieces: &mut Pieces<A>,
     output: &mut O,
 ) -> Result<(), Fault>
     ensures { MatchResult result
         (λ _. PlaysAs queue.old calls.now queue.new pieces.old pieces.new (O.contents output.old) (O.contents output.new))
-        (λ why. (why ≡ fault.OutputFailed) × BeginsToPlay queue.old calls.now pieces.old (O.contents output.old) (O.contents output.new)) }
+        (λ why. IsPartFault why × BeginsToPlay queue.old calls.now pieces.old (O.contents output.old) (O.contents output.new)) }
 {
-    for call in calls {
-        queue.show_sound();
-        let reply = answer(queue, *call);
-        put_reply(reply, pieces, output)?;
+    for part in calls.chunks(CALLS_AT_ONCE) {
+        let Ok(replies) = answers(alloc, queue, part) else {
+            return Err(Fault::NoMemory);
+        };
+        put_replies(&replies, pieces, output)?;
+    }
+    Ok(())
+}
+
+// Makes the calls, and gives the replies to them.
+fn answers<A: Allocator + Copy>(
+    alloc: A,
+    queue: &mut Exclusive<u64, A>,
+    calls: &[Call<u64>],
+) -> Result<Vec<Reply<u64>, A>, AllocError>
+    ensures { IfOk result (λ replies. SoleRun queue.old calls.now replies.items queue.new) }
+{
+    run(alloc, queue, Vec::from_slice(alloc, calls)?)
+}
+
+// Puts each reply as a line.
+fn put_replies<A: Allocator, O: Write>(
+    replies: &[Reply<u64>],
+    pieces: &mut Pieces<A>,
+    output: &mut O,
+) -> Result<(), Fault>
+    ensures { Puts pieces.old (replies_text replies.now) pieces.new (O.contents output.old) (O.contents output.new) result }
+{
+    for reply in replies {
+        put_reply(*reply, pieces, output)?;
     }
     Ok(())
 }
@@ -158,24 +189,6 @@ fn put_some<A: Allocator, O: Write>(
     match number {
         Some(number) => pieces.put_number(number, output),
         None => Ok(()),
-    }
-}
-
-// Makes one call.
-fn answer<A: Allocator>(queue: &mut Exclusive<u64, A>, call: Call<u64>) -> Reply<u64>
-    requires { HoldsBlocks queue.old }
-    ensures { Sole queue.old call result queue.new }
-{
-    match call {
-        Call::Push(value) => Reply::Push(queue.push(value)),
-        Call::ForcePush(value) => Reply::ForcePush(queue.force_push(value)),
-        Call::Pop => Reply::Pop(queue.pop()),
-        Call::Close => Reply::Close(queue.close()),
-        Call::IsClosed => Reply::IsClosed(queue.is_closed()),
-        Call::IsEmpty => Reply::IsEmpty(queue.is_empty()),
-        Call::IsFull => Reply::IsFull(queue.is_full()),
-        Call::Len => Reply::Len(queue.len()),
-        Call::Capacity => Reply::Capacity(queue.capacity()),
     }
 }
 

@@ -14,3 +14,5 @@ mod one_slot;
 mod rings;
 #[cfg(test)]
 mod rows;
+#[cfg(test)]
+mod runs;

@@ -1,0 +1,190 @@
+//! The calls of a queue with one owner, however it keeps its items, and runs of them.
+ghost use Rattle.std.specs.Prelude.{◌≡◌, length, MatchResult};
+ghost use Rattle.queue_steps.specs.State.{is_full};
+ghost use Rattle.queue_steps.specs.Replies.{is_empty};
+ghost use Rattle.queue_steps.specs.Legal.{IsSoundOwned};
+ghost use Rattle.queue_steps.specs.Sole.{Sole, SoleRun};
+ghost use Rattle.queue_steps.specs.declared.model.Call.TheVariants as call;
+ghost use Rattle.queue_steps.specs.declared.model.Reply.TheVariants as reply;
+
+use crate::sealed::Sealed;
+use queue_steps::errors::{ForcePushError, PopError, PushError};
+use queue_steps::model::{Call, Reply};
+use std::alloc::{AllocError, Allocator};
+
+/// The calls, for the driver: each has rounds of its own.
+struct Pushes;
+
+struct Displaces;
+
+struct Pops;
+
+struct Closes;
+
+/// A queue with one owner, whichever way it keeps its items: `Exclusive`, and each of its three forms.
+///
+/// A contract sees the abstract queue and the number of blocks that it holds, `owned`, and whether no call is on its way, `idle`, which is so
+/// before and after each call. Each call answers by the table of one owner, `Sole`. No other crate can implement this trait.
+pub trait Store<T>: Sealed<T> {
+    /// Appends `value`.
+    ///
+    /// # Errors
+    ///
+    /// `Closed` with the value on a closed queue, `Full` with the value on a full one, `NoMemory` with the value where a block was asked for and refused. A queue that has accepted `LIMIT` items answers `Closed`, and is closed from then on.
+    fn push(&mut self, value: T) -> Result<(), PushError<T>>
+        requires { Self.idle self.old }
+        ensures idle { Self.idle self.new }
+        ensures sole { Sole (Self.owned self.old) (call.Push value) (reply.Push result) (Self.owned self.new) }
+    {
+        match self.answer::<Pushes>(Call::Push(value)) {
+            Reply::Push(result) => result,
+            _ => unreachable!(),
+        }
+    }
+
+    /// Appends `value`, and takes the front off and hands it out where the queue was full.
+    ///
+    /// # Errors
+    ///
+    /// `Closed` with the value on a closed queue, `NoMemory` with the value where a block was asked for and refused.
+    fn force_push(&mut self, value: T) -> Result<Option<T>, ForcePushError<T>>
+        requires { Self.idle self.old }
+        ensures idle { Self.idle self.new }
+        ensures sole { Sole (Self.owned self.old) (call.ForcePush value) (reply.ForcePush result) (Self.owned self.new) }
+    {
+        match self.answer::<Displaces>(Call::ForcePush(value)) {
+            Reply::ForcePush(result) => result,
+            _ => unreachable!(),
+        }
+    }
+
+    /// Takes the front off.
+    ///
+    /// # Errors
+    ///
+    /// On an empty queue `Empty`, or `Closed` if it is closed.
+    fn pop(&mut self) -> Result<T, PopError>
+        requires { Self.idle self.old }
+        ensures idle { Self.idle self.new }
+        ensures sole { Sole (Self.owned self.old) call.Pop (reply.Pop result) (Self.owned self.new) }
+    {
+        match self.answer::<Pops>(Call::Pop) {
+            Reply::Pop(result) => result,
+            _ => unreachable!(),
+        }
+    }
+
+    /// Closes the queue, and tells whether this call did it. The items stay.
+    fn close(&mut self) -> bool
+        requires { Self.idle self.old }
+        ensures idle { Self.idle self.new }
+        ensures sole { Sole (Self.owned self.old) call.Close (reply.Close result) (Self.owned self.new) }
+    {
+        match self.answer::<Closes>(Call::Close) {
+            Reply::Close(result) => result,
+            _ => unreachable!(),
+        }
+    }
+
+    /// Whether the queue is closed.
+    fn is_closed(&self) -> bool
+        requires { Self.idle self.now }
+        ensures { result ≡ (Self.owned self.now).queue.closed }
+    {
+        match self.look(Call::IsClosed) {
+            Reply::IsClosed(result) => result,
+            _ => unreachable!(),
+        }
+    }
+
+    /// Whether the queue has no item.
+    fn is_empty(&self) -> bool
+        requires { Self.idle self.now }
+        ensures { result ≡ is_empty (Self.owned self.now).queue.items }
+    {
+        match self.look(Call::IsEmpty) {
+            Reply::IsEmpty(result) => result,
+            _ => unreachable!(),
+        }
+    }
+
+    /// Whether the queue has as many items as its capacity.
+    fn is_full(&self) -> bool
+        requires { Self.idle self.now }
+        ensures { result ≡ is_full (Self.owned self.now).queue }
+    {
+        match self.look(Call::IsFull) {
+            Reply::IsFull(result) => result,
+            _ => unreachable!(),
+        }
+    }
+
+    /// The number of items.
+    fn len(&self) -> usize
+        requires { Self.idle self.now }
+        ensures { result ≡ length (Self.owned self.now).queue.items }
+    {
+        match self.look(Call::Len) {
+            Reply::Len(result) => result,
+            _ => unreachable!(),
+        }
+    }
+
+    /// The capacity in items, or none.
+    fn capacity(&self) -> Option<usize>
+        requires { Self.idle self.now }
+        ensures { result ≡ (Self.owned self.now).queue.cap }
+    {
+        match self.look(Call::Capacity) {
+            Reply::Capacity(result) => result,
+            _ => unreachable!(),
+        }
+    }
+}
+
+impl<T, M: Sealed<T>> Store<T> for M {}
+
+/// Makes one call.
+fn answer<T, S: Store<T>>(store: &mut S, call: Call<T>) -> Reply<T>
+    requires idle { S.idle store.old }
+    requires sound { IsSoundOwned (S.owned store.old) }
+    ensures idle { S.idle store.new }
+    ensures sole { Sole (S.owned store.old) call result (S.owned store.new) }
+{
+    match call {
+        Call::Push(value) => Reply::Push(store.push(value)),
+        Call::ForcePush(value) => Reply::ForcePush(store.force_push(value)),
+        Call::Pop => Reply::Pop(store.pop()),
+        Call::Close => Reply::Close(store.close()),
+        Call::IsClosed => Reply::IsClosed(store.is_closed()),
+        Call::IsEmpty => Reply::IsEmpty(store.is_empty()),
+        Call::IsFull => Reply::IsFull(store.is_full()),
+        Call::Len => Reply::Len(store.len()),
+        Call::Capacity => Reply::Capacity(store.capacity()),
+    }
+}
+
+/// Makes the calls one after another, and gives one reply for each, in their order. Room for all replies is made first.
+///
+/// # Errors
+///
+/// Where there is no memory for the replies, and without a request where they are more bytes than one allocation may have. No call was made
+/// then: the store is as it was, and the values in `calls` are given up.
+pub fn run<T: Drop, S: Store<T>, A: Allocator>(
+    alloc: A,
+    store: &mut S,
+    calls: Vec<Call<T>, A>,
+) -> Result<Vec<Reply<T>, A>, AllocError>
+    requires { S.idle store.old }
+    ensures idle { S.idle store.new }
+    ensures ran { MatchResult result
+        (λ replies. SoleRun (S.owned store.old) calls.items replies.items (S.owned store.new))
+        (λ _. store.new ≡ store.old) }
+{
+    let mut replies = Vec::with_capacity(alloc, calls.len())?;
+    for call in calls {
+        store.show_sound();
+        replies.push_reserved(answer(store, call));
+    }
+    Ok(replies)
+}
