@@ -8,6 +8,8 @@ pub mod Layings
 pub mod LineBegins
 pub mod ChainBegins
 pub mod Pops
+mod Iterations
+mod Texts
 mod Soundness
 mod Answered
 pub mod RingWrites

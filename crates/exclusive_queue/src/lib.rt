@@ -7,6 +7,7 @@ mod driver;
 pub mod exclusive;
 pub mod ring_words;
 mod single;
+pub mod text;
 mod unbounded;
 pub mod vacant;
 
