@@ -1,5 +1,5 @@
 -- What a step of a seat does to the web, while the invariant is open for that step; and the web's first and last moments. Assumes `Logic`.
-use Rattle.block_web.proofs.Walks.{puts_back, id⊢, ◌≡◌, ℕ, ◌+◌, ◌*◌, ◌<◌, List, [], ◌∷◌, ◌++◌, set, sym, refl, subst, arith, w64, None, asks, always, cell, alike, Bool, cond, get_elem?, Ura, Ty, ty_int, vint, vnull, ptr_same, has_ty, WT, full_share, Coded, SProp, ent, sep, wand, ex, all, guard, upd, emp, via, apply∗, all_e, upd_i, Lft, Share, Fml, ftrue, fsep, fex, fbor, finv, flft, Logic, sem, ‵, raw, ◌⊛◌, some, given, later, ◌$◌, ◌∵◌, !, qed, by, move, keep, drop, use0, use1, use2, use3, split, split3, fsplit, fsplit3, fjoin, fjoin3, fpick, fpack, pick, learn, check, show, frame, each, assume, suffices, await, rewrite, settle, done, RattleType, Ptr, block_ptr, null_ptr, ptr_val, block_of, count_of, Testable, nothing, word, Block, Sitter, Act, sitter, block, Lives, word_of, with_word, with_next, blocks_after, sitter_after, if_unset, Allows, AllowsLink, CanFork, CanMerge, LastBlocks, LastBlocksBy, WebId, age, hand_owns, chain_owns, spare_owns, seat_owns, inside_owns, web_owns, SLOTS}
+use Rattle.block_web.proofs.Walks.{puts_back, id⊢, ◌≡◌, ℕ, ◌+◌, ◌*◌, ◌<◌, List, [], ◌∷◌, ◌++◌, set, sym, refl, subst, arith, w64, None, asks, always, cell, alike, Bool, cond, get_elem?, Ura, Ty, ty_int, vint, vnull, ptr_same, has_ty, WT, full_share, Coded, SProp, ent, sep, wand, ex, all, guard, upd, emp, via, apply∗, all_e, upd_i, Lft, Share, Fml, ftrue, fsep, fex, fbor, finv, flft, Logic, sem, ‵, raw, ◌⊛◌, some, given, later, ◌$◌, ◌∵◌, !, qed, by, move, keep, drop, use0, use1, use2, use3, split, split3, fsplit, fsplit3, fjoin, fjoin3, fpick, fpack, pick, learn, check, show, frame, each, assume, suffices, await, rewrite, settle, done, RattleType, Ptr, block_ptr, null_ptr, ptr_val, block_of, count_of, Testable, nothing, word, Block, Sitter, Act, sitter, block, Lives, word_of, with_word, with_next, blocks_after, sitter_after, if_unset, StaysIn, Allows, AllowsLink, CanFork, CanMerge, LastBlocks, LastBlocksBy, WebId, age, hand_owns, chain_owns, spare_owns, seat_owns, inside_owns, web_owns, SLOTS}
 use Rattle.std.proofs.Common.{T}
 use Rattle.std.specs.Sync.RawAtomic.Pointer.{asks_ptr}
 use mathlib.Core.Option as maybe
@@ -142,6 +142,11 @@ module _ {M : Type 1} {𝓤 : Ura M} (𝓛 : Logic 𝓤) (R : RattleType) (token
       reads_first : (gain : Fml) (X : Pr) → ((s : State S V) → holds s → ⟦ roster cv.code γ 0 s.views ⟧ ∗ X ⊢ ex 𝓤 (Unchanged gain s))
           → A.inv (fbor κ I) ∗ A.lft κ q ∗ X ⊢ asks 𝓛 (block_ptr b (count_of p + 8)) (λ n. n) always (λ n. fsep (flft κ q) gain)
       reads_first gain X law = let first : word_place 0 ≡ count_of p + 8 = omega arith in subst (λ (j : ℕ). A.inv (fbor κ I) ∗ A.lft κ q ∗ X ⊢ asks 𝓛 (block_ptr b j) (λ n. n) always (λ n. fsep (flft κ q) gain)) first (reads_by 0 gain X (omega arith) law)
+
+      -- a load without a seat
+      pub peeks : (i : ℕ) → i < SLOTS → StaysIn holds p → A.inv (fbor κ I) ∗ A.lft κ q ∗ ⟦ ftrue ⟧ ⊢ asks 𝓛 (block_ptr b (word_place i)) (λ n. n) always (λ n. fsep (flft κ q) ftrue)
+      peeks i near stays = reads_by i ftrue ⟦ ftrue ⟧ near (λ s so. let r = stays s so in let Z : Pr = ex 𝓤 (Viewed s.blocks ftrue) in
+          qed 𝓛 (‵ (roster cv.code γ 0 s.views) ∷ ‵ ftrue ∷ []) ∵ show ! (Unchanged ftrue s) r.0 $ check ! r.1 $ suffices ! _ (upd_i 𝓤 Z) $ show ! (Viewed s.blocks ftrue) s.views $ check ! so $ done !)
 
       module _ (id : ℕ) (m : Sitter S V) where
         abbrev Found-view : State S V → Type 0

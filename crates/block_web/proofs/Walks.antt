@@ -57,7 +57,7 @@ pub use Rattle.std.proofs.cell.Inside.{Good-round, one, spread, gather}
 pub use Rattle.atomic_table.specs.Seated.{word, row}
 pub use Rattle.atomic_table.proofs.Walks.{proved, proved_at, leaves}
 pub use Rattle.atomic_table.proofs.Calls.{fm, seq_cst, found, stored, finds, has_stored, loads, stores, adds, subs, ors, ands, exchanges}
-pub use Rattle.block_web.specs.Web.{Content, Home, Hand, Block, Sitter, step, sitter, alive_at, away, vacant, full, block, Lives, Rests, AllVacant, word_of, with_word, with_next, with_home, without, gone, if_unset, Allows, AllowsLink, CanFork, CanMerge, LastBlocks, LastBlocksBy, Act, blocks_after, sitter_after}
+pub use Rattle.block_web.specs.Web.{Content, Home, Hand, Block, Sitter, step, sitter, alive_at, away, vacant, full, block, Lives, Rests, AllVacant, word_of, with_word, with_next, with_home, without, gone, if_unset, StaysIn, Allows, AllowsLink, CanFork, CanMerge, LastBlocks, LastBlocksBy, Act, blocks_after, sitter_after}
 pub use Rattle.block_web.specs.Seats.{Sits, Same}
 pub use Rattle.block_web.specs.Laid.{WebId, age, Small, Sized, slots_at, content_owns, slot_owns, slots_own, hand_owns, edge, rim, hub_ty, hub_rooms, hub_rim, head_of, hub_size, block_owns, laid_owns, chain_owns, spare_owns, seat_owns, inside_owns, web_owns, block_ty, rooms}
 pub use mathlib.Core.Bool.{cond}

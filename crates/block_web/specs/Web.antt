@@ -188,6 +188,10 @@ module _ {S V : Type 0} where
     abbrev pub Goes : State S V → List (Block S) → ℕ → Sitter S V → (Sitter S V → Type 0) → Type 0
     Goes s bs id m then = (w : V) × (acts : List (Act S)) × Mays bs m acts × holds record { blocks = blocks_after bs acts; views = slice_set s.views id w } × then (viewed w (sitter_after bs m acts))
 
+    -- Whatever the web is, some block of it lies at p.
+    abbrev pub StaysIn : Ptr → Type 0
+    StaysIn p = (s : State S V) → holds s → (k : ℕ) × Lives s.blocks k p
+
     -- Whatever the web is where the seat id has the seat's view, some block of it lies at p, and the step may turn the block's word i into f of what it was.
     abbrev pub Allows : ℕ → Sitter S V → Ptr → ℕ → (ℕ → ℕ) → (ℕ → Sitter S V → Type 0) → Type 0
     Allows id m p i f then = (s : State S V) → holds s → get_elem? s.views id ≡ some m.view

@@ -5,7 +5,7 @@ ghost use denote.RawPtr.{InBlock, Testable};
 ghost use Rattle.block_web.specs.Seats.{Sits, Same};
 ghost use Rattle.block_web.specs.Words.{becomes, told, IsTold};
 ghost use Rattle.block_web.specs.Links.{leads_to, told_place, IsToldPlace};
-ghost use Rattle.block_web.specs.Web.{step, sitter, if_unset, Allows, AllowsLink, CanFork, CanMerge};
+ghost use Rattle.block_web.specs.Web.{step, sitter, if_unset, StaysIn, Allows, AllowsLink, CanFork, CanMerge};
 
 use crate::block::{Link, Node};
 use crate::operation::{Announces, LinkOperation, Operation, Silent};
@@ -53,6 +53,19 @@ impl<S, V, K, P: WebRule<S, V, K>, A: Allocator> Web<S, V, K, P, A> {
         ensures { Same seat.new seat.old × M.then (step link.ptr word 0 0 None) seat.old.sitter result seat.new.sitter }
     {
         self.operate::<M, Silent>(seat, link, word, Operation::Load, 0, 0, &Silent)
+    }
+
+    /// Reads a word of a block that never leaves the web. It needs no seat, and tells nothing of what it found.
+    #[inline(always)]
+    pub fn peek(&self, link: Link<S>, word: usize) -> u64
+        requires { InBlock link.ptr × (word < SLOTS) × StaysIn (P.holds self.now.key) link.ptr }
+    {
+        unsafe {
+            raw::load::<Brand>(
+                (&raw const (*link.ptr).words as *const u64).add(word),
+                SeqCst,
+            )
+        }
     }
 
     /// Adds to a word, round the end of its range. It answers with the word as it was.

@@ -101,6 +101,16 @@ impl<T, A: Allocator> ChainWeb<T, A> {
         }
     }
 
+    /// The word of the tail's end, by a load without a seat, which tells nothing of the history.
+    pub fn peek_tail(&self) -> u64 {
+        self.web.peek(self.tail, TAIL)
+    }
+
+    /// The word of the head's end, by such a load.
+    pub fn peek_head(&self) -> u64 {
+        self.web.peek(self.head, HEAD)
+    }
+
     /// The request of a call for a block. The seat then carries the block, and a look at the chain tells it.
     #[inline(always)]
     fn ask<S: Source<T, A>, J: Task<T>>(

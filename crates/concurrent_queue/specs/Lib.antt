@@ -15,3 +15,4 @@ pub mod SlotSteps
 pub mod TableParties
 pub mod ChainTurns
 pub mod InWeb
+pub mod SharedIter

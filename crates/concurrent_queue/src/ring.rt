@@ -161,3 +161,13 @@ pub(crate) fn end_ring<T, A: Allocator>(
     let memory = table.close_with(seat);
     Exclusive::of_table(slots, memory)
 }
+
+/// The tail, by a load without a seat, which tells nothing of the history.
+pub(crate) fn peek_tail<T, A: Allocator>(ring: &SharedTable<T, Rings, A>) -> u64 {
+    ring.table.shared.peek(TAIL)
+}
+
+/// The head, by such a load.
+pub(crate) fn peek_head<T, A: Allocator>(ring: &SharedTable<T, Rings, A>) -> u64 {
+    ring.table.shared.peek(HEAD)
+}

@@ -6,6 +6,9 @@ ghost use Rattle.queue_steps.specs.declared.model.Reply.TheVariants as reply;
 ghost use Rattle.queue_steps.specs.Kinds.{call_kind};
 ghost use Rattle.queue_steps.specs.Prompt.{is_prompt};
 ghost use Rattle.queue_steps.specs.Shares.{entire, IsEntire};
+ghost use Rattle.std.specs.Fmt.{WritesOnOk};
+ghost use Rattle.std.specs.Prelude.{ℕ, Bool, codes};
+ghost use Rattle.exclusive_queue.specs.QueueText.{queue_text};
 ghost use Rattle.concurrent_queue.specs.Shared.{IsPartyOf, Calls, Parts, Joins, Meets, Finishes};
 
 use crate::chain;
@@ -13,21 +16,28 @@ use crate::driver::{drive, drive_promptly, drive_shortly};
 use crate::gate::{Gate, Open};
 pub use crate::party::Party;
 use crate::party::{Hold, is_only, join, meet, split};
-use crate::ring::{Rings, end_ring, open_ring};
+use crate::ring::{self, Rings, end_ring, open_ring};
 use crate::shared_chain::SharedChain;
-use crate::slot::{Slots, end_slot, open_slot};
+use crate::slot::{self, Slots, end_slot, open_slot};
 use crate::table::SharedTable;
 use atomic_table::Seat;
 use block_web::low::Low;
 use chain_web::source::{Granting, Refusing, Source};
 use chain_web::web::ChainWeb;
 use exclusive_queue::Exclusive;
+use exclusive_queue::text::write_queue;
 use queue_parties::known::Doing;
 use queue_steps::errors::{ForcePushError, PopError, PushError};
 use queue_steps::model::{Call, Reply};
+use queue_steps::steps::{Kind, shown_len, shows_closed};
 use std::alloc::{AllocError, Allocator, Global};
+use std::fmt;
 use std::marker::Model;
 use std::sync::Wait;
+
+mod iter;
+
+pub use iter::TryIter;
 
 /// A queue that parties share.
 ///
@@ -76,6 +86,50 @@ impl<T: Drop, A: Allocator> Drop for ConcurrentQueue<T, A> {
                 chain.discard(&alloc);
             }
         }
+    }
+}
+
+impl<T, A: Allocator> Form<T, A> {
+    /// Which kind of queue it is.
+    fn kind(&self) -> Kind {
+        match self {
+            Form::Single(_) => Kind::Single,
+            Form::Ring(ring) => Kind::Bounded(ring.slots()),
+            Form::Chain(_) => Kind::Unbounded,
+        }
+    }
+
+    /// The tail, by a load without a seat. One slot has one word, which stands for it.
+    fn peek_tail(&self) -> u64 {
+        match self {
+            Form::Single(slot) => slot::peek_word(slot),
+            Form::Ring(ring) => ring::peek_tail(ring),
+            Form::Chain(queue) => queue.chain.peek_tail(),
+        }
+    }
+
+    /// The head, by such a load. One slot has none, and 0 stands for it.
+    fn peek_head(&self) -> u64 {
+        match self {
+            Form::Single(_) => 0,
+            Form::Ring(ring) => ring::peek_head(ring),
+            Form::Chain(queue) => queue.chain.peek_head(),
+        }
+    }
+}
+
+impl<T, A: Allocator> fmt::Debug for ConcurrentQueue<T, A> {
+    /// Each field is that of a moment of its own, without a party and without waiting: the length is the tail less the head that is read after it, or 0 where
+    /// that is below 0.
+    fn fmt<W: fmt::Write>(&self, f: &mut fmt::Formatter<W>) -> fmt::Result
+        ensures { (len : ℕ) × (closed : Bool) × WritesOnOk W.write_str_gives f.old result (queue_text (codes "ConcurrentQueue") len self.now.cap closed) f.new }
+    {
+        let kind = self.form.kind();
+        let tail = self.form.peek_tail();
+        let head = self.form.peek_head();
+        let len = shown_len(kind, tail, head);
+        let is_closed = shows_closed(kind, self.form.peek_tail());
+        write_queue(f, "ConcurrentQueue", len, self.capacity(), is_closed)
     }
 }
 

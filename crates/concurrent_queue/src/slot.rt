@@ -110,3 +110,8 @@ pub(crate) fn end_slot<T, A: Allocator>(
     closed.free();
     Single { lock, item }
 }
+
+/// The word, by a load without a seat, which tells nothing of the history.
+pub(crate) fn peek_word<T, A: Allocator>(slot: &SharedTable<T, Slots, A>) -> u64 {
+    slot.table.shared.peek(LOCK)
+}

@@ -9,6 +9,8 @@ pub mod LineBegins
 pub mod ChainBegins
 pub mod Pops
 pub mod SoleRuns
+mod Iterations
+mod Texts
 mod Soundness
 pub mod RingWrites
 pub mod Sent

@@ -29,3 +29,5 @@ pub mod LineAnswers
 pub mod Exclusive
 pub mod LinkedBlocks
 pub mod ChainMemory
+pub mod QueueText
+pub mod Iterating

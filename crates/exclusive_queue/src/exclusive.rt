@@ -12,6 +12,7 @@ ghost use Rattle.exclusive_queue.specs.declared.ring_words.TheConstants.{STAMPS}
 ghost use Rattle.std.specs.Mem.Slots.{slots_items, slots_len, IsFull};
 ghost use Rattle.exclusive_queue.specs.LineOwned.{IsIdle as IsLineIdle, line_owned};
 ghost use Rattle.exclusive_queue.specs.ChainMemory.{AreHeld, line_in};
+ghost use Rattle.exclusive_queue.specs.QueueText.{exclusive_text};
 ghost use Rattle.queue_steps.specs.declared.model.Call.TheVariants as call;
 ghost use Rattle.queue_steps.specs.declared.model.Reply.TheVariants as reply;
 
@@ -20,6 +21,7 @@ use crate::driver::{drive, drive_apart, observe};
 use crate::sealed::Sealed;
 use crate::single::Single;
 use crate::store::Store;
+use crate::text::write_queue;
 use crate::unbounded::{LinkedBlocks, Name};
 use atomic_table::Closed;
 use block_web::chain::Chain;
@@ -27,7 +29,12 @@ use block_web::item::{Item, Place};
 use queue_steps::errors::{ForcePushError, PopError, PushError};
 use queue_steps::model::{Call, CallKind, Reply, ReplyKind};
 use std::alloc::{AllocError, Allocator, Global};
+use std::fmt;
 use std::marker::Model;
+
+mod iter;
+
+pub use iter::TryIter;
 
 /// A queue with one owner, first in first out, that can be closed.
 ///
@@ -66,6 +73,14 @@ impl<T: Drop, A: Allocator> Drop for Exclusive<T, A> {
             Form::Bounded(ring) => drop(ring),
             Form::Unbounded(blocks) => give_up(blocks),
         }
+    }
+}
+
+impl<T, A: Allocator> fmt::Debug for Exclusive<T, A> {
+    ghost debug_output = { λ q. Some (exclusive_text q) };
+
+    fn fmt<W: fmt::Write>(&self, f: &mut fmt::Formatter<W>) -> fmt::Result {
+        write_queue(f, "Exclusive", self.len(), self.capacity(), self.is_closed())
     }
 }
 

@@ -9,6 +9,7 @@ pub mod ring_words;
 mod sealed;
 mod single;
 pub mod store;
+pub mod text;
 mod unbounded;
 pub mod vacant;
 

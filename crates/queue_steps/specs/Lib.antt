@@ -13,6 +13,7 @@ pub mod BoundedNext
 pub mod ChainWords
 pub mod UnboundedNext
 pub mod Next
+pub mod ShownWords
 pub mod CommonNext
 pub mod LookNext
 pub mod Shares

@@ -9,11 +9,13 @@ ghost use Rattle.queue_steps.specs.declared.steps.types.Kind.TheVariants as kind
 use crate::model::CallKind;
 
 mod bounded;
+mod shown;
 mod single;
 mod types;
 mod unbounded;
 
 pub use bounded::{BoundedLocal, PushKind, TAIL_STEP};
+pub use shown::{shown_len, shows_closed};
 pub use single::SingleLocal;
 pub use types::{Answer, Kind, Link, Local, Look, Next, Op, Touch, Word};
 pub use unbounded::{READ, UnboundedLocal, WRITE};

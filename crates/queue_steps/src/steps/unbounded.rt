@@ -118,7 +118,7 @@ fn is_last(word: u64) -> bool
 
 /// How many items stand before a position.
 #[inline(always)]
-fn items(position: u64) -> u64
+pub(super) fn items(position: u64) -> u64
     requires { IsWord position }
     ensures { result ≡ items_before position }
 {
