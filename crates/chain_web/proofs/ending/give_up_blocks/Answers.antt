@@ -1,7 +1,7 @@
-use Rattle.std.proofs.Common.{rules, ◌≡◌, ◌⊎◌, inl, inr, List, ◌+◌, ap, subst, sym, ◌∙◌, ◌<◌, arith}
+use Rattle.std.proofs.Common.{rules, ◌≡◌, ◌⊎◌, inl, inr, List, ◌+◌, ap, subst, ◌∙◌, ◌<◌, arith}
 use Rattle.block_web.specs.Web.{Block, block, without}
 use Rattle.block_web.specs.declared.sizes.TheConstants.{SLOTS}
-use Rattle.chain_web.specs.Leftover.{Emptied, SameBut, BlocksLeft, IsHere}
+use Rattle.chain_web.specs.Leftover.{Emptied, BlocksLeft, IsHere}
 use Rattle.chain_web.proofs.Leftovers.{here_within, emptied_vacant, same_behind, left_behind, here_behind}
 use Rattle.chain_web.proofs.ending.give_up_blocks.Goals as goal
 use Rattle.chain_web.proofs.ending.give_up_blocks.Goals.{then-vacated, else-vacated}
