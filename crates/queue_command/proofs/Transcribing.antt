@@ -66,10 +66,10 @@ part_of_left k calls Q count kept mid old now next new played counts told begun 
     }
 
 -- all was put, and what is held was written or not
-pub all_put : (k : KindName) (calls : List (Call ℕ)) (Q : Owned ℕ) (count : ℕ) (kept mid last : List ℕ) (old now next then new : Option (List ℕ)) (r : Result Unit Fault) → Played k calls Q kept old now → count ≡ Q.blocks → LeavesRest now next (kept ++ blocks_text k count) mid
-    → LeavesRest next then (mid ++ left_text Q.queue.items) last → MatchResult r (λ u. Appends then new last) (λ why. why ≡ fault.OutputFailed) → OnErr r (IsBegun then new last)
+pub all_put : (k : KindName) (calls : List (Call ℕ)) (Q : Owned ℕ) (count : ℕ) (kept mid last : List ℕ) (old now next then : Option (List ℕ)) → Played k calls Q kept old now → count ≡ Q.blocks → LeavesRest now next (kept ++ blocks_text k count) mid
+    → LeavesRest next then (mid ++ left_text Q.queue.items) last → (new : Option (List ℕ)) (r : Result Unit Fault) → MatchResult r (λ u. Appends then new last) (λ why. why ≡ fault.OutputFailed) → OnErr r (IsBegun then new last)
     → MatchResult r (λ u. IsWritten (IsTranscript k calls) old new) (IsWriteFault (IsTranscript k calls) old new)
-all_put k calls Q count kept mid last old now next then new r played counts told left wrote begun = by_end r wrote begun
+all_put k calls Q count kept mid last old now next then played counts told left new r wrote begun = by_end r wrote begun
   where
     p : PlaysAs (fresh (capacity_of k)) calls Q [] kept old now
     p = from_fresh k calls Q kept old now played

@@ -16,7 +16,8 @@ pub fetch_sub-requires : goal.fetch_sub-requires
 fetch_sub-requires g c =
     let r = c.requires.of in let k = c.args.web.now.key in let s = c.join.new.seat in
     let both = ap (λ m. m.view) c.join.ensures.1 in
-    (search rules, r.4, lit< tt, recounts k.tail.ptr k.head.ptr s.id s.sitter c.args.tail.ptr (λ n. (n + (2 ^ 64 - 1)) % 2 ^ 64) (λ n. BecameOne) r.5 (λ n vs q at. unites_two q s.id s.sitter.view c.wakes-seat.result.sitter.view.known c.wakes-other.result.sitter.view.known at both))
+    let lowers = recounts k.tail.ptr k.head.ptr s.id s.sitter c.args.tail.ptr (λ n. (n + (2 ^ 64 - 1)) % 2 ^ 64) (λ n. BecameOne) r.5 (λ n vs q at. unites_two q s.id s.sitter.view c.wakes-seat.result.sitter.view.known c.wakes-other.result.sitter.view.known at both) in
+    (search rules, r.4, lit< tt, search (rules, lowers))
 
 pub returns-clause-joined : goal.returns-clause-joined
 returns-clause-joined g c =

@@ -1,10 +1,15 @@
-use Rattle.std.proofs.Common.{rules, lit<, ap, sym, ◌∙◌, subst, ◌≡◌}
+use Rattle.std.proofs.Common.{rules, lit<, ap, sym, ◌∙◌, subst, refl, ◌≡◌, ◌+◌, ◌-◌, ◌%◌, ◌^◌}
+use Rattle.queue_parties.specs.declared.known.Doing.{Doing}
 use Rattle.queue_parties.specs.Doings.{is_busy, IsResting}
 use Rattle.queue_parties.specs.Parting.{SawAll, IsParty, Meets}
 use Rattle.queue_parties.proofs.Crowds.{joins_up, looks_on, splits_apart}
 use Rattle.queue_parties.proofs.Meetings.{meets}
 use Rattle.chain_web.proofs.Crowds.{recounts, forks, merges}
 use Rattle.chain_web.proofs.parties.meet.Goals as goal
+
+-- the same parties met
+meets_as : {T : Type 0} (a b : Doing T) {c d v w : Doing T} → Meets a b c d → v ≡ c → w ≡ d → Meets a b v w
+meets_as {T} a b met is_c is_d = subst (λ (z : Doing T × Doing T). Meets a b z.0 z.1) (λ i. (sym is_c i, sym is_d i)) met
 
 pub join-requires : goal.join-requires
 join-requires g c =
@@ -30,9 +35,6 @@ returns-clause-met g c =
     let is_a : a ≡ c.args.first.view = ap (λ m. m.view) c.wakes-seat.ensures.3 in let is_b : b ≡ c.args.second.view = ap (λ m. m.view) c.wakes-other.ensures.3 in
     let cut = c.split-other.ensures in let e = c.split-other.new.seat.sitter.view in let f = c.split-other.result.sitter.view in
     let j = meets a b c.join.new.seat.sitter.view c.load.new.seat.sitter.view e f (subst IsParty (sym is_a) r.2) (subst IsParty (sym is_b) r.3) (ap (λ m. m.view) c.join.ensures.1) c.load.ensures.1.0 (ap (λ m. m.view) cut.old.1) (ap (λ m. m.view) cut.new.2) in
-    let here = c.load.ensures.0.0 ∙ (c.join.ensures.0.0 ∙ c.wakes-seat.ensures.0) in (
-      c.rests.ensures.1 ∙ (cut.old.0.0 ∙ here),
-      c.rests-2.ensures.1 ∙ (cut.new.0 ∙ here),
-      subst (λ z. Meets c.args.first.view c.args.second.view z c.rests-2.result.view) (sym c.rests.ensures.3) (subst (λ z. Meets c.args.first.view c.args.second.view e z) (sym c.rests-2.ensures.3)
-          (subst (λ z. Meets z c.args.second.view e f) is_a (subst (λ z. Meets a z e f) is_b j))),
-    )
+    let met : Meets c.args.first.view c.args.second.view e f = subst (λ z. Meets z c.args.second.view e f) is_a (subst (λ z. Meets a z e f) is_b j) in
+    let here = c.load.ensures.0.0 ∙ (c.join.ensures.0.0 ∙ c.wakes-seat.ensures.0) in let one = cut.old.0.0 ∙ here in let other = cut.new.0 ∙ here in
+    (cc one, cc other, meets_as c.args.first.view c.args.second.view met (cc) (cc))

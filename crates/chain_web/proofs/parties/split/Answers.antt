@@ -18,7 +18,8 @@ pub fetch_sub-requires : goal.fetch_sub-requires
 fetch_sub-requires g c =
     let r = c.requires.of in let k = c.args.web.now.key in let s = c.fetch_add.new.seat in
     let over = (c.fetch_add.ensures.1.0.1 c.if-fetch_add.true).0 in
-    (search rules, r.2, lit< tt, recounts k.tail.ptr k.head.ptr s.id s.sitter c.args.tail.ptr (λ n. (n + (2 ^ 64 - 1)) % 2 ^ 64) (λ n. Withdrew) r.3 (λ n vs q at. goes_back q s.id s.sitter.view c.wakes-seat.result.sitter.view.known at over))
+    let lowers = recounts k.tail.ptr k.head.ptr s.id s.sitter c.args.tail.ptr (λ n. (n + (2 ^ 64 - 1)) % 2 ^ 64) (λ n. Withdrew) r.3 (λ n vs q at. goes_back q s.id s.sitter.view c.wakes-seat.result.sitter.view.known at over) in
+    (search rules, r.2, lit< tt, search (rules, lowers))
 
 pub returns-then-fetch_add-clause-parted : goal.returns-then-fetch_add-clause-parted
 returns-then-fetch_add-clause-parted g c =

@@ -1,10 +1,10 @@
-use Rattle.std.proofs.Common.{subst}
+use Rattle.std.proofs.Common.{rules, subst}
 use Rattle.chain_web.specs.Turning.{Operated}
 use Rattle.chain_web.proofs.Turns.{same_twice, can_touch, touched_at}
 use Rattle.chain_web.proofs.web.ChainWeb.turn.Goals as goal
 
 pub touch-left-requires : goal.touch-left-requires
-touch-left-requires g c = can_touch c.args.seat.now.sitter c.args.local.now c.args.todo c.args.op c.args.carried _ c.requires.can.1
+touch-left-requires g c = search (rules, can_touch _ _ _ _ _ _ c.requires.can.1)
 
 pub operate-found-requires-clause-can : goal.operate-found-requires-clause-can
 operate-found-requires-clause-can g c = (touched_at c.args.call.now c.args.local.now c.args.todo c.args.op c.args.carried c.args.seat.now.sitter _ _ c.requires.can.1 c.touch-left.ensures.touched).can
