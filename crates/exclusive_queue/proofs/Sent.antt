@@ -17,7 +17,6 @@ use Rattle.std.specs.contracts.impls.GlobalAllocator.TheImpl.{ghosts}
 use Rattle.std.proofs.Crossing.{frees, send, sync}
 use Rattle.std.specs.Mem.Slots.Ownership.{bytes_of, slot, slots, slot_lent, slots_lent}
 use Rattle.atomic_table.specs.contracts.owned.Closed.{the_row, the_type}
-use Rattle.block_web.proofs.chain.Chain.TheSendSync.{the_send as chain_send, the_sync as chain_sync}
 use Rattle.exclusive_queue.specs.contracts.bounded.Ring.{the_row as ring_row}
 use Rattle.exclusive_queue.specs.contracts.bounded.Ring.TheInside.{the_type as ring_type}
 use Rattle.std.proofs.option.Option.TheSendSync.{the_send as option_send, the_sync as option_sync}

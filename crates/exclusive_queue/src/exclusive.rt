@@ -17,7 +17,7 @@ ghost use Rattle.queue_steps.specs.declared.model.Call.TheVariants as call;
 ghost use Rattle.queue_steps.specs.declared.model.Reply.TheVariants as reply;
 
 use crate::bounded::Ring;
-use crate::driver::{drive, drive_apart, observe};
+use crate::driver::drive_apart;
 use crate::sealed::Sealed;
 use crate::single::Single;
 use crate::store::Store;
@@ -113,9 +113,9 @@ impl<T, A: Allocator> Form<T, A> {
         ensures sole { Sole (form_owned self.old) call result (form_owned self.new) }
     {
         match self {
-            Form::Single(single) => drive::<T, (), Single<T>, W>(single, call),
-            Form::Bounded(ring) => drive::<T, (), Ring<T, A>, W>(ring, call),
-            Form::Unbounded(blocks) => drive::<T, Name<T>, LinkedBlocks<T, A>, W>(blocks, call),
+            Form::Single(single) => single.answer::<W>(call),
+            Form::Bounded(ring) => ring.answer::<W>(call),
+            Form::Unbounded(blocks) => blocks.answer::<W>(call),
         }
     }
 
@@ -127,9 +127,9 @@ impl<T, A: Allocator> Form<T, A> {
         ensures { result ≡ look_reply (form_owned self.now).queue call }
     {
         match self {
-            Form::Single(single) => observe::<T, (), Single<T>>(single, call),
-            Form::Bounded(ring) => observe::<T, (), Ring<T, A>>(ring, call),
-            Form::Unbounded(blocks) => observe::<T, Name<T>, LinkedBlocks<T, A>>(blocks, call),
+            Form::Single(single) => single.look(call),
+            Form::Bounded(ring) => ring.look(call),
+            Form::Unbounded(blocks) => blocks.look(call),
         }
     }
 }

@@ -1,4 +1,4 @@
-use Rattle.std.proofs.Common.{◌≡◌, ℕ, suc, ◌+◌, ◌-◌, arith}
+use Rattle.std.proofs.Common.{◌≡◌, suc, ◌+◌, ◌-◌, arith}
 use Rattle.queue_steps.specs.declared.sizes.TheConstants.{LONE_STEPS}
 use Rattle.exclusive_queue.proofs.driver.turns.Goals as goal
 

@@ -1,4 +1,4 @@
-use Rattle.std.proofs.Common.{◌≡◌, ◌-◌}
+use Rattle.std.proofs.Common.{◌-◌}
 use Rattle.queue_steps.specs.declared.sizes.TheConstants.{LONE_STEPS}
 use Rattle.queue_steps.specs.declared.model.Call.{Call}
 use Rattle.exclusive_queue.specs.Rounds.{GoesOn, IsUnderWay}
