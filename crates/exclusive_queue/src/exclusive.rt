@@ -80,7 +80,13 @@ impl<T, A: Allocator> fmt::Debug for Exclusive<T, A> {
     ghost debug_output = { λ q. Some (exclusive_text q) };
 
     fn fmt<W: fmt::Write>(&self, f: &mut fmt::Formatter<W>) -> fmt::Result {
-        write_queue(f, "Exclusive", self.len(), self.capacity(), self.is_closed())
+        write_queue(
+            f,
+            "Exclusive",
+            self.len(),
+            self.capacity(),
+            self.is_closed(),
+        )
     }
 }
 

@@ -18,5 +18,8 @@ pub fn write_queue<W: fmt::Write>(
 ) -> fmt::Result
     ensures { WritesOnOk W.write_str_gives f.old result (queue_text name.now len capacity is_closed) f.new }
 {
-    write!(f, "{name} {{ len: {len}, capacity: {capacity:?}, is_closed: {is_closed} }}")
+    write!(
+        f,
+        "{name} {{ len: {len}, capacity: {capacity:?}, is_closed: {is_closed} }}"
+    )
 }

@@ -47,21 +47,3 @@ drains-all held mid kept items [] old now new r none d put = by_end r put
     by_end : (r : Result Unit Fault) → Puts mid (10 ∷ []) kept now new r → Puts held (left_text items) kept old new r
     by_end (Ok u) put = rw (← line) (rest-then old now new d.text mid (10 ∷ []) kept d.put put)
     by_end (Err why) put = (put.0, rw (← line) (begun-then old now new d.text mid (10 ∷ []) d.put put.1))
-
--- what a pop that gave an item took off
-pub popped : (P R : Owned ℕ) (r : Result ℕ PopError) (x : ℕ) → Sole P call.Pop (reply.Pop r) R → r ≡ Ok x → P.queue.items ≡ x ∷ R.queue.items
-popped P R r x (inl told) gave = rw told.1 (from_items P.queue.closed P.queue.items told.0)
-  where
-    from_items : (closed : Bool) (items : List ℕ) → (let a : Reply ℕ = reply.Pop r in a ≡ reply.Pop (pop_result closed items)) → items ≡ x ∷ rest items
-    from_items closed [] same = absurd cc
-    from_items closed (y ∷ ys) same = cc
-popped P R r x (inr lacks) gave = absurd lacks.0
-
--- a pop from a queue with items gives one
-pub popped_some : (P R : Owned ℕ) (r : Result ℕ PopError) → Sole P call.Pop (reply.Pop r) R → ((x : ℕ) → r ≡ Ok x → ⊥) → length P.queue.items ≡ 0
-popped_some P R r (inl told) gave = from_items P.queue.closed P.queue.items told.0
-  where
-    from_items : (closed : Bool) (items : List ℕ) → (let a : Reply ℕ = reply.Pop r in a ≡ reply.Pop (pop_result closed items)) → length items ≡ 0
-    from_items closed [] same = refl
-    from_items closed (y ∷ ys) same = absurd (gave y cc)
-popped_some P R r (inr lacks) gave = absurd lacks.0

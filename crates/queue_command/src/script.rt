@@ -192,7 +192,7 @@ fn put_some<A: Allocator, O: Write>(
     }
 }
 
-// Pops the items that are left, and puts the line that tells of them.
+// Takes the items off that are left, and puts the line that tells of them.
 fn drain<A: Allocator, B: Allocator, O: Write>(
     queue: &mut Exclusive<u64, A>,
     pieces: &mut Pieces<B>,
@@ -201,10 +201,8 @@ fn drain<A: Allocator, B: Allocator, O: Write>(
     ensures { Puts pieces.old (left_text queue.old.queue.items) pieces.new (O.contents output.old) (O.contents output.new) result }
 {
     pieces.put(b"left", output)?;
-    for _ in 0..queue.len() {
-        if let Ok(item) = queue.pop() {
-            put_item(item, pieces, output)?;
-        }
+    for item in queue.try_iter() {
+        put_item(item, pieces, output)?;
     }
     pieces.put(b"\n", output)
 }

@@ -9,6 +9,8 @@ mod chains;
 #[cfg(test)]
 mod drops;
 #[cfg(test)]
+mod iterators;
+#[cfg(test)]
 mod left;
 #[cfg(test)]
 mod lengths;

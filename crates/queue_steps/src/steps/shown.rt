@@ -11,13 +11,7 @@ pub fn shown_len(kind: Kind, tail: u64, head: u64) -> usize
     ensures { result ≡ shown_len kind tail head }
 {
     match kind {
-        Kind::Single => {
-            if tail & PUSHED != 0 {
-                1
-            } else {
-                0
-            }
-        }
+        Kind::Single => { if tail & PUSHED != 0 { 1 } else { 0 } }
         Kind::Bounded(_) => (tail / 2).saturating_sub(head) as usize,
         Kind::Unbounded => items(tail / 2).saturating_sub(items(head / 2)) as usize,
     }
