@@ -1,2 +1,1 @@
-pub mod Doings
 pub mod Works

@@ -28,13 +28,13 @@ use Rattle.queue_steps.proofs.ShareLaws.{same_refl, halves_joined}
 use Rattle.queue_steps.proofs.Keeping.{stays_closed}
 use Rattle.concurrent_queue.specs.Shared.{QueueId, Person, Calls, Parts, Joins}
 use Rattle.queue_threads.specs.Counts.{counted, EachSumFits, AreSums}
-use Rattle.queue_threads.specs.Doings.{passes, is_take, takes, Acts, SawClosed}
+use Rattle.party_doings.specs.Doings.{passes, is_take, takes, Acts, SawClosed}
 use Rattle.queue_threads.specs.Works.{Quits, IsWork}
 use Rattle.queue_threads.specs.Meetings.{AreHandsOf, AreThreeParts, Unites, IsShaken, IsMeeting}
 use Rattle.queue_threads.specs.declared.handshake.Hands.{Hands}
 use Rattle.queue_threads.specs.declared.handshake.Shaken.{Shaken}
 use Rattle.queue_threads.specs.declared.crew.Work.{Work}
-use Rattle.queue_threads.proofs.Doings.{acts, acts_on, unchanged, did_both, still_closed}
+use Rattle.party_doings.proofs.Doings.{acts, acts_on, unchanged, did_both, still_closed}
 
 -- a party that has done nothing makes a call
 pub first_acts : {T : Type 0} (u v w : Person T) (c : Call T) (r : Reply T) (es : List (Effect T)) → IsView v.queue.cap v.view → Acts u v [] → (call : Calls v c r w) → call.1.effects ≡ es → Acts u w es

@@ -8,7 +8,7 @@ use Rattle.queue_steps.specs.declared.sizes.TheConstants.{MAX_CAPACITY}
 use Rattle.queue_steps.specs.Parties.{View, IsView}
 use Rattle.queue_text.specs.KindNames.{capacity_of}
 use Rattle.queue_text.specs.declared.load.Load.{Load}
-use Rattle.queue_threads.specs.Doings.{takes}
+use Rattle.party_doings.specs.Doings.{takes}
 use Rattle.queue_threads.specs.declared.counts.Finding.{Finding}
 use Rattle.queue_threads.specs.declared.counts.Finding.TheVariants as finding
 use Rattle.queue_threads.specs.declared.verdict.Verdict.{Verdict}

@@ -1,5 +1,4 @@
 pub mod Verdicts
-pub mod Doings
 pub mod Works
 pub mod Meetings
 pub mod Counts

@@ -4,7 +4,7 @@ use Rattle.std.specs.Io.KnownBytes.{Appends}
 use Rattle.queue_steps.specs.Shares.{entire, half, plus, IsEntire}
 use Rattle.queue_steps.specs.Parties.{View, IsView}
 use Rattle.concurrent_queue.specs.Shared.{QueueId, Person, IsPartyOf}
-use Rattle.queue_threads.specs.Doings.{takes}
+use Rattle.party_doings.specs.Doings.{takes}
 use Rattle.queue_threads.specs.declared.handshake.Hands.{Hands}
 use Rattle.queue_threads.specs.declared.handshake.Shaken.{Shaken}
 use Rattle.queue_threads.specs.declared.verdict.Verdict.{Verdict}

@@ -3,7 +3,7 @@ use Rattle.std.specs.Prelude.{◌≡◌, ℕ, ◌+◌, ◌<◌, ◌≤◌, true,
 use Rattle.std.specs.List.{All}
 use Rattle.queue_steps.specs.Shares.{SamePart}
 use Rattle.concurrent_queue.specs.Shared.{QueueId, Person, IsPartyOf}
-use Rattle.queue_threads.specs.Doings.{takes, SawClosed}
+use Rattle.party_doings.specs.Doings.{takes, SawClosed}
 use Rattle.queue_threads.specs.declared.crew.Work.{Work}
 
 -- the party took nothing, and has seen the queue closed

@@ -4,7 +4,7 @@ ghost use Rattle.queue_steps.specs.declared.model.Effect.TheVariants as effect;
 ghost use Rattle.queue_steps.specs.Parties.{IsView};
 ghost use Rattle.concurrent_queue.specs.Shared.{IsPartyOf, Joins};
 ghost use Rattle.queue_threads.specs.Counts.{EachSumFits, AreSums};
-ghost use Rattle.queue_threads.specs.Doings.{Acts};
+ghost use Rattle.party_doings.specs.Doings.{Acts};
 ghost use Rattle.queue_threads.specs.Works.{IsWork, Quits};
 ghost use denote.Param.Send.{IsSync};
 

@@ -1,7 +1,7 @@
 //! The form `handshake`: two threads that hand an item to each other.
 ghost use Rattle.std.specs.Prelude.{◌≡◌, ◌<◌, ◌&&◌, true, IfOk, MatchResult};
 ghost use Rattle.concurrent_queue.specs.Shared.{IsPartyOf};
-ghost use Rattle.queue_threads.specs.Doings.{takes, SawClosed};
+ghost use Rattle.party_doings.specs.Doings.{takes, SawClosed};
 ghost use Rattle.queue_threads.specs.Meetings.{Handshake, HandsMet, AreHandsOf, AreHalves, AreThreeParts, Unites, IsShaken, IsMeeting};
 ghost use Rattle.queue_threads.specs.Verdicts.{IsOutputFault};
 ghost use denote.Param.Send.{IsSync};

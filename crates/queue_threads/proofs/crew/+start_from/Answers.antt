@@ -1,7 +1,7 @@
 use Rattle.std.proofs.Common.{ℕ, ◌+◌, ◌-◌, ◌*◌, ◌<◌, ap, ◌∙◌, arith}
 use Rattle.concurrent_queue.specs.Shared.{Person}
-use Rattle.queue_threads.specs.Doings.{is_take, takes}
-use Rattle.queue_threads.proofs.Doings.{unchanged}
+use Rattle.party_doings.specs.Doings.{is_take, takes}
+use Rattle.party_doings.proofs.Doings.{unchanged}
 use Rattle.queue_threads.proofs.Works.{none_taken, none_few, quit_work, sums_fit, shares_left, shares_low, joined_work}
 use Rattle.queue_threads.proofs.crew.+start_from.Goals as goal
 

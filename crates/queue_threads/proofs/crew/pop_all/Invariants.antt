@@ -1,6 +1,6 @@
 use Rattle.std.proofs.Common.{◌≡◌, ℕ, ◌+◌, ◌<◌, ◌≤◌, get_or, length}
 use Rattle.std.specs.List.{All}
-use Rattle.queue_threads.specs.Doings.{takes}
+use Rattle.party_doings.specs.Doings.{takes}
 use Rattle.queue_threads.proofs.crew.pop_all.Given as goal
 
 -- the party is still the queue's, with its share, and what it took so far is counted

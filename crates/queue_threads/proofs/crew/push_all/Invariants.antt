@@ -1,5 +1,5 @@
 use Rattle.std.proofs.Common.{◌≡◌, ℕ}
-use Rattle.queue_threads.specs.Doings.{takes}
+use Rattle.party_doings.specs.Doings.{takes}
 use Rattle.queue_threads.proofs.crew.push_all.Given as goal
 
 -- the party is still the queue's, with its share, and has taken nothing

@@ -1,5 +1,5 @@
 use Rattle.std.proofs.Common.{[]}
-use Rattle.queue_threads.specs.Doings.{Acts}
+use Rattle.party_doings.specs.Doings.{Acts}
 use Rattle.queue_threads.proofs.crew.push_one.Given as goal
 
 -- the party is still the queue's, and has done nothing

@@ -1,4 +1,4 @@
-use Rattle.queue_threads.proofs.Doings.{acts_none}
+use Rattle.party_doings.proofs.Doings.{acts_none}
 use Rattle.queue_threads.proofs.Works.{close_quits}
 use Rattle.queue_threads.proofs.crew.shut.Goals as goal
 

@@ -1,6 +1,6 @@
 use Rattle.std.proofs.Common.{◌+◌, ap, ◌∙◌}
 use Rattle.queue_steps.specs.Shares.{Share, plus}
-use Rattle.queue_threads.specs.Doings.{takes}
+use Rattle.party_doings.specs.Doings.{takes}
 use Rattle.queue_threads.proofs.Works.{takes_both}
 use Rattle.queue_threads.proofs.handshake.unite.Goals as goal
 

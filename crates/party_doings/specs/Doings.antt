@@ -25,6 +25,20 @@ abbrev pub is_append : ℕ → Effect ℕ → Bool
 is_append x (effect.Append y) = y == x
 is_append x e = false
 
+-- the effect hands the value in: it is appended, takes another's place, or is on its way in
+abbrev pub hands_in : ℕ → Effect ℕ → Bool
+hands_in x (effect.Append v) = v == x
+hands_in x (effect.Replace old v) = v == x
+hands_in x (effect.Front old v) = v == x
+hands_in x e = false
+
+-- the effect hands the value out: it is taken, or displaced
+abbrev pub hands_out : ℕ → Effect ℕ → Bool
+hands_out x (effect.Take v) = v == x
+hands_out x (effect.Replace old v) = old == x
+hands_out x (effect.Front old v) = old == x
+hands_out x e = false
+
 -- how often the party took the value
 abbrev pub takes : ℕ → View ℕ → ℕ
 takes x v = done_by (is_take x) v

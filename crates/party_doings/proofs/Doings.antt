@@ -14,7 +14,7 @@ use Rattle.queue_steps.specs.Effect.{Runs, IsHistory, made, after_from, after}
 use Rattle.queue_steps.specs.Parties.{View, IsView, StandAt, Join}
 use Rattle.queue_steps.proofs.Keeping.{stays_closed}
 use Rattle.concurrent_queue.specs.Shared.{Person, Calls}
-use Rattle.queue_threads.specs.Doings.{passes, done_by, Acts}
+use Rattle.party_doings.specs.Doings.{passes, done_by, Acts}
 
 module _ {T : Type 0} where
   -- what stands in a history stands in a longer one

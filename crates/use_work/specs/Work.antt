@@ -1,0 +1,33 @@
+-- Which jobs were handed out, and what a worker has done.
+use Rattle.std.specs.Prelude.{◌≡◌, ℕ, zero, suc, ◌+◌, ◌<◌, ◌==◌, true, List, [], ◌∷◌, ◌++◌, length}
+use Rattle.std.specs.List.{count_by}
+use Rattle.queue_steps.specs.declared.model.Effect.{Effect}
+use Rattle.queue_steps.specs.declared.model.Effect.TheVariants as effect
+use Rattle.queue_steps.specs.Shares.{SamePart}
+use Rattle.concurrent_queue.specs.Shared.{QueueId, Person, IsPartyOf}
+use Rattle.party_doings.specs.Doings.{done_by, hands_in, hands_out}
+use Rattle.use_work.specs.declared.Report.{Report}
+use Rattle.use_work.specs.declared.Shift.{Shift}
+
+-- how often the job is in the list
+abbrev pub times : ℕ → List ℕ → ℕ
+times job jobs = count_by (λ j. j == job) jobs
+
+-- each job was handed to one worker, once, or is left
+abbrev pub EachOnce : ℕ → Report → Type 0
+EachOnce jobs report = (job : ℕ) → job < jobs → times job report.handed.items + times job report.left.queue.items ≡ 1
+
+-- the jobs below n are appended, one after another
+abbrev pub appended : ℕ → List (Effect ℕ)
+appended zero = []
+appended (suc n) = appended n ++ effect.Append n ∷ []
+
+-- from v to w the party took these jobs, and appended none
+abbrev pub Took : Person ℕ → Person ℕ → List ℕ → Type 0
+Took v w jobs = (job : ℕ) → (done_by (hands_out job) w.view ≡ done_by (hands_out job) v.view + times job jobs) × (done_by (hands_in job) w.view ≡ done_by (hands_in job) v.view)
+
+-- The shift of a party v of the queue q. If it is complete, the jobs that were handed to it are those that it took, and it has its share again
+pub record IsShift (q : QueueId) (v : Person ℕ) (shift : Shift) : Type 0 where
+  pub queue : IsPartyOf shift.party q
+  pub took : shift.complete ≡ true → Took v shift.party shift.handed.items
+  pub share : shift.complete ≡ true → SamePart shift.party.view.share v.view.share
