@@ -1,4 +1,5 @@
 use Rattle.std.proofs.Common.{ℕ, ◌+◌, ◌-◌, ◌*◌, ◌<◌, ap, ◌∙◌, arith}
+use Rattle.std.proofs.lemmas.Grind.{common_steps}
 use Rattle.concurrent_queue.specs.Shared.{Person}
 use Rattle.party_doings.specs.Doings.{is_take, takes}
 use Rattle.party_doings.proofs.Doings.{unchanged}
@@ -36,3 +37,6 @@ returns-clause-work g t c =
     joined_work c.args.queue.now c.args.plan.items ((threads - (c.args.number + 1)) * share) share ((threads - c.args.number) * share) c.args.party c.in-Ok.party c.in-Ok.theirs
     c.start_from-ours.result c.join.result c.both.result c.requires.of c.show_view.ensures c.in-Ok.ensures c.start_from-ours.ensures.work theirs both.views.0 both.views.1 both.joined
     c.start_from-ours.ensures.all both.sums both.done (omega (arith, left))
+
+pub returns-then-number-plan-clause-work : goal.returns-then-number-plan-clause-work
+returns-then-number-plan-clause-work g t c = grind (arith, common_steps)
