@@ -20,7 +20,7 @@ use std::process::ExitCode;
 use std::{env, io};
 
 /// The lists that are tried where there are no arguments.
-const LISTS: u64 = 4_000;
+const LISTS: u64 = 20_000;
 
 /// Tries each stop of one call, and tells how many cases there were, and in how many another call waited for it. Gives how many were flawed.
 fn tell_one_stop<R: Print + AllocGlobal>(rt: &R) -> io::Result<u64> {
