@@ -90,10 +90,12 @@ fn start_of(shape: Shape, dice: &mut Dice) -> Start {
         Shape::Chain => Start {
             pushed: dice.roll(6).wrapping_add(28),
             popped: dice.roll(34),
+            closed: false,
         },
         _ => Start {
             pushed: dice.roll(4),
             popped: dice.roll(3),
+            closed: false,
         },
     }
 }

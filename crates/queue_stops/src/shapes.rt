@@ -43,11 +43,12 @@ impl Shape {
     }
 }
 
-/// What a queue holds where a case begins: so many items were pushed, and so many of them popped.
+/// What a queue holds where a case begins: so many items were pushed, and so many of them popped; and whether it was closed then.
 #[derive(Clone, Copy, Debug)]
 pub struct Start {
     pub pushed: u64,
     pub popped: u64,
+    pub closed: bool,
 }
 
 /// How many steps a push or a pop takes at most where the party is alone, but for the pop of a block's last item.
@@ -61,6 +62,9 @@ impl Start {
         }
         for _ in 0..self.popped {
             events.call(0, Call::Pop, FEW_STEPS)?;
+        }
+        if self.closed {
+            events.call(0, Call::Close, FEW_STEPS)?;
         }
         Ok(())
     }

@@ -45,36 +45,47 @@ struct Row {
 const EMPTY: Start = Start {
     pushed: 0,
     popped: 0,
+    closed: false,
 };
 
 const ONE: Start = Start {
     pushed: 1,
     popped: 0,
+    closed: false,
 };
 
 const TWO: Start = Start {
     pushed: 2,
     popped: 0,
+    closed: false,
 };
 
 const THREE: Start = Start {
     pushed: 3,
     popped: 0,
+    closed: false,
+};
+
+const CLOSED: Start = Start {
+    closed: true,
+    ..ONE
 };
 
 /// One item short of a block.
 const SHORT_OF_A_BLOCK: Start = Start {
     pushed: 30,
     popped: 0,
+    closed: false,
 };
 
 /// Of a block only the last item is left.
 const LAST_OF_A_BLOCK: Start = Start {
     pushed: 31,
     popped: 30,
+    closed: false,
 };
 
-static ROWS: [Row; 12] = [
+static ROWS: [Row; 16] = [
     Row {
         shape: Shape::Single,
         start: EMPTY,
@@ -84,6 +95,11 @@ static ROWS: [Row; 12] = [
         shape: Shape::Single,
         start: ONE,
         steps: [1, 3, 2, 1, 1, 1, 1, 1, 0],
+    },
+    Row {
+        shape: Shape::Single,
+        start: CLOSED,
+        steps: [1, 1, 3, 1, 1, 1, 1, 1, 0],
     },
     Row {
         shape: Shape::Pair,
@@ -101,6 +117,11 @@ static ROWS: [Row; 12] = [
         steps: [3, 5, 4, 1, 1, 2, 2, 3, 0],
     },
     Row {
+        shape: Shape::Pair,
+        start: CLOSED,
+        steps: [1, 1, 4, 1, 1, 2, 2, 3, 0],
+    },
+    Row {
         shape: Shape::Triple,
         start: EMPTY,
         steps: [4, 4, 3, 1, 1, 2, 2, 3, 0],
@@ -116,6 +137,11 @@ static ROWS: [Row; 12] = [
         steps: [3, 5, 4, 1, 1, 2, 2, 3, 0],
     },
     Row {
+        shape: Shape::Triple,
+        start: CLOSED,
+        steps: [1, 1, 4, 1, 1, 2, 2, 3, 0],
+    },
+    Row {
         shape: Shape::Chain,
         start: EMPTY,
         steps: [7, 7, 3, 1, 1, 2, 0, 3, 0],
@@ -124,6 +150,11 @@ static ROWS: [Row; 12] = [
         shape: Shape::Chain,
         start: ONE,
         steps: [4, 4, 6, 1, 1, 2, 0, 3, 0],
+    },
+    Row {
+        shape: Shape::Chain,
+        start: CLOSED,
+        steps: [1, 1, 6, 1, 1, 2, 0, 3, 0],
     },
     Row {
         shape: Shape::Chain,
