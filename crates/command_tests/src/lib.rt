@@ -10,6 +10,8 @@ mod rows;
 #[cfg(test)]
 mod scripts;
 #[cfg(test)]
+mod streams;
+#[cfg(test)]
 mod threads;
 #[cfg(test)]
 mod unbounded;

@@ -86,26 +86,37 @@ fn seen_of(
     Ok(Seen::of(&heap, run))
 }
 
-/// A push into a ring of two slots, and a pop that has begun.
-fn on_ring(alloc: Global, refusal: Refusal) -> Result<Seen, AllocError> {
-    let lines = [
-        Line::Begins(0, Call::Push(7)),
-        Line::Steps(0, 1),
-        Line::Begins(1, Call::Pop),
-        Line::Steps(1, 1),
-    ];
-    seen_of(alloc, refusal, Kind::Bounded(2), 2, &lines)
+/// A push of which one step is taken, and a pop that has begun.
+static BEGUN: [Line; 4] = [
+    Line::Begins(0, Call::Push(7)),
+    Line::Steps(0, 1),
+    Line::Begins(1, Call::Pop),
+    Line::Steps(1, 1),
+];
+
+/// These lines on a ring of two slots, or on one slot.
+fn on_slots(alloc: Global, refusal: Refusal, ring: bool) -> Result<Seen, AllocError> {
+    if ring {
+        seen_of(alloc, refusal, Kind::Bounded(2), 2, &BEGUN)
+    } else {
+        seen_of(alloc, refusal, Kind::Single, 2, &BEGUN)
+    }
 }
 
-/// Each request for room of a ring refused in turn: want of memory, and nothing stays allocated.
+/// Each request for room of a ring and of one slot, which has no stamps, refused in turn: want of memory, and nothing stays allocated. On one slot the step is the append.
 #[test]
 fn each_request_refused(rt: HostRuntime) -> Result<(), Fail> {
-    for number in 1..10u64 {
-        let seen = on_ring(rt.alloc(), Refusal::Nth(number))?;
-        assert_eq!(rt; seen, Seen::want_of_memory(number));
+    for (ring, requests, left) in [(true, 9u64, 0), (false, 8, 1)] {
+        for number in 1..requests.wrapping_add(2) {
+            let seen = on_slots(rt.alloc(), Refusal::Nth(number), ring)?;
+            let expected = if number <= requests {
+                Seen::want_of_memory(number)
+            } else {
+                Seen::run(left, requests)
+            };
+            assert_eq!(rt; seen, expected);
+        }
     }
-    let seen = on_ring(rt.alloc(), Refusal::Nth(10))?;
-    assert_eq!(rt; seen, Seen::run(0, 9));
     Ok(())
 }
 

@@ -1,0 +1,370 @@
+//! Reads what is told of a run, event by event, beside a queue that does what is told.
+use crate::claims::{Claim, claim_of};
+use crate::flaw::Flaw;
+use crate::queue::{Deed, Moment, Queue};
+use queue_machine::types::{EffectKind, Event, Peak, Replay};
+use queue_steps::errors::{ForcePushError, PushError};
+use queue_steps::model::{Call, Reply};
+use queue_steps::sizes::{BLOCK_SLOTS, PROMPT_STEPS};
+use std::alloc::{Allocator, Global};
+
+/// A call that its party is in.
+#[derive(Clone, Copy)]
+struct InCall {
+    call: Call<u64>,
+    /// How many steps of its own it has taken.
+    steps: u64,
+    /// The number of the moment after its first own step.
+    first: usize,
+    done: Deed,
+    /// Whether the queue was open after one of its own steps.
+    read_open: bool,
+}
+
+impl InCall {
+    /// A call that begins, before the moment of this number.
+    fn begin(call: Call<u64>, first: usize) -> InCall {
+        InCall {
+            call,
+            steps: 0,
+            first,
+            done: Deed::Nothing,
+            read_open: false,
+        }
+    }
+
+    /// Whether it may take no more steps.
+    fn is_due(&self) -> bool {
+        match self.call {
+            Call::Close | Call::IsClosed | Call::IsEmpty | Call::IsFull => {
+                self.steps >= PROMPT_STEPS
+            }
+            _ => false,
+        }
+    }
+}
+
+/// What is told of one event.
+#[derive(Clone, Copy)]
+struct Entry {
+    skipped: bool,
+    effect: Option<EffectKind>,
+    reply: Option<Reply<u64>>,
+}
+
+/// A run that is read.
+#[derive(Drop)]
+struct Reader<'a> {
+    queue: Queue,
+    calls: Vec<Option<InCall>>,
+    /// How many calls have begun and not ended.
+    in_progress: u64,
+    /// The queue after each event.
+    moments: Vec<Moment>,
+    peak: Peak,
+    /// The most blocks that the items lay in.
+    spanned: u64,
+    /// Whether the bound on blocks was that of a moment.
+    bounded: bool,
+    /// What is told of later events.
+    effects: &'a [(usize, usize, EffectKind)],
+    replies: &'a [(usize, usize, Reply<u64>)],
+    skipped: &'a [usize],
+}
+
+/// Reads what is told of the run of these events, on a queue of this capacity. Each call is to have ended.
+///
+/// # Errors
+///
+/// What is wrong with it: an effect, a reply or a skipped event that no queue could have, blocks out of their bound, or a call that did not end.
+pub fn read<A: Allocator>(
+    alloc: Global,
+    cap: Option<usize>,
+    parties: usize,
+    events: &[Event<u64>],
+    run: &Replay<u64, A>,
+) -> Result<(), Flaw> {
+    let Ok(calls) = Vec::from_elem(alloc, None, parties) else {
+        return Err(Flaw::NoMemory);
+    };
+    let mut reader = Reader {
+        queue: Queue::new(alloc, cap),
+        calls,
+        in_progress: 0,
+        moments: Vec::new(alloc),
+        peak: run.peak,
+        spanned: 0,
+        bounded: false,
+        effects: run.effects.as_slice(),
+        replies: run.replies.as_slice(),
+        skipped: run.skipped.as_slice(),
+    };
+    reader.note_blocks();
+    for (number, event) in events.iter().enumerate() {
+        reader.read_event(number, *event)?;
+    }
+    reader.end(run.left.as_slice())
+}
+
+impl Reader<'_> {
+    fn read_event(&mut self, number: usize, event: Event<u64>) -> Result<(), Flaw> {
+        match event {
+            Event::Begin(party, call) => {
+                let entry = self.entry(number, party)?;
+                self.read_begin(party, call, entry)?;
+            }
+            Event::Step(party, _) => {
+                let entry = self.entry(number, party)?;
+                self.read_step(party, entry)?;
+            }
+        }
+        self.note_blocks();
+        Ok(())
+    }
+
+    // What is told of the event of this number, which is this party's.
+    fn entry(&mut self, number: usize, party: usize) -> Result<Entry, Flaw> {
+        Ok(Entry {
+            skipped: self.is_skipped(number),
+            effect: self.effect(number, party)?,
+            reply: self.reply(number, party)?,
+        })
+    }
+
+    fn is_skipped(&mut self, number: usize) -> bool {
+        match self.skipped.split_first() {
+            Some((first, rest)) if *first == number => {
+                self.skipped = rest;
+                true
+            }
+            _ => false,
+        }
+    }
+
+    fn effect(&mut self, number: usize, party: usize) -> Result<Option<EffectKind>, Flaw> {
+        match self.effects.split_first() {
+            Some(((at, whose, effect), rest)) if *at == number => {
+                self.effects = rest;
+                if *whose != party {
+                    return Err(Flaw::Effect);
+                }
+                Ok(Some(*effect))
+            }
+            _ => Ok(None),
+        }
+    }
+
+    fn reply(&mut self, number: usize, party: usize) -> Result<Option<Reply<u64>>, Flaw> {
+        match self.replies.split_first() {
+            Some(((at, whose, reply), rest)) if *at == number => {
+                self.replies = rest;
+                if *whose != party {
+                    return Err(Flaw::Reply);
+                }
+                Ok(Some(*reply))
+            }
+            _ => Ok(None),
+        }
+    }
+
+    // The call that a party is in, if it is one of the run and is in one.
+    fn call_of(&self, party: usize) -> Option<InCall> {
+        match self.calls.get(party) {
+            Some(Some(call)) => Some(*call),
+            _ => None,
+        }
+    }
+
+    fn put(&mut self, party: usize, call: Option<InCall>) {
+        if let Some(place) = self.calls.get_mut(party) {
+            *place = call;
+        }
+    }
+
+    fn read_begin(&mut self, party: usize, call: Call<u64>, entry: Entry) -> Result<(), Flaw> {
+        let fits = party < self.calls.len() && self.call_of(party).is_none();
+        if entry.skipped == fits {
+            return Err(Flaw::Skip);
+        }
+        if entry.effect.is_some() {
+            return Err(Flaw::Effect);
+        }
+        let first = self.moments.len();
+        self.note_moment()?;
+        if !fits {
+            return unanswered(entry);
+        }
+        let in_call = InCall::begin(call, first);
+        self.in_progress = self.in_progress.wrapping_add(1);
+        if self.has_no_steps(call) {
+            return self.read_reply(in_call, entry.reply);
+        }
+        self.put(party, Some(in_call));
+        unanswered(entry)
+    }
+
+    fn read_step(&mut self, party: usize, entry: Entry) -> Result<(), Flaw> {
+        let Some(mut in_call) = self.call_of(party) else {
+            self.note_moment()?;
+            return no_step(entry);
+        };
+        if entry.skipped {
+            return Err(Flaw::Skip);
+        }
+        if in_call.steps == 0 {
+            in_call.first = self.moments.len();
+        }
+        in_call.steps = in_call.steps.wrapping_add(1);
+        if let Some(effect) = entry.effect {
+            in_call.done = self.apply(effect, in_call)?;
+        }
+        let open = self.note_moment()?;
+        in_call.read_open = in_call.read_open || open;
+        if entry.reply.is_some() || in_call.is_due() {
+            self.put(party, None);
+            return self.read_reply(in_call, entry.reply);
+        }
+        self.put(party, Some(in_call));
+        Ok(())
+    }
+
+    // A front is taken off only by a call that read the queue open at an earlier step.
+    fn apply(&mut self, effect: EffectKind, in_call: InCall) -> Result<Deed, Flaw> {
+        if effect == EffectKind::Front && !in_call.read_open {
+            return Err(Flaw::Effect);
+        }
+        self.queue.apply(effect, in_call.call, in_call.done)
+    }
+
+    // Notes the queue as it is now, and tells whether it is open.
+    fn note_moment(&mut self) -> Result<bool, Flaw> {
+        let moment = self.queue.moment();
+        if self.moments.push(moment).is_err() {
+            return Err(Flaw::NoMemory);
+        }
+        Ok(!moment.closed)
+    }
+
+    fn has_no_steps(&self, call: Call<u64>) -> bool {
+        match call {
+            Call::Capacity => true,
+            Call::IsFull => self.queue.capacity().is_none(),
+            _ => false,
+        }
+    }
+
+    fn read_reply(&mut self, in_call: InCall, reply: Option<Reply<u64>>) -> Result<(), Flaw> {
+        let Some(reply) = reply else {
+            return Err(Flaw::Prompt);
+        };
+        self.in_progress = self.in_progress.wrapping_sub(1);
+        if self.fits(in_call, reply) {
+            Ok(())
+        } else {
+            Err(Flaw::Reply)
+        }
+    }
+
+    // Whether a call that has done this may end with this reply now.
+    fn fits(&self, in_call: InCall, reply: Reply<u64>) -> bool {
+        match in_call.done {
+            Deed::Nothing => match claim_of(in_call.call, reply) {
+                Some(claim) => self.was_so(in_call.first, claim),
+                None => false,
+            },
+            deed => stands_for(deed, in_call.call, reply),
+        }
+    }
+
+    // Whether this was so at a moment from the one of this number on.
+    fn was_so(&self, first: usize, claim: Claim) -> bool {
+        for moment in self.moments.iter().skip(first) {
+            if claim.holds(self.queue.capacity(), *moment) {
+                return true;
+            }
+        }
+        false
+    }
+
+    // Compares the bound on blocks with what may be held at this moment.
+    fn note_blocks(&mut self) {
+        self.spanned = self.spanned.max(self.queue.spanned());
+        let len = self.queue.items().len() as u64;
+        let share = (len / BLOCK_SLOTS)
+            .wrapping_add(2)
+            .wrapping_add(self.in_progress);
+        if share == self.peak.bound as u64 {
+            self.bounded = true;
+        }
+    }
+
+    fn end(&self, left: &[u64]) -> Result<(), Flaw> {
+        if !self.skipped.is_empty() {
+            return Err(Flaw::Skip);
+        }
+        if !self.effects.is_empty() {
+            return Err(Flaw::Effect);
+        }
+        if !self.replies.is_empty() {
+            return Err(Flaw::Reply);
+        }
+        if left != self.queue.items() {
+            return Err(Flaw::Left);
+        }
+        if self.in_progress != 0 {
+            return Err(Flaw::Waits);
+        }
+        if self.has_right_blocks() {
+            Ok(())
+        } else {
+            Err(Flaw::Blocks)
+        }
+    }
+
+    fn has_right_blocks(&self) -> bool {
+        let Peak { blocks, bound } = self.peak;
+        match self.queue.capacity() {
+            Some(_) => blocks == 0 && bound == 2,
+            None => self.bounded && blocks <= bound && self.spanned <= blocks as u64,
+        }
+    }
+}
+
+// Whether a reply stands for what its call has done.
+fn stands_for(deed: Deed, call: Call<u64>, reply: Reply<u64>) -> bool {
+    match (deed, call, reply) {
+        (Deed::Appended, Call::Push(_), Reply::Push(Ok(()))) => true,
+        (Deed::Appended, Call::ForcePush(_), Reply::ForcePush(Ok(None))) => true,
+        (Deed::Took(item), Call::Pop, Reply::Pop(Ok(told))) => item == told,
+        (Deed::Replaced(old), Call::ForcePush(_), Reply::ForcePush(Ok(Some(told)))) => old == told,
+        (Deed::Displaced(old), Call::ForcePush(_), Reply::ForcePush(Ok(Some(told)))) => old == told,
+        (Deed::Closed, Call::Close, Reply::Close(true)) => true,
+        (Deed::SelfClosed, Call::Push(item), Reply::Push(Err(PushError::Closed(back)))) => item
+            == back,
+        (
+            Deed::SelfClosed,
+            Call::ForcePush(item),
+            Reply::ForcePush(Err(ForcePushError::Closed(back))),
+        ) => item == back,
+        _ => false,
+    }
+}
+
+// An event that does not fit, or that ends no call, has no reply.
+fn unanswered(entry: Entry) -> Result<(), Flaw> {
+    match entry.reply {
+        None => Ok(()),
+        Some(_) => Err(Flaw::Reply),
+    }
+}
+
+// What is told of a step between calls, or of a stranger's: that it was skipped.
+fn no_step(entry: Entry) -> Result<(), Flaw> {
+    if !entry.skipped {
+        return Err(Flaw::Skip);
+    }
+    if entry.effect.is_some() {
+        return Err(Flaw::Effect);
+    }
+    unanswered(entry)
+}

@@ -1,0 +1,79 @@
+//! Runs of the machine in memory that is counted, each of which is read.
+use crate::events::Events;
+use crate::flaw::Flaw;
+use crate::reader::read;
+use crate::shapes::Shape;
+use queue_machine::blocks::Place;
+use queue_machine::replay;
+use queue_machine::types::Replay;
+use queue_steps::sizes::BLOCK_SLOTS;
+use std::alloc::{Global, Layout};
+use test_allocators::{Refusal, Refusing};
+
+/// How many parties a run has.
+pub const PARTIES: usize = 3;
+
+/// When a party did what it did, by the numbers of events.
+#[derive(Clone, Copy)]
+pub struct Times {
+    /// Its first effect.
+    pub acted: Option<usize>,
+    /// Its first reply.
+    pub ended: Option<usize>,
+}
+
+/// Runs these events, reads what is told of them, and gives when the parties 0 and 1 did what they did from the event of this number on.
+///
+/// # Errors
+///
+/// What is wrong with what is told, or with the memory of the run: the blocks that live are not those of its peak, or something is not given back.
+pub fn run(
+    alloc: Global,
+    shape: Shape,
+    events: &Events,
+    from: usize,
+) -> Result<(Times, Times), Flaw> {
+    let Ok(places) = Layout::array::<Place<u64>>(BLOCK_SLOTS as usize) else {
+        return Err(Flaw::NoMemory);
+    };
+    let heap = Refusing::watching(alloc, Refusal::Never, places);
+    let times = run_in(alloc, &heap, shape, events, from)?;
+    if heap.live() == 0 {
+        Ok(times)
+    } else {
+        Err(Flaw::Memory)
+    }
+}
+
+fn run_in(
+    alloc: Global,
+    heap: &Refusing<Global>,
+    shape: Shape,
+    events: &Events,
+    from: usize,
+) -> Result<(Times, Times), Flaw> {
+    let list = events.as_slice().to_vec(heap)?;
+    let told = replay(heap, shape.kind(), PARTIES, list)?;
+    read(alloc, shape.capacity(), PARTIES, events.as_slice(), &told)?;
+    if heap.most_watched() != told.peak.blocks as u64 {
+        return Err(Flaw::Blocks);
+    }
+    Ok((times_of(&told, 0, from), times_of(&told, 1, from)))
+}
+
+fn times_of(told: &Replay<u64, &Refusing<Global>>, party: usize, from: usize) -> Times {
+    Times {
+        acted: first_of(told.effects.as_slice(), party, from),
+        ended: first_of(told.replies.as_slice(), party, from),
+    }
+}
+
+// The number of the first event, from this number on, of which something is told of this party.
+fn first_of<E: Copy>(entries: &[(usize, usize, E)], party: usize, from: usize) -> Option<usize> {
+    for (number, whose, _) in entries {
+        if *whose == party && *number >= from {
+            return Some(*number);
+        }
+    }
+    None
+}
