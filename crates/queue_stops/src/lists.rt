@@ -1,7 +1,7 @@
 //! Lists of events of all sorts, made from fixed numbers.
 use crate::events::Events;
 use crate::flaw::Flaw;
-use crate::runs::{PARTIES, run};
+use crate::runs::{AtEnd, PARTIES, run};
 use crate::shapes::{Shape, Start};
 use crate::stops::MOST_TOLD;
 use queue_steps::model::Call;
@@ -66,12 +66,15 @@ fn judge(alloc: Global, seed: u64) -> Result<(), Flaw> {
     let mut dice = Dice::new(seed);
     let shape = shape_of(&mut dice);
     let mut events = Events::new(alloc);
-    start_of(shape, &mut dice).reach(&mut events)?;
+    for _ in 0..dice.roll(4).wrapping_add(1) {
+        start_of(shape, &mut dice).reach(&mut events)?;
+    }
     for _ in 0..TURNS {
         add_turn(&mut dice, &mut events)?;
     }
+    run(alloc, shape, &events, 0, AtEnd::Stopped)?;
     end_all(&mut events)?;
-    run(alloc, shape, &events, 0)?;
+    run(alloc, shape, &events, 0, AtEnd::Ended)?;
     Ok(())
 }
 
@@ -84,7 +87,7 @@ fn shape_of(dice: &mut Dice) -> Shape {
     }
 }
 
-// A chain begins within three items of a block's end, before or behind it.
+// What a list begins with, up to four times over: on a chain as many pushes as bring it to within three items of a block's end, before or behind it.
 fn start_of(shape: Shape, dice: &mut Dice) -> Start {
     match shape {
         Shape::Chain => Start {

@@ -72,18 +72,18 @@ struct Reader<'a> {
     skipped: &'a [usize],
 }
 
-/// Reads what is told of the run of these events, on a queue of this capacity. Each call is to have ended.
+/// Reads what is told of the run of these events, on a queue of this capacity, and gives how many calls have not ended.
 ///
 /// # Errors
 ///
-/// What is wrong with it: an effect, a reply or a skipped event that no queue could have, blocks out of their bound, or a call that did not end.
+/// What is wrong with it: an effect, a reply or a skipped event that no queue could have, a list that is not left, or blocks out of their bound.
 pub fn read<A: Allocator>(
     alloc: Global,
     cap: Option<usize>,
     parties: usize,
     events: &[Event<u64>],
     run: &Replay<u64, A>,
-) -> Result<(), Flaw> {
+) -> Result<u64, Flaw> {
     let Ok(calls) = Vec::from_elem(alloc, None, parties) else {
         return Err(Flaw::NoMemory);
     };
@@ -103,7 +103,8 @@ pub fn read<A: Allocator>(
     for (number, event) in events.iter().enumerate() {
         reader.read_event(number, *event)?;
     }
-    reader.end(run.left.as_slice())
+    reader.end(run.left.as_slice())?;
+    Ok(reader.in_progress)
 }
 
 impl Reader<'_> {
@@ -310,9 +311,6 @@ impl Reader<'_> {
         }
         if left != self.queue.items() {
             return Err(Flaw::Left);
-        }
-        if self.in_progress != 0 {
-            return Err(Flaw::Waits);
         }
         if self.has_right_blocks() {
             Ok(())

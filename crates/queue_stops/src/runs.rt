@@ -22,22 +22,32 @@ pub struct Times {
     pub ended: Option<usize>,
 }
 
+/// Where the calls of a run stand in the end.
+#[derive(Clone, Copy)]
+pub enum AtEnd {
+    /// Each has ended.
+    Ended,
+    /// Some may have stopped for good.
+    Stopped,
+}
+
 /// Runs these events, reads what is told of them, and gives when the parties 0 and 1 did what they did from the event of this number on.
 ///
 /// # Errors
 ///
-/// What is wrong with what is told, or with the memory of the run: the blocks that live are not those of its peak, or something is not given back.
+/// What is wrong with what is told, a call that did not end where each has to, or what is wrong with the memory of the run: the blocks that live are not those of its peak, or something is not given back.
 pub fn run(
     alloc: Global,
     shape: Shape,
     events: &Events,
     from: usize,
+    at_end: AtEnd,
 ) -> Result<(Times, Times), Flaw> {
     let Ok(places) = Layout::array::<Place<u64>>(BLOCK_SLOTS as usize) else {
         return Err(Flaw::NoMemory);
     };
     let heap = Refusing::watching(alloc, Refusal::Never, places);
-    let times = run_in(alloc, &heap, shape, events, from)?;
+    let times = run_in(alloc, &heap, shape, events, from, at_end)?;
     if heap.live() == 0 {
         Ok(times)
     } else {
@@ -51,14 +61,23 @@ fn run_in(
     shape: Shape,
     events: &Events,
     from: usize,
+    at_end: AtEnd,
 ) -> Result<(Times, Times), Flaw> {
     let list = events.as_slice().to_vec(heap)?;
     let told = replay(heap, shape.kind(), PARTIES, list)?;
-    read(alloc, shape.capacity(), PARTIES, events.as_slice(), &told)?;
-    if heap.most_watched() != told.peak.blocks as u64 {
+    let in_progress = read(alloc, shape.capacity(), PARTIES, events.as_slice(), &told)?;
+    if in_progress != 0 && matches!(at_end, AtEnd::Ended) {
+        return Err(Flaw::Waits);
+    }
+    if tells_blocks(shape, events.len()) && heap.most_watched() != told.peak.blocks as u64 {
         return Err(Flaw::Blocks);
     }
     Ok((times_of(&told, 0, from), times_of(&told, 1, from)))
+}
+
+// Whether what is counted apart are the blocks alone: a list of as many events as a block has slots, or three times as many, may have the layout of a block.
+fn tells_blocks(shape: Shape, events: usize) -> bool {
+    shape.capacity().is_none() && events as u64 % BLOCK_SLOTS != 0
 }
 
 fn times_of(told: &Replay<u64, &Refusing<Global>>, party: usize, from: usize) -> Times {

@@ -1,7 +1,7 @@
 //! Calls that stop after each of their steps, while another party's call begins.
 use crate::events::Events;
 use crate::flaw::Flaw;
-use crate::runs::{Times, run};
+use crate::runs::{AtEnd, Times, run};
 use crate::shapes::{Shape, Start};
 use queue_steps::model::Call;
 use queue_steps::sizes::LONE_STEPS;
@@ -321,7 +321,7 @@ fn try_second<R: Print>(
     Ok(())
 }
 
-// Runs a case, and tells whether the second call waited for the first.
+// Runs a case, up to where both stop and then to the end, and tells whether the second call waited for the first.
 fn judge(alloc: Global, case: Case, alone: u64) -> Result<bool, Flaw> {
     let Case {
         shape,
@@ -341,10 +341,11 @@ fn judge(alloc: Global, case: Case, alone: u64) -> Result<bool, Flaw> {
     events.begin(1, second)?;
     events.steps(1, second_stop, grants.second)?;
     let after = events.len();
+    run(alloc, shape, &events, begun, AtEnd::Stopped)?;
     events.steps(0, LONE_STEPS, grants.first)?;
     events.steps(1, LONE_STEPS, grants.second)?;
     events.steps(0, LONE_STEPS, grants.first)?;
-    let (times, others) = run(alloc, shape, &events, begun)?;
+    let (times, others) = run(alloc, shape, &events, begun, AtEnd::Ended)?;
     if grants.first && !stops_in_time(times, begun, stopped, alone) {
         return Err(Flaw::Steps);
     }
