@@ -35,6 +35,23 @@ pub fn through_a_chain<A: Allocator>(alloc: A, value: u64) -> Result<u64, PushEr
     }
 }
 
+/// Puts two values into a queue, takes one off by an iterator, which is then dropped, and gives it and what was left.
+pub fn one_of_two<A: Allocator + Clone>(
+    alloc: A,
+    one: u64,
+    two: u64,
+) -> Result<(Option<u64>, Option<u64>), AllocError>
+    ensures { IfOk result (λ out. out ≡ (Some one, Some two)) }
+{
+    let mut queue: Exclusive<u64, A> = Exclusive::bounded(alloc, 5)?;
+    let _ = queue.push(one);
+    let _ = queue.push(two);
+    let mut items = queue.try_iter();
+    let first = items.next();
+    drop(items);
+    Ok((first, queue.pop().ok()))
+}
+
 /// The first step of a pop on one slot, which is the exchange of the word of an unlocked slot with an item.
 pub fn first_step_of_a_pop() -> Next<()>
     ensures { result ≡ next.Step (local.Single (slot.Popping 2)) touch.Nothing (op.Exchange word.Lock 2 1) }

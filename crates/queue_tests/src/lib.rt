@@ -9,6 +9,8 @@ mod counted;
 #[cfg(test)]
 mod errors;
 #[cfg(test)]
+mod iterators;
+#[cfg(test)]
 mod one_slot;
 #[cfg(test)]
 mod rings;

@@ -1,0 +1,136 @@
+//! Iterators over queues with one owner, and what is printed of both.
+ghost use Rattle.std.specs.Prelude.{◌<◌, IfSome};
+
+use exclusive_queue::Exclusive;
+use std::alloc::{AllocError, Global};
+use std::test::Fail;
+
+/// An empty open queue of this capacity, or without one.
+fn open(alloc: Global, cap: Option<usize>) -> Result<Exclusive<u64>, AllocError>
+    requires { IfSome cap (λ slots. 0 < slots) }
+{
+    match cap {
+        Some(slots) => Exclusive::bounded(alloc, slots),
+        None => Ok(Exclusive::unbounded(alloc)),
+    }
+}
+
+/// Takes so many items off, if there are as many, and gives a number whose digits they are.
+fn digits(queue: &mut Exclusive<u64>, count: usize) -> u64 {
+    let mut number: u64 = 0;
+    for item in queue.try_iter().take(count) {
+        number = number.wrapping_mul(10).wrapping_add(item);
+    }
+    number
+}
+
+/// A capacity, how many items are asked for, and the digits of those that come and of those that are left of 1, 2, 3.
+static WALKS: [(Option<usize>, usize, u64, u64); 8] = [
+    (Some(5), 1, 1, 23),
+    (Some(5), 3, 123, 0),
+    (Some(5), 4, 123, 0),
+    (Some(3), 2, 12, 3),
+    (Some(1), 0, 0, 1),
+    (Some(1), 2, 1, 0),
+    (None, 1, 1, 23),
+    (None, 4, 123, 0),
+];
+
+/// What an iterator did not take stays, and the queue is as open as before.
+#[test]
+fn an_iterator_takes_from_the_front(rt: HostRuntime) -> Result<(), Fail> {
+    for (cap, count, taken, left) in WALKS.iter() {
+        let mut queue = open(rt.alloc(), *cap)?;
+        for item in 1..4 {
+            let _ = queue.push(item);
+        }
+        let first = digits(&mut queue, *count);
+        let rest = digits(&mut queue, 5);
+        assert_eq!(rt;
+            (first, rest, queue.len(), queue.is_closed(), queue.push(4)),
+            (*taken, *left, 0, false, Ok(()))
+        );
+    }
+    Ok(())
+}
+
+/// How many items are asked for, how many come, and how many blocks are held then, of a queue without a capacity that 70 items were pushed into.
+static BLOCKS: [(usize, usize, usize); 4] = [(0, 0, 3), (30, 30, 3), (31, 31, 2), (71, 70, 1)];
+
+#[test]
+fn an_iterator_gives_blocks_back(rt: HostRuntime) -> Result<(), Fail> {
+    for (count, taken, blocks) in BLOCKS.iter() {
+        let mut queue = open(rt.alloc(), None)?;
+        for item in 0..70 {
+            let _ = queue.push(item);
+        }
+        let came = queue.try_iter().take(*count).count();
+        assert_eq!(rt; (came, queue.blocks()), (*taken, *blocks));
+    }
+    Ok(())
+}
+
+/// A capacity, how many items are pushed, whether the queue is closed, and what is printed of it.
+static TEXTS: [(Option<usize>, u64, bool, &str); 7] = [
+    (
+        Some(1),
+        0,
+        false,
+        "Exclusive { len: 0, capacity: Some(1), is_closed: false }",
+    ),
+    (
+        Some(1),
+        1,
+        true,
+        "Exclusive { len: 1, capacity: Some(1), is_closed: true }",
+    ),
+    (
+        Some(2),
+        1,
+        false,
+        "Exclusive { len: 1, capacity: Some(2), is_closed: false }",
+    ),
+    (
+        Some(2),
+        2,
+        true,
+        "Exclusive { len: 2, capacity: Some(2), is_closed: true }",
+    ),
+    (
+        None,
+        0,
+        true,
+        "Exclusive { len: 0, capacity: None, is_closed: true }",
+    ),
+    (
+        None,
+        7,
+        false,
+        "Exclusive { len: 7, capacity: None, is_closed: false }",
+    ),
+    (
+        None,
+        104,
+        false,
+        "Exclusive { len: 104, capacity: None, is_closed: false }",
+    ),
+];
+
+#[test]
+fn queues_and_iterators_are_printed(rt: HostRuntime) -> Result<(), Fail> {
+    for (cap, items, closed, text) in TEXTS.iter() {
+        let mut queue = open(rt.alloc(), *cap)?;
+        for item in 0..*items {
+            let _ = queue.push(item);
+        }
+        if *closed {
+            queue.close();
+        }
+        let queue_text = format!(in rt.alloc(); "{queue:?}")?;
+        let iter = queue.try_iter();
+        let both = format!(in rt.alloc(); "{queue_text} {iter:?}")?;
+        let expected = format!(in rt.alloc(); "{text} Iter({text})")?;
+        assert_eq!(rt; both.as_str(), expected.as_str());
+    }
+    Ok(())
+}
