@@ -59,7 +59,7 @@ all_there cap v x is whole none =
     let items : with_coming (after cap v.seen).items (after cap v.seen).coming ≡ (after cap v.seen).items = ap (with_coming (after cap v.seen).items) none in
     let lists : handed_in v.seen ≡ handed_out v.seen ++ (after cap v.seen).items = law ∙ ap (λ (l : List ℕ). handed_out v.seen ++ l) items in
     let sums : count_by (λ y. y == x) (handed_in v.seen) ≡ count_by (λ y. y == x) (handed_out v.seen) + count_by (λ y. y == x) (after cap v.seen).items =
-        ap (count_by (λ y. y == x)) lists ∙ sum_by-append (λ y. cond (y == x) 1 0) (handed_out v.seen) (after cap v.seen).items in
+    ap (count_by (λ y. y == x)) lists ∙ sum_by-append (λ y. cond (y == x) 1 0) (handed_out v.seen) (after cap v.seen).items in
     let came = done_by_whole (hands_in x) cap v is whole ∙ ins x v.seen in
     let went = done_by_whole (hands_out x) cap v is whole ∙ outs x v.seen in
     came ∙ (sums ∙ ap (λ k. k + count_by (λ y. y == x) (after cap v.seen).items) (sym went))
