@@ -44,7 +44,7 @@ module _ {T : Type 0} where
   ends Q (e ∷ es) d r = absurd (none_fits Q e d r.0)
 
   -- a longer history is the same
-  ends_at : (cap : Option ℕ) (h t : List (Effect T)) → IsDrained (after cap h) → IsPrefix h t → IsHistory cap t → t ≡ h
+  pub ends_at : (cap : Option ℕ) (h t : List (Effect T)) → IsDrained (after cap h) → IsPrefix h t → IsHistory cap t → t ≡ h
   ends_at cap h t d (es, is) legal =
       let none : es ≡ [] = ends (after cap h) es d (runs_behind (start cap 0) h es (subst (IsHistory cap) (sym is) legal)) in
       sym is ∙ (ap (λ (l : List (Effect T)). h ++ l) none ∙ append-nil h)

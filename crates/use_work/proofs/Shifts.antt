@@ -1,25 +1,29 @@
 -- What calls, partings and joinings add to the jobs that a party took.
-use Rattle.std.proofs.Common.{◌≡◌, ℕ, zero, suc, ◌+◌, ◌<◌, ◌≤◌, ◌==◌, if◌then◌else◌, Bool, true, false, cond, Option, Some, None, List, [], ◌∷◌, ◌++◌, length, Result, Ok, Err, refl, ap, sym, subst, ◌∙◌, inl, inr, arith}
+use Rattle.std.proofs.Common.{◌≡◌, ℕ, zero, suc, ◌+◌, ◌<◌, ◌≤◌, ◌==◌, if◌then◌else◌, Bool, true, false, cond, Option, None, List, [], ◌∷◌, ◌++◌, Ok, Err, refl, ap, sym, subst, ◌∙◌, inl, inr, ⊎_elim, append_assoc, arith}
 use Rattle.std.specs.List.{count_by}
 use Rattle.std.proofs.lemmas.Bool.Decides.{eqb_tells}
 use Rattle.std.proofs.lemmas.List.Sums.{sum_by-cons, sum_by-append}
+use mathlib.Core.List.{IsPrefix}
 use lib.ListN.{get_elem?}
 use Rattle.queue_steps.specs.declared.model.Effect.{Effect}
 use Rattle.queue_steps.specs.declared.model.Effect.TheVariants as effect
 use Rattle.queue_steps.specs.declared.model.Call.TheVariants as call
 use Rattle.queue_steps.specs.declared.model.Reply.TheVariants as reply
 use Rattle.queue_steps.specs.declared.errors.PopError.{PopError}
+use Rattle.queue_steps.specs.declared.errors.PopError.TheVariants as pop
 use Rattle.queue_steps.specs.Effect.{after}
 use Rattle.queue_steps.specs.Legal.{IsSoundOwned}
-use Rattle.queue_steps.specs.Shares.{Share, entire, SamePart, IsEntire}
+use Rattle.queue_steps.specs.Shares.{Share, SamePart, IsEntire}
 use Rattle.queue_steps.specs.Sole.{Owned}
 use Rattle.queue_steps.specs.Parties.{View, IsView}
 use Rattle.queue_steps.proofs.ShareLaws.{same_refl, halves_joined, shares_add_up}
 use Rattle.concurrent_queue.specs.Shared.{QueueId, Person, Calls, Parts, Joins, Finishes}
+use Rattle.history_laws.specs.Histories.{IsDrained}
+use Rattle.history_laws.proofs.Closing.{ends_at}
 use Rattle.party_doings.specs.Doings.{passes, done_by, hands_in, hands_out, Acts}
 use Rattle.party_doings.proofs.Doings.{acts, acts_on, unchanged, did_both}
 use Rattle.party_doings.proofs.Whole.{all_there}
-use Rattle.use_work.specs.Work.{times, appended, Took, IsShift}
+use Rattle.use_work.specs.Work.{times, appended, Took, IsShift, SawDrained}
 use Rattle.use_work.specs.declared.Shift.{Shift}
 
 single : {X : Type 0} (test : X → Bool) (e : X) → count_by test (e ∷ []) ≡ cond (test e) 1 0
@@ -168,3 +172,22 @@ append_more v u w n done is before pushed =
     let one : n + 1 ≡ suc n = omega arith in
     subst {A = ℕ} (λ k. Acts v w (appended k)) (sym one)
     (acts_on v u w (appended n) (effect.Append n ∷ []) before (acts u w (call.Push n) (reply.Push (Ok done)) (effect.Append n ∷ []) is pushed pushed.1.tells))
+
+prefix_on : (h s t : List (Effect ℕ)) → IsPrefix h s → IsPrefix s t → IsPrefix h t
+prefix_on h s t (d, is) (e, on) = (d ++ e, sym (append_assoc h d e) ∙ (ap (λ (l : List (Effect ℕ)). l ++ e) is ∙ on))
+
+-- a pop that finds the queue closed has seen it closed and empty
+pub saw_drained : (v w : Person ℕ) → Calls v call.Pop (reply.Pop (Err pop.Closed)) w → SawDrained w
+saw_drained v w popped =
+    let seen = popped.1.right popped.1.tells in
+    (seen.0, seen.2, subst {A = Option ℕ} (λ cap. IsDrained (after cap seen.0)) (sym (ap (λ (q : QueueId). q.cap) popped.0)) (⊎_elim (λ right. right) (λ lacks. absurd lacks) seen.3))
+
+-- who is joined with such a party has seen it too
+pub joined_drained : (a b w : Person ℕ) → b.queue ≡ a.queue → Joins a b w → SawDrained b → SawDrained w
+joined_drained a b w same joins (h, begins, drained) =
+    (h, prefix_on h b.view.seen w.view.seen begins joins.1.begins.1, subst {A = QueueId} (λ q. IsDrained (after q.cap h)) (same ∙ sym joins.0) drained)
+
+-- then no job is left
+pub none_left : (p : Person ℕ) (left : Owned ℕ) → IsView p.queue.cap p.view → SawDrained p → Finishes p left → left.queue.items ≡ []
+none_left p left is (h, begins, drained) ended =
+    ended.2.items ∙ (ap (λ (t : List (Effect ℕ)). (after p.queue.cap t).items) (ends_at p.queue.cap h p.view.seen drained begins is.legal) ∙ drained.0)

@@ -1,9 +1,12 @@
 -- Which jobs were handed out, and what a worker has done.
-use Rattle.std.specs.Prelude.{◌≡◌, ℕ, zero, suc, ◌+◌, ◌<◌, ◌==◌, true, List, [], ◌∷◌, ◌++◌, length}
+use Rattle.std.specs.Prelude.{◌≡◌, ℕ, zero, suc, ◌+◌, ◌<◌, ◌==◌, true, List, [], ◌∷◌, ◌++◌}
 use Rattle.std.specs.List.{count_by}
 use Rattle.queue_steps.specs.declared.model.Effect.{Effect}
 use Rattle.queue_steps.specs.declared.model.Effect.TheVariants as effect
+use mathlib.Core.List.{IsPrefix}
+use Rattle.queue_steps.specs.Effect.{after}
 use Rattle.queue_steps.specs.Shares.{SamePart}
+use Rattle.history_laws.specs.Histories.{IsDrained}
 use Rattle.concurrent_queue.specs.Shared.{QueueId, Person, IsPartyOf}
 use Rattle.party_doings.specs.Doings.{done_by, hands_in, hands_out}
 use Rattle.use_work.specs.declared.Report.{Report}
@@ -17,6 +20,10 @@ times job jobs = count_by (λ j. j == job) jobs
 abbrev pub EachOnce : ℕ → Report → Type 0
 EachOnce jobs report = (job : ℕ) → job < jobs → times job report.handed.items + times job report.left.queue.items ≡ 1
 
+-- none is left where there was a worker
+abbrev pub NoneLeft : ℕ → Report → Type 0
+NoneLeft workers report = 0 < workers → report.left.queue.items ≡ []
+
 -- the jobs below n are appended, one after another
 abbrev pub appended : ℕ → List (Effect ℕ)
 appended zero = []
@@ -26,8 +33,16 @@ appended (suc n) = appended n ++ effect.Append n ∷ []
 abbrev pub Took : Person ℕ → Person ℕ → List ℕ → Type 0
 Took v w jobs = (job : ℕ) → (done_by (hands_out job) w.view ≡ done_by (hands_out job) v.view + times job jobs) × (done_by (hands_in job) w.view ≡ done_by (hands_in job) v.view)
 
+-- the party has seen the queue closed and empty
+abbrev pub SawDrained : Person ℕ → Type 0
+SawDrained p = (h : List (Effect ℕ)) × IsPrefix h p.view.seen × IsDrained (after p.queue.cap h)
+
 -- The shift of a party v of the queue q. If it is complete, the jobs that were handed to it are those that it took, and it has its share again
 pub record IsShift (q : QueueId) (v : Person ℕ) (shift : Shift) : Type 0 where
   pub queue : IsPartyOf shift.party q
   pub took : shift.complete ≡ true → Took v shift.party shift.handed.items
   pub share : shift.complete ≡ true → SamePart shift.party.view.share v.view.share
+
+-- the shift of a worker, which ends only where no job is left
+abbrev pub IsWorked : QueueId → Person ℕ → Shift → Type 0
+IsWorked q v shift = IsShift q v shift × (shift.complete ≡ true → SawDrained shift.party)

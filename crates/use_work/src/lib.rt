@@ -1,11 +1,11 @@
 //! Jobs that workers share: each is handed to one of them, or is left.
 #![tactic(auto)]
 
-ghost use Rattle.std.specs.Prelude.{◌≡◌, ◌++◌, [], true, IfOk};
+ghost use Rattle.std.specs.Prelude.{◌≡◌, ◌<◌, ◌++◌, [], true, IfOk};
 ghost use Rattle.queue_steps.specs.Parties.{IsView};
 ghost use Rattle.concurrent_queue.specs.Shared.{IsPartyOf, Joins};
 ghost use Rattle.party_doings.specs.Doings.{Acts};
-ghost use Rattle.use_work.specs.Work.{appended, IsShift, EachOnce};
+ghost use Rattle.use_work.specs.Work.{appended, IsShift, IsWorked, SawDrained, EachOnce, NoneLeft};
 ghost use denote.Param.Send.{IsSync};
 
 #[cfg(test)]
@@ -46,7 +46,7 @@ struct Returns<'a> {
 }
 
 impl<'a> Promise<Shift> for Returns<'a> {
-    ghost kept_by = { λ p shift. IsShift p.queue.now p.given.value shift };
+    ghost kept_by = { λ p shift. IsWorked p.queue.now p.given.value shift };
 }
 
 /// Hands the jobs 0, 1, .. up to `jobs`, which is left out, to so many workers, each a thread of its own, and waits for them.
@@ -60,7 +60,8 @@ pub fn distribute<R: Threads + Wait + Sync>(
     jobs: u64,
     workers: u64,
 ) -> Result<Report, AllocError>
-    ensures { IfOk result (λ report. EachOnce jobs report) }
+    ensures once { IfOk result (λ report. EachOnce jobs report) }
+    ensures none_left { IfOk result (λ report. NoneLeft workers report) }
 {
     let (queue, mut party) = ConcurrentQueue::unbounded(alloc)?;
     push_all(rt, &queue, &mut party, jobs)?;
@@ -115,14 +116,15 @@ fn run_workers<R: Threads + Wait + Sync>(
     workers: u64,
 ) -> Shift
     requires { IsPartyOf party queue.now }
-    ensures { IsShift queue.now party result }
+    ensures shift { IsShift queue.now party result }
+    ensures drained { 0 < workers → result.complete ≡ true → SawDrained result.party }
 {
     thread::scope(
         thread::scope_env(),
         rt,
         |scope| -> Shift
             requires { IsSync R.row × IsPartyOf party queue.now }
-            ensures { IsShift queue.entry.now party result }
+            ensures { IsShift queue.entry.now party result × (0 < workers → result.complete ≡ true → SawDrained result.party) }
         { start_workers(rt, alloc, scope, queue, party, workers) },
     )
 }
@@ -137,7 +139,8 @@ fn start_workers<'s, E, R: Threads + Wait + Sync>(
     workers: u64,
 ) -> Shift
     requires { IsPartyOf party queue.now }
-    ensures { IsShift queue.now party result }
+    ensures shift { IsShift queue.now party result }
+    ensures drained { 0 < workers → result.complete ≡ true → SawDrained result.party }
 {
     party.show_view();
     if workers == 0 {
@@ -154,7 +157,7 @@ fn start_workers<'s, E, R: Threads + Wait + Sync>(
                 promise,
                 move || -> Shift
                     requires { IsSync R.row × IsPartyOf theirs queue.now }
-                    ensures { IsShift queue.entry.now theirs result }
+                    ensures { IsWorked queue.entry.now theirs result }
                 { work(rt, alloc, queue, theirs) },
             );
             match started {
@@ -182,7 +185,7 @@ fn idle(alloc: Global, party: Party<u64>, complete: bool) -> Shift
 /// Takes jobs until the queue is closed and has none.
 fn work<R: Wait>(rt: &R, alloc: Global, queue: &Jobs, mut party: Party<u64>) -> Shift
     requires { IsPartyOf party queue.now }
-    ensures { IsShift queue.now party result }
+    ensures { IsWorked queue.now party result }
 {
     let mut handed = Vec::new(alloc);
     for _ in rt.forever() {

@@ -1,7 +1,7 @@
-use Rattle.std.proofs.Common.{◌≡◌, ◌++◌, [], ◌∷◌, List, ℕ, true, is_ok, sym, subst, refl, ◌∙◌}
+use Rattle.std.proofs.Common.{List, ℕ, true, is_ok, sym, subst, refl, ◌∙◌}
 use Rattle.queue_steps.specs.declared.errors.PopError.TheVariants as pop
 use Rattle.use_work.specs.Work.{Took}
-use Rattle.use_work.proofs.Shifts.{took_one, took_no_more, worked, noted}
+use Rattle.use_work.proofs.Shifts.{took_one, took_no_more, worked, noted, saw_drained}
 use Rattle.use_work.proofs.work.Goals as goal
 
 pub loop-preserved-else-is_err : goal.loop-preserved-else-is_err
@@ -28,6 +28,8 @@ loop-preserved g c =
 pub returns-in-Err-Closed : goal.returns-in-Err-Closed
 returns-in-Err-Closed g c =
     let before = c.loop.invariant in
-    let popped = rw c.in-Err-Closed.field-0-is at c.in-Err-Closed.ensures in
-    worked c.args.queue.now c.args.party c.pop.new.party (record { party = c.pop.new.party; handed = c.loop.handed; complete = true }) c.requires (popped.0 ∙ before.queue)
-    (popped.1.share ∙ before.share) refl (took_no_more c.args.party c.loop.party c.pop.new.party c.loop.handed.items pop.Closed c.show_view.ensures before.took popped)
+    let popped = rw c.in-Err-Closed.field-0-is at c.in-Err-Closed.ensures in (
+      worked c.args.queue.now c.args.party c.pop.new.party (record { party = c.pop.new.party; handed = c.loop.handed; complete = true }) c.requires (popped.0 ∙ before.queue)
+          (popped.1.share ∙ before.share) refl (took_no_more c.args.party c.loop.party c.pop.new.party c.loop.handed.items pop.Closed c.show_view.ensures before.took popped),
+      λ complete. saw_drained c.loop.party c.pop.new.party popped,
+    )
