@@ -1,11 +1,11 @@
 -- What a party has done to whom every place of the history belongs: all that was ever done.
-use Rattle.std.proofs.Common.{◌≡◌, ℕ, zero, suc, ◌+◌, ◌<◌, Bool, true, false, cond, Option, Some, None, List, [], ◌∷◌, ◌++◌, length, ◌==◌, refl, ap, sym, ◌∙◌, arith}
+use Rattle.std.proofs.Common.{◌≡◌, ℕ, ◌+◌, Bool, cond, Option, None, List, [], ◌∷◌, ◌++◌, length, ◌==◌, refl, ap, sym, ◌∙◌, arith}
 use Rattle.std.specs.List.{count_by}
 use Rattle.std.proofs.lemmas.List.Sums.{sum_by-cons, sum_by-append}
 use lib.ListN.{get_elem?}
 use Rattle.queue_steps.specs.declared.model.Effect.{Effect}
 use Rattle.queue_steps.specs.declared.model.Effect.TheVariants as effect
-use Rattle.queue_steps.specs.Effect.{IsHistory, after, with_coming}
+use Rattle.queue_steps.specs.Effect.{after, with_coming}
 use Rattle.queue_steps.specs.Parties.{View, IsView, IsWhole}
 use Rattle.history_laws.specs.Histories.{handed_in, handed_out}
 use Rattle.history_laws.proofs.Keeping.{keeps_all}
