@@ -1,12 +1,6 @@
 -- The items that are left are put, one by one.
-use Rattle.std.proofs.Common.{◌≡◌, ◌∙◌, ℕ, List, [], ◌∷◌, ◌++◌, codes, Bool, inl, inr, Option, Result, Ok, Err, refl, sym, ap, append_assoc, append-nil, length, arith}
+use Rattle.std.proofs.Common.{◌≡◌, ◌∙◌, ℕ, List, [], ◌∷◌, ◌++◌, codes, Option, Result, Ok, Err, sym, ap, append_assoc, append-nil, length, arith}
 use Rattle.std.specs.Fmt.{decimal}
-use Rattle.queue_steps.specs.Effect.{rest}
-use Rattle.queue_steps.specs.Sole.{Owned, Sole, pop_result}
-use Rattle.queue_steps.specs.declared.model.Call.TheVariants as call
-use Rattle.queue_steps.specs.declared.model.Reply.TheVariants as reply
-use Rattle.queue_steps.specs.declared.model.Reply.{Reply}
-use Rattle.queue_steps.specs.declared.errors.PopError.{PopError}
 use Rattle.queue_text.specs.declared.faults.Fault.{Fault}
 use Rattle.queue_text.specs.Streams.{IsBegun, LeavesRest, Puts}
 use Rattle.queue_text.proofs.Writing.{begun-more, rest-then, begun-then}
