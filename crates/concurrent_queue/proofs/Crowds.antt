@@ -1,5 +1,5 @@
 -- The steps that count parties, part them and bring them together keep a rule that lets only the views change.
-use Rattle.std.proofs.Common.{◌≡◌, ◌≢◌, ℕ, List, [], ◌∷◌, ◌++◌, set, refl, ap, subst, get_or}
+use Rattle.std.proofs.Common.{◌≡◌, ◌≢◌, ℕ, List, [], ◌∷◌, ◌++◌, set, refl, subst}
 use Rattle.std.proofs.lemmas.List.{set-get_or}
 use mathlib.Core.Option.{some}
 use lib.ListN.{get_elem?}
@@ -8,7 +8,7 @@ use Rattle.queue_parties.specs.declared.known.Doing.{Doing}
 use Rattle.queue_parties.specs.Doings.{Sharing}
 use Rattle.queue_parties.specs.Parting.{Regroups}
 use Rattle.queue_parties.proofs.Crowds.{Recounts}
-use Rattle.concurrent_queue.specs.Seats.{Table, Seated, count_of, recounted, KeepsParties, OfView}
+use Rattle.concurrent_queue.specs.Seats.{Table, Seated, count_of, KeepsParties, OfView}
 
 module _ {T : Type 0} (Rule : Table T → Type 0) (law : KeepsParties Rule) where
   -- a step on the count

@@ -1,5 +1,5 @@
 -- How a call that one of many parties makes begins and goes on.
-use Rattle.std.proofs.Common.{◌≡◌, ℕ, suc, ◌+◌, ◌-◌, ◌<◌, Option, None, Some, refl, arith, sym, subst, ◌∙◌}
+use Rattle.std.proofs.Common.{◌≡◌, ℕ, suc, ◌+◌, ◌-◌, ◌<◌, Option, Some, refl, arith, sym, subst, ◌∙◌}
 use Rattle.queue_steps.specs.declared.sizes.TheConstants.{PROMPT_STEPS}
 use Rattle.queue_steps.specs.declared.model.Call.{Call}
 use Rattle.queue_steps.specs.declared.model.Reply.{Reply}

@@ -8,7 +8,7 @@ use Rattle.queue_steps.specs.Effect.{after}
 use Rattle.queue_steps.specs.Legal.{IsShown}
 use Rattle.queue_steps.specs.Shares.{IsEntire}
 use Rattle.queue_steps.specs.Sole.{Owned}
-use Rattle.queue_steps.specs.Parties.{View, IsView, IsWhole, SharedCall, Split, Join, Meet}
+use Rattle.queue_steps.specs.Parties.{View, IsView, IsWhole, SharedCall, Meet}
 use Rattle.queue_steps.specs.SoleCalls.{SoleCall}
 use Rattle.queue_steps.proofs.WholeCalls.{whole_calls}
 use Rattle.queue_parties.specs.declared.known.Doing.{Doing}

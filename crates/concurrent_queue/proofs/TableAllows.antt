@@ -1,47 +1,23 @@
 -- Each step of a call on a shared table keeps the rule: the laws of its kind say so, wherever the call stands.
-use Rattle.std.proofs.Common.{◌≡◌, ◌≢◌, ℕ, zero, suc, ◌<◌, ◌||◌, not, inl, inr, true, false, List, [], ◌∷◌, ◌++◌, map, length, get_or, set, Option, Some, None, refl, ap, sym, ◌∙◌, subst, ⊎_elim, arith}
-use Rattle.std.proofs.lemmas.List.{append-nil}
-use mathlib.Core.Option.{some, some-injective, some-ne-none}
-use mathlib.Core.List.{IsPrefix}
+use Rattle.std.proofs.Common.{◌≡◌, ℕ, List, ◌∷◌, get_or, set, Option, None, ap, sym, ◌∙◌, subst}
+use mathlib.Core.Option.{some}
 use lib.ListN.{get_elem?}
-use lib.Seq.{map-set}
-use mathlib.Core.Logic.{dite}
-use native.Mathlib.Decide.{ℕ_discrete}
 use Rattle.atomic_table.specs.Table.{Act, Valid, carried_after, homes_after, stepped, Allows}
-use Rattle.atomic_table.proofs.Lists.{at_set, at_map, set_else}
 use Rattle.queue_steps.specs.declared.model.Effect.{Effect}
-use Rattle.queue_steps.specs.declared.model.Effect.TheVariants as effect
-use Rattle.queue_steps.specs.declared.model.Call.{Call}
 use Rattle.queue_steps.specs.declared.steps.types.Answer.{Answer}
-use Rattle.queue_steps.specs.declared.steps.types.Local.{Local}
-use Rattle.queue_steps.specs.declared.steps.types.Op.{Op}
-use Rattle.queue_steps.specs.declared.steps.types.Touch.{Touch}
 use Rattle.queue_steps.specs.declared.steps.types.Next.{Next}
 use Rattle.queue_steps.specs.declared.steps.types.Next.TheVariants as next
-use Rattle.queue_steps.specs.State.{State, start}
-use Rattle.queue_steps.specs.Effect.{Fits, IsHistory, made, after}
-use Rattle.queue_steps.specs.Kinds.{call_value}
 use Rattle.queue_steps.specs.Next.{CanNext, next_of}
-use Rattle.queue_steps.specs.Shares.{IsEntire}
-use Rattle.queue_steps.specs.Parties.{IsWhole}
-use Rattle.queue_laws.proofs.Effects.{Leads, with_effect}
-use Rattle.queue_parties.specs.declared.known.Known.{Known}
 use Rattle.queue_parties.specs.declared.known.InCall.{InCall}
-use Rattle.queue_parties.specs.declared.known.Work.{Work}
 use Rattle.queue_parties.specs.declared.known.Work.TheVariants as work
 use Rattle.queue_parties.specs.declared.known.Doing.{Doing}
-use Rattle.queue_parties.specs.Known.{party, view_of, Kept}
-use Rattle.queue_parties.specs.Histories.{prefix_self, after_snoc, runs_snoc}
 use Rattle.concurrent_queue.specs.Seats.{Table, Seated, count_of}
-use Rattle.queue_parties.specs.Doings.{is_busy, idle, known_by}
 use Rattle.queue_parties.specs.Calling.{CallsOf, Standing, touched_list, handed_by, HasTouched}
 use Rattle.concurrent_queue.specs.TableRule.{TableOf, Rule, found_by, InTable, Stepped, TableLaws}
 use Rattle.queue_parties.specs.Operations.{op_word, op_makes, answer_for}
 use Rattle.concurrent_queue.specs.TableTurns.{After, Follows}
-use Rattle.queue_parties.specs.CallsAt.{IsFirst, Ready}
-use Rattle.queue_parties.proofs.Keeping.{looks, gains}
-use Rattle.queue_parties.proofs.Alone.{alone}
-use Rattle.queue_parties.proofs.Callings.{grown, others_stay}
+use Rattle.queue_parties.specs.CallsAt.{Ready}
+use Rattle.queue_parties.proofs.Callings.{grown}
 use Rattle.queue_parties.specs.CallsAt.{CallsAt, Ready, Told}
 use Rattle.queue_parties.proofs.CallSteps.{set_at, stands_at, Stepping, call_step}
 

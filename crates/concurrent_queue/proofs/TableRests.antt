@@ -1,6 +1,6 @@
 -- The end of a queue in a table: where one party that is at nothing has all of the share, every place of the history is its own, no call is on its way, and
 -- nobody has a slot.
-use Rattle.std.proofs.Common.{◌≡◌, ◌≢◌, ℕ, false, [], map, ap, sym, ◌∙◌, arith}
+use Rattle.std.proofs.Common.{◌≡◌, ◌≢◌, ℕ, false, map, ap, sym, ◌∙◌, arith}
 use mathlib.Core.Option.{some, some-injective}
 use mathlib.Core.Logic.{dite}
 use native.Mathlib.Decide.{ℕ_discrete}

@@ -6,7 +6,7 @@ use Rattle.block_web.specs.declared.web.Rested.{Rested}
 use Rattle.queue_steps.specs.declared.model.Call.{Call}
 use Rattle.queue_steps.specs.declared.model.Reply.{Reply}
 use Rattle.queue_steps.specs.Effect.{IsHistory}
-use Rattle.queue_steps.specs.Parties.{SharedCall, IsView, IsWhole}
+use Rattle.queue_steps.specs.Parties.{SharedCall}
 use Rattle.queue_parties.specs.declared.known.Doing.{Doing}
 use Rattle.queue_parties.specs.Known.{view_of}
 use Rattle.queue_parties.specs.Doings.{IsResting, HasAll}

@@ -1,17 +1,13 @@
 -- A party's seat at the table of a shared queue: between calls, where a slot is touched, and when a call ended.
-use Rattle.std.specs.Prelude.{◌≡◌, ℕ, List, [], ◌∷◌, Option}
-use Rattle.std.proofs.Common.{ap, sym, ◌∙◌}
+use Rattle.std.specs.Prelude.{◌≡◌, ℕ, ◌∷◌, Option}
 use Rattle.atomic_table.specs.Table.{rest}
 use Rattle.atomic_table.specs.Seated.{TableId}
 use Rattle.queue_steps.specs.declared.model.Call.{Call}
 use Rattle.queue_steps.specs.declared.model.Reply.{Reply}
-use Rattle.queue_steps.specs.declared.model.Effect.{Effect}
 use Rattle.queue_steps.specs.declared.steps.types.Touch.{Touch}
 use Rattle.queue_steps.specs.declared.steps.types.Touch.TheVariants as touch
 use Rattle.queue_steps.specs.Effect.{IsHistory}
-use Rattle.queue_steps.specs.Shares.{Share, IsEntire}
-use Rattle.queue_steps.specs.Parties.{SharedCall, IsWhole}
-use Rattle.queue_parties.specs.Known.{party}
+use Rattle.queue_steps.specs.Parties.{SharedCall}
 use Rattle.concurrent_queue.specs.Seats.{Seated, Rests, view_at}
 use Rattle.queue_parties.specs.Doings.{HasAll}
 

@@ -1,5 +1,5 @@
 -- The seats at the table of a shared queue, whatever the queue is made of.
-use Rattle.std.specs.Prelude.{◌≡◌, ℕ, ◌<◌, List, [], length, Option, slice_index_or, slice_set}
+use Rattle.std.specs.Prelude.{◌≡◌, ℕ, List, [], Option, slice_index_or, slice_set}
 use Rattle.atomic_table.specs.Table.{State, Me}
 use Rattle.queue_steps.specs.Parties.{View}
 use Rattle.queue_parties.specs.declared.known.Doing.{Doing}

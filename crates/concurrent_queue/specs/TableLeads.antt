@@ -3,15 +3,12 @@ use Rattle.std.specs.Prelude.{◌≡◌, ℕ, [], Option, Some, None}
 use Rattle.std.proofs.Common.{refl, ap, sym, ◌∙◌, subst, inl, inr}
 use Rattle.atomic_table.specs.Seated.{TableId}
 use Rattle.queue_steps.specs.declared.model.Call.{Call}
-use Rattle.queue_steps.specs.declared.model.Call.TheVariants as call
 use Rattle.queue_steps.specs.declared.model.Reply.{Reply}
 use Rattle.queue_steps.specs.declared.steps.types.Answer.{Answer}
 use Rattle.queue_steps.specs.declared.steps.types.Local.{Local}
-use Rattle.queue_steps.specs.declared.steps.types.Local.TheVariants as local
 use Rattle.queue_steps.specs.declared.steps.types.Next.{Next}
 use Rattle.queue_steps.specs.declared.steps.types.Next.TheVariants as next
 use Rattle.queue_steps.specs.declared.steps.types.Op.{Op}
-use Rattle.queue_steps.specs.declared.steps.types.Op.TheVariants as op
 use Rattle.queue_steps.specs.declared.steps.types.Touch.{Touch}
 use Rattle.queue_steps.specs.declared.steps.types.Touch.TheVariants as touch
 use Rattle.queue_steps.specs.Effect.{after}
@@ -21,7 +18,6 @@ use Rattle.queue_steps.specs.Parties.{View, SharedCall}
 use Rattle.queue_laws.proofs.Effects.{Touches}
 use Rattle.queue_parties.specs.declared.known.Doing.{Doing}
 use Rattle.queue_parties.specs.declared.known.InCall.{InCall}
-use Rattle.queue_parties.specs.declared.known.Work.{Work}
 use Rattle.queue_parties.specs.declared.known.Work.TheVariants as work
 use Rattle.queue_parties.specs.Known.{party}
 use Rattle.concurrent_queue.specs.Seats.{Seated, view_at}

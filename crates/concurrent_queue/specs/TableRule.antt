@@ -1,35 +1,25 @@
 -- The rule of a queue that parties share over a table, whatever its kind: the first word counts the parties, the other words and the slots are the kind's.
-use Rattle.std.specs.Prelude.{None, ◌≡◌, ℕ, ◌+◌, ◌%◌, ◌^◌, ◌<◌, ◌==◌, ◌||◌, not, Bool, true, false, List, [], ◌∷◌, map, Option, bit_and, bit_or, slice_index_or, slice_set}
+use Rattle.std.specs.Prelude.{None, ◌≡◌, ℕ, ◌<◌, ◌||◌, not, Bool, true, List, ◌∷◌, Option, slice_index_or, slice_set}
 use mathlib.Core.Option.{some}
 use mathlib.Core.Option as maybe
-use lib.ListN.{get_elem?}
-use prog.Atomic.{either}
 use Rattle.atomic_table.specs.Table.{Act, Valid, carried_after, homes_after}
 use Rattle.queue_steps.specs.declared.model.Call.{Call}
 use Rattle.queue_steps.specs.declared.model.Effect.{Effect}
-use Rattle.queue_steps.specs.declared.steps.types.Answer.{Answer}
 use Rattle.queue_steps.specs.declared.steps.types.Answer.TheVariants as answer
 use Rattle.queue_steps.specs.declared.steps.types.Local.{Local}
 use Rattle.queue_steps.specs.declared.steps.types.Op.{Op}
 use Rattle.queue_steps.specs.declared.steps.types.Op.TheVariants as op
 use Rattle.queue_steps.specs.declared.steps.types.Touch.{Touch}
 use Rattle.queue_steps.specs.declared.steps.types.Word.{Word}
-use Rattle.queue_steps.specs.declared.steps.types.Word.TheVariants as word
-use Rattle.queue_steps.specs.Effect.{after}
 use Rattle.queue_steps.specs.Kinds.{call_kind}
 use Rattle.queue_steps.specs.Next.{CanNext, first_local, next_of}
 use Rattle.queue_steps.specs.Prompt.{is_prompt, EndsPromptly}
 use Rattle.queue_steps.specs.State.{State}
 use Rattle.queue_laws.proofs.Effects.{Leads, with_effect}
-use Rattle.queue_parties.specs.declared.known.Doing.{Doing}
-use Rattle.queue_parties.specs.declared.known.InCall.{InCall}
-use Rattle.queue_parties.specs.declared.known.Work.TheVariants as work
-use Rattle.queue_parties.specs.Known.{Kept}
 use Rattle.concurrent_queue.specs.Seats.{Table, count_of}
-use Rattle.queue_parties.specs.Doings.{is_busy, known_by}
 use Rattle.queue_parties.specs.Operations.{op_word, op_makes, answer_for}
 use Rattle.queue_parties.specs.CallsAt.{CallsAt}
-use Rattle.queue_parties.specs.Calling.{CallsOf, CallLaws, cap_of, Standing, touched_list, handed_by, MayFront, Goes, first_of, Opens}
+use Rattle.queue_parties.specs.Calling.{CallsOf, CallLaws, touched_list, handed_by, MayFront, Goes, first_of, Opens}
 
 -- A kind of queue in a table: which of the steps' words it has and where, and how the words behind the count and the slots at home stand for its cells
 pub record TableOf (T : Type 0) : Type 1 where

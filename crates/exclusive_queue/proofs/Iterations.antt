@@ -1,5 +1,5 @@
 -- Calls of an iterator's `next` stay with its queue.
-use Rattle.std.proofs.Common.{List, [], ◌∷◌, sym, ap, ◌∙◌}
+use Rattle.std.proofs.Common.{[], ◌∷◌, sym, ap, ◌∙◌}
 use Rattle.exclusive_queue.specs.declared.exclusive.iter.TryIter.{TryIter}
 use Rattle.exclusive_queue.specs.Iterating.{iter_lender, IterKeepsAlong}
 

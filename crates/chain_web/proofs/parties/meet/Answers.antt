@@ -1,4 +1,4 @@
-use Rattle.std.proofs.Common.{rules, lit<, ap, sym, ◌∙◌, subst, refl, ◌≡◌, ◌+◌, ◌-◌, ◌%◌, ◌^◌}
+use Rattle.std.proofs.Common.{rules, lit<, ap, sym, ◌∙◌, subst, ◌≡◌}
 use Rattle.queue_parties.specs.declared.known.Doing.{Doing}
 use Rattle.queue_parties.specs.Doings.{is_busy, IsResting}
 use Rattle.queue_parties.specs.Parting.{SawAll, IsParty, Meets}

@@ -1,4 +1,4 @@
-use Rattle.std.proofs.Common.{sym, ap, ◌∙◌}
+use Rattle.std.proofs.Common.{sym, ◌∙◌}
 use Rattle.concurrent_queue.proofs.WebParties.{wakes_free, rests_ended}
 use Rattle.concurrent_queue.proofs.chain.answer_promptly.Goals as goal
 

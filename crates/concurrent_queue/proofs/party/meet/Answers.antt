@@ -1,9 +1,9 @@
-use Rattle.std.proofs.Common.{rules, ap, sym, ◌∙◌, subst, ◌≡◌, ◌+◌, ◌-◌, ◌%◌, ◌^◌}
+use Rattle.std.proofs.Common.{rules, ap, sym, ◌∙◌, subst, ◌≡◌}
 use Rattle.queue_parties.specs.Doings.{is_busy}
 use Rattle.queue_parties.specs.Parting.{SawAll}
 use Rattle.queue_parties.proofs.Crowds.{joins_up, looks_on, splits_apart}
 use Rattle.queue_parties.proofs.Meetings as meeting
-use Rattle.concurrent_queue.specs.Shared.{IsHeld, Meets, at_table, person_of}
+use Rattle.concurrent_queue.specs.Shared.{IsHeld, at_table, person_of}
 use Rattle.concurrent_queue.proofs.Crowds.{recounts, joins, splits}
 use Rattle.concurrent_queue.proofs.Persons.{meets_persons}
 use Rattle.concurrent_queue.proofs.party.meet.Goals as goal
