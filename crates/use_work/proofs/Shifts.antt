@@ -1,5 +1,5 @@
 -- What calls, partings and joinings add to the jobs that a party took.
-use Rattle.std.proofs.Common.{◌≡◌, ℕ, zero, suc, ◌+◌, ◌<◌, ◌≤◌, ◌==◌, if◌then◌else◌, Bool, true, false, cond, Option, None, List, [], ◌∷◌, ◌++◌, Ok, Err, refl, ap, sym, subst, ◌∙◌, inl, inr, ⊎_elim, append_assoc, arith}
+use Rattle.std.proofs.Common.{◌≡◌, ℕ, zero, suc, ◌+◌, ◌-◌, ◌<◌, ◌≤◌, ◌==◌, Bool, true, false, cond, Option, None, List, [], ◌∷◌, ◌++◌, Ok, Err, refl, ap, sym, subst, ◌∙◌, inl, inr, ⊎_elim, append_assoc, arith}
 use Rattle.std.specs.List.{count_by}
 use Rattle.std.proofs.lemmas.Bool.Decides.{eqb_tells}
 use Rattle.std.proofs.lemmas.List.Sums.{sum_by-cons, sum_by-append}
@@ -16,7 +16,7 @@ use Rattle.queue_steps.specs.Legal.{IsSoundOwned}
 use Rattle.queue_steps.specs.Shares.{Share, SamePart, IsEntire}
 use Rattle.queue_steps.specs.Sole.{Owned}
 use Rattle.queue_steps.specs.Parties.{View, IsView}
-use Rattle.queue_steps.proofs.ShareLaws.{same_refl, halves_joined, shares_add_up}
+use Rattle.queue_steps.proofs.ShareLaws.{halves_joined, shares_add_up}
 use Rattle.concurrent_queue.specs.Shared.{QueueId, Person, Calls, Parts, Joins, Finishes}
 use Rattle.history_laws.specs.Histories.{IsDrained}
 use Rattle.history_laws.proofs.Closing.{ends_at}
@@ -46,11 +46,12 @@ took_then u v w jobs more a b job =
     let both : times job (jobs ++ more) ≡ times job jobs + times job more = sum_by-append (λ j. cond (j == job) 1 0) jobs more in
     (omega (arith, one.0, two.0, both), omega (arith, one.1, two.1))
 
-pub took_one : (u v w : Person ℕ) (jobs : List ℕ) (job : ℕ) → IsView v.queue.cap v.view → Took u v jobs → Calls v call.Pop (reply.Pop (Ok job)) w → Took u w (jobs ++ job ∷ [])
-took_one u v w jobs job is before popped =
-    took_then u v w jobs (job ∷ []) before
+pub took_one : (u v w : Person ℕ) (jobs more : List ℕ) (job : ℕ) → IsView v.queue.cap v.view → Took u v jobs → Calls v call.Pop (reply.Pop (Ok job)) w → more ≡ jobs ++ job ∷ [] → Took u w more
+took_one u v w jobs more job is before popped noted =
+    subst {A = List ℕ} (Took u w) (sym noted)
+    (took_then u v w jobs (job ∷ []) before
     (took_by v w (effect.Take job ∷ []) (job ∷ []) (acts v w call.Pop (reply.Pop (Ok job)) (effect.Take job ∷ []) is popped popped.1.tells)
-    (λ x. (single (hands_out x) (effect.Take job) ∙ sym (single (λ j. j == x) job), single (hands_in x) (effect.Take job))))
+    (λ x. (single (hands_out x) (effect.Take job) ∙ sym (single (λ j. j == x) job), single (hands_in x) (effect.Take job)))))
 
 pub took_no_more : (u v w : Person ℕ) (jobs : List ℕ) (why : PopError) → IsView v.queue.cap v.view → Took u v jobs → Calls v call.Pop (reply.Pop (Err why)) w → Took u w jobs
 took_no_more u v w jobs why is before popped job =
@@ -70,48 +71,51 @@ parted : (v a b : Person ℕ) (test : Effect ℕ → Bool) → IsView v.queue.ca
 parted v a b test is parts =
     (unchanged v.queue.cap v.view a.view is parts.2.begins parts.2.mine.0 test, ap (λ (ps : List ℕ). count_by (λ p. passes test (get_elem? b.view.seen p)) ps) parts.2.mine.1)
 
--- the shifts of two halves of a party, joined
-pub joined_shift : (q : QueueId) (v a b : Person ℕ) (ours theirs shift : Shift) → v.queue ≡ q → IsView v.queue.cap v.view → Parts v a b → IsShift q a ours → IsShift q b theirs
-    → IsView ours.party.queue.cap ours.party.view → IsView theirs.party.queue.cap theirs.party.view → Joins ours.party theirs.party shift.party
-    → (shift.complete ≡ true → (ours.complete ≡ true) × (theirs.complete ≡ true) × (shift.handed.items ≡ ours.handed.items ++ theirs.handed.items)) → IsShift q v shift
-joined_shift q v a b ours theirs shift of is parts our their is_ours is_theirs joins all = record {
+prefix_on : (h s t : List (Effect ℕ)) → IsPrefix h s → IsPrefix s t → IsPrefix h t
+prefix_on h s t (d, is) (e, on) = (d ++ e, sym (append_assoc h d e) ∙ (ap (λ (l : List (Effect ℕ)). l ++ e) is ∙ on))
+
+-- a pop that finds the queue closed has seen it closed and empty
+pub saw_drained : (v w : Person ℕ) → Calls v call.Pop (reply.Pop (Err pop.Closed)) w → SawDrained w
+saw_drained v w popped =
+    let seen = popped.1.right popped.1.tells in
+    (seen.0, seen.2, subst {A = Option ℕ} (λ cap. IsDrained (after cap seen.0)) (sym (ap (λ (q : QueueId). q.cap) popped.0)) (⊎_elim (λ right. right) (λ lacks. absurd lacks) seen.3))
+
+-- who is joined with such a party has seen it too
+pub joined_drained : (a b w : Person ℕ) → b.queue ≡ a.queue → Joins a b w → SawDrained b → SawDrained w
+joined_drained a b w same joins (h, begins, drained) =
+    (h, prefix_on h b.view.seen w.view.seen begins joins.1.begins.1, subst {A = QueueId} (λ q. IsDrained (after q.cap h)) (same ∙ sym joins.0) drained)
+
+-- the shifts of two halves of a party, of which the second had a worker, joined
+pub joined_shift : (q : QueueId) (workers : ℕ) (v a b : Person ℕ) (ours theirs shift : Shift) → v.queue ≡ q → IsView v.queue.cap v.view → Parts v a b → IsShift q (workers - 1) a ours → IsShift q 1 b theirs
+    → IsView ours.party.queue.cap ours.party.view → IsView theirs.party.queue.cap theirs.party.view → Joins ours.party theirs.party shift.party × (shift.handed.items ≡ ours.handed.items ++ theirs.handed.items)
+    → IsShift q workers v shift
+joined_shift q workers v a b ours theirs shift of is parts our their is_ours is_theirs (joins, lists) = record {
   queue = joins.0 ∙ our.queue;
-  took = λ complete job.
-      let done = all complete in let one = our.took done.0 job in let two = their.took done.1 job in
-      let lists : times job shift.handed.items ≡ times job ours.handed.items + times job theirs.handed.items = ap (times job) done.2 ∙ sum_by-append (λ j. cond (j == job) 1 0) ours.handed.items theirs.handed.items in
+  took = λ job.
+      let one = our.took job in let two = their.took job in
+      let all : times job shift.handed.items ≡ times job ours.handed.items + times job theirs.handed.items = ap (times job) lists ∙ sum_by-append (λ j. cond (j == job) 1 0) ours.handed.items theirs.handed.items in
       let outs = did (hands_out job) in let ins = did (hands_in job) in let split_out = parted v a b (hands_out job) is parts in let split_in = parted v a b (hands_in job) is parts in
-      (omega (arith, one.0, two.0, lists, outs, split_out.0, split_out.1), omega (arith, one.1, two.1, ins, split_in.0, split_in.1));
-  share = λ complete.
-      let done = all complete in
+      (omega (arith, one.0, two.0, all, outs, split_out.0, split_out.1), omega (arith, one.1, two.1, ins, split_in.0, split_in.1));
+  share =
       subst {A = Share} (λ s. SamePart s v.view.share) (sym joins.1.share)
       (halves_joined v.view.share ours.party.view.share theirs.party.view.share
-      (subst {A = Share} (SamePart ours.party.view.share) parts.2.share.0 (our.share done.0)) (subst {A = Share} (SamePart theirs.party.view.share) parts.2.share.1 (their.share done.1)));
+      (subst {A = Share} (SamePart ours.party.view.share) parts.2.share.0 our.share) (subst {A = Share} (SamePart theirs.party.view.share) parts.2.share.1 their.share));
+  drained = λ some. joined_drained ours.party theirs.party shift.party same joins (their.drained (omega arith));
 }
   where
+    same : theirs.party.queue ≡ ours.party.queue
+    same = their.queue ∙ sym our.queue
+
     did : (test : Effect ℕ → Bool) → done_by test shift.party.view ≡ done_by test ours.party.view + done_by test theirs.party.view
-    did test = did_both ours.party.queue.cap ours.party.view theirs.party.view shift.party.view is_ours (subst {A = QueueId} (λ z. IsView z.cap theirs.party.view) (their.queue ∙ sym our.queue) is_theirs) joins.1 test
+    did test = did_both ours.party.queue.cap ours.party.view theirs.party.view shift.party.view is_ours (subst {A = QueueId} (λ z. IsView z.cap theirs.party.view) same is_theirs) joins.1 test
 
--- a party that is handed nothing
-pub idle_shift : (q : QueueId) (v : Person ℕ) (shift : Shift) → v.queue ≡ q → shift.party ≡ v → shift.handed.items ≡ [] → IsShift q v shift
-idle_shift q v shift of same none = record {
-  queue = ap (λ (p : Person ℕ). p.queue) same ∙ of;
-  took = λ complete. subst {A = Person ℕ} (λ p. Took v p shift.handed.items) (sym same) (subst {A = List ℕ} (Took v v) (sym none) (took_none v));
-  share = λ complete. subst {A = Person ℕ} (λ p. SamePart p.view.share v.view.share) (sym same) (same_refl v.view.share);
-}
-
--- a shift that is given up
-pub lost_shift : (q : QueueId) (v u : Person ℕ) (shift : Shift) → v.queue ≡ q → u.queue ≡ v.queue → shift.party ≡ u → shift.complete ≡ false → IsShift q v shift
-lost_shift q v u shift of still same not_all = record {
-  queue = ap (λ (p : Person ℕ). p.queue) same ∙ (still ∙ of);
-  took = λ complete. absurd (let no : true ≡ false = sym complete ∙ not_all in cc);
-  share = λ complete. absurd (let no : true ≡ false = sym complete ∙ not_all in cc);
-}
-
-pub worked : (q : QueueId) (v w : Person ℕ) (shift : Shift) → v.queue ≡ q → w.queue ≡ v.queue → w.view.share ≡ v.view.share → shift.party ≡ w → Took v w shift.handed.items → IsShift q v shift
-worked q v w shift of still share same took = record {
-  queue = ap (λ (p : Person ℕ). p.queue) same ∙ (still ∙ of);
-  took = λ complete. subst {A = Person ℕ} (λ p. Took v p shift.handed.items) (sym same) took;
-  share = λ complete. subst {A = Share} (λ s. SamePart s v.view.share) (sym (ap (λ (p : Person ℕ). p.view.share) same ∙ share)) (same_refl v.view.share);
+-- one worker does for all
+pub one_for_all : (q : QueueId) (workers : ℕ) (v : Person ℕ) (shift : Shift) → IsShift q 1 v shift → IsShift q workers v shift
+one_for_all q workers v shift one = record {
+  queue = one.queue;
+  took = one.took;
+  share = one.share;
+  drained = λ some. one.drained (omega arith);
 }
 
 cond_one : (b : Bool) → b ≡ true → cond {A = ℕ} b 1 0 ≡ 1
@@ -161,31 +165,12 @@ each_once n first full closed shift left fresh put shut took is ended sound job 
     let empty : times job [] ≡ 0 = refl in
     omega (arith, put_in, put_out, zero_in, zero_out, one, none, s.0, s.1, t.0, t.1, all, items, empty)
 
--- a job that was noted
-pub noted : (done : Bool) (old new : List ℕ) (job : ℕ) → new ≡ (if done then old ++ job ∷ [] else old) → done ≡ true → new ≡ old ++ job ∷ []
-noted true old new job is e = is
-noted false old new job is e = cc
-
 -- one job more is appended
 pub append_more : (v u w : Person ℕ) (n : ℕ) (done : Unit {0}) → IsView u.queue.cap u.view → Acts v u (appended n) → Calls u (call.Push n) (reply.Push (Ok done)) w → Acts v w (appended (n + 1))
 append_more v u w n done is before pushed =
     let one : n + 1 ≡ suc n = omega arith in
     subst {A = ℕ} (λ k. Acts v w (appended k)) (sym one)
     (acts_on v u w (appended n) (effect.Append n ∷ []) before (acts u w (call.Push n) (reply.Push (Ok done)) (effect.Append n ∷ []) is pushed pushed.1.tells))
-
-prefix_on : (h s t : List (Effect ℕ)) → IsPrefix h s → IsPrefix s t → IsPrefix h t
-prefix_on h s t (d, is) (e, on) = (d ++ e, sym (append_assoc h d e) ∙ (ap (λ (l : List (Effect ℕ)). l ++ e) is ∙ on))
-
--- a pop that finds the queue closed has seen it closed and empty
-pub saw_drained : (v w : Person ℕ) → Calls v call.Pop (reply.Pop (Err pop.Closed)) w → SawDrained w
-saw_drained v w popped =
-    let seen = popped.1.right popped.1.tells in
-    (seen.0, seen.2, subst {A = Option ℕ} (λ cap. IsDrained (after cap seen.0)) (sym (ap (λ (q : QueueId). q.cap) popped.0)) (⊎_elim (λ right. right) (λ lacks. absurd lacks) seen.3))
-
--- who is joined with such a party has seen it too
-pub joined_drained : (a b w : Person ℕ) → b.queue ≡ a.queue → Joins a b w → SawDrained b → SawDrained w
-joined_drained a b w same joins (h, begins, drained) =
-    (h, prefix_on h b.view.seen w.view.seen begins joins.1.begins.1, subst {A = QueueId} (λ q. IsDrained (after q.cap h)) (same ∙ sym joins.0) drained)
 
 -- then no job is left
 pub none_left : (p : Person ℕ) (left : Owned ℕ) → IsView p.queue.cap p.view → SawDrained p → Finishes p left → left.queue.items ≡ []

@@ -1,5 +1,5 @@
 -- Which jobs were handed out, and what a worker has done.
-use Rattle.std.specs.Prelude.{◌≡◌, ℕ, zero, suc, ◌+◌, ◌<◌, ◌==◌, true, List, [], ◌∷◌, ◌++◌}
+use Rattle.std.specs.Prelude.{◌≡◌, ℕ, zero, suc, ◌+◌, ◌<◌, ◌==◌, List, [], ◌∷◌, ◌++◌}
 use Rattle.std.specs.List.{count_by}
 use Rattle.queue_steps.specs.declared.model.Effect.{Effect}
 use Rattle.queue_steps.specs.declared.model.Effect.TheVariants as effect
@@ -37,12 +37,9 @@ Took v w jobs = (job : ℕ) → (done_by (hands_out job) w.view ≡ done_by (han
 abbrev pub SawDrained : Person ℕ → Type 0
 SawDrained p = (h : List (Effect ℕ)) × IsPrefix h p.view.seen × IsDrained (after p.queue.cap h)
 
--- The shift of a party v of the queue q. If it is complete, the jobs that were handed to it are those that it took, and it has its share again
-pub record IsShift (q : QueueId) (v : Person ℕ) (shift : Shift) : Type 0 where
+-- The shift of so many workers, who had the party v of the queue q: the jobs that were handed to it are those that it took, and it has its share again. It ends only where no job is left, if there was a worker
+pub record IsShift (q : QueueId) (workers : ℕ) (v : Person ℕ) (shift : Shift) : Type 0 where
   pub queue : IsPartyOf shift.party q
-  pub took : shift.complete ≡ true → Took v shift.party shift.handed.items
-  pub share : shift.complete ≡ true → SamePart shift.party.view.share v.view.share
-
--- the shift of a worker, which ends only where no job is left
-abbrev pub IsWorked : QueueId → Person ℕ → Shift → Type 0
-IsWorked q v shift = IsShift q v shift × (shift.complete ≡ true → SawDrained shift.party)
+  pub took : Took v shift.party shift.handed.items
+  pub share : SamePart shift.party.view.share v.view.share
+  pub drained : 0 < workers → SawDrained shift.party

@@ -4,7 +4,13 @@ use std::alloc::AllocError;
 
 #[test]
 fn all_jobs_are_handed_out(rt: HostRuntime) -> Result<(), AllocError> {
-    for (jobs, workers, handed) in [(10, 0, 0), (0, 2, 0), (100, 1, 100), (1000, 4, 1000)] {
+    for (jobs, workers, handed) in [
+        (10, 0, 0),
+        (0, 2, 0),
+        (100, 1, 100),
+        (100, 2, 100),
+        (1000, 4, 1000),
+    ] {
         let report = distribute(&rt, rt.alloc(), jobs, workers)?;
         assert_eq!(rt;
             (report.handed.len() as u64, report.left.len() as u64),
