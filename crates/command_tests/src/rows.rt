@@ -1,6 +1,6 @@
 //! Runs of the program: what they are given, how they are to end, and what they are to write.
 use queue_command::command::command;
-use std::alloc::{AllocError, Global};
+use std::alloc::{AllocError, Allocator, Global};
 use std::io::{Read, Write};
 use std::process::Abort;
 use std::sync::Wait;
@@ -73,7 +73,7 @@ fn words(alloc: Global, line: &str) -> Result<Vec<String>, AllocError> {
 }
 
 /// Runs the program on a line of arguments, and gives the status that it ends with.
-pub fn run_over<R: Threads + Wait + Sync, I: Read, O: Write, F: Write>(
+pub fn run_over<R: Threads + Wait + Sync + AllocGlobal, I: Read, O: Write, F: Write>(
     rt: &R,
     alloc: Global,
     line: &str,
@@ -82,11 +82,30 @@ pub fn run_over<R: Threads + Wait + Sync, I: Read, O: Write, F: Write>(
     faults: &mut F,
 ) -> Result<u8, AllocError> {
     let args = words(alloc, line)?;
-    Ok(command(rt, alloc, args, input, output, faults))
+    Ok(command(rt, &alloc, args, input, output, faults))
+}
+
+/// Runs the program on a line of arguments and this input, with the memory of scripts and replays from this heap.
+pub fn run_from<R: Threads + Wait + Sync + AllocGlobal, A: Allocator>(
+    rt: &R,
+    heap: &A,
+    line: &str,
+    mut input: &[u8],
+) -> Result<Outcome, AllocError> {
+    let alloc = rt.alloc();
+    let mut output = Vec::new(alloc);
+    let mut faults = Vec::new(alloc);
+    let args = words(alloc, line)?;
+    let status = command(rt, heap, args, &mut input, &mut output, &mut faults);
+    Ok(Outcome {
+        status,
+        output,
+        faults,
+    })
 }
 
 /// Runs the program on a line of arguments and this input.
-pub fn run<R: Threads + Wait + Sync, I: Read>(
+pub fn run<R: Threads + Wait + Sync + AllocGlobal, I: Read>(
     rt: &R,
     alloc: Global,
     line: &str,
@@ -103,7 +122,7 @@ pub fn run<R: Threads + Wait + Sync, I: Read>(
 }
 
 /// Asserts that the program ends so on a line of arguments and this input.
-pub fn ends<R: Abort + Threads + Wait + Sync>(
+pub fn ends<R: Abort + Threads + Wait + Sync + AllocGlobal>(
     rt: &R,
     alloc: Global,
     line: &str,
@@ -184,7 +203,7 @@ fn write_items(text: &mut String, count: u64) -> Result<(), AllocError> {
 }
 
 /// The text of these parts, one after another.
-fn text_of(alloc: Global, parts: &[Part<'_>]) -> Result<String, AllocError> {
+pub fn text_of(alloc: Global, parts: &[Part<'_>]) -> Result<String, AllocError> {
     let mut text = String::new(alloc);
     for part in parts {
         write_part(&mut text, part)?;
@@ -193,7 +212,7 @@ fn text_of(alloc: Global, parts: &[Part<'_>]) -> Result<String, AllocError> {
 }
 
 /// Asserts that the program ends well on a line of arguments and the input of these parts, and writes what these parts say.
-pub fn writes<R: Abort + Threads + Wait + Sync>(
+pub fn writes<R: Abort + Threads + Wait + Sync + AllocGlobal>(
     rt: &R,
     alloc: Global,
     line: &str,

@@ -208,7 +208,7 @@ impl Write for LateWriter {
 }
 
 /// A run whose output is held back until it is flushed.
-fn run_held<R: Threads + Wait + Sync>(
+fn run_held<R: Threads + Wait + Sync + AllocGlobal>(
     rt: &R,
     alloc: Global,
     line: &str,
@@ -267,7 +267,7 @@ impl Write for ShortWriter {
 }
 
 /// A script whose output has so much room.
-fn run_in<R: Threads + Wait + Sync>(
+fn run_in<R: Threads + Wait + Sync + AllocGlobal>(
     rt: &R,
     alloc: Global,
     mut input: &[u8],
@@ -366,7 +366,7 @@ fn output_in_pieces_is_whole(rt: HostRuntime) -> Result<(), Fail> {
 }
 
 /// A script whose faults have so much room.
-fn run_telling_in<R: Threads + Wait + Sync>(
+fn run_telling_in<R: Threads + Wait + Sync + AllocGlobal>(
     rt: &R,
     alloc: Global,
     mut input: &[u8],

@@ -120,7 +120,7 @@ impl Write for ByteWriter {
 }
 
 /// A run whose input comes, and whose output goes, a byte at a time.
-fn run_by_bytes<R: Threads + Wait + Sync>(
+fn run_by_bytes<R: Threads + Wait + Sync + AllocGlobal>(
     rt: &R,
     alloc: Global,
     row: &Row,
@@ -147,7 +147,7 @@ fn run_by_bytes<R: Threads + Wait + Sync>(
 }
 
 /// Asserts that each run ends so where its streams fail so.
-fn ends_by_bytes<R: Abort + Threads + Wait + Sync>(
+fn ends_by_bytes<R: Abort + Threads + Wait + Sync + AllocGlobal>(
     rt: &R,
     alloc: Global,
     row: &Row,

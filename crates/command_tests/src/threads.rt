@@ -9,7 +9,7 @@ use std::test::Fail;
 use std::thread::Threads;
 
 /// Asserts that the program ends so on a line of arguments, with an input that it is not to read.
-fn ends_unread<R: Abort + Threads + Wait + Sync>(
+fn ends_unread<R: Abort + Threads + Wait + Sync + AllocGlobal>(
     rt: &R,
     alloc: Global,
     line: &str,
@@ -173,7 +173,7 @@ impl Write for Broken {
 }
 
 /// A run without an input, whose output takes nothing.
-fn run_broken<R: Threads + Wait + Sync>(
+fn run_broken<R: Threads + Wait + Sync + AllocGlobal>(
     rt: &R,
     alloc: Global,
     line: &str,

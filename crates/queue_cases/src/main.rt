@@ -27,7 +27,7 @@ fn agrees<R: Threads + Wait + Sync + Files + AllocGlobal>(rt: &R, line: &str) ->
     let mut faults = Vec::new(alloc);
     let status = command(
         rt,
-        alloc,
+        &alloc,
         args,
         &mut input.as_slice(),
         &mut output,

@@ -12,17 +12,18 @@ use queue_text::faults::Fault;
 use queue_threads::handshake::handshake;
 use queue_threads::threads::threads;
 use queue_threads::verdict::Verdict;
-use std::alloc::Global;
+use std::alloc::Allocator;
 use std::io::{Read, Write};
 use std::sync::Wait;
 use std::thread::Threads;
 
 /// Does what the arguments after the program's name say, and answers the status to end with.
 ///
-/// Threads are started, and wait, in the forms `threads` and `handshake` alone. A fault is told on `faults`. Where it cannot be written there, the status is the same.
-pub fn command<R: Threads + Wait + Sync, I: Read, O: Write, F: Write>(
+/// Scripts and replays take their memory of `alloc`. Threads are started, and wait, in the forms `threads` and `handshake` alone, which take theirs of the
+/// allocator of `rt`. A fault is told on `faults`. Where it cannot be written there, the status is the same.
+pub fn command<R: Threads + Wait + Sync + AllocGlobal, A: Allocator, I: Read, O: Write, F: Write>(
     rt: &R,
-    alloc: Global,
+    alloc: &A,
     args: Vec<String>,
     input: &mut I,
     output: &mut O,
@@ -54,9 +55,9 @@ fn tell<F: Write>(fault: Fault, faults: &mut F) -> u8
 }
 
 // Does what the arguments say.
-fn run<R: Threads + Wait + Sync, I: Read, O: Write>(
+fn run<R: Threads + Wait + Sync + AllocGlobal, A: Allocator, I: Read, O: Write>(
     rt: &R,
-    alloc: Global,
+    alloc: &A,
     args: &[String],
     input: &mut I,
     output: &mut O,
@@ -71,10 +72,10 @@ fn run<R: Threads + Wait + Sync, I: Read, O: Write>(
         return Err(Fault::Usage);
     };
     match form {
-        Form::Script(kind) => shown(script(&alloc, kind, input, output)),
-        Form::Replay(kind, parties) => shown(replay(&alloc, kind, parties, input, output)),
-        Form::Threads(load) => threads(rt, alloc, load, output),
-        Form::Handshake => handshake(rt, alloc, output),
+        Form::Script(kind) => shown(script(alloc, kind, input, output)),
+        Form::Replay(kind, parties) => shown(replay(alloc, kind, parties, input, output)),
+        Form::Threads(load) => threads(rt, rt.alloc(), load, output),
+        Form::Handshake => handshake(rt, rt.alloc(), output),
     }
 }
 

@@ -17,7 +17,7 @@ fn main(rt: HostRuntime) -> ExitCode {
     };
     let status = command(
         &rt,
-        rt.alloc(),
+        &rt.alloc(),
         args,
         &mut rt.stdin(),
         &mut rt.stdout(),
