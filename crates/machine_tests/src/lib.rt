@@ -10,6 +10,8 @@ mod items;
 #[cfg(test)]
 mod left_on_three;
 #[cfg(test)]
+mod limits;
+#[cfg(test)]
 mod memory;
 #[cfg(test)]
 mod refusals;
