@@ -266,6 +266,9 @@ impl Write for ShortWriter {
     }
 }
 
+/// The arguments of a script on a queue of one slot.
+const SINGLE: &str = "script single";
+
 /// A script whose output has so much room.
 fn run_in<R: Threads + Wait + Sync + AllocGlobal>(
     rt: &R,
@@ -278,14 +281,7 @@ fn run_in<R: Threads + Wait + Sync + AllocGlobal>(
         taken: Vec::new(alloc),
     };
     let mut faults = Vec::new(alloc);
-    let status = run_over(
-        rt,
-        alloc,
-        "script single",
-        &mut input,
-        &mut output,
-        &mut faults,
-    )?;
+    let status = run_over(rt, alloc, SINGLE, &mut input, &mut output, &mut faults)?;
     Ok(Outcome {
         status,
         output: output.taken,
@@ -377,14 +373,7 @@ fn run_telling_in<R: Threads + Wait + Sync + AllocGlobal>(
         room,
         taken: Vec::new(alloc),
     };
-    let status = run_over(
-        rt,
-        alloc,
-        "script single",
-        &mut input,
-        &mut output,
-        &mut faults,
-    )?;
+    let status = run_over(rt, alloc, SINGLE, &mut input, &mut output, &mut faults)?;
     Ok(Outcome {
         status,
         output,

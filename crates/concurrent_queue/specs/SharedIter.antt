@@ -1,5 +1,6 @@
 -- What a contract sees of an iterator over a shared queue.
-use Rattle.std.specs.Prelude.{◌≡◌, Option, Some, None, Result, Ok, Err}
+use Rattle.std.specs.Prelude.{◌≡◌, Option, Result}
+use Rattle.std.specs.Result.{result_ok}
 use Rattle.std.specs.Borrow.{GName}
 use Rattle.queue_steps.specs.declared.model.Call.TheVariants as call
 use Rattle.queue_steps.specs.declared.model.Reply.TheVariants as reply
@@ -7,14 +8,9 @@ use Rattle.queue_steps.specs.declared.errors.PopError.{PopError}
 use Rattle.concurrent_queue.specs.declared.shared.iter.TryIter.{TryIter}
 use Rattle.concurrent_queue.specs.Shared.{Person, IsPartyOf, Calls}
 
--- the item, if there was one
-abbrev pub item_of : {T : Type 0} → Result T PopError → Option T
-item_of (Ok item) = Some item
-item_of (Err why) = None
-
 -- r is what a pop of the party gave, and took the party from v to w
 abbrev pub Popped : {T : Type 0} → Person T → Option T → Person T → Type 0
-Popped {T} v r w = (answer : Result T PopError) × (r ≡ item_of answer) × Calls v call.Pop (reply.Pop answer) w
+Popped {T} v r w = (answer : Result T PopError) × (r ≡ result_ok answer) × Calls v call.Pop (reply.Pop answer) w
 
 module _ {T R A : Type 0} where
   -- the iterator pops for a party of its queue

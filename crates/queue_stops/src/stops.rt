@@ -48,23 +48,11 @@ const EMPTY: Start = Start {
     closed: false,
 };
 
-const ONE: Start = Start {
-    pushed: 1,
-    popped: 0,
-    closed: false,
-};
+const ONE: Start = Start { pushed: 1, ..EMPTY };
 
-const TWO: Start = Start {
-    pushed: 2,
-    popped: 0,
-    closed: false,
-};
+const TWO: Start = Start { pushed: 2, ..EMPTY };
 
-const THREE: Start = Start {
-    pushed: 3,
-    popped: 0,
-    closed: false,
-};
+const THREE: Start = Start { pushed: 3, ..EMPTY };
 
 const CLOSED: Start = Start {
     closed: true,
@@ -74,15 +62,14 @@ const CLOSED: Start = Start {
 /// One item short of a block.
 const SHORT_OF_A_BLOCK: Start = Start {
     pushed: 30,
-    popped: 0,
-    closed: false,
+    ..EMPTY
 };
 
 /// Of a block only the last item is left.
 const LAST_OF_A_BLOCK: Start = Start {
     pushed: 31,
     popped: 30,
-    closed: false,
+    ..EMPTY
 };
 
 static ROWS: [Row; 16] = [
