@@ -13,9 +13,12 @@ use crate::gate::Gate;
 use crate::turns::Turns;
 use queue_steps::model::{Call, CallKind, Reply};
 use queue_steps::sizes::PROMPT_STEPS;
-use queue_steps::steps::{self, Answer, Kind, Local, Next};
+use queue_steps::steps::{
+    self, Answer, BoundedLocal, Kind, Local, Next, UnboundedLocal,
+};
 use std::ops::ControlFlow;
 use std::sync::Wait;
+use std::thread::yield_now;
 
 /// Where a call stands that is on its way, with the answer to its last operation and the value that it carries.
 pub(crate) struct Standing<T, B> {
@@ -111,7 +114,27 @@ fn round<T, B: Copy, S, M: Turns<T, B, S>, G: Gate>(
     done!(queue, gate, call, seat, todo, carried)
 }
 
-/// The rounds of a call in a loop.
+/// Whether a call that stood there, and then here, has met another one half done, so that it tries again: a stamp is not stored yet, another call moves on to
+/// the next block, or an item is not written yet. A call that finds one slot locked is not among them: it tries again at once.
+fn has_met<B: Copy>(before: &Local<B>, after: &Local<B>) -> bool {
+    match (before, after) {
+        (Local::Bounded(before), Local::Bounded(after)) => match (before, after) {
+            (BoundedLocal::PushStamp(_, _), BoundedLocal::PushTail(_)) => true,
+            (BoundedLocal::PopStamp(_), BoundedLocal::PopHead) => true,
+            _ => false,
+        },
+        (Local::Unbounded(before), Local::Unbounded(after)) => match (before, after) {
+            (UnboundedLocal::PushTail(_, _), UnboundedLocal::PushTail(_, _)) => true,
+            (UnboundedLocal::PopHead, UnboundedLocal::PopHead) => true,
+            (UnboundedLocal::Following(_, _), UnboundedLocal::Following(_, _)) => true,
+            (UnboundedLocal::Awaiting(_, _), UnboundedLocal::Awaiting(_, _)) => true,
+            _ => false,
+        },
+        _ => false,
+    }
+}
+
+/// The rounds of a call in a loop. Where it meets another call half done, it gives way to other threads.
 #[inline(never)]
 fn go_on<T, B: Copy, S, M: Turns<T, B, S>, G: Gate, R: Wait>(
     queue: &M,
@@ -127,9 +150,15 @@ fn go_on<T, B: Copy, S, M: Turns<T, B, S>, G: Gate, R: Wait>(
 {
     let mut standing = standing;
     for _ in rt.forever() {
+        let before = standing.local;
         match round(queue, gate, kind, call, seat, standing) {
             ControlFlow::Break(reply) => return reply,
-            ControlFlow::Continue(after) => standing = after,
+            ControlFlow::Continue(after) => {
+                if has_met(&before, &after.local) {
+                    yield_now();
+                }
+                standing = after;
+            }
         }
     }
     unreachable!()
