@@ -3,7 +3,7 @@
 //! The first rounds stand one after another, so that the compiler knows in each where the call stands. They do common steps alone; any other step leaves for the loop, which goes on to the reply.
 ghost use Rattle.std.specs.Prelude.{◌≡◌, true, Some};
 ghost use Rattle.queue_steps.specs.declared.model.Reply.{Reply as SpecReply};
-ghost use Rattle.queue_steps.specs.CommonNext.{is_common_of};
+ghost use Rattle.queue_steps.specs.CommonNext.{is_common_of, is_walk_of};
 ghost use Rattle.queue_steps.specs.Kinds.{filled};
 ghost use Rattle.queue_steps.specs.Prompt.{is_prompt};
 ghost use Rattle.concurrent_queue.specs.Turns.{MayGive, Gave};
@@ -13,9 +13,7 @@ use crate::gate::Gate;
 use crate::turns::Turns;
 use queue_steps::model::{Call, CallKind, Reply};
 use queue_steps::sizes::PROMPT_STEPS;
-use queue_steps::steps::{
-    self, Answer, BoundedLocal, Kind, Local, Next, UnboundedLocal,
-};
+use queue_steps::steps::{self, Answer, BoundedLocal, Kind, Local, Next, UnboundedLocal};
 use std::ops::ControlFlow;
 use std::sync::Wait;
 use std::thread::yield_now;
@@ -92,6 +90,29 @@ fn common_round<T, B: Copy, S, M: Turns<T, B, S>, G: Gate, W, const AT: u64>(
     done!(queue, gate, call, seat, todo, carried)
 }
 
+/// One round of a call that walks over a block.
+#[inline(always)]
+fn walk_round<T, B: Copy, S, M: Turns<T, B, S>, G: Gate>(
+    queue: &M,
+    gate: &G,
+    kind: Kind,
+    call: CallKind,
+    seat: &mut S,
+    standing: Standing<T, B>,
+) -> ControlFlow<Reply<T>, Standing<T, B>>
+    requires walk { is_walk_of kind standing.local standing.answer ≡ true }
+    requires goes { IsUnderWay M.Turns kind call queue.now standing seat.old }
+    ensures { GoesAhead M.Turns kind call queue.now standing seat.old seat.new result }
+{
+    let Standing {
+        local,
+        answer,
+        carried,
+    } = standing;
+    let todo = M::next_walk(kind, local, answer);
+    done!(queue, gate, call, seat, todo, carried)
+}
+
 /// One round of a call, whatever its step is.
 #[inline(always)]
 fn round<T, B: Copy, S, M: Turns<T, B, S>, G: Gate>(
@@ -114,8 +135,29 @@ fn round<T, B: Copy, S, M: Turns<T, B, S>, G: Gate>(
     done!(queue, gate, call, seat, todo, carried)
 }
 
+/// One round of the loop. The walk over a block is most of what a party does there that meets no other.
+#[inline(always)]
+fn loop_round<T, B: Copy, S, M: Turns<T, B, S>, G: Gate>(
+    queue: &M,
+    gate: &G,
+    kind: Kind,
+    call: CallKind,
+    seat: &mut S,
+    standing: Standing<T, B>,
+) -> ControlFlow<Reply<T>, Standing<T, B>>
+    requires { IsUnderWay M.Turns kind call queue.now standing seat.old }
+    ensures { GoesAhead M.Turns kind call queue.now standing seat.old seat.new result }
+{
+    if M::is_walk(kind, &standing.local, &standing.answer) {
+        walk_round(queue, gate, kind, call, seat, standing)
+    } else {
+        round(queue, gate, kind, call, seat, standing)
+    }
+}
+
 /// Whether a call that stood there, and then here, has met another one half done, so that it tries again: a stamp is not stored yet, another call moves on to
 /// the next block, or an item is not written yet. A call that finds one slot locked is not among them: it tries again at once.
+#[inline(always)]
 fn has_met<B: Copy>(before: &Local<B>, after: &Local<B>) -> bool {
     match (before, after) {
         (Local::Bounded(before), Local::Bounded(after)) => match (before, after) {
@@ -151,7 +193,7 @@ fn go_on<T, B: Copy, S, M: Turns<T, B, S>, G: Gate, R: Wait>(
     let mut standing = standing;
     for _ in rt.forever() {
         let before = standing.local;
-        match round(queue, gate, kind, call, seat, standing) {
+        match loop_round(queue, gate, kind, call, seat, standing) {
             ControlFlow::Break(reply) => return reply,
             ControlFlow::Continue(after) => {
                 if has_met(&before, &after.local) {

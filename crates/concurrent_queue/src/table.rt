@@ -1,6 +1,6 @@
 //! A queue that parties share over a table: the first word counts the parties, the other words and the slots are those of its kind.
 ghost use Rattle.std.specs.Prelude.{◌≡◌, ◌≤◌, ℕ, true};
-ghost use Rattle.queue_steps.specs.CommonNext.{is_common_of};
+ghost use Rattle.queue_steps.specs.CommonNext.{is_common_of, is_walk_of};
 ghost use Rattle.queue_steps.specs.Next.{CanNext, next_of};
 ghost use Rattle.queue_parties.specs.Calling.{touched_list};
 ghost use Rattle.concurrent_queue.specs.TableRule.{TableOf, TableLaws, InTable};
@@ -235,6 +235,21 @@ impl<T, K: TableSteps<T>, A: Allocator> Turns<T, usize, Seat<Option<T>, Doing<T>
         ensures { result ≡ next_of kind local answer }
     {
         K::next_common(kind, local, answer)
+    }
+
+    /// No call on a table walks over a block.
+    #[inline(always)]
+    fn is_walk(_kind: Kind, _local: &Local<usize>, _answer: &Answer<usize>) -> bool {
+        false
+    }
+
+    #[inline(always)]
+    fn next_walk(kind: Kind, local: Local<usize>, answer: Answer<usize>) -> Next<usize>
+        requires of { (slots : _) × (kind ≡ (K.layout slots).calls.kind) }
+        requires can { CanNext kind local answer }
+        ensures { result ≡ next_of kind local answer }
+    {
+        K::next(kind, local, answer)
     }
 
     #[inline(always)]

@@ -7,7 +7,7 @@ ghost use Rattle.queue_steps.specs.declared.steps.types.Op.{Op as SpecOp};
 ghost use Rattle.queue_steps.specs.declared.steps.types.Touch.{Touch as SpecTouch};
 ghost use Rattle.queue_steps.specs.declared.steps.types.Answer.{Answer as SpecAnswer};
 ghost use Rattle.queue_steps.specs.declared.steps.types.Local.{Local as SpecLocal};
-ghost use Rattle.queue_steps.specs.CommonNext.{is_common_of};
+ghost use Rattle.queue_steps.specs.CommonNext.{is_common_of, is_walk_of};
 ghost use Rattle.queue_steps.specs.Kinds.{call_kind};
 ghost use Rattle.queue_steps.specs.Next.{CanNext, next_of};
 ghost use Rattle.queue_steps.specs.Prompt.{is_prompt, EndsPromptly};
@@ -62,6 +62,19 @@ pub(crate) trait Turns<T, B: Copy, S> {
         requires of { (queue : Self) × (kind ≡ kind_of queue) }
         requires can { CanNext kind local answer }
         requires common { is_common_of kind local answer ≡ true }
+        ensures { result ≡ next_of kind local answer };
+
+    /// Whether a call walks over a block, as `next_walk` tells. Where it answers no, `next` tells.
+    fn is_walk(kind: Kind, local: &Local<B>, answer: &Answer<B>) -> bool
+        requires of { (queue : Self) × (kind ≡ kind_of queue) }
+        requires can { CanNext kind local.now answer.now }
+        ensures { result ≡ true → is_walk_of kind local.now answer.now ≡ true };
+
+    /// What a call does next that walks over a block.
+    fn next_walk(kind: Kind, local: Local<B>, answer: Answer<B>) -> Next<B>
+        requires of { (queue : Self) × (kind ≡ kind_of queue) }
+        requires can { CanNext kind local answer }
+        requires walk { is_walk_of kind local answer ≡ true }
         ensures { result ≡ next_of kind local answer };
 
     /// One step: the touch of a slot, and then the operation.

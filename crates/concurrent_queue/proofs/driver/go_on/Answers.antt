@@ -1,7 +1,7 @@
 use Rattle.concurrent_queue.proofs.driver.go_on.Goals as goal
 
-pub round-requires : goal.round-requires
-round-requires g c = c.loop.invariant.going
+pub loop_round-requires : goal.loop_round-requires
+loop_round-requires g c = c.loop.invariant.going
 
 pub returns-in-Break : goal.returns-in-Break
 returns-in-Break g c = λ call first h. c.in-Break.ensures call first (c.loop.invariant.goes call first h)
