@@ -1,5 +1,5 @@
 -- What the web asks of the steps of a call on a shared chain: each may be done, and tells how the call goes on.
-use Rattle.std.proofs.Common.{ℕ, ◌≡◌, Option, None, List, refl, sym, subst, arith, set}
+use Rattle.std.proofs.Common.{ℕ, ◌+◌, ◌%◌, ◌^◌, ◌<◌, ◌≡◌, true, Option, None, List, refl, sym, subst, arith, set}
 use mathlib.Core.Option.{some}
 use lib.ListN.{get_elem?}
 use denote.RawPtr.{Ptr, Testable}
@@ -8,8 +8,9 @@ use Rattle.queue_steps.specs.declared.steps.types.Answer.TheVariants as answer
 use Rattle.queue_steps.specs.declared.steps.types.Link.{Link}
 use Rattle.queue_steps.specs.declared.steps.types.Op.{Op}
 use Rattle.queue_steps.specs.declared.steps.types.Op.TheVariants as op
+use Rattle.queue_steps.specs.declared.steps.types.Word.{Word}
 use Rattle.chain_laws.proofs.ChainCells.{Chain}
-use Rattle.chain_laws.proofs.ChainAnswers.{last_of}
+use Rattle.chain_laws.proofs.ChainAnswers.{Answers, last_of}
 use Rattle.block_web.specs.Web.{Block, State, Sitter, Lives, viewed, block, word_of, with_word, with_next, blocks_after, sitter_after, Goes, Allows, AllowsLink}
 use Rattle.block_web.specs.declared.hub.TheConstants.{PARTIES}
 use Rattle.queue_parties.specs.declared.known.Doing.{Doing}
@@ -21,12 +22,14 @@ use Rattle.queue_parties.proofs.CallSteps.{stands_at}
 use Rattle.chain_web.specs.ChainCalls.{chain_calls}
 use Rattle.chain_web.specs.Rule.{lead_of, Rule}
 use Rattle.chain_web.specs.Spots.{spot}
+use Rattle.chain_web.specs.Names.{is_set_once}
 use Rattle.chain_web.specs.Steps.{HoldsBy, op_place, word_index, link_makes, blocks_made, link_found, answered, LeadsThere, BlockStep, Follows, FollowsLink}
 use Rattle.chain_web.proofs.CallLaws.{chain_call_laws, OnBlocks, chain_opens}
 use Rattle.chain_web.proofs.Allowing.{follows}
 use Rattle.chain_web.proofs.Tested.{next_tested, count_kept}
 use Rattle.chain_web.proofs.BlockSteps.{block_steps}
 use Rattle.chain_web.proofs.Written.{out_wrote}
+use Rattle.chain_web.proofs.Unset.{FindsUnset, finds_unset}
 
 -- an operation on a word
 abbrev pub IsWordOp : Op ℕ → Type 0
@@ -120,6 +123,7 @@ module _ {A : Type 0} where
     pub leads : LeadsThere r.cells.chain s.blocks c.op number
     pub tested : Testable (block s.blocks number).next
     pub goes : Goes (Rule te he) s (blocks_made c.op number s.blocks) id m (Follows c (answered r.cells.chain s.blocks c.op number))
+    pub unset : IsWordOp c.op → FindsUnset c.op (word_of s.blocks number (word_index (op_word c.op)))
 
   module _ (te he : Ptr) (id : ℕ) (m : Sitter A (Doing A)) (c : InCall A) where
     step_done : Ready chain_calls m.view c → HoldsBy c.local c.op (touched_list c.touch c.carried c.lends) m → OnBlocks c.op → (s : State A (Doing A)) (r : Rule te he s) → get_elem? s.views id ≡ some m.view → Done te he id m c s r
@@ -129,6 +133,8 @@ module _ {A : Type 0} where
       leads = b.leads;
       tested = next_tested te he r.cells s.blocks r.all.ok r.codes b.number b.lives.0;
       goes = (done.0, b.acts, b.mays, done.1, done.2);
+      unset = λ word. finds_unset r.cells.chain id (word_of s.blocks b.number (word_index (op_word c.op))) st.here.0
+          (subst (λ (a : Answer ℕ). Answers r.cells.chain c.op a) (made_word r.cells.chain c.op b.number s.blocks word).1 b.found);
     }
       where
         st : Standing chain_calls r.cells r.history id m.view.known c
@@ -145,12 +151,28 @@ module _ {A : Type 0} where
             (count_kept s.blocks c.op b.number b.acts (let z = r.codes.size in omega arith) b.counts)
             (record { found = b.found; out = b.out; codes = b.codes; others = b.others; slots = b.slots; lends = b.lends; lent = b.lent; holds = b.holds })
 
+    -- an operation on a word makes this of its block
+    word_goes : (s : State A (Doing A)) (r : Rule te he s) (d : Done te he id m c s r) → IsWordOp c.op
+        → Goes (Rule te he) s (with_word s.blocks d.number (word_index (op_word c.op)) (op_makes c.op (word_of s.blocks d.number (word_index (op_word c.op))))) id m (Follows c (answer_for c.op (word_of s.blocks d.number (word_index (op_word c.op)))))
+    word_goes s r d word =
+        let made = made_word r.cells.chain c.op d.number s.blocks word in
+        subst (λ (z : List (Block A) × Answer ℕ). Goes (Rule te he) s z.0 id m (Follows c z.1)) (λ i. (made.0 i, made.1 i)) d.goes
+
     pub allows_word : Ready chain_calls m.view c → HoldsBy c.local c.op (touched_list c.touch c.carried c.lends) m → IsWordOp c.op
         → Allows (Rule te he) id m (op_place te he c.op) (word_index (op_word c.op)) (op_makes c.op) (λ n q. Follows c (answer_for c.op n) q)
     allows_word ready holds word s r at =
         let d = step_done ready holds (on_word c.op word) s r at in
-        let made = made_word r.cells.chain c.op d.number s.blocks word in
-        (d.number, d.lives, λ small. subst (λ (z : List (Block A) × Answer ℕ). Goes (Rule te he) s z.0 id m (Follows c z.1)) (λ i. (made.0 i, made.1 i)) d.goes)
+        (d.number, d.lives, λ small. word_goes s r d word)
+
+    -- a bit that is unset is added
+    pub allows_added : (w : Word ℕ) (bits : ℕ) → Ready chain_calls m.view c → HoldsBy c.local c.op (touched_list c.touch c.carried c.lends) m → c.op ≡ op.Or w bits → is_set_once w bits ≡ true
+        → Allows (Rule te he) id m (op_place te he c.op) (word_index (op_word c.op)) (λ n. (n + bits) % 2 ^ 64) (λ n q. Follows c (answer_for c.op n) q)
+    allows_added w bits ready holds is once s r at =
+        let word : IsWordOp c.op = subst IsWordOp (sym is) tt in
+        let d = step_done ready holds (on_word c.op word) s r at in
+        let n = word_of s.blocks d.number (word_index (op_word c.op)) in
+        let sums = λ (small : n < 2 ^ 64). subst (λ (o : Op ℕ). op_makes o n ≡ (n + bits) % 2 ^ 64) (sym is) (subst (λ (o : Op ℕ). FindsUnset o n) is (d.unset word) once small) in
+        (d.number, d.lives, λ small. subst (λ x. Goes (Rule te he) s (with_word s.blocks d.number (word_index (op_word c.op)) x) id m (Follows c (answer_for c.op n))) (sums small) (word_goes s r d word))
 
     pub allows_link : Ready chain_calls m.view c → HoldsBy c.local c.op (touched_list c.touch c.carried c.lends) m → IsRead c.op → AllowsLink (Rule te he) id m (op_place te he c.op) (link_makes c.op) (λ q k. FollowsLink c q k)
     allows_link ready holds finds s r at =

@@ -29,6 +29,7 @@ pub mod Written
 pub mod Allowing
 pub mod Asking
 pub mod BlockSteps
+pub mod Unset
 pub mod Allowed
 pub mod Renamed
 pub mod MaySteps

@@ -1,5 +1,5 @@
 -- The operation of a ready call's step may be done on the chain, and what it answered at run time is what it answered with names.
-use Rattle.std.proofs.Common.{ℕ, ◌<◌, ◌≡◌, ◌∙◌, Option, Some, None, List, [], refl, sym, ap, subst}
+use Rattle.std.proofs.Common.{ℕ, ◌+◌, ◌%◌, ◌^◌, ◌<◌, ◌≡◌, ◌∙◌, true, Option, Some, None, List, [], refl, sym, ap, subst}
 use denote.RawPtr.{Ptr, InBlock, Testable, null_ptr}
 use Rattle.queue_steps.specs.declared.steps.types.Answer.{Answer}
 use Rattle.queue_steps.specs.declared.steps.types.Answer.TheVariants as answer
@@ -10,6 +10,7 @@ use Rattle.queue_steps.specs.declared.steps.types.Op.TheVariants as op
 use Rattle.queue_steps.specs.declared.steps.types.Touch.{Touch}
 use Rattle.queue_steps.specs.declared.steps.types.Touch.TheVariants as touch
 use Rattle.queue_steps.specs.declared.steps.types.Word.{Word}
+use Rattle.queue_steps.specs.declared.steps.types.Word.TheVariants as word
 use Rattle.block_web.specs.Web.{State, Block, Sitter, Allows, AllowsLink, sitter}
 use Rattle.block_web.specs.declared.block.Link.{Link as Place}
 use Rattle.block_web.specs.declared.hub.TheConstants.{TAIL}
@@ -19,11 +20,11 @@ use Rattle.queue_parties.specs.declared.known.InCall.{InCall}
 use Rattle.queue_parties.specs.Calling.{touched_list}
 use Rattle.queue_parties.specs.Operations.{op_word, op_makes, answer_for}
 use Rattle.chain_web.specs.Spots.{spot}
-use Rattle.chain_web.specs.Names.{link_of, word_map, link_map, op_map, answer_map}
+use Rattle.chain_web.specs.Names.{link_of, word_map, link_map, op_map, answer_map, is_set_once}
 use Rattle.chain_web.specs.Rule.{Rule}
 use Rattle.chain_web.specs.Steps.{MayDo, MayTouch, fresh_at, op_place, word_index, link_makes, hand_by, slot_block, carried_by, Follows, FollowsLink, FollowsGrant}
 use Rattle.chain_web.specs.Turning.{CanOperate, Operated, carried_place}
-use Rattle.chain_web.proofs.Allowed.{IsWordOp, IsRead, allows_word, allows_link, allows_store}
+use Rattle.chain_web.proofs.Allowed.{IsWordOp, IsRead, allows_word, allows_added, allows_link, allows_store}
 use Rattle.chain_web.proofs.Asking.{allows_grant, allows_refusal}
 
 -- the operation with names that one at run time stands for
@@ -51,6 +52,14 @@ named_map T (op.StoreLink l f) = (l, f, refl, refl, refl)
 named_map T (op.Install f) = (f, refl, refl)
 named_map T op.Ask = refl
 
+-- bits that are set once are so by whatever name
+once_named : (T : Type 0) (w : Word ℕ) (bits : ℕ) → is_set_once (word_map (link_of {T = T}) w) bits ≡ is_set_once w bits
+once_named T (word.State name i) bits = refl
+once_named T word.Tail bits = refl
+once_named T word.Head bits = refl
+once_named T word.Lock bits = refl
+once_named T (word.Stamp i) bits = refl
+
 -- where the word of an operation lies
 abbrev Reached : Ptr → Ptr → Op ℕ → Ptr → ℕ → Type 0
 Reached te he a p i = (p ≡ op_place te he a) × (i ≡ word_index (op_word a)) × InBlock p × (i < SLOTS)
@@ -75,6 +84,17 @@ module _ {T : Type 0} (m : Sitter T (Doing T)) (o : Op (Place T)) (c : InCall T)
       subst (λ (z : Ptr × ℕ). Allows (Rule te he) id m z.0 z.1 (op_makes a) (λ n q. Follows c (answer_for c.op n) q)) (λ j. (sym at j, sym number j))
           (subst (λ (z : Op ℕ). Allows (Rule te he) id m (op_place te he z) (word_index (op_word z)) (op_makes z) (λ n q. Follows c (answer_for c.op n) q)) is
           (allows_word te he id m c can.ready can.holds (subst IsWordOp (sym is) word))),
+    )
+
+    -- bits that are set once are added
+    pub may_add : (w : Word ℕ) (at_run : Word (Place T)) (bits : ℕ) (p : Ptr) (i : ℕ) → c.op ≡ op.Or w bits → at_run ≡ word_map link_of w → is_set_once at_run bits ≡ true → Reached te he (op.Or w bits) p i
+        → InBlock p × (i < SLOTS) × ((by : ℕ) → by ≡ bits → Allows (Rule te he) id m p i (λ n. (n + by) % 2 ^ 64) (λ n q. Follows c (answer_for c.op n) q))
+    may_add w at_run bits p i is stands once (at, number, lies, low) = (
+      lies,
+      low,
+      λ by all. subst (λ (z : Ptr × ℕ × ℕ). Allows (Rule te he) id m z.0 z.1 (λ n. (n + z.2) % 2 ^ 64) (λ n q. Follows c (answer_for c.op n) q)) (λ j. (sym at j, sym number j, sym all j))
+          (subst (λ (z : Op ℕ). Allows (Rule te he) id m (op_place te he z) (word_index (op_word z)) (λ n. (n + bits) % 2 ^ 64) (λ n q. Follows c (answer_for c.op n) q)) is
+          (allows_added te he id m c w bits can.ready can.holds is (sym (once_named T w bits) ∙ (ap (λ (z : Word (Place T)). is_set_once z bits) (sym stands) ∙ once)))),
     )
 
     -- a store tells the same, whatever it found

@@ -1,5 +1,5 @@
 -- At run time a name is the place of its block. What the steps of calls say is the same with other names.
-use Rattle.std.specs.Prelude.{ℕ, Option, Some, None}
+use Rattle.std.specs.Prelude.{ℕ, ◌==◌, ◌||◌, Bool, false, Option, Some, None}
 use Rattle.queue_steps.specs.declared.steps.types.Answer.{Answer}
 use Rattle.queue_steps.specs.declared.steps.types.Answer.TheVariants as answer
 use Rattle.queue_steps.specs.declared.steps.types.Link.{Link}
@@ -14,6 +14,7 @@ use Rattle.queue_steps.specs.declared.steps.types.Word.{Word}
 use Rattle.queue_steps.specs.declared.steps.types.Word.TheVariants as word
 use Rattle.queue_steps.specs.declared.steps.unbounded.UnboundedLocal.{UnboundedLocal}
 use Rattle.queue_steps.specs.declared.steps.unbounded.UnboundedLocal.TheVariants as chain
+use Rattle.queue_steps.specs.declared.steps.unbounded.TheConstants.{WRITE, READ}
 use Rattle.block_web.specs.declared.block.Link.{Link as Place}
 use Rattle.chain_web.specs.Spots.{spot}
 
@@ -105,3 +106,8 @@ abbrev pub state_block : {B : Type 0} → Op B → Option B
 state_block (op.Load (word.State b i)) = Some b
 state_block (op.Or (word.State b i) x) = Some b
 state_block _ = None
+
+-- whether one call alone sets these bits of the word: that an item is written, or read
+abbrev pub is_set_once : {B : Type 0} → Word B → ℕ → Bool
+is_set_once (word.State b i) bits = (bits == WRITE) || (bits == READ)
+is_set_once _ bits = false

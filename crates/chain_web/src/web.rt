@@ -7,7 +7,7 @@ ghost use Rattle.queue_steps.specs.declared.steps.types.Word.{Word as SpecWord};
 ghost use Rattle.block_web.specs.Laid.{head_of};
 ghost use Rattle.block_web.specs.Seats.{Same};
 ghost use Rattle.block_web.specs.Web.{sitter};
-ghost use Rattle.chain_web.specs.Names.{link_of, word_map, link_map};
+ghost use Rattle.chain_web.specs.Names.{link_of, word_map, link_map, is_set_once as spec_is_set_once};
 ghost use Rattle.chain_web.specs.Rule.{first_seat};
 ghost use Rattle.chain_web.specs.Steps.{HasWord, word_place, word_index, link_place};
 
@@ -25,7 +25,7 @@ use exclusive_queue::Exclusive;
 use queue_parties::known::Doing;
 use queue_parties::task::Task;
 use queue_steps::model::CallKind;
-use queue_steps::steps::{Answer, Link, Local, Op, Touch, Word};
+use queue_steps::steps::{Answer, Link, Local, Op, READ, Touch, WRITE, Word};
 use std::alloc::{AllocError, Allocator};
 use std::marker::Brand;
 
@@ -39,6 +39,17 @@ pub struct ChainWeb<T, A: Allocator> {
     pub(crate) hub: Hub<Item<T>, A>,
     ghost heaps: { hub.heap ≡ web.heap },
     ghost ends: { (web.key.tail.ptr ≡ tail.ptr) × (web.key.head.ptr ≡ head.ptr) × (hub.at ≡ tail.ptr) × (head.ptr ≡ head_of tail.ptr) × (tail.ptr ≡ block_ptr (block_of tail.ptr) (count_of tail.ptr)) },
+}
+
+/// Whether one call alone sets these bits of the word: that an item is written, or read.
+#[inline(always)]
+fn is_set_once<T>(word: Word<Place<T>>, bits: u64) -> bool
+    ensures { result ≡ spec_is_set_once word bits }
+{
+    match word {
+        Word::State(_, _) => bits == WRITE || bits == READ,
+        _ => false,
+    }
 }
 
 /// A party's seat.
@@ -175,7 +186,12 @@ impl<T, A: Allocator> ChainWeb<T, A> {
             }
             Op::Or(word, bits) => {
                 let (block, number) = self.word(word);
-                Answer::Found(self.web.fetch_or::<Steps<J>>(seat, block, number, bits))
+                // What is set once is not set yet, so one instruction adds it.
+                if is_set_once(word, bits) {
+                    Answer::Found(self.web.fetch_add::<Steps<J>>(seat, block, number, bits))
+                } else {
+                    Answer::Found(self.web.fetch_or::<Steps<J>>(seat, block, number, bits))
+                }
             }
             Op::And(_, _) => unreachable!(),
             Op::Exchange(word, old, new) => {

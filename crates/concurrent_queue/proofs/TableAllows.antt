@@ -13,7 +13,7 @@ use Rattle.queue_parties.specs.declared.known.Work.TheVariants as work
 use Rattle.queue_parties.specs.declared.known.Doing.{Doing}
 use Rattle.concurrent_queue.specs.Seats.{Table, Seated, count_of}
 use Rattle.queue_parties.specs.Calling.{CallsOf, Standing, touched_list, handed_by, HasTouched}
-use Rattle.concurrent_queue.specs.TableRule.{TableOf, Rule, found_by, InTable, Stepped, TableLaws}
+use Rattle.concurrent_queue.specs.TableRule.{TableOf, Rule, found_by, InTable, TakesOff, Stepped, TableLaws}
 use Rattle.queue_parties.specs.Operations.{op_word, op_makes, answer_for}
 use Rattle.concurrent_queue.specs.TableTurns.{After, Follows}
 use Rattle.queue_parties.specs.CallsAt.{Ready}
@@ -35,6 +35,17 @@ module _ {T : Type 0} (K : TableOf T) (words : ℕ) (laws : TableLaws K words) w
       (d, at, local_is, touch_is, op_is, carried_is, call_is, begun_is, sym lends, subst (λ z. HasTouched z d.lends) touch_is touches, subst (InTable K) op_is word)
   after_told g h who c v xs (next.Reply x spare) w ok stands none (gives, empty, (y, fill, rests, cap_is, owns, calls)) =
       (none spare gives, (y, fill, (rests, empty), cap_is, owns, calls))
+
+  -- where the call stands that a seat is ready for
+  stands : (s : Table T) (id : ℕ) (m : Seated T) (c : InCall T) (rule : Rule K s) → get_elem? s.views id ≡ some m.0 → Ready C m.0 c → Standing C rule.cells rule.history id m.0.known c
+  stands s id m c rule at ready = stands_at C laws.calls (InTable K) rule.cells rule.history (count_of s) s.views rule.all id m.0 c (laws.opens c.call).1 at ready
+
+  -- what the call's operation takes off is in the word that it finds
+  pub takes_off : (s : Table T) (id : ℕ) (m : Seated T) (c : InCall T) → Rule K s → get_elem? s.views id ≡ some m.0 → Ready C m.0 c → TakesOff c.op (found_by K c.op s.words)
+  takes_off s id m c rule at ready =
+      let st = stands s id m c rule at ready in
+      subst (λ (ws : List ℕ). TakesOff c.op (found_by K c.op ws)) (sym rule.counted)
+      (laws.takes_off rule.cells id (count_of s) rule.words s.homes st.ms st.was c.local c.touch c.op c.carried c.call c.effects rule.all.ok rule.coded st.here)
 
   -- what `Allows` asks at one table
   abbrev AllowsAt : Table T → ℕ → Seated T → InCall T → Type 0
@@ -69,7 +80,7 @@ module _ {T : Type 0} (K : TableOf T) (words : ℕ) (laws : TableLaws K words) w
       all = n ∷ rule.words
 
       st : Standing C rule.cells h id m.0.known c
-      st = stands_at C laws.calls (InTable K) rule.cells h n s.views rule.all id m.0 c (laws.opens c.call).1 at ready
+      st = stands s id m c rule at ready
 
       g : Stepped K rule.cells id n rule.words s.homes st.ms st.was c.local c.touch c.op c.carried c.call c.effects c.lends
       g = laws.steps rule.cells id n rule.words s.homes st.ms st.was c.local c.touch c.op c.carried c.call c.effects c.lends rule.all.ok rule.coded st.here st.lent

@@ -43,7 +43,7 @@ use Rattle.exclusive_queue.specs.RingWords.{words_behind}
 use Rattle.exclusive_queue.specs.declared.ring_words.TheConstants.{STAMPS}
 use Rattle.queue_laws.proofs.Moments.{seen_map}
 use Rattle.queue_parties.specs.Calling.{touched_list, lies_in, handed_by, HasTouched, MayFront, Goes, CallLaws}
-use Rattle.concurrent_queue.specs.TableRule.{found_by, Stepped, InTable, OpensIn, TableLaws}
+use Rattle.concurrent_queue.specs.TableRule.{found_by, Stepped, InTable, TakesOff, OpensIn, TableLaws}
 use Rattle.queue_parties.specs.Operations.{op_word, op_makes, answer_for}
 use Rattle.concurrent_queue.specs.RingTable.{home_when, home_of, Homes, ring_words, word_index, RingCoded, ring_calls, ring_table}
 use Rattle.concurrent_queue.specs.RingPrompt.{ring_prompt}
@@ -63,6 +63,11 @@ in_table T cap (op.Add w x) has = has
 in_table T cap (op.Or w x) has = has
 in_table T cap (op.Exchange w a b) has = has
 in_table T cap _ has = absurd has
+
+-- no operation on a ring takes bits off a word
+takes_none : (cap : ℕ) (o : Op ℕ) (n : ℕ) → InRing cap o → TakesOff o n
+takes_none cap (op.And w bits) n has = absurd has
+takes_none cap _ n has = tt
 
 module _ {T : Type 0} where
   -- the table has the words of the ring
@@ -343,6 +348,7 @@ module _ {T : Type 0} where
     below = place_below cap;
     at_word = λ g j ms was l t o v k es ok here. in_table T cap o (at_word ok here);
     steps = λ g who n ws hs ms was l t o v k es xs ok coded here lent. ring_steps cap g who n ws hs ms was l t o v k es xs ok coded here lent;
+    takes_off = λ g who n ws hs ms was l t o v k es ok coded here. takes_none cap o (found_by {T = T} (ring_table cap) o (n ∷ ws)) (at_word ok here);
     gives = λ spare none. none;
     opens = ring_opens_in cap ring;
     prompt = ring_prompt cap;

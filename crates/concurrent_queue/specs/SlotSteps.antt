@@ -29,14 +29,14 @@ use Rattle.queue_steps.specs.Next.{CanNext, next_of}
 use Rattle.queue_steps.specs.Prompt.{is_prompt, EndsBefore, EndsPromptly}
 use Rattle.queue_laws.proofs.Effects.{Leads, with_effect}
 use Rattle.slot_laws.proofs.SlotShared.{Shared, one_slot, CanOperate, answered, operated, touched, handed}
-use Rattle.slot_laws.proofs.SlotRows.{Hold, Nobody, Filling, Swapping, Taking, Stands, At, push_try, push_put, force_try_empty, force_try_full, force_put_empty, force_put_full, pop_try, pop_take, close_try, look_at, Share, fills, swaps, takes as takes_share, Passes, stays, changes, single, Lands, Good}
+use Rattle.slot_laws.proofs.SlotRows.{Hold, Nobody, Filling, Swapping, Taking, Stands, filling, swapping, taking, At, push_try, push_put, force_try_empty, force_try_full, force_put_empty, force_put_full, pop_try, pop_take, close_try, look_at, Share, fills, swaps, takes as takes_share, Passes, stays, changes, single, Lands, Good}
 use Rattle.slot_laws.proofs.SlotSteps.{step_good}
 use Rattle.slot_laws.proofs.SlotRanks.{can_operate}
 use Rattle.slot_laws.proofs.SlotHolder.{share_of, next_who, own_self, own_other}
 use Rattle.slot_laws.proofs.SlotCells.{Slot, queue_of, own_in, lent_by, Lent, nobody_if, IsHeld, held_lent, at_stays, lent_stays, at_whole, at_lock, at_touches}
 use Rattle.queue_laws.proofs.Moments.{seen_map}
 use Rattle.queue_parties.specs.Calling.{touched_list, lies_in, handed_by, MayFront, Goes, CallLaws}
-use Rattle.concurrent_queue.specs.TableRule.{InTable, Stepped, OpensIn, TableLaws}
+use Rattle.concurrent_queue.specs.TableRule.{InTable, TakesOff, Stepped, OpensIn, TableLaws}
 use Rattle.queue_parties.specs.Operations.{op_makes, answer_for}
 use Rattle.concurrent_queue.specs.SlotTable.{home_under, SlotCoded, slot_calls, slot_table}
 
@@ -279,6 +279,29 @@ module _ {T : Type 0} where
       handed_is : handed (one_slot word slot) t v ≡ handed_by t v xs
       handed_is = shifted.handed_is ∙ ap (handed_by t v) (sym lent)
 
+  -- a call that unlocks the slot has the lock, whose bit is then in the word
+  unlocks : {l : Local ℕ} {t : Touch} {o : Op ℕ} {v : Option T} {word : ℕ} {slot : Option T} {own h : Hold T} {items : List T} {c : Bool} {k : Call T} {es : List (Effect T)}
+      → At l t o v own k es → Share own h → Stands word slot h items c → TakesOff o word
+  unlocks (push_put v) (fills _) (filling true _) = refl
+  unlocks (push_put v) (fills _) (filling false _) = refl
+  unlocks (force_put_empty v) (fills _) (filling true _) = refl
+  unlocks (force_put_empty v) (fills _) (filling false _) = refl
+  unlocks (force_put_full old v) (swaps _ _) (swapping true _ _) = refl
+  unlocks (force_put_full old v) (swaps _ _) (swapping false _ _) = refl
+  unlocks (pop_take x) (takes_share _) (taking true _) = refl
+  unlocks (pop_take x) (takes_share _) (taking false _) = refl
+  unlocks (push_try v) share st = tt
+  unlocks (force_try_empty v) share st = tt
+  unlocks (force_try_full v) share st = tt
+  unlocks (pop_try d) share st = tt
+  unlocks close_try share st = tt
+  unlocks (look_at l) share st = tt
+
+  slot_takes_off : (g : Slot T) (who n : ℕ) (ws : List ℕ) (hs : List (maybe.Option (Option T))) (l : Local ℕ) (t : Touch) (o : Op ℕ) (v : Option T) (k : Call T) (es : List (Effect T))
+      → SlotCoded g ws hs → At l t o v (own_in g who) k es → TakesOff o (get_or (n ∷ ws) 1 0)
+  slot_takes_off g who n ws hs l t o v k es (word, slot, stands, words, homes) here =
+      subst (λ (y : List ℕ). TakesOff o (get_or (n ∷ y) 1 0)) (sym words) (unlocks here (share_of (who == g.keeps.who) g.keeps.hold) stands)
+
   -- the first step of a party that has nothing of the lock
   first_at : (g : Slot T) (j : ℕ) (l : Local ℕ) (t : Touch) (o : Op ℕ) (v : Option T) (k : Call T) → Lent g j [] → At l t o v Nobody k [] → At l t o v (own_in g j) k []
   first_at g j l t o v k none here = subst (λ h. At l t o v h k []) (sym (nobody_if (own_in g j) none)) here
@@ -311,6 +334,7 @@ module _ {T : Type 0} where
     below = λ w has. omega arith;
     at_word = λ g j ms was l t o v k es ok here. in_table T o (at_lock here);
     steps = λ g who n ws hs ms was l t o v k es xs ok coded here lent. slot_steps g who n ws hs ms was l t o v k es xs coded here lent;
+    takes_off = λ g who n ws hs ms was l t o v k es ok coded here. slot_takes_off g who n ws hs l t o v k es coded here;
     gives = λ spare none. none;
     opens = slot_opens_in;
     prompt = slot_prompt;

@@ -1,5 +1,6 @@
 -- The rule of a queue that parties share over a table, whatever its kind: the first word counts the parties, the other words and the slots are the kind's.
-use Rattle.std.specs.Prelude.{None, ◌≡◌, ℕ, ◌<◌, ◌||◌, not, Bool, true, List, ◌∷◌, Option, slice_index_or, slice_set}
+use Rattle.std.specs.Prelude.{None, ◌≡◌, ℕ, ◌+◌, ◌<◌, ◌||◌, not, Bool, true, List, ◌∷◌, Option, slice_index_or, slice_set, bit_and}
+use Rattle.std.specs.Int.{w64, bit_not}
 use mathlib.Core.Option.{some}
 use mathlib.Core.Option as maybe
 use Rattle.atomic_table.specs.Table.{Act, Valid, carried_after, homes_after}
@@ -51,6 +52,11 @@ InTable K _ = ⊥
 abbrev pub found_by : {T : Type 0} → TableOf T → Op ℕ → List ℕ → ℕ
 found_by K o ws = slice_index_or ws (K.place (op_word o)) 0
 
+-- the bits that the operation takes off the word n are all in it: they and what is left make it up
+abbrev pub TakesOff : Op ℕ → ℕ → Type 0
+TakesOff (op.And w bits) n = bit_and n bits + bit_not w64 bits ≡ n
+TakesOff _ n = Unit {0}
+
 -- What the next step of a call of the party who does at these cells, for which the words ws, of them n counts the parties, and the homes hs stand: an effect at
 -- most, an act on the slots, of which the party has xs, and cells that are right again, at which the call goes on or ends
 pub record Stepped {T : Type 0} (K : TableOf T) (g : K.calls.Cells) (who n : ℕ) (ws : List ℕ) (hs : List (maybe.Option (Option T))) (ms : List (State T)) (was : Bool) (l : Local ℕ) (t : Touch) (o : Op ℕ) (v : Option T) (k : Call T) (es : List (Effect T)) (xs : List (ℕ × Option T)) : Type 0 where
@@ -82,6 +88,8 @@ pub record TableLaws {T : Type 0} (K : TableOf T) (words : ℕ) : Type 0 where
       → K.calls.Ok g → K.calls.At g j ms was l t o v k es → InTable K o
   pub steps : (g : K.calls.Cells) (who n : ℕ) (ws : List ℕ) (hs : List (maybe.Option (Option T))) (ms : List (State T)) (was : Bool) (l : Local ℕ) (t : Touch) (o : Op ℕ) (v : Option T) (k : Call T) (es : List (Effect T)) (xs : List (ℕ × Option T))
       → K.calls.Ok g → K.Coded g ws hs → K.calls.At g who ms was l t o v k es → K.calls.Lent g who xs → Stepped K g who n ws hs ms was l t o v k es xs
+  pub takes_off : (g : K.calls.Cells) (who n : ℕ) (ws : List ℕ) (hs : List (maybe.Option (Option T))) (ms : List (State T)) (was : Bool) (l : Local ℕ) (t : Touch) (o : Op ℕ) (v : Option T) (k : Call T) (es : List (Effect T))
+      → K.calls.Ok g → K.Coded g ws hs → K.calls.At g who ms was l t o v k es → TakesOff o (found_by K o (n ∷ ws))
   pub gives : (spare : Option ℕ) → K.calls.Gives spare → spare ≡ None
   pub opens : (c : Call T) → OpensIn K c
   pub prompt : (c : Call T) → is_prompt c ≡ true → EndsPromptly ℕ K.calls.kind (call_kind c)

@@ -158,8 +158,9 @@ impl<T, K: TableSteps<T>, A: Allocator> SharedTable<T, K, A> {
             Op::Or(word, bits) => {
                 Answer::Found(table.fetch_or::<Steps<K, J>>(seat, K::place(word), bits))
             }
+            // The bits that go are all in the word, so one instruction subtracts them.
             Op::And(word, bits) => {
-                Answer::Found(table.fetch_and::<Steps<K, J>>(seat, K::place(word), bits))
+                Answer::Found(table.fetch_sub::<Steps<K, J>>(seat, K::place(word), !bits))
             }
             Op::Exchange(word, old, new) => Answer::Found(table.compare_exchange::<Steps<K, J>>(
                 seat,

@@ -1,10 +1,10 @@
-use Rattle.std.proofs.Common.{ap, sym, subst}
+use Rattle.std.proofs.Common.{ap, sym, subst, ◌∙◌, arith}
 use Rattle.queue_steps.specs.declared.steps.types.Op.TheVariants as op
 use denote.RawPtr.{InBlock}
 use Rattle.block_web.specs.Web.{AllowsLink, if_unset}
 use Rattle.chain_web.specs.Rule.{Rule}
 use Rattle.chain_web.specs.Steps.{FollowsLink}
-use Rattle.chain_web.proofs.Operating.{named, may_as, may_do, may_store, may_read, may_lead}
+use Rattle.chain_web.proofs.Operating.{named, may_as, may_do, may_add, may_store, may_read, may_lead}
 use Rattle.chain_web.proofs.web.ChainWeb.operate.Goals as goal
 
 pub load-requires : goal.load-requires
@@ -30,6 +30,14 @@ fetch_add-requires g c =
     let a = op.Add n.0 c.in-Add.by in
     let at = c.word-number-in-Add.ensures n.0 n.2 (may_as m.sitter c.args.op j c.requires.can a n.1) in
     let d = may_do m.sitter c.args.op j c.requires.can key.tail.ptr key.head.ptr m.id a _ _ n.1 tt at in (c.requires.sits, d.0, d.1, d.2)
+
+pub fetch_add-requires-then-is_set_once : goal.fetch_add-requires-then-is_set_once
+fetch_add-requires-then-is_set_once g c =
+    let key = c.args.self.now.web.key in let m = c.args.seat.now in let j = g.J.Task.call in
+    let n = named m.sitter c.args.op j c.requires.can (op.Or c.in-Or.word c.in-Or.bits) c.in-Or.is in
+    let a = op.Or n.0 c.in-Or.bits in
+    let at = c.word-number-in-Or.ensures n.0 n.2 (may_as m.sitter c.args.op j c.requires.can a n.1) in
+    let d = may_add m.sitter c.args.op j c.requires.can key.tail.ptr key.head.ptr m.id n.0 c.in-Or.word c.in-Or.bits _ _ n.1 n.2 (sym c.is_set_once.ensures ∙ c.if-is_set_once.true) at in (c.requires.sits, d.0, d.1, d.2 _ (omega arith))
 
 pub fetch_or-requires : goal.fetch_or-requires
 fetch_or-requires g c =

@@ -1,7 +1,7 @@
-use Rattle.std.proofs.Common.{◌∙◌, subst}
+use Rattle.std.proofs.Common.{◌∙◌, subst, arith}
 use Rattle.queue_steps.specs.declared.steps.types.Op.TheVariants as op
 use Rattle.concurrent_queue.specs.TableRule.{InTable}
-use Rattle.concurrent_queue.proofs.TableOperations.{may_do, may_store}
+use Rattle.concurrent_queue.proofs.TableOperations.{may_do, may_take_off, may_store}
 use Rattle.concurrent_queue.proofs.table.SharedTable.operate.Goals as goal
 
 pub load-requires : goal.load-requires
@@ -28,13 +28,13 @@ fetch_or-requires g c =
     (op.Or c.in-Or.word c.in-Or.bits) c.place-in-Or.result (c.requires.op.0 ∙ c.in-Or.is) can (c.place-in-Or.ensures t.slots) in
     (c.requires.table, may.0, may.1)
 
-pub fetch_and-requires : goal.fetch_and-requires
-fetch_and-requires g c =
+pub fetch_sub-requires : goal.fetch_sub-requires
+fetch_sub-requires g c =
     let t = c.args.self.now.table.shared.table_id in let sized = c.args.self.now.sized in let m = c.args.seat.now in
     let can = subst (λ o. InTable (g.K.TableKind.layout t.slots) o) c.in-And.is c.requires.op.1 in
-    let may = may_do g.K.TableKind.layout c.args.self.now.table.shared.key t.slots (g.K.Sizes.words t.slots) t.words m.id m.me g.J.Task.call (g.met.K.TableSteps.laws t.slots sized.2 sized.3) sized.1 sized.0 c.requires.ready
-    (op.And c.in-And.word c.in-And.bits) c.place-in-And.result (c.requires.op.0 ∙ c.in-And.is) can (c.place-in-And.ensures t.slots) in
-    (c.requires.table, may.0, may.1)
+    let may = may_take_off g.K.TableKind.layout c.args.self.now.table.shared.key t.slots (g.K.Sizes.words t.slots) t.words m.id m.me g.J.Task.call (g.met.K.TableSteps.laws t.slots sized.2 sized.3) sized.1 sized.0 c.requires.ready
+    c.in-And.word c.in-And.bits c.place-in-And.result (c.requires.op.0 ∙ c.in-And.is) can (c.place-in-And.ensures t.slots) in
+    (c.requires.table, may.0, may.1 _ (omega arith))
 
 pub compare_exchange-requires : goal.compare_exchange-requires
 compare_exchange-requires g c =
