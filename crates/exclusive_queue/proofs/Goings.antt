@@ -1,5 +1,6 @@
 -- How a run that ends begins, goes on, and ends.
-use Rattle.std.proofs.Common.{◌≡◌, ℕ, zero, suc, ◌+◌, ◌-◌, ◌<◌, Option, arith, sym, subst, ◌∙◌}
+use Rattle.std.proofs.Common.{◌≡◌, ℕ, zero, suc, ◌+◌, ◌-◌, ◌<◌, Option, Some, refl, arith, sym, ap, subst, ◌∙◌}
+use Rattle.std.specs.Prelude.{IsSome}
 use Rattle.queue_steps.specs.declared.model.Call.{Call}
 use Rattle.queue_steps.specs.declared.model.Reply.{Reply}
 use Rattle.queue_steps.specs.declared.steps.types.Kind.{Kind}
@@ -11,10 +12,11 @@ use Rattle.queue_steps.specs.declared.steps.types.Op.{Op}
 use Rattle.queue_steps.specs.declared.steps.types.Touch.{Touch}
 use Rattle.queue_steps.specs.declared.steps.types.Local.{Local}
 use Rattle.queue_steps.specs.Next.{CanNext, next_of, first_local}
-use Rattle.queue_steps.specs.Kinds.{call_kind, call_value}
+use Rattle.queue_steps.specs.Kinds.{call_kind, call_value, filled}
 use Rattle.queue_steps.specs.declared.sizes.TheConstants.{LONE_STEPS}
-use Rattle.queue_steps.specs.Sole.{Owned}
+use Rattle.queue_steps.specs.Sole.{Owned, Sole}
 use Rattle.exclusive_queue.specs.Ends.{Ends, EndsRight, Answered}
+use Rattle.exclusive_queue.specs.Apart.{IsCall, AnswersApart}
 use Rattle.exclusive_queue.specs.Rounds.{GoesOn}
 use Rattle.exclusive_queue.specs.declared.cells.Cells.{Ghosts}
 use Rattle.exclusive_queue.specs.declared.driver.Standing.{Standing}
@@ -67,6 +69,22 @@ module _ {T B M : Type 0} (can_touch : M → Touch → Op B → Type 0) (touches
 
 module _ {T B M : Type 0} (m : Ghosts M T B) where
   -- a call that ends right before n more steps does so before one more
-  pub GoesOn-more : (n : ℕ) (k : Kind) (c : Call T) (first : M) (s : Standing T B) (cells : M) → GoesOn m n k c first s cells → GoesOn m (suc n) k c first s cells
-  GoesOn-more n k c first s cells h =
-      (h.0, Ends-more m.can_touch m.touches m.can_perform m.performs n k (next_of k s.local s.answer) cells s.carried (Answered m.can_release m.releases m.idle m.owned c first) h.1)
+  pub GoesOn-more : (n : ℕ) (k : Kind) (c : Call T) (first : M) (s : Standing B) (x : Option T) (cells : M) → GoesOn m n k c first s x cells → GoesOn m (suc n) k c first s x cells
+  GoesOn-more n k c first s x cells h =
+      (h.0, Ends-more m.can_touch m.touches m.can_perform m.performs n k (next_of k s.local s.answer) cells x (Answered m.can_release m.releases m.idle m.owned c first) h.1)
+
+-- the parts of a call
+pub call-parts : {T : Type 0} (parts : Call Unit × Option T) (c : Call T) → parts ≡ (call_kind c, call_value c) → IsCall parts.0 parts.1 c
+call-parts parts c is = (ap (λ p. p.0) is, ap (λ p. p.1) is)
+
+module _ {T : Type 0} (P R : Owned T) (c : Call T) (r : Reply Unit) (y : Option T) where
+  -- the kind of a reply and the value that the call ended with fit
+  pub apart-fits : AnswersApart P c r y R → IsSome (filled r y)
+  apart-fits told = rw told.1 refl
+
+  -- the reply with its value is that of the call
+  pub apart-filled : (reply : Reply T) → filled r y ≡ Some reply → AnswersApart P c r y R → Sole P c reply R
+  apart-filled reply fills told =
+      let both : Some told.0 ≡ Some reply = sym told.1 ∙ fills in
+      let same : told.0 ≡ reply = cc in
+      subst (λ it. Sole P c it R) same told.2

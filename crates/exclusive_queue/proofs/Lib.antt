@@ -9,6 +9,7 @@ pub mod LineBegins
 pub mod ChainBegins
 pub mod Pops
 pub mod SoleRuns
+pub mod Answered
 mod Iterations
 mod Texts
 mod Soundness

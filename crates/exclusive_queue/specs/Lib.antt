@@ -1,6 +1,7 @@
 pub mod Numbers
 pub mod Ends
 pub mod Rounds
+pub mod Apart
 pub mod Runs
 pub mod SingleCells
 pub mod SingleAnswers

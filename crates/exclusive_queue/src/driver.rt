@@ -5,6 +5,9 @@ ghost use Rattle.std.specs.Prelude.{◌≡◌, ℕ, suc, true};
 ghost use Rattle.queue_steps.specs.CommonNext.{is_common_of, is_walk_of};
 ghost use Rattle.queue_steps.specs.Sole.{Sole};
 ghost use Rattle.queue_steps.specs.Looks.{IsLook, look_reply};
+ghost use Rattle.queue_steps.specs.Kinds.{call_kind, call_value};
+ghost use Rattle.queue_steps.specs.declared.model.Call.{Call as SpecCall};
+ghost use Rattle.exclusive_queue.specs.Apart.{FitsCall, SoleApart};
 ghost use Rattle.exclusive_queue.specs.Rounds.{GoesOn, IsUnderWay, EndsRightly, GoesAhead};
 ghost use Rattle.queue_steps.specs.declared.sizes.TheConstants.{LONE_STEPS};
 
@@ -12,13 +15,15 @@ use crate::cells::Cells;
 use queue_steps::model::{Call, CallKind, Reply, ReplyKind};
 use queue_steps::sizes::LONE_STEPS;
 use queue_steps::steps::{self, Answer, Kind, Local, Next};
+use std::mem;
 use std::ops::ControlFlow;
 
-/// Where a call stands that is on its way, with the answer to its last operation and the value that it carries.
-pub(crate) struct Standing<T, B> {
+/// Where a call stands that is on its way, with the answer to its last operation.
+///
+/// The value that the call carries stays in one place, which each round is lent: as a part of the standing it would be copied from round to round.
+pub(crate) struct Standing<B> {
     pub(crate) local: Local<B>,
     pub(crate) answer: Answer<B>,
-    pub(crate) carried: Option<T>,
 }
 
 /// Does what the call does next, and tells where it then stands, or its reply. A function that takes a `Next` would have it in memory.
@@ -26,19 +31,18 @@ macro_rules! done {
     ($cells:ident, $todo:ident, $carried:ident) => {
         match $todo {
             Next::Reply(reply, given_up) => match given_up {
-                None => ControlFlow::Break(Reply::fill(reply, $carried)),
+                None => ControlFlow::Break(reply),
                 Some(block) => {
                     $cells.release(block);
-                    ControlFlow::Break(Reply::fill(reply, $carried))
+                    ControlFlow::Break(reply)
                 }
             },
             Next::Step(after, touch, op) => {
-                $cells.touch(touch, &op, &mut $carried);
+                $cells.touch(touch, &op, $carried);
                 let answer = $cells.perform(op);
                 ControlFlow::Continue(Standing {
                     local: after,
                     answer,
-                    carried: $carried,
                 })
             }
         }
@@ -52,17 +56,14 @@ macro_rules! done {
 fn common_round<T, B: Copy, M: Cells<T, B>, W, const AT: u64>(
     cells: &mut M,
     kind: Kind,
-    standing: Standing<T, B>,
-) -> ControlFlow<Reply<T>, Standing<T, B>>
+    standing: Standing<B>,
+    carried: &mut Option<T>,
+) -> ControlFlow<ReplyKind, Standing<B>>
     requires common { is_common_of kind standing.local standing.answer ≡ true }
-    requires goes { (n : ℕ) × IsUnderWay M.Cells (suc n) kind standing cells.old }
-    ensures { GoesAhead M.Cells kind standing cells.old cells.new result }
+    requires goes { (n : ℕ) × IsUnderWay M.Cells (suc n) kind standing carried.old cells.old }
+    ensures { GoesAhead M.Cells kind standing carried.old cells.old carried.new cells.new result }
 {
-    let Standing {
-        local,
-        answer,
-        mut carried,
-    } = standing;
+    let Standing { local, answer } = standing;
     let todo = M::next_common(kind, local, answer);
     done!(cells, todo, carried)
 }
@@ -72,17 +73,14 @@ fn common_round<T, B: Copy, M: Cells<T, B>, W, const AT: u64>(
 fn walk_round<T, B: Copy, M: Cells<T, B>>(
     cells: &mut M,
     kind: Kind,
-    standing: Standing<T, B>,
-) -> ControlFlow<Reply<T>, Standing<T, B>>
+    standing: Standing<B>,
+    carried: &mut Option<T>,
+) -> ControlFlow<ReplyKind, Standing<B>>
     requires walk { is_walk_of kind standing.local standing.answer ≡ true }
-    requires goes { (n : ℕ) × IsUnderWay M.Cells (suc n) kind standing cells.old }
-    ensures { GoesAhead M.Cells kind standing cells.old cells.new result }
+    requires goes { (n : ℕ) × IsUnderWay M.Cells (suc n) kind standing carried.old cells.old }
+    ensures { GoesAhead M.Cells kind standing carried.old cells.old carried.new cells.new result }
 {
-    let Standing {
-        local,
-        answer,
-        mut carried,
-    } = standing;
+    let Standing { local, answer } = standing;
     let todo = M::next_walk(kind, local, answer);
     done!(cells, todo, carried)
 }
@@ -92,16 +90,13 @@ fn walk_round<T, B: Copy, M: Cells<T, B>>(
 fn round<T, B: Copy, M: Cells<T, B>>(
     cells: &mut M,
     kind: Kind,
-    standing: Standing<T, B>,
-) -> ControlFlow<Reply<T>, Standing<T, B>>
-    requires { (n : ℕ) × IsUnderWay M.Cells (suc n) kind standing cells.old }
-    ensures { GoesAhead M.Cells kind standing cells.old cells.new result }
+    standing: Standing<B>,
+    carried: &mut Option<T>,
+) -> ControlFlow<ReplyKind, Standing<B>>
+    requires { (n : ℕ) × IsUnderWay M.Cells (suc n) kind standing carried.old cells.old }
+    ensures { GoesAhead M.Cells kind standing carried.old cells.old carried.new cells.new result }
 {
-    let Standing {
-        local,
-        answer,
-        mut carried,
-    } = standing;
+    let Standing { local, answer } = standing;
     let todo = M::next(kind, local, answer);
     done!(cells, todo, carried)
 }
@@ -111,15 +106,16 @@ fn round<T, B: Copy, M: Cells<T, B>>(
 fn turn<T, B: Copy, M: Cells<T, B>>(
     cells: &mut M,
     kind: Kind,
-    standing: Standing<T, B>,
-) -> ControlFlow<Reply<T>, Standing<T, B>>
-    requires { (n : ℕ) × IsUnderWay M.Cells (suc n) kind standing cells.old }
-    ensures { GoesAhead M.Cells kind standing cells.old cells.new result }
+    standing: Standing<B>,
+    carried: &mut Option<T>,
+) -> ControlFlow<ReplyKind, Standing<B>>
+    requires { (n : ℕ) × IsUnderWay M.Cells (suc n) kind standing carried.old cells.old }
+    ensures { GoesAhead M.Cells kind standing carried.old cells.old carried.new cells.new result }
 {
     if M::is_walk(kind, &standing.local, &standing.answer) {
-        walk_round::<T, B, M>(cells, kind, standing)
+        walk_round::<T, B, M>(cells, kind, standing, carried)
     } else {
-        round::<T, B, M>(cells, kind, standing)
+        round::<T, B, M>(cells, kind, standing, carried)
     }
 }
 
@@ -128,14 +124,15 @@ fn turn<T, B: Copy, M: Cells<T, B>>(
 fn turns<T, B: Copy, M: Cells<T, B>>(
     cells: &mut M,
     kind: Kind,
-    standing: Standing<T, B>,
-) -> Reply<T>
-    requires { IsUnderWay M.Cells LONE_STEPS kind standing cells.old }
-    ensures { EndsRightly M.Cells kind standing cells.old cells.new result }
+    standing: Standing<B>,
+    carried: &mut Option<T>,
+) -> ReplyKind
+    requires { IsUnderWay M.Cells LONE_STEPS kind standing carried.old cells.old }
+    ensures { EndsRightly M.Cells kind standing carried.old cells.old carried.new cells.new result }
 {
     let mut standing = standing;
     for _ in 0..LONE_STEPS {
-        match turn::<T, B, M>(cells, kind, standing) {
+        match turn::<T, B, M>(cells, kind, standing, carried) {
             ControlFlow::Break(reply) => return reply,
             ControlFlow::Continue(after) => standing = after,
         }
@@ -143,17 +140,22 @@ fn turns<T, B: Copy, M: Cells<T, B>>(
     unreachable!()
 }
 
-/// Goes on in the loop. What the loop is handed is made here alone, so that the rounds before it write none of it.
+/// Goes on in the loop. What the loop is handed is made here alone, so that the rounds before it write none of it. So the carried value goes to a place of its own and back: the loop never gets the place that the rounds are lent, and a word stays in a register there.
 #[inline(always)]
 fn leave<T, B: Copy, M: Cells<T, B>>(
     cells: &mut M,
     kind: Kind,
-    standing: Standing<T, B>,
-) -> Reply<T>
-    requires { IsUnderWay M.Cells LONE_STEPS kind standing cells.old }
-    ensures { EndsRightly M.Cells kind standing cells.old cells.new result }
+    standing: Standing<B>,
+    carried: &mut Option<T>,
+) -> ReplyKind
+    requires { IsUnderWay M.Cells LONE_STEPS kind standing carried.old cells.old }
+    ensures { EndsRightly M.Cells kind standing carried.old cells.old carried.new cells.new result }
 {
-    turns::<T, B, M>(cells, kind, standing)
+    let mut own = carried.take();
+    let reply = turns::<T, B, M>(cells, kind, standing, &mut own);
+    let none = mem::replace(carried, own);
+    let None = none else { unreachable!() };
+    reply
 }
 
 /// One common round, and then the loop.
@@ -161,17 +163,18 @@ fn leave<T, B: Copy, M: Cells<T, B>>(
 fn one_common<T, B: Copy, M: Cells<T, B>, W>(
     cells: &mut M,
     kind: Kind,
-    standing: Standing<T, B>,
-) -> Reply<T>
-    requires { IsUnderWay M.Cells LONE_STEPS kind standing cells.old }
-    ensures { EndsRightly M.Cells kind standing cells.old cells.new result }
+    standing: Standing<B>,
+    carried: &mut Option<T>,
+) -> ReplyKind
+    requires { IsUnderWay M.Cells LONE_STEPS kind standing carried.old cells.old }
+    ensures { EndsRightly M.Cells kind standing carried.old cells.old carried.new cells.new result }
 {
     if !M::is_common(kind, &standing.local, &standing.answer) {
-        return leave::<T, B, M>(cells, kind, standing);
+        return leave::<T, B, M>(cells, kind, standing, carried);
     }
-    match common_round::<T, B, M, W, 1>(cells, kind, standing) {
+    match common_round::<T, B, M, W, 1>(cells, kind, standing, carried) {
         ControlFlow::Break(reply) => reply,
-        ControlFlow::Continue(after) => leave::<T, B, M>(cells, kind, after),
+        ControlFlow::Continue(after) => leave::<T, B, M>(cells, kind, after, carried),
     }
 }
 
@@ -180,17 +183,18 @@ fn one_common<T, B: Copy, M: Cells<T, B>, W>(
 fn two_common<T, B: Copy, M: Cells<T, B>, W>(
     cells: &mut M,
     kind: Kind,
-    standing: Standing<T, B>,
-) -> Reply<T>
-    requires { IsUnderWay M.Cells LONE_STEPS kind standing cells.old }
-    ensures { EndsRightly M.Cells kind standing cells.old cells.new result }
+    standing: Standing<B>,
+    carried: &mut Option<T>,
+) -> ReplyKind
+    requires { IsUnderWay M.Cells LONE_STEPS kind standing carried.old cells.old }
+    ensures { EndsRightly M.Cells kind standing carried.old cells.old carried.new cells.new result }
 {
     if !M::is_common(kind, &standing.local, &standing.answer) {
-        return leave::<T, B, M>(cells, kind, standing);
+        return leave::<T, B, M>(cells, kind, standing, carried);
     }
-    match common_round::<T, B, M, W, 2>(cells, kind, standing) {
+    match common_round::<T, B, M, W, 2>(cells, kind, standing, carried) {
         ControlFlow::Break(reply) => reply,
-        ControlFlow::Continue(after) => one_common::<T, B, M, W>(cells, kind, after),
+        ControlFlow::Continue(after) => one_common::<T, B, M, W>(cells, kind, after, carried),
     }
 }
 
@@ -199,17 +203,18 @@ fn two_common<T, B: Copy, M: Cells<T, B>, W>(
 fn three_common<T, B: Copy, M: Cells<T, B>, W>(
     cells: &mut M,
     kind: Kind,
-    standing: Standing<T, B>,
-) -> Reply<T>
-    requires { IsUnderWay M.Cells LONE_STEPS kind standing cells.old }
-    ensures { EndsRightly M.Cells kind standing cells.old cells.new result }
+    standing: Standing<B>,
+    carried: &mut Option<T>,
+) -> ReplyKind
+    requires { IsUnderWay M.Cells LONE_STEPS kind standing carried.old cells.old }
+    ensures { EndsRightly M.Cells kind standing carried.old cells.old carried.new cells.new result }
 {
     if !M::is_common(kind, &standing.local, &standing.answer) {
-        return leave::<T, B, M>(cells, kind, standing);
+        return leave::<T, B, M>(cells, kind, standing, carried);
     }
-    match common_round::<T, B, M, W, 3>(cells, kind, standing) {
+    match common_round::<T, B, M, W, 3>(cells, kind, standing, carried) {
         ControlFlow::Break(reply) => reply,
-        ControlFlow::Continue(after) => two_common::<T, B, M, W>(cells, kind, after),
+        ControlFlow::Continue(after) => two_common::<T, B, M, W>(cells, kind, after, carried),
     }
 }
 
@@ -218,17 +223,18 @@ fn three_common<T, B: Copy, M: Cells<T, B>, W>(
 fn four_common<T, B: Copy, M: Cells<T, B>, W>(
     cells: &mut M,
     kind: Kind,
-    standing: Standing<T, B>,
-) -> Reply<T>
-    requires { IsUnderWay M.Cells LONE_STEPS kind standing cells.old }
-    ensures { EndsRightly M.Cells kind standing cells.old cells.new result }
+    standing: Standing<B>,
+    carried: &mut Option<T>,
+) -> ReplyKind
+    requires { IsUnderWay M.Cells LONE_STEPS kind standing carried.old cells.old }
+    ensures { EndsRightly M.Cells kind standing carried.old cells.old carried.new cells.new result }
 {
     if !M::is_common(kind, &standing.local, &standing.answer) {
-        return leave::<T, B, M>(cells, kind, standing);
+        return leave::<T, B, M>(cells, kind, standing, carried);
     }
-    match common_round::<T, B, M, W, 4>(cells, kind, standing) {
+    match common_round::<T, B, M, W, 4>(cells, kind, standing, carried) {
         ControlFlow::Break(reply) => reply,
-        ControlFlow::Continue(after) => three_common::<T, B, M, W>(cells, kind, after),
+        ControlFlow::Continue(after) => three_common::<T, B, M, W>(cells, kind, after, carried),
     }
 }
 
@@ -237,17 +243,18 @@ fn four_common<T, B: Copy, M: Cells<T, B>, W>(
 fn five_common<T, B: Copy, M: Cells<T, B>, W>(
     cells: &mut M,
     kind: Kind,
-    standing: Standing<T, B>,
-) -> Reply<T>
-    requires { IsUnderWay M.Cells LONE_STEPS kind standing cells.old }
-    ensures { EndsRightly M.Cells kind standing cells.old cells.new result }
+    standing: Standing<B>,
+    carried: &mut Option<T>,
+) -> ReplyKind
+    requires { IsUnderWay M.Cells LONE_STEPS kind standing carried.old cells.old }
+    ensures { EndsRightly M.Cells kind standing carried.old cells.old carried.new cells.new result }
 {
     if !M::is_common(kind, &standing.local, &standing.answer) {
-        return leave::<T, B, M>(cells, kind, standing);
+        return leave::<T, B, M>(cells, kind, standing, carried);
     }
-    match common_round::<T, B, M, W, 5>(cells, kind, standing) {
+    match common_round::<T, B, M, W, 5>(cells, kind, standing, carried) {
         ControlFlow::Break(reply) => reply,
-        ControlFlow::Continue(after) => four_common::<T, B, M, W>(cells, kind, after),
+        ControlFlow::Continue(after) => four_common::<T, B, M, W>(cells, kind, after, carried),
     }
 }
 
@@ -256,17 +263,18 @@ fn five_common<T, B: Copy, M: Cells<T, B>, W>(
 fn six_common<T, B: Copy, M: Cells<T, B>, W>(
     cells: &mut M,
     kind: Kind,
-    standing: Standing<T, B>,
-) -> Reply<T>
-    requires { IsUnderWay M.Cells LONE_STEPS kind standing cells.old }
-    ensures { EndsRightly M.Cells kind standing cells.old cells.new result }
+    standing: Standing<B>,
+    carried: &mut Option<T>,
+) -> ReplyKind
+    requires { IsUnderWay M.Cells LONE_STEPS kind standing carried.old cells.old }
+    ensures { EndsRightly M.Cells kind standing carried.old cells.old carried.new cells.new result }
 {
     if !M::is_common(kind, &standing.local, &standing.answer) {
-        return leave::<T, B, M>(cells, kind, standing);
+        return leave::<T, B, M>(cells, kind, standing, carried);
     }
-    match common_round::<T, B, M, W, 6>(cells, kind, standing) {
+    match common_round::<T, B, M, W, 6>(cells, kind, standing, carried) {
         ControlFlow::Break(reply) => reply,
-        ControlFlow::Continue(after) => five_common::<T, B, M, W>(cells, kind, after),
+        ControlFlow::Continue(after) => five_common::<T, B, M, W>(cells, kind, after, carried),
     }
 }
 
@@ -275,49 +283,55 @@ fn six_common<T, B: Copy, M: Cells<T, B>, W>(
 fn seven_common<T, B: Copy, M: Cells<T, B>, W>(
     cells: &mut M,
     kind: Kind,
-    standing: Standing<T, B>,
-) -> Reply<T>
-    requires { IsUnderWay M.Cells LONE_STEPS kind standing cells.old }
-    ensures { EndsRightly M.Cells kind standing cells.old cells.new result }
+    standing: Standing<B>,
+    carried: &mut Option<T>,
+) -> ReplyKind
+    requires { IsUnderWay M.Cells LONE_STEPS kind standing carried.old cells.old }
+    ensures { EndsRightly M.Cells kind standing carried.old cells.old carried.new cells.new result }
 {
     if !M::is_common(kind, &standing.local, &standing.answer) {
-        return leave::<T, B, M>(cells, kind, standing);
+        return leave::<T, B, M>(cells, kind, standing, carried);
     }
-    match common_round::<T, B, M, W, 7>(cells, kind, standing) {
+    match common_round::<T, B, M, W, 7>(cells, kind, standing, carried) {
         ControlFlow::Break(reply) => reply,
-        ControlFlow::Continue(after) => six_common::<T, B, M, W>(cells, kind, after),
+        ControlFlow::Continue(after) => six_common::<T, B, M, W>(cells, kind, after, carried),
     }
 }
 
 /// A call on its way, before its first step.
 #[inline(always)]
-fn begin<T, B: Copy, M: Cells<T, B>>(cells: &M, call: Call<T>) -> (Kind, Standing<T, B>)
+fn begin<T, B: Copy, M: Cells<T, B>>(cells: &M, call: CallKind) -> (Kind, Standing<B>)
     requires { M.idle cells.now }
     ensures of { result.0 ≡ M.kind_of cells.now }
-    ensures goes { GoesOn M.Cells LONE_STEPS result.0 call cells.now result.1 cells.now }
+    ensures goes { (whole : SpecCall T) → call ≡ call_kind whole → GoesOn M.Cells LONE_STEPS result.0 whole cells.now result.1 (call_value whole) cells.now }
 {
     let kind = cells.kind();
-    let (call, carried) = call.split();
     let local: Local<B> = steps::start(kind, call);
     (
         kind,
         Standing {
             local,
             answer: Answer::Start,
-            carried,
         },
     )
 }
 
 /// Runs a call to its end, which comes within the steps that a lone call takes at most. Seven common rounds do for each push that finds room, and each pop that finds an item, where no block begins or ends.
+///
+/// The place of the value that the call carries is lent, and then holds what it ends with: as a part of the reply it would be copied at each way out of a round.
 #[inline(always)]
-pub(crate) fn drive<T, B: Copy, M: Cells<T, B>, W>(cells: &mut M, call: Call<T>) -> Reply<T>
-    requires { M.idle cells.old }
+pub(crate) fn drive<T, B: Copy, M: Cells<T, B>, W>(
+    cells: &mut M,
+    call: CallKind,
+    carried: &mut Option<T>,
+) -> ReplyKind
+    requires idle { M.idle cells.old }
+    requires whole { FitsCall call carried.old }
     ensures idle { M.idle cells.new }
-    ensures sole { Sole (M.owned cells.old) call result (M.owned cells.new) }
+    ensures sole { SoleApart (M.owned cells.old) call carried.old result carried.new (M.owned cells.new) }
 {
     let (kind, standing) = begin::<T, B, M>(cells, call);
-    seven_common::<T, B, M, W>(cells, kind, standing)
+    seven_common::<T, B, M, W>(cells, kind, standing, carried)
 }
 
 /// Runs a call to its end, in the loop alone.
@@ -326,8 +340,10 @@ pub(crate) fn drive_apart<T, B: Copy, M: Cells<T, B>>(cells: &mut M, call: Call<
     ensures idle { M.idle cells.new }
     ensures sole { Sole (M.owned cells.old) call result (M.owned cells.new) }
 {
+    let (call, mut carried) = call.split();
     let (kind, standing) = begin::<T, B, M>(cells, call);
-    turns::<T, B, M>(cells, kind, standing)
+    let reply = turns::<T, B, M>(cells, kind, standing, &mut carried);
+    Reply::fill(reply, carried)
 }
 
 /// Runs a call that changes nothing to its end.

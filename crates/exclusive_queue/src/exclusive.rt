@@ -13,6 +13,7 @@ ghost use Rattle.std.specs.Mem.Slots.{slots_items, slots_len, IsFull};
 ghost use Rattle.exclusive_queue.specs.LineOwned.{IsIdle as IsLineIdle, line_owned};
 ghost use Rattle.exclusive_queue.specs.ChainMemory.{AreHeld, line_in};
 ghost use Rattle.exclusive_queue.specs.QueueText.{exclusive_text};
+ghost use Rattle.exclusive_queue.specs.Apart.{FitsCall, SoleApart};
 ghost use Rattle.queue_steps.specs.declared.model.Call.TheVariants as call;
 ghost use Rattle.queue_steps.specs.declared.model.Reply.TheVariants as reply;
 
@@ -111,17 +112,18 @@ impl<T, A: Allocator> Form<T, A> {
     ghost use Rattle.queue_steps.specs.Looks.{IsLook, look_reply};
     ghost use Rattle.exclusive_queue.specs.Exclusive.{form_owned, IsFormIdle};
 
-    /// Runs a call to its end.
+    /// Runs a call to its end. The place of the value that it carries is lent, and then holds what it ends with.
     #[inline(always)]
-    fn answer<W>(&mut self, call: Call<T>) -> Reply<T>
-        requires { IsFormIdle self.old }
+    fn settle<W>(&mut self, call: CallKind, carried: &mut Option<T>) -> ReplyKind
+        requires idle { IsFormIdle self.old }
+        requires whole { FitsCall call carried.old }
         ensures idle { IsFormIdle self.new }
-        ensures sole { Sole (form_owned self.old) call result (form_owned self.new) }
+        ensures sole { SoleApart (form_owned self.old) call carried.old result carried.new (form_owned self.new) }
     {
         match self {
-            Form::Single(single) => single.answer::<W>(call),
-            Form::Bounded(ring) => ring.answer::<W>(call),
-            Form::Unbounded(blocks) => blocks.answer::<W>(call),
+            Form::Single(single) => single.settle::<W>(call, carried),
+            Form::Bounded(ring) => ring.settle::<W>(call, carried),
+            Form::Unbounded(blocks) => blocks.settle::<W>(call, carried),
         }
     }
 
@@ -146,11 +148,12 @@ impl<T, A: Allocator> Sealed<T> for Exclusive<T, A> {
     ghost owned = { λ queue. queue };
 
     #[inline(always)]
-    fn answer<W>(&mut self, call: Call<T>) -> Reply<T>
+    fn settle<W>(&mut self, call: CallKind, carried: &mut Option<T>) -> ReplyKind
+        requires whole { FitsCall call carried.old }
         ensures idle { Unit {0} }
-        ensures sole { Sole self.old call result self.new }
+        ensures sole { SoleApart self.old call carried.old result carried.new self.new }
     {
-        self.form.answer::<W>(call)
+        self.form.settle::<W>(call, carried)
     }
 
     #[inline(always)]

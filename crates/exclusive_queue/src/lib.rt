@@ -5,6 +5,7 @@ mod bounded;
 mod cells;
 mod driver;
 pub mod exclusive;
+mod fills;
 pub mod ring_words;
 mod sealed;
 mod single;

@@ -2,14 +2,15 @@
 ghost use Rattle.std.specs.Prelude.{◌≡◌};
 ghost use Rattle.queue_steps.specs.Legal.{IsSoundOwned};
 ghost use Rattle.queue_steps.specs.Looks.{IsLook, look_reply};
-ghost use Rattle.queue_steps.specs.Sole.{Owned, Sole};
+ghost use Rattle.queue_steps.specs.Sole.{Owned};
+ghost use Rattle.exclusive_queue.specs.Apart.{FitsCall, SoleApart};
 
 use crate::bounded::Ring;
 use crate::driver::{drive, observe};
 use crate::exclusive::Exclusive;
 use crate::single::Single;
 use crate::unbounded::{LinkedBlocks, Name};
-use queue_steps::model::{Call, CallKind, Reply, ReplyKind};
+use queue_steps::model::{CallKind, ReplyKind};
 use std::alloc::Allocator;
 
 /// What keeps the items of a queue with one owner. No other crate can name it, so none can make a `Store`.
@@ -20,11 +21,12 @@ pub trait Sealed<T> {
     /// The queue that is kept, where no call is on its way.
     ghost owned: { Self → Owned T };
 
-    /// Runs a call to its end. `W` tells the calls apart, so that each has rounds of its own.
-    fn answer<W>(&mut self, call: Call<T>) -> Reply<T>
-        requires { idle self.old }
+    /// Runs a call to its end. The place of the value that it carries is lent, and then holds what it ends with. `W` tells the calls apart, so that each has rounds of its own.
+    fn settle<W>(&mut self, call: CallKind, carried: &mut Option<T>) -> ReplyKind
+        requires idle { idle self.old }
+        requires whole { FitsCall call carried.old }
         ensures idle { idle self.new }
-        ensures sole { Sole (owned self.old) call result (owned self.new) };
+        ensures sole { SoleApart (owned self.old) call carried.old result carried.new (owned self.new) };
 
     /// Runs a call that changes nothing to its end.
     fn look(&self, call: CallKind) -> ReplyKind
@@ -46,12 +48,13 @@ impl<T> Sealed<T> for Single<T> {
     ghost owned = { single_owned };
 
     #[inline(always)]
-    fn answer<W>(&mut self, call: Call<T>) -> Reply<T>
-        requires { IsIdle self.old }
+    fn settle<W>(&mut self, call: CallKind, carried: &mut Option<T>) -> ReplyKind
+        requires idle { IsIdle self.old }
+        requires whole { FitsCall call carried.old }
         ensures idle { IsIdle self.new }
-        ensures sole { Sole (single_owned self.old) call result (single_owned self.new) }
+        ensures sole { SoleApart (single_owned self.old) call carried.old result carried.new (single_owned self.new) }
     {
-        drive::<T, (), Single<T>, W>(self, call)
+        drive::<T, (), Single<T>, W>(self, call, carried)
     }
 
     #[inline(always)]
@@ -70,12 +73,13 @@ impl<T, A: Allocator> Sealed<T> for Ring<T, A> {
     ghost owned = { ring_owned };
 
     #[inline(always)]
-    fn answer<W>(&mut self, call: Call<T>) -> Reply<T>
-        requires { IsIdle self.old }
+    fn settle<W>(&mut self, call: CallKind, carried: &mut Option<T>) -> ReplyKind
+        requires idle { IsIdle self.old }
+        requires whole { FitsCall call carried.old }
         ensures idle { IsIdle self.new }
-        ensures sole { Sole (ring_owned self.old) call result (ring_owned self.new) }
+        ensures sole { SoleApart (ring_owned self.old) call carried.old result carried.new (ring_owned self.new) }
     {
-        drive::<T, (), Ring<T, A>, W>(self, call)
+        drive::<T, (), Ring<T, A>, W>(self, call, carried)
     }
 
     #[inline(always)]
@@ -94,12 +98,13 @@ impl<T, A: Allocator> Sealed<T> for LinkedBlocks<T, A> {
     ghost owned = { line_owned };
 
     #[inline(always)]
-    fn answer<W>(&mut self, call: Call<T>) -> Reply<T>
-        requires { IsIdle self.old }
+    fn settle<W>(&mut self, call: CallKind, carried: &mut Option<T>) -> ReplyKind
+        requires idle { IsIdle self.old }
+        requires whole { FitsCall call carried.old }
         ensures idle { IsIdle self.new }
-        ensures sole { Sole (line_owned self.old) call result (line_owned self.new) }
+        ensures sole { SoleApart (line_owned self.old) call carried.old result carried.new (line_owned self.new) }
     {
-        drive::<T, Name<T>, LinkedBlocks<T, A>, W>(self, call)
+        drive::<T, Name<T>, LinkedBlocks<T, A>, W>(self, call, carried)
     }
 
     #[inline(always)]

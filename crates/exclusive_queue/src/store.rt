@@ -1,5 +1,6 @@
 //! The calls of a queue with one owner, however it keeps its items, and runs of them.
 ghost use Rattle.std.specs.Prelude.{◌≡◌, length, MatchResult};
+ghost use Rattle.queue_steps.specs.Kinds.{call_kind};
 ghost use Rattle.queue_steps.specs.State.{is_full};
 ghost use Rattle.queue_steps.specs.Replies.{is_empty};
 ghost use Rattle.queue_steps.specs.Legal.{IsSoundOwned};
@@ -7,19 +8,24 @@ ghost use Rattle.queue_steps.specs.Sole.{Sole, SoleRun};
 ghost use Rattle.queue_steps.specs.declared.model.Call.TheVariants as call;
 ghost use Rattle.queue_steps.specs.declared.model.Reply.TheVariants as reply;
 
+use crate::fills::{Closes, Displaces, Fills, Pops, Pushes};
 use crate::sealed::Sealed;
 use queue_steps::errors::{ForcePushError, PopError, PushError};
 use queue_steps::model::{Call, Reply};
 use std::alloc::{AllocError, Allocator};
 
-/// The calls, for the driver: each has rounds of its own.
-struct Pushes;
-
-struct Displaces;
-
-struct Pops;
-
-struct Closes;
+/// Runs a call to its end, and puts its reply together.
+#[inline(always)]
+fn reply_to<T, S: Sealed<T>, W: Fills>(store: &mut S, call: Call<T>) -> Reply<T>
+    requires idle { S.idle store.old }
+    requires its { call_kind call ≡ W.call }
+    ensures idle { S.idle store.new }
+    ensures sole { Sole (S.owned store.old) call result (S.owned store.new) }
+{
+    let (call, mut carried) = call.split();
+    let reply = store.settle::<W>(call, &mut carried);
+    W::fill(reply, carried)
+}
 
 /// A queue with one owner, whichever way it keeps its items: `Exclusive`, and each of its three forms.
 ///
@@ -36,7 +42,7 @@ pub trait Store<T>: Sealed<T> {
         ensures idle { Self.idle self.new }
         ensures sole { Sole (Self.owned self.old) (call.Push value) (reply.Push result) (Self.owned self.new) }
     {
-        match self.answer::<Pushes>(Call::Push(value)) {
+        match reply_to::<T, Self, Pushes>(self, Call::Push(value)) {
             Reply::Push(result) => result,
             _ => unreachable!(),
         }
@@ -52,7 +58,7 @@ pub trait Store<T>: Sealed<T> {
         ensures idle { Self.idle self.new }
         ensures sole { Sole (Self.owned self.old) (call.ForcePush value) (reply.ForcePush result) (Self.owned self.new) }
     {
-        match self.answer::<Displaces>(Call::ForcePush(value)) {
+        match reply_to::<T, Self, Displaces>(self, Call::ForcePush(value)) {
             Reply::ForcePush(result) => result,
             _ => unreachable!(),
         }
@@ -68,7 +74,7 @@ pub trait Store<T>: Sealed<T> {
         ensures idle { Self.idle self.new }
         ensures sole { Sole (Self.owned self.old) call.Pop (reply.Pop result) (Self.owned self.new) }
     {
-        match self.answer::<Pops>(Call::Pop) {
+        match reply_to::<T, Self, Pops>(self, Call::Pop) {
             Reply::Pop(result) => result,
             _ => unreachable!(),
         }
@@ -80,7 +86,7 @@ pub trait Store<T>: Sealed<T> {
         ensures idle { Self.idle self.new }
         ensures sole { Sole (Self.owned self.old) call.Close (reply.Close result) (Self.owned self.new) }
     {
-        match self.answer::<Closes>(Call::Close) {
+        match reply_to::<T, Self, Closes>(self, Call::Close) {
             Reply::Close(result) => result,
             _ => unreachable!(),
         }

@@ -9,11 +9,11 @@ common_round-requires-clause-goes g c = (LONE_STEPS - 1, c.requires)
 pub six_common-requires : goal.six_common-requires
 six_common-requires g c =
     let h = c.requires in
-    (h.0, h.1, h.2, GoesOn-more g.M.Cells (LONE_STEPS - 1) c.args.kind h.1 h.2 _ _ (c.in-Continue.ensures (LONE_STEPS - 1) h.1 h.2 h.3))
+    (h.0, h.1, h.2, GoesOn-more g.M.Cells (LONE_STEPS - 1) c.args.kind h.1 h.2 _ _ _ (c.in-Continue.ensures (LONE_STEPS - 1) h.1 h.2 h.3))
 
 pub returns-in-Break : goal.returns-in-Break
 returns-in-Break g c = λ call first h. c.in-Break.ensures (LONE_STEPS - 1) call first h
 
 pub returns-in-Continue : goal.returns-in-Continue
 returns-in-Continue g c = λ call first h.
-    c.six_common.ensures call first (GoesOn-more g.M.Cells (LONE_STEPS - 1) c.args.kind call first _ _ (c.in-Continue.ensures (LONE_STEPS - 1) call first h))
+    c.six_common.ensures call first (GoesOn-more g.M.Cells (LONE_STEPS - 1) c.args.kind call first _ _ _ (c.in-Continue.ensures (LONE_STEPS - 1) call first h))

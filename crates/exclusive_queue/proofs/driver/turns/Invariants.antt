@@ -9,8 +9,8 @@ abbrev pub invariant-loop : goal.invariant-loop
 invariant-loop g l =
     let m = g.M.Cells in
     record {
-      going : IsUnderWay m (LONE_STEPS - l.counter) l.kind l.standing l.cells;
+      going : IsUnderWay m (LONE_STEPS - l.counter) l.kind l.standing l.carried l.cells;
       goes : (call : Call g.row.T.Denot) (first : g.row.M.Denot)
-          → GoesOn m LONE_STEPS l.kind call first l.initial.standing l.initial.cells
-          → GoesOn m (LONE_STEPS - l.counter) l.kind call first l.standing l.cells;
+          → GoesOn m LONE_STEPS l.kind call first l.initial.standing l.initial.carried l.initial.cells
+          → GoesOn m (LONE_STEPS - l.counter) l.kind call first l.standing l.carried l.cells;
     }
