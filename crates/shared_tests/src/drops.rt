@@ -2,7 +2,7 @@
 ghost use Rattle.std.specs.Prelude.{◌≡◌, ◌<◌, IfSome};
 ghost use Rattle.concurrent_queue.specs.Shared.{IsPartyOf};
 
-use crate::opening::open;
+use crate::opening::{open, part};
 use concurrent_queue::{ConcurrentQueue, Party};
 use std::alloc::{AllocError, Global};
 use std::process::Abort;
@@ -105,20 +105,21 @@ fn each_dropped_once<R: Wait + Threads + Sync + Abort>(
     else {
         panic!(rt; "no memory");
     };
-    let Ok((a, b)) = queue.split(party) else {
-        panic!(rt; "no second party");
-    };
+    let (a, b) = part(rt, &queue, party);
     let (a, b) = join(
         rt,
         || push_all(rt, &queue, a, &drops, popped + left),
         || pop_all(rt, &queue, b, popped),
     );
     let party = queue.join(a, b);
-    assert!(rt; drops.load(Ordering::SeqCst) == popped);
+    let shared = drops.load(Ordering::SeqCst);
     drop(party);
-    assert!(rt; drops.load(Ordering::SeqCst) == popped);
+    let without_a_party = drops.load(Ordering::SeqCst);
     drop(queue);
-    assert!(rt; drops.load(Ordering::SeqCst) == popped + left);
+    assert_eq!(rt;
+        [shared, without_a_party, drops.load(Ordering::SeqCst)],
+        [popped, popped, popped + left]
+    );
 }
 
 #[test]
