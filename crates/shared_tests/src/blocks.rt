@@ -9,7 +9,7 @@ use crate::opening::{end, part};
 use crate::threads::{Meeting, pop_one};
 use block_web::low::Low;
 use concurrent_queue::{ConcurrentQueue, Exclusive, Party, PopError, PushError};
-use std::alloc::{AllocError, Allocator, Global};
+use std::alloc::{Allocator, Global};
 use std::ops::Range;
 use std::process::Abort;
 use std::sync::atomic::{AtomicU64, Ordering};
@@ -331,6 +331,19 @@ const TURNS: u64 = 50;
 /// A shared queue of items that count their drops, and whose requests are counted.
 type Counting<'a> = ConcurrentQueue<Counted, &'a Heap>;
 
+/// Pushes an item. Gives whether it was refused.
+fn is_refused<R: Wait>(
+    rt: &R,
+    queue: &Counting<'_>,
+    party: &mut Party<Counted>,
+    item: Counted,
+) -> bool
+    requires { IsPartyOf party.old queue.now }
+    ensures { IsPartyOf party.new queue.now }
+{
+    queue.push(rt, party, item).is_err()
+}
+
 /// Two parties push items in turn. Gives how many were refused.
 fn push_in_turn<R: Wait>(
     rt: &R,
@@ -338,20 +351,24 @@ fn push_in_turn<R: Wait>(
     first: &mut Party<Counted>,
     second: &mut Party<Counted>,
     drops: &Arc<AtomicU64>,
-) -> Result<u64, AllocError>
+) -> u64
     requires { IsPartyOf first.old queue.now × IsPartyOf second.old queue.now }
     ensures { IsPartyOf first.new queue.now × IsPartyOf second.new queue.now }
 {
     let mut refused = 0u64;
     for _ in 0..TURNS {
-        if queue.push(rt, first, Counted::by(drops)?).is_err() {
+        if let Ok(item) = Counted::by(drops)
+            && is_refused(rt, queue, first, item)
+        {
             refused = refused.wrapping_add(1);
         }
-        if queue.push(rt, second, Counted::by(drops)?).is_err() {
+        if let Ok(item) = Counted::by(drops)
+            && is_refused(rt, queue, second, item)
+        {
             refused = refused.wrapping_add(1);
         }
     }
-    Ok(refused)
+    refused
 }
 
 /// Pops so many items. Gives whether there were as many.
@@ -395,19 +412,19 @@ fn use_and_drop<R: Wait + Abort>(
     drops: &Arc<AtomicU64>,
     popped: u64,
     how: End,
-) -> Result<u64, AllocError> {
+) -> u64 {
     let Ok((queue, party)) = Counting::unbounded(heap) else {
-        return Ok(0);
+        return 0;
     };
     let (mut a, mut b) = part(rt, &queue, party);
-    let refused = push_in_turn(rt, &queue, &mut a, &mut b, drops)?;
+    let refused = push_in_turn(rt, &queue, &mut a, &mut b, drops);
     let right = pop_some(rt, &queue, &mut b, popped);
     assert_eq!(rt;
         (right, drops.load(Ordering::SeqCst)),
         (true, refused.wrapping_add(popped))
     );
     drop_all(rt, queue, a, b, how);
-    Ok(2 * TURNS)
+    2 * TURNS
 }
 
 /// With none and each of the requests refused, which are one of the constructor and four of the pushes; none, some past a block, and all but few of the items popped. Each item is dropped once and nothing stays allocated.
@@ -418,7 +435,7 @@ fn nothing_is_left_of_a_dropped_queue(rt: HostRuntime) -> Result<(), Fail> {
             for refused in 0..7u64 {
                 let heap = Heap::new(rt.alloc(), Refusal::Nth(refused));
                 let drops = Arc::new(rt.alloc(), AtomicU64::new(0))?;
-                let items = use_and_drop(&rt, &heap, &drops, popped, how)?;
+                let items = use_and_drop(&rt, &heap, &drops, popped, how);
                 let wanted = if refused == 1 { 0 } else { 2 * TURNS };
                 assert_eq!(rt;
                     [items, drops.load(Ordering::SeqCst), heap.live()],

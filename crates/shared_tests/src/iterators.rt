@@ -1,7 +1,7 @@
 //! Iterators over shared queues, and what is printed of both.
 ghost use Rattle.concurrent_queue.specs.Shared.{IsPartyOf};
 
-use crate::opening::{open, part};
+use crate::opening::{open, open_surely, part};
 use crate::rows::Queue;
 use concurrent_queue::{Party, PushError};
 use std::alloc::{AllocError, Global};
@@ -166,32 +166,32 @@ static TEXTS: [(Option<usize>, u64, u64, bool, &str); 11] = [
     ),
 ];
 
-/// What is printed of a queue, and of an iterator over it.
-fn printed<R: Wait>(
+/// Asserts what is printed of a queue, and of an iterator over it.
+fn is_printed<R: Wait + Abort>(
     rt: &R,
     alloc: Global,
     queue: &Queue,
     party: &mut Party<u64>,
-) -> Result<(String, String), AllocError>
+    text: &str,
+) -> Result<(), AllocError>
     requires { IsPartyOf party.old queue.now }
 {
-    let of_queue = format!(in alloc; "{queue:?}")?;
     let items = queue.try_iter(rt, party);
-    let of_items = format!(in alloc; "{items:?}")?;
-    Ok((of_queue, of_items))
+    let both = format!(in alloc; "{queue:?} {items:?}")?;
+    let wanted = format!(in alloc; "{text} Iter({text})")?;
+    assert_eq!(rt; both.as_str(), wanted.as_str());
+    Ok(())
 }
 
 #[test]
-fn queues_and_iterators_are_printed(rt: HostRuntime) -> Result<(), Fail> {
+fn queues_and_iterators_are_printed(rt: HostRuntime) -> Result<(), AllocError> {
     for (cap, pushes, pops, closed, text) in TEXTS.iter() {
-        let (queue, mut party) = open(rt.alloc(), *cap)?;
+        let (queue, mut party) = open_surely(&rt, rt.alloc(), *cap);
         fill(&rt, &queue, &mut party, *pushes, *pops);
         if *closed {
             queue.close(&mut party);
         }
-        let (queue, items) = printed(&rt, rt.alloc(), &queue, &mut party)?;
-        let wanted = format!(in rt.alloc(); "Iter({text})")?;
-        assert_eq!(rt; (queue.as_str(), items.as_str()), (*text, wanted.as_str()));
+        is_printed(&rt, rt.alloc(), &queue, &mut party, text)?;
     }
     Ok(())
 }

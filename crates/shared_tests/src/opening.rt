@@ -21,6 +21,21 @@ pub(crate) fn open<T: Drop, A: Low + Clone>(alloc: A, cap: Option<usize>) -> Ope
     }
 }
 
+/// The same, where there has to be memory. Asserts that there is.
+pub(crate) fn open_surely<T: Drop, A: Low + Clone>(
+    rt: &impl Abort,
+    alloc: A,
+    cap: Option<usize>,
+) -> (ConcurrentQueue<T, A>, Party<T>)
+    requires { IfSome cap (λ slots. 0 < slots) }
+    ensures { IsPartyOf result.1 result.0 }
+{
+    let Ok(both) = open(alloc, cap) else {
+        panic!(rt; "no memory");
+    };
+    both
+}
+
 /// Two parties, of one that is parted. Asserts that it is.
 pub(crate) fn part<T: Drop, A: Allocator>(
     rt: &impl Abort,
