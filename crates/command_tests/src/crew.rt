@@ -25,11 +25,10 @@ fn counts_of(alloc: Global, values: &[u64]) -> Result<[u64; 3], AllocError> {
 #[test]
 fn wrong_counts_are_found(rt: HostRuntime) -> Result<(), Fail> {
     let counts = counts_of(rt.alloc(), &[0, 0, 1, 2, 2, 2, 3, u64::MAX])?;
-    assert_eq!(rt; counts, [2u64, 1, 3]);
     let findings = [judge(2, &counts), judge(1, &counts)];
     let lost = Finding::Wrong { value: 1, times: 1 };
     let doubled = Finding::Wrong { value: 0, times: 2 };
-    assert_eq!(rt; findings, [lost, doubled]);
+    assert_eq!(rt; (counts, findings), ([2u64, 1, 3], [lost, doubled]));
     Ok(())
 }
 
@@ -37,9 +36,11 @@ fn wrong_counts_are_found(rt: HostRuntime) -> Result<(), Fail> {
 fn a_wrong_count_is_told(rt: HostRuntime) -> Result<(), Fail> {
     let lost = Finding::Wrong { value: 1, times: 1 };
     let verdict = lost.verdict();
-    assert_eq!(rt; (verdict, verdict.status()), (Verdict::Wrong, 1));
     let text = format!(in rt.alloc(); "{lost}")?;
-    assert_eq!(rt; text.as_str(), "value 1 counted 1 times");
+    assert_eq!(rt;
+        (verdict, verdict.status(), text.as_str()),
+        (Verdict::Wrong, 1, "value 1 counted 1 times")
+    );
     Ok(())
 }
 
@@ -55,7 +56,47 @@ fn plan_of(pushers: u64, poppers: u64, items: u64) -> Plan
     }
 }
 
-/// Whether the threads of a plan did all on a queue that was closed before, or counted something.
+/// Whether a value was counted.
+fn is_counted(counts: &[u64]) -> bool {
+    let mut counted = false;
+    for count in counts {
+        counted = *count != 0 || counted;
+    }
+    counted
+}
+
+/// Runs the threads of a plan. Gives the party back, and whether they did all, or counted something.
+fn run_plan<R: Threads + Wait + Sync>(
+    rt: &R,
+    alloc: Global,
+    queue: &Queue,
+    party: Party<u64>,
+    plan: Plan,
+) -> Result<(Party<u64>, bool), AllocError>
+    requires of { IsPartyOf party queue.now }
+    requires few { (plan.pushers + plan.poppers) * plan.share < 2 ^ 64 }
+    requires threads { plan.pushers + plan.poppers < 2 ^ 64 }
+    ensures { IfOk result (λ r. IsPartyOf r.0 queue.now) }
+{
+    let Work {
+        party,
+        counts,
+        done,
+    } = run_all(rt, alloc, queue, party, plan)?;
+    Ok((party, done || is_counted(&counts)))
+}
+
+/// Whether a queue is empty, and whether it is open, once all parties are joined; nothing where one is missing.
+fn end(queue: Queue, party: Party<u64>) -> Option<(bool, bool)>
+    requires { IsPartyOf party queue }
+{
+    match queue.finish(party) {
+        Ok(left) => Some((left.is_empty(), !left.is_closed())),
+        Err(_) => None,
+    }
+}
+
+/// Whether the threads of a plan did all on a queue that was closed before, or counted something, or left a party out.
 fn does_something<R: Threads + Wait + Sync>(
     rt: &R,
     alloc: Global,
@@ -66,20 +107,18 @@ fn does_something<R: Threads + Wait + Sync>(
 {
     let (queue, mut party) = Queue::bounded(alloc, 1)?;
     queue.close(&mut party);
-    let Work {
-        party,
-        counts,
-        done,
-    } = run_all(rt, alloc, &queue, party, plan)?;
-    let counted = counts.iter().any(|count| *count != 0);
-    Ok(done || counted || queue.finish(party).is_err())
+    let (party, done) = run_plan(rt, alloc, &queue, party, plan)?;
+    Ok(done || end(queue, party).is_none())
 }
 
 #[test]
 fn nothing_is_done_on_a_closed_queue(rt: HostRuntime) -> Result<(), Fail> {
-    assert!(rt; !does_something(&rt, rt.alloc(), plan_of(3, 0, 2))?);
-    assert!(rt; !does_something(&rt, rt.alloc(), plan_of(0, 3, 2))?);
-    assert!(rt; !does_something(&rt, rt.alloc(), plan_of(2, 2, 2))?);
+    let done = [
+        does_something(&rt, rt.alloc(), plan_of(3, 0, 2))?,
+        does_something(&rt, rt.alloc(), plan_of(0, 3, 2))?,
+        does_something(&rt, rt.alloc(), plan_of(2, 2, 2))?,
+    ];
+    assert_eq!(rt; done, [false; 3]);
     Ok(())
 }
 
@@ -114,7 +153,7 @@ fn empty_closed<R: Threads + Wait + Sync>(rt: &R, alloc: Global) -> Result<Empti
         closed,
         done,
         counted: [counts[0], counts[1]],
-        finished: queue.finish(party).is_ok(),
+        finished: end(queue, party).is_some(),
     })
 }
 
@@ -149,7 +188,7 @@ fn close_later(queue: &Queue, mut party: Party<u64>) -> Party<u64>
     party
 }
 
-/// Whether the threads of a plan did all on a queue that another party closes meanwhile.
+/// Whether the threads of a plan did all on a queue that another party closes meanwhile, or counted something, or left a party out.
 fn done_in_spite_of_a_close<R: Threads + Wait + Sync>(
     rt: &R,
     alloc: Global,
@@ -162,24 +201,27 @@ fn done_in_spite_of_a_close<R: Threads + Wait + Sync>(
     let Ok((crew, closer)) = queue.split(party) else {
         unreachable!()
     };
-    let (work, closer) = join(
+    let (ran, closer) = join(
         rt,
-        || -> Result<Work, AllocError>
+        || -> Result<(Party<u64>, bool), AllocError>
             requires { IsPartyOf crew queue × ((plan.pushers + plan.poppers) * plan.share < 2 ^ 64) × (plan.pushers + plan.poppers < 2 ^ 64) }
-            ensures { IfOk result (λ work. IsPartyOf work.party queue) }
-        { run_all(rt, alloc, &queue, crew, plan) },
+            ensures { IfOk result (λ r. IsPartyOf r.0 queue) }
+        { run_plan(rt, alloc, &queue, crew, plan) },
         || close_later(&queue, closer),
     );
-    let Work { party, done, .. } = work?;
+    let (party, done) = ran?;
     let whole = queue.join(party, closer);
-    Ok(done || queue.finish(whole).is_err())
+    Ok(done || end(queue, whole).is_none())
 }
 
 /// Threads that wait, for items that nobody pushes or for a place that nobody makes free, end when another party closes the queue.
 #[test]
 fn a_close_ends_threads_that_wait(rt: HostRuntime) -> Result<(), Fail> {
-    assert!(rt; !done_in_spite_of_a_close(&rt, rt.alloc(), plan_of(0, 3, 5))?);
-    assert!(rt; !done_in_spite_of_a_close(&rt, rt.alloc(), plan_of(3, 0, 5))?);
+    let done = [
+        done_in_spite_of_a_close(&rt, rt.alloc(), plan_of(0, 3, 5))?,
+        done_in_spite_of_a_close(&rt, rt.alloc(), plan_of(3, 0, 5))?,
+    ];
+    assert_eq!(rt; done, [false; 2]);
     Ok(())
 }
 
@@ -201,11 +243,7 @@ fn run_of_six<R: Threads + Wait + Sync>(rt: &R, alloc: Global) -> Result<Run, Al
         done,
     } = run_all(rt, alloc, &queue, party, plan)?;
     let finding = judge(4, &counts);
-    let left = match queue.finish(party) {
-        Ok(left) => Some((left.is_empty(), !left.is_closed())),
-        Err(_) => None,
-    };
-    Ok((done, finding, left))
+    Ok((done, finding, end(queue, party)))
 }
 
 /// All parties are joined again at the end of a run, and nothing is left.

@@ -1,5 +1,6 @@
 //! Rows of replays, run through `command`.
-use crate::rows::{End, Part, Row, ends, writes};
+use crate::rows::{End, Part, Row, all_unreadable, ends, writes};
+use std::alloc::AllocError;
 use std::test::Fail;
 
 static REPLAYS: [Row; 10] = [
@@ -107,15 +108,14 @@ fn a_close_at_each_step_of_a_displacement_is_kept(rt: HostRuntime) -> Result<(),
 }
 
 #[test]
-fn a_capacity_past_the_longest_is_want_of_memory(rt: HostRuntime) -> Result<(), Fail> {
+fn a_capacity_past_the_longest_is_want_of_memory(rt: HostRuntime) -> Result<(), AllocError> {
     ends(
         &rt,
         rt.alloc(),
         "replay bounded:576460752303423489 1",
         b"0 push 1\n",
         End::fault(3, "no memory\n"),
-    )?;
-    Ok(())
+    )
 }
 
 static UNREADABLE: [(&[u8], &str); 18] = [
@@ -140,15 +140,6 @@ static UNREADABLE: [(&[u8], &str); 18] = [
 ];
 
 #[test]
-fn the_first_unreadable_line_is_told(rt: HostRuntime) -> Result<(), Fail> {
-    for (input, fault) in UNREADABLE.iter() {
-        ends(
-            &rt,
-            rt.alloc(),
-            "replay single 2",
-            input,
-            End::fault(2, fault),
-        )?;
-    }
-    Ok(())
+fn the_first_unreadable_line_is_told(rt: HostRuntime) -> Result<(), AllocError> {
+    all_unreadable(&rt, rt.alloc(), "replay single 2", &UNREADABLE)
 }

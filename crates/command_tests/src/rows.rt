@@ -134,6 +134,58 @@ pub fn ends<R: Abort + Threads + Wait + Sync + AllocGlobal>(
     Ok(())
 }
 
+/// Asserts that the program ends well on each of these lines of arguments and this input, and writes what stands beside the line.
+pub fn all_end_well<R: Abort + Threads + Wait + Sync + AllocGlobal>(
+    rt: &R,
+    alloc: Global,
+    rows: &[(&str, &str)],
+    input: &[u8],
+) -> Result<(), AllocError> {
+    for (line, output) in rows {
+        ends(rt, alloc, line, input, End::right(output))?;
+    }
+    Ok(())
+}
+
+/// Asserts that the program ends well on this line of arguments and each of these inputs, and writes what stands beside the input.
+pub fn all_write<R: Abort + Threads + Wait + Sync + AllocGlobal>(
+    rt: &R,
+    alloc: Global,
+    line: &str,
+    rows: &[(&str, &str)],
+) -> Result<(), AllocError> {
+    for (input, output) in rows {
+        ends(rt, alloc, line, input.as_bytes(), End::right(output))?;
+    }
+    Ok(())
+}
+
+/// Asserts that the program ends on this line of arguments and each of these inputs with status 2, and tells the fault that stands beside the input.
+pub fn all_unreadable<R: Abort + Threads + Wait + Sync + AllocGlobal>(
+    rt: &R,
+    alloc: Global,
+    line: &str,
+    rows: &[(&[u8], &str)],
+) -> Result<(), AllocError> {
+    for (input, fault) in rows {
+        ends(rt, alloc, line, input, End::fault(2, fault))?;
+    }
+    Ok(())
+}
+
+/// Asserts that the program ends with the usage text on each of these lines of arguments and this input.
+pub fn all_wrong<R: Abort + Threads + Wait + Sync + AllocGlobal>(
+    rt: &R,
+    alloc: Global,
+    lines: &[&str],
+    input: &[u8],
+) -> Result<(), AllocError> {
+    for line in lines {
+        ends(rt, alloc, line, input, End::fault(2, USAGE))?;
+    }
+    Ok(())
+}
+
 /// A part of a text that is written for a replay.
 #[derive(Clone, Copy)]
 pub enum Part<'a> {

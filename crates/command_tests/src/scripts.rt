@@ -1,5 +1,5 @@
 //! Rows of scripts, run through `command`.
-use crate::rows::{End, Outcome, USAGE, ends, run, run_over};
+use crate::rows::{End, Outcome, all_unreadable, all_write, all_wrong, ends, run, run_over};
 use std::alloc::{AllocError, Global};
 use std::io;
 use std::io::{ErrorKind, Read, Write};
@@ -33,11 +33,8 @@ static WRONG: [&str; 22] = [
 ];
 
 #[test]
-fn wrong_arguments_give_the_usage_text(rt: HostRuntime) -> Result<(), Fail> {
-    for line in WRONG.iter() {
-        ends(&rt, rt.alloc(), line, b"pop\n", End::fault(2, USAGE))?;
-    }
-    Ok(())
+fn wrong_arguments_give_the_usage_text(rt: HostRuntime) -> Result<(), AllocError> {
+    all_wrong(&rt, rt.alloc(), &WRONG, b"pop\n")
 }
 
 static UNREADABLE: [(&[u8], &str); 20] = [
@@ -64,17 +61,8 @@ static UNREADABLE: [(&[u8], &str); 20] = [
 ];
 
 #[test]
-fn the_first_unreadable_line_is_told(rt: HostRuntime) -> Result<(), Fail> {
-    for (input, fault) in UNREADABLE.iter() {
-        ends(
-            &rt,
-            rt.alloc(),
-            "script single",
-            input,
-            End::fault(2, fault),
-        )?;
-    }
-    Ok(())
+fn the_first_unreadable_line_is_told(rt: HostRuntime) -> Result<(), AllocError> {
+    all_unreadable(&rt, rt.alloc(), "script single", &UNREADABLE)
 }
 
 static SCRIPTS: [(&str, &str); 8] = [
@@ -107,23 +95,13 @@ static SCRIPTS: [(&str, &str); 8] = [
 ];
 
 #[test]
-fn scripts_print_the_replies_and_what_is_left(rt: HostRuntime) -> Result<(), Fail> {
-    for (input, output) in SCRIPTS.iter() {
-        let input = input.as_bytes();
-        ends(&rt, rt.alloc(), "script single", input, End::right(output))?;
-        ends(
-            &rt,
-            rt.alloc(),
-            "script bounded:1",
-            input,
-            End::right(output),
-        )?;
-    }
-    Ok(())
+fn scripts_print_the_replies_and_what_is_left(rt: HostRuntime) -> Result<(), AllocError> {
+    all_write(&rt, rt.alloc(), "script single", &SCRIPTS)?;
+    all_write(&rt, rt.alloc(), "script bounded:1", &SCRIPTS)
 }
 
 #[test]
-fn rings_are_run_by_their_capacity(rt: HostRuntime) -> Result<(), Fail> {
+fn rings_are_run_by_their_capacity(rt: HostRuntime) -> Result<(), AllocError> {
     ends(
         &rt,
         rt.alloc(),
@@ -132,20 +110,18 @@ fn rings_are_run_by_their_capacity(rt: HostRuntime) -> Result<(), Fail> {
         End::right(
             "ok\nok\nok\nfull 4\ndisplaced 1\ndisplaced 2\ntrue\nclosed 7\nitem 3\nitem 5\nitem 6\nleft\n",
         ),
-    )?;
-    Ok(())
+    )
 }
 
 #[test]
-fn a_capacity_past_the_longest_is_want_of_memory(rt: HostRuntime) -> Result<(), Fail> {
+fn a_capacity_past_the_longest_is_want_of_memory(rt: HostRuntime) -> Result<(), AllocError> {
     ends(
         &rt,
         rt.alloc(),
         "script bounded:576460752303423489",
         b"push 1\n",
         End::fault(3, "no memory\n"),
-    )?;
-    Ok(())
+    )
 }
 
 /// Gives a few bytes, and fails so then.

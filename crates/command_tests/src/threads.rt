@@ -1,43 +1,32 @@
 //! Rows of the forms that start threads, run through `command`.
-use crate::rows::{End, Outcome, USAGE, ends, run_over};
+use crate::rows::{End, Outcome, all_end_well, all_wrong, ends, run_over};
 use std::alloc::{AllocError, Global};
 use std::io;
 use std::io::Write;
-use std::process::Abort;
 use std::sync::Wait;
 use std::test::Fail;
 use std::thread::Threads;
 
-/// Asserts that the program ends so on a line of arguments, with an input that it is not to read.
-fn ends_unread<R: Abort + Threads + Wait + Sync + AllocGlobal>(
-    rt: &R,
-    alloc: Global,
-    line: &str,
-    end: End<'_>,
-) -> Result<(), AllocError> {
-    ends(rt, alloc, line, b"not read\n", end)
-}
+/// An input that the program is not to read.
+const UNREAD: &[u8] = b"not read\n";
 
 /// A program that runs the two sides one after the other, on one thread, prints `alone`: the first waits for an item that the second is yet to send.
 #[test]
-fn both_threads_of_a_handshake_get_an_item(rt: HostRuntime) -> Result<(), Fail> {
-    ends_unread(&rt, rt.alloc(), "handshake", End::right("both\n"))?;
-    Ok(())
+fn both_threads_of_a_handshake_get_an_item(rt: HostRuntime) -> Result<(), AllocError> {
+    ends(&rt, rt.alloc(), "handshake", UNREAD, End::right("both\n"))
 }
 
 /// On one thread the second push would wait for a pop that is yet to come, and the test would not end.
 #[test]
-fn one_thread_a_side(rt: HostRuntime) -> Result<(), Fail> {
+fn one_thread_a_side(rt: HostRuntime) -> Result<(), AllocError> {
     let end = End::right("1000 values, each counted 1 times\n");
-    ends_unread(&rt, rt.alloc(), "threads single 1 1 1000", end)?;
-    Ok(())
+    ends(&rt, rt.alloc(), "threads single 1 1 1000", UNREAD, end)
 }
 
 #[test]
-fn four_threads_a_side(rt: HostRuntime) -> Result<(), Fail> {
+fn four_threads_a_side(rt: HostRuntime) -> Result<(), AllocError> {
     let end = End::right("1000 values, each counted 4 times\n");
-    ends_unread(&rt, rt.alloc(), "threads single 4 4 1000", end)?;
-    Ok(())
+    ends(&rt, rt.alloc(), "threads single 4 4 1000", UNREAD, end)
 }
 
 /// More poppers, more pushers, and no items.
@@ -54,11 +43,8 @@ static UNEQUAL: [(&str, &str); 3] = [
 ];
 
 #[test]
-fn unequal_sides(rt: HostRuntime) -> Result<(), Fail> {
-    for (line, output) in UNEQUAL.iter() {
-        ends_unread(&rt, rt.alloc(), line, End::right(output))?;
-    }
-    Ok(())
+fn unequal_sides(rt: HostRuntime) -> Result<(), AllocError> {
+    all_end_well(&rt, rt.alloc(), &UNEQUAL, UNREAD)
 }
 
 /// Through rings: that of the reference's tests, one for fewer items than it has slots, and one for many more.
@@ -78,11 +64,8 @@ static RINGS: [(&str, &str); 3] = [
 ];
 
 #[test]
-fn through_rings(rt: HostRuntime) -> Result<(), Fail> {
-    for (line, output) in RINGS.iter() {
-        ends_unread(&rt, rt.alloc(), line, End::right(output))?;
-    }
-    Ok(())
+fn through_rings(rt: HostRuntime) -> Result<(), AllocError> {
+    all_end_well(&rt, rt.alloc(), &RINGS, UNREAD)
 }
 
 /// Without a capacity: one item, as many as the reference's tests push, an item past a block of 31, and none.
@@ -106,19 +89,15 @@ static UNBOUNDED: [(&str, &str); 4] = [
 ];
 
 #[test]
-fn through_chains(rt: HostRuntime) -> Result<(), Fail> {
-    for (line, output) in UNBOUNDED.iter() {
-        ends_unread(&rt, rt.alloc(), line, End::right(output))?;
-    }
-    Ok(())
+fn through_chains(rt: HostRuntime) -> Result<(), AllocError> {
+    all_end_well(&rt, rt.alloc(), &UNBOUNDED, UNREAD)
 }
 
 /// No queue has more slots than 2^59.
 #[test]
-fn no_ring_of_too_many_slots(rt: HostRuntime) -> Result<(), Fail> {
+fn no_ring_of_too_many_slots(rt: HostRuntime) -> Result<(), AllocError> {
     let line = "threads bounded:576460752303423489 1 1 1";
-    ends_unread(&rt, rt.alloc(), line, End::fault(3, "no memory\n"))?;
-    Ok(())
+    ends(&rt, rt.alloc(), line, UNREAD, End::fault(3, "no memory\n"))
 }
 
 static WRONG: [&str; 26] = [
@@ -151,11 +130,8 @@ static WRONG: [&str; 26] = [
 ];
 
 #[test]
-fn wrong_loads_give_the_usage_text(rt: HostRuntime) -> Result<(), Fail> {
-    for line in WRONG.iter() {
-        ends_unread(&rt, rt.alloc(), line, End::fault(2, USAGE))?;
-    }
-    Ok(())
+fn wrong_loads_give_the_usage_text(rt: HostRuntime) -> Result<(), AllocError> {
+    all_wrong(&rt, rt.alloc(), &WRONG, UNREAD)
 }
 
 /// A writer that takes nothing.

@@ -1,6 +1,6 @@
 //! Rows on queues without a capacity, run through `command`.
-use crate::rows::{End, Part, ends, writes};
-use std::test::Fail;
+use crate::rows::{End, Part, all_write, ends, writes};
+use std::alloc::AllocError;
 
 static SCRIPTS: [(&str, &str); 3] = [
     ("", "blocks 0\nleft\n"),
@@ -15,21 +15,12 @@ static SCRIPTS: [(&str, &str); 3] = [
 ];
 
 #[test]
-fn scripts_tell_of_the_blocks(rt: HostRuntime) -> Result<(), Fail> {
-    for (input, output) in SCRIPTS.iter() {
-        ends(
-            &rt,
-            rt.alloc(),
-            "script unbounded",
-            input.as_bytes(),
-            End::right(output),
-        )?;
-    }
-    Ok(())
+fn scripts_tell_of_the_blocks(rt: HostRuntime) -> Result<(), AllocError> {
+    all_write(&rt, rt.alloc(), "script unbounded", &SCRIPTS)
 }
 
 #[test]
-fn observers_while_a_pop_passes_to_the_next_block(rt: HostRuntime) -> Result<(), Fail> {
+fn observers_while_a_pop_passes_to_the_next_block(rt: HostRuntime) -> Result<(), AllocError> {
     let input = [
         Part::Pushes(31),
         Part::Times(30, "0 pop\n0 run\n"),
@@ -44,12 +35,11 @@ fn observers_while_a_pop_passes_to_the_next_block(rt: HostRuntime) -> Result<(),
         },
         Part::Text("126 0 take\n128 1 0\n130 1 true\n131 0 item 31\nblocks 2 of 3\nleft\n"),
     ];
-    writes(&rt, rt.alloc(), "replay unbounded 2", &input, &output)?;
-    Ok(())
+    writes(&rt, rt.alloc(), "replay unbounded 2", &input, &output)
 }
 
 #[test]
-fn the_first_request_is_refused(rt: HostRuntime) -> Result<(), Fail> {
+fn the_first_request_is_refused(rt: HostRuntime) -> Result<(), AllocError> {
     ends(
         &rt,
         rt.alloc(),
@@ -58,24 +48,22 @@ fn the_first_request_is_refused(rt: HostRuntime) -> Result<(), Fail> {
         End::right(
             "4 0 no memory 7\n6 0 append\n6 0 ok\n7 0 skipped\n8 1 skipped\nblocks 1 of 3\nleft 8\n",
         ),
-    )?;
-    Ok(())
+    )
 }
 
 #[test]
-fn two_parties_install_the_first_block(rt: HostRuntime) -> Result<(), Fail> {
+fn two_parties_install_the_first_block(rt: HostRuntime) -> Result<(), AllocError> {
     ends(
         &rt,
         rt.alloc(),
         "replay unbounded 2",
         b"0 push 1\n0 step\n0 step\n0 step\n1 push 2\n1 step\n1 step\n1 step\n0 run\n1 run\n0 len\n0 run\n",
         End::right("9 0 append\n9 0 ok\n10 1 append\n10 1 ok\n12 0 2\nblocks 2 of 4\nleft 1 2\n"),
-    )?;
-    Ok(())
+    )
 }
 
 #[test]
-fn a_pusher_stops_before_the_tail_is_opened(rt: HostRuntime) -> Result<(), Fail> {
+fn a_pusher_stops_before_the_tail_is_opened(rt: HostRuntime) -> Result<(), AllocError> {
     let input = [
         Part::Pushes(30),
         Part::Text("0 push 31\n0 step\n0 step\n0 step\n0 step\n"),
@@ -89,12 +77,11 @@ fn a_pusher_stops_before_the_tail_is_opened(rt: HostRuntime) -> Result<(), Fail>
         Part::Items(31),
         Part::Text("\n"),
     ];
-    writes(&rt, rt.alloc(), "replay unbounded 3", &input, &output)?;
-    Ok(())
+    writes(&rt, rt.alloc(), "replay unbounded 3", &input, &output)
 }
 
 #[test]
-fn a_reader_has_to_give_the_block_up(rt: HostRuntime) -> Result<(), Fail> {
+fn a_reader_has_to_give_the_block_up(rt: HostRuntime) -> Result<(), AllocError> {
     let input = [
         Part::Pushes(31),
         Part::Text("0 pop\n0 step\n0 step\n0 step\n0 step\n"),
@@ -111,6 +98,5 @@ fn a_reader_has_to_give_the_block_up(rt: HostRuntime) -> Result<(), Fail> {
         },
         Part::Text("128 0 item 1\nblocks 2 of 3\nleft\n"),
     ];
-    writes(&rt, rt.alloc(), "replay unbounded 2", &input, &output)?;
-    Ok(())
+    writes(&rt, rt.alloc(), "replay unbounded 2", &input, &output)
 }

@@ -5,10 +5,11 @@ ghost use denote.Param.Send.{IsSync};
 
 use crate::drops::Counted;
 use crate::left::{End, in_order, push_all};
+use crate::opening::{end, part};
 use crate::threads::{Meeting, pop_one};
 use block_web::low::Low;
-use concurrent_queue::{ConcurrentQueue, Party, PopError, PushError};
-use std::alloc::{AllocError, Allocator, Global};
+use concurrent_queue::{ConcurrentQueue, Exclusive, Party, PopError, PushError};
+use std::alloc::{Allocator, Global};
 use std::ops::Range;
 use std::process::Abort;
 use std::sync::atomic::{AtomicU64, Ordering};
@@ -92,17 +93,34 @@ fn hand_over<A: Low + Send + Sync, R: Wait + Threads + Sync>(
     }
 }
 
+/// Ends the sharing of a queue. Gives how many allocations lived before; and then its items, its blocks, and how many allocations live.
+fn end_counted<'a>(
+    rt: &impl Abort,
+    heap: &Heap,
+    queue: Queue<'a>,
+    party: Party<u64>,
+) -> (Exclusive<u64, &'a Heap>, [u64; 4])
+    requires { IsPartyOf party queue }
+{
+    let shared = heap.live();
+    let alone = end(rt, queue, party);
+    let counts = [
+        shared,
+        alone.len() as u64,
+        alone.blocks() as u64,
+        heap.live(),
+    ];
+    (alone, counts)
+}
+
 /// Of all blocks that items went through one is left, beside the allocation of both ends, which the end of the sharing gives back.
 #[test]
 fn passed_blocks_are_given_back(rt: HostRuntime) -> Result<(), Fail> {
     let heap = Heap::new(rt.alloc(), Refusal::Never);
     let (queue, party) = Queue::unbounded(&heap)?;
     let (party, right) = hand_over(&rt, &queue, party);
-    assert_eq!(rt; (right, heap.live()), (true, 2));
-    let Ok(alone) = queue.finish(party) else {
-        panic!(rt; "not finished");
-    };
-    assert_eq!(rt; (alone.len(), alone.blocks(), heap.live()), (0, 1, 1));
+    let (_, counts) = end_counted(&rt, &heap, queue, party);
+    assert_eq!(rt; (right, counts), (true, [2, 0, 1, 1]));
     Ok(())
 }
 
@@ -195,18 +213,12 @@ fn two_of_four_threads_ask_for_the_first_block(rt: HostRuntime) -> Result<(), Fa
     let (queue, party) = Queue::unbounded(&heap)?;
     heap.hold_next();
     let (party, right) = push_by_four(&rt, &queue, party, &heap);
+    let held = heap.held_until_let_go();
+    let (alone, counts) = end_counted(&rt, &heap, queue, party);
     assert_eq!(rt;
-        (right, heap.held_until_let_go(), heap.live()),
-        (true, true, 131)
+        (right, held, counts, in_order(alone, EACH)),
+        (true, true, [131, 4000, 130, 130], [EACH; 4])
     );
-    let Ok(alone) = queue.finish(party) else {
-        panic!(rt; "not finished");
-    };
-    assert_eq!(rt;
-        (alone.len(), alone.blocks(), heap.live()),
-        (4000, 130, 130)
-    );
-    assert_eq!(rt; in_order(alone, EACH), [EACH; 4]);
     Ok(())
 }
 
@@ -262,51 +274,52 @@ fn empty_while_a_push_asks_for_memory(rt: HostRuntime) -> Result<(), Fail> {
     let (queue, party) = Queue::unbounded(&heap)?;
     heap.hold_next();
     let (party, answers) = pop_while_a_push_is_held(&rt, &queue, party, &heap);
+    let held = heap.held_until_let_go();
+    let mut alone = end(&rt, queue, party);
     assert_eq!(rt;
-        (answers, heap.held_until_let_go()),
-        ((true, (true, Err(PopError::Empty))), true)
+        (answers, held, alone.pop(), alone.blocks(), heap.live()),
+        ((true, (true, Err(PopError::Empty))), true, Ok(0), 1, 1)
     );
-    let Ok(mut alone) = queue.finish(party) else {
-        panic!(rt; "not finished");
-    };
-    assert_eq!(rt; (alone.pop(), alone.blocks(), heap.live()), (Ok(0), 1, 1));
     Ok(())
 }
 
-/// Pushes 1 to 63. Asserts that each is accepted, but for the one that is to be refused.
-fn push_to_63<R: Wait + Abort>(rt: &R, queue: &Queue<'_>, party: &mut Party<u64>, refused: u64)
+/// Pushes 1 to 63. Gives whether each is accepted, but for the one that is to be refused.
+fn push_to_63<R: Wait>(rt: &R, queue: &Queue<'_>, party: &mut Party<u64>, refused: u64) -> bool
     requires { IsPartyOf party.old queue.now }
     ensures { IsPartyOf party.new queue.now }
 {
+    let mut right = true;
     for value in 1..64u64 {
         let expected = if value == refused {
             Err(PushError::NoMemory(value))
         } else {
             Ok(())
         };
-        assert_eq!(rt; queue.push(rt, party, value), expected);
+        right = queue.push(rt, party, value) == expected && right;
     }
+    right
 }
+
+/// Which request is refused, and to which push; how many requests there are in the end, and how many items.
+static REFUSED: [(Refusal, u64, u64, u64); 4] = [
+    (Refusal::Never, 0, 4, 63),
+    (Refusal::Nth(2), 1, 5, 62),
+    (Refusal::Nth(3), 31, 5, 62),
+    (Refusal::Nth(4), 62, 5, 62),
+];
 
 /// The constructor's request is granted, and one of the pushes' is refused, or none. The number of blocks is told once the sharing has ended.
 #[test]
 fn each_request_of_a_push_refused(rt: HostRuntime) -> Result<(), Fail> {
-    for (refusal, refused, requests, accepted) in [
-        (Refusal::Never, 0, 4, 63),
-        (Refusal::Nth(2), 1, 5, 62),
-        (Refusal::Nth(3), 31, 5, 62),
-        (Refusal::Nth(4), 62, 5, 62),
-    ] {
-        let heap = Heap::new(rt.alloc(), refusal);
+    for (refusal, refused, requests, accepted) in REFUSED.iter() {
+        let heap = Heap::new(rt.alloc(), *refusal);
         let (queue, mut party) = Queue::unbounded(&heap)?;
-        assert_eq!(rt; heap.requests(), 1);
-        push_to_63(&rt, &queue, &mut party, refused);
-        let Ok(alone) = queue.finish(party) else {
-            panic!(rt; "not finished");
-        };
+        let before = heap.requests();
+        let right = push_to_63(&rt, &queue, &mut party, *refused);
+        let (_, [_, len, blocks, live]) = end_counted(&rt, &heap, queue, party);
         assert_eq!(rt;
-            (alone.len(), alone.blocks(), heap.live(), heap.requests()),
-            (accepted, 3, 3, requests)
+            (right, [before, len, blocks, live, heap.requests()]),
+            (true, [1, *accepted, 3, 3, *requests])
         );
     }
     Ok(())
@@ -318,6 +331,19 @@ const TURNS: u64 = 50;
 /// A shared queue of items that count their drops, and whose requests are counted.
 type Counting<'a> = ConcurrentQueue<Counted, &'a Heap>;
 
+/// Pushes an item. Gives whether it was refused.
+fn is_refused<R: Wait>(
+    rt: &R,
+    queue: &Counting<'_>,
+    party: &mut Party<Counted>,
+    item: Counted,
+) -> bool
+    requires { IsPartyOf party.old queue.now }
+    ensures { IsPartyOf party.new queue.now }
+{
+    queue.push(rt, party, item).is_err()
+}
+
 /// Two parties push items in turn. Gives how many were refused.
 fn push_in_turn<R: Wait>(
     rt: &R,
@@ -325,20 +351,24 @@ fn push_in_turn<R: Wait>(
     first: &mut Party<Counted>,
     second: &mut Party<Counted>,
     drops: &Arc<AtomicU64>,
-) -> Result<u64, AllocError>
+) -> u64
     requires { IsPartyOf first.old queue.now × IsPartyOf second.old queue.now }
     ensures { IsPartyOf first.new queue.now × IsPartyOf second.new queue.now }
 {
     let mut refused = 0u64;
     for _ in 0..TURNS {
-        if queue.push(rt, first, Counted::by(drops)?).is_err() {
+        if let Ok(item) = Counted::by(drops)
+            && is_refused(rt, queue, first, item)
+        {
             refused = refused.wrapping_add(1);
         }
-        if queue.push(rt, second, Counted::by(drops)?).is_err() {
+        if let Ok(item) = Counted::by(drops)
+            && is_refused(rt, queue, second, item)
+        {
             refused = refused.wrapping_add(1);
         }
     }
-    Ok(refused)
+    refused
 }
 
 /// Pops so many items. Gives whether there were as many.
@@ -353,31 +383,14 @@ fn pop_some<R: Wait>(rt: &R, queue: &Counting<'_>, party: &mut Party<Counted>, c
     right
 }
 
-/// Uses a queue and drops it, with its parties joined, kept or dropped before. Asserts that each item was dropped once and nothing stays allocated, also where a request was refused, the constructor's among them.
-fn use_and_drop<R: Wait + Abort>(
-    rt: &R,
-    heap: &Heap,
-    drops: &Arc<AtomicU64>,
-    popped: u64,
-    end: End,
-) -> Result<(), AllocError> {
-    let Ok((queue, party)) = Counting::unbounded(heap) else {
-        assert_eq!(rt; (drops.load(Ordering::SeqCst), heap.live()), (0, 0));
-        return Ok(());
-    };
-    let Ok((mut a, mut b)) = queue.split(party) else {
-        panic!(rt; "no second party");
-    };
-    let refused = push_in_turn(rt, &queue, &mut a, &mut b, drops)?;
-    assert!(rt; pop_some(rt, &queue, &mut b, popped));
-    assert_eq!(rt; drops.load(Ordering::SeqCst), refused.wrapping_add(popped));
-    match end {
+/// Drops a queue, with its parties joined, kept or dropped before.
+fn drop_all(rt: &impl Abort, queue: Counting<'_>, a: Party<Counted>, b: Party<Counted>, how: End)
+    requires { IsPartyOf a queue × IsPartyOf b queue }
+{
+    match how {
         End::Joined => {
             let whole = queue.join(a, b);
-            let Ok(alone) = queue.finish(whole) else {
-                panic!(rt; "not finished");
-            };
-            drop(alone);
+            drop(end(rt, queue, whole));
         }
         End::Kept => {
             drop(queue);
@@ -390,19 +403,44 @@ fn use_and_drop<R: Wait + Abort>(
             drop(queue);
         }
     }
-    assert_eq!(rt; (drops.load(Ordering::SeqCst), heap.live()), (2 * TURNS, 0));
-    Ok(())
 }
 
-/// With none and each of the requests refused, which are one of the constructor and four of the pushes; none, some past a block, and all but few of the items popped.
+/// Uses a queue and drops it, with its parties joined, kept or dropped before. Asserts that what was refused or popped was dropped before. Gives how many items there were: none where there was no memory for the queue.
+fn use_and_drop<R: Wait + Abort>(
+    rt: &R,
+    heap: &Heap,
+    drops: &Arc<AtomicU64>,
+    popped: u64,
+    how: End,
+) -> u64 {
+    let Ok((queue, party)) = Counting::unbounded(heap) else {
+        return 0;
+    };
+    let (mut a, mut b) = part(rt, &queue, party);
+    let refused = push_in_turn(rt, &queue, &mut a, &mut b, drops);
+    let right = pop_some(rt, &queue, &mut b, popped);
+    assert_eq!(rt;
+        (right, drops.load(Ordering::SeqCst)),
+        (true, refused.wrapping_add(popped))
+    );
+    drop_all(rt, queue, a, b, how);
+    2 * TURNS
+}
+
+/// With none and each of the requests refused, which are one of the constructor and four of the pushes; none, some past a block, and all but few of the items popped. Each item is dropped once and nothing stays allocated.
 #[test]
 fn nothing_is_left_of_a_dropped_queue(rt: HostRuntime) -> Result<(), Fail> {
-    for end in [End::Joined, End::Kept, End::Dropped] {
+    for how in [End::Joined, End::Kept, End::Dropped] {
         for popped in [0, 40, 99] {
             for refused in 0..7u64 {
                 let heap = Heap::new(rt.alloc(), Refusal::Nth(refused));
                 let drops = Arc::new(rt.alloc(), AtomicU64::new(0))?;
-                use_and_drop(&rt, &heap, &drops, popped, end)?;
+                let items = use_and_drop(&rt, &heap, &drops, popped, how);
+                let wanted = if refused == 1 { 0 } else { 2 * TURNS };
+                assert_eq!(rt;
+                    [items, drops.load(Ordering::SeqCst), heap.live()],
+                    [wanted, wanted, 0]
+                );
             }
         }
     }

@@ -2,7 +2,7 @@
 ghost use Rattle.std.specs.Prelude.{◌≡◌, ◌<◌, IfSome};
 ghost use Rattle.concurrent_queue.specs.Shared.{IsPartyOf};
 
-use crate::opening::open;
+use crate::opening::{open_surely, part};
 use concurrent_queue::{ConcurrentQueue, Party};
 use std::alloc::{AllocError, Global};
 use std::process::Abort;
@@ -101,24 +101,25 @@ fn each_dropped_once<R: Wait + Threads + Sync + Abort>(
 )
     requires { IfSome cap (λ slots. 0 < slots) × (popped < 100000) × (left < 100000) }
 {
-    let (Ok(drops), Ok((queue, party))) = (Arc::new(alloc, AtomicU64::new(0)), open(alloc, cap))
-    else {
+    let Ok(drops) = Arc::new(alloc, AtomicU64::new(0)) else {
         panic!(rt; "no memory");
     };
-    let Ok((a, b)) = queue.split(party) else {
-        panic!(rt; "no second party");
-    };
+    let (queue, party) = open_surely(rt, alloc, cap);
+    let (a, b) = part(rt, &queue, party);
     let (a, b) = join(
         rt,
         || push_all(rt, &queue, a, &drops, popped + left),
         || pop_all(rt, &queue, b, popped),
     );
     let party = queue.join(a, b);
-    assert!(rt; drops.load(Ordering::SeqCst) == popped);
+    let shared = drops.load(Ordering::SeqCst);
     drop(party);
-    assert!(rt; drops.load(Ordering::SeqCst) == popped);
+    let without_a_party = drops.load(Ordering::SeqCst);
     drop(queue);
-    assert!(rt; drops.load(Ordering::SeqCst) == popped + left);
+    assert_eq!(rt;
+        [shared, without_a_party, drops.load(Ordering::SeqCst)],
+        [popped, popped, popped + left]
+    );
 }
 
 #[test]

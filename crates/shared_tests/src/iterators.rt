@@ -1,9 +1,10 @@
 //! Iterators over shared queues, and what is printed of both.
 ghost use Rattle.concurrent_queue.specs.Shared.{IsPartyOf};
 
-use crate::opening::open;
+use crate::opening::{open, open_surely, part};
 use crate::rows::Queue;
-use concurrent_queue::Party;
+use concurrent_queue::{Party, PushError};
+use std::alloc::{AllocError, Global};
 use std::process::Abort;
 use std::sync::Wait;
 use std::test::Fail;
@@ -30,6 +31,14 @@ fn four<R: Wait>(rt: &R, queue: &Queue, party: &mut Party<u64>) -> [Option<u64>;
     [items.next(), items.next(), items.next(), items.next()]
 }
 
+/// Pushes 4.
+fn push_four<R: Wait>(rt: &R, queue: &Queue, party: &mut Party<u64>) -> Result<(), PushError<u64>>
+    requires { IsPartyOf party.old queue.now }
+    ensures { IsPartyOf party.new queue.now }
+{
+    queue.push(rt, party, 4)
+}
+
 /// A capacity, and what an iterator gives that is asked four times once 1, 2, 3 were pushed.
 static WALKS: [(Option<usize>, &[Option<u64>]); 4] = [
     (Some(5), &[Some(1), Some(2), Some(3), None]),
@@ -45,7 +54,7 @@ fn an_iterator_takes_from_the_front(rt: HostRuntime) -> Result<(), Fail> {
         let (queue, mut party) = open(rt.alloc(), *cap)?;
         fill(&rt, &queue, &mut party, 3, 0);
         let first = four(&rt, &queue, &mut party);
-        let pushed = queue.push(&rt, &mut party, 4);
+        let pushed = push_four(&rt, &queue, &mut party);
         let second = four(&rt, &queue, &mut party);
         assert_eq!(rt;
             (&first[..], pushed, second, queue.is_closed(&mut party)),
@@ -59,9 +68,7 @@ fn an_iterator_takes_from_the_front(rt: HostRuntime) -> Result<(), Fail> {
 fn between<R: Wait + Abort>(rt: &R, queue: &Queue, party: Party<u64>) -> [Option<u64>; 3]
     requires { IsPartyOf party queue.now }
 {
-    let Ok((mut first, mut second)) = queue.split(party) else {
-        panic!(rt; "no second party");
-    };
+    let (mut first, mut second) = part(rt, queue, party);
     let mut items = queue.try_iter(rt, &mut second);
     let none = items.next();
     let _ = queue.push(rt, &mut first, 7);
@@ -159,18 +166,32 @@ static TEXTS: [(Option<usize>, u64, u64, bool, &str); 11] = [
     ),
 ];
 
+/// Asserts what is printed of a queue, and of an iterator over it.
+fn is_printed<R: Wait + Abort>(
+    rt: &R,
+    alloc: Global,
+    queue: &Queue,
+    party: &mut Party<u64>,
+    text: &str,
+) -> Result<(), AllocError>
+    requires { IsPartyOf party.old queue.now }
+{
+    let items = queue.try_iter(rt, party);
+    let both = format!(in alloc; "{queue:?} {items:?}")?;
+    let wanted = format!(in alloc; "{text} Iter({text})")?;
+    assert_eq!(rt; both.as_str(), wanted.as_str());
+    Ok(())
+}
+
 #[test]
-fn queues_and_iterators_are_printed(rt: HostRuntime) -> Result<(), Fail> {
+fn queues_and_iterators_are_printed(rt: HostRuntime) -> Result<(), AllocError> {
     for (cap, pushes, pops, closed, text) in TEXTS.iter() {
-        let (queue, mut party) = open(rt.alloc(), *cap)?;
+        let (queue, mut party) = open_surely(&rt, rt.alloc(), *cap);
         fill(&rt, &queue, &mut party, *pushes, *pops);
         if *closed {
             queue.close(&mut party);
         }
-        let items = queue.try_iter(&rt, &mut party);
-        let both = format!(in rt.alloc(); "{queue:?} {items:?}")?;
-        let expected = format!(in rt.alloc(); "{text} Iter({text})")?;
-        assert_eq!(rt; both.as_str(), expected.as_str());
+        is_printed(&rt, rt.alloc(), &queue, &mut party, text)?;
     }
     Ok(())
 }

@@ -56,7 +56,7 @@ fn length_after_each_call(rt: HostRuntime) -> Result<(), AllocError> {
         let (queue, mut party) = open(rt.alloc(), cap)?;
         let few = swings(&rt, &queue, &mut party, 50, 100);
         let all = swings(&rt, &queue, &mut party, 1000, 1);
-        assert_eq!(rt; (few, all), (true, true), "with {cap:?}");
+        assert!(rt; few && all, "with {cap:?}");
     }
     Ok(())
 }

@@ -1,9 +1,11 @@
 //! Short stories with known replies, all on one thread, so that each waiting call is seen to return.
 ghost use Rattle.concurrent_queue.specs.Shared.{IsPartyOf};
 
+use crate::opening::{end, part, stay_shared};
+use block_web::low::Low;
 use concurrent_queue::{ConcurrentQueue, Exclusive, ForcePushError, Party, PopError, PushError};
 use queue_steps::model::{Call, Reply};
-use std::alloc::AllocError;
+use std::alloc::{AllocError, Allocator};
 use std::process::Abort;
 use std::sync::Wait;
 
@@ -22,7 +24,12 @@ pub(crate) enum Line {
 }
 
 /// Makes a call.
-fn answer<R: Wait>(rt: &R, queue: &Queue, party: &mut Party<u64>, call: Call<u64>) -> Reply<u64>
+fn answer<A: Low, R: Wait>(
+    rt: &R,
+    queue: &ConcurrentQueue<u64, A>,
+    party: &mut Party<u64>,
+    call: Call<u64>,
+) -> Reply<u64>
     requires { IsPartyOf party.old queue.now }
     ensures { IsPartyOf party.new queue.now }
 {
@@ -40,9 +47,9 @@ fn answer<R: Wait>(rt: &R, queue: &Queue, party: &mut Party<u64>, call: Call<u64
 }
 
 /// Makes a call, and asserts its reply.
-fn is_answered<R: Wait + Abort>(
+fn is_answered<A: Low, R: Wait + Abort>(
     rt: &R,
-    queue: &Queue,
+    queue: &ConcurrentQueue<u64, A>,
     party: &mut Party<u64>,
     call: Call<u64>,
     reply: Reply<u64>,
@@ -53,23 +60,34 @@ fn is_answered<R: Wait + Abort>(
     assert_eq!(rt; answer(rt, queue, party, call), reply, "to {call:?}");
 }
 
-/// Asserts which items are in a queue that is no longer shared, in their order, and that it is closed or takes one more.
-fn is_left(rt: &impl Abort, mut alone: Exclusive<u64>, left: &[u64], closed: bool) {
-    assert_eq!(rt;
-        (alone.len(), alone.is_full(), alone.is_closed()),
-        (left.len(), alone.capacity() == Some(left.len()), closed)
-    );
-    for item in left {
-        assert_eq!(rt; alone.pop(), Ok(*item));
+/// Pops so often as there are items here. Gives whether they came, in this order.
+fn gives<A: Allocator>(alone: &mut Exclusive<u64, A>, items: &[u64]) -> bool {
+    let mut right = true;
+    for item in items {
+        right = alone.pop() == Ok(*item) && right;
     }
+    right
+}
+
+/// Asserts which items are in a queue that is no longer shared, in their order, and that it is closed or takes one more.
+pub(crate) fn is_left<A: Allocator>(
+    rt: &impl Abort,
+    alone: &mut Exclusive<u64, A>,
+    left: &[u64],
+    closed: bool,
+) {
+    let full = alone.capacity() == Some(left.len());
     let (popped, pushed) = if closed {
         (Err(PopError::Closed), Err(PushError::Closed(5)))
     } else {
         (Err(PopError::Empty), Ok(()))
     };
+    let first = (alone.len(), alone.is_full(), alone.is_closed());
+    let given = gives(alone, left);
+    let last = (alone.len(), alone.pop(), alone.push(5));
     assert_eq!(rt;
-        (alone.len(), alone.pop(), alone.push(5)),
-        (0, popped, pushed)
+        (first, given, last),
+        ((left.len(), full, closed), true, (0, popped, pushed))
     );
 }
 
@@ -87,13 +105,32 @@ pub(crate) fn one_party<R: Wait + Abort>(
     for (call, reply) in rows {
         is_answered(rt, &queue, &mut party, *call, *reply);
     }
-    let Ok(alone) = queue.finish(party) else {
-        panic!(rt; "not finished");
-    };
-    is_left(rt, alone, left, closed);
+    is_left(rt, &mut end(rt, queue, party), left, closed);
 }
 
-/// Tells a story of two parties, of which neither can end the sharing until they are joined. Asserts each reply, and what is left.
+/// Tells a story of two parties, of which neither can end the sharing until they are joined. Asserts each reply, and gives what is left.
+pub(crate) fn tell<A: Low, R: Wait + Abort>(
+    rt: &R,
+    queue: ConcurrentQueue<u64, A>,
+    party: Party<u64>,
+    lines: &[Line],
+) -> Exclusive<u64, A>
+    requires { IsPartyOf party queue }
+{
+    let (mut first, mut second) = part(rt, &queue, party);
+    for line in lines {
+        match *line {
+            Line::First(call, reply) => is_answered(rt, &queue, &mut first, call, reply),
+            Line::Second(call, reply) => is_answered(rt, &queue, &mut second, call, reply),
+            Line::Meet => queue.meet(&mut first, &mut second),
+        }
+    }
+    let (queue, first) = stay_shared(rt, queue, first);
+    let whole = queue.join(first, second);
+    end(rt, queue, whole)
+}
+
+/// Tells a story of two parties, and asserts each reply, and what is left.
 pub(crate) fn two_parties<R: Wait + Abort>(
     rt: &R,
     queue: Queue,
@@ -104,24 +141,7 @@ pub(crate) fn two_parties<R: Wait + Abort>(
 )
     requires { IsPartyOf party queue }
 {
-    let Ok((mut first, mut second)) = queue.split(party) else {
-        panic!(rt; "no second party");
-    };
-    for line in lines {
-        match *line {
-            Line::First(call, reply) => is_answered(rt, &queue, &mut first, call, reply),
-            Line::Second(call, reply) => is_answered(rt, &queue, &mut second, call, reply),
-            Line::Meet => queue.meet(&mut first, &mut second),
-        }
-    }
-    let Err((queue, first)) = queue.finish(first) else {
-        panic!(rt; "finished with a party kept");
-    };
-    let whole = queue.join(first, second);
-    let Ok(alone) = queue.finish(whole) else {
-        panic!(rt; "not finished");
-    };
-    is_left(rt, alone, left, closed);
+    is_left(rt, &mut tell(rt, queue, party, lines), left, closed);
 }
 
 /// The calls of the only party of a slot, what is left, and whether it is closed.
@@ -262,26 +282,27 @@ fn stories_of_two_parties(rt: HostRuntime) -> Result<(), AllocError> {
     Ok(())
 }
 
+/// What the second party does before it is dropped, and what the first one's pop answers then.
+static DROPPED: [(Call<u64>, Reply<u64>, Result<u64, PopError>); 2] = [
+    (
+        Call::Capacity,
+        Reply::Capacity(Some(1)),
+        Err(PopError::Empty),
+    ),
+    (Call::Push(1), Reply::Push(Ok(())), Ok(1)),
+];
+
 /// A party that was dropped is missing for ever, whether or not it had pushed.
 #[test]
 fn not_finished_with_a_party_dropped(rt: HostRuntime) -> Result<(), AllocError> {
-    for pushed in [false, true] {
+    for (call, reply, popped) in DROPPED.iter() {
         let (queue, party) = Queue::bounded(rt.alloc(), 1)?;
-        let Ok((first, mut second)) = queue.split(party) else {
-            panic!(rt; "no second party");
-        };
-        if pushed {
-            assert_eq!(rt; queue.push(&rt, &mut second, 1), Ok(()));
-        }
+        let (first, mut second) = part(&rt, &queue, party);
+        is_answered(&rt, &queue, &mut second, *call, *reply);
         drop(second);
-        let Err((queue, first)) = queue.finish(first) else {
-            panic!(rt; "finished with a party dropped");
-        };
-        let Err((queue, mut first)) = queue.finish(first) else {
-            panic!(rt; "finished with a party dropped, the second time");
-        };
-        let popped = if pushed { Ok(1) } else { Err(PopError::Empty) };
-        assert_eq!(rt; queue.pop(&rt, &mut first), popped);
+        let (queue, first) = stay_shared(&rt, queue, first);
+        let (queue, mut first) = stay_shared(&rt, queue, first);
+        is_answered(&rt, &queue, &mut first, Call::Pop, Reply::Pop(*popped));
     }
     Ok(())
 }

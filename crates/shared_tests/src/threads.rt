@@ -4,7 +4,7 @@ ghost use Rattle.concurrent_queue.specs.Shared.{IsPartyOf};
 ghost use denote.Param.Send.{IsSync};
 
 use crate::callers::{closed_by_many, hand_over, through_a_shared_slot};
-use crate::opening::open;
+use crate::opening::{end, open_surely};
 use concurrent_queue::{ConcurrentQueue, Party};
 use std::alloc::{AllocError, Allocator, Global};
 use std::process::Abort;
@@ -281,16 +281,17 @@ pub(crate) fn works<R: Wait + Threads + Sync + Abort>(
     requires { IfSome cap (λ slots. 0 < slots) }
 {
     let (first, second) = roles;
-    let (Ok(board), Ok((queue, party))) = (Board::new(alloc, threads), open(alloc, cap)) else {
+    let Ok(board) = Board::new(alloc, threads) else {
         panic!(rt; "no memory");
     };
+    let (queue, party) = open_surely(rt, alloc, cap);
     let (party, right) = crew(rt, &queue, party, &board, doublings, first, second);
-    assert!(rt; right, "with {cap:?}");
-    assert!(rt; board.each_came(times), "with {cap:?}");
-    let Ok(left) = queue.finish(party) else {
-        panic!(rt; "not finished");
-    };
-    assert!(rt; left.is_empty());
+    let left = end(rt, queue, party);
+    assert_eq!(rt;
+        (right, board.each_came(times), left.len()),
+        (true, true, 0),
+        "with {cap:?}"
+    );
 }
 
 #[test]

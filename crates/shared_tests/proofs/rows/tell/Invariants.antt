@@ -1,5 +1,5 @@
 use Rattle.concurrent_queue.specs.Shared.{IsPartyOf}
-use Rattle.shared_tests.proofs.rows.two_parties.Given as goal
+use Rattle.shared_tests.proofs.rows.tell.Given as goal
 
 -- both parties are still the queue's
 abbrev pub invariant-loop-line : goal.invariant-loop-line
