@@ -339,24 +339,12 @@ pub(super) fn next_other<B: Copy>(local: UnboundedLocal<B>, answer: Answer<B>) -
             head, block, state,
         ),
         (UnboundedLocal::Reading(block, slot), Answer::Found(_)) => popping::walk_on(block, slot),
-        (UnboundedLocal::Walking(block, slot), Answer::Found(state)) => {
-            if state & READ != 0 {
-                popping::walk_on(block, slot)
-            } else {
-                step(
-                    UnboundedLocal::Destroying(block, slot),
-                    Touch::Nothing,
-                    Op::Or(Word::State(block, slot as usize), DESTROY),
-                )
-            }
-        }
-        (UnboundedLocal::Destroying(block, slot), Answer::Found(state)) => {
-            if state & READ != 0 {
-                popping::walk_on(block, slot)
-            } else {
-                Next::Reply(Reply::Pop(Ok(())), None)
-            }
-        }
+        (UnboundedLocal::Walking(block, slot), Answer::Found(state)) => popping::after_look(
+            block, slot, state,
+        ),
+        (UnboundedLocal::Destroying(block, slot), Answer::Found(state)) => popping::after_mark(
+            block, slot, state,
+        ),
         (UnboundedLocal::LenTail, Answer::Found(tail)) => load(
             UnboundedLocal::LenHead(tail),
             Word::Head,

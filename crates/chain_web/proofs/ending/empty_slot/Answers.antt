@@ -1,4 +1,4 @@
-use Rattle.std.proofs.Common.{◌≡◌, true, sym, ap, subst}
+use Rattle.std.proofs.Common.{◌≡◌, true, sym, ap, subst, rules, tests}
 use Rattle.block_web.specs.Web.{block}
 use Rattle.chain_web.specs.Leftover.{Emptied}
 use Rattle.chain_web.proofs.Tested.{alive_within}
@@ -13,3 +13,9 @@ returns-then-word-ne0-clause-emptied g c =
     let lives = subst (λ xs. (block xs a.number).alive ≡ true) (sym same) c.requires.place.1.0 in
     subst (λ xs. Emptied (λ j. j ≡ a.slot) true (block xs a.number) (block c.take.new.self.blocks a.number)) same
     (emptied_slot bs c.take.new.self.blocks a.number a.slot c.take.result (alive_within bs a.number lives) c.take.ensures.chain.1 c.take.ensures.value)
+
+pub returns-clause-emptied : goal.returns-clause-emptied
+returns-clause-emptied g c = search (rules, tests)
+
+pub returns-clause-told : goal.returns-clause-told
+returns-clause-told g c = search (rules, tests)

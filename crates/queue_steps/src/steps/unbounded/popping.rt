@@ -10,7 +10,7 @@ use crate::errors::PopError;
 use crate::model::Reply;
 use crate::sizes::{BLOCK_POSITIONS, BLOCK_SLOTS};
 use crate::steps::bounded::TAIL_STEP;
-use crate::steps::unbounded::{READ, UnboundedLocal, WRITE, load, offset, step};
+use crate::steps::unbounded::{DESTROY, READ, UnboundedLocal, WRITE, load, offset, step};
 use crate::steps::{Link, Next, Op, Touch, Word};
 
 /// V2.
@@ -179,6 +179,36 @@ pub(super) fn walk_on<B: Copy>(block: B, slot: u64) -> Next<B>
         walk(block, slot + 1, Touch::Nothing)
     } else {
         Next::Reply(Reply::Pop(Ok(())), Some(block))
+    }
+}
+
+/// What follows the state of a slot of a passed block: where it is not read yet, it is marked for its reader.
+#[inline]
+pub(super) fn after_look<B: Copy>(block: B, slot: u64, state: u64) -> Next<B>
+    requires { slot < BLOCK_SLOTS }
+    ensures { result ≡ unbounded_next (UnboundedLocal.Walking block slot) (Found state) }
+{
+    if state & READ != 0 {
+        walk_on(block, slot)
+    } else {
+        step(
+            UnboundedLocal::Destroying(block, slot),
+            Touch::Nothing,
+            Op::Or(Word::State(block, slot as usize), DESTROY),
+        )
+    }
+}
+
+/// What follows that mark: the slot's reader goes on with the walk, unless the slot was read before.
+#[inline]
+pub(super) fn after_mark<B: Copy>(block: B, slot: u64, state: u64) -> Next<B>
+    requires { slot < BLOCK_SLOTS }
+    ensures { result ≡ unbounded_next (UnboundedLocal.Destroying block slot) (Found state) }
+{
+    if state & READ != 0 {
+        walk_on(block, slot)
+    } else {
+        Next::Reply(Reply::Pop(Ok(())), None)
     }
 }
 

@@ -1,4 +1,4 @@
-use Rattle.std.proofs.Common.{sym, subst, lit<}
+use Rattle.std.proofs.Common.{sym, subst, lit<, rules, tests}
 use Rattle.block_web.specs.Web.{alive_at}
 use denote.RawPtr.{InBlock}
 use Rattle.chain_web.proofs.Operating.{may_grant, may_refuse}
@@ -18,3 +18,6 @@ pub load-requires-in-Err : goal.load-requires-in-Err
 load-requires-in-Err g c =
     let w = c.args.self.now in let m = c.args.seat.now in
     (c.requires.sits, subst InBlock (sym w.ends.4) tt, lit< tt, may_refuse m.sitter g.J.Task.call c.requires.can w.web.key.tail.ptr w.web.key.head.ptr w.tail.ptr m.id w.ends.0)
+
+pub returns-in-Err-clause-did : goal.returns-in-Err-clause-did
+returns-in-Err-clause-did g c = search (rules, tests)

@@ -1,0 +1,8 @@
+use Rattle.std.proofs.Common.{rules, tests}
+use Rattle.queue_steps.proofs.steps.unbounded.is_common.Goals as goal
+
+pub returns-then-state-ne0 : goal.returns-then-state-ne0
+returns-then-state-ne0 g c = search (rules, tests)
+
+pub returns-else-is_some : goal.returns-else-is_some
+returns-else-is_some g c = search (rules, tests)

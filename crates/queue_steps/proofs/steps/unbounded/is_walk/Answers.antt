@@ -1,0 +1,5 @@
+use Rattle.std.proofs.Common.{rules, tests}
+use Rattle.queue_steps.proofs.steps.unbounded.is_walk.Goals as goal
+
+pub returns-then-state-ne0 : goal.returns-then-state-ne0
+returns-then-state-ne0 g c = search (rules, tests)
