@@ -1,5 +1,5 @@
 -- A call that is run by one owner on some cells: it ends within so many steps, whatever the operations answer.
-use Rattle.std.specs.Prelude.{◌≡◌, ℕ, zero, suc, Option, Some, None}
+use Rattle.std.specs.Prelude.{ℕ, zero, suc, Option, Some, None}
 use Rattle.queue_steps.specs.declared.sizes.TheConstants.{LONE_STEPS}
 use Rattle.queue_steps.specs.declared.model.Call.{Call}
 use Rattle.queue_steps.specs.declared.model.Reply.{Reply}
@@ -11,8 +11,9 @@ use Rattle.queue_steps.specs.declared.steps.types.Next.TheVariants as next
 use Rattle.queue_steps.specs.declared.steps.types.Op.{Op}
 use Rattle.queue_steps.specs.declared.steps.types.Touch.{Touch}
 use Rattle.queue_steps.specs.Next.{CanNext, next_of, first_local}
-use Rattle.queue_steps.specs.Kinds.{call_kind, call_value, filled}
-use Rattle.queue_steps.specs.Sole.{Owned, Sole}
+use Rattle.queue_steps.specs.Kinds.{call_kind, call_value}
+use Rattle.queue_steps.specs.Sole.{Owned}
+use Rattle.exclusive_queue.specs.Apart.{AnswersApart}
 
 module _ {T B M : Type 0} (can_touch : M → Touch → Op B → Type 0) (touches : M → Touch → Op B → Option T → M → Option T → Type 0)
     (can_perform : M → Op B → Type 0) (performs : M → Op B → Answer B → M → Type 0) where
@@ -28,7 +29,7 @@ module _ {T B M : Type 0} (can_touch : M → Touch → Op B → Type 0) (touches
 
 -- no call is on its way, and the reply of the call c, which began at the cells `first`, is that of the one-owner table
 abbrev pub Replied : {T M : Type 0} → (M → Type 0) → (M → Owned T) → Call T → M → Reply Unit → Option T → M → Type 0
-Replied {T} idle owned c first r carried left = idle left × ((reply : Reply T) × (filled r carried ≡ Some reply) × Sole (owned first) c reply (owned left))
+Replied idle owned c first r carried left = idle left × AnswersApart (owned first) c r carried (owned left)
 
 module _ {B M : Type 0} (can_release : M → B → Type 0) (releases : M → B → M → Type 0) where
   -- P holds once the block that the call gives up, if there is one, is released
