@@ -104,7 +104,7 @@ impl<T, A: Allocator, Q: Source<T, A>> Turns<T, Place<T>, Asking<T, A, Q>> for S
     fn is_walk(kind: Kind, local: &Local<Place<T>>, answer: &Answer<Place<T>>) -> bool
         requires of { (queue : SharedChain T A) × (kind ≡ kinds.Unbounded) }
         requires can { CanNext kind local.now answer.now }
-        ensures { result ≡ true → is_walk_of kind local.now answer.now ≡ true }
+        ensures { result ≡ is_walk_of kind local.now answer.now }
     {
         let _ = kind;
         steps::is_walk(local, answer)
