@@ -12,27 +12,6 @@ use std::time::{Duration, Instant};
 trait Item: Copy {
     fn numbered(number: u64) -> Self;
     fn number(&self) -> u64;
-
-    /// Does all rounds on a queue.
-    fn run(queue: &ConcurrentQueue<Self>, rounds: Rounds) -> Taken<Self>;
-}
-
-impl Item for u64 {
-    fn numbered(number: u64) -> u64 {
-        number
-    }
-
-    fn number(&self) -> u64 {
-        *self
-    }
-
-    fn run(queue: &ConcurrentQueue<u64>, rounds: Rounds) -> Taken<u64> {
-        if rounds.puts == 1 && rounds.takes == 1 {
-            alternate(queue, rounds.first, rounds.count)
-        } else {
-            run_rounds(queue, rounds)
-        }
-    }
 }
 
 impl<const WORDS: usize> Item for [u64; WORDS] {
@@ -43,8 +22,36 @@ impl<const WORDS: usize> Item for [u64; WORDS] {
     fn number(&self) -> u64 {
         self.first().copied().unwrap_or(0)
     }
+}
 
+/// An item of a batch.
+#[derive(Clone, Copy)]
+struct Batched<T>(T);
+
+impl<T: Item> Item for Batched<T> {
+    fn numbered(number: u64) -> Batched<T> {
+        Batched(T::numbered(number))
+    }
+
+    fn number(&self) -> u64 {
+        self.0.number()
+    }
+}
+
+/// An item, and the loop that it goes through. Each of the two loops has an item type of its own, as in `queue_bench`.
+trait Runs: Item {
+    /// Does all rounds on a queue.
+    fn run(queue: &ConcurrentQueue<Self>, rounds: Rounds) -> Taken<Self>;
+}
+
+impl<const WORDS: usize> Runs for [u64; WORDS] {
     fn run(queue: &ConcurrentQueue<[u64; WORDS]>, rounds: Rounds) -> Taken<[u64; WORDS]> {
+        alternate(queue, rounds.first, rounds.count)
+    }
+}
+
+impl<T: Item> Runs for Batched<T> {
+    fn run(queue: &ConcurrentQueue<Batched<T>>, rounds: Rounds) -> Taken<Batched<T>> {
         run_rounds(queue, rounds)
     }
 }
@@ -97,17 +104,11 @@ struct Rounds {
 }
 
 impl Work {
-    /// What comes before the clock is started: the items that lie behind.
-    fn filling(self) -> Rounds {
-        let puts = match self {
+    /// How many items lie behind, from before the clock is started.
+    fn behind(self) -> u64 {
+        match self {
             Work::Behind(items) => items,
             Work::Batch(_) => 0,
-        };
-        Rounds {
-            first: 0,
-            count: 1,
-            puts,
-            takes: 0,
         }
     }
 
@@ -182,10 +183,18 @@ fn alternate<T: Item>(queue: &ConcurrentQueue<T>, first: u64, count: u64) -> Tak
     taken
 }
 
+/// Pushes so many items.
+#[inline(never)]
+fn fill<T: Item>(queue: &ConcurrentQueue<T>, items: u64) {
+    for number in 0..items {
+        let _ = queue.push(T::numbered(number));
+    }
+}
+
 /// Times pairs by one thread.
-fn time_pairs<T: Item>(kind: &str, work: Work, pairs: u64) -> Option<Run> {
+fn time_pairs<T: Runs>(kind: &str, work: Work, pairs: u64) -> Option<Run> {
     let queue: ConcurrentQueue<T> = black_box(open(kind)?);
-    T::run(&queue, work.filling());
+    fill(&queue, work.behind());
     let start = Instant::now();
     let taken = T::run(&queue, work.timed(pairs));
     let took = start.elapsed();
@@ -247,9 +256,11 @@ fn run(words: &[&str]) -> Option<Run> {
     match words {
         ["alone", kind, work, bytes, count] => {
             let (work, count) = (work_of(work)?, count.parse().ok()?);
-            match *bytes {
-                "8" => time_pairs::<u64>(kind, work, count),
-                "64" => time_pairs::<[u64; 8]>(kind, work, count),
+            match (work, *bytes) {
+                (Work::Behind(_), "8") => time_pairs::<[u64; 1]>(kind, work, count),
+                (Work::Behind(_), "64") => time_pairs::<[u64; 8]>(kind, work, count),
+                (Work::Batch(_), "8") => time_pairs::<Batched<[u64; 1]>>(kind, work, count),
+                (Work::Batch(_), "64") => time_pairs::<Batched<[u64; 8]>>(kind, work, count),
                 _ => None,
             }
         }

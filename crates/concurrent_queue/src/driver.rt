@@ -12,7 +12,7 @@ ghost use Rattle.concurrent_queue.specs.Rounds.{OnWay, IsUnderWay, EndsRightly, 
 use crate::gate::Gate;
 use crate::turns::Turns;
 use queue_steps::model::{Call, CallKind, Reply};
-use queue_steps::sizes::PROMPT_STEPS;
+use queue_steps::sizes::{BLOCK_SLOTS, PROMPT_STEPS};
 use queue_steps::steps::{self, Answer, BoundedLocal, Kind, Local, Next, UnboundedLocal};
 use std::ops::ControlFlow;
 use std::sync::Wait;
@@ -92,7 +92,7 @@ fn common_round<T, B: Copy, S, M: Turns<T, B, S>, G: Gate, W, const AT: u64>(
 
 /// One round of a call that walks over a block.
 #[inline(always)]
-fn walk_round<T, B: Copy, S, M: Turns<T, B, S>, G: Gate>(
+fn walk_round<T, B: Copy, S, M: Turns<T, B, S>, G: Gate, const AT: u64>(
     queue: &M,
     gate: &G,
     kind: Kind,
@@ -111,6 +111,38 @@ fn walk_round<T, B: Copy, S, M: Turns<T, B, S>, G: Gate>(
     } = standing;
     let todo = M::next_walk(kind, local, answer);
     done!(queue, gate, call, seat, todo, carried)
+}
+
+/// The rounds of a call that walks over a block, until it does another step. The compiler knows in this loop where the call stands.
+#[inline(always)]
+fn walk<T, B: Copy, S, M: Turns<T, B, S>, G: Gate>(
+    queue: &M,
+    gate: &G,
+    kind: Kind,
+    call: CallKind,
+    seat: &mut S,
+    standing: Standing<T, B>,
+) -> ControlFlow<Reply<T>, Standing<T, B>>
+    requires walk { is_walk_of kind standing.local standing.answer ≡ true }
+    requires goes { IsUnderWay M.Turns kind call queue.now standing seat.old }
+    ensures { GoesAhead M.Turns kind call queue.now standing seat.old seat.new result }
+{
+    let mut standing = match walk_round::<T, B, S, M, G, 1>(
+        queue, gate, kind, call, seat, standing,
+    ) {
+        ControlFlow::Break(reply) => return ControlFlow::Break(reply),
+        ControlFlow::Continue(after) => after,
+    };
+    for _ in 0..BLOCK_SLOTS {
+        if !M::is_walk(kind, &standing.local, &standing.answer) {
+            break;
+        }
+        match walk_round::<T, B, S, M, G, 2>(queue, gate, kind, call, seat, standing) {
+            ControlFlow::Break(reply) => return ControlFlow::Break(reply),
+            ControlFlow::Continue(after) => standing = after,
+        }
+    }
+    ControlFlow::Continue(standing)
 }
 
 /// One round of a call, whatever its step is.
@@ -149,7 +181,7 @@ fn loop_round<T, B: Copy, S, M: Turns<T, B, S>, G: Gate>(
     ensures { GoesAhead M.Turns kind call queue.now standing seat.old seat.new result }
 {
     if M::is_walk(kind, &standing.local, &standing.answer) {
-        walk_round(queue, gate, kind, call, seat, standing)
+        walk(queue, gate, kind, call, seat, standing)
     } else {
         round(queue, gate, kind, call, seat, standing)
     }

@@ -73,6 +73,18 @@ module _ {T B M : Type 0} (m : Ghosts M T B) where
   GoesOn-more n k c first s x cells h =
       (h.0, Ends-more m.can_touch m.touches m.can_perform m.performs n k (next_of k s.local s.answer) cells x (Answered m.can_release m.releases m.idle m.owned c first) h.1)
 
+  -- a call that ends right before n more steps has one left to do, or is not on its way
+  pub GoesOn-left : (n : ℕ) (k : Kind) (c : Call T) (first : M) (s : Standing B) (x : Option T) (cells : M) → GoesOn m n k c first s x cells → (left : ℕ) × GoesOn m (suc left) k c first s x cells
+  GoesOn-left zero k c first s x cells h = absurd h.1
+  GoesOn-left (suc n) k c first s x cells h = (n, h)
+
+  -- a round that brings a call a step on leaves it no more steps than before
+  pub GoesOn-stays : (k : Kind) (c : Call T) (first : M) (s left : Standing B) (x y : Option T) (before after : M)
+      → ((n : ℕ) → GoesOn m (suc n) k c first s x before → GoesOn m n k c first left y after)
+      → (n : ℕ) → GoesOn m n k c first s x before → GoesOn m n k c first left y after
+  GoesOn-stays k c first s left x y before after ahead zero h = absurd h.1
+  GoesOn-stays k c first s left x y before after ahead (suc n) h = GoesOn-more n k c first left y after (ahead n h)
+
 -- the parts of a call
 pub call-parts : {T : Type 0} (parts : Call Unit × Option T) (c : Call T) → parts ≡ (call_kind c, call_value c) → IsCall parts.0 parts.1 c
 call-parts parts c is = (ap (λ p. p.0) is, ap (λ p. p.1) is)

@@ -13,7 +13,7 @@ ghost use Rattle.queue_steps.specs.declared.sizes.TheConstants.{LONE_STEPS};
 
 use crate::cells::Cells;
 use queue_steps::model::{Call, CallKind, Reply, ReplyKind};
-use queue_steps::sizes::LONE_STEPS;
+use queue_steps::sizes::{BLOCK_SLOTS, LONE_STEPS};
 use queue_steps::steps::{self, Answer, Kind, Local, Next};
 use std::mem;
 use std::ops::ControlFlow;
@@ -70,7 +70,7 @@ fn common_round<T, B: Copy, M: Cells<T, B>, W, const AT: u64>(
 
 /// One round of a call that walks over a block.
 #[inline(always)]
-fn walk_round<T, B: Copy, M: Cells<T, B>>(
+fn walk_round<T, B: Copy, M: Cells<T, B>, const AT: u64>(
     cells: &mut M,
     kind: Kind,
     standing: Standing<B>,
@@ -83,6 +83,34 @@ fn walk_round<T, B: Copy, M: Cells<T, B>>(
     let Standing { local, answer } = standing;
     let todo = M::next_walk(kind, local, answer);
     done!(cells, todo, carried)
+}
+
+/// The rounds of a call that walks over a block, until it does another step. The compiler knows in this loop where the call stands.
+#[inline(always)]
+fn walk<T, B: Copy, M: Cells<T, B>>(
+    cells: &mut M,
+    kind: Kind,
+    standing: Standing<B>,
+    carried: &mut Option<T>,
+) -> ControlFlow<ReplyKind, Standing<B>>
+    requires walk { is_walk_of kind standing.local standing.answer ≡ true }
+    requires goes { (n : ℕ) × IsUnderWay M.Cells (suc n) kind standing carried.old cells.old }
+    ensures { GoesAhead M.Cells kind standing carried.old cells.old carried.new cells.new result }
+{
+    let mut standing = match walk_round::<T, B, M, 1>(cells, kind, standing, carried) {
+        ControlFlow::Break(reply) => return ControlFlow::Break(reply),
+        ControlFlow::Continue(after) => after,
+    };
+    for _ in 0..BLOCK_SLOTS {
+        if !M::is_walk(kind, &standing.local, &standing.answer) {
+            break;
+        }
+        match walk_round::<T, B, M, 2>(cells, kind, standing, carried) {
+            ControlFlow::Break(reply) => return ControlFlow::Break(reply),
+            ControlFlow::Continue(after) => standing = after,
+        }
+    }
+    ControlFlow::Continue(standing)
 }
 
 /// One round of a call, whatever its step is.
@@ -113,7 +141,7 @@ fn turn<T, B: Copy, M: Cells<T, B>>(
     ensures { GoesAhead M.Cells kind standing carried.old cells.old carried.new cells.new result }
 {
     if M::is_walk(kind, &standing.local, &standing.answer) {
-        walk_round::<T, B, M>(cells, kind, standing, carried)
+        walk::<T, B, M>(cells, kind, standing, carried)
     } else {
         round::<T, B, M>(cells, kind, standing, carried)
     }

@@ -120,10 +120,11 @@ impl<T, A: Allocator> Form<T, A> {
         ensures idle { IsFormIdle self.new }
         ensures sole { SoleApart (form_owned self.old) call carried.old result carried.new (form_owned self.new) }
     {
+        // the compiler tests last for what stands first: one slot, which has the fewest steps, is to be found by one test
         match self {
-            Form::Single(single) => single.settle::<W>(call, carried),
             Form::Bounded(ring) => ring.settle::<W>(call, carried),
             Form::Unbounded(blocks) => blocks.settle::<W>(call, carried),
+            Form::Single(single) => single.settle::<W>(call, carried),
         }
     }
 

@@ -9,16 +9,6 @@ pub trait Item: Copy {
     fn number(&self) -> u64;
 }
 
-impl Item for u64 {
-    fn numbered(number: u64) -> u64 {
-        number
-    }
-
-    fn number(&self) -> u64 {
-        *self
-    }
-}
-
 impl<const WORDS: usize> Item for [u64; WORDS] {
     fn numbered(number: u64) -> [u64; WORDS] {
         [number; WORDS]
@@ -29,5 +19,19 @@ impl<const WORDS: usize> Item for [u64; WORDS] {
             Some(number) => *number,
             None => 0,
         }
+    }
+}
+
+/// An item of a batch.
+#[derive(Clone, Copy)]
+pub struct Batched<T>(pub T);
+
+impl<T: Item> Item for Batched<T> {
+    fn numbered(number: u64) -> Batched<T> {
+        Batched(T::numbered(number))
+    }
+
+    fn number(&self) -> u64 {
+        self.0.number()
     }
 }

@@ -16,6 +16,9 @@ pub trait Lane<T> {
 
     /// Pops an item.
     fn take(&mut self) -> Option<T>;
+
+    /// Pushes the item by force, which is a push where there is room.
+    fn fill(&mut self, item: T);
 }
 
 impl<T: Drop> Lane<T> for Exclusive<T> {
@@ -27,6 +30,10 @@ impl<T: Drop> Lane<T> for Exclusive<T> {
     #[inline(always)]
     fn take(&mut self) -> Option<T> {
         self.pop().ok()
+    }
+
+    fn fill(&mut self, item: T) {
+        let _ = self.force_push(item);
     }
 }
 
@@ -49,6 +56,10 @@ impl<'a, R: Wait, T: Drop> Lane<T> for Alone<'a, R, T> {
     #[inline(always)]
     fn take(&mut self) -> Option<T> {
         self.queue.pop(self.rt, &mut self.party).ok()
+    }
+
+    fn fill(&mut self, item: T) {
+        let _ = self.queue.force_push(self.rt, &mut self.party, item);
     }
 }
 

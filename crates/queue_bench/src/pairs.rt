@@ -1,5 +1,7 @@
 //! Pushes and pops by one thread.
-use crate::items::Item;
+//!
+//! The compiler puts a push or a pop in place where it is called in one place alone. So each of the two loops here has an item type of its own, and what lies behind is filled in by another call.
+use crate::items::{Batched, Item};
 use crate::lanes::Lane;
 
 /// Rounds of so many pushes, each with as many pops after them as are wanted. The items are numbered on from the first.
@@ -28,7 +30,7 @@ impl<T: Item> Taken<T> {
     }
 }
 
-/// Does all rounds. Large items have their calls here alone, so that these are compiled once for each size and kind of lane.
+/// Does all rounds.
 #[inline(never)]
 pub fn run_rounds<T: Item, L: Lane<T>>(lane: &mut L, rounds: Rounds) -> Taken<T> {
     let mut taken = Taken {
@@ -48,7 +50,7 @@ pub fn run_rounds<T: Item, L: Lane<T>>(lane: &mut L, rounds: Rounds) -> Taken<T>
     taken
 }
 
-/// Does rounds of one push and one pop, so many of them.
+/// Does rounds of one push and one pop, so many of them. The items are numbered on from the first.
 #[inline(never)]
 pub fn alternate<T: Item, L: Lane<T>>(lane: &mut L, first: u64, count: u64) -> Taken<T> {
     let mut taken = Taken {
@@ -64,24 +66,20 @@ pub fn alternate<T: Item, L: Lane<T>>(lane: &mut L, first: u64, count: u64) -> T
     taken
 }
 
-/// An item, and how its rounds are done.
+/// An item, and the loop that it goes through.
 pub trait Runs: Item {
     /// Does all rounds on a lane.
     fn run<L: Lane<Self>>(lane: &mut L, rounds: Rounds) -> Taken<Self>;
 }
 
-impl Runs for u64 {
-    fn run<L: Lane<u64>>(lane: &mut L, rounds: Rounds) -> Taken<u64> {
-        if rounds.puts == 1 && rounds.takes == 1 {
-            alternate(lane, rounds.first, rounds.count)
-        } else {
-            run_rounds(lane, rounds)
-        }
+impl<const WORDS: usize> Runs for [u64; WORDS] {
+    fn run<L: Lane<[u64; WORDS]>>(lane: &mut L, rounds: Rounds) -> Taken<[u64; WORDS]> {
+        alternate(lane, rounds.first, rounds.count)
     }
 }
 
-impl<const WORDS: usize> Runs for [u64; WORDS] {
-    fn run<L: Lane<[u64; WORDS]>>(lane: &mut L, rounds: Rounds) -> Taken<[u64; WORDS]> {
+impl<T: Item> Runs for Batched<T> {
+    fn run<L: Lane<Batched<T>>>(lane: &mut L, rounds: Rounds) -> Taken<Batched<T>> {
         run_rounds(lane, rounds)
     }
 }

@@ -2,7 +2,7 @@
 ghost use Rattle.queue_text.specs.KindNames.{IsKindName};
 
 use crate::crew::{Crew, run_crew};
-use crate::items::Item;
+use crate::items::{Batched, Item};
 use crate::lanes::{Alone, Lane};
 use crate::load::{Form, Load, Pairs, Size, Task, Work};
 use crate::pairs::{Rounds, Runs};
@@ -27,9 +27,19 @@ pub fn time<R: Threads + Wait + Sync>(rt: &HostRuntime, threads: &R, load: Load)
 {
     match load.task {
         Task::Threads(crew) => time_crew(rt, threads, load.kind, crew),
-        Task::Pairs(pairs) => match pairs.size {
-            Size::Bytes8 => time_pairs::<u64, R>(rt, threads, load.kind, pairs),
-            Size::Bytes64 => time_pairs::<[u64; 8], R>(rt, threads, load.kind, pairs),
+        Task::Pairs(pairs) => match (pairs.work, pairs.size) {
+            (Work::Behind(_), Size::Bytes8) => {
+                time_pairs::<[u64; 1], R>(rt, threads, load.kind, pairs)
+            }
+            (Work::Behind(_), Size::Bytes64) => {
+                time_pairs::<[u64; 8], R>(rt, threads, load.kind, pairs)
+            }
+            (Work::Batch(_), Size::Bytes8) => {
+                time_pairs::<Batched<[u64; 1]>, R>(rt, threads, load.kind, pairs)
+            }
+            (Work::Batch(_), Size::Bytes64) => {
+                time_pairs::<Batched<[u64; 8]>, R>(rt, threads, load.kind, pairs)
+            }
         },
     }
 }
@@ -81,7 +91,9 @@ fn time_lane<T: Runs, L: Lane<T> + Drop>(
     mut lane: L,
     pairs: Pairs,
 ) -> io::Result<Run> {
-    T::run(&mut lane, filling(pairs));
+    for number in 0..behind(pairs.work) {
+        lane.fill(T::numbered(number));
+    }
     let start = Instant::now(rt)?;
     let taken = T::run(&mut lane, timed(pairs));
     let took = start.elapsed(rt)?;
@@ -92,16 +104,11 @@ fn time_lane<T: Runs, L: Lane<T> + Drop>(
     })
 }
 
-// What comes before the clock is started: the items that lie behind.
-fn filling(pairs: Pairs) -> Rounds {
-    Rounds {
-        first: 0,
-        count: 1,
-        puts: match pairs.work {
-            Work::Behind(items) => items,
-            Work::Batch(_) => 0,
-        },
-        takes: 0,
+// How many items lie behind, from before the clock is started.
+fn behind(work: Work) -> u64 {
+    match work {
+        Work::Behind(items) => items,
+        Work::Batch(_) => 0,
     }
 }
 
