@@ -14,7 +14,7 @@ ghost use Rattle.queue_steps.specs.declared.sizes.TheConstants.{LONE_STEPS};
 use crate::cells::Cells;
 use queue_steps::model::{Call, CallKind, Reply, ReplyKind};
 use queue_steps::sizes::LONE_STEPS;
-use queue_steps::steps::{self, Answer, Kind, Local, Next};
+use queue_steps::steps::{self, Answer, Kind, Local, Next, Op};
 use std::mem;
 use std::ops::ControlFlow;
 
@@ -24,6 +24,15 @@ use std::ops::ControlFlow;
 pub(crate) struct Standing<B> {
     pub(crate) local: Local<B>,
     pub(crate) answer: Answer<B>,
+}
+
+/// Does one operation on the cells, for each of the rounds.
+#[inline(always)]
+fn operate<T, B: Copy, M: Cells<T, B>>(cells: &mut M, op: Op<B>) -> Answer<B>
+    requires { M.can_perform cells.old op }
+    ensures { M.performs cells.old op result cells.new }
+{
+    cells.perform(op)
 }
 
 /// Does what the call does next, and tells where it then stands, or its reply. A function that takes a `Next` would have it in memory.
@@ -39,7 +48,7 @@ macro_rules! done {
             },
             Next::Step(after, touch, op) => {
                 $cells.touch(touch, &op, $carried);
-                let answer = $cells.perform(op);
+                let answer = operate::<T, B, M>($cells, op);
                 ControlFlow::Continue(Standing {
                     local: after,
                     answer,
