@@ -143,7 +143,8 @@ impl<T, A: Allocator + Clone> Ring<T, A> {
 
 impl<T, A: Allocator> Ring<T, A> {
     ghost use Rattle.queue_steps.specs.declared.steps.types.Answer.TheVariants.{Found};
-    ghost use Rattle.queue_steps.specs.declared.steps.types.Op.TheVariants.{Load};
+    ghost use Rattle.queue_steps.specs.declared.steps.types.Op.TheVariants.{Load, Or};
+    ghost use Rattle.queue_steps.specs.declared.steps.types.Word.TheVariants.{Tail};
     ghost use Rattle.exclusive_queue.specs.RingCells.{ring_operable, ring_performed};
 
     #[inline(always)]
@@ -180,6 +181,16 @@ impl<T, A: Allocator> Ring<T, A> {
         ensures { self.new ≡ record self.old { tail = word } }
     {
         self.memory.words.put(TAIL, word);
+    }
+
+    /// Sets bits of the tail, and gives the tail before.
+    #[inline(always)]
+    fn mark(&mut self, bits: u64) -> u64
+        ensures { (Found result, self.new) ≡ ring_performed self.old (Or Tail bits) }
+    {
+        let found = self.tail();
+        self.set_tail(found | bits);
+        found
     }
 
     #[inline(always)]
@@ -335,11 +346,7 @@ impl<T, A: Allocator> Cells<T, ()> for Ring<T, A> {
                 }
                 Answer::Found(found)
             }
-            Op::Or(Word::Tail, bits) => {
-                let found = self.tail();
-                self.set_tail(found | bits);
-                Answer::Found(found)
-            }
+            Op::Or(Word::Tail, bits) => Answer::Found(self.mark(bits)),
             Op::Add(Word::Tail, more) => {
                 let found = self.tail();
                 self.set_tail(found + more);

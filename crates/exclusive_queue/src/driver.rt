@@ -14,7 +14,7 @@ ghost use Rattle.queue_steps.specs.declared.sizes.TheConstants.{LONE_STEPS};
 use crate::cells::Cells;
 use queue_steps::model::{Call, CallKind, Reply, ReplyKind};
 use queue_steps::sizes::{BLOCK_SLOTS, LONE_STEPS};
-use queue_steps::steps::{self, Answer, Kind, Local, Next};
+use queue_steps::steps::{self, Answer, Kind, Local, Next, Op};
 use std::mem;
 use std::ops::ControlFlow;
 
@@ -26,9 +26,18 @@ pub(crate) struct Standing<B> {
     pub(crate) answer: Answer<B>,
 }
 
-/// Does what the call does next, and tells where it then stands, or its reply. A function that takes a `Next` would have it in memory.
+/// Does one operation on the cells, for the rounds that stand before the loop.
+#[inline(always)]
+fn operate<T, B: Copy, M: Cells<T, B>>(cells: &mut M, op: Op<B>) -> Answer<B>
+    requires { M.can_perform cells.old op }
+    ensures { M.performs cells.old op result cells.new }
+{
+    cells.perform(op)
+}
+
+/// Does what the call does next, its operation by `$operate`, and tells where it then stands, or its reply. A function that takes a `Next` would have it in memory.
 macro_rules! done {
-    ($cells:ident, $todo:ident, $carried:ident) => {
+    ($cells:ident, $todo:ident, $carried:ident, $operate:path) => {
         match $todo {
             Next::Reply(reply, given_up) => match given_up {
                 None => ControlFlow::Break(reply),
@@ -39,7 +48,7 @@ macro_rules! done {
             },
             Next::Step(after, touch, op) => {
                 $cells.touch(touch, &op, $carried);
-                let answer = $cells.perform(op);
+                let answer = $operate($cells, op);
                 ControlFlow::Continue(Standing {
                     local: after,
                     answer,
@@ -65,7 +74,7 @@ fn common_round<T, B: Copy, M: Cells<T, B>, W, const AT: u64>(
 {
     let Standing { local, answer } = standing;
     let todo = M::next_common(kind, local, answer);
-    done!(cells, todo, carried)
+    done!(cells, todo, carried, operate::<T, B, M>)
 }
 
 /// One round of a call that walks over a block.
@@ -82,7 +91,7 @@ fn walk_round<T, B: Copy, M: Cells<T, B>, const AT: u64>(
 {
     let Standing { local, answer } = standing;
     let todo = M::next_walk(kind, local, answer);
-    done!(cells, todo, carried)
+    done!(cells, todo, carried, M::perform)
 }
 
 /// The rounds of a call that walks over a block, until it does another step. The compiler knows in this loop where the call stands.
@@ -126,7 +135,7 @@ fn round<T, B: Copy, M: Cells<T, B>>(
 {
     let Standing { local, answer } = standing;
     let todo = M::next(kind, local, answer);
-    done!(cells, todo, carried)
+    done!(cells, todo, carried, M::perform)
 }
 
 /// One round of the loop. The walk over a block is most of what it does.

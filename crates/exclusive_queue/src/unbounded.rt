@@ -97,7 +97,7 @@ impl<T, A: Allocator> LinkedBlocks<T, A> {
     ghost use Rattle.queue_steps.specs.declared.steps.types.Answer.TheVariants.{Found, Linked, Done};
     ghost use Rattle.queue_steps.specs.declared.steps.types.Op.TheVariants.{Load, Or, LoadLink, StoreLink, Ask};
     ghost use Rattle.queue_steps.specs.declared.steps.types.Link.TheVariants.{Next};
-    ghost use Rattle.queue_steps.specs.declared.steps.types.Word.TheVariants.{State};
+    ghost use Rattle.queue_steps.specs.declared.steps.types.Word.TheVariants.{State, Tail};
     ghost use Rattle.exclusive_queue.specs.LineCells.{CanPut, CanTake, CanLay, exchanged, laid, line_can_perform, line_performed, line_asks};
     ghost use Rattle.exclusive_queue.specs.LineOwned.{IsIdle, line_owned, line_queue};
     ghost use Rattle.exclusive_queue.specs.ChainMemory.{AreHeld, line_in};
@@ -266,6 +266,16 @@ impl<T, A: Allocator> LinkedBlocks<T, A> {
             Word::State(block, slot) => self.chain.word(block.number, block.link, slot),
             _ => unreachable!(),
         }
+    }
+
+    /// Sets bits of the tail, and gives the tail before.
+    #[inline(always)]
+    fn mark(&mut self, bits: u64) -> u64
+        ensures { (Found result, self.new) ≡ line_performed self.old (Or Tail bits) }
+    {
+        let found = self.tail;
+        self.tail = found | bits;
+        found
     }
 
     /// Sets bits of a slot's state, and gives the state before.
@@ -507,11 +517,7 @@ impl<T, A: Allocator> Cells<T, Name<T>> for LinkedBlocks<T, A> {
                 self.tail = found + more;
                 Answer::Found(found)
             }
-            Op::Or(Word::Tail, bits) => {
-                let found = self.tail;
-                self.tail = found | bits;
-                Answer::Found(found)
-            }
+            Op::Or(Word::Tail, bits) => Answer::Found(self.mark(bits)),
             Op::Or(Word::State(block, slot), bits) => Answer::Found(self.set_bits(
                 block, slot, bits,
             )),

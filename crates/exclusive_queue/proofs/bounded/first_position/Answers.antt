@@ -1,3 +1,4 @@
+use Rattle.std.proofs.Common.{arith}
 use Rattle.exclusive_queue.proofs.Openings.{first-slot, next-slot}
 use Rattle.exclusive_queue.proofs.bounded.first_position.Goals as goal
 
@@ -6,3 +7,6 @@ returns-then-slot-passed-clause-slot c = next-slot c.args.accepted c.args.capaci
 
 pub returns-else-slot-passed-clause-slot : goal.returns-else-slot-passed-clause-slot
 returns-else-slot-passed-clause-slot c = first-slot c.args.accepted c.args.capacity c.args.slot c.requires.slot
+
+pub returns-then-slot-passed-clause-within : goal.returns-then-slot-passed-clause-within
+returns-then-slot-passed-clause-within c = omega arith

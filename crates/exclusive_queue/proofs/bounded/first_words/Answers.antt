@@ -1,4 +1,4 @@
-use Rattle.std.proofs.Common.{◌++◌, ◌∷◌, [], ap, ◌∙◌, arith}
+use Rattle.std.proofs.Common.{◌++◌, ◌∷◌, [], ap, ◌∙◌, arith, rules}
 use Rattle.exclusive_queue.proofs.Openings.{Opened-more}
 use Rattle.exclusive_queue.proofs.bounded.first_words.Goals as goal
 
@@ -16,3 +16,6 @@ loop-slot-preserved g c =
       len = omega (arith, p.len, i.len);
       room = p.capacity ∙ i.room;
     }
+
+pub loop-slot-init : goal.loop-slot-init
+loop-slot-init g c = search rules

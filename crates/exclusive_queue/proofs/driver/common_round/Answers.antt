@@ -7,8 +7,8 @@ release-requires g c = search rules
 pub returns-in-Some : goal.returns-in-Some
 returns-in-Some g c = search rules
 
-pub perform-answer-requires : goal.perform-answer-requires
-perform-answer-requires g c = search rules
+pub operate-answer-requires : goal.operate-answer-requires
+operate-answer-requires g c = search rules
 
 pub returns-in-Step : goal.returns-in-Step
 returns-in-Step g c = search rules

@@ -1,4 +1,4 @@
-use Rattle.std.proofs.Common.{◌≡◌, ℕ, ◌<◌, List, Option, None, length, map, ap, sym, ◌∙◌, arith, subst}
+use Rattle.std.proofs.Common.{◌≡◌, ℕ, ◌<◌, List, Option, None, length, map, ap, sym, ◌∙◌, arith, subst, rules}
 use Rattle.std.proofs.lemmas.List.{length-replicate}
 use mathlib.Core.Option.{some}
 use lib.ListN.{get_elem?}
@@ -21,3 +21,9 @@ returns-clause-idle g c =
     let words = ap (λ v. v.items) t.5 in
     (ring_opens c.args.capacity c.args.accepted c.in-Ok.words.items ws xs (c.requires.many, omega (arith, c.if-capacity-gt-MAX_CAPACITY.false)) c.requires.below c.in-Ok.ensures
     (sym (slots_counts m.slots).0 ∙ (k.counts.1 ∙ (t.1 ∙ (ap length c.in_ok-slots.ensures ∙ length-replicate c.args.capacity None)))) (subst (λ (z : List ℕ). Final (IsUntouched z) ws xs) words k.values.2)).0
+
+pub first_words-requires-clause-capacity : goal.first_words-requires-clause-capacity
+first_words-requires-clause-capacity g c = search rules
+
+pub returns-clause-limited : goal.returns-clause-limited
+returns-clause-limited g c = search rules

@@ -1,4 +1,4 @@
-use Rattle.std.proofs.Common.{arith}
+use Rattle.std.proofs.Common.{arith, rules}
 use Rattle.exclusive_queue.proofs.Linked.{Knows-named, lives, in_block, next-read, links_on}
 use Rattle.exclusive_queue.proofs.unbounded.LinkedBlocks.next.Goals as goal
 
@@ -24,3 +24,6 @@ returns g c =
     let k = Knows-named s b c.self.invariant can.0 in
     let there = links_on s b c.in-Some.last c.in-Some.is c.if-last-block.false can in
     rw (← c.self.view_is) (next-read s b c.next.result c.next.new.self k there c.next.ensures)
+
+pub returns-then-last-block : goal.returns-then-last-block
+returns-then-last-block g c = search rules

@@ -1,4 +1,4 @@
-use Rattle.std.proofs.Common.{◌≡◌, ◌+◌, ◌-◌, ◌∙◌, ◌^◌, ◌≤◌, length, sym, subst, arith}
+use Rattle.std.proofs.Common.{◌≡◌, ◌+◌, ◌-◌, ◌∙◌, ◌^◌, ◌≤◌, length, sym, subst, arith, rules}
 use Rattle.exclusive_queue.proofs.ChainBegins.{count_none, count_some, count_short}
 use Rattle.exclusive_queue.proofs.unbounded.LinkedBlocks.of_chain.Goals.{in-None, in-Some}
 use Rattle.exclusive_queue.proofs.unbounded.LinkedBlocks.of_chain.Goals as goal
@@ -17,3 +17,6 @@ invariant_of-result g c =
       blocks = λ k from below. c.requires.held k (omega arith);
       spare = tt;
     }
+
+pub returns : goal.returns
+returns g c = search rules

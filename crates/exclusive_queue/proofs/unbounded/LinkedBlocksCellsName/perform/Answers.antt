@@ -1,8 +1,5 @@
 use Rattle.std.proofs.Common.{rules}
 use Rattle.exclusive_queue.proofs.unbounded.LinkedBlocksCellsName.perform.Goals as goal
 
-pub returns-in-Or-Tail-default : goal.returns-in-Or-Tail-default
-returns-in-Or-Tail-default g c = search rules
-
 pub returns-in-Exchange-Head-default-default : goal.returns-in-Exchange-Head-default-default
 returns-in-Exchange-Head-default-default g c = search rules
