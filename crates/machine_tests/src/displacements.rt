@@ -1,5 +1,5 @@
 //! Runs on a ring of two slots, with calls that go on within each other.
-use crate::script::{Line, leave, told_of, words_of};
+use crate::script::{Fact, Line, Run, are_told, is_told, words_of};
 use queue_machine::replay;
 use queue_machine::types::EffectKind;
 use queue_machine::words::Words;
@@ -7,53 +7,197 @@ use queue_steps::errors::{ForcePushError, PopError, PushError};
 use queue_steps::model::{Call, Reply};
 use queue_steps::sizes::MAX_CAPACITY;
 use queue_steps::steps::Kind;
-use std::alloc::Global;
+use std::alloc::{AllocError, Global};
 use std::test::Fail;
 
 const RING: Kind = Kind::Bounded(2);
 
-/// A displacement with a close within it: a pop that finds the list empty waits for the item on its way in.
-#[test]
-fn close_within_a_displacement(rt: HostRuntime) -> Result<(), Fail> {
-    let lines = [
-        Line::Pushes(0, 2),
-        Line::Begins(0, Call::ForcePush(3)),
-        Line::Steps(0, 3),
-        Line::Calls(1, Call::Close),
-        Line::Pops(1, 2),
-        Line::Runs(0),
-        Line::Runs(1),
-        Line::Calls(1, Call::Pop),
-        Line::Calls(1, Call::IsClosed),
-    ];
-    let told = told_of(rt.alloc(), RING, 2, &lines)?;
-    told.effects_are(
-        &rt,
-        &[
-            (0, EffectKind::Append),
-            (0, EffectKind::Append),
-            (0, EffectKind::Front),
-            (1, EffectKind::Close),
-            (1, EffectKind::Take),
-            (0, EffectKind::Arrive),
-            (1, EffectKind::Take),
+static RUNS: [Run<'static>; 10] = [
+    // A displacement with a close within it: a pop that finds the list empty waits for the item on its way in.
+    Run {
+        name: "close within a displacement",
+        parties: 2,
+        lines: &[
+            Line::Pushes(0, 2),
+            Line::Begins(0, Call::ForcePush(3)),
+            Line::Steps(0, 3),
+            Line::Calls(1, Call::Close),
+            Line::Pops(1, 2),
+            Line::Runs(0),
+            Line::Runs(1),
+            Line::Calls(1, Call::Pop),
+            Line::Calls(1, Call::IsClosed),
         ],
-    );
-    told.replies_are(
-        &rt,
-        &[
+        facts: &[
+            Fact::Effects(&[
+                (0, EffectKind::Append),
+                (0, EffectKind::Append),
+                (0, EffectKind::Front),
+                (1, EffectKind::Close),
+                (1, EffectKind::Take),
+                (0, EffectKind::Arrive),
+                (1, EffectKind::Take),
+            ]),
+            Fact::Replies(&[
+                (0, Reply::Push(Ok(()))),
+                (0, Reply::Push(Ok(()))),
+                (1, Reply::Close(true)),
+                (1, Reply::Pop(Ok(2))),
+                (0, Reply::ForcePush(Ok(Some(1)))),
+                (1, Reply::Pop(Ok(3))),
+                (1, Reply::Pop(Err(PopError::Closed))),
+                (1, Reply::IsClosed(true)),
+            ]),
+            Fact::Left(&[]),
+        ],
+    },
+    // A machine that lets one call go on at a time, or does each call whole at its first step, is found out: a push that began later ends first.
+    Run {
+        name: "machine that does one call at a time",
+        parties: 2,
+        lines: &[
+            Line::Begins(0, Call::Push(1)),
+            Line::Steps(0, 3),
+            Line::Calls(1, Call::Push(2)),
+            Line::Calls(1, Call::Pop),
+            Line::Steps(0, 1),
+            Line::Runs(1),
+        ],
+        facts: &[
+            Fact::Effects(&[
+                (0, EffectKind::Append),
+                (1, EffectKind::Append),
+                (1, EffectKind::Take),
+            ]),
+            Fact::Replies(&[
+                (1, Reply::Push(Ok(()))),
+                (0, Reply::Push(Ok(()))),
+                (1, Reply::Pop(Ok(1))),
+            ]),
+            Fact::Left(&[2]),
+        ],
+    },
+    // A push answers that the queue is full, which was right where it read the tail, before a close.
+    Run {
+        name: "full before a close",
+        parties: 2,
+        lines: &[
+            Line::Pushes(0, 2),
+            Line::Begins(0, Call::Push(9)),
+            Line::Steps(0, 2),
+            Line::Calls(1, Call::Close),
+            Line::Runs(0),
+        ],
+        facts: &[
+            Fact::Replies(&[
+                (0, Reply::Push(Ok(()))),
+                (0, Reply::Push(Ok(()))),
+                (1, Reply::Close(true)),
+                (0, Reply::Push(Err(PushError::Full(9)))),
+            ]),
+            Fact::Left(&[1, 2]),
+        ],
+    },
+    // Within a displacement the length and fullness are those of the list alone, and another push waits.
+    Run {
+        name: "observers within a displacement",
+        parties: 2,
+        lines: &[
+            Line::Pushes(0, 2),
+            Line::Begins(0, Call::ForcePush(3)),
+            Line::Steps(0, 3),
+            Line::Calls(1, Call::Len),
+            Line::Calls(1, Call::IsFull),
+            Line::Calls(1, Call::Push(4)),
+            Line::Runs(0),
+            Line::Runs(1),
+        ],
+        facts: &[
+            Fact::Replies(&[
+                (0, Reply::Push(Ok(()))),
+                (0, Reply::Push(Ok(()))),
+                (1, Reply::Len(1)),
+                (1, Reply::IsFull(false)),
+                (0, Reply::ForcePush(Ok(Some(1)))),
+                (1, Reply::Push(Err(PushError::Full(4)))),
+            ]),
+            Fact::Left(&[2, 3]),
+        ],
+    },
+    // A forced push that read the queue open displaces the front after a close.
+    Run {
+        name: "forced push that read the queue open",
+        parties: 2,
+        lines: &[
+            Line::Pushes(0, 2),
+            Line::Begins(0, Call::ForcePush(3)),
+            Line::Steps(0, 2),
+            Line::Calls(1, Call::Close),
+            Line::Runs(0),
+            Line::Pops(1, 3),
+        ],
+        facts: &[Fact::Replies(&[
             (0, Reply::Push(Ok(()))),
             (0, Reply::Push(Ok(()))),
             (1, Reply::Close(true)),
-            (1, Reply::Pop(Ok(2))),
             (0, Reply::ForcePush(Ok(Some(1)))),
+            (1, Reply::Pop(Ok(2))),
             (1, Reply::Pop(Ok(3))),
             (1, Reply::Pop(Err(PopError::Closed))),
-            (1, Reply::IsClosed(true)),
+        ])],
+    },
+    // Items appended or arrived and not yet written are in the list; an item displaced, on its way in or taken is not.
+    Run {
+        name: "left: appended, not written",
+        parties: 3,
+        lines: &[Line::Begins(0, Call::Push(1)), Line::Steps(0, 3)],
+        facts: &[Fact::Left(&[1])],
+    },
+    Run {
+        name: "left: displaced, on the way in",
+        parties: 3,
+        lines: &[
+            Line::Pushes(0, 2),
+            Line::Begins(0, Call::ForcePush(3)),
+            Line::Steps(0, 3),
         ],
-    );
-    told.left_is(&rt, &[]);
-    Ok(())
+        facts: &[Fact::Left(&[2])],
+    },
+    Run {
+        name: "left: arrived, not swapped in",
+        parties: 3,
+        lines: &[
+            Line::Pushes(0, 2),
+            Line::Begins(0, Call::ForcePush(3)),
+            Line::Steps(0, 4),
+        ],
+        facts: &[Fact::Left(&[2, 3])],
+    },
+    Run {
+        name: "left: swapped in",
+        parties: 3,
+        lines: &[
+            Line::Pushes(0, 2),
+            Line::Begins(0, Call::ForcePush(3)),
+            Line::Steps(0, 5),
+        ],
+        facts: &[Fact::Left(&[2, 3])],
+    },
+    Run {
+        name: "left: taken, not read",
+        parties: 3,
+        lines: &[
+            Line::Pushes(0, 2),
+            Line::Begins(0, Call::Pop),
+            Line::Steps(0, 3),
+        ],
+        facts: &[Fact::Left(&[2])],
+    },
+];
+
+#[test]
+fn runs_on_two_slots(rt: HostRuntime) -> Result<(), AllocError> {
+    are_told(&rt, rt.alloc(), RING, &RUNS)
 }
 
 /// The tail, the head and the stamps on the way through a displacement: the tail is twice the position, and one more once the queue is closed.
@@ -90,219 +234,129 @@ fn words_within_a_displacement(rt: HostRuntime) -> Result<(), Fail> {
     Ok(())
 }
 
-/// A machine that lets one call go on at a time, or does each call whole at its first step, is found out: a push that began later ends first.
-#[test]
-fn machine_one_call_at_a_time(rt: HostRuntime) -> Result<(), Fail> {
-    let lines = [
-        Line::Begins(0, Call::Push(1)),
-        Line::Steps(0, 3),
-        Line::Calls(1, Call::Push(2)),
-        Line::Calls(1, Call::Pop),
-        Line::Steps(0, 1),
-        Line::Runs(1),
-    ];
-    let told = told_of(rt.alloc(), RING, 2, &lines)?;
-    told.effects_are(
-        &rt,
-        &[
-            (0, EffectKind::Append),
-            (1, EffectKind::Append),
-            (1, EffectKind::Take),
-        ],
-    );
-    told.replies_are(
-        &rt,
-        &[
-            (1, Reply::Push(Ok(()))),
-            (0, Reply::Push(Ok(()))),
-            (1, Reply::Pop(Ok(1))),
-        ],
-    );
-    told.left_is(&rt, &[2]);
-    Ok(())
+/// What is told of a close after so many steps of a displacement.
+struct Closed {
+    name: &'static str,
+    steps: u64,
+    facts: &'static [Fact<'static>],
 }
 
-/// A push answers that the queue is full, which was right where it read the tail, before a close.
-#[test]
-fn full_before_a_close(rt: HostRuntime) -> Result<(), Fail> {
-    let lines = [
-        Line::Pushes(0, 2),
-        Line::Begins(0, Call::Push(9)),
-        Line::Steps(0, 2),
-        Line::Calls(1, Call::Close),
-        Line::Runs(0),
-    ];
-    let told = told_of(rt.alloc(), RING, 2, &lines)?;
-    told.replies_are(
-        &rt,
-        &[
-            (0, Reply::Push(Ok(()))),
-            (0, Reply::Push(Ok(()))),
-            (1, Reply::Close(true)),
-            (0, Reply::Push(Err(PushError::Full(9)))),
-        ],
-    );
-    told.left_is(&rt, &[1, 2]);
-    Ok(())
-}
+/// The replies to a forced push that the close comes before.
+const REFUSED: Fact<'static> = Fact::Replies(&[
+    (0, Reply::Push(Ok(()))),
+    (0, Reply::Push(Ok(()))),
+    (1, Reply::Close(true)),
+    (0, Reply::ForcePush(Err(ForcePushError::Closed(3)))),
+    (1, Reply::IsClosed(true)),
+]);
 
-/// Within a displacement the length and fullness are those of the list alone, and another push waits.
-#[test]
-fn observers_within_a_displacement(rt: HostRuntime) -> Result<(), Fail> {
-    let lines = [
-        Line::Pushes(0, 2),
-        Line::Begins(0, Call::ForcePush(3)),
-        Line::Steps(0, 3),
-        Line::Calls(1, Call::Len),
-        Line::Calls(1, Call::IsFull),
-        Line::Calls(1, Call::Push(4)),
-        Line::Runs(0),
-        Line::Runs(1),
-    ];
-    let told = told_of(rt.alloc(), RING, 2, &lines)?;
-    told.replies_are(
-        &rt,
-        &[
-            (0, Reply::Push(Ok(()))),
-            (0, Reply::Push(Ok(()))),
-            (1, Reply::Len(1)),
-            (1, Reply::IsFull(false)),
-            (0, Reply::ForcePush(Ok(Some(1)))),
-            (1, Reply::Push(Err(PushError::Full(4)))),
-        ],
-    );
-    told.left_is(&rt, &[2, 3]);
-    Ok(())
-}
+/// The replies to one that the close comes within.
+const WITHIN: Fact<'static> = Fact::Replies(&[
+    (0, Reply::Push(Ok(()))),
+    (0, Reply::Push(Ok(()))),
+    (1, Reply::Close(true)),
+    (0, Reply::ForcePush(Ok(Some(1)))),
+    (1, Reply::IsClosed(true)),
+]);
 
-/// A forced push that read the queue open displaces the front after a close.
-#[test]
-fn forced_push_that_read_the_queue_open(rt: HostRuntime) -> Result<(), Fail> {
-    let lines = [
-        Line::Pushes(0, 2),
-        Line::Begins(0, Call::ForcePush(3)),
-        Line::Steps(0, 2),
-        Line::Calls(1, Call::Close),
-        Line::Runs(0),
-        Line::Pops(1, 3),
-    ];
-    told_of(rt.alloc(), RING, 2, &lines)?.replies_are(
-        &rt,
-        &[
-            (0, Reply::Push(Ok(()))),
-            (0, Reply::Push(Ok(()))),
-            (1, Reply::Close(true)),
-            (0, Reply::ForcePush(Ok(Some(1)))),
-            (1, Reply::Pop(Ok(2))),
-            (1, Reply::Pop(Ok(3))),
-            (1, Reply::Pop(Err(PopError::Closed))),
+/// The replies to one that the close comes after.
+const ENDED: Fact<'static> = Fact::Replies(&[
+    (0, Reply::Push(Ok(()))),
+    (0, Reply::Push(Ok(()))),
+    (0, Reply::ForcePush(Ok(Some(1)))),
+    (1, Reply::Close(true)),
+    (1, Reply::IsClosed(true)),
+]);
+
+/// The effects where the close comes before the front is displaced.
+const BEFORE: Fact<'static> = Fact::Effects(&[
+    (0, EffectKind::Append),
+    (0, EffectKind::Append),
+    (1, EffectKind::Close),
+    (0, EffectKind::Front),
+    (0, EffectKind::Arrive),
+]);
+
+/// The effects where it comes after the arrival.
+const AFTER: Fact<'static> = Fact::Effects(&[
+    (0, EffectKind::Append),
+    (0, EffectKind::Append),
+    (0, EffectKind::Front),
+    (0, EffectKind::Arrive),
+    (1, EffectKind::Close),
+]);
+
+static CLOSES: [Closed; 6] = [
+    Closed {
+        name: "close before a displacement",
+        steps: 0,
+        facts: &[
+            Fact::Effects(&[
+                (0, EffectKind::Append),
+                (0, EffectKind::Append),
+                (1, EffectKind::Close),
+            ]),
+            REFUSED,
+            Fact::Left(&[1, 2]),
         ],
-    );
-    Ok(())
-}
+    },
+    Closed {
+        name: "close once a displacement has read the tail",
+        steps: 1,
+        facts: &[BEFORE, WITHIN, Fact::Left(&[2, 3])],
+    },
+    Closed {
+        name: "close before the front is displaced",
+        steps: 2,
+        facts: &[BEFORE, WITHIN, Fact::Left(&[2, 3])],
+    },
+    Closed {
+        name: "close between front and arrival",
+        steps: 3,
+        facts: &[
+            Fact::Effects(&[
+                (0, EffectKind::Append),
+                (0, EffectKind::Append),
+                (0, EffectKind::Front),
+                (1, EffectKind::Close),
+                (0, EffectKind::Arrive),
+            ]),
+            WITHIN,
+            Fact::Left(&[2, 3]),
+        ],
+    },
+    Closed {
+        name: "close after the arrival",
+        steps: 4,
+        facts: &[AFTER, WITHIN, Fact::Left(&[2, 3])],
+    },
+    Closed {
+        name: "close after a displacement",
+        steps: 5,
+        facts: &[AFTER, ENDED, Fact::Left(&[2, 3])],
+    },
+];
 
 /// A close before each step of a displacement, and after it.
 #[test]
-fn closes_at_each_step_of_a_displacement(rt: HostRuntime) -> Result<(), Fail> {
-    use EffectKind::{Append, Arrive, Close, Front};
-    let closed = [(0, Append), (0, Append), (1, Close)];
-    let before = [
-        (0, Append),
-        (0, Append),
-        (1, Close),
-        (0, Front),
-        (0, Arrive),
-    ];
-    let between = [
-        (0, Append),
-        (0, Append),
-        (0, Front),
-        (1, Close),
-        (0, Arrive),
-    ];
-    let after = [
-        (0, Append),
-        (0, Append),
-        (0, Front),
-        (0, Arrive),
-        (1, Close),
-    ];
-    let refused = [
-        (0, Reply::Push(Ok(()))),
-        (0, Reply::Push(Ok(()))),
-        (1, Reply::Close(true)),
-        (0, Reply::ForcePush(Err(ForcePushError::Closed(3)))),
-        (1, Reply::IsClosed(true)),
-    ];
-    let within = [
-        (0, Reply::Push(Ok(()))),
-        (0, Reply::Push(Ok(()))),
-        (1, Reply::Close(true)),
-        (0, Reply::ForcePush(Ok(Some(1)))),
-        (1, Reply::IsClosed(true)),
-    ];
-    let ended = [
-        (0, Reply::Push(Ok(()))),
-        (0, Reply::Push(Ok(()))),
-        (0, Reply::ForcePush(Ok(Some(1)))),
-        (1, Reply::Close(true)),
-        (1, Reply::IsClosed(true)),
-    ];
-    let rows: [(&[(usize, EffectKind)], &[(usize, Reply<u64>)], &[u64]); 6] = [
-        (&closed, &refused, &[1, 2]),
-        (&before, &within, &[2, 3]),
-        (&before, &within, &[2, 3]),
-        (&between, &within, &[2, 3]),
-        (&after, &within, &[2, 3]),
-        (&after, &ended, &[2, 3]),
-    ];
-    let mut steps = 0u64;
-    for (effects, replies, left) in rows {
+fn closes_at_each_step_of_a_displacement(rt: HostRuntime) -> Result<(), AllocError> {
+    for Closed { name, steps, facts } in CLOSES.iter() {
         let lines = [
             Line::Pushes(0, 2),
             Line::Begins(0, Call::ForcePush(3)),
-            Line::Steps(0, steps),
+            Line::Steps(0, *steps),
             Line::Calls(1, Call::Close),
             Line::Runs(0),
             Line::Calls(1, Call::IsClosed),
         ];
-        let told = told_of(rt.alloc(), RING, 2, &lines)?;
-        told.effects_are(&rt, effects);
-        told.replies_are(&rt, replies);
-        told.left_is(&rt, left);
-        steps = steps.wrapping_add(1);
+        let run = Run {
+            name,
+            parties: 2,
+            lines: &lines,
+            facts,
+        };
+        is_told(&rt, rt.alloc(), RING, &run)?;
     }
-    Ok(())
-}
-
-/// Items appended or arrived and not yet written are in the list; an item displaced, on its way in or taken is not.
-#[test]
-fn left_in_the_middle_of_calls(rt: HostRuntime) -> Result<(), Fail> {
-    let appended = [Line::Begins(0, Call::Push(1)), Line::Steps(0, 3)];
-    let displaced = [
-        Line::Pushes(0, 2),
-        Line::Begins(0, Call::ForcePush(3)),
-        Line::Steps(0, 3),
-        Line::Steps(0, 1),
-        Line::Steps(0, 1),
-    ];
-    let taken = [
-        Line::Pushes(0, 2),
-        Line::Begins(0, Call::Pop),
-        Line::Steps(0, 3),
-    ];
-    leave(
-        &rt,
-        rt.alloc(),
-        RING,
-        &[
-            (&appended, &[1]),
-            (&displaced[..3], &[2]),
-            (&displaced[..4], &[2, 3]),
-            (&displaced, &[2, 3]),
-            (&taken, &[2]),
-        ],
-    )?;
     Ok(())
 }
 

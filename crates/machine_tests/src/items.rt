@@ -37,18 +37,12 @@ impl<'a> Drop for Item<'a> {
     }
 }
 
-/// The same call with an item in the place of the number.
+/// The same push or forced push with an item in the place of the number, and else a pop.
 fn with_item<'a>(call: Call<u64>, tally: &'a Tally) -> Call<Item<'a>> {
     match call {
         Call::Push(_) => Call::Push(Item::new(tally)),
         Call::ForcePush(_) => Call::ForcePush(Item::new(tally)),
-        Call::Pop => Call::Pop,
-        Call::Close => Call::Close,
-        Call::IsClosed => Call::IsClosed,
-        Call::IsEmpty => Call::IsEmpty,
-        Call::IsFull => Call::IsFull,
-        Call::Len => Call::Len,
-        Call::Capacity => Call::Capacity,
+        _ => Call::Pop,
     }
 }
 

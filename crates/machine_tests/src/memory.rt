@@ -8,7 +8,6 @@ use queue_steps::model::Call;
 use queue_steps::sizes::BLOCK_SLOTS;
 use queue_steps::steps::Kind;
 use std::alloc::{Global, Layout, LayoutError};
-use std::process::Abort;
 use std::test::Fail;
 use test_allocators::{Refusal, Refusing};
 
@@ -27,6 +26,7 @@ fn counting(alloc: Global) -> Result<Refusing<Global>, LayoutError> {
 /// A run of up to three parties, and the blocks that it takes.
 #[derive(Clone, Copy)]
 struct Row<'a> {
+    name: &'a str,
     lines: &'a [Line],
     /// How many blocks are granted.
     granted: u64,
@@ -80,14 +80,6 @@ impl Row<'_> {
     }
 }
 
-/// Asserts what is counted of each run.
-fn are_counted(rt: &impl Abort, alloc: Global, rows: &[Row]) -> Result<(), Fail> {
-    for row in rows {
-        assert_eq!(rt; row.counted(alloc)?, row.expected());
-    }
-    Ok(())
-}
-
 /// A pop of the first of 31 items that stops once it has claimed it, while another party takes all others; and then the pop goes on.
 const READING: [Line; 5] = [
     Line::Pushes(0, 31),
@@ -97,140 +89,132 @@ const READING: [Line; 5] = [
     Line::Runs(0),
 ];
 
-/// The peak is the greatest number of blocks that the allocator counts, each granted request asks the allocator once, and no list has the layout of a block.
-#[test]
-fn peak_is_what_is_allocated(rt: HostRuntime) -> Result<(), Fail> {
-    let rows = [
-        Row {
-            lines: &[Line::Pushes(0, 1)],
-            granted: 1,
-            blocks: 1,
-            bound: 3,
-        },
-        Row {
-            lines: &[Line::Pushes(0, 30)],
-            granted: 1,
-            blocks: 1,
-            bound: 3,
-        },
-        Row {
-            lines: &[Line::Pushes(0, 31)],
-            granted: 2,
-            blocks: 2,
-            bound: 3,
-        },
-        Row {
-            lines: &[Line::Pushes(0, 61)],
-            granted: 2,
-            blocks: 2,
-            bound: 3,
-        },
-        Row {
-            lines: &[Line::Pushes(0, 62)],
-            granted: 3,
-            blocks: 3,
-            bound: 4,
-        },
-    ];
-    are_counted(&rt, rt.alloc(), &rows)
-}
+static ROWS: [Row<'static>; 12] = [
+    // The peak is the greatest number of blocks that the allocator counts, each granted request asks the allocator once, and no list has the layout of a block.
+    Row {
+        name: "1 push",
+        lines: &[Line::Pushes(0, 1)],
+        granted: 1,
+        blocks: 1,
+        bound: 3,
+    },
+    Row {
+        name: "30 pushes",
+        lines: &[Line::Pushes(0, 30)],
+        granted: 1,
+        blocks: 1,
+        bound: 3,
+    },
+    Row {
+        name: "31 pushes",
+        lines: &[Line::Pushes(0, 31)],
+        granted: 2,
+        blocks: 2,
+        bound: 3,
+    },
+    Row {
+        name: "61 pushes",
+        lines: &[Line::Pushes(0, 61)],
+        granted: 2,
+        blocks: 2,
+        bound: 3,
+    },
+    Row {
+        name: "62 pushes",
+        lines: &[Line::Pushes(0, 62)],
+        granted: 3,
+        blocks: 3,
+        bound: 4,
+    },
+    // A request that is granted is never called refused, however many were granted before: with all blocks kept, and with each given up on the way.
+    Row {
+        name: "1400 pushes",
+        lines: &[Line::Pushes(0, 1400)],
+        granted: 46,
+        blocks: 46,
+        bound: 47,
+    },
+    Row {
+        name: "1400 turns",
+        lines: &[Line::Turns(0, 1400)],
+        granted: 46,
+        blocks: 2,
+        bound: 3,
+    },
+    // Two parties ask for the first block, and the one that does not install its own gives it up.
+    Row {
+        name: "two parties install the first block",
+        lines: &[
+            Line::Begins(0, Call::Push(1)),
+            Line::Steps(0, 3),
+            Line::Begins(1, Call::Push(2)),
+            Line::Steps(1, 3),
+            Line::Runs(0),
+            Line::Runs(1),
+        ],
+        granted: 2,
+        blocks: 2,
+        bound: 4,
+    },
+    // A push is stopped while it moves the tail over a block's end.
+    Row {
+        name: "push stopped at a block's end",
+        lines: &[
+            Line::Pushes(0, 30),
+            Line::Begins(0, Call::Push(31)),
+            Line::Steps(0, 4),
+            Line::Calls(1, Call::Push(99)),
+            Line::Calls(2, Call::Close),
+            Line::Runs(1),
+            Line::Runs(0),
+        ],
+        granted: 2,
+        blocks: 2,
+        bound: 3,
+    },
+    // Whoever reads the last slot of a block leaves it to a pop that has not yet read the first.
+    Row {
+        name: "pop stopped before it reads",
+        lines: &READING,
+        granted: 2,
+        blocks: 2,
+        bound: 3,
+    },
+    // A step at which no block is granted asks the allocator for none: of the first block, and of the one behind it.
+    Row {
+        name: "first block refused twice",
+        lines: &[
+            Line::Begins(0, Call::Push(1)),
+            Line::Steps(0, 2),
+            Line::IsRefused(0),
+            Line::Begins(0, Call::ForcePush(2)),
+            Line::Steps(0, 2),
+            Line::IsRefused(0),
+        ],
+        granted: 0,
+        blocks: 0,
+        bound: 2,
+    },
+    Row {
+        name: "second block refused",
+        lines: &[
+            Line::Pushes(0, 30),
+            Line::Begins(0, Call::Push(31)),
+            Line::Steps(0, 2),
+            Line::IsRefused(0),
+        ],
+        granted: 1,
+        blocks: 1,
+        bound: 3,
+    },
+];
 
-/// A request that is granted is never called refused, however many were granted before: with all blocks kept, and with each given up on the way.
 #[test]
-fn many_blocks(rt: HostRuntime) -> Result<(), Fail> {
-    let rows = [
-        Row {
-            lines: &[Line::Pushes(0, 1400)],
-            granted: 46,
-            blocks: 46,
-            bound: 47,
-        },
-        Row {
-            lines: &[Line::Turns(0, 1400)],
-            granted: 46,
-            blocks: 2,
-            bound: 3,
-        },
-    ];
-    are_counted(&rt, rt.alloc(), &rows)
-}
-
-/// Two parties ask for the first block, and the one that does not install its own gives it up; a push is stopped while it moves the tail over a block's end; whoever
-/// reads the last slot of a block leaves it to a pop that has not yet read the first.
-#[test]
-fn blocks_of_calls_within_each_other(rt: HostRuntime) -> Result<(), Fail> {
-    let installers = [
-        Line::Begins(0, Call::Push(1)),
-        Line::Steps(0, 3),
-        Line::Begins(1, Call::Push(2)),
-        Line::Steps(1, 3),
-        Line::Runs(0),
-        Line::Runs(1),
-    ];
-    let stopped = [
-        Line::Pushes(0, 30),
-        Line::Begins(0, Call::Push(31)),
-        Line::Steps(0, 4),
-        Line::Calls(1, Call::Push(99)),
-        Line::Calls(2, Call::Close),
-        Line::Runs(1),
-        Line::Runs(0),
-    ];
-    let rows = [
-        Row {
-            lines: &installers,
-            granted: 2,
-            blocks: 2,
-            bound: 4,
-        },
-        Row {
-            lines: &stopped,
-            granted: 2,
-            blocks: 2,
-            bound: 3,
-        },
-        Row {
-            lines: &READING,
-            granted: 2,
-            blocks: 2,
-            bound: 3,
-        },
-    ];
-    are_counted(&rt, rt.alloc(), &rows)
-}
-
-/// A step at which no block is granted asks the allocator for none: of the first block, and of the one behind it.
-#[test]
-fn refused_steps_ask_for_nothing(rt: HostRuntime) -> Result<(), Fail> {
-    let first = [
-        Line::Begins(0, Call::Push(1)),
-        Line::Steps(0, 2),
-        Line::IsRefused(0),
-        Line::Begins(0, Call::ForcePush(2)),
-        Line::Steps(0, 2),
-        Line::IsRefused(0),
-    ];
-    let second = [
-        Line::Pushes(0, 30),
-        Line::Begins(0, Call::Push(31)),
-        Line::Steps(0, 2),
-        Line::IsRefused(0),
-    ];
-    let rows = [
-        Row {
-            lines: &first,
-            granted: 0,
-            blocks: 0,
-            bound: 2,
-        },
-        Row {
-            lines: &second,
-            granted: 1,
-            blocks: 1,
-            bound: 3,
-        },
-    ];
-    are_counted(&rt, rt.alloc(), &rows)
+fn blocks_are_those_that_are_allocated(rt: HostRuntime) -> Result<(), Fail> {
+    for row in ROWS.iter() {
+        assert_eq!(rt; row.counted(rt.alloc())?, row.expected(), "{}", row.name);
+    }
+    Ok(())
 }
 
 /// How many blocks live in the machine after these lines, and how many allocations in all; and how many once it is dropped.
@@ -247,13 +231,13 @@ fn lives_after(alloc: Global, lines: &[Line]) -> Result<(u64, u64, u64), Fail> {
 /// A block that all others have passed stays while its last reader has not read, and this reader gives it up: one block is left then.
 #[test]
 fn one_block_is_left(rt: HostRuntime) -> Result<(), Fail> {
-    let idle = [Line::Steps(0, 3)];
-    let rows: [(&[Line], u64); 3] = [(&idle, 0), (&READING[..4], 2), (&READING, 1)];
-    for (lines, blocks) in rows {
-        assert_eq!(rt;
-            lives_after(rt.alloc(), lines)?,
-            (blocks, blocks.wrapping_add(MACHINE_LISTS), 0)
-        );
+    for (name, lines, blocks) in [
+        ("idle", &[Line::Steps(0, 3)][..], 0u64),
+        ("last reader stopped", &READING[..4], 2),
+        ("last reader gone", &READING[..], 1),
+    ] {
+        let wanted = (blocks, blocks.wrapping_add(MACHINE_LISTS), 0);
+        assert_eq!(rt; lives_after(rt.alloc(), lines)?, wanted, "{name}");
     }
     Ok(())
 }

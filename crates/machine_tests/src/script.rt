@@ -1,4 +1,4 @@
-//! Scripts: what the parties of a run do, line by line, and what is told of it.
+//! Scripts: what the parties of a run do, line by line, and what is to be told of it.
 ghost use Rattle.queue_machine.specs.Replays.{CanReplay};
 
 use queue_machine::replay;
@@ -8,7 +8,6 @@ use queue_steps::model::{Call, Reply};
 use queue_steps::sizes::LONE_STEPS;
 use queue_steps::steps::Kind;
 use std::alloc::{AllocError, Global};
-use std::fmt::Debug;
 use std::process::Abort;
 
 /// A line of a script. Its first part is the party that does it.
@@ -108,41 +107,6 @@ impl Script {
     }
 }
 
-/// What is told of the run of these lines.
-pub(crate) fn told_of(
-    alloc: Global,
-    kind: Kind,
-    parties: usize,
-    lines: &[Line],
-) -> Result<Told, AllocError>
-    requires { CanReplay kind }
-{
-    let Script { events } = Script::of(alloc, lines)?;
-    let run = replay(alloc, kind, parties, events)?;
-    let effects = without_numbers(alloc, run.effects.as_slice())?;
-    let replies = without_numbers(alloc, run.replies.as_slice())?;
-    Ok(Told {
-        run,
-        effects,
-        replies,
-    })
-}
-
-/// Asserts the list that is left by each of these runs.
-pub(crate) fn leave(
-    rt: &impl Abort,
-    alloc: Global,
-    kind: Kind,
-    rows: &[(&[Line], &[u64])],
-) -> Result<(), AllocError>
-    requires { CanReplay kind }
-{
-    for (lines, left) in rows {
-        told_of(alloc, kind, 3, lines)?.left_is(rt, left);
-    }
-    Ok(())
-}
-
 /// The words of a queue after these lines.
 pub(crate) fn words_of(
     alloc: Global,
@@ -156,101 +120,120 @@ pub(crate) fn words_of(
     words_after(alloc, kind, parties, events)
 }
 
-/// What is told of events, without their numbers.
-fn without_numbers<T: Copy>(
+/// Something that is to be told of a run.
+#[derive(Clone, Copy)]
+pub(crate) enum Fact<'a> {
+    /// Each effect, with its party.
+    Effects(&'a [(usize, EffectKind)]),
+    /// The effects that come next after so many, with their parties.
+    NextEffects(usize, &'a [(usize, EffectKind)]),
+    /// Each effect, with the number of its event and its party.
+    NumberedEffects(&'a [(usize, usize, EffectKind)]),
+    /// Each reply, with its party.
+    Replies(&'a [(usize, Reply<u64>)]),
+    /// Each reply after so many, with its party.
+    LastReplies(usize, &'a [(usize, Reply<u64>)]),
+    /// Each reply, with the number of its event and its party.
+    NumberedReplies(&'a [(usize, usize, Reply<u64>)]),
+    /// How many replies there are.
+    RepliesCount(usize),
+    /// Which events were skipped.
+    Skipped(&'a [usize]),
+    /// The list that is left.
+    Left(&'a [u64]),
+    /// How many blocks there were at most, and their bound.
+    Peak(usize, usize),
+}
+
+/// A run: what its parties do, and what is to be told of it.
+#[derive(Clone, Copy)]
+pub(crate) struct Run<'a> {
+    /// Its case, which a failure tells.
+    pub(crate) name: &'a str,
+    pub(crate) parties: usize,
+    pub(crate) lines: &'a [Line],
+    pub(crate) facts: &'a [Fact<'a>],
+}
+
+/// Whether these come next after so many entries.
+fn come_next<T: PartialEq>(
+    told: &[(usize, usize, T)],
+    before: usize,
+    wanted: &[(usize, T)],
+) -> bool {
+    let mut at = before;
+    let mut right = true;
+    for (party, sought) in wanted {
+        right = match told.get(at) {
+            Some((_, of, found)) => *of == *party && *found == *sought && right,
+            None => false,
+        };
+        at = at.saturating_add(1);
+    }
+    right
+}
+
+/// Whether these are all entries after so many.
+fn come_last<T: PartialEq>(
+    told: &[(usize, usize, T)],
+    before: usize,
+    wanted: &[(usize, T)],
+) -> bool {
+    told.len().checked_sub(before) == Some(wanted.len()) && come_next(told, before, wanted)
+}
+
+impl Fact<'_> {
+    /// Whether this is told of a run.
+    fn is_told(&self, run: &Replay<u64>) -> bool {
+        let effects = run.effects.as_slice();
+        let replies = run.replies.as_slice();
+        match *self {
+            Fact::Effects(wanted) => come_last(effects, 0, wanted),
+            Fact::NextEffects(before, wanted) => come_next(effects, before, wanted),
+            Fact::NumberedEffects(wanted) => effects == wanted,
+            Fact::Replies(wanted) => come_last(replies, 0, wanted),
+            Fact::LastReplies(before, wanted) => come_last(replies, before, wanted),
+            Fact::NumberedReplies(wanted) => replies == wanted,
+            Fact::RepliesCount(count) => replies.len() == count,
+            Fact::Skipped(wanted) => run.skipped.as_slice() == wanted,
+            Fact::Left(wanted) => run.left.as_slice() == wanted,
+            Fact::Peak(blocks, bound) => run.peak == Peak { blocks, bound },
+        }
+    }
+}
+
+/// Asserts what is told of a run. A failure names the run, counts the facts before the one that is not told, and prints what is told.
+pub(crate) fn is_told(
+    rt: &impl Abort,
     alloc: Global,
-    entries: &[(usize, usize, T)],
-) -> Result<Vec<(usize, T)>, AllocError> {
-    let mut kept = Vec::new(alloc);
-    for (_, party, told) in entries {
-        kept.push((*party, *told))?;
+    kind: Kind,
+    run: &Run,
+) -> Result<(), AllocError>
+    requires { CanReplay kind }
+{
+    let Script { events } = Script::of(alloc, run.lines)?;
+    let told = replay(alloc, kind, run.parties, events)?;
+    for (number, fact) in run.facts.iter().enumerate() {
+        assert!(rt;
+            fact.is_told(&told),
+            "{}, fact {number}: {told:?}",
+            run.name
+        );
     }
-    Ok(kept)
+    Ok(())
 }
 
-/// Asserts that this is what is told.
-pub(crate) fn is_told<T: Debug + PartialEq>(rt: &impl Abort, told: &[T], expected: &[T]) {
-    assert_eq!(rt; told, expected);
-}
-
-/// What is told of a run.
-#[derive(Drop)]
-pub(crate) struct Told {
-    run: Replay<u64>,
-    /// Its effects, without the numbers of the events.
-    effects: Vec<(usize, EffectKind)>,
-    /// Its replies, without the numbers of the events.
-    replies: Vec<(usize, Reply<u64>)>,
-}
-
-impl Told {
-    /// Asserts each effect, with its party.
-    pub(crate) fn effects_are(&self, rt: &impl Abort, effects: &[(usize, EffectKind)]) {
-        is_told(rt, self.effects.as_slice(), effects);
+/// Asserts what is told of each run.
+pub(crate) fn are_told(
+    rt: &impl Abort,
+    alloc: Global,
+    kind: Kind,
+    runs: &[Run],
+) -> Result<(), AllocError>
+    requires { CanReplay kind }
+{
+    for run in runs {
+        is_told(rt, alloc, kind, run)?;
     }
-
-    /// Asserts the effects that come next after so many, with their parties.
-    pub(crate) fn effects_after(
-        &self,
-        rt: &impl Abort,
-        count: usize,
-        effects: &[(usize, EffectKind)],
-    ) {
-        assert!(rt; count <= self.effects.len() && effects.len() <= self.effects.len() - count);
-        is_told(rt, &self.effects[count..count + effects.len()], effects);
-    }
-
-    /// Asserts each effect, with the number of its event and its party.
-    pub(crate) fn numbered_effects_are(
-        &self,
-        rt: &impl Abort,
-        effects: &[(usize, usize, EffectKind)],
-    ) {
-        is_told(rt, self.run.effects.as_slice(), effects);
-    }
-
-    /// Asserts each reply, with its party.
-    pub(crate) fn replies_are(&self, rt: &impl Abort, replies: &[(usize, Reply<u64>)]) {
-        is_told(rt, self.replies.as_slice(), replies);
-    }
-
-    /// Asserts each reply, with the number of its event and its party.
-    pub(crate) fn numbered_replies_are(
-        &self,
-        rt: &impl Abort,
-        replies: &[(usize, usize, Reply<u64>)],
-    ) {
-        is_told(rt, self.run.replies.as_slice(), replies);
-    }
-
-    /// Asserts each reply after so many, with its party.
-    pub(crate) fn replies_after(
-        &self,
-        rt: &impl Abort,
-        count: usize,
-        replies: &[(usize, Reply<u64>)],
-    ) {
-        assert!(rt; count <= self.replies.len());
-        is_told(rt, &self.replies[count..], replies);
-    }
-
-    /// Asserts how many replies there are.
-    pub(crate) fn replies_count(&self, rt: &impl Abort, count: usize) {
-        is_told(rt, &[self.replies.len()], &[count]);
-    }
-
-    /// Asserts which events were skipped.
-    pub(crate) fn skipped_are(&self, rt: &impl Abort, skipped: &[usize]) {
-        is_told(rt, self.run.skipped.as_slice(), skipped);
-    }
-
-    /// Asserts the list that is left.
-    pub(crate) fn left_is(&self, rt: &impl Abort, left: &[u64]) {
-        is_told(rt, self.run.left.as_slice(), left);
-    }
-
-    /// Asserts how many blocks there were at most, and their bound.
-    pub(crate) fn peak_is(&self, rt: &impl Abort, blocks: usize, bound: usize) {
-        is_told(rt, &[self.run.peak], &[Peak { blocks, bound }]);
-    }
+    Ok(())
 }

@@ -16,85 +16,128 @@ fn is_printed<E: Display + Debug + Drop>(
     Ok(())
 }
 
+/// An error, what is printed of it, and whether it is said to be of each of two kinds.
+type Told<E> = (E, &'static str, bool, bool);
+
+/// Whether it is that of an empty queue, and that of a closed one.
+static POP: [Told<PopError>; 2] = [
+    (
+        PopError::Empty,
+        "Empty|     Empty|Empty     |Empty",
+        true,
+        false,
+    ),
+    (
+        PopError::Closed,
+        "Closed|    Closed|Closed    |Closed",
+        false,
+        true,
+    ),
+];
+
+/// Whether it is that of a full queue, and that of a closed one.
+static PUSH: [Told<PushError<u64>>; 3] = [
+    (
+        PushError::Full(7),
+        "Full|      Full|Full      |Full(7)",
+        true,
+        false,
+    ),
+    (
+        PushError::Closed(7),
+        "Closed|    Closed|Closed    |Closed(7)",
+        false,
+        true,
+    ),
+    (
+        PushError::NoMemory(7),
+        "NoMemory|  NoMemory|NoMemory  |NoMemory(7)",
+        false,
+        false,
+    ),
+];
+
+static FORCE: [(ForcePushError<u64>, &str); 2] = [
+    (
+        ForcePushError::Closed(7),
+        "Closed|    Closed|Closed    |Closed(7)",
+    ),
+    (
+        ForcePushError::NoMemory(7),
+        "NoMemory|  NoMemory|NoMemory  |NoMemory(7)",
+    ),
+];
+
 #[test]
 fn each_error_is_printed(rt: HostRuntime) -> Result<(), AllocError> {
-    for (error, expected) in [
-        (PopError::Empty, "Empty|     Empty|Empty     |Empty"),
-        (PopError::Closed, "Closed|    Closed|Closed    |Closed"),
-    ] {
-        is_printed(&rt, rt.alloc(), error, expected)?;
+    for (error, text, _, _) in POP.iter() {
+        is_printed(&rt, rt.alloc(), *error, text)?;
     }
-    for (error, expected) in [
-        (PushError::Full(7u64), "Full|      Full|Full      |Full(7)"),
-        (
-            PushError::Closed(7),
-            "Closed|    Closed|Closed    |Closed(7)",
-        ),
-        (
-            PushError::NoMemory(7),
-            "NoMemory|  NoMemory|NoMemory  |NoMemory(7)",
-        ),
-    ] {
-        is_printed(&rt, rt.alloc(), error, expected)?;
+    for (error, text, _, _) in PUSH.iter() {
+        is_printed(&rt, rt.alloc(), *error, text)?;
     }
-    for (error, expected) in [
-        (
-            ForcePushError::Closed(7u64),
-            "Closed|    Closed|Closed    |Closed(7)",
-        ),
-        (
-            ForcePushError::NoMemory(7),
-            "NoMemory|  NoMemory|NoMemory  |NoMemory(7)",
-        ),
-    ] {
-        is_printed(&rt, rt.alloc(), error, expected)?;
+    for (error, text) in FORCE.iter() {
+        is_printed(&rt, rt.alloc(), *error, text)?;
     }
     Ok(())
 }
 
 #[test]
 fn each_predicate_is_true_on_its_variant_alone(rt: HostRuntime) {
-    for (error, empty, closed) in [
-        (PopError::Empty, true, false),
-        (PopError::Closed, false, true),
-    ] {
-        assert_eq!(rt; (error.is_empty(), error.is_closed()), (empty, closed));
+    for (error, text, empty, closed) in POP.iter() {
+        let right = error.is_empty() == *empty && error.is_closed() == *closed;
+        assert!(rt; right, "{text}");
     }
-    for (error, full, closed) in [
-        (PushError::Full(7u64), true, false),
-        (PushError::Closed(7), false, true),
-        (PushError::NoMemory(7), false, false),
-    ] {
-        assert_eq!(rt; (error.is_full(), error.is_closed()), (full, closed));
+    for (error, text, full, closed) in PUSH.iter() {
+        let right = error.is_full() == *full && error.is_closed() == *closed;
+        assert!(rt; right, "{text}");
     }
 }
+
+static OF_PUSHES: [(PushError<u64>, u64); 3] = [
+    (PushError::Full(7), 7),
+    (PushError::Closed(8), 8),
+    (PushError::NoMemory(9), 9),
+];
+
+static OF_FORCED_PUSHES: [(ForcePushError<u64>, u64); 2] = [
+    (ForcePushError::Closed(7), 7),
+    (ForcePushError::NoMemory(8), 8),
+];
 
 #[test]
 fn into_inner_hands_the_value_back(rt: HostRuntime) {
-    for (error, value) in [
-        (PushError::Full(7u64), 7),
-        (PushError::Closed(8), 8),
-        (PushError::NoMemory(9), 9),
-    ] {
-        assert_eq!(rt; error.into_inner(), value);
+    for (error, value) in OF_PUSHES.iter() {
+        assert_eq!(rt; (*error).into_inner(), *value);
     }
-    for (error, value) in [
-        (ForcePushError::Closed(7u64), 7),
-        (ForcePushError::NoMemory(8), 8),
-    ] {
-        assert_eq!(rt; error.into_inner(), value);
+    for (error, value) in OF_FORCED_PUSHES.iter() {
+        assert_eq!(rt; (*error).into_inner(), *value);
     }
 }
 
+/// Two errors, and whether they are equal.
+static PAIRS: [(&str, PushError<u64>, PushError<u64>, bool); 3] = [
+    ("the same", PushError::Full(7), PushError::Full(7), true),
+    (
+        "another value",
+        PushError::Full(7),
+        PushError::Full(8),
+        false,
+    ),
+    (
+        "another variant",
+        PushError::Full(7),
+        PushError::Closed(7),
+        false,
+    ),
+];
+
 #[test]
 fn errors_are_equal_by_variant_and_value(rt: HostRuntime) {
-    for (one, other, equal) in [
-        (PushError::Full(7u64), PushError::Full(7), true),
-        (PushError::Full(7), PushError::Full(8), false),
-        (PushError::Full(7), PushError::Closed(7), false),
-    ] {
-        assert_eq!(rt; one == other, equal);
+    for (name, one, other, equal) in PAIRS.iter() {
+        assert!(rt; (*one == *other) == *equal, "{name}");
     }
-    assert!(rt; PopError::Empty != PopError::Closed);
-    assert!(rt; ForcePushError::Closed(7u64) != ForcePushError::NoMemory(7));
+    let pops = PopError::Empty == PopError::Closed;
+    let forced = ForcePushError::Closed(7u64) == ForcePushError::NoMemory(7);
+    assert!(rt; !pops && !forced);
 }

@@ -1,19 +1,8 @@
 //! Iterators over queues with one owner, and what is printed of both.
-ghost use Rattle.std.specs.Prelude.{◌<◌, IfSome};
-
+use crate::rows::open;
 use exclusive_queue::Exclusive;
 use std::alloc::{AllocError, Global};
-use std::test::Fail;
-
-/// An empty open queue of this capacity, or without one.
-fn open(alloc: Global, cap: Option<usize>) -> Result<Exclusive<u64>, AllocError>
-    requires { IfSome cap (λ slots. 0 < slots) }
-{
-    match cap {
-        Some(slots) => Exclusive::bounded(alloc, slots),
-        None => Ok(Exclusive::unbounded(alloc)),
-    }
-}
+use std::process::Abort;
 
 /// Takes so many items off, if there are as many, and gives a number whose digits they are.
 fn digits(queue: &mut Exclusive<u64>, count: usize) -> u64 {
@@ -36,20 +25,28 @@ static WALKS: [(Option<usize>, usize, u64, u64); 8] = [
     (None, 4, 123, 0),
 ];
 
+/// Takes so many items of 1, 2, 3 off, and then the rest. Gives the digits of both, and what is left, whether the queue is closed, and whether it takes one more.
+fn walked(mut queue: Exclusive<u64>, count: usize) -> (u64, u64, usize, bool, bool) {
+    for item in 1..4 {
+        let _ = queue.push(item);
+    }
+    let first = digits(&mut queue, count);
+    let rest = digits(&mut queue, 5);
+    (
+        first,
+        rest,
+        queue.len(),
+        queue.is_closed(),
+        queue.push(4) == Ok(()),
+    )
+}
+
 /// What an iterator did not take stays, and the queue is as open as before.
 #[test]
-fn an_iterator_takes_from_the_front(rt: HostRuntime) -> Result<(), Fail> {
+fn an_iterator_takes_from_the_front(rt: HostRuntime) -> Result<(), AllocError> {
     for (cap, count, taken, left) in WALKS.iter() {
-        let mut queue = open(rt.alloc(), *cap)?;
-        for item in 1..4 {
-            let _ = queue.push(item);
-        }
-        let first = digits(&mut queue, *count);
-        let rest = digits(&mut queue, 5);
-        assert_eq!(rt;
-            (first, rest, queue.len(), queue.is_closed(), queue.push(4)),
-            (*taken, *left, 0, false, Ok(()))
-        );
+        let seen = walked(open(rt.alloc(), *cap)?, *count);
+        assert_eq!(rt; seen, (*taken, *left, 0, false, true));
     }
     Ok(())
 }
@@ -58,12 +55,9 @@ fn an_iterator_takes_from_the_front(rt: HostRuntime) -> Result<(), Fail> {
 static BLOCKS: [(usize, usize, usize); 4] = [(0, 0, 3), (30, 30, 3), (31, 31, 2), (71, 70, 1)];
 
 #[test]
-fn an_iterator_gives_blocks_back(rt: HostRuntime) -> Result<(), Fail> {
+fn an_iterator_gives_blocks_back(rt: HostRuntime) -> Result<(), AllocError> {
     for (count, taken, blocks) in BLOCKS.iter() {
-        let mut queue = open(rt.alloc(), None)?;
-        for item in 0..70 {
-            let _ = queue.push(item);
-        }
+        let mut queue = filled(rt.alloc(), None, 70)?;
         let came = queue.try_iter().take(*count).count();
         assert_eq!(rt; (came, queue.blocks()), (*taken, *blocks));
     }
@@ -116,21 +110,38 @@ static TEXTS: [(Option<usize>, u64, bool, &str); 7] = [
     ),
 ];
 
+/// A queue of this capacity, or without one, with so many items.
+fn filled(alloc: Global, cap: Option<usize>, items: u64) -> Result<Exclusive<u64>, AllocError> {
+    let mut queue = open(alloc, cap)?;
+    for item in 0..items {
+        let _ = queue.push(item);
+    }
+    Ok(queue)
+}
+
+/// Asserts what is printed of a queue, and of an iterator over it.
+fn is_printed(
+    rt: &impl Abort,
+    alloc: Global,
+    queue: &mut Exclusive<u64>,
+    text: &str,
+) -> Result<(), AllocError> {
+    let queue_text = format!(in alloc; "{queue:?}")?;
+    let items = queue.try_iter();
+    let both = format!(in alloc; "{queue_text} {items:?}")?;
+    let wanted = format!(in alloc; "{text} Iter({text})")?;
+    assert_eq!(rt; both.as_str(), wanted.as_str());
+    Ok(())
+}
+
 #[test]
-fn queues_and_iterators_are_printed(rt: HostRuntime) -> Result<(), Fail> {
+fn queues_and_iterators_are_printed(rt: HostRuntime) -> Result<(), AllocError> {
     for (cap, items, closed, text) in TEXTS.iter() {
-        let mut queue = open(rt.alloc(), *cap)?;
-        for item in 0..*items {
-            let _ = queue.push(item);
-        }
+        let mut queue = filled(rt.alloc(), *cap, *items)?;
         if *closed {
             queue.close();
         }
-        let queue_text = format!(in rt.alloc(); "{queue:?}")?;
-        let iter = queue.try_iter();
-        let both = format!(in rt.alloc(); "{queue_text} {iter:?}")?;
-        let expected = format!(in rt.alloc(); "{text} Iter({text})")?;
-        assert_eq!(rt; both.as_str(), expected.as_str());
+        is_printed(&rt, rt.alloc(), &mut queue, text)?;
     }
     Ok(())
 }

@@ -1,301 +1,344 @@
 //! Rings with one owner: replies from the table of the abstract queue, the ends of ranges, and want of memory.
 use crate::counted::Counted;
-use crate::rows::{Row, replies_are};
+use crate::rows::{Line, Made, Story, are_refused, open, tell_all};
 use exclusive_queue::Exclusive;
 use exclusive_queue::errors::{ForcePushError, PopError, PushError};
 use queue_steps::model::{Call, Reply};
 use queue_steps::sizes::{LIMIT, MAX_CAPACITY};
 use std::alloc::{AllocError, Global};
 use std::cell::Cell;
-use std::process::Abort;
-use std::test::Fail;
-use test_allocators::{Refusal, Refusing};
+use test_allocators::Refusal;
 
 #[test]
-fn first_in_first_out(rt: HostRuntime) -> Result<(), Fail> {
+fn first_in_first_out(rt: HostRuntime) -> Result<(), AllocError> {
     let mut queue: Exclusive<char> = Exclusive::bounded(rt.alloc(), 2)?;
-    assert_eq!(rt; queue.push('a'), Ok(()));
-    assert_eq!(rt; queue.push('b'), Ok(()));
-    assert_eq!(rt; queue.push('c'), Err(PushError::Full('c')));
-    assert_eq!(rt; queue.pop(), Ok('a'));
-    assert_eq!(rt; queue.pop(), Ok('b'));
-    assert_eq!(rt; queue.pop(), Err(PopError::Empty));
+    let pushed = [queue.push('a'), queue.push('b'), queue.push('c')];
+    let popped = [queue.pop(), queue.pop(), queue.pop()];
+    assert_eq!(rt;
+        (pushed, popped),
+        (
+            [Ok(()), Ok(()), Err(PushError::Full('c'))],
+            [Ok('a'), Ok('b'), Err(PopError::Empty)]
+        )
+    );
     Ok(())
 }
 
-#[test]
-fn displaced_fronts(rt: HostRuntime) -> Result<(), Fail> {
-    replies_are(
-        &rt,
-        &mut Exclusive::bounded(rt.alloc(), 3)?,
-        &[
-            (Call::ForcePush(1), Reply::ForcePush(Ok(None))),
-            (Call::ForcePush(2), Reply::ForcePush(Ok(None))),
-            (Call::ForcePush(3), Reply::ForcePush(Ok(None))),
-            (Call::Push(4), Reply::Push(Err(PushError::Full(4)))),
-            (Call::ForcePush(5), Reply::ForcePush(Ok(Some(1)))),
-            (Call::ForcePush(6), Reply::ForcePush(Ok(Some(2)))),
-            (Call::Close, Reply::Close(true)),
-            (
+static STORIES: [Story; 10] = [
+    Story {
+        name: "displaced fronts",
+        refusal: Refusal::Never,
+        made: Made::Bounded(3),
+        lines: &[
+            Line::Call(Call::ForcePush(1), Reply::ForcePush(Ok(None))),
+            Line::Call(Call::ForcePush(2), Reply::ForcePush(Ok(None))),
+            Line::Call(Call::ForcePush(3), Reply::ForcePush(Ok(None))),
+            Line::Call(Call::Push(4), Reply::Push(Err(PushError::Full(4)))),
+            Line::Call(Call::ForcePush(5), Reply::ForcePush(Ok(Some(1)))),
+            Line::Call(Call::ForcePush(6), Reply::ForcePush(Ok(Some(2)))),
+            Line::Call(Call::Close, Reply::Close(true)),
+            Line::Call(
                 Call::ForcePush(7),
                 Reply::ForcePush(Err(ForcePushError::Closed(7))),
             ),
-            (Call::Pop, Reply::Pop(Ok(3))),
-            (Call::Pop, Reply::Pop(Ok(5))),
-            (Call::Pop, Reply::Pop(Ok(6))),
-            (Call::Pop, Reply::Pop(Err(PopError::Closed))),
+            Line::Call(Call::Pop, Reply::Pop(Ok(3))),
+            Line::Call(Call::Pop, Reply::Pop(Ok(5))),
+            Line::Call(Call::Pop, Reply::Pop(Ok(6))),
+            Line::Call(Call::Pop, Reply::Pop(Err(PopError::Closed))),
         ],
-    );
-    Ok(())
-}
-
-#[test]
-fn displaced_fronts_over_laps(rt: HostRuntime) -> Result<(), Fail> {
-    replies_are(
-        &rt,
-        &mut Exclusive::bounded(rt.alloc(), 5)?,
-        &[
-            (Call::ForcePush(1), Reply::ForcePush(Ok(None))),
-            (Call::ForcePush(2), Reply::ForcePush(Ok(None))),
-            (Call::ForcePush(3), Reply::ForcePush(Ok(None))),
-            (Call::ForcePush(4), Reply::ForcePush(Ok(None))),
-            (Call::ForcePush(5), Reply::ForcePush(Ok(None))),
-            (Call::ForcePush(6), Reply::ForcePush(Ok(Some(1)))),
-            (Call::ForcePush(7), Reply::ForcePush(Ok(Some(2)))),
-            (Call::ForcePush(8), Reply::ForcePush(Ok(Some(3)))),
-            (Call::ForcePush(9), Reply::ForcePush(Ok(Some(4)))),
-            (Call::ForcePush(10), Reply::ForcePush(Ok(Some(5)))),
-            (Call::Pop, Reply::Pop(Ok(6))),
-            (Call::ForcePush(11), Reply::ForcePush(Ok(None))),
-            (Call::ForcePush(12), Reply::ForcePush(Ok(Some(7)))),
-            (Call::ForcePush(13), Reply::ForcePush(Ok(Some(8)))),
-            (Call::ForcePush(14), Reply::ForcePush(Ok(Some(9)))),
-            (Call::ForcePush(15), Reply::ForcePush(Ok(Some(10)))),
-            (Call::Close, Reply::Close(true)),
-            (
+    },
+    Story {
+        name: "displaced fronts over laps",
+        refusal: Refusal::Never,
+        made: Made::Bounded(5),
+        lines: &[
+            Line::Call(Call::ForcePush(1), Reply::ForcePush(Ok(None))),
+            Line::Call(Call::ForcePush(2), Reply::ForcePush(Ok(None))),
+            Line::Call(Call::ForcePush(3), Reply::ForcePush(Ok(None))),
+            Line::Call(Call::ForcePush(4), Reply::ForcePush(Ok(None))),
+            Line::Call(Call::ForcePush(5), Reply::ForcePush(Ok(None))),
+            Line::Call(Call::ForcePush(6), Reply::ForcePush(Ok(Some(1)))),
+            Line::Call(Call::ForcePush(7), Reply::ForcePush(Ok(Some(2)))),
+            Line::Call(Call::ForcePush(8), Reply::ForcePush(Ok(Some(3)))),
+            Line::Call(Call::ForcePush(9), Reply::ForcePush(Ok(Some(4)))),
+            Line::Call(Call::ForcePush(10), Reply::ForcePush(Ok(Some(5)))),
+            Line::Call(Call::Pop, Reply::Pop(Ok(6))),
+            Line::Call(Call::ForcePush(11), Reply::ForcePush(Ok(None))),
+            Line::Call(Call::ForcePush(12), Reply::ForcePush(Ok(Some(7)))),
+            Line::Call(Call::ForcePush(13), Reply::ForcePush(Ok(Some(8)))),
+            Line::Call(Call::ForcePush(14), Reply::ForcePush(Ok(Some(9)))),
+            Line::Call(Call::ForcePush(15), Reply::ForcePush(Ok(Some(10)))),
+            Line::Call(Call::Close, Reply::Close(true)),
+            Line::Call(
                 Call::ForcePush(40),
                 Reply::ForcePush(Err(ForcePushError::Closed(40))),
             ),
-            (Call::Pop, Reply::Pop(Ok(11))),
-            (Call::Pop, Reply::Pop(Ok(12))),
-            (Call::Pop, Reply::Pop(Ok(13))),
-            (Call::Pop, Reply::Pop(Ok(14))),
-            (Call::Pop, Reply::Pop(Ok(15))),
-            (Call::Pop, Reply::Pop(Err(PopError::Closed))),
+            Line::Call(Call::Pop, Reply::Pop(Ok(11))),
+            Line::Call(Call::Pop, Reply::Pop(Ok(12))),
+            Line::Call(Call::Pop, Reply::Pop(Ok(13))),
+            Line::Call(Call::Pop, Reply::Pop(Ok(14))),
+            Line::Call(Call::Pop, Reply::Pop(Ok(15))),
+            Line::Call(Call::Pop, Reply::Pop(Err(PopError::Closed))),
         ],
-    );
-    Ok(())
-}
+    },
+    // Told about, filled with one item, emptied twice and closed.
+    Story {
+        name: "looks",
+        refusal: Refusal::Never,
+        made: Made::Bounded(2),
+        lines: &[
+            Line::Blocks(0),
+            Line::Call(Call::Capacity, Reply::Capacity(Some(2))),
+            Line::Call(Call::IsEmpty, Reply::IsEmpty(true)),
+            Line::Call(Call::IsFull, Reply::IsFull(false)),
+            Line::Call(Call::Len, Reply::Len(0)),
+            Line::Call(Call::Push(7), Reply::Push(Ok(()))),
+            Line::Call(Call::Len, Reply::Len(1)),
+            Line::Call(Call::IsEmpty, Reply::IsEmpty(false)),
+            Line::Call(Call::IsFull, Reply::IsFull(false)),
+            Line::Call(Call::Pop, Reply::Pop(Ok(7))),
+            Line::Call(Call::Len, Reply::Len(0)),
+            Line::Call(Call::IsEmpty, Reply::IsEmpty(true)),
+            Line::Call(Call::IsFull, Reply::IsFull(false)),
+            Line::Call(Call::Push(8), Reply::Push(Ok(()))),
+            Line::Call(Call::Pop, Reply::Pop(Ok(8))),
+            Line::Call(Call::Pop, Reply::Pop(Err(PopError::Empty))),
+            Line::Call(Call::IsClosed, Reply::IsClosed(false)),
+            Line::Call(Call::Close, Reply::Close(true)),
+            Line::Call(Call::IsClosed, Reply::IsClosed(true)),
+            Line::Call(Call::Close, Reply::Close(false)),
+            Line::Blocks(0),
+        ],
+    },
+    Story {
+        name: "looks at a full ring",
+        refusal: Refusal::Never,
+        made: Made::Bounded(2),
+        lines: &[
+            Line::Call(Call::Push(1), Reply::Push(Ok(()))),
+            Line::Call(Call::Push(2), Reply::Push(Ok(()))),
+            Line::Call(Call::Len, Reply::Len(2)),
+            Line::Call(Call::IsEmpty, Reply::IsEmpty(false)),
+            Line::Call(Call::IsFull, Reply::IsFull(true)),
+            Line::Call(Call::Pop, Reply::Pop(Ok(1))),
+            Line::Call(Call::Len, Reply::Len(1)),
+            Line::Call(Call::IsEmpty, Reply::IsEmpty(false)),
+            Line::Call(Call::IsFull, Reply::IsFull(false)),
+        ],
+    },
+    // The last items that a queue accepts.
+    Story {
+        name: "last item",
+        refusal: Refusal::Never,
+        made: Made::BoundedAfter(2, LIMIT - 1),
+        lines: &[
+            Line::Call(Call::Push(1), Reply::Push(Ok(()))),
+            Line::Call(Call::Push(2), Reply::Push(Err(PushError::Closed(2)))),
+            Line::Call(Call::IsClosed, Reply::IsClosed(true)),
+            Line::Call(Call::Close, Reply::Close(false)),
+            Line::Call(Call::Pop, Reply::Pop(Ok(1))),
+            Line::Call(Call::Pop, Reply::Pop(Err(PopError::Closed))),
+        ],
+    },
+    Story {
+        name: "last two items",
+        refusal: Refusal::Never,
+        made: Made::BoundedAfter(2, LIMIT - 2),
+        lines: &[
+            Line::Call(Call::Push(1), Reply::Push(Ok(()))),
+            Line::Call(Call::Push(2), Reply::Push(Ok(()))),
+            Line::Call(Call::Push(3), Reply::Push(Err(PushError::Closed(3)))),
+            Line::Call(Call::Close, Reply::Close(false)),
+            Line::Call(Call::Pop, Reply::Pop(Ok(1))),
+            Line::Call(Call::Pop, Reply::Pop(Ok(2))),
+            Line::Call(Call::Pop, Reply::Pop(Err(PopError::Closed))),
+        ],
+    },
+    Story {
+        name: "last two items, and a forced push",
+        refusal: Refusal::Never,
+        made: Made::BoundedAfter(2, LIMIT - 2),
+        lines: &[
+            Line::Call(Call::Push(1), Reply::Push(Ok(()))),
+            Line::Call(Call::Push(2), Reply::Push(Ok(()))),
+            Line::Call(Call::IsClosed, Reply::IsClosed(false)),
+            Line::Call(
+                Call::ForcePush(3),
+                Reply::ForcePush(Err(ForcePushError::Closed(3))),
+            ),
+            Line::Call(Call::Len, Reply::Len(2)),
+        ],
+    },
+    Story {
+        name: "last two items, and a close",
+        refusal: Refusal::Never,
+        made: Made::BoundedAfter(2, LIMIT - 2),
+        lines: &[
+            Line::Call(Call::Push(1), Reply::Push(Ok(()))),
+            Line::Call(Call::Push(2), Reply::Push(Ok(()))),
+            Line::Call(Call::Close, Reply::Close(true)),
+            Line::Call(Call::Push(3), Reply::Push(Err(PushError::Closed(3)))),
+            Line::Call(Call::Pop, Reply::Pop(Ok(1))),
+            Line::Call(Call::Pop, Reply::Pop(Ok(2))),
+            Line::Call(Call::Pop, Reply::Pop(Err(PopError::Closed))),
+        ],
+    },
+    Story {
+        name: "no item any more",
+        refusal: Refusal::Never,
+        made: Made::BoundedAfter(2, LIMIT),
+        lines: &[
+            Line::Call(
+                Call::ForcePush(1),
+                Reply::ForcePush(Err(ForcePushError::Closed(1))),
+            ),
+            Line::Call(Call::Close, Reply::Close(false)),
+            Line::Call(Call::Pop, Reply::Pop(Err(PopError::Closed))),
+        ],
+    },
+    // No request comes after those of the constructor, which are four; two allocations stay.
+    Story {
+        name: "no request after the constructor",
+        refusal: Refusal::Nth(5),
+        made: Made::Bounded(3),
+        lines: &[
+            Line::Forces(10),
+            Line::Call(Call::Pop, Reply::Pop(Ok(7))),
+            Line::Call(Call::Close, Reply::Close(true)),
+            Line::Allocated(2, 4),
+        ],
+    },
+];
 
-/// An empty queue of this capacity that is told about, filled with one item, emptied twice and closed.
-fn looked_at(rt: &impl Abort, mut queue: Exclusive<u64>, capacity: Option<usize>) {
-    assert_eq!(rt; queue.blocks(), 0);
-    replies_are(
-        rt,
-        &mut queue,
-        &[
-            (Call::Capacity, Reply::Capacity(capacity)),
-            (Call::IsEmpty, Reply::IsEmpty(true)),
-            (Call::IsFull, Reply::IsFull(false)),
-            (Call::Len, Reply::Len(0)),
-            (Call::Push(7), Reply::Push(Ok(()))),
-            (Call::Len, Reply::Len(1)),
-            (Call::IsEmpty, Reply::IsEmpty(false)),
-            (Call::IsFull, Reply::IsFull(capacity == Some(1))),
-            (Call::Pop, Reply::Pop(Ok(7))),
-            (Call::Len, Reply::Len(0)),
-            (Call::IsEmpty, Reply::IsEmpty(true)),
-            (Call::IsFull, Reply::IsFull(false)),
-            (Call::Push(8), Reply::Push(Ok(()))),
-            (Call::Pop, Reply::Pop(Ok(8))),
-            (Call::Pop, Reply::Pop(Err(PopError::Empty))),
-            (Call::IsClosed, Reply::IsClosed(false)),
-            (Call::Close, Reply::Close(true)),
-            (Call::IsClosed, Reply::IsClosed(true)),
-            (Call::Close, Reply::Close(false)),
-        ],
-    );
-    assert_eq!(rt; queue.blocks(), if capacity.is_none() { 1 } else { 0 });
+#[test]
+fn stories_of_rings(rt: HostRuntime) -> Result<(), AllocError> {
+    tell_all(&rt, rt.alloc(), &STORIES)
 }
 
 #[test]
-fn looks(rt: HostRuntime) -> Result<(), Fail> {
-    looked_at(&rt, Exclusive::bounded(rt.alloc(), 1)?, Some(1));
-    looked_at(&rt, Exclusive::bounded(rt.alloc(), 2)?, Some(2));
-    looked_at(&rt, Exclusive::unbounded(rt.alloc()), None);
-    replies_are(
-        &rt,
-        &mut Exclusive::bounded(rt.alloc(), 2)?,
-        &[
-            (Call::Push(1), Reply::Push(Ok(()))),
-            (Call::Push(2), Reply::Push(Ok(()))),
-            (Call::Len, Reply::Len(2)),
-            (Call::IsEmpty, Reply::IsEmpty(false)),
-            (Call::IsFull, Reply::IsFull(true)),
-            (Call::Pop, Reply::Pop(Ok(1))),
-            (Call::Len, Reply::Len(1)),
-            (Call::IsEmpty, Reply::IsEmpty(false)),
-            (Call::IsFull, Reply::IsFull(false)),
-        ],
-    );
-    Ok(())
-}
-
-/// The last items that a queue accepts: by the number of items accepted before, the calls.
-#[test]
-fn last_items(rt: HostRuntime) -> Result<(), Fail> {
-    let tables: [(u64, &[Row]); 5] = [
-        (
-            LIMIT - 1,
-            &[
-                (Call::Push(1), Reply::Push(Ok(()))),
-                (Call::Push(2), Reply::Push(Err(PushError::Closed(2)))),
-                (Call::IsClosed, Reply::IsClosed(true)),
-                (Call::Close, Reply::Close(false)),
-                (Call::Pop, Reply::Pop(Ok(1))),
-                (Call::Pop, Reply::Pop(Err(PopError::Closed))),
-            ],
-        ),
-        (
-            LIMIT - 2,
-            &[
-                (Call::Push(1), Reply::Push(Ok(()))),
-                (Call::Push(2), Reply::Push(Ok(()))),
-                (Call::Push(3), Reply::Push(Err(PushError::Closed(3)))),
-                (Call::Close, Reply::Close(false)),
-                (Call::Pop, Reply::Pop(Ok(1))),
-                (Call::Pop, Reply::Pop(Ok(2))),
-                (Call::Pop, Reply::Pop(Err(PopError::Closed))),
-            ],
-        ),
-        (
-            LIMIT - 2,
-            &[
-                (Call::Push(1), Reply::Push(Ok(()))),
-                (Call::Push(2), Reply::Push(Ok(()))),
-                (Call::IsClosed, Reply::IsClosed(false)),
-                (
-                    Call::ForcePush(3),
-                    Reply::ForcePush(Err(ForcePushError::Closed(3))),
-                ),
-                (Call::Len, Reply::Len(2)),
-            ],
-        ),
-        (
-            LIMIT - 2,
-            &[
-                (Call::Push(1), Reply::Push(Ok(()))),
-                (Call::Push(2), Reply::Push(Ok(()))),
-                (Call::Close, Reply::Close(true)),
-                (Call::Push(3), Reply::Push(Err(PushError::Closed(3)))),
-                (Call::Pop, Reply::Pop(Ok(1))),
-                (Call::Pop, Reply::Pop(Ok(2))),
-                (Call::Pop, Reply::Pop(Err(PopError::Closed))),
-            ],
-        ),
-        (
-            LIMIT,
-            &[
-                (
-                    Call::ForcePush(1),
-                    Reply::ForcePush(Err(ForcePushError::Closed(1))),
-                ),
-                (Call::Close, Reply::Close(false)),
-                (Call::Pop, Reply::Pop(Err(PopError::Closed))),
-            ],
-        ),
-    ];
-    for (accepted, rows) in tables {
-        replies_are(
-            &rt,
-            &mut Exclusive::bounded_after(rt.alloc(), 2, accepted)?,
-            rows,
-        );
-    }
-    Ok(())
-}
-
-#[test]
-fn capacities(rt: HostRuntime) -> Result<(), Fail> {
+fn capacities(rt: HostRuntime) -> Result<(), AllocError> {
     for cap in 1..10usize {
-        let queue: Exclusive<u64> = Exclusive::bounded(rt.alloc(), cap)?;
-        assert_eq!(rt; queue.capacity(), Some(cap));
+        assert_eq!(rt; open(rt.alloc(), Some(cap))?.capacity(), Some(cap));
     }
     Ok(())
 }
 
-/// What the constructors answer, over an allocator that counts and refuses.
-type Made<'a> = Result<Exclusive<u64, &'a Refusing<Global>>, AllocError>;
+/// What is refused: the request, how the queue is to be made, and how many requests there are then.
+static REFUSED: [(&str, Refusal, Made, u64); 17] = [
+    // Without a request: a capacity above the greatest, and one whose slots are more bytes than one allocation may have.
+    (
+        "above the greatest",
+        Refusal::Never,
+        Made::Bounded(MAX_CAPACITY + 1),
+        0,
+    ),
+    (
+        "above the greatest, after 7",
+        Refusal::Never,
+        Made::BoundedAfter(MAX_CAPACITY + 1, 7),
+        0,
+    ),
+    (
+        "the greatest",
+        Refusal::Never,
+        Made::Bounded(MAX_CAPACITY),
+        0,
+    ),
+    (
+        "the greatest, after 7",
+        Refusal::Never,
+        Made::BoundedAfter(MAX_CAPACITY, 7),
+        0,
+    ),
+    (
+        "the last number",
+        Refusal::Never,
+        Made::Bounded(usize::MAX),
+        0,
+    ),
+    (
+        "the last number, after 7",
+        Refusal::Never,
+        Made::BoundedAfter(usize::MAX, 7),
+        0,
+    ),
+    // By the first request.
+    ("two slots", Refusal::Always, Made::Bounded(2), 1),
+    ("three slots", Refusal::Always, Made::Bounded(3), 1),
+    ("many slots", Refusal::Always, Made::Bounded(1 << 40), 1),
+    // A ring asks for its first slots and its first words, and for the two blocks that it keeps. Each request is refused in turn: no request comes after it.
+    (
+        "first request",
+        Refusal::Nth(1),
+        Made::BoundedAfter(3, 0),
+        1,
+    ),
+    (
+        "second request",
+        Refusal::Nth(2),
+        Made::BoundedAfter(3, 0),
+        2,
+    ),
+    (
+        "third request",
+        Refusal::Nth(3),
+        Made::BoundedAfter(3, 0),
+        3,
+    ),
+    (
+        "fourth request",
+        Refusal::Nth(4),
+        Made::BoundedAfter(3, 0),
+        4,
+    ),
+    (
+        "first request at the limit",
+        Refusal::Nth(1),
+        Made::BoundedAfter(3, LIMIT),
+        1,
+    ),
+    (
+        "second request at the limit",
+        Refusal::Nth(2),
+        Made::BoundedAfter(3, LIMIT),
+        2,
+    ),
+    (
+        "third request at the limit",
+        Refusal::Nth(3),
+        Made::BoundedAfter(3, LIMIT),
+        3,
+    ),
+    (
+        "fourth request at the limit",
+        Refusal::Nth(4),
+        Made::BoundedAfter(3, LIMIT),
+        4,
+    ),
+];
 
+/// No ring is made where a request is refused, and nothing stays allocated.
 #[test]
-fn refused_without_a_request(rt: HostRuntime) {
-    for cap in [MAX_CAPACITY + 1, MAX_CAPACITY, usize::MAX] {
-        let heap = Refusing::new(rt.alloc(), Refusal::Never);
-        let queue: Made = Exclusive::bounded(&heap, cap);
-        assert!(rt; queue.is_err());
-        let queue: Made = Exclusive::bounded_after(&heap, cap, 7);
-        assert!(rt; queue.is_err());
-        assert_eq!(rt; heap.requests(), 0, "at {cap}");
-    }
+fn refused_rings(rt: HostRuntime) {
+    are_refused(&rt, rt.alloc(), &REFUSED);
 }
 
-#[test]
-fn refused_requests(rt: HostRuntime) {
-    for cap in [2, 3, 1 << 40] {
-        let heap = Refusing::new(rt.alloc(), Refusal::Always);
-        let queue: Made = Exclusive::bounded(&heap, cap);
-        assert!(rt; queue.is_err());
-        assert!(rt; heap.requests() == 1 && heap.live() == 0);
-    }
-}
-
-/// A ring asks for its first slots and its first words, and for the two blocks that it keeps. Each request is refused in turn: no request comes after it, and nothing stays allocated.
-#[test]
-fn each_request_of_a_ring_refused(rt: HostRuntime) {
-    for number in 1..=4u64 {
-        for accepted in [0, LIMIT] {
-            let heap = Refusing::new(rt.alloc(), Refusal::Nth(number));
-            let queue: Made = Exclusive::bounded_after(&heap, 3, accepted);
-            assert!(rt; queue.is_err());
-            assert!(rt;
-                heap.requests() == number && heap.live() == 0,
-                "at {number}"
-            );
-        }
-    }
-}
-
-#[test]
-fn no_request_after_the_constructor(rt: HostRuntime) -> Result<(), Fail> {
-    let heap = Refusing::new(rt.alloc(), Refusal::Nth(5));
-    let mut queue: Exclusive<u64, &Refusing<Global>> = Exclusive::bounded(&heap, 3)?;
-    for value in 0..10u64 {
-        assert!(rt; queue.force_push(value).is_ok());
-    }
-    assert_eq!(rt; queue.pop(), Ok(7));
-    assert!(rt; queue.close());
-    assert!(rt; heap.requests() == 4 && heap.live() == 2);
-    drop(queue);
-    assert!(rt; heap.requests() == 4 && heap.live() == 0);
-
-    let heap = Refusing::new(rt.alloc(), Refusal::Always);
-    let mut queue: Exclusive<u64, &Refusing<Global>> = Exclusive::bounded(&heap, 1)?;
-    assert_eq!(rt; queue.push(5), Ok(()));
-    assert_eq!(rt; heap.requests(), 0);
-    Ok(())
-}
-
-#[test]
-fn drops_what_is_left(rt: HostRuntime) -> Result<(), Fail> {
+/// Pushes five items by force into three slots, pops one and drops the queue. Gives how many were dropped after each.
+fn drops_of(alloc: Global) -> Result<[u64; 3], AllocError> {
     let drops = Cell::new(0);
-    let mut queue: Exclusive<Counted> = Exclusive::bounded(rt.alloc(), 3)?;
+    let mut queue: Exclusive<Counted> = Exclusive::bounded(alloc, 3)?;
     for _ in 0..5u64 {
-        assert!(rt; queue.force_push(Counted::by(&drops)).is_ok());
+        let _ = queue.force_push(Counted::by(&drops));
     }
-    assert_eq!(rt; drops.get(), 2);
-    assert!(rt; queue.pop().is_ok());
-    assert_eq!(rt; drops.get(), 3);
+    let displaced = drops.get();
+    let _ = queue.pop();
+    let taken = drops.get();
     drop(queue);
-    assert_eq!(rt; drops.get(), 5);
+    Ok([displaced, taken, drops.get()])
+}
+
+#[test]
+fn drops_what_is_left(rt: HostRuntime) -> Result<(), AllocError> {
+    assert_eq!(rt; drops_of(rt.alloc())?, [2, 3, 5]);
     Ok(())
 }

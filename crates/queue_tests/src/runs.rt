@@ -1,5 +1,6 @@
 //! Runs of calls, on each kind of queue and on a form without its queue.
 use crate::counted::Counted;
+use crate::rows::{Heap, open};
 use exclusive_queue::{Exclusive, Single, Store, run};
 use queue_steps::errors::PushError;
 use queue_steps::model::{Call, Reply};
@@ -7,7 +8,7 @@ use std::alloc::{AllocError, Allocator, Global};
 use std::cell::Cell;
 use std::process::Abort;
 use std::test::Fail;
-use test_allocators::{Refusal, Refusing};
+use test_allocators::Refusal;
 
 /// A run in which queues of capacity 1, of capacity 2 and without one answer each otherwise.
 static CALLS: [Call<u64>; 7] = [
@@ -93,32 +94,22 @@ fn run_gives<S: Store<u64>>(
 }
 
 #[test]
-fn one_run_on_each_kind(rt: HostRuntime) -> Result<(), Fail> {
+fn one_run_on_each_kind(rt: HostRuntime) -> Result<(), AllocError> {
     let alloc = rt.alloc();
-    for (cap, replies) in [(1, &OF_ONE_SLOT), (2, &OF_TWO_SLOTS)] {
-        run_gives(
-            &rt,
-            alloc,
-            &mut Exclusive::bounded(alloc, cap)?,
-            &CALLS,
-            replies,
-        )?;
+    for (cap, replies) in [
+        (Some(1), &OF_ONE_SLOT),
+        (Some(2), &OF_TWO_SLOTS),
+        (None, &WITHOUT_A_CAPACITY),
+    ] {
+        run_gives(&rt, alloc, &mut open(alloc, cap)?, &CALLS, replies)?;
     }
     run_gives(
         &rt,
         alloc,
-        &mut Exclusive::unbounded(alloc),
-        &CALLS,
-        &WITHOUT_A_CAPACITY,
-    )?;
-    run_gives(
-        &rt,
-        alloc,
-        &mut Exclusive::bounded(alloc, 2)?,
+        &mut open(alloc, Some(2))?,
         &EACH_CALL,
         &TO_EACH_CALL,
-    )?;
-    Ok(())
+    )
 }
 
 #[test]
@@ -132,26 +123,38 @@ fn one_run_on_a_slot(rt: HostRuntime) -> Result<(), Fail> {
     Ok(())
 }
 
+/// Two calls with an item each, and a close between them, whose list is the heap's first request.
+fn calls_of<'a, 'b>(
+    heap: &'a Heap,
+    drops: &'b Cell<u64>,
+) -> Result<Vec<Call<Counted<'b>>, &'a Heap>, Fail> {
+    Ok(vec![in heap;
+        Call::Push(Counted::by(drops)),
+        Call::Close,
+        Call::ForcePush(Counted::by(drops)),
+    ]?)
+}
+
+/// What is seen where there is no room for the replies: whether that is told, how many items were dropped then, and in the end; and the length of the queue, and whether it is closed.
+fn without_room(alloc: Global, heap: &Heap) -> Result<(bool, [u64; 2], usize, bool), Fail> {
+    let drops = Cell::new(0);
+    let mut queue: Exclusive<Counted> = Exclusive::bounded(alloc, 2)?;
+    let _ = queue.push(Counted::by(&drops));
+    let refused = run(heap, &mut queue, calls_of(heap, &drops)?).is_err();
+    let before = drops.get();
+    let (len, closed) = (queue.len(), queue.is_closed());
+    drop(queue);
+    Ok((refused, [before, drops.get()], len, closed))
+}
+
 /// Where there is no room for the replies no call is made, and what the calls carry is dropped once.
 #[test]
 fn no_room_for_the_replies(rt: HostRuntime) -> Result<(), Fail> {
-    let drops = Cell::new(0);
-    let heap = Refusing::new(rt.alloc(), Refusal::Nth(2));
-    let mut queue: Exclusive<Counted> = Exclusive::bounded(rt.alloc(), 2)?;
-    assert!(rt; queue.push(Counted::by(&drops)).is_ok());
-    let calls = vec![in &heap;
-        Call::Push(Counted::by(&drops)),
-        Call::Close,
-        Call::ForcePush(Counted::by(&drops)),
-    ]?;
-    let told = run(&heap, &mut queue, calls);
-    assert!(rt; told.is_err());
+    let heap = Heap::new(rt.alloc(), Refusal::Nth(2));
+    let seen = without_room(rt.alloc(), &heap)?;
     assert_eq!(rt;
-        (drops.get(), queue.len(), queue.is_closed()),
-        (2, 1, false)
+        (seen, heap.requests(), heap.live()),
+        ((true, [2, 3], 1, false), 2, 0)
     );
-    assert_eq!(rt; (heap.requests(), heap.live()), (2, 0));
-    drop(queue);
-    assert_eq!(rt; drops.get(), 3);
     Ok(())
 }

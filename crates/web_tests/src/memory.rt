@@ -1,9 +1,17 @@
 //! What is asked of an allocator, and that all of it is given back.
+ghost use Rattle.std.specs.Prelude.{◌≡◌, [], ◌∷◌, length};
+ghost use denote.RawPtr.{InBlock};
+ghost use Rattle.block_web.specs.Seats.{Sits, Same};
+ghost use Rattle.block_web.specs.Web.{AllVacant, alive_at};
+
 use block_web::block::{Link, Loose, unset};
 use block_web::chain::Chain;
 use block_web::closing;
 use block_web::hub::Hub;
-use std::alloc::Global;
+use block_web::line::{Line, Place, View};
+use block_web::sizes::SLOTS;
+use block_web::web::{Seat, Web};
+use std::alloc::{AllocError, Allocator, Global};
 use std::test::*;
 use test_allocators::{Refusal, Refusing};
 
@@ -41,12 +49,19 @@ fn two_blocks_made_and_given_up(rt: HostRuntime) -> Result<(), Fail> {
     let alloc = &heap;
     let (link, block) = Loose::<u8, &Heap>::make(&alloc)?;
     let one = heap.live();
-    assert!(rt; !refuses_block::<u8>(&alloc));
+    let refused = refuses_block::<u8>(&alloc);
     let again = heap.live();
     block.give_up(&alloc, link);
     assert_eq!(rt;
-        (one, again, heap.live(), heap.most(), heap.requests()),
-        (1, 1, 0, 2, 2)
+        (
+            refused,
+            one,
+            again,
+            heap.live(),
+            heap.most(),
+            heap.requests()
+        ),
+        (false, 1, 1, 0, 2, 2)
     );
     Ok(())
 }
@@ -62,39 +77,59 @@ fn both_ends_are_one_request(rt: HostRuntime) -> Result<(), Fail> {
     Ok(())
 }
 
-#[test]
-fn a_chain_keeps_words_items_and_its_block(rt: HostRuntime) -> Result<(), Fail> {
-    let heap = Heap::new(rt.alloc(), Refusal::Never);
-    let alloc = &heap;
-    let (link, block) = Loose::<u8, &Heap>::make(&alloc)?;
-    let mut chain = Chain::empty(&alloc);
+/// Lays a block, writes a word and an item into it, and reads both. Gives them, and how many allocations live while the block lies there.
+fn use_a_block<A: Allocator>(alloc: &A, heap: &Heap) -> Result<(u64, u8, u64), AllocError> {
+    let (link, block) = Loose::<u8, A>::make(alloc)?;
+    let mut chain = Chain::empty(alloc);
     chain.lay(block);
     chain.set_word(0, link, 3, 9);
     chain.put(0, link, 30, 7);
-    assert_eq!(rt; chain.word(0, link, 3), 9);
-    assert_eq!(rt; chain.take(0, link, 30), 7);
+    let word = chain.word(0, link, 3);
+    let item = chain.take(0, link, 30);
     let laid = heap.live();
-    chain.lift(0, link).give_up(&alloc, link);
+    chain.lift(0, link).give_up(alloc, link);
     chain.leave();
-    assert_eq!(rt; (laid, heap.live(), heap.requests()), (1, 0, 1));
+    Ok((word, item, laid))
+}
+
+#[test]
+fn a_chain_keeps_words_items_and_its_block(rt: HostRuntime) -> Result<(), Fail> {
+    let heap = Heap::new(rt.alloc(), Refusal::Never);
+    let seen = use_a_block(&&heap, &heap)?;
+    assert_eq!(rt; (seen, heap.live(), heap.requests()), ((9, 7, 1), 0, 1));
     Ok(())
+}
+
+/// Asks whether a queue is closed and closes it, and again by a party that is parted off and taken back. Gives what was answered.
+fn close_twice<A: Allocator>(
+    queue: &Web<u8, View, Place<u8>, Line, A>,
+    seat: &mut Seat<u8, View, A>,
+    tail: Link<u8>,
+) -> [bool; 4]
+    requires { Sits seat.old queue.now × InBlock tail.ptr × (tail.ptr ≡ queue.now.key.tail.ptr) }
+    ensures { Same seat.new seat.old }
+{
+    let before = closing::is_closed(queue, seat, tail);
+    let first = closing::close(queue, seat, tail);
+    let mut other = closing::part(queue, seat, tail);
+    let second = closing::close(queue, &mut other, tail);
+    let after = closing::is_closed(queue, &mut other, tail);
+    closing::take_back(queue, seat, other, tail);
+    [before, first, second, after]
 }
 
 #[test]
 fn a_closed_queue_gives_its_memory_back(rt: HostRuntime) -> Result<(), Fail> {
     let heap = Heap::new(rt.alloc(), Refusal::Never);
     let alloc = &heap;
-    let (web, mut seat, hub, tail, head) = closing::open::<u8, &Heap>(&alloc)?;
-    let before = closing::is_closed(&web, &mut seat, tail);
-    let first = closing::close(&web, &mut seat, tail);
-    let mut other = closing::part(&web, &mut seat, tail);
-    let second = closing::close(&web, &mut other, tail);
-    let after = closing::is_closed(&web, &mut other, tail);
-    closing::take_back(&web, &mut seat, other, tail);
+    let (queue, mut seat, hub, tail, head) = closing::open::<u8, &Heap>(&alloc)?;
+    let answers = close_twice(&queue, &mut seat, tail);
     let shared = heap.live();
-    closing::end(web, seat, hub, &alloc, tail, head);
-    assert_eq!(rt; (before, first, second, after), (false, true, false, true));
-    assert_eq!(rt; (shared, heap.live(), heap.requests()), (1, 0, 1));
+    closing::end(queue, seat, hub, &alloc, tail, head);
+    assert_eq!(rt;
+        (answers, shared, heap.live(), heap.requests()),
+        ([false, true, false, true], 1, 0, 1)
+    );
     Ok(())
 }
 
@@ -102,16 +137,22 @@ fn a_closed_queue_gives_its_memory_back(rt: HostRuntime) -> Result<(), Fail> {
 fn what_is_refused_leaves_nothing(rt: HostRuntime) {
     let heap = Heap::new(rt.alloc(), Refusal::Always);
     let alloc = &heap;
-    assert!(rt; refuses_block::<u8>(&alloc) && refuses_ends::<u8>(&alloc));
-    assert_eq!(rt; (heap.live(), heap.requests()), (0, 2));
+    let refused = [refuses_block::<u8>(&alloc), refuses_ends::<u8>(&alloc)];
+    assert_eq!(rt;
+        (refused, heap.live(), heap.requests()),
+        ([true, true], 0, 2)
+    );
 }
 
 #[test]
 fn huge_slots_are_refused_without_a_request(rt: HostRuntime) {
     let heap = Heap::new(rt.alloc(), Refusal::Never);
     let alloc = &heap;
-    assert!(rt; refuses_block::<Huge>(&alloc) && refuses_ends::<Huge>(&alloc));
-    assert_eq!(rt; (heap.live(), heap.requests()), (0, 0));
+    let refused = [refuses_block::<Huge>(&alloc), refuses_ends::<Huge>(&alloc)];
+    assert_eq!(rt;
+        (refused, heap.live(), heap.requests()),
+        ([true, true], 0, 0)
+    );
 }
 
 #[test]
@@ -119,8 +160,9 @@ fn a_link_tells_whether_it_leads_anywhere(rt: HostRuntime) -> Result<(), Fail> {
     let alloc: Global = rt.alloc();
     let (link, block) = Loose::<u8, Global>::make_testable(&alloc)?;
     let nowhere: Link<u8> = unset();
-    assert!(rt; link.get().is_some() && nowhere.get().is_none());
+    let leads = [link.get().is_some(), nowhere.get().is_some()];
     block.give_up(&alloc, link);
+    assert_eq!(rt; leads, [true, false]);
     Ok(())
 }
 
@@ -132,35 +174,53 @@ fn a_counted_block_tells_that_it_is_somewhere(rt: HostRuntime) -> Result<(), Fai
     let found = link.get().is_some();
     let made = heap.live();
     block.give_up(&alloc, link);
-    assert!(rt; found);
-    assert_eq!(rt; (made, heap.live(), heap.requests()), (1, 0, 1));
+    assert_eq!(rt;
+        (found, made, heap.live(), heap.requests()),
+        (true, 1, 0, 1)
+    );
     Ok(())
+}
+
+/// Lays two blocks, and lifts, gives up and forgets the first.
+fn leave_the_second<A: Allocator>(
+    alloc: &A,
+    first: Link<u8>,
+    one: Loose<u8, A>,
+    two: Loose<u8, A>,
+) -> Chain<u8, A>
+    requires one { (one.heap ≡ alloc.now) × (one.at ≡ first.ptr) × (length one.homes ≡ SLOTS) × AllVacant one.homes }
+    requires two { two.heap ≡ alloc.now }
+    ensures { (result.heap ≡ alloc.now) × (result.blocks ≡ alive_at two.at two.next two.words two.homes ∷ []) }
+{
+    let mut chain = Chain::empty(alloc);
+    chain.lay(one);
+    chain.lay(two);
+    chain.lift(0, first).give_up(alloc, first);
+    chain.forget();
+    chain
+}
+
+/// Writes a word of the second of two blocks, which is number 0 once the first is forgotten. Gives the word, and how many allocations live while the block lies there.
+fn use_the_second<A: Allocator>(alloc: &A, heap: &Heap) -> Result<(u64, u64), AllocError> {
+    let (first, one) = Loose::<u8, A>::make(alloc)?;
+    let Ok((second, two)) = Loose::<u8, A>::make(alloc) else {
+        one.give_up(alloc, first);
+        return Err(AllocError);
+    };
+    let mut chain = leave_the_second(alloc, first, one, two);
+    chain.set_word(0, second, 3, 9);
+    let word = chain.word(0, second, 3);
+    let kept = heap.live();
+    chain.lift(0, second).give_up(alloc, second);
+    chain.leave();
+    Ok((word, kept))
 }
 
 /// The second of two blocks is the first, once the one before it is gone and forgotten.
 #[test]
 fn a_chain_forgets_a_block_that_is_gone(rt: HostRuntime) -> Result<(), Fail> {
     let heap = Heap::new(rt.alloc(), Refusal::Never);
-    let alloc = &heap;
-    let (first, one) = Loose::<u8, &Heap>::make(&alloc)?;
-    match Loose::<u8, &Heap>::make(&alloc) {
-        Ok((second, two)) => {
-            let mut chain = Chain::empty(&alloc);
-            chain.lay(one);
-            chain.lay(two);
-            chain.lift(0, first).give_up(&alloc, first);
-            chain.forget();
-            chain.set_word(0, second, 3, 9);
-            assert_eq!(rt; chain.word(0, second, 3), 9);
-            let kept = heap.live();
-            chain.lift(0, second).give_up(&alloc, second);
-            chain.leave();
-            assert_eq!(rt; (kept, heap.live(), heap.requests()), (1, 0, 2));
-            Ok(())
-        }
-        Err(error) => {
-            one.give_up(&alloc, first);
-            Err(error.into())
-        }
-    }
+    let seen = use_the_second(&&heap, &heap)?;
+    assert_eq!(rt; (seen, heap.live(), heap.requests()), ((9, 1), 0, 2));
+    Ok(())
 }

@@ -1,4 +1,4 @@
-use Rattle.web_tests.proofs.memory.a_chain_forgets_a_block_that_is_gone.Given as goal
+use Rattle.web_tests.proofs.memory.leave_the_second.Given as goal
 
 -- the block that was lifted
 abbrev pub ghost-forget : goal.ghost-forget
