@@ -29,3 +29,12 @@ invariant_of-result g c =
       counted = sym slots;
       sized = ((let a = made.0 in omega arith), made.5 ∙ sym slots, (subst IsRing (sym slots) ring).0, (subst IsRing (sym slots) ring).1);
     }
+
+pub first_words-requires : goal.first_words-requires
+first_words-requires g c = search rules
+
+pub returns-clause-first : goal.returns-clause-first
+returns-clause-first g c = search rules
+
+pub returns-clause-limited : goal.returns-clause-limited
+returns-clause-limited g c = search rules

@@ -28,3 +28,12 @@ returns-then-is_only-3 g c =
     let woke : c.wake-seat.result.sitter.view ≡ r.view = ap (λ m. m.view) c.wake-seat.ensures.seat.1 in
     let same : c.is_only-in-Chain-Web.new.seat.sitter.view ≡ c.wake-seat.result.sitter.view = ap (λ m. m.view) c.is_only-in-Chain-Web.ensures.same.1 in
     finishes None c.args.party _ r.view c.is_only-in-Chain-Web.new.seat.sitter.view c.end.result is_v none (same ∙ woke) (subst (λ d. IsEntire d.known.share) woke c.if-is_only-3.ensures.counted) c.end.ensures.0 c.end.ensures.1 (λ some. absurd (some refl))
+
+pub returns-else-is_only : goal.returns-else-is_only
+returns-else-is_only g c = search rules
+
+pub returns-else-is_only-2 : goal.returns-else-is_only-2
+returns-else-is_only-2 g c = search rules
+
+pub returns-else-is_only-3 : goal.returns-else-is_only-3
+returns-else-is_only-3 g c = search rules
