@@ -9,7 +9,7 @@ use crate::numbers::parse_number;
 use queue_steps::model::Call;
 
 /// What a party does.
-#[derive(Clone, Copy, Debug, Drop, PartialEq, Eq)]
+#[derive(Clone, Copy, Drop)]
 pub enum Action {
     /// It begins a call.
     Call(Call<u64>),
@@ -22,7 +22,7 @@ pub enum Action {
 }
 
 /// A line of a replay.
-#[derive(Clone, Copy, Debug, Drop, PartialEq, Eq)]
+#[derive(Clone, Copy, Drop)]
 pub struct ReplayLine {
     /// The number of the party, which need not be there.
     pub party: u64,

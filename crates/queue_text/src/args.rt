@@ -22,7 +22,7 @@ pub enum KindName {
 }
 
 /// What the program is to do.
-#[derive(Clone, Copy, Debug, PartialEq, Eq)]
+#[derive(Clone, Copy)]
 pub enum Form {
     /// Runs a script on a queue with one owner.
     Script(KindName),

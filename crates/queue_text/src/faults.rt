@@ -5,7 +5,7 @@ ghost use Rattle.queue_text.specs.Faults.{fault_text, fault_status};
 use std::fmt;
 
 /// Why a run ended before its work was done.
-#[derive(Clone, Copy, Debug, PartialEq, Eq)]
+#[derive(Clone, Copy)]
 pub enum Fault {
     /// The arguments name no form.
     Usage,

@@ -16,7 +16,7 @@ pub const MOST_ITEMS: u64 = 1_000_000;
 const _: () = prove!(MOST_THREADS == 64 && MOST_ITEMS == 1_000_000);
 
 /// The kind of a queue, how many threads push and how many pop, and how many items each of the first pushes.
-#[derive(Clone, Copy, Debug, PartialEq, Eq)]
+#[derive(Clone, Copy)]
 pub struct Load {
     pub kind: KindName,
     pub pushers: u64,

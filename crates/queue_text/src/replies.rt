@@ -7,7 +7,7 @@ use queue_steps::model::Reply;
 use std::fmt;
 
 /// A reply as it is printed.
-#[derive(Clone, Copy, Debug, PartialEq, Eq)]
+#[derive(Clone, Copy)]
 pub struct Shown(pub Reply<u64>);
 
 impl Shown {

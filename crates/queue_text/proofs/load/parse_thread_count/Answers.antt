@@ -1,4 +1,4 @@
-use Rattle.std.proofs.Common.{arith}
+use Rattle.std.proofs.Common.{arith, rules, tests}
 use Rattle.queue_text.specs.KindNames.{IsThreadCount}
 use Rattle.queue_text.proofs.ReadLoad.{other_number, thread_word}
 use Rattle.queue_text.proofs.load.parse_thread_count.Goals as goal
@@ -11,3 +11,6 @@ returns-then-count-eq0 c =
       | then-count-eq0-via-then-count-eq0 w ↦ omega (arith, is, w.if-count-eq0.true)
       | then-count-eq0-via-else-count-eq0+then-count-gt-MOST_THREADS w ↦ omega (arith, is, w.if-count-gt-MOST_THREADS.true)
     ])
+
+pub returns : goal.returns
+returns c = search (rules, tests)

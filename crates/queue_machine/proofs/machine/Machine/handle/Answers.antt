@@ -18,3 +18,6 @@ returns-in-Some-clause-handles g c =
     let there : call_at (world_of c.args.self.now) c.in-Step.party ≡ Some c.in-Some.running = grind (arith, common_steps) in
     rw c.in-Step.is (handles-step c.args.self.now.kind (world_of c.args.self.now) (world_of c.step.new.self) c.in-Step.party c.in-Step.granted c.step.result.1 c.in-Some.running c.step.result.0
     (slice_set c.args.self.now.calls.items c.in-Step.party c.take.new.self) c.step.ensures.refused there (grind (arith, common_steps)) c.step.ensures.world c.step.ensures.told)
+
+pub returns-then-party-len-clause-handles : goal.returns-then-party-len-clause-handles
+returns-then-party-len-clause-handles g c = grind (arith, common_steps)

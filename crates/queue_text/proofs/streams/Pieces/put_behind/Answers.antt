@@ -1,4 +1,4 @@
-use Rattle.std.proofs.Common.{rules}
+use Rattle.std.proofs.Common.{rules, tests}
 use Rattle.queue_text.proofs.Writing.{put-failed, put-long}
 use Rattle.queue_text.proofs.streams.Pieces.put_behind.Goals as goal
 
@@ -11,3 +11,6 @@ pub returns-then-text-capacity : goal.returns-then-text-capacity
 returns-then-text-capacity g c =
     let wrote = rw (c.deref.ensures.value, c.self.view_is) at c.in_ok-write_text.ensures.written in
     put-long _ _ _ _ _ _ _ wrote c.clear.ensures.items c.write_text-then-text-capacity.ensures.written c.write_text-then-text-capacity.ensures.begun
+
+pub returns : goal.returns
+returns g c = search (rules, tests)
