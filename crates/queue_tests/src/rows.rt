@@ -2,7 +2,7 @@
 use exclusive_queue::{Exclusive, PushError};
 use queue_steps::model::{Call, Reply};
 use queue_steps::sizes::LIMIT;
-use std::alloc::{AllocError, Global};
+use std::alloc::{AllocError, Allocator, Global};
 use std::process::Abort;
 use test_allocators::{Refusal, Refusing};
 
@@ -84,7 +84,7 @@ pub(crate) struct Story {
 }
 
 /// Makes a call.
-fn answer(queue: &mut Counting<'_>, call: Call<u64>) -> Reply<u64> {
+fn answer<A: Allocator>(queue: &mut Exclusive<u64, A>, call: Call<u64>) -> Reply<u64> {
     match call {
         Call::Push(value) => Reply::Push(queue.push(value)),
         Call::ForcePush(value) => Reply::ForcePush(queue.force_push(value)),
@@ -99,7 +99,7 @@ fn answer(queue: &mut Counting<'_>, call: Call<u64>) -> Reply<u64> {
 }
 
 /// Pushes so many numbers from the first on. Gives whether each was accepted, and the length was right after each.
-fn push_all(queue: &mut Counting<'_>, first: u64, count: u64) -> bool {
+fn push_all<A: Allocator>(queue: &mut Exclusive<u64, A>, first: u64, count: u64) -> bool {
     let mut right = true;
     for before in 0..count {
         let pushed = queue.push(first.wrapping_add(before)).is_ok();
@@ -109,7 +109,7 @@ fn push_all(queue: &mut Counting<'_>, first: u64, count: u64) -> bool {
 }
 
 /// Pops so many numbers from the first on. Gives whether each came in its turn, and the length was right after each.
-fn pop_all(queue: &mut Counting<'_>, first: u64, count: u64) -> bool {
+fn pop_all<A: Allocator>(queue: &mut Exclusive<u64, A>, first: u64, count: u64) -> bool {
     let mut right = true;
     for before in 0..count {
         let popped = queue.pop() == Ok(first.wrapping_add(before));
@@ -154,7 +154,7 @@ fn pop_some(queue: &mut Counting<'_>, heap: &Heap, count: u64) -> bool {
 }
 
 /// Pushes these numbers by force. Gives whether each was accepted.
-fn force_all(queue: &mut Counting<'_>, count: u64) -> bool {
+fn force_all<A: Allocator>(queue: &mut Exclusive<u64, A>, count: u64) -> bool {
     let mut right = true;
     for value in 0..count {
         right = queue.force_push(value).is_ok() && right;
