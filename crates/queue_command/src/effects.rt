@@ -6,7 +6,7 @@ use queue_machine::types::EffectKind;
 use std::fmt;
 
 /// An effect as it is printed.
-#[derive(Clone, Copy, Debug, PartialEq, Eq)]
+#[derive(Clone, Copy)]
 pub struct ShownEffect(pub EffectKind);
 
 impl fmt::Display for ShownEffect {

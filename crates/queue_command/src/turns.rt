@@ -6,7 +6,7 @@ use queue_machine::types::Event;
 use queue_text::actions::{Action, ReplayLine};
 
 /// A turn of a party.
-#[derive(Clone, Copy, Debug, Drop, PartialEq, Eq)]
+#[derive(Clone, Copy, Drop)]
 pub struct Turn {
     /// The number of the line that asks for it, counted from 1.
     pub line: usize,

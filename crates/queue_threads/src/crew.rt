@@ -21,7 +21,7 @@ use std::thread::{Promise, Scope, Threads};
 pub type Queue = ConcurrentQueue<u64>;
 
 /// How many threads push and how many pop, and how much each has to do.
-#[derive(Clone, Copy, Debug, PartialEq, Eq)]
+#[derive(Clone, Copy)]
 pub struct Plan {
     pub pushers: u64,
     pub poppers: u64,
