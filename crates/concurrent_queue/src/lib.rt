@@ -17,5 +17,5 @@ mod turns;
 
 pub use exclusive_queue::{Exclusive, Store, exclusive as exclusive, run};
 pub use queue_steps::errors::{ForcePushError, PopError, PushError};
-pub use queue_steps::{errors as errors, model as model, steps as steps};
+pub use queue_steps::{errors as errors, model as model};
 pub use shared::{ConcurrentQueue, Party, TryIter};
