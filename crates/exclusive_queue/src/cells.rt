@@ -78,6 +78,12 @@ pub(crate) trait Cells<T, B: Copy> {
         requires walk { is_walk_of kind local answer ≡ true }
         ensures { result ≡ next_of kind local answer };
 
+    /// Whether a call passes from block to block. It tells which steps to expect; nothing rests on it.
+    #[inline(always)]
+    fn is_passing(_local: &Local<B>, _answer: &Answer<B>) -> bool {
+        false
+    }
+
     /// The slot and the call's own place change their content.
     fn touch(&mut self, touch: Touch, op: &Op<B>, carried: &mut Option<T>)
         requires { can_touch self.old touch op.now }

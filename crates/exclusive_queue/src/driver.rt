@@ -8,13 +8,14 @@ ghost use Rattle.queue_steps.specs.Looks.{IsLook, look_reply};
 ghost use Rattle.queue_steps.specs.Kinds.{call_kind, call_value};
 ghost use Rattle.queue_steps.specs.declared.model.Call.{Call as SpecCall};
 ghost use Rattle.exclusive_queue.specs.Apart.{FitsCall, SoleApart};
-ghost use Rattle.exclusive_queue.specs.Rounds.{GoesOn, IsUnderWay, EndsRightly, GoesAhead};
+ghost use Rattle.exclusive_queue.specs.Rounds.{GoesOn, IsUnderWay, EndsRightly, GoesAhead, StaysOnWay};
 ghost use Rattle.queue_steps.specs.declared.sizes.TheConstants.{LONE_STEPS};
 
 use crate::cells::Cells;
 use queue_steps::model::{Call, CallKind, Reply, ReplyKind};
 use queue_steps::sizes::{BLOCK_SLOTS, LONE_STEPS};
 use queue_steps::steps::{self, Answer, Kind, Local, Next, Op};
+use std::marker::PhantomData;
 use std::mem;
 use std::ops::ControlFlow;
 
@@ -60,9 +61,9 @@ macro_rules! done {
 
 /// One round of a call whose step is a common one: that step, or the reply.
 ///
-/// The compiler puts a private function where its only call stands. `W` and `AT` tell the calls of this one apart, so that each is a function of its own.
+/// The compiler puts a private function where its only call stands. `R` tells the calls of this one apart, so that each is a function of its own.
 #[inline(always)]
-fn common_round<T, B: Copy, M: Cells<T, B>, W, const AT: u64>(
+fn common_round<T, B: Copy, M: Cells<T, B>, R>(
     cells: &mut M,
     kind: Kind,
     standing: Standing<B>,
@@ -122,9 +123,9 @@ fn walk<T, B: Copy, M: Cells<T, B>>(
     ControlFlow::Continue(standing)
 }
 
-/// One round of a call, whatever its step is.
+/// One round of a call, whatever its step is. `R` tells the calls of this one apart.
 #[inline(always)]
-fn round<T, B: Copy, M: Cells<T, B>>(
+fn round<T, B: Copy, M: Cells<T, B>, R>(
     cells: &mut M,
     kind: Kind,
     standing: Standing<B>,
@@ -138,7 +139,26 @@ fn round<T, B: Copy, M: Cells<T, B>>(
     done!(cells, todo, carried, M::perform)
 }
 
-/// One round of the loop. The walk over a block is most of what it does.
+/// The rounds of a call that passes from block to block. The compiler knows in each where the call stands.
+#[inline(always)]
+fn pass<T, B: Copy, M: Cells<T, B>>(
+    cells: &mut M,
+    kind: Kind,
+    standing: Standing<B>,
+    carried: &mut Option<T>,
+) -> ControlFlow<ReplyKind, Standing<B>>
+    requires { (n : ℕ) × IsUnderWay M.Cells (suc n) kind standing carried.old cells.old }
+    ensures { GoesAhead M.Cells kind standing carried.old cells.old carried.new cells.new result }
+{
+    match round::<T, B, M, Passing<Further<()>>>(cells, kind, standing, carried) {
+        ControlFlow::Break(reply) => ControlFlow::Break(reply),
+        ControlFlow::Continue(after) => <Further<()> as Rounds<T, B, M>>::run(
+            cells, kind, after, carried,
+        ),
+    }
+}
+
+/// One round of the loop, or more where it is known what follows: the walk over a block is most of what it does, and then the passing from block to block.
 #[inline(always)]
 fn turn<T, B: Copy, M: Cells<T, B>>(
     cells: &mut M,
@@ -151,8 +171,10 @@ fn turn<T, B: Copy, M: Cells<T, B>>(
 {
     if M::is_walk(kind, &standing.local, &standing.answer) {
         walk::<T, B, M>(cells, kind, standing, carried)
+    } else if M::is_passing(&standing.local, &standing.answer) {
+        pass::<T, B, M>(cells, kind, standing, carried)
     } else {
-        round::<T, B, M>(cells, kind, standing, carried)
+        round::<T, B, M, ()>(cells, kind, standing, carried)
     }
 }
 
@@ -195,145 +217,98 @@ fn leave<T, B: Copy, M: Cells<T, B>>(
     reply
 }
 
-/// One common round, and then the loop.
-#[inline(always)]
-fn one_common<T, B: Copy, M: Cells<T, B>, W>(
-    cells: &mut M,
-    kind: Kind,
-    standing: Standing<B>,
-    carried: &mut Option<T>,
-) -> ReplyKind
-    requires { IsUnderWay M.Cells LONE_STEPS kind standing carried.old cells.old }
-    ensures { EndsRightly M.Cells kind standing carried.old cells.old carried.new cells.new result }
-{
-    if !M::is_common(kind, &standing.local, &standing.answer) {
-        return leave::<T, B, M>(cells, kind, standing, carried);
-    }
-    match common_round::<T, B, M, W, 1>(cells, kind, standing, carried) {
-        ControlFlow::Break(reply) => reply,
-        ControlFlow::Continue(after) => leave::<T, B, M>(cells, kind, after, carried),
+/// Rounds that stand one after another. They are made of types, one inside another, so that each round is a function of its own with one place where it is called: there the compiler puts it.
+trait Rounds<T, B: Copy, M: Cells<T, B>> {
+    fn run(
+        cells: &mut M,
+        kind: Kind,
+        standing: Standing<B>,
+        carried: &mut Option<T>,
+    ) -> ControlFlow<ReplyKind, Standing<B>>
+        requires { (n : ℕ) × IsUnderWay M.Cells n kind standing carried.old cells.old }
+        ensures { StaysOnWay M.Cells kind standing carried.old cells.old carried.new cells.new result };
+}
+
+/// No more rounds.
+struct Rest<W> {
+    told_apart: PhantomData<W>,
+}
+
+impl<T, B: Copy, M: Cells<T, B>, W> Rounds<T, B, M> for Rest<W> {
+    #[inline(always)]
+    fn run(
+        cells: &mut M,
+        kind: Kind,
+        standing: Standing<B>,
+        carried: &mut Option<T>,
+    ) -> ControlFlow<ReplyKind, Standing<B>>
+        requires { (n : ℕ) × IsUnderWay M.Cells n kind standing carried.old cells.old }
+        ensures { StaysOnWay M.Cells kind standing carried.old cells.old carried.new cells.new result }
+    {
+        let _ = &*cells;
+        let _ = kind;
+        let _ = &*carried;
+        ControlFlow::Continue(standing)
     }
 }
 
-/// Two common rounds one after another, and then the loop.
-#[inline(always)]
-fn two_common<T, B: Copy, M: Cells<T, B>, W>(
-    cells: &mut M,
-    kind: Kind,
-    standing: Standing<B>,
-    carried: &mut Option<T>,
-) -> ReplyKind
-    requires { IsUnderWay M.Cells LONE_STEPS kind standing carried.old cells.old }
-    ensures { EndsRightly M.Cells kind standing carried.old cells.old carried.new cells.new result }
-{
-    if !M::is_common(kind, &standing.local, &standing.answer) {
-        return leave::<T, B, M>(cells, kind, standing, carried);
-    }
-    match common_round::<T, B, M, W, 2>(cells, kind, standing, carried) {
-        ControlFlow::Break(reply) => reply,
-        ControlFlow::Continue(after) => one_common::<T, B, M, W>(cells, kind, after, carried),
+/// A common round, and then those of `R`.
+struct Common<R> {
+    rounds: PhantomData<R>,
+}
+
+impl<T, B: Copy, M: Cells<T, B>, R: Rounds<T, B, M>> Rounds<T, B, M> for Common<R> {
+    #[inline(always)]
+    fn run(
+        cells: &mut M,
+        kind: Kind,
+        standing: Standing<B>,
+        carried: &mut Option<T>,
+    ) -> ControlFlow<ReplyKind, Standing<B>>
+        requires { (n : ℕ) × IsUnderWay M.Cells n kind standing carried.old cells.old }
+        ensures { StaysOnWay M.Cells kind standing carried.old cells.old carried.new cells.new result }
+    {
+        if !M::is_common(kind, &standing.local, &standing.answer) {
+            return ControlFlow::Continue(standing);
+        }
+        match common_round::<T, B, M, R>(cells, kind, standing, carried) {
+            ControlFlow::Break(reply) => ControlFlow::Break(reply),
+            ControlFlow::Continue(after) => R::run(cells, kind, after, carried),
+        }
     }
 }
 
-/// Three common rounds one after another, and then the loop.
-#[inline(always)]
-fn three_common<T, B: Copy, M: Cells<T, B>, W>(
-    cells: &mut M,
-    kind: Kind,
-    standing: Standing<B>,
-    carried: &mut Option<T>,
-) -> ReplyKind
-    requires { IsUnderWay M.Cells LONE_STEPS kind standing carried.old cells.old }
-    ensures { EndsRightly M.Cells kind standing carried.old cells.old carried.new cells.new result }
-{
-    if !M::is_common(kind, &standing.local, &standing.answer) {
-        return leave::<T, B, M>(cells, kind, standing, carried);
-    }
-    match common_round::<T, B, M, W, 3>(cells, kind, standing, carried) {
-        ControlFlow::Break(reply) => reply,
-        ControlFlow::Continue(after) => two_common::<T, B, M, W>(cells, kind, after, carried),
+/// A round of a call that passes from block to block, and then those of `R`.
+struct Passing<R> {
+    rounds: PhantomData<R>,
+}
+
+impl<T, B: Copy, M: Cells<T, B>, R: Rounds<T, B, M>> Rounds<T, B, M> for Passing<R> {
+    #[inline(always)]
+    fn run(
+        cells: &mut M,
+        kind: Kind,
+        standing: Standing<B>,
+        carried: &mut Option<T>,
+    ) -> ControlFlow<ReplyKind, Standing<B>>
+        requires { (n : ℕ) × IsUnderWay M.Cells n kind standing carried.old cells.old }
+        ensures { StaysOnWay M.Cells kind standing carried.old cells.old carried.new cells.new result }
+    {
+        if !M::is_passing(&standing.local, &standing.answer) {
+            return ControlFlow::Continue(standing);
+        }
+        match round::<T, B, M, R>(cells, kind, standing, carried) {
+            ControlFlow::Break(reply) => ControlFlow::Break(reply),
+            ControlFlow::Continue(passed) => R::run(cells, kind, passed, carried),
+        }
     }
 }
 
-/// Four common rounds one after another, and then the loop.
-#[inline(always)]
-fn four_common<T, B: Copy, M: Cells<T, B>, W>(
-    cells: &mut M,
-    kind: Kind,
-    standing: Standing<B>,
-    carried: &mut Option<T>,
-) -> ReplyKind
-    requires { IsUnderWay M.Cells LONE_STEPS kind standing carried.old cells.old }
-    ensures { EndsRightly M.Cells kind standing carried.old cells.old carried.new cells.new result }
-{
-    if !M::is_common(kind, &standing.local, &standing.answer) {
-        return leave::<T, B, M>(cells, kind, standing, carried);
-    }
-    match common_round::<T, B, M, W, 4>(cells, kind, standing, carried) {
-        ControlFlow::Break(reply) => reply,
-        ControlFlow::Continue(after) => three_common::<T, B, M, W>(cells, kind, after, carried),
-    }
-}
+/// As many common rounds as each push takes that finds room, and each pop that finds an item, where no block begins or ends. `W` is the caller's.
+type Usual<W> = Common<Common<Common<Common<Common<Common<Common<Rest<W>>>>>>>>;
 
-/// Five common rounds one after another, and then the loop.
-#[inline(always)]
-fn five_common<T, B: Copy, M: Cells<T, B>, W>(
-    cells: &mut M,
-    kind: Kind,
-    standing: Standing<B>,
-    carried: &mut Option<T>,
-) -> ReplyKind
-    requires { IsUnderWay M.Cells LONE_STEPS kind standing carried.old cells.old }
-    ensures { EndsRightly M.Cells kind standing carried.old cells.old carried.new cells.new result }
-{
-    if !M::is_common(kind, &standing.local, &standing.answer) {
-        return leave::<T, B, M>(cells, kind, standing, carried);
-    }
-    match common_round::<T, B, M, W, 5>(cells, kind, standing, carried) {
-        ControlFlow::Break(reply) => reply,
-        ControlFlow::Continue(after) => four_common::<T, B, M, W>(cells, kind, after, carried),
-    }
-}
-
-/// Six common rounds one after another, and then the loop.
-#[inline(always)]
-fn six_common<T, B: Copy, M: Cells<T, B>, W>(
-    cells: &mut M,
-    kind: Kind,
-    standing: Standing<B>,
-    carried: &mut Option<T>,
-) -> ReplyKind
-    requires { IsUnderWay M.Cells LONE_STEPS kind standing carried.old cells.old }
-    ensures { EndsRightly M.Cells kind standing carried.old cells.old carried.new cells.new result }
-{
-    if !M::is_common(kind, &standing.local, &standing.answer) {
-        return leave::<T, B, M>(cells, kind, standing, carried);
-    }
-    match common_round::<T, B, M, W, 6>(cells, kind, standing, carried) {
-        ControlFlow::Break(reply) => reply,
-        ControlFlow::Continue(after) => five_common::<T, B, M, W>(cells, kind, after, carried),
-    }
-}
-
-/// Seven common rounds one after another, and then the loop.
-#[inline(always)]
-fn seven_common<T, B: Copy, M: Cells<T, B>, W>(
-    cells: &mut M,
-    kind: Kind,
-    standing: Standing<B>,
-    carried: &mut Option<T>,
-) -> ReplyKind
-    requires { IsUnderWay M.Cells LONE_STEPS kind standing carried.old cells.old }
-    ensures { EndsRightly M.Cells kind standing carried.old cells.old carried.new cells.new result }
-{
-    if !M::is_common(kind, &standing.local, &standing.answer) {
-        return leave::<T, B, M>(cells, kind, standing, carried);
-    }
-    match common_round::<T, B, M, W, 7>(cells, kind, standing, carried) {
-        ControlFlow::Break(reply) => reply,
-        ControlFlow::Continue(after) => six_common::<T, B, M, W>(cells, kind, after, carried),
-    }
-}
+/// As many rounds as a call takes at most to pass from block to block, after the first.
+type Further<W> = Passing<Passing<Passing<Passing<Passing<Passing<Rest<W>>>>>>>;
 
 /// A call on its way, before its first step.
 #[inline(always)]
@@ -353,7 +328,7 @@ fn begin<T, B: Copy, M: Cells<T, B>>(cells: &M, call: CallKind) -> (Kind, Standi
     )
 }
 
-/// Runs a call to its end, which comes within the steps that a lone call takes at most. Seven common rounds do for each push that finds room, and each pop that finds an item, where no block begins or ends.
+/// Runs a call to its end, which comes within the steps that a lone call takes at most.
 ///
 /// The place of the value that the call carries is lent, and then holds what it ends with: as a part of the reply it would be copied at each way out of a round.
 #[inline(always)]
@@ -368,7 +343,10 @@ pub(crate) fn drive<T, B: Copy, M: Cells<T, B>, W>(
     ensures sole { SoleApart (M.owned cells.old) call carried.old result carried.new (M.owned cells.new) }
 {
     let (kind, standing) = begin::<T, B, M>(cells, call);
-    seven_common::<T, B, M, W>(cells, kind, standing, carried)
+    match <Usual<W> as Rounds<T, B, M>>::run(cells, kind, standing, carried) {
+        ControlFlow::Break(reply) => reply,
+        ControlFlow::Continue(left) => leave::<T, B, M>(cells, kind, left, carried),
+    }
 }
 
 /// Runs a call to its end, in the loop alone.

@@ -486,6 +486,11 @@ impl<T, A: Allocator> Cells<T, Name<T>> for LinkedBlocks<T, A> {
     }
 
     #[inline(always)]
+    fn is_passing(local: &Local<Name<T>>, answer: &Answer<Name<T>>) -> bool {
+        steps::is_passing(local, answer)
+    }
+
+    #[inline(always)]
     fn touch(&mut self, touch: Touch, op: &Op<Name<T>>, carried: &mut Option<T>) {
         match touch {
             Touch::Nothing => {}

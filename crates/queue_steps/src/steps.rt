@@ -135,6 +135,15 @@ pub fn next_walk<B: Copy>(local: Local<B>, answer: Answer<B>) -> Next<B>
     }
 }
 
+/// Whether a call on a chain of blocks does next what it does, undisturbed, where a block begins or ends. It tells which steps to expect; nothing rests on it.
+#[inline(always)]
+pub fn is_passing<B: Copy>(local: &Local<B>, answer: &Answer<B>) -> bool {
+    match local {
+        Local::Unbounded(local) => unbounded::is_passing(local, answer),
+        _ => false,
+    }
+}
+
 /// What a call on a chain of blocks does next.
 #[inline(always)]
 pub fn next_unbounded<B: Copy>(local: Local<B>, answer: Answer<B>) -> Next<B>

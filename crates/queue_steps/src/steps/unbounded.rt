@@ -254,6 +254,28 @@ pub(super) fn is_walk<B: Copy>(local: &UnboundedLocal<B>, answer: &Answer<B>) ->
     }
 }
 
+/// Whether the step that follows is one of those that a call takes, undisturbed, where a block begins or ends.
+#[inline(always)]
+pub(super) fn is_passing<B: Copy>(local: &UnboundedLocal<B>, answer: &Answer<B>) -> bool {
+    match (local, answer) {
+        (UnboundedLocal::PushBlock(_, _, _), Answer::Linked(Some(_))) => true,
+        (UnboundedLocal::Asking(_, _, Some(_)), Answer::Granted(_)) => true,
+        (UnboundedLocal::Claiming(_, tail, _, _), Answer::Found(found)) => *found == *tail,
+        (UnboundedLocal::Laying(_, _, _, _), Answer::Done) => true,
+        (UnboundedLocal::Opening(_, _, _, _), Answer::Found(_)) => true,
+        (UnboundedLocal::Chaining(_, _, _, _), Answer::Done) => true,
+        (UnboundedLocal::Writing(_, _), Answer::Found(_)) => true,
+        (UnboundedLocal::Taking(head, _), Answer::Found(found)) => *found == *head,
+        (UnboundedLocal::Following(_, _), Answer::Linked(Some(_))) => true,
+        (UnboundedLocal::Peeking(_, _, _), Answer::Linked(_)) => true,
+        (UnboundedLocal::Passing(_, _, _), Answer::Done) => true,
+        (UnboundedLocal::Entering(_, _), Answer::Done) => true,
+        (UnboundedLocal::Awaiting(_, _), Answer::Found(state)) => *state & WRITE != 0,
+        (UnboundedLocal::Walking(_, _), Answer::Found(state)) => *state & READ != 0,
+        _ => false,
+    }
+}
+
 /// What follows the answer to the last step of a walk that goes on.
 #[inline(always)]
 pub(super) fn next_walk<B: Copy>(local: UnboundedLocal<B>, answer: Answer<B>) -> Next<B>
