@@ -35,9 +35,3 @@ module _ {T B M : Type 0} (m : Ghosts M T B) where
   GoesAhead k s x before y after told =
       (n : ℕ) (c : Call T) (first : M) → GoesOn (suc n) k c first s x before
       → MatchControlFlow told (λ left. GoesOn n k c first left y after) (EndsWith c first y after)
-
-  -- whichever call was on its way, some rounds have left it where it carries y, with as many steps to go as before or fewer, or brought it to its reply
-  abbrev pub StaysOnWay : Kind → Standing B → Option T → M → Option T → M → ControlFlow (Reply Unit) (Standing B) → Type 0
-  StaysOnWay k s x before y after told =
-      (n : ℕ) (c : Call T) (first : M) → GoesOn n k c first s x before
-      → MatchControlFlow told (λ left. GoesOn n k c first left y after) (EndsWith c first y after)

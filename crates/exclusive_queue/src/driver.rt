@@ -8,13 +8,13 @@ ghost use Rattle.queue_steps.specs.Looks.{IsLook, look_reply};
 ghost use Rattle.queue_steps.specs.Kinds.{call_kind, call_value};
 ghost use Rattle.queue_steps.specs.declared.model.Call.{Call as SpecCall};
 ghost use Rattle.exclusive_queue.specs.Apart.{FitsCall, SoleApart};
-ghost use Rattle.exclusive_queue.specs.Rounds.{GoesOn, IsUnderWay, EndsRightly, GoesAhead, StaysOnWay};
+ghost use Rattle.exclusive_queue.specs.Rounds.{GoesOn, IsUnderWay, EndsRightly, GoesAhead};
 ghost use Rattle.queue_steps.specs.declared.sizes.TheConstants.{LONE_STEPS};
 
 use crate::cells::Cells;
 use queue_steps::model::{Call, CallKind, Reply, ReplyKind};
 use queue_steps::sizes::{BLOCK_SLOTS, LONE_STEPS};
-use queue_steps::steps::{self, Answer, Kind, Local, Next, Op};
+use queue_steps::steps::{self, Answer, Kind, Local, Next, Op, UnboundedLocal};
 use std::marker::PhantomData;
 use std::mem;
 use std::ops::ControlFlow;
@@ -139,26 +139,7 @@ fn round<T, B: Copy, M: Cells<T, B>, R>(
     done!(cells, todo, carried, M::perform)
 }
 
-/// The rounds of a call that passes from block to block. The compiler knows in each where the call stands.
-#[inline(always)]
-fn pass<T, B: Copy, M: Cells<T, B>>(
-    cells: &mut M,
-    kind: Kind,
-    standing: Standing<B>,
-    carried: &mut Option<T>,
-) -> ControlFlow<ReplyKind, Standing<B>>
-    requires { (n : ℕ) × IsUnderWay M.Cells (suc n) kind standing carried.old cells.old }
-    ensures { GoesAhead M.Cells kind standing carried.old cells.old carried.new cells.new result }
-{
-    match round::<T, B, M, Passing<Further<()>>>(cells, kind, standing, carried) {
-        ControlFlow::Break(reply) => ControlFlow::Break(reply),
-        ControlFlow::Continue(after) => <Further<()> as Rounds<T, B, M>>::run(
-            cells, kind, after, carried,
-        ),
-    }
-}
-
-/// One round of the loop, or more where it is known what follows: the walk over a block is most of what it does, and then the passing from block to block.
+/// One round of the loop. The walk over a block is most of what it does.
 #[inline(always)]
 fn turn<T, B: Copy, M: Cells<T, B>>(
     cells: &mut M,
@@ -171,8 +152,6 @@ fn turn<T, B: Copy, M: Cells<T, B>>(
 {
     if M::is_walk(kind, &standing.local, &standing.answer) {
         walk::<T, B, M>(cells, kind, standing, carried)
-    } else if M::is_passing(&standing.local, &standing.answer) {
-        pass::<T, B, M>(cells, kind, standing, carried)
     } else {
         round::<T, B, M, ()>(cells, kind, standing, carried)
     }
@@ -199,7 +178,81 @@ fn turns<T, B: Copy, M: Cells<T, B>>(
     unreachable!()
 }
 
-/// Goes on in the loop. What the loop is handed is made here alone, so that the rounds before it write none of it. So the carried value goes to a place of its own and back: the loop never gets the place that the rounds are lent, and a word stays in a register there.
+/// The rounds of a call to its end. The first of them stand one after another: they are made of types, one inside another, so that each is a function of its own with one place where it is called, and there the compiler puts it.
+trait Rounds<T, B: Copy, M: Cells<T, B>> {
+    fn run(cells: &mut M, kind: Kind, standing: Standing<B>, carried: &mut Option<T>) -> ReplyKind
+        requires { IsUnderWay M.Cells LONE_STEPS kind standing carried.old cells.old }
+        ensures { EndsRightly M.Cells kind standing carried.old cells.old carried.new cells.new result };
+}
+
+/// The loop.
+struct Loop<W> {
+    told_apart: PhantomData<W>,
+}
+
+impl<T, B: Copy, M: Cells<T, B>, W> Rounds<T, B, M> for Loop<W> {
+    #[inline(always)]
+    fn run(cells: &mut M, kind: Kind, standing: Standing<B>, carried: &mut Option<T>) -> ReplyKind
+        requires { IsUnderWay M.Cells LONE_STEPS kind standing carried.old cells.old }
+        ensures { EndsRightly M.Cells kind standing carried.old cells.old carried.new cells.new result }
+    {
+        turns::<T, B, M>(cells, kind, standing, carried)
+    }
+}
+
+/// A round of a call that passes from block to block, and then those of `R`.
+struct Passing<R> {
+    rounds: PhantomData<R>,
+}
+
+impl<T, B: Copy, M: Cells<T, B>, R: Rounds<T, B, M>> Rounds<T, B, M> for Passing<R> {
+    #[inline(always)]
+    fn run(cells: &mut M, kind: Kind, standing: Standing<B>, carried: &mut Option<T>) -> ReplyKind
+        requires { IsUnderWay M.Cells LONE_STEPS kind standing carried.old cells.old }
+        ensures { EndsRightly M.Cells kind standing carried.old cells.old carried.new cells.new result }
+    {
+        if !M::is_passing(&standing.local, &standing.answer) {
+            return turns::<T, B, M>(cells, kind, standing, carried);
+        }
+        match round::<T, B, M, R>(cells, kind, standing, carried) {
+            ControlFlow::Break(reply) => reply,
+            ControlFlow::Continue(passed) => R::run(cells, kind, passed, carried),
+        }
+    }
+}
+
+/// As many rounds as a push takes at most that lays a block, or a pop that comes to the next block. `W` tells them apart.
+type AtEnd<W> = Passing<Passing<Passing<Passing<Passing<Passing<Passing<Loop<W>>>>>>>>;
+
+/// A push that lays a block.
+struct Lays;
+
+/// A pop that comes to the next block.
+struct Passes;
+
+/// The rounds of a call that is not at a common step. The compiler knows in those of each arm where the call stands.
+#[inline(never)]
+fn go_on<T, B: Copy, M: Cells<T, B>>(
+    cells: &mut M,
+    kind: Kind,
+    standing: Standing<B>,
+    carried: &mut Option<T>,
+) -> ReplyKind
+    requires { IsUnderWay M.Cells LONE_STEPS kind standing carried.old cells.old }
+    ensures { EndsRightly M.Cells kind standing carried.old cells.old carried.new cells.new result }
+{
+    match &standing.local {
+        Local::Unbounded(UnboundedLocal::PushBlock(_, _, _)) => {
+            <AtEnd<Lays> as Rounds<T, B, M>>::run(cells, kind, standing, carried)
+        }
+        Local::Unbounded(UnboundedLocal::Taking(_, _)) => {
+            <AtEnd<Passes> as Rounds<T, B, M>>::run(cells, kind, standing, carried)
+        }
+        _ => turns::<T, B, M>(cells, kind, standing, carried),
+    }
+}
+
+/// Goes on where no round is known to be common. What the rounds there are handed is made here alone, so that the common rounds write none of it. So the carried value goes to a place of its own and back: they never get the place that the common rounds are lent, and a word stays in a register there.
 #[inline(always)]
 fn leave<T, B: Copy, M: Cells<T, B>>(
     cells: &mut M,
@@ -211,44 +264,24 @@ fn leave<T, B: Copy, M: Cells<T, B>>(
     ensures { EndsRightly M.Cells kind standing carried.old cells.old carried.new cells.new result }
 {
     let mut own = carried.take();
-    let reply = turns::<T, B, M>(cells, kind, standing, &mut own);
+    let reply = go_on::<T, B, M>(cells, kind, standing, &mut own);
     let none = mem::replace(carried, own);
     let None = none else { unreachable!() };
     reply
 }
 
-/// Rounds that stand one after another. They are made of types, one inside another, so that each round is a function of its own with one place where it is called: there the compiler puts it.
-trait Rounds<T, B: Copy, M: Cells<T, B>> {
-    fn run(
-        cells: &mut M,
-        kind: Kind,
-        standing: Standing<B>,
-        carried: &mut Option<T>,
-    ) -> ControlFlow<ReplyKind, Standing<B>>
-        requires { (n : ℕ) × IsUnderWay M.Cells n kind standing carried.old cells.old }
-        ensures { StaysOnWay M.Cells kind standing carried.old cells.old carried.new cells.new result };
-}
-
-/// No more rounds.
+/// The common steps are over.
 struct Rest<W> {
     told_apart: PhantomData<W>,
 }
 
 impl<T, B: Copy, M: Cells<T, B>, W> Rounds<T, B, M> for Rest<W> {
     #[inline(always)]
-    fn run(
-        cells: &mut M,
-        kind: Kind,
-        standing: Standing<B>,
-        carried: &mut Option<T>,
-    ) -> ControlFlow<ReplyKind, Standing<B>>
-        requires { (n : ℕ) × IsUnderWay M.Cells n kind standing carried.old cells.old }
-        ensures { StaysOnWay M.Cells kind standing carried.old cells.old carried.new cells.new result }
+    fn run(cells: &mut M, kind: Kind, standing: Standing<B>, carried: &mut Option<T>) -> ReplyKind
+        requires { IsUnderWay M.Cells LONE_STEPS kind standing carried.old cells.old }
+        ensures { EndsRightly M.Cells kind standing carried.old cells.old carried.new cells.new result }
     {
-        let _ = &*cells;
-        let _ = kind;
-        let _ = &*carried;
-        ControlFlow::Continue(standing)
+        leave::<T, B, M>(cells, kind, standing, carried)
     }
 }
 
@@ -259,56 +292,22 @@ struct Common<R> {
 
 impl<T, B: Copy, M: Cells<T, B>, R: Rounds<T, B, M>> Rounds<T, B, M> for Common<R> {
     #[inline(always)]
-    fn run(
-        cells: &mut M,
-        kind: Kind,
-        standing: Standing<B>,
-        carried: &mut Option<T>,
-    ) -> ControlFlow<ReplyKind, Standing<B>>
-        requires { (n : ℕ) × IsUnderWay M.Cells n kind standing carried.old cells.old }
-        ensures { StaysOnWay M.Cells kind standing carried.old cells.old carried.new cells.new result }
+    fn run(cells: &mut M, kind: Kind, standing: Standing<B>, carried: &mut Option<T>) -> ReplyKind
+        requires { IsUnderWay M.Cells LONE_STEPS kind standing carried.old cells.old }
+        ensures { EndsRightly M.Cells kind standing carried.old cells.old carried.new cells.new result }
     {
         if !M::is_common(kind, &standing.local, &standing.answer) {
-            return ControlFlow::Continue(standing);
+            return leave::<T, B, M>(cells, kind, standing, carried);
         }
         match common_round::<T, B, M, R>(cells, kind, standing, carried) {
-            ControlFlow::Break(reply) => ControlFlow::Break(reply),
+            ControlFlow::Break(reply) => reply,
             ControlFlow::Continue(after) => R::run(cells, kind, after, carried),
-        }
-    }
-}
-
-/// A round of a call that passes from block to block, and then those of `R`.
-struct Passing<R> {
-    rounds: PhantomData<R>,
-}
-
-impl<T, B: Copy, M: Cells<T, B>, R: Rounds<T, B, M>> Rounds<T, B, M> for Passing<R> {
-    #[inline(always)]
-    fn run(
-        cells: &mut M,
-        kind: Kind,
-        standing: Standing<B>,
-        carried: &mut Option<T>,
-    ) -> ControlFlow<ReplyKind, Standing<B>>
-        requires { (n : ℕ) × IsUnderWay M.Cells n kind standing carried.old cells.old }
-        ensures { StaysOnWay M.Cells kind standing carried.old cells.old carried.new cells.new result }
-    {
-        if !M::is_passing(&standing.local, &standing.answer) {
-            return ControlFlow::Continue(standing);
-        }
-        match round::<T, B, M, R>(cells, kind, standing, carried) {
-            ControlFlow::Break(reply) => ControlFlow::Break(reply),
-            ControlFlow::Continue(passed) => R::run(cells, kind, passed, carried),
         }
     }
 }
 
 /// As many common rounds as each push takes that finds room, and each pop that finds an item, where no block begins or ends. `W` is the caller's.
 type Usual<W> = Common<Common<Common<Common<Common<Common<Common<Rest<W>>>>>>>>;
-
-/// As many rounds as a call takes at most to pass from block to block, after the first.
-type Further<W> = Passing<Passing<Passing<Passing<Passing<Passing<Rest<W>>>>>>>;
 
 /// A call on its way, before its first step.
 #[inline(always)]
@@ -343,10 +342,7 @@ pub(crate) fn drive<T, B: Copy, M: Cells<T, B>, W>(
     ensures sole { SoleApart (M.owned cells.old) call carried.old result carried.new (M.owned cells.new) }
 {
     let (kind, standing) = begin::<T, B, M>(cells, call);
-    match <Usual<W> as Rounds<T, B, M>>::run(cells, kind, standing, carried) {
-        ControlFlow::Break(reply) => reply,
-        ControlFlow::Continue(left) => leave::<T, B, M>(cells, kind, left, carried),
-    }
+    <Usual<W> as Rounds<T, B, M>>::run(cells, kind, standing, carried)
 }
 
 /// Runs a call to its end, in the loop alone.

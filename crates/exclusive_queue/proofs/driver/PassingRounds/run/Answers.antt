@@ -1,22 +1,19 @@
-use Rattle.exclusive_queue.proofs.Goings.{GoesOn-left, GoesOn-stays}
+use Rattle.std.proofs.Common.{◌-◌}
+use Rattle.queue_steps.specs.declared.sizes.TheConstants.{LONE_STEPS}
+use Rattle.exclusive_queue.proofs.Goings.{GoesOn-more}
 use Rattle.exclusive_queue.proofs.driver.PassingRounds.run.Goals as goal
 
 pub round-requires : goal.round-requires
-round-requires g c =
-    let h = c.requires in
-    let on = GoesOn-left g.M.Cells h.0 c.args.kind h.1.1 h.1.2 _ _ _ h.1.3 in
-    (on.0, (h.1.0, h.1.1, h.1.2, on.1))
+round-requires g c = (LONE_STEPS - 1, c.requires)
 
 pub run-requires : goal.run-requires
 run-requires g c =
     let h = c.requires in
-    (h.0, (h.1.0, h.1.1, h.1.2, GoesOn-stays g.M.Cells c.args.kind h.1.1 h.1.2 _ _ _ _ _ _ (λ n. c.in-Continue.ensures n h.1.1 h.1.2) h.0 h.1.3))
+    (h.0, h.1, h.2, GoesOn-more g.M.Cells (LONE_STEPS - 1) c.args.kind h.1 h.2 _ _ _ (c.in-Continue.ensures (LONE_STEPS - 1) h.1 h.2 h.3))
 
 pub returns-in-Break : goal.returns-in-Break
-returns-in-Break g c = λ n call first on.
-    let left = GoesOn-left g.M.Cells n c.args.kind call first _ _ _ on in
-    c.in-Break.ensures left.0 call first left.1
+returns-in-Break g c = λ call first h. c.in-Break.ensures (LONE_STEPS - 1) call first h
 
 pub returns-in-Continue : goal.returns-in-Continue
-returns-in-Continue g c = λ n call first on.
-    c.run.ensures n call first (GoesOn-stays g.M.Cells c.args.kind call first _ _ _ _ _ _ (λ m. c.in-Continue.ensures m call first) n on)
+returns-in-Continue g c = λ call first h.
+    c.run.ensures call first (GoesOn-more g.M.Cells (LONE_STEPS - 1) c.args.kind call first _ _ _ (c.in-Continue.ensures (LONE_STEPS - 1) call first h))
