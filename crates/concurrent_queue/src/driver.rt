@@ -14,6 +14,7 @@ use crate::turns::Turns;
 use queue_steps::model::{Call, CallKind, Reply};
 use queue_steps::sizes::{BLOCK_SLOTS, PROMPT_STEPS};
 use queue_steps::steps::{self, Answer, BoundedLocal, Kind, Local, Next, UnboundedLocal};
+use std::marker::PhantomData;
 use std::ops::ControlFlow;
 use std::sync::Wait;
 use std::thread::yield_now;
@@ -67,9 +68,9 @@ macro_rules! done {
 
 /// One round of a call whose step is a common one: that step, or the reply.
 ///
-/// The compiler puts a private function where its only call stands. `W` and `AT` tell the calls of this one apart, so that each is a function of its own.
+/// The compiler puts a private function where its only call stands. `R` tells the calls of this one apart, so that each is a function of its own.
 #[inline(always)]
-fn common_round<T, B: Copy, S, M: Turns<T, B, S>, G: Gate, W, const AT: u64>(
+fn common_round<T, B: Copy, S, M: Turns<T, B, S>, G: Gate, R>(
     queue: &M,
     gate: &G,
     kind: Kind,
@@ -238,195 +239,81 @@ fn go_on<T, B: Copy, S, M: Turns<T, B, S>, G: Gate, R: Wait>(
     unreachable!()
 }
 
-/// Goes on in the loop. What the loop is handed is made here alone, so that the rounds before it write none of it.
-#[inline(always)]
-fn leave<T, B: Copy, S, M: Turns<T, B, S>, G: Gate, R: Wait>(
-    queue: &M,
-    rt: &R,
-    gate: &G,
-    kind: Kind,
-    call: CallKind,
-    seat: &mut S,
-    standing: Standing<T, B>,
-) -> Reply<T>
-    requires { IsUnderWay M.Turns kind call queue.now standing seat.old }
-    ensures { EndsRightly M.Turns kind call queue.now standing seat.old seat.new result }
-{
-    go_on(queue, rt, gate, kind, call, seat, standing)
+/// Rounds that stand one after another. They are made of types, one inside another, so that each is a function of its own with one place where it is called: there the compiler puts it.
+trait Rounds<T, B: Copy, S, M: Turns<T, B, S>, G: Gate> {
+    fn run(
+        queue: &M,
+        gate: &G,
+        kind: Kind,
+        call: CallKind,
+        seat: &mut S,
+        standing: Standing<T, B>,
+    ) -> ControlFlow<Reply<T>, Standing<T, B>>
+        requires { IsUnderWay M.Turns kind call queue.now standing seat.old }
+        ensures { GoesAhead M.Turns kind call queue.now standing seat.old seat.new result };
 }
 
-/// One common round, and then the loop.
-#[inline(always)]
-fn one_common<T, B: Copy, S, M: Turns<T, B, S>, G: Gate, R: Wait, W>(
-    queue: &M,
-    rt: &R,
-    gate: &G,
-    kind: Kind,
-    call: CallKind,
-    seat: &mut S,
-    standing: Standing<T, B>,
-) -> Reply<T>
-    requires { IsUnderWay M.Turns kind call queue.now standing seat.old }
-    ensures { EndsRightly M.Turns kind call queue.now standing seat.old seat.new result }
-{
-    if !M::is_common(kind, &standing.local, &standing.answer) {
-        return leave(queue, rt, gate, kind, call, seat, standing);
-    }
-    match common_round::<T, B, S, M, G, W, 1>(queue, gate, kind, call, seat, standing) {
-        ControlFlow::Break(reply) => reply,
-        ControlFlow::Continue(after) => leave(queue, rt, gate, kind, call, seat, after),
-    }
+/// No more rounds.
+struct Rest<W> {
+    told_apart: PhantomData<W>,
 }
 
-/// Two common rounds one after another, and then the loop.
-#[inline(always)]
-fn two_common<T, B: Copy, S, M: Turns<T, B, S>, G: Gate, R: Wait, W>(
-    queue: &M,
-    rt: &R,
-    gate: &G,
-    kind: Kind,
-    call: CallKind,
-    seat: &mut S,
-    standing: Standing<T, B>,
-) -> Reply<T>
-    requires { IsUnderWay M.Turns kind call queue.now standing seat.old }
-    ensures { EndsRightly M.Turns kind call queue.now standing seat.old seat.new result }
-{
-    if !M::is_common(kind, &standing.local, &standing.answer) {
-        return leave(queue, rt, gate, kind, call, seat, standing);
-    }
-    match common_round::<T, B, S, M, G, W, 2>(queue, gate, kind, call, seat, standing) {
-        ControlFlow::Break(reply) => reply,
-        ControlFlow::Continue(after) => one_common::<T, B, S, M, G, R, W>(
-            queue, rt, gate, kind, call, seat, after,
-        ),
+impl<T, B: Copy, S, M: Turns<T, B, S>, G: Gate, W> Rounds<T, B, S, M, G> for Rest<W> {
+    #[inline(always)]
+    fn run(
+        queue: &M,
+        gate: &G,
+        kind: Kind,
+        call: CallKind,
+        seat: &mut S,
+        standing: Standing<T, B>,
+    ) -> ControlFlow<Reply<T>, Standing<T, B>>
+        requires { IsUnderWay M.Turns kind call queue.now standing seat.old }
+        ensures { GoesAhead M.Turns kind call queue.now standing seat.old seat.new result }
+    {
+        let _ = queue;
+        let _ = gate;
+        let _ = kind;
+        let _ = call;
+        let _ = &*seat;
+        ControlFlow::Continue(standing)
     }
 }
 
-/// Three common rounds one after another, and then the loop.
-#[inline(always)]
-fn three_common<T, B: Copy, S, M: Turns<T, B, S>, G: Gate, R: Wait, W>(
-    queue: &M,
-    rt: &R,
-    gate: &G,
-    kind: Kind,
-    call: CallKind,
-    seat: &mut S,
-    standing: Standing<T, B>,
-) -> Reply<T>
-    requires { IsUnderWay M.Turns kind call queue.now standing seat.old }
-    ensures { EndsRightly M.Turns kind call queue.now standing seat.old seat.new result }
-{
-    if !M::is_common(kind, &standing.local, &standing.answer) {
-        return leave(queue, rt, gate, kind, call, seat, standing);
-    }
-    match common_round::<T, B, S, M, G, W, 3>(queue, gate, kind, call, seat, standing) {
-        ControlFlow::Break(reply) => reply,
-        ControlFlow::Continue(after) => two_common::<T, B, S, M, G, R, W>(
-            queue, rt, gate, kind, call, seat, after,
-        ),
+/// A common round, and then those of `R`. A step that is not a common one ends the rounds.
+struct Common<R> {
+    rounds: PhantomData<R>,
+}
+
+impl<T, B: Copy, S, M: Turns<T, B, S>, G: Gate, R: Rounds<T, B, S, M, G>> Rounds<T, B, S, M, G>
+    for Common<R> {
+    #[inline(always)]
+    fn run(
+        queue: &M,
+        gate: &G,
+        kind: Kind,
+        call: CallKind,
+        seat: &mut S,
+        standing: Standing<T, B>,
+    ) -> ControlFlow<Reply<T>, Standing<T, B>>
+        requires { IsUnderWay M.Turns kind call queue.now standing seat.old }
+        ensures { GoesAhead M.Turns kind call queue.now standing seat.old seat.new result }
+    {
+        if !M::is_common(kind, &standing.local, &standing.answer) {
+            return ControlFlow::Continue(standing);
+        }
+        match common_round::<T, B, S, M, G, R>(queue, gate, kind, call, seat, standing) {
+            ControlFlow::Break(reply) => ControlFlow::Break(reply),
+            ControlFlow::Continue(after) => R::run(queue, gate, kind, call, seat, after),
+        }
     }
 }
 
-/// Four common rounds one after another, and then the loop.
-#[inline(always)]
-fn four_common<T, B: Copy, S, M: Turns<T, B, S>, G: Gate, R: Wait, W>(
-    queue: &M,
-    rt: &R,
-    gate: &G,
-    kind: Kind,
-    call: CallKind,
-    seat: &mut S,
-    standing: Standing<T, B>,
-) -> Reply<T>
-    requires { IsUnderWay M.Turns kind call queue.now standing seat.old }
-    ensures { EndsRightly M.Turns kind call queue.now standing seat.old seat.new result }
-{
-    if !M::is_common(kind, &standing.local, &standing.answer) {
-        return leave(queue, rt, gate, kind, call, seat, standing);
-    }
-    match common_round::<T, B, S, M, G, W, 4>(queue, gate, kind, call, seat, standing) {
-        ControlFlow::Break(reply) => reply,
-        ControlFlow::Continue(after) => three_common::<T, B, S, M, G, R, W>(
-            queue, rt, gate, kind, call, seat, after,
-        ),
-    }
-}
+/// As many common rounds as each push takes that finds room, and each pop that finds an item, where no block begins or ends and no other call is met. `W` is the caller's.
+type Usual<W> = Common<Common<Common<Common<Common<Common<Common<Rest<W>>>>>>>>;
 
-/// Five common rounds one after another, and then the loop.
-#[inline(always)]
-fn five_common<T, B: Copy, S, M: Turns<T, B, S>, G: Gate, R: Wait, W>(
-    queue: &M,
-    rt: &R,
-    gate: &G,
-    kind: Kind,
-    call: CallKind,
-    seat: &mut S,
-    standing: Standing<T, B>,
-) -> Reply<T>
-    requires { IsUnderWay M.Turns kind call queue.now standing seat.old }
-    ensures { EndsRightly M.Turns kind call queue.now standing seat.old seat.new result }
-{
-    if !M::is_common(kind, &standing.local, &standing.answer) {
-        return leave(queue, rt, gate, kind, call, seat, standing);
-    }
-    match common_round::<T, B, S, M, G, W, 5>(queue, gate, kind, call, seat, standing) {
-        ControlFlow::Break(reply) => reply,
-        ControlFlow::Continue(after) => four_common::<T, B, S, M, G, R, W>(
-            queue, rt, gate, kind, call, seat, after,
-        ),
-    }
-}
-
-/// Six common rounds one after another, and then the loop.
-#[inline(always)]
-fn six_common<T, B: Copy, S, M: Turns<T, B, S>, G: Gate, R: Wait, W>(
-    queue: &M,
-    rt: &R,
-    gate: &G,
-    kind: Kind,
-    call: CallKind,
-    seat: &mut S,
-    standing: Standing<T, B>,
-) -> Reply<T>
-    requires { IsUnderWay M.Turns kind call queue.now standing seat.old }
-    ensures { EndsRightly M.Turns kind call queue.now standing seat.old seat.new result }
-{
-    if !M::is_common(kind, &standing.local, &standing.answer) {
-        return leave(queue, rt, gate, kind, call, seat, standing);
-    }
-    match common_round::<T, B, S, M, G, W, 6>(queue, gate, kind, call, seat, standing) {
-        ControlFlow::Break(reply) => reply,
-        ControlFlow::Continue(after) => five_common::<T, B, S, M, G, R, W>(
-            queue, rt, gate, kind, call, seat, after,
-        ),
-    }
-}
-
-/// Seven common rounds one after another, and then the loop.
-#[inline(always)]
-fn seven_common<T, B: Copy, S, M: Turns<T, B, S>, G: Gate, R: Wait, W>(
-    queue: &M,
-    rt: &R,
-    gate: &G,
-    kind: Kind,
-    call: CallKind,
-    seat: &mut S,
-    standing: Standing<T, B>,
-) -> Reply<T>
-    requires { IsUnderWay M.Turns kind call queue.now standing seat.old }
-    ensures { EndsRightly M.Turns kind call queue.now standing seat.old seat.new result }
-{
-    if !M::is_common(kind, &standing.local, &standing.answer) {
-        return leave(queue, rt, gate, kind, call, seat, standing);
-    }
-    match common_round::<T, B, S, M, G, W, 7>(queue, gate, kind, call, seat, standing) {
-        ControlFlow::Break(reply) => reply,
-        ControlFlow::Continue(after) => six_common::<T, B, S, M, G, R, W>(
-            queue, rt, gate, kind, call, seat, after,
-        ),
-    }
-}
+/// As many common rounds as a call on one slot takes that meets no other call.
+type Short<W> = Common<Common<Common<Rest<W>>>>;
 
 /// A call on its way, before its first step.
 #[inline(always)]
@@ -454,7 +341,7 @@ fn begin<T, B: Copy, S, M: Turns<T, B, S>>(
     )
 }
 
-/// Runs a call to its end. Seven common rounds do for each push that finds room, and each pop that finds an item, where no block begins or ends and no other call is met.
+/// Runs a call to its end. What waits is called in one place only, once the common rounds are over.
 #[inline(always)]
 pub(crate) fn drive<T, B: Copy, S, M: Turns<T, B, S>, G: Gate, R: Wait, W>(
     queue: &M,
@@ -467,10 +354,13 @@ pub(crate) fn drive<T, B: Copy, S, M: Turns<T, B, S>, G: Gate, R: Wait, W>(
     ensures { M.ended queue.now seat.old call result seat.new }
 {
     let (kind, call, standing) = begin(queue, seat, call);
-    seven_common::<T, B, S, M, G, R, W>(queue, rt, gate, kind, call, seat, standing)
+    match <Usual<W> as Rounds<T, B, S, M, G>>::run(queue, gate, kind, call, seat, standing) {
+        ControlFlow::Break(reply) => reply,
+        ControlFlow::Continue(left) => go_on(queue, rt, gate, kind, call, seat, left),
+    }
 }
 
-/// Runs a call to its end, with three common rounds: a call on one slot has no more steps where it meets no other call.
+/// Runs a call on one slot to its end.
 #[inline(always)]
 pub(crate) fn drive_shortly<T, B: Copy, S, M: Turns<T, B, S>, G: Gate, R: Wait, W>(
     queue: &M,
@@ -483,7 +373,10 @@ pub(crate) fn drive_shortly<T, B: Copy, S, M: Turns<T, B, S>, G: Gate, R: Wait, 
     ensures { M.ended queue.now seat.old call result seat.new }
 {
     let (kind, call, standing) = begin(queue, seat, call);
-    three_common::<T, B, S, M, G, R, W>(queue, rt, gate, kind, call, seat, standing)
+    match <Short<W> as Rounds<T, B, S, M, G>>::run(queue, gate, kind, call, seat, standing) {
+        ControlFlow::Break(reply) => reply,
+        ControlFlow::Continue(left) => go_on(queue, rt, gate, kind, call, seat, left),
+    }
 }
 
 /// Runs a prompt call to its end, which comes by its second step.

@@ -1,7 +1,13 @@
 use Rattle.concurrent_queue.proofs.driver.drive.Goals as goal
 
-pub seven_common-requires : goal.seven_common-requires
-seven_common-requires g c = (c.begin-kind.ensures.of, (c.args.call, c.args.seat.now, c.begin-kind.ensures.goes))
+pub run-requires : goal.run-requires
+run-requires g c = (c.begin-kind.ensures.of, (c.args.call, c.args.seat.now, c.begin-kind.ensures.goes))
 
-pub returns : goal.returns
-returns g c = c.seven_common.ensures c.args.call c.args.seat.now c.begin-kind.ensures.goes
+pub go_on-requires : goal.go_on-requires
+go_on-requires g c = (c.begin-kind.ensures.of, (c.args.call, c.args.seat.now, c.in-Continue.ensures c.args.call c.args.seat.now c.begin-kind.ensures.goes))
+
+pub returns-in-Break : goal.returns-in-Break
+returns-in-Break g c = c.in-Break.ensures c.args.call c.args.seat.now c.begin-kind.ensures.goes
+
+pub returns-in-Continue : goal.returns-in-Continue
+returns-in-Continue g c = c.go_on.ensures c.args.call c.args.seat.now (c.in-Continue.ensures c.args.call c.args.seat.now c.begin-kind.ensures.goes)
