@@ -26,25 +26,28 @@ pub(crate) fn touch<T, A: Allocator>(
     seat: &mut ChainSeat<T, A>,
     touch: Touch,
     op: Op<Place<T>>,
-    carried: Option<T>,
-) -> Option<T>
-    requires { CanTouch seat.old.sitter touch op carried }
+    carried: &mut Option<T>,
+)
+    requires { CanTouch seat.old.sitter touch op carried.old }
     ensures same { Same seat.new seat.old }
-    ensures touched { Touched seat.old.sitter touch carried seat.new.sitter result }
+    ensures touched { Touched seat.old.sitter touch carried.old seat.new.sitter carried.new }
 {
-    match (touch, carried) {
-        (Touch::Nothing, carried) => carried,
-        (Touch::Put(slot), Some(value)) => match state_block(op) {
-            Some(block) => {
+    match touch {
+        Touch::Nothing => {}
+        Touch::Put(slot) => match (carried.take(), state_block(op)) {
+            (Some(value), Some(block)) => {
                 seat.put(block, slot, Item::new(value));
-                None
+            }
+            _ => unreachable!(),
+        },
+        Touch::Take(slot) => match state_block(op) {
+            Some(block) => {
+                let value = seat.take(block, slot).into_inner();
+                let none = carried.replace(value);
+                let None = none else { unreachable!() };
             }
             None => unreachable!(),
         },
-        (Touch::Take(slot), None) => match state_block(op) {
-            Some(block) => Some(seat.take(block, slot).into_inner()),
-            None => unreachable!(),
-        },
-        _ => unreachable!(),
+        Touch::Swap(_) => unreachable!(),
     }
 }

@@ -222,15 +222,14 @@ impl<T, A: Allocator> ChainWeb<T, A> {
         local: &Local<Place<T>>,
         todo: Touch,
         op: Op<Place<T>>,
-        carried: Option<T>,
-    ) -> (Answer<Place<T>>, Option<T>)
+        carried: &mut Option<T>,
+    ) -> Answer<Place<T>>
         requires of { heap_of self.now ≡ alloc.now }
-        requires can { ChainCan self.now seat.old call.now local.now todo op carried }
-        ensures { ChainDoes seat.old call.now local.now todo op carried result.0 seat.new result.1 }
+        requires can { ChainCan self.now seat.old call.now local.now todo op carried.old }
+        ensures { ChainDoes seat.old call.now local.now todo op carried.old result seat.new carried.new }
     {
-        let left = touch(seat, todo, op, carried);
-        let found = self.operate::<S, Brand>(alloc, seat, call, local, todo, op, &left);
-        (found, left)
+        touch(seat, todo, op, carried);
+        self.operate::<S, Brand>(alloc, seat, call, local, todo, op, carried)
     }
 
     /// The block that a reply gives up goes back to the allocator.

@@ -129,10 +129,10 @@ impl<T, A: Allocator, Q: Source<T, A>> Turns<T, Place<T>, Asking<T, A, Q>> for S
         local: &Local<Place<T>>,
         todo: Touch,
         op: Op<Place<T>>,
-        carried: Option<T>,
-    ) -> (Answer<Place<T>>, Option<T>)
-        requires { ChainCan self.now.chain asking.old.seat call.now local.now todo op carried }
-        ensures { ChainDoes asking.old.seat call.now local.now todo op carried result.0 asking.new.seat result.1 }
+        carried: &mut Option<T>,
+    ) -> Answer<Place<T>>
+        requires { ChainCan self.now.chain asking.old.seat call.now local.now todo op carried.old }
+        ensures { ChainDoes asking.old.seat call.now local.now todo op carried.old result asking.new.seat carried.new }
     {
         self.chain.turn::<Q>(
             &self.alloc,

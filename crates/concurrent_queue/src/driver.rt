@@ -1,17 +1,15 @@
 //! A party's driver: it asks for the next step, does it where other parties do theirs, and asks again, until the reply.
 //!
 //! The first rounds stand one after another, so that the compiler knows in each where the call stands. They do common steps alone; any other step leaves for the loop, which goes on to the reply.
-ghost use Rattle.std.specs.Prelude.{◌≡◌, true, Some};
-ghost use Rattle.queue_steps.specs.declared.model.Reply.{Reply as SpecReply};
+ghost use Rattle.std.specs.Prelude.{◌≡◌, true};
 ghost use Rattle.queue_steps.specs.CommonNext.{is_common_of, is_walk_of};
-ghost use Rattle.queue_steps.specs.Kinds.{filled};
 ghost use Rattle.queue_steps.specs.Prompt.{is_prompt};
 ghost use Rattle.concurrent_queue.specs.Turns.{MayGive, Gave};
 ghost use Rattle.concurrent_queue.specs.Rounds.{OnWay, IsUnderWay, EndsRightly, GoesAhead};
 
 use crate::gate::Gate;
 use crate::turns::Turns;
-use queue_steps::model::{Call, CallKind, Reply};
+use queue_steps::model::{Call, CallKind, Reply, ReplyKind};
 use queue_steps::sizes::{BLOCK_SLOTS, PROMPT_STEPS};
 use queue_steps::steps::{self, Answer, BoundedLocal, Kind, Local, Next, UnboundedLocal};
 use std::marker::PhantomData;
@@ -19,31 +17,23 @@ use std::ops::ControlFlow;
 use std::sync::Wait;
 use std::thread::yield_now;
 
-/// Where a call stands that is on its way, with the answer to its last operation and the value that it carries.
-pub(crate) struct Standing<T, B> {
+/// Where a call stands that is on its way, with the answer to its last operation.
+///
+/// The value that the call carries stays in one place, which each round is lent: as a part of the standing it would be copied from round to round.
+pub(crate) struct Standing<B> {
     pub(crate) local: Local<B>,
     pub(crate) answer: Answer<B>,
-    pub(crate) carried: Option<T>,
 }
 
-/// Gives up the block that a reply hands out, and puts the value into the reply.
+/// Gives up the block that a reply hands out.
 #[inline(always)]
-fn end<T, B: Copy, S, M: Turns<T, B, S>>(
-    queue: &M,
-    seat: &mut S,
-    reply: Reply<()>,
-    spare: Option<B>,
-    carried: Option<T>,
-) -> Reply<T>
-    requires gives { MayGive M.spares queue.now seat.old spare }
-    requires fills { (whole : SpecReply T) × (filled reply carried ≡ Some whole) }
-    ensures gave { Gave M.gives queue.now seat.old spare seat.new }
-    ensures fills { filled reply carried ≡ Some result }
+fn end<T, B: Copy, S, M: Turns<T, B, S>>(queue: &M, seat: &mut S, spare: Option<B>)
+    requires { MayGive M.spares queue.now seat.old spare }
+    ensures { Gave M.gives queue.now seat.old spare seat.new }
 {
     if let Some(block) = spare {
         queue.give_up(seat, block);
     }
-    Reply::fill(reply, carried)
 }
 
 /// Does what the call does next, and tells where it then stands, or its reply. A function that takes a `Next` would have it in memory.
@@ -51,15 +41,15 @@ macro_rules! done {
     ($queue:ident, $gate:ident, $call:ident, $seat:ident, $todo:ident, $carried:ident) => {
         match $todo {
             Next::Reply(reply, spare) => {
-                ControlFlow::Break(end($queue, $seat, reply, spare, $carried))
+                end($queue, $seat, spare);
+                ControlFlow::Break(reply)
             }
             Next::Step(after, touch, op) => {
                 $gate.pass(&op);
-                let (answer, carried) = $queue.turn($seat, &$call, &after, touch, op, $carried);
+                let answer = $queue.turn($seat, &$call, &after, touch, op, $carried);
                 ControlFlow::Continue(Standing {
                     local: after,
                     answer,
-                    carried,
                 })
             }
         }
@@ -76,17 +66,14 @@ fn common_round<T, B: Copy, S, M: Turns<T, B, S>, G: Gate, R>(
     kind: Kind,
     call: CallKind,
     seat: &mut S,
-    standing: Standing<T, B>,
-) -> ControlFlow<Reply<T>, Standing<T, B>>
+    standing: Standing<B>,
+    carried: &mut Option<T>,
+) -> ControlFlow<ReplyKind, Standing<B>>
     requires common { is_common_of kind standing.local standing.answer ≡ true }
-    requires goes { IsUnderWay M.Turns kind call queue.now standing seat.old }
-    ensures { GoesAhead M.Turns kind call queue.now standing seat.old seat.new result }
+    requires goes { IsUnderWay M.Turns kind call queue.now standing carried.old seat.old }
+    ensures { GoesAhead M.Turns kind call queue.now standing carried.old seat.old carried.new seat.new result }
 {
-    let Standing {
-        local,
-        answer,
-        carried,
-    } = standing;
+    let Standing { local, answer } = standing;
     let todo = M::next_common(kind, local, answer);
     done!(queue, gate, call, seat, todo, carried)
 }
@@ -99,17 +86,14 @@ fn walk_round<T, B: Copy, S, M: Turns<T, B, S>, G: Gate, const AT: u64>(
     kind: Kind,
     call: CallKind,
     seat: &mut S,
-    standing: Standing<T, B>,
-) -> ControlFlow<Reply<T>, Standing<T, B>>
+    standing: Standing<B>,
+    carried: &mut Option<T>,
+) -> ControlFlow<ReplyKind, Standing<B>>
     requires walk { is_walk_of kind standing.local standing.answer ≡ true }
-    requires goes { IsUnderWay M.Turns kind call queue.now standing seat.old }
-    ensures { GoesAhead M.Turns kind call queue.now standing seat.old seat.new result }
+    requires goes { IsUnderWay M.Turns kind call queue.now standing carried.old seat.old }
+    ensures { GoesAhead M.Turns kind call queue.now standing carried.old seat.old carried.new seat.new result }
 {
-    let Standing {
-        local,
-        answer,
-        carried,
-    } = standing;
+    let Standing { local, answer } = standing;
     let todo = M::next_walk(kind, local, answer);
     done!(queue, gate, call, seat, todo, carried)
 }
@@ -122,14 +106,15 @@ fn walk<T, B: Copy, S, M: Turns<T, B, S>, G: Gate>(
     kind: Kind,
     call: CallKind,
     seat: &mut S,
-    standing: Standing<T, B>,
-) -> ControlFlow<Reply<T>, Standing<T, B>>
+    standing: Standing<B>,
+    carried: &mut Option<T>,
+) -> ControlFlow<ReplyKind, Standing<B>>
     requires walk { is_walk_of kind standing.local standing.answer ≡ true }
-    requires goes { IsUnderWay M.Turns kind call queue.now standing seat.old }
-    ensures { GoesAhead M.Turns kind call queue.now standing seat.old seat.new result }
+    requires goes { IsUnderWay M.Turns kind call queue.now standing carried.old seat.old }
+    ensures { GoesAhead M.Turns kind call queue.now standing carried.old seat.old carried.new seat.new result }
 {
     let mut standing = match walk_round::<T, B, S, M, G, 1>(
-        queue, gate, kind, call, seat, standing,
+        queue, gate, kind, call, seat, standing, carried,
     ) {
         ControlFlow::Break(reply) => return ControlFlow::Break(reply),
         ControlFlow::Continue(after) => after,
@@ -138,7 +123,7 @@ fn walk<T, B: Copy, S, M: Turns<T, B, S>, G: Gate>(
         if !M::is_walk(kind, &standing.local, &standing.answer) {
             break;
         }
-        match walk_round::<T, B, S, M, G, 2>(queue, gate, kind, call, seat, standing) {
+        match walk_round::<T, B, S, M, G, 2>(queue, gate, kind, call, seat, standing, carried) {
             ControlFlow::Break(reply) => return ControlFlow::Break(reply),
             ControlFlow::Continue(after) => standing = after,
         }
@@ -154,16 +139,13 @@ fn round<T, B: Copy, S, M: Turns<T, B, S>, G: Gate>(
     kind: Kind,
     call: CallKind,
     seat: &mut S,
-    standing: Standing<T, B>,
-) -> ControlFlow<Reply<T>, Standing<T, B>>
-    requires { IsUnderWay M.Turns kind call queue.now standing seat.old }
-    ensures { GoesAhead M.Turns kind call queue.now standing seat.old seat.new result }
+    standing: Standing<B>,
+    carried: &mut Option<T>,
+) -> ControlFlow<ReplyKind, Standing<B>>
+    requires { IsUnderWay M.Turns kind call queue.now standing carried.old seat.old }
+    ensures { GoesAhead M.Turns kind call queue.now standing carried.old seat.old carried.new seat.new result }
 {
-    let Standing {
-        local,
-        answer,
-        carried,
-    } = standing;
+    let Standing { local, answer } = standing;
     let todo = M::next(kind, local, answer);
     done!(queue, gate, call, seat, todo, carried)
 }
@@ -176,15 +158,16 @@ fn loop_round<T, B: Copy, S, M: Turns<T, B, S>, G: Gate>(
     kind: Kind,
     call: CallKind,
     seat: &mut S,
-    standing: Standing<T, B>,
-) -> ControlFlow<Reply<T>, Standing<T, B>>
-    requires { IsUnderWay M.Turns kind call queue.now standing seat.old }
-    ensures { GoesAhead M.Turns kind call queue.now standing seat.old seat.new result }
+    standing: Standing<B>,
+    carried: &mut Option<T>,
+) -> ControlFlow<ReplyKind, Standing<B>>
+    requires { IsUnderWay M.Turns kind call queue.now standing carried.old seat.old }
+    ensures { GoesAhead M.Turns kind call queue.now standing carried.old seat.old carried.new seat.new result }
 {
     if M::is_walk(kind, &standing.local, &standing.answer) {
-        walk(queue, gate, kind, call, seat, standing)
+        walk(queue, gate, kind, call, seat, standing, carried)
     } else {
-        round(queue, gate, kind, call, seat, standing)
+        round(queue, gate, kind, call, seat, standing, carried)
     }
 }
 
@@ -209,7 +192,9 @@ fn has_met<B: Copy>(before: &Local<B>, after: &Local<B>) -> bool {
     }
 }
 
-/// The rounds of a call in a loop. Where it meets another call half done, it gives way to other threads.
+/// The rounds of a call in a loop, to its end. Where it meets another call half done, it gives way to other threads.
+///
+/// The value that the call carries is moved here, so that the place that the rounds before the loop are lent is lent to them alone.
 #[inline(never)]
 fn go_on<T, B: Copy, S, M: Turns<T, B, S>, G: Gate, R: Wait>(
     queue: &M,
@@ -218,16 +203,18 @@ fn go_on<T, B: Copy, S, M: Turns<T, B, S>, G: Gate, R: Wait>(
     kind: Kind,
     call: CallKind,
     seat: &mut S,
-    standing: Standing<T, B>,
+    standing: Standing<B>,
+    carried: Option<T>,
 ) -> Reply<T>
-    requires { IsUnderWay M.Turns kind call queue.now standing seat.old }
-    ensures { EndsRightly M.Turns kind call queue.now standing seat.old seat.new result }
+    requires { IsUnderWay M.Turns kind call queue.now standing carried seat.old }
+    ensures { EndsRightly M.Turns kind call queue.now standing carried seat.old seat.new result }
 {
     let mut standing = standing;
+    let mut carried = carried;
     for _ in rt.forever() {
         let before = standing.local;
-        match loop_round(queue, gate, kind, call, seat, standing) {
-            ControlFlow::Break(reply) => return reply,
+        match loop_round(queue, gate, kind, call, seat, standing, &mut carried) {
+            ControlFlow::Break(reply) => return Reply::fill(reply, carried),
             ControlFlow::Continue(after) => {
                 if has_met(&before, &after.local) {
                     yield_now();
@@ -247,10 +234,11 @@ trait Rounds<T, B: Copy, S, M: Turns<T, B, S>, G: Gate> {
         kind: Kind,
         call: CallKind,
         seat: &mut S,
-        standing: Standing<T, B>,
-    ) -> ControlFlow<Reply<T>, Standing<T, B>>
-        requires { IsUnderWay M.Turns kind call queue.now standing seat.old }
-        ensures { GoesAhead M.Turns kind call queue.now standing seat.old seat.new result };
+        standing: Standing<B>,
+        carried: &mut Option<T>,
+    ) -> ControlFlow<ReplyKind, Standing<B>>
+        requires { IsUnderWay M.Turns kind call queue.now standing carried.old seat.old }
+        ensures { GoesAhead M.Turns kind call queue.now standing carried.old seat.old carried.new seat.new result };
 }
 
 /// No more rounds.
@@ -266,16 +254,18 @@ impl<T, B: Copy, S, M: Turns<T, B, S>, G: Gate, W> Rounds<T, B, S, M, G> for Res
         kind: Kind,
         call: CallKind,
         seat: &mut S,
-        standing: Standing<T, B>,
-    ) -> ControlFlow<Reply<T>, Standing<T, B>>
-        requires { IsUnderWay M.Turns kind call queue.now standing seat.old }
-        ensures { GoesAhead M.Turns kind call queue.now standing seat.old seat.new result }
+        standing: Standing<B>,
+        carried: &mut Option<T>,
+    ) -> ControlFlow<ReplyKind, Standing<B>>
+        requires { IsUnderWay M.Turns kind call queue.now standing carried.old seat.old }
+        ensures { GoesAhead M.Turns kind call queue.now standing carried.old seat.old carried.new seat.new result }
     {
         let _ = queue;
         let _ = gate;
         let _ = kind;
         let _ = call;
         let _ = &*seat;
+        let _ = &*carried;
         ControlFlow::Continue(standing)
     }
 }
@@ -294,17 +284,18 @@ impl<T, B: Copy, S, M: Turns<T, B, S>, G: Gate, R: Rounds<T, B, S, M, G>> Rounds
         kind: Kind,
         call: CallKind,
         seat: &mut S,
-        standing: Standing<T, B>,
-    ) -> ControlFlow<Reply<T>, Standing<T, B>>
-        requires { IsUnderWay M.Turns kind call queue.now standing seat.old }
-        ensures { GoesAhead M.Turns kind call queue.now standing seat.old seat.new result }
+        standing: Standing<B>,
+        carried: &mut Option<T>,
+    ) -> ControlFlow<ReplyKind, Standing<B>>
+        requires { IsUnderWay M.Turns kind call queue.now standing carried.old seat.old }
+        ensures { GoesAhead M.Turns kind call queue.now standing carried.old seat.old carried.new seat.new result }
     {
         if !M::is_common(kind, &standing.local, &standing.answer) {
             return ControlFlow::Continue(standing);
         }
-        match common_round::<T, B, S, M, G, R>(queue, gate, kind, call, seat, standing) {
+        match common_round::<T, B, S, M, G, R>(queue, gate, kind, call, seat, standing, carried) {
             ControlFlow::Break(reply) => ControlFlow::Break(reply),
-            ControlFlow::Continue(after) => R::run(queue, gate, kind, call, seat, after),
+            ControlFlow::Continue(after) => R::run(queue, gate, kind, call, seat, after, carried),
         }
     }
 }
@@ -321,10 +312,10 @@ fn begin<T, B: Copy, S, M: Turns<T, B, S>>(
     queue: &M,
     seat: &S,
     call: Call<T>,
-) -> (Kind, CallKind, Standing<T, B>)
+) -> (Kind, CallKind, Standing<B>, Option<T>)
     requires { M.rests queue.now seat.now }
     ensures of { result.0 ≡ M.kind_of queue.now }
-    ensures goes { OnWay M.Turns result.0 result.1 queue.now seat.now call result.2 seat.now }
+    ensures goes { OnWay M.Turns result.0 result.1 queue.now seat.now call result.2 result.3 seat.now }
 {
     let _ = seat;
     let kind = queue.kind();
@@ -336,12 +327,12 @@ fn begin<T, B: Copy, S, M: Turns<T, B, S>>(
         Standing {
             local,
             answer: Answer::Start,
-            carried,
         },
+        carried,
     )
 }
 
-/// Runs a call to its end. What waits is called in one place only, once the common rounds are over.
+/// Runs a call to its end. What may wait is called in one place only, once the common rounds are over.
 #[inline(always)]
 pub(crate) fn drive<T, B: Copy, S, M: Turns<T, B, S>, G: Gate, R: Wait, W>(
     queue: &M,
@@ -353,10 +344,12 @@ pub(crate) fn drive<T, B: Copy, S, M: Turns<T, B, S>, G: Gate, R: Wait, W>(
     requires { M.rests queue.now seat.old }
     ensures { M.ended queue.now seat.old call result seat.new }
 {
-    let (kind, call, standing) = begin(queue, seat, call);
-    match <Usual<W> as Rounds<T, B, S, M, G>>::run(queue, gate, kind, call, seat, standing) {
-        ControlFlow::Break(reply) => reply,
-        ControlFlow::Continue(left) => go_on(queue, rt, gate, kind, call, seat, left),
+    let (kind, call, standing, mut carried) = begin(queue, seat, call);
+    match <Usual<W> as Rounds<T, B, S, M, G>>::run(
+        queue, gate, kind, call, seat, standing, &mut carried,
+    ) {
+        ControlFlow::Break(reply) => Reply::fill(reply, carried),
+        ControlFlow::Continue(left) => go_on(queue, rt, gate, kind, call, seat, left, carried),
     }
 }
 
@@ -372,10 +365,12 @@ pub(crate) fn drive_shortly<T, B: Copy, S, M: Turns<T, B, S>, G: Gate, R: Wait, 
     requires { M.rests queue.now seat.old }
     ensures { M.ended queue.now seat.old call result seat.new }
 {
-    let (kind, call, standing) = begin(queue, seat, call);
-    match <Short<W> as Rounds<T, B, S, M, G>>::run(queue, gate, kind, call, seat, standing) {
-        ControlFlow::Break(reply) => reply,
-        ControlFlow::Continue(left) => go_on(queue, rt, gate, kind, call, seat, left),
+    let (kind, call, standing, mut carried) = begin(queue, seat, call);
+    match <Short<W> as Rounds<T, B, S, M, G>>::run(
+        queue, gate, kind, call, seat, standing, &mut carried,
+    ) {
+        ControlFlow::Break(reply) => Reply::fill(reply, carried),
+        ControlFlow::Continue(left) => go_on(queue, rt, gate, kind, call, seat, left, carried),
     }
 }
 
@@ -398,12 +393,13 @@ pub(crate) fn drive_promptly<T, B: Copy, S, M: Turns<T, B, S>, G: Gate>(
     for _ in 0..PROMPT_STEPS + 1 {
         let todo = M::next(kind, local, answer);
         match todo {
-            Next::Reply(reply, spare) => return end(queue, seat, reply, spare, carried),
+            Next::Reply(reply, spare) => {
+                end(queue, seat, spare);
+                return Reply::fill(reply, carried);
+            }
             Next::Step(after, touch, op) => {
                 gate.pass(&op);
-                let (found, left) = queue.turn(seat, &call, &after, touch, op, carried);
-                carried = left;
-                answer = found;
+                answer = queue.turn(seat, &call, &after, touch, op, &mut carried);
                 local = after;
             }
         }

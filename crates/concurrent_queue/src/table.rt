@@ -261,14 +261,13 @@ impl<T, K: TableSteps<T>, A: Allocator> Turns<T, usize, Seat<Option<T>, Doing<T>
         local: &Local<usize>,
         todo: Touch,
         op: Op<usize>,
-        carried: Option<T>,
-    ) -> (Answer<usize>, Option<T>)
-        requires { TableCan K.layout self.now.table.shared.table_id (seat.old.table_id, seat.old.me) call.now local.now todo op carried }
-        ensures { TableDoes K.layout self.now.table.shared.table_id (seat.old.table_id, seat.old.me) call.now local.now todo op carried result.0 (seat.new.table_id, seat.new.me) result.1 }
+        carried: &mut Option<T>,
+    ) -> Answer<usize>
+        requires { TableCan K.layout self.now.table.shared.table_id (seat.old.table_id, seat.old.me) call.now local.now todo op carried.old }
+        ensures { TableDoes K.layout self.now.table.shared.table_id (seat.old.table_id, seat.old.me) call.now local.now todo op carried.old result (seat.new.table_id, seat.new.me) carried.new }
     {
-        let left = touch(&self.table.shared, seat, todo, carried);
-        let found = self.operate::<Brand>(seat, call, local, todo, op, &left);
-        (found, left)
+        touch(&self.table.shared, seat, todo, carried);
+        self.operate::<Brand>(seat, call, local, todo, op, carried)
     }
 
     /// No reply has a block, so nothing is done.

@@ -85,10 +85,10 @@ pub(crate) trait Turns<T, B: Copy, S> {
         local: &Local<B>,
         touch: Touch,
         op: Op<B>,
-        carried: Option<T>,
-    ) -> (Answer<B>, Option<T>)
-        requires { can self.now seat.old call.now local.now touch op carried }
-        ensures { does self.now seat.old call.now local.now touch op carried result.0 seat.new result.1 };
+        carried: &mut Option<T>,
+    ) -> Answer<B>
+        requires { can self.now seat.old call.now local.now touch op carried.old }
+        ensures { does self.now seat.old call.now local.now touch op carried.old result seat.new carried.new };
 
     /// Gives up a block that a reply hands out.
     fn give_up(&self, seat: &mut S, block: B)

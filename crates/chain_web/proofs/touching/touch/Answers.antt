@@ -7,5 +7,5 @@ put-requires g c = search (rules, tests)
 pub take-requires : goal.take-requires
 take-requires g c = search (rules, tests)
 
-pub returns-in-Some-clause-touched : goal.returns-in-Some-clause-touched
-returns-in-Some-clause-touched g c = search (rules, tests)
+pub returns-in-Some-Some-clause-touched : goal.returns-in-Some-Some-clause-touched
+returns-in-Some-Some-clause-touched g c = search (rules, tests)

@@ -1,4 +1,4 @@
-use Rattle.std.proofs.Common.{◌≡◌, ap, sym, subst}
+use Rattle.std.proofs.Common.{◌≡◌, refl, ap, sym, subst}
 use Rattle.queue_steps.specs.Kinds.{call_kind}
 use Rattle.queue_steps.specs.Next.{CanNext}
 use Rattle.concurrent_queue.proofs.Leading.{ends-first, ends-step, begins-first, leads-step, leads-reply}
@@ -15,8 +15,8 @@ loop-init g c =
           c.kind-kind.ensures (ap (λ z. z.0) c.split-call.ensures) c.start-local.ensures (g.met.M.Turns.prompt c.args.queue.now c.args.call c.requires.prompt),
     )
 
-pub turn-found-requires : goal.turn-found-requires
-turn-found-requires g c =
+pub turn-answer-requires : goal.turn-answer-requires
+turn-answer-requires g c =
     let m = g.M.Turns in
     let kind : call_kind c.args.call ≡ c.split-call.result.0 = sym (ap (λ z. z.0) c.split-call.ensures) in
     subst (λ k. m.can c.args.queue.now c.loop.seat k c.in-Step.after c.in-Step.touch c.in-Step.op c.loop.carried) kind
@@ -27,24 +27,29 @@ loop-preserved g c =
     let m = g.M.Turns in
     let h = leads-step m.can m.does m.spares m.gives m.stands m.ended c.kind-kind.result c.args.queue.now c.args.seat.now c.args.call c.loop.local c.loop.answer c.in-Step.after c.in-Step.touch c.in-Step.op c.loop.seat c.loop.carried c.next-todo.ensures c.in-Step.is c.loop.invariant.1 in
     let kind : call_kind c.args.call ≡ c.split-call.result.0 = sym (ap (λ z. z.0) c.split-call.ensures) in
-    let did = subst (λ k. m.does c.args.queue.now c.loop.seat k c.in-Step.after c.in-Step.touch c.in-Step.op c.loop.carried c.turn-found.result.0 c.turn-found.new.seat c.turn-found.result.1) (sym kind) c.turn-found.ensures in
-    let at = h.1 c.turn-found.result.0 c.turn-found.new.seat c.turn-found.result.1 did in
-    let next = g.met.M.Turns.goes_on c.args.queue.now c.args.seat.now c.args.call c.in-Step.after c.turn-found.result.0 c.turn-found.new.seat c.turn-found.result.1 at in
-    let can : CanNext c.kind-kind.result c.in-Step.after c.turn-found.result.0 = rw c.kind-kind.ensures next.0 in (
+    let did = subst (λ k. m.does c.args.queue.now c.loop.seat k c.in-Step.after c.in-Step.touch c.in-Step.op c.loop.carried c.turn-answer.result c.turn-answer.new.seat c.turn-answer.new.carried) (sym kind) c.turn-answer.ensures in
+    let at = h.1 c.turn-answer.result c.turn-answer.new.seat c.turn-answer.new.carried did in
+    let next = g.met.M.Turns.goes_on c.args.queue.now c.args.seat.now c.args.call c.in-Step.after c.turn-answer.result c.turn-answer.new.seat c.turn-answer.new.carried at in
+    let can : CanNext c.kind-kind.result c.in-Step.after c.turn-answer.result = rw c.kind-kind.ensures next.0 in (
       can,
       rw c.kind-kind.ensures next.1,
-      ends-step c.loop.counter c.kind-kind.result c.loop.local c.loop.answer c.in-Step.after c.in-Step.touch c.in-Step.op c.turn-found.result.0 c.loop-test.true c.next-todo.ensures c.in-Step.is c.loop.invariant.2 can,
+      ends-step c.loop.counter c.kind-kind.result c.loop.local c.loop.answer c.in-Step.after c.in-Step.touch c.in-Step.op c.turn-answer.result c.loop-test.true c.next-todo.ensures c.in-Step.is c.loop.invariant.2 can,
     )
 
 pub end-requires : goal.end-requires
 end-requires g c =
     let m = g.M.Turns in
+    (leads-reply m.can m.does m.spares m.gives m.stands m.ended c.kind-kind.result c.args.queue.now c.args.seat.now c.args.call c.loop.local c.loop.answer c.in-Reply.reply c.in-Reply.spare c.loop.seat c.loop.carried c.next-todo.ensures c.in-Reply.is c.loop.invariant.1).0
+
+pub fill-requires : goal.fill-requires
+fill-requires g c =
+    let m = g.M.Turns in
     let h = leads-reply m.can m.does m.spares m.gives m.stands m.ended c.kind-kind.result c.args.queue.now c.args.seat.now c.args.call c.loop.local c.loop.answer c.in-Reply.reply c.in-Reply.spare c.loop.seat c.loop.carried c.next-todo.ensures c.in-Reply.is c.loop.invariant.1 in
-    record { gives = h.0; fills = (h.1.0, h.1.1) }
+    rw h.1.1 refl
 
 pub returns-in-Reply : goal.returns-in-Reply
 returns-in-Reply g c =
     let m = g.M.Turns in
     let h = leads-reply m.can m.does m.spares m.gives m.stands m.ended c.kind-kind.result c.args.queue.now c.args.seat.now c.args.call c.loop.local c.loop.answer c.in-Reply.reply c.in-Reply.spare c.loop.seat c.loop.carried c.next-todo.ensures c.in-Reply.is c.loop.invariant.1 in
-    let same : h.1.0 ≡ c.end.result = let e = c.end.ensures.fills in cc in
-    rw same at h.1.2 c.end.new.seat c.end.ensures.gave
+    let same : h.1.0 ≡ c.fill.result = let e = c.fill.ensures in cc in
+    rw same at h.1.2 c.end.new.seat c.end.ensures

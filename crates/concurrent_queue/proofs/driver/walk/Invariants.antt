@@ -7,8 +7,8 @@ abbrev pub invariant-loop : goal.invariant-loop
 invariant-loop g l =
     let m = g.M.Turns in
     record {
-      going : IsUnderWay m l.kind l.call l.queue l.standing l.seat;
+      going : IsUnderWay m l.kind l.call l.queue l.standing l.carried l.seat;
       goes : (c : Call g.row.T.Denot) (first : g.row.S.Denot)
-          → OnWay m l.kind l.call l.queue first c l.initial.standing l.initial.seat
-          → OnWay m l.kind l.call l.queue first c l.standing l.seat;
+          → OnWay m l.kind l.call l.queue first c l.initial.standing l.initial.carried l.initial.seat
+          → OnWay m l.kind l.call l.queue first c l.standing l.carried l.seat;
     }
