@@ -33,3 +33,9 @@ module _ {T B S M : Type 0} (m : Ghosts M T B S) where
   GoesAhead k call queue s x before y after told =
       (c : Call T) (first : S) → OnWay k call queue first c s x before
       → MatchControlFlow told (λ left. OnWay k call queue first c left y after) (EndsWith queue first c y after)
+
+  -- whichever call was on its way, rounds have brought it on to `left`, where it carries y, or to its reply
+  abbrev pub StaysOnWay : Kind → Call Unit → M → Standing B → Option T → S → Standing B → Option T → S → ControlFlow (Reply Unit) Unit → Type 0
+  StaysOnWay k call queue s x before left y after told =
+      (c : Call T) (first : S) → OnWay k call queue first c s x before
+      → MatchControlFlow told (λ more. OnWay k call queue first c left y after) (EndsWith queue first c y after)

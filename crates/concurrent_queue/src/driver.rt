@@ -5,7 +5,7 @@ ghost use Rattle.std.specs.Prelude.{◌≡◌, true};
 ghost use Rattle.queue_steps.specs.CommonNext.{is_common_of, is_walk_of};
 ghost use Rattle.queue_steps.specs.Prompt.{is_prompt};
 ghost use Rattle.concurrent_queue.specs.Turns.{MayGive, Gave};
-ghost use Rattle.concurrent_queue.specs.Rounds.{OnWay, IsUnderWay, EndsRightly, GoesAhead};
+ghost use Rattle.concurrent_queue.specs.Rounds.{OnWay, IsUnderWay, EndsRightly, GoesAhead, StaysOnWay};
 
 use crate::gate::Gate;
 use crate::turns::Turns;
@@ -20,6 +20,7 @@ use std::thread::yield_now;
 /// Where a call stands that is on its way, with the answer to its last operation.
 ///
 /// The value that the call carries stays in one place, which each round is lent: as a part of the standing it would be copied from round to round.
+#[derive(Drop)]
 pub(crate) struct Standing<B> {
     pub(crate) local: Local<B>,
     pub(crate) answer: Answer<B>,
@@ -226,7 +227,27 @@ fn go_on<T, B: Copy, S, M: Turns<T, B, S>, G: Gate, R: Wait>(
     unreachable!()
 }
 
-/// Rounds that stand one after another. They are made of types, one inside another, so that each is a function of its own with one place where it is called: there the compiler puts it.
+/// Goes on in the loop. What the loop is handed is made here alone, so that the rounds before it write none of it.
+#[inline(always)]
+fn leave<T, B: Copy, S, M: Turns<T, B, S>, G: Gate, R: Wait>(
+    queue: &M,
+    rt: &R,
+    gate: &G,
+    kind: Kind,
+    call: CallKind,
+    seat: &mut S,
+    standing: Standing<B>,
+    carried: Option<T>,
+) -> Reply<T>
+    requires { IsUnderWay M.Turns kind call queue.now standing carried seat.old }
+    ensures { EndsRightly M.Turns kind call queue.now standing carried seat.old seat.new result }
+{
+    go_on(queue, rt, gate, kind, call, seat, standing, carried)
+}
+
+/// Rounds that stand one after another, until there is a reply or no more of them. They are made of types, one inside another, so that each is a function of its own with one place where it is called: there the compiler puts it.
+///
+/// Where the call stands is lent to them: if they returned it, each way out of a round would write it to memory.
 trait Rounds<T, B: Copy, S, M: Turns<T, B, S>, G: Gate> {
     fn run(
         queue: &M,
@@ -234,11 +255,11 @@ trait Rounds<T, B: Copy, S, M: Turns<T, B, S>, G: Gate> {
         kind: Kind,
         call: CallKind,
         seat: &mut S,
-        standing: Standing<B>,
+        standing: &mut Standing<B>,
         carried: &mut Option<T>,
-    ) -> ControlFlow<ReplyKind, Standing<B>>
-        requires { IsUnderWay M.Turns kind call queue.now standing carried.old seat.old }
-        ensures { GoesAhead M.Turns kind call queue.now standing carried.old seat.old carried.new seat.new result };
+    ) -> ControlFlow<ReplyKind>
+        requires { IsUnderWay M.Turns kind call queue.now standing.old carried.old seat.old }
+        ensures { StaysOnWay M.Turns kind call queue.now standing.old carried.old seat.old standing.new carried.new seat.new result };
 }
 
 /// No more rounds.
@@ -254,19 +275,20 @@ impl<T, B: Copy, S, M: Turns<T, B, S>, G: Gate, W> Rounds<T, B, S, M, G> for Res
         kind: Kind,
         call: CallKind,
         seat: &mut S,
-        standing: Standing<B>,
+        standing: &mut Standing<B>,
         carried: &mut Option<T>,
-    ) -> ControlFlow<ReplyKind, Standing<B>>
-        requires { IsUnderWay M.Turns kind call queue.now standing carried.old seat.old }
-        ensures { GoesAhead M.Turns kind call queue.now standing carried.old seat.old carried.new seat.new result }
+    ) -> ControlFlow<ReplyKind>
+        requires { IsUnderWay M.Turns kind call queue.now standing.old carried.old seat.old }
+        ensures { StaysOnWay M.Turns kind call queue.now standing.old carried.old seat.old standing.new carried.new seat.new result }
     {
         let _ = queue;
         let _ = gate;
         let _ = kind;
         let _ = call;
         let _ = &*seat;
+        let _ = &*standing;
         let _ = &*carried;
-        ControlFlow::Continue(standing)
+        ControlFlow::Continue(())
     }
 }
 
@@ -284,18 +306,25 @@ impl<T, B: Copy, S, M: Turns<T, B, S>, G: Gate, R: Rounds<T, B, S, M, G>> Rounds
         kind: Kind,
         call: CallKind,
         seat: &mut S,
-        standing: Standing<B>,
+        standing: &mut Standing<B>,
         carried: &mut Option<T>,
-    ) -> ControlFlow<ReplyKind, Standing<B>>
-        requires { IsUnderWay M.Turns kind call queue.now standing carried.old seat.old }
-        ensures { GoesAhead M.Turns kind call queue.now standing carried.old seat.old carried.new seat.new result }
+    ) -> ControlFlow<ReplyKind>
+        requires { IsUnderWay M.Turns kind call queue.now standing.old carried.old seat.old }
+        ensures { StaysOnWay M.Turns kind call queue.now standing.old carried.old seat.old standing.new carried.new seat.new result }
     {
         if !M::is_common(kind, &standing.local, &standing.answer) {
-            return ControlFlow::Continue(standing);
+            return ControlFlow::Continue(());
         }
-        match common_round::<T, B, S, M, G, R>(queue, gate, kind, call, seat, standing, carried) {
+        let now = Standing {
+            local: standing.local,
+            answer: standing.answer,
+        };
+        match common_round::<T, B, S, M, G, R>(queue, gate, kind, call, seat, now, carried) {
             ControlFlow::Break(reply) => ControlFlow::Break(reply),
-            ControlFlow::Continue(after) => R::run(queue, gate, kind, call, seat, after, carried),
+            ControlFlow::Continue(after) => {
+                *standing = after;
+                R::run(queue, gate, kind, call, seat, standing, carried)
+            }
         }
     }
 }
@@ -344,12 +373,24 @@ pub(crate) fn drive<T, B: Copy, S, M: Turns<T, B, S>, G: Gate, R: Wait, W>(
     requires { M.rests queue.now seat.old }
     ensures { M.ended queue.now seat.old call result seat.new }
 {
-    let (kind, call, standing, mut carried) = begin(queue, seat, call);
+    let (kind, call, mut standing, mut carried) = begin(queue, seat, call);
     match <Usual<W> as Rounds<T, B, S, M, G>>::run(
-        queue, gate, kind, call, seat, standing, &mut carried,
+        queue,
+        gate,
+        kind,
+        call,
+        seat,
+        &mut standing,
+        &mut carried,
     ) {
         ControlFlow::Break(reply) => Reply::fill(reply, carried),
-        ControlFlow::Continue(left) => go_on(queue, rt, gate, kind, call, seat, left, carried),
+        ControlFlow::Continue(()) => {
+            let left = Standing {
+                local: standing.local,
+                answer: standing.answer,
+            };
+            leave(queue, rt, gate, kind, call, seat, left, carried)
+        }
     }
 }
 
@@ -365,12 +406,24 @@ pub(crate) fn drive_shortly<T, B: Copy, S, M: Turns<T, B, S>, G: Gate, R: Wait, 
     requires { M.rests queue.now seat.old }
     ensures { M.ended queue.now seat.old call result seat.new }
 {
-    let (kind, call, standing, mut carried) = begin(queue, seat, call);
+    let (kind, call, mut standing, mut carried) = begin(queue, seat, call);
     match <Short<W> as Rounds<T, B, S, M, G>>::run(
-        queue, gate, kind, call, seat, standing, &mut carried,
+        queue,
+        gate,
+        kind,
+        call,
+        seat,
+        &mut standing,
+        &mut carried,
     ) {
         ControlFlow::Break(reply) => Reply::fill(reply, carried),
-        ControlFlow::Continue(left) => go_on(queue, rt, gate, kind, call, seat, left, carried),
+        ControlFlow::Continue(()) => {
+            let left = Standing {
+                local: standing.local,
+                answer: standing.answer,
+            };
+            leave(queue, rt, gate, kind, call, seat, left, carried)
+        }
     }
 }
 

@@ -7,8 +7,8 @@ run-requires g c = (c.begin-kind.ensures.of, (c.args.call, c.args.seat.now, c.be
 pub fill-requires : goal.fill-requires
 fill-requires g c = let told = c.in-Break.ensures c.args.call c.args.seat.now c.begin-kind.ensures.goes in rw told.1 refl
 
-pub go_on-requires : goal.go_on-requires
-go_on-requires g c = (c.begin-kind.ensures.of, (c.args.call, c.args.seat.now, c.in-Continue.ensures c.args.call c.args.seat.now c.begin-kind.ensures.goes))
+pub leave-requires : goal.leave-requires
+leave-requires g c = (c.begin-kind.ensures.of, (c.args.call, c.args.seat.now, c.in-Continue.ensures c.args.call c.args.seat.now c.begin-kind.ensures.goes))
 
 pub returns-in-Break : goal.returns-in-Break
 returns-in-Break g c =
@@ -17,4 +17,4 @@ returns-in-Break g c =
     rw same at told.2
 
 pub returns-in-Continue : goal.returns-in-Continue
-returns-in-Continue g c = c.go_on.ensures c.args.call c.args.seat.now (c.in-Continue.ensures c.args.call c.args.seat.now c.begin-kind.ensures.goes)
+returns-in-Continue g c = c.leave.ensures c.args.call c.args.seat.now (c.in-Continue.ensures c.args.call c.args.seat.now c.begin-kind.ensures.goes)
