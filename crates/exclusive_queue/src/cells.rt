@@ -1,5 +1,5 @@
 //! Words and slots of one owner, on which the steps of a call are done.
-ghost use Rattle.std.specs.Prelude.{◌≡◌, ◌==◌, true, Option, if◌then◌else◌};
+ghost use Rattle.std.specs.Prelude.{◌≡◌, ◌==◌, true, false, Option, if◌then◌else◌};
 ghost use Rattle.queue_steps.specs.declared.model.Call.{Call as SpecCall};
 ghost use Rattle.queue_steps.specs.declared.steps.types.Kind.{Kind as SpecKind};
 ghost use Rattle.queue_steps.specs.declared.steps.types.Op.{Op as SpecOp};
@@ -8,7 +8,7 @@ ghost use Rattle.queue_steps.specs.declared.steps.types.Answer.{Answer as SpecAn
 ghost use Rattle.queue_steps.specs.declared.steps.types.Touch.TheVariants.{Nothing};
 ghost use Rattle.queue_steps.specs.Sole.{Owned};
 ghost use Rattle.queue_steps.specs.LookNext.{IsLoad};
-ghost use Rattle.queue_steps.specs.CommonNext.{is_common_of, is_walk_of};
+ghost use Rattle.queue_steps.specs.CommonNext.{is_common_of, is_walk_of, is_passing_of};
 ghost use Rattle.queue_steps.specs.Next.{CanNext, next_of};
 ghost use Rattle.exclusive_queue.specs.Ends.{EndsRight};
 
@@ -78,11 +78,19 @@ pub(crate) trait Cells<T, B: Copy> {
         requires walk { is_walk_of kind local answer ≡ true }
         ensures { result ≡ next_of kind local answer };
 
-    /// Whether a call passes from block to block. It tells which steps to expect; nothing rests on it.
-    #[inline(always)]
-    fn is_passing(_local: &Local<B>, _answer: &Answer<B>) -> bool {
-        false
-    }
+    /// Whether a call passes from block to block, as `next_passing` tells where the step is no common one.
+    fn is_passing(kind: Kind, local: &Local<B>, answer: &Answer<B>) -> bool
+        requires of { (cells : Self) × (kind ≡ kind_of cells) }
+        requires can { CanNext kind local.now answer.now }
+        ensures { result ≡ is_passing_of kind local.now answer.now };
+
+    /// What a call does next that passes from block to block.
+    fn next_passing(kind: Kind, local: Local<B>, answer: Answer<B>) -> Next<B>
+        requires of { (cells : Self) × (kind ≡ kind_of cells) }
+        requires can { CanNext kind local answer }
+        requires other { is_common_of kind local answer ≡ false }
+        requires passing { is_passing_of kind local answer ≡ true }
+        ensures { result ≡ next_of kind local answer };
 
     /// The slot and the call's own place change their content.
     fn touch(&mut self, touch: Touch, op: &Op<B>, carried: &mut Option<T>)

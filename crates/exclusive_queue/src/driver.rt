@@ -1,8 +1,8 @@
 //! One owner's driver: it asks for the next step, does it, and asks again, until the reply.
 //!
 //! The first rounds stand one after another, so that the compiler knows in each where the call stands. They do common steps alone; any other step leaves for the loop, which goes on to the reply.
-ghost use Rattle.std.specs.Prelude.{◌≡◌, ℕ, suc, true};
-ghost use Rattle.queue_steps.specs.CommonNext.{is_common_of, is_walk_of};
+ghost use Rattle.std.specs.Prelude.{◌≡◌, ℕ, suc, true, false};
+ghost use Rattle.queue_steps.specs.CommonNext.{is_common_of, is_walk_of, is_passing_of};
 ghost use Rattle.queue_steps.specs.Sole.{Sole};
 ghost use Rattle.queue_steps.specs.Looks.{IsLook, look_reply};
 ghost use Rattle.queue_steps.specs.Kinds.{call_kind, call_value};
@@ -14,7 +14,11 @@ ghost use Rattle.queue_steps.specs.declared.sizes.TheConstants.{LONE_STEPS};
 use crate::cells::Cells;
 use queue_steps::model::{Call, CallKind, Reply, ReplyKind};
 use queue_steps::sizes::{BLOCK_SLOTS, LONE_STEPS};
-use queue_steps::steps::{self, Answer, Kind, Local, Next, Op, UnboundedLocal};
+use queue_steps::steps::stages::{
+    Asking, Awaiting, Chaining, Claiming, Entering, Following, Laying, Opening, Passing, Peeking,
+    PushBlock, Stage, Taking,
+};
+use queue_steps::steps::{self, Answer, Kind, Local, Next, Op};
 use std::marker::PhantomData;
 use std::mem;
 use std::ops::ControlFlow;
@@ -78,6 +82,24 @@ fn common_round<T, B: Copy, M: Cells<T, B>, R>(
     done!(cells, todo, carried, operate::<T, B, M>)
 }
 
+/// One round of a call that passes from block to block. `R` tells the calls of this one apart.
+#[inline(always)]
+fn passing_round<T, B: Copy, M: Cells<T, B>, R>(
+    cells: &mut M,
+    kind: Kind,
+    standing: Standing<B>,
+    carried: &mut Option<T>,
+) -> ControlFlow<ReplyKind, Standing<B>>
+    requires other { is_common_of kind standing.local standing.answer ≡ false }
+    requires passing { is_passing_of kind standing.local standing.answer ≡ true }
+    requires goes { (n : ℕ) × IsUnderWay M.Cells (suc n) kind standing carried.old cells.old }
+    ensures { GoesAhead M.Cells kind standing carried.old cells.old carried.new cells.new result }
+{
+    let Standing { local, answer } = standing;
+    let todo = M::next_passing(kind, local, answer);
+    done!(cells, todo, carried, operate::<T, B, M>)
+}
+
 /// One round of a call that walks over a block.
 #[inline(always)]
 fn walk_round<T, B: Copy, M: Cells<T, B>, const AT: u64>(
@@ -123,9 +145,9 @@ fn walk<T, B: Copy, M: Cells<T, B>>(
     ControlFlow::Continue(standing)
 }
 
-/// One round of a call, whatever its step is. `R` tells the calls of this one apart.
+/// One round of a call, whatever its step is.
 #[inline(always)]
-fn round<T, B: Copy, M: Cells<T, B>, R>(
+fn round<T, B: Copy, M: Cells<T, B>>(
     cells: &mut M,
     kind: Kind,
     standing: Standing<B>,
@@ -153,7 +175,7 @@ fn turn<T, B: Copy, M: Cells<T, B>>(
     if M::is_walk(kind, &standing.local, &standing.answer) {
         walk::<T, B, M>(cells, kind, standing, carried)
     } else {
-        round::<T, B, M, ()>(cells, kind, standing, carried)
+        round::<T, B, M>(cells, kind, standing, carried)
     }
 }
 
@@ -200,35 +222,68 @@ impl<T, B: Copy, M: Cells<T, B>, W> Rounds<T, B, M> for Loop<W> {
     }
 }
 
-/// A round of a call that passes from block to block, and then those of `R`.
-struct Passing<R> {
+/// A round of a call that passes from block to block and stands at `S`, and then those of `R`.
+struct At<S, R> {
+    stage: PhantomData<S>,
     rounds: PhantomData<R>,
 }
 
-impl<T, B: Copy, M: Cells<T, B>, R: Rounds<T, B, M>> Rounds<T, B, M> for Passing<R> {
+impl<T, B: Copy, M: Cells<T, B>, S: Stage, R: Rounds<T, B, M>> Rounds<T, B, M> for At<S, R> {
     #[inline(always)]
     fn run(cells: &mut M, kind: Kind, standing: Standing<B>, carried: &mut Option<T>) -> ReplyKind
         requires { IsUnderWay M.Cells LONE_STEPS kind standing carried.old cells.old }
         ensures { EndsRightly M.Cells kind standing carried.old cells.old carried.new cells.new result }
     {
-        if !M::is_passing(&standing.local, &standing.answer) {
+        if !S::is_at::<B>(&standing.local)
+            || M::is_common(kind, &standing.local, &standing.answer)
+            || !M::is_passing(kind, &standing.local, &standing.answer)
+        {
             return turns::<T, B, M>(cells, kind, standing, carried);
         }
-        match round::<T, B, M, R>(cells, kind, standing, carried) {
+        match passing_round::<T, B, M, R>(cells, kind, standing, carried) {
             ControlFlow::Break(reply) => reply,
             ControlFlow::Continue(passed) => R::run(cells, kind, passed, carried),
         }
     }
 }
 
-/// As many rounds as a push takes at most that lays a block, or a pop that comes to the next block. `W` tells them apart.
-type AtEnd<W> = Passing<Passing<Passing<Passing<Passing<Passing<Passing<Loop<W>>>>>>>>;
+/// A common round, and then those of `R`. Where the step is no common one, the rounds are those of `E`.
+struct Common<R, E> {
+    rounds: PhantomData<R>,
+    others: PhantomData<E>,
+}
 
-/// A push that lays a block.
-struct Lays;
+impl<T, B: Copy, M: Cells<T, B>, R: Rounds<T, B, M>, E: Rounds<T, B, M>> Rounds<T, B, M>
+    for Common<R, E> {
+    #[inline(always)]
+    fn run(cells: &mut M, kind: Kind, standing: Standing<B>, carried: &mut Option<T>) -> ReplyKind
+        requires { IsUnderWay M.Cells LONE_STEPS kind standing carried.old cells.old }
+        ensures { EndsRightly M.Cells kind standing carried.old cells.old carried.new cells.new result }
+    {
+        if !M::is_common(kind, &standing.local, &standing.answer) {
+            return E::run(cells, kind, standing, carried);
+        }
+        match common_round::<T, B, M, R>(cells, kind, standing, carried) {
+            ControlFlow::Break(reply) => reply,
+            ControlFlow::Continue(after) => R::run(cells, kind, after, carried),
+        }
+    }
+}
 
-/// A pop that comes to the next block.
-struct Passes;
+/// What tells the rounds of a push apart from those of a pop.
+struct Push;
+
+/// The rounds of a push that lays a block. The last is a common one.
+type Lays = At<
+    PushBlock,
+    At<Asking, At<Claiming, At<Laying, At<Opening, At<Chaining, Common<Loop<Push>, Loop<()>>>>>>>,
+>;
+
+/// The rounds of a pop that comes to the next block.
+type Passes = At<
+    Taking,
+    At<Following, At<Peeking, At<Passing, At<Entering, At<Awaiting, Loop<()>>>>>>,
+>;
 
 /// The rounds of a call that is not at a common step. The compiler knows in those of each arm where the call stands.
 #[inline(never)]
@@ -241,14 +296,12 @@ fn go_on<T, B: Copy, M: Cells<T, B>>(
     requires { IsUnderWay M.Cells LONE_STEPS kind standing carried.old cells.old }
     ensures { EndsRightly M.Cells kind standing carried.old cells.old carried.new cells.new result }
 {
-    match &standing.local {
-        Local::Unbounded(UnboundedLocal::PushBlock(_, _, _)) => {
-            <AtEnd<Lays> as Rounds<T, B, M>>::run(cells, kind, standing, carried)
-        }
-        Local::Unbounded(UnboundedLocal::Taking(_, _)) => {
-            <AtEnd<Passes> as Rounds<T, B, M>>::run(cells, kind, standing, carried)
-        }
-        _ => turns::<T, B, M>(cells, kind, standing, carried),
+    if PushBlock::is_at::<B>(&standing.local) {
+        <Lays as Rounds<T, B, M>>::run(cells, kind, standing, carried)
+    } else if Taking::is_at::<B>(&standing.local) {
+        <Passes as Rounds<T, B, M>>::run(cells, kind, standing, carried)
+    } else {
+        turns::<T, B, M>(cells, kind, standing, carried)
     }
 }
 
@@ -270,7 +323,7 @@ fn leave<T, B: Copy, M: Cells<T, B>>(
     reply
 }
 
-/// The common steps are over.
+/// The rounds that are not known.
 struct Rest<W> {
     told_apart: PhantomData<W>,
 }
@@ -285,29 +338,11 @@ impl<T, B: Copy, M: Cells<T, B>, W> Rounds<T, B, M> for Rest<W> {
     }
 }
 
-/// A common round, and then those of `R`.
-struct Common<R> {
-    rounds: PhantomData<R>,
-}
-
-impl<T, B: Copy, M: Cells<T, B>, R: Rounds<T, B, M>> Rounds<T, B, M> for Common<R> {
-    #[inline(always)]
-    fn run(cells: &mut M, kind: Kind, standing: Standing<B>, carried: &mut Option<T>) -> ReplyKind
-        requires { IsUnderWay M.Cells LONE_STEPS kind standing carried.old cells.old }
-        ensures { EndsRightly M.Cells kind standing carried.old cells.old carried.new cells.new result }
-    {
-        if !M::is_common(kind, &standing.local, &standing.answer) {
-            return leave::<T, B, M>(cells, kind, standing, carried);
-        }
-        match common_round::<T, B, M, R>(cells, kind, standing, carried) {
-            ControlFlow::Break(reply) => reply,
-            ControlFlow::Continue(after) => R::run(cells, kind, after, carried),
-        }
-    }
-}
+/// A common round of a call from its beginning, and then those of `R`.
+type Early<R> = Common<R, Rest<()>>;
 
 /// As many common rounds as each push takes that finds room, and each pop that finds an item, where no block begins or ends. `W` is the caller's.
-type Usual<W> = Common<Common<Common<Common<Common<Common<Common<Rest<W>>>>>>>>;
+type Usual<W> = Early<Early<Early<Early<Early<Early<Early<Rest<W>>>>>>>>;
 
 /// A call on its way, before its first step.
 #[inline(always)]

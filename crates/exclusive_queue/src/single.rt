@@ -100,6 +100,20 @@ impl<T> Cells<T, ()> for Single<T> {
     }
 
     #[inline(always)]
+    fn is_passing(_kind: Kind, _local: &Local<()>, _answer: &Answer<()>) -> bool {
+        false
+    }
+
+    #[inline(always)]
+    fn next_passing(kind: Kind, local: Local<()>, answer: Answer<()>) -> Next<()>
+        requires of { (cells : Single T) × (kind ≡ kind_of_single cells) }
+        requires can { CanNext kind local answer }
+        ensures { result ≡ next_of kind local answer }
+    {
+        Self::next(kind, local, answer)
+    }
+
+    #[inline(always)]
     fn touch(&mut self, touch: Touch, _op: &Op<()>, carried: &mut Option<T>) {
         match touch {
             Touch::Nothing => {}

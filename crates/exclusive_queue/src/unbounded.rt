@@ -1,7 +1,7 @@
 //! A chain of blocks with one owner.
-ghost use Rattle.std.specs.Prelude.{◌≡◌, true, ◌≤◌, IfOk};
+ghost use Rattle.std.specs.Prelude.{◌≡◌, true, false, ◌≤◌, IfOk};
 ghost use Rattle.queue_steps.specs.LookNext.{IsLoad};
-ghost use Rattle.queue_steps.specs.CommonNext.{is_common_of, is_walk_of};
+ghost use Rattle.queue_steps.specs.CommonNext.{is_common_of, is_walk_of, is_passing_of};
 ghost use Rattle.queue_steps.specs.Next.{CanNext, next_of};
 ghost use Rattle.queue_steps.specs.State.{start};
 ghost use Rattle.queue_steps.specs.declared.sizes.TheConstants.{LIMIT};
@@ -486,8 +486,29 @@ impl<T, A: Allocator> Cells<T, Name<T>> for LinkedBlocks<T, A> {
     }
 
     #[inline(always)]
-    fn is_passing(local: &Local<Name<T>>, answer: &Answer<Name<T>>) -> bool {
+    fn is_passing(kind: Kind, local: &Local<Name<T>>, answer: &Answer<Name<T>>) -> bool
+        requires of { (cells : Line T) × (kind ≡ kind_of_line cells) }
+        requires can { CanNext kind local.now answer.now }
+        ensures { result ≡ is_passing_of kind local.now answer.now }
+    {
+        let _ = kind;
         steps::is_passing(local, answer)
+    }
+
+    #[inline(always)]
+    fn next_passing(
+        kind: Kind,
+        local: Local<Name<T>>,
+        answer: Answer<Name<T>>,
+    ) -> steps::Next<Name<T>>
+        requires of { (cells : Line T) × (kind ≡ kind_of_line cells) }
+        requires can { CanNext kind local answer }
+        requires other { is_common_of kind local answer ≡ false }
+        requires passing { is_passing_of kind local answer ≡ true }
+        ensures { result ≡ next_of kind local answer }
+    {
+        let _ = kind;
+        steps::next_passing(local, answer)
     }
 
     #[inline(always)]

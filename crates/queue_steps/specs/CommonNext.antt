@@ -4,7 +4,7 @@ use Rattle.queue_steps.specs.declared.sizes.TheConstants.{LIMIT, BLOCK_SLOTS}
 use Rattle.queue_steps.specs.declared.steps.types.Kind.{Kind}
 use Rattle.queue_steps.specs.declared.steps.types.Kind.TheVariants as kind
 use Rattle.queue_steps.specs.declared.steps.types.Answer.{Answer}
-use Rattle.queue_steps.specs.declared.steps.types.Answer.TheVariants.{Found, Linked, Done}
+use Rattle.queue_steps.specs.declared.steps.types.Answer.TheVariants.{Found, Linked, Granted, Done}
 use Rattle.queue_steps.specs.declared.steps.types.Local.{Local}
 use Rattle.queue_steps.specs.declared.steps.types.Local.TheVariants as local
 use Rattle.queue_steps.specs.declared.steps.bounded.BoundedLocal.{BoundedLocal}
@@ -55,6 +55,22 @@ abbrev pub is_chain_walk : {B : Type 0} → UnboundedLocal B → Answer B → Bo
 is_chain_walk (chain.Walking block slot) (Found state) = not (bit_and state READ == 0) && nat_lt (slot + 2) BLOCK_SLOTS
 is_chain_walk _ _ = false
 
+-- whether a call passes from block to block, where its step is no common one: a push asks for the next block, claims the last slot and lays the block; a pop takes the last slot's position, follows to the next block and waits for its item
+abbrev pub is_chain_passing : {B : Type 0} → UnboundedLocal B → Answer B → Bool
+is_chain_passing (chain.PushBlock p tail spare) (Linked (Some block)) = true
+is_chain_passing (chain.Asking p tail (Some block)) (Granted fresh) = true
+is_chain_passing (chain.Claiming p tail block spare) (Found found) = found == tail
+is_chain_passing (chain.Laying p tail block fresh) Done = true
+is_chain_passing (chain.Opening p tail block fresh) (Found before) = true
+is_chain_passing (chain.Chaining p tail block fresh) Done = true
+is_chain_passing (chain.Taking head block) (Found found) = found == head
+is_chain_passing (chain.Following head block) (Linked (Some after)) = true
+is_chain_passing (chain.Peeking head block after) (Linked further) = true
+is_chain_passing (chain.Passing head block more) Done = true
+is_chain_passing (chain.Entering head block) Done = true
+is_chain_passing (chain.Awaiting head block) (Found state) = not (bit_and state WRITE == 0)
+is_chain_passing _ _ = false
+
 -- every step on one slot is a common one
 abbrev pub is_common_of : {B : Type 0} → Kind → Local B → Answer B → Bool
 is_common_of kind.Single l a = true
@@ -68,3 +84,8 @@ is_common_of _ _ _ = false
 abbrev pub is_walk_of : {B : Type 0} → Kind → Local B → Answer B → Bool
 is_walk_of kind.Unbounded (local.Unbounded l) a = is_chain_walk l a
 is_walk_of _ _ _ = false
+
+-- a call passes from block to block. Queues with a capacity have none
+abbrev pub is_passing_of : {B : Type 0} → Kind → Local B → Answer B → Bool
+is_passing_of kind.Unbounded (local.Unbounded l) a = is_chain_passing l a
+is_passing_of _ _ _ = false

@@ -1,8 +1,8 @@
 //! The steps of each call: from a call's local state and the answer to its last step, the next step or the reply.
 //!
 //! Whoever runs a call, its one owner, a thread or the machine, does each step and hands the answer back.
-ghost use Rattle.std.specs.Prelude.{◌≡◌, true};
-ghost use Rattle.queue_steps.specs.CommonNext.{is_common_of, is_walk_of};
+ghost use Rattle.std.specs.Prelude.{◌≡◌, true, false};
+ghost use Rattle.queue_steps.specs.CommonNext.{is_common_of, is_walk_of, is_passing_of};
 ghost use Rattle.queue_steps.specs.Next.{CanNext, first_local, next_of};
 ghost use Rattle.queue_steps.specs.declared.steps.types.Kind.TheVariants as kind;
 
@@ -11,6 +11,7 @@ use crate::model::CallKind;
 mod bounded;
 mod shown;
 mod single;
+pub mod stages;
 mod types;
 mod unbounded;
 
@@ -135,12 +136,29 @@ pub fn next_walk<B: Copy>(local: Local<B>, answer: Answer<B>) -> Next<B>
     }
 }
 
-/// Whether a call on a chain of blocks does next what it does, undisturbed, where a block begins or ends. It tells which steps to expect; nothing rests on it.
+/// Whether a call on a chain of blocks passes from block to block, as `next_passing` tells where the step is no common one.
 #[inline(always)]
-pub fn is_passing<B: Copy>(local: &Local<B>, answer: &Answer<B>) -> bool {
+pub fn is_passing<B: Copy>(local: &Local<B>, answer: &Answer<B>) -> bool
+    requires { CanNext kind.Unbounded local.now answer.now }
+    ensures { result ≡ is_passing_of kind.Unbounded local.now answer.now }
+{
     match local {
         Local::Unbounded(local) => unbounded::is_passing(local, answer),
         _ => false,
+    }
+}
+
+/// What a call on a chain of blocks does next, where it passes from block to block.
+#[inline(always)]
+pub fn next_passing<B: Copy>(local: Local<B>, answer: Answer<B>) -> Next<B>
+    requires can { CanNext kind.Unbounded local answer }
+    requires other { is_common_of kind.Unbounded local answer ≡ false }
+    requires passing { is_passing_of kind.Unbounded local answer ≡ true }
+    ensures { result ≡ next_of kind.Unbounded local answer }
+{
+    match local {
+        Local::Unbounded(local) => unbounded::next_passing(local, answer),
+        _ => unreachable!(),
     }
 }
 
@@ -155,6 +173,9 @@ pub fn next_unbounded<B: Copy>(local: Local<B>, answer: Answer<B>) -> Next<B>
     }
     if is_walk(&local, &answer) {
         return next_walk(local, answer);
+    }
+    if is_passing(&local, &answer) {
+        return next_passing(local, answer);
     }
     match local {
         Local::Unbounded(local) => unbounded::next_other(local, answer),

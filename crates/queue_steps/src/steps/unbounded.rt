@@ -4,7 +4,7 @@
 ghost use Rattle.std.specs.Prelude.{◌≡◌, ⊤, true, false};
 ghost use Rattle.queue_steps.specs.Words.{IsWord};
 ghost use Rattle.queue_steps.specs.ChainWords.{offset_of, items_before, settled};
-ghost use Rattle.queue_steps.specs.CommonNext.{is_chain_common, is_chain_walk};
+ghost use Rattle.queue_steps.specs.CommonNext.{is_chain_common, is_chain_walk, is_chain_passing};
 ghost use Rattle.queue_steps.specs.UnboundedNext.{at, loads, unbounded_begin, unbounded_next, is_last_slot, FitsChain};
 
 use crate::model::{Call, CallKind, Reply};
@@ -254,9 +254,12 @@ pub(super) fn is_walk<B: Copy>(local: &UnboundedLocal<B>, answer: &Answer<B>) ->
     }
 }
 
-/// Whether the step that follows is one of those that a call takes, undisturbed, where a block begins or ends.
+/// Whether the call passes from block to block, as `next_passing` tells where the step is no common one.
 #[inline(always)]
-pub(super) fn is_passing<B: Copy>(local: &UnboundedLocal<B>, answer: &Answer<B>) -> bool {
+pub(super) fn is_passing<B: Copy>(local: &UnboundedLocal<B>, answer: &Answer<B>) -> bool
+    requires { FitsChain local.now answer.now }
+    ensures { result ≡ is_chain_passing local.now answer.now }
+{
     match (local, answer) {
         (UnboundedLocal::PushBlock(_, _, _), Answer::Linked(Some(_))) => true,
         (UnboundedLocal::Asking(_, _, Some(_)), Answer::Granted(_)) => true,
@@ -264,15 +267,70 @@ pub(super) fn is_passing<B: Copy>(local: &UnboundedLocal<B>, answer: &Answer<B>)
         (UnboundedLocal::Laying(_, _, _, _), Answer::Done) => true,
         (UnboundedLocal::Opening(_, _, _, _), Answer::Found(_)) => true,
         (UnboundedLocal::Chaining(_, _, _, _), Answer::Done) => true,
-        (UnboundedLocal::Writing(_, _), Answer::Found(_)) => true,
         (UnboundedLocal::Taking(head, _), Answer::Found(found)) => *found == *head,
         (UnboundedLocal::Following(_, _), Answer::Linked(Some(_))) => true,
         (UnboundedLocal::Peeking(_, _, _), Answer::Linked(_)) => true,
         (UnboundedLocal::Passing(_, _, _), Answer::Done) => true,
         (UnboundedLocal::Entering(_, _), Answer::Done) => true,
         (UnboundedLocal::Awaiting(_, _), Answer::Found(state)) => *state & WRITE != 0,
-        (UnboundedLocal::Walking(_, _), Answer::Found(state)) => *state & READ != 0,
         _ => false,
+    }
+}
+
+/// What follows the answer to the last step of a call that passes from block to block.
+#[inline(always)]
+pub(super) fn next_passing<B: Copy>(local: UnboundedLocal<B>, answer: Answer<B>) -> Next<B>
+    requires fits { FitsChain local answer }
+    requires other { is_chain_common local answer ≡ false }
+    requires passing { is_chain_passing local answer ≡ true }
+    ensures { result ≡ unbounded_next local answer }
+{
+    match (local, answer) {
+        (UnboundedLocal::PushBlock(push, tail, _), Answer::Linked(Some(block))) => pushing::ask(
+            push,
+            tail,
+            Some(block),
+        ),
+        (UnboundedLocal::Asking(push, tail, Some(block)), Answer::Granted(fresh)) => {
+            pushing::claim(push, tail, block, Some(fresh))
+        }
+        (UnboundedLocal::Claiming(push, tail, block, spare), Answer::Found(found)) => {
+            pushing::after_last_claim(push, tail, block, spare, found)
+        }
+        (UnboundedLocal::Laying(push, tail, block, fresh), Answer::Done) => step(
+            UnboundedLocal::Opening(push, tail, block, fresh),
+            Touch::Nothing,
+            Op::Add(Word::Tail, TAIL_STEP),
+        ),
+        (UnboundedLocal::Opening(push, tail, block, fresh), Answer::Found(_)) => step(
+            UnboundedLocal::Chaining(push, tail, block, fresh),
+            Touch::Nothing,
+            Op::StoreLink(Link::Next(block), fresh),
+        ),
+        (UnboundedLocal::Chaining(push, tail, block, _), Answer::Done) => pushing::write(
+            push, tail, block, None,
+        ),
+        (UnboundedLocal::Taking(head, block), Answer::Found(_)) => popping::follow(head, block),
+        (UnboundedLocal::Following(head, block), Answer::Linked(Some(after))) => {
+            popping::peek(head, block, after)
+        }
+        (UnboundedLocal::Peeking(head, block, after), Answer::Linked(further)) => step(
+            UnboundedLocal::Passing(head, block, further.is_some()),
+            Touch::Nothing,
+            Op::StoreLink(Link::HeadBlock, after),
+        ),
+        (UnboundedLocal::Passing(head, block, more), Answer::Done) => step(
+            UnboundedLocal::Entering(head, block),
+            Touch::Nothing,
+            Op::Store(Word::Head, (head / 2 + 2) * 2 + if more { 1 } else { 0 }),
+        ),
+        (UnboundedLocal::Entering(head, block), Answer::Done) => popping::await_item(head, block),
+        (UnboundedLocal::Awaiting(head, block), Answer::Found(_)) => popping::walk(
+            block,
+            0,
+            Touch::Take(offset(head) as usize),
+        ),
+        _ => unreachable!(),
     }
 }
 
@@ -289,49 +347,37 @@ pub(super) fn next_walk<B: Copy>(local: UnboundedLocal<B>, answer: Answer<B>) ->
     }
 }
 
-/// What follows the answer to the last step, where it is no common one.
+/// What follows the answer to the last step, where it is no common one and passes no block.
 #[inline(always)]
 pub(super) fn next_other<B: Copy>(local: UnboundedLocal<B>, answer: Answer<B>) -> Next<B>
     requires fits { FitsChain local answer }
     requires other { is_chain_common local answer ≡ false }
+    requires stays { is_chain_passing local answer ≡ false }
     ensures { result ≡ unbounded_next local answer }
 {
     match (local, answer) {
         (UnboundedLocal::PushTail(push, spare), Answer::Found(tail)) => pushing::turn_away(
             push, tail, spare,
         ),
-        (UnboundedLocal::PushBlock(push, tail, _), Answer::Linked(block)) => pushing::ask(
-            push, tail, block,
-        ),
+        (UnboundedLocal::PushBlock(push, tail, _), Answer::Linked(None)) => {
+            pushing::ask(push, tail, None)
+        }
         (UnboundedLocal::Asking(push, _, _), Answer::Refused) => Next::Reply(
             pushing::no_memory(push),
             None,
         ),
-        (UnboundedLocal::Asking(push, tail, block), Answer::Granted(fresh)) => pushing::after_grant(
-            push, tail, block, fresh,
-        ),
+        (UnboundedLocal::Asking(push, tail, None), Answer::Granted(fresh)) => {
+            pushing::install(push, tail, fresh)
+        }
         (UnboundedLocal::Installing(push, tail, fresh), Answer::Linked(before)) => {
             pushing::after_install(push, tail, fresh, before)
         }
         (UnboundedLocal::Showing(push, tail, block), Answer::Done) => pushing::claim(
             push, tail, block, None,
         ),
-        (UnboundedLocal::Claiming(push, tail, block, spare), Answer::Found(found)) => {
-            pushing::after_claim(push, tail, block, spare, found)
+        (UnboundedLocal::Claiming(push, _, _, spare), Answer::Found(found)) => {
+            pushing::after_tail(push, found, spare)
         }
-        (UnboundedLocal::Laying(push, tail, block, fresh), Answer::Done) => step(
-            UnboundedLocal::Opening(push, tail, block, fresh),
-            Touch::Nothing,
-            Op::Add(Word::Tail, TAIL_STEP),
-        ),
-        (UnboundedLocal::Opening(push, tail, block, fresh), Answer::Found(_)) => step(
-            UnboundedLocal::Chaining(push, tail, block, fresh),
-            Touch::Nothing,
-            Op::StoreLink(Link::Next(block), fresh),
-        ),
-        (UnboundedLocal::Chaining(push, tail, block, _), Answer::Done) => pushing::write(
-            push, tail, block, None,
-        ),
         (UnboundedLocal::Spending(push, spare), Answer::Found(_)) => Next::Reply(
             closed(push),
             spare,
@@ -340,25 +386,12 @@ pub(super) fn next_other<B: Copy>(local: UnboundedLocal<B>, answer: Answer<B>) -
         (UnboundedLocal::PopTail(head, block), Answer::Found(tail)) => popping::after_pop_tail(
             head, block, tail,
         ),
-        (UnboundedLocal::Taking(head, block), Answer::Found(found)) => popping::after_take(
-            head, block, found,
-        ),
-        (UnboundedLocal::Following(head, block), Answer::Linked(after)) => popping::after_following(
-            head, block, after,
-        ),
-        (UnboundedLocal::Peeking(head, block, after), Answer::Linked(further)) => step(
-            UnboundedLocal::Passing(head, block, further.is_some()),
-            Touch::Nothing,
-            Op::StoreLink(Link::HeadBlock, after),
-        ),
-        (UnboundedLocal::Passing(head, block, more), Answer::Done) => step(
-            UnboundedLocal::Entering(head, block),
-            Touch::Nothing,
-            Op::Store(Word::Head, (head / 2 + 2) * 2 + if more { 1 } else { 0 }),
-        ),
-        (UnboundedLocal::Entering(head, block), Answer::Done) => popping::await_item(head, block),
-        (UnboundedLocal::Awaiting(head, block), Answer::Found(state)) => popping::after_state(
-            head, block, state,
+        (UnboundedLocal::Taking(_, _), Answer::Found(found)) => popping::after_head(found),
+        (UnboundedLocal::Following(head, block), Answer::Linked(None)) => {
+            popping::follow(head, block)
+        }
+        (UnboundedLocal::Awaiting(head, block), Answer::Found(_)) => popping::await_item(
+            head, block,
         ),
         (UnboundedLocal::Reading(block, slot), Answer::Found(_)) => popping::walk_on(block, slot),
         (UnboundedLocal::Walking(block, slot), Answer::Found(state)) => popping::after_look(
@@ -399,6 +432,15 @@ pub(super) fn next_other<B: Copy>(local: UnboundedLocal<B>, answer: Answer<B>) -
             Reply::IsClosed(tail % 2 == 1),
             None,
         ),
+        (
+            UnboundedLocal::Laying(_, _, _, _)
+            | UnboundedLocal::Opening(_, _, _, _)
+            | UnboundedLocal::Chaining(_, _, _, _)
+            | UnboundedLocal::Peeking(_, _, _)
+            | UnboundedLocal::Passing(_, _, _)
+            | UnboundedLocal::Entering(_, _),
+            _,
+        ) => unreachable!(),
         _ => unreachable!(),
     }
 }

@@ -120,32 +120,16 @@ pub(super) fn follow<B: Copy>(head: u64, block: B) -> Next<B>
     )
 }
 
-/// What follows the block behind a passed one: it has to be there before the poppers enter it.
-#[inline]
-pub(super) fn after_following<B: Copy>(head: u64, block: B, after: Option<B>) -> Next<B>
-    ensures { result ≡ followed head block after }
+/// V6: the next block has to be there before the poppers enter it.
+#[inline(always)]
+pub(super) fn peek<B: Copy>(head: u64, block: B, after: B) -> Next<B>
+    ensures { result ≡ followed head block (Some after) }
 {
-    match after {
-        None => follow(head, block),
-        Some(after) => step(
-            UnboundedLocal::Peeking(head, block, after),
-            Touch::Nothing,
-            Op::LoadLink(Link::Next(after)),
-        ),
-    }
-}
-
-/// What follows the exchange of a head that was another, or stood at the last slot of its block: there the poppers pass to the next one.
-#[inline]
-pub(super) fn after_take<B: Copy>(head: u64, block: B, found: u64) -> Next<B>
-    requires { ((found == head) && not (is_last_slot head)) ≡ false }
-    ensures { result ≡ unbounded_next (UnboundedLocal.Taking head block) (Found found) }
-{
-    if found != head {
-        after_head(found)
-    } else {
-        follow(head, block)
-    }
+    step(
+        UnboundedLocal::Peeking(head, block, after),
+        Touch::Nothing,
+        Op::LoadLink(Link::Next(after)),
+    )
 }
 
 /// The walk over a passed block, from this slot on: past the last one that others read, the block is given up.
@@ -223,17 +207,4 @@ pub(super) fn read<B: Copy>(head: u64, block: B) -> Next<B>
         Touch::Take(slot as usize),
         Op::Or(Word::State(block, slot as usize), READ),
     )
-}
-
-/// What follows the state of the slot at the head that is not written yet, or is the last of its block, whose reader begins the walk.
-#[inline]
-pub(super) fn after_state<B: Copy>(head: u64, block: B, state: u64) -> Next<B>
-    requires { (not (bit_and state WRITE == 0) && not (is_last_slot head)) ≡ false }
-    ensures { result ≡ written_found head block state }
-{
-    if state & WRITE == 0 {
-        await_item(head, block)
-    } else {
-        walk(block, 0, Touch::Take(offset(head) as usize))
-    }
 }

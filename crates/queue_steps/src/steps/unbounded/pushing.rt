@@ -1,5 +1,5 @@
 //! The steps of a push into a chain of blocks.
-ghost use Rattle.std.specs.Prelude.{◌≡◌, ◌==◌, ◌&&◌, not, Some, false};
+ghost use Rattle.std.specs.Prelude.{◌≡◌, ◌==◌, ◌&&◌, not, Some, None, true, false};
 ghost use Rattle.queue_steps.specs.Words.{IsWord};
 ghost use Rattle.queue_steps.specs.CommonNext.{is_roomy_tail};
 ghost use Rattle.queue_steps.specs.declared.steps.types.Answer.TheVariants.{Found};
@@ -89,20 +89,16 @@ pub(super) fn claim<B: Copy>(push: PushKind, tail: u64, block: B, spare: Option<
     )
 }
 
-/// What follows a block that was granted: the first one is installed, any other is kept as the spare.
+/// U4.
 #[inline]
-pub(super) fn after_grant<B: Copy>(push: PushKind, tail: u64, block: Option<B>, fresh: B) -> Next<B>
-    requires { IsWord tail }
-    ensures { result ≡ granted push tail block fresh }
+pub(super) fn install<B: Copy>(push: PushKind, tail: u64, fresh: B) -> Next<B>
+    ensures { result ≡ granted push tail None fresh }
 {
-    match block {
-        None => step(
-            UnboundedLocal::Installing(push, tail, fresh),
-            Touch::Nothing,
-            Op::Install(fresh),
-        ),
-        Some(block) => claim(push, tail, block, Some(fresh)),
-    }
+    step(
+        UnboundedLocal::Installing(push, tail, fresh),
+        Touch::Nothing,
+        Op::Install(fresh),
+    )
 }
 
 /// What follows the installing of a first block: where another was there, this one is kept as the spare.
@@ -150,9 +146,9 @@ pub(super) fn write<B: Copy>(push: PushKind, tail: u64, block: B, spare: Option<
     )
 }
 
-/// What follows the exchange of a tail that was another, or stood at the last slot of its block: there the spare is laid behind the block.
-#[inline]
-pub(super) fn after_claim<B: Copy>(
+/// What follows the exchange of a tail that stood at the last slot of its block: the spare is laid behind the block.
+#[inline(always)]
+pub(super) fn after_last_claim<B: Copy>(
     push: PushKind,
     tail: u64,
     block: B,
@@ -160,15 +156,23 @@ pub(super) fn after_claim<B: Copy>(
     found: u64,
 ) -> Next<B>
     requires fits { FitsChain (UnboundedLocal.Claiming push tail block spare) (Found found) }
-    requires other { ((found == tail) && not (is_last_slot tail)) ≡ false }
+    requires claimed { (found == tail) ≡ true }
+    requires last { ((found == tail) && not (is_last_slot tail)) ≡ false }
     ensures { result ≡ unbounded_next (UnboundedLocal.Claiming push tail block spare) (Found found) }
 {
-    if found == tail {
-        let Some(fresh) = spare else { unreachable!() };
-        lay(push, tail, block, fresh)
-    } else if has_room(found) {
-        read_block(push, found, spare)
+    let Some(fresh) = spare else { unreachable!() };
+    lay(push, tail, block, fresh)
+}
+
+/// What follows a tail that a push found.
+#[inline]
+pub(super) fn after_tail<B: Copy>(push: PushKind, tail: u64, spare: Option<B>) -> Next<B>
+    requires { IsWord tail }
+    ensures { result ≡ chain_tail_found push tail spare }
+{
+    if has_room(tail) {
+        read_block(push, tail, spare)
     } else {
-        turn_away(push, found, spare)
+        turn_away(push, tail, spare)
     }
 }

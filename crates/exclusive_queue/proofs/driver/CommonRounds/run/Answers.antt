@@ -6,8 +6,8 @@ use Rattle.exclusive_queue.proofs.driver.CommonRounds.run.Goals as goal
 pub common_round-requires-clause-goes : goal.common_round-requires-clause-goes
 common_round-requires-clause-goes g c = (LONE_STEPS - 1, c.requires)
 
-pub run-requires : goal.run-requires
-run-requires g c =
+pub run-requires-in-Continue : goal.run-requires-in-Continue
+run-requires-in-Continue g c =
     let h = c.requires in
     (h.0, h.1, h.2, GoesOn-more g.M.Cells (LONE_STEPS - 1) c.args.kind h.1 h.2 _ _ _ (c.in-Continue.ensures (LONE_STEPS - 1) h.1 h.2 h.3))
 
@@ -16,4 +16,4 @@ returns-in-Break g c = λ call first h. c.in-Break.ensures (LONE_STEPS - 1) call
 
 pub returns-in-Continue : goal.returns-in-Continue
 returns-in-Continue g c = λ call first h.
-    c.run.ensures call first (GoesOn-more g.M.Cells (LONE_STEPS - 1) c.args.kind call first _ _ _ (c.in-Continue.ensures (LONE_STEPS - 1) call first h))
+    c.run-in-Continue.ensures call first (GoesOn-more g.M.Cells (LONE_STEPS - 1) c.args.kind call first _ _ _ (c.in-Continue.ensures (LONE_STEPS - 1) call first h))

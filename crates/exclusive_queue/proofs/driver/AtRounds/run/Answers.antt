@@ -1,10 +1,10 @@
 use Rattle.std.proofs.Common.{◌-◌}
 use Rattle.queue_steps.specs.declared.sizes.TheConstants.{LONE_STEPS}
 use Rattle.exclusive_queue.proofs.Goings.{GoesOn-more}
-use Rattle.exclusive_queue.proofs.driver.PassingRounds.run.Goals as goal
+use Rattle.exclusive_queue.proofs.driver.AtRounds.run.Goals as goal
 
-pub round-requires : goal.round-requires
-round-requires g c = (LONE_STEPS - 1, c.requires)
+pub passing_round-requires-clause-goes : goal.passing_round-requires-clause-goes
+passing_round-requires-clause-goes g c = (LONE_STEPS - 1, c.requires)
 
 pub run-requires : goal.run-requires
 run-requires g c =
