@@ -1,7 +1,7 @@
 //! A chain of blocks that parties share: how the driver takes a call's steps on it, and its parties.
 ghost use Rattle.std.specs.Prelude.{◌≡◌, true, false, None, Some, MatchResult};
 ghost use Rattle.block_web.specs.Web.{sitter};
-ghost use Rattle.queue_steps.specs.CommonNext.{is_common_of, is_walk_of};
+ghost use Rattle.queue_steps.specs.CommonNext.{is_common_of, is_walk_of, is_passing_of};
 ghost use Rattle.queue_steps.specs.Prompt.{is_prompt};
 ghost use Rattle.queue_steps.specs.Next.{CanNext, next_of};
 ghost use Rattle.queue_steps.specs.Shares.{IsEntire};
@@ -119,6 +119,28 @@ impl<T, A: Allocator, Q: Source<T, A>> Turns<T, Place<T>, Asking<T, A, Q>> for S
     {
         let _ = kind;
         steps::next_walk(local, answer)
+    }
+
+    #[inline(always)]
+    fn is_passing(kind: Kind, local: &Local<Place<T>>, answer: &Answer<Place<T>>) -> bool
+        requires of { (queue : SharedChain T A) × (kind ≡ kinds.Unbounded) }
+        requires can { CanNext kind local.now answer.now }
+        ensures { result ≡ is_passing_of kind local.now answer.now }
+    {
+        let _ = kind;
+        steps::is_passing(local, answer)
+    }
+
+    #[inline(always)]
+    fn next_passing(kind: Kind, local: Local<Place<T>>, answer: Answer<Place<T>>) -> Next<Place<T>>
+        requires of { (queue : SharedChain T A) × (kind ≡ kinds.Unbounded) }
+        requires can { CanNext kind local answer }
+        requires other { is_common_of kind local answer ≡ false }
+        requires passing { is_passing_of kind local answer ≡ true }
+        ensures { result ≡ next_of kind local answer }
+    {
+        let _ = kind;
+        steps::next_passing(local, answer)
     }
 
     #[inline(always)]

@@ -1,8 +1,8 @@
 //! A party's driver: it asks for the next step, does it where other parties do theirs, and asks again, until the reply.
 //!
 //! The first rounds stand one after another, so that the compiler knows in each where the call stands. They do common steps alone; any other step leaves for the loop, which goes on to the reply.
-ghost use Rattle.std.specs.Prelude.{◌≡◌, true};
-ghost use Rattle.queue_steps.specs.CommonNext.{is_common_of, is_walk_of};
+ghost use Rattle.std.specs.Prelude.{◌≡◌, true, false};
+ghost use Rattle.queue_steps.specs.CommonNext.{is_common_of, is_walk_of, is_passing_of};
 ghost use Rattle.queue_steps.specs.Prompt.{is_prompt};
 ghost use Rattle.concurrent_queue.specs.Turns.{MayGive, Gave};
 ghost use Rattle.concurrent_queue.specs.Rounds.{OnWay, IsUnderWay, EndsRightly, GoesAhead, StaysOnWay};
@@ -11,6 +11,10 @@ use crate::gate::Gate;
 use crate::turns::Turns;
 use queue_steps::model::{Call, CallKind, Reply, ReplyKind};
 use queue_steps::sizes::{BLOCK_SLOTS, PROMPT_STEPS};
+use queue_steps::steps::stages::{
+    Asking, Awaiting, Chaining, Claiming, Entering, Following, Laying, Opening, Passing, Peeking,
+    PushBlock, Stage, Taking,
+};
 use queue_steps::steps::{self, Answer, BoundedLocal, Kind, Local, Next, UnboundedLocal};
 use std::marker::PhantomData;
 use std::ops::ControlFlow;
@@ -76,6 +80,27 @@ fn common_round<T, B: Copy, S, M: Turns<T, B, S>, G: Gate, R>(
 {
     let Standing { local, answer } = standing;
     let todo = M::next_common(kind, local, answer);
+    done!(queue, gate, call, seat, todo, carried)
+}
+
+/// One round of a call that passes from block to block. `R` tells the calls of this one apart.
+#[inline(always)]
+fn passing_round<T, B: Copy, S, M: Turns<T, B, S>, G: Gate, R>(
+    queue: &M,
+    gate: &G,
+    kind: Kind,
+    call: CallKind,
+    seat: &mut S,
+    standing: Standing<B>,
+    carried: &mut Option<T>,
+) -> ControlFlow<ReplyKind, Standing<B>>
+    requires other { is_common_of kind standing.local standing.answer ≡ false }
+    requires passing { is_passing_of kind standing.local standing.answer ≡ true }
+    requires goes { IsUnderWay M.Turns kind call queue.now standing carried.old seat.old }
+    ensures { GoesAhead M.Turns kind call queue.now standing carried.old seat.old carried.new seat.new result }
+{
+    let Standing { local, answer } = standing;
+    let todo = M::next_passing(kind, local, answer);
     done!(queue, gate, call, seat, todo, carried)
 }
 
@@ -197,7 +222,7 @@ fn has_met<B: Copy>(before: &Local<B>, after: &Local<B>) -> bool {
 ///
 /// The value that the call carries is moved here, so that the place that the rounds before the loop are lent is lent to them alone.
 #[inline(never)]
-fn go_on<T, B: Copy, S, M: Turns<T, B, S>, G: Gate, R: Wait>(
+fn turns<T, B: Copy, S, M: Turns<T, B, S>, G: Gate, R: Wait>(
     queue: &M,
     rt: &R,
     gate: &G,
@@ -225,24 +250,6 @@ fn go_on<T, B: Copy, S, M: Turns<T, B, S>, G: Gate, R: Wait>(
         }
     }
     unreachable!()
-}
-
-/// Goes on in the loop. What the loop is handed is made here alone, so that the rounds before it write none of it.
-#[inline(always)]
-fn leave<T, B: Copy, S, M: Turns<T, B, S>, G: Gate, R: Wait>(
-    queue: &M,
-    rt: &R,
-    gate: &G,
-    kind: Kind,
-    call: CallKind,
-    seat: &mut S,
-    standing: Standing<B>,
-    carried: Option<T>,
-) -> Reply<T>
-    requires { IsUnderWay M.Turns kind call queue.now standing carried seat.old }
-    ensures { EndsRightly M.Turns kind call queue.now standing carried seat.old seat.new result }
-{
-    go_on(queue, rt, gate, kind, call, seat, standing, carried)
 }
 
 /// Rounds that stand one after another, until there is a reply or no more of them. They are made of types, one inside another, so that each is a function of its own with one place where it is called: there the compiler puts it.
@@ -327,6 +334,137 @@ impl<T, B: Copy, S, M: Turns<T, B, S>, G: Gate, R: Rounds<T, B, S, M, G>> Rounds
             }
         }
     }
+}
+
+/// A round of a call that passes from block to block and stands at `P`, and then those of `R`. Any other step ends the rounds.
+struct At<P, R> {
+    stage: PhantomData<P>,
+    rounds: PhantomData<R>,
+}
+
+impl<T, B: Copy, S, M: Turns<T, B, S>, G: Gate, P: Stage, R: Rounds<T, B, S, M, G>> Rounds<
+    T,
+    B,
+    S,
+    M,
+    G,
+> for At<P, R> {
+    #[inline(always)]
+    fn run(
+        queue: &M,
+        gate: &G,
+        kind: Kind,
+        call: CallKind,
+        seat: &mut S,
+        standing: &mut Standing<B>,
+        carried: &mut Option<T>,
+    ) -> ControlFlow<ReplyKind>
+        requires { IsUnderWay M.Turns kind call queue.now standing.old carried.old seat.old }
+        ensures { StaysOnWay M.Turns kind call queue.now standing.old carried.old seat.old standing.new carried.new seat.new result }
+    {
+        if !P::is_at::<B>(&standing.local)
+            || M::is_common(kind, &standing.local, &standing.answer)
+            || !M::is_passing(kind, &standing.local, &standing.answer)
+        {
+            return ControlFlow::Continue(());
+        }
+        let now = Standing {
+            local: standing.local,
+            answer: standing.answer,
+        };
+        match passing_round::<T, B, S, M, G, R>(queue, gate, kind, call, seat, now, carried) {
+            ControlFlow::Break(reply) => ControlFlow::Break(reply),
+            ControlFlow::Continue(passed) => {
+                *standing = passed;
+                R::run(queue, gate, kind, call, seat, standing, carried)
+            }
+        }
+    }
+}
+
+/// What tells the rounds of a push apart from those of a pop.
+struct Push;
+
+/// The rounds of a push that lays a block. The last is a common one.
+type Lays = At<
+    PushBlock,
+    At<Asking, At<Claiming, At<Laying, At<Opening, At<Chaining, Common<Rest<Push>>>>>>>,
+>;
+
+/// The rounds of a pop that comes to the next block.
+type Passes = At<
+    Taking,
+    At<Following, At<Peeking, At<Passing, At<Entering, At<Awaiting, Rest<()>>>>>>,
+>;
+
+/// The rounds of a call that comes to a block's end. The compiler knows in those of each arm where the call stands.
+#[inline(always)]
+fn pass<T, B: Copy, S, M: Turns<T, B, S>, G: Gate>(
+    queue: &M,
+    gate: &G,
+    kind: Kind,
+    call: CallKind,
+    seat: &mut S,
+    standing: &mut Standing<B>,
+    carried: &mut Option<T>,
+) -> ControlFlow<ReplyKind>
+    requires { IsUnderWay M.Turns kind call queue.now standing.old carried.old seat.old }
+    ensures { StaysOnWay M.Turns kind call queue.now standing.old carried.old seat.old standing.new carried.new seat.new result }
+{
+    if PushBlock::is_at::<B>(&standing.local) {
+        <Lays as Rounds<T, B, S, M, G>>::run(queue, gate, kind, call, seat, standing, carried)
+    } else if Taking::is_at::<B>(&standing.local) {
+        <Passes as Rounds<T, B, S, M, G>>::run(queue, gate, kind, call, seat, standing, carried)
+    } else {
+        ControlFlow::Continue(())
+    }
+}
+
+/// The rounds of a call that is not at a common step, to its end.
+#[inline(never)]
+fn go_on<T, B: Copy, S, M: Turns<T, B, S>, G: Gate, R: Wait>(
+    queue: &M,
+    rt: &R,
+    gate: &G,
+    kind: Kind,
+    call: CallKind,
+    seat: &mut S,
+    standing: Standing<B>,
+    carried: Option<T>,
+) -> Reply<T>
+    requires { IsUnderWay M.Turns kind call queue.now standing carried seat.old }
+    ensures { EndsRightly M.Turns kind call queue.now standing carried seat.old seat.new result }
+{
+    let mut standing = standing;
+    let mut carried = carried;
+    match pass(queue, gate, kind, call, seat, &mut standing, &mut carried) {
+        ControlFlow::Break(reply) => Reply::fill(reply, carried),
+        ControlFlow::Continue(()) => {
+            let left = Standing {
+                local: standing.local,
+                answer: standing.answer,
+            };
+            turns(queue, rt, gate, kind, call, seat, left, carried)
+        }
+    }
+}
+
+/// Goes on where no step is known to be common. What the rounds there are handed is made here alone, so that the common rounds write none of it.
+#[inline(always)]
+fn leave<T, B: Copy, S, M: Turns<T, B, S>, G: Gate, R: Wait>(
+    queue: &M,
+    rt: &R,
+    gate: &G,
+    kind: Kind,
+    call: CallKind,
+    seat: &mut S,
+    standing: Standing<B>,
+    carried: Option<T>,
+) -> Reply<T>
+    requires { IsUnderWay M.Turns kind call queue.now standing carried seat.old }
+    ensures { EndsRightly M.Turns kind call queue.now standing carried seat.old seat.new result }
+{
+    go_on(queue, rt, gate, kind, call, seat, standing, carried)
 }
 
 /// As many common rounds as each push takes that finds room, and each pop that finds an item, where no block begins or ends and no other call is met. `W` is the caller's.

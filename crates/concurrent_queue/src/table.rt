@@ -253,6 +253,21 @@ impl<T, K: TableSteps<T>, A: Allocator> Turns<T, usize, Seat<Option<T>, Doing<T>
         K::next(kind, local, answer)
     }
 
+    /// No call on a table passes from block to block.
+    #[inline(always)]
+    fn is_passing(_kind: Kind, _local: &Local<usize>, _answer: &Answer<usize>) -> bool {
+        false
+    }
+
+    #[inline(always)]
+    fn next_passing(kind: Kind, local: Local<usize>, answer: Answer<usize>) -> Next<usize>
+        requires of { (slots : _) × (kind ≡ (K.layout slots).calls.kind) }
+        requires can { CanNext kind local answer }
+        ensures { result ≡ next_of kind local answer }
+    {
+        K::next(kind, local, answer)
+    }
+
     #[inline(always)]
     fn turn(
         &self,

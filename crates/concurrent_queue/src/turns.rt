@@ -1,5 +1,5 @@
 //! Where the steps of calls of many parties are done, for the driver.
-ghost use Rattle.std.specs.Prelude.{◌≡◌, true, Option};
+ghost use Rattle.std.specs.Prelude.{◌≡◌, true, false, Option};
 ghost use Rattle.queue_steps.specs.declared.model.Call.{Call as SpecCall};
 ghost use Rattle.queue_steps.specs.declared.model.Reply.{Reply as SpecReply};
 ghost use Rattle.queue_steps.specs.declared.steps.types.Kind.{Kind as SpecKind};
@@ -7,7 +7,7 @@ ghost use Rattle.queue_steps.specs.declared.steps.types.Op.{Op as SpecOp};
 ghost use Rattle.queue_steps.specs.declared.steps.types.Touch.{Touch as SpecTouch};
 ghost use Rattle.queue_steps.specs.declared.steps.types.Answer.{Answer as SpecAnswer};
 ghost use Rattle.queue_steps.specs.declared.steps.types.Local.{Local as SpecLocal};
-ghost use Rattle.queue_steps.specs.CommonNext.{is_common_of, is_walk_of};
+ghost use Rattle.queue_steps.specs.CommonNext.{is_common_of, is_walk_of, is_passing_of};
 ghost use Rattle.queue_steps.specs.Kinds.{call_kind};
 ghost use Rattle.queue_steps.specs.Next.{CanNext, next_of};
 ghost use Rattle.queue_steps.specs.Prompt.{is_prompt, EndsPromptly};
@@ -75,6 +75,20 @@ pub(crate) trait Turns<T, B: Copy, S> {
         requires of { (queue : Self) × (kind ≡ kind_of queue) }
         requires can { CanNext kind local answer }
         requires walk { is_walk_of kind local answer ≡ true }
+        ensures { result ≡ next_of kind local answer };
+
+    /// Whether a call passes from block to block, as `next_passing` tells where the step is no common one. Where it answers no, `next` tells.
+    fn is_passing(kind: Kind, local: &Local<B>, answer: &Answer<B>) -> bool
+        requires of { (queue : Self) × (kind ≡ kind_of queue) }
+        requires can { CanNext kind local.now answer.now }
+        ensures { result ≡ true → is_passing_of kind local.now answer.now ≡ true };
+
+    /// What a call does next that passes from block to block.
+    fn next_passing(kind: Kind, local: Local<B>, answer: Answer<B>) -> Next<B>
+        requires of { (queue : Self) × (kind ≡ kind_of queue) }
+        requires can { CanNext kind local answer }
+        requires other { is_common_of kind local answer ≡ false }
+        requires passing { is_passing_of kind local answer ≡ true }
         ensures { result ≡ next_of kind local answer };
 
     /// One step: the touch of a slot, and then the operation.

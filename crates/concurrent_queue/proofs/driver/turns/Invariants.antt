@@ -1,6 +1,6 @@
 use Rattle.queue_steps.specs.declared.model.Call.{Call}
 use Rattle.concurrent_queue.specs.Rounds.{OnWay, IsUnderWay}
-use Rattle.concurrent_queue.proofs.driver.go_on.Given as goal
+use Rattle.concurrent_queue.proofs.driver.turns.Given as goal
 
 -- the call is still under way, whichever it is
 abbrev pub invariant-loop : goal.invariant-loop
