@@ -12,8 +12,8 @@ use crate::turns::Turns;
 use queue_steps::model::{Call, CallKind, Reply, ReplyKind};
 use queue_steps::sizes::{BLOCK_SLOTS, PROMPT_STEPS};
 use queue_steps::steps::stages::{
-    Asking, Awaiting, Chaining, Claiming, Entering, Following, Laying, Opening, Passing, Peeking,
-    PushBlock, Stage, Taking,
+    ASKING, AWAITING, CHAINING, CLAIMING, ENTERING, FOLLOWING, LAYING, OPENING, PASSING, PEEKING,
+    PUSH_BLOCK, TAKING, is_at,
 };
 use queue_steps::steps::{self, Answer, BoundedLocal, Kind, Local, Next, UnboundedLocal};
 use std::marker::PhantomData;
@@ -336,19 +336,18 @@ impl<T, B: Copy, S, M: Turns<T, B, S>, G: Gate, R: Rounds<T, B, S, M, G>> Rounds
     }
 }
 
-/// A round of a call that passes from block to block and stands at `P`, and then those of `R`. Any other step ends the rounds.
-struct At<P, R> {
-    stage: PhantomData<P>,
+/// A round of a call that passes from block to block and stands at `STAGE`, and then those of `R`. Any other step ends the rounds.
+struct At<const STAGE: u64, R> {
     rounds: PhantomData<R>,
 }
 
-impl<T, B: Copy, S, M: Turns<T, B, S>, G: Gate, P: Stage, R: Rounds<T, B, S, M, G>> Rounds<
+impl<T, B: Copy, S, M: Turns<T, B, S>, G: Gate, const STAGE: u64, R: Rounds<T, B, S, M, G>> Rounds<
     T,
     B,
     S,
     M,
     G,
-> for At<P, R> {
+> for At<STAGE, R> {
     #[inline(always)]
     fn run(
         queue: &M,
@@ -362,7 +361,7 @@ impl<T, B: Copy, S, M: Turns<T, B, S>, G: Gate, P: Stage, R: Rounds<T, B, S, M, 
         requires { IsUnderWay M.Turns kind call queue.now standing.old carried.old seat.old }
         ensures { StaysOnWay M.Turns kind call queue.now standing.old carried.old seat.old standing.new carried.new seat.new result }
     {
-        if !P::is_at::<B>(&standing.local)
+        if !is_at(STAGE, &standing.local)
             || M::is_common(kind, &standing.local, &standing.answer)
             || !M::is_passing(kind, &standing.local, &standing.answer)
         {
@@ -387,14 +386,14 @@ struct Push;
 
 /// The rounds of a push that lays a block. The last is a common one.
 type Lays = At<
-    PushBlock,
-    At<Asking, At<Claiming, At<Laying, At<Opening, At<Chaining, Common<Rest<Push>>>>>>>,
+    PUSH_BLOCK,
+    At<ASKING, At<CLAIMING, At<LAYING, At<OPENING, At<CHAINING, Common<Rest<Push>>>>>>>,
 >;
 
 /// The rounds of a pop that comes to the next block.
 type Passes = At<
-    Taking,
-    At<Following, At<Peeking, At<Passing, At<Entering, At<Awaiting, Rest<()>>>>>>,
+    TAKING,
+    At<FOLLOWING, At<PEEKING, At<PASSING, At<ENTERING, At<AWAITING, Rest<()>>>>>>,
 >;
 
 /// The rounds of a call that comes to a block's end. The compiler knows in those of each arm where the call stands.
@@ -411,9 +410,9 @@ fn pass<T, B: Copy, S, M: Turns<T, B, S>, G: Gate>(
     requires { IsUnderWay M.Turns kind call queue.now standing.old carried.old seat.old }
     ensures { StaysOnWay M.Turns kind call queue.now standing.old carried.old seat.old standing.new carried.new seat.new result }
 {
-    if PushBlock::is_at::<B>(&standing.local) {
+    if is_at(PUSH_BLOCK, &standing.local) {
         <Lays as Rounds<T, B, S, M, G>>::run(queue, gate, kind, call, seat, standing, carried)
-    } else if Taking::is_at::<B>(&standing.local) {
+    } else if is_at(TAKING, &standing.local) {
         <Passes as Rounds<T, B, S, M, G>>::run(queue, gate, kind, call, seat, standing, carried)
     } else {
         ControlFlow::Continue(())

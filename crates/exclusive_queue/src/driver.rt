@@ -15,8 +15,8 @@ use crate::cells::Cells;
 use queue_steps::model::{Call, CallKind, Reply, ReplyKind};
 use queue_steps::sizes::{BLOCK_SLOTS, LONE_STEPS};
 use queue_steps::steps::stages::{
-    Asking, Awaiting, Chaining, Claiming, Entering, Following, Laying, Opening, Passing, Peeking,
-    PushBlock, Stage, Taking,
+    ASKING, AWAITING, CHAINING, CLAIMING, ENTERING, FOLLOWING, LAYING, OPENING, PASSING, PEEKING,
+    PUSH_BLOCK, TAKING, is_at,
 };
 use queue_steps::steps::{self, Answer, Kind, Local, Next, Op};
 use std::marker::PhantomData;
@@ -222,19 +222,19 @@ impl<T, B: Copy, M: Cells<T, B>, W> Rounds<T, B, M> for Loop<W> {
     }
 }
 
-/// A round of a call that passes from block to block and stands at `S`, and then those of `R`.
-struct At<S, R> {
-    stage: PhantomData<S>,
+/// A round of a call that passes from block to block and stands at `STAGE`, and then those of `R`.
+struct At<const STAGE: u64, R> {
     rounds: PhantomData<R>,
 }
 
-impl<T, B: Copy, M: Cells<T, B>, S: Stage, R: Rounds<T, B, M>> Rounds<T, B, M> for At<S, R> {
+impl<T, B: Copy, M: Cells<T, B>, const STAGE: u64, R: Rounds<T, B, M>> Rounds<T, B, M>
+    for At<STAGE, R> {
     #[inline(always)]
     fn run(cells: &mut M, kind: Kind, standing: Standing<B>, carried: &mut Option<T>) -> ReplyKind
         requires { IsUnderWay M.Cells LONE_STEPS kind standing carried.old cells.old }
         ensures { EndsRightly M.Cells kind standing carried.old cells.old carried.new cells.new result }
     {
-        if !S::is_at::<B>(&standing.local)
+        if !is_at(STAGE, &standing.local)
             || M::is_common(kind, &standing.local, &standing.answer)
             || !M::is_passing(kind, &standing.local, &standing.answer)
         {
@@ -275,14 +275,14 @@ struct Push;
 
 /// The rounds of a push that lays a block. The last is a common one.
 type Lays = At<
-    PushBlock,
-    At<Asking, At<Claiming, At<Laying, At<Opening, At<Chaining, Common<Loop<Push>, Loop<()>>>>>>>,
+    PUSH_BLOCK,
+    At<ASKING, At<CLAIMING, At<LAYING, At<OPENING, At<CHAINING, Common<Loop<Push>, Loop<()>>>>>>>,
 >;
 
 /// The rounds of a pop that comes to the next block.
 type Passes = At<
-    Taking,
-    At<Following, At<Peeking, At<Passing, At<Entering, At<Awaiting, Loop<()>>>>>>,
+    TAKING,
+    At<FOLLOWING, At<PEEKING, At<PASSING, At<ENTERING, At<AWAITING, Loop<()>>>>>>,
 >;
 
 /// The rounds of a call that is not at a common step. The compiler knows in those of each arm where the call stands.
@@ -296,9 +296,9 @@ fn go_on<T, B: Copy, M: Cells<T, B>>(
     requires { IsUnderWay M.Cells LONE_STEPS kind standing carried.old cells.old }
     ensures { EndsRightly M.Cells kind standing carried.old cells.old carried.new cells.new result }
 {
-    if PushBlock::is_at::<B>(&standing.local) {
+    if is_at(PUSH_BLOCK, &standing.local) {
         <Lays as Rounds<T, B, M>>::run(cells, kind, standing, carried)
-    } else if Taking::is_at::<B>(&standing.local) {
+    } else if is_at(TAKING, &standing.local) {
         <Passes as Rounds<T, B, M>>::run(cells, kind, standing, carried)
     } else {
         turns::<T, B, M>(cells, kind, standing, carried)
