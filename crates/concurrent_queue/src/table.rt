@@ -1,6 +1,6 @@
 //! A queue that parties share over a table: the first word counts the parties, the other words and the slots are those of its kind.
 ghost use Rattle.std.specs.Prelude.{◌≡◌, ◌≤◌, ℕ, true};
-ghost use Rattle.queue_steps.specs.CommonNext.{is_common_of, is_walk_of};
+ghost use Rattle.queue_steps.specs.CommonNext.{is_common_of};
 ghost use Rattle.queue_steps.specs.Next.{CanNext, next_of};
 ghost use Rattle.queue_parties.specs.Calling.{touched_list};
 ghost use Rattle.concurrent_queue.specs.TableRule.{TableOf, TableLaws, InTable};

@@ -1,16 +1,15 @@
 //! The steps of a pop from a chain of blocks.
-ghost use Rattle.std.specs.Prelude.{◌≡◌, ◌==◌, ◌&&◌, ◌+◌, ◌%◌, ◌<◌, nat_lt, not, Some, IsSome, true, false, bit_and};
+ghost use Rattle.std.specs.Prelude.{◌≡◌, ◌==◌, ◌+◌, ◌%◌, ◌<◌, nat_lt, not, Some, IsSome, true, false};
 ghost use Rattle.queue_steps.specs.Words.{IsWord, position_of};
 ghost use Rattle.queue_steps.specs.ChainWords.{offset_of};
-ghost use Rattle.queue_steps.specs.declared.steps.unbounded.TheConstants.{WRITE};
 ghost use Rattle.queue_steps.specs.declared.steps.types.Answer.TheVariants.{Found};
-ghost use Rattle.queue_steps.specs.UnboundedNext.{at, chain_head_found, head_block_found, chain_pop_tail_found, takes, awaits, written_found, follows, followed, walks, walks_on, is_last_slot, unbounded_next};
+ghost use Rattle.queue_steps.specs.UnboundedNext.{at, chain_head_found, head_block_found, chain_pop_tail_found, takes, awaits, follows, followed, walks, walks_on, unbounded_next};
 
 use crate::errors::PopError;
 use crate::model::Reply;
 use crate::sizes::{BLOCK_POSITIONS, BLOCK_SLOTS};
 use crate::steps::bounded::TAIL_STEP;
-use crate::steps::unbounded::{DESTROY, READ, UnboundedLocal, WRITE, load, offset, step};
+use crate::steps::unbounded::{DESTROY, READ, UnboundedLocal, load, offset, step};
 use crate::steps::{Link, Next, Op, Touch, Word};
 
 /// V2.

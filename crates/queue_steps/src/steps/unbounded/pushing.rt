@@ -9,7 +9,7 @@ use crate::errors::{ForcePushError, PushError};
 use crate::model::{Reply, ReplyKind};
 use crate::sizes::{BLOCK_SLOTS, LIMIT};
 use crate::steps::bounded::{MARK, PushKind, TAIL_STEP, closed};
-use crate::steps::unbounded::{UnboundedLocal, WRITE, is_last, items, load, offset, step};
+use crate::steps::unbounded::{UnboundedLocal, WRITE, items, load, offset, step};
 use crate::steps::{Link, Next, Op, Touch, Word};
 
 /// What a push answers that was refused a block.
