@@ -10,7 +10,7 @@ ghost use Rattle.chain_web.specs.Turning.{Carries, GaveUp, SitsAt, ChainCan, Cha
 ghost use Rattle.concurrent_queue.specs.InWeb.{RestsAt, EndedAt};
 ghost use Rattle.concurrent_queue.specs.Shared.{in_web, Parts, Joins as JoinsTwo, Meets};
 
-use crate::driver::{drive, drive_promptly};
+use crate::driver::{Usual, drive, drive_promptly};
 use crate::gate::Gate;
 use crate::party::{Hold, Party};
 use crate::shared_chain::SharedChain;
@@ -213,7 +213,7 @@ pub(crate) fn answer<T, A: Allocator, Q: Source<T, A>, G: Gate, R: Wait, W>(
     ensures { EndedAt party.old call result party.new }
 {
     let mut asking: Asking<T, A, Q> = Asking::wake(&queue.chain, party);
-    let reply = drive::<T, Place<T>, Asking<T, A, Q>, SharedChain<T, A>, G, R, W>(
+    let reply = drive::<T, Place<T>, Asking<T, A, Q>, SharedChain<T, A>, G, R, Usual<W>>(
         queue,
         rt,
         gate,

@@ -255,7 +255,7 @@ fn turns<T, B: Copy, S, M: Turns<T, B, S>, G: Gate, R: Wait>(
 /// Rounds that stand one after another, until there is a reply or no more of them. They are made of types, one inside another, so that each is a function of its own with one place where it is called: there the compiler puts it.
 ///
 /// Where the call stands is lent to them: if they returned it, each way out of a round would write it to memory.
-trait Rounds<T, B: Copy, S, M: Turns<T, B, S>, G: Gate> {
+pub(crate) trait Rounds<T, B: Copy, S, M: Turns<T, B, S>, G: Gate> {
     fn run(
         queue: &M,
         gate: &G,
@@ -270,7 +270,7 @@ trait Rounds<T, B: Copy, S, M: Turns<T, B, S>, G: Gate> {
 }
 
 /// No more rounds.
-struct Rest<W> {
+pub(crate) struct Rest<W> {
     told_apart: PhantomData<W>,
 }
 
@@ -300,7 +300,7 @@ impl<T, B: Copy, S, M: Turns<T, B, S>, G: Gate, W> Rounds<T, B, S, M, G> for Res
 }
 
 /// A common round, and then those of `R`. A step that is not a common one ends the rounds.
-struct Common<R> {
+pub(crate) struct Common<R> {
     rounds: PhantomData<R>,
 }
 
@@ -467,10 +467,10 @@ fn leave<T, B: Copy, S, M: Turns<T, B, S>, G: Gate, R: Wait>(
 }
 
 /// As many common rounds as each push takes that finds room, and each pop that finds an item, where no block begins or ends and no other call is met. `W` is the caller's.
-type Usual<W> = Common<Common<Common<Common<Common<Common<Common<Rest<W>>>>>>>>;
+pub(crate) type Usual<W> = Common<Common<Common<Common<Common<Common<Common<Rest<W>>>>>>>>;
 
 /// As many common rounds as a call on one slot takes that meets no other call.
-type Short<W> = Common<Common<Common<Rest<W>>>>;
+pub(crate) type Short<W> = Common<Common<Common<Rest<W>>>>;
 
 /// A call on its way, before its first step.
 #[inline(always)]
@@ -498,9 +498,9 @@ fn begin<T, B: Copy, S, M: Turns<T, B, S>>(
     )
 }
 
-/// Runs a call to its end. What may wait is called in one place only, once the common rounds are over.
+/// Runs a call to its end, after common rounds `E`. What may wait is called in one place only, once these are over.
 #[inline(always)]
-pub(crate) fn drive<T, B: Copy, S, M: Turns<T, B, S>, G: Gate, R: Wait, W>(
+pub(crate) fn drive<T, B: Copy, S, M: Turns<T, B, S>, G: Gate, R: Wait, E: Rounds<T, B, S, M, G>>(
     queue: &M,
     rt: &R,
     gate: &G,
@@ -511,48 +511,7 @@ pub(crate) fn drive<T, B: Copy, S, M: Turns<T, B, S>, G: Gate, R: Wait, W>(
     ensures { M.ended queue.now seat.old call result seat.new }
 {
     let (kind, call, mut standing, mut carried) = begin(queue, seat, call);
-    match <Usual<W> as Rounds<T, B, S, M, G>>::run(
-        queue,
-        gate,
-        kind,
-        call,
-        seat,
-        &mut standing,
-        &mut carried,
-    ) {
-        ControlFlow::Break(reply) => Reply::fill(reply, carried),
-        ControlFlow::Continue(()) => {
-            let left = Standing {
-                local: standing.local,
-                answer: standing.answer,
-            };
-            leave(queue, rt, gate, kind, call, seat, left, carried)
-        }
-    }
-}
-
-/// Runs a call on one slot to its end.
-#[inline(always)]
-pub(crate) fn drive_shortly<T, B: Copy, S, M: Turns<T, B, S>, G: Gate, R: Wait, W>(
-    queue: &M,
-    rt: &R,
-    gate: &G,
-    seat: &mut S,
-    call: Call<T>,
-) -> Reply<T>
-    requires { M.rests queue.now seat.old }
-    ensures { M.ended queue.now seat.old call result seat.new }
-{
-    let (kind, call, mut standing, mut carried) = begin(queue, seat, call);
-    match <Short<W> as Rounds<T, B, S, M, G>>::run(
-        queue,
-        gate,
-        kind,
-        call,
-        seat,
-        &mut standing,
-        &mut carried,
-    ) {
+    match E::run(queue, gate, kind, call, seat, &mut standing, &mut carried) {
         ControlFlow::Break(reply) => Reply::fill(reply, carried),
         ControlFlow::Continue(()) => {
             let left = Standing {

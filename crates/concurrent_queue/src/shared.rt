@@ -12,7 +12,7 @@ ghost use Rattle.exclusive_queue.specs.QueueText.{queue_text};
 ghost use Rattle.concurrent_queue.specs.Shared.{IsPartyOf, Calls, Parts, Joins, Meets, Finishes};
 
 use crate::chain;
-use crate::driver::{drive, drive_promptly, drive_shortly};
+use crate::driver::{Short, Usual, drive, drive_promptly};
 use crate::gate::{Gate, Open};
 pub use crate::party::Party;
 use crate::party::{Hold, is_only, join, meet, split};
@@ -188,14 +188,14 @@ impl<T, A: Allocator> ConcurrentQueue<T, A> {
         ensures { Calls party.old call result party.new }
     {
         match (&self.form, &mut party.hold) {
-            (Form::Single(slot), Hold::Table(seat)) => drive_shortly::<
+            (Form::Single(slot), Hold::Table(seat)) => drive::<
                 T,
                 usize,
                 Seat<Option<T>, Doing<T>>,
                 SharedTable<T, Slots, A>,
                 G,
                 R,
-                W,
+                Short<W>,
             >(slot, rt, gate, seat, call),
             (Form::Ring(ring), Hold::Table(seat)) => drive::<
                 T,
@@ -204,7 +204,7 @@ impl<T, A: Allocator> ConcurrentQueue<T, A> {
                 SharedTable<T, Rings, A>,
                 G,
                 R,
-                W,
+                Usual<W>,
             >(ring, rt, gate, seat, call),
             (Form::Chain(chain), Hold::Web(rested)) => {
                 chain::answer::<T, A, Q, G, R, W>(chain, rt, gate, rested, call)

@@ -8,11 +8,11 @@ use Rattle.concurrent_queue.proofs.shared.ConcurrentQueue.answer.Goals as goal
 pub invariant_of-party : goal.invariant_of-party
 invariant_of-party g c = elim c.match-self.branch [
   | in-Single-Table w ↦
-      let b = w.in-Single-Table in let s = b.seat in let s' = w.drive_shortly.new.seat in let held = subst IsHeld b.is-1 c.party.invariant in
-      subst (λ p. IsHeld p.hold) (sym w.party-inside-is) (ended_person _ _ (s.table_id, s.me) (s'.table_id, s'.me) c.args.call w.drive_shortly.result held.0 w.drive_shortly.ensures)
-  | in-Ring-Table w ↦
-      let b = w.in-Ring-Table in let s = b.seat in let s' = w.drive.new.seat in let held = subst IsHeld b.is-1 c.party.invariant in
+      let b = w.in-Single-Table in let s = b.seat in let s' = w.drive.new.seat in let held = subst IsHeld b.is-1 c.party.invariant in
       subst (λ p. IsHeld p.hold) (sym w.party-inside-is) (ended_person _ _ (s.table_id, s.me) (s'.table_id, s'.me) c.args.call w.drive.result held.0 w.drive.ensures)
+  | in-Ring-Table w ↦
+      let b = w.in-Ring-Table in let s = b.seat in let s' = w.drive-in-Ring-Table.new.seat in let held = subst IsHeld b.is-1 c.party.invariant in
+      subst (λ p. IsHeld p.hold) (sym w.party-inside-is) (ended_person _ _ (s.table_id, s.me) (s'.table_id, s'.me) c.args.call w.drive-in-Ring-Table.result held.0 w.drive-in-Ring-Table.ensures)
   | in-Chain-Web w ↦
       let b = w.in-Chain-Web in let held = subst IsHeld b.is-1 c.party.invariant in
       subst (λ p. IsHeld p.hold) (sym w.party-inside-is) (held_ended b.rested w.answer.new.party c.args.call w.answer.result held.0 w.answer.ensures)
@@ -21,13 +21,13 @@ invariant_of-party g c = elim c.match-self.branch [
 pub returns : goal.returns
 returns g c = let v = c.args.party.now in let k = c.args.call in elim c.match-self.branch [
   | in-Single-Table w ↦
-      let b = w.in-Single-Table in let s = b.seat in let s' = w.drive_shortly.new.seat in let held = subst IsHeld b.is-1 c.party.invariant in let is_v = subst (λ h. person_of h ≡ v) b.is-1 c.party.view_is in
-      subst (λ r. Calls v k r (person_of c.match-self.party-inside.hold)) (sym w.result-is) (subst (λ p. Calls v k w.drive_shortly.result (person_of p.hold)) (sym w.party-inside-is)
-      (ended_calls _ _ (s.table_id, s.me) (s'.table_id, s'.me) v k w.drive_shortly.result is_v (search rules) (search rules) held.0 w.drive_shortly.ensures))
-  | in-Ring-Table w ↦
-      let b = w.in-Ring-Table in let s = b.seat in let s' = w.drive.new.seat in let held = subst IsHeld b.is-1 c.party.invariant in let is_v = subst (λ h. person_of h ≡ v) b.is-1 c.party.view_is in
+      let b = w.in-Single-Table in let s = b.seat in let s' = w.drive.new.seat in let held = subst IsHeld b.is-1 c.party.invariant in let is_v = subst (λ h. person_of h ≡ v) b.is-1 c.party.view_is in
       subst (λ r. Calls v k r (person_of c.match-self.party-inside.hold)) (sym w.result-is) (subst (λ p. Calls v k w.drive.result (person_of p.hold)) (sym w.party-inside-is)
       (ended_calls _ _ (s.table_id, s.me) (s'.table_id, s'.me) v k w.drive.result is_v (search rules) (search rules) held.0 w.drive.ensures))
+  | in-Ring-Table w ↦
+      let b = w.in-Ring-Table in let s = b.seat in let s' = w.drive-in-Ring-Table.new.seat in let held = subst IsHeld b.is-1 c.party.invariant in let is_v = subst (λ h. person_of h ≡ v) b.is-1 c.party.view_is in
+      subst (λ r. Calls v k r (person_of c.match-self.party-inside.hold)) (sym w.result-is) (subst (λ p. Calls v k w.drive-in-Ring-Table.result (person_of p.hold)) (sym w.party-inside-is)
+      (ended_calls _ _ (s.table_id, s.me) (s'.table_id, s'.me) v k w.drive-in-Ring-Table.result is_v (search rules) (search rules) held.0 w.drive-in-Ring-Table.ensures))
   | in-Chain-Web w ↦
       let b = w.in-Chain-Web in let held = subst IsHeld b.is-1 c.party.invariant in let is_v = subst (λ h. person_of h ≡ v) b.is-1 c.party.view_is in
       subst (λ r. Calls v k r (person_of c.match-self.party-inside.hold)) (sym w.result-is) (subst (λ p. Calls v k w.answer.result (person_of p.hold)) (sym w.party-inside-is)
