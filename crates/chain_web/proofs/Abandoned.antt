@@ -11,7 +11,7 @@ use Rattle.chain_laws.proofs.ChainCells.{Writer, Free, Writing, Wrote, Reader, U
 use Rattle.chain_laws.proofs.ChainAnswers.{tail_items, head_items, head_is_standing, linked_of, shown_of}
 use Rattle.block_web.specs.Web.{Block, block, vacant, full, Lives, without, word_of, LastBlocks}
 use Rattle.block_web.specs.declared.hub.TheConstants.{TAIL, HEAD}
-use Rattle.exclusive_queue.specs.ChainMemory.{block_of}
+use Rattle.unbounded_cells.specs.ChainMemory.{block_of}
 use Rattle.chain_web.specs.Spots.{spot}
 use Rattle.chain_web.specs.ChainCalls.{OutChain}
 use Rattle.chain_web.specs.Leftover.{SlotLeft, BlockLeft, StaysLeft, BlocksLeft}

@@ -10,12 +10,12 @@ use Rattle.chain_laws.proofs.ChainCells.{Before, GivenUp, Chain, ChainOk, item_a
 use Rattle.chain_laws.proofs.ChainAnswers.{linked_of}
 use Rattle.block_web.specs.Web.{Block, Home, Content, block}
 use Rattle.block_web.specs.declared.block.Link.{Link}
-use Rattle.exclusive_queue.specs.LineCells.{Piece, piece_at, state_in, item_in}
-use Rattle.exclusive_queue.specs.RingKeeps.{put_in}
-use Rattle.exclusive_queue.specs.LinkedBlocks.{name_at, linked_name, content_of, contents, at_home, piece, pieces_of}
-use Rattle.exclusive_queue.specs.LineOwned.{cell_of, items_from, Holds, Linked}
-use Rattle.exclusive_queue.specs.ChainMemory.{named_by, AreHeld}
-use Rattle.exclusive_queue.proofs.Pieces.{length-pieces_of, at-pieces_of, length-contents}
+use Rattle.unbounded_cells.specs.LineCells.{Piece, piece_at, state_in, item_in}
+use Rattle.bounded_cells.specs.RingKeeps.{put_in}
+use Rattle.unbounded_cells.specs.LinkedBlocks.{name_at, linked_name, content_of, contents, at_home, piece, pieces_of}
+use Rattle.unbounded_cells.specs.LineOwned.{cell_of, items_from, Holds, Linked}
+use Rattle.unbounded_cells.specs.ChainMemory.{named_by, AreHeld}
+use Rattle.unbounded_cells.proofs.Pieces.{length-pieces_of, at-pieces_of, length-contents}
 use Rattle.chain_web.specs.Spots.{spot}
 use Rattle.chain_web.specs.ChainCalls.{OutChain}
 use Rattle.chain_web.specs.Ending.{LeadsTo, IntoBlock}

@@ -12,10 +12,10 @@ use Rattle.chain_laws.proofs.ChainAnswers.{tail_word, head_word, tail_items, hea
 use Rattle.block_web.specs.Web.{Block, block, word_of}
 use Rattle.block_web.specs.declared.block.Link.{Link}
 use Rattle.block_web.specs.declared.hub.TheConstants.{TAIL, HEAD}
-use Rattle.exclusive_queue.specs.LineCells.{Piece, Line, piece_at}
-use Rattle.exclusive_queue.specs.LinkedBlocks.{name_at, pieces_of}
-use Rattle.exclusive_queue.specs.LineOwned.{taken, accepted, items_from, line_queue, Holds, IsBare, IsLaid, IsIdle}
-use Rattle.exclusive_queue.specs.ChainMemory.{named_by, line_in}
+use Rattle.unbounded_cells.specs.LineCells.{Piece, Line, piece_at}
+use Rattle.unbounded_cells.specs.LinkedBlocks.{name_at, pieces_of}
+use Rattle.unbounded_cells.specs.LineOwned.{taken, accepted, items_from, line_queue, Holds, IsBare, IsLaid, IsIdle}
+use Rattle.unbounded_cells.specs.ChainMemory.{named_by, line_in}
 use Rattle.chain_web.specs.Spots.{spot}
 use Rattle.chain_web.specs.ChainCalls.{OutChain}
 use Rattle.chain_web.specs.Ending.{LeadsTo, IntoBlock}

@@ -11,8 +11,8 @@ use Rattle.chain_laws.proofs.ChainCells.{Before, GivenUp, queue_of}
 use Rattle.block_web.specs.Web.{Block, block, gone, Lives, AllGone, without, word_of, LastBlocksBy}
 use Rattle.block_web.specs.declared.block.Link.{Link}
 use Rattle.block_web.specs.declared.hub.TheConstants.{TAIL, PARTIES, HEAD}
-use Rattle.exclusive_queue.specs.LineOwned.{line_queue, IsIdle}
-use Rattle.exclusive_queue.specs.ChainMemory.{line_in, AreHeld}
+use Rattle.unbounded_cells.specs.LineOwned.{line_queue, IsIdle}
+use Rattle.unbounded_cells.specs.ChainMemory.{line_in, AreHeld}
 use Rattle.queue_parties.specs.declared.known.Doing.{Doing}
 use Rattle.queue_parties.specs.Known.{view_of}
 use Rattle.queue_parties.specs.Doings.{IsAlone}

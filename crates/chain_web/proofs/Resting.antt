@@ -6,7 +6,7 @@ use Rattle.queue_steps.specs.ChainWords.{block_at}
 use Rattle.queue_laws.proofs.Tails.{position_tail}
 use Rattle.chain_laws.proofs.ChainPlaces.{place, place_block}
 use Rattle.chain_laws.proofs.ChainAnswers.{head_word, standing_word}
-use Rattle.exclusive_queue.specs.ChainMemory.{block_of}
+use Rattle.unbounded_cells.specs.ChainMemory.{block_of}
 use Rattle.chain_laws.proofs.ChainCells.{Writer, Free, Writing, Wrote, Reader, Unread, Reading, Done, Mover, Rests, Laying, Opening, Passer, Stands, Passing, Entering, Link, Unlinked, Linking, Linked, Shown, Hidden, Showing, Seen, Walk, Before, Walker, Waits, GivenUp, Chain, ItemOk, BlocksOk, LinkOk, FrontOk, ShownOk, WalkOk, ChainOk, Write, Read, Tail, Head, Next, First, Passed, writer_of, reader_of, mover_of, passer_of, linker_of, shower_of, walker_of, Holds, Nothing, item_at, LAST}
 
 -- nobody writes or reads the items of these cells

@@ -12,7 +12,7 @@ ghost use Rattle.queue_parties.specs.Known.{view_of};
 ghost use Rattle.queue_parties.specs.Doings.{IsAlone};
 ghost use Rattle.queue_steps.specs.Words.{position_of};
 ghost use Rattle.queue_steps.specs.ChainWords.{offset_of as spec_offset_of, items_before as spec_items_before};
-ghost use Rattle.exclusive_queue.specs.ChainMemory.{block_of as spec_block_of};
+ghost use Rattle.unbounded_cells.specs.ChainMemory.{block_of as spec_block_of};
 ghost use Rattle.chain_web.specs.Ending.{LeadsTo, IntoBlock};
 ghost use Rattle.chain_web.specs.Leftover.{SlotLeft, BlockLeft, BlocksLeft, SameBut, Emptied, is_held, any_held};
 

@@ -1,11 +1,2 @@
-mod Leading
-mod Crowds
 mod Persons
 mod WebParties
-mod TableAllows
-mod TableOperations
-mod TableTouches
-mod RingEnding
-mod TableRests
-mod RingFinish
-mod SlotFinish

@@ -20,7 +20,7 @@ use Rattle.queue_parties.proofs.Views.{ended_party}
 use Rattle.concurrent_queue.specs.declared.party.Hold.{Hold}
 use Rattle.concurrent_queue.specs.declared.party.Hold.TheVariants as hold
 use Rattle.concurrent_queue.specs.Shared.{QueueName, at_table, in_web, QueueId, Person, person, person_of, IsHeld, Calls, Parts, Joins, Meets, Finishes}
-use Rattle.concurrent_queue.specs.AtTable.{Place, Ended}
+use Rattle.shared_tables.specs.AtTable.{Place, Ended}
 
 abbrev queue_id : QueueName → Option ℕ → QueueId
 queue_id n cap = record { name = n; cap = cap }

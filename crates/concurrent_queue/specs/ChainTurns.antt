@@ -17,7 +17,7 @@ use Rattle.queue_parties.specs.declared.known.Doing.{Doing}
 use Rattle.chain_web.specs.declared.web.ChainWeb.{ChainWeb}
 use Rattle.chain_web.specs.Turning.{Carries, SitsAt, ChainCan, ChainDoes, ChainRests, ChainStands, ChainEnded, GaveUp, ChainLeads}
 use Rattle.chain_web.proofs.Leading as steps
-use Rattle.concurrent_queue.specs.Turns.{Leads, Begins, GoesOn}
+use Rattle.party_driver.specs.Turns.{Leads, Begins, GoesOn}
 
 module _ {T A : Type 0} where
   -- the seat carries the block that a reply hands out

@@ -10,15 +10,15 @@ ghost use Rattle.chain_web.specs.Turning.{Carries, GaveUp, SitsAt, ChainCan, Cha
 ghost use Rattle.concurrent_queue.specs.InWeb.{RestsAt, EndedAt};
 ghost use Rattle.concurrent_queue.specs.Shared.{in_web, Parts, Joins as JoinsTwo, Meets};
 
-use crate::driver::{Usual, drive, drive_promptly};
-use crate::gate::Gate;
 use crate::party::{Hold, Party};
 use crate::shared_chain::SharedChain;
-use crate::turns::Turns;
 use block_web::item::Place;
 use block_web::web::Rested;
 use chain_web::source::{Refusing, Source};
 use chain_web::web::{ChainSeat, ChainWeb};
+use party_driver::driver::{Usual, drive, drive_promptly};
+use party_driver::gate::Gate;
+use party_driver::turns::Turns;
 use queue_parties::known::Doing;
 use queue_steps::model::{Call, CallKind, Reply};
 use queue_steps::steps::{self, Answer, Kind, Local, Next, Op, Touch};
@@ -35,7 +35,7 @@ pub(crate) struct Asking<T, A: Allocator, Q> {
 
 impl<T, A: Allocator, Q: Source<T, A>> Turns<T, Place<T>, Asking<T, A, Q>> for SharedChain<T, A> {
     ghost use Rattle.concurrent_queue.specs.ChainTurns.{ChainSpares, ChainGives, chain_begins, chain_goes_on};
-    ghost use Rattle.concurrent_queue.specs.Turns.{leads-through};
+    ghost use Rattle.party_driver.specs.Turns.{leads-through};
     ghost use Rattle.chain_web.specs.Turning.{ChainRests, ChainStands, ChainEnded};
     ghost use Rattle.chain_web.proofs.Prompt.{chain_prompt};
     ghost use Rattle.block_web.specs.declared.block.Link.{Link as SpecPlace};

@@ -12,24 +12,25 @@ ghost use Rattle.exclusive_queue.specs.QueueText.{queue_text};
 ghost use Rattle.concurrent_queue.specs.Shared.{IsPartyOf, Calls, Parts, Joins, Meets, Finishes};
 
 use crate::chain;
-use crate::driver::{Short, Usual, drive, drive_promptly};
-use crate::gate::{Gate, Open};
 pub use crate::party::Party;
-use crate::party::{Hold, is_only, join, meet, split};
-use crate::ring::{self, Rings, end_ring, open_ring};
+use crate::party::{Hold, join, meet, split};
 use crate::shared_chain::SharedChain;
-use crate::slot::{self, Slots, end_slot, open_slot};
-use crate::table::SharedTable;
 use atomic_table::Seat;
 use block_web::low::Low;
 use chain_web::source::{Granting, Refusing, Source};
 use chain_web::web::ChainWeb;
 use exclusive_queue::Exclusive;
 use exclusive_queue::text::write_queue;
+use party_driver::driver::{Short, Usual, drive, drive_promptly};
+use party_driver::gate::{Gate, Open};
 use queue_parties::known::Doing;
 use queue_steps::errors::{ForcePushError, PopError, PushError};
 use queue_steps::model::{Call, Reply};
 use queue_steps::steps::{Kind, shown_len, shows_closed};
+use shared_tables::ring::{self, Rings, end_ring, open_ring};
+use shared_tables::seats::is_only;
+use shared_tables::slot::{self, Slots, end_slot, open_slot};
+use shared_tables::table::SharedTable;
 use std::alloc::{AllocError, Allocator, Global};
 use std::fmt;
 use std::marker::Model;
@@ -177,7 +178,7 @@ impl<T, A: Allocator> ConcurrentQueue<T, A> {
 
     /// Runs a call to its end. The blocks that it asks for come from `Q`.
     #[inline(always)]
-    pub(crate) fn answer<Q: Source<T, A>, R: Wait, G: Gate, W>(
+    fn answer<Q: Source<T, A>, R: Wait, G: Gate, W>(
         &self,
         rt: &R,
         gate: &G,
@@ -291,7 +292,7 @@ impl<T, A: Allocator> ConcurrentQueue<T, A> {
     ///
     /// # Errors
     ///
-    /// `Closed` with the value on a closed queue.
+    /// `Closed` with the value on a closed queue, `NoMemory` with the value where a block was asked for and refused: that changes nothing.
     pub fn force_push<R: Wait>(
         &self,
         rt: &R,

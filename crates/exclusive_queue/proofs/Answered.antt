@@ -10,7 +10,7 @@ use Rattle.queue_steps.specs.declared.errors.PushError.TheVariants as push
 use Rattle.queue_steps.specs.declared.errors.ForcePushError.TheVariants as force
 use Rattle.queue_steps.specs.Kinds.{call_kind, filled}
 use Rattle.queue_steps.specs.Sole.{Owned, Sole, is_spent}
-use Rattle.exclusive_queue.specs.Apart.{answered, AnswersApart}
+use Rattle.owner_driver.specs.Apart.{answered, AnswersApart}
 
 -- a reply that is filled, if it is, answers the call that its kind answers
 abbrev Keeps : {T : Type 0} → Option (Reply T) → Call Unit → Type 0

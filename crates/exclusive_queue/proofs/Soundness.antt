@@ -2,15 +2,15 @@
 use Rattle.std.proofs.Common.{◌-◌, ◌≤◌, length, Option, Some, None, refl, arith, inl, inr}
 use Rattle.queue_steps.specs.Words.{position_of}
 use Rattle.queue_steps.specs.Legal.{IsSoundOwned}
-use Rattle.exclusive_queue.specs.SingleCells.{items_in, single_owned, IsIdle as IsSlotIdle}
-use Rattle.exclusive_queue.specs.RingKeeps.{length-items_of}
-use Rattle.exclusive_queue.specs.RingCells.{RingState}
-use Rattle.exclusive_queue.specs.RingOwned.{IsIdle, ring_owned}
-use Rattle.exclusive_queue.specs.LineSole.{holds-blocks}
-use Rattle.exclusive_queue.specs.LineCells.{Line}
-use Rattle.exclusive_queue.specs.LineOwned.{line_owned, IsIdle as IsLineIdle}
+use Rattle.bounded_cells.specs.SingleCells.{items_in, single_owned, IsIdle as IsSlotIdle}
+use Rattle.bounded_cells.specs.RingKeeps.{length-items_of}
+use Rattle.bounded_cells.specs.RingCells.{RingState}
+use Rattle.bounded_cells.specs.RingOwned.{IsIdle, ring_owned}
+use Rattle.unbounded_cells.specs.LineSole.{holds-blocks}
+use Rattle.unbounded_cells.specs.LineCells.{Line}
+use Rattle.unbounded_cells.specs.LineOwned.{line_owned, IsIdle as IsLineIdle}
 use Rattle.exclusive_queue.specs.Exclusive.{form_owned, IsFormIdle}
-use Rattle.exclusive_queue.specs.declared.single.Single.{Single as Slot}
+use Rattle.bounded_cells.specs.declared.single.Single.{Single as Slot}
 use Rattle.exclusive_queue.specs.declared.exclusive.Form.{Form}
 use Rattle.exclusive_queue.specs.declared.exclusive.Form.TheVariants as form
 

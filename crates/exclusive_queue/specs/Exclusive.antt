@@ -1,8 +1,8 @@
 -- What a queue with one owner shows.
 use Rattle.queue_steps.specs.Sole.{Owned}
-use Rattle.exclusive_queue.specs.SingleCells as single
-use Rattle.exclusive_queue.specs.RingOwned as ring
-use Rattle.exclusive_queue.specs.LineOwned as line
+use Rattle.bounded_cells.specs.SingleCells as single
+use Rattle.bounded_cells.specs.RingOwned as ring
+use Rattle.unbounded_cells.specs.LineOwned as line
 use Rattle.exclusive_queue.specs.declared.exclusive.Form.{Form}
 use Rattle.exclusive_queue.specs.declared.exclusive.Form.TheVariants as form
 use Rattle.exclusive_queue.specs.declared.exclusive.Exclusive.TheInside.{Inside}

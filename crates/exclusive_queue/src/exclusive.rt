@@ -3,35 +3,35 @@ ghost use Rattle.std.specs.Prelude.{◌≡◌, ◌+◌, ◌<◌, ◌≤◌, ◌=
 ghost use Rattle.queue_steps.specs.declared.sizes.TheConstants.{LIMIT, MAX_CAPACITY};
 ghost use Rattle.queue_steps.specs.State.{start, is_full};
 ghost use Rattle.queue_steps.specs.Replies.{is_empty};
-ghost use Rattle.queue_steps.specs.Sole.{Sole, HoldsBlocks};
+ghost use Rattle.queue_steps.specs.Sole.{Sole, HoldsBlocks, fresh};
 ghost use Rattle.queue_steps.specs.Legal.{IsSoundOwned};
-ghost use Rattle.exclusive_queue.specs.SingleCells.{IsIdle, single_owned};
-ghost use Rattle.exclusive_queue.specs.RingOwned.{IsIdle as IsRingIdle, ring_owned};
-ghost use Rattle.exclusive_queue.specs.RingMemory.{ring_in};
-ghost use Rattle.exclusive_queue.specs.declared.ring_words.TheConstants.{STAMPS};
+ghost use Rattle.bounded_cells.specs.SingleCells.{IsIdle, single_owned};
+ghost use Rattle.bounded_cells.specs.RingOwned.{IsIdle as IsRingIdle, ring_owned};
+ghost use Rattle.bounded_cells.specs.RingMemory.{ring_in};
+ghost use Rattle.bounded_cells.specs.declared.ring_words.TheConstants.{STAMPS};
 ghost use Rattle.std.specs.Mem.Slots.{slots_items, slots_len, IsFull};
-ghost use Rattle.exclusive_queue.specs.LineOwned.{IsIdle as IsLineIdle, line_owned};
-ghost use Rattle.exclusive_queue.specs.ChainMemory.{AreHeld, line_in};
+ghost use Rattle.unbounded_cells.specs.LineOwned.{IsIdle as IsLineIdle, line_owned};
+ghost use Rattle.unbounded_cells.specs.ChainMemory.{AreHeld, line_in};
 ghost use Rattle.exclusive_queue.specs.QueueText.{exclusive_text};
-ghost use Rattle.exclusive_queue.specs.Apart.{FitsCall, SoleApart};
+ghost use Rattle.owner_driver.specs.Apart.{FitsCall, SoleApart};
 ghost use Rattle.queue_steps.specs.declared.model.Call.TheVariants as call;
 ghost use Rattle.queue_steps.specs.declared.model.Reply.TheVariants as reply;
 
-use crate::bounded::Ring;
-use crate::driver::drive_apart;
 use crate::sealed::Sealed;
-use crate::single::Single;
 use crate::store::Store;
 use crate::text::write_queue;
-use crate::unbounded::{LinkedBlocks, Name};
 use atomic_table::Closed;
 use block_web::chain::Chain;
 use block_web::item::{Item, Place};
+use bounded_cells::bounded::Ring;
+use bounded_cells::single::Single;
+use owner_driver::driver::drive_apart;
 use queue_steps::errors::{ForcePushError, PopError, PushError};
 use queue_steps::model::{Call, CallKind, Reply, ReplyKind};
 use std::alloc::{AllocError, Allocator, Global};
 use std::fmt;
 use std::marker::Model;
+use unbounded_cells::unbounded::{LinkedBlocks, Name};
 
 mod iter;
 
@@ -177,7 +177,7 @@ impl<T, A: Allocator + Clone> Exclusive<T, A> {
     /// Where there is no memory. A capacity above `MAX_CAPACITY`, or one whose slots are more bytes than one allocation may have, is refused without a request.
     pub fn bounded(alloc: A, cap: usize) -> Result<Self, AllocError>
         requires { 0 < cap }
-        ensures empty { IfOk result (λ queue. queue ≡ record { queue = start (Some cap) 0; blocks = 0 }) }
+        ensures empty { IfOk result (λ queue. queue ≡ fresh (Some cap)) }
         ensures limited { MAX_CAPACITY < cap → IsErr result }
         ensures single { cap ≡ 1 → IsOk result }
     {
@@ -212,7 +212,7 @@ impl<T, A: Allocator> Exclusive<T, A> {
     ///
     /// It asks for no memory. Pushes do, for a block of 31 items at a time.
     pub fn unbounded(alloc: A) -> Self
-        ensures { result ≡ record { queue = start None 0; blocks = 0 } }
+        ensures { result ≡ fresh None }
     {
         Exclusive {
             form: Form::Unbounded(LinkedBlocks::new(alloc)),

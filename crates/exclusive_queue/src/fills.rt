@@ -5,7 +5,7 @@ ghost use Rattle.std.specs.Prelude.{◌≡◌, IsSome, Some};
 ghost use Rattle.queue_steps.specs.Kinds.{filled};
 ghost use Rattle.queue_steps.specs.declared.model.Call.{Call as SpecCall};
 ghost use Rattle.queue_steps.specs.declared.model.Call.TheVariants as call;
-ghost use Rattle.exclusive_queue.specs.Apart.{answered};
+ghost use Rattle.owner_driver.specs.Apart.{answered};
 
 use queue_steps::errors::{ForcePushError, PushError};
 use queue_steps::model::{Reply, ReplyKind};

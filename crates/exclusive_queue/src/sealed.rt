@@ -3,15 +3,15 @@ ghost use Rattle.std.specs.Prelude.{◌≡◌};
 ghost use Rattle.queue_steps.specs.Legal.{IsSoundOwned};
 ghost use Rattle.queue_steps.specs.Looks.{IsLook, look_reply};
 ghost use Rattle.queue_steps.specs.Sole.{Owned};
-ghost use Rattle.exclusive_queue.specs.Apart.{FitsCall, SoleApart};
+ghost use Rattle.owner_driver.specs.Apart.{FitsCall, SoleApart};
 
-use crate::bounded::Ring;
-use crate::driver::{drive, observe};
 use crate::exclusive::Exclusive;
-use crate::single::Single;
-use crate::unbounded::{LinkedBlocks, Name};
+use bounded_cells::bounded::Ring;
+use bounded_cells::single::Single;
+use owner_driver::driver::{drive, observe};
 use queue_steps::model::{CallKind, ReplyKind};
 use std::alloc::Allocator;
+use unbounded_cells::unbounded::{LinkedBlocks, Name};
 
 /// What keeps the items of a queue with one owner. No other crate can name it, so none can make a `Store`.
 pub trait Sealed<T> {
@@ -41,7 +41,7 @@ pub trait Sealed<T> {
 }
 
 impl<T> Sealed<T> for Single<T> {
-    ghost use Rattle.exclusive_queue.specs.SingleCells.{IsIdle, single_owned};
+    ghost use Rattle.bounded_cells.specs.SingleCells.{IsIdle, single_owned};
 
     ghost idle = { IsIdle };
 
@@ -66,7 +66,7 @@ impl<T> Sealed<T> for Single<T> {
 }
 
 impl<T, A: Allocator> Sealed<T> for Ring<T, A> {
-    ghost use Rattle.exclusive_queue.specs.RingOwned.{IsIdle, ring_owned};
+    ghost use Rattle.bounded_cells.specs.RingOwned.{IsIdle, ring_owned};
 
     ghost idle = { IsIdle };
 
@@ -91,7 +91,7 @@ impl<T, A: Allocator> Sealed<T> for Ring<T, A> {
 }
 
 impl<T, A: Allocator> Sealed<T> for LinkedBlocks<T, A> {
-    ghost use Rattle.exclusive_queue.specs.LineOwned.{IsIdle, line_owned};
+    ghost use Rattle.unbounded_cells.specs.LineOwned.{IsIdle, line_owned};
 
     ghost idle = { IsIdle };
 

@@ -9,8 +9,8 @@ use Rattle.queue_text.specs.declared.args.Form.{Form}
 use Rattle.queue_text.specs.declared.args.Form.TheVariants as form
 use Rattle.queue_text.specs.declared.faults.Fault.{Fault}
 use Rattle.queue_text.specs.declared.faults.Fault.TheVariants as fault
-use Rattle.queue_threads.specs.Counts.{IsCounted}
-use Rattle.queue_threads.specs.Meetings.{Handshake}
+use Rattle.queue_threads.specs.Counts.{IsCounted, IsCountsLine}
+use Rattle.queue_threads.specs.Meetings.{Handshake, IsHandshakeText}
 use Rattle.queue_command.specs.Reports.{IsReport}
 use Rattle.queue_command.specs.Runs.{IsRun, IsRunFault, IsPartRunFault}
 use Rattle.queue_command.specs.Scripts.{IsTranscript}
@@ -37,8 +37,8 @@ Does form.Handshake known old new v = Handshake old new v
 abbrev pub Fails : Form → Option (List ℕ) → Option (List ℕ) → Option (List ℕ) → Fault → Type 0
 Fails (form.Script k) known old new why = IsPartRunFault IsCallOfWord call_text (IsTranscript k) known old new why
 Fails (form.Replay k parties) known old new why = IsRunFault IsReplayLine replay_line_text (IsReport k parties) known old new why
-Fails (form.Threads l) known old new why = IsOutputFault old new why
-Fails form.Handshake known old new why = IsOutputFault old new why
+Fails (form.Threads l) known old new why = IsOutputFault (IsCountsLine l) old new why
+Fails form.Handshake known old new why = IsOutputFault IsHandshakeText old new why
 
 -- why the work was not done: the arguments ask for no form, or what they ask for met a fault
 abbrev pub IsFaultOf : List (List ℕ) → Option (List ℕ) → Option (List ℕ) → Option (List ℕ) → Fault → Type 0

@@ -15,7 +15,7 @@ use Rattle.queue_steps.specs.declared.steps.types.Op.{Op}
 use Rattle.queue_steps.specs.declared.steps.types.Touch.{Touch}
 use Rattle.queue_steps.specs.State.{State}
 use Rattle.queue_steps.specs.Effect.{IsHistory, after}
-use Rattle.queue_steps.specs.Replies.{IsRightAt, Allows, Tells}
+use Rattle.queue_steps.specs.Replies.{Allows, Tells}
 use Rattle.queue_steps.specs.Shares.{Share}
 use Rattle.queue_steps.specs.Parties.{View, StandAt, Between, Displaces, SharedCall}
 use Rattle.queue_laws.proofs.Moments.{SeenIn}

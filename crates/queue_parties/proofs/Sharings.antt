@@ -1,5 +1,5 @@
 -- Where all calls stand, the seats share what they know; and where only seats that are at nothing change, all calls stand as before.
-use Rattle.std.proofs.Common.{◌≡◌, ◌<◌, ℕ, true, false, Bool, List, map, ap, refl, sym, ◌∙◌, arith}
+use Rattle.std.proofs.Common.{◌≡◌, ◌<◌, ℕ, true, false, Bool, List, ap, refl, sym, ◌∙◌, arith}
 use mathlib.Core.Option.{some}
 use lib.ListN.{get_elem?}
 use Rattle.queue_steps.specs.declared.model.Effect.{Effect}

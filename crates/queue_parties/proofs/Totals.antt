@@ -1,10 +1,12 @@
 -- Sums over lists of views.
 use Rattle.std.proofs.Common.{◌≡◌, ℕ, zero, suc, ◌+◌, ◌*◌, ◌<◌, ◌≤◌, ◌≢◌, ◌==◌, if◌then◌else◌, List, [], ◌∷◌, ◌++◌, set, refl, ap, sym, ◌∙◌, arith}
 use Rattle.std.proofs.Math.Nat.{zero-mul, add-mul}
+use Rattle.std.proofs.lemmas.List.Sums.{sum_by-append}
 use Rattle.std.proofs.lemmas.Bool.Decides.{nat_tests}
+use mathlib.Core.Bool.{cond}
 use mathlib.Core.Option.{some, some-injective, some-ne-none}
 use lib.ListN.{get_elem?}
-use Rattle.queue_parties.specs.Counting.{times, once_below}
+use Rattle.queue_parties.specs.Counting.{times, times_cons, once_below}
 use Rattle.queue_parties.specs.Known.{total}
 
 module _ {A : Type 0} (f : A → ℕ) where
@@ -55,13 +57,11 @@ module _ {A : Type 0} (f g : A → ℕ) (c : ℕ) where
   total_times [] h = sym (zero-mul c)
   total_times (x ∷ xs) h = (λ i. h 0 x refl i + total_times xs (λ j v e. h (suc j) v e) i) ∙ sym (add-mul (f x) (total f xs) c)
 
-pub times_snoc : (p : ℕ) (xs : List ℕ) (k : ℕ) → times p (xs ++ k ∷ []) ≡ times p xs + (if k == p then 1 else 0)
-times_snoc p [] k = omega arith
-times_snoc p (x ∷ xs) k = omega (arith, times_snoc p xs k)
-
 pub times_append : (p : ℕ) (xs ys : List ℕ) → times p (xs ++ ys) ≡ times p xs + times p ys
-times_append p [] ys = omega arith
-times_append p (x ∷ xs) ys = omega (arith, times_append p xs ys)
+times_append p xs ys = sum_by-append (λ x. cond (x == p) 1 0) xs ys
+
+pub times_snoc : (p : ℕ) (xs : List ℕ) (k : ℕ) → times p (xs ++ k ∷ []) ≡ times p xs + (if k == p then 1 else 0)
+times_snoc p xs k = omega (arith, times_append p xs (k ∷ []), times_cons p k [])
 
 pub once_more : (p n : ℕ) → once_below p (n + 1) ≡ once_below p n + (if n == p then 1 else 0)
 once_more p n = grind (arith, nat_tests)

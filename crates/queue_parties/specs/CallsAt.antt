@@ -1,5 +1,5 @@
 -- All calls on their way on a shared queue, and what one of their steps tells its seat, whatever the queue is made of.
-use Rattle.std.specs.Prelude.{◌≡◌, ◌⊎◌, ℕ, Bool, false, List, [], map, Option, Some, None}
+use Rattle.std.specs.Prelude.{◌≡◌, ◌⊎◌, ℕ, false, List, [], map, Option, Some}
 use mathlib.Core.Option.{some}
 use lib.ListN.{get_elem?}
 use Rattle.queue_steps.specs.declared.model.Effect.{Effect}

@@ -1,6 +1,9 @@
 -- The words that name a kind of queue, and the arguments that name a form.
-use Rattle.std.specs.Prelude.{◌≡◌, ℕ, ◌<◌, ◌≤◌, ◌*◌, ◌%◌, List, [], ◌∷◌, ◌++◌, codes, Option, Some, None}
+use Rattle.std.specs.Prelude.{◌≡◌, ℕ, ◌<◌, ◌≤◌, ◌*◌, ◌%◌, List, [], ◌∷◌, ◌++◌, codes, Option}
 use Rattle.std.specs.Fmt.{decimal}
+use Rattle.queue_steps.specs.Next.{capacity_of as capacity_of_kind}
+use Rattle.queue_steps.specs.declared.steps.types.Kind.{Kind}
+use Rattle.queue_steps.specs.declared.steps.types.Kind.TheVariants as queue
 use Rattle.queue_text.specs.Reading.{IsWord}
 use Rattle.queue_text.specs.declared.args.TheConstants.{MOST_PARTIES}
 use Rattle.queue_text.specs.declared.args.KindName.{KindName}
@@ -51,8 +54,12 @@ IsForm (form.Replay k parties) = IsKindName k × IsPartyCount parties
 IsForm (form.Threads l) = IsLoad l
 IsForm form.Handshake = Unit {0}
 
--- the capacity of a queue of this kind, if it has one
+-- the kind of queue that the name asks for
+abbrev pub kind_named : KindName → Kind
+kind_named kind.Single = queue.Single
+kind_named (kind.Bounded count) = queue.Bounded count
+kind_named kind.Unbounded = queue.Unbounded
+
+-- its capacity, if it has one
 abbrev pub capacity_of : KindName → Option ℕ
-capacity_of kind.Single = Some 1
-capacity_of (kind.Bounded count) = Some count
-capacity_of kind.Unbounded = None
+capacity_of k = capacity_of_kind (kind_named k)

@@ -55,9 +55,17 @@ pub record IsTally (l : Load) (counts : List ℕ) : Type 0 where
   pub complete : length counts ≡ l.items
   pub taken : (x : ℕ) → x < l.items → get_or counts x 0 ≡ takes x view
 
+-- a line of what the counts show
+abbrev pub counts_line : Load → List ℕ → List ℕ
+counts_line l counts = finding_text (judged l.pushers counts) ++ 10 ∷ []
+
+-- a line of what counts of the load show
+abbrev pub IsCountsLine : Load → List ℕ → Type 0
+IsCountsLine l text = (counts : List ℕ) × IsTally l counts × (text ≡ counts_line l counts)
+
 -- what came of the load was counted, and what the counts show was written as a line
 pub record IsCounted (l : Load) (old new : Option (List ℕ)) (v : Verdict) : Type 0 where
   pub counts : List ℕ
   pub tally : IsTally l counts
-  pub written : Appends old new (finding_text (judged l.pushers counts) ++ 10 ∷ [])
+  pub written : Appends old new (counts_line l counts)
   pub shown : v ≡ finding_verdict (judged l.pushers counts)

@@ -53,6 +53,10 @@ abbrev pub handshake_text : Verdict → List ℕ
 handshake_text verdict.Right = codes "both\n"
 handshake_text verdict.Wrong = codes "alone\n"
 
+-- what is written of a handshake; that both met is written only where they did
+abbrev pub IsHandshakeText : List ℕ → Type 0
+IsHandshakeText text = (v : Verdict) × (text ≡ handshake_text v) × (v ≡ verdict.Right → HandsMet)
+
 -- what was written; that both met is written only where they did
 pub record Handshake (old new : Option (List ℕ)) (v : Verdict) : Type 0 where
   pub written : Appends old new (handshake_text v)

@@ -2,7 +2,7 @@
 ghost use Rattle.std.specs.Prelude.{◌≡◌, ◌<◌, ◌&&◌, true, IfOk, MatchResult};
 ghost use Rattle.concurrent_queue.specs.Shared.{IsPartyOf};
 ghost use Rattle.party_doings.specs.Doings.{takes, SawClosed};
-ghost use Rattle.queue_threads.specs.Meetings.{Handshake, HandsMet, AreHandsOf, AreHalves, AreThreeParts, Unites, IsShaken, IsMeeting};
+ghost use Rattle.queue_threads.specs.Meetings.{Handshake, IsHandshakeText, HandsMet, AreHandsOf, AreHalves, AreThreeParts, Unites, IsShaken, IsMeeting};
 ghost use Rattle.queue_threads.specs.Verdicts.{IsOutputFault};
 ghost use denote.Param.Send.{IsSync};
 
@@ -34,7 +34,7 @@ pub fn handshake<R: Threads + Wait + Sync, O: Write>(
 ) -> Result<Verdict, Fault>
     ensures { MatchResult result
         (Handshake (O.contents output.old) (O.contents output.new))
-        (IsOutputFault (O.contents output.old) (O.contents output.new)) }
+        (IsOutputFault IsHandshakeText (O.contents output.old) (O.contents output.new)) }
 {
     let Ok(met) = shake_hands(rt, alloc) else {
         return Err(Fault::NoMemory);

@@ -5,7 +5,7 @@ ghost use Rattle.queue_steps.specs.declared.sizes.TheConstants.{MAX_CAPACITY};
 ghost use Rattle.queue_steps.specs.Shares.{entire};
 ghost use Rattle.queue_text.specs.KindNames.{IsKindName, IsLoad, capacity_of};
 ghost use Rattle.concurrent_queue.specs.Shared.{IsPartyOf};
-ghost use Rattle.queue_threads.specs.Counts.{IsCounted, IsTally};
+ghost use Rattle.queue_threads.specs.Counts.{IsCounted, IsCountsLine, IsTally};
 ghost use Rattle.queue_threads.specs.Verdicts.{IsOutputFault};
 
 use crate::counts::judge;
@@ -37,7 +37,7 @@ pub fn threads<R: Threads + Wait + Sync, O: Write>(
     requires { IsLoad load }
     ensures { MatchResult result
         (IsCounted load (O.contents output.old) (O.contents output.new))
-        (IsOutputFault (O.contents output.old) (O.contents output.new)) }
+        (IsOutputFault (IsCountsLine load) (O.contents output.old) (O.contents output.new)) }
 {
     let Ok(counts) = count_all(rt, alloc, load) else {
         return Err(Fault::NoMemory);

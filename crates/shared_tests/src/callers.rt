@@ -1,6 +1,6 @@
 //! The callers that `concurrent_queue/CALLING.md` shows.
 ghost use Rattle.std.specs.Prelude.{◌≡◌, IfOk};
-ghost use Rattle.queue_steps.specs.Shares.{SamePart};
+ghost use Rattle.queue_steps.specs.Shares.{SamePart, entire};
 ghost use Rattle.concurrent_queue.specs.Shared.{IsPartyOf};
 
 use concurrent_queue::{ConcurrentQueue, Party, PopError, PushError};
@@ -128,12 +128,13 @@ fn close_by_many(
     }
 }
 
-/// Lets many parties close a queue, and ends the sharing, which it can as all are joined. Gives whether the queue is closed, and how many parties were refused.
-pub fn closed_by_many(alloc: Global, count: u64) -> Result<(bool, u64), AllocError> {
-    let (queue, party) = ConcurrentQueue::bounded(alloc, 1)?;
+/// Lets many parties, which become one again, close a queue that has one party, and ends the sharing. Gives whether the queue is closed, and how many parties were refused.
+pub fn closed_by_many(queue: ConcurrentQueue<u64>, party: Party<u64>, count: u64) -> (bool, u64)
+    requires { IsPartyOf party queue × (party.view.share ≡ entire) }
+{
     let (party, refused) = close_by_many(&queue, party, count);
     match queue.finish(party) {
-        Ok(left) => Ok((left.is_closed(), refused)),
+        Ok(left) => (left.is_closed(), refused),
         Err(_) => unreachable!(),
     }
 }

@@ -16,6 +16,7 @@ mod left;
 mod lengths;
 #[cfg(test)]
 mod opening;
+pub mod phantoms;
 #[cfg(test)]
 mod refusals;
 #[cfg(test)]

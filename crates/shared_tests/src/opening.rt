@@ -1,5 +1,6 @@
 //! Queues of every kind, as the tests open them, part their parties, and end their sharing.
 ghost use Rattle.std.specs.Prelude.{◌≡◌, ◌<◌, IfOk, IfSome};
+ghost use Rattle.queue_steps.specs.Shares.{entire};
 ghost use Rattle.concurrent_queue.specs.Shared.{IsPartyOf};
 
 use block_web::low::Low;
@@ -13,7 +14,7 @@ pub(crate) type Opened<T, A> = Result<(ConcurrentQueue<T, A>, Party<T>), AllocEr
 /// An empty open queue of this capacity, or without one, and its only party.
 pub(crate) fn open<T: Drop, A: Low + Clone>(alloc: A, cap: Option<usize>) -> Opened<T, A>
     requires { IfSome cap (λ slots. 0 < slots) }
-    ensures { IfOk result (λ r. IsPartyOf r.1 r.0) }
+    ensures { IfOk result (λ r. IsPartyOf r.1 r.0 × (r.1.view.share ≡ entire)) }
 {
     match cap {
         Some(slots) => ConcurrentQueue::bounded(alloc, slots),
@@ -28,7 +29,7 @@ pub(crate) fn open_surely<T: Drop, A: Low + Clone>(
     cap: Option<usize>,
 ) -> (ConcurrentQueue<T, A>, Party<T>)
     requires { IfSome cap (λ slots. 0 < slots) }
-    ensures { IsPartyOf result.1 result.0 }
+    ensures { IsPartyOf result.1 result.0 × (result.1.view.share ≡ entire) }
 {
     let Ok(both) = open(alloc, cap) else {
         panic!(rt; "no memory");

@@ -346,5 +346,8 @@ fn through_one_party(rt: HostRuntime) {
 
 #[test]
 fn closed_by_two_thousand(rt: HostRuntime) {
-    assert_eq!(rt; closed_by_many(rt.alloc(), 2000), Ok((true, 0)));
+    for cap in [Some(1), Some(3), None] {
+        let (queue, party) = open_surely(&rt, rt.alloc(), cap);
+        assert_eq!(rt; closed_by_many(queue, party, 2000), (true, 0));
+    }
 }

@@ -3,8 +3,8 @@ use contract.BorrowLft.{⊑_meet, ⊑_static}
 use Rattle.block_web.specs.Web.{Block}
 use Rattle.queue_steps.specs.Effect.{after}
 use Rattle.queue_steps.specs.Legal.{IsShown}
-use Rattle.exclusive_queue.specs.ChainMemory.{line_in, AreHeld}
-use Rattle.exclusive_queue.specs.LineOwned.{line_owned, IsIdle}
+use Rattle.unbounded_cells.specs.ChainMemory.{line_in, AreHeld}
+use Rattle.unbounded_cells.specs.LineOwned.{line_owned, IsIdle}
 use Rattle.chain_web.specs.Ending.{gone_first}
 use Rattle.chain_web.proofs.Finished.{gone_take, keeps_held, keeps_idle, keeps_shown, all_whole}
 use Rattle.chain_web.proofs.ending.end.Goals as goal

@@ -2,7 +2,7 @@ use Rattle.std.proofs.Common.{◌∙◌, ℕ, List, sym, ap, subst}
 use Rattle.block_web.specs.Web.{Block}
 use Rattle.queue_steps.specs.Words.{position_of}
 use Rattle.queue_steps.specs.ChainWords.{offset_of, items_before}
-use Rattle.exclusive_queue.specs.ChainMemory.{block_of}
+use Rattle.unbounded_cells.specs.ChainMemory.{block_of}
 use Rattle.chain_web.specs.Leftover.{BlocksLeft}
 use Rattle.chain_web.proofs.Abandoned.{blocks_left}
 use Rattle.chain_web.proofs.ending.give_up.Goals as goal

@@ -1,4 +1,4 @@
-use Rattle.exclusive_queue.specs.LineOwned.{line_owned}
+use Rattle.unbounded_cells.specs.LineOwned.{line_owned}
 use Rattle.exclusive_queue.proofs.Pops.{pop-fewer, pop-none}
 use Rattle.exclusive_queue.proofs.exclusive.give_up.Goals as goal
 

@@ -1,5 +1,5 @@
 use Rattle.std.proofs.Common.{length}
-use Rattle.exclusive_queue.specs.LineOwned.{IsIdle, line_queue}
+use Rattle.unbounded_cells.specs.LineOwned.{IsIdle, line_queue}
 use Rattle.exclusive_queue.proofs.exclusive.give_up.Given as goal
 
 abbrev pub invariant-loop-result : goal.invariant-loop-result

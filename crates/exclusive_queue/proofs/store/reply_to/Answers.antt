@@ -1,5 +1,5 @@
 use Rattle.std.proofs.Common.{◌∙◌}
-use Rattle.exclusive_queue.proofs.Goings.{call-parts, apart-fits, apart-filled}
+use Rattle.owner_driver.proofs.Goings.{call-parts, apart-fits, apart-filled}
 use Rattle.exclusive_queue.proofs.Answered.{apart-answered}
 use Rattle.exclusive_queue.proofs.store.reply_to.Goals as goal
 

@@ -1,0 +1,4 @@
+pub mod Slots
+pub mod Openings
+pub mod RingWrites
+pub mod Sent

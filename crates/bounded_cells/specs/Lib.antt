@@ -1,0 +1,14 @@
+pub mod Numbers
+pub mod Runs
+pub mod SingleCells
+pub mod SingleAnswers
+pub mod RingCells
+pub mod RingWords
+pub mod RingMemory
+pub mod RingOpening
+pub mod RingKeeps
+pub mod RingOwned
+pub mod RingRuns
+pub mod RingCalls
+pub mod RingLeaves
+pub mod RingAnswers

@@ -1,0 +1,9 @@
+//! Queues of one slot and rings of slots, with one owner, as cells of the driver.
+#![tactic(auto)]
+
+pub mod bounded;
+pub mod ring_words;
+pub mod single;
+pub mod vacant;
+
+pub use single::Single;

@@ -1,0 +1,6 @@
+use Rattle.held_tests.specs.Sitting.{IsSitting}
+use Rattle.held_tests.proofs.held.are_answered.Given as goal
+
+-- the party still sits at the queue's table
+abbrev pub invariant-loop-call : goal.invariant-loop-call
+invariant-loop-call g l = IsSitting g.K.TableKind.layout l.fn.queue.table.shared.table_id (l.party.table_id, l.party.me)

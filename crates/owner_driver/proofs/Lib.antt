@@ -1,0 +1,2 @@
+pub mod Goings
+pub mod Watching

@@ -1,0 +1,46 @@
+-- The table of a shared ring at its beginning keeps the rule.
+use Rattle.std.proofs.Common.{ℕ, zero, suc, ◌<◌, ◌≡◌, Some, None, [], map, length, refl, ap, arith}
+use Rattle.std.specs.Prelude.{replicate}
+use mathlib.Core.Option.{some}
+use lib.ListN.{get_elem?}
+use Rattle.atomic_table.specs.Table.{opening}
+use Rattle.queue_steps.specs.Words.{IsRing}
+use Rattle.queue_steps.specs.Shares.{entire}
+use Rattle.ring_laws.proofs.RingOpening.{numbers_below, opening_ring, opening_shared, opening_ok, opening_codes}
+use Rattle.bounded_cells.specs.RingWords.{words_behind}
+use Rattle.queue_parties.specs.declared.known.Doing.{Doing}
+use Rattle.queue_parties.specs.Known.{party}
+use Rattle.queue_parties.specs.Doings.{idle, is_busy}
+use Rattle.shared_tables.specs.TableRule.{Rule}
+use Rattle.shared_tables.specs.RingTable.{ring_table}
+use Rattle.shared_tables.specs.RingOpening.{first_words}
+use Rattle.queue_parties.proofs.FirstParty.{first_rests, first_kept}
+
+homes_at : {A : Type 0} (n i : ℕ) (a : A) → i < n → get_elem? (map some (replicate n a)) i ≡ some (some a)
+homes_at zero i a lt = absurd (omega arith)
+homes_at (suc n) zero a lt = refl
+homes_at (suc n) (suc i) a lt = homes_at n i a (omega arith)
+
+homes_long : {A : Type 0} (n : ℕ) (a : A) → length (map some (replicate n a)) ≡ n
+homes_long zero a = refl
+homes_long (suc n) a = ap suc (homes_long n a)
+
+module _ (T : Type 0) (cap : ℕ) where
+  abbrev pub seat : Doing T
+  seat = idle (party (Some cap) [] [] entire)
+
+  pub ring_opens : IsRing cap → Rule (ring_table cap) (opening (first_words cap) (replicate cap None) seat)
+  ring_opens ring = record {
+    cells = opening_ring T;
+    words = words_behind 0 0 (numbers_below cap);
+    history = [];
+    counted = refl;
+    coded = (opening_shared T cap, opening_codes T cap, refl, (homes_long cap None, λ i lt. homes_at cap i None lt));
+    all = record {
+      ok = opening_ok T cap ring;
+      state = refl;
+      calls = λ j d c e is. absurd (first_rests (Some cap) j d e (ap is_busy is));
+      free = λ j none. λ k e. cc;
+      kept = first_kept (Some cap);
+    };
+  }

@@ -1,0 +1,12 @@
+pub mod Seats
+pub mod AtTable
+pub mod TableRule
+pub mod TableTurns
+pub mod RingOpening
+pub mod TableLeads
+pub mod RingTable
+pub mod RingPrompt
+pub mod RingSteps
+pub mod SlotTable
+pub mod SlotSteps
+pub mod TableParties

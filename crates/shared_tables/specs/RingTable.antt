@@ -1,0 +1,68 @@
+-- A ring that parties share, as a kind of queue in a table: the tail, the head and the stamps are the words behind the count of parties.
+use Rattle.std.specs.Prelude.{◌≡◌, ℕ, ◌+◌, ◌<◌, List, [], length, Option, Some, None}
+use mathlib.Core.Option.{some}
+use mathlib.Core.Option as maybe
+use lib.ListN.{get_elem?}
+use Rattle.queue_steps.specs.declared.steps.types.Kind.TheVariants as queue
+use Rattle.queue_steps.specs.declared.steps.types.Word.{Word}
+use Rattle.queue_steps.specs.declared.steps.types.Word.TheVariants as word
+use Rattle.ring_laws.proofs.RingCells.{Cell, Ring, queue_of, RingOk, owner}
+use Rattle.ring_laws.proofs.RingShared.{Shared}
+use Rattle.ring_laws.proofs.RingWords.{Codes, item_in}
+use Rattle.ring_laws.proofs.RingPasses.{Passes}
+use Rattle.ring_laws.proofs.RingAt.{At}
+use Rattle.ring_laws.proofs.RingHands.{Lent}
+use Rattle.ring_laws.proofs.RingStart.{HasPlace}
+use Rattle.bounded_cells.specs.RingWords.{words_behind}
+use Rattle.bounded_cells.specs.declared.ring_words.TheConstants.{TAIL, HEAD, STAMPS}
+use Rattle.queue_parties.specs.Calling.{CallsOf}
+use Rattle.shared_tables.specs.TableRule.{TableOf}
+
+-- what lies in a slot that nobody has; a slot that somebody has is out
+abbrev pub home_when : {A : Type 0} → Option ℕ → Option A → maybe.Option (Option A)
+home_when None y = some y
+home_when (Some who) y = maybe.none
+
+abbrev pub home_of : {A : Type 0} → Cell A → maybe.Option (Option A)
+home_of c = home_when (owner c) (item_in c)
+
+-- the slots at home are those of the ring that are nobody's
+abbrev pub Homes : {T : Type 0} → ℕ → Ring T → List (maybe.Option (Option T)) → Type 0
+Homes cap g hs = (length hs ≡ cap) × ((i : ℕ) → i < cap → get_elem? hs i ≡ some (home_of (g.cells i)))
+
+-- the words of a ring
+abbrev pub ring_words : {T : Type 0} → Shared T → List ℕ
+ring_words s = words_behind s.tail s.head s.stamps
+
+-- the number of a word in the table
+abbrev pub word_index : Word ℕ → ℕ
+word_index word.Tail = TAIL
+word_index word.Head = HEAD
+word_index (word.Stamp i) = STAMPS + i
+word_index _ = 0
+
+-- the words and the slots at home are those of the ring
+abbrev pub RingCoded : {T : Type 0} → ℕ → Ring T → List ℕ → List (maybe.Option (Option T)) → Type 0
+RingCoded {T} cap g ws hs = (s : Shared T) × Codes cap g s × (ws ≡ ring_words s) × Homes cap g hs
+
+-- the calls on a ring of cap slots
+abbrev pub ring_calls : {T : Type 0} → ℕ → CallsOf T
+ring_calls {T} cap = record {
+  kind = queue.Bounded cap;
+  Cells = Ring T;
+  Ok = λ g. RingOk cap g;
+  queue_of = λ g. queue_of cap g;
+  At = λ g who ms was l t o v k es. At cap g who ms was l t o v k es;
+  Passes = λ who g s. Passes who g s;
+  Lent = λ g who xs. Lent g who xs;
+  Idle = λ g who. Lent g who [];
+  Gives = λ spare. spare ≡ None;
+}
+
+abbrev pub ring_table : {T : Type 0} → ℕ → TableOf T
+ring_table cap = record {
+  calls = ring_calls cap;
+  HasWord = λ w. HasPlace cap w;
+  place = word_index;
+  Coded = λ g ws hs. RingCoded cap g ws hs;
+}

@@ -1,0 +1,95 @@
+-- The rule of a queue that parties share over a table, whatever its kind: the first word counts the parties, the other words and the slots are the kind's.
+use Rattle.std.specs.Prelude.{None, ◌≡◌, ℕ, ◌+◌, ◌<◌, ◌||◌, not, Bool, true, List, ◌∷◌, Option, slice_index_or, slice_set, bit_and}
+use Rattle.std.specs.Int.{w64, bit_not}
+use mathlib.Core.Option.{some}
+use mathlib.Core.Option as maybe
+use Rattle.atomic_table.specs.Table.{Act, Valid, carried_after, homes_after}
+use Rattle.queue_steps.specs.declared.model.Call.{Call}
+use Rattle.queue_steps.specs.declared.model.Effect.{Effect}
+use Rattle.queue_steps.specs.declared.steps.types.Answer.TheVariants as answer
+use Rattle.queue_steps.specs.declared.steps.types.Local.{Local}
+use Rattle.queue_steps.specs.declared.steps.types.Op.{Op}
+use Rattle.queue_steps.specs.declared.steps.types.Op.TheVariants as op
+use Rattle.queue_steps.specs.declared.steps.types.Touch.{Touch}
+use Rattle.queue_steps.specs.declared.steps.types.Word.{Word}
+use Rattle.queue_steps.specs.Kinds.{call_kind}
+use Rattle.queue_steps.specs.Next.{CanNext, first_local, next_of}
+use Rattle.queue_steps.specs.Prompt.{is_prompt, EndsPromptly}
+use Rattle.queue_steps.specs.State.{State}
+use Rattle.queue_laws.proofs.Effects.{Leads, with_effect}
+use Rattle.shared_tables.specs.Seats.{Table, count_of}
+use Rattle.queue_parties.specs.Operations.{op_word, op_makes, answer_for}
+use Rattle.queue_parties.specs.CallsAt.{CallsAt}
+use Rattle.queue_parties.specs.Calling.{CallsOf, CallLaws, touched_list, handed_by, MayFront, Goes, first_of, Opens}
+
+-- A kind of queue in a table: which of the steps' words it has and where, and how the words behind the count and the slots at home stand for its cells
+pub record TableOf (T : Type 0) : Type 1 where
+  pub calls : CallsOf T
+  pub HasWord : Word ℕ → Type 0
+  pub place : Word ℕ → ℕ
+  pub Coded : calls.Cells → List ℕ → List (maybe.Option (Option T)) → Type 0
+
+-- There are cells, in the state after the one history, for which the words and the slots stand, and at which all calls stand
+pub record Rule {T : Type 0} (K : TableOf T) (s : Table T) : Type 0 where
+  pub cells : K.calls.Cells
+  pub words : List ℕ
+  pub history : List (Effect T)
+  pub counted : s.words ≡ count_of s ∷ words
+  pub coded : K.Coded cells words s.homes
+  pub all : CallsAt K.calls cells history (count_of s) s.views
+
+-- the operation is one on a word that the table has
+abbrev pub InTable : {T : Type 0} → TableOf T → Op ℕ → Type 0
+InTable K (op.Load w) = K.HasWord w
+InTable K (op.Store w x) = K.HasWord w
+InTable K (op.Add w x) = K.HasWord w
+InTable K (op.Or w x) = K.HasWord w
+InTable K (op.And w x) = K.HasWord w
+InTable K (op.Exchange w a b) = K.HasWord w
+InTable K _ = ⊥
+
+-- what the operation o finds in these words
+abbrev pub found_by : {T : Type 0} → TableOf T → Op ℕ → List ℕ → ℕ
+found_by K o ws = slice_index_or ws (K.place (op_word o)) 0
+
+-- the bits that the operation takes off the word n are all in it: they and what is left make it up
+abbrev pub TakesOff : Op ℕ → ℕ → Type 0
+TakesOff (op.And w bits) n = bit_and n bits + bit_not w64 bits ≡ n
+TakesOff _ n = Unit {0}
+
+-- What the next step of a call of the party who does at these cells, for which the words ws, of them n counts the parties, and the homes hs stand: an effect at
+-- most, an act on the slots, of which the party has xs, and cells that are right again, at which the call goes on or ends
+pub record Stepped {T : Type 0} (K : TableOf T) (g : K.calls.Cells) (who n : ℕ) (ws : List ℕ) (hs : List (maybe.Option (Option T))) (ms : List (State T)) (was : Bool) (l : Local ℕ) (t : Touch) (o : Op ℕ) (v : Option T) (k : Call T) (es : List (Effect T)) (xs : List (ℕ × Option T)) : Type 0 where
+  pub after : K.calls.Cells
+  pub words : List ℕ
+  pub effect : Option (Effect T)
+  pub act : Act (Option T)
+  pub can_next : CanNext K.calls.kind l (answer_for o (found_by K o (n ∷ ws)))
+  pub ok : K.calls.Ok after
+  pub written : slice_set (n ∷ ws) (K.place (op_word o)) (op_makes o (found_by K o (n ∷ ws))) ≡ n ∷ words
+  pub valid : Valid hs (touched_list t v xs) act
+  pub coded : K.Coded after words (homes_after hs (touched_list t v xs) act)
+  pub lent : K.calls.Lent after who (carried_after (touched_list t v xs) act)
+  pub front : MayFront effect was
+  pub makes : Leads (K.calls.queue_of g) effect (K.calls.queue_of after)
+  pub passes : K.calls.Passes who g after
+  pub goes : Goes K.calls after who (K.calls.queue_of after ∷ ms) (was || not (K.calls.queue_of after).closed)
+      (next_of K.calls.kind l (answer_for o (found_by K o (n ∷ ws)))) (handed_by t v xs) k (with_effect es effect)
+
+-- the first step of a call is on a word of the table
+abbrev pub OpensIn : {T : Type 0} → TableOf T → Call T → Type 0
+OpensIn K c = CanNext K.calls.kind (first_local {B = ℕ} (call_kind c)) answer.Start × Opens K.calls (InTable K) c (first_of K.calls.kind c)
+
+-- what a kind owes of its table of so many words
+pub record TableLaws {T : Type 0} (K : TableOf T) (words : ℕ) : Type 0 where
+  pub calls : CallLaws K.calls
+  pub below : (w : Word ℕ) → K.HasWord w → K.place w < words
+  pub at_word : (g : K.calls.Cells) (j : ℕ) (ms : List (State T)) (was : Bool) (l : Local ℕ) (t : Touch) (o : Op ℕ) (v : Option T) (k : Call T) (es : List (Effect T))
+      → K.calls.Ok g → K.calls.At g j ms was l t o v k es → InTable K o
+  pub steps : (g : K.calls.Cells) (who n : ℕ) (ws : List ℕ) (hs : List (maybe.Option (Option T))) (ms : List (State T)) (was : Bool) (l : Local ℕ) (t : Touch) (o : Op ℕ) (v : Option T) (k : Call T) (es : List (Effect T)) (xs : List (ℕ × Option T))
+      → K.calls.Ok g → K.Coded g ws hs → K.calls.At g who ms was l t o v k es → K.calls.Lent g who xs → Stepped K g who n ws hs ms was l t o v k es xs
+  pub takes_off : (g : K.calls.Cells) (who n : ℕ) (ws : List ℕ) (hs : List (maybe.Option (Option T))) (ms : List (State T)) (was : Bool) (l : Local ℕ) (t : Touch) (o : Op ℕ) (v : Option T) (k : Call T) (es : List (Effect T))
+      → K.calls.Ok g → K.Coded g ws hs → K.calls.At g who ms was l t o v k es → TakesOff o (found_by K o (n ∷ ws))
+  pub gives : (spare : Option ℕ) → K.calls.Gives spare → spare ≡ None
+  pub opens : (c : Call T) → OpensIn K c
+  pub prompt : (c : Call T) → is_prompt c ≡ true → EndsPromptly ℕ K.calls.kind (call_kind c)

@@ -1,0 +1,14 @@
+pub mod LineCells
+pub mod LineOwned
+pub mod LineRuns
+pub mod LineKeeps
+pub mod LineChains
+pub mod LineLeaves
+pub mod LinePush
+pub mod LineSole
+pub mod LinePushes
+pub mod LinePop
+pub mod LinePops
+pub mod LineAnswers
+pub mod LinkedBlocks
+pub mod ChainMemory
