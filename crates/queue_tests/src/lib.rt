@@ -1,7 +1,6 @@
 //! Tests of the queues through their public calls. They hold what no contract says: worked examples, printed texts, and that calls succeed with ample memory.
 #![tactic(auto)]
 
-pub mod callers;
 #[cfg(test)]
 mod chains;
 #[cfg(test)]

@@ -1,9 +1,8 @@
-//! Callers and tests of the queues that parties share, as a user calls them.
+//! Tests of the queues that parties share, as a user calls them.
 #![tactic(auto)]
 
 #[cfg(test)]
 mod blocks;
-pub mod callers;
 #[cfg(test)]
 mod chains;
 #[cfg(test)]
@@ -16,7 +15,6 @@ mod left;
 mod lengths;
 #[cfg(test)]
 mod opening;
-pub mod phantoms;
 #[cfg(test)]
 mod refusals;
 #[cfg(test)]

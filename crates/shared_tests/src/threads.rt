@@ -3,9 +3,9 @@ ghost use Rattle.std.specs.Prelude.{◌<◌, IfSome};
 ghost use Rattle.concurrent_queue.specs.Shared.{IsPartyOf};
 ghost use denote.Param.Send.{IsSync};
 
-use crate::callers::{closed_by_many, hand_over, through_a_shared_slot};
 use crate::opening::{end, open_surely};
 use concurrent_queue::{ConcurrentQueue, Party};
+use queue_callers::parties::{closed_by_many, hand_over, through_a_shared_slot};
 use std::alloc::{AllocError, Allocator, Global};
 use std::process::Abort;
 use std::sync::Wait;

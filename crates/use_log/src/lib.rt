@@ -5,9 +5,6 @@ ghost use Rattle.std.specs.Prelude.{◌≡◌, ◌+◌, ◌<◌, ◌≤◌, [], 
 ghost use Rattle.queue_steps.specs.declared.sizes.TheConstants.{LIMIT};
 ghost use Rattle.use_log.specs.Log.{newest, with_all, Appends, TakesOldest};
 
-#[cfg(test)]
-mod tests;
-
 use exclusive_queue::Exclusive;
 use std::alloc::{AllocError, Allocator, Global};
 use std::marker::Model;

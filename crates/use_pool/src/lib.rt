@@ -5,9 +5,6 @@ ghost use Rattle.std.specs.Prelude.{◌≡◌, ◌<◌, ◌≤◌, IfOk, MatchRe
 ghost use Rattle.queue_steps.specs.declared.sizes.TheConstants.{LIMIT};
 ghost use Rattle.use_pool.specs.Pool.{numbers, IsOut, TakesOne, GivesBack};
 
-#[cfg(test)]
-mod tests;
-
 use exclusive_queue::Exclusive;
 use std::alloc::{AllocError, Allocator, Global};
 use std::marker::Model;

@@ -8,9 +8,6 @@ ghost use Rattle.party_doings.specs.Doings.{Acts};
 ghost use Rattle.use_work.specs.Work.{appended, IsShift, EachOnce, NoneLeft};
 ghost use denote.Param.Send.{IsSync};
 
-#[cfg(test)]
-mod tests;
-
 use concurrent_queue::{ConcurrentQueue, Exclusive, Party, PopError};
 use std::alloc::{AllocError, Global};
 use std::sync::Wait;

@@ -1,6 +1,6 @@
 //! A log is filled past its capacity, and emptied.
-use crate::Log;
 use std::alloc::AllocError;
+use use_log::Log;
 
 #[test]
 fn the_oldest_entries_give_way(rt: HostRuntime) -> Result<(), AllocError> {

@@ -5,7 +5,7 @@ ghost use Rattle.queue_steps.specs.declared.errors.PushError.TheVariants as push
 ghost use Rattle.queue_steps.specs.declared.model.Call.TheVariants as call;
 ghost use Rattle.queue_steps.specs.declared.model.Reply.TheVariants as reply;
 ghost use Rattle.concurrent_queue.specs.Shared.{Calls, Person, QueueName};
-ghost use Rattle.shared_tests.specs.Openers.{opener};
+ghost use Rattle.queue_callers.specs.Openers.{opener};
 
 /// An empty open slot is not full for its only party.
 pub fn empty_slot_is_not_full()

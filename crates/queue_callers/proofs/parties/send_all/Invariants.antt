@@ -1,6 +1,6 @@
 use Rattle.std.specs.Prelude.{◌≡◌}
 use Rattle.concurrent_queue.specs.Shared.{IsPartyOf}
-use Rattle.shared_tests.proofs.callers.send_all.Given as goal
+use Rattle.queue_callers.proofs.parties.send_all.Given as goal
 
 -- the party is still one of the queue's, and has its share
 abbrev pub invariant-loop : goal.invariant-loop

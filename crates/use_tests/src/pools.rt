@@ -1,6 +1,6 @@
 //! Places are taken until none is left, and one is given back between.
-use crate::Pool;
 use std::alloc::AllocError;
+use use_pool::Pool;
 
 #[test]
 fn a_place_is_out_once(rt: HostRuntime) -> Result<(), AllocError> {

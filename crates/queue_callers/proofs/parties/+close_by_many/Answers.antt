@@ -1,7 +1,7 @@
 use Rattle.std.proofs.Common.{rules, sym, subst}
 use Rattle.queue_steps.specs.Shares.{SamePart, plus}
 use Rattle.queue_steps.proofs.ShareLaws.{halves_joined, same_refl}
-use Rattle.shared_tests.proofs.callers.+close_by_many.Goals as goal
+use Rattle.queue_callers.proofs.parties.+close_by_many.Goals as goal
 
 pub returns-in-Ok : goal.returns-in-Ok
 returns-in-Ok t c =

@@ -1,4 +1,4 @@
-use Rattle.shared_tests.proofs.callers.+close_by_many.Given as goal
+use Rattle.queue_callers.proofs.parties.+close_by_many.Given as goal
 
 -- each call parts off one party less
 abbrev pub decreases-close_by_many : goal.decreases-close_by_many

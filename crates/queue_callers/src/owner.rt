@@ -1,4 +1,4 @@
-//! Callers that are proved from the public contracts alone; `CALLING.md` of each library shows one.
+//! The callers that `exclusive_queue/CALLING.md` and `queue_steps/CALLING.md` show.
 ghost use Rattle.std.specs.Prelude.{◌≡◌, Some, IfOk, IfErr};
 ghost use Rattle.queue_steps.specs.declared.errors.PushError.TheVariants as push;
 ghost use Rattle.queue_steps.specs.declared.steps.types.Next.TheVariants as next;

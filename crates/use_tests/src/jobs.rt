@@ -1,6 +1,6 @@
 //! Jobs are handed to as many workers as there are, or are left where there is none.
-use crate::distribute;
 use std::alloc::AllocError;
+use use_work::distribute;
 
 #[test]
 fn all_jobs_are_handed_out(rt: HostRuntime) -> Result<(), AllocError> {

@@ -1,0 +1,6 @@
+//! Callers that are proved from the public contracts alone; `CALLING.md` of each library shows one.
+#![tactic(auto)]
+
+pub mod owner;
+pub mod parties;
+pub mod phantoms;
