@@ -1,5 +1,4 @@
-use Rattle.std.proofs.Common.{rules}
 use Rattle.queue_steps.proofs.steps.bounded.empty.Goals as goal
 
 pub returns : goal.returns
-returns g c = search rules
+returns g c = search (c.step.ensures, c.slot_of-slot.ensures)
