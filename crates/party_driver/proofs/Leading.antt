@@ -14,7 +14,7 @@ use Rattle.queue_steps.specs.declared.steps.types.Local.{Local}
 use Rattle.queue_steps.specs.Next.{CanNext, next_of, first_local}
 use Rattle.queue_steps.specs.Prompt.{EndsBefore, EndsPromptly}
 use Rattle.queue_steps.specs.Kinds.{call_kind, call_value, filled}
-use Rattle.party_driver.specs.Turns.{MayGive, Gave, Leads, Begins}
+use Rattle.party_driver.specs.Turns.{MayGive, Gave, Leads, Begins, GoesOn}
 
 module _ {T B M S : Type 0} (can : M → S → Call Unit → Local B → Touch → Op B → Option T → Type 0) (does : M → S → Call Unit → Local B → Touch → Op B → Option T → Answer B → S → Option T → Type 0)
     (spares : M → S → B → Type 0) (gives : M → S → B → S → Type 0) (stands : M → S → Call T → Local B → Answer B → S → Option T → Type 0) (ended : M → S → Call T → Reply T → S → Type 0) where
@@ -33,6 +33,15 @@ module _ {T B M S : Type 0} (can : M → S → Call Unit → Local B → Touch �
   pub leads-step : (k : Kind) (m : M) (first : S) (c : Call T) (from : Local B) (found : Answer B) {made : Next B} (l : Local B) (t : Touch) (o : Op B) (s : S) (x : Option T) → made ≡ next_of k from found → made ≡ next.Step l t o → Leads can does spares gives stands ended m first c (next_of k from found) s x
       → can m s (call_kind c) l t o x × ((a : Answer B) (after : S) (left : Option T) → does m s (call_kind c) l t o x a after left → stands m first c l a after left)
   leads-step k m first c from found l t o s x made is h = subst (λ (z : Next B). Leads can does spares gives stands ended m first c z s x) (sym made ∙ is) h
+
+  -- a call on its way that has done its step is on its way where that leaves it
+  pub goes-ahead : (k kind : Kind) (m : M) (call : Call Unit) (first : S) (c : Call T) (from : Local B) (found : Answer B) {made : Next B} (l : Local B) (t : Touch) (o : Op B) (s : S) (x : Option T) (a : Answer B) (after : S) (left : Option T)
+      → k ≡ kind → made ≡ next_of k from found → made ≡ next.Step l t o → (call ≡ call_kind c) × GoesOn can does spares gives stands ended k m first c from found s x → does m s call l t o x a after left
+      → (stands m first c l a after left → GoesOn can does spares gives stands ended kind m first c l a after left) → (call ≡ call_kind c) × GoesOn can does spares gives stands ended k m first c l a after left
+  goes-ahead k kind m call first c from found l t o s x a after left is_kind made is h did on =
+      let step = leads-step k m first c from found l t o s x made is h.1.1 in
+      let at = step.1 a after left (subst (λ (z : Call Unit). does m s z l t o x a after left) h.0 did) in
+      (h.0, subst (λ (z : Kind). GoesOn can does spares gives stands ended z m first c l a after left) (sym is_kind) (on at))
 
   -- the reply
   pub leads-reply : (k : Kind) (m : M) (first : S) (c : Call T) (from : Local B) (found : Answer B) {made : Next B} (r : Reply Unit) (spare : Option B) (s : S) (x : Option T) → made ≡ next_of k from found → made ≡ next.Reply r spare → Leads can does spares gives stands ended m first c (next_of k from found) s x
