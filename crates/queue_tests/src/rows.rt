@@ -83,6 +83,17 @@ pub(crate) struct Story {
     pub(crate) lines: &'static [Line],
 }
 
+/// Makes a call that only looks.
+fn look<A: Allocator>(queue: &Exclusive<u64, A>, call: Call<u64>) -> Reply<u64> {
+    match call {
+        Call::IsClosed => Reply::IsClosed(queue.is_closed()),
+        Call::IsEmpty => Reply::IsEmpty(queue.is_empty()),
+        Call::IsFull => Reply::IsFull(queue.is_full()),
+        Call::Len => Reply::Len(queue.len()),
+        _ => Reply::Capacity(queue.capacity()),
+    }
+}
+
 /// Makes a call.
 fn answer<A: Allocator>(queue: &mut Exclusive<u64, A>, call: Call<u64>) -> Reply<u64> {
     match call {
@@ -90,11 +101,7 @@ fn answer<A: Allocator>(queue: &mut Exclusive<u64, A>, call: Call<u64>) -> Reply
         Call::ForcePush(value) => Reply::ForcePush(queue.force_push(value)),
         Call::Pop => Reply::Pop(queue.pop()),
         Call::Close => Reply::Close(queue.close()),
-        Call::IsClosed => Reply::IsClosed(queue.is_closed()),
-        Call::IsEmpty => Reply::IsEmpty(queue.is_empty()),
-        Call::IsFull => Reply::IsFull(queue.is_full()),
-        Call::Len => Reply::Len(queue.len()),
-        Call::Capacity => Reply::Capacity(queue.capacity()),
+        _ => look(queue, call),
     }
 }
 

@@ -6,7 +6,6 @@ use queue_steps::errors::PushError;
 use queue_steps::model::{Call, Reply};
 use std::alloc::{AllocError, Allocator, Global};
 use std::cell::Cell;
-use std::process::Abort;
 use std::test::Fail;
 use test_allocators::Refusal;
 
@@ -76,58 +75,59 @@ static TO_EACH_CALL: [Reply<u64>; 9] = [
     Reply::Capacity(Some(2)),
 ];
 
-/// Asserts that a run of the calls gives the replies.
+/// Whether there is memory for a run of the calls, and it gives the replies.
 fn run_gives<S: Store<u64>>(
-    rt: &impl Abort,
     alloc: Global,
     store: &mut S,
     calls: &[Call<u64>],
     replies: &[Reply<u64>],
-) -> Result<(), AllocError>
+) -> bool
     requires { S.idle store.old }
     ensures { S.idle store.new }
 {
-    let calls = Vec::from_slice(alloc, calls)?;
-    let told = run(alloc, store, calls)?;
-    assert_eq!(rt; &*told, replies);
+    match Vec::from_slice(alloc, calls) {
+        Ok(calls) => match run(alloc, store, calls) {
+            Ok(told) => *told == *replies,
+            Err(_) => false,
+        },
+        Err(_) => false,
+    }
+}
+
+/// The capacity of a queue, a run of calls on it, and the replies.
+type Run = (Option<usize>, &'static [Call<u64>], &'static [Reply<u64>]);
+
+#[test]
+fn one_run_on_each_kind(rt: HostRuntime) -> Result<(), AllocError> {
+    let runs: [Run; 4] = [
+        (Some(1), &CALLS, &OF_ONE_SLOT),
+        (Some(2), &CALLS, &OF_TWO_SLOTS),
+        (None, &CALLS, &WITHOUT_A_CAPACITY),
+        (Some(2), &EACH_CALL, &TO_EACH_CALL),
+    ];
+    for (cap, calls, replies) in runs {
+        let mut queue = open(rt.alloc(), cap)?;
+        let right = run_gives(rt.alloc(), &mut queue, calls, replies);
+        assert!(rt; right, "{} calls with {cap:?}", calls.len());
+    }
     Ok(())
 }
 
 #[test]
-fn one_run_on_each_kind(rt: HostRuntime) -> Result<(), AllocError> {
-    let alloc = rt.alloc();
-    for (cap, replies) in [
-        (Some(1), &OF_ONE_SLOT),
-        (Some(2), &OF_TWO_SLOTS),
-        (None, &WITHOUT_A_CAPACITY),
-    ] {
-        run_gives(&rt, alloc, &mut open(alloc, cap)?, &CALLS, replies)?;
-    }
-    run_gives(
-        &rt,
-        alloc,
-        &mut open(alloc, Some(2))?,
-        &EACH_CALL,
-        &TO_EACH_CALL,
-    )
-}
-
-#[test]
-fn one_run_on_a_slot(rt: HostRuntime) -> Result<(), Fail> {
+fn one_run_on_a_slot(rt: HostRuntime) {
     let mut slot = Single {
         lock: 0,
         item: None,
     };
-    run_gives(&rt, rt.alloc(), &mut slot, &CALLS, &OF_ONE_SLOT)?;
-    assert!(rt; slot.is_closed());
-    Ok(())
+    let right = run_gives(rt.alloc(), &mut slot, &CALLS, &OF_ONE_SLOT);
+    assert_eq!(rt; (right, slot.is_closed()), (true, true));
 }
 
 /// Two calls with an item each, and a close between them, whose list is the heap's first request.
 fn calls_of<'a, 'b>(
     heap: &'a Heap,
     drops: &'b Cell<u64>,
-) -> Result<Vec<Call<Counted<'b>>, &'a Heap>, Fail> {
+) -> Result<Vec<Call<Counted<'b>>, &'a Heap>, AllocError> {
     Ok(vec![in heap;
         Call::Push(Counted::by(drops)),
         Call::Close,
@@ -135,12 +135,30 @@ fn calls_of<'a, 'b>(
     ]?)
 }
 
+/// A queue of two slots with an item.
+fn with_one(alloc: Global, drops: &Cell<u64>) -> Result<Exclusive<Counted<'_>>, AllocError> {
+    let mut queue = Exclusive::bounded(alloc, 2)?;
+    let _ = queue.push(Counted::by(drops));
+    Ok(queue)
+}
+
+/// Whether there is memory for a list of calls, and none for a run of them.
+fn run_is_refused<'b>(
+    heap: &Heap,
+    queue: &mut Exclusive<Counted<'b>>,
+    drops: &'b Cell<u64>,
+) -> bool {
+    match calls_of(heap, drops) {
+        Ok(calls) => run(heap, queue, calls).is_err(),
+        Err(_) => false,
+    }
+}
+
 /// What is seen where there is no room for the replies: whether that is told, how many items were dropped then, and in the end; and the length of the queue, and whether it is closed.
-fn without_room(alloc: Global, heap: &Heap) -> Result<(bool, [u64; 2], usize, bool), Fail> {
+fn without_room(alloc: Global, heap: &Heap) -> Result<(bool, [u64; 2], usize, bool), AllocError> {
     let drops = Cell::new(0);
-    let mut queue: Exclusive<Counted> = Exclusive::bounded(alloc, 2)?;
-    let _ = queue.push(Counted::by(&drops));
-    let refused = run(heap, &mut queue, calls_of(heap, &drops)?).is_err();
+    let mut queue = with_one(alloc, &drops)?;
+    let refused = run_is_refused(heap, &mut queue, &drops);
     let before = drops.get();
     let (len, closed) = (queue.len(), queue.is_closed());
     drop(queue);
