@@ -1,5 +1,5 @@
 use Rattle.std.proofs.Common.{rules}
-use Rattle.queue_tests.proofs.callers.one_of_two.Goals as goal
+use Rattle.queue_callers.proofs.owner.one_of_two.Goals as goal
 
 pub returns : goal.returns
 returns g c = search rules

@@ -1,5 +1,5 @@
 use Rattle.std.proofs.Common.{rules}
-use Rattle.queue_tests.proofs.callers.first_step_of_a_pop.Goals as goal
+use Rattle.queue_callers.proofs.owner.first_step_of_a_pop.Goals as goal
 
 pub returns : goal.returns
 returns c = search rules
