@@ -283,6 +283,24 @@ fn empty_while_a_push_asks_for_memory(rt: HostRuntime) -> Result<(), Fail> {
     Ok(())
 }
 
+/// Pushes a number. Gives whether it is accepted, or is handed back for want of memory where it is not to be.
+fn is_pushed<R: Wait>(
+    rt: &R,
+    queue: &Queue<'_>,
+    party: &mut Party<u64>,
+    value: u64,
+    accepted: bool,
+) -> bool
+    requires { IsPartyOf party.old queue.now }
+    ensures { IsPartyOf party.new queue.now }
+{
+    match queue.push(rt, party, value) {
+        Ok(()) => accepted,
+        Err(PushError::NoMemory(back)) => back == value && !accepted,
+        Err(_) => false,
+    }
+}
+
 /// Pushes 1 to 63. Gives whether each is accepted, but for the one that is to be refused.
 fn push_to_63<R: Wait>(rt: &R, queue: &Queue<'_>, party: &mut Party<u64>, refused: u64) -> bool
     requires { IsPartyOf party.old queue.now }
@@ -290,12 +308,7 @@ fn push_to_63<R: Wait>(rt: &R, queue: &Queue<'_>, party: &mut Party<u64>, refuse
 {
     let mut right = true;
     for value in 1..64u64 {
-        let expected = if value == refused {
-            Err(PushError::NoMemory(value))
-        } else {
-            Ok(())
-        };
-        right = queue.push(rt, party, value) == expected && right;
+        right = is_pushed(rt, queue, party, value, value != refused) && right;
     }
     right
 }
