@@ -16,7 +16,7 @@ load-requires g c =
     let d = may_do m.sitter c.args.op j c.requires.can key.tail.ptr key.head.ptr m.id a _ _ n.1 tt at in (c.requires.sits, d.0, d.1, d.2)
 
 pub returns-in-Load-clause-did : goal.returns-in-Load-clause-did
-returns-in-Load-clause-did g c = search rules
+returns-in-Load-clause-did g c = search rules depth 2
 
 pub store-requires : goal.store-requires
 store-requires g c =
