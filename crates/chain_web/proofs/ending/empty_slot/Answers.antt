@@ -5,6 +5,12 @@ use Rattle.chain_web.proofs.Tested.{alive_within}
 use Rattle.chain_web.proofs.Leftovers.{emptied_slot}
 use Rattle.chain_web.proofs.ending.empty_slot.Goals as goal
 
+pub take-requires : goal.take-requires
+take-requires g c = search (rules, tests)
+
+pub returns-then-word-ne0-clause-told : goal.returns-then-word-ne0-clause-told
+returns-then-word-ne0-clause-told g c = search (rules, tests)
+
 pub returns-then-word-ne0-clause-emptied : goal.returns-then-word-ne0-clause-emptied
 returns-then-word-ne0-clause-emptied g c =
     let a = c.args in

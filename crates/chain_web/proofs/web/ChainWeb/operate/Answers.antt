@@ -1,4 +1,4 @@
-use Rattle.std.proofs.Common.{ap, sym, subst, ◌∙◌, arith}
+use Rattle.std.proofs.Common.{ap, sym, subst, ◌∙◌, arith, rules}
 use Rattle.queue_steps.specs.declared.steps.types.Op.TheVariants as op
 use denote.RawPtr.{InBlock}
 use Rattle.block_web.specs.Web.{AllowsLink, if_unset}
@@ -14,6 +14,9 @@ load-requires g c =
     let a = op.Load n.0 in
     let at = c.word-number.ensures n.0 n.2 (may_as m.sitter c.args.op j c.requires.can a n.1) in
     let d = may_do m.sitter c.args.op j c.requires.can key.tail.ptr key.head.ptr m.id a _ _ n.1 tt at in (c.requires.sits, d.0, d.1, d.2)
+
+pub returns-in-Load-clause-did : goal.returns-in-Load-clause-did
+returns-in-Load-clause-did g c = search rules depth 2
 
 pub store-requires : goal.store-requires
 store-requires g c =
