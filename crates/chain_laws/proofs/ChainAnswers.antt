@@ -1,5 +1,5 @@
 -- How the words and links of a chain stand for it, and what the operations of the calls answer.
-use Rattle.std.proofs.Common.{ℕ, ◌+◌, ◌-◌, ◌*◌, ◌%◌, ◌^◌, ◌<◌, ◌≤◌, ◌≡◌, ◌≢◌, ◌==◌, not, ◌∙◌, ◌⊎◌, inl, inr, zero, suc, Bool, true, false, Option, Some, None, refl, sym, ap, arith, bit_and}
+use Rattle.std.proofs.Common.{ℕ, ◌+◌, ◌-◌, ◌*◌, ◌%◌, ◌≤◌, ◌≡◌, ◌≢◌, ◌==◌, not, ◌∙◌, ◌⊎◌, inl, inr, zero, suc, Bool, true, false, Option, Some, None, refl, sym, ap, arith, bit_and}
 use Rattle.queue_steps.specs.declared.sizes.TheConstants.{LIMIT, BLOCK_SLOTS}
 use Rattle.queue_steps.specs.Words.{IsWord, position_of, is_shut, tail_of}
 use Rattle.queue_steps.specs.ChainWords.{offset_at, offset_of, items_before}
@@ -91,7 +91,7 @@ Answers c _ a = ⊥
 pub head_offset : (n : ℕ) (more : Bool) → offset_of (head_of n more) ≡ n % BLOCK_SLOTS
 head_offset n more = ap offset_at (position_tail (place n) more) ∙ place_offset n
 
-pub word_small : (q : ℕ) (c : Bool) → q < 2 ^ 62 → IsWord (tail_of q c)
+pub word_small : (q : ℕ) (c : Bool) → IsWord (tail_of q true) → IsWord (tail_of q c)
 word_small q true lt = omega arith
 word_small q false lt = omega arith
 
@@ -113,12 +113,12 @@ tail_items c ok = rw (position_tail (tail_place c.tail c.mover) c.closed) (tail_
 pub head_items : {A : Type 0} (c : Chain A) → ChainOk c → items_before (position_of (head_word c)) ≡ c.head
 head_items c ok = rw (position_tail (head_place c.head c.passer) c.known) (head_place_items c.head c.front c.passer ok.fronted)
 
-tail_place_small : (n : ℕ) (m : Mover) → n ≤ LIMIT → tail_place n m < 2 ^ 62
+tail_place_small : (n : ℕ) (m : Mover) → n ≤ LIMIT → IsWord (tail_of (tail_place n m) true)
 tail_place_small n Rests low = omega arith
 tail_place_small n (Laying who) low = omega arith
 tail_place_small n (Opening who) low = omega arith
 
-head_place_small : (n : ℕ) (p : Passer) → n ≤ LIMIT → head_place n p < 2 ^ 62
+head_place_small : (n : ℕ) (p : Passer) → n ≤ LIMIT → IsWord (tail_of (head_place n p) true)
 head_place_small n Stands low = omega arith
 head_place_small n (Passing who) low = omega arith
 head_place_small n (Entering who) low = omega arith

@@ -1,6 +1,6 @@
 -- A shared chain that no party has any more, whatever calls were on their way: where the head stands, the blocks from the front's on are in the web, and the state
 -- word of each slot tells where its item is.
-use Rattle.std.proofs.Common.{◌≡◌, ◌≢◌, ◌⊎◌, ◌∙◌, inl, inr, ℕ, ◌+◌, ◌*◌, ◌^◌, ◌<◌, ◌≤◌, Bool, true, bit_and, List, length, refl, sym, ap, subst, arith}
+use Rattle.std.proofs.Common.{◌≡◌, ◌≢◌, ◌⊎◌, ◌∙◌, inl, inr, ℕ, ◌+◌, ◌*◌, ◌<◌, ◌≤◌, Bool, true, bit_and, List, length, refl, sym, ap, subst, arith}
 use mathlib.Core.Option.{some}
 use denote.RawPtr.{Ptr, null_ptr, InBlock, Testable}
 use Rattle.queue_steps.specs.declared.sizes.TheConstants.{LIMIT, BLOCK_SLOTS}
@@ -37,7 +37,7 @@ written_left head tail items n (Wrote v) Unread b low set ok = (v, refl)
 written_left head tail items n (Wrote v) (Reading p) b low set ok = absurd (omega arith)
 written_left head tail items n (Wrote v) Done b low set ok = absurd (omega arith)
 
-few_blocks : (tail blocks : ℕ) (m : Mover) → tail ≤ LIMIT → BlocksOk tail blocks m → (blocks + 2) * BLOCK_SLOTS ≤ 2 ^ 62
+few_blocks : (tail blocks : ℕ) (m : Mover) → tail ≤ LIMIT → BlocksOk tail blocks m → (blocks + 2) * BLOCK_SLOTS ≤ 2 * LIMIT
 few_blocks tail blocks Rests low (inl z) = let none = z.1 in omega arith
 few_blocks tail blocks Rests low (inr z) = omega arith
 few_blocks tail blocks (Laying p) low z = let all = z.1 in omega arith

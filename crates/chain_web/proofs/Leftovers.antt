@@ -1,5 +1,5 @@
 -- Blocks of a chain that nobody shares any more are emptied, one slot after the other.
-use Rattle.std.proofs.Common.{◌≡◌, ◌∙◌, ◌⊎◌, inl, inr, ℕ, suc, ◌+◌, ◌*◌, ◌^◌, ◌<◌, ◌≤◌, ◌&&◌, ◌||◌, Bool, true, false, not, bit_and, List, [], ◌∷◌, length, Option, Some, None, IfSome, refl, sym, ap, subst, arith}
+use Rattle.std.proofs.Common.{◌≡◌, ◌∙◌, ◌⊎◌, inl, inr, ℕ, suc, ◌+◌, ◌*◌, ◌<◌, ◌≤◌, ◌&&◌, ◌||◌, Bool, true, false, not, bit_and, List, [], ◌∷◌, length, Option, Some, None, IfSome, refl, sym, ap, subst, arith}
 use Rattle.std.proofs.lemmas.List.{length-set}
 use Rattle.atomic_table.proofs.Lists.{set_else}
 use mathlib.Core.Option.{some, some-injective}
@@ -7,7 +7,7 @@ use lib.ListN.{get_elem?}
 use denote.RawPtr.{Ptr, null_ptr, InBlock, Testable}
 use Rattle.std.specs.Prelude.{slice_index_or}
 use Rattle.queue_steps.specs.declared.steps.unbounded.TheConstants.{WRITE, READ}
-use Rattle.queue_steps.specs.declared.sizes.TheConstants.{BLOCK_SLOTS}
+use Rattle.queue_steps.specs.declared.sizes.TheConstants.{LIMIT, BLOCK_SLOTS}
 use Rattle.block_web.specs.Web.{Block, Home, block, homed, with_home, without, vacant, full, AllVacant, Lives}
 use Rattle.block_web.specs.declared.block.Link.{Link}
 use Rattle.block_web.specs.declared.sizes.TheConstants.{SLOTS}
@@ -92,7 +92,7 @@ module _ {A : Type 0} where
 
     pub left_behind : BlocksLeft taken accepted (b + 1) new
     left_behind = record {
-      few = subst (λ n. n * BLOCK_SLOTS ≤ 2 ^ 62) (sym same.long) left.few;
+      few = subst (λ n. n * BLOCK_SLOTS ≤ 2 * LIMIT) (sym same.long) left.few;
       stays = stays_behind;
     }
 

@@ -1,9 +1,9 @@
 -- What is left of a chain that nobody shares any more, where calls may have been given up on their way.
-use Rattle.std.specs.Prelude.{◌≡◌, ◌≢◌, ◌⊎◌, ℕ, zero, suc, ◌+◌, ◌*◌, ◌^◌, ◌<◌, ◌≤◌, ◌==◌, ◌&&◌, ◌||◌, if◌then◌else◌, nat_lt, Bool, true, false, bit_and, List, length, slice_index_or, Option, Some, None}
+use Rattle.std.specs.Prelude.{◌≡◌, ◌≢◌, ◌⊎◌, ℕ, zero, suc, ◌+◌, ◌*◌, ◌<◌, ◌≤◌, ◌==◌, ◌&&◌, ◌||◌, if◌then◌else◌, nat_lt, Bool, true, false, bit_and, List, length, slice_index_or, Option, Some, None}
 use mathlib.Core.Option.{some}
 use lib.ListN.{get_elem?}
 use denote.RawPtr.{null_ptr, InBlock, Testable}
-use Rattle.queue_steps.specs.declared.sizes.TheConstants.{BLOCK_SLOTS}
+use Rattle.queue_steps.specs.declared.sizes.TheConstants.{LIMIT, BLOCK_SLOTS}
 use Rattle.queue_steps.specs.declared.steps.unbounded.TheConstants.{WRITE, READ}
 use Rattle.block_web.specs.Web.{Block, block, Lives, vacant, full}
 use Rattle.block_web.specs.declared.block.Link.{Link}
@@ -42,7 +42,7 @@ pub record StaysLeft {T : Type 0} (taken accepted b : ℕ) (bs : List (Block T))
 
 -- the blocks from this number on, behind the two ends
 pub record BlocksLeft {T : Type 0} (taken accepted from : ℕ) (bs : List (Block T)) : Type 0 where
-  pub few : length bs * BLOCK_SLOTS ≤ 2 ^ 62
+  pub few : length bs * BLOCK_SLOTS ≤ 2 * LIMIT
   pub stays : (b : ℕ) → from ≤ b → b + 2 < length bs → StaysLeft taken accepted b bs
 
 -- two rows of blocks that differ at most in the block k

@@ -1,5 +1,5 @@
 //! How a shared chain ends: as a queue with one owner, or dropped.
-ghost use Rattle.std.specs.Prelude.{◌≡◌, ◌+◌, ◌^◌, ◌<◌, ◌≤◌, not, None};
+ghost use Rattle.std.specs.Prelude.{◌≡◌, ◌+◌, ◌*◌, ◌<◌, ◌≤◌, not, None};
 ghost use denote.RawPtr.{InBlock, Testable};
 ghost use Rattle.block_web.specs.Web.{block, Lives, word_of, without};
 ghost use Rattle.block_web.specs.Laid.{head_of};
@@ -10,6 +10,7 @@ ghost use Rattle.queue_steps.specs.Legal.{IsShown};
 ghost use Rattle.queue_steps.specs.Parties.{IsWhole};
 ghost use Rattle.queue_parties.specs.Known.{view_of};
 ghost use Rattle.queue_parties.specs.Doings.{IsAlone};
+ghost use Rattle.queue_steps.specs.declared.sizes.TheConstants.{LIMIT};
 ghost use Rattle.queue_steps.specs.Words.{position_of};
 ghost use Rattle.queue_steps.specs.ChainWords.{offset_of as spec_offset_of, items_before as spec_items_before};
 ghost use Rattle.unbounded_cells.specs.ChainMemory.{block_of as spec_block_of};
@@ -191,7 +192,7 @@ fn empty_block<T: Drop, A: Allocator>(
 ) -> bool
     requires place { InBlock link.ptr × Lives chain.old.blocks number link.ptr }
     requires left { BlockLeft taken accepted first (block chain.old.blocks number) }
-    requires small { first ≤ 2 ^ 62 }
+    requires small { first ≤ 2 * LIMIT }
     ensures chain { (chain.new.heap ≡ chain.old.heap) × SameBut number chain.old.blocks chain.new.blocks }
     ensures emptied { Emptied (λ j. j < SLOTS) result (block chain.old.blocks number) (block chain.new.blocks number) }
     ensures told { result ≡ not (any_held taken accepted first SLOTS (block chain.old.blocks number)) }

@@ -197,7 +197,7 @@ pub enum Part<'a> {
     Pushes(u64),
     /// What is printed of so many pushes by party 0, of which the first stands in the first line.
     Pushed(u64),
-    /// What is printed of thirty pops by a party, of which the first, of this item, is told at this line.
+    /// What is printed of sixty-two pops by a party, of which the first, of this item, is told at this line.
     Popped { party: u64, line: u64, item: u64 },
     /// The items 1, 2 and so on, so many, each behind a blank.
     Items(u64),
@@ -238,7 +238,7 @@ fn write_pushed(text: &mut String, count: u64) -> Result<(), AllocError> {
 }
 
 fn write_popped(text: &mut String, party: u64, line: u64, item: u64) -> Result<(), AllocError> {
-    for before in 0..30u64 {
+    for before in 0..62u64 {
         let line = line.wrapping_add(before * 2);
         let item = item.wrapping_add(before);
         write!(text, "{line} {party} take\n{line} {party} item {item}\n")?;

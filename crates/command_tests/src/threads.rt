@@ -68,7 +68,7 @@ fn through_rings(rt: HostRuntime) -> Result<(), AllocError> {
     all_end_well(&rt, rt.alloc(), &RINGS, UNREAD)
 }
 
-/// Without a capacity: one item, as many as the reference's tests push, an item past a block of 31, and none.
+/// Without a capacity: one item, as many as the reference's tests push, an item past a block of 63, and none.
 static UNBOUNDED: [(&str, &str); 4] = [
     (
         "threads unbounded 1 1 1",
@@ -79,8 +79,8 @@ static UNBOUNDED: [(&str, &str); 4] = [
         "25000 values, each counted 4 times\n",
     ),
     (
-        "threads unbounded 1 2 32",
-        "32 values, each counted 1 times\n",
+        "threads unbounded 1 2 64",
+        "64 values, each counted 1 times\n",
     ),
     (
         "threads unbounded 2 3 0",

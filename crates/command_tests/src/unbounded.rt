@@ -22,18 +22,18 @@ fn scripts_tell_of_the_blocks(rt: HostRuntime) -> Result<(), AllocError> {
 #[test]
 fn observers_while_a_pop_passes_to_the_next_block(rt: HostRuntime) -> Result<(), AllocError> {
     let input = [
-        Part::Pushes(31),
-        Part::Times(30, "0 pop\n0 run\n"),
+        Part::Pushes(63),
+        Part::Times(62, "0 pop\n0 run\n"),
         Part::Text("0 pop\n0 step\n0 step\n0 step\n1 len\n1 run\n1 is_empty\n1 run\n0 run\n"),
     ];
     let output = [
-        Part::Pushed(31),
+        Part::Pushed(63),
         Part::Popped {
             party: 0,
-            line: 64,
+            line: 128,
             item: 1,
         },
-        Part::Text("126 0 take\n128 1 0\n130 1 true\n131 0 item 31\nblocks 2 of 3\nleft\n"),
+        Part::Text("254 0 take\n256 1 0\n258 1 true\n259 0 item 63\nblocks 2 of 3\nleft\n"),
     ];
     writes(&rt, rt.alloc(), "replay unbounded 2", &input, &output)
 }
@@ -65,16 +65,16 @@ fn two_parties_install_the_first_block(rt: HostRuntime) -> Result<(), AllocError
 #[test]
 fn a_pusher_stops_before_the_tail_is_opened(rt: HostRuntime) -> Result<(), AllocError> {
     let input = [
-        Part::Pushes(30),
-        Part::Text("0 push 31\n0 step\n0 step\n0 step\n0 step\n"),
+        Part::Pushes(62),
+        Part::Text("0 push 63\n0 step\n0 step\n0 step\n0 step\n"),
         Part::Text("2 len\n2 run\n1 push 99\n1 run\n2 close\n2 run\n1 run\n0 run\n"),
     ];
     let output = [
-        Part::Pushed(30),
+        Part::Pushed(62),
         Part::Text(
-            "65 0 append\n67 2 31\n71 2 close\n71 2 true\n72 1 closed 99\n73 0 ok\nblocks 2 of 3\nleft",
+            "129 0 append\n131 2 63\n135 2 close\n135 2 true\n136 1 closed 99\n137 0 ok\nblocks 2 of 3\nleft",
         ),
-        Part::Items(31),
+        Part::Items(63),
         Part::Text("\n"),
     ];
     writes(&rt, rt.alloc(), "replay unbounded 3", &input, &output)
@@ -83,20 +83,20 @@ fn a_pusher_stops_before_the_tail_is_opened(rt: HostRuntime) -> Result<(), Alloc
 #[test]
 fn a_reader_has_to_give_the_block_up(rt: HostRuntime) -> Result<(), AllocError> {
     let input = [
-        Part::Pushes(31),
+        Part::Pushes(63),
         Part::Text("0 pop\n0 step\n0 step\n0 step\n0 step\n"),
-        Part::Times(30, "1 pop\n1 run\n"),
+        Part::Times(62, "1 pop\n1 run\n"),
         Part::Text("0 run\n"),
     ];
     let output = [
-        Part::Pushed(31),
-        Part::Text("67 0 take\n"),
+        Part::Pushed(63),
+        Part::Text("131 0 take\n"),
         Part::Popped {
             party: 1,
-            line: 69,
+            line: 133,
             item: 2,
         },
-        Part::Text("128 0 item 1\nblocks 2 of 3\nleft\n"),
+        Part::Text("256 0 item 1\nblocks 2 of 3\nleft\n"),
     ];
     writes(&rt, rt.alloc(), "replay unbounded 2", &input, &output)
 }

@@ -6,14 +6,16 @@ use queue_steps::model::{Call, Reply};
 use queue_steps::steps::Kind;
 use std::alloc::AllocError;
 
-const ONE_TO_31: [u64; 31] = [
+const ONE_TO_63: [u64; 63] = [
     1, 2, 3, 4, 5, 6, 7, 8, 9, 10, 11, 12, 13, 14, 15, 16, 17, 18, 19, 20, 21, 22, 23, 24, 25, 26,
-    27, 28, 29, 30, 31,
+    27, 28, 29, 30, 31, 32, 33, 34, 35, 36, 37, 38, 39, 40, 41, 42, 43, 44, 45, 46, 47, 48, 49, 50,
+    51, 52, 53, 54, 55, 56, 57, 58, 59, 60, 61, 62, 63,
 ];
 
-const TWO_TO_32: [u64; 31] = [
+const TWO_TO_64: [u64; 63] = [
     2, 3, 4, 5, 6, 7, 8, 9, 10, 11, 12, 13, 14, 15, 16, 17, 18, 19, 20, 21, 22, 23, 24, 25, 26, 27,
-    28, 29, 30, 31, 32,
+    28, 29, 30, 31, 32, 33, 34, 35, 36, 37, 38, 39, 40, 41, 42, 43, 44, 45, 46, 47, 48, 49, 50, 51,
+    52, 53, 54, 55, 56, 57, 58, 59, 60, 61, 62, 63, 64,
 ];
 
 static RUNS: [Run<'static>; 8] = [
@@ -44,8 +46,8 @@ static RUNS: [Run<'static>; 8] = [
         name: "last item of a block",
         parties: 2,
         lines: &[
-            Line::Pushes(0, 31),
-            Line::Pops(0, 30),
+            Line::Pushes(0, 63),
+            Line::Pops(0, 62),
             Line::Begins(0, Call::Pop),
             Line::Steps(0, 3),
             Line::Calls(1, Call::Len),
@@ -54,11 +56,11 @@ static RUNS: [Run<'static>; 8] = [
         ],
         facts: &[
             Fact::LastReplies(
-                61,
+                125,
                 &[
                     (1, Reply::Len(0)),
                     (1, Reply::IsEmpty(true)),
-                    (0, Reply::Pop(Ok(31))),
+                    (0, Reply::Pop(Ok(63))),
                 ],
             ),
             Fact::Left(&[]),
@@ -134,8 +136,8 @@ static RUNS: [Run<'static>; 8] = [
         name: "push stopped at a block's end",
         parties: 3,
         lines: &[
-            Line::Pushes(0, 30),
-            Line::Begins(0, Call::Push(31)),
+            Line::Pushes(0, 62),
+            Line::Begins(0, Call::Push(63)),
             Line::Steps(0, 4),
             Line::Calls(2, Call::Len),
             Line::Calls(1, Call::Push(99)),
@@ -144,17 +146,17 @@ static RUNS: [Run<'static>; 8] = [
             Line::Runs(0),
         ],
         facts: &[
-            Fact::NextEffects(30, &[(0, EffectKind::Append), (2, EffectKind::Close)]),
+            Fact::NextEffects(62, &[(0, EffectKind::Append), (2, EffectKind::Close)]),
             Fact::LastReplies(
-                30,
+                62,
                 &[
-                    (2, Reply::Len(31)),
+                    (2, Reply::Len(63)),
                     (2, Reply::Close(true)),
                     (1, Reply::Push(Err(PushError::Closed(99)))),
                     (0, Reply::Push(Ok(()))),
                 ],
             ),
-            Fact::Left(&ONE_TO_31),
+            Fact::Left(&ONE_TO_63),
         ],
     },
     // A pop stopped before it reads the first slot of a block, of which another party takes all other items.
@@ -162,15 +164,15 @@ static RUNS: [Run<'static>; 8] = [
         name: "pop stopped before it reads",
         parties: 3,
         lines: &[
-            Line::Pushes(0, 31),
+            Line::Pushes(0, 63),
             Line::Begins(0, Call::Pop),
             Line::Steps(0, 4),
-            Line::Pops(1, 30),
+            Line::Pops(1, 62),
             Line::Runs(0),
         ],
         facts: &[
-            Fact::NextEffects(31, &[(0, EffectKind::Take), (1, EffectKind::Take)]),
-            Fact::LastReplies(60, &[(1, Reply::Pop(Ok(31))), (0, Reply::Pop(Ok(1)))]),
+            Fact::NextEffects(63, &[(0, EffectKind::Take), (1, EffectKind::Take)]),
+            Fact::LastReplies(124, &[(1, Reply::Pop(Ok(63))), (0, Reply::Pop(Ok(1)))]),
             Fact::Left(&[]),
         ],
     },
@@ -197,19 +199,19 @@ fn runs_on_a_chain(rt: HostRuntime) -> Result<(), AllocError> {
 #[test]
 fn left_in_the_middle_of_calls(rt: HostRuntime) -> Result<(), AllocError> {
     for (name, steps, left) in [
-        ("left after 4 steps", 4, &TWO_TO_32[..30]),
-        ("left after 5 steps", 5, &TWO_TO_32[..30]),
-        ("left after 6 steps", 6, &TWO_TO_32[..]),
-        ("left after 7 steps", 7, &TWO_TO_32[..]),
-        ("left after 8 steps", 8, &TWO_TO_32[..]),
+        ("left after 4 steps", 4, &TWO_TO_64[..62]),
+        ("left after 5 steps", 5, &TWO_TO_64[..62]),
+        ("left after 6 steps", 6, &TWO_TO_64[..]),
+        ("left after 7 steps", 7, &TWO_TO_64[..]),
+        ("left after 8 steps", 8, &TWO_TO_64[..]),
     ] {
         let lines = [
-            Line::Pushes(0, 30),
-            Line::Begins(0, Call::Push(31)),
+            Line::Pushes(0, 62),
+            Line::Begins(0, Call::Push(63)),
             Line::Steps(0, steps),
             Line::Begins(1, Call::Pop),
             Line::Steps(1, steps),
-            Line::Begins(2, Call::Push(32)),
+            Line::Begins(2, Call::Push(64)),
             Line::Steps(2, steps - 1),
         ];
         let run = Run {
@@ -226,16 +228,16 @@ fn left_in_the_middle_of_calls(rt: HostRuntime) -> Result<(), AllocError> {
 /// After each step of a pop of a block's last item the queue is empty exactly where its length is 0.
 #[test]
 fn empty_where_the_length_is_zero(rt: HostRuntime) -> Result<(), AllocError> {
-    for steps in 0..40u64 {
+    for steps in 0..72u64 {
         let lines = [
-            Line::Pushes(0, 31),
-            Line::Pops(0, 30),
+            Line::Pushes(0, 63),
+            Line::Pops(0, 62),
             Line::Begins(0, Call::Pop),
             Line::Steps(0, steps),
             Line::Calls(1, Call::Len),
             Line::Calls(1, Call::IsEmpty),
         ];
-        let replied = if steps < 38 { 61 } else { 62 };
+        let replied = if steps < 70 { 125 } else { 126 };
         let claimed = steps > 2;
         let len = if claimed { 0 } else { 1 };
         let replies = [(1, Reply::Len(len)), (1, Reply::IsEmpty(claimed))];
@@ -263,8 +265,8 @@ static GRANTED: [(usize, Reply<u64>); 4] = [
 fn granted_requests(rt: HostRuntime) -> Result<(), AllocError> {
     for (name, accepted) in [
         ("granted: nothing accepted", 0u64),
-        ("granted: an item short of a block", 30),
-        ("granted: an item short of two blocks", 61),
+        ("granted: an item short of a block", 62),
+        ("granted: an item short of two blocks", 125),
     ] {
         let lines = [
             Line::Pushes(0, accepted),

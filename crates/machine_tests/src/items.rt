@@ -107,6 +107,6 @@ fn each_item_is_dropped_once(rt: HostRuntime) -> Result<(), Fail> {
     drops_all(&rt, alloc, Kind::Bounded(2), 1)?;
     drops_all(&rt, alloc, Kind::Bounded(2), 2)?;
     drops_all(&rt, alloc, Kind::Unbounded, 0)?;
-    drops_all(&rt, alloc, Kind::Unbounded, 30)?;
+    drops_all(&rt, alloc, Kind::Unbounded, 62)?;
     Ok(())
 }

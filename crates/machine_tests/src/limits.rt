@@ -1,5 +1,5 @@
 //! What a push does next that reads a tail at the limit, where no run of the machine gets to.
-ghost use Rattle.std.specs.Prelude.{◌^◌, ◌<◌};
+ghost use Rattle.queue_steps.specs.Words.{IsWord};
 
 use queue_steps::errors::{ForcePushError, PushError};
 use queue_steps::model::Reply;
@@ -35,7 +35,7 @@ const CHAIN_END: u64 = 2 * (LIMIT / BLOCK_SLOTS * BLOCK_POSITIONS + LIMIT % BLOC
 
 /// What a push does once it has read the tail, on rings of two and of three slots and on a chain.
 fn once_read(push: PushKind, ring: u64, chain: u64) -> [Turn; 3]
-    requires { (ring < 2 ^ 63) × (chain < 2 ^ 63) }
+    requires { IsWord ring × IsWord chain }
 {
     let of_ring = Local::Bounded(BoundedLocal::PushTail(push));
     let of_chain = Local::Unbounded(UnboundedLocal::PushTail(push, None));

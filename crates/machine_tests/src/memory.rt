@@ -80,12 +80,12 @@ impl Row<'_> {
     }
 }
 
-/// A pop of the first of 31 items that stops once it has claimed it, while another party takes all others; and then the pop goes on.
+/// A pop of the first of 63 items that stops once it has claimed it, while another party takes all others; and then the pop goes on.
 const READING: [Line; 5] = [
-    Line::Pushes(0, 31),
+    Line::Pushes(0, 63),
     Line::Begins(0, Call::Pop),
     Line::Steps(0, 4),
-    Line::Pops(1, 30),
+    Line::Pops(1, 62),
     Line::Runs(0),
 ];
 
@@ -99,29 +99,29 @@ static ROWS: [Row<'static>; 12] = [
         bound: 3,
     },
     Row {
-        name: "30 pushes",
-        lines: &[Line::Pushes(0, 30)],
+        name: "62 pushes",
+        lines: &[Line::Pushes(0, 62)],
         granted: 1,
         blocks: 1,
         bound: 3,
     },
     Row {
-        name: "31 pushes",
-        lines: &[Line::Pushes(0, 31)],
+        name: "63 pushes",
+        lines: &[Line::Pushes(0, 63)],
         granted: 2,
         blocks: 2,
         bound: 3,
     },
     Row {
-        name: "61 pushes",
-        lines: &[Line::Pushes(0, 61)],
+        name: "125 pushes",
+        lines: &[Line::Pushes(0, 125)],
         granted: 2,
         blocks: 2,
         bound: 3,
     },
     Row {
-        name: "62 pushes",
-        lines: &[Line::Pushes(0, 62)],
+        name: "126 pushes",
+        lines: &[Line::Pushes(0, 126)],
         granted: 3,
         blocks: 3,
         bound: 4,
@@ -130,14 +130,14 @@ static ROWS: [Row<'static>; 12] = [
     Row {
         name: "1400 pushes",
         lines: &[Line::Pushes(0, 1400)],
-        granted: 46,
-        blocks: 46,
-        bound: 47,
+        granted: 23,
+        blocks: 23,
+        bound: 24,
     },
     Row {
         name: "1400 turns",
         lines: &[Line::Turns(0, 1400)],
-        granted: 46,
+        granted: 23,
         blocks: 2,
         bound: 3,
     },
@@ -160,8 +160,8 @@ static ROWS: [Row<'static>; 12] = [
     Row {
         name: "push stopped at a block's end",
         lines: &[
-            Line::Pushes(0, 30),
-            Line::Begins(0, Call::Push(31)),
+            Line::Pushes(0, 62),
+            Line::Begins(0, Call::Push(63)),
             Line::Steps(0, 4),
             Line::Calls(1, Call::Push(99)),
             Line::Calls(2, Call::Close),
@@ -198,8 +198,8 @@ static ROWS: [Row<'static>; 12] = [
     Row {
         name: "second block refused",
         lines: &[
-            Line::Pushes(0, 30),
-            Line::Begins(0, Call::Push(31)),
+            Line::Pushes(0, 62),
+            Line::Begins(0, Call::Push(63)),
             Line::Steps(0, 2),
             Line::IsRefused(0),
         ],

@@ -130,9 +130,9 @@ fn refused_without_a_request(rt: HostRuntime) {
     }
 }
 
-/// Forty pushes without a capacity.
+/// Eighty pushes without a capacity.
 fn on_chain(alloc: Global, refusal: Refusal) -> Result<Seen, AllocError> {
-    seen_of(alloc, refusal, Kind::Unbounded, 1, &[Line::Pushes(0, 40)])
+    seen_of(alloc, refusal, Kind::Unbounded, 1, &[Line::Pushes(0, 80)])
 }
 
 /// Each request for room of a chain refused in turn is want of memory, and no block was asked for.
@@ -150,9 +150,9 @@ fn each_request_for_room_refused(rt: HostRuntime) -> Result<(), Fail> {
 fn each_block_refused(rt: HostRuntime) -> Result<(), Fail> {
     for number in 8..10u64 {
         let seen = on_chain(rt.alloc(), Refusal::Nth(number))?;
-        assert_eq!(rt; seen, Seen::run(39, 10));
+        assert_eq!(rt; seen, Seen::run(79, 10));
     }
     let seen = on_chain(rt.alloc(), Refusal::Nth(10))?;
-    assert_eq!(rt; seen, Seen::run(40, 9));
+    assert_eq!(rt; seen, Seen::run(80, 9));
     Ok(())
 }

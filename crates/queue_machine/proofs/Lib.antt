@@ -71,3 +71,4 @@ pub mod LoneRun
 pub mod Skips
 pub mod SkipsRun
 pub mod SkipsAll
+pub mod AtOnce

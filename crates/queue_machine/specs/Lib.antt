@@ -17,3 +17,4 @@ pub mod Meaning
 pub mod Within
 pub mod Skips
 pub mod WordsOf
+pub mod AtOnce

@@ -1,5 +1,5 @@
 -- What a conforming replay means: one legal history, in which every finished call stands between its own first and last step.
-use Rattle.std.specs.Prelude.{◌≡◌, ◌⊎◌, ℕ, ◌+◌, ◌<◌, ◌≤◌, ◌==◌, ◌&&◌, nat_lt, Bool, false, if◌then◌else◌, Option, Some, None, List, [], ◌∷◌, length, AllPairs}
+use Rattle.std.specs.Prelude.{◌≡◌, ◌⊎◌, ℕ, ◌+◌, ◌<◌, ◌≤◌, ◌==◌, ◌&&◌, nat_lt, false, Option, Some, None, List, [], ◌∷◌, length, AllPairs}
 use Rattle.std.specs.List.{AllByRecursion}
 use Rattle.queue_steps.specs.State.{State}
 use Rattle.queue_steps.specs.Effect.{IsHistory, after}
@@ -14,22 +14,8 @@ use Rattle.queue_machine.specs.declared.types.Event.TheVariants.{Begin}
 use Rattle.queue_machine.specs.declared.types.Replay.{Replay}
 use Rattle.queue_machine.specs.Book.{Allows, IsBegun, has_steps, kind_of}
 use Rattle.queue_machine.specs.Conforms.{Conforms}
+pub use Rattle.one_moment.specs.Entries.{Entry, chosen, effects_in}
 use Rattle.queue_machine.specs.InCall.{HasRun, IsStepOf, IsUnanswered, IsInCall}
-
--- one effect of a run: the number of its event, the party whose step it was, and what it did
-pub record Entry (T : Type 0) : Type 0 where
-  pub event : ℕ
-  pub party : ℕ
-  pub effect : Effect T
-
--- the effects of those entries that pass
-abbrev pub chosen : {T : Type 0} → (Entry T → Bool) → List (Entry T) → List (Effect T)
-chosen f [] = []
-chosen f (x ∷ xs) = if f x then x.effect ∷ chosen f xs else chosen f xs
-
-abbrev pub effects_in : {T : Type 0} → List (Entry T) → List (Effect T)
-effects_in [] = []
-effects_in (x ∷ xs) = x.effect ∷ effects_in xs
 
 -- the entries without the values of their effects
 abbrev pub kinds_in : {T : Type 0} → List (Entry T) → List (ℕ × ℕ × EffectKind)

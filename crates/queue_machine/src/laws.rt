@@ -1,5 +1,6 @@
 //! What follows from a replay that conforms. Each function is there for its contract alone.
 ghost use Rattle.queue_machine.specs.Meaning.{ConformingHasHistory};
+ghost use Rattle.queue_machine.specs.AtOnce.{DisplacesAtOnce};
 ghost use Rattle.queue_machine.specs.Skips.{SkippedIsExact};
 ghost use Rattle.queue_machine.specs.Within.{NothingAppendedWithin, LoneCallsReply, PromptCallsReply};
 
@@ -33,4 +34,11 @@ pub fn lone_calls_reply<T, A: Allocator>()
 /// `close`, `is_closed`, `is_empty` and `is_full` reply by their second step, whatever the other parties do.
 pub fn prompt_calls_reply<T, A: Allocator>()
     ensures { PromptCallsReply T A }
+{}
+
+/// The history of a conforming replay settles into one in which each displacement is one moment, between two steps of its own call.
+///
+/// Each reply ends its call there as it does in the history itself, but for a reply of `len`, `is_empty` or `is_full` that was read while an item was on its way in.
+pub fn displaces_at_once<T, A: Allocator>()
+    ensures { DisplacesAtOnce T A }
 {}

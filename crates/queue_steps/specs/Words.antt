@@ -6,9 +6,9 @@ use Rattle.queue_steps.specs.declared.sizes.TheConstants.{MAX_CAPACITY}
 abbrev pub IsRing : ℕ → Type 0
 IsRing n = (1 < n) × (n ≤ MAX_CAPACITY)
 
--- a word that leaves room for the next ones: below the limit of accepted items every word is far smaller
+-- a word that leaves room for a lap of the longest ring
 abbrev pub IsWord : ℕ → Type 0
-IsWord word = word < 2 ^ 63
+IsWord word = word + MAX_CAPACITY < 2 ^ 64
 
 -- the position that a tail stands for
 abbrev pub position_of : ℕ → ℕ

@@ -5,7 +5,7 @@ use crate::runs::{AtEnd, PARTIES, run};
 use crate::shapes::{Shape, Start};
 use crate::stops::MOST_TOLD;
 use queue_steps::model::Call;
-use queue_steps::sizes::LONE_STEPS;
+use queue_steps::sizes::{BLOCK_SLOTS, LONE_STEPS};
 use std::alloc::{AllocError, Global};
 use std::io;
 
@@ -91,8 +91,8 @@ fn shape_of(dice: &mut Dice) -> Shape {
 fn start_of(shape: Shape, dice: &mut Dice) -> Start {
     match shape {
         Shape::Chain => Start {
-            pushed: dice.roll(6).wrapping_add(28),
-            popped: dice.roll(34),
+            pushed: dice.roll(6).wrapping_add(BLOCK_SLOTS - 3),
+            popped: dice.roll(BLOCK_SLOTS + 3),
             closed: false,
         },
         _ => Start {

@@ -3,11 +3,13 @@ use crate::events::Events;
 use crate::flaw::Flaw;
 use crate::reader::read;
 use crate::shapes::Shape;
-use queue_machine::blocks::Place;
+use queue_machine::blocks::{Block, Place};
 use queue_machine::replay;
-use queue_machine::types::Replay;
+use queue_machine::types::{EffectKind, Event, Replay};
+use queue_steps::model::Reply;
 use queue_steps::sizes::BLOCK_SLOTS;
 use std::alloc::{Global, Layout};
+use std::mem::size_of;
 use test_allocators::{Refusal, Refusing};
 
 /// How many parties a run has.
@@ -47,7 +49,8 @@ pub fn run(
         return Err(Flaw::NoMemory);
     };
     let heap = Refusing::watching(alloc, Refusal::Never, places);
-    let times = run_in(alloc, &heap, shape, events, from, at_end)?;
+    let tells = tells_blocks(shape, events.len(), places);
+    let times = run_in(alloc, &heap, shape, events, from, at_end, tells)?;
     if heap.live() == 0 {
         Ok(times)
     } else {
@@ -62,6 +65,7 @@ fn run_in(
     events: &Events,
     from: usize,
     at_end: AtEnd,
+    tells: bool,
 ) -> Result<(Times, Times), Flaw> {
     let list = events.as_slice().to_vec(heap)?;
     let told = replay(heap, shape.kind(), PARTIES, list)?;
@@ -69,15 +73,27 @@ fn run_in(
     if in_progress != 0 && matches!(at_end, AtEnd::Ended) {
         return Err(Flaw::Waits);
     }
-    if tells_blocks(shape, events.len()) && heap.most_watched() != told.peak.blocks as u64 {
+    if tells && heap.most_watched() != told.peak.blocks as u64 {
         return Err(Flaw::Blocks);
     }
     Ok((times_of(&told, 0, from), times_of(&told, 1, from)))
 }
 
-// Whether what is counted apart are the blocks alone: a list of as many events as a block has slots, or three times as many, may have the layout of a block.
-fn tells_blocks(shape: Shape, events: usize) -> bool {
-    shape.capacity().is_none() && events as u64 % BLOCK_SLOTS != 0
+// Whether what is counted apart are the blocks alone: no list of a run, which has room for as many entries as there are events, is as long as a block.
+fn tells_blocks(shape: Shape, events: usize, places: Layout) -> bool {
+    let entries = [
+        size_of::<Event<u64>>(),
+        size_of::<(usize, usize, Reply<u64>)>(),
+        size_of::<(usize, usize, EffectKind)>(),
+        size_of::<usize>(),
+        size_of::<Option<Block<u64, &Refusing<Global>>>>(),
+    ];
+    for entry in entries {
+        if events.checked_mul(entry) == Some(places.size()) {
+            return false;
+        }
+    }
+    shape.capacity().is_none()
 }
 
 fn times_of(told: &Replay<u64, &Refusing<Global>>, party: usize, from: usize) -> Times {

@@ -4,7 +4,7 @@ use crate::flaw::Flaw;
 use crate::runs::{AtEnd, Times, run};
 use crate::shapes::{Shape, Start};
 use queue_steps::model::Call;
-use queue_steps::sizes::LONE_STEPS;
+use queue_steps::sizes::{BLOCK_SLOTS, LONE_STEPS};
 use std::alloc::Global;
 use std::io;
 
@@ -61,14 +61,14 @@ const CLOSED: Start = Start {
 
 /// One item short of a block.
 const SHORT_OF_A_BLOCK: Start = Start {
-    pushed: 30,
+    pushed: BLOCK_SLOTS - 1,
     ..EMPTY
 };
 
 /// Of a block only the last item is left.
 const LAST_OF_A_BLOCK: Start = Start {
-    pushed: 31,
-    popped: 30,
+    pushed: BLOCK_SLOTS,
+    popped: BLOCK_SLOTS - 1,
     ..EMPTY
 };
 
@@ -151,7 +151,7 @@ static ROWS: [Row; 16] = [
     Row {
         shape: Shape::Chain,
         start: LAST_OF_A_BLOCK,
-        steps: [4, 4, 38, 1, 1, 2, 0, 3, 0],
+        steps: [4, 4, 8 + (BLOCK_SLOTS - 1), 1, 1, 2, 0, 3, 0],
     },
 ];
 

@@ -12,14 +12,14 @@ use test_allocators::Refusal;
 static STORIES: [Story; 16] = [
     // As many as a block has, and far more: each is accepted, and comes out in its turn.
     Story {
-        name: "50 in and out",
+        name: "100 in and out",
         refusal: Refusal::Never,
         made: Made::Unbounded,
         lines: &[
             Line::Call(Call::Capacity, Reply::Capacity(None)),
-            Line::Pushes(1, 50),
+            Line::Pushes(1, 100),
             Line::Holds(2, 2),
-            Line::Pops(1, 50),
+            Line::Pops(1, 100),
             Line::Call(Call::Pop, Reply::Pop(Err(PopError::Empty))),
             Line::Holds(1, 2),
         ],
@@ -31,10 +31,10 @@ static STORIES: [Story; 16] = [
         lines: &[
             Line::Call(Call::Capacity, Reply::Capacity(None)),
             Line::Pushes(1, 1400),
-            Line::Holds(46, 46),
+            Line::Holds(23, 23),
             Line::Pops(1, 1400),
             Line::Call(Call::Pop, Reply::Pop(Err(PopError::Empty))),
-            Line::Holds(1, 46),
+            Line::Holds(1, 23),
         ],
     },
     Story {
@@ -91,12 +91,12 @@ static STORIES: [Story; 16] = [
         refusal: Refusal::Nth(2),
         made: Made::Unbounded,
         lines: &[
-            Line::Pushes(0, 30),
+            Line::Pushes(0, 62),
             Line::Call(Call::Push(77), Reply::Push(Err(PushError::NoMemory(77)))),
-            Line::Call(Call::Len, Reply::Len(30)),
+            Line::Call(Call::Len, Reply::Len(62)),
             Line::Holds(1, 2),
             Line::Call(Call::Push(77), Reply::Push(Ok(()))),
-            Line::Call(Call::Len, Reply::Len(31)),
+            Line::Call(Call::Len, Reply::Len(63)),
             Line::Holds(2, 3),
         ],
     },
@@ -125,8 +125,8 @@ static STORIES: [Story; 16] = [
         refusal: Refusal::Never,
         made: Made::Unbounded,
         lines: &[
-            Line::Pushes(0, 31),
-            Line::PopsHolding(31, 2),
+            Line::Pushes(0, 63),
+            Line::PopsHolding(63, 2),
             Line::Holds(1, 2),
         ],
     },
@@ -134,12 +134,12 @@ static STORIES: [Story; 16] = [
         name: "three blocks",
         refusal: Refusal::Never,
         made: Made::Unbounded,
-        lines: &[Line::Pushes(0, 62), Line::Holds(3, 3)],
+        lines: &[Line::Pushes(0, 126), Line::Holds(3, 3)],
     },
     Story {
-        name: "after thirty items",
+        name: "one item short of a block",
         refusal: Refusal::Never,
-        made: Made::UnboundedAfter(30),
+        made: Made::UnboundedAfter(62),
         lines: &[
             Line::Holds(1, 1),
             Line::Call(Call::IsEmpty, Reply::IsEmpty(true)),
@@ -183,16 +183,16 @@ static STORIES: [Story; 16] = [
             Line::Holds(0, 0),
         ],
     },
-    // Pushes 1 to 63, of which the one is refused whose request is, and pops all items but one block's.
+    // Pushes 1 to 127, of which the one is refused whose request is, and pops all items but one block's.
     Story {
-        name: "no request of 63 pushes refused",
+        name: "no request of 127 pushes refused",
         refusal: Refusal::Never,
         made: Made::Unbounded,
         lines: &[
             Line::PushesBut(0),
-            Line::Call(Call::Len, Reply::Len(63)),
+            Line::Call(Call::Len, Reply::Len(127)),
             Line::Holds(3, 3),
-            Line::PopsSome(35),
+            Line::PopsSome(70),
             Line::Holds(2, 3),
         ],
     },
@@ -202,9 +202,9 @@ static STORIES: [Story; 16] = [
         made: Made::Unbounded,
         lines: &[
             Line::PushesBut(1),
-            Line::Call(Call::Len, Reply::Len(62)),
+            Line::Call(Call::Len, Reply::Len(126)),
             Line::Holds(3, 4),
-            Line::PopsSome(35),
+            Line::PopsSome(70),
             Line::Holds(2, 4),
         ],
     },
@@ -213,10 +213,10 @@ static STORIES: [Story; 16] = [
         refusal: Refusal::Nth(2),
         made: Made::Unbounded,
         lines: &[
-            Line::PushesBut(31),
-            Line::Call(Call::Len, Reply::Len(62)),
+            Line::PushesBut(63),
+            Line::Call(Call::Len, Reply::Len(126)),
             Line::Holds(3, 4),
-            Line::PopsSome(35),
+            Line::PopsSome(70),
             Line::Holds(2, 4),
         ],
     },
@@ -225,10 +225,10 @@ static STORIES: [Story; 16] = [
         refusal: Refusal::Nth(3),
         made: Made::Unbounded,
         lines: &[
-            Line::PushesBut(62),
-            Line::Call(Call::Len, Reply::Len(62)),
+            Line::PushesBut(126),
+            Line::Call(Call::Len, Reply::Len(126)),
             Line::Holds(3, 4),
-            Line::PopsSome(35),
+            Line::PopsSome(70),
             Line::Holds(2, 4),
         ],
     },
@@ -242,9 +242,9 @@ fn stories_of_chains(rt: HostRuntime) -> Result<(), AllocError> {
 /// A queue that is to stand as after some items asks for one block.
 static REFUSED: [(&str, Refusal, Made, u64); 5] = [
     ("after 1", Refusal::Always, Made::UnboundedAfter(1), 1),
-    ("after 30", Refusal::Always, Made::UnboundedAfter(30), 1),
-    ("after 31", Refusal::Always, Made::UnboundedAfter(31), 1),
-    ("after 32", Refusal::Always, Made::UnboundedAfter(32), 1),
+    ("after 62", Refusal::Always, Made::UnboundedAfter(62), 1),
+    ("after 63", Refusal::Always, Made::UnboundedAfter(63), 1),
+    ("after 64", Refusal::Always, Made::UnboundedAfter(64), 1),
     (
         "at the limit",
         Refusal::Always,
@@ -274,7 +274,7 @@ fn drops_of(heap: &Heap, count: u64) -> [u64; 2] {
 /// An item that was refused would be dropped before the queue is.
 #[test]
 fn drops_what_is_left(rt: HostRuntime) {
-    for count in [0, 1, 30, 31, 32, 62, 63] {
+    for count in [0, 1, 62, 63, 64, 126, 127] {
         let heap = Heap::new(rt.alloc(), Refusal::Never);
         let drops = drops_of(&heap, count);
         assert_eq!(rt;

@@ -54,13 +54,13 @@ fn an_iterator_takes_from_the_front(rt: HostRuntime) -> Result<(), AllocError> {
     Ok(())
 }
 
-/// How many items are asked for, how many come, and how many blocks are held then, of a queue without a capacity that 70 items were pushed into.
-static BLOCKS: [(usize, usize, usize); 4] = [(0, 0, 3), (30, 30, 3), (31, 31, 2), (71, 70, 1)];
+/// How many items are asked for, how many come, and how many blocks are held then, of a queue without a capacity that 140 items were pushed into.
+static BLOCKS: [(usize, usize, usize); 4] = [(0, 0, 3), (62, 62, 3), (63, 63, 2), (141, 140, 1)];
 
 #[test]
 fn an_iterator_gives_blocks_back(rt: HostRuntime) -> Result<(), AllocError> {
     for (count, taken, blocks) in BLOCKS.iter() {
-        let mut queue = filled(rt.alloc(), None, 70)?;
+        let mut queue = filled(rt.alloc(), None, 140)?;
         let came = queue.try_iter().take(*count).count();
         assert_eq!(rt; (came, queue.blocks()), (*taken, *blocks));
     }

@@ -60,7 +60,7 @@ pub(crate) enum Line {
     Pops(u64, u64),
     /// Pops so many numbers from 0 on: each comes in its turn, and before each the queue holds so many blocks, for which there were as many requests.
     PopsHolding(u64, usize),
-    /// Pushes 1 to 63: each is accepted but for this one, whose block is refused. After each the blocks are those that are allocated.
+    /// Pushes 1 to 127: each is accepted but for this one, whose block is refused. After each the blocks are those that are allocated.
     PushesBut(u64),
     /// Pops so many items. After each the blocks are those that are allocated.
     PopsSome(u64),
@@ -135,10 +135,10 @@ fn pop_holding(queue: &mut Counting<'_>, heap: &Heap, count: u64, blocks: usize)
     right
 }
 
-/// Pushes 1 to 63. Gives whether each was accepted but for this one, whose block was refused, and the blocks were those that were allocated.
-fn push_to_63(queue: &mut Counting<'_>, heap: &Heap, refused: u64) -> bool {
+/// Pushes 1 to 127. Gives whether each was accepted but for this one, whose block was refused, and the blocks were those that were allocated.
+fn push_to_127(queue: &mut Counting<'_>, heap: &Heap, refused: u64) -> bool {
     let mut right = true;
-    for value in 1..64u64 {
+    for value in 1..128u64 {
         let expected = if value == refused {
             Err(PushError::NoMemory(value))
         } else {
@@ -182,7 +182,7 @@ impl Line {
             Line::Pushes(first, count) => push_all(queue, first, count),
             Line::Pops(first, count) => pop_all(queue, first, count),
             Line::PopsHolding(count, blocks) => pop_holding(queue, heap, count, blocks),
-            Line::PushesBut(refused) => push_to_63(queue, heap, refused),
+            Line::PushesBut(refused) => push_to_127(queue, heap, refused),
             Line::PopsSome(count) => pop_some(queue, heap, count),
             Line::Forces(count) => force_all(queue, count),
             Line::Blocks(blocks) => queue.blocks() == blocks,

@@ -217,7 +217,7 @@ fn two_of_four_threads_ask_for_the_first_block(rt: HostRuntime) -> Result<(), Fa
     let (alone, counts) = end_counted(&rt, &heap, queue, party);
     assert_eq!(rt;
         (right, held, counts, in_order(alone, EACH)),
-        (true, true, [131, 4000, 130, 130], [EACH; 4])
+        (true, true, [65, 4000, 64, 64], [EACH; 4])
     );
     Ok(())
 }
@@ -301,13 +301,13 @@ fn is_pushed<R: Wait>(
     }
 }
 
-/// Pushes 1 to 63. Gives whether each is accepted, but for the one that is to be refused.
-fn push_to_63<R: Wait>(rt: &R, queue: &Queue<'_>, party: &mut Party<u64>, refused: u64) -> bool
+/// Pushes 1 to 127. Gives whether each is accepted, but for the one that is to be refused.
+fn push_to_127<R: Wait>(rt: &R, queue: &Queue<'_>, party: &mut Party<u64>, refused: u64) -> bool
     requires { IsPartyOf party.old queue.now }
     ensures { IsPartyOf party.new queue.now }
 {
     let mut right = true;
-    for value in 1..64u64 {
+    for value in 1..128u64 {
         right = is_pushed(rt, queue, party, value, value != refused) && right;
     }
     right
@@ -315,10 +315,10 @@ fn push_to_63<R: Wait>(rt: &R, queue: &Queue<'_>, party: &mut Party<u64>, refuse
 
 /// Which request is refused, and to which push; how many requests there are in the end, and how many items.
 static REFUSED: [(Refusal, u64, u64, u64); 4] = [
-    (Refusal::Never, 0, 4, 63),
-    (Refusal::Nth(2), 1, 5, 62),
-    (Refusal::Nth(3), 31, 5, 62),
-    (Refusal::Nth(4), 62, 5, 62),
+    (Refusal::Never, 0, 4, 127),
+    (Refusal::Nth(2), 1, 5, 126),
+    (Refusal::Nth(3), 63, 5, 126),
+    (Refusal::Nth(4), 126, 5, 126),
 ];
 
 /// The constructor's request is granted, and one of the pushes' is refused, or none. The number of blocks is told once the sharing has ended.
@@ -328,7 +328,7 @@ fn each_request_of_a_push_refused(rt: HostRuntime) -> Result<(), Fail> {
         let heap = Heap::new(rt.alloc(), *refusal);
         let (queue, mut party) = Queue::unbounded(&heap)?;
         let before = heap.requests();
-        let right = push_to_63(&rt, &queue, &mut party, *refused);
+        let right = push_to_127(&rt, &queue, &mut party, *refused);
         let (_, [_, len, blocks, live]) = end_counted(&rt, &heap, queue, party);
         assert_eq!(rt;
             (right, [before, len, blocks, live, heap.requests()]),
@@ -339,7 +339,7 @@ fn each_request_of_a_push_refused(rt: HostRuntime) -> Result<(), Fail> {
 }
 
 /// How many items two parties push in turn, each half of them.
-const TURNS: u64 = 50;
+const TURNS: u64 = 100;
 
 /// A shared queue of items that count their drops, and whose requests are counted.
 type Counting<'a> = ConcurrentQueue<Counted, &'a Heap>;
@@ -444,7 +444,7 @@ fn use_and_drop<R: Wait + Abort>(
 #[test]
 fn nothing_is_left_of_a_dropped_queue(rt: HostRuntime) -> Result<(), Fail> {
     for how in [End::Joined, End::Kept, End::Dropped] {
-        for popped in [0, 40, 99] {
+        for popped in [0, 80, 199] {
             for refused in 0..7u64 {
                 let heap = Heap::new(rt.alloc(), Refusal::Nth(refused));
                 let drops = Arc::new(rt.alloc(), AtomicU64::new(0))?;

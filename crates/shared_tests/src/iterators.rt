@@ -152,17 +152,17 @@ static TEXTS: [(Option<usize>, u64, u64, bool, &str); 11] = [
     ),
     (
         None,
-        31,
-        31,
+        63,
+        63,
         false,
         "ConcurrentQueue { len: 0, capacity: None, is_closed: false }",
     ),
     (
         None,
-        100,
-        35,
+        200,
+        70,
         false,
-        "ConcurrentQueue { len: 65, capacity: None, is_closed: false }",
+        "ConcurrentQueue { len: 130, capacity: None, is_closed: false }",
     ),
 ];
 

@@ -54,7 +54,7 @@ fn swings<R: Wait>(rt: &R, queue: &Queue, party: &mut Party<u64>, items: u64, ti
 fn length_after_each_call(rt: HostRuntime) -> Result<(), AllocError> {
     for cap in [Some(1000), None] {
         let (queue, mut party) = open(rt.alloc(), cap)?;
-        let few = swings(&rt, &queue, &mut party, 50, 100);
+        let few = swings(&rt, &queue, &mut party, 100, 50);
         let all = swings(&rt, &queue, &mut party, 1000, 1);
         assert!(rt; few && all, "with {cap:?}");
     }

@@ -83,9 +83,9 @@ fn use_a_block<A: Allocator>(alloc: &A, heap: &Heap) -> Result<(u64, u8, u64), A
     let mut chain = Chain::empty(alloc);
     chain.lay(block);
     chain.set_word(0, link, 3, 9);
-    chain.put(0, link, 30, 7);
+    chain.put(0, link, 62, 7);
     let word = chain.word(0, link, 3);
-    let item = chain.take(0, link, 30);
+    let item = chain.take(0, link, 62);
     let laid = heap.live();
     chain.lift(0, link).give_up(alloc, link);
     chain.leave();
