@@ -176,9 +176,10 @@ impl<T, A: Allocator> ConcurrentQueue<T, A> {
         Ok((ConcurrentQueue { form }, Party::in_web(seat.rests())))
     }
 
-    /// Runs a call to its end. The blocks that it asks for come from `Q`.
+    /// Runs a call to its end, as each function does that may wait. The gate is asked before each of its operations, and may hold it there. The blocks that it
+    /// asks for come from `Q`; `W` tells a caller's calls apart, so that each has rounds of its own.
     #[inline(always)]
-    fn answer<Q: Source<T, A>, R: Wait, G: Gate, W>(
+    pub fn answer<Q: Source<T, A>, R: Wait, G: Gate, W>(
         &self,
         rt: &R,
         gate: &G,

@@ -1,4 +1,4 @@
-//! Tests of queues with a capacity that parties share: a call of one party is held before one of its steps while another party's calls go on to their ends.
+//! Tests of queues that parties share: a call of one party is held before one of its steps while another party's calls go on to their ends, or wait for it.
 #![tactic(auto)]
 
 #[cfg(test)]

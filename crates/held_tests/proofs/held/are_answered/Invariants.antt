@@ -1,6 +1,6 @@
-use Rattle.held_tests.specs.Sitting.{IsSitting}
+use Rattle.concurrent_queue.specs.Shared.{IsPartyOf}
 use Rattle.held_tests.proofs.held.are_answered.Given as goal
 
--- the party still sits at the queue's table
+-- the party is still the queue's
 abbrev pub invariant-loop-call : goal.invariant-loop-call
-invariant-loop-call g l = IsSitting g.K.TableKind.layout l.fn.queue.table.shared.table_id (l.party.table_id, l.party.me)
+invariant-loop-call g l = IsPartyOf l.party l.fn.queue
