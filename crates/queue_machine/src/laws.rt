@@ -26,7 +26,7 @@ pub fn nothing_appended_within<T>()
     ensures { NothingAppendedWithin T }
 {}
 
-/// A call that is in progress, while every other party is between calls and begins none, replies within 64 steps of its own.
+/// A call that is in progress, while every other party is between calls and begins none, replies within `LONE_STEPS` steps of its own.
 pub fn lone_calls_reply<T, A: Allocator>()
     ensures { LoneCallsReply T A }
 {}
