@@ -1,6 +1,5 @@
 -- The examples hold.
-use Rattle.std.proofs.Common.{◌≡◌, ◌⊎◌, ℕ, ◌+◌, ◌<◌, ◌≤◌, nat_lt, if◌then◌else◌, true, false, List, [], ◌∷◌, ◌++◌, length, Option, Some, None, Ok, Err, refl, ap, sym, ◌∙◌, subst, inl, inr, arith}
-use Rattle.queue_steps.specs.declared.sizes.TheConstants.{LIMIT}
+use Rattle.std.proofs.Common.{◌≡◌, ℕ, ◌+◌, ◌<◌, nat_lt, if◌then◌else◌, true, false, List, [], ◌∷◌, length, Some, None, Ok, Err, refl, ap, sym, ◌∙◌, inl, inr, arith}
 use Rattle.queue_steps.specs.declared.model.Call.{Call}
 use Rattle.queue_steps.specs.declared.model.Call.TheVariants as call
 use Rattle.queue_steps.specs.declared.model.Reply.{Reply}
@@ -10,13 +9,13 @@ use Rattle.queue_steps.specs.declared.errors.ForcePushError.TheVariants as force
 use Rattle.queue_steps.specs.declared.model.Effect.{Effect}
 use Rattle.queue_steps.specs.declared.model.Effect.TheVariants as effect
 use Rattle.queue_steps.specs.State.{State, start}
-use Rattle.queue_steps.specs.Effect.{Runs, IsHistory, after, after_from}
+use Rattle.queue_steps.specs.Effect.{Runs, IsHistory, after}
 use Rattle.queue_steps.specs.Replies.{Allows, LacksMemory}
-use Rattle.queue_steps.specs.Sole.{Owned, fresh, Sole, sole_reply, sole_state, SoleRun}
-use Rattle.one_moment.specs.Moments.{IsAtOnce, RunsAtOnce, settled}
-use Rattle.one_moment.specs.Entries.{Entry, ClosesWithin, own_of, chosen, state_before}
-use Rattle.one_moment.specs.Shared.{numbered, settled_history, is_own}
-use Rattle.one_moment.specs.Examples.{filled, closing, closing_twice, displacing, AllRightAtOnce, NoOrder, Examples}
+use Rattle.queue_steps.specs.Sole.{Owned, fresh, Sole, sole_reply, sole_state}
+use Rattle.one_moment.specs.Moments.{IsAtOnce, RunsAtOnce}
+use Rattle.one_moment.specs.Entries.{state_before}
+use Rattle.one_moment.specs.Shared.{settled_history}
+use Rattle.one_moment.specs.Examples.{filled, displacing, NoOrder, Examples}
 
 -- the ring with 1 and 2 in it
 abbrev full : State ℕ

@@ -1,9 +1,9 @@
 -- The effects of a call stand together in what a history settles into.
-use Rattle.std.proofs.Common.{◌≡◌, ◌⊎◌, ℕ, ◌<◌, ◌≤◌, ◌&&◌, nat_lt, nat_le, Bool, true, false, List, [], ◌∷◌, ◌++◌, refl, ap, sym, ◌∙◌, subst, inl, inr, arith}
+use Rattle.std.proofs.Common.{◌≡◌, ℕ, ◌<◌, ◌≤◌, ◌&&◌, nat_lt, nat_le, Bool, true, false, List, [], ◌∷◌, ◌++◌, refl, ap, sym, ◌∙◌, subst, inl, inr, arith}
 use Rattle.queue_steps.specs.declared.model.Effect.{Effect}
 use Rattle.queue_steps.specs.declared.model.Effect.TheVariants as effect
 use Rattle.one_moment.specs.Moments.{others}
-use Rattle.one_moment.specs.Entries.{Entry, effects_in, front_first, fronts_at, other_first, other_entries, settle_first, settle, own_of}
+use Rattle.one_moment.specs.Entries.{Entry, front_first, fronts_at, other_first, other_entries, settle_first, settle, own_of}
 use Rattle.one_moment.specs.Shared.{StandsTogether}
 use Rattle.one_moment.proofs.Naming.{entry}
 use Rattle.one_moment.proofs.Choosing.{bool_or, chosen_yes, chosen_not}

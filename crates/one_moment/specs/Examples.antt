@@ -1,5 +1,5 @@
 -- Short histories of a ring of two, what they settle into, and what does not hold.
-use Rattle.std.specs.Prelude.{◌≡◌, ℕ, ◌+◌, true, List, [], ◌∷◌, ◌++◌, Option, Some, None, Ok, Err}
+use Rattle.std.specs.Prelude.{◌≡◌, ℕ, ◌+◌, true, List, [], ◌∷◌, ◌++◌, Option, Some, Ok}
 use Rattle.queue_steps.specs.declared.model.Call.{Call}
 use Rattle.queue_steps.specs.declared.model.Call.TheVariants as call
 use Rattle.queue_steps.specs.declared.model.Reply.{Reply}
