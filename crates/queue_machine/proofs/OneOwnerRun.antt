@@ -15,7 +15,8 @@ use Rattle.queue_machine.specs.declared.types.Told.TheVariants.{Skipped, Ran}
 use Rattle.queue_machine.specs.Book.{Book, Open, Run, begun, after_own, opening}
 use Rattle.queue_machine.specs.Conforms.{Conforms, entries_from, reply_entry}
 use Rattle.queue_machine.specs.OneOwner.{begun_calls, reply_in, IsSoleRun}
-use Rattle.queue_machine.proofs.OneOwner.{Agrees, Ready, Midway, midway-more, midway-ends, at_once}
+use Rattle.one_moment.proofs.Table.{Agrees}
+use Rattle.queue_machine.proofs.OneOwner.{Ready, Midway, midway-more, midway-ends, at_once}
 use Rattle.queue_machine.proofs.Peaking.{Run-length}
 
 abbrev pending : {T : Type 0} → Option (Open T) → List (Call T) → List (Call T)
