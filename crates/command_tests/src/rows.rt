@@ -82,7 +82,7 @@ pub fn run_over<R: Threads + Wait + Sync + AllocGlobal, I: Read, O: Write, F: Wr
     faults: &mut F,
 ) -> Result<u8, AllocError> {
     let args = words(alloc, line)?;
-    Ok(command(rt, &alloc, args, input, output, faults))
+    Ok(command(rt, &alloc, args, input, output, faults).status)
 }
 
 /// Runs the program on a line of arguments and this input, with the memory of scripts and replays from this heap.
@@ -96,9 +96,9 @@ pub fn run_from<R: Threads + Wait + Sync + AllocGlobal, A: Allocator>(
     let mut output = Vec::new(alloc);
     let mut faults = Vec::new(alloc);
     let args = words(alloc, line)?;
-    let status = command(rt, heap, args, &mut input, &mut output, &mut faults);
+    let ended = command(rt, heap, args, &mut input, &mut output, &mut faults);
     Ok(Outcome {
-        status,
+        status: ended.status,
         output,
         faults,
     })

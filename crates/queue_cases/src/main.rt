@@ -25,7 +25,7 @@ fn agrees<R: Threads + Wait + Sync + Files + AllocGlobal>(rt: &R, line: &str) ->
     let wanted = fs::read(rt, format!(in alloc; "{path}.out")?.as_str())?;
     let mut output = Vec::new(alloc);
     let mut faults = Vec::new(alloc);
-    let status = command(
+    let ended = command(
         rt,
         &alloc,
         args,
@@ -33,7 +33,7 @@ fn agrees<R: Threads + Wait + Sync + Files + AllocGlobal>(rt: &R, line: &str) ->
         &mut output,
         &mut faults,
     );
-    Ok(status == 0 && output.as_slice() == wanted.as_slice())
+    Ok(ended.status == 0 && output.as_slice() == wanted.as_slice())
 }
 
 /// Runs all cases, names those that do not agree, and tells how many do.

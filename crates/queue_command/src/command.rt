@@ -2,6 +2,7 @@
 ghost use Rattle.std.specs.Prelude.{◌≡◌, ◌<◌, map, string_bytes, MatchResult};
 ghost use Rattle.queue_text.specs.declared.faults.Fault.TheVariants as fault;
 ghost use Rattle.queue_text.specs.Faults.{fault_status};
+ghost use Rattle.queue_threads.specs.declared.sharing.Sharing.TheVariants as sharing;
 ghost use Rattle.queue_threads.specs.declared.verdict.Verdict.TheVariants as verdict;
 ghost use Rattle.queue_command.specs.Ends.{IsEnd, IsDone, IsFaultOf};
 
@@ -10,6 +11,7 @@ use crate::script::script;
 use queue_text::args::{Form, parse_form};
 use queue_text::faults::Fault;
 use queue_threads::handshake::handshake;
+use queue_threads::sharing::{Ran, Sharing};
 use queue_threads::threads::threads;
 use queue_threads::verdict::Verdict;
 use std::alloc::Allocator;
@@ -17,7 +19,14 @@ use std::io::{Read, Write};
 use std::sync::Wait;
 use std::thread::Threads;
 
-/// Does what the arguments after the program's name say, and answers the status to end with.
+/// The status to end with, and what the threads of the run shared.
+#[derive(Drop)]
+pub struct Ended {
+    pub status: u8,
+    pub sharing: Sharing,
+}
+
+/// Does what the arguments after the program's name say, and answers the status to end with. Hands on what threads shared.
 ///
 /// Scripts and replays take their memory of `alloc`. Threads are started, and wait, in the forms `threads` and `handshake` alone, which take theirs of the
 /// allocator of `rt`. A fault is told on `faults`. Where it cannot be written there, the status is the same.
@@ -28,15 +37,17 @@ pub fn command<R: Threads + Wait + Sync + AllocGlobal, A: Allocator, I: Read, O:
     input: &mut I,
     output: &mut O,
     faults: &mut F,
-) -> u8
-    ensures end { IsEnd (map string_bytes args.items)
-        (I.remaining input.old) (O.contents output.old) (O.contents output.new) result }
-    ensures quiet { result < 2 → faults.new ≡ faults.old }
+) -> Ended
+    ensures end { IsEnd (map string_bytes args.items) result.sharing
+        (I.remaining input.old) (O.contents output.old) (O.contents output.new) result.status }
+    ensures quiet { result.status < 2 → faults.new ≡ faults.old }
 {
-    match run(rt, alloc, &args, input, output) {
+    let Ran { end, sharing } = run(rt, alloc, &args, input, output);
+    let status = match end {
         Ok(verdict) => verdict.status(),
         Err(fault) => tell(fault, faults),
-    }
+    };
+    Ended { status, sharing }
 }
 
 /// Tells that there was no memory for the arguments, and answers the status to end with.
@@ -61,21 +72,31 @@ fn run<R: Threads + Wait + Sync + AllocGlobal, A: Allocator, I: Read, O: Write>(
     args: &[String],
     input: &mut I,
     output: &mut O,
-) -> Result<Verdict, Fault>
-    ensures { MatchResult result
-        (IsDone (map string_bytes args.now)
+) -> Ran
+    ensures { MatchResult result.end
+        (IsDone (map string_bytes args.now) result.sharing
         (I.remaining input.old) (O.contents output.old) (O.contents output.new))
-        (IsFaultOf (map string_bytes args.now)
+        (IsFaultOf (map string_bytes args.now) result.sharing
         (I.remaining input.old) (O.contents output.old) (O.contents output.new)) }
 {
     let Some(form) = parse_form(args) else {
-        return Err(Fault::Usage);
+        return alone(Err(Fault::Usage));
     };
     match form {
-        Form::Script(kind) => shown(script(alloc, kind, input, output)),
-        Form::Replay(kind, parties) => shown(replay(alloc, kind, parties, input, output)),
+        Form::Script(kind) => alone(shown(script(alloc, kind, input, output))),
+        Form::Replay(kind, parties) => alone(shown(replay(alloc, kind, parties, input, output))),
         Form::Threads(load) => threads(rt, rt.alloc(), load, output),
         Form::Handshake => handshake(rt, rt.alloc(), output),
+    }
+}
+
+// A run without threads.
+fn alone(end: Result<Verdict, Fault>) -> Ran
+    ensures { result ≡ record { end = end; sharing = sharing.Nothing } }
+{
+    Ran {
+        end,
+        sharing: Sharing::Nothing,
     }
 }
 

@@ -15,7 +15,7 @@ fn main(rt: HostRuntime) -> ExitCode {
         // Arguments that are no text are wrong ones, as none are.
         Err(_) => Vec::new(rt.alloc()),
     };
-    let status = command(
+    let ended = command(
         &rt,
         &rt.alloc(),
         args,
@@ -23,7 +23,7 @@ fn main(rt: HostRuntime) -> ExitCode {
         &mut rt.stdout(),
         &mut rt.stderr(),
     );
-    ExitCode::from(status)
+    ExitCode::from(ended.status)
 }
 
 // The arguments after the program's name.

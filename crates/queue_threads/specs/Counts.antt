@@ -3,14 +3,16 @@ use Rattle.std.specs.Prelude.{◌≡◌, ℕ, ◌+◌, ◌<◌, ◌≤◌, ◌^�
 use Rattle.std.specs.Fmt.{decimal}
 use Rattle.std.specs.Io.KnownBytes.{Appends}
 use Rattle.std.specs.Option.{IfSome}
-use Rattle.queue_steps.specs.Shares.{IsEntire}
 use Rattle.queue_steps.specs.declared.sizes.TheConstants.{MAX_CAPACITY}
-use Rattle.queue_steps.specs.Parties.{View, IsView}
 use Rattle.queue_text.specs.KindNames.{capacity_of}
 use Rattle.queue_text.specs.declared.load.Load.{Load}
 use Rattle.party_doings.specs.Doings.{takes}
+use Rattle.queue_threads.specs.Sharing.{IsAllOf}
 use Rattle.queue_threads.specs.declared.counts.Finding.{Finding}
 use Rattle.queue_threads.specs.declared.counts.Finding.TheVariants as finding
+use Rattle.queue_threads.specs.declared.sharing.Shared.{Shared}
+use Rattle.queue_threads.specs.declared.sharing.Sharing.{Sharing}
+use Rattle.queue_threads.specs.declared.sharing.Sharing.TheVariants as sharing
 use Rattle.queue_threads.specs.declared.verdict.Verdict.{Verdict}
 use Rattle.queue_threads.specs.declared.verdict.Verdict.TheVariants as verdict
 
@@ -45,27 +47,23 @@ abbrev pub finding_verdict : Finding → Verdict
 finding_verdict (finding.Right values times) = verdict.Right
 finding_verdict (finding.Wrong value times) = verdict.Wrong
 
--- There is one party of a queue of the load's capacity, which all parties have become: it has all of the share, so that every place of the whole history
--- is its own. Each value that the load has is counted as often as it was taken
-pub record IsTally (l : Load) (counts : List ℕ) : Type 0 where
+-- each value that the load has is counted as often as it was taken of the queue of the load's capacity that its threads shared
+pub record IsTally (l : Load) (s : Shared) (counts : List ℕ) : Type 0 where
   pub within : IfSome (capacity_of l.kind) (λ size. size ≤ MAX_CAPACITY)
-  pub view : View ℕ
-  pub seen : IsView (capacity_of l.kind) view
-  pub whole : IsEntire view.share
+  pub all : IsAllOf (capacity_of l.kind) s
   pub complete : length counts ≡ l.items
-  pub taken : (x : ℕ) → x < l.items → get_or counts x 0 ≡ takes x view
+  pub taken : (x : ℕ) → x < l.items → get_or counts x 0 ≡ takes x s.party.view
 
 -- a line of what the counts show
 abbrev pub counts_line : Load → List ℕ → List ℕ
 counts_line l counts = finding_text (judged l.pushers counts) ++ 10 ∷ []
 
--- a line of what counts of the load show
-abbrev pub IsCountsLine : Load → List ℕ → Type 0
-IsCountsLine l text = (counts : List ℕ) × IsTally l counts × (text ≡ counts_line l counts)
+-- a line of what the counts of the load show on the queue that its threads shared
+abbrev pub IsCountsLine : Load → Sharing → List ℕ → Type 0
+IsCountsLine l (sharing.Counted s) text = (counts : List ℕ) × IsTally l s counts × (text ≡ counts_line l counts)
+IsCountsLine l _ text = ⊥
 
--- what came of the load was counted, and what the counts show was written as a line
-pub record IsCounted (l : Load) (old new : Option (List ℕ)) (v : Verdict) : Type 0 where
-  pub counts : List ℕ
-  pub tally : IsTally l counts
-  pub written : Appends old new (counts_line l counts)
-  pub shown : v ≡ finding_verdict (judged l.pushers counts)
+-- what came of the load out of the queue that its threads shared was counted, and what the counts show was written as a line
+abbrev pub IsCounted : Load → Sharing → Option (List ℕ) → Option (List ℕ) → Verdict → Type 0
+IsCounted l (sharing.Counted s) old new v = (counts : List ℕ) × IsTally l s counts × Appends old new (counts_line l counts) × (v ≡ finding_verdict (judged l.pushers counts))
+IsCounted l _ old new v = ⊥

@@ -1,3 +1,4 @@
+pub mod Sharing
 pub mod Verdicts
 pub mod Works
 pub mod Meetings

@@ -1,12 +1,14 @@
 -- A handshake: what each of its threads has taken, and what is written of it.
-use Rattle.std.specs.Prelude.{◌≡◌, ℕ, ◌+◌, ◌<◌, true, List, codes, Option, Some}
+use Rattle.std.specs.Prelude.{◌≡◌, ℕ, ◌+◌, ◌<◌, Bool, true, false, List, codes, Option, Some}
 use Rattle.std.specs.Io.KnownBytes.{Appends}
 use Rattle.queue_steps.specs.Shares.{entire, half, plus, IsEntire}
-use Rattle.queue_steps.specs.Parties.{View, IsView}
 use Rattle.concurrent_queue.specs.Shared.{QueueId, Person, IsPartyOf}
 use Rattle.party_doings.specs.Doings.{takes}
 use Rattle.queue_threads.specs.declared.handshake.Hands.{Hands}
 use Rattle.queue_threads.specs.declared.handshake.Shaken.{Shaken}
+use Rattle.queue_threads.specs.Sharing.{IsAllOf}
+use Rattle.queue_threads.specs.declared.sharing.Sharing.{Sharing}
+use Rattle.queue_threads.specs.declared.sharing.Sharing.TheVariants as sharing
 use Rattle.queue_threads.specs.declared.verdict.Verdict.{Verdict}
 use Rattle.queue_threads.specs.declared.verdict.Verdict.TheVariants as verdict
 
@@ -40,24 +42,32 @@ pub record IsMeeting (there back : QueueId) (s : Shaken) : Type 0 where
   pub whole : IsEntire s.hands.sends.view.share × IsEntire s.hands.takes.view.share
   pub came : s.came ≡ true → (0 < takes 1 s.hands.sends.view) × (0 < takes 2 s.hands.takes.view)
 
--- Two queues of one slot have each a party with all of the share, so that every place of the whole history is its own: 1 was taken from the one, 2 from the other
-pub record HandsMet : Type 0 where
-  pub there : View ℕ
-  pub back : View ℕ
-  pub seen : IsView (Some 1) there × IsView (Some 1) back
-  pub whole : IsEntire there.share × IsEntire back.share
-  pub taken : (0 < takes 1 there) × (0 < takes 2 back)
+-- all parties of two queues, of one slot each, are joined
+abbrev pub HandsJoined : Sharing → Type 0
+HandsJoined (sharing.Met there back) = IsAllOf (Some 1) there × IsAllOf (Some 1) back
+HandsJoined _ = ⊥
+
+-- 1 was taken from the one queue, and 2 from the other
+abbrev pub HandsMet : Sharing → Type 0
+HandsMet (sharing.Met there back) = (0 < takes 1 there.party.view) × (0 < takes 2 back.party.view)
+HandsMet _ = ⊥
+
+-- what it shows whether both items came
+abbrev pub met_verdict : Bool → Verdict
+met_verdict true = verdict.Right
+met_verdict false = verdict.Wrong
 
 -- whether both threads of a handshake got the other's item was written
 abbrev pub handshake_text : Verdict → List ℕ
 handshake_text verdict.Right = codes "both\n"
 handshake_text verdict.Wrong = codes "alone\n"
 
--- what is written of a handshake; that both met is written only where they did
-abbrev pub IsHandshakeText : List ℕ → Type 0
-IsHandshakeText text = (v : Verdict) × (text ≡ handshake_text v) × (v ≡ verdict.Right → HandsMet)
+-- what is written of a handshake through the queues that its threads shared; that both met is written only where they did
+abbrev pub IsHandshakeText : Sharing → List ℕ → Type 0
+IsHandshakeText shared text = HandsJoined shared × ((v : Verdict) × (text ≡ handshake_text v) × (v ≡ verdict.Right → HandsMet shared))
 
--- what was written; that both met is written only where they did
-pub record Handshake (old new : Option (List ℕ)) (v : Verdict) : Type 0 where
+-- what was written; that both met through the queues that were shared is written only where they did
+pub record Handshake (shared : Sharing) (old new : Option (List ℕ)) (v : Verdict) : Type 0 where
+  pub joined : HandsJoined shared
   pub written : Appends old new (handshake_text v)
-  pub met : v ≡ verdict.Right → HandsMet
+  pub met : v ≡ verdict.Right → HandsMet shared

@@ -9,15 +9,16 @@ ghost use Rattle.queue_threads.specs.Works.{IsWork, Quits};
 ghost use denote.Param.Send.{IsSync};
 
 use crate::counts::{add, count, none_counted};
+use block_web::low::Low;
 use concurrent_queue::{ConcurrentQueue, Party, PopError, PushError};
 use crossbeam_utils::Backoff;
-use std::alloc::{AllocError, Global};
+use std::alloc::{AllocError, Allocator, Global};
 use std::snapshot::Snapshot;
 use std::sync::Wait;
 use std::thread;
 use std::thread::{Promise, Scope, Threads};
 
-/// The queue that the threads share.
+/// The queue that the threads of the program share.
 pub type Queue = ConcurrentQueue<u64>;
 
 /// How many threads push and how many pop, and how much each has to do.
@@ -41,13 +42,13 @@ pub struct Work {
 
 /// A thread gives back its party of this queue, and counts what that took: of each of so many values no more than so many.
 #[derive(Drop)]
-struct Returns<'a> {
-    queue: &'a Queue,
+struct Returns<'a, A: Allocator> {
+    queue: &'a ConcurrentQueue<u64, A>,
     given: Snapshot<Party<u64>>,
     plan: Plan,
 }
 
-impl<'a> Promise<Work> for Returns<'a> {
+impl<'a, A: Allocator> Promise<Work> for Returns<'a, A> {
     ghost kept_by = { λ p work. IsWork p.queue.now p.plan.items p.plan.share p.given.value work };
 }
 
@@ -58,10 +59,10 @@ impl<'a> Promise<Work> for Returns<'a> {
 /// # Errors
 ///
 /// The allocator refused the counts. No thread was started.
-pub fn run_all<R: Threads + Wait + Sync>(
+pub fn run_all<R: Threads + Wait + Sync, A: Low + Send + Sync>(
     rt: &R,
     alloc: Global,
-    queue: &Queue,
+    queue: &ConcurrentQueue<u64, A>,
     party: Party<u64>,
     plan: Plan,
 ) -> Result<Work, AllocError>
@@ -84,11 +85,11 @@ pub fn run_all<R: Threads + Wait + Sync>(
 }
 
 /// Runs the threads of a plan from this number on, joins them, and adds up what they counted.
-fn start_from<'s, E, R: Threads + Wait + Sync>(
+fn start_from<'s, E, R: Threads + Wait + Sync, A: Low + Send + Sync>(
     rt: &'s R,
     alloc: Global,
     scope: &Scope<'s, E>,
-    queue: &'s Queue,
+    queue: &'s ConcurrentQueue<u64, A>,
     party: Party<u64>,
     counts: Vec<u64>,
     plan: Plan,
@@ -137,7 +138,7 @@ fn start_from<'s, E, R: Threads + Wait + Sync>(
 }
 
 /// Closes the queue, so that whoever works on it ends.
-fn shut(queue: &Queue, party: &mut Party<u64>)
+fn shut<A: Allocator>(queue: &ConcurrentQueue<u64, A>, party: &mut Party<u64>)
     requires { IsPartyOf party.old queue.now }
     ensures { Quits party.old party.new }
 {
@@ -146,7 +147,11 @@ fn shut(queue: &Queue, party: &mut Party<u64>)
 }
 
 /// Closes the queue, so that the threads that were started end.
-fn give_up(queue: &Queue, mut party: Party<u64>, counts: Vec<u64>) -> Work
+fn give_up<A: Allocator>(
+    queue: &ConcurrentQueue<u64, A>,
+    mut party: Party<u64>,
+    counts: Vec<u64>,
+) -> Work
     requires { IsPartyOf party queue.now }
     ensures quits { Quits party result.party }
     ensures same { (result.counts.items ≡ counts.items) × (result.done ≡ false) }
@@ -160,7 +165,7 @@ fn give_up(queue: &Queue, mut party: Party<u64>, counts: Vec<u64>) -> Work
 }
 
 /// The work of both, whose parties become one.
-fn both(queue: &Queue, ours: Work, theirs: Work) -> Work
+fn both<A: Allocator>(queue: &ConcurrentQueue<u64, A>, ours: Work, theirs: Work) -> Work
     requires of { IsPartyOf ours.party queue.now × IsPartyOf theirs.party queue.now }
     requires fits { EachSumFits ours.counts.items theirs.counts.items }
     ensures views { IsView ours.party.queue.cap ours.party.view × IsView theirs.party.queue.cap theirs.party.view }
@@ -184,10 +189,10 @@ fn both(queue: &Queue, ours: Work, theirs: Work) -> Work
 }
 
 /// Does what the thread of this number has to do: the pushers come first.
-fn act<R: Wait>(
+fn act<R: Wait, A: Low>(
     rt: &R,
     alloc: Global,
-    queue: &Queue,
+    queue: &ConcurrentQueue<u64, A>,
     party: Party<u64>,
     plan: Plan,
     number: u64,
@@ -203,10 +208,10 @@ fn act<R: Wait>(
 }
 
 /// Pushes the numbers from 0 up to that of the items, which is left out.
-fn push_all<R: Wait>(
+fn push_all<R: Wait, A: Low>(
     rt: &R,
     alloc: Global,
-    queue: &Queue,
+    queue: &ConcurrentQueue<u64, A>,
     mut party: Party<u64>,
     plan: Plan,
 ) -> Work
@@ -230,7 +235,13 @@ fn push_all<R: Wait>(
 }
 
 /// Pops a share of the items, and counts them.
-fn pop_all<R: Wait>(rt: &R, alloc: Global, queue: &Queue, mut party: Party<u64>, plan: Plan) -> Work
+fn pop_all<R: Wait, A: Allocator>(
+    rt: &R,
+    alloc: Global,
+    queue: &ConcurrentQueue<u64, A>,
+    mut party: Party<u64>,
+    plan: Plan,
+) -> Work
     requires { IsPartyOf party queue.now }
     ensures { IsWork queue.now plan.items plan.share party result }
 {
@@ -258,7 +269,12 @@ fn pop_all<R: Wait>(rt: &R, alloc: Global, queue: &Queue, mut party: Party<u64>,
 
 /// Pushes a value, and tries again while the queue is full. Gives false where the queue was found closed, or had no
 /// memory. In the latter case it closes the queue.
-fn push_one<R: Wait>(rt: &R, queue: &Queue, party: &mut Party<u64>, value: u64) -> bool
+fn push_one<R: Wait, A: Low>(
+    rt: &R,
+    queue: &ConcurrentQueue<u64, A>,
+    party: &mut Party<u64>,
+    value: u64,
+) -> bool
     requires { IsPartyOf party.old queue.now }
     ensures { MatchBool result (Acts party.old party.new (effect.Append value ∷ [])) (Quits party.old party.new) }
 {
@@ -279,7 +295,11 @@ fn push_one<R: Wait>(rt: &R, queue: &Queue, party: &mut Party<u64>, value: u64) 
 }
 
 /// Pops an item, and tries again while the queue is empty. Gives none where the queue was found closed.
-fn pop_one<R: Wait>(rt: &R, queue: &Queue, party: &mut Party<u64>) -> Option<u64>
+fn pop_one<R: Wait, A: Allocator>(
+    rt: &R,
+    queue: &ConcurrentQueue<u64, A>,
+    party: &mut Party<u64>,
+) -> Option<u64>
     requires { IsPartyOf party.old queue.now }
     ensures { MatchOption result (Quits party.old party.new) (λ value. Acts party.old party.new (effect.Take value ∷ [])) }
 {

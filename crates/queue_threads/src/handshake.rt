@@ -1,12 +1,14 @@
 //! The form `handshake`: two threads that hand an item to each other.
 ghost use Rattle.std.specs.Prelude.{◌≡◌, ◌<◌, ◌&&◌, true, IfOk, MatchResult};
+ghost use Rattle.std.specs.Io.KnownBytes.{Appends};
 ghost use Rattle.concurrent_queue.specs.Shared.{IsPartyOf};
 ghost use Rattle.party_doings.specs.Doings.{takes, SawClosed};
-ghost use Rattle.queue_threads.specs.Meetings.{Handshake, IsHandshakeText, HandsMet, AreHandsOf, AreHalves, AreThreeParts, Unites, IsShaken, IsMeeting};
+ghost use Rattle.queue_threads.specs.Meetings.{Handshake, IsHandshakeText, HandsJoined, HandsMet, handshake_text, met_verdict, AreHandsOf, AreHalves, AreThreeParts, Unites, IsShaken, IsMeeting};
 ghost use Rattle.queue_threads.specs.Verdicts.{IsOutputFault};
 ghost use denote.Param.Send.{IsSync};
 
 use crate::crew::Queue;
+use crate::sharing::{Ran, Shared, Sharing};
 use crate::verdict::Verdict;
 use concurrent_queue::{Party, PopError};
 use queue_text::faults::Fault;
@@ -21,24 +23,34 @@ use std::thread::{Promise, Scope, Threads, yield_now};
 /// How often a thread tries to pop.
 const MOST_TRIES: u64 = 1_000_000;
 
-/// Lets two threads hand an item to each other through two queues of one slot, and writes whether both got one.
+/// Lets two threads hand an item to each other through two queues of one slot, and writes whether both got one. Hands both queues on, each with the
+/// party that all of its have become.
 ///
-/// # Errors
-///
-/// `NoMemory`, also where a thread cannot be started, and `OutputFailed`, where a beginning of the output may be
+/// It ends in `NoMemory`, also where a thread cannot be started, and in `OutputFailed`, where a beginning of the output may be
 /// written.
-pub fn handshake<R: Threads + Wait + Sync, O: Write>(
-    rt: &R,
-    alloc: Global,
-    output: &mut O,
-) -> Result<Verdict, Fault>
-    ensures { MatchResult result
-        (Handshake (O.contents output.old) (O.contents output.new))
-        (IsOutputFault IsHandshakeText (O.contents output.old) (O.contents output.new)) }
+pub fn handshake<R: Threads + Wait + Sync, O: Write>(rt: &R, alloc: Global, output: &mut O) -> Ran
+    ensures { MatchResult result.end
+        (Handshake result.sharing (O.contents output.old) (O.contents output.new))
+        (IsOutputFault (IsHandshakeText result.sharing) (O.contents output.old) (O.contents output.new)) }
 {
-    let Ok(met) = shake_hands(rt, alloc) else {
-        return Err(Fault::NoMemory);
-    };
+    match shake_hands(rt, alloc) {
+        Ok((sharing, met)) => Ran {
+            end: write_met(met, output),
+            sharing,
+        },
+        Err(_) => Ran {
+            end: Err(Fault::NoMemory),
+            sharing: Sharing::Nothing,
+        },
+    }
+}
+
+// Writes whether both threads got an item.
+fn write_met<O: Write>(met: bool, output: &mut O) -> Result<Verdict, Fault>
+    ensures { MatchResult result
+        (λ shown. (shown ≡ met_verdict met) × Appends (O.contents output.old) (O.contents output.new) (handshake_text shown))
+        (IsOutputFault (λ text. text ≡ handshake_text (met_verdict met)) (O.contents output.old) (O.contents output.new)) }
+{
     if met {
         write_output(output, b"both\n")?;
         Ok(Verdict::Right)
@@ -75,9 +87,13 @@ impl<'a> Promise<Shaken> for Shakes<'a> {
     ghost kept_by = { λ p shaken. IsShaken p.sends.now p.takes.now p.item p.given.value shaken };
 }
 
-// Whether both threads got the other's item. All parties are joined then, and the sharing of both queues is ended.
-fn shake_hands<R: Threads + Wait + Sync>(rt: &R, alloc: Global) -> Result<bool, AllocError>
-    ensures { IfOk result (λ met. met ≡ true → HandsMet) }
+// Both queues, with all parties joined, and whether both threads got the other's item.
+fn shake_hands<R: Threads + Wait + Sync>(
+    rt: &R,
+    alloc: Global,
+) -> Result<(Sharing, bool), AllocError>
+    ensures joined { IfOk result (λ r. HandsJoined r.0) }
+    ensures met { IfOk result (λ r. r.1 ≡ true → HandsMet r.0) }
 {
     let (there, party_there) = Queue::bounded(alloc, 1)?;
     let (back, party_back) = Queue::bounded(alloc, 1)?;
@@ -100,10 +116,15 @@ fn shake_hands<R: Threads + Wait + Sync>(rt: &R, alloc: Global) -> Result<bool, 
     };
     hands.sends.show_view();
     hands.takes.show_view();
-    let (Ok(_), Ok(_)) = (there.finish(hands.sends), back.finish(hands.takes)) else {
-        unreachable!()
+    let there = Shared {
+        queue: there,
+        party: hands.sends,
     };
-    Ok(came)
+    let back = Shared {
+        queue: back,
+        party: hands.takes,
+    };
+    Ok((Sharing::Met(there, back), came))
 }
 
 // Parts the parties of both queues.

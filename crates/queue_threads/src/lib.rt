@@ -4,5 +4,6 @@
 pub mod counts;
 pub mod crew;
 pub mod handshake;
+pub mod sharing;
 pub mod threads;
 pub mod verdict;

@@ -1,15 +1,19 @@
 //! The form `threads`: how often each value came out of a queue that threads share.
-ghost use Rattle.std.specs.Prelude.{◌≡◌, ◌<◌, ◌≤◌, ◌+◌, ◌*◌, ◌^◌, true, [], IfOk, MatchResult};
+ghost use Rattle.std.specs.Prelude.{◌≡◌, ◌<◌, ◌≤◌, ◌+◌, ◌*◌, ◌^◌, ℕ, [], length, get_or, IfOk, MatchResult};
+ghost use Rattle.std.specs.Io.KnownBytes.{Appends};
 ghost use Rattle.std.specs.Option.{IfSome};
 ghost use Rattle.queue_steps.specs.declared.sizes.TheConstants.{MAX_CAPACITY};
 ghost use Rattle.queue_steps.specs.Shares.{entire};
 ghost use Rattle.queue_text.specs.KindNames.{IsKindName, IsLoad, capacity_of};
 ghost use Rattle.concurrent_queue.specs.Shared.{IsPartyOf};
-ghost use Rattle.queue_threads.specs.Counts.{IsCounted, IsCountsLine, IsTally};
+ghost use Rattle.party_doings.specs.Doings.{takes};
+ghost use Rattle.queue_threads.specs.Counts.{IsCounted, IsCountsLine, counts_line, finding_verdict, judged};
+ghost use Rattle.queue_threads.specs.Sharing.{IsAllOf};
 ghost use Rattle.queue_threads.specs.Verdicts.{IsOutputFault};
 
 use crate::counts::judge;
 use crate::crew::{Plan, Queue, Work, run_all};
+use crate::sharing::{Ran, Shared, Sharing};
 use crate::verdict::Verdict;
 use concurrent_queue::Party;
 use queue_text::args::KindName;
@@ -22,27 +26,45 @@ use std::sync::Wait;
 use std::thread::Threads;
 
 /// Lets threads push and pop as the load says, on a queue of its kind, and writes whether each value came as often as
-/// it was pushed.
+/// it was pushed. Hands the queue on, with the party that all of theirs have become.
 ///
-/// # Errors
-///
-/// `NoMemory`, also where a thread cannot be started, a push gets no block or no queue may have the capacity, and
-/// `OutputFailed`, where a beginning of the output may be written.
+/// It ends in `NoMemory`, also where a thread cannot be started, a push gets no block or no queue may have the capacity, and
+/// in `OutputFailed`, where a beginning of the output may be written.
 pub fn threads<R: Threads + Wait + Sync, O: Write>(
     rt: &R,
     alloc: Global,
     load: Load,
     output: &mut O,
-) -> Result<Verdict, Fault>
+) -> Ran
     requires { IsLoad load }
-    ensures { MatchResult result
-        (IsCounted load (O.contents output.old) (O.contents output.new))
-        (IsOutputFault (IsCountsLine load) (O.contents output.old) (O.contents output.new)) }
+    ensures { MatchResult result.end
+        (IsCounted load result.sharing (O.contents output.old) (O.contents output.new))
+        (IsOutputFault (IsCountsLine load result.sharing) (O.contents output.old) (O.contents output.new)) }
 {
-    let Ok(counts) = count_all(rt, alloc, load) else {
-        return Err(Fault::NoMemory);
-    };
-    let finding = judge(load.pushers, &counts);
+    match count_all(rt, alloc, load) {
+        Ok((shared, counts)) => Ran {
+            end: write_counts(alloc, load, &counts, output),
+            sharing: Sharing::Counted(shared),
+        },
+        Err(_) => Ran {
+            end: Err(Fault::NoMemory),
+            sharing: Sharing::Nothing,
+        },
+    }
+}
+
+// Writes what the counts show.
+fn write_counts<O: Write>(
+    alloc: Global,
+    load: Load,
+    counts: &[u64],
+    output: &mut O,
+) -> Result<Verdict, Fault>
+    ensures { MatchResult result
+        (λ shown. Appends (O.contents output.old) (O.contents output.new) (counts_line load counts.now) × (shown ≡ finding_verdict (judged load.pushers counts.now)))
+        (IsOutputFault (λ text. text ≡ counts_line load counts.now) (O.contents output.old) (O.contents output.new)) }
+{
+    let finding = judge(load.pushers, counts);
     let Ok(text) = format!(in alloc; "{finding}\n") else {
         return Err(Fault::NoMemory);
     };
@@ -50,14 +72,17 @@ pub fn threads<R: Threads + Wait + Sync, O: Write>(
     Ok(finding.verdict())
 }
 
-// How often each value came. The sharing is ended, as all threads are joined.
+// How often each value came, and the queue through which it did.
 fn count_all<R: Threads + Wait + Sync>(
     rt: &R,
     alloc: Global,
     load: Load,
-) -> Result<Vec<u64>, AllocError>
+) -> Result<(Shared, Vec<u64>), AllocError>
     requires { IsLoad load }
-    ensures { IfOk result (λ counts. IsTally load counts.items) }
+    ensures within { IfOk result (λ _. IfSome (capacity_of load.kind) (λ size. size ≤ MAX_CAPACITY)) }
+    ensures all { IfOk result (λ r. IsAllOf (capacity_of load.kind) r.0) }
+    ensures complete { IfOk result (λ r. length r.1.items ≡ load.items) }
+    ensures taken { IfOk result (λ r. (x : ℕ) → x < load.items → get_or r.1.items x 0 ≡ takes x r.0.party.view) }
 {
     let (queue, party) = queue_of(alloc, load.kind)?;
     let Work {
@@ -69,10 +94,7 @@ fn count_all<R: Threads + Wait + Sync>(
         return Err(AllocError);
     }
     party.show_view();
-    match queue.finish(party) {
-        Ok(_left) => Ok(counts),
-        Err(_) => unreachable!(),
-    }
+    Ok((Shared { queue, party }, counts))
 }
 
 // An empty open queue of this kind, and its only party.

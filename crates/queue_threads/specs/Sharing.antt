@@ -1,0 +1,14 @@
+-- What threads shared: what the party that all of theirs have become tells of its queue.
+use Rattle.std.specs.Prelude.{◌≡◌, ℕ, Option}
+use Rattle.queue_steps.specs.Shares.{IsEntire}
+use Rattle.queue_steps.specs.Parties.{IsView}
+use Rattle.concurrent_queue.specs.Shared.{IsPartyOf}
+use Rattle.queue_threads.specs.declared.sharing.Shared.{Shared}
+
+-- The queue is of this capacity. The party is one of this queue's, and has all of the share: all parties have become this one, what it has seen is the
+-- history of everything that was done, and every place of that is its own
+pub record IsAllOf (cap : Option ℕ) (s : Shared) : Type 0 where
+  pub of : IsPartyOf s.party s.queue
+  pub capped : s.queue.cap ≡ cap
+  pub seen : IsView cap s.party.view
+  pub whole : IsEntire s.party.view.share
