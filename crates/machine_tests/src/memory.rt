@@ -89,7 +89,7 @@ const READING: [Line; 5] = [
     Line::Runs(0),
 ];
 
-static ROWS: [Row<'static>; 12] = [
+static ROWS: [Row<'static>; 13] = [
     // The peak is the greatest number of blocks that the allocator counts, each granted request asks the allocator once, and no list has the layout of a block.
     Row {
         name: "1 push",
@@ -140,6 +140,13 @@ static ROWS: [Row<'static>; 12] = [
         granted: 23,
         blocks: 2,
         bound: 3,
+    },
+    Row {
+        name: "3300 pushes and as many pops",
+        lines: &[Line::Pushes(0, 3300), Line::Pops(0, 3300)],
+        granted: 53,
+        blocks: 53,
+        bound: 54,
     },
     // Two parties ask for the first block, and the one that does not install its own gives it up.
     Row {

@@ -130,6 +130,16 @@ fn refused_without_a_request(rt: HostRuntime) {
     }
 }
 
+/// Any other capacity is asked of the allocator.
+#[test]
+fn the_greatest_capacity_is_asked_for(rt: HostRuntime) {
+    for cap in [1 << 40, 1 << 50, MAX_CAPACITY] {
+        let heap = Refusing::new(rt.alloc(), Refusal::Always);
+        let run = replay(&heap, Kind::Bounded(cap), 1, Vec::new(&heap));
+        assert_eq!(rt; Seen::of(&heap, run), Seen::want_of_memory(1), "at {cap}");
+    }
+}
+
 /// Eighty pushes without a capacity.
 fn on_chain(alloc: Global, refusal: Refusal) -> Result<Seen, AllocError> {
     seen_of(alloc, refusal, Kind::Unbounded, 1, &[Line::Pushes(0, 80)])

@@ -9,7 +9,7 @@ use std::alloc::AllocError;
 use std::cell::Cell;
 use test_allocators::Refusal;
 
-static STORIES: [Story; 16] = [
+static STORIES: [Story; 17] = [
     // As many as a block has, and far more: each is accepted, and comes out in its turn.
     Story {
         name: "100 in and out",
@@ -35,6 +35,17 @@ static STORIES: [Story; 16] = [
             Line::Pops(1, 1400),
             Line::Call(Call::Pop, Reply::Pop(Err(PopError::Empty))),
             Line::Holds(1, 23),
+        ],
+    },
+    Story {
+        name: "70000 in and out",
+        refusal: Refusal::Never,
+        made: Made::Unbounded,
+        lines: &[
+            Line::Pushes(1, 70_000),
+            Line::Holds(1112, 1112),
+            Line::Pops(1, 70_000),
+            Line::Holds(1, 1112),
         ],
     },
     Story {

@@ -1,6 +1,8 @@
 //! Rings with one owner: replies from the table of the abstract queue, the ends of ranges, and want of memory.
+ghost use Rattle.std.specs.Prelude.{◌<◌};
+
 use crate::counted::Counted;
-use crate::rows::{Line, Made, Story, are_refused, open, tell_all};
+use crate::rows::{Heap, Line, Made, Story, are_refused, open, tell_all};
 use exclusive_queue::Exclusive;
 use exclusive_queue::errors::{ForcePushError, PopError, PushError};
 use queue_steps::model::{Call, Reply};
@@ -224,7 +226,7 @@ fn capacities(rt: HostRuntime) -> Result<(), AllocError> {
 }
 
 /// What is refused: the request, how the queue is to be made, and how many requests there are then.
-static REFUSED: [(&str, Refusal, Made, u64); 17] = [
+static REFUSED: [(&str, Refusal, Made, u64); 19] = [
     // Without a request: a capacity above the greatest, and one whose slots are more bytes than one allocation may have.
     (
         "above the greatest",
@@ -266,6 +268,13 @@ static REFUSED: [(&str, Refusal, Made, u64); 17] = [
     ("two slots", Refusal::Always, Made::Bounded(2), 1),
     ("three slots", Refusal::Always, Made::Bounded(3), 1),
     ("many slots", Refusal::Always, Made::Bounded(1 << 40), 1),
+    ("more slots", Refusal::Always, Made::Bounded(1 << 58), 1),
+    (
+        "more slots, after 7",
+        Refusal::Always,
+        Made::BoundedAfter(1 << 58, 7),
+        1,
+    ),
     // A ring asks for its first slots and its first words, and for the two blocks that it keeps. Each request is refused in turn: no request comes after it.
     (
         "first request",
@@ -321,6 +330,30 @@ static REFUSED: [(&str, Refusal, Made, u64); 17] = [
 #[test]
 fn refused_rings(rt: HostRuntime) {
     are_refused(&rt, rt.alloc(), &REFUSED);
+}
+
+/// Whether a ring of so many slots for bytes is refused, from the beginning and as after some items, and how many requests there are then.
+fn refuses_bytes(alloc: Global, cap: usize) -> ([bool; 2], u64)
+    requires { 1 < cap }
+{
+    let heap = Heap::new(alloc, Refusal::Always);
+    let fresh: Result<Exclusive<u8, &Heap>, AllocError> = Exclusive::bounded(&heap, cap);
+    let later: Result<Exclusive<u8, &Heap>, AllocError> = Exclusive::bounded_after(&heap, cap, 7);
+    ([fresh.is_err(), later.is_err()], heap.requests())
+}
+
+/// The allocator is asked for each capacity up to the greatest, and for none above it.
+#[test]
+fn the_greatest_capacity_is_asked_for(rt: HostRuntime) {
+    for (cap, requests) in [
+        (1 << 40, 2),
+        (1 << 50, 2),
+        (MAX_CAPACITY, 2),
+        (MAX_CAPACITY + 1, 0),
+    ] {
+        let seen = refuses_bytes(rt.alloc(), cap);
+        assert_eq!(rt; seen, ([true, true], requests), "at {cap}");
+    }
 }
 
 /// Pushes five items by force into three slots, pops one and drops the queue. Gives how many were dropped after each.

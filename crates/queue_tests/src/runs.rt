@@ -113,6 +113,51 @@ fn one_run_on_each_kind(rt: HostRuntime) -> Result<(), AllocError> {
     Ok(())
 }
 
+/// So many calls, pushes and pops in turn.
+fn turns(alloc: Global, count: u64) -> Result<Vec<Call<u64>>, AllocError> {
+    let mut calls = Vec::new(alloc);
+    for turn in 0..count {
+        let call = if turn % 2 == 0 {
+            Call::Push(turn)
+        } else {
+            Call::Pop
+        };
+        calls.push(call)?;
+    }
+    Ok(calls)
+}
+
+/// Runs so many calls. Gives how many pushes were accepted, and how many pops gave an item.
+fn run_turns<S: Store<u64>>(
+    alloc: Global,
+    store: &mut S,
+    count: u64,
+) -> Result<(u64, u64), AllocError>
+    requires { S.idle store.old }
+    ensures { S.idle store.new }
+{
+    let mut pushed = 0u64;
+    let mut popped = 0u64;
+    let calls = turns(alloc, count)?;
+    for reply in run(alloc, store, calls)? {
+        match reply {
+            Reply::Push(Ok(())) => pushed = pushed.wrapping_add(1),
+            Reply::Pop(Ok(_)) => popped = popped.wrapping_add(1),
+            _ => {}
+        }
+    }
+    Ok((pushed, popped))
+}
+
+/// There is no bound on the calls of a run but memory.
+#[test]
+fn one_long_run(rt: HostRuntime) -> Result<(), AllocError> {
+    let mut queue: Exclusive<u64> = Exclusive::unbounded(rt.alloc());
+    let seen = run_turns(rt.alloc(), &mut queue, 70_000)?;
+    assert_eq!(rt; seen, (35_000, 35_000));
+    Ok(())
+}
+
 #[test]
 fn one_run_on_a_slot(rt: HostRuntime) {
     let mut slot = Single {

@@ -338,9 +338,6 @@ fn each_request_of_a_push_refused(rt: HostRuntime) -> Result<(), Fail> {
     Ok(())
 }
 
-/// How many items two parties push in turn, each half of them.
-const TURNS: u64 = 100;
-
 /// A shared queue of items that count their drops, and whose requests are counted.
 type Counting<'a> = ConcurrentQueue<Counted, &'a Heap>;
 
@@ -357,19 +354,20 @@ fn is_refused<R: Wait>(
     queue.push(rt, party, item).is_err()
 }
 
-/// Two parties push items in turn. Gives how many were refused.
+/// Two parties push so many items each, in turn. Gives how many were refused.
 fn push_in_turn<R: Wait>(
     rt: &R,
     queue: &Counting<'_>,
     first: &mut Party<Counted>,
     second: &mut Party<Counted>,
     drops: &Arc<AtomicU64>,
+    each: u64,
 ) -> u64
     requires { IsPartyOf first.old queue.now × IsPartyOf second.old queue.now }
     ensures { IsPartyOf first.new queue.now × IsPartyOf second.new queue.now }
 {
     let mut refused = 0u64;
-    for _ in 0..TURNS {
+    for _ in 0..each {
         if let Ok(item) = Counted::by(drops)
             && is_refused(rt, queue, first, item)
         {
@@ -418,41 +416,63 @@ fn drop_all(rt: &impl Abort, queue: Counting<'_>, a: Party<Counted>, b: Party<Co
     }
 }
 
-/// Uses a queue and drops it, with its parties joined, kept or dropped before. Asserts that what was refused or popped was dropped before. Gives how many items there were: none where there was no memory for the queue.
-fn use_and_drop<R: Wait + Abort>(
-    rt: &R,
-    heap: &Heap,
-    drops: &Arc<AtomicU64>,
+/// How many items each of two parties pushes, how many are popped then, and what becomes of the second party.
+#[derive(Clone, Copy, Debug)]
+struct Use {
+    each: u64,
     popped: u64,
     how: End,
-) -> u64 {
+}
+
+/// Uses a queue and drops it, with its parties joined, kept or dropped before. Asserts that what was refused or popped was dropped before. Gives how many items there were: none where there was no memory for the queue.
+fn use_and_drop<R: Wait + Abort>(rt: &R, heap: &Heap, drops: &Arc<AtomicU64>, used: Use) -> u64 {
     let Ok((queue, party)) = Counting::unbounded(heap) else {
         return 0;
     };
     let (mut a, mut b) = part(rt, &queue, party);
-    let refused = push_in_turn(rt, &queue, &mut a, &mut b, drops);
-    let right = pop_some(rt, &queue, &mut b, popped);
+    let refused = push_in_turn(rt, &queue, &mut a, &mut b, drops, used.each);
+    let right = pop_some(rt, &queue, &mut b, used.popped);
     assert_eq!(rt;
         (right, drops.load(Ordering::SeqCst)),
-        (true, refused.wrapping_add(popped))
+        (true, refused.wrapping_add(used.popped))
     );
-    drop_all(rt, queue, a, b, how);
-    2 * TURNS
+    drop_all(rt, queue, a, b, used.how);
+    used.each.wrapping_mul(2)
 }
 
-/// With none and each of the requests refused, which are one of the constructor and four of the pushes; none, some past a block, and all but few of the items popped. Each item is dropped once and nothing stays allocated.
+/// How many items each of two parties pushes, and how many are popped. Of 200 none, some past a block, and all but one; of 126, behind which an empty block lies, none, one less than a block's, and all but one.
+static USES: [(u64, u64); 6] = [
+    (100, 0),
+    (100, 80),
+    (100, 199),
+    (63, 0),
+    (63, 62),
+    (63, 125),
+];
+
+/// With none and each of the requests refused, which are one of the constructor and up to four of the pushes. Each item is dropped once and nothing stays allocated.
 #[test]
 fn nothing_is_left_of_a_dropped_queue(rt: HostRuntime) -> Result<(), Fail> {
     for how in [End::Joined, End::Kept, End::Dropped] {
-        for popped in [0, 80, 199] {
-            for refused in 0..7u64 {
+        for (each, popped) in USES.iter() {
+            for refused in 0..8u64 {
+                let used = Use {
+                    each: *each,
+                    popped: *popped,
+                    how,
+                };
                 let heap = Heap::new(rt.alloc(), Refusal::Nth(refused));
                 let drops = Arc::new(rt.alloc(), AtomicU64::new(0))?;
-                let items = use_and_drop(&rt, &heap, &drops, popped, how);
-                let wanted = if refused == 1 { 0 } else { 2 * TURNS };
+                let items = use_and_drop(&rt, &heap, &drops, used);
+                let wanted = if refused == 1 {
+                    0
+                } else {
+                    each.wrapping_mul(2)
+                };
                 assert_eq!(rt;
                     [items, drops.load(Ordering::SeqCst), heap.live()],
-                    [wanted, wanted, 0]
+                    [wanted, wanted, 0],
+                    "{used:?}, request {refused} refused"
                 );
             }
         }

@@ -54,25 +54,33 @@ pub(crate) fn in_order<A: Allocator>(mut alone: Exclusive<u64, A>, each: u64) ->
     counts
 }
 
-/// Lets two threads push into a queue of this capacity, or without one. Gives whether each item was accepted, and where the sharing ends how many of each thread came out in their order.
+/// What is seen of a queue that two threads have left: whether each item was accepted, the length that a party is told, and where the sharing ends how many of each thread came out in their order.
+#[derive(Clone, Copy, Debug, PartialEq)]
+struct Seen {
+    accepted: bool,
+    len: usize,
+    left: Option<[u64; 4]>,
+}
+
+/// Lets two threads push into a queue of this capacity, or without one.
 fn left_by_two<R: Wait + Threads + Sync>(
     rt: &R,
     alloc: Global,
     cap: Option<usize>,
     end: End,
-) -> Result<(bool, Option<[u64; 4]>), AllocError>
+) -> Result<Option<Seen>, AllocError>
     requires { IfSome cap (λ slots. 0 < slots) }
 {
     let (queue, party) = open(alloc, cap)?;
     let Ok((a, b)) = queue.split(party) else {
-        return Ok((false, None));
+        return Ok(None);
     };
     let ((a, right), (b, right_too)) = join(
         rt,
         || push_all(rt, &queue, a, 0..EACH),
         || push_all(rt, &queue, b, EACH..2 * EACH),
     );
-    let (party, kept) = match end {
+    let (mut party, kept) = match end {
         End::Joined => (queue.join(a, b), None),
         End::Kept => (a, Some(b)),
         End::Dropped => {
@@ -80,15 +88,20 @@ fn left_by_two<R: Wait + Threads + Sync>(
             (a, None)
         }
     };
+    let len = queue.len(rt, &mut party);
     let left = match queue.finish(party) {
         Ok(alone) => Some(in_order(alone, EACH)),
         Err(_) => None,
     };
     drop(kept);
-    Ok((right && right_too, left))
+    Ok(Some(Seen {
+        accepted: right && right_too,
+        len,
+        left,
+    }))
 }
 
-/// All that they pushed is there in its order once both parties are one. With one kept or dropped the sharing does not end.
+/// All that they pushed is counted, and is there in its order once both parties are one. With one kept or dropped the sharing does not end.
 #[test]
 fn two_threads_leave_what_they_pushed(rt: HostRuntime) -> Result<(), AllocError> {
     let ends = [
@@ -99,7 +112,12 @@ fn two_threads_leave_what_they_pushed(rt: HostRuntime) -> Result<(), AllocError>
     for (end, left) in ends {
         for cap in [Some(400), None] {
             let found = left_by_two(&rt, rt.alloc(), cap, end)?;
-            assert_eq!(rt; found, (true, left), "{end:?}, with {cap:?}");
+            let wanted = Seen {
+                accepted: true,
+                len: 2 * EACH as usize,
+                left,
+            };
+            assert_eq!(rt; found, Some(wanted), "{end:?}, with {cap:?}");
         }
     }
     Ok(())

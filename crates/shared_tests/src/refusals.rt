@@ -16,7 +16,7 @@ use test_allocators::{Refusal, Refusing};
 type Queue<'a> = ConcurrentQueue<u64, &'a Refusing<Global>>;
 
 /// What the constructor answers.
-type Made<'a> = Opened<u64, &'a Refusing<Global>>;
+type Made<'a, T> = Opened<T, &'a Refusing<Global>>;
 
 /// What is seen of a constructor.
 #[derive(Clone, Copy, Debug, PartialEq)]
@@ -31,11 +31,11 @@ struct Seen {
 
 impl Seen {
     /// What is seen of the constructor of a queue of this capacity, or without one, in memory of which requests are refused.
-    fn of(alloc: Global, refusal: Refusal, cap: Option<usize>) -> Seen
+    fn of<T: Drop>(alloc: Global, refusal: Refusal, cap: Option<usize>) -> Seen
         requires { IfSome cap (λ slots. 0 < slots) }
     {
         let heap = Refusing::new(alloc, refusal);
-        let queue: Made = open(&heap, cap);
+        let queue: Made<T> = open(&heap, cap);
         let made = queue.is_ok();
         let live = heap.live();
         drop(queue);
@@ -60,7 +60,7 @@ impl Seen {
 fn each_refused(rt: &impl Abort, alloc: Global, cap: Option<usize>, blocks: u64)
     requires { IfSome cap (λ slots. 0 < slots) }
 {
-    let ample = Seen::of(alloc, Refusal::Never, cap);
+    let ample = Seen::of::<u64>(alloc, Refusal::Never, cap);
     let wanted = Seen {
         made: true,
         requests: ample.requests.max(blocks),
@@ -68,7 +68,7 @@ fn each_refused(rt: &impl Abort, alloc: Global, cap: Option<usize>, blocks: u64)
     };
     assert_eq!(rt; ample, wanted);
     for number in 1..=ample.requests {
-        let seen = Seen::of(alloc, Refusal::Nth(number), cap);
+        let seen = Seen::of::<u64>(alloc, Refusal::Nth(number), cap);
         assert_eq!(rt; seen, Seen::want_of_memory(number));
     }
 }
@@ -85,8 +85,22 @@ fn each_request_refused(rt: HostRuntime) {
 #[test]
 fn too_many_slots_refused(rt: HostRuntime) {
     for cap in [MAX_CAPACITY, MAX_CAPACITY + 1] {
-        let seen = Seen::of(rt.alloc(), Refusal::Never, Some(cap));
+        let seen = Seen::of::<u64>(rt.alloc(), Refusal::Never, Some(cap));
         assert_eq!(rt; seen, Seen::want_of_memory(0), "at {cap}");
+    }
+}
+
+/// A queue of bytes has no slots of more bytes than one allocation may have, so that each capacity up to the greatest is asked of the allocator.
+#[test]
+fn the_greatest_capacity_is_asked_for(rt: HostRuntime) {
+    for (cap, requests) in [
+        (1 << 40, 1),
+        (1 << 50, 1),
+        (MAX_CAPACITY, 1),
+        (MAX_CAPACITY + 1, 0),
+    ] {
+        let seen = Seen::of::<u8>(rt.alloc(), Refusal::Always, Some(cap));
+        assert_eq!(rt; seen, Seen::want_of_memory(requests), "at {cap}");
     }
 }
 

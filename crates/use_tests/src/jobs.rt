@@ -10,6 +10,7 @@ fn all_jobs_are_handed_out(rt: HostRuntime) -> Result<(), AllocError> {
         (100, 1, 100),
         (100, 2, 100),
         (1000, 4, 1000),
+        (1000, 40, 1000),
     ] {
         let report = distribute(&rt, rt.alloc(), jobs, workers)?;
         assert_eq!(rt;

@@ -1,5 +1,7 @@
 //! A log is filled past its capacity, and emptied.
 use std::alloc::AllocError;
+use std::test::Fail;
+use test_allocators::{Refusal, Refusing};
 use use_log::Log;
 
 #[test]
@@ -20,5 +22,16 @@ fn the_last_of_many_are_held(rt: HostRuntime) -> Result<(), AllocError> {
     for oldest in [Some(8), Some(9), None] {
         assert_eq!(rt; log.take_oldest(), oldest);
     }
+    Ok(())
+}
+
+/// A log that still has entries leaves nothing allocated once it is dropped.
+#[test]
+fn a_dropped_log_leaves_nothing(rt: HostRuntime) -> Result<(), Fail> {
+    let heap = Refusing::new(rt.alloc(), Refusal::Never);
+    let log = Log::of(&heap, 2, &[7u64, 8, 9])?;
+    let held = heap.live();
+    drop(log);
+    assert_eq!(rt; (0 < held, heap.live()), (true, 0));
     Ok(())
 }

@@ -11,7 +11,7 @@ use block_web::hub::Hub;
 use block_web::line::{Line, Place, View};
 use block_web::sizes::SLOTS;
 use block_web::web::{Seat, Web};
-use std::alloc::{AllocError, Allocator, Global};
+use std::alloc::{AllocError, Allocator, Global, Layout};
 use std::test::*;
 use test_allocators::{Refusal, Refusing};
 
@@ -20,6 +20,12 @@ type Heap = Refusing<Global>;
 
 /// A slot that is too large for a block.
 type Huge = [u8; 0x8000_0000];
+
+/// The largest slot that a block may have.
+type Largest = [u8; 0x7fff_ffff];
+
+/// A slot of a megabyte.
+type Large = [u8; 0x10_0000];
 
 /// Whether the request for a block is refused. A block that is granted is given up.
 fn refuses_block<S>(alloc: &&Heap) -> bool {
@@ -153,6 +159,45 @@ fn huge_slots_are_refused_without_a_request(rt: HostRuntime) {
         (refused, heap.live(), heap.requests()),
         ([true, true], 0, 0)
     );
+}
+
+/// Whether the request for a block of such slots, and that for both ends, are refused.
+fn refuses_both<S>(alloc: &&Heap) -> [bool; 2] {
+    [refuses_block::<S>(alloc), refuses_ends::<S>(alloc)]
+}
+
+/// Slots of fewer bytes are asked for, once for a block and once for both ends.
+#[test]
+fn large_slots_are_asked_for(rt: HostRuntime) {
+    let heap = Heap::new(rt.alloc(), Refusal::Always);
+    let alloc = &heap;
+    let large = refuses_both::<Large>(&alloc);
+    let before = heap.requests();
+    let largest = refuses_both::<Largest>(&alloc);
+    assert_eq!(rt;
+        (large, before, largest, heap.requests()),
+        ([true, true], 2, [true, true], 4)
+    );
+}
+
+/// How many allocations of this layout live while there is a block of such slots, and how many of any layout; and how many of either once it is given up.
+fn counts_of<S>(alloc: Global, size: usize, align: usize) -> Result<[u64; 4], Fail> {
+    let heap = Heap::watching(alloc, Refusal::Never, Layout::from_size_align(size, align)?);
+    let alloc = &heap;
+    let (link, block) = Loose::<S, &Heap>::make(&alloc)?;
+    let made = [heap.live_watched(), heap.live()];
+    block.give_up(&alloc, link);
+    let [watched, live] = made;
+    Ok([watched, live, heap.live_watched(), heap.live()])
+}
+
+/// A block of slots that are aligned more strictly than its words goes back with the size and the alignment that it was asked for with.
+#[test]
+fn a_block_goes_back_as_it_came(rt: HostRuntime) -> Result<(), Fail> {
+    let of_words = counts_of::<u64>(rt.alloc(), 1016, 8)?;
+    let aligned = counts_of::<u128>(rt.alloc(), 1520, 16)?;
+    assert_eq!(rt; (of_words, aligned), ([1, 1, 0, 0], [1, 1, 0, 0]));
+    Ok(())
 }
 
 #[test]

@@ -1,5 +1,5 @@
 use Rattle.concurrent_queue.specs.Shared.{IsPartyOf}
-use Rattle.shared_tests.proofs.blocks.push_to_63.Given as goal
+use Rattle.shared_tests.proofs.blocks.push_to_127.Given as goal
 
 -- the party is still one of the queue's
 abbrev pub invariant-loop-value : goal.invariant-loop-value
