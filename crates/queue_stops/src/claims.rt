@@ -1,4 +1,5 @@
 //! What a reply without an effect says of the queue, which is to be right at a moment of its call.
+use crate::events::Item;
 use crate::queue::Moment;
 use queue_steps::errors::{ForcePushError, PopError, PushError};
 use queue_steps::model::{Call, Reply};
@@ -45,7 +46,7 @@ fn wants_block(accepted: u64) -> bool {
 }
 
 /// What the reply to this call says of the queue, where the call can have ended so without an effect.
-pub fn claim_of(call: Call<u64>, reply: Reply<u64>) -> Option<Claim> {
+pub fn claim_of(call: Call<Item>, reply: Reply<Item>) -> Option<Claim> {
     match (call, reply) {
         (Call::Push(item), Reply::Push(Err(refusal))) => refused_push(item, refusal),
         (Call::ForcePush(item), Reply::ForcePush(Err(refusal))) => refused_force(item, refusal),
@@ -61,7 +62,7 @@ pub fn claim_of(call: Call<u64>, reply: Reply<u64>) -> Option<Claim> {
     }
 }
 
-fn refused_push(item: u64, refusal: PushError<u64>) -> Option<Claim> {
+fn refused_push(item: Item, refusal: PushError<Item>) -> Option<Claim> {
     match refusal {
         PushError::Full(back) if back == item => Some(Claim::OpenAndFull),
         PushError::Closed(back) if back == item => Some(Claim::Closed(true)),
@@ -70,7 +71,7 @@ fn refused_push(item: u64, refusal: PushError<u64>) -> Option<Claim> {
     }
 }
 
-fn refused_force(item: u64, refusal: ForcePushError<u64>) -> Option<Claim> {
+fn refused_force(item: Item, refusal: ForcePushError<Item>) -> Option<Claim> {
     match refusal {
         ForcePushError::Closed(back) if back == item => Some(Claim::Closed(true)),
         ForcePushError::NoMemory(back) if back == item => Some(Claim::WantsBlock),

@@ -3,10 +3,18 @@ use queue_machine::types::Event;
 use queue_steps::model::Call;
 use std::alloc::{AllocError, Global};
 
+/// An item of the queues that are tried: a number, four times. Its size and alignment give a block a layout that no list of a run has.
+pub type Item = [u128; 4];
+
+/// The item of this number.
+pub fn numbered(number: u64) -> Item {
+    [number as u128; 4]
+}
+
 /// A list of events that grows.
 #[derive(Drop)]
 pub struct Events {
-    list: Vec<Event<u64>>,
+    list: Vec<Event<Item>>,
 }
 
 impl Events {
@@ -18,7 +26,7 @@ impl Events {
     }
 
     /// All of them.
-    pub fn as_slice(&self) -> &[Event<u64>] {
+    pub fn as_slice(&self) -> &[Event<Item>] {
         self.list.as_slice()
     }
 
@@ -28,7 +36,7 @@ impl Events {
     }
 
     /// The party begins the call.
-    pub fn begin(&mut self, party: usize, call: Call<u64>) -> Result<(), AllocError> {
+    pub fn begin(&mut self, party: usize, call: Call<Item>) -> Result<(), AllocError> {
         self.list.push(Event::Begin(party, call))?;
         Ok(())
     }
@@ -42,7 +50,7 @@ impl Events {
     }
 
     /// The party begins the call, and takes so many steps.
-    pub fn call(&mut self, party: usize, call: Call<u64>, count: u64) -> Result<(), AllocError> {
+    pub fn call(&mut self, party: usize, call: Call<Item>, count: u64) -> Result<(), AllocError> {
         self.begin(party, call)?;
         self.steps(party, count, true)
     }

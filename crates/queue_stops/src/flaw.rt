@@ -14,6 +14,8 @@ pub enum Flaw {
     Prompt,
     /// An event that fits was skipped, or one that does not fit was not.
     Skip,
+    /// A call that stands in no order of whole calls, or an order that leaves something else.
+    Order,
     /// What is left is not the list of the last state.
     Left,
     /// The number of blocks, or its bound.

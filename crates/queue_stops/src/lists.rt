@@ -1,5 +1,5 @@
 //! Lists of events of all sorts, made from fixed numbers.
-use crate::events::Events;
+use crate::events::{Events, Item, numbered};
 use crate::flaw::Flaw;
 use crate::runs::{AtEnd, PARTIES, run};
 use crate::shapes::{Shape, Start};
@@ -123,8 +123,8 @@ fn party_of(dice: &mut Dice) -> usize {
     }
 }
 
-fn call_of(dice: &mut Dice) -> Call<u64> {
-    let item = dice.roll(1000);
+fn call_of(dice: &mut Dice) -> Call<Item> {
+    let item = numbered(dice.roll(1000));
     match dice.roll(20) {
         0 | 1 | 2 | 3 => Call::Push(item),
         4 | 5 | 6 | 7 => Call::ForcePush(item),

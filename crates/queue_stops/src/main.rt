@@ -1,4 +1,4 @@
-//! Runs the machine with calls that stop anywhere, and with lists of events of all sorts, and reads what is told of each run against the definition of a queue.
+//! Runs the machine with calls that stop anywhere, and with lists of events of all sorts, and reads what is told of each run against the definition of a queue, and finds its calls in one order of whole ones.
 //!
 //! Without arguments it tries each stop of one call beside each other call, each stop of two, and some lists. `lists SEED COUNT` tries so many lists, of this seed and the ones behind it.
 #![tactic(auto)]
@@ -7,6 +7,7 @@ mod claims;
 mod events;
 mod flaw;
 mod lists;
+mod orders;
 mod queue;
 mod reader;
 mod runs;
@@ -20,7 +21,7 @@ use std::process::ExitCode;
 use std::{env, io};
 
 /// The lists that are tried where there are no arguments.
-const LISTS: u64 = 20_000;
+const LISTS: u64 = 5_000;
 
 /// Tries each stop of one call, and tells how many cases there were, and in how many another call waited for it. Gives how many were flawed.
 fn tell_one_stop<R: Print + AllocGlobal>(rt: &R) -> io::Result<u64> {

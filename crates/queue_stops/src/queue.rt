@@ -1,17 +1,20 @@
 //! A queue as it is defined: a list, an optional capacity, a closed flag, at most one item on its way in, and a count of accepted items.
+use crate::events::Item;
 use crate::flaw::Flaw;
 use queue_machine::types::EffectKind;
-use queue_steps::model::Call;
+use queue_steps::errors::{ForcePushError, PopError, PushError};
+use queue_steps::model::{Call, Reply};
 use queue_steps::sizes::{BLOCK_SLOTS, LIMIT};
 use std::alloc::Global;
+use std::mem;
 
 /// A queue in one of its states.
 #[derive(Drop)]
 pub struct Queue {
-    items: Vec<u64>,
+    items: Vec<Item>,
     cap: Option<usize>,
     closed: bool,
-    coming: Option<u64>,
+    coming: Option<Item>,
     accepted: u64,
 }
 
@@ -20,11 +23,11 @@ pub struct Queue {
 pub enum Deed {
     Nothing,
     Appended,
-    Took(u64),
-    Replaced(u64),
+    Took(Item),
+    Replaced(Item),
     /// The front is off, and the call's own item is on its way in.
-    TookFront(u64),
-    Displaced(u64),
+    TookFront(Item),
+    Displaced(Item),
     Closed,
     SelfClosed,
 }
@@ -57,7 +60,7 @@ impl Queue {
     }
 
     /// Its list, front first.
-    pub fn items(&self) -> &[u64] {
+    pub fn items(&self) -> &[Item] {
         self.items.as_slice()
     }
 
@@ -113,7 +116,12 @@ impl Queue {
     /// # Errors
     ///
     /// `Effect` where the queue or the call does not allow it, and `NoMemory`.
-    pub fn apply(&mut self, effect: EffectKind, call: Call<u64>, done: Deed) -> Result<Deed, Flaw> {
+    pub fn apply(
+        &mut self,
+        effect: EffectKind,
+        call: Call<Item>,
+        done: Deed,
+    ) -> Result<Deed, Flaw> {
         match (effect, done) {
             (EffectKind::Append, Deed::Nothing) => self.append(call),
             (EffectKind::Take, Deed::Nothing) => self.take(call),
@@ -126,7 +134,71 @@ impl Queue {
         }
     }
 
-    fn append(&mut self, call: Call<u64>) -> Result<Deed, Flaw> {
+    /// Makes a call that may do something, whole and at one moment, and gives its reply.
+    ///
+    /// # Errors
+    ///
+    /// `Order` for a call that only looks, and `NoMemory`.
+    pub fn make(&mut self, call: Call<Item>) -> Result<Reply<Item>, Flaw> {
+        match call {
+            Call::Push(item) => Ok(Reply::Push(self.push(item)?)),
+            Call::ForcePush(item) => Ok(Reply::ForcePush(self.force_push(item)?)),
+            Call::Pop => Ok(Reply::Pop(self.pop())),
+            Call::Close => Ok(Reply::Close(!mem::replace(&mut self.closed, true))),
+            _ => Err(Flaw::Order),
+        }
+    }
+
+    /// Whether it is as the other one is once the item on its way in there has arrived.
+    pub fn is_settled(&self, other: &Queue) -> bool {
+        let (arrived, coming) = self.items.split_at(other.items.len().min(self.items.len()));
+        self.closed == other.closed
+            && arrived == other.items.as_slice()
+            && coming == other.coming.as_slice()
+    }
+
+    // Whether the call that asks finds the queue closed, which it may be by it.
+    fn is_shut(&mut self) -> bool {
+        self.closed = self.closed || !self.is_below_its_limit();
+        self.closed
+    }
+
+    fn push(&mut self, item: Item) -> Result<Result<(), PushError<Item>>, Flaw> {
+        if self.is_full() && !self.closed {
+            return Ok(Err(PushError::Full(item)));
+        }
+        if self.is_shut() {
+            return Ok(Err(PushError::Closed(item)));
+        }
+        self.accept(item)?;
+        Ok(Ok(()))
+    }
+
+    fn force_push(
+        &mut self,
+        item: Item,
+    ) -> Result<Result<Option<Item>, ForcePushError<Item>>, Flaw> {
+        if self.is_shut() {
+            return Ok(Err(ForcePushError::Closed(item)));
+        }
+        let old = if self.is_full() {
+            self.pop().ok()
+        } else {
+            None
+        };
+        self.accept(item)?;
+        Ok(Ok(old))
+    }
+
+    fn pop(&mut self) -> Result<Item, PopError> {
+        match self.front_off() {
+            Ok(item) => Ok(item),
+            Err(_) if self.closed => Err(PopError::Closed),
+            Err(_) => Err(PopError::Empty),
+        }
+    }
+
+    fn append(&mut self, call: Call<Item>) -> Result<Deed, Flaw> {
         let Some(item) = pushed(call) else {
             return Err(Flaw::Effect);
         };
@@ -137,14 +209,14 @@ impl Queue {
         Ok(Deed::Appended)
     }
 
-    fn take(&mut self, call: Call<u64>) -> Result<Deed, Flaw> {
+    fn take(&mut self, call: Call<Item>) -> Result<Deed, Flaw> {
         match call {
             Call::Pop => Ok(Deed::Took(self.front_off()?)),
             _ => Err(Flaw::Effect),
         }
     }
 
-    fn replace(&mut self, call: Call<u64>) -> Result<Deed, Flaw> {
+    fn replace(&mut self, call: Call<Item>) -> Result<Deed, Flaw> {
         match call {
             Call::ForcePush(item) if self.may_replace() => {
                 let old = self.front_off()?;
@@ -155,7 +227,7 @@ impl Queue {
         }
     }
 
-    fn take_front(&mut self, call: Call<u64>) -> Result<Deed, Flaw> {
+    fn take_front(&mut self, call: Call<Item>) -> Result<Deed, Flaw> {
         match call {
             Call::ForcePush(item) if self.may_take_front() => {
                 let old = self.front_off()?;
@@ -166,7 +238,7 @@ impl Queue {
         }
     }
 
-    fn arrive(&mut self, call: Call<u64>, old: u64) -> Result<Deed, Flaw> {
+    fn arrive(&mut self, call: Call<Item>, old: Item) -> Result<Deed, Flaw> {
         match call {
             Call::ForcePush(item) if self.coming == Some(item) => {
                 self.coming = None;
@@ -177,7 +249,7 @@ impl Queue {
         }
     }
 
-    fn close(&mut self, call: Call<u64>) -> Result<Deed, Flaw> {
+    fn close(&mut self, call: Call<Item>) -> Result<Deed, Flaw> {
         match call {
             Call::Close if !self.closed => {
                 self.closed = true;
@@ -187,7 +259,7 @@ impl Queue {
         }
     }
 
-    fn close_itself(&mut self, call: Call<u64>) -> Result<Deed, Flaw> {
+    fn close_itself(&mut self, call: Call<Item>) -> Result<Deed, Flaw> {
         if pushed(call).is_none() || !self.may_close_itself() {
             return Err(Flaw::Effect);
         }
@@ -195,14 +267,14 @@ impl Queue {
         Ok(Deed::SelfClosed)
     }
 
-    fn front_off(&mut self) -> Result<u64, Flaw> {
+    fn front_off(&mut self) -> Result<Item, Flaw> {
         if self.items.is_empty() {
             return Err(Flaw::Effect);
         }
         Ok(self.items.remove(0))
     }
 
-    fn accept(&mut self, item: u64) -> Result<(), Flaw> {
+    fn accept(&mut self, item: Item) -> Result<(), Flaw> {
         if self.items.push(item).is_err() {
             return Err(Flaw::NoMemory);
         }
@@ -212,7 +284,7 @@ impl Queue {
 }
 
 // The item that a push or a forced push carries.
-fn pushed(call: Call<u64>) -> Option<u64> {
+fn pushed(call: Call<Item>) -> Option<Item> {
     match call {
         Call::Push(item) => Some(item),
         Call::ForcePush(item) => Some(item),

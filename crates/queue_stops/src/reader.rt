@@ -1,6 +1,8 @@
 //! Reads what is told of a run, event by event, beside a queue that does what is told.
 use crate::claims::{Claim, claim_of};
+use crate::events::Item;
 use crate::flaw::Flaw;
+use crate::orders::{History, find_order};
 use crate::queue::{Deed, Moment, Queue};
 use queue_machine::types::{EffectKind, Event, Peak, Replay};
 use queue_steps::errors::{ForcePushError, PushError};
@@ -11,7 +13,9 @@ use std::alloc::{Allocator, Global};
 /// A call that its party is in.
 #[derive(Clone, Copy)]
 struct InCall {
-    call: Call<u64>,
+    /// Its number in the history.
+    number: usize,
+    call: Call<Item>,
     /// How many steps of its own it has taken.
     steps: u64,
     /// The number of the moment after its first own step.
@@ -22,9 +26,10 @@ struct InCall {
 }
 
 impl InCall {
-    /// A call that begins, before the moment of this number.
-    fn begin(call: Call<u64>, first: usize) -> InCall {
+    /// The call of one number that begins, before the moment of another.
+    fn begin(number: usize, call: Call<Item>, first: usize) -> InCall {
         InCall {
+            number,
             call,
             steps: 0,
             first,
@@ -49,7 +54,7 @@ impl InCall {
 struct Entry {
     skipped: bool,
     effect: Option<EffectKind>,
-    reply: Option<Reply<u64>>,
+    reply: Option<Reply<Item>>,
 }
 
 /// A run that is read.
@@ -61,6 +66,7 @@ struct Reader<'a> {
     in_progress: u64,
     /// The queue after each event.
     moments: Vec<Moment>,
+    history: History,
     peak: Peak,
     /// The most blocks that the items lay in.
     spanned: u64,
@@ -68,7 +74,7 @@ struct Reader<'a> {
     bounded: bool,
     /// What is told of later events.
     effects: &'a [(usize, usize, EffectKind)],
-    replies: &'a [(usize, usize, Reply<u64>)],
+    replies: &'a [(usize, usize, Reply<Item>)],
     skipped: &'a [usize],
 }
 
@@ -76,13 +82,13 @@ struct Reader<'a> {
 ///
 /// # Errors
 ///
-/// What is wrong with it: an effect, a reply or a skipped event that no queue could have, a list that is not left, or blocks out of their bound.
+/// What is wrong with it: an effect, a reply or a skipped event that no queue could have, a list that is not left, blocks out of their bound, or calls that stand in no order of whole ones.
 pub fn read<A: Allocator>(
     alloc: Global,
     cap: Option<usize>,
     parties: usize,
-    events: &[Event<u64>],
-    run: &Replay<u64, A>,
+    events: &[Event<Item>],
+    run: &Replay<Item, A>,
 ) -> Result<u64, Flaw> {
     let Ok(calls) = Vec::from_elem(alloc, None, parties) else {
         return Err(Flaw::NoMemory);
@@ -92,6 +98,7 @@ pub fn read<A: Allocator>(
         calls,
         in_progress: 0,
         moments: Vec::new(alloc),
+        history: History::new(alloc),
         peak: run.peak,
         spanned: 0,
         bounded: false,
@@ -104,11 +111,17 @@ pub fn read<A: Allocator>(
         reader.read_event(number, *event)?;
     }
     reader.end(run.left.as_slice())?;
+    find_order(
+        alloc,
+        &reader.history,
+        reader.moments.as_slice(),
+        &reader.queue,
+    )?;
     Ok(reader.in_progress)
 }
 
 impl Reader<'_> {
-    fn read_event(&mut self, number: usize, event: Event<u64>) -> Result<(), Flaw> {
+    fn read_event(&mut self, number: usize, event: Event<Item>) -> Result<(), Flaw> {
         match event {
             Event::Begin(party, call) => {
                 let entry = self.entry(number, party)?;
@@ -155,7 +168,7 @@ impl Reader<'_> {
         }
     }
 
-    fn reply(&mut self, number: usize, party: usize) -> Result<Option<Reply<u64>>, Flaw> {
+    fn reply(&mut self, number: usize, party: usize) -> Result<Option<Reply<Item>>, Flaw> {
         match self.replies.split_first() {
             Some(((at, whose, reply), rest)) if *at == number => {
                 self.replies = rest;
@@ -182,7 +195,7 @@ impl Reader<'_> {
         }
     }
 
-    fn read_begin(&mut self, party: usize, call: Call<u64>, entry: Entry) -> Result<(), Flaw> {
+    fn read_begin(&mut self, party: usize, call: Call<Item>, entry: Entry) -> Result<(), Flaw> {
         let fits = party < self.calls.len() && self.call_of(party).is_none();
         if entry.skipped == fits {
             return Err(Flaw::Skip);
@@ -195,7 +208,8 @@ impl Reader<'_> {
         if !fits {
             return unanswered(entry);
         }
-        let in_call = InCall::begin(call, first);
+        let number = self.history.begin(call, first)?;
+        let in_call = InCall::begin(number, call, first);
         self.in_progress = self.in_progress.wrapping_add(1);
         if self.has_no_steps(call) {
             return self.read_reply(in_call, entry.reply);
@@ -214,6 +228,7 @@ impl Reader<'_> {
         }
         if in_call.steps == 0 {
             in_call.first = self.moments.len();
+            self.history.start(in_call.number, in_call.first);
         }
         in_call.steps = in_call.steps.wrapping_add(1);
         if let Some(effect) = entry.effect {
@@ -234,6 +249,8 @@ impl Reader<'_> {
         if effect == EffectKind::Front && !in_call.read_open {
             return Err(Flaw::Effect);
         }
+        self.history
+            .act(in_call.number, self.moments.len(), effect)?;
         self.queue.apply(effect, in_call.call, in_call.done)
     }
 
@@ -246,7 +263,7 @@ impl Reader<'_> {
         Ok(!moment.closed)
     }
 
-    fn has_no_steps(&self, call: Call<u64>) -> bool {
+    fn has_no_steps(&self, call: Call<Item>) -> bool {
         match call {
             Call::Capacity => true,
             Call::IsFull => self.queue.capacity().is_none(),
@@ -254,11 +271,13 @@ impl Reader<'_> {
         }
     }
 
-    fn read_reply(&mut self, in_call: InCall, reply: Option<Reply<u64>>) -> Result<(), Flaw> {
+    fn read_reply(&mut self, in_call: InCall, reply: Option<Reply<Item>>) -> Result<(), Flaw> {
         let Some(reply) = reply else {
             return Err(Flaw::Prompt);
         };
         self.in_progress = self.in_progress.wrapping_sub(1);
+        let last = self.moments.len().wrapping_sub(1);
+        self.history.end(in_call.number, last, reply);
         if self.fits(in_call, reply) {
             Ok(())
         } else {
@@ -267,7 +286,7 @@ impl Reader<'_> {
     }
 
     // Whether a call that has done this may end with this reply now.
-    fn fits(&self, in_call: InCall, reply: Reply<u64>) -> bool {
+    fn fits(&self, in_call: InCall, reply: Reply<Item>) -> bool {
         match in_call.done {
             Deed::Nothing => match claim_of(in_call.call, reply) {
                 Some(claim) => self.was_so(in_call.first, claim),
@@ -299,7 +318,7 @@ impl Reader<'_> {
         }
     }
 
-    fn end(&self, left: &[u64]) -> Result<(), Flaw> {
+    fn end(&self, left: &[Item]) -> Result<(), Flaw> {
         if !self.skipped.is_empty() {
             return Err(Flaw::Skip);
         }
@@ -329,7 +348,7 @@ impl Reader<'_> {
 }
 
 // Whether a reply stands for what its call has done.
-fn stands_for(deed: Deed, call: Call<u64>, reply: Reply<u64>) -> bool {
+fn stands_for(deed: Deed, call: Call<Item>, reply: Reply<Item>) -> bool {
     match (deed, call, reply) {
         (Deed::Appended, Call::Push(_), Reply::Push(Ok(()))) => true,
         (Deed::Appended, Call::ForcePush(_), Reply::ForcePush(Ok(None))) => true,

@@ -1,19 +1,20 @@
 //! Runs of the machine in memory that is counted, each of which is read.
-use crate::events::Events;
+use crate::events::{Events, Item};
 use crate::flaw::Flaw;
 use crate::reader::read;
 use crate::shapes::Shape;
-use queue_machine::blocks::{Block, Place};
+use queue_machine::blocks::Place;
 use queue_machine::replay;
-use queue_machine::types::{EffectKind, Event, Replay};
-use queue_steps::model::Reply;
+use queue_machine::types::{EffectKind, Replay};
 use queue_steps::sizes::BLOCK_SLOTS;
 use std::alloc::{Global, Layout};
-use std::mem::size_of;
 use test_allocators::{Refusal, Refusing};
 
 /// How many parties a run has.
 pub const PARTIES: usize = 3;
+
+/// For how many events each list of them has room at least.
+const ROOM: usize = BLOCK_SLOTS as usize + 1;
 
 /// When a party did what it did, by the numbers of events.
 #[derive(Clone, Copy)]
@@ -45,12 +46,11 @@ pub fn run(
     from: usize,
     at_end: AtEnd,
 ) -> Result<(Times, Times), Flaw> {
-    let Ok(places) = Layout::array::<Place<u64>>(BLOCK_SLOTS as usize) else {
+    let Ok(places) = Layout::array::<Place<Item>>(BLOCK_SLOTS as usize) else {
         return Err(Flaw::NoMemory);
     };
     let heap = Refusing::watching(alloc, Refusal::Never, places);
-    let tells = tells_blocks(shape, events.len(), places);
-    let times = run_in(alloc, &heap, shape, events, from, at_end, tells)?;
+    let times = run_in(alloc, &heap, shape, events, from, at_end)?;
     if heap.live() == 0 {
         Ok(times)
     } else {
@@ -58,6 +58,7 @@ pub fn run(
     }
 }
 
+// What is counted apart are the blocks alone. Of the lists that grow with a run only those of events, of replies and of what is left are aligned as a block is. An event is as large as a place, so the first has room for more events than a block has slots. No number of replies is as large as a block, and no number of items.
 fn run_in(
     alloc: Global,
     heap: &Refusing<Global>,
@@ -65,38 +66,22 @@ fn run_in(
     events: &Events,
     from: usize,
     at_end: AtEnd,
-    tells: bool,
 ) -> Result<(Times, Times), Flaw> {
-    let list = events.as_slice().to_vec(heap)?;
+    let events = events.as_slice();
+    let mut list = Vec::with_capacity(heap, events.len().max(ROOM))?;
+    list.extend_from_slice(events)?;
     let told = replay(heap, shape.kind(), PARTIES, list)?;
-    let in_progress = read(alloc, shape.capacity(), PARTIES, events.as_slice(), &told)?;
+    let in_progress = read(alloc, shape.capacity(), PARTIES, events, &told)?;
     if in_progress != 0 && matches!(at_end, AtEnd::Ended) {
         return Err(Flaw::Waits);
     }
-    if tells && heap.most_watched() != told.peak.blocks as u64 {
+    if heap.most_watched() != told.peak.blocks as u64 {
         return Err(Flaw::Blocks);
     }
     Ok((times_of(&told, 0, from), times_of(&told, 1, from)))
 }
 
-// Whether what is counted apart are the blocks alone: no list of a run, which has room for as many entries as there are events, is as long as a block.
-fn tells_blocks(shape: Shape, events: usize, places: Layout) -> bool {
-    let entries = [
-        size_of::<Event<u64>>(),
-        size_of::<(usize, usize, Reply<u64>)>(),
-        size_of::<(usize, usize, EffectKind)>(),
-        size_of::<usize>(),
-        size_of::<Option<Block<u64, &Refusing<Global>>>>(),
-    ];
-    for entry in entries {
-        if events.checked_mul(entry) == Some(places.size()) {
-            return false;
-        }
-    }
-    shape.capacity().is_none()
-}
-
-fn times_of(told: &Replay<u64, &Refusing<Global>>, party: usize, from: usize) -> Times {
+fn times_of(told: &Replay<Item, &Refusing<Global>>, party: usize, from: usize) -> Times {
     Times {
         acted: first_of(told.effects.as_slice(), party, from),
         ended: first_of(told.replies.as_slice(), party, from),

@@ -1,7 +1,7 @@
 //! Queues as stops and lists of events find them: their kinds, and what they hold.
 ghost use Rattle.queue_machine.specs.Replays.{CanReplay};
 
-use crate::events::Events;
+use crate::events::{Events, numbered};
 use queue_steps::model::Call;
 use queue_steps::steps::Kind;
 use std::alloc::AllocError;
@@ -58,7 +58,7 @@ impl Start {
     /// The events by which party 0 brings an empty queue there.
     pub fn reach(self, events: &mut Events) -> Result<(), AllocError> {
         for before in 0..self.pushed {
-            events.call(0, Call::Push(before.wrapping_add(1)), FEW_STEPS)?;
+            events.call(0, Call::Push(numbered(before.wrapping_add(1))), FEW_STEPS)?;
         }
         for _ in 0..self.popped {
             events.call(0, Call::Pop, FEW_STEPS)?;

@@ -1,5 +1,5 @@
 //! Calls that stop after each of their steps, while another party's call begins.
-use crate::events::Events;
+use crate::events::{Events, Item};
 use crate::flaw::Flaw;
 use crate::runs::{AtEnd, Times, run};
 use crate::shapes::{Shape, Start};
@@ -9,9 +9,9 @@ use std::alloc::Global;
 use std::io;
 
 /// The calls of the party that stops, in the order of the steps in a row.
-static FIRST_CALLS: [Call<u64>; 9] = [
-    Call::Push(101),
-    Call::ForcePush(102),
+static FIRST_CALLS: [Call<Item>; 9] = [
+    Call::Push([101; 4]),
+    Call::ForcePush([102; 4]),
     Call::Pop,
     Call::Close,
     Call::IsClosed,
@@ -22,9 +22,9 @@ static FIRST_CALLS: [Call<u64>; 9] = [
 ];
 
 /// The calls of the other party, in the same order.
-static SECOND_CALLS: [Call<u64>; 9] = [
-    Call::Push(201),
-    Call::ForcePush(202),
+static SECOND_CALLS: [Call<Item>; 9] = [
+    Call::Push([201; 4]),
+    Call::ForcePush([202; 4]),
     Call::Pop,
     Call::Close,
     Call::IsClosed,
@@ -186,9 +186,9 @@ static ALL_GRANTS: [Grants; 4] = [
 struct Case {
     shape: Shape,
     start: Start,
-    first: Call<u64>,
+    first: Call<Item>,
     first_stop: u64,
-    second: Call<u64>,
+    second: Call<Item>,
     second_stop: u64,
     grants: Grants,
 }
