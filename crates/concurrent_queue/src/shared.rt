@@ -147,6 +147,7 @@ impl<T, A: Allocator + Clone> ConcurrentQueue<T, A> {
         ensures first { IfOk result (λ r. IsPartyOf r.1 r.0 × (r.0.cap ≡ Some cap) × (r.1.view ≡ record { seen = []; mine = []; share = entire })) }
         ensures limited { MAX_CAPACITY < cap → IsErr result }
     {
+        prove!(cap > 0, "the capacity is above 0");
         let (form, seat) = if cap == 1 {
             let (slot, seat) = open_slot(alloc)?;
             (Form::Single(slot), seat)

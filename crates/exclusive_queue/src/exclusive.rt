@@ -181,6 +181,7 @@ impl<T, A: Allocator + Clone> Exclusive<T, A> {
         ensures limited { MAX_CAPACITY < cap → IsErr result }
         ensures single { cap ≡ 1 → IsOk result }
     {
+        prove!(cap > 0, "the capacity is above 0");
         if cap == 1 {
             return Ok(Exclusive {
                 form: Form::Single(Single::new()),
@@ -200,6 +201,7 @@ impl<T, A: Allocator + Clone> Exclusive<T, A> {
         ensures empty { IfOk result (λ queue. queue ≡ record { queue = start (Some cap) n; blocks = 0 }) }
         ensures limited { MAX_CAPACITY < cap → IsErr result }
     {
+        prove!(cap > 1, "the capacity is above 1");
         let ring = Ring::new(alloc, cap, n)?;
         Ok(Exclusive {
             form: Form::Bounded(ring),

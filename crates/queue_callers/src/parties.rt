@@ -1,17 +1,17 @@
-//! The callers that `concurrent_queue/CALLING.md` shows.
+//! Callers of `concurrent_queue`; its `CALLING.md` shows the first.
 ghost use Rattle.std.specs.Prelude.{◌≡◌, IfOk};
 ghost use Rattle.queue_steps.specs.Shares.{SamePart, entire};
 ghost use Rattle.concurrent_queue.specs.Shared.{IsPartyOf};
 
-use concurrent_queue::{ConcurrentQueue, Party, PopError, PushError};
-use std::alloc::{AllocError, Global};
+use concurrent_queue::{ConcurrentQueue, NullTestable, Party, PopError, PushError};
+use std::alloc::{AllocError, Allocator, Global};
 use std::sync::Wait;
 use std::thread::{Threads, join, yield_now};
 
-/// Pushes 0, 1, .. up to `count`, which is left out, and closes the queue.
-fn send_all<R: Wait>(
+/// Pushes the numbers below `count`, and closes the queue.
+fn send_all<A: NullTestable, R: Wait>(
     rt: &R,
-    queue: &ConcurrentQueue<u64>,
+    queue: &ConcurrentQueue<u64, A>,
     mut party: Party<u64>,
     count: u64,
 ) -> Party<u64>
@@ -23,20 +23,20 @@ fn send_all<R: Wait>(
         if next >= count {
             break;
         }
-        if queue.push(rt, &mut party, next).is_ok() {
-            next += 1;
-        } else {
-            yield_now();
+        match queue.push(rt, &mut party, next) {
+            Ok(()) => next += 1,
+            Err(PushError::Full(_)) => yield_now(),
+            Err(_) => break,
         }
     }
     queue.close(&mut party);
     party
 }
 
-/// Pops until the queue is closed and has no item, and gives the sum of what came.
-fn receive_all<R: Wait>(
+/// Pops until the queue is closed and empty, and adds up what came.
+fn receive_all<A: Allocator, R: Wait>(
     rt: &R,
-    queue: &ConcurrentQueue<u64>,
+    queue: &ConcurrentQueue<u64, A>,
     mut party: Party<u64>,
 ) -> (Party<u64>, u64)
     requires { IsPartyOf party queue.now }
@@ -53,7 +53,7 @@ fn receive_all<R: Wait>(
     (party, sum)
 }
 
-/// Sends numbers from one thread to another. Gives their sum, and how many items are left.
+/// Sends numbers to another thread. Gives their sum, and how many are left.
 pub fn hand_over<R: Threads + Wait + Sync>(
     rt: &R,
     alloc: Global,
