@@ -6,6 +6,8 @@ mod crew;
 #[cfg(test)]
 mod meanwhile;
 #[cfg(test)]
+mod program;
+#[cfg(test)]
 mod refusals;
 #[cfg(test)]
 mod replays;

@@ -64,7 +64,7 @@ impl Outcome {
     }
 }
 
-fn words(alloc: Global, line: &str) -> Result<Vec<String>, AllocError> {
+pub fn words(alloc: Global, line: &str) -> Result<Vec<String>, AllocError> {
     let mut words = Vec::new(alloc);
     for word in line.split_whitespace() {
         words.push(String::from_str(alloc, word)?)?;

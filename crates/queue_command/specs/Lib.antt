@@ -6,3 +6,4 @@ pub mod Turns
 pub mod Takes
 pub mod Reports
 pub mod Ends
+pub mod Programs

@@ -3,6 +3,7 @@
 
 pub mod command;
 mod effects;
+pub mod program;
 mod replay;
 mod script;
 mod turns;

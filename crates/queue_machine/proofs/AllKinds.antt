@@ -1,5 +1,5 @@
 -- Every kind of queue that the machine has keeps the laws, and so every run of it conforms.
-use Rattle.std.proofs.Common.{ℕ, ◌+◌, ◌≤◌, ◌≡◌, Bool, nat_lt, false, if◌then◌else◌, List, [], ◌∷◌, ◌++◌, length, refl, arith, ◌∙◌, ap, sym, subst}
+use Rattle.std.proofs.Common.{ℕ, ◌+◌, ◌≤◌, ◌≡◌, Bool, nat_lt, false, is_none, if◌then◌else◌, List, [], ◌∷◌, ◌++◌, length, refl, arith, ◌∙◌, ap, sym, subst}
 use Rattle.queue_steps.specs.declared.model.Call.{Call}
 use Rattle.queue_steps.specs.declared.model.Call.TheVariants as call
 use Rattle.queue_steps.specs.declared.steps.types.Kind.{Kind}
@@ -17,7 +17,7 @@ use Rattle.queue_machine.specs.Replays.{CanReplay, is_too_large}
 use Rattle.queue_machine.specs.declared.types.Peak.{Peak}
 use Rattle.queue_machine.specs.Machine.{event_of, CanHandle, Handles, Passes, Plays}
 use Rattle.queue_machine.specs.Peaks.{opening_peak, peaked}
-use Rattle.queue_machine.specs.World.{World}
+use Rattle.queue_machine.specs.World.{World, call_at}
 use Rattle.queue_machine.proofs.KindLaws.{KindLaws}
 use Rattle.queue_machine.proofs.SingleLeft.{single_laws}
 use Rattle.queue_machine.proofs.RingKind.{ring_laws}
@@ -26,7 +26,7 @@ use Rattle.queue_steps.specs.declared.sizes.TheConstants.{MAX_CAPACITY}
 use Rattle.std.proofs.lemmas.Bool.{ltb-false}
 use Rattle.queue_machine.proofs.Peaking.{Run-length, peaked-if}
 use Rattle.queue_machine.proofs.Presence.{Sparing, event-sparing}
-use Rattle.queue_machine.proofs.SoFar.{SoFar, so_far-first, so_far-more, so_far-can, so_far-grows, so_far-room}
+use Rattle.queue_machine.proofs.SoFar.{SoFar, so_far-first, so_far-more, so_far-can, so_far-grows, so_far-none, so_far-room}
 
 -- the machine has queues of this kind
 abbrev pub HasMachine : Kind → Type 0
@@ -101,6 +101,11 @@ known-room {T} k parties past told w peak known = so_far-room (laws_of T k known
 pub known-grows : {T : Type 0} (k : Kind) (parties : ℕ) (past : List (Event T)) (told : List (Told T)) (w : World (Shared T) (Running T)) (peak : Peak) (ok : Bool) (e : Event T)
     → Known k parties past told w peak → length (left_of k (event_of k ok w e).0) ≤ length (left_of k w) + 1
 known-grows {T} k parties past told w peak ok e known = so_far-grows (laws_of T k known.has) parties past told w peak ok e known.so_far
+
+-- a party is in a call of the book just where it is in one of the machine
+pub known-none : {T : Type 0} (k : Kind) (parties : ℕ) (past : List (Event T)) (told : List (Told T)) (w : World (Shared T) (Running T)) (peak : Peak)
+    → (known : Known k parties past told w peak) → (p : ℕ) → is_none (known.so_far.book.open_call p) ≡ is_none (call_at w p)
+known-none {T} k parties past told w peak known p = so_far-none (laws_of T k known.has) parties past told w peak known.so_far p
 
 -- what was told of each event is one thing
 pub known-length : {T : Type 0} (k : Kind) (parties : ℕ) (past : List (Event T)) (told : List (Told T)) (w : World (Shared T) (Running T)) (peak : Peak) → Known k parties past told w peak → length past ≡ length told

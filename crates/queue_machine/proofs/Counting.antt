@@ -15,7 +15,7 @@ use Rattle.queue_machine.specs.Book.{Book, Open, Moves, Happens, Run, kind_of, o
 use Rattle.queue_machine.proofs.Growing.{run-cap}
 
 -- how many items are accepted, and how many are there, after an effect of this kind
-abbrev accepted_by : EffectKind → ℕ → ℕ
+abbrev pub accepted_by : EffectKind → ℕ → ℕ
 accepted_by kind.Append n = n + 1
 accepted_by kind.Take n = n
 accepted_by kind.Replace n = n + 1
@@ -24,7 +24,7 @@ accepted_by kind.Arrive n = n + 1
 accepted_by kind.Close n = n
 accepted_by kind.SelfClose n = n
 
-abbrev length_by : EffectKind → ℕ → ℕ
+abbrev pub length_by : EffectKind → ℕ → ℕ
 length_by kind.Append n = n + 1
 length_by kind.Take n = n - 1
 length_by kind.Replace n = n
@@ -37,7 +37,7 @@ length-rest : {T : Type 0} (xs : List T) → length (rest xs) ≡ length xs - 1
 length-rest [] = refl
 length-rest (x ∷ xs) = omega arith
 
-made-accepted : {T : Type 0} (e : Effect T) (Q : State T) → (made e Q).accepted ≡ accepted_by (kind_of e) Q.accepted
+pub made-accepted : {T : Type 0} (e : Effect T) (Q : State T) → (made e Q).accepted ≡ accepted_by (kind_of e) Q.accepted
 made-accepted (effect.Append v) Q = refl
 made-accepted (effect.Take v) Q = refl
 made-accepted (effect.Replace old v) Q = refl
@@ -46,7 +46,7 @@ made-accepted effect.Arrive Q = refl
 made-accepted effect.Close Q = refl
 made-accepted effect.SelfClose Q = refl
 
-made-length : {T : Type 0} (e : Effect T) (Q : State T) → Fits e Q → length (made e Q).items ≡ length_by (kind_of e) (length Q.items)
+pub made-length : {T : Type 0} (e : Effect T) (Q : State T) → Fits e Q → length (made e Q).items ≡ length_by (kind_of e) (length Q.items)
 made-length (effect.Append v) Q fits = omega (arith, length-append Q.items (v ∷ []))
 made-length (effect.Take v) Q fits = length-rest Q.items
 made-length (effect.Replace old v) Q fits = sym (ap length fits.2)
@@ -56,15 +56,15 @@ made-length effect.Close Q fits = refl
 made-length effect.SelfClose Q fits = refl
 
 -- the same after what is told of an event, and of events
-abbrev counts_if : (EffectKind → ℕ → ℕ) → Option EffectKind → ℕ → ℕ
+abbrev pub counts_if : (EffectKind → ℕ → ℕ) → Option EffectKind → ℕ → ℕ
 counts_if f None n = n
 counts_if f (Some k) n = f k n
 
-abbrev counts_told : {T : Type 0} → (EffectKind → ℕ → ℕ) → Told T → ℕ → ℕ
+abbrev pub counts_told : {T : Type 0} → (EffectKind → ℕ → ℕ) → Told T → ℕ → ℕ
 counts_told f Skipped n = n
 counts_told f (Ran k r) n = counts_if f k n
 
-abbrev counts_all : {T : Type 0} → (EffectKind → ℕ → ℕ) → List (Told T) → ℕ → ℕ
+abbrev pub counts_all : {T : Type 0} → (EffectKind → ℕ → ℕ) → List (Told T) → ℕ → ℕ
 counts_all f [] n = n
 counts_all f (t ∷ ts) n = counts_all f ts (counts_told f t n)
 
@@ -90,13 +90,13 @@ happens-length cap parties b (Begin p k) (Ran None (Some r)) c h = ap (λ x. len
 happens-length cap parties b (Begin p k) (Ran (Some x) r) c h = absurd h
 happens-length cap parties b (Step p granted) (Ran k r) c h = moves-length b.queue h.1.o k c.queue h.1.effects h.1.moves
 
-run-accepted : {T : Type 0} (cap : Option ℕ) (parties : ℕ) (b : Book T) (es : List (Event T)) (ts : List (Told T)) (c : Book T) → Run cap parties b es ts c → c.queue.accepted ≡ counts_all accepted_by ts b.queue.accepted
+pub run-accepted : {T : Type 0} (cap : Option ℕ) (parties : ℕ) (b : Book T) (es : List (Event T)) (ts : List (Told T)) (c : Book T) → Run cap parties b es ts c → c.queue.accepted ≡ counts_all accepted_by ts b.queue.accepted
 run-accepted cap parties b [] [] c run = ap (λ x. x.queue.accepted) run
 run-accepted cap parties b (e ∷ es) (t ∷ ts) c run = run-accepted cap parties run.0 es ts c run.2 ∙ ap (counts_all accepted_by ts) (happens-accepted cap parties b e t run.0 run.1)
 run-accepted cap parties b [] (t ∷ ts) c run = absurd run
 run-accepted cap parties b (e ∷ es) [] c run = absurd run
 
-run-length : {T : Type 0} (cap : Option ℕ) (parties : ℕ) (b : Book T) (es : List (Event T)) (ts : List (Told T)) (c : Book T) → Run cap parties b es ts c → length c.queue.items ≡ counts_all length_by ts (length b.queue.items)
+pub run-length : {T : Type 0} (cap : Option ℕ) (parties : ℕ) (b : Book T) (es : List (Event T)) (ts : List (Told T)) (c : Book T) → Run cap parties b es ts c → length c.queue.items ≡ counts_all length_by ts (length b.queue.items)
 run-length cap parties b [] [] c run = ap (λ x. length x.queue.items) run
 run-length cap parties b (e ∷ es) (t ∷ ts) c run = run-length cap parties run.0 es ts c run.2 ∙ ap (counts_all length_by ts) (happens-length cap parties b e t run.0 run.1)
 run-length cap parties b [] (t ∷ ts) c run = absurd run

@@ -82,7 +82,7 @@ module _ (T S R G : Type 0) (cap : Option ℕ) (step : Bool → S → R → Made
     pub holds : Holds w.shared b.queue g
     pub each : (p : ℕ) → Party b.busy w.shared b.queue g p (call_at w p) (b.open_call p)
 
-  party_none : (busy : ℕ) (s : S) (Q : State T) (g : G) (p : ℕ) (r : Option R) (o : Option (Open T)) → Party busy s Q g p r o → is_none o ≡ is_none r
+  pub party_none : (busy : ℕ) (s : S) (Q : State T) (g : G) (p : ℕ) (r : Option R) (o : Option (Open T)) → Party busy s Q g p r o → is_none o ≡ is_none r
   party_none busy s Q g p None None h = refl
   party_none busy s Q g p (Some r) (Some o) h = refl
   party_none busy s Q g p None (Some o) h = absurd h

@@ -45,7 +45,7 @@ run-grows cap parties b (e ∷ es) (t ∷ ts) c run = omega (arith, happens-grow
 run-grows cap parties b [] (t ∷ ts) c run = absurd run
 run-grows cap parties b (e ∷ es) [] c run = absurd run
 
-made-cap : {T : Type 0} (e : Effect T) (Q : State T) → (made e Q).cap ≡ Q.cap
+pub made-cap : {T : Type 0} (e : Effect T) (Q : State T) → (made e Q).cap ≡ Q.cap
 made-cap (effect.Append v) Q = refl
 made-cap (effect.Take v) Q = refl
 made-cap (effect.Replace old v) Q = refl

@@ -72,3 +72,7 @@ pub mod Skips
 pub mod SkipsRun
 pub mod SkipsAll
 pub mod AtOnce
+pub mod CallsTold
+pub mod Rising
+pub mod OwnersReplay
+pub mod PeakTold

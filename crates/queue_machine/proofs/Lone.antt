@@ -184,6 +184,14 @@ counts-run cap parties b c (x ∷ es) (t ∷ ts) h run = counts-run cap parties 
 counts-run cap parties b c [] (t ∷ ts) h run = absurd run
 counts-run cap parties b c (x ∷ es) [] h run = absurd run
 
+-- where a party is in a call, one is in progress
+pub some-busy : {T : Type 0} (parties : ℕ) (b : Book T) (p : ℕ) (o : Open T) → Counts parties b → b.open_call p ≡ Some o → 0 < b.busy
+some-busy parties b p o h e =
+    let added = count-put parties p b.open_call None (h.within p o e) in
+    let was : one_if (b.open_call p) ≡ 1 = ap one_if e in
+    let busy = h.busy in
+    omega arith
+
 -- one party alone is in a call
 pub count-alone : {T : Type 0} (n p : ℕ) (f : ℕ → Option (Open T)) (o : Open T) → p < n → f p ≡ Some o → ((j : ℕ) → j ≢ p → f j ≡ None) → count n f ≡ 1
 count-alone {T} n p f o lt here others =

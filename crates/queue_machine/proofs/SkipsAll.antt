@@ -8,7 +8,7 @@ use Rattle.queue_machine.specs.declared.types.Told.{Told}
 use Rattle.queue_machine.specs.declared.types.Told.TheVariants.{Skipped, Ran}
 use Rattle.queue_machine.specs.Book.{Book, Open, Happens, Run, begun, joined, watched, at_open, after_own, opening}
 use Rattle.queue_machine.specs.declared.types.Replay.{Replay}
-use Rattle.queue_machine.specs.Conforms.{Conforms, party_of}
+use Rattle.queue_machine.specs.Conforms.{Conforms, party_of, entries_from, reply_entry, skipped_entry}
 use Rattle.queue_machine.specs.InCall.{IsInCall}
 use Rattle.queue_machine.specs.Skips.{IsExact, SkippedIsExact}
 use Rattle.queue_machine.proofs.Lone.{put-same, put-other}
@@ -72,11 +72,16 @@ fair-first T cap parties = record {
   exact = λ m y e. cc;
 }
 
+-- at the end of a run
+pub run-whole : {T : Type 0} (cap : Option ℕ) (parties : ℕ) (events : List (Event T)) (told : List (Told T)) (last : Book T) → Run cap parties (opening cap) events told last
+    → Fair parties events told (length events) (entries_from skipped_entry 0 events told) (entries_from reply_entry 0 events told) last
+run-whole {T} cap parties events told last run =
+    let whole = run-fair cap parties [] events [] told 0 [] [] (opening cap) last (fair-first T cap parties) run in
+    rw (← whole.fair.len, ← whole.fair.skipped, ← whole.fair.replies) whole.fair
+
 -- at the end of a replay
 whole-fair : {T A : Type 0} (cap : Option ℕ) (parties : ℕ) (events : List (Event T)) (r : Replay T A) (c : Conforms cap parties events r) → Fair parties events c.told (length events) r.skipped.items r.replies.items c.last
-whole-fair {T} cap parties events r c =
-    let whole = run-fair cap parties [] events [] c.told 0 [] [] (opening cap) c.last (fair-first T cap parties) c.run in
-    rw (← whole.fair.len, c.skipped ∙ sym whole.fair.skipped, c.replies ∙ sym whole.fair.replies) whole.fair
+whole-fair cap parties events r c = rw (c.skipped, c.replies) (run-whole cap parties events c.told c.last c.run)
 
 pub skipped_is_exact : {T A : Type 0} → SkippedIsExact T A
 skipped_is_exact cap parties events r c n x at = (whole-fair cap parties events r c).exact n x at

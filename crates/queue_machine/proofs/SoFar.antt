@@ -1,5 +1,5 @@
 -- A run of the machine so far, and what is told of it. Whatever kind of queue it is, it keeps its laws.
-use Rattle.std.proofs.Common.{ℕ, ◌+◌, ◌/◌, ◌<◌, ◌≤◌, ◌≡◌, ◌∙◌, Bool, Option, Some, None, List, [], ◌∷◌, ◌++◌, length, refl, sym, ap, subst, arith, zero, suc, append_assoc, append-nil, get_or, replicate}
+use Rattle.std.proofs.Common.{ℕ, ◌+◌, ◌/◌, ◌<◌, ◌≤◌, ◌≡◌, ◌∙◌, Bool, Option, Some, None, is_none, List, [], ◌∷◌, ◌++◌, length, refl, sym, ap, subst, arith, zero, suc, append_assoc, append-nil, get_or, replicate}
 use Rattle.queue_steps.specs.declared.sizes.TheConstants.{BLOCK_SLOTS}
 use Rattle.queue_steps.specs.declared.steps.types.Kind.{Kind}
 use Rattle.queue_machine.specs.declared.machine.Running.{Running}
@@ -145,3 +145,9 @@ so_far-grows {T} {k} laws parties past told w peak ok e s =
 pub so_far-left : {T : Type 0} {k : Kind} (laws : KindLaws T k) (parties : ℕ) (past : List (Event T)) (told : List (Told T)) (w : World (Shared T) (Running T)) (peak : Peak)
     → (s : SoFar laws parties past told w peak) → left_of k w ≡ s.book.queue.items
 so_far-left laws parties past told w peak s = laws.leaves parties w s.book s.simulates
+
+-- a party is in a call of the book just where it is in one of the machine
+pub so_far-none : {T : Type 0} {k : Kind} (laws : KindLaws T k) (parties : ℕ) (past : List (Event T)) (told : List (Told T)) (w : World (Shared T) (Running T)) (peak : Peak)
+    → (s : SoFar laws parties past told w peak) → (p : ℕ) → is_none (s.book.open_call p) ≡ is_none (call_at w p)
+so_far-none {T} {k} laws parties past told w peak s p =
+    engine.party_none T (Shared T) (Running T) laws.G (capacity_of k) (step_of k) (start_of k) (CanStep k) laws.Holds laws.Idle laws.Fits s.book.busy w.shared s.book.queue s.simulates.g p (call_at w p) (s.book.open_call p) (s.simulates.each p)

@@ -23,6 +23,7 @@ use Rattle.queue_machine.proofs.Calls.{answered}
 use Rattle.queue_machine.proofs.Displacing.{pending}
 use Rattle.queue_machine.proofs.Entries.{each-all, each-more, event-last, state-last, own-none}
 use Rattle.queue_machine.proofs.Lone.{and-right, none-if}
+use Rattle.queue_machine.proofs.Rising.{replies-rise, skipped-late, skipped-rise}
 use Rattle.queue_machine.proofs.SkipsAll.{in-call-at-end}
 use Rattle.queue_machine.proofs.Trace.{Since, Trace, ReplyOwes, FitsIf, trace-more, added, leads-added}
 use Rattle.queue_machine.proofs.TraceSteps.{put-cases, at_open-cases, since-other, since-joined, since-watched, moves-does, Does, since-own, answer-own, entry-owes, others-wait}
@@ -199,19 +200,12 @@ run-trace cap S parties past (x ∷ es) told (t ∷ ts) n H R b c tr all run =
 run-trace cap S parties past [] told (t ∷ ts) n H R b c tr all run = absurd run
 run-trace cap S parties past (x ∷ es) told [] n H R b c tr all run = absurd run
 
--- the numbers of the skipped events from n on are at least n
-skipped-from : {T : Type 0} (n : ℕ) (es : List (Event T)) (ts : List (Told T)) → AllByRecursion (λ i. n ≤ i) (entries_from skipped_entry n es ts)
-skipped-from n [] ts = tt
-skipped-from n (e ∷ es) [] = tt
-skipped-from n (e ∷ es) (Skipped ∷ ts) = (omega arith, each-all _ _ (entries_from skipped_entry (n + 1) es ts) (λ i le. omega arith) (skipped-from (n + 1) es ts))
-skipped-from n (e ∷ es) (Ran k r ∷ ts) = each-all _ _ (entries_from skipped_entry (n + 1) es ts) (λ i le. omega arith) (skipped-from (n + 1) es ts)
-
 -- an event that ran is none of the skipped
 skipped-ran : {T : Type 0} (n : ℕ) (es : List (Event T)) (ts : List (Told T)) (m : ℕ) (k : Option EffectKind) (r : Option (Reply T)) → slice_get ts m ≡ Some (Ran k r) → AllByRecursion (λ i. i ≢ n + m) (entries_from skipped_entry n es ts)
 skipped-ran n [] ts m k r e = tt
 skipped-ran n (x ∷ es) [] m k r e = tt
 skipped-ran n (x ∷ es) (Skipped ∷ ts) zero k r e = cc
-skipped-ran n (x ∷ es) (Ran k' r' ∷ ts) zero k r e = each-all _ _ (entries_from skipped_entry (n + 1) es ts) (λ i le same. absurd (omega arith)) (skipped-from (n + 1) es ts)
+skipped-ran n (x ∷ es) (Ran k' r' ∷ ts) zero k r e = each-all _ _ (entries_from skipped_entry (n + 1) es ts) (λ i le same. absurd (omega arith)) (skipped-late (n + 1) es ts)
 skipped-ran n (x ∷ es) (Skipped ∷ ts) (suc m) k r e = ((λ same. absurd (omega arith)), each-all _ _ (entries_from skipped_entry (n + 1) es ts) (λ i ne same. ne (omega arith)) (skipped-ran (n + 1) es ts m k r e))
 skipped-ran n (x ∷ es) (Ran k' r' ∷ ts) (suc m) k r e = each-all _ _ (entries_from skipped_entry (n + 1) es ts) (λ i ne same. ne (omega arith)) (skipped-ran (n + 1) es ts m k r e)
 
@@ -254,4 +248,6 @@ has_history {T} cap parties events r c =
       unended = λ p k.
           let at = in-call-at-end cap parties events r c p k in
           unended-since cap r.skipped.items events whole.H r.replies.items p (length events) at.opened (tr.open_calls p at.opened at.is_open) k at.one at.one_call;
+      replies_in_order = rw c.replies (replies-rise events c.told);
+      skipped_in_order = rw c.skipped (skipped-rise events c.told);
     }

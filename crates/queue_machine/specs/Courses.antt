@@ -1,5 +1,5 @@
 -- A run of the machine, one event after another: what brought it where it is, and what it leaves.
-use Rattle.std.specs.Prelude.{◌≡◌, ℕ, ◌+◌, ◌<◌, ◌≤◌, ◌^◌, Bool, false, List, [], ◌∷◌, ◌++◌, length}
+use Rattle.std.specs.Prelude.{◌≡◌, ◌↔◌, ℕ, ◌+◌, ◌<◌, ◌≤◌, ◌^◌, Bool, false, IsTrue, List, [], ◌∷◌, ◌++◌, length}
 use Rattle.queue_steps.specs.declared.steps.types.Kind.{Kind}
 use Rattle.queue_machine.specs.declared.course.Course.{Course}
 use Rattle.queue_machine.specs.declared.course.Ended.{Ended}
@@ -9,7 +9,8 @@ use Rattle.queue_machine.specs.declared.types.Peak.{Peak}
 use Rattle.queue_machine.specs.declared.types.Told.{Told}
 use Rattle.queue_machine.specs.Book.{Book, Run, opening}
 use Rattle.queue_machine.specs.Cells.{Shared}
-use Rattle.queue_machine.specs.Conforms.{HasNoBlocks, IsPeak, capacity_of}
+use Rattle.queue_machine.specs.Conforms.{HasNoBlocks, IsPeak, capacity_of, entries_from, reply_entry, skipped_entry}
+use Rattle.queue_machine.specs.InCall.{IsInCall}
 use Rattle.queue_machine.specs.Left.{left_of, opening_world}
 use Rattle.queue_machine.specs.Machine.{HasCount, HasRoom, event_of, world_of}
 use Rattle.queue_machine.specs.Peaks.{opening_peak, peaked}
@@ -46,6 +47,11 @@ IsSameCourse {T} c d = (k : Kind) (parties : ℕ) (events : List (Event T)) (tol
 -- whatever brought the run to c, this event leads on to d, and this is told of it
 abbrev pub Continues : {T A : Type 0} → Course T A → Event T → Told T → Course T A → Type 0
 Continues {T} c e t d = (k : Kind) (parties : ℕ) (events : List (Event T)) (told : List (Told T)) → IsCourse k parties events told c → IsCourse k parties (events ++ e ∷ []) (told ++ t ∷ []) d
+
+-- whatever brought the run to c, this says whether the party is in a call then, as the events and what was told of them have it
+abbrev pub TellsCall : {T A : Type 0} → Course T A → ℕ → Bool → Type 0
+TellsCall {T} c p says = (k : Kind) (parties : ℕ) (events : List (Event T)) (told : List (Told T)) → IsCourse k parties events told c
+    → IsTrue says ↔ IsInCall events (entries_from skipped_entry 0 events told) (entries_from reply_entry 0 events told) p (length events)
 
 -- what is told of these events leads from the empty open queue to a last book, whose items are left; and the peak is theirs, which is none with a capacity
 pub record EndsAs {T A : Type 0} (k : Kind) (parties : ℕ) (events : List (Event T)) (told : List (Told T)) (r : Ended T A) : Type 0 where

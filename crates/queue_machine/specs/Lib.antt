@@ -18,3 +18,4 @@ pub mod Within
 pub mod Skips
 pub mod WordsOf
 pub mod AtOnce
+pub mod PeakTold

@@ -95,7 +95,8 @@ IsAnswer cap events skipped H replies y = EndsCall cap events skipped H replies 
 
 -- One legal history in the order of its events, at most one effect an event, whose kinds are the effects that are told and whose last state has the items that are left. Each effect is
 -- at a step of the call that its party is in, and an item arrives by the call that took the front; each reply ends a call with its effects, or is
--- right between the call's first and last step; each call that has not ended has a beginning of the effects of one of its replies.
+-- right between the call's first and last step; each call that has not ended has a beginning of the effects of one of its replies. The replies and the skipped events
+-- stand in the order of the events, too, one an event at most.
 pub record HasHistory {T A : Type 0} (cap : Option ℕ) (events : List (Event T)) (r : Replay T A) : Type 0 where
   pub history : List (Entry T)
   pub in_order : AllPairs (λ x y. x.event < y.event) history
@@ -106,6 +107,8 @@ pub record HasHistory {T A : Type 0} (cap : Option ℕ) (events : List (Event T)
   pub arrivals : FrontsArrive r.replies.items None history
   pub answers : AllByRecursion (IsAnswer cap events r.skipped.items history r.replies.items) r.replies.items
   pub unended : (p : ℕ) (c : IsInCall events r.skipped.items r.replies.items p (length events)) → IsBegun c.call (own_effects p c.first (length events) history)
+  pub replies_in_order : AllPairs (λ y z. y.0 < z.0) r.replies.items
+  pub skipped_in_order : AllPairs (λ m n. m < n) r.skipped.items
 
 -- every replay that conforms has such a history
 abbrev pub ConformingHasHistory : Type 0 → Type 0 → Type 0

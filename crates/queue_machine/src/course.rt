@@ -1,6 +1,6 @@
 //! A run of the machine, one event after another.
-ghost use Rattle.std.specs.Prelude.{◌≡◌, ◌+◌, ◌≤◌, [], Bool, true, false, IfOk, IsErr, OnOk, vec_len, vec_capacity};
-ghost use Rattle.queue_machine.specs.Courses.{CanGoOn, Continues, IsCourse, IsOnCourse, IsSameCourse, Leaves};
+ghost use Rattle.std.specs.Prelude.{◌≡◌, ◌+◌, ◌≤◌, [], Bool, None, true, false, is_some, IfOk, IsErr, OnOk, slice_index_or, vec_len, vec_capacity};
+ghost use Rattle.queue_machine.specs.Courses.{CanGoOn, Continues, IsCourse, IsOnCourse, IsSameCourse, Leaves, TellsCall};
 ghost use Rattle.queue_machine.specs.Machine.{HasRoomFor, KeepsRoom};
 ghost use Rattle.queue_machine.specs.Replays.{CanReplay, is_too_large};
 ghost use Rattle.queue_machine.specs.declared.types.Event.TheVariants.{Step};
@@ -90,9 +90,10 @@ impl<T: Drop, A: Allocator + Copy> Course<T, A> {
 
     /// Whether the party is in a call. Where it is in none, its step would be skipped, and change nothing.
     pub fn is_in_call(&self, party: usize) -> bool
-        ensures { result ≡ false → (granted : Bool) → Continues self.now (Step party granted) Skipped self.now }
+        ensures exact { TellsCall self.now party result }
+        ensures skips { result ≡ false → (granted : Bool) → Continues self.now (Step party granted) Skipped self.now }
     {
-        party < self.machine.calls.len() && self.machine.calls[party].is_some()
+        is_calling(&self.machine.calls, party)
     }
 
     /// Ends the run. `room` is an empty list with room for what is left.
@@ -125,4 +126,11 @@ impl<T: Drop, A: Allocator + Copy> Course<T, A> {
         let room = Vec::with_capacity(alloc, self.handled)?;
         Ok(self.end_in(room))
     }
+}
+
+// Whether the party has a call among these, which are those of the parties in their order.
+fn is_calling<C>(calls: &[Option<C>], party: usize) -> bool
+    ensures { result ≡ is_some (slice_index_or calls.now party None) }
+{
+    party < calls.len() && calls[party].is_some()
 }

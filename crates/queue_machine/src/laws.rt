@@ -1,6 +1,8 @@
 //! What follows from a replay that conforms. Each function is there for its contract alone.
 ghost use Rattle.queue_machine.specs.Meaning.{ConformingHasHistory};
 ghost use Rattle.queue_machine.specs.AtOnce.{DisplacesAtOnce};
+ghost use Rattle.queue_machine.specs.OneOwner.{OnePartyIsOneOwner};
+ghost use Rattle.queue_machine.specs.PeakTold.{PeakIsOfTheRun};
 ghost use Rattle.queue_machine.specs.Skips.{SkippedIsExact};
 ghost use Rattle.queue_machine.specs.Within.{NothingAppendedWithin, LoneCallsReply, PromptCallsReply};
 
@@ -11,7 +13,7 @@ use std::alloc::Allocator;
 /// Each effect is at a step of the call that its party is in. A front is taken off by a call that had seen the queue open at a step before, and the next item that arrives
 /// does so by the same call. Each reply ends the call that its party is in: the effects of that call are those that the reply stands for, and a reply without effect is right
 /// at a moment between the call's first step and its last; a call without steps replies where it begins. A call that has not ended has a beginning of the effects of one of
-/// its replies.
+/// its replies. The replies and the skipped events stand in the order of the events, too, one an event at most.
 pub fn has_history<T, A: Allocator>()
     ensures { ConformingHasHistory T A }
 {}
@@ -41,4 +43,16 @@ pub fn prompt_calls_reply<T, A: Allocator>()
 /// Each reply ends its call there as it does in the history itself, but for a reply of `len`, `is_empty` or `is_full` that was read while an item was on its way in.
 pub fn displaces_at_once<T, A: Allocator>()
     ensures { DisplacesAtOnce T A }
+{}
+
+/// With one party the replies are those of a run of the table of one owner, over the calls that were begun and in their order. At most the last of them has no reply; where it
+/// has one, what is left is what the table leaves.
+pub fn one_party_is_one_owner<T, A: Allocator>()
+    ensures { OnePartyIsOneOwner T A }
+{}
+
+/// The greatest number of blocks of a conforming replay is within its bound, which is what the items fill at a moment of the run, two, and one for each call in progress then. It is
+/// no less than what the items span at any moment.
+pub fn peak_is_of_the_run<T, A: Allocator>()
+    ensures { PeakIsOfTheRun T A }
 {}

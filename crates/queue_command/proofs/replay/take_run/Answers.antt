@@ -10,7 +10,7 @@ returns-then-not-is_in_call g c =
     let off : c.is_in_call.result ≡ false = grind (arith, common_steps) in
     let sum : c.loop.counter + (LONE_STEPS - c.loop.counter) ≡ LONE_STEPS = omega (arith, c.loop-test.true) in
     takes-again c.loop.counter (LONE_STEPS - c.loop.counter) LONE_STEPS c.args.turn c.args.course.now c.loop.course c.loop.course (string_bytes c.args.text.now) (string_bytes c.loop.text) (string_bytes c.loop.text) sum c.loop.invariant
-    (takes-rest (LONE_STEPS - c.loop.counter) c.args.turn c.loop.course (string_bytes c.loop.text) c.requires.run (skips-run c.args.turn c.loop.course c.requires.run (c.is_in_call.ensures off true)))
+    (takes-rest (LONE_STEPS - c.loop.counter) c.args.turn c.loop.course (string_bytes c.loop.text) c.requires.run (skips-run c.args.turn c.loop.course c.requires.run (c.is_in_call.ensures.skips off true)))
 
 pub loop-preserved : goal.loop-preserved
 loop-preserved g c =
