@@ -31,19 +31,19 @@ struct Told;
 
 /// A call that is held before a step, and the calls of another party.
 #[derive(Drop)]
-struct Story<'a> {
+struct Story {
     /// What is pushed before.
-    full_of: &'a [u64],
+    full_of: &'static [u64],
     held: Row,
     /// The operation of the step before which the call is held.
     at: Op<()>,
     /// What the other party calls while it is held.
-    meanwhile: &'a [Row],
+    meanwhile: &'static [Row],
     /// What the other party calls then, and is answered only once the held call goes on.
     waiting: Option<Waiting>,
     /// What the other party calls from when the held call may go on.
-    then: &'a [Row],
-    left: &'a [u64],
+    then: &'static [Row],
+    left: &'static [u64],
 }
 
 /// What the two threads of a story show each other.
@@ -183,7 +183,7 @@ fn call_held<R: Wait>(
     rt: &R,
     queue: &Queue,
     mut party: Party<u64>,
-    story: &Story<'_>,
+    story: &Story,
     signs: &Signs,
 ) -> (Party<u64>, bool)
     requires { IsPartyOf party queue.now }
@@ -223,7 +223,7 @@ fn call_meanwhile<R: Wait>(
     rt: &R,
     queue: &Queue,
     mut party: Party<u64>,
-    story: &Story<'_>,
+    story: &Story,
     signs: &Signs,
 ) -> (Party<u64>, bool)
     requires { IsPartyOf party queue.now }
@@ -252,33 +252,26 @@ fn fill<R: Wait>(rt: &R, queue: &Queue, party: &mut Party<u64>, items: &[u64]) -
     right
 }
 
-/// Tells a story on an empty open queue with its only party. Gives that party, and whether all calls had their replies in their time.
+/// Tells a story on a queue that is filled, with its only party. Gives that party, and whether all calls had their replies in their time.
 fn is_told<R: Wait + Threads + Sync>(
     rt: &R,
     queue: &Queue,
-    mut party: Party<u64>,
-    story: &Story<'_>,
+    party: Party<u64>,
+    story: &Story,
 ) -> (Party<u64>, bool)
     requires { IsPartyOf party queue.now }
     ensures { IsPartyOf result.0 queue.now }
 {
-    let filled = fill(rt, queue, &mut party, story.full_of);
     match queue.split(party) {
         Err(party) => (party, false),
         Ok((a, b)) => {
             let signs = Signs::new();
             let ((a, held), (b, meanwhile)) = join(
                 rt,
-                || -> (Party<u64>, bool)
-                    requires { IsPartyOf a queue.now }
-                    ensures { IsPartyOf result.0 queue.entry.now }
-                { call_held(rt, queue, a, story, &signs) },
-                || -> (Party<u64>, bool)
-                    requires { IsPartyOf b queue.now }
-                    ensures { IsPartyOf result.0 queue.entry.now }
-                { call_meanwhile(rt, queue, b, story, &signs) },
+                || call_held(rt, queue, a, story, &signs),
+                || call_meanwhile(rt, queue, b, story, &signs),
             );
-            (queue.join(a, b), filled && held && meanwhile)
+            (queue.join(a, b), held && meanwhile)
         }
     }
 }
@@ -313,18 +306,19 @@ fn tell<R: Wait + Threads + Sync + Abort>(
     rt: &R,
     alloc: Global,
     cap: Option<usize>,
-    story: &Story<'_>,
+    story: &Story,
 ) -> Result<(), AllocError>
     requires { IfSome cap (λ slots. 0 < slots) }
 {
-    let (queue, party) = open(alloc, cap)?;
+    let (queue, mut party) = open(alloc, cap)?;
+    let filled = fill(rt, &queue, &mut party, story.full_of);
     let (party, told) = is_told(rt, &queue, party, story);
     let left = is_left(queue, party, story.left);
-    assert_eq!(rt; (told, left), (true, true));
+    assert_eq!(rt; (filled, told, left), (true, true, true));
     Ok(())
 }
 
-static PUSH_HOLDS_THE_SLOT: Story<'static> = Story {
+static PUSH_HOLDS_THE_SLOT: Story = Story {
     full_of: &[],
     held: (Call::Push(1), Reply::Push(Ok(()))),
     at: Op::And(Word::Lock, u64::MAX - 1),
@@ -334,7 +328,7 @@ static PUSH_HOLDS_THE_SLOT: Story<'static> = Story {
     left: &[1],
 };
 
-static POP_HOLDS_THE_SLOT: Story<'static> = Story {
+static POP_HOLDS_THE_SLOT: Story = Story {
     full_of: &[1],
     held: (Call::Pop, Reply::Pop(Ok(1))),
     at: Op::And(Word::Lock, u64::MAX - 1),
@@ -344,7 +338,7 @@ static POP_HOLDS_THE_SLOT: Story<'static> = Story {
     left: &[],
 };
 
-static PUSH_IS_NOT_STAMPED: Story<'static> = Story {
+static PUSH_IS_NOT_STAMPED: Story = Story {
     full_of: &[1],
     held: (Call::Push(2), Reply::Push(Ok(()))),
     at: Op::Store(Word::Stamp(1), 2),
@@ -357,7 +351,7 @@ static PUSH_IS_NOT_STAMPED: Story<'static> = Story {
     left: &[2, 3],
 };
 
-static POP_IS_NOT_STAMPED: Story<'static> = Story {
+static POP_IS_NOT_STAMPED: Story = Story {
     full_of: &[1, 2],
     held: (Call::Pop, Reply::Pop(Ok(1))),
     at: Op::Store(Word::Stamp(0), 3),
@@ -368,7 +362,7 @@ static POP_IS_NOT_STAMPED: Story<'static> = Story {
 };
 
 /// A displaced front has left and the new item has not arrived: the queue can be closed and popped empty, and the next pop waits for the item.
-static ITEM_IS_COMING: Story<'static> = Story {
+static ITEM_IS_COMING: Story = Story {
     full_of: &[1, 2],
     held: (Call::ForcePush(3), Reply::ForcePush(Ok(Some(1)))),
     at: Op::Add(Word::Tail, TAIL_STEP),
@@ -385,7 +379,7 @@ static ITEM_IS_COMING: Story<'static> = Story {
 };
 
 /// No item is appended between the two.
-static PUSH_WAITS: Story<'static> = Story {
+static PUSH_WAITS: Story = Story {
     full_of: &[1, 2],
     held: (Call::ForcePush(3), Reply::ForcePush(Ok(Some(1)))),
     at: Op::Add(Word::Tail, TAIL_STEP),
@@ -398,7 +392,7 @@ static PUSH_WAITS: Story<'static> = Story {
     left: &[2, 3],
 };
 
-static PUSH_IS_NOT_WRITTEN: Story<'static> = Story {
+static PUSH_IS_NOT_WRITTEN: Story = Story {
     full_of: &[1],
     held: (Call::Push(2), Reply::Push(Ok(()))),
     at: Op::Or(Word::State((), 1), WRITE),
@@ -411,7 +405,7 @@ static PUSH_IS_NOT_WRITTEN: Story<'static> = Story {
     left: &[2, 3],
 };
 
-static POP_HAS_NOT_READ: Story<'static> = Story {
+static POP_HAS_NOT_READ: Story = Story {
     full_of: &[1, 2],
     held: (Call::Pop, Reply::Pop(Ok(1))),
     at: Op::Or(Word::State((), 0), READ),
