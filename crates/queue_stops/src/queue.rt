@@ -59,6 +59,11 @@ impl Queue {
         self.cap
     }
 
+    /// Whether it is open.
+    pub fn is_open(&self) -> bool {
+        !self.closed
+    }
+
     /// Its list, front first.
     pub fn items(&self) -> &[Item] {
         self.items.as_slice()

@@ -8,7 +8,7 @@ use queue_machine::types::{EffectKind, Event, Peak, Replay};
 use queue_steps::errors::{ForcePushError, PushError};
 use queue_steps::model::{Call, Reply};
 use queue_steps::sizes::{BLOCK_SLOTS, PROMPT_STEPS};
-use std::alloc::{Allocator, Global};
+use std::alloc::{AllocError, Allocator, Global};
 
 /// A call that its party is in.
 #[derive(Clone, Copy)]
@@ -38,6 +38,15 @@ impl InCall {
         }
     }
 
+    /// Lets it do this to the queue. A front is taken off only by a call that read the queue open at an earlier step.
+    fn apply(&mut self, effect: EffectKind, queue: &mut Queue) -> Result<(), Flaw> {
+        if effect == EffectKind::Front && !self.read_open {
+            return Err(Flaw::Effect);
+        }
+        self.done = queue.apply(effect, self.call, self.done)?;
+        Ok(())
+    }
+
     /// Whether it may take no more steps.
     fn is_due(&self) -> bool {
         match self.call {
@@ -51,10 +60,10 @@ impl InCall {
 
 /// What is told of one event.
 #[derive(Clone, Copy)]
-struct Entry {
+struct Entry<'a> {
     skipped: bool,
     effect: Option<EffectKind>,
-    reply: Option<Reply<Item>>,
+    reply: Option<&'a Reply<Item>>,
 }
 
 /// A run that is read.
@@ -108,7 +117,7 @@ pub fn read<A: Allocator>(
     };
     reader.note_blocks();
     for (number, event) in events.iter().enumerate() {
-        reader.read_event(number, *event)?;
+        reader.read_event(number, event)?;
     }
     reader.end(run.left.as_slice())?;
     find_order(
@@ -120,16 +129,16 @@ pub fn read<A: Allocator>(
     Ok(reader.in_progress)
 }
 
-impl Reader<'_> {
-    fn read_event(&mut self, number: usize, event: Event<Item>) -> Result<(), Flaw> {
+impl<'a> Reader<'a> {
+    fn read_event(&mut self, number: usize, event: &Event<Item>) -> Result<(), Flaw> {
         match event {
             Event::Begin(party, call) => {
-                let entry = self.entry(number, party)?;
-                self.read_begin(party, call, entry)?;
+                let entry = self.entry(number, *party)?;
+                self.read_begin(*party, *call, entry)?;
             }
             Event::Step(party, _) => {
-                let entry = self.entry(number, party)?;
-                self.read_step(party, entry)?;
+                let entry = self.entry(number, *party)?;
+                self.read_step(*party, entry)?;
             }
         }
         self.note_blocks();
@@ -137,7 +146,7 @@ impl Reader<'_> {
     }
 
     // What is told of the event of this number, which is this party's.
-    fn entry(&mut self, number: usize, party: usize) -> Result<Entry, Flaw> {
+    fn entry(&mut self, number: usize, party: usize) -> Result<Entry<'a>, Flaw> {
         Ok(Entry {
             skipped: self.is_skipped(number),
             effect: self.effect(number, party)?,
@@ -168,25 +177,22 @@ impl Reader<'_> {
         }
     }
 
-    fn reply(&mut self, number: usize, party: usize) -> Result<Option<Reply<Item>>, Flaw> {
+    fn reply(&mut self, number: usize, party: usize) -> Result<Option<&'a Reply<Item>>, Flaw> {
         match self.replies.split_first() {
             Some(((at, whose, reply), rest)) if *at == number => {
                 self.replies = rest;
                 if *whose != party {
                     return Err(Flaw::Reply);
                 }
-                Ok(Some(*reply))
+                Ok(Some(reply))
             }
             _ => Ok(None),
         }
     }
 
-    // The call that a party is in, if it is one of the run and is in one.
-    fn call_of(&self, party: usize) -> Option<InCall> {
-        match self.calls.get(party) {
-            Some(Some(call)) => Some(*call),
-            _ => None,
-        }
+    // Whether a party is one of the run, and is between calls.
+    fn is_idle(&self, party: usize) -> bool {
+        matches!(self.calls.get(party), Some(None))
     }
 
     fn put(&mut self, party: usize, call: Option<InCall>) {
@@ -196,7 +202,7 @@ impl Reader<'_> {
     }
 
     fn read_begin(&mut self, party: usize, call: Call<Item>, entry: Entry) -> Result<(), Flaw> {
-        let fits = party < self.calls.len() && self.call_of(party).is_none();
+        let fits = self.is_idle(party);
         if entry.skipped == fits {
             return Err(Flaw::Skip);
         }
@@ -219,48 +225,47 @@ impl Reader<'_> {
     }
 
     fn read_step(&mut self, party: usize, entry: Entry) -> Result<(), Flaw> {
-        let Some(mut in_call) = self.call_of(party) else {
+        let Some(Some(in_call)) = self.calls.get_mut(party) else {
             self.note_moment()?;
             return no_step(entry);
         };
         if entry.skipped {
             return Err(Flaw::Skip);
         }
+        let event = self.moments.len();
         if in_call.steps == 0 {
-            in_call.first = self.moments.len();
-            self.history.start(in_call.number, in_call.first);
+            in_call.first = event;
+            self.history.start(in_call.number, event);
         }
         in_call.steps = in_call.steps.wrapping_add(1);
         if let Some(effect) = entry.effect {
-            in_call.done = self.apply(effect, in_call)?;
+            self.history.act(in_call.number, event, effect)?;
+            in_call.apply(effect, &mut self.queue)?;
         }
-        let open = self.note_moment()?;
-        in_call.read_open = in_call.read_open || open;
-        if entry.reply.is_some() || in_call.is_due() {
-            self.put(party, None);
-            return self.read_reply(in_call, entry.reply);
+        in_call.read_open = in_call.read_open || self.queue.is_open();
+        let ends = entry.reply.is_some() || in_call.is_due();
+        self.note_moment()?;
+        if ends {
+            self.end_call(party, entry)
+        } else {
+            Ok(())
         }
-        self.put(party, Some(in_call));
+    }
+
+    // The party's call is to reply.
+    fn end_call(&mut self, party: usize, entry: Entry) -> Result<(), Flaw> {
+        let Some(Some(in_call)) = self.calls.get(party) else {
+            return Err(Flaw::Reply);
+        };
+        let in_call = *in_call;
+        self.put(party, None);
+        self.read_reply(in_call, entry.reply)
+    }
+
+    // Notes the queue as it is now.
+    fn note_moment(&mut self) -> Result<(), AllocError> {
+        self.moments.push(self.queue.moment())?;
         Ok(())
-    }
-
-    // A front is taken off only by a call that read the queue open at an earlier step.
-    fn apply(&mut self, effect: EffectKind, in_call: InCall) -> Result<Deed, Flaw> {
-        if effect == EffectKind::Front && !in_call.read_open {
-            return Err(Flaw::Effect);
-        }
-        self.history
-            .act(in_call.number, self.moments.len(), effect)?;
-        self.queue.apply(effect, in_call.call, in_call.done)
-    }
-
-    // Notes the queue as it is now, and tells whether it is open.
-    fn note_moment(&mut self) -> Result<bool, Flaw> {
-        let moment = self.queue.moment();
-        if self.moments.push(moment).is_err() {
-            return Err(Flaw::NoMemory);
-        }
-        Ok(!moment.closed)
     }
 
     fn has_no_steps(&self, call: Call<Item>) -> bool {
@@ -271,14 +276,14 @@ impl Reader<'_> {
         }
     }
 
-    fn read_reply(&mut self, in_call: InCall, reply: Option<Reply<Item>>) -> Result<(), Flaw> {
+    fn read_reply(&mut self, in_call: InCall, reply: Option<&Reply<Item>>) -> Result<(), Flaw> {
         let Some(reply) = reply else {
             return Err(Flaw::Prompt);
         };
         self.in_progress = self.in_progress.wrapping_sub(1);
         let last = self.moments.len().wrapping_sub(1);
-        self.history.end(in_call.number, last, reply);
-        if self.fits(in_call, reply) {
+        self.history.end(in_call.number, last, *reply);
+        if self.fits(in_call, *reply) {
             Ok(())
         } else {
             Err(Flaw::Reply)

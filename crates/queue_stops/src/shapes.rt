@@ -3,6 +3,7 @@ ghost use Rattle.queue_machine.specs.Replays.{CanReplay};
 
 use crate::events::{Events, numbered};
 use queue_steps::model::Call;
+use queue_steps::sizes::{BLOCK_SLOTS, PROMPT_STEPS};
 use queue_steps::steps::Kind;
 use std::alloc::AllocError;
 
@@ -51,20 +52,36 @@ pub struct Start {
     pub closed: bool,
 }
 
-/// How many steps a push or a pop takes at most where the party is alone, but for the pop of a block's last item.
-const FEW_STEPS: u64 = 8;
+/// How many steps a push takes at most where the party is alone.
+const PUSH_STEPS: u64 = 8;
+
+/// How many a push takes at most that is neither a queue's first nor a block's last.
+const USUAL_PUSH_STEPS: u64 = 4;
+
+/// How many a pop takes at most where the party is alone, but for the pop of a block's last item.
+const POP_STEPS: u64 = 6;
+
+/// How many the push takes at most before which so many items were pushed.
+fn push_steps(before: u64) -> u64 {
+    if before == 0 || before % BLOCK_SLOTS == BLOCK_SLOTS - 1 {
+        PUSH_STEPS
+    } else {
+        USUAL_PUSH_STEPS
+    }
+}
 
 impl Start {
     /// The events by which party 0 brings an empty queue there.
     pub fn reach(self, events: &mut Events) -> Result<(), AllocError> {
         for before in 0..self.pushed {
-            events.call(0, Call::Push(numbered(before.wrapping_add(1))), FEW_STEPS)?;
+            let item = numbered(before.wrapping_add(1));
+            events.call(0, Call::Push(item), push_steps(before))?;
         }
         for _ in 0..self.popped {
-            events.call(0, Call::Pop, FEW_STEPS)?;
+            events.call(0, Call::Pop, POP_STEPS)?;
         }
         if self.closed {
-            events.call(0, Call::Close, FEW_STEPS)?;
+            events.call(0, Call::Close, PROMPT_STEPS)?;
         }
         Ok(())
     }
