@@ -100,3 +100,47 @@ fn a_reader_has_to_give_the_block_up(rt: HostRuntime) -> Result<(), AllocError> 
     ];
     writes(&rt, rt.alloc(), "replay unbounded 2", &input, &output)
 }
+
+/// What is printed of sixty-three pushes, and of the pops of all items but the last of their block.
+const BUT_THE_LAST: [Part<'static>; 2] = [
+    Part::Pushed(63),
+    Part::Popped {
+        party: 0,
+        line: 128,
+        item: 1,
+    },
+];
+
+/// The pop of a block's last item looks at each other slot of the block before it gives the block up: it takes seventy steps, all of which one `run` takes.
+#[test]
+fn one_run_walks_over_a_whole_block(rt: HostRuntime) -> Result<(), AllocError> {
+    let [pushed, popped] = BUT_THE_LAST;
+    let before = [
+        Part::Pushes(63),
+        Part::Times(62, "0 pop\n0 run\n"),
+        Part::Text("0 pop\n"),
+    ];
+    let [pushes, pops, pop] = before;
+    writes(
+        &rt,
+        rt.alloc(),
+        "replay unbounded 1",
+        &[pushes, pops, pop, Part::Text("0 run\n0 step\n")],
+        &[
+            pushed,
+            popped,
+            Part::Text("252 0 take\n252 0 item 63\n253 0 skipped\nblocks 2 of 3\nleft\n"),
+        ],
+    )?;
+    writes(
+        &rt,
+        rt.alloc(),
+        "replay unbounded 1",
+        &[pushes, pops, pop, Part::Times(71, "0 step\n")],
+        &[
+            pushed,
+            popped,
+            Part::Text("254 0 take\n321 0 item 63\n322 0 skipped\nblocks 2 of 3\nleft\n"),
+        ],
+    )
+}

@@ -121,7 +121,7 @@ impl<T, A: Allocator> Form<T, A> {
 
 impl<T, A: Allocator> fmt::Debug for ConcurrentQueue<T, A> {
     /// Each field is that of a moment of its own, without a party and without waiting: the length is the tail less the head that is read after it, or 0 where
-    /// that is below 0.
+    /// that is below 0. So read, it is within the capacity, which no clause says: a load without a seat tells nothing of what was so at an earlier one.
     fn fmt<W: fmt::Write>(&self, f: &mut fmt::Formatter<W>) -> fmt::Result
         ensures { (len : ℕ) × (closed : Bool) × WritesOnOk W.write_str_gives f.old result (queue_text (codes "ConcurrentQueue") len self.now.cap closed) f.new }
     {

@@ -1,5 +1,5 @@
 //! Callers of `concurrent_queue`; its `CALLING.md` shows the first.
-ghost use Rattle.std.specs.Prelude.{◌≡◌, IfOk};
+ghost use Rattle.std.specs.Prelude.{◌≡◌, true, Some, IfOk};
 ghost use Rattle.queue_steps.specs.Shares.{SamePart, entire};
 ghost use Rattle.concurrent_queue.specs.Shared.{IsPartyOf};
 
@@ -104,6 +104,43 @@ pub fn through_a_shared_slot<R: Wait>(
         Ok(_left) => Ok((out, back)),
         Err(_) => unreachable!(),
     }
+}
+
+/// Puts two values into a queue that only one party uses, takes one off by an iterator, which is then dropped, and gives it and what the party takes after it.
+pub fn one_of_two_shared<R: Wait>(
+    rt: &R,
+    alloc: Global,
+    one: u64,
+    two: u64,
+) -> Result<(Option<u64>, Option<u64>), AllocError>
+    ensures { IfOk result (λ out. out ≡ (Some one, Some two)) }
+{
+    let (queue, mut party) = ConcurrentQueue::bounded(alloc, 2)?;
+    let Ok(()) = queue.push(rt, &mut party, one) else {
+        unreachable!()
+    };
+    let Ok(()) = queue.push(rt, &mut party, two) else {
+        unreachable!()
+    };
+    let mut items = queue.try_iter(rt, &mut party);
+    let first = items.next();
+    drop(items);
+    Ok((first, queue.pop(rt, &mut party).ok()))
+}
+
+/// Whether each of two parties finds the queue closed, of which the second asks once it has met the first. It is told of what the first has seen.
+pub fn told_of_a_closing(
+    queue: &ConcurrentQueue<u64>,
+    first: &mut Party<u64>,
+    second: &mut Party<u64>,
+) -> (bool, bool)
+    requires { IsPartyOf first.old queue.now × IsPartyOf second.old queue.now }
+    ensures { result.0 ≡ true → result.1 ≡ true }
+{
+    let found = queue.is_closed(first);
+    queue.meet(first, second);
+    let told = queue.is_closed(second);
+    (found, told)
 }
 
 /// Parts off a party, so many times over. All of them close the queue, and become one party again. Gives it, and how many parties were refused.

@@ -1,5 +1,5 @@
 //! The whole program, with the arguments as the system gives them, and the status that it ends with.
-ghost use Rattle.std.specs.Prelude.{◌≡◌, ⊤, MatchResult, drop, map, string_bytes};
+ghost use Rattle.std.specs.Prelude.{◌≡◌, IfOk, MatchResult, drop, map, string_bytes};
 ghost use Rattle.std.specs.Process.{exit_status};
 ghost use Rattle.std.specs.Vec.Iter.{into_iter_items};
 ghost use Rattle.queue_command.specs.Programs.{IsAskedBy, IsEndOf, IsSomeEnd, MayLackMemory};
@@ -57,8 +57,15 @@ fn words_of(alloc: Global, given: io::Result<Args>) -> Result<Vec<String>, Alloc
     ensures { MatchResult result (λ words. IsAskedBy given (map string_bytes words.items)) (λ _. MayLackMemory given) }
 {
     match given {
-        Ok(args) => args.skip(1).collect(alloc),
+        Ok(args) => Ok(behind_name(alloc, args)?),
         Err(error) if error.kind() == ErrorKind::OutOfMemory => Err(AllocError),
         Err(_) => Ok(Vec::new(alloc)),
     }
+}
+
+// All arguments but the first.
+fn behind_name(alloc: Global, args: Args) -> Result<Vec<String>, AllocError>
+    ensures { IfOk result (λ words. words.items ≡ drop 1 (into_iter_items args)) }
+{
+    args.skip(1).collect(alloc)
 }
