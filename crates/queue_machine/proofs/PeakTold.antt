@@ -103,16 +103,16 @@ busy-before {T} cap parties events es cs told ts us S R b events_are told_are sk
     let same = Run-length cap parties (opening cap) es ts b run in
     let S1 : List ℕ = entries_from skipped_entry 0 es ts in
     let S2 : List ℕ = entries_from skipped_entry n cs us in
-    let R1 : List (ℕ × ℕ × Reply T) = entries_from reply_entry 0 es ts in
-    let R2 : List (ℕ × ℕ × Reply T) = entries_from reply_entry n cs us in
+    let early : List (ℕ × ℕ × Reply T) = entries_from reply_entry 0 es ts in
+    let late : List (ℕ × ℕ × Reply T) = entries_from reply_entry n cs us in
     let skipped_are : S ≡ S1 ++ S2 = rw (skipped, events_are, told_are) (entries-append skipped_entry 0 n es cs ts us same (omega arith)) in
-    let replies_are : R ≡ R1 ++ R2 = rw (replies, events_are, told_are) (entries-append reply_entry 0 n es cs ts us same (omega arith)) in
+    let replies_are : R ≡ early ++ late = rw (replies, events_are, told_are) (entries-append reply_entry 0 n es cs ts us same (omega arith)) in
     let first : take n events ≡ es = ap (take n) events_are ∙ take-append_seam es cs in
     let calls : calls_from 0 S (take n events) ≡ begun_calls es ts =
     ap (λ l. calls_from 0 S l) first ∙ ap (λ l. calls_from 0 l es) skipped_are ∙ calls-front 0 n S1 S2 es (omega arith) (skipped-late n cs us) ∙ sym (begun-listed 0 [] es ts same tt) in
-    let before : filter (λ y. nat_lt y.0 n) R ≡ R1 =
+    let before : filter (λ y. nat_lt y.0 n) R ≡ early =
     ap (filter (λ y. nat_lt y.0 n)) replies_are
-    ∙ filter-front (λ y. nat_lt y.0 n) R1 R2 (each-all _ _ R1 (λ y lt. lt-ltb y.0 n lt) (replies-early 0 n es ts (omega arith))) (each-all _ _ R2 (λ y le. le-ltb y.0 n le) (replies-late n cs us)) in
+    ∙ filter-front (λ y. nat_lt y.0 n) early late (each-all _ _ early (λ y lt. lt-ltb y.0 n lt) (replies-early 0 n es ts (omega arith))) (each-all _ _ late (λ y le. le-ltb y.0 n le) (replies-late n cs us)) in
     let counted = busy-told cap parties 0 (opening cap) b es ts (counts-first T cap parties) run in
     let many = ap length calls in
     let few = ap length before in
