@@ -1,5 +1,5 @@
 -- The greatest number of blocks, told from the lists of a replay and its history: what is told of the first events fixes how many items there are then, and how many calls are in progress.
-use Rattle.std.proofs.Common.{◌≡◌, ◌∙◌, ℕ, ◌+◌, ◌-◌, ◌/◌, ◌<◌, ◌≤◌, ◌==◌, ◌||◌, nat_lt, Bool, true, false, Option, Some, None, List, [], ◌∷◌, ◌++◌, length, take, drop, filter, refl, sym, ap, subst, arith, append_assoc, length-append, length-take-le, take-append-drop}
+use Rattle.std.proofs.Common.{◌≡◌, ◌∙◌, ℕ, ◌+◌, ◌/◌, ◌<◌, ◌≤◌, ◌==◌, ◌||◌, nat_lt, Bool, true, false, Option, Some, None, List, [], ◌∷◌, ◌++◌, length, take, drop, filter, refl, sym, ap, subst, arith, append_assoc, length-append, length-take-le, take-append-drop}
 use lib.Seq.{take-append_seam}
 use Rattle.std.specs.List.{AllByRecursion}
 use Rattle.std.proofs.lemmas.Bool.{lt-ltb, le-ltb}
@@ -8,7 +8,6 @@ use Rattle.queue_steps.specs.State.{State, start}
 use Rattle.queue_steps.specs.Effect.{Runs, IsHistory, made, after_from}
 use Rattle.queue_steps.specs.Sole.{blocks_of, spanned}
 use Rattle.queue_steps.specs.declared.model.Call.{Call}
-use Rattle.queue_steps.specs.declared.model.Effect.{Effect}
 use Rattle.queue_steps.specs.declared.model.Reply.{Reply}
 use Rattle.queue_machine.specs.declared.types.EffectKind.{EffectKind}
 use Rattle.queue_machine.specs.declared.types.Event.{Event}
@@ -19,7 +18,7 @@ use Rattle.queue_machine.specs.Book.{Book, Run, kind_of, opening}
 use Rattle.queue_machine.specs.Conforms.{party_of, entries_from, effect_entry, reply_entry, skipped_entry}
 use Rattle.queue_machine.specs.Meaning.{Entry, chosen, effects_in, kinds_in}
 use Rattle.queue_machine.specs.OneOwner.{begun_calls, calls_from, is_among}
-use Rattle.queue_machine.specs.PeakTold.{state_before, replies_before, in_progress, PeakIsOfTheRun}
+use Rattle.queue_machine.specs.PeakTold.{state_before, in_progress, PeakIsOfTheRun}
 use Rattle.queue_machine.proofs.Counting.{accepted_by, length_by, counts_all, made-accepted, made-length, run-accepted, run-length}
 use Rattle.queue_machine.proofs.Entries.{each-all}
 use Rattle.queue_machine.proofs.Growing.{made-cap, run-cap}
