@@ -1,6 +1,5 @@
 -- A party that has seen the queue closed is told so, and so is one that meets it.
-use Rattle.std.proofs.Common.{◌≡◌, ◌∙◌, ◌⊎◌, inl, inr, ℕ, Bool, true, Option, List, [], ◌∷◌, ◌++◌, ap, sym, subst}
-use mathlib.Core.List.{IsPrefix}
+use Rattle.std.proofs.Common.{◌≡◌, ◌∙◌, inl, inr, ℕ, Bool, true, Option, List, [], ◌∷◌, ◌++◌, ap, sym, subst}
 use Rattle.queue_steps.specs.declared.model.Call.TheVariants as call
 use Rattle.queue_steps.specs.declared.model.Effect.{Effect}
 use Rattle.queue_steps.specs.declared.model.Reply.TheVariants as reply
