@@ -162,7 +162,7 @@ impl<T, A: Allocator + Clone> ConcurrentQueue<T, A> {
 impl<T, A: Allocator> ConcurrentQueue<T, A> {
     /// An empty open queue without a capacity, and its only party, which has seen nothing and has all of the share.
     ///
-    /// It is one request. Pushes ask for more: before the first item, and where 62 items modulo 63 were accepted.
+    /// It is one request. Pushes ask for more: before the first item, and where `BLOCK_SLOTS - 1` items modulo `BLOCK_SLOTS` were accepted.
     ///
     /// # Errors
     ///

@@ -212,7 +212,7 @@ impl<T, A: Allocator + Clone> Exclusive<T, A> {
 impl<T, A: Allocator> Exclusive<T, A> {
     /// An empty open queue without a capacity.
     ///
-    /// It asks for no memory. Pushes do, for a block of 63 items at a time.
+    /// It asks for no memory. Pushes do, for a block of `BLOCK_SLOTS` items at a time.
     pub fn unbounded(alloc: A) -> Self
         ensures { result ≡ fresh None }
     {
@@ -294,7 +294,7 @@ impl<T, A: Allocator> Exclusive<T, A> {
 
     /// Appends `value`.
     ///
-    /// A queue without a capacity asks for a block before the first item, where it holds none, and where it has accepted 62 items modulo 63. No other call asks for memory.
+    /// A queue without a capacity asks for a block before the first item, where it holds none, and where it has accepted `BLOCK_SLOTS - 1` items modulo `BLOCK_SLOTS`. No other call asks for memory.
     ///
     /// # Errors
     ///

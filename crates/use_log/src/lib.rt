@@ -11,7 +11,7 @@ use std::marker::Model;
 
 /// The newest entries, as many as its capacity, in the order in which they came.
 ///
-/// A contract sees the capacity, the entries that are held, and how many were ever appended, which are at most 2^62.
+/// A contract sees the capacity, the entries that are held, and how many were ever appended, which are at most `LIMIT`.
 pub struct Log<T, A: Allocator = Global> {
     ring: Exclusive<T, A>,
 }
@@ -55,7 +55,7 @@ impl<T, A: Allocator> Log<T, A> {
     ///
     /// # Errors
     ///
-    /// The entry, where 2^62 entries were appended before it. The log is as it was.
+    /// The entry, where `LIMIT` entries were appended before it. The log is as it was.
     #[tactic(auto, using(crate::proofs::Rings::appends, crate::proofs::Rings::spent_log))]
     pub fn append(&mut self, entry: T) -> Result<Option<T>, T>
         ensures { MatchResult result

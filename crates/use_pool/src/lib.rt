@@ -68,7 +68,7 @@ impl<A: Allocator> Pool<A> {
     ///
     /// # Errors
     ///
-    /// The place, where 2^62 were put in before it. The pool is as it was.
+    /// The place, where `LIMIT` were put in before it. The pool is as it was.
     pub fn give_back(&mut self, place: u64) -> Result<(), u64>
         requires { IsOut self.old place }
         ensures { MatchResult result
