@@ -4,8 +4,6 @@
 #[cfg(test)]
 mod crew;
 #[cfg(test)]
-mod meanwhile;
-#[cfg(test)]
 mod program;
 #[cfg(test)]
 mod refusals;

@@ -16,7 +16,7 @@ struct Asking<'a> {
     line: &'a str,
     input: &'a str,
     output: &'a str,
-    told: Option<&'a str>,
+    told: Option<&'static str>,
 }
 
 static RUNS: [Asking<'static>; 8] = [
