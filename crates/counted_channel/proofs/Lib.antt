@@ -1,0 +1,4 @@
+pub mod Counts
+pub mod Parting
+pub mod OneSide
+pub mod Trying

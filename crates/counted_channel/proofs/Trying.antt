@@ -1,0 +1,161 @@
+-- A try that was refused, and then a call that conforms, are one call that conforms: the failed try adds no place, and what its party has seen only grows.
+use Rattle.std.proofs.Common.{◌≡◌, ◌⊎◌, ℕ, zero, suc, ◌+◌, ◌≤◌, Bool, true, false, Option, None, Err, List, [], ◌∷◌, ◌++◌, length, refl, ap, sym, ◌∙◌, subst, ⊎_elim, append_assoc, append-nil, arith}
+use mathlib.Core.Option.{some, some-injective, some-ne-none}
+use mathlib.Core.List.{IsPrefix}
+use Rattle.std.proofs.Common.{length-append}
+use lib.ListN.{get_elem?}
+use Rattle.queue_steps.specs.declared.model.Call.{Call}
+use Rattle.queue_steps.specs.declared.model.Call.TheVariants as call
+use Rattle.queue_steps.specs.declared.model.Reply.{Reply}
+use Rattle.queue_steps.specs.declared.model.Reply.TheVariants as reply
+use Rattle.queue_steps.specs.declared.model.Effect.{Effect}
+use Rattle.queue_steps.specs.declared.model.Effect.TheVariants as effect
+use Rattle.queue_steps.specs.declared.errors.PopError.TheVariants as pop
+use Rattle.queue_steps.specs.declared.errors.PushError.TheVariants as push
+use Rattle.queue_steps.specs.State.{State, start}
+use Rattle.queue_steps.specs.Effect.{Runs, IsHistory, made, after_from, after}
+use Rattle.queue_steps.specs.Replies.{LacksMemory, Tells}
+use Rattle.queue_steps.specs.Shares.{Share, IsEntire}
+use Rattle.queue_steps.specs.Parties.{View, StandAt, Displaces, SharedCall}
+use Rattle.queue_steps.specs.Sole.{sole_reply, sole_state}
+use Rattle.queue_steps.specs.Legal.{IsShown}
+use Rattle.queue_steps.specs.SoleCalls.{SoleCall}
+use Rattle.queue_steps.proofs.Keeping.{stays_closed}
+use Rattle.concurrent_queue.specs.Shared.{QueueId, Person, Calls}
+use Rattle.counted_channel.specs.Channel.{Ends}
+
+module _ {T : Type 0} where
+  prefix_same : (s : List (Effect T)) → IsPrefix s s
+  prefix_same s = ([], append-nil s)
+
+  pub prefix_on : (h s t : List (Effect T)) → IsPrefix h s → IsPrefix s t → IsPrefix h t
+  prefix_on h s t (d, is) (e, on) = (d ++ e, sym (append_assoc h d e) ∙ (ap (λ (l : List (Effect T)). l ++ e) is ∙ on))
+
+  prefix_length : (s t : List (Effect T)) → IsPrefix s t → length s ≤ length t
+  prefix_length s t (d, is) = let e : length s + length d ≡ length t = sym (length-append s d) ∙ ap length is in omega (arith, e)
+
+  -- places that stand behind so many stand behind fewer
+  stand_on : (t : List (Effect T)) (n m : ℕ) (ps : List ℕ) (es : List (Effect T)) → n ≤ m → StandAt t m ps es → StandAt t n ps es
+  stand_on t n m [] [] le s = s
+  stand_on t n m (p ∷ ps) (e ∷ es) le s = let far : m ≤ p = s.0 in (omega (arith, le, far), s.1, s.2)
+  stand_on t n m [] (e ∷ es) le s = absurd s
+  stand_on t n m (p ∷ ps) [] le s = absurd s
+
+  -- no effect stands at no place
+  nowhere : (t : List (Effect T)) (n : ℕ) (ps : List ℕ) (es : List (Effect T)) → es ≡ [] → StandAt t n ps es → ps ≡ []
+  nowhere t n [] es none s = refl
+  nowhere t n (p ∷ ps) es none s = absurd (subst (StandAt t n (p ∷ ps)) none s)
+
+  displaces_on : (cap : Option ℕ) (u v t : List (Effect T)) (ps : List ℕ) → IsPrefix u v → Displaces cap v t ps → Displaces cap u t ps
+  displaces_on cap u v t [] on d = d
+  displaces_on cap u v t (p ∷ []) on d = d
+  displaces_on cap u v t (p ∷ q ∷ ps) on d = let h = d.0.0 in ((h, prefix_on u v h on d.0.1, d.0.2, d.0.3, d.0.4), d.1)
+
+  -- from v to w a party has tried a call: it has no new place, and if it has all of the share, it has seen nothing new
+  pub record Tried (v w : View T) : Type 0 where
+    pub begins : IsPrefix v.seen w.seen
+    pub mine : w.mine ≡ v.mine
+    pub share : w.share ≡ v.share
+    pub same : IsEntire v.share → w.seen ≡ v.seen
+
+  pub untried : (v : View T) → Tried v v
+  untried v = record { begins = prefix_same v.seen; mine = refl; share = refl; same = λ all. refl }
+
+  -- the call stands for no effect
+  abbrev pub IsRefused : Call T → Reply T → Type 0
+  IsRefused c r = (es : List (Effect T)) → Tells c r es → es ≡ []
+
+  pub tries : (cap : Option ℕ) (u v w : View T) (c : Call T) (r : Reply T) → IsRefused c r → Tried u v → SharedCall cap v w c r → (IsEntire v.share → SoleCall cap v w c r) → Tried u w
+  tries cap u v w c r none tried call sole = record {
+    begins = prefix_on u.seen v.seen w.seen tried.begins call.begins;
+    mine = call.mine ∙ (ap (λ (ps : List ℕ). v.mine ++ ps) (nowhere w.seen (length v.seen) call.places call.effects (none call.effects call.tells) call.stand) ∙ (append-nil v.mine ∙ tried.mine));
+    share = call.share ∙ tried.share;
+    same = λ all.
+        let one = sole (subst (λ (s : Share). IsEntire s) (sym tried.share) all) in
+        one.seen ∙ (ap (λ (es : List (Effect T)). v.seen ++ es) (none one.effects one.tells) ∙ (append-nil v.seen ∙ tried.same all));
+  }
+
+  pub conforms : (cap : Option ℕ) (u v w : View T) (c : Call T) (r : Reply T) → Tried u v → SharedCall cap v w c r → SharedCall cap u w c r
+  conforms cap u v w c r tried call = record {
+    begins = prefix_on u.seen v.seen w.seen tried.begins call.begins;
+    legal = call.legal;
+    effects = call.effects;
+    places = call.places;
+    tells = call.tells;
+    stand = stand_on w.seen (length u.seen) (length v.seen) call.places call.effects (prefix_length u.seen v.seen tried.begins) call.stand;
+    mine = call.mine ∙ ap (λ (ps : List ℕ). ps ++ call.places) tried.mine;
+    share = call.share ∙ tried.share;
+    right = λ none. let at = call.right none in (at.0, prefix_on u.seen v.seen at.0 tried.begins at.1, at.2, at.3);
+    displaces = displaces_on cap u.seen v.seen w.seen call.places tried.begins call.displaces;
+  }
+
+  pub conforms_alone : (cap : Option ℕ) (u v w : View T) (c : Call T) (r : Reply T) → v.seen ≡ u.seen → SoleCall cap v w c r → SoleCall cap u w c r
+  conforms_alone cap u v w c r same call = record {
+    effects = call.effects;
+    tells = call.tells;
+    seen = call.seen ∙ ap (λ (s : List (Effect T)). s ++ call.effects) same;
+    table =
+        subst
+        (λ (s : List (Effect T)).
+        ((r ≡ sole_reply (after cap s) c) × IsShown (sole_state (after cap s) c) (after cap w.seen)) ⊎ ((cap ≡ None) × LacksMemory (after cap s) c r × (call.effects ≡ []))) same
+        call.table;
+  }
+
+  -- of a party, whose queue stays the same
+  pub tried_more : (u v w : Person T) (c : Call T) (r : Reply T) → IsRefused c r → v.queue ≡ u.queue → Tried u.view v.view → Calls v c r w → (w.queue ≡ u.queue) × Tried u.view w.view
+  tried_more u v w c r none same tried called = (called.0 ∙ same, tries v.queue.cap u.view v.view w.view c r none tried called.1 called.2)
+
+  pub conforms_then : (u v w : Person T) (c : Call T) (r : Reply T) → v.queue ≡ u.queue → Tried u.view v.view → Calls v c r w → Calls u c r w
+  conforms_then u v w c r same tried called = (
+    called.0 ∙ same,
+    subst (λ (q : QueueId). SharedCall q.cap u.view w.view c r) same (conforms v.queue.cap u.view v.view w.view c r tried called.1),
+    λ all. subst (λ (q : QueueId). SoleCall q.cap u.view w.view c r) same
+        (conforms_alone v.queue.cap u.view v.view w.view c r (tried.same all) (called.2 (subst (λ (s : Share). IsEntire s) (sym tried.share) all))),
+  )
+
+  -- a queue that was seen closed stays so
+  closed_on : (Q : State T) (s d : List (Effect T)) → Runs Q (s ++ d) → (after_from Q s).closed ≡ true → (after_from Q (s ++ d)).closed ≡ true
+  closed_on Q [] d runs closed = stays_closed Q d runs closed
+  closed_on Q (e ∷ s) d runs closed = closed_on (made e Q) s d runs.1 closed
+
+  still_closed : (cap : Option ℕ) (s t : List (Effect T)) → IsPrefix s t → IsHistory cap t → (after cap s).closed ≡ true → (after cap t).closed ≡ true
+  still_closed cap s t (d, is) legal closed =
+      subst (λ (h : List (Effect T)). (after cap h).closed ≡ true) is (closed_on (start cap 0) s d (subst (IsHistory cap) (sym is) legal) closed)
+
+  -- where a close stands, the queue is closed then
+  close_stands : (Q : State T) (t : List (Effect T)) (p : ℕ) → Runs Q t → get_elem? t p ≡ some effect.Close → (after_from Q t).closed ≡ true
+  close_stands Q [] p runs at = absurd (some-ne-none effect.Close (sym at))
+  close_stands Q (e ∷ es) zero runs at = stays_closed (made e Q) es runs.1 (ap (λ (f : Effect T). (made f Q).closed) (some-injective e effect.Close at))
+  close_stands Q (e ∷ es) (suc p) runs at = close_stands (made e Q) es p runs.1 at
+
+  close_at : (cap : Option ℕ) (n : ℕ) (t : List (Effect T)) (ps : List ℕ) (es : List (Effect T)) → es ≡ effect.Close ∷ [] → IsHistory cap t → StandAt t n ps es → (after cap t).closed ≡ true
+  close_at cap n t [] es is legal s = absurd (subst (StandAt t n []) is s)
+  close_at cap n t (p ∷ ps) es is legal s = let s' = subst (StandAt t n (p ∷ ps)) is s in close_stands (start cap 0) t p legal s'.1
+
+  sees_closed_at : (cap : Option ℕ) (v w : View T) (closed : Bool) → SharedCall cap v w call.Close (reply.Close closed) → (after cap w.seen).closed ≡ true
+  sees_closed_at cap v w true called = close_at cap (length v.seen) w.seen called.places called.effects called.tells called.legal called.stand
+  sees_closed_at cap v w false called =
+      let right = called.right called.tells in
+      still_closed cap right.0 w.seen right.2 called.legal (⊎_elim (λ closed. closed) (λ lacks. absurd lacks) right.3)
+
+  -- a party that called close has seen the queue closed
+  pub sees_closed : (v w : Person T) (closed : Bool) → Calls v call.Close (reply.Close closed) w → (after w.queue.cap w.view.seen).closed ≡ true
+  sees_closed v w closed called = subst (λ (q : QueueId). (after q.cap w.view.seen).closed ≡ true) (sym called.0) (sees_closed_at v.queue.cap v.view w.view closed called.1)
+
+  -- an end that was the last, and one that was not
+  pub ended_last : (v w x : Person T) (last : Bool) → x ≡ w → last ≡ true → (closed : Bool) → Calls v call.Close (reply.Close closed) w → Ends v x last
+  ended_last v w x true is last closed called =
+      let theirs : Calls v call.Close (reply.Close closed) x = subst (λ (p : Person T). Calls v call.Close (reply.Close closed) p) (sym is) called in
+      ((closed, theirs), sees_closed v x closed theirs)
+  ended_last v w x false is last closed called = cc
+
+  pub ended_else : (v w : Person T) (last : Bool) → last ≡ false → w ≡ v → Ends v w last
+  ended_else v w true is same = cc
+  ended_else v w false is same = same
+
+  -- refusals
+  pub full_is_refused : (v w : T) → IsRefused (call.Push v) (reply.Push (Err (push.Full w)))
+  full_is_refused v w es tells = tells.1
+
+  pub empty_is_refused : IsRefused call.Pop (reply.Pop (Err pop.Empty))
+  empty_is_refused es tells = tells

@@ -1,0 +1,84 @@
+-- A channel over a shared queue: which calls of the queue its calls are.
+use Rattle.std.specs.Prelude.{◌≡◌, ℕ, Bool, true, false, Result, Ok, Err, Option}
+use mathlib.Core.List.{IsPrefix}
+use Rattle.atomic_table.specs.Seated.{TableId}
+use Rattle.queue_steps.specs.declared.model.Call.{Call}
+use Rattle.queue_steps.specs.declared.model.Call.TheVariants as call
+use Rattle.queue_steps.specs.declared.model.Reply.{Reply}
+use Rattle.queue_steps.specs.declared.model.Reply.TheVariants as reply
+use Rattle.queue_steps.specs.declared.errors.PopError.TheVariants as pop
+use Rattle.queue_steps.specs.declared.errors.PushError.TheVariants as push
+use Rattle.queue_steps.specs.declared.errors.ForcePushError.TheVariants as force
+use Rattle.queue_steps.specs.Effect.{IsHistory, after}
+use Rattle.queue_steps.specs.Shares.{Share, SamePart, entire, half, plus}
+use Rattle.concurrent_queue.specs.Shared.{QueueId, Person, Calls, Parts, Joins}
+use Rattle.counted_channel.specs.declared.counting.Standing.{Standing}
+use Rattle.counted_channel.specs.declared.errors.SendError.{SendError}
+use Rattle.counted_channel.specs.declared.errors.SendError.TheVariants as send
+use Rattle.counted_channel.specs.declared.errors.Disconnected.{Disconnected}
+use Rattle.counted_channel.specs.Counting.{stake_at}
+
+-- which channel: its queue, and the table that counts its ends
+pub record ChannelId : Type 0 where
+  pub queue : QueueId
+  pub counts : TableId
+
+-- an end: its party of the queue, the table that counts it, and its part of all stakes in its side, which is no party's share
+pub record End (T : Type 0) : Type 0 where
+  pub party : Person T
+  pub counts : TableId
+  pub stake : Share
+
+-- the end of the side of this word with this party, which the table counts as its seat knows
+abbrev pub end_at : {T : Type 0} → ℕ → Person T → TableId → Standing → End T
+end_at i p c v = record { party = p; counts = c; stake = stake_at i v }
+
+-- the end is one of this channel's
+abbrev pub IsEndOf : {T : Type 0} → End T → ChannelId → Type 0
+IsEndOf e c = (e.party.queue ≡ c.queue) × (e.counts ≡ c.counts)
+
+-- the replies of the queue that the channel's answers stand for
+abbrev pub sent : {T : Type 0} → Result (Unit {0}) (SendError T) → Reply T
+sent (Ok done) = reply.Push (Ok done)
+sent (Err (send.Closed v)) = reply.Push (Err (push.Closed v))
+sent (Err (send.NoMemory v)) = reply.Push (Err (push.NoMemory v))
+
+abbrev pub force_sent : {T : Type 0} → Result (Option T) (SendError T) → Reply T
+force_sent (Ok old) = reply.ForcePush (Ok old)
+force_sent (Err (send.Closed v)) = reply.ForcePush (Err (force.Closed v))
+force_sent (Err (send.NoMemory v)) = reply.ForcePush (Err (force.NoMemory v))
+
+abbrev pub received : {T : Type 0} → Result T Disconnected → Reply T
+received (Ok x) = reply.Pop (Ok x)
+received (Err why) = reply.Pop (Err pop.Closed)
+
+-- the end d becomes e by one call of the queue, however often it was tried
+abbrev pub ChannelCall : {T : Type 0} → End T → Call T → Reply T → End T → Type 0
+ChannelCall d c r e = Calls d.party c r e.party × (e.counts ≡ d.counts) × (e.stake ≡ d.stake)
+
+-- The end is no more, and its party v is given back as w. Where it was the last of its side, w has called close, and has seen the queue closed; else nothing was called
+abbrev pub Ends : {T : Type 0} → Person T → Person T → Bool → Type 0
+Ends v w true = ((closed : Bool) × Calls v call.Close (reply.Close closed) w) × ((after w.queue.cap w.view.seen).closed ≡ true)
+Ends v w false = w ≡ v
+
+-- the ends a and b become w, which has the stakes of both
+abbrev pub EndJoins : {T : Type 0} → End T → End T → End T → Type 0
+EndJoins a b w = Joins a.party b.party w.party × (w.counts ≡ a.counts) × (w.stake ≡ plus a.stake b.stake)
+
+-- the end d is parted into a and b, each with half of its stake
+abbrev pub EndParts : {T : Type 0} → End T → End T → End T → Type 0
+EndParts d a b = Parts d.party a.party b.party × (a.counts ≡ d.counts) × (b.counts ≡ d.counts) × (a.stake ≡ half d.stake) × (b.stake ≡ half d.stake)
+
+-- the end d is given back as e, with its places, its share and its stake
+pub record GivenBack {T : Type 0} (d e : End T) : Type 0 where
+  pub queue : e.party.queue ≡ d.party.queue
+  pub counts : e.counts ≡ d.counts
+  pub stake : e.stake ≡ d.stake
+  pub begins : IsPrefix d.party.view.seen e.party.view.seen
+  pub legal : IsHistory d.party.queue.cap e.party.view.seen
+  pub mine : e.party.view.mine ≡ d.party.view.mine
+  pub share : SamePart e.party.view.share d.party.view.share
+
+-- the queue q becomes the channel c, and its party v is parted into the first sender and the first receiver, each with all of the stakes in its side
+abbrev pub Opens : {T : Type 0} → QueueId → Person T → ChannelId → End T → End T → Type 0
+Opens q v c s r = (c.queue ≡ q) × Parts v s.party r.party × IsEndOf s c × IsEndOf r c × (s.stake ≡ entire) × (r.stake ≡ entire)

@@ -1,0 +1,4 @@
+pub mod Channel
+pub mod Counting
+pub mod Errors
+pub mod Receiving

@@ -1,0 +1,281 @@
+//! Channels: senders and receivers of a queue, of which the last of either side closes it.
+ghost use Rattle.std.specs.Prelude.{◌≡◌, true, MatchResult};
+ghost use Rattle.queue_steps.specs.declared.model.Call.TheVariants as call;
+ghost use Rattle.queue_steps.specs.declared.model.Reply.TheVariants as reply;
+ghost use Rattle.queue_steps.specs.Shares.{IsEntire};
+ghost use Rattle.concurrent_queue.specs.Shared.{IsPartyOf, Joins, Finishes};
+ghost use Rattle.counted_channel.specs.Channel.{IsEndOf, ChannelCall, EndParts, EndJoins, Ends, GivenBack, sent, force_sent, received};
+
+use crate::counting::{Counts, RECEIVERS, SENDERS};
+use crate::errors::{Disconnected, SendError};
+use crate::sides::{SideEnd, end_one, join_ends, split_end};
+use crate::tries::{pop_until, push_until};
+use concurrent_queue::{
+    ConcurrentQueue, Exclusive, ForcePushError, NullTestable, Party, PopError, PushError,
+};
+use std::alloc::{Allocator, Global};
+use std::marker::Model;
+use std::sync::Wait;
+
+/// A queue, with the counts of its senders and its receivers.
+///
+/// A contract sees which queue it is, and which table counts its ends.
+#[derive(Drop)]
+pub struct Channel<T, A: Allocator = Global> {
+    pub(crate) queue: ConcurrentQueue<T, A>,
+    pub(crate) counts: Counts<A>,
+}
+
+impl<T, A: Allocator> Model for Channel<T, A> {
+    ghost use Rattle.std.specs.Prelude.{◌≡◌};
+    ghost use Rattle.counted_channel.specs.Channel.{ChannelId};
+
+    ghost Value = { ChannelId };
+
+    ghost view = { λ c. record { queue = c.queue; counts = c.counts.shared.table_id } };
+
+    ghost invariant = { λ c. c.counts.shared.table_id.words ≡ 2 };
+}
+
+/// An end that sends. It has a party of the queue.
+///
+/// One that is dropped was not ended: its side has no last end from then on, and the channel cannot be finished.
+#[derive(Drop)]
+pub struct Sender<T> {
+    pub(crate) end: SideEnd<T>,
+}
+
+impl<T> Model for Sender<T> {
+    ghost use Rattle.counted_channel.specs.Channel.{End, end_at};
+    ghost use Rattle.counted_channel.specs.Counting.{IsEnd};
+
+    ghost Value = { End T };
+
+    ghost view = { λ s. end_at 0 s.end.party s.end.place.table_id s.end.place.me.0 };
+
+    ghost invariant = { λ s. IsEnd 0 s.end.place.me };
+}
+
+/// An end that receives. It has a party of the queue.
+///
+/// One that is dropped was not ended: its side has no last end from then on, and the channel cannot be finished.
+#[derive(Drop)]
+pub struct Receiver<T> {
+    pub(crate) end: SideEnd<T>,
+}
+
+impl<T> Model for Receiver<T> {
+    ghost use Rattle.counted_channel.specs.Channel.{End, end_at};
+    ghost use Rattle.counted_channel.specs.Counting.{IsEnd};
+
+    ghost Value = { End T };
+
+    ghost view = { λ r. end_at 1 r.end.party r.end.place.table_id r.end.place.me.0 };
+
+    ghost invariant = { λ r. IsEnd 1 r.end.place.me };
+}
+
+impl<T, A: Allocator> Channel<T, A> {
+    /// Parts a sender in two, so that each of two threads has one.
+    ///
+    /// # Errors
+    ///
+    /// The sender, with its places and its share, where the queue has 2^31 parties or the channel [`MAX_ENDS`](crate::MAX_ENDS) senders, splits under way included.
+    pub fn split_sender(&self, sender: Sender<T>) -> Result<(Sender<T>, Sender<T>), Sender<T>>
+        requires { IsEndOf sender self.now }
+        ensures { MatchResult result (λ r. EndParts sender r.0 r.1) (λ s. GivenBack sender s) }
+    {
+        match split_end(&self.queue, &self.counts.shared, sender.end, SENDERS) {
+            Ok((one, two)) => Ok((Sender { end: one }, Sender { end: two })),
+            Err(end) => Err(Sender { end }),
+        }
+    }
+
+    /// Parts a receiver in two, so that each of two threads has one.
+    ///
+    /// # Errors
+    ///
+    /// The receiver, with its places and its share, where the queue has 2^31 parties or the channel [`MAX_ENDS`](crate::MAX_ENDS) receivers, splits under way included.
+    pub fn split_receiver(
+        &self,
+        receiver: Receiver<T>,
+    ) -> Result<(Receiver<T>, Receiver<T>), Receiver<T>>
+        requires { IsEndOf receiver self.now }
+        ensures { MatchResult result (λ r. EndParts receiver r.0 r.1) (λ r. GivenBack receiver r) }
+    {
+        match split_end(&self.queue, &self.counts.shared, receiver.end, RECEIVERS) {
+            Ok((one, two)) => Ok((Receiver { end: one }, Receiver { end: two })),
+            Err(end) => Err(Receiver { end }),
+        }
+    }
+
+    /// Makes one sender of two, as before a split. It is ended once.
+    pub fn join_senders(&self, first: Sender<T>, second: Sender<T>) -> Sender<T>
+        requires { IsEndOf first self.now × IsEndOf second self.now }
+        ensures { EndJoins first second result }
+    {
+        Sender {
+            end: join_ends(&self.queue, &self.counts.shared, first.end, second.end, SENDERS),
+        }
+    }
+
+    /// Makes one receiver of two, as before a split. It is ended once.
+    pub fn join_receivers(&self, first: Receiver<T>, second: Receiver<T>) -> Receiver<T>
+        requires { IsEndOf first self.now × IsEndOf second self.now }
+        ensures { EndJoins first second result }
+    {
+        Receiver {
+            end: join_ends(&self.queue, &self.counts.shared, first.end, second.end, RECEIVERS),
+        }
+    }
+
+    /// Appends `value`. It waits while the queue is full, and gives way to other threads between its tries.
+    ///
+    /// # Errors
+    ///
+    /// `Closed` with the value on a closed queue, `NoMemory` with the value where a block was asked for and refused: that changes nothing.
+    pub fn send<R: Wait>(
+        &self,
+        rt: &R,
+        sender: &mut Sender<T>,
+        value: T,
+    ) -> Result<(), SendError<T>>
+    where
+        A: NullTestable,
+        requires { IsEndOf sender.old self.now }
+        ensures { ChannelCall sender.old (call.Push value) (sent result) sender.new }
+    {
+        push_until(&self.queue, rt, &mut sender.end.party, value)
+    }
+
+    /// Appends `value` where there is room. It is one push.
+    ///
+    /// # Errors
+    ///
+    /// Those of a push, each with the value: `Full`, `Closed`, and `NoMemory` where a block was asked for and refused. None changes anything.
+    pub fn try_send<R: Wait>(
+        &self,
+        rt: &R,
+        sender: &mut Sender<T>,
+        value: T,
+    ) -> Result<(), PushError<T>>
+    where
+        A: NullTestable,
+        requires { IsEndOf sender.old self.now }
+        ensures { ChannelCall sender.old (call.Push value) (reply.Push result) sender.new }
+    {
+        self.queue.push(rt, &mut sender.end.party, value)
+    }
+
+    /// Appends `value`, and takes the front off and hands it out where the queue was full.
+    ///
+    /// # Errors
+    ///
+    /// `Closed` with the value on a closed queue, `NoMemory` with the value where a block was asked for and refused: that changes nothing.
+    pub fn force_send<R: Wait>(
+        &self,
+        rt: &R,
+        sender: &mut Sender<T>,
+        value: T,
+    ) -> Result<Option<T>, SendError<T>>
+    where
+        A: NullTestable,
+        requires { IsEndOf sender.old self.now }
+        ensures { ChannelCall sender.old (call.ForcePush value) (force_sent result) sender.new }
+    {
+        match self.queue.force_push(rt, &mut sender.end.party, value) {
+            Ok(old) => Ok(old),
+            Err(ForcePushError::Closed(back)) => Err(SendError::Closed(back)),
+            Err(ForcePushError::NoMemory(back)) => Err(SendError::NoMemory(back)),
+        }
+    }
+
+    /// Whether the queue is closed, so that nothing can be sent any more: the last end of either side has ended.
+    pub fn is_closed(&self, sender: &mut Sender<T>) -> bool
+        requires { IsEndOf sender.old self.now }
+        ensures { ChannelCall sender.old call.IsClosed (reply.IsClosed result) sender.new }
+    {
+        self.queue.is_closed(&mut sender.end.party)
+    }
+
+    /// Takes the front off. It waits while the queue is open and empty, and gives way to other threads between its tries.
+    ///
+    /// # Errors
+    ///
+    /// On a closed and empty queue.
+    pub fn recv<R: Wait>(&self, rt: &R, receiver: &mut Receiver<T>) -> Result<T, Disconnected>
+        requires { IsEndOf receiver.old self.now }
+        ensures { ChannelCall receiver.old call.Pop (received result) receiver.new }
+    {
+        pop_until(&self.queue, rt, &mut receiver.end.party)
+    }
+
+    /// Takes the front off where there is one. It is one pop.
+    ///
+    /// # Errors
+    ///
+    /// Those of a pop: `Empty`, and `Closed` on a closed and empty queue.
+    pub fn try_recv<R: Wait>(&self, rt: &R, receiver: &mut Receiver<T>) -> Result<T, PopError>
+        requires { IsEndOf receiver.old self.now }
+        ensures { ChannelCall receiver.old call.Pop (reply.Pop result) receiver.new }
+    {
+        self.queue.pop(rt, &mut receiver.end.party)
+    }
+
+    /// How many items were sent and not received.
+    pub fn len<R: Wait>(&self, rt: &R, receiver: &mut Receiver<T>) -> usize
+        requires { IsEndOf receiver.old self.now }
+        ensures { ChannelCall receiver.old call.Len (reply.Len result) receiver.new }
+    {
+        self.queue.len(rt, &mut receiver.end.party)
+    }
+
+    /// How many items the channel has room for, in items; nothing where it has no limit.
+    pub fn capacity(&self) -> Option<usize>
+        ensures { result ≡ self.now.queue.cap }
+    {
+        self.queue.capacity()
+    }
+
+    /// Ends a sender, and gives its party and whether it was the last. The last closes the queue.
+    pub fn end_sender(&self, sender: Sender<T>) -> (Party<T>, bool)
+        requires { IsEndOf sender self.now }
+        ensures party { Ends sender.party result.0 result.1 }
+        ensures last { IsEntire sender.stake → result.1 ≡ true }
+    {
+        end_one(&self.queue, &self.counts.shared, sender.end, SENDERS)
+    }
+
+    /// Ends a receiver, and gives its party and whether it was the last. The last closes the queue.
+    pub fn end_receiver(&self, receiver: Receiver<T>) -> (Party<T>, bool)
+        requires { IsEndOf receiver self.now }
+        ensures party { Ends receiver.party result.0 result.1 }
+        ensures last { IsEntire receiver.stake → result.1 ≡ true }
+    {
+        end_one(&self.queue, &self.counts.shared, receiver.end, RECEIVERS)
+    }
+
+    /// Makes one party of two that ends gave back, which has seen and done what both have.
+    pub fn join(&self, first: Party<T>, second: Party<T>) -> Party<T>
+        requires { IsPartyOf first self.now.queue × IsPartyOf second self.now.queue }
+        ensures { Joins first second result }
+    {
+        self.queue.join(first, second)
+    }
+
+    /// Ends the channel: the queue with its one owner, as it is after the whole history. It does so exactly where the party has all of the share.
+    ///
+    /// # Errors
+    ///
+    /// The channel and the party, both unchanged, where a party has not been joined back.
+    pub fn finish(self, party: Party<T>) -> Result<Exclusive<T, A>, (Self, Party<T>)>
+        requires { IsPartyOf party self.queue }
+        ensures { MatchResult result (λ e. Finishes party e) (λ r. (r.0 ≡ self) × (r.1 ≡ party) × ¬ (IsEntire party.view.share)) }
+    {
+        let Channel { queue, counts } = self;
+        match queue.finish(party) {
+            Ok(left) => Ok(left),
+            Err((queue, party)) => Err((Channel { queue, counts }, party)),
+        }
+    }
+}

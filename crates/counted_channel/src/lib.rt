@@ -1,0 +1,16 @@
+//! Channels over shared queues: they count their senders and their receivers, and the last of either side closes the queue.
+#![tactic(auto)]
+
+mod counting;
+mod ends;
+mod errors;
+mod items;
+mod opening;
+mod sides;
+mod tries;
+
+pub use counting::MAX_ENDS;
+pub use ends::{Channel, Receiver, Sender};
+pub use errors::{Disconnected, SendError};
+pub use items::Items;
+pub use opening::channel;

@@ -1,0 +1,46 @@
+//! How a queue becomes a channel.
+ghost use Rattle.std.specs.Prelude.{◌≡◌, MatchResult};
+ghost use Rattle.concurrent_queue.specs.Shared.{IsPartyOf};
+ghost use Rattle.counted_channel.specs.Channel.{Opens};
+
+use crate::counting::open;
+use crate::ends::{Channel, Receiver, Sender};
+use crate::sides::SideEnd;
+use concurrent_queue::{ConcurrentQueue, Party};
+use std::alloc::Allocator;
+
+/// A channel over this queue, with one sender and one receiver, which part the party between them. It asks for memory once, for the two counts.
+///
+/// # Errors
+///
+/// The queue and the party, both unchanged, where there is no memory for the counts, or where the queue has 2^31 parties, splits under way included.
+pub fn channel<T, A: Allocator>(
+    alloc: A,
+    queue: ConcurrentQueue<T, A>,
+    party: Party<T>,
+) -> Result<(Channel<T, A>, Sender<T>, Receiver<T>), (ConcurrentQueue<T, A>, Party<T>)>
+    requires { IsPartyOf party queue }
+    ensures { MatchResult result (λ r. Opens queue party r.0 r.1 r.2) (λ r. (r.0 ≡ queue) × (r.1 ≡ party)) }
+{
+    let Ok((counts, sending, receiving)) = open(alloc) else {
+        return Err((queue, party));
+    };
+    match queue.split(party) {
+        Ok((first, second)) => {
+            let sender = Sender {
+                end: SideEnd {
+                    party: first,
+                    place: sending,
+                },
+            };
+            let receiver = Receiver {
+                end: SideEnd {
+                    party: second,
+                    place: receiving,
+                },
+            };
+            Ok((Channel { queue, counts }, sender, receiver))
+        }
+        Err(party) => Err((queue, party)),
+    }
+}
