@@ -142,16 +142,10 @@ module _ {T : Type 0} where
   pub sees_closed : (v w : Person T) (closed : Bool) → Calls v call.Close (reply.Close closed) w → (after w.queue.cap w.view.seen).closed ≡ true
   sees_closed v w closed called = subst (λ (q : QueueId). (after q.cap w.view.seen).closed ≡ true) (sym called.0) (sees_closed_at v.queue.cap v.view w.view closed called.1)
 
-  -- an end that was the last, and one that was not
-  pub ended_last : (v w x : Person T) (last : Bool) → x ≡ w → last ≡ true → (closed : Bool) → Calls v call.Close (reply.Close closed) w → Ends v x last
-  ended_last v w x true is last closed called =
-      let theirs : Calls v call.Close (reply.Close closed) x = subst (λ (p : Person T). Calls v call.Close (reply.Close closed) p) (sym is) called in
-      ((closed, theirs), sees_closed v x closed theirs)
-  ended_last v w x false is last closed called = cc
-
-  pub ended_else : (v w : Person T) (last : Bool) → last ≡ false → w ≡ v → Ends v w last
-  ended_else v w true is same = cc
-  ended_else v w false is same = same
+  -- the last end of a side has closed the queue
+  pub ended_last : (v w : Person T) (last : Bool) → last ≡ true → (closed : Bool) → Calls v call.Close (reply.Close closed) w → Ends v w last
+  ended_last v w true is closed called = ((closed, called), sees_closed v w closed called)
+  ended_last v w false is closed called = cc
 
   -- refusals
   pub full_is_refused : (v w : T) → IsRefused (call.Push v) (reply.Push (Err (push.Full w)))

@@ -1,5 +1,5 @@
 -- A channel over a shared queue: which calls of the queue its calls are.
-use Rattle.std.specs.Prelude.{◌≡◌, ℕ, Bool, true, false, Result, Ok, Err, Option}
+use Rattle.std.specs.Prelude.{◌≡◌, ℕ, Bool, true, false, Result, Ok, Err, Option, Some, None}
 use mathlib.Core.List.{IsPrefix}
 use Rattle.atomic_table.specs.Seated.{TableId}
 use Rattle.queue_steps.specs.declared.model.Call.{Call}
@@ -51,6 +51,15 @@ force_sent (Err (send.NoMemory v)) = reply.ForcePush (Err (force.NoMemory v))
 abbrev pub received : {T : Type 0} → Result T Disconnected → Reply T
 received (Ok x) = reply.Pop (Ok x)
 received (Err why) = reply.Pop (Err pop.Closed)
+
+-- those of one try, which may find the queue full, or open and empty
+abbrev pub sent_or_full : {T : Type 0} → Result (Result (Unit {0}) (SendError T)) T → Reply T
+sent_or_full (Ok answer) = sent answer
+sent_or_full (Err v) = reply.Push (Err (push.Full v))
+
+abbrev pub received_or_empty : {T : Type 0} → Option (Result T Disconnected) → Reply T
+received_or_empty (Some answer) = received answer
+received_or_empty None = reply.Pop (Err pop.Empty)
 
 -- the end d becomes e by one call of the queue, however often it was tried
 abbrev pub ChannelCall : {T : Type 0} → End T → Call T → Reply T → End T → Type 0

@@ -89,8 +89,16 @@ pub(crate) fn end_one<T, A: Allocator>(
 {
     let SideEnd { mut party, place } = end;
     let last = leave(words, place, word);
-    if last {
-        queue.close(&mut party);
-    }
+    close_after(queue, &mut party, last);
     (party, last)
+}
+
+/// Closes the queue where the end that has ended was the last of its side.
+fn close_after<T, A: Allocator>(queue: &ConcurrentQueue<T, A>, party: &mut Party<T>, last: bool)
+    requires { IsPartyOf party.old queue.now }
+    ensures { Ends party.old party.new last }
+{
+    if last {
+        queue.close(party);
+    }
 }

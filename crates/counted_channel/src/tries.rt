@@ -1,10 +1,9 @@
 //! Calls of the queue that are tried again: to the party they are one call.
 ghost use Rattle.queue_steps.specs.declared.model.Call.TheVariants as call;
 ghost use Rattle.concurrent_queue.specs.Shared.{IsPartyOf, Calls};
-ghost use Rattle.counted_channel.specs.Channel.{sent, received};
+ghost use Rattle.counted_channel.specs.Channel.{sent, received, sent_or_full, received_or_empty};
 
 use crate::errors::{Disconnected, SendError};
-
 use concurrent_queue::{ConcurrentQueue, NullTestable, Party, PopError, PushError};
 use std::alloc::Allocator;
 use std::sync::Wait;
@@ -26,15 +25,31 @@ pub(crate) fn push_until<T, A: NullTestable, R: Wait>(
 {
     let mut value = value;
     for _ in rt.forever() {
-        match queue.push(rt, party, value) {
-            Ok(()) => return Ok(()),
-            Err(PushError::Closed(back)) => return Err(SendError::Closed(back)),
-            Err(PushError::NoMemory(back)) => return Err(SendError::NoMemory(back)),
-            Err(PushError::Full(back)) => value = back,
+        match push_once(queue, rt, party, value) {
+            Ok(answer) => return answer,
+            Err(back) => value = back,
         }
         yield_now();
     }
     unreachable!()
+}
+
+/// Pushes `value`, or gives it back where the queue is full.
+fn push_once<T, A: NullTestable, R: Wait>(
+    queue: &ConcurrentQueue<T, A>,
+    rt: &R,
+    party: &mut Party<T>,
+    value: T,
+) -> Result<Result<(), SendError<T>>, T>
+    requires { IsPartyOf party.old queue.now }
+    ensures { Calls party.old (call.Push value) (sent_or_full result) party.new }
+{
+    match queue.push(rt, party, value) {
+        Ok(()) => Ok(Ok(())),
+        Err(PushError::Closed(back)) => Ok(Err(SendError::Closed(back))),
+        Err(PushError::NoMemory(back)) => Ok(Err(SendError::NoMemory(back))),
+        Err(PushError::Full(back)) => Err(back),
+    }
 }
 
 /// Pops, again and again while the queue is open and empty.
@@ -51,11 +66,26 @@ pub(crate) fn pop_until<T, A: Allocator, R: Wait>(
     ensures { Calls party.old call.Pop (received result) party.new }
 {
     for _ in rt.forever() {
-        match queue.pop(rt, party) {
-            Ok(item) => return Ok(item),
-            Err(PopError::Closed) => return Err(Disconnected),
-            Err(PopError::Empty) => yield_now(),
+        match pop_once(queue, rt, party) {
+            Some(answer) => return answer,
+            None => yield_now(),
         }
     }
     unreachable!()
+}
+
+/// Pops, or gives nothing where the queue is open and empty.
+fn pop_once<T, A: Allocator, R: Wait>(
+    queue: &ConcurrentQueue<T, A>,
+    rt: &R,
+    party: &mut Party<T>,
+) -> Option<Result<T, Disconnected>>
+    requires { IsPartyOf party.old queue.now }
+    ensures { Calls party.old call.Pop (received_or_empty result) party.new }
+{
+    match queue.pop(rt, party) {
+        Ok(item) => Some(Ok(item)),
+        Err(PopError::Closed) => Some(Err(Disconnected)),
+        Err(PopError::Empty) => None,
+    }
 }
