@@ -1,22 +1,17 @@
 -- Each step on a channel's words keeps their rule.
-use Rattle.std.proofs.Common.{◌≡◌, ◌≢◌, ◌⊎◌, ℕ, zero, suc, ◌+◌, ◌-◌, ◌*◌, ◌%◌, ◌^◌, ◌<◌, ◌≤◌, List, [], ◌∷◌, ◌++◌, set, slice_index, slice_set, refl, ap, sym, ◌∙◌, subst, inl, inr, ⊎_elim, arith, mod-eq_of_lt}
+use Rattle.std.proofs.Common.{◌≡◌, ◌⊎◌, ℕ, zero, suc, ◌+◌, ◌-◌, ◌*◌, ◌%◌, ◌^◌, ◌<◌, ◌≤◌, List, [], ◌∷◌, ◌++◌, set, slice_index, slice_set, refl, ap, sym, ◌∙◌, subst, inl, inr, ⊎_elim, arith, mod-eq_of_lt}
 use mathlib.Core.Logic.{dite}
 use mathlib.Core.Option.{none, some, some-injective, some-ne-none}
 use lib.ListN.{get_elem?}
 use native.Mathlib.Decide.{dec_le}
 use native.Mathlib.Nat.{add-mod_right}
-use Rattle.std.proofs.Common.{mul-le-mul_right}
-use Rattle.std.proofs.lemmas.Nat.{pow-add}
-use Rattle.std.proofs.Math.Nat.{zero-mul, add-mul, eq-zero-or-pos}
 use Rattle.atomic_table.specs.Table.{Act, keeps, step, stepped, carried_after, Valid, Allows, Splits, Joins}
-use Rattle.atomic_table.proofs.Lists.{at_set, at_snoc, set_else}
 use Rattle.queue_steps.specs.Shares.{Share, entire, nothing, half, plus, IsEntire, IsSome, weight}
-use Rattle.queue_steps.proofs.ShareLaws.{weight_deeper, weight_plus, weight_halves, weight_none, weight_some, weight_entire, plus_comm, plus_some}
+use Rattle.queue_steps.proofs.ShareLaws.{weight_halves, weight_none}
 use Rattle.counted_channel.specs.declared.counting.Side.{Side}
 use Rattle.counted_channel.specs.declared.counting.Standing.{Standing}
 use Rattle.counted_channel.specs.declared.counting.TheConstants.{MAX_ENDS}
-use Rattle.counted_channel.specs.Counting.{side, nobody, both, at_side, side_at, stake_at, halved, together, two_seats, both_sides, first_sender, first_receiver, total, SideKept, Table, Seated, IsCounted, IsEnd, Added, Subtracted}
-
+use Rattle.counted_channel.specs.Counting.{side, nobody, both, at_side, side_at, stake_at, halved, two_seats, both_sides, first_sender, first_receiver, SideKept, Table, Seated, IsCounted, IsEnd, Added, Subtracted}
 use Rattle.counted_channel.proofs.OneSide.{total_at, ends, extra, stake, heft, changes, stays, divides, unites, few, lone}
 
 up : (n : ℕ) → n ≤ 2 * MAX_ENDS → (n + 1) % 2 ^ 64 ≡ n + 1

@@ -1,21 +1,17 @@
 -- What a side's word tells of the seats that count for its ends.
-use Rattle.std.proofs.Common.{◌≡◌, ◌≢◌, ◌⊎◌, ℕ, zero, suc, ◌+◌, ◌-◌, ◌*◌, ◌%◌, ◌^◌, ◌<◌, ◌≤◌, List, [], ◌∷◌, ◌++◌, set, slice_index, slice_set, refl, ap, sym, ◌∙◌, subst, inl, inr, ⊎_elim, arith, mod-eq_of_lt}
-use mathlib.Core.Logic.{dite}
-use mathlib.Core.Option.{none, some, some-injective, some-ne-none}
+use Rattle.std.proofs.Common.{◌≡◌, ◌≢◌, ◌⊎◌, ℕ, zero, suc, ◌+◌, ◌*◌, ◌^◌, ◌<◌, ◌≤◌, List, [], ◌∷◌, ◌++◌, set, refl, ap, sym, ◌∙◌, subst, inl, ⊎_elim, arith}
+use mathlib.Core.Option.{some, some-injective, some-ne-none}
 use lib.ListN.{get_elem?}
-use native.Mathlib.Decide.{dec_le}
-use native.Mathlib.Nat.{add-mod_right}
 use Rattle.std.proofs.Common.{mul-le-mul_right}
 use Rattle.std.proofs.lemmas.Nat.{pow-add}
 use Rattle.std.proofs.Math.Nat.{zero-mul, add-mul, eq-zero-or-pos}
-use Rattle.atomic_table.specs.Table.{Act, keeps, step, stepped, carried_after, Valid, Allows, Splits, Joins}
 use Rattle.atomic_table.proofs.Lists.{at_set, at_snoc, set_else}
-use Rattle.queue_steps.specs.Shares.{Share, entire, nothing, half, plus, IsEntire, IsSome, weight}
-use Rattle.queue_steps.proofs.ShareLaws.{weight_deeper, weight_plus, weight_halves, weight_none, weight_some, weight_entire, plus_comm, plus_some}
+use Rattle.queue_steps.specs.Shares.{Share, nothing, plus, IsEntire, IsSome, weight}
+use Rattle.queue_steps.proofs.ShareLaws.{weight_deeper, weight_plus, weight_none, weight_some, weight_entire, plus_comm, plus_some}
 use Rattle.counted_channel.specs.declared.counting.Side.{Side}
 use Rattle.counted_channel.specs.declared.counting.Standing.{Standing}
 use Rattle.counted_channel.specs.declared.counting.TheConstants.{MAX_ENDS}
-use Rattle.counted_channel.specs.Counting.{side, nobody, both, at_side, side_at, stake_at, halved, together, two_seats, both_sides, first_sender, first_receiver, total, SideKept, Table, Seated, IsCounted, IsEnd, Added, Subtracted}
+use Rattle.counted_channel.specs.Counting.{nobody, together, total, SideKept}
 
 module _ (f : Standing → ℕ) where
   total_set : (l : List Standing) (i : ℕ) (a b : Standing) → get_elem? l i ≡ some a → total f (set l i b) + f a ≡ total f l + f b
@@ -197,4 +193,3 @@ module _ (of : Standing → Side) where
       poor : (j : ℕ) (u : Standing) → get_elem? vs j ≡ some u → heft k.depth u ≡ 0 → ends u ≡ 0
       poor j u there nil =
           ⊎_elim (λ (z : ends u ≡ 0). z) (λ (pos : 0 < ends u). let h = weight_some k.depth (stake u) (k.has_stake j u there pos) in absurd (omega (arith, nil, h))) (eq-zero-or-pos (ends u))
-

@@ -115,7 +115,13 @@ impl<T, A: Allocator> Channel<T, A> {
         ensures { EndJoins first second result }
     {
         Sender {
-            end: join_ends(&self.queue, &self.counts.shared, first.end, second.end, SENDERS),
+            end: join_ends(
+                &self.queue,
+                &self.counts.shared,
+                first.end,
+                second.end,
+                SENDERS,
+            ),
         }
     }
 
@@ -125,7 +131,13 @@ impl<T, A: Allocator> Channel<T, A> {
         ensures { EndJoins first second result }
     {
         Receiver {
-            end: join_ends(&self.queue, &self.counts.shared, first.end, second.end, RECEIVERS),
+            end: join_ends(
+                &self.queue,
+                &self.counts.shared,
+                first.end,
+                second.end,
+                RECEIVERS,
+            ),
         }
     }
 

@@ -1,4 +1,4 @@
-use Rattle.std.proofs.Common.{rules, arith, ap}
+use Rattle.std.proofs.Common.{rules, ap}
 use Rattle.counted_channel.specs.Counting.{stake_at}
 use Rattle.counted_channel.proofs.Counts.{splits}
 use Rattle.counted_channel.proofs.counting.part.Goals as goal
