@@ -4,6 +4,8 @@
 #[cfg(test)]
 mod crew;
 #[cfg(test)]
+mod meanwhile;
+#[cfg(test)]
 mod program;
 #[cfg(test)]
 mod refusals;

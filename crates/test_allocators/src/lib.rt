@@ -77,6 +77,8 @@ struct Hold {
     next: AtomicBool,
     /// Whether one was.
     held: AtomicBool,
+    /// Whether each other request lets it go.
+    by_another: AtomicBool,
     let_go: AtomicBool,
     /// Whether it was let go while it was held.
     in_time: AtomicBool,
@@ -88,17 +90,20 @@ impl Hold {
         Hold {
             next: AtomicBool::new(false),
             held: AtomicBool::new(false),
+            by_another: AtomicBool::new(false),
             let_go: AtomicBool::new(false),
             in_time: AtomicBool::new(false),
         }
     }
 
-    /// Lets a request pass, or holds it until it is let go, though not for ever.
+    /// Lets a request pass, or holds it until it is let go, though not for ever. One that passes lets the held one go where each other request does.
     fn pass(&self) {
         if self.next.swap(false, Ordering::SeqCst) {
             self.held.store(true, Ordering::SeqCst);
             let in_time = wait_for(&self.let_go);
             self.in_time.store(in_time, Ordering::SeqCst);
+        } else if self.by_another.load(Ordering::SeqCst) {
+            self.let_go.store(true, Ordering::SeqCst);
         }
     }
 }
@@ -200,6 +205,12 @@ impl<B: Allocator> Refusing<B> {
     /// The next request is held until another thread lets it go, though not for ever.
     pub fn hold_next(&self) {
         self.tally.hold.next.store(true, Ordering::SeqCst);
+    }
+
+    /// The next request is held until another one is made, which only another thread can make meanwhile, though not for ever.
+    pub fn hold_until_another(&self) {
+        self.hold_next();
+        self.tally.hold.by_another.store(true, Ordering::SeqCst);
     }
 
     /// Waits until a request is held, though not for ever. Gives whether one is.
