@@ -148,6 +148,7 @@ pub fn hand_through<R: Wait>(rt: &R, alloc: Global, value: u64) -> Result<Handed
 /// The only sender, ended after it was parted and joined again: it is the last of its side. Gives its party.
 pub fn end_rejoined(channel: &Channel<u64>, sender: Sender<u64>) -> Party<u64>
     requires { IsEndOf sender channel.now × (sender.stake ≡ entire) }
+    ensures { IsPartyOf result channel.now.queue }
 {
     let sender = match channel.split_sender(sender) {
         Ok((one, two)) => channel.join_senders(one, two),

@@ -35,7 +35,8 @@ fn refused<R: Wait>(rt: &R, alloc: Global, refusal: Refusal) -> Result<Seen, All
 #[test]
 fn a_refused_channel_gives_its_queue_back(rt: HostRuntime) -> Result<(), Fail> {
     assert!(rt; refused(&rt, rt.alloc(), Refusal::Nth(1))? == (false, Some(1), true, 1, 0));
-    assert!(rt; refused(&rt, rt.alloc(), Refusal::Never)? == (true, None, false, 1, 0));
+    assert!(rt; refused(&rt, rt.alloc(), Refusal::Nth(2))? == (false, Some(1), true, 2, 0));
+    assert!(rt; refused(&rt, rt.alloc(), Refusal::Never)? == (true, None, false, 2, 0));
     Ok(())
 }
 

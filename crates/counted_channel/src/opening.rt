@@ -9,7 +9,7 @@ use crate::sides::SideEnd;
 use concurrent_queue::{ConcurrentQueue, Party};
 use std::alloc::Allocator;
 
-/// A channel over this queue, with one sender and one receiver, which part the party between them. It asks for memory once, for the two counts.
+/// A channel over this queue, with one sender and one receiver, which part the party between them. It asks for memory for the two counts.
 ///
 /// # Errors
 ///
