@@ -22,7 +22,7 @@ pub const UNLOCKED: u64 = u64::MAX - LOCKED;
 pub const UNPUSHED: u64 = u64::MAX - PUSHED;
 
 /// Where a call on one slot stands. A number is what its exchange expects to find.
-#[derive(Clone, Copy)]
+#[derive(Clone, Copy, PartialEq, Eq, Hash)]
 pub enum SingleLocal {
     /// P1: the exchange of a push.
     Pushing,
