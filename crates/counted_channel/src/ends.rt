@@ -2,6 +2,7 @@
 ghost use Rattle.std.specs.Prelude.{◌≡◌, true, MatchResult};
 ghost use Rattle.queue_steps.specs.declared.model.Call.TheVariants as call;
 ghost use Rattle.queue_steps.specs.declared.model.Reply.TheVariants as reply;
+ghost use Rattle.queue_steps.specs.Parties.{IsView};
 ghost use Rattle.queue_steps.specs.Shares.{IsEntire};
 ghost use Rattle.concurrent_queue.specs.Shared.{IsPartyOf, Joins, Finishes};
 ghost use Rattle.counted_channel.specs.Channel.{IsEndOf, ChannelCall, EndParts, EndJoins, Ends, GivenBack, sent, force_sent, received};
@@ -73,6 +74,24 @@ impl<T> Model for Receiver<T> {
     ghost view = { λ r. end_at 1 r.end.party r.end.place.table_id r.end.place.me.0 };
 
     ghost invariant = { λ r. IsEnd 1 r.end.place.me };
+}
+
+impl<T> Sender<T> {
+    /// Does nothing. Its contract tells of the sender's party what `Party::show_view` tells of every party.
+    pub fn show_view(&self)
+        ensures { IsView self.now.party.queue.cap self.now.party.view }
+    {
+        self.end.party.show_view();
+    }
+}
+
+impl<T> Receiver<T> {
+    /// Does nothing. Its contract tells of the receiver's party what `Party::show_view` tells of every party.
+    pub fn show_view(&self)
+        ensures { IsView self.now.party.queue.cap self.now.party.view }
+    {
+        self.end.party.show_view();
+    }
 }
 
 impl<T, A: Allocator> Channel<T, A> {

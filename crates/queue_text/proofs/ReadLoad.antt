@@ -1,9 +1,9 @@
 -- A load of threads is read back.
-use Rattle.std.proofs.Common.{◌≡◌, ◌≢◌, ℕ, ◌*◌, ◌%◌, List, [], ◌∷◌, get_or, ap, subst, sym, ◌∙◌, arith}
+use Rattle.std.proofs.Common.{◌≡◌, ◌≢◌, ℕ, ◌*◌, ◌%◌, List, [], get_or, ap, subst, sym, ◌∙◌, arith}
 use Rattle.std.specs.Fmt.{decimal}
 use Rattle.std.proofs.lemmas.Fmt.{decimal_injective}
 use Rattle.queue_text.specs.Reading.{IsWord}
-use Rattle.queue_text.specs.KindNames.{IsThreadCount, IsItemCount, IsLoad, load_words}
+use Rattle.queue_text.specs.KindNames.{IsThreadCount, IsItemCount, IsLoad, IsEvenLoad, load_words}
 use Rattle.queue_text.specs.declared.load.Load.{Load}
 
 -- digits spell no number of this sort if the number that they spell is not of it
@@ -18,11 +18,10 @@ thread_word n is = omega (arith, is)
 pub item_word : (n : ℕ) → IsItemCount n → IsWord n
 item_word n is = omega (arith, is)
 
--- words spell no load if the poppers cannot share evenly what the words name
-pub uneven : (p q n : ℕ) (kind ps qs ns : List ℕ) → IsThreadCount p × (decimal p ≡ ps) → IsThreadCount q × (decimal q ≡ qs) → IsItemCount n × (decimal n ≡ ns) → p * n % q ≢ 0 → (l : Load) → IsLoad l → load_words l ≢ kind ∷ ps ∷ qs ∷ ns ∷ []
-uneven p q n kind ps qs ns hp hq hn odd l is same =
-    let e : l.pushers ≡ p = decimal_injective l.pushers p (thread_word _ is.1) (thread_word _ hp.0) (ap (λ ws. get_or ws 1 []) same ∙ sym hp.1) in
-    let f : l.poppers ≡ q = decimal_injective l.poppers q (thread_word _ is.2) (thread_word _ hq.0) (ap (λ ws. get_or ws 2 []) same ∙ sym hq.1) in
-    let g : l.items ≡ n = decimal_injective l.items n (item_word _ is.3) (item_word _ hn.0) (ap (λ ws. get_or ws 3 []) same ∙ sym hn.1) in
-    let even : l.pushers * l.items % l.poppers ≡ 0 = is.4 in
-    odd (rw e at (rw f at (rw g at even)))
+-- words that spell a load spell no even one if its poppers cannot share evenly
+pub uneven : (read : Load) → IsLoad read → read.pushers * read.items % read.poppers ≢ 0 → (l : Load) → IsEvenLoad l → load_words l ≢ load_words read
+uneven read is odd l even same =
+    let e : l.pushers ≡ read.pushers = decimal_injective l.pushers read.pushers (thread_word _ even.0.1) (thread_word _ is.1) (ap (λ ws. get_or ws 1 []) same) in
+    let f : l.poppers ≡ read.poppers = decimal_injective l.poppers read.poppers (thread_word _ even.0.2) (thread_word _ is.2) (ap (λ ws. get_or ws 2 []) same) in
+    let g : l.items ≡ read.items = decimal_injective l.items read.items (item_word _ even.0.3) (item_word _ is.3) (ap (λ ws. get_or ws 3 []) same) in
+    odd (rw e at (rw f at (rw g at even.1)))

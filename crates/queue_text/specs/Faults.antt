@@ -5,7 +5,7 @@ use Rattle.queue_text.specs.declared.faults.Fault.{Fault}
 use Rattle.queue_text.specs.declared.faults.Fault.TheVariants as fault
 
 abbrev pub fault_text : Fault → List ℕ
-fault_text fault.Usage = codes "usage: queue_run script KIND | replay KIND PARTIES | threads KIND PUSHERS POPPERS ITEMS | handshake"
+fault_text fault.Usage = codes "usage: queue_run script KIND | replay KIND PARTIES | threads KIND PUSHERS POPPERS ITEMS | handshake | channel KIND SENDERS RECEIVERS ITEMS"
 fault_text (fault.Unreadable n) = codes "line " ++ decimal n ++ codes ": unreadable"
 fault_text fault.NoMemory = codes "no memory"
 fault_text fault.InputFailed = codes "input failed"

@@ -31,9 +31,12 @@ IsThreadCount count = (0 < count) × (count ≤ MOST_THREADS)
 abbrev pub IsItemCount : ℕ → Type 0
 IsItemCount count = count ≤ MOST_ITEMS
 
--- the poppers share the items evenly
 abbrev pub IsLoad : Load → Type 0
-IsLoad l = IsKindName l.kind × IsThreadCount l.pushers × IsThreadCount l.poppers × IsItemCount l.items × (l.pushers * l.items % l.poppers ≡ 0)
+IsLoad l = IsKindName l.kind × IsThreadCount l.pushers × IsThreadCount l.poppers × IsItemCount l.items
+
+-- the poppers share the items evenly
+abbrev pub IsEvenLoad : Load → Type 0
+IsEvenLoad l = IsLoad l × (l.pushers * l.items % l.poppers ≡ 0)
 
 abbrev pub load_words : Load → List (List ℕ)
 load_words l = kind_text l.kind ∷ decimal l.pushers ∷ decimal l.poppers ∷ decimal l.items ∷ []
@@ -43,6 +46,7 @@ form_words (form.Script k) = codes "script" ∷ kind_text k ∷ []
 form_words (form.Replay k parties) = codes "replay" ∷ kind_text k ∷ decimal parties ∷ []
 form_words (form.Threads l) = codes "threads" ∷ load_words l
 form_words form.Handshake = codes "handshake" ∷ []
+form_words (form.Channel l) = codes "channel" ∷ load_words l
 
 -- a replay has 1 to 64 parties
 abbrev pub IsPartyCount : ℕ → Type 0
@@ -51,8 +55,9 @@ IsPartyCount parties = (0 < parties) × (parties ≤ MOST_PARTIES)
 abbrev pub IsForm : Form → Type 0
 IsForm (form.Script k) = IsKindName k
 IsForm (form.Replay k parties) = IsKindName k × IsPartyCount parties
-IsForm (form.Threads l) = IsLoad l
+IsForm (form.Threads l) = IsEvenLoad l
 IsForm form.Handshake = Unit {0}
+IsForm (form.Channel l) = IsLoad l
 
 -- the kind of queue that the name asks for
 abbrev pub kind_named : KindName → Kind

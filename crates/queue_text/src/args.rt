@@ -4,7 +4,7 @@ ghost use Rattle.std.specs.Fmt.{decimal};
 ghost use Rattle.queue_text.specs.Reading.{IsReading};
 ghost use Rattle.queue_text.specs.KindNames.{kind_text, IsKindName, form_words, IsForm, IsPartyCount};
 
-use crate::load::{Load, parse_load};
+use crate::load::{Load, parse_even_load, parse_load};
 use crate::numbers::parse_number;
 
 /// The most parties that a replay may have.
@@ -32,6 +32,8 @@ pub enum Form {
     Threads(Load),
     /// Lets two threads hand an item to each other.
     Handshake,
+    /// Lets threads send and receive through a channel, and counts what comes.
+    Channel(Load),
 }
 
 /// The form that the arguments name.
@@ -42,7 +44,7 @@ pub fn parse_form(args: &[String]) -> Option<Form>
         [form] => handshake_form(form.as_str()),
         [form, kind] => script_form(form.as_str(), kind.as_str()),
         [form, kind, parties] => replay_form(form.as_str(), kind.as_str(), parties.as_str()),
-        [form, kind, pushers, poppers, items] => threads_form(
+        [form, kind, pushers, poppers, items] => load_form(
             form.as_str(),
             kind.as_str(),
             pushers.as_str(),
@@ -97,13 +99,16 @@ fn parse_parties(text: &str) -> Option<usize>
 }
 
 // The form that these five words name.
-fn threads_form(form: &str, kind: &str, pushers: &str, poppers: &str, items: &str) -> Option<Form>
+fn load_form(form: &str, kind: &str, pushers: &str, poppers: &str, items: &str) -> Option<Form>
     ensures { IsReading IsForm form_words (form.now ∷ kind.now ∷ pushers.now ∷ poppers.now ∷ items.now ∷ []) result }
 {
-    if form != "threads" {
-        return None;
+    match form {
+        "threads" => Some(Form::Threads(parse_even_load(
+            kind, pushers, poppers, items,
+        )?)),
+        "channel" => Some(Form::Channel(parse_load(kind, pushers, poppers, items)?)),
+        _ => None,
     }
-    Some(Form::Threads(parse_load(kind, pushers, poppers, items)?))
 }
 
 /// The kind that this text names.

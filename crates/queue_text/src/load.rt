@@ -1,8 +1,8 @@
-//! What the form `threads` is asked for.
+//! What the forms `threads` and `channel` are asked for.
 ghost use Rattle.std.specs.Prelude.{[], ◌∷◌};
 ghost use Rattle.std.specs.Fmt.{decimal};
 ghost use Rattle.queue_text.specs.Reading.{IsReading};
-ghost use Rattle.queue_text.specs.KindNames.{IsThreadCount, IsItemCount, IsLoad, load_words};
+ghost use Rattle.queue_text.specs.KindNames.{IsThreadCount, IsItemCount, IsLoad, IsEvenLoad, load_words};
 
 use crate::args::{KindName, parse_kind};
 use crate::numbers::parse_number;
@@ -24,7 +24,18 @@ pub struct Load {
     pub items: u64,
 }
 
-/// The load that these four words name. Each popper has to get as many items as the others.
+/// The load that these four words name, of which each popper has to get as many items as the others.
+pub fn parse_even_load(kind: &str, pushers: &str, poppers: &str, items: &str) -> Option<Load>
+    ensures { IsReading IsEvenLoad load_words (kind.now ∷ pushers.now ∷ poppers.now ∷ items.now ∷ []) result }
+{
+    let load = parse_load(kind, pushers, poppers, items)?;
+    if load.pushers * load.items % load.poppers != 0 {
+        return None;
+    }
+    Some(load)
+}
+
+/// The load that these four words name.
 pub fn parse_load(kind: &str, pushers: &str, poppers: &str, items: &str) -> Option<Load>
     ensures { IsReading IsLoad load_words (kind.now ∷ pushers.now ∷ poppers.now ∷ items.now ∷ []) result }
 {
@@ -32,9 +43,6 @@ pub fn parse_load(kind: &str, pushers: &str, poppers: &str, items: &str) -> Opti
     let pushers = parse_thread_count(pushers)?;
     let poppers = parse_thread_count(poppers)?;
     let items = parse_item_count(items)?;
-    if pushers * items % poppers != 0 {
-        return None;
-    }
     Some(Load {
         kind,
         pushers,

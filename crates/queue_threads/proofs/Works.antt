@@ -24,12 +24,12 @@ use Rattle.queue_steps.specs.Effect.{Runs, IsHistory, made, after_from, after}
 use Rattle.queue_steps.specs.Replies.{Allows}
 use Rattle.queue_steps.specs.Shares.{Share, entire, half, plus, SamePart, IsEntire}
 use Rattle.queue_steps.specs.Parties.{IsView, StandAt, Between}
-use Rattle.queue_steps.proofs.ShareLaws.{same_refl, halves_joined}
+use Rattle.queue_steps.proofs.ShareLaws.{same_refl, same_trans, plus_same, halves_joined}
 use Rattle.queue_steps.proofs.Keeping.{stays_closed}
 use Rattle.concurrent_queue.specs.Shared.{QueueId, Person, Calls, Parts, Joins}
 use Rattle.queue_threads.specs.Counts.{counted, EachSumFits, AreSums}
 use Rattle.party_doings.specs.Doings.{passes, is_take, takes, Acts, SawClosed}
-use Rattle.queue_threads.specs.Works.{Quits, IsWork}
+use Rattle.queue_threads.specs.Works.{Quits, IsWork, IsWorkOf}
 use Rattle.queue_threads.specs.Meetings.{AreHandsOf, AreThreeParts, Unites, IsShaken, IsMeeting}
 use Rattle.queue_threads.specs.declared.handshake.Hands.{Hands}
 use Rattle.queue_threads.specs.declared.handshake.Shaken.{Shaken}
@@ -161,20 +161,24 @@ few_more most value old new is few =
 pub quit_work : (q : QueueId) (items most : ℕ) (v u : Person ℕ) (work : Work) → v.queue ≡ q → u.queue ≡ v.queue → ((x : ℕ) → x < items → takes x u.view ≡ takes x v.view + get_or work.counts.items x 0)
     → All (λ count. count ≤ most) work.counts.items → Quits u work.party → work.done ≡ false → IsWork q items most v work
 quit_work q items most v u work of same taken few quits not_done = record {
-  queue = quits.queue ∙ (same ∙ of);
-  taken = λ x lt. quits.taken x ∙ taken x lt;
-  few = few;
-  share = λ done. absurd (true≢false (sym done ∙ not_done));
+  work = record {
+    queue = quits.queue ∙ (same ∙ of);
+    taken = λ x lt. quits.taken x ∙ taken x lt;
+    few = few;
+    share = λ done. absurd (true≢false (sym done ∙ not_done));
+  };
   closed = λ _. quits.closed;
 }
 
 pub done_work : (q : QueueId) (items most : ℕ) (v : Person ℕ) (work : Work) → v.queue ≡ q → work.party.queue ≡ v.queue → ((x : ℕ) → x < items → takes x work.party.view ≡ takes x v.view + get_or work.counts.items x 0)
     → All (λ count. count ≤ most) work.counts.items → work.party.view.share ≡ v.view.share → work.done ≡ true → IsWork q items most v work
 done_work q items most v work of same taken few share done = record {
-  queue = same ∙ of;
-  taken = taken;
-  few = few;
-  share = λ _. subst {A = Share} (SamePart work.party.view.share) share (same_refl work.party.view.share);
+  work = record {
+    queue = same ∙ of;
+    taken = taken;
+    few = few;
+    share = λ _. subst {A = Share} (SamePart work.party.view.share) share (same_refl work.party.view.share);
+  };
   closed = λ not_done. absurd (true≢false (sym done ∙ not_done));
 }
 
@@ -203,26 +207,56 @@ shares_left threads number share lt =
 pub shares_low : (threads number share : ℕ) → (threads - number) * share ≤ threads * share
 shares_low threads number share = mul-le-mul_right share (let le : threads - number ≤ threads = omega arith in le)
 
--- the works of two halves of a party, joined
-pub joined_work : (q : QueueId) (items low high most : ℕ) (v a b : Person ℕ) (ours theirs work : Work) → v.queue ≡ q → IsView v.queue.cap v.view → Parts v a b
-    → IsWork q items low a ours → IsWork q items high b theirs → IsView ours.party.queue.cap ours.party.view → IsView theirs.party.queue.cap theirs.party.view
+-- one party of two took what they took
+pub takes_both : (q : QueueId) (a b w : Person ℕ) → a.queue ≡ q → b.queue ≡ q → IsView a.queue.cap a.view → IsView b.queue.cap b.view → Joins a b w → (x : ℕ) → takes x w.view ≡ takes x a.view + takes x b.view
+takes_both q a b w of_a of_b is_a is_b joins x =
+    did_both a.queue.cap a.view b.view w.view is_a (subst {A = QueueId} (λ z. IsView z.cap b.view) (of_b ∙ sym of_a) is_b) joins.1 (is_take x)
+
+-- a party that was parted off has taken nothing
+pub none_parted : (v a b : Person ℕ) → Parts v a b → (x : ℕ) → takes x b.view ≡ 0
+none_parted v a b parts x = ap (λ (ps : List ℕ). count_by (λ p. passes (is_take x) (get_elem? b.view.seen p)) ps) parts.2.mine.1
+
+-- the other has taken what the party had
+pub all_parted : (v a b : Person ℕ) → IsView v.queue.cap v.view → Parts v a b → (x : ℕ) → takes x a.view ≡ takes x v.view
+all_parted v a b is parts x = unchanged v.queue.cap v.view a.view is parts.2.begins parts.2.mine.0 (is_take x)
+
+-- a work is that of parties that had taken as much, and had the same share
+pub work_of_same : (q : QueueId) (items most : ℕ) (t t' : ℕ → ℕ) (s s' : Share) (work : Work) → ((x : ℕ) → t x ≡ t' x) → SamePart s s' → IsWorkOf q items most t s work → IsWorkOf q items most t' s' work
+work_of_same q items most t t' s s' work took share is = record {
+  queue = is.queue;
+  taken = λ x lt. is.taken x lt ∙ ap (λ (n : ℕ). n + get_or work.counts.items x 0) (took x);
+  few = is.few;
+  share = λ done. same_trans work.party.view.share s s' (is.share done) share;
+}
+
+-- two works, joined
+pub joined_works : (q : QueueId) (items low high most : ℕ) (t t' : ℕ → ℕ) (s s' : Share) (ours theirs work : Work)
+    → IsWorkOf q items low t s ours → IsWorkOf q items high t' s' theirs → IsView ours.party.queue.cap ours.party.view → IsView theirs.party.queue.cap theirs.party.view
     → Joins ours.party theirs.party work.party → length ours.counts.items ≡ items → AreSums ours.counts.items theirs.counts.items work.counts.items → work.done ≡ (ours.done && theirs.done)
-    → low + high ≤ most → IsWork q items most v work
-joined_work q items low high most v a b ours theirs work of is parts our their is_ours is_theirs joins complete sums done fits = record {
+    → low + high ≤ most → IsWorkOf q items most (λ x. t x + t' x) (plus s s') work
+joined_works q items low high most t t' s s' ours theirs work our their is_ours is_theirs joins complete sums done fits = record {
   queue = joins.0 ∙ our.queue;
   taken = λ x lt.
-      let both = did_both ours.party.queue.cap ours.party.view theirs.party.view work.party.view is_ours (same_cap is_theirs) joins.1 (is_take x) in
+      let both = takes_both q ours.party theirs.party work.party our.queue their.queue is_ours is_theirs joins x in
       let first = our.taken x lt in let second = their.taken x lt in let sum = sums.1 x (omega (arith, lt, complete)) in
-      let kept = unchanged v.queue.cap v.view a.view is parts.2.begins parts.2.mine.0 (is_take x) in
-      let fresh : takes x b.view ≡ 0 = ap (λ (ps : List ℕ). count_by (λ p. passes (is_take x) (get_elem? b.view.seen p)) ps) parts.2.mine.1 in
-      omega (arith, both, first, second, sum, kept, fresh);
+      omega (arith, both, first, second, sum);
   few = All-from_get_or (λ count. count ≤ most) work.counts.items 0 (λ x lt.
       omega (arith, sums.1 x (omega (arith, lt, sums.0)), low_at low ours.counts.items x our.few, low_at high theirs.counts.items x their.few, fits));
   share = λ all.
       let one = our.share (both_true ours.done theirs.done (sym done ∙ all)).0 in let other = their.share (both_true ours.done theirs.done (sym done ∙ all)).1 in
-      subst {A = Share} (λ s. SamePart s v.view.share) (sym joins.1.share)
-      (halves_joined v.view.share ours.party.view.share theirs.party.view.share
-      (subst {A = Share} (SamePart ours.party.view.share) parts.2.share.0 one) (subst {A = Share} (SamePart theirs.party.view.share) parts.2.share.1 other));
+      subst {A = Share} (λ z. SamePart z (plus s s')) (sym joins.1.share) (plus_same ours.party.view.share s theirs.party.view.share s' one other);
+}
+
+-- the works of two halves of a party, joined
+pub joined_work : (q : QueueId) (items low high most : ℕ) (v a b : Person ℕ) (ours theirs work : Work) → IsView v.queue.cap v.view → Parts v a b
+    → IsWork q items low a ours → IsWork q items high b theirs → IsView ours.party.queue.cap ours.party.view → IsView theirs.party.queue.cap theirs.party.view
+    → Joins ours.party theirs.party work.party → length ours.counts.items ≡ items → AreSums ours.counts.items theirs.counts.items work.counts.items → work.done ≡ (ours.done && theirs.done)
+    → low + high ≤ most → IsWork q items most v work
+joined_work q items low high most v a b ours theirs work is parts our their is_ours is_theirs joins complete sums done fits = record {
+  work = work_of_same q items most (λ x. takes x a.view + takes x b.view) (λ x. takes x v.view) (plus a.view.share b.view.share) v.view.share work
+      (λ x. let kept = all_parted v a b is parts x in let fresh = none_parted v a b parts x in omega (arith, kept, fresh))
+      (halves_joined v.view.share a.view.share b.view.share (same_half parts.2.share.0) (same_half parts.2.share.1))
+      (joined_works q items low high most (λ x. takes x a.view) (λ x. takes x b.view) a.view.share b.view.share ours theirs work our.work their.work is_ours is_theirs joins complete sums done fits);
   closed = λ some.
       let capped : ours.party.queue.cap ≡ work.party.queue.cap = sym (ap (λ (z : QueueId). z.cap) joins.0) in
       either_false ours.done theirs.done
@@ -234,15 +268,10 @@ joined_work q items low high most v a b ours theirs work of is parts our their i
 }
   where
     same_closed : SawClosed theirs.party → (after ours.party.queue.cap theirs.party.view.seen).closed ≡ true
-    same_closed = subst {A = QueueId} (λ z. (after z.cap theirs.party.view.seen).closed ≡ true) (their.queue ∙ sym our.queue)
+    same_closed = subst {A = QueueId} (λ z. (after z.cap theirs.party.view.seen).closed ≡ true) (their.work.queue ∙ sym our.work.queue)
 
-    same_cap : IsView theirs.party.queue.cap theirs.party.view → IsView ours.party.queue.cap theirs.party.view
-    same_cap = subst {A = QueueId} (λ z. IsView z.cap theirs.party.view) (their.queue ∙ sym our.queue)
-
--- one party of two took what they took
-pub takes_both : (q : QueueId) (a b w : Person ℕ) → a.queue ≡ q → b.queue ≡ q → IsView a.queue.cap a.view → IsView b.queue.cap b.view → Joins a b w → (x : ℕ) → takes x w.view ≡ takes x a.view + takes x b.view
-takes_both q a b w of_a of_b is_a is_b joins x =
-    did_both a.queue.cap a.view b.view w.view is_a (subst {A = QueueId} (λ z. IsView z.cap b.view) (of_b ∙ sym of_a) is_b) joins.1 (is_take x)
+    same_half : {x : Share} → x ≡ half v.view.share → SamePart x (half v.view.share)
+    same_half {x} is_half = subst {A = Share} (SamePart x) is_half (same_refl x)
 
 -- the parties of a handshake, joined
 pub meeting : (there back : QueueId) (kept first second : Hands) (offered replied all : Shaken) → AreThreeParts kept first second → IsShaken there back 2 first offered

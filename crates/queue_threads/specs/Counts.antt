@@ -5,12 +5,12 @@ use Rattle.std.specs.Io.KnownBytes.{Appends}
 use Rattle.std.specs.Option.{IfSome}
 use Rattle.queue_steps.specs.declared.sizes.TheConstants.{MAX_CAPACITY}
 use Rattle.queue_text.specs.KindNames.{capacity_of}
+use Rattle.queue_steps.specs.Parties.{View}
 use Rattle.queue_text.specs.declared.load.Load.{Load}
 use Rattle.party_doings.specs.Doings.{takes}
-use Rattle.queue_threads.specs.Sharing.{IsAllOf}
+use Rattle.queue_threads.specs.Sharing.{IsAllOf, IsFinished}
 use Rattle.queue_threads.specs.declared.counts.Finding.{Finding}
 use Rattle.queue_threads.specs.declared.counts.Finding.TheVariants as finding
-use Rattle.queue_threads.specs.declared.sharing.Shared.{Shared}
 use Rattle.queue_threads.specs.declared.sharing.Sharing.{Sharing}
 use Rattle.queue_threads.specs.declared.sharing.Sharing.TheVariants as sharing
 use Rattle.queue_threads.specs.declared.verdict.Verdict.{Verdict}
@@ -47,23 +47,40 @@ abbrev pub finding_verdict : Finding → Verdict
 finding_verdict (finding.Right values times) = verdict.Right
 finding_verdict (finding.Wrong value times) = verdict.Wrong
 
--- each value that the load has is counted as often as it was taken of the queue of the load's capacity that its threads shared
-pub record IsTally (l : Load) (s : Shared) (counts : List ℕ) : Type 0 where
+-- each value that the load has is counted as often as it was taken at the places of this view of a queue of the load's capacity
+pub record IsTally (l : Load) (v : View ℕ) (counts : List ℕ) : Type 0 where
   pub within : IfSome (capacity_of l.kind) (λ size. size ≤ MAX_CAPACITY)
-  pub all : IsAllOf (capacity_of l.kind) s
   pub complete : length counts ≡ l.items
-  pub taken : (x : ℕ) → x < l.items → get_or counts x 0 ≡ takes x s.party.view
+  pub taken : (x : ℕ) → x < l.items → get_or counts x 0 ≡ takes x v
 
 -- a line of what the counts show
 abbrev pub counts_line : Load → List ℕ → List ℕ
 counts_line l counts = finding_text (judged l.pushers counts) ++ 10 ∷ []
 
+-- the line, and one of how many items are left
+abbrev pub received_text : Load → List ℕ → ℕ → List ℕ
+received_text l counts left = counts_line l counts ++ codes "left " ++ decimal left ++ 10 ∷ []
+
 -- a line of what the counts of the load show on the queue that its threads shared
 abbrev pub IsCountsLine : Load → Sharing → List ℕ → Type 0
-IsCountsLine l (sharing.Counted s) text = (counts : List ℕ) × IsTally l s counts × (text ≡ counts_line l counts)
+IsCountsLine l (sharing.Counted s) text = IsAllOf (capacity_of l.kind) s × ((counts : List ℕ) × IsTally l s.party.view counts × (text ≡ counts_line l counts))
 IsCountsLine l _ text = ⊥
 
 -- what came of the load out of the queue that its threads shared was counted, and what the counts show was written as a line
 abbrev pub IsCounted : Load → Sharing → Option (List ℕ) → Option (List ℕ) → Verdict → Type 0
-IsCounted l (sharing.Counted s) old new v = (counts : List ℕ) × IsTally l s counts × Appends old new (counts_line l counts) × (v ≡ finding_verdict (judged l.pushers counts))
+IsCounted l (sharing.Counted s) old new v =
+    IsAllOf (capacity_of l.kind) s × ((counts : List ℕ) × IsTally l s.party.view counts × Appends old new (counts_line l counts) × (v ≡ finding_verdict (judged l.pushers counts)))
 IsCounted l _ old new v = ⊥
+
+-- that line for the load's channel, which its threads shared, and how many items its end left in the queue
+abbrev pub IsReceivedText : Load → Sharing → List ℕ → Type 0
+IsReceivedText l (sharing.Finished f) text =
+    IsFinished (capacity_of l.kind) f × ((counts : List ℕ) × IsTally l f.party.value.view counts × (text ≡ received_text l counts (length f.queue.queue.items)))
+IsReceivedText l _ text = ⊥
+
+-- what was received of the load through the channel that its threads shared was counted, and what the counts show was written, and how many items were left
+abbrev pub IsReceived : Load → Sharing → Option (List ℕ) → Option (List ℕ) → Verdict → Type 0
+IsReceived l (sharing.Finished f) old new v =
+    IsFinished (capacity_of l.kind) f × ((counts : List ℕ) × IsTally l f.party.value.view counts
+    × Appends old new (received_text l counts (length f.queue.queue.items)) × (v ≡ finding_verdict (judged l.pushers counts)))
+IsReceived l _ old new v = ⊥

@@ -97,8 +97,8 @@ fn count_all<R: Threads + Wait + Sync>(
     Ok((Shared { queue, party }, counts))
 }
 
-// An empty open queue of this kind, and its only party.
-fn queue_of(alloc: Global, kind: KindName) -> Result<(Queue, Party<u64>), AllocError>
+/// An empty open queue of this kind, and its only party.
+pub(crate) fn queue_of(alloc: Global, kind: KindName) -> Result<(Queue, Party<u64>), AllocError>
     requires { IsKindName kind }
     ensures first { IfOk result (λ r. IsPartyOf r.1 r.0 × (r.0.cap ≡ capacity_of kind) × (r.1.view ≡ record { seen = []; mine = []; share = entire })) }
     ensures within { IfOk result (λ _. IfSome (capacity_of kind) (λ size. size ≤ MAX_CAPACITY)) }
