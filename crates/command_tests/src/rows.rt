@@ -7,7 +7,7 @@ use std::sync::Wait;
 use std::thread::Threads;
 
 pub const USAGE: &str =
-    "usage: queue_run script KIND | replay KIND PARTIES | threads KIND PUSHERS POPPERS ITEMS | handshake\n";
+    "usage: queue_run script KIND | replay KIND PARTIES | threads KIND PUSHERS POPPERS ITEMS | handshake | channel KIND SENDERS RECEIVERS ITEMS\n";
 
 /// A run that ends well: the line of its arguments, its input, and its output.
 pub struct Row {

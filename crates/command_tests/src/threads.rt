@@ -166,7 +166,7 @@ fn run_broken<R: Threads + Wait + Sync + AllocGlobal>(
 
 #[test]
 fn a_failed_write_is_told(rt: HostRuntime) -> Result<(), Fail> {
-    for line in ["handshake", "threads single 1 1 1"] {
+    for line in ["handshake", "threads single 1 1 1", "channel single 1 1 1"] {
         let outcome = run_broken(&rt, rt.alloc(), line)?;
         outcome.is(&rt, line, b"", End::fault(3, "output failed\n"));
     }

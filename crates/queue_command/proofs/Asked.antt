@@ -22,6 +22,7 @@ form_ended words shared known old new (form.Script k) (Err fault.Usage) asked h 
 form_ended words shared known old new (form.Replay k p) (Err fault.Usage) asked h = absurd h
 form_ended words shared known old new (form.Threads l) (Err fault.Usage) asked h = absurd h
 form_ended words shared known old new form.Handshake (Err fault.Usage) asked h = absurd h
+form_ended words shared known old new (form.Channel l) (Err fault.Usage) asked h = absurd h
 form_ended words shared known old new f (Err (fault.Unreadable n)) asked h = (f, asked, h)
 form_ended words shared known old new f (Err fault.NoMemory) asked h = (f, asked, h)
 form_ended words shared known old new f (Err fault.InputFailed) asked h = (f, asked, h)

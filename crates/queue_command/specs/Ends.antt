@@ -9,7 +9,7 @@ use Rattle.queue_text.specs.declared.args.Form.{Form}
 use Rattle.queue_text.specs.declared.args.Form.TheVariants as form
 use Rattle.queue_text.specs.declared.faults.Fault.{Fault}
 use Rattle.queue_text.specs.declared.faults.Fault.TheVariants as fault
-use Rattle.queue_threads.specs.Counts.{IsCounted, IsCountsLine}
+use Rattle.queue_threads.specs.Counts.{IsCounted, IsCountsLine, IsReceived, IsReceivedText}
 use Rattle.queue_threads.specs.Meetings.{Handshake, IsHandshakeText}
 use Rattle.queue_command.specs.Reports.{IsReport}
 use Rattle.queue_command.specs.Runs.{IsRun, IsRunFault, IsPartRunFault}
@@ -33,6 +33,7 @@ Does (form.Script k) shared known old new v = (v ≡ verdict.Right) × IsRun IsC
 Does (form.Replay k parties) shared known old new v = (v ≡ verdict.Right) × IsRun IsReplayLine replay_line_text (IsReport k parties) known old new
 Does (form.Threads l) shared known old new v = IsCounted l shared old new v
 Does form.Handshake shared known old new v = Handshake shared old new v
+Does (form.Channel l) shared known old new v = IsReceived l shared old new v
 
 -- the work of the form, by threads that shared this, met this fault
 abbrev pub Fails : Form → Sharing → Option (List ℕ) → Option (List ℕ) → Option (List ℕ) → Fault → Type 0
@@ -40,6 +41,7 @@ Fails (form.Script k) shared known old new why = IsPartRunFault IsCallOfWord cal
 Fails (form.Replay k parties) shared known old new why = IsRunFault IsReplayLine replay_line_text (IsReport k parties) known old new why
 Fails (form.Threads l) shared known old new why = IsOutputFault (IsCountsLine l shared) old new why
 Fails form.Handshake shared known old new why = IsOutputFault (IsHandshakeText shared) old new why
+Fails (form.Channel l) shared known old new why = IsOutputFault (IsReceivedText l shared) old new why
 
 -- why the work was not done: the arguments ask for no form, or what they ask for met a fault
 abbrev pub IsFaultOf : List (List ℕ) → Sharing → Option (List ℕ) → Option (List ℕ) → Option (List ℕ) → Fault → Type 0

@@ -10,6 +10,7 @@ use crate::replay::replay;
 use crate::script::script;
 use queue_text::args::{Form, parse_form};
 use queue_text::faults::Fault;
+use queue_threads::channel::channel;
 use queue_threads::handshake::handshake;
 use queue_threads::sharing::{Ran, Sharing};
 use queue_threads::threads::threads;
@@ -28,8 +29,8 @@ pub struct Ended {
 
 /// Does what the arguments after the program's name say, and answers the status to end with. Hands on what threads shared.
 ///
-/// Scripts and replays take their memory of `alloc`. Threads are started, and wait, in the forms `threads` and `handshake` alone, which take theirs of the
-/// allocator of `rt`. A fault is told on `faults`. Where it cannot be written there, the status is the same.
+/// Scripts and replays take their memory of `alloc`. Threads are started, and wait, in the forms `threads`, `handshake` and `channel` alone, which take theirs of
+/// the allocator of `rt`. A fault is told on `faults`. Where it cannot be written there, the status is the same.
 pub fn command<R: Threads + Wait + Sync + AllocGlobal, A: Allocator, I: Read, O: Write, F: Write>(
     rt: &R,
     alloc: &A,
@@ -87,6 +88,7 @@ fn run<R: Threads + Wait + Sync + AllocGlobal, A: Allocator, I: Read, O: Write>(
         Form::Replay(kind, parties) => alone(shown(replay(alloc, kind, parties, input, output))),
         Form::Threads(load) => threads(rt, rt.alloc(), load, output),
         Form::Handshake => handshake(rt, rt.alloc(), output),
+        Form::Channel(load) => channel(rt, rt.alloc(), load, output),
     }
 }
 
