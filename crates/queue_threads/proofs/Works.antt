@@ -161,7 +161,7 @@ few_more most value old new is few =
 pub quit_work : (q : QueueId) (items most : ℕ) (v u : Person ℕ) (work : Work) → v.queue ≡ q → u.queue ≡ v.queue → ((x : ℕ) → x < items → takes x u.view ≡ takes x v.view + get_or work.counts.items x 0)
     → All (λ count. count ≤ most) work.counts.items → Quits u work.party → work.done ≡ false → IsWork q items most v work
 quit_work q items most v u work of same taken few quits not_done = record {
-  work = record {
+  counted = record {
     queue = quits.queue ∙ (same ∙ of);
     taken = λ x lt. quits.taken x ∙ taken x lt;
     few = few;
@@ -173,7 +173,7 @@ quit_work q items most v u work of same taken few quits not_done = record {
 pub done_work : (q : QueueId) (items most : ℕ) (v : Person ℕ) (work : Work) → v.queue ≡ q → work.party.queue ≡ v.queue → ((x : ℕ) → x < items → takes x work.party.view ≡ takes x v.view + get_or work.counts.items x 0)
     → All (λ count. count ≤ most) work.counts.items → work.party.view.share ≡ v.view.share → work.done ≡ true → IsWork q items most v work
 done_work q items most v work of same taken few share done = record {
-  work = record {
+  counted = record {
     queue = same ∙ of;
     taken = taken;
     few = few;
@@ -253,10 +253,10 @@ pub joined_work : (q : QueueId) (items low high most : ℕ) (v a b : Person ℕ)
     → Joins ours.party theirs.party work.party → length ours.counts.items ≡ items → AreSums ours.counts.items theirs.counts.items work.counts.items → work.done ≡ (ours.done && theirs.done)
     → low + high ≤ most → IsWork q items most v work
 joined_work q items low high most v a b ours theirs work is parts our their is_ours is_theirs joins complete sums done fits = record {
-  work = work_of_same q items most (λ x. takes x a.view + takes x b.view) (λ x. takes x v.view) (plus a.view.share b.view.share) v.view.share work
+  counted = work_of_same q items most (λ x. takes x a.view + takes x b.view) (λ x. takes x v.view) (plus a.view.share b.view.share) v.view.share work
       (λ x. let kept = all_parted v a b is parts x in let fresh = none_parted v a b parts x in omega (arith, kept, fresh))
       (halves_joined v.view.share a.view.share b.view.share (same_half parts.2.share.0) (same_half parts.2.share.1))
-      (joined_works q items low high most (λ x. takes x a.view) (λ x. takes x b.view) a.view.share b.view.share ours theirs work our.work their.work is_ours is_theirs joins complete sums done fits);
+      (joined_works q items low high most (λ x. takes x a.view) (λ x. takes x b.view) a.view.share b.view.share ours theirs work our.counted their.counted is_ours is_theirs joins complete sums done fits);
   closed = λ some.
       let capped : ours.party.queue.cap ≡ work.party.queue.cap = sym (ap (λ (z : QueueId). z.cap) joins.0) in
       either_false ours.done theirs.done
@@ -268,7 +268,7 @@ joined_work q items low high most v a b ours theirs work is parts our their is_o
 }
   where
     same_closed : SawClosed theirs.party → (after ours.party.queue.cap theirs.party.view.seen).closed ≡ true
-    same_closed = subst {A = QueueId} (λ z. (after z.cap theirs.party.view.seen).closed ≡ true) (their.work.queue ∙ sym our.work.queue)
+    same_closed = subst {A = QueueId} (λ z. (after z.cap theirs.party.view.seen).closed ≡ true) (their.counted.queue ∙ sym our.counted.queue)
 
     same_half : {x : Share} → x ≡ half v.view.share → SamePart x (half v.view.share)
     same_half {x} is_half = subst {A = Share} (SamePart x) is_half (same_refl x)

@@ -57,9 +57,9 @@ pub record IsTally (l : Load) (v : View ℕ) (counts : List ℕ) : Type 0 where
 abbrev pub counts_line : Load → List ℕ → List ℕ
 counts_line l counts = finding_text (judged l.pushers counts) ++ 10 ∷ []
 
--- the line, and one of how many items are left
+-- that line, and one of how many items are left
 abbrev pub received_text : Load → List ℕ → ℕ → List ℕ
-received_text l counts left = counts_line l counts ++ codes "left " ++ decimal left ++ 10 ∷ []
+received_text l counts left = finding_text (judged l.pushers counts) ++ codes "\nleft " ++ decimal left ++ 10 ∷ []
 
 -- a line of what the counts of the load show on the queue that its threads shared
 abbrev pub IsCountsLine : Load → Sharing → List ℕ → Type 0

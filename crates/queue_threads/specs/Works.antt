@@ -25,7 +25,7 @@ pub record IsWorkOf (q : QueueId) (items most : ℕ) (taken_before : ℕ → ℕ
 
 -- the work of the party v. If not all was done, its party has seen the queue closed
 pub record IsWork (q : QueueId) (items most : ℕ) (v : Person ℕ) (work : Work) : Type 0 where
-  pub work : IsWorkOf q items most (λ x. takes x v.view) v.view.share work
+  pub counted : IsWorkOf q items most (λ x. takes x v.view) v.view.share work
   pub closed : work.done ≡ false → SawClosed work.party
 
 -- the party of the end that a thread has

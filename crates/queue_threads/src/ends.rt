@@ -1,5 +1,5 @@
 //! Threads that send and receive through one channel, each with an end of its own.
-ghost use Rattle.std.specs.Prelude.{◌≡◌, ℕ, ◌<◌, ◌≤◌, ◌+◌, ◌-◌, ◌*◌, ◌^◌, ◌&&◌, false, length, replicate, IfOk, MatchResult};
+ghost use Rattle.std.specs.Prelude.{◌≡◌, ℕ, ◌<◌, ◌≤◌, ◌+◌, ◌-◌, ◌*◌, ◌^◌, ◌&&◌, [], true, false, length, replicate, IfOk, MatchResult};
 ghost use Rattle.queue_steps.specs.Parties.{IsView};
 ghost use Rattle.concurrent_queue.specs.Shared.{IsPartyOf, Joins};
 ghost use Rattle.counted_channel.specs.Channel.{IsEndOf};
@@ -273,10 +273,16 @@ fn end_at_once<A: Allocator>(
     requires { IsTaskOf task channel.now }
     ensures { IsTaskDone channel.now plan.items plan.share task result }
 {
-    let party = match task {
-        Task::Send(sender) => end_sending(channel, sender),
-        Task::Receive(receiver) => end_receiving(channel, receiver),
-    };
+    match task {
+        Task::Send(sender) => idle(alloc, end_sending(channel, sender)),
+        Task::Receive(receiver) => idle(alloc, end_receiving(channel, receiver)),
+    }
+}
+
+/// The work of which nothing was done.
+fn idle(alloc: Global, party: Party<u64>) -> Work
+    ensures { (result.party ≡ party) × (result.counts.items ≡ []) × (result.done ≡ false) }
+{
     Work {
         party,
         counts: Vec::new(alloc),
@@ -354,7 +360,6 @@ fn receive_values<R: Wait, A: Allocator>(
 )
     requires of { IsEndOf receiver.old channel.now }
     requires none { counts.old.items ≡ replicate plan.items 0 }
-    requires few { plan.share < 2 ^ 64 }
     ensures end { receiver.new.counts ≡ receiver.old.counts }
     ensures received { IsWorkOf channel.now.queue plan.items plan.share (λ x. takes x receiver.old.party.view) receiver.old.party.view.share (record { party = receiver.new.party; counts = counts.new; done = true }) }
 {

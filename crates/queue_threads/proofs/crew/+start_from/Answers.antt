@@ -26,7 +26,7 @@ both-requires-clause-fits g t c =
     let threads = c.args.plan.pushers + c.args.plan.poppers in let share = c.args.plan.share in
     let low : c.args.number < threads = omega arith in let left = shares_left threads c.args.number share low in let all = shares_low threads c.args.number share in
     let theirs = rw c.in-Ok-started.ensures.ok at c.join.ensures in
-    sums_fit ((threads - (c.args.number + 1)) * share) share c.start_from-ours.result.counts.items c.join.result.counts.items (omega (arith, left, all, c.requires.few)) c.start_from-ours.ensures.work.work.few theirs.work.few
+    sums_fit ((threads - (c.args.number + 1)) * share) share c.start_from-ours.result.counts.items c.join.result.counts.items (omega (arith, left, all, c.requires.few)) c.start_from-ours.ensures.work.counted.few theirs.counted.few
 
 pub returns-clause-work : goal.returns-clause-work
 returns-clause-work g t c =
