@@ -1,5 +1,5 @@
 -- What ends of a channel have taken, and the works of a crew that is given them.
-use Rattle.std.proofs.Common.{◌≡◌, ℕ, ◌+◌, ◌<◌, ◌≤◌, ◌&&◌, Bool, true, false, Result, Ok, Err, List, [], ◌∷◌, length, get_or, replicate, refl, ap, sym, subst, ◌∙◌, ⊎_elim, arith, add-zero}
+use Rattle.std.proofs.Common.{◌≡◌, ℕ, ◌+◌, ◌<◌, ◌≤◌, ◌&&◌, Bool, true, false, Option, Result, Ok, Err, List, [], ◌∷◌, length, get_or, replicate, refl, ap, sym, subst, ◌∙◌, ⊎_elim, arith, add-zero}
 use Rattle.std.specs.List.{All, count_by}
 use Rattle.std.proofs.lemmas.List.Elements.{All-weaker}
 use Rattle.queue_steps.specs.declared.model.Effect.{Effect}
@@ -11,15 +11,21 @@ use Rattle.counted_channel.specs.declared.errors.Disconnected.{Disconnected}
 use Rattle.queue_steps.specs.Shares.{Share, half, plus, SamePart}
 use Rattle.queue_steps.specs.Parties.{IsView}
 use Rattle.queue_steps.proofs.ShareLaws.{same_refl, plus_comm, plus_assoc, plus_same, halves_same}
-use Rattle.concurrent_queue.specs.Shared.{QueueId, Person, Calls, Joins}
+use Rattle.concurrent_queue.specs.Shared.{QueueId, Person, Calls, Parts, Joins, Finishes}
 use Rattle.counted_channel.specs.Channel.{End, EndParts, Ends, GivenBack, sent, received}
 use Rattle.party_doings.specs.Doings.{is_take, takes, Acts}
 use Rattle.party_doings.proofs.Doings.{acts, acts_none, unchanged}
-use Rattle.queue_threads.specs.Counts.{counted, AreSums}
+use Rattle.std.specs.Option.{IfSome}
+use Rattle.queue_steps.specs.declared.sizes.TheConstants.{MAX_CAPACITY}
+use Rattle.queue_text.specs.KindNames.{capacity_of}
+use Rattle.queue_text.specs.declared.load.Load.{Load}
+use Rattle.queue_threads.specs.Counts.{counted, AreSums, IsTally}
+use Rattle.queue_threads.specs.Sharing.{IsFinished}
+use Rattle.queue_threads.specs.declared.sharing.Finished.{Finished}
 use Rattle.queue_threads.specs.Works.{IsWorkOf, PartsTask, TookNothing, ends_share, ends_taken, task_party}
 use Rattle.queue_threads.specs.declared.crew.Work.{Work}
 use Rattle.queue_threads.specs.declared.ends.Task.{Task}
-use Rattle.queue_threads.proofs.Works.{none_at, none_few, taken_more, few_more, close_quits, none_parted, all_parted, work_of_same, joined_works}
+use Rattle.queue_threads.proofs.Works.{none_at, none_few, none_own, taken_more, few_more, close_quits, none_parted, all_parted, work_of_same, joined_works}
 
 -- a party that is given back by its end has taken nothing
 pub ended : (v w : Person ℕ) (last : Bool) → IsView v.queue.cap v.view → Ends v w last → TookNothing v w
@@ -145,3 +151,26 @@ parted_work q items low high most s r a b t ours theirs work parts our their is_
     work_of_same q items most (λ x. ends_taken a b x + takes x (task_party t).view) (ends_taken s r) (plus (ends_share a b) (task_party t).view.share) (ends_share s r) work
     (λ x. ap (λ (n : ℕ). ends_taken a b x + n) (parts.fresh x) ∙ (add-zero _ ∙ parts.taken x)) parts.share
     (joined_works q items low high most (ends_taken a b) (λ x. takes x (task_party t).view) (ends_share a b) (task_party t).view.share ours theirs work our their is_ours is_theirs joins complete sums done fits)
+
+-- what the ends of a channel that has just begun were parted into, and gave back, is a tally of the load
+pub tallied : (l : Load) (q : QueueId) (items most : ℕ) (v : Person ℕ) (s r : End ℕ) (work : Work) (last : Person ℕ) → IfSome (capacity_of l.kind) (λ size. size ≤ MAX_CAPACITY)
+    → items ≡ l.items → Parts v s.party r.party → v.view.mine ≡ [] → IsWorkOf q items most (ends_taken s r) (ends_share s r) work → length work.counts.items ≡ items → last ≡ work.party
+    → IsTally l last.view work.counts.items
+tallied l q items most v s r work last within same parts none is complete now = record {
+  within = within;
+  complete = complete ∙ same;
+  taken = λ x lt.
+      let all = is.taken x (omega (arith, lt, same)) in
+      let sent_none = none_own s.party (parts.2.mine.0 ∙ none) x in let came_none = none_parted v s.party r.party parts x in
+      let here : takes x last.view ≡ takes x work.party.view = ap (λ (p : Person ℕ). takes x p.view) now in
+      omega (arith, all, sent_none, came_none, here);
+}
+
+-- a queue that came back to one owner
+pub finished : (cap : Option ℕ) (q : QueueId) (p : Person ℕ) (f : Finished) → p.queue ≡ q → q.cap ≡ cap → IsView p.queue.cap p.view → f.party.value ≡ p → Finishes p f.queue → IsFinished cap f
+finished cap q p f of capped is last ends =
+    let room : p.queue.cap ≡ cap = ap (λ (z : QueueId). z.cap) of ∙ capped in record {
+      capped = ap (λ (z : Person ℕ). z.queue.cap) last ∙ room;
+      seen = subst {A = Option ℕ} (λ c. IsView c f.party.value.view) room (subst {A = Person ℕ} (λ z. IsView p.queue.cap z.view) (sym last) is);
+      finishes = subst {A = Person ℕ} (λ z. Finishes z f.queue) (sym last) ends;
+    }

@@ -212,9 +212,13 @@ pub takes_both : (q : QueueId) (a b w : Person ℕ) → a.queue ≡ q → b.queu
 takes_both q a b w of_a of_b is_a is_b joins x =
     did_both a.queue.cap a.view b.view w.view is_a (subst {A = QueueId} (λ z. IsView z.cap b.view) (of_b ∙ sym of_a) is_b) joins.1 (is_take x)
 
--- a party that was parted off has taken nothing
+-- a party without a place of its own has taken nothing
+pub none_own : (p : Person ℕ) → p.view.mine ≡ [] → (x : ℕ) → takes x p.view ≡ 0
+none_own p none x = ap (λ (ps : List ℕ). count_by (λ i. passes (is_take x) (get_elem? p.view.seen i)) ps) none
+
+-- nor has one that was parted off
 pub none_parted : (v a b : Person ℕ) → Parts v a b → (x : ℕ) → takes x b.view ≡ 0
-none_parted v a b parts x = ap (λ (ps : List ℕ). count_by (λ p. passes (is_take x) (get_elem? b.view.seen p)) ps) parts.2.mine.1
+none_parted v a b parts = none_own b parts.2.mine.1
 
 -- the other has taken what the party had
 pub all_parted : (v a b : Person ℕ) → IsView v.queue.cap v.view → Parts v a b → (x : ℕ) → takes x a.view ≡ takes x v.view

@@ -13,11 +13,10 @@ use crate::counts::judge;
 use crate::crew::{Plan, Work};
 use crate::ends::run_all;
 use crate::sharing::{Finished, Ran, Sharing};
-use crate::threads::queue_of;
+use crate::threads::{queue_of, write_finding};
 use crate::verdict::Verdict;
 use queue_text::faults::Fault;
 use queue_text::load::Load;
-use queue_text::streams::write_output;
 use std::alloc::{AllocError, Global};
 use std::io::Write;
 use std::snapshot::Snapshot;
@@ -68,8 +67,7 @@ fn write_received<O: Write>(
     let Ok(text) = format!(in alloc; "{finding}\nleft {left}\n") else {
         return Err(Fault::NoMemory);
     };
-    write_output(output, text.as_bytes())?;
-    Ok(finding.verdict())
+    write_finding(finding, text.as_bytes(), output)
 }
 
 // How often each value came, and the queue of the channel through which it did, after the channel's end.

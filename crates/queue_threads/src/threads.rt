@@ -11,7 +11,7 @@ ghost use Rattle.queue_threads.specs.Counts.{IsCounted, IsCountsLine, counts_lin
 ghost use Rattle.queue_threads.specs.Sharing.{IsAllOf};
 ghost use Rattle.queue_threads.specs.Verdicts.{IsOutputFault};
 
-use crate::counts::judge;
+use crate::counts::{Finding, judge};
 use crate::crew::{Plan, Queue, Work, run_all};
 use crate::sharing::{Ran, Shared, Sharing};
 use crate::verdict::Verdict;
@@ -53,6 +53,20 @@ pub fn threads<R: Threads + Wait + Sync, O: Write>(
     }
 }
 
+/// Writes the text of what the counts have shown.
+pub(crate) fn write_finding<O: Write>(
+    finding: Finding,
+    text: &[u8],
+    output: &mut O,
+) -> Result<Verdict, Fault>
+    ensures { MatchResult result
+        (λ shown. Appends (O.contents output.old) (O.contents output.new) text.now × (shown ≡ finding_verdict finding))
+        (IsOutputFault (λ written. written ≡ text.now) (O.contents output.old) (O.contents output.new)) }
+{
+    write_output(output, text)?;
+    Ok(finding.verdict())
+}
+
 // Writes what the counts show.
 fn write_counts<O: Write>(
     alloc: Global,
@@ -68,8 +82,7 @@ fn write_counts<O: Write>(
     let Ok(text) = format!(in alloc; "{finding}\n") else {
         return Err(Fault::NoMemory);
     };
-    write_output(output, text.as_bytes())?;
-    Ok(finding.verdict())
+    write_finding(finding, text.as_bytes(), output)
 }
 
 // How often each value came, and the queue through which it did.
