@@ -59,7 +59,7 @@ counts_line l counts = finding_text (judged l.pushers counts) ++ 10 ∷ []
 
 -- that line, and one of how many items are left
 abbrev pub received_text : Load → List ℕ → ℕ → List ℕ
-received_text l counts left = finding_text (judged l.pushers counts) ++ codes "\nleft " ++ decimal left ++ 10 ∷ []
+received_text l counts left = finding_text (judged l.pushers counts) ++ (codes "\nleft " ++ (decimal left ++ 10 ∷ []))
 
 -- a line of what the counts of the load show on the queue that its threads shared
 abbrev pub IsCountsLine : Load → Sharing → List ℕ → Type 0

@@ -1,4 +1,5 @@
-use Rattle.std.proofs.Common.{ℕ, ◌+◌, ◌-◌, ◌*◌, ◌<◌, ◌≤◌, length, ap, sym, ◌∙◌, arith, length-replicate}
+use Rattle.std.proofs.Common.{◌+◌, ◌-◌, ◌*◌, ◌<◌, length, ap, sym, ◌∙◌, arith}
+use Rattle.std.proofs.lemmas.List.{length-replicate}
 use Rattle.std.proofs.lemmas.Bool.{true≢false}
 use Rattle.queue_threads.specs.Works.{ends_share, ends_taken}
 use Rattle.queue_threads.proofs.Works.{none_few, sums_fit, shares_left, shares_low}
@@ -21,8 +22,9 @@ pub both-requires-clause-fits : goal.both-requires-clause-fits
 both-requires-clause-fits g t c =
     let threads = c.args.plan.pushers + c.args.plan.poppers in let share = c.args.plan.share in let ours = c.end_both-ours.result.counts.items in
     let low : c.args.number < threads = omega arith in let left = shares_left threads c.args.number share low in let all = shares_low threads c.args.number share in
+    let theirs = rw c.in-Err-started.ensures.err at c.spawn_with-theirs.ensures in
     sums_fit 0 share ours c.spawn_with-theirs.result.counts.items (omega (arith, left, all, c.requires.few))
-    (none_few 0 c.args.plan.items ours (c.end_both-ours.ensures.same.0 ∙ c.requires.none)) c.spawn_with-theirs.ensures.few
+    (none_few 0 c.args.plan.items ours (c.end_both-ours.ensures.same.0 ∙ c.requires.none)) theirs.few
 
 pub both-requires-in-Ok-started-clause-fits : goal.both-requires-in-Ok-started-clause-fits
 both-requires-in-Ok-started-clause-fits g t c =
@@ -37,8 +39,9 @@ returns-in-Err-started-clause-work g t c =
     let low : c.args.number < threads = omega arith in let left = shares_left threads c.args.number share low in
     let kept = c.in-Ok.sender in let waits = c.in-Ok.receiver in let ended = c.end_both-ours.ensures in let both = c.both.ensures in
     let ours = none_work q items 0 items (ends_taken kept waits) (ends_share kept waits) c.end_both-ours.result ended.of ended.taken (λ _. ended.share) (ended.same.0 ∙ c.requires.none) in
+    let theirs = rw c.in-Err-started.ensures.err at c.spawn_with-theirs.ensures in
     parted_work q items 0 share ((threads - c.args.number) * share) c.args.sender c.args.receiver kept waits c.in-Ok.task
-    c.end_both-ours.result c.spawn_with-theirs.result c.both.result c.in-Ok.ensures.parts ours c.spawn_with-theirs.ensures both.views.0 both.views.1 both.joined
+    c.end_both-ours.result c.spawn_with-theirs.result c.both.result c.in-Ok.ensures.parts ours theirs both.views.0 both.views.1 both.joined
     (ap length (ended.same.0 ∙ c.requires.none) ∙ length-replicate items 0) both.sums both.done (omega (arith, left))
 
 pub returns-in-Ok-started-clause-work : goal.returns-in-Ok-started-clause-work

@@ -1,5 +1,4 @@
 use Rattle.std.proofs.Common.{subst, sym}
-use Rattle.concurrent_queue.specs.Shared.{Person}
 use Rattle.queue_threads.specs.Works.{TookNothing}
 use Rattle.queue_threads.proofs.EndWorks.{idle_work}
 use Rattle.queue_threads.proofs.ends.end_at_once.Goals as goal

@@ -1,4 +1,4 @@
-use Rattle.std.proofs.Common.{◌≤◌, true, length, refl, ap, ◌∙◌, arith, length-set}
+use Rattle.std.proofs.Common.{true, length, refl, ap, ◌∙◌, arith, length-set}
 use Rattle.party_doings.specs.Doings.{takes}
 use Rattle.queue_threads.proofs.EndWorks.{received_nothing, received_one, ended_work, more_work}
 use Rattle.queue_threads.proofs.ends.receive_values.Goals as goal
