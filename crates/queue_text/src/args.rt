@@ -103,9 +103,7 @@ fn load_form(form: &str, kind: &str, pushers: &str, poppers: &str, items: &str) 
     ensures { IsReading IsForm form_words (form.now ∷ kind.now ∷ pushers.now ∷ poppers.now ∷ items.now ∷ []) result }
 {
     match form {
-        "threads" => Some(Form::Threads(parse_even_load(
-            kind, pushers, poppers, items,
-        )?)),
+        "threads" => Some(Form::Threads(parse_even_load(kind, pushers, poppers, items)?)),
         "channel" => Some(Form::Channel(parse_load(kind, pushers, poppers, items)?)),
         _ => None,
     }

@@ -74,7 +74,11 @@ pub fn run_all<R: Threads + Wait + Sync, A: Low + Send + Sync>(
                 × (counts.items ≡ replicate plan.items 0) }
             ensures { IsWorkOf channel.entry.now.queue plan.items ((plan.pushers + plan.poppers) * plan.share) (ends_taken sender receiver) (ends_share sender receiver) result
                 × (length result.counts.items ≡ plan.items) }
-        { start_from(rt, alloc, scope, channel, &gives_up, sender, receiver, counts, plan, 0) },
+        {
+            start_from(
+                rt, alloc, scope, channel, &gives_up, sender, receiver, counts, plan, 0,
+            )
+        },
     ))
 }
 
