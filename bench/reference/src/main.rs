@@ -1,4 +1,4 @@
-//! Times the reference crate as `queue_bench` times this one. The arguments are its own: `alone KIND WORK BYTES COUNT` or `threads KIND PUSHERS POPPERS COUNT`. It has one form of queue, so `owned` and `ended` are not known here.
+//! Times the reference crate as `bench_queue` times this one. The arguments are its own: `alone KIND WORK BYTES COUNT` or `threads KIND PUSHERS POPPERS COUNT`. It has one form of queue, so `owned` and `ended` are not known here.
 
 use concurrent_queue::{ConcurrentQueue, PopError};
 use std::env;
@@ -38,7 +38,7 @@ impl<T: Item> Item for Batched<T> {
     }
 }
 
-/// An item, and the loop that it goes through. Each of the two loops has an item type of its own, as in `queue_bench`.
+/// An item, and the loop that it goes through. Each of the two loops has an item type of its own, as in `bench_queue`.
 trait Runs: Item {
     /// Does all rounds on a queue.
     fn run(queue: &ConcurrentQueue<Self>, rounds: Rounds) -> Taken<Self>;

@@ -1,19 +1,19 @@
 -- A party of a shared chain between its calls, and when a call of it ended.
 use Rattle.std.specs.Prelude.{◌≡◌, true, None}
-use Rattle.block_web.specs.Laid.{WebId}
-use Rattle.block_web.specs.declared.web.Rested.{Rested}
+use Rattle.mem_blocks.specs.Laid.{WebId}
+use Rattle.mem_blocks.specs.declared.web.Rested.{Rested}
 use Rattle.queue_steps.specs.declared.model.Call.{Call}
 use Rattle.queue_steps.specs.declared.model.Reply.{Reply}
 use Rattle.queue_steps.specs.Parties.{SharedCall}
-use Rattle.queue_parties.specs.declared.known.Doing.{Doing}
-use Rattle.queue_parties.specs.Known.{view_of}
-use Rattle.queue_parties.specs.Doings.{IsResting, HasAll}
-use Rattle.queue_parties.specs.Parting.{IsParty}
+use Rattle.shared_parties.specs.declared.known.CallState.{CallState}
+use Rattle.shared_parties.specs.Known.{view_of}
+use Rattle.shared_parties.specs.CallStates.{IsResting, HasAll}
+use Rattle.shared_parties.specs.Parting.{IsParty}
 
 -- the party rests in this web
-abbrev pub RestsAt : {T : Type 0} → WebId → Rested (Doing T) → Type 0
+abbrev pub RestsAt : {T : Type 0} → WebId → Rested (CallState T) → Type 0
 RestsAt w r = (r.asleep ≡ true) × (r.web ≡ w) × IsParty r.view × (r.view.known.cap ≡ None)
 
 -- the call took the party from r to q, and it rests again
-abbrev pub EndedAt : {T : Type 0} → Rested (Doing T) → Call T → Reply T → Rested (Doing T) → Type 0
+abbrev pub EndedAt : {T : Type 0} → Rested (CallState T) → Call T → Reply T → Rested (CallState T) → Type 0
 EndedAt r c y q = (q.asleep ≡ true) × (q.web ≡ r.web) × IsResting q.view × (q.view.known.cap ≡ None) × HasAll q.view × SharedCall None (view_of r.view.known) (view_of q.view.known) c y

@@ -1,4 +1,5 @@
 pub mod Shared
-pub mod ChainTurns
+pub mod ChainSite
 pub mod InWeb
 pub mod SharedIter
+pub mod Laws

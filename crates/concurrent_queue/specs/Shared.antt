@@ -5,20 +5,20 @@ use Rattle.queue_steps.specs.declared.model.Call.{Call}
 use Rattle.queue_steps.specs.declared.model.Reply.{Reply}
 use Rattle.queue_steps.specs.Shares.{IsEntire}
 use Rattle.queue_steps.specs.Parties.{View, SharedCall, Split, Join, Meet, IsWhole}
-use Rattle.queue_steps.specs.SoleCalls.{SoleCall}
+use Rattle.queue_steps.specs.SequentialCalls.{SequentialCall}
 use Rattle.queue_steps.specs.Effect.{after}
 use Rattle.queue_steps.specs.Legal.{IsShown}
-use Rattle.queue_steps.specs.Sole.{Owned}
-use Rattle.chain_web.specs.Turning.{web_of}
+use Rattle.queue_steps.specs.Sequential.{Owned}
+use Rattle.shared_chain.specs.Turning.{web_of}
 use Rattle.concurrent_queue.specs.declared.shared.Form.{Form}
 use Rattle.concurrent_queue.specs.declared.shared.Form.TheVariants as form
-use Rattle.block_web.specs.Laid.{WebId}
-use Rattle.queue_parties.specs.declared.known.Doing.{Doing}
-use Rattle.queue_parties.specs.Known.{view_of}
-use Rattle.queue_parties.specs.Doings.{empty_seat}
-use Rattle.queue_parties.specs.Parting.{IsParty}
-use Rattle.concurrent_queue.specs.declared.party.Hold.{Hold}
-use Rattle.concurrent_queue.specs.declared.party.Hold.TheVariants as hold
+use Rattle.mem_blocks.specs.Laid.{WebId}
+use Rattle.shared_parties.specs.declared.known.CallState.{CallState}
+use Rattle.shared_parties.specs.Known.{view_of}
+use Rattle.shared_parties.specs.CallStates.{empty_seat}
+use Rattle.shared_parties.specs.Parting.{IsParty}
+use Rattle.concurrent_queue.specs.declared.party.SeatPlace.{SeatPlace}
+use Rattle.concurrent_queue.specs.declared.party.SeatPlace.TheVariants as place
 
 -- by what a queue is told from others: its table, or its web. A seat that is away is of none
 pub data QueueName : Type 0 where
@@ -41,24 +41,41 @@ abbrev pub IsPartyOf : {T : Type 0} → Person T → QueueId → Type 0
 IsPartyOf p q = p.queue ≡ q
 
 -- the party that knows this, of the queue of this name
-abbrev pub person : {T : Type 0} → QueueName → Doing T → Person T
+abbrev pub person : {T : Type 0} → QueueName → CallState T → Person T
 person n d = record { queue = record { name = n; cap = d.known.cap }; view = view_of d.known }
 
+-- of the seat at a place: its queue, its number, what it knows, and that it has nothing in hand
+abbrev pub name_at : {T : Type 0} → SeatPlace T → QueueName
+name_at (place.Table s) = at_table s.table_id
+name_at (place.Web r) = in_web r.web
+name_at place.Away = nowhere
+
+abbrev pub number_at : {T : Type 0} → SeatPlace T → ℕ
+number_at (place.Table s) = s.id
+number_at (place.Web r) = r.id
+number_at place.Away = 0
+
+abbrev pub known_at : {T : Type 0} → SeatPlace T → CallState T
+known_at (place.Table s) = s.me.0
+known_at (place.Web r) = r.view
+known_at place.Away = empty_seat
+
+abbrev pub IsFreeAt : {T : Type 0} → SeatPlace T → Type 0
+IsFreeAt (place.Table s) = s.me.1 ≡ []
+IsFreeAt (place.Web r) = r.asleep ≡ true
+IsFreeAt place.Away = ⊥
+
 -- the party with this seat
-abbrev pub person_of : {T : Type 0} → Hold T → Person T
-person_of (hold.Table s) = person (at_table s.table_id) s.me.0
-person_of (hold.Web r) = person (in_web r.web) r.view
-person_of hold.Away = person nowhere empty_seat
+abbrev pub person_of : {T : Type 0} → SeatPlace T → Person T
+person_of p = person (name_at p) (known_at p)
 
 -- between its calls
-abbrev pub IsHeld : {T : Type 0} → Hold T → Type 0
-IsHeld (hold.Table s) = IsParty s.me.0 × (s.me.1 ≡ [])
-IsHeld (hold.Web r) = IsParty r.view × (r.asleep ≡ true)
-IsHeld hold.Away = ⊥
+abbrev pub IsHeld : {T : Type 0} → SeatPlace T → Type 0
+IsHeld p = IsParty (known_at p) × IsFreeAt p
 
 -- the call takes the party from v to w. If it has all of the share, the call is one of one owner
 abbrev pub Calls : {T : Type 0} → Person T → Call T → Reply T → Person T → Type 0
-Calls v c r w = (w.queue ≡ v.queue) × SharedCall v.queue.cap v.view w.view c r × (IsEntire v.view.share → SoleCall v.queue.cap v.view w.view c r)
+Calls v c r w = (w.queue ≡ v.queue) × SharedCall v.queue.cap v.view w.view c r × (IsEntire v.view.share → SequentialCall v.queue.cap v.view w.view c r)
 
 -- the party v is parted into a and b
 abbrev pub Parts : {T : Type 0} → Person T → Person T → Person T → Type 0
@@ -77,6 +94,10 @@ abbrev pub form_id : {T A : Type 0} → Form T A → QueueId
 form_id (form.Single s) = record { name = at_table s.table.shared.table_id; cap = Some 1 }
 form_id (form.Ring r) = record { name = at_table r.table.shared.table_id; cap = Some r.table.shared.table_id.slots }
 form_id (form.Chain w) = record { name = in_web (web_of w.chain); cap = None }
+
+-- the seat is one of this queue's, and has nothing in hand
+abbrev pub SitsIn : {T A : Type 0} → Form T A → SeatPlace T → Type 0
+SitsIn f p = (name_at p ≡ (form_id f).name) × IsFreeAt p
 
 -- The queue ended with its only party p, which has all of the share, as a queue with one owner. One with a capacity holds no block
 abbrev pub Finishes : {T : Type 0} → Person T → Owned T → Type 0

@@ -4,38 +4,41 @@ ghost use Rattle.queue_steps.specs.declared.sizes.TheConstants.{MAX_CAPACITY};
 ghost use Rattle.queue_steps.specs.declared.model.Call.TheVariants as call;
 ghost use Rattle.queue_steps.specs.declared.model.Reply.TheVariants as reply;
 ghost use Rattle.queue_steps.specs.Kinds.{call_kind};
-ghost use Rattle.queue_steps.specs.Prompt.{is_prompt};
+ghost use Rattle.queue_steps.specs.WaitFree.{is_wait_free};
 ghost use Rattle.queue_steps.specs.Shares.{entire, IsEntire};
 ghost use Rattle.std.specs.Fmt.{WritesOnOk};
 ghost use Rattle.std.specs.Prelude.{ℕ, Bool, codes};
 ghost use Rattle.exclusive_queue.specs.QueueText.{queue_text};
 ghost use Rattle.concurrent_queue.specs.Shared.{IsPartyOf, Calls, Parts, Joins, Meets, Finishes};
 
+use crate::allocated_chain::AllocatedChain;
 use crate::chain;
 pub use crate::party::Party;
-use crate::party::{Hold, join, meet, split};
-use crate::shared_chain::SharedChain;
+use crate::party::SeatPlace;
+use crate::waiting::drive;
 use atomic_table::Seat;
-use block_web::low::Low;
-use chain_web::source::{Granting, Refusing, Source};
-use chain_web::web::ChainWeb;
+use call_driver::driver::drive_wait_free;
+use call_driver::fast::{Short, Usual};
+use call_driver::gate::{Gate, Open};
 use exclusive_queue::Exclusive;
 use exclusive_queue::text::write_queue;
-use party_driver::driver::{Short, Usual, drive, drive_promptly};
-use party_driver::gate::{Gate, Open};
-use queue_parties::known::Doing;
+use mem_blocks::null_testable::NullTestable;
 use queue_steps::errors::{ForcePushError, PopError, PushError};
 use queue_steps::model::{Call, Reply};
 use queue_steps::steps::{Kind, shown_len, shows_closed};
+use shared_chain::source::{Granting, Refusing, Source};
+use shared_chain::web::ChainWeb;
+use shared_parties::count::{is_only, join, meet, split};
+use shared_parties::known::CallState;
 use shared_tables::ring::{self, Rings, end_ring, open_ring};
-use shared_tables::seats::is_only;
 use shared_tables::slot::{self, Slots, end_slot, open_slot};
 use shared_tables::table::SharedTable;
 use std::alloc::{AllocError, Allocator, Global};
-use std::fmt;
 use std::marker::Model;
 use std::sync::Wait;
+use std::{fmt, mem};
 
+mod count;
 mod iter;
 
 pub use iter::TryIter;
@@ -48,7 +51,7 @@ pub struct ConcurrentQueue<T, A: Allocator = Global> {
     form: Form<T, A>,
 }
 
-/// The calls, for the driver: each has rounds of its own.
+/// The calls, for the driver: each has fast steps of its own.
 struct Pushes;
 
 struct Displaces;
@@ -64,7 +67,7 @@ enum Form<T, A: Allocator> {
     /// A ring of slots.
     Ring(SharedTable<T, Rings, A>),
     /// A chain of blocks.
-    Chain(SharedChain<T, A>),
+    Chain(AllocatedChain<T, A>),
 }
 
 impl<T, A: Allocator> Model for ConcurrentQueue<T, A> {
@@ -83,7 +86,7 @@ impl<T: Drop, A: Allocator> Drop for ConcurrentQueue<T, A> {
             Form::Single(slot) => drop(slot),
             Form::Ring(ring) => drop(ring),
             Form::Chain(queue) => {
-                let SharedChain { alloc, chain } = queue;
+                let AllocatedChain { alloc, chain } = queue;
                 chain.discard(&alloc);
             }
         }
@@ -155,7 +158,7 @@ impl<T, A: Allocator + Clone> ConcurrentQueue<T, A> {
             let (ring, seat) = open_ring(alloc, cap)?;
             (Form::Ring(ring), seat)
         };
-        Ok((ConcurrentQueue { form }, Party::at_table(seat)))
+        Ok((ConcurrentQueue { form }, Party::at(SeatPlace::Table(seat))))
     }
 }
 
@@ -169,16 +172,19 @@ impl<T, A: Allocator> ConcurrentQueue<T, A> {
     /// Where there is no memory, and where an item has 2^31 bytes or more: then no request is made.
     pub fn unbounded(alloc: A) -> Result<(Self, Party<T>), AllocError>
     where
-        A: Low,
+        A: NullTestable,
         ensures { IfOk result (λ r. IsPartyOf r.1 r.0 × (r.0.cap ≡ None) × (r.1.view ≡ record { seen = []; mine = []; share = entire })) }
     {
         let (chain, seat) = ChainWeb::open(&alloc)?;
-        let form = Form::Chain(SharedChain { alloc, chain });
-        Ok((ConcurrentQueue { form }, Party::in_web(seat.rests())))
+        let form = Form::Chain(AllocatedChain { alloc, chain });
+        Ok((
+            ConcurrentQueue { form },
+            Party::at(SeatPlace::Web(seat.rests())),
+        ))
     }
 
     /// Runs a call to its end, as each function does that may wait. The gate is asked before each of its operations, and may hold it there. The blocks that it
-    /// asks for come from `Q`; `W` tells a caller's calls apart, so that each has rounds of its own.
+    /// asks for come from `Q`; `W` tells a caller's calls apart, so that each has fast steps of its own.
     #[inline(always)]
     pub fn answer<Q: Source<T, A>, R: Wait, G: Gate, W>(
         &self,
@@ -190,44 +196,44 @@ impl<T, A: Allocator> ConcurrentQueue<T, A> {
         requires { IsPartyOf party.old self.now }
         ensures { Calls party.old call result party.new }
     {
-        match (&self.form, &mut party.hold) {
-            (Form::Single(slot), Hold::Table(seat)) => drive::<
+        match (&self.form, &mut party.place) {
+            (Form::Single(slot), SeatPlace::Table(seat)) => drive::<
                 T,
                 usize,
-                Seat<Option<T>, Doing<T>>,
+                Seat<Option<T>, CallState<T>>,
                 SharedTable<T, Slots, A>,
                 G,
                 R,
                 Short<W>,
             >(slot, rt, gate, seat, call),
-            (Form::Ring(ring), Hold::Table(seat)) => drive::<
+            (Form::Ring(ring), SeatPlace::Table(seat)) => drive::<
                 T,
                 usize,
-                Seat<Option<T>, Doing<T>>,
+                Seat<Option<T>, CallState<T>>,
                 SharedTable<T, Rings, A>,
                 G,
                 R,
                 Usual<W>,
             >(ring, rt, gate, seat, call),
-            (Form::Chain(chain), Hold::Web(rested)) => {
+            (Form::Chain(chain), SeatPlace::Web(rested)) => {
                 chain::answer::<T, A, Q, G, R, W>(chain, rt, gate, rested, call)
             }
             _ => unreachable!(),
         }
     }
 
-    /// Runs a prompt call to its end.
+    /// Runs a wait-free call to its end.
     #[inline(always)]
-    fn answer_promptly<G: Gate>(&self, gate: &G, party: &mut Party<T>, call: Call<T>) -> Reply<T>
+    fn answer_wait_free<G: Gate>(&self, gate: &G, party: &mut Party<T>, call: Call<T>) -> Reply<T>
         requires of { IsPartyOf party.old self.now }
-        requires prompt { is_prompt call ≡ true }
+        requires wait_free { is_wait_free call ≡ true }
         ensures { Calls party.old call result party.new }
     {
-        match (&self.form, &mut party.hold) {
-            (Form::Single(slot), Hold::Table(seat)) => drive_promptly(slot, gate, seat, call),
-            (Form::Ring(ring), Hold::Table(seat)) => drive_promptly(ring, gate, seat, call),
-            (Form::Chain(chain), Hold::Web(rested)) => {
-                chain::answer_promptly(chain, gate, rested, call)
+        match (&self.form, &mut party.place) {
+            (Form::Single(slot), SeatPlace::Table(seat)) => drive_wait_free(slot, gate, seat, call),
+            (Form::Ring(ring), SeatPlace::Table(seat)) => drive_wait_free(ring, gate, seat, call),
+            (Form::Chain(chain), SeatPlace::Web(rested)) => {
+                chain::answer_wait_free(chain, gate, rested, call)
             }
             _ => unreachable!(),
         }
@@ -242,10 +248,9 @@ impl<T, A: Allocator> ConcurrentQueue<T, A> {
         requires { IsPartyOf party self.now }
         ensures { MatchResult result (λ r. Parts party r.0 r.1) (λ p. (p ≡ party) × ¬ (IsEntire party.view.share)) }
     {
-        match &self.form {
-            Form::Single(slot) => split(&slot.table.shared, party),
-            Form::Ring(ring) => split(&ring.table.shared, party),
-            Form::Chain(chain) => chain::split(chain, party),
+        match split(&self.form, party.place) {
+            Ok((first, second)) => Ok((Party::at(first), Party::at(second))),
+            Err(place) => Err(Party::at(place)),
         }
     }
 
@@ -254,11 +259,7 @@ impl<T, A: Allocator> ConcurrentQueue<T, A> {
         requires { IsPartyOf first self.now × IsPartyOf second self.now }
         ensures { Joins first second result }
     {
-        match &self.form {
-            Form::Single(slot) => join(&slot.table.shared, first, second),
-            Form::Ring(ring) => join(&ring.table.shared, first, second),
-            Form::Chain(chain) => chain::join(chain, first, second),
-        }
+        Party::at(join(&self.form, first.place, second.place))
     }
 
     /// Both parties have then seen what either has seen.
@@ -266,11 +267,11 @@ impl<T, A: Allocator> ConcurrentQueue<T, A> {
         requires { IsPartyOf first.old self.now × IsPartyOf second.old self.now }
         ensures { Meets first.old second.old first.new second.new }
     {
-        match &self.form {
-            Form::Single(slot) => meet(&slot.table.shared, first, second),
-            Form::Ring(ring) => meet(&ring.table.shared, first, second),
-            Form::Chain(chain) => chain::meet(chain, first, second),
-        }
+        let one = mem::replace(&mut first.place, SeatPlace::Away);
+        let other = mem::replace(&mut second.place, SeatPlace::Away);
+        let (one, other) = meet(&self.form, one, other);
+        first.place = one;
+        second.place = other;
     }
 
     /// Appends `value`. It waits while another call has the place that it needs.
@@ -280,7 +281,7 @@ impl<T, A: Allocator> ConcurrentQueue<T, A> {
     /// `Closed` with the value on a closed queue, `Full` with the value on a full one, `NoMemory` with the value where a block was asked for and refused: that changes nothing.
     pub fn push<R: Wait>(&self, rt: &R, party: &mut Party<T>, value: T) -> Result<(), PushError<T>>
     where
-        A: Low,
+        A: NullTestable,
         requires { IsPartyOf party.old self.now }
         ensures { Calls party.old (call.Push value) (reply.Push result) party.new }
     {
@@ -302,7 +303,7 @@ impl<T, A: Allocator> ConcurrentQueue<T, A> {
         value: T,
     ) -> Result<Option<T>, ForcePushError<T>>
     where
-        A: Low,
+        A: NullTestable,
         requires { IsPartyOf party.old self.now }
         ensures { Calls party.old (call.ForcePush value) (reply.ForcePush result) party.new }
     {
@@ -348,7 +349,7 @@ impl<T, A: Allocator> ConcurrentQueue<T, A> {
         requires { IsPartyOf party.old self.now }
         ensures { Calls party.old call.Close (reply.Close result) party.new }
     {
-        match self.answer_promptly(&Open, party, Call::Close) {
+        match self.answer_wait_free(&Open, party, Call::Close) {
             Reply::Close(result) => result,
             _ => unreachable!(),
         }
@@ -359,7 +360,7 @@ impl<T, A: Allocator> ConcurrentQueue<T, A> {
         requires { IsPartyOf party.old self.now }
         ensures { Calls party.old call.IsClosed (reply.IsClosed result) party.new }
     {
-        match self.answer_promptly(&Open, party, Call::IsClosed) {
+        match self.answer_wait_free(&Open, party, Call::IsClosed) {
             Reply::IsClosed(result) => result,
             _ => unreachable!(),
         }
@@ -370,7 +371,7 @@ impl<T, A: Allocator> ConcurrentQueue<T, A> {
         requires { IsPartyOf party.old self.now }
         ensures { Calls party.old call.IsEmpty (reply.IsEmpty result) party.new }
     {
-        match self.answer_promptly(&Open, party, Call::IsEmpty) {
+        match self.answer_wait_free(&Open, party, Call::IsEmpty) {
             Reply::IsEmpty(result) => result,
             _ => unreachable!(),
         }
@@ -381,7 +382,7 @@ impl<T, A: Allocator> ConcurrentQueue<T, A> {
         requires { IsPartyOf party.old self.now }
         ensures { Calls party.old call.IsFull (reply.IsFull result) party.new }
     {
-        match self.answer_promptly(&Open, party, Call::IsFull) {
+        match self.answer_wait_free(&Open, party, Call::IsFull) {
             Reply::IsFull(result) => result,
             _ => unreachable!(),
         }
@@ -408,29 +409,19 @@ impl<T, A: Allocator> ConcurrentQueue<T, A> {
         ensures { MatchResult result (λ e. Finishes party e) (λ r. (r.0 ≡ self) × (r.1 ≡ party) × ¬ (IsEntire party.view.share)) }
     {
         let ConcurrentQueue { form } = self;
-        match (form, party.hold) {
-            (Form::Single(slot), Hold::Table(mut seat)) => {
-                if is_only(&slot.table.shared, &mut seat) {
-                    return Ok(Exclusive::of_single(end_slot(slot, seat)));
-                }
-                let form = Form::Single(slot);
-                Err((ConcurrentQueue { form }, Party::at_table(seat)))
+        let mut place = party.place;
+        if !is_only(&form, &mut place) {
+            return Err((ConcurrentQueue { form }, Party::at(place)));
+        }
+        match (form, place) {
+            (Form::Single(slot), SeatPlace::Table(seat)) => {
+                Ok(Exclusive::of_single(end_slot(slot, seat)))
             }
-            (Form::Ring(ring), Hold::Table(mut seat)) => {
-                if is_only(&ring.table.shared, &mut seat) {
-                    return Ok(end_ring(ring, seat));
-                }
-                let form = Form::Ring(ring);
-                Err((ConcurrentQueue { form }, Party::at_table(seat)))
-            }
-            (Form::Chain(queue), Hold::Web(mut rested)) => {
-                let SharedChain { alloc, chain } = queue;
-                let mut seat = chain.wake(&mut rested);
-                if chain.is_only(&mut seat) {
-                    return Ok(chain.end(alloc, seat));
-                }
-                let form = Form::Chain(SharedChain { alloc, chain });
-                Err((ConcurrentQueue { form }, Party::in_web(seat.rests())))
+            (Form::Ring(ring), SeatPlace::Table(seat)) => Ok(end_ring(ring, seat)),
+            (Form::Chain(queue), SeatPlace::Web(mut rested)) => {
+                let AllocatedChain { alloc, chain } = queue;
+                let seat = chain.wake(&mut rested);
+                Ok(chain.end(alloc, seat))
             }
             _ => unreachable!(),
         }

@@ -9,10 +9,10 @@ use Rattle.atomic_table.specs.Table.{Act, keeps, step, stepped, carried_after, V
 use Rattle.queue_steps.specs.Shares.{Share, entire, nothing, half, plus, IsEntire, IsSome, weight}
 use Rattle.queue_steps.proofs.ShareLaws.{weight_halves, weight_none}
 use Rattle.counted_channel.specs.declared.counting.Side.{Side}
-use Rattle.counted_channel.specs.declared.counting.Standing.{Standing}
+use Rattle.counted_channel.specs.declared.counting.SeatCounts.{SeatCounts}
 use Rattle.counted_channel.specs.declared.counting.TheConstants.{MAX_ENDS}
 use Rattle.counted_channel.specs.Counting.{side, nobody, both, at_side, side_at, stake_at, halved, two_seats, both_sides, first_sender, first_receiver, SideKept, Table, Seated, IsCounted, IsEnd, Added, Subtracted}
-use Rattle.counted_channel.proofs.OneSide.{total_at, ends, extra, stake, heft, changes, stays, divides, unites, few, lone}
+use Rattle.counted_channel.proofs.OneSide.{total_at, ends, extra, stake, heft, changes, stays, divides, unites, few, solo}
 
 up : (n : ℕ) → n ≤ 2 * MAX_ENDS → (n + 1) % 2 ^ 64 ≡ n + 1
 up n low = mod-eq_of_lt (let g : n + 1 < 2 ^ 64 = omega arith in g)
@@ -25,7 +25,7 @@ abbrev word_at : ℕ → Table → ℕ
 word_at i s = slice_index s.words i
 
 -- the table with another word, and another view at a seat
-abbrev moved : Table → ℕ → ℕ → ℕ → Standing → Table
+abbrev moved : Table → ℕ → ℕ → ℕ → SeatCounts → Table
 moved s i m id w = record { words = slice_set s.words i m; homes = s.homes; views = slice_set s.views id w }
 
 same_side : (i : ℕ) (x : Side) → side_at i (at_side i x) ≡ x
@@ -38,7 +38,7 @@ kept_at s c (suc zero) lt = subst (λ n. SideKept (side_at 1) n s.views) (sym (a
 kept_at s c (suc (suc i)) lt = absurd (omega (arith, lt))
 
 -- where a seat of one side goes on to know something else of it, the other side's word is still right
-placed : (s : Table) → IsCounted s → (i m id : ℕ) (v : Standing) (x y : Side) → i < 2 → get_elem? s.views id ≡ some v → v ≡ at_side i x → SideKept (side_at i) m (slice_set s.views id (at_side i y))
+placed : (s : Table) → IsCounted s → (i m id : ℕ) (v : SeatCounts) (x y : Side) → i < 2 → get_elem? s.views id ≡ some v → v ≡ at_side i x → SideKept (side_at i) m (slice_set s.views id (at_side i y))
     → IsCounted (moved s i m id (at_side i y))
 placed s c zero m id v x y lt at is kept = record {
   sent = m;
@@ -57,7 +57,7 @@ placed s c (suc zero) m id v x y lt at is kept = record {
 placed s c (suc (suc i)) m id v x y lt at is kept = absurd (omega (arith, lt))
 
 -- a step on the word of a seat that counts
-turns : (s : Table) → IsCounted s → (i m id : ℕ) (v : Standing) (x y : Side) → i < 2 → get_elem? s.views id ≡ some v → v ≡ at_side i x → y.extra ≤ y.ends → m + x.ends + x.extra ≡ word_at i s + y.ends + y.extra
+turns : (s : Table) → IsCounted s → (i m id : ℕ) (v : SeatCounts) (x y : Side) → i < 2 → get_elem? s.views id ≡ some v → v ≡ at_side i x → y.extra ≤ y.ends → m + x.ends + x.extra ≡ word_at i s + y.ends + y.extra
     → y.ends ≤ x.ends ⊎ (word_at i s < MAX_ENDS) × (y.ends ≤ x.ends + 1) → (0 < y.ends → 0 < x.ends) → y.stake ≡ x.stake → IsCounted (moved s i m id (at_side i y))
 turns s c i m id v x y lt at is more sum low on same =
     let was : side_at i v ≡ x = ap (side_at i) is ∙ same_side i x in
@@ -70,17 +70,17 @@ turns s c i m id v x y lt at is more sum low on same =
     (changes (side_at i) (word_at i s) m id s.views v (at_side i y) (kept_at s c i lt) at at_them.0 at_them.1 at_them.2 at_them.3 at_them.4)
 
 -- what the word is where a seat counts so
-one_there : (s : Table) → IsCounted s → (i id : ℕ) (v : Standing) (x : Side) → i < 2 → get_elem? s.views id ≡ some v → v ≡ at_side i x
+one_there : (s : Table) → IsCounted s → (i id : ℕ) (v : SeatCounts) (x : Side) → i < 2 → get_elem? s.views id ≡ some v → v ≡ at_side i x
     → (word_at i s ≤ 2 * MAX_ENDS) × (x.ends + x.extra ≤ word_at i s) × (IsEntire x.stake → word_at i s ≡ x.ends + x.extra)
 one_there s c i id v x lt at is =
     let was : side_at i v ≡ x = ap (side_at i) is ∙ same_side i x in
     let k = kept_at s c i lt in
     let e = total_at (ends (side_at i)) s.views id v at in let f = total_at (extra (side_at i)) s.views id v at in
     subst (λ (p : Side). (word_at i s ≤ 2 * MAX_ENDS) × (p.ends + p.extra ≤ word_at i s) × (IsEntire p.stake → word_at i s ≡ p.ends + p.extra)) was
-    (few (side_at i) (word_at i s) s.views k, omega (arith, e, f, k.counted), lone (side_at i) (word_at i s) id s.views v k at)
+    (few (side_at i) (word_at i s) s.views k, omega (arith, e, f, k.counted), solo (side_at i) (word_at i s) id s.views v k at)
 
 -- two descriptions of one seat
-same_sides : (i : ℕ) (v : Standing) (x y : Side) → v ≡ at_side i x → v ≡ at_side i y → x ≡ y
+same_sides : (i : ℕ) (v : SeatCounts) (x y : Side) → v ≡ at_side i x → v ≡ at_side i y → x ≡ y
 same_sides i v x y a b = sym (same_side i x) ∙ (ap (side_at i) (sym a ∙ b) ∙ same_side i y)
 
 pub adds : (slots id : ℕ) (m : Seated) (i : ℕ) → i < 2 → IsEnd i m → Allows IsCounted slots id m i (λ n. (n + 1) % 2 ^ 64) (Added (step slots i 1 0 none) m)
@@ -114,7 +114,7 @@ withdraws slots id m i t lt either s c _ at _ = ⊎_elim (λ me. lowers (side 1 
     only r other x me same = ⊎_elim (λ o. ap (λ z. z.stake) (same_sides i m.0 (side 1 1 r) x o me) ∙ same) (λ o. ap (λ z. z.stake) (same_sides i m.0 (side 2 0 r) x o me) ∙ same) other
 
     lowers : (x : Side) → m.0 ≡ at_side i x → x.ends + x.extra ≡ 2 → 0 < x.ends → x.stake ≡ t
-        → (w : Standing) × (a : Act (Unit {0})) × Valid s.homes m.1 a × IsCounted (stepped s i ((slice_index s.words i + (2 ^ 64 - 1)) % 2 ^ 64) id m.1 w a)
+        → (w : SeatCounts) × (a : Act (Unit {0})) × Valid s.homes m.1 a × IsCounted (stepped s i ((slice_index s.words i + (2 ^ 64 - 1)) % 2 ^ 64) id m.1 w a)
         × Subtracted (step slots i 1 0 none) m (slice_index s.words i) (w, carried_after m.1 a)
     lowers x me two pos same =
         let there = one_there s c i id m.0 x lt at me in
@@ -154,7 +154,7 @@ leaves slots id m i lt is s c _ at _ =
 halves_light : (t : Share) (d : ℕ) → t.1 ≤ d → ((half t).1 ≤ d + 1) × ((half t).1 ≤ d + 1) × (weight (d + 1) (half t) + weight (d + 1) (half t) ≤ weight (d + 1) t)
 halves_light t d low = (omega (arith, low), omega (arith, low), let e = weight_halves (d + 1) t (omega (arith, low)) in omega (arith, e))
 
-splits_side : (of : Standing → Side) (n id : ℕ) (vs : List Standing) (v l : Standing) (t : Share) → SideKept of n vs → get_elem? vs id ≡ some v → of v ≡ side 2 0 t → of l ≡ side 1 0 (half t) → SideKept of n (set vs id l ++ l ∷ [])
+splits_side : (of : SeatCounts → Side) (n id : ℕ) (vs : List SeatCounts) (v l : SeatCounts) (t : Share) → SideKept of n vs → get_elem? vs id ≡ some v → of v ≡ side 2 0 t → of l ≡ side 1 0 (half t) → SideKept of n (set vs id l ++ l ∷ [])
 splits_side of n id vs v l t k at was now =
     let ev : ends of v ≡ 2 = ap (λ z. z.ends) was in let xv : extra of v ≡ 0 = ap (λ z. z.extra) was in let el : ends of l ≡ 1 = ap (λ z. z.ends) now in let xl : extra of l ≡ 0 = ap (λ z. z.extra) now in
     let sv : t ≡ stake of v = sym (ap (λ z. z.stake) was) in let sl : half t ≡ stake of l = sym (ap (λ z. z.stake) now) in
@@ -195,7 +195,7 @@ right_all a fits = (
 )
 
 -- where one of the two takes all, and the other nothing
-gives_side : (of : Standing → Side) (n id : ℕ) (vs : List Standing) (v l r : Standing) → SideKept of n vs → get_elem? vs id ≡ some v → (of l ≡ of v) × (of r ≡ nobody) ⊎ (of l ≡ nobody) × (of r ≡ of v) → SideKept of n (set vs id l ++ r ∷ [])
+gives_side : (of : SeatCounts → Side) (n id : ℕ) (vs : List SeatCounts) (v l r : SeatCounts) → SideKept of n vs → get_elem? vs id ≡ some v → (of l ≡ of v) × (of r ≡ nobody) ⊎ (of l ≡ nobody) × (of r ≡ of v) → SideKept of n (set vs id l ++ r ∷ [])
 gives_side of n id vs v l r k at which =
     let fits = k.extra id v at in
     let parted : IsPartedSide (of v) (of l) (of r) =
@@ -208,10 +208,10 @@ halves_at zero t = refl
 halves_at (suc i) t = refl
 
 -- what a seat of two ends is parted into
-pub halves : (i : ℕ) (v : Standing) (t : Share) → v ≡ at_side i (side 2 0 t) → halved v ≡ at_side i (side 1 0 (half t))
+pub halves : (i : ℕ) (v : SeatCounts) (t : Share) → v ≡ at_side i (side 2 0 t) → halved v ≡ at_side i (side 1 0 (half t))
 halves i v t is = ap halved is ∙ halves_at i t
 
-pub splits : (id : ℕ) (v : Standing) (i : ℕ) (t : Share) → i < 2 → v ≡ at_side i (side 2 0 t) → Splits IsCounted id v (halved v) (halved v)
+pub splits : (id : ℕ) (v : SeatCounts) (i : ℕ) (t : Share) → i < 2 → v ≡ at_side i (side 2 0 t) → Splits IsCounted id v (halved v) (halved v)
 splits id v zero t lt is s c at =
     let now = halves 0 v t is in
     record {
@@ -234,7 +234,7 @@ splits id v (suc zero) t lt is s c at =
 splits id v (suc (suc i)) t lt is s c at = absurd (omega (arith, lt))
 
 -- the first seat becomes that of a sender and that of a receiver
-pub parts : (id : ℕ) (v : Standing) → v ≡ both_sides → Splits IsCounted id v first_sender first_receiver
+pub parts : (id : ℕ) (v : SeatCounts) → v ≡ both_sides → Splits IsCounted id v first_sender first_receiver
 parts id v is s c at = record {
   sent = c.sent;
   received = c.received;
@@ -244,7 +244,7 @@ parts id v is s c at = record {
 }
 
 -- two seats become one
-pub joins : (id : ℕ) (v : Standing) (other : ℕ) (w : Standing) → Joins IsCounted id v other w (two_seats v w) (both nobody nobody)
+pub joins : (id : ℕ) (v : SeatCounts) (other : ℕ) (w : SeatCounts) → Joins IsCounted id v other w (two_seats v w) (both nobody nobody)
 joins id v other w s c at two at' = record {
   sent = c.sent;
   received = c.received;
@@ -253,7 +253,7 @@ joins id v other w s c at two at' = record {
   receivers = unites (λ u. u.receivers) c.received id other s.views v w (two_seats v w) (both nobody nobody) c.receivers at at' two refl refl;
 }
 
-pub two_ends : (i : ℕ) (v w : Standing) (s t : Share) → v ≡ at_side i (side 1 0 s) → w ≡ at_side i (side 1 0 t) → two_seats v w ≡ at_side i (side 2 0 (plus s t))
+pub two_ends : (i : ℕ) (v w : SeatCounts) (s t : Share) → v ≡ at_side i (side 1 0 s) → w ≡ at_side i (side 1 0 t) → two_seats v w ≡ at_side i (side 2 0 (plus s t))
 two_ends zero v w s t a b = λ k. two_seats (a k) (b k)
 two_ends (suc i) v w s t a b = λ k. two_seats (a k) (b k)
 
@@ -267,7 +267,7 @@ begins = record {
   receivers = first_side (λ u. u.receivers) refl;
 }
   where
-    first_side : (of : Standing → Side) → of both_sides ≡ side 1 0 entire → SideKept of 1 (both_sides ∷ [])
+    first_side : (of : SeatCounts → Side) → of both_sides ≡ side 1 0 entire → SideKept of 1 (both_sides ∷ [])
     first_side of is =
         let e : ends of both_sides ≡ 1 = ap (λ z. z.ends) is in let x : extra of both_sides ≡ 0 = ap (λ z. z.extra) is in let t : stake of both_sides ≡ entire = ap (λ z. z.stake) is in
         record {
@@ -280,6 +280,6 @@ begins = record {
           one = let w : weight 0 (stake of both_sides) ≡ 1 = ap (weight 0) t in omega (arith, w);
         }
       where
-        only : (j : ℕ) (v : Standing) → get_elem? (both_sides ∷ []) j ≡ some v → (P : Standing → Type 0) → P both_sides → P v
+        only : (j : ℕ) (v : SeatCounts) → get_elem? (both_sides ∷ []) j ≡ some v → (P : SeatCounts → Type 0) → P both_sides → P v
         only zero v at P p = subst P (some-injective both_sides v at) p
         only (suc j) v at P p = absurd (some-ne-none v (sym at))

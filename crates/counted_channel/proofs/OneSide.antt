@@ -9,84 +9,84 @@ use Rattle.atomic_table.proofs.Lists.{at_set, at_snoc, set_else}
 use Rattle.queue_steps.specs.Shares.{Share, nothing, plus, IsEntire, IsSome, weight}
 use Rattle.queue_steps.proofs.ShareLaws.{weight_deeper, weight_plus, weight_none, weight_some, weight_entire, plus_comm, plus_some}
 use Rattle.counted_channel.specs.declared.counting.Side.{Side}
-use Rattle.counted_channel.specs.declared.counting.Standing.{Standing}
+use Rattle.counted_channel.specs.declared.counting.SeatCounts.{SeatCounts}
 use Rattle.counted_channel.specs.declared.counting.TheConstants.{MAX_ENDS}
 use Rattle.counted_channel.specs.Counting.{nobody, together, total, SideKept}
 
-module _ (f : Standing → ℕ) where
-  total_set : (l : List Standing) (i : ℕ) (a b : Standing) → get_elem? l i ≡ some a → total f (set l i b) + f a ≡ total f l + f b
+module _ (f : SeatCounts → ℕ) where
+  total_set : (l : List SeatCounts) (i : ℕ) (a b : SeatCounts) → get_elem? l i ≡ some a → total f (set l i b) + f a ≡ total f l + f b
   total_set [] i a b e = absurd (some-ne-none a (sym e))
   total_set (x ∷ xs) zero a b e = let p = ap f (some-injective x a e) in omega arith
   total_set (x ∷ xs) (suc i) a b e = omega (arith, total_set xs i a b e)
 
-  total_snoc : (l : List Standing) (a : Standing) → total f (l ++ a ∷ []) ≡ total f l + f a
+  total_snoc : (l : List SeatCounts) (a : SeatCounts) → total f (l ++ a ∷ []) ≡ total f l + f a
   total_snoc [] a = omega arith
   total_snoc (x ∷ xs) a = omega (arith, total_snoc xs a)
 
-  pub total_at : (l : List Standing) (i : ℕ) (a : Standing) → get_elem? l i ≡ some a → f a ≤ total f l
+  pub total_at : (l : List SeatCounts) (i : ℕ) (a : SeatCounts) → get_elem? l i ≡ some a → f a ≤ total f l
   total_at [] i a e = absurd (some-ne-none a (sym e))
   total_at (x ∷ xs) zero a e = let p = ap f (some-injective x a e) in omega arith
   total_at (x ∷ xs) (suc i) a e = omega (arith, total_at xs i a e)
 
-  total_two : (l : List Standing) (i j : ℕ) (a b : Standing) → get_elem? l i ≡ some a → get_elem? l j ≡ some b → j ≢ i → f a + f b ≤ total f l
+  total_two : (l : List SeatCounts) (i j : ℕ) (a b : SeatCounts) → get_elem? l i ≡ some a → get_elem? l j ≡ some b → j ≢ i → f a + f b ≤ total f l
   total_two [] i j a b e e' n = absurd (some-ne-none a (sym e))
   total_two (x ∷ xs) zero zero a b e e' n = absurd (n refl)
   total_two (x ∷ xs) zero (suc j) a b e e' n = let p = ap f (some-injective x a e) in omega (arith, total_at xs j b e')
   total_two (x ∷ xs) (suc i) zero a b e e' n = let p = ap f (some-injective x b e') in omega (arith, total_at xs i a e)
   total_two (x ∷ xs) (suc i) (suc j) a b e e' n = omega (arith, total_two xs i j a b e e' (λ same. n (ap suc same)))
 
-  module _ (g : Standing → ℕ) where
-    total_most : (l : List Standing) → ((j : ℕ) (v : Standing) → get_elem? l j ≡ some v → f v ≤ g v) → total f l ≤ total g l
+  module _ (g : SeatCounts → ℕ) where
+    total_most : (l : List SeatCounts) → ((j : ℕ) (v : SeatCounts) → get_elem? l j ≡ some v → f v ≤ g v) → total f l ≤ total g l
     total_most [] h = omega arith
     total_most (x ∷ xs) h = omega (arith, h 0 x refl, total_most xs (λ j v e. h (suc j) v e))
 
     -- where one has all of g, it has all of f
-    total_none : (l : List Standing) → ((j : ℕ) (v : Standing) → get_elem? l j ≡ some v → g v ≡ 0 → f v ≡ 0) → total g l ≡ 0 → total f l ≡ 0
+    total_none : (l : List SeatCounts) → ((j : ℕ) (v : SeatCounts) → get_elem? l j ≡ some v → g v ≡ 0 → f v ≡ 0) → total g l ≡ 0 → total f l ≡ 0
     total_none [] h z = refl
     total_none (x ∷ xs) h z = omega (arith, h 0 x refl (omega arith), total_none xs (λ j v e. h (suc j) v e) (omega arith))
 
-    total_lone : (l : List Standing) (i : ℕ) (a : Standing) → get_elem? l i ≡ some a → ((j : ℕ) (v : Standing) → get_elem? l j ≡ some v → g v ≡ 0 → f v ≡ 0) → total g l ≤ g a → total f l ≡ f a
-    total_lone [] i a e h all = absurd (some-ne-none a (sym e))
-    total_lone (x ∷ xs) zero a e h all =
+    total_solo : (l : List SeatCounts) (i : ℕ) (a : SeatCounts) → get_elem? l i ≡ some a → ((j : ℕ) (v : SeatCounts) → get_elem? l j ≡ some v → g v ≡ 0 → f v ≡ 0) → total g l ≤ g a → total f l ≡ f a
+    total_solo [] i a e h all = absurd (some-ne-none a (sym e))
+    total_solo (x ∷ xs) zero a e h all =
         let p = ap f (some-injective x a e) in let q = ap g (some-injective x a e) in omega (arith, total_none xs (λ j v e. h (suc j) v e) (omega arith))
-    total_lone (x ∷ xs) (suc i) a e h all =
-        let n = total_there xs i a e in omega (arith, h 0 x refl (omega arith), total_lone xs i a e (λ j v e. h (suc j) v e) (omega arith))
+    total_solo (x ∷ xs) (suc i) a e h all =
+        let n = total_there xs i a e in omega (arith, h 0 x refl (omega arith), total_solo xs i a e (λ j v e. h (suc j) v e) (omega arith))
       where
-        total_there : (l : List Standing) (i : ℕ) (a : Standing) → get_elem? l i ≡ some a → g a ≤ total g l
+        total_there : (l : List SeatCounts) (i : ℕ) (a : SeatCounts) → get_elem? l i ≡ some a → g a ≤ total g l
         total_there [] i a e = absurd (some-ne-none a (sym e))
         total_there (x ∷ xs) zero a e = let p = ap g (some-injective x a e) in omega arith
         total_there (x ∷ xs) (suc i) a e = omega (arith, total_there xs i a e)
 
-    total_times : (c : ℕ) (l : List Standing) → ((j : ℕ) (v : Standing) → get_elem? l j ≡ some v → g v ≡ f v * c) → total g l ≡ total f l * c
+    total_times : (c : ℕ) (l : List SeatCounts) → ((j : ℕ) (v : SeatCounts) → get_elem? l j ≡ some v → g v ≡ f v * c) → total g l ≡ total f l * c
     total_times c [] h = sym (zero-mul c)
     total_times c (x ∷ xs) h = (λ i. h 0 x refl i + total_times c xs (λ j v e. h (suc j) v e) i) ∙ sym (add-mul (f x) (total f xs) c)
 
-module _ (of : Standing → Side) where
-  abbrev pub ends : Standing → ℕ
+module _ (of : SeatCounts → Side) where
+  abbrev pub ends : SeatCounts → ℕ
   ends v = (of v).ends
 
-  abbrev pub extra : Standing → ℕ
+  abbrev pub extra : SeatCounts → ℕ
   extra v = (of v).extra
 
-  abbrev pub stake : Standing → Share
+  abbrev pub stake : SeatCounts → Share
   stake v = (of v).stake
 
-  abbrev pub heft : ℕ → Standing → ℕ
+  abbrev pub heft : ℕ → SeatCounts → ℕ
   heft d v = weight d (of v).stake
 
   -- all stakes are no more than one at a larger depth either
-  deeper : (d j : ℕ) (vs : List Standing) → ((k : ℕ) (v : Standing) → get_elem? vs k ≡ some v → (stake v).1 ≤ d) → total (heft d) vs ≤ 2 ^ d → total (heft (d + j)) vs ≤ 2 ^ (d + j)
+  deeper : (d j : ℕ) (vs : List SeatCounts) → ((k : ℕ) (v : SeatCounts) → get_elem? vs k ≡ some v → (stake v).1 ≤ d) → total (heft d) vs ≤ 2 ^ d → total (heft (d + j)) vs ≤ 2 ^ (d + j)
   deeper d j vs low few =
       let more : total (heft (d + j)) vs ≡ total (heft d) vs * 2 ^ j = total_times (heft d) (heft (d + j)) (2 ^ j) vs (λ k v at. weight_deeper d j (stake v) (low k v at)) in
       let wide : 2 ^ (d + j) ≡ 2 ^ d * 2 ^ j = pow-add 2 d j in
       let most : total (heft d) vs * 2 ^ j ≤ 2 ^ d * 2 ^ j = mul-le-mul_right (2 ^ j) few in
       omega (arith, more, wide, most)
 
-  in_set : (vs : List Standing) (id : ℕ) (w : Standing) (P : Standing → Type 0) → ((j : ℕ) (u : Standing) → get_elem? vs j ≡ some u → P u) → P w → (j : ℕ) (u : Standing) → get_elem? (set vs id w) j ≡ some u → P u
+  in_set : (vs : List SeatCounts) (id : ℕ) (w : SeatCounts) (P : SeatCounts → Type 0) → ((j : ℕ) (u : SeatCounts) → get_elem? vs j ≡ some u → P u) → P w → (j : ℕ) (u : SeatCounts) → get_elem? (set vs id w) j ≡ some u → P u
   in_set vs id w P before new j u there = ⊎_elim (λ (t : (j ≡ id) × (w ≡ u)). subst P t.1 new) (λ (t : (j ≢ id) × (get_elem? vs j ≡ some u)). before j u t.1) (at_set vs id j w u there)
 
   -- a seat knows something else, and the word is another
-  pub changes : (n m id : ℕ) (vs : List Standing) (v w : Standing) → SideKept of n vs → get_elem? vs id ≡ some v → extra w ≤ ends w → m + ends v + extra v ≡ n + ends w + extra w
+  pub changes : (n m id : ℕ) (vs : List SeatCounts) (v w : SeatCounts) → SideKept of n vs → get_elem? vs id ≡ some v → extra w ≤ ends w → m + ends v + extra v ≡ n + ends w + extra w
       → ends w ≤ ends v ⊎ (n < MAX_ENDS) × (ends w ≤ ends v + 1) → (0 < ends w → 0 < ends v) → stake w ≡ stake v → SideKept of m (set vs id w)
   changes n m id vs v w k at more sum low on same = record {
     extra = in_set vs id w (λ z. extra z ≤ ends z) k.extra more;
@@ -101,13 +101,13 @@ module _ (of : Standing → Side) where
   }
 
   -- a seat knows something else of the other side alone
-  pub stays : (n id : ℕ) (vs : List Standing) (v w : Standing) → SideKept of n vs → get_elem? vs id ≡ some v → of w ≡ of v → SideKept of n (set vs id w)
+  pub stays : (n id : ℕ) (vs : List SeatCounts) (v w : SeatCounts) → SideKept of n vs → get_elem? vs id ≡ some v → of w ≡ of v → SideKept of n (set vs id w)
   stays n id vs v w k at same =
       let e : ends w ≡ ends v = ap (λ s. s.ends) same in let x : extra w ≡ extra v = ap (λ s. s.extra) same in let less = k.extra id v at in
       changes n n id vs v w k at (omega (arith, e, x, less)) (omega (arith, e, x)) (inl (omega (arith, e))) (λ pos. omega (arith, pos, e)) (ap (λ s. s.stake) same)
 
   -- a seat becomes two, whose stakes are no more than its own
-  pub divides : (n id : ℕ) (vs : List Standing) (v l r : Standing) → SideKept of n vs → get_elem? vs id ≡ some v → ends l + ends r ≡ ends v → extra l + extra r ≡ extra v → extra l ≤ ends l → extra r ≤ ends r
+  pub divides : (n id : ℕ) (vs : List SeatCounts) (v l r : SeatCounts) → SideKept of n vs → get_elem? vs id ≡ some v → ends l + ends r ≡ ends v → extra l + extra r ≡ extra v → extra l ≤ ends l → extra r ≤ ends r
       → (0 < ends l → IsSome (stake v) → IsSome (stake l)) → (0 < ends r → IsSome (stake v) → IsSome (stake r))
       → ((d : ℕ) → (stake v).1 ≤ d → ((stake l).1 ≤ d + 1) × ((stake r).1 ≤ d + 1) × (heft (d + 1) l + heft (d + 1) r ≤ heft (d + 1) v)) → SideKept of n (set vs id l ++ r ∷ [])
   divides n id vs v l r k at e x fl fr sl sr parted = record {
@@ -125,11 +125,11 @@ module _ (of : Standing → Side) where
       cut : ((stake l).1 ≤ k.depth + 1) × ((stake r).1 ≤ k.depth + 1) × (heft (k.depth + 1) l + heft (k.depth + 1) r ≤ heft (k.depth + 1) v)
       cut = parted k.depth (k.shallow id v at)
 
-      in_both : (P : Standing → Type 0) → ((j : ℕ) (u : Standing) → get_elem? vs j ≡ some u → P u) → P l → P r → (j : ℕ) (u : Standing) → get_elem? (set vs id l ++ r ∷ []) j ≡ some u → P u
+      in_both : (P : SeatCounts → Type 0) → ((j : ℕ) (u : SeatCounts) → get_elem? vs j ≡ some u → P u) → P l → P r → (j : ℕ) (u : SeatCounts) → get_elem? (set vs id l ++ r ∷ []) j ≡ some u → P u
       in_both P before pl pr j u there = ⊎_elim (λ there'. in_set vs id l P before pl j u there') (λ (is : r ≡ u). subst P is pr) (at_snoc (set vs id l) r u j there)
 
   -- two seats become one, which counts for what both did
-  pub unites : (n id other : ℕ) (vs : List Standing) (v u b spent : Standing) → SideKept of n vs → get_elem? vs id ≡ some v → get_elem? (set vs id b) other ≡ some u → other ≢ id → of b ≡ together (of v) (of u) → of spent ≡ nobody
+  pub unites : (n id other : ℕ) (vs : List SeatCounts) (v u b spent : SeatCounts) → SideKept of n vs → get_elem? vs id ≡ some v → get_elem? (set vs id b) other ≡ some u → other ≢ id → of b ≡ together (of v) (of u) → of spent ≡ nobody
       → SideKept of n (set (set vs id b) other spent)
   unites n id other vs v u b spent k at at' two is gone = record {
     extra = in_pair (λ z. extra z ≤ ends z) k.extra (let a = k.extra id v at in let c = k.extra other u there in omega (arith, eb, xb, a, c)) (omega (arith, en, xn));
@@ -174,22 +174,22 @@ module _ (of : Standing → Side) where
           ⊎_elim (λ (spent' : ends v ≡ 0). subst (λ (s : Share). IsSome s) (plus_comm (stake u) (stake v)) (plus_some (stake u) (stake v) (k.has_stake other u there (omega (arith, pos, spent')))))
           (λ (more : 0 < ends v). plus_some (stake v) (stake u) (k.has_stake id v at more)) (eq-zero-or-pos (ends v))
 
-      in_pair : (P : Standing → Type 0) → ((j : ℕ) (z : Standing) → get_elem? vs j ≡ some z → P z) → P b → P spent → (j : ℕ) (z : Standing) → get_elem? (set (set vs id b) other spent) j ≡ some z → P z
+      in_pair : (P : SeatCounts → Type 0) → ((j : ℕ) (z : SeatCounts) → get_elem? vs j ≡ some z → P z) → P b → P spent → (j : ℕ) (z : SeatCounts) → get_elem? (set (set vs id b) other spent) j ≡ some z → P z
       in_pair P before pb pn = in_set (set vs id b) other spent P (in_set vs id b P before pb) pn
 
   -- a seat counted in vain lies within twice the limit
-  pub few : (n : ℕ) (vs : List Standing) → SideKept of n vs → n ≤ 2 * MAX_ENDS
+  pub few : (n : ℕ) (vs : List SeatCounts) → SideKept of n vs → n ≤ 2 * MAX_ENDS
   few n vs k = let m = total_most extra ends vs k.extra in omega (arith, m, k.counted, k.limited)
 
   -- who has all of the stakes is the only one that counts
-  pub lone : (n id : ℕ) (vs : List Standing) (v : Standing) → SideKept of n vs → get_elem? vs id ≡ some v → IsEntire (stake v) → n ≡ ends v + extra v
-  lone n id vs v k at all =
+  pub solo : (n id : ℕ) (vs : List SeatCounts) (v : SeatCounts) → SideKept of n vs → get_elem? vs id ≡ some v → IsEntire (stake v) → n ≡ ends v + extra v
+  solo n id vs v k at all =
       let full : heft k.depth v ≡ 2 ^ k.depth = weight_entire k.depth (stake v) (k.shallow id v at) all in
       let most : total (heft k.depth) vs ≤ heft k.depth v = let l = k.one in omega (arith, full, l) in
-      let e = total_lone ends (heft k.depth) vs id v at (λ j u there nil. poor j u there nil) most in
-      let x = total_lone extra (heft k.depth) vs id v at (λ j u there nil. let p = poor j u there nil in let l = k.extra j u there in omega (arith, p, l)) most in
+      let e = total_solo ends (heft k.depth) vs id v at (λ j u there nil. poor j u there nil) most in
+      let x = total_solo extra (heft k.depth) vs id v at (λ j u there nil. let p = poor j u there nil in let l = k.extra j u there in omega (arith, p, l)) most in
       let c = k.counted in omega (arith, e, x, c)
     where
-      poor : (j : ℕ) (u : Standing) → get_elem? vs j ≡ some u → heft k.depth u ≡ 0 → ends u ≡ 0
+      poor : (j : ℕ) (u : SeatCounts) → get_elem? vs j ≡ some u → heft k.depth u ≡ 0 → ends u ≡ 0
       poor j u there nil =
           ⊎_elim (λ (z : ends u ≡ 0). z) (λ (pos : 0 < ends u). let h = weight_some k.depth (stake u) (k.has_stake j u there pos) in absurd (omega (arith, nil, h))) (eq-zero-or-pos (ends u))

@@ -17,9 +17,9 @@ use Rattle.queue_steps.specs.Effect.{Runs, IsHistory, made, after_from, after}
 use Rattle.queue_steps.specs.Replies.{LacksMemory, Tells}
 use Rattle.queue_steps.specs.Shares.{Share, IsEntire}
 use Rattle.queue_steps.specs.Parties.{View, StandAt, Displaces, SharedCall}
-use Rattle.queue_steps.specs.Sole.{sole_reply, sole_state}
+use Rattle.queue_steps.specs.Sequential.{sequential_reply, sequential_state}
 use Rattle.queue_steps.specs.Legal.{IsShown}
-use Rattle.queue_steps.specs.SoleCalls.{SoleCall}
+use Rattle.queue_steps.specs.SequentialCalls.{SequentialCall}
 use Rattle.queue_steps.proofs.Keeping.{stays_closed}
 use Rattle.concurrent_queue.specs.Shared.{QueueId, Person, Calls}
 use Rattle.counted_channel.specs.Channel.{Ends}
@@ -65,13 +65,13 @@ module _ {T : Type 0} where
   abbrev pub IsRefused : Call T → Reply T → Type 0
   IsRefused c r = (es : List (Effect T)) → Tells c r es → es ≡ []
 
-  pub tries : (cap : Option ℕ) (u v w : View T) (c : Call T) (r : Reply T) → IsRefused c r → Tried u v → SharedCall cap v w c r → (IsEntire v.share → SoleCall cap v w c r) → Tried u w
-  tries cap u v w c r none tried call sole = record {
+  pub tries : (cap : Option ℕ) (u v w : View T) (c : Call T) (r : Reply T) → IsRefused c r → Tried u v → SharedCall cap v w c r → (IsEntire v.share → SequentialCall cap v w c r) → Tried u w
+  tries cap u v w c r none tried call sequential = record {
     begins = prefix_on u.seen v.seen w.seen tried.begins call.begins;
     mine = call.mine ∙ (ap (λ (ps : List ℕ). v.mine ++ ps) (nowhere w.seen (length v.seen) call.places call.effects (none call.effects call.tells) call.stand) ∙ (append-nil v.mine ∙ tried.mine));
     share = call.share ∙ tried.share;
     same = λ all.
-        let one = sole (subst (λ (s : Share). IsEntire s) (sym tried.share) all) in
+        let one = sequential (subst (λ (s : Share). IsEntire s) (sym tried.share) all) in
         one.seen ∙ (ap (λ (es : List (Effect T)). v.seen ++ es) (none one.effects one.tells) ∙ (append-nil v.seen ∙ tried.same all));
   }
 
@@ -89,7 +89,7 @@ module _ {T : Type 0} where
     displaces = displaces_on cap u.seen v.seen w.seen call.places tried.begins call.displaces;
   }
 
-  pub conforms_alone : (cap : Option ℕ) (u v w : View T) (c : Call T) (r : Reply T) → v.seen ≡ u.seen → SoleCall cap v w c r → SoleCall cap u w c r
+  pub conforms_alone : (cap : Option ℕ) (u v w : View T) (c : Call T) (r : Reply T) → v.seen ≡ u.seen → SequentialCall cap v w c r → SequentialCall cap u w c r
   conforms_alone cap u v w c r same call = record {
     effects = call.effects;
     tells = call.tells;
@@ -97,7 +97,7 @@ module _ {T : Type 0} where
     table =
         subst
         (λ (s : List (Effect T)).
-        ((r ≡ sole_reply (after cap s) c) × IsShown (sole_state (after cap s) c) (after cap w.seen)) ⊎ ((cap ≡ None) × LacksMemory (after cap s) c r × (call.effects ≡ []))) same
+        ((r ≡ sequential_reply (after cap s) c) × IsShown (sequential_state (after cap s) c) (after cap w.seen)) ⊎ ((cap ≡ None) × LacksMemory (after cap s) c r × (call.effects ≡ []))) same
         call.table;
   }
 
@@ -109,7 +109,7 @@ module _ {T : Type 0} where
   conforms_then u v w c r same tried called = (
     called.0 ∙ same,
     subst (λ (q : QueueId). SharedCall q.cap u.view w.view c r) same (conforms v.queue.cap u.view v.view w.view c r tried called.1),
-    λ all. subst (λ (q : QueueId). SoleCall q.cap u.view w.view c r) same
+    λ all. subst (λ (q : QueueId). SequentialCall q.cap u.view w.view c r) same
         (conforms_alone v.queue.cap u.view v.view w.view c r (tried.same all) (called.2 (subst (λ (s : Share). IsEntire s) (sym tried.share) all))),
   )
 

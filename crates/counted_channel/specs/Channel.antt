@@ -12,7 +12,7 @@ use Rattle.queue_steps.specs.declared.errors.ForcePushError.TheVariants as force
 use Rattle.queue_steps.specs.Effect.{IsHistory, after}
 use Rattle.queue_steps.specs.Shares.{Share, SamePart, entire, half, plus}
 use Rattle.concurrent_queue.specs.Shared.{QueueId, Person, Calls, Parts, Joins}
-use Rattle.counted_channel.specs.declared.counting.Standing.{Standing}
+use Rattle.counted_channel.specs.declared.counting.SeatCounts.{SeatCounts}
 use Rattle.counted_channel.specs.declared.errors.SendError.{SendError}
 use Rattle.counted_channel.specs.declared.errors.SendError.TheVariants as send
 use Rattle.counted_channel.specs.declared.errors.Disconnected.{Disconnected}
@@ -30,7 +30,7 @@ pub record End (T : Type 0) : Type 0 where
   pub stake : Share
 
 -- the end of the side of this word with this party, which the table counts as its seat knows
-abbrev pub end_at : {T : Type 0} → ℕ → Person T → TableId → Standing → End T
+abbrev pub end_at : {T : Type 0} → ℕ → Person T → TableId → SeatCounts → End T
 end_at i p c v = record { party = p; counts = c; stake = stake_at i v }
 
 -- the end is one of this channel's

@@ -26,7 +26,7 @@ pub struct Side {
 }
 
 /// What a seat knows of both sides. No value of it is made.
-pub struct Standing {
+pub struct SeatCounts {
     pub senders: Side,
     pub receivers: Side,
 }
@@ -34,7 +34,7 @@ pub struct Standing {
 /// The rule: each word is the number of ends for which the seats count, and how many more they were counted for.
 pub struct Counted;
 
-impl TableRule<(), Standing, ()> for Counted {
+impl TableRule<(), SeatCounts, ()> for Counted {
     ghost use Rattle.counted_channel.specs.Counting.{IsCounted, both_sides};
 
     ghost holds = { λ _. IsCounted };
@@ -45,7 +45,7 @@ impl TableRule<(), Standing, ()> for Counted {
 /// A word is raised.
 struct Add;
 
-impl Play<(), Standing> for Add {
+impl Play<(), SeatCounts> for Add {
     ghost use Rattle.counted_channel.specs.Counting.{Added};
 
     ghost then = { Added };
@@ -54,7 +54,7 @@ impl Play<(), Standing> for Add {
 /// A word is lowered.
 struct Subtract;
 
-impl Play<(), Standing> for Subtract {
+impl Play<(), SeatCounts> for Subtract {
     ghost use Rattle.counted_channel.specs.Counting.{Subtracted};
 
     ghost then = { Subtracted };
@@ -63,7 +63,7 @@ impl Play<(), Standing> for Subtract {
 /// The first seat becomes that of a sender and that of a receiver.
 struct Apart;
 
-impl Split<Standing> for Apart {
+impl Split<SeatCounts> for Apart {
     ghost use Rattle.counted_channel.specs.Counting.{first_sender, first_receiver};
 
     ghost left = { λ v. first_sender };
@@ -74,7 +74,7 @@ impl Split<Standing> for Apart {
 /// The seat of two ends of a side becomes two seats, of one end each.
 struct Halves;
 
-impl Split<Standing> for Halves {
+impl Split<SeatCounts> for Halves {
     ghost use Rattle.counted_channel.specs.Counting.{halved};
 
     ghost left = { halved };
@@ -85,7 +85,7 @@ impl Split<Standing> for Halves {
 /// Two seats become one, which counts for what both did.
 struct Both;
 
-impl Join<Standing> for Both {
+impl Join<SeatCounts> for Both {
     ghost use Rattle.counted_channel.specs.Counting.{nobody, both, two_seats};
 
     ghost both = { two_seats };
@@ -94,13 +94,13 @@ impl Join<Standing> for Both {
 }
 
 /// The words of a channel.
-pub(crate) type Counts<A> = Table<(), Standing, (), Counted, A>;
+pub(crate) type Counts<A> = Table<(), SeatCounts, (), Counted, A>;
 
 /// The words, as threads see them.
-pub(crate) type Words = Shared<(), Standing, (), Counted>;
+pub(crate) type Words = Shared<(), SeatCounts, (), Counted>;
 
 /// The seat of an end.
-pub(crate) type Place = Seat<(), Standing>;
+pub(crate) type Place = Seat<(), SeatCounts>;
 
 /// The words, which count one sender and one receiver, and the seats of these.
 ///

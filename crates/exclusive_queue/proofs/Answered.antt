@@ -9,8 +9,8 @@ use Rattle.queue_steps.specs.declared.model.Reply.TheVariants as reply
 use Rattle.queue_steps.specs.declared.errors.PushError.TheVariants as push
 use Rattle.queue_steps.specs.declared.errors.ForcePushError.TheVariants as force
 use Rattle.queue_steps.specs.Kinds.{call_kind, filled}
-use Rattle.queue_steps.specs.Sole.{Owned, Sole, is_spent}
-use Rattle.owner_driver.specs.Apart.{answered, AnswersApart}
+use Rattle.queue_steps.specs.Sequential.{Owned, Sequential, is_spent}
+use Rattle.call_driver.specs.Apart.{answered, AnswersApart}
 
 -- a reply that is filled, if it is, answers the call that its kind answers
 abbrev Keeps : {T : Type 0} → Option (Reply T) → Call Unit → Type 0
@@ -59,44 +59,44 @@ picks k false false true o p q r is_o is_p is_q is_r = is_q
 picks k false false false o p q r is_o is_p is_q is_r = is_r
 
 -- what a call is answered by the table of one owner is an answer to it
-sole-answered : {T : Type 0} (P R : Owned T) (c : Call T) (x : Reply T) → Sole P c x R → answered x ≡ call_kind c
-sole-answered P R (call.Push v) x (inl s) = ap answered s.0 ∙ picks (call.Push tt) P.queue.closed (is_spent P.queue) (is_full P.queue) _ _ _ _ refl refl refl refl
-sole-answered P R (call.ForcePush v) x (inl s) = ap answered s.0 ∙ picks (call.ForcePush tt) P.queue.closed (is_spent P.queue) (is_full P.queue) _ _ _ _ refl refl refl refl
-sole-answered P R call.Pop x (inl s) = ap answered s.0
-sole-answered P R call.Close x (inl s) = ap answered s.0
-sole-answered P R call.IsClosed x (inl s) = ap answered s.0
-sole-answered P R call.IsEmpty x (inl s) = ap answered s.0
-sole-answered P R call.IsFull x (inl s) = ap answered s.0
-sole-answered P R call.Len x (inl s) = ap answered s.0
-sole-answered P R call.Capacity x (inl s) = ap answered s.0
-sole-answered P R call.Pop x (inr s) = absurd s.0
-sole-answered P R call.Close x (inr s) = absurd s.0
-sole-answered P R call.IsClosed x (inr s) = absurd s.0
-sole-answered P R call.IsEmpty x (inr s) = absurd s.0
-sole-answered P R call.IsFull x (inr s) = absurd s.0
-sole-answered P R call.Len x (inr s) = absurd s.0
-sole-answered P R call.Capacity x (inr s) = absurd s.0
-sole-answered P R (call.Push v) (reply.Push x) (inr s) = refl
-sole-answered P R (call.Push v) (reply.ForcePush x) (inr s) = absurd s.0
-sole-answered P R (call.Push v) (reply.Pop x) (inr s) = absurd s.0
-sole-answered P R (call.Push v) (reply.Close x) (inr s) = absurd s.0
-sole-answered P R (call.Push v) (reply.IsClosed x) (inr s) = absurd s.0
-sole-answered P R (call.Push v) (reply.IsEmpty x) (inr s) = absurd s.0
-sole-answered P R (call.Push v) (reply.IsFull x) (inr s) = absurd s.0
-sole-answered P R (call.Push v) (reply.Len x) (inr s) = absurd s.0
-sole-answered P R (call.Push v) (reply.Capacity x) (inr s) = absurd s.0
-sole-answered P R (call.ForcePush v) (reply.Push x) (inr s) = absurd s.0
-sole-answered P R (call.ForcePush v) (reply.ForcePush x) (inr s) = refl
-sole-answered P R (call.ForcePush v) (reply.Pop x) (inr s) = absurd s.0
-sole-answered P R (call.ForcePush v) (reply.Close x) (inr s) = absurd s.0
-sole-answered P R (call.ForcePush v) (reply.IsClosed x) (inr s) = absurd s.0
-sole-answered P R (call.ForcePush v) (reply.IsEmpty x) (inr s) = absurd s.0
-sole-answered P R (call.ForcePush v) (reply.IsFull x) (inr s) = absurd s.0
-sole-answered P R (call.ForcePush v) (reply.Len x) (inr s) = absurd s.0
-sole-answered P R (call.ForcePush v) (reply.Capacity x) (inr s) = absurd s.0
+sequential-answered : {T : Type 0} (P R : Owned T) (c : Call T) (x : Reply T) → Sequential P c x R → answered x ≡ call_kind c
+sequential-answered P R (call.Push v) x (inl s) = ap answered s.0 ∙ picks (call.Push tt) P.queue.closed (is_spent P.queue) (is_full P.queue) _ _ _ _ refl refl refl refl
+sequential-answered P R (call.ForcePush v) x (inl s) = ap answered s.0 ∙ picks (call.ForcePush tt) P.queue.closed (is_spent P.queue) (is_full P.queue) _ _ _ _ refl refl refl refl
+sequential-answered P R call.Pop x (inl s) = ap answered s.0
+sequential-answered P R call.Close x (inl s) = ap answered s.0
+sequential-answered P R call.IsClosed x (inl s) = ap answered s.0
+sequential-answered P R call.IsEmpty x (inl s) = ap answered s.0
+sequential-answered P R call.IsFull x (inl s) = ap answered s.0
+sequential-answered P R call.Len x (inl s) = ap answered s.0
+sequential-answered P R call.Capacity x (inl s) = ap answered s.0
+sequential-answered P R call.Pop x (inr s) = absurd s.0
+sequential-answered P R call.Close x (inr s) = absurd s.0
+sequential-answered P R call.IsClosed x (inr s) = absurd s.0
+sequential-answered P R call.IsEmpty x (inr s) = absurd s.0
+sequential-answered P R call.IsFull x (inr s) = absurd s.0
+sequential-answered P R call.Len x (inr s) = absurd s.0
+sequential-answered P R call.Capacity x (inr s) = absurd s.0
+sequential-answered P R (call.Push v) (reply.Push x) (inr s) = refl
+sequential-answered P R (call.Push v) (reply.ForcePush x) (inr s) = absurd s.0
+sequential-answered P R (call.Push v) (reply.Pop x) (inr s) = absurd s.0
+sequential-answered P R (call.Push v) (reply.Close x) (inr s) = absurd s.0
+sequential-answered P R (call.Push v) (reply.IsClosed x) (inr s) = absurd s.0
+sequential-answered P R (call.Push v) (reply.IsEmpty x) (inr s) = absurd s.0
+sequential-answered P R (call.Push v) (reply.IsFull x) (inr s) = absurd s.0
+sequential-answered P R (call.Push v) (reply.Len x) (inr s) = absurd s.0
+sequential-answered P R (call.Push v) (reply.Capacity x) (inr s) = absurd s.0
+sequential-answered P R (call.ForcePush v) (reply.Push x) (inr s) = absurd s.0
+sequential-answered P R (call.ForcePush v) (reply.ForcePush x) (inr s) = refl
+sequential-answered P R (call.ForcePush v) (reply.Pop x) (inr s) = absurd s.0
+sequential-answered P R (call.ForcePush v) (reply.Close x) (inr s) = absurd s.0
+sequential-answered P R (call.ForcePush v) (reply.IsClosed x) (inr s) = absurd s.0
+sequential-answered P R (call.ForcePush v) (reply.IsEmpty x) (inr s) = absurd s.0
+sequential-answered P R (call.ForcePush v) (reply.IsFull x) (inr s) = absurd s.0
+sequential-answered P R (call.ForcePush v) (reply.Len x) (inr s) = absurd s.0
+sequential-answered P R (call.ForcePush v) (reply.Capacity x) (inr s) = absurd s.0
 
 -- the kind of the reply tells the call
 pub apart-answered : {T : Type 0} (P R : Owned T) (c : Call T) (r : Reply Unit) (y : Option T) → AnswersApart P c r y R → answered r ≡ call_kind c
 apart-answered P R c r y told =
     let kept : answered told.0 ≡ answered r = subst (λ it. Keeps it (answered r)) told.1 (filled-keeps r y) in
-    sym kept ∙ sole-answered P R c told.0 told.2
+    sym kept ∙ sequential-answered P R c told.0 told.2

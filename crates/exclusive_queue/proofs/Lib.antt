@@ -1,5 +1,5 @@
 pub mod Pops
-pub mod SoleRuns
+pub mod SequentialRuns
 pub mod Answered
 mod Iterations
 mod Texts

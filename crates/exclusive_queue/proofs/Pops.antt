@@ -1,7 +1,7 @@
 -- What pops do to the number of items.
 use Rattle.std.proofs.Common.{◌≡◌, ◌<◌, Bool, List, [], ◌∷◌, length, Result, Ok, Err, refl, arith, sym, ap, ◌∙◌, subst, inl, inr}
 use Rattle.queue_steps.specs.Effect.{rest}
-use Rattle.queue_steps.specs.Sole.{Owned, Sole, pop_result}
+use Rattle.queue_steps.specs.Sequential.{Owned, Sequential, pop_result}
 use Rattle.queue_steps.specs.declared.errors.PopError.{PopError}
 use Rattle.queue_steps.specs.declared.model.Call.TheVariants as call
 use Rattle.queue_steps.specs.declared.model.Reply.TheVariants as reply
@@ -16,14 +16,14 @@ module _ {T : Type 0} where
   none closed (y ∷ ys) e is = cc
 
   -- one that gives an item leaves fewer
-  pub pop-fewer : (P R : Owned T) (result : Result T PopError) (x : T) → result ≡ Ok x → Sole P call.Pop (reply.Pop result) R → length R.queue.items < length P.queue.items
+  pub pop-fewer : (P R : Owned T) (result : Result T PopError) (x : T) → result ≡ Ok x → Sequential P call.Pop (reply.Pop result) R → length R.queue.items < length P.queue.items
   pop-fewer P R result x is (inl s) =
       let same : result ≡ pop_result P.queue.closed P.queue.items = cc in
       subst (λ xs. length xs < length P.queue.items) (sym (ap (λ o. o.queue.items) s.1)) (fewer P.queue.closed P.queue.items x (sym same ∙ is))
   pop-fewer P R result x is (inr s) = absurd s.0
 
   -- one that gives none leaves none
-  pub pop-none : (P R : Owned T) (result : Result T PopError) (e : PopError) → result ≡ Err e → Sole P call.Pop (reply.Pop result) R → R.queue.items ≡ []
+  pub pop-none : (P R : Owned T) (result : Result T PopError) (e : PopError) → result ≡ Err e → Sequential P call.Pop (reply.Pop result) R → R.queue.items ≡ []
   pop-none P R result e is (inl s) =
       let same : result ≡ pop_result P.queue.closed P.queue.items = cc in
       ap (λ o. o.queue.items) s.1 ∙ none P.queue.closed P.queue.items e (sym same ∙ is)

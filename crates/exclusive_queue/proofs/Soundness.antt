@@ -2,15 +2,15 @@
 use Rattle.std.proofs.Common.{◌-◌, ◌≤◌, length, Option, Some, None, refl, arith, inl, inr}
 use Rattle.queue_steps.specs.Words.{position_of}
 use Rattle.queue_steps.specs.Legal.{IsSoundOwned}
-use Rattle.bounded_cells.specs.SingleCells.{items_in, single_owned, IsIdle as IsSlotIdle}
-use Rattle.bounded_cells.specs.RingKeeps.{length-items_of}
-use Rattle.bounded_cells.specs.RingCells.{RingState}
-use Rattle.bounded_cells.specs.RingOwned.{IsIdle, ring_owned}
-use Rattle.unbounded_cells.specs.LineSole.{holds-blocks}
-use Rattle.unbounded_cells.specs.LineCells.{Line}
-use Rattle.unbounded_cells.specs.LineOwned.{line_owned, IsIdle as IsLineIdle}
+use Rattle.own_bounded.specs.SingleCells.{items_in, single_owned, IsIdle as IsSlotIdle}
+use Rattle.own_bounded.specs.Laws.RingKeeps.{length-items_of}
+use Rattle.own_bounded.specs.RingCells.{RingState}
+use Rattle.own_bounded.specs.RingOwned.{IsIdle, ring_owned}
+use Rattle.own_unbounded.specs.Laws.OwnChainSequential.{holds-blocks}
+use Rattle.own_unbounded.specs.OwnChainCells.{OwnChain}
+use Rattle.own_unbounded.specs.OwnChainOwned.{own_chain_owned, IsIdle as IsOwnChainIdle}
 use Rattle.exclusive_queue.specs.Exclusive.{form_owned, IsFormIdle}
-use Rattle.bounded_cells.specs.declared.single.Single.{Single as Slot}
+use Rattle.own_bounded.specs.declared.single.Single.{Single as Slot}
 use Rattle.exclusive_queue.specs.declared.exclusive.Form.{Form}
 use Rattle.exclusive_queue.specs.declared.exclusive.Form.TheVariants as form
 
@@ -28,7 +28,7 @@ sound_ring r idle =
 pub sound_slot : {T : Type 0} (s : Slot T) → IsSlotIdle s → IsSoundOwned (single_owned s)
 sound_slot s idle = (record { none_coming = refl; within = (omega arith, one_at_most s.item); counted = inl refl }, inl refl)
 
-pub sound_blocks : {T : Type 0} (l : Line T) → IsLineIdle l → IsSoundOwned (line_owned l)
+pub sound_blocks : {T : Type 0} (l : OwnChain T) → IsOwnChainIdle l → IsSoundOwned (own_chain_owned l)
 sound_blocks l idle = (record { none_coming = refl; within = tt; counted = inr idle.below }, holds-blocks l idle)
 
 pub sound : {T A : Type 0} (f : Form T A) → IsFormIdle f → IsSoundOwned (form_owned f)

@@ -1,8 +1,8 @@
 -- What a queue with one owner shows.
-use Rattle.queue_steps.specs.Sole.{Owned}
-use Rattle.bounded_cells.specs.SingleCells as single
-use Rattle.bounded_cells.specs.RingOwned as ring
-use Rattle.unbounded_cells.specs.LineOwned as line
+use Rattle.queue_steps.specs.Sequential.{Owned}
+use Rattle.own_bounded.specs.SingleCells as single
+use Rattle.own_bounded.specs.RingOwned as ring
+use Rattle.own_unbounded.specs.OwnChainOwned as line
 use Rattle.exclusive_queue.specs.declared.exclusive.Form.{Form}
 use Rattle.exclusive_queue.specs.declared.exclusive.Form.TheVariants as form
 use Rattle.exclusive_queue.specs.declared.exclusive.Exclusive.TheInside.{Inside}
@@ -10,7 +10,7 @@ use Rattle.exclusive_queue.specs.declared.exclusive.Exclusive.TheInside.{Inside}
 abbrev pub form_owned : {T A : Type 0} → Form T A → Owned T
 form_owned (form.Single s) = single.single_owned s
 form_owned (form.Bounded r) = ring.ring_owned r
-form_owned (form.Unbounded r) = line.line_owned r
+form_owned (form.Unbounded r) = line.own_chain_owned r
 
 -- no call is on its way
 abbrev pub IsFormIdle : {T A : Type 0} → Form T A → Type 0

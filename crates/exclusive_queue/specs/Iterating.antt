@@ -2,13 +2,13 @@
 use Rattle.std.specs.Prelude.{◌≡◌, List, Option}
 use Rattle.std.specs.Borrow.{GName}
 use Rattle.std.specs.Iterator.{YieldsFirst, Yields}
-use Rattle.queue_steps.specs.Sole.{Owned, moved, sole_state}
+use Rattle.queue_steps.specs.Sequential.{Owned, moved, sequential_state}
 use Rattle.queue_steps.specs.declared.model.Call.TheVariants as call
 use Rattle.exclusive_queue.specs.declared.exclusive.iter.TryIter.{TryIter}
 
 -- the queue as a pop leaves it
 abbrev pub popped : {T : Type 0} → Owned T → Owned T
-popped P = moved P (sole_state P.queue call.Pop)
+popped P = moved P (sequential_state P.queue call.Pop)
 
 module _ {T A : Type 0} where
   -- the items that are still to come: all that the queue holds

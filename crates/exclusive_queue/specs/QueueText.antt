@@ -2,7 +2,7 @@
 use Rattle.std.specs.Prelude.{ℕ, Bool, List, [], ◌∷◌, length, Option, Some, None, codes, if◌then◌else◌}
 use Rattle.std.specs.List.{concat}
 use Rattle.std.specs.Fmt.{decimal}
-use Rattle.queue_steps.specs.Sole.{Owned}
+use Rattle.queue_steps.specs.Sequential.{Owned}
 
 abbrev pub capacity_text : Option ℕ → List ℕ
 capacity_text None = codes "None"

@@ -3,17 +3,17 @@ ghost use Rattle.std.specs.Prelude.{◌≡◌, ◌+◌, ◌<◌, ◌≤◌, ◌=
 ghost use Rattle.queue_steps.specs.declared.sizes.TheConstants.{LIMIT, MAX_CAPACITY};
 ghost use Rattle.queue_steps.specs.State.{start, is_full};
 ghost use Rattle.queue_steps.specs.Replies.{is_empty};
-ghost use Rattle.queue_steps.specs.Sole.{Sole, HoldsBlocks, fresh};
+ghost use Rattle.queue_steps.specs.Sequential.{Sequential, HoldsBlocks, fresh};
 ghost use Rattle.queue_steps.specs.Legal.{IsSoundOwned};
-ghost use Rattle.bounded_cells.specs.SingleCells.{IsIdle, single_owned};
-ghost use Rattle.bounded_cells.specs.RingOwned.{IsIdle as IsRingIdle, ring_owned};
-ghost use Rattle.bounded_cells.specs.RingMemory.{ring_in};
-ghost use Rattle.bounded_cells.specs.declared.ring_words.TheConstants.{STAMPS};
+ghost use Rattle.own_bounded.specs.SingleCells.{IsIdle, single_owned};
+ghost use Rattle.own_bounded.specs.RingOwned.{IsIdle as IsRingIdle, ring_owned};
+ghost use Rattle.own_bounded.specs.RingMemory.{ring_in};
+ghost use Rattle.own_bounded.specs.declared.ring_words.TheConstants.{STAMPS};
 ghost use Rattle.std.specs.Mem.Slots.{slots_items, slots_len, IsFull};
-ghost use Rattle.unbounded_cells.specs.LineOwned.{IsIdle as IsLineIdle, line_owned};
-ghost use Rattle.unbounded_cells.specs.ChainMemory.{AreHeld, line_in};
+ghost use Rattle.own_unbounded.specs.OwnChainOwned.{IsIdle as IsOwnChainIdle, own_chain_owned};
+ghost use Rattle.own_unbounded.specs.ChainMemory.{AreHeld, own_chain_in};
 ghost use Rattle.exclusive_queue.specs.QueueText.{exclusive_text};
-ghost use Rattle.owner_driver.specs.Apart.{FitsCall, SoleApart};
+ghost use Rattle.call_driver.specs.Apart.{FitsCall, SequentialApart};
 ghost use Rattle.queue_steps.specs.declared.model.Call.TheVariants as call;
 ghost use Rattle.queue_steps.specs.declared.model.Reply.TheVariants as reply;
 
@@ -21,17 +21,17 @@ use crate::sealed::Sealed;
 use crate::store::Store;
 use crate::text::write_queue;
 use atomic_table::Closed;
-use block_web::chain::Chain;
-use block_web::item::{Item, Place};
-use bounded_cells::bounded::Ring;
-use bounded_cells::single::Single;
-use owner_driver::driver::drive_apart;
+use call_driver::own::drive_in_loop;
+use mem_blocks::chain::Chain;
+use mem_blocks::item::{Item, Place};
+use own_bounded::bounded::Ring;
+use own_bounded::single::Single;
+use own_unbounded::unbounded::{LinkedBlocks, Name};
 use queue_steps::errors::{ForcePushError, PopError, PushError};
 use queue_steps::model::{Call, CallKind, Reply, ReplyKind};
 use std::alloc::{AllocError, Allocator, Global};
 use std::fmt;
 use std::marker::Model;
-use unbounded_cells::unbounded::{LinkedBlocks, Name};
 
 mod iter;
 
@@ -39,7 +39,7 @@ pub use iter::TryIter;
 
 /// A queue with one owner, first in first out, that can be closed.
 ///
-/// A contract sees the abstract queue and the number of blocks that it holds. Each call answers by the table of one owner, `Sole`.
+/// A contract sees the abstract queue and the number of blocks that it holds. Each call answers by the table of one owner, `Sequential`.
 pub struct Exclusive<T, A: Allocator = Global> {
     form: Form<T, A>,
 }
@@ -55,7 +55,7 @@ enum Form<T, A: Allocator> {
 }
 
 impl<T, A: Allocator> Model for Exclusive<T, A> {
-    ghost use Rattle.queue_steps.specs.Sole.{Owned};
+    ghost use Rattle.queue_steps.specs.Sequential.{Owned};
 
     ghost Value = { Owned T };
 
@@ -93,10 +93,10 @@ impl<T, A: Allocator> fmt::Debug for Exclusive<T, A> {
 
 /// Drops the items that are left, and gives all memory back.
 fn give_up<T: Drop, A: Allocator>(mut blocks: LinkedBlocks<T, A>)
-    requires { IsLineIdle blocks }
+    requires { IsOwnChainIdle blocks }
 {
     loop {
-        match drive_apart::<T, Name<T>, LinkedBlocks<T, A>>(&mut blocks, Call::Pop) {
+        match drive_in_loop::<T, Name<T>, LinkedBlocks<T, A>>(&mut blocks, Call::Pop) {
             Reply::Pop(result) => match result {
                 Ok(item) => drop(item),
                 Err(_) => break,
@@ -118,7 +118,7 @@ impl<T, A: Allocator> Form<T, A> {
         requires idle { IsFormIdle self.old }
         requires whole { FitsCall call carried.old }
         ensures idle { IsFormIdle self.new }
-        ensures sole { SoleApart (form_owned self.old) call carried.old result carried.new (form_owned self.new) }
+        ensures sequential { SequentialApart (form_owned self.old) call carried.old result carried.new (form_owned self.new) }
     {
         // the compiler tests last for what stands first: one slot, which has the fewest steps, is to be found by one test
         match self {
@@ -152,7 +152,7 @@ impl<T, A: Allocator> Sealed<T> for Exclusive<T, A> {
     fn settle<W>(&mut self, call: CallKind, carried: &mut Option<T>) -> ReplyKind
         requires whole { FitsCall call carried.old }
         ensures idle { Unit {0} }
-        ensures sole { SoleApart self.old call carried.old result carried.new self.new }
+        ensures sequential { SequentialApart self.old call carried.old result carried.new self.new }
     {
         self.form.settle::<W>(call, carried)
     }
@@ -276,8 +276,8 @@ impl<T, A: Allocator> Exclusive<T, A> {
     ) -> Self
         requires heap { chain.heap ≡ alloc }
         requires held { AreHeld chain.blocks }
-        requires idle { IsLineIdle (line_in head tail front back chain.blocks) }
-        ensures { result ≡ line_owned (line_in head tail front back chain.blocks) }
+        requires idle { IsOwnChainIdle (own_chain_in head tail front back chain.blocks) }
+        ensures { result ≡ own_chain_owned (own_chain_in head tail front back chain.blocks) }
     {
         Exclusive {
             form: Form::Unbounded(LinkedBlocks::of_chain(alloc, chain, head, tail, front, back)),
@@ -300,7 +300,7 @@ impl<T, A: Allocator> Exclusive<T, A> {
     ///
     /// `Closed` with the value on a closed queue, `Full` with the value on a full one, `NoMemory` with the value where a block was asked for and refused. A queue that has accepted `LIMIT` items answers `Closed`, and is closed from then on.
     pub fn push(&mut self, value: T) -> Result<(), PushError<T>>
-        ensures { Sole self.old (call.Push value) (reply.Push result) self.new }
+        ensures { Sequential self.old (call.Push value) (reply.Push result) self.new }
     {
         Store::push(self, value)
     }
@@ -313,7 +313,7 @@ impl<T, A: Allocator> Exclusive<T, A> {
     ///
     /// `Closed` with the value on a closed queue, `NoMemory` with the value where a block was asked for and refused.
     pub fn force_push(&mut self, value: T) -> Result<Option<T>, ForcePushError<T>>
-        ensures { Sole self.old (call.ForcePush value) (reply.ForcePush result) self.new }
+        ensures { Sequential self.old (call.ForcePush value) (reply.ForcePush result) self.new }
     {
         Store::force_push(self, value)
     }
@@ -324,14 +324,14 @@ impl<T, A: Allocator> Exclusive<T, A> {
     ///
     /// On an empty queue `Empty`, or `Closed` if it is closed.
     pub fn pop(&mut self) -> Result<T, PopError>
-        ensures { Sole self.old call.Pop (reply.Pop result) self.new }
+        ensures { Sequential self.old call.Pop (reply.Pop result) self.new }
     {
         Store::pop(self)
     }
 
     /// Closes the queue, and tells whether this call did it. The items stay.
     pub fn close(&mut self) -> bool
-        ensures { Sole self.old call.Close (reply.Close result) self.new }
+        ensures { Sequential self.old call.Close (reply.Close result) self.new }
     {
         Store::close(self)
     }

@@ -5,12 +5,12 @@ ghost use Rattle.std.specs.Prelude.{◌≡◌, IsSome, Some};
 ghost use Rattle.queue_steps.specs.Kinds.{filled};
 ghost use Rattle.queue_steps.specs.declared.model.Call.{Call as SpecCall};
 ghost use Rattle.queue_steps.specs.declared.model.Call.TheVariants as call;
-ghost use Rattle.owner_driver.specs.Apart.{answered};
+ghost use Rattle.call_driver.specs.Apart.{answered};
 
 use queue_steps::errors::{ForcePushError, PushError};
 use queue_steps::model::{Reply, ReplyKind};
 
-/// One of the calls, for the driver: each has rounds of its own.
+/// One of the calls, for the driver: each has fast steps of its own.
 pub(crate) trait Fills {
     /// The call, without its value.
     ghost call: { SpecCall Unit };

@@ -7,8 +7,8 @@ mod sealed;
 pub mod store;
 pub mod text;
 
-pub use bounded_cells::Single;
 pub use exclusive::Exclusive;
+pub use own_bounded::Single;
 pub use queue_steps::errors::{ForcePushError, PopError, PushError};
 pub use queue_steps::{errors as errors, model as model, steps as steps};
 pub use store::{Store, run};

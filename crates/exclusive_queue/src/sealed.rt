@@ -2,16 +2,16 @@
 ghost use Rattle.std.specs.Prelude.{◌≡◌};
 ghost use Rattle.queue_steps.specs.Legal.{IsSoundOwned};
 ghost use Rattle.queue_steps.specs.Looks.{IsLook, look_reply};
-ghost use Rattle.queue_steps.specs.Sole.{Owned};
-ghost use Rattle.owner_driver.specs.Apart.{FitsCall, SoleApart};
+ghost use Rattle.queue_steps.specs.Sequential.{Owned};
+ghost use Rattle.call_driver.specs.Apart.{FitsCall, SequentialApart};
 
 use crate::exclusive::Exclusive;
-use bounded_cells::bounded::Ring;
-use bounded_cells::single::Single;
-use owner_driver::driver::{drive, observe};
+use call_driver::own::{drive, observe};
+use own_bounded::bounded::Ring;
+use own_bounded::single::Single;
+use own_unbounded::unbounded::{LinkedBlocks, Name};
 use queue_steps::model::{CallKind, ReplyKind};
 use std::alloc::Allocator;
-use unbounded_cells::unbounded::{LinkedBlocks, Name};
 
 /// What keeps the items of a queue with one owner. No other crate can name it, so none can make a `Store`.
 pub trait Sealed<T> {
@@ -21,12 +21,12 @@ pub trait Sealed<T> {
     /// The queue that is kept, where no call is on its way.
     ghost owned: { Self → Owned T };
 
-    /// Runs a call to its end. The place of the value that it carries is lent, and then holds what it ends with. `W` tells the calls apart, so that each has rounds of its own.
+    /// Runs a call to its end. The place of the value that it carries is lent, and then holds what it ends with. `W` tells the calls apart, so that each has fast steps of its own.
     fn settle<W>(&mut self, call: CallKind, carried: &mut Option<T>) -> ReplyKind
         requires idle { idle self.old }
         requires whole { FitsCall call carried.old }
         ensures idle { idle self.new }
-        ensures sole { SoleApart (owned self.old) call carried.old result carried.new (owned self.new) };
+        ensures sequential { SequentialApart (owned self.old) call carried.old result carried.new (owned self.new) };
 
     /// Runs a call that changes nothing to its end.
     fn look(&self, call: CallKind) -> ReplyKind
@@ -41,7 +41,7 @@ pub trait Sealed<T> {
 }
 
 impl<T> Sealed<T> for Single<T> {
-    ghost use Rattle.bounded_cells.specs.SingleCells.{IsIdle, single_owned};
+    ghost use Rattle.own_bounded.specs.SingleCells.{IsIdle, single_owned};
 
     ghost idle = { IsIdle };
 
@@ -52,7 +52,7 @@ impl<T> Sealed<T> for Single<T> {
         requires idle { IsIdle self.old }
         requires whole { FitsCall call carried.old }
         ensures idle { IsIdle self.new }
-        ensures sole { SoleApart (single_owned self.old) call carried.old result carried.new (single_owned self.new) }
+        ensures sequential { SequentialApart (single_owned self.old) call carried.old result carried.new (single_owned self.new) }
     {
         drive::<T, (), Single<T>, W>(self, call, carried)
     }
@@ -66,7 +66,7 @@ impl<T> Sealed<T> for Single<T> {
 }
 
 impl<T, A: Allocator> Sealed<T> for Ring<T, A> {
-    ghost use Rattle.bounded_cells.specs.RingOwned.{IsIdle, ring_owned};
+    ghost use Rattle.own_bounded.specs.RingOwned.{IsIdle, ring_owned};
 
     ghost idle = { IsIdle };
 
@@ -77,7 +77,7 @@ impl<T, A: Allocator> Sealed<T> for Ring<T, A> {
         requires idle { IsIdle self.old }
         requires whole { FitsCall call carried.old }
         ensures idle { IsIdle self.new }
-        ensures sole { SoleApart (ring_owned self.old) call carried.old result carried.new (ring_owned self.new) }
+        ensures sequential { SequentialApart (ring_owned self.old) call carried.old result carried.new (ring_owned self.new) }
     {
         drive::<T, (), Ring<T, A>, W>(self, call, carried)
     }
@@ -91,18 +91,18 @@ impl<T, A: Allocator> Sealed<T> for Ring<T, A> {
 }
 
 impl<T, A: Allocator> Sealed<T> for LinkedBlocks<T, A> {
-    ghost use Rattle.unbounded_cells.specs.LineOwned.{IsIdle, line_owned};
+    ghost use Rattle.own_unbounded.specs.OwnChainOwned.{IsIdle, own_chain_owned};
 
     ghost idle = { IsIdle };
 
-    ghost owned = { line_owned };
+    ghost owned = { own_chain_owned };
 
     #[inline(always)]
     fn settle<W>(&mut self, call: CallKind, carried: &mut Option<T>) -> ReplyKind
         requires idle { IsIdle self.old }
         requires whole { FitsCall call carried.old }
         ensures idle { IsIdle self.new }
-        ensures sole { SoleApart (line_owned self.old) call carried.old result carried.new (line_owned self.new) }
+        ensures sequential { SequentialApart (own_chain_owned self.old) call carried.old result carried.new (own_chain_owned self.new) }
     {
         drive::<T, Name<T>, LinkedBlocks<T, A>, W>(self, call, carried)
     }

@@ -4,7 +4,7 @@ ghost use Rattle.queue_steps.specs.Kinds.{call_kind};
 ghost use Rattle.queue_steps.specs.State.{is_full};
 ghost use Rattle.queue_steps.specs.Replies.{is_empty};
 ghost use Rattle.queue_steps.specs.Legal.{IsSoundOwned};
-ghost use Rattle.queue_steps.specs.Sole.{Sole, SoleRun};
+ghost use Rattle.queue_steps.specs.Sequential.{Sequential, SequentialRun};
 ghost use Rattle.queue_steps.specs.declared.model.Call.TheVariants as call;
 ghost use Rattle.queue_steps.specs.declared.model.Reply.TheVariants as reply;
 
@@ -20,7 +20,7 @@ fn reply_to<T, S: Sealed<T>, W: Fills>(store: &mut S, call: Call<T>) -> Reply<T>
     requires idle { S.idle store.old }
     requires its { call_kind call ≡ W.call }
     ensures idle { S.idle store.new }
-    ensures sole { Sole (S.owned store.old) call result (S.owned store.new) }
+    ensures sequential { Sequential (S.owned store.old) call result (S.owned store.new) }
 {
     let (call, mut carried) = call.split();
     let reply = store.settle::<W>(call, &mut carried);
@@ -30,7 +30,7 @@ fn reply_to<T, S: Sealed<T>, W: Fills>(store: &mut S, call: Call<T>) -> Reply<T>
 /// A queue with one owner, whichever way it keeps its items: `Exclusive`, and each of its three forms.
 ///
 /// A contract sees the abstract queue and the number of blocks that it holds, `owned`, and whether no call is on its way, `idle`, which is so
-/// before and after each call. Each call answers by the table of one owner, `Sole`. No other crate can implement this trait.
+/// before and after each call. Each call answers by the table of one owner, `Sequential`. No other crate can implement this trait.
 pub trait Store<T>: Sealed<T> {
     /// Appends `value`.
     ///
@@ -40,7 +40,7 @@ pub trait Store<T>: Sealed<T> {
     fn push(&mut self, value: T) -> Result<(), PushError<T>>
         requires { Self.idle self.old }
         ensures idle { Self.idle self.new }
-        ensures sole { Sole (Self.owned self.old) (call.Push value) (reply.Push result) (Self.owned self.new) }
+        ensures sequential { Sequential (Self.owned self.old) (call.Push value) (reply.Push result) (Self.owned self.new) }
     {
         match reply_to::<T, Self, Pushes>(self, Call::Push(value)) {
             Reply::Push(result) => result,
@@ -56,7 +56,7 @@ pub trait Store<T>: Sealed<T> {
     fn force_push(&mut self, value: T) -> Result<Option<T>, ForcePushError<T>>
         requires { Self.idle self.old }
         ensures idle { Self.idle self.new }
-        ensures sole { Sole (Self.owned self.old) (call.ForcePush value) (reply.ForcePush result) (Self.owned self.new) }
+        ensures sequential { Sequential (Self.owned self.old) (call.ForcePush value) (reply.ForcePush result) (Self.owned self.new) }
     {
         match reply_to::<T, Self, Displaces>(self, Call::ForcePush(value)) {
             Reply::ForcePush(result) => result,
@@ -72,7 +72,7 @@ pub trait Store<T>: Sealed<T> {
     fn pop(&mut self) -> Result<T, PopError>
         requires { Self.idle self.old }
         ensures idle { Self.idle self.new }
-        ensures sole { Sole (Self.owned self.old) call.Pop (reply.Pop result) (Self.owned self.new) }
+        ensures sequential { Sequential (Self.owned self.old) call.Pop (reply.Pop result) (Self.owned self.new) }
     {
         match reply_to::<T, Self, Pops>(self, Call::Pop) {
             Reply::Pop(result) => result,
@@ -84,7 +84,7 @@ pub trait Store<T>: Sealed<T> {
     fn close(&mut self) -> bool
         requires { Self.idle self.old }
         ensures idle { Self.idle self.new }
-        ensures sole { Sole (Self.owned self.old) call.Close (reply.Close result) (Self.owned self.new) }
+        ensures sequential { Sequential (Self.owned self.old) call.Close (reply.Close result) (Self.owned self.new) }
     {
         match reply_to::<T, Self, Closes>(self, Call::Close) {
             Reply::Close(result) => result,
@@ -155,7 +155,7 @@ fn answer<T, S: Store<T>>(store: &mut S, call: Call<T>) -> Reply<T>
     requires idle { S.idle store.old }
     requires sound { IsSoundOwned (S.owned store.old) }
     ensures idle { S.idle store.new }
-    ensures sole { Sole (S.owned store.old) call result (S.owned store.new) }
+    ensures sequential { Sequential (S.owned store.old) call result (S.owned store.new) }
 {
     match call {
         Call::Push(value) => Reply::Push(store.push(value)),
@@ -184,7 +184,7 @@ pub fn run<T: Drop, S: Store<T>, A: Allocator>(
     requires { S.idle store.old }
     ensures idle { S.idle store.new }
     ensures ran { MatchResult result
-        (λ replies. SoleRun (S.owned store.old) calls.items replies.items (S.owned store.new))
+        (λ replies. SequentialRun (S.owned store.old) calls.items replies.items (S.owned store.new))
         (λ _. store.new ≡ store.old) }
 {
     let mut replies = Vec::with_capacity(alloc, calls.len())?;

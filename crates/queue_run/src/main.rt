@@ -1,7 +1,7 @@
 //! Runs queues from the command line.
 #![tactic(auto)]
 
-use queue_command::program::program;
+use app_command::program::program;
 use std::env;
 use std::process::ExitCode;
 

@@ -10,8 +10,8 @@ use Rattle.queue_steps.specs.State.{State, start, is_single_cap, fills, is_full}
 use Rattle.queue_steps.specs.Effect.{Fits, made, rest, with_coming, Runs, after_from}
 use Rattle.queue_steps.specs.Laws.{StaysClosed, StaysWithin}
 use Rattle.queue_steps.specs.Legal.{IsSound, IsWithin, KeepsSound}
-use Rattle.queue_steps.proofs.Lines.{lines}
-use Rattle.queue_steps.specs.Sole.{Owned, HoldsBlocks, moved, spanned, blocks_of, sole_state, is_spent, shut, appended, displaced}
+use Rattle.queue_steps.proofs.TableCases.{table_cases}
+use Rattle.queue_steps.specs.Sequential.{Owned, HoldsBlocks, moved, spanned, blocks_of, sequential_state, is_spent, shut, appended, displaced}
 
 closed-made : {T : Type 0} (e : Effect T) (Q : State T) → Fits e Q → Q.closed ≡ true → (made e Q).closed ≡ true
 closed-made (effect.Append v) Q f h = h
@@ -108,10 +108,10 @@ appended-sound Q v s e2 e3 = record { none_coming = s.none_coming; within = with
 displaced-sound : {T : Type 0} (Q : State T) (v : T) → IsSound Q → is_spent Q ≡ false → is_full Q ≡ true → IsSound (displaced Q v)
 displaced-sound Q v s e2 e3 = record { none_coming = s.none_coming; within = within-displace Q.cap Q.items v e3 s.within; counted = counted-up (is_single_cap Q.cap) Q.accepted e2 s.counted }
 
-sound-state : {T : Type 0} (Q : State T) (c : Call T) → IsSound Q → IsSound (sole_state Q c)
-sound-state Q (call.Push v) s = lines (λ l. IsSound l.1) Q _ _ _ _ (λ e1. s) (λ e1 e2. shut-sound Q s) (λ e1 e2 e3. s) (λ e1 e2 e3. appended-sound Q v s e2 e3)
+sound-state : {T : Type 0} (Q : State T) (c : Call T) → IsSound Q → IsSound (sequential_state Q c)
+sound-state Q (call.Push v) s = table_cases (λ l. IsSound l.1) Q _ _ _ _ (λ e1. s) (λ e1 e2. shut-sound Q s) (λ e1 e2 e3. s) (λ e1 e2 e3. appended-sound Q v s e2 e3)
 sound-state Q (call.ForcePush v) s =
-    lines (λ l. IsSound l.1) Q _ _ _ _ (λ e1. s) (λ e1 e2. shut-sound Q s) (λ e1 e2 e3. displaced-sound Q v s e2 e3) (λ e1 e2 e3. appended-sound Q v s e2 e3)
+    table_cases (λ l. IsSound l.1) Q _ _ _ _ (λ e1. s) (λ e1 e2. shut-sound Q s) (λ e1 e2 e3. displaced-sound Q v s e2 e3) (λ e1 e2 e3. appended-sound Q v s e2 e3)
 sound-state Q call.Pop s = record { none_coming = s.none_coming; within = within-rest Q.cap Q.items s.within; counted = s.counted }
 sound-state Q call.Close s = shut-sound Q s
 sound-state Q call.IsClosed s = s
@@ -124,46 +124,46 @@ is_zero : (m : ℕ) → (m == 0) ≡ true → m ≡ 0
 is_zero m e = grind arith
 
 -- a call changes no capacity
-cap-sole : {T : Type 0} (Q : State T) (c : Call T) → (sole_state Q c).cap ≡ Q.cap
-cap-sole Q (call.Push v) = lines (λ l. l.1.cap ≡ Q.cap) Q _ _ _ _ (λ e1. refl) (λ e1 e2. refl) (λ e1 e2 e3. refl) (λ e1 e2 e3. refl)
-cap-sole Q (call.ForcePush v) = lines (λ l. l.1.cap ≡ Q.cap) Q _ _ _ _ (λ e1. refl) (λ e1 e2. refl) (λ e1 e2 e3. refl) (λ e1 e2 e3. refl)
-cap-sole Q call.Pop = refl
-cap-sole Q call.Close = refl
-cap-sole Q call.IsClosed = refl
-cap-sole Q call.IsEmpty = refl
-cap-sole Q call.IsFull = refl
-cap-sole Q call.Len = refl
-cap-sole Q call.Capacity = refl
+cap-sequential : {T : Type 0} (Q : State T) (c : Call T) → (sequential_state Q c).cap ≡ Q.cap
+cap-sequential Q (call.Push v) = table_cases (λ l. l.1.cap ≡ Q.cap) Q _ _ _ _ (λ e1. refl) (λ e1 e2. refl) (λ e1 e2 e3. refl) (λ e1 e2 e3. refl)
+cap-sequential Q (call.ForcePush v) = table_cases (λ l. l.1.cap ≡ Q.cap) Q _ _ _ _ (λ e1. refl) (λ e1 e2. refl) (λ e1 e2 e3. refl) (λ e1 e2 e3. refl)
+cap-sequential Q call.Pop = refl
+cap-sequential Q call.Close = refl
+cap-sequential Q call.IsClosed = refl
+cap-sequential Q call.IsEmpty = refl
+cap-sequential Q call.IsFull = refl
+cap-sequential Q call.Len = refl
+cap-sequential Q call.Capacity = refl
 
 -- nor is anything on its way in after it that was not before
-pub coming-sole : {T : Type 0} (Q : State T) (c : Call T) → (sole_state Q c).coming ≡ Q.coming
-coming-sole Q (call.Push v) = lines (λ l. l.1.coming ≡ Q.coming) Q _ _ _ _ (λ e1. refl) (λ e1 e2. refl) (λ e1 e2 e3. refl) (λ e1 e2 e3. refl)
-coming-sole Q (call.ForcePush v) = lines (λ l. l.1.coming ≡ Q.coming) Q _ _ _ _ (λ e1. refl) (λ e1 e2. refl) (λ e1 e2 e3. refl) (λ e1 e2 e3. refl)
-coming-sole Q call.Pop = refl
-coming-sole Q call.Close = refl
-coming-sole Q call.IsClosed = refl
-coming-sole Q call.IsEmpty = refl
-coming-sole Q call.IsFull = refl
-coming-sole Q call.Len = refl
-coming-sole Q call.Capacity = refl
+pub coming-sequential : {T : Type 0} (Q : State T) (c : Call T) → (sequential_state Q c).coming ≡ Q.coming
+coming-sequential Q (call.Push v) = table_cases (λ l. l.1.coming ≡ Q.coming) Q _ _ _ _ (λ e1. refl) (λ e1 e2. refl) (λ e1 e2 e3. refl) (λ e1 e2 e3. refl)
+coming-sequential Q (call.ForcePush v) = table_cases (λ l. l.1.coming ≡ Q.coming) Q _ _ _ _ (λ e1. refl) (λ e1 e2. refl) (λ e1 e2 e3. refl) (λ e1 e2 e3. refl)
+coming-sequential Q call.Pop = refl
+coming-sequential Q call.Close = refl
+coming-sequential Q call.IsClosed = refl
+coming-sequential Q call.IsEmpty = refl
+coming-sequential Q call.IsFull = refl
+coming-sequential Q call.Len = refl
+coming-sequential Q call.Capacity = refl
 
 counted-zero : (single : Bool) (n : ℕ) → (if single then n else n + 1) ≡ 0 → n ≡ 0
 counted-zero true n e = e
 counted-zero false n e = omega arith
 
 -- a queue that has accepted nothing had accepted nothing before the call
-zero-sole : {T : Type 0} (Q : State T) (c : Call T) → (sole_state Q c).accepted ≡ 0 → Q.accepted ≡ 0
-zero-sole Q (call.Push v) e =
-    lines (λ l. l.1.accepted ≡ 0 → Q.accepted ≡ 0) Q _ _ _ _ (λ e1 e. e) (λ e1 e2 e. e) (λ e1 e2 e3 e. e) (λ e1 e2 e3. counted-zero (is_single_cap Q.cap) Q.accepted) e
-zero-sole Q (call.ForcePush v) e =
-    lines (λ l. l.1.accepted ≡ 0 → Q.accepted ≡ 0) Q _ _ _ _ (λ e1 e. e) (λ e1 e2 e. e) (λ e1 e2 e3. counted-zero (is_single_cap Q.cap) Q.accepted) (λ e1 e2 e3. counted-zero (is_single_cap Q.cap) Q.accepted) e
-zero-sole Q call.Pop e = e
-zero-sole Q call.Close e = e
-zero-sole Q call.IsClosed e = e
-zero-sole Q call.IsEmpty e = e
-zero-sole Q call.IsFull e = e
-zero-sole Q call.Len e = e
-zero-sole Q call.Capacity e = e
+zero-sequential : {T : Type 0} (Q : State T) (c : Call T) → (sequential_state Q c).accepted ≡ 0 → Q.accepted ≡ 0
+zero-sequential Q (call.Push v) e =
+    table_cases (λ l. l.1.accepted ≡ 0 → Q.accepted ≡ 0) Q _ _ _ _ (λ e1 e. e) (λ e1 e2 e. e) (λ e1 e2 e3 e. e) (λ e1 e2 e3. counted-zero (is_single_cap Q.cap) Q.accepted) e
+zero-sequential Q (call.ForcePush v) e =
+    table_cases (λ l. l.1.accepted ≡ 0 → Q.accepted ≡ 0) Q _ _ _ _ (λ e1 e. e) (λ e1 e2 e. e) (λ e1 e2 e3. counted-zero (is_single_cap Q.cap) Q.accepted) (λ e1 e2 e3. counted-zero (is_single_cap Q.cap) Q.accepted) e
+zero-sequential Q call.Pop e = e
+zero-sequential Q call.Close e = e
+zero-sequential Q call.IsClosed e = e
+zero-sequential Q call.IsEmpty e = e
+zero-sequential Q call.IsFull e = e
+zero-sequential Q call.Len e = e
+zero-sequential Q call.Capacity e = e
 
 -- while nothing was accepted, the span does not depend on the list
 spanned-zero : (c : Option ℕ) (m n : ℕ) → spanned c 0 m ≡ spanned c 0 n
@@ -185,5 +185,5 @@ moved-holds {T} P Q same before h = go (Q.accepted == 0) refl
     go false e = inl refl
 
 pub keeps_sound : {T : Type 0} → KeepsSound T
-keeps_sound P R c r s (inl h) = rw h.1 (sound-state P.queue c s.0, moved-holds P (sole_state P.queue c) (cap-sole P.queue c) (zero-sole P.queue c) s.1)
+keeps_sound P R c r s (inl h) = rw h.1 (sound-state P.queue c s.0, moved-holds P (sequential_state P.queue c) (cap-sequential P.queue c) (zero-sequential P.queue c) s.1)
 keeps_sound P R c r s (inr h) = rw h.2 s

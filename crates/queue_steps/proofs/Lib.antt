@@ -1,6 +1,6 @@
-pub mod Lines
+pub mod TableCases
 pub mod Rows
-pub mod Standing
+pub mod TableRows
 pub mod Keeping
 pub mod Masks
 pub mod ShareLaws

@@ -5,7 +5,7 @@ use Rattle.queue_steps.specs.State.{State, is_full, is_single_cap, IsBelow}
 use Rattle.queue_steps.specs.Effect.{Runs, after_from}
 use Rattle.queue_steps.specs.Legal.{IsShown}
 use Rattle.queue_steps.specs.Replies.{IsRightAt, LacksMemory, Allows, Tells}
-use Rattle.queue_steps.specs.Sole.{owner_table, is_spent, counted}
+use Rattle.queue_steps.specs.Sequential.{owner_table, is_spent, counted}
 use Rattle.queue_steps.specs.declared.model.Call.{Call}
 use Rattle.queue_steps.specs.declared.model.Call.TheVariants as call
 use Rattle.queue_steps.specs.declared.model.Reply.{Reply}
@@ -15,7 +15,7 @@ use Rattle.queue_steps.specs.declared.model.Effect.TheVariants as effect
 use Rattle.queue_steps.specs.declared.errors.PopError.TheVariants as pop
 use Rattle.queue_steps.specs.declared.errors.PushError.TheVariants as push
 use Rattle.queue_steps.specs.declared.errors.ForcePushError.TheVariants as force
-use Rattle.queue_steps.proofs.Lines.{at_shut, at_spent, at_full, at_room}
+use Rattle.queue_steps.proofs.TableCases.{at_shut, at_spent, at_full, at_room}
 
 -- the count agrees, but for a queue of one slot
 abbrev pub Same : {T : Type 0} → State T → ℕ → Type 0

@@ -16,11 +16,11 @@ use Rattle.queue_steps.specs.declared.errors.ForcePushError.TheVariants as force
 use Rattle.queue_steps.specs.State.{State, start}
 use Rattle.queue_steps.specs.Effect.{made, Runs, after_from, after, IsHistory}
 use Rattle.queue_steps.specs.Replies.{LacksMemory, Allows}
-use Rattle.queue_steps.specs.Sole.{sole_state}
+use Rattle.queue_steps.specs.Sequential.{sequential_state}
 use Rattle.queue_steps.specs.Legal.{IsShown}
 use Rattle.queue_steps.specs.Shares.{IsEntire}
 use Rattle.queue_steps.specs.Parties.{View, IsView, StandAt, Displaces, SharedCall}
-use Rattle.queue_steps.specs.SoleCalls.{WholeCalls}
+use Rattle.queue_steps.specs.SequentialCalls.{WholeCalls}
 use Rattle.queue_steps.proofs.Places.{Fills, first_place, only_these}
 use Rattle.queue_steps.proofs.Rows.{Does, does_row}
 
@@ -97,6 +97,6 @@ whole_calls {T} cap v w c r at_v at_w s entire =
       effects = s.effects;
       tells = s.tells;
       seen = seen;
-      table = ⊎_elim (λ (l : Does Q Q.accepted (inr refl) c r s.effects). inl (l.0, subst (IsShown (sole_state Q c)) last l.1))
+      table = ⊎_elim (λ (l : Does Q Q.accepted (inr refl) c r s.effects). inl (l.0, subst (IsShown (sequential_state Q c)) last l.1))
           (λ (l : LacksMemory Q c r × (s.effects ≡ [])). inr (sym (cap_after_from (start cap 0) v.seen) ∙ lacks_none Q c r l.0, l.0, l.1)) told;
     }

@@ -53,7 +53,7 @@ FitsRing n (ring.PushHead tail) (Found head) = IsWord tail × IsWord head
 FitsRing n (ring.Displacing tail) (Found head) = IsWord tail × IsWord head
 FitsRing n (ring.Arriving tail) (Found before) = IsWord tail
 FitsRing n ring.Swapping Done = Unit {0}
-FitsRing n (ring.Spending p) (Found before) = Unit {0}
+FitsRing n (ring.ClosingAtLimit p) (Found before) = Unit {0}
 FitsRing n ring.PopHead (Found head) = IsWord head
 FitsRing n (ring.PopStamp head) (Found stamp) = IsWord head
 FitsRing n (ring.Taking head) (Found found) = IsWord head × IsWord found
@@ -93,7 +93,7 @@ pushed_reply kind.Force = reply.ForcePush (Ok None)
 abbrev pub tail_found : {B : Type 0} → ℕ → PushKind → ℕ → Next B
 tail_found n p tail =
     if is_shut tail then ends (closed_reply p)
-    else (if position_of tail == LIMIT then at (ring.Spending p) touch.Nothing (op.Or word.Tail MARK)
+    else (if position_of tail == LIMIT then at (ring.ClosingAtLimit p) touch.Nothing (op.Or word.Tail MARK)
     else loads (ring.PushStamp p tail) (word.Stamp (slot_at n (position_of tail))))
 
 -- where the slot still holds the item of the lap before
@@ -143,7 +143,7 @@ bounded_next n (ring.Displacing tail) (Found head) =
 bounded_next n (ring.Arriving tail) (Found before) =
     at ring.Swapping (touch.Swap (slot_at n (position_of tail))) (op.Store (word.Stamp (slot_at n (position_of tail))) (stamp_filled (position_of tail)))
 bounded_next n ring.Swapping Done = ends (reply.ForcePush (Ok (Some tt)))
-bounded_next n (ring.Spending p) (Found before) = ends (closed_reply p)
+bounded_next n (ring.ClosingAtLimit p) (Found before) = ends (closed_reply p)
 bounded_next n ring.PopHead (Found head) = head_found n head
 bounded_next n (ring.PopStamp head) (Found stamp) = pop_stamp_found head stamp
 bounded_next n (ring.Taking head) (Found found) =

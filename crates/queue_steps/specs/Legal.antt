@@ -5,7 +5,7 @@ use Rattle.queue_steps.specs.State.{State, is_single_cap}
 use Rattle.queue_steps.specs.declared.model.Effect.{Effect}
 use Rattle.queue_steps.specs.Effect.{Runs, after_from}
 use Rattle.queue_steps.specs.Replies.{Allows, Tells}
-use Rattle.queue_steps.specs.Sole.{Owned, HoldsBlocks, Sole}
+use Rattle.queue_steps.specs.Sequential.{Owned, HoldsBlocks, Sequential}
 use Rattle.queue_steps.specs.declared.model.Call.{Call}
 use Rattle.queue_steps.specs.declared.model.Reply.{Reply}
 
@@ -40,8 +40,8 @@ pub record Stands {T : Type 0} (Q : State T) (c : Call T) (r : Reply T) (R : Sta
 abbrev pub IsSoundOwned : {T : Type 0} → Owned T → Type 0
 IsSoundOwned P = IsSound P.queue × HoldsBlocks P
 
-abbrev pub SoleStands : Type 0 → Type 0
-SoleStands T = (P R : Owned T) (c : Call T) (r : Reply T) → IsSound P.queue → Sole P c r R → Stands P.queue c r R.queue
+abbrev pub SequentialStands : Type 0 → Type 0
+SequentialStands T = (P R : Owned T) (c : Call T) (r : Reply T) → IsSound P.queue → Sequential P c r R → Stands P.queue c r R.queue
 
 abbrev pub KeepsSound : Type 0 → Type 0
-KeepsSound T = (P R : Owned T) (c : Call T) (r : Reply T) → IsSoundOwned P → Sole P c r R → IsSoundOwned R
+KeepsSound T = (P R : Owned T) (c : Call T) (r : Reply T) → IsSoundOwned P → Sequential P c r R → IsSoundOwned R

@@ -2,7 +2,7 @@ pub mod Errors
 pub mod State
 pub mod Effect
 pub mod Replies
-pub mod Sole
+pub mod Sequential
 pub mod Legal
 pub mod Laws
 pub mod Kinds
@@ -15,8 +15,9 @@ pub mod UnboundedNext
 pub mod Next
 pub mod ShownWords
 pub mod CommonNext
+pub mod CallAt
 pub mod LookNext
 pub mod Shares
 pub mod Parties
-pub mod SoleCalls
-pub mod Prompt
+pub mod SequentialCalls
+pub mod WaitFree

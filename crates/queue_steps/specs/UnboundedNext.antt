@@ -58,7 +58,7 @@ FitsChain (chain.Laying p tail block fresh) Done = Unit {0}
 FitsChain (chain.Opening p tail block fresh) (Found before) = Unit {0}
 FitsChain (chain.Chaining p tail block fresh) Done = Unit {0}
 FitsChain (chain.Writing p spare) (Found before) = Unit {0}
-FitsChain (chain.Spending p spare) (Found before) = Unit {0}
+FitsChain (chain.ClosingAtLimit p spare) (Found before) = Unit {0}
 FitsChain chain.PopHead (Found head) = Unit {0}
 FitsChain (chain.PopBlock head) (Linked block) = IsWord head × (head % 2 ≡ 1 → IsSome block)
 FitsChain (chain.PopTail head block) (Found tail) = IsWord head
@@ -100,7 +100,7 @@ gives_up kind.Force = reply.ForcePush (Err (force.NoMemory tt))
 abbrev pub chain_tail_found : {B : Type 0} → PushKind → ℕ → Option B → Next B
 chain_tail_found p tail spare =
     if is_shut tail then next.Reply (closed_reply p) spare
-    else (if items_before (position_of tail) == LIMIT then at (chain.Spending p spare) touch.Nothing (op.Or word.Tail MARK)
+    else (if items_before (position_of tail) == LIMIT then at (chain.ClosingAtLimit p spare) touch.Nothing (op.Or word.Tail MARK)
     else (if offset_of tail == BLOCK_SLOTS then loads (chain.PushTail p spare) word.Tail
     else at (chain.PushBlock p tail spare) touch.Nothing (op.LoadLink link.TailBlock)))
 
@@ -207,7 +207,7 @@ unbounded_next (chain.Laying p tail block fresh) Done = at (chain.Opening p tail
 unbounded_next (chain.Opening p tail block fresh) (Found before) = at (chain.Chaining p tail block fresh) touch.Nothing (op.StoreLink (link.Next block) fresh)
 unbounded_next (chain.Chaining p tail block fresh) Done = writes p tail block None
 unbounded_next (chain.Writing p spare) (Found before) = next.Reply (pushed_reply p) spare
-unbounded_next (chain.Spending p spare) (Found before) = next.Reply (closed_reply p) spare
+unbounded_next (chain.ClosingAtLimit p spare) (Found before) = next.Reply (closed_reply p) spare
 unbounded_next chain.PopHead (Found head) = chain_head_found head
 unbounded_next (chain.PopBlock head) (Linked block) = head_block_found head block
 unbounded_next (chain.PopTail head block) (Found tail) = chain_pop_tail_found head block tail

@@ -1,12 +1,12 @@
 //! Laws of the abstract queue. Each function is there for its contract alone, which holds of all queues.
-ghost use Rattle.queue_steps.specs.Legal.{SoleStands, KeepsSound};
+ghost use Rattle.queue_steps.specs.Legal.{SequentialStands, KeepsSound};
 ghost use Rattle.queue_steps.specs.Laws.{StaysClosed, StaysWithin};
 ghost use Rattle.queue_steps.specs.Shares.{SharesAddUp};
-ghost use Rattle.queue_steps.specs.SoleCalls.{WholeCalls};
+ghost use Rattle.queue_steps.specs.SequentialCalls.{WholeCalls};
 
 /// Each line of the table of one owner stands in a legal history, with a reply that is right there.
-pub fn sole_stands<T>()
-    ensures { SoleStands T }
+pub fn sequential_stands<T>()
+    ensures { SequentialStands T }
 {}
 
 /// What holds of a queue with one owner between its calls holds after each call of the table.

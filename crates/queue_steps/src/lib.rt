@@ -6,3 +6,4 @@ pub mod laws;
 pub mod model;
 pub mod sizes;
 pub mod steps;
+pub mod words;

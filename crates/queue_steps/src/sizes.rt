@@ -13,13 +13,13 @@ pub const BLOCK_SLOTS: u64 = 63;
 pub const BLOCK_POSITIONS: u64 = BLOCK_SLOTS + 1;
 
 /// How many steps of its own a call takes at most from where it is alone: two for each position of a block, of which a pop may walk over a whole one.
-pub const LONE_STEPS: u64 = 2 * BLOCK_POSITIONS;
+pub const SOLO_STEPS: u64 = 2 * BLOCK_POSITIONS;
 
 /// How many parties may share a queue.
 pub const MAX_PARTIES: u64 = 1 << 31;
 
 /// How many steps of its own a `close`, `is_closed`, `is_empty` or `is_full` takes at most, whatever other parties do.
-pub const PROMPT_STEPS: u64 = 2;
+pub const WAIT_FREE_STEPS: u64 = 2;
 
 // The sizes as they are promised, so that none changes unseen.
 const _: () = prove!(LIMIT == 4611686018427387904);
@@ -28,8 +28,8 @@ const _: () = prove!(MAX_CAPACITY == 576460752303423488);
 
 const _: () = prove!(BLOCK_SLOTS == 63);
 
-const _: () = prove!(LONE_STEPS == 128);
+const _: () = prove!(SOLO_STEPS == 128);
 
 const _: () = prove!(MAX_PARTIES == 2147483648);
 
-const _: () = prove!(PROMPT_STEPS == 2);
+const _: () = prove!(WAIT_FREE_STEPS == 2);

@@ -1,3 +1,4 @@
+mod TableParties
 mod Crowds
 mod TableAllows
 mod TableOperations

@@ -6,15 +6,16 @@ use lib.ListN.{get_elem?}
 use Rattle.atomic_table.specs.Table.{opening}
 use Rattle.queue_steps.specs.Words.{IsRing}
 use Rattle.queue_steps.specs.Shares.{entire}
-use Rattle.ring_laws.proofs.RingOpening.{numbers_below, opening_ring, opening_shared, opening_ok, opening_codes}
-use Rattle.bounded_cells.specs.RingWords.{words_behind}
-use Rattle.queue_parties.specs.declared.known.Doing.{Doing}
-use Rattle.queue_parties.specs.Known.{party}
-use Rattle.queue_parties.specs.Doings.{idle, is_busy}
+use Rattle.law_ring.specs.RingOpening.{numbers_below, opening_ring, opening_shared}
+use Rattle.law_ring.proofs.RingOpening.{opening_ok, opening_codes}
+use Rattle.own_bounded.specs.RingWords.{words_behind}
+use Rattle.shared_parties.specs.declared.known.CallState.{CallState}
+use Rattle.shared_parties.specs.Known.{party}
+use Rattle.shared_parties.specs.CallStates.{idle, is_busy}
 use Rattle.shared_tables.specs.TableRule.{Rule}
 use Rattle.shared_tables.specs.RingTable.{ring_table}
 use Rattle.shared_tables.specs.RingOpening.{first_words}
-use Rattle.queue_parties.proofs.FirstParty.{first_rests, first_kept}
+use Rattle.shared_parties.proofs.FirstParty.{first_rests, first_kept}
 
 homes_at : {A : Type 0} (n i : ℕ) (a : A) → i < n → get_elem? (map some (replicate n a)) i ≡ some (some a)
 homes_at zero i a lt = absurd (omega arith)
@@ -26,7 +27,7 @@ homes_long zero a = refl
 homes_long (suc n) a = ap suc (homes_long n a)
 
 module _ (T : Type 0) (cap : ℕ) where
-  abbrev pub seat : Doing T
+  abbrev pub seat : CallState T
   seat = idle (party (Some cap) [] [] entire)
 
   pub ring_opens : IsRing cap → Rule (ring_table cap) (opening (first_words cap) (replicate cap None) seat)

@@ -9,23 +9,22 @@ use Rattle.queue_steps.specs.Effect.{after}
 use Rattle.queue_steps.specs.Legal.{IsShown}
 use Rattle.queue_steps.specs.Words.{position_of, is_shut, stamp_free, stamp_filled}
 use Rattle.queue_steps.specs.Parties.{IsWhole}
-use Rattle.queue_laws.proofs.Tails.{position_tail, shut_tail}
-use Rattle.ring_laws.proofs.RingCells.{Ring, queue_of, RingOk, owner}
-use Rattle.ring_laws.proofs.RingShared.{Shared}
-use Rattle.ring_laws.proofs.RingTransitions.{in_ring}
-use Rattle.ring_laws.proofs.RingWords.{Codes, item_in}
-use Rattle.ring_laws.proofs.RingIdle.{NobodyHolds, AtRest, at_rest}
-use Rattle.queue_parties.specs.declared.known.Doing.{Doing}
-use Rattle.queue_parties.specs.Known.{view_of}
+use Rattle.law_common.proofs.Tails.{position_tail, shut_tail}
+use Rattle.law_ring.specs.RingCells.{Ring, queue_of, RingOk, owner}
+use Rattle.law_ring.specs.RingShared.{Shared}
+use Rattle.law_ring.proofs.RingTransitions.{in_ring}
+use Rattle.law_ring.specs.RingWords.{Codes, item_in}
+use Rattle.law_ring.proofs.RingIdle.{NobodyHolds, AtRest, at_rest}
+use Rattle.shared_parties.specs.declared.known.CallState.{CallState}
+use Rattle.shared_parties.specs.Known.{view_of}
 use Rattle.shared_tables.specs.Seats.{count_of}
-use Rattle.queue_parties.specs.Doings.{IsAlone}
+use Rattle.shared_parties.specs.CallStates.{IsAlone}
 use Rattle.shared_tables.specs.TableRule.{Rule}
 use Rattle.shared_tables.specs.RingTable.{home_when, Homes, ring_words, ring_table}
-use Rattle.bounded_cells.specs.RingCells.{RingSlot}
-use Rattle.bounded_cells.specs.RingKeeps.{at_position, Holds, put_in, items_of}
-use Rattle.bounded_cells.specs.RingOwned.{IsIdle, ring_queue}
-use Rattle.bounded_cells.specs.RingMemory.{paired, ring_in}
-use Rattle.bounded_cells.proofs.RingWrites.{elem_or, length_paired, pair_at}
+use Rattle.own_bounded.specs.RingCells.{RingSlot}
+use Rattle.own_bounded.specs.RingOwned.{at_position, Holds, put_in, items_of, IsIdle, ring_queue}
+use Rattle.own_bounded.specs.RingMemory.{paired, ring_in}
+use Rattle.own_bounded.proofs.RingWrites.{elem_or, length_paired, pair_at}
 use Rattle.shared_tables.proofs.TableRests.{table_ends}
 
 none_if : {X : Type 0} (o : Option X) → ((x : X) → o ≡ Some x → ⊥) → o ≡ None
@@ -108,7 +107,7 @@ module _ {T : Type 0} where
       homes.1 i lt ∙ (ap (λ o. some (home_when o (item_in (r.cells i)))) (none_if (owner (r.cells i)) (λ who e. nobody who i e)) ∙ ap (λ (o : Option T). some (some o)) (sym (codes.slot i lt)))
 
   -- the end: the only party has every place, no call is on its way, and the words and slots are those of a ring with one owner after what the party has seen
-  pub ring_finishes : (cap id : ℕ) (d : Doing T) (ws : List ℕ) (xs : List (Option T)) → IsAlone d → Final (Seen (Rule (ring_table cap)) id d) ws xs
+  pub ring_finishes : (cap id : ℕ) (d : CallState T) (ws : List ℕ) (xs : List (Option T)) → IsAlone d → Final (Seen (Rule (ring_table cap)) id d) ws xs
       → IsIdle (ring_in cap ws xs) × IsShown (ring_queue (ring_in cap ws xs)) (after (Some cap) d.known.seen) × IsWhole (view_of d.known)
   ring_finishes cap id d ws xs is end =
       let s = end.0 in let rule : Rule (ring_table cap) s = end.1.0 in let r : Ring T = rule.cells in

@@ -9,26 +9,28 @@ use Rattle.queue_steps.specs.Parties.{IsWhole}
 use Rattle.queue_steps.specs.Shares.{entire}
 use Rattle.queue_steps.specs.SingleNext.{is_marked}
 use Rattle.queue_steps.specs.State.{State}
-use Rattle.slot_laws.proofs.SlotRows.{Hold, Nobody, Stands, free_empty, free_full, single}
-use Rattle.slot_laws.proofs.SlotCells.{Slot, queue_of, lent_by, all_nobody}
-use Rattle.queue_parties.specs.declared.known.Doing.{Doing}
-use Rattle.queue_parties.specs.Known.{party, view_of}
+use Rattle.law_slot.specs.SlotHolder.{SlotHolder, Nobody}
+use Rattle.law_slot.specs.SlotRows.{Stands, free_empty, free_full, single}
+use Rattle.law_slot.specs.SlotCells.{Slot, queue_of, lent_by}
+use Rattle.law_slot.proofs.SlotCells.{all_nobody}
+use Rattle.shared_parties.specs.declared.known.CallState.{CallState}
+use Rattle.shared_parties.specs.Known.{party, view_of}
 use Rattle.shared_tables.specs.Seats.{count_of}
-use Rattle.queue_parties.specs.Doings.{idle, is_busy, IsAlone}
-use Rattle.bounded_cells.specs.SingleCells.{state_of, word_for}
+use Rattle.shared_parties.specs.CallStates.{idle, is_busy, IsAlone}
+use Rattle.own_bounded.specs.SingleCells.{state_of, word_for}
 use Rattle.shared_tables.specs.TableRule.{Rule}
 use Rattle.shared_tables.specs.SlotTable.{home_under, slot_table}
-use Rattle.queue_parties.proofs.FirstParty.{first_rests, first_kept}
+use Rattle.shared_parties.proofs.FirstParty.{first_rests, first_kept}
 use Rattle.shared_tables.proofs.TableRests.{table_ends}
 
 module _ (T : Type 0) where
-  abbrev pub seat : Doing T
+  abbrev pub seat : CallState T
   seat = idle (party (Some 1) [] [] entire)
 
   opening_slot : Slot T
   opening_slot = record { keeps = record { who = 0; hold = Nobody }; items = []; closed = false; accepted = 0 }
 
-  never : (b : Bool) → [] ≡ lent_by (if◌then◌else◌ {A = Hold T} b Nobody Nobody)
+  never : (b : Bool) → [] ≡ lent_by (if◌then◌else◌ {A = SlotHolder T} b Nobody Nobody)
   never true = refl
   never false = refl
 
@@ -54,7 +56,7 @@ module _ (T : Type 0) where
   abbrev Left : ℕ → Option T → State T → Type 0
   Left word x Q = (word ≡ word_for x (is_marked word)) × IsShown (state_of word x) Q
 
-  left_by : (word : ℕ) (slot : Option T) (h : Hold T) (items : List T) (c : Bool) (n : ℕ) → h ≡ Nobody → Stands word slot h items c → Left word slot (single items c n)
+  left_by : (word : ℕ) (slot : Option T) (h : SlotHolder T) (items : List T) (c : Bool) (n : ℕ) → h ≡ Nobody → Stands word slot h items c → Left word slot (single items c n)
   left_by word slot h items c n is st = by (subst (λ k. Stands word slot k items c) is st)
     where
       by : {w : ℕ} {x : Option T} {ys : List T} {d : Bool} → Stands w x Nobody ys d → Left w x (single ys d n)
@@ -69,7 +71,7 @@ module _ (T : Type 0) where
   second_word (y ∷ z ∷ ws) word e = some-injective z word e
 
   -- the end: the only party has every place, and the slot and its word are those of the state after what it has seen
-  pub slot_ends : (id : ℕ) (d : Doing T) (ws : List ℕ) (xs : List (Option T)) (word : ℕ) (x : Option T) → IsAlone d → Final (Seen (Rule slot_table) id d) ws xs → get_elem? ws 1 ≡ some word → get_elem? xs 0 ≡ some x
+  pub slot_ends : (id : ℕ) (d : CallState T) (ws : List ℕ) (xs : List (Option T)) (word : ℕ) (x : Option T) → IsAlone d → Final (Seen (Rule slot_table) id d) ws xs → get_elem? ws 1 ≡ some word → get_elem? xs 0 ≡ some x
       → (word ≡ word_for x (is_marked word)) × IsShown (state_of word x) (after (Some 1) d.known.seen) × IsWhole (view_of d.known)
   slot_ends id d ws xs word x is end at_word at_slot =
       let s = end.0 in let rule : Rule slot_table s = end.1.0 in let g : Slot T = rule.cells in

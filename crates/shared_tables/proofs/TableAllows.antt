@@ -8,25 +8,25 @@ use Rattle.queue_steps.specs.declared.steps.types.Answer.{Answer}
 use Rattle.queue_steps.specs.declared.steps.types.Next.{Next}
 use Rattle.queue_steps.specs.declared.steps.types.Next.TheVariants as next
 use Rattle.queue_steps.specs.Next.{CanNext, next_of}
-use Rattle.queue_parties.specs.declared.known.InCall.{InCall}
-use Rattle.queue_parties.specs.declared.known.Work.TheVariants as work
-use Rattle.queue_parties.specs.declared.known.Doing.{Doing}
+use Rattle.shared_parties.specs.declared.known.InCall.{InCall}
+use Rattle.shared_parties.specs.declared.known.Work.TheVariants as work
+use Rattle.shared_parties.specs.declared.known.CallState.{CallState}
 use Rattle.shared_tables.specs.Seats.{Table, Seated, count_of}
-use Rattle.queue_parties.specs.Calling.{CallsOf, Standing, touched_list, handed_by, HasTouched}
+use Rattle.shared_parties.specs.Calling.{CallsOf, Standing, touched_list, handed_by, HasTouched}
 use Rattle.shared_tables.specs.TableRule.{TableOf, Rule, found_by, InTable, TakesOff, Stepped, TableLaws}
-use Rattle.queue_parties.specs.Operations.{op_word, op_makes, answer_for}
+use Rattle.shared_parties.specs.Operations.{op_word, op_makes, answer_for}
 use Rattle.shared_tables.specs.TableTurns.{After, Follows}
-use Rattle.queue_parties.specs.CallsAt.{Ready}
-use Rattle.queue_parties.proofs.Callings.{grown}
-use Rattle.queue_parties.specs.CallsAt.{CallsAt, Ready, Told}
-use Rattle.queue_parties.proofs.CallSteps.{set_at, stands_at, Stepping, call_step}
+use Rattle.shared_parties.specs.CallsAt.{Ready}
+use Rattle.shared_parties.proofs.Callings.{grown}
+use Rattle.shared_parties.specs.CallsAt.{CallsAt, Ready, Told}
+use Rattle.shared_parties.proofs.CallSteps.{set_at, stands_at, Stepping, call_step}
 
 module _ {T : Type 0} (K : TableOf T) (words : ℕ) (laws : TableLaws K words) where
   abbrev C : CallsOf T
   C = K.calls
 
   -- what the step told, of the seat with its slots
-  after_told : (g : K.calls.Cells) (h : List (Effect T)) (who : ℕ) (c : InCall T) (v : Option T) (xs : List (ℕ × Option T)) (n : Next ℕ) (w : Doing T) → K.calls.Ok g → ((d : InCall T) → w.work ≡ work.Calls d → Standing C g h who w.known d)
+  after_told : (g : K.calls.Cells) (h : List (Effect T)) (who : ℕ) (c : InCall T) (v : Option T) (xs : List (ℕ × Option T)) (n : Next ℕ) (w : CallState T) → K.calls.Ok g → ((d : InCall T) → w.work ≡ work.Calls d → Standing C g h who w.known d)
       → ((spare : Option ℕ) → C.Gives spare → spare ≡ None) → Told C c v xs n w → After K c v n (w, xs)
   after_told g h who c v xs (next.Step l t o) w ok stands none (d, at, local_is, touch_is, op_is, carried_is, call_is, begun_is, lends) =
       let st = stands d at in
@@ -49,7 +49,7 @@ module _ {T : Type 0} (K : TableOf T) (words : ℕ) (laws : TableLaws K words) w
 
   -- what `Allows` asks at one table
   abbrev AllowsAt : Table T → ℕ → Seated T → InCall T → Type 0
-  AllowsAt s id m c = (w : Doing T) × (a : Act (Option T)) × Valid s.homes m.1 a
+  AllowsAt s id m c = (w : CallState T) × (a : Act (Option T)) × Valid s.homes m.1 a
       × Rule K (stepped s (K.place (op_word c.op)) (op_makes c.op (found_by K c.op s.words)) id m.1 w a)
       × Follows K c (found_by K c.op s.words) (w, carried_after m.1 a)
 

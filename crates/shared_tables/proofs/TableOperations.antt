@@ -9,13 +9,13 @@ use Rattle.queue_steps.specs.declared.steps.types.Op.{Op}
 use Rattle.queue_steps.specs.declared.steps.types.Op.TheVariants as op
 use Rattle.queue_steps.specs.declared.steps.types.Word.{Word}
 use Rattle.queue_steps.specs.Next.{CanNext, next_of}
-use Rattle.queue_parties.specs.declared.known.InCall.{InCall}
+use Rattle.shared_parties.specs.declared.known.InCall.{InCall}
 use Rattle.shared_tables.specs.Seats.{Table, Seated}
-use Rattle.queue_parties.specs.Calling.{touched_list, handed_by}
+use Rattle.shared_parties.specs.Calling.{touched_list, handed_by}
 use Rattle.shared_tables.specs.TableRule.{TableOf, Rule, TableLaws, InTable, TakesOff, found_by}
-use Rattle.queue_parties.specs.Operations.{op_word, op_makes, answer_for}
+use Rattle.shared_parties.specs.Operations.{op_word, op_makes, answer_for}
 use Rattle.shared_tables.specs.TableTurns.{After, Follows}
-use Rattle.queue_parties.specs.CallsAt.{Ready}
+use Rattle.shared_parties.specs.CallsAt.{Ready}
 use Rattle.shared_tables.proofs.TableAllows.{table_allows, takes_off}
 
 has_word : {T : Type 0} (K : TableOf T) (o : Op ℕ) → InTable K o → K.HasWord (op_word o)

@@ -7,42 +7,42 @@ use native.Mathlib.Decide.{ℕ_discrete}
 use lib.ListN.{get_elem?}
 use Rattle.atomic_table.proofs.Lists.{at_map}
 use Rattle.queue_steps.specs.Parties.{IsWhole}
-use Rattle.queue_parties.specs.declared.known.Doing.{Doing}
-use Rattle.queue_parties.specs.Known.{view_of}
+use Rattle.shared_parties.specs.declared.known.CallState.{CallState}
+use Rattle.shared_parties.specs.Known.{view_of}
 use Rattle.shared_tables.specs.Seats.{Table, count_of}
-use Rattle.queue_parties.specs.Doings.{is_busy, known_by, IsAlone}
-use Rattle.queue_parties.specs.Calling.{cap_of}
+use Rattle.shared_parties.specs.CallStates.{is_busy, known_by, IsAlone}
+use Rattle.shared_parties.specs.Calling.{cap_of}
 use Rattle.shared_tables.specs.TableRule.{TableOf, Rule}
-use Rattle.shared_tables.specs.TableParties.{table_keeps_parties}
-use Rattle.queue_parties.proofs.Sharings.{false_if}
-use Rattle.queue_parties.proofs.Alone.{Alone, alone}
+use Rattle.shared_tables.proofs.TableParties.{table_keeps_parties}
+use Rattle.shared_parties.proofs.Sharings.{false_if}
+use Rattle.shared_parties.proofs.Alone.{Alone, alone}
 
 -- what is so of a table by its rule, where the seat id has all of the share
-pub record Ends {T : Type 0} (K : TableOf T) (s : Table T) (id : ℕ) (d : Doing T) (rule : Rule K s) : Type 0 where
+pub record Ends {T : Type 0} (K : TableOf T) (s : Table T) (id : ℕ) (d : CallState T) (rule : Rule K s) : Type 0 where
   pub whole : IsWhole (view_of d.known)
   pub seen : d.known.seen ≡ rule.history
   -- the other seats count for nobody
-  pub others : (j : ℕ) (e : Doing T) → j ≢ id → get_elem? s.views j ≡ some e → e.known.parts ≡ 0
-  pub quiet : (j : ℕ) (e : Doing T) → get_elem? s.views j ≡ some e → is_busy e.work ≡ false
+  pub others : (j : ℕ) (e : CallState T) → j ≢ id → get_elem? s.views j ≡ some e → e.known.parts ≡ 0
+  pub quiet : (j : ℕ) (e : CallState T) → get_elem? s.views j ≡ some e → is_busy e.work ≡ false
   pub nobody : (who : ℕ) → K.calls.Idle rule.cells who
 
-pub table_ends : {T : Type 0} (K : TableOf T) (s : Table T) (id : ℕ) (d : Doing T) (rule : Rule K s) → get_elem? s.views id ≡ some d → IsAlone d → Ends K s id d rule
+pub table_ends : {T : Type 0} (K : TableOf T) (s : Table T) (id : ℕ) (d : CallState T) (rule : Rule K s) → get_elem? s.views id ≡ some d → IsAlone d → Ends K s id d rule
 table_ends {T} K s id d rule at is = record {
-  whole = lone.whole;
-  seen = lone.seen;
+  whole = solo.whole;
+  seen = solo.seen;
   others = others;
   quiet = quiet;
   nobody = λ who. rule.all.free who (λ e there. quiet who e there);
 }
   where
-    lone : Alone rule.history (map known_by s.views) id d.known
-    lone = alone (cap_of K.calls) d.known.cap rule.history d.known.seen (count_of s) (map known_by s.views) id d.known d.known.mine d.known.share rule.all.kept (at_map known_by s.views id d at) (ap (λ (z : Doing T). z.known) is.0) is.1
+    solo : Alone rule.history (map known_by s.views) id d.known
+    solo = alone (cap_of K.calls) d.known.cap rule.history d.known.seen (count_of s) (map known_by s.views) id d.known d.known.mine d.known.share rule.all.kept (at_map known_by s.views id d at) (ap (λ (z : CallState T). z.known) is.0) is.1
 
-    others : (j : ℕ) (e : Doing T) → j ≢ id → get_elem? s.views j ≡ some e → e.known.parts ≡ 0
-    others j e ne there = lone.others j e.known ne (at_map known_by s.views j e there)
+    others : (j : ℕ) (e : CallState T) → j ≢ id → get_elem? s.views j ≡ some e → e.known.parts ≡ 0
+    others j e ne there = solo.others j e.known ne (at_map known_by s.views j e there)
 
     -- a seat in a call counts for a party
-    quiet : (j : ℕ) (e : Doing T) → get_elem? s.views j ≡ some e → is_busy e.work ≡ false
+    quiet : (j : ℕ) (e : CallState T) → get_elem? s.views j ≡ some e → is_busy e.work ≡ false
     quiet j e there = dite (ℕ_discrete j id)
-        (λ same. ap (λ (z : Doing T). is_busy z.work) (some-injective e d (sym there ∙ (ap (get_elem? s.views) same ∙ at)) ∙ is.0))
+        (λ same. ap (λ (z : CallState T). is_busy z.work) (some-injective e d (sym there ∙ (ap (get_elem? s.views) same ∙ at)) ∙ is.0))
         (λ ne. false_if (is_busy e.work) (λ busy. let none = others j e ne there in let some_part = (table_keeps_parties T K s rule).0.active j e there busy in absurd (omega arith)))

@@ -6,15 +6,15 @@ use Rattle.queue_steps.specs.declared.steps.types.Local.{Local}
 use Rattle.queue_steps.specs.declared.steps.types.Op.{Op}
 use Rattle.queue_steps.specs.declared.steps.types.Touch.{Touch}
 use Rattle.queue_steps.specs.declared.steps.types.Touch.TheVariants as touch
-use Rattle.queue_parties.specs.declared.known.InCall.{InCall}
-use Rattle.queue_parties.specs.declared.known.Work.TheVariants as work
+use Rattle.shared_parties.specs.declared.known.InCall.{InCall}
+use Rattle.shared_parties.specs.declared.known.Work.TheVariants as work
 use Rattle.shared_tables.specs.Seats.{Seated}
-use Rattle.queue_parties.specs.Calling.{touched_list, handed_by, lies_in}
+use Rattle.shared_parties.specs.Calling.{touched_list, handed_by, lies_in}
 use Rattle.shared_tables.specs.TableRule.{TableOf}
-use Rattle.queue_parties.specs.CallsAt.{Ready}
+use Rattle.shared_parties.specs.CallsAt.{Ready}
 use Rattle.shared_tables.specs.AtTable.{CanTouch, Touched, Swapped}
-use Rattle.queue_parties.specs.Called.{call_of_work}
-use Rattle.shared_tables.specs.TableLeads.{CanDo, CanOperate, call_at}
+use Rattle.shared_parties.specs.Called.{call_of_work}
+use Rattle.shared_tables.specs.TableTurns.{CanDo, CanOperate, call_at}
 
 module _ {T : Type 0} (K : TableOf T) where
   pub can_touch : (m : Seated T) (l : Local ℕ) (u : Touch) (o : Op ℕ) (x : Option T) (c : InCall T) → CanDo K m l u o x c → CanTouch u m

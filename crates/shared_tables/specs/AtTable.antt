@@ -9,7 +9,7 @@ use Rattle.queue_steps.specs.declared.steps.types.Touch.TheVariants as touch
 use Rattle.queue_steps.specs.Effect.{IsHistory}
 use Rattle.queue_steps.specs.Parties.{SharedCall}
 use Rattle.shared_tables.specs.Seats.{Seated, Rests, view_at}
-use Rattle.queue_parties.specs.Doings.{HasAll}
+use Rattle.shared_parties.specs.CallStates.{HasAll}
 
 -- the table at which a party sits, and its seat
 abbrev pub Place : Type 0 → Type 0

@@ -3,10 +3,6 @@ pub mod AtTable
 pub mod TableRule
 pub mod TableTurns
 pub mod RingOpening
-pub mod TableLeads
 pub mod RingTable
-pub mod RingPrompt
-pub mod RingSteps
 pub mod SlotTable
-pub mod SlotSteps
-pub mod TableParties
+pub mod Laws

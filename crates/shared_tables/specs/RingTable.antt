@@ -6,16 +6,14 @@ use lib.ListN.{get_elem?}
 use Rattle.queue_steps.specs.declared.steps.types.Kind.TheVariants as queue
 use Rattle.queue_steps.specs.declared.steps.types.Word.{Word}
 use Rattle.queue_steps.specs.declared.steps.types.Word.TheVariants as word
-use Rattle.ring_laws.proofs.RingCells.{Cell, Ring, queue_of, RingOk, owner}
-use Rattle.ring_laws.proofs.RingShared.{Shared}
-use Rattle.ring_laws.proofs.RingWords.{Codes, item_in}
-use Rattle.ring_laws.proofs.RingPasses.{Passes}
-use Rattle.ring_laws.proofs.RingAt.{At}
-use Rattle.ring_laws.proofs.RingHands.{Lent}
-use Rattle.ring_laws.proofs.RingStart.{HasPlace}
-use Rattle.bounded_cells.specs.RingWords.{words_behind}
-use Rattle.bounded_cells.specs.declared.ring_words.TheConstants.{TAIL, HEAD, STAMPS}
-use Rattle.queue_parties.specs.Calling.{CallsOf}
+use Rattle.law_ring.specs.RingCells.{Cell, Ring, queue_of, RingOk, owner}
+use Rattle.law_ring.specs.RingShared.{Shared}
+use Rattle.law_ring.specs.RingWords.{Codes, item_in}
+use Rattle.law_ring.specs.RingPasses.{Passes, Lent}
+use Rattle.law_ring.specs.RingAt.{At, HasPlace}
+use Rattle.own_bounded.specs.RingWords.{words_behind}
+use Rattle.own_bounded.specs.declared.ring_words.TheConstants.{TAIL, HEAD, STAMPS}
+use Rattle.shared_parties.specs.Calling.{CallsOf}
 use Rattle.shared_tables.specs.TableRule.{TableOf}
 
 -- what lies in a slot that nobody has; a slot that somebody has is out

@@ -3,14 +3,15 @@ use Rattle.std.specs.Prelude.{None, ◌≡◌, ℕ, List, [], ◌∷◌, Option}
 use mathlib.Core.Option.{some}
 use mathlib.Core.Option as maybe
 use Rattle.queue_steps.specs.declared.steps.types.Kind.TheVariants as queue
-use Rattle.slot_laws.proofs.SlotShared.{IsLock}
-use Rattle.slot_laws.proofs.SlotRows.{Hold, Nobody, Stands, At}
-use Rattle.slot_laws.proofs.SlotCells.{Slot, queue_of, own_in, Passes, Lent}
-use Rattle.queue_parties.specs.Calling.{CallsOf}
+use Rattle.law_slot.specs.SlotShared.{IsLock}
+use Rattle.law_slot.specs.SlotHolder.{SlotHolder, Nobody}
+use Rattle.law_slot.specs.SlotRows.{Stands, At}
+use Rattle.law_slot.specs.SlotCells.{Slot, queue_of, own_in, Passes, Lent}
+use Rattle.shared_parties.specs.Calling.{CallsOf}
 use Rattle.shared_tables.specs.TableRule.{TableOf}
 
 -- what lies in a slot that nobody has; a slot that somebody has is out
-abbrev pub home_under : {T : Type 0} → Hold T → Option T → maybe.Option (Option T)
+abbrev pub home_under : {T : Type 0} → SlotHolder T → Option T → maybe.Option (Option T)
 home_under Nobody x = some x
 home_under _ x = maybe.none
 

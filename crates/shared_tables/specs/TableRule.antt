@@ -14,13 +14,13 @@ use Rattle.queue_steps.specs.declared.steps.types.Touch.{Touch}
 use Rattle.queue_steps.specs.declared.steps.types.Word.{Word}
 use Rattle.queue_steps.specs.Kinds.{call_kind}
 use Rattle.queue_steps.specs.Next.{CanNext, first_local, next_of}
-use Rattle.queue_steps.specs.Prompt.{is_prompt, EndsPromptly}
+use Rattle.queue_steps.specs.WaitFree.{is_wait_free, EndsWaitFree}
 use Rattle.queue_steps.specs.State.{State}
-use Rattle.queue_laws.proofs.Effects.{Leads, with_effect}
+use Rattle.law_common.specs.Effects.{Leads, with_effect}
 use Rattle.shared_tables.specs.Seats.{Table, count_of}
-use Rattle.queue_parties.specs.Operations.{op_word, op_makes, answer_for}
-use Rattle.queue_parties.specs.CallsAt.{CallsAt}
-use Rattle.queue_parties.specs.Calling.{CallsOf, CallLaws, touched_list, handed_by, MayFront, Goes, first_of, Opens}
+use Rattle.shared_parties.specs.Operations.{op_word, op_makes, answer_for}
+use Rattle.shared_parties.specs.CallsAt.{CallsAt}
+use Rattle.shared_parties.specs.Calling.{CallsOf, CallLaws, touched_list, handed_by, MayFront, Goes, first_of, Opens}
 
 -- A kind of queue in a table: which of the steps' words it has and where, and how the words behind the count and the slots at home stand for its cells
 pub record TableOf (T : Type 0) : Type 1 where
@@ -92,4 +92,4 @@ pub record TableLaws {T : Type 0} (K : TableOf T) (words : ℕ) : Type 0 where
       → K.calls.Ok g → K.Coded g ws hs → K.calls.At g who ms was l t o v k es → TakesOff o (found_by K o (n ∷ ws))
   pub gives : (spare : Option ℕ) → K.calls.Gives spare → spare ≡ None
   pub opens : (c : Call T) → OpensIn K c
-  pub prompt : (c : Call T) → is_prompt c ≡ true → EndsPromptly ℕ K.calls.kind (call_kind c)
+  pub wait_free : (c : Call T) → is_wait_free c ≡ true → EndsWaitFree ℕ K.calls.kind (call_kind c)

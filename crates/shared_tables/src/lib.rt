@@ -2,7 +2,7 @@
 #![tactic(auto)]
 
 pub mod ring;
-pub mod seats;
+mod seats;
 pub mod slot;
 pub mod table;
 mod touching;

@@ -1,24 +1,23 @@
 //! A ring that parties share: a table of the count of parties, the tail, the head and the stamps, and of the slots.
-ghost use Rattle.std.specs.Prelude.{◌≡◌, ◌<◌, ◌≤◌, ℕ, [], Some, IfOk, IsErr, true};
+ghost use Rattle.std.specs.Prelude.{◌≡◌, ◌<◌, ◌≤◌, ℕ, [], Some, IfOk, IsErr};
 ghost use Rattle.queue_steps.specs.declared.sizes.TheConstants.{MAX_CAPACITY};
-ghost use Rattle.queue_steps.specs.CommonNext.{is_common_of};
 ghost use Rattle.queue_steps.specs.Effect.{after};
 ghost use Rattle.queue_steps.specs.Legal.{IsShown};
 ghost use Rattle.queue_steps.specs.Parties.{IsWhole};
 ghost use Rattle.queue_steps.specs.Shares.{entire};
 ghost use Rattle.queue_steps.specs.Words.{IsRing};
-ghost use Rattle.queue_parties.specs.Known.{party, view_of};
+ghost use Rattle.shared_parties.specs.Known.{party, view_of};
 ghost use Rattle.shared_tables.specs.RingOpening.{first_words};
-ghost use Rattle.queue_parties.specs.Doings.{idle, IsAlone};
+ghost use Rattle.shared_parties.specs.CallStates.{idle, IsAlone};
 
 use crate::table::{SharedTable, Sizes, TableKind, TableSteps};
 use atomic_table::Seat;
-use bounded_cells::ring_words::{HEAD, STAMPS, TAIL, words_before_stamps};
-use bounded_cells::vacant::{discard, empty_slots, table_of};
 use exclusive_queue::Exclusive;
-use queue_parties::known::Doing;
+use own_bounded::ring_words::{HEAD, STAMPS, TAIL, words_before_stamps};
+use own_bounded::vacant::{discard, empty_slots, table_of};
 use queue_steps::sizes::MAX_CAPACITY;
-use queue_steps::steps::{self, Answer, Kind, Local, Next, Word};
+use queue_steps::steps::{Kind, RingSteps, Word};
+use shared_parties::known::CallState;
 use std::alloc::{AllocError, Allocator};
 
 /// Rings of more than one slot.
@@ -27,7 +26,7 @@ pub struct Rings;
 impl Sizes for Rings {
     ghost use Rattle.std.specs.Prelude.{◌+◌};
     ghost use Rattle.queue_steps.specs.declared.sizes.TheConstants.{MAX_CAPACITY};
-    ghost use Rattle.bounded_cells.specs.declared.ring_words.TheConstants.{STAMPS};
+    ghost use Rattle.own_bounded.specs.declared.ring_words.TheConstants.{STAMPS};
 
     ghost least = { 2 };
 
@@ -43,55 +42,21 @@ impl<T> TableKind<T> for Rings {
 }
 
 impl<T> TableSteps<T> for Rings {
+    type Steps = RingSteps;
+
+    ghost use Rattle.std.specs.Prelude.{refl};
     ghost use Rattle.queue_steps.specs.declared.sizes.TheConstants.{MAX_CAPACITY};
-    ghost use Rattle.shared_tables.specs.RingSteps.{ring_table_laws};
-    ghost use Rattle.queue_steps.specs.declared.steps.types.Kind.TheVariants as kinds;
-    ghost use Rattle.queue_steps.specs.Next.{CanNext, next_of};
-    ghost use Rattle.ring_laws.proofs.RingStart.{HasPlace};
+    ghost use Rattle.shared_tables.specs.Laws.RingSteps.{ring_table_laws};
+    ghost use Rattle.law_ring.specs.RingAt.{HasPlace};
     ghost use Rattle.shared_tables.specs.RingTable.{word_index};
+
+    ghost steps_fit = { λ slots. (slots, refl) };
 
     ghost laws = { λ slots wide small. ring_table_laws slots (wide, small) };
 
     #[inline(always)]
     fn kind(slots: usize) -> Kind {
         Kind::Bounded(slots)
-    }
-
-    #[inline(always)]
-    fn next(kind: Kind, local: Local<usize>, answer: Answer<usize>) -> Next<usize>
-        requires of { (slots : _) × (kind ≡ kinds.Bounded slots) }
-        requires can { CanNext kind local answer }
-        ensures { result ≡ next_of kind local answer }
-    {
-        match kind {
-            Kind::Bounded(capacity) => steps::next_bounded(capacity, local, answer),
-            _ => unreachable!(),
-        }
-    }
-
-    #[inline(always)]
-    fn is_common(kind: Kind, local: &Local<usize>, answer: &Answer<usize>) -> bool
-        requires of { (slots : _) × (kind ≡ kinds.Bounded slots) }
-        requires can { CanNext kind local.now answer.now }
-        ensures { result ≡ is_common_of kind local.now answer.now }
-    {
-        match kind {
-            Kind::Bounded(capacity) => steps::is_common_bounded(capacity, local, answer),
-            _ => unreachable!(),
-        }
-    }
-
-    #[inline(always)]
-    fn next_common(kind: Kind, local: Local<usize>, answer: Answer<usize>) -> Next<usize>
-        requires of { (slots : _) × (kind ≡ kinds.Bounded slots) }
-        requires can { CanNext kind local answer }
-        requires common { is_common_of kind local answer ≡ true }
-        ensures { result ≡ next_of kind local answer }
-    {
-        match kind {
-            Kind::Bounded(capacity) => steps::next_common_bounded(capacity, local, answer),
-            _ => unreachable!(),
-        }
     }
 
     #[inline(always)]
@@ -124,7 +89,7 @@ fn first_words<A: Allocator>(alloc: A, capacity: usize) -> Result<Vec<u64, A>, A
 pub fn open_ring<T, A: Allocator + Clone>(
     alloc: A,
     capacity: usize,
-) -> Result<(SharedTable<T, Rings, A>, Seat<Option<T>, Doing<T>>), AllocError>
+) -> Result<(SharedTable<T, Rings, A>, Seat<Option<T>, CallState<T>>), AllocError>
     requires { 1 < capacity }
     ensures limited { MAX_CAPACITY < capacity → IsErr result }
     ensures first { IfOk result (λ r. (r.1.table_id ≡ r.0.table.shared.table_id) × (r.0.table.shared.table_id.slots ≡ capacity) × IsRing capacity × (r.1.me ≡ (idle (party (Some capacity) [] [] entire), []))) }
@@ -151,7 +116,7 @@ pub fn open_ring<T, A: Allocator + Clone>(
 /// What is left when the only party ends the table: a queue with one owner, in the same memory.
 pub fn end_ring<T, A: Allocator>(
     ring: SharedTable<T, Rings, A>,
-    seat: Seat<Option<T>, Doing<T>>,
+    seat: Seat<Option<T>, CallState<T>>,
 ) -> Exclusive<T, A>
     requires table { seat.table_id ≡ ring.table.shared.table_id }
     requires alone { IsAlone seat.me.0 }

@@ -1,19 +1,18 @@
 //! One slot that parties share: a table of the count of parties, the slot's word, and the slot.
-ghost use Rattle.std.specs.Prelude.{◌≡◌, [], IfOk, Some, true};
-ghost use Rattle.queue_steps.specs.CommonNext.{is_common_of};
+ghost use Rattle.std.specs.Prelude.{◌≡◌, [], IfOk, Some};
 ghost use Rattle.queue_steps.specs.Effect.{after};
 ghost use Rattle.queue_steps.specs.Legal.{IsShown};
 ghost use Rattle.queue_steps.specs.Parties.{IsWhole};
 ghost use Rattle.queue_steps.specs.Shares.{entire};
-ghost use Rattle.queue_parties.specs.Known.{party, view_of};
-ghost use Rattle.queue_parties.specs.Doings.{idle, IsAlone};
-ghost use Rattle.bounded_cells.specs.SingleCells.{IsIdle, single_owned};
+ghost use Rattle.shared_parties.specs.Known.{party, view_of};
+ghost use Rattle.shared_parties.specs.CallStates.{idle, IsAlone};
+ghost use Rattle.own_bounded.specs.SingleCells.{IsIdle, single_owned};
 
 use crate::table::{SharedTable, Sizes, TableKind, TableSteps};
 use atomic_table::{Seat, Table};
-use bounded_cells::Single;
-use queue_parties::known::Doing;
-use queue_steps::steps::{self, Answer, Kind, Local, Next, Word};
+use own_bounded::Single;
+use queue_steps::steps::{Kind, SlotSteps, Word};
+use shared_parties::known::CallState;
 use std::alloc::{AllocError, Allocator};
 
 /// The word that says what is in the slot.
@@ -37,45 +36,18 @@ impl<T> TableKind<T> for Slots {
 }
 
 impl<T> TableSteps<T> for Slots {
-    ghost use Rattle.queue_steps.specs.declared.steps.types.Kind.TheVariants as kinds;
-    ghost use Rattle.queue_steps.specs.Next.{CanNext, next_of};
-    ghost use Rattle.shared_tables.specs.SlotSteps.{slot_table_laws};
+    type Steps = SlotSteps;
+
+    ghost use Rattle.std.specs.Prelude.{refl};
+    ghost use Rattle.shared_tables.specs.Laws.SlotSteps.{slot_table_laws};
+
+    ghost steps_fit = { λ _. refl };
 
     ghost laws = { λ slots some one. slot_table_laws };
 
     #[inline(always)]
     fn kind(_slots: usize) -> Kind {
         Kind::Single
-    }
-
-    #[inline(always)]
-    fn next(kind: Kind, local: Local<usize>, answer: Answer<usize>) -> Next<usize>
-        requires of { kind ≡ kinds.Single }
-        requires can { CanNext kind local answer }
-        ensures { result ≡ next_of kind local answer }
-    {
-        let _ = kind;
-        steps::next_single(local, answer)
-    }
-
-    #[inline(always)]
-    fn is_common(kind: Kind, _local: &Local<usize>, _answer: &Answer<usize>) -> bool
-        requires of { kind ≡ kinds.Single }
-        ensures { result ≡ is_common_of kind _local.now _answer.now }
-    {
-        let _ = kind;
-        true
-    }
-
-    #[inline(always)]
-    fn next_common(kind: Kind, local: Local<usize>, answer: Answer<usize>) -> Next<usize>
-        requires of { kind ≡ kinds.Single }
-        requires can { CanNext kind local answer }
-        requires common { is_common_of kind local answer ≡ true }
-        ensures { result ≡ next_of kind local answer }
-    {
-        let _ = kind;
-        steps::next_single(local, answer)
     }
 
     #[inline(always)]
@@ -87,7 +59,7 @@ impl<T> TableSteps<T> for Slots {
 /// An empty open slot, and the seat of its only party.
 pub fn open_slot<T, A: Allocator + Clone>(
     alloc: A,
-) -> Result<(SharedTable<T, Slots, A>, Seat<Option<T>, Doing<T>>), AllocError>
+) -> Result<(SharedTable<T, Slots, A>, Seat<Option<T>, CallState<T>>), AllocError>
     ensures { IfOk result (λ r. (r.1.table_id ≡ r.0.table.shared.table_id) × (r.1.me ≡ (idle (party (Some 1) [] [] entire), []))) }
 {
     let (table, seat) = Table::vacant(alloc, &[1, 0], 1, &1)?;
@@ -97,7 +69,7 @@ pub fn open_slot<T, A: Allocator + Clone>(
 /// What is left when the only party ends the table.
 pub fn end_slot<T, A: Allocator>(
     slot: SharedTable<T, Slots, A>,
-    seat: Seat<Option<T>, Doing<T>>,
+    seat: Seat<Option<T>, CallState<T>>,
 ) -> Single<T>
     requires table { seat.table_id ≡ slot.table.shared.table_id }
     requires alone { IsAlone seat.me.0 }

@@ -1,22 +1,18 @@
 //! A queue that parties share over a table: the first word counts the parties, the other words and the slots are those of its kind.
-ghost use Rattle.std.specs.Prelude.{◌≡◌, ◌≤◌, ℕ, true};
-ghost use Rattle.queue_steps.specs.CommonNext.{is_common_of};
-ghost use Rattle.queue_steps.specs.Next.{CanNext, next_of};
-ghost use Rattle.queue_parties.specs.Calling.{touched_list};
+ghost use Rattle.std.specs.Prelude.{◌≡◌, ◌<◌, ◌≤◌, ℕ};
+ghost use Rattle.shared_parties.specs.Calling.{touched_list};
 ghost use Rattle.shared_tables.specs.TableRule.{TableOf, TableLaws, InTable};
-ghost use Rattle.queue_parties.specs.Operations.{answer_for};
-ghost use Rattle.shared_tables.specs.TableTurns.{Follows};
-ghost use Rattle.queue_parties.specs.CallsAt.{Ready};
-ghost use Rattle.shared_tables.specs.TableLeads.{TableCan, TableDoes};
+ghost use Rattle.shared_parties.specs.Operations.{answer_for};
+ghost use Rattle.shared_tables.specs.TableTurns.{Follows, TableCan, TableDoes};
+ghost use Rattle.shared_parties.specs.CallsAt.{Ready};
 
-use crate::seats::PartyRule;
 use crate::touching::touch;
 use atomic_table::{Play, Seat, Table, TableRule};
-use party_driver::turns::Turns;
-use queue_parties::known::Doing;
-use queue_parties::task::Task;
+use call_driver::site::{SharedSite, Site};
 use queue_steps::model::CallKind;
-use queue_steps::steps::{Answer, Kind, Local, Next, Op, Touch, Word};
+use queue_steps::steps::{Answer, Kind, KindSteps, Local, Op, Touch, Word};
+use shared_parties::known::CallState;
+use shared_parties::task::Task;
 use std::alloc::Allocator;
 use std::marker::{Brand, PhantomData};
 
@@ -40,32 +36,19 @@ pub trait TableKind<T> {
 /// How the calls on such a queue take their steps.
 pub trait TableSteps<T>: Sizes + TableKind<T> {
     /// Which steps they are.
+    type Steps: KindSteps;
+
+    /// The kind of the queue.
     fn kind(slots: usize) -> Kind
         ensures { result ≡ (Self.layout slots).calls.kind };
-
-    /// What a call does next on queues of this kind.
-    fn next(kind: Kind, local: Local<usize>, answer: Answer<usize>) -> Next<usize>
-        requires of { (slots : ℕ) × (kind ≡ (Self.layout slots).calls.kind) }
-        requires can { CanNext kind local answer }
-        ensures { result ≡ next_of kind local answer };
-
-    /// Whether `next_common` tells what a call does next.
-    fn is_common(kind: Kind, local: &Local<usize>, answer: &Answer<usize>) -> bool
-        requires of { (slots : ℕ) × (kind ≡ (Self.layout slots).calls.kind) }
-        requires can { CanNext kind local.now answer.now }
-        ensures { result ≡ is_common_of kind local.now answer.now };
-
-    /// What a call does next on queues of this kind, where that is one of the few steps that most calls are made of.
-    fn next_common(kind: Kind, local: Local<usize>, answer: Answer<usize>) -> Next<usize>
-        requires of { (slots : ℕ) × (kind ≡ (Self.layout slots).calls.kind) }
-        requires can { CanNext kind local answer }
-        requires common { is_common_of kind local answer ≡ true }
-        ensures { result ≡ next_of kind local answer };
 
     /// Where the table has the word.
     fn place(word: Word<usize>) -> usize
         requires has { (slots : ℕ) × (slots ≤ Self.most) × (Self.layout slots).HasWord word }
         ensures { (slots : ℕ) → result ≡ (Self.layout slots).place word };
+
+    /// The steps are those of the kind.
+    ghost steps_fit: { (slots : ℕ) → Self.Steps.has_kind (Self.layout slots).calls.kind };
 
     /// Each step of a call is right, wherever the call stands.
     ghost laws: { (slots : ℕ) → Self.least ≤ slots → slots ≤ Self.most → TableLaws (Self.layout slots) (Self.words slots) };
@@ -76,23 +59,17 @@ pub struct RuleOf<K> {
     of: PhantomData<K>,
 }
 
-impl<T, K: TableKind<T>> TableRule<Option<T>, Doing<T>, usize> for RuleOf<K> {
+impl<T, K: TableKind<T>> TableRule<Option<T>, CallState<T>, usize> for RuleOf<K> {
     ghost use Rattle.std.specs.Prelude.{[]};
-    ghost use Rattle.queue_parties.specs.Calling.{cap_of};
+    ghost use Rattle.shared_parties.specs.Calling.{cap_of};
     ghost use Rattle.shared_tables.specs.TableRule.{Rule};
-    ghost use Rattle.queue_parties.specs.Doings.{idle};
-    ghost use Rattle.queue_parties.specs.Known.{party};
+    ghost use Rattle.shared_parties.specs.CallStates.{idle};
+    ghost use Rattle.shared_parties.specs.Known.{party};
     ghost use Rattle.queue_steps.specs.Shares.{entire};
 
     ghost holds = { λ slots. Rule (K.layout slots) };
 
     ghost first = { λ slots. idle (party (cap_of (K.layout slots).calls) [] [] entire) };
-}
-
-impl<T, K: TableKind<T>> PartyRule<T> for RuleOf<K> {
-    ghost use Rattle.shared_tables.specs.TableParties.{table_keeps_parties};
-
-    ghost keeps_parties = { λ slots. table_keeps_parties T (K.layout slots) };
 }
 
 /// One step of a call.
@@ -101,7 +78,7 @@ struct Steps<K, J> {
     of: PhantomData<J>,
 }
 
-impl<T, K: TableKind<T>, J: Task<T>> Play<Option<T>, Doing<T>> for Steps<K, J> {
+impl<T, K: TableKind<T>, J: Task<T>> Play<Option<T>, CallState<T>> for Steps<K, J> {
     ghost use Rattle.shared_tables.specs.TableTurns.{Follows};
 
     ghost then = { λ st m n q. Follows (K.layout st.slots) J.call n q };
@@ -111,10 +88,11 @@ impl<T, K: TableKind<T>, J: Task<T>> Play<Option<T>, Doing<T>> for Steps<K, J> {
 #[derive(Drop)]
 pub struct SharedTable<T, K: Sizes + TableKind<T>, A: Allocator> {
     /// The words and the slots.
-    pub table: Table<Option<T>, Doing<T>, usize, RuleOf<K>, A>,
+    pub table: Table<Option<T>, CallState<T>, usize, RuleOf<K>, A>,
     /// How many slots there are.
     pub slots: usize,
     ghost counted: { slots ≡ table.shared.table_id.slots },
+    ghost counts: { 0 < table.shared.table_id.words },
     ghost sized: { (table.shared.table_id.words ≡ K.words table.shared.table_id.slots) × (table.shared.key ≡ table.shared.table_id.slots) × (K.least ≤ table.shared.table_id.slots) × (table.shared.table_id.slots ≤ K.most) },
 }
 
@@ -130,7 +108,7 @@ impl<T, K: TableSteps<T>, A: Allocator> SharedTable<T, K, A> {
     #[inline(always)]
     fn operate<J: Task<T>>(
         &self,
-        seat: &mut Seat<Option<T>, Doing<T>>,
+        seat: &mut Seat<Option<T>, CallState<T>>,
         call: &CallKind,
         local: &Local<usize>,
         touched: Touch,
@@ -175,17 +153,20 @@ impl<T, K: TableSteps<T>, A: Allocator> SharedTable<T, K, A> {
     }
 }
 
-impl<T, K: TableSteps<T>, A: Allocator> Turns<T, usize, Seat<Option<T>, Doing<T>>>
+impl<T, K: TableSteps<T>, A: Allocator> Site<T, usize, Seat<Option<T>, CallState<T>>>
     for SharedTable<T, K, A> {
+    type Steps = K::Steps;
+
     ghost use Rattle.shared_tables.specs.AtTable.{IsAt};
-    ghost use Rattle.queue_parties.specs.Calling.{cap_of};
-    ghost use Rattle.shared_tables.specs.TableLeads.{TableCan, TableDoes, NoBlock, NoGift, TableStands, TableEnded, table_begins, table_goes_on};
-    ghost use Rattle.party_driver.specs.Turns.{leads-through};
+    ghost use Rattle.shared_parties.specs.Calling.{cap_of};
+    ghost use Rattle.shared_tables.specs.TableTurns.{TableCan, TableDoes, NoBlock, NoGift, TableStands, TableEnded};
+    ghost use Rattle.shared_tables.specs.Laws.TableLeads.{table_begins, table_goes_on};
+    ghost use Rattle.call_driver.proofs.LeadsThrough.{leads-through};
     ghost use Rattle.queue_steps.specs.Kinds.{call_kind, call_value};
-    ghost use Rattle.queue_steps.specs.Next.{CanNext, next_of, first_local};
+    ghost use Rattle.queue_steps.specs.Next.{next_of, first_local};
     ghost use Rattle.queue_steps.specs.declared.steps.types.Answer.TheVariants as answer;
 
-    ghost kind_of = { λ m. (K.layout m.table.shared.table_id.slots).calls.kind };
+    ghost kind_of = { λ m _. (K.layout m.table.shared.table_id.slots).calls.kind };
 
     ghost rests = { λ m s. IsAt (cap_of (K.layout m.table.shared.table_id.slots).calls) m.table.shared.table_id (s.table_id, s.me) };
 
@@ -197,83 +178,27 @@ impl<T, K: TableSteps<T>, A: Allocator> Turns<T, usize, Seat<Option<T>, Doing<T>
 
     ghost gives = { λ m s b q. NoGift m.table.shared.table_id (s.table_id, s.me) b (q.table_id, q.me) };
 
-    ghost stands = { λ m s c l a q x. TableStands K.layout m.table.shared.table_id (s.table_id, s.me) c l a (q.table_id, q.me) x };
+    ghost stands = { λ n m s c l a q x. TableStands K.layout n m.table.shared.table_id (s.table_id, s.me) c l a (q.table_id, q.me) x };
 
     ghost ended = { λ m s c r q. TableEnded K.layout m.table.shared.table_id (s.table_id, s.me) c r (q.table_id, q.me) };
 
-    ghost begins = { λ m s c h. let b = table_begins T K.layout m.table.shared.table_id (K.words m.table.shared.table_id.slots) (K.laws m.table.shared.table_id.slots m.sized.2 m.sized.3) (s.table_id, s.me) c h in (b.0, leads-through (TableCan K.layout) (TableDoes K.layout) NoBlock NoGift (TableStands K.layout) (TableEnded K.layout) (λ m. m.table.shared.table_id) (λ s. (s.table_id, s.me)) m s s c (next_of (K.layout m.table.shared.table_id.slots).calls.kind (first_local (call_kind c)) answer.Start) (call_value c) b.1) };
+    ghost steps_fit = { λ m _. K.steps_fit m.table.shared.table_id.slots };
 
-    ghost goes_on = { λ m first c l a s x h. let g = table_goes_on T K.layout m.table.shared.table_id (first.table_id, first.me) c l a (s.table_id, s.me) x h in (g.0, leads-through (TableCan K.layout) (TableDoes K.layout) NoBlock NoGift (TableStands K.layout) (TableEnded K.layout) (λ m. m.table.shared.table_id) (λ s. (s.table_id, s.me)) m first s c (next_of (K.layout m.table.shared.table_id.slots).calls.kind l a) x g.1) };
+    ghost begins = { λ m s c h n _. let b = table_begins T K.layout m.table.shared.table_id n (K.words m.table.shared.table_id.slots) (K.laws m.table.shared.table_id.slots m.sized.2 m.sized.3) (s.table_id, s.me) c h in (b.0, leads-through (TableCan K.layout) (TableDoes K.layout) NoBlock NoGift (TableStands K.layout) (TableEnded K.layout) (λ m. m.table.shared.table_id) (λ s. (s.table_id, s.me)) n m s s c (next_of (K.layout m.table.shared.table_id.slots).calls.kind (first_local (call_kind c)) answer.Start) (call_value c) b.1) };
 
-    ghost prompt = { λ m c h. (K.laws m.table.shared.table_id.slots m.sized.2 m.sized.3).prompt c h };
+    ghost goes_on = { λ n m first c l a s x h. let g = table_goes_on T K.layout m.table.shared.table_id n (first.table_id, first.me) c l a (s.table_id, s.me) x h in (g.0, leads-through (TableCan K.layout) (TableDoes K.layout) NoBlock NoGift (TableStands K.layout) (TableEnded K.layout) (λ m. m.table.shared.table_id) (λ s. (s.table_id, s.me)) n m first s c (next_of (K.layout m.table.shared.table_id.slots).calls.kind l a) x g.1) };
+
+    ghost more = { λ n m first c l a s x h. h };
 
     #[inline(always)]
-    fn kind(&self) -> Kind {
+    fn kind(&self, _seat: &Seat<Option<T>, CallState<T>>) -> Kind {
         K::kind(self.slots)
     }
 
     #[inline(always)]
-    fn next(kind: Kind, local: Local<usize>, answer: Answer<usize>) -> Next<usize>
-        requires of { (slots : _) × (kind ≡ (K.layout slots).calls.kind) }
-        requires can { CanNext kind local answer }
-        ensures { result ≡ next_of kind local answer }
-    {
-        K::next(kind, local, answer)
-    }
-
-    #[inline(always)]
-    fn is_common(kind: Kind, local: &Local<usize>, answer: &Answer<usize>) -> bool
-        requires of { (slots : _) × (kind ≡ (K.layout slots).calls.kind) }
-        requires can { CanNext kind local.now answer.now }
-        ensures { result ≡ is_common_of kind local.now answer.now }
-    {
-        K::is_common(kind, local, answer)
-    }
-
-    #[inline(always)]
-    fn next_common(kind: Kind, local: Local<usize>, answer: Answer<usize>) -> Next<usize>
-        requires of { (slots : _) × (kind ≡ (K.layout slots).calls.kind) }
-        requires can { CanNext kind local answer }
-        requires common { is_common_of kind local answer ≡ true }
-        ensures { result ≡ next_of kind local answer }
-    {
-        K::next_common(kind, local, answer)
-    }
-
-    /// No call on a table walks over a block.
-    #[inline(always)]
-    fn is_walk(_kind: Kind, _local: &Local<usize>, _answer: &Answer<usize>) -> bool {
-        false
-    }
-
-    #[inline(always)]
-    fn next_walk(kind: Kind, local: Local<usize>, answer: Answer<usize>) -> Next<usize>
-        requires of { (slots : _) × (kind ≡ (K.layout slots).calls.kind) }
-        requires can { CanNext kind local answer }
-        ensures { result ≡ next_of kind local answer }
-    {
-        K::next(kind, local, answer)
-    }
-
-    /// No call on a table passes from block to block.
-    #[inline(always)]
-    fn is_passing(_kind: Kind, _local: &Local<usize>, _answer: &Answer<usize>) -> bool {
-        false
-    }
-
-    #[inline(always)]
-    fn next_passing(kind: Kind, local: Local<usize>, answer: Answer<usize>) -> Next<usize>
-        requires of { (slots : _) × (kind ≡ (K.layout slots).calls.kind) }
-        requires can { CanNext kind local answer }
-        ensures { result ≡ next_of kind local answer }
-    {
-        K::next(kind, local, answer)
-    }
-
-    #[inline(always)]
-    fn turn(
+    fn take_step(
         &self,
-        seat: &mut Seat<Option<T>, Doing<T>>,
+        seat: &mut Seat<Option<T>, CallState<T>>,
         call: &CallKind,
         local: &Local<usize>,
         todo: Touch,
@@ -288,10 +213,15 @@ impl<T, K: TableSteps<T>, A: Allocator> Turns<T, usize, Seat<Option<T>, Doing<T>
     }
 
     /// No reply has a block, so nothing is done.
-    fn give_up(&self, seat: &mut Seat<Option<T>, Doing<T>>, block: usize)
+    fn give_up(&self, seat: &mut Seat<Option<T>, CallState<T>>, block: usize)
         ensures { NoGift self.now.table.shared.table_id (seat.old.table_id, seat.old.me) block (seat.new.table_id, seat.new.me) }
     {
         let _ = seat;
         let _ = block;
     }
+}
+
+impl<T, K: TableSteps<T>, A: Allocator> SharedSite<T, usize, Seat<Option<T>, CallState<T>>>
+    for SharedTable<T, K, A> {
+    ghost wait_free = { λ m _ c h. (K.laws m.table.shared.table_id.slots m.sized.2 m.sized.3).wait_free c h };
 }

@@ -3,15 +3,15 @@ ghost use Rattle.std.specs.Prelude.{◌≡◌};
 ghost use Rattle.shared_tables.specs.AtTable.{CanTouch, Touched};
 
 use atomic_table::{Seat, Shared, TableRule};
-use queue_parties::known::Doing;
 use queue_steps::steps::Touch;
+use shared_parties::known::CallState;
 use std::mem;
 
 /// The slot that a seat holds and what a call carries change places, where a touch is asked for.
 #[inline(always)]
-pub(crate) fn touch<T, P: TableRule<Option<T>, Doing<T>, usize>>(
-    table: &Shared<Option<T>, Doing<T>, usize, P>,
-    seat: &mut Seat<Option<T>, Doing<T>>,
+pub(crate) fn touch<T, P: TableRule<Option<T>, CallState<T>, usize>>(
+    table: &Shared<Option<T>, CallState<T>, usize, P>,
+    seat: &mut Seat<Option<T>, CallState<T>>,
     touch: Touch,
     carried: &mut Option<T>,
 )

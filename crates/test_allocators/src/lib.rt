@@ -3,7 +3,7 @@
 
 ghost use Rattle.std.specs.Prelude.{◌≡◌};
 
-use block_web::low::Low;
+use mem_blocks::null_testable::NullTestable;
 use std::alloc::{AllocError, Allocator, Layout};
 use std::sync::atomic::{AtomicBool, AtomicU64, Ordering};
 
@@ -72,7 +72,7 @@ impl Count {
 
 /// Where a request waits until another thread lets it go.
 #[derive(Drop)]
-struct Hold {
+struct HeldRequest {
     /// Whether the next request is to be held.
     next: AtomicBool,
     /// Whether one was.
@@ -84,10 +84,10 @@ struct Hold {
     in_time: AtomicBool,
 }
 
-impl Hold {
+impl HeldRequest {
     /// Of no request.
-    fn open() -> Hold {
-        Hold {
+    fn open() -> HeldRequest {
+        HeldRequest {
             next: AtomicBool::new(false),
             held: AtomicBool::new(false),
             by_another: AtomicBool::new(false),
@@ -113,7 +113,7 @@ impl Hold {
 struct Tally {
     refusal: Refusal,
     watched: Option<Layout>,
-    hold: Hold,
+    hold: HeldRequest,
     requests: AtomicU64,
     all: Count,
     of_watched: Count,
@@ -169,7 +169,7 @@ impl<B: Allocator> Refusing<B> {
             tally: Tally {
                 refusal,
                 watched,
-                hold: Hold::open(),
+                hold: HeldRequest::open(),
                 requests: AtomicU64::new(0),
                 all: Count::zero(),
                 of_watched: Count::zero(),
@@ -267,7 +267,7 @@ unsafe impl<B: Allocator> Allocator for Refusing<B> {
     }
 }
 
-unsafe impl<B: Low> Low for Refusing<B> {
+unsafe impl<B: NullTestable> NullTestable for Refusing<B> {
     fn test(&self, place: *mut u8) {
         B::test(&self.inner, place);
     }

@@ -7,13 +7,13 @@ use Rattle.queue_steps.specs.Effect.{rest}
 use Rattle.queue_steps.specs.Errors.{force_push_error_value}
 use Rattle.queue_steps.specs.Legal.{IsSound, IsWithin}
 use Rattle.queue_steps.specs.Replies.{LacksMemory}
-use Rattle.queue_steps.specs.Sole.{Owned, Sole, is_spent, shut, appended, displaced, counted, front, moved}
+use Rattle.queue_steps.specs.Sequential.{Owned, Sequential, is_spent, shut, appended, displaced, counted, front, moved}
 use Rattle.queue_steps.specs.declared.errors.ForcePushError.{ForcePushError}
 use Rattle.queue_steps.specs.declared.errors.ForcePushError.TheVariants as force
 use Rattle.queue_steps.specs.declared.model.Call.TheVariants as call
 use Rattle.queue_steps.specs.declared.model.Reply.{Reply}
 use Rattle.queue_steps.specs.declared.model.Reply.TheVariants as reply
-use Rattle.queue_steps.proofs.Lines.{lines}
+use Rattle.queue_steps.proofs.TableCases.{table_cases}
 use Rattle.use_log.specs.Log.{Held, newest, with_all, Appends}
 use Rattle.use_log.specs.Rings.{capacity_of, held_by, IsLog}
 use Rattle.use_log.proofs.Newest.{newest_all, newest_on}
@@ -78,10 +78,10 @@ module _ {T : Type 0} where
   is_filled : (P : Owned T) (b : Bool) → IsLog P → is_full P.queue ≡ b → nat_eq (length P.queue.items) (capacity_of P) ≡ b
   is_filled P b log e = ap (λ cap. fills cap (length P.queue.items)) (sym log.capped) ∙ e
 
-  pub force_told : (P R : Owned T) (v : T) (r : Reply T) → IsLog P → IsSound P.queue → Sole P (call.ForcePush v) r R → Told P v r R
+  pub force_told : (P R : Owned T) (v : T) (r : Reply T) → IsLog P → IsSound P.queue → Sequential P (call.ForcePush v) r R → Told P v r R
   force_told P R v r log sound (inr lacks) = (let no : P.queue.cap ≡ None = lacks_cap P.queue v r lacks.0 in let some = log.capped in absurd (cc))
   force_told P R v r log sound (inl s) =
-      rw (s.0, s.1) (lines (λ l. Told P v l.0 (moved P l.1)) P.queue _ _ _ _ closed spent full room)
+      rw (s.0, s.1) (table_cases (λ l. Told P v l.0 (moved P l.1)) P.queue _ _ _ _ closed spent full room)
     where
       closed : P.queue.closed ≡ true → Told P v (reply.ForcePush (Err (force.Closed v))) (moved P P.queue)
       closed e = (record { capped = log.capped; many = log.many; shut_when_spent = log.shut_when_spent }, refl, log.shut_when_spent e, refl)
@@ -108,10 +108,10 @@ module _ {T : Type 0} where
             (same_log (capacity_of P) _ _ _ _ (sym (newest_all (capacity_of P) (P.queue.items ++ v ∷ []) n)) (counts P log), refl),
           )
 
-  pub appends : (P R : Owned T) (v : T) (gone : Option T) → IsLog P → IsSound P.queue → Sole P (call.ForcePush v) (reply.ForcePush (Ok gone)) R → Appends (held_by P) v gone (held_by R)
-  appends P R v out log sound sole = (force_told P R v (reply.ForcePush (Ok out)) log sound sole).1
+  pub appends : (P R : Owned T) (v : T) (gone : Option T) → IsLog P → IsSound P.queue → Sequential P (call.ForcePush v) (reply.ForcePush (Ok gone)) R → Appends (held_by P) v gone (held_by R)
+  appends P R v out log sound sequential = (force_told P R v (reply.ForcePush (Ok out)) log sound sequential).1
 
   -- an entry that is handed back
-  pub spent_log : (P R : Owned T) (v : T) (e : ForcePushError T) → IsLog P → IsSound P.queue → Sole P (call.ForcePush v) (reply.ForcePush (Err e)) R
+  pub spent_log : (P R : Owned T) (v : T) (e : ForcePushError T) → IsLog P → IsSound P.queue → Sequential P (call.ForcePush v) (reply.ForcePush (Err e)) R
       → (force_push_error_value e ≡ v) × (P.queue.accepted ≡ LIMIT) × (held_by R ≡ held_by P)
-  spent_log P R v e log sound sole = let told = force_told P R v (reply.ForcePush (Err e)) log sound sole in (told.1, told.2, told.3)
+  spent_log P R v e log sound sequential = let told = force_told P R v (reply.ForcePush (Err e)) log sound sequential in (told.1, told.2, told.3)

@@ -2,7 +2,7 @@
 use Rattle.std.specs.Prelude.{◌≡◌, ℕ, ◌<◌, true, Some}
 use Rattle.std.specs.Option.{unwrap_or}
 use Rattle.queue_steps.specs.declared.sizes.TheConstants.{LIMIT}
-use Rattle.queue_steps.specs.Sole.{Owned}
+use Rattle.queue_steps.specs.Sequential.{Owned}
 use Rattle.use_log.specs.Log.{Held}
 
 abbrev pub capacity_of : {T : Type 0} → Owned T → ℕ

@@ -9,15 +9,15 @@ use Rattle.queue_steps.specs.State.{State, is_full, fills, is_single_cap}
 use Rattle.queue_steps.specs.Effect.{rest}
 use Rattle.queue_steps.specs.Errors.{push_error_value}
 use Rattle.queue_steps.specs.Replies.{LacksMemory}
-use Rattle.queue_steps.specs.Sole.{Owned, Sole, is_spent, shut, appended, counted, owner_table, pop_result, moved}
+use Rattle.queue_steps.specs.Sequential.{Owned, Sequential, is_spent, shut, appended, counted, owner_table, pop_result, moved}
 use Rattle.queue_steps.specs.declared.errors.PopError.{PopError}
 use Rattle.queue_steps.specs.declared.errors.PushError.{PushError}
 use Rattle.queue_steps.specs.declared.errors.PushError.TheVariants as push
 use Rattle.queue_steps.specs.declared.model.Call.TheVariants as call
 use Rattle.queue_steps.specs.declared.model.Reply.{Reply}
 use Rattle.queue_steps.specs.declared.model.Reply.TheVariants as reply
-use Rattle.queue_steps.proofs.Lines.{lines}
-use Rattle.history_laws.proofs.Numbers.{AreDistinct}
+use Rattle.queue_steps.proofs.TableCases.{table_cases}
+use Rattle.law_histories.proofs.Numbers.{AreDistinct}
 use Rattle.use_pool.specs.Pool.{numbers, IsOut, TakesOne, GivesBack}
 use Rattle.use_pool.specs.Rings.{count_of, places_of, IsPool}
 use Rattle.use_pool.proofs.Places.{numbers_below, numbers_once, once_more, once_less, fits, takes_first, gives_last}
@@ -36,18 +36,18 @@ taken P (x ∷ xs) result pool are is =
     let once = subst AreDistinct are pool.once in
     rw is (All-tail (λ p. p < count_of P) x xs low, once_less x xs once, takes_first (places_of P) x xs are low once)
 
-pop_told : (P R : Owned ℕ) (result : Result ℕ PopError) (place : Option ℕ) → IsPool P → place ≡ result_ok result → Sole P call.Pop (reply.Pop result) R → IsPool R × TakesOne (places_of P) place (places_of R)
+pop_told : (P R : Owned ℕ) (result : Result ℕ PopError) (place : Option ℕ) → IsPool P → place ≡ result_ok result → Sequential P call.Pop (reply.Pop result) R → IsPool R × TakesOne (places_of P) place (places_of R)
 pop_told P R result place pool is (inl s) =
     let same : result ≡ pop_result P.queue.closed P.queue.items = cc in
     let told = taken P P.queue.items result pool refl same in
     rw (s.1, is) (record { capped = pool.capped; many = pool.many; places = told.0; once = told.1; shut_when_spent = pool.shut_when_spent }, told.2)
 pop_told P R result place pool is (inr s) = absurd s.0
 
-pub pool_popped : (P R : Owned ℕ) (result : Result ℕ PopError) → IsPool P → Sole P call.Pop (reply.Pop result) R → IsPool R
-pool_popped P R result pool sole = (pop_told P R result (result_ok result) pool refl sole).0
+pub pool_popped : (P R : Owned ℕ) (result : Result ℕ PopError) → IsPool P → Sequential P call.Pop (reply.Pop result) R → IsPool R
+pool_popped P R result pool sequential = (pop_told P R result (result_ok result) pool refl sequential).0
 
-pub takes : (P R : Owned ℕ) (result : Result ℕ PopError) → IsPool P → Sole P call.Pop (reply.Pop result) R → TakesOne (places_of P) (result_ok result) (places_of R)
-takes P R result pool sole = (pop_told P R result (result_ok result) pool refl sole).1
+pub takes : (P R : Owned ℕ) (result : Result ℕ PopError) → IsPool P → Sequential P call.Pop (reply.Pop result) R → TakesOne (places_of P) (result_ok result) (places_of R)
+takes P R result pool sequential = (pop_told P R result (result_ok result) pool refl sequential).1
 
 spent_at : (single : Bool) (n : ℕ) → (not single && (n == LIMIT)) ≡ true → n ≡ LIMIT
 spent_at true n e = cc
@@ -68,10 +68,10 @@ Told P v (reply.Push (Ok done)) R = IsPool R × GivesBack (places_of P) v (place
 Told P v (reply.Push (Err e)) R = IsPool R × (push_error_value e ≡ v) × (P.queue.accepted ≡ LIMIT) × (places_of R ≡ places_of P)
 Told P v _ R = ⊥
 
-push_told : (P R : Owned ℕ) (v : ℕ) (r : Reply ℕ) → IsPool P → IsOut (places_of P) v → Sole P (call.Push v) r R → Told P v r R
+push_told : (P R : Owned ℕ) (v : ℕ) (r : Reply ℕ) → IsPool P → IsOut (places_of P) v → Sequential P (call.Push v) r R → Told P v r R
 push_told P R v r pool out (inr lacks) = let no : P.queue.cap ≡ None = lacks_cap P.queue v r lacks.0 in let some = pool.capped in absurd (cc)
 push_told P R v r pool out (inl s) =
-    rw (s.0, s.1) (lines (λ l. Told P v l.0 (moved P l.1)) P.queue _ _ _ _ closed spent full room)
+    rw (s.0, s.1) (table_cases (λ l. Told P v l.0 (moved P l.1)) P.queue _ _ _ _ closed spent full room)
   where
     low : All (λ p. p < count_of P) P.queue.items
     low = pool.places
@@ -103,13 +103,13 @@ push_told P R v r pool out (inl s) =
           rw (counts P pool) back,
         )
 
-pub gives_back : (P R : Owned ℕ) (v : ℕ) (done : Unit {0}) → IsPool P → IsOut (places_of P) v → Sole P (call.Push v) (reply.Push (Ok done)) R → IsPool R × GivesBack (places_of P) v (places_of R)
-gives_back P R v done pool out sole = push_told P R v (reply.Push (Ok done)) pool out sole
+pub gives_back : (P R : Owned ℕ) (v : ℕ) (done : Unit {0}) → IsPool P → IsOut (places_of P) v → Sequential P (call.Push v) (reply.Push (Ok done)) R → IsPool R × GivesBack (places_of P) v (places_of R)
+gives_back P R v done pool out sequential = push_told P R v (reply.Push (Ok done)) pool out sequential
 
 -- a place that is handed back
-pub spent_pool : (P R : Owned ℕ) (v : ℕ) (e : PushError ℕ) → IsPool P → IsOut (places_of P) v → Sole P (call.Push v) (reply.Push (Err e)) R
+pub spent_pool : (P R : Owned ℕ) (v : ℕ) (e : PushError ℕ) → IsPool P → IsOut (places_of P) v → Sequential P (call.Push v) (reply.Push (Err e)) R
     → IsPool R × (push_error_value e ≡ v) × (P.queue.accepted ≡ LIMIT) × (places_of R ≡ places_of P)
-spent_pool P R v e pool out sole = push_told P R v (reply.Push (Err e)) pool out sole
+spent_pool P R v e pool out sequential = push_told P R v (reply.Push (Err e)) pool out sequential
 
 -- an open ring of this capacity that has the places below k
 abbrev pub filling : ℕ → ℕ → State ℕ
@@ -120,7 +120,7 @@ numbers_many zero = refl
 numbers_many (suc n) = let before = numbers_many n in omega (arith, before, length-append (numbers n) (n ∷ []))
 
 -- there is room for the next place
-pub has_room : (P R : Owned ℕ) (count k : ℕ) (e : PushError ℕ) → P.queue ≡ filling count k → k < count → 1 < count → count ≤ MAX_CAPACITY → Sole P (call.Push k) (reply.Push (Err e)) R → ⊥
+pub has_room : (P R : Owned ℕ) (count k : ℕ) (e : PushError ℕ) → P.queue ≡ filling count k → k < count → 1 < count → count ≤ MAX_CAPACITY → Sequential P (call.Push k) (reply.Push (Err e)) R → ⊥
 has_room P R count k e is low many most (inr lacks) = let no : P.queue.cap ≡ None = lacks_cap P.queue k (reply.Push (Err e)) lacks.0 in let some = ap (λ (Q : State ℕ). Q.cap) is in absurd (cc)
 has_room P R count k e is low many most (inl s) =
     refused (subst (λ (Q : State ℕ). reply.Push (Err e) ≡ (owner_table Q (call.Push k)).0) is s.0)

@@ -3,7 +3,7 @@ use Rattle.std.specs.Prelude.{◌≡◌, ◌≢◌, ℕ, ◌<◌, true, Some}
 use Rattle.std.specs.List.{All, AllPairs}
 use Rattle.std.specs.Option.{unwrap_or}
 use Rattle.queue_steps.specs.declared.sizes.TheConstants.{LIMIT}
-use Rattle.queue_steps.specs.Sole.{Owned}
+use Rattle.queue_steps.specs.Sequential.{Owned}
 use Rattle.use_pool.specs.Pool.{Places}
 
 abbrev pub count_of : Owned ℕ → ℕ

@@ -14,15 +14,15 @@ use Rattle.queue_steps.specs.declared.errors.PopError.TheVariants as pop
 use Rattle.queue_steps.specs.Effect.{after}
 use Rattle.queue_steps.specs.Legal.{IsSoundOwned}
 use Rattle.queue_steps.specs.Shares.{Share, SamePart, IsEntire}
-use Rattle.queue_steps.specs.Sole.{Owned}
+use Rattle.queue_steps.specs.Sequential.{Owned}
 use Rattle.queue_steps.specs.Parties.{View, IsView}
 use Rattle.queue_steps.proofs.ShareLaws.{halves_joined, shares_add_up}
 use Rattle.concurrent_queue.specs.Shared.{QueueId, Person, Calls, Parts, Joins, Finishes}
-use Rattle.history_laws.specs.Histories.{IsDrained}
-use Rattle.history_laws.proofs.Closing.{ends_at}
-use Rattle.party_doings.specs.Doings.{passes, done_by, hands_in, hands_out, Acts}
-use Rattle.party_doings.proofs.Doings.{acts, acts_on, unchanged, did_both}
-use Rattle.party_doings.proofs.Whole.{all_there}
+use Rattle.law_histories.specs.Histories.{IsDrained}
+use Rattle.law_histories.proofs.Closing.{ends_at}
+use Rattle.law_parties.specs.Doings.{passes, done_by, hands_in, hands_out, Acts}
+use Rattle.law_parties.proofs.Doings.{acts, acts_on, unchanged, did_both}
+use Rattle.law_parties.proofs.Whole.{all_there}
 use Rattle.use_work.specs.Work.{times, appended, Took, IsShift, SawDrained}
 use Rattle.use_work.specs.declared.Shift.{Shift}
 

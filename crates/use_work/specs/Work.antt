@@ -6,9 +6,9 @@ use Rattle.queue_steps.specs.declared.model.Effect.TheVariants as effect
 use mathlib.Core.List.{IsPrefix}
 use Rattle.queue_steps.specs.Effect.{after}
 use Rattle.queue_steps.specs.Shares.{SamePart}
-use Rattle.history_laws.specs.Histories.{IsDrained}
+use Rattle.law_histories.specs.Histories.{IsDrained}
 use Rattle.concurrent_queue.specs.Shared.{QueueId, Person, IsPartyOf}
-use Rattle.party_doings.specs.Doings.{done_by, hands_in, hands_out}
+use Rattle.law_parties.specs.Doings.{done_by, hands_in, hands_out}
 use Rattle.use_work.specs.declared.Report.{Report}
 use Rattle.use_work.specs.declared.Shift.{Shift}
 

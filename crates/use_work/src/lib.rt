@@ -4,7 +4,7 @@
 ghost use Rattle.std.specs.Prelude.{◌≡◌, ◌<◌, ◌-◌, ◌++◌, IfOk};
 ghost use Rattle.queue_steps.specs.Parties.{IsView};
 ghost use Rattle.concurrent_queue.specs.Shared.{IsPartyOf, Joins};
-ghost use Rattle.party_doings.specs.Doings.{Acts};
+ghost use Rattle.law_parties.specs.Doings.{Acts};
 ghost use Rattle.use_work.specs.Work.{appended, IsShift, EachOnce, NoneLeft};
 ghost use denote.Param.Send.{IsSync};
 

@@ -1,14 +1,18 @@
 //! The steps of a ring. `Tail` is twice the position of the next item to come, and one more once the queue is closed; `Head` is the position of the front.
 //! A slot's stamp is the position for which it is free, and one more once it is filled for it.
-ghost use Rattle.std.specs.Prelude.{◌≡◌, ◌==◌, ℕ, true, false, ◌+◌, ◌%◌, ◌<◌, ◌≤◌};
-ghost use Rattle.queue_steps.specs.BoundedNext.{at, loads, bounded_begin, bounded_next, tail_found, head_found, push_stamp_found, pop_stamp_found, pop_tail_found, len_found, closed_reply, pushed_reply, FitsRing, FitsStamp};
-ghost use Rattle.queue_steps.specs.CommonNext.{is_open_tail, is_ring_common};
-ghost use Rattle.queue_steps.specs.Words.{IsRing, IsWord, position_of, slot_at, stamp_free, stamp_filled, stamp_emptied};
+ghost use Rattle.std.specs.Prelude.{◌≡◌, true, false, ◌%◌, ◌<◌};
+ghost use Rattle.queue_steps.specs.BoundedNext.{at, loads, bounded_begin, bounded_next, closed_reply, pushed_reply, FitsRing};
+ghost use Rattle.queue_steps.specs.CommonNext.{is_ring_common};
+ghost use Rattle.queue_steps.specs.Words.{IsRing};
 
-use crate::errors::{ForcePushError, PopError, PushError};
+use crate::errors::{ForcePushError, PushError};
 use crate::model::{Call, CallKind, Reply, ReplyKind};
-use crate::sizes::LIMIT;
 use crate::steps::{Answer, Local, Next, Op, Touch, Word};
+use crate::words::position_of;
+
+mod looking;
+mod popping;
+mod pushing;
 
 /// What is set in a tail once the queue is closed.
 pub const MARK: u64 = 1;
@@ -42,8 +46,8 @@ pub enum BoundedLocal {
     Arriving(u64),
     /// F7: the slot is swapped and stamped.
     Swapping,
-    /// BS: the mark of a queue that has accepted all that it ever will.
-    Spending(PushKind),
+    /// BS: the mark of a queue that closes at the limit, having accepted all that it ever will.
+    ClosingAtLimit(PushKind),
     /// O1: the read of the head.
     PopHead,
     /// O2: the read of the stamp of that head's slot.
@@ -147,221 +151,6 @@ pub(super) fn pushed(push: PushKind) -> ReplyKind
     }
 }
 
-/// Whether a push that found this tail goes on to its slot.
-#[inline(always)]
-fn has_room(tail: u64) -> bool
-    ensures { result ≡ is_open_tail tail }
-{
-    tail % 2 != 1 && tail / 2 != LIMIT
-}
-
-/// B2.
-#[inline(always)]
-fn read_push_stamp<B: Copy>(cap: u64, push: PushKind, tail: u64) -> Next<B>
-    requires { 0 < cap }
-    ensures { result ≡ loads (BoundedLocal.PushStamp push tail) (Word.Stamp (slot_at cap (position_of tail))) }
-{
-    load(
-        BoundedLocal::PushStamp(push, tail),
-        Word::Stamp(slot_of(cap, tail / 2)),
-    )
-}
-
-/// What follows a tail behind which nothing is accepted.
-#[inline]
-fn turn_away<B: Copy>(push: PushKind, tail: u64) -> Next<B>
-    requires { is_open_tail tail ≡ false }
-    ensures { (n : ℕ) → result ≡ tail_found n push tail }
-{
-    if tail % 2 == 1 {
-        Next::Reply(closed(push), None)
-    } else {
-        step(
-            BoundedLocal::Spending(push),
-            Touch::Nothing,
-            Op::Or(Word::Tail, MARK),
-        )
-    }
-}
-
-/// What follows a tail that a push found in the place of another.
-#[inline]
-fn after_tail<B: Copy>(cap: u64, push: PushKind, tail: u64) -> Next<B>
-    requires { 0 < cap }
-    ensures { result ≡ tail_found cap push tail }
-{
-    if has_room(tail) {
-        read_push_stamp(cap, push, tail)
-    } else {
-        turn_away(push, tail)
-    }
-}
-
-/// B3.
-#[inline(always)]
-fn claim<B: Copy>(push: PushKind, tail: u64) -> Next<B>
-    requires { IsWord tail }
-    ensures { result ≡ at (BoundedLocal.Claiming push tail) Touch.Nothing (Op.Exchange Word.Tail tail (tail + TAIL_STEP)) }
-{
-    let exchange = Op::Exchange(Word::Tail, tail, tail + TAIL_STEP);
-    step(BoundedLocal::Claiming(push, tail), Touch::Nothing, exchange)
-}
-
-/// B4.
-#[inline(always)]
-fn fill<B: Copy>(cap: u64, push: PushKind, tail: u64) -> Next<B>
-    requires ring { IsRing cap }
-    requires word { IsWord tail }
-    ensures { result ≡ at (BoundedLocal.Filling push) (Touch.Put (slot_at cap (position_of tail))) (Op.Store (Word.Stamp (slot_at cap (position_of tail))) (stamp_filled (position_of tail))) }
-{
-    let slot = slot_of(cap, tail / 2);
-    let stamp = Op::Store(Word::Stamp(slot), tail / 2 + 1);
-    step(BoundedLocal::Filling(push), Touch::Put(slot), stamp)
-}
-
-/// What follows the stamp of that tail's slot where the slot is not free.
-#[inline]
-fn after_full_slot<B: Copy>(cap: u64, push: PushKind, tail: u64, stamp: u64) -> Next<B>
-    requires ring { IsRing cap }
-    requires fits { FitsStamp cap tail stamp }
-    requires full { (stamp == stamp_free (position_of tail)) ≡ false }
-    ensures { result ≡ push_stamp_found cap push tail stamp }
-{
-    let position = tail / 2;
-    if stamp + cap == position + 1 {
-        match push {
-            PushKind::Push => load(BoundedLocal::PushHead(tail), Word::Head),
-            PushKind::Force => step(
-                BoundedLocal::Displacing(tail),
-                Touch::Nothing,
-                Op::Exchange(Word::Head, position - cap, position - cap + 1),
-            ),
-        }
-    } else {
-        load(BoundedLocal::PushTail(push), Word::Tail)
-    }
-}
-
-/// What follows a head that a pop found.
-#[inline(always)]
-fn after_head<B: Copy>(cap: u64, head: u64) -> Next<B>
-    requires { 0 < cap }
-    ensures { result ≡ head_found cap head }
-{
-    load(
-        BoundedLocal::PopStamp(head),
-        Word::Stamp(slot_of(cap, head)),
-    )
-}
-
-/// O3.
-#[inline(always)]
-fn take<B: Copy>(head: u64) -> Next<B>
-    requires { IsWord head }
-    ensures { result ≡ at (BoundedLocal.Taking head) Touch.Nothing (Op.Exchange Word.Head head (head + 1)) }
-{
-    let exchange = Op::Exchange(Word::Head, head, head + 1);
-    step(BoundedLocal::Taking(head), Touch::Nothing, exchange)
-}
-
-/// O4.
-#[inline(always)]
-fn empty<B: Copy>(cap: u64, head: u64) -> Next<B>
-    requires ring { IsRing cap }
-    requires word { IsWord head }
-    ensures { result ≡ at BoundedLocal.Emptying (Touch.Take (slot_at cap head)) (Op.Store (Word.Stamp (slot_at cap head)) (stamp_emptied cap head)) }
-{
-    let slot = slot_of(cap, head);
-    let stamp = Op::Store(Word::Stamp(slot), head + cap);
-    step(BoundedLocal::Emptying, Touch::Take(slot), stamp)
-}
-
-/// What follows the stamp of that head's slot where the slot is not filled.
-#[inline]
-fn after_empty_slot<B: Copy>(head: u64, stamp: u64) -> Next<B>
-    requires { (stamp == stamp_filled head) ≡ false }
-    ensures { result ≡ pop_stamp_found head stamp }
-{
-    if stamp == head {
-        load(BoundedLocal::PopTail(head), Word::Tail)
-    } else {
-        load(BoundedLocal::PopHead, Word::Head)
-    }
-}
-
-/// What follows the tail that a pop found after an empty slot.
-#[inline]
-fn after_pop_tail<B: Copy>(head: u64, tail: u64) -> Next<B>
-    ensures { result ≡ pop_tail_found head tail }
-{
-    if tail / 2 != head {
-        return load(BoundedLocal::PopHead, Word::Head);
-    }
-    let why = if tail % 2 == 1 {
-        PopError::Closed
-    } else {
-        PopError::Empty
-    };
-    Next::Reply(Reply::Pop(Err(why)), None)
-}
-
-/// What follows the head that a push found which may be into a full ring.
-#[inline]
-fn after_push_head<B: Copy>(cap: u64, tail: u64, head: u64) -> Next<B>
-    requires ring { IsRing cap }
-    requires words { IsWord tail × IsWord head }
-    ensures { result ≡ bounded_next cap (BoundedLocal.PushHead tail) (Answer.Found head) }
-{
-    if head + cap == tail / 2 {
-        Next::Reply(Reply::Push(Err(PushError::Full(()))), None)
-    } else {
-        load(BoundedLocal::PushTail(PushKind::Push), Word::Tail)
-    }
-}
-
-/// What follows the exchange of a head by which the front leaves.
-#[inline]
-fn after_displacing<B: Copy>(cap: u64, tail: u64, head: u64) -> Next<B>
-    requires ring { IsRing cap }
-    requires words { IsWord tail × IsWord head }
-    ensures { result ≡ bounded_next cap (BoundedLocal.Displacing tail) (Answer.Found head) }
-{
-    if head + cap == tail / 2 {
-        step(
-            BoundedLocal::Arriving(tail),
-            Touch::Nothing,
-            Op::Add(Word::Tail, TAIL_STEP),
-        )
-    } else {
-        load(BoundedLocal::PushTail(PushKind::Force), Word::Tail)
-    }
-}
-
-/// F7: the item is put in the place of the front.
-#[inline]
-fn swap<B: Copy>(cap: u64, tail: u64) -> Next<B>
-    requires ring { IsRing cap }
-    requires word { IsWord tail }
-    ensures { result ≡ at BoundedLocal.Swapping (Touch.Swap (slot_at cap (position_of tail))) (Op.Store (Word.Stamp (slot_at cap (position_of tail))) (stamp_filled (position_of tail))) }
-{
-    let slot = slot_of(cap, tail / 2);
-    let stamp = Op::Store(Word::Stamp(slot), tail / 2 + 1);
-    step(BoundedLocal::Swapping, Touch::Swap(slot), stamp)
-}
-
-/// What follows the second read of a tail.
-#[inline]
-fn after_len<B: Copy>(tail: u64, head: u64, again: u64) -> Next<B>
-    requires { again ≡ tail → head ≤ position_of tail }
-    ensures { result ≡ len_found tail head again }
-{
-    if again == tail {
-        Next::Reply(Reply::Len((tail / 2 - head) as usize), None)
-    } else {
-        load(BoundedLocal::LenTail, Word::Tail)
-    }
-}
-
 /// Whether `next_common` tells the step that follows.
 #[inline(always)]
 pub(super) fn is_common<B: Copy>(cap: u64, local: &BoundedLocal, answer: &Answer<B>) -> bool
@@ -370,8 +159,8 @@ pub(super) fn is_common<B: Copy>(cap: u64, local: &BoundedLocal, answer: &Answer
 {
     let _ = cap;
     match (local, answer) {
-        (BoundedLocal::PushTail(_), Answer::Found(tail)) => has_room(*tail),
-        (BoundedLocal::PushStamp(_, tail), Answer::Found(stamp)) => *stamp == *tail / 2,
+        (BoundedLocal::PushTail(_), Answer::Found(tail)) => pushing::is_open_below_limit(*tail),
+        (BoundedLocal::PushStamp(_, tail), Answer::Found(stamp)) => *stamp == position_of(*tail),
         (BoundedLocal::Claiming(_, tail), Answer::Found(found)) => *found == *tail,
         (BoundedLocal::Filling(_), Answer::Done) => true,
         (BoundedLocal::Swapping, Answer::Done) => true,
@@ -392,14 +181,14 @@ pub(super) fn next_common<B: Copy>(cap: u64, local: BoundedLocal, answer: Answer
     ensures { result ≡ bounded_next cap local answer }
 {
     match (local, answer) {
-        (BoundedLocal::PushTail(push), Answer::Found(tail)) => read_push_stamp(cap, push, tail),
-        (BoundedLocal::PushStamp(push, tail), Answer::Found(_)) => claim(push, tail),
-        (BoundedLocal::Claiming(push, tail), Answer::Found(_)) => fill(cap, push, tail),
+        (BoundedLocal::PushTail(push), Answer::Found(tail)) => pushing::read_stamp(cap, push, tail),
+        (BoundedLocal::PushStamp(push, tail), Answer::Found(_)) => pushing::claim(push, tail),
+        (BoundedLocal::Claiming(push, tail), Answer::Found(_)) => pushing::fill(cap, push, tail),
         (BoundedLocal::Filling(push), Answer::Done) => Next::Reply(pushed(push), None),
         (BoundedLocal::Swapping, Answer::Done) => Next::Reply(Reply::ForcePush(Ok(Some(()))), None),
-        (BoundedLocal::PopHead, Answer::Found(head)) => after_head(cap, head),
-        (BoundedLocal::PopStamp(head), Answer::Found(_)) => take(head),
-        (BoundedLocal::Taking(head), Answer::Found(_)) => empty(cap, head),
+        (BoundedLocal::PopHead, Answer::Found(head)) => popping::after_head(cap, head),
+        (BoundedLocal::PopStamp(head), Answer::Found(_)) => popping::take(head),
+        (BoundedLocal::Taking(head), Answer::Found(_)) => popping::empty(cap, head),
         (BoundedLocal::Emptying, Answer::Done) => Next::Reply(Reply::Pop(Ok(())), None),
         _ => unreachable!(),
     }
@@ -413,52 +202,29 @@ pub(super) fn next_other<B: Copy>(cap: u64, local: BoundedLocal, answer: Answer<
     requires other { is_ring_common local answer ≡ false }
     ensures { result ≡ bounded_next cap local answer }
 {
-    match (local, answer) {
-        (BoundedLocal::PushTail(push), Answer::Found(tail)) => turn_away(push, tail),
-        (BoundedLocal::PushStamp(push, tail), Answer::Found(stamp)) => after_full_slot(
-            cap, push, tail, stamp,
-        ),
-        (BoundedLocal::Claiming(push, _), Answer::Found(tail)) => after_tail(cap, push, tail),
-        (BoundedLocal::PushHead(tail), Answer::Found(head)) => after_push_head(cap, tail, head),
-        (BoundedLocal::Displacing(tail), Answer::Found(head)) => after_displacing(cap, tail, head),
-        (BoundedLocal::Arriving(tail), Answer::Found(_)) => swap(cap, tail),
-        (BoundedLocal::Spending(push), Answer::Found(_)) => Next::Reply(closed(push), None),
-        (BoundedLocal::PopStamp(head), Answer::Found(stamp)) => after_empty_slot(head, stamp),
-        (BoundedLocal::Taking(_), Answer::Found(head)) => after_head(cap, head),
-        (BoundedLocal::PopTail(head), Answer::Found(tail)) => after_pop_tail(head, tail),
-        (BoundedLocal::LenTail, Answer::Found(tail)) => load(
-            BoundedLocal::LenHead(tail),
-            Word::Head,
-        ),
-        (BoundedLocal::LenHead(tail), Answer::Found(head)) => load(
-            BoundedLocal::LenAgain(tail, head),
-            Word::Tail,
-        ),
-        (BoundedLocal::LenAgain(tail, head), Answer::Found(again)) => after_len(tail, head, again),
-        (BoundedLocal::EmptyHead, Answer::Found(head)) => load(
-            BoundedLocal::EmptyTail(head),
-            Word::Tail,
-        ),
-        (BoundedLocal::EmptyTail(head), Answer::Found(tail)) => Next::Reply(
-            Reply::IsEmpty(tail / 2 == head),
-            None,
-        ),
-        (BoundedLocal::FullTail, Answer::Found(tail)) => load(
-            BoundedLocal::FullHead(tail),
-            Word::Head,
-        ),
-        (BoundedLocal::FullHead(tail), Answer::Found(head)) => Next::Reply(
-            Reply::IsFull(head + cap == tail / 2),
-            None,
-        ),
-        (BoundedLocal::Closing, Answer::Found(tail)) => Next::Reply(
-            Reply::Close(tail % 2 == 0),
-            None,
-        ),
-        (BoundedLocal::ClosedTail, Answer::Found(tail)) => Next::Reply(
-            Reply::IsClosed(tail % 2 == 1),
-            None,
-        ),
-        _ => unreachable!(),
+    match local {
+        BoundedLocal::PushTail(_)
+        | BoundedLocal::PushStamp(_, _)
+        | BoundedLocal::Claiming(_, _)
+        | BoundedLocal::Filling(_)
+        | BoundedLocal::PushHead(_)
+        | BoundedLocal::Displacing(_)
+        | BoundedLocal::Arriving(_)
+        | BoundedLocal::Swapping
+        | BoundedLocal::ClosingAtLimit(_) => pushing::next_other(cap, local, answer),
+        BoundedLocal::PopHead
+        | BoundedLocal::PopStamp(_)
+        | BoundedLocal::Taking(_)
+        | BoundedLocal::Emptying
+        | BoundedLocal::PopTail(_) => popping::next_other(cap, local, answer),
+        BoundedLocal::LenTail
+        | BoundedLocal::LenHead(_)
+        | BoundedLocal::LenAgain(_, _)
+        | BoundedLocal::EmptyHead
+        | BoundedLocal::EmptyTail(_)
+        | BoundedLocal::FullTail
+        | BoundedLocal::FullHead(_)
+        | BoundedLocal::Closing
+        | BoundedLocal::ClosedTail => looking::next(cap, local, answer),
     }
 }

@@ -1,7 +1,7 @@
 //! The steps of a chain of blocks. `Tail` is twice the position of the next item to come, and one more once the queue is closed; `Head` is twice the position
 //! of the front, and one more if its block is known not to be the last. Position `p` is in block `p / BLOCK_POSITIONS` at offset `p % BLOCK_POSITIONS`; the last
 //! offset of a block has no slot, and a tail or a head stands there only while a call moves it to the next block.
-ghost use Rattle.std.specs.Prelude.{◌≡◌, ⊤, true, false};
+ghost use Rattle.std.specs.Prelude.{◌≡◌, ⊤, ◌+◌, ◌*◌, ◌^◌, ◌<◌, true, false, if◌then◌else◌};
 ghost use Rattle.queue_steps.specs.Words.{IsWord};
 ghost use Rattle.queue_steps.specs.ChainWords.{offset_of, items_before, settled};
 ghost use Rattle.queue_steps.specs.CommonNext.{is_chain_common, is_chain_walk, is_chain_passing};
@@ -11,8 +11,10 @@ use crate::model::{Call, CallKind, Reply};
 use crate::sizes::{BLOCK_POSITIONS, BLOCK_SLOTS};
 use crate::steps::bounded::{MARK, PushKind, TAIL_STEP, closed, pushed};
 use crate::steps::{Answer, Link, Local, Next, Op, Touch, Word};
+use crate::words::position_of;
 use std::alloc::AllocError;
 
+mod looking;
 mod popping;
 mod pushing;
 
@@ -48,8 +50,8 @@ pub enum UnboundedLocal<B> {
     Chaining(PushKind, u64, B, B),
     /// U9: the slot is written, with the spare that is left.
     Writing(PushKind, Option<B>),
-    /// US: the mark of a queue that has accepted all that it ever will.
-    Spending(PushKind, Option<B>),
+    /// US: the mark of a queue that closes at the limit, having accepted all that it ever will.
+    ClosingAtLimit(PushKind, Option<B>),
     /// V1: the read of the head.
     PopHead,
     /// V2: the read of the poppers' block after that head.
@@ -105,7 +107,7 @@ impl<B: Copy> Clone for UnboundedLocal<B> {
 fn offset(word: u64) -> u64
     ensures { result ≡ offset_of word }
 {
-    word / 2 % BLOCK_POSITIONS
+    position_of(word) % BLOCK_POSITIONS
 }
 
 /// Whether a word's position is that of the last slot of its block.
@@ -136,6 +138,15 @@ fn settle(position: u64) -> u64
     } else {
         position
     }
+}
+
+/// The head at a position, marked if its block is known not to be the last.
+#[inline(always)]
+fn head_at(position: u64, more: bool) -> u64
+    requires { position * 2 + 1 < 2 ^ 64 }
+    ensures { result ≡ position * 2 + (if more then 1 else 0) }
+{
+    position * TAIL_STEP + if more { MARK } else { 0 }
 }
 
 /// A step, after which the call waits there.
@@ -183,7 +194,9 @@ pub(super) fn is_common<B: Copy>(local: &UnboundedLocal<B>, answer: &Answer<B>) 
     ensures { result ≡ is_chain_common local.now answer.now }
 {
     match (local, answer) {
-        (UnboundedLocal::PushTail(_, _), Answer::Found(tail)) => pushing::has_room(*tail),
+        (UnboundedLocal::PushTail(_, _), Answer::Found(tail)) => pushing::is_open_below_limit(
+            *tail,
+        ),
         (UnboundedLocal::PushBlock(_, tail, spare), Answer::Linked(Some(_))) => {
             spare.is_some() || !is_last(*tail)
         }
@@ -193,7 +206,8 @@ pub(super) fn is_common<B: Copy>(local: &UnboundedLocal<B>, answer: &Answer<B>) 
         (UnboundedLocal::Writing(_, _), Answer::Found(_)) => true,
         (UnboundedLocal::PopHead, Answer::Found(head)) => offset(*head) != BLOCK_SLOTS,
         (UnboundedLocal::PopBlock(_), Answer::Linked(_)) => true,
-        (UnboundedLocal::PopTail(head, Some(_)), Answer::Found(tail)) => *tail / 2 != *head / 2,
+        (UnboundedLocal::PopTail(head, Some(_)), Answer::Found(tail)) => position_of(*tail)
+            != position_of(*head),
         (UnboundedLocal::Taking(head, _), Answer::Found(found)) => {
             *found == *head && !is_last(*head)
         }
@@ -322,7 +336,7 @@ pub(super) fn next_passing<B: Copy>(local: UnboundedLocal<B>, answer: Answer<B>)
         (UnboundedLocal::Passing(head, block, more), Answer::Done) => step(
             UnboundedLocal::Entering(head, block),
             Touch::Nothing,
-            Op::Store(Word::Head, (head / 2 + 2) * 2 + if more { 1 } else { 0 }),
+            Op::Store(Word::Head, head_at(position_of(head) + 2, more)),
         ),
         (UnboundedLocal::Entering(head, block), Answer::Done) => popping::await_item(head, block),
         (UnboundedLocal::Awaiting(head, block), Answer::Found(_)) => popping::walk(
@@ -355,92 +369,36 @@ pub(super) fn next_other<B: Copy>(local: UnboundedLocal<B>, answer: Answer<B>) -
     requires stays { is_chain_passing local answer ≡ false }
     ensures { result ≡ unbounded_next local answer }
 {
-    match (local, answer) {
-        (UnboundedLocal::PushTail(push, spare), Answer::Found(tail)) => pushing::turn_away(
-            push, tail, spare,
-        ),
-        (UnboundedLocal::PushBlock(push, tail, _), Answer::Linked(None)) => {
-            pushing::ask(push, tail, None)
-        }
-        (UnboundedLocal::Asking(push, _, _), Answer::Refused) => Next::Reply(
-            pushing::no_memory(push),
-            None,
-        ),
-        (UnboundedLocal::Asking(push, tail, None), Answer::Granted(fresh)) => {
-            pushing::install(push, tail, fresh)
-        }
-        (UnboundedLocal::Installing(push, tail, fresh), Answer::Linked(before)) => {
-            pushing::after_install(push, tail, fresh, before)
-        }
-        (UnboundedLocal::Showing(push, tail, block), Answer::Done) => pushing::claim(
-            push, tail, block, None,
-        ),
-        (UnboundedLocal::Claiming(push, _, _, spare), Answer::Found(found)) => {
-            pushing::after_tail(push, found, spare)
-        }
-        (UnboundedLocal::Spending(push, spare), Answer::Found(_)) => Next::Reply(
-            closed(push),
-            spare,
-        ),
-        (UnboundedLocal::PopHead, Answer::Found(head)) => popping::after_head(head),
-        (UnboundedLocal::PopTail(head, block), Answer::Found(tail)) => popping::after_pop_tail(
-            head, block, tail,
-        ),
-        (UnboundedLocal::Taking(_, _), Answer::Found(found)) => popping::after_head(found),
-        (UnboundedLocal::Following(head, block), Answer::Linked(None)) => {
-            popping::follow(head, block)
-        }
-        (UnboundedLocal::Awaiting(head, block), Answer::Found(_)) => popping::await_item(
-            head, block,
-        ),
-        (UnboundedLocal::Reading(block, slot), Answer::Found(_)) => popping::walk_on(block, slot),
-        (UnboundedLocal::Walking(block, slot), Answer::Found(state)) => popping::after_look(
-            block, slot, state,
-        ),
-        (UnboundedLocal::Destroying(block, slot), Answer::Found(state)) => popping::after_mark(
-            block, slot, state,
-        ),
-        (UnboundedLocal::LenTail, Answer::Found(tail)) => load(
-            UnboundedLocal::LenHead(tail),
-            Word::Head,
-        ),
-        (UnboundedLocal::LenHead(tail), Answer::Found(head)) => load(
-            UnboundedLocal::LenAgain(tail, head),
-            Word::Tail,
-        ),
-        (UnboundedLocal::LenAgain(tail, head), Answer::Found(again)) => {
-            if again == tail {
-                let len = items(tail / 2) - items(head / 2);
-                Next::Reply(Reply::Len(len as usize), None)
-            } else {
-                load(UnboundedLocal::LenTail, Word::Tail)
-            }
-        }
-        (UnboundedLocal::EmptyHead, Answer::Found(head)) => load(
-            UnboundedLocal::EmptyTail(head),
-            Word::Tail,
-        ),
-        (UnboundedLocal::EmptyTail(head), Answer::Found(tail)) => Next::Reply(
-            Reply::IsEmpty(settle(tail / 2) == settle(head / 2)),
-            None,
-        ),
-        (UnboundedLocal::Closing, Answer::Found(tail)) => Next::Reply(
-            Reply::Close(tail % 2 == 0),
-            None,
-        ),
-        (UnboundedLocal::ClosedTail, Answer::Found(tail)) => Next::Reply(
-            Reply::IsClosed(tail % 2 == 1),
-            None,
-        ),
-        (
-            UnboundedLocal::Laying(_, _, _, _)
-            | UnboundedLocal::Opening(_, _, _, _)
-            | UnboundedLocal::Chaining(_, _, _, _)
-            | UnboundedLocal::Peeking(_, _, _)
-            | UnboundedLocal::Passing(_, _, _)
-            | UnboundedLocal::Entering(_, _),
-            _,
-        ) => unreachable!(),
-        _ => unreachable!(),
+    match local {
+        UnboundedLocal::PushTail(_, _)
+        | UnboundedLocal::PushBlock(_, _, _)
+        | UnboundedLocal::Asking(_, _, _)
+        | UnboundedLocal::Installing(_, _, _)
+        | UnboundedLocal::Showing(_, _, _)
+        | UnboundedLocal::Claiming(_, _, _, _)
+        | UnboundedLocal::Laying(_, _, _, _)
+        | UnboundedLocal::Opening(_, _, _, _)
+        | UnboundedLocal::Chaining(_, _, _, _)
+        | UnboundedLocal::Writing(_, _)
+        | UnboundedLocal::ClosingAtLimit(_, _) => pushing::next_other(local, answer),
+        UnboundedLocal::PopHead
+        | UnboundedLocal::PopBlock(_)
+        | UnboundedLocal::PopTail(_, _)
+        | UnboundedLocal::Taking(_, _)
+        | UnboundedLocal::Following(_, _)
+        | UnboundedLocal::Peeking(_, _, _)
+        | UnboundedLocal::Passing(_, _, _)
+        | UnboundedLocal::Entering(_, _)
+        | UnboundedLocal::Awaiting(_, _)
+        | UnboundedLocal::Reading(_, _)
+        | UnboundedLocal::Walking(_, _)
+        | UnboundedLocal::Destroying(_, _) => popping::next_other(local, answer),
+        UnboundedLocal::LenTail
+        | UnboundedLocal::LenHead(_)
+        | UnboundedLocal::LenAgain(_, _)
+        | UnboundedLocal::EmptyHead
+        | UnboundedLocal::EmptyTail(_)
+        | UnboundedLocal::Closing
+        | UnboundedLocal::ClosedTail => looking::next(local, answer),
     }
 }

@@ -1,4 +1,4 @@
-use Rattle.party_doings.specs.Doings.{Acts}
+use Rattle.law_parties.specs.Doings.{Acts}
 use Rattle.use_work.specs.Work.{appended}
 use Rattle.use_work.proofs.push_all.Given as goal
 

@@ -1,5 +1,5 @@
 use Rattle.std.proofs.Common.{length}
-use Rattle.unbounded_cells.specs.LineOwned.{IsIdle, line_queue}
+use Rattle.own_unbounded.specs.OwnChainOwned.{IsIdle, own_chain_queue}
 use Rattle.exclusive_queue.proofs.exclusive.give_up.Given as goal
 
 abbrev pub invariant-loop-result : goal.invariant-loop-result
@@ -7,4 +7,4 @@ invariant-loop-result g l = IsIdle l.blocks
 
 -- each turn takes an item
 abbrev pub decreases-loop-result : goal.decreases-loop-result
-decreases-loop-result g l = length (line_queue l.blocks).items
+decreases-loop-result g l = length (own_chain_queue l.blocks).items

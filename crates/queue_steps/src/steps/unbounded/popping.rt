@@ -1,18 +1,21 @@
 //! The steps of a pop from a chain of blocks.
-ghost use Rattle.std.specs.Prelude.{◌≡◌, ◌==◌, ◌+◌, ◌%◌, ◌<◌, nat_lt, not, Some, IsSome, true, false};
+ghost use Rattle.std.specs.Prelude.{◌≡◌, ◌==◌, ◌+◌, ◌%◌, ◌<◌, nat_lt, Some, IsSome, true, false};
 ghost use Rattle.queue_steps.specs.Words.{IsWord, position_of};
 ghost use Rattle.queue_steps.specs.ChainWords.{offset_of};
 ghost use Rattle.queue_steps.specs.declared.steps.types.Answer.TheVariants.{Found};
-ghost use Rattle.queue_steps.specs.UnboundedNext.{at, chain_head_found, head_block_found, chain_pop_tail_found, takes, awaits, follows, followed, walks, walks_on, unbounded_next};
+ghost use Rattle.queue_steps.specs.UnboundedNext.{at, chain_head_found, head_block_found, chain_pop_tail_found, takes, awaits, follows, followed, walks, walks_on, unbounded_next, FitsChain};
+ghost use Rattle.queue_steps.specs.CommonNext.{is_chain_common, is_chain_passing};
+ghost use Rattle.queue_steps.specs.CallAt.{is_chain_pop};
 
 use crate::errors::PopError;
 use crate::model::Reply;
 use crate::sizes::{BLOCK_POSITIONS, BLOCK_SLOTS};
-use crate::steps::bounded::TAIL_STEP;
+use crate::steps::bounded::{MARK, TAIL_STEP};
 use crate::steps::unbounded::{DESTROY, READ, UnboundedLocal, load, offset, step};
-use crate::steps::{Link, Next, Op, Touch, Word};
+use crate::steps::{Answer, Link, Next, Op, Touch, Word};
+use crate::words::{is_marked, position_of};
 
-/// V2.
+/// Reads the poppers' block (V2).
 #[inline(always)]
 pub(super) fn read_block<B: Copy>(head: u64) -> Next<B>
     ensures { result ≡ at (UnboundedLocal.PopBlock head) Touch.Nothing (Op.LoadLink Link.HeadBlock) }
@@ -36,7 +39,7 @@ pub(super) fn after_head<B: Copy>(head: u64) -> Next<B>
     }
 }
 
-/// V4: the head moves on, to this word.
+/// Exchanges the head for this word (V4).
 #[inline(always)]
 pub(super) fn take<B: Copy>(head: u64, block: B, new: u64) -> Next<B>
     ensures { result ≡ takes head block new }
@@ -55,7 +58,7 @@ pub(super) fn after_head_block<B: Copy>(head: u64, block: Option<B>) -> Next<B>
     requires shown { head % 2 ≡ 1 → IsSome block }
     ensures { result ≡ head_block_found head block }
 {
-    if head % 2 == 1 {
+    if is_marked(head) {
         match block {
             Some(block) => take(head, block, head + TAIL_STEP),
             None => unreachable!(),
@@ -72,10 +75,10 @@ pub(super) fn take_before<B: Copy>(head: u64, block: B, tail: u64) -> Next<B>
     requires some { (position_of tail == position_of head) ≡ false }
     ensures { result ≡ chain_pop_tail_found head (Some block) tail }
 {
-    if tail / 2 / BLOCK_POSITIONS == head / 2 / BLOCK_POSITIONS {
+    if position_of(tail) / BLOCK_POSITIONS == position_of(head) / BLOCK_POSITIONS {
         take(head, block, head + TAIL_STEP)
     } else {
-        take(head, block, head + TAIL_STEP + 1)
+        take(head, block, head + TAIL_STEP + MARK)
     }
 }
 
@@ -85,10 +88,10 @@ pub(super) fn after_pop_tail<B: Copy>(head: u64, block: Option<B>, tail: u64) ->
     requires { (IsSome block → (position_of tail == position_of head) ≡ true) }
     ensures { result ≡ chain_pop_tail_found head block tail }
 {
-    if tail / 2 != head / 2 {
+    if position_of(tail) != position_of(head) {
         return load(UnboundedLocal::PopHead, Word::Head);
     }
-    let why = if tail % 2 == 1 {
+    let why = if is_marked(tail) {
         PopError::Closed
     } else {
         PopError::Empty
@@ -96,7 +99,7 @@ pub(super) fn after_pop_tail<B: Copy>(head: u64, block: Option<B>, tail: u64) ->
     Next::Reply(Reply::Pop(Err(why)), None)
 }
 
-/// V9.
+/// Reads the state of the head's slot (V9).
 #[inline]
 pub(super) fn await_item<B: Copy>(head: u64, block: B) -> Next<B>
     ensures { result ≡ awaits head block }
@@ -107,7 +110,7 @@ pub(super) fn await_item<B: Copy>(head: u64, block: B) -> Next<B>
     )
 }
 
-/// V5.
+/// Reads the block after this one (V5).
 #[inline]
 pub(super) fn follow<B: Copy>(head: u64, block: B) -> Next<B>
     ensures { result ≡ follows head block }
@@ -119,7 +122,7 @@ pub(super) fn follow<B: Copy>(head: u64, block: B) -> Next<B>
     )
 }
 
-/// V6: the next block has to be there before the poppers enter it.
+/// Reads the block after the next one, which has to be there before the poppers enter it (V6).
 #[inline(always)]
 pub(super) fn peek<B: Copy>(head: u64, block: B, after: B) -> Next<B>
     ensures { result ≡ followed head block (Some after) }
@@ -131,7 +134,7 @@ pub(super) fn peek<B: Copy>(head: u64, block: B, after: B) -> Next<B>
     )
 }
 
-/// The walk over a passed block, from this slot on: past the last one that others read, the block is given up.
+/// Reads the state of this slot of a passed block, in the walk over it (W1).
 #[inline]
 pub(super) fn walk<B: Copy>(block: B, slot: u64, touch: Touch) -> Next<B>
     ensures { result ≡ walks block slot touch }
@@ -152,7 +155,7 @@ pub(super) fn goes_on(slot: u64) -> bool
     slot + 2 < BLOCK_SLOTS
 }
 
-/// The walk goes on after this slot.
+/// The walk goes on after this slot; past the last one that others read, the block is given up.
 #[inline]
 pub(super) fn walk_on<B: Copy>(block: B, slot: u64) -> Next<B>
     requires { slot < BLOCK_SLOTS }
@@ -165,7 +168,7 @@ pub(super) fn walk_on<B: Copy>(block: B, slot: u64) -> Next<B>
     }
 }
 
-/// What follows the state of a slot of a passed block: where it is not read yet, it is marked for its reader.
+/// What follows the state of a slot of a passed block: where it is not read yet, it is marked for its reader (W2).
 #[inline]
 pub(super) fn after_look<B: Copy>(block: B, slot: u64, state: u64) -> Next<B>
     requires { slot < BLOCK_SLOTS }
@@ -195,7 +198,7 @@ pub(super) fn after_mark<B: Copy>(block: B, slot: u64, state: u64) -> Next<B>
     }
 }
 
-/// V10.
+/// Empties the head's slot and marks it as read (V10).
 #[inline(always)]
 pub(super) fn read<B: Copy>(head: u64, block: B) -> Next<B>
     ensures { result ≡ at (UnboundedLocal.Reading block (offset_of head)) (Touch.Take (offset_of head)) (Op.Or (Word.State block (offset_of head)) READ) }
@@ -206,4 +209,32 @@ pub(super) fn read<B: Copy>(head: u64, block: B) -> Next<B>
         Touch::Take(slot as usize),
         Op::Or(Word::State(block, slot as usize), READ),
     )
+}
+
+/// What follows the answer to the last step of a pop, where it is no common one and passes no block.
+#[inline(always)]
+pub(super) fn next_other<B: Copy>(local: UnboundedLocal<B>, answer: Answer<B>) -> Next<B>
+    requires fits { FitsChain local answer }
+    requires pop { is_chain_pop local ≡ true }
+    requires other { is_chain_common local answer ≡ false }
+    requires stays { is_chain_passing local answer ≡ false }
+    ensures { result ≡ unbounded_next local answer }
+{
+    match (local, answer) {
+        (UnboundedLocal::PopHead, Answer::Found(head)) => after_head(head),
+        (UnboundedLocal::PopTail(head, block), Answer::Found(tail)) => {
+            after_pop_tail(head, block, tail)
+        }
+        (UnboundedLocal::Taking(_, _), Answer::Found(found)) => after_head(found),
+        (UnboundedLocal::Following(head, block), Answer::Linked(None)) => follow(head, block),
+        (UnboundedLocal::Awaiting(head, block), Answer::Found(_)) => await_item(head, block),
+        (UnboundedLocal::Reading(block, slot), Answer::Found(_)) => walk_on(block, slot),
+        (UnboundedLocal::Walking(block, slot), Answer::Found(state)) => {
+            after_look(block, slot, state)
+        }
+        (UnboundedLocal::Destroying(block, slot), Answer::Found(state)) => {
+            after_mark(block, slot, state)
+        }
+        _ => unreachable!(),
+    }
 }

@@ -1,7 +1,8 @@
 //! The steps of a push into a chain of blocks.
 ghost use Rattle.std.specs.Prelude.{◌≡◌, ◌==◌, ◌&&◌, not, Some, None, true, false};
 ghost use Rattle.queue_steps.specs.Words.{IsWord};
-ghost use Rattle.queue_steps.specs.CommonNext.{is_roomy_tail};
+ghost use Rattle.queue_steps.specs.CommonNext.{is_chain_common, is_chain_passing, is_roomy_tail};
+ghost use Rattle.queue_steps.specs.CallAt.{is_chain_push};
 ghost use Rattle.queue_steps.specs.declared.steps.types.Answer.TheVariants.{Found};
 ghost use Rattle.queue_steps.specs.UnboundedNext.{at, asks, lays, chain_tail_found, granted, claims, installed, writes, gives_up, is_last_slot, unbounded_next, FitsChain};
 
@@ -10,7 +11,8 @@ use crate::model::{Reply, ReplyKind};
 use crate::sizes::{BLOCK_SLOTS, LIMIT};
 use crate::steps::bounded::{MARK, PushKind, TAIL_STEP, closed};
 use crate::steps::unbounded::{UnboundedLocal, WRITE, items, load, offset, step};
-use crate::steps::{Link, Next, Op, Touch, Word};
+use crate::steps::{Answer, Link, Next, Op, Touch, Word};
+use crate::words::{is_marked, position_of};
 
 /// What a push answers that was refused a block.
 #[inline]
@@ -23,16 +25,16 @@ pub(super) fn no_memory(push: PushKind) -> ReplyKind
     }
 }
 
-/// Whether a push that found this tail goes on to the pushers' block.
+/// Whether this tail is open, below the limit and at a slot: a push that found it goes on to the pushers' block.
 #[inline(always)]
-pub(super) fn has_room(tail: u64) -> bool
+pub(super) fn is_open_below_limit(tail: u64) -> bool
     requires { IsWord tail }
     ensures { result ≡ is_roomy_tail tail }
 {
-    tail % 2 != 1 && items(tail / 2) != LIMIT && offset(tail) != BLOCK_SLOTS
+    !is_marked(tail) && items(position_of(tail)) != LIMIT && offset(tail) != BLOCK_SLOTS
 }
 
-/// U2.
+/// Reads the pushers' block (U2).
 #[inline(always)]
 pub(super) fn read_block<B: Copy>(push: PushKind, tail: u64, spare: Option<B>) -> Next<B>
     ensures { result ≡ at (UnboundedLocal.PushBlock push tail spare) Touch.Nothing (Op.LoadLink Link.TailBlock) }
@@ -44,18 +46,18 @@ pub(super) fn read_block<B: Copy>(push: PushKind, tail: u64, spare: Option<B>) -
     )
 }
 
-/// What follows a tail behind which there is no room: for good, or until another push has opened the next block.
+/// What follows a tail behind which there is no room: for good, as it is marked or closed at the limit (US), or until another push has opened the next block.
 #[inline]
 pub(super) fn turn_away<B: Copy>(push: PushKind, tail: u64, spare: Option<B>) -> Next<B>
     requires word { IsWord tail }
     requires full { is_roomy_tail tail ≡ false }
     ensures { result ≡ chain_tail_found push tail spare }
 {
-    if tail % 2 == 1 {
+    if is_marked(tail) {
         Next::Reply(closed(push), spare)
-    } else if items(tail / 2) == LIMIT {
+    } else if items(position_of(tail)) == LIMIT {
         step(
-            UnboundedLocal::Spending(push, spare),
+            UnboundedLocal::ClosingAtLimit(push, spare),
             Touch::Nothing,
             Op::Or(Word::Tail, MARK),
         )
@@ -64,7 +66,7 @@ pub(super) fn turn_away<B: Copy>(push: PushKind, tail: u64, spare: Option<B>) ->
     }
 }
 
-/// U3.
+/// Asks for a block (U3).
 #[inline]
 pub(super) fn ask<B: Copy>(push: PushKind, tail: u64, block: Option<B>) -> Next<B>
     ensures { result ≡ asks push tail block }
@@ -76,7 +78,7 @@ pub(super) fn ask<B: Copy>(push: PushKind, tail: u64, block: Option<B>) -> Next<
     )
 }
 
-/// U5.
+/// Exchanges the tail for that of the next position (U5).
 #[inline(always)]
 pub(super) fn claim<B: Copy>(push: PushKind, tail: u64, block: B, spare: Option<B>) -> Next<B>
     requires { IsWord tail }
@@ -89,7 +91,7 @@ pub(super) fn claim<B: Copy>(push: PushKind, tail: u64, block: B, spare: Option<
     )
 }
 
-/// U4.
+/// Installs the first block (U4).
 #[inline]
 pub(super) fn install<B: Copy>(push: PushKind, tail: u64, fresh: B) -> Next<B>
     ensures { result ≡ granted push tail None fresh }
@@ -101,7 +103,7 @@ pub(super) fn install<B: Copy>(push: PushKind, tail: u64, fresh: B) -> Next<B>
     )
 }
 
-/// What follows the installing of a first block: where another was there, this one is kept as the spare.
+/// What follows the installing of a first block: it is shown to the poppers (U4b), or kept as the spare where another was there.
 #[inline]
 pub(super) fn after_install<B: Copy>(
     push: PushKind,
@@ -121,7 +123,7 @@ pub(super) fn after_install<B: Copy>(
     }
 }
 
-/// U6.
+/// Makes the spare the pushers' block (U6).
 #[inline]
 pub(super) fn lay<B: Copy>(push: PushKind, tail: u64, block: B, fresh: B) -> Next<B>
     ensures { result ≡ lays push tail block (Some fresh) }
@@ -133,7 +135,7 @@ pub(super) fn lay<B: Copy>(push: PushKind, tail: u64, block: B, fresh: B) -> Nex
     )
 }
 
-/// U9.
+/// Writes the tail's slot (U9).
 #[inline(always)]
 pub(super) fn write<B: Copy>(push: PushKind, tail: u64, block: B, spare: Option<B>) -> Next<B>
     ensures { result ≡ writes push tail block spare }
@@ -170,9 +172,43 @@ pub(super) fn after_tail<B: Copy>(push: PushKind, tail: u64, spare: Option<B>) -
     requires { IsWord tail }
     ensures { result ≡ chain_tail_found push tail spare }
 {
-    if has_room(tail) {
+    if is_open_below_limit(tail) {
         read_block(push, tail, spare)
     } else {
         turn_away(push, tail, spare)
+    }
+}
+
+/// What follows the answer to the last step of a push, where it is no common one and passes no block.
+#[inline(always)]
+pub(super) fn next_other<B: Copy>(local: UnboundedLocal<B>, answer: Answer<B>) -> Next<B>
+    requires fits { FitsChain local answer }
+    requires push { is_chain_push local ≡ true }
+    requires other { is_chain_common local answer ≡ false }
+    requires stays { is_chain_passing local answer ≡ false }
+    ensures { result ≡ unbounded_next local answer }
+{
+    match (local, answer) {
+        (UnboundedLocal::PushTail(push, spare), Answer::Found(tail)) => {
+            turn_away(push, tail, spare)
+        }
+        (UnboundedLocal::PushBlock(push, tail, _), Answer::Linked(None)) => ask(push, tail, None),
+        (UnboundedLocal::Asking(push, _, _), Answer::Refused) => Next::Reply(no_memory(push), None),
+        (UnboundedLocal::Asking(push, tail, None), Answer::Granted(fresh)) => {
+            install(push, tail, fresh)
+        }
+        (UnboundedLocal::Installing(push, tail, fresh), Answer::Linked(before)) => {
+            after_install(push, tail, fresh, before)
+        }
+        (UnboundedLocal::Showing(push, tail, block), Answer::Done) => {
+            claim(push, tail, block, None)
+        }
+        (UnboundedLocal::Claiming(push, _, _, spare), Answer::Found(found)) => {
+            after_tail(push, found, spare)
+        }
+        (UnboundedLocal::ClosingAtLimit(push, spare), Answer::Found(_)) => {
+            Next::Reply(closed(push), spare)
+        }
+        _ => unreachable!(),
     }
 }

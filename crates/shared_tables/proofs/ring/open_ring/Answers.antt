@@ -5,7 +5,7 @@ use Rattle.queue_steps.specs.Words.{IsRing}
 use Rattle.shared_tables.specs.TableRule.{Rule}
 use Rattle.shared_tables.specs.RingTable.{ring_table}
 use Rattle.shared_tables.specs.RingOpening.{first_words}
-use Rattle.ring_laws.proofs.RingOpening.{count_below}
+use Rattle.law_ring.proofs.RingOpening.{count_below}
 use Rattle.shared_tables.proofs.RingEnding.{seat, ring_opens}
 use Rattle.shared_tables.proofs.ring.open_ring.Goals as goal
 
@@ -27,6 +27,7 @@ invariant_of-result g c =
     let slots = made.1 ∙ (ap length c.in_ok-slots.ensures ∙ length-replicate cap None) in
     record {
       counted = sym slots;
+      counts = (let a = made.0 in omega arith);
       sized = ((let a = made.0 in omega arith), made.5 ∙ sym slots, (subst IsRing (sym slots) ring).0, (subst IsRing (sym slots) ring).1);
     }
 

@@ -1,5 +1,5 @@
 use Rattle.std.proofs.Common.{rules}
 use Rattle.exclusive_queue.proofs.store.Store.close.Goals as goal
 
-pub returns-clause-sole : goal.returns-clause-sole
-returns-clause-sole g c = search rules
+pub returns-clause-sequential : goal.returns-clause-sequential
+returns-clause-sequential g c = search rules

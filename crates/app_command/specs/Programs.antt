@@ -1,0 +1,47 @@
+-- How the program ends, by the arguments that the system gives it.
+use Rattle.std.specs.Prelude.{◌≡◌, ◌≢◌, ◌⊎◌, ℕ, List, [], Option, Result, Ok, Err, String, ⊤, drop, map, string_bytes}
+use Rattle.std.specs.Io.KnownBytes.{Keeps}
+use Rattle.std.specs.IoError.{error_kind}
+use Rattle.std.specs.Vec.Iter.{into_iter_items}
+use Rattle.std.specs.declared.io.Error.{Error}
+use Rattle.std.specs.declared.io.ErrorKind.TheVariants.{OutOfMemory}
+use Rattle.std.specs.declared.vec.IntoIter.{IntoIter}
+use Rattle.app_text.specs.Faults.{fault_status}
+use Rattle.app_text.specs.declared.faults.Fault.TheVariants as fault
+use Rattle.app_threads.specs.declared.sharing.Sharing.TheVariants as sharing
+use Rattle.app_command.specs.declared.command.Ended.{Ended}
+use Rattle.app_command.specs.Ends.{IsEnd}
+
+module _ {Z : Type 0} where
+  -- what was given asks by these words: all behind the program's name, however many. Arguments that are no text ask by none
+  abbrev pub IsAskedBy : Result (IntoIter (String Z) Z) Error → List (List ℕ) → Type 0
+  IsAskedBy (Ok args) words = words ≡ map string_bytes (drop 1 (into_iter_items args))
+  IsAskedBy (Err error) words = (error_kind error ≢ OutOfMemory) × (words ≡ [])
+
+  -- there was no memory for the arguments, or there may be none for the list of the words
+  abbrev pub MayLackMemory : Result (IntoIter (String Z) Z) Error → Type 0
+  MayLackMemory (Ok args) = ⊤
+  MayLackMemory (Err error) = error_kind error ≡ OutOfMemory
+
+  -- the arguments are those by which it is asked, and the end is that of what they ask for
+  pub record IsAskedEnd (given : Result (IntoIter (String Z) Z) Error) (known old new : Option (List ℕ)) (ended : Ended) : Type 0 where
+    pub words : List (List ℕ)
+    pub asked : IsAskedBy given words
+    pub ends : IsEnd words ended.sharing known old new ended.status
+
+  -- there was no memory for the arguments: nothing was written, no threads shared anything, and the status tells so
+  pub record IsWantOfMemory (given : Result (IntoIter (String Z) Z) Error) (old new : Option (List ℕ)) (ended : Ended) : Type 0 where
+    pub may : MayLackMemory given
+    pub status_is : ended.status ≡ fault_status fault.NoMemory
+    pub nothing_shared : ended.sharing ≡ sharing.Nothing
+    pub quiet : Keeps old new
+
+  -- the program ends so
+  abbrev pub IsEndOf : Result (IntoIter (String Z) Z) Error → Option (List ℕ) → Option (List ℕ) → Option (List ℕ) → Ended → Type 0
+  IsEndOf given known old new ended = IsAskedEnd given known old new ended ⊎ IsWantOfMemory given old new ended
+
+  -- it ends with this status, whatever its threads shared
+  pub record IsSomeEnd (given : Result (IntoIter (String Z) Z) Error) (known old new : Option (List ℕ)) (status : ℕ) : Type 0 where
+    pub ended : Ended
+    pub ends : IsEndOf given known old new ended
+    pub status_is : status ≡ ended.status

@@ -1,0 +1,71 @@
+//! The whole program, with the arguments as the system gives them, and the status that it ends with.
+ghost use Rattle.std.specs.Prelude.{◌≡◌, IfOk, MatchResult, drop, map, string_bytes};
+ghost use Rattle.std.specs.Process.{exit_status};
+ghost use Rattle.std.specs.Vec.Iter.{into_iter_items};
+ghost use Rattle.app_command.specs.Programs.{IsAskedBy, IsEndOf, IsSomeEnd, MayLackMemory};
+
+use crate::command::{Ended, command, lack_memory};
+use app_threads::sharing::Sharing;
+use std::alloc::{AllocError, Allocator, Global};
+use std::env::Args;
+use std::io;
+use std::io::{ErrorKind, Read, Write};
+use std::process::ExitCode;
+use std::sync::Wait;
+use std::thread::Threads;
+
+/// Does what the arguments say, of which the first is the program's name, and tells how the program ends.
+///
+/// It ends with the status of [`end`].
+pub fn program<R: Threads + Wait + Sync + AllocGlobal, A: Allocator, I: Read, O: Write, F: Write>(
+    rt: &R,
+    alloc: &A,
+    given: io::Result<Args>,
+    input: &mut I,
+    output: &mut O,
+    faults: &mut F,
+) -> ExitCode
+    ensures { IsSomeEnd given (I.remaining input.old) (O.contents output.old) (O.contents output.new) (exit_status result) }
+{
+    ExitCode::from(end(rt, alloc, given, input, output, faults).status)
+}
+
+/// Does what the arguments say, of which the first is the program's name, and answers the status to end with. Hands on what threads shared.
+///
+/// Arguments for which there is no memory end it as want of memory does, before anything is read or written. Arguments that are no text are wrong ones, as none are.
+pub fn end<R: Threads + Wait + Sync + AllocGlobal, A: Allocator, I: Read, O: Write, F: Write>(
+    rt: &R,
+    alloc: &A,
+    given: io::Result<Args>,
+    input: &mut I,
+    output: &mut O,
+    faults: &mut F,
+) -> Ended
+    ensures { IsEndOf given (I.remaining input.old) (O.contents output.old) (O.contents output.new) result }
+{
+    match words_of(rt.alloc(), given) {
+        Ok(words) => command(rt, alloc, words, input, output, faults),
+        Err(_) => Ended {
+            status: lack_memory(faults),
+            sharing: Sharing::Nothing,
+        },
+    }
+}
+
+// The arguments behind the program's name.
+fn words_of(alloc: Global, given: io::Result<Args>) -> Result<Vec<String>, AllocError>
+    ensures { MatchResult result (λ words. IsAskedBy given (map string_bytes words.items)) (λ _. MayLackMemory given) }
+{
+    match given {
+        Ok(args) => Ok(behind_name(alloc, args)?),
+        Err(error) if error.kind() == ErrorKind::OutOfMemory => Err(AllocError),
+        Err(_) => Ok(Vec::new(alloc)),
+    }
+}
+
+// All arguments but the first.
+fn behind_name(alloc: Global, args: Args) -> Result<Vec<String>, AllocError>
+    ensures { IfOk result (λ words. words.items ≡ drop 1 (into_iter_items args)) }
+{
+    args.skip(1).collect(alloc)
+}

@@ -1,0 +1,5 @@
+use Rattle.std.proofs.Common.{rules, tests}
+use Rattle.app_text.proofs.numbers.with_digit.Goals as goal
+
+pub returns : goal.returns
+returns c = search (rules, tests)

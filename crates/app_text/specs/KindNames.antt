@@ -1,0 +1,70 @@
+-- The words that name a kind of queue, and the arguments that name a form.
+use Rattle.std.specs.Prelude.{◌≡◌, ℕ, ◌<◌, ◌≤◌, ◌*◌, ◌%◌, List, [], ◌∷◌, ◌++◌, codes, Option}
+use Rattle.std.specs.Fmt.{decimal}
+use Rattle.queue_steps.specs.Next.{capacity_of as capacity_of_kind}
+use Rattle.queue_steps.specs.declared.steps.types.Kind.{Kind}
+use Rattle.queue_steps.specs.declared.steps.types.Kind.TheVariants as queue
+use Rattle.app_text.specs.Reading.{IsWord}
+use Rattle.app_text.specs.declared.args.TheConstants.{MOST_PARTIES}
+use Rattle.app_text.specs.declared.args.KindName.{KindName}
+use Rattle.app_text.specs.declared.args.KindName.TheVariants as kind
+use Rattle.app_text.specs.declared.args.Form.{Form}
+use Rattle.app_text.specs.declared.args.Form.TheVariants as form
+use Rattle.app_text.specs.declared.load.Load.{Load}
+use Rattle.app_text.specs.declared.load.TheConstants.{MOST_THREADS, MOST_ITEMS}
+
+abbrev pub kind_text : KindName → List ℕ
+kind_text kind.Single = codes "single"
+kind_text (kind.Bounded count) = codes "bounded:" ++ decimal count
+kind_text kind.Unbounded = codes "unbounded"
+
+-- a capacity is a word above 0
+abbrev pub IsKindName : KindName → Type 0
+IsKindName (kind.Bounded count) = IsWord count × (0 < count)
+IsKindName _ = Unit {0}
+
+-- 1 to 64 threads push, and so many pop
+abbrev pub IsThreadCount : ℕ → Type 0
+IsThreadCount count = (0 < count) × (count ≤ MOST_THREADS)
+
+-- a thread pushes up to a million items
+abbrev pub IsItemCount : ℕ → Type 0
+IsItemCount count = count ≤ MOST_ITEMS
+
+abbrev pub IsLoad : Load → Type 0
+IsLoad l = IsKindName l.kind × IsThreadCount l.pushers × IsThreadCount l.poppers × IsItemCount l.items
+
+-- the poppers share the items evenly
+abbrev pub IsEvenLoad : Load → Type 0
+IsEvenLoad l = IsLoad l × (l.pushers * l.items % l.poppers ≡ 0)
+
+abbrev pub load_words : Load → List (List ℕ)
+load_words l = kind_text l.kind ∷ decimal l.pushers ∷ decimal l.poppers ∷ decimal l.items ∷ []
+
+abbrev pub form_words : Form → List (List ℕ)
+form_words (form.Script k) = codes "script" ∷ kind_text k ∷ []
+form_words (form.Replay k parties) = codes "replay" ∷ kind_text k ∷ decimal parties ∷ []
+form_words (form.Threads l) = codes "threads" ∷ load_words l
+form_words form.Handshake = codes "handshake" ∷ []
+form_words (form.Channel l) = codes "channel" ∷ load_words l
+
+-- a replay has 1 to 64 parties
+abbrev pub IsPartyCount : ℕ → Type 0
+IsPartyCount parties = (0 < parties) × (parties ≤ MOST_PARTIES)
+
+abbrev pub IsForm : Form → Type 0
+IsForm (form.Script k) = IsKindName k
+IsForm (form.Replay k parties) = IsKindName k × IsPartyCount parties
+IsForm (form.Threads l) = IsEvenLoad l
+IsForm form.Handshake = Unit {0}
+IsForm (form.Channel l) = IsLoad l
+
+-- the kind of queue that the name asks for
+abbrev pub kind_named : KindName → Kind
+kind_named kind.Single = queue.Single
+kind_named (kind.Bounded count) = queue.Bounded count
+kind_named kind.Unbounded = queue.Unbounded
+
+-- its capacity, if it has one
+abbrev pub capacity_of : KindName → Option ℕ
+capacity_of k = capacity_of_kind (kind_named k)

@@ -1,0 +1,128 @@
+//! The arguments of the program.
+ghost use Rattle.std.specs.Prelude.{[], ◌∷◌, map, string_bytes};
+ghost use Rattle.std.specs.Fmt.{decimal};
+ghost use Rattle.app_text.specs.Reading.{IsReading};
+ghost use Rattle.app_text.specs.KindNames.{kind_text, IsKindName, form_words, IsForm, IsPartyCount};
+
+use crate::load::{Load, parse_even_load, parse_load};
+use crate::numbers::parse_number;
+
+/// The most parties that a replay may have.
+pub const MOST_PARTIES: u64 = 64;
+
+const _: () = prove!(MOST_PARTIES == 64);
+
+/// The kind of a queue, as an argument names it.
+#[derive(Clone, Copy, Debug, PartialEq, Eq)]
+pub enum KindName {
+    Single,
+    /// With this capacity, which is above 0. The capacity 1 is `Single`.
+    Bounded(usize),
+    Unbounded,
+}
+
+/// What the program is to do.
+#[derive(Clone, Copy)]
+pub enum Form {
+    /// Runs a script on a queue with one owner.
+    Script(KindName),
+    /// Replays calls and steps on a queue that so many parties share.
+    Replay(KindName, usize),
+    /// Lets threads push and pop on a queue that they share, and counts what comes.
+    Threads(Load),
+    /// Lets two threads hand an item to each other.
+    Handshake,
+    /// Lets threads send and receive through a channel, and counts what comes.
+    Channel(Load),
+}
+
+/// The form that the arguments name.
+pub fn parse_form(args: &[String]) -> Option<Form>
+    ensures { IsReading IsForm form_words (map string_bytes args.now) result }
+{
+    match args {
+        [form] => handshake_form(form.as_str()),
+        [form, kind] => script_form(form.as_str(), kind.as_str()),
+        [form, kind, parties] => replay_form(form.as_str(), kind.as_str(), parties.as_str()),
+        [form, kind, pushers, poppers, items] => load_form(
+            form.as_str(),
+            kind.as_str(),
+            pushers.as_str(),
+            poppers.as_str(),
+            items.as_str(),
+        ),
+        _ => None,
+    }
+}
+
+// The form that this word names.
+fn handshake_form(form: &str) -> Option<Form>
+    ensures { IsReading IsForm form_words (form.now ∷ []) result }
+{
+    if form != "handshake" {
+        return None;
+    }
+    Some(Form::Handshake)
+}
+
+// The form that these two words name.
+fn script_form(form: &str, kind: &str) -> Option<Form>
+    ensures { IsReading IsForm form_words (form.now ∷ kind.now ∷ []) result }
+{
+    if form != "script" {
+        return None;
+    }
+    Some(Form::Script(parse_kind(kind)?))
+}
+
+// The form that these three words name.
+fn replay_form(form: &str, kind: &str, parties: &str) -> Option<Form>
+    ensures { IsReading IsForm form_words (form.now ∷ kind.now ∷ parties.now ∷ []) result }
+{
+    if form != "replay" {
+        return None;
+    }
+    let kind = parse_kind(kind)?;
+    let parties = parse_parties(parties)?;
+    Some(Form::Replay(kind, parties))
+}
+
+// The number of parties that this text names.
+fn parse_parties(text: &str) -> Option<usize>
+    ensures { IsReading IsPartyCount decimal text.now result }
+{
+    let count = parse_number(text.as_bytes())?;
+    if count == 0 || count > MOST_PARTIES {
+        return None;
+    }
+    Some(count as usize)
+}
+
+// The form that these five words name.
+fn load_form(form: &str, kind: &str, pushers: &str, poppers: &str, items: &str) -> Option<Form>
+    ensures { IsReading IsForm form_words (form.now ∷ kind.now ∷ pushers.now ∷ poppers.now ∷ items.now ∷ []) result }
+{
+    match form {
+        "threads" => Some(Form::Threads(parse_even_load(kind, pushers, poppers, items)?)),
+        "channel" => Some(Form::Channel(parse_load(kind, pushers, poppers, items)?)),
+        _ => None,
+    }
+}
+
+/// The kind that this text names.
+pub fn parse_kind(text: &str) -> Option<KindName>
+    ensures { IsReading IsKindName kind_text text.now result }
+{
+    match text {
+        "single" => Some(KindName::Single),
+        "unbounded" => Some(KindName::Unbounded),
+        _ => {
+            let digits = text.as_bytes().strip_prefix(b"bounded:".as_slice())?;
+            let cap = parse_number(digits)?;
+            if cap == 0 {
+                return None;
+            }
+            Some(KindName::Bounded(cap as usize))
+        }
+    }
+}

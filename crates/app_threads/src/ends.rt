@@ -1,0 +1,399 @@
+//! Threads that send and receive through one channel, each with an end of its own.
+ghost use Rattle.std.specs.Prelude.{◌≡◌, ℕ, ◌<◌, ◌≤◌, ◌+◌, ◌-◌, ◌*◌, ◌^◌, ◌&&◌, [], true, false, length, replicate, IfOk, MatchResult};
+ghost use Rattle.queue_steps.specs.Parties.{IsView};
+ghost use Rattle.concurrent_queue.specs.Shared.{IsPartyOf, Joins};
+ghost use Rattle.counted_channel.specs.Channel.{IsEndOf};
+ghost use Rattle.law_parties.specs.Doings.{takes};
+ghost use Rattle.app_threads.specs.Counts.{EachSumFits, AreSums};
+ghost use Rattle.app_threads.specs.Works.{IsWorkOf, IsTaskOf, IsTaskDone, PartsTask, TakesNothing, TookNothing, ends_share, ends_taken};
+ghost use Rattle.app_threads.specs.declared.ends.Task.TheVariants as task;
+ghost use denote.Param.Send.{IsSync};
+
+use crate::counts::{add, count, none_counted};
+use crate::crew::{Plan, Work};
+use concurrent_queue::Party;
+use counted_channel::{Channel, Receiver, Sender};
+use mem_blocks::null_testable::NullTestable;
+use std::alloc::{AllocError, Allocator, Global};
+use std::snapshot::Snapshot;
+use std::sync::Wait;
+use std::sync::atomic::{AtomicBool, Ordering};
+use std::thread;
+use std::thread::{Promise, PromisedHandle, Scope, Threads};
+
+/// What a thread has to do, with the end that it does it by.
+#[derive(Drop)]
+enum Task {
+    /// Sends the numbers from 0 up to that of the items, which is left out.
+    Send(Sender<u64>),
+    /// Receives until nobody sends any more, and counts.
+    Receive(Receiver<u64>),
+}
+
+/// A thread gives back the party of its end of this channel, and counts what that took: of each of so many values no more than so many.
+#[derive(Drop)]
+struct Returns<'a, A: Allocator> {
+    channel: &'a Channel<u64, A>,
+    given: Snapshot<Task>,
+    plan: Plan,
+}
+
+impl<'a, A: Allocator> Promise<Work> for Returns<'a, A> {
+    ghost kept_by = { λ p work. IsTaskDone p.channel.now p.plan.items p.plan.share p.given.value work };
+}
+
+/// Runs all threads of a plan, joins them, and adds up what they counted. Each receives no more often than its share, which is to be one more than is sent.
+///
+/// Where one cannot be started its end is ended at once, as are those of the threads that have not begun.
+///
+/// # Errors
+///
+/// The allocator refused the counts. No thread was started.
+pub fn run_all<R: Threads + Wait + Sync, A: NullTestable + Send + Sync>(
+    rt: &R,
+    alloc: Global,
+    channel: &Channel<u64, A>,
+    sender: Sender<u64>,
+    receiver: Receiver<u64>,
+    plan: Plan,
+) -> Result<Work, AllocError>
+    requires of { IsEndOf sender channel.now × IsEndOf receiver channel.now }
+    requires few { (plan.pushers + plan.poppers) * plan.share < 2 ^ 64 }
+    requires threads { plan.pushers + plan.poppers < 2 ^ 64 }
+    ensures { IfOk result (λ work. IsWorkOf channel.now.queue plan.items ((plan.pushers + plan.poppers) * plan.share) (ends_taken sender receiver) (ends_share sender receiver) work
+        × (length work.counts.items ≡ plan.items)) }
+{
+    let counts = none_counted(alloc, plan.items)?;
+    let gives_up = AtomicBool::new(false);
+    Ok(thread::scope(
+        thread::scope_env(),
+        rt,
+        |scope| -> Work
+            requires { IsSync R.row × IsEndOf sender channel.now × IsEndOf receiver channel.now
+                × ((plan.pushers + plan.poppers) * plan.share < 2 ^ 64) × (plan.pushers + plan.poppers < 2 ^ 64)
+                × (counts.items ≡ replicate plan.items 0) }
+            ensures { IsWorkOf channel.entry.now.queue plan.items ((plan.pushers + plan.poppers) * plan.share) (ends_taken sender receiver) (ends_share sender receiver) result
+                × (length result.counts.items ≡ plan.items) }
+        {
+            start_from(
+                rt, alloc, scope, channel, &gives_up, sender, receiver, counts, plan, 0,
+            )
+        },
+    ))
+}
+
+/// Runs the threads of a plan from this number on, joins them, and adds up what they counted. Both ends are ended once all are started.
+fn start_from<'s, E, R: Threads + Wait + Sync, A: NullTestable + Send + Sync>(
+    rt: &'s R,
+    alloc: Global,
+    scope: &Scope<'s, E>,
+    channel: &'s Channel<u64, A>,
+    gives_up: &'s AtomicBool,
+    sender: Sender<u64>,
+    receiver: Receiver<u64>,
+    counts: Vec<u64>,
+    plan: Plan,
+    number: u64,
+) -> Work
+    requires of { IsEndOf sender channel.now × IsEndOf receiver channel.now }
+    requires few { (plan.pushers + plan.poppers) * plan.share < 2 ^ 64 }
+    requires threads { plan.pushers + plan.poppers < 2 ^ 64 }
+    requires so_far { number ≤ plan.pushers + plan.poppers }
+    requires none { counts.items ≡ replicate plan.items 0 }
+    ensures work { IsWorkOf channel.now.queue plan.items ((plan.pushers + plan.poppers - number) * plan.share) (ends_taken sender receiver) (ends_share sender receiver) result }
+    ensures all { length result.counts.items ≡ plan.items }
+{
+    if number == plan.pushers + plan.poppers {
+        return end_both(channel, sender, receiver, counts, true);
+    }
+    match part(channel, sender, receiver, plan, number) {
+        Err((sender, receiver)) => end_both(channel, sender, receiver, counts, false),
+        Ok((sender, receiver, task)) => {
+            match start_one(rt, alloc, scope, channel, gives_up, task, plan) {
+                Err(theirs) => {
+                    let ours = end_both(channel, sender, receiver, counts, false);
+                    both(channel, ours, theirs)
+                }
+                Ok(handle) => {
+                    let ours = start_from(
+                        rt,
+                        alloc,
+                        scope,
+                        channel,
+                        gives_up,
+                        sender,
+                        receiver,
+                        counts,
+                        plan,
+                        number + 1,
+                    );
+                    both(channel, ours, handle.join(rt))
+                }
+            }
+        }
+    }
+}
+
+/// Starts a thread with this task. Where none can be started the crew gives up, and the task's end is ended at once.
+fn start_one<'s, E, R: Threads + Wait + Sync, A: NullTestable + Send + Sync>(
+    rt: &'s R,
+    alloc: Global,
+    scope: &Scope<'s, E>,
+    channel: &'s Channel<u64, A>,
+    gives_up: &'s AtomicBool,
+    task: Task,
+    plan: Plan,
+) -> Result<PromisedHandle<Work, Returns<'s, A>>, Work>
+    requires { IsTaskOf task channel.now }
+    ensures { MatchResult result
+        (λ handle. (handle.promise.channel.now ≡ channel.now) × (handle.promise.given.value ≡ task) × (handle.promise.plan ≡ plan))
+        (IsTaskDone channel.now plan.items plan.share task) }
+{
+    let promise = Returns {
+        channel,
+        given: Snapshot::of(&task),
+        plan,
+    };
+    let started = scope.spawn_with(
+        promise,
+        move || -> Work
+            requires { IsSync R.row × IsTaskOf task channel.now }
+            ensures { IsTaskDone channel.entry.now plan.items plan.share task result }
+        { act(rt, alloc, channel, gives_up, task, plan) },
+    );
+    match started {
+        Ok(handle) => Ok(handle),
+        Err(refused) => {
+            gives_up.store(true, Ordering::SeqCst);
+            Err((refused.value)())
+        }
+    }
+}
+
+/// Parts the end of the side that the thread of this number belongs to: the senders come first. Gives both ends back where that has too many.
+fn part<A: Allocator>(
+    channel: &Channel<u64, A>,
+    sender: Sender<u64>,
+    receiver: Receiver<u64>,
+    plan: Plan,
+    number: u64,
+) -> Result<(Sender<u64>, Receiver<u64>, Task), (Sender<u64>, Receiver<u64>)>
+    requires { IsEndOf sender channel.now × IsEndOf receiver channel.now }
+    ensures of { MatchResult result
+        (λ r. IsEndOf r.0 channel.now × IsEndOf r.1 channel.now × IsTaskOf r.2 channel.now)
+        (λ r. IsEndOf r.0 channel.now × IsEndOf r.1 channel.now) }
+    ensures parts { MatchResult result (λ r. PartsTask sender receiver r.0 r.1 r.2) (λ r. TakesNothing sender receiver r.0 r.1) }
+{
+    sender.show_view();
+    receiver.show_view();
+    if number < plan.pushers {
+        match channel.split_sender(sender) {
+            Ok((kept, given)) => Ok((kept, receiver, Task::Send(given))),
+            Err(sender) => Err((sender, receiver)),
+        }
+    } else {
+        match channel.split_receiver(receiver) {
+            Ok((kept, given)) => Ok((sender, kept, Task::Receive(given))),
+            Err(receiver) => Err((sender, receiver)),
+        }
+    }
+}
+
+/// Ends both ends, whose parties become one.
+fn end_both<A: Allocator>(
+    channel: &Channel<u64, A>,
+    sender: Sender<u64>,
+    receiver: Receiver<u64>,
+    counts: Vec<u64>,
+    done: bool,
+) -> Work
+    requires { IsEndOf sender channel.now × IsEndOf receiver channel.now }
+    ensures of { IsPartyOf result.party channel.now.queue }
+    ensures taken { (x : ℕ) → takes x result.party.view ≡ ends_taken sender receiver x }
+    ensures share { result.party.view.share ≡ ends_share sender receiver }
+    ensures same { (result.counts.items ≡ counts.items) × (result.done ≡ done) }
+{
+    let first = end_sending(channel, sender);
+    let second = end_receiving(channel, receiver);
+    first.show_view();
+    second.show_view();
+    Work {
+        party: channel.join(first, second),
+        counts,
+        done,
+    }
+}
+
+/// Ends a sender, and gives back its party.
+fn end_sending<A: Allocator>(channel: &Channel<u64, A>, sender: Sender<u64>) -> Party<u64>
+    requires { IsEndOf sender channel.now }
+    ensures { TookNothing sender.party result }
+{
+    sender.show_view();
+    let (party, _) = channel.end_sender(sender);
+    party
+}
+
+/// Ends a receiver, and gives back its party.
+fn end_receiving<A: Allocator>(channel: &Channel<u64, A>, receiver: Receiver<u64>) -> Party<u64>
+    requires { IsEndOf receiver channel.now }
+    ensures { TookNothing receiver.party result }
+{
+    receiver.show_view();
+    let (party, _) = channel.end_receiver(receiver);
+    party
+}
+
+/// The work of both, whose parties become one.
+fn both<A: Allocator>(channel: &Channel<u64, A>, ours: Work, theirs: Work) -> Work
+    requires of { IsPartyOf ours.party channel.now.queue × IsPartyOf theirs.party channel.now.queue }
+    requires fits { EachSumFits ours.counts.items theirs.counts.items }
+    ensures views { IsView ours.party.queue.cap ours.party.view × IsView theirs.party.queue.cap theirs.party.view }
+    ensures joined { Joins ours.party theirs.party result.party }
+    ensures sums { AreSums ours.counts.items theirs.counts.items result.counts.items }
+    ensures done { result.done ≡ (ours.done && theirs.done) }
+{
+    ours.party.show_view();
+    theirs.party.show_view();
+    let Work {
+        party,
+        mut counts,
+        done,
+    } = ours;
+    add(&mut counts, &theirs.counts);
+    Work {
+        party: channel.join(party, theirs.party),
+        counts,
+        done: done && theirs.done,
+    }
+}
+
+/// Does what the task says, or nothing where the crew gives up. Ends the end in any case.
+fn act<R: Wait, A: NullTestable>(
+    rt: &R,
+    alloc: Global,
+    channel: &Channel<u64, A>,
+    gives_up: &AtomicBool,
+    task: Task,
+    plan: Plan,
+) -> Work
+    requires { IsTaskOf task channel.now }
+    ensures { IsTaskDone channel.now plan.items plan.share task result }
+{
+    if gives_up.load(Ordering::SeqCst) {
+        return end_at_once(alloc, channel, task, plan);
+    }
+    match task {
+        Task::Send(sender) => send_all(rt, alloc, channel, sender, plan),
+        Task::Receive(receiver) => receive_all(rt, alloc, channel, receiver, plan),
+    }
+}
+
+/// Ends the end of a task of which nothing is done.
+fn end_at_once<A: Allocator>(
+    alloc: Global,
+    channel: &Channel<u64, A>,
+    task: Task,
+    plan: Plan,
+) -> Work
+    requires { IsTaskOf task channel.now }
+    ensures { IsTaskDone channel.now plan.items plan.share task result }
+{
+    match task {
+        Task::Send(sender) => idle(alloc, end_sending(channel, sender)),
+        Task::Receive(receiver) => idle(alloc, end_receiving(channel, receiver)),
+    }
+}
+
+/// The work of which nothing was done.
+fn idle(alloc: Global, party: Party<u64>) -> Work
+    ensures { (result.party ≡ party) × (result.counts.items ≡ []) × (result.done ≡ false) }
+{
+    Work {
+        party,
+        counts: Vec::new(alloc),
+        done: false,
+    }
+}
+
+/// Sends all values, and ends the sender.
+fn send_all<R: Wait, A: NullTestable>(
+    rt: &R,
+    alloc: Global,
+    channel: &Channel<u64, A>,
+    mut sender: Sender<u64>,
+    plan: Plan,
+) -> Work
+    requires { IsEndOf sender channel.now }
+    ensures { IsTaskDone channel.now plan.items plan.share (task.Send sender) result }
+{
+    let done = send_values(rt, channel, &mut sender, plan.items);
+    Work {
+        party: end_sending(channel, sender),
+        counts: Vec::new(alloc),
+        done,
+    }
+}
+
+/// Sends the numbers from 0 up to `items`, which is left out. Gives false where one could not be sent; those behind it were not tried.
+fn send_values<R: Wait, A: NullTestable>(
+    rt: &R,
+    channel: &Channel<u64, A>,
+    sender: &mut Sender<u64>,
+    items: u64,
+) -> bool
+    requires { IsEndOf sender.old channel.now }
+    ensures { (sender.new.counts ≡ sender.old.counts) × TookNothing sender.old.party sender.new.party }
+{
+    for value in 0..items {
+        sender.show_view();
+        if channel.send(rt, sender, value).is_err() {
+            return false;
+        }
+    }
+    true
+}
+
+/// Receives and counts until nobody sends any more, and ends the receiver.
+fn receive_all<R: Wait, A: Allocator>(
+    rt: &R,
+    alloc: Global,
+    channel: &Channel<u64, A>,
+    mut receiver: Receiver<u64>,
+    plan: Plan,
+) -> Work
+    requires { IsEndOf receiver channel.now }
+    ensures { IsTaskDone channel.now plan.items plan.share (task.Receive receiver) result }
+{
+    let Ok(mut counts) = none_counted(alloc, plan.items) else {
+        return end_at_once(alloc, channel, Task::Receive(receiver), plan);
+    };
+    receive_values(rt, channel, &mut receiver, &mut counts, plan);
+    Work {
+        party: end_receiving(channel, receiver),
+        counts,
+        done: true,
+    }
+}
+
+/// Receives and counts until nobody sends any more, no more often than the plan's share says.
+fn receive_values<R: Wait, A: Allocator>(
+    rt: &R,
+    channel: &Channel<u64, A>,
+    receiver: &mut Receiver<u64>,
+    counts: &mut Vec<u64>,
+    plan: Plan,
+)
+    requires of { IsEndOf receiver.old channel.now }
+    requires none { counts.old.items ≡ replicate plan.items 0 }
+    ensures end { receiver.new.counts ≡ receiver.old.counts }
+    ensures received { IsWorkOf channel.now.queue plan.items plan.share (λ x. takes x receiver.old.party.view) receiver.old.party.view.share (record { party = receiver.new.party; counts = counts.new; done = true }) }
+{
+    for _ in 0..plan.share {
+        receiver.show_view();
+        let Ok(value) = channel.recv(rt, receiver) else {
+            return;
+        };
+        count(counts, value);
+    }
+}

@@ -1,0 +1,92 @@
+//! The kit's queues as the loads have them: a lane of one thread, and a seat of each thread.
+use bench_loads::crew::{Refusal, Seat};
+use bench_loads::pairs::Lane;
+use crossbeam_queue::{ArrayQueue, SegQueue};
+use std::sync::Wait;
+
+/// A queue that threads share by a reference.
+pub trait Shared<T> {
+    /// Pushes the item. It is dropped where the queue does not take it, and then the answer is false.
+    fn push_item<R: Wait>(&self, rt: &R, item: T) -> bool;
+
+    /// Pops an item.
+    fn pop_item<R: Wait>(&self, rt: &R) -> Option<T>;
+
+    /// Pushes an item that is to lie behind.
+    fn fill_item<R: Wait>(&self, rt: &R, item: T);
+}
+
+impl<T: Drop> Shared<T> for ArrayQueue<T> {
+    #[inline(always)]
+    fn push_item<R: Wait>(&self, rt: &R, item: T) -> bool {
+        self.push(rt, item).is_ok()
+    }
+
+    #[inline(always)]
+    fn pop_item<R: Wait>(&self, rt: &R) -> Option<T> {
+        self.pop(rt)
+    }
+
+    fn fill_item<R: Wait>(&self, rt: &R, item: T) {
+        let _ = self.force_push(rt, item);
+    }
+}
+
+impl<T: Drop> Shared<T> for SegQueue<T> {
+    #[inline(always)]
+    fn push_item<R: Wait>(&self, rt: &R, item: T) -> bool {
+        self.push(rt, item).is_ok()
+    }
+
+    #[inline(always)]
+    fn pop_item<R: Wait>(&self, rt: &R) -> Option<T> {
+        self.pop(rt)
+    }
+
+    fn fill_item<R: Wait>(&self, rt: &R, item: T) {
+        let _ = self.push(rt, item);
+    }
+}
+
+/// A queue that one thread has to itself, which it calls by a reference all the same.
+#[derive(Drop)]
+pub struct Alone<'a, R: Wait, Q> {
+    pub rt: &'a R,
+    pub queue: Q,
+}
+
+impl<'a, R: Wait, T: Drop, Q: Shared<T>> Lane<T> for Alone<'a, R, Q> {
+    #[inline(always)]
+    fn put(&mut self, item: T) {
+        let _ = self.queue.push_item(self.rt, item);
+    }
+
+    #[inline(always)]
+    fn take(&mut self) -> Option<T> {
+        self.queue.pop_item(self.rt)
+    }
+
+    fn fill(&mut self, item: T) {
+        self.queue.fill_item(self.rt, item);
+    }
+}
+
+/// The queue as one of its threads has it. A queue that is out of memory is tried again, as a full one is.
+#[derive(Drop)]
+pub struct Share<'a, Q> {
+    pub queue: &'a Q,
+}
+
+impl<'a, Q: Shared<u64>> Seat for Share<'a, Q> {
+    fn put<R: Wait>(&mut self, rt: &R, number: u64) -> Result<(), Refusal> {
+        if self.queue.push_item(rt, number) {
+            Ok(())
+        } else {
+            Err(Refusal::ForNow)
+        }
+    }
+
+    fn take<R: Wait>(&mut self, rt: &R) -> Result<u64, Refusal> {
+        self.queue.pop_item(rt).ok_or(Refusal::ForNow)
+    }
+}

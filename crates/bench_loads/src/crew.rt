@@ -1,0 +1,120 @@
+//! Threads that push and pop on one queue. No value is counted: the numbers are added up.
+use std::alloc::AllocError;
+use std::sync::Wait;
+use std::thread;
+use std::thread::{Threads, yield_now};
+
+/// How many threads push and how many pop, and how many numbers each pushes.
+#[derive(Clone, Copy, Debug, PartialEq, Eq)]
+pub struct Crew {
+    pub pushers: u64,
+    pub poppers: u64,
+    pub count: u64,
+}
+
+impl Crew {
+    /// What each pusher does.
+    pub fn pushes(self) -> Role {
+        Role::Pushes(self.count)
+    }
+
+    /// What each popper does: they share what is pushed evenly.
+    pub fn pops(self) -> Role {
+        let pushed = self.pushers.wrapping_mul(self.count);
+        Role::Pops(pushed.checked_div(self.poppers).unwrap_or(0))
+    }
+}
+
+/// What a thread does.
+#[derive(Clone, Copy, Debug, PartialEq, Eq)]
+pub enum Role {
+    /// Pushes so many numbers.
+    Pushes(u64),
+    /// Pops so many numbers.
+    Pops(u64),
+}
+
+/// Why a number was not pushed, or none popped.
+#[derive(Clone, Copy, Debug, PartialEq, Eq)]
+pub enum Refusal {
+    /// The queue is full, or empty, which another thread may change.
+    ForNow,
+    /// The queue is closed.
+    ForGood,
+}
+
+/// A queue as one of the threads has it that share it.
+pub trait Seat {
+    /// Pushes a number.
+    fn put<R: Wait>(&mut self, rt: &R, number: u64) -> Result<(), Refusal>;
+
+    /// Pops a number.
+    fn take<R: Wait>(&mut self, rt: &R) -> Result<u64, Refusal>;
+}
+
+/// A thread to be: what it does, and its seat.
+#[derive(Drop)]
+pub struct Member<S> {
+    pub seat: S,
+    pub role: Role,
+}
+
+/// Runs a thread for each member. Gives the sum of what was popped.
+///
+/// # Errors
+///
+/// The allocator refused the list of threads.
+pub fn run_members<R: Threads + Wait + Sync, S: Seat + Send + Drop>(
+    rt: &R,
+    members: Vec<Member<S>>,
+) -> Result<u64, AllocError> {
+    let sums = thread::map_vec(rt, members, &|member: Member<S>| act(rt, member))?;
+    Ok(sums.iter().fold(0u64, |sum, more| sum.wrapping_add(*more)))
+}
+
+// Does what the member's role says. Gives the sum of what was popped.
+fn act<R: Wait, S: Seat + Drop>(rt: &R, member: Member<S>) -> u64 {
+    let Member { mut seat, role } = member;
+    match role {
+        Role::Pushes(count) => {
+            push_all(rt, &mut seat, count);
+            0
+        }
+        Role::Pops(count) => pop_all(rt, &mut seat, count),
+    }
+}
+
+// Pushes the numbers from 0 up to the count, which is left out, each again for as long as the queue is full.
+fn push_all<R: Wait, S: Seat>(rt: &R, seat: &mut S, count: u64) {
+    let mut number = 0;
+    for _ in rt.forever() {
+        if number >= count {
+            break;
+        }
+        match seat.put(rt, number) {
+            Ok(()) => number += 1,
+            Err(Refusal::ForNow) => yield_now(),
+            Err(Refusal::ForGood) => break,
+        }
+    }
+}
+
+// Pops so many numbers, and waits where the queue is empty. Gives their sum.
+fn pop_all<R: Wait, S: Seat>(rt: &R, seat: &mut S, count: u64) -> u64 {
+    let mut sum = 0u64;
+    let mut left = count;
+    for _ in rt.forever() {
+        if left == 0 {
+            break;
+        }
+        match seat.take(rt) {
+            Ok(number) => {
+                sum = sum.wrapping_add(number);
+                left -= 1;
+            }
+            Err(Refusal::ForNow) => yield_now(),
+            Err(Refusal::ForGood) => break,
+        }
+    }
+    sum
+}

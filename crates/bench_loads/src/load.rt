@@ -1,0 +1,117 @@
+//! What the program is asked to time, and the words that ask for it.
+ghost use Rattle.std.specs.Option.{IfSome};
+ghost use Rattle.app_text.specs.KindNames.{IsKindName};
+
+use crate::crew::Crew;
+use app_text::args::{KindName, parse_kind};
+
+/// Who has the queue.
+#[derive(Clone, Copy, Debug, PartialEq, Eq)]
+pub enum Form {
+    /// One owner.
+    Owned,
+    /// The only party of a shared queue.
+    Alone,
+    /// The owner of what is left of a shared queue, once the sharing has ended.
+    Ended,
+}
+
+/// In which order pushes and pops come.
+#[derive(Clone, Copy, Debug, PartialEq, Eq)]
+pub enum Work {
+    /// A push and a pop in turn, on a queue that had so many items before.
+    Behind(u64),
+    /// So many pushes, and then as many pops.
+    Batch(u64),
+}
+
+/// How many bytes an item has.
+#[derive(Clone, Copy, Debug, PartialEq, Eq)]
+pub enum Size {
+    Bytes8,
+    Bytes64,
+}
+
+/// So many pairs of a push and a pop by one thread.
+#[derive(Clone, Copy, Debug, PartialEq, Eq)]
+pub struct Pairs {
+    pub form: Form,
+    pub work: Work,
+    pub size: Size,
+    pub count: u64,
+}
+
+/// What is done with a queue.
+#[derive(Clone, Copy, Debug, PartialEq, Eq)]
+pub enum Task {
+    /// One thread pushes and pops.
+    Pairs(Pairs),
+    /// Threads push numbers, and others pop them.
+    Threads(Crew),
+}
+
+/// A task, and the kind of the queue that it is done with.
+#[derive(Clone, Copy, Debug, PartialEq, Eq)]
+pub struct Load {
+    pub kind: KindName,
+    pub task: Task,
+}
+
+/// The load that a line of words names: `FORM KIND WORK BYTES COUNT`, or `threads KIND PUSHERS POPPERS COUNT`.
+pub fn parse_load(line: &str) -> Option<Load>
+    ensures { IfSome result (λ load. IsKindName load.kind) }
+{
+    let mut words = line.split(' ');
+    let form = words.next()?;
+    let kind = parse_kind(words.next()?)?;
+    let first = words.next()?;
+    let second = words.next()?;
+    let count = words.next()?.parse().ok()?;
+    if words.next().is_some() {
+        return None;
+    }
+    let task = match form {
+        "threads" => Task::Threads(Crew {
+            pushers: first.parse().ok()?,
+            poppers: second.parse().ok()?,
+            count,
+        }),
+        _ => Task::Pairs(Pairs {
+            form: parse_form(form)?,
+            work: parse_work(first)?,
+            size: parse_size(second)?,
+            count,
+        }),
+    };
+    Some(Load { kind, task })
+}
+
+// The form that this word names.
+fn parse_form(word: &str) -> Option<Form> {
+    match word {
+        "owned" => Some(Form::Owned),
+        "alone" => Some(Form::Alone),
+        "ended" => Some(Form::Ended),
+        _ => None,
+    }
+}
+
+// The work that this word names: `behind:ITEMS` or `batch:ITEMS`.
+fn parse_work(word: &str) -> Option<Work> {
+    let (order, items) = word.split_once(':')?;
+    let items = items.parse().ok()?;
+    match order {
+        "behind" => Some(Work::Behind(items)),
+        "batch" => Some(Work::Batch(items)),
+        _ => None,
+    }
+}
+
+// The size that this number of bytes names.
+fn parse_size(word: &str) -> Option<Size> {
+    match word {
+        "8" => Some(Size::Bytes8),
+        "64" => Some(Size::Bytes64),
+        _ => None,
+    }
+}

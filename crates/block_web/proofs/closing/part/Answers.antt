@@ -1,5 +1,0 @@
-use Rattle.block_web.proofs.Closings.{parts}
-use Rattle.block_web.proofs.closing.part.Goals as goal
-
-pub split-requires : goal.split-requires
-split-requires g c = (c.requires.0, c.requires.1, parts _ _ c.args.seat.now.sitter _ c.requires.2)

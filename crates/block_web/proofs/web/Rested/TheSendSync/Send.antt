@@ -1,7 +1,0 @@
-use denote.RattleType.{RattleType}
-use denote.Param.Send.{IsSend}
-use Rattle.block_web.specs.contracts.web.Rested.{the_row}
-use Rattle.block_web.proofs.Sent.{rested_sent}
-
-pub send : (V : RattleType) → IsSend (the_row V)
-send V = record { owned = λ r vs. ((λ vss. (tt, ((λ uss. (tt, tt)), tt))), rested_sent V.coded.code r.web r.id r.asleep r.view); leaving = λ k x vs. tt }

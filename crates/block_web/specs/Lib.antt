@@ -1,6 +1,0 @@
-pub mod Web
-pub mod Laid
-pub mod Line
-pub mod Seats
-pub mod Words
-pub mod Links

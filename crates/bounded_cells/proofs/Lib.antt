@@ -1,4 +1,0 @@
-pub mod Slots
-pub mod Openings
-pub mod RingWrites
-pub mod Sent

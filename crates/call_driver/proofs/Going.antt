@@ -1,0 +1,89 @@
+-- How a call that is on its way goes on.
+use Rattle.std.proofs.Common.{◌≡◌, ℕ, zero, suc, ◌+◌, ◌-◌, ◌<◌, Option, Some, refl, arith, sym, ap, subst, ◌∙◌}
+use Rattle.std.specs.Prelude.{IsSome}
+use Rattle.queue_steps.specs.declared.sizes.TheConstants.{SOLO_STEPS, WAIT_FREE_STEPS}
+use Rattle.queue_steps.specs.declared.model.Call.{Call}
+use Rattle.queue_steps.specs.declared.model.Reply.{Reply}
+use Rattle.queue_steps.specs.declared.steps.types.Kind.{Kind}
+use Rattle.queue_steps.specs.declared.steps.types.Answer.{Answer}
+use Rattle.queue_steps.specs.declared.steps.types.Answer.TheVariants as answer
+use Rattle.queue_steps.specs.declared.steps.types.Next.{Next}
+use Rattle.queue_steps.specs.declared.steps.types.Next.TheVariants as next
+use Rattle.queue_steps.specs.declared.steps.types.Op.{Op}
+use Rattle.queue_steps.specs.declared.steps.types.Touch.{Touch}
+use Rattle.queue_steps.specs.declared.steps.types.Local.{Local}
+use Rattle.queue_steps.specs.Next.{CanNext, next_of, first_local}
+use Rattle.queue_steps.specs.Kinds.{call_kind, call_value, filled}
+use Rattle.queue_steps.specs.WaitFree.{EndsBefore, EndsWaitFree}
+use Rattle.call_driver.specs.Leads.{MayGive, Gave, Leads, GoesOn, Begins}
+use Rattle.call_driver.specs.OnWay.{IsOf, OnWay, Before, Stood}
+use Rattle.call_driver.specs.declared.site.Site.{Ghosts}
+use Rattle.call_driver.specs.declared.progress.Progress.{Progress}
+
+module _ {T B S M K : Type 0} (m : Ghosts M T B S K) where
+  -- wherever a call stands, it leads on
+  abbrev pub GoesOnFrom : Type 0
+  GoesOnFrom = (n : ℕ) (site : M) (first : S) (c : Call T) (l : Local B) (a : Answer B) (s : S) (x : Option T) → m.stands (suc n) site first c l a s x
+      → GoesOn m.can m.does m.spares m.gives m.stands m.ended n (m.kind_of site first) site first c l a s x
+
+  -- a call that has taken a step is on its way
+  pub ahead : GoesOnFrom → (n : ℕ) (k : Kind) (call : Call Unit) (site : M) (first : S) (c : Call T) (p : Progress B) (x : Option T) (seat : S)
+      → Stood m (suc n) k call site first c p x seat → OnWay m n k call site first c p x seat
+  ahead goes n k call site first c p x seat h =
+      let OfKind : Kind → Type 0 = λ z. GoesOn m.can m.does m.spares m.gives m.stands m.ended n z site first c p.local p.answer seat x in
+      (h.0, subst OfKind (sym h.0.0) (goes n site first c p.local p.answer seat x h.1))
+
+  -- a call that has taken a step is on its way, and ends no later than it did
+  pub again : GoesOnFrom → ((n : ℕ) (site : M) (first : S) (c : Call T) (l : Local B) (a : Answer B) (s : S) (x : Option T) → m.stands n site first c l a s x → m.stands (suc n) site first c l a s x)
+      → (n : ℕ) (k : Kind) (call : Call Unit) (site : M) (first : S) (c : Call T) (p : Progress B) (x : Option T) (seat : S)
+      → Stood m n k call site first c p x seat → OnWay m n k call site first c p x seat
+  again goes more n k call site first c p x seat h = ahead goes n k call site first c p x seat (h.0, more n site first c p.local p.answer seat x h.1)
+
+  -- it ends before n steps more, if no call ends before none
+  pub before : GoesOnFrom → ((site : M) (first : S) (c : Call T) (l : Local B) (a : Answer B) (s : S) (x : Option T) → m.stands zero site first c l a s x → ⊥)
+      → (n : ℕ) (k : Kind) (call : Call Unit) (site : M) (first : S) (c : Call T) (p : Progress B) (x : Option T) (seat : S)
+      → Stood m n k call site first c p x seat → Before m n k call site first c p x seat
+  before goes none zero k call site first c p x seat h = none site first c p.local p.answer seat x h.1
+  before goes none (suc n) k call site first c p x seat h = ahead goes n k call site first c p x seat h
+
+  -- a call that begins
+  pub first-step : (k : Kind) (call : Call Unit) (site : M) (seat : S) (c : Call T) (local : Local B) (n : ℕ)
+      → k ≡ m.kind_of site seat → local ≡ first_local call → call ≡ call_kind c → suc n ≡ SOLO_STEPS
+      → Begins m.can m.does m.spares m.gives m.stands m.ended (m.kind_of site seat) site seat c
+      → OnWay m n k call site seat c (record { local = local; answer = answer.Start }) (call_value c) seat
+  first-step k call site seat c local n is_kind is_local is_call all h =
+      let On : Kind → Local B → Type 0 = λ z l. GoesOn m.can m.does m.spares m.gives m.stands m.ended n z site seat c l answer.Start seat (call_value c) in
+      let same : local ≡ first_local (call_kind c) = is_local ∙ ap first_local is_call in
+      ((is_kind, is_call), subst (λ l. On k l) (sym same) (subst (λ z. On z (first_local (call_kind c))) (sym is_kind) (h n all)))
+
+  -- a step of a call that is on its way
+  pub step : (n : ℕ) (k : Kind) (call : Call Unit) (site : M) (first : S) (c : Call T) (from : Local B) (found : Answer B) {made : Next B} (l : Local B) (t : Touch) (o : Op B) (s : S) (x : Option T)
+      → made ≡ next_of k from found → made ≡ next.Step l t o → OnWay m n k call site first c (record { local = from; answer = found }) x s
+      → m.can site s call l t o x × ((a : Answer B) (after : S) (left : Option T) → m.does site s call l t o x a after left → Stood m n k call site first c (record { local = l; answer = a }) left after)
+  step n k call site first c from found l t o s x made is h =
+      let on = subst (λ (z : Next B). Leads m.can m.does m.spares m.gives m.stands m.ended n site first c z s x) (sym made ∙ is) h.1.1 in (
+        subst (λ (z : Call Unit). m.can site s z l t o x) (sym h.0.1) on.0,
+        λ a after left did. (h.0, on.1 a after left (subst (λ (z : Call Unit). m.does site s z l t o x a after left) h.0.1 did)),
+      )
+
+  -- the reply of a call that is on its way
+  pub replies : (n : ℕ) (k : Kind) (call : Call Unit) (site : M) (first : S) (c : Call T) (from : Local B) (found : Answer B) {made : Next B} (r : Reply Unit) (spare : Option B) (s : S) (x : Option T)
+      → made ≡ next_of k from found → made ≡ next.Reply r spare → OnWay m n k call site first c (record { local = from; answer = found }) x s
+      → MayGive m.spares site s spare × ((after : S) → Gave m.gives site s spare after → (reply : Reply T) × (filled r x ≡ Some reply) × m.ended site first c reply after)
+  replies n k call site first c from found r spare s x made is h = subst (λ (z : Next B). Leads m.can m.does m.spares m.gives m.stands m.ended n site first c z s x) (sym made ∙ is) h.1.1
+
+-- a wait-free call has a step less to go
+pub ends-step : {B : Type 0} (n : ℕ) (k : Kind) (from : Local B) (found : Answer B) {made : Next B} (l : Local B) (t : Touch) (o : Op B) (a : Answer B) → n < WAIT_FREE_STEPS + 1 → made ≡ next_of k from found → made ≡ next.Step l t o
+    → EndsBefore (WAIT_FREE_STEPS + 1 - n) k (next_of k from found) → CanNext k l a → EndsBefore (WAIT_FREE_STEPS + 1 - (n + 1)) k (next_of k l a)
+ends-step n k from found l t o a below made is h can =
+    let e : WAIT_FREE_STEPS + 1 - n ≡ suc (WAIT_FREE_STEPS + 1 - (n + 1)) = omega arith in
+    let h' : EndsBefore (suc (WAIT_FREE_STEPS + 1 - (n + 1))) k (next.Step l t o) = rw (sym made ∙ is, e) at h in
+    h' a can
+
+pub ends-first : {B : Type 0} (k kind : Kind) (c : Call Unit) (local : Local B) (part : Call Unit)
+    → k ≡ kind → part ≡ c → local ≡ first_local part → EndsWaitFree B kind c → EndsBefore (WAIT_FREE_STEPS + 1) k (next_of k local answer.Start)
+ends-first {B} k kind c local part is_kind is_part is_local h =
+    let same : local ≡ first_local c = rw (is_local, is_part) refl in
+    let OfLocal : Local B → Type 0 = λ z. EndsBefore (WAIT_FREE_STEPS + 1) k (next_of k z answer.Start) in
+    let OfKind : Kind → Type 0 = λ z. EndsWaitFree B z c in
+    subst OfLocal (sym same) (subst OfKind (sym is_kind) h)

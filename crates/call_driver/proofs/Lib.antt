@@ -1,0 +1,5 @@
+mod Watching
+mod Going
+mod Running
+pub mod Apart
+pub mod LeadsThrough

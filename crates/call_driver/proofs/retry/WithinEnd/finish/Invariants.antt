@@ -1,0 +1,16 @@
+use Rattle.std.proofs.Common.{◌-◌}
+use Rattle.queue_steps.specs.declared.sizes.TheConstants.{SOLO_STEPS}
+use Rattle.queue_steps.specs.declared.model.Call.{Call}
+use Rattle.call_driver.specs.OnWay.{Before}
+use Rattle.call_driver.proofs.retry.WithinEnd.finish.Given as goal
+
+-- the call ends within the steps that are left, whichever it is
+abbrev pub invariant-loop : goal.invariant-loop
+invariant-loop g l =
+    let m = g.M.Site in
+    record {
+      going : (c : Call g.row.T.Denot) × (first : g.row.S.Denot) × Before m (SOLO_STEPS - l.counter) l.kind l.call l.site first c l.progress l.carried l.seat;
+      goes : (c : Call g.row.T.Denot) (first : g.row.S.Denot)
+          → Before m SOLO_STEPS l.kind l.call l.site first c l.initial.progress l.initial.carried l.initial.seat
+          → Before m (SOLO_STEPS - l.counter) l.kind l.call l.site first c l.progress l.carried l.seat;
+    }

@@ -1,0 +1,191 @@
+//! Steps that stand one after another, so that the compiler knows in each where the call stands.
+//!
+//! They are made of types, one inside another, so that each is a function of its own with one place where it is called: there the compiler puts it.
+ghost use Rattle.std.specs.Prelude.{◌≡◌, ℕ};
+ghost use Rattle.call_driver.specs.OnWay.{IsUnderWay, StaysOnWay};
+
+use crate::gate::Gate;
+use crate::progress::Progress;
+use crate::site::Site;
+use crate::steps::{fast_step, passing_step};
+use queue_steps::model::{CallKind, ReplyKind};
+use queue_steps::steps::stages::{
+    ASKING, AWAITING, CHAINING, CLAIMING, ENTERING, FOLLOWING, LAYING, OPENING, PASSING, PEEKING,
+    PUSH_BLOCK, TAKING, is_at,
+};
+use queue_steps::steps::{Kind, KindSteps};
+use std::marker::PhantomData;
+use std::ops::ControlFlow;
+
+/// Steps one after another, until there is a reply or no more of them.
+///
+/// How far the call is is lent to them: if they returned it, each way out of a step would write it to memory.
+pub trait Row<T, B: Copy, S, M: Site<T, B, S>, G: Gate> {
+    fn run(
+        site: &M,
+        gate: &G,
+        kind: Kind,
+        call: CallKind,
+        seat: &mut S,
+        progress: &mut Progress<B>,
+        carried: &mut Option<T>,
+    ) -> ControlFlow<ReplyKind>
+        requires { (n : ℕ) × IsUnderWay M.Site n kind call site.now progress.old carried.old seat.old }
+        ensures { StaysOnWay M.Site kind call site.now progress.old carried.old seat.old progress.new carried.new seat.new result };
+}
+
+/// No more steps. `W` tells the rows of one caller from another's.
+pub struct Rest<W> {
+    told_apart: PhantomData<W>,
+}
+
+impl<T, B: Copy, S, M: Site<T, B, S>, G: Gate, W> Row<T, B, S, M, G> for Rest<W> {
+    #[inline(always)]
+    fn run(
+        site: &M,
+        gate: &G,
+        kind: Kind,
+        call: CallKind,
+        seat: &mut S,
+        progress: &mut Progress<B>,
+        carried: &mut Option<T>,
+    ) -> ControlFlow<ReplyKind>
+        requires { (n : ℕ) × IsUnderWay M.Site n kind call site.now progress.old carried.old seat.old }
+        ensures { StaysOnWay M.Site kind call site.now progress.old carried.old seat.old progress.new carried.new seat.new result }
+    {
+        let _ = site;
+        let _ = gate;
+        let _ = kind;
+        let _ = call;
+        let _ = &*seat;
+        let _ = &*progress;
+        let _ = &*carried;
+        ControlFlow::Continue(())
+    }
+}
+
+/// A common step, and then those of `R`. Any other step ends the row.
+pub struct Fast<R> {
+    rest: PhantomData<R>,
+}
+
+impl<T, B: Copy, S, M: Site<T, B, S>, G: Gate, R: Row<T, B, S, M, G>> Row<T, B, S, M, G>
+    for Fast<R> {
+    #[inline(always)]
+    fn run(
+        site: &M,
+        gate: &G,
+        kind: Kind,
+        call: CallKind,
+        seat: &mut S,
+        progress: &mut Progress<B>,
+        carried: &mut Option<T>,
+    ) -> ControlFlow<ReplyKind>
+        requires { (n : ℕ) × IsUnderWay M.Site n kind call site.now progress.old carried.old seat.old }
+        ensures { StaysOnWay M.Site kind call site.now progress.old carried.old seat.old progress.new carried.new seat.new result }
+    {
+        if !M::Steps::is_common(kind, &progress.local, &progress.answer) {
+            return ControlFlow::Continue(());
+        }
+        let now = Progress {
+            local: progress.local,
+            answer: progress.answer,
+        };
+        match fast_step::<T, B, S, M, G, R>(site, gate, kind, call, seat, now, carried) {
+            ControlFlow::Break(reply) => ControlFlow::Break(reply),
+            ControlFlow::Continue(after) => {
+                *progress = after;
+                R::run(site, gate, kind, call, seat, progress, carried)
+            }
+        }
+    }
+}
+
+/// A step from block to block of a call that stands at `STAGE`, and then those of `R`. Any other step ends the row.
+pub struct At<const STAGE: u64, R> {
+    rest: PhantomData<R>,
+}
+
+impl<T, B: Copy, S, M: Site<T, B, S>, G: Gate, const STAGE: u64, R: Row<T, B, S, M, G>> Row<
+    T,
+    B,
+    S,
+    M,
+    G,
+> for At<STAGE, R> {
+    #[inline(always)]
+    fn run(
+        site: &M,
+        gate: &G,
+        kind: Kind,
+        call: CallKind,
+        seat: &mut S,
+        progress: &mut Progress<B>,
+        carried: &mut Option<T>,
+    ) -> ControlFlow<ReplyKind>
+        requires { (n : ℕ) × IsUnderWay M.Site n kind call site.now progress.old carried.old seat.old }
+        ensures { StaysOnWay M.Site kind call site.now progress.old carried.old seat.old progress.new carried.new seat.new result }
+    {
+        if !is_at(STAGE, &progress.local)
+            || M::Steps::is_common(kind, &progress.local, &progress.answer)
+            || !M::Steps::is_passing(kind, &progress.local, &progress.answer)
+        {
+            return ControlFlow::Continue(());
+        }
+        let now = Progress {
+            local: progress.local,
+            answer: progress.answer,
+        };
+        match passing_step::<T, B, S, M, G, R>(site, gate, kind, call, seat, now, carried) {
+            ControlFlow::Break(reply) => ControlFlow::Break(reply),
+            ControlFlow::Continue(after) => {
+                *progress = after;
+                R::run(site, gate, kind, call, seat, progress, carried)
+            }
+        }
+    }
+}
+
+/// As many common steps as each push takes that finds room, and each pop that finds an item, where no block begins or ends and no other call is met. `W` is the caller's.
+pub type Usual<W> = Fast<Fast<Fast<Fast<Fast<Fast<Fast<Rest<W>>>>>>>>;
+
+/// As many common steps as a call on one slot takes that meets no other call.
+pub type Short<W> = Fast<Fast<Fast<Rest<W>>>>;
+
+/// What tells the steps of a push apart from those of a pop.
+struct Push;
+
+/// The steps of a push that lays a block. The last is a common one.
+type Lays = At<
+    PUSH_BLOCK,
+    At<ASKING, At<CLAIMING, At<LAYING, At<OPENING, At<CHAINING, Fast<Rest<Push>>>>>>>,
+>;
+
+/// The steps of a pop that comes to the next block.
+type Passes = At<
+    TAKING,
+    At<FOLLOWING, At<PEEKING, At<PASSING, At<ENTERING, At<AWAITING, Rest<()>>>>>>,
+>;
+
+/// The steps of a call that comes to a block's end. The compiler knows in those of each arm where the call stands.
+#[inline(always)]
+pub(crate) fn pass_block_end<T, B: Copy, S, M: Site<T, B, S>, G: Gate>(
+    site: &M,
+    gate: &G,
+    kind: Kind,
+    call: CallKind,
+    seat: &mut S,
+    progress: &mut Progress<B>,
+    carried: &mut Option<T>,
+) -> ControlFlow<ReplyKind>
+    requires { (n : ℕ) × IsUnderWay M.Site n kind call site.now progress.old carried.old seat.old }
+    ensures { StaysOnWay M.Site kind call site.now progress.old carried.old seat.old progress.new carried.new seat.new result }
+{
+    if is_at(PUSH_BLOCK, &progress.local) {
+        <Lays as Row<T, B, S, M, G>>::run(site, gate, kind, call, seat, progress, carried)
+    } else if is_at(TAKING, &progress.local) {
+        <Passes as Row<T, B, S, M, G>>::run(site, gate, kind, call, seat, progress, carried)
+    } else {
+        ControlFlow::Continue(())
+    }
+}

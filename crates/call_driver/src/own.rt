@@ -1,0 +1,141 @@
+//! Calls of one owner, whose cells are done with alone.
+ghost use Rattle.std.specs.Prelude.{◌≡◌};
+ghost use Rattle.queue_steps.specs.Sequential.{Sequential};
+ghost use Rattle.queue_steps.specs.Looks.{IsLook, look_reply};
+ghost use Rattle.call_driver.specs.Apart.{FitsCall, SequentialApart};
+ghost use Rattle.call_driver.specs.Own.{MayTake, Took};
+
+use crate::cells::OwnCells;
+use crate::driver::{drive as drive_at, drive_in_loop as drive_in_loop_at};
+use crate::fast::Usual;
+use crate::gate::Open;
+use crate::retry::Within;
+use crate::site::{Site, SoloSite};
+use queue_steps::model::{Call, CallKind, Reply, ReplyKind};
+use queue_steps::sizes::SOLO_STEPS;
+use queue_steps::steps::{self, Answer, Kind, KindSteps, Local, Next, Op, Touch};
+
+/// One owner. What the steps of its calls are done with is the cells themselves.
+pub struct Own;
+
+impl<T, B: Copy, C: OwnCells<T, B>> Site<T, B, C> for Own {
+    type Steps = C::Steps;
+
+    ghost use Rattle.call_driver.specs.Own.{Stands, Ended};
+    ghost use Rattle.call_driver.specs.Laws.OwnLeads.{own_begins, own_goes_on, own_more};
+
+    ghost kind_of = { λ _ cells. C.kind_of cells };
+
+    ghost rests = { λ _ cells. C.idle cells };
+
+    ghost can = { λ _ cells _ _ t o x. MayTake C.can_touch C.touches C.can_perform C.performs cells t o x };
+
+    ghost does = { λ _ cells _ _ t o x a after left. Took C.can_touch C.touches C.can_perform C.performs cells t o x a after left };
+
+    ghost spares = { λ _ cells block. C.can_release cells block };
+
+    ghost gives = { λ _ cells block after. C.releases cells block after };
+
+    ghost stands = { λ n _ first c l a cells x. Stands C.can_touch C.touches C.can_perform C.performs C.can_release C.releases C.idle C.owned C.kind_of n first c l a cells x };
+
+    ghost ended = { λ _ first c reply after. Ended C.idle C.owned first c reply after };
+
+    ghost steps_fit = { λ _ cells. C.steps_fit cells };
+
+    ghost begins = { λ site cells c rests. own_begins C.can_touch C.touches C.can_perform C.performs C.can_release C.releases C.idle C.owned C.kind_of site cells c (C.answers cells c rests) };
+
+    ghost goes_on = { own_goes_on C.can_touch C.touches C.can_perform C.performs C.can_release C.releases C.idle C.owned C.kind_of };
+
+    ghost more = { own_more C.can_touch C.touches C.can_perform C.performs C.can_release C.releases C.idle C.owned C.kind_of };
+
+    #[inline(always)]
+    fn kind(&self, cells: &C) -> Kind {
+        cells.kind()
+    }
+
+    #[inline(always)]
+    fn take_step(
+        &self,
+        cells: &mut C,
+        call: &CallKind,
+        local: &Local<B>,
+        touch: Touch,
+        op: Op<B>,
+        carried: &mut Option<T>,
+    ) -> Answer<B>
+        requires { MayTake C.can_touch C.touches C.can_perform C.performs cells.old touch op carried.old }
+        ensures { Took C.can_touch C.touches C.can_perform C.performs cells.old touch op carried.old result cells.new carried.new }
+    {
+        let _ = call;
+        let _ = local;
+        cells.touch(touch, &op, carried);
+        cells.perform(op)
+    }
+
+    #[inline(always)]
+    fn give_up(&self, cells: &mut C, block: B) {
+        cells.release(block);
+    }
+}
+
+impl<T, B: Copy, C: OwnCells<T, B>> SoloSite<T, B, C> for Own {
+    ghost ends = { λ _ first c l a cells x stands. stands.1 };
+}
+
+/// Runs a call to its end, which comes within the steps that a solo call takes at most. `W` tells a caller's calls apart, so that each has steps of its own.
+///
+/// The place of the value that the call carries is lent, and then holds what it ends with: as a part of the reply it would be copied at each way out of a step.
+#[inline(always)]
+pub fn drive<T, B: Copy, C: OwnCells<T, B>, W>(
+    cells: &mut C,
+    call: CallKind,
+    carried: &mut Option<T>,
+) -> ReplyKind
+    requires idle { C.idle cells.old }
+    requires whole { FitsCall call carried.old }
+    ensures idle { C.idle cells.new }
+    ensures sequential { SequentialApart (C.owned cells.old) call carried.old result carried.new (C.owned cells.new) }
+{
+    drive_at::<T, B, C, Own, Open, Within, Usual<W>>(&Own, &Open, &Within, cells, call, carried)
+}
+
+/// Runs a call to its end, in the loop alone.
+pub fn drive_in_loop<T, B: Copy, C: OwnCells<T, B>>(cells: &mut C, call: Call<T>) -> Reply<T>
+    requires { C.idle cells.old }
+    ensures idle { C.idle cells.new }
+    ensures sequential { Sequential (C.owned cells.old) call result (C.owned cells.new) }
+{
+    let (call, mut carried) = call.split();
+    let reply = drive_in_loop_at::<T, B, C, Own, Open, Within>(
+        &Own,
+        &Open,
+        &Within,
+        cells,
+        call,
+        &mut carried,
+    );
+    Reply::fill(reply, carried)
+}
+
+/// Runs a call that changes nothing to its end.
+#[inline(always)]
+pub fn observe<T, B: Copy, C: OwnCells<T, B>>(cells: &C, call: CallKind) -> ReplyKind
+    requires idle { C.idle cells.now }
+    requires look { IsLook call }
+    ensures { result ≡ look_reply (C.owned cells.now).queue call }
+{
+    let kind = cells.kind();
+    let mut local: Local<B> = steps::start(kind, call);
+    let mut answer: Answer<B> = Answer::Start;
+    for _ in 0..SOLO_STEPS {
+        let todo = C::Steps::next(kind, local, answer);
+        match todo {
+            Next::Reply(reply, _) => return reply,
+            Next::Step(after, _, op) => {
+                answer = cells.look(&op);
+                local = after;
+            }
+        }
+    }
+    unreachable!()
+}

@@ -1,5 +1,0 @@
-use Rattle.std.proofs.Common.{rules, tests}
-use Rattle.chain_web.proofs.web.ChainWeb.link.Goals as goal
-
-pub returns-in-HeadBlock : goal.returns-in-HeadBlock
-returns-in-HeadBlock g c = search (rules, tests)

@@ -1,6 +1,0 @@
-use Rattle.chain_web.specs.Turning.{call_at}
-use Rattle.chain_web.proofs.web.ChainWeb.turn.Given as goal
-
--- the call whose step is done
-abbrev pub ghosts-operate : goal.ghosts-operate
-ghosts-operate g a = record { call = call_at a.seat.now.sitter a.call.now a.local.now a.touched a.op a.left.now }

@@ -1,5 +1,0 @@
-use Rattle.std.proofs.Common.{rules, tests}
-use Rattle.chain_web.proofs.web.ChainWeb.word.Goals as goal
-
-pub returns-in-Head : goal.returns-in-Head
-returns-in-Head g c = search (rules, tests)

@@ -1,5 +1,0 @@
-use Rattle.std.proofs.Common.{rules, tests}
-use Rattle.chain_web.proofs.web.is_set_once.Goals as goal
-
-pub returns-in_default : goal.returns-in_default
-returns-in_default g c = search (rules, tests)

@@ -1,0 +1,4 @@
+pub mod Effects
+pub mod Moments
+pub mod Pushes
+pub mod Puts

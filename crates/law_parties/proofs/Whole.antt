@@ -1,0 +1,65 @@
+-- What a party has done to whom every place of the history belongs: all that was ever done.
+use Rattle.std.proofs.Common.{◌≡◌, ℕ, ◌+◌, Bool, cond, Option, None, List, [], ◌∷◌, ◌++◌, length, ◌==◌, refl, ap, sym, ◌∙◌, arith}
+use Rattle.std.specs.List.{count_by}
+use Rattle.std.proofs.lemmas.List.Sums.{sum_by-cons, sum_by-append}
+use lib.ListN.{get_elem?}
+use Rattle.queue_steps.specs.declared.model.Effect.{Effect}
+use Rattle.queue_steps.specs.declared.model.Effect.TheVariants as effect
+use Rattle.queue_steps.specs.Effect.{after, with_coming}
+use Rattle.queue_steps.specs.Parties.{View, IsView, IsWhole}
+use Rattle.law_histories.specs.Histories.{handed_in, handed_out}
+use Rattle.law_histories.proofs.Keeping.{keeps_all}
+use Rattle.law_histories.proofs.Numbers.{sum_below, sum_covering, sum_first}
+use Rattle.law_parties.specs.Doings.{passes, done_by, hands_in, hands_out}
+
+module _ {T : Type 0} where
+  -- over all places of a history
+  at_all : (test : Effect T → Bool) (es : List (Effect T)) → sum_below (λ p. cond (passes test (get_elem? es p)) 1 0) (length es) ≡ count_by test es
+  at_all test [] = refl
+  at_all test (e ∷ es) =
+      let first = sum_first (λ p. cond (passes test (get_elem? (e ∷ es) p)) 1 0) (length es) in
+      let others = at_all test es in
+      let all = sum_by-cons (λ f. cond (test f) 1 0) e es in omega (arith, first, others, all)
+
+  pub done_by_whole : (test : Effect T → Bool) (cap : Option ℕ) (v : View T) → IsView cap v → IsWhole v → done_by test v ≡ count_by test v.seen
+  done_by_whole test cap v is whole = sum_covering (λ p. cond (passes test (get_elem? v.seen p)) 1 0) (length v.seen) v.mine is.inside is.once whole ∙ at_all test v.seen
+
+one_more : (b : Bool) (n m : ℕ) → n ≡ m → cond b 1 0 + n ≡ cond b 1 0 + m
+one_more b n m e = ap (λ k. cond b 1 0 + k) e
+
+none_more : (n m : ℕ) → n ≡ m → 0 + n ≡ m
+none_more n m e = omega arith
+
+-- how often a number was handed in, and handed out
+ins : (x : ℕ) (es : List (Effect ℕ)) → count_by (hands_in x) es ≡ count_by (λ y. y == x) (handed_in es)
+ins x [] = refl
+ins x (effect.Append v ∷ es) = sum_by-cons (λ e. cond (hands_in x e) 1 0) (effect.Append v) es ∙ (one_more (v == x) _ _ (ins x es) ∙ sym (sum_by-cons (λ y. cond (y == x) 1 0) v (handed_in es)))
+ins x (effect.Take v ∷ es) = sum_by-cons (λ e. cond (hands_in x e) 1 0) (effect.Take v) es ∙ none_more (count_by (hands_in x) es) (count_by (λ y. y == x) (handed_in es)) (ins x es)
+ins x (effect.Replace old v ∷ es) = sum_by-cons (λ e. cond (hands_in x e) 1 0) (effect.Replace old v) es ∙ (one_more (v == x) _ _ (ins x es) ∙ sym (sum_by-cons (λ y. cond (y == x) 1 0) v (handed_in es)))
+ins x (effect.Front old v ∷ es) = sum_by-cons (λ e. cond (hands_in x e) 1 0) (effect.Front old v) es ∙ (one_more (v == x) _ _ (ins x es) ∙ sym (sum_by-cons (λ y. cond (y == x) 1 0) v (handed_in es)))
+ins x (effect.Arrive ∷ es) = sum_by-cons (λ e. cond (hands_in x e) 1 0) effect.Arrive es ∙ none_more (count_by (hands_in x) es) (count_by (λ y. y == x) (handed_in es)) (ins x es)
+ins x (effect.Close ∷ es) = sum_by-cons (λ e. cond (hands_in x e) 1 0) effect.Close es ∙ none_more (count_by (hands_in x) es) (count_by (λ y. y == x) (handed_in es)) (ins x es)
+ins x (effect.SelfClose ∷ es) = sum_by-cons (λ e. cond (hands_in x e) 1 0) effect.SelfClose es ∙ none_more (count_by (hands_in x) es) (count_by (λ y. y == x) (handed_in es)) (ins x es)
+
+outs : (x : ℕ) (es : List (Effect ℕ)) → count_by (hands_out x) es ≡ count_by (λ y. y == x) (handed_out es)
+outs x [] = refl
+outs x (effect.Append v ∷ es) = sum_by-cons (λ e. cond (hands_out x e) 1 0) (effect.Append v) es ∙ none_more (count_by (hands_out x) es) (count_by (λ y. y == x) (handed_out es)) (outs x es)
+outs x (effect.Take v ∷ es) = sum_by-cons (λ e. cond (hands_out x e) 1 0) (effect.Take v) es ∙ (one_more (v == x) _ _ (outs x es) ∙ sym (sum_by-cons (λ y. cond (y == x) 1 0) v (handed_out es)))
+outs x (effect.Replace old v ∷ es) = sum_by-cons (λ e. cond (hands_out x e) 1 0) (effect.Replace old v) es ∙ (one_more (old == x) _ _ (outs x es) ∙ sym (sum_by-cons (λ y. cond (y == x) 1 0) old (handed_out es)))
+outs x (effect.Front old v ∷ es) = sum_by-cons (λ e. cond (hands_out x e) 1 0) (effect.Front old v) es ∙ (one_more (old == x) _ _ (outs x es) ∙ sym (sum_by-cons (λ y. cond (y == x) 1 0) old (handed_out es)))
+outs x (effect.Arrive ∷ es) = sum_by-cons (λ e. cond (hands_out x e) 1 0) effect.Arrive es ∙ none_more (count_by (hands_out x) es) (count_by (λ y. y == x) (handed_out es)) (outs x es)
+outs x (effect.Close ∷ es) = sum_by-cons (λ e. cond (hands_out x e) 1 0) effect.Close es ∙ none_more (count_by (hands_out x) es) (count_by (λ y. y == x) (handed_out es)) (outs x es)
+outs x (effect.SelfClose ∷ es) = sum_by-cons (λ e. cond (hands_out x e) 1 0) effect.SelfClose es ∙ none_more (count_by (hands_out x) es) (count_by (λ y. y == x) (handed_out es)) (outs x es)
+
+-- as often as a whole party handed a number in, it handed it out, or it is left
+pub all_there : (cap : Option ℕ) (v : View ℕ) (x : ℕ) → IsView cap v → IsWhole v → (after cap v.seen).coming ≡ None
+    → done_by (hands_in x) v ≡ done_by (hands_out x) v + count_by (λ y. y == x) (after cap v.seen).items
+all_there cap v x is whole none =
+    let law = (keeps_all cap v.seen is.legal).0 in
+    let items : with_coming (after cap v.seen).items (after cap v.seen).coming ≡ (after cap v.seen).items = ap (with_coming (after cap v.seen).items) none in
+    let lists : handed_in v.seen ≡ handed_out v.seen ++ (after cap v.seen).items = law ∙ ap (λ (l : List ℕ). handed_out v.seen ++ l) items in
+    let sums : count_by (λ y. y == x) (handed_in v.seen) ≡ count_by (λ y. y == x) (handed_out v.seen) + count_by (λ y. y == x) (after cap v.seen).items =
+    ap (count_by (λ y. y == x)) lists ∙ sum_by-append (λ y. cond (y == x) 1 0) (handed_out v.seen) (after cap v.seen).items in
+    let came = done_by_whole (hands_in x) cap v is whole ∙ ins x v.seen in
+    let went = done_by_whole (hands_out x) cap v is whole ∙ outs x v.seen in
+    came ∙ (sums ∙ ap (λ k. k + count_by (λ y. y == x) (after cap v.seen).items) (sym went))

@@ -1,0 +1,7 @@
+pub mod RingShared
+pub mod RingCells
+pub mod RingWords
+pub mod RingPasses
+pub mod RingAt
+pub mod RingOpening
+pub mod RingTransitions

@@ -1,0 +1,4 @@
+pub mod SlotSteps
+pub mod SlotRanks
+pub mod SlotHolder
+pub mod SlotCells

@@ -1,0 +1,4 @@
+pub mod SlotShared
+pub mod SlotHolder
+pub mod SlotRows
+pub mod SlotCells

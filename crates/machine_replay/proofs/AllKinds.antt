@@ -1,0 +1,148 @@
+-- Every kind of queue that the machine has keeps the laws, and so every run of it conforms.
+use Rattle.std.proofs.Common.{ℕ, ◌+◌, ◌≤◌, ◌≡◌, Bool, nat_lt, false, is_none, if◌then◌else◌, List, [], ◌∷◌, ◌++◌, length, refl, arith, ◌∙◌, ap, sym, subst}
+use Rattle.queue_steps.specs.declared.model.Call.{Call}
+use Rattle.queue_steps.specs.declared.model.Call.TheVariants as call
+use Rattle.queue_steps.specs.declared.steps.types.Kind.{Kind}
+use Rattle.queue_steps.specs.declared.steps.types.Kind.TheVariants as kind
+use Rattle.queue_steps.specs.Words.{IsRing}
+use Rattle.machine_replay.specs.declared.machine.Running.{Running}
+use Rattle.machine_replay.specs.declared.types.Event.{Event}
+use Rattle.machine_replay.specs.declared.types.Event.TheVariants.{Begin, Step}
+use Rattle.machine_replay.specs.declared.types.Told.{Told}
+use Rattle.machine_replay.specs.Book.{opening}
+use Rattle.machine_replay.specs.SharedMemory.{Shared, CanStart}
+use Rattle.machine_replay.specs.Conforms.{capacity_of}
+use Rattle.machine_replay.specs.Left.{left_of, opening_world, HasSlot}
+use Rattle.machine_replay.specs.Replays.{CanReplay, is_too_large}
+use Rattle.machine_replay.specs.declared.types.Peak.{Peak}
+use Rattle.machine_replay.specs.Machine.{event_of, CanHandle, Handles, Passes, Plays}
+use Rattle.machine_replay.specs.Peaks.{opening_peak, peaked}
+use Rattle.machine_replay.specs.World.{World, call_at}
+use Rattle.machine_replay.proofs.KindLaws.{KindLaws}
+use Rattle.machine_replay.proofs.SingleLeft.{single_laws}
+use Rattle.machine_replay.proofs.RingKind.{ring_laws}
+use Rattle.machine_replay.proofs.ChainKind.{chain_laws}
+use Rattle.queue_steps.specs.declared.sizes.TheConstants.{MAX_CAPACITY}
+use Rattle.std.proofs.lemmas.Bool.{ltb-false}
+use Rattle.machine_replay.proofs.Peaking.{Run-length, peaked-if}
+use Rattle.machine_replay.proofs.Presence.{Sparing, event-sparing}
+use Rattle.machine_replay.proofs.SoFar.{SoFar, so_far-first, so_far-more, so_far-can, so_far-grows, so_far-none, so_far-room}
+
+-- the machine has queues of this kind
+abbrev pub HasMachine : Kind → Type 0
+HasMachine kind.Single = Unit {0}
+HasMachine (kind.Bounded n) = IsRing n
+HasMachine kind.Unbounded = Unit {0}
+
+pub laws_of : (T : Type 0) (k : Kind) → HasMachine k → KindLaws T k
+laws_of T kind.Single has = single_laws T
+laws_of T (kind.Bounded n) has = ring_laws T n has
+laws_of T kind.Unbounded has = chain_laws T
+
+-- every call can begin
+can_start : {T : Type 0} (k : Kind) → HasMachine k → (c : Call T) → CanStart k c
+can_start kind.Single has (call.Push v) = record { goes_on = tt; replies = tt }
+can_start kind.Single has (call.ForcePush v) = record { goes_on = tt; replies = tt }
+can_start kind.Single has call.Pop = record { goes_on = tt; replies = tt }
+can_start kind.Single has call.Close = record { goes_on = tt; replies = tt }
+can_start kind.Single has call.IsClosed = record { goes_on = tt; replies = tt }
+can_start kind.Single has call.IsEmpty = record { goes_on = tt; replies = tt }
+can_start kind.Single has call.IsFull = record { goes_on = tt; replies = tt }
+can_start kind.Single has call.Len = record { goes_on = tt; replies = tt }
+can_start kind.Single has call.Capacity = record { goes_on = tt; replies = refl }
+can_start (kind.Bounded n) has (call.Push v) = record { goes_on = has; replies = tt }
+can_start (kind.Bounded n) has (call.ForcePush v) = record { goes_on = has; replies = tt }
+can_start (kind.Bounded n) has call.Pop = record { goes_on = has; replies = tt }
+can_start (kind.Bounded n) has call.Close = record { goes_on = has; replies = tt }
+can_start (kind.Bounded n) has call.IsClosed = record { goes_on = has; replies = tt }
+can_start (kind.Bounded n) has call.IsEmpty = record { goes_on = has; replies = tt }
+can_start (kind.Bounded n) has call.IsFull = record { goes_on = has; replies = tt }
+can_start (kind.Bounded n) has call.Len = record { goes_on = has; replies = tt }
+can_start (kind.Bounded n) has call.Capacity = record { goes_on = has; replies = refl }
+can_start kind.Unbounded has (call.Push v) = record { goes_on = tt; replies = tt }
+can_start kind.Unbounded has (call.ForcePush v) = record { goes_on = tt; replies = tt }
+can_start kind.Unbounded has call.Pop = record { goes_on = tt; replies = tt }
+can_start kind.Unbounded has call.Close = record { goes_on = tt; replies = tt }
+can_start kind.Unbounded has call.IsClosed = record { goes_on = tt; replies = tt }
+can_start kind.Unbounded has call.IsEmpty = record { goes_on = tt; replies = tt }
+can_start kind.Unbounded has call.IsFull = record { goes_on = tt; replies = refl }
+can_start kind.Unbounded has call.Len = record { goes_on = tt; replies = tt }
+can_start kind.Unbounded has call.Capacity = record { goes_on = tt; replies = refl }
+
+-- what is known after these events, of a queue of any kind
+pub record Known {T : Type 0} (k : Kind) (parties : ℕ) (past : List (Event T)) (told : List (Told T)) (w : World (Shared T) (Running T)) (peak : Peak) : Type 0 where
+  pub has : HasMachine k
+  pub so_far : SoFar (laws_of T k has) parties past told w peak
+
+pub known-first : {T : Type 0} (k : Kind) (parties : ℕ) → HasMachine k → Known {T = T} k parties [] [] (opening_world k parties) opening_peak
+known-first {T} k parties has = record { has = has; so_far = so_far-first (laws_of T k has) parties }
+
+-- any event can be handled
+pub known-can : {T : Type 0} (k : Kind) (parties : ℕ) (past : List (Event T)) (told : List (Told T)) (w : World (Shared T) (Running T)) (peak : Peak) → Known k parties past told w peak → (e : Event T) → CanHandle k w e
+known-can {T} k parties past told w peak known (Begin p c) = can_start k known.has c
+known-can {T} k parties past told w peak known (Step p granted) = λ ok. so_far-can (laws_of T k known.has) parties past told w peak known.so_far ok p
+
+-- the peak after one event more, as a loop finds it: where no number of a block was given out, it stays
+pub known-peak : {T : Type 0} (k : Kind) (parties : ℕ) (past : List (Event T)) (told : List (Told T)) (w w' : World (Shared T) (Running T)) (peak : Peak) (e : Event T) (t : Told T) (n n' : ℕ)
+    → Known k parties past told w peak → Handles k w e w' t → n ≡ length w.shared.blocks → n' ≡ length w'.shared.blocks
+    → (if nat_lt n n' then peaked w' peak else peak) ≡ peaked w' peak
+known-peak k parties past told w w' peak e t n n' known handles en en' =
+    peaked-if w w' peak n n' en en' (subst (λ v. Sparing w.shared.blocks v.shared.blocks) (sym handles.world) (event-sparing k handles.ok w e)) known.so_far.covers
+
+-- after one event more, where the allocator granted what was asked for or not
+pub known-more : {T : Type 0} (k : Kind) (parties : ℕ) (past : List (Event T)) (told : List (Told T)) (w : World (Shared T) (Running T)) (peak : Peak) (ok : Bool) (e : Event T)
+    → Known k parties past told w peak → Known k parties (past ++ e ∷ []) (told ++ (event_of k ok w e).1 ∷ []) (event_of k ok w e).0 (peaked (event_of k ok w e).0 peak)
+known-more {T} k parties past told w peak ok e known = record { has = known.has; so_far = so_far-more (laws_of T k known.has) parties past told w peak ok e known.so_far }
+
+-- what is left is no more than the events, and an event leaves one more at most
+pub known-room : {T : Type 0} (k : Kind) (parties : ℕ) (past : List (Event T)) (told : List (Told T)) (w : World (Shared T) (Running T)) (peak : Peak) → Known k parties past told w peak → length (left_of k w) ≤ length past
+known-room {T} k parties past told w peak known = so_far-room (laws_of T k known.has) parties past told w peak known.so_far
+
+pub known-grows : {T : Type 0} (k : Kind) (parties : ℕ) (past : List (Event T)) (told : List (Told T)) (w : World (Shared T) (Running T)) (peak : Peak) (ok : Bool) (e : Event T)
+    → Known k parties past told w peak → length (left_of k (event_of k ok w e).0) ≤ length (left_of k w) + 1
+known-grows {T} k parties past told w peak ok e known = so_far-grows (laws_of T k known.has) parties past told w peak ok e known.so_far
+
+-- a party is in a call of the book just where it is in one of the machine
+pub known-none : {T : Type 0} (k : Kind) (parties : ℕ) (past : List (Event T)) (told : List (Told T)) (w : World (Shared T) (Running T)) (peak : Peak)
+    → (known : Known k parties past told w peak) → (p : ℕ) → is_none (known.so_far.book.open_call p) ≡ is_none (call_at w p)
+known-none {T} k parties past told w peak known p = so_far-none (laws_of T k known.has) parties past told w peak known.so_far p
+
+-- what was told of each event is one thing
+pub known-length : {T : Type 0} (k : Kind) (parties : ℕ) (past : List (Event T)) (told : List (Told T)) (w : World (Shared T) (Running T)) (peak : Peak) → Known k parties past told w peak → length past ≡ length told
+known-length k parties past told w peak known = Run-length (capacity_of k) parties (opening (capacity_of k)) past told known.so_far.book known.so_far.run
+
+-- the machine has the queue that `replay` is asked for
+pub has_machine : (k : Kind) → CanReplay k → is_too_large k ≡ false → HasMachine k
+has_machine kind.Single can small = tt
+has_machine (kind.Bounded n) can small = (can, ltb-false MAX_CAPACITY n small)
+has_machine kind.Unbounded can small = tt
+
+pub has_slot : (k : Kind) → HasMachine k → HasSlot k
+has_slot kind.Single has = tt
+has_slot (kind.Bounded n) has = let many = has.0 in omega arith
+has_slot kind.Unbounded has = tt
+
+-- the machine comes from its opening by these events, and all is known of it, whatever was told
+pub record InOrder {T : Type 0} (k : Kind) (parties : ℕ) (past : List (Event T)) (w : World (Shared T) (Running T)) : Type 0 where
+  pub told : List (Told T)
+  pub peak : Peak
+  pub known : Known k parties past told w peak
+  pub plays : Plays k (opening_world k parties) past w
+
+pub in_order-first : {T : Type 0} (k : Kind) (parties : ℕ) → HasMachine k → InOrder {T = T} k parties [] (opening_world k parties)
+in_order-first k parties has = record { told = []; peak = opening_peak; known = known-first k parties has; plays = refl }
+
+pub in_order-can : {T : Type 0} (k : Kind) (parties : ℕ) (past : List (Event T)) (w : World (Shared T) (Running T)) → InOrder k parties past w → (e : Event T) → CanHandle k w e
+in_order-can k parties past w s e = known-can k parties past s.told w s.peak s.known e
+
+Plays-more : {T : Type 0} (k : Kind) (w v last : World (Shared T) (Running T)) (es : List (Event T)) (e : Event T) → Plays k w es v → Passes k v e last → Plays k w (es ++ e ∷ []) last
+Plays-more k w v last [] e plays pass = (pass.0, pass.1 ∙ ap (λ z. (event_of k pass.0 z e).0) plays)
+Plays-more k w v last (x ∷ es) e plays pass = (plays.0, Plays-more k (event_of k plays.0 w x).0 v last es e plays.1 pass)
+
+pub in_order-next : {T : Type 0} (k : Kind) (parties : ℕ) (past : List (Event T)) (w w' : World (Shared T) (Running T)) (e : Event T) → InOrder k parties past w → Passes k w e w' → InOrder k parties (past ++ e ∷ []) w'
+in_order-next {T} k parties past w w' e s pass = record {
+  told = s.told ++ (event_of k pass.0 w e).1 ∷ [];
+  peak = peaked w' s.peak;
+  known = subst {A = World (Shared T) (Running T)} (λ v. Known k parties (past ++ e ∷ []) (s.told ++ (event_of k pass.0 w e).1 ∷ []) v (peaked v s.peak)) (sym pass.1) (known-more k parties past s.told w s.peak pass.0 e s.known);
+  plays = Plays-more k (opening_world k parties) w w' past e s.plays pass;
+}

@@ -1,0 +1,34 @@
+-- One turn of each loop that makes the list that is left.
+use Rattle.std.proofs.Common.{◌≡◌, ◌∙◌, ℕ, suc, ◌+◌, ◌-◌, ◌<◌, ◌≤◌, Option, None, List, [], ◌∷◌, ◌++◌, length, get_or, set, refl, sym, ap, arith, append_assoc, length-append}
+use Rattle.std.specs.Option.{option_to_list}
+use Rattle.queue_steps.specs.Words.{slot_at}
+use Rattle.machine_replay.specs.declared.machine.Running.{Running}
+use Rattle.machine_replay.specs.Left.{written_by, settled, gathered}
+
+pub settled-append : {T : Type 0} (xs : List (Option (Running T))) (x : Option (Running T)) (slots : List (Option T)) → settled (xs ++ x ∷ []) slots ≡ written_by x (settled xs slots)
+settled-append [] x slots = refl
+settled-append (y ∷ xs) x slots = settled-append xs x (written_by y slots)
+
+-- the next position is gathered
+pub gathered-turn : {T : Type 0} (n p end : ℕ) (slots : List (Option T)) → p < end
+    → gathered n p (end - p) slots ≡ option_to_list (get_or slots (slot_at n p) None) ++ gathered n (p + 1) (end - (p + 1)) (set slots (slot_at n p) None)
+gathered-turn n p end slots lt =
+    let e : end - p ≡ suc (end - (p + 1)) = omega arith in
+    rw e refl
+
+-- what is gathered so far and what is still to come, after one position more
+pub gathered-next : {T : Type 0} (n p end : ℕ) (slots : List (Option T)) (left all : List T) → p < end → left ++ gathered n p (end - p) slots ≡ all
+    → (left ++ option_to_list (get_or slots (slot_at n p) None)) ++ gathered n (p + 1) (end - (p + 1)) (set slots (slot_at n p) None) ≡ all
+gathered-next n p end slots left all lt e =
+    append_assoc left (option_to_list (get_or slots (slot_at n p) None)) (gathered n (p + 1) (end - (p + 1)) (set slots (slot_at n p) None))
+    ∙ ap (λ l. left ++ l) (sym (gathered-turn n p end slots lt)) ∙ e
+
+-- there is room for it
+pub gathered-room : {T : Type 0} (n p end : ℕ) (slots : List (Option T)) (left all : List T) → p < end → left ++ gathered n p (end - p) slots ≡ all
+    → length left + length (option_to_list (get_or slots (slot_at n p) None)) ≤ length all
+gathered-room n p end slots left all lt e =
+    let f = gathered-next n p end slots left all lt e in
+    let l = length-append (left ++ option_to_list (get_or slots (slot_at n p) None)) (gathered n (p + 1) (end - (p + 1)) (set slots (slot_at n p) None)) in
+    let m = length-append left (option_to_list (get_or slots (slot_at n p) None)) in
+    let k = ap length f in
+    omega (arith, l, m, k)

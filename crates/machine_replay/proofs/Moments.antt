@@ -1,0 +1,28 @@
+-- The moments of a call and the effects that it begins with, for rings and chains alike.
+use Rattle.std.proofs.Common.{suc, ◌≡◌, inl, inr, None, Ok, List, [], ◌∷◌, refl, arith}
+use Rattle.std.specs.List.{Any}
+use Rattle.queue_steps.specs.State.{State}
+use Rattle.queue_steps.specs.declared.model.Reply.TheVariants as reply
+use Rattle.queue_steps.specs.declared.model.Effect.TheVariants as effect
+use Rattle.queue_steps.specs.declared.steps.bounded.PushKind.{PushKind}
+use Rattle.queue_steps.specs.declared.steps.bounded.PushKind.TheVariants as kind
+use Rattle.law_common.specs.Moments as laws
+use Rattle.law_common.specs.Moments.{SeenIn}
+use Rattle.law_common.specs.Pushes.{pushes}
+use Rattle.machine_replay.specs.Book.{IsBegun, seen_by}
+
+-- what was so at some moment is so at one of them
+pub any_in : {A : Type 0} (ms : List (State A)) (P R : State A → Type 0) → ((m : State A) → P m → R m) → SeenIn ms P → Any R ms
+any_in [] P R f seen = absurd seen
+any_in (m ∷ ms) P R f (inl p) = (0, m, omega arith, refl, f m p)
+any_in (m ∷ ms) P R f (inr seen) = let a = any_in ms P R f seen in (suc a.0, a.1, omega arith, a.3, a.4)
+
+-- the moments with one more, in the words of the laws and of the book
+pub same_moments : {A : Type 0} (q : State A) (ms : List (State A)) → laws.seen_by q ms ≡ seen_by q ms
+same_moments q [] = refl
+same_moments q (m ∷ ms) = refl
+
+-- a push has no effect, or has appended
+pub begun_push : {A : Type 0} (d : PushKind) (v : A) → IsBegun (pushes d v) [] × IsBegun (pushes d v) (effect.Append v ∷ [])
+begun_push kind.Push v = ((reply.Push (Ok tt), effect.Append v ∷ [], refl), (reply.Push (Ok tt), [], refl))
+begun_push kind.Force v = ((reply.ForcePush (Ok None), effect.Append v ∷ [], refl), (reply.ForcePush (Ok None), [], refl))

@@ -1,0 +1,61 @@
+-- The machine's word and slot at each step of a call on one slot: what the laws of the slot say of them.
+use Rattle.std.proofs.Common.{ℕ, ◌≡◌, ◌==◌, ◌∙◌, Bool, true, false, Option, None, List, [], ◌∷◌, if◌then◌else◌, refl, ap}
+use Rattle.queue_steps.specs.declared.model.Call.{Call}
+use Rattle.queue_steps.specs.declared.model.Effect.{Effect}
+use Rattle.queue_steps.specs.declared.steps.types.Kind.TheVariants as kind
+use Rattle.queue_steps.specs.declared.steps.types.Local.{Local}
+use Rattle.queue_steps.specs.declared.steps.types.Op.{Op}
+use Rattle.queue_steps.specs.declared.steps.types.Touch.{Touch}
+use Rattle.law_slot.specs.SlotShared as slot
+use Rattle.law_slot.specs.SlotHolder.{SlotHolder}
+use Rattle.law_slot.specs.SlotRows.{At, push_try, push_put, force_try_empty, force_try_full, force_put_empty, force_put_full, pop_try, pop_take, close_try, look_at}
+use Rattle.machine_replay.specs.declared.machine.Running.{Running}
+use Rattle.machine_replay.specs.Blocks.{without}
+use Rattle.machine_replay.specs.SharedMemory.{Shared, CanTouch, CanOperate, slots_there, block_touched, after_touch, after_operation, answer_to, carried_then, shared_then, spare_in, next_after}
+use Rattle.machine_replay.proofs.Plain.{without-none}
+
+module _ {T : Type 0} where
+  -- the shared memory of a queue of one slot
+  abbrev pub one_slot : ℕ → Option T → Shared T
+  one_slot word x = record { lock = word; head = 0; tail = 0; stamps = []; slots = x ∷ []; head_block = None; tail_block = None; blocks = [] }
+
+  abbrev memory_of : slot.Shared T → Shared T
+  memory_of s = one_slot s.lock s.slot
+
+  abbrev running : Local ℕ → Touch → Op ℕ → Option T → Running T
+  running l t o v = record { local = l; touch = t; op = o; carried = v }
+
+  -- what is shared after the touch of a call's next step
+  abbrev after : ℕ → Option T → Touch → Option T → slot.Shared T
+  after word x t v = slot.touched (slot.one_slot word x) t v
+
+  -- a step of the machine is the step of its slot
+  pub record SameStep (granted : Bool) (word : ℕ) (x : Option T) (l : Local ℕ) (t : Touch) (o : Op ℕ) (v : Option T) : Type 0 where
+    pub touches : slot.CanTouch t → CanTouch t (slots_there (one_slot word x) (block_touched o))
+    pub operates : CanOperate (after_touch (one_slot word x) (running l t o v)) o
+    pub answers : answer_to granted (one_slot word x) (running l t o v) ≡ slot.answered (after word x t v) o
+    pub carries : carried_then (one_slot word x) (running l t o v) ≡ slot.handed (slot.one_slot word x) t v
+    pub leaves : after_operation granted (one_slot word x) (running l t o v) ≡ memory_of (slot.operated (after word x t v) o)
+
+  -- the exchange
+  exchanged : (t : Bool) (word new : ℕ) (x : Option T) → (if◌then◌else◌ {A = Shared T} t (one_slot new x) (one_slot word x)) ≡ memory_of (if t then slot.one_slot new x else slot.one_slot word x)
+  exchanged true word new x = refl
+  exchanged false word new x = refl
+
+  pub same_step : {l : Local ℕ} {t : Touch} {o : Op ℕ} {v : Option T} {own : SlotHolder T} {k : Call T} {es : List (Effect T)} (granted : Bool) (word : ℕ) (x : Option T) → At l t o v own k es → SameStep granted word x l t o v
+  same_step granted word x (push_try v) = record { touches = λ can. tt; operates = tt; answers = refl; carries = refl; leaves = exchanged (word == 0) word _ x }
+  same_step granted word x (force_try_empty v) = record { touches = λ can. tt; operates = tt; answers = refl; carries = refl; leaves = exchanged (word == 0) word _ x }
+  same_step granted word x (force_try_full v) = record { touches = λ can. tt; operates = tt; answers = refl; carries = refl; leaves = exchanged (word == 2) word _ x }
+  same_step granted word x (pop_try d) = record { touches = λ can. tt; operates = tt; answers = refl; carries = refl; leaves = exchanged _ word _ x }
+  same_step granted word x (push_put v) = record { touches = λ can. can; operates = tt; answers = refl; carries = refl; leaves = refl }
+  same_step granted word x (force_put_empty v) = record { touches = λ can. can; operates = tt; answers = refl; carries = refl; leaves = refl }
+  same_step granted word x (force_put_full old v) = record { touches = λ can. can; operates = tt; answers = refl; carries = refl; leaves = refl }
+  same_step granted word x (pop_take y) = record { touches = λ can. can; operates = tt; answers = refl; carries = refl; leaves = refl }
+  same_step granted word x close_try = record { touches = λ can. tt; operates = tt; answers = refl; carries = refl; leaves = refl }
+  same_step granted word x (look_at l) = record { touches = λ can. tt; operates = tt; answers = refl; carries = refl; leaves = refl }
+
+  -- no block is given up where there is none
+  pub shared_same : (granted : Bool) (s : Shared T) (r : Running T) (word : ℕ) (x : Option T) → after_operation granted s r ≡ one_slot word x → shared_then kind.Single granted s r ≡ one_slot word x
+  shared_same granted s r word x e =
+      let bare : without (spare_in (next_after kind.Single granted s r)) (after_operation granted s r).blocks ≡ [] = ap (λ c. without (spare_in (next_after kind.Single granted s r)) c.blocks) e ∙ without-none _ in
+      ap (λ b. record (after_operation granted s r) { blocks = b }) bare ∙ ap {A = Shared T} (λ c. record c { blocks = [] }) e

@@ -1,0 +1,5 @@
+use Rattle.machine_replay.proofs.TraceRun.{has_history}
+use Rattle.machine_replay.proofs.laws.has_history.Goals as goal
+
+pub returns : goal.returns
+returns g c = has_history

@@ -1,0 +1,11 @@
+use Rattle.std.proofs.Common.{◌≡◌}
+use Rattle.machine_replay.specs.Left.{settled}
+use Rattle.machine_replay.proofs.left.settle.Given as goal
+
+abbrev pub invariant-loop-call : goal.invariant-loop-call
+invariant-loop-call g l =
+    record {
+      can : (goal.iterator-loop-call g).can_next l.call-iterator;
+      finite : (goal.iterator-loop-call g).is_finite l.call-iterator;
+      slots : l.slots.items ≡ settled l.yielded l.fn.slots.items;
+    }

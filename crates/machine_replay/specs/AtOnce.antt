@@ -1,0 +1,51 @@
+-- What a conforming replay means for all calls but three: a history in which each displacement is one moment.
+use Rattle.std.specs.Prelude.{◌≡◌, ◌⊎◌, ℕ, ◌+◌, ◌<◌, ◌≤◌, Option, Some, None, List, length, AllPairs}
+use Rattle.std.specs.List.{AllByRecursion}
+use Rattle.queue_steps.specs.State.{State}
+use Rattle.queue_steps.specs.Effect.{after}
+use Rattle.queue_steps.specs.declared.model.Reply.{Reply}
+use Rattle.law_moments.specs.Moments.{IsAtOnce, IsGlance, arrived}
+use Rattle.law_moments.specs.Entries.{settle}
+use Rattle.machine_replay.specs.declared.types.Event.{Event}
+use Rattle.machine_replay.specs.declared.types.Replay.{Replay}
+use Rattle.machine_replay.specs.Book.{Allows, IsBegun}
+use Rattle.machine_replay.specs.Conforms.{Conforms}
+use Rattle.machine_replay.specs.InCall.{IsStepOf, IsInCall}
+use Rattle.machine_replay.specs.Meaning.{Entry, effects_in, state_after, own_effects, IsMoment, IsAnswer, HasHistory}
+
+-- an effect stands between two steps of the call that its party is in
+pub record IsWithin {T : Type 0} (events : List (Event T)) (skipped : List ℕ) (replies : List (ℕ × ℕ × Reply T)) (x : Entry T) : Type 0 where
+  pub from : ℕ
+  pub upto : ℕ
+  pub starts : IsStepOf events skipped x.party from
+  pub ends : IsStepOf events skipped x.party upto
+  pub in_call : IsInCall events skipped replies x.party upto
+  pub later : in_call.first < from
+  pub before : from ≤ x.event
+  pub until : x.event ≤ upto
+
+-- the reply y is that of a glance, right at a moment of its call at which an item was on its way in
+pub record IsGlanced {T : Type 0} (cap : Option ℕ) (events : List (Event T)) (skipped : List ℕ) (H : List (Entry T)) (replies : List (ℕ × ℕ × Reply T)) (y : ℕ × ℕ × Reply T) : Type 0 where
+  pub step : IsStepOf events skipped y.1 y.0
+  pub in_call : IsInCall events skipped replies y.1 y.0
+  pub glance : IsGlance in_call.call
+  pub moment : State T
+  pub is_moment : IsMoment cap events skipped H y.1 in_call.first (y.0 + 1) moment
+  pub coming : T
+  pub is_coming : moment.coming ≡ Some coming
+  pub right : Allows in_call.call y.2 moment
+
+-- The history S, in which each displacement is one moment, is one of the same run as H: it leaves what H leaves, once all has arrived; each effect stands between two steps of the call
+-- that its party is in; each reply ends its call in S as it does in H, or is that of a glance at the middle of a displacement; each call that has not ended has a beginning of its effects in S.
+pub record HasMoments {T A : Type 0} (cap : Option ℕ) (events : List (Event T)) (r : Replay T A) (H S : List (Entry T)) : Type 0 where
+  pub legal : IsAtOnce cap (effects_in S)
+  pub calm : (n : ℕ) → (state_after cap S n).coming ≡ None
+  pub in_order : AllPairs (λ x y. x.event ≤ y.event) S
+  pub left : after cap (effects_in S) ≡ arrived (after cap (effects_in H))
+  pub own : AllByRecursion (IsWithin events r.skipped.items r.replies.items) S
+  pub answers : AllByRecursion (λ y. IsAnswer cap events r.skipped.items S r.replies.items y ⊎ IsGlanced cap events r.skipped.items H r.replies.items y) r.replies.items
+  pub unended : (p : ℕ) (c : IsInCall events r.skipped.items r.replies.items p (length events)) → IsBegun c.call (own_effects p c.first (length events) S)
+
+-- the history of a replay that conforms settles into one of moments
+abbrev pub DisplacesAtOnce : Type 0 → Type 0 → Type 0
+DisplacesAtOnce T A = (cap : Option ℕ) (parties : ℕ) (events : List (Event T)) (r : Replay T A) → Conforms cap parties events r → (h : HasHistory cap events r) → HasMoments cap events r h.history (settle h.history)

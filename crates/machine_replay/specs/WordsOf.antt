@@ -1,0 +1,23 @@
+-- The words of a machine, as a value.
+use Rattle.std.specs.Prelude.{◌≡◌, ℕ, List}
+use Rattle.queue_steps.specs.declared.steps.types.Kind.{Kind}
+use Rattle.machine_replay.specs.declared.machine.Running.{Running}
+use Rattle.machine_replay.specs.declared.types.Event.{Event}
+use Rattle.machine_replay.specs.Left.{opening_world}
+use Rattle.machine_replay.specs.Machine.{Plays}
+use Rattle.machine_replay.specs.World.{World}
+use Rattle.machine_replay.specs.declared.words.Words.{Words}
+use Rattle.machine_replay.specs.SharedMemory.{Shared}
+
+-- these are the words of what is shared
+pub record AreWords {T A : Type 0} (s : Shared T) (w : Words A) : Type 0 where
+  pub lock : w.lock ≡ s.lock
+  pub head : w.head ≡ s.head
+  pub tail : w.tail ≡ s.tail
+  pub stamps : w.stamps.items ≡ s.stamps
+
+-- these are the words of a machine that comes from its opening by these events
+pub record AreWordsAfter {T A : Type 0} (k : Kind) (parties : ℕ) (events : List (Event T)) (w : Words A) : Type 0 where
+  pub last : World (Shared T) (Running T)
+  pub plays : Plays k (opening_world k parties) events last
+  pub words : AreWords last.shared w

@@ -1,0 +1,58 @@
+//! What follows from a replay that conforms. Each function is there for its contract alone.
+ghost use Rattle.machine_replay.specs.Meaning.{ConformingHasHistory};
+ghost use Rattle.machine_replay.specs.AtOnce.{DisplacesAtOnce};
+ghost use Rattle.machine_replay.specs.OneOwner.{OnePartyIsOneOwner};
+ghost use Rattle.machine_replay.specs.PeakTold.{PeakIsOfTheRun};
+ghost use Rattle.machine_replay.specs.Skips.{SkippedIsExact};
+ghost use Rattle.machine_replay.specs.Within.{NothingAppendedWithin, SoloCallsReply, WaitFreeCallsReply};
+
+use std::alloc::Allocator;
+
+/// What a conforming replay tells is one legal history, whose kinds are the effects, in their order, and whose last state has the items that are left.
+///
+/// Each effect is at a step of the call that its party is in. A front is taken off by a call that had seen the queue open at a step before, and the next item that arrives
+/// does so by the same call. Each reply ends the call that its party is in: the effects of that call are those that the reply stands for, and a reply without effect is right
+/// at a moment between the call's first step and its last; a call without steps replies where it begins. A call that has not ended has a beginning of the effects of one of
+/// its replies. The replies and the skipped events stand in the order of the events, too, one an event at most.
+pub fn has_history<T, A: Allocator>()
+    ensures { ConformingHasHistory T A }
+{}
+
+/// Exactly the events that do not fit are skipped: those of no party, those that begin a call within a call, and those that step between calls.
+pub fn skipped_is_exact<T, A: Allocator>()
+    ensures { SkippedIsExact T A }
+{}
+
+/// Between the front that a displacing call takes off and the arrival of its item nothing is appended, by any party.
+pub fn nothing_appended_within<T>()
+    ensures { NothingAppendedWithin T }
+{}
+
+/// A call that is in progress, while every other party is between calls and begins none, replies within `SOLO_STEPS` steps of its own.
+pub fn solo_calls_reply<T, A: Allocator>()
+    ensures { SoloCallsReply T A }
+{}
+
+/// `close`, `is_closed`, `is_empty` and `is_full` reply by their second step, whatever the other parties do.
+pub fn wait_free_calls_reply<T, A: Allocator>()
+    ensures { WaitFreeCallsReply T A }
+{}
+
+/// The history of a conforming replay settles into one in which each displacement is one moment, between two steps of its own call.
+///
+/// Each reply ends its call there as it does in the history itself, but for a reply of `len`, `is_empty` or `is_full` that was read while an item was on its way in.
+pub fn displaces_at_once<T, A: Allocator>()
+    ensures { DisplacesAtOnce T A }
+{}
+
+/// With one party the replies are those of a run of the table of one owner, over the calls that were begun and in their order. At most the last of them has no reply; where it
+/// has one, what is left is what the table leaves.
+pub fn one_party_is_one_owner<T, A: Allocator>()
+    ensures { OnePartyIsOneOwner T A }
+{}
+
+/// The greatest number of blocks of a conforming replay is within its bound, which is what the items fill at a moment of the run, two, and one for each call in progress then. It is
+/// no less than what the items span at any moment.
+pub fn peak_is_of_the_run<T, A: Allocator>()
+    ensures { PeakIsOfTheRun T A }
+{}

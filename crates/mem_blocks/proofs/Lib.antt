@@ -1,0 +1,13 @@
+pub mod Borrowed
+pub mod Blocks
+pub mod Moves
+pub mod Operations
+pub mod Operating
+pub mod LinkOperations
+pub mod Shown
+pub mod Tests
+pub mod Sent
+pub mod Rooms
+pub mod Made
+pub mod Stepping
+pub mod Walks

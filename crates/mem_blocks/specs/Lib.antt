@@ -1,0 +1,5 @@
+pub mod Web
+pub mod Laid
+pub mod Seats
+pub mod Words
+pub mod Links

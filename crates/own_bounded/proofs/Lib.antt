@@ -1,0 +1,5 @@
+pub mod Slots
+pub mod Openings
+pub mod RingWrites
+pub mod RingLies
+pub mod Sent

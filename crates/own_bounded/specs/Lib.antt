@@ -1,0 +1,8 @@
+pub mod ComputedSteps
+pub mod SingleCells
+pub mod RingCells
+pub mod RingWords
+pub mod RingMemory
+pub mod RingOpening
+pub mod RingOwned
+pub mod Laws

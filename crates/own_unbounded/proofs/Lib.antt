@@ -1,0 +1,5 @@
+pub mod Pieces
+pub mod Linked
+pub mod Layings
+pub mod OwnChainBegins
+pub mod ChainBegins

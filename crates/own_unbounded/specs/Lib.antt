@@ -1,0 +1,5 @@
+pub mod OwnChainCells
+pub mod OwnChainOwned
+pub mod LinkedBlocks
+pub mod ChainMemory
+pub mod Laws

@@ -1,2 +1,0 @@
-pub mod Goings
-pub mod Watching

@@ -1,4 +1,0 @@
-use Rattle.queue_command.proofs.program.program.Goals as goal
-
-pub returns : goal.returns
-returns g c = record { ended = c.end.result; ends = c.end.ensures; status_is = c.from.ensures }

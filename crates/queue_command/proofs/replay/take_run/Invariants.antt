@@ -1,7 +1,0 @@
-use Rattle.std.proofs.Common.{replicate, string_bytes}
-use Rattle.queue_command.specs.Takes.{Takes}
-use Rattle.queue_command.proofs.replay.take_run.Given as goal
-
--- so many turns were taken
-abbrev pub invariant-loop : goal.invariant-loop
-invariant-loop g l = Takes (replicate l.counter l.turn) l.fn.course (string_bytes l.fn.text) l.course (string_bytes l.text)

@@ -1,5 +1,0 @@
-use Rattle.std.proofs.Common.{rules}
-use Rattle.queue_machine.proofs.chain_left.reach.Goals as goal
-
-pub returns-in-Put-Some : goal.returns-in-Put-Some
-returns-in-Put-Some g c = search rules

@@ -1,5 +1,0 @@
-use Rattle.std.proofs.Common.{rules, tests}
-use Rattle.queue_text.proofs.actions.parse_action.Goals as goal
-
-pub returns-then-eq : goal.returns-then-eq
-returns-then-eq c = search (rules, tests)

@@ -1,5 +1,0 @@
-use Rattle.std.proofs.Common.{rules, tests}
-use Rattle.queue_text.proofs.numbers.with_digit.Goals as goal
-
-pub returns : goal.returns
-returns c = search (rules, tests)

@@ -1,5 +1,0 @@
-use Rattle.std.proofs.Common.{rules, tests}
-use Rattle.queue_text.proofs.streams.read_input.Goals as goal
-
-pub returns-in-Ok : goal.returns-in-Ok
-returns-in-Ok g c = search (rules, tests)

@@ -1,5 +1,0 @@
-use Rattle.std.proofs.Common.{rules}
-use Rattle.queue_threads.proofs.counts.Finding.verdict.Goals as goal
-
-pub returns-in-Wrong : goal.returns-in-Wrong
-returns-in-Wrong c = search rules

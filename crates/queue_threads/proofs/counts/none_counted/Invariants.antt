@@ -1,6 +1,0 @@
-use Rattle.std.proofs.Common.{◌≡◌, replicate}
-use Rattle.queue_threads.proofs.counts.none_counted.Given as goal
-
--- so many values that have not come
-abbrev pub invariant-loop : goal.invariant-loop
-invariant-loop l = l.counts.items ≡ replicate l.counter 0

@@ -1,7 +1,0 @@
-use Rattle.std.proofs.Common.{[]}
-use Rattle.party_doings.specs.Doings.{Acts}
-use Rattle.queue_threads.proofs.crew.pop_one.Given as goal
-
--- the party is still the queue's, and has done nothing
-abbrev pub invariant-loop : goal.invariant-loop
-invariant-loop g l = Acts l.fn.party l.party []

@@ -1,5 +1,0 @@
-use Rattle.std.proofs.Common.{rules}
-use Rattle.queue_threads.proofs.handshake.expect_item.Goals as goal
-
-pub returns : goal.returns
-returns g c = search rules

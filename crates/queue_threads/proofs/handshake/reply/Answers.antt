@@ -1,8 +1,0 @@
-use Rattle.std.proofs.Common.{rules, tests}
-use Rattle.queue_threads.proofs.handshake.reply.Goals as goal
-
-pub returns : goal.returns
-returns g c = search rules
-
-pub expect_item-requires : goal.expect_item-requires
-expect_item-requires g c = search (rules, tests)

@@ -1,0 +1,195 @@
+-- What a shared chain owes of its calls: no step of another party takes away what a call knows, and where each call begins.
+use Rattle.std.proofs.Common.{ℕ, ◌%◌, ◌≡◌, ◌≢◌, ◌∙◌, inl, inr, true, false, List, [], ◌∷◌, Option, Some, None, refl, sym, ap}
+use Rattle.queue_steps.specs.declared.sizes.TheConstants.{BLOCK_SLOTS}
+use Rattle.queue_steps.specs.declared.model.Call.{Call}
+use Rattle.queue_steps.specs.declared.model.Call.TheVariants as call
+use Rattle.queue_steps.specs.declared.model.Effect.{Effect}
+use Rattle.queue_steps.specs.declared.model.Reply.TheVariants as reply
+use Rattle.queue_steps.specs.declared.steps.types.Kind.TheVariants as queue
+use Rattle.queue_steps.specs.declared.steps.types.Local.{Local}
+use Rattle.queue_steps.specs.declared.steps.types.Local.TheVariants as local
+use Rattle.queue_steps.specs.declared.steps.types.Op.{Op}
+use Rattle.queue_steps.specs.declared.steps.types.Op.TheVariants as op
+use Rattle.queue_steps.specs.declared.steps.types.Touch.{Touch}
+use Rattle.queue_steps.specs.declared.steps.unbounded.UnboundedLocal.TheVariants as chain
+use Rattle.queue_steps.specs.State.{State}
+use Rattle.queue_steps.specs.ChainWords.{offset_at, offset_of}
+use Rattle.law_common.specs.Effects.{IsBetween}
+use Rattle.law_common.proofs.Tails.{position_tail}
+use Rattle.law_chain.specs.ChainFacts.{place, open_tail_of}
+use Rattle.law_chain.proofs.ChainPlaces.{place_offset}
+use Rattle.law_chain.specs.ChainCells.{Wrote, Reader, Unread, Reading, Done, Chain, Part, Write, Read, Holds, Nothing, writer_of, reader_of}
+use Rattle.law_chain.proofs.ChainFacts.{holds_stays}
+use Rattle.law_chain.proofs.ChainAnswers.{head_offset}
+use Rattle.law_chain.specs.ChainAt.{Only, At, push_tail, push_block, asking, installing, showing, claiming, laying, opening, chaining, writing, spending, pop_head, pop_block, pop_tail, taking, following, peeking, passing, entering, awaiting, reading, beginning, walking, destroying, len_tail, len_head, len_again, empty_head, empty_tail, closing, closed_tail}
+use Rattle.law_chain.proofs.ChainAt.{at_stays}
+use Rattle.law_chain.specs.ChainPasses.{spare_in}
+use Rattle.law_chain.proofs.ChainGiven.{spares_stay}
+use Rattle.law_chain.proofs.ChainStart.{at_begun}
+use Rattle.shared_parties.specs.Calling.{CallLaws, HasTouched, first_of, Opens}
+use Rattle.shared_chain.specs.ChainCalls.{OutChain, HasOut, Out, ChainLent, ChainIdle, SlotsAs, PassesOut, chain_calls}
+
+pub reader_is : (r : Reader) (j : ℕ) → reader_of r ≡ Some j → r ≡ Reading j
+reader_is Unread j e = cc
+reader_is (Reading p) j e = ap (λ i. Reading i) (cc)
+reader_is Done j e = cc
+
+pub tail_offset : (n : ℕ) → offset_of (open_tail_of n) ≡ n % BLOCK_SLOTS
+tail_offset n = ap offset_at (position_tail (place n) false) ∙ place_offset n
+
+abbrev part_item : Part → ℕ
+part_item (Write n) = n
+part_item (Read n) = n
+part_item _ = 0
+
+-- every operation but the question for a block is on a block of the web
+abbrev pub OnBlocks : Op ℕ → Type 0
+OnBlocks op.Ask = ⊥
+OnBlocks _ = Unit {0}
+
+module _ {T : Type 0} where
+  -- a slot that another party has stays its own, and with what lies in it
+  out_back : (g s : OutChain T) (who j n : ℕ) → j ≢ who → PassesOut who g s → HasOut s j n → HasOut g j n
+  out_back g s who j n ne pass (inl e) = inl (pass.0.owned (Write n) j ne e)
+  out_back g s who j n ne pass (inr h) =
+      let before : g.chain.readers n ≡ Reading j = reader_is (g.chain.readers n) j (pass.0.owned (Read n) j ne (ap reader_of h.0)) in inr (before, sym (pass.1 j n ne before) ∙ h.1)
+
+  out_stays : (g s : OutChain T) (who j n : ℕ) (y : Option T) → j ≢ who → PassesOut who g s → Out g j n y → Out s j n y
+  out_stays g s who j n y ne pass (inl h) = inl (ap writer_of (pass.0.held (Write n) j ne h.0) ∙ h.0, h.1)
+  out_stays g s who j n y ne pass (inr h) = inr (
+    pass.0.held (Read n) j ne (ap reader_of h.0) ∙ h.0,
+    pass.1 j n ne h.0 ∙ h.1,
+    (h.2.0, pass.0.wrote n h.2.0 h.2.1, h.2.2),
+  )
+
+  lent_stays : (g s : OutChain T) (who j : ℕ) (xs : List (ℕ × Option T)) → j ≢ who → PassesOut who g s → ChainLent g j xs → ChainLent s j xs
+  lent_stays g s who j xs ne pass (inl none) = inl (none.0, λ n h. none.1 n (out_back g s who j n ne pass h))
+  lent_stays g s who j xs ne pass (inr (n, y, out, is)) = inr (n, y, out_stays g s who j n y ne pass out, is)
+
+  idle_none : (g : OutChain T) (j n : ℕ) → ChainIdle g j → ¬ (HasOut g j n)
+  idle_none g j n idle (inl e) = idle.0 (Write n) e
+  idle_none g j n idle (inr h) = idle.0 (Read n) (ap reader_of h.0)
+
+  has_out : (g : OutChain T) (j n : ℕ) (y : Option T) → Out g j n y → HasOut g j n
+  has_out g j n y (inl h) = inl h.0
+  has_out g j n y (inr h) = inr (h.0, h.1)
+
+  idle_lends : (g : OutChain T) (j : ℕ) (xs : List (ℕ × Option T)) → ChainIdle g j → ChainLent g j xs → xs ≡ []
+  idle_lends g j xs idle (inl none) = none.0
+  idle_lends g j xs idle (inr (n, y, out, is)) = absurd (idle_none g j n idle (has_out g j n y out))
+
+  slots_stay : (g s : OutChain T) (who j : ℕ) (l : Local ℕ) → j ≢ who → PassesOut who g s → SlotsAs g j l → SlotsAs s j l
+  slots_stay g s who j l ne pass slots n e =
+      let before : g.chain.readers n ≡ Reading j = reader_is (g.chain.readers n) j (pass.0.owned (Read n) j ne (ap reader_of e)) in pass.1 j n ne before ∙ slots n before
+
+  -- a chain has no displacement
+  no_front : {c : Chain T} {j : ℕ} {ms : List (State T)} {l : Local ℕ} {t : Touch} {o : Op ℕ} {v : Option T} {k : Call T} {es : List (Effect T)} → At c j ms l t o v k es → IsBetween es → ⊥
+  no_front (push_tail d v spare a b) h = h
+  no_front (push_block d v spare q a b e) h = h
+  no_front (asking d v q block a b e) h = h
+  no_front (installing d v f a b e) h = h
+  no_front (showing d v name a b e f) h = h
+  no_front (claiming d v q name spare a b e f i) h = h
+  no_front (laying d v n name f a b e i) h = h
+  no_front (opening d v n name f a b e i k) h = h
+  no_front (chaining d v n name f a b e i) h = h
+  no_front (writing d v n name spare a b e) h = h
+  no_front (spending d v spare a b e) h = h
+  no_front (pop_head a) h = h
+  no_front (pop_block n more a b e) h = h
+  no_front (pop_tail n block a b e) h = h
+  no_front (taking n name after more new a b e f i k) h = h
+  no_front (following x n name more a b e) h = h
+  no_front (peeking x n name after more a b e f) h = h
+  no_front (passing x n name after more further a b e f i) h = h
+  no_front (entering x n name more further a b e f) h = h
+  no_front (awaiting x n name more a b) h = h
+  no_front (reading x n name more a b e f) h = h
+  no_front (beginning x n name more a b e f) h = h
+  no_front (walking x b name slot a e f) h = h
+  no_front (destroying x b name slot a e f) h = h
+  no_front (len_tail a) h = h
+  no_front (len_head t a b e) h = h
+  no_front (len_again t w a b e) h = h
+  no_front (empty_head a) h = h
+  no_front (empty_tail w a b e) h = h
+  no_front (closing a) h = h
+  no_front (closed_tail a) h = h
+
+  -- the one slot of a party that holds this writer's part, or this reader's, alone
+  pub of_writer : (g : OutChain T) (j n : ℕ) (xs : List (ℕ × Option T)) → Holds g.chain j (Only (Write n)) → writer_of (g.chain.writers n) ≡ Some j → ChainLent g j xs → xs ≡ (n % BLOCK_SLOTS, None) ∷ []
+  of_writer g j n xs holds mine (inl none) = absurd (none.1 n (inl mine))
+  of_writer g j n xs holds mine (inr (m, y, inl h, is)) = let same : m ≡ n = ap part_item (holds (Write m) h.0) in is ∙ (λ i. (same i % BLOCK_SLOTS, h.1 i) ∷ [])
+  of_writer g j n xs holds mine (inr (m, y, inr h, is)) = absurd (let e = holds (Read m) (ap reader_of h.0) in cc)
+
+  pub of_reader : (g : OutChain T) (j n : ℕ) (x : T) (xs : List (ℕ × Option T)) → Holds g.chain j (Only (Read n)) → g.chain.readers n ≡ Reading j → g.out n ≡ true → g.chain.writers n ≡ Wrote x → ChainLent g j xs
+      → xs ≡ (n % BLOCK_SLOTS, Some x) ∷ []
+  of_reader g j n x xs holds mine out wrote (inl none) = absurd (none.1 n (inr (mine, out)))
+  of_reader g j n x xs holds mine out wrote (inr (m, y, inl h, is)) = absurd (let e = holds (Write m) h.0 in cc)
+  of_reader g j n x xs holds mine out wrote (inr (m, y, inr h, is)) =
+      let same : m ≡ n = ap part_item (holds (Read m) (ap reader_of h.0)) in
+      let z : Wrote h.2.0 ≡ Wrote x = sym h.2.1 ∙ (ap g.chain.writers same ∙ wrote) in
+      let item : h.2.0 ≡ x = cc in
+      is ∙ (λ i. (same i % BLOCK_SLOTS, (h.2.2 ∙ ap (λ q. Some q) item) i) ∷ [])
+
+  -- the slot that a call touches is the one that it has, and then it carries what lay there
+  touches_own : (g : OutChain T) (j : ℕ) {ms : List (State T)} {l : Local ℕ} {t : Touch} {o : Op ℕ} {v : Option T} {k : Call T} {es : List (Effect T)} (xs : List (ℕ × Option T)) → At g.chain j ms l t o v k es → SlotsAs g j l → ChainLent g j xs → HasTouched t xs
+  touches_own g j xs (writing d v n name spare holds mine b) slots lent = λ i at.
+      let w : writer_of (g.chain.writers n) ≡ Some j = ap writer_of mine.mine in
+      (None, of_writer g j n xs holds w lent ∙ ap (λ z. (z, None) ∷ []) (sym (tail_offset n) ∙ at))
+  touches_own g j xs (reading x n name more holds got wrote inner) slots lent = λ i at. (Some x, of_reader g j n x xs holds got.mine (slots n got.mine) wrote lent ∙ ap (λ z. (z, Some x) ∷ []) (sym (head_offset n more) ∙ at))
+  touches_own g j xs (beginning x n name more holds got wrote last) slots lent = λ i at. (Some x, of_reader g j n x xs holds got.mine (slots n got.mine) wrote lent ∙ ap (λ z. (z, Some x) ∷ []) (sym (head_offset n more) ∙ at))
+  touches_own g j xs (push_tail d v spare a b) slots lent = λ i at. absurd at
+  touches_own g j xs (push_block d v spare q a b e) slots lent = λ i at. absurd at
+  touches_own g j xs (asking d v q block a b e) slots lent = λ i at. absurd at
+  touches_own g j xs (installing d v f a b e) slots lent = λ i at. absurd at
+  touches_own g j xs (showing d v name a b e f) slots lent = λ i at. absurd at
+  touches_own g j xs (claiming d v q name spare a b e f h) slots lent = λ i at. absurd at
+  touches_own g j xs (laying d v n name f a b e h) slots lent = λ i at. absurd at
+  touches_own g j xs (opening d v n name f a b e h k) slots lent = λ i at. absurd at
+  touches_own g j xs (chaining d v n name f a b e h) slots lent = λ i at. absurd at
+  touches_own g j xs (spending d v spare a b e) slots lent = λ i at. absurd at
+  touches_own g j xs (pop_head a) slots lent = λ i at. absurd at
+  touches_own g j xs (pop_block n more a b e) slots lent = λ i at. absurd at
+  touches_own g j xs (pop_tail n block a b e) slots lent = λ i at. absurd at
+  touches_own g j xs (taking n name after more new a b e f h k) slots lent = λ i at. absurd at
+  touches_own g j xs (following x n name more a b e) slots lent = λ i at. absurd at
+  touches_own g j xs (peeking x n name after more a b e f) slots lent = λ i at. absurd at
+  touches_own g j xs (passing x n name after more further a b e f h) slots lent = λ i at. absurd at
+  touches_own g j xs (entering x n name more further a b e f) slots lent = λ i at. absurd at
+  touches_own g j xs (awaiting x n name more a b) slots lent = λ i at. absurd at
+  touches_own g j xs (walking x b name slot a e f) slots lent = λ i at. absurd at
+  touches_own g j xs (destroying x b name slot a e f) slots lent = λ i at. absurd at
+  touches_own g j xs (len_tail a) slots lent = λ i at. absurd at
+  touches_own g j xs (len_head w a b e) slots lent = λ i at. absurd at
+  touches_own g j xs (len_again w z a b e) slots lent = λ i at. absurd at
+  touches_own g j xs (empty_head a) slots lent = λ i at. absurd at
+  touches_own g j xs (empty_tail w a b e) slots lent = λ i at. absurd at
+  touches_own g j xs (closing a) slots lent = λ i at. absurd at
+  touches_own g j xs (closed_tail a) slots lent = λ i at. absurd at
+
+  pub chain_call_laws : CallLaws {T = T} chain_calls
+  chain_call_laws = record {
+    at_stays = λ g s who j ms was l t o v k es ok ok2 ne pass here. (at_stays ok ok2 ne pass.0 here.0, spares_stay who j (spare_in l) ne pass.0 here.1, slots_stay g s who j l ne pass here.2);
+    lent_stays = λ g s who j xs ne pass lent. lent_stays g s who j xs ne pass lent;
+    idle_stays = λ g s who j ne pass idle. (holds_stays who j Nothing ne pass.0 idle.0, spares_stay who j None ne pass.0 idle.1);
+    idle_none = λ g j xs idle lent. idle_lends g j xs idle lent;
+    idle_lent = λ g j idle. inl (refl, λ n. idle_none g j n idle);
+    coming = λ g j ms was l t o v k es ok here between. absurd (no_front here.0 between);
+    touches = λ g j ms was l t o v k es xs here lent. touches_own g j xs here.0 here.2 lent;
+  }
+
+  -- a party that holds nothing reads nothing
+  no_slots : (g : OutChain T) (j : ℕ) (l : Local ℕ) → ChainIdle g j → SlotsAs g j l
+  no_slots g j l idle n e = absurd (idle.0 (Read n) (ap reader_of e))
+
+  pub chain_opens : (c : Call T) → Opens {T = T} chain_calls OnBlocks c (first_of queue.Unbounded c)
+  chain_opens (call.Push v) = (refl, tt, λ g j idle. (at_begun g.chain j [] (call.Push v) idle.0, idle.1, no_slots g j (local.Unbounded chain.PopHead) idle))
+  chain_opens (call.ForcePush v) = (refl, tt, λ g j idle. (at_begun g.chain j [] (call.ForcePush v) idle.0, idle.1, no_slots g j (local.Unbounded chain.PopHead) idle))
+  chain_opens call.Pop = (refl, tt, λ g j idle. (at_begun g.chain j [] call.Pop idle.0, idle.1, no_slots g j (local.Unbounded chain.PopHead) idle))
+  chain_opens call.Close = (refl, tt, λ g j idle. (at_begun g.chain j [] call.Close idle.0, idle.1, no_slots g j (local.Unbounded chain.PopHead) idle))
+  chain_opens call.IsClosed = (refl, tt, λ g j idle. (at_begun g.chain j [] call.IsClosed idle.0, idle.1, no_slots g j (local.Unbounded chain.PopHead) idle))
+  chain_opens call.IsEmpty = (refl, tt, λ g j idle. (at_begun g.chain j [] call.IsEmpty idle.0, idle.1, no_slots g j (local.Unbounded chain.PopHead) idle))
+  chain_opens call.IsFull = (refl, (reply.IsFull false, refl, refl, λ m open_ended. rw open_ended refl))
+  chain_opens call.Len = (refl, tt, λ g j idle. (at_begun g.chain j [] call.Len idle.0, idle.1, no_slots g j (local.Unbounded chain.PopHead) idle))
+  chain_opens call.Capacity = (refl, (reply.Capacity None, refl, refl, λ m open_ended. sym open_ended))

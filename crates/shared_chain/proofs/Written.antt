@@ -1,0 +1,72 @@
+-- A reader has its slot only once the item is written: what each party knows says so.
+use Rattle.std.proofs.Common.{ℕ, ◌≡◌, ◌∙◌, true, Option, List, refl, sym, ap}
+use mathlib.Core.Option.{some, some-injective, some-ne-none}
+use mathlib.Core.Option as maybe
+use lib.ListN.{get_elem?}
+use Rattle.queue_steps.specs.declared.model.Call.{Call}
+use Rattle.queue_steps.specs.declared.model.Effect.{Effect}
+use Rattle.queue_steps.specs.declared.steps.types.Local.{Local}
+use Rattle.queue_steps.specs.declared.steps.types.Op.{Op}
+use Rattle.queue_steps.specs.declared.steps.types.Touch.{Touch}
+use Rattle.queue_steps.specs.State.{State}
+use Rattle.law_chain.specs.ChainCells.{Wrote, Reading, Chain, Read, reader_of}
+use Rattle.law_chain.specs.ChainAt.{At, push_tail, push_block, asking, installing, showing, claiming, laying, opening, chaining, writing, spending, pop_head, pop_block, pop_tail, taking, following, peeking, passing, entering, awaiting, reading, beginning, walking, destroying, len_tail, len_head, len_again, empty_head, empty_tail, closing, closed_tail}
+use Rattle.shared_parties.specs.declared.known.CallState.{CallState}
+use Rattle.shared_parties.specs.declared.known.Work.{Work}
+use Rattle.shared_parties.specs.declared.known.Work.TheVariants as work
+use Rattle.shared_parties.specs.CallStates.{is_busy}
+use Rattle.shared_parties.specs.CallsAt.{CallsAt}
+use Rattle.shared_chain.specs.ChainCalls.{OutChain, has_slot, chain_calls}
+use Rattle.shared_chain.proofs.Writing.{OutWrote}
+
+module _ {A : Type 0} where
+  abbrev IsWritten : Chain A → ℕ → Type 0
+  IsWritten c n = (x : A) × (c.writers n ≡ Wrote x)
+
+  -- a call that has a reader's slot reads a written item
+  wrote_by : {c : Chain A} {j : ℕ} {ms : List (State A)} {l : Local ℕ} {t : Touch} {o : Op ℕ} {v : Option A} {k : Call A} {es : List (Effect A)} (n : ℕ) → At c j ms l t o v k es → c.readers n ≡ Reading j → has_slot l ≡ true → IsWritten c n
+  wrote_by {c = c} n (reading x m name more holds got wrote inner) mine has = (x, ap c.writers (let e = holds (Read n) (ap reader_of mine) in cc) ∙ wrote)
+  wrote_by {c = c} n (beginning x m name more holds got wrote last) mine has = (x, ap c.writers (let e = holds (Read n) (ap reader_of mine) in cc) ∙ wrote)
+  wrote_by n (walking x b name slot holds is named) mine has = absurd (let e = holds (Read n) (ap reader_of mine) in cc)
+  wrote_by n (push_tail d v spare a b) mine has = absurd (cc)
+  wrote_by n (push_block d v spare q a b e) mine has = absurd (cc)
+  wrote_by n (asking d v q lead a b e) mine has = absurd (cc)
+  wrote_by n (installing d v f a b e) mine has = absurd (cc)
+  wrote_by n (showing d v name a b e f) mine has = absurd (cc)
+  wrote_by n (claiming d v q name spare a b e f h) mine has = absurd (cc)
+  wrote_by n (laying d v m name f a b e h) mine has = absurd (cc)
+  wrote_by n (opening d v m name f a b e h k) mine has = absurd (cc)
+  wrote_by n (chaining d v m name f a b e h) mine has = absurd (cc)
+  wrote_by n (writing d v m name spare a b e) mine has = absurd (cc)
+  wrote_by n (spending d v spare a b e) mine has = absurd (cc)
+  wrote_by n (pop_head a) mine has = absurd (cc)
+  wrote_by n (pop_block m more a b e) mine has = absurd (cc)
+  wrote_by n (pop_tail m block a b e) mine has = absurd (cc)
+  wrote_by n (taking m name after more new a b e f h k) mine has = absurd (cc)
+  wrote_by n (following x m name more a b e) mine has = absurd (cc)
+  wrote_by n (peeking x m name after more a b e f) mine has = absurd (cc)
+  wrote_by n (passing x m name after more further a b e f h) mine has = absurd (cc)
+  wrote_by n (entering x m name more further a b e f) mine has = absurd (cc)
+  wrote_by n (awaiting x m name more a b) mine has = absurd (cc)
+  wrote_by n (destroying x b name slot a e f) mine has = absurd (cc)
+  wrote_by n (len_tail a) mine has = absurd (cc)
+  wrote_by n (len_head w a b e) mine has = absurd (cc)
+  wrote_by n (len_again w z a b e) mine has = absurd (cc)
+  wrote_by n (empty_head a) mine has = absurd (cc)
+  wrote_by n (empty_tail w a b e) mine has = absurd (cc)
+  wrote_by n (closing a) mine has = absurd (cc)
+  wrote_by n (closed_tail a) mine has = absurd (cc)
+
+  module _ (g : OutChain A) (h : List (Effect A)) (count : ℕ) (views : List (CallState A)) (all : CallsAt chain_calls g h count views) where
+    -- a party that reads is at a call
+    by_work : (j n : ℕ) (d : CallState A) (w : Work A) → get_elem? views j ≡ some d → d.work ≡ w → g.chain.readers n ≡ Reading j → g.out n ≡ true → IsWritten g.chain n
+    by_work j n d work.Nothing at is mine out =
+        absurd ((all.free j (λ e there. ap (λ (z : CallState A). is_busy z.work) (some-injective e d (sym there ∙ at)) ∙ ap is_busy is)).0 (Read n) (ap reader_of mine))
+    by_work j n d (work.Calls c) at is mine out = let st = all.calls j d c at is in wrote_by n st.here.0 mine (sym (st.here.2 n mine) ∙ out)
+
+    by_view : (j n : ℕ) (v : maybe.Option (CallState A)) → get_elem? views j ≡ v → g.chain.readers n ≡ Reading j → g.out n ≡ true → IsWritten g.chain n
+    by_view j n maybe.none at mine out = absurd ((all.free j (λ e there. absurd (some-ne-none e (sym there ∙ at)))).0 (Read n) (ap reader_of mine))
+    by_view j n (some d) at mine out = by_work j n d d.work at refl mine out
+
+    pub out_wrote : OutWrote g
+    out_wrote j n mine out = by_view j n (get_elem? views j) refl mine out

@@ -1,0 +1,19 @@
+use Rattle.std.proofs.Common.{◌≡◌, ◌∙◌, rules, ℕ, List, sym, ap, subst}
+use Rattle.mem_blocks.specs.Web.{Block}
+use Rattle.queue_steps.specs.Words.{position_of}
+use Rattle.queue_steps.specs.ChainWords.{offset_of, items_before}
+use Rattle.own_unbounded.specs.ChainMemory.{block_of}
+use Rattle.shared_chain.specs.Leftover.{BlocksLeft}
+use Rattle.shared_chain.proofs.Abandoned.{blocks_left}
+use Rattle.shared_chain.proofs.ending.give_up.Goals as goal
+
+pub give_up_blocks-requires-clause-left : goal.give_up_blocks-requires-clause-left
+give_up_blocks-requires-clause-left g c =
+    let k = c.args.web.key in
+    let e = c.take_ends-head.ensures in
+    let at_head : c.offset_of.result ≡ offset_of c.take_ends-head.result.head = c.offset_of.ensures in
+    subst (λ (z : ℕ × ℕ × List (Block g.row.T.Denot)). BlocksLeft (items_before (position_of z.0)) (items_before (position_of z.1)) (block_of z.0) z.2) (λ i. (sym e.words.1 i, sym e.words.0 i, sym e.chain.1 i))
+    (blocks_left k.tail.ptr k.head.ptr c.close-chain.result.blocks c.close-chain.ensures.1 (λ z. c.if-offset_of-ne-BLOCK_SLOTS.true (at_head ∙ ap offset_of e.words.1 ∙ z)))
+
+pub give_up_blocks-requires-clause-front : goal.give_up_blocks-requires-clause-front
+give_up_blocks-requires-clause-front g c = search rules

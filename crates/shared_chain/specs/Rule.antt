@@ -1,0 +1,88 @@
+-- The rule of a web of blocks that stands for a chain: block 0 is the end of the tail, block 1 that of the head, and block b + 2 is the chain's block b.
+use Rattle.std.specs.Prelude.{◌≡◌, ◌≢◌, ◌⊎◌, ℕ, ◌+◌, ◌<◌, ◌≤◌, Bool, true, false, List, [], length, Option, Some, None, slice_index_or}
+use mathlib.Core.Option.{some}
+use lib.ListN.{get_elem?}
+use denote.RawPtr.{Ptr, null_ptr, Testable}
+use Rattle.queue_steps.specs.declared.sizes.TheConstants.{BLOCK_SLOTS}
+use Rattle.queue_steps.specs.declared.steps.unbounded.TheConstants.{WRITE, READ}
+use Rattle.queue_steps.specs.declared.model.Effect.{Effect}
+use Rattle.queue_steps.specs.Shares.{entire}
+use Rattle.law_chain.specs.ChainCells.{Writer, Free, Writing, Wrote, Reader, Unread, Reading, Done, Before, GivenUp, Use, Unused, Spare, Chained, item_at, LAST}
+use Rattle.law_chain.specs.ChainAnswers.{tail_word, head_word, last_of, shown_of, linked_of, IsState}
+use Rattle.mem_blocks.specs.Web.{Block, State, Home, block, Lives, word_of, away, vacant, full}
+use Rattle.mem_blocks.specs.declared.hub.TheConstants.{TAIL, PARTIES, HEAD}
+use Rattle.shared_parties.specs.declared.known.CallState.{CallState}
+use Rattle.shared_parties.specs.Known.{party}
+use Rattle.shared_parties.specs.CallStates.{idle}
+use Rattle.shared_parties.specs.CallsAt.{CallsAt}
+use Rattle.shared_chain.specs.declared.ends.Ends.{Ends}
+use Rattle.shared_chain.specs.Spots.{spot}
+use Rattle.shared_chain.specs.ChainCalls.{OutChain, chain_calls}
+
+-- the slot of an item: with its writer, with its reader once that has it, or at home
+abbrev pub home_of : {T : Type 0} → Writer T → Reader → Bool → Home T
+home_of Free r b = vacant
+home_of (Writing who v) r b = away
+home_of (Wrote v) Unread b = full v
+home_of (Wrote v) (Reading p) true = away
+home_of (Wrote v) (Reading p) false = full v
+home_of (Wrote v) Done b = vacant
+
+-- the state word of a slot, where no walk waited for it
+abbrev pub plain_state : {T : Type 0} → Writer T → Reader → ℕ
+plain_state (Wrote v) Done = WRITE + READ
+plain_state (Wrote v) _ = WRITE
+plain_state _ _ = 0
+
+-- where a link leads
+abbrev pub lead_of : Option ℕ → Ptr
+lead_of None = null_ptr
+lead_of (Some f) = spot f
+
+-- the web's block x is the chain's block b
+pub record BlockIs {T : Type 0} (g : OutChain T) (b : ℕ) (x : Block T) : Type 0 where
+  pub words : length x.words ≡ BLOCK_SLOTS
+  pub homes : length x.homes ≡ BLOCK_SLOTS
+  pub state : (i : ℕ) → i < BLOCK_SLOTS → (i ≡ LAST → g.chain.readers (item_at b i) ≢ Done) → IsState g.chain b i (slice_index_or x.words i 0)
+  pub plain : g.chain.walks b ≡ Before → (i : ℕ) → i < BLOCK_SLOTS → slice_index_or x.words i 0 ≡ plain_state (g.chain.writers (item_at b i)) (g.chain.readers (item_at b i))
+  pub slot : (i : ℕ) → i < BLOCK_SLOTS → get_elem? x.homes i ≡ some (home_of (g.chain.writers (item_at b i)) (g.chain.readers (item_at b i)) (g.out (item_at b i)))
+  pub linked : x.next ≡ lead_of (linked_of (g.chain.links b) (g.chain.names (b + 1)))
+
+-- the chain's block b is in the web until it is given up
+abbrev pub IsThere : {T : Type 0} → OutChain T → ℕ → Block T → Type 0
+IsThere g b x = (x.at ≡ spot (g.chain.names b)) × (((g.chain.walks b ≡ GivenUp) × (x.alive ≡ false)) ⊎ ((g.chain.walks b ≢ GivenUp) × (x.alive ≡ true) × BlockIs g b x))
+
+-- a name that some block has
+abbrev pub IsUsed : Use → Type 0
+IsUsed (Spare who) = Unit {0}
+IsUsed (Chained b) = Unit {0}
+IsUsed _ = ⊥
+
+-- the web's words, links and blocks are those of the chain, between these ends
+pub record Codes {T : Type 0} (tail_end head_end : Ptr) (g : OutChain T) (bs : List (Block T)) : Type 0 where
+  pub tail : Lives bs 0 tail_end
+  pub head : Lives bs 1 head_end
+  pub tail_words : length (block bs 0).words ≡ BLOCK_SLOTS
+  pub head_words : length (block bs 1).words ≡ BLOCK_SLOTS
+  pub tail_is : word_of bs 0 TAIL ≡ tail_word g.chain
+  pub head_is : word_of bs 1 HEAD ≡ head_word g.chain
+  pub last_is : (block bs 0).next ≡ lead_of (last_of g.chain.names g.chain.blocks)
+  pub front_is : (block bs 1).next ≡ lead_of (shown_of g.chain.shown (g.chain.names g.chain.front))
+  pub size : length bs ≡ g.chain.blocks + 2
+  pub there : (b : ℕ) → b < g.chain.blocks → IsThere g b (block bs (b + 2))
+  pub tested : (f : ℕ) → IsUsed (g.chain.uses f) → Testable (spot f)
+  pub fresh : (n : ℕ) × ((f : ℕ) → n ≤ f → g.chain.uses f ≡ Unused)
+
+-- There are a chain, for which the blocks stand, and one history, and all calls stand at them
+pub record Rule {T : Type 0} (tail_end head_end : Ptr) (s : State T (CallState T)) : Type 0 where
+  pub cells : OutChain T
+  pub history : List (Effect T)
+  pub codes : Codes tail_end head_end cells s.blocks
+  pub all : CallsAt chain_calls cells history (word_of s.blocks 0 PARTIES) s.views
+
+abbrev pub chained : {T : Type 0} → Ends T → State T (CallState T) → Type 0
+chained k = Rule k.tail.ptr k.head.ptr
+
+-- the first party, which has all of the share
+abbrev pub first_seat : {T : Type 0} → CallState T
+first_seat = idle (party None [] [] entire)

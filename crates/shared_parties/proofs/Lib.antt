@@ -1,0 +1,16 @@
+pub mod Totals
+pub mod Keeping
+pub mod Alone
+pub mod Endings
+pub mod FirstParty
+pub mod Callings
+pub mod Owns
+pub mod CallSteps
+pub mod Crowds
+pub mod Meetings
+pub mod Sharings
+pub mod Views
+pub mod Histories
+pub mod SharedCalls
+pub mod Counting
+pub mod Called

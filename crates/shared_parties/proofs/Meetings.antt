@@ -1,0 +1,127 @@
+-- What parting, joining and meeting tell the parties.
+use Rattle.std.proofs.Common.{◌≡◌, ℕ, ◌+◌, ◌<◌, ◌≤◌, List, ◌++◌, length, Option, refl, ap, sym, ◌∙◌, subst, arith}
+use Rattle.std.proofs.lemmas.Nat.{pow-add}
+use Rattle.queue_steps.specs.declared.model.Effect.{Effect}
+use Rattle.queue_steps.specs.Effect.{IsHistory}
+use Rattle.queue_steps.specs.Shares.{Share, half, plus, IsEntire, IsSome, IsPart}
+use Rattle.queue_steps.specs.Parties.{IsView, Apart}
+use Rattle.queue_steps.proofs.ShareLaws.{plus_comm, plus_some, entire_rest}
+use Rattle.shared_parties.specs.declared.known.Known.{Known}
+use Rattle.shared_parties.specs.declared.known.CallState.{CallState}
+use Rattle.shared_parties.specs.Counting.{times, once_below}
+use Rattle.shared_parties.proofs.Counting.{all_inside, none_twice, none_in_both, all_places}
+use Rattle.shared_parties.specs.Known.{party, looked, granted, refused, withdrawn, united, one_of, other_of, pair_of, view_of, Sees}
+use Rattle.shared_parties.specs.CallStates.{idle}
+use Rattle.shared_parties.proofs.Histories.{prefix_self, prefix_either}
+use Rattle.shared_parties.specs.Parting.{Withdrew, BecameOne, SawAll, both_parts, first_part, second_part, IsParty, Parts, Joins, Meets}
+use Rattle.shared_parties.proofs.Totals.{times_append}
+
+half_part : (s : Share) → IsPart s → IsPart (half s)
+half_part s part = let more = pow-add 2 s.1 1 in omega arith
+
+half_some : (s : Share) → IsSome s → IsPart s → ¬ (IsEntire (half s))
+half_some s rich part entire = let more = pow-add 2 s.1 1 in omega arith
+
+module _ {T : Type 0} where
+  -- a party that was granted a second one, and was parted
+  pub parts : (d e a b : CallState T) → IsParty d → e ≡ idle (granted d.known) → a ≡ first_part e → b ≡ second_part e → Parts d a b
+  parts d e a b (rests, is) granted_is is_a is_b =
+      let k : Known T = d.known in let p : Known T = party k.cap k.seen k.mine k.share in
+      let from : k ≡ p = ap (λ (z : CallState T). z.known) rests in
+      let at_a : a ≡ idle (one_of (granted p)) = is_a ∙ (ap first_part granted_is ∙ ap (λ (z : Known T). idle (one_of (granted z))) from) in
+      let at_b : b ≡ idle (other_of (granted p)) = is_b ∙ (ap second_part granted_is ∙ ap (λ (z : Known T). idle (other_of (granted z))) from) in
+      subst (λ (z : CallState T × CallState T). Parts d z.0 z.1) (λ i. (sym at_a i, sym at_b i)) (
+        (
+          refl,
+          record {
+            legal = is.legal;
+            inside = is.inside;
+            once = is.once;
+            some = is.some;
+            part = half_part k.share is.part;
+            whole = λ entire. absurd (half_some k.share is.some is.part entire);
+          },
+        ),
+        (
+          refl,
+          record {
+            legal = is.legal;
+            inside = λ i d inside. absurd (omega (arith, inside));
+            once = λ i j d lt inside. absurd (omega (arith, inside));
+            some = is.some;
+            part = half_part k.share is.part;
+            whole = λ entire. absurd (half_some k.share is.some is.part entire);
+          },
+        ),
+        refl,
+        refl,
+        record { begins = prefix_self k.seen; same = refl; legal = is.legal; mine = (refl, refl); share = (refl, refl) },
+      )
+
+  -- what two parties in one seat saw, when it looked
+  abbrev Both : Known T → Known T → List (Effect T) → Type 0
+  Both v w h = Sees (pair_of v w) (looked h (pair_of v w))
+
+  apart : (v w : Known T) (h : List (Effect T)) → Both v w h → Apart (view_of v) (view_of w)
+  apart v w h s = record { comparable = prefix_either v.seen w.seen h s.later s.heard; disjoint = none_in_both v.mine w.mine s.once; part = s.part }
+
+  -- places that lie in a history and stand in it once, of a party that saw it
+  is_view : (cap : Option ℕ) (v w : Known T) (h : List (Effect T)) (ps : List ℕ) (share : Share) → w.seen ≡ h → Sees v w → ((p : ℕ) → times p ps ≤ times p v.mine + times p v.theirs)
+      → IsSome share → IsPart share → (IsEntire share → (p : ℕ) → times p ps ≡ once_below p (length h)) → IsView v.cap (record { seen = h; mine = ps; share = share })
+  is_view cap v w h ps share is s few rich part whole = record {
+    legal = subst (λ (l : List (Effect T)). IsHistory v.cap l) is s.legal;
+    inside = all_inside ps (length h) (λ p m. subst (λ (l : List (Effect T)). p < length l) is (s.inside p (omega (arith, m, few p))));
+    once = none_twice ps (λ p. omega (arith, s.once p, few p));
+    some = rich;
+    part = part;
+    whole = λ entire. all_places ps (length h) (whole entire);
+  }
+
+  joins_pair : (a b : CallState T) (h : List (Effect T)) → IsSome a.known.share → Both a.known b.known h → Joins a b (idle (united h (pair_of a.known b.known)))
+  joins_pair a b h rich s = let v = a.known in let w = b.known in (
+    (
+      refl,
+      is_view v.cap (pair_of v w) (looked h (pair_of v w)) h (v.mine ++ w.mine) (plus v.share w.share) refl s (λ p. omega (arith, times_append p v.mine w.mine)) (plus_some v.share w.share rich) s.part
+          (λ entire p. omega (arith, times_append p v.mine w.mine, s.whole entire p)),
+    ),
+    refl,
+    record { apart = apart v w h s; legal = s.legal; begins = (s.later, s.heard); mine = refl; share = refl },
+  )
+
+  -- a and b are one seat d, which has then seen the history and is one party
+  pub joins : (a b d e : CallState T) → IsParty a → d ≡ both_parts a b → BecameOne d e → Joins a b e
+  joins a b d e at_a is u =
+      let pair : d.known ≡ pair_of a.known b.known = ap (λ (z : CallState T). z.known) is in
+      subst (Joins a b) (sym (u.1 ∙ ap (λ (z : Known T). idle (united u.0 z)) pair))
+      (joins_pair a b u.0 at_a.1.some (subst (λ (k : Known T). Sees k (looked u.0 k)) pair u.2))
+
+  meets_pair : (a b : CallState T) (h : List (Effect T)) → IsParty a → IsParty b → Both a.known b.known h
+      → Meets a b (idle (one_of (looked h (pair_of a.known b.known)))) (idle (other_of (looked h (pair_of a.known b.known))))
+  meets_pair a b h (_, is_a) (_, is_b) s = let v = a.known in let w = b.known in (
+    (
+      refl,
+      is_view v.cap (pair_of v w) (looked h (pair_of v w)) h v.mine v.share refl s (λ p. omega arith) is_a.some is_a.part
+          (λ entire p. absurd (omega (arith, is_b.some, entire_rest v.share w.share entire s.part))),
+    ),
+    (
+      refl,
+      is_view v.cap (pair_of v w) (looked h (pair_of v w)) h w.mine w.share refl s (λ p. omega arith) is_b.some is_b.part
+          (λ entire p. absurd (omega (arith, is_a.some, entire_rest w.share v.share entire (subst IsPart (plus_comm v.share w.share) s.part)))),
+    ),
+    refl,
+    refl,
+    record { apart = apart v w h s; legal = s.legal; begins = (s.later, s.heard); same = refl; mine = (refl, refl); share = (refl, refl) },
+  )
+
+  -- a and b are one seat m, which has looked as n and been parted into c and d
+  pub meets : (a b m n c d : CallState T) → IsParty a → IsParty b → m ≡ both_parts a b → SawAll m n → c ≡ first_part n → d ≡ second_part n → Meets a b c d
+  meets a b m n c d at_a at_b is l is_c is_d =
+      let v = a.known in let w = b.known in
+      let pair : m.known ≡ pair_of v w = ap (λ (z : CallState T). z.known) is in
+      let here : n ≡ idle (looked l.0 (pair_of v w)) = l.1 ∙ ap (λ (z : Known T). idle (looked l.0 z)) pair in
+      subst (λ (z : CallState T × CallState T). Meets a b z.0 z.1) (λ i. (sym (is_c ∙ ap first_part here) i, sym (is_d ∙ ap second_part here) i))
+      (meets_pair a b l.0 at_a at_b (subst (λ (k : Known T). Sees k (looked l.0 k)) pair l.2))
+
+  -- a party that was refused, and went back, is as it was
+  pub as_before : (d e f : CallState T) → IsParty d → e ≡ idle (refused d.known) → Withdrew e f → f ≡ d
+  as_before d e f at_d is back = back ∙ (ap (λ (z : CallState T). idle (withdrawn z.known)) is ∙ (ap (λ (z : Known T). idle (withdrawn z)) (ap (λ (z : CallState T). z.known) at_d.0) ∙ sym at_d.0))

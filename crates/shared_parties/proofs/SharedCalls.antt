@@ -1,0 +1,83 @@
+-- How a call's effect, or the moment at which its reply was right, makes it a shared call of its party.
+use Rattle.std.proofs.Common.{◌≡◌, ℕ, ◌+◌, ◌<◌, inl, List, [], ◌∷◌, ◌++◌, length, Option, refl, ap, sym, subst, ◌∙◌, arith}
+use Rattle.std.proofs.lemmas.List.{append-nil}
+use Rattle.std.specs.List.{Contains}
+use mathlib.Core.List.{IsPrefix}
+use Rattle.atomic_table.proofs.Lists.{at_last}
+use Rattle.queue_steps.specs.declared.model.Call.{Call}
+use Rattle.queue_steps.specs.declared.model.Reply.{Reply}
+use Rattle.queue_steps.specs.declared.model.Effect.{Effect}
+use Rattle.queue_steps.specs.declared.model.Effect.TheVariants as effect
+use Rattle.queue_steps.specs.State.{State, start}
+use Rattle.queue_steps.specs.Effect.{IsHistory, made, after_from, after}
+use Rattle.queue_steps.specs.Replies.{IsRightAt, Tells}
+use Rattle.queue_steps.specs.Shares.{Share, IsEntire}
+use Rattle.queue_steps.specs.Parties.{View, Between, SharedCall}
+use Rattle.shared_parties.specs.Counting.{times, once_below}
+use Rattle.shared_parties.proofs.Counting.{all_places}
+use Rattle.queue_steps.proofs.ShareLaws.{plus_nothing}
+use Rattle.shared_parties.specs.declared.known.Known.{Known}
+use Rattle.shared_parties.specs.Known.{party, has, share_of}
+use Rattle.shared_parties.proofs.Histories.{prefix_trans, prefix_more, prefix_length}
+
+module _ {T : Type 0} where
+  -- a moment between two histories is one between the first and any later one
+  pub between_later : (cap : Option ℕ) (s t u : List (Effect T)) (fact : State T → Type 0) → Between cap s t fact → IsPrefix t u → Between cap s u fact
+  between_later cap s t u fact b p = (b.0, b.1, prefix_trans b.0 t u b.2 p, b.3)
+
+  -- a call that adds nothing, whose reply was right after the history h
+  pub quiet : (cap : Option ℕ) (v w : View T) (h : List (Effect T)) (c : Call T) (r : Reply T) → IsPrefix v.seen h → IsPrefix h w.seen → IsHistory cap w.seen → w.mine ≡ v.mine → w.share ≡ v.share
+      → Tells c r [] → IsRightAt (after cap h) c r → SharedCall cap v w c r
+  quiet cap v w h c r old new legal mine share tells right = record {
+    begins = prefix_trans v.seen h w.seen old new;
+    legal = legal;
+    effects = [];
+    places = [];
+    tells = tells;
+    stand = tt;
+    mine = mine ∙ sym (append-nil v.mine);
+    share = share;
+    right = λ none. (h, old, new, inl right);
+    displaces = tt;
+  }
+
+  -- a call that adds one effect after the history h
+  pub adds : (cap : Option ℕ) (v : View T) (h : List (Effect T)) (e : Effect T) (c : Call T) (r : Reply T) → IsPrefix v.seen h → IsHistory cap (h ++ e ∷ [])
+      → Tells c r (e ∷ []) → SharedCall cap v (record { seen = h ++ e ∷ []; mine = v.mine ++ length h ∷ []; share = v.share }) c r
+  adds cap v h e c r old legal tells = record {
+    begins = prefix_more v.seen h (e ∷ []) old;
+    legal = legal;
+    effects = e ∷ [];
+    places = length h ∷ [];
+    tells = tells;
+    stand = (prefix_length v.seen h old, at_last h e (length h) refl, tt);
+    mine = refl;
+    share = refl;
+    right = λ none. absurd cc;
+    displaces = tt;
+  }
+
+  -- a party that had all of the share, and then has all places, has them all by its own list
+  pub owns : (v w : Known T) (cap cap' : Option ℕ) (seen seen' : List (Effect T)) (mine mine' : List ℕ) (share : Share) (n : ℕ) → v ≡ party cap seen mine share → w ≡ party cap' seen' mine' share
+      → (IsEntire (share_of v) → (p : ℕ) → has p w ≡ once_below p n) → IsEntire share → (p : ℕ) → p < n → Contains mine' p
+  owns v w cap cap' seen seen' mine mine' share n is_v is_w all entire =
+      let share_is : share_of v ≡ share = ap share_of is_v ∙ plus_nothing share in
+      let here : (p : ℕ) → has p w ≡ times p mine' + 0 = λ p. ap (has p) is_w in
+      all_places mine' n (λ p. omega (arith, here p, all (subst IsEntire (sym share_is) entire) p))
+
+  cap_made : (e : Effect T) (Q : State T) → (made e Q).cap ≡ Q.cap
+  cap_made (effect.Append v) Q = refl
+  cap_made (effect.Take v) Q = refl
+  cap_made (effect.Replace old v) Q = refl
+  cap_made (effect.Front old v) Q = refl
+  cap_made effect.Arrive Q = refl
+  cap_made effect.Close Q = refl
+  cap_made effect.SelfClose Q = refl
+
+  cap_after_from : (Q : State T) (es : List (Effect T)) → (after_from Q es).cap ≡ Q.cap
+  cap_after_from Q [] = refl
+  cap_after_from Q (e ∷ es) = cap_after_from (made e Q) es ∙ cap_made e Q
+
+  -- the capacity is that of the beginning
+  pub cap_after : (cap : Option ℕ) (es : List (Effect T)) → (after cap es).cap ≡ cap
+  cap_after cap es = cap_after_from (start cap 0) es

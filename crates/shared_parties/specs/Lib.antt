@@ -1,0 +1,9 @@
+pub mod Counting
+pub mod Known
+pub mod CallStates
+pub mod Parting
+pub mod PartyCount
+pub mod Operations
+pub mod Calling
+pub mod CallsAt
+pub mod Called

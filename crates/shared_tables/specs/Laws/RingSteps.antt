@@ -1,0 +1,358 @@
+-- The laws of a ring in a table: what each step of a call does to the words and slots, and where calls begin.
+use Rattle.std.proofs.Common.{◌≡◌, ◌≢◌, ℕ, ◌+◌, ◌-◌, ◌%◌, ◌<◌, ◌^◌, ◌==◌, ◌||◌, not, length, Bool, true, false, List, [], ◌∷◌, get_or, set, Option, Some, None, if◌then◌else◌, bit_or, refl, ap, sym, ◌∙◌, subst, inl, arith, length-set}
+use Rattle.std.proofs.lemmas.List.{set-get_or, get_or-drop, set-append_right}
+use mathlib.Core.Option.{some, some-injective}
+use mathlib.Core.Option as maybe
+use lib.ListN.{get_elem?}
+use prog.Atomic.{either}
+use Rattle.atomic_table.specs.Table.{Act, keeps, takes, gives, Valid, carried_after, homes_after, rest}
+use Rattle.atomic_table.proofs.Lists.{set_here, set_else}
+use Rattle.queue_steps.specs.declared.steps.types.Op.{Op}
+use Rattle.queue_steps.specs.declared.steps.types.Op.TheVariants as op
+use Rattle.queue_steps.specs.declared.steps.types.Word.{Word}
+use Rattle.queue_steps.specs.declared.steps.types.Word.TheVariants as word
+use Rattle.queue_steps.specs.declared.steps.types.Touch.{Touch}
+use Rattle.queue_steps.specs.declared.steps.types.Touch.TheVariants as touch
+use Rattle.queue_steps.specs.declared.model.Call.{Call}
+use Rattle.queue_steps.specs.declared.model.Call.TheVariants as call
+use Rattle.queue_steps.specs.declared.model.Reply.TheVariants as reply
+use Rattle.queue_steps.specs.declared.model.Effect.{Effect}
+use Rattle.queue_steps.specs.declared.steps.types.Answer.{Answer}
+use Rattle.queue_steps.specs.declared.steps.types.Answer.TheVariants as answer
+use Rattle.queue_steps.specs.declared.steps.types.Kind.TheVariants as queue
+use Rattle.queue_steps.specs.declared.steps.types.Local.{Local}
+use Rattle.queue_steps.specs.declared.steps.types.Local.TheVariants as local
+use Rattle.queue_steps.specs.declared.steps.types.Next.{Next}
+use Rattle.queue_steps.specs.declared.steps.types.Next.TheVariants as next
+use Rattle.queue_steps.specs.declared.steps.bounded.BoundedLocal.TheVariants as ring
+use Rattle.queue_steps.specs.State.{State}
+use Rattle.queue_steps.specs.Words.{IsRing, position_of, is_shut}
+use Rattle.queue_steps.specs.Next.{CanNext, next_of}
+use Rattle.law_common.specs.Puts.{put}
+use Rattle.law_common.proofs.Puts.{put_ok, put_same}
+use Rattle.law_ring.specs.RingCells.{Cell, Ring, queue_of, RingOk, owner, HoldsNone}
+use Rattle.law_ring.specs.RingWords.{Codes, item_in}
+use Rattle.law_ring.specs.RingShared.{Shared, HasWord, word_at, put_word, CanOperate, CanTouch, answered, operated, touched, handed}
+use Rattle.law_common.specs.Effects.{Touches, Whether, with_effect}
+use Rattle.law_ring.specs.RingAt.{At, HasPlace, InRing}
+use Rattle.law_ring.proofs.RingAt.{at_stays}
+use Rattle.law_ring.proofs.RingRanks.{rank}
+use Rattle.law_ring.proofs.RingGood.{IsEffect, Goes as RingGoes, Good}
+use Rattle.law_ring.proofs.RingStart.{at_first, at_touches, at_coming, at_word}
+use Rattle.law_ring.proofs.RingStep.{step_good}
+use Rattle.law_ring.proofs.RingHands.{lent_stays, Shift, Rests, Claims, GoesOn, Returns}
+use Rattle.law_ring.specs.RingPasses.{Lent}
+use Rattle.own_bounded.specs.RingWords.{words_behind}
+use Rattle.own_bounded.specs.declared.ring_words.TheConstants.{STAMPS}
+use Rattle.law_common.proofs.Moments.{seen_map}
+use Rattle.shared_parties.specs.Calling.{touched_list, lies_in, handed_by, HasTouched, MayFront, Goes, CallLaws}
+use Rattle.shared_tables.specs.TableRule.{found_by, Stepped, InTable, TakesOff, OpensIn, TableLaws}
+use Rattle.shared_parties.specs.Operations.{op_word, op_makes, answer_for}
+use Rattle.shared_tables.specs.RingTable.{home_when, home_of, Homes, ring_words, word_index, RingCoded, ring_calls, ring_table}
+use Rattle.shared_tables.specs.Laws.RingWaitFree.{ring_wait_free}
+
+-- the table has the word
+place_below : (cap : ℕ) (w : Word ℕ) → HasPlace cap w → word_index w < cap + STAMPS
+place_below cap word.Tail has = omega arith
+place_below cap word.Head has = omega arith
+place_below cap (word.Stamp i) has = omega arith
+place_below cap word.Lock has = absurd has
+place_below cap (word.State b i) has = absurd has
+
+in_table : (T : Type 0) (cap : ℕ) (o : Op ℕ) → InRing cap o → InTable {T = T} (ring_table cap) o
+in_table T cap (op.Load w) has = has
+in_table T cap (op.Store w x) has = has
+in_table T cap (op.Add w x) has = has
+in_table T cap (op.Or w x) has = has
+in_table T cap (op.Exchange w a b) has = has
+in_table T cap _ has = absurd has
+
+-- no operation on a ring takes bits off a word
+takes_none : (cap : ℕ) (o : Op ℕ) (n : ℕ) → InRing cap o → TakesOff o n
+takes_none cap (op.And w bits) n has = absurd has
+takes_none cap _ n has = tt
+
+module _ {T : Type 0} where
+  -- the table has the words of the ring
+  word_found : (n : ℕ) (s : Shared T) (w : Word ℕ) → HasWord s w → get_or (n ∷ ring_words s) (word_index w) 0 ≡ word_at s w
+  word_found n s word.Tail has = refl
+  word_found n s word.Head has = refl
+  word_found n s (word.Stamp i) has = sym (get_or-drop STAMPS (n ∷ ring_words s) i 0)
+  word_found n s word.Lock has = absurd has
+  word_found n s (word.State b i) has = absurd has
+
+  word_put : (n : ℕ) (s : Shared T) (w : Word ℕ) (x : ℕ) → HasWord s w → set (n ∷ ring_words s) (word_index w) x ≡ n ∷ ring_words (put_word s w x)
+  word_put n s word.Tail x has = refl
+  word_put n s word.Head x has = refl
+  word_put n s (word.Stamp i) x has =
+      let behind : STAMPS + i - STAMPS ≡ i = omega arith in
+      set-append_right (n ∷ words_behind s.tail s.head []) s.stamps STAMPS (STAMPS + i) x refl (omega arith) ∙ ap (λ k. n ∷ words_behind s.tail s.head (set s.stamps k x)) behind
+  word_put n s word.Lock x has = absurd has
+  word_put n s (word.State b i) x has = absurd has
+
+  -- what the operation finds is what the ring's operation answers
+  pub answers_found : (n : ℕ) (s : Shared T) (o : Op ℕ) → CanOperate s o → answered s o ≡ answer_for o (get_or (n ∷ ring_words s) (word_index (op_word o)) 0)
+  answers_found n s (op.Load w) can = ap (λ x. answer_for (op.Load w) x) (sym (word_found n s w can))
+  answers_found n s (op.Store w x) can = refl
+  answers_found n s (op.Add w x) can = ap (λ y. answer_for (op.Add w x) y) (sym (word_found n s w can.0))
+  answers_found n s (op.Or w x) can = ap (λ y. answer_for (op.Or w x) y) (sym (word_found n s w can))
+  answers_found n s (op.Exchange w a b) can = ap (λ y. answer_for (op.Exchange w a b) y) (sym (word_found n s w can))
+  answers_found n s (op.And w x) can = absurd can
+  answers_found n s (op.LoadLink l) can = absurd can
+  answers_found n s (op.StoreLink l f) can = absurd can
+  answers_found n s (op.Install f) can = absurd can
+  answers_found n s op.Ask can = absurd can
+
+  -- and the words after it are those of the ring's operation
+  pub words_step : (n : ℕ) (s : Shared T) (o : Op ℕ) → CanOperate s o
+      → set (n ∷ ring_words s) (word_index (op_word o)) (op_makes o (get_or (n ∷ ring_words s) (word_index (op_word o)) 0)) ≡ n ∷ ring_words (operated s o)
+  words_step n s (op.Load w) can = set-get_or (n ∷ ring_words s) (word_index w) 0
+  words_step n s (op.Store w x) can = word_put n s w x can
+  words_step n s (op.Add w x) can =
+      let at = word_found n s w can.0 in
+      let small : (get_or (n ∷ ring_words s) (word_index w) 0 + x) % 2 ^ 64 ≡ word_at s w + x = (let lt = can.1 in omega arith) in
+      ap (set (n ∷ ring_words s) (word_index w)) small ∙ word_put n s w (word_at s w + x) can.0
+  words_step n s (op.Or w x) can = ap (λ y. set (n ∷ ring_words s) (word_index w) (bit_or y x)) (word_found n s w can) ∙ word_put n s w (bit_or (word_at s w) x) can
+  words_step n s (op.Exchange w a b) can = ap (λ y. set (n ∷ ring_words s) (word_index w) (either (y == a) b (get_or (n ∷ ring_words s) (word_index w) 0))) (word_found n s w can) ∙ cases (word_at s w == a)
+    where
+      cases : (t : Bool) → set (n ∷ ring_words s) (word_index w) (either t b (get_or (n ∷ ring_words s) (word_index w) 0)) ≡ n ∷ ring_words (if t then put_word s w b else s)
+      cases true = word_put n s w b can
+      cases false = set-get_or (n ∷ ring_words s) (word_index w) 0
+  words_step n s (op.And w x) can = absurd can
+  words_step n s (op.LoadLink l) can = absurd can
+  words_step n s (op.StoreLink l f) can = absurd can
+  words_step n s (op.Install f) can = absurd can
+  words_step n s op.Ask can = absurd can
+
+  home_none : (c : Cell T) → owner c ≡ None → home_of c ≡ some (item_in c)
+  home_none c e = ap (λ o. home_when o (item_in c)) e
+
+  home_some : (c : Cell T) (who : ℕ) → owner c ≡ Some who → home_of c ≡ maybe.none
+  home_some c who e = ap (λ o. home_when o (item_in c)) e
+
+  homes_put : (cap : ℕ) (r s : Ring T) (hs : List (maybe.Option (Option T))) (i : ℕ) (c : Cell T) (y : maybe.Option (Option T)) → i < cap → s.cells ≡ put r.cells i c → home_of c ≡ y → Homes cap r hs → Homes cap s (set hs i y)
+  homes_put cap r s hs i c y lt cells is h = (
+    length-set hs i y ∙ h.0,
+    λ j l. subst (λ f. get_elem? (set hs i y) j ≡ some (home_of (f j))) (sym cells)
+        (put_ok r.cells i j c (λ k d. j ≡ k → get_elem? (set hs i y) j ≡ some (home_of d))
+        (λ e. ap (get_elem? (set hs i y)) e ∙ (set_here hs i y (let a = h.0 in omega arith) ∙ ap some (sym is)))
+        (λ ne e. set_else hs i j y ne ∙ h.1 j l) refl),
+  )
+
+  -- the slots at home are as before where the cells' homes are
+  homes_same : (cap : ℕ) (r s : Ring T) (hs : List (maybe.Option (Option T))) → ((k : ℕ) → home_of (s.cells k) ≡ home_of (r.cells k)) → Homes cap r hs → Homes cap s hs
+  homes_same cap r s hs same h = (h.0, λ i lt. h.1 i lt ∙ ap some (sym (same i)))
+
+  -- what the table does at a step that shifts the slots so, for a seat that has these
+  pub record Shifted (cap who : ℕ) (s : Ring T) (hs : List (maybe.Option (Option T))) (xs : List (ℕ × Option T)) : Type 0 where
+    pub act : Act (Option T)
+    pub valid : Valid hs xs act
+    pub homes : Homes cap s (homes_after hs xs act)
+    pub lent : Lent s who (carried_after xs act)
+
+  pub shifts : (cap who : ℕ) (r s : Ring T) (t : Touch) (v : Option T) (hs : List (maybe.Option (Option T))) (xs : List (ℕ × Option T))
+      → Homes cap r hs → Lent r who xs → Shift cap who r s t v → Shifted cap who s hs (touched_list t v xs)
+  shifts cap who r s t v hs xs h lent (Rests quiet cells) =
+      subst (λ u. Shifted cap who s hs (touched_list u v xs)) (sym quiet) (record {
+        act = keeps;
+        valid = tt;
+        homes = homes_same cap r s hs (λ k. ap (λ f. home_of (f k)) cells) h;
+        lent = stays xs lent;
+      })
+    where
+      stays : (ys : List (ℕ × Option T)) → Lent r who ys → Lent s who ys
+      stays [] l = λ k e. l k (ap (λ f. owner (f k)) (sym cells) ∙ e)
+      stays (y ∷ []) l = (ap (λ f. owner (f y.0)) cells ∙ l.0, ap (λ f. item_in (f y.0)) cells ∙ l.1, λ k e. l.2 k (ap (λ f. owner (f k)) (sym cells) ∙ e))
+      stays (y ∷ z ∷ zs) l = absurd l
+  shifts cap who r s t v hs xs h lent (Claims i c lt quiet none free mine item cells) =
+      subst (λ u. Shifted cap who s hs (touched_list u v xs)) (sym quiet) (from xs lent)
+    where
+      here : s.cells i ≡ c
+      here = ap (λ f. f i) cells ∙ put_same r.cells i c
+
+      only : (k : ℕ) → owner (s.cells k) ≡ Some who → k ≡ i
+      only k e = put_ok r.cells i k c (λ j d. owner d ≡ Some who → j ≡ i) (λ e. refl) (λ ne e. absurd (none k e)) (ap (λ f. owner (f k)) (sym cells) ∙ e)
+
+      from : (ys : List (ℕ × Option T)) → Lent r who ys → Shifted cap who s hs ys
+      from [] l = record {
+        act = takes i (item_in c);
+        valid = h.1 i lt ∙ ap some (home_none (r.cells i) free ∙ ap some (sym item));
+        homes = homes_put cap r s hs i c maybe.none lt cells (home_some c who mine) h;
+        lent = (ap owner here ∙ mine, ap item_in here, only);
+      }
+      from (y ∷ []) l = absurd (none y.0 l.0)
+      from (y ∷ z ∷ zs) l = absurd l
+  shifts cap who r s t v hs xs h lent (GoesOn i c quiet own mine item cells) =
+      subst (λ u. Shifted cap who s hs (touched_list u v xs)) (sym quiet) (record { act = keeps; valid = tt; homes = homes_same cap r s hs same h; lent = stays xs lent })
+    where
+      there : (k : ℕ) (P : Cell T → Type 0) → (k ≡ i → P c) → (k ≢ i → P (r.cells k)) → P (s.cells k)
+      there k P hit miss = subst (λ f. P (f k)) (sym cells) (put_ok r.cells i k c (λ j d. j ≡ k → P d) (λ e. hit (sym e)) (λ ne e. miss ne) refl)
+
+      same : (k : ℕ) → home_of (s.cells k) ≡ home_of (r.cells k)
+      same k = there k (λ d. home_of d ≡ home_of (r.cells k)) (λ e. home_some c who mine ∙ sym (home_some (r.cells k) who (ap (λ n. owner (r.cells n)) e ∙ own))) (λ ne. refl)
+
+      owned : (k : ℕ) → owner (s.cells k) ≡ owner (r.cells k)
+      owned k = there k (λ d. owner d ≡ owner (r.cells k)) (λ e. mine ∙ sym (ap (λ n. owner (r.cells n)) e ∙ own)) (λ ne. refl)
+
+      items : (k : ℕ) → item_in (s.cells k) ≡ item_in (r.cells k)
+      items k = there k (λ d. item_in d ≡ item_in (r.cells k)) (λ e. item ∙ ap (λ n. item_in (r.cells n)) (sym e)) (λ ne. refl)
+
+      stays : (ys : List (ℕ × Option T)) → Lent r who ys → Lent s who ys
+      stays [] l = λ k e. l k (sym (owned k) ∙ e)
+      stays (y ∷ []) l = (owned y.0 ∙ l.0, items y.0 ∙ l.1, λ k e. l.2 k (sym (owned k) ∙ e))
+      stays (y ∷ z ∷ zs) l = absurd l
+  shifts cap who r s t v hs xs h lent (Returns i c lt mine own free item cells) = from xs lent
+    where
+      back : (ys : List (ℕ × Option T)) → touched_list t v ys ≡ (i, v) ∷ rest ys
+      back ys = at t mine
+        where
+          at : (u : Touch) → Touches u i → touched_list u v ys ≡ (i, v) ∷ rest ys
+          at touch.Nothing e = absurd e
+          at (touch.Put k) e = ap (λ n. (n, v) ∷ rest ys) e
+          at (touch.Swap k) e = ap (λ n. (n, v) ∷ rest ys) e
+          at (touch.Take k) e = ap (λ n. (n, v) ∷ rest ys) e
+
+      from : (ys : List (ℕ × Option T)) → Lent r who ys → Shifted cap who s hs (touched_list t v ys)
+      from [] l = absurd (l i own)
+      from (y ∷ []) l = subst (Shifted cap who s hs) (sym (back (y ∷ []))) (record {
+        act = gives;
+        valid = tt;
+        homes = homes_put cap r s hs i c (some v) lt cells (home_none c free ∙ ap some item) h;
+        lent = λ k e. put_ok r.cells i k c (λ j d. owner d ≡ Some who → ⊥) (λ e. let f : None ≡ Some who = sym free ∙ e in cc) (λ ne e. ne (l.2 k e ∙ sym (l.2 i own))) (ap (λ f. owner (f k)) (sym cells) ∙ e);
+      })
+      from (y ∷ z ∷ zs) l = absurd l
+
+  -- a front leaves by a call that has seen the queue open alone
+  none_fronts : (was : Bool) (e : Option (Effect T)) → e ≡ None → MayFront e was
+  none_fronts was e is = subst (λ x. MayFront x was) (sym is) tt
+
+  fronts : (was : Bool) (e : Option (Effect T)) (b : Bool) (P Q : Type 0) → Whether b P Q → (P → MayFront e was) → (Q → MayFront e was) → MayFront e was
+  fronts was e true P Q h here there = here h
+  fronts was e false P Q h here there = there h
+
+  may_front : (cap : ℕ) (was : Bool) (l : Local ℕ) (a : Answer ℕ) (e : Option (Effect T)) → IsEffect cap was l a e → MayFront e was
+  may_front cap was (local.Bounded (ring.Claiming d tail)) (answer.Found found) e h =
+      fronts was e (found == tail) _ _ h (λ w. subst (λ x. MayFront x was) (sym w.1) tt) (none_fronts was e)
+  may_front cap was (local.Bounded (ring.Displacing tail)) (answer.Found found) e h =
+      fronts was e (found + cap == position_of tail) _ _ h (λ w. subst (λ x. MayFront x was) (sym w.1) w.2) (none_fronts was e)
+  may_front cap was (local.Bounded (ring.Arriving tail)) (answer.Found found) e h = subst (λ x. MayFront x was) (sym h) tt
+  may_front cap was (local.Bounded (ring.ClosingAtLimit d)) (answer.Found found) e h =
+      fronts was e (is_shut found) _ _ h (none_fronts was e) (λ is. subst (λ x. MayFront x was) (sym is) tt)
+  may_front cap was (local.Bounded (ring.Taking head)) (answer.Found found) e h =
+      fronts was e (found == head) _ _ h (λ w. subst (λ x. MayFront x was) (sym w.1) tt) (none_fronts was e)
+  may_front cap was (local.Bounded ring.Closing) (answer.Found found) e h =
+      fronts was e (is_shut found) _ _ h (none_fronts was e) (λ is. subst (λ x. MayFront x was) (sym is) tt)
+  may_front cap was (local.Bounded l) a e h = none_fronts was e h
+  may_front cap was _ a e h = absurd h
+
+  has_touched : (cap : ℕ) (s : Ring T) (who : ℕ) (ms : List (State T)) (was : Bool) (l : Local ℕ) (t : Touch) (o : Op ℕ) (v : Option T) (k : Call T) (es : List (Effect T)) (xs : List (ℕ × Option T)) → At cap s who ms was l t o v k es → Lent s who xs → HasTouched t xs
+  has_touched cap s who ms was l t o v k es [] here lent = λ i e. absurd (lent i (at_touches i here e))
+  has_touched cap s who ms was l t o v k es (x ∷ []) here lent = λ i e. (x.1, ap (λ n. (n, x.1) ∷ []) (sym (lent.2 i (at_touches i here e))))
+  has_touched cap s who ms was l t o v k es (x ∷ y ∷ zs) here lent = absurd lent
+
+  words_touched : (s : Shared T) (t : Touch) (v : Option T) → ring_words s ≡ ring_words (touched s t v)
+  words_touched s touch.Nothing v = refl
+  words_touched s (touch.Put i) v = refl
+  words_touched s (touch.Swap i) v = refl
+  words_touched s (touch.Take i) v = refl
+
+  -- what the touch hands over is what lies in the seat's slot
+  hands_over : (cap : ℕ) (r : Ring T) (s : Shared T) (who : ℕ) (t : Touch) (v : Option T) (xs : List (ℕ × Option T)) → Codes cap r s → CanTouch s t → ((i : ℕ) → Touches t i → owner (r.cells i) ≡ Some who) → Lent r who xs
+      → handed s t v ≡ handed_by t v xs
+  hands_over cap r s who t v xs codes can owned lent = by t can owned
+    where
+      lies : (i : ℕ) → i < length s.slots → owner (r.cells i) ≡ Some who → (ys : List (ℕ × Option T)) → Lent r who ys → get_or s.slots i None ≡ lies_in ys
+      lies i lt own [] l = absurd (l i own)
+      lies i lt own (y ∷ []) l = codes.slot i (let a = codes.slotted in omega arith) ∙ (ap (λ k. item_in (r.cells k)) (l.2 i own) ∙ l.1)
+      lies i lt own (y ∷ z ∷ zs) l = absurd l
+
+      by : (u : Touch) → CanTouch s u → ((i : ℕ) → Touches u i → owner (r.cells i) ≡ Some who) → handed s u v ≡ handed_by u v xs
+      by touch.Nothing c o = refl
+      by (touch.Put i) c o = lies i c (o i refl) xs lent
+      by (touch.Swap i) c o = lies i c (o i refl) xs lent
+      by (touch.Take i) c o = lies i c (o i refl) xs lent
+
+  lent_none : (s : Ring T) (who : ℕ) (xs : List (ℕ × Option T)) → Lent s who xs → HoldsNone s.cells who → xs ≡ []
+  lent_none s who [] lent none = refl
+  lent_none s who (x ∷ []) lent none = absurd (none x.0 lent.0)
+  lent_none s who (x ∷ y ∷ zs) lent none = absurd lent
+
+  -- where the call stands after its step, or that it ends right
+  goes_well : (cap : ℕ) (r s : Ring T) (who : ℕ) (ms : List (State T)) (was : Bool) (n : Next ℕ) (v : Option T) (k : Call T) (es : List (Effect T)) (m : ℕ)
+      → RingGoes cap r s who ms was n v k es m → Goes (ring_calls cap) s who ms was n v k es
+  goes_well cap r s who ms was (next.Step l t o) v k es m goes = goes.0
+  goes_well cap r s who ms was (next.Reply x spare) v k es m goes = let y = goes.2 in (goes.0, goes.1, (y.0, y.1, y.2, λ none. seen_map ms (λ q p. inl p) (y.3 none)))
+
+  -- each step of a call does what the table is owed
+  ring_steps : (cap : ℕ) (g : Ring T) (who n : ℕ) (ws : List ℕ) (hs : List (maybe.Option (Option T))) (ms : List (State T)) (was : Bool) (l : Local ℕ) (t : Touch) (o : Op ℕ) (v : Option T) (k : Call T) (es : List (Effect T)) (xs : List (ℕ × Option T))
+      → RingOk cap g → RingCoded cap g ws hs → At cap g who ms was l t o v k es → Lent g who xs → Stepped (ring_table cap) g who n ws hs ms was l t o v k es xs
+  ring_steps cap g who n ws hs ms was l t o v k es xs ok (s, codes, words, homes) here lent = record {
+    after = good.after;
+    words = ring_words (operated touching o);
+    effect = good.e;
+    act = moved.act;
+    can_next = subst (λ (a : Answer ℕ). CanNext (queue.Bounded cap) l a) found_is good.goes_on;
+    ok = good.ok;
+    written = ap (λ y. set y (word_index (op_word o)) (op_makes o (get_or y (word_index (op_word o)) 0))) table ∙ words_step n touching o good.operates;
+    valid = moved.valid;
+    coded = (operated touching o, good.codes, refl, moved.homes);
+    lent = moved.lent;
+    front = may_front cap was l (answered touching o) good.e good.told;
+    makes = good.makes;
+    passes = good.passes;
+    goes = subst (λ (z : Answer ℕ × Option T). Goes (ring_calls cap) good.after who (queue_of cap good.after ∷ ms) (was || not good.after.closed) (next_of (queue.Bounded cap) l z.0) z.1 k (with_effect es good.e))
+        (λ i. (found_is i, handed_is i))
+        (goes_well cap g good.after who (queue_of cap good.after ∷ ms) (was || not good.after.closed) (next_of (queue.Bounded cap) l (answered touching o)) (handed s t v) k (with_effect es good.e) (rank cap g l) good.goes);
+  }
+    where
+      touching : Shared T
+      touching = touched s t v
+
+      good : Good cap g who s ms was l t o v k es
+      good = step_good cap g who s ms was ok codes here
+
+      moved : Shifted cap who good.after hs (touched_list t v xs)
+      moved = shifts cap who g good.after t v hs xs homes lent good.shift
+
+      table : n ∷ ws ≡ n ∷ ring_words touching
+      table = ap (λ y. n ∷ y) (words ∙ words_touched s t v)
+
+      found_is : answered touching o ≡ answer_for o (found_by {T = T} (ring_table cap) o (n ∷ ws))
+      found_is = answers_found n touching o good.operates ∙ ap (λ y. answer_for o (get_or y (word_index (op_word o)) 0)) (sym table)
+
+      handed_is : handed s t v ≡ handed_by t v xs
+      handed_is = hands_over cap g s who t v xs codes good.touches (λ i e. at_touches i here e) lent
+
+  ring_opens_in : (cap : ℕ) → IsRing cap → (c : Call T) → OpensIn (ring_table cap) c
+  ring_opens_in cap ring (call.Push v) = (ring, (refl, tt, λ g j none. at_first cap g j (call.Push v) none))
+  ring_opens_in cap ring (call.ForcePush v) = (ring, (refl, tt, λ g j none. at_first cap g j (call.ForcePush v) none))
+  ring_opens_in cap ring call.Pop = (ring, (refl, tt, λ g j none. at_first cap g j call.Pop none))
+  ring_opens_in cap ring call.Close = (ring, (refl, tt, λ g j none. at_first cap g j call.Close none))
+  ring_opens_in cap ring call.IsClosed = (ring, (refl, tt, λ g j none. at_first cap g j call.IsClosed none))
+  ring_opens_in cap ring call.IsEmpty = (ring, (refl, tt, λ g j none. at_first cap g j call.IsEmpty none))
+  ring_opens_in cap ring call.IsFull = (ring, (refl, tt, λ g j none. at_first cap g j call.IsFull none))
+  ring_opens_in cap ring call.Len = (ring, (refl, tt, λ g j none. at_first cap g j call.Len none))
+  ring_opens_in cap ring call.Capacity = (ring, (refl, (reply.Capacity (Some cap), refl, refl, λ m is. sym is)))
+
+  pub ring_call_laws : (cap : ℕ) → CallLaws {T = T} (ring_calls cap)
+  ring_call_laws cap = record {
+    at_stays = λ g s who j ms was l t o v k es ok ok' ne pass here. at_stays ok ok' ne pass here;
+    lent_stays = λ g s who j xs ne pass lent. lent_stays who j xs ne pass lent;
+    idle_stays = λ g s who j ne pass idle. lent_stays who j [] ne pass idle;
+    idle_none = λ g j xs idle lent. lent_none g j xs lent idle;
+    idle_lent = λ g j idle. idle;
+    coming = λ g j ms was l t o v k es ok here b. at_coming ok here b;
+    touches = λ g j ms was l t o v k es xs here lent. has_touched cap g j ms was l t o v k es xs here lent;
+  }
+
+  pub ring_table_laws : (cap : ℕ) → IsRing cap → TableLaws {T = T} (ring_table cap) (cap + STAMPS)
+  ring_table_laws cap ring = record {
+    calls = ring_call_laws cap;
+    below = place_below cap;
+    at_word = λ g j ms was l t o v k es ok here. in_table T cap o (at_word ok here);
+    steps = λ g who n ws hs ms was l t o v k es xs ok coded here lent. ring_steps cap g who n ws hs ms was l t o v k es xs ok coded here lent;
+    takes_off = λ g who n ws hs ms was l t o v k es ok coded here. takes_none cap o (found_by {T = T} (ring_table cap) o (n ∷ ws)) (at_word ok here);
+    gives = λ spare none. none;
+    opens = ring_opens_in cap ring;
+    wait_free = ring_wait_free cap;
+  }

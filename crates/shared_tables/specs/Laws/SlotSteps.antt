@@ -1,0 +1,343 @@
+-- The laws of one slot in a table: what each step of a call does to the word and the slot, and where calls begin.
+use Rattle.std.proofs.Common.{◌≡◌, ℕ, ◌==◌, ◌||◌, not, Bool, true, false, List, [], ◌∷◌, get_or, set, Option, Some, None, if◌then◌else◌, refl, ap, sym, ◌∙◌, subst, inl, arith}
+use mathlib.Core.Option.{some}
+use mathlib.Core.Option as maybe
+use prog.Atomic.{either}
+use Rattle.atomic_table.specs.Table.{Act, keeps, takes, gives, Valid, carried_after, homes_after}
+use Rattle.queue_steps.specs.declared.model.Call.{Call}
+use Rattle.queue_steps.specs.declared.model.Call.TheVariants as call
+use Rattle.queue_steps.specs.declared.model.Reply.TheVariants as reply
+use Rattle.queue_steps.specs.declared.model.Effect.{Effect}
+use Rattle.queue_steps.specs.declared.model.Effect.TheVariants as effect
+use Rattle.queue_steps.specs.declared.steps.types.Answer.{Answer}
+use Rattle.queue_steps.specs.declared.steps.types.Answer.TheVariants as answer
+use Rattle.queue_steps.specs.declared.steps.types.Kind.TheVariants as kind
+use Rattle.queue_steps.specs.declared.steps.types.Local.{Local}
+use Rattle.queue_steps.specs.declared.steps.types.Local.TheVariants as local
+use Rattle.queue_steps.specs.declared.steps.types.Look.TheVariants as look
+use Rattle.queue_steps.specs.declared.steps.types.Next.{Next}
+use Rattle.queue_steps.specs.declared.steps.types.Next.TheVariants as next
+use Rattle.queue_steps.specs.declared.steps.types.Op.{Op}
+use Rattle.queue_steps.specs.declared.steps.types.Op.TheVariants as op
+use Rattle.queue_steps.specs.declared.steps.types.Touch.{Touch}
+use Rattle.queue_steps.specs.declared.steps.types.Touch.TheVariants as touch
+use Rattle.queue_steps.specs.declared.steps.single.SingleLocal.{SingleLocal}
+use Rattle.queue_steps.specs.declared.steps.single.SingleLocal.TheVariants.{Closing, Looking}
+use Rattle.queue_steps.specs.State.{State}
+use Rattle.queue_steps.specs.Kinds.{call_kind}
+use Rattle.queue_steps.specs.Next.{CanNext, next_of}
+use Rattle.queue_steps.specs.WaitFree.{is_wait_free, EndsBefore, EndsWaitFree}
+use Rattle.law_common.specs.Effects.{Leads, with_effect}
+use Rattle.law_slot.specs.SlotShared.{Shared, one_slot, CanOperate, answered, operated, touched, handed}
+use Rattle.law_slot.specs.SlotHolder.{SlotHolder, Nobody, Filling, Swapping, Taking}
+use Rattle.law_slot.specs.SlotRows.{Stands, filling, swapping, taking, At, push_try, push_put, force_try_empty, force_try_full, force_put_empty, force_put_full, pop_try, pop_take, close_try, look_at, Share, fills, swaps, takes as takes_share, Passes, stays, changes, single, Lands, Good}
+use Rattle.law_slot.proofs.SlotSteps.{step_good}
+use Rattle.law_slot.proofs.SlotRanks.{can_operate}
+use Rattle.law_slot.proofs.SlotHolder.{share_of, next_who, own_self, own_other}
+use Rattle.law_slot.specs.SlotCells.{Slot, queue_of, own_in, lent_by, Lent, IsHeld}
+use Rattle.law_slot.proofs.SlotCells.{nobody_if, held_lent, at_stays, lent_stays, at_whole, at_lock, at_touches}
+use Rattle.law_common.proofs.Moments.{seen_map}
+use Rattle.shared_parties.specs.Calling.{touched_list, lies_in, handed_by, MayFront, Goes, CallLaws}
+use Rattle.shared_tables.specs.TableRule.{InTable, TakesOff, Stepped, OpensIn, TableLaws}
+use Rattle.shared_parties.specs.Operations.{op_makes, answer_for}
+use Rattle.shared_tables.specs.SlotTable.{home_under, SlotCoded, slot_calls, slot_table}
+
+-- the wait-free calls take one step
+ends_next : (l : SingleLocal) → ((n : ℕ) → EndsBefore {B = ℕ} 2 kind.Single (next_of kind.Single (local.Single l) (answer.Found n))) → (a : Answer ℕ) → CanNext kind.Single (local.Single l) a → EndsBefore {B = ℕ} 2 kind.Single (next_of kind.Single (local.Single l) a)
+ends_next l ends (answer.Found n) can = ends n
+ends_next l ends answer.Start can = absurd can
+ends_next l ends (answer.Linked b) can = absurd can
+ends_next l ends (answer.Granted b) can = absurd can
+ends_next l ends answer.Refused can = absurd can
+ends_next l ends answer.Done can = absurd can
+
+slot_wait_free : {T : Type 0} (c : Call T) → is_wait_free c ≡ true → EndsWaitFree ℕ kind.Single (call_kind c)
+slot_wait_free call.Close h = λ a can. ends_next Closing (λ n. tt) a can
+slot_wait_free call.IsClosed h = λ a can. ends_next (Looking look.IsClosed) (λ n. tt) a can
+slot_wait_free call.IsEmpty h = λ a can. ends_next (Looking look.IsEmpty) (λ n. tt) a can
+slot_wait_free call.IsFull h = λ a can. ends_next (Looking look.IsFull) (λ n. tt) a can
+slot_wait_free (call.Push v) h = cc
+slot_wait_free (call.ForcePush v) h = cc
+slot_wait_free call.Pop h = cc
+slot_wait_free call.Len h = cc
+slot_wait_free call.Capacity h = cc
+
+in_table : (T : Type 0) (o : Op ℕ) → CanOperate o → InTable {T = T} slot_table o
+in_table T (op.Load w) can = can
+in_table T (op.Or w x) can = can
+in_table T (op.And w x) can = can
+in_table T (op.Exchange w a b) can = can
+in_table T (op.Store w x) can = absurd can
+in_table T (op.Add w x) can = absurd can
+in_table T (op.LoadLink l) can = absurd can
+in_table T (op.StoreLink l f) can = absurd can
+in_table T (op.Install f) can = absurd can
+in_table T op.Ask can = absurd can
+
+module _ {T : Type 0} where
+  -- a touch leaves the word, and an operation leaves the slot
+  lock_touched : (word : ℕ) (slot : Option T) (t : Touch) (v : Option T) → (touched (one_slot word slot) t v).lock ≡ word
+  lock_touched word slot touch.Nothing v = refl
+  lock_touched word slot (touch.Put i) v = refl
+  lock_touched word slot (touch.Swap i) v = refl
+  lock_touched word slot (touch.Take i) v = refl
+
+  slot_operated : (s : Shared T) (o : Op ℕ) → (operated s o).slot ≡ s.slot
+  slot_operated s (op.Exchange w a b) = cases (s.lock == a)
+    where
+      cases : (t : Bool) → (if◌then◌else◌ {A = Shared T} t (record s { lock = b }) s).slot ≡ s.slot
+      cases true = refl
+      cases false = refl
+  slot_operated s (op.Load w) = refl
+  slot_operated s (op.Or w x) = refl
+  slot_operated s (op.And w x) = refl
+  slot_operated s (op.Store w x) = refl
+  slot_operated s (op.Add w x) = refl
+  slot_operated s (op.LoadLink l) = refl
+  slot_operated s (op.StoreLink l f) = refl
+  slot_operated s (op.Install f) = refl
+  slot_operated s op.Ask = refl
+
+  -- what the operation makes of the word, and answers
+  lock_operated : (s : Shared T) (o : Op ℕ) → CanOperate o → (operated s o).lock ≡ op_makes o s.lock
+  lock_operated s (op.Exchange w a b) can = cases (s.lock == a)
+    where
+      cases : (t : Bool) → (if◌then◌else◌ {A = Shared T} t (record s { lock = b }) s).lock ≡ either t b s.lock
+      cases true = refl
+      cases false = refl
+  lock_operated s (op.Load w) can = refl
+  lock_operated s (op.Or w x) can = refl
+  lock_operated s (op.And w x) can = refl
+  lock_operated s (op.Store w x) can = absurd can
+  lock_operated s (op.Add w x) can = absurd can
+  lock_operated s (op.LoadLink l) can = absurd can
+  lock_operated s (op.StoreLink l f) can = absurd can
+  lock_operated s (op.Install f) can = absurd can
+  lock_operated s op.Ask can = absurd can
+
+  lock_answered : (s : Shared T) (o : Op ℕ) → CanOperate o → answered s o ≡ answer_for o s.lock
+  lock_answered s (op.Load w) can = refl
+  lock_answered s (op.Or w x) can = refl
+  lock_answered s (op.And w x) can = refl
+  lock_answered s (op.Exchange w a b) can = refl
+  lock_answered s (op.Store w x) can = absurd can
+  lock_answered s (op.Add w x) can = absurd can
+  lock_answered s (op.LoadLink l) can = absurd can
+  lock_answered s (op.StoreLink l f) can = absurd can
+  lock_answered s (op.Install f) can = absurd can
+  lock_answered s op.Ask can = absurd can
+
+  -- What the table does at a step that leads from the lock's holder h and this slot to h' and slot', for a party that had the slots ys and has own' of the lock then
+  record Moved (h : SlotHolder T) (slot : Option T) (h' : SlotHolder T) (slot' : Option T) (own' : SlotHolder T) (ys : List (ℕ × Option T)) : Type 0 where
+    pub act : Act (Option T)
+    pub valid : Valid (home_under h slot ∷ []) ys act
+    pub homes : homes_after (home_under h slot ∷ []) ys act ≡ home_under h' slot' ∷ []
+    pub lent : carried_after ys act ≡ lent_by own'
+
+  out_of : (h : SlotHolder T) (x : Option T) → IsHeld h → home_under h x ≡ maybe.none
+  out_of Nobody x held = absurd held
+  out_of (Filling v) x held = refl
+  out_of (Swapping old v) x held = refl
+  out_of (Taking y) x held = refl
+
+  -- a party that has nothing of the lock leaves it so, or takes it with the slot
+  takes_slot : {word' : ℕ} {items' : List T} {c' : Bool} (slot slot' : Option T) (own h own' h' : SlotHolder T) → Passes own h own' h' → own ≡ Nobody → slot' ≡ slot → Stands word' slot' h' items' c' → Moved h slot h' slot' own' []
+  takes_slot slot slot' _ _ _ _ (stays own h) is same st = record { act = keeps; valid = tt; homes = ap (λ x. home_under h x ∷ []) (sym same); lent = ap lent_by (sym is) }
+  takes_slot slot slot' _ _ _ _ (changes h g) is same st = by g st
+    where
+      taken : {w : ℕ} {ys : List T} {d : Bool} (f : SlotHolder T) → IsHeld f → Stands w slot' f ys d → Moved h slot f slot' f []
+      taken f held st = record {
+        act = takes 0 slot;
+        valid = ap (λ x. some (home_under x slot)) is;
+        homes = ap (λ x. x ∷ []) (sym (out_of f slot' held));
+        lent = ap (λ x. (0, x) ∷ []) (sym same) ∙ sym (held_lent st held);
+      }
+
+      by : {w : ℕ} {ys : List T} {d : Bool} (f : SlotHolder T) → Stands w slot' f ys d → Moved h slot f slot' f []
+      by Nobody st = record { act = keeps; valid = tt; homes = (λ i. home_under (is i) (sym same i) ∷ []); lent = refl }
+      by (Filling v) st = taken (Filling v) tt st
+      by (Swapping old v) st = taken (Swapping old v) tt st
+      by (Taking x) st = taken (Taking x) tt st
+
+  -- one that gives the lock back gives back the slot, with what it put there
+  gives_slot : (slot slot' v : Option T) (own h own' h' : SlotHolder T) → Passes own h own' h' → IsHeld own → own' ≡ Nobody → slot' ≡ v → Moved h slot h' slot' own' ((0, v) ∷ [])
+  gives_slot slot slot' v _ _ _ _ (stays own h) held is same = absurd (subst IsHeld is held)
+  gives_slot slot slot' v _ _ _ _ (changes h g) held is same = record { act = gives; valid = tt; homes = (λ i. home_under (sym is i) (sym same i) ∷ []); lent = ap lent_by (sym is) }
+
+  -- both, and what is carried then
+  record Shifts (word : ℕ) (slot : Option T) (own h own' h' : SlotHolder T) (slot' : Option T) (t : Touch) (v : Option T) : Type 0 where
+    pub moved : Moved h slot h' slot' own' (touched_list t v (lent_by own))
+    pub handed_is : handed (one_slot word slot) t v ≡ handed_by t v (lent_by own)
+
+  left_there : (s : Shared T) (o : Op ℕ) (w : ℕ) (x : Option T) → operated s o ≡ one_slot w x → x ≡ s.slot
+  left_there s o w x is = sym (ap (λ z. z.slot) is) ∙ slot_operated s o
+
+  from_free : {l : Local ℕ} {o : Op ℕ} {v : Option T} {word : ℕ} {slot : Option T} {h : SlotHolder T} {items : List T} {c : Bool} {k : Call T} {es : List (Effect T)} {n : ℕ} {ms : List (State T)}
+      → (good : Good l touch.Nothing o v word slot Nobody h items c n k es ms) → Shifts word slot Nobody h good.own' good.h' good.slot' touch.Nothing v
+  from_free {o = o} {word = word} {slot = slot} {h = h} good = record {
+    moved = takes_slot slot good.slot' Nobody h good.own' good.h' good.passes refl (left_there (one_slot word slot) o good.word' good.slot' good.leaves) good.stands;
+    handed_is = refl;
+  }
+
+  from_held : {l : Local ℕ} {t : Touch} {o : Op ℕ} {v : Option T} {word : ℕ} {slot : Option T} {own : SlotHolder T} {items : List T} {c : Bool} {k : Call T} {es : List (Effect T)} {n : ℕ} {ms : List (State T)}
+      → (good : Good l t o v word slot own own items c n k es ms) → Stands word slot own items c → IsHeld own → good.own' ≡ Nobody
+      → touched_list t v (lent_by own) ≡ (0, v) ∷ [] → handed_by t v (lent_by own) ≡ lies_in (lent_by own) → (touched (one_slot word slot) t v).slot ≡ v → handed (one_slot word slot) t v ≡ slot
+      → Shifts word slot own own good.own' good.h' good.slot' t v
+  from_held {t = t} {o = o} {v = v} {word = word} {slot = slot} {own = own} good st held gone list lies put took = record {
+    moved = subst (Moved own slot good.h' good.slot' good.own') (sym list)
+        (gives_slot slot good.slot' v own own good.own' good.h' good.passes held gone (left_there (touched (one_slot word slot) t v) o good.word' good.slot' good.leaves ∙ put));
+    handed_is = took ∙ (sym (ap lies_in (held_lent st held)) ∙ sym lies);
+  }
+
+  shifts : {l : Local ℕ} {t : Touch} {o : Op ℕ} {v : Option T} {word : ℕ} {slot : Option T} {own h : SlotHolder T} {items : List T} {c : Bool} {k : Call T} {es : List (Effect T)} {n : ℕ} {ms : List (State T)}
+      → At l t o v own k es → Share own h → Stands word slot h items c → (good : Good l t o v word slot own h items c n k es ms) → Shifts word slot own h good.own' good.h' good.slot' t v
+  shifts (push_try v) share st good = from_free good
+  shifts (force_try_empty v) share st good = from_free good
+  shifts (force_try_full v) share st good = from_free good
+  shifts (pop_try d) share st good = from_free good
+  shifts close_try share st good = from_free good
+  shifts (look_at l) share st good = from_free good
+  shifts (push_put v) (fills _) st good = from_held good st tt good.lands.0 refl refl refl refl
+  shifts (force_put_empty v) (fills _) st good = from_held good st tt good.lands.0 refl refl refl refl
+  shifts (force_put_full old v) (swaps _ _) st good = from_held good st tt good.lands.0 refl refl refl refl
+  shifts (pop_take x) (takes_share _) st good = from_held good st tt good.lands.0 refl refl refl refl
+
+  -- one slot has no fronts
+  no_front : (items : List T) (c was : Bool) (n : ℕ) (e : Option (Effect T)) (R : State T) → Leads (single items c n) e R → MayFront e was
+  no_front items c was n None R m = tt
+  no_front items c was n (Some (effect.Front old v)) R m = absurd (let f : true ≡ false = m.0.0 in cc)
+  no_front items c was n (Some (effect.Append v)) R m = tt
+  no_front items c was n (Some (effect.Take v)) R m = tt
+  no_front items c was n (Some (effect.Replace old v)) R m = tt
+  no_front items c was n (Some effect.Arrive) R m = tt
+  no_front items c was n (Some effect.Close) R m = tt
+  no_front items c was n (Some effect.SelfClose) R m = tt
+
+  -- where the call stands after its step, or that it ends right
+  goes_well : (g : Slot T) (who : ℕ) (own : SlotHolder T) (ms : List (State T)) (was : Bool) (x : Next ℕ) (v : Option T) (k : Call T) (es : List (Effect T)) → own ≡ own_in g who → Lands x v own k es ms → Goes slot_calls g who ms was x v k es
+  goes_well g who own ms was (next.Step l t o) v k es is lands = subst (λ h. At l t o v h k es) is lands
+  goes_well g who own ms was (next.Reply x spare) v k es is lands = let y = lands.2 in (ap lent_by (sym lands.0 ∙ is), lands.1, (y.0, y.1, y.2, λ none. seen_map ms (λ q p. inl p) (y.3 none)))
+
+  -- each step of a call does what the table is owed
+  slot_steps : (g : Slot T) (who n : ℕ) (ws : List ℕ) (hs : List (maybe.Option (Option T))) (ms : List (State T)) (was : Bool) (l : Local ℕ) (t : Touch) (o : Op ℕ) (v : Option T) (k : Call T) (es : List (Effect T)) (xs : List (ℕ × Option T))
+      → SlotCoded g ws hs → At l t o v (own_in g who) k es → Lent g who xs → Stepped slot_table g who n ws hs ms was l t o v k es xs
+  slot_steps g who n ws hs ms was l t o v k es xs (word, slot, stands, words, homes) here lent = record {
+    after = after;
+    words = good.word' ∷ [];
+    effect = good.e;
+    act = moved.act;
+    can_next = subst (λ (a : Answer ℕ). CanNext kind.Single l a) found_is (can_operate word slot here).2;
+    ok = tt;
+    written = ap (λ (y : List ℕ). set (n ∷ y) 1 (op_makes o (get_or (n ∷ y) 1 0))) words ∙ ap (λ w. n ∷ w ∷ []) made_is;
+    valid = subst (λ (z : List (maybe.Option (Option T)) × List (ℕ × Option T)). Valid z.0 (touched_list t v z.1) moved.act) back moved.valid;
+    coded = (
+      good.word',
+      good.slot',
+      good.stands,
+      refl,
+      ap (λ (z : List (maybe.Option (Option T)) × List (ℕ × Option T)). homes_after z.0 (touched_list t v z.1) moved.act) (sym back) ∙ moved.homes,
+    );
+    lent = ap (λ (z : List (ℕ × Option T)). carried_after (touched_list t v z) moved.act) lent ∙ (moved.lent ∙ ap lent_by own_is);
+    front = no_front g.items g.closed was g.accepted good.e (queue_of after) good.makes;
+    makes = good.makes;
+    passes = λ j ne. own_other good.passes g.keeps.who who j refl ne;
+    goes = subst (λ (z : Answer ℕ × Option T). Goes slot_calls after who (queue_of after ∷ ms) (was || not after.closed) (next_of kind.Single l z.0) z.1 k (with_effect es good.e)) (λ i. (found_is i, handed_is i))
+        (goes_well after who good.own' (queue_of after ∷ ms) (was || not after.closed) (next_of kind.Single l (answered touching o)) (handed (one_slot word slot) t v) k (with_effect es good.e) own_is good.lands);
+  }
+    where
+      touching : Shared T
+      touching = touched (one_slot word slot) t v
+
+      share : Share (own_in g who) g.keeps.hold
+      share = share_of (who == g.keeps.who) g.keeps.hold
+
+      good : Good l t o v word slot (own_in g who) g.keeps.hold g.items g.closed g.accepted k es ms
+      good = step_good here share stands g.accepted ms
+
+      after : Slot T
+      after = record { keeps = record { who = next_who good.passes g.keeps.who who; hold = good.h' }; items = good.items'; closed = good.c'; accepted = good.n' }
+
+      shifted : Shifts word slot (own_in g who) g.keeps.hold good.own' good.h' good.slot' t v
+      shifted = shifts here share stands good
+
+      moved : Moved g.keeps.hold slot good.h' good.slot' good.own' (touched_list t v (lent_by (own_in g who)))
+      moved = shifted.moved
+
+      own_is : good.own' ≡ own_in after who
+      own_is = own_self good.passes g.keeps.who who refl
+
+      back : ◌≡◌ {A = List (maybe.Option (Option T)) × List (ℕ × Option T)} (home_under g.keeps.hold slot ∷ [], lent_by (own_in g who)) (hs, xs)
+      back = λ i. (sym homes i, sym lent i)
+
+      lock_is : touching.lock ≡ word
+      lock_is = lock_touched word slot t v
+
+      found_is : answered touching o ≡ answer_for o (get_or (n ∷ ws) 1 0)
+      found_is = lock_answered touching o (at_lock here) ∙ (ap (answer_for o) lock_is ∙ ap (λ (y : List ℕ). answer_for o (get_or (n ∷ y) 1 0)) (sym words))
+
+      made_is : op_makes o word ≡ good.word'
+      made_is = ap (op_makes o) (sym lock_is) ∙ (sym (lock_operated touching o (at_lock here)) ∙ ap (λ z. z.lock) good.leaves)
+
+      handed_is : handed (one_slot word slot) t v ≡ handed_by t v xs
+      handed_is = shifted.handed_is ∙ ap (handed_by t v) (sym lent)
+
+  -- a call that unlocks the slot has the lock, whose bit is then in the word
+  unlocks : {l : Local ℕ} {t : Touch} {o : Op ℕ} {v : Option T} {word : ℕ} {slot : Option T} {own h : SlotHolder T} {items : List T} {c : Bool} {k : Call T} {es : List (Effect T)}
+      → At l t o v own k es → Share own h → Stands word slot h items c → TakesOff o word
+  unlocks (push_put v) (fills _) (filling true _) = refl
+  unlocks (push_put v) (fills _) (filling false _) = refl
+  unlocks (force_put_empty v) (fills _) (filling true _) = refl
+  unlocks (force_put_empty v) (fills _) (filling false _) = refl
+  unlocks (force_put_full old v) (swaps _ _) (swapping true _ _) = refl
+  unlocks (force_put_full old v) (swaps _ _) (swapping false _ _) = refl
+  unlocks (pop_take x) (takes_share _) (taking true _) = refl
+  unlocks (pop_take x) (takes_share _) (taking false _) = refl
+  unlocks (push_try v) share st = tt
+  unlocks (force_try_empty v) share st = tt
+  unlocks (force_try_full v) share st = tt
+  unlocks (pop_try d) share st = tt
+  unlocks close_try share st = tt
+  unlocks (look_at l) share st = tt
+
+  slot_takes_off : (g : Slot T) (who n : ℕ) (ws : List ℕ) (hs : List (maybe.Option (Option T))) (l : Local ℕ) (t : Touch) (o : Op ℕ) (v : Option T) (k : Call T) (es : List (Effect T))
+      → SlotCoded g ws hs → At l t o v (own_in g who) k es → TakesOff o (get_or (n ∷ ws) 1 0)
+  slot_takes_off g who n ws hs l t o v k es (word, slot, stands, words, homes) here =
+      subst (λ (y : List ℕ). TakesOff o (get_or (n ∷ y) 1 0)) (sym words) (unlocks here (share_of (who == g.keeps.who) g.keeps.hold) stands)
+
+  -- the first step of a party that has nothing of the lock
+  first_at : (g : Slot T) (j : ℕ) (l : Local ℕ) (t : Touch) (o : Op ℕ) (v : Option T) (k : Call T) → Lent g j [] → At l t o v Nobody k [] → At l t o v (own_in g j) k []
+  first_at g j l t o v k none here = subst (λ h. At l t o v h k []) (sym (nobody_if (own_in g j) none)) here
+
+  slot_opens_in : (c : Call T) → OpensIn slot_table c
+  slot_opens_in (call.Push v) = (tt, (refl, tt, λ g j none. first_at g j _ _ _ _ _ none (push_try v)))
+  slot_opens_in (call.ForcePush v) = (tt, (refl, tt, λ g j none. first_at g j _ _ _ _ _ none (force_try_empty v)))
+  slot_opens_in call.Pop = (tt, (refl, tt, λ g j none. first_at g j _ _ _ _ _ none (pop_try false)))
+  slot_opens_in call.Close = (tt, (refl, tt, λ g j none. first_at g j _ _ _ _ _ none close_try))
+  slot_opens_in call.IsClosed = (tt, (refl, tt, λ g j none. first_at g j _ _ _ _ _ none (look_at look.IsClosed)))
+  slot_opens_in call.IsEmpty = (tt, (refl, tt, λ g j none. first_at g j _ _ _ _ _ none (look_at look.IsEmpty)))
+  slot_opens_in call.IsFull = (tt, (refl, tt, λ g j none. first_at g j _ _ _ _ _ none (look_at look.IsFull)))
+  slot_opens_in call.Len = (tt, (refl, tt, λ g j none. first_at g j _ _ _ _ _ none (look_at look.Len)))
+  slot_opens_in call.Capacity = (tt, (refl, (reply.Capacity (Some 1), refl, refl, λ m is. sym is)))
+
+  slot_call_laws : CallLaws {T = T} slot_calls
+  slot_call_laws = record {
+    at_stays = λ g s who j ms was l t o v k es ok ok' ne pass here. at_stays g s who j ne pass here;
+    lent_stays = λ g s who j xs ne pass lent. lent_stays g s who j xs ne pass lent;
+    idle_stays = λ g s who j ne pass idle. lent_stays g s who j [] ne pass idle;
+    idle_none = λ g j xs idle lent. lent ∙ sym idle;
+    idle_lent = λ g j idle. idle;
+    coming = λ g j ms was l t o v k es ok here b. absurd (at_whole here b);
+    touches = λ g j ms was l t o v k es xs here lent i e. let h = at_touches i here e in (h.0, lent ∙ h.1);
+  }
+
+  pub slot_table_laws : TableLaws {T = T} slot_table 2
+  slot_table_laws = record {
+    calls = slot_call_laws;
+    below = λ w has. omega arith;
+    at_word = λ g j ms was l t o v k es ok here. in_table T o (at_lock here);
+    steps = λ g who n ws hs ms was l t o v k es xs ok coded here lent. slot_steps g who n ws hs ms was l t o v k es xs coded here lent;
+    takes_off = λ g who n ws hs ms was l t o v k es ok coded here. slot_takes_off g who n ws hs l t o v k es coded here;
+    gives = λ spare none. none;
+    opens = slot_opens_in;
+    wait_free = slot_wait_free;
+  }

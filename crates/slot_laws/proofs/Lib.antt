@@ -1,6 +1,0 @@
-pub mod SlotShared
-pub mod SlotRows
-pub mod SlotSteps
-pub mod SlotRanks
-pub mod SlotHolder
-pub mod SlotCells

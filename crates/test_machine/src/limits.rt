@@ -1,0 +1,76 @@
+//! What a push does next that reads a tail at the limit, where no run of the machine gets to.
+ghost use Rattle.queue_steps.specs.Words.{IsWord};
+
+use queue_steps::errors::{ForcePushError, PushError};
+use queue_steps::model::Reply;
+use queue_steps::sizes::{BLOCK_POSITIONS, BLOCK_SLOTS, LIMIT};
+use queue_steps::steps::{
+    Answer, BoundedLocal, Kind, Local, Next, Op, PushKind, UnboundedLocal, Word, next,
+};
+
+/// What a push does next.
+#[derive(Clone, Copy, Debug, PartialEq)]
+enum Turn {
+    ClosesTheQueue,
+    IsAnsweredClosed,
+    GoesOn,
+}
+
+fn turn_of(next: Next<usize>) -> Turn {
+    match next {
+        Next::Step(_, _, Op::Or(Word::Tail, 1)) => Turn::ClosesTheQueue,
+        Next::Reply(Reply::Push(Err(PushError::Closed(()))), None) => Turn::IsAnsweredClosed,
+        Next::Reply(Reply::ForcePush(Err(ForcePushError::Closed(()))), None) => {
+            Turn::IsAnsweredClosed
+        }
+        _ => Turn::GoesOn,
+    }
+}
+
+/// The tail of a ring, and that of a chain of blocks, which accepted all that they ever will.
+const RING_END: u64 = 2 * LIMIT;
+
+const CHAIN_END: u64 = 2 * (LIMIT / BLOCK_SLOTS * BLOCK_POSITIONS + LIMIT % BLOCK_SLOTS);
+
+/// What a push does once it has read the tail, on rings of two and of three slots and on a chain.
+fn once_read(push: PushKind, ring: u64, chain: u64) -> [Turn; 3]
+    requires { IsWord ring × IsWord chain }
+{
+    let of_ring = Local::Bounded(BoundedLocal::PushTail(push));
+    let of_chain = Local::Unbounded(UnboundedLocal::PushTail(push, None));
+    [
+        turn_of(next(Kind::Bounded(2), of_ring, Answer::Found(ring))),
+        turn_of(next(Kind::Bounded(3), of_ring, Answer::Found(ring))),
+        turn_of(next(Kind::Unbounded, of_chain, Answer::Found(chain))),
+    ]
+}
+
+/// What it does once it has closed the queue.
+fn once_closed(push: PushKind, ring: u64, chain: u64) -> [Turn; 3] {
+    let of_ring = Local::Bounded(BoundedLocal::ClosingAtLimit(push));
+    let of_chain = Local::Unbounded(UnboundedLocal::ClosingAtLimit(push, None));
+    [
+        turn_of(next(Kind::Bounded(2), of_ring, Answer::Found(ring))),
+        turn_of(next(Kind::Bounded(3), of_ring, Answer::Found(ring))),
+        turn_of(next(Kind::Unbounded, of_chain, Answer::Found(chain))),
+    ]
+}
+
+#[test]
+fn a_tail_at_the_limit(rt: HostRuntime) {
+    for push in [PushKind::Push, PushKind::Force] {
+        let at_the_limit = once_read(push, RING_END, CHAIN_END);
+        let closed_there = once_read(push, RING_END + 1, CHAIN_END + 1);
+        let one_before = once_read(push, RING_END - 2, CHAIN_END - 2);
+        let then = once_closed(push, RING_END, CHAIN_END);
+        assert_eq!(rt;
+            (at_the_limit, closed_there, one_before, then),
+            (
+                [Turn::ClosesTheQueue; 3],
+                [Turn::IsAnsweredClosed; 3],
+                [Turn::GoesOn; 3],
+                [Turn::IsAnsweredClosed; 3]
+            )
+        );
+    }
+}

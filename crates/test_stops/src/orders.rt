@@ -1,0 +1,267 @@
+//! Finds the calls of a run in one order of whole calls, each of which is one moment, a displacement too.
+use crate::claims::{Claim, claim_of};
+use crate::events::Item;
+use crate::flaw::Flaw;
+use crate::queue::{Moment, Queue};
+use machine_replay::types::EffectKind;
+use queue_steps::model::{Call, Reply};
+use std::alloc::{AllocError, Global};
+
+/// A call of a run, with the numbers of its events.
+#[derive(Clone, Copy)]
+struct Span {
+    call: Call<Item>,
+    /// That of its first step, or of its begin where it has none.
+    first: usize,
+    /// That of the last one and its reply, where it has ended.
+    end: Option<(usize, Reply<Item>)>,
+}
+
+/// What the call of one number did to the queue at the event of another.
+#[derive(Clone, Copy)]
+struct Act {
+    event: usize,
+    call: usize,
+    effect: EffectKind,
+}
+
+impl Act {
+    /// Its call is made where it was done.
+    fn turn(self) -> Turn {
+        Turn {
+            event: self.event,
+            call: self.call,
+        }
+    }
+}
+
+/// The calls of a run in the order in which they began, and what they did.
+#[derive(Drop)]
+pub struct History {
+    calls: Vec<Span>,
+    acts: Vec<Act>,
+}
+
+impl History {
+    /// Of no call.
+    pub fn new(alloc: Global) -> History {
+        History {
+            calls: Vec::new(alloc),
+            acts: Vec::new(alloc),
+        }
+    }
+
+    /// Notes a call that begins with this event, and gives its number.
+    pub fn begin(&mut self, call: Call<Item>, event: usize) -> Result<usize, AllocError> {
+        let number = self.calls.len();
+        self.calls.push(Span {
+            call,
+            first: event,
+            end: None,
+        })?;
+        Ok(number)
+    }
+
+    /// Notes that the call takes its first step at this event.
+    pub fn start(&mut self, call: usize, event: usize) {
+        if let Some(span) = self.calls.get_mut(call) {
+            span.first = event;
+        }
+    }
+
+    /// Notes what the call does at this event.
+    pub fn act(&mut self, call: usize, event: usize, effect: EffectKind) -> Result<(), AllocError> {
+        self.acts.push(Act {
+            event,
+            call,
+            effect,
+        })?;
+        Ok(())
+    }
+
+    /// Notes that the call ends with this event, and its reply.
+    pub fn end(&mut self, call: usize, event: usize, reply: Reply<Item>) {
+        if let Some(span) = self.calls.get_mut(call) {
+            span.end = Some((event, reply));
+        }
+    }
+}
+
+/// The call of one number is made whole at the event of another.
+#[derive(Clone, Copy)]
+struct Turn {
+    event: usize,
+    call: usize,
+}
+
+// The turns of the calls that did something. A displacement has its turn where it takes the front off, or right before a close that comes earlier.
+fn settle(alloc: Global, acts: &[Act]) -> Result<Vec<Turn>, AllocError> {
+    let mut turns = Vec::new(alloc);
+    let mut closed = false;
+    for (number, act) in acts.iter().enumerate() {
+        match act.effect {
+            EffectKind::Arrive => {}
+            EffectKind::Front if closed => {}
+            EffectKind::Close | EffectKind::SelfClose => {
+                closed = true;
+                displace(&mut turns, act.event, acts, number)?;
+                turns.push(act.turn())?;
+            }
+            _ => turns.push(act.turn())?,
+        }
+    }
+    Ok(turns)
+}
+
+// The displacements from the effect of this number on have their turns at this event.
+fn displace(
+    turns: &mut Vec<Turn>,
+    event: usize,
+    acts: &[Act],
+    number: usize,
+) -> Result<(), AllocError> {
+    for act in acts.iter().skip(number) {
+        if act.effect == EffectKind::Front {
+            turns.push(Turn {
+                event,
+                call: act.call,
+            })?;
+        }
+    }
+    Ok(())
+}
+
+/// A state of the queue, and from which event on and until before which one it stands.
+#[derive(Clone, Copy)]
+struct Stand {
+    from: usize,
+    until: usize,
+    moment: Moment,
+}
+
+impl Stand {
+    /// Whether it stands after one of these events.
+    fn is_between(&self, first: usize, last: usize) -> bool {
+        self.from < self.until && self.from <= last && first < self.until
+    }
+}
+
+/// A queue that makes whole calls in turn.
+#[derive(Drop)]
+struct Order {
+    queue: Queue,
+    /// The states that it had, in their order.
+    stands: Vec<Stand>,
+    /// Which calls it has made.
+    made: Vec<bool>,
+}
+
+/// Finds each call of a run that has ended in one order of whole calls, between its own first and last event: one that did something once, where the queue answers the same, and any other where its reply is right. Only what `len`, `is_empty` and `is_full` answer may be right beside an item on its way in alone, at the moments of the run.
+///
+/// # Errors
+///
+/// `Order` where there is none, or where it does not end as the run does, and `NoMemory`.
+pub fn find_order(
+    alloc: Global,
+    history: &History,
+    moments: &[Moment],
+    queue: &Queue,
+) -> Result<(), Flaw> {
+    let mut order = Order {
+        queue: Queue::new(alloc, queue.capacity()),
+        stands: Vec::new(alloc),
+        made: Vec::from_elem(alloc, false, history.calls.len())?,
+    };
+    order.note(0)?;
+    for turn in settle(alloc, history.acts.as_slice())? {
+        order.take_turn(history, turn)?;
+    }
+    if order.has_rest(history, moments) && order.queue.is_settled(queue) {
+        Ok(())
+    } else {
+        Err(Flaw::Order)
+    }
+}
+
+impl Order {
+    // Notes the state that the queue has from this event on.
+    fn note(&mut self, event: usize) -> Result<(), AllocError> {
+        if let Some(before) = self.stands.last_mut() {
+            before.until = event;
+        }
+        self.stands.push(Stand {
+            from: event,
+            until: usize::MAX,
+            moment: self.queue.moment(),
+        })?;
+        Ok(())
+    }
+
+    // Makes a call that was not made yet, in its time.
+    fn take_turn(&mut self, history: &History, turn: Turn) -> Result<(), Flaw> {
+        let (Some(span), Some(made)) = (history.calls.get(turn.call), self.made.get_mut(turn.call))
+        else {
+            return Err(Flaw::Order);
+        };
+        if *made || turn.event < span.first {
+            return Err(Flaw::Order);
+        }
+        *made = true;
+        let reply = self.queue.make(span.call)?;
+        match span.end {
+            Some((last, told)) if turn.event > last || told != reply => return Err(Flaw::Order),
+            _ => {}
+        }
+        self.note(turn.event)?;
+        Ok(())
+    }
+
+    // Whether each other call that has ended is right at one of its moments.
+    fn has_rest(&self, history: &History, moments: &[Moment]) -> bool {
+        for (span, made) in history.calls.iter().zip(self.made.iter()) {
+            if !*made && !self.has(span, moments) {
+                return false;
+            }
+        }
+        true
+    }
+
+    fn has(&self, span: &Span, moments: &[Moment]) -> bool {
+        let Some((last, reply)) = span.end else {
+            return true;
+        };
+        match claim_of(span.call, reply) {
+            None => false,
+            Some(claim) => {
+                self.has_moment(claim, span.first, last)
+                    || is_glance(span.call) && self.is_glanced(claim, moments, span.first, last)
+            }
+        }
+    }
+
+    // Whether this is so of the queue after one of these events.
+    fn has_moment(&self, claim: Claim, first: usize, last: usize) -> bool {
+        for stand in self.stands.iter() {
+            if stand.is_between(first, last) && claim.holds(self.queue.capacity(), stand.moment) {
+                return true;
+            }
+        }
+        false
+    }
+
+    // Whether this is so in the run after one of these events, with an item on its way in.
+    fn is_glanced(&self, claim: Claim, moments: &[Moment], first: usize, last: usize) -> bool {
+        let count = last.wrapping_add(1).wrapping_sub(first);
+        for moment in moments.iter().skip(first).take(count) {
+            if moment.coming && claim.holds(self.queue.capacity(), *moment) {
+                return true;
+            }
+        }
+        false
+    }
+}
+
+// The calls that may see the queue while an item is on its way in.
+fn is_glance(call: Call<Item>) -> bool {
+    matches!(call, Call::Len | Call::IsEmpty | Call::IsFull)
+}

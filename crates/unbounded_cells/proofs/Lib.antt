@@ -1,5 +1,0 @@
-pub mod Pieces
-pub mod Linked
-pub mod Layings
-pub mod LineBegins
-pub mod ChainBegins
