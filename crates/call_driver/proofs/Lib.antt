@@ -1,5 +1,5 @@
 mod Watching
-mod Going
+pub mod Going
 mod Running
 pub mod Apart
 pub mod LeadsThrough

@@ -9,10 +9,8 @@ use crate::site::{Site, SoloSite};
 use crate::steps::{any_step, walking_step};
 use queue_steps::model::{CallKind, ReplyKind};
 use queue_steps::sizes::{BLOCK_SLOTS, SOLO_STEPS};
-use queue_steps::steps::{BoundedLocal, Kind, KindSteps, Local, UnboundedLocal};
+use queue_steps::steps::{Kind, KindSteps};
 use std::ops::ControlFlow;
-use std::sync::Wait;
-use std::thread::yield_now;
 
 /// The steps of a call that walks over a block, until it does another. The compiler knows in this loop where the call stands.
 #[inline(always)]
@@ -49,7 +47,7 @@ fn walk<T, B: Copy, S, M: Site<T, B, S>, G: Gate>(
 
 /// One round of a loop. The walk over a block is most of what a call does there that meets no other.
 #[inline(always)]
-fn retry<T, B: Copy, S, M: Site<T, B, S>, G: Gate>(
+pub fn retry<T, B: Copy, S, M: Site<T, B, S>, G: Gate>(
     site: &M,
     gate: &G,
     kind: Kind,
@@ -65,27 +63,6 @@ fn retry<T, B: Copy, S, M: Site<T, B, S>, G: Gate>(
         walk(site, gate, kind, call, seat, progress, carried)
     } else {
         any_step(site, gate, kind, call, seat, progress, carried)
-    }
-}
-
-/// Whether a call that stood there, and then here, has met another one half done, so that it tries again: a stamp is not stored yet, another call moves on to
-/// the next block, or an item is not written yet. A call that finds one slot locked is not among them: it tries again at once.
-#[inline(always)]
-fn must_give_way<B: Copy>(before: &Local<B>, after: &Local<B>) -> bool {
-    match (before, after) {
-        (Local::Bounded(before), Local::Bounded(after)) => match (before, after) {
-            (BoundedLocal::PushStamp(_, _), BoundedLocal::PushTail(_)) => true,
-            (BoundedLocal::PopStamp(_), BoundedLocal::PopHead) => true,
-            _ => false,
-        },
-        (Local::Unbounded(before), Local::Unbounded(after)) => match (before, after) {
-            (UnboundedLocal::PushTail(_, _), UnboundedLocal::PushTail(_, _)) => true,
-            (UnboundedLocal::PopHead, UnboundedLocal::PopHead) => true,
-            (UnboundedLocal::Following(_, _), UnboundedLocal::Following(_, _)) => true,
-            (UnboundedLocal::Awaiting(_, _), UnboundedLocal::Awaiting(_, _)) => true,
-            _ => false,
-        },
-        _ => false,
     }
 }
 
@@ -128,44 +105,6 @@ impl<T, B: Copy, S, M: SoloSite<T, B, S>> End<T, B, S, M> for Within {
             match retry(site, gate, kind, call, seat, progress, carried) {
                 ControlFlow::Break(reply) => return reply,
                 ControlFlow::Continue(after) => progress = after,
-            }
-        }
-        unreachable!()
-    }
-}
-
-/// The end of a call beside others: it may wait for one of them. Where it meets another call half done, it gives way to other threads.
-#[derive(Drop)]
-pub struct Waiting<'a, R> {
-    /// What a loop without a bound needs.
-    pub rt: &'a R,
-}
-
-impl<T, B: Copy, S, M: Site<T, B, S>, R: Wait> End<T, B, S, M> for Waiting<'_, R> {
-    fn finish<G: Gate>(
-        &self,
-        site: &M,
-        gate: &G,
-        kind: Kind,
-        call: CallKind,
-        seat: &mut S,
-        progress: Progress<B>,
-        carried: &mut Option<T>,
-    ) -> ReplyKind
-        requires { CanEnd M.Site kind call site.now progress carried.old seat.old }
-        ensures { EndsRightly M.Site kind call site.now progress carried.old seat.old carried.new seat.new result }
-    {
-        let mut progress = progress;
-        for _ in self.rt.forever() {
-            let before = progress.local;
-            match retry(site, gate, kind, call, seat, progress, carried) {
-                ControlFlow::Break(reply) => return reply,
-                ControlFlow::Continue(after) => {
-                    if must_give_way(&before, &after.local) {
-                        yield_now();
-                    }
-                    progress = after;
-                }
             }
         }
         unreachable!()

@@ -1,11 +1,76 @@
 //! A party's call that may wait for another party's.
+ghost use Rattle.call_driver.specs.OnWay.{CanEnd, EndsRightly};
+
 use call_driver::driver::drive as drive_apart;
 use call_driver::fast::Row;
 use call_driver::gate::Gate;
-use call_driver::retry::Waiting;
+use call_driver::progress::Progress;
+use call_driver::retry::{End, retry};
 use call_driver::site::Site;
-use queue_steps::model::{Call, Reply};
+use queue_steps::model::{Call, CallKind, Reply, ReplyKind};
+use queue_steps::steps::{BoundedLocal, Kind, Local, UnboundedLocal};
+use std::ops::ControlFlow;
 use std::sync::Wait;
+use std::thread::yield_now;
+
+/// Whether a call that stood there, and then here, has met another one half done, so that it tries again: a stamp is not stored yet, another call moves on to
+/// the next block, or an item is not written yet. A call that finds one slot locked is not among them: it tries again at once.
+#[inline(always)]
+fn must_give_way<B: Copy>(before: &Local<B>, after: &Local<B>) -> bool {
+    match (before, after) {
+        (Local::Bounded(before), Local::Bounded(after)) => match (before, after) {
+            (BoundedLocal::PushStamp(_, _), BoundedLocal::PushTail(_)) => true,
+            (BoundedLocal::PopStamp(_), BoundedLocal::PopHead) => true,
+            _ => false,
+        },
+        (Local::Unbounded(before), Local::Unbounded(after)) => match (before, after) {
+            (UnboundedLocal::PushTail(_, _), UnboundedLocal::PushTail(_, _)) => true,
+            (UnboundedLocal::PopHead, UnboundedLocal::PopHead) => true,
+            (UnboundedLocal::Following(_, _), UnboundedLocal::Following(_, _)) => true,
+            (UnboundedLocal::Awaiting(_, _), UnboundedLocal::Awaiting(_, _)) => true,
+            _ => false,
+        },
+        _ => false,
+    }
+}
+
+/// The end of a call beside others: it may wait for one of them. Where it meets another call half done, it gives way to other threads.
+#[derive(Drop)]
+pub(crate) struct Waiting<'a, R> {
+    /// What a loop without a bound needs.
+    pub(crate) rt: &'a R,
+}
+
+impl<T, B: Copy, S, M: Site<T, B, S>, R: Wait> End<T, B, S, M> for Waiting<'_, R> {
+    fn finish<G: Gate>(
+        &self,
+        site: &M,
+        gate: &G,
+        kind: Kind,
+        call: CallKind,
+        seat: &mut S,
+        progress: Progress<B>,
+        carried: &mut Option<T>,
+    ) -> ReplyKind
+        requires { CanEnd M.Site kind call site.now progress carried.old seat.old }
+        ensures { EndsRightly M.Site kind call site.now progress carried.old seat.old carried.new seat.new result }
+    {
+        let mut progress = progress;
+        for _ in self.rt.forever() {
+            let before = progress.local;
+            match retry(site, gate, kind, call, seat, progress, carried) {
+                ControlFlow::Break(reply) => return reply,
+                ControlFlow::Continue(after) => {
+                    if must_give_way(&before, &after.local) {
+                        yield_now();
+                    }
+                    progress = after;
+                }
+            }
+        }
+        unreachable!()
+    }
+}
 
 /// Runs a call to its end, after the fast steps `F`.
 #[inline(always)]

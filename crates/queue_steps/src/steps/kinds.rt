@@ -44,13 +44,13 @@ pub trait KindSteps {
         false
     }
 
-    /// What a call does next, where it passes from block to block.
+    /// What a call does next, where it passes from block to block. A kind without blocks tells what `next` does.
     #[inline(always)]
     fn next_passing<B: Copy>(kind: Kind, local: Local<B>, answer: Answer<B>) -> Next<B>
         requires of { has_kind kind }
         requires can { CanNext kind local answer }
-        requires other { is_common_of kind local answer ≡ false }
-        requires passing { is_passing_of kind local answer ≡ true }
+        requires other { kind ≡ Unbounded → is_common_of kind local answer ≡ false }
+        requires passing { kind ≡ Unbounded → is_passing_of kind local answer ≡ true }
         ensures { result ≡ next_of kind local answer }
     {
         Self::next(kind, local, answer)
@@ -69,12 +69,12 @@ pub trait KindSteps {
         false
     }
 
-    /// What a call does next, where it walks over a block.
+    /// What a call does next, where it walks over a block. A kind without blocks tells what `next` does.
     #[inline(always)]
     fn next_walk<B: Copy>(kind: Kind, local: Local<B>, answer: Answer<B>) -> Next<B>
         requires of { has_kind kind }
         requires can { CanNext kind local answer }
-        requires walk { is_walk_of kind local answer ≡ true }
+        requires walk { kind ≡ Unbounded → is_walk_of kind local answer ≡ true }
         ensures { result ≡ next_of kind local answer }
     {
         Self::next(kind, local, answer)

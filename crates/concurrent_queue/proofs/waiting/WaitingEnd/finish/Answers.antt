@@ -1,5 +1,5 @@
 use Rattle.call_driver.proofs.Going.{again}
-use Rattle.call_driver.proofs.retry.WaitingEnd.finish.Goals as goal
+use Rattle.concurrent_queue.proofs.waiting.WaitingEnd.finish.Goals as goal
 
 pub loop-preserved-then-must_give_way : goal.loop-preserved-then-must_give_way
 loop-preserved-then-must_give_way g c =

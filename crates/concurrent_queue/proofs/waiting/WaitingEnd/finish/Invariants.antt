@@ -1,7 +1,7 @@
 use Rattle.std.proofs.Common.{ℕ}
 use Rattle.queue_steps.specs.declared.model.Call.{Call}
 use Rattle.call_driver.specs.OnWay.{OnWay, IsUnderWay}
-use Rattle.call_driver.proofs.retry.WaitingEnd.finish.Given as goal
+use Rattle.concurrent_queue.proofs.waiting.WaitingEnd.finish.Given as goal
 
 -- the call is still on its way, whichever it is
 abbrev pub invariant-loop : goal.invariant-loop
