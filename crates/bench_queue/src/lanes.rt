@@ -5,35 +5,28 @@ ghost use Rattle.concurrent_queue.specs.Shared.{IsPartyOf};
 
 use crate::queues::open_shared;
 use app_text::args::KindName;
+use bench_loads::pairs::Lane;
 use concurrent_queue::{ConcurrentQueue, Exclusive, Party};
 use std::alloc::{AllocError, Global};
 use std::sync::Wait;
 
-/// A queue that one thread pushes into and pops from.
-pub trait Lane<T> {
-    /// Pushes the item. It is dropped where the queue does not take it.
-    fn put(&mut self, item: T);
+/// A queue with one owner.
+#[derive(Drop)]
+pub struct Owned<T>(pub Exclusive<T>);
 
-    /// Pops an item.
-    fn take(&mut self) -> Option<T>;
-
-    /// Pushes the item by force, which is a push where there is room.
-    fn fill(&mut self, item: T);
-}
-
-impl<T: Drop> Lane<T> for Exclusive<T> {
+impl<T: Drop> Lane<T> for Owned<T> {
     #[inline(always)]
     fn put(&mut self, item: T) {
-        let _ = self.push(item);
+        let _ = self.0.push(item);
     }
 
     #[inline(always)]
     fn take(&mut self) -> Option<T> {
-        self.pop().ok()
+        self.0.pop().ok()
     }
 
     fn fill(&mut self, item: T) {
-        let _ = self.force_push(item);
+        let _ = self.0.force_push(item);
     }
 }
 
@@ -73,14 +66,14 @@ impl<'a, R: Wait, T> Alone<'a, R, T> {
     }
 
     /// The queue, once its sharing has ended.
-    pub fn end(self) -> Exclusive<T> {
+    pub fn end(self) -> Owned<T> {
         let Alone {
             rt: _,
             queue,
             party,
         } = self;
         match queue.finish(party) {
-            Ok(left) => left,
+            Ok(left) => Owned(left),
             Err(_) => unreachable!(),
         }
     }

@@ -6,19 +6,17 @@
 #![tactic(auto)]
 
 mod crew;
-mod items;
 mod lanes;
-mod load;
-mod pairs;
 mod queues;
 mod runs;
 
-use crate::load::parse_load;
-use crate::runs::{Run, time};
+use crate::runs::time;
+use bench_loads::load::parse_load;
+use bench_loads::runs::{arguments, print_run};
+use std::io;
 use std::io::ErrorKind;
 use std::sync::Wait;
 use std::thread::Threads;
-use std::{env, fs, io};
 
 /// What is run where there are no arguments.
 static SHORT: [&str; 28] = [
@@ -53,13 +51,7 @@ static SHORT: [&str; 28] = [
 ];
 
 fn main(rt: HostRuntime) -> io::Result<()> {
-    let mut line = String::new(rt.alloc());
-    for word in env::args(&rt)?.skip(1) {
-        if !line.is_empty() {
-            line.push(' ')?;
-        }
-        line.push_str(word.as_str())?;
-    }
+    let line = arguments(&rt)?;
     if !line.is_empty() {
         return tell(&rt, &rt, line.as_str());
     }
@@ -74,25 +66,5 @@ fn tell<R: Threads + Wait + Sync>(rt: &HostRuntime, threads: &R, line: &str) -> 
     let Some(load) = parse_load(line) else {
         return Err(io::Error::from(ErrorKind::InvalidInput));
     };
-    let Run { sum, took } = time(rt, threads, load)?;
-    println!(rt; "{line}: sum {sum}")?;
-    let nanos = took.as_nanos();
-    match peak(rt) {
-        Ok(peak) => eprintln!(rt; "{line}: {nanos} ns, peak {peak} KiB"),
-        Err(_) => eprintln!(rt; "{line}: {nanos} ns"),
-    }
-}
-
-/// The most memory that this process has had so far, in KiB, where the system tells.
-fn peak(rt: &HostRuntime) -> io::Result<u64> {
-    let status = fs::read_to_string(rt, "/proc/self/status")?;
-    for line in status.lines() {
-        if let Some(size) = line.strip_prefix("VmHWM:")
-            && let Some(digits) = size.trim().strip_suffix(" kB")
-            && let Ok(peak) = digits.parse()
-        {
-            return Ok(peak);
-        }
-    }
-    Err(io::Error::from(ErrorKind::NotFound))
+    print_run(rt, line, time(rt, threads, load)?)
 }

@@ -1,25 +1,19 @@
 //! One run of a load, and how long it took.
 ghost use Rattle.app_text.specs.KindNames.{IsKindName};
 
-use crate::crew::{Crew, run_crew};
-use crate::items::{Batched, Item};
-use crate::lanes::{Alone, Lane};
-use crate::load::{Form, Load, Pairs, Size, Task, Work};
-use crate::pairs::{Rounds, Runs};
+use crate::crew::run_crew;
+use crate::lanes::{Alone, Owned};
 use crate::queues::{open_owned, open_shared};
 use app_text::args::KindName;
-use concurrent_queue::Exclusive;
+use bench_loads::crew::Crew;
+use bench_loads::items::Batched;
+use bench_loads::load::{Form, Load, Pairs, Size, Task, Work};
+use bench_loads::pairs::Runs;
+use bench_loads::runs::{Run, time_lane};
 use std::io;
 use std::sync::Wait;
 use std::thread::Threads;
-use std::time::{Duration, Instant};
-
-/// What came of a run: the sum of the numbers that were popped, and how long it took.
-#[derive(Clone, Copy, Debug)]
-pub struct Run {
-    pub sum: u64,
-    pub took: Duration,
-}
+use std::time::Instant;
 
 /// Runs a load, and times it.
 pub fn time<R: Threads + Wait + Sync>(rt: &HostRuntime, threads: &R, load: Load) -> io::Result<Run>
@@ -71,7 +65,7 @@ fn time_pairs<T: Runs, R: Wait>(
 {
     match pairs.form {
         Form::Owned => {
-            let queue: Exclusive<T> = open_owned(rt.alloc(), kind)?;
+            let queue: Owned<T> = Owned(open_owned(rt.alloc(), kind)?);
             time_lane(rt, queue, pairs)
         }
         Form::Alone => {
@@ -82,50 +76,5 @@ fn time_pairs<T: Runs, R: Wait>(
             let alone: Alone<R, T> = Alone::open(rt.alloc(), waits, kind)?;
             time_lane(rt, alone.end(), pairs)
         }
-    }
-}
-
-// Times pairs on an empty queue.
-fn time_lane<T: Runs, L: Lane<T> + Drop>(
-    rt: &HostRuntime,
-    mut lane: L,
-    pairs: Pairs,
-) -> io::Result<Run> {
-    for number in 0..behind(pairs.work) {
-        lane.fill(T::numbered(number));
-    }
-    let start = Instant::now(rt)?;
-    let taken = T::run(&mut lane, timed(pairs));
-    let took = start.elapsed(rt)?;
-    // the last item counts twice, so that the whole of each is wanted
-    Ok(Run {
-        sum: taken.sum.wrapping_add(taken.last.number()),
-        took,
-    })
-}
-
-// How many items lie behind, from before the clock is started.
-fn behind(work: Work) -> u64 {
-    match work {
-        Work::Behind(items) => items,
-        Work::Batch(_) => 0,
-    }
-}
-
-// What is timed.
-fn timed(pairs: Pairs) -> Rounds {
-    match pairs.work {
-        Work::Behind(items) => Rounds {
-            first: items,
-            count: pairs.count,
-            puts: 1,
-            takes: 1,
-        },
-        Work::Batch(items) => Rounds {
-            first: 0,
-            count: pairs.count.checked_div(items).unwrap_or(0),
-            puts: items,
-            takes: items,
-        },
     }
 }

@@ -1,7 +1,0 @@
-use Rattle.std.proofs.Common.{◌≡◌}
-use Rattle.concurrent_queue.specs.Shared.{IsPartyOf}
-use Rattle.bench_queue.proofs.crew.push_all.Given as goal
-
--- the party is still one of the queue's
-abbrev pub invariant-loop : goal.invariant-loop
-invariant-loop g l = IsPartyOf l.party l.fn.queue
