@@ -1,6 +1,5 @@
 -- How a call that is on its way goes on.
 use Rattle.std.proofs.Common.{◌≡◌, ℕ, zero, suc, ◌+◌, ◌-◌, ◌<◌, Option, Some, refl, arith, sym, ap, subst, ◌∙◌}
-use Rattle.std.specs.Prelude.{IsSome}
 use Rattle.queue_steps.specs.declared.sizes.TheConstants.{SOLO_STEPS, WAIT_FREE_STEPS}
 use Rattle.queue_steps.specs.declared.model.Call.{Call}
 use Rattle.queue_steps.specs.declared.model.Reply.{Reply}
@@ -16,7 +15,7 @@ use Rattle.queue_steps.specs.Next.{CanNext, next_of, first_local}
 use Rattle.queue_steps.specs.Kinds.{call_kind, call_value, filled}
 use Rattle.queue_steps.specs.WaitFree.{EndsBefore, EndsWaitFree}
 use Rattle.call_driver.specs.Leads.{MayGive, Gave, Leads, GoesOn, Begins}
-use Rattle.call_driver.specs.OnWay.{IsOf, OnWay, Before, Stood}
+use Rattle.call_driver.specs.OnWay.{OnWay, Before, Stood}
 use Rattle.call_driver.specs.declared.site.Site.{Ghosts}
 use Rattle.call_driver.specs.declared.progress.Progress.{Progress}
 

@@ -1,5 +1,5 @@
 -- The driver's laws for what a seat and a queue show are laws for the seat and the queue.
-use Rattle.std.specs.Prelude.{◌≡◌, ℕ, Option, Some, None}
+use Rattle.std.specs.Prelude.{ℕ, Option, Some, None}
 use Rattle.queue_steps.specs.declared.model.Call.{Call}
 use Rattle.queue_steps.specs.declared.model.Reply.{Reply}
 use Rattle.queue_steps.specs.declared.steps.types.Answer.{Answer}
@@ -9,7 +9,6 @@ use Rattle.queue_steps.specs.declared.steps.types.Op.{Op}
 use Rattle.queue_steps.specs.declared.steps.types.Touch.{Touch}
 use Rattle.queue_steps.specs.declared.steps.types.Local.{Local}
 use Rattle.std.proofs.Common.{ap}
-use Rattle.queue_steps.specs.Kinds.{filled}
 use Rattle.call_driver.specs.Leads.{Leads}
 
 -- what leads on for what a seat and a queue show leads on for them

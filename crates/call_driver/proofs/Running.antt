@@ -1,6 +1,5 @@
 -- How a run that ends begins, goes on, and ends.
-use Rattle.std.proofs.Common.{◌≡◌, ℕ, zero, suc, ◌+◌, ◌-◌, ◌<◌, Option, Some, refl, arith, sym, ap, subst, ◌∙◌}
-use Rattle.std.specs.Prelude.{IsSome}
+use Rattle.std.proofs.Common.{◌≡◌, ℕ, suc, ◌+◌, ◌-◌, ◌<◌, Option, arith, sym, subst, ◌∙◌}
 use Rattle.queue_steps.specs.declared.model.Call.{Call}
 use Rattle.queue_steps.specs.declared.model.Reply.{Reply}
 use Rattle.queue_steps.specs.declared.steps.types.Kind.{Kind}
@@ -12,11 +11,10 @@ use Rattle.queue_steps.specs.declared.steps.types.Op.{Op}
 use Rattle.queue_steps.specs.declared.steps.types.Touch.{Touch}
 use Rattle.queue_steps.specs.declared.steps.types.Local.{Local}
 use Rattle.queue_steps.specs.Next.{CanNext, next_of, first_local}
-use Rattle.queue_steps.specs.Kinds.{call_kind, call_value, filled}
+use Rattle.queue_steps.specs.Kinds.{call_kind, call_value}
 use Rattle.queue_steps.specs.declared.sizes.TheConstants.{SOLO_STEPS}
-use Rattle.queue_steps.specs.Sequential.{Owned, Sequential}
+use Rattle.queue_steps.specs.Sequential.{Owned}
 use Rattle.call_driver.specs.Ends.{Ends, EndsRight, Answered}
-use Rattle.call_driver.specs.Apart.{IsCall, AnswersApart}
 
 module _ {T B M : Type 0} (can_touch : M → Touch → Op B → Type 0) (touches : M → Touch → Op B → Option T → M → Option T → Type 0)
     (can_perform : M → Op B → Type 0) (performs : M → Op B → Answer B → M → Type 0) where

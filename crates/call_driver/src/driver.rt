@@ -23,7 +23,11 @@ use std::ops::ControlFlow;
 
 /// A call on its way, before its first step.
 #[inline(always)]
-fn begin<T, B: Copy, S, M: Site<T, B, S>>(site: &M, seat: &S, call: CallKind) -> (Kind, Progress<B>)
+pub fn begin<T, B: Copy, S, M: Site<T, B, S>>(
+    site: &M,
+    seat: &S,
+    call: CallKind,
+) -> (Kind, Progress<B>)
     requires { M.rests site.now seat.now }
     ensures { (whole : SpecCall T) (n : ℕ) → call ≡ call_kind whole → suc n ≡ SOLO_STEPS → OnWay M.Site n result.0 call site.now seat.now whole result.1 (call_value whole) seat.now }
 {
@@ -40,10 +44,10 @@ fn begin<T, B: Copy, S, M: Site<T, B, S>>(site: &M, seat: &S, call: CallKind) ->
 
 /// The steps of a call that are not known to be common, to its end.
 #[inline(never)]
-fn slow_path<T, B: Copy, S, M: Site<T, B, S>, G: Gate, E: End<T, B, S, M>>(
+fn slow_path<T, B: Copy, S, M: Site<T, B, S>, G: Gate, E: End<T, B, S, M> + Drop>(
     site: &M,
     gate: &G,
-    end: &E,
+    end: E,
     kind: Kind,
     call: CallKind,
     seat: &mut S,
@@ -62,21 +66,25 @@ fn slow_path<T, B: Copy, S, M: Site<T, B, S>, G: Gate, E: End<T, B, S, M>>(
 
 /// Goes on where no step is known to be common. What the slow path is handed is made here alone, so that the fast steps write none of it. So the carried value goes to a place of its own and back: the slow path never gets the place that the fast steps are lent, and a word stays in a register there.
 #[inline(always)]
-fn leave<T, B: Copy, S, M: Site<T, B, S>, G: Gate, E: End<T, B, S, M>>(
+pub fn leave<T, B: Copy, S, M: Site<T, B, S>, G: Gate, E: End<T, B, S, M> + Drop>(
     site: &M,
     gate: &G,
-    end: &E,
+    end: E,
     kind: Kind,
     call: CallKind,
     seat: &mut S,
-    progress: Progress<B>,
+    progress: &Progress<B>,
     carried: &mut Option<T>,
 ) -> ReplyKind
-    requires { CanEnd M.Site kind call site.now progress carried.old seat.old }
-    ensures { EndsRightly M.Site kind call site.now progress carried.old seat.old carried.new seat.new result }
+    requires { CanEnd M.Site kind call site.now progress.now carried.old seat.old }
+    ensures { EndsRightly M.Site kind call site.now progress.now carried.old seat.old carried.new seat.new result }
 {
+    let left = Progress {
+        local: progress.local,
+        answer: progress.answer,
+    };
     let mut own = carried.take();
-    let reply = slow_path(site, gate, end, kind, call, seat, progress, &mut own);
+    let reply = slow_path(site, gate, end, kind, call, seat, left, &mut own);
     let none = mem::replace(carried, own);
     let None = none else { unreachable!() };
     reply
@@ -86,14 +94,15 @@ fn leave<T, B: Copy, S, M: Site<T, B, S>, G: Gate, E: End<T, B, S, M>>(
 ///
 /// The place of the value that the call carries is lent, and then holds what it ends with.
 #[inline(always)]
-pub fn drive<T, B: Copy, S, M: Site<T, B, S>, G: Gate, E: End<T, B, S, M>, F: Row<T, B, S, M, G>>(
-    site: &M,
-    gate: &G,
-    end: &E,
-    seat: &mut S,
-    call: CallKind,
-    carried: &mut Option<T>,
-) -> ReplyKind
+pub fn drive<
+    T,
+    B: Copy,
+    S,
+    M: Site<T, B, S>,
+    G: Gate,
+    E: End<T, B, S, M> + Drop,
+    F: Row<T, B, S, M, G>,
+>(site: &M, gate: &G, end: E, seat: &mut S, call: CallKind, carried: &mut Option<T>) -> ReplyKind
     requires rests { M.rests site.now seat.old }
     requires whole { FitsCall call carried.old }
     ensures { (c : SpecCall T) → IsCall call carried.old c → EndsWith M.Site site.now seat.old c carried.new seat.new result }
@@ -101,15 +110,15 @@ pub fn drive<T, B: Copy, S, M: Site<T, B, S>, G: Gate, E: End<T, B, S, M>, F: Ro
     let (kind, mut progress) = begin(site, seat, call);
     match F::run(site, gate, kind, call, seat, &mut progress, carried) {
         ControlFlow::Break(reply) => reply,
-        ControlFlow::Continue(()) => leave(site, gate, end, kind, call, seat, progress, carried),
+        ControlFlow::Continue(()) => leave(site, gate, end, kind, call, seat, &progress, carried),
     }
 }
 
 /// Runs a call to its end, in the loop alone.
-pub fn drive_in_loop<T, B: Copy, S, M: Site<T, B, S>, G: Gate, E: End<T, B, S, M>>(
+pub fn drive_in_loop<T, B: Copy, S, M: Site<T, B, S>, G: Gate, E: End<T, B, S, M> + Drop>(
     site: &M,
     gate: &G,
-    end: &E,
+    end: E,
     seat: &mut S,
     call: CallKind,
     carried: &mut Option<T>,

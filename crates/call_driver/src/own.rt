@@ -96,7 +96,7 @@ pub fn drive<T, B: Copy, C: OwnCells<T, B>, W>(
     ensures idle { C.idle cells.new }
     ensures sequential { SequentialApart (C.owned cells.old) call carried.old result carried.new (C.owned cells.new) }
 {
-    drive_at::<T, B, C, Own, Open, Within, Usual<W>>(&Own, &Open, &Within, cells, call, carried)
+    drive_at::<T, B, C, Own, Open, Within, Usual<W>>(&Own, &Open, Within, cells, call, carried)
 }
 
 /// Runs a call to its end, in the loop alone.
@@ -109,7 +109,7 @@ pub fn drive_in_loop<T, B: Copy, C: OwnCells<T, B>>(cells: &mut C, call: Call<T>
     let reply = drive_in_loop_at::<T, B, C, Own, Open, Within>(
         &Own,
         &Open,
-        &Within,
+        Within,
         cells,
         call,
         &mut carried,

@@ -70,7 +70,7 @@ pub fn retry<T, B: Copy, S, M: Site<T, B, S>, G: Gate>(
 pub trait End<T, B: Copy, S, M: Site<T, B, S>> {
     /// Takes steps in a loop until the reply.
     fn finish<G: Gate>(
-        &self,
+        self,
         site: &M,
         gate: &G,
         kind: Kind,
@@ -84,11 +84,12 @@ pub trait End<T, B: Copy, S, M: Site<T, B, S>> {
 }
 
 /// The end of a call that runs alone: it comes within a number of steps.
+#[derive(Drop)]
 pub struct Within;
 
 impl<T, B: Copy, S, M: SoloSite<T, B, S>> End<T, B, S, M> for Within {
     fn finish<G: Gate>(
-        &self,
+        self,
         site: &M,
         gate: &G,
         kind: Kind,

@@ -1,7 +1,7 @@
 //! A party's call that may wait for another party's.
 ghost use Rattle.call_driver.specs.OnWay.{CanEnd, EndsRightly};
 
-use call_driver::driver::drive as drive_apart;
+use call_driver::driver::{begin, leave};
 use call_driver::fast::Row;
 use call_driver::gate::Gate;
 use call_driver::progress::Progress;
@@ -43,7 +43,7 @@ pub(crate) struct Waiting<'a, R> {
 
 impl<T, B: Copy, S, M: Site<T, B, S>, R: Wait> End<T, B, S, M> for Waiting<'_, R> {
     fn finish<G: Gate>(
-        &self,
+        self,
         site: &M,
         gate: &G,
         kind: Kind,
@@ -72,7 +72,7 @@ impl<T, B: Copy, S, M: Site<T, B, S>, R: Wait> End<T, B, S, M> for Waiting<'_, R
     }
 }
 
-/// Runs a call to its end, after the fast steps `F`.
+/// Runs a call to its end, after the fast steps `F`. The reply is put together on either way by itself, so that the compiler knows its kind where the fast steps end.
 #[inline(always)]
 pub(crate) fn drive<T, B: Copy, S, M: Site<T, B, S>, G: Gate, R: Wait, F: Row<T, B, S, M, G>>(
     site: &M,
@@ -85,13 +85,21 @@ pub(crate) fn drive<T, B: Copy, S, M: Site<T, B, S>, G: Gate, R: Wait, F: Row<T,
     ensures { M.ended site.now seat.old call result seat.new }
 {
     let (call, mut carried) = call.split();
-    let reply = drive_apart::<T, B, S, M, G, Waiting<'_, R>, F>(
-        site,
-        gate,
-        &Waiting { rt },
-        seat,
-        call,
-        &mut carried,
-    );
-    Reply::fill(reply, carried)
+    let (kind, mut progress) = begin::<T, B, S, M>(site, seat, call);
+    match F::run(site, gate, kind, call, seat, &mut progress, &mut carried) {
+        ControlFlow::Break(reply) => Reply::fill(reply, carried),
+        ControlFlow::Continue(()) => {
+            let reply = leave(
+                site,
+                gate,
+                Waiting { rt },
+                kind,
+                call,
+                seat,
+                &progress,
+                &mut carried,
+            );
+            Reply::fill(reply, carried)
+        }
+    }
 }

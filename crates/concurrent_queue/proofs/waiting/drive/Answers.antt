@@ -1,17 +1,43 @@
-use Rattle.std.proofs.Common.{◌≡◌, refl}
+use Rattle.std.proofs.Common.{◌≡◌, ◌-◌, refl}
+use Rattle.queue_steps.specs.declared.sizes.TheConstants.{SOLO_STEPS}
 use Rattle.call_driver.proofs.Apart.{call-parts}
 use Rattle.concurrent_queue.proofs.waiting.drive.Goals as goal
 
-pub drive-reply-requires-clause-whole : goal.drive-reply-requires-clause-whole
-drive-reply-requires-clause-whole g c = (c.args.call, call-parts c.split-call.result c.args.call c.split-call.ensures)
+pub run-requires : goal.run-requires
+run-requires g c =
+    let h = call-parts c.split-call.result c.args.call c.split-call.ensures in
+    (SOLO_STEPS - 1, (c.args.call, c.args.seat.now, rw h.1 (c.begin-kind.ensures c.args.call (SOLO_STEPS - 1) h.0 refl)))
 
 pub fill-requires : goal.fill-requires
 fill-requires g c =
-    let told = c.drive-reply.ensures c.args.call (call-parts c.split-call.result c.args.call c.split-call.ensures) in
+    let h = call-parts c.split-call.result c.args.call c.split-call.ensures in
+    let told = c.in-Break.ensures (SOLO_STEPS - 1) c.args.call c.args.seat.now (rw h.1 (c.begin-kind.ensures c.args.call (SOLO_STEPS - 1) h.0 refl)) in
     rw told.1 refl
 
-pub returns : goal.returns
-returns g c =
-    let told = c.drive-reply.ensures c.args.call (call-parts c.split-call.result c.args.call c.split-call.ensures) in
+pub returns-in-Break : goal.returns-in-Break
+returns-in-Break g c =
+    let h = call-parts c.split-call.result c.args.call c.split-call.ensures in
+    let told = c.in-Break.ensures (SOLO_STEPS - 1) c.args.call c.args.seat.now (rw h.1 (c.begin-kind.ensures c.args.call (SOLO_STEPS - 1) h.0 refl)) in
     let same : told.0 ≡ c.fill.result = let e = c.fill.ensures in let f = told.1 in cc in
+    rw same at told.2
+
+pub leave-reply-requires : goal.leave-reply-requires
+leave-reply-requires g c =
+    let h = call-parts c.split-call.result c.args.call c.split-call.ensures in
+    let on = c.in-Continue.ensures (SOLO_STEPS - 1) c.args.call c.args.seat.now (rw h.1 (c.begin-kind.ensures c.args.call (SOLO_STEPS - 1) h.0 refl)) in
+    (SOLO_STEPS - 1, refl, (c.args.call, c.args.seat.now, on))
+
+pub fill-requires-in-Continue : goal.fill-requires-in-Continue
+fill-requires-in-Continue g c =
+    let h = call-parts c.split-call.result c.args.call c.split-call.ensures in
+    let on = c.in-Continue.ensures (SOLO_STEPS - 1) c.args.call c.args.seat.now (rw h.1 (c.begin-kind.ensures c.args.call (SOLO_STEPS - 1) h.0 refl)) in
+    let told = c.leave-reply.ensures (SOLO_STEPS - 1) c.args.call c.args.seat.now refl on in
+    rw told.1 refl
+
+pub returns-in-Continue : goal.returns-in-Continue
+returns-in-Continue g c =
+    let h = call-parts c.split-call.result c.args.call c.split-call.ensures in
+    let on = c.in-Continue.ensures (SOLO_STEPS - 1) c.args.call c.args.seat.now (rw h.1 (c.begin-kind.ensures c.args.call (SOLO_STEPS - 1) h.0 refl)) in
+    let told = c.leave-reply.ensures (SOLO_STEPS - 1) c.args.call c.args.seat.now refl on in
+    let same : told.0 ≡ c.fill-in-Continue.result = let e = c.fill-in-Continue.ensures in let f = told.1 in cc in
     rw same at told.2
