@@ -134,7 +134,7 @@ abbrev pub HandOf : {A : Type 0} → Chain A → ℕ → Bool → Type 0
 HandOf c who true = (h : Hand) × InHand c who h
 HandOf c who false = InHand c who Empty
 
--- that hand
+-- what a party has in its hand, told by such a proof
 abbrev pub hand_of : {A : Type 0} (c : Chain A) (who : ℕ) (in_call : Bool) → HandOf c who in_call → Hand
 hand_of c who true h = h.0
 hand_of c who false h = Empty

@@ -8,14 +8,15 @@ use crate::blocks::{self, Block, Place};
 use crate::machine::Running;
 use crate::shared_memory::named_block;
 use queue_steps::sizes::BLOCK_POSITIONS;
-use queue_steps::steps::{Local, READ, TAIL_STEP, Touch, UnboundedLocal};
+use queue_steps::steps::{Local, READ, Touch, UnboundedLocal};
+use queue_steps::words::position_of;
 use std::alloc::Allocator;
 
 /// The slot of a word's position.
 fn slot_of(word: u64) -> usize
     ensures { result ≡ offset_of word }
 {
-    (word / TAIL_STEP % BLOCK_POSITIONS) as usize
+    (position_of(word) % BLOCK_POSITIONS) as usize
 }
 
 /// Puts an item into a slot, if it is there.

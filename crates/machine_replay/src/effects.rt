@@ -7,9 +7,8 @@ ghost use Rattle.queue_steps.specs.declared.steps.types.Answer.TheVariants.{Foun
 ghost use Rattle.machine_replay.specs.EffectOf.{single_effect, bounded_effect, unbounded_effect, effect_of};
 
 use crate::types::EffectKind;
-use queue_steps::steps::{
-    Answer, BoundedLocal, CLOSED, Kind, Local, MARK, SingleLocal, TAIL_STEP, UnboundedLocal,
-};
+use queue_steps::steps::{Answer, BoundedLocal, CLOSED, Kind, Local, SingleLocal, UnboundedLocal};
+use queue_steps::words::{is_marked, position_of};
 
 /// What a step on one slot did to the queue.
 fn effect_on_single(local: SingleLocal, found: u64) -> Option<EffectKind>
@@ -40,15 +39,13 @@ fn effect_on_ring(cap: u64, local: BoundedLocal, found: u64) -> Option<EffectKin
 {
     match local {
         BoundedLocal::Claiming(_, tail) => (found == tail).then_some(EffectKind::Append),
-        BoundedLocal::Displacing(tail) => (found + cap == tail / TAIL_STEP).then_some(
+        BoundedLocal::Displacing(tail) => (found + cap == position_of(tail)).then_some(
             EffectKind::Front,
         ),
         BoundedLocal::Arriving(_) => Some(EffectKind::Arrive),
-        BoundedLocal::ClosingAtLimit(_) => (found % TAIL_STEP != MARK).then_some(
-            EffectKind::SelfClose,
-        ),
+        BoundedLocal::ClosingAtLimit(_) => (!is_marked(found)).then_some(EffectKind::SelfClose),
         BoundedLocal::Taking(head) => (found == head).then_some(EffectKind::Take),
-        BoundedLocal::Closing => (found % TAIL_STEP != MARK).then_some(EffectKind::Close),
+        BoundedLocal::Closing => (!is_marked(found)).then_some(EffectKind::Close),
         _ => None,
     }
 }
@@ -59,11 +56,11 @@ fn effect_on_chain(local: UnboundedLocal<usize>, found: u64) -> Option<EffectKin
 {
     match local {
         UnboundedLocal::Claiming(_, tail, _, _) => (found == tail).then_some(EffectKind::Append),
-        UnboundedLocal::ClosingAtLimit(_, _) => (found % TAIL_STEP != MARK).then_some(
+        UnboundedLocal::ClosingAtLimit(_, _) => (!is_marked(found)).then_some(
             EffectKind::SelfClose,
         ),
         UnboundedLocal::Taking(head, _) => (found == head).then_some(EffectKind::Take),
-        UnboundedLocal::Closing => (found % TAIL_STEP != MARK).then_some(EffectKind::Close),
+        UnboundedLocal::Closing => (!is_marked(found)).then_some(EffectKind::Close),
         _ => None,
     }
 }

@@ -9,7 +9,8 @@ ghost use Rattle.machine_replay.specs.Machine.{world_of};
 use crate::chain_left;
 use crate::machine::{Machine, Running};
 use crate::shared_memory::SharedMemory;
-use queue_steps::steps::{Kind, PUSHED, TAIL_STEP, Touch};
+use queue_steps::steps::{Kind, PUSHED, Touch};
+use queue_steps::words::position_of;
 use std::alloc::Allocator;
 
 /// The slots once a call that is about to write has written.
@@ -99,7 +100,7 @@ fn list<T: Drop, A: Allocator>(
             }
             left
         }
-        Kind::Bounded(cap) => gather(cap, head, tail / TAIL_STEP, slots, left),
+        Kind::Bounded(cap) => gather(cap, head, position_of(tail), slots, left),
         Kind::Unbounded => left,
     }
 }

@@ -11,7 +11,7 @@ use crate::machine::Machine;
 use crate::shared_memory::SharedMemory;
 use crate::types::Peak;
 use queue_steps::sizes::{BLOCK_POSITIONS, BLOCK_SLOTS};
-use queue_steps::steps::TAIL_STEP;
+use queue_steps::words::position_of;
 use std::alloc::Allocator;
 
 /// How many of these are there.
@@ -32,7 +32,7 @@ fn present<X, A: Allocator>(places: &Vec<Option<X>, A>) -> usize
 fn items(word: u64) -> u64
     ensures { result ≡ items_before (position_of word) }
 {
-    let position = word / TAIL_STEP;
+    let position = position_of(word);
     position / BLOCK_POSITIONS * BLOCK_SLOTS + position % BLOCK_POSITIONS
 }
 

@@ -11,6 +11,7 @@ use mem_blocks::chain::Chain;
 use mem_blocks::item::{Item, Place};
 use queue_steps::sizes::{BLOCK_POSITIONS, BLOCK_SLOTS};
 use queue_steps::steps::{READ, TAIL_STEP, WRITE};
+use queue_steps::words::position_of;
 use std::alloc::{AllocError, Allocator};
 
 /// The number of the block that a word's position is in, of all blocks that were ever laid.
@@ -18,7 +19,7 @@ use std::alloc::{AllocError, Allocator};
 fn block_of(word: u64) -> u64
     ensures { result ≡ spec_block_of word }
 {
-    word / TAIL_STEP / BLOCK_POSITIONS
+    position_of(word) / BLOCK_POSITIONS
 }
 
 impl<T, A: Allocator> LinkedBlocks<T, A> {

@@ -26,7 +26,8 @@ use mem_blocks::item::{Item, Place};
 use mem_blocks::sizes::SLOTS;
 use mem_blocks::web::{Seat, Web};
 use queue_steps::sizes::{BLOCK_POSITIONS, BLOCK_SLOTS};
-use queue_steps::steps::{READ, TAIL_STEP, WRITE};
+use queue_steps::steps::{READ, WRITE};
+use queue_steps::words::position_of;
 use shared_parties::known::CallState;
 use std::alloc::Allocator;
 
@@ -135,7 +136,7 @@ pub(crate) fn give_up<T: Drop, A: Allocator>(
 fn block_of(word: u64) -> u64
     ensures { result ≡ spec_block_of word }
 {
-    word / TAIL_STEP / BLOCK_POSITIONS
+    position_of(word) / BLOCK_POSITIONS
 }
 
 /// The offset of a word's position in its block.
@@ -143,7 +144,7 @@ fn block_of(word: u64) -> u64
 fn offset_of(word: u64) -> u64
     ensures { result ≡ spec_offset_of word }
 {
-    word / TAIL_STEP % BLOCK_POSITIONS
+    position_of(word) % BLOCK_POSITIONS
 }
 
 /// How many items stand before a word's position.
