@@ -16,7 +16,7 @@ use Rattle.shared_parties.specs.CallStates.{IsResting, HasAll}
 use Rattle.shared_parties.specs.Parting.{IsParty}
 use Rattle.shared_parties.proofs.Views.{ended_party}
 use Rattle.concurrent_queue.specs.Shared.{QueueName, at_table, QueueId, Person, person, Calls, Finishes}
-use Rattle.shared_tables.specs.AtTable.{Place, Ended}
+use Rattle.shared_tables.specs.AtTable.{TableSeat, Ended}
 
 abbrev queue_id : QueueName → Option ℕ → QueueId
 queue_id n cap = record { name = n; cap = cap }
@@ -36,10 +36,10 @@ module _ {T : Type 0} where
       )
 
   -- the same of a party at a table
-  pub ended_person : (cap : Option ℕ) (t : TableId) (p q : Place T) (c : Call T) (r : Reply T) → IsParty p.1.0 → Ended cap t p c r q → IsParty q.1.0 × (q.1.1 ≡ [])
+  pub ended_person : (cap : Option ℕ) (t : TableId) (p q : TableSeat T) (c : Call T) (r : Reply T) → IsParty p.1.0 → Ended cap t p c r q → IsParty q.1.0 × (q.1.1 ≡ [])
   ended_person cap t p q c r is e = (ended_party cap p.1.0 q.1.0 c r is e.0.1.0 e.0.2 e.0.4 e.1, e.0.1.1)
 
-  pub ended_calls : (cap : Option ℕ) (t : TableId) (p q : Place T) (v : Person T) (c : Call T) (r : Reply T) → person (at_table p.0) p.1.0 ≡ v → v.queue.cap ≡ cap → t ≡ p.0 → IsParty p.1.0 → Ended cap t p c r q
+  pub ended_calls : (cap : Option ℕ) (t : TableId) (p q : TableSeat T) (v : Person T) (c : Call T) (r : Reply T) → person (at_table p.0) p.1.0 ≡ v → v.queue.cap ≡ cap → t ≡ p.0 → IsParty p.1.0 → Ended cap t p c r q
       → Calls v c r (person (at_table q.0) q.1.0)
   ended_calls cap t p q v c r is_v one here is e = calls_person cap (at_table p.0) (at_table q.0) p.1.0 q.1.0 v c r is_v one (ap at_table (e.0.0 ∙ here)) is e.0.1.0 e.0.2 e.0.4 e.1
 

@@ -100,14 +100,14 @@ pub(crate) type Counts<A> = Table<(), SeatCounts, (), Counted, A>;
 pub(crate) type Words = Shared<(), SeatCounts, (), Counted>;
 
 /// The seat of an end.
-pub(crate) type Place = Seat<(), SeatCounts>;
+pub(crate) type EndSeat = Seat<(), SeatCounts>;
 
 /// The words, which count one sender and one receiver, and the seats of these.
 ///
 /// # Errors
 ///
 /// There is no memory.
-pub(crate) fn open<A: Allocator>(alloc: A) -> Result<(Counts<A>, Place, Place), AllocError>
+pub(crate) fn open<A: Allocator>(alloc: A) -> Result<(Counts<A>, EndSeat, EndSeat), AllocError>
     ensures table { IfOk result (λ r. (r.0.shared.table_id.words ≡ 2) × (r.1.table_id ≡ r.0.shared.table_id) × (r.2.table_id ≡ r.0.shared.table_id)) }
     ensures seats { IfOk result (λ r. (r.1.me ≡ (at_side 0 (side 1 0 entire), [])) × (r.2.me ≡ (at_side 1 (side 1 0 entire), []))) }
 {
@@ -117,7 +117,7 @@ pub(crate) fn open<A: Allocator>(alloc: A) -> Result<(Counts<A>, Place, Place), 
 }
 
 /// Counts one end more, where there may be one, and gives whether there may.
-fn enter(words: &Words, place: &mut Place, word: usize) -> bool
+fn enter(words: &Words, place: &mut EndSeat, word: usize) -> bool
     requires table { (place.old.table_id ≡ words.now.table_id) × (words.now.table_id.words ≡ 2) × (word < 2) }
     requires one { IsEnd word place.old.me }
     ensures same { (place.new.table_id ≡ place.old.table_id) × (place.new.id ≡ place.old.id) }
@@ -131,7 +131,7 @@ fn enter(words: &Words, place: &mut Place, word: usize) -> bool
 }
 
 /// Parts the seat of an end in two, where there may be one more end of its side.
-pub(crate) fn part(words: &Words, place: &mut Place, word: usize) -> Option<Place>
+pub(crate) fn part(words: &Words, place: &mut EndSeat, word: usize) -> Option<EndSeat>
     requires table { (place.old.table_id ≡ words.now.table_id) × (words.now.table_id.words ≡ 2) × (word < 2) }
     requires one { IsEnd word place.old.me }
     ensures same { place.new.table_id ≡ place.old.table_id }
@@ -146,7 +146,7 @@ pub(crate) fn part(words: &Words, place: &mut Place, word: usize) -> Option<Plac
 }
 
 /// Counts one end less, and gives whether it was the last of its side.
-pub(crate) fn leave(words: &Words, mut place: Place, word: usize) -> bool
+pub(crate) fn leave(words: &Words, mut place: EndSeat, word: usize) -> bool
     requires table { (place.table_id ≡ words.now.table_id) × (words.now.table_id.words ≡ 2) × (word < 2) }
     requires one { IsEnd word place.me }
     ensures { IsEntire (stake_at word place.me.0) → result ≡ true }
@@ -155,7 +155,7 @@ pub(crate) fn leave(words: &Words, mut place: Place, word: usize) -> bool
 }
 
 /// Makes one seat of the seats of two ends of a side, and counts one end less. It has the stakes of both.
-pub(crate) fn unite(words: &Words, place: &mut Place, other: Place, word: usize)
+pub(crate) fn unite(words: &Words, place: &mut EndSeat, other: EndSeat, word: usize)
     requires table { (place.old.table_id ≡ words.now.table_id) × (other.table_id ≡ words.now.table_id) × (words.now.table_id.words ≡ 2) × (word < 2) }
     requires ends { IsEnd word place.old.me × IsEnd word other.me }
     ensures same { place.new.table_id ≡ place.old.table_id }

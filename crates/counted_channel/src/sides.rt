@@ -5,7 +5,7 @@ ghost use Rattle.concurrent_queue.specs.Shared.{IsPartyOf};
 ghost use Rattle.counted_channel.specs.Channel.{EndParts, EndJoins, Ends, GivenBack, end_at};
 ghost use Rattle.counted_channel.specs.Counting.{IsEnd, stake_at};
 
-use crate::counting::{Place, Words, leave, part, unite};
+use crate::counting::{EndSeat, Words, leave, part, unite};
 use concurrent_queue::{ConcurrentQueue, Party};
 use std::alloc::Allocator;
 
@@ -13,7 +13,7 @@ use std::alloc::Allocator;
 #[derive(Drop)]
 pub(crate) struct SideEnd<T> {
     pub(crate) party: Party<T>,
-    pub(crate) place: Place,
+    pub(crate) place: EndSeat,
 }
 
 /// Parts an end in two, or gives it back where the queue has as many parties as it may, or the channel as many ends of this side.

@@ -30,22 +30,22 @@ pub row_put : {X : Type 0} (P : X → X → Type 0) (f : ℕ → X) (i : ℕ) (x
 row_put P f i x same here j = put_ok f i j x (λ k y. P (f k) y) here (λ ne. same (f j))
 
 -- an end of the chain, by who moves it over a block's end and where it is: it stays or goes one on, and one that rests goes on before it is moved
-pub record Turns {X : Type 0} (who : ℕ) (whose : X → Option ℕ) (still : X) (before after : X × ℕ) : Type 0 where
+pub record EndMoves {X : Type 0} (who : ℕ) (whose : X → Option ℕ) (still : X) (before after : X × ℕ) : Type 0 where
   pub moves : (after.1 ≡ before.1) ⊎ (after.1 ≡ before.1 + 1)
   pub rests : before.0 ≡ still → (before.1 < after.1) ⊎ (after.0 ≡ still)
   pub left : Leaves who (λ end. whose end.0) before after
 
-pub turns_same : {X : Type 0} {who : ℕ} {whose : X → Option ℕ} {still : X} {end : X × ℕ} → Turns who whose still end end
-turns_same = record { moves = inl refl; rests = λ e. inr e; left = leaves_same }
+pub end_same : {X : Type 0} {who : ℕ} {whose : X → Option ℕ} {still : X} {end : X × ℕ} → EndMoves who whose still end end
+end_same = record { moves = inl refl; rests = λ e. inr e; left = leaves_same }
 
 -- the place of an item: what it is claimed for or holds stays
-pub record Place {A : Type 0} (who : ℕ) (x y : Writer A) : Type 0 where
+pub record ItemKept {A : Type 0} (who : ℕ) (x y : Writer A) : Type 0 where
   pub valued : (v : A) → value x ≡ Some v → value y ≡ Some v
   pub wrote : (v : A) → x ≡ Wrote v → y ≡ Wrote v
   pub left : Leaves who (λ w. writer_of w) x y
 
-pub place_same : {A : Type 0} (who : ℕ) (x : Writer A) → Place who x x
-place_same who x = record { valued = λ v e. e; wrote = λ v e. e; left = leaves_same }
+pub item_same : {A : Type 0} (who : ℕ) (x : Writer A) → ItemKept who x x
+item_same who x = record { valued = λ v e. e; wrote = λ v e. e; left = leaves_same }
 
 -- what is done once and for all: the link of a block, the showing of the first one
 pub record Once {X : Type 0} (who : ℕ) (whose : X → Option ℕ) (done x y : X) : Type 0 where
@@ -87,14 +87,14 @@ blocks_more who count names uses f spare = record {
 
 -- the parts that pushes change
 pub record PushSide {A : Type 0} (who : ℕ) (r s : Chain A) : Type 0 where
-  pub tail : Turns who mover_of Rests (r.mover, r.tail) (s.mover, s.tail)
-  pub places : (n : ℕ) → Place who (r.writers n) (s.writers n)
+  pub tail : EndMoves who mover_of Rests (r.mover, r.tail) (s.mover, s.tail)
+  pub places : (n : ℕ) → ItemKept who (r.writers n) (s.writers n)
   pub blocks : Blocks who r.blocks r.names r.uses s.blocks s.names s.uses
   pub links : (b : ℕ) → Once who linker_of Linked (r.links b) (s.links b)
   pub front : Once who shower_of Seen r.shown s.shown
 
 -- the parts that pops change
 pub record PopSide {A : Type 0} (who : ℕ) (r s : Chain A) : Type 0 where
-  pub head : Turns who passer_of Stands (r.passer, r.head) (s.passer, s.head)
+  pub head : EndMoves who passer_of Stands (r.passer, r.head) (s.passer, s.head)
   pub reads : (n : ℕ) → Leaves who reader_of (r.readers n) (s.readers n)
   pub walks : (b : ℕ) → Leaves who walker_of (r.walks b) (s.walks b)

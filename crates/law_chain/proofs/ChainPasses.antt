@@ -3,7 +3,7 @@ use Rattle.std.proofs.Common.{ℕ, ◌≡◌, ◌≢◌, ◌⊎◌, inl, inr, So
 use Rattle.law_chain.specs.ChainCells.{Writer, Free, Writing, Reader, Mover, Rests, Laying, Passer, Stands, LinkState, Linked, Shown, Showing, Seen, Walk, Use, Spare, Chain, ChainOk, Part, Write, Read, Tail, Head, Next, First, Passed, reader_of, mover_of, passer_of, linker_of, shower_of, walker_of, owner}
 use Rattle.law_chain.proofs.ChainTransitions.{next_free, no_front}
 use Rattle.law_chain.specs.ChainTransitions.{appended, installed, displayed, marked}
-use Rattle.law_chain.proofs.ChainLeaves.{Leaves, leaves_same, IsFree, free_none, free_own, leaves_own, row_put, Turns, turns_same, Place, place_same, Once, once_same, Blocks, blocks_same, blocks_more, PushSide, PopSide}
+use Rattle.law_chain.proofs.ChainLeaves.{Leaves, leaves_same, IsFree, free_none, free_own, leaves_own, row_put, EndMoves, end_same, ItemKept, item_same, Once, once_same, Blocks, blocks_same, blocks_more, PushSide, PopSide}
 use Rattle.law_chain.specs.ChainPasses.{Kept, Passes}
 
 -- what another party holds of any part stays, and it comes by none
@@ -53,8 +53,8 @@ pops_of c = ((c.passer, c.head), c.readers, c.walks)
 
 push_side : {A : Type 0} {r s : Chain A} (who : ℕ) → pushes_of s ≡ pushes_of r → PushSide who r s
 push_side {r = r} who same = record {
-  tail = subst (λ p. Turns who mover_of Rests (r.mover, r.tail) p.0) (sym same) turns_same;
-  places = λ n. subst (λ p. Place who (r.writers n) (p.1 n)) (sym same) (place_same who (r.writers n));
+  tail = subst (λ p. EndMoves who mover_of Rests (r.mover, r.tail) p.0) (sym same) end_same;
+  places = λ n. subst (λ p. ItemKept who (r.writers n) (p.1 n)) (sym same) (item_same who (r.writers n));
   blocks = subst (λ p. Blocks who r.blocks r.names r.uses p.2.0 p.2.1 p.2.2) (sym same) blocks_same;
   links = λ b. subst (λ p. Once who linker_of Linked (r.links b) (p.3 b)) (sym same) once_same;
   front = subst (λ p. Once who shower_of Seen r.shown p.4) (sym same) once_same;
@@ -62,7 +62,7 @@ push_side {r = r} who same = record {
 
 pop_side : {A : Type 0} {r s : Chain A} (who : ℕ) → pops_of s ≡ pops_of r → PopSide who r s
 pop_side {r = r} who same = record {
-  head = subst (λ p. Turns who passer_of Stands (r.passer, r.head) p.0) (sym same) turns_same;
+  head = subst (λ p. EndMoves who passer_of Stands (r.passer, r.head) p.0) (sym same) end_same;
   reads = λ n. subst (λ p. Leaves who reader_of (r.readers n) (p.1 n)) (sym same) leaves_same;
   walks = λ b. subst (λ p. Leaves who walker_of (r.walks b) (p.2 b)) (sym same) leaves_same;
 }
@@ -85,7 +85,7 @@ passes_marked c who = passes_push who (push_side who refl) refl
 pub passes_appended : {A : Type 0} (c : Chain A) (who : ℕ) (v : A) (m : Mover) → ChainOk c → c.mover ≡ Rests → (m ≡ Rests) ⊎ (m ≡ Laying who) → Passes who c (appended c who v m)
 passes_appended {A} c who v m ok rest mine = passes_push who (record {
   tail = record { moves = inr refl; rests = λ e. inl (omega arith); left = leaves_own (free_none (ap mover_of rest)) mover_free };
-  places = row_put (Place who) c.writers c.tail (Writing who v) (place_same who) (rw ((next_free c ok).0) fresh);
+  places = row_put (ItemKept who) c.writers c.tail (Writing who v) (item_same who) (rw ((next_free c ok).0) fresh);
   blocks = blocks_same;
   links = λ b. once_same;
   front = once_same;
@@ -94,14 +94,14 @@ passes_appended {A} c who v m ok rest mine = passes_push who (record {
     mover_free : IsFree who (mover_of m)
     mover_free = elim mine [ inl z ↦ free_none (ap mover_of z) | inr z ↦ free_own (ap mover_of z) ]
 
-    fresh : Place who Free (Writing who v)
+    fresh : ItemKept who Free (Writing who v)
     fresh = record { valued = λ x e. cc; wrote = λ x e. cc; left = leaves_own (free_none refl) (free_own refl) }
 
 -- U4
 pub passes_installed : {A : Type 0} (c : Chain A) (who : ℕ) (f : ℕ) → ChainOk c → c.blocks ≡ 0 → c.uses f ≡ Spare who → Passes who c (installed c who f)
 passes_installed c who f ok none spare = passes_push who (record {
-  tail = turns_same;
-  places = λ n. place_same who (c.writers n);
+  tail = end_same;
+  places = λ n. item_same who (c.writers n);
   blocks = blocks_more who c.blocks c.names c.uses f spare;
   links = λ b. once_same;
   front = rw ((no_front c ok none).0) (record { stays = λ e. cc; left = leaves_own (free_none refl) (free_own refl) });
@@ -110,8 +110,8 @@ passes_installed c who f ok none spare = passes_push who (record {
 -- U4b
 pub passes_displayed : {A : Type 0} (c : Chain A) (who : ℕ) → c.shown ≡ Showing who → Passes who c (displayed c)
 passes_displayed c who is = passes_push who (record {
-  tail = turns_same;
-  places = λ n. place_same who (c.writers n);
+  tail = end_same;
+  places = λ n. item_same who (c.writers n);
   blocks = blocks_same;
   links = λ b. once_same;
   front = record { stays = λ e. refl; left = leaves_own (free_own (ap shower_of is)) (free_none refl) };

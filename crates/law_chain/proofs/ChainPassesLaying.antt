@@ -2,7 +2,7 @@
 use Rattle.std.proofs.Common.{ℕ, ◌-◌, ◌≡◌, ◌≢◌, ◌∙◌, inl, inr, refl, sym, ap}
 use Rattle.law_chain.specs.ChainCells.{Writing, Wrote, Rests, Laying, Opening, Unlinked, Linking, Linked, Use, Spare, Chain, ChainOk, Part, Write, Read, Tail, Head, Next, First, Passed, mover_of, linker_of, owner}
 use Rattle.law_chain.specs.ChainTransitions.{laid_out, opened, chained, written, renamed}
-use Rattle.law_chain.proofs.ChainLeaves.{leaves_own, free_none, free_own, row_put, turns_same, Place, place_same, Once, once_same, spared_put, blocks_same, blocks_more}
+use Rattle.law_chain.proofs.ChainLeaves.{leaves_own, free_none, free_own, row_put, end_same, ItemKept, item_same, Once, once_same, spared_put, blocks_same, blocks_more}
 use Rattle.law_chain.specs.ChainPasses.{Kept, Passes}
 use Rattle.law_chain.proofs.ChainPasses.{passes_push}
 
@@ -10,7 +10,7 @@ use Rattle.law_chain.proofs.ChainPasses.{passes_push}
 pub passes_laid_out : {A : Type 0} (c : Chain A) (who : ℕ) (f : ℕ) → ChainOk c → c.mover ≡ Laying who → c.links (c.blocks - 1) ≡ Unlinked → c.uses f ≡ Spare who → Passes who c (laid_out c who f)
 passes_laid_out c who f ok is solo spare = passes_push who (record {
   tail = record { moves = inl refl; rests = λ e. absurd (let z : Laying who ≡ Rests = sym is ∙ e in cc); left = leaves_own (free_own (ap mover_of is)) (free_own refl) };
-  places = λ n. place_same who (c.writers n);
+  places = λ n. item_same who (c.writers n);
   blocks = blocks_more who c.blocks c.names c.uses f spare;
   links = row_put (Once who linker_of Linked) c.links (c.blocks - 1) (Linking who) (λ l. once_same) (rw solo links_it);
   front = once_same;
@@ -23,7 +23,7 @@ passes_laid_out c who f ok is solo spare = passes_push who (record {
 pub passes_opened : {A : Type 0} (c : Chain A) (who : ℕ) → c.mover ≡ Opening who → Passes who c (opened c)
 passes_opened c who is = passes_push who (record {
   tail = record { moves = inl refl; rests = λ e. inr refl; left = leaves_own (free_own (ap mover_of is)) (free_none refl) };
-  places = λ n. place_same who (c.writers n);
+  places = λ n. item_same who (c.writers n);
   blocks = blocks_same;
   links = λ b. once_same;
   front = once_same;
@@ -32,8 +32,8 @@ passes_opened c who is = passes_push who (record {
 -- U8
 pub passes_chained : {A : Type 0} (c : Chain A) (who : ℕ) (b : ℕ) → c.links b ≡ Linking who → Passes who c (chained c b)
 passes_chained c who b is = passes_push who (record {
-  tail = turns_same;
-  places = λ n. place_same who (c.writers n);
+  tail = end_same;
+  places = λ n. item_same who (c.writers n);
   blocks = blocks_same;
   links = row_put (Once who linker_of Linked) c.links b Linked (λ l. once_same) (record { stays = λ e. refl; left = leaves_own (free_own (ap linker_of is)) (free_none refl) });
   front = once_same;
@@ -42,14 +42,14 @@ passes_chained c who b is = passes_push who (record {
 -- U9
 pub passes_written : {A : Type 0} (c : Chain A) (who : ℕ) (n : ℕ) (v : A) → c.writers n ≡ Writing who v → Passes who c (written c n v)
 passes_written {A} c who n v is = passes_push who (record {
-  tail = turns_same;
-  places = row_put (Place who) c.writers n (Wrote v) (place_same who) (rw is writes_it);
+  tail = end_same;
+  places = row_put (ItemKept who) c.writers n (Wrote v) (item_same who) (rw is writes_it);
   blocks = blocks_same;
   links = λ b. once_same;
   front = once_same;
 }) refl
   where
-    writes_it : Place {A = A} who (Writing who v) (Wrote v)
+    writes_it : ItemKept {A = A} who (Writing who v) (Wrote v)
     writes_it = record { valued = λ x e. e; wrote = λ x e. cc; left = leaves_own (free_own refl) (free_none refl) }
 
 -- a name that is used otherwise touches no part

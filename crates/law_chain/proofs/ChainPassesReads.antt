@@ -3,7 +3,7 @@ use Rattle.std.proofs.Common.{ℕ, ◌/◌, ◌≡◌, ◌≢◌, ◌∙◌, ◌
 use Rattle.queue_steps.specs.declared.sizes.TheConstants.{BLOCK_SLOTS}
 use Rattle.law_chain.specs.ChainCells.{Unread, Reading, Done, Passer, Stands, Passing, Entering, Walk, Chain, reader_of, passer_of, walker_of}
 use Rattle.law_chain.specs.ChainTransitions.{taken, passed, entered, reads, walked}
-use Rattle.law_chain.proofs.ChainLeaves.{Leaves, leaves_same, IsFree, free_none, free_own, leaves_own, row_put, turns_same}
+use Rattle.law_chain.proofs.ChainLeaves.{Leaves, leaves_same, IsFree, free_none, free_own, leaves_own, row_put, end_same}
 use Rattle.law_chain.specs.ChainPasses.{Passes}
 use Rattle.law_chain.proofs.ChainPasses.{passes_pop}
 
@@ -37,7 +37,7 @@ passes_entered c who more is = passes_pop who (record {
 -- V10, W1
 pub passes_reads : {A : Type 0} (c : Chain A) (who : ℕ) (n : ℕ) (w : Walk) → c.readers n ≡ Reading who → ((other : ℕ) → other ≢ who → walker_of (c.walks (n / BLOCK_SLOTS)) ≡ Some other → w ≡ c.walks (n / BLOCK_SLOTS)) → ((other : ℕ) → other ≢ who → walker_of w ≡ Some other → walker_of (c.walks (n / BLOCK_SLOTS)) ≡ Some other) → Passes who c (reads c n w)
 passes_reads c who n w is free mine = passes_pop who (record {
-  head = turns_same;
+  head = end_same;
   reads = row_put (Leaves who reader_of) c.readers n Done (λ r. leaves_same) (leaves_own (free_own (ap reader_of is)) (free_none refl));
   walks = row_put (Leaves who walker_of) c.walks (n / BLOCK_SLOTS) w (λ x. leaves_same) (record { held = free; owned = mine });
 }) refl
@@ -45,7 +45,7 @@ passes_reads c who n w is free mine = passes_pop who (record {
 -- W1, W2
 pub passes_walked : {A : Type 0} (c : Chain A) (who : ℕ) (b : ℕ) (w : Walk) → ((other : ℕ) → other ≢ who → walker_of (c.walks b) ≢ Some other) → ((other : ℕ) → other ≢ who → walker_of w ≢ Some other) → Passes who c (walked c b w)
 passes_walked c who b w is mine = passes_pop who (record {
-  head = turns_same;
+  head = end_same;
   reads = λ n. leaves_same;
   walks = row_put (Leaves who walker_of) c.walks b w (λ x. leaves_same) (leaves_own is mine);
 }) refl

@@ -61,19 +61,19 @@ module _ {A : Type 0} where
     pub home : (j : ℕ) → j ≢ i → get_elem? y.homes j ≡ get_elem? x.homes j
 
   -- all but the slot i of the block k is the same
-  pub record Turns (k i : ℕ) (bs cs : List (Block A)) : Type 0 where
+  pub record SlotTurns (k i : ℕ) (bs cs : List (Block A)) : Type 0 where
     pub size : length cs ≡ length bs
     pub other : (j : ℕ) → j ≢ k → block cs j ≡ block bs j
     pub here : IsTurned i (block bs k) (block cs k)
 
-  pub turns_not : (k i : ℕ) (bs : List (Block A)) → Turns k i bs bs
+  pub turns_not : (k i : ℕ) (bs : List (Block A)) → SlotTurns k i bs bs
   turns_not k i bs = record {
     size = refl;
     other = λ j ne. refl;
     here = record { at = refl; alive = refl; next = refl; words = refl; homes = refl; word = λ j ne. refl; home = λ j ne. refl };
   }
 
-  pub turns_both : (k i : ℕ) (bs cs ds : List (Block A)) → Turns k i bs cs → Turns k i cs ds → Turns k i bs ds
+  pub turns_both : (k i : ℕ) (bs cs ds : List (Block A)) → SlotTurns k i bs cs → SlotTurns k i cs ds → SlotTurns k i bs ds
   turns_both k i bs cs ds s t = record {
     size = t.size ∙ s.size;
     other = λ j ne. t.other j ne ∙ s.other j ne;
@@ -88,7 +88,7 @@ module _ {A : Type 0} where
     };
   }
 
-  pub turns_word : (k i n : ℕ) (bs : List (Block A)) → k < length bs → Turns k i bs (with_word bs k i n)
+  pub turns_word : (k i n : ℕ) (bs : List (Block A)) → k < length bs → SlotTurns k i bs (with_word bs k i n)
   turns_word k i n bs lt = record {
     size = length-set bs k (worded (block bs k) i n);
     other = λ j ne. word_else bs k i n j ne;
@@ -103,7 +103,7 @@ module _ {A : Type 0} where
     });
   }
 
-  pub turns_home : (k i : ℕ) (h : Home A) (bs : List (Block A)) → k < length bs → Turns k i bs (with_home bs k i h)
+  pub turns_home : (k i : ℕ) (h : Home A) (bs : List (Block A)) → k < length bs → SlotTurns k i bs (with_home bs k i h)
   turns_home k i h bs lt = record {
     size = length-set bs k (homed (block bs k) i h);
     other = λ j ne. home_else bs k i h j ne;
@@ -191,7 +191,7 @@ module _ {A : Type 0} where
 
   -- one slot of a block is another
   pub codes_turned : (te he : Ptr) (g : OutChain A) (ws : ℕ → Writer A) (rs : ℕ → Reader) (wk : ℕ → Walk) (out : ℕ → Bool) (bs cs : List (Block A)) (b i : ℕ) → i < BLOCK_SLOTS → b < g.chain.blocks → g.chain.walks b ≢ GivenUp → wk b ≢ GivenUp → Codes te he g bs
-      → AllBut g (turned g ws rs wk out) b i → WalkAs g (turned g ws rs wk out) b i → Turns (b + 2) i bs cs → SlotIs (turned g ws rs wk out) b i (word_of cs (b + 2) i) (get_elem? (block cs (b + 2)).homes i) → Codes te he (turned g ws rs wk out) cs
+      → AllBut g (turned g ws rs wk out) b i → WalkAs g (turned g ws rs wk out) b i → SlotTurns (b + 2) i bs cs → SlotIs (turned g ws rs wk out) b i (word_of cs (b + 2) i) (get_elem? (block cs (b + 2)).homes i) → Codes te he (turned g ws rs wk out) cs
   codes_turned te he g ws rs wk out bs cs b i low lt on stays codes but walk t s =
       let there = alive_is te he g bs b codes lt on in
       codes_one te he g ws rs wk out bs cs b i low codes but t.size t.other
@@ -199,7 +199,7 @@ module _ {A : Type 0} where
 
   -- a walk that ends takes the block out
   pub codes_gone : (te he : Ptr) (g : OutChain A) (ws : ℕ → Writer A) (rs : ℕ → Reader) (wk : ℕ → Walk) (out : ℕ → Bool) (bs cs : List (Block A)) (b i : ℕ) → i < BLOCK_SLOTS → b < g.chain.blocks → wk b ≡ GivenUp → Codes te he g bs
-      → AllBut g (turned g ws rs wk out) b i → Turns (b + 2) i bs cs → Codes te he (turned g ws rs wk out) (without cs (b + 2))
+      → AllBut g (turned g ws rs wk out) b i → SlotTurns (b + 2) i bs cs → Codes te he (turned g ws rs wk out) (without cs (b + 2))
   codes_gone te he g ws rs wk out bs cs b i low lt over codes but t =
       let long : b + 2 < length cs = omega (arith, t.size, codes.size) in
       codes_one te he g ws rs wk out bs (without cs (b + 2)) b i low codes but (length-set cs (b + 2) (gone (block cs (b + 2))) ∙ t.size) (λ j ne. gone_else cs (b + 2) j ne ∙ t.other j ne)

@@ -40,7 +40,7 @@ use Rattle.shared_chain.specs.ChainCalls.{OutChain}
 use Rattle.shared_chain.specs.Rule.{home_of, plain_state, BlockIs, Codes}
 use Rattle.shared_chain.specs.Steps.{BlockStep, HoldsBy, carried_by}
 use Rattle.shared_chain.proofs.Blocks.{alive_is}
-use Rattle.shared_chain.proofs.Homes.{turned, AllBut, Turns, turns_not, turns_both, turns_word, turns_home, codes_turned, not_given, home_set, word_set, word_kept}
+use Rattle.shared_chain.proofs.Homes.{turned, AllBut, SlotTurns, turns_not, turns_both, turns_word, turns_home, codes_turned, not_given, home_set, word_set, word_kept}
 use Rattle.shared_chain.proofs.States.{still_tested, state_is, others_out, Leaves, acts_first, load_step, or_step, none_out, walks_none, idles}
 use Rattle.shared_chain.proofs.Walking.{IsRead, walk_goes}
 
@@ -53,7 +53,7 @@ before_last readers b GivenUp ok unread = absurd (unread ok.0)
 
 -- The slot i of the block of the item n goes back vacant. The step's operation made cs of the blocks bs, and changed at most the state of this slot
 module _ {A : Type 0} (te he : Ptr) (g : OutChain A) (who : ℕ) (bs cs : List (Block A)) (m : Sitter A (CallState A)) (x : A) (n i name : ℕ) (holds : Holds g.chain who (Only (Read n))) (got : Got g.chain who n x name) (wrote : g.chain.writers n ≡ Wrote x)
-    (offset : i ≡ n % BLOCK_SLOTS) (ok : ChainOk g.chain) (codes : Codes te he g bs) (has : (m.hand ≡ Some (spot name, i, None)) × (m.spare ≡ None)) (turns : Turns (n / BLOCK_SLOTS + 2) i bs cs) where
+    (offset : i ≡ n % BLOCK_SLOTS) (ok : ChainOk g.chain) (codes : Codes te he g bs) (has : (m.hand ≡ Some (spot name, i, None)) × (m.spare ≡ None)) (turns : SlotTurns (n / BLOCK_SLOTS + 2) i bs cs) where
   here_at : item_at (n / BLOCK_SLOTS) i ≡ n
   here_at = ap (λ j. item_at (n / BLOCK_SLOTS) j) offset ∙ own_item n
 
@@ -100,7 +100,7 @@ module _ {A : Type 0} (te he : Ptr) (g : OutChain A) (who : ℕ) (bs cs : List (
   abbrev back : List (Block A)
   back = with_home cs (n / BLOCK_SLOTS + 2) i vacant
 
-  turns_back : Turns (n / BLOCK_SLOTS + 2) i bs back
+  turns_back : SlotTurns (n / BLOCK_SLOTS + 2) i bs back
   turns_back = turns_both (n / BLOCK_SLOTS + 2) i bs cs back turns (turns_home (n / BLOCK_SLOTS + 2) i vacant cs long)
 
   is_back : get_elem? (block back (n / BLOCK_SLOTS + 2)).homes i ≡ some vacant
@@ -206,7 +206,7 @@ module _ {A : Type 0} (te he : Ptr) where
       offset : offset_of (head_of n more) ≡ n % BLOCK_SLOTS
       offset = head_offset n more
 
-      none : Turns (n / BLOCK_SLOTS + 2) (offset_of (head_of n more)) bs bs
+      none : SlotTurns (n / BLOCK_SLOTS + 2) (offset_of (head_of n more)) bs bs
       none = turns_not (b + 2) i bs
 
       here : IsState g.chain (n / BLOCK_SLOTS) (offset_of (head_of n more)) (word_of bs (n / BLOCK_SLOTS + 2) (offset_of (head_of n more)))
@@ -218,7 +218,7 @@ module _ {A : Type 0} (te he : Ptr) where
       cs : List (Block A)
       cs = with_word bs (n / BLOCK_SLOTS + 2) (offset_of (head_of n more)) (bit_or (word_of bs (n / BLOCK_SLOTS + 2) (offset_of (head_of n more))) READ)
 
-      turned_to : Turns (n / BLOCK_SLOTS + 2) (offset_of (head_of n more)) bs cs
+      turned_to : SlotTurns (n / BLOCK_SLOTS + 2) (offset_of (head_of n more)) bs cs
       turned_to = turns_word (b + 2) i (bit_or (word_of bs (b + 2) i) READ) bs long
 
       set : word_of cs (n / BLOCK_SLOTS + 2) (offset_of (head_of n more)) ≡ bit_or (word_of bs (n / BLOCK_SLOTS + 2) (offset_of (head_of n more))) READ
@@ -240,7 +240,7 @@ module _ {A : Type 0} (te he : Ptr) where
       offset : offset_of (head_of n more) ≡ n % BLOCK_SLOTS
       offset = head_offset n more
 
-      none : Turns (n / BLOCK_SLOTS + 2) (offset_of (head_of n more)) bs bs
+      none : SlotTurns (n / BLOCK_SLOTS + 2) (offset_of (head_of n more)) bs bs
       none = turns_not (b + 2) i bs
 
       begun : g.chain.walks (n / BLOCK_SLOTS) ≢ GivenUp

@@ -30,7 +30,7 @@ use Rattle.shared_chain.specs.ChainCalls.{OutChain, ChainLent}
 use Rattle.shared_chain.specs.Rule.{home_of, BlockIs, Codes}
 use Rattle.shared_chain.specs.Steps.{BlockStep, HoldsBy}
 use Rattle.shared_chain.proofs.Blocks.{alive_is}
-use Rattle.shared_chain.proofs.Homes.{turned, AllBut, Turns, turns_not, turns_word, codes_turned, codes_gone, all_vacant, read_home, slot_vacant, home_kept, word_set}
+use Rattle.shared_chain.proofs.Homes.{turned, AllBut, SlotTurns, turns_not, turns_word, codes_turned, codes_gone, all_vacant, read_home, slot_vacant, home_kept, word_set}
 use Rattle.shared_chain.proofs.States.{still_tested, state_is, Leaves, load_step, or_step, no_lent, walks_none, idles, Emptied, walks_left}
 
 -- what the state of a slot says that is read
@@ -42,7 +42,7 @@ module _ {A : Type 0} (te he : Ptr) where
   -- the walk over the block b goes on behind a slot that is read now, or ends with it
   pub walk_goes : (g : OutChain A) (who : ℕ) (bs cs : List (Block A)) (m : Sitter A (CallState A)) (b name slot : ℕ) (rs : ℕ → Reader) (out : ℕ → Bool) → ChainOk g.chain → Codes te he g bs → IsNamed g.chain b name → slot < LAST → IsWalked g.chain.readers b slot
       → (g.chain.walks b ≢ GivenUp) × ((j : ℕ) → j ≢ slot → waits_at (g.chain.walks b) j ≡ false) → (m.hand ≡ None) × (m.spare ≡ None) → ((j : ℕ) → j ≢ who → (n : ℕ) → g.chain.readers n ≡ Reading j → out n ≡ g.out n)
-      → ((w : Walk) → Holds (turned g g.chain.writers rs (put g.chain.walks b w) out).chain who (Only (Passed b))) → ((w : Walk) → AllBut g (turned g g.chain.writers rs (put g.chain.walks b w) out) b slot) → Turns (b + 2) slot bs cs
+      → ((w : Walk) → Holds (turned g g.chain.writers rs (put g.chain.walks b w) out).chain who (Only (Passed b))) → ((w : Walk) → AllBut g (turned g g.chain.writers rs (put g.chain.walks b w) out) b slot) → SlotTurns (b + 2) slot bs cs
       → rs (item_at b slot) ≡ Done → IsRead g.chain b slot (word_of cs (b + 2) slot) → get_elem? (block cs (b + 2)).homes slot ≡ some vacant → home_of (g.chain.writers (item_at b slot)) Done (out (item_at b slot)) ≡ vacant
       → Leaves te he g who cs m (turned g g.chain.writers rs (put g.chain.walks b (walk_after who slot)) out).chain (walks_on name slot)
   walk_goes g who bs cs m b name slot rs out ok codes named low walked_to (on, alone) free others holds but t read state home empty =
@@ -109,7 +109,7 @@ module _ {A : Type 0} (te he : Ptr) where
     state : IsState g.chain b slot (word_of bs (b + 2) slot)
     state = let low = at_walk.0 in state_is te he g bs b slot codes named.0 on (omega arith) (λ last. absurd (omega arith))
 
-    passes : (cs : List (Block A)) → (m.hand ≡ None) × (m.spare ≡ None) → Turns (b + 2) slot bs cs → IsRead g.chain b slot (word_of cs (b + 2) slot) → (block cs (b + 2)).homes ≡ (block bs (b + 2)).homes → g.chain.readers (item_at b slot) ≡ Done
+    passes : (cs : List (Block A)) → (m.hand ≡ None) × (m.spare ≡ None) → SlotTurns (b + 2) slot bs cs → IsRead g.chain b slot (word_of cs (b + 2) slot) → (block cs (b + 2)).homes ≡ (block bs (b + 2)).homes → g.chain.readers (item_at b slot) ≡ Done
         → Leaves te he g who cs m (walked g.chain b (walk_after who slot)) (walks_on name slot)
     passes cs free t has same read =
         let low = at_walk.0 in

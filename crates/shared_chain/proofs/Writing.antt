@@ -33,7 +33,7 @@ use Rattle.shared_chain.specs.ChainCalls.{OutChain}
 use Rattle.shared_chain.specs.Rule.{home_of, plain_state, BlockIs, Codes}
 use Rattle.shared_chain.specs.Steps.{BlockStep, HoldsBy, HoldsFor, fresh_at, carried_by}
 use Rattle.shared_chain.proofs.Blocks.{alive_is}
-use Rattle.shared_chain.proofs.Homes.{Turns, turns_both, turns_word, turns_home, codes_turned, not_given, home_set, word_set, word_kept}
+use Rattle.shared_chain.proofs.Homes.{SlotTurns, turns_both, turns_word, turns_home, codes_turned, not_given, home_set, word_set, word_kept}
 use Rattle.shared_chain.proofs.States.{still_tested, state_is, Leaves, acts_first, or_step, none_out, idles}
 
 -- the reader of an item has its slot only once it is written
@@ -122,7 +122,7 @@ module _ {A : Type 0} (te he : Ptr) where
       long : b + 2 < length bs
       long = omega (arith, codes.size, lt)
 
-      t : Turns (b + 2) i bs cs
+      t : SlotTurns (b + 2) i bs cs
       t = turns_word (b + 2) i (bit_or w WRITE) bs long
 
       long_too : b + 2 < length cs

@@ -12,8 +12,8 @@ use Rattle.shared_tables.specs.Seats.{Seated, Rests, view_at}
 use Rattle.shared_parties.specs.CallStates.{HasAll}
 
 -- the table at which a party sits, and its seat
-abbrev pub Place : Type 0 → Type 0
-Place T = TableId × Seated T
+abbrev pub TableSeat : Type 0 → Type 0
+TableSeat T = TableId × Seated T
 
 -- the seat holds the slot that is touched
 abbrev pub CanTouch : {T : Type 0} → Touch → Seated T → Type 0
@@ -33,9 +33,9 @@ Touched (touch.Swap k) m x m' x' = Swapped k m x m' x'
 Touched (touch.Take k) m x m' x' = Swapped k m x m' x'
 
 -- the seat of a party of the queue of this capacity at the table t, between its calls
-abbrev pub IsAt : {T : Type 0} → Option ℕ → TableId → Place T → Type 0
+abbrev pub IsAt : {T : Type 0} → Option ℕ → TableId → TableSeat T → Type 0
 IsAt cap t p = (p.0 ≡ t) × Rests p.1 × (p.1.0.known.cap ≡ cap) × IsHistory cap p.1.0.known.seen × HasAll p.1.0
 
 -- the call that began at the place p ended at q
-abbrev pub Ended : {T : Type 0} → Option ℕ → TableId → Place T → Call T → Reply T → Place T → Type 0
+abbrev pub Ended : {T : Type 0} → Option ℕ → TableId → TableSeat T → Call T → Reply T → TableSeat T → Type 0
 Ended cap t p c r q = IsAt cap t q × SharedCall cap (view_at p.1) (view_at q.1) c r

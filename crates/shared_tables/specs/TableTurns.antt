@@ -20,7 +20,7 @@ use Rattle.queue_steps.specs.declared.steps.types.Answer.{Answer}
 use Rattle.queue_steps.specs.declared.steps.types.Local.{Local}
 use Rattle.queue_steps.specs.declared.steps.types.Op.{Op}
 use Rattle.queue_steps.specs.declared.steps.types.Touch.{Touch}
-use Rattle.shared_tables.specs.AtTable.{Place, Ended}
+use Rattle.shared_tables.specs.AtTable.{TableSeat, Ended}
 use Rattle.shared_parties.specs.Called.{called_at}
 
 -- the call is at its next step, with v carried; or it ended as a shared call
@@ -52,25 +52,25 @@ abbrev pub CanOperate : {T : Type 0} → TableOf T → Seated T → Op ℕ → I
 CanOperate K m o c = Ready K.calls m.0 c × (m.1 ≡ touched_list c.touch c.carried c.lends) × (c.op ≡ o) × InTable K o
 
 -- no reply of a call on a table hands out a block; a block that were given up would leave the seat as it is
-abbrev pub NoBlock : {T : Type 0} → TableId → Place T → ℕ → Type 0
+abbrev pub NoBlock : {T : Type 0} → TableId → TableSeat T → ℕ → Type 0
 NoBlock t p b = ⊥
 
-abbrev pub NoGift : {T : Type 0} → TableId → Place T → ℕ → Place T → Type 0
+abbrev pub NoGift : {T : Type 0} → TableId → TableSeat T → ℕ → TableSeat T → Type 0
 NoGift t p b q = q ≡ p
 
 -- K tells the kind of a table by its number of slots
 module _ {T : Type 0} (K : ℕ → TableOf T) where
-  abbrev pub TableCan : TableId → Place T → Call Unit → Local ℕ → Touch → Op ℕ → Option T → Type 0
+  abbrev pub TableCan : TableId → TableSeat T → Call Unit → Local ℕ → Touch → Op ℕ → Option T → Type 0
   TableCan t p k l u o x = (p.0 ≡ t) × CanDo (K t.slots) p.1 l u o x (call_at p.1 k l u o x)
 
-  abbrev pub TableDoes : TableId → Place T → Call Unit → Local ℕ → Touch → Op ℕ → Option T → Answer ℕ → Place T → Option T → Type 0
+  abbrev pub TableDoes : TableId → TableSeat T → Call Unit → Local ℕ → Touch → Op ℕ → Option T → Answer ℕ → TableSeat T → Option T → Type 0
   TableDoes t p k l u o x a q y =
       (q.0 ≡ p.0) × ((n : ℕ) × (a ≡ answer_for o n) × (y ≡ handed_by u x (call_at p.1 k l u o x).lends) × Follows (K t.slots) (call_at p.1 k l u o x) n q.1)
 
   -- the call c that began at the place p had its step at l answered so, and goes on or has ended. The steps that are left are not counted, since other calls can hold this one up
-  abbrev pub TableStands : ℕ → TableId → Place T → Call T → Local ℕ → Answer ℕ → Place T → Option T → Type 0
+  abbrev pub TableStands : ℕ → TableId → TableSeat T → Call T → Local ℕ → Answer ℕ → TableSeat T → Option T → Type 0
   TableStands left t p c l a q y =
       (q.0 ≡ t) × ((b : InCall T) × (b.call ≡ c) × (begun_at b ≡ view_at p.1) × CanNext (K t.slots).calls.kind l a × After (K t.slots) b y (next_of (K t.slots).calls.kind l a) q.1)
 
-  abbrev pub TableEnded : TableId → Place T → Call T → Reply T → Place T → Type 0
+  abbrev pub TableEnded : TableId → TableSeat T → Call T → Reply T → TableSeat T → Type 0
   TableEnded t = Ended (cap_of (K t.slots).calls) t

@@ -10,20 +10,20 @@ use queue_steps::steps::{
 
 /// What a push does next.
 #[derive(Clone, Copy, Debug, PartialEq)]
-enum Turn {
+enum AtLimit {
     ClosesTheQueue,
     IsAnsweredClosed,
     GoesOn,
 }
 
-fn turn_of(next: Next<usize>) -> Turn {
+fn at_limit(next: Next<usize>) -> AtLimit {
     match next {
-        Next::Step(_, _, Op::Or(Word::Tail, 1)) => Turn::ClosesTheQueue,
-        Next::Reply(Reply::Push(Err(PushError::Closed(()))), None) => Turn::IsAnsweredClosed,
+        Next::Step(_, _, Op::Or(Word::Tail, 1)) => AtLimit::ClosesTheQueue,
+        Next::Reply(Reply::Push(Err(PushError::Closed(()))), None) => AtLimit::IsAnsweredClosed,
         Next::Reply(Reply::ForcePush(Err(ForcePushError::Closed(()))), None) => {
-            Turn::IsAnsweredClosed
+            AtLimit::IsAnsweredClosed
         }
-        _ => Turn::GoesOn,
+        _ => AtLimit::GoesOn,
     }
 }
 
@@ -33,26 +33,26 @@ const RING_END: u64 = 2 * LIMIT;
 const CHAIN_END: u64 = 2 * (LIMIT / BLOCK_SLOTS * BLOCK_POSITIONS + LIMIT % BLOCK_SLOTS);
 
 /// What a push does once it has read the tail, on rings of two and of three slots and on a chain.
-fn once_read(push: PushKind, ring: u64, chain: u64) -> [Turn; 3]
+fn once_read(push: PushKind, ring: u64, chain: u64) -> [AtLimit; 3]
     requires { IsWord ring × IsWord chain }
 {
     let of_ring = Local::Bounded(BoundedLocal::PushTail(push));
     let of_chain = Local::Unbounded(UnboundedLocal::PushTail(push, None));
     [
-        turn_of(next(Kind::Bounded(2), of_ring, Answer::Found(ring))),
-        turn_of(next(Kind::Bounded(3), of_ring, Answer::Found(ring))),
-        turn_of(next(Kind::Unbounded, of_chain, Answer::Found(chain))),
+        at_limit(next(Kind::Bounded(2), of_ring, Answer::Found(ring))),
+        at_limit(next(Kind::Bounded(3), of_ring, Answer::Found(ring))),
+        at_limit(next(Kind::Unbounded, of_chain, Answer::Found(chain))),
     ]
 }
 
 /// What it does once it has closed the queue.
-fn once_closed(push: PushKind, ring: u64, chain: u64) -> [Turn; 3] {
+fn once_closed(push: PushKind, ring: u64, chain: u64) -> [AtLimit; 3] {
     let of_ring = Local::Bounded(BoundedLocal::ClosingAtLimit(push));
     let of_chain = Local::Unbounded(UnboundedLocal::ClosingAtLimit(push, None));
     [
-        turn_of(next(Kind::Bounded(2), of_ring, Answer::Found(ring))),
-        turn_of(next(Kind::Bounded(3), of_ring, Answer::Found(ring))),
-        turn_of(next(Kind::Unbounded, of_chain, Answer::Found(chain))),
+        at_limit(next(Kind::Bounded(2), of_ring, Answer::Found(ring))),
+        at_limit(next(Kind::Bounded(3), of_ring, Answer::Found(ring))),
+        at_limit(next(Kind::Unbounded, of_chain, Answer::Found(chain))),
     ]
 }
 
@@ -66,10 +66,10 @@ fn a_tail_at_the_limit(rt: HostRuntime) {
         assert_eq!(rt;
             (at_the_limit, closed_there, one_before, then),
             (
-                [Turn::ClosesTheQueue; 3],
-                [Turn::IsAnsweredClosed; 3],
-                [Turn::GoesOn; 3],
-                [Turn::IsAnsweredClosed; 3]
+                [AtLimit::ClosesTheQueue; 3],
+                [AtLimit::IsAnsweredClosed; 3],
+                [AtLimit::GoesOn; 3],
+                [AtLimit::IsAnsweredClosed; 3]
             )
         );
     }

@@ -27,8 +27,8 @@ struct Act {
 
 impl Act {
     /// Its call is made where it was done.
-    fn turn(self) -> Turn {
-        Turn {
+    fn settling(self) -> Settling {
+        Settling {
             event: self.event,
             call: self.call,
         }
@@ -89,14 +89,14 @@ impl History {
 
 /// The call of one number is made whole at the event of another.
 #[derive(Clone, Copy)]
-struct Turn {
+struct Settling {
     event: usize,
     call: usize,
 }
 
-// The turns of the calls that did something. A displacement has its turn where it takes the front off, or right before a close that comes earlier.
-fn settle(alloc: Global, acts: &[Act]) -> Result<Vec<Turn>, AllocError> {
-    let mut turns = Vec::new(alloc);
+// The settlings of the calls that did something. A displacement is settled where it takes the front off, or right before a close that comes earlier.
+fn settle(alloc: Global, acts: &[Act]) -> Result<Vec<Settling>, AllocError> {
+    let mut settlings = Vec::new(alloc);
     let mut closed = false;
     for (number, act) in acts.iter().enumerate() {
         match act.effect {
@@ -104,25 +104,25 @@ fn settle(alloc: Global, acts: &[Act]) -> Result<Vec<Turn>, AllocError> {
             EffectKind::Front if closed => {}
             EffectKind::Close | EffectKind::SelfClose => {
                 closed = true;
-                displace(&mut turns, act.event, acts, number)?;
-                turns.push(act.turn())?;
+                displace(&mut settlings, act.event, acts, number)?;
+                settlings.push(act.settling())?;
             }
-            _ => turns.push(act.turn())?,
+            _ => settlings.push(act.settling())?,
         }
     }
-    Ok(turns)
+    Ok(settlings)
 }
 
-// The displacements from the effect of this number on have their turns at this event.
+// The displacements from the effect of this number on are settled at this event.
 fn displace(
-    turns: &mut Vec<Turn>,
+    settlings: &mut Vec<Settling>,
     event: usize,
     acts: &[Act],
     number: usize,
 ) -> Result<(), AllocError> {
     for act in acts.iter().skip(number) {
         if act.effect == EffectKind::Front {
-            turns.push(Turn {
+            settlings.push(Settling {
                 event,
                 call: act.call,
             })?;
@@ -146,7 +146,7 @@ impl Stand {
     }
 }
 
-/// A queue that makes whole calls in turn.
+/// A queue that makes whole calls one after another.
 #[derive(Drop)]
 struct Order {
     queue: Queue,
@@ -173,8 +173,8 @@ pub fn find_order(
         made: Vec::from_elem(alloc, false, history.calls.len())?,
     };
     order.note(0)?;
-    for turn in settle(alloc, history.acts.as_slice())? {
-        order.take_turn(history, turn)?;
+    for settling in settle(alloc, history.acts.as_slice())? {
+        order.make_call(history, settling)?;
     }
     if order.has_rest(history, moments) && order.queue.is_settled(queue) {
         Ok(())
@@ -198,21 +198,23 @@ impl Order {
     }
 
     // Makes a call that was not made yet, in its time.
-    fn take_turn(&mut self, history: &History, turn: Turn) -> Result<(), Flaw> {
-        let (Some(span), Some(made)) = (history.calls.get(turn.call), self.made.get_mut(turn.call))
-        else {
+    fn make_call(&mut self, history: &History, settling: Settling) -> Result<(), Flaw> {
+        let (Some(span), Some(made)) = (
+            history.calls.get(settling.call),
+            self.made.get_mut(settling.call),
+        ) else {
             return Err(Flaw::Order);
         };
-        if *made || turn.event < span.first {
+        if *made || settling.event < span.first {
             return Err(Flaw::Order);
         }
         *made = true;
         let reply = self.queue.make(span.call)?;
         match span.end {
-            Some((last, told)) if turn.event > last || told != reply => return Err(Flaw::Order),
+            Some((last, told)) if settling.event > last || told != reply => return Err(Flaw::Order),
             _ => {}
         }
-        self.note(turn.event)?;
+        self.note(settling.event)?;
         Ok(())
     }
 

@@ -22,7 +22,7 @@ use Rattle.shared_parties.specs.declared.known.Work.TheVariants as work
 use Rattle.shared_parties.specs.Known.{party}
 use Rattle.shared_tables.specs.Seats.{view_at}
 use Rattle.shared_parties.specs.CallStates.{idle}
-use Rattle.shared_tables.specs.AtTable.{Place, IsAt}
+use Rattle.shared_tables.specs.AtTable.{TableSeat, IsAt}
 use Rattle.shared_parties.specs.Calling.{cap_of, handed_by, first_of, Opens}
 use Rattle.shared_tables.specs.TableRule.{TableOf, TableLaws, InTable}
 use Rattle.shared_parties.specs.Operations.{answer_for}
@@ -35,11 +35,11 @@ use Rattle.shared_parties.proofs.SharedCalls.{quiet, cap_after}
 use Rattle.call_driver.specs.Leads.{Leads, GoesOn}
 
 module _ (T : Type 0) (K : ℕ → TableOf T) (t : TableId) (left : ℕ) where
-  abbrev TableLeads : Place T → Call T → Next ℕ → Place T → Option T → Type 0
+  abbrev TableLeads : TableSeat T → Call T → Next ℕ → TableSeat T → Option T → Type 0
   TableLeads p c n q y = Leads (TableCan K) (TableDoes K) NoBlock NoGift (TableStands K) (TableEnded K) left t p c n q y
 
   -- what a step told leads on
-  told_leads : (p : Place T) (c : Call T) (q : Place T) (y : Option T) (b : InCall T) (n : Next ℕ) → q.0 ≡ t → b.call ≡ c → begun_at b ≡ view_at p.1 → After (K t.slots) b y n q.1 → TableLeads p c n q y
+  told_leads : (p : TableSeat T) (c : Call T) (q : TableSeat T) (y : Option T) (b : InCall T) (n : Next ℕ) → q.0 ≡ t → b.call ≡ c → begun_at b ≡ view_at p.1 → After (K t.slots) b y n q.1 → TableLeads p c n q y
   told_leads p c q y b (next.Step l u o) same is begun (d, at, local_is, touch_is, op_is, carried_is, call_is, begun_is, lends, touched, word) = (
     (
       same,
@@ -89,16 +89,16 @@ module _ (T : Type 0) (K : ℕ → TableOf T) (t : TableId) (left : ℕ) where
     ),
   )
 
-  pub table_goes_on : (p : Place T) (c : Call T) (l : Local ℕ) (a : Answer ℕ) (q : Place T) (y : Option T) → TableStands K left t p c l a q y
+  pub table_goes_on : (p : TableSeat T) (c : Call T) (l : Local ℕ) (a : Answer ℕ) (q : TableSeat T) (y : Option T) → TableStands K left t p c l a q y
       → GoesOn (TableCan K) (TableDoes K) NoBlock NoGift (TableStands K) (TableEnded K) left (K t.slots).calls.kind t p c l a q y
   table_goes_on p c l a q y st = (st.1.3, told_leads p c q y st.1.0 (next_of (K t.slots).calls.kind l a) st.0 st.1.1 st.1.2 st.1.4)
 
   -- a party at rest is at nothing, and has no slot
-  rests_nothing : (p : Place T) → IsAt (cap_of (K t.slots).calls) t p → (p.1.0.work ≡ work.Nothing) × (p.1.1 ≡ [])
+  rests_nothing : (p : TableSeat T) → IsAt (cap_of (K t.slots).calls) t p → (p.1.0.work ≡ work.Nothing) × (p.1.1 ≡ [])
   rests_nothing p at = (ap (λ (d : CallState T). d.work) at.1.0, at.1.1)
 
   -- the first step of a call that takes steps
-  begins_step : (p : Place T) (c : Call T) (l : Local ℕ) (u : Touch) (o : Op ℕ) → IsAt (cap_of (K t.slots).calls) t p → u ≡ touch.Nothing → InTable (K t.slots) o
+  begins_step : (p : TableSeat T) (c : Call T) (l : Local ℕ) (u : Touch) (o : Op ℕ) → IsAt (cap_of (K t.slots).calls) t p → u ≡ touch.Nothing → InTable (K t.slots) o
       → first_of (K t.slots).calls.kind c ≡ next.Step l u o → TableLeads p c (next.Step l u o) p (call_value c)
   begins_step p c l u o at quiet word step = (
     (
@@ -151,13 +151,13 @@ module _ (T : Type 0) (K : ℕ → TableOf T) (t : TableId) (left : ℕ) where
       handed z e = sym (e ∙ ap (λ (x : InCall T). handed_by u (call_value c) x.lends) same)
 
   -- what a call does first leads on
-  opens_leads : (p : Place T) (c : Call T) (n : Next ℕ) → IsAt (cap_of (K t.slots).calls) t p → first_of (K t.slots).calls.kind c ≡ n → Opens (K t.slots).calls (InTable (K t.slots)) c n → TableLeads p c n p (call_value c)
+  opens_leads : (p : TableSeat T) (c : Call T) (n : Next ℕ) → IsAt (cap_of (K t.slots).calls) t p → first_of (K t.slots).calls.kind c ≡ n → Opens (K t.slots).calls (InTable (K t.slots)) c n → TableLeads p c n p (call_value c)
   opens_leads p c (next.Step l u o) at step opens = begins_step p c l u o at opens.0 opens.1 step
   opens_leads p c (next.Reply x (Some block)) at step (none, right) = absurd (let f : Some block ≡ None = none in cc)
   opens_leads p c (next.Reply x None) at step (none, (y, fill, tells, right)) =
       let cap : Option ℕ = cap_of (K t.slots).calls in let h = p.1.0.known.seen in
       (tt, λ last still. (y, fill, subst (TableEnded K t p c y) (sym still) (at, quiet cap (view_at p.1) (view_at p.1) h c y (prefix_self h) (prefix_self h) at.3 refl refl tells (right (after cap h) (cap_after cap h)))))
 
-  pub table_begins : (words : ℕ) → TableLaws (K t.slots) words → (p : Place T) (c : Call T) → IsAt (cap_of (K t.slots).calls) t p
+  pub table_begins : (words : ℕ) → TableLaws (K t.slots) words → (p : TableSeat T) (c : Call T) → IsAt (cap_of (K t.slots).calls) t p
       → GoesOn (TableCan K) (TableDoes K) NoBlock NoGift (TableStands K) (TableEnded K) left (K t.slots).calls.kind t p c (first_local (call_kind c)) answer.Start p (call_value c)
   table_begins words laws p c at = let o = laws.opens c in (o.0, opens_leads p c (first_of (K t.slots).calls.kind c) at refl o.1)
