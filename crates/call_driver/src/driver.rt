@@ -43,6 +43,7 @@ pub fn begin<T, B: Copy, S, M: Site<T, B, S>>(
 }
 
 /// The steps of a call that are not known to be common, to its end.
+#[cold]
 #[inline(never)]
 fn slow_path<T, B: Copy, S, M: Site<T, B, S>, G: Gate, E: End<T, B, S, M> + Drop>(
     site: &M,
