@@ -1,4 +1,3 @@
-use Rattle.std.proofs.Common.{◌≡◌}
 use Rattle.concurrent_queue.specs.Shared.{IsPartyOf}
 use Rattle.bench_queue.proofs.crew.enlist.Given as goal
 
