@@ -1,0 +1,5 @@
+//! Every outcome of a small program over one queue: what a program is, where its runs stand, and the check that a table of positions has them all.
+#![tactic(auto)]
+
+pub mod program;
+pub mod sequence;
