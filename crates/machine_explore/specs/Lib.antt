@@ -1,0 +1,5 @@
+pub mod Played
+pub mod Positions
+pub mod Moves
+pub mod Explored
+pub mod Tables

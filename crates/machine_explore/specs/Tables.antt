@@ -1,0 +1,14 @@
+-- When a table of standings has all that the moves of a program lead to.
+use Rattle.std.specs.Prelude.{◌≡◌, ℕ, ◌<◌, Bool, true, false, List, length, Contains, ⊤, MatchOption}
+use Rattle.queue_steps.specs.declared.model.Call.{Call}
+use Rattle.machine_replay.specs.declared.types.Event.{Event}
+use Rattle.machine_explore.specs.Moves.{event_at}
+use Rattle.machine_explore.specs.Positions.{At}
+
+-- however the party goes on from there, the table has where that leads
+abbrev pub Stays : {S R T : Type 0} → (At S R T → Event T → At S R T) → Bool → List (List (Call T)) → List (At S R T) → At S R T → ℕ → Type 0
+Stays lead refuses calls table s p = (granted : Bool) → (refuses ≡ false → granted ≡ true) → MatchOption (event_at calls s p granted) ⊤ (λ e. Contains table (lead s e))
+
+-- so it is for each party
+abbrev pub StaysForAll : {S R T : Type 0} → (At S R T → Event T → At S R T) → Bool → List (List (Call T)) → List (At S R T) → At S R T → Type 0
+StaysForAll lead refuses calls table s = (p : ℕ) → p < length calls → Stays lead refuses calls table s p
