@@ -11,6 +11,7 @@ pub mod Machine
 pub mod Peaks
 pub mod Replays
 pub mod MachineRuns
+pub mod Played
 pub mod OneOwner
 pub mod InCall
 pub mod Meaning

@@ -1,20 +1,32 @@
 //! The blocks of an unbounded queue, as the machine has them.
-ghost use Rattle.std.specs.Prelude.{◌≡◌, ◌<◌, ◌+◌, if◌then◌else◌, IfOk, IsSome, None, Some, is_some, nat_lt, length, replicate, slice_index_or, slice_set, vec_len, vec_capacity};
+ghost use Rattle.std.specs.Prelude.{◌≡◌, ◌<◌, ◌+◌, ◌≤◌, if◌then◌else◌, ⊤, IfOk, IsSome, None, Some, is_some, nat_lt, length, replicate, slice_index_or, slice_set, vec_len, vec_capacity};
 ghost use Rattle.machine_replay.specs.Present.{present};
 ghost use Rattle.machine_replay.specs.Blocks.{Block as Places, blank, fresh_block, block_of, place_count, state_of, item_of, behind, put_state, put_item, put_next, without};
 
+use crate::same::{Same, all_same};
 use queue_steps::sizes::BLOCK_SLOTS;
 use std::alloc::{AllocError, Allocator};
+use std::hash::{Hash, Hasher};
 use std::marker::Model;
 use std::mem;
 
 /// A place of a block.
-#[derive(Drop)]
+#[derive(Copy, Drop, PartialEq, Eq, Hash)]
 pub struct Place<T> {
     /// The state of its slot.
     pub state: u64,
     /// What its slot holds.
     pub item: Option<T>,
+}
+
+impl<T: Copy> Clone for Place<T> {
+    ghost is_clone = { λ x y. y ≡ x };
+
+    ghost is_infallible = { λ _. ⊤ };
+
+    fn clone(&self) -> Result<Place<T>, AllocError> {
+        Ok(*self)
+    }
 }
 
 /// A block: its places, which are one allocation, and the number of the block behind it.
@@ -100,6 +112,81 @@ impl<T, A: Allocator> Block<T, A> {
         ensures before { result ≡ (slice_index_or self.old.places slot blank).item }
     {
         mem::replace(&mut self.places[slot].item, item)
+    }
+}
+
+impl<T: Copy, A: Allocator> Block<T, A> {
+    /// A copy of the block, with the same number behind it.
+    ///
+    /// # Errors
+    ///
+    /// Where there is no memory.
+    fn copy(&self, alloc: A) -> Result<Self, AllocError>
+        ensures { IfOk result (λ b. b ≡ self.now) }
+    {
+        Ok(Block {
+            places: Vec::from_slice(alloc, &self.places)?,
+            next: self.next,
+        })
+    }
+}
+
+impl<T: Same, A: Allocator> Same for Block<T, A> {
+    fn same(&self, other: &Self) -> bool {
+        self.next == other.next && all_same(&self.places, &other.places)
+    }
+}
+
+impl<T: Hash, A: Allocator> Block<T, A> {
+    /// Feeds the hasher with all that the block holds.
+    fn feed<H: Hasher>(&self, state: &mut H) {
+        self.next.hash(state);
+        self.places.hash(state);
+    }
+}
+
+/// A copy of the blocks, with room for one more.
+///
+/// # Errors
+///
+/// Where there is no memory.
+pub(crate) fn copy<T: Copy, A: Allocator + Copy>(
+    alloc: A,
+    blocks: &Vec<Option<Block<T, A>>, A>,
+) -> Result<Vec<Option<Block<T, A>>, A>, AllocError>
+    ensures blocks { IfOk result (λ copies. copies.items ≡ blocks.now.items) }
+    ensures room { IfOk result (λ copies. vec_len copies + 1 ≤ vec_capacity copies) }
+{
+    let mut copies = Vec::with_capacity(alloc, blocks.len() + 1)?;
+    for number in 0..blocks.len() {
+        copies.push_reserved(copy_one(alloc, &blocks[number])?);
+    }
+    Ok(copies)
+}
+
+/// A copy of a block, where there is one.
+fn copy_one<T: Copy, A: Allocator>(
+    alloc: A,
+    block: &Option<Block<T, A>>,
+) -> Result<Option<Block<T, A>>, AllocError>
+    ensures { IfOk result (λ copy. copy ≡ block.now) }
+{
+    match block {
+        Some(block) => Ok(Some(block.copy(alloc)?)),
+        None => Ok(None),
+    }
+}
+
+/// Feeds the hasher with all that the blocks hold.
+pub(crate) fn feed<T: Hash, A: Allocator, H: Hasher>(
+    blocks: &Vec<Option<Block<T, A>>, A>,
+    state: &mut H,
+) {
+    for number in 0..blocks.len() {
+        match &blocks[number] {
+            Some(block) => block.feed(state),
+            None => state.write_u8(0),
+        }
     }
 }
 

@@ -10,6 +10,7 @@ pub mod machine;
 pub mod machine_run;
 mod peaks;
 mod run;
+pub mod same;
 pub mod shared_memory;
 pub mod types;
 pub mod words;

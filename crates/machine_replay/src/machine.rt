@@ -1,5 +1,5 @@
 //! The machine: what the parties of a queue share, and the call that each is in.
-ghost use Rattle.std.specs.Prelude.{◌≡◌, ◌<◌, Bool, IfOk, vec_len, false};
+ghost use Rattle.std.specs.Prelude.{◌≡◌, ◌<◌, ⊤, Bool, IfOk, vec_len, true, false};
 ghost use Rattle.machine_replay.specs.SharedMemory.{shared_of, running_after, reply_after, CanReply, CanStep, CanStart, step_of, spare_in};
 ghost use Rattle.machine_replay.specs.Left.{opening_world};
 ghost use Rattle.machine_replay.specs.Machine.{HasRoom, HasRoomFor, KeepsRoom, HasSameRoom, HasCount, world_of, event_of, CanHandle, Handles};
@@ -7,14 +7,16 @@ ghost use Rattle.machine_replay.specs.World.{stepped};
 ghost use Rattle.machine_replay.specs.declared.types.Event.TheVariants.{Begin};
 
 use crate::effects::effect;
+use crate::same::{Same, all_same};
 use crate::shared_memory::{SharedMemory, vacant};
-use crate::types::{Event, Told};
+use crate::types::{Event, Handled, Told};
 use queue_steps::model::{Call, Reply};
 use queue_steps::steps::{Answer, Kind, Local, Next, Op, Touch, next, start};
 use std::alloc::{AllocError, Allocator};
+use std::hash::{Hash, Hasher};
 
 /// A call that was begun and not ended: where it stands, what its next step does, and the value that it carries.
-#[derive(Drop)]
+#[derive(Copy, Drop, PartialEq, Eq, Hash)]
 pub struct Running<T> {
     /// Where the call stands once its next step is taken.
     pub local: Local<usize>,
@@ -24,6 +26,16 @@ pub struct Running<T> {
     pub op: Op<usize>,
     /// The value that the call carries.
     pub carried: Option<T>,
+}
+
+impl<T: Copy> Clone for Running<T> {
+    ghost is_clone = { λ x y. y ≡ x };
+
+    ghost is_infallible = { λ _. ⊤ };
+
+    fn clone(&self) -> Result<Running<T>, AllocError> {
+        Ok(*self)
+    }
 }
 
 /// A queue and its parties.
@@ -58,6 +70,47 @@ impl<T: Drop, A: Allocator + Copy> Machine<T, A> {
     }
 }
 
+impl<T: Copy, A: Allocator + Copy> Machine<T, A> {
+    /// A copy, with room for one block more.
+    pub(crate) fn fork(&self, alloc: A) -> Result<Self, AllocError>
+        ensures kind { IfOk result (λ m. m.kind ≡ self.now.kind) }
+        ensures world { IfOk result (λ m. world_of m ≡ world_of self.now) }
+        ensures alive { IfOk result (λ m. m.memory.alive ≡ self.now.memory.alive) }
+        ensures room { IfOk result (λ m. HasRoom m.memory) }
+    {
+        Ok(Machine {
+            kind: self.kind,
+            memory: self.memory.fork(alloc)?,
+            calls: Vec::from_slice(alloc, &self.calls)?,
+        })
+    }
+}
+
+impl<T: Same, A: Allocator> Machine<T, A> {
+    /// Whether the two are of one kind, share the same, and have the same calls. A no claims nothing.
+    pub(crate) fn is_same(&self, other: &Self) -> bool
+        ensures kind { result ≡ true → self.now.kind ≡ other.now.kind }
+        ensures world { result ≡ true → world_of self.now ≡ world_of other.now }
+    {
+        self.kind == other.kind
+            && self.memory.is_same(&other.memory)
+            && all_same(&self.calls, &other.calls)
+    }
+}
+
+impl<T: Hash, A: Allocator> Machine<T, A> {
+    /// Feeds the hasher with all that the machine holds.
+    pub(crate) fn feed<H: Hasher>(&self, state: &mut H) {
+        match self.kind {
+            Kind::Single => state.write_u8(0),
+            Kind::Bounded(cap) => state.write_usize(cap),
+            Kind::Unbounded => state.write_u8(1),
+        }
+        self.memory.feed(state);
+        self.calls.hash(state);
+    }
+}
+
 impl<T: Drop, A: Allocator> Machine<T, A> {
     /// One event. A block that it asks for is asked of the allocator, unless the event refuses it.
     pub fn handle(&mut self, alloc: A, event: Event<T>) -> Told<T>
@@ -69,15 +122,36 @@ impl<T: Drop, A: Allocator> Machine<T, A> {
         ensures room { KeepsRoom self.old.memory self.new.memory }
         ensures counted { HasCount self.new.memory }
     {
+        self.handle_met(alloc, event).told
+    }
+
+    /// One event, as `handle` handles it. Beside what is told of it stands whether the allocator had what it asked for.
+    pub(crate) fn handle_met(&mut self, alloc: A, event: Event<T>) -> Handled<T>
+        requires can { CanHandle self.old.kind (world_of self.old) event }
+        requires room { HasRoom self.old.memory }
+        requires counted { HasCount self.old.memory }
+        ensures kind { self.new.kind ≡ self.old.kind }
+        ensures handles { Handles self.old.kind (world_of self.old) event (world_of self.new) result.told }
+        ensures room { KeepsRoom self.old.memory self.new.memory }
+        ensures counted { HasCount self.new.memory }
+        ensures met_world { result.is_met ≡ true → world_of self.new ≡ (event_of self.old.kind true (world_of self.old) event).0 }
+        ensures met_told { result.is_met ≡ true → result.told ≡ (event_of self.old.kind true (world_of self.old) event).1 }
+    {
         match event {
-            Event::Begin(party, call) => { self.begin(party, call) }
+            Event::Begin(party, call) => met(self.begin(party, call)),
             Event::Step(party, granted) => {
                 if party >= self.calls.len() {
-                    return Told::Skipped;
+                    return met(Told::Skipped);
                 }
                 match self.calls[party].take() {
-                    None => Told::Skipped,
-                    Some(running) => self.step(alloc, granted, party, running).0,
+                    None => met(Told::Skipped),
+                    Some(running) => {
+                        let (told, ok) = self.step(alloc, granted, party, running);
+                        Handled {
+                            told,
+                            is_met: ok || !granted,
+                        }
+                    }
                 }
             }
         }
@@ -139,6 +213,13 @@ impl<T: Drop, A: Allocator> Machine<T, A> {
         self.calls[party] = running;
         (Told::Ran(effect, reply), ok)
     }
+}
+
+/// What is told of an event that asked for nothing.
+fn met<T>(told: Told<T>) -> Handled<T>
+    ensures { result ≡ record { told = told; is_met = true } }
+{
+    Handled { told, is_met: true }
 }
 
 /// The call before its next step, or the reply that ends it.

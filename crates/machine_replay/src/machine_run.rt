@@ -1,16 +1,20 @@
 //! A run of the machine, one event after another.
 ghost use Rattle.std.specs.Prelude.{◌≡◌, ◌+◌, ◌≤◌, [], Bool, None, true, false, is_some, IfOk, IsErr, OnOk, slice_index_or, vec_len, vec_capacity};
 ghost use Rattle.machine_replay.specs.MachineRuns.{CanGoOn, Continues, IsMachineRun, IsSomeMachineRun, IsSameMachineRun, Leaves, TellsCall};
-ghost use Rattle.machine_replay.specs.Machine.{HasRoomFor, KeepsRoom};
+ghost use Rattle.machine_replay.specs.Left.{left_of};
+ghost use Rattle.machine_replay.specs.Machine.{HasRoomFor, KeepsRoom, event_of, world_of};
+ghost use Rattle.machine_replay.specs.World.{call_at};
 ghost use Rattle.machine_replay.specs.Replays.{CanReplay, is_too_large};
 ghost use Rattle.machine_replay.specs.declared.types.Event.TheVariants.{Step};
 ghost use Rattle.machine_replay.specs.declared.types.Told.TheVariants.{Skipped};
+
+mod copies;
 
 use crate::left::left;
 use crate::machine::Machine;
 use crate::peaks;
 use crate::run::too_large;
-use crate::types::{Event, Peak, Told};
+use crate::types::{Event, Handled, Peak, Told};
 use queue_steps::steps::Kind;
 use std::alloc::{AllocError, Allocator, Global};
 
@@ -81,17 +85,32 @@ impl<T: Drop, A: Allocator + Copy> MachineRun<T, A> {
         ensures room { KeepsRoom self.old.machine.memory self.new.machine.memory }
         ensures handled { self.new.handled ≡ self.old.handled + 1 }
     {
+        self.handle_met(alloc, event).told
+    }
+
+    /// Runs one event, as `handle` does, and tells beside it whether the allocator had what the event asked for.
+    pub fn handle_met(&mut self, alloc: A, event: Event<T>) -> Handled<T>
+        requires comes { IsSomeMachineRun self.old }
+        requires room { CanGoOn self.old }
+        ensures goes_on { Continues self.old event result.told self.new }
+        ensures room { KeepsRoom self.old.machine.memory self.new.machine.memory }
+        ensures handled { self.new.handled ≡ self.old.handled + 1 }
+        ensures kind { self.new.machine.kind ≡ self.old.machine.kind }
+        ensures world { result.is_met ≡ true → world_of self.new.machine ≡ (event_of self.old.machine.kind true (world_of self.old.machine) event).0 }
+        ensures told { result.is_met ≡ true → result.told ≡ (event_of self.old.machine.kind true (world_of self.old.machine) event).1 }
+    {
         let before = peaks::numbers(&self.machine);
-        let told = self.machine.handle(alloc, event);
+        let handled = self.machine.handle_met(alloc, event);
         self.peak = peaks::after(&self.machine, before, self.peak);
         self.handled += 1;
-        told
+        handled
     }
 
     /// Whether the party is in a call. Where it is in none, its step would be skipped, and change nothing.
     pub fn is_in_call(&self, party: usize) -> bool
         ensures exact { TellsCall self.now party result }
         ensures skips { result ≡ false → (granted : Bool) → Continues self.now (Step party granted) Skipped self.now }
+        ensures world { result ≡ is_some (call_at (world_of self.now.machine) party) }
     {
         is_calling(&self.machine.calls, party)
     }
@@ -101,7 +120,8 @@ impl<T: Drop, A: Allocator + Copy> MachineRun<T, A> {
         requires comes { IsSomeMachineRun self }
         requires empty { vec_len room ≡ 0 }
         requires room { self.handled ≤ vec_capacity room }
-        ensures { Leaves self result }
+        ensures leaves { Leaves self result }
+        ensures left { result.left.items ≡ left_of self.machine.kind (world_of self.machine) }
     {
         let MachineRun {
             machine,
@@ -121,7 +141,8 @@ impl<T: Drop, A: Allocator + Copy> MachineRun<T, A> {
     /// Where there is no memory for what is left.
     pub fn end(self, alloc: A) -> Result<Ended<T, A>, AllocError>
         requires { IsSomeMachineRun self }
-        ensures { IfOk result (λ ended. Leaves self ended) }
+        ensures leaves { IfOk result (λ ended. Leaves self ended) }
+        ensures left { IfOk result (λ ended. ended.left.items ≡ left_of self.machine.kind (world_of self.machine)) }
     {
         let room = Vec::with_capacity(alloc, self.handled)?;
         Ok(self.end_in(room))

@@ -2,6 +2,7 @@
 ghost use Rattle.std.specs.Prelude.{◌≡◌, ◌++◌, ◌+◌, ◌<◌, [], true, IfOk, IsErr, vec_len};
 ghost use Rattle.machine_replay.specs.Conforms.{Conforms, HasNoBlocks, capacity_of, party_of, reply_entry, effect_entry, skipped_entry};
 ghost use Rattle.machine_replay.specs.OneOwner.{IsSequentialRun};
+ghost use Rattle.machine_replay.specs.Played.{IsPlayed};
 ghost use Rattle.machine_replay.specs.Replays.{CanReplay, is_too_large, IsRoomy};
 
 use crate::machine_run::{Ended, MachineRun};
@@ -93,6 +94,7 @@ pub fn replay<T: Drop, A: Allocator + Copy>(
 ) -> Result<Replay<T, A>, AllocError>
     requires { CanReplay kind }
     ensures conforms { IfOk result (λ r. Conforms (capacity_of kind) parties events.items r) }
+    ensures played { IfOk result (λ r. IsPlayed kind parties events.items r) }
     ensures blocks { IfOk result (λ r. HasNoBlocks (capacity_of kind) r.peak) }
     ensures alone { IfOk result (λ r. parties ≡ 1 → IsSequentialRun (capacity_of kind) events.items r) }
     ensures limited { is_too_large kind ≡ true → IsErr result }

@@ -1,5 +1,5 @@
 //! What all parties share: the words, the slots and the blocks of a queue, and what one step of a call does to them.
-ghost use Rattle.std.specs.Prelude.{◌≡◌, ◌<◌, None, IfOk, replicate, false};
+ghost use Rattle.std.specs.Prelude.{◌≡◌, ◌<◌, None, IfOk, replicate, true, false};
 ghost use Rattle.machine_replay.specs.Blocks.{without};
 ghost use Rattle.machine_replay.specs.SharedMemory.{HasWord, word_at, put_word, HasLink, link_at, put_link, CanOperate, asked, granted_if, answered, operated, block_touched, slots_there, item_at, put_at, CanTouch, touched, handed, shared_of};
 ghost use Rattle.machine_replay.specs.Left.{slot_count, opening_shared, opening_stamps};
@@ -7,8 +7,10 @@ ghost use Rattle.machine_replay.specs.Machine.{HasRoom, HasRoomFor, KeepsRoom, H
 ghost use Rattle.law_ring.specs.RingOpening.{numbers_below};
 
 use crate::blocks::{self, Block};
+use crate::same::{Same, all_same};
 use queue_steps::steps::{Answer, Kind, Link, Op, Touch, Word};
 use std::alloc::{AllocError, Allocator};
+use std::hash::{Hash, Hasher};
 use std::mem;
 
 /// The words, the slots and the blocks of a queue.
@@ -52,6 +54,69 @@ impl<T: Drop, A: Allocator + Copy> SharedMemory<T, A> {
             blocks: Vec::with_capacity(alloc, events)?,
             alive: 0,
         })
+    }
+}
+
+impl<T: Copy, A: Allocator + Copy> SharedMemory<T, A> {
+    /// A copy, with room for one block more.
+    pub(crate) fn fork(&self, alloc: A) -> Result<Self, AllocError>
+        ensures memory { IfOk result (λ m. shared_of m ≡ shared_of self.now) }
+        ensures alive { IfOk result (λ m. m.alive ≡ self.now.alive) }
+        ensures room { IfOk result (λ m. HasRoom m) }
+    {
+        Ok(SharedMemory {
+            lock: self.lock,
+            head: self.head,
+            tail: self.tail,
+            stamps: Vec::from_slice(alloc, &self.stamps)?,
+            slots: Vec::from_slice(alloc, &self.slots)?,
+            head_block: self.head_block,
+            tail_block: self.tail_block,
+            blocks: blocks::copy(alloc, &self.blocks)?,
+            alive: self.alive,
+        })
+    }
+}
+
+impl<T: Same, A: Allocator> SharedMemory<T, A> {
+    /// Whether the two hold the same. A no claims nothing.
+    pub(crate) fn is_same(&self, other: &Self) -> bool
+        ensures { result ≡ true → shared_of self.now ≡ shared_of other.now }
+    {
+        self.has_same_words(other)
+            && all_same(&self.slots, &other.slots)
+            && all_same(&self.blocks, &other.blocks)
+    }
+
+    /// Whether the words and the links of the two are the same. A no claims nothing.
+    fn has_same_words(&self, other: &Self) -> bool
+        ensures lock { result ≡ true → self.now.lock ≡ other.now.lock }
+        ensures head { result ≡ true → self.now.head ≡ other.now.head }
+        ensures tail { result ≡ true → self.now.tail ≡ other.now.tail }
+        ensures head_block { result ≡ true → self.now.head_block ≡ other.now.head_block }
+        ensures tail_block { result ≡ true → self.now.tail_block ≡ other.now.tail_block }
+        ensures stamps { result ≡ true → self.now.stamps.items ≡ other.now.stamps.items }
+    {
+        self.lock == other.lock
+            && self.head == other.head
+            && self.tail == other.tail
+            && self.head_block == other.head_block
+            && self.tail_block == other.tail_block
+            && all_same(&self.stamps, &other.stamps)
+    }
+}
+
+impl<T: Hash, A: Allocator> SharedMemory<T, A> {
+    /// Feeds the hasher with all that is shared.
+    pub(crate) fn feed<H: Hasher>(&self, state: &mut H) {
+        self.lock.hash(state);
+        self.head.hash(state);
+        self.tail.hash(state);
+        self.head_block.hash(state);
+        self.tail_block.hash(state);
+        self.stamps.hash(state);
+        self.slots.hash(state);
+        blocks::feed(&self.blocks, state);
     }
 }
 

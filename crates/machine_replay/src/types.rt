@@ -39,6 +39,15 @@ pub enum Told<T> {
     Ran(Option<EffectKind>, Option<Reply<T>>),
 }
 
+/// What is told of one event, and whether the allocator had what it asked for.
+#[derive(Clone, Copy, Debug, Drop, PartialEq, Eq)]
+pub struct Handled<T> {
+    /// What is told of the event.
+    pub told: Told<T>,
+    /// Whether the allocator granted the block that the event asked for. True where it asked for none, and where the event refuses it.
+    pub is_met: bool,
+}
+
 /// How many blocks a run held at most.
 #[derive(Clone, Copy, Debug, Drop, PartialEq, Eq)]
 pub struct Peak {

@@ -4,7 +4,7 @@ use Rattle.machine_replay.specs.World.{call_at}
 use Rattle.machine_replay.specs.Machine.{CanHandle, world_of}
 use Rattle.machine_replay.specs.declared.types.Event.TheVariants.{Step}
 use Rattle.machine_replay.proofs.Handling.{handles-step}
-use Rattle.machine_replay.proofs.machine.Machine.handle.Goals as goal
+use Rattle.machine_replay.proofs.machine.Machine.handle_met.Goals as goal
 
 pub step-requires-clause-can : goal.step-requires-clause-can
 step-requires-clause-can g c =

@@ -1,0 +1,48 @@
+-- What a list of events makes of a machine, where the allocator grants each request that no event refuses, and what a replay tells by that.
+use Rattle.std.specs.Prelude.{◌≡◌, ℕ, ◌&&◌, Bool, true, false, Option, Some, None, List, [], ◌∷◌}
+use Rattle.queue_steps.specs.declared.steps.types.Kind.{Kind}
+use Rattle.queue_steps.specs.declared.steps.types.Op.{Op}
+use Rattle.queue_steps.specs.declared.steps.types.Op.TheVariants as op
+use Rattle.machine_replay.specs.declared.machine.Running.{Running}
+use Rattle.machine_replay.specs.declared.types.Event.{Event}
+use Rattle.machine_replay.specs.declared.types.Event.TheVariants.{Begin, Step}
+use Rattle.machine_replay.specs.declared.types.Replay.{Replay}
+use Rattle.machine_replay.specs.declared.types.Told.{Told}
+use Rattle.machine_replay.specs.Conforms.{entries_from, reply_entry, effect_entry, skipped_entry}
+use Rattle.machine_replay.specs.Left.{left_of, opening_world}
+use Rattle.machine_replay.specs.Machine.{event_of}
+use Rattle.machine_replay.specs.SharedMemory.{Shared}
+use Rattle.machine_replay.specs.World.{World}
+
+-- the machine after these events, where each request that no event refuses is granted
+abbrev pub world_after : {T : Type 0} → Kind → World (Shared T) (Running T) → List (Event T) → World (Shared T) (Running T)
+world_after k w [] = w
+world_after k w (e ∷ es) = world_after k (event_of k true w e).0 es
+
+-- what is told of them
+abbrev pub told_of : {T : Type 0} → Kind → World (Shared T) (Running T) → List (Event T) → List (Told T)
+told_of k w [] = []
+told_of k w (e ∷ es) = (event_of k true w e).1 ∷ told_of k (event_of k true w e).0 es
+
+-- the events, with a step also refused where the allocator did not grant its request
+abbrev pub refused : {T : Type 0} → List (Event T) → List Bool → List (Event T)
+refused (Step p granted ∷ es) (ok ∷ oks) = Step p (granted && ok) ∷ refused es oks
+refused (Begin p c ∷ es) (ok ∷ oks) = Begin p c ∷ refused es oks
+refused es _ = es
+
+-- what is told is what these events make, with a request refused where the allocator refused it
+pub record IsPlayed {T A : Type 0} (k : Kind) (parties : ℕ) (events : List (Event T)) (r : Replay T A) : Type 0 where
+  pub granted : List Bool
+  pub replies : r.replies.items ≡ entries_from reply_entry 0 (refused events granted) (told_of k (opening_world k parties) (refused events granted))
+  pub effects : r.effects.items ≡ entries_from effect_entry 0 (refused events granted) (told_of k (opening_world k parties) (refused events granted))
+  pub skipped : r.skipped.items ≡ entries_from skipped_entry 0 (refused events granted) (told_of k (opening_world k parties) (refused events granted))
+  pub left : r.left.items ≡ left_of k (world_after k (opening_world k parties) (refused events granted))
+
+-- whether the operation is a request for a block, and whether a party's call has that before it
+abbrev pub is_request : Op ℕ → Bool
+is_request op.Ask = true
+is_request _ = false
+
+abbrev pub asks : {T : Type 0} → Option (Running T) → Bool
+asks None = false
+asks (Some r) = is_request r.op
