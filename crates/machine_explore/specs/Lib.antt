@@ -2,4 +2,6 @@ pub mod Played
 pub mod Positions
 pub mod Moves
 pub mod Explored
+pub mod Starts
 pub mod Tables
+pub mod Certified

@@ -5,9 +5,13 @@ use Rattle.machine_replay.specs.declared.types.Event.{Event}
 use Rattle.machine_explore.specs.Moves.{event_at}
 use Rattle.machine_explore.specs.Positions.{At}
 
+-- if the party goes on from there, the table has where that leads
+abbrev pub StaysOnce : {S R T : Type 0} → (At S R T → Event T → At S R T) → List (List (Call T)) → List (At S R T) → At S R T → ℕ → Bool → Type 0
+StaysOnce lead calls table s p granted = MatchOption (event_at calls s p granted) ⊤ (λ e. Contains table (lead s e))
+
 -- however the party goes on from there, the table has where that leads
 abbrev pub Stays : {S R T : Type 0} → (At S R T → Event T → At S R T) → Bool → List (List (Call T)) → List (At S R T) → At S R T → ℕ → Type 0
-Stays lead refuses calls table s p = (granted : Bool) → (refuses ≡ false → granted ≡ true) → MatchOption (event_at calls s p granted) ⊤ (λ e. Contains table (lead s e))
+Stays lead refuses calls table s p = (granted : Bool) → (refuses ≡ false → granted ≡ true) → StaysOnce lead calls table s p granted
 
 -- so it is for each party
 abbrev pub StaysForAll : {S R T : Type 0} → (At S R T → Event T → At S R T) → Bool → List (List (Call T)) → List (At S R T) → At S R T → Type 0

@@ -1,5 +1,10 @@
 //! Every outcome of a small program over one queue: what a program is, where its runs stand, and the check that a table of positions has them all.
 #![tactic(auto)]
 
+pub mod certify;
+pub mod check;
+pub mod outcome;
+pub mod position;
 pub mod program;
+pub mod progress;
 pub mod sequence;

@@ -1,7 +1,7 @@
 //! A list of which a contract sees the items alone.
-ghost use Rattle.std.specs.Prelude.{◌≡◌, ◌++◌, ◌∷◌, [], List, Some, None, OnOk, length, slice_get};
+ghost use Rattle.std.specs.Prelude.{◌≡◌, List, length};
 
-use std::alloc::{AllocError, Allocator};
+use std::alloc::Allocator;
 use std::marker::Model;
 
 /// Items in their order.
@@ -17,15 +17,6 @@ impl<X, A: Allocator> Model for Sequence<X, A> {
 }
 
 impl<X, A: Allocator> Sequence<X, A> {
-    /// No item.
-    pub fn new(alloc: A) -> Self
-        ensures { result ≡ [] }
-    {
-        Sequence {
-            items: Vec::new(alloc),
-        }
-    }
-
     /// The items of a vector.
     pub fn of(items: Vec<X, A>) -> Self
         ensures { result ≡ items.items }

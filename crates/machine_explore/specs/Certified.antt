@@ -1,0 +1,23 @@
+-- When a schedule shows an outcome.
+use Rattle.std.specs.Prelude.{◌≡◌, ℕ, Bool, List, length, ⊤}
+use Rattle.std.specs.List.{AllZip}
+use Rattle.queue_steps.specs.declared.model.Call.{Call}
+use Rattle.queue_steps.specs.declared.steps.types.Kind.{Kind}
+use Rattle.machine_replay.specs.declared.types.Event.{Event}
+use Rattle.machine_replay.specs.declared.types.Event.TheVariants.{Begin, Step}
+use Rattle.machine_explore.specs.declared.certify.Move.{Move}
+use Rattle.machine_explore.specs.Explored.{IsRunOf, outcome_of_run}
+use Rattle.machine_explore.specs.Positions.{Outcome}
+
+-- the event is that of the move
+abbrev pub IsMove : Move → Event ℕ → Type 0
+IsMove m (Begin p c) = p ≡ m.party
+IsMove m (Step p granted) = (p ≡ m.party) × (granted ≡ m.granted)
+
+-- by these moves, behind the calls that come first, the program runs to this outcome
+pub record IsOutcomeOf (k : Kind) (refuses : Bool) (before : List (Call ℕ)) (calls : List (List (Call ℕ))) (schedule : List Move) (o : Outcome ℕ) : Type 0 where
+  pub first : List (Event ℕ)
+  pub rest : List (Event ℕ)
+  pub run : IsRunOf k refuses before calls first rest
+  pub moves : AllZip IsMove schedule rest
+  pub outcome : o ≡ outcome_of_run k (length calls) first rest

@@ -1,0 +1,22 @@
+-- Where the runs of a program start, once the calls that come first are made.
+use Rattle.std.specs.Prelude.{◌≡◌, ℕ, List, replicate}
+use Rattle.queue_steps.specs.declared.model.Call.{Call}
+use Rattle.queue_steps.specs.declared.steps.types.Kind.{Kind}
+use Rattle.machine_replay.specs.declared.machine.Running.{Running}
+use Rattle.machine_replay.specs.declared.types.Event.{Event}
+use Rattle.machine_replay.specs.Left.{opening_world}
+use Rattle.machine_replay.specs.SharedMemory.{Shared}
+use Rattle.machine_replay.specs.World.{World}
+use Rattle.machine_explore.specs.Explored.{Prepares}
+use Rattle.machine_explore.specs.Played.{world_after}
+use Rattle.machine_explore.specs.Positions.{Standing, no_progress}
+
+-- party 0, alone, has made these calls between w and the later world, and is between calls
+abbrev pub IsPrepared : Kind → World (Shared ℕ) (Running ℕ) → List (Call ℕ) → World (Shared ℕ) (Running ℕ) → Type 0
+IsPrepared k w calls later = (events : List (Event ℕ)) × Prepares k w calls events × (later ≡ world_after k w events)
+
+-- the run of a program of so many parties starts there, behind the calls that come first
+pub record IsStart (k : Kind) (before : List (Call ℕ)) (parties : ℕ) (s : Standing) : Type 0 where
+  pub kind : s.kind ≡ k
+  pub prepared : IsPrepared k (opening_world k parties) before s.world
+  pub none_begun : s.parties ≡ replicate parties no_progress

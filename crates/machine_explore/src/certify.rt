@@ -1,0 +1,52 @@
+//! A schedule is run once more, and shows the outcome that it leads to.
+ghost use Rattle.std.specs.Prelude.{◌≡◌, ⊤, IfOk, MatchOption};
+ghost use Rattle.machine_replay.specs.Replays.{CanReplay};
+ghost use Rattle.machine_explore.specs.Certified.{IsOutcomeOf};
+
+use crate::outcome::Outcome;
+use crate::position::Position;
+use crate::program::Program;
+use queue_steps::steps::Kind;
+use std::alloc::{AllocError, Allocator};
+
+/// A party goes on: by a step of its call, or by the beginning of its next.
+#[derive(Clone, Copy, Drop)]
+pub struct Move {
+    /// The party's number.
+    pub party: usize,
+    /// Whether the step's request for a block, if it makes one, is granted.
+    pub granted: bool,
+}
+
+/// What the program ends with by these moves, if they are a whole run of it.
+///
+/// # Errors
+///
+/// Where there is no memory, for a block too, or no queue may have the capacity.
+pub fn certify<A: Allocator + Copy>(
+    alloc: A,
+    kind: Kind,
+    refuses: bool,
+    program: &Program<A>,
+    schedule: &[Move],
+) -> Result<Option<Outcome<A>>, AllocError>
+    requires { CanReplay kind }
+    ensures { IfOk result (λ o. MatchOption o ⊤ (IsOutcomeOf kind refuses program.now.before program.now.parties.items schedule.now)) }
+{
+    let Some(mut position) = Position::start(alloc, kind, program)? else {
+        return Ok(None);
+    };
+    for step in schedule {
+        if !step.granted && !refuses {
+            return Ok(None);
+        }
+        let Some(next) = position.after(alloc, program, step.party, step.granted)? else {
+            return Ok(None);
+        };
+        position = next;
+    }
+    if !position.is_final(program) {
+        return Ok(None);
+    }
+    Ok(Some(position.outcome(alloc)?))
+}

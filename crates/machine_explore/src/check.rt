@@ -1,0 +1,200 @@
+//! The check that a table of positions has where every run of a program comes, and a list of outcomes what each ends with.
+ghost use Rattle.std.specs.Prelude.{◌≡◌, ◌<◌, true, Contains, IfOk, length};
+ghost use Rattle.machine_replay.specs.Replays.{CanReplay};
+ghost use Rattle.machine_explore.specs.Explored.{HasNoOther};
+ghost use Rattle.machine_explore.specs.Moves.{led};
+ghost use Rattle.machine_explore.specs.Positions.{IsFinal, outcome_at};
+ghost use Rattle.machine_explore.specs.Starts.{IsStart};
+ghost use Rattle.machine_explore.specs.Tables.{Stays, StaysForAll, StaysOnce};
+
+use crate::outcome::{Outcome, is_among};
+use crate::position::Position;
+use crate::program::Program;
+use queue_steps::steps::Kind;
+use std::alloc::{AllocError, Allocator};
+
+/// Where the table has what a party's way on leads to. Nothing rests on it: the check looks there.
+#[derive(Clone, Copy)]
+pub struct Link {
+    /// The place of the position after its event, whose request, if it makes one, is granted.
+    pub granted: usize,
+    /// The same where the request is refused.
+    pub refused: usize,
+}
+
+/// What was found: the positions, and for each of them a link for each party.
+#[derive(Drop)]
+pub struct Table<A: Allocator> {
+    /// The positions. The first is where runs start.
+    pub positions: Vec<Position<A>, A>,
+    /// The links of the first position, by party, then those of the second, and so on.
+    pub links: Vec<Link, A>,
+}
+
+/// Whether the program has no outcome but these, as the table shows. Whoever made the table is not trusted.
+///
+/// With `refuses` each request for a block may also be refused.
+///
+/// # Errors
+///
+/// Where there is no memory, for a block too, or no queue may have the capacity.
+pub fn check<A: Allocator + Copy>(
+    alloc: A,
+    kind: Kind,
+    refuses: bool,
+    program: &Program<A>,
+    table: &Table<A>,
+    outcomes: &[Outcome<A>],
+) -> Result<bool, AllocError>
+    requires { CanReplay kind }
+    ensures { IfOk result (λ yes. yes ≡ true → HasNoOther kind refuses program.now.before program.now.parties.items outcomes.now) }
+{
+    let Some(start) = Position::start(alloc, kind, program)? else {
+        return Ok(false);
+    };
+    if !has_at(&table.positions, 0, &start) {
+        return Ok(false);
+    }
+    for (index, position) in table.positions.iter().enumerate() {
+        if !fits(kind, program, position) {
+            return Ok(false);
+        }
+        if !stays(alloc, refuses, program, table, index, position)? {
+            return Ok(false);
+        }
+        if !ends_among(alloc, program, position, outcomes)? {
+            return Ok(false);
+        }
+    }
+    Ok(true)
+}
+
+// Whether the position is one of this kind of queue, which the program's parties share.
+fn fits<A: Allocator + Copy>(kind: Kind, program: &Program<A>, position: &Position<A>) -> bool
+    ensures kind { result ≡ true → position.now.kind ≡ kind }
+    ensures parties { result ≡ true → length position.now.parties ≡ length program.now.parties.items }
+    ensures calls { result ≡ true → length position.now.world.calls ≡ length program.now.parties.items }
+{
+    position.kind() == kind && position.has_parties(program.parties.len())
+}
+
+// Whether the table has this position at that place.
+fn has_at<A: Allocator + Copy>(
+    positions: &[Position<A>],
+    place: usize,
+    position: &Position<A>,
+) -> bool
+    ensures { result ≡ true → Contains positions.now position.now }
+{
+    match positions.get(place) {
+        Some(other) => position.is_same(other),
+        None => false,
+    }
+}
+
+// Whether the table has where each party leads from the position, which stands at this place.
+fn stays<A: Allocator + Copy>(
+    alloc: A,
+    refuses: bool,
+    program: &Program<A>,
+    table: &Table<A>,
+    index: usize,
+    position: &Position<A>,
+) -> Result<bool, AllocError>
+    ensures { IfOk result (λ yes. yes ≡ true → StaysForAll (led position.now.kind) refuses program.now.parties.items table.now.positions.items position.now) }
+{
+    let count = program.parties.len();
+    let Some(first) = index.checked_mul(count) else {
+        return Ok(false);
+    };
+    for party in 0..count {
+        let Some(place) = first.checked_add(party) else {
+            return Ok(false);
+        };
+        let Some(link) = table.links.get(place).copied() else {
+            return Ok(false);
+        };
+        if !stays_by(
+            alloc,
+            refuses,
+            program,
+            &table.positions,
+            position,
+            party,
+            link,
+        )? {
+            return Ok(false);
+        }
+    }
+    Ok(true)
+}
+
+// Whether the table has where the party leads from the position, at the places that the link names.
+fn stays_by<A: Allocator + Copy>(
+    alloc: A,
+    refuses: bool,
+    program: &Program<A>,
+    positions: &[Position<A>],
+    position: &Position<A>,
+    party: usize,
+    link: Link,
+) -> Result<bool, AllocError>
+    ensures { IfOk result (λ yes. yes ≡ true → Stays (led position.now.kind) refuses program.now.parties.items positions.now position.now party) }
+{
+    if !leads_to(
+        alloc,
+        program,
+        positions,
+        position,
+        party,
+        true,
+        link.granted,
+    )? {
+        return Ok(false);
+    }
+    if refuses && position.asks(party) {
+        return leads_to(
+            alloc,
+            program,
+            positions,
+            position,
+            party,
+            false,
+            link.refused,
+        );
+    }
+    Ok(true)
+}
+
+// Whether the party leads from the position to what the table has at that place, if it goes on at all.
+fn leads_to<A: Allocator + Copy>(
+    alloc: A,
+    program: &Program<A>,
+    positions: &[Position<A>],
+    position: &Position<A>,
+    party: usize,
+    granted: bool,
+    place: usize,
+) -> Result<bool, AllocError>
+    ensures { IfOk result (λ yes. yes ≡ true → StaysOnce (led position.now.kind) program.now.parties.items positions.now position.now party granted) }
+{
+    match position.after(alloc, program, party, granted)? {
+        None => Ok(true),
+        Some(next) => Ok(has_at(positions, place, &next)),
+    }
+}
+
+// Whether what the position ends with is among these, if it is an end.
+fn ends_among<A: Allocator + Copy>(
+    alloc: A,
+    program: &Program<A>,
+    position: &Position<A>,
+    outcomes: &[Outcome<A>],
+) -> Result<bool, AllocError>
+    ensures { IfOk result (λ yes. yes ≡ true → IsFinal program.now.parties.items position.now → Contains outcomes.now (outcome_at position.now)) }
+{
+    if !position.is_final(program) {
+        return Ok(true);
+    }
+    Ok(is_among(&position.outcome(alloc)?, outcomes))
+}
