@@ -79,7 +79,9 @@ impl Same for Local<usize> {
 
 impl<T: Same> Same for Running<T> {
     fn same(&self, other: &Running<T>) -> bool {
-        self.op.same(&other.op) && self.touch.same(&other.touch) && self.local.same(&other.local)
+        self.op.same(&other.op)
+            && self.touch.same(&other.touch)
+            && self.local.same(&other.local)
             && self.carried.same(&other.carried)
     }
 }
