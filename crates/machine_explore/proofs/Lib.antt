@@ -4,3 +4,5 @@ pub mod Preparing
 pub mod NoOther
 pub mod Showing
 pub mod Starting
+pub mod Runs
+pub mod Staying

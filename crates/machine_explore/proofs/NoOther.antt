@@ -30,7 +30,7 @@ starts_there : (k : Kind) (before : List (Call ℕ)) (parties : ℕ) (s : Standi
     → s.world ≡ world_after k (opening_world k parties) first
 starts_there k before parties s first start all =
     start.prepared.2 ∙ prepared_once (step_of k) (start_of k) start.prepared.0 first (opening_world k parties) before
-        (as_prepared k (opening_world k parties) before start.prepared.0 start.prepared.1) (as_prepared k (opening_world k parties) before first all)
+    (as_prepared k (opening_world k parties) before start.prepared.0 start.prepared.1) (as_prepared k (opening_world k parties) before first all)
 
 pub none_begun : (k : Kind) (before : List (Call ℕ)) (parties p : ℕ) (s : Standing) → IsStart k before parties s → p < parties → progress_of s p ≡ no_progress
 none_begun k before parties p s start h = ap (λ l. slice_index_or l p no_progress) start.none_begun ∙ get_or-replicate parties p no_progress no_progress h
@@ -43,11 +43,11 @@ ends_with k calls w rest end kind world parties replies =
     let shown : List (List (Reply ℕ)) = map (λ (g : Progress ℕ). g.replies) end.parties in
     let count : length shown ≡ length calls = length-map end.parties (λ (g : Progress ℕ). g.replies) ∙ parties in
     let lists : shown ≡ map told (range_with_len 0 (length calls)) = same_lists shown (map told (range_with_len 0 (length calls)))
-        (count ∙ sym (length-map-range_with_len told 0 (length calls)))
-        (λ p d h.
-            let inside : p < length calls = omega (arith, h, count) in
-            let there : p < length end.parties = omega (arith, inside, parties) in
-            get_or-map (λ (g : Progress ℕ). g.replies) end.parties p no_progress d there ∙ replies p inside ∙ sym (get_or-map-range_with_len told 0 (length calls) p p d inside (zero-add p))) in
+    (count ∙ sym (length-map-range_with_len told 0 (length calls)))
+    (λ p d h.
+    let inside : p < length calls = omega (arith, h, count) in
+    let there : p < length end.parties = omega (arith, inside, parties) in
+    get_or-map (λ (g : Progress ℕ). g.replies) end.parties p no_progress d there ∙ replies p inside ∙ sym (get_or-map-range_with_len told 0 (length calls) p p d inside (zero-add p))) in
     let left : left_of end.kind end.world ≡ left_of k (world_after k w rest) = ap (λ x. left_of x end.world) kind ∙ ap (λ x. left_of k x) world in
     ap (λ l. record { replies = l; left = left_of end.kind end.world }) lists ∙ ap (λ l. record { replies = map told (range_with_len 0 (length calls)); left = l }) left
 
@@ -58,13 +58,13 @@ no_other k refuses before calls table outcomes start starts within checked first
     let same = starts_there k before (length calls) start first starts run.prepares in
     let here = All-contains (IsChecked k refuses calls table outcomes) table start checked within in
     let closed = All-weaker (IsChecked k refuses calls table outcomes) (StaysForAll (led k) refuses calls table)
-        (λ (s : Standing) (c : IsChecked k refuses calls table outcomes s). let P : Kind → Type 0 = λ x. StaysForAll (led x) refuses calls table s in subst P c.kind c.stays) table checked in
+    (λ (s : Standing) (c : IsChecked k refuses calls table outcomes s). let P : Kind → Type 0 = λ x. StaysForAll (led x) refuses calls table s in subst P c.kind c.stays) table checked in
     let begins : Begins (step_of k) (start_of k) calls start rest = λ p h.
-        ap (λ x. begun_by p rest (told_of k x rest)) same ∙ run.plays.begins p h ∙ ap (λ (g : Progress ℕ). drop g.begun (calls_of calls p)) (sym (none_begun k before (length calls) p start starts h)) in
+    ap (λ x. begun_by p rest (told_of k x rest)) same ∙ run.plays.begins p h ∙ ap (λ (g : Progress ℕ). drop g.begun (calls_of calls p)) (sym (none_begun k before (length calls) p start starts h)) in
     let r = reaches (step_of k) (start_of k) calls refuses table closed rest start within (record { parties = here.parties; calls_are = here.calls_are }) run.plays.grants begins in
     let world : r.0.world ≡ world_after k w rest = r.2.world ∙ ap (λ x. world_after k x rest) same in
     let replies : (p : ℕ) → p < length calls → (progress_of r.0 p).replies ≡ replies_by p rest (told_of k w rest) = λ p h.
-        r.2.replies p h ∙ ap (λ (g : Progress ℕ). g.replies ++ replies_by p rest (told_of k start.world rest)) (none_begun k before (length calls) p start starts h) ∙ ap (λ x. replies_by p rest (told_of k x rest)) same in
+    r.2.replies p h ∙ ap (λ (g : Progress ℕ). g.replies ++ replies_by p rest (told_of k start.world rest)) (none_begun k before (length calls) p start starts h) ∙ ap (λ x. replies_by p rest (told_of k x rest)) same in
     let final : IsFinal calls r.0 = λ p h. ap length (replies p h) ∙ run.plays.replies p h in
     let there = (All-contains (IsChecked k refuses calls table outcomes) table r.0 checked r.1).ends final in
     subst (λ o. Contains outcomes o) (ends_with k calls w rest r.0 (r.2.kind ∙ starts.kind) world r.2.parties replies) there

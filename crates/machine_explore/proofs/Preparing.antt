@@ -97,7 +97,7 @@ module _ {S R T : Type 0} (step : Bool → S → R → Made S R T) (start : Call
       by_event again (inr went) =
           let ran = ran-told (world_event step start w true e).1 went.effect went.reply went.told in
           absurd (begins-something (call_at w 0) e (world_event step start w true e).1 (begun_by 0 es (told_by step start (world_event step start w true e).0 es)) none
-              (takes_zero w e (All-head IsAlone e es all.alone).0 went) (λ c p is. begun_there e (world_event step start w true e).1 c p is ran) (first_left w [] e es all))
+          (takes_zero w e (All-head IsAlone e es all.alone).0 went) (λ c p is. begun_there e (world_event step start w true e).1 c p is ran) (first_left w [] e es all))
 
   -- where another run begins with the same event
   record Behind (w : World S R) (e : Event T) (before rest : List (Call T)) (ys : List (Event T)) : Type 0 where
@@ -110,7 +110,7 @@ module _ {S R T : Type 0} (step : Bool → S → R → Made S R T) (start : Call
   behind [] w before rest e alone went left all =
       let ran = ran-told (world_event step start w true e).1 went.effect went.reply went.told in
       absurd (begins-something (call_at w 0) e (world_event step start w true e).1 rest all.rests (takes_zero w e alone.0 went)
-          (λ c p is. begun_there e (world_event step start w true e).1 c p is ran) (left ∙ sym all.begins))
+      (λ c p is. begun_there e (world_event step start w true e).1 c p is ran) (left ∙ sym all.begins))
   behind (f ∷ fs) w before rest e alone went left all = by_event (λ (x : PreparesBy w before fs). behind fs w before rest e alone went left x) (went_on step start w f)
     where
       by_event : (PreparesBy w before fs → Behind w e before rest fs) → (world_event step start w true f ≡ (w, Skipped)) ⊎ WentOn w f (world_event step start w true f) → Behind w e before rest (f ∷ fs)
@@ -121,8 +121,8 @@ module _ {S R T : Type 0} (step : Bool → S → R → Made S R T) (start : Call
           let t = (world_event step start w true e).1 in
           let u = (world_event step start w true f).1 in
           let same : f ≡ e = same_event (call_at w 0) f e u t before (begun_by 0 fs (told_by step start (world_event step start w true f).0 fs)) rest (All-head IsAlone f fs all.alone) alone
-              (takes_zero w f (All-head IsAlone f fs all.alone).0 goes) (takes_zero w e alone.0 went)
-              (ran-told u goes.effect goes.reply goes.told) (ran-told t went.effect went.reply went.told) (first_left w before f fs all) left in
+          (takes_zero w f (All-head IsAlone f fs all.alone).0 goes) (takes_zero w e alone.0 went)
+          (ran-told u goes.effect goes.reply goes.told) (ran-told t went.effect went.reply went.told) (first_left w before f fs all) left in
           let P : Event T → Type 0 = λ x. PreparesBy w before (x ∷ fs) in
           record { later = fs; prepares = prepares-on w before rest e fs (subst P same all) left; same = ap (λ x. world_by step start (world_event step start w true x).0 fs) same }
 

@@ -1,6 +1,6 @@
 -- A schedule that goes on move by move is a run of the program.
 use Rattle.std.proofs.Common.{◌≡◌, ◌≢◌, ◌∙◌, ◌+◌, ◌<◌, ◌==◌, ◌++◌, ◌∷◌, [], ℕ, zero, suc, Bool, true, false, if◌then◌else◌, ◌⊎◌, List, Option, Some, None, length, refl, subst, sym, ap, inl, inr, arith, append_assoc, append-nil, take}
-use Rattle.std.specs.Prelude.{slice_get, slice_index_or, slice_set}
+use Rattle.std.specs.Prelude.{option_map, slice_get, slice_index_or, slice_set}
 use Rattle.std.specs.List.{All, AllZip}
 use Rattle.std.proofs.lemmas.Bool.Decides.{eqb_tells}
 use Rattle.std.proofs.lemmas.List.{length-replicate, length-set, take_more, take_all}
@@ -146,55 +146,73 @@ under_way-next k refuses calls w schedule s m e on may is = record {
   where
     way : IsWay m.party m.granted (slice_get (calls_of calls m.party) (progress_of s m.party).begun) e
     way = is_way m.party m.granted (call_at s.world m.party) (slice_get (calls_of calls m.party) (progress_of s m.party).begun) e is
+
     t : Told ℕ
     t = (world_event (step_of s.kind) (start_of s.kind) s.world true e).1
+
     same_told : t ≡ (world_event (step_of k) (start_of k) (world_after k w on.rest) true e).1
     same_told = ap (λ x. (world_event (step_of x) (start_of x) s.world true e).1) on.kind ∙ ap (λ x. (world_event (step_of k) (start_of k) x true e).1) on.world
+
     told_more : told_of k w (on.rest ++ e ∷ []) ≡ told_of k w on.rest ++ t ∷ []
     told_more = told_by-snoc (step_of k) (start_of k) on.rest w e ∙ ap (λ x. told_of k w on.rest ++ x ∷ []) (sym same_told)
+
     counted : length (told_of k w on.rest) ≡ length on.rest
     counted = told_by-length (step_of k) (start_of k) on.rest w
+
     all_begun : (p : ℕ) → p < length calls → begun_by p (on.rest ++ e ∷ []) (told_of k w (on.rest ++ e ∷ [])) ≡ take (progress_of s p).begun (calls_of calls p) ++ (if party_of e == p then call_in e t else [])
     all_begun p h = ap (λ x. begun_by p (on.rest ++ e ∷ []) x) told_more ∙ begun_by-snoc p on.rest (told_of k w on.rest) e t counted ∙ ap (λ l. l ++ (if party_of e == p then call_in e t else [])) (on.begins p h)
+
     all_replied : (p : ℕ) → p < length calls → replies_by p (on.rest ++ e ∷ []) (told_of k w (on.rest ++ e ∷ [])) ≡ (progress_of s p).replies ++ (if party_of e == p then reply_in t else [])
     all_replied p h = ap (λ x. replies_by p (on.rest ++ e ∷ []) x) told_more ∙ replies_by-snoc p on.rest (told_of k w on.rest) e t counted ∙ ap (λ l. l ++ (if party_of e == p then reply_in t else [])) (on.replies p h)
+
     own_progress : party_of e < length calls → progress_of (led s.kind s e) (party_of e) ≡ advanced (progress_of s (party_of e)) e t
     own_progress h = let inside : party_of e < length s.parties = omega (arith, h, on.parties) in progress-own (step_of s.kind) (start_of s.kind) s e inside
+
     NextIs : Call ℕ → ℕ → Type 0
     NextIs c q = slice_get (calls_of calls q) (progress_of s q).begun ≡ Some c
+
     WayIs : ℕ → Type 0
     WayIs q = (call_in e t ≡ []) ⊎ ((c : Call ℕ) × (call_in e t ≡ c ∷ []) × NextIs c q)
+
     begins_own : WayIs (party_of e)
     begins_own = subst WayIs (sym way.party) (way.begins t)
+
     BegunGoal : ℕ → Type 0
     BegunGoal z = begun_by z (on.rest ++ e ∷ []) (told_of k w (on.rest ++ e ∷ [])) ≡ take (progress_of (led s.kind s e) z).begun (calls_of calls z)
+
     begun-own_party : party_of e < length calls → BegunGoal (party_of e)
     begun-own_party h =
         all_begun (party_of e) h
         ∙ ap (λ l. take (progress_of s (party_of e)).begun (calls_of calls (party_of e)) ++ l) (if-true (party_of e == party_of e) (call_in e t) [] (same_party (party_of e)))
         ∙ begun_more (calls_of calls (party_of e)) (progress_of s (party_of e)).begun (call_in e t) begins_own
         ∙ ap (λ (g : Progress ℕ). take g.begun (calls_of calls (party_of e))) (sym (own_progress h))
+
     begun-other_party : (q : ℕ) → q < length calls → (party_of e == q) ≡ false → party_of e ≢ q → BegunGoal q
     begun-other_party q h unequal other =
         all_begun q h
         ∙ ap (λ l. take (progress_of s q).begun (calls_of calls q) ++ l) (if-false (party_of e == q) (call_in e t) [] unequal)
         ∙ append-nil (take (progress_of s q).begun (calls_of calls q))
         ∙ ap (λ (g : Progress ℕ). take g.begun (calls_of calls q)) (sym (progress-other (step_of s.kind) (start_of s.kind) s e q other))
+
     RepliedGoal : ℕ → Type 0
     RepliedGoal z = replies_by z (on.rest ++ e ∷ []) (told_of k w (on.rest ++ e ∷ [])) ≡ (progress_of (led s.kind s e) z).replies
+
     replied-own_party : party_of e < length calls → RepliedGoal (party_of e)
     replied-own_party h =
         all_replied (party_of e) h
         ∙ ap (λ l. (progress_of s (party_of e)).replies ++ l) (if-true (party_of e == party_of e) (reply_in t) [] (same_party (party_of e)))
         ∙ ap (λ (g : Progress ℕ). g.replies) (sym (own_progress h))
+
     replied-other_party : (q : ℕ) → q < length calls → (party_of e == q) ≡ false → party_of e ≢ q → RepliedGoal q
     replied-other_party q h unequal other =
         all_replied q h
         ∙ ap (λ l. (progress_of s q).replies ++ l) (if-false (party_of e == q) (reply_in t) [] unequal)
         ∙ append-nil (progress_of s q).replies
         ∙ ap (λ (g : Progress ℕ). g.replies) (sym (progress-other (step_of s.kind) (start_of s.kind) s e q other))
+
     begun : (p : ℕ) → p < length calls → begun_by p (on.rest ++ e ∷ []) (told_of k w (on.rest ++ e ∷ [])) ≡ take (progress_of (led s.kind s e) p).begun (calls_of calls p)
     begun p h = elim (eqb_tells (party_of e) p) [ inl same ↦ subst BegunGoal same.1 (begun-own_party (rw same.1 h)) | inr other ↦ begun-other_party p h other.0 other.1 ]
+
     replied : (p : ℕ) → p < length calls → replies_by p (on.rest ++ e ∷ []) (told_of k w (on.rest ++ e ∷ [])) ≡ (progress_of (led s.kind s e) p).replies
     replied p h = elim (eqb_tells (party_of e) p) [ inl same ↦ subst RepliedGoal same.1 (replied-own_party (rw same.1 h)) | inr other ↦ replied-other_party p h other.0 other.1 ]
 
@@ -221,3 +239,32 @@ shows k refuses before calls schedule start end starts on begun final =
       moves = from.moves;
       outcome = ends_with k calls w from.rest end from.kind from.world from.parties (λ p h. sym (from.replies p h));
     }
+
+-- whose event it is
+pub event_party : (calls : List (List (Call ℕ))) (s : Standing) (p : ℕ) (granted : Bool) (e : Event ℕ) → event_at calls s p granted ≡ Some e → party_of e ≡ p
+event_party calls s p granted e is = (is_way p granted (call_at s.world p) (slice_get (calls_of calls p) (progress_of s p).begun) e is).party
+
+-- the program has come there from where it starts, by these moves
+pub record IsOnWay (k : Kind) (refuses : Bool) (before : List (Call ℕ)) (calls : List (List (Call ℕ))) (schedule : List Move) (s : Standing) : Type 0 where
+  pub start : Standing
+  pub starts : IsStart k before (length calls) start
+  pub on : IsUnderWay k refuses calls start.world schedule s
+
+pub on_way-first : (k : Kind) (refuses : Bool) (before : List (Call ℕ)) (calls : List (List (Call ℕ))) (s : Standing) → IsStart k before (length calls) s → IsOnWay k refuses before calls [] s
+on_way-first k refuses before calls s start = record { start = s; starts = start; on = under_way-first k refuses before calls s start }
+
+pub on_way-next : (k : Kind) (refuses : Bool) (before : List (Call ℕ)) (calls : List (List (Call ℕ))) (schedule : List Move) (s next : Standing) (m : Move)
+    → IsOnWay k refuses before calls schedule s → (refuses ≡ false → m.granted ≡ true) → Some next ≡ option_map (led s.kind s) (event_at calls s m.party m.granted) → IsOnWay k refuses before calls (schedule ++ m ∷ []) next
+on_way-next k refuses before calls schedule s next m way may is = by_event (event_at calls s m.party m.granted) refl
+  where
+    by_event : (o : Option (Event ℕ)) → event_at calls s m.party m.granted ≡ o → IsOnWay k refuses before calls (schedule ++ m ∷ []) next
+    by_event None none = let e : Some next ≡ None = is ∙ ap (λ o. option_map (led s.kind s) o) none in cc
+    by_event (Some e) some =
+        let both : Some next ≡ Some (led s.kind s e) = is ∙ ap (λ o. option_map (led s.kind s) o) some in
+        let same : led s.kind s e ≡ next = cc in
+        let P : Standing → Type 0 = λ x. IsUnderWay k refuses calls way.start.world (schedule ++ m ∷ []) x in
+        record { start = way.start; starts = way.starts; on = subst P same (under_way-next k refuses calls way.start.world schedule s m e way.on may some) }
+
+pub on_way-shows : (k : Kind) (refuses : Bool) (before : List (Call ℕ)) (calls : List (List (Call ℕ))) (schedule : List Move) (end : Standing) → IsOnWay k refuses before calls schedule end
+    → ((p : ℕ) → p < length calls → (progress_of end p).begun ≡ length (calls_of calls p)) → IsFinal calls end → IsOutcomeOf k refuses before calls schedule (outcome_at end)
+on_way-shows k refuses before calls schedule end way begun final = shows k refuses before calls schedule way.start end way.starts way.on begun final

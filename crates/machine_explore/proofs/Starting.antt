@@ -55,16 +55,17 @@ prepared-more k w v u calls c one two =
     let ys = two.0 in
     let there : v ≡ world_after k w xs = one.2 in
     let P : World (Shared ℕ) (Running ℕ) → Type 0 = λ x. Prepares k x (c ∷ []) ys in
-    let from : Prepares k (world_after k w xs) (c ∷ []) ys = subst P there two.1 in
-    (xs ++ ys,
-     record {
-       alone = All-append IsAlone xs ys one.1.alone two.1.alone;
-       begins = ap (λ l. begun_by 0 (xs ++ ys) l) (told_by-append (step_of k) (start_of k) xs ys w)
-           ∙ begun_by-append 0 xs ys (told_of k w xs) (told_of k (world_after k w xs) ys) (told_by-length (step_of k) (start_of k) xs w)
-           ∙ ap (λ l. l ++ begun_by 0 ys (told_of k (world_after k w xs) ys)) one.1.begins ∙ ap (λ l. calls ++ l) from.begins;
-       rests = ap (λ x. call_at x 0) (world_by-append (step_of k) (start_of k) xs ys w) ∙ from.rests;
-     },
-     two.2 ∙ ap (λ x. world_after k x ys) there ∙ sym (world_by-append (step_of k) (start_of k) xs ys w))
+    let from : Prepares k (world_after k w xs) (c ∷ []) ys = subst P there two.1 in (
+      xs ++ ys,
+      record {
+        alone = All-append IsAlone xs ys one.1.alone two.1.alone;
+        begins = ap (λ l. begun_by 0 (xs ++ ys) l) (told_by-append (step_of k) (start_of k) xs ys w)
+            ∙ begun_by-append 0 xs ys (told_of k w xs) (told_of k (world_after k w xs) ys) (told_by-length (step_of k) (start_of k) xs w)
+            ∙ ap (λ l. l ++ begun_by 0 ys (told_of k (world_after k w xs) ys)) one.1.begins ∙ ap (λ l. calls ++ l) from.begins;
+        rests = ap (λ x. call_at x 0) (world_by-append (step_of k) (start_of k) xs ys w) ∙ from.rests;
+      },
+      two.2 ∙ ap (λ x. world_after k x ys) there ∙ sym (world_by-append (step_of k) (start_of k) xs ys w),
+    )
 
 -- party 0, alone, is in this call, or has ended it, since w
 pub record IsMaking (k : Kind) (w : World (Shared ℕ) (Running ℕ)) (c : Call ℕ) (v : World (Shared ℕ) (Running ℕ)) : Type 0 where

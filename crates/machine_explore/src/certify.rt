@@ -37,7 +37,7 @@ pub fn certify<A: Allocator + Copy>(
         };
         position = next;
     }
-    if !position.is_final(program) {
+    if !position.has_begun_all(program) || !position.is_final(program) {
         return Ok(None);
     }
     Ok(Some(position.outcome(alloc)?))

@@ -1,11 +1,11 @@
 //! Where a run of a program stands, and how it goes on.
-ghost use Rattle.std.specs.Prelude.{◌≡◌, ◌↔◌, ℕ, ◌+◌, ◌^◌, ◌<◌, ◌∷◌, Bool, true, false, ⊤, [], IsTrue, IfOk, OnOk, MatchOption, length, option_map, slice_index_or, slice_set};
+ghost use Rattle.std.specs.Prelude.{◌≡◌, ◌↔◌, ℕ, ◌<◌, ◌∷◌, Bool, true, false, ⊤, [], IsTrue, IfOk, OnOk, MatchOption, length, option_map, slice_index_or, slice_set};
 ghost use Rattle.machine_replay.specs.MachineRuns.{IsSomeMachineRun};
 ghost use Rattle.machine_replay.specs.Machine.{event_of, world_of};
 ghost use Rattle.machine_replay.specs.declared.types.Event.TheVariants.{Step};
 ghost use Rattle.machine_replay.specs.Replays.{CanReplay};
-ghost use Rattle.machine_explore.specs.Moves.{advanced, call_in, event_at, led};
-ghost use Rattle.machine_explore.specs.Positions.{IsFinal, Standing, no_progress, outcome_at};
+ghost use Rattle.machine_explore.specs.Moves.{advanced, event_at, led};
+ghost use Rattle.machine_explore.specs.Positions.{IsFinal, Standing, calls_of, no_progress, outcome_at, progress_of};
 ghost use Rattle.machine_explore.specs.Starts.{IsPrepared, IsStart};
 
 use crate::outcome::Outcome;
@@ -92,7 +92,7 @@ impl<A: Allocator + Copy> Position<A> {
 
     /// Whether the next step of the party asks for a block.
     pub fn asks(&self, party: usize) -> bool
-        ensures { result ≡ false → (granted : Bool) → option_map (led self.now.kind self.now) (event_at [] self.now party granted) ≡ option_map (led self.now.kind self.now) (event_at [] self.now party true) }
+        ensures { result ≡ false → (granted : Bool) → event_of self.now.kind true self.now.world (Step party granted) ≡ event_of self.now.kind true self.now.world (Step party true) }
     {
         self.run.asks(party)
     }
@@ -175,6 +175,22 @@ impl<A: Allocator + Copy> Position<A> {
         true
     }
 
+    /// Whether each party has begun all of its calls.
+    pub(crate) fn has_begun_all(&self, program: &Program<A>) -> bool
+        ensures { result ≡ true → (p : ℕ) → p < length program.now.parties.items → (progress_of self.now p).begun ≡ length (calls_of program.now.parties.items p) }
+    {
+        for party in 0..program.parties.len() {
+            let begun = match self.parties.get(party) {
+                Some(progress) => progress.begun(),
+                None => 0,
+            };
+            if begun != program.call_count(party) {
+                return false;
+            }
+        }
+        true
+    }
+
     /// What the run has ended with.
     ///
     /// # Errors
@@ -205,7 +221,6 @@ fn advanced_by<A: Allocator + Copy>(
     event: Event<u64>,
     told: Told<u64>,
 ) -> Result<Vec<PartyProgress<A>, A>, AllocError>
-    requires { (slice_index_or parties.now party no_progress).begun + length (call_in event told) < 2 ^ 64 }
     ensures { IfOk result (λ v. v.items ≡ slice_set parties.now party (advanced (slice_index_or parties.now party no_progress) event told)) }
 {
     let mut copies = Vec::with_capacity(alloc, parties.len())?;

@@ -1,6 +1,6 @@
 //! How far a party is.
-ghost use Rattle.std.specs.Prelude.{◌≡◌, ℕ, ◌+◌, ◌^◌, ◌<◌, true, length, IfOk, OnOk};
-ghost use Rattle.machine_explore.specs.Moves.{advanced, call_in};
+ghost use Rattle.std.specs.Prelude.{◌≡◌, ℕ, true, IfOk, OnOk};
+ghost use Rattle.machine_explore.specs.Moves.{advanced};
 ghost use Rattle.machine_explore.specs.Positions.{Progress, no_progress};
 
 use machine_replay::types::{Event, Told};
@@ -61,15 +61,18 @@ impl<A: Allocator> PartyProgress<A> {
     }
 
     /// Notes an event of the party, of which this was told.
+    ///
+    /// # Errors
+    ///
+    /// Where there is no memory, or 2^64 - 1 calls were begun.
     pub(crate) fn advance(&mut self, event: Event<u64>, told: Told<u64>) -> Result<(), AllocError>
-        requires { self.old.begun + length (call_in event told) < 2 ^ 64 }
         ensures { OnOk result (self.new ≡ advanced self.old event told) }
     {
         let Told::Ran(_, reply) = told else {
             return Ok(());
         };
         if let Event::Begin(_, _) = event {
-            self.begun += 1;
+            self.begun = self.begun.checked_add(1).ok_or(AllocError)?;
         }
         if let Some(reply) = reply {
             self.replies.push(reply)?;

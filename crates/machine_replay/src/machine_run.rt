@@ -69,6 +69,8 @@ impl<T: Drop, A: Allocator + Copy> MachineRun<T, A> {
     /// Where there is no memory, or 2^64 - 1 events were handled.
     pub fn make_room(&mut self) -> Result<(), AllocError>
         ensures stays { IsSameMachineRun self.old self.new }
+        ensures kind { self.new.machine.kind ≡ self.old.machine.kind }
+        ensures world { world_of self.new.machine ≡ world_of self.old.machine }
         ensures room { OnOk result (CanGoOn self.new) }
     {
         if self.handled == usize::MAX {

@@ -1,14 +1,10 @@
-use Rattle.std.proofs.Common.{rules, ◌≡◌, ◌↔◌, ℕ, ◌+◌, ◌^◌, ◌<◌, ◌∷◌, Bool, true, false, [], IsTrue, IfOk, OnOk, MatchOption, length, option_map, slice_index_or, slice_set, ◌-◌, ◌*◌, ◌≤◌, ◌/◌, ◌%◌, nat_eq, nat_lt, List, ◌++◌, bit_and, bit_or, Fits, w8, w32, w64, Bor, MutBor}
-use Rattle.std.specs.Prelude.{⊤}
-use Rattle.machine_replay.specs.MachineRuns.{IsSomeMachineRun}
+use Rattle.std.proofs.Common.{◌∙◌, ap, true}
 use Rattle.machine_replay.specs.Machine.{event_of, world_of}
 use Rattle.machine_replay.specs.declared.types.Event.TheVariants.{Step}
-use Rattle.machine_replay.specs.Replays.{CanReplay}
-use Rattle.machine_explore.specs.Moves.{advanced, call_in, event_at, led}
-use Rattle.machine_explore.specs.Positions.{IsFinal, Standing, no_progress, outcome_at}
-use Rattle.machine_explore.specs.Starts.{IsPrepared, IsStart}
 use Rattle.machine_explore.proofs.position.step_alone.Goals as goal
 
--- src/position.rt:265:1
 pub returns-clause-world : goal.returns-clause-world
-returns-clause-world g c = ?
+returns-clause-world g c =
+    c.handle_met-is_met.ensures.world c.if-not-is_met.false
+    ∙ ap (λ k. (event_of k true (world_of c.make_room.new.self.machine) (Step 0 true)).0) c.make_room.ensures.kind
+    ∙ ap (λ w. (event_of c.args.run.now.machine.kind true w (Step 0 true)).0) c.make_room.ensures.world

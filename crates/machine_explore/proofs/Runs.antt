@@ -1,0 +1,45 @@
+-- A run of the machine that is copied, or goes on, and where it then stands.
+use Rattle.std.proofs.Common.{◌≡◌, ◌∙◌, ◌++◌, ◌∷◌, [], ℕ, Bool, true, List, Option, Some, None, refl, sym, ap, subst}
+use Rattle.std.specs.Prelude.{map, option_map, slice_set}
+use Rattle.queue_steps.specs.declared.model.Reply.{Reply}
+use Rattle.machine_replay.specs.Left.{left_of}
+use Rattle.queue_steps.specs.declared.model.Call.{Call}
+use Rattle.queue_steps.specs.declared.steps.types.Kind.{Kind}
+use Rattle.machine_replay.specs.Conforms.{party_of}
+use Rattle.machine_replay.specs.Machine.{event_of}
+use Rattle.machine_replay.specs.MachineRuns.{Continues, IsSameMachineRun, IsSomeMachineRun}
+use Rattle.machine_replay.specs.SharedMemory.{Shared}
+use Rattle.machine_replay.specs.World.{World, call_at}
+use Rattle.machine_replay.specs.declared.machine.Running.{Running}
+use Rattle.machine_replay.specs.declared.machine_run.MachineRun.{MachineRun}
+use Rattle.machine_replay.specs.declared.types.Event.{Event}
+use Rattle.machine_replay.specs.declared.types.Told.{Told}
+use Rattle.machine_explore.specs.Moves.{advanced, event_at, led}
+use Rattle.machine_explore.specs.Positions.{Outcome, Progress, Standing, calls_of, outcome_at, progress_of}
+use Rattle.machine_explore.proofs.Showing.{event_party}
+
+pub copied-some : {T A : Type 0} (c d : MachineRun T A) → IsSameMachineRun c d → IsSomeMachineRun c → IsSomeMachineRun d
+copied-some c d same on = (on.0, on.1, on.2, on.3, same on.0 on.1 on.2 on.3 on.4)
+
+pub went_on-some : {T A : Type 0} (c d : MachineRun T A) (e : Event T) (t : Told T) → Continues c e t d → IsSomeMachineRun c → IsSomeMachineRun d
+went_on-some c d e t goes on = (on.0, on.1, on.2 ++ e ∷ [], on.3 ++ t ∷ [], goes on.0 on.1 on.2 on.3 on.4)
+
+-- where the event of the party leads, part by part
+pub led_there : (calls : List (List (Call ℕ))) (s : Standing) (p : ℕ) (granted : Bool) (e : Event ℕ) (kind : Kind) (world : World (Shared ℕ) (Running ℕ)) (parties : List (Progress ℕ)) (t : Told ℕ)
+    → event_at calls s p granted ≡ Some e → kind ≡ s.kind → world ≡ (event_of s.kind true s.world e).0 → t ≡ (event_of s.kind true s.world e).1
+    → parties ≡ slice_set s.parties p (advanced (progress_of s p) e t)
+    → Some (let x : Standing = record { kind = kind; world = world; parties = parties } in x) ≡ option_map (led s.kind s) (event_at calls s p granted)
+led_there calls s p granted e kind world parties t is kind_is world_is told_is parties_are =
+    let party : party_of e ≡ p = event_party calls s p granted e is in
+    let all : parties ≡ (led s.kind s e).parties =
+    parties_are ∙ ap (λ q. slice_set s.parties q (advanced (progress_of s q) e t)) (sym party) ∙ ap (λ x. slice_set s.parties (party_of e) (advanced (progress_of s (party_of e)) e x)) told_is in
+    let make : Kind → World (Shared ℕ) (Running ℕ) → List (Progress ℕ) → Standing = λ k w ps. record { kind = k; world = w; parties = ps } in
+    let same : make kind world parties ≡ led s.kind s e = ap (λ k. make k world parties) kind_is ∙ ap (λ w. make s.kind w parties) world_is ∙ ap (λ ps. make s.kind (event_of s.kind true s.world e).0 ps) all in
+    ap (λ (x : Standing). Some x) same ∙ ap (λ o. option_map (led s.kind s) o) (sym is)
+
+-- what a standing ends with, part by part
+pub outcome_is : (s : Standing) (replies : List (List (Reply ℕ))) (left : List ℕ) → replies ≡ map (λ (g : Progress ℕ). g.replies) s.parties → left ≡ left_of s.kind s.world
+    → (let x : Outcome ℕ = record { replies = replies; left = left } in x) ≡ outcome_at s
+outcome_is s replies left replies_are left_is =
+    let make : List (List (Reply ℕ)) → List ℕ → Outcome ℕ = λ r l. record { replies = r; left = l } in
+    ap (λ r. make r left) replies_are ∙ ap (λ l. make (map (λ (g : Progress ℕ). g.replies) s.parties) l) left_is

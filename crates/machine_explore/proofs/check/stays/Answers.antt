@@ -1,0 +1,11 @@
+use Rattle.std.proofs.Common.{below_more, subst}
+use Rattle.machine_explore.specs.Moves.{led}
+use Rattle.machine_explore.specs.Tables.{Stays}
+use Rattle.machine_explore.proofs.check.stays.Goals as goal
+
+pub loop-party-preserved : goal.loop-party-preserved
+loop-party-preserved g c =
+    let calls = c.args.program.now.parties.items in
+    let s = c.args.position.now in
+    let here = subst (λ l. Stays (led s.kind) c.args.refuses calls l s c.loop-party.party) c.deref-in-loop-party.ensures.value (c.in_ok-stays_by.ensures c.if-not-branch.false) in
+    below_more (λ p. Stays (led s.kind) c.args.refuses calls c.args.table.now.positions.items s p) c.loop-party.party c.loop-party.invariant here
