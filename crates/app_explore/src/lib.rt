@@ -1,0 +1,4 @@
+//! What the explorer of small programs reads and prints: its arguments, a program, the lines of outcomes and the lines of a schedule.
+#![tactic(auto)]
+
+pub mod args;
