@@ -1,0 +1,3 @@
+pub mod Words
+pub mod Parts
+pub mod Programs

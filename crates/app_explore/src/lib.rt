@@ -2,3 +2,6 @@
 #![tactic(auto)]
 
 pub mod args;
+mod calls;
+pub mod limits;
+pub mod reading;
