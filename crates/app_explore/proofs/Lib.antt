@@ -1,3 +1,5 @@
 pub mod Words
 pub mod Parts
 pub mod Programs
+pub mod Replying
+pub mod Moving

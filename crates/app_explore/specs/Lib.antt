@@ -1,3 +1,6 @@
+pub mod Lists
 pub mod Requests
 pub mod Programs
 pub mod Reads
+pub mod Outcomes
+pub mod Schedules

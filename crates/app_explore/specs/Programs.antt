@@ -1,18 +1,18 @@
 -- The lines of a small program. It is given by the calls that are made before the parties begin, and by the calls of each party.
-use Rattle.std.specs.Prelude.{ℕ, ◌+◌, ◌<◌, ◌≤◌, ◌==◌, List, [], ◌∷◌, ◌++◌, codes, map, length}
-use Rattle.std.specs.List.{AllByRecursion, join_with_byte, slice_split}
+use Rattle.std.specs.Prelude.{ℕ, ◌+◌, ◌<◌, ◌≤◌, ◌==◌, List, [], ◌∷◌, ◌++◌, codes, length}
+use Rattle.std.specs.List.{AllByRecursion, slice_split}
 use Rattle.std.specs.Fmt.{decimal}
 use Rattle.queue_steps.specs.declared.model.Call.{Call}
 use Rattle.app_text.specs.Calls.{call_text, IsCallOfWord}
+use Rattle.app_explore.specs.Lists.{listed}
 use Rattle.app_explore.specs.declared.limits.TheConstants.{MOST_PARTIES, MOST_CALLS, MOST_CALLS_BEFORE}
 
 -- a call behind a space
 abbrev pub spaced_call : Call ℕ → List ℕ
 spaced_call c = 32 ∷ call_text c
 
--- calls, each behind a space, with a semicolon between each two
 abbrev pub calls_text : List (Call ℕ) → List ℕ
-calls_text calls = join_with_byte 59 (map spaced_call calls)
+calls_text calls = listed call_text calls
 
 -- what stands between the semicolons of a text
 abbrev pub parts_of : List ℕ → List (List ℕ)

@@ -4,4 +4,6 @@
 pub mod args;
 mod calls;
 pub mod limits;
+pub mod outcomes;
 pub mod reading;
+pub mod schedules;
