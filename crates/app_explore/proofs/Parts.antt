@@ -7,12 +7,11 @@ use Rattle.std.proofs.lemmas.Bool.{ltb-true, ltb-false, ne_eqb}
 use Rattle.std.proofs.lemmas.Fmt.{digits_decimal}
 use Rattle.std.proofs.lemmas.Str.Parse.{digit_at}
 use Rattle.std.specs.Fmt.{decimal}
-use Rattle.std.specs.List.{AllByRecursion, position, position_or_len, slice_split, join_with_byte}
+use Rattle.std.specs.List.{AllByRecursion, position, position_or_len, join_with_byte}
 use Rattle.std.specs.Str.Parse.{AllDigits}
 use Rattle.queue_steps.specs.declared.model.Call.{Call}
 use Rattle.queue_steps.specs.declared.model.Call.TheVariants as call
-use Rattle.app_text.specs.Calls.{call_text, IsCallOfWord}
-use Rattle.app_text.specs.Reading.{IsReading}
+use Rattle.app_text.specs.Calls.{IsCallOfWord}
 use Rattle.app_text.proofs.ReadNumber.{model}
 use Rattle.app_explore.specs.Programs.{spaced_call, calls_text, parts_of, IsCalls}
 

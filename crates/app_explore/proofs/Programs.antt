@@ -10,7 +10,7 @@ use Rattle.app_text.specs.Lines.{lines_of}
 use Rattle.app_text.specs.Reading.{IsReading}
 use Rattle.app_explore.specs.declared.limits.TheConstants.{MOST_PARTIES, MOST_CALLS, MOST_CALLS_BEFORE}
 use Rattle.app_explore.specs.Programs.{calls_text, before_line, before_lines, party_line, party_lines, program_lines, IsCalls, IsPartyCalls, IsBefore, IsProgram}
-use Rattle.app_explore.specs.Reads.{IsReadAs, BeginsProgram, IsWrong, IsFirstWrong, HasNoBefore}
+use Rattle.app_explore.specs.Reads.{IsReadAs, BeginsProgram, IsFirstWrong, HasNoBefore}
 
 -- a line that begins with the party's number is read by what is behind it
 party_read : (n : ℕ) (line spelled : List ℕ) (found : Option (List (Call ℕ))) → n < MOST_PARTIES → line ≡ (48 + n) ∷ 58 ∷ spelled → IsReading (IsCalls MOST_CALLS) calls_text spelled found → IsReading (IsPartyCalls n) (party_line n) line found

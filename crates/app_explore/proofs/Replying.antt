@@ -4,7 +4,6 @@ use Rattle.std.proofs.lemmas.List.{append-nil, length-map, length-take-le, map_m
 use Rattle.std.specs.Fmt.{decimal}
 use Rattle.std.specs.List.{join_with_byte}
 use Rattle.queue_steps.specs.declared.model.Reply.{Reply}
-use Rattle.app_text.specs.Replies.{reply_text}
 use Rattle.app_explore.specs.Lists.{listed}
 use Rattle.app_text.specs.Items.{items_text}
 use Rattle.app_explore.specs.Outcomes.{lead_text, replies_text, party_text, parties_text, outcome_text}

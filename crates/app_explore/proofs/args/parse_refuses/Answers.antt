@@ -1,4 +1,4 @@
-use Rattle.std.proofs.Common.{◌≡◌, List, ◌∷◌, codes, ap, map, string_bytes, length, take, drop, ◌-◌, ◌<◌, arith, rules, tests}
+use Rattle.std.proofs.Common.{◌≡◌, codes, ap, map, string_bytes, length, ◌<◌, arith, rules, tests}
 use Rattle.app_explore.proofs.Words.{front_of}
 use Rattle.app_explore.proofs.args.parse_refuses.Goals as goal
 

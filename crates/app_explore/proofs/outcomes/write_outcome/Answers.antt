@@ -1,4 +1,4 @@
-use Rattle.std.proofs.Common.{◌≡◌, ◌∙◌, ◌<◌, ◌≤◌, ◌++◌, length, take, string_bytes, sym, ap, arith}
+use Rattle.std.proofs.Common.{◌∙◌, ◌<◌, ◌≤◌, ◌++◌, length, take, string_bytes, sym, ap, arith}
 use Rattle.std.proofs.lemmas.List.{append-nil}
 use Rattle.app_explore.specs.Outcomes.{party_text, parties_text}
 use Rattle.app_explore.proofs.Replying.{parties_more, piece_more, party_pieces, outcome_ends}

@@ -1,6 +1,5 @@
-use Rattle.std.proofs.Common.{rules, ◌≡◌, ◌++◌, [], ◌∷◌, ◌+◌, length, length-append, ◌∙◌, arith}
+use Rattle.std.proofs.Common.{◌≡◌, ◌++◌, [], ◌∷◌, length, ◌∙◌, arith}
 use Rattle.std.proofs.lemmas.Grind.{common_steps}
-use Rattle.app_explore.specs.Programs.{before_lines}
 use Rattle.app_explore.proofs.Programs.{read_more, wrong_line, missing_line}
 use Rattle.app_explore.proofs.reading.read_parties.Goals as goal
 
