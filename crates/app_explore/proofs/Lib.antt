@@ -3,3 +3,4 @@ pub mod Parts
 pub mod Programs
 pub mod Replying
 pub mod Moving
+pub mod Making

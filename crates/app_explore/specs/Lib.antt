@@ -4,3 +4,4 @@ pub mod Programs
 pub mod Reads
 pub mod Outcomes
 pub mod Schedules
+pub mod Stops

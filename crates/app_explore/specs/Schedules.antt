@@ -1,10 +1,11 @@
 -- The lines of a replay that make a schedule happen.
-use Rattle.std.specs.Prelude.{ℕ, zero, suc, ◌+◌, ◌-◌, ◌==◌, nat_lt, if◌then◌else◌, Bool, true, false, List, [], ◌∷◌, ◌++◌, flat_map}
+use Rattle.std.specs.Prelude.{◌≡◌, ◌≤◌, map, replicate, ℕ, zero, suc, ◌+◌, ◌-◌, ◌==◌, nat_lt, if◌then◌else◌, Bool, true, false, List, [], ◌∷◌, ◌++◌, flat_map}
 use Rattle.queue_steps.specs.declared.sizes.TheConstants.{SOLO_STEPS}
 use Rattle.queue_steps.specs.declared.model.Call.{Call}
 use Rattle.machine_replay.specs.declared.types.Event.{Event}
 use Rattle.machine_replay.specs.declared.types.Event.TheVariants.{Begin, Step}
 use Rattle.app_text.specs.Actions.{replay_line_text}
+use Rattle.app_text.specs.declared.actions.Action.{Action}
 use Rattle.app_text.specs.declared.actions.Action.TheVariants as action
 use Rattle.app_text.specs.declared.actions.ReplayLine.{ReplayLine}
 use Rattle.app_explore.specs.declared.schedules.Taken.{Taken}
@@ -59,3 +60,22 @@ move_lines zero (t ∷ ts) = first_line t.event (row_length 0 (party_of t.event)
 -- the text of the lines of a schedule
 abbrev pub schedule_text : List (Call ℕ) → List Taken → List ℕ
 schedule_text before moves = lines_text (before_lines before ++ move_lines 0 moves)
+
+-- these moves are n steps of the party p, of which the last alone ends its call
+pub record IsRow (p n : ℕ) (moves : List Taken) : Type 0 where
+  pub others : ℕ
+  pub count : n ≡ others + 1
+  pub steps : map (λ t. t.event) moves ≡ replicate n (Step p true)
+  pub ends : map (λ t. t.ends) moves ≡ replicate others false ++ true ∷ []
+
+-- where the party p does this, these moves are made
+abbrev pub Makes : ℕ → Action → List Taken → Type 0
+Makes p (action.Call c) moves = map (λ t. t.event) moves ≡ Begin p c ∷ []
+Makes p action.Step moves = map (λ t. t.event) moves ≡ Step p true ∷ []
+Makes p action.Refuse moves = map (λ t. t.event) moves ≡ Step p false ∷ []
+Makes p action.Run moves = (n : ℕ) × (2 ≤ n) × (n ≤ SOLO_STEPS) × IsRow p n moves
+
+-- the lines make these moves, one line after another
+abbrev pub MakeAll : List ReplayLine → List Taken → Type 0
+MakeAll [] moves = moves ≡ []
+MakeAll (l ∷ ls) moves = (now : List Taken) × (later : List Taken) × (moves ≡ now ++ later) × Makes l.party l.action now × MakeAll ls later

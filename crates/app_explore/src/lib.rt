@@ -3,6 +3,7 @@
 
 pub mod args;
 mod calls;
+pub mod faults;
 pub mod limits;
 pub mod outcomes;
 pub mod reading;

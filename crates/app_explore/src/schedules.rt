@@ -2,7 +2,7 @@
 ghost use Rattle.std.specs.Prelude.{◌≡◌, ◌++◌, [], ◌∷◌, ◌<◌, ◌≤◌, drop, length, MatchOption, OnOk, Some, string_bytes};
 ghost use Rattle.app_text.specs.Actions.{replay_line_text};
 ghost use Rattle.app_text.specs.Calls.{call_text};
-ghost use Rattle.app_explore.specs.Schedules.{before_lines, is_step_of, lines_text, move_lines, party_of, plain_line, row_length, schedule_text};
+ghost use Rattle.app_explore.specs.Schedules.{MakeAll, before_lines, is_step_of, lines_text, move_lines, party_of, plain_line, row_length, schedule_text};
 
 use app_text::actions::{Action, ReplayLine};
 use machine_replay::types::Event;
@@ -25,7 +25,8 @@ pub fn write_schedule<A: Allocator>(
     moves: &[Taken],
     text: &mut String<A>,
 ) -> Result<(), AllocError>
-    ensures { OnOk result (string_bytes text.new ≡ string_bytes text.old ++ schedule_text before.now moves.now) }
+    ensures written { OnOk result (string_bytes text.new ≡ string_bytes text.old ++ schedule_text before.now moves.now) }
+    ensures made { MakeAll (move_lines 0 moves.now) moves.now }
 {
     write_before(before, text)?;
     write_moves(moves, text)
