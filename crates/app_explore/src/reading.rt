@@ -25,7 +25,7 @@ pub fn read_program<A: Allocator + Copy>(alloc: A, text: &[u8]) -> Result<Progra
         (IsReadFault (lines_of text.now)) }
 {
     let Some((spelled, rest)) = line_before(text) else {
-        return read_parties(alloc, Sequence::new(alloc), text);
+        return read_parties(alloc, Sequence::of(Vec::new(alloc)), text);
     };
     let Ok(found) = read_calls(alloc, MOST_CALLS_BEFORE, spelled) else {
         return Err(Fault::NoMemory);
