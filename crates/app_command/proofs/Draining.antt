@@ -4,7 +4,8 @@ use Rattle.std.specs.Fmt.{decimal}
 use Rattle.app_text.specs.declared.faults.Fault.{Fault}
 use Rattle.app_text.specs.Streams.{IsBegun, LeavesRest, Puts}
 use Rattle.app_text.proofs.Writing.{begun-more, rest-then, begun-then}
-use Rattle.app_command.specs.Left.{items_text, left_text}
+use Rattle.app_text.specs.Items.{items_text}
+use Rattle.app_command.specs.Left.{left_text}
 
 -- of the line of these items, what stands before those that are left is put
 pub record Drains (held kept items left : List ℕ) (old new : Option (List ℕ)) : Type 0 where

@@ -18,6 +18,7 @@ use crate::turns::{Turn, event_of};
 use app_text::actions::{Action, ReplayLine};
 use app_text::args::KindName;
 use app_text::faults::Fault;
+use app_text::items::write_items;
 use app_text::lines::read_lines;
 use app_text::replies::Shown;
 use app_text::streams::{read_input, write_output};
@@ -206,8 +207,6 @@ fn write_left<A: Allocator>(items: &[u64], text: &mut String<A>) -> Result<(), A
     ensures { OnOk result (string_bytes text.new ≡ string_bytes text.old ++ left_text items.now) }
 {
     text.push_str("left")?;
-    for item in items {
-        write!(text, " {item}")?;
-    }
+    write_items(items, text)?;
     text.push('\n')
 }

@@ -6,4 +6,5 @@ pub mod KindNames
 pub mod Replies
 pub mod Spaces
 pub mod Actions
+pub mod Items
 pub mod Streams

@@ -45,8 +45,8 @@ pub fn read_lines<L: Line, A: Allocator>(alloc: A, text: &[u8]) -> Result<Vec<L,
     Ok(values)
 }
 
-// The first line of a text, and the text behind it.
-fn next_line(text: &[u8]) -> Option<(&[u8], &[u8])>
+/// The first line of a text, and the text behind it.
+pub fn next_line(text: &[u8]) -> Option<(&[u8], &[u8])>
     ensures { MatchOption result (lines_of text.now ≡ []) (λ p. (lines_of text.now ≡ p.0.now ∷ lines_of p.1.now) × (length p.1.now < length text.now)) }
 {
     if text.is_empty() {

@@ -1,0 +1,6 @@
+pub mod Words
+pub mod Parts
+pub mod Programs
+pub mod Replying
+pub mod Moving
+pub mod Making

@@ -1,0 +1,48 @@
+//! Why the explorer ended before its work was done.
+ghost use Rattle.std.specs.Prelude.{◌≡◌, Some};
+ghost use Rattle.app_explore.specs.Stops.{stop_text, stop_status};
+
+use app_text::faults::Fault;
+use std::fmt;
+
+/// Why the explorer ended before its work was done.
+#[derive(Clone, Copy)]
+pub enum Stop {
+    /// As any program of queues may end.
+    Fault(Fault),
+    /// The program has more states than may be looked at.
+    TooManyStates,
+    /// The program has no outcome of this number.
+    NoOutcome(u64),
+    /// What was found could not be shown to be right.
+    NotShown,
+}
+
+impl Stop {
+    /// The status that the explorer ends with.
+    pub fn status(self) -> u8
+        ensures { result ≡ stop_status self }
+    {
+        match self {
+            Stop::Fault(fault) => fault.status(),
+            Stop::NoOutcome(_) => 2,
+            Stop::TooManyStates | Stop::NotShown => 3,
+        }
+    }
+}
+
+impl fmt::Display for Stop {
+    ghost output = { λ stop. Some (stop_text stop) };
+
+    fn fmt<W: fmt::Write>(&self, f: &mut fmt::Formatter<W>) -> fmt::Result {
+        match self {
+            Stop::Fault(Fault::Usage) => f.write_str(
+                "usage: queue_explore KIND | KIND refuse | KIND schedule N | KIND refuse schedule N | KIND lanes N | KIND refuse lanes N",
+            ),
+            Stop::Fault(fault) => write!(f, "{fault}"),
+            Stop::TooManyStates => f.write_str("too many states"),
+            Stop::NoOutcome(number) => write!(f, "no outcome {number}"),
+            Stop::NotShown => f.write_str("not shown"),
+        }
+    }
+}

@@ -1,0 +1,72 @@
+//! How outcomes are printed.
+ghost use Rattle.std.specs.Prelude.{◌≡◌, ◌++◌, OnOk, string_bytes};
+ghost use Rattle.app_explore.specs.Outcomes.{lead_text, all_text, outcome_line, outcome_text, replies_text, steps_text};
+
+use app_text::items::write_items;
+use app_text::replies::Shown;
+use machine_explore::sequence::Sequence;
+use queue_steps::model::Reply;
+use std::alloc::{AllocError, Allocator};
+
+/// Appends the text of an outcome, by which outcomes are told apart and sorted: the replies of each party, and the items that are left.
+pub fn write_outcome<A: Allocator, B: Allocator>(
+    replies: &[Sequence<Reply<u64>, A>],
+    left: &[u64],
+    text: &mut String<B>,
+) -> Result<(), AllocError>
+    ensures { OnOk result (string_bytes text.new ≡ string_bytes text.old ++ outcome_text replies.now left.now) }
+{
+    for (party, made) in replies.iter().enumerate() {
+        write!(text, "{party}:")?;
+        write_replies(made.as_slice(), text)?;
+        text.push_str(" | ")?;
+    }
+    text.push_str("left")?;
+    write_items(left, text)
+}
+
+/// Appends the line of an outcome: its number, counted from 1, its text, and what else is told of it.
+pub fn write_outcome_line<B: Allocator>(
+    number: u64,
+    outcome: &str,
+    tail: &str,
+    text: &mut String<B>,
+) -> Result<(), AllocError>
+    ensures { OnOk result (string_bytes text.new ≡ string_bytes text.old ++ outcome_line number outcome.now tail.now) }
+{
+    writeln!(text, "outcome {number} | {outcome}{tail}")
+}
+
+/// Appends the part of an outcome's tail that tells of the fewest steps that reach it.
+pub fn write_steps<B: Allocator>(steps: u64, text: &mut String<B>) -> Result<(), AllocError>
+    ensures { OnOk result (string_bytes text.new ≡ string_bytes text.old ++ steps_text steps) }
+{
+    write!(text, " | steps {steps}")
+}
+
+/// Appends the last line, with the number of outcomes.
+pub fn write_all<B: Allocator>(outcomes: u64, text: &mut String<B>) -> Result<(), AllocError>
+    ensures { OnOk result (string_bytes text.new ≡ string_bytes text.old ++ all_text outcomes) }
+{
+    writeln!(text, "all {outcomes} outcomes")
+}
+
+// Appends the replies of a party, each behind a space, with a semicolon between each two.
+fn write_replies<B: Allocator>(
+    replies: &[Reply<u64>],
+    text: &mut String<B>,
+) -> Result<(), AllocError>
+    ensures { OnOk result (string_bytes text.new ≡ string_bytes text.old ++ replies_text replies.now) }
+{
+    for (index, reply) in replies.iter().enumerate() {
+        write!(text, "{}{}", lead(index), Shown(*reply))?;
+    }
+    Ok(())
+}
+
+// What stands before the reply at this place.
+fn lead(index: usize) -> &'static str
+    ensures { result.now ≡ lead_text index }
+{
+    if index == 0 { " " } else { "; " }
+}

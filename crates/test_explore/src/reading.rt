@@ -1,0 +1,146 @@
+//! What the lines of programs, and the words of requests, are read as.
+use app_explore::args::{Request, Wanted, parse_request};
+use app_explore::reading::read_program;
+use app_text::args::KindName;
+use app_text::faults::Fault;
+use std::alloc::{AllocError, Global};
+use std::process::Abort;
+
+/// What reading finds: how many calls there are before, and of each party; or the number of the line that is wrong.
+#[derive(Clone, Copy, Debug, PartialEq)]
+enum Found<'a> {
+    Program(usize, &'a [usize]),
+    Wrong(usize),
+}
+
+static ROWS: [(&str, Found<'static>); 20] = [
+    ("0: pop", Found::Program(0, &[1])),
+    ("0: pop\n", Found::Program(0, &[1])),
+    (
+        "before: push 1; push 2\n0: force 3\n1: len; len\n",
+        Found::Program(2, &[1, 2]),
+    ),
+    (
+        "0: pop\n1: pop\n2: pop\n3: pop\n4: pop\n5: pop\n6: pop\n7: push 18446744073709551615; close\n",
+        Found::Program(0, &[1, 1, 1, 1, 1, 1, 1, 2]),
+    ),
+    (
+        "0: len; len; len; len; len; len; len; len; len; len; len; len; len; len; len; len\n",
+        Found::Program(0, &[16]),
+    ),
+    (
+        "0: len; len; len; len; len; len; len; len; len; len; len; len; len; len; len; len; len\n",
+        Found::Wrong(1),
+    ),
+    (
+        "0: pop\n1: pop\n2: pop\n3: pop\n4: pop\n5: pop\n6: pop\n7: pop\n8: pop\n",
+        Found::Wrong(9),
+    ),
+    ("", Found::Wrong(1)),
+    ("\n", Found::Wrong(1)),
+    ("before: pop", Found::Wrong(2)),
+    ("before: pop\n\n", Found::Wrong(2)),
+    ("before:\n0: pop\n", Found::Wrong(1)),
+    ("before: pop\nbefore: pop\n0: pop\n", Found::Wrong(2)),
+    ("0: pop\nbefore: pop\n", Found::Wrong(2)),
+    ("1: pop\n", Found::Wrong(1)),
+    ("0: pop\n2: pop\n", Found::Wrong(2)),
+    ("0: pop;pop\n", Found::Wrong(1)),
+    ("0: pop; \n", Found::Wrong(1)),
+    ("0:\n", Found::Wrong(1)),
+    ("0: push 18446744073709551616\n", Found::Wrong(1)),
+];
+
+#[test]
+fn programs_are_read(rt: HostRuntime) -> Result<(), AllocError> {
+    for (text, found) in &ROWS {
+        is_read(&rt, rt.alloc(), text.as_bytes(), *found)?;
+    }
+    Ok(())
+}
+
+// Asserts that reading this text finds this.
+fn is_read(
+    rt: &impl Abort,
+    alloc: Global,
+    text: &[u8],
+    found: Found<'_>,
+) -> Result<(), AllocError> {
+    match read_program(alloc, text) {
+        Ok(program) => {
+            let mut counts = Vec::new(alloc);
+            for calls in &program.parties {
+                counts.push(calls.len())?;
+            }
+            let read = Found::Program(program.before.len(), &counts);
+            assert_eq!(rt; read, found, "of {text:?}");
+        }
+        Err(Fault::Unreadable(number)) => assert_eq!(rt;
+            Found::Wrong(number),
+            found,
+            "of {text:?}"
+        ),
+        Err(_) => assert!(rt; false, "no memory"),
+    }
+    Ok(())
+}
+
+static REQUESTS: [(&str, Option<Request>); 10] = [
+    (
+        "bounded:2",
+        Some(Request {
+            kind: KindName::Bounded(2),
+            refuses: false,
+            wanted: Wanted::Outcomes,
+        }),
+    ),
+    (
+        "unbounded refuse",
+        Some(Request {
+            kind: KindName::Unbounded,
+            refuses: true,
+            wanted: Wanted::Outcomes,
+        }),
+    ),
+    (
+        "single schedule 3",
+        Some(Request {
+            kind: KindName::Single,
+            refuses: false,
+            wanted: Wanted::Schedule(3),
+        }),
+    ),
+    (
+        "unbounded refuse schedule 1",
+        Some(Request {
+            kind: KindName::Unbounded,
+            refuses: true,
+            wanted: Wanted::Schedule(1),
+        }),
+    ),
+    (
+        "single lanes 1",
+        Some(Request {
+            kind: KindName::Single,
+            refuses: false,
+            wanted: Wanted::Lanes(1),
+        }),
+    ),
+    ("single refuse", None),
+    ("single schedule 0", None),
+    ("single schedule", None),
+    ("unbounded schedule 1 refuse", None),
+    ("", None),
+];
+
+#[test]
+fn requests_are_read(rt: HostRuntime) -> Result<(), AllocError> {
+    for (line, request) in &REQUESTS {
+        let mut words = Vec::new(rt.alloc());
+        for word in line.split_whitespace() {
+            words.push(String::from_str(rt.alloc(), word)?)?;
+        }
+        assert_eq!(rt; parse_request(&words), *request, "at {line:?}");
+    }
+    Ok(())
+}
