@@ -85,9 +85,5 @@ fn increase(counts: &mut [Count], number: usize, more: Count) {
 
 // So many times 0.
 fn zeros<A: Allocator>(alloc: A, count: usize) -> Result<Vec<Count, A>, AllocError> {
-    let mut counts = Vec::with_capacity(alloc, count)?;
-    for _ in 0..count {
-        counts.push_reserved(Some(0));
-    }
-    Ok(counts)
+    vec![in alloc; Some(0); count]
 }

@@ -1,6 +1,8 @@
 //! Every outcome of a program, each with a schedule that shows it, and no other.
 ghost use Rattle.std.specs.Prelude.{IfOk};
+ghost use Rattle.std.specs.List.{AllZip};
 ghost use Rattle.machine_replay.specs.Replays.{CanReplay};
+ghost use Rattle.machine_explore.specs.Certified.{IsOutcomeOf};
 ghost use Rattle.machine_explore.specs.Explored.{HasNoOther};
 
 use crate::edges::Graph;
@@ -44,6 +46,7 @@ pub fn explore<A: Allocator + Copy>(
 ) -> Result<Explored<A>, SearchFault>
     requires { CanReplay kind }
     ensures no_other { IfOk result (λ found. HasNoOther kind refuses program.now.before program.now.parties.items found.outcomes.items) }
+    ensures shown { IfOk result (λ found. AllZip (IsOutcomeOf kind refuses program.now.before program.now.parties.items) found.schedules.items found.outcomes.items) }
 {
     let table = find(alloc, kind, refuses, program)?;
     let ends = collect_ends(alloc, program, &table)?;
@@ -69,14 +72,15 @@ fn schedules_of<A: Allocator + Copy>(
 ) -> Result<Vec<Sequence<Move, A>, A>, SearchFault> {
     let graph = Graph { table, parties };
     let paths = Paths::new(alloc, graph)?;
-    let mut schedules = Vec::with_capacity(alloc, ends.outcomes.len())?;
+    let mut schedules = Vec::new(alloc);
     for outcome in 0..ends.outcomes.len() {
-        schedules.push_reserved(paths.schedule(alloc, graph, ends, outcome)?);
+        schedules.push(paths.schedule(alloc, graph, ends, outcome)?)?;
     }
     Ok(schedules)
 }
 
 // What each of the schedules ends with.
+#[tactic(auto, using(crate::proofs::Pairs::all_zip_taken))]
 fn certified<A: Allocator + Copy>(
     alloc: A,
     kind: Kind,
@@ -85,13 +89,23 @@ fn certified<A: Allocator + Copy>(
     schedules: &[Sequence<Move, A>],
 ) -> Result<Vec<Outcome<A>, A>, SearchFault>
     requires { CanReplay kind }
+    ensures { IfOk result (λ outcomes. AllZip (IsOutcomeOf kind refuses program.now.before program.now.parties.items) schedules.now outcomes.items) }
 {
-    let mut outcomes = Vec::with_capacity(alloc, schedules.len())?;
+    let mut outcomes = Vec::new(alloc);
     for schedule in schedules {
         let Some(outcome) = certify(alloc, kind, refuses, program, schedule.as_slice())? else {
             return Err(SearchFault::NotShown);
         };
-        outcomes.push_reserved(outcome);
+        outcomes.push(outcome)?;
     }
     Ok(outcomes)
+}
+
+/// How many steps a whole schedule of the program has: its moves without the beginnings of calls.
+pub fn steps_of<A: Allocator>(program: &Program<A>, schedule: &[Move]) -> usize {
+    let mut steps = schedule.len();
+    for party in 0..program.parties.len() {
+        steps = steps.saturating_sub(program.call_count(party));
+    }
+    steps
 }

@@ -1,8 +1,8 @@
 //! Every outcome of a small program over one queue, found by a walk over its positions and then shown to be all.
 #![tactic(auto)]
 
-mod edges;
 pub mod counts;
+mod edges;
 pub mod explore;
 pub mod faults;
 pub mod find;

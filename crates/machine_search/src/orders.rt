@@ -110,12 +110,7 @@ impl<'a, A: Allocator + Copy> Search<'a, A> {
     }
 
     // The state once the party has made its next call with the outcome's reply, if it may.
-    fn after(
-        &self,
-        alloc: A,
-        state: usize,
-        party: usize,
-    ) -> Result<Option<Owner<A>>, AllocError> {
+    fn after(&self, alloc: A, state: usize, party: usize) -> Result<Option<Owner<A>>, AllocError> {
         let Some(owner) = self.states.get(state) else {
             return Ok(None);
         };

@@ -30,10 +30,6 @@ enum Change {
 impl<A: Allocator + Copy> Owner<A> {
     /// An empty open queue of this kind, for so many parties.
     pub(crate) fn new(alloc: A, kind: Kind, parties: usize) -> Result<Self, AllocError> {
-        let mut made = Vec::with_capacity(alloc, parties)?;
-        for _ in 0..parties {
-            made.push_reserved(0);
-        }
         Ok(Owner {
             capacity: match kind {
                 Kind::Single => Some(1),
@@ -43,7 +39,7 @@ impl<A: Allocator + Copy> Owner<A> {
             items: Vec::new(alloc),
             is_closed: false,
             accepted: 0,
-            made,
+            made: vec![in alloc; 0; parties]?,
         })
     }
 

@@ -31,18 +31,12 @@ const NO_LANE: Lane = Lane {
 impl<A: Allocator + Copy> Paths<A> {
     /// The shortest ways through the table, whose positions are in the order of a walk breadth first.
     pub(crate) fn new(alloc: A, graph: Graph<A>) -> Result<Self, AllocError> {
+        let lanes = graph.len().saturating_mul(graph.parties);
         let mut paths = Paths {
-            depths: Vec::with_capacity(alloc, graph.len())?,
-            lanes: Vec::new(alloc),
+            depths: vec![in alloc; NOWHERE; graph.len()]?,
+            lanes: vec![in alloc; NO_LANE; lanes]?,
         };
-        for place in 0..graph.len() {
-            paths
-                .depths
-                .push_reserved(if place == 0 { 0 } else { NOWHERE });
-            for _ in 0..graph.parties {
-                paths.lanes.push(NO_LANE)?;
-            }
-        }
+        paths.set_depth(0, 0);
         for place in 0..graph.len() {
             for party in 0..graph.parties {
                 paths.relax(graph, place, party, true);
@@ -164,12 +158,7 @@ impl<A: Allocator + Copy> Paths<A> {
     }
 
     // The moves on the way of this lane.
-    fn trace(
-        &self,
-        alloc: A,
-        graph: Graph<A>,
-        last: usize,
-    ) -> Result<Vec<Move, A>, AllocError> {
+    fn trace(&self, alloc: A, graph: Graph<A>, last: usize) -> Result<Vec<Move, A>, AllocError> {
         let mut moves = Vec::new(alloc);
         let mut at = last;
         for _ in 0..graph.len() {
@@ -217,10 +206,7 @@ fn begin_late<A: Allocator + Copy>(
     moves: &[Move],
 ) -> Result<Vec<Move, A>, AllocError> {
     let mut late = Vec::new(alloc);
-    let mut waiting = Vec::with_capacity(alloc, graph.parties)?;
-    for _ in 0..graph.parties {
-        waiting.push_reserved(false);
-    }
+    let mut waiting = vec![in alloc; false; graph.parties]?;
     let mut place = 0;
     for step in moves {
         let Some(next) = graph.lead(place, step.party, step.granted) else {

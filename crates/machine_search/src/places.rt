@@ -82,11 +82,7 @@ impl<A: Allocator> Places<A> {
 
 // So many classes with nothing in them.
 fn no_lasts<A: Allocator>(alloc: A, count: usize) -> Result<Vec<Option<usize>, A>, AllocError> {
-    let mut lasts = Vec::with_capacity(alloc, count)?;
-    for _ in 0..count {
-        lasts.push_reserved(None);
-    }
-    Ok(lasts)
+    vec![in alloc; None; count]
 }
 
 // The class of a fingerprint, of so many.

@@ -92,7 +92,8 @@ impl<A: Allocator + Copy> Walk<A> {
             return self.enter(to);
         }
         if at(&self.waits.numbers, to) == NOWHERE {
-            self.lower(frame.place, at(&self.met, to));
+            let when = at(&self.met, to);
+            self.lower(frame.place, when);
         }
         Ok(())
     }
@@ -135,11 +136,7 @@ impl<A: Allocator + Copy> Walk<A> {
 
 // A list of so many times `NOWHERE`.
 fn nowhere<A: Allocator>(alloc: A, count: usize) -> Result<Vec<usize, A>, AllocError> {
-    let mut values = Vec::with_capacity(alloc, count)?;
-    for _ in 0..count {
-        values.push_reserved(NOWHERE);
-    }
-    Ok(values)
+    vec![in alloc; NOWHERE; count]
 }
 
 /// The value at this place, or `NOWHERE`.
