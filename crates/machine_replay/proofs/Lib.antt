@@ -57,6 +57,7 @@ pub mod SoFar
 pub mod AllKinds
 pub mod MachineRuns
 pub mod Noting
+pub mod Played
 pub mod OneOwner
 pub mod OneOwnerRun
 pub mod Entries

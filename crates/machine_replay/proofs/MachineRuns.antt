@@ -1,5 +1,5 @@
 -- A run of the machine, one event after another, is a run of the book.
-use Rattle.std.proofs.Common.{◌≡◌, ◌∙◌, ℕ, ◌+◌, ◌≤◌, nat_lt, Bool, false, if◌then◌else◌, Option, Some, None, is_some, List, [], ◌∷◌, ◌++◌, length, refl, ap, arith, append_assoc, append-nil}
+use Rattle.std.proofs.Common.{◌≡◌, ◌∙◌, ℕ, ◌+◌, ◌≤◌, nat_lt, Bool, false, if◌then◌else◌, Option, Some, None, is_some, List, [], ◌∷◌, ◌++◌, length, refl, sym, ap, arith, append_assoc, append-nil}
 use Rattle.std.proofs.lemmas.Bool.{le-ltb}
 use Rattle.queue_steps.specs.declared.steps.types.Kind.{Kind}
 use Rattle.machine_replay.specs.declared.machine_run.MachineRun.{MachineRun}
@@ -11,7 +11,7 @@ use Rattle.machine_replay.specs.declared.types.Peak.{Peak}
 use Rattle.machine_replay.specs.declared.types.Told.{Told}
 use Rattle.machine_replay.specs.declared.types.Told.TheVariants.{Skipped}
 use Rattle.machine_replay.specs.SharedMemory.{Shared}
-use Rattle.machine_replay.specs.MachineRuns.{Comes, Continues, EndsAs, IsMachineRun, IsSomeMachineRun}
+use Rattle.machine_replay.specs.MachineRuns.{Comes, Continues, EndsAs, IsMachineRun, IsSameMachineRun, IsSomeMachineRun}
 use Rattle.machine_replay.specs.Left.{HasSlot, left_of, opening_world}
 use Rattle.machine_replay.specs.Machine.{CanHandle, Handles, HasCount, event_of, world_of}
 use Rattle.machine_replay.specs.Peaks.{opening_peak, peaked}
@@ -86,6 +86,19 @@ machine_run-next c d e t n handles same_kind counted numbers peak handled k part
       comes = Comes-more k (opening_world k parties) (world_of c.machine) (world_of d.machine) opening_peak c.peak d.peak es ts e t on.comes here top;
       counted = counted;
       few = omega (arith, on.few, grows, left, handled);
+    }
+
+-- the same machine, with the same peak and as many events, has come the same way
+pub machine_run-same : {T A : Type 0} (c d : MachineRun T A) → d.machine.kind ≡ c.machine.kind → world_of d.machine ≡ world_of c.machine → d.machine.memory.alive ≡ c.machine.memory.alive → d.peak ≡ c.peak → d.handled ≡ c.handled
+    → IsSameMachineRun c d
+machine_run-same c d kind_is world alive peak handled k parties es ts on =
+    record {
+      can = on.can;
+      small = on.small;
+      kind_is = kind_is ∙ on.kind_is;
+      comes = rw (world, peak) on.comes;
+      counted = alive ∙ on.counted ∙ ap (λ w. present w.shared.blocks) (sym world);
+      few = rw (world, handled) on.few;
     }
 
 pub none-there : {X : Type 0} (o : Option X) → is_some o ≡ false → o ≡ None

@@ -149,7 +149,7 @@ impl<T: Drop, A: Allocator> Machine<T, A> {
                         let (told, ok) = self.step(alloc, granted, party, running);
                         Handled {
                             told,
-                            is_met: ok || !granted,
+                            is_met: is_met(granted, ok),
                         }
                     }
                 }
@@ -213,6 +213,13 @@ impl<T: Drop, A: Allocator> Machine<T, A> {
         self.calls[party] = running;
         (Told::Ran(effect, reply), ok)
     }
+}
+
+/// Whether a step has what it asked for. A step that asks for nothing is granted what its event grants.
+fn is_met(granted: bool, ok: bool) -> bool
+    ensures { result ≡ true → granted ≡ true → ok ≡ true }
+{
+    ok || !granted
 }
 
 /// What is told of an event that asked for nothing.

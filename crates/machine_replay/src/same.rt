@@ -3,6 +3,8 @@ ghost use Rattle.std.specs.Prelude.{◌≡◌, true};
 
 use crate::blocks::Place;
 use crate::machine::Running;
+use queue_steps::model::CallKind;
+use queue_steps::steps::{BoundedLocal, Local, Op, SingleLocal, Touch, UnboundedLocal};
 
 /// Values that can be told to be the same.
 pub trait Same {
@@ -27,11 +29,59 @@ impl<X: Same> Same for Option<X> {
     }
 }
 
+impl Same for Touch {
+    fn same(&self, other: &Touch) -> bool {
+        *self == *other
+    }
+}
+
+impl Same for Op<usize> {
+    fn same(&self, other: &Op<usize>) -> bool {
+        *self == *other
+    }
+}
+
+impl Same for CallKind {
+    fn same(&self, other: &CallKind) -> bool {
+        *self == *other
+    }
+}
+
+impl Same for SingleLocal {
+    fn same(&self, other: &SingleLocal) -> bool {
+        *self == *other
+    }
+}
+
+impl Same for BoundedLocal {
+    fn same(&self, other: &BoundedLocal) -> bool {
+        *self == *other
+    }
+}
+
+impl Same for UnboundedLocal<usize> {
+    fn same(&self, other: &UnboundedLocal<usize>) -> bool {
+        *self == *other
+    }
+}
+
+impl Same for Local<usize> {
+    fn same(&self, other: &Local<usize>) -> bool {
+        match (self, other) {
+            (Local::Begin(this), Local::Begin(other)) => this.same(other),
+            (Local::Single(this), Local::Single(other)) => this.same(other),
+            (Local::Bounded(this), Local::Bounded(other)) => this.same(other),
+            (Local::Unbounded(this), Local::Unbounded(other)) => this.same(other),
+            _ => false,
+        }
+    }
+}
+
 impl<T: Same> Same for Running<T> {
     fn same(&self, other: &Running<T>) -> bool {
-        self.op == other.op
-            && self.touch == other.touch
-            && self.local == other.local
+        self.op.same(&other.op)
+            && self.touch.same(&other.touch)
+            && self.local.same(&other.local)
             && self.carried.same(&other.carried)
     }
 }

@@ -7,6 +7,7 @@ use Rattle.machine_replay.specs.Conforms.{Conforms, capacity_of}
 use Rattle.machine_replay.specs.Machine.{HasRoom}
 use Rattle.machine_replay.proofs.Noting.{notes-first, notes-on, notes-next, notes-end}
 use Rattle.machine_replay.proofs.OneOwnerRun.{one_owner}
+use Rattle.machine_replay.proofs.Played.{notes-played}
 use Rattle.machine_replay.proofs.run.replay.Goals as goal
 
 pub handle-told-requires-clause-comes : goal.handle-told-requires-clause-comes
@@ -59,7 +60,15 @@ returns-clause-conforms g c =
     let it = c.into_iter-event-iterator.ensures.into_iter_gives in
     let t = YieldsList-end (YieldsList-from_vec c.args.events.items it.0 (it.1 ∙ c.args.events.ok.0)) c.loop-event.yielded c.loop-event.event-iterator c.loop-event.yielded_by c.next.result c.next.new.self c.in-None.is c.next.ensures.steps in
     let all : c.loop-event.yielded ≡ c.args.events.items = sym (map-id c.loop-event.yielded) ∙ t.0 in
-    rw (← all) (notes-end c.args.kind c.args.parties c.loop-event.yielded c.loop-event.lists c.loop-event.run c.end_in-left.result c.loop-event.invariant.notes c.end_in-left.ensures)
+    rw (← all) (notes-end c.args.kind c.args.parties c.loop-event.yielded c.loop-event.lists c.loop-event.run c.end_in-left.result c.loop-event.invariant.notes c.end_in-left.ensures.leaves)
+
+pub returns-clause-played : goal.returns-clause-played
+returns-clause-played g c =
+    let it = c.into_iter-event-iterator.ensures.into_iter_gives in
+    let t = YieldsList-end (YieldsList-from_vec c.args.events.items it.0 (it.1 ∙ c.args.events.ok.0)) c.loop-event.yielded c.loop-event.event-iterator c.loop-event.yielded_by c.next.result c.next.new.self c.in-None.is c.next.ensures.steps in
+    let all : c.loop-event.yielded ≡ c.args.events.items = sym (map-id c.loop-event.yielded) ∙ t.0 in
+    let told : Replay g.row.T.Denot g.row.A.Denot = record { replies = c.loop-event.lists.replies; effects = c.loop-event.lists.effects; skipped = c.loop-event.lists.skipped; left = c.end_in-left.result.left; peak = c.end_in-left.result.peak } in
+    rw (← all) (notes-played c.args.kind c.args.parties c.loop-event.yielded c.loop-event.lists c.loop-event.run told c.loop-event.invariant.notes refl refl refl c.end_in-left.ensures.left)
 
 pub returns-clause-alone : goal.returns-clause-alone
 returns-clause-alone g c =
@@ -68,7 +77,7 @@ returns-clause-alone g c =
     one_owner (capacity_of c.args.kind) c.args.events.items told (subst (λ n. Conforms (capacity_of c.args.kind) n c.args.events.items told) one (returns-clause-conforms g c))
 
 pub returns-clause-blocks : goal.returns-clause-blocks
-returns-clause-blocks g c = (c.end_in-left.ensures c.args.kind c.args.parties c.loop-event.yielded c.loop-event.invariant.notes.told c.loop-event.invariant.notes.on).no_blocks
+returns-clause-blocks g c = (c.end_in-left.ensures.leaves c.args.kind c.args.parties c.loop-event.yielded c.loop-event.invariant.notes.told c.loop-event.invariant.notes.on).no_blocks
 
 pub overflow_add-number : goal.overflow_add-number
 overflow_add-number g c =

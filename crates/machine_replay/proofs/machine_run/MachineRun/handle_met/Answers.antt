@@ -7,5 +7,5 @@ handle_met-handled-requires-clause-can g c = machine_run-can c.args.self.now c.r
 
 pub returns-clause-goes_on : goal.returns-clause-goes_on
 returns-clause-goes_on g c =
-    machine_run-next c.args.self.now (record { machine = c.handle_met-handled.new.self; peak = c.after-self.result; handled = c.args.self.now.handled + 1 }) c.args.event c.handle_met-handled.result c.numbers-before.result
+    machine_run-next c.args.self.now (record { machine = c.handle_met-handled.new.self; peak = c.after-self.result; handled = c.args.self.now.handled + 1 }) c.args.event c.handle_met-handled.result.told c.numbers-before.result
     c.handle_met-handled.ensures.handles c.handle_met-handled.ensures.kind c.handle_met-handled.ensures.counted c.numbers-before.ensures c.after-self.ensures refl
