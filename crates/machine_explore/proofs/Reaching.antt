@@ -16,7 +16,7 @@ use Rattle.machine_replay.specs.declared.types.Told.{Told}
 use Rattle.machine_replay.specs.declared.types.Told.TheVariants.{Skipped, Ran}
 use Rattle.machine_explore.specs.Explored.{begun_by, replies_by, IsGranted}
 use Rattle.machine_explore.specs.Moves.{advanced, call_in, event_at, event_for, led_by, reply_in}
-use Rattle.machine_explore.specs.Played.{told_by, world_by}
+use Rattle.machine_replay.specs.Played.{told_by, world_by}
 use Rattle.machine_explore.specs.Positions.{At, Progress, calls_of, no_progress, progress_of}
 use Rattle.machine_explore.specs.Tables.{Stays, StaysForAll}
 use Rattle.machine_explore.proofs.Walks.{CanTake, WentOn, granted_of, left_over, next_call, went_on}
@@ -58,13 +58,13 @@ granted_if : {T : Type 0} (e : Event T) → IsGranted e → granted_of e ≡ tru
 granted_if (Begin p c) h = refl
 granted_if (Step p granted) h = h
 
-same_party : (p : ℕ) → (p == p) ≡ true
+pub same_party : (p : ℕ) → (p == p) ≡ true
 same_party p = eq-eqb p p refl
 
-if-true : {X : Type 0} (b : Bool) (x y : X) → b ≡ true → (if b then x else y) ≡ x
+pub if-true : {X : Type 0} (b : Bool) (x y : X) → b ≡ true → (if b then x else y) ≡ x
 if-true b x y e = rw e refl
 
-if-false : {X : Type 0} (b : Bool) (x y : X) → b ≡ false → (if b then x else y) ≡ y
+pub if-false : {X : Type 0} (b : Bool) (x y : X) → b ≡ false → (if b then x else y) ≡ y
 if-false b x y e = rw e refl
 
 -- an event that went on is one by which its party may go on
@@ -80,16 +80,16 @@ event_fits {S} {R} {T} calls s e made rest went begins =
         next_call (calls_of calls (party_of e)) (progress_of s (party_of e)).begun c rest (ap (λ l. l ++ rest) (sym first) ∙ begins)
 
 -- what an event adds to the progress of a party
-progress-own : {S R T : Type 0} (step : Bool → S → R → Made S R T) (start : Call T → Begun R T) (s : At S R T) (e : Event T) → party_of e < length s.parties
+pub progress-own : {S R T : Type 0} (step : Bool → S → R → Made S R T) (start : Call T → Begun R T) (s : At S R T) (e : Event T) → party_of e < length s.parties
     → progress_of (led_by step start s e) (party_of e) ≡ advanced (progress_of s (party_of e)) e (world_event step start s.world true e).1
 progress-own step start s e inside = get_or-set_same s.parties (party_of e) _ no_progress inside
 
-progress-other : {S R T : Type 0} (step : Bool → S → R → Made S R T) (start : Call T → Begun R T) (s : At S R T) (e : Event T) (q : ℕ) → party_of e ≢ q
+pub progress-other : {S R T : Type 0} (step : Bool → S → R → Made S R T) (start : Call T → Begun R T) (s : At S R T) (e : Event T) (q : ℕ) → party_of e ≢ q
     → progress_of (led_by step start s e) q ≡ progress_of s q
 progress-other step start s e q other = get_or-set_other s.parties (party_of e) q _ no_progress (λ is. other (sym is))
 
 -- what is begun, and what is replied, by the party whose event it is, and by another
-begun-own : {T : Type 0} (e : Event T) (t : Told T) (es : List (Event T)) (ts : List (Told T)) → begun_by (party_of e) (e ∷ es) (t ∷ ts) ≡ call_in e t ++ begun_by (party_of e) es ts
+pub begun-own : {T : Type 0} (e : Event T) (t : Told T) (es : List (Event T)) (ts : List (Told T)) → begun_by (party_of e) (e ∷ es) (t ∷ ts) ≡ call_in e t ++ begun_by (party_of e) es ts
 begun-own e t es ts = ap (λ l. l ++ begun_by (party_of e) es ts) (if-true (party_of e == party_of e) (call_in e t) [] (same_party (party_of e)))
 
 begun-other : {T : Type 0} (e : Event T) (t : Told T) (es : List (Event T)) (ts : List (Told T)) (q : ℕ) → (party_of e == q) ≡ false → begun_by q (e ∷ es) (t ∷ ts) ≡ begun_by q es ts
@@ -102,7 +102,7 @@ replied-other : {T : Type 0} (e : Event T) (t : Told T) (es : List (Event T)) (t
 replied-other e t es ts q other = ap (λ l. l ++ replies_by q es ts) (if-false (party_of e == q) (reply_in t) [] other)
 
 -- a skipped event begins nothing, and nothing is replied
-begun-skipped : {T : Type 0} (e : Event T) (es : List (Event T)) (ts : List (Told T)) (q : ℕ) → begun_by q (e ∷ es) (Skipped ∷ ts) ≡ begun_by q es ts
+pub begun-skipped : {T : Type 0} (e : Event T) (es : List (Event T)) (ts : List (Told T)) (q : ℕ) → begun_by q (e ∷ es) (Skipped ∷ ts) ≡ begun_by q es ts
 begun-skipped e es ts q = ap (λ l. (if party_of e == q then l else []) ++ begun_by q es ts) (call_in-skipped e) ∙ ap (λ l. l ++ begun_by q es ts) (if-nothing (party_of e == q))
 
 replied-skipped : {T : Type 0} (e : Event T) (es : List (Event T)) (ts : List (Told T)) (q : ℕ) → replies_by q (e ∷ es) (Skipped ∷ ts) ≡ replies_by q es ts

@@ -17,7 +17,7 @@ use Rattle.machine_replay.specs.declared.types.Told.{Told}
 use Rattle.machine_replay.specs.declared.types.Told.TheVariants.{Skipped, Ran}
 use Rattle.machine_explore.specs.Explored.{begun_by, replies_by, IsGranted}
 use Rattle.machine_explore.specs.Moves.{advanced, call_in, event_at, event_for, led_by, reply_in}
-use Rattle.machine_explore.specs.Played.{told_by, world_by}
+use Rattle.machine_replay.specs.Played.{told_by, world_by}
 use Rattle.machine_explore.specs.Positions.{At, Progress, calls_of, no_progress, progress_of}
 
 -- a party that is in this call, or in none, may take this event

@@ -5,7 +5,7 @@ use Rattle.queue_steps.specs.declared.model.Call.{Call}
 use Rattle.queue_steps.specs.declared.steps.types.Kind.{Kind}
 use Rattle.machine_replay.specs.declared.types.Event.{Event}
 use Rattle.machine_replay.specs.declared.types.Event.TheVariants.{Begin, Step}
-use Rattle.machine_explore.specs.declared.certify.Move.{Move}
+use Rattle.machine_explore.specs.declared.schedule.Move.{Move}
 use Rattle.machine_explore.specs.Explored.{IsRunOf, outcome_of_run}
 use Rattle.machine_explore.specs.Positions.{Outcome}
 

@@ -10,7 +10,7 @@ use Rattle.machine_replay.specs.declared.types.Event.TheVariants.{Begin, Step}
 use Rattle.machine_replay.specs.declared.types.Told.{Told}
 use Rattle.machine_replay.specs.Conforms.{party_of}
 use Rattle.machine_replay.specs.Left.{left_of, opening_world}
-use Rattle.machine_explore.specs.Played.{world_after, told_of}
+use Rattle.machine_replay.specs.Played.{world_after, told_of}
 use Rattle.machine_replay.specs.SharedMemory.{Shared}
 use Rattle.machine_replay.specs.World.{World, call_at}
 use Rattle.machine_explore.specs.Moves.{call_in, reply_in}

@@ -1,4 +1,3 @@
-pub mod Played
 pub mod Positions
 pub mod Moves
 pub mod Explored

@@ -8,7 +8,7 @@ use Rattle.machine_replay.specs.Left.{opening_world}
 use Rattle.machine_replay.specs.SharedMemory.{Shared}
 use Rattle.machine_replay.specs.World.{World}
 use Rattle.machine_explore.specs.Explored.{Prepares}
-use Rattle.machine_explore.specs.Played.{world_after}
+use Rattle.machine_replay.specs.Played.{world_after}
 use Rattle.machine_explore.specs.Positions.{Standing, no_progress}
 
 -- party 0, alone, has made these calls between w and the later world, and is between calls

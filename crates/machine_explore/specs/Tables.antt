@@ -2,8 +2,9 @@
 use Rattle.std.specs.Prelude.{◌≡◌, ℕ, ◌<◌, Bool, true, false, List, length, Contains, ⊤, MatchOption}
 use Rattle.queue_steps.specs.declared.model.Call.{Call}
 use Rattle.machine_replay.specs.declared.types.Event.{Event}
-use Rattle.machine_explore.specs.Moves.{event_at}
-use Rattle.machine_explore.specs.Positions.{At}
+use Rattle.queue_steps.specs.declared.steps.types.Kind.{Kind}
+use Rattle.machine_explore.specs.Moves.{event_at, led}
+use Rattle.machine_explore.specs.Positions.{At, IsFinal, Outcome, Standing, outcome_at}
 
 -- if the party goes on from there, the table has where that leads
 abbrev pub StaysOnce : {S R T : Type 0} → (At S R T → Event T → At S R T) → List (List (Call T)) → List (At S R T) → At S R T → ℕ → Bool → Type 0
@@ -16,3 +17,11 @@ Stays lead refuses calls table s p = (granted : Bool) → (refuses ≡ false →
 -- so it is for each party
 abbrev pub StaysForAll : {S R T : Type 0} → (At S R T → Event T → At S R T) → Bool → List (List (Call T)) → List (At S R T) → At S R T → Type 0
 StaysForAll lead refuses calls table s = (p : ℕ) → p < length calls → Stays lead refuses calls table s p
+
+-- a standing of the table as it has to be: of this kind of queue and for so many parties, with all that it leads to in the table, and what it ends with, if it is an end, among the outcomes
+pub record IsChecked (k : Kind) (refuses : Bool) (calls : List (List (Call ℕ))) (table : List Standing) (outcomes : List (Outcome ℕ)) (s : Standing) : Type 0 where
+  pub kind : s.kind ≡ k
+  pub parties : length s.parties ≡ length calls
+  pub calls_are : length s.world.calls ≡ length calls
+  pub stays : StaysForAll (led s.kind) refuses calls table s
+  pub ends : IsFinal calls s → Contains outcomes (outcome_at s)

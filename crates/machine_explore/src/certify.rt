@@ -6,17 +6,9 @@ ghost use Rattle.machine_explore.specs.Certified.{IsOutcomeOf};
 use crate::outcome::Outcome;
 use crate::position::Position;
 use crate::program::Program;
+use crate::schedule::Move;
 use queue_steps::steps::Kind;
 use std::alloc::{AllocError, Allocator};
-
-/// A party goes on: by a step of its call, or by the beginning of its next.
-#[derive(Clone, Copy, Drop)]
-pub struct Move {
-    /// The party's number.
-    pub party: usize,
-    /// Whether the step's request for a block, if it makes one, is granted.
-    pub granted: bool,
-}
 
 /// What the program ends with by these moves, if they are a whole run of it.
 ///

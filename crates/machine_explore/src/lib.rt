@@ -7,4 +7,5 @@ pub mod outcome;
 pub mod position;
 pub mod program;
 pub mod progress;
+pub mod schedule;
 pub mod sequence;

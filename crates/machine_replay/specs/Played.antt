@@ -1,5 +1,6 @@
 -- What a list of events makes of a machine, where the allocator grants each request that no event refuses, and what a replay tells by that.
 use Rattle.std.specs.Prelude.{◌≡◌, ℕ, ◌&&◌, Bool, true, false, Option, Some, None, List, [], ◌∷◌}
+use Rattle.queue_steps.specs.declared.model.Call.{Call}
 use Rattle.queue_steps.specs.declared.steps.types.Kind.{Kind}
 use Rattle.queue_steps.specs.declared.steps.types.Op.{Op}
 use Rattle.queue_steps.specs.declared.steps.types.Op.TheVariants as op
@@ -10,19 +11,24 @@ use Rattle.machine_replay.specs.declared.types.Replay.{Replay}
 use Rattle.machine_replay.specs.declared.types.Told.{Told}
 use Rattle.machine_replay.specs.Conforms.{entries_from, reply_entry, effect_entry, skipped_entry}
 use Rattle.machine_replay.specs.Left.{left_of, opening_world}
-use Rattle.machine_replay.specs.Machine.{event_of}
-use Rattle.machine_replay.specs.SharedMemory.{Shared}
-use Rattle.machine_replay.specs.World.{World}
+use Rattle.machine_replay.specs.SharedMemory.{Shared, start_of, step_of}
+use Rattle.machine_replay.specs.World.{Begun, Made, World, world_event}
 
--- the machine after these events, where each request that no event refuses is granted
+-- a machine after these events, where each request that no event refuses is granted, and what is told of them, whatever is shared and whatever its steps are
+abbrev pub world_by : {S R T : Type 0} → (Bool → S → R → Made S R T) → (Call T → Begun R T) → World S R → List (Event T) → World S R
+world_by step start w [] = w
+world_by step start w (e ∷ es) = world_by step start (world_event step start w true e).0 es
+
+abbrev pub told_by : {S R T : Type 0} → (Bool → S → R → Made S R T) → (Call T → Begun R T) → World S R → List (Event T) → List (Told T)
+told_by step start w [] = []
+told_by step start w (e ∷ es) = (world_event step start w true e).1 ∷ told_by step start (world_event step start w true e).0 es
+
+-- the same of a queue of this kind
 abbrev pub world_after : {T : Type 0} → Kind → World (Shared T) (Running T) → List (Event T) → World (Shared T) (Running T)
-world_after k w [] = w
-world_after k w (e ∷ es) = world_after k (event_of k true w e).0 es
+world_after k w es = world_by (step_of k) (start_of k) w es
 
--- what is told of them
 abbrev pub told_of : {T : Type 0} → Kind → World (Shared T) (Running T) → List (Event T) → List (Told T)
-told_of k w [] = []
-told_of k w (e ∷ es) = (event_of k true w e).1 ∷ told_of k (event_of k true w e).0 es
+told_of k w es = told_by (step_of k) (start_of k) w es
 
 -- the events, with a step also refused where the allocator did not grant its request
 abbrev pub refused : {T : Type 0} → List (Event T) → List Bool → List (Event T)

@@ -1,0 +1,70 @@
+-- A program has no outcome but those that a checked table has.
+use Rattle.std.proofs.Common.{◌≡◌, ◌∙◌, ◌+◌, ◌<◌, ◌++◌, [], ℕ, Bool, true, false, List, None, length, map, refl, subst, sym, ap, arith, drop, zero-add}
+use Rattle.std.specs.Prelude.{replicate, slice_index_or, Contains}
+use Rattle.std.specs.List.{All, range_with_len}
+use Rattle.std.proofs.lemmas.List.{get_or-map, get_or-replicate, length-map, same_lists}
+use Rattle.std.proofs.lemmas.List.Elements.{All-contains, All-weaker}
+use Rattle.std.proofs.lemmas.List.FromFn.{get_or-map-range_with_len, length-map-range_with_len}
+use Rattle.queue_steps.specs.declared.model.Call.{Call}
+use Rattle.queue_steps.specs.declared.model.Reply.{Reply}
+use Rattle.queue_steps.specs.declared.steps.types.Kind.{Kind}
+use Rattle.machine_replay.specs.Left.{left_of, opening_world}
+use Rattle.machine_replay.specs.SharedMemory.{Shared, start_of, step_of}
+use Rattle.machine_replay.specs.World.{World}
+use Rattle.machine_replay.specs.declared.machine.Running.{Running}
+use Rattle.machine_replay.specs.declared.types.Event.{Event}
+use Rattle.machine_explore.specs.Explored.{HasNoOther, IsRunOf, Prepares, begun_by, outcome_of, replies_by}
+use Rattle.machine_explore.specs.Moves.{led}
+use Rattle.machine_replay.specs.Played.{told_of, world_after}
+use Rattle.machine_explore.specs.Positions.{IsFinal, Outcome, Progress, Standing, calls_of, no_progress, outcome_at, progress_of}
+use Rattle.machine_explore.specs.Starts.{IsStart}
+use Rattle.machine_explore.specs.Tables.{IsChecked, StaysForAll}
+use Rattle.machine_explore.proofs.Preparing.{PreparesBy, prepared_once}
+use Rattle.machine_explore.proofs.Reaching.{Arrives, Begins, HasParties, reaches}
+
+as_prepared : (k : Kind) (w : World (Shared ℕ) (Running ℕ)) (before : List (Call ℕ)) (events : List (Event ℕ)) → Prepares k w before events → PreparesBy (step_of k) (start_of k) w before events
+as_prepared k w before events all = record { alone = all.alone; begins = all.begins; rests = all.rests }
+
+-- a run starts where the check starts
+starts_there : (k : Kind) (before : List (Call ℕ)) (parties : ℕ) (s : Standing) (first : List (Event ℕ)) → IsStart k before parties s → Prepares k (opening_world k parties) before first
+    → s.world ≡ world_after k (opening_world k parties) first
+starts_there k before parties s first start all =
+    start.prepared.2 ∙ prepared_once (step_of k) (start_of k) start.prepared.0 first (opening_world k parties) before
+        (as_prepared k (opening_world k parties) before start.prepared.0 start.prepared.1) (as_prepared k (opening_world k parties) before first all)
+
+pub none_begun : (k : Kind) (before : List (Call ℕ)) (parties p : ℕ) (s : Standing) → IsStart k before parties s → p < parties → progress_of s p ≡ no_progress
+none_begun k before parties p s start h = ap (λ l. slice_index_or l p no_progress) start.none_begun ∙ get_or-replicate parties p no_progress no_progress h
+
+-- what a standing ends with, told by the events that led there
+pub ends_with : (k : Kind) (calls : List (List (Call ℕ))) (w : World (Shared ℕ) (Running ℕ)) (rest : List (Event ℕ)) (end : Standing) → end.kind ≡ k → end.world ≡ world_after k w rest → length end.parties ≡ length calls
+    → ((p : ℕ) → p < length calls → (progress_of end p).replies ≡ replies_by p rest (told_of k w rest)) → outcome_at end ≡ outcome_of k (length calls) w rest
+ends_with k calls w rest end kind world parties replies =
+    let told : ℕ → List (Reply ℕ) = λ p. replies_by p rest (told_of k w rest) in
+    let shown : List (List (Reply ℕ)) = map (λ (g : Progress ℕ). g.replies) end.parties in
+    let count : length shown ≡ length calls = length-map end.parties (λ (g : Progress ℕ). g.replies) ∙ parties in
+    let lists : shown ≡ map told (range_with_len 0 (length calls)) = same_lists shown (map told (range_with_len 0 (length calls)))
+        (count ∙ sym (length-map-range_with_len told 0 (length calls)))
+        (λ p d h.
+            let inside : p < length calls = omega (arith, h, count) in
+            let there : p < length end.parties = omega (arith, inside, parties) in
+            get_or-map (λ (g : Progress ℕ). g.replies) end.parties p no_progress d there ∙ replies p inside ∙ sym (get_or-map-range_with_len told 0 (length calls) p p d inside (zero-add p))) in
+    let left : left_of end.kind end.world ≡ left_of k (world_after k w rest) = ap (λ x. left_of x end.world) kind ∙ ap (λ x. left_of k x) world in
+    ap (λ l. record { replies = l; left = left_of end.kind end.world }) lists ∙ ap (λ l. record { replies = map told (range_with_len 0 (length calls)); left = l }) left
+
+pub no_other : (k : Kind) (refuses : Bool) (before : List (Call ℕ)) (calls : List (List (Call ℕ))) (table : List Standing) (outcomes : List (Outcome ℕ)) (start : Standing)
+    → IsStart k before (length calls) start → Contains table start → All (IsChecked k refuses calls table outcomes) table → HasNoOther k refuses before calls outcomes
+no_other k refuses before calls table outcomes start starts within checked first rest run =
+    let w = world_after k (opening_world k (length calls)) first in
+    let same = starts_there k before (length calls) start first starts run.prepares in
+    let here = All-contains (IsChecked k refuses calls table outcomes) table start checked within in
+    let closed = All-weaker (IsChecked k refuses calls table outcomes) (StaysForAll (led k) refuses calls table)
+        (λ (s : Standing) (c : IsChecked k refuses calls table outcomes s). let P : Kind → Type 0 = λ x. StaysForAll (led x) refuses calls table s in subst P c.kind c.stays) table checked in
+    let begins : Begins (step_of k) (start_of k) calls start rest = λ p h.
+        ap (λ x. begun_by p rest (told_of k x rest)) same ∙ run.plays.begins p h ∙ ap (λ (g : Progress ℕ). drop g.begun (calls_of calls p)) (sym (none_begun k before (length calls) p start starts h)) in
+    let r = reaches (step_of k) (start_of k) calls refuses table closed rest start within (record { parties = here.parties; calls_are = here.calls_are }) run.plays.grants begins in
+    let world : r.0.world ≡ world_after k w rest = r.2.world ∙ ap (λ x. world_after k x rest) same in
+    let replies : (p : ℕ) → p < length calls → (progress_of r.0 p).replies ≡ replies_by p rest (told_of k w rest) = λ p h.
+        r.2.replies p h ∙ ap (λ (g : Progress ℕ). g.replies ++ replies_by p rest (told_of k start.world rest)) (none_begun k before (length calls) p start starts h) ∙ ap (λ x. replies_by p rest (told_of k x rest)) same in
+    let final : IsFinal calls r.0 = λ p h. ap length (replies p h) ∙ run.plays.replies p h in
+    let there = (All-contains (IsChecked k refuses calls table outcomes) table r.0 checked r.1).ends final in
+    subst (λ o. Contains outcomes o) (ends_with k calls w rest r.0 (r.2.kind ∙ starts.kind) world r.2.parties replies) there
