@@ -1,0 +1,60 @@
+//! Where the positions of a table lead.
+use machine_explore::check::{Link, Table};
+use std::alloc::Allocator;
+
+/// What a link has where nothing is led to.
+pub(crate) const NOWHERE: usize = usize::MAX;
+
+/// A table of positions that so many parties share, each of which has a link from each position.
+#[derive(Clone, Copy)]
+pub(crate) struct Graph<'a, A: Allocator> {
+    pub(crate) table: &'a Table<A>,
+    pub(crate) parties: usize,
+}
+
+impl<'a, A: Allocator + Copy> Graph<'a, A> {
+    /// How many positions there are.
+    pub(crate) fn len(&self) -> usize {
+        self.table.positions.len()
+    }
+
+    /// Whether the party is in a call at the position at this place.
+    pub(crate) fn is_in_call(&self, place: usize, party: usize) -> bool {
+        match self.table.positions.get(place) {
+            Some(position) => position.is_in_call(party),
+            None => false,
+        }
+    }
+
+    /// The place to which the party leads from the position at this place, if it goes on so.
+    pub(crate) fn lead(&self, place: usize, party: usize, granted: bool) -> Option<usize> {
+        let link = self.link(place, party)?;
+        let to = if granted { link.granted } else { link.refused };
+        if to < self.len() { Some(to) } else { None }
+    }
+
+    // The link of the party from the position at this place.
+    fn link(&self, place: usize, party: usize) -> Option<Link> {
+        let index = place.checked_mul(self.parties)?.checked_add(party)?;
+        self.table.links.get(index).copied()
+    }
+
+    /// How many moves there may be from a position: for each party one that is granted what it asks for, and one that is refused it.
+    pub(crate) fn moves(&self) -> usize {
+        self.parties.saturating_mul(2)
+    }
+
+    /// The place to which the move of this number leads from the position at this place, if there is one. A beginning belongs to the call's first step.
+    pub(crate) fn lead_by(&self, place: usize, number: usize) -> Option<usize> {
+        let party = number / 2;
+        let granted = number % 2 == 0;
+        if self.is_in_call(place, party) {
+            return self.lead(place, party, granted);
+        }
+        let begun = self.lead(place, party, true)?;
+        if self.is_in_call(begun, party) {
+            return self.lead(begun, party, granted);
+        }
+        if granted { Some(begun) } else { None }
+    }
+}

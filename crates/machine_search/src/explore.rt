@@ -1,0 +1,112 @@
+//! Every outcome of a program, each with a schedule that shows it, and no other.
+ghost use Rattle.std.specs.Prelude.{IfOk};
+ghost use Rattle.std.specs.List.{AllZip};
+ghost use Rattle.machine_replay.specs.Replays.{CanReplay};
+ghost use Rattle.machine_explore.specs.Certified.{IsOutcomeOf};
+ghost use Rattle.machine_explore.specs.Explored.{HasNoOther};
+
+use crate::edges::Graph;
+use crate::faults::SearchFault;
+use crate::find::find;
+use crate::outcomes::{Ends, collect_ends};
+use crate::paths::Paths;
+use machine_explore::certify::certify;
+use machine_explore::check::{Table, check};
+use machine_explore::outcome::Outcome;
+use machine_explore::program::Program;
+use machine_explore::schedule::Move;
+use machine_explore::sequence::Sequence;
+use queue_steps::steps::Kind;
+use std::alloc::Allocator;
+
+/// What a program does: its outcomes, for each a shortest schedule, and what was found on the way to them.
+#[derive(Drop)]
+pub struct Explored<A: Allocator> {
+    /// The outcomes, each once.
+    pub outcomes: Vec<Outcome<A>, A>,
+    /// For each outcome the moves, behind the calls that come first, that lead to it.
+    pub schedules: Vec<Sequence<Move, A>, A>,
+    /// The positions of the program.
+    pub table: Table<A>,
+    /// The outcomes as they were found, and where the table has them.
+    pub ends: Ends<A>,
+}
+
+/// All outcomes of the program, each with a shortest schedule.
+///
+/// With `refuses` each request for a block may also be refused.
+///
+/// # Errors
+///
+/// As of `find`, and `NotShown` where the check of what was found says no.
+pub fn explore<A: Allocator + Copy>(
+    alloc: A,
+    kind: Kind,
+    refuses: bool,
+    program: &Program<A>,
+) -> Result<Explored<A>, SearchFault>
+    requires { CanReplay kind }
+    ensures no_other { IfOk result (λ found. HasNoOther kind refuses program.now.before program.now.parties.items found.outcomes.items) }
+    ensures shown { IfOk result (λ found. AllZip (IsOutcomeOf kind refuses program.now.before program.now.parties.items) found.schedules.items found.outcomes.items) }
+{
+    let table = find(alloc, kind, refuses, program)?;
+    let ends = collect_ends(alloc, program, &table)?;
+    let schedules = schedules_of(alloc, program.parties.len(), &table, &ends)?;
+    let outcomes = certified(alloc, kind, refuses, program, &schedules)?;
+    if !check(alloc, kind, refuses, program, &table, &outcomes)? {
+        return Err(SearchFault::NotShown);
+    }
+    Ok(Explored {
+        outcomes,
+        schedules,
+        table,
+        ends,
+    })
+}
+
+// A shortest schedule for each outcome.
+fn schedules_of<A: Allocator + Copy>(
+    alloc: A,
+    parties: usize,
+    table: &Table<A>,
+    ends: &Ends<A>,
+) -> Result<Vec<Sequence<Move, A>, A>, SearchFault> {
+    let graph = Graph { table, parties };
+    let paths = Paths::new(alloc, graph)?;
+    let mut schedules = Vec::new(alloc);
+    for outcome in 0..ends.outcomes.len() {
+        schedules.push(paths.schedule(alloc, graph, ends, outcome)?)?;
+    }
+    Ok(schedules)
+}
+
+// What each of the schedules ends with.
+#[tactic(auto, using(crate::proofs::Pairs::all_zip_taken))]
+fn certified<A: Allocator + Copy>(
+    alloc: A,
+    kind: Kind,
+    refuses: bool,
+    program: &Program<A>,
+    schedules: &[Sequence<Move, A>],
+) -> Result<Vec<Outcome<A>, A>, SearchFault>
+    requires { CanReplay kind }
+    ensures { IfOk result (λ outcomes. AllZip (IsOutcomeOf kind refuses program.now.before program.now.parties.items) schedules.now outcomes.items) }
+{
+    let mut outcomes = Vec::new(alloc);
+    for schedule in schedules {
+        let Some(outcome) = certify(alloc, kind, refuses, program, schedule.as_slice())? else {
+            return Err(SearchFault::NotShown);
+        };
+        outcomes.push(outcome)?;
+    }
+    Ok(outcomes)
+}
+
+/// How many steps a whole schedule of the program has: its moves without the beginnings of calls.
+pub fn steps_of<A: Allocator>(program: &Program<A>, schedule: &[Move]) -> usize {
+    let mut steps = schedule.len();
+    for party in 0..program.parties.len() {
+        steps = steps.saturating_sub(program.call_count(party));
+    }
+    steps
+}

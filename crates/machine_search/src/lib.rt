@@ -1,0 +1,15 @@
+//! Every outcome of a small program over one queue, found by a walk over its positions and then shown to be all.
+#![tactic(auto)]
+
+pub mod counts;
+mod edges;
+pub mod explore;
+pub mod faults;
+pub mod find;
+pub mod lone;
+pub mod orders;
+pub mod outcomes;
+mod owner;
+mod paths;
+mod places;
+mod waits;

@@ -1,0 +1,221 @@
+//! A queue with one owner, which makes whole calls of several parties, one after another.
+use queue_steps::errors::{ForcePushError, PopError, PushError};
+use queue_steps::model::{Call, Reply};
+use queue_steps::sizes::{BLOCK_SLOTS, LIMIT};
+use queue_steps::steps::Kind;
+use std::alloc::{AllocError, Allocator};
+use std::hash::{FoldHasher, Hasher};
+
+/// A queue with one owner, and how many calls of each party it has made.
+#[derive(Drop)]
+pub(crate) struct Owner<A: Allocator> {
+    capacity: Option<usize>,
+    /// The items, front first.
+    pub(crate) items: Vec<u64, A>,
+    is_closed: bool,
+    accepted: u64,
+    made: Vec<usize, A>,
+}
+
+// What a call does to the queue.
+#[derive(Clone, Copy)]
+enum Change {
+    Nothing,
+    Append(u64),
+    Displace(u64),
+    Take,
+    Close,
+}
+
+impl<A: Allocator + Copy> Owner<A> {
+    /// An empty open queue of this kind, for so many parties.
+    pub(crate) fn new(alloc: A, kind: Kind, parties: usize) -> Result<Self, AllocError> {
+        Ok(Owner {
+            capacity: match kind {
+                Kind::Single => Some(1),
+                Kind::Bounded(cap) => Some(cap),
+                Kind::Unbounded => None,
+            },
+            items: Vec::new(alloc),
+            is_closed: false,
+            accepted: 0,
+            made: vec![in alloc; 0; parties]?,
+        })
+    }
+
+    /// Makes a call that is no party's.
+    pub(crate) fn prepare(&mut self, call: Call<u64>) -> Result<(), AllocError> {
+        let (_, change) = self.answer(call);
+        self.apply(change)
+    }
+
+    /// The queue once the party has made this call, if it may answer so. With `refuses` a push may lack memory where it asks for a block.
+    pub(crate) fn after(
+        &self,
+        alloc: A,
+        party: usize,
+        call: Call<u64>,
+        reply: Reply<u64>,
+        refuses: bool,
+    ) -> Result<Option<Self>, AllocError> {
+        let (answer, change) = self.answer(call);
+        let change = if answer == reply {
+            change
+        } else if refuses && self.may_ask() && lacks_memory(call, reply) {
+            Change::Nothing
+        } else {
+            return Ok(None);
+        };
+        let mut next = self.copy(alloc)?;
+        next.apply(change)?;
+        if let Some(count) = next.made.get_mut(party) {
+            *count = count.saturating_add(1);
+        }
+        Ok(Some(next))
+    }
+
+    // A copy.
+    fn copy(&self, alloc: A) -> Result<Self, AllocError> {
+        Ok(Owner {
+            capacity: self.capacity,
+            items: Vec::from_slice(alloc, &self.items)?,
+            is_closed: self.is_closed,
+            accepted: self.accepted,
+            made: Vec::from_slice(alloc, &self.made)?,
+        })
+    }
+}
+
+impl<A: Allocator> Owner<A> {
+    /// How many calls of the party it has made.
+    pub(crate) fn made(&self, party: usize) -> usize {
+        match self.made.get(party) {
+            Some(count) => *count,
+            None => 0,
+        }
+    }
+
+    /// Whether it is the same as the other, of the same capacity.
+    pub(crate) fn is_same(&self, other: &Owner<A>) -> bool {
+        self.is_closed == other.is_closed
+            && self.accepted == other.accepted
+            && self.made == other.made
+            && self.items == other.items
+    }
+
+    /// A hash, which equal ones have in common.
+    pub(crate) fn fingerprint(&self) -> u64 {
+        let mut state = FoldHasher::default();
+        for count in self.made.as_slice() {
+            state.write_usize(*count);
+        }
+        for item in self.items.as_slice() {
+            state.write_u64(*item);
+        }
+        state.finish()
+    }
+
+    // What the call answers, and what it does.
+    fn answer(&self, call: Call<u64>) -> (Reply<u64>, Change) {
+        match call {
+            Call::Push(value) => self.answer_push(value),
+            Call::ForcePush(value) => self.answer_force_push(value),
+            Call::Pop => self.answer_pop(),
+            Call::Close => (Reply::Close(!self.is_closed), Change::Close),
+            Call::IsClosed => (Reply::IsClosed(self.is_closed), Change::Nothing),
+            Call::IsEmpty => (Reply::IsEmpty(self.items.is_empty()), Change::Nothing),
+            Call::IsFull => (Reply::IsFull(self.is_full()), Change::Nothing),
+            Call::Len => (Reply::Len(self.items.len()), Change::Nothing),
+            Call::Capacity => (Reply::Capacity(self.capacity), Change::Nothing),
+        }
+    }
+
+    fn answer_push(&self, value: u64) -> (Reply<u64>, Change) {
+        if self.is_closed || self.is_spent() {
+            return (Reply::Push(Err(PushError::Closed(value))), Change::Close);
+        }
+        if self.is_full() {
+            return (Reply::Push(Err(PushError::Full(value))), Change::Nothing);
+        }
+        (Reply::Push(Ok(())), Change::Append(value))
+    }
+
+    fn answer_force_push(&self, value: u64) -> (Reply<u64>, Change) {
+        if self.is_closed || self.is_spent() {
+            return (
+                Reply::ForcePush(Err(ForcePushError::Closed(value))),
+                Change::Close,
+            );
+        }
+        if self.is_full() {
+            return (
+                Reply::ForcePush(Ok(self.items.first().copied())),
+                Change::Displace(value),
+            );
+        }
+        (Reply::ForcePush(Ok(None)), Change::Append(value))
+    }
+
+    fn answer_pop(&self) -> (Reply<u64>, Change) {
+        match self.items.first() {
+            Some(item) => (Reply::Pop(Ok(*item)), Change::Take),
+            None if self.is_closed => (Reply::Pop(Err(PopError::Closed)), Change::Nothing),
+            None => (Reply::Pop(Err(PopError::Empty)), Change::Nothing),
+        }
+    }
+
+    // Whether it has as many items as its capacity.
+    fn is_full(&self) -> bool {
+        self.capacity == Some(self.items.len())
+    }
+
+    // Whether it has accepted all that it ever will. A queue of one slot goes on.
+    fn is_spent(&self) -> bool {
+        self.capacity != Some(1) && self.accepted == LIMIT
+    }
+
+    // Whether a push may ask for a block.
+    fn may_ask(&self) -> bool {
+        self.capacity.is_none()
+            && !self.is_closed
+            && (self.accepted == 0 || self.accepted % BLOCK_SLOTS == BLOCK_SLOTS - 1)
+    }
+
+    // Makes the change.
+    fn apply(&mut self, change: Change) -> Result<(), AllocError> {
+        match change {
+            Change::Nothing => {}
+            Change::Append(value) => self.append(value)?,
+            Change::Displace(value) => {
+                self.take_front();
+                self.append(value)?;
+            }
+            Change::Take => self.take_front(),
+            Change::Close => self.is_closed = true,
+        }
+        Ok(())
+    }
+
+    fn append(&mut self, value: u64) -> Result<(), AllocError> {
+        self.items.push(value)?;
+        self.accepted = self.accepted.saturating_add(1);
+        Ok(())
+    }
+
+    fn take_front(&mut self) {
+        if !self.items.is_empty() {
+            self.items.remove(0);
+        }
+    }
+}
+
+// Whether the reply is that the call lacked memory for its value.
+fn lacks_memory(call: Call<u64>, reply: Reply<u64>) -> bool {
+    match (call, reply) {
+        (Call::Push(value), Reply::Push(Err(PushError::NoMemory(back)))) => value == back,
+        (Call::ForcePush(value), Reply::ForcePush(Err(ForcePushError::NoMemory(back)))) => {
+            value == back
+        }
+        _ => false,
+    }
+}

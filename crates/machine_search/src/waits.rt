@@ -1,0 +1,155 @@
+//! The waits of a table: positions that lead to one another.
+use crate::edges::{Graph, NOWHERE};
+use std::alloc::{AllocError, Allocator};
+
+/// The waits of a table. A position that leads to no position that leads back is a wait of its own.
+#[derive(Drop)]
+pub(crate) struct Waits<A: Allocator> {
+    /// The number of each position's wait, and `NOWHERE` where no moves of whole steps lead. Moves lead from higher numbers to lower ones.
+    pub(crate) numbers: Vec<usize, A>,
+    /// The places of the positions, by the numbers of their waits.
+    pub(crate) order: Vec<usize, A>,
+    /// How many waits there are.
+    pub(crate) count: usize,
+}
+
+// A position whose moves are being followed, and the number of the next move.
+#[derive(Clone, Copy)]
+struct Frame {
+    place: usize,
+    next: usize,
+}
+
+// A walk depth first, by which waits are found.
+#[derive(Drop)]
+struct Walk<A: Allocator> {
+    // When each position was met, and the earliest one that it is known to lead to.
+    met: Vec<usize, A>,
+    low: Vec<usize, A>,
+    // How many positions were met.
+    clock: usize,
+    // Positions that were met, and whose waits are not known.
+    open: Vec<usize, A>,
+    frames: Vec<Frame, A>,
+    waits: Waits<A>,
+}
+
+/// The waits of the positions to which moves of whole steps lead from the first.
+pub(crate) fn waits_of<A: Allocator + Copy>(
+    alloc: A,
+    graph: Graph<A>,
+) -> Result<Waits<A>, AllocError> {
+    let mut walk = Walk::new(alloc, graph.len())?;
+    walk.enter(0)?;
+    for _ in 0..u64::MAX {
+        let Some(frame) = walk.frames.last().copied() else {
+            break;
+        };
+        if frame.next < graph.moves() {
+            walk.follow(graph, frame)?;
+        } else {
+            walk.leave(frame.place)?;
+        }
+    }
+    Ok(walk.waits)
+}
+
+impl<A: Allocator + Copy> Walk<A> {
+    fn new(alloc: A, count: usize) -> Result<Self, AllocError> {
+        Ok(Walk {
+            met: nowhere(alloc, count)?,
+            low: nowhere(alloc, count)?,
+            clock: 0,
+            open: Vec::new(alloc),
+            frames: Vec::new(alloc),
+            waits: Waits {
+                numbers: nowhere(alloc, count)?,
+                order: Vec::new(alloc),
+                count: 0,
+            },
+        })
+    }
+
+    // Meets the position at this place.
+    fn enter(&mut self, place: usize) -> Result<(), AllocError> {
+        set(&mut self.met, place, self.clock);
+        set(&mut self.low, place, self.clock);
+        self.clock = self.clock.saturating_add(1);
+        self.open.push(place)?;
+        self.frames.push(Frame { place, next: 0 })?;
+        Ok(())
+    }
+
+    // Follows one move.
+    fn follow(&mut self, graph: Graph<A>, frame: Frame) -> Result<(), AllocError> {
+        if let Some(top) = self.frames.last_mut() {
+            top.next = frame.next.saturating_add(1);
+        }
+        let Some(to) = graph.lead_by(frame.place, frame.next) else {
+            return Ok(());
+        };
+        if at(&self.met, to) == NOWHERE {
+            return self.enter(to);
+        }
+        if at(&self.waits.numbers, to) == NOWHERE {
+            let when = at(&self.met, to);
+            self.lower(frame.place, when);
+        }
+        Ok(())
+    }
+
+    // The position at this place leads to what was met then.
+    fn lower(&mut self, place: usize, when: usize) {
+        let low = at(&self.low, place);
+        set(&mut self.low, place, low.min(when));
+    }
+
+    // All moves from the position at this place are followed.
+    fn leave(&mut self, place: usize) -> Result<(), AllocError> {
+        self.frames.pop();
+        let low = at(&self.low, place);
+        if let Some(parent) = self.frames.last().copied() {
+            self.lower(parent.place, low);
+        }
+        if low != at(&self.met, place) {
+            return Ok(());
+        }
+        self.close(place)
+    }
+
+    // The positions that are open from this place on are a wait.
+    fn close(&mut self, first: usize) -> Result<(), AllocError> {
+        for _ in 0..self.open.len() {
+            let Some(place) = self.open.pop() else {
+                break;
+            };
+            set(&mut self.waits.numbers, place, self.waits.count);
+            self.waits.order.push(place)?;
+            if place == first {
+                break;
+            }
+        }
+        self.waits.count = self.waits.count.saturating_add(1);
+        Ok(())
+    }
+}
+
+// A list of so many times `NOWHERE`.
+fn nowhere<A: Allocator>(alloc: A, count: usize) -> Result<Vec<usize, A>, AllocError> {
+    vec![in alloc; NOWHERE; count]
+}
+
+/// The value at this place, or `NOWHERE`.
+pub(crate) fn at(values: &[usize], place: usize) -> usize {
+    match values.get(place) {
+        Some(value) => *value,
+        None => NOWHERE,
+    }
+}
+
+// Writes the value at this place, if it is there.
+fn set(values: &mut [usize], place: usize, value: usize) {
+    if let Some(known) = values.get_mut(place) {
+        *known = value;
+    }
+}
