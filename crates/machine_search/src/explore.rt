@@ -19,63 +19,87 @@ use machine_explore::sequence::Sequence;
 use queue_steps::steps::Kind;
 use std::alloc::Allocator;
 
-/// What a program does: its outcomes, for each a shortest schedule, and what was found on the way to them.
+/// What was found of a program. Nothing rests on it: it is shown to be right once more.
 #[derive(Drop)]
-pub struct Explored<A: Allocator> {
-    /// The outcomes, each once.
-    pub outcomes: Vec<Outcome<A>, A>,
-    /// For each outcome the moves, behind the calls that come first, that lead to it.
-    pub schedules: Vec<Sequence<Move, A>, A>,
+pub struct Found<A: Allocator> {
     /// The positions of the program.
     pub table: Table<A>,
     /// The outcomes as they were found, and where the table has them.
     pub ends: Ends<A>,
 }
 
-/// All outcomes of the program, each with a shortest schedule.
+/// What a program does: its outcomes, and for each a shortest schedule.
+#[derive(Drop)]
+pub struct Explored<A: Allocator> {
+    /// The outcomes, each once.
+    pub outcomes: Vec<Outcome<A>, A>,
+    /// For each outcome the moves, behind the calls that come first, that lead to it.
+    pub schedules: Vec<Sequence<Move, A>, A>,
+}
+
+/// Walks over the positions of the program.
+///
+/// # Errors
+///
+/// As of `find`.
+pub fn search<A: Allocator + Copy>(
+    alloc: A,
+    kind: Kind,
+    refuses: bool,
+    program: &Program<A>,
+) -> Result<Found<A>, SearchFault>
+    requires { CanReplay kind }
+{
+    let table = find(alloc, kind, refuses, program)?;
+    let ends = collect_ends(alloc, program, &table)?;
+    Ok(Found { table, ends })
+}
+
+/// All outcomes of the program, each with a shortest schedule, in this order of those that were found.
 ///
 /// With `refuses` each request for a block may also be refused.
 ///
 /// # Errors
 ///
-/// As of `find`, and `NotShown` where the check of what was found says no.
-pub fn explore<A: Allocator + Copy>(
+/// `NoMemory`, and `NotShown` where the check of what was found says no, as it does where one of the outcomes is not named.
+pub fn show<A: Allocator + Copy>(
     alloc: A,
     kind: Kind,
     refuses: bool,
     program: &Program<A>,
+    found: &Found<A>,
+    order: &[usize],
 ) -> Result<Explored<A>, SearchFault>
     requires { CanReplay kind }
-    ensures no_other { IfOk result (λ found. HasNoOther kind refuses program.now.before program.now.parties.items found.outcomes.items) }
-    ensures shown { IfOk result (λ found. AllZip (IsOutcomeOf kind refuses program.now.before program.now.parties.items) found.schedules.items found.outcomes.items) }
+    ensures no_other { IfOk result (λ all. HasNoOther kind refuses program.now.before program.now.parties.items all.outcomes.items) }
+    ensures shown { IfOk result (λ all. AllZip (IsOutcomeOf kind refuses program.now.before program.now.parties.items) all.schedules.items all.outcomes.items) }
 {
-    let table = find(alloc, kind, refuses, program)?;
-    let ends = collect_ends(alloc, program, &table)?;
-    let schedules = schedules_of(alloc, program.parties.len(), &table, &ends)?;
+    let schedules = schedules_of(alloc, program.parties.len(), found, order)?;
     let outcomes = certified(alloc, kind, refuses, program, &schedules)?;
-    if !check(alloc, kind, refuses, program, &table, &outcomes)? {
+    if !check(alloc, kind, refuses, program, &found.table, &outcomes)? {
         return Err(SearchFault::NotShown);
     }
     Ok(Explored {
         outcomes,
         schedules,
-        table,
-        ends,
     })
 }
 
-// A shortest schedule for each outcome.
+// A shortest schedule for each of these outcomes.
 fn schedules_of<A: Allocator + Copy>(
     alloc: A,
     parties: usize,
-    table: &Table<A>,
-    ends: &Ends<A>,
+    found: &Found<A>,
+    order: &[usize],
 ) -> Result<Vec<Sequence<Move, A>, A>, SearchFault> {
-    let graph = Graph { table, parties };
+    let graph = Graph {
+        table: &found.table,
+        parties,
+    };
     let paths = Paths::new(alloc, graph)?;
     let mut schedules = Vec::new(alloc);
-    for outcome in 0..ends.outcomes.len() {
-        schedules.push(paths.schedule(alloc, graph, ends, outcome)?)?;
+    for outcome in order {
+        schedules.push(paths.schedule(alloc, graph, &found.ends, *outcome)?)?;
     }
     Ok(schedules)
 }

@@ -1,5 +1,5 @@
 use Rattle.std.proofs.Common.{sym}
-use Rattle.machine_search.proofs.explore.explore.Goals as goal
+use Rattle.machine_search.proofs.explore.show.Goals as goal
 
 -- the check said yes
 pub returns-clause-no_other : goal.returns-clause-no_other
