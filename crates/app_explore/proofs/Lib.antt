@@ -4,3 +4,4 @@ pub mod Programs
 pub mod Replying
 pub mod Moving
 pub mod Making
+pub mod OutcomeLines

@@ -5,3 +5,6 @@ pub mod Reads
 pub mod Outcomes
 pub mod Schedules
 pub mod Stops
+pub mod Tails
+pub mod Listings
+pub mod Commands

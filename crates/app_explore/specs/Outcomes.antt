@@ -30,9 +30,3 @@ outcome_text replies left = parties_text 0 replies ++ codes "left" ++ items_text
 -- the line of the outcome of this number
 abbrev pub outcome_line : ℕ → List ℕ → List ℕ → List ℕ
 outcome_line n outcome tail = codes "outcome " ++ decimal n ++ codes " | " ++ outcome ++ tail ++ 10 ∷ []
-
-abbrev pub steps_text : ℕ → List ℕ
-steps_text steps = codes " | steps " ++ decimal steps
-
-abbrev pub all_text : ℕ → List ℕ
-all_text outcomes = codes "all " ++ decimal outcomes ++ codes " outcomes" ++ 10 ∷ []

@@ -7,7 +7,7 @@ use Rattle.app_explore.specs.declared.faults.Stop.{Stop}
 use Rattle.app_explore.specs.declared.faults.Stop.TheVariants as stop
 
 abbrev pub stop_text : Stop → List ℕ
-stop_text (stop.Fault fault.Usage) = codes "usage: queue_explore KIND | KIND refuse | KIND schedule N | KIND refuse schedule N | KIND lanes N | KIND refuse lanes N"
+stop_text (stop.Fault fault.Usage) = codes "usage: queue_explore KIND | KIND refuse | KIND schedule N | KIND refuse schedule N"
 stop_text (stop.Fault f) = fault_text f
 stop_text stop.TooManyStates = codes "too many states"
 stop_text (stop.NoOutcome n) = codes "no outcome " ++ decimal n

@@ -14,8 +14,6 @@ pub enum Wanted {
     Outcomes,
     /// The lines of the schedule of the outcome of this number, counted from 1.
     Schedule(u64),
-    /// The schedule of the outcome of this number, counted from 1, with a column for each party.
-    Lanes(u64),
 }
 
 /// What the arguments ask for.
@@ -88,7 +86,6 @@ fn parse_schedule(word: &str, number: &str) -> Option<Wanted>
     let number = parse_outcome_number(number)?;
     match word {
         "schedule" => Some(Wanted::Schedule(number)),
-        "lanes" => Some(Wanted::Lanes(number)),
         _ => None,
     }
 }

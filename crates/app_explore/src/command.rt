@@ -1,4 +1,11 @@
 //! The whole explorer as a function of its arguments, its input and its two outputs.
+ghost use Rattle.std.specs.Prelude.{◌≡◌, IfOk, MatchResult, map, string_bytes};
+ghost use Rattle.machine_replay.specs.Replays.{CanReplay};
+ghost use Rattle.app_text.specs.KindNames.{IsKindName};
+ghost use Rattle.app_explore.specs.Listings.{IsTold, kind_of};
+ghost use Rattle.app_explore.specs.Commands.{IsEnd, IsExplored, IsStopOf};
+ghost use Rattle.app_explore.specs.Stops.{stop_status};
+
 use crate::args::{Request, Wanted, parse_request};
 use crate::faults::Stop;
 use crate::listing::{Task, list_outcomes, list_schedule};
@@ -19,7 +26,10 @@ pub fn command<A: Allocator, I: Read, O: Write, F: Write>(
     input: &mut I,
     output: &mut O,
     faults: &mut F,
-) -> u8 {
+) -> u8
+    ensures end { IsEnd (map string_bytes args.now) (I.remaining input.old) (O.contents output.old) (O.contents output.new) result }
+    ensures quiet { result ≡ 0 → faults.new ≡ faults.old }
+{
     match explore(alloc, args, input, output) {
         Ok(()) => 0,
         Err(stop) => tell(stop, faults),
@@ -27,7 +37,9 @@ pub fn command<A: Allocator, I: Read, O: Write, F: Write>(
 }
 
 /// Tells why the explorer stops, and answers the status to end with.
-pub fn tell<F: Write>(stop: Stop, faults: &mut F) -> u8 {
+pub fn tell<F: Write>(stop: Stop, faults: &mut F) -> u8
+    ensures { result ≡ stop_status stop }
+{
     let _ = writeln!(faults, "{stop}");
     stop.status()
 }
@@ -38,7 +50,11 @@ fn explore<A: Allocator, I: Read, O: Write>(
     args: &[String],
     input: &mut I,
     output: &mut O,
-) -> Result<(), Stop> {
+) -> Result<(), Stop>
+    ensures { MatchResult result
+        (λ _. IsExplored (map string_bytes args.now) (I.remaining input.old) (O.contents output.old) (O.contents output.new))
+        (IsStopOf (map string_bytes args.now) (I.remaining input.old) (O.contents output.old) (O.contents output.new)) }
+{
     let Some(request) = parse_request(args) else {
         return Err(Stop::Fault(Fault::Usage));
     };
@@ -46,7 +62,10 @@ fn explore<A: Allocator, I: Read, O: Write>(
         Ok(bytes) => bytes,
         Err(fault) => return Err(Stop::Fault(fault)),
     };
-    let text = told(alloc, request, &bytes)?;
+    let text = match told(alloc, request, &bytes) {
+        Ok(text) => text,
+        Err(stop) => return Err(stop),
+    };
     match write_output(output, text.as_bytes()) {
         Ok(()) => Ok(()),
         Err(fault) => Err(Stop::Fault(fault)),
@@ -62,7 +81,10 @@ pub fn told<'a, A: Allocator>(
     alloc: &'a A,
     request: Request,
     text: &[u8],
-) -> Result<String<&'a A>, Stop> {
+) -> Result<String<&'a A>, Stop>
+    requires { IsKindName request.kind }
+    ensures { IfOk result (λ told. IsTold request text.now (string_bytes told)) }
+{
     let program = match read_program(alloc, text) {
         Ok(program) => program,
         Err(fault) => return Err(Stop::Fault(fault)),
@@ -75,12 +97,15 @@ pub fn told<'a, A: Allocator>(
     match request.wanted {
         Wanted::Outcomes => list_outcomes(alloc, &task),
         Wanted::Schedule(number) => list_schedule(alloc, &task, number),
-        Wanted::Lanes(_) => Err(Stop::Fault(Fault::Usage)),
     }
 }
 
 // The kind of queue that this name names.
-fn kind_of(kind: KindName) -> Kind {
+fn kind_of(kind: KindName) -> Kind
+    requires { IsKindName kind }
+    ensures kind { result ≡ kind_of kind }
+    ensures can { CanReplay result }
+{
     match kind {
         KindName::Single | KindName::Bounded(1) => Kind::Single,
         KindName::Bounded(cap) => Kind::Bounded(cap),

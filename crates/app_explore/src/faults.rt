@@ -37,7 +37,7 @@ impl fmt::Display for Stop {
     fn fmt<W: fmt::Write>(&self, f: &mut fmt::Formatter<W>) -> fmt::Result {
         match self {
             Stop::Fault(Fault::Usage) => f.write_str(
-                "usage: queue_explore KIND | KIND refuse | KIND schedule N | KIND refuse schedule N | KIND lanes N | KIND refuse lanes N",
+                "usage: queue_explore KIND | KIND refuse | KIND schedule N | KIND refuse schedule N",
             ),
             Stop::Fault(fault) => write!(f, "{fault}"),
             Stop::TooManyStates => f.write_str("too many states"),

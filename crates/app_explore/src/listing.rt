@@ -1,8 +1,15 @@
 //! What is told of a program: a line for each outcome, or the schedule of one.
+ghost use Rattle.std.specs.Prelude.{◌≡◌, ◌++◌, length, map, string_bytes, IfOk, OnOk};
+ghost use Rattle.std.specs.List.{AllZip};
+ghost use Rattle.machine_replay.specs.Replays.{CanReplay};
+ghost use Rattle.machine_explore.specs.Certified.{IsOutcomeOf};
+ghost use Rattle.machine_explore.specs.Explored.{HasNoOther};
+ghost use Rattle.app_explore.specs.Listings.{AreMoves, AreOutcomes, IsListing, IsScheduleOf, outcome_lines};
+
 use crate::faults::Stop;
 use crate::outcomes::{write_outcome, write_outcome_line};
 use crate::schedules::{Taken, write_schedule};
-use crate::tails::{write_count, write_tail};
+use crate::tails::{write_last, write_tail};
 use app_text::faults::Fault;
 use machine_explore::outcome::Outcome;
 use machine_explore::position::Position;
@@ -40,26 +47,23 @@ struct Shown<A: Allocator> {
 ///
 /// # Errors
 ///
-/// As of `find_all`.
-pub fn list_outcomes<A: Allocator + Copy>(alloc: A, task: &Task<A>) -> Result<String<A>, Stop> {
+/// `NoMemory`, also where no queue may have the capacity, `TooManyStates`, and `NotShown`.
+pub fn list_outcomes<A: Allocator + Copy>(alloc: A, task: &Task<A>) -> Result<String<A>, Stop>
+    requires { CanReplay task.now.kind }
+    ensures { IfOk result (λ text. IsListing task.now.kind task.now.refuses task.now.program.before task.now.program.parties.items (string_bytes text)) }
+{
     let all = find_all(alloc, task)?;
-    let parties = task.program.parties.len();
-    let schedules = counts(alloc, parties, &all.found.table, &all.found.ends)?;
+    let schedules = schedule_counts(alloc, task, &all)?;
+    let tails = write_tails(alloc, task, &all, &schedules)?;
+    let lone = longest_lone_call(task.program.parties.len(), &all.found.table)?;
     let mut text = String::new(alloc);
-    let mut total: Count = Some(0);
-    for (index, outcome) in all.explored.outcomes.iter().enumerate() {
-        let count = match all.order.get(index) {
-            Some(number) => schedules.get(*number).copied().unwrap_or(Some(0)),
-            None => Some(0),
-        };
-        total = sum(total, count);
-        let steps = match all.explored.schedules.get(index) {
-            Some(schedule) => steps_of(&task.program, schedule.as_slice()),
-            None => 0,
-        };
-        write_line(alloc, task, index, outcome, count, steps, &mut text)?;
-    }
-    write_last(parties, &all, total, &mut text)?;
+    write_lines(alloc, &all.explored.outcomes, &tails, &mut text)?;
+    write_last(
+        all.explored.outcomes.len(),
+        total(&schedules),
+        lone,
+        &mut text,
+    )?;
     Ok(text)
 }
 
@@ -67,20 +71,20 @@ pub fn list_outcomes<A: Allocator + Copy>(alloc: A, task: &Task<A>) -> Result<St
 ///
 /// # Errors
 ///
-/// As of `find_all`, and `NoOutcome`.
+/// As of `list_outcomes`, and `NoOutcome`.
 pub fn list_schedule<A: Allocator + Copy>(
     alloc: A,
     task: &Task<A>,
     number: u64,
-) -> Result<String<A>, Stop> {
+) -> Result<String<A>, Stop>
+    requires { CanReplay task.now.kind }
+    ensures { IfOk result (λ text. IsScheduleOf task.now.kind task.now.refuses task.now.program.before task.now.program.parties.items number (string_bytes text)) }
+{
     let all = find_all(alloc, task)?;
-    let index = number.saturating_sub(1);
-    if index >= all.explored.schedules.len() as u64 {
+    if number == 0 || number > all.explored.schedules.len() as u64 {
         return Err(Stop::NoOutcome(number));
     }
-    let Some(schedule) = all.explored.schedules.get(index as usize) else {
-        return Err(Stop::NoOutcome(number));
-    };
+    let schedule = &all.explored.schedules[(number - 1) as usize];
     let taken = take_moves(alloc, task, schedule.as_slice())?;
     let mut text = String::new(alloc);
     write_schedule(task.program.before.as_slice(), &taken, &mut text)?;
@@ -88,10 +92,20 @@ pub fn list_schedule<A: Allocator + Copy>(
 }
 
 // What was found of a task, and shown to be all.
-fn find_all<A: Allocator + Copy>(alloc: A, task: &Task<A>) -> Result<Shown<A>, Stop> {
+fn find_all<A: Allocator + Copy>(alloc: A, task: &Task<A>) -> Result<Shown<A>, Stop>
+    requires { CanReplay task.now.kind }
+    ensures { IfOk result (λ all. AreOutcomes task.now.kind task.now.refuses task.now.program.before task.now.program.parties.items all.explored.schedules.items all.explored.outcomes.items) }
+{
     let found = search(alloc, task.kind, task.refuses, &task.program)?;
     let order = sorted(alloc, &found.ends.outcomes)?;
-    let explored = show(alloc, task.kind, task.refuses, &task.program, &found, &order)?;
+    let explored = show(
+        alloc,
+        task.kind,
+        task.refuses,
+        &task.program,
+        &found,
+        &order,
+    )?;
     Ok(Shown {
         found,
         order,
@@ -118,42 +132,69 @@ fn sorted<A: Allocator + Copy>(
     Ok(order)
 }
 
-// Appends the line of an outcome.
-fn write_line<A: Allocator + Copy>(
+// How many schedules lead to each outcome, in the order in which they are told.
+fn schedule_counts<A: Allocator + Copy>(
     alloc: A,
     task: &Task<A>,
-    index: usize,
-    outcome: &Outcome<A>,
-    schedules: Count,
-    steps: usize,
-    text: &mut String<A>,
-) -> Result<(), Stop> {
-    let order = order_of(alloc, task.kind, task.refuses, &task.program, outcome)?;
-    let mut key = String::new(alloc);
-    write_outcome(outcome.replies(), outcome.left(), &mut key)?;
-    let mut tail = String::new(alloc);
-    let parties = match &order {
-        Some(parties) => Some(parties.as_slice()),
-        None => None,
-    };
-    write_tail(schedules, steps, parties, &mut tail)?;
-    let number = (index as u64).saturating_add(1);
-    write_outcome_line(number, key.as_str(), tail.as_str(), text)?;
-    Ok(())
+    all: &Shown<A>,
+) -> Result<Vec<Count, A>, Stop> {
+    let parties = task.program.parties.len();
+    let found = counts(alloc, parties, &all.found.table, &all.found.ends)?;
+    let mut told = Vec::new(alloc);
+    for number in all.order.as_slice() {
+        told.push(found.get(*number).copied().unwrap_or(Some(0)))?;
+    }
+    Ok(told)
 }
 
-// Appends the line of all outcomes.
-fn write_last<A: Allocator + Copy>(
-    parties: usize,
+// The sum of numbers of schedules.
+fn total(schedules: &[Count]) -> Count {
+    let mut total = Some(0);
+    for count in schedules {
+        total = sum(total, *count);
+    }
+    total
+}
+
+// What is told of each outcome behind its text.
+fn write_tails<A: Allocator + Copy>(
+    alloc: A,
+    task: &Task<A>,
     all: &Shown<A>,
-    total: Count,
+    schedules: &[Count],
+) -> Result<Vec<String<A>, A>, Stop>
+    ensures { IfOk result (λ tails. length tails.items ≡ length all.now.explored.outcomes.items) }
+{
+    let mut tails = Vec::new(alloc);
+    for (index, outcome) in all.explored.outcomes.iter().enumerate() {
+        let count = schedules.get(index).copied().unwrap_or(Some(0));
+        let steps = match all.explored.schedules.get(index) {
+            Some(schedule) => steps_of(&task.program, schedule.as_slice()),
+            None => 0,
+        };
+        let order = order_of(alloc, task.kind, task.refuses, &task.program, outcome)?;
+        let mut tail = String::new(alloc);
+        write_tail(count, steps, &order, &mut tail)?;
+        tails.push(tail)?;
+    }
+    Ok(tails)
+}
+
+// Appends the line of each outcome.
+fn write_lines<A: Allocator + Copy>(
+    alloc: A,
+    outcomes: &[Outcome<A>],
+    tails: &[String<A>],
     text: &mut String<A>,
-) -> Result<(), Stop> {
-    let lone = longest_lone_call(parties, &all.found.table)?;
-    let outcomes = all.explored.outcomes.len();
-    write!(text, "all {outcomes} outcomes, ")?;
-    write_count(total, text)?;
-    writeln!(text, " schedules, longest lone call {lone}")?;
+) -> Result<(), AllocError>
+    requires { length tails.now ≡ length outcomes.now }
+    ensures { OnOk result (string_bytes text.new ≡ string_bytes text.old ++ outcome_lines 1 outcomes.now (map string_bytes tails.now)) }
+{
+    for (index, outcome) in outcomes.iter().enumerate() {
+        let mut key = String::new(alloc);
+        write_outcome(outcome.replies(), outcome.left(), &mut key)?;
+        write_outcome_line(index as u64 + 1, key.as_str(), tails[index].as_str(), text)?;
+    }
     Ok(())
 }
 
@@ -162,7 +203,10 @@ fn take_moves<A: Allocator + Copy>(
     alloc: A,
     task: &Task<A>,
     schedule: &[Move],
-) -> Result<Vec<Taken, A>, Stop> {
+) -> Result<Vec<Taken, A>, Stop>
+    requires { CanReplay task.now.kind }
+    ensures { IfOk result (λ taken. AreMoves schedule.now taken.items) }
+{
     let Some(mut position) = Position::start(alloc, task.kind, &task.program)? else {
         return Err(Stop::NotShown);
     };

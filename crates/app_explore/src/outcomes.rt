@@ -1,6 +1,6 @@
 //! How outcomes are printed.
 ghost use Rattle.std.specs.Prelude.{◌≡◌, ◌++◌, OnOk, string_bytes};
-ghost use Rattle.app_explore.specs.Outcomes.{lead_text, all_text, outcome_line, outcome_text, replies_text, steps_text};
+ghost use Rattle.app_explore.specs.Outcomes.{lead_text, outcome_line, outcome_text, replies_text};
 
 use app_text::items::write_items;
 use app_text::replies::Shown;
@@ -35,20 +35,6 @@ pub fn write_outcome_line<B: Allocator>(
     ensures { OnOk result (string_bytes text.new ≡ string_bytes text.old ++ outcome_line number outcome.now tail.now) }
 {
     writeln!(text, "outcome {number} | {outcome}{tail}")
-}
-
-/// Appends the part of an outcome's tail that tells of the fewest steps that reach it.
-pub fn write_steps<B: Allocator>(steps: u64, text: &mut String<B>) -> Result<(), AllocError>
-    ensures { OnOk result (string_bytes text.new ≡ string_bytes text.old ++ steps_text steps) }
-{
-    write!(text, " | steps {steps}")
-}
-
-/// Appends the last line, with the number of outcomes.
-pub fn write_all<B: Allocator>(outcomes: u64, text: &mut String<B>) -> Result<(), AllocError>
-    ensures { OnOk result (string_bytes text.new ≡ string_bytes text.old ++ all_text outcomes) }
-{
-    writeln!(text, "all {outcomes} outcomes")
 }
 
 // Appends the replies of a party, each behind a space, with a semicolon between each two.

@@ -59,7 +59,7 @@ replies_by-snoc p (x ∷ es) (y ∷ ts) e t same =
 replies_by-snoc p [] (y ∷ ts) e t same = cc
 replies_by-snoc p (x ∷ es) [] e t same = cc
 
-AllZip-more : {X Y : Type 0} (R : X → Y → Type 0) (xs : List X) (ys : List Y) (x : X) (y : Y) → AllZip R xs ys → R x y → AllZip R (xs ++ x ∷ []) (ys ++ y ∷ [])
+pub AllZip-more : {X Y : Type 0} (R : X → Y → Type 0) (xs : List X) (ys : List Y) (x : X) (y : Y) → AllZip R xs ys → R x y → AllZip R (xs ++ x ∷ []) (ys ++ y ∷ [])
 AllZip-more R [] [] x y all one = (one, tt)
 AllZip-more R (a ∷ xs) (b ∷ ys) x y all one = (all.0, AllZip-more R xs ys x y all.1 one)
 AllZip-more R [] (b ∷ ys) x y all one = absurd all
@@ -94,7 +94,7 @@ is_way {R} {T} p granted None (Some c) e is =
     by_told (Ran k r) = inr (c, refl, refl)
 is_way p granted None None e is = cc
 
-is_move : {R : Type 0} (m : Move) (o : Option R) (next : Option (Call ℕ)) (e : Event ℕ) → event_for m.party m.granted o next ≡ Some e → IsMove m e
+pub is_move : {R : Type 0} (m : Move) (o : Option R) (next : Option (Call ℕ)) (e : Event ℕ) → event_for m.party m.granted o next ≡ Some e → IsMove m e
 is_move m (Some r) next e is = let same : Step m.party m.granted ≡ e = cc in let P : Event ℕ → Type 0 = λ x. IsMove m x in subst P same (refl, refl)
 is_move m None (Some c) e is = let same : Begin m.party c ≡ e = cc in let P : Event ℕ → Type 0 = λ x. IsMove m x in subst P same refl
 is_move m None None e is = cc

@@ -1,0 +1,44 @@
+-- How the explorer may end.
+use Rattle.std.specs.Prelude.{◌≡◌, ◌⊎◌, ℕ, List, Option}
+use Rattle.std.specs.Io.KnownBytes.{Appends, Keeps}
+use Rattle.app_text.specs.Streams.{IsBegun, IsInput}
+use Rattle.app_text.specs.declared.faults.Fault.TheVariants as fault
+use Rattle.app_explore.specs.Listings.{IsTold}
+use Rattle.app_explore.specs.Requests.{IsRequest, request_words}
+use Rattle.app_explore.specs.Stops.{stop_status}
+use Rattle.app_explore.specs.declared.args.Request.{Request}
+use Rattle.app_explore.specs.declared.faults.Stop.{Stop}
+use Rattle.app_explore.specs.declared.faults.Stop.TheVariants as stop
+
+-- the arguments ask for this
+abbrev pub AskFor : List (List ℕ) → Request → Type 0
+AskFor words r = IsRequest r × (request_words r ≡ words)
+
+-- what the arguments ask for was told of the program that the input names, and all of it was written
+pub record IsExplored (words : List (List ℕ)) (known old new : Option (List ℕ)) : Type 0 where
+  pub request : Request
+  pub asked : AskFor words request
+  pub bytes : List ℕ
+  pub input : IsInput known bytes
+  pub text : List ℕ
+  pub told : IsTold request bytes text
+  pub output : Appends old new text
+
+-- the same, and a beginning of it was written
+pub record IsBegunExplored (words : List (List ℕ)) (known old new : Option (List ℕ)) : Type 0 where
+  pub request : Request
+  pub asked : AskFor words request
+  pub bytes : List ℕ
+  pub input : IsInput known bytes
+  pub text : List ℕ
+  pub told : IsTold request bytes text
+  pub output : IsBegun old new text
+
+-- why it was not told. But for a failed write, nothing is written then
+abbrev pub IsStopOf : List (List ℕ) → Option (List ℕ) → Option (List ℕ) → Option (List ℕ) → Stop → Type 0
+IsStopOf words known old new (stop.Fault fault.OutputFailed) = Keeps old new ⊎ IsBegunExplored words known old new
+IsStopOf words known old new why = Keeps old new
+
+-- it ends with 0 where all was told, and else with the status of why it was not
+abbrev pub IsEnd : List (List ℕ) → Option (List ℕ) → Option (List ℕ) → Option (List ℕ) → ℕ → Type 0
+IsEnd words known old new status = ((status ≡ 0) × IsExplored words known old new) ⊎ ((why : Stop) × (status ≡ stop_status why) × IsStopOf words known old new why)
