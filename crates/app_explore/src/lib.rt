@@ -3,8 +3,12 @@
 
 pub mod args;
 mod calls;
+pub mod command;
 pub mod faults;
 pub mod limits;
+pub mod listing;
 pub mod outcomes;
+pub mod program;
 pub mod reading;
 pub mod schedules;
+mod tails;
