@@ -1,5 +1,5 @@
 //! What outcomes and schedules are printed as.
-use app_explore::outcomes::{write_all, write_outcome, write_outcome_line, write_steps};
+use app_explore::outcomes::{write_outcome, write_outcome_line};
 use app_explore::schedules::{Taken, write_schedule};
 use machine_explore::sequence::Sequence;
 use machine_replay::types::Event;
@@ -15,14 +15,11 @@ fn an_outcome_is_a_line(rt: HostRuntime) -> Result<(), AllocError> {
     let mut outcome = String::new(alloc);
     write_outcome(&replies, &[2, 3], &mut outcome)?;
     assert_eq!(rt; outcome.as_str(), "0: displaced 1 | 1: 1; 2 | left 2 3");
-    let mut tail = String::new(alloc);
-    write_steps(11, &mut tail)?;
     let mut text = String::new(alloc);
-    write_outcome_line(2, outcome.as_str(), tail.as_str(), &mut text)?;
-    write_all(4, &mut text)?;
+    write_outcome_line(2, outcome.as_str(), " | steps 11", &mut text)?;
     assert_eq!(rt;
         text.as_str(),
-        "outcome 2 | 0: displaced 1 | 1: 1; 2 | left 2 3 | steps 11\nall 4 outcomes\n"
+        "outcome 2 | 0: displaced 1 | 1: 1; 2 | left 2 3 | steps 11\n"
     );
     Ok(())
 }

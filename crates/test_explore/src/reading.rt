@@ -118,14 +118,7 @@ static REQUESTS: [(&str, Option<Request>); 10] = [
             wanted: Wanted::Schedule(1),
         }),
     ),
-    (
-        "single lanes 1",
-        Some(Request {
-            kind: KindName::Single,
-            refuses: false,
-            wanted: Wanted::Lanes(1),
-        }),
-    ),
+    ("single lanes 1", None),
     ("single refuse", None),
     ("single schedule 0", None),
     ("single schedule", None),
