@@ -1,6 +1,6 @@
 -- A program has no outcome but those that a checked table has.
-use Rattle.std.proofs.Common.{◌≡◌, ◌∙◌, ◌+◌, ◌<◌, ◌++◌, [], ℕ, Bool, true, false, List, None, length, map, refl, subst, sym, ap, arith, drop, zero-add}
-use Rattle.std.specs.Prelude.{replicate, slice_index_or, Contains}
+use Rattle.std.proofs.Common.{◌≡◌, ◌∙◌, ◌<◌, ◌++◌, ℕ, Bool, List, length, map, subst, sym, ap, arith, drop, zero-add}
+use Rattle.std.specs.Prelude.{slice_index_or, Contains}
 use Rattle.std.specs.List.{All, range_with_len}
 use Rattle.std.proofs.lemmas.List.{get_or-map, get_or-replicate, length-map, same_lists}
 use Rattle.std.proofs.lemmas.List.Elements.{All-contains, All-weaker}
@@ -13,14 +13,14 @@ use Rattle.machine_replay.specs.SharedMemory.{Shared, start_of, step_of}
 use Rattle.machine_replay.specs.World.{World}
 use Rattle.machine_replay.specs.declared.machine.Running.{Running}
 use Rattle.machine_replay.specs.declared.types.Event.{Event}
-use Rattle.machine_explore.specs.Explored.{HasNoOther, IsRunOf, Prepares, begun_by, outcome_of, replies_by}
+use Rattle.machine_explore.specs.Explored.{HasNoOther, Prepares, begun_by, outcome_of, replies_by}
 use Rattle.machine_explore.specs.Moves.{led}
 use Rattle.machine_replay.specs.Played.{told_of, world_after}
 use Rattle.machine_explore.specs.Positions.{IsFinal, Outcome, Progress, Standing, calls_of, no_progress, outcome_at, progress_of}
 use Rattle.machine_explore.specs.Starts.{IsStart}
 use Rattle.machine_explore.specs.Tables.{IsChecked, StaysForAll}
 use Rattle.machine_explore.proofs.Preparing.{PreparesBy, prepared_once}
-use Rattle.machine_explore.proofs.Reaching.{Arrives, Begins, HasParties, reaches}
+use Rattle.machine_explore.proofs.Reaching.{Begins, reaches}
 
 as_prepared : (k : Kind) (w : World (Shared ℕ) (Running ℕ)) (before : List (Call ℕ)) (events : List (Event ℕ)) → Prepares k w before events → PreparesBy (step_of k) (start_of k) w before events
 as_prepared k w before events all = record { alone = all.alone; begins = all.begins; rests = all.rests }

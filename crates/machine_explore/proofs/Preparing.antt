@@ -1,5 +1,5 @@
 -- Calls that party 0 makes alone, one after another, lead to one world, however many of the events are skipped.
-use Rattle.std.proofs.Common.{◌≡◌, ◌≢◌, ◌∙◌, ◌<◌, ◌==◌, ◌++◌, ◌∷◌, [], ℕ, Bool, true, false, if◌then◌else◌, ◌⊎◌, List, Option, Some, None, length, refl, subst, sym, ap, inl, inr, arith}
+use Rattle.std.proofs.Common.{◌≡◌, ◌≢◌, ◌∙◌, ◌++◌, ◌∷◌, [], ℕ, Bool, true, ◌⊎◌, List, Option, Some, None, refl, subst, sym, ap, inl, inr}
 use Rattle.std.specs.List.{All}
 use Rattle.std.proofs.lemmas.List.{append_cancel_left}
 use Rattle.std.proofs.lemmas.List.Elements.{All-head, All-tail}

@@ -1,24 +1,23 @@
 -- A table of standings that no move leaves has where every run comes, on any machine.
-use Rattle.std.proofs.Common.{◌≡◌, ◌≢◌, ◌∙◌, ◌+◌, ◌<◌, ◌==◌, ◌++◌, ◌∷◌, [], ℕ, Bool, true, false, if◌then◌else◌, ◌⊎◌, List, Option, Some, None, length, refl, subst, sym, ap, inl, inr, arith, append_assoc, append-nil, drop}
-use Rattle.std.specs.Prelude.{slice_get, slice_index_or, slice_set, Contains, ⊤, MatchOption}
+use Rattle.std.proofs.Common.{◌≡◌, ◌≢◌, ◌∙◌, ◌<◌, ◌==◌, ◌++◌, ◌∷◌, [], ℕ, Bool, true, false, if◌then◌else◌, ◌⊎◌, List, Option, Some, None, length, refl, subst, sym, ap, inl, inr, arith, append_assoc, append-nil, drop}
+use Rattle.std.specs.Prelude.{slice_get, Contains, ⊤, MatchOption}
 use Rattle.std.specs.List.{All}
 use Rattle.std.proofs.lemmas.Bool.{eq-eqb}
 use Rattle.std.proofs.lemmas.Bool.Decides.{eqb_tells}
 use Rattle.std.proofs.lemmas.List.{get_or-set_same, get_or-set_other, length-set}
 use Rattle.std.proofs.lemmas.List.Elements.{All-contains, All-head, All-tail}
 use Rattle.queue_steps.specs.declared.model.Call.{Call}
-use Rattle.queue_steps.specs.declared.model.Reply.{Reply}
 use Rattle.machine_replay.specs.Conforms.{party_of}
 use Rattle.machine_replay.specs.World.{Begun, Made, World, call_at, world_event}
 use Rattle.machine_replay.specs.declared.types.Event.{Event}
 use Rattle.machine_replay.specs.declared.types.Event.TheVariants.{Begin, Step}
 use Rattle.machine_replay.specs.declared.types.Told.{Told}
-use Rattle.machine_replay.specs.declared.types.Told.TheVariants.{Skipped, Ran}
+use Rattle.machine_replay.specs.declared.types.Told.TheVariants.{Skipped}
 use Rattle.machine_explore.specs.Explored.{begun_by, replies_by, IsGranted}
 use Rattle.machine_explore.specs.Moves.{advanced, call_in, event_at, event_for, led_by, reply_in}
 use Rattle.machine_replay.specs.Played.{told_by, world_by}
 use Rattle.machine_explore.specs.Positions.{At, Progress, calls_of, no_progress, progress_of}
-use Rattle.machine_explore.specs.Tables.{Stays, StaysForAll}
+use Rattle.machine_explore.specs.Tables.{StaysForAll}
 use Rattle.machine_explore.proofs.Walks.{CanTake, WentOn, granted_of, left_over, next_call, went_on}
 
 -- the run of these events from s ends there

@@ -1,5 +1,5 @@
 -- A run of the machine that is copied, or goes on, and where it then stands.
-use Rattle.std.proofs.Common.{◌≡◌, ◌∙◌, ◌++◌, ◌∷◌, [], ℕ, Bool, true, List, Option, Some, None, refl, sym, ap, subst}
+use Rattle.std.proofs.Common.{◌≡◌, ◌∙◌, ◌++◌, ◌∷◌, [], ℕ, Bool, true, List, Some, sym, ap}
 use Rattle.std.specs.Prelude.{map, option_map, slice_set}
 use Rattle.queue_steps.specs.declared.model.Reply.{Reply}
 use Rattle.machine_replay.specs.Left.{left_of}
@@ -9,13 +9,13 @@ use Rattle.machine_replay.specs.Conforms.{party_of}
 use Rattle.machine_replay.specs.Machine.{event_of}
 use Rattle.machine_replay.specs.MachineRuns.{Continues, IsSameMachineRun, IsSomeMachineRun}
 use Rattle.machine_replay.specs.SharedMemory.{Shared}
-use Rattle.machine_replay.specs.World.{World, call_at}
+use Rattle.machine_replay.specs.World.{World}
 use Rattle.machine_replay.specs.declared.machine.Running.{Running}
 use Rattle.machine_replay.specs.declared.machine_run.MachineRun.{MachineRun}
 use Rattle.machine_replay.specs.declared.types.Event.{Event}
 use Rattle.machine_replay.specs.declared.types.Told.{Told}
 use Rattle.machine_explore.specs.Moves.{advanced, event_at, led}
-use Rattle.machine_explore.specs.Positions.{Outcome, Progress, Standing, calls_of, outcome_at, progress_of}
+use Rattle.machine_explore.specs.Positions.{Outcome, Progress, Standing, outcome_at, progress_of}
 use Rattle.machine_explore.proofs.Showing.{event_party}
 
 pub copied-some : {T A : Type 0} (c d : MachineRun T A) → IsSameMachineRun c d → IsSomeMachineRun c → IsSomeMachineRun d

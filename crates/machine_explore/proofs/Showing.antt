@@ -1,12 +1,11 @@
 -- A schedule that goes on move by move is a run of the program.
 use Rattle.std.proofs.Common.{◌≡◌, ◌≢◌, ◌∙◌, ◌+◌, ◌<◌, ◌==◌, ◌++◌, ◌∷◌, [], ℕ, zero, suc, Bool, true, false, if◌then◌else◌, ◌⊎◌, List, Option, Some, None, length, refl, subst, sym, ap, inl, inr, arith, append_assoc, append-nil, take}
-use Rattle.std.specs.Prelude.{option_map, slice_get, slice_index_or, slice_set}
+use Rattle.std.specs.Prelude.{option_map, slice_get, slice_index_or}
 use Rattle.std.specs.List.{All, AllZip}
 use Rattle.std.proofs.lemmas.Bool.Decides.{eqb_tells}
 use Rattle.std.proofs.lemmas.List.{length-replicate, length-set, take_more, take_all}
 use Rattle.std.proofs.lemmas.List.Elements.{All-nil, All-push}
 use Rattle.queue_steps.specs.declared.model.Call.{Call}
-use Rattle.queue_steps.specs.declared.model.Reply.{Reply}
 use Rattle.queue_steps.specs.declared.steps.types.Kind.{Kind}
 use Rattle.machine_replay.specs.Conforms.{party_of}
 use Rattle.machine_replay.specs.Left.{opening_world}
@@ -21,7 +20,7 @@ use Rattle.machine_explore.specs.Certified.{IsMove, IsOutcomeOf}
 use Rattle.machine_explore.specs.Explored.{IsGranted, begun_by, replies_by}
 use Rattle.machine_explore.specs.Moves.{advanced, call_in, event_at, event_for, led, reply_in}
 use Rattle.machine_replay.specs.Played.{told_by, told_of, world_after, world_by}
-use Rattle.machine_explore.specs.Positions.{IsFinal, Outcome, Progress, Standing, calls_of, no_progress, outcome_at, progress_of}
+use Rattle.machine_explore.specs.Positions.{IsFinal, Progress, Standing, calls_of, no_progress, outcome_at, progress_of}
 use Rattle.machine_explore.specs.Starts.{IsStart}
 use Rattle.machine_explore.specs.declared.schedule.Move.{Move}
 use Rattle.machine_explore.proofs.NoOther.{ends_with, none_begun}

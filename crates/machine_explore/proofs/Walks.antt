@@ -1,11 +1,8 @@
--- A table of standings that no move leaves has where every run comes, on any machine.
-use Rattle.std.proofs.Common.{◌≡◌, ◌∙◌, ◌+◌, ◌<◌, ◌==◌, ◌++◌, ◌∷◌, [], ℕ, suc, zero, Bool, true, false, if◌then◌else◌, ◌⊎◌, List, Option, Some, None, length, refl, sym, ap, inl, inr, arith, append_assoc, append-nil, drop, ◌&&◌, nat_lt}
-use Rattle.std.specs.Prelude.{slice_get, slice_index_or, slice_set, is_none, Contains, ⊤}
-use Rattle.std.specs.Option.{MatchOption}
-use Rattle.std.specs.List.{All}
+-- What an event does to a machine: it is skipped, or its party goes on by it.
+use Rattle.std.proofs.Common.{◌≡◌, ◌∙◌, ◌+◌, ◌<◌, ◌++◌, ◌∷◌, [], ℕ, suc, zero, Bool, true, false, if◌then◌else◌, ◌⊎◌, List, Option, Some, None, length, refl, sym, ap, inl, inr, arith, drop, ◌&&◌, nat_lt}
+use Rattle.std.specs.Prelude.{slice_get, slice_index_or, is_none}
 use Rattle.std.proofs.lemmas.Bool.{ltb-true}
-use Rattle.std.proofs.lemmas.List.{get_or-set_same, get_or-set_other, length-set, drop-drop, drop_at}
-use Rattle.std.proofs.lemmas.List.Elements.{All-contains, All-head, All-tail}
+use Rattle.std.proofs.lemmas.List.{length-set, drop-drop, drop_at}
 use Rattle.queue_steps.specs.declared.model.Call.{Call}
 use Rattle.queue_steps.specs.declared.model.Reply.{Reply}
 use Rattle.machine_replay.specs.Conforms.{party_of}
@@ -15,10 +12,6 @@ use Rattle.machine_replay.specs.declared.types.Event.{Event}
 use Rattle.machine_replay.specs.declared.types.Event.TheVariants.{Begin, Step}
 use Rattle.machine_replay.specs.declared.types.Told.{Told}
 use Rattle.machine_replay.specs.declared.types.Told.TheVariants.{Skipped, Ran}
-use Rattle.machine_explore.specs.Explored.{begun_by, replies_by, IsGranted}
-use Rattle.machine_explore.specs.Moves.{advanced, call_in, event_at, event_for, led_by, reply_in}
-use Rattle.machine_replay.specs.Played.{told_by, world_by}
-use Rattle.machine_explore.specs.Positions.{At, Progress, calls_of, no_progress, progress_of}
 
 -- a party that is in this call, or in none, may take this event
 abbrev pub CanTake : {R T : Type 0} → Option R → Event T → Type 0

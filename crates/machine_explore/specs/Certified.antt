@@ -1,5 +1,5 @@
 -- When a schedule shows an outcome.
-use Rattle.std.specs.Prelude.{◌≡◌, ℕ, Bool, List, length, ⊤}
+use Rattle.std.specs.Prelude.{◌≡◌, ℕ, Bool, List, length}
 use Rattle.std.specs.List.{AllZip}
 use Rattle.queue_steps.specs.declared.model.Call.{Call}
 use Rattle.queue_steps.specs.declared.steps.types.Kind.{Kind}

@@ -1,5 +1,5 @@
 -- Which runs a program has, what each ends with, and when a list of outcomes has them all.
-use Rattle.std.specs.Prelude.{◌≡◌, ℕ, ◌+◌, ◌<◌, ◌==◌, Bool, true, false, if◌then◌else◌, None, List, [], ◌∷◌, ◌++◌, length, map, Contains}
+use Rattle.std.specs.Prelude.{◌≡◌, ℕ, ◌<◌, ◌==◌, Bool, true, false, if◌then◌else◌, None, List, [], ◌∷◌, ◌++◌, length, map, Contains}
 use Rattle.std.specs.List.{All, range_with_len}
 use Rattle.queue_steps.specs.declared.model.Call.{Call}
 use Rattle.queue_steps.specs.declared.model.Reply.{Reply}

@@ -6,7 +6,7 @@ use Rattle.queue_steps.specs.declared.steps.types.Kind.{Kind}
 use Rattle.machine_replay.specs.declared.types.Event.{Event}
 use Rattle.machine_replay.specs.declared.types.Event.TheVariants.{Begin, Step}
 use Rattle.machine_replay.specs.declared.types.Told.{Told}
-use Rattle.machine_replay.specs.declared.types.Told.TheVariants.{Skipped, Ran}
+use Rattle.machine_replay.specs.declared.types.Told.TheVariants.{Ran}
 use Rattle.machine_replay.specs.Conforms.{party_of}
 use Rattle.machine_replay.specs.SharedMemory.{step_of, start_of}
 use Rattle.machine_replay.specs.World.{Made, Begun, call_at, world_event}

@@ -1,11 +1,10 @@
-use Rattle.std.proofs.Common.{◌≡◌, ◌≤◌, ◌<◌, ◌∙◌, ap, arith, length, subst, sym, slice_index_or}
+use Rattle.std.proofs.Common.{◌≡◌, ◌≤◌, ◌<◌, ◌∙◌, ap, arith, length, subst, slice_index_or}
 use Rattle.std.proofs.lemmas.List.{take_all}
 use Rattle.std.proofs.lemmas.List.Elements.{All-more}
 use Rattle.std.specs.Prelude.{Contains}
 use Rattle.std.specs.List.{All}
-use Rattle.machine_explore.specs.Moves.{led}
 use Rattle.machine_explore.specs.Positions.{Standing}
-use Rattle.machine_explore.specs.Tables.{IsChecked, StaysForAll}
+use Rattle.machine_explore.specs.Tables.{IsChecked}
 use Rattle.machine_explore.proofs.NoOther.{no_other}
 use Rattle.machine_explore.proofs.check.check.Goals as goal
 
