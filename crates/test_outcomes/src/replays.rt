@@ -60,15 +60,20 @@ fn write_replies(
     ends: &mut String,
 ) -> Result<(), AllocError> {
     let number = format!(in alloc; "{party}")?;
-    let mut lead = " ";
+    let mut is_first = true;
     for line in told.lines() {
         if let Some(reply) = reply_in(line, number.as_str(), before) {
-            ends.push_str(lead)?;
+            ends.push_str(lead(is_first))?;
             ends.push_str(reply)?;
-            lead = "; ";
+            is_first = false;
         }
     }
     Ok(())
+}
+
+// What stands before a reply.
+fn lead(is_first: bool) -> &'static str {
+    if is_first { " " } else { "; " }
 }
 
 // The reply of the party that a line tells, if it tells one, of a line of the schedule behind the first ones.
