@@ -29,7 +29,7 @@ pub record AreOutcomes (k : Kind) (refuses : Bool) (before : List (Call ℕ)) (c
   pub no_other : HasNoOther k refuses before calls outcomes
   pub shown : AllZip (IsOutcomeOf k refuses before calls) schedules outcomes
 
--- the text has a line for each outcome of the program, and for no other, and a last line
+-- the text has a line for each outcome of the program, with something behind its text, and then a last part
 pub record IsListing (k : Kind) (refuses : Bool) (before : List (Call ℕ)) (calls : List (List (Call ℕ))) (text : List ℕ) : Type 0 where
   pub schedules : List (List Move)
   pub outcomes : List (Outcome ℕ)

@@ -31,7 +31,7 @@ pub struct Found<A: Allocator> {
 /// What a program does: its outcomes, and for each a shortest schedule.
 #[derive(Drop)]
 pub struct Explored<A: Allocator> {
-    /// The outcomes, each once.
+    /// The outcomes.
     pub outcomes: Vec<Outcome<A>, A>,
     /// For each outcome the moves, behind the calls that come first, that lead to it.
     pub schedules: Vec<Sequence<Move, A>, A>,
