@@ -1,6 +1,6 @@
 -- What is told of a program.
-use Rattle.std.specs.Prelude.{◌≡◌, ℕ, ◌+◌, ◌-◌, ◌<◌, ◌≤◌, ◌==◌, Bool, if◌then◌else◌, List, [], ◌∷◌, ◌++◌, length, slice_index_or}
-use Rattle.std.specs.List.{AllZip}
+use Rattle.std.specs.Prelude.{◌≡◌, ℕ, Option, ◌+◌, ◌-◌, ◌<◌, ◌≤◌, ◌==◌, Bool, if◌then◌else◌, List, [], ◌∷◌, ◌++◌, length, slice_index_or}
+use Rattle.std.specs.List.{All, AllZip}
 use Rattle.queue_steps.specs.declared.model.Call.{Call}
 use Rattle.queue_steps.specs.declared.steps.types.Kind.{Kind}
 use Rattle.queue_steps.specs.declared.steps.types.Kind.TheVariants as queue
@@ -14,6 +14,7 @@ use Rattle.machine_explore.specs.declared.schedule.Move.{Move}
 use Rattle.app_explore.specs.Outcomes.{outcome_line, outcome_text}
 use Rattle.app_explore.specs.Reads.{IsReadAs}
 use Rattle.app_explore.specs.Schedules.{schedule_text}
+use Rattle.app_explore.specs.Tails.{IsTail, last_text}
 use Rattle.app_explore.specs.declared.args.Request.{Request}
 use Rattle.app_explore.specs.declared.args.Wanted.{Wanted}
 use Rattle.app_explore.specs.declared.args.Wanted.TheVariants as wanted
@@ -29,15 +30,17 @@ pub record AreOutcomes (k : Kind) (refuses : Bool) (before : List (Call ℕ)) (c
   pub no_other : HasNoOther k refuses before calls outcomes
   pub shown : AllZip (IsOutcomeOf k refuses before calls) schedules outcomes
 
--- the text has a line for each outcome of the program, with something behind its text, and then a last part
+-- the text has a line for each outcome of the program, and for no other, and a last line
 pub record IsListing (k : Kind) (refuses : Bool) (before : List (Call ℕ)) (calls : List (List (Call ℕ))) (text : List ℕ) : Type 0 where
   pub schedules : List (List Move)
   pub outcomes : List (Outcome ℕ)
   pub are : AreOutcomes k refuses before calls schedules outcomes
   pub tails : List (List ℕ)
   pub counted : length tails ≡ length outcomes
-  pub last : List ℕ
-  pub text_is : text ≡ outcome_lines 1 outcomes tails ++ last
+  pub are_tails : All IsTail tails
+  pub total : Option ℕ
+  pub lone : ℕ
+  pub text_is : text ≡ outcome_lines 1 outcomes tails ++ last_text (length outcomes) total lone
 
 -- the events go by these moves
 abbrev pub AreMoves : List Move → List Taken → Type 0

@@ -1,6 +1,7 @@
 //! What is told of a program: a line for each outcome, or the schedule of one.
 ghost use Rattle.std.specs.Prelude.{◌≡◌, ◌++◌, length, map, string_bytes, IfOk, OnOk};
-ghost use Rattle.std.specs.List.{AllZip};
+ghost use Rattle.std.specs.List.{All};
+ghost use Rattle.app_explore.specs.Tails.{IsTail};
 ghost use Rattle.machine_replay.specs.Replays.{CanReplay};
 ghost use Rattle.machine_explore.specs.Certified.{IsOutcomeOf};
 ghost use Rattle.machine_explore.specs.Explored.{HasNoOther};
@@ -163,7 +164,8 @@ fn write_tails<A: Allocator + Copy>(
     all: &Shown<A>,
     schedules: &[Count],
 ) -> Result<Vec<String<A>, A>, Stop>
-    ensures { IfOk result (λ tails. length tails.items ≡ length all.now.explored.outcomes.items) }
+    ensures counted { IfOk result (λ tails. length tails.items ≡ length all.now.explored.outcomes.items) }
+    ensures tails { IfOk result (λ tails. All IsTail (map string_bytes tails.items)) }
 {
     let mut tails = Vec::new(alloc);
     for (index, outcome) in all.explored.outcomes.iter().enumerate() {
@@ -172,12 +174,26 @@ fn write_tails<A: Allocator + Copy>(
             Some(schedule) => steps_of(&task.program, schedule.as_slice()),
             None => 0,
         };
-        let order = order_of(alloc, task.kind, task.refuses, &task.program, outcome)?;
-        let mut tail = String::new(alloc);
-        write_tail(count, steps, &order, &mut tail)?;
+        let tail = tail_of(alloc, task, outcome, count, steps)?;
         tails.push(tail)?;
     }
     Ok(tails)
+}
+
+// What is told of an outcome behind its text, to which so many schedules lead, by so many steps at the fewest.
+fn tail_of<A: Allocator + Copy>(
+    alloc: A,
+    task: &Task<A>,
+    outcome: &Outcome<A>,
+    schedules: Count,
+    steps: usize,
+) -> Result<String<A>, Stop>
+    ensures { IfOk result (λ tail. IsTail (string_bytes tail)) }
+{
+    let order = order_of(alloc, task.kind, task.refuses, &task.program, outcome)?;
+    let mut tail = String::new(alloc);
+    write_tail(schedules, steps, &order, &mut tail)?;
+    Ok(tail)
 }
 
 // Appends the line of each outcome.

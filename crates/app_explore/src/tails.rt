@@ -1,6 +1,6 @@
 //! What is told of an outcome behind its text, and of all outcomes.
 ghost use Rattle.std.specs.Prelude.{◌≡◌, ◌++◌, OnOk, flat_map, string_bytes};
-ghost use Rattle.app_explore.specs.Tails.{count_text, last_text, order_text, tail_text, with_space};
+ghost use Rattle.app_explore.specs.Tails.{count_text, items_in, last_text, order_text, tail_text, with_space};
 
 use machine_search::counts::Count;
 use std::alloc::{AllocError, Allocator};
@@ -12,7 +12,7 @@ pub(crate) fn write_tail<A: Allocator>(
     order: &Option<Vec<usize, A>>,
     text: &mut String<A>,
 ) -> Result<(), AllocError>
-    ensures { OnOk result (string_bytes text.new ≡ string_bytes text.old ++ tail_text schedules steps order.now) }
+    ensures { OnOk result (string_bytes text.new ≡ string_bytes text.old ++ tail_text schedules steps (items_in order.now)) }
 {
     text.push_str(" | schedules ")?;
     write_count(schedules, text)?;
@@ -49,7 +49,7 @@ fn write_order<A: Allocator>(
     order: &Option<Vec<usize, A>>,
     text: &mut String<A>,
 ) -> Result<(), AllocError>
-    ensures { OnOk result (string_bytes text.new ≡ string_bytes text.old ++ order_text order.now) }
+    ensures { OnOk result (string_bytes text.new ≡ string_bytes text.old ++ order_text (items_in order.now)) }
 {
     match order {
         Some(parties) => write_parties(parties, text),
