@@ -4,6 +4,7 @@ use Rattle.queue_steps.specs.declared.sizes.TheConstants.{SOLO_STEPS}
 use Rattle.queue_steps.specs.declared.model.Call.{Call}
 use Rattle.machine_replay.specs.declared.types.Event.{Event}
 use Rattle.machine_replay.specs.declared.types.Event.TheVariants.{Begin, Step}
+pub use Rattle.machine_replay.specs.Conforms.{party_of}
 use Rattle.app_text.specs.Actions.{replay_line_text}
 use Rattle.app_text.specs.declared.actions.Action.{Action}
 use Rattle.app_text.specs.declared.actions.Action.TheVariants as action
@@ -17,11 +18,6 @@ lines_text lines = flat_map (λ l. replay_line_text l ++ 10 ∷ []) lines
 -- each call is begun by party 0, and run
 abbrev pub before_lines : List (Call ℕ) → List ReplayLine
 before_lines calls = flat_map (λ c. record { party = 0; action = action.Call c } ∷ record { party = 0; action = action.Run } ∷ []) calls
-
--- the party of an event
-abbrev pub party_of : Event ℕ → ℕ
-party_of (Begin p c) = p
-party_of (Step p granted) = p
 
 -- whether the event is a step of this party at which requests are granted
 abbrev pub is_step_of : ℕ → Event ℕ → Bool
