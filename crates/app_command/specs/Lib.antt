@@ -1,4 +1,3 @@
-pub mod Effects
 pub mod Left
 pub mod Scripts
 pub mod Runs

@@ -7,22 +7,13 @@ use Rattle.std.specs.declared.io.Error.{Error}
 use Rattle.std.specs.declared.io.ErrorKind.TheVariants.{OutOfMemory}
 use Rattle.std.specs.declared.vec.IntoIter.{IntoIter}
 use Rattle.app_text.specs.Faults.{fault_status}
+use Rattle.app_text.specs.Given.{IsAskedBy, MayLackMemory}
 use Rattle.app_text.specs.declared.faults.Fault.TheVariants as fault
 use Rattle.app_threads.specs.declared.sharing.Sharing.TheVariants as sharing
 use Rattle.app_command.specs.declared.command.Ended.{Ended}
 use Rattle.app_command.specs.Ends.{IsEnd}
 
 module _ {Z : Type 0} where
-  -- what was given asks by these words: all behind the program's name, however many. Arguments that are no text ask by none
-  abbrev pub IsAskedBy : Result (IntoIter (String Z) Z) Error → List (List ℕ) → Type 0
-  IsAskedBy (Ok args) words = words ≡ map string_bytes (drop 1 (into_iter_items args))
-  IsAskedBy (Err error) words = (error_kind error ≢ OutOfMemory) × (words ≡ [])
-
-  -- there was no memory for the arguments, or there may be none for the list of the words
-  abbrev pub MayLackMemory : Result (IntoIter (String Z) Z) Error → Type 0
-  MayLackMemory (Ok args) = ⊤
-  MayLackMemory (Err error) = error_kind error ≡ OutOfMemory
-
   -- the arguments are those by which it is asked, and the end is that of what they ask for
   pub record IsAskedEnd (given : Result (IntoIter (String Z) Z) Error) (known old new : Option (List ℕ)) (ended : Ended) : Type 0 where
     pub words : List (List ℕ)

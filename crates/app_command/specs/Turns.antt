@@ -12,7 +12,7 @@ use Rattle.app_text.specs.Replies.{reply_text}
 use Rattle.app_text.specs.declared.actions.Action.{Action}
 use Rattle.app_text.specs.declared.actions.Action.TheVariants as action
 use Rattle.app_text.specs.declared.actions.ReplayLine.{ReplayLine}
-use Rattle.app_command.specs.Effects.{effect_text}
+use Rattle.app_text.specs.Effects.{effect_text}
 use Rattle.app_command.specs.declared.turns.Turn.{Turn}
 
 abbrev pub event_by : ℕ → Action → Event ℕ

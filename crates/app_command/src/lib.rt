@@ -2,7 +2,6 @@
 #![tactic(auto)]
 
 pub mod command;
-mod effects;
 pub mod program;
 mod replay;
 mod script;

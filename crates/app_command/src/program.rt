@@ -1,15 +1,14 @@
 //! The whole program, with the arguments as the system gives them, and the status that it ends with.
-ghost use Rattle.std.specs.Prelude.{◌≡◌, IfOk, MatchResult, drop, map, string_bytes};
 ghost use Rattle.std.specs.Process.{exit_status};
-ghost use Rattle.std.specs.Vec.Iter.{into_iter_items};
-ghost use Rattle.app_command.specs.Programs.{IsAskedBy, IsEndOf, IsSomeEnd, MayLackMemory};
+ghost use Rattle.app_command.specs.Programs.{IsEndOf, IsSomeEnd};
 
 use crate::command::{Ended, command, lack_memory};
+use app_text::words::words_of;
 use app_threads::sharing::Sharing;
-use std::alloc::{AllocError, Allocator, Global};
+use std::alloc::Allocator;
 use std::env::Args;
 use std::io;
-use std::io::{ErrorKind, Read, Write};
+use std::io::{Read, Write};
 use std::process::ExitCode;
 use std::sync::Wait;
 use std::thread::Threads;
@@ -50,22 +49,4 @@ pub fn end<R: Threads + Wait + Sync + AllocGlobal, A: Allocator, I: Read, O: Wri
             sharing: Sharing::Nothing,
         },
     }
-}
-
-// The arguments behind the program's name.
-fn words_of(alloc: Global, given: io::Result<Args>) -> Result<Vec<String>, AllocError>
-    ensures { MatchResult result (λ words. IsAskedBy given (map string_bytes words.items)) (λ _. MayLackMemory given) }
-{
-    match given {
-        Ok(args) => Ok(behind_name(alloc, args)?),
-        Err(error) if error.kind() == ErrorKind::OutOfMemory => Err(AllocError),
-        Err(_) => Ok(Vec::new(alloc)),
-    }
-}
-
-// All arguments but the first.
-fn behind_name(alloc: Global, args: Args) -> Result<Vec<String>, AllocError>
-    ensures { IfOk result (λ words. words.items ≡ drop 1 (into_iter_items args)) }
-{
-    args.skip(1).collect(alloc)
 }

@@ -1,11 +1,9 @@
 //! A replay: calls and single steps of several parties, what each did, and the items that are left.
 ghost use Rattle.std.specs.Prelude.{◌≡◌, [], ◌∷◌, ◌++◌, replicate, IfOk, OnOk, MatchResult, string_bytes};
 ghost use Rattle.queue_steps.specs.declared.sizes.TheConstants.{SOLO_STEPS};
-ghost use Rattle.machine_replay.specs.Conforms.{capacity_of as capacity_of_kind};
 ghost use Rattle.machine_replay.specs.MachineRuns.{IsSomeMachineRun};
-ghost use Rattle.machine_replay.specs.Replays.{CanReplay};
 ghost use Rattle.app_text.specs.Actions.{replay_line_text, IsReplayLine};
-ghost use Rattle.app_text.specs.KindNames.{IsKindName, capacity_of};
+ghost use Rattle.app_text.specs.KindNames.{IsKindName};
 ghost use Rattle.app_text.specs.declared.actions.Action.TheVariants.{Run};
 ghost use Rattle.app_command.specs.Runs.{IsRun, IsRunFault};
 ghost use Rattle.app_command.specs.Reports.{IsReport, peak_text};
@@ -13,10 +11,10 @@ ghost use Rattle.app_command.specs.Left.{left_text};
 ghost use Rattle.app_command.specs.Takes.{Takes};
 ghost use Rattle.app_command.specs.Turns.{turn_count, turn_text, turns_from};
 
-use crate::effects::ShownEffect;
 use crate::turns::{Turn, event_of};
 use app_text::actions::{Action, ReplayLine};
 use app_text::args::KindName;
+use app_text::effects::ShownEffect;
 use app_text::faults::Fault;
 use app_text::items::write_items;
 use app_text::lines::read_lines;
@@ -25,7 +23,6 @@ use app_text::streams::{read_input, write_output};
 use machine_replay::machine_run::MachineRun;
 use machine_replay::types::{Peak, Told};
 use queue_steps::sizes::SOLO_STEPS;
-use queue_steps::steps::Kind;
 use std::alloc::{AllocError, Allocator};
 use std::io::{Read, Write};
 
@@ -68,26 +65,13 @@ pub fn report<'a, A: Allocator>(
     requires { IsKindName kind }
     ensures { IfOk result (λ text. IsReport kind parties lines.now (string_bytes text)) }
 {
-    let mut run = MachineRun::new(alloc, kind_of(kind), parties, 0)?;
+    let mut run = MachineRun::new(alloc, kind.kind(), parties, 0)?;
     let mut text = String::new(alloc);
     take_lines(alloc, &mut run, lines, &mut text)?;
     let ended = run.end(alloc)?;
     write_peak(kind, ended.peak, &mut text)?;
     write_left(&ended.left, &mut text)?;
     Ok(text)
-}
-
-// The kind of queue that this name names.
-fn kind_of(kind: KindName) -> Kind
-    requires { IsKindName kind }
-    ensures has { capacity_of_kind result ≡ capacity_of kind }
-    ensures can { CanReplay result }
-{
-    match kind {
-        KindName::Single | KindName::Bounded(1) => Kind::Single,
-        KindName::Bounded(cap) => Kind::Bounded(cap),
-        KindName::Unbounded => Kind::Unbounded,
-    }
 }
 
 // Appends the line that tells of the peak, if a queue of this kind has it.

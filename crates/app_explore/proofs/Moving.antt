@@ -4,19 +4,19 @@ use Rattle.std.proofs.lemmas.Bool.{ltb-true, ltb-false}
 use Rattle.queue_steps.specs.declared.sizes.TheConstants.{SOLO_STEPS}
 use Rattle.app_text.specs.declared.actions.Action.TheVariants as action
 use Rattle.app_text.specs.declared.actions.ReplayLine.{ReplayLine}
-use Rattle.app_explore.specs.declared.schedules.Taken.{Taken}
-use Rattle.app_explore.specs.Schedules.{party_of, plain_line, is_step_of, row_length, is_run, first_line, more_moves, move_lines}
+use Rattle.machine_explore.specs.Traces.{Seen}
+use Rattle.app_explore.specs.Schedules.{ends_call, party_of, plain_line, is_step_of, row_length, is_run, first_line, more_moves, move_lines}
 
-row_within : (k p : ℕ) (ts : List Taken) → row_length k p ts ≤ k + length ts
+row_within : (k p : ℕ) (ts : List Seen) → row_length k p ts ≤ k + length ts
 row_within k p [] = omega arith
-row_within k p (t ∷ ts) = by_step (is_step_of p t.event) t.ends (row_within (k + 1) p ts)
+row_within k p (t ∷ ts) = by_step (is_step_of p t.event) (ends_call t.told) (row_within (k + 1) p ts)
   where
     by_step : (s e : Bool) → row_length (k + 1) p ts ≤ k + 1 + length ts → cond s (cond e (k + 1) (row_length (k + 1) p ts)) 0 ≤ k + length (t ∷ ts)
     by_step true true rest = omega arith
     by_step true false rest = omega (arith, rest)
     by_step false e rest = omega arith
 
-moves_behind : (k : ℕ) (ts : List Taken) → move_lines k ts ≡ move_lines 0 (drop k ts)
+moves_behind : (k : ℕ) (ts : List Seen) → move_lines k ts ≡ move_lines 0 (drop k ts)
 moves_behind zero [] = refl
 moves_behind zero (t ∷ ts) = refl
 moves_behind (suc k) [] = refl
@@ -44,13 +44,13 @@ drop_behind zero x xs some = absurd (omega (arith, some))
 drop_behind (suc m) x xs some = let e : suc m - 1 ≡ m = omega arith in ap (λ i. drop i xs) e
 
 -- the first line of these moves is for so many of them
-abbrev pub IsFirst : List Taken → ReplayLine → ℕ → Type 0
+abbrev pub IsFirst : List Seen → ReplayLine → ℕ → Type 0
 IsFirst moves line n = (0 < n) × (n ≤ length moves) × (move_lines 0 moves ≡ line ∷ move_lines 0 (drop n moves))
 
 -- a row that ends a call
-pub first_is_run : (moves : List Taken) (t : Taken) (n : ℕ) → 0 < length moves → t ≡ get_or moves 0 t → n ≡ row_length 0 (party_of t.event) moves → 2 ≤ n → n ≤ SOLO_STEPS → IsFirst moves (record { party = party_of t.event; action = action.Run }) n
+pub first_is_run : (moves : List Seen) (t : Seen) (n : ℕ) → 0 < length moves → t ≡ get_or moves 0 t → n ≡ row_length 0 (party_of t.event) moves → 2 ≤ n → n ≤ SOLO_STEPS → IsFirst moves (record { party = party_of t.event; action = action.Run }) n
 first_is_run [] t n some is row two most = absurd (omega (arith, some))
-first_is_run (s ∷ ss) t n some is row two most = subst {A = Taken} (λ u. n ≡ row_length 0 (party_of u.event) (s ∷ ss) → IsFirst (s ∷ ss) (record { party = party_of u.event; action = action.Run }) n) (sym is) here row
+first_is_run (s ∷ ss) t n some is row two most = subst {A = Seen} (λ u. n ≡ row_length 0 (party_of u.event) (s ∷ ss) → IsFirst (s ∷ ss) (record { party = party_of u.event; action = action.Run }) n) (sym is) here row
   where
     here : n ≡ row_length 0 (party_of s.event) (s ∷ ss) → IsFirst (s ∷ ss) (record { party = party_of s.event; action = action.Run }) n
     here length_is =
@@ -63,9 +63,9 @@ first_is_run (s ∷ ss) t n some is row two most = subst {A = Taken} (λ u. n �
         (omega (arith, two), omega (arith, within, length_is), subst {A = ℕ} (λ m. first_line s.event m ∷ move_lines (more_moves m) ss ≡ record { party = party_of s.event; action = action.Run } ∷ move_lines 0 (drop n (s ∷ ss))) length_is lines)
 
 -- any other move
-pub first_is_plain : (moves : List Taken) (t : Taken) (n : ℕ) → 0 < length moves → t ≡ get_or moves 0 t → n ≡ row_length 0 (party_of t.event) moves → (n < 2) ⊎ (SOLO_STEPS < n) → IsFirst moves (plain_line t.event) 1
+pub first_is_plain : (moves : List Seen) (t : Seen) (n : ℕ) → 0 < length moves → t ≡ get_or moves 0 t → n ≡ row_length 0 (party_of t.event) moves → (n < 2) ⊎ (SOLO_STEPS < n) → IsFirst moves (plain_line t.event) 1
 first_is_plain [] t n some is row other = absurd (omega (arith, some))
-first_is_plain (s ∷ ss) t n some is row other = subst {A = Taken} (λ u. n ≡ row_length 0 (party_of u.event) (s ∷ ss) → IsFirst (s ∷ ss) (plain_line u.event) 1) (sym is) here row
+first_is_plain (s ∷ ss) t n some is row other = subst {A = Seen} (λ u. n ≡ row_length 0 (party_of u.event) (s ∷ ss) → IsFirst (s ∷ ss) (plain_line u.event) 1) (sym is) here row
   where
     here : n ≡ row_length 0 (party_of s.event) (s ∷ ss) → IsFirst (s ∷ ss) (plain_line s.event) 1
     here length_is =

@@ -1,9 +1,12 @@
 -- How the explorer may end.
-use Rattle.std.specs.Prelude.{◌≡◌, ◌⊎◌, ℕ, List, Option}
+use Rattle.std.specs.Prelude.{◌≡◌, ◌⊎◌, ℕ, List, Option, Result, String}
 use Rattle.std.specs.Io.KnownBytes.{Appends, Keeps}
+use Rattle.std.specs.declared.io.Error.{Error}
+use Rattle.std.specs.declared.vec.IntoIter.{IntoIter}
+use Rattle.app_text.specs.Given.{IsAskedBy, MayLackMemory}
 use Rattle.app_text.specs.Streams.{IsBegun, IsInput}
 use Rattle.app_text.specs.declared.faults.Fault.TheVariants as fault
-use Rattle.app_explore.specs.Listings.{IsTold}
+use Rattle.app_explore.specs.Listings.{IsRefused, IsTold}
 use Rattle.app_explore.specs.Requests.{IsRequest, request_words}
 use Rattle.app_explore.specs.Stops.{stop_status}
 use Rattle.app_explore.specs.declared.args.Request.{Request}
@@ -34,11 +37,36 @@ pub record IsBegunExplored (words : List (List ℕ)) (known old new : Option (Li
   pub told : IsTold request bytes text
   pub output : IsBegun old new text
 
+-- nothing that there is, is asked for
+abbrev pub AsksForNothing : List (List ℕ) → Type 0
+AsksForNothing words = (r : Request) → AskFor words r → ⊥
+
+-- something is asked for
+abbrev pub AsksForSome : List (List ℕ) → Type 0
+AsksForSome words = (r : Request) × AskFor words r
+
+-- something is asked for, and the input was read; this is why nothing was told
+pub record IsRefusedAsk (words : List (List ℕ)) (known : Option (List ℕ)) (why : Stop) : Type 0 where
+  pub request : Request
+  pub asked : AskFor words request
+  pub bytes : List ℕ
+  pub input : IsInput known bytes
+  pub refused : IsRefused request bytes why
+
 -- why it was not told. But for a failed write, nothing is written then
 abbrev pub IsStopOf : List (List ℕ) → Option (List ℕ) → Option (List ℕ) → Option (List ℕ) → Stop → Type 0
-IsStopOf words known old new (stop.Fault fault.OutputFailed) = Keeps old new ⊎ IsBegunExplored words known old new
-IsStopOf words known old new why = Keeps old new
+IsStopOf words known old new (stop.Fault fault.Usage) = Keeps old new × AsksForNothing words
+IsStopOf words known old new (stop.Fault fault.InputFailed) = Keeps old new × AsksForSome words
+IsStopOf words known old new (stop.Fault fault.NoMemory) = Keeps old new × AsksForSome words
+IsStopOf words known old new (stop.Fault fault.OutputFailed) = IsBegunExplored words known old new
+IsStopOf words known old new why = Keeps old new × IsRefusedAsk words known why
 
 -- it ends with 0 where all was told, and else with the status of why it was not
 abbrev pub IsEnd : List (List ℕ) → Option (List ℕ) → Option (List ℕ) → Option (List ℕ) → ℕ → Type 0
 IsEnd words known old new status = ((status ≡ 0) × IsExplored words known old new) ⊎ ((why : Stop) × (status ≡ stop_status why) × IsStopOf words known old new why)
+
+module _ {Z : Type 0} where
+  -- the program ends with this status, by the arguments as the system gives them; or there was no memory for these, and nothing was written
+  abbrev pub IsProgramEnd : Result (IntoIter (String Z) Z) Error → Option (List ℕ) → Option (List ℕ) → Option (List ℕ) → ℕ → Type 0
+  IsProgramEnd given known old new status =
+      ((words : List (List ℕ)) × IsAskedBy given words × IsEnd words known old new status) ⊎ (MayLackMemory given × (status ≡ stop_status (stop.Fault fault.NoMemory)) × Keeps old new)

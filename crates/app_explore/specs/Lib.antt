@@ -4,6 +4,8 @@ pub mod Programs
 pub mod Reads
 pub mod Outcomes
 pub mod Schedules
+pub mod Labels
+pub mod Lanes
 pub mod Stops
 pub mod Tails
 pub mod Listings

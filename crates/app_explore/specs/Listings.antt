@@ -1,75 +1,113 @@
 -- What is told of a program.
-use Rattle.std.specs.Prelude.{◌≡◌, ℕ, Option, ◌+◌, ◌-◌, ◌<◌, ◌≤◌, ◌==◌, Bool, if◌then◌else◌, List, [], ◌∷◌, ◌++◌, length, slice_index_or}
+use Rattle.std.specs.Prelude.{◌≡◌, ℕ, Option, None, Some, ◌+◌, ◌-◌, ◌<◌, Bool, List, [], ◌∷◌, ◌++◌, length, map, slice_get}
 use Rattle.std.specs.List.{All, AllZip}
 use Rattle.queue_steps.specs.declared.model.Call.{Call}
 use Rattle.queue_steps.specs.declared.steps.types.Kind.{Kind}
-use Rattle.queue_steps.specs.declared.steps.types.Kind.TheVariants as queue
 use Rattle.app_text.specs.Lines.{lines_of}
-use Rattle.app_text.specs.declared.args.KindName.{KindName}
-use Rattle.app_text.specs.declared.args.KindName.TheVariants as kind
-use Rattle.machine_explore.specs.Certified.{IsMove, IsOutcomeOf}
+use Rattle.app_text.specs.KindNames.{queue_named}
+use Rattle.machine_explore.specs.Certified.{IsOutcomeOf}
 use Rattle.machine_explore.specs.Explored.{HasNoOther}
 use Rattle.machine_explore.specs.Positions.{Outcome}
+use Rattle.machine_explore.specs.Traces.{Course, IsTraceOf}
 use Rattle.machine_explore.specs.declared.schedule.Move.{Move}
-use Rattle.app_explore.specs.Outcomes.{outcome_line, outcome_text}
-use Rattle.app_explore.specs.Reads.{IsReadAs}
+use Rattle.app_explore.specs.Lanes.{lanes_text}
+use Rattle.app_explore.specs.Outcomes.{AreInOrder, outcome_line, text_of}
+use Rattle.app_explore.specs.Reads.{IsReadAs, IsReadFault}
 use Rattle.app_explore.specs.Schedules.{schedule_text}
 use Rattle.app_explore.specs.Tails.{IsTail, last_text}
 use Rattle.app_explore.specs.declared.args.Request.{Request}
 use Rattle.app_explore.specs.declared.args.Wanted.{Wanted}
 use Rattle.app_explore.specs.declared.args.Wanted.TheVariants as wanted
-use Rattle.app_explore.specs.declared.schedules.Taken.{Taken}
+use Rattle.app_explore.specs.declared.faults.Stop.{Stop}
+use Rattle.app_explore.specs.declared.faults.Stop.TheVariants as stop
 
--- the lines of these outcomes, of which the first has the number n, each with its tail
-abbrev pub outcome_lines : ℕ → List (Outcome ℕ) → List (List ℕ) → List ℕ
-outcome_lines n (o ∷ os) (t ∷ ts) = outcome_line n (outcome_text o.replies o.left) t ++ outcome_lines (n + 1) os ts
+-- the lines of these outcomes, by their texts, of which the first has the number n, each with its tail
+abbrev pub outcome_lines : ℕ → List (List ℕ) → List (List ℕ) → List ℕ
+outcome_lines n (o ∷ os) (t ∷ ts) = outcome_line n o t ++ outcome_lines (n + 1) os ts
 outcome_lines n _ _ = []
 
--- these are the outcomes of the program, each of which its schedule shows, and it has no other
+-- these are the outcomes of the program, each of which its schedule shows, in the order of their texts, each once; and it has no other
 pub record AreOutcomes (k : Kind) (refuses : Bool) (before : List (Call ℕ)) (calls : List (List (Call ℕ))) (schedules : List (List Move)) (outcomes : List (Outcome ℕ)) : Type 0 where
   pub no_other : HasNoOther k refuses before calls outcomes
   pub shown : AllZip (IsOutcomeOf k refuses before calls) schedules outcomes
+  pub in_order : AreInOrder (map text_of outcomes)
+
+-- it is the list of outcomes with these texts: a line for each, and a last line
+pub record IsListOf (texts : List (List ℕ)) (text : List ℕ) : Type 0 where
+  pub tails : List (List ℕ)
+  pub counted : length tails ≡ length texts
+  pub are_tails : All IsTail tails
+  pub total : Option ℕ
+  pub lone : ℕ
+  pub text_is : text ≡ outcome_lines 1 texts tails ++ last_text (length texts) total lone
 
 -- the text has a line for each outcome of the program, and for no other, and a last line
 pub record IsListing (k : Kind) (refuses : Bool) (before : List (Call ℕ)) (calls : List (List (Call ℕ))) (text : List ℕ) : Type 0 where
   pub schedules : List (List Move)
   pub outcomes : List (Outcome ℕ)
   pub are : AreOutcomes k refuses before calls schedules outcomes
-  pub tails : List (List ℕ)
-  pub counted : length tails ≡ length outcomes
-  pub are_tails : All IsTail tails
-  pub total : Option ℕ
-  pub lone : ℕ
-  pub text_is : text ≡ outcome_lines 1 outcomes tails ++ last_text (length outcomes) total lone
+  pub list : IsListOf (map text_of outcomes) text
 
--- the events go by these moves
-abbrev pub AreMoves : List Move → List Taken → Type 0
-AreMoves schedule taken = AllZip (λ m t. IsMove m t.event) schedule taken
-
--- the text has the lines of a schedule that shows an outcome of the program, that of this number
-pub record IsScheduleOf (k : Kind) (refuses : Bool) (before : List (Call ℕ)) (calls : List (List (Call ℕ))) (number : ℕ) (text : List ℕ) : Type 0 where
+-- this is seen of the schedule of the program's outcome of this number
+pub record IsTraceOfOutcome (k : Kind) (refuses : Bool) (before : List (Call ℕ)) (calls : List (List (Call ℕ))) (number : ℕ) (c : Course) : Type 0 where
   pub schedules : List (List Move)
   pub outcomes : List (Outcome ℕ)
   pub are : AreOutcomes k refuses before calls schedules outcomes
-  pub there : (0 < number) × (number ≤ length schedules)
-  pub taken : List Taken
-  pub moves : AreMoves (slice_index_or schedules (number - 1) []) taken
-  pub text_is : text ≡ schedule_text before taken
+  pub outcome : slice_get outcomes (number - 1) ≡ Some c.outcome
+  pub schedule : List Move
+  pub there : slice_get schedules (number - 1) ≡ Some schedule
+  pub trace : IsTraceOf k refuses before calls schedule c
 
--- the kind of queue that the name asks for: with a capacity of 1 it is one slot
-abbrev pub kind_of : KindName → Kind
-kind_of kind.Single = queue.Single
-kind_of (kind.Bounded count) = if count == 1 then queue.Single else queue.Bounded count
-kind_of kind.Unbounded = queue.Unbounded
+-- the text tells what is seen of the schedule of the program's outcome of this number
+pub record IsTextOf (text_of : Course → List ℕ) (k : Kind) (refuses : Bool) (before : List (Call ℕ)) (calls : List (List (Call ℕ))) (number : ℕ) (text : List ℕ) : Type 0 where
+  pub course : Course
+  pub trace : IsTraceOfOutcome k refuses before calls number course
+  pub text_is : text ≡ text_of course
+
+-- by the lines of a replay
+abbrev pub IsScheduleOf : Kind → Bool → List (Call ℕ) → List (List (Call ℕ)) → ℕ → List ℕ → Type 0
+IsScheduleOf k refuses before calls number text = IsTextOf (λ (c : Course). schedule_text before c.seen) k refuses before calls number text
+
+-- by a picture
+abbrev pub IsPictureOf : Kind → Bool → List (Call ℕ) → List (List (Call ℕ)) → ℕ → List ℕ → Type 0
+IsPictureOf k refuses before calls number text = IsTextOf (λ (c : Course). lanes_text (length calls) c.opening c.seen) k refuses before calls number text
+
+-- the program has fewer outcomes than that
+pub record HasFewer (k : Kind) (refuses : Bool) (before : List (Call ℕ)) (calls : List (List (Call ℕ))) (number : ℕ) : Type 0 where
+  pub schedules : List (List Move)
+  pub outcomes : List (Outcome ℕ)
+  pub are : AreOutcomes k refuses before calls schedules outcomes
+  pub fewer : length outcomes < number
 
 -- the text tells what is asked for
 abbrev pub Tells : Kind → Bool → List (Call ℕ) → List (List (Call ℕ)) → Wanted → List ℕ → Type 0
 Tells k refuses before calls wanted.Outcomes text = IsListing k refuses before calls text
 Tells k refuses before calls (wanted.Schedule n) text = IsScheduleOf k refuses before calls n text
+Tells k refuses before calls (wanted.Lanes n) text = IsPictureOf k refuses before calls n text
+
+-- the number of the outcome that is asked for, if one is
+abbrev pub number_in : Wanted → Option ℕ
+number_in wanted.Outcomes = None
+number_in (wanted.Schedule n) = Some n
+number_in (wanted.Lanes n) = Some n
 
 -- the input names a program, and the text tells of it what is asked for
 pub record IsTold (r : Request) (input text : List ℕ) : Type 0 where
   pub before : List (Call ℕ)
   pub calls : List (List (Call ℕ))
   pub read : IsReadAs (lines_of input) before calls
-  pub tells : Tells (kind_of r.kind) r.refuses before calls r.wanted text
+  pub tells : Tells (queue_named r.kind) r.refuses before calls r.wanted text
+
+-- the program that the input names has fewer outcomes than that
+pub record HasFewerOutcomes (r : Request) (input : List ℕ) (number : ℕ) : Type 0 where
+  pub before : List (Call ℕ)
+  pub calls : List (List (Call ℕ))
+  pub read : IsReadAs (lines_of input) before calls
+  pub asked : number_in r.wanted ≡ Some number
+  pub fewer : HasFewer (queue_named r.kind) r.refuses before calls number
+
+-- why nothing is told of the program that the input names
+abbrev pub IsRefused : Request → List ℕ → Stop → Type 0
+IsRefused r input (stop.Fault fault) = IsReadFault (lines_of input) fault
+IsRefused r input (stop.NoOutcome number) = HasFewerOutcomes r input number
+IsRefused r input _ = Unit {0}

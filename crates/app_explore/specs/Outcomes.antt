@@ -1,7 +1,9 @@
 -- What is printed of outcomes.
 use Rattle.std.specs.Prelude.{ℕ, zero, suc, ◌+◌, List, [], ◌∷◌, ◌++◌, codes}
 use Rattle.std.specs.Fmt.{decimal}
+use Rattle.std.specs.List.{AllAdjacentBelow}
 use Rattle.queue_steps.specs.declared.model.Reply.{Reply}
+use Rattle.machine_explore.specs.Positions.{Outcome}
 use Rattle.app_text.specs.Items.{items_text}
 use Rattle.app_text.specs.Replies.{reply_text}
 use Rattle.app_explore.specs.Lists.{listed}
@@ -26,6 +28,13 @@ parties_text n (replies ∷ others) = party_text n replies ++ parties_text (n + 
 -- the replies of each party, and what is left
 abbrev pub outcome_text : List (List (Reply ℕ)) → List ℕ → List ℕ
 outcome_text replies left = parties_text 0 replies ++ codes "left" ++ items_text left
+
+abbrev pub text_of : Outcome ℕ → List ℕ
+text_of o = outcome_text o.replies o.left
+
+-- each text is below the next one, byte for byte: they are sorted, and no two are the same
+abbrev pub AreInOrder : List (List ℕ) → Type 0
+AreInOrder texts = AllAdjacentBelow (λ x y. slice_cmp nat_cmp x y ≡ Less) texts (length texts)
 
 -- the line of the outcome of this number
 abbrev pub outcome_line : ℕ → List ℕ → List ℕ → List ℕ

@@ -17,6 +17,7 @@ refuse_words false = []
 abbrev pub wanted_words : Wanted → List (List ℕ)
 wanted_words wanted.Outcomes = []
 wanted_words (wanted.Schedule n) = codes "schedule" ∷ decimal n ∷ []
+wanted_words (wanted.Lanes n) = codes "lanes" ∷ decimal n ∷ []
 
 abbrev pub request_words : Request → List (List ℕ)
 request_words r = kind_text r.kind ∷ refuse_words r.refuses ++ wanted_words r.wanted
@@ -28,6 +29,7 @@ IsOutcomeNumber n = IsWord n × (0 < n)
 abbrev pub IsWanted : Wanted → Type 0
 IsWanted wanted.Outcomes = Unit {0}
 IsWanted (wanted.Schedule n) = IsOutcomeNumber n
+IsWanted (wanted.Lanes n) = IsOutcomeNumber n
 
 -- whether a queue of this kind asks for blocks while it runs
 abbrev pub asks_for_blocks : KindName → Bool

@@ -7,7 +7,7 @@ use Rattle.app_explore.specs.declared.faults.Stop.{Stop}
 use Rattle.app_explore.specs.declared.faults.Stop.TheVariants as stop
 
 abbrev pub stop_text : Stop → List ℕ
-stop_text (stop.Fault fault.Usage) = codes "usage: queue_explore KIND | KIND refuse | KIND schedule N | KIND refuse schedule N"
+stop_text (stop.Fault fault.Usage) = codes "usage: queue_explore KIND [refuse] [schedule N | lanes N]"
 stop_text (stop.Fault f) = fault_text f
 stop_text stop.TooManyStates = codes "too many states"
 stop_text (stop.NoOutcome n) = codes "no outcome " ++ decimal n
@@ -17,3 +17,10 @@ abbrev pub stop_status : Stop → ℕ
 stop_status (stop.Fault f) = fault_status f
 stop_status (stop.NoOutcome n) = 2
 stop_status _ = 3
+
+-- as a search may end that gives no answer
+abbrev pub IsSearchStop : Stop → Type 0
+IsSearchStop (stop.Fault fault.NoMemory) = Unit {0}
+IsSearchStop stop.TooManyStates = Unit {0}
+IsSearchStop stop.NotShown = Unit {0}
+IsSearchStop _ = ⊥

@@ -14,6 +14,8 @@ pub enum Wanted {
     Outcomes,
     /// The lines of the schedule of the outcome of this number, counted from 1.
     Schedule(u64),
+    /// A picture of that schedule, with a column for each party.
+    Lanes(u64),
 }
 
 /// What the arguments ask for.
@@ -74,18 +76,19 @@ fn parse_wanted(words: &[String]) -> Option<Wanted>
 {
     match words {
         [] => Some(Wanted::Outcomes),
-        [word, number] => parse_schedule(word.as_str(), number.as_str()),
+        [word, number] => parse_outcome(word.as_str(), number.as_str()),
         _ => None,
     }
 }
 
 // What these two words ask for.
-fn parse_schedule(word: &str, number: &str) -> Option<Wanted>
+fn parse_outcome(word: &str, number: &str) -> Option<Wanted>
     ensures { IsReading IsWanted wanted_words (word.now ∷ number.now ∷ []) result }
 {
     let number = parse_outcome_number(number)?;
     match word {
         "schedule" => Some(Wanted::Schedule(number)),
+        "lanes" => Some(Wanted::Lanes(number)),
         _ => None,
     }
 }

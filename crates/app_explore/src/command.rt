@@ -1,19 +1,18 @@
 //! The whole explorer as a function of its arguments, its input and its two outputs.
-ghost use Rattle.std.specs.Prelude.{◌≡◌, IfOk, MatchResult, map, string_bytes};
-ghost use Rattle.machine_replay.specs.Replays.{CanReplay};
-ghost use Rattle.app_text.specs.KindNames.{IsKindName};
-ghost use Rattle.app_explore.specs.Listings.{IsTold, kind_of};
+ghost use Rattle.std.specs.Prelude.{◌≡◌, ◌⊎◌, IfErr, IfOk, MatchResult, None, Ok, Some, map, string_bytes};
+ghost use Rattle.app_explore.specs.Listings.{IsRefused, IsTold};
+ghost use Rattle.app_explore.specs.Requests.{IsRequest};
 ghost use Rattle.app_explore.specs.Commands.{IsEnd, IsExplored, IsStopOf};
-ghost use Rattle.app_explore.specs.Stops.{stop_status};
+ghost use Rattle.app_explore.specs.Stops.{IsSearchStop, stop_status};
+ghost use Rattle.app_explore.specs.declared.faults.Stop.TheVariants as stop;
 
 use crate::args::{Request, Wanted, parse_request};
 use crate::faults::Stop;
-use crate::listing::{Task, list_outcomes, list_schedule};
+use crate::listing::{Task, draw_lanes, list_outcomes, list_schedule};
 use crate::reading::read_program;
-use app_text::args::KindName;
 use app_text::faults::Fault;
 use app_text::streams::{read_input, write_output};
-use queue_steps::steps::Kind;
+use machine_search::faults::SearchFault;
 use std::alloc::Allocator;
 use std::io::{Read, Write};
 
@@ -82,33 +81,50 @@ pub fn told<'a, A: Allocator>(
     request: Request,
     text: &[u8],
 ) -> Result<String<&'a A>, Stop>
-    requires { IsKindName request.kind }
-    ensures { IfOk result (λ told. IsTold request text.now (string_bytes told)) }
+    requires { IsRequest request }
+    ensures { MatchResult result (λ told. IsTold request text.now (string_bytes told)) (IsRefused request text.now) }
 {
     let program = match read_program(alloc, text) {
         Ok(program) => program,
         Err(fault) => return Err(Stop::Fault(fault)),
     };
     let task = Task {
-        kind: kind_of(request.kind),
+        kind: request.kind.kind(),
         refuses: request.refuses,
         program,
     };
     match request.wanted {
-        Wanted::Outcomes => list_outcomes(alloc, &task),
-        Wanted::Schedule(number) => list_schedule(alloc, &task, number),
+        Wanted::Outcomes => match list_outcomes(alloc, &task) {
+            Ok(text) => Ok(text),
+            Err(fault) => Err(stop_of(fault)),
+        },
+        Wanted::Schedule(number) => of_outcome(number, list_schedule(alloc, &task, number)),
+        Wanted::Lanes(number) => of_outcome(number, draw_lanes(alloc, &task, number)),
     }
 }
 
-// The kind of queue that this name names.
-fn kind_of(kind: KindName) -> Kind
-    requires { IsKindName kind }
-    ensures kind { result ≡ kind_of kind }
-    ensures can { CanReplay result }
+// What is told of the outcome of this number, if there is one.
+fn of_outcome<A: Allocator>(
+    number: u64,
+    told: Result<Option<String<A>>, SearchFault>,
+) -> Result<String<A>, Stop>
+    ensures told { IfOk result (λ text. told ≡ Ok (Some text)) }
+    ensures refused { IfErr result (λ why. IsSearchStop why ⊎ ((why ≡ stop.NoOutcome number) × (told ≡ Ok None))) }
 {
-    match kind {
-        KindName::Single | KindName::Bounded(1) => Kind::Single,
-        KindName::Bounded(cap) => Kind::Bounded(cap),
-        KindName::Unbounded => Kind::Unbounded,
+    match told {
+        Ok(Some(text)) => Ok(text),
+        Ok(None) => Err(Stop::NoOutcome(number)),
+        Err(fault) => Err(stop_of(fault)),
+    }
+}
+
+// Why the explorer ends where a search gives no answer.
+fn stop_of(fault: SearchFault) -> Stop
+    ensures { IsSearchStop result }
+{
+    match fault {
+        SearchFault::NoMemory => Stop::Fault(Fault::NoMemory),
+        SearchFault::TooManyStates => Stop::TooManyStates,
+        SearchFault::EndlessCall | SearchFault::NotShown => Stop::NotShown,
     }
 }

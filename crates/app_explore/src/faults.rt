@@ -36,9 +36,9 @@ impl fmt::Display for Stop {
 
     fn fmt<W: fmt::Write>(&self, f: &mut fmt::Formatter<W>) -> fmt::Result {
         match self {
-            Stop::Fault(Fault::Usage) => f.write_str(
-                "usage: queue_explore KIND | KIND refuse | KIND schedule N | KIND refuse schedule N",
-            ),
+            Stop::Fault(Fault::Usage) => {
+                f.write_str("usage: queue_explore KIND [refuse] [schedule N | lanes N]")
+            }
             Stop::Fault(fault) => write!(f, "{fault}"),
             Stop::TooManyStates => f.write_str("too many states"),
             Stop::NoOutcome(number) => write!(f, "no outcome {number}"),

@@ -1,28 +1,29 @@
 //! What is told of a program: a line for each outcome, or the schedule of one.
-ghost use Rattle.std.specs.Prelude.{◌≡◌, ◌++◌, length, map, string_bytes, IfOk, OnOk};
+ghost use Rattle.std.specs.Prelude.{◌≡◌, ◌++◌, ◌<◌, length, map, string_bytes, IfOk, MatchOption, OnOk};
 ghost use Rattle.std.specs.List.{All};
-ghost use Rattle.app_explore.specs.Tails.{IsTail};
 ghost use Rattle.machine_replay.specs.Replays.{CanReplay};
-ghost use Rattle.machine_explore.specs.Certified.{IsOutcomeOf};
-ghost use Rattle.machine_explore.specs.Explored.{HasNoOther};
-ghost use Rattle.app_explore.specs.Listings.{AreMoves, AreOutcomes, IsListing, IsScheduleOf, outcome_lines};
+ghost use Rattle.machine_explore.specs.Traces.{IsTraceOf};
+ghost use Rattle.app_explore.specs.Outcomes.{text_of};
+ghost use Rattle.app_explore.specs.Tails.{IsTail};
+ghost use Rattle.app_explore.specs.Listings.{AreOutcomes, HasFewer, IsListOf, IsListing, IsPictureOf, IsScheduleOf, IsTraceOfOutcome, outcome_lines};
 
-use crate::faults::Stop;
-use crate::outcomes::{write_outcome, write_outcome_line};
-use crate::schedules::{Taken, write_schedule};
+use crate::lanes::write_lanes;
+use crate::outcomes::{are_in_order, text_of, texts_of, write_outcome_line};
+use crate::schedules::write_schedule;
 use crate::tails::{write_last, write_tail};
-use app_text::faults::Fault;
 use machine_explore::outcome::Outcome;
-use machine_explore::position::Position;
 use machine_explore::program::Program;
 use machine_explore::schedule::Move;
+use machine_explore::sequence::Sequence;
+use machine_explore::show::show;
+use machine_explore::trace::{Trace, follow};
 use machine_search::counts::{Count, counts, sum};
-use machine_search::explore::{Explored, Found, search, show, steps_of};
+use machine_search::explore::{Found, schedules_of, search, steps_of};
 use machine_search::faults::SearchFault;
 use machine_search::lone::longest_lone_call;
 use machine_search::orders::order_of;
 use queue_steps::steps::Kind;
-use std::alloc::{AllocError, AllocFailed, Allocator};
+use std::alloc::{AllocError, Allocator};
 
 /// A program on a queue of one kind.
 #[derive(Drop)]
@@ -35,13 +36,19 @@ pub struct Task<A: Allocator> {
     pub program: Program<A>,
 }
 
-/// What was found of a task, and shown to be all.
+/// What a walk over a program's positions found: its outcomes, in the order in which they are told, and a schedule for each.
+#[derive(Drop)]
+struct Walk<A: Allocator> {
+    found: Found<A>,
+    order: Vec<usize, A>,
+    schedules: Vec<Sequence<Move, A>, A>,
+}
+
+/// The outcomes that were shown to be all, and the text of each.
 #[derive(Drop)]
 struct Shown<A: Allocator> {
-    found: Found<A>,
-    // The outcomes as they were found, in the order in which they are told.
-    order: Vec<usize, A>,
-    explored: Explored<A>,
+    outcomes: Vec<Outcome<A>, A>,
+    texts: Vec<String<A>, A>,
 }
 
 /// The line of each outcome, sorted by their bytes, and the line of all.
@@ -49,68 +56,123 @@ struct Shown<A: Allocator> {
 /// # Errors
 ///
 /// `NoMemory`, also where no queue may have the capacity, `TooManyStates`, and `NotShown`.
-pub fn list_outcomes<A: Allocator + Copy>(alloc: A, task: &Task<A>) -> Result<String<A>, Stop>
+pub fn list_outcomes<A: Allocator + Copy>(
+    alloc: A,
+    task: &Task<A>,
+) -> Result<String<A>, SearchFault>
     requires { CanReplay task.now.kind }
     ensures { IfOk result (λ text. IsListing task.now.kind task.now.refuses task.now.program.before task.now.program.parties.items (string_bytes text)) }
 {
-    let all = find_all(alloc, task)?;
-    let schedules = schedule_counts(alloc, task, &all)?;
-    let tails = write_tails(alloc, task, &all, &schedules)?;
-    let lone = longest_lone_call(task.program.parties.len(), &all.found.table)?;
-    let mut text = String::new(alloc);
-    write_lines(alloc, &all.explored.outcomes, &tails, &mut text)?;
-    write_last(
-        all.explored.outcomes.len(),
-        total(&schedules),
-        lone,
-        &mut text,
-    )?;
-    Ok(text)
+    let walk = find_all(alloc, task)?;
+    let shown = show_all(alloc, task, &walk)?;
+    write_list(alloc, task, &walk, &shown)
 }
 
-/// The lines of the schedule of the outcome of this number, counted from 1.
+/// The lines of the schedule of the outcome of this number, counted from 1, if there are so many.
 ///
 /// # Errors
 ///
-/// As of `list_outcomes`, and `NoOutcome`.
+/// As of `list_outcomes`.
 pub fn list_schedule<A: Allocator + Copy>(
     alloc: A,
     task: &Task<A>,
     number: u64,
-) -> Result<String<A>, Stop>
-    requires { CanReplay task.now.kind }
-    ensures { IfOk result (λ text. IsScheduleOf task.now.kind task.now.refuses task.now.program.before task.now.program.parties.items number (string_bytes text)) }
+) -> Result<Option<String<A>>, SearchFault>
+    requires can { CanReplay task.now.kind }
+    requires counted { 0 < number }
+    ensures { IfOk result (λ o. MatchOption o
+        (HasFewer task.now.kind task.now.refuses task.now.program.before task.now.program.parties.items number)
+        (λ text. IsScheduleOf task.now.kind task.now.refuses task.now.program.before task.now.program.parties.items number (string_bytes text))) }
 {
-    let all = find_all(alloc, task)?;
-    if number == 0 || number > all.explored.schedules.len() as u64 {
-        return Err(Stop::NoOutcome(number));
-    }
-    let schedule = &all.explored.schedules[(number - 1) as usize];
-    let taken = take_moves(alloc, task, schedule.as_slice())?;
+    let Some(trace) = trace_outcome(alloc, task, number)? else {
+        return Ok(None);
+    };
     let mut text = String::new(alloc);
-    write_schedule(task.program.before.as_slice(), &taken, &mut text)?;
-    Ok(text)
+    write_schedule(task.program.before.as_slice(), trace.entries(), &mut text)?;
+    Ok(Some(text))
 }
 
-// What was found of a task, and shown to be all.
-fn find_all<A: Allocator + Copy>(alloc: A, task: &Task<A>) -> Result<Shown<A>, Stop>
+/// The picture of the schedule of the outcome of this number, counted from 1, if there are so many.
+///
+/// # Errors
+///
+/// As of `list_outcomes`.
+pub fn draw_lanes<A: Allocator + Copy>(
+    alloc: A,
+    task: &Task<A>,
+    number: u64,
+) -> Result<Option<String<A>>, SearchFault>
+    requires can { CanReplay task.now.kind }
+    requires counted { 0 < number }
+    ensures { IfOk result (λ o. MatchOption o
+        (HasFewer task.now.kind task.now.refuses task.now.program.before task.now.program.parties.items number)
+        (λ text. IsPictureOf task.now.kind task.now.refuses task.now.program.before task.now.program.parties.items number (string_bytes text))) }
+{
+    let Some(trace) = trace_outcome(alloc, task, number)? else {
+        return Ok(None);
+    };
+    let mut text = String::new(alloc);
+    write_lanes(
+        alloc,
+        task.program.parties.len(),
+        trace.opening(),
+        trace.entries(),
+        &mut text,
+    )?;
+    Ok(Some(text))
+}
+
+// What is seen of the schedule of the outcome of this number, if there are so many.
+fn trace_outcome<A: Allocator + Copy>(
+    alloc: A,
+    task: &Task<A>,
+    number: u64,
+) -> Result<Option<Trace<A>>, SearchFault>
+    requires can { CanReplay task.now.kind }
+    requires counted { 0 < number }
+    ensures { IfOk result (λ o. MatchOption o
+        (HasFewer task.now.kind task.now.refuses task.now.program.before task.now.program.parties.items number)
+        (IsTraceOfOutcome task.now.kind task.now.refuses task.now.program.before task.now.program.parties.items number)) }
+{
+    let walk = find_all(alloc, task)?;
+    let shown = show_all(alloc, task, &walk)?;
+    let index = (number - 1) as usize;
+    match (walk.schedules.get(index), shown.outcomes.get(index)) {
+        (Some(schedule), Some(outcome)) => {
+            Ok(Some(follow_to(alloc, task, schedule.as_slice(), outcome)?))
+        }
+        _ => Ok(None),
+    }
+}
+
+// What is seen of a schedule that leads to this outcome.
+fn follow_to<A: Allocator + Copy>(
+    alloc: A,
+    task: &Task<A>,
+    schedule: &[Move],
+    outcome: &Outcome<A>,
+) -> Result<Trace<A>, SearchFault>
     requires { CanReplay task.now.kind }
-    ensures { IfOk result (λ all. AreOutcomes task.now.kind task.now.refuses task.now.program.before task.now.program.parties.items all.explored.schedules.items all.explored.outcomes.items) }
+    ensures trace { IfOk result (λ t. IsTraceOf task.now.kind task.now.refuses task.now.program.before task.now.program.parties.items schedule.now t) }
+    ensures outcome { IfOk result (λ t. t.outcome ≡ outcome.now) }
+{
+    match follow(alloc, task.kind, task.refuses, &task.program, schedule)? {
+        Some(trace) if trace.outcome().is_same(outcome) => Ok(trace),
+        _ => Err(SearchFault::NotShown),
+    }
+}
+
+// What a walk over the task's positions finds.
+fn find_all<A: Allocator + Copy>(alloc: A, task: &Task<A>) -> Result<Walk<A>, SearchFault>
+    requires { CanReplay task.now.kind }
 {
     let found = search(alloc, task.kind, task.refuses, &task.program)?;
     let order = sorted(alloc, &found.ends.outcomes)?;
-    let explored = show(
-        alloc,
-        task.kind,
-        task.refuses,
-        &task.program,
-        &found,
-        &order,
-    )?;
-    Ok(Shown {
+    let schedules = schedules_of(alloc, task.program.parties.len(), &found, &order)?;
+    Ok(Walk {
         found,
         order,
-        explored,
+        schedules,
     })
 }
 
@@ -121,9 +183,7 @@ fn sorted<A: Allocator + Copy>(
 ) -> Result<Vec<usize, A>, AllocError> {
     let mut keyed = Vec::new(alloc);
     for (number, outcome) in outcomes.iter().enumerate() {
-        let mut key = String::new(alloc);
-        write_outcome(outcome.replies(), outcome.left(), &mut key)?;
-        keyed.push((key, number))?;
+        keyed.push((text_of(alloc, outcome)?, number))?;
     }
     keyed.sort()?;
     let mut order = Vec::new(alloc);
@@ -133,16 +193,63 @@ fn sorted<A: Allocator + Copy>(
     Ok(order)
 }
 
+// The outcomes of the schedules that were found, shown to be all, and to stand in order.
+fn show_all<A: Allocator + Copy>(
+    alloc: A,
+    task: &Task<A>,
+    walk: &Walk<A>,
+) -> Result<Shown<A>, SearchFault>
+    requires { CanReplay task.now.kind }
+    ensures are { IfOk result (λ shown. AreOutcomes task.now.kind task.now.refuses task.now.program.before task.now.program.parties.items walk.now.schedules.items shown.outcomes.items) }
+    ensures texts { IfOk result (λ shown. map string_bytes shown.texts.items ≡ map text_of shown.outcomes.items) }
+{
+    let shown = show(
+        alloc,
+        task.kind,
+        task.refuses,
+        &task.program,
+        &walk.found.table,
+        &walk.schedules,
+    )?;
+    let Some(outcomes) = shown else {
+        return Err(SearchFault::NotShown);
+    };
+    let texts = texts_of(alloc, &outcomes)?;
+    if !are_in_order(&texts) {
+        return Err(SearchFault::NotShown);
+    }
+    Ok(Shown { outcomes, texts })
+}
+
+// The line of each outcome, and the line of all.
+fn write_list<A: Allocator + Copy>(
+    alloc: A,
+    task: &Task<A>,
+    walk: &Walk<A>,
+    shown: &Shown<A>,
+) -> Result<String<A>, SearchFault>
+    requires { map string_bytes shown.now.texts.items ≡ map text_of shown.now.outcomes.items }
+    ensures { IfOk result (λ text. IsListOf (map text_of shown.now.outcomes.items) (string_bytes text)) }
+{
+    let schedules = schedule_counts(alloc, task, walk)?;
+    let tails = write_tails(alloc, task, walk, &shown.outcomes, &schedules)?;
+    let lone = longest_lone_call(task.program.parties.len(), &walk.found.table)?;
+    let mut text = String::new(alloc);
+    write_lines(&shown.texts, &tails, &mut text)?;
+    write_last(shown.texts.len(), total(&schedules), lone, &mut text)?;
+    Ok(text)
+}
+
 // How many schedules lead to each outcome, in the order in which they are told.
 fn schedule_counts<A: Allocator + Copy>(
     alloc: A,
     task: &Task<A>,
-    all: &Shown<A>,
-) -> Result<Vec<Count, A>, Stop> {
+    walk: &Walk<A>,
+) -> Result<Vec<Count, A>, SearchFault> {
     let parties = task.program.parties.len();
-    let found = counts(alloc, parties, &all.found.table, &all.found.ends)?;
+    let found = counts(alloc, parties, &walk.found.table, &walk.found.ends)?;
     let mut told = Vec::new(alloc);
-    for number in all.order.as_slice() {
+    for number in walk.order.as_slice() {
         told.push(found.get(*number).copied().unwrap_or(Some(0)))?;
     }
     Ok(told)
@@ -161,16 +268,17 @@ fn total(schedules: &[Count]) -> Count {
 fn write_tails<A: Allocator + Copy>(
     alloc: A,
     task: &Task<A>,
-    all: &Shown<A>,
+    walk: &Walk<A>,
+    outcomes: &[Outcome<A>],
     schedules: &[Count],
-) -> Result<Vec<String<A>, A>, Stop>
-    ensures counted { IfOk result (λ tails. length tails.items ≡ length all.now.explored.outcomes.items) }
+) -> Result<Vec<String<A>, A>, SearchFault>
+    ensures counted { IfOk result (λ tails. length tails.items ≡ length outcomes.now) }
     ensures tails { IfOk result (λ tails. All IsTail (map string_bytes tails.items)) }
 {
     let mut tails = Vec::new(alloc);
-    for (index, outcome) in all.explored.outcomes.iter().enumerate() {
+    for (index, outcome) in outcomes.iter().enumerate() {
         let count = schedules.get(index).copied().unwrap_or(Some(0));
-        let steps = match all.explored.schedules.get(index) {
+        let steps = match walk.schedules.get(index) {
             Some(schedule) => steps_of(&task.program, schedule.as_slice()),
             None => 0,
         };
@@ -187,7 +295,7 @@ fn tail_of<A: Allocator + Copy>(
     outcome: &Outcome<A>,
     schedules: Count,
     steps: usize,
-) -> Result<String<A>, Stop>
+) -> Result<String<A>, SearchFault>
     ensures { IfOk result (λ tail. IsTail (string_bytes tail)) }
 {
     let order = order_of(alloc, task.kind, task.refuses, &task.program, outcome)?;
@@ -197,68 +305,21 @@ fn tail_of<A: Allocator + Copy>(
 }
 
 // Appends the line of each outcome.
-fn write_lines<A: Allocator + Copy>(
-    alloc: A,
-    outcomes: &[Outcome<A>],
-    tails: &[String<A>],
+fn write_lines<A: Allocator, B: Allocator>(
+    texts: &[String<B>],
+    tails: &[String<B>],
     text: &mut String<A>,
 ) -> Result<(), AllocError>
-    requires { length tails.now ≡ length outcomes.now }
-    ensures { OnOk result (string_bytes text.new ≡ string_bytes text.old ++ outcome_lines 1 outcomes.now (map string_bytes tails.now)) }
+    requires { length tails.now ≡ length texts.now }
+    ensures { OnOk result (string_bytes text.new ≡ string_bytes text.old ++ outcome_lines 1 (map string_bytes texts.now) (map string_bytes tails.now)) }
 {
-    for (index, outcome) in outcomes.iter().enumerate() {
-        let mut key = String::new(alloc);
-        write_outcome(outcome.replies(), outcome.left(), &mut key)?;
-        write_outcome_line(index as u64 + 1, key.as_str(), tails[index].as_str(), text)?;
+    for (index, outcome) in texts.iter().enumerate() {
+        write_outcome_line(
+            index as u64 + 1,
+            outcome.as_str(),
+            tails[index].as_str(),
+            text,
+        )?;
     }
     Ok(())
-}
-
-// The events of a schedule, and whether each ends its call.
-fn take_moves<A: Allocator + Copy>(
-    alloc: A,
-    task: &Task<A>,
-    schedule: &[Move],
-) -> Result<Vec<Taken, A>, Stop>
-    requires { CanReplay task.now.kind }
-    ensures { IfOk result (λ taken. AreMoves schedule.now taken.items) }
-{
-    let Some(mut position) = Position::start(alloc, task.kind, &task.program)? else {
-        return Err(Stop::NotShown);
-    };
-    let mut taken = Vec::new(alloc);
-    for step in schedule {
-        let Some(event) = position.event(&task.program, step.party, step.granted) else {
-            return Err(Stop::NotShown);
-        };
-        let Some(next) = position.after(alloc, &task.program, step.party, step.granted)? else {
-            return Err(Stop::NotShown);
-        };
-        position = next;
-        let ends = !position.is_in_call(step.party);
-        taken.push(Taken { event, ends })?;
-    }
-    Ok(taken)
-}
-
-impl From<AllocError> for Stop {
-    fn from(_error: AllocError) -> Stop {
-        Stop::Fault(Fault::NoMemory)
-    }
-}
-
-impl<X: Drop> From<AllocFailed<X>> for Stop {
-    fn from(_failed: AllocFailed<X>) -> Stop {
-        Stop::Fault(Fault::NoMemory)
-    }
-}
-
-impl From<SearchFault> for Stop {
-    fn from(fault: SearchFault) -> Stop {
-        match fault {
-            SearchFault::NoMemory => Stop::Fault(Fault::NoMemory),
-            SearchFault::TooManyStates => Stop::TooManyStates,
-            SearchFault::EndlessCall | SearchFault::NotShown => Stop::NotShown,
-        }
-    }
 }

@@ -1,9 +1,10 @@
 //! How outcomes are printed.
-ghost use Rattle.std.specs.Prelude.{◌≡◌, ◌++◌, OnOk, string_bytes};
-ghost use Rattle.app_explore.specs.Outcomes.{lead_text, outcome_line, outcome_text, replies_text};
+ghost use Rattle.std.specs.Prelude.{◌≡◌, ◌++◌, IfOk, OnOk, map, string_bytes, true};
+ghost use Rattle.app_explore.specs.Outcomes.{AreInOrder, lead_text, outcome_line, outcome_text, replies_text, text_of};
 
 use app_text::items::write_items;
 use app_text::replies::Shown;
+use machine_explore::outcome::Outcome;
 use machine_explore::sequence::Sequence;
 use queue_steps::model::Reply;
 use std::alloc::{AllocError, Allocator};
@@ -23,6 +24,44 @@ pub fn write_outcome<A: Allocator, B: Allocator>(
     }
     text.push_str("left")?;
     write_items(left, text)
+}
+
+/// That text.
+pub(crate) fn text_of<A: Allocator>(
+    alloc: A,
+    outcome: &Outcome<A>,
+) -> Result<String<A>, AllocError>
+    ensures { IfOk result (λ text. string_bytes text ≡ text_of outcome.now) }
+{
+    let mut text = String::new(alloc);
+    write_outcome(outcome.replies(), outcome.left(), &mut text)?;
+    Ok(text)
+}
+
+/// The text of each outcome.
+pub(crate) fn texts_of<A: Allocator + Copy>(
+    alloc: A,
+    outcomes: &[Outcome<A>],
+) -> Result<Vec<String<A>, A>, AllocError>
+    ensures { IfOk result (λ texts. map string_bytes texts.items ≡ map text_of outcomes.now) }
+{
+    let mut texts = Vec::new(alloc);
+    for outcome in outcomes {
+        texts.push(text_of(alloc, outcome)?)?;
+    }
+    Ok(texts)
+}
+
+/// Whether each text is below the next one, byte for byte.
+pub(crate) fn are_in_order<A: Allocator>(texts: &[String<A>]) -> bool
+    ensures { result ≡ true → AreInOrder (map string_bytes texts.now) }
+{
+    for index in 1..texts.len() {
+        if texts[index - 1].as_str() >= texts[index].as_str() {
+            return false;
+        }
+    }
+    true
 }
 
 /// Appends the line of an outcome: its number, counted from 1, its text, and what else is told of it.

@@ -2,27 +2,21 @@
 ghost use Rattle.std.specs.Prelude.{◌≡◌, ◌++◌, [], ◌∷◌, ◌<◌, ◌≤◌, drop, length, MatchOption, OnOk, Some, string_bytes};
 ghost use Rattle.app_text.specs.Actions.{replay_line_text};
 ghost use Rattle.app_text.specs.Calls.{call_text};
-ghost use Rattle.app_explore.specs.Schedules.{MakeAll, before_lines, is_step_of, lines_text, move_lines, party_of, plain_line, row_length, schedule_text};
+ghost use Rattle.app_explore.specs.Schedules.{MakeAll, before_lines, ends_call, is_step_of, lines_text, move_lines, party_of, plain_line, row_length, schedule_text};
 
 use app_text::actions::{Action, ReplayLine};
-use machine_replay::types::Event;
+use machine_explore::trace::TraceEntry;
+use machine_replay::types::{Event, Told};
 use queue_steps::model::Call;
 use queue_steps::sizes::SOLO_STEPS;
 use std::alloc::{AllocError, Allocator};
 use std::fmt;
 
-/// An event of a schedule, and whether it ends the call that it belongs to.
-#[derive(Clone, Copy, Debug, Drop)]
-pub struct Taken {
-    pub event: Event<u64>,
-    pub ends: bool,
-}
-
 /// Appends the lines of a schedule: each of the calls before the parties begin is begun by party 0 and run to its end, and then
 /// come the moves. Two or more steps in a row that end a call are one line.
-pub fn write_schedule<A: Allocator>(
+pub fn write_schedule<A: Allocator, B: Allocator>(
     before: &[Call<u64>],
-    moves: &[Taken],
+    moves: &[TraceEntry<B>],
     text: &mut String<A>,
 ) -> Result<(), AllocError>
     ensures written { OnOk result (string_bytes text.new ≡ string_bytes text.old ++ schedule_text before.now moves.now) }
@@ -44,7 +38,10 @@ fn write_before<A: Allocator>(before: &[Call<u64>], text: &mut String<A>) -> Res
 }
 
 // Appends the lines of the moves.
-fn write_moves<A: Allocator>(moves: &[Taken], text: &mut String<A>) -> Result<(), AllocError>
+fn write_moves<A: Allocator, B: Allocator>(
+    moves: &[TraceEntry<B>],
+    text: &mut String<A>,
+) -> Result<(), AllocError>
     ensures { OnOk result (string_bytes text.new ≡ string_bytes text.old ++ lines_text (move_lines 0 moves.now)) }
 {
     let mut rest = moves;
@@ -56,33 +53,43 @@ fn write_moves<A: Allocator>(moves: &[Taken], text: &mut String<A>) -> Result<()
 }
 
 // The first line of moves, and how many of them it is for.
-fn first_line(moves: &[Taken]) -> Option<(ReplayLine, usize)>
+fn first_line<B: Allocator>(moves: &[TraceEntry<B>]) -> Option<(ReplayLine, usize)>
     ensures { MatchOption result
         (moves.now ≡ [])
         (λ p. (0 < p.1) × (p.1 ≤ length moves.now) × (move_lines 0 moves.now ≡ p.0 ∷ move_lines 0 (drop p.1 moves.now))) }
 {
     let first = moves.first()?;
-    let party = party_of(first.event);
+    let party = party_of(first.event());
     let count = row_length(party, moves);
     if count >= 2 && count as u64 <= SOLO_STEPS {
         return Some((line_of(party, Action::Run), count));
     }
-    Some((plain_line(first.event), 1))
+    Some((plain_line(first.event()), 1))
 }
 
 // How many steps of this party come first, of which the last ends its call; 0 where none does.
-fn row_length(party: usize, moves: &[Taken]) -> usize
+fn row_length<B: Allocator>(party: usize, moves: &[TraceEntry<B>]) -> usize
     ensures { result ≡ row_length 0 party moves.now }
 {
     for (index, taken) in moves.iter().enumerate() {
-        if !is_step_of(party, taken.event) {
+        if !is_step_of(party, taken.event()) {
             return 0;
         }
-        if taken.ends {
+        if ends_call(taken.told()) {
             return index + 1;
         }
     }
     0
+}
+
+// Whether this tells the end of a call.
+fn ends_call(told: Told<u64>) -> bool
+    ensures { result ≡ ends_call told }
+{
+    match told {
+        Told::Ran(_, Some(_)) => true,
+        Told::Ran(_, None) | Told::Skipped => false,
+    }
 }
 
 // Whether the event is a step of this party at which requests are granted.
@@ -96,7 +103,7 @@ fn is_step_of(party: usize, event: Event<u64>) -> bool
 }
 
 // The party of an event.
-fn party_of(event: Event<u64>) -> usize
+pub(crate) fn party_of(event: Event<u64>) -> usize
     ensures { result ≡ party_of event }
 {
     match event {
@@ -140,7 +147,7 @@ fn write_line<A: Allocator>(line: ReplayLine, text: &mut String<A>) -> Result<()
 
 // A call as it is printed.
 #[derive(Clone, Copy)]
-struct ShownCall(Call<u64>);
+pub(crate) struct ShownCall(pub(crate) Call<u64>);
 
 impl fmt::Display for ShownCall {
     ghost output = { λ shown. Some (call_text shown.0) };

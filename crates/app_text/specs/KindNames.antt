@@ -1,5 +1,5 @@
 -- The words that name a kind of queue, and the arguments that name a form.
-use Rattle.std.specs.Prelude.{◌≡◌, ℕ, ◌<◌, ◌≤◌, ◌*◌, ◌%◌, List, [], ◌∷◌, ◌++◌, codes, Option}
+use Rattle.std.specs.Prelude.{◌≡◌, ℕ, ◌<◌, ◌≤◌, ◌*◌, ◌%◌, ◌==◌, if◌then◌else◌, List, [], ◌∷◌, ◌++◌, codes, Option}
 use Rattle.std.specs.Fmt.{decimal}
 use Rattle.queue_steps.specs.Next.{capacity_of as capacity_of_kind}
 use Rattle.queue_steps.specs.declared.steps.types.Kind.{Kind}
@@ -64,6 +64,11 @@ abbrev pub kind_named : KindName → Kind
 kind_named kind.Single = queue.Single
 kind_named (kind.Bounded count) = queue.Bounded count
 kind_named kind.Unbounded = queue.Unbounded
+
+-- the same, as a queue that is made: with a capacity of 1 it is one slot
+abbrev pub queue_named : KindName → Kind
+queue_named (kind.Bounded count) = if count == 1 then queue.Single else queue.Bounded count
+queue_named k = kind_named k
 
 -- its capacity, if it has one
 abbrev pub capacity_of : KindName → Option ℕ

@@ -8,3 +8,5 @@ pub mod Spaces
 pub mod Actions
 pub mod Items
 pub mod Streams
+pub mod Effects
+pub mod Given

@@ -1,11 +1,14 @@
 //! The arguments of the program.
-ghost use Rattle.std.specs.Prelude.{[], ◌∷◌, map, string_bytes};
+ghost use Rattle.std.specs.Prelude.{◌≡◌, [], ◌∷◌, map, string_bytes};
 ghost use Rattle.std.specs.Fmt.{decimal};
 ghost use Rattle.app_text.specs.Reading.{IsReading};
-ghost use Rattle.app_text.specs.KindNames.{kind_text, IsKindName, form_words, IsForm, IsPartyCount};
+ghost use Rattle.machine_replay.specs.Conforms.{capacity_of as capacity_of_kind};
+ghost use Rattle.machine_replay.specs.Replays.{CanReplay};
+ghost use Rattle.app_text.specs.KindNames.{capacity_of, kind_text, queue_named, IsKindName, form_words, IsForm, IsPartyCount};
 
 use crate::load::{Load, parse_even_load, parse_load};
 use crate::numbers::parse_number;
+use queue_steps::steps::Kind;
 
 /// The most parties that a replay may have.
 pub const MOST_PARTIES: u64 = 64;
@@ -19,6 +22,22 @@ pub enum KindName {
     /// With this capacity, which is above 0. The capacity 1 is `Single`.
     Bounded(usize),
     Unbounded,
+}
+
+impl KindName {
+    /// The queue of this kind: with a capacity of 1 it is one slot.
+    pub fn kind(self) -> Kind
+        requires { IsKindName self }
+        ensures kind { result ≡ queue_named self }
+        ensures has { capacity_of_kind result ≡ capacity_of self }
+        ensures can { CanReplay result }
+    {
+        match self {
+            KindName::Single | KindName::Bounded(1) => Kind::Single,
+            KindName::Bounded(cap) => Kind::Bounded(cap),
+            KindName::Unbounded => Kind::Unbounded,
+        }
+    }
 }
 
 /// What the program is to do.

@@ -4,6 +4,7 @@
 pub mod actions;
 pub mod args;
 mod calls;
+pub mod effects;
 pub mod faults;
 pub mod items;
 pub mod lines;
@@ -11,3 +12,4 @@ pub mod load;
 pub mod numbers;
 pub mod replies;
 pub mod streams;
+pub mod words;

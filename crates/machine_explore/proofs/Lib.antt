@@ -6,3 +6,4 @@ pub mod Showing
 pub mod Starting
 pub mod Runs
 pub mod Staying
+pub mod Pairs

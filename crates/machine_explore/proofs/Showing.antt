@@ -8,7 +8,7 @@ use Rattle.std.proofs.lemmas.List.Elements.{All-nil, All-push}
 use Rattle.queue_steps.specs.declared.model.Call.{Call}
 use Rattle.queue_steps.specs.declared.steps.types.Kind.{Kind}
 use Rattle.machine_replay.specs.Conforms.{party_of}
-use Rattle.machine_replay.specs.Left.{opening_world}
+use Rattle.machine_replay.specs.Left.{left_of, opening_world}
 use Rattle.machine_replay.specs.SharedMemory.{Shared, start_of, step_of}
 use Rattle.machine_replay.specs.World.{Begun, Made, World, call_at, world_event}
 use Rattle.machine_replay.specs.declared.machine.Running.{Running}
@@ -16,12 +16,13 @@ use Rattle.machine_replay.specs.declared.types.Event.{Event}
 use Rattle.machine_replay.specs.declared.types.Event.TheVariants.{Begin, Step}
 use Rattle.machine_replay.specs.declared.types.Told.{Told}
 use Rattle.machine_replay.specs.declared.types.Told.TheVariants.{Skipped, Ran}
-use Rattle.machine_explore.specs.Certified.{IsMove, IsOutcomeOf}
+use Rattle.machine_explore.specs.Certified.{IsMove}
 use Rattle.machine_explore.specs.Explored.{IsGranted, begun_by, replies_by}
 use Rattle.machine_explore.specs.Moves.{advanced, call_in, event_at, event_for, led, reply_in}
 use Rattle.machine_replay.specs.Played.{told_by, told_of, world_after, world_by}
 use Rattle.machine_explore.specs.Positions.{IsFinal, Progress, Standing, calls_of, no_progress, outcome_at, progress_of}
 use Rattle.machine_explore.specs.Starts.{IsStart}
+use Rattle.machine_explore.specs.Traces.{IsSeen, IsTraceOf, Seen, seen_at, trace_of}
 use Rattle.machine_explore.specs.declared.schedule.Move.{Move}
 use Rattle.machine_explore.proofs.NoOther.{ends_with, none_begun}
 use Rattle.machine_explore.proofs.Reaching.{if-true, if-false, progress-other, progress-own, same_party}
@@ -39,6 +40,10 @@ module _ {S R T : Type 0} (step : Bool → S → R → Made S R T) (start : Call
   pub told_by-length : (es : List (Event T)) (w : World S R) → length (told_by step start w es) ≡ length es
   told_by-length [] w = refl
   told_by-length (x ∷ es) w = ap suc (told_by-length es (world_event step start w true x).0)
+
+trace_of-snoc : (k : Kind) (es : List (Event ℕ)) (w : World (Shared ℕ) (Running ℕ)) (e : Event ℕ) → trace_of k w (es ++ e ∷ []) ≡ trace_of k w es ++ seen_at k (world_after k w es) e ∷ []
+trace_of-snoc k [] w e = refl
+trace_of-snoc k (x ∷ es) w e = ap (λ l. seen_at k w x ∷ l) (trace_of-snoc k es (world_event (step_of k) (start_of k) w true x).0 e)
 
 pub begun_by-snoc : {T : Type 0} (p : ℕ) (es : List (Event T)) (ts : List (Told T)) (e : Event T) (t : Told T) → length ts ≡ length es
     → begun_by p (es ++ e ∷ []) (ts ++ t ∷ []) ≡ begun_by p es ts ++ (if party_of e == p then call_in e t else [])
@@ -105,11 +110,12 @@ begun_more calls begun more (inl none) =
     ap (λ l. take begun calls ++ l) none ∙ append-nil (take begun calls) ∙ ap (λ n. take n calls) count
 begun_more calls begun more (inr one) = ap (λ l. take begun calls ++ l) one.1 ∙ take_next calls begun one.0 one.2 ∙ ap (λ l. take (begun + length l) calls) (sym one.1)
 
--- the program has come there from w by these events, which are those of the moves
-pub record IsUnderWay (k : Kind) (refuses : Bool) (calls : List (List (Call ℕ))) (w : World (Shared ℕ) (Running ℕ)) (schedule : List Move) (s : Standing) : Type 0 where
+-- the program has come there from w by these events, which are those of the moves, and of which this was seen
+pub record IsUnderWay (k : Kind) (refuses : Bool) (calls : List (List (Call ℕ))) (w : World (Shared ℕ) (Running ℕ)) (schedule : List Move) (seen : List Seen) (s : Standing) : Type 0 where
   pub rest : List (Event ℕ)
   pub moves : AllZip IsMove schedule rest
   pub grants : refuses ≡ false → All IsGranted rest
+  pub seen_are : seen ≡ trace_of k w rest
   pub kind : s.kind ≡ k
   pub world : s.world ≡ world_after k w rest
   pub parties : length s.parties ≡ length calls
@@ -117,11 +123,12 @@ pub record IsUnderWay (k : Kind) (refuses : Bool) (calls : List (List (Call ℕ)
   pub replies : (p : ℕ) → p < length calls → replies_by p rest (told_of k w rest) ≡ (progress_of s p).replies
 
 -- before the first move
-pub under_way-first : (k : Kind) (refuses : Bool) (before : List (Call ℕ)) (calls : List (List (Call ℕ))) (s : Standing) → IsStart k before (length calls) s → IsUnderWay k refuses calls s.world [] s
+pub under_way-first : (k : Kind) (refuses : Bool) (before : List (Call ℕ)) (calls : List (List (Call ℕ))) (s : Standing) → IsStart k before (length calls) s → IsUnderWay k refuses calls s.world [] [] s
 under_way-first k refuses before calls s start = record {
   rest = [];
   moves = tt;
   grants = λ h. All-nil IsGranted;
+  seen_are = refl;
   kind = start.kind;
   world = refl;
   parties = ap length start.none_begun ∙ length-replicate (length calls) no_progress;
@@ -130,12 +137,13 @@ under_way-first k refuses before calls s start = record {
 }
 
 -- after one move more
-pub under_way-next : (k : Kind) (refuses : Bool) (calls : List (List (Call ℕ))) (w : World (Shared ℕ) (Running ℕ)) (schedule : List Move) (s : Standing) (m : Move) (e : Event ℕ)
-    → IsUnderWay k refuses calls w schedule s → (refuses ≡ false → m.granted ≡ true) → event_at calls s m.party m.granted ≡ Some e → IsUnderWay k refuses calls w (schedule ++ m ∷ []) (led s.kind s e)
-under_way-next k refuses calls w schedule s m e on may is = record {
+pub under_way-next : (k : Kind) (refuses : Bool) (calls : List (List (Call ℕ))) (w : World (Shared ℕ) (Running ℕ)) (schedule : List Move) (seen : List Seen) (s : Standing) (m : Move) (e : Event ℕ)
+    → IsUnderWay k refuses calls w schedule seen s → (refuses ≡ false → m.granted ≡ true) → event_at calls s m.party m.granted ≡ Some e → IsUnderWay k refuses calls w (schedule ++ m ∷ []) (seen ++ seen_at s.kind s.world e ∷ []) (led s.kind s e)
+under_way-next k refuses calls w schedule seen s m e on may is = record {
   rest = on.rest ++ e ∷ [];
   moves = AllZip-more IsMove schedule on.rest m e on.moves (is_move m (call_at s.world m.party) (slice_get (calls_of calls m.party) (progress_of s m.party).begun) e is);
   grants = λ h. All-push IsGranted on.rest e (on.grants h) (way.grants (may h));
+  seen_are = ap (λ l. l ++ seen_at s.kind s.world e ∷ []) on.seen_are ∙ ap (λ x. trace_of k w on.rest ++ x ∷ []) same_seen ∙ sym (trace_of-snoc k on.rest w e);
   kind = on.kind;
   world = ap (λ x. (world_event (step_of x) (start_of x) s.world true e).0) on.kind ∙ ap (λ x. (world_event (step_of k) (start_of k) x true e).0) on.world ∙ sym (world_by-snoc (step_of k) (start_of k) on.rest w e);
   parties = length-set s.parties (party_of e) _ ∙ on.parties;
@@ -151,6 +159,9 @@ under_way-next k refuses calls w schedule s m e on may is = record {
 
     same_told : t ≡ (world_event (step_of k) (start_of k) (world_after k w on.rest) true e).1
     same_told = ap (λ x. (world_event (step_of x) (start_of x) s.world true e).1) on.kind ∙ ap (λ x. (world_event (step_of k) (start_of k) x true e).1) on.world
+
+    same_seen : seen_at s.kind s.world e ≡ seen_at k (world_after k w on.rest) e
+    same_seen = ap (λ x. seen_at x s.world e) on.kind ∙ ap (λ x. seen_at k x e) on.world
 
     told_more : told_of k w (on.rest ++ e ∷ []) ≡ told_of k w on.rest ++ t ∷ []
     told_more = told_by-snoc (step_of k) (start_of k) on.rest w e ∙ ap (λ x. told_of k w on.rest ++ x ∷ []) (sym same_told)
@@ -216,54 +227,56 @@ under_way-next k refuses calls w schedule s m e on may is = record {
     replied p h = elim (eqb_tells (party_of e) p) [ inl same ↦ subst RepliedGoal same.1 (replied-own_party (rw same.1 h)) | inr other ↦ replied-other_party p h other.0 other.1 ]
 
 -- the whole schedule shows its outcome
-pub shows : (k : Kind) (refuses : Bool) (before : List (Call ℕ)) (calls : List (List (Call ℕ))) (schedule : List Move) (start end : Standing) → IsStart k before (length calls) start → IsUnderWay k refuses calls start.world schedule end
-    → ((p : ℕ) → p < length calls → (progress_of end p).begun ≡ length (calls_of calls p)) → IsFinal calls end → IsOutcomeOf k refuses before calls schedule (outcome_at end)
-shows k refuses before calls schedule start end starts on begun final =
+pub shows : (k : Kind) (refuses : Bool) (before : List (Call ℕ)) (calls : List (List (Call ℕ))) (schedule : List Move) (seen : List Seen) (start end : Standing) → IsStart k before (length calls) start → IsUnderWay k refuses calls start.world schedule seen end
+    → ((p : ℕ) → p < length calls → (progress_of end p).begun ≡ length (calls_of calls p)) → IsFinal calls end → IsTraceOf k refuses before calls schedule (record { opening = left_of k start.world; seen = seen; outcome = outcome_at end })
+shows k refuses before calls schedule seen start end starts on begun final =
     let first = starts.prepared.0 in
     let w = world_after k (opening_world k (length calls)) first in
     let same : start.world ≡ w = starts.prepared.2 in
-    let P : World (Shared ℕ) (Running ℕ) → Type 0 = λ x. IsUnderWay k refuses calls x schedule end in
-    let from : IsUnderWay k refuses calls w schedule end = subst P same on in
+    let P : World (Shared ℕ) (Running ℕ) → Type 0 = λ x. IsUnderWay k refuses calls x schedule seen end in
+    let from : IsUnderWay k refuses calls w schedule seen end = subst P same on in
     record {
-      first = first;
-      rest = from.rest;
-      run = record {
-        prepares = starts.prepared.1;
-        plays = record {
-          grants = from.grants;
-          begins = λ p h. from.begins p h ∙ ap (λ n. take n (calls_of calls p)) (begun p h) ∙ take_all (length (calls_of calls p)) (calls_of calls p) (omega arith);
-          replies = λ p h. ap length (from.replies p h) ∙ final p h;
+      of = record {
+        first = first;
+        rest = from.rest;
+        run = record {
+          prepares = starts.prepared.1;
+          plays = record {
+            grants = from.grants;
+            begins = λ p h. from.begins p h ∙ ap (λ n. take n (calls_of calls p)) (begun p h) ∙ take_all (length (calls_of calls p)) (calls_of calls p) (omega arith);
+            replies = λ p h. ap length (from.replies p h) ∙ final p h;
+          };
         };
+        moves = from.moves;
+        outcome = ends_with k calls w from.rest end from.kind from.world from.parties (λ p h. sym (from.replies p h));
       };
-      moves = from.moves;
-      outcome = ends_with k calls w from.rest end from.kind from.world from.parties (λ p h. sym (from.replies p h));
+      opening = ap (λ x. left_of k x) same;
+      seen = from.seen_are;
     }
 
 -- whose event it is
 pub event_party : (calls : List (List (Call ℕ))) (s : Standing) (p : ℕ) (granted : Bool) (e : Event ℕ) → event_at calls s p granted ≡ Some e → party_of e ≡ p
 event_party calls s p granted e is = (is_way p granted (call_at s.world p) (slice_get (calls_of calls p) (progress_of s p).begun) e is).party
 
--- the program has come there from where it starts, by these moves
-pub record IsOnWay (k : Kind) (refuses : Bool) (before : List (Call ℕ)) (calls : List (List (Call ℕ))) (schedule : List Move) (s : Standing) : Type 0 where
+-- the program has come there from where it starts, by these moves, and this was seen
+pub record IsOnWay (k : Kind) (refuses : Bool) (before : List (Call ℕ)) (calls : List (List (Call ℕ))) (schedule : List Move) (opening : List ℕ) (seen : List Seen) (s : Standing) : Type 0 where
   pub start : Standing
   pub starts : IsStart k before (length calls) start
-  pub on : IsUnderWay k refuses calls start.world schedule s
+  pub opening_is : opening ≡ left_of k start.world
+  pub on : IsUnderWay k refuses calls start.world schedule seen s
 
-pub on_way-first : (k : Kind) (refuses : Bool) (before : List (Call ℕ)) (calls : List (List (Call ℕ))) (s : Standing) → IsStart k before (length calls) s → IsOnWay k refuses before calls [] s
-on_way-first k refuses before calls s start = record { start = s; starts = start; on = under_way-first k refuses before calls s start }
+pub on_way-first : (k : Kind) (refuses : Bool) (before : List (Call ℕ)) (calls : List (List (Call ℕ))) (opening : List ℕ) (s : Standing) → IsStart k before (length calls) s → opening ≡ left_of s.kind s.world → IsOnWay k refuses before calls [] opening [] s
+on_way-first k refuses before calls opening s start is = record { start = s; starts = start; opening_is = is ∙ ap (λ x. left_of x s.world) start.kind; on = under_way-first k refuses before calls s start }
 
-pub on_way-next : (k : Kind) (refuses : Bool) (before : List (Call ℕ)) (calls : List (List (Call ℕ))) (schedule : List Move) (s next : Standing) (m : Move)
-    → IsOnWay k refuses before calls schedule s → (refuses ≡ false → m.granted ≡ true) → Some next ≡ option_map (led s.kind s) (event_at calls s m.party m.granted) → IsOnWay k refuses before calls (schedule ++ m ∷ []) next
-on_way-next k refuses before calls schedule s next m way may is = by_event (event_at calls s m.party m.granted) refl
-  where
-    by_event : (o : Option (Event ℕ)) → event_at calls s m.party m.granted ≡ o → IsOnWay k refuses before calls (schedule ++ m ∷ []) next
-    by_event None none = let e : Some next ≡ None = is ∙ ap (λ o. option_map (led s.kind s) o) none in cc
-    by_event (Some e) some =
-        let both : Some next ≡ Some (led s.kind s e) = is ∙ ap (λ o. option_map (led s.kind s) o) some in
-        let same : led s.kind s e ≡ next = cc in
-        let P : Standing → Type 0 = λ x. IsUnderWay k refuses calls way.start.world (schedule ++ m ∷ []) x in
-        record { start = way.start; starts = way.starts; on = subst P same (under_way-next k refuses calls way.start.world schedule s m e way.on may some) }
+pub on_way-next : (k : Kind) (refuses : Bool) (before : List (Call ℕ)) (calls : List (List (Call ℕ))) (schedule : List Move) (opening : List ℕ) (seen : List Seen) (s later : Standing) (m : Move) (x : Seen)
+    → IsOnWay k refuses before calls schedule opening seen s → (refuses ≡ false → m.granted ≡ true) → IsSeen calls s m x later → IsOnWay k refuses before calls (schedule ++ m ∷ []) opening (seen ++ x ∷ []) later
+on_way-next k refuses before calls schedule opening seen s later m x way may is =
+    let P : Seen → Standing → Type 0 = λ y z. IsUnderWay k refuses calls way.start.world (schedule ++ m ∷ []) (seen ++ y ∷ []) z in
+    let next : P (seen_at s.kind s.world x.event) (led s.kind s x.event) = under_way-next k refuses calls way.start.world schedule seen s m x.event way.on may is.event in
+    record { start = way.start; starts = way.starts; opening_is = way.opening_is; on = subst (λ z. P x z) (sym is.leads) (subst (λ y. P y (led s.kind s x.event)) (sym is.seen) next) }
 
-pub on_way-shows : (k : Kind) (refuses : Bool) (before : List (Call ℕ)) (calls : List (List (Call ℕ))) (schedule : List Move) (end : Standing) → IsOnWay k refuses before calls schedule end
-    → ((p : ℕ) → p < length calls → (progress_of end p).begun ≡ length (calls_of calls p)) → IsFinal calls end → IsOutcomeOf k refuses before calls schedule (outcome_at end)
-on_way-shows k refuses before calls schedule end way begun final = shows k refuses before calls schedule way.start end way.starts way.on begun final
+pub on_way-shows : (k : Kind) (refuses : Bool) (before : List (Call ℕ)) (calls : List (List (Call ℕ))) (schedule : List Move) (opening : List ℕ) (seen : List Seen) (end : Standing) → IsOnWay k refuses before calls schedule opening seen end
+    → ((p : ℕ) → p < length calls → (progress_of end p).begun ≡ length (calls_of calls p)) → IsFinal calls end → IsTraceOf k refuses before calls schedule (record { opening = opening; seen = seen; outcome = outcome_at end })
+on_way-shows k refuses before calls schedule opening seen end way begun final =
+    let P : List ℕ → Type 0 = λ l. IsTraceOf k refuses before calls schedule (record { opening = l; seen = seen; outcome = outcome_at end }) in
+    subst P (sym way.opening_is) (shows k refuses before calls schedule seen way.start end way.starts way.on begun final)

@@ -4,3 +4,4 @@ pub mod Explored
 pub mod Starts
 pub mod Tables
 pub mod Certified
+pub mod Traces

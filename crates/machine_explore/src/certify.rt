@@ -1,12 +1,12 @@
 //! A schedule is run once more, and shows the outcome that it leads to.
-ghost use Rattle.std.specs.Prelude.{◌≡◌, ⊤, IfOk, MatchOption};
+ghost use Rattle.std.specs.Prelude.{⊤, IfOk, MatchOption};
 ghost use Rattle.machine_replay.specs.Replays.{CanReplay};
 ghost use Rattle.machine_explore.specs.Certified.{IsOutcomeOf};
 
 use crate::outcome::Outcome;
-use crate::position::Position;
 use crate::program::Program;
 use crate::schedule::Move;
+use crate::trace::follow;
 use queue_steps::steps::Kind;
 use std::alloc::{AllocError, Allocator};
 
@@ -25,20 +25,8 @@ pub fn certify<A: Allocator + Copy>(
     requires { CanReplay kind }
     ensures { IfOk result (λ o. MatchOption o ⊤ (IsOutcomeOf kind refuses program.now.before program.now.parties.items schedule.now)) }
 {
-    let Some(mut position) = Position::start(alloc, kind, program)? else {
-        return Ok(None);
-    };
-    for step in schedule {
-        if !step.granted && !refuses {
-            return Ok(None);
-        }
-        let Some(next) = position.after(alloc, program, step.party, step.granted)? else {
-            return Ok(None);
-        };
-        position = next;
+    match follow(alloc, kind, refuses, program, schedule)? {
+        None => Ok(None),
+        Some(trace) => Ok(Some(trace.into_outcome())),
     }
-    if !position.has_begun_all(program) || !position.is_final(program) {
-        return Ok(None);
-    }
-    Ok(Some(position.outcome(alloc)?))
 }

@@ -9,3 +9,5 @@ pub mod program;
 pub mod progress;
 pub mod schedule;
 pub mod sequence;
+pub mod show;
+pub mod trace;

@@ -1,10 +1,13 @@
 //! Where a run of a program stands, and how it goes on.
-ghost use Rattle.std.specs.Prelude.{◌≡◌, ◌↔◌, ℕ, ◌<◌, ◌∷◌, Bool, true, false, ⊤, [], IsTrue, IfOk, OnOk, MatchOption, length, option_map, slice_index_or, slice_set};
+ghost use Rattle.std.specs.Prelude.{◌≡◌, ◌↔◌, ℕ, ◌<◌, ◌∷◌, Bool, true, false, ⊤, [], None, is_some, IsTrue, IfOk, OnOk, MatchOption, length, option_map, slice_index_or, slice_set};
 ghost use Rattle.machine_replay.specs.MachineRuns.{IsSomeMachineRun};
+ghost use Rattle.machine_replay.specs.Left.{left_of};
 ghost use Rattle.machine_replay.specs.Machine.{event_of, world_of};
+ghost use Rattle.machine_replay.specs.Played.{local_in};
+ghost use Rattle.machine_replay.specs.World.{call_at};
 ghost use Rattle.machine_replay.specs.declared.types.Event.TheVariants.{Step};
 ghost use Rattle.machine_replay.specs.Replays.{CanReplay};
-ghost use Rattle.machine_explore.specs.Moves.{advanced, event_at, led};
+ghost use Rattle.machine_explore.specs.Moves.{advanced, event_at, led, IsLed};
 ghost use Rattle.machine_explore.specs.Positions.{IsFinal, Standing, calls_of, no_progress, outcome_at, progress_of};
 ghost use Rattle.machine_explore.specs.Starts.{IsPrepared, IsStart};
 
@@ -16,7 +19,7 @@ use machine_replay::machine_run::MachineRun;
 use machine_replay::types::{Event, Handled, Told};
 use queue_steps::model::Call;
 use queue_steps::sizes::SOLO_STEPS;
-use queue_steps::steps::Kind;
+use queue_steps::steps::{Kind, Local};
 use std::alloc::{AllocError, Allocator};
 use std::hash::{FoldHasher, Hasher};
 use std::marker::Model;
@@ -26,6 +29,17 @@ use std::marker::Model;
 pub struct Position<A: Allocator> {
     run: MachineRun<u64, A>,
     parties: Vec<PartyProgress<A>, A>,
+}
+
+/// An event by which a party goes on, what is told of it, and where it leads.
+#[derive(Drop)]
+pub struct Led<A: Allocator> {
+    /// The event.
+    pub event: Event<u64>,
+    /// What is told of it.
+    pub told: Told<u64>,
+    /// Where the run stands then.
+    pub position: Position<A>,
 }
 
 impl<A: Allocator> Model for Position<A> {
@@ -86,8 +100,17 @@ impl<A: Allocator + Copy> Position<A> {
     }
 
     /// Whether the party is in a call.
-    pub fn is_in_call(&self, party: usize) -> bool {
+    pub fn is_in_call(&self, party: usize) -> bool
+        ensures { result ≡ is_some (call_at self.now.world party) }
+    {
         self.run.is_in_call(party)
+    }
+
+    /// Where the party's call stands, if it is in one.
+    pub fn local(&self, party: usize) -> Option<Local<usize>>
+        ensures { result ≡ local_in (call_at self.now.world party) }
+    {
+        self.run.local(party)
     }
 
     /// Whether the next step of the party asks for a block.
@@ -114,19 +137,21 @@ impl<A: Allocator + Copy> Position<A> {
         }
     }
 
-    /// Where the run stands after that event.
+    /// That event, what is told of it, and where it leads.
     ///
     /// # Errors
     ///
     /// Where there is no memory, for a block too that the event does not refuse.
-    pub fn after(
+    pub fn lead(
         &self,
         alloc: A,
         program: &Program<A>,
         party: usize,
         granted: bool,
-    ) -> Result<Option<Position<A>>, AllocError>
-        ensures { IfOk result (λ o. o ≡ option_map (led self.now.kind self.now) (event_at program.now.parties.items self.now party granted)) }
+    ) -> Result<Option<Led<A>>, AllocError>
+        ensures { IfOk result (λ o. MatchOption o
+            (event_at program.now.parties.items self.now party granted ≡ None)
+            (λ l. IsLed program.now.parties.items self.now party granted l.event l.told l.position)) }
     {
         match self.event(program, party, granted) {
             None => Ok(None),
@@ -137,8 +162,33 @@ impl<A: Allocator + Copy> Position<A> {
                     return Err(AllocError);
                 }
                 let parties = advanced_by(alloc, &self.parties, party, event, told)?;
-                Ok(Some(Position { run, parties }))
+                let position = Position { run, parties };
+                Ok(Some(Led {
+                    event,
+                    told,
+                    position,
+                }))
             }
+        }
+    }
+
+    /// Where the run stands after that event.
+    ///
+    /// # Errors
+    ///
+    /// As of `lead`.
+    pub fn after(
+        &self,
+        alloc: A,
+        program: &Program<A>,
+        party: usize,
+        granted: bool,
+    ) -> Result<Option<Position<A>>, AllocError>
+        ensures { IfOk result (λ o. o ≡ option_map (led self.now.kind self.now) (event_at program.now.parties.items self.now party granted)) }
+    {
+        match self.lead(alloc, program, party, granted)? {
+            None => Ok(None),
+            Some(led) => Ok(Some(led.position)),
         }
     }
 
@@ -205,11 +255,22 @@ impl<A: Allocator + Copy> Position<A> {
             copied.extend_from_slice(party.replies())?;
             replies.push_reserved(Sequence::of(copied));
         }
-        let ended = self.run.fork(alloc)?.end(alloc)?;
         Ok(Outcome {
             replies,
-            left: ended.left,
+            left: self.list(alloc)?,
         })
+    }
+
+    /// The list as it stands, front first, with the items that their push has not yet written.
+    ///
+    /// # Errors
+    ///
+    /// Where there is no memory.
+    pub fn list(&self, alloc: A) -> Result<Vec<u64, A>, AllocError>
+        ensures { IfOk result (λ list. list.items ≡ left_of self.now.kind self.now.world) }
+    {
+        let ended = self.run.fork(alloc)?.end(alloc)?;
+        Ok(ended.left)
     }
 }
 

@@ -2,6 +2,7 @@
 use Rattle.std.specs.Prelude.{◌≡◌, ℕ, ◌&&◌, Bool, true, false, Option, Some, None, List, [], ◌∷◌}
 use Rattle.queue_steps.specs.declared.model.Call.{Call}
 use Rattle.queue_steps.specs.declared.steps.types.Kind.{Kind}
+use Rattle.queue_steps.specs.declared.steps.types.Local.{Local}
 use Rattle.queue_steps.specs.declared.steps.types.Op.{Op}
 use Rattle.queue_steps.specs.declared.steps.types.Op.TheVariants as op
 use Rattle.machine_replay.specs.declared.machine.Running.{Running}
@@ -43,6 +44,11 @@ pub record IsPlayed {T A : Type 0} (k : Kind) (parties : ℕ) (events : List (Ev
   pub effects : r.effects.items ≡ entries_from effect_entry 0 (refused events granted) (told_of k (opening_world k parties) (refused events granted))
   pub skipped : r.skipped.items ≡ entries_from skipped_entry 0 (refused events granted) (told_of k (opening_world k parties) (refused events granted))
   pub left : r.left.items ≡ left_of k (world_after k (opening_world k parties) (refused events granted))
+
+-- where the party's call stands, if it is in one
+abbrev pub local_in : {T : Type 0} → Option (Running T) → Option (Local ℕ)
+local_in None = None
+local_in (Some r) = Some r.local
 
 -- whether the operation is a request for a block, and whether a party's call has that before it
 abbrev pub is_request : Op ℕ → Bool

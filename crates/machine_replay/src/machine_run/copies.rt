@@ -2,13 +2,14 @@
 ghost use Rattle.std.specs.Prelude.{◌≡◌, Bool, IfOk, None, length, slice_index_or, true, false};
 ghost use Rattle.machine_replay.specs.Machine.{event_of, world_of};
 ghost use Rattle.machine_replay.specs.MachineRuns.{CanGoOn, IsSameMachineRun};
-ghost use Rattle.machine_replay.specs.Played.{asks};
+ghost use Rattle.machine_replay.specs.Played.{asks, local_in};
+ghost use Rattle.machine_replay.specs.World.{call_at};
 ghost use Rattle.machine_replay.specs.declared.types.Event.TheVariants.{Step};
 
 use super::MachineRun;
 use crate::machine::Running;
 use crate::same::Same;
-use queue_steps::steps::{Kind, Op};
+use queue_steps::steps::{Kind, Local, Op};
 use std::alloc::{AllocError, Allocator};
 use std::hash::{FoldHasher, Hash, Hasher};
 
@@ -62,6 +63,13 @@ impl<T, A: Allocator> MachineRun<T, A> {
         is_asking(&self.machine.calls, party)
     }
 
+    /// Where the party's call stands, if it is in one.
+    pub fn local(&self, party: usize) -> Option<Local<usize>>
+        ensures { result ≡ local_in (call_at (world_of self.now.machine) party) }
+    {
+        local_of(&self.machine.calls, party)
+    }
+
     /// How many parties share the queue.
     pub fn parties(&self) -> usize
         ensures { result ≡ length (world_of self.now.machine).calls }
@@ -74,6 +82,19 @@ impl<T, A: Allocator> MachineRun<T, A> {
         ensures { result ≡ self.now.machine.kind }
     {
         self.machine.kind
+    }
+}
+
+/// Where the party's call stands, of these calls.
+fn local_of<T>(calls: &[Option<Running<T>>], party: usize) -> Option<Local<usize>>
+    ensures { result ≡ local_in (slice_index_or calls.now party None) }
+{
+    if party >= calls.len() {
+        return None;
+    }
+    match &calls[party] {
+        Some(running) => Some(running.local),
+        None => None,
     }
 }
 

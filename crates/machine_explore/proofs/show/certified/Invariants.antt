@@ -1,7 +1,7 @@
 use Rattle.std.proofs.Math.ListN.{take}
 use Rattle.std.specs.List.{AllZip}
 use Rattle.machine_explore.specs.Certified.{IsOutcomeOf}
-use Rattle.machine_search.proofs.explore.certified.Given as goal
+use Rattle.machine_explore.proofs.show.certified.Given as goal
 
 -- the schedules so far lead to the outcomes so far
 abbrev pub invariant-loop-schedule : goal.invariant-loop-schedule

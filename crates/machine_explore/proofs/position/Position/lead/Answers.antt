@@ -4,10 +4,10 @@ use Rattle.machine_replay.specs.Machine.{event_of, world_of}
 use Rattle.machine_explore.specs.Moves.{advanced}
 use Rattle.machine_explore.specs.Positions.{Standing, no_progress}
 use Rattle.machine_explore.proofs.Runs.{copied-some, led_there, went_on-some}
-use Rattle.machine_explore.proofs.position.Position.after.Goals as goal
+use Rattle.machine_explore.proofs.position.Position.lead.Goals as goal
 
-pub invariant_of-result : goal.invariant_of-result
-invariant_of-result g c =
+pub invariant_of-position : goal.invariant_of-position
+invariant_of-position g c =
     went_on-some c.in_ok-run-in-Some.run' c.handle_met-told.new.self c.in-Some.event c.handle_met-told.result.told c.handle_met-told.ensures.goes_on
     (copied-some c.self.inside.run c.in_ok-run-in-Some.run' c.in_ok-run-in-Some.ensures.same c.self.invariant)
 

@@ -3,7 +3,7 @@ use Rattle.std.proofs.lemmas.Iterator.{items_from_collect}
 use Rattle.std.proofs.lemmas.Iterator.Adapters.{YieldsList-from_skip, YieldsList-from_vec}
 use Rattle.std.specs.Iterator.Adapters.{skip_source}
 use Rattle.std.specs.Vec.Iter.{into_iter_items, into_iter_len}
-use Rattle.app_command.proofs.program.behind_name.Goals as goal
+use Rattle.app_text.proofs.words.behind_name.Goals as goal
 
 pub returns : goal.returns
 returns c =

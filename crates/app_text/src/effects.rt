@@ -1,6 +1,6 @@
 //! How effects are printed.
 ghost use Rattle.std.specs.Prelude.{Some};
-ghost use Rattle.app_command.specs.Effects.{effect_text};
+ghost use Rattle.app_text.specs.Effects.{effect_text};
 
 use machine_replay::types::EffectKind;
 use std::fmt;

@@ -1,0 +1,52 @@
+-- What is seen of a run of a program: of each event where its call stood, what was told, and the list behind it.
+use Rattle.std.specs.Prelude.{◌≡◌, ℕ, Bool, true, Option, Some, List, [], ◌∷◌, length}
+use Rattle.queue_steps.specs.declared.model.Call.{Call}
+use Rattle.queue_steps.specs.declared.steps.types.Kind.{Kind}
+use Rattle.queue_steps.specs.declared.steps.types.Local.{Local}
+use Rattle.machine_replay.specs.declared.machine.Running.{Running}
+use Rattle.machine_replay.specs.declared.types.Event.{Event}
+use Rattle.machine_replay.specs.declared.types.Told.{Told}
+use Rattle.machine_replay.specs.Conforms.{party_of}
+use Rattle.machine_replay.specs.Left.{left_of, opening_world}
+use Rattle.machine_replay.specs.Machine.{event_of}
+use Rattle.machine_replay.specs.Played.{local_in, world_after}
+use Rattle.machine_replay.specs.SharedMemory.{Shared}
+use Rattle.machine_replay.specs.World.{World, call_at}
+use Rattle.machine_explore.specs.declared.schedule.Move.{Move}
+use Rattle.machine_explore.specs.Certified.{IsOutcomeOf}
+use Rattle.machine_explore.specs.Moves.{event_at, led}
+use Rattle.machine_explore.specs.Positions.{Outcome, Standing}
+
+-- an event, where the party's call stood before it, what was told of it, and the list behind it
+pub record Seen : Type 0 where
+  pub event : Event ℕ
+  pub local : Option (Local ℕ)
+  pub told : Told ℕ
+  pub list : List ℕ
+
+-- what is seen of the event, from w on
+abbrev pub seen_at : Kind → World (Shared ℕ) (Running ℕ) → Event ℕ → Seen
+seen_at k w e = record { event = e; local = local_in (call_at w (party_of e)); told = (event_of k true w e).1; list = left_of k (event_of k true w e).0 }
+
+-- by this move the program goes on from s to the later standing, and this is seen of it
+pub record IsSeen (calls : List (List (Call ℕ))) (s : Standing) (m : Move) (x : Seen) (later : Standing) : Type 0 where
+  pub event : event_at calls s m.party m.granted ≡ Some x.event
+  pub seen : x ≡ seen_at s.kind s.world x.event
+  pub leads : later ≡ led s.kind s x.event
+
+-- what is seen of events, one after another, from w on
+abbrev pub trace_of : Kind → World (Shared ℕ) (Running ℕ) → List (Event ℕ) → List Seen
+trace_of k w [] = []
+trace_of k w (e ∷ es) = seen_at k w e ∷ trace_of k (event_of k true w e).0 es
+
+-- what is seen of a whole run: the list behind the calls that come first, each event behind them, and what the run ends with
+pub record Course : Type 0 where
+  pub opening : List ℕ
+  pub seen : List Seen
+  pub outcome : Outcome ℕ
+
+-- by these moves, behind the calls that come first, the program runs to this outcome, and this is seen of it
+pub record IsTraceOf (k : Kind) (refuses : Bool) (before : List (Call ℕ)) (calls : List (List (Call ℕ))) (schedule : List Move) (c : Course) : Type 0 where
+  pub of : IsOutcomeOf k refuses before calls schedule c.outcome
+  pub opening : c.opening ≡ left_of k (world_after k (opening_world k (length calls)) of.first)
+  pub seen : c.seen ≡ trace_of k (world_after k (opening_world k (length calls)) of.first) of.rest
