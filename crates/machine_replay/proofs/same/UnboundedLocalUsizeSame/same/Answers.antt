@@ -1,140 +1,86 @@
-use Rattle.std.proofs.Common.{rules, ◌≡◌, true, false, Bool, ℕ, refl}
+use Rattle.std.proofs.Common.{◌≡◌, true, false, Bool, ◌&&◌, ℕ, Option, Some, None, eqb, eqb-true, refl, sym, ap, ◌∙◌}
+use Rattle.std.proofs.lemmas.Bool.{and_parts}
+use Rattle.std.specs.Cmp.{booleans_Decides}
+use Rattle.std.specs.Bool.{beq}
+use Rattle.std.specs.Option.{option_eq}
+use Rattle.std.specs.contracts.prelude.UsizePartialEq.TheImpl as size
+use Rattle.queue_steps.specs.contracts.steps.bounded.PushKind.{the_type}
+use Rattle.queue_steps.specs.contracts.steps.unbounded.UnboundedLocalPartialEq.TheImpl as chain_eq
 use Rattle.queue_steps.specs.declared.steps.unbounded.UnboundedLocal.{UnboundedLocal}
 use Rattle.queue_steps.specs.declared.steps.unbounded.UnboundedLocal.TheVariants as chain
 use Rattle.machine_replay.proofs.same.UnboundedLocalUsizeSame.same.Goals as goal
-
-abbrev Same : UnboundedLocal ℕ → Type 0
-Same a = (c : goal.After-eq) → c.args.self.now ≡ a → c.eq.result ≡ true → a ≡ c.args.other.now
+use denote.Builtin.{usize}
+use denote.Enum.Bare.{sameb, same_true}
 
 apart : {P : Type 0} → false ≡ true → P
 apart e = cc
 
--- of a push
-abbrev is_pushing : UnboundedLocal ℕ → Bool
-is_pushing (chain.PushTail u v) = true
-is_pushing (chain.PushBlock u v w) = true
-is_pushing (chain.Asking u v w) = true
-is_pushing (chain.Installing u v w) = true
-is_pushing (chain.Showing u v w) = true
-is_pushing (chain.Claiming u v w x) = true
-is_pushing a = false
+-- a test that no two different values pass
+record Tells {A : Type 0} (E : A → A → Bool) : Type 0 where
+  told : (x y : A) → E x y ≡ true → x ≡ y
 
-pushing : (a : UnboundedLocal ℕ) → is_pushing a ≡ true → Same a
-pushing (chain.PushTail u v) there c is e = let told = rw is at c.eq.ensures in search rules
-pushing (chain.PushBlock u v w) there c is e = let told = rw is at c.eq.ensures in search rules
-pushing (chain.Asking u v w) there c is e = let told = rw is at c.eq.ensures in search rules
-pushing (chain.Installing u v w) there c is e = let told = rw is at c.eq.ensures in search rules
-pushing (chain.Showing u v w) there c is e = let told = rw is at c.eq.ensures in search rules
-pushing (chain.Claiming u v w x) there c is e = let told = rw is at c.eq.ensures in search rules
-pushing a there c is e = apart there
+kind : Tells (sameb the_type)
+kind = record { told = same_true the_type tt }
 
--- of a push that brings a block
-abbrev is_growing : UnboundedLocal ℕ → Bool
-is_growing (chain.Laying u v w x) = true
-is_growing (chain.Opening u v w x) = true
-is_growing (chain.Chaining u v w x) = true
-is_growing (chain.Writing u v) = true
-is_growing (chain.ClosingAtLimit u v) = true
-is_growing a = false
+number : Tells eqb
+number = record { told = eqb-true }
 
-growing : (a : UnboundedLocal ℕ) → is_growing a ≡ true → Same a
-growing (chain.Laying u v w x) there c is e = let told = rw is at c.eq.ensures in search rules
-growing (chain.Opening u v w x) there c is e = let told = rw is at c.eq.ensures in search rules
-growing (chain.Chaining u v w x) there c is e = let told = rw is at c.eq.ensures in search rules
-growing (chain.Writing u v) there c is e = let told = rw is at c.eq.ensures in search rules
-growing (chain.ClosingAtLimit u v) there c is e = let told = rw is at c.eq.ensures in search rules
-growing a there c is e = apart there
+flag : Tells beq
+flag = record { told = λ x y. (booleans_Decides x y).0 }
 
--- of a pop
-abbrev is_popping : UnboundedLocal ℕ → Bool
-is_popping chain.PopHead = true
-is_popping (chain.PopBlock u) = true
-is_popping (chain.PopTail u v) = true
-is_popping (chain.Taking u v) = true
-is_popping (chain.Following u v) = true
-is_popping (chain.Peeking u v w) = true
-is_popping a = false
+spares : (x y : Option ℕ) → option_eq eqb x y ≡ true → x ≡ y
+spares None None e = refl
+spares (Some x) (Some y) e = ap Some (eqb-true x y e)
+spares x y e = apart e
 
-popping : (a : UnboundedLocal ℕ) → is_popping a ≡ true → Same a
-popping chain.PopHead there c is e = let told = rw is at c.eq.ensures in search rules
-popping (chain.PopBlock u) there c is e = let told = rw is at c.eq.ensures in search rules
-popping (chain.PopTail u v) there c is e = let told = rw is at c.eq.ensures in search rules
-popping (chain.Taking u v) there c is e = let told = rw is at c.eq.ensures in search rules
-popping (chain.Following u v) there c is e = let told = rw is at c.eq.ensures in search rules
-popping (chain.Peeking u v w) there c is e = let told = rw is at c.eq.ensures in search rules
-popping a there c is e = apart there
+spare : Tells (option_eq eqb)
+spare = record { told = spares }
 
--- of a pop that has its place
-abbrev is_reading : UnboundedLocal ℕ → Bool
-is_reading (chain.Passing u v w) = true
-is_reading (chain.Entering u v) = true
-is_reading (chain.Awaiting u v) = true
-is_reading (chain.Reading u v) = true
-is_reading (chain.Walking u v) = true
-is_reading (chain.Destroying u v) = true
-is_reading a = false
+-- the test of a variant's one field, or of each of its two, three or four
+one : {A K : Type 0} {E : A → A → Bool} → Tells E → (f : A → K) {x y : A} → E x y ≡ true → f x ≡ f y
+one a f {x} {y} e = ap f (a.told x y e)
 
-reading : (a : UnboundedLocal ℕ) → is_reading a ≡ true → Same a
-reading (chain.Passing u v w) there c is e = let told = rw is at c.eq.ensures in search rules
-reading (chain.Entering u v) there c is e = let told = rw is at c.eq.ensures in search rules
-reading (chain.Awaiting u v) there c is e = let told = rw is at c.eq.ensures in search rules
-reading (chain.Reading u v) there c is e = let told = rw is at c.eq.ensures in search rules
-reading (chain.Walking u v) there c is e = let told = rw is at c.eq.ensures in search rules
-reading (chain.Destroying u v) there c is e = let told = rw is at c.eq.ensures in search rules
-reading a there c is e = apart there
+two : {A B K : Type 0} {E : A → A → Bool} {F : B → B → Bool} → Tells E → Tells F → (f : A → B → K) {x y : A} {u v : B} → (E x y && F u v) ≡ true → f x u ≡ f y v
+two {E} {F} a b f {x} {y} {u} {v} e = let h = and_parts (E x y) (F u v) e in λ i. one b (f (a.told x y h.0 i)) h.1 i
 
--- of a look or a close
-abbrev is_looking : UnboundedLocal ℕ → Bool
-is_looking chain.LenTail = true
-is_looking (chain.LenHead u) = true
-is_looking (chain.LenAgain u v) = true
-is_looking chain.EmptyHead = true
-is_looking (chain.EmptyTail u) = true
-is_looking chain.Closing = true
-is_looking chain.ClosedTail = true
-is_looking a = false
+three : {A B C K : Type 0} {E : A → A → Bool} {F : B → B → Bool} {G : C → C → Bool} → Tells E → Tells F → Tells G → (f : A → B → C → K) {x y : A} {u v : B} {p q : C} → (E x y && (F u v && G p q)) ≡ true → f x u p ≡ f y v q
+three {E} {F} {G} a b c f {x} {y} {u} {v} {p} {q} e = let h = and_parts (E x y) (F u v && G p q) e in λ i. two b c (f (a.told x y h.0 i)) h.1 i
 
-looking : (a : UnboundedLocal ℕ) → is_looking a ≡ true → Same a
-looking chain.LenTail there c is e = let told = rw is at c.eq.ensures in search rules
-looking (chain.LenHead u) there c is e = let told = rw is at c.eq.ensures in search rules
-looking (chain.LenAgain u v) there c is e = let told = rw is at c.eq.ensures in search rules
-looking chain.EmptyHead there c is e = let told = rw is at c.eq.ensures in search rules
-looking (chain.EmptyTail u) there c is e = let told = rw is at c.eq.ensures in search rules
-looking chain.Closing there c is e = let told = rw is at c.eq.ensures in search rules
-looking chain.ClosedTail there c is e = let told = rw is at c.eq.ensures in search rules
-looking a there c is e = apart there
+four : {A B C D K : Type 0} {E : A → A → Bool} {F : B → B → Bool} {G : C → C → Bool} {H : D → D → Bool} → Tells E → Tells F → Tells G → Tells H → (f : A → B → C → D → K) {x y : A} {u v : B} {p q : C} {s t : D} → (E x y && (F u v && (G p q && H s t))) ≡ true → f x u p s ≡ f y v q t
+four {E} {F} {G} {H} a b c d f {x} {y} {u} {v} {p} {q} {s} {t} e = let h = and_parts (E x y) (F u v && (G p q && H s t)) e in λ i. three b c d (f (a.told x y h.0 i)) h.1 i
 
-same : (a : UnboundedLocal ℕ) → Same a
-same (chain.PushTail u v) = pushing (chain.PushTail u v) refl
-same (chain.PushBlock u v w) = pushing (chain.PushBlock u v w) refl
-same (chain.Asking u v w) = pushing (chain.Asking u v w) refl
-same (chain.Installing u v w) = pushing (chain.Installing u v w) refl
-same (chain.Showing u v w) = pushing (chain.Showing u v w) refl
-same (chain.Claiming u v w x) = pushing (chain.Claiming u v w x) refl
-same (chain.Laying u v w x) = growing (chain.Laying u v w x) refl
-same (chain.Opening u v w x) = growing (chain.Opening u v w x) refl
-same (chain.Chaining u v w x) = growing (chain.Chaining u v w x) refl
-same (chain.Writing u v) = growing (chain.Writing u v) refl
-same (chain.ClosingAtLimit u v) = growing (chain.ClosingAtLimit u v) refl
-same chain.PopHead = popping chain.PopHead refl
-same (chain.PopBlock u) = popping (chain.PopBlock u) refl
-same (chain.PopTail u v) = popping (chain.PopTail u v) refl
-same (chain.Taking u v) = popping (chain.Taking u v) refl
-same (chain.Following u v) = popping (chain.Following u v) refl
-same (chain.Peeking u v w) = popping (chain.Peeking u v w) refl
-same (chain.Passing u v w) = reading (chain.Passing u v w) refl
-same (chain.Entering u v) = reading (chain.Entering u v) refl
-same (chain.Awaiting u v) = reading (chain.Awaiting u v) refl
-same (chain.Reading u v) = reading (chain.Reading u v) refl
-same (chain.Walking u v) = reading (chain.Walking u v) refl
-same (chain.Destroying u v) = reading (chain.Destroying u v) refl
-same chain.LenTail = looking chain.LenTail refl
-same (chain.LenHead u) = looking (chain.LenHead u) refl
-same (chain.LenAgain u v) = looking (chain.LenAgain u v) refl
-same chain.EmptyHead = looking chain.EmptyHead refl
-same (chain.EmptyTail u) = looking (chain.EmptyTail u) refl
-same chain.Closing = looking chain.Closing refl
-same chain.ClosedTail = looking chain.ClosedTail refl
+same : (a b : UnboundedLocal ℕ) → (chain_eq.ghosts usize size.ghosts size.dict).eq a b ≡ true → a ≡ b
+same (chain.PushTail u v) (chain.PushTail p q) e = two kind spare chain.PushTail e
+same (chain.PushBlock u v w) (chain.PushBlock p q r) e = three kind number spare chain.PushBlock e
+same (chain.Asking u v w) (chain.Asking p q r) e = three kind number spare chain.Asking e
+same (chain.Installing u v w) (chain.Installing p q r) e = three kind number number chain.Installing e
+same (chain.Showing u v w) (chain.Showing p q r) e = three kind number number chain.Showing e
+same (chain.Claiming u v w x) (chain.Claiming p q r s) e = four kind number number spare chain.Claiming e
+same (chain.Laying u v w x) (chain.Laying p q r s) e = four kind number number number chain.Laying e
+same (chain.Opening u v w x) (chain.Opening p q r s) e = four kind number number number chain.Opening e
+same (chain.Chaining u v w x) (chain.Chaining p q r s) e = four kind number number number chain.Chaining e
+same (chain.Writing u v) (chain.Writing p q) e = two kind spare chain.Writing e
+same (chain.ClosingAtLimit u v) (chain.ClosingAtLimit p q) e = two kind spare chain.ClosingAtLimit e
+same chain.PopHead chain.PopHead e = refl
+same (chain.PopBlock u) (chain.PopBlock p) e = one number chain.PopBlock e
+same (chain.PopTail u v) (chain.PopTail p q) e = two number spare chain.PopTail e
+same (chain.Taking u v) (chain.Taking p q) e = two number number chain.Taking e
+same (chain.Following u v) (chain.Following p q) e = two number number chain.Following e
+same (chain.Peeking u v w) (chain.Peeking p q r) e = three number number number chain.Peeking e
+same (chain.Passing u v w) (chain.Passing p q r) e = three number number flag chain.Passing e
+same (chain.Entering u v) (chain.Entering p q) e = two number number chain.Entering e
+same (chain.Awaiting u v) (chain.Awaiting p q) e = two number number chain.Awaiting e
+same (chain.Reading u v) (chain.Reading p q) e = two number number chain.Reading e
+same (chain.Walking u v) (chain.Walking p q) e = two number number chain.Walking e
+same (chain.Destroying u v) (chain.Destroying p q) e = two number number chain.Destroying e
+same chain.LenTail chain.LenTail e = refl
+same (chain.LenHead u) (chain.LenHead p) e = one number chain.LenHead e
+same (chain.LenAgain u v) (chain.LenAgain p q) e = two number number chain.LenAgain e
+same chain.EmptyHead chain.EmptyHead e = refl
+same (chain.EmptyTail u) (chain.EmptyTail p) e = one number chain.EmptyTail e
+same chain.Closing chain.Closing e = refl
+same chain.ClosedTail chain.ClosedTail e = refl
+same a b e = apart e
 
 pub returns : goal.returns
-returns c e = same c.args.self.now c refl e
+returns c e = same c.args.self.now c.args.other.now (sym c.eq.ensures ∙ e)
