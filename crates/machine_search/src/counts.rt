@@ -1,8 +1,9 @@
 //! How many schedules lead to each outcome.
 use crate::edges::Graph;
 use crate::faults::SearchFault;
+use crate::numbers::at;
 use crate::outcomes::Ends;
-use crate::waits::{Waits, at, waits_of};
+use crate::waits::{Waits, waits_of};
 use machine_explore::check::Table;
 use std::alloc::{AllocError, Allocator};
 
@@ -23,8 +24,8 @@ pub fn counts<A: Allocator + Copy>(
     ends: &Ends<A>,
 ) -> Result<Vec<Count, A>, SearchFault> {
     let graph = Graph { table, parties };
-    let waits = waits_of(alloc, graph)?;
-    let ways = ways_to(alloc, graph, &waits)?;
+    let waits = waits_of(alloc, &graph)?;
+    let ways = ways_to(alloc, &graph, &waits)?;
     let mut counts = zeros(alloc, ends.outcomes.len())?;
     for end in ends.ends.as_slice() {
         let more = ways_at(&waits, &ways, end.place);
@@ -44,7 +45,7 @@ pub fn sum(one: Count, other: Count) -> Count {
 // How many schedules lead to each wait.
 fn ways_to<A: Allocator + Copy>(
     alloc: A,
-    graph: Graph<A>,
+    graph: &Graph<A>,
     waits: &Waits<A>,
 ) -> Result<Vec<Count, A>, AllocError> {
     let mut ways = zeros(alloc, waits.count)?;

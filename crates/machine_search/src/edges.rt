@@ -6,7 +6,7 @@ use std::alloc::Allocator;
 pub(crate) const NOWHERE: usize = usize::MAX;
 
 /// A table of positions that so many parties share, each of which has a link from each position.
-#[derive(Clone, Copy)]
+#[derive(Drop)]
 pub(crate) struct Graph<'a, A: Allocator> {
     pub(crate) table: &'a Table<A>,
     pub(crate) parties: usize,

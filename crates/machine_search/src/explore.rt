@@ -55,10 +55,10 @@ pub fn schedules_of<A: Allocator + Copy>(
         table: &found.table,
         parties,
     };
-    let paths = Paths::new(alloc, graph)?;
+    let paths = Paths::new(alloc, &graph)?;
     let mut schedules = Vec::new(alloc);
     for outcome in order {
-        schedules.push(paths.schedule(alloc, graph, &found.ends, *outcome)?)?;
+        schedules.push(paths.schedule(alloc, &graph, &found.ends, *outcome)?)?;
     }
     Ok(schedules)
 }

@@ -17,8 +17,8 @@ pub fn longest_lone_call<A: Allocator + Copy>(
     let graph = Graph { table, parties };
     let mut most = 0;
     for place in 0..graph.len() {
-        if let Some(party) = lone_party(graph, place) {
-            let Some(steps) = steps_alone(graph, place, party) else {
+        if let Some(party) = lone_party(&graph, place) {
+            let Some(steps) = steps_alone(&graph, place, party) else {
                 return Err(SearchFault::EndlessCall);
             };
             most = steps.max(most);
@@ -28,7 +28,7 @@ pub fn longest_lone_call<A: Allocator + Copy>(
 }
 
 // The party that alone is in a call at the position at this place, if there is just one.
-fn lone_party<A: Allocator + Copy>(graph: Graph<A>, place: usize) -> Option<usize> {
+fn lone_party<A: Allocator + Copy>(graph: &Graph<A>, place: usize) -> Option<usize> {
     let mut lone = None;
     for party in 0..graph.parties {
         if graph.is_in_call(place, party) {
@@ -42,7 +42,7 @@ fn lone_party<A: Allocator + Copy>(graph: Graph<A>, place: usize) -> Option<usiz
 }
 
 // How many steps the party's call takes from there until it replies, if that is within those of a lone call.
-fn steps_alone<A: Allocator + Copy>(graph: Graph<A>, place: usize, party: usize) -> Option<u64> {
+fn steps_alone<A: Allocator + Copy>(graph: &Graph<A>, place: usize, party: usize) -> Option<u64> {
     let mut at = place;
     for steps in 0..SOLO_STEPS {
         at = graph.lead(at, party, true)?;

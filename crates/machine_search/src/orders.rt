@@ -1,13 +1,20 @@
 //! Whether an order of whole calls has an outcome.
 use crate::faults::SearchFault;
-use crate::find::MOST_STATES;
-use crate::owner::Owner;
-use crate::places::Places;
+use crate::known::Known;
+use crate::owner::{Change, Owner};
 use machine_explore::outcome::Outcome;
 use machine_explore::program::Program;
 use queue_steps::model::Reply;
 use queue_steps::steps::Kind;
 use std::alloc::{AllocError, Allocator};
+
+// What an order is looked for.
+#[derive(Drop)]
+struct Wanted<'a, A: Allocator> {
+    refuses: bool,
+    program: &'a Program<A>,
+    outcome: &'a Outcome<A>,
+}
 
 // A state that the search has come to, and the party whose call is tried next.
 #[derive(Clone, Copy)]
@@ -18,12 +25,8 @@ struct Frame {
 
 // A search depth first, by the lower party first, for an order whose replies are the outcome's.
 #[derive(Drop)]
-struct Search<'a, A: Allocator> {
-    refuses: bool,
-    program: &'a Program<A>,
-    outcome: &'a Outcome<A>,
-    states: Vec<Owner<A>, A>,
-    places: Places<A>,
+struct Search<A: Allocator> {
+    known: Known<Owner<A>, A>,
     frames: Vec<Frame, A>,
     order: Vec<usize, A>,
 }
@@ -42,47 +45,58 @@ pub fn order_of<A: Allocator + Copy>(
     program: &Program<A>,
     outcome: &Outcome<A>,
 ) -> Result<Option<Vec<usize, A>>, SearchFault> {
-    let mut first = Owner::new(alloc, kind, program.parties.len())?;
-    for call in program.before.as_slice() {
-        first.prepare(*call)?;
-    }
-    let mut search = Search {
+    let wanted = Wanted {
         refuses,
         program,
         outcome,
-        states: Vec::new(alloc),
-        places: Places::new(alloc)?,
+    };
+    let mut search = Search {
+        known: Known::new(alloc)?,
         frames: Vec::new(alloc),
         order: Vec::new(alloc),
     };
-    search.enter(alloc, first)?;
-    for _ in 0..u64::MAX {
-        let Some(frame) = search.frames.last().copied() else {
-            return Ok(None);
-        };
-        if search.is_end(frame.state) {
-            return Ok(Some(search.order));
-        }
-        search.go_on(alloc, frame)?;
+    search.enter(alloc, first_state(alloc, kind, program)?)?;
+    if search.finds(alloc, &wanted)? {
+        return Ok(Some(search.order));
     }
     Ok(None)
 }
 
-impl<'a, A: Allocator + Copy> Search<'a, A> {
+// The state once the calls that come first are made.
+fn first_state<A: Allocator + Copy>(
+    alloc: A,
+    kind: Kind,
+    program: &Program<A>,
+) -> Result<Owner<A>, AllocError> {
+    let mut first = Owner::new(alloc, kind, program.parties.len())?;
+    for call in program.before.as_slice() {
+        first.prepare(*call)?;
+    }
+    Ok(first)
+}
+
+impl<A: Allocator + Copy> Search<A> {
+    // Goes on until the state is an end, and tells whether there is one.
+    fn finds(&mut self, alloc: A, wanted: &Wanted<A>) -> Result<bool, SearchFault> {
+        for _ in 0..u64::MAX {
+            let Some(frame) = self.frames.last().copied() else {
+                return Ok(false);
+            };
+            if self.is_end(wanted, frame.state) {
+                return Ok(true);
+            }
+            self.go_on(alloc, wanted, frame)?;
+        }
+        Ok(false)
+    }
+
     // Goes into the state, and tells whether it is new.
     fn enter(&mut self, alloc: A, state: Owner<A>) -> Result<bool, SearchFault> {
-        let fingerprint = state.fingerprint();
-        let states = &self.states;
-        let same = |place: usize| is_at(states, place, &state);
-        if self.places.find(fingerprint, &same).is_some() {
+        let count = self.known.len();
+        let place = self.known.place_of(alloc, state)?;
+        if place < count {
             return Ok(false);
         }
-        let place = self.states.len();
-        if place >= MOST_STATES {
-            return Err(SearchFault::TooManyStates);
-        }
-        self.places.add(alloc, fingerprint)?;
-        self.states.push(state)?;
         self.frames.push(Frame {
             state: place,
             next: 0,
@@ -91,8 +105,8 @@ impl<'a, A: Allocator + Copy> Search<'a, A> {
     }
 
     // Tries the next party's call from the state, or goes back where all were tried.
-    fn go_on(&mut self, alloc: A, frame: Frame) -> Result<(), SearchFault> {
-        if frame.next >= self.program.parties.len() {
+    fn go_on(&mut self, alloc: A, wanted: &Wanted<A>, frame: Frame) -> Result<(), SearchFault> {
+        if frame.next >= wanted.program.parties.len() {
             self.frames.pop();
             self.order.pop();
             return Ok(());
@@ -100,54 +114,57 @@ impl<'a, A: Allocator + Copy> Search<'a, A> {
         if let Some(top) = self.frames.last_mut() {
             top.next = frame.next.saturating_add(1);
         }
-        let Some(state) = self.after(alloc, frame.state, frame.next)? else {
+        match self.change(wanted, frame) {
+            Some(change) => self.make(alloc, frame, change),
+            None => Ok(()),
+        }
+    }
+
+    // What the next call of the party that is tried does to the state, if it may have the outcome's reply.
+    fn change(&self, wanted: &Wanted<A>, frame: Frame) -> Option<Change> {
+        let state = self.known.get(frame.state)?;
+        let made = state.made(frame.next);
+        let call = wanted.program.call(frame.next, made)?;
+        let reply = wanted.reply(frame.next, made)?;
+        state.change(call, reply, wanted.refuses)
+    }
+
+    // Makes the call of the party that is tried.
+    fn make(&mut self, alloc: A, frame: Frame, change: Change) -> Result<(), SearchFault> {
+        let Some(state) = self.known.get(frame.state) else {
             return Ok(());
         };
-        if self.enter(alloc, state)? {
+        let next = state.changed(alloc, frame.next, change)?;
+        if self.enter(alloc, next)? {
             self.order.push(frame.next)?;
         }
         Ok(())
     }
 
-    // The state once the party has made its next call with the outcome's reply, if it may.
-    fn after(&self, alloc: A, state: usize, party: usize) -> Result<Option<Owner<A>>, AllocError> {
-        let Some(owner) = self.states.get(state) else {
-            return Ok(None);
-        };
-        let made = owner.made(party);
-        let Some(call) = self.program.call(party, made) else {
-            return Ok(None);
-        };
-        let Some(reply) = self.reply(party, made) else {
-            return Ok(None);
-        };
-        owner.after(alloc, party, call, reply, self.refuses)
+    // Whether all calls are made, and what is left is the outcome's.
+    fn is_end(&self, wanted: &Wanted<A>, place: usize) -> bool {
+        match self.known.get(place) {
+            Some(state) => wanted.has_ended(state)
+                && state.items.as_slice() == wanted.outcome.left(),
+            None => false,
+        }
     }
+}
 
+impl<'a, A: Allocator> Wanted<'a, A> {
     // The outcome's reply to the call of the party behind so many others.
     fn reply(&self, party: usize, behind: usize) -> Option<Reply<u64>> {
         let replies = self.outcome.replies().get(party)?;
         replies.as_slice().get(behind).copied()
     }
 
-    // Whether all calls are made, and what is left is the outcome's.
-    fn is_end(&self, state: usize) -> bool {
-        let Some(owner) = self.states.get(state) else {
-            return false;
-        };
+    // Whether all calls are made.
+    fn has_ended(&self, state: &Owner<A>) -> bool {
         for party in 0..self.program.parties.len() {
-            if owner.made(party) != self.program.call_count(party) {
+            if state.made(party) != self.program.call_count(party) {
                 return false;
             }
         }
-        owner.items.as_slice() == self.outcome.left()
-    }
-}
-
-// Whether the state stands at this place.
-fn is_at<A: Allocator + Copy>(states: &[Owner<A>], place: usize, state: &Owner<A>) -> bool {
-    match states.get(place) {
-        Some(other) => state.is_same(other),
-        None => false,
+        true
     }
 }

@@ -1,4 +1,5 @@
 //! A queue with one owner, which makes whole calls of several parties, one after another.
+use crate::known::State;
 use queue_steps::errors::{ForcePushError, PopError, PushError};
 use queue_steps::model::{Call, Reply};
 use queue_steps::sizes::{BLOCK_SLOTS, LIMIT};
@@ -17,14 +18,35 @@ pub(crate) struct Owner<A: Allocator> {
     made: Vec<usize, A>,
 }
 
-// What a call does to the queue.
+/// What a call does to the queue.
 #[derive(Clone, Copy)]
-enum Change {
+pub(crate) enum Change {
     Nothing,
     Append(u64),
     Displace(u64),
     Take,
     Close,
+}
+
+impl<A: Allocator> State for Owner<A> {
+    fn hash(&self) -> u64 {
+        let mut state = FoldHasher::default();
+        for count in self.made.as_slice() {
+            state.write_usize(*count);
+        }
+        for item in self.items.as_slice() {
+            state.write_u64(*item);
+        }
+        state.finish()
+    }
+
+    // Both have the same capacity.
+    fn equals(&self, other: &Self) -> bool {
+        self.is_closed == other.is_closed
+            && self.accepted == other.accepted
+            && self.made == other.made
+            && self.items == other.items
+    }
 }
 
 impl<A: Allocator + Copy> Owner<A> {
@@ -49,40 +71,23 @@ impl<A: Allocator + Copy> Owner<A> {
         self.apply(change)
     }
 
-    /// The queue once the party has made this call, if it may answer so. With `refuses` a push may lack memory where it asks for a block.
-    pub(crate) fn after(
+    /// The queue once the party has made a call that changes it so.
+    pub(crate) fn changed(
         &self,
         alloc: A,
         party: usize,
-        call: Call<u64>,
-        reply: Reply<u64>,
-        refuses: bool,
-    ) -> Result<Option<Self>, AllocError> {
-        let (answer, change) = self.answer(call);
-        let change = if answer == reply {
-            change
-        } else if refuses && self.may_ask() && lacks_memory(call, reply) {
-            Change::Nothing
-        } else {
-            return Ok(None);
-        };
-        let mut next = self.copy(alloc)?;
-        next.apply(change)?;
-        if let Some(count) = next.made.get_mut(party) {
-            *count = count.saturating_add(1);
-        }
-        Ok(Some(next))
-    }
-
-    // A copy.
-    fn copy(&self, alloc: A) -> Result<Self, AllocError> {
-        Ok(Owner {
+        change: Change,
+    ) -> Result<Self, AllocError> {
+        let mut next = Owner {
             capacity: self.capacity,
             items: Vec::from_slice(alloc, &self.items)?,
             is_closed: self.is_closed,
             accepted: self.accepted,
             made: Vec::from_slice(alloc, &self.made)?,
-        })
+        };
+        next.count(party);
+        next.apply(change)?;
+        Ok(next)
     }
 }
 
@@ -95,24 +100,21 @@ impl<A: Allocator> Owner<A> {
         }
     }
 
-    /// Whether it is the same as the other, of the same capacity.
-    pub(crate) fn is_same(&self, other: &Owner<A>) -> bool {
-        self.is_closed == other.is_closed
-            && self.accepted == other.accepted
-            && self.made == other.made
-            && self.items == other.items
-    }
-
-    /// A hash, which equal ones have in common.
-    pub(crate) fn fingerprint(&self) -> u64 {
-        let mut state = FoldHasher::default();
-        for count in self.made.as_slice() {
-            state.write_usize(*count);
+    /// What the call does to the queue, if it may answer so. With `refuses` a push may lack memory where it asks for a block.
+    pub(crate) fn change(
+        &self,
+        call: Call<u64>,
+        reply: Reply<u64>,
+        refuses: bool,
+    ) -> Option<Change> {
+        let (answer, change) = self.answer(call);
+        if answer == reply {
+            return Some(change);
         }
-        for item in self.items.as_slice() {
-            state.write_u64(*item);
+        if refuses && self.may_ask() && lacks_memory(call, reply) {
+            return Some(Change::Nothing);
         }
-        state.finish()
+        None
     }
 
     // What the call answers, and what it does.
@@ -181,6 +183,13 @@ impl<A: Allocator> Owner<A> {
             && (self.accepted == 0 || self.accepted % BLOCK_SLOTS == BLOCK_SLOTS - 1)
     }
 
+    // Counts a call of the party.
+    fn count(&mut self, party: usize) {
+        if let Some(count) = self.made.get_mut(party) {
+            *count = count.saturating_add(1);
+        }
+    }
+
     // Makes the change.
     fn apply(&mut self, change: Change) -> Result<(), AllocError> {
         match change {
@@ -211,11 +220,9 @@ impl<A: Allocator> Owner<A> {
 
 // Whether the reply is that the call lacked memory for its value.
 fn lacks_memory(call: Call<u64>, reply: Reply<u64>) -> bool {
-    match (call, reply) {
-        (Call::Push(value), Reply::Push(Err(PushError::NoMemory(back)))) => value == back,
-        (Call::ForcePush(value), Reply::ForcePush(Err(ForcePushError::NoMemory(back)))) => {
-            value == back
-        }
+    match call {
+        Call::Push(value) => reply == Reply::Push(Err(PushError::NoMemory(value))),
+        Call::ForcePush(value) => reply == Reply::ForcePush(Err(ForcePushError::NoMemory(value))),
         _ => false,
     }
 }

@@ -1,6 +1,7 @@
 //! Shortest ways to the positions of a table, with few changes of party.
 use crate::edges::{Graph, NOWHERE};
-use crate::outcomes::{End, Ends};
+use crate::numbers::{at, nowhere, set};
+use crate::outcomes::Ends;
 use machine_explore::schedule::Move;
 use machine_explore::sequence::Sequence;
 use std::alloc::{AllocError, Allocator};
@@ -23,6 +24,12 @@ pub(crate) struct Paths<A: Allocator> {
     lanes: Vec<Lane, A>,
 }
 
+// What stands before a first move.
+const FIRST_LANE: Lane = Lane {
+    changes: 0,
+    before: NOWHERE,
+};
+
 const NO_LANE: Lane = Lane {
     changes: usize::MAX,
     before: NOWHERE,
@@ -30,61 +37,67 @@ const NO_LANE: Lane = Lane {
 
 impl<A: Allocator + Copy> Paths<A> {
     /// The shortest ways through the table, whose positions are in the order of a walk breadth first.
-    pub(crate) fn new(alloc: A, graph: Graph<A>) -> Result<Self, AllocError> {
+    pub(crate) fn new(alloc: A, graph: &Graph<A>) -> Result<Self, AllocError> {
         let lanes = graph.len().saturating_mul(graph.parties);
         let mut paths = Paths {
-            depths: vec![in alloc; NOWHERE; graph.len()]?,
+            depths: nowhere(alloc, graph.len())?,
             lanes: vec![in alloc; NO_LANE; lanes]?,
         };
-        paths.set_depth(0, 0);
-        for place in 0..graph.len() {
-            for party in 0..graph.parties {
-                paths.relax(graph, place, party, true);
-                paths.relax(graph, place, party, false);
-            }
-        }
+        paths.relax_all(graph);
         Ok(paths)
     }
 
+    // Takes all ways into account.
+    fn relax_all(&mut self, graph: &Graph<A>) {
+        set(&mut self.depths, 0, 0);
+        for place in 0..graph.len() {
+            for party in 0..graph.parties {
+                self.relax(graph, place, party, true);
+                self.relax(graph, place, party, false);
+            }
+        }
+    }
+
     // Takes the ways by the position at this place into account, whose next move is the party's.
-    fn relax(&mut self, graph: Graph<A>, place: usize, party: usize, granted: bool) {
+    fn relax(&mut self, graph: &Graph<A>, place: usize, party: usize, granted: bool) {
         let Some(to) = graph.lead(place, party, granted) else {
             return;
         };
-        let depth = self.depth(place).saturating_add(1);
-        if self.depth(to) == NOWHERE {
-            self.set_depth(to, depth);
+        if self.deepens(place, to) {
+            let lane = self.continued(graph.parties, place, party);
+            self.improve(lane_of(graph.parties, to, party), lane);
         }
-        if self.depth(to) != depth {
-            return;
+    }
+
+    // Whether a move from the one place to the other goes on a shortest way, as that of the first move that leads there.
+    fn deepens(&mut self, place: usize, to: usize) -> bool {
+        let depth = at(&self.depths, place).saturating_add(1);
+        if at(&self.depths, to) == NOWHERE {
+            set(&mut self.depths, to, depth);
         }
-        let lane = self.continued(graph.parties, place, party);
-        let Some(at) = lane_of(graph.parties, to, party) else {
-            return;
-        };
-        if let Some(known) = self.lanes.get_mut(at) {
+        at(&self.depths, to) == depth
+    }
+
+    // Puts the lane where another one stands, if it is better.
+    fn improve(&mut self, place: usize, lane: Lane) {
+        if let Some(known) = self.lanes.get_mut(place) {
             if lane.changes < known.changes {
                 *known = lane;
             }
         }
     }
 
-    // The best way whose last move is the party's, from the position at this place.
+    // The best way to the position at this place, as what stands before a move of the party.
     fn continued(&self, parties: usize, place: usize, party: usize) -> Lane {
         if place == 0 {
-            return Lane {
-                changes: 0,
-                before: NOWHERE,
-            };
+            return FIRST_LANE;
         }
         let mut best = NO_LANE;
         for last in 0..parties {
-            let Some(before) = lane_of(parties, place, last) else {
-                continue;
-            };
+            let before = lane_of(parties, place, last);
             let changes = self
                 .changes(before)
-                .saturating_add(if last == party { 0 } else { 1 });
+                .saturating_add((last != party) as usize);
             if changes < best.changes {
                 best = Lane { changes, before };
             }
@@ -100,30 +113,16 @@ impl<A: Allocator + Copy> Paths<A> {
         }
     }
 
-    // How many moves the way to the position at this place has.
-    fn depth(&self, place: usize) -> usize {
-        match self.depths.get(place) {
-            Some(depth) => *depth,
-            None => NOWHERE,
-        }
-    }
-
-    fn set_depth(&mut self, place: usize, depth: usize) {
-        if let Some(known) = self.depths.get_mut(place) {
-            *known = depth;
-        }
-    }
-
     /// A shortest schedule to this outcome. Each call begins just before its first step.
     pub(crate) fn schedule(
         &self,
         alloc: A,
-        graph: Graph<A>,
+        graph: &Graph<A>,
         ends: &Ends<A>,
         outcome: usize,
     ) -> Result<Sequence<Move, A>, AllocError> {
         let moves = self.trace(alloc, graph, self.last_lane(graph.parties, ends, outcome))?;
-        Ok(Sequence::of(begin_late(alloc, graph, &moves)?))
+        begin_late(alloc, graph, &moves)
     }
 
     // The best lane to an end with this outcome.
@@ -131,9 +130,9 @@ impl<A: Allocator + Copy> Paths<A> {
         let mut shortest = NOWHERE;
         let mut best = NO_LANE;
         for end in ends.ends.as_slice() {
-            let depth = self.depth(end.place);
+            let depth = at(&self.depths, end.place);
             if end.outcome == outcome && depth <= shortest {
-                let lane = self.best_lane(parties, end.place);
+                let lane = self.continued(parties, end.place, NOWHERE);
                 if depth < shortest || lane.changes < best.changes {
                     best = lane;
                 }
@@ -143,22 +142,8 @@ impl<A: Allocator + Copy> Paths<A> {
         best.before
     }
 
-    // The best lane to the position at this place, as what stands before a move.
-    fn best_lane(&self, parties: usize, place: usize) -> Lane {
-        let mut best = NO_LANE;
-        for last in 0..parties {
-            if let Some(before) = lane_of(parties, place, last) {
-                let changes = self.changes(before);
-                if changes < best.changes {
-                    best = Lane { changes, before };
-                }
-            }
-        }
-        best
-    }
-
     // The moves on the way of this lane.
-    fn trace(&self, alloc: A, graph: Graph<A>, last: usize) -> Result<Vec<Move, A>, AllocError> {
+    fn trace(&self, alloc: A, graph: &Graph<A>, last: usize) -> Result<Vec<Move, A>, AllocError> {
         let mut moves = Vec::new(alloc);
         let mut at = last;
         for _ in 0..graph.len() {
@@ -174,58 +159,69 @@ impl<A: Allocator + Copy> Paths<A> {
 }
 
 // The place of the lane to a position by a move of the party.
-fn lane_of(parties: usize, place: usize, party: usize) -> Option<usize> {
-    place.checked_mul(parties)?.checked_add(party)
+fn lane_of(parties: usize, place: usize, party: usize) -> usize {
+    place.saturating_mul(parties).saturating_add(party)
 }
 
 // The last move of this lane, before which stands that lane.
-fn move_into<A: Allocator + Copy>(graph: Graph<A>, lane: usize, before: usize) -> Move {
-    let parties = graph.parties;
-    if parties == 0 {
-        return Move {
-            party: 0,
-            granted: true,
-        };
-    }
+fn move_into<A: Allocator + Copy>(graph: &Graph<A>, lane: usize, before: usize) -> Move {
     let from = if before == NOWHERE {
         0
     } else {
-        before / parties
+        position_of(graph.parties, before)
     };
-    let party = lane % parties;
+    let to = position_of(graph.parties, lane);
+    let party = lane.saturating_sub(lane_of(graph.parties, to, 0));
     Move {
         party,
-        granted: graph.lead(from, party, true) == Some(lane / parties),
+        granted: graph.lead(from, party, true) == Some(to),
+    }
+}
+
+// The place of the position to which this lane leads.
+fn position_of(parties: usize, lane: usize) -> usize {
+    match lane.checked_div(parties) {
+        Some(place) => place,
+        None => 0,
     }
 }
 
 // The same moves, with each beginning just before the first step of its call.
 fn begin_late<A: Allocator + Copy>(
     alloc: A,
-    graph: Graph<A>,
+    graph: &Graph<A>,
     moves: &[Move],
-) -> Result<Vec<Move, A>, AllocError> {
-    let mut late = Vec::new(alloc);
+) -> Result<Sequence<Move, A>, AllocError> {
     let mut waiting = vec![in alloc; false; graph.parties]?;
+    let mut late = Vec::new(alloc);
     let mut place = 0;
     for step in moves {
         let Some(next) = graph.lead(place, step.party, step.granted) else {
             break;
         };
         let begins = !graph.is_in_call(place, step.party) && graph.is_in_call(next, step.party);
-        if let Some(waits) = waiting.get_mut(step.party) {
-            if *waits {
-                late.push(Move {
-                    party: step.party,
-                    granted: true,
-                })?;
-            }
-            *waits = begins;
+        if waits(&mut waiting, step.party, begins) {
+            late.push(Move {
+                party: step.party,
+                granted: true,
+            })?;
         }
         if !begins {
             late.push(*step)?;
         }
         place = next;
     }
-    Ok(late)
+    Ok(Sequence::of(late))
+}
+
+// Whether the call of the party waits for its first step, before a move that begins a call or none.
+fn waits(waiting: &mut [bool], party: usize, begins: bool) -> bool {
+    match waiting.get_mut(party) {
+        Some(known) => {
+            let waits = *known;
+            *known = begins;
+            waits
+        }
+        None => false,
+    }
 }

@@ -11,11 +11,13 @@ pub(crate) struct Places<A: Allocator> {
     links: Vec<ChainLink, A>,
 }
 
-/// A thing's fingerprint, and the place of the one before it in its class.
+/// What is noted of a thing.
 #[derive(Clone, Copy)]
-struct ChainLink {
-    fingerprint: u64,
-    before: Option<usize>,
+pub(crate) struct ChainLink {
+    /// Its fingerprint.
+    pub(crate) fingerprint: u64,
+    /// The place of the one before it in its class.
+    pub(crate) before: Option<usize>,
 }
 
 impl<A: Allocator + Copy> Places<A> {
@@ -54,24 +56,13 @@ impl<A: Allocator + Copy> Places<A> {
 }
 
 impl<A: Allocator> Places<A> {
-    /// The place of a thing with this fingerprint that is the same as the one that is looked for.
-    pub(crate) fn find<F: Fn(usize) -> bool>(&self, fingerprint: u64, is_same: &F) -> Option<usize>
-        requires { F.IsAlwaysCallable is_same.now }
-    {
-        let mut next = self.last(fingerprint);
-        for _ in 0..self.links.len() {
-            let place = next?;
-            let link = self.links.get(place).copied()?;
-            if link.fingerprint == fingerprint && is_same(place) {
-                return Some(place);
-            }
-            next = link.before;
-        }
-        None
+    /// What is noted of the thing at this place.
+    pub(crate) fn link(&self, place: usize) -> Option<ChainLink> {
+        self.links.get(place).copied()
     }
 
-    // The place of the last thing of the class.
-    fn last(&self, fingerprint: u64) -> Option<usize> {
+    /// The place of the last thing in the class of the fingerprint.
+    pub(crate) fn last(&self, fingerprint: u64) -> Option<usize> {
         let class = class_of(fingerprint, self.lasts.len())?;
         match self.lasts.get(class) {
             Some(last) => *last,

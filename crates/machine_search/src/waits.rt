@@ -1,5 +1,6 @@
 //! The waits of a table: positions that lead to one another.
 use crate::edges::{Graph, NOWHERE};
+use crate::numbers::{at, nowhere, set};
 use std::alloc::{AllocError, Allocator};
 
 /// The waits of a table. A position that leads to no position that leads back is a wait of its own.
@@ -37,20 +38,10 @@ struct Walk<A: Allocator> {
 /// The waits of the positions to which moves of whole steps lead from the first.
 pub(crate) fn waits_of<A: Allocator + Copy>(
     alloc: A,
-    graph: Graph<A>,
+    graph: &Graph<A>,
 ) -> Result<Waits<A>, AllocError> {
     let mut walk = Walk::new(alloc, graph.len())?;
-    walk.enter(0)?;
-    for _ in 0..u64::MAX {
-        let Some(frame) = walk.frames.last().copied() else {
-            break;
-        };
-        if frame.next < graph.moves() {
-            walk.follow(graph, frame)?;
-        } else {
-            walk.leave(frame.place)?;
-        }
-    }
+    walk.run(graph)?;
     Ok(walk.waits)
 }
 
@@ -70,6 +61,22 @@ impl<A: Allocator + Copy> Walk<A> {
         })
     }
 
+    // Goes all ways from the first position.
+    fn run(&mut self, graph: &Graph<A>) -> Result<(), AllocError> {
+        self.enter(0)?;
+        for _ in 0..u64::MAX {
+            let Some(frame) = self.frames.last().copied() else {
+                break;
+            };
+            if frame.next < graph.moves() {
+                self.follow(graph, frame)?;
+            } else {
+                self.leave(frame.place)?;
+            }
+        }
+        Ok(())
+    }
+
     // Meets the position at this place.
     fn enter(&mut self, place: usize) -> Result<(), AllocError> {
         set(&mut self.met, place, self.clock);
@@ -81,7 +88,7 @@ impl<A: Allocator + Copy> Walk<A> {
     }
 
     // Follows one move.
-    fn follow(&mut self, graph: Graph<A>, frame: Frame) -> Result<(), AllocError> {
+    fn follow(&mut self, graph: &Graph<A>, frame: Frame) -> Result<(), AllocError> {
         if let Some(top) = self.frames.last_mut() {
             top.next = frame.next.saturating_add(1);
         }
@@ -131,25 +138,5 @@ impl<A: Allocator + Copy> Walk<A> {
         }
         self.waits.count = self.waits.count.saturating_add(1);
         Ok(())
-    }
-}
-
-// A list of so many times `NOWHERE`.
-fn nowhere<A: Allocator>(alloc: A, count: usize) -> Result<Vec<usize, A>, AllocError> {
-    vec![in alloc; NOWHERE; count]
-}
-
-/// The value at this place, or `NOWHERE`.
-pub(crate) fn at(values: &[usize], place: usize) -> usize {
-    match values.get(place) {
-        Some(value) => *value,
-        None => NOWHERE,
-    }
-}
-
-// Writes the value at this place, if it is there.
-fn set(values: &mut [usize], place: usize, value: usize) {
-    if let Some(known) = values.get_mut(place) {
-        *known = value;
     }
 }
