@@ -5,3 +5,4 @@ pub mod Replying
 pub mod Moving
 pub mod Making
 pub mod OutcomeLines
+pub mod InOrder

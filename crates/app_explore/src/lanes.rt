@@ -176,7 +176,7 @@ fn write_column<A: Allocator>(
 {
     text.push_str("| ")?;
     text.push_str(cell)?;
-    for _ in cell.len()..grid.width {
+    for _place in cell.len()..grid.width {
         text.push_str(" ")?;
     }
     text.push_str(" ")

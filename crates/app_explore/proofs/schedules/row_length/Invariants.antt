@@ -4,4 +4,4 @@ use Rattle.app_explore.proofs.schedules.row_length.Given as goal
 
 -- the moves so far are steps of the party that do not end its call
 abbrev pub invariant-loop-index : goal.invariant-loop-index
-invariant-loop-index l = row_length 0 l.party l.moves ≡ row_length l.index l.party (drop l.index l.moves)
+invariant-loop-index g l = row_length 0 l.party l.moves ≡ row_length l.index l.party (drop l.index l.moves)
