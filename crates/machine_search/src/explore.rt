@@ -97,11 +97,7 @@ fn schedules_of<A: Allocator + Copy>(
         parties,
     };
     let paths = Paths::new(alloc, &graph)?;
-    let mut schedules = Vec::new(alloc);
-    for outcome in order {
-        schedules.push(paths.schedule(alloc, &graph, &found.ends, *outcome)?)?;
-    }
-    Ok(schedules)
+    Ok(paths.schedules(alloc, &graph, &found.ends, order)?)
 }
 
 // What each of the schedules ends with.

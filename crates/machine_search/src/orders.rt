@@ -56,10 +56,8 @@ pub fn order_of<A: Allocator + Copy>(
         order: Vec::new(alloc),
     };
     search.enter(alloc, first_state(alloc, kind, program)?)?;
-    if search.finds(alloc, &wanted)? {
-        return Ok(Some(search.order));
-    }
-    Ok(None)
+    let found = search.finds(alloc, &wanted)?;
+    Ok(found.then_some(search.order))
 }
 
 // The state once the calls that come first are made.
@@ -79,15 +77,20 @@ impl<A: Allocator + Copy> Search<A> {
     // Goes on until the state is an end, and tells whether there is one.
     fn finds(&mut self, alloc: A, wanted: &Wanted<A>) -> Result<bool, SearchFault> {
         for _ in 0..u64::MAX {
-            let Some(frame) = self.frames.last().copied() else {
-                return Ok(false);
-            };
-            if self.is_end(wanted, frame.state) {
-                return Ok(true);
+            if self.is_over(wanted) {
+                break;
             }
-            self.go_on(alloc, wanted, frame)?;
+            self.go_on(alloc, wanted)?;
         }
-        Ok(false)
+        Ok(!self.frames.is_empty())
+    }
+
+    // Whether the state is an end, or nothing is left to be tried.
+    fn is_over(&self, wanted: &Wanted<A>) -> bool {
+        match self.frames.last() {
+            Some(frame) => self.is_end(wanted, frame.state),
+            None => true,
+        }
     }
 
     // Goes into the state, and tells whether it is new.
@@ -105,14 +108,16 @@ impl<A: Allocator + Copy> Search<A> {
     }
 
     // Tries the next party's call from the state, or goes back where all were tried.
-    fn go_on(&mut self, alloc: A, wanted: &Wanted<A>, frame: Frame) -> Result<(), SearchFault> {
+    fn go_on(&mut self, alloc: A, wanted: &Wanted<A>) -> Result<(), SearchFault> {
+        let Some(top) = self.frames.last_mut() else {
+            return Ok(());
+        };
+        let frame = *top;
+        top.next = frame.next.saturating_add(1);
         if frame.next >= wanted.program.parties.len() {
             self.frames.pop();
             self.order.pop();
             return Ok(());
-        }
-        if let Some(top) = self.frames.last_mut() {
-            top.next = frame.next.saturating_add(1);
         }
         match self.change(wanted, frame) {
             Some(change) => self.make(alloc, frame, change),

@@ -2,6 +2,7 @@
 use crate::faults::SearchFault;
 use machine_explore::check::Table;
 use machine_explore::outcome::Outcome;
+use machine_explore::position::Position;
 use machine_explore::program::Program;
 use std::alloc::Allocator;
 
@@ -38,14 +39,26 @@ pub fn collect_ends<A: Allocator + Copy>(
         ends: Vec::new(alloc),
     };
     for (place, position) in table.positions.iter().enumerate() {
-        if position.is_final(program) {
-            found.add(place, position.outcome(alloc)?)?;
-        }
+        found.look_at(alloc, program, place, position)?;
     }
     Ok(found)
 }
 
-impl<A: Allocator> Ends<A> {
+impl<A: Allocator + Copy> Ends<A> {
+    // Notes the position at this place, if it is an end.
+    fn look_at(
+        &mut self,
+        alloc: A,
+        program: &Program<A>,
+        place: usize,
+        position: &Position<A>,
+    ) -> Result<(), SearchFault> {
+        if !position.is_final(program) {
+            return Ok(());
+        }
+        self.add(place, position.outcome(alloc)?)
+    }
+
     // Notes an end at this place, and its outcome, if that is new.
     fn add(&mut self, place: usize, outcome: Outcome<A>) -> Result<(), SearchFault> {
         let number = number_of(&outcome, &self.outcomes);

@@ -68,13 +68,18 @@ impl<A: Allocator + Copy> Walk<A> {
             let Some(frame) = self.frames.last().copied() else {
                 break;
             };
-            if frame.next < graph.moves() {
-                self.follow(graph, frame)?;
-            } else {
-                self.leave(frame.place)?;
-            }
+            self.go_on(graph, frame)?;
         }
         Ok(())
+    }
+
+    // Follows the next move from a position, or leaves it where all are followed.
+    fn go_on(&mut self, graph: &Graph<A>, frame: Frame) -> Result<(), AllocError> {
+        if frame.next < graph.moves() {
+            self.follow(graph, frame)
+        } else {
+            self.leave(frame.place)
+        }
     }
 
     // Meets the position at this place.
@@ -126,17 +131,22 @@ impl<A: Allocator + Copy> Walk<A> {
 
     // The positions that are open from this place on are a wait.
     fn close(&mut self, first: usize) -> Result<(), AllocError> {
+        let mut place = NOWHERE;
         for _ in 0..self.open.len() {
-            let Some(place) = self.open.pop() else {
-                break;
-            };
-            set(&mut self.waits.numbers, place, self.waits.count);
-            self.waits.order.push(place)?;
             if place == first {
                 break;
             }
+            place = self.close_last()?;
         }
         self.waits.count = self.waits.count.saturating_add(1);
         Ok(())
+    }
+
+    // The last open position belongs to the wait that is closed. Tells its place.
+    fn close_last(&mut self) -> Result<usize, AllocError> {
+        let place = self.open.pop().unwrap_or(NOWHERE);
+        set(&mut self.waits.numbers, place, self.waits.count);
+        self.waits.order.push(place)?;
+        Ok(place)
     }
 }
