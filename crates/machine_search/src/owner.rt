@@ -2,12 +2,12 @@
 use crate::known::State;
 use queue_steps::errors::{ForcePushError, PopError, PushError};
 use queue_steps::model::{Call, Reply};
-use queue_steps::sizes::{BLOCK_SLOTS, LIMIT};
+use queue_steps::sizes::BLOCK_SLOTS;
 use queue_steps::steps::Kind;
 use std::alloc::{AllocError, Allocator};
 use std::hash::{FoldHasher, Hasher};
 
-/// A queue with one owner, and how many calls of each party it has made.
+/// A queue with one owner, and how many calls of each party it has made. It accepts far fewer items than any queue ever does, so it does not close itself.
 #[derive(Drop)]
 pub(crate) struct Owner<A: Allocator> {
     capacity: Option<usize>,
@@ -150,8 +150,8 @@ impl<A: Allocator> Owner<A> {
     }
 
     fn answer_push(&self, value: u64) -> (Reply<u64>, Change) {
-        if self.is_closed || self.is_spent() {
-            return (Reply::Push(Err(PushError::Closed(value))), CLOSE);
+        if self.is_closed {
+            return (Reply::Push(Err(PushError::Closed(value))), NOTHING);
         }
         if self.is_full() {
             return (Reply::Push(Err(PushError::Full(value))), NOTHING);
@@ -160,8 +160,11 @@ impl<A: Allocator> Owner<A> {
     }
 
     fn answer_force_push(&self, value: u64) -> (Reply<u64>, Change) {
-        if self.is_closed || self.is_spent() {
-            return (Reply::ForcePush(Err(ForcePushError::Closed(value))), CLOSE);
+        if self.is_closed {
+            return (
+                Reply::ForcePush(Err(ForcePushError::Closed(value))),
+                NOTHING,
+            );
         }
         if self.is_full() {
             return (
@@ -183,11 +186,6 @@ impl<A: Allocator> Owner<A> {
     // Whether it has as many items as its capacity.
     fn is_full(&self) -> bool {
         self.capacity == Some(self.items.len())
-    }
-
-    // Whether it has accepted all that it ever will. A queue of one slot goes on.
-    fn is_spent(&self) -> bool {
-        self.capacity != Some(1) && self.accepted == LIMIT
     }
 
     // Whether a push may ask for a block.
