@@ -8,6 +8,7 @@ ghost use Rattle.machine_explore.specs.Explored.{HasNoOther};
 use crate::edges::Graph;
 use crate::faults::SearchFault;
 use crate::find::find;
+use crate::orders::calls_of;
 use crate::outcomes::{Ends, collect_ends};
 use crate::paths::Paths;
 use machine_explore::certify::certify;
@@ -124,9 +125,5 @@ fn certified<A: Allocator + Copy>(
 
 /// How many steps a whole schedule of the program has: its moves without the beginnings of calls.
 pub fn steps_of<A: Allocator>(program: &Program<A>, schedule: &[Move]) -> usize {
-    let mut steps = schedule.len();
-    for party in 0..program.parties.len() {
-        steps = steps.saturating_sub(program.call_count(party));
-    }
-    steps
+    schedule.len().saturating_sub(calls_of(program))
 }
