@@ -25,43 +25,42 @@ pub fn counts<A: Allocator + Copy>(
 ) -> Result<Vec<Count, A>, SearchFault> {
     let graph = Graph { table, parties };
     let waits = waits_of(alloc, &graph)?;
-    let ways = ways_to(alloc, &graph, &waits)?;
+    let mut ways = zeros(alloc, waits.count)?;
+    lead_on(&graph, &waits, &mut ways);
     let mut counts = zeros(alloc, ends.outcomes.len())?;
-    for end in ends.ends.as_slice() {
-        let more = ways_at(&waits, &ways, end.place);
-        increase(&mut counts, end.outcome, more);
-    }
+    add_ends(&waits, &ways, ends, &mut counts);
     Ok(counts)
 }
 
 /// The sum of two numbers of schedules.
 pub fn sum(one: Count, other: Count) -> Count {
-    match (one, other) {
-        (Some(one), Some(other)) => one.checked_add(other),
-        _ => None,
+    one?.checked_add(other?)
+}
+
+// Counts how many schedules lead to each wait.
+fn lead_on<A: Allocator + Copy>(graph: &Graph<A>, waits: &Waits<A>, ways: &mut [Count]) {
+    increase(ways, at(&waits.numbers, 0), Some(1));
+    for place in waits.order.iter().rev() {
+        pass_on(graph, waits, ways, *place);
     }
 }
 
-// How many schedules lead to each wait.
-fn ways_to<A: Allocator + Copy>(
-    alloc: A,
+// Adds the ways to the wait of this place to those of each other wait that a move reaches from there.
+fn pass_on<A: Allocator + Copy>(
     graph: &Graph<A>,
     waits: &Waits<A>,
-) -> Result<Vec<Count, A>, AllocError> {
-    let mut ways = zeros(alloc, waits.count)?;
-    increase(&mut ways, at(&waits.numbers, 0), Some(1));
-    for place in waits.order.iter().rev() {
-        for number in 0..graph.moves() {
-            if let Some(to) = graph.lead_by(*place, number) {
-                pass_on(waits, &mut ways, *place, to);
-            }
+    ways: &mut [Count],
+    place: usize,
+) {
+    for number in 0..graph.moves() {
+        if let Some(to) = graph.lead_by(place, number) {
+            pass_to(waits, ways, place, to);
         }
     }
-    Ok(ways)
 }
 
-// Adds the ways to the wait of one place to those of the other, which a move reaches from there, if that is another wait.
-fn pass_on<A: Allocator + Copy>(waits: &Waits<A>, ways: &mut [Count], from: usize, to: usize) {
+// Adds the ways to the wait of one place to those of the other, if that is another wait.
+fn pass_to<A: Allocator>(waits: &Waits<A>, ways: &mut [Count], from: usize, to: usize) {
     let wait = at(&waits.numbers, to);
     if wait != at(&waits.numbers, from) {
         let more = ways_at(waits, ways, from);
@@ -69,12 +68,17 @@ fn pass_on<A: Allocator + Copy>(waits: &Waits<A>, ways: &mut [Count], from: usiz
     }
 }
 
-// The ways to the wait of this place.
-fn ways_at<A: Allocator + Copy>(waits: &Waits<A>, ways: &[Count], place: usize) -> Count {
-    match ways.get(at(&waits.numbers, place)) {
-        Some(count) => *count,
-        None => Some(0),
+// Adds the ways to each end to those of its outcome.
+fn add_ends<A: Allocator>(waits: &Waits<A>, ways: &[Count], ends: &Ends<A>, counts: &mut [Count]) {
+    for end in ends.ends.as_slice() {
+        increase(counts, end.outcome, ways_at(waits, ways, end.place));
     }
+}
+
+// The ways to the wait of this place.
+fn ways_at<A: Allocator>(waits: &Waits<A>, ways: &[Count], place: usize) -> Count {
+    let count = ways.get(at(&waits.numbers, place));
+    count.copied().unwrap_or(Some(0))
 }
 
 // Adds to one of the numbers, if it is there.

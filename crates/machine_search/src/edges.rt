@@ -35,7 +35,7 @@ impl<'a, A: Allocator + Copy> Graph<'a, A> {
 
     // The link of the party from the position at this place.
     fn link(&self, place: usize, party: usize) -> Option<Link> {
-        let index = place.checked_mul(self.parties)?.checked_add(party)?;
+        let index = number_of(self.parties, place, party);
         self.table.links.get(index).copied()
     }
 
@@ -44,17 +44,26 @@ impl<'a, A: Allocator + Copy> Graph<'a, A> {
         self.parties.saturating_mul(2)
     }
 
+    /// Whether the party goes on from the position at this place by a beginning of a call that has steps.
+    pub(crate) fn begins(&self, place: usize, party: usize) -> bool {
+        match self.lead(place, party, true) {
+            Some(next) => !self.is_in_call(place, party) && self.is_in_call(next, party),
+            None => false,
+        }
+    }
+
     /// The place to which the move of this number leads from the position at this place, if there is one. A beginning belongs to the call's first step.
     pub(crate) fn lead_by(&self, place: usize, number: usize) -> Option<usize> {
         let party = number / 2;
         let granted = number % 2 == 0;
-        if self.is_in_call(place, party) {
-            return self.lead(place, party, granted);
+        if self.begins(place, party) {
+            return self.lead(self.lead(place, party, true)?, party, granted);
         }
-        let begun = self.lead(place, party, true)?;
-        if self.is_in_call(begun, party) {
-            return self.lead(begun, party, granted);
-        }
-        if granted { Some(begun) } else { None }
+        self.lead(place, party, granted)
     }
+}
+
+/// The number of a pair of a place and one of so many parties, where the pairs of the first place come first.
+pub(crate) fn number_of(parties: usize, place: usize, party: usize) -> usize {
+    place.saturating_mul(parties).saturating_add(party)
 }

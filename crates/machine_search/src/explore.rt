@@ -4,6 +4,7 @@ ghost use Rattle.machine_replay.specs.Replays.{CanReplay};
 use crate::edges::Graph;
 use crate::faults::SearchFault;
 use crate::find::find;
+use crate::orders::calls_of;
 use crate::outcomes::{Ends, collect_ends};
 use crate::paths::Paths;
 use machine_explore::check::Table;
@@ -56,18 +57,10 @@ pub fn schedules_of<A: Allocator + Copy>(
         parties,
     };
     let paths = Paths::new(alloc, &graph)?;
-    let mut schedules = Vec::new(alloc);
-    for outcome in order {
-        schedules.push(paths.schedule(alloc, &graph, &found.ends, *outcome)?)?;
-    }
-    Ok(schedules)
+    Ok(paths.schedules(alloc, &graph, &found.ends, order)?)
 }
 
 /// How many steps a whole schedule of the program has: its moves without the beginnings of calls.
 pub fn steps_of<A: Allocator>(program: &Program<A>, schedule: &[Move]) -> usize {
-    let mut steps = schedule.len();
-    for party in 0..program.parties.len() {
-        steps = steps.saturating_sub(program.call_count(party));
-    }
-    steps
+    schedule.len().saturating_sub(calls_of(program))
 }

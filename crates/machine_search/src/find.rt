@@ -46,8 +46,7 @@ pub fn find<A: Allocator + Copy>(
         known: Known::new(alloc)?,
         links: Vec::new(alloc),
     };
-    search.begin(alloc, kind, program)?;
-    search.walk(alloc, refuses, program)?;
+    search.run(alloc, kind, refuses, program)?;
     Ok(Table {
         positions: search.known.into_states(),
         links: search.links,
@@ -55,6 +54,26 @@ pub fn find<A: Allocator + Copy>(
 }
 
 impl<A: Allocator + Copy> Search<A> {
+    // Finds where the program begins, and then where each position leads.
+    fn run(
+        &mut self,
+        alloc: A,
+        kind: Kind,
+        refuses: bool,
+        program: &Program<A>,
+    ) -> Result<(), SearchFault>
+        requires { CanReplay kind }
+    {
+        self.begin(alloc, kind, program)?;
+        for place in 0..MOST_STATES {
+            if place >= self.known.len() {
+                break;
+            }
+            self.expand(alloc, refuses, program, place)?;
+        }
+        Ok(())
+    }
+
     // Finds where the program begins.
     fn begin(&mut self, alloc: A, kind: Kind, program: &Program<A>) -> Result<(), SearchFault>
         requires { CanReplay kind }
@@ -68,16 +87,17 @@ impl<A: Allocator + Copy> Search<A> {
         }
     }
 
-    // Finds where each position leads.
-    fn walk(&mut self, alloc: A, refuses: bool, program: &Program<A>) -> Result<(), SearchFault> {
-        for place in 0..MOST_STATES {
-            if place >= self.known.len() {
-                break;
-            }
-            for party in 0..program.parties.len() {
-                let link = self.link(alloc, refuses, program, place, party)?;
-                self.links.push(link)?;
-            }
+    // Finds where each party leads from the position at this place.
+    fn expand(
+        &mut self,
+        alloc: A,
+        refuses: bool,
+        program: &Program<A>,
+        place: usize,
+    ) -> Result<(), SearchFault> {
+        for party in 0..program.parties.len() {
+            let link = self.link(alloc, refuses, program, place, party)?;
+            self.links.push(link)?;
         }
         Ok(())
     }

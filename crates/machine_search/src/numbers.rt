@@ -9,10 +9,7 @@ pub(crate) fn nowhere<A: Allocator>(alloc: A, count: usize) -> Result<Vec<usize,
 
 /// The value at this place, or `NOWHERE`.
 pub(crate) fn at(values: &[usize], place: usize) -> usize {
-    match values.get(place) {
-        Some(value) => *value,
-        None => NOWHERE,
-    }
+    values.get(place).copied().unwrap_or(NOWHERE)
 }
 
 /// Writes the value at this place, if it is there.

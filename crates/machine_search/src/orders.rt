@@ -14,6 +14,8 @@ struct Wanted<'a, A: Allocator> {
     refuses: bool,
     program: &'a Program<A>,
     outcome: &'a Outcome<A>,
+    // How many calls the parties make in all.
+    calls: usize,
 }
 
 // A state that the search has come to, and the party whose call is tried next.
@@ -49,17 +51,24 @@ pub fn order_of<A: Allocator + Copy>(
         refuses,
         program,
         outcome,
+        calls: calls_of(program),
     };
     let mut search = Search {
         known: Known::new(alloc)?,
         frames: Vec::new(alloc),
         order: Vec::new(alloc),
     };
-    search.enter(alloc, first_state(alloc, kind, program)?)?;
-    if search.finds(alloc, &wanted)? {
-        return Ok(Some(search.order));
+    let found = search.finds(alloc, kind, &wanted)?;
+    Ok(found.then_some(search.order))
+}
+
+/// How many calls the parties make in all.
+pub(crate) fn calls_of<A: Allocator>(program: &Program<A>) -> usize {
+    let mut calls: usize = 0;
+    for party in 0..program.parties.len() {
+        calls = calls.saturating_add(program.call_count(party));
     }
-    Ok(None)
+    calls
 }
 
 // The state once the calls that come first are made.
@@ -76,18 +85,32 @@ fn first_state<A: Allocator + Copy>(
 }
 
 impl<A: Allocator + Copy> Search<A> {
-    // Goes on until the state is an end, and tells whether there is one.
-    fn finds(&mut self, alloc: A, wanted: &Wanted<A>) -> Result<bool, SearchFault> {
+    // Goes on from the first state until one is an end, and tells whether there is one.
+    fn finds(&mut self, alloc: A, kind: Kind, wanted: &Wanted<A>) -> Result<bool, SearchFault> {
+        self.enter(alloc, first_state(alloc, kind, wanted.program)?)?;
         for _ in 0..u64::MAX {
-            let Some(frame) = self.frames.last().copied() else {
-                return Ok(false);
-            };
-            if self.is_end(wanted, frame.state) {
-                return Ok(true);
+            if self.is_over(wanted) {
+                break;
             }
-            self.go_on(alloc, wanted, frame)?;
+            self.go_on(alloc, wanted)?;
         }
-        Ok(false)
+        Ok(!self.frames.is_empty())
+    }
+
+    // Whether all calls are made and what is left is the outcome's, or nothing is left to be tried.
+    fn is_over(&self, wanted: &Wanted<A>) -> bool {
+        match self.frames.last() {
+            Some(frame) => self.order.len() == wanted.calls && self.is_left(wanted, frame.state),
+            None => true,
+        }
+    }
+
+    // Whether the items in the state at this place are what is left by the outcome.
+    fn is_left(&self, wanted: &Wanted<A>, place: usize) -> bool {
+        match self.known.get(place) {
+            Some(state) => state.items.as_slice() == wanted.outcome.left(),
+            None => false,
+        }
     }
 
     // Goes into the state, and tells whether it is new.
@@ -105,14 +128,16 @@ impl<A: Allocator + Copy> Search<A> {
     }
 
     // Tries the next party's call from the state, or goes back where all were tried.
-    fn go_on(&mut self, alloc: A, wanted: &Wanted<A>, frame: Frame) -> Result<(), SearchFault> {
+    fn go_on(&mut self, alloc: A, wanted: &Wanted<A>) -> Result<(), SearchFault> {
+        let Some(top) = self.frames.last_mut() else {
+            return Ok(());
+        };
+        let frame = *top;
+        top.next = frame.next.saturating_add(1);
         if frame.next >= wanted.program.parties.len() {
             self.frames.pop();
             self.order.pop();
             return Ok(());
-        }
-        if let Some(top) = self.frames.last_mut() {
-            top.next = frame.next.saturating_add(1);
         }
         match self.change(wanted, frame) {
             Some(change) => self.make(alloc, frame, change),
@@ -140,15 +165,6 @@ impl<A: Allocator + Copy> Search<A> {
         }
         Ok(())
     }
-
-    // Whether all calls are made, and what is left is the outcome's.
-    fn is_end(&self, wanted: &Wanted<A>, place: usize) -> bool {
-        match self.known.get(place) {
-            Some(state) => wanted.has_ended(state)
-                && state.items.as_slice() == wanted.outcome.left(),
-            None => false,
-        }
-    }
 }
 
 impl<'a, A: Allocator> Wanted<'a, A> {
@@ -156,15 +172,5 @@ impl<'a, A: Allocator> Wanted<'a, A> {
     fn reply(&self, party: usize, behind: usize) -> Option<Reply<u64>> {
         let replies = self.outcome.replies().get(party)?;
         replies.as_slice().get(behind).copied()
-    }
-
-    // Whether all calls are made.
-    fn has_ended(&self, state: &Owner<A>) -> bool {
-        for party in 0..self.program.parties.len() {
-            if state.made(party) != self.program.call_count(party) {
-                return false;
-            }
-        }
-        true
     }
 }

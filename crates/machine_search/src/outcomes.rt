@@ -39,33 +39,24 @@ pub fn collect_ends<A: Allocator + Copy>(
     };
     for (place, position) in table.positions.iter().enumerate() {
         if position.is_final(program) {
-            found.add(place, position.outcome(alloc)?)?;
+            let outcome = number_of(position.outcome(alloc)?, &mut found.outcomes)?;
+            found.ends.push(End { place, outcome })?;
         }
     }
     Ok(found)
 }
 
-impl<A: Allocator> Ends<A> {
-    // Notes an end at this place, and its outcome, if that is new.
-    fn add(&mut self, place: usize, outcome: Outcome<A>) -> Result<(), SearchFault> {
-        let number = number_of(&outcome, &self.outcomes);
-        self.ends.push(End {
-            place,
-            outcome: number,
-        })?;
-        if number == self.outcomes.len() {
-            self.outcomes.push(outcome)?;
-        }
-        Ok(())
-    }
-}
-
-// The number of the outcome among these, or the next one where it is new.
-fn number_of<A: Allocator>(outcome: &Outcome<A>, outcomes: &[Outcome<A>]) -> usize {
+// The number of the outcome among these, to which it is added where it is new.
+fn number_of<A: Allocator>(
+    outcome: Outcome<A>,
+    outcomes: &mut Vec<Outcome<A>, A>,
+) -> Result<usize, SearchFault> {
     for (number, other) in outcomes.iter().enumerate() {
         if outcome.is_same(other) {
-            return number;
+            return Ok(number);
         }
     }
-    outcomes.len()
+    let number = outcomes.len();
+    outcomes.push(outcome)?;
+    Ok(number)
 }

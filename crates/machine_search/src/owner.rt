@@ -2,12 +2,12 @@
 use crate::known::State;
 use queue_steps::errors::{ForcePushError, PopError, PushError};
 use queue_steps::model::{Call, Reply};
-use queue_steps::sizes::{BLOCK_SLOTS, LIMIT};
+use queue_steps::sizes::BLOCK_SLOTS;
 use queue_steps::steps::Kind;
 use std::alloc::{AllocError, Allocator};
 use std::hash::{FoldHasher, Hasher};
 
-/// A queue with one owner, and how many calls of each party it has made.
+/// A queue with one owner, and how many calls of each party it has made. It accepts far fewer items than any queue ever does, so it does not close itself.
 #[derive(Drop)]
 pub(crate) struct Owner<A: Allocator> {
     capacity: Option<usize>,
@@ -20,13 +20,30 @@ pub(crate) struct Owner<A: Allocator> {
 
 /// What a call does to the queue.
 #[derive(Clone, Copy)]
-pub(crate) enum Change {
-    Nothing,
-    Append(u64),
-    Displace(u64),
-    Take,
-    Close,
+pub(crate) struct Change {
+    // Whether it takes the front.
+    takes: bool,
+    // What it appends then.
+    appends: Option<u64>,
+    // Whether the queue is closed behind it, if it was open.
+    closes: bool,
 }
+
+const NOTHING: Change = Change {
+    takes: false,
+    appends: None,
+    closes: false,
+};
+
+const TAKE: Change = Change {
+    takes: true,
+    ..NOTHING
+};
+
+const CLOSE: Change = Change {
+    closes: true,
+    ..NOTHING
+};
 
 impl<A: Allocator> State for Owner<A> {
     fn hash(&self) -> u64 {
@@ -112,7 +129,7 @@ impl<A: Allocator> Owner<A> {
             return Some(change);
         }
         if refuses && self.may_ask() && lacks_memory(call, reply) {
-            return Some(Change::Nothing);
+            return Some(NOTHING);
         }
         None
     }
@@ -123,57 +140,52 @@ impl<A: Allocator> Owner<A> {
             Call::Push(value) => self.answer_push(value),
             Call::ForcePush(value) => self.answer_force_push(value),
             Call::Pop => self.answer_pop(),
-            Call::Close => (Reply::Close(!self.is_closed), Change::Close),
-            Call::IsClosed => (Reply::IsClosed(self.is_closed), Change::Nothing),
-            Call::IsEmpty => (Reply::IsEmpty(self.items.is_empty()), Change::Nothing),
-            Call::IsFull => (Reply::IsFull(self.is_full()), Change::Nothing),
-            Call::Len => (Reply::Len(self.items.len()), Change::Nothing),
-            Call::Capacity => (Reply::Capacity(self.capacity), Change::Nothing),
+            Call::Close => (Reply::Close(!self.is_closed), CLOSE),
+            Call::IsClosed => (Reply::IsClosed(self.is_closed), NOTHING),
+            Call::IsEmpty => (Reply::IsEmpty(self.items.is_empty()), NOTHING),
+            Call::IsFull => (Reply::IsFull(self.is_full()), NOTHING),
+            Call::Len => (Reply::Len(self.items.len()), NOTHING),
+            Call::Capacity => (Reply::Capacity(self.capacity), NOTHING),
         }
     }
 
     fn answer_push(&self, value: u64) -> (Reply<u64>, Change) {
-        if self.is_closed || self.is_spent() {
-            return (Reply::Push(Err(PushError::Closed(value))), Change::Close);
+        if self.is_closed {
+            return (Reply::Push(Err(PushError::Closed(value))), NOTHING);
         }
         if self.is_full() {
-            return (Reply::Push(Err(PushError::Full(value))), Change::Nothing);
+            return (Reply::Push(Err(PushError::Full(value))), NOTHING);
         }
-        (Reply::Push(Ok(())), Change::Append(value))
+        (Reply::Push(Ok(())), append(value))
     }
 
     fn answer_force_push(&self, value: u64) -> (Reply<u64>, Change) {
-        if self.is_closed || self.is_spent() {
+        if self.is_closed {
             return (
                 Reply::ForcePush(Err(ForcePushError::Closed(value))),
-                Change::Close,
+                NOTHING,
             );
         }
         if self.is_full() {
             return (
                 Reply::ForcePush(Ok(self.items.first().copied())),
-                Change::Displace(value),
+                displace(value),
             );
         }
-        (Reply::ForcePush(Ok(None)), Change::Append(value))
+        (Reply::ForcePush(Ok(None)), append(value))
     }
 
     fn answer_pop(&self) -> (Reply<u64>, Change) {
         match self.items.first() {
-            Some(item) => (Reply::Pop(Ok(*item)), Change::Take),
-            None if self.is_closed => (Reply::Pop(Err(PopError::Closed)), Change::Nothing),
-            None => (Reply::Pop(Err(PopError::Empty)), Change::Nothing),
+            Some(item) => (Reply::Pop(Ok(*item)), TAKE),
+            None if self.is_closed => (Reply::Pop(Err(PopError::Closed)), NOTHING),
+            None => (Reply::Pop(Err(PopError::Empty)), NOTHING),
         }
     }
 
     // Whether it has as many items as its capacity.
     fn is_full(&self) -> bool {
         self.capacity == Some(self.items.len())
-    }
-
-    // Whether it has accepted all that it ever will. A queue of one slot goes on.
-    fn is_spent(&self) -> bool {
-        self.capacity != Some(1) && self.accepted == LIMIT
     }
 
     // Whether a push may ask for a block.
@@ -192,17 +204,14 @@ impl<A: Allocator> Owner<A> {
 
     // Makes the change.
     fn apply(&mut self, change: Change) -> Result<(), AllocError> {
-        match change {
-            Change::Nothing => {}
-            Change::Append(value) => self.append(value)?,
-            Change::Displace(value) => {
-                self.take_front();
-                self.append(value)?;
-            }
-            Change::Take => self.take_front(),
-            Change::Close => self.is_closed = true,
+        self.is_closed |= change.closes;
+        if change.takes && !self.items.is_empty() {
+            self.items.remove(0);
         }
-        Ok(())
+        match change.appends {
+            Some(value) => self.append(value),
+            None => Ok(()),
+        }
     }
 
     fn append(&mut self, value: u64) -> Result<(), AllocError> {
@@ -210,11 +219,21 @@ impl<A: Allocator> Owner<A> {
         self.accepted = self.accepted.saturating_add(1);
         Ok(())
     }
+}
 
-    fn take_front(&mut self) {
-        if !self.items.is_empty() {
-            self.items.remove(0);
-        }
+// The change by which the value is appended.
+fn append(value: u64) -> Change {
+    Change {
+        appends: Some(value),
+        ..NOTHING
+    }
+}
+
+// The change by which the value is appended in place of the front.
+fn displace(value: u64) -> Change {
+    Change {
+        appends: Some(value),
+        ..TAKE
     }
 }
 

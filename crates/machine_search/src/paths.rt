@@ -1,5 +1,5 @@
 //! Shortest ways to the positions of a table, with few changes of party.
-use crate::edges::{Graph, NOWHERE};
+use crate::edges::{Graph, NOWHERE, number_of};
 use crate::numbers::{at, nowhere, set};
 use crate::outcomes::Ends;
 use machine_explore::schedule::Move;
@@ -22,6 +22,16 @@ pub(crate) struct Paths<A: Allocator> {
     depths: Vec<usize, A>,
     // The lanes of the first position, by the party of the last move, then those of the second, and so on.
     lanes: Vec<Lane, A>,
+}
+
+// A schedule whose calls begin late, as far as it is made.
+#[derive(Drop)]
+struct Late<A: Allocator> {
+    // Where it leads.
+    place: usize,
+    // For each party whether its call has begun and waits for its first step.
+    waiting: Vec<bool, A>,
+    moves: Vec<Move, A>,
 }
 
 // What stands before a first move.
@@ -65,7 +75,7 @@ impl<A: Allocator + Copy> Paths<A> {
         };
         if self.deepens(place, to) {
             let lane = self.continued(graph.parties, place, party);
-            self.improve(lane_of(graph.parties, to, party), lane);
+            self.improve(number_of(graph.parties, to, party), lane);
         }
     }
 
@@ -94,7 +104,7 @@ impl<A: Allocator + Copy> Paths<A> {
         }
         let mut best = NO_LANE;
         for last in 0..parties {
-            let before = lane_of(parties, place, last);
+            let before = number_of(parties, place, last);
             let changes = self
                 .changes(before)
                 .saturating_add((last != party) as usize);
@@ -113,8 +123,23 @@ impl<A: Allocator + Copy> Paths<A> {
         }
     }
 
-    /// A shortest schedule to this outcome. Each call begins just before its first step.
-    pub(crate) fn schedule(
+    /// A shortest schedule to each of these outcomes. Each call begins just before its first step.
+    pub(crate) fn schedules(
+        &self,
+        alloc: A,
+        graph: &Graph<A>,
+        ends: &Ends<A>,
+        outcomes: &[usize],
+    ) -> Result<Vec<Sequence<Move, A>, A>, AllocError> {
+        let mut schedules = Vec::new(alloc);
+        for outcome in outcomes {
+            schedules.push(self.schedule(alloc, graph, ends, *outcome)?)?;
+        }
+        Ok(schedules)
+    }
+
+    // A shortest schedule to this outcome.
+    fn schedule(
         &self,
         alloc: A,
         graph: &Graph<A>,
@@ -158,11 +183,6 @@ impl<A: Allocator + Copy> Paths<A> {
     }
 }
 
-// The place of the lane to a position by a move of the party.
-fn lane_of(parties: usize, place: usize, party: usize) -> usize {
-    place.saturating_mul(parties).saturating_add(party)
-}
-
 // The last move of this lane, before which stands that lane.
 fn move_into<A: Allocator + Copy>(graph: &Graph<A>, lane: usize, before: usize) -> Move {
     let from = if before == NOWHERE {
@@ -171,7 +191,7 @@ fn move_into<A: Allocator + Copy>(graph: &Graph<A>, lane: usize, before: usize) 
         position_of(graph.parties, before)
     };
     let to = position_of(graph.parties, lane);
-    let party = lane.saturating_sub(lane_of(graph.parties, to, 0));
+    let party = lane.saturating_sub(number_of(graph.parties, to, 0));
     Move {
         party,
         granted: graph.lead(from, party, true) == Some(to),
@@ -192,26 +212,35 @@ fn begin_late<A: Allocator + Copy>(
     graph: &Graph<A>,
     moves: &[Move],
 ) -> Result<Sequence<Move, A>, AllocError> {
-    let mut waiting = vec![in alloc; false; graph.parties]?;
-    let mut late = Vec::new(alloc);
-    let mut place = 0;
+    let mut late = Late {
+        place: 0,
+        waiting: vec![in alloc; false; graph.parties]?,
+        moves: Vec::new(alloc),
+    };
     for step in moves {
-        let Some(next) = graph.lead(place, step.party, step.granted) else {
-            break;
-        };
-        let begins = !graph.is_in_call(place, step.party) && graph.is_in_call(next, step.party);
-        if waits(&mut waiting, step.party, begins) {
-            late.push(Move {
+        late.take(graph, *step)?;
+    }
+    Ok(Sequence::of(late.moves))
+}
+
+impl<A: Allocator + Copy> Late<A> {
+    // Takes the next move, which a beginning that waits comes before.
+    fn take(&mut self, graph: &Graph<A>, step: Move) -> Result<(), AllocError> {
+        let begins = graph.begins(self.place, step.party);
+        self.place = graph
+            .lead(self.place, step.party, step.granted)
+            .unwrap_or(NOWHERE);
+        if waits(&mut self.waiting, step.party, begins) {
+            self.moves.push(Move {
                 party: step.party,
                 granted: true,
             })?;
         }
         if !begins {
-            late.push(*step)?;
+            self.moves.push(step)?;
         }
-        place = next;
+        Ok(())
     }
-    Ok(Sequence::of(late))
 }
 
 // Whether the call of the party waits for its first step, before a move that begins a call or none.

@@ -14,19 +14,21 @@ pub(crate) struct Waits<A: Allocator> {
     pub(crate) count: usize,
 }
 
-// A position whose moves are being followed, and the number of the next move.
+// A position whose moves are being followed.
 #[derive(Clone, Copy)]
 struct Frame {
     place: usize,
+    // The number of the next move.
     next: usize,
+    // When the earliest position was met that it is known to lead to.
+    low: usize,
 }
 
 // A walk depth first, by which waits are found.
 #[derive(Drop)]
 struct Walk<A: Allocator> {
-    // When each position was met, and the earliest one that it is known to lead to.
+    // When each position was met.
     met: Vec<usize, A>,
-    low: Vec<usize, A>,
     // How many positions were met.
     clock: usize,
     // Positions that were met, and whose waits are not known.
@@ -49,7 +51,6 @@ impl<A: Allocator + Copy> Walk<A> {
     fn new(alloc: A, count: usize) -> Result<Self, AllocError> {
         Ok(Walk {
             met: nowhere(alloc, count)?,
-            low: nowhere(alloc, count)?,
             clock: 0,
             open: Vec::new(alloc),
             frames: Vec::new(alloc),
@@ -68,22 +69,31 @@ impl<A: Allocator + Copy> Walk<A> {
             let Some(frame) = self.frames.last().copied() else {
                 break;
             };
-            if frame.next < graph.moves() {
-                self.follow(graph, frame)?;
-            } else {
-                self.leave(frame.place)?;
-            }
+            self.go_on(graph, frame)?;
         }
         Ok(())
     }
 
+    // Follows the next move from a position, or leaves it where all are followed.
+    fn go_on(&mut self, graph: &Graph<A>, frame: Frame) -> Result<(), AllocError> {
+        if frame.next < graph.moves() {
+            self.follow(graph, frame)
+        } else {
+            self.leave(frame)
+        }
+    }
+
     // Meets the position at this place.
     fn enter(&mut self, place: usize) -> Result<(), AllocError> {
-        set(&mut self.met, place, self.clock);
-        set(&mut self.low, place, self.clock);
-        self.clock = self.clock.saturating_add(1);
+        let low = self.clock;
+        set(&mut self.met, place, low);
+        self.clock = low.saturating_add(1);
         self.open.push(place)?;
-        self.frames.push(Frame { place, next: 0 })?;
+        self.frames.push(Frame {
+            place,
+            next: 0,
+            low,
+        })?;
         Ok(())
     }
 
@@ -95,48 +105,51 @@ impl<A: Allocator + Copy> Walk<A> {
         let Some(to) = graph.lead_by(frame.place, frame.next) else {
             return Ok(());
         };
-        if at(&self.met, to) == NOWHERE {
+        let when = at(&self.met, to);
+        if when == NOWHERE {
             return self.enter(to);
         }
         if at(&self.waits.numbers, to) == NOWHERE {
-            let when = at(&self.met, to);
-            self.lower(frame.place, when);
+            self.lower(when);
         }
         Ok(())
     }
 
-    // The position at this place leads to what was met then.
-    fn lower(&mut self, place: usize, when: usize) {
-        let low = at(&self.low, place);
-        set(&mut self.low, place, low.min(when));
+    // The last position whose moves are followed leads to what was met then.
+    fn lower(&mut self, when: usize) {
+        if let Some(top) = self.frames.last_mut() {
+            top.low = top.low.min(when);
+        }
     }
 
-    // All moves from the position at this place are followed.
-    fn leave(&mut self, place: usize) -> Result<(), AllocError> {
+    // All moves from the last position are followed.
+    fn leave(&mut self, frame: Frame) -> Result<(), AllocError> {
         self.frames.pop();
-        let low = at(&self.low, place);
-        if let Some(parent) = self.frames.last().copied() {
-            self.lower(parent.place, low);
-        }
-        if low != at(&self.met, place) {
+        self.lower(frame.low);
+        if frame.low != at(&self.met, frame.place) {
             return Ok(());
         }
-        self.close(place)
+        self.close(frame.place)
     }
 
     // The positions that are open from this place on are a wait.
     fn close(&mut self, first: usize) -> Result<(), AllocError> {
+        let mut place = NOWHERE;
         for _ in 0..self.open.len() {
-            let Some(place) = self.open.pop() else {
-                break;
-            };
-            set(&mut self.waits.numbers, place, self.waits.count);
-            self.waits.order.push(place)?;
             if place == first {
                 break;
             }
+            place = self.close_last()?;
         }
         self.waits.count = self.waits.count.saturating_add(1);
         Ok(())
+    }
+
+    // The last open position belongs to the wait that is closed. Tells its place.
+    fn close_last(&mut self) -> Result<usize, AllocError> {
+        let place = self.open.pop().unwrap_or(NOWHERE);
+        set(&mut self.waits.numbers, place, self.waits.count);
+        self.waits.order.push(place)?;
+        Ok(place)
     }
 }
