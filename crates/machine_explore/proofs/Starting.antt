@@ -1,6 +1,5 @@
 -- The calls that come first, made one after another, lead to where runs start.
-use Rattle.std.proofs.Common.{◌≡◌, ◌∙◌, ◌==◌, ◌++◌, ◌∷◌, [], ℕ, zero, suc, Bool, true, if◌then◌else◌, List, Option, None, length, refl, subst, sym, ap, append_assoc, append-nil}
-use Rattle.std.specs.Prelude.{replicate, slice_index_or}
+use Rattle.std.proofs.Common.{◌≡◌, ◌∙◌, ◌==◌, ◌++◌, ◌∷◌, [], ℕ, Bool, true, if◌then◌else◌, List, Option, None, length, refl, subst, sym, ap, append_assoc, append-nil}
 use Rattle.std.specs.List.{All}
 use Rattle.std.proofs.lemmas.List.Elements.{All-append, All-cons, All-nil, All-push}
 use Rattle.queue_steps.specs.declared.model.Call.{Call}
@@ -17,6 +16,7 @@ use Rattle.machine_replay.specs.declared.types.Event.{Event}
 use Rattle.machine_replay.specs.declared.types.Event.TheVariants.{Begin, Step}
 use Rattle.machine_replay.specs.declared.types.Told.{Told}
 use Rattle.machine_replay.specs.declared.types.Told.TheVariants.{Ran}
+use Rattle.machine_replay.proofs.Busy.{nobody_calls}
 use Rattle.machine_explore.specs.Explored.{IsAlone, Prepares, begun_by}
 use Rattle.machine_explore.specs.Moves.{call_in}
 use Rattle.machine_replay.specs.Played.{told_by, told_of, world_after, world_by}
@@ -39,14 +39,9 @@ begun_by-append p (x ∷ xs) ys (t ∷ ts) us same =
 begun_by-append p [] ys (t ∷ ts) us same = cc
 begun_by-append p (x ∷ xs) ys [] us same = cc
 
-nobody_calls : {X : Type 0} (n p : ℕ) (x : X) → slice_index_or (replicate n x) p x ≡ x
-nobody_calls zero p x = refl
-nobody_calls (suc n) zero x = refl
-nobody_calls (suc n) (suc p) x = nobody_calls n p x
-
 -- before the first call
 pub prepared-first : (k : Kind) (parties : ℕ) (w : World (Shared ℕ) (Running ℕ)) → w ≡ opening_world k parties → IsPrepared k (opening_world k parties) [] w
-prepared-first k parties w is = ([], record { alone = All-nil IsAlone; begins = refl; rests = nobody_calls {X = Option (Running ℕ)} parties 0 None }, is)
+prepared-first k parties w is = ([], record { alone = All-nil IsAlone; begins = refl; rests = nobody_calls {X = Running ℕ} parties 0 }, is)
 
 -- one call more
 pub prepared-more : (k : Kind) (w v u : World (Shared ℕ) (Running ℕ)) (calls : List (Call ℕ)) (c : Call ℕ) → IsPrepared k w calls v → IsPrepared k v (c ∷ []) u → IsPrepared k w (calls ++ c ∷ []) u

@@ -1,5 +1,5 @@
 -- How many calls are in progress.
-use Rattle.std.proofs.Common.{ℕ, ◌+◌, ◌<◌, ◌≡◌, ◌≢◌, Option, Some, None, List, [], ◌∷◌, length, refl, ap, arith, get_or, set, zero, suc}
+use Rattle.std.proofs.Common.{ℕ, ◌+◌, ◌<◌, ◌≡◌, ◌≢◌, Option, Some, None, List, [], ◌∷◌, length, refl, ap, arith, get_or, set, replicate, zero, suc}
 use Rattle.machine_replay.specs.Present.{present}
 
 abbrev pub one_if : {X : Type 0} → Option X → ℕ
@@ -30,3 +30,11 @@ one_busy (Some y ∷ xs) zero (suc j) x e there ne = none_busy xs j (omega arith
 one_busy (None ∷ xs) (suc p) zero x e there ne = refl
 one_busy (None ∷ xs) (suc p) (suc j) x e there ne = one_busy xs p j x e there (λ s. ne (ap suc s))
 one_busy (Some y ∷ xs) (suc p) j x e there ne = let none = none_busy xs p (omega arith) in cc
+
+-- before the first call
+pub none_are_busy : (X : Type 0) (parties : ℕ) → present {X = X} (replicate parties None) ≡ 0
+none_are_busy X zero = refl
+none_are_busy X (suc n) = none_are_busy X n
+
+pub nobody_calls : {X : Type 0} (parties p : ℕ) → ◌≡◌ {A = Option X} (get_or (replicate parties None) p None) None
+nobody_calls {X} parties p = none_busy (replicate parties None) p (none_are_busy X parties)

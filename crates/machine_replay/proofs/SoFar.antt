@@ -1,5 +1,6 @@
 -- A run of the machine so far, and what is told of it. Whatever kind of queue it is, it keeps its laws.
-use Rattle.std.proofs.Common.{ℕ, ◌+◌, ◌/◌, ◌<◌, ◌≤◌, ◌≡◌, ◌∙◌, Bool, Option, Some, None, is_none, List, [], ◌∷◌, ◌++◌, length, refl, sym, ap, subst, arith, zero, suc, append_assoc, append-nil, get_or, replicate}
+use Rattle.std.proofs.Common.{ℕ, ◌+◌, ◌/◌, ◌<◌, ◌≤◌, ◌≡◌, ◌∙◌, Bool, Option, Some, None, is_none, List, [], ◌∷◌, ◌++◌, length, refl, sym, ap, subst, arith, append_assoc, append-nil, replicate}
+use Rattle.std.proofs.lemmas.List.{length-replicate}
 use Rattle.queue_steps.specs.declared.sizes.TheConstants.{BLOCK_SLOTS}
 use Rattle.queue_steps.specs.declared.steps.types.Kind.{Kind}
 use Rattle.machine_replay.specs.declared.machine.Running.{Running}
@@ -12,13 +13,13 @@ use Rattle.machine_replay.specs.Left.{left_of, opening_world}
 use Rattle.machine_replay.specs.Machine.{event_of}
 use Rattle.machine_replay.specs.World.{World, call_at}
 use Rattle.machine_replay.specs.Present.{present}
+use Rattle.machine_replay.proofs.Busy.{nobody_calls, none_are_busy}
 use Rattle.machine_replay.proofs.Engine as engine
 use Rattle.machine_replay.proofs.KindLaws.{KindLaws, SimulatesOf}
 use Rattle.machine_replay.proofs.Growing.{run-grows, run-cap, happens-grows}
 use Rattle.machine_replay.proofs.Peaking.{Run-length, peak-first, peak-more, peaked-covers}
 use Rattle.machine_replay.specs.Peaks.{bound_of, opening_peak, peaked}
 use Rattle.machine_replay.specs.declared.types.Peak.{Peak}
-use Rattle.machine_replay.specs.World.{World}
 use Rattle.machine_replay.specs.Conforms.{IsPeak, HasNoBlocks, share}
 
 -- a run goes on by one event
@@ -54,19 +55,6 @@ pub record SoFar {T : Type 0} {k : Kind} (laws : KindLaws T k) (parties : ℕ) (
   pub no_blocks : HasNoBlocks (capacity_of k) peak
   pub covers : present w.shared.blocks ≤ peak.blocks
 
-nobody_calls : {X : Type 0} (n p : ℕ) (x : X) → get_or (replicate n x) p x ≡ x
-nobody_calls zero p x = refl
-nobody_calls (suc n) zero x = refl
-nobody_calls (suc n) (suc p) x = nobody_calls n p x
-
-length_replicate : {X : Type 0} (n : ℕ) (x : X) → length (replicate n x) ≡ n
-length_replicate zero x = refl
-length_replicate (suc n) x = ap suc (length_replicate n x)
-
-none_are_busy : (X : Type 0) (n : ℕ) → present {X = X} (replicate n None) ≡ 0
-none_are_busy X zero = refl
-none_are_busy X (suc n) = none_are_busy X n
-
 -- before the first event
 pub so_far-first : {T : Type 0} {k : Kind} (laws : KindLaws T k) (parties : ℕ) → SoFar laws parties [] [] (opening_world k parties) opening_peak
 so_far-first {T} {k} laws parties = record {
@@ -74,10 +62,10 @@ so_far-first {T} {k} laws parties = record {
   run = refl;
   simulates = record {
     g = laws.first;
-    parties_are = length_replicate parties None;
+    parties_are = length-replicate parties None;
     busy_is = sym (none_are_busy (Running T) parties);
     holds = laws.opens;
-    each = λ p. rw (nobody_calls {X = Option (Running T)} parties p None) (laws.all_idle p);
+    each = λ p. rw (nobody_calls {X = Running T} parties p) (laws.all_idle p);
   };
   highest = peak-first (capacity_of k) parties;
   no_blocks = none-first (capacity_of k);

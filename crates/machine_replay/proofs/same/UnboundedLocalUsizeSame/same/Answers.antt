@@ -49,6 +49,7 @@ three {E} {F} {G} a b c f {x} {y} {u} {v} {p} {q} e = let h = and_parts (E x y) 
 four : {A B C D K : Type 0} {E : A → A → Bool} {F : B → B → Bool} {G : C → C → Bool} {H : D → D → Bool} → Tells E → Tells F → Tells G → Tells H → (f : A → B → C → D → K) {x y : A} {u v : B} {p q : C} {s t : D} → (E x y && (F u v && (G p q && H s t))) ≡ true → f x u p s ≡ f y v q t
 four {E} {F} {G} {H} a b c d f {x} {y} {u} {v} {p} {q} {s} {t} e = let h = and_parts (E x y) (F u v && (G p q && H s t)) e in λ i. three b c d (f (a.told x y h.0 i)) h.1 i
 
+-- two places of one variant, field by field; of two variants the test is false
 same : (a b : UnboundedLocal ℕ) → (chain_eq.ghosts usize size.ghosts size.dict).eq a b ≡ true → a ≡ b
 same (chain.PushTail u v) (chain.PushTail p q) e = two kind spare chain.PushTail e
 same (chain.PushBlock u v w) (chain.PushBlock p q r) e = three kind number spare chain.PushBlock e
