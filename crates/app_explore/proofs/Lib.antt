@@ -6,3 +6,4 @@ pub mod Moving
 pub mod Making
 pub mod OutcomeLines
 pub mod InOrder
+pub mod Drawing

@@ -176,7 +176,7 @@ fn write_column<A: Allocator>(
 {
     text.push_str("| ")?;
     text.push_str(cell)?;
-    for _place in cell.len()..grid.width {
+    for _place in 0..grid.width.saturating_sub(cell.len()) {
         text.push_str(" ")?;
     }
     text.push_str(" ")

@@ -137,12 +137,14 @@ fn trace_outcome<A: Allocator + Copy>(
     let walk = find_all(alloc, task)?;
     let shown = show_all(alloc, task, &walk)?;
     let index = (number - 1) as usize;
-    match (walk.schedules.get(index), shown.outcomes.get(index)) {
-        (Some(schedule), Some(outcome)) => {
-            Ok(Some(follow_to(alloc, task, schedule.as_slice(), outcome)?))
-        }
-        _ => Ok(None),
-    }
+    let Some(outcome) = shown.outcomes.get(index) else {
+        return Ok(None);
+    };
+    let Some(schedule) = walk.schedules.get(index) else {
+        return Err(SearchFault::NotShown);
+    };
+    let trace = follow_to(alloc, task, schedule.as_slice(), outcome)?;
+    Ok(Some(trace))
 }
 
 // What is seen of a schedule that leads to this outcome.

@@ -27,10 +27,7 @@ pub fn write_outcome<A: Allocator, B: Allocator>(
 }
 
 /// That text.
-pub(crate) fn text_of<A: Allocator>(
-    alloc: A,
-    outcome: &Outcome<A>,
-) -> Result<String<A>, AllocError>
+pub(crate) fn text_of<A: Allocator>(alloc: A, outcome: &Outcome<A>) -> Result<String<A>, AllocError>
     ensures { IfOk result (λ text. string_bytes text ≡ text_of outcome.now) }
 {
     let mut text = String::new(alloc);

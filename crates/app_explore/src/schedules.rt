@@ -59,12 +59,13 @@ fn first_line<B: Allocator>(moves: &[TraceEntry<B>]) -> Option<(ReplayLine, usiz
         (λ p. (0 < p.1) × (p.1 ≤ length moves.now) × (move_lines 0 moves.now ≡ p.0 ∷ move_lines 0 (drop p.1 moves.now))) }
 {
     let first = moves.first()?;
-    let party = party_of(first.event());
+    let event = first.event();
+    let party = party_of(event);
     let count = row_length(party, moves);
     if count >= 2 && count as u64 <= SOLO_STEPS {
         return Some((line_of(party, Action::Run), count));
     }
-    Some((plain_line(first.event()), 1))
+    Some((plain_line(event), 1))
 }
 
 // How many steps of this party come first, of which the last ends its call; 0 where none does.

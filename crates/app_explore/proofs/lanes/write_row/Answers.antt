@@ -1,7 +1,7 @@
-use Rattle.std.proofs.Common.{rules, ◌≡◌, ◌++◌, [], ◌∷◌, if◌then◌else◌, ◌==◌, IfOk, OnOk, length, map, string_bytes, ℕ, ◌+◌, ◌-◌, ◌*◌, ◌<◌, ◌≤◌, ◌/◌, ◌%◌, Bool, true, false, nat_eq, nat_lt, List, slice_index_or, slice_set, bit_and, bit_or, Fits, w8, w32, w64, Bor, MutBor}
-use Rattle.app_explore.specs.Lanes.{cell_text, column, head_text, lanes_text, move_text, row_text, rows_text, told_text, widest}
+use Rattle.std.proofs.Common.{◌==◌, [], if◌then◌else◌, string_bytes}
+use Rattle.app_explore.proofs.Drawing.{column_more}
 use Rattle.app_explore.proofs.lanes.write_row.Goals as goal
 
--- src/lanes.rt:154:5
 pub loop-column-preserved : goal.loop-column-preserved
-loop-column-preserved g c = ?
+loop-column-preserved g c =
+    column_more (λ q. if q == c.args.party then c.args.cell.now else []) c.loop-column.column c.args.grid.width c.cell_at.result.now (string_bytes c.args.text.now) (string_bytes c.loop-column.text) (string_bytes c.write_column.new.text) c.loop-column.invariant c.cell_at.ensures c.in_ok-write_column.ensures
