@@ -1,7 +1,7 @@
-use Rattle.std.proofs.Common.{◌≡◌, ◌<◌, ◌≤◌, ◌∙◌, ◌++◌, ◌∷◌, [], List, ℕ, ap, arith, false, length, subst, sym, take, true}
+use Rattle.std.proofs.Common.{◌≡◌, ◌<◌, ◌≤◌, ◌++◌, ◌∷◌, [], List, ℕ, arith, false, length, subst, sym, take, true}
 use Rattle.std.specs.Prelude.{slice_index_or}
 use Rattle.std.proofs.lemmas.List.{take_all, take_more}
-use Rattle.machine_explore.specs.Positions.{Outcome, outcome_at}
+use Rattle.machine_explore.specs.Positions.{Outcome}
 use Rattle.machine_explore.specs.Traces.{IsTraceOf, Seen}
 use Rattle.machine_explore.specs.declared.schedule.Move.{Move}
 use Rattle.machine_explore.proofs.Showing.{IsOnWay, on_way-first, on_way-next, on_way-shows}
