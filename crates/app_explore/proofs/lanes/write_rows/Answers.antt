@@ -1,4 +1,4 @@
-use Rattle.std.proofs.Common.{◌≡◌, ◌∙◌, ap, string_bytes}
+use Rattle.std.proofs.Common.{◌∙◌, ap, string_bytes}
 use Rattle.machine_replay.specs.Conforms.{party_of}
 use Rattle.machine_explore.specs.Traces.{Seen}
 use Rattle.app_explore.specs.Lanes.{cell_text, row_text}
