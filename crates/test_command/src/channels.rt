@@ -1,5 +1,5 @@
 //! Rows of the form `channel`, run through `command`, and two ends of a channel that are at work within one another's calls.
-use crate::rows::{End, all_end_well, all_wrong, ends};
+use crate::rows::{all_end_well, all_wrong, ends};
 use app_threads::crew::{Plan, Work};
 use app_threads::ends::run_all;
 use concurrent_queue::ConcurrentQueue;
@@ -9,6 +9,7 @@ use std::sync::Wait;
 use std::test::Fail;
 use std::thread::Threads;
 use test_allocators::{Refusal, Refusing};
+use test_streams::runs::End;
 
 /// An input that the program is not to read.
 const UNREAD: &[u8] = b"not read\n";

@@ -1,5 +1,5 @@
 //! The end of the program: the arguments as the system gives them, and the status.
-use crate::rows::{End, USAGE, words};
+use crate::rows::USAGE;
 use app_command::program::program;
 use std::alloc::{AllocError, Global};
 use std::env::Args;
@@ -9,6 +9,7 @@ use std::process::{Abort, ExitCode};
 use std::sync::Wait;
 use std::test::Fail;
 use std::thread::Threads;
+use test_streams::runs::{End, words};
 
 /// How a run ended, and what it wrote.
 #[derive(Clone, Copy, Debug, PartialEq)]

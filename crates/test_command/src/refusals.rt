@@ -1,11 +1,12 @@
 //! Each request for memory of scripts and of replays, refused in turn.
-use crate::rows::{Outcome, Part, run_from, text_of};
+use crate::rows::{Part, run_from, text_of};
 use std::alloc::AllocError;
 use std::process::Abort;
 use std::sync::Wait;
 use std::test::Fail;
 use std::thread::Threads;
 use test_allocators::{Refusal, Refusing};
+use test_streams::runs::Outcome;
 
 /// More requests than any of these runs makes.
 const MANY: u64 = 200;

@@ -1,7 +1,8 @@
 //! Rows of replays, run through `command`.
-use crate::rows::{End, Part, Row, all_unreadable, ends, writes};
+use crate::rows::{Part, all_unreadable, ends, writes};
 use std::alloc::AllocError;
 use std::test::Fail;
+use test_streams::runs::{End, Row};
 
 static REPLAYS: [Row; 10] = [
     // Nothing happens.

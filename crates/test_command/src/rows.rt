@@ -5,71 +5,14 @@ use std::io::{Read, Write};
 use std::process::Abort;
 use std::sync::Wait;
 use std::thread::Threads;
+use test_streams::runs::{End, Outcome, words};
 
 pub const USAGE: &str =
     "usage: queue_run script KIND | replay KIND PARTIES | threads KIND PUSHERS POPPERS ITEMS | handshake | channel KIND SENDERS RECEIVERS ITEMS\n";
 
-/// A run that ends well: the line of its arguments, its input, and its output.
-pub struct Row {
-    pub line: &'static str,
-    pub input: &'static str,
-    pub output: &'static str,
-}
-
-/// The status that a run ends with, and what it writes.
-#[derive(Clone, Copy, Debug, PartialEq)]
-pub struct End<'a> {
-    pub status: u8,
-    pub output: &'a [u8],
-    pub faults: &'a [u8],
-}
-
-impl<'a> End<'a> {
-    /// The run ends well, and writes this.
-    pub fn right(output: &'a str) -> End<'a> {
-        End {
-            status: 0,
-            output: output.as_bytes(),
-            faults: b"",
-        }
-    }
-
-    /// The run ends with this status, and tells this fault alone.
-    pub fn fault(status: u8, fault: &'a str) -> End<'a> {
-        End {
-            status,
-            output: b"",
-            faults: fault.as_bytes(),
-        }
-    }
-}
-
-/// What a run wrote, and the status that it ended with.
-#[derive(Drop)]
-pub struct Outcome {
-    pub status: u8,
-    pub output: Vec<u8>,
-    pub faults: Vec<u8>,
-}
-
-impl Outcome {
-    /// Asserts that the run ended so. A failure tells at which arguments and input.
-    pub fn is(&self, rt: &impl Abort, line: &str, input: &[u8], end: End<'_>) {
-        let found = End {
-            status: self.status,
-            output: self.output.as_slice(),
-            faults: self.faults.as_slice(),
-        };
-        assert_eq!(rt; found, end, "at {line:?} on {input:?}");
-    }
-}
-
-pub fn words(alloc: Global, line: &str) -> Result<Vec<String>, AllocError> {
-    let mut words = Vec::new(alloc);
-    for word in line.split_whitespace() {
-        words.push(String::from_str(alloc, word)?)?;
-    }
-    Ok(words)
+/// Asserts that a run ended so. A failure tells at which arguments and input.
+pub fn is(rt: &impl Abort, outcome: &Outcome, line: &str, input: &[u8], end: End<'_>) {
+    assert_eq!(rt; outcome.end(), end, "at {line:?} on {input:?}");
 }
 
 /// Runs the program on a line of arguments, and gives the status that it ends with.
@@ -130,7 +73,8 @@ pub fn ends<R: Abort + Threads + Wait + Sync + AllocGlobal>(
     end: End<'_>,
 ) -> Result<(), AllocError> {
     let mut rest = input;
-    run(rt, alloc, line, &mut rest)?.is(rt, line, input, end);
+    let outcome = run(rt, alloc, line, &mut rest)?;
+    is(rt, &outcome, line, input, end);
     Ok(())
 }
 

@@ -1,11 +1,12 @@
 //! Rows of scripts, run through `command`.
-use crate::rows::{End, Outcome, all_unreadable, all_write, all_wrong, ends, run, run_over};
+use crate::rows::{all_unreadable, all_write, all_wrong, ends, is, run, run_over};
 use std::alloc::{AllocError, Global};
 use std::io;
 use std::io::{ErrorKind, Read, Write};
 use std::sync::Wait;
 use std::test::Fail;
 use std::thread::Threads;
+use test_streams::runs::{End, Outcome};
 
 static WRONG: [&str; 22] = [
     "",
@@ -157,7 +158,7 @@ fn a_failed_read_prints_nothing(rt: HostRuntime) -> Result<(), Fail> {
                 kind: *kind,
             };
             let outcome = run(&rt, rt.alloc(), "script single", &mut input)?;
-            outcome.is(&rt, "script single", start, End::fault(3, fault));
+            is(&rt, &outcome, "script single", start, End::fault(3, fault));
         }
     }
     Ok(())
@@ -214,7 +215,7 @@ static FLUSHED: [(&str, &str); 4] = [
 fn all_output_is_flushed(rt: HostRuntime) -> Result<(), Fail> {
     for (line, output) in FLUSHED.iter() {
         let outcome = run_held(&rt, rt.alloc(), line)?;
-        outcome.is(&rt, line, b"", End::right(output));
+        is(&rt, &outcome, line, b"", End::right(output));
     }
     Ok(())
 }
@@ -275,7 +276,8 @@ fn a_failed_write_leaves_a_beginning(rt: HostRuntime) -> Result<(), Fail> {
             output: &wanted[..room],
             faults: b"output failed\n",
         };
-        run_in(&rt, rt.alloc(), input, room)?.is(&rt, "script single", input, end);
+        let outcome = run_in(&rt, rt.alloc(), input, room)?;
+        is(&rt, &outcome, SINGLE, input, end);
     }
     Ok(())
 }
@@ -313,7 +315,8 @@ fn a_failed_write_of_a_later_piece_leaves_a_beginning(rt: HostRuntime) -> Result
             output: begun,
             faults: b"output failed\n",
         };
-        run_in(&rt, rt.alloc(), &input, *room)?.is(&rt, "script single", &input, end);
+        let outcome = run_in(&rt, rt.alloc(), &input, *room)?;
+        is(&rt, &outcome, SINGLE, &input, end);
     }
     Ok(())
 }
@@ -333,7 +336,8 @@ fn output_in_pieces_is_whole(rt: HostRuntime) -> Result<(), Fail> {
         output: wanted.as_slice(),
         faults: b"",
     };
-    run_in(&rt, rt.alloc(), &input, wanted.len())?.is(&rt, "script single", &input, end);
+    let outcome = run_in(&rt, rt.alloc(), &input, wanted.len())?;
+    is(&rt, &outcome, SINGLE, &input, end);
     Ok(())
 }
 
@@ -361,6 +365,6 @@ fn run_telling_in<R: Threads + Wait + Sync + AllocGlobal>(
 fn a_fault_that_cannot_be_told_keeps_its_status(rt: HostRuntime) -> Result<(), Fail> {
     let input = b"pop \n";
     let outcome = run_telling_in(&rt, rt.alloc(), input, 4)?;
-    outcome.is(&rt, "script single", input, End::fault(2, "line"));
+    is(&rt, &outcome, "script single", input, End::fault(2, "line"));
     Ok(())
 }

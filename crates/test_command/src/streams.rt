@@ -1,12 +1,13 @@
-//! Readers and writers that do as little as they may, and that fail at any of their calls.
-use crate::rows::{End, Outcome, Row, run_over};
+//! Runs whose readers and writers do as little as they may, and fail at any of their calls.
+use crate::rows::{is, run_over};
 use std::alloc::{AllocError, Global};
-use std::io;
-use std::io::{ErrorKind, Read, Write};
+use std::io::ErrorKind;
 use std::process::Abort;
 use std::sync::Wait;
 use std::test::Fail;
 use std::thread::Threads;
+use test_streams::runs::{End, Outcome, Row};
+use test_streams::streams::{ByteReader, ByteWriter, Failing};
 
 /// Runs that read all of their input and write all of their output.
 static RUNS: [Row; 6] = [
@@ -42,83 +43,6 @@ static RUNS: [Row; 6] = [
     },
 ];
 
-/// At which of its calls a stream fails, counted from 0, and how.
-#[derive(Clone, Copy)]
-enum Failing {
-    /// At none.
-    Never,
-    /// At each second one, which is to be tried again.
-    Interrupted,
-    At(u64, ErrorKind),
-    /// It takes nothing.
-    TakesNothing(u64),
-    AtFlush,
-}
-
-impl Failing {
-    /// What the call of this number fails with, if it does.
-    fn failure(self, number: u64) -> Option<ErrorKind> {
-        match self {
-            Failing::Interrupted if number % 2 == 0 => Some(ErrorKind::Interrupted),
-            Failing::At(at, kind) if at == number => Some(kind),
-            _ => None,
-        }
-    }
-}
-
-/// Gives one byte a read.
-#[derive(Drop)]
-struct ByteReader<'a> {
-    rest: &'a [u8],
-    reads: u64,
-    failing: Failing,
-}
-
-impl Read for ByteReader<'_> {
-    fn read(&mut self, buf: &mut [u8]) -> io::Result<usize> {
-        let number = self.reads;
-        self.reads = number.wrapping_add(1);
-        if let Some(kind) = self.failing.failure(number) {
-            return Err(io::Error::from(kind));
-        }
-        let room = buf.len().min(1);
-        self.rest.read(&mut buf[..room])
-    }
-}
-
-/// Takes one byte a write.
-#[derive(Drop)]
-struct ByteWriter {
-    taken: Vec<u8>,
-    writes: u64,
-    failing: Failing,
-}
-
-impl Write for ByteWriter {
-    fn write(&mut self, buf: &[u8]) -> io::Result<usize> {
-        let number = self.writes;
-        self.writes = number.wrapping_add(1);
-        if let Some(kind) = self.failing.failure(number) {
-            return Err(io::Error::from(kind));
-        }
-        if let Failing::TakesNothing(at) = self.failing
-            && at == number
-        {
-            return Ok(0);
-        }
-        let count = buf.len().min(1);
-        self.taken.extend_from_slice(&buf[..count])?;
-        Ok(count)
-    }
-
-    fn flush(&mut self) -> io::Result<()> {
-        match self.failing {
-            Failing::AtFlush => Err(io::Error::from(ErrorKind::StorageFull)),
-            _ => Ok(()),
-        }
-    }
-}
-
 /// A run whose input comes, and whose output goes, a byte at a time.
 fn run_by_bytes<R: Threads + Wait + Sync + AllocGlobal>(
     rt: &R,
@@ -127,21 +51,13 @@ fn run_by_bytes<R: Threads + Wait + Sync + AllocGlobal>(
     reads: Failing,
     writes: Failing,
 ) -> Result<Outcome, AllocError> {
-    let mut input = ByteReader {
-        rest: row.input.as_bytes(),
-        reads: 0,
-        failing: reads,
-    };
-    let mut output = ByteWriter {
-        taken: Vec::new(alloc),
-        writes: 0,
-        failing: writes,
-    };
+    let mut input = ByteReader::new(row.input.as_bytes(), reads);
+    let mut output = ByteWriter::new(alloc, writes);
     let mut faults = Vec::new(alloc);
     let status = run_over(rt, alloc, row.line, &mut input, &mut output, &mut faults)?;
     Ok(Outcome {
         status,
-        output: output.taken,
+        output: output.into_taken(),
         faults,
     })
 }
@@ -155,7 +71,8 @@ fn ends_by_bytes<R: Abort + Threads + Wait + Sync + AllocGlobal>(
     writes: Failing,
     end: End<'_>,
 ) -> Result<(), AllocError> {
-    run_by_bytes(rt, alloc, row, reads, writes)?.is(rt, row.line, row.input.as_bytes(), end);
+    let outcome = run_by_bytes(rt, alloc, row, reads, writes)?;
+    is(rt, &outcome, row.line, row.input.as_bytes(), end);
     Ok(())
 }
 

@@ -1,11 +1,12 @@
 //! Rows of the forms that start threads, run through `command`.
-use crate::rows::{End, Outcome, all_end_well, all_wrong, ends, run_over};
+use crate::rows::{all_end_well, all_wrong, ends, is, run_over};
 use std::alloc::{AllocError, Global};
 use std::io;
 use std::io::Write;
 use std::sync::Wait;
 use std::test::Fail;
 use std::thread::Threads;
+use test_streams::runs::{End, Outcome};
 
 /// An input that the program is not to read.
 const UNREAD: &[u8] = b"not read\n";
@@ -168,7 +169,7 @@ fn run_broken<R: Threads + Wait + Sync + AllocGlobal>(
 fn a_failed_write_is_told(rt: HostRuntime) -> Result<(), Fail> {
     for line in ["handshake", "threads single 1 1 1", "channel single 1 1 1"] {
         let outcome = run_broken(&rt, rt.alloc(), line)?;
-        outcome.is(&rt, line, b"", End::fault(3, "output failed\n"));
+        is(&rt, &outcome, line, b"", End::fault(3, "output failed\n"));
     }
     Ok(())
 }

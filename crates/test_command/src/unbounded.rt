@@ -1,6 +1,7 @@
 //! Rows on queues without a capacity, run through `command`.
-use crate::rows::{End, Part, all_write, ends, writes};
+use crate::rows::{Part, all_write, ends, writes};
 use std::alloc::AllocError;
+use test_streams::runs::End;
 
 static SCRIPTS: [(&str, &str); 3] = [
     ("", "blocks 0\nleft\n"),

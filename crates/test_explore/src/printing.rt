@@ -1,10 +1,13 @@
 //! What outcomes and schedules are printed as.
 use app_explore::outcomes::{write_outcome, write_outcome_line};
-use app_explore::schedules::{Taken, write_schedule};
+use app_explore::reading::read_program;
+use app_explore::schedules::write_schedule;
+use machine_explore::schedule::Move;
 use machine_explore::sequence::Sequence;
-use machine_replay::types::Event;
-use queue_steps::model::{Call, Reply};
-use std::alloc::AllocError;
+use machine_explore::trace::follow;
+use queue_steps::model::Reply;
+use queue_steps::steps::Kind;
+use std::alloc::{AllocError, Global};
 
 #[test]
 fn an_outcome_is_a_line(rt: HostRuntime) -> Result<(), AllocError> {
@@ -24,73 +27,49 @@ fn an_outcome_is_a_line(rt: HostRuntime) -> Result<(), AllocError> {
     Ok(())
 }
 
-static MOVES: [Taken; 14] = [
-    Taken {
-        event: Event::Begin(0, Call::ForcePush(3)),
-        ends: false,
-    },
-    Taken {
-        event: Event::Step(0, true),
-        ends: false,
-    },
-    Taken {
-        event: Event::Step(0, true),
-        ends: false,
-    },
-    Taken {
-        event: Event::Begin(1, Call::Len),
-        ends: false,
-    },
-    Taken {
-        event: Event::Step(1, true),
-        ends: false,
-    },
-    Taken {
-        event: Event::Step(1, true),
-        ends: true,
-    },
-    Taken {
-        event: Event::Begin(1, Call::Pop),
-        ends: false,
-    },
-    Taken {
-        event: Event::Step(1, false),
-        ends: false,
-    },
-    Taken {
-        event: Event::Step(0, true),
-        ends: true,
-    },
-    Taken {
-        event: Event::Begin(0, Call::Capacity),
-        ends: true,
-    },
-    Taken {
-        event: Event::Begin(0, Call::Close),
-        ends: false,
-    },
-    Taken {
-        event: Event::Step(0, true),
-        ends: true,
-    },
-    Taken {
-        event: Event::Step(1, true),
-        ends: false,
-    },
-    Taken {
-        event: Event::Step(1, true),
-        ends: true,
-    },
+/// Two parties on a chain without a block.
+const PROGRAM: &str = "before: pop\n0: force 3; capacity; close\n1: len; push 4; is_closed\n";
+
+/// Which party goes on. A move that begins a call takes no step of it.
+static PARTIES: [usize; 21] = [
+    0, 0, 0, 1, 1, 1, 1, 1, 1, 1, 1, 0, 0, 0, 0, 1, 1, 0, 0, 0, 0,
 ];
 
+/// The move at which party 1's push asks for a block, and is refused it.
+const REFUSED: usize = 10;
+
+/// The moves of the whole program.
+fn moves(alloc: Global) -> Result<Vec<Move>, AllocError> {
+    let mut moves = Vec::new(alloc);
+    for (index, party) in PARTIES.iter().enumerate() {
+        moves.push(Move {
+            party: *party,
+            granted: index != REFUSED,
+        })?;
+    }
+    Ok(moves)
+}
+
+/// The lines of that schedule. There are none where it is no run of the program.
+fn schedule_lines(alloc: Global) -> Result<String, AllocError> {
+    let mut text = String::new(alloc);
+    let Ok(program) = read_program(alloc, PROGRAM.as_bytes()) else {
+        return Ok(text);
+    };
+    let moves = moves(alloc)?;
+    if let Some(trace) = follow(alloc, Kind::Unbounded, true, &program, &moves)? {
+        write_schedule(program.before.as_slice(), trace.entries(), &mut text)?;
+    }
+    Ok(text)
+}
+
+/// Two steps or more that end a call are a `run`, but where another party's moves come between, or the last is refused. A single one is a `step`, and a call without steps has none.
 #[test]
 fn a_schedule_is_lines_of_a_replay(rt: HostRuntime) -> Result<(), AllocError> {
-    let alloc = rt.alloc();
-    let mut text = String::new(alloc);
-    write_schedule(&[Call::Push(1), Call::Pop], &MOVES, &mut text)?;
+    let text = schedule_lines(rt.alloc())?;
     assert_eq!(rt;
         text.as_str(),
-        "0 push 1\n0 run\n0 pop\n0 run\n0 force 3\n0 step\n0 step\n1 len\n1 run\n1 pop\n1 refuse\n0 step\n0 capacity\n0 close\n0 step\n1 run\n"
+        "0 pop\n0 run\n0 force 3\n0 step\n0 step\n1 len\n1 run\n1 push 4\n1 step\n1 step\n1 refuse\n0 step\n0 step\n0 step\n0 step\n1 is_closed\n1 step\n0 step\n0 capacity\n0 close\n0 step\n"
     );
     Ok(())
 }

@@ -5,6 +5,7 @@ use app_text::args::KindName;
 use app_text::faults::Fault;
 use std::alloc::{AllocError, Global};
 use std::process::Abort;
+use test_streams::runs::words;
 
 /// What reading finds: how many calls there are before, and of each party; or the number of the line that is wrong.
 #[derive(Clone, Copy, Debug, PartialEq)]
@@ -85,7 +86,7 @@ fn is_read(
     Ok(())
 }
 
-static REQUESTS: [(&str, Option<Request>); 10] = [
+static REQUESTS: [(&str, Option<Request>); 17] = [
     (
         "bounded:2",
         Some(Request {
@@ -118,10 +119,31 @@ static REQUESTS: [(&str, Option<Request>); 10] = [
             wanted: Wanted::Schedule(1),
         }),
     ),
-    ("single lanes 1", None),
+    (
+        "single lanes 1",
+        Some(Request {
+            kind: KindName::Single,
+            refuses: false,
+            wanted: Wanted::Lanes(1),
+        }),
+    ),
+    (
+        "unbounded refuse lanes 1",
+        Some(Request {
+            kind: KindName::Unbounded,
+            refuses: true,
+            wanted: Wanted::Lanes(1),
+        }),
+    ),
     ("single refuse", None),
+    ("single refuse lanes 1", None),
     ("single schedule 0", None),
     ("single schedule", None),
+    ("single lanes 0", None),
+    ("single lanes 01", None),
+    ("single lanes", None),
+    ("single lanes schedule 1", None),
+    ("single lanes 1 schedule 1", None),
     ("unbounded schedule 1 refuse", None),
     ("", None),
 ];
@@ -129,10 +151,7 @@ static REQUESTS: [(&str, Option<Request>); 10] = [
 #[test]
 fn requests_are_read(rt: HostRuntime) -> Result<(), AllocError> {
     for (line, request) in &REQUESTS {
-        let mut words = Vec::new(rt.alloc());
-        for word in line.split_whitespace() {
-            words.push(String::from_str(rt.alloc(), word)?)?;
-        }
+        let words = words(rt.alloc(), line)?;
         assert_eq!(rt; parse_request(&words), *request, "at {line:?}");
     }
     Ok(())
