@@ -1,2 +1,3 @@
 mod Persons
+mod TableParties
 mod WebParties

@@ -1,7 +1,7 @@
 use Rattle.std.proofs.Common.{◌≡◌, ◌-◌, refl}
 use Rattle.queue_steps.specs.declared.sizes.TheConstants.{SOLO_STEPS}
 use Rattle.call_driver.proofs.Apart.{call-parts}
-use Rattle.concurrent_queue.proofs.waiting.drive.Goals as goal
+use Rattle.concurrent_queue.proofs.waiting.run_fast.Goals as goal
 
 pub run-requires : goal.run-requires
 run-requires g c =
@@ -21,23 +21,7 @@ returns-in-Break g c =
     let same : told.0 ≡ c.fill.result = let e = c.fill.ensures in let f = told.1 in cc in
     rw same at told.2
 
-pub leave-reply-requires : goal.leave-reply-requires
-leave-reply-requires g c =
-    let h = call-parts c.split-call.result c.args.call c.split-call.ensures in
-    let on = c.in-Continue.ensures (SOLO_STEPS - 1) c.args.call c.args.seat.now (rw h.1 (c.begin-kind.ensures c.args.call (SOLO_STEPS - 1) h.0 refl)) in
-    (SOLO_STEPS - 1, refl, (c.args.call, c.args.seat.now, on))
-
-pub fill-requires-in-Continue : goal.fill-requires-in-Continue
-fill-requires-in-Continue g c =
-    let h = call-parts c.split-call.result c.args.call c.split-call.ensures in
-    let on = c.in-Continue.ensures (SOLO_STEPS - 1) c.args.call c.args.seat.now (rw h.1 (c.begin-kind.ensures c.args.call (SOLO_STEPS - 1) h.0 refl)) in
-    let told = c.leave-reply.ensures (SOLO_STEPS - 1) c.args.call c.args.seat.now refl on in
-    rw told.1 refl
-
 pub returns-in-Continue : goal.returns-in-Continue
 returns-in-Continue g c =
     let h = call-parts c.split-call.result c.args.call c.split-call.ensures in
-    let on = c.in-Continue.ensures (SOLO_STEPS - 1) c.args.call c.args.seat.now (rw h.1 (c.begin-kind.ensures c.args.call (SOLO_STEPS - 1) h.0 refl)) in
-    let told = c.leave-reply.ensures (SOLO_STEPS - 1) c.args.call c.args.seat.now refl on in
-    let same : told.0 ≡ c.fill-in-Continue.result = let e = c.fill-in-Continue.ensures in let f = told.1 in cc in
-    rw same at told.2
+    c.in-Continue.ensures (SOLO_STEPS - 1) c.args.call c.args.seat.now (rw h.1 (c.begin-kind.ensures c.args.call (SOLO_STEPS - 1) h.0 refl))
