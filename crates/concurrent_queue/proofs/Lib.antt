@@ -1,3 +1,3 @@
 mod Persons
-mod TableParties
+mod TableCalls
 mod WebParties

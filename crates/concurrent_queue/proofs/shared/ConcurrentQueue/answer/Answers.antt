@@ -1,5 +1,5 @@
 use Rattle.std.proofs.Common.{rules, ap}
-use Rattle.concurrent_queue.proofs.TableParties.{table_begins, table_ends}
+use Rattle.concurrent_queue.proofs.TableCalls.{table_begins, table_ends}
 use Rattle.concurrent_queue.proofs.WebParties.{web_ends}
 use Rattle.concurrent_queue.proofs.shared.ConcurrentQueue.answer.Goals.{in-Single-Table+in-Break, in-Single-Table+in-Continue, in-Ring-Table+in-Break-run_either, in-Ring-Table+in-Continue-run_either, in-Chain-Web}
 use Rattle.concurrent_queue.proofs.shared.ConcurrentQueue.answer.Goals as goal

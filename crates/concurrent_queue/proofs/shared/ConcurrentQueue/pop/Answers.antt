@@ -2,7 +2,7 @@ use Rattle.std.proofs.Common.{rules, ap, subst}
 use Rattle.queue_steps.specs.declared.model.Call.TheVariants as call
 use Rattle.concurrent_queue.specs.Shared.{IsHeld, Calls, person_of}
 use Rattle.concurrent_queue.proofs.Persons.{pop_reply}
-use Rattle.concurrent_queue.proofs.TableParties.{table_begins, table_ends}
+use Rattle.concurrent_queue.proofs.TableCalls.{table_begins, table_ends}
 use Rattle.concurrent_queue.proofs.WebParties.{web_ends}
 use Rattle.concurrent_queue.proofs.shared.ConcurrentQueue.pop.Given.{Over}
 use Rattle.concurrent_queue.proofs.shared.ConcurrentQueue.pop.Goals.{In-Pop, in-Single-Table+in-Break, in-Single-Table+in-Continue, in-Ring-Table+in-Break-run_either, in-Ring-Table+in-Continue-run_either, in-Chain-Web}
