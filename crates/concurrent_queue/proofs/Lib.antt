@@ -1,2 +1,4 @@
+mod Filling
 mod Persons
+mod TableCalls
 mod WebParties

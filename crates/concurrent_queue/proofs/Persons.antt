@@ -1,8 +1,10 @@
 -- What calls, parting, joining, meeting and the end of the sharing are to the parties that contracts see.
-use Rattle.std.proofs.Common.{◌≡◌, ◌≢◌, ℕ, [], Option, None, ap, sym, ◌∙◌, subst}
+use Rattle.std.proofs.Common.{◌≡◌, ◌≢◌, ℕ, [], Option, None, refl, ap, sym, ◌∙◌, subst}
 use Rattle.atomic_table.specs.Seated.{TableId}
 use Rattle.queue_steps.specs.declared.model.Call.{Call}
+use Rattle.queue_steps.specs.declared.model.Call.TheVariants as call
 use Rattle.queue_steps.specs.declared.model.Reply.{Reply}
+use Rattle.queue_steps.specs.declared.model.Reply.TheVariants as reply
 use Rattle.queue_steps.specs.Effect.{after}
 use Rattle.queue_steps.specs.Legal.{IsShown}
 use Rattle.queue_steps.specs.Shares.{IsEntire}
@@ -53,3 +55,12 @@ module _ {T : Type 0} where
         subst (λ (z : Option ℕ × View T). IsShown e.queue (after z.0 z.1.seen)) (λ i. (sym one i, view_is i)) shown,
         λ some. none (λ e. some (one ∙ e)),
       )
+
+  -- a push is answered as one, and a pop
+  pub push_reply : (v w : Person T) (x : T) (r : Reply T) → Calls v (call.Push x) r w → (y : _) × (r ≡ reply.Push y)
+  push_reply v w x (reply.Push y) calls = (y, refl)
+  push_reply v w x _ calls = absurd calls.1.tells
+
+  pub pop_reply : (v w : Person T) (r : Reply T) → Calls v call.Pop r w → (y : _) × (r ≡ reply.Pop y)
+  pop_reply v w (reply.Pop y) calls = (y, refl)
+  pop_reply v w _ calls = absurd calls.1.tells

@@ -14,7 +14,9 @@ use Rattle.shared_parties.specs.Parting.{IsParty}
 use Rattle.shared_parties.proofs.Views.{ended_party}
 use Rattle.shared_chain.specs.Turning.{IsFree}
 use Rattle.concurrent_queue.specs.InWeb.{RestsAt, EndedAt}
-use Rattle.concurrent_queue.specs.Shared.{Person, person, in_web, Calls}
+use Rattle.concurrent_queue.specs.declared.party.SeatPlace.{SeatPlace}
+use Rattle.concurrent_queue.specs.declared.party.SeatPlace.TheVariants as place
+use Rattle.concurrent_queue.specs.Shared.{Person, person, person_of, in_web, IsHeld, Calls}
 use Rattle.concurrent_queue.proofs.Persons.{calls_person}
 
 module _ {T : Type 0} where
@@ -41,3 +43,12 @@ module _ {T : Type 0} where
   -- and its call is one that contracts see
   pub calls_ended : (r q : Rested (CallState T)) (v : Person T) (c : Call T) (y : Reply T) → person (in_web r.web) r.view ≡ v → v.queue.cap ≡ None → IsParty r.view → EndedAt r c y q → Calls v c y (person (in_web q.web) q.view)
   calls_ended r q v c y is_v none party ended = calls_person None (in_web r.web) (in_web q.web) r.view q.view v c y is_v none (ap in_web ended.1) party ended.2 ended.3 ended.4 ended.5
+
+  -- both of its place
+  pub web_ends : (a b : SeatPlace T) (r q : Rested (CallState T)) (v : Person T) (c : Call T) (y z : Reply T) → a ≡ place.Web r → IsHeld a → b ≡ place.Web q → z ≡ y → person_of a ≡ v → v.queue.cap ≡ None → EndedAt r c y q
+      → IsHeld b × Calls v c z (person_of b)
+  web_ends a b r q v c y z rested is resting same is_v none ended =
+      let held : IsHeld (place.Web r) = subst IsHeld rested is in (
+        subst IsHeld (sym resting) (held_ended r q c y held.0 ended),
+        subst (λ p. Calls v c z (person_of p)) (sym resting) (subst (λ x. Calls v c x (person_of (place.Web q))) (sym same) (calls_ended r q v c y (subst (λ p. person_of p ≡ v) rested is_v) none held.0 ended)),
+      )

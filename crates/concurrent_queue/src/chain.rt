@@ -8,7 +8,7 @@ ghost use Rattle.shared_chain.specs.Turning.{Carries, GaveUp, SitsAt, ChainCan, 
 ghost use Rattle.concurrent_queue.specs.InWeb.{RestsAt, EndedAt};
 
 use crate::allocated_chain::AllocatedChain;
-use crate::waiting::drive;
+use crate::waiting::{run_fast, run_slow};
 use call_driver::driver::drive_wait_free;
 use call_driver::fast::Usual;
 use call_driver::gate::Gate;
@@ -22,6 +22,7 @@ use shared_chain::web::{ChainSeat, ChainWeb};
 use shared_parties::known::CallState;
 use std::alloc::Allocator;
 use std::marker::PhantomData;
+use std::ops::ControlFlow;
 use std::sync::Wait;
 
 /// A party's seat in a call, and where the blocks come from that the call asks for.
@@ -149,13 +150,15 @@ pub(crate) fn answer<T, A: Allocator, Q: Source<T, A>, G: Gate, R: Wait, W>(
     ensures { EndedAt party.old call result party.new }
 {
     let mut asking: Asking<T, A, Q> = Asking::wake(&queue.chain, party);
-    let reply = drive::<T, Place<T>, Asking<T, A, Q>, AllocatedChain<T, A>, G, R, Usual<W>>(
+    let reply = match run_fast::<T, Place<T>, Asking<T, A, Q>, AllocatedChain<T, A>, G, Usual<W>>(
         queue,
-        rt,
         gate,
         &mut asking,
         call,
-    );
+    ) {
+        ControlFlow::Break(reply) => reply,
+        ControlFlow::Continue(left) => run_slow(queue, rt, gate, &mut asking, left),
+    };
     *party = asking.rests();
     reply
 }

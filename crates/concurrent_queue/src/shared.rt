@@ -15,7 +15,7 @@ use crate::allocated_chain::AllocatedChain;
 use crate::chain;
 pub use crate::party::Party;
 use crate::party::SeatPlace;
-use crate::waiting::drive;
+use crate::waiting::{run_either, run_fast, run_slow};
 use atomic_table::Seat;
 use call_driver::driver::drive_wait_free;
 use call_driver::fast::{Short, Usual};
@@ -34,7 +34,8 @@ use shared_tables::ring::{self, Rings, end_ring, open_ring};
 use shared_tables::slot::{self, Slots, end_slot, open_slot};
 use shared_tables::table::SharedTable;
 use std::alloc::{AllocError, Allocator, Global};
-use std::marker::Model;
+use std::marker::{Model, PhantomData};
+use std::ops::ControlFlow;
 use std::sync::Wait;
 use std::{fmt, mem};
 
@@ -60,12 +61,17 @@ struct Pops;
 
 struct Counts;
 
-/// How the items are kept.
+/// The same calls on a ring whose capacity is a power of two.
+struct Masked<W> {
+    of: PhantomData<W>,
+}
+
+/// How the items are kept. The compiler tests for the first before the others.
 enum Form<T, A: Allocator> {
-    /// One slot.
-    Single(SharedTable<T, Slots, A>),
     /// A ring of slots.
     Ring(SharedTable<T, Rings, A>),
+    /// One slot.
+    Single(SharedTable<T, Slots, A>),
     /// A chain of blocks.
     Chain(AllocatedChain<T, A>),
 }
@@ -162,6 +168,45 @@ impl<T, A: Allocator + Clone> ConcurrentQueue<T, A> {
     }
 }
 
+/// Runs a call to its end: which kind of queue it is, and the party's seat. `push` and `pop` have the text in place, since each function that may wait costs a test behind its call.
+macro_rules! answer_here {
+    ($queue:ident, $rt:ident, $gate:expr, $party:ident, $call:expr, $Q:ty, $G:ty, $W:ty) => {
+        match (&$queue.form, &mut $party.place) {
+            (Form::Single(slot), SeatPlace::Table(seat)) => {
+                match run_fast::<
+                    T,
+                    usize,
+                    Seat<Option<T>, CallState<T>>,
+                    SharedTable<T, Slots, A>,
+                    $G,
+                    Short<$W>,
+                >(slot, $gate, seat, $call) {
+                    ControlFlow::Break(reply) => reply,
+                    ControlFlow::Continue(left) => run_slow(slot, $rt, $gate, seat, left),
+                }
+            }
+            (Form::Ring(ring), SeatPlace::Table(seat)) => {
+                match run_either::<
+                    T,
+                    usize,
+                    Seat<Option<T>, CallState<T>>,
+                    SharedTable<T, Rings, A>,
+                    $G,
+                    Usual<Masked<$W>>,
+                    Usual<$W>,
+                >(ring.slots().is_power_of_two(), ring, $gate, seat, $call) {
+                    ControlFlow::Break(reply) => reply,
+                    ControlFlow::Continue(left) => run_slow(ring, $rt, $gate, seat, left),
+                }
+            }
+            (Form::Chain(chain), SeatPlace::Web(rested)) => {
+                chain::answer::<T, A, $Q, $G, R, $W>(chain, $rt, $gate, rested, $call)
+            }
+            _ => unreachable!(),
+        }
+    };
+}
+
 impl<T, A: Allocator> ConcurrentQueue<T, A> {
     /// An empty open queue without a capacity, and its only party, which has seen nothing and has all of the share.
     ///
@@ -196,30 +241,7 @@ impl<T, A: Allocator> ConcurrentQueue<T, A> {
         requires { IsPartyOf party.old self.now }
         ensures { Calls party.old call result party.new }
     {
-        match (&self.form, &mut party.place) {
-            (Form::Single(slot), SeatPlace::Table(seat)) => drive::<
-                T,
-                usize,
-                Seat<Option<T>, CallState<T>>,
-                SharedTable<T, Slots, A>,
-                G,
-                R,
-                Short<W>,
-            >(slot, rt, gate, seat, call),
-            (Form::Ring(ring), SeatPlace::Table(seat)) => drive::<
-                T,
-                usize,
-                Seat<Option<T>, CallState<T>>,
-                SharedTable<T, Rings, A>,
-                G,
-                R,
-                Usual<W>,
-            >(ring, rt, gate, seat, call),
-            (Form::Chain(chain), SeatPlace::Web(rested)) => {
-                chain::answer::<T, A, Q, G, R, W>(chain, rt, gate, rested, call)
-            }
-            _ => unreachable!(),
-        }
+        answer_here!(self, rt, gate, party, call, Q, G, W)
     }
 
     /// Runs a wait-free call to its end.
@@ -285,7 +307,9 @@ impl<T, A: Allocator> ConcurrentQueue<T, A> {
         requires { IsPartyOf party.old self.now }
         ensures { Calls party.old (call.Push value) (reply.Push result) party.new }
     {
-        match self.answer::<Granting, R, Open, Pushes>(rt, &Open, party, Call::Push(value)) {
+        let call = Call::Push(value);
+        let reply = answer_here!(self, rt, &Open, party, call, Granting, Open, Pushes);
+        match reply {
             Reply::Push(result) => result,
             _ => unreachable!(),
         }
@@ -327,7 +351,8 @@ impl<T, A: Allocator> ConcurrentQueue<T, A> {
         requires { IsPartyOf party.old self.now }
         ensures { Calls party.old call.Pop (reply.Pop result) party.new }
     {
-        match self.answer::<Refusing, R, Open, Pops>(rt, &Open, party, Call::Pop) {
+        let reply = answer_here!(self, rt, &Open, party, Call::Pop, Refusing, Open, Pops);
+        match reply {
             Reply::Pop(result) => result,
             _ => unreachable!(),
         }

@@ -1,5 +1,8 @@
 //! A party's call that may wait for another party's.
+ghost use Rattle.std.specs.ControlFlow.{MatchControlFlow};
+ghost use Rattle.queue_steps.specs.declared.model.Call.{Call as SpecCall};
 ghost use Rattle.call_driver.specs.OnWay.{CanEnd, EndsRightly};
+ghost use Rattle.concurrent_queue.specs.Leaving.{IsLeft};
 
 use call_driver::driver::{begin, leave};
 use call_driver::fast::Row;
@@ -72,34 +75,98 @@ impl<T, B: Copy, S, M: Site<T, B, S>, R: Wait> End<T, B, S, M> for Waiting<'_, R
     }
 }
 
-/// Runs a call to its end, after the fast steps `F`. The reply is put together on either way by itself, so that the compiler knows its kind where the fast steps end.
+/// A call that has left its fast steps: which it is, where it stands, and the value that it carries.
+pub(crate) struct Left<T, B> {
+    pub(crate) kind: Kind,
+    pub(crate) call: CallKind,
+    pub(crate) progress: Progress<B>,
+    pub(crate) carried: Option<T>,
+}
+
+/// Begins a call and takes its fast steps `F`. The reply is put together here, so that the compiler knows its kind where the fast steps end.
+///
+/// It does not wait. Behind each call of what may wait there is a test whether it came back, so nothing that may has the fast steps within it.
 #[inline(always)]
-pub(crate) fn drive<T, B: Copy, S, M: Site<T, B, S>, G: Gate, R: Wait, F: Row<T, B, S, M, G>>(
+pub(crate) fn run_fast<T, B: Copy, S, M: Site<T, B, S>, G: Gate, F: Row<T, B, S, M, G>>(
     site: &M,
-    rt: &R,
     gate: &G,
     seat: &mut S,
     call: Call<T>,
-) -> Reply<T>
+) -> ControlFlow<Reply<T>, Left<T, B>>
     requires { M.rests site.now seat.old }
-    ensures { M.ended site.now seat.old call result seat.new }
+    ensures { MatchControlFlow result (λ left. IsLeft M.Site site.now seat.old call left seat.new) (λ reply. M.ended site.now seat.old call reply seat.new) }
 {
     let (call, mut carried) = call.split();
     let (kind, mut progress) = begin::<T, B, S, M>(site, seat, call);
     match F::run(site, gate, kind, call, seat, &mut progress, &mut carried) {
-        ControlFlow::Break(reply) => Reply::fill(reply, carried),
-        ControlFlow::Continue(()) => {
-            let reply = leave(
-                site,
-                gate,
-                Waiting { rt },
-                kind,
-                call,
-                seat,
-                &progress,
-                &mut carried,
-            );
-            Reply::fill(reply, carried)
-        }
+        ControlFlow::Break(reply) => ControlFlow::Break(Reply::fill(reply, carried)),
+        // Part by part: a `Progress` that is moved whole is written by each fast step.
+        ControlFlow::Continue(()) => ControlFlow::Continue(Left {
+            kind,
+            call,
+            progress: Progress {
+                local: progress.local,
+                answer: progress.answer,
+            },
+            carried,
+        }),
     }
+}
+
+/// The same by one of two rows. They are the same steps, made once for each answer of a test that each of them would make: so it is made once in a call, and the compiler knows within a row how it came out.
+#[inline(always)]
+pub(crate) fn run_either<
+    T,
+    B: Copy,
+    S,
+    M: Site<T, B, S>,
+    G: Gate,
+    E: Row<T, B, S, M, G>,
+    F: Row<T, B, S, M, G>,
+>(
+    is_first: bool,
+    site: &M,
+    gate: &G,
+    seat: &mut S,
+    call: Call<T>,
+) -> ControlFlow<Reply<T>, Left<T, B>>
+    requires { M.rests site.now seat.old }
+    ensures { MatchControlFlow result (λ left. IsLeft M.Site site.now seat.old call left seat.new) (λ reply. M.ended site.now seat.old call reply seat.new) }
+{
+    if is_first {
+        run_fast::<T, B, S, M, G, E>(site, gate, seat, call)
+    } else {
+        run_fast::<T, B, S, M, G, F>(site, gate, seat, call)
+    }
+}
+
+/// Runs a call to its end that has left its fast steps.
+#[inline(always)]
+pub(crate) fn run_slow<T, B: Copy, S, M: Site<T, B, S>, G: Gate, R: Wait>(
+    site: &M,
+    rt: &R,
+    gate: &G,
+    seat: &mut S,
+    left: Left<T, B>,
+) -> Reply<T>
+    requires { (call : SpecCall T) × (first : S) × IsLeft M.Site site.now first call left seat.old }
+    ensures { (call : SpecCall T) (first : S) → IsLeft M.Site site.now first call left seat.old → M.ended site.now first call result seat.new }
+{
+    let Left {
+        kind,
+        call,
+        progress,
+        mut carried,
+    } = left;
+    let reply = leave(
+        site,
+        gate,
+        Waiting { rt },
+        kind,
+        call,
+        seat,
+        &progress,
+        &mut carried,
+    );
+    Reply::fill(reply, carried)
 }

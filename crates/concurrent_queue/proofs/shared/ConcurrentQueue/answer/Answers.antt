@@ -1,48 +1,29 @@
-use Rattle.std.proofs.Common.{rules, Some, sym, subst, ◌≡◌}
-use Rattle.queue_steps.specs.Effect.{IsHistory}
-use Rattle.concurrent_queue.specs.Shared.{IsHeld, Calls, person_of}
-use Rattle.concurrent_queue.proofs.WebParties.{held_ended, calls_ended}
-use Rattle.concurrent_queue.proofs.Persons.{ended_person, ended_calls}
-use Rattle.concurrent_queue.proofs.shared.ConcurrentQueue.answer.Goals.{in-Single-Table, in-Ring-Table, in-Chain-Web}
+use Rattle.std.proofs.Common.{rules, ap}
+use Rattle.concurrent_queue.proofs.TableCalls.{table_begins, table_ends}
+use Rattle.concurrent_queue.proofs.WebParties.{web_ends}
+use Rattle.concurrent_queue.proofs.shared.ConcurrentQueue.answer.Goals.{in-Single-Table+in-Break, in-Single-Table+in-Continue, in-Ring-Table+in-Break-run_either, in-Ring-Table+in-Continue-run_either, in-Chain-Web}
 use Rattle.concurrent_queue.proofs.shared.ConcurrentQueue.answer.Goals as goal
 
-pub drive-requires : goal.drive-requires
-drive-requires g c =
-    let b = c.in-Single-Table in let d = b.seat.me.0 in let held = subst IsHeld b.is-1 c.party.invariant in
-    let cap : d.known.cap ≡ Some 1 = search rules in
-    (search rules, (held.0.0, held.1), cap, subst (λ z. IsHistory z d.known.seen) cap held.0.1.legal, held.0.1.whole)
+pub run_fast-requires : goal.run_fast-requires
+run_fast-requires g c = let b = c.in-Single-Table in table_begins _ b.seat _ _ b.is-1 c.party.invariant (search rules) (search rules)
 
-pub drive-requires-in-Ring-Table : goal.drive-requires-in-Ring-Table
-drive-requires-in-Ring-Table g c =
-    let b = c.in-Ring-Table in let d = b.seat.me.0 in let held = subst IsHeld b.is-1 c.party.invariant in
-    let cap : d.known.cap ≡ Some b.ring.table.shared.table_id.slots = search rules in
-    (search rules, (held.0.0, held.1), cap, subst (λ z. IsHistory z d.known.seen) cap held.0.1.legal, held.0.1.whole)
+pub run_either-requires : goal.run_either-requires
+run_either-requires g c = let b = c.in-Ring-Table in table_begins _ b.seat _ _ b.is-1 c.party.invariant (search rules) (search rules)
 
 pub invariant_of-party : goal.invariant_of-party
-invariant_of-party g c = elim c.match-self.branch [
-  | in-Single-Table w ↦
-      let b = w.in-Single-Table in let s = b.seat in let s' = w.drive.new.seat in let held = subst IsHeld b.is-1 c.party.invariant in
-      subst (λ p. IsHeld p.place) (sym w.party-inside-is) (ended_person _ _ (s.table_id, s.me) (s'.table_id, s'.me) c.args.call w.drive.result held.0 w.drive.ensures)
-  | in-Ring-Table w ↦
-      let b = w.in-Ring-Table in let s = b.seat in let s' = w.drive-in-Ring-Table.new.seat in let held = subst IsHeld b.is-1 c.party.invariant in
-      subst (λ p. IsHeld p.place) (sym w.party-inside-is) (ended_person _ _ (s.table_id, s.me) (s'.table_id, s'.me) c.args.call w.drive-in-Ring-Table.result held.0 w.drive-in-Ring-Table.ensures)
-  | in-Chain-Web w ↦
-      let b = w.in-Chain-Web in let held = subst IsHeld b.is-1 c.party.invariant in
-      subst (λ p. IsHeld p.place) (sym w.party-inside-is) (held_ended b.rested w.answer.new.party c.args.call w.answer.result held.0 w.answer.ensures)
+invariant_of-party g c = let v = c.args.party.now in let k = c.args.call in elim c.match-self.branch [
+  | in-Single-Table+in-Break w ↦ let b = w.in-Single-Table in (table_ends _ b.seat _ _ b.is-1 c.party.invariant w.run_fast.new.seat _ v k _ _ (ap (λ p. p.place) w.party-inside-is) w.result-is c.party.view_is (search rules) (search rules) w.in-Break.ensures).0
+  | in-Single-Table+in-Continue w ↦ let b = w.in-Single-Table in (table_ends _ b.seat _ _ b.is-1 c.party.invariant w.run_slow.new.seat _ v k _ _ (ap (λ p. p.place) w.party-inside-is) w.result-is c.party.view_is (search rules) (search rules) (w.run_slow.ensures k b.seat w.in-Continue.ensures)).0
+  | in-Ring-Table+in-Break-run_either w ↦ let b = w.in-Ring-Table in (table_ends _ b.seat _ _ b.is-1 c.party.invariant w.run_either.new.seat _ v k _ _ (ap (λ p. p.place) w.party-inside-is) w.result-is c.party.view_is (search rules) (search rules) w.in-Break-run_either.ensures).0
+  | in-Ring-Table+in-Continue-run_either w ↦ let b = w.in-Ring-Table in (table_ends _ b.seat _ _ b.is-1 c.party.invariant w.run_slow-in-Continue-run_either.new.seat _ v k _ _ (ap (λ p. p.place) w.party-inside-is) w.result-is c.party.view_is (search rules) (search rules) (w.run_slow-in-Continue-run_either.ensures k b.seat w.in-Continue-run_either.ensures)).0
+  | in-Chain-Web w ↦ let b = w.in-Chain-Web in (web_ends _ _ b.rested w.answer.new.party v k _ _ b.is-1 c.party.invariant (ap (λ p. p.place) w.party-inside-is) w.result-is c.party.view_is (search rules) w.answer.ensures).0
 ]
 
 pub returns : goal.returns
 returns g c = let v = c.args.party.now in let k = c.args.call in elim c.match-self.branch [
-  | in-Single-Table w ↦
-      let b = w.in-Single-Table in let s = b.seat in let s' = w.drive.new.seat in let held = subst IsHeld b.is-1 c.party.invariant in let is_v = subst (λ h. person_of h ≡ v) b.is-1 c.party.view_is in
-      subst (λ r. Calls v k r (person_of c.match-self.party-inside.place)) (sym w.result-is) (subst (λ p. Calls v k w.drive.result (person_of p.place)) (sym w.party-inside-is)
-      (ended_calls _ _ (s.table_id, s.me) (s'.table_id, s'.me) v k w.drive.result is_v (search rules) (search rules) held.0 w.drive.ensures))
-  | in-Ring-Table w ↦
-      let b = w.in-Ring-Table in let s = b.seat in let s' = w.drive-in-Ring-Table.new.seat in let held = subst IsHeld b.is-1 c.party.invariant in let is_v = subst (λ h. person_of h ≡ v) b.is-1 c.party.view_is in
-      subst (λ r. Calls v k r (person_of c.match-self.party-inside.place)) (sym w.result-is) (subst (λ p. Calls v k w.drive-in-Ring-Table.result (person_of p.place)) (sym w.party-inside-is)
-      (ended_calls _ _ (s.table_id, s.me) (s'.table_id, s'.me) v k w.drive-in-Ring-Table.result is_v (search rules) (search rules) held.0 w.drive-in-Ring-Table.ensures))
-  | in-Chain-Web w ↦
-      let b = w.in-Chain-Web in let held = subst IsHeld b.is-1 c.party.invariant in let is_v = subst (λ h. person_of h ≡ v) b.is-1 c.party.view_is in
-      subst (λ r. Calls v k r (person_of c.match-self.party-inside.place)) (sym w.result-is) (subst (λ p. Calls v k w.answer.result (person_of p.place)) (sym w.party-inside-is)
-      (calls_ended b.rested w.answer.new.party v k w.answer.result is_v (search rules) held.0 w.answer.ensures))
+  | in-Single-Table+in-Break w ↦ let b = w.in-Single-Table in (table_ends _ b.seat _ _ b.is-1 c.party.invariant w.run_fast.new.seat _ v k _ _ (ap (λ p. p.place) w.party-inside-is) w.result-is c.party.view_is (search rules) (search rules) w.in-Break.ensures).1
+  | in-Single-Table+in-Continue w ↦ let b = w.in-Single-Table in (table_ends _ b.seat _ _ b.is-1 c.party.invariant w.run_slow.new.seat _ v k _ _ (ap (λ p. p.place) w.party-inside-is) w.result-is c.party.view_is (search rules) (search rules) (w.run_slow.ensures k b.seat w.in-Continue.ensures)).1
+  | in-Ring-Table+in-Break-run_either w ↦ let b = w.in-Ring-Table in (table_ends _ b.seat _ _ b.is-1 c.party.invariant w.run_either.new.seat _ v k _ _ (ap (λ p. p.place) w.party-inside-is) w.result-is c.party.view_is (search rules) (search rules) w.in-Break-run_either.ensures).1
+  | in-Ring-Table+in-Continue-run_either w ↦ let b = w.in-Ring-Table in (table_ends _ b.seat _ _ b.is-1 c.party.invariant w.run_slow-in-Continue-run_either.new.seat _ v k _ _ (ap (λ p. p.place) w.party-inside-is) w.result-is c.party.view_is (search rules) (search rules) (w.run_slow-in-Continue-run_either.ensures k b.seat w.in-Continue-run_either.ensures)).1
+  | in-Chain-Web w ↦ let b = w.in-Chain-Web in (web_ends _ _ b.rested w.answer.new.party v k _ _ b.is-1 c.party.invariant (ap (λ p. p.place) w.party-inside-is) w.result-is c.party.view_is (search rules) w.answer.ensures).1
 ]
