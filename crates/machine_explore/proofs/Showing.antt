@@ -5,6 +5,7 @@ use Rattle.std.specs.List.{All, AllZip}
 use Rattle.std.proofs.lemmas.Bool.Decides.{eqb_tells}
 use Rattle.std.proofs.lemmas.List.{length-replicate, length-set, take_more, take_all}
 use Rattle.std.proofs.lemmas.List.Elements.{All-nil, All-push}
+use Rattle.std.proofs.lemmas.Slice.Zip.{all_zipped_more}
 use Rattle.queue_steps.specs.declared.model.Call.{Call}
 use Rattle.queue_steps.specs.declared.steps.types.Kind.{Kind}
 use Rattle.machine_replay.specs.Conforms.{party_of}
@@ -62,12 +63,6 @@ replies_by-snoc p (x ∷ es) (y ∷ ts) e t same =
     ∙ sym (append_assoc (if party_of x == p then reply_in y else []) (replies_by p es ts) (if party_of e == p then reply_in t else []))
 replies_by-snoc p [] (y ∷ ts) e t same = cc
 replies_by-snoc p (x ∷ es) [] e t same = cc
-
-pub AllZip-more : {X Y : Type 0} (R : X → Y → Type 0) (xs : List X) (ys : List Y) (x : X) (y : Y) → AllZip R xs ys → R x y → AllZip R (xs ++ x ∷ []) (ys ++ y ∷ [])
-AllZip-more R [] [] x y all one = (one, tt)
-AllZip-more R (a ∷ xs) (b ∷ ys) x y all one = (all.0, AllZip-more R xs ys x y all.1 one)
-AllZip-more R [] (b ∷ ys) x y all one = absurd all
-AllZip-more R (a ∷ xs) [] x y all one = absurd all
 
 there_is : {X : Type 0} (xs : List X) (i : ℕ) (x d : X) → slice_get xs i ≡ Some x → (i < length xs) × (slice_index_or xs i d ≡ x)
 there_is [] i x d e = cc
@@ -141,7 +136,7 @@ pub under_way-next : (k : Kind) (refuses : Bool) (calls : List (List (Call ℕ))
     → IsUnderWay k refuses calls w schedule seen s → (refuses ≡ false → m.granted ≡ true) → event_at calls s m.party m.granted ≡ Some e → IsUnderWay k refuses calls w (schedule ++ m ∷ []) (seen ++ seen_at s.kind s.world e ∷ []) (led s.kind s e)
 under_way-next k refuses calls w schedule seen s m e on may is = record {
   rest = on.rest ++ e ∷ [];
-  moves = AllZip-more IsMove schedule on.rest m e on.moves (is_move m (call_at s.world m.party) (slice_get (calls_of calls m.party) (progress_of s m.party).begun) e is);
+  moves = all_zipped_more IsMove schedule on.rest m e on.moves (is_move m (call_at s.world m.party) (slice_get (calls_of calls m.party) (progress_of s m.party).begun) e is);
   grants = λ h. All-push IsGranted on.rest e (on.grants h) (way.grants (may h));
   seen_are = ap (λ l. l ++ seen_at s.kind s.world e ∷ []) on.seen_are ∙ ap (λ x. trace_of k w on.rest ++ x ∷ []) same_seen ∙ sym (trace_of-snoc k on.rest w e);
   kind = on.kind;
