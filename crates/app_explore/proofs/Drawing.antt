@@ -3,8 +3,7 @@ use Rattle.std.proofs.Common.{◌≡◌, ◌∙◌, ℕ, zero, suc, ◌+◌, ◌
 use Rattle.std.specs.Prelude.{flat_map, slice_index_or}
 use Rattle.std.specs.List.{range_with_len}
 use Rattle.std.specs.Result.{is_ok}
-use Rattle.std.proofs.lemmas.Grind.{flat_map-append}
-use Rattle.std.proofs.lemmas.List.{get_or-map, length-map, take_more}
+use Rattle.std.proofs.lemmas.List.{flat_map_more, get_or-map, length-map, take_more}
 use Rattle.app_explore.specs.Lanes.{column, columns}
 
 over_range : {X : Type 0} (f : ℕ → List X) (a n j : ℕ) → a + n ≡ j → flat_map f (range_with_len a (n + 1)) ≡ flat_map f (range_with_len a n) ++ f j
@@ -25,9 +24,7 @@ pub row_more : {X : Type 0} (row_of : X → List ℕ) (xs : List X) (i : ℕ) (x
     → old ≡ start ++ flat_map row_of (take i xs) → row ≡ row_of x → new ≡ old ++ row → new ≡ start ++ flat_map row_of (take (i + 1) xs)
 row_more row_of xs i x row start old new inside x_is before row_is wrote =
     let taken : take (i + 1) xs ≡ take i xs ++ x ∷ [] = take_more xs i x inside ∙ ap (λ y. take i xs ++ y ∷ []) (sym x_is) in
-    let all : flat_map row_of (take (i + 1) xs) ≡ flat_map row_of (take i xs) ++ row_of x =
-    ap (flat_map row_of) taken ∙ flat_map-append row_of (take i xs) (x ∷ []) ∙ ap (λ l. flat_map row_of (take i xs) ++ l) (append-nil (row_of x)) in
-    wrote ∙ ap (λ l. l ++ row) before ∙ ap (λ l. (start ++ flat_map row_of (take i xs)) ++ l) row_is ∙ append_assoc start (flat_map row_of (take i xs)) (row_of x) ∙ ap (λ l. start ++ l) (sym all)
+    wrote ∙ ap (λ l. l ++ row) before ∙ ap (λ l. (start ++ flat_map row_of (take i xs)) ++ l) row_is ∙ flat_map_more row_of start (take i xs) x ∙ ap (λ l. start ++ flat_map row_of l) (sym taken)
 
 -- a column is at its end
 pub column_ends : {E : Type 0} (r : Result Unit E) (width n : ℕ) (cell start padded new : List ℕ) → n ≡ width - length cell → padded ≡ start ++ codes "| " ++ cell ++ replicate n 32 → new ≡ (if is_ok r then padded ++ 32 ∷ [] else padded)
