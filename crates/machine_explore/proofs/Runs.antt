@@ -1,6 +1,6 @@
 -- A run of the machine that is copied, or goes on, and where it then stands.
-use Rattle.std.proofs.Common.{◌≡◌, ◌∙◌, ◌++◌, ◌∷◌, [], ℕ, Bool, true, List, Option, Some, sym, ap}
-use Rattle.std.specs.Prelude.{map, slice_set}
+use Rattle.std.proofs.Common.{◌≡◌, ◌∙◌, ℕ, true, List, Option, Some, sym, ap}
+use Rattle.std.specs.Prelude.{map}
 use Rattle.queue_steps.specs.declared.model.Reply.{Reply}
 use Rattle.machine_replay.specs.Left.{left_of}
 use Rattle.queue_steps.specs.declared.model.Call.{Call}
@@ -8,7 +8,7 @@ use Rattle.queue_steps.specs.declared.steps.types.Kind.{Kind}
 use Rattle.queue_steps.specs.declared.steps.types.Local.{Local}
 use Rattle.machine_replay.specs.Conforms.{party_of}
 use Rattle.machine_replay.specs.Machine.{event_of}
-use Rattle.machine_replay.specs.MachineRuns.{Continues, IsSameMachineRun, IsSomeMachineRun}
+use Rattle.machine_replay.specs.MachineRuns.{IsSameMachineRun, IsSomeMachineRun}
 use Rattle.machine_replay.specs.Played.{local_in}
 use Rattle.machine_replay.specs.SharedMemory.{Shared}
 use Rattle.machine_replay.specs.World.{World, call_at}
@@ -16,8 +16,8 @@ use Rattle.machine_replay.specs.declared.machine.Running.{Running}
 use Rattle.machine_replay.specs.declared.machine_run.MachineRun.{MachineRun}
 use Rattle.machine_replay.specs.declared.types.Event.{Event}
 use Rattle.machine_replay.specs.declared.types.Told.{Told}
-use Rattle.machine_explore.specs.Moves.{IsLed, advanced, event_at, led}
-use Rattle.machine_explore.specs.Positions.{Outcome, Progress, Standing, outcome_at, progress_of}
+use Rattle.machine_explore.specs.Moves.{event_at, led}
+use Rattle.machine_explore.specs.Positions.{Outcome, Progress, Standing, outcome_at}
 use Rattle.machine_explore.specs.Traces.{IsSeen, Seen}
 use Rattle.machine_explore.specs.declared.schedule.Move.{Move}
 use Rattle.machine_explore.proofs.Showing.{event_party}
@@ -25,21 +25,12 @@ use Rattle.machine_explore.proofs.Showing.{event_party}
 pub copied-some : {T A : Type 0} (c d : MachineRun T A) → IsSameMachineRun c d → IsSomeMachineRun c → IsSomeMachineRun d
 copied-some c d same on = (on.0, on.1, on.2, on.3, same on.0 on.1 on.2 on.3 on.4)
 
-pub went_on-some : {T A : Type 0} (c d : MachineRun T A) (e : Event T) (t : Told T) → Continues c e t d → IsSomeMachineRun c → IsSomeMachineRun d
-went_on-some c d e t goes on = (on.0, on.1, on.2 ++ e ∷ [], on.3 ++ t ∷ [], goes on.0 on.1 on.2 on.3 on.4)
-
--- where the event of the party leads, part by part
-pub led_there : (calls : List (List (Call ℕ))) (s : Standing) (p : ℕ) (granted : Bool) (e : Event ℕ) (kind : Kind) (world : World (Shared ℕ) (Running ℕ)) (parties : List (Progress ℕ)) (t : Told ℕ)
-    → event_at calls s p granted ≡ Some e → kind ≡ s.kind → world ≡ (event_of s.kind true s.world e).0 → t ≡ (event_of s.kind true s.world e).1
-    → parties ≡ slice_set s.parties p (advanced (progress_of s p) e t)
-    → IsLed calls s p granted e t (record { kind = kind; world = world; parties = parties })
-led_there calls s p granted e kind world parties t is kind_is world_is told_is parties_are =
-    let party : party_of e ≡ p = event_party calls s p granted e is in
-    let all : parties ≡ (led s.kind s e).parties =
-    parties_are ∙ ap (λ q. slice_set s.parties q (advanced (progress_of s q) e t)) (sym party) ∙ ap (λ x. slice_set s.parties (party_of e) (advanced (progress_of s (party_of e)) e x)) told_is in
+-- a standing, part by part
+pub standing_is : (s : Standing) (kind : Kind) (world : World (Shared ℕ) (Running ℕ)) (parties : List (Progress ℕ)) → kind ≡ s.kind → world ≡ s.world → parties ≡ s.parties
+    → (let x : Standing = record { kind = kind; world = world; parties = parties } in x) ≡ s
+standing_is s kind world parties kind_is world_is parties_are =
     let make : Kind → World (Shared ℕ) (Running ℕ) → List (Progress ℕ) → Standing = λ k w ps. record { kind = k; world = w; parties = ps } in
-    let same : make kind world parties ≡ led s.kind s e = ap (λ k. make k world parties) kind_is ∙ ap (λ w. make s.kind w parties) world_is ∙ ap (λ ps. make s.kind (event_of s.kind true s.world e).0 ps) all in
-    record { event = is; told = told_is; leads = same }
+    ap (λ k. make k world parties) kind_is ∙ ap (λ w. make s.kind w parties) world_is ∙ ap (λ ps. make s.kind s.world ps) parties_are
 
 -- what a standing ends with, part by part
 pub outcome_is : (s : Standing) (replies : List (List (Reply ℕ))) (left : List ℕ) → replies ≡ map (λ (g : Progress ℕ). g.replies) s.parties → left ≡ left_of s.kind s.world
@@ -50,15 +41,15 @@ outcome_is s replies left replies_are left_is =
 
 -- what is seen of the event of a move, part by part
 pub seen_here : (calls : List (List (Call ℕ))) (s : Standing) (m : Move) (e : Event ℕ) (local : Option (Local ℕ)) (t : Told ℕ) (list : List ℕ) (later : Standing)
-    → IsLed calls s m.party m.granted e t later → local ≡ local_in (call_at s.world m.party) → list ≡ left_of later.kind later.world
+    → event_at calls s m.party m.granted ≡ Some e → t ≡ (event_of s.kind true s.world e).1 → later ≡ led s.kind s e → local ≡ local_in (call_at s.world m.party) → list ≡ left_of later.kind later.world
     → IsSeen calls s m (record { event = e; local = local; told = t; list = list }) later
-seen_here calls s m e local t list later on local_is list_is =
+seen_here calls s m e local t list later is told_is leads local_is list_is =
     let make : Option (Local ℕ) → Told ℕ → List ℕ → Seen = λ l x xs. record { event = e; local = l; told = x; list = xs } in
-    let party : party_of e ≡ m.party = event_party calls s m.party m.granted e on.event in
+    let party : party_of e ≡ m.party = event_party calls s m.party m.granted e is in
     let local_at : local ≡ local_in (call_at s.world (party_of e)) = local_is ∙ ap (λ p. local_in (call_at s.world p)) (sym party) in
-    let list_at : list ≡ left_of s.kind (event_of s.kind true s.world e).0 = list_is ∙ ap (λ (x : Standing). left_of x.kind x.world) on.leads in
+    let list_at : list ≡ left_of s.kind (event_of s.kind true s.world e).0 = list_is ∙ ap (λ (x : Standing). left_of x.kind x.world) leads in
     record {
-      event = on.event;
-      seen = ap (λ l. make l t list) local_at ∙ ap (λ x. make (local_in (call_at s.world (party_of e))) x list) on.told ∙ ap (λ xs. make (local_in (call_at s.world (party_of e))) (event_of s.kind true s.world e).1 xs) list_at;
-      leads = on.leads;
+      event = is;
+      seen = ap (λ l. make l t list) local_at ∙ ap (λ x. make (local_in (call_at s.world (party_of e))) x list) told_is ∙ ap (λ xs. make (local_in (call_at s.world (party_of e))) (event_of s.kind true s.world e).1 xs) list_at;
+      leads = leads;
     }

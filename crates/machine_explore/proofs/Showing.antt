@@ -221,6 +221,14 @@ under_way-next k refuses calls w schedule seen s m e on may is = record {
     replied : (p : ℕ) → p < length calls → replies_by p (on.rest ++ e ∷ []) (told_of k w (on.rest ++ e ∷ [])) ≡ (progress_of (led s.kind s e) p).replies
     replied p h = elim (eqb_tells (party_of e) p) [ inl same ↦ subst RepliedGoal same.1 (replied-own_party (rw same.1 h)) | inr other ↦ replied-other_party p h other.0 other.1 ]
 
+-- after one move more, of which this is seen
+pub under_way-seen : (k : Kind) (refuses : Bool) (calls : List (List (Call ℕ))) (w : World (Shared ℕ) (Running ℕ)) (schedule : List Move) (seen : List Seen) (s later : Standing) (m : Move) (x : Seen)
+    → IsUnderWay k refuses calls w schedule seen s → (refuses ≡ false → m.granted ≡ true) → IsSeen calls s m x later → IsUnderWay k refuses calls w (schedule ++ m ∷ []) (seen ++ x ∷ []) later
+under_way-seen k refuses calls w schedule seen s later m x on may is =
+    let P : Seen → Standing → Type 0 = λ y z. IsUnderWay k refuses calls w (schedule ++ m ∷ []) (seen ++ y ∷ []) z in
+    let next : P (seen_at s.kind s.world x.event) (led s.kind s x.event) = under_way-next k refuses calls w schedule seen s m x.event on may is.event in
+    subst (λ z. P x z) (sym is.leads) (subst (λ y. P y (led s.kind s x.event)) (sym is.seen) next)
+
 -- the whole schedule shows its outcome
 pub shows : (k : Kind) (refuses : Bool) (before : List (Call ℕ)) (calls : List (List (Call ℕ))) (schedule : List Move) (seen : List Seen) (start end : Standing) → IsStart k before (length calls) start → IsUnderWay k refuses calls start.world schedule seen end
     → ((p : ℕ) → p < length calls → (progress_of end p).begun ≡ length (calls_of calls p)) → IsFinal calls end → IsTraceOf k refuses before calls schedule (record { opening = left_of k start.world; seen = seen; outcome = outcome_at end })
@@ -252,26 +260,3 @@ shows k refuses before calls schedule seen start end starts on begun final =
 -- whose event it is
 pub event_party : (calls : List (List (Call ℕ))) (s : Standing) (p : ℕ) (granted : Bool) (e : Event ℕ) → event_at calls s p granted ≡ Some e → party_of e ≡ p
 event_party calls s p granted e is = (is_way p granted (call_at s.world p) (slice_get (calls_of calls p) (progress_of s p).begun) e is).party
-
--- the program has come there from where it starts, by these moves, and this was seen
-pub record IsOnWay (k : Kind) (refuses : Bool) (before : List (Call ℕ)) (calls : List (List (Call ℕ))) (schedule : List Move) (opening : List ℕ) (seen : List Seen) (s : Standing) : Type 0 where
-  pub start : Standing
-  pub starts : IsStart k before (length calls) start
-  pub opening_is : opening ≡ left_of k start.world
-  pub on : IsUnderWay k refuses calls start.world schedule seen s
-
-pub on_way-first : (k : Kind) (refuses : Bool) (before : List (Call ℕ)) (calls : List (List (Call ℕ))) (opening : List ℕ) (s : Standing) → IsStart k before (length calls) s → opening ≡ left_of s.kind s.world → IsOnWay k refuses before calls [] opening [] s
-on_way-first k refuses before calls opening s start is = record { start = s; starts = start; opening_is = is ∙ ap (λ x. left_of x s.world) start.kind; on = under_way-first k refuses before calls s start }
-
-pub on_way-next : (k : Kind) (refuses : Bool) (before : List (Call ℕ)) (calls : List (List (Call ℕ))) (schedule : List Move) (opening : List ℕ) (seen : List Seen) (s later : Standing) (m : Move) (x : Seen)
-    → IsOnWay k refuses before calls schedule opening seen s → (refuses ≡ false → m.granted ≡ true) → IsSeen calls s m x later → IsOnWay k refuses before calls (schedule ++ m ∷ []) opening (seen ++ x ∷ []) later
-on_way-next k refuses before calls schedule opening seen s later m x way may is =
-    let P : Seen → Standing → Type 0 = λ y z. IsUnderWay k refuses calls way.start.world (schedule ++ m ∷ []) (seen ++ y ∷ []) z in
-    let next : P (seen_at s.kind s.world x.event) (led s.kind s x.event) = under_way-next k refuses calls way.start.world schedule seen s m x.event way.on may is.event in
-    record { start = way.start; starts = way.starts; opening_is = way.opening_is; on = subst (λ z. P x z) (sym is.leads) (subst (λ y. P y (led s.kind s x.event)) (sym is.seen) next) }
-
-pub on_way-shows : (k : Kind) (refuses : Bool) (before : List (Call ℕ)) (calls : List (List (Call ℕ))) (schedule : List Move) (opening : List ℕ) (seen : List Seen) (end : Standing) → IsOnWay k refuses before calls schedule opening seen end
-    → ((p : ℕ) → p < length calls → (progress_of end p).begun ≡ length (calls_of calls p)) → IsFinal calls end → IsTraceOf k refuses before calls schedule (record { opening = opening; seen = seen; outcome = outcome_at end })
-on_way-shows k refuses before calls schedule opening seen end way begun final =
-    let P : List ℕ → Type 0 = λ l. IsTraceOf k refuses before calls schedule (record { opening = l; seen = seen; outcome = outcome_at end }) in
-    subst P (sym way.opening_is) (shows k refuses before calls schedule seen way.start end way.starts way.on begun final)

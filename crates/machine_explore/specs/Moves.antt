@@ -1,5 +1,5 @@
 -- How a run of a program goes on.
-use Rattle.std.specs.Prelude.{◌≡◌, ℕ, ◌+◌, Bool, true, Option, Some, None, List, [], ◌∷◌, ◌++◌, length, slice_get, slice_set}
+use Rattle.std.specs.Prelude.{ℕ, ◌+◌, Bool, true, Option, Some, None, List, [], ◌∷◌, ◌++◌, length, slice_get, slice_set}
 use Rattle.queue_steps.specs.declared.model.Call.{Call}
 use Rattle.queue_steps.specs.declared.model.Reply.{Reply}
 use Rattle.queue_steps.specs.declared.steps.types.Kind.{Kind}
@@ -8,7 +8,6 @@ use Rattle.machine_replay.specs.declared.types.Event.TheVariants.{Begin, Step}
 use Rattle.machine_replay.specs.declared.types.Told.{Told}
 use Rattle.machine_replay.specs.declared.types.Told.TheVariants.{Ran}
 use Rattle.machine_replay.specs.Conforms.{party_of}
-use Rattle.machine_replay.specs.Machine.{event_of}
 use Rattle.machine_replay.specs.SharedMemory.{step_of, start_of}
 use Rattle.machine_replay.specs.World.{Made, Begun, call_at, world_event}
 use Rattle.machine_explore.specs.Positions.{At, Progress, Standing, calls_of, progress_of}
@@ -47,9 +46,3 @@ led_by step start s e = record {
 -- where the event leads on a queue of this kind
 abbrev pub led : Kind → Standing → Event ℕ → Standing
 led k s e = led_by (step_of k) (start_of k) s e
-
--- from s the party goes on by this event, of which this is told, and it leads there
-pub record IsLed (calls : List (List (Call ℕ))) (s : Standing) (p : ℕ) (granted : Bool) (e : Event ℕ) (t : Told ℕ) (later : Standing) : Type 0 where
-  pub event : event_at calls s p granted ≡ Some e
-  pub told : t ≡ (event_of s.kind true s.world e).1
-  pub leads : later ≡ led s.kind s e

@@ -3,7 +3,7 @@ ghost use Rattle.std.specs.Prelude.{◌≡◌, ◌<◌, true, Contains, IfOk, le
 ghost use Rattle.machine_replay.specs.Replays.{CanReplay};
 ghost use Rattle.machine_explore.specs.Explored.{HasNoOther};
 ghost use Rattle.machine_explore.specs.Moves.{led};
-ghost use Rattle.machine_explore.specs.Positions.{IsFinal, outcome_at};
+ghost use Rattle.machine_explore.specs.Positions.{IsFinal, Standing, outcome_at};
 ghost use Rattle.machine_explore.specs.Starts.{IsStart};
 ghost use Rattle.machine_explore.specs.Tables.{Stays, StaysForAll, StaysOnce};
 
@@ -49,10 +49,7 @@ pub fn check<A: Allocator + Copy>(
     requires { CanReplay kind }
     ensures { IfOk result (λ yes. yes ≡ true → HasNoOther kind refuses program.now.before program.now.parties.items outcomes.now) }
 {
-    let Some(start) = Position::start(alloc, kind, program)? else {
-        return Ok(false);
-    };
-    if !has_at(&table.positions, 0, &start) {
+    if !has_start(alloc, kind, program, &table.positions)? {
         return Ok(false);
     }
     for (index, position) in table.positions.iter().enumerate() {
@@ -67,6 +64,22 @@ pub fn check<A: Allocator + Copy>(
         }
     }
     Ok(true)
+}
+
+// Whether the table has where runs of the program start, at its first place.
+fn has_start<A: Allocator + Copy>(
+    alloc: A,
+    kind: Kind,
+    program: &Program<A>,
+    positions: &[Position<A>],
+) -> Result<bool, AllocError>
+    requires { CanReplay kind }
+    ensures { IfOk result (λ yes. yes ≡ true → (start : Standing) × IsStart kind program.now.before (length program.now.parties.items) start × Contains positions.now start) }
+{
+    match Position::start(alloc, kind, program)? {
+        Some(start) => Ok(has_at(positions, 0, &start)),
+        None => Ok(false),
+    }
 }
 
 // Whether the position is one of this kind of queue, which the program's parties share.

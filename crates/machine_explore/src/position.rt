@@ -1,13 +1,14 @@
 //! Where a run of a program stands, and how it goes on.
-ghost use Rattle.std.specs.Prelude.{◌≡◌, ◌↔◌, ℕ, ◌<◌, ◌∷◌, Bool, true, false, ⊤, [], None, is_some, IsTrue, IfOk, OnOk, MatchOption, length, option_map, slice_index_or, slice_set};
+ghost use Rattle.std.specs.Prelude.{◌≡◌, ◌↔◌, ℕ, ◌<◌, ◌∷◌, Bool, true, false, ⊤, [], None, is_some, IsTrue, IfOk, OnOk, MatchOption, length, option_map};
 ghost use Rattle.machine_replay.specs.MachineRuns.{IsSomeMachineRun};
+ghost use Rattle.machine_replay.specs.Conforms.{party_of};
 ghost use Rattle.machine_replay.specs.Left.{left_of};
 ghost use Rattle.machine_replay.specs.Machine.{event_of, world_of};
 ghost use Rattle.machine_replay.specs.Played.{local_in};
 ghost use Rattle.machine_replay.specs.World.{call_at};
 ghost use Rattle.machine_replay.specs.declared.types.Event.TheVariants.{Step};
 ghost use Rattle.machine_replay.specs.Replays.{CanReplay};
-ghost use Rattle.machine_explore.specs.Moves.{advanced, event_at, led, IsLed};
+ghost use Rattle.machine_explore.specs.Moves.{event_at, led};
 ghost use Rattle.machine_explore.specs.Positions.{IsFinal, Standing, calls_of, no_progress, outcome_at, progress_of};
 ghost use Rattle.machine_explore.specs.Starts.{IsPrepared, IsStart};
 
@@ -29,17 +30,6 @@ use std::marker::Model;
 pub struct Position<A: Allocator> {
     run: MachineRun<u64, A>,
     parties: Vec<PartyProgress<A>, A>,
-}
-
-/// An event by which a party goes on, what is told of it, and where it leads.
-#[derive(Drop)]
-pub struct Led<A: Allocator> {
-    /// The event.
-    pub event: Event<u64>,
-    /// What is told of it.
-    pub told: Told<u64>,
-    /// Where the run stands then.
-    pub position: Position<A>,
 }
 
 impl<A: Allocator> Model for Position<A> {
@@ -127,56 +117,65 @@ impl<A: Allocator + Copy> Position<A> {
         if self.run.is_in_call(party) {
             return Some(Event::Step(party, granted));
         }
-        let begun = match self.parties.get(party) {
-            Some(progress) => progress.begun(),
-            None => 0,
-        };
-        match program.call(party, begun) {
+        match program.call(party, self.counts(party).0) {
             Some(call) => Some(Event::Begin(party, call)),
             None => None,
         }
     }
 
-    /// That event, what is told of it, and where it leads.
+    // How many of its calls the party has begun, and how many replies it has got.
+    fn counts(&self, party: usize) -> (usize, usize)
+        ensures { (result.0 ≡ (progress_of self.now party).begun) × (result.1 ≡ length (progress_of self.now party).replies) }
+    {
+        match self.parties.get(party) {
+            Some(progress) => (progress.begun(), progress.replies().len()),
+            None => (0, 0),
+        }
+    }
+
+    /// A copy.
+    ///
+    /// # Errors
+    ///
+    /// Where there is no memory.
+    pub(crate) fn fork(&self, alloc: A) -> Result<Position<A>, AllocError>
+        ensures { IfOk result (λ p. p ≡ self.now) }
+    {
+        let mut parties = Vec::with_capacity(alloc, self.parties.len())?;
+        for party in self.parties.as_slice() {
+            parties.push_reserved(party.copy(alloc)?);
+        }
+        let run = self.run.fork(alloc)?;
+        Ok(Position { run, parties })
+    }
+
+    /// Takes an event of the party in place, and tells of it.
     ///
     /// # Errors
     ///
     /// Where there is no memory, for a block too that the event does not refuse.
-    pub fn lead(
-        &self,
+    pub(crate) fn take(
+        &mut self,
         alloc: A,
-        program: &Program<A>,
         party: usize,
-        granted: bool,
-    ) -> Result<Option<Led<A>>, AllocError>
-        ensures { IfOk result (λ o. MatchOption o
-            (event_at program.now.parties.items self.now party granted ≡ None)
-            (λ l. IsLed program.now.parties.items self.now party granted l.event l.told l.position)) }
+        event: Event<u64>,
+    ) -> Result<Told<u64>, AllocError>
+        requires { party_of event ≡ party }
+        ensures told { IfOk result (λ told. told ≡ (event_of self.old.kind true self.old.world event).1) }
+        ensures leads { OnOk result (self.new ≡ led self.old.kind self.old event) }
     {
-        match self.event(program, party, granted) {
-            None => Ok(None),
-            Some(event) => {
-                let mut run = self.run.fork(alloc)?;
-                let Handled { told, is_met } = run.handle_met(alloc, event);
-                if !is_met {
-                    return Err(AllocError);
-                }
-                let parties = advanced_by(alloc, &self.parties, party, event, told)?;
-                let position = Position { run, parties };
-                Ok(Some(Led {
-                    event,
-                    told,
-                    position,
-                }))
-            }
+        let told = handle(alloc, &mut self.run, event)?;
+        if party < self.parties.len() {
+            self.parties[party].advance(event, told)?;
         }
+        Ok(told)
     }
 
-    /// Where the run stands after that event.
+    /// Where the run stands after the event by which the party goes on.
     ///
     /// # Errors
     ///
-    /// As of `lead`.
+    /// Where there is no memory, for a block too that the event does not refuse.
     pub fn after(
         &self,
         alloc: A,
@@ -186,10 +185,12 @@ impl<A: Allocator + Copy> Position<A> {
     ) -> Result<Option<Position<A>>, AllocError>
         ensures { IfOk result (λ o. o ≡ option_map (led self.now.kind self.now) (event_at program.now.parties.items self.now party granted)) }
     {
-        match self.lead(alloc, program, party, granted)? {
-            None => Ok(None),
-            Some(led) => Ok(Some(led.position)),
-        }
+        let Some(event) = self.event(program, party, granted) else {
+            return Ok(None);
+        };
+        let mut later = self.fork(alloc)?;
+        later.take(alloc, party, event)?;
+        Ok(Some(later))
     }
 
     /// Whether it is the same as the other.
@@ -214,11 +215,7 @@ impl<A: Allocator + Copy> Position<A> {
         ensures { IsTrue result ↔ IsFinal program.now.parties.items self.now }
     {
         for party in 0..program.parties.len() {
-            let replied = match self.parties.get(party) {
-                Some(progress) => progress.replies().len(),
-                None => 0,
-            };
-            if replied != program.call_count(party) {
+            if self.counts(party).1 != program.call_count(party) {
                 return false;
             }
         }
@@ -230,11 +227,7 @@ impl<A: Allocator + Copy> Position<A> {
         ensures { result ≡ true → (p : ℕ) → p < length program.now.parties.items → (progress_of self.now p).begun ≡ length (calls_of program.now.parties.items p) }
     {
         for party in 0..program.parties.len() {
-            let begun = match self.parties.get(party) {
-                Some(progress) => progress.begun(),
-                None => 0,
-            };
-            if begun != program.call_count(party) {
+            if self.counts(party).0 != program.call_count(party) {
                 return false;
             }
         }
@@ -251,14 +244,11 @@ impl<A: Allocator + Copy> Position<A> {
     {
         let mut replies = Vec::with_capacity(alloc, self.parties.len())?;
         for party in self.parties.as_slice() {
-            let mut copied = Vec::new(alloc);
-            copied.extend_from_slice(party.replies())?;
+            let copied = Vec::from_slice(alloc, party.replies())?;
             replies.push_reserved(Sequence::of(copied));
         }
-        Ok(Outcome {
-            replies,
-            left: self.list(alloc)?,
-        })
+        let left = self.list(alloc)?;
+        Ok(Outcome { replies, left })
     }
 
     /// The list as it stands, front first, with the items that their push has not yet written.
@@ -269,29 +259,10 @@ impl<A: Allocator + Copy> Position<A> {
     pub fn list(&self, alloc: A) -> Result<Vec<u64, A>, AllocError>
         ensures { IfOk result (λ list. list.items ≡ left_of self.now.kind self.now.world) }
     {
-        let ended = self.run.fork(alloc)?.end(alloc)?;
+        let run = self.run.fork(alloc)?;
+        let ended = run.end(alloc)?;
         Ok(ended.left)
     }
-}
-
-// The progress of the parties once one of them has had this event, of which this was told.
-fn advanced_by<A: Allocator + Copy>(
-    alloc: A,
-    parties: &[PartyProgress<A>],
-    party: usize,
-    event: Event<u64>,
-    told: Told<u64>,
-) -> Result<Vec<PartyProgress<A>, A>, AllocError>
-    ensures { IfOk result (λ v. v.items ≡ slice_set parties.now party (advanced (slice_index_or parties.now party no_progress) event told)) }
-{
-    let mut copies = Vec::with_capacity(alloc, parties.len())?;
-    for progress in parties {
-        copies.push_reserved(progress.copy(alloc)?);
-    }
-    if party < copies.len() {
-        copies[party].advance(event, told)?;
-    }
-    Ok(copies)
 }
 
 // Whether the parties are as far as the others, with the same replies.
@@ -320,34 +291,34 @@ fn make_alone<A: Allocator + Copy>(
     ensures kind { run.new.machine.kind ≡ run.old.machine.kind }
     ensures made { IfOk result (λ made. made ≡ true → IsPrepared run.old.machine.kind (world_of run.old.machine) (call ∷ []) (world_of run.new.machine)) }
 {
-    run.make_room()?;
-    let Handled { told, is_met } = run.handle_met(alloc, Event::Begin(0, call));
-    if !is_met {
-        return Err(AllocError);
-    }
-    let Told::Ran(_, _) = told else {
+    let Told::Ran(_, _) = handle(alloc, run, Event::Begin(0, call))? else {
         return Ok(false);
     };
     for _ in 0..SOLO_STEPS {
         if !run.is_in_call(0) {
             return Ok(true);
         }
-        step_alone(alloc, run)?;
+        handle(alloc, run, Event::Step(0, true))?;
     }
     Ok(!run.is_in_call(0))
 }
 
-// Party 0 takes a step, whose request is granted.
-fn step_alone<A: Allocator + Copy>(alloc: A, run: &mut MachineRun<u64, A>) -> Result<(), AllocError>
+// Handles an event, whose request for a block is met if it is granted, and tells of it.
+fn handle<A: Allocator + Copy>(
+    alloc: A,
+    run: &mut MachineRun<u64, A>,
+    event: Event<u64>,
+) -> Result<Told<u64>, AllocError>
     requires { IsSomeMachineRun run.old }
     ensures comes { IsSomeMachineRun run.new }
     ensures kind { run.new.machine.kind ≡ run.old.machine.kind }
-    ensures world { OnOk result (world_of run.new.machine ≡ (event_of run.old.machine.kind true (world_of run.old.machine) (Step 0 true)).0) }
+    ensures told { IfOk result (λ told. told ≡ (event_of run.old.machine.kind true (world_of run.old.machine) event).1) }
+    ensures world { OnOk result (world_of run.new.machine ≡ (event_of run.old.machine.kind true (world_of run.old.machine) event).0) }
 {
     run.make_room()?;
-    let Handled { told: _, is_met } = run.handle_met(alloc, Event::Step(0, true));
+    let Handled { told, is_met } = run.handle_met(alloc, event);
     if !is_met {
         return Err(AllocError);
     }
-    Ok(())
+    Ok(told)
 }

@@ -49,11 +49,14 @@ impl<A: Allocator> PartyProgress<A> {
     }
 
     /// A copy.
+    ///
+    /// # Errors
+    ///
+    /// Where there is no memory.
     pub(crate) fn copy(&self, alloc: A) -> Result<PartyProgress<A>, AllocError>
         ensures { IfOk result (λ p. p ≡ self.now) }
     {
-        let mut replies = Vec::new(alloc);
-        replies.extend_from_slice(self.replies.as_slice())?;
+        let replies = Vec::from_slice(alloc, self.replies())?;
         Ok(PartyProgress {
             begun: self.begun,
             replies,
@@ -72,7 +75,10 @@ impl<A: Allocator> PartyProgress<A> {
             return Ok(());
         };
         if let Event::Begin(_, _) = event {
-            self.begun = self.begun.checked_add(1).ok_or(AllocError)?;
+            if self.begun == usize::MAX {
+                return Err(AllocError);
+            }
+            self.begun += 1;
         }
         if let Some(reply) = reply {
             self.replies.push(reply)?;

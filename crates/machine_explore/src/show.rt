@@ -43,7 +43,6 @@ pub fn show<A: Allocator + Copy>(
 }
 
 // What each of the schedules ends with.
-#[tactic(auto, using(crate::proofs::Pairs::all_zip_taken))]
 fn certified<A: Allocator + Copy>(
     alloc: A,
     kind: Kind,

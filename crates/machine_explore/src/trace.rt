@@ -1,6 +1,8 @@
 //! A schedule is run once more, and what is seen of the run is kept.
-ghost use Rattle.std.specs.Prelude.{◌≡◌, ⊤, IfOk, MatchOption};
+ghost use Rattle.std.specs.Prelude.{◌≡◌, [], ⊤, IfOk, MatchOption, length};
+ghost use Rattle.machine_replay.specs.Left.{left_of};
 ghost use Rattle.machine_replay.specs.Replays.{CanReplay};
+ghost use Rattle.machine_explore.specs.Starts.{IsStart};
 ghost use Rattle.machine_explore.specs.Traces.{Course, IsSeen, IsTraceOf, Seen};
 
 use crate::outcome::Outcome;
@@ -122,45 +124,70 @@ pub fn follow<A: Allocator + Copy>(
     };
     let opening = position.list(alloc)?;
     let mut entries = Vec::new(alloc);
+    match take_all(
+        alloc,
+        refuses,
+        program,
+        schedule,
+        &mut position,
+        &mut entries,
+    )? {
+        Some(outcome) => Ok(Some(Trace {
+            opening,
+            entries,
+            outcome,
+        })),
+        None => Ok(None),
+    }
+}
+
+// Takes the moves in place, one after another, and keeps what is seen of them. What the run ends with, if they are a whole run.
+fn take_all<A: Allocator + Copy>(
+    alloc: A,
+    refuses: bool,
+    program: &Program<A>,
+    schedule: &[Move],
+    position: &mut Position<A>,
+    entries: &mut Vec<TraceEntry<A>, A>,
+) -> Result<Option<Outcome<A>>, AllocError>
+    requires { entries.old.items ≡ [] }
+    ensures { IfOk result (λ o. MatchOption o ⊤ (λ outcome. (k : Kind) → IsStart k program.now.before (length program.now.parties.items) position.old
+        → IsTraceOf k refuses program.now.before program.now.parties.items schedule.now (record { opening = left_of k position.old.world; seen = entries.new.items; outcome = outcome }))) }
+{
     for step in schedule {
         if !step.granted && !refuses {
             return Ok(None);
         }
-        let Some((entry, next)) = enter(alloc, program, &position, *step)? else {
+        let Some(entry) = enter(alloc, program, position, *step)? else {
             return Ok(None);
         };
         entries.push(entry)?;
-        position = next;
     }
     if !position.has_begun_all(program) || !position.is_final(program) {
         return Ok(None);
     }
-    Ok(Some(Trace {
-        opening,
-        entries,
-        outcome: position.outcome(alloc)?,
-    }))
+    Ok(Some(position.outcome(alloc)?))
 }
 
-// What is seen of the event of a move, and where it leads.
+// Takes a move in place. What is seen of its event, if its party goes on.
 fn enter<A: Allocator + Copy>(
     alloc: A,
     program: &Program<A>,
-    position: &Position<A>,
+    position: &mut Position<A>,
     step: Move,
-) -> Result<Option<(TraceEntry<A>, Position<A>)>, AllocError>
-    ensures { IfOk result (λ o. MatchOption o ⊤ (λ p. IsSeen program.now.parties.items position.now step p.0 p.1)) }
+) -> Result<Option<TraceEntry<A>>, AllocError>
+    ensures { IfOk result (λ o. MatchOption o ⊤ (λ x. IsSeen program.now.parties.items position.old step x position.new)) }
 {
-    let local = position.local(step.party);
-    let Some(led) = position.lead(alloc, program, step.party, step.granted)? else {
+    let Some(event) = position.event(program, step.party, step.granted) else {
         return Ok(None);
     };
-    let list = led.position.list(alloc)?;
-    let entry = TraceEntry {
-        event: led.event,
+    let local = position.local(step.party);
+    let told = position.take(alloc, step.party, event)?;
+    let list = position.list(alloc)?;
+    Ok(Some(TraceEntry {
+        event,
         local,
-        told: led.told,
+        told,
         list,
-    };
-    Ok(Some((entry, led.position)))
+    }))
 }

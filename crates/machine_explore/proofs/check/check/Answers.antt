@@ -18,8 +18,8 @@ loop-index-preserved g c =
       kind = kind;
       parties = c.fits.ensures.parties c.if-not-fits.false;
       calls_are = c.fits.ensures.calls c.if-not-fits.false;
-      stays = c.in_ok-stays.ensures c.if-not-branch.false;
-      ends = c.in_ok-ends_among.ensures c.if-not-branch-2.false;
+      stays = c.in_ok-stays.ensures c.if-not-branch-2.false;
+      ends = c.in_ok-ends_among.ensures c.if-not-branch-3.false;
     } in
     let read : s ≡ slice_index_or table c.loop-index.index s = c.position-item.is ∙ ap (λ l. slice_index_or l c.loop-index.index s) c.deref-position-items.ensures.value in
     let inside : c.loop-index.index < length table = let far = c.loop-index-test.true in let size = ap length c.deref-position-items.ensures.value in omega (arith, far, size) in
@@ -31,8 +31,8 @@ returns g c =
     λ yes.
     let calls = c.args.program.now.parties.items in
     let table = c.args.table.now.positions.items in
-    let starts = rw c.in-Some.is at c.in_ok-start.ensures in
-    let within : Contains table c.in-Some.start = subst (λ l. Contains l c.in-Some.start) c.deref.ensures.value (c.has_at.ensures c.if-not-has_at.false) in
+    let starts = c.in_ok-has_start.ensures c.if-not-branch.false in
+    let within : Contains table starts.0 = subst (λ l. Contains l starts.0) c.deref.ensures.value starts.2 in
     let all : length table ≤ c.loop-index.index = let over = c.loop-index-test.false in let size = ap length c.deref-position-items.ensures.value in omega (arith, over, size) in
     let checked = subst (λ l. All (IsChecked c.args.kind c.args.refuses calls table c.args.outcomes.now) l) (take_all c.loop-index.index table all) c.loop-index.invariant in
-    no_other c.args.kind c.args.refuses c.args.program.now.before calls table c.args.outcomes.now c.in-Some.start starts within checked
+    no_other c.args.kind c.args.refuses c.args.program.now.before calls table c.args.outcomes.now starts.0 starts.1 within checked
