@@ -1,9 +1,1 @@
-pub mod Words
-pub mod Parts
-pub mod Programs
-pub mod Replying
-pub mod Moving
-pub mod Making
 pub mod OutcomeLines
-pub mod InOrder
-pub mod Drawing

@@ -1,11 +1,3 @@
-pub mod Lists
-pub mod Requests
-pub mod Programs
-pub mod Reads
-pub mod Outcomes
-pub mod Schedules
-pub mod Labels
-pub mod Lanes
 pub mod Stops
 pub mod Tails
 pub mod Listings

@@ -10,14 +10,14 @@ use Rattle.machine_explore.specs.Explored.{HasNoOther}
 use Rattle.machine_explore.specs.Positions.{Outcome}
 use Rattle.machine_explore.specs.Traces.{Course, IsTraceOf}
 use Rattle.machine_explore.specs.declared.schedule.Move.{Move}
-use Rattle.app_explore.specs.Lanes.{lanes_text}
-use Rattle.app_explore.specs.Outcomes.{AreInOrder, outcome_line, text_of}
-use Rattle.app_explore.specs.Reads.{IsReadAs, IsReadFault}
-use Rattle.app_explore.specs.Schedules.{schedule_text}
+use Rattle.app_explore_text.specs.Lanes.{lanes_text}
+use Rattle.app_explore_text.specs.Outcomes.{AreInOrder, outcome_line, text_of}
+use Rattle.app_explore_text.specs.Reads.{IsReadAs, IsReadFault}
+use Rattle.app_explore_text.specs.Schedules.{schedule_text}
 use Rattle.app_explore.specs.Tails.{IsTail, last_text}
-use Rattle.app_explore.specs.declared.args.Request.{Request}
-use Rattle.app_explore.specs.declared.args.Wanted.{Wanted}
-use Rattle.app_explore.specs.declared.args.Wanted.TheVariants as wanted
+use Rattle.app_explore_text.specs.declared.args.Request.{Request}
+use Rattle.app_explore_text.specs.declared.args.Wanted.{Wanted}
+use Rattle.app_explore_text.specs.declared.args.Wanted.TheVariants as wanted
 use Rattle.app_explore.specs.declared.faults.Stop.{Stop}
 use Rattle.app_explore.specs.declared.faults.Stop.TheVariants as stop
 

@@ -1,15 +1,15 @@
 //! The whole explorer as a function of its arguments, its input and its two outputs.
 ghost use Rattle.std.specs.Prelude.{◌≡◌, ◌⊎◌, IfErr, IfOk, MatchResult, None, Ok, Some, map, string_bytes};
 ghost use Rattle.app_explore.specs.Listings.{IsRefused, IsTold};
-ghost use Rattle.app_explore.specs.Requests.{IsRequest};
+ghost use Rattle.app_explore_text.specs.Requests.{IsRequest};
 ghost use Rattle.app_explore.specs.Commands.{IsEnd, IsExplored, IsStopOf};
 ghost use Rattle.app_explore.specs.Stops.{IsSearchStop, stop_status};
 ghost use Rattle.app_explore.specs.declared.faults.Stop.TheVariants as stop;
 
-use crate::args::{Request, Wanted, parse_request};
 use crate::faults::Stop;
 use crate::listing::{Task, draw_lanes, list_outcomes, list_schedule};
-use crate::reading::read_program;
+use app_explore_text::args::{Request, Wanted, parse_request};
+use app_explore_text::reading::read_program;
 use app_text::faults::Fault;
 use app_text::streams::{read_input, write_output};
 use machine_search::faults::SearchFault;

@@ -3,25 +3,23 @@ ghost use Rattle.std.specs.Prelude.{◌≡◌, ◌++◌, ◌<◌, length, map, s
 ghost use Rattle.std.specs.List.{All};
 ghost use Rattle.machine_replay.specs.Replays.{CanReplay};
 ghost use Rattle.machine_explore.specs.Traces.{IsTraceOf};
-ghost use Rattle.app_explore.specs.Outcomes.{text_of};
+ghost use Rattle.app_explore_text.specs.Outcomes.{text_of};
 ghost use Rattle.app_explore.specs.Tails.{IsTail};
 ghost use Rattle.app_explore.specs.Listings.{AreOutcomes, HasFewer, IsListOf, IsListing, IsPictureOf, IsScheduleOf, IsTraceOfOutcome, outcome_lines};
 
-use crate::lanes::write_lanes;
-use crate::outcomes::{are_in_order, text_of, texts_of, write_outcome_line};
-use crate::schedules::write_schedule;
 use crate::tails::{write_last, write_tail};
+use app_explore_text::lanes::write_lanes;
+use app_explore_text::outcomes::{are_in_order, text_of, texts_of, write_outcome_line};
+use app_explore_text::schedules::write_schedule;
 use machine_explore::outcome::Outcome;
 use machine_explore::program::Program;
 use machine_explore::schedule::Move;
 use machine_explore::sequence::Sequence;
 use machine_explore::show::show;
 use machine_explore::trace::{Trace, follow};
-use machine_search::counts::{Count, counts, sum};
-use machine_search::explore::{Found, schedules_of, search, steps_of};
+use machine_search::explore::{Found, schedules_of, search};
 use machine_search::faults::SearchFault;
-use machine_search::lone::longest_lone_call;
-use machine_search::orders::order_of;
+use machine_search::figures::{Figure, figures_of};
 use queue_steps::steps::Kind;
 use std::alloc::{AllocError, Allocator};
 
@@ -136,11 +134,29 @@ fn trace_outcome<A: Allocator + Copy>(
 {
     let walk = find_all(alloc, task)?;
     let shown = show_all(alloc, task, &walk)?;
+    trace_of(alloc, task, &walk.schedules, &shown.outcomes, number)
+}
+
+// What is seen of the schedule of the outcome of this number among these, if there are so many.
+fn trace_of<A: Allocator + Copy>(
+    alloc: A,
+    task: &Task<A>,
+    schedules: &[Sequence<Move, A>],
+    outcomes: &[Outcome<A>],
+    number: u64,
+) -> Result<Option<Trace<A>>, SearchFault>
+    requires can { CanReplay task.now.kind }
+    requires counted { 0 < number }
+    requires are { AreOutcomes task.now.kind task.now.refuses task.now.program.before task.now.program.parties.items schedules.now outcomes.now }
+    ensures { IfOk result (λ o. MatchOption o
+        (HasFewer task.now.kind task.now.refuses task.now.program.before task.now.program.parties.items number)
+        (IsTraceOfOutcome task.now.kind task.now.refuses task.now.program.before task.now.program.parties.items number)) }
+{
     let index = (number - 1) as usize;
-    let Some(outcome) = shown.outcomes.get(index) else {
+    let Some(outcome) = outcomes.get(index) else {
         return Ok(None);
     };
-    let Some(schedule) = walk.schedules.get(index) else {
+    let Some(schedule) = schedules.get(index) else {
         return Err(SearchFault::NotShown);
     };
     let trace = follow_to(alloc, task, schedule.as_slice(), outcome)?;
@@ -183,16 +199,33 @@ fn sorted<A: Allocator + Copy>(
     alloc: A,
     outcomes: &[Outcome<A>],
 ) -> Result<Vec<usize, A>, AllocError> {
+    let mut keyed = keyed(alloc, outcomes)?;
+    keyed.sort()?;
+    numbers_in(alloc, &keyed)
+}
+
+// The text of each outcome, and its number.
+fn keyed<A: Allocator + Copy>(
+    alloc: A,
+    outcomes: &[Outcome<A>],
+) -> Result<Vec<(String<A>, usize), A>, AllocError> {
     let mut keyed = Vec::new(alloc);
     for (number, outcome) in outcomes.iter().enumerate() {
         keyed.push((text_of(alloc, outcome)?, number))?;
     }
-    keyed.sort()?;
-    let mut order = Vec::new(alloc);
+    Ok(keyed)
+}
+
+// The numbers behind the texts.
+fn numbers_in<A: Allocator + Copy>(
+    alloc: A,
+    keyed: &[(String<A>, usize)],
+) -> Result<Vec<usize, A>, AllocError> {
+    let mut numbers = Vec::new(alloc);
     for (_, number) in keyed {
-        order.push(number)?;
+        numbers.push(*number)?;
     }
-    Ok(order)
+    Ok(numbers)
 }
 
 // The outcomes of the schedules that were found, shown to be all, and to stand in order.
@@ -233,76 +266,49 @@ fn write_list<A: Allocator + Copy>(
     requires { map string_bytes shown.now.texts.items ≡ map text_of shown.now.outcomes.items }
     ensures { IfOk result (λ text. IsListOf (map text_of shown.now.outcomes.items) (string_bytes text)) }
 {
-    let schedules = schedule_counts(alloc, task, walk)?;
-    let tails = write_tails(alloc, task, walk, &shown.outcomes, &schedules)?;
-    let lone = longest_lone_call(task.program.parties.len(), &walk.found.table)?;
+    let figures = figures_of(
+        alloc,
+        &task.program,
+        &walk.found,
+        &walk.order,
+        &walk.schedules,
+    )?;
+    let tails = tails_of(alloc, &figures.outcomes)?;
+    if tails.len() != shown.texts.len() {
+        return Err(SearchFault::NotShown);
+    }
     let mut text = String::new(alloc);
     write_lines(&shown.texts, &tails, &mut text)?;
-    write_last(shown.texts.len(), total(&schedules), lone, &mut text)?;
+    write_last(
+        shown.texts.len(),
+        figures.schedules,
+        figures.lone,
+        &mut text,
+    )?;
     Ok(text)
 }
 
-// How many schedules lead to each outcome, in the order in which they are told.
-fn schedule_counts<A: Allocator + Copy>(
-    alloc: A,
-    task: &Task<A>,
-    walk: &Walk<A>,
-) -> Result<Vec<Count, A>, SearchFault> {
-    let parties = task.program.parties.len();
-    let found = counts(alloc, parties, &walk.found.table, &walk.found.ends)?;
-    let mut told = Vec::new(alloc);
-    for number in walk.order.as_slice() {
-        told.push(found.get(*number).copied().unwrap_or(Some(0)))?;
-    }
-    Ok(told)
-}
-
-// The sum of numbers of schedules.
-fn total(schedules: &[Count]) -> Count {
-    let mut total = Some(0);
-    for count in schedules {
-        total = sum(total, *count);
-    }
-    total
-}
-
 // What is told of each outcome behind its text.
-fn write_tails<A: Allocator + Copy>(
+fn tails_of<A: Allocator + Copy>(
     alloc: A,
-    task: &Task<A>,
-    walk: &Walk<A>,
-    outcomes: &[Outcome<A>],
-    schedules: &[Count],
-) -> Result<Vec<String<A>, A>, SearchFault>
-    ensures counted { IfOk result (λ tails. length tails.items ≡ length outcomes.now) }
-    ensures tails { IfOk result (λ tails. All IsTail (map string_bytes tails.items)) }
+    figures: &[Figure<A>],
+) -> Result<Vec<String<A>, A>, AllocError>
+    ensures { IfOk result (λ tails. All IsTail (map string_bytes tails.items)) }
 {
     let mut tails = Vec::new(alloc);
-    for (index, outcome) in outcomes.iter().enumerate() {
-        let count = schedules.get(index).copied().unwrap_or(Some(0));
-        let steps = match walk.schedules.get(index) {
-            Some(schedule) => steps_of(&task.program, schedule.as_slice()),
-            None => 0,
-        };
-        let tail = tail_of(alloc, task, outcome, count, steps)?;
+    for figure in figures {
+        let tail = tail_of(alloc, figure)?;
         tails.push(tail)?;
     }
     Ok(tails)
 }
 
-// What is told of an outcome behind its text, to which so many schedules lead, by so many steps at the fewest.
-fn tail_of<A: Allocator + Copy>(
-    alloc: A,
-    task: &Task<A>,
-    outcome: &Outcome<A>,
-    schedules: Count,
-    steps: usize,
-) -> Result<String<A>, SearchFault>
+// What is told of an outcome behind its text.
+fn tail_of<A: Allocator>(alloc: A, figure: &Figure<A>) -> Result<String<A>, AllocError>
     ensures { IfOk result (λ tail. IsTail (string_bytes tail)) }
 {
-    let order = order_of(alloc, task.kind, task.refuses, &task.program, outcome)?;
     let mut tail = String::new(alloc);
-    write_tail(schedules, steps, &order, &mut tail)?;
+    write_tail(figure.schedules, figure.steps, &figure.order, &mut tail)?;
     Ok(tail)
 }
 

@@ -17,7 +17,7 @@ pub type Count = Option<u128>;
 /// # Errors
 ///
 /// `NoMemory`.
-pub fn counts<A: Allocator + Copy>(
+pub(crate) fn counts<A: Allocator + Copy>(
     alloc: A,
     parties: usize,
     table: &Table<A>,
@@ -33,7 +33,7 @@ pub fn counts<A: Allocator + Copy>(
 }
 
 /// The sum of two numbers of schedules.
-pub fn sum(one: Count, other: Count) -> Count {
+pub(crate) fn sum(one: Count, other: Count) -> Count {
     one?.checked_add(other?)
 }
 

@@ -52,6 +52,31 @@ impl<'a, A: Allocator + Copy> Graph<'a, A> {
         }
     }
 
+    /// The party of the move of this number.
+    pub(crate) fn party_of(&self, number: usize) -> usize {
+        number / 2
+    }
+
+    /// The place to which the move of this number leads from the position at this place, if there is one and no other party is in a call there.
+    pub(crate) fn lead_alone(&self, place: usize, number: usize) -> Option<usize> {
+        let party = number / 2;
+        if self.is_alone(place, party) {
+            self.lead(place, party, number % 2 == 0)
+        } else {
+            None
+        }
+    }
+
+    // Whether no other party is in a call at the position at this place.
+    fn is_alone(&self, place: usize, party: usize) -> bool {
+        for other in 0..self.parties {
+            if other != party && self.is_in_call(place, other) {
+                return false;
+            }
+        }
+        true
+    }
+
     /// The place to which the move of this number leads from the position at this place, if there is one. A beginning belongs to the call's first step.
     pub(crate) fn lead_by(&self, place: usize, number: usize) -> Option<usize> {
         let party = number / 2;

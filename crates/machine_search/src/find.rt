@@ -3,7 +3,7 @@ ghost use Rattle.machine_replay.specs.Replays.{CanReplay};
 
 use crate::edges::NOWHERE;
 use crate::faults::SearchFault;
-use crate::known::{Known, MOST_STATES, State};
+use crate::known::{Known, MOST_STATES};
 use machine_explore::check::{Link, Table};
 use machine_explore::position::Position;
 use machine_explore::program::Program;
@@ -13,18 +13,8 @@ use std::alloc::Allocator;
 // What is found so far: the positions, and where each leads.
 #[derive(Drop)]
 struct Search<A: Allocator> {
-    known: Known<Position<A>, A>,
+    known: Known<A>,
     links: Vec<Link, A>,
-}
-
-impl<A: Allocator + Copy> State for Position<A> {
-    fn hash(&self) -> u64 {
-        self.fingerprint()
-    }
-
-    fn equals(&self, other: &Self) -> bool {
-        self.is_same(other)
-    }
 }
 
 /// The positions of the program in the order of a walk breadth first, and where each leads.
@@ -48,7 +38,7 @@ pub fn find<A: Allocator + Copy>(
     };
     search.run(alloc, kind, refuses, program)?;
     Ok(Table {
-        positions: search.known.into_states(),
+        positions: search.known.into_positions(),
         links: search.links,
     })
 }

@@ -10,7 +10,7 @@ use std::alloc::Allocator;
 /// # Errors
 ///
 /// `EndlessCall` where one does not reply within `SOLO_STEPS` steps.
-pub fn longest_lone_call<A: Allocator + Copy>(
+pub(crate) fn longest_lone_call<A: Allocator + Copy>(
     parties: usize,
     table: &Table<A>,
 ) -> Result<u64, SearchFault> {

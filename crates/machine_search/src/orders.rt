@@ -1,65 +1,50 @@
-//! Whether an order of whole calls has an outcome.
+//! Orders of whole calls.
+use crate::edges::Graph;
 use crate::faults::SearchFault;
-use crate::known::Known;
-use crate::owner::{Change, Owner};
-use machine_explore::outcome::Outcome;
+use crate::numbers::{at, nowhere, set};
+use crate::outcomes::Ends;
+use machine_explore::check::Table;
 use machine_explore::program::Program;
-use queue_steps::model::Reply;
-use queue_steps::steps::Kind;
 use std::alloc::{AllocError, Allocator};
 
-// What an order is looked for.
-#[derive(Drop)]
-struct Wanted<'a, A: Allocator> {
-    refuses: bool,
-    program: &'a Program<A>,
-    outcome: &'a Outcome<A>,
-    // How many calls the parties make in all.
-    calls: usize,
-}
+/// The parties of whole calls, by the calls that come one after another. None where no order has the outcome.
+pub type Order<A> = Option<Vec<usize, A>>;
 
-// A state that the search has come to, and the party whose call is tried next.
+// A position on the way, and the number of the move that is tried next from there.
 #[derive(Clone, Copy)]
 struct Frame {
-    state: usize,
+    place: usize,
     next: usize,
 }
 
-// A search depth first, by the lower party first, for an order whose replies are the outcome's.
+// A walk depth first, by the lower party first, on which each call that begins goes on alone until it replies.
 #[derive(Drop)]
-struct Search<A: Allocator> {
-    known: Known<Owner<A>, A>,
+struct Walk<A: Allocator> {
+    // For each position 0 once it was met.
+    met: Vec<usize, A>,
+    // The number of each position's outcome.
+    outcomes: Vec<usize, A>,
     frames: Vec<Frame, A>,
-    order: Vec<usize, A>,
+    orders: Vec<Order<A>, A>,
 }
 
-/// The least list of parties that is an order of whole calls, each party's in its own order, whose replies and items left are the outcome's. None if there is none.
+/// For each outcome, by its number, the least list of parties that is an order of whole calls, each party's in its own order, with the outcome's replies and items left.
 ///
-/// The replies are those of a queue with one owner. With `refuses` a push may lack memory where it asks for a block.
+/// A call that is alone answers as the queue of one owner does: so an order of whole calls is a way through the table on which no party moves while another one is in a call.
 ///
 /// # Errors
 ///
-/// `NoMemory`, and `TooManyStates` where the queue comes to more states than are looked at.
-pub fn order_of<A: Allocator + Copy>(
+/// `NoMemory`.
+pub(crate) fn orders<A: Allocator + Copy>(
     alloc: A,
-    kind: Kind,
-    refuses: bool,
-    program: &Program<A>,
-    outcome: &Outcome<A>,
-) -> Result<Option<Vec<usize, A>>, SearchFault> {
-    let wanted = Wanted {
-        refuses,
-        program,
-        outcome,
-        calls: calls_of(program),
-    };
-    let mut search = Search {
-        known: Known::new(alloc)?,
-        frames: Vec::new(alloc),
-        order: Vec::new(alloc),
-    };
-    let found = search.finds(alloc, kind, &wanted)?;
-    Ok(found.then_some(search.order))
+    parties: usize,
+    table: &Table<A>,
+    ends: &Ends<A>,
+) -> Result<Vec<Order<A>, A>, SearchFault> {
+    let graph = Graph { table, parties };
+    let mut walk = Walk::new(alloc, graph.len(), ends)?;
+    walk.run(alloc, &graph)?;
+    Ok(walk.orders)
 }
 
 /// How many calls the parties make in all.
@@ -71,106 +56,97 @@ pub(crate) fn calls_of<A: Allocator>(program: &Program<A>) -> usize {
     calls
 }
 
-// The state once the calls that come first are made.
-fn first_state<A: Allocator + Copy>(
-    alloc: A,
-    kind: Kind,
-    program: &Program<A>,
-) -> Result<Owner<A>, AllocError> {
-    let mut first = Owner::new(alloc, kind, program.parties.len())?;
-    for call in program.before.as_slice() {
-        first.prepare(*call)?;
+impl<A: Allocator + Copy> Walk<A> {
+    fn new(alloc: A, positions: usize, ends: &Ends<A>) -> Result<Self, AllocError> {
+        Ok(Walk {
+            met: nowhere(alloc, positions)?,
+            outcomes: outcome_numbers(alloc, positions, ends)?,
+            frames: Vec::new(alloc),
+            orders: no_orders(alloc, ends.outcomes.len())?,
+        })
     }
-    Ok(first)
-}
 
-impl<A: Allocator + Copy> Search<A> {
-    // Goes on from the first state until one is an end, and tells whether there is one.
-    fn finds(&mut self, alloc: A, kind: Kind, wanted: &Wanted<A>) -> Result<bool, SearchFault> {
-        self.enter(alloc, first_state(alloc, kind, wanted.program)?)?;
+    // Goes all such ways from the first position.
+    fn run(&mut self, alloc: A, graph: &Graph<A>) -> Result<(), AllocError> {
+        self.enter(alloc, graph, 0)?;
         for _ in 0..u64::MAX {
-            if self.is_over(wanted) {
+            let Some(frame) = self.frames.last().copied() else {
                 break;
-            }
-            self.go_on(alloc, wanted)?;
+            };
+            self.go_on(alloc, graph, frame)?;
         }
-        Ok(!self.frames.is_empty())
+        Ok(())
     }
 
-    // Whether all calls are made and what is left is the outcome's, or nothing is left to be tried.
-    fn is_over(&self, wanted: &Wanted<A>) -> bool {
-        match self.frames.last() {
-            Some(frame) => self.order.len() == wanted.calls && self.is_left(wanted, frame.state),
-            None => true,
-        }
+    // Meets the position at this place.
+    fn enter(&mut self, alloc: A, graph: &Graph<A>, place: usize) -> Result<(), AllocError> {
+        set(&mut self.met, place, 0);
+        let outcome = at(&self.outcomes, place);
+        self.note(alloc, graph, outcome)?;
+        self.frames.push(Frame { place, next: 0 })?;
+        Ok(())
     }
 
-    // Whether the items in the state at this place are what is left by the outcome.
-    fn is_left(&self, wanted: &Wanted<A>, place: usize) -> bool {
-        match self.known.get(place) {
-            Some(state) => state.items.as_slice() == wanted.outcome.left(),
-            None => false,
-        }
-    }
-
-    // Goes into the state, and tells whether it is new.
-    fn enter(&mut self, alloc: A, state: Owner<A>) -> Result<bool, SearchFault> {
-        let count = self.known.len();
-        let place = self.known.place_of(alloc, state)?;
-        if place < count {
-            return Ok(false);
-        }
-        self.frames.push(Frame {
-            state: place,
-            next: 0,
-        })?;
-        Ok(true)
-    }
-
-    // Tries the next party's call from the state, or goes back where all were tried.
-    fn go_on(&mut self, alloc: A, wanted: &Wanted<A>) -> Result<(), SearchFault> {
-        let Some(top) = self.frames.last_mut() else {
-            return Ok(());
-        };
-        let frame = *top;
-        top.next = frame.next.saturating_add(1);
-        if frame.next >= wanted.program.parties.len() {
+    // Tries the next move from the last position, or goes back where all were tried.
+    fn go_on(&mut self, alloc: A, graph: &Graph<A>, frame: Frame) -> Result<(), AllocError> {
+        if frame.next >= graph.moves() {
             self.frames.pop();
-            self.order.pop();
             return Ok(());
         }
-        match self.change(wanted, frame) {
-            Some(change) => self.make(alloc, frame, change),
-            None => Ok(()),
+        if let Some(top) = self.frames.last_mut() {
+            top.next = frame.next.saturating_add(1);
+        }
+        match graph.lead_alone(frame.place, frame.next) {
+            Some(to) if at(&self.met, to) != 0 => self.enter(alloc, graph, to),
+            _ => Ok(()),
         }
     }
 
-    // What the next call of the party that is tried does to the state, if it may have the outcome's reply.
-    fn change(&self, wanted: &Wanted<A>, frame: Frame) -> Option<Change> {
-        let state = self.known.get(frame.state)?;
-        let made = state.made(frame.next);
-        let call = wanted.program.call(frame.next, made)?;
-        let reply = wanted.reply(frame.next, made)?;
-        state.change(call, reply, wanted.refuses)
-    }
-
-    // Makes the call of the party that is tried.
-    fn make(&mut self, alloc: A, frame: Frame, change: Change) -> Result<(), SearchFault> {
-        let Some(state) = self.known.get(frame.state) else {
-            return Ok(());
-        };
-        let next = state.changed(alloc, frame.next, change)?;
-        if self.enter(alloc, next)? {
-            self.order.push(frame.next)?;
+    // Keeps the order of the way that was gone, if it is the first to this outcome.
+    fn note(&mut self, alloc: A, graph: &Graph<A>, outcome: usize) -> Result<(), AllocError> {
+        if let Some(known) = self.orders.get_mut(outcome) {
+            if known.is_none() {
+                *known = Some(order_by(alloc, graph, &self.frames)?);
+            }
         }
         Ok(())
     }
 }
 
-impl<'a, A: Allocator> Wanted<'a, A> {
-    // The outcome's reply to the call of the party behind so many others.
-    fn reply(&self, party: usize, behind: usize) -> Option<Reply<u64>> {
-        let replies = self.outcome.replies().get(party)?;
-        replies.as_slice().get(behind).copied()
+// The number of each position's outcome, if it ends a run.
+fn outcome_numbers<A: Allocator + Copy>(
+    alloc: A,
+    positions: usize,
+    ends: &Ends<A>,
+) -> Result<Vec<usize, A>, AllocError> {
+    let mut numbers = nowhere(alloc, positions)?;
+    for end in ends.ends.as_slice() {
+        set(&mut numbers, end.place, end.outcome);
     }
+    Ok(numbers)
+}
+
+// So many times no order.
+fn no_orders<A: Allocator + Copy>(alloc: A, count: usize) -> Result<Vec<Order<A>, A>, AllocError> {
+    let mut orders = Vec::new(alloc);
+    for _ in 0..count {
+        orders.push(None)?;
+    }
+    Ok(orders)
+}
+
+// The parties whose calls begin on the way.
+fn order_by<A: Allocator + Copy>(
+    alloc: A,
+    graph: &Graph<A>,
+    way: &[Frame],
+) -> Result<Vec<usize, A>, AllocError> {
+    let mut order = Vec::new(alloc);
+    for frame in way {
+        let party = graph.party_of(frame.next.saturating_sub(1));
+        if !graph.is_in_call(frame.place, party) {
+            order.push(party)?;
+        }
+    }
+    Ok(order)
 }

@@ -4,5 +4,6 @@ use Rattle.app_explore.proofs.listing.tail_of.Goals as goal
 
 pub returns : goal.returns
 returns g c =
-    let order = items_in c.in_ok-order.order in
-    (c.args.schedules, c.args.steps, order, c.in_ok-write_tail.ensures ∙ ap (λ l. l ++ tail_text c.args.schedules c.args.steps order) c.new-tail.ensures.bytes)
+    let f = c.args.figure.now in
+    let order = items_in f.order in
+    (f.schedules, f.steps, order, c.in_ok-write_tail.ensures ∙ ap (λ l. l ++ tail_text f.schedules f.steps order) c.new-tail.ensures.bytes)

@@ -1,7 +1,7 @@
 use Rattle.std.proofs.Common.{◌≡◌, ◌∙◌, ◌++◌, ap, length, map, string_bytes, sym}
 use Rattle.std.proofs.lemmas.List.{length-map}
 use Rattle.app_explore.specs.Listings.{outcome_lines}
-use Rattle.app_explore.specs.Outcomes.{text_of}
+use Rattle.app_explore_text.specs.Outcomes.{text_of}
 use Rattle.app_explore.specs.Tails.{last_text}
 use Rattle.app_explore.proofs.listing.write_list.Goals as goal
 
@@ -10,17 +10,19 @@ returns g c =
     let outcomes = c.args.shown.now.outcomes.items in
     let texts = c.args.shown.now.texts.items in
     let tails = c.in_ok-tails.tails.items in
-    let last = last_text c.len-2.result c.total.result c.in_ok-lone.lone in
+    let f = c.in_ok-figures.figures in
+    let last = last_text c.len-3.result f.schedules f.lone in
     let size : length texts ≡ length (map text_of outcomes) = sym (length-map texts string_bytes) ∙ ap length c.requires in
+    let as_many : length tails ≡ length texts = sym (c.len.ensures ∙ c.in_ok-tails.tails.ok.0) ∙ c.if-len.false ∙ c.len-2.ensures ∙ c.args.shown.now.texts.ok.0 in
     record {
       tails = map string_bytes tails;
-      counted = length-map tails string_bytes ∙ c.in_ok-tails.ensures.counted ∙ ap length c.deref.ensures.value ∙ sym (length-map outcomes text_of);
-      are_tails = c.in_ok-tails.ensures.tails;
-      total = c.total.result;
-      lone = c.in_ok-lone.lone;
+      counted = length-map tails string_bytes ∙ as_many ∙ size;
+      are_tails = c.in_ok-tails.ensures;
+      total = f.schedules;
+      lone = f.lone;
       text_is = c.in_ok-write_last.ensures
-          ∙ ap (λ l. l ++ last) (c.in_ok-write_lines.ensures ∙ ap (λ l. l ++ outcome_lines 1 (map string_bytes c.deref-3.result.now) (map string_bytes c.deref-4.result.now)) c.new-text.ensures.bytes
-          ∙ ap (λ l. outcome_lines 1 (map string_bytes l) (map string_bytes c.deref-4.result.now)) c.deref-3.ensures.value ∙ ap (λ l. outcome_lines 1 (map string_bytes texts) (map string_bytes l)) c.deref-4.ensures.value
+          ∙ ap (λ l. l ++ last) (c.in_ok-write_lines.ensures ∙ ap (λ l. l ++ outcome_lines 1 (map string_bytes c.deref-4.result.now) (map string_bytes c.deref-5.result.now)) c.new-text.ensures.bytes
+          ∙ ap (λ l. outcome_lines 1 (map string_bytes l) (map string_bytes c.deref-5.result.now)) c.deref-4.ensures.value ∙ ap (λ l. outcome_lines 1 (map string_bytes texts) (map string_bytes l)) c.deref-5.ensures.value
           ∙ ap (λ l. outcome_lines 1 l (map string_bytes tails)) c.requires)
-          ∙ ap (λ n. outcome_lines 1 (map text_of outcomes) (map string_bytes tails) ++ last_text n c.total.result c.in_ok-lone.lone) (c.len-2.ensures ∙ c.args.shown.now.texts.ok.0 ∙ size);
+          ∙ ap (λ n. outcome_lines 1 (map text_of outcomes) (map string_bytes tails) ++ last_text n f.schedules f.lone) (c.len-3.ensures ∙ c.args.shown.now.texts.ok.0 ∙ size);
     }

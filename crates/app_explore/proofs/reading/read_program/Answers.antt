@@ -1,8 +1,0 @@
-use Rattle.std.proofs.Common.{refl}
-use Rattle.app_explore.proofs.Programs.{wrong_before}
-use Rattle.app_explore.proofs.reading.read_program.Goals as goal
-
-pub returns-in_default-found : goal.returns-in_default-found
-returns-in_default-found g c =
-    let none = rw c.in_default-found.is at c.in-Ok.ensures in
-    wrong_before _ _ c.in-Some.spelled.now _ c.in-Some.ensures refl none

@@ -1,0 +1,13 @@
+-- The words behind the first.
+use Rattle.std.proofs.Common.{◌≡◌, ℕ, ◌-◌, ◌<◌, List, [], ◌∷◌, length, get_or, take, drop, arith}
+use Rattle.std.proofs.lemmas.List.{take_rest}
+use Rattle.app_text.specs.Reading.{IsWord}
+use Rattle.app_explore_text.specs.Requests.{IsOutcomeNumber}
+
+-- a list is its first element and what is behind it
+pub front_of : {X : Type 0} (xs : List X) (a : X) → 0 < length xs → a ≡ get_or xs 0 a → xs ≡ a ∷ take (length xs - 1) (drop 1 xs)
+front_of [] a some is = absurd (omega arith)
+front_of (x ∷ xs) a some is = rw (take_rest (x ∷ xs) 1) cc
+
+pub outcome_word : (n : ℕ) → IsOutcomeNumber n → IsWord n
+outcome_word n is = is.0

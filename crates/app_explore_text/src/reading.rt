@@ -1,0 +1,106 @@
+//! The program that the input names.
+ghost use Rattle.std.specs.Prelude.{◌≡◌, ◌++◌, [], ◌∷◌, codes, length, IfOk, MatchOption, MatchResult};
+ghost use Rattle.app_text.specs.Lines.{lines_of};
+ghost use Rattle.app_text.specs.Reading.{IsReading};
+ghost use Rattle.app_explore_text.specs.Programs.{before_lines, party_line, IsBefore, IsPartyCalls};
+ghost use Rattle.app_explore_text.specs.Reads.{IsReadAs, IsReadFault, HasNoBefore};
+
+use crate::calls::read_calls;
+use crate::limits::{MOST_CALLS, MOST_CALLS_BEFORE, MOST_PARTIES};
+use app_text::faults::Fault;
+use app_text::lines::next_line;
+use machine_explore::program::{Calls, Program};
+use machine_explore::sequence::Sequence;
+use std::alloc::{AllocError, Allocator};
+
+/// The program whose lines these are.
+///
+/// # Errors
+///
+/// `Unreadable` with the number of the first line up to which no program's lines go so, or of the line behind the last where the
+/// lines end too early; and `NoMemory`.
+pub fn read_program<A: Allocator + Copy>(alloc: A, text: &[u8]) -> Result<Program<A>, Fault>
+    ensures { MatchResult result
+        (λ program. IsReadAs (lines_of text.now) program.before program.parties.items)
+        (IsReadFault (lines_of text.now)) }
+{
+    let Some((spelled, rest)) = line_before(text) else {
+        return read_parties(alloc, Sequence::of(Vec::new(alloc)), text);
+    };
+    let Ok(found) = read_calls(alloc, MOST_CALLS_BEFORE, spelled) else {
+        return Err(Fault::NoMemory);
+    };
+    let Some(before) = found else {
+        return Err(Fault::Unreadable(1));
+    };
+    read_parties(alloc, before, rest)
+}
+
+// What the first line has behind `before:`, and the text behind that line.
+fn line_before(text: &[u8]) -> Option<(&[u8], &[u8])>
+    ensures { MatchOption result
+        (HasNoBefore (lines_of text.now))
+        (λ p. lines_of text.now ≡ (codes "before:" ++ p.0.now) ∷ lines_of p.1.now) }
+{
+    let (line, rest) = next_line(text)?;
+    let spelled = line.strip_prefix(b"before:".as_slice())?;
+    Some((spelled, rest))
+}
+
+// The program with these calls before the parties begin, whose other lines this text has.
+fn read_parties<A: Allocator + Copy>(
+    alloc: A,
+    before: Calls<A>,
+    text: &[u8],
+) -> Result<Program<A>, Fault>
+    requires calls { IsBefore before }
+    requires single { before ≡ [] → HasNoBefore (lines_of text.now) }
+    ensures { MatchResult result
+        (λ program. IsReadAs (before_lines before ++ lines_of text.now) program.before program.parties.items)
+        (IsReadFault (before_lines before ++ lines_of text.now)) }
+{
+    let taken = count_lines(&before);
+    let mut parties = Vec::new(alloc);
+    let mut rest = text;
+    while let Some((line, after)) = next_line(rest) {
+        let Ok(found) = read_party(alloc, parties.len(), line) else {
+            return Err(Fault::NoMemory);
+        };
+        let Some(calls) = found else {
+            return Err(Fault::Unreadable(taken + parties.len() + 1));
+        };
+        if parties.push(calls).is_err() {
+            return Err(Fault::NoMemory);
+        }
+        rest = after;
+    }
+    if parties.is_empty() {
+        return Err(Fault::Unreadable(taken + 1));
+    }
+    Ok(Program { before, parties })
+}
+
+// How many lines the calls take that are made before the parties begin.
+fn count_lines<A: Allocator>(before: &Calls<A>) -> usize
+    ensures { result ≡ length (before_lines before.now) }
+{
+    if before.len() == 0 { 0 } else { 1 }
+}
+
+// The calls of the party of this number, if this is its line.
+fn read_party<A: Allocator>(
+    alloc: A,
+    number: usize,
+    line: &[u8],
+) -> Result<Option<Calls<A>>, AllocError>
+    ensures { IfOk result (λ found. IsReading (IsPartyCalls number) (party_line number) line.now found) }
+{
+    if number >= MOST_PARTIES {
+        return Ok(None);
+    }
+    let mark = [b'0' + number as u8, b':'];
+    match line.strip_prefix(mark.as_slice()) {
+        Some(spelled) => read_calls(alloc, MOST_CALLS, spelled),
+        None => Ok(None),
+    }
+}
