@@ -2,13 +2,13 @@
 ghost use Rattle.concurrent_queue.specs.Shared.{IsPartyOf};
 ghost use Rattle.counted_channel.specs.Channel.{IsEndOf};
 
-use crate::opening::{ended, opened};
+use crate::opening::{Left, left, opened};
 use callers_channel::gather;
 use concurrent_queue::Party;
 use counted_channel::{Channel, Receiver, SendError, Sender};
-use std::alloc::{AllocError, Global};
+use std::alloc::Global;
+use std::process::Abort;
 use std::sync::Wait;
-use std::test::Fail;
 use std::thread::{Threads, join};
 
 /// Sends 0, 1, .. up to 99, and ends. Gives its party, how many were sent, and whether each other one was answered that the channel is closed.
@@ -50,14 +50,16 @@ fn take_some<R: Wait>(
     (channel.end_receiver(receiver).0, taken)
 }
 
-/// How many items two senders in threads of their own sent, whether each other one was answered `Closed`, how many a receiver took that ended after 50, and how many are left, in a closed queue or not.
-fn two_send<R: Threads + Wait + Sync>(
+/// How many items two senders in threads of their own sent, whether each other one was answered `Closed`, how many a receiver took that ended after 50, and what is left.
+fn two_send<R: Threads + Wait + Abort + Sync>(
     rt: &R,
     alloc: Global,
-) -> Result<(u64, bool, u64, Option<(usize, bool)>), AllocError> {
-    let (channel, sender, receiver) = opened(alloc, Some(400))?;
+) -> (u64, bool, u64, Option<Left>) {
+    let Ok((channel, sender, receiver)) = opened(alloc, Some(400)) else {
+        panic!(rt; "no memory");
+    };
     let Ok((one, two)) = channel.split_sender(sender) else {
-        return Err(AllocError);
+        panic!(rt; "no second sender");
     };
     let ((a, sent, right), ((b, more, right_too), (c, taken))) = join(
         rt,
@@ -73,31 +75,31 @@ fn two_send<R: Threads + Wait + Sync>(
             )
         },
     );
-    let all = channel.join(a, b);
-    Ok((
+    let all = channel.join(channel.join(a, b), c);
+    (
         sent.wrapping_add(more),
         right && right_too,
         taken,
-        ended(channel, all, c),
-    ))
+        left(channel, Some(all)),
+    )
 }
 
 #[test]
-fn as_many_are_sent_as_are_taken_or_left(rt: HostRuntime) -> Result<(), Fail> {
-    let (sent, right, taken, left) = two_send(&rt, rt.alloc())?;
+fn as_many_are_sent_as_are_taken_or_left(rt: HostRuntime) {
+    let (sent, right, taken, left) = two_send(&rt, rt.alloc());
     let fits = match left {
-        Some((left, closed)) => closed && sent == 50u64.wrapping_add(left as u64),
+        Some((left, closed, ..)) => closed && sent == 50u64.wrapping_add(left as u64),
         None => false,
     };
     assert!(rt; right && taken == 50 && fits);
-    Ok(())
 }
 
 #[test]
-fn all_that_two_threads_send_comes(rt: HostRuntime) -> Result<(), Fail> {
+fn all_that_two_threads_send_comes(rt: HostRuntime) {
     for cap in [1usize, 3] {
-        let all = gather(&rt, rt.alloc(), cap, 1000)?;
+        let Ok(all) = gather(&rt, rt.alloc(), cap, 1000) else {
+            panic!(&rt; "no memory");
+        };
         assert!(rt; (all.sent, all.came, all.left) == ((1000, 1000), 2000, 0));
     }
-    Ok(())
 }

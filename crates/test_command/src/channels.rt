@@ -1,24 +1,20 @@
 //! Rows of the form `channel`, run through `command`, and two ends of a channel that are at work within one another's calls.
-use crate::rows::{all_end_well, all_wrong, ends};
+use crate::meanwhile::{Heap, Queue};
+use crate::rows::{UNREAD, all_end_well, all_wrong, ends};
 use app_threads::crew::{Plan, Work};
 use app_threads::ends::run_all;
-use concurrent_queue::ConcurrentQueue;
 use counted_channel::channel;
-use std::alloc::{AllocError, Global};
+use std::process::Abort;
 use std::sync::Wait;
-use std::test::Fail;
 use std::thread::Threads;
-use test_allocators::{Refusal, Refusing};
+use test_allocators::Refusal;
 use test_streams::runs::End;
-
-/// An input that the program is not to read.
-const UNREAD: &[u8] = b"not read\n";
 
 /// On one thread the second send would wait for a receiver that is yet to come, and the test would not end.
 #[test]
-fn one_end_a_side(rt: HostRuntime) -> Result<(), AllocError> {
+fn one_end_a_side(rt: HostRuntime) {
     let end = End::right("1000 values, each counted 1 times\nleft 0\n");
-    ends(&rt, rt.alloc(), "channel single 1 1 1000", UNREAD, end)
+    ends(&rt, "channel single 1 1 1000", UNREAD, end);
 }
 
 /// Four ends a side, over each kind of queue.
@@ -38,8 +34,8 @@ static FOUR: [(&str, &str); 3] = [
 ];
 
 #[test]
-fn four_ends_a_side(rt: HostRuntime) -> Result<(), AllocError> {
-    all_end_well(&rt, rt.alloc(), &FOUR, UNREAD)
+fn four_ends_a_side(rt: HostRuntime) {
+    all_end_well(&rt, &FOUR, UNREAD);
 }
 
 /// As many ends as there may be, over each kind of queue.
@@ -59,8 +55,8 @@ static MOST: [(&str, &str); 3] = [
 ];
 
 #[test]
-fn most_ends_a_side(rt: HostRuntime) -> Result<(), AllocError> {
-    all_end_well(&rt, rt.alloc(), &MOST, UNREAD)
+fn most_ends_a_side(rt: HostRuntime) {
+    all_end_well(&rt, &MOST, UNREAD);
 }
 
 /// Sides that cannot share the items evenly, and no items.
@@ -84,15 +80,15 @@ static UNEVEN: [(&str, &str); 4] = [
 ];
 
 #[test]
-fn items_that_nobody_divides(rt: HostRuntime) -> Result<(), AllocError> {
-    all_end_well(&rt, rt.alloc(), &UNEVEN, UNREAD)
+fn items_that_nobody_divides(rt: HostRuntime) {
+    all_end_well(&rt, &UNEVEN, UNREAD);
 }
 
 /// No queue has more slots than 2^59.
 #[test]
-fn no_channel_of_too_many_slots(rt: HostRuntime) -> Result<(), AllocError> {
+fn no_channel_of_too_many_slots(rt: HostRuntime) {
     let line = "channel bounded:576460752303423489 1 1 1";
-    ends(&rt, rt.alloc(), line, UNREAD, End::fault(3, "no memory\n"))
+    ends(&rt, line, UNREAD, End::fault(3, "no memory\n"));
 }
 
 static WRONG: [&str; 16] = [
@@ -115,18 +111,12 @@ static WRONG: [&str; 16] = [
 ];
 
 #[test]
-fn wrong_channels_give_the_usage_text(rt: HostRuntime) -> Result<(), AllocError> {
-    all_wrong(&rt, rt.alloc(), &WRONG, UNREAD)
+fn wrong_channels_give_the_usage_text(rt: HostRuntime) {
+    all_wrong(&rt, &WRONG, UNREAD);
 }
 
-/// An allocator that holds a request.
-type Heap = Refusing<Global>;
-
-/// A shared queue that asks this allocator for its blocks.
-type Queue<'a> = ConcurrentQueue<u64, &'a Heap>;
-
 /// What is seen of two threads that send, and one that receives.
-#[derive(Clone, Copy, Debug, PartialEq)]
+#[derive(Clone, Copy)]
 struct Seen {
     /// Whether a second send asked for a block before the first one that did was answered.
     at_once: bool,
@@ -137,14 +127,10 @@ struct Seen {
 }
 
 /// Lets two threads send an item each through a channel without a capacity. The first request for a block is held until there is another.
-fn send_by_two<R: Threads + Wait + Sync>(
-    rt: &R,
-    alloc: Global,
-    heap: &Heap,
-) -> Result<Seen, AllocError> {
-    let (queue, party) = Queue::unbounded(heap)?;
+fn send_by_two<R: Abort + Threads + Wait + Sync + AllocGlobal>(rt: &R, heap: &Heap) -> Seen {
+    let (queue, party) = Queue::unbounded(heap).expect(rt, "memory for a queue");
     let Ok((channel, sender, receiver)) = channel(heap, queue, party) else {
-        return Err(AllocError);
+        panic!(rt; "no memory for a channel");
     };
     heap.hold_until_another();
     let plan = Plan {
@@ -153,23 +139,19 @@ fn send_by_two<R: Threads + Wait + Sync>(
         items: 1,
         share: 3,
     };
-    let Work { counts, done, .. } = run_all(rt, alloc, &channel, sender, receiver, plan)?;
-    Ok(Seen {
+    let work = run_all(rt, rt.alloc(), &channel, sender, receiver, plan);
+    let Work { counts, done, .. } = work.expect(rt, "memory for the counts");
+    Seen {
         at_once: heap.held_until_let_go(),
         done,
         came: counts[0],
-    })
+    }
 }
 
 /// While one thread's send waits for the first block, another thread's send asks for it too. On one thread no other call is made before that send is answered.
 #[test]
-fn two_sends_of_a_crew_ask_for_memory_at_once(rt: HostRuntime) -> Result<(), Fail> {
+fn two_sends_of_a_crew_ask_for_memory_at_once(rt: HostRuntime) {
     let heap = Heap::new(rt.alloc(), Refusal::Never);
-    let wanted = Seen {
-        at_once: true,
-        done: true,
-        came: 2,
-    };
-    assert_eq!(rt; send_by_two(&rt, rt.alloc(), &heap)?, wanted);
-    Ok(())
+    let seen = send_by_two(&rt, &heap);
+    assert_eq!(rt; (seen.at_once, seen.done, seen.came), (true, true, 2));
 }

@@ -1,47 +1,44 @@
 //! Paths of the form `threads` that no run of the program takes: counts that are wrong, and a queue that is closed while threads work on it.
-ghost use Rattle.std.specs.Prelude.{◌≡◌, ◌<◌, ◌+◌, ◌*◌, ◌^◌, IfOk};
+ghost use Rattle.std.specs.Prelude.{◌≡◌, ◌<◌, ◌+◌, ◌*◌, ◌^◌};
 ghost use Rattle.concurrent_queue.specs.Shared.{IsPartyOf};
 
 use app_threads::counts::{Finding, count, judge, none_counted};
 use app_threads::crew::{Plan, Queue, Work, run_all};
 use app_threads::verdict::Verdict;
 use concurrent_queue::Party;
-use std::alloc::{AllocError, Global};
+use std::process::Abort;
 use std::sync::Wait;
-use std::test::Fail;
 use std::thread::{Threads, join, yield_now};
 
 /// How often each of three values came, of these values.
-fn counts_of(alloc: Global, values: &[u64]) -> Result<[u64; 3], AllocError> {
-    let mut counts = none_counted(alloc, 3)?;
+fn counts_of<R: Abort + AllocGlobal>(rt: &R, values: &[u64]) -> [u64; 3] {
+    let mut counts = none_counted(rt.alloc(), 3).expect(rt, "memory for the counts");
     for value in values {
         if counts.iter().all(|count| *count < 9) {
             count(&mut counts, *value);
         }
     }
-    Ok([counts[0], counts[1], counts[2]])
+    [counts[0], counts[1], counts[2]]
 }
 
 #[test]
-fn wrong_counts_are_found(rt: HostRuntime) -> Result<(), Fail> {
-    let counts = counts_of(rt.alloc(), &[0, 0, 1, 2, 2, 2, 3, u64::MAX])?;
+fn wrong_counts_are_found(rt: HostRuntime) {
+    let counts = counts_of(&rt, &[0, 0, 1, 2, 2, 2, 3, u64::MAX]);
     let findings = [judge(2, &counts), judge(1, &counts)];
     let lost = Finding::Wrong { value: 1, times: 1 };
     let doubled = Finding::Wrong { value: 0, times: 2 };
     assert_eq!(rt; (counts, findings), ([2u64, 1, 3], [lost, doubled]));
-    Ok(())
 }
 
 #[test]
-fn a_wrong_count_is_told(rt: HostRuntime) -> Result<(), Fail> {
+fn a_wrong_count_is_told(rt: HostRuntime) {
     let lost = Finding::Wrong { value: 1, times: 1 };
     let verdict = lost.verdict();
-    let text = format!(in rt.alloc(); "{lost}")?;
+    let text = format!(in rt.alloc(); "{lost}").expect(&rt, "memory for the text");
     assert_eq!(rt;
         (verdict, verdict.status(), text.as_str()),
         (Verdict::Wrong, 1, "value 1 counted 1 times")
     );
-    Ok(())
 }
 
 /// A plan of so many threads a side. Each popper is to pop two items.
@@ -66,24 +63,24 @@ fn is_counted(counts: &[u64]) -> bool {
 }
 
 /// Runs the threads of a plan. Gives the party back, and whether they did all, or counted something.
-fn run_plan<R: Threads + Wait + Sync>(
+fn run_plan<R: Abort + Threads + Wait + Sync + AllocGlobal>(
     rt: &R,
-    alloc: Global,
     queue: &Queue,
     party: Party<u64>,
     plan: Plan,
-) -> Result<(Party<u64>, bool), AllocError>
+) -> (Party<u64>, bool)
     requires of { IsPartyOf party queue.now }
     requires few { (plan.pushers + plan.poppers) * plan.share < 2 ^ 64 }
     requires threads { plan.pushers + plan.poppers < 2 ^ 64 }
-    ensures { IfOk result (λ r. IsPartyOf r.0 queue.now) }
+    ensures { IsPartyOf result.0 queue.now }
 {
+    let work = run_all(rt, rt.alloc(), queue, party, plan);
     let Work {
         party,
         counts,
         done,
-    } = run_all(rt, alloc, queue, party, plan)?;
-    Ok((party, done || is_counted(&counts)))
+    } = work.expect(rt, "memory for the counts");
+    (party, done || is_counted(&counts))
 }
 
 /// Whether a queue is empty, and whether it is open, once all parties are joined; nothing where one is missing.
@@ -97,33 +94,28 @@ fn end(queue: Queue, party: Party<u64>) -> Option<(bool, bool)>
 }
 
 /// Whether the threads of a plan did all on a queue that was closed before, or counted something, or left a party out.
-fn does_something<R: Threads + Wait + Sync>(
-    rt: &R,
-    alloc: Global,
-    plan: Plan,
-) -> Result<bool, AllocError>
+fn does_something<R: Abort + Threads + Wait + Sync + AllocGlobal>(rt: &R, plan: Plan) -> bool
     requires few { (plan.pushers + plan.poppers) * plan.share < 2 ^ 64 }
     requires threads { plan.pushers + plan.poppers < 2 ^ 64 }
 {
-    let (queue, mut party) = Queue::bounded(alloc, 1)?;
+    let (queue, mut party) = Queue::bounded(rt.alloc(), 1).expect(rt, "memory for a queue");
     queue.close(&mut party);
-    let (party, done) = run_plan(rt, alloc, &queue, party, plan)?;
-    Ok(done || end(queue, party).is_none())
+    let (party, done) = run_plan(rt, &queue, party, plan);
+    done || end(queue, party).is_none()
 }
 
 #[test]
-fn nothing_is_done_on_a_closed_queue(rt: HostRuntime) -> Result<(), Fail> {
+fn nothing_is_done_on_a_closed_queue(rt: HostRuntime) {
     let done = [
-        does_something(&rt, rt.alloc(), plan_of(3, 0, 2))?,
-        does_something(&rt, rt.alloc(), plan_of(0, 3, 2))?,
-        does_something(&rt, rt.alloc(), plan_of(2, 2, 2))?,
+        does_something(&rt, plan_of(3, 0, 2)),
+        does_something(&rt, plan_of(0, 3, 2)),
+        does_something(&rt, plan_of(2, 2, 2)),
     ];
     assert_eq!(rt; done, [false; 3]);
-    Ok(())
 }
 
 /// What is seen of threads on a queue that was closed before, with an item in it.
-#[derive(Clone, Copy, Debug, PartialEq)]
+#[derive(Clone, Copy)]
 struct Emptied {
     pushed: bool,
     closed: bool,
@@ -133,8 +125,8 @@ struct Emptied {
 }
 
 /// What is seen where a closed queue has the item 1, of which one thread is to push more and two are to pop one each.
-fn empty_closed<R: Threads + Wait + Sync>(rt: &R, alloc: Global) -> Result<Emptied, AllocError> {
-    let (queue, mut party) = Queue::bounded(alloc, 1)?;
+fn empty_closed<R: Abort + Threads + Wait + Sync + AllocGlobal>(rt: &R) -> Emptied {
+    let (queue, mut party) = Queue::bounded(rt.alloc(), 1).expect(rt, "memory for a queue");
     let pushed = queue.push(rt, &mut party, 1).is_ok();
     let closed = queue.close(&mut party);
     let plan = Plan {
@@ -143,32 +135,33 @@ fn empty_closed<R: Threads + Wait + Sync>(rt: &R, alloc: Global) -> Result<Empti
         items: 2,
         share: 1,
     };
+    let work = run_all(rt, rt.alloc(), &queue, party, plan);
     let Work {
         party,
         counts,
         done,
-    } = run_all(rt, alloc, &queue, party, plan)?;
-    Ok(Emptied {
+    } = work.expect(rt, "memory for the counts");
+    Emptied {
         pushed,
         closed,
         done,
         counted: [counts[0], counts[1]],
         finished: end(queue, party).is_some(),
-    })
+    }
 }
 
 /// The item that a closed queue still has is popped and counted; then the poppers find it closed.
 #[test]
-fn what_a_closed_queue_has_is_counted(rt: HostRuntime) -> Result<(), Fail> {
-    let wanted = Emptied {
-        pushed: true,
-        closed: true,
-        done: false,
-        counted: [0, 1],
-        finished: true,
-    };
-    assert_eq!(rt; empty_closed(&rt, rt.alloc())?, wanted);
-    Ok(())
+fn what_a_closed_queue_has_is_counted(rt: HostRuntime) {
+    let Emptied {
+        pushed,
+        closed,
+        done,
+        counted,
+        finished,
+    } = empty_closed(&rt);
+    assert_eq!(rt; (pushed, closed, done, finished), (true, true, false, true));
+    assert_eq!(rt; counted, [0, 1]);
 }
 
 /// Gives other threads turns.
@@ -189,71 +182,67 @@ fn close_later(queue: &Queue, mut party: Party<u64>) -> Party<u64>
 }
 
 /// Whether the threads of a plan did all on a queue that another party closes meanwhile, or counted something, or left a party out.
-fn done_in_spite_of_a_close<R: Threads + Wait + Sync>(
+fn done_in_spite_of_a_close<R: Abort + Threads + Wait + Sync + AllocGlobal>(
     rt: &R,
-    alloc: Global,
     plan: Plan,
-) -> Result<bool, AllocError>
+) -> bool
     requires few { (plan.pushers + plan.poppers) * plan.share < 2 ^ 64 }
     requires threads { plan.pushers + plan.poppers < 2 ^ 64 }
 {
-    let (queue, party) = Queue::bounded(alloc, 1)?;
+    let (queue, party) = Queue::bounded(rt.alloc(), 1).expect(rt, "memory for a queue");
     let Ok((crew, closer)) = queue.split(party) else {
         unreachable!()
     };
-    let (ran, closer) = join(
+    let ((party, done), closer) = join(
         rt,
-        || -> Result<(Party<u64>, bool), AllocError>
+        || -> (Party<u64>, bool)
             requires { IsPartyOf crew queue × ((plan.pushers + plan.poppers) * plan.share < 2 ^ 64) × (plan.pushers + plan.poppers < 2 ^ 64) }
-            ensures { IfOk result (λ r. IsPartyOf r.0 queue) }
-        { run_plan(rt, alloc, &queue, crew, plan) },
+            ensures { IsPartyOf result.0 queue }
+        { run_plan(rt, &queue, crew, plan) },
         || close_later(&queue, closer),
     );
-    let (party, done) = ran?;
     let whole = queue.join(party, closer);
-    Ok(done || end(queue, whole).is_none())
+    done || end(queue, whole).is_none()
 }
 
 /// Threads that wait, for items that nobody pushes or for a place that nobody makes free, end when another party closes the queue.
 #[test]
-fn a_close_ends_threads_that_wait(rt: HostRuntime) -> Result<(), Fail> {
+fn a_close_ends_threads_that_wait(rt: HostRuntime) {
     let done = [
-        done_in_spite_of_a_close(&rt, rt.alloc(), plan_of(0, 3, 5))?,
-        done_in_spite_of_a_close(&rt, rt.alloc(), plan_of(3, 0, 5))?,
+        done_in_spite_of_a_close(&rt, plan_of(0, 3, 5)),
+        done_in_spite_of_a_close(&rt, plan_of(3, 0, 5)),
     ];
     assert_eq!(rt; done, [false; 2]);
-    Ok(())
 }
 
 /// What is seen of a run that ends well: whether all was done, what the counts show, and whether the queue is empty and open then.
 type Run = (bool, Finding, Option<(bool, bool)>);
 
 /// What is seen of a run of four pushers and two poppers.
-fn run_of_six<R: Threads + Wait + Sync>(rt: &R, alloc: Global) -> Result<Run, AllocError> {
-    let (queue, party) = Queue::bounded(alloc, 1)?;
+fn run_of_six<R: Abort + Threads + Wait + Sync + AllocGlobal>(rt: &R) -> Run {
+    let (queue, party) = Queue::bounded(rt.alloc(), 1).expect(rt, "memory for a queue");
     let plan = Plan {
         pushers: 4,
         poppers: 2,
         items: 100,
         share: 200,
     };
+    let work = run_all(rt, rt.alloc(), &queue, party, plan);
     let Work {
         party,
         counts,
         done,
-    } = run_all(rt, alloc, &queue, party, plan)?;
-    let finding = judge(4, &counts);
-    Ok((done, finding, end(queue, party)))
+    } = work.expect(rt, "memory for the counts");
+    (done, judge(4, &counts), end(queue, party))
 }
 
 /// All parties are joined again at the end of a run, and nothing is left.
 #[test]
-fn a_run_gives_its_party_back(rt: HostRuntime) -> Result<(), Fail> {
+fn a_run_gives_its_party_back(rt: HostRuntime) {
     let right = Finding::Right {
         values: 100,
         times: 4,
     };
     let wanted: Run = (true, right, Some((true, true)));
-    assert_eq!(rt; run_of_six(&rt, rt.alloc())?, wanted);
-    Ok(())
+    assert_eq!(rt; run_of_six(&rt), wanted);
 }

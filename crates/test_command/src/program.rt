@@ -1,50 +1,35 @@
 //! The end of the program: the arguments as the system gives them, and the status.
 use crate::rows::USAGE;
 use app_command::program::program;
-use std::alloc::{AllocError, Global};
 use std::env::Args;
 use std::io;
 use std::io::ErrorKind;
 use std::process::{Abort, ExitCode};
 use std::sync::Wait;
-use std::test::Fail;
 use std::thread::Threads;
 use test_streams::runs::{End, words};
-
-/// How a run ended, and what it wrote.
-#[derive(Clone, Copy, Debug, PartialEq)]
-struct Ended<'a> {
-    code: ExitCode,
-    output: &'a [u8],
-    faults: &'a [u8],
-}
 
 /// Asserts that the program ends so on what it is given and this input.
 fn ends<R: Abort + Threads + Wait + Sync + AllocGlobal>(
     rt: &R,
     given: io::Result<Args>,
     mut input: &[u8],
-    wanted: End<'_>,
+    end: End<'_>,
 ) {
-    let mut output = Vec::new(rt.alloc());
-    let mut faults = Vec::new(rt.alloc());
-    let code = program(rt, &rt.alloc(), given, &mut input, &mut output, &mut faults);
-    let found = Ended {
-        code,
-        output: output.as_slice(),
-        faults: faults.as_slice(),
-    };
-    let right = Ended {
-        code: ExitCode::from(wanted.status),
-        output: wanted.output,
-        faults: wanted.faults,
-    };
-    assert_eq!(rt; found, right);
+    let alloc = rt.alloc();
+    let mut output = Vec::new(alloc);
+    let mut faults = Vec::new(alloc);
+    let code = program(rt, &alloc, given, &mut input, &mut output, &mut faults);
+    assert_eq!(rt;
+        (code, output.as_slice(), faults.as_slice()),
+        (ExitCode::from(end.status), end.output, end.faults)
+    );
 }
 
 /// The words of a line, of which the first is the program's name, as the system gives them.
-fn given(alloc: Global, line: &str) -> Result<Args, AllocError> {
-    Ok(words(alloc, line)?.into_iter())
+fn given<R: Abort + AllocGlobal>(rt: &R, line: &str) -> Args {
+    let words = words(rt.alloc(), line).expect(rt, "memory for the arguments");
+    words.into_iter()
 }
 
 /// An input of one line.
@@ -72,28 +57,25 @@ static ENDS: [(&str, u8, &str, &str); 7] = [
 ];
 
 #[test]
-fn each_end_has_its_status(rt: HostRuntime) -> Result<(), Fail> {
+fn each_end_has_its_status(rt: HostRuntime) {
     for (line, status, output, faults) in ENDS.iter() {
-        let wanted = End {
+        let end = End {
             status: *status,
             output: output.as_bytes(),
             faults: faults.as_bytes(),
         };
-        ends(&rt, Ok(given(rt.alloc(), line)?), INPUT, wanted);
+        ends(&rt, Ok(given(&rt, line)), INPUT, end);
     }
-    Ok(())
 }
 
 #[test]
-fn arguments_without_memory_end_as_want_of_memory(rt: HostRuntime) -> Result<(), Fail> {
+fn arguments_without_memory_end_as_want_of_memory(rt: HostRuntime) {
     let error = io::Error::from(ErrorKind::OutOfMemory);
     ends(&rt, Err(error), INPUT, End::fault(3, "no memory\n"));
-    Ok(())
 }
 
 #[test]
-fn arguments_that_are_no_text_are_wrong(rt: HostRuntime) -> Result<(), Fail> {
+fn arguments_that_are_no_text_are_wrong(rt: HostRuntime) {
     let error = io::Error::from(ErrorKind::InvalidData);
     ends(&rt, Err(error), INPUT, End::fault(2, USAGE));
-    Ok(())
 }

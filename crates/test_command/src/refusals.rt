@@ -1,12 +1,10 @@
 //! Each request for memory of scripts and of replays, refused in turn.
-use crate::rows::{Part, run_from, text_of};
-use std::alloc::AllocError;
+use crate::rows::{Part, run_over, text_of};
 use std::process::Abort;
 use std::sync::Wait;
-use std::test::Fail;
 use std::thread::Threads;
 use test_allocators::{Refusal, Refusing};
-use test_streams::runs::Outcome;
+use test_streams::runs::End;
 
 /// More requests than any of these runs makes.
 const MANY: u64 = 200;
@@ -74,22 +72,60 @@ static RUNS: [Asking<'static>; 8] = [
 
 impl Asking<'_> {
     /// Whether a run may end so: well with its output; or, where a request was refused, well with what tells of the block, if it asks for one, or for want of memory with a beginning of the output.
-    fn may_end(&self, was_refused: bool, outcome: &Outcome) -> bool {
-        let output = outcome.output.as_slice();
-        let faults = outcome.faults.as_slice();
-        match (outcome.status, was_refused, self.told) {
-            (0, false, _) => output == self.output.as_bytes() && faults.is_empty(),
-            (0, true, Some(told)) => output == told.as_bytes() && faults.is_empty(),
+    fn may_end(&self, was_refused: bool, end: End<'_>) -> bool {
+        match (end.status, was_refused, self.told) {
+            (0, false, _) => end == End::right(self.output),
+            (0, true, Some(told)) => end == End::right(told),
             (3, true, _) => {
-                self.output.as_bytes().starts_with(output) && faults == "no memory\n".as_bytes()
+                self.output.as_bytes().starts_with(end.output)
+                    && end.faults == "no memory\n".as_bytes()
             }
             _ => false,
         }
     }
 }
 
+/// What is seen of a run of which a request is refused.
+#[derive(Clone, Copy)]
+struct Refused {
+    requests: u64,
+    /// Whether it ended as it may.
+    right: bool,
+    /// How many allocations stayed.
+    live: u64,
+    well: bool,
+    begun: bool,
+}
+
+/// Runs with the request of this number refused.
+fn refuse<R: Abort + Threads + Wait + Sync + AllocGlobal>(
+    rt: &R,
+    asking: &Asking<'_>,
+    number: u64,
+) -> Refused {
+    let alloc = rt.alloc();
+    let heap = Refusing::new(alloc, Refusal::Nth(number));
+    let mut input = asking.input.as_bytes();
+    let mut output = Vec::new(alloc);
+    let mut faults = Vec::new(alloc);
+    let status = run_over(rt, &heap, asking.line, &mut input, &mut output, &mut faults);
+    let end = End {
+        status,
+        output: output.as_slice(),
+        faults: faults.as_slice(),
+    };
+    let requests = heap.requests();
+    Refused {
+        requests,
+        right: asking.may_end(number <= requests, end),
+        live: heap.live(),
+        well: status == 0,
+        begun: !output.is_empty(),
+    }
+}
+
 /// How many requests a run makes; at how many of them, refused, it ended well; and at how many a part of its output was written before it ended for want of memory.
-#[derive(Clone, Copy, Debug, PartialEq)]
+#[derive(Clone, Copy)]
 struct Tally {
     requests: u64,
     well: u64,
@@ -100,30 +136,27 @@ struct Tally {
 fn refuse_each<R: Abort + Threads + Wait + Sync + AllocGlobal>(
     rt: &R,
     asking: &Asking<'_>,
-) -> Result<Tally, AllocError> {
-    let line = asking.line;
+) -> Tally {
     let mut well = 0u64;
     let mut begun = 0u64;
     for number in 1..MANY {
-        let heap = Refusing::new(rt.alloc(), Refusal::Nth(number));
-        let outcome = run_from(rt, &heap, line, asking.input.as_bytes())?;
-        let was_refused = number <= heap.requests();
-        let right = asking.may_end(was_refused, &outcome);
+        let refused = refuse(rt, asking, number);
         assert_eq!(rt;
-            (right, heap.live()),
+            (refused.right, refused.live),
             (true, 0),
-            "{line:?}, request {number}"
+            "{:?}, request {number}",
+            asking.line
         );
-        if !was_refused {
-            return Ok(Tally {
-                requests: heap.requests(),
+        if refused.requests < number {
+            return Tally {
+                requests: refused.requests,
                 well,
                 begun,
-            });
+            };
         }
-        if outcome.status == 0 {
+        if refused.well {
             well = well.wrapping_add(1);
-        } else if !outcome.output.is_empty() {
+        } else if refused.begun {
             begun = begun.wrapping_add(1);
         }
     }
@@ -132,56 +165,40 @@ fn refuse_each<R: Abort + Threads + Wait + Sync + AllocGlobal>(
 
 /// A run of few lines asks for room for its input, its lines and its work at least, and writes all of its output at its end. It goes on where the request for a block is refused, which is one at most, and ends at every other.
 #[test]
-fn each_request_refused(rt: HostRuntime) -> Result<(), Fail> {
+fn each_request_refused(rt: HostRuntime) {
     for asking in RUNS.iter() {
-        let Tally {
-            requests,
-            well,
-            begun,
-        } = refuse_each(&rt, asking)?;
-        let blocks = if asking.told.is_some() { 1 } else { 0 };
+        let tally = refuse_each(&rt, asking);
+        let blocks = u64::from(asking.told.is_some());
         assert_eq!(rt;
-            (3 <= requests, well, begun),
+            (3 <= tally.requests, tally.well, tally.begun),
             (true, blocks, 0),
             "{:?} on {:?}",
             asking.line,
             asking.input
         );
     }
-    Ok(())
 }
 
-/// So many lines that a part of the output is written before the last requests.
-const LINES: usize = 4000;
+/// A script of so many lines that a part of its output is written before the last requests.
+static LONG_SCRIPT: [Part<'static>; 1] = [Part::Times(4_000, "force 18446744073709551615\n")];
 
-const FORCED: &str = "force 18446744073709551615\n";
-
-const DISPLACED: &str = "displaced 18446744073709551615\n";
+/// Its output.
+static LONG_OUTPUT: [Part<'static>; 3] = [
+    Part::Text("ok\n"),
+    Part::Times(3_999, "displaced 18446744073709551615\n"),
+    Part::Text("left 18446744073709551615\n"),
+];
 
 #[test]
-fn each_request_of_a_long_script_refused(rt: HostRuntime) -> Result<(), Fail> {
-    let input = text_of(rt.alloc(), &[Part::Times(LINES, FORCED)])?;
-    let output = text_of(
-        rt.alloc(),
-        &[
-            Part::Text("ok\n"),
-            Part::Times(LINES - 1, DISPLACED),
-            Part::Text("left 18446744073709551615\n"),
-        ],
-    )?;
-    let Tally {
-        requests: _,
-        well,
-        begun,
-    } = refuse_each(
-        &rt,
-        &Asking {
-            line: "script single",
-            input: input.as_str(),
-            output: output.as_str(),
-            told: None,
-        },
-    )?;
-    assert_eq!(rt; (well, 0 < begun), (0, true));
-    Ok(())
+fn each_request_of_a_long_script_refused(rt: HostRuntime) {
+    let input = text_of(&rt, &LONG_SCRIPT);
+    let output = text_of(&rt, &LONG_OUTPUT);
+    let asking = Asking {
+        line: "script single",
+        input: input.as_str(),
+        output: output.as_str(),
+        told: None,
+    };
+    let tally = refuse_each(&rt, &asking);
+    assert_eq!(rt; (tally.well, 0 < tally.begun), (0, true));
 }

@@ -1,7 +1,5 @@
 //! Rows of replays, run through `command`.
 use crate::rows::{Part, all_unreadable, ends, writes};
-use std::alloc::AllocError;
-use std::test::Fail;
 use test_streams::runs::{End, Row};
 
 static REPLAYS: [Row; 10] = [
@@ -68,17 +66,10 @@ static REPLAYS: [Row; 10] = [
 ];
 
 #[test]
-fn replays_print_what_happened_and_what_is_left(rt: HostRuntime) -> Result<(), Fail> {
+fn replays_print_what_happened_and_what_is_left(rt: HostRuntime) {
     for row in REPLAYS.iter() {
-        ends(
-            &rt,
-            rt.alloc(),
-            row.line,
-            row.input.as_bytes(),
-            End::right(row.output),
-        )?;
+        ends(&rt, row.line, row.input.as_bytes(), End::right(row.output));
     }
-    Ok(())
 }
 
 /// What is printed of a close after each number of steps of a displacement.
@@ -92,31 +83,29 @@ static CLOSES: [&str; 6] = [
 ];
 
 #[test]
-fn a_close_at_each_step_of_a_displacement_is_kept(rt: HostRuntime) -> Result<(), Fail> {
+fn a_close_at_each_step_of_a_displacement_is_kept(rt: HostRuntime) {
     for (steps, later) in CLOSES.iter().enumerate() {
         let input = [
             Part::Text("0 push 1\n0 run\n0 push 2\n0 run\n0 force 3\n"),
-            Part::Times(steps, "0 step\n"),
+            Part::Times(steps as u64, "0 step\n"),
             Part::Text("1 close\n1 run\n0 run\n1 is_closed\n1 run\n"),
         ];
         let output = [
             Part::Text("2 0 append\n2 0 ok\n4 0 append\n4 0 ok\n"),
             Part::Text(later),
         ];
-        writes(&rt, rt.alloc(), "replay bounded:2 2", &input, &output)?;
+        writes(&rt, "replay bounded:2 2", &input, &output);
     }
-    Ok(())
 }
 
 #[test]
-fn a_capacity_past_the_longest_is_want_of_memory(rt: HostRuntime) -> Result<(), AllocError> {
+fn a_capacity_past_the_longest_is_want_of_memory(rt: HostRuntime) {
     ends(
         &rt,
-        rt.alloc(),
         "replay bounded:576460752303423489 1",
         b"0 push 1\n",
         End::fault(3, "no memory\n"),
-    )
+    );
 }
 
 static UNREADABLE: [(&[u8], &str); 18] = [
@@ -141,6 +130,6 @@ static UNREADABLE: [(&[u8], &str); 18] = [
 ];
 
 #[test]
-fn the_first_unreadable_line_is_told(rt: HostRuntime) -> Result<(), AllocError> {
-    all_unreadable(&rt, rt.alloc(), "replay single 2", &UNREADABLE)
+fn the_first_unreadable_line_is_told(rt: HostRuntime) {
+    all_unreadable(&rt, "replay single 2", &UNREADABLE);
 }

@@ -1,133 +1,183 @@
 //! Runs of the program: what they are given, how they are to end, and what they are to write.
 use app_command::command::command;
 use std::alloc::{AllocError, Allocator, Global};
-use std::io::{Read, Write};
+use std::io;
+use std::io::{ErrorKind, Read, Write};
 use std::process::Abort;
 use std::sync::Wait;
 use std::thread::Threads;
-use test_streams::runs::{End, Outcome, words};
+use test_streams::runs::{End, words};
 
 pub const USAGE: &str =
     "usage: queue_run script KIND | replay KIND PARTIES | threads KIND PUSHERS POPPERS ITEMS | handshake | channel KIND SENDERS RECEIVERS ITEMS\n";
 
+/// An input that the program is not to read.
+pub const UNREAD: &[u8] = b"not read\n";
+
+/// What is told of a read that fails so.
+pub static FAILED_READS: [(ErrorKind, &str); 2] = [
+    (ErrorKind::BrokenPipe, "input failed\n"),
+    (ErrorKind::OutOfMemory, "no memory\n"),
+];
+
 /// Asserts that a run ended so. A failure tells at which arguments and input.
-pub fn is(rt: &impl Abort, outcome: &Outcome, line: &str, input: &[u8], end: End<'_>) {
-    assert_eq!(rt; outcome.end(), end, "at {line:?} on {input:?}");
+pub fn is(rt: &impl Abort, found: End<'_>, line: &str, input: &[u8], wanted: End<'_>) {
+    assert_eq!(rt; found, wanted, "at {line:?} on {input:?}");
 }
 
-/// Runs the program on a line of arguments, and gives the status that it ends with.
-pub fn run_over<R: Threads + Wait + Sync + AllocGlobal, I: Read, O: Write, F: Write>(
-    rt: &R,
-    alloc: Global,
-    line: &str,
-    input: &mut I,
-    output: &mut O,
-    faults: &mut F,
-) -> Result<u8, AllocError> {
-    let args = words(alloc, line)?;
-    Ok(command(rt, &alloc, args, input, output, faults).status)
+/// Runs the program on a line of arguments, with the memory of scripts and replays from this heap, and gives the status that it ends with.
+pub fn run_over<
+    R: Abort + Threads + Wait + Sync + AllocGlobal,
+    A: Allocator,
+    I: Read,
+    O: Write,
+    F: Write,
+>(rt: &R, heap: &A, line: &str, input: &mut I, output: &mut O, faults: &mut F) -> u8 {
+    let args = words(rt.alloc(), line).expect(rt, "memory for the arguments");
+    command(rt, heap, args, input, output, faults).status
 }
 
-/// Runs the program on a line of arguments and this input, with the memory of scripts and replays from this heap.
-pub fn run_from<R: Threads + Wait + Sync + AllocGlobal, A: Allocator>(
+/// Asserts that the program ends so on a line of arguments and what this reader gives of this input.
+pub fn ends_on<R: Abort + Threads + Wait + Sync + AllocGlobal, I: Read>(
     rt: &R,
-    heap: &A,
     line: &str,
-    mut input: &[u8],
-) -> Result<Outcome, AllocError> {
+    reader: &mut I,
+    input: &[u8],
+    end: End<'_>,
+) {
     let alloc = rt.alloc();
     let mut output = Vec::new(alloc);
     let mut faults = Vec::new(alloc);
-    let args = words(alloc, line)?;
-    let ended = command(rt, heap, args, &mut input, &mut output, &mut faults);
-    Ok(Outcome {
-        status: ended.status,
-        output,
-        faults,
-    })
-}
-
-/// Runs the program on a line of arguments and this input.
-pub fn run<R: Threads + Wait + Sync + AllocGlobal, I: Read>(
-    rt: &R,
-    alloc: Global,
-    line: &str,
-    input: &mut I,
-) -> Result<Outcome, AllocError> {
-    let mut output = Vec::new(alloc);
-    let mut faults = Vec::new(alloc);
-    let status = run_over(rt, alloc, line, input, &mut output, &mut faults)?;
-    Ok(Outcome {
+    let status = run_over(rt, &alloc, line, reader, &mut output, &mut faults);
+    let found = End {
         status,
-        output,
-        faults,
-    })
+        output: output.as_slice(),
+        faults: faults.as_slice(),
+    };
+    is(rt, found, line, input, end);
 }
 
 /// Asserts that the program ends so on a line of arguments and this input.
 pub fn ends<R: Abort + Threads + Wait + Sync + AllocGlobal>(
     rt: &R,
-    alloc: Global,
     line: &str,
     input: &[u8],
     end: End<'_>,
-) -> Result<(), AllocError> {
+) {
     let mut rest = input;
-    let outcome = run(rt, alloc, line, &mut rest)?;
-    is(rt, &outcome, line, input, end);
-    Ok(())
+    ends_on(rt, line, &mut rest, input, end);
+}
+
+/// How many bytes a writer takes, and what it fails with then.
+#[derive(Clone, Copy)]
+pub struct Room {
+    pub bytes: usize,
+    pub kind: ErrorKind,
+}
+
+/// More room than any of these runs takes.
+pub const AMPLE: Room = Room {
+    bytes: 1_000_000,
+    kind: ErrorKind::StorageFull,
+};
+
+/// Takes what it has room for, a few bytes at a time.
+#[derive(Drop)]
+struct ShortWriter {
+    room: Room,
+    taken: Vec<u8>,
+}
+
+impl ShortWriter {
+    /// Has taken nothing yet.
+    fn new(alloc: Global, room: Room) -> ShortWriter {
+        ShortWriter {
+            room,
+            taken: Vec::new(alloc),
+        }
+    }
+}
+
+impl Write for ShortWriter {
+    fn write(&mut self, buf: &[u8]) -> io::Result<usize> {
+        let count = buf.len().min(self.room.bytes).min(3);
+        if count == 0 {
+            return Err(io::Error::from(self.room.kind));
+        }
+        self.taken.extend_from_slice(&buf[..count])?;
+        self.room.bytes -= count;
+        Ok(count)
+    }
+
+    fn flush(&mut self) -> io::Result<()> {
+        Ok(())
+    }
+}
+
+/// Asserts that the program ends so on a line of arguments and this input, where its output and what is told of a fault have so much room.
+pub fn ends_in<R: Abort + Threads + Wait + Sync + AllocGlobal>(
+    rt: &R,
+    line: &str,
+    input: &[u8],
+    output_room: Room,
+    fault_room: Room,
+    end: End<'_>,
+) {
+    let alloc = rt.alloc();
+    let mut rest = input;
+    let mut output = ShortWriter::new(alloc, output_room);
+    let mut faults = ShortWriter::new(alloc, fault_room);
+    let status = run_over(rt, &alloc, line, &mut rest, &mut output, &mut faults);
+    let found = End {
+        status,
+        output: output.taken.as_slice(),
+        faults: faults.taken.as_slice(),
+    };
+    is(rt, found, line, input, end);
 }
 
 /// Asserts that the program ends well on each of these lines of arguments and this input, and writes what stands beside the line.
 pub fn all_end_well<R: Abort + Threads + Wait + Sync + AllocGlobal>(
     rt: &R,
-    alloc: Global,
     rows: &[(&str, &str)],
     input: &[u8],
-) -> Result<(), AllocError> {
+) {
     for (line, output) in rows {
-        ends(rt, alloc, line, input, End::right(output))?;
+        ends(rt, line, input, End::right(output));
     }
-    Ok(())
 }
 
 /// Asserts that the program ends well on this line of arguments and each of these inputs, and writes what stands beside the input.
 pub fn all_write<R: Abort + Threads + Wait + Sync + AllocGlobal>(
     rt: &R,
-    alloc: Global,
     line: &str,
     rows: &[(&str, &str)],
-) -> Result<(), AllocError> {
+) {
     for (input, output) in rows {
-        ends(rt, alloc, line, input.as_bytes(), End::right(output))?;
+        ends(rt, line, input.as_bytes(), End::right(output));
     }
-    Ok(())
 }
 
 /// Asserts that the program ends on this line of arguments and each of these inputs with status 2, and tells the fault that stands beside the input.
 pub fn all_unreadable<R: Abort + Threads + Wait + Sync + AllocGlobal>(
     rt: &R,
-    alloc: Global,
     line: &str,
     rows: &[(&[u8], &str)],
-) -> Result<(), AllocError> {
+) {
     for (input, fault) in rows {
-        ends(rt, alloc, line, input, End::fault(2, fault))?;
+        ends(rt, line, input, End::fault(2, fault));
     }
-    Ok(())
 }
 
 /// Asserts that the program ends with the usage text on each of these lines of arguments and this input.
 pub fn all_wrong<R: Abort + Threads + Wait + Sync + AllocGlobal>(
     rt: &R,
-    alloc: Global,
     lines: &[&str],
     input: &[u8],
-) -> Result<(), AllocError> {
+) {
     for line in lines {
-        ends(rt, alloc, line, input, End::fault(2, USAGE))?;
+        ends(rt, line, input, End::fault(2, USAGE));
     }
-    Ok(())
 }
 
 /// A part of a text that is written for a replay.
@@ -136,7 +186,7 @@ pub enum Part<'a> {
     /// This text.
     Text(&'a str),
     /// This text, so many times.
-    Times(usize, &'a str),
+    Times(u64, &'a str),
     /// The lines by which party 0 pushes 1, 2 and so on, so many numbers, each in one go.
     Pushes(u64),
     /// What is printed of so many pushes by party 0, of which the first stands in the first line.
@@ -147,81 +197,70 @@ pub enum Part<'a> {
     Items(u64),
 }
 
-fn write_part(text: &mut String, part: &Part<'_>) -> Result<(), AllocError> {
-    match part {
-        Part::Text(words) => text.push_str(words),
-        Part::Times(count, words) => write_times(text, *count, words),
-        Part::Pushes(count) => write_pushes(text, *count),
-        Part::Pushed(count) => write_pushed(text, *count),
-        Part::Popped { party, line, item } => write_popped(text, *party, *line, *item),
-        Part::Items(count) => write_items(text, *count),
+impl Part<'_> {
+    /// How many pieces it has.
+    fn count(&self) -> u64 {
+        match self {
+            Part::Text(_) => 1,
+            Part::Times(count, _)
+            | Part::Pushes(count)
+            | Part::Pushed(count)
+            | Part::Items(count) => *count,
+            Part::Popped { .. } => 62,
+        }
     }
-}
 
-fn write_times(text: &mut String, count: usize, words: &str) -> Result<(), AllocError> {
-    for _ in 0..count {
-        text.push_str(words)?;
+    /// Writes the piece before which there are so many.
+    fn write_piece(&self, text: &mut String, before: u64) -> Result<(), AllocError> {
+        let number = before.wrapping_add(1);
+        let later = before.wrapping_mul(2);
+        match self {
+            Part::Text(words) | Part::Times(_, words) => text.push_str(words),
+            Part::Pushes(_) => write!(text, "0 push {number}\n0 run\n"),
+            Part::Pushed(_) => {
+                let line = later.wrapping_add(2);
+                write!(text, "{line} 0 append\n{line} 0 ok\n")
+            }
+            Part::Popped { party, line, item } => {
+                let line = line.wrapping_add(later);
+                let item = item.wrapping_add(before);
+                write!(text, "{line} {party} take\n{line} {party} item {item}\n")
+            }
+            Part::Items(_) => write!(text, " {number}"),
+        }
     }
-    Ok(())
-}
 
-fn write_pushes(text: &mut String, count: u64) -> Result<(), AllocError> {
-    for before in 0..count {
-        let item = before + 1;
-        write!(text, "0 push {item}\n0 run\n")?;
+    /// Writes its pieces.
+    fn write(&self, text: &mut String) -> Result<(), AllocError> {
+        for before in 0..self.count() {
+            self.write_piece(text, before)?;
+        }
+        Ok(())
     }
-    Ok(())
-}
-
-fn write_pushed(text: &mut String, count: u64) -> Result<(), AllocError> {
-    for before in 0..count {
-        let line = before.wrapping_mul(2).wrapping_add(2);
-        write!(text, "{line} 0 append\n{line} 0 ok\n")?;
-    }
-    Ok(())
-}
-
-fn write_popped(text: &mut String, party: u64, line: u64, item: u64) -> Result<(), AllocError> {
-    for before in 0..62u64 {
-        let line = line.wrapping_add(before * 2);
-        let item = item.wrapping_add(before);
-        write!(text, "{line} {party} take\n{line} {party} item {item}\n")?;
-    }
-    Ok(())
-}
-
-fn write_items(text: &mut String, count: u64) -> Result<(), AllocError> {
-    for before in 0..count {
-        let item = before + 1;
-        write!(text, " {item}")?;
-    }
-    Ok(())
 }
 
 /// The text of these parts, one after another.
-pub fn text_of(alloc: Global, parts: &[Part<'_>]) -> Result<String, AllocError> {
-    let mut text = String::new(alloc);
+pub fn text_of<R: Abort + AllocGlobal>(rt: &R, parts: &[Part<'_>]) -> String {
+    let mut text = String::new(rt.alloc());
     for part in parts {
-        write_part(&mut text, part)?;
+        part.write(&mut text).expect(rt, "memory for the text");
     }
-    Ok(text)
+    text
 }
 
 /// Asserts that the program ends well on a line of arguments and the input of these parts, and writes what these parts say.
 pub fn writes<R: Abort + Threads + Wait + Sync + AllocGlobal>(
     rt: &R,
-    alloc: Global,
     line: &str,
     input: &[Part<'_>],
     output: &[Part<'_>],
-) -> Result<(), AllocError> {
-    let input = text_of(alloc, input)?;
-    let output = text_of(alloc, output)?;
+) {
+    let input = text_of(rt, input);
+    let output = text_of(rt, output);
     ends(
         rt,
-        alloc,
         line,
         input.as_str().as_bytes(),
         End::right(output.as_str()),
-    )
+    );
 }

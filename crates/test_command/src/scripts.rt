@@ -1,12 +1,17 @@
 //! Rows of scripts, run through `command`.
-use crate::rows::{all_unreadable, all_write, all_wrong, ends, is, run, run_over};
-use std::alloc::{AllocError, Global};
+use crate::rows::{
+    AMPLE, FAILED_READS, Part, Room, all_unreadable, all_write, all_wrong, ends, ends_in, ends_on,
+    is, run_over, text_of,
+};
 use std::io;
 use std::io::{ErrorKind, Read, Write};
+use std::process::Abort;
 use std::sync::Wait;
-use std::test::Fail;
 use std::thread::Threads;
-use test_streams::runs::{End, Outcome};
+use test_streams::runs::End;
+
+/// The arguments of a script on a queue of one slot.
+const SINGLE: &str = "script single";
 
 static WRONG: [&str; 22] = [
     "",
@@ -34,8 +39,8 @@ static WRONG: [&str; 22] = [
 ];
 
 #[test]
-fn wrong_arguments_give_the_usage_text(rt: HostRuntime) -> Result<(), AllocError> {
-    all_wrong(&rt, rt.alloc(), &WRONG, b"pop\n")
+fn wrong_arguments_give_the_usage_text(rt: HostRuntime) {
+    all_wrong(&rt, &WRONG, b"pop\n");
 }
 
 static UNREADABLE: [(&[u8], &str); 20] = [
@@ -62,8 +67,8 @@ static UNREADABLE: [(&[u8], &str); 20] = [
 ];
 
 #[test]
-fn the_first_unreadable_line_is_told(rt: HostRuntime) -> Result<(), AllocError> {
-    all_unreadable(&rt, rt.alloc(), "script single", &UNREADABLE)
+fn the_first_unreadable_line_is_told(rt: HostRuntime) {
+    all_unreadable(&rt, SINGLE, &UNREADABLE);
 }
 
 static SCRIPTS: [(&str, &str); 8] = [
@@ -96,33 +101,31 @@ static SCRIPTS: [(&str, &str); 8] = [
 ];
 
 #[test]
-fn scripts_print_the_replies_and_what_is_left(rt: HostRuntime) -> Result<(), AllocError> {
-    all_write(&rt, rt.alloc(), "script single", &SCRIPTS)?;
-    all_write(&rt, rt.alloc(), "script bounded:1", &SCRIPTS)
+fn scripts_print_the_replies_and_what_is_left(rt: HostRuntime) {
+    all_write(&rt, SINGLE, &SCRIPTS);
+    all_write(&rt, "script bounded:1", &SCRIPTS);
 }
 
 #[test]
-fn rings_are_run_by_their_capacity(rt: HostRuntime) -> Result<(), AllocError> {
+fn rings_are_run_by_their_capacity(rt: HostRuntime) {
     ends(
         &rt,
-        rt.alloc(),
         "script bounded:3",
         b"force 1\nforce 2\nforce 3\npush 4\nforce 5\nforce 6\nclose\nforce 7\npop\npop\npop\n",
         End::right(
             "ok\nok\nok\nfull 4\ndisplaced 1\ndisplaced 2\ntrue\nclosed 7\nitem 3\nitem 5\nitem 6\nleft\n",
         ),
-    )
+    );
 }
 
 #[test]
-fn a_capacity_past_the_longest_is_want_of_memory(rt: HostRuntime) -> Result<(), AllocError> {
+fn a_capacity_past_the_longest_is_want_of_memory(rt: HostRuntime) {
     ends(
         &rt,
-        rt.alloc(),
         "script bounded:576460752303423489",
         b"push 1\n",
         End::fault(3, "no memory\n"),
-    )
+    );
 }
 
 /// Gives a few bytes, and fails so then.
@@ -143,65 +146,61 @@ impl Read for BrokenReader {
 
 static STARTS: [&[u8]; 3] = [b"", b"push 1\npop\n", b"unreadable\n"];
 
-/// What is told of a read that fails so.
-static FAILED_READS: [(ErrorKind, &str); 2] = [
-    (ErrorKind::BrokenPipe, "input failed\n"),
-    (ErrorKind::OutOfMemory, "no memory\n"),
-];
-
 #[test]
-fn a_failed_read_prints_nothing(rt: HostRuntime) -> Result<(), Fail> {
+fn a_failed_read_prints_nothing(rt: HostRuntime) {
     for (kind, fault) in FAILED_READS.iter() {
         for start in STARTS.iter() {
             let mut input = BrokenReader {
                 rest: start,
                 kind: *kind,
             };
-            let outcome = run(&rt, rt.alloc(), "script single", &mut input)?;
-            is(&rt, &outcome, "script single", start, End::fault(3, fault));
+            ends_on(&rt, SINGLE, &mut input, start, End::fault(3, fault));
         }
     }
-    Ok(())
 }
 
-/// Keeps what it takes back until it is flushed.
+/// Counts of what it takes only what was flushed.
 #[derive(Drop)]
 struct LateWriter {
-    held: Vec<u8>,
     taken: Vec<u8>,
+    flushed: usize,
+}
+
+impl LateWriter {
+    /// What was flushed.
+    fn flushed(&self) -> &[u8] {
+        &self.taken[..self.flushed.min(self.taken.len())]
+    }
 }
 
 impl Write for LateWriter {
     fn write(&mut self, buf: &[u8]) -> io::Result<usize> {
-        self.held.extend_from_slice(buf)?;
+        self.taken.extend_from_slice(buf)?;
         Ok(buf.len())
     }
 
     fn flush(&mut self) -> io::Result<()> {
-        self.taken.extend_from_slice(self.held.as_slice())?;
-        self.held.clear();
+        self.flushed = self.taken.len();
         Ok(())
     }
 }
 
-/// A run whose output is held back until it is flushed.
-fn run_held<R: Threads + Wait + Sync + AllocGlobal>(
-    rt: &R,
-    alloc: Global,
-    line: &str,
-) -> Result<Outcome, AllocError> {
+/// Asserts that the program ends well on a line of arguments, and flushes this.
+fn flushes<R: Abort + Threads + Wait + Sync + AllocGlobal>(rt: &R, line: &str, flushed: &str) {
+    let alloc = rt.alloc();
     let mut input: &[u8] = b"";
     let mut output = LateWriter {
-        held: Vec::new(alloc),
         taken: Vec::new(alloc),
+        flushed: 0,
     };
     let mut faults = Vec::new(alloc);
-    let status = run_over(rt, alloc, line, &mut input, &mut output, &mut faults)?;
-    Ok(Outcome {
+    let status = run_over(rt, &alloc, line, &mut input, &mut output, &mut faults);
+    let found = End {
         status,
-        output: output.taken,
-        faults,
-    })
+        output: output.flushed(),
+        faults: faults.as_slice(),
+    };
+    is(rt, found, line, b"", End::right(flushed));
 }
 
 static FLUSHED: [(&str, &str); 4] = [
@@ -212,159 +211,93 @@ static FLUSHED: [(&str, &str); 4] = [
 ];
 
 #[test]
-fn all_output_is_flushed(rt: HostRuntime) -> Result<(), Fail> {
+fn all_output_is_flushed(rt: HostRuntime) {
     for (line, output) in FLUSHED.iter() {
-        let outcome = run_held(&rt, rt.alloc(), line)?;
-        is(&rt, &outcome, line, b"", End::right(output));
-    }
-    Ok(())
-}
-
-/// Takes so many bytes, a few at a time, and fails then.
-#[derive(Drop)]
-struct ShortWriter {
-    room: usize,
-    taken: Vec<u8>,
-}
-
-impl Write for ShortWriter {
-    fn write(&mut self, buf: &[u8]) -> io::Result<usize> {
-        let count = buf.len().min(self.room).min(3);
-        if count == 0 {
-            return Err(io::Error::from(ErrorKind::StorageFull));
-        }
-        self.taken.extend_from_slice(&buf[..count])?;
-        self.room -= count;
-        Ok(count)
-    }
-
-    fn flush(&mut self) -> io::Result<()> {
-        Ok(())
+        flushes(&rt, line, output);
     }
 }
 
-/// The arguments of a script on a queue of one slot.
-const SINGLE: &str = "script single";
+/// Room for so many bytes, as on a full disk.
+fn room(bytes: usize) -> Room {
+    Room {
+        bytes,
+        kind: ErrorKind::StorageFull,
+    }
+}
 
-/// A script whose output has so much room.
-fn run_in<R: Threads + Wait + Sync + AllocGlobal>(
+/// Asserts that a script whose output has too little room ends with the beginning that fits.
+fn fills<R: Abort + Threads + Wait + Sync + AllocGlobal>(
     rt: &R,
-    alloc: Global,
-    mut input: &[u8],
-    room: usize,
-) -> Result<Outcome, AllocError> {
-    let mut output = ShortWriter {
-        room,
-        taken: Vec::new(alloc),
+    input: &[u8],
+    output: &[u8],
+    bytes: usize,
+) {
+    let (begun, _) = output.split_at(bytes.min(output.len()));
+    let end = End {
+        status: 3,
+        output: begun,
+        faults: b"output failed\n",
     };
-    let mut faults = Vec::new(alloc);
-    let status = run_over(rt, alloc, SINGLE, &mut input, &mut output, &mut faults)?;
-    Ok(Outcome {
-        status,
-        output: output.taken,
-        faults,
-    })
+    ends_in(rt, SINGLE, input, room(bytes), AMPLE, end);
 }
 
 #[test]
-fn a_failed_write_leaves_a_beginning(rt: HostRuntime) -> Result<(), Fail> {
+fn a_failed_write_leaves_a_beginning(rt: HostRuntime) {
     let input = b"push 1\npush 2\npop\n";
-    let wanted = b"ok\nfull 2\nitem 1\nleft\n";
-    for room in 0..wanted.len() {
-        let end = End {
-            status: 3,
-            output: &wanted[..room],
-            faults: b"output failed\n",
-        };
-        let outcome = run_in(&rt, rt.alloc(), input, room)?;
-        is(&rt, &outcome, SINGLE, input, end);
+    let output = b"ok\nfull 2\nitem 1\nleft\n";
+    for room in 0..output.len() {
+        fills(&rt, input, output, room);
     }
-    Ok(())
 }
 
-/// How often a line stands in a script whose output is longer than two pieces.
-const TIMES: usize = 6_000;
+/// A script whose output is longer than two pieces.
+static LONG_SCRIPT: [Part<'static>; 2] = [
+    Part::Text("push 1\n"),
+    Part::Times(6_000, "push 18446744073709551615\n"),
+];
 
-/// A text of a first line, of another so many times behind it, and of a last one.
-fn repeated(alloc: Global, first: &str, again: &str, last: &str) -> Result<Vec<u8>, AllocError> {
-    let mut text = Vec::from_slice(alloc, first.as_bytes())?;
-    for _ in 0..TIMES {
-        text.extend_from_slice(again.as_bytes())?;
-    }
-    text.extend_from_slice(last.as_bytes())?;
-    Ok(text)
-}
+/// Its output.
+static LONG_OUTPUT: [Part<'static>; 3] = [
+    Part::Text("ok\n"),
+    Part::Times(6_000, "full 18446744073709551615\n"),
+    Part::Text("left 1\n"),
+];
 
 /// The room of an output that fails on either side of a piece's end, or in the last piece.
 static ROOMS: [usize; 6] = [0, 65_535, 65_536, 65_537, 131_072, 150_000];
 
 #[test]
-fn a_failed_write_of_a_later_piece_leaves_a_beginning(rt: HostRuntime) -> Result<(), Fail> {
-    let again = "push 18446744073709551615\n";
-    let input = repeated(rt.alloc(), "push 1\n", again, "")?;
-    let wanted = repeated(
-        rt.alloc(),
-        "ok\n",
-        "full 18446744073709551615\n",
-        "left 1\n",
-    )?;
+fn a_failed_write_of_a_later_piece_leaves_a_beginning(rt: HostRuntime) {
+    let input = text_of(&rt, &LONG_SCRIPT);
+    let output = text_of(&rt, &LONG_OUTPUT);
     for room in ROOMS.iter() {
-        let (begun, _) = wanted.split_at((*room).min(wanted.len()));
-        let end = End {
-            status: 3,
-            output: begun,
-            faults: b"output failed\n",
-        };
-        let outcome = run_in(&rt, rt.alloc(), &input, *room)?;
-        is(&rt, &outcome, SINGLE, &input, end);
+        fills(&rt, input.as_bytes(), output.as_bytes(), *room);
     }
-    Ok(())
 }
 
 #[test]
-fn output_in_pieces_is_whole(rt: HostRuntime) -> Result<(), Fail> {
-    let again = "push 18446744073709551615\n";
-    let input = repeated(rt.alloc(), "push 1\n", again, "")?;
-    let wanted = repeated(
-        rt.alloc(),
-        "ok\n",
-        "full 18446744073709551615\n",
-        "left 1\n",
-    )?;
-    let end = End {
-        status: 0,
-        output: wanted.as_slice(),
-        faults: b"",
-    };
-    let outcome = run_in(&rt, rt.alloc(), &input, wanted.len())?;
-    is(&rt, &outcome, SINGLE, &input, end);
-    Ok(())
-}
-
-/// A script whose faults have so much room.
-fn run_telling_in<R: Threads + Wait + Sync + AllocGlobal>(
-    rt: &R,
-    alloc: Global,
-    mut input: &[u8],
-    room: usize,
-) -> Result<Outcome, AllocError> {
-    let mut output = Vec::new(alloc);
-    let mut faults = ShortWriter {
-        room,
-        taken: Vec::new(alloc),
-    };
-    let status = run_over(rt, alloc, SINGLE, &mut input, &mut output, &mut faults)?;
-    Ok(Outcome {
-        status,
-        output,
-        faults: faults.taken,
-    })
+fn output_in_pieces_is_whole(rt: HostRuntime) {
+    let input = text_of(&rt, &LONG_SCRIPT);
+    let output = text_of(&rt, &LONG_OUTPUT);
+    let end = End::right(output.as_str());
+    ends_in(
+        &rt,
+        SINGLE,
+        input.as_bytes(),
+        room(output.len()),
+        AMPLE,
+        end,
+    );
 }
 
 #[test]
-fn a_fault_that_cannot_be_told_keeps_its_status(rt: HostRuntime) -> Result<(), Fail> {
-    let input = b"pop \n";
-    let outcome = run_telling_in(&rt, rt.alloc(), input, 4)?;
-    is(&rt, &outcome, "script single", input, End::fault(2, "line"));
-    Ok(())
+fn a_fault_that_cannot_be_told_keeps_its_status(rt: HostRuntime) {
+    ends_in(
+        &rt,
+        SINGLE,
+        b"pop \n",
+        AMPLE,
+        room(4),
+        End::fault(2, "line"),
+    );
 }

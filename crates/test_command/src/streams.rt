@@ -1,12 +1,10 @@
 //! Runs whose readers and writers do as little as they may, and fail at any of their calls.
-use crate::rows::{is, run_over};
-use std::alloc::{AllocError, Global};
+use crate::rows::{FAILED_READS, is, run_over};
 use std::io::ErrorKind;
 use std::process::Abort;
 use std::sync::Wait;
-use std::test::Fail;
 use std::thread::Threads;
-use test_streams::runs::{End, Outcome, Row};
+use test_streams::runs::{End, Row};
 use test_streams::streams::{ByteReader, ByteWriter, Failing};
 
 /// Runs that read all of their input and write all of their output.
@@ -43,72 +41,68 @@ static RUNS: [Row; 6] = [
     },
 ];
 
-/// A run whose input comes, and whose output goes, a byte at a time.
-fn run_by_bytes<R: Threads + Wait + Sync + AllocGlobal>(
-    rt: &R,
-    alloc: Global,
-    row: &Row,
-    reads: Failing,
-    writes: Failing,
-) -> Result<Outcome, AllocError> {
-    let mut input = ByteReader::new(row.input.as_bytes(), reads);
-    let mut output = ByteWriter::new(alloc, writes);
-    let mut faults = Vec::new(alloc);
-    let status = run_over(rt, alloc, row.line, &mut input, &mut output, &mut faults)?;
-    Ok(Outcome {
-        status,
-        output: output.into_taken(),
-        faults,
-    })
-}
-
-/// Asserts that each run ends so where its streams fail so.
+/// Asserts that a run ends so whose input comes, and whose output goes, a byte at a time, where these streams fail so.
 fn ends_by_bytes<R: Abort + Threads + Wait + Sync + AllocGlobal>(
     rt: &R,
-    alloc: Global,
     row: &Row,
     reads: Failing,
     writes: Failing,
     end: End<'_>,
-) -> Result<(), AllocError> {
-    let outcome = run_by_bytes(rt, alloc, row, reads, writes)?;
-    is(rt, &outcome, row.line, row.input.as_bytes(), end);
-    Ok(())
+) {
+    let alloc = rt.alloc();
+    let input = row.input.as_bytes();
+    let mut reader = ByteReader::new(input, reads);
+    let mut writer = ByteWriter::new(alloc, writes);
+    let mut faults = Vec::new(alloc);
+    let status = run_over(rt, &alloc, row.line, &mut reader, &mut writer, &mut faults);
+    let output = writer.into_taken();
+    let found = End {
+        status,
+        output: output.as_slice(),
+        faults: faults.as_slice(),
+    };
+    is(rt, found, row.line, input, end);
 }
 
 #[test]
-fn a_byte_at_a_time(rt: HostRuntime) -> Result<(), Fail> {
+fn a_byte_at_a_time(rt: HostRuntime) {
     for row in RUNS.iter() {
         for failing in [Failing::Never, Failing::Interrupted] {
-            let end = End::right(row.output);
-            ends_by_bytes(&rt, rt.alloc(), row, failing, failing, end)?;
+            ends_by_bytes(&rt, row, failing, failing, End::right(row.output));
         }
     }
-    Ok(())
 }
 
-/// What is told of a read that fails so.
-static FAILED_READS: [(ErrorKind, &str); 2] = [
-    (ErrorKind::BrokenPipe, "input failed\n"),
-    (ErrorKind::OutOfMemory, "no memory\n"),
-];
-
 #[test]
-fn each_read_fails(rt: HostRuntime) -> Result<(), Fail> {
+fn each_read_fails(rt: HostRuntime) {
     for row in RUNS.iter() {
         for number in 0..row.input.len() as u64 {
             for (kind, fault) in FAILED_READS.iter() {
                 let failing = Failing::At(number, *kind);
                 let end = End::fault(3, fault);
-                ends_by_bytes(&rt, rt.alloc(), row, failing, Failing::Never, end)?;
+                ends_by_bytes(&rt, row, failing, Failing::Never, end);
             }
         }
     }
-    Ok(())
+}
+
+/// Asserts that a run ends with a failed output, of which it wrote so much, where its writes fail so.
+fn fails_behind<R: Abort + Threads + Wait + Sync + AllocGlobal>(
+    rt: &R,
+    row: &Row,
+    writes: Failing,
+    written: &[u8],
+) {
+    let end = End {
+        status: 3,
+        output: written,
+        faults: b"output failed\n",
+    };
+    ends_by_bytes(rt, row, Failing::Never, writes, end);
 }
 
 #[test]
-fn each_write_fails(rt: HostRuntime) -> Result<(), Fail> {
+fn each_write_fails(rt: HostRuntime) {
     for row in RUNS.iter() {
         let output = row.output.as_bytes();
         for count in 0..output.len() {
@@ -118,16 +112,10 @@ fn each_write_fails(rt: HostRuntime) -> Result<(), Fail> {
                 Failing::At(number, ErrorKind::OutOfMemory),
                 Failing::TakesNothing(number),
             ] {
-                let end = End {
-                    status: 3,
-                    output: &output[..count],
-                    faults: b"output failed\n",
-                };
-                ends_by_bytes(&rt, rt.alloc(), row, Failing::Never, failing, end)?;
+                fails_behind(&rt, row, failing, &output[..count]);
             }
         }
     }
-    Ok(())
 }
 
 /// Runs with threads too.
@@ -155,14 +143,8 @@ static FLUSHED: [Row; 4] = [
 ];
 
 #[test]
-fn a_failed_flush_is_told(rt: HostRuntime) -> Result<(), Fail> {
+fn a_failed_flush_is_told(rt: HostRuntime) {
     for row in FLUSHED.iter() {
-        let end = End {
-            status: 3,
-            output: row.output.as_bytes(),
-            faults: b"output failed\n",
-        };
-        ends_by_bytes(&rt, rt.alloc(), row, Failing::Never, Failing::AtFlush, end)?;
+        fails_behind(&rt, row, Failing::AtFlush, row.output.as_bytes());
     }
-    Ok(())
 }

@@ -1,33 +1,25 @@
 //! Rows of the forms that start threads, run through `command`.
-use crate::rows::{all_end_well, all_wrong, ends, is, run_over};
-use std::alloc::{AllocError, Global};
-use std::io;
-use std::io::Write;
-use std::sync::Wait;
-use std::test::Fail;
-use std::thread::Threads;
-use test_streams::runs::{End, Outcome};
-
-/// An input that the program is not to read.
-const UNREAD: &[u8] = b"not read\n";
+use crate::rows::{AMPLE, Room, UNREAD, all_end_well, all_wrong, ends, ends_in};
+use std::io::ErrorKind;
+use test_streams::runs::End;
 
 /// A program that runs the two sides one after the other, on one thread, prints `alone`: the first waits for an item that the second is yet to send.
 #[test]
-fn both_threads_of_a_handshake_get_an_item(rt: HostRuntime) -> Result<(), AllocError> {
-    ends(&rt, rt.alloc(), "handshake", UNREAD, End::right("both\n"))
+fn both_threads_of_a_handshake_get_an_item(rt: HostRuntime) {
+    ends(&rt, "handshake", UNREAD, End::right("both\n"));
 }
 
 /// On one thread the second push would wait for a pop that is yet to come, and the test would not end.
 #[test]
-fn one_thread_a_side(rt: HostRuntime) -> Result<(), AllocError> {
+fn one_thread_a_side(rt: HostRuntime) {
     let end = End::right("1000 values, each counted 1 times\n");
-    ends(&rt, rt.alloc(), "threads single 1 1 1000", UNREAD, end)
+    ends(&rt, "threads single 1 1 1000", UNREAD, end);
 }
 
 #[test]
-fn four_threads_a_side(rt: HostRuntime) -> Result<(), AllocError> {
+fn four_threads_a_side(rt: HostRuntime) {
     let end = End::right("1000 values, each counted 4 times\n");
-    ends(&rt, rt.alloc(), "threads single 4 4 1000", UNREAD, end)
+    ends(&rt, "threads single 4 4 1000", UNREAD, end);
 }
 
 /// More poppers, more pushers, and no items.
@@ -44,8 +36,8 @@ static UNEQUAL: [(&str, &str); 3] = [
 ];
 
 #[test]
-fn unequal_sides(rt: HostRuntime) -> Result<(), AllocError> {
-    all_end_well(&rt, rt.alloc(), &UNEQUAL, UNREAD)
+fn unequal_sides(rt: HostRuntime) {
+    all_end_well(&rt, &UNEQUAL, UNREAD);
 }
 
 /// Through rings: that of the reference's tests, one for fewer items than it has slots, and one for many more.
@@ -65,8 +57,8 @@ static RINGS: [(&str, &str); 3] = [
 ];
 
 #[test]
-fn through_rings(rt: HostRuntime) -> Result<(), AllocError> {
-    all_end_well(&rt, rt.alloc(), &RINGS, UNREAD)
+fn through_rings(rt: HostRuntime) {
+    all_end_well(&rt, &RINGS, UNREAD);
 }
 
 /// Without a capacity: one item, as many as the reference's tests push, an item past a block of 63, and none.
@@ -90,15 +82,15 @@ static UNBOUNDED: [(&str, &str); 4] = [
 ];
 
 #[test]
-fn through_chains(rt: HostRuntime) -> Result<(), AllocError> {
-    all_end_well(&rt, rt.alloc(), &UNBOUNDED, UNREAD)
+fn through_chains(rt: HostRuntime) {
+    all_end_well(&rt, &UNBOUNDED, UNREAD);
 }
 
 /// No queue has more slots than 2^59.
 #[test]
-fn no_ring_of_too_many_slots(rt: HostRuntime) -> Result<(), AllocError> {
+fn no_ring_of_too_many_slots(rt: HostRuntime) {
     let line = "threads bounded:576460752303423489 1 1 1";
-    ends(&rt, rt.alloc(), line, UNREAD, End::fault(3, "no memory\n"))
+    ends(&rt, line, UNREAD, End::fault(3, "no memory\n"));
 }
 
 static WRONG: [&str; 26] = [
@@ -131,45 +123,20 @@ static WRONG: [&str; 26] = [
 ];
 
 #[test]
-fn wrong_loads_give_the_usage_text(rt: HostRuntime) -> Result<(), AllocError> {
-    all_wrong(&rt, rt.alloc(), &WRONG, UNREAD)
+fn wrong_loads_give_the_usage_text(rt: HostRuntime) {
+    all_wrong(&rt, &WRONG, UNREAD);
 }
 
-/// A writer that takes nothing.
-#[derive(Drop)]
-struct Broken;
-
-impl Write for Broken {
-    fn write(&mut self, _bytes: &[u8]) -> io::Result<usize> {
-        Err(io::Error::from(io::ErrorKind::BrokenPipe))
-    }
-
-    fn flush(&mut self) -> io::Result<()> {
-        Ok(())
-    }
-}
-
-/// A run without an input, whose output takes nothing.
-fn run_broken<R: Threads + Wait + Sync + AllocGlobal>(
-    rt: &R,
-    alloc: Global,
-    line: &str,
-) -> Result<Outcome, AllocError> {
-    let mut input: &[u8] = b"";
-    let mut faults = Vec::new(alloc);
-    let status = run_over(rt, alloc, line, &mut input, &mut Broken, &mut faults)?;
-    Ok(Outcome {
-        status,
-        output: Vec::new(alloc),
-        faults,
-    })
-}
+/// The room of a pipe that nobody reads.
+const BROKEN: Room = Room {
+    bytes: 0,
+    kind: ErrorKind::BrokenPipe,
+};
 
 #[test]
-fn a_failed_write_is_told(rt: HostRuntime) -> Result<(), Fail> {
+fn a_failed_write_is_told(rt: HostRuntime) {
     for line in ["handshake", "threads single 1 1 1", "channel single 1 1 1"] {
-        let outcome = run_broken(&rt, rt.alloc(), line)?;
-        is(&rt, &outcome, line, b"", End::fault(3, "output failed\n"));
+        let end = End::fault(3, "output failed\n");
+        ends_in(&rt, line, b"", BROKEN, AMPLE, end);
     }
-    Ok(())
 }

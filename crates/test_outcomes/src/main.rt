@@ -6,40 +6,61 @@
 mod replays;
 
 use app_explore::command::command;
-use replays::replayed;
+use replays::is_replayed;
 use std::alloc::{AllocError, Global};
 use std::process::ExitCode;
 use std::rt::Files;
 use std::sync::Wait;
 use std::thread::Threads;
 use std::{fs, io};
+use test_streams::runs::words;
 
-/// What the explorer prints of a program, where it ends well.
-fn explored(
+/// Whether the explorer ends well with these arguments on this program. What it prints goes to the output.
+fn explore(
     alloc: Global,
-    words: &[String],
-    program: &[u8],
-) -> Result<Option<Vec<u8>>, AllocError> {
-    let mut input = program;
-    let mut output = Vec::new(alloc);
+    args: &str,
+    program: &str,
+    output: &mut Vec<u8>,
+) -> Result<bool, AllocError> {
+    let words = words(alloc, args)?;
+    let mut input = program.as_bytes();
     let mut faults = Vec::new(alloc);
-    let status = command(&alloc, words, &mut input, &mut output, &mut faults);
-    Ok((status == 0).then_some(output))
+    Ok(command(&alloc, &words, &mut input, output, &mut faults) == 0)
 }
 
-/// The same words with those behind them that ask for the schedule of the outcome of this number.
-fn with_schedule(
+/// Whether the explorer prints this output with these arguments on this program.
+fn prints(alloc: Global, args: &str, program: &str, wanted: &str) -> Result<bool, AllocError> {
+    let mut output = Vec::new(alloc);
+    let ends_well = explore(alloc, args, program, &mut output)?;
+    Ok(ends_well && output.as_slice() == wanted.as_bytes())
+}
+
+/// Whether the explorer finds a schedule of the outcome of this number. It goes to the output.
+fn find_schedule(
     alloc: Global,
-    words: &[String],
+    args: &str,
+    program: &str,
     number: usize,
-) -> Result<Vec<String>, AllocError> {
-    let mut all = Vec::new(alloc);
-    for word in words {
-        all.push(String::from_str(alloc, word.as_str())?)?;
+    output: &mut Vec<u8>,
+) -> Result<bool, AllocError> {
+    let request = format!(in alloc; "{args} schedule {number}")?;
+    explore(alloc, request.as_str(), program, output)
+}
+
+/// Whether the outcome of this number is what its schedule leads to.
+fn is_shown<R: Threads + Wait + Sync + AllocGlobal>(
+    rt: &R,
+    args: &str,
+    program: &str,
+    number: usize,
+    outcome: &str,
+) -> Result<bool, AllocError> {
+    let mut schedule = Vec::new(rt.alloc());
+    if find_schedule(rt.alloc(), args, program, number, &mut schedule)? {
+        is_replayed(rt, args, program, &schedule, outcome)
+    } else {
+        Ok(false)
     }
-    all.push(String::from_str(alloc, "schedule")?)?;
-    all.push(format!(in alloc; "{number}")?)?;
-    Ok(all)
 }
 
 /// The part of an outcome's line that tells what it is.
@@ -54,79 +75,108 @@ fn outcome_in(line: &str) -> &str {
     }
 }
 
-/// How many of the outcomes in a list are what their schedules lead to.
-fn shown<R: Threads + Wait + Sync + AllocGlobal>(
+/// How many outcomes a list has, and how many of them are what their schedules lead to.
+fn count_outcomes<R: Threads + Wait + Sync + AllocGlobal>(
     rt: &R,
-    words: &[String],
-    program: &[u8],
+    args: &str,
+    program: &str,
     list: &str,
-) -> Result<usize, AllocError> {
-    let alloc = rt.alloc();
-    let mut right = 0;
+) -> Result<(usize, usize), AllocError> {
+    let mut all: usize = 0;
+    let mut shown: usize = 0;
     for (index, line) in list.lines().enumerate() {
         if line.starts_with("outcome ") {
-            let words = with_schedule(alloc, words, index.wrapping_add(1))?;
-            if let Some(schedule) = explored(alloc, &words, program)? {
-                if replayed(rt, &words, program, &schedule)?.as_str() == outcome_in(line) {
-                    right = usize::wrapping_add(right, 1);
-                }
+            all = all.wrapping_add(1);
+            if is_shown(rt, args, program, index.wrapping_add(1), outcome_in(line))? {
+                shown = shown.wrapping_add(1);
             }
         }
     }
-    Ok(right)
+    Ok((all, shown))
 }
 
-/// How many outcomes a list has.
-fn outcome_count(list: &str) -> usize {
-    list.lines()
-        .filter(|line| line.starts_with("outcome "))
-        .count()
+/// Whether the explorer prints what it is to print with these arguments on this program, and how many of its outcomes are shown by their schedules.
+fn agrees<R: Threads + Wait + Sync + AllocGlobal>(
+    rt: &R,
+    args: &str,
+    program: &str,
+    wanted: &str,
+) -> Result<(bool, usize), AllocError> {
+    let same = prints(rt.alloc(), args, program, wanted)?;
+    let (all, shown) = count_outcomes(rt, args, program, wanted)?;
+    Ok((same && shown == all, shown))
 }
 
-/// Whether the explorer prints what it is to print on the case of this line, and how many of its outcomes are shown by their schedules.
-fn agrees<R: Threads + Wait + Sync + Files + AllocGlobal>(
+/// The file of a case with this ending.
+fn stored<R: Files + AllocGlobal>(rt: &R, case: &str, ending: &str) -> io::Result<String> {
+    let path = format!(in rt.alloc(); "{case}.{ending}")?;
+    fs::read_to_string(rt, path.as_str())
+}
+
+/// Whether the case of this line agrees, and how many of its outcomes are shown by their schedules.
+fn case_agrees<R: Threads + Wait + Sync + Files + AllocGlobal>(
     rt: &R,
     line: &str,
 ) -> io::Result<(bool, usize)> {
-    let alloc: Global = rt.alloc();
-    let mut words = Vec::new(alloc);
-    for word in line.split_whitespace() {
-        words.push(String::from_str(alloc, word)?)?;
-    }
-    let Some(path) = words.pop() else {
+    let Some((args, case)) = line.rsplit_once(" ") else {
         return Ok((false, 0));
     };
-    let program = fs::read(rt, format!(in alloc; "{path}.in")?.as_str())?;
-    let wanted = fs::read_to_string(rt, format!(in alloc; "{path}.out")?.as_str())?;
-    let Some(output) = explored(alloc, &words, &program)? else {
-        return Ok((false, 0));
-    };
-    let same = output.as_slice() == wanted.as_str().as_bytes();
-    let right = shown(rt, &words, &program, wanted.as_str())?;
-    Ok((same && right == outcome_count(wanted.as_str()), right))
+    let program = stored(rt, case, "in")?;
+    let wanted = stored(rt, case, "out")?;
+    Ok(agrees(rt, args, program.as_str(), wanted.as_str())?)
 }
 
-/// Runs all cases, names those that do not agree, and tells how many do, and how many outcomes were replayed.
-fn run<R: Threads + Wait + Sync + Files + Print + AllocGlobal>(rt: &R) -> io::Result<ExitCode> {
-    let list = fs::read_to_string(rt, "LIST")?;
-    let mut cases = 0u64;
-    let mut agreeing = 0u64;
-    let mut outcomes: usize = 0;
-    for line in list.as_str().lines() {
-        cases = cases.wrapping_add(1);
-        let (agrees, right) = agrees(rt, line)?;
-        outcomes = outcomes.wrapping_add(right);
+/// How many cases there are, how many of them agree, and how many outcomes were replayed.
+#[derive(Clone, Copy)]
+struct Tally {
+    cases: usize,
+    agreeing: usize,
+    outcomes: usize,
+}
+
+/// Runs the cases of these lines, and names those that do not agree.
+fn run_cases<R: Threads + Wait + Sync + Files + Print + AllocGlobal>(
+    rt: &R,
+    list: &str,
+) -> io::Result<Tally> {
+    let mut tally = Tally {
+        cases: 0,
+        agreeing: 0,
+        outcomes: 0,
+    };
+    for line in list.lines() {
+        let (agrees, shown) = case_agrees(rt, line)?;
+        tally.cases = tally.cases.wrapping_add(1);
+        tally.outcomes = tally.outcomes.wrapping_add(shown);
         if agrees {
-            agreeing = agreeing.wrapping_add(1);
+            tally.agreeing = tally.agreeing.wrapping_add(1);
         } else {
             println!(rt; "not as it should be: {line}")?;
         }
     }
+    Ok(tally)
+}
+
+/// Tells how the cases went, and the status to end with.
+fn tell<R: Print>(rt: &R, tally: Tally) -> io::Result<ExitCode> {
+    let Tally {
+        cases,
+        agreeing,
+        outcomes,
+    } = tally;
     println!(rt; "{agreeing} of {cases} programs agree, {outcomes} outcomes replayed")?;
-    if agreeing != cases {
-        return Ok(ExitCode::FAILURE);
+    if agreeing == cases {
+        Ok(ExitCode::SUCCESS)
+    } else {
+        Ok(ExitCode::FAILURE)
     }
-    Ok(ExitCode::SUCCESS)
+}
+
+/// Runs all cases, and tells how they went.
+fn run<R: Threads + Wait + Sync + Files + Print + AllocGlobal>(rt: &R) -> io::Result<ExitCode> {
+    let list = fs::read_to_string(rt, "LIST")?;
+    let tally = run_cases(rt, list.as_str())?;
+    tell(rt, tally)
 }
 
 fn main(rt: HostRuntime) -> io::Result<ExitCode> {

@@ -1,68 +1,91 @@
 //! What a replay of a schedule ends with, told as the explorer tells it.
-use app_command::command::command;
+use app_command::program::program as queue_run;
 use std::alloc::{AllocError, Global};
 use std::str;
 use std::sync::Wait;
 use std::thread::Threads;
+use test_streams::runs::words;
 
-/// What a replay of the schedule ends with: the replies of each party behind the calls that come first, and what is left.
-pub fn replayed<R: Threads + Wait + Sync + AllocGlobal>(
+/// Whether a replay of the schedule ends with this outcome of the program.
+pub fn is_replayed<R: Threads + Wait + Sync + AllocGlobal>(
     rt: &R,
-    words: &[String],
-    program: &[u8],
+    args: &str,
+    program: &str,
     schedule: &[u8],
-) -> Result<String, AllocError> {
-    let alloc = rt.alloc();
-    let text = text_of(program);
-    let parties = text.lines().filter(|line| !is_before(line)).count();
-    let told = replay(rt, words, parties, schedule)?;
-    let mut ends = String::new(alloc);
-    for party in 0..parties {
-        write!(ends, "{party}:")?;
-        write_replies(alloc, text_of(&told), party, lines_before(text), &mut ends)?;
-        ends.push_str(" | ")?;
+    outcome: &str,
+) -> Result<bool, AllocError> {
+    let mut told = Vec::new(rt.alloc());
+    replay(rt, kind_in(args), party_count(program), schedule, &mut told)?;
+    let mut ends = String::new(rt.alloc());
+    write_ends(program, text_of(&told), &mut ends)?;
+    Ok(ends.as_str() == outcome)
+}
+
+// Replays the schedule on a queue of this kind. What is told of it goes to the output.
+fn replay<R: Threads + Wait + Sync + AllocGlobal>(
+    rt: &R,
+    kind: &str,
+    parties: usize,
+    schedule: &[u8],
+    output: &mut Vec<u8>,
+) -> Result<(), AllocError> {
+    let args = replay_args(rt.alloc(), kind, parties)?;
+    let mut input = schedule;
+    let mut faults = Vec::new(rt.alloc());
+    let _code = queue_run(
+        rt,
+        &rt.alloc(),
+        Ok(args.into_iter()),
+        &mut input,
+        output,
+        &mut faults,
+    );
+    Ok(())
+}
+
+// The words that ask for a replay, of which the first is the program's name.
+fn replay_args(alloc: Global, kind: &str, parties: usize) -> Result<Vec<String>, AllocError> {
+    let line = format!(in alloc; "queue_run replay {kind} {parties}")?;
+    words(alloc, line.as_str())
+}
+
+// The kind of queue that the explorer's arguments name.
+fn kind_in(args: &str) -> &str {
+    match args.split_once(" ") {
+        Some((kind, _)) => kind,
+        None => args,
     }
-    for line in text_of(&told).lines() {
+}
+
+// Appends what is told of an end: the replies of each party behind the calls that come first, and what is left.
+fn write_ends(program: &str, told: &str, ends: &mut String) -> Result<(), AllocError> {
+    let before = lines_before(program);
+    for line in program.lines() {
+        if let Some(party) = party_in(line) {
+            ends.push_str(party)?;
+            ends.push_str(":")?;
+            write_replies(told, party, before, ends)?;
+            ends.push_str(" | ")?;
+        }
+    }
+    for line in told.lines() {
         if line.starts_with("left") {
             ends.push_str(line)?;
         }
     }
-    Ok(ends)
-}
-
-// What the program of replays prints of a schedule, on the queue that the explorer's words name.
-fn replay<R: Threads + Wait + Sync + AllocGlobal>(
-    rt: &R,
-    words: &[String],
-    parties: usize,
-    schedule: &[u8],
-) -> Result<Vec<u8>, AllocError> {
-    let alloc = rt.alloc();
-    let mut args = Vec::new(alloc);
-    args.push(String::from_str(alloc, "replay")?)?;
-    if let Some(kind) = words.first() {
-        args.push(String::from_str(alloc, kind.as_str())?)?;
-    }
-    args.push(format!(in alloc; "{parties}")?)?;
-    let mut input = schedule;
-    let mut output = Vec::new(alloc);
-    let mut faults = Vec::new(alloc);
-    let _ended = command(rt, &alloc, args, &mut input, &mut output, &mut faults);
-    Ok(output)
+    Ok(())
 }
 
 // Appends the replies of a party in what is told, each behind a space, with a semicolon between each two. Those that the first lines of the schedule got are left out.
 fn write_replies(
-    alloc: Global,
     told: &str,
-    party: usize,
+    party: &str,
     before: usize,
     ends: &mut String,
 ) -> Result<(), AllocError> {
-    let number = format!(in alloc; "{party}")?;
     let mut is_first = true;
     for line in told.lines() {
-        if let Some(reply) = reply_in(line, number.as_str(), before) {
+        if let Some(reply) = reply_in(line, party, before) {
             ends.push_str(lead(is_first))?;
             ends.push_str(reply)?;
             is_first = false;
@@ -99,18 +122,31 @@ fn is_effect(told: &str) -> bool {
 
 // How many lines of a schedule the calls that come first have: two for each.
 fn lines_before(program: &str) -> usize {
-    let mut calls: usize = 0;
-    for line in program.lines() {
-        if is_before(&line) {
-            calls = line.split("; ").count();
+    match program.split_once("\n") {
+        Some((first, _)) if party_in(first).is_none() => {
+            first.split("; ").count().saturating_mul(2)
         }
+        _ => 0,
     }
-    calls.saturating_mul(2)
 }
 
-// Whether the line has the calls that come first.
-fn is_before(line: &&str) -> bool {
-    line.starts_with("before:")
+// How many parties a program has.
+fn party_count(program: &str) -> usize {
+    let mut count: usize = 0;
+    for line in program.lines() {
+        if party_in(line).is_some() {
+            count = count.wrapping_add(1);
+        }
+    }
+    count
+}
+
+// The party whose calls a line of a program has. It is none where the line has the calls that come first.
+fn party_in(line: &str) -> Option<&str> {
+    match line.split_once(": ") {
+        Some(("before", _)) | None => None,
+        Some((party, _)) => Some(party),
+    }
 }
 
 // A text of these bytes, or none.

@@ -5,7 +5,6 @@ use exclusive_queue::Exclusive;
 use exclusive_queue::errors::{ForcePushError, PopError, PushError};
 use queue_steps::model::{Call, Reply};
 use queue_steps::sizes::LIMIT;
-use std::alloc::AllocError;
 use std::cell::Cell;
 use test_allocators::Refusal;
 
@@ -217,8 +216,8 @@ static STORIES: [Story<'static>; 16] = [
 ];
 
 #[test]
-fn stories_of_chains(rt: HostRuntime) -> Result<(), AllocError> {
-    tell_all(&rt, rt.alloc(), &STORIES)
+fn stories_of_chains(rt: HostRuntime) {
+    tell_all(&rt, rt.alloc(), &STORIES);
 }
 
 /// A queue that is to stand as after some items asks for one block.

@@ -1,8 +1,9 @@
 //! Iterators over queues with one owner, and what is printed of both.
-use crate::rows::open;
+use crate::rows::{open, push_all};
 use exclusive_queue::Exclusive;
-use std::alloc::{AllocError, Global};
+use std::alloc::Global;
 use std::fmt::Debug;
+use std::process::Abort;
 
 /// Takes so many items off, if there are as many, and gives a number whose digits they are.
 fn digits(queue: &mut Exclusive<u64>, count: usize) -> u64 {
@@ -29,12 +30,10 @@ static WALKS: [(Option<usize>, usize, u64, u64); 8] = [
 ];
 
 /// Takes so many items of 1, 2, 3 off, and then the rest. Gives the digits of both, and what is left, whether the queue is closed, and whether it takes one more.
-fn walked(mut queue: Exclusive<u64>, count: usize) -> (u64, u64, usize, bool, bool) {
-    for item in 1..4 {
-        let _ = queue.push(item);
-    }
-    let first = digits(&mut queue, count);
-    let rest = digits(&mut queue, 5);
+fn walked(queue: &mut Exclusive<u64>, count: usize) -> (u64, u64, usize, bool, bool) {
+    push_all(queue, 1, 3);
+    let first = digits(queue, count);
+    let rest = digits(queue, 5);
     (
         first,
         rest,
@@ -46,25 +45,23 @@ fn walked(mut queue: Exclusive<u64>, count: usize) -> (u64, u64, usize, bool, bo
 
 /// What an iterator did not take stays, and the queue is as open as before.
 #[test]
-fn an_iterator_takes_from_the_front(rt: HostRuntime) -> Result<(), AllocError> {
+fn an_iterator_takes_from_the_front(rt: HostRuntime) {
     for (cap, count, taken, left) in WALKS.iter() {
-        let seen = walked(open(rt.alloc(), *cap)?, *count);
+        let seen = walked(&mut open(&rt, rt.alloc(), *cap), *count);
         assert_eq!(rt; seen, (*taken, *left, 0, false, true));
     }
-    Ok(())
 }
 
 /// How many items are asked for, how many come, and how many blocks are held then, of a queue without a capacity that 140 items were pushed into.
 static BLOCKS: [(usize, usize, usize); 4] = [(0, 0, 3), (62, 62, 3), (63, 63, 2), (141, 140, 1)];
 
 #[test]
-fn an_iterator_gives_blocks_back(rt: HostRuntime) -> Result<(), AllocError> {
+fn an_iterator_gives_blocks_back(rt: HostRuntime) {
     for (count, taken, blocks) in BLOCKS.iter() {
-        let mut queue = filled(rt.alloc(), None, 140)?;
+        let mut queue = filled(&rt, rt.alloc(), None, 140);
         let came = queue.try_iter().take(*count).count();
         assert_eq!(rt; (came, queue.blocks()), (*taken, *blocks));
     }
-    Ok(())
 }
 
 /// A capacity, how many items are pushed, whether the queue is closed, and what is printed of it and of an iterator over it.
@@ -121,12 +118,10 @@ static TEXTS: [(Option<usize>, u64, bool, &str, &str); 7] = [
 ];
 
 /// A queue of this capacity, or without one, with so many items.
-fn filled(alloc: Global, cap: Option<usize>, items: u64) -> Result<Exclusive<u64>, AllocError> {
-    let mut queue = open(alloc, cap)?;
-    for item in 0..items {
-        let _ = queue.push(item);
-    }
-    Ok(queue)
+fn filled(rt: &impl Abort, alloc: Global, cap: Option<usize>, items: u64) -> Exclusive<u64> {
+    let mut queue = open(rt, alloc, cap);
+    push_all(&mut queue, 0, items);
+    queue
 }
 
 /// Whether this is printed of a value for debugging.
@@ -144,9 +139,9 @@ fn are_printed(alloc: Global, queue: &mut Exclusive<u64>, text: &str, of_items: 
 }
 
 #[test]
-fn queues_and_iterators_are_printed(rt: HostRuntime) -> Result<(), AllocError> {
+fn queues_and_iterators_are_printed(rt: HostRuntime) {
     for (cap, items, closed, text, of_items) in TEXTS.iter() {
-        let mut queue = filled(rt.alloc(), *cap, *items)?;
+        let mut queue = filled(&rt, rt.alloc(), *cap, *items);
         if *closed {
             queue.close();
         }
@@ -155,5 +150,4 @@ fn queues_and_iterators_are_printed(rt: HostRuntime) -> Result<(), AllocError> {
             "{text}"
         );
     }
-    Ok(())
 }

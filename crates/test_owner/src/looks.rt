@@ -2,7 +2,6 @@
 use crate::rows::{Made, Story, StoryLine, tell};
 use exclusive_queue::errors::PopError;
 use queue_steps::model::{Call, Reply};
-use std::alloc::AllocError;
 use test_allocators::Refusal;
 
 /// A queue, and where its answers differ from those of other kinds.
@@ -68,7 +67,7 @@ fn lines(queue: &Looked) -> [StoryLine; 21] {
 }
 
 #[test]
-fn looks_at_each_kind(rt: HostRuntime) -> Result<(), AllocError> {
+fn looks_at_each_kind(rt: HostRuntime) {
     for queue in &LOOKED {
         let story = Story {
             name: queue.name,
@@ -76,7 +75,6 @@ fn looks_at_each_kind(rt: HostRuntime) -> Result<(), AllocError> {
             made: queue.made,
             lines: &lines(queue),
         };
-        tell(&rt, rt.alloc(), &story)?;
+        tell(&rt, rt.alloc(), &story);
     }
-    Ok(())
 }

@@ -2,7 +2,8 @@
 use crate::rows::{Made, Story, StoryLine, tell_all};
 use exclusive_queue::{Exclusive, ForcePushError, PopError, PushError};
 use queue_steps::model::{Call, Reply};
-use std::alloc::{AllocError, Global};
+use std::alloc::Global;
+use std::process::Abort;
 use std::sync::Arc;
 use test_allocators::Refusal;
 
@@ -49,8 +50,8 @@ static STORIES: [Story<'static>; 3] = [
 ];
 
 #[test]
-fn stories_of_one_slot(rt: HostRuntime) -> Result<(), AllocError> {
-    tell_all(&rt, rt.alloc(), &STORIES)
+fn stories_of_one_slot(rt: HostRuntime) {
+    tell_all(&rt, rt.alloc(), &STORIES);
 }
 
 /// Pushes an item, and drops what is handed back.
@@ -61,20 +62,19 @@ fn push_or_drop(queue: &mut Exclusive<Arc<()>>, item: Arc<()>) {
 }
 
 /// Pushes two items into one slot and drops the queue. Gives how many are there after each.
-fn counts(alloc: Global) -> Result<[usize; 3], AllocError> {
-    let counter = Arc::new(alloc, ())?;
-    let mut queue = Exclusive::bounded(alloc, 1)?;
-    push_or_drop(&mut queue, counter.clone()?);
+fn counts(rt: &impl Abort, alloc: Global) -> [usize; 3] {
+    let counter = Arc::new(alloc, ()).expect(rt, "memory");
+    let mut queue = Exclusive::bounded(alloc, 1).expect(rt, "memory");
+    push_or_drop(&mut queue, counter.clone().expect(rt, "memory"));
     let first = Arc::strong_count(&counter);
-    push_or_drop(&mut queue, counter.clone()?);
+    push_or_drop(&mut queue, counter.clone().expect(rt, "memory"));
     let second = Arc::strong_count(&counter);
     drop(queue);
-    Ok([first, second, Arc::strong_count(&counter)])
+    [first, second, Arc::strong_count(&counter)]
 }
 
 /// What is refused is handed back, and what is left is dropped once with the queue.
 #[test]
-fn what_is_left_is_dropped_once(rt: HostRuntime) -> Result<(), AllocError> {
-    assert_eq!(rt; counts(rt.alloc())?, [2, 2, 1]);
-    Ok(())
+fn what_is_left_is_dropped_once(rt: HostRuntime) {
+    assert_eq!(rt; counts(&rt, rt.alloc()), [2, 2, 1]);
 }

@@ -9,11 +9,12 @@ use queue_steps::model::{Call, Reply};
 use queue_steps::sizes::{LIMIT, MAX_CAPACITY};
 use std::alloc::{AllocError, Global};
 use std::cell::Cell;
+use std::process::Abort;
 use test_allocators::Refusal;
 
 #[test]
-fn first_in_first_out(rt: HostRuntime) -> Result<(), AllocError> {
-    let mut queue: Exclusive<char> = Exclusive::bounded(rt.alloc(), 2)?;
+fn first_in_first_out(rt: HostRuntime) {
+    let mut queue = Exclusive::bounded(rt.alloc(), 2).expect(&rt, "memory");
     let pushed = [queue.push('a'), queue.push('b'), queue.push('c')];
     let popped = [queue.pop(), queue.pop(), queue.pop()];
     assert_eq!(rt;
@@ -23,7 +24,6 @@ fn first_in_first_out(rt: HostRuntime) -> Result<(), AllocError> {
             [Ok('a'), Ok('b'), Err(PopError::Empty)]
         )
     );
-    Ok(())
 }
 
 static STORIES: [Story<'static>; 9] = [
@@ -184,16 +184,15 @@ static STORIES: [Story<'static>; 9] = [
 ];
 
 #[test]
-fn stories_of_rings(rt: HostRuntime) -> Result<(), AllocError> {
-    tell_all(&rt, rt.alloc(), &STORIES)
+fn stories_of_rings(rt: HostRuntime) {
+    tell_all(&rt, rt.alloc(), &STORIES);
 }
 
 #[test]
-fn capacities(rt: HostRuntime) -> Result<(), AllocError> {
+fn capacities(rt: HostRuntime) {
     for cap in 1..10usize {
-        assert_eq!(rt; open(rt.alloc(), Some(cap))?.capacity(), Some(cap));
+        assert_eq!(rt; open(&rt, rt.alloc(), Some(cap)).capacity(), Some(cap));
     }
-    Ok(())
 }
 
 /// What is refused: the request, how the queue is to be made, and how many requests there are then.
@@ -328,9 +327,9 @@ fn the_greatest_capacity_is_asked_for(rt: HostRuntime) {
 }
 
 /// Pushes five items by force into three slots, pops one and drops the queue. Gives how many were dropped after each.
-fn drops_of(alloc: Global) -> Result<[u64; 3], AllocError> {
+fn drops_of(rt: &impl Abort, alloc: Global) -> [u64; 3] {
     let drops = Cell::new(0);
-    let mut queue: Exclusive<Counted> = Exclusive::bounded(alloc, 3)?;
+    let mut queue = Exclusive::bounded(alloc, 3).expect(rt, "memory");
     for _ in 0..5u64 {
         let _ = queue.force_push(Counted::by(&drops));
     }
@@ -338,11 +337,10 @@ fn drops_of(alloc: Global) -> Result<[u64; 3], AllocError> {
     let _ = queue.pop();
     let taken = drops.get();
     drop(queue);
-    Ok([displaced, taken, drops.get()])
+    [displaced, taken, drops.get()]
 }
 
 #[test]
-fn drops_what_is_left(rt: HostRuntime) -> Result<(), AllocError> {
-    assert_eq!(rt; drops_of(rt.alloc())?, [2, 3, 5]);
-    Ok(())
+fn drops_what_is_left(rt: HostRuntime) {
+    assert_eq!(rt; drops_of(&rt, rt.alloc()), [2, 3, 5]);
 }

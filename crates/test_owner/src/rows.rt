@@ -12,13 +12,17 @@ pub(crate) type Heap = Refusing<Global>;
 /// A queue whose requests are counted.
 pub(crate) type Counting<'a> = Exclusive<u64, &'a Heap>;
 
-/// An empty open queue of this capacity, or without one, where there is memory.
-pub(crate) fn open(alloc: Global, cap: Option<usize>) -> Result<Exclusive<u64>, AllocError> {
-    match cap {
+/// An empty open queue of this capacity, or without one. Asserts that there is memory.
+pub(crate) fn open(rt: &impl Abort, alloc: Global, cap: Option<usize>) -> Exclusive<u64> {
+    let opened = match cap {
         Some(0) => Err(AllocError),
         Some(slots) => Exclusive::bounded(alloc, slots),
         None => Ok(Exclusive::unbounded(alloc)),
-    }
+    };
+    let Ok(queue) = opened else {
+        panic!(rt; "no memory");
+    };
+    queue
 }
 
 /// How a queue is made.
@@ -107,7 +111,11 @@ fn answer<A: Allocator>(queue: &mut Exclusive<u64, A>, call: Call<u64>) -> Reply
 }
 
 /// Pushes so many numbers from the first on. Gives whether each was accepted, and the length was right after each.
-fn push_all<A: Allocator>(queue: &mut Exclusive<u64, A>, first: u64, count: u64) -> bool {
+pub(crate) fn push_all<A: Allocator>(
+    queue: &mut Exclusive<u64, A>,
+    first: u64,
+    count: u64,
+) -> bool {
     let mut right = true;
     for before in 0..count {
         let pushed = queue.push(first.wrapping_add(before)).is_ok();
@@ -194,10 +202,12 @@ impl StoryLine {
     }
 }
 
-/// Tells a story. Asserts that each line is right, and that the queue's drop asks for nothing and leaves nothing allocated. A failure names the story, and counts the lines before the wrong one.
-pub(crate) fn tell(rt: &impl Abort, alloc: Global, story: &Story<'_>) -> Result<(), AllocError> {
+/// Tells a story. Asserts that there is memory, that each line is right, and that the queue's drop asks for nothing and leaves nothing allocated. A failure names the story, and counts the lines before the wrong one.
+pub(crate) fn tell(rt: &impl Abort, alloc: Global, story: &Story<'_>) {
     let heap = Heap::new(alloc, story.refusal);
-    let mut queue = story.made.queue(rt, &heap)?;
+    let Ok(mut queue) = story.made.queue(rt, &heap) else {
+        panic!(rt; "{}: no memory", story.name);
+    };
     for (number, line) in story.lines.iter().enumerate() {
         assert!(rt;
             line.is_right(&mut queue, &heap),
@@ -213,19 +223,13 @@ pub(crate) fn tell(rt: &impl Abort, alloc: Global, story: &Story<'_>) -> Result<
         "{}",
         story.name
     );
-    Ok(())
 }
 
 /// Tells each of these stories.
-pub(crate) fn tell_all(
-    rt: &impl Abort,
-    alloc: Global,
-    stories: &[Story<'_>],
-) -> Result<(), AllocError> {
+pub(crate) fn tell_all(rt: &impl Abort, alloc: Global, stories: &[Story<'_>]) {
     for story in stories {
-        tell(rt, alloc, story)?;
+        tell(rt, alloc, story);
     }
-    Ok(())
 }
 
 /// Asserts that none of these queues is made, after so many requests each, and that nothing stays allocated.

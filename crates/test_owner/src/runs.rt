@@ -6,7 +6,6 @@ use queue_steps::errors::PushError;
 use queue_steps::model::{Call, Reply};
 use std::alloc::{AllocError, Allocator, Global};
 use std::cell::Cell;
-use std::test::Fail;
 use test_allocators::Refusal;
 
 /// A run in which queues of capacity 1, of capacity 2 and without one answer each otherwise.
@@ -98,7 +97,7 @@ fn run_gives<S: Store<u64>>(
 type Run = (Option<usize>, &'static [Call<u64>], &'static [Reply<u64>]);
 
 #[test]
-fn one_run_on_each_kind(rt: HostRuntime) -> Result<(), AllocError> {
+fn one_run_on_each_kind(rt: HostRuntime) {
     let runs: [Run; 4] = [
         (Some(1), &CALLS, &OF_ONE_SLOT),
         (Some(2), &CALLS, &OF_TWO_SLOTS),
@@ -106,11 +105,10 @@ fn one_run_on_each_kind(rt: HostRuntime) -> Result<(), AllocError> {
         (Some(2), &EACH_CALL, &TO_EACH_CALL),
     ];
     for (cap, calls, replies) in runs {
-        let mut queue = open(rt.alloc(), cap)?;
+        let mut queue = open(&rt, rt.alloc(), cap);
         let right = run_gives(rt.alloc(), &mut queue, calls, replies);
         assert!(rt; right, "{} calls with {cap:?}", calls.len());
     }
-    Ok(())
 }
 
 /// So many calls, pushes and pops in turn.
@@ -151,11 +149,10 @@ fn run_turns<S: Store<u64>>(
 
 /// There is no bound on the calls of a run but memory.
 #[test]
-fn one_long_run(rt: HostRuntime) -> Result<(), AllocError> {
+fn one_long_run(rt: HostRuntime) {
     let mut queue: Exclusive<u64> = Exclusive::unbounded(rt.alloc());
-    let seen = run_turns(rt.alloc(), &mut queue, 70_000)?;
-    assert_eq!(rt; seen, (35_000, 35_000));
-    Ok(())
+    let seen = run_turns(rt.alloc(), &mut queue, 70_000);
+    assert_eq!(rt; seen, Ok((35_000, 35_000)));
 }
 
 #[test]
@@ -212,12 +209,11 @@ fn without_room(alloc: Global, heap: &Heap) -> Result<(bool, [u64; 2], usize, bo
 
 /// Where there is no room for the replies no call is made, and what the calls carry is dropped once.
 #[test]
-fn no_room_for_the_replies(rt: HostRuntime) -> Result<(), Fail> {
+fn no_room_for_the_replies(rt: HostRuntime) {
     let heap = Heap::new(rt.alloc(), Refusal::Nth(2));
-    let seen = without_room(rt.alloc(), &heap)?;
+    let seen = without_room(rt.alloc(), &heap);
     assert_eq!(rt;
         (seen, heap.requests(), heap.live()),
-        ((true, [2, 3], 1, false), 2, 0)
+        (Ok((true, [2, 3], 1, false)), 2, 0)
     );
-    Ok(())
 }

@@ -1,13 +1,13 @@
 //! Queues without a capacity that parties share: short stories with known replies.
-use crate::rows::{Queue, Row, StoryLine, one_party, two_parties};
+use crate::rows::{Duet, Solo, StoryLine, each_of_one_party, each_of_two_parties};
 use concurrent_queue::{ForcePushError, PopError, PushError};
 use queue_steps::model::{Call, Reply};
-use std::alloc::AllocError;
 
 /// The calls of the only party, what is left, and whether the queue is closed.
-static ONE_PARTY: [(&[Row], &[u64], bool); 4] = [
-    (
-        &[
+static ONE_PARTY: [Solo; 4] = [
+    Solo {
+        cap: None,
+        rows: &[
             (Call::Capacity, Reply::Capacity(None)),
             (Call::IsEmpty, Reply::IsEmpty(true)),
             (Call::IsFull, Reply::IsFull(false)),
@@ -27,11 +27,12 @@ static ONE_PARTY: [(&[Row], &[u64], bool); 4] = [
             (Call::IsClosed, Reply::IsClosed(true)),
             (Call::Close, Reply::Close(false)),
         ],
-        &[],
-        true,
-    ),
-    (
-        &[
+        left: &[],
+        closed: true,
+    },
+    Solo {
+        cap: None,
+        rows: &[
             (Call::ForcePush(10), Reply::ForcePush(Ok(None))),
             (Call::Len, Reply::Len(1)),
             (Call::Push(20), Reply::Push(Ok(()))),
@@ -47,11 +48,12 @@ static ONE_PARTY: [(&[Row], &[u64], bool); 4] = [
             (Call::Pop, Reply::Pop(Ok(20))),
             (Call::Pop, Reply::Pop(Err(PopError::Closed))),
         ],
-        &[],
-        true,
-    ),
-    (
-        &[
+        left: &[],
+        closed: true,
+    },
+    Solo {
+        cap: None,
+        rows: &[
             (Call::Push(1), Reply::Push(Ok(()))),
             (Call::Push(2), Reply::Push(Ok(()))),
             (Call::Push(3), Reply::Push(Ok(()))),
@@ -63,32 +65,30 @@ static ONE_PARTY: [(&[Row], &[u64], bool); 4] = [
             (Call::Pop, Reply::Pop(Ok(4))),
             (Call::Pop, Reply::Pop(Err(PopError::Empty))),
         ],
-        &[],
-        false,
-    ),
-    (
-        &[
+        left: &[],
+        closed: false,
+    },
+    Solo {
+        cap: None,
+        rows: &[
             (Call::Push(1), Reply::Push(Ok(()))),
             (Call::ForcePush(2), Reply::ForcePush(Ok(None))),
         ],
-        &[1, 2],
-        false,
-    ),
+        left: &[1, 2],
+        closed: false,
+    },
 ];
 
 #[test]
-fn stories_of_one_party(rt: HostRuntime) -> Result<(), AllocError> {
-    for (rows, left, closed) in ONE_PARTY.iter() {
-        let (queue, party) = Queue::unbounded(rt.alloc())?;
-        one_party(&rt, queue, party, rows, left, *closed);
-    }
-    Ok(())
+fn stories_of_one_party(rt: HostRuntime) {
+    each_of_one_party(&rt, rt.alloc(), &ONE_PARTY);
 }
 
 /// The lines of a story of two parties, what is left, and whether the queue is closed.
-static TWO_PARTIES: [(&[StoryLine], &[u64], bool); 3] = [
-    (
-        &[
+static TWO_PARTIES: [Duet; 3] = [
+    Duet {
+        cap: None,
+        lines: &[
             StoryLine::First(Call::Push(5), Reply::Push(Ok(()))),
             StoryLine::Meet,
             StoryLine::Second(Call::IsEmpty, Reply::IsEmpty(false)),
@@ -102,11 +102,12 @@ static TWO_PARTIES: [(&[StoryLine], &[u64], bool); 3] = [
             StoryLine::Second(Call::Pop, Reply::Pop(Ok(6))),
             StoryLine::Second(Call::Pop, Reply::Pop(Err(PopError::Closed))),
         ],
-        &[],
-        true,
-    ),
-    (
-        &[
+        left: &[],
+        closed: true,
+    },
+    Duet {
+        cap: None,
+        lines: &[
             StoryLine::Second(Call::Capacity, Reply::Capacity(None)),
             StoryLine::Second(Call::Len, Reply::Len(0)),
             StoryLine::Second(Call::IsEmpty, Reply::IsEmpty(true)),
@@ -126,27 +127,24 @@ static TWO_PARTIES: [(&[StoryLine], &[u64], bool); 3] = [
                 Reply::ForcePush(Err(ForcePushError::Closed(4))),
             ),
         ],
-        &[1, 2],
-        true,
-    ),
-    (
-        &[
+        left: &[1, 2],
+        closed: true,
+    },
+    Duet {
+        cap: None,
+        lines: &[
             StoryLine::First(Call::Push(1), Reply::Push(Ok(()))),
             StoryLine::Second(Call::Push(2), Reply::Push(Ok(()))),
             StoryLine::First(Call::ForcePush(3), Reply::ForcePush(Ok(None))),
             StoryLine::Second(Call::Pop, Reply::Pop(Ok(1))),
             StoryLine::First(Call::Pop, Reply::Pop(Ok(2))),
         ],
-        &[3],
-        false,
-    ),
+        left: &[3],
+        closed: false,
+    },
 ];
 
 #[test]
-fn stories_of_two_parties(rt: HostRuntime) -> Result<(), AllocError> {
-    for (lines, left, closed) in TWO_PARTIES.iter() {
-        let (queue, party) = Queue::unbounded(rt.alloc())?;
-        two_parties(&rt, queue, party, lines, left, *closed);
-    }
-    Ok(())
+fn stories_of_two_parties(rt: HostRuntime) {
+    each_of_two_parties(&rt, rt.alloc(), &TWO_PARTIES);
 }

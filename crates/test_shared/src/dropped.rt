@@ -3,14 +3,14 @@ ghost use Rattle.std.specs.Prelude.{◌≡◌, ◌<◌};
 ghost use Rattle.concurrent_queue.specs.Shared.{IsPartyOf};
 
 use crate::blocks::Heap;
-use crate::drops::Counted;
+use crate::drops::{Counted, no_drops};
 use crate::left::End;
 use crate::opening::{end, part};
 use concurrent_queue::{ConcurrentQueue, Party};
+use std::alloc::Global;
 use std::process::Abort;
 use std::sync::atomic::{AtomicU64, Ordering};
 use std::sync::{Arc, Wait};
-use std::test::Fail;
 use test_allocators::Refusal;
 
 /// A shared queue of items that count their drops, and whose requests are counted.
@@ -125,32 +125,36 @@ static USES: [(u64, u64); 6] = [
     (63, 125),
 ];
 
+/// Uses a queue and drops it, where the request of this number is refused. Asserts that each item is dropped once and nothing stays allocated.
+fn nothing_is_left<R: Wait + Abort>(rt: &R, alloc: Global, used: Use, refused: u64) {
+    let heap = Heap::new(alloc, Refusal::Nth(refused));
+    let drops = no_drops(rt, alloc);
+    let items = use_and_drop(rt, &heap, &drops, used);
+    let wanted = if refused == 1 {
+        0
+    } else {
+        used.each.wrapping_mul(2)
+    };
+    assert_eq!(rt;
+        [items, drops.load(Ordering::SeqCst), heap.live()],
+        [wanted, wanted, 0],
+        "{used:?}, request {refused} refused"
+    );
+}
+
 /// With none and each of the requests refused, which are one of the constructor and up to four of the pushes. Each item is dropped once and nothing stays allocated.
 #[test]
-fn nothing_is_left_of_a_dropped_queue(rt: HostRuntime) -> Result<(), Fail> {
+fn nothing_is_left_of_a_dropped_queue(rt: HostRuntime) {
     for how in [End::Joined, End::Kept, End::Dropped] {
         for (each, popped) in USES.iter() {
+            let used = Use {
+                each: *each,
+                popped: *popped,
+                how,
+            };
             for refused in 0..8u64 {
-                let used = Use {
-                    each: *each,
-                    popped: *popped,
-                    how,
-                };
-                let heap = Heap::new(rt.alloc(), Refusal::Nth(refused));
-                let drops = Arc::new(rt.alloc(), AtomicU64::new(0))?;
-                let items = use_and_drop(&rt, &heap, &drops, used);
-                let wanted = if refused == 1 {
-                    0
-                } else {
-                    each.wrapping_mul(2)
-                };
-                assert_eq!(rt;
-                    [items, drops.load(Ordering::SeqCst), heap.live()],
-                    [wanted, wanted, 0],
-                    "{used:?}, request {refused} refused"
-                );
+                nothing_is_left(&rt, rt.alloc(), used, refused);
             }
         }
     }
-    Ok(())
 }

@@ -1,14 +1,15 @@
 //! Every accepted item is dropped once.
-ghost use Rattle.std.specs.Prelude.{◌≡◌, ◌<◌, IfSome};
+ghost use Rattle.std.specs.Prelude.{◌≡◌, ◌<◌};
 ghost use Rattle.concurrent_queue.specs.Shared.{IsPartyOf};
 
 use crate::opening::{open_surely, part};
+use crate::threads::{pop_one, push_one};
 use concurrent_queue::{ConcurrentQueue, Party};
 use std::alloc::{AllocError, Global};
 use std::process::Abort;
 use std::sync::atomic::{AtomicU64, Ordering};
 use std::sync::{Arc, Wait};
-use std::thread::{Threads, join, yield_now};
+use std::thread::{Threads, join};
 
 /// An item that counts its drop.
 pub(crate) struct Counted {
@@ -31,25 +32,15 @@ impl Drop for Counted {
     }
 }
 
-type Queue = ConcurrentQueue<Counted>;
-
-/// Pushes an item, and tries again while the queue is full.
-fn push_one<R: Wait>(rt: &R, queue: &Queue, party: &mut Party<Counted>, item: Counted)
-    requires { IsPartyOf party.old queue.now }
-    ensures { IsPartyOf party.new queue.now }
-{
-    let mut next = item;
-    for _ in rt.forever() {
-        match queue.push(rt, party, next) {
-            Ok(()) => return,
-            Err(error) => {
-                next = error.into_inner();
-                yield_now();
-            }
-        }
+/// A count of drops, of which there were none. Asserts that there is memory.
+pub(crate) fn no_drops(rt: &impl Abort, alloc: Global) -> Arc<AtomicU64> {
+    match Arc::new(alloc, AtomicU64::new(0)) {
+        Ok(drops) => drops,
+        Err(_) => panic!(rt; "no memory"),
     }
-    unreachable!()
 }
+
+type Queue = ConcurrentQueue<Counted>;
 
 /// Pushes so many items.
 fn push_all<R: Wait>(
@@ -75,20 +66,10 @@ fn pop_all<R: Wait>(rt: &R, queue: &Queue, mut party: Party<Counted>, count: u64
     requires { IsPartyOf party queue.now }
     ensures { IsPartyOf result queue.now }
 {
-    let mut got = 0;
-    for _ in rt.forever() {
-        if got >= count {
-            return party;
-        }
-        match queue.pop(rt, &mut party) {
-            Ok(item) => {
-                drop(item);
-                got += 1;
-            }
-            Err(_) => yield_now(),
-        }
+    for _ in 0..count {
+        drop(pop_one(rt, queue, &mut party));
     }
-    unreachable!()
+    party
 }
 
 /// Pops and drops so many items while another thread pushes them and as many more as are left in a queue of this capacity, or without one, and drops the queue.
@@ -99,11 +80,9 @@ fn each_dropped_once<R: Wait + Threads + Sync + Abort>(
     popped: u64,
     left: u64,
 )
-    requires { IfSome cap (λ slots. 0 < slots) × (popped < 100000) × (left < 100000) }
+    requires { (popped < 100000) × (left < 100000) }
 {
-    let Ok(drops) = Arc::new(alloc, AtomicU64::new(0)) else {
-        panic!(rt; "no memory");
-    };
+    let drops = no_drops(rt, alloc);
     let (queue, party) = open_surely(rt, alloc, cap);
     let (a, b) = part(rt, &queue, party);
     let (a, b) = join(

@@ -1,14 +1,16 @@
 //! What threads leave in a queue, and a sharing that does not end while a party is missing.
-ghost use Rattle.std.specs.Prelude.{◌<◌, IfSome};
+ghost use Rattle.std.specs.Prelude.{◌<◌};
 ghost use Rattle.concurrent_queue.specs.Shared.{IsPartyOf};
 
-use crate::opening::open;
+use crate::opening::{open_surely, part};
 use concurrent_queue::{ConcurrentQueue, Exclusive, Party};
-use mem_blocks::null_testable::NullTestable;
-use std::alloc::{AllocError, Allocator, Global};
+use std::alloc::{Allocator, Global};
 use std::ops::Range;
+use std::process::Abort;
 use std::sync::Wait;
 use std::thread::{Threads, join};
+
+type Queue = ConcurrentQueue<u64>;
 
 /// How many items each of two threads pushes.
 const EACH: u64 = 100;
@@ -22,9 +24,9 @@ pub(crate) enum End {
 }
 
 /// Pushes a thread's items. Gives whether each was accepted.
-pub(crate) fn push_all<A: NullTestable, R: Wait>(
+fn push_all<R: Wait>(
     rt: &R,
-    queue: &ConcurrentQueue<u64, A>,
+    queue: &Queue,
     mut party: Party<u64>,
     items: Range<u64>,
 ) -> (Party<u64>, bool)
@@ -62,48 +64,57 @@ struct Seen {
     left: Option<[u64; 4]>,
 }
 
-/// Lets two threads push into a queue of this capacity, or without one.
-fn left_by_two<R: Wait + Threads + Sync>(
-    rt: &R,
-    alloc: Global,
-    cap: Option<usize>,
-    end: End,
-) -> Result<Option<Seen>, AllocError>
-    requires { IfSome cap (λ slots. 0 < slots) }
+/// What is seen of a queue whose sharing may end with this party.
+fn seen_by<R: Wait>(rt: &R, queue: Queue, mut party: Party<u64>, accepted: bool) -> Seen
+    requires { IsPartyOf party queue }
 {
-    let (queue, party) = open(alloc, cap)?;
-    let Ok((a, b)) = queue.split(party) else {
-        return Ok(None);
-    };
-    let ((a, right), (b, right_too)) = join(
-        rt,
-        || push_all(rt, &queue, a, 0..EACH),
-        || push_all(rt, &queue, b, EACH..2 * EACH),
-    );
-    let (mut party, kept) = match end {
-        End::Joined => (queue.join(a, b), None),
-        End::Kept => (a, Some(b)),
-        End::Dropped => {
-            drop(b);
-            (a, None)
-        }
-    };
     let len = queue.len(rt, &mut party);
     let left = match queue.finish(party) {
         Ok(alone) => Some(in_order(alone, EACH)),
         Err(_) => None,
     };
-    drop(kept);
-    Ok(Some(Seen {
-        accepted: right && right_too,
+    Seen {
+        accepted,
         len,
         left,
-    }))
+    }
+}
+
+/// Lets two threads push into a queue of this capacity, or without one.
+fn left_by_two<R: Wait + Threads + Sync + Abort>(
+    rt: &R,
+    alloc: Global,
+    cap: Option<usize>,
+    end: End,
+) -> Seen {
+    let (queue, party) = open_surely(rt, alloc, cap);
+    let (a, b) = part(rt, &queue, party);
+    let ((a, right), (b, right_too)) = join(
+        rt,
+        || push_all(rt, &queue, a, 0..EACH),
+        || push_all(rt, &queue, b, EACH..2 * EACH),
+    );
+    let accepted = right && right_too;
+    match end {
+        End::Joined => {
+            let whole = queue.join(a, b);
+            seen_by(rt, queue, whole, accepted)
+        }
+        End::Kept => {
+            let seen = seen_by(rt, queue, a, accepted);
+            drop(b);
+            seen
+        }
+        End::Dropped => {
+            drop(b);
+            seen_by(rt, queue, a, accepted)
+        }
+    }
 }
 
 /// All that they pushed is counted, and is there in its order once both parties are one. With one kept or dropped the sharing does not end.
 #[test]
-fn two_threads_leave_what_they_pushed(rt: HostRuntime) -> Result<(), AllocError> {
+fn two_threads_leave_what_they_pushed(rt: HostRuntime) {
     let ends = [
         (End::Joined, Some([EACH, EACH, 0, 0])),
         (End::Kept, None),
@@ -111,14 +122,13 @@ fn two_threads_leave_what_they_pushed(rt: HostRuntime) -> Result<(), AllocError>
     ];
     for (end, left) in ends {
         for cap in [Some(400), None] {
-            let found = left_by_two(&rt, rt.alloc(), cap, end)?;
             let wanted = Seen {
                 accepted: true,
                 len: 2 * EACH as usize,
                 left,
             };
-            assert_eq!(rt; found, Some(wanted), "{end:?}, with {cap:?}");
+            let found = left_by_two(&rt, rt.alloc(), cap, end);
+            assert_eq!(rt; found, wanted, "{end:?}, with {cap:?}");
         }
     }
-    Ok(())
 }

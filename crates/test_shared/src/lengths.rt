@@ -1,10 +1,11 @@
 //! The length of a queue, after each call of its only party and while two threads work on it.
 ghost use Rattle.concurrent_queue.specs.Shared.{IsPartyOf};
 
-use crate::opening::open;
-use crate::threads::{Role, works};
+use crate::opening::open_surely;
+use crate::threads::{Role, Task, works};
 use concurrent_queue::{ConcurrentQueue, Party};
-use std::alloc::AllocError;
+use std::alloc::Global;
+use std::process::Abort;
 use std::sync::Wait;
 
 type Queue = ConcurrentQueue<u64>;
@@ -50,19 +51,26 @@ fn swings<R: Wait>(rt: &R, queue: &Queue, party: &mut Party<u64>, items: u64, ti
     right
 }
 
+/// Pushes and pops a few items often, and many once. Asserts that the length was right after each call.
+fn is_right_after_each_call<R: Wait + Abort>(rt: &R, alloc: Global, cap: Option<usize>) {
+    let (queue, mut party) = open_surely(rt, alloc, cap);
+    let few = swings(rt, &queue, &mut party, 100, 50);
+    let all = swings(rt, &queue, &mut party, 1000, 1);
+    assert!(rt; few && all, "with {cap:?}");
+}
+
 #[test]
-fn length_after_each_call(rt: HostRuntime) -> Result<(), AllocError> {
+fn length_after_each_call(rt: HostRuntime) {
     for cap in [Some(1000), None] {
-        let (queue, mut party) = open(rt.alloc(), cap)?;
-        let few = swings(&rt, &queue, &mut party, 100, 50);
-        let all = swings(&rt, &queue, &mut party, 1000, 1);
-        assert!(rt; few && all, "with {cap:?}");
+        is_right_after_each_call(&rt, rt.alloc(), cap);
     }
-    Ok(())
 }
 
 #[test]
 fn no_length_above_the_capacity(rt: HostRuntime) {
-    let roles = (Role::PushWithin(1000), Role::PopInOrderWithin(1000));
-    works(&rt, rt.alloc(), Some(1000), 2, 1, roles, 0);
+    let tasks = [
+        Task::turns(Role::PushWithin(1000)),
+        Task::turns(Role::PopInOrderWithin(1000)),
+    ];
+    works(&rt, rt.alloc(), &[Some(1000)], &tasks, 1, 0);
 }

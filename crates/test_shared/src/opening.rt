@@ -1,5 +1,5 @@
 //! Queues of every kind, as the tests open them, part their parties, and end their sharing.
-ghost use Rattle.std.specs.Prelude.{◌≡◌, ◌<◌, IfOk, IfSome};
+ghost use Rattle.std.specs.Prelude.{◌≡◌, IfOk};
 ghost use Rattle.queue_steps.specs.Shares.{entire};
 ghost use Rattle.concurrent_queue.specs.Shared.{IsPartyOf};
 
@@ -11,12 +11,16 @@ use std::process::Abort;
 /// A queue and its only party, where there was memory.
 pub(crate) type Opened<T, A> = Result<(ConcurrentQueue<T, A>, Party<T>), AllocError>;
 
-/// An empty open queue of this capacity, or without one, and its only party.
-pub(crate) fn open<T: Drop, A: NullTestable + Clone>(alloc: A, cap: Option<usize>) -> Opened<T, A>
-    requires { IfSome cap (λ slots. 0 < slots) }
+/// An empty open queue of this capacity, or without one, and its only party. Asserts that the capacity is not 0.
+pub(crate) fn open<T: Drop, A: NullTestable + Clone>(
+    rt: &impl Abort,
+    alloc: A,
+    cap: Option<usize>,
+) -> Opened<T, A>
     ensures { IfOk result (λ r. IsPartyOf r.1 r.0 × (r.1.view.share ≡ entire)) }
 {
     match cap {
+        Some(0) => panic!(rt; "a capacity of 0"),
         Some(slots) => ConcurrentQueue::bounded(alloc, slots),
         None => ConcurrentQueue::unbounded(alloc),
     }
@@ -28,13 +32,12 @@ pub(crate) fn open_surely<T: Drop, A: NullTestable + Clone>(
     alloc: A,
     cap: Option<usize>,
 ) -> (ConcurrentQueue<T, A>, Party<T>)
-    requires { IfSome cap (λ slots. 0 < slots) }
     ensures { IsPartyOf result.1 result.0 × (result.1.view.share ≡ entire) }
 {
-    let Ok(both) = open(alloc, cap) else {
-        panic!(rt; "no memory");
-    };
-    both
+    match open(rt, alloc, cap) {
+        Ok(both) => both,
+        Err(_) => panic!(rt; "no memory"),
+    }
 }
 
 /// Two parties, of one that is parted. Asserts that it is.
@@ -46,10 +49,10 @@ pub(crate) fn part<T: Drop, A: Allocator>(
     requires { IsPartyOf party queue.now }
     ensures { IsPartyOf result.0 queue.now × IsPartyOf result.1 queue.now }
 {
-    let Ok(parties) = queue.split(party) else {
-        panic!(rt; "no second party");
-    };
-    parties
+    match queue.split(party) {
+        Ok(parties) => parties,
+        Err(_) => panic!(rt; "no second party"),
+    }
 }
 
 /// Ends the sharing. Asserts that it ends.
@@ -60,10 +63,10 @@ pub(crate) fn end<T: Drop, A: Allocator>(
 ) -> Exclusive<T, A>
     requires { IsPartyOf party queue }
 {
-    let Ok(alone) = queue.finish(party) else {
-        panic!(rt; "not finished");
-    };
-    alone
+    match queue.finish(party) {
+        Ok(alone) => alone,
+        Err(_) => panic!(rt; "not finished"),
+    }
 }
 
 /// Asserts that the sharing does not end with this party alone.
@@ -75,8 +78,8 @@ pub(crate) fn stay_shared<T: Drop, A: Allocator>(
     requires { IsPartyOf party queue }
     ensures { (result.0 ≡ queue) × IsPartyOf result.1 queue }
 {
-    let Err(both) = queue.finish(party) else {
-        panic!(rt; "finished with a party missing");
-    };
-    both
+    match queue.finish(party) {
+        Err(both) => both,
+        Ok(_) => panic!(rt; "finished with a party missing"),
+    }
 }

@@ -1,19 +1,12 @@
 //! Requests of the constructor that are refused, and calls that make none.
-ghost use Rattle.std.specs.Prelude.{◌<◌, IfSome};
-
-use crate::opening::{Opened, open};
-use crate::rows::{StoryLine, is_left, tell};
-use concurrent_queue::{ConcurrentQueue, PopError};
+use crate::opening::{Opened, open, open_surely};
+use crate::rows::{Duet, StoryLine, is_left, tell};
 use queue_steps::model::{Call, Reply};
 use queue_steps::sizes::MAX_CAPACITY;
-use std::alloc::{AllocError, Global};
+use std::alloc::Global;
 use std::process::Abort;
 use std::sync::Wait;
-use std::test::Fail;
 use test_allocators::{Refusal, Refusing};
-
-/// A shared queue whose memory comes from an allocator that counts and refuses.
-type Queue<'a> = ConcurrentQueue<u64, &'a Refusing<Global>>;
 
 /// What the constructor answers.
 type Made<'a, T> = Opened<T, &'a Refusing<Global>>;
@@ -31,11 +24,9 @@ struct Seen {
 
 impl Seen {
     /// What is seen of the constructor of a queue of this capacity, or without one, in memory of which requests are refused.
-    fn of<T: Drop>(alloc: Global, refusal: Refusal, cap: Option<usize>) -> Seen
-        requires { IfSome cap (λ slots. 0 < slots) }
-    {
+    fn of<T: Drop>(rt: &impl Abort, alloc: Global, refusal: Refusal, cap: Option<usize>) -> Seen {
         let heap = Refusing::new(alloc, refusal);
-        let queue: Made<T> = open(&heap, cap);
+        let queue: Made<T> = open(rt, &heap, cap);
         let made = queue.is_ok();
         let live = heap.live();
         drop(queue);
@@ -57,10 +48,8 @@ impl Seen {
 }
 
 /// Refuses each request for a queue of this capacity, or without one, in turn: want of memory, no request after it, and nothing stays allocated. With ample memory so many blocks stay.
-fn each_refused(rt: &impl Abort, alloc: Global, cap: Option<usize>, blocks: u64)
-    requires { IfSome cap (λ slots. 0 < slots) }
-{
-    let ample = Seen::of::<u64>(alloc, Refusal::Never, cap);
+fn each_refused(rt: &impl Abort, alloc: Global, cap: Option<usize>, blocks: u64) {
+    let ample = Seen::of::<u64>(rt, alloc, Refusal::Never, cap);
     let wanted = Seen {
         made: true,
         requests: ample.requests.max(blocks),
@@ -68,7 +57,7 @@ fn each_refused(rt: &impl Abort, alloc: Global, cap: Option<usize>, blocks: u64)
     };
     assert_eq!(rt; ample, wanted);
     for number in 1..=ample.requests {
-        let seen = Seen::of::<u64>(alloc, Refusal::Nth(number), cap);
+        let seen = Seen::of::<u64>(rt, alloc, Refusal::Nth(number), cap);
         assert_eq!(rt; seen, Seen::want_of_memory(number));
     }
 }
@@ -85,7 +74,7 @@ fn each_request_refused(rt: HostRuntime) {
 #[test]
 fn too_many_slots_refused(rt: HostRuntime) {
     for cap in [MAX_CAPACITY, MAX_CAPACITY + 1] {
-        let seen = Seen::of::<u64>(rt.alloc(), Refusal::Never, Some(cap));
+        let seen = Seen::of::<u64>(&rt, rt.alloc(), Refusal::Never, Some(cap));
         assert_eq!(rt; seen, Seen::want_of_memory(0), "at {cap}");
     }
 }
@@ -99,22 +88,14 @@ fn the_greatest_capacity_is_asked_for(rt: HostRuntime) {
         (MAX_CAPACITY, 1),
         (MAX_CAPACITY + 1, 0),
     ] {
-        let seen = Seen::of::<u8>(rt.alloc(), Refusal::Always, Some(cap));
+        let seen = Seen::of::<u8>(&rt, rt.alloc(), Refusal::Always, Some(cap));
         assert_eq!(rt; seen, Seen::want_of_memory(requests), "at {cap}");
     }
 }
 
-/// The calls of two parties on a queue, which one of them closes.
-struct Story {
-    cap: usize,
-    lines: &'static [StoryLine],
-    left: &'static [u64],
-    /// How many blocks it has once it is no longer shared.
-    blocks: u64,
-}
-
-static SLOT: Story = Story {
-    cap: 1,
+/// A story of a slot.
+static SLOT: Duet = Duet {
+    cap: Some(1),
     lines: &[
         StoryLine::First(Call::Push(1), Reply::Push(Ok(()))),
         StoryLine::Second(Call::ForcePush(2), Reply::ForcePush(Ok(Some(1)))),
@@ -123,11 +104,12 @@ static SLOT: Story = Story {
         StoryLine::Second(Call::Close, Reply::Close(true)),
     ],
     left: &[3],
-    blocks: 0,
+    closed: true,
 };
 
-static RING: Story = Story {
-    cap: 2,
+/// A story of a ring.
+static RING: Duet = Duet {
+    cap: Some(2),
     lines: &[
         StoryLine::First(Call::Push(1), Reply::Push(Ok(()))),
         StoryLine::Second(Call::Push(2), Reply::Push(Ok(()))),
@@ -137,37 +119,29 @@ static RING: Story = Story {
         StoryLine::Second(Call::Close, Reply::Close(true)),
     ],
     left: &[3, 4],
-    blocks: 2,
+    closed: true,
 };
 
 /// Asserts that the calls ask for no memory, and neither does the end of the sharing, after which so many blocks stay until the queue is dropped.
-fn asks_no_more<R: Wait + Abort>(rt: &R, alloc: Global, story: &Story) -> Result<(), AllocError>
-    requires { 0 < story.now.cap }
-{
+fn asks_no_more<R: Wait + Abort>(rt: &R, alloc: Global, story: &Duet<'_>, blocks: u64) {
     let heap = Refusing::new(alloc, Refusal::Never);
-    let (queue, party) = Queue::bounded(&heap, story.cap)?;
+    let (queue, party) = open_surely(rt, &heap, story.cap);
     let requests = heap.requests();
     let mut alone = tell(rt, queue, party, story.lines);
-    is_left(rt, &mut alone, story.left, true);
+    is_left(rt, &mut alone, story.left, story.closed);
     let live = heap.live();
     drop(alone);
-    assert_eq!(rt;
-        (heap.requests(), live, heap.live()),
-        (requests, story.blocks, 0)
-    );
-    Ok(())
+    assert_eq!(rt; [heap.requests(), live, heap.live()], [requests, blocks, 0]);
 }
 
 /// The calls ask for no memory, and neither does the end of the sharing, which gives all back.
 #[test]
-fn no_request_after_the_constructor(rt: HostRuntime) -> Result<(), Fail> {
-    asks_no_more(&rt, rt.alloc(), &SLOT)?;
-    Ok(())
+fn no_request_after_the_constructor(rt: HostRuntime) {
+    asks_no_more(&rt, rt.alloc(), &SLOT, 0);
 }
 
 /// Nor with a ring, which lies in the same memory once it is no longer shared. What is left comes out in its order.
 #[test]
-fn no_request_after_the_constructor_of_a_ring(rt: HostRuntime) -> Result<(), Fail> {
-    asks_no_more(&rt, rt.alloc(), &RING)?;
-    Ok(())
+fn no_request_after_the_constructor_of_a_ring(rt: HostRuntime) {
+    asks_no_more(&rt, rt.alloc(), &RING, 2);
 }

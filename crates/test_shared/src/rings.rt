@@ -1,14 +1,13 @@
 //! Rings that parties share: short stories with known replies.
-use crate::rows::{Queue, Row, StoryLine, one_party, two_parties};
+use crate::rows::{Duet, Solo, StoryLine, each_of_one_party, each_of_two_parties, one_party};
 use concurrent_queue::{ForcePushError, PopError, PushError};
 use queue_steps::model::{Call, Reply};
-use std::alloc::AllocError;
 
 /// The capacity of a ring, the calls of its only party, what is left, and whether it is closed.
-static ONE_PARTY: [(usize, &[Row], &[u64], bool); 6] = [
-    (
-        2,
-        &[
+static ONE_PARTY: [Solo; 6] = [
+    Solo {
+        cap: Some(2),
+        rows: &[
             (Call::Push(1), Reply::Push(Ok(()))),
             (Call::Push(2), Reply::Push(Ok(()))),
             (Call::Push(3), Reply::Push(Err(PushError::Full(3)))),
@@ -16,12 +15,12 @@ static ONE_PARTY: [(usize, &[Row], &[u64], bool); 6] = [
             (Call::Pop, Reply::Pop(Ok(2))),
             (Call::Pop, Reply::Pop(Err(PopError::Empty))),
         ],
-        &[],
-        false,
-    ),
-    (
-        3,
-        &[
+        left: &[],
+        closed: false,
+    },
+    Solo {
+        cap: Some(3),
+        rows: &[
             (Call::Push(1), Reply::Push(Ok(()))),
             (Call::Push(2), Reply::Push(Ok(()))),
             (Call::IsFull, Reply::IsFull(false)),
@@ -32,12 +31,12 @@ static ONE_PARTY: [(usize, &[Row], &[u64], bool); 6] = [
             (Call::Pop, Reply::Pop(Ok(1))),
             (Call::Push(4), Reply::Push(Ok(()))),
         ],
-        &[2, 3, 4],
-        false,
-    ),
-    (
-        3,
-        &[
+        left: &[2, 3, 4],
+        closed: false,
+    },
+    Solo {
+        cap: Some(3),
+        rows: &[
             (Call::ForcePush(1), Reply::ForcePush(Ok(None))),
             (Call::ForcePush(2), Reply::ForcePush(Ok(None))),
             (Call::ForcePush(3), Reply::ForcePush(Ok(None))),
@@ -51,12 +50,12 @@ static ONE_PARTY: [(usize, &[Row], &[u64], bool); 6] = [
             ),
             (Call::Pop, Reply::Pop(Ok(3))),
         ],
-        &[5, 6],
-        true,
-    ),
-    (
-        5,
-        &[
+        left: &[5, 6],
+        closed: true,
+    },
+    Solo {
+        cap: Some(5),
+        rows: &[
             (Call::ForcePush(1), Reply::ForcePush(Ok(None))),
             (Call::ForcePush(2), Reply::ForcePush(Ok(None))),
             (Call::ForcePush(3), Reply::ForcePush(Ok(None))),
@@ -79,12 +78,12 @@ static ONE_PARTY: [(usize, &[Row], &[u64], bool); 6] = [
                 Reply::ForcePush(Err(ForcePushError::Closed(40))),
             ),
         ],
-        &[11, 12, 13, 14, 15],
-        true,
-    ),
-    (
-        2,
-        &[
+        left: &[11, 12, 13, 14, 15],
+        closed: true,
+    },
+    Solo {
+        cap: Some(2),
+        rows: &[
             (Call::Capacity, Reply::Capacity(Some(2))),
             (Call::IsEmpty, Reply::IsEmpty(true)),
             (Call::IsFull, Reply::IsFull(false)),
@@ -105,12 +104,12 @@ static ONE_PARTY: [(usize, &[Row], &[u64], bool); 6] = [
             (Call::Close, Reply::Close(false)),
             (Call::Pop, Reply::Pop(Err(PopError::Closed))),
         ],
-        &[],
-        true,
-    ),
-    (
-        2,
-        &[
+        left: &[],
+        closed: true,
+    },
+    Solo {
+        cap: Some(2),
+        rows: &[
             (Call::Push(1), Reply::Push(Ok(()))),
             (Call::Push(2), Reply::Push(Ok(()))),
             (Call::Len, Reply::Len(2)),
@@ -121,34 +120,34 @@ static ONE_PARTY: [(usize, &[Row], &[u64], bool); 6] = [
             (Call::IsEmpty, Reply::IsEmpty(false)),
             (Call::IsFull, Reply::IsFull(false)),
         ],
-        &[2],
-        false,
-    ),
+        left: &[2],
+        closed: false,
+    },
 ];
 
 #[test]
-fn stories_of_one_party(rt: HostRuntime) -> Result<(), AllocError> {
-    for (cap, rows, left, closed) in ONE_PARTY.iter() {
-        let (queue, party) = Queue::bounded(rt.alloc(), *cap)?;
-        one_party(&rt, queue, party, rows, left, *closed);
-    }
-    Ok(())
+fn stories_of_one_party(rt: HostRuntime) {
+    each_of_one_party(&rt, rt.alloc(), &ONE_PARTY);
 }
 
 #[test]
-fn each_capacity_is_told(rt: HostRuntime) -> Result<(), AllocError> {
+fn each_capacity_is_told(rt: HostRuntime) {
     for cap in 1..10usize {
-        let (queue, party) = Queue::bounded(rt.alloc(), cap)?;
-        let rows = [(Call::Capacity, Reply::Capacity(Some(cap)))];
-        one_party(&rt, queue, party, &rows, &[], false);
+        let story = Solo {
+            cap: Some(cap),
+            rows: &[(Call::Capacity, Reply::Capacity(Some(cap)))],
+            left: &[],
+            closed: false,
+        };
+        one_party(&rt, rt.alloc(), &story);
     }
-    Ok(())
 }
 
 /// The lines of a story of two parties of a ring, what is left, and whether it is closed.
-static TWO_PARTIES: [(&[StoryLine], &[u64], bool); 3] = [
-    (
-        &[
+static TWO_PARTIES: [Duet; 3] = [
+    Duet {
+        cap: Some(2),
+        lines: &[
             StoryLine::First(Call::Push(5), Reply::Push(Ok(()))),
             StoryLine::Meet,
             StoryLine::Second(Call::IsEmpty, Reply::IsEmpty(false)),
@@ -162,11 +161,12 @@ static TWO_PARTIES: [(&[StoryLine], &[u64], bool); 3] = [
             StoryLine::Second(Call::Pop, Reply::Pop(Ok(6))),
             StoryLine::Second(Call::Pop, Reply::Pop(Err(PopError::Closed))),
         ],
-        &[],
-        true,
-    ),
-    (
-        &[
+        left: &[],
+        closed: true,
+    },
+    Duet {
+        cap: Some(2),
+        lines: &[
             StoryLine::Second(Call::Capacity, Reply::Capacity(Some(2))),
             StoryLine::Second(Call::Len, Reply::Len(0)),
             StoryLine::Second(Call::IsEmpty, Reply::IsEmpty(true)),
@@ -183,27 +183,24 @@ static TWO_PARTIES: [(&[StoryLine], &[u64], bool); 3] = [
             StoryLine::Second(Call::IsClosed, Reply::IsClosed(true)),
             StoryLine::Second(Call::Close, Reply::Close(false)),
         ],
-        &[1, 2],
-        true,
-    ),
-    (
-        &[
+        left: &[1, 2],
+        closed: true,
+    },
+    Duet {
+        cap: Some(2),
+        lines: &[
             StoryLine::First(Call::ForcePush(1), Reply::ForcePush(Ok(None))),
             StoryLine::Second(Call::ForcePush(2), Reply::ForcePush(Ok(None))),
             StoryLine::First(Call::ForcePush(3), Reply::ForcePush(Ok(Some(1)))),
             StoryLine::Second(Call::ForcePush(4), Reply::ForcePush(Ok(Some(2)))),
             StoryLine::First(Call::Pop, Reply::Pop(Ok(3))),
         ],
-        &[4],
-        false,
-    ),
+        left: &[4],
+        closed: false,
+    },
 ];
 
 #[test]
-fn stories_of_two_parties(rt: HostRuntime) -> Result<(), AllocError> {
-    for (lines, left, closed) in TWO_PARTIES.iter() {
-        let (queue, party) = Queue::bounded(rt.alloc(), 2)?;
-        two_parties(&rt, queue, party, lines, left, *closed);
-    }
-    Ok(())
+fn stories_of_two_parties(rt: HostRuntime) {
+    each_of_two_parties(&rt, rt.alloc(), &TWO_PARTIES);
 }

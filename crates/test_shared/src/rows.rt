@@ -1,11 +1,11 @@
 //! Short stories with known replies, all on one thread, so that each waiting call is seen to return.
 ghost use Rattle.concurrent_queue.specs.Shared.{IsPartyOf};
 
-use crate::opening::{end, part, stay_shared};
+use crate::opening::{end, open_surely, part, stay_shared};
 use concurrent_queue::{ConcurrentQueue, Exclusive, ForcePushError, Party, PopError, PushError};
 use mem_blocks::null_testable::NullTestable;
 use queue_steps::model::{Call, Reply};
-use std::alloc::{AllocError, Allocator};
+use std::alloc::{Allocator, Global};
 use std::process::Abort;
 use std::sync::Wait;
 
@@ -21,6 +21,30 @@ pub(crate) enum StoryLine {
     Second(Call<u64>, Reply<u64>),
     /// The two parties meet.
     Meet,
+}
+
+/// The calls of a queue's only party.
+#[derive(Clone, Copy)]
+pub(crate) struct Solo<'a> {
+    /// The capacity, if there is one.
+    pub(crate) cap: Option<usize>,
+    pub(crate) rows: &'a [Row],
+    /// The items that are left, in their order.
+    pub(crate) left: &'a [u64],
+    /// Whether the queue is closed in the end.
+    pub(crate) closed: bool,
+}
+
+/// The calls of two parties.
+#[derive(Clone, Copy)]
+pub(crate) struct Duet<'a> {
+    /// The capacity, if there is one.
+    pub(crate) cap: Option<usize>,
+    pub(crate) lines: &'a [StoryLine],
+    /// The items that are left, in their order.
+    pub(crate) left: &'a [u64],
+    /// Whether the queue is closed in the end.
+    pub(crate) closed: bool,
 }
 
 /// Makes a call.
@@ -69,6 +93,15 @@ fn gives<A: Allocator>(alone: &mut Exclusive<u64, A>, items: &[u64]) -> bool {
     right
 }
 
+/// Pops from a queue that is no longer shared and has no item, and pushes. Gives whether the replies are those of a closed queue, or of an open one.
+fn has_ended<A: Allocator>(alone: &mut Exclusive<u64, A>, closed: bool) -> bool {
+    match (alone.pop(), alone.push(5)) {
+        (Err(PopError::Closed), Err(PushError::Closed(5))) => closed,
+        (Err(PopError::Empty), Ok(())) => !closed,
+        _ => false,
+    }
+}
+
 /// Asserts which items are in a queue that is no longer shared, in their order, and that it is closed or takes one more.
 pub(crate) fn is_left<A: Allocator>(
     rt: &impl Abort,
@@ -77,35 +110,59 @@ pub(crate) fn is_left<A: Allocator>(
     closed: bool,
 ) {
     let full = alone.capacity() == Some(left.len());
-    let (popped, pushed) = if closed {
-        (Err(PopError::Closed), Err(PushError::Closed(5)))
-    } else {
-        (Err(PopError::Empty), Ok(()))
-    };
-    let first = (alone.len(), alone.is_full(), alone.is_closed());
+    let len = alone.len();
+    let first = [alone.is_full(), alone.is_closed()];
     let given = gives(alone, left);
-    let last = (alone.len(), alone.pop(), alone.push(5));
+    let lens = [len, alone.len()];
+    let right = given && has_ended(alone, closed);
     assert_eq!(rt;
-        (first, given, last),
-        ((left.len(), full, closed), true, (0, popped, pushed))
+        (lens, first, right),
+        ([left.len(), 0], [full, closed], true)
     );
 }
 
-/// Makes the calls of a queue's only party, and asserts each reply, and what is left.
-pub(crate) fn one_party<R: Wait + Abort>(
-    rt: &R,
-    queue: Queue,
-    mut party: Party<u64>,
-    rows: &[Row],
-    left: &[u64],
-    closed: bool,
-)
-    requires { IsPartyOf party queue }
+/// Makes the calls of one party, and asserts each reply.
+fn are_answered<R: Wait + Abort>(rt: &R, queue: &Queue, party: &mut Party<u64>, rows: &[Row])
+    requires { IsPartyOf party.old queue.now }
+    ensures { IsPartyOf party.new queue.now }
 {
     for (call, reply) in rows {
-        is_answered(rt, &queue, &mut party, *call, *reply);
+        is_answered(rt, queue, party, *call, *reply);
     }
-    is_left(rt, &mut end(rt, queue, party), left, closed);
+}
+
+/// Makes the calls of a queue's only party, and asserts each reply, and what is left.
+pub(crate) fn one_party<R: Wait + Abort>(rt: &R, alloc: Global, story: &Solo<'_>) {
+    let (queue, mut party) = open_surely(rt, alloc, story.cap);
+    are_answered(rt, &queue, &mut party, story.rows);
+    is_left(rt, &mut end(rt, queue, party), story.left, story.closed);
+}
+
+/// The same for each of these stories.
+pub(crate) fn each_of_one_party<R: Wait + Abort>(rt: &R, alloc: Global, stories: &[Solo<'_>]) {
+    for story in stories {
+        one_party(rt, alloc, story);
+    }
+}
+
+/// Makes the calls of two parties, and asserts each reply.
+fn both_are_answered<A: NullTestable, R: Wait + Abort>(
+    rt: &R,
+    queue: &ConcurrentQueue<u64, A>,
+    first: &mut Party<u64>,
+    second: &mut Party<u64>,
+    lines: &[StoryLine],
+)
+    requires { IsPartyOf first.old queue.now × IsPartyOf second.old queue.now }
+    ensures { IsPartyOf first.new queue.now × IsPartyOf second.new queue.now }
+{
+    for line in lines {
+        match *line {
+            StoryLine::First(call, reply) => is_answered(rt, queue, first, call, reply),
+            StoryLine::Second(call, reply) => is_answered(rt, queue, second, call, reply),
+            StoryLine::Meet => queue.meet(first, second),
+        }
+    }
 }
 
 /// Tells a story of two parties, of which neither can end the sharing until they are joined. Asserts each reply, and gives what is left.
@@ -118,36 +175,31 @@ pub(crate) fn tell<A: NullTestable, R: Wait + Abort>(
     requires { IsPartyOf party queue }
 {
     let (mut first, mut second) = part(rt, &queue, party);
-    for line in lines {
-        match *line {
-            StoryLine::First(call, reply) => is_answered(rt, &queue, &mut first, call, reply),
-            StoryLine::Second(call, reply) => is_answered(rt, &queue, &mut second, call, reply),
-            StoryLine::Meet => queue.meet(&mut first, &mut second),
-        }
-    }
+    both_are_answered(rt, &queue, &mut first, &mut second, lines);
     let (queue, first) = stay_shared(rt, queue, first);
     let whole = queue.join(first, second);
     end(rt, queue, whole)
 }
 
 /// Tells a story of two parties, and asserts each reply, and what is left.
-pub(crate) fn two_parties<R: Wait + Abort>(
-    rt: &R,
-    queue: Queue,
-    party: Party<u64>,
-    lines: &[StoryLine],
-    left: &[u64],
-    closed: bool,
-)
-    requires { IsPartyOf party queue }
-{
-    is_left(rt, &mut tell(rt, queue, party, lines), left, closed);
+fn two_parties<R: Wait + Abort>(rt: &R, alloc: Global, story: &Duet<'_>) {
+    let (queue, party) = open_surely(rt, alloc, story.cap);
+    let mut alone = tell(rt, queue, party, story.lines);
+    is_left(rt, &mut alone, story.left, story.closed);
+}
+
+/// The same for each of these stories.
+pub(crate) fn each_of_two_parties<R: Wait + Abort>(rt: &R, alloc: Global, stories: &[Duet<'_>]) {
+    for story in stories {
+        two_parties(rt, alloc, story);
+    }
 }
 
 /// The calls of the only party of a slot, what is left, and whether it is closed.
-static ONE_PARTY: [(&[Row], &[u64], bool); 4] = [
-    (
-        &[
+static ONE_PARTY: [Solo; 4] = [
+    Solo {
+        cap: Some(1),
+        rows: &[
             (Call::Push(10), Reply::Push(Ok(()))),
             (Call::Push(20), Reply::Push(Err(PushError::Full(20)))),
             (Call::Close, Reply::Close(true)),
@@ -155,11 +207,12 @@ static ONE_PARTY: [(&[Row], &[u64], bool); 4] = [
             (Call::Pop, Reply::Pop(Ok(10))),
             (Call::Push(20), Reply::Push(Err(PushError::Closed(20)))),
         ],
-        &[],
-        true,
-    ),
-    (
-        &[
+        left: &[],
+        closed: true,
+    },
+    Solo {
+        cap: Some(1),
+        rows: &[
             (Call::ForcePush(10), Reply::ForcePush(Ok(None))),
             (Call::ForcePush(20), Reply::ForcePush(Ok(Some(10)))),
             (Call::ForcePush(30), Reply::ForcePush(Ok(Some(20)))),
@@ -171,11 +224,12 @@ static ONE_PARTY: [(&[Row], &[u64], bool); 4] = [
             (Call::Pop, Reply::Pop(Ok(30))),
             (Call::Pop, Reply::Pop(Err(PopError::Closed))),
         ],
-        &[],
-        true,
-    ),
-    (
-        &[
+        left: &[],
+        closed: true,
+    },
+    Solo {
+        cap: Some(1),
+        rows: &[
             (Call::Capacity, Reply::Capacity(Some(1))),
             (Call::IsEmpty, Reply::IsEmpty(true)),
             (Call::IsFull, Reply::IsFull(false)),
@@ -195,25 +249,27 @@ static ONE_PARTY: [(&[Row], &[u64], bool); 4] = [
             (Call::IsClosed, Reply::IsClosed(true)),
             (Call::Close, Reply::Close(false)),
         ],
-        &[],
-        true,
-    ),
-    (&[(Call::Push(4), Reply::Push(Ok(())))], &[4], false),
+        left: &[],
+        closed: true,
+    },
+    Solo {
+        cap: Some(1),
+        rows: &[(Call::Push(4), Reply::Push(Ok(())))],
+        left: &[4],
+        closed: false,
+    },
 ];
 
 #[test]
-fn stories_of_one_party(rt: HostRuntime) -> Result<(), AllocError> {
-    for (rows, left, closed) in ONE_PARTY.iter() {
-        let (queue, party) = Queue::bounded(rt.alloc(), 1)?;
-        one_party(&rt, queue, party, rows, left, *closed);
-    }
-    Ok(())
+fn stories_of_one_party(rt: HostRuntime) {
+    each_of_one_party(&rt, rt.alloc(), &ONE_PARTY);
 }
 
 /// The lines of a story of two parties of a slot, what is left, and whether it is closed.
-static TWO_PARTIES: [(&[StoryLine], &[u64], bool); 4] = [
-    (
-        &[
+static TWO_PARTIES: [Duet; 4] = [
+    Duet {
+        cap: Some(1),
+        lines: &[
             StoryLine::First(Call::ForcePush(10), Reply::ForcePush(Ok(None))),
             StoryLine::Meet,
             StoryLine::Second(Call::IsEmpty, Reply::IsEmpty(false)),
@@ -224,11 +280,12 @@ static TWO_PARTIES: [(&[StoryLine], &[u64], bool); 4] = [
             StoryLine::Meet,
             StoryLine::First(Call::Push(30), Reply::Push(Err(PushError::Closed(30)))),
         ],
-        &[20],
-        true,
-    ),
-    (
-        &[
+        left: &[20],
+        closed: true,
+    },
+    Duet {
+        cap: Some(1),
+        lines: &[
             StoryLine::First(Call::Push(5), Reply::Push(Ok(()))),
             StoryLine::Meet,
             StoryLine::Second(Call::IsEmpty, Reply::IsEmpty(false)),
@@ -242,11 +299,12 @@ static TWO_PARTIES: [(&[StoryLine], &[u64], bool); 4] = [
             StoryLine::Second(Call::Pop, Reply::Pop(Ok(6))),
             StoryLine::Second(Call::Pop, Reply::Pop(Err(PopError::Closed))),
         ],
-        &[],
-        true,
-    ),
-    (
-        &[
+        left: &[],
+        closed: true,
+    },
+    Duet {
+        cap: Some(1),
+        lines: &[
             StoryLine::Second(Call::IsEmpty, Reply::IsEmpty(true)),
             StoryLine::First(Call::Push(1), Reply::Push(Ok(()))),
             StoryLine::Second(Call::IsEmpty, Reply::IsEmpty(false)),
@@ -263,46 +321,51 @@ static TWO_PARTIES: [(&[StoryLine], &[u64], bool); 4] = [
             StoryLine::Second(Call::IsClosed, Reply::IsClosed(true)),
             StoryLine::Second(Call::Close, Reply::Close(false)),
         ],
-        &[3],
-        true,
-    ),
-    (
-        &[StoryLine::Second(Call::Push(1), Reply::Push(Ok(())))],
-        &[1],
-        false,
-    ),
+        left: &[3],
+        closed: true,
+    },
+    Duet {
+        cap: Some(1),
+        lines: &[StoryLine::Second(Call::Push(1), Reply::Push(Ok(())))],
+        left: &[1],
+        closed: false,
+    },
 ];
 
 #[test]
-fn stories_of_two_parties(rt: HostRuntime) -> Result<(), AllocError> {
-    for (lines, left, closed) in TWO_PARTIES.iter() {
-        let (queue, party) = Queue::bounded(rt.alloc(), 1)?;
-        two_parties(&rt, queue, party, lines, left, *closed);
-    }
-    Ok(())
+fn stories_of_two_parties(rt: HostRuntime) {
+    each_of_two_parties(&rt, rt.alloc(), &TWO_PARTIES);
 }
 
 /// What the second party does before it is dropped, and what the first one's pop answers then.
-static DROPPED: [(Call<u64>, Reply<u64>, Result<u64, PopError>); 2] = [
+static DROPPED: [(Row, Result<u64, PopError>); 2] = [
     (
-        Call::Capacity,
-        Reply::Capacity(Some(1)),
+        (Call::Capacity, Reply::Capacity(Some(1))),
         Err(PopError::Empty),
     ),
-    (Call::Push(1), Reply::Push(Ok(())), Ok(1)),
+    ((Call::Push(1), Reply::Push(Ok(()))), Ok(1)),
 ];
+
+/// Drops one of two parties after a call, without which the sharing does not end. Asserts that, the call's reply, and what the other party's pop answers.
+fn goes_on_with_one_dropped<R: Wait + Abort>(
+    rt: &R,
+    alloc: Global,
+    (call, reply): Row,
+    popped: Result<u64, PopError>,
+) {
+    let (queue, party) = open_surely(rt, alloc, Some(1));
+    let (first, mut second) = part(rt, &queue, party);
+    is_answered(rt, &queue, &mut second, call, reply);
+    drop(second);
+    let (queue, first) = stay_shared(rt, queue, first);
+    let (queue, mut first) = stay_shared(rt, queue, first);
+    is_answered(rt, &queue, &mut first, Call::Pop, Reply::Pop(popped));
+}
 
 /// A party that was dropped is missing for ever, whether or not it had pushed.
 #[test]
-fn not_finished_with_a_party_dropped(rt: HostRuntime) -> Result<(), AllocError> {
-    for (call, reply, popped) in DROPPED.iter() {
-        let (queue, party) = Queue::bounded(rt.alloc(), 1)?;
-        let (first, mut second) = part(&rt, &queue, party);
-        is_answered(&rt, &queue, &mut second, *call, *reply);
-        drop(second);
-        let (queue, first) = stay_shared(&rt, queue, first);
-        let (queue, mut first) = stay_shared(&rt, queue, first);
-        is_answered(&rt, &queue, &mut first, Call::Pop, Reply::Pop(*popped));
+fn not_finished_with_a_party_dropped(rt: HostRuntime) {
+    for (row, popped) in DROPPED.iter() {
+        goes_on_with_one_dropped(&rt, rt.alloc(), *row, *popped);
     }
-    Ok(())
 }

@@ -1,34 +1,36 @@
 //! Threads that share a queue, a party each.
-ghost use Rattle.std.specs.Prelude.{◌<◌, IfSome};
+ghost use Rattle.std.specs.Prelude.{◌<◌};
 ghost use Rattle.concurrent_queue.specs.Shared.{IsPartyOf};
 ghost use denote.Param.Send.{IsSync};
 
+use crate::blocks::Heap;
 use crate::opening::{end, open_surely};
 use callers_queue::parties::{closed_by_many, hand_over, through_a_shared_slot};
-use concurrent_queue::{ConcurrentQueue, Party};
+use concurrent_queue::{ConcurrentQueue, Party, PopError};
+use mem_blocks::null_testable::NullTestable;
 use std::alloc::{AllocError, Allocator, Global};
+use std::ops::Range;
 use std::process::Abort;
 use std::sync::Wait;
 use std::sync::atomic::{AtomicU64, Ordering};
 use std::thread::{Threads, join, yield_now};
+use test_allocators::Refusal;
 
 /// How many turns a thread takes.
 const TURNS: u64 = 25_000;
-
-type Queue = ConcurrentQueue<u64>;
 
 /// How often a thread looks for the others at most.
 const LOOKS: u64 = 10_000_000;
 
 /// So many threads that wait for one another.
 #[derive(Drop)]
-pub(crate) struct Meeting {
+struct Meeting {
     here: AtomicU64,
     threads: u64,
 }
 
 impl Meeting {
-    pub(crate) fn of(threads: u64) -> Meeting {
+    fn of(threads: u64) -> Meeting {
         Meeting {
             here: AtomicU64::new(0),
             threads,
@@ -36,7 +38,7 @@ impl Meeting {
     }
 
     /// Waits until all threads have come, though not for ever. Gives whether they have: on one thread after another they never do.
-    pub(crate) fn all_are_here(&self) -> bool {
+    fn all_are_here(&self) -> bool {
         self.here.fetch_add(1, Ordering::SeqCst);
         for _ in 0..LOOKS {
             if self.here.load(Ordering::SeqCst) == self.threads {
@@ -50,10 +52,12 @@ impl Meeting {
 
 /// How often each value came out, how many threads push, and whether all threads have come.
 #[derive(Drop)]
-struct Board {
+pub(crate) struct Board {
     counts: Vec<AtomicU64>,
     running: AtomicU64,
     meeting: Meeting,
+    /// Where a queue without a capacity may have its blocks.
+    pub(crate) heap: Heap,
 }
 
 impl Board {
@@ -66,7 +70,16 @@ impl Board {
             counts,
             running: AtomicU64::new(threads / 2),
             meeting: Meeting::of(threads),
+            heap: Heap::new(alloc, Refusal::Never),
         })
+    }
+
+    /// A board for so many threads. Asserts that there is memory.
+    pub(crate) fn surely(rt: &impl Abort, alloc: Global, threads: usize) -> Board {
+        match Board::new(alloc, threads as u64) {
+            Ok(board) => board,
+            Err(_) => panic!(rt; "no memory"),
+        }
     }
 
     fn count(&self, value: u64) {
@@ -86,11 +99,15 @@ impl Board {
     }
 }
 
-/// What a thread does.
+/// What a thread does with the values that it is given.
 #[derive(Clone, Copy)]
 pub(crate) enum Role {
     /// Pushes each value, and tries again where the queue is full.
     Push,
+    /// Pushes each value, which has to be accepted, and lets the request go then that is held.
+    PushAndLetGo,
+    /// Pops once a request is held, finds the queue empty, and lets the request go.
+    PopWhileHeld,
     /// Pops as many items as there are values, and tries again where the queue is empty.
     Pop,
     /// Pops the values in their order.
@@ -109,32 +126,64 @@ pub(crate) enum Role {
     ForceAndPop,
 }
 
-/// Pushes a value, and tries again while the queue is full.
-fn push_one<R: Wait>(rt: &R, queue: &Queue, party: &mut Party<u64>, value: u64)
+/// What one thread does, and its values.
+#[derive(Clone, Copy)]
+pub(crate) struct Task {
+    role: Role,
+    first: u64,
+    end: u64,
+}
+
+impl Task {
+    pub(crate) fn of(role: Role, values: Range<u64>) -> Task {
+        Task {
+            role,
+            first: values.start,
+            end: values.end,
+        }
+    }
+
+    /// This role, with so many values as there are turns.
+    pub(crate) fn turns(role: Role) -> Task {
+        Task::of(role, 0..TURNS)
+    }
+}
+
+/// Pushes an item, and tries again while the queue is full.
+pub(crate) fn push_one<T: Drop, A: NullTestable, R: Wait>(
+    rt: &R,
+    queue: &ConcurrentQueue<T, A>,
+    party: &mut Party<T>,
+    item: T,
+)
     requires { IsPartyOf party.old queue.now }
     ensures { IsPartyOf party.new queue.now }
 {
+    let mut next = item;
     for _ in rt.forever() {
-        match queue.push(rt, party, value) {
+        match queue.push(rt, party, next) {
             Ok(()) => return,
-            Err(_) => yield_now(),
+            Err(error) => {
+                next = error.into_inner();
+                yield_now();
+            }
         }
     }
     unreachable!()
 }
 
 /// Pops an item, and tries again while the queue is empty.
-pub(crate) fn pop_one<A: Allocator, R: Wait>(
+pub(crate) fn pop_one<T: Drop, A: Allocator, R: Wait>(
     rt: &R,
-    queue: &ConcurrentQueue<u64, A>,
-    party: &mut Party<u64>,
-) -> u64
+    queue: &ConcurrentQueue<T, A>,
+    party: &mut Party<T>,
+) -> T
     requires { IsPartyOf party.old queue.now }
     ensures { IsPartyOf party.new queue.now }
 {
     for _ in rt.forever() {
         match queue.pop(rt, party) {
-            Ok(value) => return value,
+            Ok(item) => return item,
             Err(_) => yield_now(),
         }
     }
@@ -142,9 +191,9 @@ pub(crate) fn pop_one<A: Allocator, R: Wait>(
 }
 
 /// One turn of a thread. Gives false where an item had to be there and was not.
-fn turn<R: Wait>(
+fn turn<A: NullTestable, R: Wait>(
     rt: &R,
-    queue: &Queue,
+    queue: &ConcurrentQueue<u64, A>,
     party: &mut Party<u64>,
     board: &Board,
     role: Role,
@@ -157,6 +206,17 @@ fn turn<R: Wait>(
         Role::Push => {
             push_one(rt, queue, party, value);
             true
+        }
+        Role::PushAndLetGo => {
+            let accepted = queue.push(rt, party, value).is_ok();
+            board.heap.let_go();
+            accepted
+        }
+        Role::PopWhileHeld => {
+            let held = board.heap.comes_to_hold();
+            let popped = queue.pop(rt, party);
+            board.heap.let_go();
+            held && popped == Err(PopError::Empty)
         }
         Role::Pop => {
             let item = pop_one(rt, queue, party);
@@ -192,7 +252,12 @@ fn turn<R: Wait>(
 }
 
 /// Pops until no thread pushes and the queue is empty.
-fn drain<R: Wait>(rt: &R, queue: &Queue, party: &mut Party<u64>, board: &Board)
+fn drain<A: Allocator, R: Wait>(
+    rt: &R,
+    queue: &ConcurrentQueue<u64, A>,
+    party: &mut Party<u64>,
+    board: &Board,
+)
     requires { IsPartyOf party.old queue.now }
     ensures { IsPartyOf party.new queue.now }
 {
@@ -211,21 +276,21 @@ fn drain<R: Wait>(rt: &R, queue: &Queue, party: &mut Party<u64>, board: &Board)
 }
 
 /// All turns of a thread, which begin once all threads have come.
-fn act<R: Wait>(
+fn act<A: NullTestable, R: Wait>(
     rt: &R,
-    queue: &Queue,
+    queue: &ConcurrentQueue<u64, A>,
     mut party: Party<u64>,
     board: &Board,
-    role: Role,
+    task: Task,
 ) -> (Party<u64>, bool)
     requires { IsPartyOf party queue.now }
     ensures { IsPartyOf result.0 queue.now }
 {
     let mut right = board.meeting.all_are_here();
-    for value in 0..TURNS {
-        right = turn(rt, queue, &mut party, board, role, value) && right;
+    for value in task.first..task.end {
+        right = turn(rt, queue, &mut party, board, task.role, value) && right;
     }
-    match role {
+    match task.role {
         Role::Force => board.ended(),
         Role::Drain => drain(rt, queue, &mut party, board),
         _ => {}
@@ -233,22 +298,27 @@ fn act<R: Wait>(
     (party, right)
 }
 
-/// A thread, doubled so many times: two of them have one role each, and of more than two each has as many as the other.
-fn crew<R: Wait + Threads + Sync>(
+/// A thread, doubled so many times. Each has the task of its number among all, of which the first one's is this number, doubled as often.
+pub(crate) fn crew<A: NullTestable + Send + Sync, R: Wait + Threads + Sync>(
     rt: &R,
-    queue: &Queue,
+    queue: &ConcurrentQueue<u64, A>,
     party: Party<u64>,
     board: &Board,
+    tasks: &[Task],
     doublings: u64,
-    first: Role,
-    second: Role,
+    number: usize,
 ) -> (Party<u64>, bool)
     requires { IsPartyOf party queue.now }
     ensures { IsPartyOf result.0 queue.now }
 {
     if doublings == 0 {
-        return act(rt, queue, party, board, first);
+        return match tasks.get(number) {
+            Some(task) => act(rt, queue, party, board, *task),
+            None => (party, false),
+        };
     }
+    let even = number.wrapping_mul(2);
+    let odd = even.wrapping_add(1);
     match queue.split(party) {
         Err(party) => (party, false),
         Ok((a, b)) => {
@@ -257,35 +327,29 @@ fn crew<R: Wait + Threads + Sync>(
                 || -> (Party<u64>, bool)
                     requires { IsSync R.row × IsPartyOf a queue.now × (0 < doublings) }
                     ensures { IsPartyOf result.0 queue.entry.now }
-                { crew(rt, queue, a, board, doublings - 1, first, second) },
+                { crew(rt, queue, a, board, tasks, doublings - 1, even) },
                 || -> (Party<u64>, bool)
                     requires { IsSync R.row × IsPartyOf b queue.now × (0 < doublings) }
                     ensures { IsPartyOf result.0 queue.entry.now }
-                { crew(rt, queue, b, board, doublings - 1, second, first) },
+                { crew(rt, queue, b, board, tasks, doublings - 1, odd) },
             );
             (queue.join(a, b), right && right_too)
         }
     }
 }
 
-/// Lets so many threads, one doubled so many times, work on a queue of this capacity, or without one. Asserts that they ran at one time, that each got what it had to, that each value was counted so often, and that nothing is left.
-pub(crate) fn works<R: Wait + Threads + Sync + Abort>(
+/// Lets threads work at these tasks, one doubled so many times, on a queue of this capacity, or without one. Asserts that they ran at one time, that each got what it had to, that each value was counted so often, and that nothing is left.
+fn works_at<R: Wait + Threads + Sync + Abort>(
     rt: &R,
     alloc: Global,
     cap: Option<usize>,
-    threads: u64,
+    tasks: &[Task],
     doublings: u64,
-    roles: (Role, Role),
     times: u64,
-)
-    requires { IfSome cap (λ slots. 0 < slots) }
-{
-    let (first, second) = roles;
-    let Ok(board) = Board::new(alloc, threads) else {
-        panic!(rt; "no memory");
-    };
+) {
+    let board = Board::surely(rt, alloc, tasks.len());
     let (queue, party) = open_surely(rt, alloc, cap);
-    let (party, right) = crew(rt, &queue, party, &board, doublings, first, second);
+    let (party, right) = crew(rt, &queue, party, &board, tasks, doublings, 0);
     let left = end(rt, queue, party);
     assert_eq!(rt;
         (right, board.each_came(times), left.len()),
@@ -294,44 +358,55 @@ pub(crate) fn works<R: Wait + Threads + Sync + Abort>(
     );
 }
 
+/// The same at each of these capacities.
+pub(crate) fn works<R: Wait + Threads + Sync + Abort>(
+    rt: &R,
+    alloc: Global,
+    caps: &[Option<usize>],
+    tasks: &[Task],
+    doublings: u64,
+    times: u64,
+) {
+    for cap in caps {
+        works_at(rt, alloc, *cap, tasks, doublings, times);
+    }
+}
+
+/// The capacities of a slot and of a small ring, and none.
+const KINDS: [Option<usize>; 3] = [Some(1), Some(3), None];
+
 #[test]
 fn in_order_from_one_thread_to_another(rt: HostRuntime) {
-    let roles = (Role::Push, Role::PopInOrder);
-    for cap in [Some(1), Some(3), None] {
-        works(&rt, rt.alloc(), cap, 2, 1, roles, 0);
-    }
+    let tasks = [Task::turns(Role::Push), Task::turns(Role::PopInOrder)];
+    works(&rt, rt.alloc(), &KINDS, &tasks, 1, 0);
 }
 
 #[test]
 fn four_pushers_and_four_poppers(rt: HostRuntime) {
-    let roles = (Role::Push, Role::Pop);
-    for cap in [Some(1), Some(3), None] {
-        works(&rt, rt.alloc(), cap, 8, 3, roles, 4);
-    }
+    let (push, pop) = (Task::turns(Role::Push), Task::turns(Role::Pop));
+    let tasks = [push, pop, push, pop, push, pop, push, pop];
+    works(&rt, rt.alloc(), &KINDS, &tasks, 3, 4);
 }
 
 #[test]
 fn linearizable(rt: HostRuntime) {
-    let roles = (Role::PushAndPop, Role::ForceAndPop);
-    for cap in [Some(1), Some(4), None] {
-        works(&rt, rt.alloc(), cap, 4, 2, roles, 0);
-    }
+    let push = Task::turns(Role::PushAndPop);
+    let force = Task::turns(Role::ForceAndPop);
+    let caps = [Some(1), Some(4), None];
+    works(&rt, rt.alloc(), &caps, &[push, force, force, push], 2, 0);
 }
 
 #[test]
 fn ring_buffer_of_one_thread(rt: HostRuntime) {
-    let roles = (Role::Force, Role::Drain);
-    for cap in [Some(1), Some(3), None] {
-        works(&rt, rt.alloc(), cap, 2, 1, roles, 1);
-    }
+    let tasks = [Task::turns(Role::Force), Task::turns(Role::Drain)];
+    works(&rt, rt.alloc(), &KINDS, &tasks, 1, 1);
 }
 
 #[test]
 fn ring_buffer_of_four_threads(rt: HostRuntime) {
-    let roles = (Role::Force, Role::Drain);
-    for cap in [Some(1), Some(3), None] {
-        works(&rt, rt.alloc(), cap, 8, 3, roles, 4);
-    }
+    let (force, drain) = (Task::turns(Role::Force), Task::turns(Role::Drain));
+    let tasks = [force, drain, force, drain, force, drain, force, drain];
+    works(&rt, rt.alloc(), &KINDS, &tasks, 3, 4);
 }
 
 #[test]
@@ -346,7 +421,7 @@ fn through_one_party(rt: HostRuntime) {
 
 #[test]
 fn closed_by_two_thousand(rt: HostRuntime) {
-    for cap in [Some(1), Some(3), None] {
+    for cap in KINDS {
         let (queue, party) = open_surely(&rt, rt.alloc(), cap);
         assert_eq!(rt; closed_by_many(queue, party, 2000), (true, 0));
     }
