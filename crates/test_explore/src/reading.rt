@@ -1,6 +1,6 @@
 //! What the lines of programs, and the words of requests, are read as.
-use app_explore::args::{Request, Wanted, parse_request};
-use app_explore::reading::read_program;
+use app_explore_text::args::{Request, Wanted, parse_request};
+use app_explore_text::reading::read_program;
 use app_text::args::KindName;
 use app_text::faults::Fault;
 use std::alloc::{AllocError, Global};
