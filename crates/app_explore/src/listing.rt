@@ -134,29 +134,11 @@ fn trace_outcome<A: Allocator + Copy>(
 {
     let walk = find_all(alloc, task)?;
     let shown = show_all(alloc, task, &walk)?;
-    trace_of(alloc, task, &walk.schedules, &shown.outcomes, number)
-}
-
-// What is seen of the schedule of the outcome of this number among these, if there are so many.
-fn trace_of<A: Allocator + Copy>(
-    alloc: A,
-    task: &Task<A>,
-    schedules: &[Sequence<Move, A>],
-    outcomes: &[Outcome<A>],
-    number: u64,
-) -> Result<Option<Trace<A>>, SearchFault>
-    requires can { CanReplay task.now.kind }
-    requires counted { 0 < number }
-    requires are { AreOutcomes task.now.kind task.now.refuses task.now.program.before task.now.program.parties.items schedules.now outcomes.now }
-    ensures { IfOk result (λ o. MatchOption o
-        (HasFewer task.now.kind task.now.refuses task.now.program.before task.now.program.parties.items number)
-        (IsTraceOfOutcome task.now.kind task.now.refuses task.now.program.before task.now.program.parties.items number)) }
-{
     let index = (number - 1) as usize;
-    let Some(outcome) = outcomes.get(index) else {
+    let Some(outcome) = shown.outcomes.get(index) else {
         return Ok(None);
     };
-    let Some(schedule) = schedules.get(index) else {
+    let Some(schedule) = walk.schedules.get(index) else {
         return Err(SearchFault::NotShown);
     };
     let trace = follow_to(alloc, task, schedule.as_slice(), outcome)?;
