@@ -1,5 +1,5 @@
 //! Paths of the form `threads` that no run of the program takes: counts that are wrong, and a queue that is closed while threads work on it.
-ghost use Rattle.std.specs.Prelude.{◌≡◌, ◌<◌, ◌+◌, ◌*◌, ◌^◌};
+ghost use Rattle.std.specs.Prelude.{◌≡◌, ◌<◌, ◌+◌, ◌*◌, ◌^◌, length};
 ghost use Rattle.concurrent_queue.specs.Shared.{IsPartyOf};
 
 use app_threads::counts::{Finding, count, judge, none_counted};
@@ -62,6 +62,22 @@ fn is_counted(counts: &[u64]) -> bool {
     counted
 }
 
+/// Runs the threads of a plan, for whose counts there is to be memory.
+fn work_of<R: Abort + Threads + Wait + Sync + AllocGlobal>(
+    rt: &R,
+    queue: &Queue,
+    party: Party<u64>,
+    plan: Plan,
+) -> Work
+    requires of { IsPartyOf party queue.now }
+    requires few { (plan.pushers + plan.poppers) * plan.share < 2 ^ 64 }
+    requires threads { plan.pushers + plan.poppers < 2 ^ 64 }
+    ensures of { IsPartyOf result.party queue.now }
+    ensures counted { length result.counts.items ≡ plan.items }
+{
+    run_all(rt, rt.alloc(), queue, party, plan).expect(rt, "memory for the counts")
+}
+
 /// Runs the threads of a plan. Gives the party back, and whether they did all, or counted something.
 fn run_plan<R: Abort + Threads + Wait + Sync + AllocGlobal>(
     rt: &R,
@@ -74,12 +90,11 @@ fn run_plan<R: Abort + Threads + Wait + Sync + AllocGlobal>(
     requires threads { plan.pushers + plan.poppers < 2 ^ 64 }
     ensures { IsPartyOf result.0 queue.now }
 {
-    let work = run_all(rt, rt.alloc(), queue, party, plan);
     let Work {
         party,
         counts,
         done,
-    } = work.expect(rt, "memory for the counts");
+    } = work_of(rt, queue, party, plan);
     (party, done || is_counted(&counts))
 }
 
@@ -135,12 +150,11 @@ fn empty_closed<R: Abort + Threads + Wait + Sync + AllocGlobal>(rt: &R) -> Empti
         items: 2,
         share: 1,
     };
-    let work = run_all(rt, rt.alloc(), &queue, party, plan);
     let Work {
         party,
         counts,
         done,
-    } = work.expect(rt, "memory for the counts");
+    } = work_of(rt, &queue, party, plan);
     Emptied {
         pushed,
         closed,
@@ -227,12 +241,11 @@ fn run_of_six<R: Abort + Threads + Wait + Sync + AllocGlobal>(rt: &R) -> Run {
         items: 100,
         share: 200,
     };
-    let work = run_all(rt, rt.alloc(), &queue, party, plan);
     let Work {
         party,
         counts,
         done,
-    } = work.expect(rt, "memory for the counts");
+    } = work_of(rt, &queue, party, plan);
     (done, judge(4, &counts), end(queue, party))
 }
 
