@@ -1,4 +1,6 @@
 mod Filling
 mod Persons
+mod Stops
+mod StopsIn
 mod TableCalls
 mod WebParties

@@ -2,5 +2,9 @@ pub mod Shared
 pub mod ChainSite
 pub mod InWeb
 pub mod Leaving
+pub mod Pausing
+pub mod Begun
+pub mod Pending
+pub mod Comes
 pub mod SharedIter
 pub mod Laws

@@ -115,7 +115,7 @@ impl<T, A: Allocator, Q: Source<T, A>> SharedSite<T, Place<T>, Asking<T, A, Q>>
 impl<T, A: Allocator, Q> Asking<T, A, Q> {
     /// The seat of a party that begins a call.
     #[inline(always)]
-    fn wake(chain: &ChainWeb<T, A>, party: &mut Rested<CallState<T>>) -> Self
+    pub(crate) fn wake(chain: &ChainWeb<T, A>, party: &mut Rested<CallState<T>>) -> Self
         requires { (party.old.asleep ≡ true) × (party.old.web ≡ web_of chain.now) }
         ensures seat { SitsAt chain.now result.seat × (result.seat.sitter ≡ sitter party.old.view None None) }
         ensures left { party.new.asleep ≡ false }
@@ -128,7 +128,7 @@ impl<T, A: Allocator, Q> Asking<T, A, Q> {
 
     /// The party rests again.
     #[inline(always)]
-    fn rests(self) -> Rested<CallState<T>>
+    pub(crate) fn rests(self) -> Rested<CallState<T>>
         requires { (self.seat.sitter.hand ≡ None) × (self.seat.sitter.spare ≡ None) }
         ensures { (result.asleep ≡ true) × (result.web ≡ self.seat.web) × (result.view ≡ self.seat.sitter.view) }
     {

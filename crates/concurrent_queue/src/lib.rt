@@ -3,7 +3,9 @@
 
 mod allocated_chain;
 mod chain;
+pub mod one_heap;
 mod party;
+mod pausing;
 pub mod shared;
 mod waiting;
 
@@ -11,4 +13,4 @@ pub use exclusive_queue::{Exclusive, Store, exclusive as exclusive, run};
 pub use mem_blocks::null_testable::NullTestable as NullTestable;
 pub use queue_steps::errors::{ForcePushError, PopError, PushError};
 pub use queue_steps::{errors as errors, model as model, steps as steps};
-pub use shared::{ConcurrentQueue, Party, TryIter};
+pub use shared::{ConcurrentQueue, Outcome, Party, Pending, TryIter};

@@ -41,8 +41,10 @@ use std::{fmt, mem};
 
 mod count;
 mod iter;
+pub mod pending;
 
 pub use iter::TryIter;
+pub use pending::{Outcome, Pending};
 
 /// A queue that parties share.
 ///
@@ -60,6 +62,8 @@ struct Displaces;
 struct Pops;
 
 struct Counts;
+
+struct Begins;
 
 /// The same calls on a ring whose capacity is a power of two.
 struct Masked<W> {

@@ -19,7 +19,7 @@ use std::thread::yield_now;
 /// Whether a call that stood there, and then here, has met another one half done, so that it tries again: a stamp is not stored yet, another call moves on to
 /// the next block, or an item is not written yet. A call that finds one slot locked is not among them: it tries again at once.
 #[inline(always)]
-fn must_give_way<B: Copy>(before: &Local<B>, after: &Local<B>) -> bool {
+pub(crate) fn must_give_way<B: Copy>(before: &Local<B>, after: &Local<B>) -> bool {
     match (before, after) {
         (Local::Bounded(before), Local::Bounded(after)) => match (before, after) {
             (BoundedLocal::PushStamp(_, _), BoundedLocal::PushTail(_)) => true,
@@ -81,6 +81,19 @@ pub(crate) struct Left<T, B> {
     pub(crate) call: CallKind,
     pub(crate) progress: Progress<B>,
     pub(crate) carried: Option<T>,
+}
+
+impl<T: Drop, B: Copy> Left<T, B> {
+    /// Drops the value that the call carries.
+    pub(crate) fn forgo(self) {
+        let Left {
+            kind: _,
+            call: _,
+            progress: _,
+            carried,
+        } = self;
+        drop(carried);
+    }
 }
 
 /// Begins a call and takes its fast steps `F`. The reply is put together here, so that the compiler knows its kind where the fast steps end.

@@ -2,6 +2,7 @@ pub mod RingCells
 pub mod RingTransitions
 pub mod RingPasses
 pub mod RingAt
+pub mod RingEarly
 pub mod RingWords
 pub mod RingSlots
 pub mod RingIdle

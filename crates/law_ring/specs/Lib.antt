@@ -3,5 +3,6 @@ pub mod RingCells
 pub mod RingWords
 pub mod RingPasses
 pub mod RingAt
+pub mod RingEarly
 pub mod RingOpening
 pub mod RingTransitions

@@ -1,4 +1,5 @@
 pub mod SlotSteps
+pub mod SlotEarly
 pub mod SlotRanks
 pub mod SlotHolder
 pub mod SlotCells

@@ -1,4 +1,5 @@
 pub mod SlotShared
 pub mod SlotHolder
 pub mod SlotRows
+pub mod SlotEarly
 pub mod SlotCells

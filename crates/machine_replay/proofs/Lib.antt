@@ -77,3 +77,12 @@ pub mod CallsTold
 pub mod Rising
 pub mod OwnersReplay
 pub mod PeakTold
+pub mod Standings
+pub mod Stretch
+pub mod Appended
+pub mod Taken
+pub mod SingleStretch
+pub mod RingStretch
+pub mod ChainStretch
+pub mod ChainTaken
+pub mod Unhindered

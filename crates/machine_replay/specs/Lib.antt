@@ -20,3 +20,4 @@ pub mod Skips
 pub mod WordsOf
 pub mod AtOnce
 pub mod PeakTold
+pub mod Progress

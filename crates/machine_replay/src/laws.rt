@@ -3,6 +3,7 @@ ghost use Rattle.machine_replay.specs.Meaning.{ConformingHasHistory};
 ghost use Rattle.machine_replay.specs.AtOnce.{DisplacesAtOnce};
 ghost use Rattle.machine_replay.specs.OneOwner.{OnePartyIsOneOwner};
 ghost use Rattle.machine_replay.specs.PeakTold.{PeakIsOfTheRun};
+ghost use Rattle.machine_replay.specs.Progress.{AppendsReply, HalfDoneNeverWaits, SilenceIsShort, TakesReply, UnhinderedCallsReply};
 ghost use Rattle.machine_replay.specs.Skips.{SkippedIsExact};
 ghost use Rattle.machine_replay.specs.Within.{NothingAppendedWithin, SoloCallsReply, WaitFreeCallsReply};
 
@@ -31,6 +32,38 @@ pub fn nothing_appended_within<T>()
 /// A call that is in progress, while every other party is between calls and begins none, replies within `SOLO_STEPS` steps of its own.
 pub fn solo_calls_reply<T, A: Allocator>()
     ensures { SoloCallsReply T A }
+{}
+
+/// From any moment on at which no other party is half done, and while no other party has an effect, a call replies by its step of this number: its third on one slot, its seventh on a
+/// ring, its seventy-fourth on a chain that has shown the poppers a block.
+///
+/// A party is half done in a call that has had an effect and has not replied. So a party makes nobody wait while it is between calls, or in a call that has had no effect, wherever it
+/// stops; it may also begin calls, take steps and get replies meanwhile.
+pub fn unhindered_calls_reply<T>()
+    ensures { UnhinderedCallsReply T }
+{}
+
+/// On a queue with a capacity each step of a half-done call has an effect or ends the call. So a call that others wait for never waits itself.
+pub fn half_done_never_waits<T>()
+    ensures { HalfDoneNeverWaits T }
+{}
+
+/// Behind the step by which a call appends it replies by its next step on a queue with a capacity, and by its fourth on a chain, whatever the other parties do.
+pub fn appends_reply<T>()
+    ensures { AppendsReply T }
+{}
+
+/// Behind the step by which a call takes it replies by its next step on a queue with a capacity. On a chain it replies within two steps for each slot of a block and four, while no
+/// other call is between its append and its reply: a pop that has taken waits for such a call alone.
+pub fn takes_reply<T>()
+    ensures { TakesReply T }
+{}
+
+/// A stretch of a run in which nobody has an effect and nobody gets a reply is short, unless half-done calls stand still in it.
+///
+/// Where nobody is half done at its beginning each call takes fewer steps in it than `unhindered_calls_reply` says; on a queue with a capacity a half-done call takes none.
+pub fn silence_is_short<T>()
+    ensures { SilenceIsShort T }
 {}
 
 /// `close`, `is_closed`, `is_empty` and `is_full` reply by their second step, whatever the other parties do.

@@ -49,9 +49,9 @@ impl<S, V, A: Allocator> Seat<S, V, A> {
         }
     }
 
-    // Gives the seat up, with what it has in hand and carries. Its view stays among the views.
+    /// Gives the seat up, with what it has in hand and carries. Its view stays among the views.
     #[inline(always)]
-    pub(crate) fn leave(self) {
+    pub fn leave(self) {
         let Self { marker: _ } = self;
     }
 

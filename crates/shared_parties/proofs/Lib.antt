@@ -14,3 +14,4 @@ pub mod Histories
 pub mod SharedCalls
 pub mod Counting
 pub mod Called
+pub mod Quits

@@ -1,4 +1,5 @@
 mod TableParties
+mod Quitting
 mod Crowds
 mod TableAllows
 mod TableOperations

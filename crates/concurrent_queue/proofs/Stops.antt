@@ -1,0 +1,140 @@
+-- A call of a party at a table that stands before one of its steps: how it comes to stand there, and how it is taken up.
+use Rattle.std.proofs.Common.{◌≡◌, ℕ, ◌≤◌, [], Option, Some, refl, sym, ap, subst, ◌∙◌, arith}
+use Rattle.atomic_table.specs.Seated.{TableId}
+use Rattle.atomic_table.specs.declared.shared.Seat.{Seat}
+use Rattle.queue_steps.specs.declared.model.Call.{Call}
+use Rattle.queue_steps.specs.declared.model.Reply.{Reply}
+use Rattle.queue_steps.specs.declared.steps.types.Kind.{Kind}
+use Rattle.queue_steps.specs.declared.steps.types.Next.{Next}
+use Rattle.queue_steps.specs.declared.steps.types.Next.TheVariants as next
+use Rattle.queue_steps.specs.Kinds.{call_kind}
+use Rattle.queue_steps.specs.Next.{next_of}
+use Rattle.queue_steps.specs.Parties.{View, IsView}
+use Rattle.shared_parties.specs.declared.known.CallState.{CallState}
+use Rattle.shared_parties.specs.declared.known.InCall.{InCall}
+use Rattle.shared_parties.specs.declared.known.Work.{Work}
+use Rattle.shared_parties.specs.declared.known.Work.TheVariants as work
+use Rattle.shared_parties.specs.Called.{call_of_work, nothing_called}
+use Rattle.shared_parties.specs.Calling.{cap_of}
+use Rattle.shared_parties.specs.CallsAt.{begun_at}
+use Rattle.shared_parties.specs.CallStates.{idle}
+use Rattle.shared_parties.specs.Known.{party}
+use Rattle.shared_tables.specs.AtTable.{TableSeat, Ended}
+use Rattle.shared_tables.specs.Seats.{Seated, view_at}
+use Rattle.shared_tables.specs.TableRule.{TableOf}
+use Rattle.shared_tables.specs.TableTurns.{After, TableStands}
+use Rattle.concurrent_queue.specs.declared.waiting.Left.{Left}
+use Rattle.concurrent_queue.specs.declared.party.SeatPlace.{SeatPlace}
+use Rattle.concurrent_queue.specs.declared.party.SeatPlace.TheVariants as place
+use Rattle.concurrent_queue.specs.Shared.{QueueId, QueueName, at_table, Person, person, IsHeld, Calls, person_of}
+use Rattle.concurrent_queue.specs.Begun.{Begun}
+use Rattle.concurrent_queue.specs.Pausing.{IsStep}
+use Rattle.concurrent_queue.specs.Pending.{its_call, begun_by, IsStoppedAt}
+use Rattle.concurrent_queue.proofs.TableCalls.{table_ends}
+
+-- a table is told by its name
+pub same_table : (a b : TableId) → at_table a ≡ at_table b → a ≡ b
+same_table a b e = let h : at_table a ≡ at_table b = e in cc
+
+-- a ring is no queue of one slot
+pub not_one : (n : ℕ) → 2 ≤ n → Some 1 ≡ Some n → ⊥
+not_one n wide is = let one : 1 ≡ n = cc in omega (arith, wide, one)
+
+module _ {T : Type 0} where
+  -- the call that a seat is at, seen as contracts see it
+  pub begun_is : (n : QueueName) (cap : Option ℕ) (d : CallState T) (v : Person T) (c : Call T) → v.queue ≡ record { name = n; cap = cap } → begun_at (its_call d) ≡ v.view → (its_call d).call ≡ c → begun_by n cap d ≡ record { party = v; call = c }
+  begun_is n cap d v c queue view call = λ i. record { party = record { queue = sym queue i; view = view i }; call = call i }
+
+  -- a call that is to do a step is that of its seat
+  at_step : (K : TableOf T) (b : InCall T) (v : Option T) (n : Next ℕ) (m : Seated T) → IsStep n → After K b v n m → (d : InCall T) × (m.0.work ≡ work.Calls d) × (d.call ≡ b.call) × (begun_at d ≡ begun_at b) × After K d v n m
+  at_step K b v (next.Step l t o) m is (d, at, local, touch, op, carried, call, begun, lends, touched, word) = (d, at, call, begun, (d, at, local, touch, op, carried, refl, refl, lends, touched, word))
+  at_step K b v (next.Reply x spare) m is h = absurd is
+
+  at_its : (d : CallState T) (c : InCall T) → d.work ≡ work.Calls c → its_call d ≡ c
+  at_its d c at = ap (call_of_work nothing_called) at
+
+module _ {T : Type 0} (K : ℕ → TableOf T) (t : TableId) where
+  abbrev cap : Option ℕ
+  cap = cap_of (K t.slots).calls
+
+  abbrev at : Seat (Option T) (CallState T) → TableSeat T
+  at s = (s.table_id, s.me)
+
+  -- the seat with which the call of this seat began
+  abbrev pub first_seat : Seat (Option T) (CallState T) → Seat (Option T) (CallState T)
+  first_seat s = let c = its_call s.me.0 in record s { me = (idle (party cap c.since c.before c.share), []) }
+
+  -- the seat's call stands at this table, and is that of v
+  abbrev pub StopsHere : Seat (Option T) (CallState T) → Left T ℕ → Begun T → Type 0
+  StopsHere s l v = (s.table_id ≡ t) × IsStoppedAt (K t.slots) s l × (begun_by (at_table t) cap s.me.0 ≡ v)
+
+  -- what is so of it at the seat's own table
+  abbrev pub StopsThere : Seat (Option T) (CallState T) → Left T ℕ → Begun T → Type 0
+  StopsThere s l v = IsStoppedAt (K s.table_id.slots) s l × (begun_by (at_table s.table_id) (cap_of (K s.table_id.slots).calls) s.me.0 ≡ v)
+
+  pub come_here : (s : Seat (Option T) (CallState T)) (l : Left T ℕ) (v : Begun T) → s.table_id ≡ t → StopsThere s l v → StopsHere s l v
+  come_here s l v here h =
+      let h' = subst (λ (z : TableId). IsStoppedAt (K z.slots) s l × (begun_by (at_table z) (cap_of (K z.slots).calls) s.me.0 ≡ v)) here h in
+      (here, h'.0, h'.1)
+
+  pub go_there : (s : Seat (Option T) (CallState T)) (l : Left T ℕ) (v : Begun T) → StopsHere s l v → StopsThere s l v
+  go_there s l v h = subst (λ (z : TableId). IsStoppedAt (K z.slots) s l × (begun_by (at_table z) (cap_of (K z.slots).calls) s.me.0 ≡ v)) (sym h.0) (h.1, h.2)
+
+  -- its next step is one
+  pub own_step : (s : Seat (Option T) (CallState T)) (l : Left T ℕ) (v : Begun T) → StopsHere s l v → IsStep (next_of l.kind l.progress.local l.progress.answer)
+  own_step s l v h = subst (λ (k : Kind). IsStep (next_of k l.progress.local l.progress.answer)) (sym h.1.kind) h.1.step
+
+  -- where a call stands, it may be taken up
+  pub taken_up : (n : ℕ) (s : Seat (Option T) (CallState T)) (l : Left T ℕ) (v : Begun T) → StopsHere s l v
+      → TableStands K n t (at (first_seat s)) (its_call s.me.0).call l.progress.local l.progress.answer (at s) l.carried
+  taken_up n s l v h = (h.0, (its_call s.me.0, refl, refl, h.1.can, h.1.after))
+
+  -- a call that has taken a step, and is to do another, stands there
+  stops : (n : ℕ) (p : TableSeat T) (c : Call T) (s : Seat (Option T) (CallState T)) (l : Left T ℕ) → IsView cap (view_at p.1) → l.kind ≡ (K t.slots).calls.kind → l.call ≡ call_kind c
+      → TableStands K n t p c l.progress.local l.progress.answer (at s) l.carried → IsStep (next_of l.kind l.progress.local l.progress.answer)
+      → (s.table_id ≡ t) × IsStoppedAt (K t.slots) s l × (begun_at (its_call s.me.0) ≡ view_at p.1) × ((its_call s.me.0).call ≡ c)
+  stops n p c s l is_view is_kind is_call (here, (b, of, begun, can, after)) step =
+      let step' : IsStep (next_of (K t.slots).calls.kind l.progress.local l.progress.answer) = subst (λ (k : Kind). IsStep (next_of k l.progress.local l.progress.answer)) is_kind step in
+      let h = at_step (K t.slots) b l.carried (next_of (K t.slots).calls.kind l.progress.local l.progress.answer) s.me step' after in
+      let d = h.0 in
+      let same : its_call s.me.0 ≡ d = at_its s.me.0 d h.1 in
+      let view : begun_at (its_call s.me.0) ≡ view_at p.1 = ap begun_at same ∙ (h.3 ∙ begun) in
+      let call : (its_call s.me.0).call ≡ c = ap (λ (z : InCall T). z.call) same ∙ (h.2 ∙ of) in (
+        here,
+        record {
+          at = h.1 ∙ ap work.Calls (sym same);
+          kind = is_kind;
+          call = is_call ∙ ap call_kind (sym call);
+          view = subst (IsView cap) (sym view) is_view;
+          can = can;
+          after = subst (λ (z : InCall T). After (K t.slots) z l.carried (next_of (K t.slots).calls.kind l.progress.local l.progress.answer) s.me) (sym same) h.4;
+          step = step';
+        },
+        view,
+        call,
+      )
+
+  -- so does one that the party v began
+  pub started : (n : ℕ) (a : SeatPlace T) (s q : Seat (Option T) (CallState T)) (l : Left T ℕ) (v : Person T) (c : Call T) → a ≡ place.Table s → IsHeld a → person_of a ≡ v → v.queue ≡ record { name = at_table t; cap = cap }
+      → l.kind ≡ (K t.slots).calls.kind → l.call ≡ call_kind c → TableStands K n t (at s) c l.progress.local l.progress.answer (at q) l.carried → IsStep (next_of l.kind l.progress.local l.progress.answer)
+      → StopsHere q l (record { party = v; call = c })
+  started n a s q l v c sits is is_v queue kind call stands step =
+      let is_v' : person_of (place.Table s) ≡ v = subst (λ (p : SeatPlace T). person_of p ≡ v) sits is_v in
+      let cap_is : s.me.0.known.cap ≡ cap = ap (λ (z : Person T). z.queue.cap) is_v' ∙ ap (λ (z : QueueId). z.cap) queue in
+      let h = stops n (at s) c q l (subst (λ (z : Option ℕ). IsView z (view_at s.me)) cap_is (subst IsHeld sits is).0.1) kind call stands step in
+      (h.0, h.1, begun_is (at_table t) cap q.me.0 v c queue (h.2 ∙ ap (λ (z : Person T). z.view) is_v') h.3)
+
+  -- and one that was taken up
+  pub went_on : (n : ℕ) (s q : Seat (Option T) (CallState T)) (l m : Left T ℕ) (v : Begun T) → StopsHere s l v → m.kind ≡ (K t.slots).calls.kind → m.call ≡ call_kind (its_call s.me.0).call
+      → TableStands K n t (at (first_seat s)) (its_call s.me.0).call m.progress.local m.progress.answer (at q) m.carried → IsStep (next_of m.kind m.progress.local m.progress.answer) → StopsHere q m v
+  went_on n s q l m v old kind call stands step =
+      let h = stops n (at (first_seat s)) (its_call s.me.0).call q m old.1.view kind call stands step in
+      (h.0, h.1, (λ i. record { party = record { queue = record { name = at_table t; cap = cap }; view = h.2 i }; call = h.3 i }) ∙ old.2)
+
+  -- a call that was taken up and has ended
+  pub ended : (s q : Seat (Option T) (CallState T)) (l : Left T ℕ) (v : Begun T) (y : Reply T) → StopsHere s l v → Ended cap t (at (first_seat s)) (its_call s.me.0).call y (at q)
+      → IsHeld (place.Table q) × Calls v.party v.call y (person_of (place.Table q))
+  ended s q l v y old e =
+      let is_v : person_of (place.Table (first_seat s)) ≡ v.party = ap (λ (z : TableId). person (at_table z) (first_seat s).me.0) old.0 ∙ ap (λ (z : Begun T). z.party) old.2 in
+      let h = table_ends (place.Table (first_seat s)) (first_seat s) cap t refl ((refl, old.1.view), refl) q (place.Table q) v.party (its_call s.me.0).call y y refl refl is_v (ap (λ (z : Begun T). z.party.queue.cap) (sym old.2)) (sym old.0) e in
+      (h.0, subst (λ (z : Call T). Calls v.party z y (person_of (place.Table q))) (ap (λ (z : Begun T). z.call) old.2) h.1)

@@ -1,0 +1,139 @@
+-- A call of a party of a shared chain that stands before one of its steps: how it comes to stand there, and how it is taken up.
+use Rattle.std.proofs.Common.{◌≡◌, ℕ, true, None, Option, refl, sym, ap, subst, ◌∙◌}
+use Rattle.mem_blocks.specs.Laid.{WebId}
+use Rattle.mem_blocks.specs.Web.{Sitter, sitter}
+use Rattle.mem_blocks.specs.declared.block.BlockPtr.{BlockPtr as Link}
+use Rattle.mem_blocks.specs.declared.web.Rested.{Rested}
+use Rattle.queue_steps.specs.declared.model.Call.{Call}
+use Rattle.queue_steps.specs.declared.model.Reply.{Reply}
+use Rattle.queue_steps.specs.declared.steps.types.Kind.{Kind}
+use Rattle.queue_steps.specs.declared.steps.types.Kind.TheVariants as queue
+use Rattle.queue_steps.specs.declared.steps.types.Next.{Next}
+use Rattle.queue_steps.specs.declared.steps.types.Next.TheVariants as next
+use Rattle.queue_steps.specs.Kinds.{call_kind}
+use Rattle.queue_steps.specs.Next.{next_of}
+use Rattle.queue_steps.specs.Parties.{IsView, SharedCall}
+use Rattle.shared_parties.specs.declared.known.CallState.{CallState}
+use Rattle.shared_parties.specs.declared.known.InCall.{InCall}
+use Rattle.shared_parties.specs.declared.known.Work.TheVariants as work
+use Rattle.shared_parties.specs.Called.{call_of_work, nothing_called}
+use Rattle.shared_parties.specs.CallsAt.{begun_at}
+use Rattle.shared_parties.specs.CallStates.{idle, IsResting, HasAll}
+use Rattle.shared_parties.specs.Known.{party, view_of}
+use Rattle.shared_chain.specs.Names.{link_of, next_map}
+use Rattle.shared_chain.specs.Steps as chain
+use Rattle.shared_chain.specs.Turning.{SitsAt, ChainStands, ChainEnded}
+use Rattle.shared_chain.specs.declared.web.ChainWeb.{ChainWeb}
+use Rattle.shared_chain.proofs.Renamed.{next_of_map}
+use Rattle.concurrent_queue.specs.declared.chain.Asking.{Asking}
+use Rattle.concurrent_queue.specs.declared.waiting.Left.{Left}
+use Rattle.concurrent_queue.specs.declared.party.SeatPlace.{SeatPlace}
+use Rattle.concurrent_queue.specs.declared.party.SeatPlace.TheVariants as place
+use Rattle.concurrent_queue.specs.Shared.{QueueId, in_web, Person, person, IsHeld, Calls, person_of}
+use Rattle.concurrent_queue.specs.Begun.{Begun}
+use Rattle.concurrent_queue.specs.InWeb.{EndedAt}
+use Rattle.concurrent_queue.specs.Pausing.{IsStep}
+use Rattle.concurrent_queue.specs.Pending.{its_call, begun_by, IsStoppedIn}
+use Rattle.concurrent_queue.proofs.Stops.{begun_is}
+use Rattle.concurrent_queue.proofs.WebParties.{web_ends}
+
+-- a web is told by its name
+pub same_web : (a b : WebId) → in_web a ≡ in_web b → a ≡ b
+same_web a b e = let h : in_web a ≡ in_web b = e in cc
+
+-- a step is one whatever the blocks are named by
+step_named : (T : Type 0) (n : Next ℕ) → IsStep (next_map (link_of {T = T}) n) → IsStep n
+step_named T (next.Step l t o) is = tt
+step_named T (next.Reply x spare) is = absurd is
+
+module _ {T : Type 0} where
+  -- a call that is to do a step is that of its seat
+  in_step : (b : InCall T) (v : Option T) (n : Next ℕ) (m : Sitter T (CallState T)) → IsStep n → chain.After b v n m → (d : InCall T) × (m.view.work ≡ work.Calls d) × (d.call ≡ b.call) × (begun_at d ≡ begun_at b) × chain.After d v n m
+  in_step b v (next.Step l t o) m is (xs, (d, at, local, touch, op, carried, call, begun, lends), holds, may) = (d, at, call, begun, (xs, (d, at, local, touch, op, carried, refl, refl, lends), holds, may))
+  in_step b v (next.Reply x spare) m is h = absurd is
+
+module _ {T A Q : Type 0} (w : ChainWeb T A) where
+  -- the seat with which the call of this seat began
+  abbrev pub first_asking : Asking T A Q → Asking T A Q
+  first_asking s = let c = its_call s.seat.sitter.view in record s { seat = record s.seat { sitter = sitter (idle (party None c.since c.before c.share)) None None } }
+
+  -- the seat's call stands in this web, and is that of v
+  abbrev pub StopsInside : Asking T A Q → Left T (Link T) → Begun T → Type 0
+  StopsInside s l v = SitsAt w s.seat × IsStoppedIn s l × (begun_by (in_web s.seat.web) None s.seat.sitter.view ≡ v)
+
+  -- its next step is one
+  pub own_step_in : (s : Asking T A Q) (l : Left T (Link T)) (v : Begun T) → StopsInside s l v → IsStep (next_of l.kind l.progress.local l.progress.answer)
+  own_step_in s l v h = subst (λ (k : Kind). IsStep (next_of k l.progress.local l.progress.answer)) (sym h.1.kind) h.1.step
+
+  -- where a call stands, it may be taken up
+  pub taken_up_in : (s : Asking T A Q) (l : Left T (Link T)) (v : Begun T) → StopsInside s l v
+      → ChainStands w (first_asking s).seat (its_call s.seat.sitter.view).call l.progress.local l.progress.answer s.seat l.carried
+  taken_up_in s l v h = (h.0, (its_call s.seat.sitter.view, refl, refl, (h.1.local, h.1.answer, h.1.local_is, h.1.answer_is, h.1.can, h.1.after)))
+
+  -- a call that has taken a step, and is to do another, stands there
+  stops_in : (p s : Asking T A Q) (c : Call T) (l : Left T (Link T)) → IsView None (view_of p.seat.sitter.view.known) → l.kind ≡ queue.Unbounded → l.call ≡ call_kind c
+      → ChainStands w p.seat c l.progress.local l.progress.answer s.seat l.carried → IsStep (next_of l.kind l.progress.local l.progress.answer)
+      → SitsAt w s.seat × IsStoppedIn s l × (begun_at (its_call s.seat.sitter.view) ≡ view_of p.seat.sitter.view.known) × ((its_call s.seat.sitter.view).call ≡ c)
+  stops_in p s c l is_view is_kind is_call (sits, (b, of, begun, (i, a, local_is, answer_is, can, after))) step =
+      let step' : IsStep (next_of queue.Unbounded l.progress.local l.progress.answer) = subst (λ (k : Kind). IsStep (next_of k l.progress.local l.progress.answer)) is_kind step in
+      let named : next_map link_of (next_of queue.Unbounded i a) ≡ next_of queue.Unbounded l.progress.local l.progress.answer = sym (next_of_map link_of i a can) ∙ (λ j. next_of queue.Unbounded (local_is j) (sym answer_is j)) in
+      let h = in_step b l.carried (next_of queue.Unbounded i a) s.seat.sitter (step_named T (next_of queue.Unbounded i a) (subst IsStep (sym named) step')) after in
+      let d = h.0 in
+      let same : its_call s.seat.sitter.view ≡ d = ap (call_of_work nothing_called) h.1 in
+      let view : begun_at (its_call s.seat.sitter.view) ≡ view_of p.seat.sitter.view.known = ap begun_at same ∙ (h.3 ∙ begun) in
+      let call : (its_call s.seat.sitter.view).call ≡ c = ap (λ (z : InCall T). z.call) same ∙ (h.2 ∙ of) in (
+        sits,
+        record {
+          at = h.1 ∙ ap work.Calls (sym same);
+          kind = is_kind;
+          call = is_call ∙ ap call_kind (sym call);
+          view = subst (IsView None) (sym view) is_view;
+          local = i;
+          answer = a;
+          local_is = local_is;
+          answer_is = answer_is;
+          can = can;
+          after = subst (λ (z : InCall T). chain.After z l.carried (next_of queue.Unbounded i a) s.seat.sitter) (sym same) h.4;
+          step = step';
+        },
+        view,
+        call,
+      )
+
+  -- so does one that the party v began
+  pub started_in : (r : Rested (CallState T)) (a : SeatPlace T) (p q : Asking T A Q) (l : Left T (Link T)) (v : Person T) (c : Call T) → a ≡ place.Web r → IsHeld a → person_of a ≡ v → v.queue ≡ record { name = in_web w.web.id; cap = None }
+      → p.seat.sitter ≡ sitter r.view None None → l.kind ≡ queue.Unbounded → l.call ≡ call_kind c → ChainStands w p.seat c l.progress.local l.progress.answer q.seat l.carried → IsStep (next_of l.kind l.progress.local l.progress.answer)
+      → StopsInside q l (record { party = v; call = c })
+  started_in r a p q l v c sits is is_v queue woke kind call stands step =
+      let is_v' : person_of (place.Web r) ≡ v = subst (λ (z : SeatPlace T). person_of z ≡ v) sits is_v in
+      let cap_is : r.view.known.cap ≡ None = ap (λ (z : Person T). z.queue.cap) is_v' ∙ ap (λ (z : QueueId). z.cap) queue in
+      let view_is : view_of p.seat.sitter.view.known ≡ view_of r.view.known = ap (λ (z : Sitter T (CallState T)). view_of z.view.known) woke in
+      let h = stops_in p q c l (subst (IsView None) (sym view_is) (subst (λ (z : Option ℕ). IsView z (view_of r.view.known)) cap_is (subst IsHeld sits is).0.1)) kind call stands step in
+      (h.0, h.1, begun_is (in_web q.seat.web) None q.seat.sitter.view v c (queue ∙ (λ i. record { name = in_web (sym h.0.0 i); cap = None })) (h.2 ∙ (view_is ∙ ap (λ (z : Person T). z.view) is_v')) h.3)
+
+  -- and one that was taken up
+  pub went_on_in : (s q : Asking T A Q) (l m : Left T (Link T)) (v : Begun T) → StopsInside s l v → m.kind ≡ queue.Unbounded → m.call ≡ call_kind (its_call s.seat.sitter.view).call
+      → ChainStands w (first_asking s).seat (its_call s.seat.sitter.view).call m.progress.local m.progress.answer q.seat m.carried → IsStep (next_of m.kind m.progress.local m.progress.answer) → StopsInside q m v
+  went_on_in s q l m v old kind call stands step =
+      let h = stops_in (first_asking s) q (its_call s.seat.sitter.view).call m old.1.view kind call stands step in
+      let web : q.seat.web ≡ s.seat.web = h.0.0 ∙ sym old.0.0 in
+      (h.0, h.1, (λ i. record { party = record { queue = record { name = in_web (web i); cap = None }; view = h.2 i }; call = h.3 i }) ∙ old.2)
+
+  -- a call that was taken up and has ended
+  pub ended_in : (s q : Asking T A Q) (l : Left T (Link T)) (v : Begun T) (y : Reply T) (r : Rested (CallState T)) → StopsInside s l v → ChainEnded w (first_asking s).seat (its_call s.seat.sitter.view).call y q.seat
+      → r.asleep ≡ true → r.web ≡ q.seat.web → r.view ≡ q.seat.sitter.view → IsHeld (place.Web r) × Calls v.party v.call y (person_of (place.Web r))
+  ended_in s q l v y r old e asleep web view =
+      let c = its_call s.seat.sitter.view in
+      let first : Rested (CallState T) = record r { view = idle (party None c.since c.before c.share) } in
+      let web_is : r.web ≡ s.seat.web = web ∙ (e.0.0.0 ∙ sym old.0.0) in
+      let is_v : person_of (place.Web first) ≡ v.party = ap (λ z. person (in_web z) first.view) web_is ∙ ap (λ (z : Begun T). z.party) old.2 in
+      let ends : EndedAt first c.call y r = (
+        asleep,
+        refl,
+        subst IsResting (sym view) e.0.1.2,
+        ap (λ (d : CallState T). d.known.cap) view ∙ e.0.1.3,
+        subst HasAll (sym view) e.0.1.5,
+        subst (λ (d : CallState T). SharedCall None (view_of first.view.known) (view_of d.known) c.call y) (sym view) e.1,
+      ) in
+      let h = web_ends (place.Web first) (place.Web r) first r v.party c.call y y refl ((refl, old.1.view), asleep) refl refl is_v (ap (λ (z : Begun T). z.party.queue.cap) (sym old.2)) ends in
+      (h.0, subst (λ (z : Call T). Calls v.party z y (person_of (place.Web r))) (ap (λ (z : Begun T). z.call) old.2) h.1)

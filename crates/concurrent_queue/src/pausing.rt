@@ -1,0 +1,120 @@
+//! A party's call that does not wait: it takes steps until its reply, or until it has met another call half done, and then stands where it is.
+ghost use Rattle.std.specs.Prelude.{◌-◌};
+ghost use Rattle.std.specs.ControlFlow.{MatchControlFlow};
+ghost use Rattle.queue_steps.specs.declared.model.Call.{Call as SpecCall};
+ghost use Rattle.queue_steps.specs.declared.sizes.TheConstants.{SOLO_STEPS};
+ghost use Rattle.call_driver.specs.Leads.{MayGive, Gave};
+ghost use Rattle.call_driver.specs.OnWay.{Stood};
+ghost use Rattle.concurrent_queue.specs.Leaving.{IsLeft};
+ghost use Rattle.concurrent_queue.specs.Pausing.{IsPaused};
+
+use crate::waiting::{Left, must_give_way, run_fast};
+use call_driver::fast::Row;
+use call_driver::gate::Gate;
+use call_driver::progress::Progress;
+use call_driver::retry::retry;
+use call_driver::site::Site;
+use queue_steps::model::{Call, CallKind, Reply};
+use queue_steps::sizes::SOLO_STEPS;
+use queue_steps::steps::{Kind, KindSteps, Next};
+use std::ops::ControlFlow;
+
+/// Gives up the block that a reply hands out.
+fn give_back<T, B: Copy, S, M: Site<T, B, S>>(site: &M, seat: &mut S, spare: Option<B>)
+    requires { MayGive M.spares site.now seat.old spare }
+    ensures { Gave M.gives site.now seat.old spare seat.new }
+{
+    if let Some(block) = spare {
+        site.give_up(seat, block);
+    }
+}
+
+/// What is next of a call that has taken a step: its reply, or else it stands there.
+fn pause<T, B: Copy, S, M: Site<T, B, S>>(
+    site: &M,
+    kind: Kind,
+    call: CallKind,
+    seat: &mut S,
+    progress: Progress<B>,
+    carried: Option<T>,
+) -> ControlFlow<Reply<T>, Left<T, B>>
+    requires { (c : SpecCall T) × (first : S) × Stood M.Site (SOLO_STEPS - 1) kind call site.now first c progress carried seat.old }
+    ensures { (c : SpecCall T) (first : S) → Stood M.Site (SOLO_STEPS - 1) kind call site.now first c progress carried seat.old → MatchControlFlow result (λ left. IsPaused M.Site site.now first c left seat.new) (λ reply. M.ended site.now first c reply seat.new) }
+{
+    let todo = M::Steps::next(kind, progress.local, progress.answer);
+    match todo {
+        Next::Reply(reply, spare) => {
+            give_back(site, seat, spare);
+            ControlFlow::Break(Reply::fill(reply, carried))
+        }
+        Next::Step(_, _, _) => ControlFlow::Continue(Left {
+            kind,
+            call,
+            progress,
+            carried,
+        }),
+    }
+}
+
+/// Takes steps of a call until its reply, or until it has met another call half done; at most as many rounds as a call takes steps that meets no other.
+pub(crate) fn carry_on<T, B: Copy, S, M: Site<T, B, S>, G: Gate>(
+    site: &M,
+    gate: &G,
+    seat: &mut S,
+    left: Left<T, B>,
+) -> ControlFlow<Reply<T>, Left<T, B>>
+    requires { (c : SpecCall T) × (first : S) × IsLeft M.Site site.now first c left seat.old }
+    ensures { (c : SpecCall T) (first : S) → IsLeft M.Site site.now first c left seat.old → MatchControlFlow result (λ paused. IsPaused M.Site site.now first c paused seat.new) (λ reply. M.ended site.now first c reply seat.new) }
+{
+    let Left {
+        kind,
+        call,
+        progress,
+        mut carried,
+    } = left;
+    let mut before = progress.local;
+    let mut progress = match retry(site, gate, kind, call, seat, progress, &mut carried) {
+        ControlFlow::Break(reply) => return ControlFlow::Break(Reply::fill(reply, carried)),
+        ControlFlow::Continue(after) => after,
+    };
+    for _ in 1..SOLO_STEPS {
+        if must_give_way(&before, &progress.local) {
+            break;
+        }
+        before = progress.local;
+        match retry(site, gate, kind, call, seat, progress, &mut carried) {
+            ControlFlow::Break(reply) => return ControlFlow::Break(Reply::fill(reply, carried)),
+            ControlFlow::Continue(after) => progress = after,
+        }
+    }
+    pause(site, kind, call, seat, progress, carried)
+}
+
+/// The same from where a call stands.
+pub(crate) fn take_up<T, B: Copy, S, M: Site<T, B, S>, G: Gate>(
+    site: &M,
+    gate: &G,
+    seat: &mut S,
+    left: Left<T, B>,
+) -> ControlFlow<Reply<T>, Left<T, B>>
+    requires { (c : SpecCall T) × (first : S) × IsPaused M.Site site.now first c left seat.old }
+    ensures { (c : SpecCall T) (first : S) → IsPaused M.Site site.now first c left seat.old → MatchControlFlow result (λ paused. IsPaused M.Site site.now first c paused seat.new) (λ reply. M.ended site.now first c reply seat.new) }
+{
+    carry_on(site, gate, seat, left)
+}
+
+/// The same from a call's beginning, with its fast steps `F` first.
+pub(crate) fn set_out<T, B: Copy, S, M: Site<T, B, S>, G: Gate, F: Row<T, B, S, M, G>>(
+    site: &M,
+    gate: &G,
+    seat: &mut S,
+    call: Call<T>,
+) -> ControlFlow<Reply<T>, Left<T, B>>
+    requires { M.rests site.now seat.old }
+    ensures { MatchControlFlow result (λ paused. IsPaused M.Site site.now seat.old call paused seat.new) (λ reply. M.ended site.now seat.old call reply seat.new) }
+{
+    match run_fast::<T, B, S, M, G, F>(site, gate, seat, call) {
+        ControlFlow::Break(reply) => ControlFlow::Break(reply),
+        ControlFlow::Continue(left) => carry_on(site, gate, seat, left),
+    }
+}

@@ -1,0 +1,192 @@
+//! Calls that never wait: one that meets another call half done is handed back as it stands, and taken up again later.
+ghost use Rattle.std.specs.Prelude.{◌≡◌};
+ghost use Rattle.queue_steps.specs.declared.model.Call.{Call as SpecCall};
+ghost use Rattle.concurrent_queue.specs.Shared.{IsPartyOf};
+
+use super::{Begins, Form};
+use crate::chain::Asking;
+use crate::one_heap::OneHeap;
+use crate::party::{Party, SeatPlace};
+use crate::pausing::{set_out, take_up};
+use crate::shared::ConcurrentQueue;
+use crate::waiting::Left;
+use atomic_table::Seat;
+use call_driver::fast::{Short, Usual};
+use call_driver::gate::Open;
+use mem_blocks::item::Place;
+use mem_blocks::null_testable::NullTestable;
+use queue_steps::model::{Call, Reply};
+use shared_chain::source::Granting;
+use shared_parties::known::CallState;
+use std::alloc::{Allocator, Global};
+use std::marker::Model;
+use std::ops::ControlFlow;
+
+/// Where a call stands that is on its way, with its party's seat.
+pub(crate) enum CallPlace<T, A: Allocator> {
+    /// On one slot.
+    Slot(Seat<Option<T>, CallState<T>>, Left<T, usize>),
+    /// On a ring.
+    Ring(Seat<Option<T>, CallState<T>>, Left<T, usize>),
+    /// On a chain of blocks.
+    Chain(Asking<T, A, Granting>, Left<T, Place<T>>),
+}
+
+/// A call on its way, with its party, which can do nothing else until the call has its reply.
+///
+/// A contract sees the party as it was when the call began, and the call.
+pub struct Pending<T, A: Allocator = Global> {
+    pub(crate) place: CallPlace<T, A>,
+}
+
+impl<T, A: Allocator> Model for Pending<T, A> {
+    ghost use Rattle.concurrent_queue.specs.Begun.{Begun};
+
+    ghost Value = { Begun T };
+
+    ghost use Rattle.concurrent_queue.specs.Pending.{begun_of, IsStopped};
+
+    ghost view = { λ p. begun_of p.place };
+
+    ghost invariant = { λ p. IsStopped p.place };
+}
+
+impl<T: Drop, A: Allocator> Drop for Pending<T, A> {
+    /// The call never ends, and its party does not come back, so the sharing cannot be ended. The value that the call carries is dropped, and what lies in a
+    /// slot stays the queue's. On a chain the slot or the block that the call has in hand is lost.
+    fn drop(self) {
+        let Pending { place } = self;
+        match place {
+            CallPlace::Slot(seat, left) | CallPlace::Ring(seat, left) => {
+                drop(seat);
+                left.forgo();
+            }
+            CallPlace::Chain(asking, left) => {
+                let Asking { seat, source: _ } = asking;
+                seat.leave();
+                left.forgo();
+            }
+        }
+    }
+}
+
+/// What a call has come to.
+#[derive(Drop)]
+pub enum Outcome<T, A: Allocator = Global> {
+    /// Its reply, and its party after the call.
+    Done(Party<T>, Reply<T>),
+    /// It has met another call half done, or others were before it in each of its tries.
+    Pending(Pending<T, A>),
+}
+
+impl<T, A: Allocator> Pending<T, A> {
+    ghost use Rattle.concurrent_queue.specs.Pending.{begun_of, IsStopped};
+
+    /// The call that stands there.
+    fn at(place: CallPlace<T, A>) -> Self
+        requires { IsStopped place }
+        ensures { result ≡ begun_of place }
+    {
+        Pending { place }
+    }
+
+    /// Where it stands.
+    fn into_place(self) -> CallPlace<T, A>
+        ensures stops { IsStopped result }
+        ensures begun { begun_of result ≡ self }
+    {
+        let Pending { place } = self;
+        place
+    }
+}
+
+impl<T, A: NullTestable + OneHeap> ConcurrentQueue<T, A> {
+    ghost use Rattle.concurrent_queue.specs.Comes.{Comes};
+
+    /// Begins a call, which takes steps until its reply or until it has met another call half done. It never waits.
+    pub fn begin(&self, party: Party<T>, call: Call<T>) -> Outcome<T, A>
+        requires { IsPartyOf party self.now }
+        ensures { Comes party call result }
+    {
+        match (&self.form, party.place) {
+            (Form::Single(slot), SeatPlace::Table(mut seat)) => {
+                match set_out::<_, _, _, _, Open, Short<Begins>>(slot, &Open, &mut seat, call) {
+                    ControlFlow::Break(reply) => {
+                        Outcome::Done(Party::at(SeatPlace::Table(seat)), reply)
+                    }
+                    ControlFlow::Continue(left) => {
+                        Outcome::Pending(Pending::at(CallPlace::Slot(seat, left)))
+                    }
+                }
+            }
+            (Form::Ring(ring), SeatPlace::Table(mut seat)) => {
+                match set_out::<_, _, _, _, Open, Usual<Begins>>(ring, &Open, &mut seat, call) {
+                    ControlFlow::Break(reply) => {
+                        Outcome::Done(Party::at(SeatPlace::Table(seat)), reply)
+                    }
+                    ControlFlow::Continue(left) => {
+                        Outcome::Pending(Pending::at(CallPlace::Ring(seat, left)))
+                    }
+                }
+            }
+            (Form::Chain(queue), SeatPlace::Web(mut rested)) => {
+                let mut asking: Asking<T, A, Granting> = Asking::wake(&queue.chain, &mut rested);
+                match set_out::<_, _, _, _, Open, Usual<Begins>>(queue, &Open, &mut asking, call) {
+                    ControlFlow::Break(reply) => {
+                        Outcome::Done(Party::at(SeatPlace::Web(asking.rests())), reply)
+                    }
+                    ControlFlow::Continue(left) => {
+                        Outcome::Pending(Pending::at(CallPlace::Chain(asking, left)))
+                    }
+                }
+            }
+            _ => unreachable!(),
+        }
+    }
+
+    /// Takes a call up where it stands. It never waits.
+    pub fn resume(&self, pending: Pending<T, A>) -> Outcome<T, A>
+        requires { IsPartyOf pending.party self.now }
+        ensures { Comes pending.party pending.call result }
+    {
+        let place = pending.into_place();
+        match place {
+            CallPlace::Slot(mut seat, left) => match &self.form {
+                Form::Single(slot) => match take_up(slot, &Open, &mut seat, left) {
+                    ControlFlow::Break(reply) => {
+                        Outcome::Done(Party::at(SeatPlace::Table(seat)), reply)
+                    }
+                    ControlFlow::Continue(left) => {
+                        Outcome::Pending(Pending::at(CallPlace::Slot(seat, left)))
+                    }
+                },
+                Form::Ring(_) => unreachable!(),
+                Form::Chain(_) => unreachable!(),
+            },
+            CallPlace::Ring(mut seat, left) => match &self.form {
+                Form::Ring(ring) => match take_up(ring, &Open, &mut seat, left) {
+                    ControlFlow::Break(reply) => {
+                        Outcome::Done(Party::at(SeatPlace::Table(seat)), reply)
+                    }
+                    ControlFlow::Continue(left) => {
+                        Outcome::Pending(Pending::at(CallPlace::Ring(seat, left)))
+                    }
+                },
+                Form::Single(_) => unreachable!(),
+                Form::Chain(_) => unreachable!(),
+            },
+            CallPlace::Chain(mut asking, left) => match &self.form {
+                Form::Chain(queue) => match take_up(queue, &Open, &mut asking, left) {
+                    ControlFlow::Break(reply) => {
+                        Outcome::Done(Party::at(SeatPlace::Web(asking.rests())), reply)
+                    }
+                    ControlFlow::Continue(left) => {
+                        Outcome::Pending(Pending::at(CallPlace::Chain(asking, left)))
+                    }
+                },
+                Form::Single(_) => unreachable!(),
+                Form::Ring(_) => unreachable!(),
+            },
+        }
+    }
+}

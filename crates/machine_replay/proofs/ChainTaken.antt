@@ -1,0 +1,330 @@
+-- A chain: a pop that has taken waits for a push alone that has appended and not written yet.
+use Rattle.std.proofs.Common.{ℕ, ◌+◌, ◌-◌, ◌*◌, ◌/◌, ◌%◌, ◌==◌, if◌then◌else◌, ◌<◌, ◌≤◌, ◌≡◌, ◌≢◌, ◌⊎◌, inl, inr, ◌∙◌, nat_lt, not, Bool, true, false, Ok, Option, Some, List, bit_and, refl, sym, ap, subst, arith}
+use Rattle.std.proofs.lemmas.Bool.{cond_both, ltb-true}
+use Rattle.std.proofs.lemmas.Bool.Decides.{eqb_tells}
+use Rattle.queue_steps.specs.declared.sizes.TheConstants.{BLOCK_SLOTS}
+use Rattle.queue_steps.specs.State.{State}
+use Rattle.queue_steps.specs.Next.{next_of}
+use Rattle.queue_steps.specs.ChainWords.{offset_of}
+use Rattle.queue_steps.specs.UnboundedNext.{followed, written_found, ends, walks, walks_on, unbounded_next}
+use Rattle.queue_steps.specs.declared.model.Call.{Call}
+use Rattle.queue_steps.specs.declared.model.Effect.{Effect}
+use Rattle.queue_steps.specs.declared.model.Reply.TheVariants as reply
+use Rattle.queue_steps.specs.declared.steps.types.Answer.{Answer}
+use Rattle.queue_steps.specs.declared.steps.types.Answer.TheVariants as answer
+use Rattle.queue_steps.specs.declared.steps.types.Kind.TheVariants as queue
+use Rattle.queue_steps.specs.declared.steps.types.Local.{Local}
+use Rattle.queue_steps.specs.declared.steps.types.Local.TheVariants as local
+use Rattle.queue_steps.specs.declared.steps.types.Next.{Next}
+use Rattle.queue_steps.specs.declared.steps.types.Next.TheVariants as next
+use Rattle.queue_steps.specs.declared.steps.types.Op.{Op}
+use Rattle.queue_steps.specs.declared.steps.types.Op.TheVariants as op
+use Rattle.queue_steps.specs.declared.steps.types.Word.TheVariants as word
+use Rattle.queue_steps.specs.declared.steps.types.Touch.{Touch}
+use Rattle.queue_steps.specs.declared.steps.types.Touch.TheVariants as touch
+use Rattle.queue_steps.specs.declared.steps.unbounded.TheConstants.{WRITE, READ, DESTROY}
+use Rattle.queue_steps.specs.declared.steps.unbounded.UnboundedLocal.TheVariants as chain
+use Rattle.law_chain.specs.ChainCells as cells
+use Rattle.law_chain.specs.ChainCells.{Reader, Unread, Reading, Done, Rests, Passing, LinkState, Unlinked, Linking, Linked, Shown, Hidden, Showing, Seen, Chain, ChainOk, ItemOk, BlocksOk, LinkOk, FrontOk, ShownOk, Part, Write, Read, Tail, Head, Passed, owner, linker_of, item_at, LAST, Holds}
+use Rattle.law_chain.specs.ChainAfter.{chain_of}
+use Rattle.law_chain.specs.ChainAnswers.{Answers, IsState, linked_of, is_wrote}
+use Rattle.law_chain.specs.ChainAt.{Only, Either, At, push_tail, push_block, asking, installing, showing, claiming, laying, opening, chaining, writing, spending, pop_head, pop_block, pop_tail, taking, following, peeking, passing, entering, awaiting, reading, beginning, walking, destroying, len_tail, len_head, len_again, empty_head, empty_tail, closing, closed_tail}
+use Rattle.law_chain.specs.ChainFacts.{head_of}
+use Rattle.law_chain.proofs.ChainAnswers.{head_offset}
+use Rattle.law_chain.proofs.ChainRanks.{rests_if}
+use Rattle.law_chain.proofs.ChainRanksPop.{wrote_then}
+use Rattle.law_chain.proofs.ChainRanksWalk.{last_claimed}
+use Rattle.law_chain.proofs.ChainReads.{own_item}
+use Rattle.law_chain.proofs.ChainStep.{is_chain}
+use Rattle.machine_replay.specs.declared.machine.Running.{Running}
+use Rattle.machine_replay.specs.Book.{Open}
+use Rattle.machine_replay.specs.SharedMemory.{Shared, answer_to, step_of, running_after, next_after, carried_then}
+use Rattle.machine_replay.proofs.ChainFits.{ChainFits}
+use Rattle.machine_replay.proofs.ChainHolding.{ChainHolds}
+use Rattle.machine_replay.proofs.ChainLaws.{next_on}
+use Rattle.machine_replay.proofs.ChainStands.{steps_stand}
+use Rattle.machine_replay.proofs.ChainStretch.{chain_rules}
+use Rattle.machine_replay.specs.Progress.{TakesReplyWithin}
+use Rattle.machine_replay.proofs.Appended.{HasAppend}
+use Rattle.machine_replay.proofs.Taken.{HasTake, takes_reply}
+
+-- a part that a pop may hold
+abbrev IsPops : Part → Type 0
+IsPops (Read n) = Unit {0}
+IsPops Head = Unit {0}
+IsPops (Passed b) = Unit {0}
+IsPops _ = ⊥
+
+-- the party holds no part of a push
+abbrev Clear : {A : Type 0} → Chain A → ℕ → Type 0
+Clear c q = Holds c q IsPops
+
+-- once the first block is shown, so does a call that has not appended
+clear_of : {A : Type 0} {c : Chain A} {who : ℕ} {ms : List (State A)} {l : Local ℕ} {t : Touch} {o : Op ℕ} {v : Option A} {k : Call A} {es : List (Effect A)} → At c who ms l t o v k es → c.shown ≡ Seen → (HasAppend es → ⊥) → Clear c who
+clear_of (push_tail d v spare none spare_is) seen never = λ x e. absurd (none x e)
+clear_of (push_block d v spare q none spare_is saw) seen never = λ x e. absurd (none x e)
+clear_of (asking d v q block none saw asked) seen never = λ x e. absurd (none x e)
+clear_of (installing d v f none saw fresh) seen never = λ x e. absurd (none x e)
+clear_of (showing d v name first saw is named) seen never = cc
+clear_of (claiming d v q name spare none spare_is saw block enough) seen never = λ x e. absurd (none x e)
+clear_of (laying d v n name f holds mine lays fresh) seen never = absurd (never tt)
+clear_of (opening d v n name f holds mine opens links named) seen never = absurd (never tt)
+clear_of (chaining d v n name f holds mine links named) seen never = absurd (never tt)
+clear_of (writing d v n name spare holds mine spare_is) seen never = absurd (never tt)
+clear_of (spending d v spare none spare_is spent) seen never = λ x e. absurd (none x e)
+clear_of (pop_head none) seen never = λ x e. absurd (none x e)
+clear_of (pop_block n more none is room) seen never = λ x e. absurd (none x e)
+clear_of (pop_tail n block none is front) seen never = λ x e. absurd (none x e)
+clear_of (taking n name next more new none is front there word_is room) seen never = λ x e. absurd (none x e)
+clear_of (following item n name more holds got pass) seen never = λ x e. elim (holds x e) [ inl y ↦ subst IsPops (sym y) tt | inr y ↦ subst IsPops (sym y) tt ]
+clear_of (peeking item n name after more holds got pass behind) seen never = λ x e. elim (holds x e) [ inl y ↦ subst IsPops (sym y) tt | inr y ↦ subst IsPops (sym y) tt ]
+clear_of (passing item n name after more further holds got pass behind room) seen never = λ x e. elim (holds x e) [ inl y ↦ subst IsPops (sym y) tt | inr y ↦ subst IsPops (sym y) tt ]
+clear_of (entering item n name more further holds got enters room) seen never = λ x e. elim (holds x e) [ inl y ↦ subst IsPops (sym y) tt | inr y ↦ subst IsPops (sym y) tt ]
+clear_of (awaiting item n name more holds got) seen never = λ x e. subst IsPops (sym (holds x e)) tt
+clear_of (reading item n name more holds got wrote inner) seen never = λ x e. subst IsPops (sym (holds x e)) tt
+clear_of (beginning item n name more holds got wrote last) seen never = λ x e. subst IsPops (sym (holds x e)) tt
+clear_of (walking item b name slot holds is named) seen never = λ x e. subst IsPops (sym (holds x e)) tt
+clear_of (destroying item b name slot holds is named) seen never = λ x e. subst IsPops (sym (holds x e)) tt
+clear_of (len_tail none) seen never = λ x e. absurd (none x e)
+clear_of (len_head w none small low) seen never = λ x e. absurd (none x e)
+clear_of (len_again w h none small seen_it) seen never = λ x e. absurd (none x e)
+clear_of (empty_head none) seen never = λ x e. absurd (none x e)
+clear_of (empty_tail h none small saw) seen never = λ x e. absurd (none x e)
+clear_of (closing none) seen never = λ x e. absurd (none x e)
+clear_of (closed_tail none) seen never = λ x e. absurd (none x e)
+
+-- a part of a push is nobody's, where the others are clear and the call itself is a pop
+unheld : {A : Type 0} (c : Chain A) (who : ℕ) (P : Part → Type 0) (x : Part) → ((j : ℕ) → j ≢ who → Clear c j) → Holds c who P → (P x → ⊥) → (IsPops x → ⊥) → (p : ℕ) → owner c x ≢ Some p
+unheld c who P x clear holds none push p e = elim (eqb_tells p who) [
+  | inl t ↦ none (holds x (e ∙ ap (λ q. Some q) t.1))
+  | inr t ↦ push (clear p t.1 x e)
+]
+
+-- how many steps a call has before it that has taken
+to_reply : Local ℕ → ℕ
+to_reply (local.Unbounded (chain.Following head block)) = 2 * LAST + 6
+to_reply (local.Unbounded (chain.Peeking head block after)) = 2 * LAST + 5
+to_reply (local.Unbounded (chain.Passing head block more)) = 2 * LAST + 4
+to_reply (local.Unbounded (chain.Entering head block)) = 2 * LAST + 3
+to_reply (local.Unbounded (chain.Awaiting head block)) = 2 * LAST + 2
+to_reply (local.Unbounded (chain.Reading block slot)) = 2 * (LAST - slot) + 1
+to_reply (local.Unbounded (chain.Walking block slot)) = 2 * (LAST - slot) + 1
+to_reply (local.Unbounded (chain.Destroying block slot)) = 2 * (LAST - slot)
+to_reply _ = 1
+
+abbrev Nears : Next ℕ → ℕ → Type 0
+Nears (next.Step l t o) m = to_reply l < m
+Nears (next.Reply x spare) m = Unit {0}
+
+-- where nobody moves the tail or is to link a block, a block that is passed is linked
+linked_then : {A : Type 0} (c : Chain A) (who n : ℕ) → ChainOk c → c.mover ≡ Rests → ((p : ℕ) → linker_of (c.links (n / BLOCK_SLOTS)) ≢ Some p) → (c.passer ≡ Passing who) × (c.head ≡ n + 1) → c.links (n / BLOCK_SLOTS) ≡ Linked
+linked_then {A} c who n ok rest free pass = go (c.links (n / BLOCK_SLOTS)) refl (ok.link (n / BLOCK_SLOTS))
+  where
+    front : FrontOk c.head c.front (Passing who)
+    front = subst (λ p. FrontOk c.head c.front p) pass.0 ok.fronted
+
+    more : BlocksOk c.tail c.blocks Rests → n / BLOCK_SLOTS + 1 < c.blocks
+    more (inl none) = absurd (let f = front in let count = ok.count in let z = none.0 in omega arith)
+    more (inr is) = let f = front in let at = pass.1 in let count = ok.count in omega arith
+
+    go : (l : LinkState) → c.links (n / BLOCK_SLOTS) ≡ l → LinkOk c.blocks (n / BLOCK_SLOTS) l → c.links (n / BLOCK_SLOTS) ≡ Linked
+    go Linked e h = e
+    go (Linking p) e h = absurd (free p (ap linker_of e))
+    go Unlinked e h = absurd (let lt = more (subst (λ m. BlocksOk c.tail c.blocks m) rest ok.laid) in omega arith)
+
+-- the walk goes on behind a slot
+on_nears : (name slot m : ℕ) → slot < LAST → 2 * (LAST - slot) ≤ m → Nears (walks_on name slot) m
+unfolding to_reply
+on_nears name slot m low le =
+    cond_both (nat_lt (slot + 2) BLOCK_SLOTS) (walks name (slot + 1) touch.Nothing) (next.Reply (reply.Pop (Ok tt)) (Some name)) (λ x. Nears x m)
+    (λ on. let lt = ltb-true (slot + 2) BLOCK_SLOTS on in omega arith) (λ over. tt)
+
+maybe_on_nears : (on : Bool) (name slot m : ℕ) → slot < LAST → 2 * (LAST - slot) ≤ m → Nears (if on then walks_on name slot else ends (reply.Pop (Ok tt))) m
+maybe_on_nears true name slot m low le = on_nears name slot m low le
+maybe_on_nears false name slot m low le = tt
+
+walking_nears : (name slot st : ℕ) → slot < LAST → Nears (unbounded_next (chain.Walking name slot) (answer.Found st)) (2 * (LAST - slot) + 1)
+unfolding to_reply
+walking_nears name slot st low =
+    elim (bit_and st READ == 0) as (λ b. Nears (if not b then walks_on name slot else next.Step (local.Unbounded (chain.Destroying name slot)) touch.Nothing (op.Or (word.State name slot) DESTROY)) (2 * (LAST - slot) + 1)) [
+      | true ↦ omega arith
+      | false ↦ on_nears name slot (2 * (LAST - slot) + 1) low (omega arith)
+    ]
+
+awaiting_nears : (head name st : ℕ) → (bit_and st WRITE == 0) ≡ false → Nears (written_found head name st) (2 * LAST + 2)
+unfolding to_reply
+awaiting_nears head name st written = last (eqb_tells (offset_of head + 1) BLOCK_SLOTS)
+  where
+    last : (((offset_of head + 1 == BLOCK_SLOTS) ≡ true) × (offset_of head + 1 ≡ BLOCK_SLOTS)) ⊎ (((offset_of head + 1 == BLOCK_SLOTS) ≡ false) × (offset_of head + 1 ≢ BLOCK_SLOTS)) → Nears (written_found head name st) (2 * LAST + 2)
+    last (inl e) = rw (written, e.0) (omega arith)
+    last (inr e) = rw (written, e.0) (omega arith)
+
+inner_low : (n i : ℕ) → i ≡ n % BLOCK_SLOTS → (n % BLOCK_SLOTS + 1 ≡ BLOCK_SLOTS → ⊥) → i < LAST
+inner_low n i e ne = elim (eqb_tells (n % BLOCK_SLOTS + 1) BLOCK_SLOTS) [ inl t ↦ absurd (ne t.1) | inr t ↦ let z = t.1 in omega arith ]
+
+nears : {A : Type 0} {c : Chain A} {who : ℕ} {ms : List (State A)} {l : Local ℕ} {t : Touch} {o : Op ℕ} {v : Option A} {k : Call A} {es : List (Effect A)} → At c who ms l t o v k es → HasTake es → (a : Answer ℕ) → ChainOk c → Answers c o a → ((j : ℕ) → j ≢ who → Clear c j)
+    → Nears (unbounded_next (chain_of l) a) (to_reply l)
+unfolding to_reply
+nears (push_tail d v spare none spare_is) had a ok found clear = absurd had
+nears (push_block d v spare q none spare_is saw) had a ok found clear = absurd had
+nears (asking d v q block none saw asked) had a ok found clear = absurd had
+nears (installing d v f none saw fresh) had a ok found clear = absurd had
+nears (showing d v name first saw is named) had a ok found clear = absurd had
+nears (claiming d v q name spare none spare_is saw block enough) had a ok found clear = absurd had
+nears (laying d v n name f holds mine lays fresh) had a ok found clear = absurd had
+nears (opening d v n name f holds mine opens links named) had a ok found clear = absurd had
+nears (chaining d v n name f holds mine links named) had a ok found clear = absurd had
+nears (writing d v n name spare holds mine spare_is) had a ok found clear = absurd had
+nears (spending d v spare none spare_is spent) had a ok found clear = absurd had
+nears (pop_head none) had a ok found clear = absurd had
+nears (pop_block n more none is room) had a ok found clear = absurd had
+nears (pop_tail n block none is front) had a ok found clear = absurd had
+nears (taking n name next more new none is front there word_is room) had a ok found clear = absurd had
+nears {c = c} {who = who} (following x n name more holds got pass) had a ok found clear =
+    let rest = rests_if c.mover (unheld c who (Either (Read n) Head) Tail clear holds (λ z. elim z [ inl y ↦ absurd (cc) | inr y ↦ absurd (cc) ]) (λ z. z)) in
+    let free = unheld c who (Either (Read n) Head) (cells.Next (n / BLOCK_SLOTS)) clear holds (λ z. elim z [ inl y ↦ absurd (cc) | inr y ↦ absurd (cc) ]) (λ z. z) in
+    rw (found (n / BLOCK_SLOTS) got.named) (subst (λ l. Nears (followed (head_of n more) name (linked_of l (c.names (n / BLOCK_SLOTS + 1)))) (2 * LAST + 6)) (sym (linked_then c who n ok rest free pass)) (omega arith))
+nears {c = c} {who = who} (peeking x n name after more holds got pass behind) had a ok found clear = rw (found (n / BLOCK_SLOTS + 1) behind.1) (omega arith)
+nears {c = c} {who = who} (passing x n name after more further holds got pass behind room) had a ok found clear = rw found (omega arith)
+nears {c = c} {who = who} (entering x n name more further holds got enters room) had a ok found clear = rw found (omega arith)
+nears {c = c} {who = who} (awaiting x n name more holds got) had a ok found clear =
+    let h = found (n / BLOCK_SLOTS) got.named in
+    let state : IsState c (n / BLOCK_SLOTS) (n % BLOCK_SLOTS) h.0 = subst (λ i. IsState c (n / BLOCK_SLOTS) i h.0) (head_offset n more) h.2 in
+    let wrote = wrote_then c who n ok (unheld c who (Only (Read n)) (Write n) clear holds (λ z. absurd (cc)) (λ z. z)) got.mine in
+    rw (h.1) (awaiting_nears (head_of n more) name h.0 (state.written ∙ (ap (λ m. not (is_wrote (c.writers m))) (own_item n) ∙ ap not wrote)))
+nears {c = c} {who = who} (reading x n name more holds got wrote inner) had a ok found clear =
+    let h = found (n / BLOCK_SLOTS) got.named in
+    let at : offset_of (head_of n more) ≡ n % BLOCK_SLOTS = head_offset n more in
+    let low : offset_of (head_of n more) < LAST = inner_low n (offset_of (head_of n more)) at inner in
+    rw (h.1) (maybe_on_nears (not (bit_and h.0 DESTROY == 0)) name (offset_of (head_of n more)) (2 * (LAST - offset_of (head_of n more)) + 1) low (omega arith))
+nears {c = c} {who = who} (beginning x n name more holds got wrote last) had a ok found clear =
+    let h = found (n / BLOCK_SLOTS) got.named in
+    rw (h.1) (walking_nears name 0 h.0 (omega arith))
+nears {c = c} {who = who} (walking x b name slot holds is named) had a ok found clear =
+    let h = found b named in
+    rw (h.1) (walking_nears name slot h.0 (last_claimed c who b slot ok is).0)
+nears {c = c} {who = who} (destroying x b name slot holds is named) had a ok found clear =
+    let h = found b named in
+    rw (h.1) (maybe_on_nears (not (bit_and h.0 READ == 0)) name slot (2 * (LAST - slot)) (last_claimed c who b slot ok is).0 (omega arith))
+nears (len_tail none) had a ok found clear = absurd had
+nears (len_head w none small low) had a ok found clear = absurd had
+nears (len_again w h none small seen) had a ok found clear = absurd had
+nears (empty_head none) had a ok found clear = absurd had
+nears (empty_tail h none small saw) had a ok found clear = absurd had
+nears (closing none) had a ok found clear = absurd had
+nears (closed_tail none) had a ok found clear = absurd had
+
+in_bounds : {A : Type 0} {c : Chain A} {who : ℕ} {ms : List (State A)} {l : Local ℕ} {t : Touch} {o : Op ℕ} {v : Option A} {k : Call A} {es : List (Effect A)} → At c who ms l t o v k es → HasTake es → ChainOk c → (0 < to_reply l) × (to_reply l ≤ 2 * LAST + 6)
+unfolding to_reply
+in_bounds (push_tail d v spare none spare_is) had ok = absurd had
+in_bounds (push_block d v spare q none spare_is saw) had ok = absurd had
+in_bounds (asking d v q block none saw asked) had ok = absurd had
+in_bounds (installing d v f none saw fresh) had ok = absurd had
+in_bounds (showing d v name first saw is named) had ok = absurd had
+in_bounds (claiming d v q name spare none spare_is saw block enough) had ok = absurd had
+in_bounds (laying d v n name f holds mine lays fresh) had ok = absurd had
+in_bounds (opening d v n name f holds mine opens links named) had ok = absurd had
+in_bounds (chaining d v n name f holds mine links named) had ok = absurd had
+in_bounds (writing d v n name spare holds mine spare_is) had ok = absurd had
+in_bounds (spending d v spare none spare_is spent) had ok = absurd had
+in_bounds (pop_head none) had ok = absurd had
+in_bounds (pop_block n more none is room) had ok = absurd had
+in_bounds (pop_tail n block none is front) had ok = absurd had
+in_bounds (taking n name next more new none is front there word_is room) had ok = absurd had
+in_bounds (following x n name more holds got pass) had ok = (omega arith, omega arith)
+in_bounds (peeking x n name after more holds got pass behind) had ok = (omega arith, omega arith)
+in_bounds (passing x n name after more further holds got pass behind room) had ok = (omega arith, omega arith)
+in_bounds (entering x n name more further holds got enters room) had ok = (omega arith, omega arith)
+in_bounds (awaiting x n name more holds got) had ok = (omega arith, omega arith)
+in_bounds (reading x n name more holds got wrote inner) had ok = (omega arith, omega arith)
+in_bounds (beginning x n name more holds got wrote last) had ok = (omega arith, omega arith)
+in_bounds (walking x b name slot holds is named) had ok = (omega arith, omega arith)
+in_bounds {c = c} {who = who} (destroying x b name slot holds is named) had ok = let low = (last_claimed c who b slot ok is).0 in (omega arith, omega arith)
+in_bounds (len_tail none) had ok = absurd had
+in_bounds (len_head w none small low) had ok = absurd had
+in_bounds (len_again w h none small seen) had ok = absurd had
+in_bounds (empty_head none) had ok = absurd had
+in_bounds (empty_tail h none small saw) had ok = absurd had
+in_bounds (closing none) had ok = absurd had
+in_bounds (closed_tail none) had ok = absurd had
+
+-- an item that is claimed has left the list, so the first block is shown
+claimed_low : {A : Type 0} (head tail : ℕ) (items : List A) (n : ℕ) (w : cells.Writer A) (r : Reader) → r ≢ Unread → ItemOk head tail items n w r → n < head
+claimed_low head tail items n w Unread ne ok = absurd (ne refl)
+claimed_low head tail items n (cells.Writing p v) (Reading q) ne ok = ok
+claimed_low head tail items n (cells.Wrote v) (Reading q) ne ok = ok
+claimed_low head tail items n (cells.Wrote v) Done ne ok = ok
+claimed_low head tail items n cells.Free (Reading q) ne ok = absurd ok
+claimed_low head tail items n cells.Free Done ne ok = absurd ok
+claimed_low head tail items n (cells.Writing p v) Done ne ok = absurd ok
+
+seen_of : {A : Type 0} (c : Chain A) (n : ℕ) → ChainOk c → c.readers n ≢ Unread → c.shown ≡ Seen
+seen_of {A} c n ok ne = go c.shown refl ok.seen
+  where
+    low : n < c.head
+    low = claimed_low c.head c.tail c.items n (c.writers n) (c.readers n) ne (ok.item n)
+
+    go : (s : Shown) → c.shown ≡ s → ShownOk c.blocks c.head c.front c.known c.passer s → c.shown ≡ Seen
+    go Seen e h = e
+    go Hidden e h = absurd (let l = low in let z = h.1 in omega arith)
+    go (Showing p) e h = absurd (let l = low in let z = h.1 in omega arith)
+
+ready_of : {A : Type 0} {c : Chain A} {who : ℕ} {ms : List (State A)} {l : Local ℕ} {t : Touch} {o : Op ℕ} {v : Option A} {k : Call A} {es : List (Effect A)} → At c who ms l t o v k es → HasTake es → ChainOk c → c.shown ≡ Seen
+ready_of (push_tail d v spare none spare_is) had ok = absurd had
+ready_of (push_block d v spare q none spare_is saw) had ok = absurd had
+ready_of (asking d v q block none saw asked) had ok = absurd had
+ready_of (installing d v f none saw fresh) had ok = absurd had
+ready_of (showing d v name first saw is named) had ok = absurd had
+ready_of (claiming d v q name spare none spare_is saw block enough) had ok = absurd had
+ready_of (laying d v n name f holds mine lays fresh) had ok = absurd had
+ready_of (opening d v n name f holds mine opens links named) had ok = absurd had
+ready_of (chaining d v n name f holds mine links named) had ok = absurd had
+ready_of (writing d v n name spare holds mine spare_is) had ok = absurd had
+ready_of (spending d v spare none spare_is spent) had ok = absurd had
+ready_of (pop_head none) had ok = absurd had
+ready_of (pop_block n more none is room) had ok = absurd had
+ready_of (pop_tail n block none is front) had ok = absurd had
+ready_of (taking n name next more new none is front there word_is room) had ok = absurd had
+ready_of {c = c} {who = who} (following x n name more holds got pass) had ok = seen_of c n ok (λ e. let y : Reading who ≡ Unread = sym got.mine ∙ e in cc)
+ready_of {c = c} {who = who} (peeking x n name after more holds got pass behind) had ok = seen_of c n ok (λ e. let y : Reading who ≡ Unread = sym got.mine ∙ e in cc)
+ready_of {c = c} {who = who} (passing x n name after more further holds got pass behind room) had ok = seen_of c n ok (λ e. let y : Reading who ≡ Unread = sym got.mine ∙ e in cc)
+ready_of {c = c} {who = who} (entering x n name more further holds got enters room) had ok = seen_of c n ok (λ e. let y : Reading who ≡ Unread = sym got.mine ∙ e in cc)
+ready_of {c = c} {who = who} (awaiting x n name more holds got) had ok = seen_of c n ok (λ e. let y : Reading who ≡ Unread = sym got.mine ∙ e in cc)
+ready_of {c = c} {who = who} (reading x n name more holds got wrote inner) had ok = seen_of c n ok (λ e. let y : Reading who ≡ Unread = sym got.mine ∙ e in cc)
+ready_of {c = c} {who = who} (beginning x n name more holds got wrote last) had ok = seen_of c n ok (λ e. let y : Reading who ≡ Unread = sym got.mine ∙ e in cc)
+ready_of {c = c} {who = who} (walking x b name slot holds is named) had ok = seen_of c (item_at b LAST) ok (last_claimed c who b slot ok is).1
+ready_of {c = c} {who = who} (destroying x b name slot holds is named) had ok = seen_of c (item_at b LAST) ok (last_claimed c who b slot ok is).1
+ready_of (len_tail none) had ok = absurd had
+ready_of (len_head w none small low) had ok = absurd had
+ready_of (len_again w h none small seen) had ok = absurd had
+ready_of (empty_head none) had ok = absurd had
+ready_of (empty_tail h none small saw) had ok = absurd had
+ready_of (closing none) had ok = absurd had
+ready_of (closed_tail none) had ok = absurd had
+
+-- a call that goes on has fewer steps before it
+goes_on : {A : Type 0} (n : Next ℕ) (v : Option A) (m : ℕ) (x : Running A) → running_after n v ≡ Some x → Nears n m → to_reply x.local < m
+goes_on (next.Step l t o) v m x e near = let same : record { local = l; touch = t; op = o; carried = v } ≡ x = cc in subst (λ y. to_reply y.local < m) same near
+goes_on (next.Reply y spare) v m x e near = cc
+
+own_falls : {A : Type 0} (busy : ℕ) (ok : Bool) (s : Shared A) (Q : State A) (g : Chain A) (p : ℕ) (x x' : Running A) (o : Open A) → ChainHolds s Q g → ChainFits busy s Q g p x o → HasTake o.effects → ((j : ℕ) → j ≢ p → Clear g j)
+    → (step_of queue.Unbounded ok s x).call ≡ Some x' → to_reply x'.local < to_reply x.local
+own_falls {A} busy ok s Q g p x x' o holds f had clear goes =
+    let a = answer_to ok s x in
+    let step = steps_stand A ok s Q g p o.moments x o.call o.effects holds f.here f.spares in
+    let near = nears f.here had a holds.ok step.found clear in
+    let went : next_after queue.Unbounded ok s x ≡ next_on ok s x = ap (λ l. next_of queue.Unbounded l a) (is_chain f.here) in
+    goes_on (next_on ok s x) (carried_then s x) (to_reply x.local) x' (subst (λ n. running_after n (carried_then s x) ≡ Some x') went goes) near
+
+pub chain_takes : (A : Type 0) → TakesReplyWithin A queue.Unbounded (2 * BLOCK_SLOTS + 4)
+chain_takes A = takes_reply A queue.Unbounded (chain_rules A) (record {
+  before = to_reply;
+  most = 2 * LAST + 6;
+  Clear = Clear;
+  Ready = λ g. g.shown ≡ Seen;
+  within = λ busy s Q g p r o holds f had. in_bounds f.here had holds.ok;
+  ready = λ busy s Q g p r o holds f had. ready_of f.here had holds.ok;
+  rests = λ g q h. λ x e. absurd (h.0 x e);
+  clears = λ busy s Q g q r o seen f no. clear_of f.here seen no;
+  falls = λ busy ok s Q g p r r' o holds f had clear goes. own_falls busy ok s Q g p r r' o holds f had clear goes;
+})

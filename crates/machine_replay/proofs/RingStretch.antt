@@ -1,0 +1,288 @@
+-- A ring: a call that nobody hinders replies by its seventh step.
+use Rattle.std.proofs.Common.{ℕ, ◌+◌, ◌<◌, ◌≤◌, ◌≡◌, ◌≢◌, ◌||◌, not, ◌∙◌, Bool, true, Option, Some, None, List, [], ◌∷◌, length, refl, sym, ap, subst, arith}
+use Rattle.queue_steps.specs.State.{State}
+use Rattle.queue_steps.specs.Words.{IsRing, position_of, is_shut, tail_of}
+use Rattle.queue_steps.specs.Next.{next_of}
+use Rattle.queue_steps.specs.declared.model.Call.{Call}
+use Rattle.queue_steps.specs.declared.model.Effect.{Effect}
+use Rattle.queue_steps.specs.declared.steps.bounded.BoundedLocal.TheVariants as at
+use Rattle.queue_steps.specs.declared.steps.types.Kind.TheVariants as queue
+use Rattle.queue_steps.specs.declared.steps.types.Local.{Local}
+use Rattle.queue_steps.specs.declared.steps.types.Local.TheVariants as local
+use Rattle.queue_steps.specs.declared.steps.types.Next.{Next}
+use Rattle.queue_steps.specs.declared.steps.types.Next.TheVariants as next
+use Rattle.queue_steps.specs.declared.steps.types.Op.{Op}
+use Rattle.queue_steps.specs.declared.steps.types.Touch.{Touch}
+use Rattle.law_common.specs.Effects.{with_effect}
+use Rattle.law_common.proofs.Tails.{position_tail, shut_tail}
+use Rattle.law_ring.specs.RingShared as ring
+use Rattle.law_ring.specs.RingCells.{Ring, Free, HoldsNone, queue_of}
+use Rattle.law_ring.specs.RingAt.{At, push_tail, push_stamp, claiming, filling, push_head, displacing, arriving, swapping, spending, pop_head, pop_stamp, taking, emptying, pop_tail, len_tail, len_head, len_again, empty_head, empty_tail, full_tail, full_head, closing, closed_tail}
+use Rattle.law_ring.specs.RingOpening.{opening_ring}
+use Rattle.law_ring.specs.RingWords.{Codes}
+use Rattle.law_ring.proofs.RingGood.{Goes, IsQuiet}
+use Rattle.law_ring.proofs.RingRanks.{rank, rank_small, rank_some, longest}
+use Rattle.law_ring.proofs.RingStep.{step_good}
+use Rattle.machine_replay.specs.declared.machine.Running.{Running}
+use Rattle.machine_replay.specs.Book.{Open}
+use Rattle.machine_replay.specs.SharedMemory.{Shared, step_of, running_after, carried_then, after_operation}
+use Rattle.machine_replay.proofs.Plain.{plain-step}
+use Rattle.machine_replay.proofs.RingCoded.{part, same_step}
+use Rattle.machine_replay.proofs.RingLaws.{RingHolds, RingIdle, RingFits, ring_steps}
+use Rattle.machine_replay.proofs.RingOpening.{ring_opens, ring_all_idle}
+use Rattle.machine_replay.specs.Progress.{AppendsReplyWithin, TakesReplyWithin, HalfDoneTakesNone, UnhinderedWithin, NeverWaits}
+use Rattle.machine_replay.proofs.Appended.{HasAppend, appends_reply}
+use Rattle.machine_replay.proofs.Taken.{HasTake, takes_reply}
+use Rattle.machine_replay.proofs.Stretch.{Rules, Paces, unhindered, never_waits, waits_take_none}
+
+-- a call that has had no effect holds no slot
+holds_none : {A : Type 0} {cap : ℕ} {r : Ring A} {who : ℕ} {ms : List (State A)} {was : Bool} {l : Local ℕ} {t : Touch} {o : Op ℕ} {v : Option A} {k : Call A} {es : List (Effect A)} → At cap r who ms was l t o v k es → es ≡ [] → HoldsNone r.cells who
+holds_none (push_tail d v none) e = none
+holds_none (push_stamp d v t none saw) e = none
+holds_none (claiming d v t none saw free) e = none
+holds_none (filling d v q one) e = cc
+holds_none (push_head v t none saw) e = none
+holds_none (displacing v t h none saw back full) e = none
+holds_none (arriving old v t h below back one) e = cc
+holds_none (swapping old v h one) e = cc
+holds_none (spending d v none high) e = none
+holds_none (pop_head none) e = none
+holds_none (pop_stamp h none low) e = none
+holds_none (taking h none low full) e = none
+holds_none (emptying x h one) e = cc
+holds_none (pop_tail h none low free) e = none
+holds_none (len_tail none) e = none
+holds_none (len_head t none low) e = none
+holds_none (len_again t h none seen) e = none
+holds_none (empty_head none) e = none
+holds_none (empty_tail h none saw) e = none
+holds_none (full_tail none) e = none
+holds_none (full_head t none saw) e = none
+holds_none (closing none) e = none
+holds_none (closed_tail none) e = none
+
+-- a ring with these words
+ring_by : (A : Type 0) → ℕ → ℕ → Bool → Ring A
+ring_by A head tail closed = record { head = head; tail = tail; closed = closed; items = []; coming = None; cells = λ i. Free i }
+
+-- how many steps a call has before it hangs on the words alone
+by_words : {A : Type 0} (cap : ℕ) (r : Ring A) (l : Local ℕ) → rank cap r l ≡ rank cap (ring_by A r.head r.tail r.closed) l
+unfolding ring_by
+by_words cap r (local.Bounded (at.PushTail d)) = refl
+by_words cap r (local.Bounded (at.PushStamp d t)) = refl
+by_words cap r (local.Bounded (at.Claiming d t)) = refl
+by_words cap r (local.Bounded (at.PushHead t)) = refl
+by_words cap r (local.Bounded (at.Displacing t)) = refl
+by_words cap r (local.Bounded (at.Arriving t)) = refl
+by_words cap r (local.Bounded at.PopHead) = refl
+by_words cap r (local.Bounded (at.PopStamp h)) = refl
+by_words cap r (local.Bounded (at.Taking h)) = refl
+by_words cap r (local.Bounded (at.PopTail h)) = refl
+by_words cap r (local.Bounded at.LenTail) = refl
+by_words cap r (local.Bounded (at.LenHead t)) = refl
+by_words cap r (local.Bounded (at.LenAgain t h)) = refl
+by_words cap r (local.Bounded at.EmptyHead) = refl
+by_words cap r (local.Bounded at.FullTail) = refl
+by_words cap r _ = refl
+
+-- by the machine's words
+far : {A : Type 0} → ℕ → Shared A → Local ℕ → ℕ
+far {A} cap s l = rank cap (ring_by A s.head (position_of s.tail) (is_shut s.tail)) l
+
+far_same : {A : Type 0} (cap : ℕ) (s s' : Shared A) (l : Local ℕ) → s'.head ≡ s.head → s'.tail ≡ s.tail → far cap s' l ≡ far cap s l
+unfolding far
+far_same {A} cap s s' l head tail = ap (λ h. rank cap (ring_by A h (position_of s'.tail) (is_shut s'.tail)) l) head ∙ ap (λ t. rank cap (ring_by A s.head (position_of t) (is_shut t)) l) tail
+
+far_is : {A : Type 0} (cap : ℕ) (g : Ring A) (s : Shared A) (l : Local ℕ) → Codes cap g (part s) → far cap s l ≡ rank cap g l
+unfolding far
+far_is {A} cap g s l codes =
+    ap (λ h. rank cap (ring_by A h (position_of s.tail) (is_shut s.tail)) l) codes.head
+    ∙ (ap (λ t. rank cap (ring_by A g.head (position_of t) (is_shut t)) l) codes.tail
+    ∙ (ap (λ t. rank cap (ring_by A g.head t (is_shut (tail_of g.tail g.closed))) l) (position_tail g.tail g.closed)
+    ∙ (ap (λ c. rank cap (ring_by A g.head g.tail c) l) (shut_tail g.tail g.closed) ∙ sym (by_words cap g l))))
+
+far_small : {A : Type 0} (cap : ℕ) (s : Shared A) (l : Local ℕ) → far cap s l ≤ longest
+unfolding far
+far_small {A} cap s l = rank_small cap (ring_by A s.head (position_of s.tail) (is_shut s.tail)) l
+
+far_some : {A : Type 0} (cap : ℕ) (s : Shared A) (l : Local ℕ) → 0 < far cap s l
+unfolding far
+far_some {A} cap s l = rank_some cap (ring_by A s.head (position_of s.tail) (is_shut s.tail)) l
+
+-- a call that goes on has fewer steps before it
+goes_on : {A : Type 0} (cap : ℕ) (r s : Ring A) (who : ℕ) (ms : List (State A)) (was : Bool) (n : Next ℕ) (v : Option A) (k : Call A) (es : List (Effect A)) (m : ℕ) (x : Running A)
+    → running_after n v ≡ Some x → Goes cap r s who ms was n v k es m → IsQuiet r who → rank cap s x.local < m
+goes_on cap r s who ms was (next.Step l t o) v k es m x e goes quiet = let same : record { local = l; touch = t; op = o; carried = v } ≡ x = cc in subst (λ y. rank cap s y.local < m) same (goes.1 (λ _. quiet))
+goes_on cap r s who ms was (next.Reply y spare) v k es m x e goes quiet = cc
+
+module _ {A : Type 0} (cap : ℕ) where
+  own_granted : (busy : ℕ) (s : Shared A) (Q : State A) (g : Ring A) (p : ℕ) (x x' : Running A) (o : Open A) → RingHolds cap s Q g → RingFits cap busy s Q g p x o → ((j : ℕ) → j ≢ p → RingIdle g j)
+      → (step_of (queue.Bounded cap) true s x).call ≡ Some x' → far cap (step_of (queue.Bounded cap) true s x).shared x'.local < far cap s x.local
+  own_granted busy s Q g p x x' o holds f quiet goes =
+      let good = step_good cap g p (part s) o.moments o.was_open holds.ok holds.codes f.here in
+      let same = same_step s x good.touches good.operates in
+      let after = good.after in
+      let codes : Codes cap after (part (after_operation true s x)) = subst (λ c. Codes cap after c) (sym same.leaves) good.codes in
+      let went = ap (λ a. next_of (queue.Bounded cap) x.local a) same.answers in
+      let falls = goes_on cap g after p (queue_of cap after ∷ o.moments) (o.was_open || not after.closed) (next_of (queue.Bounded cap) x.local (ring.answered (ring.touched (part s) x.touch x.carried) x.op)) (ring.handed (part s) x.touch x.carried) o.call (with_effect o.effects good.e) (rank cap g x.local) x'
+      (subst (λ v. running_after (next_of (queue.Bounded cap) x.local (ring.answered (ring.touched (part s) x.touch x.carried) x.op)) v ≡ Some x') same.carries (subst (λ n. running_after n (carried_then s x) ≡ Some x') went goes)) good.goes quiet in
+      let there = far_is cap after (step_of (queue.Bounded cap) true s x).shared x'.local (far_codes codes) in
+      let here = far_is cap g s x.local holds.codes in
+      omega (arith, falls, there, here)
+    where
+      far_codes : {after : Ring A} → Codes cap after (part (after_operation true s x)) → Codes cap after (part (step_of (queue.Bounded cap) true s x).shared)
+      far_codes codes = codes
+
+  own_falls : (busy : ℕ) (ok : Bool) (s : Shared A) (Q : State A) (g : Ring A) (p : ℕ) (x x' : Running A) (o : Open A) → RingHolds cap s Q g → RingFits cap busy s Q g p x o → ((j : ℕ) → j ≢ p → RingIdle g j)
+      → (step_of (queue.Bounded cap) ok s x).call ≡ Some x' → far cap (step_of (queue.Bounded cap) ok s x).shared x'.local < far cap s x.local
+  own_falls busy ok s Q g p x x' o holds f quiet goes =
+      let good = step_good cap g p (part s) o.moments o.was_open holds.ok holds.codes f.here in
+      let same = same_step s x good.touches good.operates in
+      let plain = plain-step (queue.Bounded cap) ok s x.local x.touch x.op x.carried same.is_plain in
+      subst (λ t. t.call ≡ Some x' → far cap t.shared x'.local < far cap s x.local) (sym plain) (own_granted busy s Q g p x x' o holds f quiet) goes
+
+  -- the words tell the queue, and the queue the words
+  head_is : (s : Shared A) (Q : State A) (g : Ring A) → RingHolds cap s Q g → s.head + length Q.items ≡ Q.accepted
+  head_is s Q g holds =
+      let head = holds.codes.head in
+      let count = holds.ok.count in
+      let items : length Q.items ≡ length g.items = ap (λ q. length q.items) holds.queue_is in
+      let accepted : Q.accepted ≡ g.tail = ap (λ q. q.accepted) holds.queue_is in
+      omega (arith, head, count, items, accepted)
+
+  tail_is : (s : Shared A) (Q : State A) (g : Ring A) → RingHolds cap s Q g → s.tail ≡ tail_of Q.accepted Q.closed
+  tail_is s Q g holds = holds.codes.tail ∙ ap (λ q. tail_of q.accepted q.closed) (sym holds.queue_is)
+
+  abbrev ring_rules : IsRing cap → Rules A (queue.Bounded cap)
+  ring_rules ring = record { G = Ring A; Holds = RingHolds cap; Idle = RingIdle; Fits = RingFits cap; laws = ring_steps cap; first = opening_ring A; opens = ring_opens A cap ring; all_idle = ring_all_idle A }
+
+  ring_paces : (ring : IsRing cap) → Paces A (queue.Bounded cap) (ring_rules ring)
+  ring_paces ring = record {
+    rank = λ s r. far cap s r.local;
+    most = longest;
+    Free = RingIdle;
+    Ready = λ s. Unit {0};
+    ready_on = λ ok s r h. tt;
+    small = λ s Q g r h holds. far_small cap s r.local;
+    some = λ s Q g r h holds. far_some cap s r.local;
+    rests = λ g p h. h;
+    undone = λ busy s Q g p r o h holds f e. holds_none f.here e;
+    falls = λ busy ok s Q g p r r' o h. own_falls busy ok s Q g p r r' o;
+    keeps = λ busy busy' s s' Q g g' p r o o' h holds holds' f f' others others' turn.
+        let now = head_is s' Q g' holds' in
+        let before = head_is s Q g holds in
+        let heads : s'.head ≡ s.head = omega (arith, now, before) in
+        far_same cap s s' r.local heads (tail_is s' Q g' holds' ∙ sym (tail_is s Q g holds));
+  }
+
+  pub ring_unhindered : IsRing cap → UnhinderedWithin A (queue.Bounded cap) longest
+  unfolding ring_paces
+  ring_unhindered ring = unhindered A (queue.Bounded cap) (ring_rules ring) (ring_paces ring) (λ s shown. tt)
+
+-- a call that holds a slot ends at its next step, but for the arrival of its item
+half_ends : {A : Type 0} {cap : ℕ} {r : Ring A} {who : ℕ} {ms : List (State A)} {was : Bool} {l : Local ℕ} {t : Touch} {o : Op ℕ} {v : Option A} {k : Call A} {es : List (Effect A)} (ok : Bool) (s : Shared A) (r' : Running A) → At cap r who ms was l t o v k es → es ≢ []
+    → (step_of (queue.Bounded cap) ok s (record { local = l; touch = t; op = o; carried = v })).call ≡ Some r' → (step_of (queue.Bounded cap) ok s (record { local = l; touch = t; op = o; carried = v })).effect ≡ None → ⊥
+half_ends ok s r' (push_tail d v none) some goes quiet = absurd (some refl)
+half_ends ok s r' (push_stamp d v t none saw) some goes quiet = absurd (some refl)
+half_ends ok s r' (claiming d v t none saw free) some goes quiet = absurd (some refl)
+half_ends ok s r' (filling d v q one) some goes quiet = cc
+half_ends ok s r' (push_head v t none saw) some goes quiet = absurd (some refl)
+half_ends ok s r' (displacing v t h none saw back full) some goes quiet = absurd (some refl)
+half_ends ok s r' (arriving old v t h below back one) some goes quiet = cc
+half_ends ok s r' (swapping old v h one) some goes quiet = cc
+half_ends ok s r' (spending d v none high) some goes quiet = absurd (some refl)
+half_ends ok s r' (pop_head none) some goes quiet = absurd (some refl)
+half_ends ok s r' (pop_stamp h none low) some goes quiet = absurd (some refl)
+half_ends ok s r' (taking h none low full) some goes quiet = absurd (some refl)
+half_ends ok s r' (emptying x h one) some goes quiet = cc
+half_ends ok s r' (pop_tail h none low free) some goes quiet = absurd (some refl)
+half_ends ok s r' (len_tail none) some goes quiet = absurd (some refl)
+half_ends ok s r' (len_head t none low) some goes quiet = absurd (some refl)
+half_ends ok s r' (len_again t h none seen) some goes quiet = absurd (some refl)
+half_ends ok s r' (empty_head none) some goes quiet = absurd (some refl)
+half_ends ok s r' (empty_tail h none saw) some goes quiet = absurd (some refl)
+half_ends ok s r' (full_tail none) some goes quiet = absurd (some refl)
+half_ends ok s r' (full_head t none saw) some goes quiet = absurd (some refl)
+half_ends ok s r' (closing none) some goes quiet = absurd (some refl)
+half_ends ok s r' (closed_tail none) some goes quiet = absurd (some refl)
+
+pub ring_never_waits : (A : Type 0) (cap : ℕ) → IsRing cap → NeverWaits A (queue.Bounded cap)
+ring_never_waits A cap ring = never_waits A (queue.Bounded cap) (ring_rules cap ring) (λ busy ok s Q g p r r' o f some goes quiet. half_ends ok s r' f.here some goes quiet)
+
+pub ring_takes_none : (A : Type 0) (cap : ℕ) → IsRing cap → HalfDoneTakesNone A (queue.Bounded cap)
+ring_takes_none A cap ring = waits_take_none A (queue.Bounded cap) (ring_rules cap ring) (λ busy ok s Q g p r r' o f some goes quiet. half_ends ok s r' f.here some goes quiet)
+
+-- a call that has appended ends at its next step
+append_ends : {A : Type 0} {cap : ℕ} {r : Ring A} {who : ℕ} {ms : List (State A)} {was : Bool} {l : Local ℕ} {t : Touch} {o : Op ℕ} {v : Option A} {k : Call A} {es : List (Effect A)} (ok : Bool) (s : Shared A) (r' : Running A) → At cap r who ms was l t o v k es → HasAppend es
+    → (step_of (queue.Bounded cap) ok s (record { local = l; touch = t; op = o; carried = v })).call ≡ Some r' → ⊥
+append_ends ok s r' (push_tail d v none) had goes = absurd had
+append_ends ok s r' (push_stamp d v t none saw) had goes = absurd had
+append_ends ok s r' (claiming d v t none saw free) had goes = absurd had
+append_ends ok s r' (filling d v q one) had goes = cc
+append_ends ok s r' (push_head v t none saw) had goes = absurd had
+append_ends ok s r' (displacing v t h none saw back full) had goes = absurd had
+append_ends ok s r' (arriving old v t h below back one) had goes = absurd had
+append_ends ok s r' (swapping old v h one) had goes = absurd had
+append_ends ok s r' (spending d v none high) had goes = absurd had
+append_ends ok s r' (pop_head none) had goes = absurd had
+append_ends ok s r' (pop_stamp h none low) had goes = absurd had
+append_ends ok s r' (taking h none low full) had goes = absurd had
+append_ends ok s r' (emptying x h one) had goes = absurd had
+append_ends ok s r' (pop_tail h none low free) had goes = absurd had
+append_ends ok s r' (len_tail none) had goes = absurd had
+append_ends ok s r' (len_head t none low) had goes = absurd had
+append_ends ok s r' (len_again t h none seen) had goes = absurd had
+append_ends ok s r' (empty_head none) had goes = absurd had
+append_ends ok s r' (empty_tail h none saw) had goes = absurd had
+append_ends ok s r' (full_tail none) had goes = absurd had
+append_ends ok s r' (full_head t none saw) had goes = absurd had
+append_ends ok s r' (closing none) had goes = absurd had
+append_ends ok s r' (closed_tail none) had goes = absurd had
+
+pub ring_appends : (A : Type 0) (cap : ℕ) → IsRing cap → AppendsReplyWithin A (queue.Bounded cap) 1
+ring_appends A cap ring = appends_reply A (queue.Bounded cap) (ring_rules cap ring) (record {
+  before = λ l. 1;
+  most = 1;
+  within = λ busy s Q g p r o f had. (omega arith, omega arith);
+  falls = λ busy ok s Q g p r r' o f had goes. absurd (append_ends ok s r' f.here had goes);
+})
+
+-- a call that has taken ends at its next step
+take_ends : {A : Type 0} {cap : ℕ} {r : Ring A} {who : ℕ} {ms : List (State A)} {was : Bool} {l : Local ℕ} {t : Touch} {o : Op ℕ} {v : Option A} {k : Call A} {es : List (Effect A)} (ok : Bool) (s : Shared A) (r' : Running A) → At cap r who ms was l t o v k es → HasTake es
+    → (step_of (queue.Bounded cap) ok s (record { local = l; touch = t; op = o; carried = v })).call ≡ Some r' → ⊥
+take_ends ok s r' (push_tail d v none) had goes = absurd had
+take_ends ok s r' (push_stamp d v t none saw) had goes = absurd had
+take_ends ok s r' (claiming d v t none saw free) had goes = absurd had
+take_ends ok s r' (filling d v q one) had goes = absurd had
+take_ends ok s r' (push_head v t none saw) had goes = absurd had
+take_ends ok s r' (displacing v t h none saw back full) had goes = absurd had
+take_ends ok s r' (arriving old v t h below back one) had goes = absurd had
+take_ends ok s r' (swapping old v h one) had goes = absurd had
+take_ends ok s r' (spending d v none high) had goes = absurd had
+take_ends ok s r' (pop_head none) had goes = absurd had
+take_ends ok s r' (pop_stamp h none low) had goes = absurd had
+take_ends ok s r' (taking h none low full) had goes = absurd had
+take_ends ok s r' (emptying x h one) had goes = cc
+take_ends ok s r' (pop_tail h none low free) had goes = absurd had
+take_ends ok s r' (len_tail none) had goes = absurd had
+take_ends ok s r' (len_head t none low) had goes = absurd had
+take_ends ok s r' (len_again t h none seen) had goes = absurd had
+take_ends ok s r' (empty_head none) had goes = absurd had
+take_ends ok s r' (empty_tail h none saw) had goes = absurd had
+take_ends ok s r' (full_tail none) had goes = absurd had
+take_ends ok s r' (full_head t none saw) had goes = absurd had
+take_ends ok s r' (closing none) had goes = absurd had
+take_ends ok s r' (closed_tail none) had goes = absurd had
+
+pub ring_takes : (A : Type 0) (cap : ℕ) → IsRing cap → TakesReplyWithin A (queue.Bounded cap) 1
+ring_takes A cap ring = takes_reply A (queue.Bounded cap) (ring_rules cap ring) (record {
+  before = λ l. 1;
+  most = 1;
+  Clear = λ g q. Unit {0};
+  Ready = λ g. Unit {0};
+  within = λ busy s Q g p r o holds f had. (omega arith, omega arith);
+  ready = λ busy s Q g p r o holds f had. tt;
+  rests = λ g q h. tt;
+  clears = λ busy s Q g q r o ready f none. tt;
+  falls = λ busy ok s Q g p r r' o holds f had clear goes. absurd (take_ends ok s r' f.here had goes);
+})

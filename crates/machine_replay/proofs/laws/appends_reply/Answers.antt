@@ -1,0 +1,5 @@
+use Rattle.machine_replay.proofs.Unhindered.{appends_reply}
+use Rattle.machine_replay.proofs.laws.appends_reply.Goals as goal
+
+pub returns : goal.returns
+returns g c = appends_reply _

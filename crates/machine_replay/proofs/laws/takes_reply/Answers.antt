@@ -1,0 +1,5 @@
+use Rattle.machine_replay.proofs.Unhindered.{takes_reply}
+use Rattle.machine_replay.proofs.laws.takes_reply.Goals as goal
+
+pub returns : goal.returns
+returns g c = takes_reply _
