@@ -1,4 +1,4 @@
-//! Every outcome of a small program over one queue, found by a walk over its positions and then shown to be all.
+//! What is found of a small program over one queue: by a walk over its positions its outcomes and their schedules, which `machine_explore` shows to be right, and numbers of them, which nothing shows.
 #![tactic(auto)]
 
 pub mod counts;

@@ -360,7 +360,7 @@ fn comes_late(when: Option<usize>, number: usize) -> bool {
     }
 }
 
-// Whether a call that stopped before the event of this number was in the middle, and had done something to the queue: no other call can make another one wait.
+// Whether a call that stopped before the event of this number was in the middle, and had done something to the queue: of two calls, no other can make the other one wait.
 fn holds(times: Times, stopped: usize) -> bool {
     !comes_late(times.acted, stopped) && comes_late(times.ended, stopped)
 }
