@@ -16,6 +16,8 @@ static STORIES: [Story<'static>; 3] = [
             StoryLine::Call(Call::Push(10), Reply::Push(Ok(()))),
             StoryLine::Call(Call::Push(20), Reply::Push(Err(PushError::Full(20)))),
             StoryLine::Call(Call::Close, Reply::Close(true)),
+            StoryLine::Call(Call::IsEmpty, Reply::IsEmpty(false)),
+            StoryLine::Call(Call::IsFull, Reply::IsFull(true)),
             StoryLine::Call(Call::Push(20), Reply::Push(Err(PushError::Closed(20)))),
             StoryLine::Call(Call::Pop, Reply::Pop(Ok(10))),
             StoryLine::Call(Call::Push(20), Reply::Push(Err(PushError::Closed(20)))),
