@@ -1,3 +1,4 @@
+pub mod Outcomes
 pub mod Pops
 pub mod SequentialRuns
 pub mod Answered

@@ -1,9 +1,14 @@
 //! Queues with one owner.
-ghost use Rattle.std.specs.Prelude.{◌≡◌, ◌+◌, ◌<◌, ◌≤◌, ◌==◌, if◌then◌else◌, length, None, Some, IfOk, IsErr, IsOk};
+ghost use Rattle.std.specs.Prelude.{◌≡◌, ◌⊎◌, ◌+◌, ◌<◌, ◌≤◌, ◌==◌, if◌then◌else◌, true, false, not, [], ◌∷◌, ◌++◌, length, None, Some, Err, IfOk, IfErr, IfSome, OnOk, IsErr, IsOk};
+ghost use Rattle.std.specs.Option.{option_to_list};
 ghost use Rattle.queue_steps.specs.declared.sizes.TheConstants.{LIMIT, MAX_CAPACITY};
 ghost use Rattle.queue_steps.specs.State.{start, is_full};
 ghost use Rattle.queue_steps.specs.Replies.{is_empty};
-ghost use Rattle.queue_steps.specs.Sequential.{Sequential, HoldsBlocks, fresh};
+ghost use Rattle.queue_steps.specs.Sequential.{Sequential, HoldsBlocks, fresh, counted};
+ghost use Rattle.queue_steps.specs.Errors.{push_error_value, force_push_error_value};
+ghost use Rattle.queue_steps.specs.declared.errors.PopError.TheVariants as pop;
+ghost use Rattle.queue_steps.specs.declared.errors.PushError.TheVariants as push;
+ghost use Rattle.queue_steps.specs.declared.errors.ForcePushError.TheVariants as force;
 ghost use Rattle.queue_steps.specs.Legal.{IsSoundOwned};
 ghost use Rattle.own_bounded.specs.SingleCells.{IsIdle, single_owned};
 ghost use Rattle.own_bounded.specs.RingOwned.{IsIdle as IsRingIdle, ring_owned};
@@ -299,8 +304,15 @@ impl<T, A: Allocator> Exclusive<T, A> {
     /// # Errors
     ///
     /// `Closed` with the value on a closed queue, `Full` with the value on a full one, `NoMemory` with the value where a block was asked for and refused. A queue that has accepted `LIMIT` items answers `Closed`, and is closed from then on.
+    #[tactic(auto, using(crate::proofs::Outcomes::push_ok, crate::proofs::Outcomes::push_full, crate::proofs::Outcomes::push_closed, crate::proofs::Outcomes::push_memory, crate::proofs::Outcomes::push_back, crate::proofs::Outcomes::push_capacity))]
     pub fn push(&mut self, value: T) -> Result<(), PushError<T>>
-        ensures { Sequential self.old (call.Push value) (reply.Push result) self.new }
+        ensures table { Sequential self.old (call.Push value) (reply.Push result) self.new }
+        ensures ok { OnOk result ((self.new.queue.items ≡ self.old.queue.items ++ value ∷ []) × (self.new.queue.accepted ≡ counted self.old.queue) × (self.new.queue.closed ≡ false)) }
+        ensures full { result ≡ Err (push.Full value) → (self.old.queue.cap ≡ Some (length self.old.queue.items)) × (self.new.queue ≡ self.old.queue) }
+        ensures closed { result ≡ Err (push.Closed value) → ((self.old.queue.closed ≡ true) ⊎ (self.old.queue.accepted ≡ LIMIT)) × (self.new.queue ≡ record self.old.queue { closed = true }) }
+        ensures memory { result ≡ Err (push.NoMemory value) → (self.old.queue.cap ≡ None) × (self.new ≡ self.old) }
+        ensures back { IfErr result (λ why. push_error_value why ≡ value) }
+        ensures capacity { self.new.queue.cap ≡ self.old.queue.cap }
     {
         Store::push(self, value)
     }
@@ -312,8 +324,15 @@ impl<T, A: Allocator> Exclusive<T, A> {
     /// # Errors
     ///
     /// `Closed` with the value on a closed queue, `NoMemory` with the value where a block was asked for and refused.
+    #[tactic(auto, using(crate::proofs::Outcomes::force_ok, crate::proofs::Outcomes::force_full, crate::proofs::Outcomes::force_closed, crate::proofs::Outcomes::force_memory, crate::proofs::Outcomes::force_back, crate::proofs::Outcomes::force_capacity))]
     pub fn force_push(&mut self, value: T) -> Result<Option<T>, ForcePushError<T>>
-        ensures { Sequential self.old (call.ForcePush value) (reply.ForcePush result) self.new }
+        ensures table { Sequential self.old (call.ForcePush value) (reply.ForcePush result) self.new }
+        ensures ok { IfOk result (λ gone. (option_to_list gone ++ self.new.queue.items ≡ self.old.queue.items ++ value ∷ []) × (self.new.queue.accepted ≡ counted self.old.queue) × (self.new.queue.closed ≡ false)) }
+        ensures full { IfOk result (λ gone. IfSome gone (λ front. self.old.queue.cap ≡ Some (length self.old.queue.items))) }
+        ensures closed { result ≡ Err (force.Closed value) → ((self.old.queue.closed ≡ true) ⊎ (self.old.queue.accepted ≡ LIMIT)) × (self.new.queue ≡ record self.old.queue { closed = true }) }
+        ensures memory { result ≡ Err (force.NoMemory value) → (self.old.queue.cap ≡ None) × (self.new ≡ self.old) }
+        ensures back { IfErr result (λ why. force_push_error_value why ≡ value) }
+        ensures capacity { self.new.queue.cap ≡ self.old.queue.cap }
     {
         Store::force_push(self, value)
     }
@@ -323,15 +342,21 @@ impl<T, A: Allocator> Exclusive<T, A> {
     /// # Errors
     ///
     /// On an empty queue `Empty`, or `Closed` if it is closed.
+    #[tactic(auto, using(crate::proofs::Outcomes::pop_ok, crate::proofs::Outcomes::pop_empty, crate::proofs::Outcomes::pop_closed))]
     pub fn pop(&mut self) -> Result<T, PopError>
-        ensures { Sequential self.old call.Pop (reply.Pop result) self.new }
+        ensures table { Sequential self.old call.Pop (reply.Pop result) self.new }
+        ensures ok { IfOk result (λ item. self.old.queue ≡ record self.new.queue { items = item ∷ self.new.queue.items }) }
+        ensures empty { result ≡ Err pop.Empty → (self.old.queue.items ≡ []) × (self.old.queue.closed ≡ false) × (self.new.queue ≡ self.old.queue) }
+        ensures closed { result ≡ Err pop.Closed → (self.old.queue.items ≡ []) × (self.old.queue.closed ≡ true) × (self.new.queue ≡ self.old.queue) }
     {
         Store::pop(self)
     }
 
     /// Closes the queue, and tells whether this call did it. The items stay.
     pub fn close(&mut self) -> bool
-        ensures { Sequential self.old call.Close (reply.Close result) self.new }
+        ensures table { Sequential self.old call.Close (reply.Close result) self.new }
+        ensures first { result ≡ not self.old.queue.closed }
+        ensures closed { self.new.queue ≡ record self.old.queue { closed = true } }
     {
         Store::close(self)
     }
