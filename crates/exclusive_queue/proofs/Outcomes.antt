@@ -1,13 +1,12 @@
 -- What a call that may change the queue answers and leaves, in std's words.
-use Rattle.std.proofs.Common.{◌≡◌, ◌⊎◌, ℕ, Bool, true, false, not, ◌&&◌, ◌==◌, List, [], ◌∷◌, ◌++◌, length, nat_eq, Option, Some, None, Result, Ok, Err, refl, ap, sym, subst, inl, inr, arith}
+use Rattle.std.proofs.Common.{◌≡◌, ◌⊎◌, ℕ, Bool, true, false, not, ◌&&◌, ◌==◌, List, [], ◌∷◌, ◌++◌, length, Option, Some, None, Result, Ok, Err, refl, ap, sym, subst, inl, inr, arith}
 use Rattle.std.specs.Prelude.{OnOk, IfOk, IfErr, IfSome}
 use Rattle.std.specs.Option.{option_to_list}
 use Rattle.queue_steps.specs.declared.sizes.TheConstants.{LIMIT}
-use Rattle.queue_steps.specs.State.{State, is_full, fills, is_single_cap}
+use Rattle.queue_steps.specs.State.{is_full, fills, is_single_cap}
 use Rattle.queue_steps.specs.Effect.{rest}
 use Rattle.queue_steps.specs.Errors.{push_error_value, force_push_error_value}
-use Rattle.queue_steps.specs.Replies.{LacksMemory}
-use Rattle.queue_steps.specs.Sequential.{Owned, Sequential, is_spent, shut, appended, displaced, counted, front, moved, pop_result}
+use Rattle.queue_steps.specs.Sequential.{Owned, Sequential, is_spent, shut, displaced, counted, front, moved, pop_result}
 use Rattle.queue_steps.specs.declared.errors.PopError.{PopError}
 use Rattle.queue_steps.specs.declared.errors.PushError.{PushError}
 use Rattle.queue_steps.specs.declared.errors.ForcePushError.{ForcePushError}
@@ -66,32 +65,32 @@ module _ {T : Type 0} where
   push_told P R v r (inr lacks) = absurd lacks.0
   push_told P R v r (inl s) =
       rw (s.0, s.1) (table_cases (λ l. Told P v l.0 (moved P l.1) × (l.1.cap ≡ P.queue.cap)) P.queue _ _ _ _
-        (λ e1. ((refl, shut_already P e1), refl))
-        (λ e1 e2. ((refl, spent_now P e2), refl))
-        (λ e1 e2 e3. ((refl, (full_tells P e3, refl)), refl))
-        (λ e1 e2 e3. ((refl, refl, e1), refl)))
+      (λ e1. ((refl, shut_already P e1), refl))
+      (λ e1 e2. ((refl, spent_now P e2), refl))
+      (λ e1 e2 e3. ((refl, (full_tells P e3, refl)), refl))
+      (λ e1 e2 e3. ((refl, refl, e1), refl)))
 
   displaces : (P : Owned T) (v : T) (gone : Option T) → front P.queue.items ≡ gone → P.queue.closed ≡ false → is_full P.queue ≡ true → Told P v (reply.ForcePush (Ok gone)) (moved P (displaced P.queue v))
-  displaces P v gone is open full = goes P.queue.items gone refl is
+  displaces P v gone is before full = goes P.queue.items gone refl is
     where
       goes : (xs : List T) (gone : Option T) → P.queue.items ≡ xs → front P.queue.items ≡ gone → Told P v (reply.ForcePush (Ok gone)) (moved P (displaced P.queue v))
-      goes [] None are is = let items : rest P.queue.items ++ v ∷ [] ≡ P.queue.items ++ v ∷ [] = rw are refl in (items, refl, open)
+      goes [] None are is = let items : rest P.queue.items ++ v ∷ [] ≡ P.queue.items ++ v ∷ [] = rw are refl in (items, refl, before)
       goes [] (Some x) are is = absurd (let none = ap front are in cc)
       goes (x ∷ xs) None are is = absurd (let some = ap front are in cc)
       goes (x ∷ xs) (Some y) are is =
           let same : x ≡ y = (let some = ap front are in cc) in
           let items : option_to_list (Some y) ++ (rest P.queue.items ++ v ∷ []) ≡ P.queue.items ++ v ∷ [] = rw (are, same) refl in
-          ((items, refl, open), full_tells P full)
+          ((items, refl, before), full_tells P full)
 
   pub force_told : (P R : Owned T) (v : T) (r : Reply T) → Sequential P (call.ForcePush v) r R → Told P v r R × (R.queue.cap ≡ P.queue.cap)
   force_told P R v (reply.ForcePush (Err (force.NoMemory w))) (inr lacks) = rw lacks.2 ((lacks.0.0, (lacks.0.1.0, refl)), refl)
   force_told P R v r (inr lacks) = absurd lacks.0
   force_told P R v r (inl s) =
       rw (s.0, s.1) (table_cases (λ l. Told P v l.0 (moved P l.1) × (l.1.cap ≡ P.queue.cap)) P.queue _ _ _ _
-        (λ e1. ((refl, shut_already P e1), refl))
-        (λ e1 e2. ((refl, spent_now P e2), refl))
-        (λ e1 e2 e3. (displaces P v (front P.queue.items) refl e1 e3, refl))
-        (λ e1 e2 e3. ((refl, refl, e1), refl)))
+      (λ e1. ((refl, shut_already P e1), refl))
+      (λ e1 e2. ((refl, spent_now P e2), refl))
+      (λ e1 e2 e3. (displaces P v (front P.queue.items) refl e1 e3, refl))
+      (λ e1 e2 e3. ((refl, refl, e1), refl)))
 
   abbrev PopTold : Owned T → Reply T → Owned T → Type 0
   PopTold P (reply.Pop (Ok item)) R = P.queue ≡ record R.queue { items = item ∷ R.queue.items }
