@@ -11,7 +11,7 @@ use std::thread::Threads;
 use test_streams::runs::End;
 
 /// The arguments of a script on a queue of one slot.
-const SINGLE: &str = "script single";
+pub const SINGLE: &str = "script single";
 
 static WRONG: [&str; 22] = [
     "",
@@ -251,13 +251,13 @@ fn a_failed_write_leaves_a_beginning(rt: HostRuntime) {
 }
 
 /// A script whose output is longer than two pieces.
-static LONG_SCRIPT: [Part<'static>; 2] = [
+pub static LONG_SCRIPT: [Part<'static>; 2] = [
     Part::Text("push 1\n"),
     Part::Times(6_000, "push 18446744073709551615\n"),
 ];
 
 /// Its output.
-static LONG_OUTPUT: [Part<'static>; 3] = [
+pub static LONG_OUTPUT: [Part<'static>; 3] = [
     Part::Text("ok\n"),
     Part::Times(6_000, "full 18446744073709551615\n"),
     Part::Text("left 1\n"),

@@ -1,5 +1,6 @@
 //! Runs whose readers and writers do as little as they may, and fail at any of their calls.
-use crate::rows::{FAILED_READS, is, run_over};
+use crate::rows::{FAILED_READS, is, run_over, text_of};
+use crate::scripts::{LONG_OUTPUT, LONG_SCRIPT, SINGLE};
 use std::io::ErrorKind;
 use std::process::Abort;
 use std::sync::Wait;
@@ -44,31 +45,33 @@ static RUNS: [Row; 6] = [
 /// Asserts that a run ends so whose input comes, and whose output goes, a byte at a time, where these streams fail so.
 fn ends_by_bytes<R: Abort + Threads + Wait + Sync + AllocGlobal>(
     rt: &R,
-    row: &Row,
+    line: &str,
+    input: &str,
     reads: Failing,
     writes: Failing,
     end: End<'_>,
 ) {
     let alloc = rt.alloc();
-    let input = row.input.as_bytes();
+    let input = input.as_bytes();
     let mut reader = ByteReader::new(input, reads);
     let mut writer = ByteWriter::new(alloc, writes);
     let mut faults = Vec::new(alloc);
-    let status = run_over(rt, &alloc, row.line, &mut reader, &mut writer, &mut faults);
+    let status = run_over(rt, &alloc, line, &mut reader, &mut writer, &mut faults);
     let output = writer.into_taken();
     let found = End {
         status,
         output: output.as_slice(),
         faults: faults.as_slice(),
     };
-    is(rt, found, row.line, input, end);
+    is(rt, found, line, input, end);
 }
 
 #[test]
 fn a_byte_at_a_time(rt: HostRuntime) {
     for row in RUNS.iter() {
         for failing in [Failing::Never, Failing::Interrupted] {
-            ends_by_bytes(&rt, row, failing, failing, End::right(row.output));
+            let end = End::right(row.output);
+            ends_by_bytes(&rt, row.line, row.input, failing, failing, end);
         }
     }
 }
@@ -80,7 +83,7 @@ fn each_read_fails(rt: HostRuntime) {
             for (kind, fault) in FAILED_READS.iter() {
                 let failing = Failing::At(number, *kind);
                 let end = End::fault(3, fault);
-                ends_by_bytes(&rt, row, failing, Failing::Never, end);
+                ends_by_bytes(&rt, row.line, row.input, failing, Failing::Never, end);
             }
         }
     }
@@ -89,7 +92,8 @@ fn each_read_fails(rt: HostRuntime) {
 /// Asserts that a run ends with a failed output, of which it wrote so much, where its writes fail so.
 fn fails_behind<R: Abort + Threads + Wait + Sync + AllocGlobal>(
     rt: &R,
-    row: &Row,
+    line: &str,
+    input: &str,
     writes: Failing,
     written: &[u8],
 ) {
@@ -98,7 +102,7 @@ fn fails_behind<R: Abort + Threads + Wait + Sync + AllocGlobal>(
         output: written,
         faults: b"output failed\n",
     };
-    ends_by_bytes(rt, row, Failing::Never, writes, end);
+    ends_by_bytes(rt, line, input, Failing::Never, writes, end);
 }
 
 #[test]
@@ -112,10 +116,24 @@ fn each_write_fails(rt: HostRuntime) {
                 Failing::At(number, ErrorKind::OutOfMemory),
                 Failing::TakesNothing(number),
             ] {
-                fails_behind(&rt, row, failing, &output[..count]);
+                fails_behind(&rt, row.line, row.input, failing, &output[..count]);
             }
         }
     }
+}
+
+/// How much is written before the one write that fails: less than a piece.
+const BEGUN: usize = 1_000;
+
+/// A single write fails, within the first piece. Those after it would not, so nobody else tells that it failed.
+#[test]
+fn a_write_that_fails_once_ends_a_long_script(rt: HostRuntime) {
+    let input = text_of(&rt, &LONG_SCRIPT);
+    let output = text_of(&rt, &LONG_OUTPUT);
+    let output = output.as_bytes();
+    let (begun, _) = output.split_at(BEGUN.min(output.len()));
+    let failing = Failing::At(BEGUN as u64, ErrorKind::StorageFull);
+    fails_behind(&rt, SINGLE, input.as_str(), failing, begun);
 }
 
 /// Runs with threads too.
@@ -145,6 +163,7 @@ static FLUSHED: [Row; 4] = [
 #[test]
 fn a_failed_flush_is_told(rt: HostRuntime) {
     for row in FLUSHED.iter() {
-        fails_behind(&rt, row, Failing::AtFlush, row.output.as_bytes());
+        let output = row.output.as_bytes();
+        fails_behind(&rt, row.line, row.input, Failing::AtFlush, output);
     }
 }
