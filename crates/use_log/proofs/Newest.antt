@@ -1,5 +1,7 @@
 -- The last items of a list.
-use Rattle.std.proofs.Common.{◌≡◌, ℕ, ◌+◌, ◌-◌, ◌≤◌, List, [], ◌∷◌, ◌++◌, length, drop, inl, inr, refl, ap, sym, ◌∙◌, arith, length-append}
+use Rattle.std.proofs.Common.{◌≡◌, ℕ, ◌+◌, ◌-◌, ◌≤◌, List, [], ◌∷◌, ◌++◌, length, drop, Option, Some, None, inl, inr, refl, ap, sym, subst, ◌∙◌, arith, length-append}
+use Rattle.std.specs.Prelude.{IfSome}
+use Rattle.std.specs.Option.{option_to_list}
 use Rattle.std.proofs.lemmas.List.{drop-append-le, drop-drop, length-drop}
 use Rattle.std.proofs.lemmas.Bool.Decides.{leb_tells}
 use Rattle.use_log.specs.Log.{newest}
@@ -25,3 +27,10 @@ module _ {T : Type 0} where
           let one : length (drop m (xs ++ x ∷ [])) - k ≡ 1 = omega arith in
           let more : m + 1 ≡ length (xs ++ x ∷ []) - k = omega arith in
           ap (newest k) is ∙ (ap (λ (n : ℕ). drop n (drop m (xs ++ x ∷ []))) one ∙ (drop-drop 1 m (xs ++ x ∷ []) ∙ ap (λ (n : ℕ). drop n (xs ++ x ∷ [])) more))
+
+  -- what is left of a list whose front may be off: the front is off only where it was one item too long
+  pub newest_one : (k : ℕ) (ys xs : List T) (gone : Option T) → option_to_list gone ++ ys ≡ xs → length ys ≤ k → IfSome gone (λ front. length ys ≡ k) → ys ≡ newest k xs
+  newest_one k ys xs None is most full = is ∙ sym (newest_all k xs (subst (λ (l : List T). length l ≤ k) is most))
+  newest_one k ys xs (Some x) is most full =
+      let one : length (x ∷ ys) - k ≡ 1 = omega (arith, full) in
+      subst (λ (l : List T). ys ≡ newest k l) is (rw one refl)

@@ -56,14 +56,14 @@ impl<T, A: Allocator> Log<T, A> {
     /// # Errors
     ///
     /// The entry, where `LIMIT` entries were appended before it. The log is as it was.
-    #[tactic(auto, using(crate::proofs::Rings::appends, crate::proofs::Rings::spent_log))]
     pub fn append(&mut self, entry: T) -> Result<Option<T>, T>
         ensures { MatchResult result
             (λ gone. Appends self.old entry gone self.new)
             (λ back. (back ≡ entry) × (self.old.appended ≡ LIMIT) × (self.new ≡ self.old)) }
     {
+        let accepted = self.ring.force_push(entry);
         self.ring.show_sound();
-        match self.ring.force_push(entry) {
+        match accepted {
             Ok(gone) => Ok(gone),
             Err(error) => Err(error.into_inner()),
         }

@@ -57,7 +57,6 @@ impl<A: Allocator + Clone> Pool<A> {
 
 impl<A: Allocator> Pool<A> {
     /// Takes a free place out, or none where all are out. No taker had it before.
-    #[tactic(auto, using(crate::proofs::Rings::pool_popped, crate::proofs::Rings::takes))]
     pub fn take(&mut self) -> Option<u64>
         ensures { TakesOne self.old result self.new }
     {
