@@ -35,3 +35,4 @@ pub mod ChainHands
 pub mod ChainCount
 pub mod ChainSpan
 pub mod ChainFirst
+pub mod ChainEarly

@@ -5,3 +5,4 @@ pub mod ChainAt
 pub mod ChainAnswers
 pub mod ChainTransitions
 pub mod ChainAfter
+pub mod ChainEarly

@@ -1,5 +1,5 @@
 -- A call on a ring that has had no effect yet has no slot, and still carries its own value: so its party may give it up.
-use Rattle.std.proofs.Common.{ℕ, ◌≡◌, Bool, Option, Some, List, [], refl}
+use Rattle.std.proofs.Common.{ℕ, ◌≡◌, true, false, Bool, Option, Some, List, [], refl}
 use Rattle.queue_steps.specs.State.{State}
 use Rattle.queue_steps.specs.Kinds.{call_value}
 use Rattle.queue_steps.specs.declared.model.Call.{Call}
@@ -23,16 +23,16 @@ pub early : {A : Type 0} {cap : ℕ} {r : Ring A} {who : ℕ} {ms : List (State 
 early is (push_tail d v none) = (refl, none, pushed d v)
 early is (push_stamp d v t none saw) = (refl, none, pushed d v)
 early is (claiming d v t none saw free) = (refl, none, pushed d v)
-early is (filling d v q one) = absurd is
+early is (filling d v q one) = absurd (let f : false ≡ true = is in cc)
 early is (push_head v t none saw) = (refl, none, refl)
 early is (displacing v t h none saw one full) = (refl, none, refl)
-early is (arriving old v t h low one has) = absurd is
-early is (swapping old v h has) = absurd is
+early is (arriving old v t h low one has) = absurd (let f : false ≡ true = is in cc)
+early is (swapping old v h has) = absurd (let f : false ≡ true = is in cc)
 early is (spending d v none all) = (refl, none, pushed d v)
 early is (pop_head none) = (refl, none, refl)
 early is (pop_stamp h none low) = (refl, none, refl)
 early is (taking h none low full) = (refl, none, refl)
-early is (emptying x h has) = absurd is
+early is (emptying x h has) = absurd (let f : false ≡ true = is in cc)
 early is (pop_tail h none low free) = (refl, none, refl)
 early is (len_tail none) = (refl, none, refl)
 early is (len_head t none low) = (refl, none, refl)

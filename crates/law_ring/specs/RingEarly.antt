@@ -1,13 +1,18 @@
 -- Where a call on a ring stands that has had no effect yet.
-use Rattle.std.specs.Prelude.{ℕ}
+use Rattle.std.specs.Prelude.{◌≡◌, ℕ, Bool, true, false}
 use Rattle.queue_steps.specs.declared.steps.types.Local.{Local}
 use Rattle.queue_steps.specs.declared.steps.types.Local.TheVariants as local
+use Rattle.queue_steps.specs.declared.steps.bounded.BoundedLocal.{BoundedLocal}
 use Rattle.queue_steps.specs.declared.steps.bounded.BoundedLocal.TheVariants as ring
 
 -- all but between a call's effects, and after them
+abbrev pub is_early : BoundedLocal → Bool
+is_early (ring.Filling d) = false
+is_early (ring.Arriving t) = false
+is_early ring.Swapping = false
+is_early ring.Emptying = false
+is_early _ = true
+
 abbrev pub IsEarly : Local ℕ → Type 0
-IsEarly (local.Bounded (ring.Filling d)) = ⊥
-IsEarly (local.Bounded (ring.Arriving t)) = ⊥
-IsEarly (local.Bounded ring.Swapping) = ⊥
-IsEarly (local.Bounded ring.Emptying) = ⊥
+IsEarly (local.Bounded l) = is_early l ≡ true
 IsEarly _ = Unit {0}

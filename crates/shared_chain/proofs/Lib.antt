@@ -39,3 +39,4 @@ pub mod Opening
 pub mod Leading
 pub mod Crowds
 pub mod Spots
+pub mod Quits

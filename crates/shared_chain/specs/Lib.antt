@@ -7,3 +7,4 @@ pub mod Turning
 pub mod Parties
 pub mod Ending
 pub mod Leftover
+pub mod Quitting

@@ -4,6 +4,7 @@
 mod ending;
 pub mod ends;
 mod parties;
+mod quitting;
 pub mod rule;
 pub mod source;
 mod touching;

@@ -1,5 +1,5 @@
--- A call that has had no effect, and whose party has no part in the cells, is given up: its seat is at nothing again, and all else stays.
-use Rattle.std.proofs.Common.{◌≡◌, ◌≢◌, ℕ, true, false, List, [], ◌∷◌, ◌++◌, map, length, set, refl, ap, sym, ◌∙◌, subst, ⊎_elim}
+-- A call that has had no effect, and whose party has no part in the cells, is given up: its seat is at nothing again, and all other calls stand as they stood.
+use Rattle.std.proofs.Common.{◌≡◌, ◌≢◌, ℕ, List, [], ◌∷◌, ◌++◌, Option, map, length, set, refl, ap, sym, ◌∙◌, subst, ⊎_elim}
 use Rattle.std.proofs.lemmas.List.{append-nil}
 use mathlib.Core.Option.{some}
 use mathlib.Core.List.{IsPrefix}
@@ -8,66 +8,78 @@ use lib.Seq.{map-set}
 use mathlib.Core.Logic.{dite}
 use native.Mathlib.Decide.{ℕ_discrete}
 use Rattle.atomic_table.proofs.Lists.{at_set, at_map, set_else, set_again}
+use Rattle.queue_steps.specs.declared.model.Call.TheVariants as call
+use Rattle.queue_steps.specs.declared.model.Reply.TheVariants as reply
 use Rattle.queue_steps.specs.declared.model.Effect.{Effect}
-use Rattle.queue_steps.specs.Shares.{IsEntire}
-use Rattle.queue_steps.specs.Parties.{StandAt, IsWhole}
+use Rattle.queue_steps.specs.State.{State, start}
+use Rattle.queue_steps.specs.Effect.{IsHistory, Runs, made}
+use Rattle.queue_steps.specs.Parties.{View, StandAt, SharedCall}
 use Rattle.shared_parties.specs.declared.known.Known.{Known}
 use Rattle.shared_parties.specs.declared.known.InCall.{InCall}
-use Rattle.shared_parties.specs.declared.known.Work.{Work}
 use Rattle.shared_parties.specs.declared.known.Work.TheVariants as work
 use Rattle.shared_parties.specs.declared.known.CallState.{CallState}
 use Rattle.shared_parties.specs.Known.{party, view_of, Kept}
-use Rattle.shared_parties.specs.CallStates.{is_busy, idle, known_by, IsResting, HasAll}
+use Rattle.shared_parties.specs.CallStates.{idle, known_by}
 use Rattle.shared_parties.specs.Calling.{CallsOf, cap_of, Standing}
-use Rattle.shared_parties.specs.CallsAt.{CallsAt}
+use Rattle.shared_parties.specs.CallsAt.{CallsAt, begun_at}
+use Rattle.shared_parties.specs.Quitting.{Quit}
 use Rattle.shared_parties.proofs.Alone.{alone}
+use Rattle.shared_parties.proofs.Histories.{prefix_self}
+use Rattle.shared_parties.proofs.SharedCalls.{quiet, cap_after}
 
 -- no effects stand at no places
-places_none : {T : Type 0} (t : List (Effect T)) (n : ℕ) (ps : List ℕ) (es : List (Effect T)) → es ≡ [] → StandAt t n ps es → ps ≡ []
+pub places_none : {T : Type 0} (t : List (Effect T)) (n : ℕ) (ps : List ℕ) (es : List (Effect T)) → es ≡ [] → StandAt t n ps es → ps ≡ []
 places_none t n [] es none s = refl
 places_none t n (p ∷ ps) [] none s = absurd s
 places_none t n (p ∷ ps) (e ∷ es) none s = absurd (let f : e ∷ es ≡ [] = none in cc)
 
--- what a party is whose call was given up: it is between its calls, and has what it had when the call began, of what it has seen since
-pub record Quit {T : Type 0} (K : CallsOf T) (c : InCall T) (w : CallState T) : Type 0 where
-  pub rests : IsResting w
-  pub cap : w.known.cap ≡ cap_of K
-  pub later : IsPrefix c.since w.known.seen
-  pub mine : w.known.mine ≡ c.before
-  pub share : w.known.share ≡ c.share
-  pub owns : HasAll w
+-- a beginning of a history is one
+runs_before : {T : Type 0} (Q : State T) (s d : List (Effect T)) → Runs Q (s ++ d) → Runs Q s
+runs_before Q [] d r = tt
+runs_before Q (e ∷ s) d r = (r.0, runs_before (made e Q) s d r.1)
 
-module _ {T : Type 0} (K : CallsOf T) (g : K.Cells) (h : List (Effect T)) (n : ℕ) (vs : List (CallState T)) (i : ℕ) (d : CallState T) (c : InCall T)
-    (all : CallsAt K g h n vs) (at : get_elem? vs i ≡ some d) (busy : d.work ≡ work.Calls c) (none : c.effects ≡ []) (free_at : K.Idle g i) where
-  abbrev stands : Standing K g h i d.known c
-  stands = all.calls i d c at busy
+begins : {T : Type 0} (cap : Option ℕ) (s t : List (Effect T)) → IsPrefix s t → IsHistory cap t → IsHistory cap s
+begins cap s t (d, is) legal = runs_before (start cap 0) s d (subst (IsHistory cap) (sym is) legal)
 
-  abbrev there : d.known ≡ party (cap_of K) d.known.seen (c.before ++ c.places) c.share
-  there = stands.knows
+-- to a party whose call was given up it is as if it had asked for the capacity
+pub quit_looks : {T : Type 0} (K : CallsOf T) (c : InCall T) (w : CallState T) (v : View T) → begun_at c ≡ v → Quit K c w → SharedCall (cap_of K) v (view_of w.known) call.Capacity (reply.Capacity (cap_of K))
+quit_looks K c w v is q = subst (λ (z : View _). SharedCall (cap_of K) z (view_of w.known) call.Capacity (reply.Capacity (cap_of K))) is
+    (quiet (cap_of K) (begun_at c) (view_of w.known) c.since call.Capacity (reply.Capacity (cap_of K)) (prefix_self c.since) q.later q.legal q.mine q.share refl (sym (cap_after (cap_of K) c.since)))
 
-  pub quit : Quit K c (idle d.known)
-  quit = record {
+module _ {T : Type 0} (K : CallsOf T) (g : K.Cells) (h : List (Effect T)) (n : ℕ) (vs : List (CallState T)) (i : ℕ) (d : CallState T) (all : CallsAt K g h n vs) (at : get_elem? vs i ≡ some d) where
+  -- the party of a call without effects has what it had when that began
+  pub quit : (c : InCall T) → d.work ≡ work.Calls c → c.effects ≡ [] → Quit K c (idle d.known)
+  quit c busy none = record {
     rests = λ j. idle (rests' j);
     cap = ap (λ (z : Known T). z.cap) there;
+    legal = begins (cap_of K) d.known.seen h (all.kept.true_of i d.known (at_map known_by vs i d at)).begins all.kept.legal;
     later = stands.since;
     mine = ap (λ (z : Known T). z.mine) there ∙ (ap (λ (ps : List ℕ). c.before ++ ps) (places_none h (length c.since) c.places c.effects none stands.stand) ∙ append-nil c.before);
     share = ap (λ (z : Known T). z.share) there;
     owns = λ entire. (alone (cap_of K) (cap_of K) h d.known.seen n (map known_by vs) i d.known (c.before ++ c.places) c.share all.kept (at_map known_by vs i d at) there entire).whole;
   }
     where
+      stands : Standing K g h i d.known c
+      stands = all.calls i d c at busy
+
+      there : d.known ≡ party (cap_of K) d.known.seen (c.before ++ c.places) c.share
+      there = stands.knows
+
       rests' : d.known ≡ party d.known.cap d.known.seen d.known.mine d.known.share
       rests' = there ∙ (λ j. party (sym there j).cap d.known.seen (sym there j).mine (sym there j).share)
 
-  pub quits : CallsAt K g h n (set vs i (idle d.known))
-  quits = record {
-    ok = all.ok;
-    state = all.state;
+  -- the seat is at nothing, and the cells are s, where all others stand as they stood
+  pub quits : (s : K.Cells) → K.Ok s → K.queue_of s ≡ K.queue_of g → ((j : ℕ) (k : Known T) (c : InCall T) → j ≢ i → IsPrefix k.seen h → Standing K g h j k c → Standing K s h j k c)
+      → ((j : ℕ) → j ≢ i → K.Idle g j → K.Idle s j) → K.Idle s i → CallsAt K s h n (set vs i (idle d.known))
+  quits s ok same others frees free_at = record {
+    ok = ok;
+    state = same ∙ all.state;
     calls = λ j e k found works. ⊎_elim
         (λ (t : (j ≡ i) × (idle d.known ≡ e)). absurd (let no : work.Nothing ≡ work.Calls k = ap (λ (z : CallState T). z.work) t.1 ∙ works in cc))
-        (λ (t : (j ≢ i) × (get_elem? vs j ≡ some e)). all.calls j e k t.1 works)
+        (λ (t : (j ≢ i) × (get_elem? vs j ≡ some e)). others j e.known k t.0 (all.kept.true_of j e.known (at_map known_by vs j e t.1)).begins (all.calls j e k t.1 works))
         (at_set vs i j (idle d.known) e found);
     free = λ j quiet. dite (ℕ_discrete j i)
-        (λ same. subst (λ k. K.Idle g k) (sym same) free_at)
-        (λ ne. all.free j (λ e found. quiet e (set_else vs i j (idle d.known) ne ∙ found)));
+        (λ eq. subst (λ k. K.Idle s k) (sym eq) free_at)
+        (λ ne. frees j ne (all.free j (λ e found. quiet e (set_else vs i j (idle d.known) ne ∙ found))));
     kept = subst (Kept (cap_of K) h n) (sym (map-set known_by vs i (idle d.known) ∙ set_again (map known_by vs) i d.known (at_map known_by vs i d at))) all.kept;
   }

@@ -7,3 +7,4 @@ pub mod Operations
 pub mod Calling
 pub mod CallsAt
 pub mod Called
+pub mod Quitting

@@ -1,5 +1,5 @@
 mod TableParties
-mod Quitting
+mod Quits
 mod Crowds
 mod TableAllows
 mod TableOperations

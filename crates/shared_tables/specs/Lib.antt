@@ -1,7 +1,9 @@
 pub mod Seats
 pub mod AtTable
+pub mod Early
 pub mod TableRule
 pub mod TableTurns
+pub mod Quitting
 pub mod RingOpening
 pub mod RingTable
 pub mod SlotTable

@@ -1,5 +1,5 @@
 -- The rule of a queue that parties share over a table, whatever its kind: the first word counts the parties, the other words and the slots are the kind's.
-use Rattle.std.specs.Prelude.{None, ◌≡◌, ℕ, ◌+◌, ◌<◌, ◌||◌, not, Bool, true, List, ◌∷◌, Option, slice_index_or, slice_set, bit_and}
+use Rattle.std.specs.Prelude.{None, ◌≡◌, ℕ, ◌+◌, ◌<◌, ◌||◌, not, Bool, true, List, [], ◌∷◌, Option, slice_index_or, slice_set, bit_and}
 use Rattle.std.specs.Int.{w64, bit_not}
 use mathlib.Core.Option.{some}
 use mathlib.Core.Option as maybe
@@ -12,11 +12,12 @@ use Rattle.queue_steps.specs.declared.steps.types.Op.{Op}
 use Rattle.queue_steps.specs.declared.steps.types.Op.TheVariants as op
 use Rattle.queue_steps.specs.declared.steps.types.Touch.{Touch}
 use Rattle.queue_steps.specs.declared.steps.types.Word.{Word}
-use Rattle.queue_steps.specs.Kinds.{call_kind}
+use Rattle.queue_steps.specs.Kinds.{call_kind, call_value}
 use Rattle.queue_steps.specs.Next.{CanNext, first_local, next_of}
 use Rattle.queue_steps.specs.WaitFree.{is_wait_free, EndsWaitFree}
 use Rattle.queue_steps.specs.State.{State}
 use Rattle.law_common.specs.Effects.{Leads, with_effect}
+use Rattle.shared_tables.specs.Early.{IsEarly}
 use Rattle.shared_tables.specs.Seats.{Table, count_of}
 use Rattle.shared_parties.specs.Operations.{op_word, op_makes, answer_for}
 use Rattle.shared_parties.specs.CallsAt.{CallsAt}
@@ -93,3 +94,5 @@ pub record TableLaws {T : Type 0} (K : TableOf T) (words : ℕ) : Type 0 where
   pub gives : (spare : Option ℕ) → K.calls.Gives spare → spare ≡ None
   pub opens : (c : Call T) → OpensIn K c
   pub wait_free : (c : Call T) → is_wait_free c ≡ true → EndsWaitFree ℕ K.calls.kind (call_kind c)
+  pub early : (g : K.calls.Cells) (j : ℕ) (ms : List (State T)) (was : Bool) (l : Local ℕ) (t : Touch) (o : Op ℕ) (v : Option T) (k : Call T) (es : List (Effect T))
+      → IsEarly l → K.calls.At g j ms was l t o v k es → (es ≡ []) × K.calls.Idle g j × (v ≡ call_value k)

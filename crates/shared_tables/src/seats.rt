@@ -10,7 +10,7 @@ use std::alloc::Allocator;
 use std::marker::PhantomData;
 
 /// The word that counts the parties, splits under way included.
-const PARTIES: usize = 0;
+pub(crate) const PARTIES: usize = 0;
 
 /// An act on the count.
 struct Counting<M> {

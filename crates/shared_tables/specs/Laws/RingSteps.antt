@@ -38,6 +38,7 @@ use Rattle.law_ring.specs.RingAt.{At, HasPlace, InRing}
 use Rattle.law_ring.proofs.RingAt.{at_stays}
 use Rattle.law_ring.proofs.RingRanks.{rank}
 use Rattle.law_ring.proofs.RingGood.{IsEffect, Goes as RingGoes, Good}
+use Rattle.law_ring.proofs.RingEarly.{early}
 use Rattle.law_ring.proofs.RingStart.{at_first, at_touches, at_coming, at_word}
 use Rattle.law_ring.proofs.RingStep.{step_good}
 use Rattle.law_ring.proofs.RingHands.{lent_stays, Shift, Rests, Claims, GoesOn, Returns}
@@ -355,4 +356,5 @@ module _ {T : Type 0} where
     gives = λ spare none. none;
     opens = ring_opens_in cap ring;
     wait_free = ring_wait_free cap;
+    early = λ g j ms was l t o v k es is here. early is.1 here;
   }

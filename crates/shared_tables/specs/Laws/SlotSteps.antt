@@ -31,6 +31,7 @@ use Rattle.law_common.specs.Effects.{Leads, with_effect}
 use Rattle.law_slot.specs.SlotShared.{Shared, one_slot, CanOperate, answered, operated, touched, handed}
 use Rattle.law_slot.specs.SlotHolder.{SlotHolder, Nobody, Filling, Swapping, Taking}
 use Rattle.law_slot.specs.SlotRows.{Stands, filling, swapping, taking, At, push_try, push_put, force_try_empty, force_try_full, force_put_empty, force_put_full, pop_try, pop_take, close_try, look_at, Share, fills, swaps, takes as takes_share, Passes, stays, changes, single, Lands, Good}
+use Rattle.law_slot.proofs.SlotEarly.{early}
 use Rattle.law_slot.proofs.SlotSteps.{step_good}
 use Rattle.law_slot.proofs.SlotRanks.{can_operate}
 use Rattle.law_slot.proofs.SlotHolder.{share_of, next_who, own_self, own_other}
@@ -340,4 +341,5 @@ module _ {T : Type 0} where
     gives = λ spare none. none;
     opens = slot_opens_in;
     wait_free = slot_wait_free;
+    early = λ g j ms was l t o v k es is here. let h = early is.0 here in (h.0, sym (ap lent_by h.1), h.2);
   }

@@ -1,0 +1,12 @@
+use Rattle.std.proofs.Common.{rules, lit<, ◌∙◌, sym, ap, subst}
+use denote.RawPtr.{InBlock}
+use Rattle.law_chain.specs.ChainPasses.{spare_in}
+use Rattle.shared_parties.specs.Quitting.{its_call}
+use Rattle.shared_chain.proofs.Quits.{gives_up, carries_spare, carries_none}
+use Rattle.shared_chain.proofs.Turns.{sits_still}
+use Rattle.shared_chain.proofs.web.ChainWeb.quit.Goals as goal
+
+pub load-requires : goal.load-requires
+load-requires g c =
+    let w = c.args.self.now in let m = c.args.seat.now in
+    (c.requires.sits, subst InBlock (sym w.ends.4) tt, lit< tt, gives_up w.web.key.tail.ptr w.web.key.head.ptr m.id m.sitter c.requires.may w.tail.ptr w.ends.0)
