@@ -1,6 +1,10 @@
 mod Filling
 mod Persons
+mod GivesUp
+mod Quits
+mod Settling
 mod Stops
 mod StopsIn
 mod TableCalls
+mod Told
 mod WebParties

@@ -17,6 +17,7 @@ use Rattle.shared_parties.specs.declared.known.Work.TheVariants as work
 use Rattle.shared_parties.specs.Called.{call_of_work, nothing_called}
 use Rattle.shared_parties.specs.Calling.{cap_of}
 use Rattle.shared_parties.specs.CallsAt.{begun_at}
+use Rattle.shared_parties.specs.Quitting.{its_call}
 use Rattle.shared_parties.specs.CallStates.{idle}
 use Rattle.shared_parties.specs.Known.{party}
 use Rattle.shared_tables.specs.AtTable.{TableSeat, Ended}
@@ -29,7 +30,7 @@ use Rattle.concurrent_queue.specs.declared.party.SeatPlace.TheVariants as place
 use Rattle.concurrent_queue.specs.Shared.{QueueId, QueueName, at_table, Person, person, IsHeld, Calls, person_of}
 use Rattle.concurrent_queue.specs.Begun.{Begun}
 use Rattle.concurrent_queue.specs.Pausing.{IsStep}
-use Rattle.concurrent_queue.specs.Pending.{its_call, begun_by, IsStoppedAt}
+use Rattle.concurrent_queue.specs.Pending.{begun_by, IsStoppedAt}
 use Rattle.concurrent_queue.proofs.TableCalls.{table_ends}
 
 -- a table is told by its name
@@ -46,11 +47,11 @@ module _ {T : Type 0} where
   begun_is n cap d v c queue view call = λ i. record { party = record { queue = sym queue i; view = view i }; call = call i }
 
   -- a call that is to do a step is that of its seat
-  at_step : (K : TableOf T) (b : InCall T) (v : Option T) (n : Next ℕ) (m : Seated T) → IsStep n → After K b v n m → (d : InCall T) × (m.0.work ≡ work.Calls d) × (d.call ≡ b.call) × (begun_at d ≡ begun_at b) × After K d v n m
+  pub at_step : (K : TableOf T) (b : InCall T) (v : Option T) (n : Next ℕ) (m : Seated T) → IsStep n → After K b v n m → (d : InCall T) × (m.0.work ≡ work.Calls d) × (d.call ≡ b.call) × (begun_at d ≡ begun_at b) × After K d v n m
   at_step K b v (next.Step l t o) m is (d, at, local, touch, op, carried, call, begun, lends, touched, word) = (d, at, call, begun, (d, at, local, touch, op, carried, refl, refl, lends, touched, word))
   at_step K b v (next.Reply x spare) m is h = absurd is
 
-  at_its : (d : CallState T) (c : InCall T) → d.work ≡ work.Calls c → its_call d ≡ c
+  pub at_its : (d : CallState T) (c : InCall T) → d.work ≡ work.Calls c → its_call d ≡ c
   at_its d c at = ap (call_of_work nothing_called) at
 
 module _ {T : Type 0} (K : ℕ → TableOf T) (t : TableId) where
@@ -131,10 +132,16 @@ module _ {T : Type 0} (K : ℕ → TableOf T) (t : TableId) where
       let h = stops n (at (first_seat s)) (its_call s.me.0).call q m old.1.view kind call stands step in
       (h.0, h.1, (λ i. record { party = record { queue = record { name = at_table t; cap = cap }; view = h.2 i }; call = h.3 i }) ∙ old.2)
 
+  -- a call of its party that has ended
+  pub comes_back : (s q : Seat (Option T) (CallState T)) (l : Left T ℕ) (v : Begun T) (k : Call T) (y : Reply T) → StopsHere s l v → Ended cap t (at (first_seat s)) k y (at q)
+      → IsHeld (place.Table q) × Calls v.party k y (person_of (place.Table q))
+  comes_back s q l v k y old e =
+      let is_v : person_of (place.Table (first_seat s)) ≡ v.party = ap (λ (z : TableId). person (at_table z) (first_seat s).me.0) old.0 ∙ ap (λ (z : Begun T). z.party) old.2 in
+      table_ends (place.Table (first_seat s)) (first_seat s) cap t refl ((refl, old.1.view), refl) q (place.Table q) v.party k y y refl refl is_v (ap (λ (z : Begun T). z.party.queue.cap) (sym old.2)) (sym old.0) e
+
   -- a call that was taken up and has ended
   pub ended : (s q : Seat (Option T) (CallState T)) (l : Left T ℕ) (v : Begun T) (y : Reply T) → StopsHere s l v → Ended cap t (at (first_seat s)) (its_call s.me.0).call y (at q)
       → IsHeld (place.Table q) × Calls v.party v.call y (person_of (place.Table q))
   ended s q l v y old e =
-      let is_v : person_of (place.Table (first_seat s)) ≡ v.party = ap (λ (z : TableId). person (at_table z) (first_seat s).me.0) old.0 ∙ ap (λ (z : Begun T). z.party) old.2 in
-      let h = table_ends (place.Table (first_seat s)) (first_seat s) cap t refl ((refl, old.1.view), refl) q (place.Table q) v.party (its_call s.me.0).call y y refl refl is_v (ap (λ (z : Begun T). z.party.queue.cap) (sym old.2)) (sym old.0) e in
+      let h = comes_back s q l v (its_call s.me.0).call y old e in
       (h.0, subst (λ (z : Call T). Calls v.party z y (person_of (place.Table q))) (ap (λ (z : Begun T). z.call) old.2) h.1)

@@ -18,6 +18,7 @@ use Rattle.shared_parties.specs.declared.known.InCall.{InCall}
 use Rattle.shared_parties.specs.declared.known.Work.TheVariants as work
 use Rattle.shared_parties.specs.Called.{call_of_work, nothing_called}
 use Rattle.shared_parties.specs.CallsAt.{begun_at}
+use Rattle.shared_parties.specs.Quitting.{its_call}
 use Rattle.shared_parties.specs.CallStates.{idle, IsResting, HasAll}
 use Rattle.shared_parties.specs.Known.{party, view_of}
 use Rattle.shared_chain.specs.Names.{link_of, next_map}
@@ -33,7 +34,7 @@ use Rattle.concurrent_queue.specs.Shared.{QueueId, in_web, Person, person, IsHel
 use Rattle.concurrent_queue.specs.Begun.{Begun}
 use Rattle.concurrent_queue.specs.InWeb.{EndedAt}
 use Rattle.concurrent_queue.specs.Pausing.{IsStep}
-use Rattle.concurrent_queue.specs.Pending.{its_call, begun_by, IsStoppedIn}
+use Rattle.concurrent_queue.specs.Pending.{begun_by, IsStoppedIn}
 use Rattle.concurrent_queue.proofs.Stops.{begun_is}
 use Rattle.concurrent_queue.proofs.WebParties.{web_ends}
 
@@ -42,13 +43,13 @@ pub same_web : (a b : WebId) → in_web a ≡ in_web b → a ≡ b
 same_web a b e = let h : in_web a ≡ in_web b = e in cc
 
 -- a step is one whatever the blocks are named by
-step_named : (T : Type 0) (n : Next ℕ) → IsStep (next_map (link_of {T = T}) n) → IsStep n
+pub step_named : (T : Type 0) (n : Next ℕ) → IsStep (next_map (link_of {T = T}) n) → IsStep n
 step_named T (next.Step l t o) is = tt
 step_named T (next.Reply x spare) is = absurd is
 
 module _ {T : Type 0} where
   -- a call that is to do a step is that of its seat
-  in_step : (b : InCall T) (v : Option T) (n : Next ℕ) (m : Sitter T (CallState T)) → IsStep n → chain.After b v n m → (d : InCall T) × (m.view.work ≡ work.Calls d) × (d.call ≡ b.call) × (begun_at d ≡ begun_at b) × chain.After d v n m
+  pub in_step : (b : InCall T) (v : Option T) (n : Next ℕ) (m : Sitter T (CallState T)) → IsStep n → chain.After b v n m → (d : InCall T) × (m.view.work ≡ work.Calls d) × (d.call ≡ b.call) × (begun_at d ≡ begun_at b) × chain.After d v n m
   in_step b v (next.Step l t o) m is (xs, (d, at, local, touch, op, carried, call, begun, lends), holds, may) = (d, at, call, begun, (xs, (d, at, local, touch, op, carried, refl, refl, lends), holds, may))
   in_step b v (next.Reply x spare) m is h = absurd is
 
@@ -119,21 +120,27 @@ module _ {T A Q : Type 0} (w : ChainWeb T A) where
       let web : q.seat.web ≡ s.seat.web = h.0.0 ∙ sym old.0.0 in
       (h.0, h.1, (λ i. record { party = record { queue = record { name = in_web (web i); cap = None }; view = h.2 i }; call = h.3 i }) ∙ old.2)
 
-  -- a call that was taken up and has ended
-  pub ended_in : (s q : Asking T A Q) (l : Left T (Link T)) (v : Begun T) (y : Reply T) (r : Rested (CallState T)) → StopsInside s l v → ChainEnded w (first_asking s).seat (its_call s.seat.sitter.view).call y q.seat
-      → r.asleep ≡ true → r.web ≡ q.seat.web → r.view ≡ q.seat.sitter.view → IsHeld (place.Web r) × Calls v.party v.call y (person_of (place.Web r))
-  ended_in s q l v y r old e asleep web view =
+  -- a call of its party that has ended
+  pub comes_back_in : (s q : Asking T A Q) (l : Left T (Link T)) (v : Begun T) (k : Call T) (y : Reply T) (r : Rested (CallState T)) → StopsInside s l v → ChainEnded w (first_asking s).seat k y q.seat
+      → r.asleep ≡ true → r.web ≡ q.seat.web → r.view ≡ q.seat.sitter.view → IsHeld (place.Web r) × Calls v.party k y (person_of (place.Web r))
+  comes_back_in s q l v k y r old e asleep web view =
       let c = its_call s.seat.sitter.view in
       let first : Rested (CallState T) = record r { view = idle (party None c.since c.before c.share) } in
       let web_is : r.web ≡ s.seat.web = web ∙ (e.0.0.0 ∙ sym old.0.0) in
       let is_v : person_of (place.Web first) ≡ v.party = ap (λ z. person (in_web z) first.view) web_is ∙ ap (λ (z : Begun T). z.party) old.2 in
-      let ends : EndedAt first c.call y r = (
+      let ends : EndedAt first k y r = (
         asleep,
         refl,
         subst IsResting (sym view) e.0.1.2,
         ap (λ (d : CallState T). d.known.cap) view ∙ e.0.1.3,
         subst HasAll (sym view) e.0.1.5,
-        subst (λ (d : CallState T). SharedCall None (view_of first.view.known) (view_of d.known) c.call y) (sym view) e.1,
+        subst (λ (d : CallState T). SharedCall None (view_of first.view.known) (view_of d.known) k y) (sym view) e.1,
       ) in
-      let h = web_ends (place.Web first) (place.Web r) first r v.party c.call y y refl ((refl, old.1.view), asleep) refl refl is_v (ap (λ (z : Begun T). z.party.queue.cap) (sym old.2)) ends in
+      web_ends (place.Web first) (place.Web r) first r v.party k y y refl ((refl, old.1.view), asleep) refl refl is_v (ap (λ (z : Begun T). z.party.queue.cap) (sym old.2)) ends
+
+  -- a call that was taken up and has ended
+  pub ended_in : (s q : Asking T A Q) (l : Left T (Link T)) (v : Begun T) (y : Reply T) (r : Rested (CallState T)) → StopsInside s l v → ChainEnded w (first_asking s).seat (its_call s.seat.sitter.view).call y q.seat
+      → r.asleep ≡ true → r.web ≡ q.seat.web → r.view ≡ q.seat.sitter.view → IsHeld (place.Web r) × Calls v.party v.call y (person_of (place.Web r))
+  ended_in s q l v y r old e asleep web view =
+      let h = comes_back_in s q l v (its_call s.seat.sitter.view).call y r old e asleep web view in
       (h.0, subst (λ (z : Call T). Calls v.party z y (person_of (place.Web r))) (ap (λ (z : Begun T). z.call) old.2) h.1)

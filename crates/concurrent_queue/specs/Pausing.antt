@@ -14,7 +14,11 @@ abbrev pub IsStep : {B : Type 0} → Next B → Type 0
 IsStep (next.Step l t o) = Unit {0}
 IsStep (next.Reply r spare) = ⊥
 
--- the call c, begun by the seat `first`, has taken a step, and stands there before another one
-abbrev pub IsPaused : {T B S M K : Type 0} → Ghosts M T B S K → M → S → Call T → Left T B → S → Type 0
-IsPaused m site first c left seat =
-    Stood m (SOLO_STEPS - 1) left.kind left.call site first c left.progress left.carried seat × IsStep (next_of left.kind left.progress.local left.progress.answer)
+module _ {T B S M K : Type 0} (m : Ghosts M T B S K) where
+  -- the call c, begun by the seat `first`, has taken a step, and stands there
+  abbrev pub IsStood : M → S → Call T → Left T B → S → Type 0
+  IsStood site first c left seat = Stood m (SOLO_STEPS - 1) left.kind left.call site first c left.progress left.carried seat
+
+  -- and it is to take another one
+  abbrev pub IsPaused : M → S → Call T → Left T B → S → Type 0
+  IsPaused site first c left seat = IsStood site first c left seat × IsStep (next_of left.kind left.progress.local left.progress.answer)

@@ -9,10 +9,8 @@ use Rattle.queue_steps.specs.Kinds.{call_kind}
 use Rattle.queue_steps.specs.Next.{CanNext, next_of}
 use Rattle.queue_steps.specs.Parties.{IsView}
 use Rattle.shared_parties.specs.declared.known.CallState.{CallState}
-use Rattle.shared_parties.specs.declared.known.InCall.{InCall}
-use Rattle.shared_parties.specs.declared.known.Work.{Work}
 use Rattle.shared_parties.specs.declared.known.Work.TheVariants as work
-use Rattle.shared_parties.specs.Called.{call_of_work, nothing_called}
+use Rattle.shared_parties.specs.Quitting.{its_call}
 use Rattle.shared_parties.specs.Calling.{cap_of}
 use Rattle.shared_parties.specs.CallsAt.{begun_at}
 use Rattle.shared_tables.specs.TableRule.{TableOf}
@@ -28,10 +26,6 @@ use Rattle.concurrent_queue.specs.declared.shared.pending.CallPlace.TheVariants 
 use Rattle.concurrent_queue.specs.Shared.{QueueName, at_table, in_web}
 use Rattle.concurrent_queue.specs.Begun.{Begun}
 use Rattle.concurrent_queue.specs.Pausing.{IsStep}
-
--- the call that a seat is at
-abbrev pub its_call : {T : Type 0} → CallState T → InCall T
-its_call d = call_of_work nothing_called d.work
 
 -- of a seat on the queue of this name and capacity, what it was when its call began, and the call
 abbrev pub begun_by : {T : Type 0} → QueueName → Option ℕ → CallState T → Begun T

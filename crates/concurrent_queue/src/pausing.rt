@@ -1,13 +1,15 @@
 //! A party's call that does not wait: it takes steps until its reply, or until it has met another call half done, and then stands where it is.
-ghost use Rattle.std.specs.Prelude.{◌-◌};
+ghost use Rattle.std.specs.Prelude.{◌≡◌, ◌≤◌, ◌-◌, true};
 ghost use Rattle.std.specs.ControlFlow.{MatchControlFlow};
 ghost use Rattle.queue_steps.specs.declared.model.Call.{Call as SpecCall};
 ghost use Rattle.queue_steps.specs.declared.sizes.TheConstants.{SOLO_STEPS};
 ghost use Rattle.call_driver.specs.Leads.{MayGive, Gave};
 ghost use Rattle.call_driver.specs.OnWay.{Stood};
 ghost use Rattle.concurrent_queue.specs.Leaving.{IsLeft};
-ghost use Rattle.concurrent_queue.specs.Pausing.{IsPaused};
+ghost use Rattle.concurrent_queue.specs.Pausing.{IsStood, IsPaused};
+ghost use Rattle.concurrent_queue.specs.Settling.{next_at, is_early_step, left_at, MayWait};
 
+use crate::early::is_early;
 use crate::waiting::{Left, must_give_way, run_fast};
 use call_driver::fast::Row;
 use call_driver::gate::Gate;
@@ -18,6 +20,9 @@ use queue_steps::model::{Call, CallKind, Reply};
 use queue_steps::sizes::SOLO_STEPS;
 use queue_steps::steps::{Kind, KindSteps, Next};
 use std::ops::ControlFlow;
+
+/// How many steps a call takes at most from its effect on, its reply with them, but for a pop on a chain.
+const SETTLE_STEPS: usize = 5;
 
 /// Gives up the block that a reply hands out.
 fn give_back<T, B: Copy, S, M: Site<T, B, S>>(site: &M, seat: &mut S, spare: Option<B>)
@@ -117,4 +122,71 @@ pub(crate) fn set_out<T, B: Copy, S, M: Site<T, B, S>, G: Gate, F: Row<T, B, S, 
         ControlFlow::Break(reply) => ControlFlow::Break(reply),
         ControlFlow::Continue(left) => carry_on(site, gate, seat, left),
     }
+}
+
+/// What a call does next, where it has had an effect; or it stands where it has had none.
+fn settle_step<T, B: Copy, S, M: Site<T, B, S>, G: Gate>(
+    site: &M,
+    gate: &G,
+    seat: &mut S,
+    left: Left<T, B>,
+) -> ControlFlow<Reply<T>, Left<T, B>>
+    requires { (c : SpecCall T) × (first : S) × IsStood M.Site site.now first c left seat.old }
+    ensures stood { (c : SpecCall T) (first : S) → IsStood M.Site site.now first c left seat.old → MatchControlFlow result (λ on. IsStood M.Site site.now first c on seat.new) (λ reply. M.ended site.now first c reply seat.new) }
+    ensures nearer { ¬ (MayWait left.kind (next_at left)) → MatchControlFlow result (λ on. ¬ (MayWait on.kind (next_at on)) × (left_at (next_at on) ≤ 4) × (left_at (next_at on) ≤ left_at (next_at left) - 1)) (λ reply. Unit {0}) }
+{
+    let Left {
+        kind,
+        call,
+        progress,
+        mut carried,
+    } = left;
+    let todo = M::Steps::next(kind, progress.local, progress.answer);
+    match todo {
+        Next::Reply(reply, spare) => {
+            give_back(site, seat, spare);
+            ControlFlow::Break(Reply::fill(reply, carried))
+        }
+        Next::Step(local, touch, op) => {
+            if is_early(&local) {
+                return ControlFlow::Continue(Left {
+                    kind,
+                    call,
+                    progress,
+                    carried,
+                });
+            }
+            gate.pass(&op);
+            let answer = site.take_step(seat, &call, &local, touch, op, &mut carried);
+            ControlFlow::Continue(Left {
+                kind,
+                call,
+                progress: Progress { local, answer },
+                carried,
+            })
+        }
+    }
+}
+
+/// Takes steps of a call until its reply, or until it stands where it has had no effect: at most as many as a call takes behind its effect, but for a pop on a
+/// chain, which may have to wait.
+pub(crate) fn settle<T, B: Copy, S, M: Site<T, B, S>, G: Gate>(
+    site: &M,
+    gate: &G,
+    seat: &mut S,
+    left: Left<T, B>,
+) -> ControlFlow<Reply<T>, Left<T, B>>
+    requires { (c : SpecCall T) × (first : S) × IsStood M.Site site.now first c left seat.old }
+    ensures stood { (c : SpecCall T) (first : S) → IsStood M.Site site.now first c left seat.old → MatchControlFlow result (λ on. IsStood M.Site site.now first c on seat.new) (λ reply. M.ended site.now first c reply seat.new) }
+    ensures early { ¬ (MayWait left.kind (next_at left)) → MatchControlFlow result (λ on. is_early_step (next_at on) ≡ true) (λ reply. Unit {0}) }
+{
+    let mut left = left;
+    for turn in 0..SETTLE_STEPS {
+        let _ = turn;
+        match settle_step(site, gate, seat, left) {
+            ControlFlow::Break(reply) => return ControlFlow::Break(reply),
+            ControlFlow::Continue(on) => left = on,
+        }
+    }
+    ControlFlow::Continue(left)
 }

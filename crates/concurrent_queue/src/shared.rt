@@ -40,8 +40,10 @@ use std::sync::Wait;
 use std::{fmt, mem};
 
 mod count;
+mod giving_up;
 mod iter;
 pub mod pending;
+mod trying;
 
 pub use iter::TryIter;
 pub use pending::{Outcome, Pending};

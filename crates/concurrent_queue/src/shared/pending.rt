@@ -1,11 +1,11 @@
 //! Calls that never wait: one that meets another call half done is handed back as it stands, and taken up again later.
-ghost use Rattle.std.specs.Prelude.{◌≡◌};
+ghost use Rattle.std.specs.Prelude.{◌≡◌, None};
 ghost use Rattle.queue_steps.specs.declared.model.Call.{Call as SpecCall};
+ghost use Rattle.concurrent_queue.specs.OneHeap.{IsOneHeap};
 ghost use Rattle.concurrent_queue.specs.Shared.{IsPartyOf};
 
 use super::{Begins, Form};
 use crate::chain::Asking;
-use crate::one_heap::OneHeap;
 use crate::party::{Party, SeatPlace};
 use crate::pausing::{set_out, take_up};
 use crate::shared::ConcurrentQueue;
@@ -83,7 +83,7 @@ impl<T, A: Allocator> Pending<T, A> {
     ghost use Rattle.concurrent_queue.specs.Pending.{begun_of, IsStopped};
 
     /// The call that stands there.
-    fn at(place: CallPlace<T, A>) -> Self
+    pub(crate) fn at(place: CallPlace<T, A>) -> Self
         requires { IsStopped place }
         ensures { result ≡ begun_of place }
     {
@@ -91,7 +91,7 @@ impl<T, A: Allocator> Pending<T, A> {
     }
 
     /// Where it stands.
-    fn into_place(self) -> CallPlace<T, A>
+    pub(crate) fn into_place(self) -> CallPlace<T, A>
         ensures stops { IsStopped result }
         ensures begun { begun_of result ≡ self }
     {
@@ -100,7 +100,7 @@ impl<T, A: Allocator> Pending<T, A> {
     }
 }
 
-impl<T, A: NullTestable + OneHeap> ConcurrentQueue<T, A> {
+impl<T, A: NullTestable> ConcurrentQueue<T, A> {
     ghost use Rattle.concurrent_queue.specs.Comes.{Comes};
 
     /// Begins a call, which takes steps until its reply or until it has met another call half done. It never waits.
@@ -144,9 +144,11 @@ impl<T, A: NullTestable + OneHeap> ConcurrentQueue<T, A> {
         }
     }
 
-    /// Takes a call up where it stands. It never waits.
+    /// Takes a call up where it stands. It never waits. On a chain of blocks the call may carry a block, whose allocator no name tells: so that has to be one of
+    /// which there is one value.
     pub fn resume(&self, pending: Pending<T, A>) -> Outcome<T, A>
-        requires { IsPartyOf pending.party self.now }
+        requires of { IsPartyOf pending.party self.now }
+        requires heap { self.now.cap ≡ None → IsOneHeap A }
         ensures { Comes pending.party pending.call result }
     {
         let place = pending.into_place();

@@ -9,8 +9,8 @@ loop-init g c = record { going = (c.args.party, c.args.call, c.requires, c.begin
 pub returns-in-Done : goal.returns-in-Done
 returns-in-Done g c = subst (Comes c.args.party c.args.call) c.in-Done.is (c.loop.invariant.goes c.args.party c.args.call c.begin-outcome.ensures)
 
-pub resume-outcome-requires : goal.resume-outcome-requires
-resume-outcome-requires g c =
+pub resume-outcome-requires-clause-of : goal.resume-outcome-requires-clause-of
+resume-outcome-requires-clause-of g c =
     let h = c.loop.invariant.going in
     ap (λ (z : Begun _). z.party.queue) (subst (Comes h.0 h.1) c.in-Pending.is h.3) ∙ h.2
 

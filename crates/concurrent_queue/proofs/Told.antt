@@ -1,0 +1,43 @@
+-- A party whose call was tried: it is held again, and the call was made or has done nothing.
+use Rattle.std.proofs.Common.{◌≡◌, ℕ, Option, None, Continue, Break, refl, sym, subst}
+use Rattle.std.specs.ControlFlow.{MatchControlFlow}
+use Rattle.std.specs.declared.ops.ControlFlow.{ControlFlow}
+use Rattle.atomic_table.specs.Seated.{TableId}
+use Rattle.atomic_table.specs.declared.shared.Seat.{Seat}
+use Rattle.mem_blocks.specs.declared.web.Rested.{Rested}
+use Rattle.queue_steps.specs.declared.model.Call.{Call}
+use Rattle.queue_steps.specs.declared.model.Call.TheVariants as call
+use Rattle.queue_steps.specs.declared.model.Reply.{Reply}
+use Rattle.queue_steps.specs.declared.model.Reply.TheVariants as reply
+use Rattle.queue_steps.specs.Kinds.{call_value}
+use Rattle.shared_parties.specs.declared.known.CallState.{CallState}
+use Rattle.shared_tables.specs.AtTable.{Ended}
+use Rattle.concurrent_queue.specs.declared.party.SeatPlace.{SeatPlace}
+use Rattle.concurrent_queue.specs.declared.party.SeatPlace.TheVariants as place
+use Rattle.concurrent_queue.specs.InWeb.{EndedAt}
+use Rattle.concurrent_queue.specs.Shared.{Person, IsHeld, person_of}
+use Rattle.concurrent_queue.specs.Tries.{Tries}
+use Rattle.concurrent_queue.proofs.Quits.{saw_more}
+use Rattle.concurrent_queue.proofs.TableCalls.{table_ends}
+use Rattle.concurrent_queue.proofs.WebParties.{web_ends}
+
+module _ {T : Type 0} where
+  pub told_table : (a : SeatPlace T) (s : Seat (Option T) (CallState T)) (cap : Option ℕ) (t : TableId) → a ≡ place.Table s → IsHeld a → (q : Seat (Option T) (CallState T)) (b : SeatPlace T) (v : Person T) (c : Call T) (x z : ControlFlow (Reply T) (Option T))
+      → b ≡ place.Table q → z ≡ x → person_of a ≡ v → v.queue.cap ≡ cap → t ≡ s.table_id
+      → MatchControlFlow x (λ value. Ended cap t (s.table_id, s.me) call.Capacity (reply.Capacity cap) (q.table_id, q.me) × (value ≡ call_value c)) (λ r. Ended cap t (s.table_id, s.me) c r (q.table_id, q.me))
+      → IsHeld b × Tries v c z (person_of b)
+  told_table a s cap t sits is q b v c (Continue value) z sat same is_v one here h =
+      let e = table_ends a s cap t sits is q b v call.Capacity (reply.Capacity cap) (reply.Capacity cap) sat refl is_v one here h.0 in
+      (e.0, subst (λ y. Tries v c y (person_of b)) (sym same) (saw_more v (person_of b) (reply.Capacity cap) e.1, h.1))
+  told_table a s cap t sits is q b v c (Break r) z sat same is_v one here h =
+      let e = table_ends a s cap t sits is q b v c r r sat refl is_v one here h in
+      (e.0, subst (λ y. Tries v c y (person_of b)) (sym same) e.1)
+
+  pub told_web : (a b : SeatPlace T) (r q : Rested (CallState T)) (v : Person T) (c : Call T) (x z : ControlFlow (Reply T) (Option T)) → a ≡ place.Web r → IsHeld a → b ≡ place.Web q → z ≡ x → person_of a ≡ v → v.queue.cap ≡ None
+      → MatchControlFlow x (λ value. EndedAt r call.Capacity (reply.Capacity None) q × (value ≡ call_value c)) (λ y. EndedAt r c y q) → IsHeld b × Tries v c z (person_of b)
+  told_web a b r q v c (Continue value) z rested is resting same is_v none h =
+      let e = web_ends a b r q v call.Capacity (reply.Capacity None) (reply.Capacity None) rested is resting refl is_v none h.0 in
+      (e.0, subst (λ y. Tries v c y (person_of b)) (sym same) (saw_more v (person_of b) (reply.Capacity None) e.1, h.1))
+  told_web a b r q v c (Break y) z rested is resting same is_v none h =
+      let e = web_ends a b r q v c y y rested is resting refl is_v none h in
+      (e.0, subst (λ u. Tries v c u (person_of b)) (sym same) e.1)

@@ -1,0 +1,49 @@
+-- What a call that gives up in the place of waiting adds to its party's view: what the call does that waits, or nothing.
+use Rattle.std.specs.Prelude.{◌≡◌, Option, Ok, Err, None, Result}
+use Rattle.std.specs.ControlFlow.{MatchControlFlow}
+use Rattle.std.specs.declared.ops.ControlFlow.{ControlFlow}
+use Rattle.queue_steps.specs.declared.model.Call.{Call}
+use Rattle.queue_steps.specs.declared.model.Call.TheVariants as call
+use Rattle.queue_steps.specs.declared.model.Reply.{Reply}
+use Rattle.queue_steps.specs.declared.model.Reply.TheVariants as reply
+use Rattle.queue_steps.specs.declared.errors.PushError.TheVariants as push
+use Rattle.queue_steps.specs.declared.errors.ForcePushError.TheVariants as force
+use Rattle.queue_steps.specs.declared.errors.PopError.TheVariants as pop
+use Rattle.queue_steps.specs.Kinds.{call_value}
+use Rattle.law_chain.specs.ChainEarly.{IsPush}
+use Rattle.concurrent_queue.specs.declared.try_errors.TryPushError.{TryPushError}
+use Rattle.concurrent_queue.specs.declared.try_errors.TryPushError.TheVariants as try_push
+use Rattle.concurrent_queue.specs.declared.try_errors.TryForcePushError.{TryForcePushError}
+use Rattle.concurrent_queue.specs.declared.try_errors.TryForcePushError.TheVariants as try_force
+use Rattle.concurrent_queue.specs.declared.try_errors.TryPopError.{TryPopError}
+use Rattle.concurrent_queue.specs.declared.try_errors.TryPopError.TheVariants as try_pop
+use Rattle.concurrent_queue.specs.SawMore.{SawMore}
+use Rattle.concurrent_queue.specs.Shared.{QueueId, Person, Calls}
+
+-- a call that may be tried: a pop only where the queue has a capacity
+abbrev pub MayTry : {T : Type 0} → QueueId → Call T → Type 0
+MayTry q c = q.cap ≡ None → IsPush c
+
+module _ {T : Type 0} where
+  -- the call c was made, or has done nothing and its value comes back
+  abbrev pub Tries : Person T → Call T → ControlFlow (Reply T) (Option T) → Person T → Type 0
+  Tries v c told w = MatchControlFlow told (λ value. SawMore v w × (value ≡ call_value c)) (λ r. Calls v c r w)
+
+  abbrev pub TriesPush : Person T → T → Result Unit (TryPushError T) → Person T → Type 0
+  TriesPush v x (Ok u) w = Calls v (call.Push x) (reply.Push (Ok u)) w
+  TriesPush v x (Err (try_push.Full y)) w = Calls v (call.Push x) (reply.Push (Err (push.Full y))) w
+  TriesPush v x (Err (try_push.Closed y)) w = Calls v (call.Push x) (reply.Push (Err (push.Closed y))) w
+  TriesPush v x (Err (try_push.NoMemory y)) w = Calls v (call.Push x) (reply.Push (Err (push.NoMemory y))) w
+  TriesPush v x (Err (try_push.Busy y)) w = SawMore v w × (y ≡ x)
+
+  abbrev pub TriesForcePush : Person T → T → Result (Option T) (TryForcePushError T) → Person T → Type 0
+  TriesForcePush v x (Ok old) w = Calls v (call.ForcePush x) (reply.ForcePush (Ok old)) w
+  TriesForcePush v x (Err (try_force.Closed y)) w = Calls v (call.ForcePush x) (reply.ForcePush (Err (force.Closed y))) w
+  TriesForcePush v x (Err (try_force.NoMemory y)) w = Calls v (call.ForcePush x) (reply.ForcePush (Err (force.NoMemory y))) w
+  TriesForcePush v x (Err (try_force.Busy y)) w = SawMore v w × (y ≡ x)
+
+  abbrev pub TriesPop : Person T → Result T TryPopError → Person T → Type 0
+  TriesPop v (Ok x) w = Calls v call.Pop (reply.Pop (Ok x)) w
+  TriesPop v (Err try_pop.Empty) w = Calls v call.Pop (reply.Pop (Err pop.Empty)) w
+  TriesPop v (Err try_pop.Closed) w = Calls v call.Pop (reply.Pop (Err pop.Closed)) w
+  TriesPop v (Err try_pop.Busy) w = SawMore v w
