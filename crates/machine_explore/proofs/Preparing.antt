@@ -5,13 +5,13 @@ use Rattle.std.proofs.lemmas.List.{append_cancel_left}
 use Rattle.std.proofs.lemmas.List.Elements.{All-head, All-tail}
 use Rattle.queue_steps.specs.declared.model.Call.{Call}
 use Rattle.machine_replay.specs.Conforms.{party_of}
-use Rattle.machine_replay.specs.World.{Begun, Made, World, call_at, world_event}
+use Rattle.machine_steps.specs.World.{Begun, Made, World, call_at, world_event}
 use Rattle.queue_steps.specs.declared.model.Reply.{Reply}
-use Rattle.machine_replay.specs.declared.types.EffectKind.{EffectKind}
-use Rattle.machine_replay.specs.declared.types.Event.{Event}
-use Rattle.machine_replay.specs.declared.types.Event.TheVariants.{Begin, Step}
-use Rattle.machine_replay.specs.declared.types.Told.{Told}
-use Rattle.machine_replay.specs.declared.types.Told.TheVariants.{Skipped, Ran}
+use Rattle.machine_steps.specs.declared.types.EffectKind.{EffectKind}
+use Rattle.machine_steps.specs.declared.types.Event.{Event}
+use Rattle.machine_steps.specs.declared.types.Event.TheVariants.{Begin, Step}
+use Rattle.machine_steps.specs.declared.types.Told.{Told}
+use Rattle.machine_steps.specs.declared.types.Told.TheVariants.{Skipped, Ran}
 use Rattle.machine_explore.specs.Explored.{IsAlone, begun_by}
 use Rattle.machine_explore.specs.Moves.{call_in}
 use Rattle.machine_replay.specs.Played.{told_by, world_by}

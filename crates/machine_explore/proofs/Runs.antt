@@ -2,20 +2,20 @@
 use Rattle.std.proofs.Common.{◌≡◌, ◌∙◌, ℕ, true, List, Option, Some, sym, ap}
 use Rattle.std.specs.Prelude.{map}
 use Rattle.queue_steps.specs.declared.model.Reply.{Reply}
-use Rattle.machine_replay.specs.Left.{left_of}
+use Rattle.machine_steps.specs.Left.{left_of}
 use Rattle.queue_steps.specs.declared.model.Call.{Call}
 use Rattle.queue_steps.specs.declared.steps.types.Kind.{Kind}
 use Rattle.queue_steps.specs.declared.steps.types.Local.{Local}
 use Rattle.machine_replay.specs.Conforms.{party_of}
-use Rattle.machine_replay.specs.Machine.{event_of}
+use Rattle.machine_steps.specs.Machine.{event_of}
 use Rattle.machine_replay.specs.MachineRuns.{IsSameMachineRun, IsSomeMachineRun}
 use Rattle.machine_replay.specs.Played.{local_in}
-use Rattle.machine_replay.specs.SharedMemory.{Shared}
-use Rattle.machine_replay.specs.World.{World, call_at}
-use Rattle.machine_replay.specs.declared.machine.Running.{Running}
+use Rattle.machine_steps.specs.SharedMemory.{Shared}
+use Rattle.machine_steps.specs.World.{World, call_at}
+use Rattle.machine_steps.specs.declared.machine.Running.{Running}
 use Rattle.machine_replay.specs.declared.machine_run.MachineRun.{MachineRun}
-use Rattle.machine_replay.specs.declared.types.Event.{Event}
-use Rattle.machine_replay.specs.declared.types.Told.{Told}
+use Rattle.machine_steps.specs.declared.types.Event.{Event}
+use Rattle.machine_steps.specs.declared.types.Told.{Told}
 use Rattle.machine_explore.specs.Moves.{event_at, led}
 use Rattle.machine_explore.specs.Positions.{Outcome, Progress, Standing, outcome_at}
 use Rattle.machine_explore.specs.Traces.{IsSeen, Seen}

@@ -3,12 +3,12 @@ use Rattle.std.proofs.Common.{◌≡◌, Bool, true, false, ℕ, List, Option, S
 use Rattle.std.specs.Prelude.{option_map, slice_get, slice_set, Contains, IfOk, MatchOption, ⊤}
 use Rattle.std.specs.declared.alloc.AllocError.{AllocError}
 use Rattle.queue_steps.specs.declared.model.Call.{Call}
-use Rattle.machine_replay.specs.Machine.{event_of}
-use Rattle.machine_replay.specs.World.{World, call_at}
-use Rattle.machine_replay.specs.declared.types.Event.TheVariants.{Step}
-use Rattle.machine_replay.specs.declared.types.Told.{Told}
-use Rattle.machine_replay.specs.declared.machine.Running.{Running}
-use Rattle.machine_replay.specs.SharedMemory.{Shared}
+use Rattle.machine_steps.specs.Machine.{event_of}
+use Rattle.machine_steps.specs.World.{World, call_at}
+use Rattle.machine_steps.specs.declared.types.Event.TheVariants.{Step}
+use Rattle.machine_steps.specs.declared.types.Told.{Told}
+use Rattle.machine_steps.specs.declared.machine.Running.{Running}
+use Rattle.machine_steps.specs.SharedMemory.{Shared}
 use Rattle.machine_explore.specs.Moves.{advanced, event_for, led}
 use Rattle.machine_explore.specs.Positions.{Standing, calls_of, progress_of}
 use Rattle.machine_explore.specs.Tables.{Stays, StaysOnce}

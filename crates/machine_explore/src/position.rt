@@ -2,11 +2,11 @@
 ghost use Rattle.std.specs.Prelude.{◌≡◌, ◌↔◌, ℕ, ◌<◌, ◌∷◌, Bool, true, false, ⊤, [], None, is_some, IsTrue, IfOk, OnOk, MatchOption, length, option_map};
 ghost use Rattle.machine_replay.specs.MachineRuns.{IsSomeMachineRun};
 ghost use Rattle.machine_replay.specs.Conforms.{party_of};
-ghost use Rattle.machine_replay.specs.Left.{left_of};
-ghost use Rattle.machine_replay.specs.Machine.{event_of, world_of};
+ghost use Rattle.machine_steps.specs.Left.{left_of};
+ghost use Rattle.machine_steps.specs.Machine.{event_of, world_of};
 ghost use Rattle.machine_replay.specs.Played.{local_in};
-ghost use Rattle.machine_replay.specs.World.{call_at};
-ghost use Rattle.machine_replay.specs.declared.types.Event.TheVariants.{Step};
+ghost use Rattle.machine_steps.specs.World.{call_at};
+ghost use Rattle.machine_steps.specs.declared.types.Event.TheVariants.{Step};
 ghost use Rattle.machine_replay.specs.Replays.{CanReplay};
 ghost use Rattle.machine_explore.specs.Moves.{event_at, led};
 ghost use Rattle.machine_explore.specs.Positions.{IsFinal, Standing, calls_of, no_progress, outcome_at, progress_of};

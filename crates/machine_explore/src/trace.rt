@@ -1,6 +1,6 @@
 //! A schedule is run once more, and what is seen of the run is kept.
 ghost use Rattle.std.specs.Prelude.{◌≡◌, [], ⊤, IfOk, MatchOption, length};
-ghost use Rattle.machine_replay.specs.Left.{left_of};
+ghost use Rattle.machine_steps.specs.Left.{left_of};
 ghost use Rattle.machine_replay.specs.Replays.{CanReplay};
 ghost use Rattle.machine_explore.specs.Starts.{IsStart};
 ghost use Rattle.machine_explore.specs.Traces.{Course, IsSeen, IsTraceOf, Seen};

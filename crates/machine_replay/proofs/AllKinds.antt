@@ -5,19 +5,19 @@ use Rattle.queue_steps.specs.declared.model.Call.TheVariants as call
 use Rattle.queue_steps.specs.declared.steps.types.Kind.{Kind}
 use Rattle.queue_steps.specs.declared.steps.types.Kind.TheVariants as kind
 use Rattle.queue_steps.specs.Words.{IsRing}
-use Rattle.machine_replay.specs.declared.machine.Running.{Running}
-use Rattle.machine_replay.specs.declared.types.Event.{Event}
-use Rattle.machine_replay.specs.declared.types.Event.TheVariants.{Begin, Step}
-use Rattle.machine_replay.specs.declared.types.Told.{Told}
+use Rattle.machine_steps.specs.declared.machine.Running.{Running}
+use Rattle.machine_steps.specs.declared.types.Event.{Event}
+use Rattle.machine_steps.specs.declared.types.Event.TheVariants.{Begin, Step}
+use Rattle.machine_steps.specs.declared.types.Told.{Told}
 use Rattle.machine_replay.specs.Book.{opening}
-use Rattle.machine_replay.specs.SharedMemory.{Shared, CanStart}
+use Rattle.machine_steps.specs.SharedMemory.{Shared, CanStart}
 use Rattle.machine_replay.specs.Conforms.{capacity_of}
-use Rattle.machine_replay.specs.Left.{left_of, opening_world, HasSlot}
+use Rattle.machine_steps.specs.Left.{left_of, opening_world, HasSlot}
 use Rattle.machine_replay.specs.Replays.{CanReplay, is_too_large}
-use Rattle.machine_replay.specs.declared.types.Peak.{Peak}
-use Rattle.machine_replay.specs.Machine.{event_of, CanHandle, Handles, Passes, Plays}
+use Rattle.machine_steps.specs.declared.types.Peak.{Peak}
+use Rattle.machine_steps.specs.Machine.{event_of, CanHandle, Handles, Passes, Plays}
 use Rattle.machine_replay.specs.Peaks.{opening_peak, peaked}
-use Rattle.machine_replay.specs.World.{World, call_at}
+use Rattle.machine_steps.specs.World.{World, call_at}
 use Rattle.machine_replay.proofs.KindLaws.{KindLaws}
 use Rattle.machine_replay.proofs.SingleLeft.{single_laws}
 use Rattle.machine_replay.proofs.RingKind.{ring_laws}
@@ -25,7 +25,7 @@ use Rattle.machine_replay.proofs.ChainKind.{chain_laws}
 use Rattle.queue_steps.specs.declared.sizes.TheConstants.{MAX_CAPACITY}
 use Rattle.std.proofs.lemmas.Bool.{ltb-false}
 use Rattle.machine_replay.proofs.Peaking.{Run-length, peaked-if}
-use Rattle.machine_replay.proofs.Presence.{Sparing, event-sparing}
+use Rattle.machine_steps.proofs.Presence.{Sparing, event-sparing}
 use Rattle.machine_replay.proofs.SoFar.{SoFar, so_far-first, so_far-more, so_far-can, so_far-grows, so_far-none, so_far-room}
 
 -- the machine has queues of this kind

@@ -8,21 +8,21 @@ use Rattle.queue_steps.specs.declared.model.Effect.TheVariants as effect
 use Rattle.queue_steps.specs.declared.model.Reply.{Reply}
 use Rattle.queue_steps.specs.declared.steps.types.Kind.{Kind}
 use Rattle.queue_steps.specs.declared.steps.types.Local.{Local}
-use Rattle.machine_replay.specs.declared.machine.Running.{Running}
-use Rattle.machine_replay.specs.declared.types.EffectKind.{EffectKind}
-use Rattle.machine_replay.specs.declared.types.EffectKind.TheVariants as kind
-use Rattle.machine_replay.specs.declared.types.Event.{Event}
-use Rattle.machine_replay.specs.declared.types.Event.TheVariants.{Begin, Step}
-use Rattle.machine_replay.specs.declared.types.Told.{Told}
-use Rattle.machine_replay.specs.declared.types.Told.TheVariants.{Skipped, Ran}
+use Rattle.machine_steps.specs.declared.machine.Running.{Running}
+use Rattle.machine_steps.specs.declared.types.EffectKind.{EffectKind}
+use Rattle.machine_steps.specs.declared.types.EffectKind.TheVariants as kind
+use Rattle.machine_steps.specs.declared.types.Event.{Event}
+use Rattle.machine_steps.specs.declared.types.Event.TheVariants.{Begin, Step}
+use Rattle.machine_steps.specs.declared.types.Told.{Told}
+use Rattle.machine_steps.specs.declared.types.Told.TheVariants.{Skipped, Ran}
 use Rattle.machine_replay.specs.Book.{Book, Open, Happens, Steps, Moves, kind_of, at_open, put, joined, watched, begun, after_own}
 use Rattle.machine_replay.specs.Conforms.{capacity_of, party_of}
-use Rattle.machine_replay.specs.Left.{opening_world}
-use Rattle.machine_replay.specs.Machine.{event_of}
+use Rattle.machine_steps.specs.Left.{opening_world}
+use Rattle.machine_steps.specs.Machine.{event_of}
 use Rattle.machine_replay.specs.Played.{told_of, world_after}
-use Rattle.machine_replay.specs.SharedMemory.{Shared, CanStep, step_of, start_of}
+use Rattle.machine_steps.specs.SharedMemory.{Shared, CanStep, step_of, start_of}
 use Rattle.machine_replay.specs.Within.{is_step_of}
-use Rattle.machine_replay.specs.World.{World, call_at}
+use Rattle.machine_steps.specs.World.{World, call_at}
 use Rattle.machine_replay.proofs.Engine as engine
 use Rattle.machine_replay.proofs.Solo.{and-right, none-if, put-same, put-other}
 use Rattle.machine_replay.specs.Progress.{Standing, Between, reply_told, stands_by, stands_then, IsNotAnswered, AppendsReplyWithin}

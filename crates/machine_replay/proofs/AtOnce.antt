@@ -19,8 +19,8 @@ use Rattle.law_moments.proofs.Glances.{cases_before, middle_or}
 use Rattle.law_moments.proofs.Shut.{In, each_with, each_in, each_append, same_cap, closed_by}
 use Rattle.law_moments.proofs.Settling.{sound_start, sound_after}
 use Rattle.law_moments.proofs.Histories.{rising, histories_settle}
-use Rattle.machine_replay.specs.declared.types.Event.{Event}
-use Rattle.machine_replay.specs.declared.types.Event.TheVariants.{Begin, Step}
+use Rattle.machine_steps.specs.declared.types.Event.{Event}
+use Rattle.machine_steps.specs.declared.types.Event.TheVariants.{Begin, Step}
 use Rattle.machine_replay.specs.Book.{IsBegun, has_steps}
 use Rattle.machine_replay.specs.InCall.{IsStepOf, IsUnanswered, IsInCall}
 use Rattle.machine_replay.specs.Meaning.{state_after, own_effects, SawOpen, IsOwn, EndsCall, RepliesAtOnce, IsAnswer}

@@ -3,8 +3,8 @@ use Rattle.std.proofs.Common.{◌≡◌, ◌∙◌, ◌↔◌, ℕ, Bool, IsTrue
 use Rattle.machine_replay.specs.declared.machine_run.MachineRun.{MachineRun}
 use Rattle.machine_replay.specs.Conforms.{capacity_of}
 use Rattle.machine_replay.specs.MachineRuns.{TellsCall}
-use Rattle.machine_replay.specs.Machine.{world_of}
-use Rattle.machine_replay.specs.World.{call_at}
+use Rattle.machine_steps.specs.Machine.{world_of}
+use Rattle.machine_steps.specs.World.{call_at}
 use Rattle.machine_replay.proofs.AllKinds.{known-none}
 use Rattle.machine_replay.proofs.MachineRuns.{machine_run-known}
 use Rattle.machine_replay.proofs.SkipsAll.{run-whole}

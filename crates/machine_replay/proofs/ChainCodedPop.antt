@@ -13,8 +13,8 @@ use Rattle.law_common.specs.Moments.{HeadWas, SeenIn}
 use Rattle.law_chain.specs.ChainFacts.{place, head_of, HeadIs, IsNamed, HeadBlockIs, HeadBlockRead, IsMore, Got, SawEmpty}
 use Rattle.law_chain.specs.ChainCells.{Writer, Writing, Wrote, Reader, Reading, Done, Stands as Rested, Passing, Entering, GivenUp, Chain, FrontOk, ChainOk, Read, Head, Holds, Nothing, item_at, Free, Unread, ItemOk}
 use Rattle.law_chain.specs.ChainAnswers.{head_word, linked_of}
-use Rattle.machine_replay.specs.Blocks.{block_of, behind, behind_in, state_of}
-use Rattle.machine_replay.specs.SharedMemory.{Shared}
+use Rattle.machine_steps.specs.Blocks.{block_of, behind, behind_in, state_of}
+use Rattle.machine_steps.specs.SharedMemory.{Shared}
 use Rattle.machine_replay.proofs.ChainNames.{Codes}
 use Rattle.machine_replay.proofs.ChainBlocks.{state_is}
 use Rattle.machine_replay.proofs.ChainGives.{codes_left, block_at, unread_on, has_place, state_answers, one_block}

@@ -13,12 +13,12 @@ use Rattle.law_chain.proofs.Count.{count, count_same, count_front}
 use Rattle.law_chain.proofs.ChainHands.{HandOf, in_hand, idle_hand}
 use Rattle.law_chain.proofs.ChainCount.{is_given_up, is_alive, alive, few_alive}
 use Rattle.law_chain.proofs.ChainSpan.{spans_if, held_items}
-use Rattle.machine_replay.specs.declared.machine.Running.{Running}
-use Rattle.machine_replay.specs.Blocks.{Block}
+use Rattle.machine_steps.specs.declared.machine.Running.{Running}
+use Rattle.machine_steps.specs.Blocks.{Block}
 use Rattle.machine_replay.specs.Book.{Book}
-use Rattle.machine_replay.specs.SharedMemory.{Shared}
-use Rattle.machine_replay.specs.Present.{present}
-use Rattle.machine_replay.specs.World.{World, call_at}
+use Rattle.machine_steps.specs.SharedMemory.{Shared}
+use Rattle.machine_steps.specs.Present.{present}
+use Rattle.machine_steps.specs.World.{World, call_at}
 use Rattle.machine_replay.proofs.ChainNames.{NameIs}
 use Rattle.machine_replay.proofs.ChainHolding.{ChainHolds}
 use Rattle.machine_replay.proofs.KindLaws.{IsCounted}

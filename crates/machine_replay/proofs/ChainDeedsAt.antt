@@ -9,7 +9,7 @@ use Rattle.queue_steps.specs.declared.steps.types.Op.{Op}
 use Rattle.queue_steps.specs.declared.steps.types.Touch.{Touch}
 use Rattle.law_chain.specs.ChainCells.{Laying, Opening, Chain, ChainOk, BlocksOk, Part, Write, Tail, Next, writer_of, reader_of, mover_of, passer_of, linker_of, Read, Head}
 use Rattle.law_chain.specs.ChainAt.{Either, At, push_tail, push_block, asking, installing, showing, claiming, laying, opening, chaining, writing, spending, pop_head, pop_block, pop_tail, taking, following, peeking, passing, entering, awaiting, reading, beginning, walking, destroying, len_tail, len_head, len_again, empty_head, empty_tail, closing, closed_tail}
-use Rattle.machine_replay.specs.ChainLeft.{front_at}
+use Rattle.machine_steps.specs.ChainLeft.{front_at}
 use Rattle.machine_replay.proofs.ChainDeeds.{deed_of, DeedIs, idle, walks, reads_alone, reads_and_passes, writes_it, lays_it}
 
 -- of three parts one

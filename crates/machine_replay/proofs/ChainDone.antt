@@ -4,10 +4,10 @@ use Rattle.std.proofs.lemmas.List.{length-set}
 use Rattle.std.proofs.lemmas.Bool.Decides.{eqb_tells}
 use Rattle.queue_steps.specs.declared.sizes.TheConstants.{BLOCK_SLOTS}
 use Rattle.queue_steps.specs.declared.steps.unbounded.TheConstants.{READ}
-use Rattle.machine_replay.specs.declared.blocks.Place.{Place}
-use Rattle.machine_replay.specs.declared.machine.Running.{Running}
-use Rattle.machine_replay.specs.Blocks.{Block, blank, places_in, with_place, with_next, put_item}
-use Rattle.machine_replay.specs.ChainLeft.{settled_by, settled_blocks}
+use Rattle.machine_steps.specs.declared.blocks.Place.{Place}
+use Rattle.machine_steps.specs.declared.machine.Running.{Running}
+use Rattle.machine_steps.specs.Blocks.{Block, blank, places_in, with_place, with_next, put_item}
+use Rattle.machine_steps.specs.ChainLeft.{settled_by, settled_blocks}
 use Rattle.machine_replay.proofs.ChainDeeds.{Deed, Rest, Puts, Lays, Reads, deed_of, done, deed_done, PutsAt, LinksTo}
 use Rattle.machine_replay.proofs.ChainCounted.{within_list}
 

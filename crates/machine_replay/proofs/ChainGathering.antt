@@ -9,10 +9,10 @@ use Rattle.queue_steps.specs.declared.steps.types.Touch.{Touch}
 use Rattle.queue_steps.specs.declared.steps.types.Touch.TheVariants as touch
 use Rattle.queue_steps.specs.declared.steps.unbounded.UnboundedLocal.{UnboundedLocal}
 use Rattle.queue_steps.specs.declared.steps.unbounded.UnboundedLocal.TheVariants as chain
-use Rattle.machine_replay.specs.declared.machine.Running.{Running}
-use Rattle.machine_replay.specs.SharedMemory.{block_touched}
-use Rattle.machine_replay.specs.Blocks.{Block, put_item, without}
-use Rattle.machine_replay.specs.ChainLeft.{laid, marked, reached, settled_at, settled_by, settled_blocks, front_at, settled_front, unread_at, behind_at, chained, chain_left}
+use Rattle.machine_steps.specs.declared.machine.Running.{Running}
+use Rattle.machine_steps.specs.SharedMemory.{block_touched}
+use Rattle.machine_steps.specs.Blocks.{Block, put_item, without}
+use Rattle.machine_steps.specs.ChainLeft.{laid, marked, reached, settled_at, settled_by, settled_blocks, front_at, settled_front, unread_at, behind_at, chained, chain_left}
 
 -- what comes first of what is left goes to the end of what there is
 pub first-taken : {A : Type 0} (left mid rest all : List A) → left ++ (mid ++ rest) ≡ all → (left ++ mid) ++ rest ≡ all

@@ -3,11 +3,11 @@ use Rattle.std.proofs.Common.{ℕ, Option, Some, None}
 use Rattle.queue_steps.specs.declared.steps.types.Kind.TheVariants as kind
 use Rattle.law_chain.specs.ChainCells.{Chain}
 use Rattle.law_chain.proofs.ChainFirst.{first}
-use Rattle.machine_replay.specs.declared.machine.Running.{Running}
+use Rattle.machine_steps.specs.declared.machine.Running.{Running}
 use Rattle.machine_replay.specs.Book.{Book, Open}
-use Rattle.machine_replay.specs.SharedMemory.{Shared, CanStep, step_of, start_of}
+use Rattle.machine_steps.specs.SharedMemory.{Shared, CanStep, step_of, start_of}
 use Rattle.machine_replay.proofs.Engine as engine
-use Rattle.machine_replay.specs.World.{World, call_at}
+use Rattle.machine_steps.specs.World.{World, call_at}
 use Rattle.machine_replay.proofs.KindLaws.{KindLaws, SimulatesOf, IsCounted}
 use Rattle.machine_replay.proofs.ChainHolding.{ChainHolds}
 use Rattle.machine_replay.proofs.ChainFits.{ChainIdle, ChainFits}

@@ -6,10 +6,10 @@ use Rattle.queue_steps.specs.declared.sizes.TheConstants.{BLOCK_SLOTS}
 use Rattle.queue_steps.specs.declared.steps.unbounded.TheConstants.{READ}
 use Rattle.law_chain.specs.ChainCells.{Writer, Free, Writing, Wrote, Reader, Unread, Reading, Done, Chained, Chain, ChainOk, ItemOk, item_at, Part, Write, Read, owner, writer_of, reader_of}
 use Rattle.law_chain.specs.ChainAnswers.{is_done}
-use Rattle.machine_replay.specs.declared.blocks.Place.{Place}
-use Rattle.machine_replay.specs.declared.machine.Running.{Running}
-use Rattle.machine_replay.specs.Blocks.{Block, blank}
-use Rattle.machine_replay.specs.ChainLeft.{unread_in, unread, front_at}
+use Rattle.machine_steps.specs.declared.blocks.Place.{Place}
+use Rattle.machine_steps.specs.declared.machine.Running.{Running}
+use Rattle.machine_steps.specs.Blocks.{Block, blank}
+use Rattle.machine_steps.specs.ChainLeft.{unread_in, unread, front_at}
 use Rattle.machine_replay.proofs.ChainCodes.{BlockIs, lies}
 use Rattle.machine_replay.proofs.ChainCounted.{InCall, StandsAt}
 use Rattle.machine_replay.proofs.ChainDeeds.{Deed, Rest, Puts, Lays, Reads, deed_of, PutsAt, IsSlotOf, IsClaimed, DeedIs}

@@ -31,10 +31,10 @@ use Rattle.law_chain.proofs.ChainRanks.{rank, rank_small, rank_some, longest, la
 use Rattle.law_chain.proofs.ChainRanksStep.{step_falls}
 use Rattle.law_chain.proofs.ChainRight.{step_right}
 use Rattle.law_chain.proofs.ChainStep.{is_chain}
-use Rattle.machine_replay.specs.declared.machine.Running.{Running}
-use Rattle.machine_replay.specs.declared.types.EffectKind.{EffectKind}
+use Rattle.machine_steps.specs.declared.machine.Running.{Running}
+use Rattle.machine_steps.specs.declared.types.EffectKind.{EffectKind}
 use Rattle.machine_replay.specs.Book.{Open}
-use Rattle.machine_replay.specs.SharedMemory.{Shared, answer_to, step_of, running_after, next_after, carried_then, put_word, put_at, touched, operated, granted_if, block_touched, after_touch}
+use Rattle.machine_steps.specs.SharedMemory.{Shared, answer_to, step_of, running_after, next_after, carried_then, put_word, put_at, touched, operated, granted_if, block_touched, after_touch}
 use Rattle.machine_replay.proofs.ChainFits.{ChainIdle, ChainFits}
 use Rattle.machine_replay.proofs.ChainHolding.{ChainHolds}
 use Rattle.machine_replay.proofs.ChainLaws.{chain_steps, chain_then, next_on}

@@ -36,9 +36,9 @@ use Rattle.law_chain.proofs.ChainRanksPop.{wrote_then}
 use Rattle.law_chain.proofs.ChainRanksWalk.{last_claimed}
 use Rattle.law_chain.proofs.ChainReads.{own_item}
 use Rattle.law_chain.proofs.ChainStep.{is_chain}
-use Rattle.machine_replay.specs.declared.machine.Running.{Running}
+use Rattle.machine_steps.specs.declared.machine.Running.{Running}
 use Rattle.machine_replay.specs.Book.{Open}
-use Rattle.machine_replay.specs.SharedMemory.{Shared, answer_to, step_of, running_after, next_after, carried_then}
+use Rattle.machine_steps.specs.SharedMemory.{Shared, answer_to, step_of, running_after, next_after, carried_then}
 use Rattle.machine_replay.proofs.ChainFits.{ChainFits}
 use Rattle.machine_replay.proofs.ChainHolding.{ChainHolds}
 use Rattle.machine_replay.proofs.ChainLaws.{next_on}

@@ -1,11 +1,11 @@
 -- A queue with a capacity has no block.
 use Rattle.std.proofs.Common.{◌≡◌, ℕ, Some, [], length, ap, arith}
 use Rattle.queue_steps.specs.Sequential.{blocks_of, spanned}
-use Rattle.machine_replay.specs.declared.machine.Running.{Running}
+use Rattle.machine_steps.specs.declared.machine.Running.{Running}
 use Rattle.machine_replay.specs.Book.{Book}
-use Rattle.machine_replay.specs.SharedMemory.{Shared}
-use Rattle.machine_replay.specs.Present.{present}
-use Rattle.machine_replay.specs.World.{World}
+use Rattle.machine_steps.specs.SharedMemory.{Shared}
+use Rattle.machine_steps.specs.Present.{present}
+use Rattle.machine_steps.specs.World.{World}
 use Rattle.machine_replay.proofs.KindLaws.{IsCounted}
 
 pub counted-none : {T : Type 0} (w : World (Shared T) (Running T)) (b : Book T) (n : ℕ) → w.shared.blocks ≡ [] → b.queue.cap ≡ Some n → IsCounted w b

@@ -8,13 +8,13 @@ use Rattle.queue_steps.specs.Replies.{IsRightAt}
 use Rattle.queue_steps.specs.declared.model.Call.{Call}
 use Rattle.queue_steps.specs.declared.model.Reply.{Reply}
 use Rattle.queue_steps.specs.declared.model.Effect.{Effect}
-use Rattle.machine_replay.specs.declared.types.Told.TheVariants.{Skipped}
-use Rattle.machine_replay.specs.declared.types.Event.{Event}
-use Rattle.machine_replay.specs.declared.types.Event.TheVariants.{Begin, Step}
+use Rattle.machine_steps.specs.declared.types.Told.TheVariants.{Skipped}
+use Rattle.machine_steps.specs.declared.types.Event.{Event}
+use Rattle.machine_steps.specs.declared.types.Event.TheVariants.{Begin, Step}
 use Rattle.machine_replay.specs.Book.{Book, Open, Moves, GoesOn, Stays, Ends, Steps, Happens, put, watched, joined, at_open, after_own, begun, has_steps}
-use Rattle.machine_replay.specs.World.{World, Made, Begun, call_at, can_begin, stepped, stepped_if, began, began_by, world_event}
-use Rattle.machine_replay.specs.Present.{present}
-use Rattle.machine_replay.proofs.Busy.{busy_set, one_if, one_busy}
+use Rattle.machine_steps.specs.World.{World, Made, Begun, call_at, can_begin, stepped, stepped_if, began, began_by, world_event}
+use Rattle.machine_steps.specs.Present.{present}
+use Rattle.machine_steps.proofs.Busy.{busy_set, one_if, one_busy}
 
 both : (a b : Bool) → (a && b) ≡ true → (a ≡ true) × (b ≡ true)
 both true true e = (refl, refl)

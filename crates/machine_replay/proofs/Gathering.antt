@@ -2,8 +2,8 @@
 use Rattle.std.proofs.Common.{◌≡◌, ◌∙◌, ℕ, suc, ◌+◌, ◌-◌, ◌<◌, ◌≤◌, Option, None, List, [], ◌∷◌, ◌++◌, length, get_or, set, refl, sym, ap, arith, append_assoc, length-append}
 use Rattle.std.specs.Option.{option_to_list}
 use Rattle.queue_steps.specs.Words.{slot_at}
-use Rattle.machine_replay.specs.declared.machine.Running.{Running}
-use Rattle.machine_replay.specs.Left.{written_by, settled, gathered}
+use Rattle.machine_steps.specs.declared.machine.Running.{Running}
+use Rattle.machine_steps.specs.Left.{written_by, settled, gathered}
 
 pub settled-append : {T : Type 0} (xs : List (Option (Running T))) (x : Option (Running T)) (slots : List (Option T)) → settled (xs ++ x ∷ []) slots ≡ written_by x (settled xs slots)
 settled-append [] x slots = refl

@@ -3,14 +3,14 @@ use Rattle.std.specs.Prelude.{◌≡◌, ℕ, ◌<◌, ◌≤◌, Some, length}
 use Rattle.queue_steps.specs.State.{State, start}
 use Rattle.queue_steps.specs.Sequential.{blocks_of}
 use Rattle.queue_steps.specs.declared.steps.types.Kind.{Kind}
-use Rattle.machine_replay.specs.declared.machine.Running.{Running}
+use Rattle.machine_steps.specs.declared.machine.Running.{Running}
 use Rattle.machine_replay.specs.Book.{Book, Open}
 use Rattle.machine_replay.specs.Conforms.{capacity_of, share}
-use Rattle.machine_replay.specs.Present.{present}
+use Rattle.machine_steps.specs.Present.{present}
 use Rattle.machine_replay.specs.Peaks.{held}
-use Rattle.machine_replay.specs.World.{World}
-use Rattle.machine_replay.specs.SharedMemory.{Shared, CanStep, step_of, start_of}
-use Rattle.machine_replay.specs.Left.{opening_shared, left_of}
+use Rattle.machine_steps.specs.World.{World}
+use Rattle.machine_steps.specs.SharedMemory.{Shared, CanStep, step_of, start_of}
+use Rattle.machine_steps.specs.Left.{opening_shared, left_of}
 use Rattle.machine_replay.proofs.Engine as engine
 
 -- the laws of the engine, at the shared memory of the machine

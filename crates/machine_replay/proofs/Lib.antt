@@ -1,4 +1,3 @@
-pub mod Busy
 pub mod FewSteps
 pub mod Moments
 pub mod Moving
@@ -49,9 +48,7 @@ pub mod ChainKind
 pub mod Gathering
 pub mod ChainGathering
 pub mod Growing
-pub mod Handling
 pub mod Counting
-pub mod Presence
 pub mod Peaking
 pub mod SoFar
 pub mod AllKinds

@@ -4,20 +4,20 @@ use Rattle.std.proofs.lemmas.Bool.{le-ltb}
 use Rattle.queue_steps.specs.declared.steps.types.Kind.{Kind}
 use Rattle.machine_replay.specs.declared.machine_run.MachineRun.{MachineRun}
 use Rattle.machine_replay.specs.declared.machine_run.Ended.{Ended}
-use Rattle.machine_replay.specs.declared.machine.Running.{Running}
-use Rattle.machine_replay.specs.declared.types.Event.{Event}
-use Rattle.machine_replay.specs.declared.types.Event.TheVariants.{Step}
-use Rattle.machine_replay.specs.declared.types.Peak.{Peak}
-use Rattle.machine_replay.specs.declared.types.Told.{Told}
-use Rattle.machine_replay.specs.declared.types.Told.TheVariants.{Skipped}
-use Rattle.machine_replay.specs.SharedMemory.{Shared}
+use Rattle.machine_steps.specs.declared.machine.Running.{Running}
+use Rattle.machine_steps.specs.declared.types.Event.{Event}
+use Rattle.machine_steps.specs.declared.types.Event.TheVariants.{Step}
+use Rattle.machine_steps.specs.declared.types.Peak.{Peak}
+use Rattle.machine_steps.specs.declared.types.Told.{Told}
+use Rattle.machine_steps.specs.declared.types.Told.TheVariants.{Skipped}
+use Rattle.machine_steps.specs.SharedMemory.{Shared}
 use Rattle.machine_replay.specs.MachineRuns.{Comes, Continues, EndsAs, IsMachineRun, IsSameMachineRun, IsSomeMachineRun}
-use Rattle.machine_replay.specs.Left.{HasSlot, left_of, opening_world}
-use Rattle.machine_replay.specs.Machine.{CanHandle, Handles, HasCount, event_of, world_of}
+use Rattle.machine_steps.specs.Left.{HasSlot, left_of, opening_world}
+use Rattle.machine_steps.specs.Machine.{CanHandle, Handles, HasCount, event_of, world_of}
 use Rattle.machine_replay.specs.Peaks.{opening_peak, peaked}
-use Rattle.machine_replay.specs.Present.{present}
+use Rattle.machine_steps.specs.Present.{present}
 use Rattle.machine_replay.specs.Replays.{CanReplay, is_too_large}
-use Rattle.machine_replay.specs.World.{World, call_at}
+use Rattle.machine_steps.specs.World.{World, call_at}
 use Rattle.machine_replay.proofs.AllKinds.{Known, has_machine, has_slot, known-can, known-first, known-grows, known-more, known-peak, known-room}
 use Rattle.machine_replay.proofs.SoFar.{so_far-left}
 

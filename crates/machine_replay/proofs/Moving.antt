@@ -4,8 +4,8 @@ use Rattle.queue_steps.specs.State.{State}
 use Rattle.queue_steps.specs.declared.model.Effect.{Effect}
 use Rattle.queue_steps.specs.declared.model.Effect.TheVariants as effect
 use Rattle.law_common.specs.Effects.{Leads, with_effect, Whether}
-use Rattle.machine_replay.specs.declared.types.EffectKind.{EffectKind}
-use Rattle.machine_replay.specs.declared.types.EffectKind.TheVariants as told
+use Rattle.machine_steps.specs.declared.types.EffectKind.{EffectKind}
+use Rattle.machine_steps.specs.declared.types.EffectKind.TheVariants as told
 use Rattle.machine_replay.specs.Book.{Open, Moves, MayMake, kind_of}
 
 -- a step without effect leaves the queue

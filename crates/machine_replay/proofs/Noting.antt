@@ -4,11 +4,11 @@ use Rattle.queue_steps.specs.declared.steps.types.Kind.{Kind}
 use Rattle.machine_replay.specs.declared.machine_run.MachineRun.{MachineRun}
 use Rattle.machine_replay.specs.declared.machine_run.Ended.{Ended}
 use Rattle.machine_replay.specs.declared.run.Lists.{Lists}
-use Rattle.machine_replay.specs.declared.types.Event.{Event}
-use Rattle.machine_replay.specs.declared.types.Told.{Told}
+use Rattle.machine_steps.specs.declared.types.Event.{Event}
+use Rattle.machine_steps.specs.declared.types.Told.{Told}
 use Rattle.machine_replay.specs.Conforms.{Conforms, capacity_of, party_of, entries_from, reply_entry, effect_entry, skipped_entry}
 use Rattle.machine_replay.specs.MachineRuns.{Continues, IsMachineRun, IsSomeMachineRun, Leaves}
-use Rattle.machine_replay.specs.Machine.{world_of}
+use Rattle.machine_steps.specs.Machine.{world_of}
 use Rattle.machine_replay.proofs.AllKinds.{known-length}
 use Rattle.machine_replay.proofs.MachineRuns.{machine_run-known}
 use Rattle.machine_replay.proofs.SoFar.{noted}

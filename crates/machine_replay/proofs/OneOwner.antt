@@ -12,7 +12,7 @@ use Rattle.queue_steps.specs.declared.model.Effect.TheVariants as effect
 use Rattle.queue_steps.specs.declared.model.Reply.{Reply}
 use Rattle.queue_steps.specs.declared.model.Reply.TheVariants as reply
 use Rattle.law_moments.proofs.Table.{Agrees, Done, FrontOpen, finish}
-use Rattle.machine_replay.specs.declared.types.EffectKind.{EffectKind}
+use Rattle.machine_steps.specs.declared.types.EffectKind.{EffectKind}
 use Rattle.machine_replay.specs.Book.{Open, Allows, Ends, Moves, MayMake, kind_of, has_steps, after_own}
 
 -- each moment is this one

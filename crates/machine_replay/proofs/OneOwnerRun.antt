@@ -7,11 +7,11 @@ use Rattle.queue_steps.specs.Legal.{IsShown}
 use Rattle.queue_steps.specs.Sequential.{Owned, SequentialRun, fresh}
 use Rattle.queue_steps.specs.declared.model.Call.{Call}
 use Rattle.queue_steps.specs.declared.model.Reply.{Reply}
-use Rattle.machine_replay.specs.declared.types.Event.{Event}
-use Rattle.machine_replay.specs.declared.types.Event.TheVariants.{Begin, Step}
-use Rattle.machine_replay.specs.declared.types.Replay.{Replay}
-use Rattle.machine_replay.specs.declared.types.Told.{Told}
-use Rattle.machine_replay.specs.declared.types.Told.TheVariants.{Skipped, Ran}
+use Rattle.machine_steps.specs.declared.types.Event.{Event}
+use Rattle.machine_steps.specs.declared.types.Event.TheVariants.{Begin, Step}
+use Rattle.machine_steps.specs.declared.types.Replay.{Replay}
+use Rattle.machine_steps.specs.declared.types.Told.{Told}
+use Rattle.machine_steps.specs.declared.types.Told.TheVariants.{Skipped, Ran}
 use Rattle.machine_replay.specs.Book.{Book, Open, Run, begun, after_own, opening}
 use Rattle.machine_replay.specs.Conforms.{Conforms, entries_from, reply_entry}
 use Rattle.machine_replay.specs.OneOwner.{begun_calls, reply_in, IsSequentialRun}

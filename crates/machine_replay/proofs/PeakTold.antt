@@ -9,11 +9,11 @@ use Rattle.queue_steps.specs.Effect.{Runs, IsHistory, made, after_from}
 use Rattle.queue_steps.specs.Sequential.{blocks_of, spanned}
 use Rattle.queue_steps.specs.declared.model.Call.{Call}
 use Rattle.queue_steps.specs.declared.model.Reply.{Reply}
-use Rattle.machine_replay.specs.declared.types.EffectKind.{EffectKind}
-use Rattle.machine_replay.specs.declared.types.Event.{Event}
-use Rattle.machine_replay.specs.declared.types.Event.TheVariants.{Begin, Step}
-use Rattle.machine_replay.specs.declared.types.Told.{Told}
-use Rattle.machine_replay.specs.declared.types.Told.TheVariants.{Skipped, Ran}
+use Rattle.machine_steps.specs.declared.types.EffectKind.{EffectKind}
+use Rattle.machine_steps.specs.declared.types.Event.{Event}
+use Rattle.machine_steps.specs.declared.types.Event.TheVariants.{Begin, Step}
+use Rattle.machine_steps.specs.declared.types.Told.{Told}
+use Rattle.machine_steps.specs.declared.types.Told.TheVariants.{Skipped, Ran}
 use Rattle.machine_replay.specs.Book.{Book, Run, kind_of, opening}
 use Rattle.machine_replay.specs.Conforms.{party_of, entries_from, effect_entry, reply_entry, skipped_entry}
 use Rattle.machine_replay.specs.Meaning.{Entry, chosen, effects_in, kinds_in}

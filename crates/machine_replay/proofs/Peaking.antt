@@ -3,18 +3,18 @@ use Rattle.std.proofs.Common.{◌≡◌, ◌∙◌, ◌⊎◌, inl, inr, ℕ, �
 use Rattle.std.proofs.lemmas.List.{length_push}
 use Rattle.std.proofs.lemmas.Bool.{ltb-true, ltb-false, le-ltb}
 use Rattle.queue_steps.specs.Sequential.{blocks_of}
-use Rattle.machine_replay.specs.declared.machine.Running.{Running}
-use Rattle.machine_replay.specs.declared.types.Event.{Event}
-use Rattle.machine_replay.specs.declared.types.Peak.{Peak}
-use Rattle.machine_replay.specs.declared.types.Told.{Told}
+use Rattle.machine_steps.specs.declared.machine.Running.{Running}
+use Rattle.machine_steps.specs.declared.types.Event.{Event}
+use Rattle.machine_steps.specs.declared.types.Peak.{Peak}
+use Rattle.machine_steps.specs.declared.types.Told.{Told}
 use Rattle.machine_replay.specs.Book.{Book, Run, opening}
 use Rattle.machine_replay.specs.Conforms.{ComesBy, IsPeak, share}
 use Rattle.machine_replay.specs.Peaks.{bound_of, opening_peak, peaked}
-use Rattle.machine_replay.specs.Present.{present}
-use Rattle.machine_replay.specs.SharedMemory.{Shared}
-use Rattle.machine_replay.specs.World.{World}
+use Rattle.machine_steps.specs.Present.{present}
+use Rattle.machine_steps.specs.SharedMemory.{Shared}
+use Rattle.machine_steps.specs.World.{World}
 use Rattle.machine_replay.proofs.Counting.{same-accepted, same-blocks}
-use Rattle.machine_replay.proofs.Presence.{Sparing}
+use Rattle.machine_steps.proofs.Presence.{Sparing}
 
 -- a beginning of a list with one entry more is all of it, or a beginning of the list
 abbrev IsSplit : {A : Type 0} → List A → A → List A → List A → Type 0

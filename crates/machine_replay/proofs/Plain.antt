@@ -8,9 +8,9 @@ use Rattle.queue_steps.specs.declared.steps.types.Touch.{Touch}
 use Rattle.queue_steps.specs.declared.steps.types.Touch.TheVariants as touch
 use Rattle.queue_steps.specs.declared.steps.types.Word.{Word}
 use Rattle.queue_steps.specs.declared.steps.types.Word.TheVariants as word
-use Rattle.machine_replay.specs.declared.machine.Running.{Running}
-use Rattle.machine_replay.specs.Blocks.{without}
-use Rattle.machine_replay.specs.SharedMemory.{Shared, word_at, put_word, operated, block_touched, touched, after_touch, after_operation, shared_then, step_of, CanStep}
+use Rattle.machine_steps.specs.declared.machine.Running.{Running}
+use Rattle.machine_steps.specs.Blocks.{without}
+use Rattle.machine_steps.specs.SharedMemory.{Shared, word_at, put_word, operated, block_touched, touched, after_touch, after_operation, shared_then, step_of, CanStep}
 
 abbrev pub IsPlainWord : Word ℕ → Type 0
 IsPlainWord (word.State b i) = ⊥

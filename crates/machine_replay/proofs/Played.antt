@@ -5,20 +5,20 @@ use Rattle.queue_steps.specs.declared.steps.types.Op.{Op}
 use Rattle.queue_steps.specs.declared.steps.types.Op.TheVariants as op
 use Rattle.machine_replay.specs.declared.machine_run.MachineRun.{MachineRun}
 use Rattle.machine_replay.specs.declared.run.Lists.{Lists}
-use Rattle.machine_replay.specs.declared.machine.Running.{Running}
-use Rattle.machine_replay.specs.declared.types.Event.{Event}
-use Rattle.machine_replay.specs.declared.types.Event.TheVariants.{Begin, Step}
-use Rattle.machine_replay.specs.declared.types.Peak.{Peak}
-use Rattle.machine_replay.specs.declared.types.Told.{Told}
-use Rattle.machine_replay.specs.declared.types.Replay.{Replay}
+use Rattle.machine_steps.specs.declared.machine.Running.{Running}
+use Rattle.machine_steps.specs.declared.types.Event.{Event}
+use Rattle.machine_steps.specs.declared.types.Event.TheVariants.{Begin, Step}
+use Rattle.machine_steps.specs.declared.types.Peak.{Peak}
+use Rattle.machine_steps.specs.declared.types.Told.{Told}
+use Rattle.machine_steps.specs.declared.types.Replay.{Replay}
 use Rattle.machine_replay.specs.Conforms.{entries_from, reply_entry, effect_entry, skipped_entry}
-use Rattle.machine_replay.specs.Left.{left_of, opening_world}
-use Rattle.machine_replay.specs.Machine.{event_of, world_of}
+use Rattle.machine_steps.specs.Left.{left_of, opening_world}
+use Rattle.machine_steps.specs.Machine.{event_of, world_of}
 use Rattle.machine_replay.specs.MachineRuns.{Comes}
 use Rattle.machine_replay.specs.Peaks.{opening_peak}
 use Rattle.machine_replay.specs.Played.{IsPlayed, asks, is_request, refused, told_of, world_after}
-use Rattle.machine_replay.specs.SharedMemory.{Shared, after_touch, answered, operated, step_of}
-use Rattle.machine_replay.specs.World.{World, call_at, stepped, stepped_if}
+use Rattle.machine_steps.specs.SharedMemory.{Shared, after_touch, answered, operated, step_of}
+use Rattle.machine_steps.specs.World.{World, call_at, stepped, stepped_if}
 use Rattle.machine_replay.proofs.Noting.{Notes}
 
 -- what is told and where it leads, by the events with what the allocator refused

@@ -8,8 +8,8 @@ use Rattle.queue_steps.specs.declared.steps.types.Touch.TheVariants as touch
 use Rattle.queue_steps.specs.declared.steps.types.Word.{Word}
 use Rattle.queue_steps.specs.declared.steps.types.Word.TheVariants as word
 use Rattle.law_ring.specs.RingShared as ring
-use Rattle.machine_replay.specs.declared.machine.Running.{Running}
-use Rattle.machine_replay.specs.SharedMemory.{Shared, HasWord, word_at, put_word, CanTouch, CanOperate, slots_there, block_touched, after_touch, after_operation, answer_to, answered, operated, carried_then, touched, handed}
+use Rattle.machine_steps.specs.declared.machine.Running.{Running}
+use Rattle.machine_steps.specs.SharedMemory.{Shared, HasWord, word_at, put_word, CanTouch, CanOperate, slots_there, block_touched, after_touch, after_operation, answer_to, answered, operated, carried_then, touched, handed}
 use Rattle.machine_replay.proofs.Plain.{IsPlainWord, IsPlain, plain-untouched}
 
 module _ {T : Type 0} where

@@ -11,11 +11,11 @@ use Rattle.queue_steps.specs.declared.steps.types.Local.{Local}
 use Rattle.queue_steps.specs.declared.steps.types.Op.{Op}
 use Rattle.queue_steps.specs.declared.steps.types.Touch.{Touch}
 use Rattle.law_common.proofs.Tails.{position_tail}
-use Rattle.machine_replay.specs.declared.machine.Running.{Running}
+use Rattle.machine_steps.specs.declared.machine.Running.{Running}
 use Rattle.machine_replay.specs.Book.{Book, Open}
-use Rattle.machine_replay.specs.World.{World}
-use Rattle.machine_replay.specs.SharedMemory.{Shared, CanStep, step_of, start_of}
-use Rattle.machine_replay.specs.Left.{left_of, settled, gathered}
+use Rattle.machine_steps.specs.World.{World}
+use Rattle.machine_steps.specs.SharedMemory.{Shared, CanStep, step_of, start_of}
+use Rattle.machine_steps.specs.Left.{left_of, settled, gathered}
 use Rattle.machine_replay.proofs.Engine as engine
 use Rattle.machine_replay.proofs.KindLaws.{SimulatesOf}
 use Rattle.machine_replay.proofs.Settled.{writes, writes_slot, settled-none, settled-one, nth, gathered-items}

@@ -23,9 +23,9 @@ use Rattle.law_ring.specs.RingWords.{Codes}
 use Rattle.law_ring.proofs.RingGood.{Goes, IsQuiet}
 use Rattle.law_ring.proofs.RingRanks.{rank, rank_small, rank_some, longest}
 use Rattle.law_ring.proofs.RingStep.{step_good}
-use Rattle.machine_replay.specs.declared.machine.Running.{Running}
+use Rattle.machine_steps.specs.declared.machine.Running.{Running}
 use Rattle.machine_replay.specs.Book.{Open}
-use Rattle.machine_replay.specs.SharedMemory.{Shared, step_of, running_after, carried_then, after_operation}
+use Rattle.machine_steps.specs.SharedMemory.{Shared, step_of, running_after, carried_then, after_operation}
 use Rattle.machine_replay.proofs.Plain.{plain-step}
 use Rattle.machine_replay.proofs.RingCoded.{part, same_step}
 use Rattle.machine_replay.proofs.RingLaws.{RingHolds, RingIdle, RingFits, ring_steps}

@@ -6,8 +6,8 @@ use Rattle.queue_steps.specs.declared.steps.types.Touch.{Touch}
 use Rattle.queue_steps.specs.declared.steps.types.Touch.TheVariants as touch
 use Rattle.queue_steps.specs.Words.{slot_at}
 use Rattle.law_ring.proofs.RingCells.{slots-apart}
-use Rattle.machine_replay.specs.declared.machine.Running.{Running}
-use Rattle.machine_replay.specs.Left.{written, written_by, settled, gathered}
+use Rattle.machine_steps.specs.declared.machine.Running.{Running}
+use Rattle.machine_steps.specs.Left.{written, written_by, settled, gathered}
 
 -- whether a touch writes slot i
 abbrev pub writes_slot : Touch → ℕ → Bool

@@ -9,9 +9,9 @@ use Rattle.queue_steps.specs.declared.steps.types.Touch.{Touch}
 use Rattle.law_slot.specs.SlotShared as slot
 use Rattle.law_slot.specs.SlotHolder.{SlotHolder}
 use Rattle.law_slot.specs.SlotRows.{At, push_try, push_put, force_try_empty, force_try_full, force_put_empty, force_put_full, pop_try, pop_take, close_try, look_at}
-use Rattle.machine_replay.specs.declared.machine.Running.{Running}
-use Rattle.machine_replay.specs.Blocks.{without}
-use Rattle.machine_replay.specs.SharedMemory.{Shared, CanTouch, CanOperate, slots_there, block_touched, after_touch, after_operation, answer_to, carried_then, shared_then, spare_in, next_after}
+use Rattle.machine_steps.specs.declared.machine.Running.{Running}
+use Rattle.machine_steps.specs.Blocks.{without}
+use Rattle.machine_steps.specs.SharedMemory.{Shared, CanTouch, CanOperate, slots_there, block_touched, after_touch, after_operation, answer_to, carried_then, shared_then, spare_in, next_after}
 use Rattle.machine_replay.proofs.Plain.{without-none}
 
 module _ {T : Type 0} where

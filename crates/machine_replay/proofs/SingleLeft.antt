@@ -13,11 +13,11 @@ use Rattle.queue_steps.specs.declared.steps.types.Op.{Op}
 use Rattle.queue_steps.specs.declared.steps.types.Touch.{Touch}
 use Rattle.law_slot.specs.SlotHolder.{SlotHolder, Nobody, Filling, Swapping, Taking, Keeps, Idle, own_of}
 use Rattle.law_slot.specs.SlotRows.{Stands, free_empty, free_full, filling, swapping, taking, At, push_try, push_put, force_try_empty, force_try_full, force_put_empty, force_put_full, pop_try, pop_take, close_try, look_at}
-use Rattle.machine_replay.specs.declared.machine.Running.{Running}
+use Rattle.machine_steps.specs.declared.machine.Running.{Running}
 use Rattle.machine_replay.specs.Book.{Book, Open}
-use Rattle.machine_replay.specs.SharedMemory.{Shared, CanStep, step_of, start_of}
-use Rattle.machine_replay.specs.Left.{left_of, settled}
-use Rattle.machine_replay.specs.World.{World, call_at}
+use Rattle.machine_steps.specs.SharedMemory.{Shared, CanStep, step_of, start_of}
+use Rattle.machine_steps.specs.Left.{left_of, settled}
+use Rattle.machine_steps.specs.World.{World, call_at}
 use Rattle.machine_replay.proofs.Engine as engine
 use Rattle.machine_replay.proofs.KindLaws.{SimulatesOf, KindLaws}
 use Rattle.machine_replay.proofs.Counted.{counted-none}

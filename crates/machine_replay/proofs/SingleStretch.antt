@@ -17,9 +17,9 @@ use Rattle.law_slot.specs.SlotHolder.{SlotHolder, Nobody, Filling, Swapping, Tak
 use Rattle.law_slot.specs.SlotRows.{Stands, free_empty, free_full, filling, swapping, taking, At, push_try, push_put, force_try_empty, force_try_full, force_put_empty, force_put_full, pop_try, pop_take, close_try, look_at, code}
 use Rattle.law_slot.proofs.SlotHolder.{own_alone}
 use Rattle.law_slot.proofs.SlotRanks.{rank, rank_small, rank_some, Falls, step_falls}
-use Rattle.machine_replay.specs.declared.machine.Running.{Running}
+use Rattle.machine_steps.specs.declared.machine.Running.{Running}
 use Rattle.machine_replay.specs.Book.{Open}
-use Rattle.machine_replay.specs.SharedMemory.{Shared, step_of, running_after, next_after, carried_then, shared_then}
+use Rattle.machine_steps.specs.SharedMemory.{Shared, step_of, running_after, next_after, carried_then, shared_then}
 use Rattle.machine_replay.proofs.SingleCoded.{one_slot, same_step, shared_same}
 use Rattle.machine_replay.proofs.SingleLaws.{Holds, FitsIn, single_engine}
 use Rattle.machine_replay.specs.Progress.{AppendsReplyWithin, TakesReplyWithin, HalfDoneTakesNone, UnhinderedWithin, NeverWaits}

@@ -3,23 +3,23 @@ use Rattle.std.proofs.Common.{ℕ, ◌+◌, ◌/◌, ◌<◌, ◌≤◌, ◌≡�
 use Rattle.std.proofs.lemmas.List.{length-replicate}
 use Rattle.queue_steps.specs.declared.sizes.TheConstants.{BLOCK_SLOTS}
 use Rattle.queue_steps.specs.declared.steps.types.Kind.{Kind}
-use Rattle.machine_replay.specs.declared.machine.Running.{Running}
-use Rattle.machine_replay.specs.declared.types.Event.{Event}
-use Rattle.machine_replay.specs.declared.types.Told.{Told}
+use Rattle.machine_steps.specs.declared.machine.Running.{Running}
+use Rattle.machine_steps.specs.declared.types.Event.{Event}
+use Rattle.machine_steps.specs.declared.types.Told.{Told}
 use Rattle.machine_replay.specs.Book.{Book, Run, Happens, opening}
-use Rattle.machine_replay.specs.SharedMemory.{Shared, CanStep, step_of, start_of}
+use Rattle.machine_steps.specs.SharedMemory.{Shared, CanStep, step_of, start_of}
 use Rattle.machine_replay.specs.Conforms.{capacity_of, party_of, entries_from}
-use Rattle.machine_replay.specs.Left.{left_of, opening_world}
-use Rattle.machine_replay.specs.Machine.{event_of}
-use Rattle.machine_replay.specs.World.{World, call_at}
-use Rattle.machine_replay.specs.Present.{present}
-use Rattle.machine_replay.proofs.Busy.{nobody_calls, none_are_busy}
+use Rattle.machine_steps.specs.Left.{left_of, opening_world}
+use Rattle.machine_steps.specs.Machine.{event_of}
+use Rattle.machine_steps.specs.World.{World, call_at}
+use Rattle.machine_steps.specs.Present.{present}
+use Rattle.machine_steps.proofs.Busy.{nobody_calls, none_are_busy}
 use Rattle.machine_replay.proofs.Engine as engine
 use Rattle.machine_replay.proofs.KindLaws.{KindLaws, SimulatesOf}
 use Rattle.machine_replay.proofs.Growing.{run-grows, run-cap, happens-grows}
 use Rattle.machine_replay.proofs.Peaking.{Run-length, peak-first, peak-more, peaked-covers}
 use Rattle.machine_replay.specs.Peaks.{bound_of, opening_peak, peaked}
-use Rattle.machine_replay.specs.declared.types.Peak.{Peak}
+use Rattle.machine_steps.specs.declared.types.Peak.{Peak}
 use Rattle.machine_replay.specs.Conforms.{IsPeak, HasNoBlocks, share}
 
 -- a run goes on by one event

@@ -8,20 +8,20 @@ use Rattle.queue_steps.specs.State.{State, start}
 use Rattle.queue_steps.specs.declared.model.Call.{Call}
 use Rattle.queue_steps.specs.declared.model.Reply.{Reply}
 use Rattle.queue_steps.specs.declared.steps.types.Kind.{Kind}
-use Rattle.machine_replay.specs.declared.machine.Running.{Running}
-use Rattle.machine_replay.specs.declared.types.Event.{Event}
-use Rattle.machine_replay.specs.declared.types.Event.TheVariants.{Begin, Step}
-use Rattle.machine_replay.specs.declared.types.Told.{Told}
-use Rattle.machine_replay.specs.declared.types.Told.TheVariants.{Skipped, Ran}
+use Rattle.machine_steps.specs.declared.machine.Running.{Running}
+use Rattle.machine_steps.specs.declared.types.Event.{Event}
+use Rattle.machine_steps.specs.declared.types.Event.TheVariants.{Begin, Step}
+use Rattle.machine_steps.specs.declared.types.Told.{Told}
+use Rattle.machine_steps.specs.declared.types.Told.TheVariants.{Skipped, Ran}
 use Rattle.machine_replay.specs.Book.{Book, Open, Happens, opening}
 use Rattle.machine_replay.specs.Conforms.{capacity_of, party_of}
-use Rattle.machine_replay.specs.Left.{opening_shared, opening_world}
-use Rattle.machine_replay.specs.Machine.{event_of}
+use Rattle.machine_steps.specs.Left.{opening_shared, opening_world}
+use Rattle.machine_steps.specs.Machine.{event_of}
 use Rattle.machine_replay.specs.Played.{told_of, world_after}
-use Rattle.machine_replay.specs.SharedMemory.{Shared, CanStep, step_of, start_of}
+use Rattle.machine_steps.specs.SharedMemory.{Shared, CanStep, step_of, start_of}
 use Rattle.machine_replay.specs.Within.{is_step_of}
-use Rattle.machine_replay.specs.World.{World, call_at, can_begin, began, stepped_if}
-use Rattle.machine_replay.proofs.Busy.{nobody_calls, none_are_busy}
+use Rattle.machine_steps.specs.World.{World, call_at, can_begin, began, stepped_if}
+use Rattle.machine_steps.proofs.Busy.{nobody_calls, none_are_busy}
 use Rattle.machine_replay.proofs.Engine as engine
 use Rattle.machine_replay.proofs.KindLaws.{LawsOf, SimulatesOf}
 use Rattle.machine_replay.specs.Progress.{Standing, Between, Undone, HalfDone, stands_after, stands_by, stands_then, effect_told, reply_told, IsLeftToIt, IsShown, IsSilent, HalfDoneTakesNone, UnhinderedWithin, NeverWaits}

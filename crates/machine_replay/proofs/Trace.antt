@@ -8,9 +8,9 @@ use Rattle.queue_steps.specs.Effect.{Fits, made, Runs, after_from}
 use Rattle.queue_steps.specs.declared.model.Effect.{Effect}
 use Rattle.queue_steps.specs.declared.model.Effect.TheVariants as effect
 use Rattle.queue_steps.specs.declared.model.Reply.{Reply}
-use Rattle.machine_replay.specs.declared.types.Event.{Event}
-use Rattle.machine_replay.specs.declared.types.Event.TheVariants.{Begin}
-use Rattle.machine_replay.specs.declared.types.Told.{Told}
+use Rattle.machine_steps.specs.declared.types.Event.{Event}
+use Rattle.machine_steps.specs.declared.types.Event.TheVariants.{Begin}
+use Rattle.machine_steps.specs.declared.types.Told.{Told}
 use Rattle.machine_replay.specs.Book.{Book, Open, IsBegun, kind_of}
 use Rattle.machine_replay.specs.Conforms.{party_of, entries_from, reply_entry, effect_entry}
 use Rattle.machine_replay.specs.InCall.{IsInCall}

@@ -10,11 +10,11 @@ use Rattle.queue_steps.specs.declared.model.Effect.TheVariants as effect
 use Rattle.queue_steps.specs.declared.model.Reply.{Reply}
 use Rattle.queue_steps.specs.declared.model.Reply.TheVariants as reply
 use Rattle.queue_steps.specs.declared.errors.PopError.TheVariants as pop
-use Rattle.machine_replay.specs.declared.types.EffectKind.{EffectKind}
-use Rattle.machine_replay.specs.declared.types.Event.{Event}
-use Rattle.machine_replay.specs.declared.types.Event.TheVariants.{Begin, Step}
-use Rattle.machine_replay.specs.declared.types.Told.{Told}
-use Rattle.machine_replay.specs.declared.types.Told.TheVariants.{Skipped, Ran}
+use Rattle.machine_steps.specs.declared.types.EffectKind.{EffectKind}
+use Rattle.machine_steps.specs.declared.types.Event.{Event}
+use Rattle.machine_steps.specs.declared.types.Event.TheVariants.{Begin, Step}
+use Rattle.machine_steps.specs.declared.types.Told.{Told}
+use Rattle.machine_steps.specs.declared.types.Told.TheVariants.{Skipped, Ran}
 use Rattle.machine_replay.specs.Book.{Book, Open, IsBegun, Steps, GoesOn, Happens, Run, has_steps, begun, joined, watched, after_own, put, at_open, opening}
 use Rattle.machine_replay.specs.Conforms.{entries_from, reply_entry, skipped_entry}
 use Rattle.machine_replay.specs.InCall.{IsInCall}

@@ -8,10 +8,10 @@ use Rattle.queue_steps.specs.Effect.{after_from}
 use Rattle.queue_steps.specs.declared.model.Effect.{Effect}
 use Rattle.queue_steps.specs.declared.model.Effect.TheVariants as effect
 use Rattle.queue_steps.specs.declared.model.Reply.{Reply}
-use Rattle.machine_replay.specs.declared.types.EffectKind.{EffectKind}
-use Rattle.machine_replay.specs.declared.types.Event.{Event}
-use Rattle.machine_replay.specs.declared.types.Event.TheVariants.{Step}
-use Rattle.machine_replay.specs.declared.types.Told.TheVariants.{Ran}
+use Rattle.machine_steps.specs.declared.types.EffectKind.{EffectKind}
+use Rattle.machine_steps.specs.declared.types.Event.{Event}
+use Rattle.machine_steps.specs.declared.types.Event.TheVariants.{Step}
+use Rattle.machine_steps.specs.declared.types.Told.TheVariants.{Ran}
 use Rattle.machine_replay.specs.Book.{Open, Allows, Ends, GoesOn, IsBegun, Moves, MayMake, kind_of, put, at_open, watched, joined, after_own, seen_by}
 use Rattle.machine_replay.specs.Conforms.{effect_entry}
 use Rattle.machine_replay.specs.InCall.{IsStepOf}

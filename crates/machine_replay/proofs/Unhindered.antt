@@ -6,8 +6,8 @@ use Rattle.queue_steps.specs.declared.steps.types.Kind.{Kind}
 use Rattle.queue_steps.specs.declared.steps.types.Kind.TheVariants as kind
 use Rattle.machine_replay.specs.Conforms.{capacity_of}
 use Rattle.machine_replay.specs.Replays.{CanReplay, is_too_large}
-use Rattle.machine_replay.specs.declared.types.Event.{Event}
-use Rattle.machine_replay.specs.declared.types.Told.{Told}
+use Rattle.machine_steps.specs.declared.types.Event.{Event}
+use Rattle.machine_steps.specs.declared.types.Told.{Told}
 use Rattle.machine_replay.specs.Progress.{AppendsReply, HalfDoneNeverWaits, HalfDoneTakesNone, TakesReply, IsLeftToIt, IsSilent, SilenceIsShort, UnhinderedCallsReply}
 use Rattle.machine_replay.proofs.SingleStretch.{single_appends, single_takes, single_never_waits, single_takes_none, single_unhindered}
 use Rattle.machine_replay.proofs.RingStretch.{ring_appends, ring_takes, ring_never_waits, ring_takes_none, ring_unhindered}

@@ -6,8 +6,8 @@ use Rattle.queue_steps.specs.Effect.{after}
 use Rattle.queue_steps.specs.declared.model.Reply.{Reply}
 use Rattle.law_moments.specs.Moments.{IsAtOnce, IsGlance, arrived}
 use Rattle.law_moments.specs.Entries.{settle}
-use Rattle.machine_replay.specs.declared.types.Event.{Event}
-use Rattle.machine_replay.specs.declared.types.Replay.{Replay}
+use Rattle.machine_steps.specs.declared.types.Event.{Event}
+use Rattle.machine_steps.specs.declared.types.Replay.{Replay}
 use Rattle.machine_replay.specs.Book.{Allows, IsBegun}
 use Rattle.machine_replay.specs.Conforms.{Conforms}
 use Rattle.machine_replay.specs.InCall.{IsStepOf, IsInCall}

@@ -12,12 +12,12 @@ use Rattle.queue_steps.specs.declared.model.Call.TheVariants as call
 use Rattle.queue_steps.specs.declared.model.Reply.{Reply}
 use Rattle.queue_steps.specs.declared.model.Effect.{Effect}
 use Rattle.queue_steps.specs.declared.model.Effect.TheVariants as effect
-use Rattle.machine_replay.specs.declared.types.Event.{Event}
-use Rattle.machine_replay.specs.declared.types.Event.TheVariants.{Begin, Step}
-use Rattle.machine_replay.specs.declared.types.Told.{Told}
-use Rattle.machine_replay.specs.declared.types.Told.TheVariants.{Skipped, Ran}
-use Rattle.machine_replay.specs.declared.types.EffectKind.{EffectKind}
-use Rattle.machine_replay.specs.declared.types.EffectKind.TheVariants as kind
+use Rattle.machine_steps.specs.declared.types.Event.{Event}
+use Rattle.machine_steps.specs.declared.types.Event.TheVariants.{Begin, Step}
+use Rattle.machine_steps.specs.declared.types.Told.{Told}
+use Rattle.machine_steps.specs.declared.types.Told.TheVariants.{Skipped, Ran}
+use Rattle.machine_steps.specs.declared.types.EffectKind.{EffectKind}
+use Rattle.machine_steps.specs.declared.types.EffectKind.TheVariants as kind
 
 -- an effect without its values
 abbrev pub kind_of : {T : Type 0} → Effect T → EffectKind

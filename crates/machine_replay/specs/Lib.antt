@@ -1,13 +1,5 @@
 pub mod Book
 pub mod Conforms
-pub mod World
-pub mod EffectOf
-pub mod Present
-pub mod Blocks
-pub mod SharedMemory
-pub mod ChainLeft
-pub mod Left
-pub mod Machine
 pub mod Peaks
 pub mod Replays
 pub mod MachineRuns

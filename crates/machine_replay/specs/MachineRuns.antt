@@ -3,19 +3,19 @@ use Rattle.std.specs.Prelude.{◌≡◌, ◌↔◌, ℕ, ◌+◌, ◌<◌, ◌�
 use Rattle.queue_steps.specs.declared.steps.types.Kind.{Kind}
 use Rattle.machine_replay.specs.declared.machine_run.MachineRun.{MachineRun}
 use Rattle.machine_replay.specs.declared.machine_run.Ended.{Ended}
-use Rattle.machine_replay.specs.declared.machine.Running.{Running}
-use Rattle.machine_replay.specs.declared.types.Event.{Event}
-use Rattle.machine_replay.specs.declared.types.Peak.{Peak}
-use Rattle.machine_replay.specs.declared.types.Told.{Told}
+use Rattle.machine_steps.specs.declared.machine.Running.{Running}
+use Rattle.machine_steps.specs.declared.types.Event.{Event}
+use Rattle.machine_steps.specs.declared.types.Peak.{Peak}
+use Rattle.machine_steps.specs.declared.types.Told.{Told}
 use Rattle.machine_replay.specs.Book.{Book, Run, opening}
-use Rattle.machine_replay.specs.SharedMemory.{Shared}
+use Rattle.machine_steps.specs.SharedMemory.{Shared}
 use Rattle.machine_replay.specs.Conforms.{HasNoBlocks, IsPeak, capacity_of, entries_from, reply_entry, skipped_entry}
 use Rattle.machine_replay.specs.InCall.{IsInCall}
-use Rattle.machine_replay.specs.Left.{left_of, opening_world}
-use Rattle.machine_replay.specs.Machine.{HasCount, HasRoom, event_of, world_of}
+use Rattle.machine_steps.specs.Left.{left_of, opening_world}
+use Rattle.machine_steps.specs.Machine.{HasCount, HasRoom, event_of, world_of}
 use Rattle.machine_replay.specs.Peaks.{opening_peak, peaked}
 use Rattle.machine_replay.specs.Replays.{CanReplay, is_too_large}
-use Rattle.machine_replay.specs.World.{World}
+use Rattle.machine_steps.specs.World.{World}
 
 -- the machine comes from w, with the peak p, to the last world and the last peak by these events, of which this is told
 abbrev pub Comes : {T : Type 0} → Kind → World (Shared T) (Running T) → Peak → List (Event T) → List (Told T) → World (Shared T) (Running T) → Peak → Type 0

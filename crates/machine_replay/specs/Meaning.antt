@@ -8,10 +8,10 @@ use Rattle.queue_steps.specs.declared.model.Call.{Call}
 use Rattle.queue_steps.specs.declared.model.Effect.{Effect}
 use Rattle.queue_steps.specs.declared.model.Effect.TheVariants as effect
 use Rattle.queue_steps.specs.declared.model.Reply.{Reply}
-use Rattle.machine_replay.specs.declared.types.EffectKind.{EffectKind}
-use Rattle.machine_replay.specs.declared.types.Event.{Event}
-use Rattle.machine_replay.specs.declared.types.Event.TheVariants.{Begin}
-use Rattle.machine_replay.specs.declared.types.Replay.{Replay}
+use Rattle.machine_steps.specs.declared.types.EffectKind.{EffectKind}
+use Rattle.machine_steps.specs.declared.types.Event.{Event}
+use Rattle.machine_steps.specs.declared.types.Event.TheVariants.{Begin}
+use Rattle.machine_steps.specs.declared.types.Replay.{Replay}
 use Rattle.machine_replay.specs.Book.{Allows, IsBegun, has_steps, kind_of}
 use Rattle.machine_replay.specs.Conforms.{Conforms}
 pub use Rattle.law_moments.specs.Entries.{Entry, chosen, effects_in}

@@ -4,8 +4,8 @@ use Rattle.queue_steps.specs.declared.sizes.TheConstants.{BLOCK_SLOTS}
 use Rattle.queue_steps.specs.Sequential.{blocks_of}
 use Rattle.queue_steps.specs.declared.model.Reply.{Reply}
 pub use Rattle.law_moments.specs.Entries.{state_before}
-use Rattle.machine_replay.specs.declared.types.Event.{Event}
-use Rattle.machine_replay.specs.declared.types.Replay.{Replay}
+use Rattle.machine_steps.specs.declared.types.Event.{Event}
+use Rattle.machine_steps.specs.declared.types.Replay.{Replay}
 use Rattle.machine_replay.specs.Conforms.{Conforms}
 use Rattle.machine_replay.specs.Meaning.{Entry, HasHistory}
 use Rattle.machine_replay.specs.OneOwner.{calls_from}

@@ -3,11 +3,11 @@ use Rattle.std.specs.Prelude.{ℕ, ◌+◌, ◌-◌, ◌/◌, nat_lt, if◌then�
 use Rattle.queue_steps.specs.declared.sizes.TheConstants.{BLOCK_SLOTS}
 use Rattle.queue_steps.specs.Words.{position_of}
 use Rattle.queue_steps.specs.ChainWords.{items_before}
-use Rattle.machine_replay.specs.declared.machine.Running.{Running}
-use Rattle.machine_replay.specs.declared.types.Peak.{Peak}
-use Rattle.machine_replay.specs.SharedMemory.{Shared}
-use Rattle.machine_replay.specs.Present.{present}
-use Rattle.machine_replay.specs.World.{World}
+use Rattle.machine_steps.specs.declared.machine.Running.{Running}
+use Rattle.machine_steps.specs.declared.types.Peak.{Peak}
+use Rattle.machine_steps.specs.SharedMemory.{Shared}
+use Rattle.machine_steps.specs.Present.{present}
+use Rattle.machine_steps.specs.World.{World}
 
 -- how many items a chain holds, by its head and its tail
 abbrev pub held : {T : Type 0} → Shared T → ℕ

@@ -5,15 +5,15 @@ use Rattle.queue_steps.specs.declared.steps.types.Kind.{Kind}
 use Rattle.queue_steps.specs.declared.steps.types.Local.{Local}
 use Rattle.queue_steps.specs.declared.steps.types.Op.{Op}
 use Rattle.queue_steps.specs.declared.steps.types.Op.TheVariants as op
-use Rattle.machine_replay.specs.declared.machine.Running.{Running}
-use Rattle.machine_replay.specs.declared.types.Event.{Event}
-use Rattle.machine_replay.specs.declared.types.Event.TheVariants.{Begin, Step}
-use Rattle.machine_replay.specs.declared.types.Replay.{Replay}
-use Rattle.machine_replay.specs.declared.types.Told.{Told}
+use Rattle.machine_steps.specs.declared.machine.Running.{Running}
+use Rattle.machine_steps.specs.declared.types.Event.{Event}
+use Rattle.machine_steps.specs.declared.types.Event.TheVariants.{Begin, Step}
+use Rattle.machine_steps.specs.declared.types.Replay.{Replay}
+use Rattle.machine_steps.specs.declared.types.Told.{Told}
 use Rattle.machine_replay.specs.Conforms.{entries_from, reply_entry, effect_entry, skipped_entry}
-use Rattle.machine_replay.specs.Left.{left_of, opening_world}
-use Rattle.machine_replay.specs.SharedMemory.{Shared, start_of, step_of}
-use Rattle.machine_replay.specs.World.{Begun, Made, World, world_event}
+use Rattle.machine_steps.specs.Left.{left_of, opening_world}
+use Rattle.machine_steps.specs.SharedMemory.{Shared, start_of, step_of}
+use Rattle.machine_steps.specs.World.{Begun, Made, World, world_event}
 
 -- a machine after these events, where each request that no event refuses is granted, and what is told of them, whatever is shared and whatever its steps are
 abbrev pub world_by : {S R T : Type 0} → (Bool → S → R → Made S R T) → (Call T → Begun R T) → World S R → List (Event T) → World S R

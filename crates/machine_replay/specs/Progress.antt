@@ -4,17 +4,17 @@ use Rattle.queue_steps.specs.declared.sizes.TheConstants.{BLOCK_SLOTS}
 use Rattle.queue_steps.specs.declared.model.Reply.{Reply}
 use Rattle.queue_steps.specs.declared.steps.types.Kind.{Kind}
 use Rattle.queue_steps.specs.declared.steps.types.Kind.TheVariants as kind
-use Rattle.machine_replay.specs.declared.types.EffectKind.{EffectKind}
-use Rattle.machine_replay.specs.declared.types.EffectKind.TheVariants as effect
-use Rattle.machine_replay.specs.declared.types.Event.{Event}
-use Rattle.machine_replay.specs.declared.types.Event.TheVariants.{Step}
-use Rattle.machine_replay.specs.declared.types.Told.{Told}
-use Rattle.machine_replay.specs.declared.types.Told.TheVariants.{Skipped, Ran}
+use Rattle.machine_steps.specs.declared.types.EffectKind.{EffectKind}
+use Rattle.machine_steps.specs.declared.types.EffectKind.TheVariants as effect
+use Rattle.machine_steps.specs.declared.types.Event.{Event}
+use Rattle.machine_steps.specs.declared.types.Event.TheVariants.{Step}
+use Rattle.machine_steps.specs.declared.types.Told.{Told}
+use Rattle.machine_steps.specs.declared.types.Told.TheVariants.{Skipped, Ran}
 use Rattle.machine_replay.specs.Conforms.{capacity_of, party_of}
-use Rattle.machine_replay.specs.Left.{opening_world}
+use Rattle.machine_steps.specs.Left.{opening_world}
 use Rattle.machine_replay.specs.Played.{told_of, world_after}
 use Rattle.machine_replay.specs.Replays.{CanReplay, is_too_large}
-use Rattle.machine_replay.specs.SharedMemory.{Shared}
+use Rattle.machine_steps.specs.SharedMemory.{Shared}
 use Rattle.machine_replay.specs.Within.{is_step_of}
 
 -- a party is between calls, in a call that has had no effect, or in one that has had an effect and has not replied

@@ -1,13 +1,13 @@
 -- The words of a machine, as a value.
 use Rattle.std.specs.Prelude.{◌≡◌, ℕ, List}
 use Rattle.queue_steps.specs.declared.steps.types.Kind.{Kind}
-use Rattle.machine_replay.specs.declared.machine.Running.{Running}
-use Rattle.machine_replay.specs.declared.types.Event.{Event}
-use Rattle.machine_replay.specs.Left.{opening_world}
-use Rattle.machine_replay.specs.Machine.{Plays}
-use Rattle.machine_replay.specs.World.{World}
+use Rattle.machine_steps.specs.declared.machine.Running.{Running}
+use Rattle.machine_steps.specs.declared.types.Event.{Event}
+use Rattle.machine_steps.specs.Left.{opening_world}
+use Rattle.machine_steps.specs.Machine.{Plays}
+use Rattle.machine_steps.specs.World.{World}
 use Rattle.machine_replay.specs.declared.words.Words.{Words}
-use Rattle.machine_replay.specs.SharedMemory.{Shared}
+use Rattle.machine_steps.specs.SharedMemory.{Shared}
 
 -- these are the words of what is shared
 pub record AreWords {T A : Type 0} (s : Shared T) (w : Words A) : Type 0 where

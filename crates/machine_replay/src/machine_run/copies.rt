@@ -1,14 +1,14 @@
 //! Copies of runs, and what tells runs from each other.
 ghost use Rattle.std.specs.Prelude.{◌≡◌, Bool, IfOk, None, length, slice_index_or, true, false};
-ghost use Rattle.machine_replay.specs.Machine.{event_of, world_of};
+ghost use Rattle.machine_steps.specs.Machine.{event_of, world_of};
 ghost use Rattle.machine_replay.specs.MachineRuns.{CanGoOn, IsSameMachineRun};
 ghost use Rattle.machine_replay.specs.Played.{asks, local_in};
-ghost use Rattle.machine_replay.specs.World.{call_at};
-ghost use Rattle.machine_replay.specs.declared.types.Event.TheVariants.{Step};
+ghost use Rattle.machine_steps.specs.World.{call_at};
+ghost use Rattle.machine_steps.specs.declared.types.Event.TheVariants.{Step};
 
 use super::MachineRun;
-use crate::machine::Running;
-use crate::same::Same;
+use machine_steps::machine::Running;
+use machine_steps::same::Same;
 use queue_steps::steps::{Kind, Local, Op};
 use std::alloc::{AllocError, Allocator};
 use std::hash::{FoldHasher, Hash, Hasher};

@@ -1,5 +1,5 @@
 use Rattle.std.proofs.Common.{◌≡◌}
-use Rattle.machine_replay.specs.Machine.{world_of}
+use Rattle.machine_steps.specs.Machine.{world_of}
 use Rattle.machine_replay.specs.MachineRuns.{IsSomeMachineRun}
 use Rattle.machine_explore.proofs.Starting.{IsMaking}
 use Rattle.machine_explore.proofs.position.make_alone.Given as goal

@@ -1,5 +1,5 @@
 use Rattle.std.proofs.Common.{◌≡◌, ◌∙◌, List, ℕ, ap, subst, sym}
-use Rattle.machine_replay.specs.Left.{left_of}
+use Rattle.machine_steps.specs.Left.{left_of}
 use Rattle.machine_explore.specs.Traces.{IsTraceOf}
 use Rattle.machine_explore.proofs.trace.follow.Goals as goal
 

@@ -2,7 +2,7 @@ use Rattle.std.proofs.Common.{◌≡◌, ℕ, ◌<◌, ◌≤◌, ◌++◌, ◌�
 use Rattle.std.specs.Prelude.{slice_index_or}
 use Rattle.std.proofs.lemmas.List.{take_all, take_more}
 use Rattle.machine_explore.specs.Positions.{Outcome}
-use Rattle.machine_replay.specs.Left.{left_of}
+use Rattle.machine_steps.specs.Left.{left_of}
 use Rattle.machine_explore.specs.Traces.{IsTraceOf, Seen}
 use Rattle.machine_explore.specs.declared.schedule.Move.{Move}
 use Rattle.machine_explore.proofs.Showing.{IsUnderWay, shows, under_way-first, under_way-seen}

@@ -1,5 +1,5 @@
 use Rattle.std.proofs.Common.{◌≡◌, ◌++◌, ◌-◌, length, vec_capacity}
-use Rattle.machine_replay.specs.ChainLeft.{chained}
+use Rattle.machine_steps.specs.ChainLeft.{chained}
 use Rattle.machine_replay.proofs.chain_left.gather_blocks.Given as goal
 
 abbrev pub invariant-loop : goal.invariant-loop

@@ -1,5 +1,5 @@
 use Rattle.std.proofs.Common.{◌≡◌, ◌++◌, vec_capacity}
-use Rattle.machine_replay.specs.ChainLeft.{unread}
+use Rattle.machine_steps.specs.ChainLeft.{unread}
 use Rattle.machine_replay.proofs.chain_left.gather_places.Given as goal
 
 abbrev pub invariant-loop-place : goal.invariant-loop-place

@@ -1,5 +1,5 @@
 use Rattle.std.proofs.Common.{◌≡◌}
-use Rattle.machine_replay.specs.ChainLeft.{settled_blocks, settled_front}
+use Rattle.machine_steps.specs.ChainLeft.{settled_blocks, settled_front}
 use Rattle.machine_replay.proofs.chain_left.left.Given as goal
 
 abbrev pub invariant-loop-call : goal.invariant-loop-call

@@ -1,5 +1,5 @@
 use Rattle.std.proofs.Common.{arith, ◌-◌}
-use Rattle.machine_replay.specs.Left.{gathered}
+use Rattle.machine_steps.specs.Left.{gathered}
 use Rattle.machine_replay.proofs.Gathering.{gathered-next, gathered-room}
 use Rattle.machine_replay.proofs.left.gather.Goals as goal
 

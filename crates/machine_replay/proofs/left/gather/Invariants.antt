@@ -1,5 +1,5 @@
 use Rattle.std.proofs.Common.{◌≡◌, ◌++◌, ◌-◌, vec_capacity}
-use Rattle.machine_replay.specs.Left.{gathered}
+use Rattle.machine_steps.specs.Left.{gathered}
 use Rattle.machine_replay.proofs.left.gather.Given as goal
 
 abbrev pub invariant-loop-position : goal.invariant-loop-position

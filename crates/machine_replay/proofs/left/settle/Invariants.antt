@@ -1,5 +1,5 @@
 use Rattle.std.proofs.Common.{◌≡◌}
-use Rattle.machine_replay.specs.Left.{settled}
+use Rattle.machine_steps.specs.Left.{settled}
 use Rattle.machine_replay.proofs.left.settle.Given as goal
 
 abbrev pub invariant-loop-call : goal.invariant-loop-call

@@ -2,8 +2,8 @@ use Rattle.std.proofs.Common.{◌≡◌, ◌∙◌, arith, ap, sym, subst, lengt
 use Rattle.std.proofs.lemmas.List.{map-id}
 use Rattle.std.proofs.lemmas.Iterator.Adapters.{YieldsList-from_vec}
 use Rattle.std.proofs.lemmas.Iterator.Consumers.{YieldsList-end}
-use Rattle.machine_replay.specs.Left.{opening_world}
-use Rattle.machine_replay.specs.Machine.{world_of, Plays}
+use Rattle.machine_steps.specs.Left.{opening_world}
+use Rattle.machine_steps.specs.Machine.{world_of, Plays}
 use Rattle.machine_replay.proofs.AllKinds.{in_order-first, in_order-can, in_order-next, has_machine}
 use Rattle.machine_replay.proofs.words.machine_after.Goals as goal
 

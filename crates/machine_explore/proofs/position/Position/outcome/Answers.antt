@@ -1,7 +1,7 @@
 use Rattle.std.proofs.Common.{◌≡◌, ◌+◌, ◌<◌, ◌≤◌, ◌∙◌, ◌++◌, ◌∷◌, [], ℕ, ap, arith, length, map, sym, take}
 use Rattle.std.specs.Prelude.{slice_index_or}
 use Rattle.std.proofs.lemmas.List.{map-append, take_all, take_more}
-use Rattle.machine_replay.specs.Machine.{world_of}
+use Rattle.machine_steps.specs.Machine.{world_of}
 use Rattle.machine_explore.specs.Positions.{Progress, Standing}
 use Rattle.machine_explore.proofs.Runs.{outcome_is}
 use Rattle.machine_explore.proofs.position.Position.outcome.Goals as goal

@@ -1,7 +1,7 @@
 use Rattle.std.proofs.Common.{◌≡◌, ◌∙◌, ◌+◌, ◌<◌, ◌≤◌, ◌++◌, ◌∷◌, [], ap, arith, length, subst, sym, take}
 use Rattle.std.proofs.lemmas.List.{take_all, take_more}
-use Rattle.machine_replay.specs.Left.{opening_world}
-use Rattle.machine_replay.specs.Machine.{world_of}
+use Rattle.machine_steps.specs.Left.{opening_world}
+use Rattle.machine_steps.specs.Machine.{world_of}
 use Rattle.machine_explore.specs.Positions.{no_progress}
 use Rattle.machine_explore.specs.Starts.{IsPrepared}
 use Rattle.std.specs.Prelude.{replicate, slice_index_or}

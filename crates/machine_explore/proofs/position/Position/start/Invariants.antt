@@ -1,6 +1,6 @@
 use Rattle.std.proofs.Common.{◌≡◌, length, take, replicate, vec_len, vec_capacity}
-use Rattle.machine_replay.specs.Left.{opening_world}
-use Rattle.machine_replay.specs.Machine.{world_of}
+use Rattle.machine_steps.specs.Left.{opening_world}
+use Rattle.machine_steps.specs.Machine.{world_of}
 use Rattle.machine_replay.specs.MachineRuns.{IsSomeMachineRun}
 use Rattle.machine_explore.specs.Positions.{no_progress}
 use Rattle.machine_explore.specs.Starts.{IsPrepared}

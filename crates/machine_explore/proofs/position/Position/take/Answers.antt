@@ -1,7 +1,7 @@
 use Rattle.std.proofs.Common.{◌≡◌, ◌≤◌, ◌∙◌, true, ap, arith, length, sym}
 use Rattle.std.proofs.lemmas.List.{set_past}
 use Rattle.machine_replay.specs.Conforms.{party_of}
-use Rattle.machine_replay.specs.Machine.{event_of, world_of}
+use Rattle.machine_steps.specs.Machine.{event_of, world_of}
 use Rattle.machine_explore.specs.Moves.{advanced, led}
 use Rattle.machine_explore.specs.Positions.{Standing, progress_of}
 use Rattle.machine_explore.proofs.Runs.{standing_is}

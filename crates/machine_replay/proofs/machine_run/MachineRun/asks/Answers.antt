@@ -1,5 +1,5 @@
 use Rattle.std.proofs.Common.{sym, ◌∙◌}
-use Rattle.machine_replay.specs.Machine.{world_of}
+use Rattle.machine_steps.specs.Machine.{world_of}
 use Rattle.machine_replay.proofs.Played.{event-plain}
 use Rattle.machine_replay.proofs.machine_run.MachineRun.asks.Goals as goal
 

@@ -1,0 +1,68 @@
+-- How a machine begins, and the list that it holds.
+use Rattle.std.specs.Prelude.{ℕ, zero, suc, ◌+◌, ◌-◌, ◌<◌, if◌then◌else◌, Option, Some, None, List, [], ◌∷◌, ◌++◌, slice_index_or, slice_set, replicate}
+use Rattle.std.specs.Option.{option_to_list}
+use Rattle.queue_steps.specs.SingleNext.{is_pushed}
+use Rattle.queue_steps.specs.Words.{position_of, slot_at}
+use Rattle.queue_steps.specs.declared.steps.types.Kind.{Kind}
+use Rattle.queue_steps.specs.declared.steps.types.Kind.TheVariants as kind
+use Rattle.queue_steps.specs.declared.steps.types.Touch.{Touch}
+use Rattle.queue_steps.specs.declared.steps.types.Touch.TheVariants as touch
+use Rattle.law_ring.specs.RingOpening.{numbers_below}
+use Rattle.machine_steps.specs.declared.machine.Running.{Running}
+use Rattle.machine_steps.specs.World.{World}
+use Rattle.machine_steps.specs.SharedMemory.{Shared}
+use Rattle.machine_steps.specs.ChainLeft.{chain_left}
+
+-- the stamps of a queue of this kind at its beginning: each slot of a ring is free for the position of its own number
+abbrev pub opening_stamps : Kind → List ℕ
+opening_stamps (kind.Bounded n) = numbers_below n
+opening_stamps _ = []
+
+-- how many slots a queue of this kind has
+abbrev pub slot_count : Kind → ℕ
+slot_count kind.Single = 1
+slot_count (kind.Bounded n) = n
+slot_count kind.Unbounded = 0
+
+abbrev pub opening_shared : {T : Type 0} → Kind → Shared T
+opening_shared k = record { lock = 0; head = 0; tail = 0; stamps = opening_stamps k; slots = replicate (slot_count k) None; head_block = None; tail_block = None; blocks = [] }
+
+-- the parties are between calls, and the queue is empty and open
+abbrev pub opening_world : {T : Type 0} → Kind → ℕ → World (Shared T) (Running T)
+opening_world k parties = record { shared = opening_shared k; calls = replicate parties None }
+
+-- the slots once a call that is about to write has written
+abbrev pub written : {T : Type 0} → Touch → Option T → List (Option T) → List (Option T)
+written (touch.Put i) v slots = slice_set slots i v
+written (touch.Swap i) v slots = slice_set slots i v
+written _ v slots = slots
+
+abbrev pub written_by : {T : Type 0} → Option (Running T) → List (Option T) → List (Option T)
+written_by None slots = slots
+written_by (Some r) slots = written r.touch r.carried slots
+
+-- the slots once every call that is about to write has written
+abbrev pub settled : {T : Type 0} → List (Option (Running T)) → List (Option T) → List (Option T)
+settled [] slots = slots
+settled (x ∷ xs) slots = settled xs (written_by x slots)
+
+-- the items of so many positions of a ring of n slots from position p on, each taken out of its slot
+abbrev pub gathered : {T : Type 0} → ℕ → ℕ → ℕ → List (Option T) → List T
+gathered n p zero slots = []
+gathered n p (suc count) slots = option_to_list (slice_index_or slots (slot_at n p) None) ++ gathered n (p + 1) count (slice_set slots (slot_at n p) None)
+
+-- a ring has a slot
+abbrev pub HasSlot : Kind → Type 0
+HasSlot (kind.Bounded n) = 0 < n
+HasSlot _ = Unit {0}
+
+-- the list that these slots hold, by the words of the queue
+abbrev pub listed_in : {T : Type 0} → Kind → ℕ → ℕ → ℕ → List (Option T) → List T
+listed_in kind.Single lock head tail slots = if is_pushed lock then option_to_list (slice_index_or slots 0 None) else []
+listed_in (kind.Bounded n) lock head tail slots = gathered n head (position_of tail - head) slots
+listed_in kind.Unbounded lock head tail slots = []
+
+-- the list that a machine holds, with the items that are not yet written
+abbrev pub left_of : {T : Type 0} → Kind → World (Shared T) (Running T) → List T
+left_of kind.Unbounded w = chain_left w.calls w.shared.head_block w.shared.blocks
+left_of k w = listed_in k w.shared.lock w.shared.head w.shared.tail (settled w.calls w.shared.slots)

@@ -1,0 +1,57 @@
+-- The machine as a value, and what one event of it owes.
+use Rattle.std.specs.Prelude.{◌≡◌, ℕ, ◌+◌, ◌≤◌, Bool, Some, List, [], ◌∷◌, vec_len, vec_capacity}
+use Rattle.machine_steps.specs.declared.shared_memory.SharedMemory.{SharedMemory}
+use Rattle.queue_steps.specs.declared.steps.types.Kind.{Kind}
+use Rattle.machine_steps.specs.declared.machine.Machine.{Machine}
+use Rattle.machine_steps.specs.declared.machine.Running.{Running}
+use Rattle.machine_steps.specs.declared.types.Event.{Event}
+use Rattle.machine_steps.specs.declared.types.Event.TheVariants.{Begin, Step}
+use Rattle.machine_steps.specs.declared.types.Told.{Told}
+use Rattle.machine_steps.specs.Present.{present}
+use Rattle.machine_steps.specs.World.{World, call_at, world_event}
+use Rattle.machine_steps.specs.SharedMemory.{Shared, shared_of, CanStart, CanStep, step_of, start_of}
+
+abbrev pub world_of : {T A : Type 0} → Machine T A → World (Shared T) (Running T)
+world_of m = record { shared = shared_of m.memory; calls = m.calls.items }
+
+-- there is room for so many blocks more, and for one
+abbrev pub HasRoomFor : {T A : Type 0} → SharedMemory T A → ℕ → Type 0
+HasRoomFor c n = vec_len c.blocks + n ≤ vec_capacity c.blocks
+
+abbrev pub HasRoom : {T A : Type 0} → SharedMemory T A → Type 0
+HasRoom c = HasRoomFor c 1
+
+-- no room was used, or that of one block at most
+abbrev pub HasSameRoom : {T A : Type 0} → SharedMemory T A → SharedMemory T A → Type 0
+HasSameRoom c d = (vec_len d.blocks ≡ vec_len c.blocks) × (vec_capacity d.blocks ≡ vec_capacity c.blocks)
+
+abbrev pub KeepsRoom : {T A : Type 0} → SharedMemory T A → SharedMemory T A → Type 0
+KeepsRoom c d = (vec_len d.blocks ≤ vec_len c.blocks + 1) × (vec_capacity d.blocks ≡ vec_capacity c.blocks)
+
+-- the count that stands beside the blocks is how many of them are there
+abbrev pub HasCount : {T A : Type 0} → SharedMemory T A → Type 0
+HasCount c = c.alive ≡ present c.blocks.items
+
+-- the machine after an event, and what is told of it. `ok` says whether the allocator grants a block that is asked for
+abbrev pub event_of : {T : Type 0} → Kind → Bool → World (Shared T) (Running T) → Event T → World (Shared T) (Running T) × Told T
+event_of k ok w e = world_event (step_of k) (start_of k) w ok e
+
+-- the call that the event begins can begin, and the step that it takes can be taken
+abbrev pub CanHandle : {T : Type 0} → Kind → World (Shared T) (Running T) → Event T → Type 0
+CanHandle k w (Begin p c) = CanStart k c
+CanHandle {T} k w (Step p granted) = (ok : Bool) (r : Running T) → call_at w p ≡ Some r → CanStep k ok w.shared r
+
+-- the allocator grants or refuses a block, and the machine handles the event so
+pub record Handles {T : Type 0} (k : Kind) (w : World (Shared T) (Running T)) (e : Event T) (after : World (Shared T) (Running T)) (told : Told T) : Type 0 where
+  pub ok : Bool
+  pub world : after ≡ (event_of k ok w e).0
+  pub told_is : told ≡ (event_of k ok w e).1
+
+-- the machine comes from w by these events, one after another, to the last world
+abbrev pub Plays : {T : Type 0} → Kind → World (Shared T) (Running T) → List (Event T) → World (Shared T) (Running T) → Type 0
+Plays k w [] last = last ≡ w
+Plays k w (e ∷ es) last = (ok : Bool) × Plays k (event_of k ok w e).0 es last
+
+-- the machine handles the event, whatever is told of it
+abbrev pub Passes : {T : Type 0} → Kind → World (Shared T) (Running T) → Event T → World (Shared T) (Running T) → Type 0
+Passes k w e after = (ok : Bool) × (after ≡ (event_of k ok w e).0)
