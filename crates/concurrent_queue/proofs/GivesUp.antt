@@ -1,5 +1,5 @@
 -- A call that gives up where it stands in the place of waiting: to its party it is as if it had asked for the capacity.
-use Rattle.std.proofs.Common.{◌≡◌, ℕ, true, false, Option, None, Continue, Break, refl, sym, ap, subst, ◌∙◌}
+use Rattle.std.proofs.Common.{◌≡◌, ℕ, true, false, Option, None, Continue, Break, sym, ap, subst, ◌∙◌}
 use Rattle.std.specs.ControlFlow.{MatchControlFlow}
 use Rattle.std.specs.declared.ops.ControlFlow.{ControlFlow}
 use Rattle.atomic_table.specs.Seated.{TableId}

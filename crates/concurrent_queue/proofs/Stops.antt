@@ -9,10 +9,9 @@ use Rattle.queue_steps.specs.declared.steps.types.Next.{Next}
 use Rattle.queue_steps.specs.declared.steps.types.Next.TheVariants as next
 use Rattle.queue_steps.specs.Kinds.{call_kind}
 use Rattle.queue_steps.specs.Next.{next_of}
-use Rattle.queue_steps.specs.Parties.{View, IsView}
+use Rattle.queue_steps.specs.Parties.{IsView}
 use Rattle.shared_parties.specs.declared.known.CallState.{CallState}
 use Rattle.shared_parties.specs.declared.known.InCall.{InCall}
-use Rattle.shared_parties.specs.declared.known.Work.{Work}
 use Rattle.shared_parties.specs.declared.known.Work.TheVariants as work
 use Rattle.shared_parties.specs.Called.{call_of_work, nothing_called}
 use Rattle.shared_parties.specs.Calling.{cap_of}

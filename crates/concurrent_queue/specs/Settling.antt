@@ -1,5 +1,5 @@
 -- A call that goes on until it has had no effect yet where it stands, or ends: how far it is from that.
-use Rattle.std.specs.Prelude.{◌≡◌, ℕ, suc, Bool, true, false, if◌then◌else◌}
+use Rattle.std.specs.Prelude.{ℕ, suc, Bool, false, if◌then◌else◌}
 use Rattle.queue_steps.specs.declared.steps.types.Kind.{Kind}
 use Rattle.queue_steps.specs.declared.steps.types.Kind.TheVariants as kind
 use Rattle.queue_steps.specs.declared.steps.types.Local.{Local}

@@ -1,4 +1,4 @@
-use Rattle.std.proofs.Common.{◌≡◌, ◌-◌, refl}
+use Rattle.std.proofs.Common.{◌-◌}
 use Rattle.queue_steps.specs.declared.sizes.TheConstants.{SOLO_STEPS}
 use Rattle.call_driver.proofs.Going.{replies, again}
 use Rattle.concurrent_queue.proofs.Filling.{is_filled, filled_as}

@@ -1,4 +1,4 @@
-use Rattle.std.proofs.Common.{◌≡◌, ◌-◌, ◌<◌, ◌≤◌}
+use Rattle.std.proofs.Common.{◌-◌, ◌<◌, ◌≤◌}
 use Rattle.queue_steps.specs.declared.model.Call.{Call}
 use Rattle.concurrent_queue.specs.Pausing.{IsStood}
 use Rattle.concurrent_queue.specs.Settling.{next_at, left_at, MayWait}

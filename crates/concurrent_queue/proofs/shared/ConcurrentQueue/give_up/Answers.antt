@@ -1,5 +1,4 @@
-use Rattle.std.proofs.Common.{◌≡◌, ◌≤◌, ◌∙◌, sym, ap, subst}
-use Rattle.atomic_table.specs.Seated.{TableId}
+use Rattle.std.proofs.Common.{◌≡◌, ◌∙◌, sym, ap, subst}
 use Rattle.queue_steps.specs.Kinds.{call_value}
 use Rattle.shared_parties.specs.Quitting.{its_call}
 use Rattle.shared_tables.specs.SlotTable.{slot_table}
@@ -11,9 +10,8 @@ use Rattle.concurrent_queue.specs.Shared.{QueueId, form_id}
 use Rattle.concurrent_queue.specs.declared.shared.pending.CallPlace.{CallPlace}
 use Rattle.concurrent_queue.specs.declared.shared.pending.CallPlace.TheVariants as stopped
 use Rattle.concurrent_queue.proofs.Quits.{given_back, given_back_in}
-use Rattle.concurrent_queue.proofs.Stops.{StopsHere, come_here, same_table, not_one}
+use Rattle.concurrent_queue.proofs.Stops.{come_here, same_table, not_one}
 use Rattle.concurrent_queue.proofs.StopsIn.{StopsInside, same_web}
-use Rattle.concurrent_queue.proofs.shared.ConcurrentQueue.give_up.Given.{Over}
 use Rattle.concurrent_queue.proofs.shared.ConcurrentQueue.give_up.Goals as goal
 
 pub quit_at-requires : goal.quit_at-requires
