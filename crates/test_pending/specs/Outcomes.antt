@@ -1,0 +1,9 @@
+-- Calls of a queue's parties.
+use Rattle.concurrent_queue.specs.declared.shared.pending.Outcome.{Outcome}
+use Rattle.concurrent_queue.specs.declared.shared.pending.Outcome.TheVariants as outcome
+use Rattle.concurrent_queue.specs.Shared.{QueueId, IsPartyOf}
+
+-- the call is one of a party of this queue
+abbrev pub IsOf : {T A : Type 0} → Outcome T A → QueueId → Type 0
+IsOf (outcome.Done w r) q = IsPartyOf w q
+IsOf (outcome.Pending p) q = IsPartyOf p.party q
