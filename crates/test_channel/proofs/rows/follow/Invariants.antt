@@ -1,8 +1,0 @@
-use Rattle.std.specs.Option.{IfSome}
-use Rattle.concurrent_queue.specs.Shared.{IsPartyOf}
-use Rattle.counted_channel.specs.Channel.{IsEndOf}
-use Rattle.test_channel.proofs.rows.follow.Given as goal
-
--- the ends are still those of the channel, and so is the party of those that have ended
-abbrev pub invariant-loop-number : goal.invariant-loop-number
-invariant-loop-number g l = IfSome l.ends.sender (λ s. IsEndOf s l.fn.channel) × IfSome l.ends.receiver (λ r. IsEndOf r l.fn.channel) × IfSome l.ends.party (λ p. IsPartyOf p l.fn.channel.queue)

@@ -1,0 +1,2 @@
+//! Raw blocks.
+pub mod memory;

@@ -1,0 +1,369 @@
+//! Runs on a ring of two slots, with calls that go on within each other.
+use crate::machine::script::{Fact, Run, StoryLine, are_told, is_told, words_of};
+use machine_replay::replay;
+use machine_replay::types::EffectKind;
+use machine_replay::words::Words;
+use queue_steps::errors::{ForcePushError, PopError, PushError};
+use queue_steps::model::{Call, Reply};
+use queue_steps::sizes::MAX_CAPACITY;
+use queue_steps::steps::Kind;
+use std::alloc::{AllocError, Global};
+use std::test::Fail;
+
+const RING: Kind = Kind::Bounded(2);
+
+static RUNS: [Run<'static>; 10] = [
+    // A displacement with a close within it: a pop that finds the list empty waits for the item on its way in.
+    Run {
+        name: "close within a displacement",
+        parties: 2,
+        lines: &[
+            StoryLine::Pushes(0, 2),
+            StoryLine::Begins(0, Call::ForcePush(3)),
+            StoryLine::Steps(0, 3),
+            StoryLine::Calls(1, Call::Close),
+            StoryLine::Pops(1, 2),
+            StoryLine::Runs(0),
+            StoryLine::Runs(1),
+            StoryLine::Calls(1, Call::Pop),
+            StoryLine::Calls(1, Call::IsClosed),
+        ],
+        facts: &[
+            Fact::Effects(&[
+                (0, EffectKind::Append),
+                (0, EffectKind::Append),
+                (0, EffectKind::Front),
+                (1, EffectKind::Close),
+                (1, EffectKind::Take),
+                (0, EffectKind::Arrive),
+                (1, EffectKind::Take),
+            ]),
+            Fact::Replies(&[
+                (0, Reply::Push(Ok(()))),
+                (0, Reply::Push(Ok(()))),
+                (1, Reply::Close(true)),
+                (1, Reply::Pop(Ok(2))),
+                (0, Reply::ForcePush(Ok(Some(1)))),
+                (1, Reply::Pop(Ok(3))),
+                (1, Reply::Pop(Err(PopError::Closed))),
+                (1, Reply::IsClosed(true)),
+            ]),
+            Fact::Left(&[]),
+        ],
+    },
+    // A machine that lets one call go on at a time, or does each call whole at its first step, is found out: a push that began later ends first.
+    Run {
+        name: "machine that does one call at a time",
+        parties: 2,
+        lines: &[
+            StoryLine::Begins(0, Call::Push(1)),
+            StoryLine::Steps(0, 3),
+            StoryLine::Calls(1, Call::Push(2)),
+            StoryLine::Calls(1, Call::Pop),
+            StoryLine::Steps(0, 1),
+            StoryLine::Runs(1),
+        ],
+        facts: &[
+            Fact::Effects(&[
+                (0, EffectKind::Append),
+                (1, EffectKind::Append),
+                (1, EffectKind::Take),
+            ]),
+            Fact::Replies(&[
+                (1, Reply::Push(Ok(()))),
+                (0, Reply::Push(Ok(()))),
+                (1, Reply::Pop(Ok(1))),
+            ]),
+            Fact::Left(&[2]),
+        ],
+    },
+    // A push answers that the queue is full, which was right where it read the tail, before a close.
+    Run {
+        name: "full before a close",
+        parties: 2,
+        lines: &[
+            StoryLine::Pushes(0, 2),
+            StoryLine::Begins(0, Call::Push(9)),
+            StoryLine::Steps(0, 2),
+            StoryLine::Calls(1, Call::Close),
+            StoryLine::Runs(0),
+        ],
+        facts: &[
+            Fact::Replies(&[
+                (0, Reply::Push(Ok(()))),
+                (0, Reply::Push(Ok(()))),
+                (1, Reply::Close(true)),
+                (0, Reply::Push(Err(PushError::Full(9)))),
+            ]),
+            Fact::Left(&[1, 2]),
+        ],
+    },
+    // Within a displacement the length and fullness are those of the list alone, and another push waits.
+    Run {
+        name: "observers within a displacement",
+        parties: 2,
+        lines: &[
+            StoryLine::Pushes(0, 2),
+            StoryLine::Begins(0, Call::ForcePush(3)),
+            StoryLine::Steps(0, 3),
+            StoryLine::Calls(1, Call::Len),
+            StoryLine::Calls(1, Call::IsFull),
+            StoryLine::Calls(1, Call::Push(4)),
+            StoryLine::Runs(0),
+            StoryLine::Runs(1),
+        ],
+        facts: &[
+            Fact::Replies(&[
+                (0, Reply::Push(Ok(()))),
+                (0, Reply::Push(Ok(()))),
+                (1, Reply::Len(1)),
+                (1, Reply::IsFull(false)),
+                (0, Reply::ForcePush(Ok(Some(1)))),
+                (1, Reply::Push(Err(PushError::Full(4)))),
+            ]),
+            Fact::Left(&[2, 3]),
+        ],
+    },
+    // A forced push that read the queue open displaces the front after a close.
+    Run {
+        name: "forced push that read the queue open",
+        parties: 2,
+        lines: &[
+            StoryLine::Pushes(0, 2),
+            StoryLine::Begins(0, Call::ForcePush(3)),
+            StoryLine::Steps(0, 2),
+            StoryLine::Calls(1, Call::Close),
+            StoryLine::Runs(0),
+            StoryLine::Pops(1, 3),
+        ],
+        facts: &[Fact::Replies(&[
+            (0, Reply::Push(Ok(()))),
+            (0, Reply::Push(Ok(()))),
+            (1, Reply::Close(true)),
+            (0, Reply::ForcePush(Ok(Some(1)))),
+            (1, Reply::Pop(Ok(2))),
+            (1, Reply::Pop(Ok(3))),
+            (1, Reply::Pop(Err(PopError::Closed))),
+        ])],
+    },
+    // Items appended or arrived and not yet written are in the list; an item displaced, on its way in or taken is not.
+    Run {
+        name: "left: appended, not written",
+        parties: 3,
+        lines: &[StoryLine::Begins(0, Call::Push(1)), StoryLine::Steps(0, 3)],
+        facts: &[Fact::Left(&[1])],
+    },
+    Run {
+        name: "left: displaced, on the way in",
+        parties: 3,
+        lines: &[
+            StoryLine::Pushes(0, 2),
+            StoryLine::Begins(0, Call::ForcePush(3)),
+            StoryLine::Steps(0, 3),
+        ],
+        facts: &[Fact::Left(&[2])],
+    },
+    Run {
+        name: "left: arrived, not swapped in",
+        parties: 3,
+        lines: &[
+            StoryLine::Pushes(0, 2),
+            StoryLine::Begins(0, Call::ForcePush(3)),
+            StoryLine::Steps(0, 4),
+        ],
+        facts: &[Fact::Left(&[2, 3])],
+    },
+    Run {
+        name: "left: swapped in",
+        parties: 3,
+        lines: &[
+            StoryLine::Pushes(0, 2),
+            StoryLine::Begins(0, Call::ForcePush(3)),
+            StoryLine::Steps(0, 5),
+        ],
+        facts: &[Fact::Left(&[2, 3])],
+    },
+    Run {
+        name: "left: taken, not read",
+        parties: 3,
+        lines: &[
+            StoryLine::Pushes(0, 2),
+            StoryLine::Begins(0, Call::Pop),
+            StoryLine::Steps(0, 3),
+        ],
+        facts: &[Fact::Left(&[2])],
+    },
+];
+
+#[test]
+fn runs_on_two_slots(rt: HostRuntime) -> Result<(), AllocError> {
+    are_told(&rt, rt.alloc(), RING, &RUNS)
+}
+
+/// The tail, the head and the stamps on the way through a displacement: the tail is twice the position, and one more once the queue is closed.
+#[test]
+fn words_within_a_displacement(rt: HostRuntime) -> Result<(), Fail> {
+    let lines = [
+        StoryLine::Pushes(0, 2),
+        StoryLine::Begins(0, Call::ForcePush(3)),
+        StoryLine::Steps(0, 3),
+        StoryLine::Calls(1, Call::Close),
+        StoryLine::Calls(1, Call::Pop),
+        StoryLine::Calls(1, Call::Pop),
+        StoryLine::Runs(0),
+    ];
+    let rows: [(&[StoryLine], [u64; 4]); 5] = [
+        (&lines[..1], [4, 0, 1, 2]),
+        (&lines[..3], [4, 1, 1, 2]),
+        (&lines[..4], [5, 1, 1, 2]),
+        (&lines[..5], [5, 2, 1, 3]),
+        (&lines, [7, 2, 3, 3]),
+    ];
+    for (lines, words) in rows {
+        let Words {
+            lock: _,
+            head,
+            tail,
+            stamps,
+        } = words_of(rt.alloc(), RING, 2, lines)?;
+        assert_eq!(rt;
+            (tail, head, stamps.as_slice()),
+            (words[0], words[1], &words[2..])
+        );
+    }
+    Ok(())
+}
+
+/// What is told of a close after so many steps of a displacement.
+struct Closed {
+    name: &'static str,
+    steps: u64,
+    facts: &'static [Fact<'static>],
+}
+
+/// The replies to a forced push that the close comes before.
+const REFUSED: Fact<'static> = Fact::Replies(&[
+    (0, Reply::Push(Ok(()))),
+    (0, Reply::Push(Ok(()))),
+    (1, Reply::Close(true)),
+    (0, Reply::ForcePush(Err(ForcePushError::Closed(3)))),
+    (1, Reply::IsClosed(true)),
+]);
+
+/// The replies to one that the close comes within.
+const WITHIN: Fact<'static> = Fact::Replies(&[
+    (0, Reply::Push(Ok(()))),
+    (0, Reply::Push(Ok(()))),
+    (1, Reply::Close(true)),
+    (0, Reply::ForcePush(Ok(Some(1)))),
+    (1, Reply::IsClosed(true)),
+]);
+
+/// The replies to one that the close comes after.
+const ENDED: Fact<'static> = Fact::Replies(&[
+    (0, Reply::Push(Ok(()))),
+    (0, Reply::Push(Ok(()))),
+    (0, Reply::ForcePush(Ok(Some(1)))),
+    (1, Reply::Close(true)),
+    (1, Reply::IsClosed(true)),
+]);
+
+/// The effects where the close comes before the front is displaced.
+const BEFORE: Fact<'static> = Fact::Effects(&[
+    (0, EffectKind::Append),
+    (0, EffectKind::Append),
+    (1, EffectKind::Close),
+    (0, EffectKind::Front),
+    (0, EffectKind::Arrive),
+]);
+
+/// The effects where it comes after the arrival.
+const AFTER: Fact<'static> = Fact::Effects(&[
+    (0, EffectKind::Append),
+    (0, EffectKind::Append),
+    (0, EffectKind::Front),
+    (0, EffectKind::Arrive),
+    (1, EffectKind::Close),
+]);
+
+static CLOSES: [Closed; 6] = [
+    Closed {
+        name: "close before a displacement",
+        steps: 0,
+        facts: &[
+            Fact::Effects(&[
+                (0, EffectKind::Append),
+                (0, EffectKind::Append),
+                (1, EffectKind::Close),
+            ]),
+            REFUSED,
+            Fact::Left(&[1, 2]),
+        ],
+    },
+    Closed {
+        name: "close once a displacement has read the tail",
+        steps: 1,
+        facts: &[BEFORE, WITHIN, Fact::Left(&[2, 3])],
+    },
+    Closed {
+        name: "close before the front is displaced",
+        steps: 2,
+        facts: &[BEFORE, WITHIN, Fact::Left(&[2, 3])],
+    },
+    Closed {
+        name: "close between front and arrival",
+        steps: 3,
+        facts: &[
+            Fact::Effects(&[
+                (0, EffectKind::Append),
+                (0, EffectKind::Append),
+                (0, EffectKind::Front),
+                (1, EffectKind::Close),
+                (0, EffectKind::Arrive),
+            ]),
+            WITHIN,
+            Fact::Left(&[2, 3]),
+        ],
+    },
+    Closed {
+        name: "close after the arrival",
+        steps: 4,
+        facts: &[AFTER, WITHIN, Fact::Left(&[2, 3])],
+    },
+    Closed {
+        name: "close after a displacement",
+        steps: 5,
+        facts: &[AFTER, ENDED, Fact::Left(&[2, 3])],
+    },
+];
+
+/// A close before each step of a displacement, and after it.
+#[test]
+fn closes_at_each_step_of_a_displacement(rt: HostRuntime) -> Result<(), AllocError> {
+    for Closed { name, steps, facts } in CLOSES.iter() {
+        let lines = [
+            StoryLine::Pushes(0, 2),
+            StoryLine::Begins(0, Call::ForcePush(3)),
+            StoryLine::Steps(0, *steps),
+            StoryLine::Calls(1, Call::Close),
+            StoryLine::Runs(0),
+            StoryLine::Calls(1, Call::IsClosed),
+        ];
+        let run = Run {
+            name,
+            parties: 2,
+            lines: &lines,
+            facts,
+        };
+        is_told(&rt, rt.alloc(), RING, &run)?;
+    }
+    Ok(())
+}
+
+/// A capacity that no queue may have is want of memory.
+#[test]
+fn capacity_above_the_greatest(rt: HostRuntime) {
+    let alloc = rt.alloc();
+    let run = replay::<u64, Global>(alloc, Kind::Bounded(MAX_CAPACITY + 1), 1, Vec::new(alloc));
+    assert!(rt; run.is_err());
+}

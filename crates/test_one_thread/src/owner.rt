@@ -1,0 +1,10 @@
+//! Queues with one owner.
+pub mod chains;
+pub mod counted;
+pub mod errors;
+pub mod iterators;
+pub mod looks;
+pub mod one_slot;
+pub mod rings;
+pub mod rows;
+pub mod runs;

@@ -1,0 +1,346 @@
+//! Rings with one owner: replies from the table of the abstract queue, the ends of ranges, and want of memory.
+ghost use Rattle.std.specs.Prelude.{◌<◌};
+
+use crate::owner::counted::Counted;
+use crate::owner::rows::{Heap, Made, Story, StoryLine, are_refused, open, tell_all};
+use exclusive_queue::Exclusive;
+use exclusive_queue::errors::{ForcePushError, PopError, PushError};
+use queue_steps::model::{Call, Reply};
+use queue_steps::sizes::{LIMIT, MAX_CAPACITY};
+use std::alloc::{AllocError, Global};
+use std::cell::Cell;
+use std::process::Abort;
+use test_allocators::Refusal;
+
+#[test]
+fn first_in_first_out(rt: HostRuntime) {
+    let mut queue = Exclusive::bounded(rt.alloc(), 2).expect(&rt, "memory");
+    let pushed = [queue.push('a'), queue.push('b'), queue.push('c')];
+    let popped = [queue.pop(), queue.pop(), queue.pop()];
+    assert_eq!(rt;
+        (pushed, popped),
+        (
+            [Ok(()), Ok(()), Err(PushError::Full('c'))],
+            [Ok('a'), Ok('b'), Err(PopError::Empty)]
+        )
+    );
+}
+
+static STORIES: [Story<'static>; 9] = [
+    Story {
+        name: "displaced fronts",
+        refusal: Refusal::Never,
+        made: Made::Bounded(3),
+        lines: &[
+            StoryLine::Call(Call::ForcePush(1), Reply::ForcePush(Ok(None))),
+            StoryLine::Call(Call::ForcePush(2), Reply::ForcePush(Ok(None))),
+            StoryLine::Call(Call::ForcePush(3), Reply::ForcePush(Ok(None))),
+            StoryLine::Call(Call::Push(4), Reply::Push(Err(PushError::Full(4)))),
+            StoryLine::Call(Call::ForcePush(5), Reply::ForcePush(Ok(Some(1)))),
+            StoryLine::Call(Call::ForcePush(6), Reply::ForcePush(Ok(Some(2)))),
+            StoryLine::Call(Call::Close, Reply::Close(true)),
+            StoryLine::Call(
+                Call::ForcePush(7),
+                Reply::ForcePush(Err(ForcePushError::Closed(7))),
+            ),
+            StoryLine::Call(Call::Pop, Reply::Pop(Ok(3))),
+            StoryLine::Call(Call::Pop, Reply::Pop(Ok(5))),
+            StoryLine::Call(Call::Pop, Reply::Pop(Ok(6))),
+            StoryLine::Call(Call::Pop, Reply::Pop(Err(PopError::Closed))),
+        ],
+    },
+    Story {
+        name: "displaced fronts over laps",
+        refusal: Refusal::Never,
+        made: Made::Bounded(5),
+        lines: &[
+            StoryLine::Call(Call::ForcePush(1), Reply::ForcePush(Ok(None))),
+            StoryLine::Call(Call::ForcePush(2), Reply::ForcePush(Ok(None))),
+            StoryLine::Call(Call::ForcePush(3), Reply::ForcePush(Ok(None))),
+            StoryLine::Call(Call::ForcePush(4), Reply::ForcePush(Ok(None))),
+            StoryLine::Call(Call::ForcePush(5), Reply::ForcePush(Ok(None))),
+            StoryLine::Call(Call::ForcePush(6), Reply::ForcePush(Ok(Some(1)))),
+            StoryLine::Call(Call::ForcePush(7), Reply::ForcePush(Ok(Some(2)))),
+            StoryLine::Call(Call::ForcePush(8), Reply::ForcePush(Ok(Some(3)))),
+            StoryLine::Call(Call::ForcePush(9), Reply::ForcePush(Ok(Some(4)))),
+            StoryLine::Call(Call::ForcePush(10), Reply::ForcePush(Ok(Some(5)))),
+            StoryLine::Call(Call::Pop, Reply::Pop(Ok(6))),
+            StoryLine::Call(Call::ForcePush(11), Reply::ForcePush(Ok(None))),
+            StoryLine::Call(Call::ForcePush(12), Reply::ForcePush(Ok(Some(7)))),
+            StoryLine::Call(Call::ForcePush(13), Reply::ForcePush(Ok(Some(8)))),
+            StoryLine::Call(Call::ForcePush(14), Reply::ForcePush(Ok(Some(9)))),
+            StoryLine::Call(Call::ForcePush(15), Reply::ForcePush(Ok(Some(10)))),
+            StoryLine::Call(Call::Close, Reply::Close(true)),
+            StoryLine::Call(
+                Call::ForcePush(40),
+                Reply::ForcePush(Err(ForcePushError::Closed(40))),
+            ),
+            StoryLine::Call(Call::Pop, Reply::Pop(Ok(11))),
+            StoryLine::Call(Call::Pop, Reply::Pop(Ok(12))),
+            StoryLine::Call(Call::Pop, Reply::Pop(Ok(13))),
+            StoryLine::Call(Call::Pop, Reply::Pop(Ok(14))),
+            StoryLine::Call(Call::Pop, Reply::Pop(Ok(15))),
+            StoryLine::Call(Call::Pop, Reply::Pop(Err(PopError::Closed))),
+        ],
+    },
+    Story {
+        name: "looks at a full ring",
+        refusal: Refusal::Never,
+        made: Made::Bounded(2),
+        lines: &[
+            StoryLine::Call(Call::Push(1), Reply::Push(Ok(()))),
+            StoryLine::Call(Call::Push(2), Reply::Push(Ok(()))),
+            StoryLine::Call(Call::Len, Reply::Len(2)),
+            StoryLine::Call(Call::IsEmpty, Reply::IsEmpty(false)),
+            StoryLine::Call(Call::IsFull, Reply::IsFull(true)),
+            StoryLine::Call(Call::Pop, Reply::Pop(Ok(1))),
+            StoryLine::Call(Call::Len, Reply::Len(1)),
+            StoryLine::Call(Call::IsEmpty, Reply::IsEmpty(false)),
+            StoryLine::Call(Call::IsFull, Reply::IsFull(false)),
+        ],
+    },
+    // The last items that a queue accepts.
+    Story {
+        name: "last item",
+        refusal: Refusal::Never,
+        made: Made::BoundedAfter(2, LIMIT - 1),
+        lines: &[
+            StoryLine::Call(Call::Push(1), Reply::Push(Ok(()))),
+            StoryLine::Call(Call::Push(2), Reply::Push(Err(PushError::Closed(2)))),
+            StoryLine::Call(Call::IsClosed, Reply::IsClosed(true)),
+            StoryLine::Call(Call::Close, Reply::Close(false)),
+            StoryLine::Call(Call::Pop, Reply::Pop(Ok(1))),
+            StoryLine::Call(Call::Pop, Reply::Pop(Err(PopError::Closed))),
+        ],
+    },
+    Story {
+        name: "last two items",
+        refusal: Refusal::Never,
+        made: Made::BoundedAfter(2, LIMIT - 2),
+        lines: &[
+            StoryLine::Call(Call::Push(1), Reply::Push(Ok(()))),
+            StoryLine::Call(Call::Push(2), Reply::Push(Ok(()))),
+            StoryLine::Call(Call::Push(3), Reply::Push(Err(PushError::Closed(3)))),
+            StoryLine::Call(Call::Close, Reply::Close(false)),
+            StoryLine::Call(Call::Pop, Reply::Pop(Ok(1))),
+            StoryLine::Call(Call::Pop, Reply::Pop(Ok(2))),
+            StoryLine::Call(Call::Pop, Reply::Pop(Err(PopError::Closed))),
+        ],
+    },
+    Story {
+        name: "last two items, and a forced push",
+        refusal: Refusal::Never,
+        made: Made::BoundedAfter(2, LIMIT - 2),
+        lines: &[
+            StoryLine::Call(Call::Push(1), Reply::Push(Ok(()))),
+            StoryLine::Call(Call::Push(2), Reply::Push(Ok(()))),
+            StoryLine::Call(Call::IsClosed, Reply::IsClosed(false)),
+            StoryLine::Call(
+                Call::ForcePush(3),
+                Reply::ForcePush(Err(ForcePushError::Closed(3))),
+            ),
+            StoryLine::Call(Call::Len, Reply::Len(2)),
+        ],
+    },
+    Story {
+        name: "last two items, and a close",
+        refusal: Refusal::Never,
+        made: Made::BoundedAfter(2, LIMIT - 2),
+        lines: &[
+            StoryLine::Call(Call::Push(1), Reply::Push(Ok(()))),
+            StoryLine::Call(Call::Push(2), Reply::Push(Ok(()))),
+            StoryLine::Call(Call::Close, Reply::Close(true)),
+            StoryLine::Call(Call::Push(3), Reply::Push(Err(PushError::Closed(3)))),
+            StoryLine::Call(Call::Pop, Reply::Pop(Ok(1))),
+            StoryLine::Call(Call::Pop, Reply::Pop(Ok(2))),
+            StoryLine::Call(Call::Pop, Reply::Pop(Err(PopError::Closed))),
+        ],
+    },
+    Story {
+        name: "no item any more",
+        refusal: Refusal::Never,
+        made: Made::BoundedAfter(2, LIMIT),
+        lines: &[
+            StoryLine::Call(
+                Call::ForcePush(1),
+                Reply::ForcePush(Err(ForcePushError::Closed(1))),
+            ),
+            StoryLine::Call(Call::Close, Reply::Close(false)),
+            StoryLine::Call(Call::Pop, Reply::Pop(Err(PopError::Closed))),
+        ],
+    },
+    // No request comes after those of the constructor, which are four; two allocations stay.
+    Story {
+        name: "no request after the constructor",
+        refusal: Refusal::Nth(5),
+        made: Made::Bounded(3),
+        lines: &[
+            StoryLine::Forces(10),
+            StoryLine::Call(Call::Pop, Reply::Pop(Ok(7))),
+            StoryLine::Call(Call::Close, Reply::Close(true)),
+            StoryLine::Allocated(2, 4),
+        ],
+    },
+];
+
+#[test]
+fn stories_of_rings(rt: HostRuntime) {
+    tell_all(&rt, rt.alloc(), &STORIES);
+}
+
+#[test]
+fn capacities(rt: HostRuntime) {
+    for cap in 1..10usize {
+        assert_eq!(rt; open(&rt, rt.alloc(), Some(cap)).capacity(), Some(cap));
+    }
+}
+
+/// What is refused: the request, how the queue is to be made, and how many requests there are then.
+static REFUSED: [(&str, Refusal, Made, u64); 19] = [
+    // Without a request: a capacity above the greatest, and one whose slots are more bytes than one allocation may have.
+    (
+        "above the greatest",
+        Refusal::Never,
+        Made::Bounded(MAX_CAPACITY + 1),
+        0,
+    ),
+    (
+        "above the greatest, after 7",
+        Refusal::Never,
+        Made::BoundedAfter(MAX_CAPACITY + 1, 7),
+        0,
+    ),
+    (
+        "the greatest",
+        Refusal::Never,
+        Made::Bounded(MAX_CAPACITY),
+        0,
+    ),
+    (
+        "the greatest, after 7",
+        Refusal::Never,
+        Made::BoundedAfter(MAX_CAPACITY, 7),
+        0,
+    ),
+    (
+        "the last number",
+        Refusal::Never,
+        Made::Bounded(usize::MAX),
+        0,
+    ),
+    (
+        "the last number, after 7",
+        Refusal::Never,
+        Made::BoundedAfter(usize::MAX, 7),
+        0,
+    ),
+    // By the first request.
+    ("two slots", Refusal::Always, Made::Bounded(2), 1),
+    ("three slots", Refusal::Always, Made::Bounded(3), 1),
+    ("many slots", Refusal::Always, Made::Bounded(1 << 40), 1),
+    ("more slots", Refusal::Always, Made::Bounded(1 << 58), 1),
+    (
+        "more slots, after 7",
+        Refusal::Always,
+        Made::BoundedAfter(1 << 58, 7),
+        1,
+    ),
+    // A ring asks for its first slots and its first words, and for the two blocks that it keeps. Each request is refused in turn: no request comes after it.
+    (
+        "first request",
+        Refusal::Nth(1),
+        Made::BoundedAfter(3, 0),
+        1,
+    ),
+    (
+        "second request",
+        Refusal::Nth(2),
+        Made::BoundedAfter(3, 0),
+        2,
+    ),
+    (
+        "third request",
+        Refusal::Nth(3),
+        Made::BoundedAfter(3, 0),
+        3,
+    ),
+    (
+        "fourth request",
+        Refusal::Nth(4),
+        Made::BoundedAfter(3, 0),
+        4,
+    ),
+    (
+        "first request at the limit",
+        Refusal::Nth(1),
+        Made::BoundedAfter(3, LIMIT),
+        1,
+    ),
+    (
+        "second request at the limit",
+        Refusal::Nth(2),
+        Made::BoundedAfter(3, LIMIT),
+        2,
+    ),
+    (
+        "third request at the limit",
+        Refusal::Nth(3),
+        Made::BoundedAfter(3, LIMIT),
+        3,
+    ),
+    (
+        "fourth request at the limit",
+        Refusal::Nth(4),
+        Made::BoundedAfter(3, LIMIT),
+        4,
+    ),
+];
+
+/// No ring is made where a request is refused, and nothing stays allocated.
+#[test]
+fn refused_rings(rt: HostRuntime) {
+    are_refused(&rt, rt.alloc(), &REFUSED);
+}
+
+/// Whether a ring of so many slots for bytes is refused, from the beginning and as after some items, and how many requests there are then.
+fn refuses_bytes(alloc: Global, cap: usize) -> ([bool; 2], u64)
+    requires { 1 < cap }
+{
+    let heap = Heap::new(alloc, Refusal::Always);
+    let fresh: Result<Exclusive<u8, &Heap>, AllocError> = Exclusive::bounded(&heap, cap);
+    let later: Result<Exclusive<u8, &Heap>, AllocError> = Exclusive::bounded_after(&heap, cap, 7);
+    ([fresh.is_err(), later.is_err()], heap.requests())
+}
+
+/// The allocator is asked for each capacity up to the greatest, and for none above it.
+#[test]
+fn the_greatest_capacity_is_asked_for(rt: HostRuntime) {
+    for (cap, requests) in [
+        (1 << 40, 2),
+        (1 << 50, 2),
+        (MAX_CAPACITY, 2),
+        (MAX_CAPACITY + 1, 0),
+    ] {
+        let seen = refuses_bytes(rt.alloc(), cap);
+        assert_eq!(rt; seen, ([true, true], requests), "at {cap}");
+    }
+}
+
+/// Pushes five items by force into three slots, pops one and drops the queue. Gives how many were dropped after each.
+fn drops_of(rt: &impl Abort, alloc: Global) -> [u64; 3] {
+    let drops = Cell::new(0);
+    let mut queue = Exclusive::bounded(alloc, 3).expect(rt, "memory");
+    for _ in 0..5u64 {
+        let _ = queue.force_push(Counted::by(&drops));
+    }
+    let displaced = drops.get();
+    let _ = queue.pop();
+    let taken = drops.get();
+    drop(queue);
+    [displaced, taken, drops.get()]
+}
+
+#[test]
+fn drops_what_is_left(rt: HostRuntime) {
+    assert_eq!(rt; drops_of(&rt, rt.alloc()), [2, 3, 5]);
+}

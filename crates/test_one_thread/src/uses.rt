@@ -1,0 +1,3 @@
+//! Uses of queues with one owner.
+pub mod logs;
+pub mod pools;

@@ -1,0 +1,12 @@
+//! `queue_run`.
+pub mod channels;
+pub mod crew;
+pub mod meanwhile;
+pub mod program;
+pub mod refusals;
+pub mod replays;
+pub mod rows;
+pub mod scripts;
+pub mod streams;
+pub mod threads;
+pub mod unbounded;

@@ -1,0 +1,81 @@
+//! The end of the program: the arguments as the system gives them, and the status.
+use crate::command::rows::USAGE;
+use app_command::program::program;
+use std::env::Args;
+use std::io;
+use std::io::ErrorKind;
+use std::process::{Abort, ExitCode};
+use std::sync::Wait;
+use std::thread::Threads;
+use test_streams::runs::{End, words};
+
+/// Asserts that the program ends so on what it is given and this input.
+fn ends<R: Abort + Threads + Wait + Sync + AllocGlobal>(
+    rt: &R,
+    given: io::Result<Args>,
+    mut input: &[u8],
+    end: End<'_>,
+) {
+    let alloc = rt.alloc();
+    let mut output = Vec::new(alloc);
+    let mut faults = Vec::new(alloc);
+    let code = program(rt, &alloc, given, &mut input, &mut output, &mut faults);
+    assert_eq!(rt;
+        (code, output.as_slice(), faults.as_slice()),
+        (ExitCode::from(end.status), end.output, end.faults)
+    );
+}
+
+/// The words of a line, of which the first is the program's name, as the system gives them.
+fn given<R: Abort + AllocGlobal>(rt: &R, line: &str) -> Args {
+    let words = words(rt.alloc(), line).expect(rt, "memory for the arguments");
+    words.into_iter()
+}
+
+/// An input of one line.
+const INPUT: &[u8] = b"push 1\n";
+
+/// The status with which each line ends on that input, its output, and what is told of a fault. Five arguments are handed on, and one that is too many.
+static ENDS: [(&str, u8, &str, &str); 7] = [
+    ("queue_run script single", 0, "ok\nleft 1\n", ""),
+    (
+        "queue_run threads unbounded 2 2 50",
+        0,
+        "50 values, each counted 2 times\n",
+        "",
+    ),
+    ("queue_run threads unbounded 2 2 50 50", 2, "", USAGE),
+    ("queue_run", 2, "", USAGE),
+    ("", 2, "", USAGE),
+    ("queue_run replay single 1", 2, "", "line 1: unreadable\n"),
+    (
+        "queue_run script bounded:576460752303423489",
+        3,
+        "",
+        "no memory\n",
+    ),
+];
+
+#[test]
+fn each_end_has_its_status(rt: HostRuntime) {
+    for (line, status, output, faults) in ENDS.iter() {
+        let end = End {
+            status: *status,
+            output: output.as_bytes(),
+            faults: faults.as_bytes(),
+        };
+        ends(&rt, Ok(given(&rt, line)), INPUT, end);
+    }
+}
+
+#[test]
+fn arguments_without_memory_end_as_want_of_memory(rt: HostRuntime) {
+    let error = io::Error::from(ErrorKind::OutOfMemory);
+    ends(&rt, Err(error), INPUT, End::fault(3, "no memory\n"));
+}
+
+#[test]
+fn arguments_that_are_no_text_are_wrong(rt: HostRuntime) {
+    let error = io::Error::from(ErrorKind::InvalidData);
+    ends(&rt, Err(error), INPUT, End::fault(2, USAGE));
+}

@@ -1,0 +1,303 @@
+//! Rows of scripts, run through `command`.
+use crate::command::rows::{
+    AMPLE, FAILED_READS, Part, Room, all_unreadable, all_write, all_wrong, ends, ends_in, ends_on,
+    is, run_over, text_of,
+};
+use std::io;
+use std::io::{ErrorKind, Read, Write};
+use std::process::Abort;
+use std::sync::Wait;
+use std::thread::Threads;
+use test_streams::runs::End;
+
+/// The arguments of a script on a queue of one slot.
+pub const SINGLE: &str = "script single";
+
+static WRONG: [&str; 22] = [
+    "",
+    "script",
+    "script double",
+    "script Single",
+    "script bounded",
+    "script bounded:",
+    "script bounded:0",
+    "script bounded:01",
+    "script bounded:18446744073709551616",
+    "script single single",
+    "scripts single",
+    "replay",
+    "replay single",
+    "replay single 0",
+    "replay single 65",
+    "replay single 01",
+    "replay single two",
+    "replay single 18446744073709551617",
+    "replay bounded:0 1",
+    "replay single 1 1",
+    "script single 1",
+    "handshakes",
+];
+
+#[test]
+fn wrong_arguments_give_the_usage_text(rt: HostRuntime) {
+    all_wrong(&rt, &WRONG, b"pop\n");
+}
+
+static UNREADABLE: [(&[u8], &str); 20] = [
+    (b"push 07", "line 1: unreadable\n"),
+    (b"push 18446744073709551616\n", "line 1: unreadable\n"),
+    (b"push  1\n", "line 1: unreadable\n"),
+    (b" push 1\n", "line 1: unreadable\n"),
+    (b"pop\r\n", "line 1: unreadable\n"),
+    (b"force", "line 1: unreadable\n"),
+    (b"force ", "line 1: unreadable\n"),
+    (b"len ", "line 1: unreadable\n"),
+    (b"push +1\n", "line 1: unreadable\n"),
+    (b"push -1\n", "line 1: unreadable\n"),
+    (b"push 00\n", "line 1: unreadable\n"),
+    (b"push 1 \n", "line 1: unreadable\n"),
+    (b"Pop\n", "line 1: unreadable\n"),
+    (b"pop 1\n", "line 1: unreadable\n"),
+    (b"\n", "line 1: unreadable\n"),
+    (b"pop\n\n", "line 2: unreadable\n"),
+    (b"pop\n\npop\n", "line 2: unreadable\n"),
+    (b"pop\nlen\n\xff\n", "line 3: unreadable\n"),
+    (b"push 1\npush \xd9\xa1\nforce\n", "line 2: unreadable\n"),
+    (b"pop\0\n", "line 1: unreadable\n"),
+];
+
+#[test]
+fn the_first_unreadable_line_is_told(rt: HostRuntime) {
+    all_unreadable(&rt, SINGLE, &UNREADABLE);
+}
+
+static SCRIPTS: [(&str, &str); 8] = [
+    ("", "left\n"),
+    (
+        "push 18446744073709551615",
+        "ok\nleft 18446744073709551615\n",
+    ),
+    (
+        "push 1\npush 2\npop\nclose\npop\n",
+        "ok\nfull 2\nitem 1\ntrue\nclosed\nleft\n",
+    ),
+    (
+        "push 10\npush 20\nclose\npush 20\npop\npush 20\n",
+        "ok\nfull 20\ntrue\nclosed 20\nitem 10\nclosed 20\nleft\n",
+    ),
+    (
+        "force 10\nforce 20\nforce 30\nclose\nforce 40\npop\npop\n",
+        "ok\ndisplaced 10\ndisplaced 20\ntrue\nclosed 40\nitem 30\nclosed\nleft\n",
+    ),
+    (
+        "is_empty\nis_full\npush 7\nlen\nis_empty\nis_full\npop\nlen\nis_empty\nis_full\n",
+        "true\nfalse\nok\n1\nfalse\ntrue\nitem 7\n0\ntrue\nfalse\nleft\n",
+    ),
+    (
+        "push 8\npop\npop\nis_closed\nclose\nis_closed\nclose\n",
+        "ok\nitem 8\nempty\nfalse\ntrue\ntrue\nfalse\nleft\n",
+    ),
+    ("capacity\npush 0", "1\nok\nleft 0\n"),
+];
+
+#[test]
+fn scripts_print_the_replies_and_what_is_left(rt: HostRuntime) {
+    all_write(&rt, SINGLE, &SCRIPTS);
+    all_write(&rt, "script bounded:1", &SCRIPTS);
+}
+
+#[test]
+fn rings_are_run_by_their_capacity(rt: HostRuntime) {
+    ends(
+        &rt,
+        "script bounded:3",
+        b"force 1\nforce 2\nforce 3\npush 4\nforce 5\nforce 6\nclose\nforce 7\npop\npop\npop\n",
+        End::right(
+            "ok\nok\nok\nfull 4\ndisplaced 1\ndisplaced 2\ntrue\nclosed 7\nitem 3\nitem 5\nitem 6\nleft\n",
+        ),
+    );
+}
+
+#[test]
+fn a_capacity_past_the_longest_is_want_of_memory(rt: HostRuntime) {
+    ends(
+        &rt,
+        "script bounded:576460752303423489",
+        b"push 1\n",
+        End::fault(3, "no memory\n"),
+    );
+}
+
+/// Gives a few bytes, and fails so then.
+#[derive(Drop)]
+struct BrokenReader {
+    rest: &'static [u8],
+    kind: ErrorKind,
+}
+
+impl Read for BrokenReader {
+    fn read(&mut self, buf: &mut [u8]) -> io::Result<usize> {
+        if self.rest.is_empty() {
+            return Err(io::Error::from(self.kind));
+        }
+        self.rest.read(buf)
+    }
+}
+
+static STARTS: [&[u8]; 3] = [b"", b"push 1\npop\n", b"unreadable\n"];
+
+#[test]
+fn a_failed_read_prints_nothing(rt: HostRuntime) {
+    for (kind, fault) in FAILED_READS.iter() {
+        for start in STARTS.iter() {
+            let mut input = BrokenReader {
+                rest: start,
+                kind: *kind,
+            };
+            ends_on(&rt, SINGLE, &mut input, start, End::fault(3, fault));
+        }
+    }
+}
+
+/// Counts of what it takes only what was flushed.
+#[derive(Drop)]
+struct LateWriter {
+    taken: Vec<u8>,
+    flushed: usize,
+}
+
+impl LateWriter {
+    /// What was flushed.
+    fn flushed(&self) -> &[u8] {
+        &self.taken[..self.flushed.min(self.taken.len())]
+    }
+}
+
+impl Write for LateWriter {
+    fn write(&mut self, buf: &[u8]) -> io::Result<usize> {
+        self.taken.extend_from_slice(buf)?;
+        Ok(buf.len())
+    }
+
+    fn flush(&mut self) -> io::Result<()> {
+        self.flushed = self.taken.len();
+        Ok(())
+    }
+}
+
+/// Asserts that the program ends well on a line of arguments, and flushes this.
+fn flushes<R: Abort + Threads + Wait + Sync + AllocGlobal>(rt: &R, line: &str, flushed: &str) {
+    let alloc = rt.alloc();
+    let mut input: &[u8] = b"";
+    let mut output = LateWriter {
+        taken: Vec::new(alloc),
+        flushed: 0,
+    };
+    let mut faults = Vec::new(alloc);
+    let status = run_over(rt, &alloc, line, &mut input, &mut output, &mut faults);
+    let found = End {
+        status,
+        output: output.flushed(),
+        faults: faults.as_slice(),
+    };
+    is(rt, found, line, b"", End::right(flushed));
+}
+
+static FLUSHED: [(&str, &str); 4] = [
+    ("script single", "left\n"),
+    ("replay single 1", "left\n"),
+    ("threads single 1 1 2", "2 values, each counted 1 times\n"),
+    ("handshake", "both\n"),
+];
+
+#[test]
+fn all_output_is_flushed(rt: HostRuntime) {
+    for (line, output) in FLUSHED.iter() {
+        flushes(&rt, line, output);
+    }
+}
+
+/// Room for so many bytes, as on a full disk.
+fn room(bytes: usize) -> Room {
+    Room {
+        bytes,
+        kind: ErrorKind::StorageFull,
+    }
+}
+
+/// Asserts that a script whose output has too little room ends with the beginning that fits.
+fn fills<R: Abort + Threads + Wait + Sync + AllocGlobal>(
+    rt: &R,
+    input: &[u8],
+    output: &[u8],
+    bytes: usize,
+) {
+    let (begun, _) = output.split_at(bytes.min(output.len()));
+    let end = End {
+        status: 3,
+        output: begun,
+        faults: b"output failed\n",
+    };
+    ends_in(rt, SINGLE, input, room(bytes), AMPLE, end);
+}
+
+#[test]
+fn a_failed_write_leaves_a_beginning(rt: HostRuntime) {
+    let input = b"push 1\npush 2\npop\n";
+    let output = b"ok\nfull 2\nitem 1\nleft\n";
+    for room in 0..output.len() {
+        fills(&rt, input, output, room);
+    }
+}
+
+/// A script whose output is longer than two pieces.
+pub static LONG_SCRIPT: [Part<'static>; 2] = [
+    Part::Text("push 1\n"),
+    Part::Times(6_000, "push 18446744073709551615\n"),
+];
+
+/// Its output.
+pub static LONG_OUTPUT: [Part<'static>; 3] = [
+    Part::Text("ok\n"),
+    Part::Times(6_000, "full 18446744073709551615\n"),
+    Part::Text("left 1\n"),
+];
+
+/// The room of an output that fails on either side of a piece's end, or in the last piece.
+static ROOMS: [usize; 6] = [0, 65_535, 65_536, 65_537, 131_072, 150_000];
+
+#[test]
+fn a_failed_write_of_a_later_piece_leaves_a_beginning(rt: HostRuntime) {
+    let input = text_of(&rt, &LONG_SCRIPT);
+    let output = text_of(&rt, &LONG_OUTPUT);
+    for room in ROOMS.iter() {
+        fills(&rt, input.as_bytes(), output.as_bytes(), *room);
+    }
+}
+
+#[test]
+fn output_in_pieces_is_whole(rt: HostRuntime) {
+    let input = text_of(&rt, &LONG_SCRIPT);
+    let output = text_of(&rt, &LONG_OUTPUT);
+    let end = End::right(output.as_str());
+    ends_in(
+        &rt,
+        SINGLE,
+        input.as_bytes(),
+        room(output.len()),
+        AMPLE,
+        end,
+    );
+}
+
+#[test]
+fn a_fault_that_cannot_be_told_keeps_its_status(rt: HostRuntime) {
+    ends_in(
+        &rt,
+        SINGLE,
+        b"pop \n",
+        AMPLE,
+        room(4),
+        End::fault(2, "line"),
+    );
+}

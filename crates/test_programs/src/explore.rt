@@ -1,0 +1,7 @@
+//! `queue_explore`.
+pub mod commands;
+pub mod printing;
+pub mod reading;
+pub mod refusals;
+pub mod rows;
+pub mod streams;

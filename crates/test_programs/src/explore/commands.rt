@@ -1,0 +1,307 @@
+//! Rows of each form, run through `command`.
+use crate::explore::rows::{FaultRow, all_end_with_a_fault, all_print, all_wrong};
+use std::alloc::AllocError;
+use test_streams::runs::Row;
+
+/// A forced push to a full ring of two, beside two `len`s.
+const DISPLACEMENT: &str = "before: push 1; push 2\n0: force 3\n1: len; len\n";
+
+static LISTS: [Row; 3] = [
+    Row {
+        line: "bounded:2",
+        input: DISPLACEMENT,
+        output: "outcome 1 | 0: displaced 1 | 1: 1; 1 | left 2 3 | schedules 4 | steps 11 | order none\noutcome 2 | 0: displaced 1 | 1: 1; 2 | left 2 3 | schedules 60 | steps 11 | order none\noutcome 3 | 0: displaced 1 | 1: 2; 1 | left 2 3 | schedules 31 | steps 11 | order none\noutcome 4 | 0: displaced 1 | 1: 2; 2 | left 2 3 | schedules 682 | steps 11 | order 0 1 1\nall 4 outcomes, 777 schedules, longest lone call 5\n",
+    },
+    // A pop looks before the push, or behind it, or waits once between its two steps.
+    Row {
+        line: "single",
+        input: "0: pop\n1: push 1",
+        output: "outcome 1 | 0: empty | 1: ok | left 1 | schedules 1 | steps 3 | order 0 1\noutcome 2 | 0: item 1 | 1: ok | left | schedules 2 | steps 4 | order 1 0\nall 2 outcomes, 3 schedules, longest lone call 2\n",
+    },
+    Row {
+        line: "unbounded refuse",
+        input: "0: push 1\n",
+        output: "outcome 1 | 0: no memory 1 | left | schedules 1 | steps 3 | order 0\noutcome 2 | 0: ok | left 1 | schedules 1 | steps 7 | order 0\nall 2 outcomes, 2 schedules, longest lone call 7\n",
+    },
+];
+
+#[test]
+fn lists_of_all_outcomes(rt: HostRuntime) -> Result<(), AllocError> {
+    all_print(&rt, rt.alloc(), &LISTS)
+}
+
+static SCHEDULES: [Row; 3] = [
+    Row {
+        line: "bounded:2 schedule 1",
+        input: DISPLACEMENT,
+        output: "0 push 1\n0 run\n0 push 2\n0 run\n0 force 3\n0 step\n0 step\n0 step\n1 len\n1 run\n1 len\n1 run\n0 run\n",
+    },
+    Row {
+        line: "unbounded refuse schedule 1",
+        input: "0: push 1\n",
+        output: "0 push 1\n0 step\n0 step\n0 refuse\n",
+    },
+    Row {
+        line: "unbounded refuse schedule 2",
+        input: "0: push 1\n",
+        output: "0 push 1\n0 run\n",
+    },
+];
+
+#[test]
+fn schedules_are_lines_of_a_replay(rt: HostRuntime) -> Result<(), AllocError> {
+    all_print(&rt, rt.alloc(), &SCHEDULES)
+}
+
+static PICTURES: [Row; 8] = [
+    // The two `len`s between the front and the arrival.
+    Row {
+        line: "bounded:2 lanes 1",
+        input: DISPLACEMENT,
+        output: "\
+| 0                | 1                | list
+|                  |                  | 1 2
+| force 3          |                  | 1 2
+| B1               |                  | 1 2
+| B2               |                  | 1 2
+| F5 front         |                  | 2
+|                  | len              | 2
+|                  | L1               | 2
+|                  | L2               | 2
+|                  | L3 = 1           | 2
+|                  | len              | 2
+|                  | L1               | 2
+|                  | L2               | 2
+|                  | L3 = 1           | 2
+| F6 arrive        |                  | 2 3
+| F7 = displaced 1 |                  | 2 3
+",
+    },
+    // The two `len`s before the forced push.
+    Row {
+        line: "bounded:2 lanes 4",
+        input: DISPLACEMENT,
+        output: "\
+| 0                | 1                | list
+|                  |                  | 1 2
+|                  | len              | 1 2
+|                  | L1               | 1 2
+|                  | L2               | 1 2
+|                  | L3 = 2           | 1 2
+|                  | len              | 1 2
+|                  | L1               | 1 2
+|                  | L2               | 1 2
+|                  | L3 = 2           | 1 2
+| force 3          |                  | 1 2
+| B1               |                  | 1 2
+| B2               |                  | 1 2
+| F5 front         |                  | 2
+| F6 arrive        |                  | 2 3
+| F7 = displaced 1 |                  | 2 3
+",
+    },
+    Row {
+        line: "single lanes 1",
+        input: "0: push 1\n",
+        output: "\
+| 0         | list
+|           |
+| push 1    |
+| P1 append | 1
+| P2 = ok   | 1
+",
+    },
+    // A ring for one item is one slot.
+    Row {
+        line: "bounded:1 lanes 1",
+        input: "0: push 1\n",
+        output: "\
+| 0         | list
+|           |
+| push 1    |
+| P1 append | 1
+| P2 = ok   | 1
+",
+    },
+    // The push's request for a block is refused.
+    Row {
+        line: "unbounded refuse lanes 1",
+        input: "0: push 1\n",
+        output: "\
+| 0                        | list
+|                          |
+| push 1                   |
+| U1                       |
+| U2                       |
+| U3 refused = no memory 1 |
+",
+    },
+    // A call without steps begins and ends in one move.
+    Row {
+        line: "single lanes 1",
+        input: "before: push 5\n0: capacity\n",
+        output: "\
+| 0            | list
+|              | 5
+| capacity = 1 | 5
+",
+    },
+    // All columns are as wide as the widest cell of any party, be it of the last one.
+    Row {
+        line: "bounded:1 lanes 2",
+        input: "0: pop\n1: push 18446744073709551615\n",
+        output: "\
+| 0                              | 1                              | list
+|                                |                                |
+|                                | push 18446744073709551615      |
+|                                | P1 append                      | 18446744073709551615
+|                                | P2 = ok                        | 18446744073709551615
+| pop                            |                                | 18446744073709551615
+| O1 take                        |                                |
+| O2 = item 18446744073709551615 |                                |
+",
+    },
+    // An effect and a reply at once, and a reply alone.
+    Row {
+        line: "bounded:1 lanes 1",
+        input: "0: close; push 7\n",
+        output: "\
+| 0               | list
+|                 |
+| close           |
+| C1 close = true |
+| push 7          |
+| P1 = closed 7   |
+",
+    },
+];
+
+#[test]
+fn lanes_are_pictures_of_schedules(rt: HostRuntime) -> Result<(), AllocError> {
+    all_print(&rt, rt.alloc(), &PICTURES)
+}
+
+static NO_OUTCOMES: [FaultRow; 4] = [
+    FaultRow {
+        line: "bounded:2 schedule 5",
+        input: DISPLACEMENT,
+        status: 2,
+        fault: "no outcome 5\n",
+    },
+    FaultRow {
+        line: "bounded:2 schedule 18446744073709551615",
+        input: DISPLACEMENT,
+        status: 2,
+        fault: "no outcome 18446744073709551615\n",
+    },
+    FaultRow {
+        line: "bounded:2 lanes 5",
+        input: DISPLACEMENT,
+        status: 2,
+        fault: "no outcome 5\n",
+    },
+    FaultRow {
+        line: "single lanes 18446744073709551615",
+        input: "0: push 1\n",
+        status: 2,
+        fault: "no outcome 18446744073709551615\n",
+    },
+];
+
+#[test]
+fn outcomes_that_are_not_there(rt: HostRuntime) -> Result<(), AllocError> {
+    all_end_with_a_fault(&rt, rt.alloc(), &NO_OUTCOMES)
+}
+
+static UNREADABLE: [FaultRow; 6] = [
+    FaultRow {
+        line: "single",
+        input: "",
+        status: 2,
+        fault: "line 1: unreadable\n",
+    },
+    FaultRow {
+        line: "single",
+        input: "0:push 1\n",
+        status: 2,
+        fault: "line 1: unreadable\n",
+    },
+    FaultRow {
+        line: "single",
+        input: "before: push 1\n",
+        status: 2,
+        fault: "line 2: unreadable\n",
+    },
+    FaultRow {
+        line: "bounded:2",
+        input: "before: push 1\n0: pop\n2: pop\n",
+        status: 2,
+        fault: "line 3: unreadable\n",
+    },
+    FaultRow {
+        line: "unbounded refuse schedule 1",
+        input: "0: pop\n1: pop\n1: pop\n",
+        status: 2,
+        fault: "line 3: unreadable\n",
+    },
+    FaultRow {
+        line: "unbounded lanes 1",
+        input: "0: pop\n\n",
+        status: 2,
+        fault: "line 2: unreadable\n",
+    },
+];
+
+#[test]
+fn lines_that_are_unreadable(rt: HostRuntime) -> Result<(), AllocError> {
+    all_end_with_a_fault(&rt, rt.alloc(), &UNREADABLE)
+}
+
+static WRONG: [&str; 14] = [
+    "",
+    "double",
+    "bounded:0",
+    "single refuse",
+    "bounded:2 refuse lanes 1",
+    "single schedule",
+    "single schedule 0",
+    "single schedule 01",
+    "single schedule 18446744073709551616",
+    "single lanes",
+    "single lanes 0",
+    "single picture 1",
+    "single schedule 1 lanes 1",
+    "unbounded lanes 1 refuse",
+];
+
+#[test]
+fn wrong_arguments_give_the_usage_text(rt: HostRuntime) -> Result<(), AllocError> {
+    all_wrong(&rt, rt.alloc(), &WRONG, "0: pop\n")
+}
+
+/// No queue has more slots than 2^59.
+static TOO_MANY_SLOTS: [FaultRow; 3] = [
+    FaultRow {
+        line: "bounded:18446744073709551615",
+        input: "0: pop\n",
+        status: 3,
+        fault: "no memory\n",
+    },
+    FaultRow {
+        line: "bounded:576460752303423489 schedule 1",
+        input: "0: pop\n",
+        status: 3,
+        fault: "no memory\n",
+    },
+    FaultRow {
+        line: "bounded:18446744073709551615 lanes 1",
+        input: "0: pop\n",
+        status: 3,
+        fault: "no memory\n",
+    },
+];
+
+#[test]
+fn no_ring_of_too_many_slots(rt: HostRuntime) -> Result<(), AllocError> {
+    all_end_with_a_fault(&rt, rt.alloc(), &TOO_MANY_SLOTS)
+}

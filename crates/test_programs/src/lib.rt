@@ -1,0 +1,7 @@
+//! Tests of the two programs: what they are given, how they end, and what they write.
+#![tactic(auto)]
+
+#[cfg(test)]
+mod command;
+#[cfg(test)]
+mod explore;

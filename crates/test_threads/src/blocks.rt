@@ -1,0 +1,2 @@
+//! Webs of raw blocks.
+pub mod threads;

@@ -1,0 +1,5 @@
+//! Channels.
+pub mod memory;
+pub mod opening;
+pub mod rows;
+pub mod threads;

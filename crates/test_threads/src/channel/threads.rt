@@ -1,0 +1,105 @@
+//! Ends in threads of their own.
+ghost use Rattle.concurrent_queue.specs.Shared.{IsPartyOf};
+ghost use Rattle.counted_channel.specs.Channel.{IsEndOf};
+
+use crate::channel::opening::{Left, left, opened};
+use callers_channel::gather;
+use concurrent_queue::Party;
+use counted_channel::{Channel, Receiver, SendError, Sender};
+use std::alloc::Global;
+use std::process::Abort;
+use std::sync::Wait;
+use std::thread::{Threads, join};
+
+/// Sends 0, 1, .. up to 99, and ends. Gives its party, how many were sent, and whether each other one was answered that the channel is closed.
+fn send_hundred<R: Wait>(
+    rt: &R,
+    channel: &Channel<u64>,
+    mut sender: Sender<u64>,
+) -> (Party<u64>, u64, bool)
+    requires { IsEndOf sender channel.now }
+    ensures { IsPartyOf result.0 channel.now.queue }
+{
+    let mut sent: u64 = 0;
+    let mut right = true;
+    for item in 0..100u64 {
+        match channel.send(rt, &mut sender, item) {
+            Ok(()) => sent = sent.wrapping_add(1),
+            Err(why) => right = right && why == SendError::Closed(item),
+        }
+    }
+    (channel.end_sender(sender).0, sent, right)
+}
+
+/// Takes so many items, and ends. Gives its party, and how many came.
+fn take_some<R: Wait>(
+    rt: &R,
+    channel: &Channel<u64>,
+    mut receiver: Receiver<u64>,
+    most: u64,
+) -> (Party<u64>, u64)
+    requires { IsEndOf receiver channel.now }
+    ensures { IsPartyOf result.0 channel.now.queue }
+{
+    let mut taken: u64 = 0;
+    for _ in 0..most {
+        if channel.recv(rt, &mut receiver).is_ok() {
+            taken = taken.wrapping_add(1);
+        }
+    }
+    (channel.end_receiver(receiver).0, taken)
+}
+
+/// How many items two senders in threads of their own sent, whether each other one was answered `Closed`, how many a receiver took that ended after 50, and what is left.
+fn two_send<R: Threads + Wait + Abort + Sync>(
+    rt: &R,
+    alloc: Global,
+) -> (u64, bool, u64, Option<Left>) {
+    let Ok((channel, sender, receiver)) = opened(alloc, Some(400)) else {
+        panic!(rt; "no memory");
+    };
+    let Ok((one, two)) = channel.split_sender(sender) else {
+        panic!(rt; "no second sender");
+    };
+    let ((a, sent, right), ((b, more, right_too), (c, taken))) = join(
+        rt,
+        || send_hundred(rt, &channel, one),
+        || -> ((Party<u64>, u64, bool), (Party<u64>, u64))
+            requires { IsEndOf two channel × IsEndOf receiver channel }
+            ensures { IsPartyOf result.0.0 channel.queue × IsPartyOf result.1.0 channel.queue }
+        {
+            join(
+                rt,
+                || send_hundred(rt, &channel, two),
+                || take_some(rt, &channel, receiver, 50),
+            )
+        },
+    );
+    let all = channel.join(channel.join(a, b), c);
+    (
+        sent.wrapping_add(more),
+        right && right_too,
+        taken,
+        left(channel, Some(all)),
+    )
+}
+
+#[test]
+fn as_many_are_sent_as_are_taken_or_left(rt: HostRuntime) {
+    let (sent, right, taken, left) = two_send(&rt, rt.alloc());
+    let fits = match left {
+        Some((left, closed, ..)) => closed && sent == 50u64.wrapping_add(left as u64),
+        None => false,
+    };
+    assert!(rt; right && taken == 50 && fits);
+}
+
+#[test]
+fn all_that_two_threads_send_comes(rt: HostRuntime) {
+    for cap in [1usize, 3] {
+        let Ok(all) = gather(&rt, rt.alloc(), cap, 1000) else {
+            panic!(&rt; "no memory");
+        };
+        assert!(rt; (all.sent, all.came, all.left) == ((1000, 1000), 2000, 0));
+    }
+}

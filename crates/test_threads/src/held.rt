@@ -1,0 +1,4 @@
+//! Calls that are held between their steps.
+pub mod gates;
+pub mod stories;
+pub mod telling;

@@ -1,0 +1,13 @@
+//! Tests of what threads share: queues, calls that are held between their steps, channels, webs of raw blocks, and jobs.
+#![tactic(auto)]
+
+#[cfg(test)]
+mod shared;
+#[cfg(test)]
+mod held;
+#[cfg(test)]
+mod channel;
+#[cfg(test)]
+mod blocks;
+#[cfg(test)]
+mod uses;

@@ -1,0 +1,13 @@
+//! Queues that parties share.
+pub mod blocks;
+pub mod chains;
+pub mod dropped;
+pub mod drops;
+pub mod iterators;
+pub mod left;
+pub mod lengths;
+pub mod opening;
+pub mod refusals;
+pub mod rings;
+pub mod rows;
+pub mod threads;

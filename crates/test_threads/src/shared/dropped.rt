@@ -1,0 +1,160 @@
+//! Nothing is left of a queue without a capacity that is dropped, with its parties joined, kept or dropped before.
+ghost use Rattle.std.specs.Prelude.{◌≡◌, ◌<◌};
+ghost use Rattle.concurrent_queue.specs.Shared.{IsPartyOf};
+
+use crate::shared::blocks::Heap;
+use crate::shared::drops::{Counted, no_drops};
+use crate::shared::left::End;
+use crate::shared::opening::{end, part};
+use concurrent_queue::{ConcurrentQueue, Party};
+use std::alloc::Global;
+use std::process::Abort;
+use std::sync::atomic::{AtomicU64, Ordering};
+use std::sync::{Arc, Wait};
+use test_allocators::Refusal;
+
+/// A shared queue of items that count their drops, and whose requests are counted.
+type Counting<'a> = ConcurrentQueue<Counted, &'a Heap>;
+
+/// Pushes an item. Gives whether it was refused.
+fn is_refused<R: Wait>(
+    rt: &R,
+    queue: &Counting<'_>,
+    party: &mut Party<Counted>,
+    item: Counted,
+) -> bool
+    requires { IsPartyOf party.old queue.now }
+    ensures { IsPartyOf party.new queue.now }
+{
+    queue.push(rt, party, item).is_err()
+}
+
+/// Two parties push so many items each, in turn. Gives how many were refused.
+fn push_in_turn<R: Wait>(
+    rt: &R,
+    queue: &Counting<'_>,
+    first: &mut Party<Counted>,
+    second: &mut Party<Counted>,
+    drops: &Arc<AtomicU64>,
+    each: u64,
+) -> u64
+    requires { IsPartyOf first.old queue.now × IsPartyOf second.old queue.now }
+    ensures { IsPartyOf first.new queue.now × IsPartyOf second.new queue.now }
+{
+    let mut refused = 0u64;
+    for _ in 0..each {
+        if let Ok(item) = Counted::by(drops)
+            && is_refused(rt, queue, first, item)
+        {
+            refused = refused.wrapping_add(1);
+        }
+        if let Ok(item) = Counted::by(drops)
+            && is_refused(rt, queue, second, item)
+        {
+            refused = refused.wrapping_add(1);
+        }
+    }
+    refused
+}
+
+/// Pops so many items. Gives whether there were as many.
+fn pop_some<R: Wait>(rt: &R, queue: &Counting<'_>, party: &mut Party<Counted>, count: u64) -> bool
+    requires { IsPartyOf party.old queue.now }
+    ensures { IsPartyOf party.new queue.now }
+{
+    let mut right = true;
+    for _ in 0..count {
+        right = queue.pop(rt, party).is_ok() && right;
+    }
+    right
+}
+
+/// Drops a queue, with its parties joined, kept or dropped before.
+fn drop_all(rt: &impl Abort, queue: Counting<'_>, a: Party<Counted>, b: Party<Counted>, how: End)
+    requires { IsPartyOf a queue × IsPartyOf b queue }
+{
+    match how {
+        End::Joined => {
+            let whole = queue.join(a, b);
+            drop(end(rt, queue, whole));
+        }
+        End::Kept => {
+            drop(queue);
+            drop(a);
+            drop(b);
+        }
+        End::Dropped => {
+            drop(b);
+            drop(a);
+            drop(queue);
+        }
+    }
+}
+
+/// How many items each of two parties pushes, how many are popped then, and what becomes of the second party.
+#[derive(Clone, Copy, Debug)]
+struct Use {
+    each: u64,
+    popped: u64,
+    how: End,
+}
+
+/// Uses a queue and drops it, with its parties joined, kept or dropped before. Asserts that what was refused or popped was dropped before. Gives how many items there were: none where there was no memory for the queue.
+fn use_and_drop<R: Wait + Abort>(rt: &R, heap: &Heap, drops: &Arc<AtomicU64>, used: Use) -> u64 {
+    let Ok((queue, party)) = Counting::unbounded(heap) else {
+        return 0;
+    };
+    let (mut a, mut b) = part(rt, &queue, party);
+    let refused = push_in_turn(rt, &queue, &mut a, &mut b, drops, used.each);
+    let right = pop_some(rt, &queue, &mut b, used.popped);
+    assert_eq!(rt;
+        (right, drops.load(Ordering::SeqCst)),
+        (true, refused.wrapping_add(used.popped))
+    );
+    drop_all(rt, queue, a, b, used.how);
+    used.each.wrapping_mul(2)
+}
+
+/// How many items each of two parties pushes, and how many are popped. Of 200 none, some past a block, and all but one; of 126, behind which an empty block lies, none, one less than a block's, and all but one.
+static USES: [(u64, u64); 6] = [
+    (100, 0),
+    (100, 80),
+    (100, 199),
+    (63, 0),
+    (63, 62),
+    (63, 125),
+];
+
+/// Uses a queue and drops it, where the request of this number is refused. Asserts that each item is dropped once and nothing stays allocated.
+fn nothing_is_left<R: Wait + Abort>(rt: &R, alloc: Global, used: Use, refused: u64) {
+    let heap = Heap::new(alloc, Refusal::Nth(refused));
+    let drops = no_drops(rt, alloc);
+    let items = use_and_drop(rt, &heap, &drops, used);
+    let wanted = if refused == 1 {
+        0
+    } else {
+        used.each.wrapping_mul(2)
+    };
+    assert_eq!(rt;
+        [items, drops.load(Ordering::SeqCst), heap.live()],
+        [wanted, wanted, 0],
+        "{used:?}, request {refused} refused"
+    );
+}
+
+/// With none and each of the requests refused, which are one of the constructor and up to four of the pushes. Each item is dropped once and nothing stays allocated.
+#[test]
+fn nothing_is_left_of_a_dropped_queue(rt: HostRuntime) {
+    for how in [End::Joined, End::Kept, End::Dropped] {
+        for (each, popped) in USES.iter() {
+            let used = Use {
+                each: *each,
+                popped: *popped,
+                how,
+            };
+            for refused in 0..8u64 {
+                nothing_is_left(&rt, rt.alloc(), used, refused);
+            }
+        }
+    }
+}

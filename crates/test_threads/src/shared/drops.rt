@@ -1,0 +1,109 @@
+//! Every accepted item is dropped once.
+ghost use Rattle.std.specs.Prelude.{◌≡◌, ◌<◌};
+ghost use Rattle.concurrent_queue.specs.Shared.{IsPartyOf};
+
+use crate::shared::opening::{open_surely, part};
+use crate::shared::threads::{pop_one, push_one};
+use concurrent_queue::{ConcurrentQueue, Party};
+use std::alloc::{AllocError, Global};
+use std::process::Abort;
+use std::sync::atomic::{AtomicU64, Ordering};
+use std::sync::{Arc, Wait};
+use std::thread::{Threads, join};
+
+/// An item that counts its drop.
+pub(crate) struct Counted {
+    drops: Arc<AtomicU64>,
+}
+
+impl Counted {
+    /// An item whose drop is counted here.
+    pub(crate) fn by(drops: &Arc<AtomicU64>) -> Result<Counted, AllocError> {
+        Ok(Counted {
+            drops: drops.clone()?,
+        })
+    }
+}
+
+impl Drop for Counted {
+    fn drop(self) {
+        let Self { drops } = self;
+        drops.fetch_add(1, Ordering::SeqCst);
+    }
+}
+
+/// A count of drops, of which there were none. Asserts that there is memory.
+pub(crate) fn no_drops(rt: &impl Abort, alloc: Global) -> Arc<AtomicU64> {
+    match Arc::new(alloc, AtomicU64::new(0)) {
+        Ok(drops) => drops,
+        Err(_) => panic!(rt; "no memory"),
+    }
+}
+
+type Queue = ConcurrentQueue<Counted>;
+
+/// Pushes so many items.
+fn push_all<R: Wait>(
+    rt: &R,
+    queue: &Queue,
+    mut party: Party<Counted>,
+    drops: &Arc<AtomicU64>,
+    count: u64,
+) -> Party<Counted>
+    requires { IsPartyOf party queue.now }
+    ensures { IsPartyOf result queue.now }
+{
+    for _ in 0..count {
+        if let Ok(item) = Counted::by(drops) {
+            push_one(rt, queue, &mut party, item);
+        }
+    }
+    party
+}
+
+/// Pops so many items, and drops them.
+fn pop_all<R: Wait>(rt: &R, queue: &Queue, mut party: Party<Counted>, count: u64) -> Party<Counted>
+    requires { IsPartyOf party queue.now }
+    ensures { IsPartyOf result queue.now }
+{
+    for _ in 0..count {
+        drop(pop_one(rt, queue, &mut party));
+    }
+    party
+}
+
+/// Pops and drops so many items while another thread pushes them and as many more as are left in a queue of this capacity, or without one, and drops the queue.
+fn each_dropped_once<R: Wait + Threads + Sync + Abort>(
+    rt: &R,
+    alloc: Global,
+    cap: Option<usize>,
+    popped: u64,
+    left: u64,
+)
+    requires { (popped < 100000) × (left < 100000) }
+{
+    let drops = no_drops(rt, alloc);
+    let (queue, party) = open_surely(rt, alloc, cap);
+    let (a, b) = part(rt, &queue, party);
+    let (a, b) = join(
+        rt,
+        || push_all(rt, &queue, a, &drops, popped + left),
+        || pop_all(rt, &queue, b, popped),
+    );
+    let party = queue.join(a, b);
+    let shared = drops.load(Ordering::SeqCst);
+    drop(party);
+    let without_a_party = drops.load(Ordering::SeqCst);
+    drop(queue);
+    assert_eq!(rt;
+        [shared, without_a_party, drops.load(Ordering::SeqCst)],
+        [popped, popped, popped + left]
+    );
+}
+
+#[test]
+fn every_item_once(rt: HostRuntime) {
+    for (cap, left) in [(Some(1), 1), (Some(50), 20), (None, 77)] {
+        each_dropped_once(&rt, rt.alloc(), cap, 1000, left);
+    }
+}

@@ -1,0 +1,208 @@
+//! Iterators over shared queues, and what is printed of both.
+ghost use Rattle.concurrent_queue.specs.Shared.{IsPartyOf};
+
+use crate::shared::opening::{open_surely, part};
+use crate::shared::rows::Queue;
+use concurrent_queue::Party;
+use std::alloc::{AllocError, Global};
+use std::process::Abort;
+use std::sync::Wait;
+
+/// Pushes numbers from 1 on, and then pops as often as is said.
+fn fill<R: Wait>(rt: &R, queue: &Queue, party: &mut Party<u64>, pushes: u64, pops: u64)
+    requires { IsPartyOf party.old queue.now }
+    ensures { IsPartyOf party.new queue.now }
+{
+    for item in 0..pushes {
+        let _ = queue.push(rt, party, item.wrapping_add(1));
+    }
+    for _ in 0..pops {
+        let _ = queue.pop(rt, party);
+    }
+}
+
+/// Asks an iterator for four items.
+fn four<R: Wait>(rt: &R, queue: &Queue, party: &mut Party<u64>) -> [Option<u64>; 4]
+    requires { IsPartyOf party.old queue.now }
+    ensures { IsPartyOf party.new queue.now }
+{
+    let mut items = queue.try_iter(rt, party);
+    [items.next(), items.next(), items.next(), items.next()]
+}
+
+/// A capacity, and what an iterator gives that is asked four times once 1, 2, 3 were pushed.
+static WALKS: [(Option<usize>, &[Option<u64>]); 4] = [
+    (Some(5), &[Some(1), Some(2), Some(3), None]),
+    (Some(2), &[Some(1), Some(2), None, None]),
+    (Some(1), &[Some(1), None, None, None]),
+    (None, &[Some(1), Some(2), Some(3), None]),
+];
+
+/// Asks an iterator for four items once 1, 2, 3 were pushed, and then a new one once 4 was. Asserts what both give, that 4 is accepted, and that the queue is not closed.
+fn walks<R: Wait + Abort>(rt: &R, alloc: Global, cap: Option<usize>, expected: &[Option<u64>]) {
+    let (queue, mut party) = open_surely(rt, alloc, cap);
+    fill(rt, &queue, &mut party, 3, 0);
+    let first = four(rt, &queue, &mut party);
+    let pushed = queue.push(rt, &mut party, 4).is_ok();
+    let second = four(rt, &queue, &mut party);
+    let closed = queue.is_closed(&mut party);
+    assert_eq!(rt;
+        (&first[..], second, pushed, closed),
+        (expected, [Some(4), None, None, None], true, false)
+    );
+}
+
+/// After an iterator has ended the queue takes one more, which a new iterator gives.
+#[test]
+fn an_iterator_takes_from_the_front(rt: HostRuntime) {
+    for (cap, expected) in WALKS.iter() {
+        walks(&rt, rt.alloc(), *cap, expected);
+    }
+}
+
+/// Lets one party push between two items of the other's iterator. Gives what that gives.
+fn between<R: Wait + Abort>(rt: &R, alloc: Global, cap: Option<usize>) -> [Option<u64>; 3] {
+    let (queue, party) = open_surely(rt, alloc, cap);
+    let (mut first, mut second) = part(rt, &queue, party);
+    let mut items = queue.try_iter(rt, &mut second);
+    let none = items.next();
+    let _ = queue.push(rt, &mut first, 7);
+    [none, items.next(), items.next()]
+}
+
+/// It goes on after a `None`.
+#[test]
+fn an_iterator_gives_items_again(rt: HostRuntime) {
+    for cap in [Some(1), Some(2), None] {
+        let items = between(&rt, rt.alloc(), cap);
+        assert_eq!(rt; items, [None, Some(7), None]);
+    }
+}
+
+/// How many items are pushed and popped, whether the queue is closed then, and what is printed of it.
+struct Shown {
+    /// The capacity, if there is one.
+    cap: Option<usize>,
+    pushes: u64,
+    pops: u64,
+    closed: bool,
+    text: &'static str,
+}
+
+static SHOWN: [Shown; 11] = [
+    Shown {
+        cap: Some(2),
+        pushes: 1,
+        pops: 0,
+        closed: false,
+        text: "ConcurrentQueue { len: 1, capacity: Some(2), is_closed: false }",
+    },
+    Shown {
+        cap: Some(2),
+        pushes: 2,
+        pops: 1,
+        closed: true,
+        text: "ConcurrentQueue { len: 1, capacity: Some(2), is_closed: true }",
+    },
+    Shown {
+        cap: Some(300),
+        pushes: 250,
+        pops: 13,
+        closed: false,
+        text: "ConcurrentQueue { len: 237, capacity: Some(300), is_closed: false }",
+    },
+    Shown {
+        cap: Some(1),
+        pushes: 0,
+        pops: 0,
+        closed: false,
+        text: "ConcurrentQueue { len: 0, capacity: Some(1), is_closed: false }",
+    },
+    Shown {
+        cap: Some(1),
+        pushes: 1,
+        pops: 0,
+        closed: false,
+        text: "ConcurrentQueue { len: 1, capacity: Some(1), is_closed: false }",
+    },
+    Shown {
+        cap: Some(1),
+        pushes: 1,
+        pops: 0,
+        closed: true,
+        text: "ConcurrentQueue { len: 1, capacity: Some(1), is_closed: true }",
+    },
+    Shown {
+        cap: Some(1),
+        pushes: 1,
+        pops: 1,
+        closed: true,
+        text: "ConcurrentQueue { len: 0, capacity: Some(1), is_closed: true }",
+    },
+    Shown {
+        cap: None,
+        pushes: 0,
+        pops: 0,
+        closed: true,
+        text: "ConcurrentQueue { len: 0, capacity: None, is_closed: true }",
+    },
+    Shown {
+        cap: None,
+        pushes: 3,
+        pops: 1,
+        closed: false,
+        text: "ConcurrentQueue { len: 2, capacity: None, is_closed: false }",
+    },
+    Shown {
+        cap: None,
+        pushes: 63,
+        pops: 63,
+        closed: false,
+        text: "ConcurrentQueue { len: 0, capacity: None, is_closed: false }",
+    },
+    Shown {
+        cap: None,
+        pushes: 200,
+        pops: 70,
+        closed: false,
+        text: "ConcurrentQueue { len: 130, capacity: None, is_closed: false }",
+    },
+];
+
+/// A text, where there is memory for it.
+type Text = Result<String, AllocError>;
+
+/// What is printed of a queue, and of an iterator over it.
+fn printed<R: Wait>(rt: &R, alloc: Global, queue: &Queue, party: &mut Party<u64>) -> Text
+    requires { IsPartyOf party.old queue.now }
+{
+    let items = queue.try_iter(rt, party);
+    format!(in alloc; "{queue:?} {items:?}")
+}
+
+/// Asserts what is printed of a queue, and of an iterator over it.
+fn is_printed<R: Wait + Abort>(rt: &R, alloc: Global, shown: &Shown) {
+    let (queue, mut party) = open_surely(rt, alloc, shown.cap);
+    fill(rt, &queue, &mut party, shown.pushes, shown.pops);
+    if shown.closed {
+        queue.close(&mut party);
+    }
+    let text = shown.text;
+    let wanted = format!(in alloc; "{text} Iter({text})");
+    match (printed(rt, alloc, &queue, &mut party), wanted) {
+        (Ok(found), Ok(wanted)) => assert_eq!(rt; found.as_str(), wanted.as_str()),
+        _ => panic!(rt; "no memory"),
+    }
+}
+
+/// The same for each of these queues.
+fn each_is_printed<R: Wait + Abort>(rt: &R, alloc: Global, all: &[Shown]) {
+    for shown in all {
+        is_printed(rt, alloc, shown);
+    }
+}
+
+#[test]
+fn queues_and_iterators_are_printed(rt: HostRuntime) {
+    each_is_printed(&rt, rt.alloc(), &SHOWN);
+}

@@ -1,0 +1,371 @@
+//! Short stories with known replies, all on one thread, so that each waiting call is seen to return.
+ghost use Rattle.concurrent_queue.specs.Shared.{IsPartyOf};
+
+use crate::shared::opening::{end, open_surely, part, stay_shared};
+use concurrent_queue::{ConcurrentQueue, Exclusive, ForcePushError, Party, PopError, PushError};
+use mem_blocks::null_testable::NullTestable;
+use queue_steps::model::{Call, Reply};
+use std::alloc::{Allocator, Global};
+use std::process::Abort;
+use std::sync::Wait;
+
+pub(crate) type Queue = ConcurrentQueue<u64>;
+
+/// A call, and its reply.
+pub(crate) type Row = (Call<u64>, Reply<u64>);
+
+/// A line of a story: a call of one of two parties, with its reply.
+#[derive(Clone, Copy)]
+pub(crate) enum StoryLine {
+    First(Call<u64>, Reply<u64>),
+    Second(Call<u64>, Reply<u64>),
+    /// The two parties meet.
+    Meet,
+}
+
+/// The calls of a queue's only party.
+#[derive(Clone, Copy)]
+pub(crate) struct Solo<'a> {
+    /// The capacity, if there is one.
+    pub(crate) cap: Option<usize>,
+    pub(crate) rows: &'a [Row],
+    /// The items that are left, in their order.
+    pub(crate) left: &'a [u64],
+    /// Whether the queue is closed in the end.
+    pub(crate) closed: bool,
+}
+
+/// The calls of two parties.
+#[derive(Clone, Copy)]
+pub(crate) struct Duet<'a> {
+    /// The capacity, if there is one.
+    pub(crate) cap: Option<usize>,
+    pub(crate) lines: &'a [StoryLine],
+    /// The items that are left, in their order.
+    pub(crate) left: &'a [u64],
+    /// Whether the queue is closed in the end.
+    pub(crate) closed: bool,
+}
+
+/// Makes a call.
+fn answer<A: NullTestable, R: Wait>(
+    rt: &R,
+    queue: &ConcurrentQueue<u64, A>,
+    party: &mut Party<u64>,
+    call: Call<u64>,
+) -> Reply<u64>
+    requires { IsPartyOf party.old queue.now }
+    ensures { IsPartyOf party.new queue.now }
+{
+    match call {
+        Call::Push(value) => Reply::Push(queue.push(rt, party, value)),
+        Call::ForcePush(value) => Reply::ForcePush(queue.force_push(rt, party, value)),
+        Call::Pop => Reply::Pop(queue.pop(rt, party)),
+        Call::Close => Reply::Close(queue.close(party)),
+        Call::IsClosed => Reply::IsClosed(queue.is_closed(party)),
+        Call::IsEmpty => Reply::IsEmpty(queue.is_empty(party)),
+        Call::IsFull => Reply::IsFull(queue.is_full(party)),
+        Call::Len => Reply::Len(queue.len(rt, party)),
+        Call::Capacity => Reply::Capacity(queue.capacity()),
+    }
+}
+
+/// Makes a call, and asserts its reply.
+fn is_answered<A: NullTestable, R: Wait + Abort>(
+    rt: &R,
+    queue: &ConcurrentQueue<u64, A>,
+    party: &mut Party<u64>,
+    call: Call<u64>,
+    reply: Reply<u64>,
+)
+    requires { IsPartyOf party.old queue.now }
+    ensures { IsPartyOf party.new queue.now }
+{
+    assert_eq!(rt; answer(rt, queue, party, call), reply, "to {call:?}");
+}
+
+/// Pops so often as there are items here. Gives whether they came, in this order.
+fn gives<A: Allocator>(alone: &mut Exclusive<u64, A>, items: &[u64]) -> bool {
+    let mut right = true;
+    for item in items {
+        right = alone.pop() == Ok(*item) && right;
+    }
+    right
+}
+
+/// Pops from a queue that is no longer shared and has no item, and pushes. Gives whether the replies are those of a closed queue, or of an open one.
+fn has_ended<A: Allocator>(alone: &mut Exclusive<u64, A>, closed: bool) -> bool {
+    match (alone.pop(), alone.push(5)) {
+        (Err(PopError::Closed), Err(PushError::Closed(5))) => closed,
+        (Err(PopError::Empty), Ok(())) => !closed,
+        _ => false,
+    }
+}
+
+/// Asserts which items are in a queue that is no longer shared, in their order, and that it is closed or takes one more.
+pub(crate) fn is_left<A: Allocator>(
+    rt: &impl Abort,
+    alone: &mut Exclusive<u64, A>,
+    left: &[u64],
+    closed: bool,
+) {
+    let full = alone.capacity() == Some(left.len());
+    let len = alone.len();
+    let first = [alone.is_full(), alone.is_closed()];
+    let given = gives(alone, left);
+    let lens = [len, alone.len()];
+    let right = given && has_ended(alone, closed);
+    assert_eq!(rt;
+        (lens, first, right),
+        ([left.len(), 0], [full, closed], true)
+    );
+}
+
+/// Makes the calls of one party, and asserts each reply.
+fn are_answered<R: Wait + Abort>(rt: &R, queue: &Queue, party: &mut Party<u64>, rows: &[Row])
+    requires { IsPartyOf party.old queue.now }
+    ensures { IsPartyOf party.new queue.now }
+{
+    for (call, reply) in rows {
+        is_answered(rt, queue, party, *call, *reply);
+    }
+}
+
+/// Makes the calls of a queue's only party, and asserts each reply, and what is left.
+pub(crate) fn one_party<R: Wait + Abort>(rt: &R, alloc: Global, story: &Solo<'_>) {
+    let (queue, mut party) = open_surely(rt, alloc, story.cap);
+    are_answered(rt, &queue, &mut party, story.rows);
+    is_left(rt, &mut end(rt, queue, party), story.left, story.closed);
+}
+
+/// The same for each of these stories.
+pub(crate) fn each_of_one_party<R: Wait + Abort>(rt: &R, alloc: Global, stories: &[Solo<'_>]) {
+    for story in stories {
+        one_party(rt, alloc, story);
+    }
+}
+
+/// Makes the calls of two parties, and asserts each reply.
+fn both_are_answered<A: NullTestable, R: Wait + Abort>(
+    rt: &R,
+    queue: &ConcurrentQueue<u64, A>,
+    first: &mut Party<u64>,
+    second: &mut Party<u64>,
+    lines: &[StoryLine],
+)
+    requires { IsPartyOf first.old queue.now × IsPartyOf second.old queue.now }
+    ensures { IsPartyOf first.new queue.now × IsPartyOf second.new queue.now }
+{
+    for line in lines {
+        match *line {
+            StoryLine::First(call, reply) => is_answered(rt, queue, first, call, reply),
+            StoryLine::Second(call, reply) => is_answered(rt, queue, second, call, reply),
+            StoryLine::Meet => queue.meet(first, second),
+        }
+    }
+}
+
+/// Tells a story of two parties, of which neither can end the sharing until they are joined. Asserts each reply, and gives what is left.
+pub(crate) fn tell<A: NullTestable, R: Wait + Abort>(
+    rt: &R,
+    queue: ConcurrentQueue<u64, A>,
+    party: Party<u64>,
+    lines: &[StoryLine],
+) -> Exclusive<u64, A>
+    requires { IsPartyOf party queue }
+{
+    let (mut first, mut second) = part(rt, &queue, party);
+    both_are_answered(rt, &queue, &mut first, &mut second, lines);
+    let (queue, first) = stay_shared(rt, queue, first);
+    let whole = queue.join(first, second);
+    end(rt, queue, whole)
+}
+
+/// Tells a story of two parties, and asserts each reply, and what is left.
+fn two_parties<R: Wait + Abort>(rt: &R, alloc: Global, story: &Duet<'_>) {
+    let (queue, party) = open_surely(rt, alloc, story.cap);
+    let mut alone = tell(rt, queue, party, story.lines);
+    is_left(rt, &mut alone, story.left, story.closed);
+}
+
+/// The same for each of these stories.
+pub(crate) fn each_of_two_parties<R: Wait + Abort>(rt: &R, alloc: Global, stories: &[Duet<'_>]) {
+    for story in stories {
+        two_parties(rt, alloc, story);
+    }
+}
+
+/// The calls of the only party of a slot, what is left, and whether it is closed.
+static ONE_PARTY: [Solo; 4] = [
+    Solo {
+        cap: Some(1),
+        rows: &[
+            (Call::Push(10), Reply::Push(Ok(()))),
+            (Call::Push(20), Reply::Push(Err(PushError::Full(20)))),
+            (Call::Close, Reply::Close(true)),
+            (Call::Push(20), Reply::Push(Err(PushError::Closed(20)))),
+            (Call::Pop, Reply::Pop(Ok(10))),
+            (Call::Push(20), Reply::Push(Err(PushError::Closed(20)))),
+        ],
+        left: &[],
+        closed: true,
+    },
+    Solo {
+        cap: Some(1),
+        rows: &[
+            (Call::ForcePush(10), Reply::ForcePush(Ok(None))),
+            (Call::ForcePush(20), Reply::ForcePush(Ok(Some(10)))),
+            (Call::ForcePush(30), Reply::ForcePush(Ok(Some(20)))),
+            (Call::Close, Reply::Close(true)),
+            (
+                Call::ForcePush(40),
+                Reply::ForcePush(Err(ForcePushError::Closed(40))),
+            ),
+            (Call::Pop, Reply::Pop(Ok(30))),
+            (Call::Pop, Reply::Pop(Err(PopError::Closed))),
+        ],
+        left: &[],
+        closed: true,
+    },
+    Solo {
+        cap: Some(1),
+        rows: &[
+            (Call::Capacity, Reply::Capacity(Some(1))),
+            (Call::IsEmpty, Reply::IsEmpty(true)),
+            (Call::IsFull, Reply::IsFull(false)),
+            (Call::Push(7), Reply::Push(Ok(()))),
+            (Call::Len, Reply::Len(1)),
+            (Call::IsEmpty, Reply::IsEmpty(false)),
+            (Call::IsFull, Reply::IsFull(true)),
+            (Call::Pop, Reply::Pop(Ok(7))),
+            (Call::Len, Reply::Len(0)),
+            (Call::IsEmpty, Reply::IsEmpty(true)),
+            (Call::IsFull, Reply::IsFull(false)),
+            (Call::Push(8), Reply::Push(Ok(()))),
+            (Call::Pop, Reply::Pop(Ok(8))),
+            (Call::Pop, Reply::Pop(Err(PopError::Empty))),
+            (Call::IsClosed, Reply::IsClosed(false)),
+            (Call::Close, Reply::Close(true)),
+            (Call::IsClosed, Reply::IsClosed(true)),
+            (Call::Close, Reply::Close(false)),
+        ],
+        left: &[],
+        closed: true,
+    },
+    Solo {
+        cap: Some(1),
+        rows: &[(Call::Push(4), Reply::Push(Ok(())))],
+        left: &[4],
+        closed: false,
+    },
+];
+
+#[test]
+fn stories_of_one_party(rt: HostRuntime) {
+    each_of_one_party(&rt, rt.alloc(), &ONE_PARTY);
+}
+
+/// The lines of a story of two parties of a slot, what is left, and whether it is closed.
+static TWO_PARTIES: [Duet; 4] = [
+    Duet {
+        cap: Some(1),
+        lines: &[
+            StoryLine::First(Call::ForcePush(10), Reply::ForcePush(Ok(None))),
+            StoryLine::Meet,
+            StoryLine::Second(Call::IsEmpty, Reply::IsEmpty(false)),
+            StoryLine::Second(Call::IsFull, Reply::IsFull(true)),
+            StoryLine::Second(Call::Len, Reply::Len(1)),
+            StoryLine::Second(Call::ForcePush(20), Reply::ForcePush(Ok(Some(10)))),
+            StoryLine::Second(Call::Close, Reply::Close(true)),
+            StoryLine::Meet,
+            StoryLine::First(Call::Push(30), Reply::Push(Err(PushError::Closed(30)))),
+        ],
+        left: &[20],
+        closed: true,
+    },
+    Duet {
+        cap: Some(1),
+        lines: &[
+            StoryLine::First(Call::Push(5), Reply::Push(Ok(()))),
+            StoryLine::Meet,
+            StoryLine::Second(Call::IsEmpty, Reply::IsEmpty(false)),
+            StoryLine::Second(Call::Pop, Reply::Pop(Ok(5))),
+            StoryLine::Second(Call::IsEmpty, Reply::IsEmpty(true)),
+            StoryLine::First(Call::Push(6), Reply::Push(Ok(()))),
+            StoryLine::First(Call::Close, Reply::Close(true)),
+            StoryLine::Second(Call::Len, Reply::Len(1)),
+            StoryLine::Second(Call::IsEmpty, Reply::IsEmpty(false)),
+            StoryLine::Second(Call::IsClosed, Reply::IsClosed(true)),
+            StoryLine::Second(Call::Pop, Reply::Pop(Ok(6))),
+            StoryLine::Second(Call::Pop, Reply::Pop(Err(PopError::Closed))),
+        ],
+        left: &[],
+        closed: true,
+    },
+    Duet {
+        cap: Some(1),
+        lines: &[
+            StoryLine::Second(Call::IsEmpty, Reply::IsEmpty(true)),
+            StoryLine::First(Call::Push(1), Reply::Push(Ok(()))),
+            StoryLine::Second(Call::IsEmpty, Reply::IsEmpty(false)),
+            StoryLine::First(Call::Pop, Reply::Pop(Ok(1))),
+            StoryLine::Second(Call::IsFull, Reply::IsFull(false)),
+            StoryLine::First(Call::Push(2), Reply::Push(Ok(()))),
+            StoryLine::Second(Call::IsFull, Reply::IsFull(true)),
+            StoryLine::First(Call::Pop, Reply::Pop(Ok(2))),
+            StoryLine::Second(Call::Len, Reply::Len(0)),
+            StoryLine::First(Call::Push(3), Reply::Push(Ok(()))),
+            StoryLine::Second(Call::Len, Reply::Len(1)),
+            StoryLine::Second(Call::IsClosed, Reply::IsClosed(false)),
+            StoryLine::First(Call::Close, Reply::Close(true)),
+            StoryLine::Second(Call::IsClosed, Reply::IsClosed(true)),
+            StoryLine::Second(Call::Close, Reply::Close(false)),
+        ],
+        left: &[3],
+        closed: true,
+    },
+    Duet {
+        cap: Some(1),
+        lines: &[StoryLine::Second(Call::Push(1), Reply::Push(Ok(())))],
+        left: &[1],
+        closed: false,
+    },
+];
+
+#[test]
+fn stories_of_two_parties(rt: HostRuntime) {
+    each_of_two_parties(&rt, rt.alloc(), &TWO_PARTIES);
+}
+
+/// What the second party does before it is dropped, and what the first one's pop answers then.
+static DROPPED: [(Row, Result<u64, PopError>); 2] = [
+    (
+        (Call::Capacity, Reply::Capacity(Some(1))),
+        Err(PopError::Empty),
+    ),
+    ((Call::Push(1), Reply::Push(Ok(()))), Ok(1)),
+];
+
+/// Drops one of two parties after a call, without which the sharing does not end. Asserts that, the call's reply, and what the other party's pop answers.
+fn goes_on_with_one_dropped<R: Wait + Abort>(
+    rt: &R,
+    alloc: Global,
+    (call, reply): Row,
+    popped: Result<u64, PopError>,
+) {
+    let (queue, party) = open_surely(rt, alloc, Some(1));
+    let (first, mut second) = part(rt, &queue, party);
+    is_answered(rt, &queue, &mut second, call, reply);
+    drop(second);
+    let (queue, first) = stay_shared(rt, queue, first);
+    let (queue, mut first) = stay_shared(rt, queue, first);
+    is_answered(rt, &queue, &mut first, Call::Pop, Reply::Pop(popped));
+}
+
+/// A party that was dropped is missing for ever, whether or not it had pushed.
+#[test]
+fn not_finished_with_a_party_dropped(rt: HostRuntime) {
+    for (row, popped) in DROPPED.iter() {
+        goes_on_with_one_dropped(&rt, rt.alloc(), *row, *popped);
+    }
+}

@@ -1,0 +1,2 @@
+//! Uses of shared queues.
+pub mod jobs;
