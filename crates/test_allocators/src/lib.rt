@@ -1,14 +1,18 @@
-//! An allocator for tests, of one thread or of many: it counts what is asked of it and what is given back, refuses what it is told to refuse, and can hold a request.
+//! An allocator for tests, of one thread or of many: it counts what is asked of it and what is given back, refuses what it is told to refuse, and can hold a request. With it items that count their drops, and signs that threads show each other.
 #![tactic(auto)]
 
 ghost use Rattle.std.specs.Prelude.{◌≡◌};
 
+pub mod items;
+pub mod signs;
+
+use crate::signs::wait_for;
 use mem_blocks::null_testable::NullTestable;
-use std::alloc::{AllocError, Allocator, Layout};
+use std::alloc::{AllocError, Allocator, Global, Layout};
 use std::sync::atomic::{AtomicBool, AtomicU64, Ordering};
 
-/// How often a thread looks for another one's sign at most.
-const LOOKS: u64 = 1_000_000_000;
+/// Memory of which the requests are counted, and refused.
+pub type Heap = Refusing<Global>;
 
 /// Which requests are refused. The first request is number 1.
 #[derive(Clone, Copy)]
@@ -30,16 +34,6 @@ impl Refusal {
             Refusal::Nth(number) => number == request,
         }
     }
-}
-
-/// Waits for a sign, though not for ever. Gives whether it came.
-fn wait_for(sign: &AtomicBool) -> bool {
-    for _ in 0..LOOKS {
-        if sign.load(Ordering::SeqCst) {
-            return true;
-        }
-    }
-    false
 }
 
 /// How many allocations are live, and how many were at most at one time.

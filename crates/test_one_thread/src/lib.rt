@@ -2,10 +2,12 @@
 #![tactic(auto)]
 
 #[cfg(test)]
-mod owner;
+mod asserts;
+#[cfg(test)]
+mod blocks;
 #[cfg(test)]
 mod machine;
 #[cfg(test)]
-mod blocks;
+mod owner;
 #[cfg(test)]
 mod uses;

@@ -1,6 +1,5 @@
 //! Queues with one owner.
 pub mod chains;
-pub mod counted;
 pub mod errors;
 pub mod iterators;
 pub mod looks;

@@ -3,5 +3,4 @@ pub mod commands;
 pub mod printing;
 pub mod reading;
 pub mod refusals;
-pub mod rows;
 pub mod streams;

@@ -5,3 +5,9 @@
 mod command;
 #[cfg(test)]
 mod explore;
+#[cfg(test)]
+mod refusals;
+#[cfg(test)]
+mod runs;
+#[cfg(test)]
+mod streams;

@@ -1,4 +1,5 @@
-//! Runs of a program: what they are given, how they are to end, and what they wrote.
+//! Runs of a program: what they are given, and how they are to end.
+use crate::streams::{Flow, WHOLE, Writer};
 use std::alloc::{AllocError, Global};
 
 /// A run that ends well.
@@ -10,6 +11,24 @@ pub struct Row {
     /// Its whole output.
     pub output: &'static str,
 }
+
+/// How the three streams of a run move their bytes.
+#[derive(Clone, Copy)]
+pub struct Streams {
+    /// The input.
+    pub input: Flow,
+    /// The output.
+    pub output: Flow,
+    /// Where faults are told.
+    pub faults: Flow,
+}
+
+/// Streams that do not fail.
+pub const SOUND: Streams = Streams {
+    input: WHOLE,
+    output: WHOLE,
+    faults: WHOLE,
+};
 
 /// The status that a run ends with, and what it writes.
 #[derive(Clone, Copy, Debug, PartialEq)]
@@ -47,10 +66,10 @@ impl<'a> End<'a> {
 pub struct Outcome {
     /// The status.
     pub status: u8,
-    /// All that was written to the output.
-    pub output: Vec<u8>,
-    /// All that was told of a fault.
-    pub faults: Vec<u8>,
+    /// What took its output.
+    pub output: Writer,
+    /// What was told of a fault.
+    pub faults: Writer,
 }
 
 impl Outcome {
@@ -58,8 +77,8 @@ impl Outcome {
     pub fn end(&self) -> End<'_> {
         End {
             status: self.status,
-            output: self.output.as_slice(),
-            faults: self.faults.as_slice(),
+            output: self.output.taken(),
+            faults: self.faults.taken(),
         }
     }
 }

@@ -2,12 +2,20 @@
 #![tactic(auto)]
 
 #[cfg(test)]
-mod shared;
+mod asserts;
 #[cfg(test)]
-mod held;
+mod blocks;
+#[cfg(test)]
+mod calls;
 #[cfg(test)]
 mod channel;
 #[cfg(test)]
-mod blocks;
+mod crew;
+#[cfg(test)]
+mod held;
+#[cfg(test)]
+mod opening;
+#[cfg(test)]
+mod shared;
 #[cfg(test)]
 mod uses;

@@ -6,7 +6,6 @@ pub mod drops;
 pub mod iterators;
 pub mod left;
 pub mod lengths;
-pub mod opening;
 pub mod refusals;
 pub mod rings;
 pub mod rows;

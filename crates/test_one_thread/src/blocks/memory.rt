@@ -4,19 +4,17 @@ ghost use denote.RawPtr.{InBlock};
 ghost use Rattle.mem_blocks.specs.Seats.{Sits, Same};
 ghost use Rattle.mem_blocks.specs.Web.{AllVacant, alive_at};
 
+use crate::asserts::is;
 use mem_blocks::block::{BlockPtr, Loose};
 use mem_blocks::chain::Chain;
 use mem_blocks::hub::Hub;
 use mem_blocks::sizes::SLOTS;
 use mem_blocks::web::{Seat, Web};
 use std::alloc::{AllocError, Allocator, Global, Layout};
-use std::test::*;
-use test_allocators::{Refusal, Refusing};
+use std::process::Abort;
+use test_allocators::{Heap, Refusal};
 use test_closing::closing;
 use test_closing::closing_rule::{ClosingRule, Place, View};
-
-/// An allocator that counts and refuses.
-type Heap = Refusing<Global>;
 
 /// A slot that is too large for a block.
 type Huge = [u8; 0x8000_0000];
@@ -50,37 +48,26 @@ fn refuses_ends<S>(alloc: &&Heap) -> bool {
 }
 
 #[test]
-fn two_blocks_made_and_given_up(rt: HostRuntime) -> Result<(), Fail> {
+fn two_blocks_made_and_given_up(rt: HostRuntime) {
     let heap = Heap::new(rt.alloc(), Refusal::Never);
     let alloc = &heap;
-    let (link, block) = Loose::<u8, &Heap>::make(&alloc)?;
+    let (link, block) = Loose::<u8, &Heap>::make(&alloc).expect(&rt, "memory");
     let one = heap.live();
     let refused = refuses_block::<u8>(&alloc);
     let again = heap.live();
     block.give_up(&alloc, link);
-    assert_eq!(rt;
-        (
-            refused,
-            one,
-            again,
-            heap.live(),
-            heap.most(),
-            heap.requests()
-        ),
-        (false, 1, 1, 0, 2, 2)
-    );
-    Ok(())
+    let seen = [one, again, heap.live(), heap.most(), heap.requests()];
+    is(&rt, (refused, seen), (false, [1, 1, 0, 2, 2]));
 }
 
 #[test]
-fn both_ends_are_one_request(rt: HostRuntime) -> Result<(), Fail> {
+fn both_ends_are_one_request(rt: HostRuntime) {
     let heap = Heap::new(rt.alloc(), Refusal::Never);
     let alloc = &heap;
-    let (hub, link, tail, _, head) = Hub::<u8, &Heap>::make(&alloc)?;
+    let (hub, link, tail, _, head) = Hub::<u8, &Heap>::make(&alloc).expect(&rt, "memory");
     let made = heap.live();
     hub.give_up(&alloc, link, tail, head);
-    assert_eq!(rt; (made, heap.live(), heap.requests()), (1, 0, 1));
-    Ok(())
+    is(&rt, [made, heap.live(), heap.requests()], [1, 0, 1]);
 }
 
 /// Lays a block, writes a word and an item into it, and reads both. Gives them, and how many allocations live while the block lies there.
@@ -99,11 +86,11 @@ fn use_a_block<A: Allocator>(alloc: &A, heap: &Heap) -> Result<(u64, u8, u64), A
 }
 
 #[test]
-fn a_chain_keeps_words_items_and_its_block(rt: HostRuntime) -> Result<(), Fail> {
+fn a_chain_keeps_words_items_and_its_block(rt: HostRuntime) {
     let heap = Heap::new(rt.alloc(), Refusal::Never);
-    let seen = use_a_block(&&heap, &heap)?;
-    assert_eq!(rt; (seen, heap.live(), heap.requests()), ((9, 7, 1), 0, 1));
-    Ok(())
+    let seen = use_a_block(&&heap, &heap);
+    let seen = (seen, heap.live(), heap.requests());
+    is(&rt, seen, (Ok((9, 7, 1)), 0, 1));
 }
 
 /// Asks whether a queue is closed and closes it, and again by a party that is parted off and taken back. Gives what was answered.
@@ -125,18 +112,17 @@ fn close_twice<A: Allocator>(
 }
 
 #[test]
-fn a_closed_queue_gives_its_memory_back(rt: HostRuntime) -> Result<(), Fail> {
+fn a_closed_queue_gives_its_memory_back(rt: HostRuntime) {
     let heap = Heap::new(rt.alloc(), Refusal::Never);
     let alloc = &heap;
-    let (queue, mut seat, hub, tail, head) = closing::open::<u8, &Heap>(&alloc)?;
+    let (queue, mut seat, hub, tail, head) = closing::open::<u8, &Heap>(&alloc).expect(
+        &rt, "memory",
+    );
     let answers = close_twice(&queue, &mut seat, tail);
     let shared = heap.live();
     closing::end(queue, seat, hub, &alloc, tail, head);
-    assert_eq!(rt;
-        (answers, shared, heap.live(), heap.requests()),
-        ([false, true, false, true], 1, 0, 1)
-    );
-    Ok(())
+    is(&rt, answers, [false, true, false, true]);
+    is(&rt, [shared, heap.live(), heap.requests()], [1, 0, 1]);
 }
 
 #[test]
@@ -144,10 +130,8 @@ fn what_is_refused_leaves_nothing(rt: HostRuntime) {
     let heap = Heap::new(rt.alloc(), Refusal::Always);
     let alloc = &heap;
     let refused = [refuses_block::<u8>(&alloc), refuses_ends::<u8>(&alloc)];
-    assert_eq!(rt;
-        (refused, heap.live(), heap.requests()),
-        ([true, true], 0, 2)
-    );
+    let seen = (refused, heap.live(), heap.requests());
+    is(&rt, seen, ([true, true], 0, 2));
 }
 
 #[test]
@@ -155,10 +139,8 @@ fn huge_slots_are_refused_without_a_request(rt: HostRuntime) {
     let heap = Heap::new(rt.alloc(), Refusal::Never);
     let alloc = &heap;
     let refused = [refuses_block::<Huge>(&alloc), refuses_ends::<Huge>(&alloc)];
-    assert_eq!(rt;
-        (refused, heap.live(), heap.requests()),
-        ([true, true], 0, 0)
-    );
+    let seen = (refused, heap.live(), heap.requests());
+    is(&rt, seen, ([true, true], 0, 0));
 }
 
 /// Whether the request for a block of such slots, and that for both ends, are refused.
@@ -174,58 +156,52 @@ fn large_slots_are_asked_for(rt: HostRuntime) {
     let large = refuses_both::<Large>(&alloc);
     let before = heap.requests();
     let largest = refuses_both::<Largest>(&alloc);
-    assert_eq!(rt;
-        (large, before, largest, heap.requests()),
-        ([true, true], 2, [true, true], 4)
-    );
+    let seen = (large, before, largest, heap.requests());
+    is(&rt, seen, ([true, true], 2, [true, true], 4));
 }
 
 /// How many allocations of this layout live while there is a block of such slots, and how many of any layout; and how many of either once it is given up.
-fn counts_of<S>(alloc: Global, size: usize, align: usize) -> Result<[u64; 4], Fail> {
-    let heap = Heap::watching(alloc, Refusal::Never, Layout::from_size_align(size, align)?);
+fn counts_of<S>(rt: &impl Abort, alloc: Global, size: usize, align: usize) -> [u64; 4] {
+    let layout = Layout::from_size_align(size, align).expect(rt, "a layout");
+    let heap = Heap::watching(alloc, Refusal::Never, layout);
     let alloc = &heap;
-    let (link, block) = Loose::<S, &Heap>::make(&alloc)?;
-    let made = [heap.live_watched(), heap.live()];
+    let (link, block) = Loose::<S, &Heap>::make(&alloc).expect(rt, "memory");
+    let watched = heap.live_watched();
+    let live = heap.live();
     block.give_up(&alloc, link);
-    let [watched, live] = made;
-    Ok([watched, live, heap.live_watched(), heap.live()])
+    [watched, live, heap.live_watched(), heap.live()]
 }
 
 /// A block of slots that are aligned more strictly than its words goes back with the size and the alignment that it was asked for with.
 #[test]
-fn a_block_goes_back_as_it_came(rt: HostRuntime) -> Result<(), Fail> {
-    let of_words = counts_of::<u64>(rt.alloc(), 1016, 8)?;
-    let aligned = counts_of::<u128>(rt.alloc(), 1520, 16)?;
-    assert_eq!(rt; (of_words, aligned), ([1, 1, 0, 0], [1, 1, 0, 0]));
-    Ok(())
+fn a_block_goes_back_as_it_came(rt: HostRuntime) {
+    let of_words = counts_of::<u64>(&rt, rt.alloc(), 1016, 8);
+    let aligned = counts_of::<u128>(&rt, rt.alloc(), 1520, 16);
+    is(&rt, [of_words, aligned], [[1, 1, 0, 0]; 2]);
 }
 
 #[test]
-fn a_link_tells_whether_it_leads_anywhere(rt: HostRuntime) -> Result<(), Fail> {
+fn a_link_tells_whether_it_leads_anywhere(rt: HostRuntime) {
     let alloc: Global = rt.alloc();
-    let (link, block) = Loose::<u8, Global>::make_testable(&alloc)?;
+    let (link, block) = Loose::<u8, Global>::make_testable(&alloc).expect(&rt, "memory");
     let nowhere: BlockPtr<u8> = BlockPtr {
         ptr: std::ptr::null_mut(),
     };
     let leads = [link.get().is_some(), nowhere.get().is_some()];
     block.give_up(&alloc, link);
-    assert_eq!(rt; leads, [true, false]);
-    Ok(())
+    is(&rt, leads, [true, false]);
 }
 
 #[test]
-fn a_counted_block_tells_that_it_is_somewhere(rt: HostRuntime) -> Result<(), Fail> {
+fn a_counted_block_tells_that_it_is_somewhere(rt: HostRuntime) {
     let heap = Heap::new(rt.alloc(), Refusal::Never);
     let alloc = &heap;
-    let (link, block) = Loose::<u8, &Heap>::make_testable(&alloc)?;
+    let (link, block) = Loose::<u8, &Heap>::make_testable(&alloc).expect(&rt, "memory");
     let found = link.get().is_some();
     let made = heap.live();
     block.give_up(&alloc, link);
-    assert_eq!(rt;
-        (found, made, heap.live(), heap.requests()),
-        (true, 1, 0, 1)
-    );
-    Ok(())
+    let seen = [made, heap.live(), heap.requests()];
+    is(&rt, (found, seen), (true, [1, 0, 1]));
 }
 
 /// Lays two blocks, and lifts, gives up and forgets the first.
@@ -265,9 +241,9 @@ fn use_the_second<A: Allocator>(alloc: &A, heap: &Heap) -> Result<(u64, u64), Al
 
 /// The second of two blocks is the first, once the one before it is gone and forgotten.
 #[test]
-fn a_chain_forgets_a_block_that_is_gone(rt: HostRuntime) -> Result<(), Fail> {
+fn a_chain_forgets_a_block_that_is_gone(rt: HostRuntime) {
     let heap = Heap::new(rt.alloc(), Refusal::Never);
-    let seen = use_the_second(&&heap, &heap)?;
-    assert_eq!(rt; (seen, heap.live(), heap.requests()), ((9, 1), 0, 2));
-    Ok(())
+    let seen = use_the_second(&&heap, &heap);
+    let seen = (seen, heap.live(), heap.requests());
+    is(&rt, seen, (Ok((9, 1)), 0, 2));
 }

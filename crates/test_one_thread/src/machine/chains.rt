@@ -4,7 +4,6 @@ use machine_replay::types::EffectKind;
 use queue_steps::errors::{ForcePushError, PopError, PushError};
 use queue_steps::model::{Call, Reply};
 use queue_steps::steps::Kind;
-use std::alloc::AllocError;
 
 const ONE_TO_63: [u64; 63] = [
     1, 2, 3, 4, 5, 6, 7, 8, 9, 10, 11, 12, 13, 14, 15, 16, 17, 18, 19, 20, 21, 22, 23, 24, 25, 26,
@@ -190,14 +189,14 @@ static RUNS: [Run<'static>; 8] = [
 ];
 
 #[test]
-fn runs_on_a_chain(rt: HostRuntime) -> Result<(), AllocError> {
-    are_told(&rt, rt.alloc(), Kind::Unbounded, &RUNS)
+fn runs_on_a_chain(rt: HostRuntime) {
+    are_told(&rt, rt.alloc(), Kind::Unbounded, &RUNS);
 }
 
 /// The list that is left where calls are in the middle: a push that has claimed its place and not written it, one that moves the tail over a
 /// block's end, and a pop that has claimed an item and not read it.
 #[test]
-fn left_in_the_middle_of_calls(rt: HostRuntime) -> Result<(), AllocError> {
+fn left_in_the_middle_of_calls(rt: HostRuntime) {
     for (name, steps, left) in [
         ("left after 4 steps", 4, &TWO_TO_64[..62]),
         ("left after 5 steps", 5, &TWO_TO_64[..62]),
@@ -220,14 +219,13 @@ fn left_in_the_middle_of_calls(rt: HostRuntime) -> Result<(), AllocError> {
             lines: &lines,
             facts: &[Fact::Left(left)],
         };
-        is_told(&rt, rt.alloc(), Kind::Unbounded, &run)?;
+        is_told(&rt, rt.alloc(), Kind::Unbounded, &run);
     }
-    Ok(())
 }
 
 /// After each step of a pop of a block's last item the queue is empty exactly where its length is 0.
 #[test]
-fn empty_where_the_length_is_zero(rt: HostRuntime) -> Result<(), AllocError> {
+fn empty_where_the_length_is_zero(rt: HostRuntime) {
     for steps in 0..72u64 {
         let lines = [
             StoryLine::Pushes(0, 63),
@@ -247,9 +245,8 @@ fn empty_where_the_length_is_zero(rt: HostRuntime) -> Result<(), AllocError> {
             lines: &lines,
             facts: &[Fact::LastReplies(replied, &replies)],
         };
-        is_told(&rt, rt.alloc(), Kind::Unbounded, &run)?;
+        is_told(&rt, rt.alloc(), Kind::Unbounded, &run);
     }
-    Ok(())
 }
 
 /// The replies to two pushes whose blocks are refused and two whose blocks are granted.
@@ -262,7 +259,7 @@ static GRANTED: [(usize, Reply<u64>); 4] = [
 
 /// A request that is granted is never called refused: of a push and of a forced push, with nothing accepted and one item short of a block.
 #[test]
-fn granted_requests(rt: HostRuntime) -> Result<(), AllocError> {
+fn granted_requests(rt: HostRuntime) {
     for (name, accepted) in [
         ("granted: nothing accepted", 0u64),
         ("granted: an item short of a block", 62),
@@ -285,7 +282,6 @@ fn granted_requests(rt: HostRuntime) -> Result<(), AllocError> {
             lines: &lines,
             facts: &[Fact::LastReplies(accepted as usize, &GRANTED)],
         };
-        is_told(&rt, rt.alloc(), Kind::Unbounded, &run)?;
+        is_told(&rt, rt.alloc(), Kind::Unbounded, &run);
     }
-    Ok(())
 }

@@ -1,14 +1,16 @@
 //! Runs on a ring of two slots, with calls that go on within each other.
-use crate::machine::script::{Fact, Run, StoryLine, are_told, is_told, words_of};
-use machine_replay::replay;
+use crate::asserts::is;
+use crate::machine::refusals::capacity_is_refused;
+use crate::machine::script::{Fact, Run, StoryLine, are_told, events_of, is_told};
 use machine_replay::types::EffectKind;
-use machine_replay::words::Words;
+use machine_replay::words::{Words, words_after};
 use queue_steps::errors::{ForcePushError, PopError, PushError};
 use queue_steps::model::{Call, Reply};
 use queue_steps::sizes::MAX_CAPACITY;
 use queue_steps::steps::Kind;
-use std::alloc::{AllocError, Global};
-use std::test::Fail;
+use std::alloc::Global;
+use std::process::Abort;
+use test_allocators::Refusal;
 
 const RING: Kind = Kind::Bounded(2);
 
@@ -196,13 +198,26 @@ static RUNS: [Run<'static>; 10] = [
 ];
 
 #[test]
-fn runs_on_two_slots(rt: HostRuntime) -> Result<(), AllocError> {
-    are_told(&rt, rt.alloc(), RING, &RUNS)
+fn runs_on_two_slots(rt: HostRuntime) {
+    are_told(&rt, rt.alloc(), RING, &RUNS);
 }
 
-/// The tail, the head and the stamps on the way through a displacement: the tail is twice the position, and one more once the queue is closed.
+/// Asserts the tail, the head and both stamps after these lines.
+fn has_words(rt: &impl Abort, alloc: Global, lines: &[StoryLine], words: &[u64; 4]) {
+    let events = events_of(rt, alloc, lines);
+    let Words {
+        lock: _,
+        head,
+        tail,
+        stamps,
+    } = words_after(alloc, RING, 2, events).expect(rt, "memory");
+    let found = (tail, head, stamps.as_slice());
+    is(rt, found, (words[0], words[1], &words[2..]));
+}
+
+/// The words on the way through a displacement: the tail is twice the position, and one more once the queue is closed.
 #[test]
-fn words_within_a_displacement(rt: HostRuntime) -> Result<(), Fail> {
+fn words_within_a_displacement(rt: HostRuntime) {
     let lines = [
         StoryLine::Pushes(0, 2),
         StoryLine::Begins(0, Call::ForcePush(3)),
@@ -219,19 +234,9 @@ fn words_within_a_displacement(rt: HostRuntime) -> Result<(), Fail> {
         (&lines[..5], [5, 2, 1, 3]),
         (&lines, [7, 2, 3, 3]),
     ];
-    for (lines, words) in rows {
-        let Words {
-            lock: _,
-            head,
-            tail,
-            stamps,
-        } = words_of(rt.alloc(), RING, 2, lines)?;
-        assert_eq!(rt;
-            (tail, head, stamps.as_slice()),
-            (words[0], words[1], &words[2..])
-        );
+    for (lines, words) in &rows {
+        has_words(&rt, rt.alloc(), lines, words);
     }
-    Ok(())
 }
 
 /// What is told of a close after so many steps of a displacement.
@@ -339,7 +344,7 @@ static CLOSES: [Closed; 6] = [
 
 /// A close before each step of a displacement, and after it.
 #[test]
-fn closes_at_each_step_of_a_displacement(rt: HostRuntime) -> Result<(), AllocError> {
+fn closes_at_each_step_of_a_displacement(rt: HostRuntime) {
     for Closed { name, steps, facts } in CLOSES.iter() {
         let lines = [
             StoryLine::Pushes(0, 2),
@@ -355,15 +360,12 @@ fn closes_at_each_step_of_a_displacement(rt: HostRuntime) -> Result<(), AllocErr
             lines: &lines,
             facts,
         };
-        is_told(&rt, rt.alloc(), RING, &run)?;
+        is_told(&rt, rt.alloc(), RING, &run);
     }
-    Ok(())
 }
 
 /// A capacity that no queue may have is want of memory.
 #[test]
 fn capacity_above_the_greatest(rt: HostRuntime) {
-    let alloc = rt.alloc();
-    let run = replay::<u64, Global>(alloc, Kind::Bounded(MAX_CAPACITY + 1), 1, Vec::new(alloc));
-    assert!(rt; run.is_err());
+    capacity_is_refused(&rt, rt.alloc(), Refusal::Never, MAX_CAPACITY + 1, 0);
 }

@@ -3,7 +3,6 @@ use crate::machine::script::{Fact, Run, StoryLine, are_told};
 use machine_replay::types::EffectKind;
 use queue_steps::model::Call;
 use queue_steps::steps::Kind;
-use std::alloc::AllocError;
 
 static RUNS: [Run<'static>; 14] = [
     // After an append that is not yet written, in each slot.
@@ -206,6 +205,6 @@ static RUNS: [Run<'static>; 14] = [
 ];
 
 #[test]
-fn runs_on_three_slots(rt: HostRuntime) -> Result<(), AllocError> {
-    are_told(&rt, rt.alloc(), Kind::Bounded(3), &RUNS)
+fn runs_on_three_slots(rt: HostRuntime) {
+    are_told(&rt, rt.alloc(), Kind::Bounded(3), &RUNS);
 }

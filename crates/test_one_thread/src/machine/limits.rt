@@ -1,6 +1,7 @@
 //! What a push does next that reads a tail at the limit, where no run of the machine gets to.
 ghost use Rattle.queue_steps.specs.Words.{IsWord};
 
+use crate::asserts::is;
 use queue_steps::errors::{ForcePushError, PushError};
 use queue_steps::model::Reply;
 use queue_steps::sizes::{BLOCK_POSITIONS, BLOCK_SLOTS, LIMIT};
@@ -63,14 +64,9 @@ fn a_tail_at_the_limit(rt: HostRuntime) {
         let closed_there = once_read(push, RING_END + 1, CHAIN_END + 1);
         let one_before = once_read(push, RING_END - 2, CHAIN_END - 2);
         let then = once_closed(push, RING_END, CHAIN_END);
-        assert_eq!(rt;
-            (at_the_limit, closed_there, one_before, then),
-            (
-                [AtLimit::ClosesTheQueue; 3],
-                [AtLimit::IsAnsweredClosed; 3],
-                [AtLimit::GoesOn; 3],
-                [AtLimit::IsAnsweredClosed; 3]
-            )
-        );
+        is(&rt, at_the_limit, [AtLimit::ClosesTheQueue; 3]);
+        is(&rt, closed_there, [AtLimit::IsAnsweredClosed; 3]);
+        is(&rt, one_before, [AtLimit::GoesOn; 3]);
+        is(&rt, then, [AtLimit::IsAnsweredClosed; 3]);
     }
 }

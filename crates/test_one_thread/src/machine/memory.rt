@@ -1,15 +1,16 @@
 //! The blocks of runs on a chain, by an allocator that tells them from lists by their layout.
+use crate::asserts::is_in;
 use crate::machine::refusals::run;
-use crate::machine::script::{Script, StoryLine};
+use crate::machine::script::{StoryLine, events_of};
 use machine_replay::blocks::Place;
 use machine_replay::types::Peak;
 use machine_replay::words::machine_after;
 use queue_steps::model::Call;
 use queue_steps::sizes::BLOCK_SLOTS;
 use queue_steps::steps::Kind;
-use std::alloc::{Global, Layout, LayoutError};
-use std::test::Fail;
-use test_allocators::{Refusal, Refusing};
+use std::alloc::{Global, Layout};
+use std::process::Abort;
+use test_allocators::{Heap, Refusal};
 
 /// The lists of a machine: its calls and its blocks.
 const MACHINE_LISTS: u64 = 2;
@@ -18,9 +19,9 @@ const MACHINE_LISTS: u64 = 2;
 const RUN_LISTS: u64 = MACHINE_LISTS + 5;
 
 /// Counts the places of a block apart, which are its one allocation.
-fn counting(alloc: Global) -> Result<Refusing<Global>, LayoutError> {
-    let places = Layout::array::<Place<u64>>(BLOCK_SLOTS as usize)?;
-    Ok(Refusing::watching(alloc, Refusal::Never, places))
+fn counting(rt: &impl Abort, alloc: Global) -> Heap {
+    let places = Layout::array::<Place<u64>>(BLOCK_SLOTS as usize).expect(rt, "a layout");
+    Heap::watching(alloc, Refusal::Never, places)
 }
 
 /// A run of up to three parties, and the blocks that it takes.
@@ -36,10 +37,10 @@ struct Row<'a> {
 }
 
 /// What is counted of a run.
-#[derive(Debug, Drop, PartialEq)]
+#[derive(Clone, Copy, Debug, PartialEq)]
 struct Memory {
     /// What the run tells of its blocks.
-    peak: Peak,
+    peak: Option<Peak>,
     /// How many blocks there were at most at one time, how many allocations, and how many requests.
     most_blocks: u64,
     most: u64,
@@ -48,36 +49,29 @@ struct Memory {
     live: u64,
 }
 
-impl Row<'_> {
-    /// What is to be counted: nothing but the lists and the blocks is asked for.
-    fn expected(&self) -> Memory {
-        Memory {
-            peak: Peak {
-                blocks: self.blocks as usize,
-                bound: self.bound,
-            },
-            most_blocks: self.blocks,
-            most: self.blocks.wrapping_add(RUN_LISTS),
-            requests: self.granted.wrapping_add(RUN_LISTS),
-            live: 0,
-        }
-    }
-
-    /// What is counted.
-    fn counted(&self, alloc: Global) -> Result<Memory, Fail> {
-        let Script { events } = Script::of(alloc, self.lines)?;
-        let heap = counting(alloc)?;
-        let told = run(&heap, Kind::Unbounded, 3, events.as_slice())?;
-        let peak = told.peak;
-        drop(told);
-        Ok(Memory {
-            peak,
-            most_blocks: heap.most_watched(),
-            most: heap.most(),
-            requests: heap.requests(),
-            live: heap.live(),
-        })
-    }
+/// Asserts what is counted of a run: nothing but the lists and the blocks is asked for.
+fn is_counted(rt: &impl Abort, alloc: Global, row: &Row<'_>) {
+    let events = events_of(rt, alloc, row.lines);
+    let heap = counting(rt, alloc);
+    let told = run(&heap, Kind::Unbounded, 3, &events);
+    let counted = Memory {
+        peak: told.map(|(_, peak)| peak),
+        most_blocks: heap.most_watched(),
+        most: heap.most(),
+        requests: heap.requests(),
+        live: heap.live(),
+    };
+    let wanted = Memory {
+        peak: Some(Peak {
+            blocks: row.blocks as usize,
+            bound: row.bound,
+        }),
+        most_blocks: row.blocks,
+        most: row.blocks.wrapping_add(RUN_LISTS),
+        requests: row.granted.wrapping_add(RUN_LISTS),
+        live: 0,
+    };
+    is_in(rt, row.name, counted, wanted);
 }
 
 /// A pop of the first of 63 items that stops once it has claimed it, while another party takes all others; and then the pop goes on.
@@ -217,34 +211,33 @@ static ROWS: [Row<'static>; 13] = [
 ];
 
 #[test]
-fn blocks_are_those_that_are_allocated(rt: HostRuntime) -> Result<(), Fail> {
+fn blocks_are_those_that_are_allocated(rt: HostRuntime) {
     for row in ROWS.iter() {
-        assert_eq!(rt; row.counted(rt.alloc())?, row.expected(), "{}", row.name);
+        is_counted(&rt, rt.alloc(), row);
     }
-    Ok(())
 }
 
 /// How many blocks live in the machine after these lines, and how many allocations in all; and how many once it is dropped.
-fn lives_after(alloc: Global, lines: &[StoryLine]) -> Result<(u64, u64, u64), Fail> {
-    let Script { events } = Script::of(alloc, lines)?;
-    let heap = counting(alloc)?;
-    let machine = machine_after(&heap, Kind::Unbounded, 2, events.to_vec(&heap)?)?;
+fn lives_after(rt: &impl Abort, alloc: Global, lines: &[StoryLine]) -> (u64, u64, u64) {
+    let events = events_of(rt, alloc, lines);
+    let heap = counting(rt, alloc);
+    let events = events.to_vec(&heap).expect(rt, "memory");
+    let machine = machine_after(&heap, Kind::Unbounded, 2, events).expect(rt, "memory");
     let blocks = heap.live_watched();
     let all = heap.live();
     drop(machine);
-    Ok((blocks, all, heap.live()))
+    (blocks, all, heap.live())
 }
 
 /// A block that all others have passed stays while its last reader has not read, and this reader gives it up: one block is left then.
 #[test]
-fn one_block_is_left(rt: HostRuntime) -> Result<(), Fail> {
+fn one_block_is_left(rt: HostRuntime) {
     for (name, lines, blocks) in [
         ("idle", &[StoryLine::Steps(0, 3)][..], 0u64),
         ("last reader stopped", &READING[..4], 2),
         ("last reader gone", &READING[..], 1),
     ] {
         let wanted = (blocks, blocks.wrapping_add(MACHINE_LISTS), 0);
-        assert_eq!(rt; lives_after(rt.alloc(), lines)?, wanted, "{name}");
+        is_in(&rt, name, lives_after(&rt, rt.alloc(), lines), wanted);
     }
-    Ok(())
 }

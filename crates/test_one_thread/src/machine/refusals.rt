@@ -1,21 +1,33 @@
 //! Requests for room, and for blocks, that are refused.
+ghost use Rattle.std.specs.Prelude.{◌<◌};
 ghost use Rattle.machine_replay.specs.Replays.{CanReplay};
 
-use crate::machine::script::{Script, StoryLine};
+use crate::asserts::is_in;
+use crate::machine::script::{StoryLine, events_of};
 use machine_replay::replay;
-use machine_replay::types::{Event, Replay};
+use machine_replay::types::{Event, Peak};
 use queue_steps::model::Call;
 use queue_steps::sizes::MAX_CAPACITY;
 use queue_steps::steps::Kind;
-use std::alloc::{AllocError, Global};
-use std::test::Fail;
-use test_allocators::{Refusal, Refusing};
+use std::alloc::Global;
+use std::process::Abort;
+use test_allocators::{Heap, Refusal};
 
-/// What is told of a run in memory that is counted.
-pub(crate) type Run<'a> = Replay<u64, &'a Refusing<Global>>;
+/// The run of these events, in memory that is counted. Gives how many items it leaves and what it tells of its blocks, where there is memory for it.
+pub(crate) fn run(
+    heap: &Heap,
+    kind: Kind,
+    parties: usize,
+    events: &[Event<u64>],
+) -> Option<(usize, Peak)>
+    requires { CanReplay kind }
+{
+    let told = replay(heap, kind, parties, events.to_vec(heap).ok()?).ok()?;
+    Some((told.left.len(), told.peak))
+}
 
 /// What is seen of a run in memory that is counted.
-#[derive(Debug, Drop, PartialEq)]
+#[derive(Clone, Copy, Debug, PartialEq)]
 struct Seen {
     /// How many items are left, where there was memory for the run.
     left: Option<usize>,
@@ -26,64 +38,63 @@ struct Seen {
 }
 
 impl Seen {
-    fn of(heap: &Refusing<Global>, run: Result<Run<'_>, AllocError>) -> Seen {
-        let left = match run {
-            Ok(told) => Some(told.left.len()),
-            Err(_) => None,
-        };
+    /// So many items are left, or there was no memory for the run, after so many requests; and nothing stays allocated.
+    fn of(left: Option<usize>, requests: u64) -> Seen {
         Seen {
             left,
-            requests: heap.requests(),
-            live: heap.live(),
-        }
-    }
-
-    /// Want of memory after so many requests, and nothing stays allocated.
-    fn want_of_memory(requests: u64) -> Seen {
-        Seen {
-            left: None,
-            requests,
-            live: 0,
-        }
-    }
-
-    /// A run that leaves so many items, after so many requests, and nothing stays allocated.
-    fn run(left: usize, requests: u64) -> Seen {
-        Seen {
-            left: Some(left),
             requests,
             live: 0,
         }
     }
 }
 
-/// The run of these events, in memory that is counted.
-pub(crate) fn run<'a>(
-    heap: &'a Refusing<Global>,
-    kind: Kind,
-    parties: usize,
-    events: &[Event<u64>],
-) -> Result<Run<'a>, AllocError>
-    requires { CanReplay kind }
-{
-    let events = events.to_vec(heap)?;
-    replay(heap, kind, parties, events)
-}
-
-/// What is seen of the run of these lines, of which requests are refused.
-fn seen_of(
+/// Asserts what is seen of the run of these events, of which requests are refused.
+fn is_seen(
+    rt: &impl Abort,
     alloc: Global,
     refusal: Refusal,
     kind: Kind,
     parties: usize,
-    lines: &[StoryLine],
-) -> Result<Seen, AllocError>
+    events: &[Event<u64>],
+    wanted: Seen,
+)
     requires { CanReplay kind }
 {
-    let Script { events } = Script::of(alloc, lines)?;
-    let heap = Refusing::new(alloc, refusal);
-    let run = run(&heap, kind, parties, events.as_slice());
-    Ok(Seen::of(&heap, run))
+    let heap = Heap::new(alloc, refusal);
+    let run = run(&heap, kind, parties, events);
+    let seen = Seen {
+        left: run.map(|(left, _)| left),
+        requests: heap.requests(),
+        live: heap.live(),
+    };
+    is_in(rt, kind, seen, wanted);
+}
+
+/// Requests of which one is refused in each run: the number of the first, and that behind the last; and how many items are left then, after how many requests. Nothing where the run ends at that request, for want of memory.
+type Row = (u64, u64, Option<(usize, u64)>);
+
+/// Refuses these requests in turn. Asserts what is seen of each run, and that nothing stays allocated.
+fn are_refused(
+    rt: &impl Abort,
+    alloc: Global,
+    kind: Kind,
+    parties: usize,
+    lines: &[StoryLine],
+    rows: &[Row],
+)
+    requires { CanReplay kind }
+{
+    let events = events_of(rt, alloc, lines);
+    for (first, end, left) in rows {
+        for number in *first..*end {
+            let wanted = match left {
+                Some((left, requests)) => Seen::of(Some(*left), *requests),
+                None => Seen::of(None, number),
+            };
+            let refusal = Refusal::Nth(number);
+            is_seen(rt, alloc, refusal, kind, parties, &events, wanted);
+        }
+    }
 }
 
 /// A push of which one step is taken, and a pop that has begun.
@@ -94,39 +105,35 @@ static BEGUN: [StoryLine; 4] = [
     StoryLine::Steps(1, 1),
 ];
 
-/// These lines on a ring of two slots, or on one slot.
-fn on_slots(alloc: Global, refusal: Refusal, ring: bool) -> Result<Seen, AllocError> {
-    if ring {
-        seen_of(alloc, refusal, Kind::Bounded(2), 2, &BEGUN)
-    } else {
-        seen_of(alloc, refusal, Kind::Single, 2, &BEGUN)
-    }
+/// Each request for room of a ring and of one slot, which has no stamps, refused in turn. On one slot the step is the append.
+#[test]
+fn each_request_refused(rt: HostRuntime) {
+    let alloc = rt.alloc();
+    let of_ring = [(1, 10, None), (10, 11, Some((0, 9)))];
+    are_refused(&rt, alloc, Kind::Bounded(2), 2, &BEGUN, &of_ring);
+    let of_slot = [(1, 9, None), (9, 10, Some((1, 8)))];
+    are_refused(&rt, alloc, Kind::Single, 2, &BEGUN, &of_slot);
 }
 
-/// Each request for room of a ring and of one slot, which has no stamps, refused in turn: want of memory, and nothing stays allocated. On one slot the step is the append.
-#[test]
-fn each_request_refused(rt: HostRuntime) -> Result<(), Fail> {
-    for (ring, requests, left) in [(true, 9u64, 0), (false, 8, 1)] {
-        for number in 1..requests.wrapping_add(2) {
-            let seen = on_slots(rt.alloc(), Refusal::Nth(number), ring)?;
-            let expected = if number <= requests {
-                Seen::want_of_memory(number)
-            } else {
-                Seen::run(left, requests)
-            };
-            assert_eq!(rt; seen, expected);
-        }
-    }
-    Ok(())
+/// Asserts that a run of a ring of so many slots is want of memory, after so many requests.
+pub(crate) fn capacity_is_refused(
+    rt: &impl Abort,
+    alloc: Global,
+    refusal: Refusal,
+    cap: usize,
+    requests: u64,
+)
+    requires { 1 < cap }
+{
+    let wanted = Seen::of(None, requests);
+    is_seen(rt, alloc, refusal, Kind::Bounded(cap), 1, &[], wanted);
 }
 
 /// A capacity that no queue may have is want of memory without a request.
 #[test]
 fn refused_without_a_request(rt: HostRuntime) {
     for cap in [MAX_CAPACITY + 1, usize::MAX] {
-        let heap = Refusing::new(rt.alloc(), Refusal::Never);
-        let run = replay(&heap, Kind::Bounded(cap), 1, Vec::new(&heap));
-        assert_eq!(rt; Seen::of(&heap, run), Seen::want_of_memory(0));
+        capacity_is_refused(&rt, rt.alloc(), Refusal::Never, cap, 0);
     }
 }
 
@@ -134,41 +141,29 @@ fn refused_without_a_request(rt: HostRuntime) {
 #[test]
 fn the_greatest_capacity_is_asked_for(rt: HostRuntime) {
     for cap in [1 << 40, 1 << 50, MAX_CAPACITY] {
-        let heap = Refusing::new(rt.alloc(), Refusal::Always);
-        let run = replay(&heap, Kind::Bounded(cap), 1, Vec::new(&heap));
-        assert_eq!(rt; Seen::of(&heap, run), Seen::want_of_memory(1), "at {cap}");
+        capacity_is_refused(&rt, rt.alloc(), Refusal::Always, cap, 1);
     }
 }
 
 /// Eighty pushes without a capacity.
-fn on_chain(alloc: Global, refusal: Refusal) -> Result<Seen, AllocError> {
-    seen_of(
-        alloc,
-        refusal,
-        Kind::Unbounded,
-        1,
-        &[StoryLine::Pushes(0, 80)],
-    )
-}
+static EIGHTY: [StoryLine; 1] = [StoryLine::Pushes(0, 80)];
 
 /// Each request for room of a chain refused in turn is want of memory, and no block was asked for.
 #[test]
-fn each_request_for_room_refused(rt: HostRuntime) -> Result<(), Fail> {
-    for number in 1..8u64 {
-        let seen = on_chain(rt.alloc(), Refusal::Nth(number))?;
-        assert_eq!(rt; seen, Seen::want_of_memory(number));
-    }
-    Ok(())
+fn each_request_for_room_refused(rt: HostRuntime) {
+    are_refused(
+        &rt,
+        rt.alloc(),
+        Kind::Unbounded,
+        1,
+        &EIGHTY,
+        &[(1, 8, None)],
+    );
 }
 
 /// Each of the two requests for a block refused in turn is want of memory to its push alone: the next push asks again.
 #[test]
-fn each_block_refused(rt: HostRuntime) -> Result<(), Fail> {
-    for number in 8..10u64 {
-        let seen = on_chain(rt.alloc(), Refusal::Nth(number))?;
-        assert_eq!(rt; seen, Seen::run(79, 10));
-    }
-    let seen = on_chain(rt.alloc(), Refusal::Nth(10))?;
-    assert_eq!(rt; seen, Seen::run(80, 9));
-    Ok(())
+fn each_block_refused(rt: HostRuntime) {
+    let rows = [(8, 10, Some((79, 10))), (10, 11, Some((80, 9)))];
+    are_refused(&rt, rt.alloc(), Kind::Unbounded, 1, &EIGHTY, &rows);
 }

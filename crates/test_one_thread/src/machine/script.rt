@@ -3,11 +3,10 @@ ghost use Rattle.machine_replay.specs.Replays.{CanReplay};
 
 use machine_replay::replay;
 use machine_replay::types::{EffectKind, Event, Peak, Replay};
-use machine_replay::words::{Words, words_after};
 use queue_steps::model::{Call, Reply};
 use queue_steps::sizes::SOLO_STEPS;
 use queue_steps::steps::Kind;
-use std::alloc::{AllocError, Global};
+use std::alloc::Global;
 use std::process::Abort;
 
 /// A line of a script. Its first part is the party that does it.
@@ -31,93 +30,56 @@ pub(crate) enum StoryLine {
     Turns(usize, u64),
 }
 
-/// A list of events that grows.
-#[derive(Drop)]
-pub(crate) struct Script {
-    pub(crate) events: Vec<Event<u64>>,
-}
+/// How many events a call is that takes as many steps as a solo call ever does.
+const CALL: u64 = SOLO_STEPS + 1;
 
-impl Script {
-    /// The events of these lines, one after another.
-    pub(crate) fn of(alloc: Global, lines: &[StoryLine]) -> Result<Script, AllocError> {
-        let mut script = Script {
-            events: Vec::new(alloc),
-        };
-        for line in lines {
-            script.add(*line)?;
-        }
-        Ok(script)
-    }
-
-    fn add(&mut self, line: StoryLine) -> Result<(), AllocError> {
-        match line {
-            StoryLine::Begins(party, call) => self.begin(party, call),
-            StoryLine::Steps(party, count) => self.steps(party, count),
-            StoryLine::IsRefused(party) => self.refuse(party),
-            StoryLine::Runs(party) => self.steps(party, SOLO_STEPS),
-            StoryLine::Calls(party, call) => self.call(party, call),
-            StoryLine::Pushes(party, count) => self.pushes(party, count),
-            StoryLine::Pops(party, count) => self.pops(party, count),
-            StoryLine::Turns(party, count) => self.turns(party, count),
+impl StoryLine {
+    /// How many events it is.
+    fn count(self) -> u64 {
+        match self {
+            StoryLine::Begins(..) | StoryLine::IsRefused(_) => 1,
+            StoryLine::Steps(_, count) => count,
+            StoryLine::Runs(_) => SOLO_STEPS,
+            StoryLine::Calls(..) => CALL,
+            StoryLine::Pushes(_, count) | StoryLine::Pops(_, count) => count.wrapping_mul(CALL),
+            StoryLine::Turns(_, count) => count.wrapping_mul(2 * CALL),
         }
     }
 
-    fn begin(&mut self, party: usize, call: Call<u64>) -> Result<(), AllocError> {
-        self.events.push(Event::Begin(party, call))?;
-        Ok(())
-    }
-
-    fn steps(&mut self, party: usize, count: u64) -> Result<(), AllocError> {
-        for _ in 0..count {
-            self.events.push(Event::Step(party, true))?;
+    /// Its event before which there are so many.
+    fn event(self, before: u64) -> Event<u64> {
+        let turn = before / CALL;
+        let begins = before % CALL == 0;
+        match self {
+            StoryLine::Begins(party, call) => Event::Begin(party, call),
+            StoryLine::IsRefused(party) => Event::Step(party, false),
+            StoryLine::Calls(party, call) if begins => Event::Begin(party, call),
+            StoryLine::Pushes(party, _) if begins => Event::Begin(party, Call::Push(turn + 1)),
+            StoryLine::Turns(party, _) if begins && turn % 2 == 0 => {
+                Event::Begin(party, Call::Push(turn / 2 + 1))
+            }
+            StoryLine::Pops(party, _) | StoryLine::Turns(party, _) if begins => {
+                Event::Begin(party, Call::Pop)
+            }
+            StoryLine::Steps(party, _)
+            | StoryLine::Runs(party)
+            | StoryLine::Calls(party, _)
+            | StoryLine::Pushes(party, _)
+            | StoryLine::Pops(party, _)
+            | StoryLine::Turns(party, _) => Event::Step(party, true),
         }
-        Ok(())
-    }
-
-    fn refuse(&mut self, party: usize) -> Result<(), AllocError> {
-        self.events.push(Event::Step(party, false))?;
-        Ok(())
-    }
-
-    fn call(&mut self, party: usize, call: Call<u64>) -> Result<(), AllocError> {
-        self.begin(party, call)?;
-        self.steps(party, SOLO_STEPS)
-    }
-
-    fn pushes(&mut self, party: usize, count: u64) -> Result<(), AllocError> {
-        for before in 0..count {
-            self.call(party, Call::Push(before + 1))?;
-        }
-        Ok(())
-    }
-
-    fn turns(&mut self, party: usize, count: u64) -> Result<(), AllocError> {
-        for before in 0..count {
-            self.call(party, Call::Push(before + 1))?;
-            self.call(party, Call::Pop)?;
-        }
-        Ok(())
-    }
-
-    fn pops(&mut self, party: usize, count: u64) -> Result<(), AllocError> {
-        for _ in 0..count {
-            self.call(party, Call::Pop)?;
-        }
-        Ok(())
     }
 }
 
-/// The words of a queue after these lines.
-pub(crate) fn words_of(
-    alloc: Global,
-    kind: Kind,
-    parties: usize,
-    lines: &[StoryLine],
-) -> Result<Words, AllocError>
-    requires { CanReplay kind }
-{
-    let Script { events } = Script::of(alloc, lines)?;
-    words_after(alloc, kind, parties, events)
+/// The events of these lines, one after another. Asserts that there is memory.
+pub(crate) fn events_of(rt: &impl Abort, alloc: Global, lines: &[StoryLine]) -> Vec<Event<u64>> {
+    let mut events = Vec::new(alloc);
+    for line in lines {
+        for before in 0..line.count() {
+            events.push(line.event(before)).expect(rt, "memory");
+        }
+    }
+    events
 }
 
 /// Something that is to be told of a run.
@@ -203,16 +165,11 @@ impl Fact<'_> {
 }
 
 /// Asserts what is told of a run. A failure names the run, counts the facts before the one that is not told, and prints what is told.
-pub(crate) fn is_told(
-    rt: &impl Abort,
-    alloc: Global,
-    kind: Kind,
-    run: &Run,
-) -> Result<(), AllocError>
+pub(crate) fn is_told(rt: &impl Abort, alloc: Global, kind: Kind, run: &Run)
     requires { CanReplay kind }
 {
-    let Script { events } = Script::of(alloc, run.lines)?;
-    let told = replay(alloc, kind, run.parties, events)?;
+    let events = events_of(rt, alloc, run.lines);
+    let told = replay(alloc, kind, run.parties, events).expect(rt, "memory");
     for (number, fact) in run.facts.iter().enumerate() {
         assert!(rt;
             fact.is_told(&told),
@@ -220,20 +177,13 @@ pub(crate) fn is_told(
             run.name
         );
     }
-    Ok(())
 }
 
 /// Asserts what is told of each run.
-pub(crate) fn are_told(
-    rt: &impl Abort,
-    alloc: Global,
-    kind: Kind,
-    runs: &[Run],
-) -> Result<(), AllocError>
+pub(crate) fn are_told(rt: &impl Abort, alloc: Global, kind: Kind, runs: &[Run])
     requires { CanReplay kind }
 {
     for run in runs {
-        is_told(rt, alloc, kind, run)?;
+        is_told(rt, alloc, kind, run);
     }
-    Ok(())
 }

@@ -1,12 +1,12 @@
 //! Queues without a capacity and with one owner: replies from the table of the abstract queue, the ends of ranges, the blocks that are held, and want of memory.
-use crate::owner::counted::Counted;
-use crate::owner::rows::{Heap, Made, Story, StoryLine, are_refused, tell_all};
+use crate::asserts::is_in;
+use crate::owner::rows::{Made, Story, StoryLine, are_refused, tell_all};
 use exclusive_queue::Exclusive;
 use exclusive_queue::errors::{ForcePushError, PopError, PushError};
 use queue_steps::model::{Call, Reply};
 use queue_steps::sizes::LIMIT;
-use std::cell::Cell;
-use test_allocators::Refusal;
+use test_allocators::items::{Counted, Items};
+use test_allocators::{Heap, Refusal};
 
 static STORIES: [Story<'static>; 16] = [
     // As many as a block has, and far more: each is accepted, and comes out in its turn.
@@ -241,15 +241,15 @@ fn refused_chains(rt: HostRuntime) {
 
 /// Pushes so many items, pops one and drops the queue. Gives how many were dropped before the queue was, and in the end.
 fn drops_of(heap: &Heap, count: u64) -> [u64; 2] {
-    let drops = Cell::new(0);
+    let items = Items::none();
     let mut queue: Exclusive<Counted, &Heap> = Exclusive::unbounded(heap);
     for _ in 0..count {
-        let _ = queue.push(Counted::by(&drops));
+        let _ = queue.push(Counted::of(&items));
     }
     let _ = queue.pop();
-    let before = drops.get();
+    let before = items.dropped();
     drop(queue);
-    [before, drops.get()]
+    [before, items.dropped()]
 }
 
 /// An item that was refused would be dropped before the queue is.
@@ -258,11 +258,7 @@ fn drops_what_is_left(rt: HostRuntime) {
     for count in [0, 1, 62, 63, 64, 126, 127] {
         let heap = Heap::new(rt.alloc(), Refusal::Never);
         let drops = drops_of(&heap, count);
-        assert_eq!(rt;
-            (drops, heap.live()),
-            ([count.min(1), count], 0),
-            "with {count} items"
-        );
+        is_in(&rt, count, (drops, heap.live()), ([count.min(1), count], 0));
     }
 }
 

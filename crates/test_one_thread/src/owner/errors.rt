@@ -1,4 +1,5 @@
 //! The errors: their texts, what they hand back, and when two are equal.
+use crate::asserts::{is, is_in};
 use exclusive_queue::{ForcePushError, PopError, PushError};
 use std::alloc::Global;
 use std::fmt::{Debug, Display};
@@ -66,13 +67,13 @@ static FORCE: [(ForcePushError<u64>, &str); 2] = [
 #[test]
 fn each_error_is_printed(rt: HostRuntime) {
     for (error, text, _, _) in POP.iter() {
-        assert!(rt; is_printed(rt.alloc(), error, text), "{text}");
+        is_in(&rt, *text, is_printed(rt.alloc(), error, text), true);
     }
     for (error, text, _, _) in PUSH.iter() {
-        assert!(rt; is_printed(rt.alloc(), error, text), "{text}");
+        is_in(&rt, *text, is_printed(rt.alloc(), error, text), true);
     }
     for (error, text) in FORCE.iter() {
-        assert!(rt; is_printed(rt.alloc(), error, text), "{text}");
+        is_in(&rt, *text, is_printed(rt.alloc(), error, text), true);
     }
 }
 
@@ -80,11 +81,11 @@ fn each_error_is_printed(rt: HostRuntime) {
 fn each_predicate_is_true_on_its_variant_alone(rt: HostRuntime) {
     for (error, text, empty, closed) in POP.iter() {
         let right = error.is_empty() == *empty && error.is_closed() == *closed;
-        assert!(rt; right, "{text}");
+        is_in(&rt, *text, right, true);
     }
     for (error, text, full, closed) in PUSH.iter() {
         let right = error.is_full() == *full && error.is_closed() == *closed;
-        assert!(rt; right, "{text}");
+        is_in(&rt, *text, right, true);
     }
 }
 
@@ -102,10 +103,10 @@ static OF_FORCED_PUSHES: [(ForcePushError<u64>, u64); 2] = [
 #[test]
 fn into_inner_hands_the_value_back(rt: HostRuntime) {
     for (error, value) in OF_PUSHES.iter() {
-        assert_eq!(rt; (*error).into_inner(), *value);
+        is(&rt, (*error).into_inner(), *value);
     }
     for (error, value) in OF_FORCED_PUSHES.iter() {
-        assert_eq!(rt; (*error).into_inner(), *value);
+        is(&rt, (*error).into_inner(), *value);
     }
 }
 
@@ -129,9 +130,9 @@ static PAIRS: [(&str, PushError<u64>, PushError<u64>, bool); 3] = [
 #[test]
 fn errors_are_equal_by_variant_and_value(rt: HostRuntime) {
     for (name, one, other, equal) in PAIRS.iter() {
-        assert!(rt; (*one == *other) == *equal, "{name}");
+        is_in(&rt, *name, *one == *other, *equal);
     }
     let pops = PopError::Empty == PopError::Closed;
     let forced = ForcePushError::Closed(7u64) == ForcePushError::NoMemory(7);
-    assert!(rt; !pops && !forced);
+    is(&rt, (pops, forced), (false, false));
 }

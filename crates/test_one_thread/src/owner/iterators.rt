@@ -1,12 +1,19 @@
 //! Iterators over queues with one owner, and what is printed of both.
-use crate::owner::rows::{open, push_all};
-use exclusive_queue::Exclusive;
-use std::alloc::Global;
-use std::fmt::Debug;
+use crate::asserts::{is, is_in};
+use crate::owner::rows::{Counting, Made, StoryLine, open};
+use std::alloc::{AllocError, Global};
 use std::process::Abort;
+use test_allocators::{Heap, Refusal};
+
+/// Pushes so many numbers from the first on into a queue. Asserts that there is memory.
+fn filled<'a>(rt: &impl Abort, heap: &'a Heap, made: Made, first: u64, count: u64) -> Counting<'a> {
+    let mut queue = open(rt, heap, made);
+    StoryLine::Pushes(first, count).is_right(&mut queue, heap);
+    queue
+}
 
 /// Takes so many items off, if there are as many, and gives a number whose digits they are.
-fn digits(queue: &mut Exclusive<u64>, count: usize) -> u64 {
+fn digits(queue: &mut Counting<'_>, count: usize) -> u64 {
     let mut number: u64 = 0;
     let mut items = queue.try_iter();
     for _ in 0..count {
@@ -17,38 +24,33 @@ fn digits(queue: &mut Exclusive<u64>, count: usize) -> u64 {
     number
 }
 
-/// A capacity, how many items are asked for, and the digits of those that come and of those that are left of 1, 2, 3.
-static WALKS: [(Option<usize>, usize, u64, u64); 8] = [
-    (Some(5), 1, 1, 23),
-    (Some(5), 3, 123, 0),
-    (Some(5), 4, 123, 0),
-    (Some(3), 2, 12, 3),
-    (Some(1), 0, 0, 1),
-    (Some(1), 2, 1, 0),
-    (None, 1, 1, 23),
-    (None, 4, 123, 0),
+/// How a queue is made, how many items are asked for, and the digits of those that come and of those that are left of 1, 2, 3.
+static WALKS: [(Made, usize, u64, u64); 8] = [
+    (Made::Bounded(5), 1, 1, 23),
+    (Made::Bounded(5), 3, 123, 0),
+    (Made::Bounded(5), 4, 123, 0),
+    (Made::Bounded(3), 2, 12, 3),
+    (Made::Bounded(1), 0, 0, 1),
+    (Made::Bounded(1), 2, 1, 0),
+    (Made::Unbounded, 1, 1, 23),
+    (Made::Unbounded, 4, 123, 0),
 ];
 
-/// Takes so many items of 1, 2, 3 off, and then the rest. Gives the digits of both, and what is left, whether the queue is closed, and whether it takes one more.
-fn walked(queue: &mut Exclusive<u64>, count: usize) -> (u64, u64, usize, bool, bool) {
-    push_all(queue, 1, 3);
-    let first = digits(queue, count);
-    let rest = digits(queue, 5);
-    (
-        first,
-        rest,
-        queue.len(),
-        queue.is_closed(),
-        queue.push(4) == Ok(()),
-    )
+/// Takes so many items off, and then the rest. Gives the digits of both, and what is left, whether the queue is closed, and whether it takes one more.
+fn walked(mut queue: Counting<'_>, count: usize) -> (u64, u64, usize, bool, bool) {
+    let first = digits(&mut queue, count);
+    let rest = digits(&mut queue, 5);
+    let closed = queue.is_closed();
+    (first, rest, queue.len(), closed, queue.push(4) == Ok(()))
 }
 
 /// What an iterator did not take stays, and the queue is as open as before.
 #[test]
 fn an_iterator_takes_from_the_front(rt: HostRuntime) {
-    for (cap, count, taken, left) in WALKS.iter() {
-        let seen = walked(&mut open(&rt, rt.alloc(), *cap), *count);
-        assert_eq!(rt; seen, (*taken, *left, 0, false, true));
+    let heap = Heap::new(rt.alloc(), Refusal::Never);
+    for (made, count, taken, left) in WALKS.iter() {
+        let seen = walked(filled(&rt, &heap, *made, 1, 3), *count);
+        is_in(&rt, *made, seen, (*taken, *left, 0, false, true));
     }
 }
 
@@ -57,97 +59,76 @@ static BLOCKS: [(usize, usize, usize); 4] = [(0, 0, 3), (62, 62, 3), (63, 63, 2)
 
 #[test]
 fn an_iterator_gives_blocks_back(rt: HostRuntime) {
+    let heap = Heap::new(rt.alloc(), Refusal::Never);
     for (count, taken, blocks) in BLOCKS.iter() {
-        let mut queue = filled(&rt, rt.alloc(), None, 140);
+        let mut queue = filled(&rt, &heap, Made::Unbounded, 0, 140);
         let came = queue.try_iter().take(*count).count();
-        assert_eq!(rt; (came, queue.blocks()), (*taken, *blocks));
+        is(&rt, (came, queue.blocks()), (*taken, *blocks));
     }
 }
 
-/// A capacity, how many items are pushed, whether the queue is closed, and what is printed of it and of an iterator over it.
-static TEXTS: [(Option<usize>, u64, bool, &str, &str); 7] = [
+/// How a queue is made, how many items are pushed, whether it is closed, and what is printed of it.
+static TEXTS: [(Made, u64, bool, &str); 7] = [
     (
-        Some(1),
+        Made::Bounded(1),
         0,
         false,
         "Exclusive { len: 0, capacity: Some(1), is_closed: false }",
-        "Iter(Exclusive { len: 0, capacity: Some(1), is_closed: false })",
     ),
     (
-        Some(1),
+        Made::Bounded(1),
         1,
         true,
         "Exclusive { len: 1, capacity: Some(1), is_closed: true }",
-        "Iter(Exclusive { len: 1, capacity: Some(1), is_closed: true })",
     ),
     (
-        Some(2),
+        Made::Bounded(2),
         1,
         false,
         "Exclusive { len: 1, capacity: Some(2), is_closed: false }",
-        "Iter(Exclusive { len: 1, capacity: Some(2), is_closed: false })",
     ),
     (
-        Some(2),
+        Made::Bounded(2),
         2,
         true,
         "Exclusive { len: 2, capacity: Some(2), is_closed: true }",
-        "Iter(Exclusive { len: 2, capacity: Some(2), is_closed: true })",
     ),
     (
-        None,
+        Made::Unbounded,
         0,
         true,
         "Exclusive { len: 0, capacity: None, is_closed: true }",
-        "Iter(Exclusive { len: 0, capacity: None, is_closed: true })",
     ),
     (
-        None,
+        Made::Unbounded,
         7,
         false,
         "Exclusive { len: 7, capacity: None, is_closed: false }",
-        "Iter(Exclusive { len: 7, capacity: None, is_closed: false })",
     ),
     (
-        None,
+        Made::Unbounded,
         104,
         false,
         "Exclusive { len: 104, capacity: None, is_closed: false }",
-        "Iter(Exclusive { len: 104, capacity: None, is_closed: false })",
     ),
 ];
 
-/// A queue of this capacity, or without one, with so many items.
-fn filled(rt: &impl Abort, alloc: Global, cap: Option<usize>, items: u64) -> Exclusive<u64> {
-    let mut queue = open(rt, alloc, cap);
-    push_all(&mut queue, 0, items);
-    queue
-}
-
-/// Whether this is printed of a value for debugging.
-fn is_printed<T: Debug>(alloc: Global, value: &T, text: &str) -> bool {
-    match format!(in alloc; "{value:?}") {
-        Ok(printed) => printed.as_str() == text,
-        Err(_) => false,
-    }
-}
-
-/// Whether these are printed of a queue, and of an iterator over it.
-fn are_printed(alloc: Global, queue: &mut Exclusive<u64>, text: &str, of_items: &str) -> bool {
-    let first = is_printed(alloc, queue, text);
-    first && is_printed(alloc, &queue.try_iter(), of_items)
+/// What is printed of a queue, and of an iterator over it.
+fn printed(alloc: Global, queue: &mut Counting<'_>) -> Result<String, AllocError> {
+    let text = format!(in alloc; "{queue:?}")?;
+    let items = queue.try_iter();
+    format!(in alloc; "{text} {items:?}")
 }
 
 #[test]
 fn queues_and_iterators_are_printed(rt: HostRuntime) {
-    for (cap, items, closed, text, of_items) in TEXTS.iter() {
-        let mut queue = filled(&rt, rt.alloc(), *cap, *items);
+    let heap = Heap::new(rt.alloc(), Refusal::Never);
+    for (made, items, closed, text) in TEXTS.iter() {
+        let mut queue = filled(&rt, &heap, *made, 0, *items);
         if *closed {
             queue.close();
         }
-        assert!(rt;
-            are_printed(rt.alloc(), &mut queue, text, of_items),
-            "{text}"
-        );
+        let wanted = format!(in rt.alloc(); "{text} Iter({text})").expect(&rt, "memory");
+        is_in(&rt, *made, printed(rt.alloc(), &mut queue), Ok(wanted));
     }
 }

@@ -1,4 +1,5 @@
 //! Queues of one slot with one owner: worked examples.
+use crate::asserts::is;
 use crate::owner::rows::{Made, Story, StoryLine, tell_all};
 use exclusive_queue::{Exclusive, ForcePushError, PopError, PushError};
 use queue_steps::model::{Call, Reply};
@@ -78,5 +79,5 @@ fn counts(rt: &impl Abort, alloc: Global) -> [usize; 3] {
 /// What is refused is handed back, and what is left is dropped once with the queue.
 #[test]
 fn what_is_left_is_dropped_once(rt: HostRuntime) {
-    assert_eq!(rt; counts(&rt, rt.alloc()), [2, 2, 1]);
+    is(&rt, counts(&rt, rt.alloc()), [2, 2, 1]);
 }

@@ -1,29 +1,24 @@
 //! Rings with one owner: replies from the table of the abstract queue, the ends of ranges, and want of memory.
 ghost use Rattle.std.specs.Prelude.{◌<◌};
 
-use crate::owner::counted::Counted;
-use crate::owner::rows::{Heap, Made, Story, StoryLine, are_refused, open, tell_all};
+use crate::asserts::{is, is_in};
+use crate::owner::rows::{Made, Story, StoryLine, are_refused, open, tell_all};
 use exclusive_queue::Exclusive;
 use exclusive_queue::errors::{ForcePushError, PopError, PushError};
 use queue_steps::model::{Call, Reply};
 use queue_steps::sizes::{LIMIT, MAX_CAPACITY};
 use std::alloc::{AllocError, Global};
-use std::cell::Cell;
 use std::process::Abort;
-use test_allocators::Refusal;
+use test_allocators::items::{Counted, Items};
+use test_allocators::{Heap, Refusal};
 
 #[test]
 fn first_in_first_out(rt: HostRuntime) {
     let mut queue = Exclusive::bounded(rt.alloc(), 2).expect(&rt, "memory");
     let pushed = [queue.push('a'), queue.push('b'), queue.push('c')];
     let popped = [queue.pop(), queue.pop(), queue.pop()];
-    assert_eq!(rt;
-        (pushed, popped),
-        (
-            [Ok(()), Ok(()), Err(PushError::Full('c'))],
-            [Ok('a'), Ok('b'), Err(PopError::Empty)]
-        )
-    );
+    is(&rt, pushed, [Ok(()), Ok(()), Err(PushError::Full('c'))]);
+    is(&rt, popped, [Ok('a'), Ok('b'), Err(PopError::Empty)]);
 }
 
 static STORIES: [Story<'static>; 9] = [
@@ -190,8 +185,10 @@ fn stories_of_rings(rt: HostRuntime) {
 
 #[test]
 fn capacities(rt: HostRuntime) {
+    let heap = Heap::new(rt.alloc(), Refusal::Never);
     for cap in 1..10usize {
-        assert_eq!(rt; open(&rt, rt.alloc(), Some(cap)).capacity(), Some(cap));
+        let queue = open(&rt, &heap, Made::Bounded(cap));
+        is(&rt, queue.capacity(), Some(cap));
     }
 }
 
@@ -322,25 +319,25 @@ fn the_greatest_capacity_is_asked_for(rt: HostRuntime) {
         (MAX_CAPACITY + 1, 0),
     ] {
         let seen = refuses_bytes(rt.alloc(), cap);
-        assert_eq!(rt; seen, ([true, true], requests), "at {cap}");
+        is_in(&rt, cap, seen, ([true, true], requests));
     }
 }
 
 /// Pushes five items by force into three slots, pops one and drops the queue. Gives how many were dropped after each.
 fn drops_of(rt: &impl Abort, alloc: Global) -> [u64; 3] {
-    let drops = Cell::new(0);
+    let items = Items::none();
     let mut queue = Exclusive::bounded(alloc, 3).expect(rt, "memory");
     for _ in 0..5u64 {
-        let _ = queue.force_push(Counted::by(&drops));
+        let _ = queue.force_push(Counted::of(&items));
     }
-    let displaced = drops.get();
+    let displaced = items.dropped();
     let _ = queue.pop();
-    let taken = drops.get();
+    let taken = items.dropped();
     drop(queue);
-    [displaced, taken, drops.get()]
+    [displaced, taken, items.dropped()]
 }
 
 #[test]
 fn drops_what_is_left(rt: HostRuntime) {
-    assert_eq!(rt; drops_of(&rt, rt.alloc()), [2, 3, 5]);
+    is(&rt, drops_of(&rt, rt.alloc()), [2, 3, 5]);
 }

@@ -1,12 +1,13 @@
 //! Runs of calls, on each kind of queue and on a form without its queue.
-use crate::owner::counted::Counted;
-use crate::owner::rows::{Heap, open};
+use crate::asserts::{is, is_in};
+use crate::owner::rows::{Made, open};
 use exclusive_queue::{Exclusive, Single, Store, run};
 use queue_steps::errors::PushError;
 use queue_steps::model::{Call, Reply};
-use std::alloc::{AllocError, Allocator, Global};
-use std::cell::Cell;
-use test_allocators::Refusal;
+use std::alloc::Global;
+use std::process::Abort;
+use test_allocators::items::{Counted, Items};
+use test_allocators::{Heap, Refusal};
 
 /// A run in which queues of capacity 1, of capacity 2 and without one answer each otherwise.
 static CALLS: [Call<u64>; 7] = [
@@ -74,8 +75,9 @@ static TO_EACH_CALL: [Reply<u64>; 9] = [
     Reply::Capacity(Some(2)),
 ];
 
-/// Whether there is memory for a run of the calls, and it gives the replies.
+/// Whether a run of the calls gives the replies. Asserts that there is memory.
 fn run_gives<S: Store<u64>>(
+    rt: &impl Abort,
     alloc: Global,
     store: &mut S,
     calls: &[Call<u64>],
@@ -84,35 +86,32 @@ fn run_gives<S: Store<u64>>(
     requires { S.idle store.old }
     ensures { S.idle store.new }
 {
-    match Vec::from_slice(alloc, calls) {
-        Ok(calls) => match run(alloc, store, calls) {
-            Ok(told) => *told == *replies,
-            Err(_) => false,
-        },
-        Err(_) => false,
-    }
+    let calls = Vec::from_slice(alloc, calls).expect(rt, "memory");
+    let told = run(alloc, store, calls).expect(rt, "memory");
+    *told == *replies
 }
 
-/// The capacity of a queue, a run of calls on it, and the replies.
-type Run = (Option<usize>, &'static [Call<u64>], &'static [Reply<u64>]);
+/// How a queue is made, a run of calls on it, and the replies.
+type Run = (Made, &'static [Call<u64>], &'static [Reply<u64>]);
 
 #[test]
 fn one_run_on_each_kind(rt: HostRuntime) {
     let runs: [Run; 4] = [
-        (Some(1), &CALLS, &OF_ONE_SLOT),
-        (Some(2), &CALLS, &OF_TWO_SLOTS),
-        (None, &CALLS, &WITHOUT_A_CAPACITY),
-        (Some(2), &EACH_CALL, &TO_EACH_CALL),
+        (Made::Bounded(1), &CALLS, &OF_ONE_SLOT),
+        (Made::Bounded(2), &CALLS, &OF_TWO_SLOTS),
+        (Made::Unbounded, &CALLS, &WITHOUT_A_CAPACITY),
+        (Made::Bounded(2), &EACH_CALL, &TO_EACH_CALL),
     ];
-    for (cap, calls, replies) in runs {
-        let mut queue = open(&rt, rt.alloc(), cap);
-        let right = run_gives(rt.alloc(), &mut queue, calls, replies);
-        assert!(rt; right, "{} calls with {cap:?}", calls.len());
+    let heap = Heap::new(rt.alloc(), Refusal::Never);
+    for (made, calls, replies) in runs {
+        let mut queue = open(&rt, &heap, made);
+        let right = run_gives(&rt, rt.alloc(), &mut queue, calls, replies);
+        is_in(&rt, (made, calls.len()), right, true);
     }
 }
 
-/// So many calls, pushes and pops in turn.
-fn turns(alloc: Global, count: u64) -> Result<Vec<Call<u64>>, AllocError> {
+/// So many calls, pushes and pops in turn. Asserts that there is memory.
+fn turns(rt: &impl Abort, alloc: Global, count: u64) -> Vec<Call<u64>> {
     let mut calls = Vec::new(alloc);
     for turn in 0..count {
         let call = if turn % 2 == 0 {
@@ -120,39 +119,32 @@ fn turns(alloc: Global, count: u64) -> Result<Vec<Call<u64>>, AllocError> {
         } else {
             Call::Pop
         };
-        calls.push(call)?;
+        calls.push(call).expect(rt, "memory");
     }
-    Ok(calls)
+    calls
 }
 
-/// Runs so many calls. Gives how many pushes were accepted, and how many pops gave an item.
-fn run_turns<S: Store<u64>>(
-    alloc: Global,
-    store: &mut S,
-    count: u64,
-) -> Result<(u64, u64), AllocError>
-    requires { S.idle store.old }
-    ensures { S.idle store.new }
-{
+/// Runs so many calls. Gives how many pushes were accepted, and how many pops gave an item. Asserts that there is memory.
+fn run_turns(rt: &impl Abort, alloc: Global, count: u64) -> (u64, u64) {
+    let mut queue: Exclusive<u64> = Exclusive::unbounded(alloc);
+    let calls = turns(rt, alloc, count);
     let mut pushed = 0u64;
     let mut popped = 0u64;
-    let calls = turns(alloc, count)?;
-    for reply in run(alloc, store, calls)? {
+    for reply in run(alloc, &mut queue, calls).expect(rt, "memory") {
         match reply {
             Reply::Push(Ok(())) => pushed = pushed.wrapping_add(1),
             Reply::Pop(Ok(_)) => popped = popped.wrapping_add(1),
             _ => {}
         }
     }
-    Ok((pushed, popped))
+    (pushed, popped)
 }
 
 /// There is no bound on the calls of a run but memory.
 #[test]
 fn one_long_run(rt: HostRuntime) {
-    let mut queue: Exclusive<u64> = Exclusive::unbounded(rt.alloc());
-    let seen = run_turns(rt.alloc(), &mut queue, 70_000);
-    assert_eq!(rt; seen, Ok((35_000, 35_000)));
+    let seen = run_turns(&rt, rt.alloc(), 70_000);
+    is(&rt, seen, (35_000, 35_000));
 }
 
 #[test]
@@ -161,59 +153,35 @@ fn one_run_on_a_slot(rt: HostRuntime) {
         lock: 0,
         item: None,
     };
-    let right = run_gives(rt.alloc(), &mut slot, &CALLS, &OF_ONE_SLOT);
-    assert_eq!(rt; (right, slot.is_closed()), (true, true));
+    let right = run_gives(&rt, rt.alloc(), &mut slot, &CALLS, &OF_ONE_SLOT);
+    is(&rt, (right, slot.is_closed()), (true, true));
 }
 
-/// Two calls with an item each, and a close between them, whose list is the heap's first request.
-fn calls_of<'a, 'b>(
-    heap: &'a Heap,
-    drops: &'b Cell<u64>,
-) -> Result<Vec<Call<Counted<'b>>, &'a Heap>, AllocError> {
-    Ok(vec![in heap;
-        Call::Push(Counted::by(drops)),
+/// What is seen of a run that has no room for its replies: whether that is told, how many items were dropped then, and in the end; and the length of the queue, and whether it is closed.
+type Seen = (bool, [u64; 2], usize, bool);
+
+/// Runs two calls with an item each, and a close between them, on two slots of which one has an item. The list of the calls is the heap's first request.
+fn run_without_room(rt: &impl Abort, alloc: Global, heap: &Heap) -> Seen {
+    let items = Items::none();
+    let mut queue = Exclusive::bounded(alloc, 2).expect(rt, "memory");
+    let _ = queue.push(Counted::of(&items));
+    let calls = vec![in heap;
+        Call::Push(Counted::of(&items)),
         Call::Close,
-        Call::ForcePush(Counted::by(drops)),
-    ]?)
-}
-
-/// A queue of two slots with an item.
-fn with_one(alloc: Global, drops: &Cell<u64>) -> Result<Exclusive<Counted<'_>>, AllocError> {
-    let mut queue = Exclusive::bounded(alloc, 2)?;
-    let _ = queue.push(Counted::by(drops));
-    Ok(queue)
-}
-
-/// Whether there is memory for a list of calls, and none for a run of them.
-fn run_is_refused<'b>(
-    heap: &Heap,
-    queue: &mut Exclusive<Counted<'b>>,
-    drops: &'b Cell<u64>,
-) -> bool {
-    match calls_of(heap, drops) {
-        Ok(calls) => run(heap, queue, calls).is_err(),
-        Err(_) => false,
-    }
-}
-
-/// What is seen where there is no room for the replies: whether that is told, how many items were dropped then, and in the end; and the length of the queue, and whether it is closed.
-fn without_room(alloc: Global, heap: &Heap) -> Result<(bool, [u64; 2], usize, bool), AllocError> {
-    let drops = Cell::new(0);
-    let mut queue = with_one(alloc, &drops)?;
-    let refused = run_is_refused(heap, &mut queue, &drops);
-    let before = drops.get();
+        Call::ForcePush(Counted::of(&items)),
+    ];
+    let refused = run(heap, &mut queue, calls.expect(rt, "memory")).is_err();
+    let before = items.dropped();
     let (len, closed) = (queue.len(), queue.is_closed());
     drop(queue);
-    Ok((refused, [before, drops.get()], len, closed))
+    (refused, [before, items.dropped()], len, closed)
 }
 
 /// Where there is no room for the replies no call is made, and what the calls carry is dropped once.
 #[test]
 fn no_room_for_the_replies(rt: HostRuntime) {
     let heap = Heap::new(rt.alloc(), Refusal::Nth(2));
-    let seen = without_room(rt.alloc(), &heap);
-    assert_eq!(rt;
-        (seen, heap.requests(), heap.live()),
-        (Ok((true, [2, 3], 1, false)), 2, 0)
-    );
+    let seen = run_without_room(&rt, rt.alloc(), &heap);
+    is(&rt, seen, (true, [2, 3], 1, false));
+    is(&rt, (heap.requests(), heap.live()), (2, 0));
 }

@@ -1,6 +1,7 @@
 //! Rows of the form `channel`, run through `command`, and two ends of a channel that are at work within one another's calls.
 use crate::command::meanwhile::{Heap, Queue};
-use crate::command::rows::{UNREAD, all_end_well, all_wrong, ends};
+use crate::command::rows::all_end_well;
+use crate::runs::{Program, UNREAD, all_wrong, ends};
 use app_threads::crew::{Plan, Work};
 use app_threads::ends::run_all;
 use counted_channel::channel;
@@ -14,7 +15,13 @@ use test_streams::runs::End;
 #[test]
 fn one_end_a_side(rt: HostRuntime) {
     let end = End::right("1000 values, each counted 1 times\nleft 0\n");
-    ends(&rt, "channel single 1 1 1000", UNREAD, end);
+    ends(
+        &rt,
+        Program::QueueRun,
+        "channel single 1 1 1000",
+        UNREAD,
+        end,
+    );
 }
 
 /// Four ends a side, over each kind of queue.
@@ -88,7 +95,13 @@ fn items_that_nobody_divides(rt: HostRuntime) {
 #[test]
 fn no_channel_of_too_many_slots(rt: HostRuntime) {
     let line = "channel bounded:576460752303423489 1 1 1";
-    ends(&rt, line, UNREAD, End::fault(3, "no memory\n"));
+    ends(
+        &rt,
+        Program::QueueRun,
+        line,
+        UNREAD,
+        End::fault(3, "no memory\n"),
+    );
 }
 
 static WRONG: [&str; 16] = [
@@ -112,7 +125,7 @@ static WRONG: [&str; 16] = [
 
 #[test]
 fn wrong_channels_give_the_usage_text(rt: HostRuntime) {
-    all_wrong(&rt, &WRONG, UNREAD);
+    all_wrong(&rt, Program::QueueRun, &WRONG, UNREAD);
 }
 
 /// What is seen of two threads that send, and one that receives.

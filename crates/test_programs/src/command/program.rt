@@ -1,5 +1,5 @@
 //! The end of the program: the arguments as the system gives them, and the status.
-use crate::command::rows::USAGE;
+use crate::runs::RUN_USAGE;
 use app_command::program::program;
 use std::env::Args;
 use std::io;
@@ -44,9 +44,9 @@ static ENDS: [(&str, u8, &str, &str); 7] = [
         "50 values, each counted 2 times\n",
         "",
     ),
-    ("queue_run threads unbounded 2 2 50 50", 2, "", USAGE),
-    ("queue_run", 2, "", USAGE),
-    ("", 2, "", USAGE),
+    ("queue_run threads unbounded 2 2 50 50", 2, "", RUN_USAGE),
+    ("queue_run", 2, "", RUN_USAGE),
+    ("", 2, "", RUN_USAGE),
     ("queue_run replay single 1", 2, "", "line 1: unreadable\n"),
     (
         "queue_run script bounded:576460752303423489",
@@ -77,5 +77,5 @@ fn arguments_without_memory_end_as_want_of_memory(rt: HostRuntime) {
 #[test]
 fn arguments_that_are_no_text_are_wrong(rt: HostRuntime) {
     let error = io::Error::from(ErrorKind::InvalidData);
-    ends(&rt, Err(error), INPUT, End::fault(2, USAGE));
+    ends(&rt, Err(error), INPUT, End::fault(2, RUN_USAGE));
 }

@@ -1,22 +1,7 @@
 //! Each request for memory of scripts and of replays, refused in turn.
-use crate::command::rows::{Part, run_over, text_of};
-use std::process::Abort;
-use std::sync::Wait;
-use std::thread::Threads;
-use test_allocators::{Refusal, Refusing};
-use test_streams::runs::End;
-
-/// More requests than any of these runs makes.
-const MANY: u64 = 200;
-
-/// A run: its arguments, its input and its output, and, where it asks for a block, what it writes if that request is refused: then it still ends well.
-#[derive(Clone, Copy)]
-struct Asking<'a> {
-    line: &'a str,
-    input: &'a str,
-    output: &'a str,
-    told: Option<&'static str>,
-}
+use crate::command::rows::{Part, text_of};
+use crate::refusals::{Asking, all_refuse, refuse_each};
+use crate::runs::Program;
 
 static RUNS: [Asking<'static>; 8] = [
     Asking {
@@ -70,113 +55,10 @@ static RUNS: [Asking<'static>; 8] = [
     },
 ];
 
-impl Asking<'_> {
-    /// Whether a run may end so: well with its output; or, where a request was refused, well with what tells of the block, if it asks for one, or for want of memory with a beginning of the output.
-    fn may_end(&self, was_refused: bool, end: End<'_>) -> bool {
-        match (end.status, was_refused, self.told) {
-            (0, false, _) => end == End::right(self.output),
-            (0, true, Some(told)) => end == End::right(told),
-            (3, true, _) => {
-                self.output.as_bytes().starts_with(end.output)
-                    && end.faults == "no memory\n".as_bytes()
-            }
-            _ => false,
-        }
-    }
-}
-
-/// What is seen of a run of which a request is refused.
-#[derive(Clone, Copy)]
-struct Refused {
-    requests: u64,
-    /// Whether it ended as it may.
-    right: bool,
-    /// How many allocations stayed.
-    live: u64,
-    well: bool,
-    begun: bool,
-}
-
-/// Runs with the request of this number refused.
-fn refuse<R: Abort + Threads + Wait + Sync + AllocGlobal>(
-    rt: &R,
-    asking: &Asking<'_>,
-    number: u64,
-) -> Refused {
-    let alloc = rt.alloc();
-    let heap = Refusing::new(alloc, Refusal::Nth(number));
-    let mut input = asking.input.as_bytes();
-    let mut output = Vec::new(alloc);
-    let mut faults = Vec::new(alloc);
-    let status = run_over(rt, &heap, asking.line, &mut input, &mut output, &mut faults);
-    let end = End {
-        status,
-        output: output.as_slice(),
-        faults: faults.as_slice(),
-    };
-    let requests = heap.requests();
-    Refused {
-        requests,
-        right: asking.may_end(number <= requests, end),
-        live: heap.live(),
-        well: status == 0,
-        begun: !output.is_empty(),
-    }
-}
-
-/// How many requests a run makes; at how many of them, refused, it ended well; and at how many a part of its output was written before it ended for want of memory.
-#[derive(Clone, Copy)]
-struct Tally {
-    requests: u64,
-    well: u64,
-    begun: u64,
-}
-
-/// Refuses each request of a run in turn. Asserts that each ends as it may, and that nothing stays allocated.
-fn refuse_each<R: Abort + Threads + Wait + Sync + AllocGlobal>(
-    rt: &R,
-    asking: &Asking<'_>,
-) -> Tally {
-    let mut well = 0u64;
-    let mut begun = 0u64;
-    for number in 1..MANY {
-        let refused = refuse(rt, asking, number);
-        assert_eq!(rt;
-            (refused.right, refused.live),
-            (true, 0),
-            "{:?}, request {number}",
-            asking.line
-        );
-        if refused.requests < number {
-            return Tally {
-                requests: refused.requests,
-                well,
-                begun,
-            };
-        }
-        if refused.well {
-            well = well.wrapping_add(1);
-        } else if refused.begun {
-            begun = begun.wrapping_add(1);
-        }
-    }
-    panic!(rt; "more requests");
-}
-
-/// A run of few lines asks for room for its input, its lines and its work at least, and writes all of its output at its end. It goes on where the request for a block is refused, which is one at most, and ends at every other.
+/// A run of few lines asks for room for its input, its lines and its work at least, and writes all of its output at its end.
 #[test]
 fn each_request_refused(rt: HostRuntime) {
-    for asking in RUNS.iter() {
-        let tally = refuse_each(&rt, asking);
-        let blocks = u64::from(asking.told.is_some());
-        assert_eq!(rt;
-            (3 <= tally.requests, tally.well, tally.begun),
-            (true, blocks, 0),
-            "{:?} on {:?}",
-            asking.line,
-            asking.input
-        );
-    }
+    all_refuse(&rt, Program::QueueRun, &RUNS, 3);
 }
 
 /// A script of so many lines that a part of its output is written before the last requests.
@@ -199,6 +81,6 @@ fn each_request_of_a_long_script_refused(rt: HostRuntime) {
         output: output.as_str(),
         told: None,
     };
-    let tally = refuse_each(&rt, &asking);
+    let tally = refuse_each(&rt, Program::QueueRun, &asking);
     assert_eq!(rt; (tally.well, 0 < tally.begun), (0, true));
 }

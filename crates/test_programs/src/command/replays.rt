@@ -1,5 +1,6 @@
 //! Rows of replays, run through `command`.
-use crate::command::rows::{Part, all_unreadable, ends, writes};
+use crate::command::rows::{Part, all_unreadable, writes};
+use crate::runs::{Program, all_print, ends};
 use test_streams::runs::{End, Row};
 
 static REPLAYS: [Row; 10] = [
@@ -67,9 +68,7 @@ static REPLAYS: [Row; 10] = [
 
 #[test]
 fn replays_print_what_happened_and_what_is_left(rt: HostRuntime) {
-    for row in REPLAYS.iter() {
-        ends(&rt, row.line, row.input.as_bytes(), End::right(row.output));
-    }
+    all_print(&rt, Program::QueueRun, &REPLAYS);
 }
 
 /// What is printed of a close after each number of steps of a displacement.
@@ -102,6 +101,7 @@ fn a_close_at_each_step_of_a_displacement_is_kept(rt: HostRuntime) {
 fn a_capacity_past_the_longest_is_want_of_memory(rt: HostRuntime) {
     ends(
         &rt,
+        Program::QueueRun,
         "replay bounded:576460752303423489 1",
         b"0 push 1\n",
         End::fault(3, "no memory\n"),

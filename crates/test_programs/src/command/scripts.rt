@@ -1,14 +1,13 @@
 //! Rows of scripts, run through `command`.
-use crate::command::rows::{
-    AMPLE, FAILED_READS, Part, Room, all_unreadable, all_write, all_wrong, ends, ends_in, ends_on,
-    is, run_over, text_of,
-};
-use std::io;
-use std::io::{ErrorKind, Read, Write};
+use crate::command::rows::{Part, all_unreadable, all_write, text_of};
+use crate::runs::{Program, all_wrong, ends, ends_with, run};
+use crate::streams::{read_fails, write_fails};
+use std::io::ErrorKind;
 use std::process::Abort;
 use std::sync::Wait;
 use std::thread::Threads;
-use test_streams::runs::End;
+use test_streams::runs::{End, SOUND, Streams};
+use test_streams::streams::{Failing, Flow};
 
 /// The arguments of a script on a queue of one slot.
 pub const SINGLE: &str = "script single";
@@ -40,7 +39,7 @@ static WRONG: [&str; 22] = [
 
 #[test]
 fn wrong_arguments_give_the_usage_text(rt: HostRuntime) {
-    all_wrong(&rt, &WRONG, b"pop\n");
+    all_wrong(&rt, Program::QueueRun, &WRONG, b"pop\n");
 }
 
 static UNREADABLE: [(&[u8], &str); 20] = [
@@ -110,6 +109,7 @@ fn scripts_print_the_replies_and_what_is_left(rt: HostRuntime) {
 fn rings_are_run_by_their_capacity(rt: HostRuntime) {
     ends(
         &rt,
+        Program::QueueRun,
         "script bounded:3",
         b"force 1\nforce 2\nforce 3\npush 4\nforce 5\nforce 6\nclose\nforce 7\npop\npop\npop\n",
         End::right(
@@ -122,85 +122,22 @@ fn rings_are_run_by_their_capacity(rt: HostRuntime) {
 fn a_capacity_past_the_longest_is_want_of_memory(rt: HostRuntime) {
     ends(
         &rt,
+        Program::QueueRun,
         "script bounded:576460752303423489",
         b"push 1\n",
         End::fault(3, "no memory\n"),
     );
 }
 
-/// Gives a few bytes, and fails so then.
-#[derive(Drop)]
-struct BrokenReader {
-    rest: &'static [u8],
-    kind: ErrorKind,
-}
-
-impl Read for BrokenReader {
-    fn read(&mut self, buf: &mut [u8]) -> io::Result<usize> {
-        if self.rest.is_empty() {
-            return Err(io::Error::from(self.kind));
-        }
-        self.rest.read(buf)
-    }
-}
-
 static STARTS: [&[u8]; 3] = [b"", b"push 1\npop\n", b"unreadable\n"];
 
+/// The read behind what it starts with fails.
 #[test]
 fn a_failed_read_prints_nothing(rt: HostRuntime) {
-    for (kind, fault) in FAILED_READS.iter() {
-        for start in STARTS.iter() {
-            let mut input = BrokenReader {
-                rest: start,
-                kind: *kind,
-            };
-            ends_on(&rt, SINGLE, &mut input, start, End::fault(3, fault));
-        }
+    for start in STARTS.iter() {
+        let number = start.len().min(1) as u64;
+        read_fails(&rt, Program::QueueRun, SINGLE, start, usize::MAX, number);
     }
-}
-
-/// Counts of what it takes only what was flushed.
-#[derive(Drop)]
-struct LateWriter {
-    taken: Vec<u8>,
-    flushed: usize,
-}
-
-impl LateWriter {
-    /// What was flushed.
-    fn flushed(&self) -> &[u8] {
-        &self.taken[..self.flushed.min(self.taken.len())]
-    }
-}
-
-impl Write for LateWriter {
-    fn write(&mut self, buf: &[u8]) -> io::Result<usize> {
-        self.taken.extend_from_slice(buf)?;
-        Ok(buf.len())
-    }
-
-    fn flush(&mut self) -> io::Result<()> {
-        self.flushed = self.taken.len();
-        Ok(())
-    }
-}
-
-/// Asserts that the program ends well on a line of arguments, and flushes this.
-fn flushes<R: Abort + Threads + Wait + Sync + AllocGlobal>(rt: &R, line: &str, flushed: &str) {
-    let alloc = rt.alloc();
-    let mut input: &[u8] = b"";
-    let mut output = LateWriter {
-        taken: Vec::new(alloc),
-        flushed: 0,
-    };
-    let mut faults = Vec::new(alloc);
-    let status = run_over(rt, &alloc, line, &mut input, &mut output, &mut faults);
-    let found = End {
-        status,
-        output: output.flushed(),
-        faults: faults.as_slice(),
-    };
-    is(rt, found, line, b"", End::right(flushed));
 }
 
 static FLUSHED: [(&str, &str); 4] = [
@@ -213,15 +150,20 @@ static FLUSHED: [(&str, &str); 4] = [
 #[test]
 fn all_output_is_flushed(rt: HostRuntime) {
     for (line, output) in FLUSHED.iter() {
-        flushes(&rt, line, output);
+        let outcome = run(&rt, Program::QueueRun, &rt.alloc(), line, b"", SOUND);
+        assert_eq!(rt;
+            (outcome.end(), outcome.output.flushed()),
+            (End::right(output), output.len()),
+            "at {line:?}"
+        );
     }
 }
 
-/// Room for so many bytes, as on a full disk.
-fn room(bytes: usize) -> Room {
-    Room {
-        bytes,
-        kind: ErrorKind::StorageFull,
+/// Takes three bytes at a time, and has room for so many, as on a full disk.
+fn room(bytes: usize) -> Flow {
+    Flow {
+        most: 3,
+        failing: Failing::Full(bytes, ErrorKind::StorageFull),
     }
 }
 
@@ -233,12 +175,7 @@ fn fills<R: Abort + Threads + Wait + Sync + AllocGlobal>(
     bytes: usize,
 ) {
     let (begun, _) = output.split_at(bytes.min(output.len()));
-    let end = End {
-        status: 3,
-        output: begun,
-        faults: b"output failed\n",
-    };
-    ends_in(rt, SINGLE, input, room(bytes), AMPLE, end);
+    write_fails(rt, Program::QueueRun, SINGLE, input, room(bytes), begun);
 }
 
 #[test]
@@ -280,24 +217,26 @@ fn output_in_pieces_is_whole(rt: HostRuntime) {
     let input = text_of(&rt, &LONG_SCRIPT);
     let output = text_of(&rt, &LONG_OUTPUT);
     let end = End::right(output.as_str());
-    ends_in(
+    let streams = Streams {
+        output: room(output.len()),
+        ..SOUND
+    };
+    ends_with(
         &rt,
+        Program::QueueRun,
         SINGLE,
         input.as_bytes(),
-        room(output.len()),
-        AMPLE,
+        streams,
         end,
     );
 }
 
 #[test]
 fn a_fault_that_cannot_be_told_keeps_its_status(rt: HostRuntime) {
-    ends_in(
-        &rt,
-        SINGLE,
-        b"pop \n",
-        AMPLE,
-        room(4),
-        End::fault(2, "line"),
-    );
+    let streams = Streams {
+        faults: room(4),
+        ..SOUND
+    };
+    let end = End::fault(2, "line");
+    ends_with(&rt, Program::QueueRun, SINGLE, b"pop \n", streams, end);
 }

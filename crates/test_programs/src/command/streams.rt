@@ -1,12 +1,11 @@
-//! Runs whose readers and writers do as little as they may, and fail at any of their calls.
-use crate::command::rows::{FAILED_READS, is, run_over, text_of};
+//! Runs of `queue_run` whose readers and writers do as little as they may, and fail at any of their calls.
+use crate::command::rows::text_of;
 use crate::command::scripts::{LONG_OUTPUT, LONG_SCRIPT, SINGLE};
+use crate::runs::Program;
+use crate::streams;
 use std::io::ErrorKind;
-use std::process::Abort;
-use std::sync::Wait;
-use std::thread::Threads;
-use test_streams::runs::{End, Row};
-use test_streams::streams::{ByteReader, ByteWriter, Failing};
+use test_streams::runs::Row;
+use test_streams::streams::{Failing, Flow};
 
 /// Runs that read all of their input and write all of their output.
 static RUNS: [Row; 6] = [
@@ -42,84 +41,19 @@ static RUNS: [Row; 6] = [
     },
 ];
 
-/// Asserts that a run ends so whose input comes, and whose output goes, a byte at a time, where these streams fail so.
-fn ends_by_bytes<R: Abort + Threads + Wait + Sync + AllocGlobal>(
-    rt: &R,
-    line: &str,
-    input: &str,
-    reads: Failing,
-    writes: Failing,
-    end: End<'_>,
-) {
-    let alloc = rt.alloc();
-    let input = input.as_bytes();
-    let mut reader = ByteReader::new(input, reads);
-    let mut writer = ByteWriter::new(alloc, writes);
-    let mut faults = Vec::new(alloc);
-    let status = run_over(rt, &alloc, line, &mut reader, &mut writer, &mut faults);
-    let output = writer.into_taken();
-    let found = End {
-        status,
-        output: output.as_slice(),
-        faults: faults.as_slice(),
-    };
-    is(rt, found, line, input, end);
-}
-
 #[test]
 fn a_byte_at_a_time(rt: HostRuntime) {
-    for row in RUNS.iter() {
-        for failing in [Failing::Never, Failing::Interrupted] {
-            let end = End::right(row.output);
-            ends_by_bytes(&rt, row.line, row.input, failing, failing, end);
-        }
-    }
+    streams::a_byte_at_a_time(&rt, Program::QueueRun, &RUNS);
 }
 
 #[test]
 fn each_read_fails(rt: HostRuntime) {
-    for row in RUNS.iter() {
-        for number in 0..row.input.len() as u64 {
-            for (kind, fault) in FAILED_READS.iter() {
-                let failing = Failing::At(number, *kind);
-                let end = End::fault(3, fault);
-                ends_by_bytes(&rt, row.line, row.input, failing, Failing::Never, end);
-            }
-        }
-    }
-}
-
-/// Asserts that a run ends with a failed output, of which it wrote so much, where its writes fail so.
-fn fails_behind<R: Abort + Threads + Wait + Sync + AllocGlobal>(
-    rt: &R,
-    line: &str,
-    input: &str,
-    writes: Failing,
-    written: &[u8],
-) {
-    let end = End {
-        status: 3,
-        output: written,
-        faults: b"output failed\n",
-    };
-    ends_by_bytes(rt, line, input, Failing::Never, writes, end);
+    streams::each_read_fails(&rt, Program::QueueRun, &RUNS);
 }
 
 #[test]
 fn each_write_fails(rt: HostRuntime) {
-    for row in RUNS.iter() {
-        let output = row.output.as_bytes();
-        for count in 0..output.len() {
-            let number = count as u64;
-            for failing in [
-                Failing::At(number, ErrorKind::BrokenPipe),
-                Failing::At(number, ErrorKind::OutOfMemory),
-                Failing::TakesNothing(number),
-            ] {
-                fails_behind(&rt, row.line, row.input, failing, &output[..count]);
-            }
-        }
-    }
+    streams::each_write_fails(&rt, Program::QueueRun, &RUNS);
 }
 
 /// How much is written before the one write that fails: less than a piece.
@@ -132,8 +66,9 @@ fn a_write_that_fails_once_ends_a_long_script(rt: HostRuntime) {
     let output = text_of(&rt, &LONG_OUTPUT);
     let output = output.as_bytes();
     let (begun, _) = output.split_at(BEGUN.min(output.len()));
-    let failing = Failing::At(BEGUN as u64, ErrorKind::StorageFull);
-    fails_behind(&rt, SINGLE, input.as_str(), failing, begun);
+    let flow = Flow::bytewise(Failing::At(BEGUN as u64, ErrorKind::StorageFull));
+    let input = input.as_bytes();
+    streams::write_fails(&rt, Program::QueueRun, SINGLE, input, flow, begun);
 }
 
 /// Runs with threads too.
@@ -162,8 +97,5 @@ static FLUSHED: [Row; 4] = [
 
 #[test]
 fn a_failed_flush_is_told(rt: HostRuntime) {
-    for row in FLUSHED.iter() {
-        let output = row.output.as_bytes();
-        fails_behind(&rt, row.line, row.input, Failing::AtFlush, output);
-    }
+    streams::each_flush_fails(&rt, Program::QueueRun, &FLUSHED);
 }

@@ -1,25 +1,45 @@
 //! Rows of the forms that start threads, run through `command`.
-use crate::command::rows::{AMPLE, Room, UNREAD, all_end_well, all_wrong, ends, ends_in};
+use crate::command::rows::all_end_well;
+use crate::runs::{Program, UNREAD, all_wrong, ends, ends_with};
 use std::io::ErrorKind;
-use test_streams::runs::End;
+use test_streams::runs::{End, SOUND, Streams};
+use test_streams::streams::{Failing, Flow};
 
 /// A program that runs the two sides one after the other, on one thread, prints `alone`: the first waits for an item that the second is yet to send.
 #[test]
 fn both_threads_of_a_handshake_get_an_item(rt: HostRuntime) {
-    ends(&rt, "handshake", UNREAD, End::right("both\n"));
+    ends(
+        &rt,
+        Program::QueueRun,
+        "handshake",
+        UNREAD,
+        End::right("both\n"),
+    );
 }
 
 /// On one thread the second push would wait for a pop that is yet to come, and the test would not end.
 #[test]
 fn one_thread_a_side(rt: HostRuntime) {
     let end = End::right("1000 values, each counted 1 times\n");
-    ends(&rt, "threads single 1 1 1000", UNREAD, end);
+    ends(
+        &rt,
+        Program::QueueRun,
+        "threads single 1 1 1000",
+        UNREAD,
+        end,
+    );
 }
 
 #[test]
 fn four_threads_a_side(rt: HostRuntime) {
     let end = End::right("1000 values, each counted 4 times\n");
-    ends(&rt, "threads single 4 4 1000", UNREAD, end);
+    ends(
+        &rt,
+        Program::QueueRun,
+        "threads single 4 4 1000",
+        UNREAD,
+        end,
+    );
 }
 
 /// More poppers, more pushers, and no items.
@@ -90,7 +110,13 @@ fn through_chains(rt: HostRuntime) {
 #[test]
 fn no_ring_of_too_many_slots(rt: HostRuntime) {
     let line = "threads bounded:576460752303423489 1 1 1";
-    ends(&rt, line, UNREAD, End::fault(3, "no memory\n"));
+    ends(
+        &rt,
+        Program::QueueRun,
+        line,
+        UNREAD,
+        End::fault(3, "no memory\n"),
+    );
 }
 
 static WRONG: [&str; 26] = [
@@ -124,19 +150,22 @@ static WRONG: [&str; 26] = [
 
 #[test]
 fn wrong_loads_give_the_usage_text(rt: HostRuntime) {
-    all_wrong(&rt, &WRONG, UNREAD);
+    all_wrong(&rt, Program::QueueRun, &WRONG, UNREAD);
 }
 
-/// The room of a pipe that nobody reads.
-const BROKEN: Room = Room {
-    bytes: 0,
-    kind: ErrorKind::BrokenPipe,
+/// An output that is a pipe that nobody reads.
+const BROKEN: Streams = Streams {
+    output: Flow {
+        most: 3,
+        failing: Failing::Full(0, ErrorKind::BrokenPipe),
+    },
+    ..SOUND
 };
 
 #[test]
 fn a_failed_write_is_told(rt: HostRuntime) {
     for line in ["handshake", "threads single 1 1 1", "channel single 1 1 1"] {
         let end = End::fault(3, "output failed\n");
-        ends_in(&rt, line, b"", BROKEN, AMPLE, end);
+        ends_with(&rt, Program::QueueRun, line, b"", BROKEN, end);
     }
 }

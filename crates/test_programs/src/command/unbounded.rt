@@ -1,5 +1,6 @@
 //! Rows on queues without a capacity, run through `command`.
-use crate::command::rows::{Part, all_write, ends, writes};
+use crate::command::rows::{Part, all_write, writes};
+use crate::runs::{Program, ends};
 use test_streams::runs::End;
 
 static SCRIPTS: [(&str, &str); 3] = [
@@ -47,6 +48,7 @@ fn observers_while_a_pop_passes_to_the_next_block(rt: HostRuntime) {
 fn the_first_request_is_refused(rt: HostRuntime) {
     ends(
         &rt,
+        Program::QueueRun,
         "replay unbounded 1",
         b"0 push 7\n0 step\n0 step\n0 refuse\n0 push 8\n0 run\n0 step\n1 pop\n",
         End::right(
@@ -59,6 +61,7 @@ fn the_first_request_is_refused(rt: HostRuntime) {
 fn two_parties_install_the_first_block(rt: HostRuntime) {
     ends(
         &rt,
+        Program::QueueRun,
         "replay unbounded 2",
         b"0 push 1\n0 step\n0 step\n0 step\n1 push 2\n1 step\n1 step\n1 step\n0 run\n1 run\n0 len\n0 run\n",
         End::right("9 0 append\n9 0 ok\n10 1 append\n10 1 ok\n12 0 2\nblocks 2 of 4\nleft 1 2\n"),

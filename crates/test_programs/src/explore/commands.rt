@@ -1,6 +1,5 @@
 //! Rows of each form, run through `command`.
-use crate::explore::rows::{FaultRow, all_end_with_a_fault, all_print, all_wrong};
-use std::alloc::AllocError;
+use crate::runs::{FaultRow, Program, all_fail, all_print, all_wrong};
 use test_streams::runs::Row;
 
 /// A forced push to a full ring of two, beside two `len`s.
@@ -26,8 +25,8 @@ static LISTS: [Row; 3] = [
 ];
 
 #[test]
-fn lists_of_all_outcomes(rt: HostRuntime) -> Result<(), AllocError> {
-    all_print(&rt, rt.alloc(), &LISTS)
+fn lists_of_all_outcomes(rt: HostRuntime) {
+    all_print(&rt, Program::QueueExplore, &LISTS);
 }
 
 static SCHEDULES: [Row; 3] = [
@@ -49,8 +48,8 @@ static SCHEDULES: [Row; 3] = [
 ];
 
 #[test]
-fn schedules_are_lines_of_a_replay(rt: HostRuntime) -> Result<(), AllocError> {
-    all_print(&rt, rt.alloc(), &SCHEDULES)
+fn schedules_are_lines_of_a_replay(rt: HostRuntime) {
+    all_print(&rt, Program::QueueExplore, &SCHEDULES);
 }
 
 static PICTURES: [Row; 8] = [
@@ -177,8 +176,8 @@ static PICTURES: [Row; 8] = [
 ];
 
 #[test]
-fn lanes_are_pictures_of_schedules(rt: HostRuntime) -> Result<(), AllocError> {
-    all_print(&rt, rt.alloc(), &PICTURES)
+fn lanes_are_pictures_of_schedules(rt: HostRuntime) {
+    all_print(&rt, Program::QueueExplore, &PICTURES);
 }
 
 static NO_OUTCOMES: [FaultRow; 4] = [
@@ -209,8 +208,8 @@ static NO_OUTCOMES: [FaultRow; 4] = [
 ];
 
 #[test]
-fn outcomes_that_are_not_there(rt: HostRuntime) -> Result<(), AllocError> {
-    all_end_with_a_fault(&rt, rt.alloc(), &NO_OUTCOMES)
+fn outcomes_that_are_not_there(rt: HostRuntime) {
+    all_fail(&rt, Program::QueueExplore, &NO_OUTCOMES);
 }
 
 static UNREADABLE: [FaultRow; 6] = [
@@ -253,8 +252,8 @@ static UNREADABLE: [FaultRow; 6] = [
 ];
 
 #[test]
-fn lines_that_are_unreadable(rt: HostRuntime) -> Result<(), AllocError> {
-    all_end_with_a_fault(&rt, rt.alloc(), &UNREADABLE)
+fn lines_that_are_unreadable(rt: HostRuntime) {
+    all_fail(&rt, Program::QueueExplore, &UNREADABLE);
 }
 
 static WRONG: [&str; 14] = [
@@ -275,8 +274,8 @@ static WRONG: [&str; 14] = [
 ];
 
 #[test]
-fn wrong_arguments_give_the_usage_text(rt: HostRuntime) -> Result<(), AllocError> {
-    all_wrong(&rt, rt.alloc(), &WRONG, "0: pop\n")
+fn wrong_arguments_give_the_usage_text(rt: HostRuntime) {
+    all_wrong(&rt, Program::QueueExplore, &WRONG, b"0: pop\n");
 }
 
 /// No queue has more slots than 2^59.
@@ -302,6 +301,6 @@ static TOO_MANY_SLOTS: [FaultRow; 3] = [
 ];
 
 #[test]
-fn no_ring_of_too_many_slots(rt: HostRuntime) -> Result<(), AllocError> {
-    all_end_with_a_fault(&rt, rt.alloc(), &TOO_MANY_SLOTS)
+fn no_ring_of_too_many_slots(rt: HostRuntime) {
+    all_fail(&rt, Program::QueueExplore, &TOO_MANY_SLOTS);
 }

@@ -9,22 +9,28 @@ use queue_steps::model::Reply;
 use queue_steps::steps::Kind;
 use std::alloc::{AllocError, Global};
 
-#[test]
-fn an_outcome_is_a_line(rt: HostRuntime) -> Result<(), AllocError> {
-    let alloc = rt.alloc();
+/// An outcome, and its line.
+fn outcome_lines(alloc: Global) -> Result<[String; 2], AllocError> {
     let mut replies = Vec::new(alloc);
     replies.push(Sequence::of(Vec::from_slice(alloc, &[Reply::ForcePush(Ok(Some(1)))])?))?;
     replies.push(Sequence::of(Vec::from_slice(alloc, &[Reply::Len(1), Reply::Len(2)])?))?;
     let mut outcome = String::new(alloc);
     write_outcome(&replies, &[2, 3], &mut outcome)?;
-    assert_eq!(rt; outcome.as_str(), "0: displaced 1 | 1: 1; 2 | left 2 3");
-    let mut text = String::new(alloc);
-    write_outcome_line(2, outcome.as_str(), " | steps 11", &mut text)?;
+    let mut line = String::new(alloc);
+    write_outcome_line(2, outcome.as_str(), " | steps 11", &mut line)?;
+    Ok([outcome, line])
+}
+
+#[test]
+fn an_outcome_is_a_line(rt: HostRuntime) {
+    let lines = outcome_lines(rt.alloc()).expect(&rt, "memory");
     assert_eq!(rt;
-        text.as_str(),
-        "outcome 2 | 0: displaced 1 | 1: 1; 2 | left 2 3 | steps 11\n"
+        [lines[0].as_str(), lines[1].as_str()],
+        [
+            "0: displaced 1 | 1: 1; 2 | left 2 3",
+            "outcome 2 | 0: displaced 1 | 1: 1; 2 | left 2 3 | steps 11\n"
+        ]
     );
-    Ok(())
 }
 
 /// Two parties on a chain without a block.
@@ -65,11 +71,10 @@ fn schedule_lines(alloc: Global) -> Result<String, AllocError> {
 
 /// Two steps or more that end a call are a `run`, but where another party's moves come between, or the last is refused. A single one is a `step`, and a call without steps has none.
 #[test]
-fn a_schedule_is_lines_of_a_replay(rt: HostRuntime) -> Result<(), AllocError> {
-    let text = schedule_lines(rt.alloc())?;
+fn a_schedule_is_lines_of_a_replay(rt: HostRuntime) {
+    let text = schedule_lines(rt.alloc()).expect(&rt, "memory");
     assert_eq!(rt;
         text.as_str(),
         "0 pop\n0 run\n0 force 3\n0 step\n0 step\n1 len\n1 run\n1 push 4\n1 step\n1 step\n1 refuse\n0 step\n0 step\n0 step\n0 step\n1 is_closed\n1 step\n0 step\n0 capacity\n0 close\n0 step\n"
     );
-    Ok(())
 }

@@ -3,7 +3,7 @@ use app_explore_text::args::{Request, Wanted, parse_request};
 use app_explore_text::reading::read_program;
 use app_text::args::KindName;
 use app_text::faults::Fault;
-use std::alloc::{AllocError, Global};
+use std::alloc::Global;
 use std::process::Abort;
 use test_streams::runs::words;
 
@@ -53,37 +53,26 @@ static ROWS: [(&str, Found<'static>); 20] = [
 ];
 
 #[test]
-fn programs_are_read(rt: HostRuntime) -> Result<(), AllocError> {
+fn programs_are_read(rt: HostRuntime) {
     for (text, found) in &ROWS {
-        is_read(&rt, rt.alloc(), text.as_bytes(), *found)?;
+        is_read(&rt, rt.alloc(), text.as_bytes(), *found);
     }
-    Ok(())
 }
 
 // Asserts that reading this text finds this.
-fn is_read(
-    rt: &impl Abort,
-    alloc: Global,
-    text: &[u8],
-    found: Found<'_>,
-) -> Result<(), AllocError> {
-    match read_program(alloc, text) {
+fn is_read(rt: &impl Abort, alloc: Global, text: &[u8], found: Found<'_>) {
+    let mut counts = Vec::new(alloc);
+    let read = match read_program(alloc, text) {
         Ok(program) => {
-            let mut counts = Vec::new(alloc);
             for calls in &program.parties {
-                counts.push(calls.len())?;
+                counts.push(calls.len()).expect(rt, "memory");
             }
-            let read = Found::Program(program.before.len(), &counts);
-            assert_eq!(rt; read, found, "of {text:?}");
+            Found::Program(program.before.len(), &counts)
         }
-        Err(Fault::Unreadable(number)) => assert_eq!(rt;
-            Found::Wrong(number),
-            found,
-            "of {text:?}"
-        ),
-        Err(_) => assert!(rt; false, "no memory"),
-    }
-    Ok(())
+        Err(Fault::Unreadable(number)) => Found::Wrong(number),
+        Err(_) => panic!(rt; "no memory"),
+    };
+    assert_eq!(rt; read, found, "of {text:?}");
 }
 
 static REQUESTS: [(&str, Option<Request>); 17] = [
@@ -149,10 +138,9 @@ static REQUESTS: [(&str, Option<Request>); 17] = [
 ];
 
 #[test]
-fn requests_are_read(rt: HostRuntime) -> Result<(), AllocError> {
+fn requests_are_read(rt: HostRuntime) {
     for (line, request) in &REQUESTS {
-        let words = words(rt.alloc(), line)?;
+        let words = words(rt.alloc(), line).expect(&rt, "memory");
         assert_eq!(rt; parse_request(&words), *request, "at {line:?}");
     }
-    Ok(())
 }

@@ -4,12 +4,13 @@ ghost use denote.RawPtr.{InBlock};
 ghost use Rattle.mem_blocks.specs.Seats.{Sits, Same};
 ghost use Rattle.test_closing.specs.ClosingRule.{Keeps};
 
+use crate::asserts::is;
 use mem_blocks::block::BlockPtr;
 use mem_blocks::web::{Rested, Seat, Web};
 use std::alloc::Global;
 use std::sync::atomic::{AtomicBool, Ordering};
-use std::test::*;
 use std::thread::{join_mut, yield_now};
+use test_allocators::signs::wait_for;
 use test_closing::closing;
 use test_closing::closing_rule::{ClosingRule, Place, View};
 
@@ -46,13 +47,7 @@ fn calls(queue: &Queue, party: &mut Party, tail: BlockPtr<u8>, answer: &AtomicBo
     if !closing::close(queue, party, tail) {
         return false;
     }
-    for _ in 0..LOOKS {
-        if answer.load(Ordering::SeqCst) {
-            return true;
-        }
-        yield_now();
-    }
-    false
+    wait_for(answer)
 }
 
 /// Waits until the other thread has closed the queue, which it cannot do again, and answers.
@@ -68,10 +63,12 @@ fn answers(queue: &Queue, party: &mut Party, tail: BlockPtr<u8>, answer: &Atomic
 
 /// Each thread waits for what the other one does, so neither of them alone comes to a good end.
 #[test]
-fn two_threads_see_each_other(rt: HostRuntime) -> Result<(), Fail> {
+fn two_threads_see_each_other(rt: HostRuntime) {
     let alloc: Global = rt.alloc();
     let answer = AtomicBool::new(false);
-    let (queue, mut seat, hub, tail, head) = closing::open::<u8, Global>(&alloc)?;
+    let (queue, mut seat, hub, tail, head) = closing::open::<u8, Global>(&alloc).expect(
+        &rt, "memory",
+    );
     let mut other = closing::part(&queue, &mut seat, tail);
     let seen = join_mut(
         &rt,
@@ -80,8 +77,7 @@ fn two_threads_see_each_other(rt: HostRuntime) -> Result<(), Fail> {
     );
     closing::take_back(&queue, &mut seat, other, tail);
     closing::end(queue, seat, hub, &alloc, tail, head);
-    assert_eq!(rt; seen, (true, true));
-    Ok(())
+    is(&rt, seen, (true, true));
 }
 
 /// Wakes, waits until the other thread has closed the queue and answers, and rests again.
@@ -102,10 +98,12 @@ fn wakes_and_answers(
 
 /// A seat comes to rest, wakes and rests again in the other thread, and wakes here.
 #[test]
-fn a_seat_rests_and_wakes_in_another_thread(rt: HostRuntime) -> Result<(), Fail> {
+fn a_seat_rests_and_wakes_in_another_thread(rt: HostRuntime) {
     let alloc: Global = rt.alloc();
     let answer = AtomicBool::new(false);
-    let (queue, mut seat, hub, tail, head) = closing::open::<u8, Global>(&alloc)?;
+    let (queue, mut seat, hub, tail, head) = closing::open::<u8, Global>(&alloc).expect(
+        &rt, "memory",
+    );
     let mut other = closing::part(&queue, &mut seat, tail).rests();
     let seen = join_mut(
         &rt,
@@ -114,6 +112,5 @@ fn a_seat_rests_and_wakes_in_another_thread(rt: HostRuntime) -> Result<(), Fail>
     );
     closing::take_back(&queue, &mut seat, other.wakes(&queue), tail);
     closing::end(queue, seat, hub, &alloc, tail, head);
-    assert_eq!(rt; seen, (true, true));
-    Ok(())
+    is(&rt, seen, (true, true));
 }

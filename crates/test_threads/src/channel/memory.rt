@@ -1,23 +1,19 @@
 //! Memory that is refused, and what is left of a channel that is dropped.
+use crate::asserts::is;
 use crate::channel::opening::{Sent, opened};
-use concurrent_queue::ConcurrentQueue;
+use crate::opening::open_surely;
 use counted_channel::{SendError, channel};
 use std::alloc::{AllocError, Global};
 use std::process::Abort;
 use std::sync::Wait;
-use test_allocators::{Refusal, Refusing};
-
-/// Memory of which the requests are counted, and refused.
-type Heap = Refusing<Global>;
+use test_allocators::{Heap, Refusal};
 
 /// Whether a channel was made; where not, the item that its queue has still, and whether that has one owner again.
 type Made = (bool, Option<u64>, bool);
 
 /// Makes a channel of a queue with the item 1, or takes the queue back. The queue takes its memory elsewhere.
 fn make<R: Wait + Abort>(rt: &R, heap: &Heap, counts: &Heap) -> Made {
-    let Ok((queue, mut party)) = ConcurrentQueue::bounded(heap, 2) else {
-        panic!(rt; "no memory");
-    };
+    let (queue, mut party) = open_surely(rt, heap, Some(2));
     let pushed = queue.push(rt, &mut party, 1).is_ok();
     match channel(counts, queue, party) {
         Ok(_) => (true, None, false),
@@ -47,17 +43,17 @@ static REFUSED: [(Refusal, (Made, u64, u64)); 3] = [
 #[test]
 fn a_refused_channel_gives_its_queue_back(rt: HostRuntime) {
     for (refusal, seen) in REFUSED.iter() {
-        assert!(rt; refused(&rt, rt.alloc(), *refusal) == *seen);
+        is(&rt, refused(&rt, rt.alloc(), *refusal), *seen);
     }
 }
 
 /// What a sender is answered that sends 1 and 2, and whether there are blocks then.
-fn send_two<R: Wait>(
+fn send_two<R: Wait + Abort>(
     rt: &R,
     heap: &Heap,
     cap: Option<usize>,
 ) -> Result<([Sent; 2], bool), AllocError> {
-    let (channel, mut sender, _receiver) = opened(heap, cap)?;
+    let (channel, mut sender, _receiver) = opened(rt, heap, cap)?;
     let sent = [
         channel.send(rt, &mut sender, 1),
         channel.send(rt, &mut sender, 2),
@@ -66,7 +62,7 @@ fn send_two<R: Wait>(
 }
 
 /// The same where the allocator refuses a request, and how many blocks stay once the channel is dropped with its ends and its items.
-fn send_two_and_drop<R: Wait>(
+fn send_two_and_drop<R: Wait + Abort>(
     rt: &R,
     alloc: Global,
     refusal: Refusal,
@@ -86,13 +82,13 @@ fn a_refused_block_gives_the_value_back(rt: HostRuntime) {
             refused = refused.wrapping_add(1);
         }
     }
-    assert!(rt; refused == 1);
+    is(&rt, refused, 1);
 }
 
 #[test]
 fn a_dropped_channel_leaves_nothing(rt: HostRuntime) {
     for cap in [Some(2), None] {
         let seen = send_two_and_drop(&rt, rt.alloc(), Refusal::Never, cap);
-        assert!(rt; seen == (Ok(([Ok(()), Ok(())], true)), 0));
+        is(&rt, seen, (Ok(([Ok(()), Ok(())], true)), 0));
     }
 }

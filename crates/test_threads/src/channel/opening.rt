@@ -3,9 +3,11 @@ ghost use Rattle.std.specs.Prelude.{IfOk, IfSome};
 ghost use Rattle.concurrent_queue.specs.Shared.{IsPartyOf};
 ghost use Rattle.counted_channel.specs.Channel.{IsEndOf};
 
-use concurrent_queue::{ConcurrentQueue, NullTestable, Party, PopError};
+use crate::opening::open;
+use concurrent_queue::{NullTestable, Party, PopError};
 use counted_channel::{Channel, Disconnected, Receiver, SendError, Sender, channel};
-use std::alloc::{AllocError, Allocator};
+use std::alloc::{AllocError, Global};
+use std::process::Abort;
 
 /// What a sender is answered.
 pub type Sent = Result<(), SendError<u64>>;
@@ -16,28 +18,28 @@ pub type Came = Result<u64, Disconnected>;
 /// A channel and its first two ends, where there was memory.
 pub type Opened<A> = Result<(Channel<u64, A>, Sender<u64>, Receiver<u64>), AllocError>;
 
-/// An open queue of this capacity, or without one, and its only party.
-fn open<A: NullTestable + Clone>(
-    alloc: A,
-    cap: Option<usize>,
-) -> Result<(ConcurrentQueue<u64, A>, Party<u64>), AllocError>
-    ensures { IfOk result (λ r. IsPartyOf r.1 r.0) }
-{
-    match cap {
-        Some(0) => Err(AllocError),
-        Some(slots) => ConcurrentQueue::bounded(alloc, slots),
-        None => ConcurrentQueue::unbounded(alloc),
-    }
-}
-
 /// A channel over a queue of this capacity, or without one, and its first two ends.
-pub fn opened<A: NullTestable + Copy>(alloc: A, cap: Option<usize>) -> Opened<A>
+pub fn opened<A: NullTestable + Copy>(rt: &impl Abort, alloc: A, cap: Option<usize>) -> Opened<A>
     ensures { IfOk result (λ r. IsEndOf r.1 r.0 × IsEndOf r.2 r.0) }
 {
-    let (queue, party) = open(alloc, cap)?;
+    let (queue, party) = open(rt, alloc, cap)?;
     match channel(alloc, queue, party) {
         Ok(opened) => Ok(opened),
         Err(_) => Err(AllocError),
+    }
+}
+
+/// The same, where there has to be memory. Asserts that there is.
+pub fn opened_surely(
+    rt: &impl Abort,
+    alloc: Global,
+    cap: Option<usize>,
+) -> (Channel<u64>, Sender<u64>, Receiver<u64>)
+    ensures { IsEndOf result.1 result.0 × IsEndOf result.2 result.0 }
+{
+    match opened(rt, alloc, cap) {
+        Ok(opened) => opened,
+        Err(_) => panic!(rt; "no memory"),
     }
 }
 

@@ -3,9 +3,11 @@ ghost use Rattle.std.specs.Prelude.{IfSome};
 ghost use Rattle.concurrent_queue.specs.Shared.{IsPartyOf};
 ghost use Rattle.counted_channel.specs.Channel.{IsEndOf};
 
-use crate::channel::opening::{Came, Left, Sent, left, opened};
+use crate::asserts::is;
+use crate::channel::opening::{Came, Left, Sent, left, opened_surely};
+use crate::opening::{open_surely, part};
 use callers_channel::{end_rejoined, hand_through};
-use concurrent_queue::{ConcurrentQueue, Party, PopError, PushError};
+use concurrent_queue::{Party, PopError, PushError};
 use counted_channel::{Channel, Disconnected, Receiver, SendError, Sender, channel};
 use std::alloc::Global;
 use std::fmt::{Debug, Display};
@@ -234,9 +236,7 @@ fn follow<R: Wait>(rt: &R, channel: &Channel<u64>, ends: &mut Ends, lines: &[Lin
 
 /// Tells a story. Asserts that each line is right, and what is left. A failure counts the lines before the wrong one.
 fn tell<R: Wait + Abort>(rt: &R, alloc: Global, story: &Story) {
-    let Ok((channel, sender, receiver)) = opened(alloc, story.cap) else {
-        panic!(rt; "no memory");
-    };
+    let (channel, sender, receiver) = opened_surely(rt, alloc, story.cap);
     let mut ends = Ends {
         sender: Some(sender),
         receiver: Some(receiver),
@@ -244,10 +244,8 @@ fn tell<R: Wait + Abort>(rt: &R, alloc: Global, story: &Story) {
     };
     let right = follow(rt, &channel, &mut ends, story.lines);
     let Ends { party, .. } = ends;
-    assert_eq!(rt;
-        (right, left(channel, party)),
-        (story.lines.len(), story.left)
-    );
+    let seen = (right, left(channel, party));
+    is(rt, seen, (story.lines.len(), story.left));
 }
 
 static ITEMS_BEFORE_THE_END: Story = Story {
@@ -398,12 +396,8 @@ fn a_channel_has_the_capacity_of_its_queue(rt: HostRuntime) {
 fn with_another_party(rt: &impl Abort, alloc: Global) -> (Channel<u64>, Party<u64>, Party<u64>)
     ensures { IsPartyOf result.1 result.0.queue × IsPartyOf result.2 result.0.queue }
 {
-    let Ok((queue, party)) = ConcurrentQueue::bounded(alloc, 1) else {
-        panic!(rt; "no memory");
-    };
-    let Ok((party, other)) = queue.split(party) else {
-        panic!(rt; "no second party");
-    };
+    let (queue, party) = open_surely(rt, alloc, Some(1));
+    let (party, other) = part(rt, &queue, party);
     let Ok((channel, sender, receiver)) = channel(alloc, queue, party) else {
         panic!(rt; "no memory");
     };
@@ -420,17 +414,12 @@ fn a_party_that_is_left_out_keeps_the_channel(rt: HostRuntime) {
         panic!(&rt; "finished with a party missing");
     };
     let party = channel.join(party, other);
-    assert!(rt; left(channel, Some(party)).is_some());
+    is(&rt, left(channel, Some(party)).is_some(), true);
 }
 
 /// What is left where a sender is parted, joined again and ended, and a receiver is parted, joined and ended.
 fn end_both_rejoined(rt: &impl Abort, alloc: Global) -> Option<Left> {
-    let Ok((queue, party)) = ConcurrentQueue::bounded(alloc, 1) else {
-        panic!(rt; "no memory");
-    };
-    let Ok((channel, sender, receiver)) = channel(alloc, queue, party) else {
-        panic!(rt; "no memory");
-    };
+    let (channel, sender, receiver) = opened_surely(rt, alloc, Some(1));
     let first = end_rejoined(&channel, sender);
     let Ok((one, two)) = channel.split_receiver(receiver) else {
         panic!(rt; "no second receiver");
@@ -443,16 +432,15 @@ fn end_both_rejoined(rt: &impl Abort, alloc: Global) -> Option<Left> {
 #[test]
 fn ends_that_are_joined_end_once(rt: HostRuntime) {
     let closed = Err(PopError::Closed);
-    assert!(rt; end_both_rejoined(&rt, rt.alloc()) == Some((0, true, closed, closed)));
+    let left = end_both_rejoined(&rt, rt.alloc());
+    is(&rt, left, Some((0, true, closed, closed)));
 }
 
 #[test]
 fn a_value_goes_through_a_slot(rt: HostRuntime) {
-    let Ok(handed) = hand_through(&rt, rt.alloc(), 7) else {
-        panic!(&rt; "no memory");
-    };
+    let handed = hand_through(&rt, rt.alloc(), 7).expect(&rt, "memory");
     let seen = (handed.sent, handed.came, handed.then, handed.left);
-    assert!(rt; seen == (Ok(()), Ok(7), Err(Disconnected), 0));
+    is(&rt, seen, (Ok(()), Ok(7), Err(Disconnected), 0));
 }
 
 /// Whether an error is printed so: as it is, in a field of eight, and for debugging.
@@ -475,6 +463,7 @@ fn errors_print_their_names(rt: HostRuntime) {
             "Disconnected|Disconnected|Disconnected",
         ),
     ];
-    assert!(rt; printed == [true, true, true]);
-    assert!(rt; closed != refused && closed == SendError::Closed(7) && refused.into_inner() == 8);
+    is(&rt, printed, [true, true, true]);
+    let equal = [closed == refused, closed == SendError::Closed(7)];
+    is(&rt, (equal, refused.into_inner()), ([false, true], 8));
 }

@@ -2,7 +2,8 @@
 ghost use Rattle.concurrent_queue.specs.Shared.{IsPartyOf};
 ghost use Rattle.counted_channel.specs.Channel.{IsEndOf};
 
-use crate::channel::opening::{Left, left, opened};
+use crate::asserts::{is, is_in};
+use crate::channel::opening::{Left, left, opened_surely};
 use callers_channel::gather;
 use concurrent_queue::Party;
 use counted_channel::{Channel, Receiver, SendError, Sender};
@@ -55,9 +56,7 @@ fn two_send<R: Threads + Wait + Abort + Sync>(
     rt: &R,
     alloc: Global,
 ) -> (u64, bool, u64, Option<Left>) {
-    let Ok((channel, sender, receiver)) = opened(alloc, Some(400)) else {
-        panic!(rt; "no memory");
-    };
+    let (channel, sender, receiver) = opened_surely(rt, alloc, Some(400));
     let Ok((one, two)) = channel.split_sender(sender) else {
         panic!(rt; "no second sender");
     };
@@ -91,15 +90,18 @@ fn as_many_are_sent_as_are_taken_or_left(rt: HostRuntime) {
         Some((left, closed, ..)) => closed && sent == 50u64.wrapping_add(left as u64),
         None => false,
     };
-    assert!(rt; right && taken == 50 && fits);
+    is(&rt, (right, taken, fits), (true, 50, true));
 }
 
 #[test]
 fn all_that_two_threads_send_comes(rt: HostRuntime) {
     for cap in [1usize, 3] {
-        let Ok(all) = gather(&rt, rt.alloc(), cap, 1000) else {
-            panic!(&rt; "no memory");
-        };
-        assert!(rt; (all.sent, all.came, all.left) == ((1000, 1000), 2000, 0));
+        let all = gather(&rt, rt.alloc(), cap, 1000).expect(&rt, "memory");
+        is_in(
+            &rt,
+            cap,
+            (all.sent, all.came, all.left),
+            ((1000, 1000), 2000, 0),
+        );
     }
 }

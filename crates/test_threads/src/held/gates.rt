@@ -2,10 +2,7 @@
 use call_driver::gate::Gate;
 use queue_steps::steps::{Op, Word};
 use std::sync::atomic::{AtomicBool, Ordering};
-use std::thread::yield_now;
-
-/// How often a thread looks for the other's sign at most.
-const LOOKS: u64 = 1_000_000;
+use test_allocators::signs::wait_for;
 
 /// What the two threads of a story show each other.
 #[derive(Drop)]
@@ -26,17 +23,6 @@ impl Signs {
             let_go: AtomicBool::new(false),
         }
     }
-}
-
-/// Waits for a sign, though not for ever. Gives whether it came.
-pub(crate) fn wait_for(sign: &AtomicBool) -> bool {
-    for _ in 0..LOOKS {
-        if sign.load(Ordering::SeqCst) {
-            return true;
-        }
-        yield_now();
-    }
-    false
 }
 
 /// Whether this is that word, of whichever block.

@@ -3,30 +3,31 @@ use crate::held::telling::{Story, tell};
 use concurrent_queue::{PopError, PushError};
 use queue_steps::model::{Call, Reply};
 use queue_steps::steps::{Op, READ, TAIL_STEP, WRITE, Word};
-use std::alloc::AllocError;
 
 static PUSH_HOLDS_THE_SLOT: Story = Story {
-    full_of: &[],
+    items: 0,
     held: (Call::Push(1), Reply::Push(Ok(()))),
     at: Op::And(Word::Lock, u64::MAX - 1),
     meanwhile: &[(Call::Push(2), Reply::Push(Err(PushError::Full(2))))],
     waiting: None,
     then: &[],
     left: &[1],
+    closed: false,
 };
 
 static POP_HOLDS_THE_SLOT: Story = Story {
-    full_of: &[1],
+    items: 1,
     held: (Call::Pop, Reply::Pop(Ok(1))),
     at: Op::And(Word::Lock, u64::MAX - 1),
     meanwhile: &[(Call::Pop, Reply::Pop(Err(PopError::Empty)))],
     waiting: None,
     then: &[],
     left: &[],
+    closed: false,
 };
 
 static PUSH_IS_NOT_STAMPED: Story = Story {
-    full_of: &[1],
+    items: 1,
     held: (Call::Push(2), Reply::Push(Ok(()))),
     at: Op::Store(Word::Stamp(1), 2),
     meanwhile: &[
@@ -36,21 +37,23 @@ static PUSH_IS_NOT_STAMPED: Story = Story {
     waiting: None,
     then: &[],
     left: &[2, 3],
+    closed: false,
 };
 
 static POP_IS_NOT_STAMPED: Story = Story {
-    full_of: &[1, 2],
+    items: 2,
     held: (Call::Pop, Reply::Pop(Ok(1))),
     at: Op::Store(Word::Stamp(0), 3),
     meanwhile: &[(Call::Pop, Reply::Pop(Ok(2)))],
     waiting: None,
     then: &[],
     left: &[],
+    closed: false,
 };
 
 /// A displaced front has left and the new item has not arrived: the queue can be closed and popped empty, and the next pop waits for the item.
 static ITEM_IS_COMING: Story = Story {
-    full_of: &[1, 2],
+    items: 2,
     held: (Call::ForcePush(3), Reply::ForcePush(Ok(Some(1)))),
     at: Op::Add(Word::Tail, TAIL_STEP),
     meanwhile: &[
@@ -63,11 +66,12 @@ static ITEM_IS_COMING: Story = Story {
         (Call::IsClosed, Reply::IsClosed(true)),
     ],
     left: &[],
+    closed: true,
 };
 
 /// No item is appended between the two.
 static PUSH_WAITS: Story = Story {
-    full_of: &[1, 2],
+    items: 2,
     held: (Call::ForcePush(3), Reply::ForcePush(Ok(Some(1)))),
     at: Op::Add(Word::Tail, TAIL_STEP),
     meanwhile: &[(Call::Len, Reply::Len(1))],
@@ -77,10 +81,11 @@ static PUSH_WAITS: Story = Story {
     )),
     then: &[],
     left: &[2, 3],
+    closed: false,
 };
 
 static PUSH_IS_NOT_WRITTEN: Story = Story {
-    full_of: &[1],
+    items: 1,
     held: (Call::Push(2), Reply::Push(Ok(()))),
     at: Op::Or(Word::State((), 1), WRITE),
     meanwhile: &[
@@ -90,54 +95,56 @@ static PUSH_IS_NOT_WRITTEN: Story = Story {
     waiting: None,
     then: &[],
     left: &[2, 3],
+    closed: false,
 };
 
 static POP_HAS_NOT_READ: Story = Story {
-    full_of: &[1, 2],
+    items: 2,
     held: (Call::Pop, Reply::Pop(Ok(1))),
     at: Op::Or(Word::State((), 0), READ),
     meanwhile: &[(Call::Pop, Reply::Pop(Ok(2)))],
     waiting: None,
     then: &[],
     left: &[],
+    closed: false,
 };
 
 #[test]
-fn full_while_a_push_holds_the_slot(rt: HostRuntime) -> Result<(), AllocError> {
-    tell(&rt, rt.alloc(), Some(1), &PUSH_HOLDS_THE_SLOT)
+fn full_while_a_push_holds_the_slot(rt: HostRuntime) {
+    tell(&rt, rt.alloc(), Some(1), &PUSH_HOLDS_THE_SLOT);
 }
 
 #[test]
-fn empty_while_a_pop_holds_the_slot(rt: HostRuntime) -> Result<(), AllocError> {
-    tell(&rt, rt.alloc(), Some(1), &POP_HOLDS_THE_SLOT)
+fn empty_while_a_pop_holds_the_slot(rt: HostRuntime) {
+    tell(&rt, rt.alloc(), Some(1), &POP_HOLDS_THE_SLOT);
 }
 
 #[test]
-fn popped_and_pushed_while_a_push_is_not_stamped(rt: HostRuntime) -> Result<(), AllocError> {
-    tell(&rt, rt.alloc(), Some(3), &PUSH_IS_NOT_STAMPED)
+fn popped_and_pushed_while_a_push_is_not_stamped(rt: HostRuntime) {
+    tell(&rt, rt.alloc(), Some(3), &PUSH_IS_NOT_STAMPED);
 }
 
 #[test]
-fn popped_while_a_pop_is_not_stamped(rt: HostRuntime) -> Result<(), AllocError> {
-    tell(&rt, rt.alloc(), Some(3), &POP_IS_NOT_STAMPED)
+fn popped_while_a_pop_is_not_stamped(rt: HostRuntime) {
+    tell(&rt, rt.alloc(), Some(3), &POP_IS_NOT_STAMPED);
 }
 
 #[test]
-fn closed_while_an_item_is_coming(rt: HostRuntime) -> Result<(), AllocError> {
-    tell(&rt, rt.alloc(), Some(2), &ITEM_IS_COMING)
+fn closed_while_an_item_is_coming(rt: HostRuntime) {
+    tell(&rt, rt.alloc(), Some(2), &ITEM_IS_COMING);
 }
 
 #[test]
-fn push_waits_while_an_item_is_coming(rt: HostRuntime) -> Result<(), AllocError> {
-    tell(&rt, rt.alloc(), Some(2), &PUSH_WAITS)
+fn push_waits_while_an_item_is_coming(rt: HostRuntime) {
+    tell(&rt, rt.alloc(), Some(2), &PUSH_WAITS);
 }
 
 #[test]
-fn popped_and_pushed_while_a_push_is_not_written(rt: HostRuntime) -> Result<(), AllocError> {
-    tell(&rt, rt.alloc(), None, &PUSH_IS_NOT_WRITTEN)
+fn popped_and_pushed_while_a_push_is_not_written(rt: HostRuntime) {
+    tell(&rt, rt.alloc(), None, &PUSH_IS_NOT_WRITTEN);
 }
 
 #[test]
-fn popped_while_a_pop_has_not_read(rt: HostRuntime) -> Result<(), AllocError> {
-    tell(&rt, rt.alloc(), None, &POP_HAS_NOT_READ)
+fn popped_while_a_pop_has_not_read(rt: HostRuntime) {
+    tell(&rt, rt.alloc(), None, &POP_HAS_NOT_READ);
 }

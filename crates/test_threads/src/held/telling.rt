@@ -1,25 +1,23 @@
 //! A call of one party is held before one of its steps while another party's calls go on to their ends, or wait for it.
 //!
 //! The held call is made by the queue's own `answer`, to which a user's calls come too; the other party makes its calls as a user does.
-ghost use Rattle.std.specs.Prelude.{◌≡◌, ◌<◌, IfOk, IfSome};
 ghost use Rattle.concurrent_queue.specs.Shared.{IsPartyOf};
 
-use crate::held::gates::{Holding, Returning, Signs, wait_for};
+use crate::asserts::is;
+use crate::calls::{Queue, Row, are_answered, is_left};
+use crate::crew::{Deed, find_each};
+use crate::held::gates::{Holding, Returning, Signs};
+use crate::opening::{end, open_surely};
 use call_driver::gate::Gate;
-use concurrent_queue::{ConcurrentQueue, Party};
-use queue_steps::model::{Call, Reply};
+use concurrent_queue::Party;
 use queue_steps::steps::Op;
 use shared_chain::source::Granting;
-use std::alloc::{AllocError, Global};
+use std::alloc::Global;
 use std::process::Abort;
 use std::sync::Wait;
 use std::sync::atomic::{AtomicBool, Ordering};
 use std::thread::{Threads, join};
-
-type Queue = ConcurrentQueue<u64>;
-
-/// A call, and its reply.
-pub(crate) type Row = (Call<u64>, Reply<u64>);
+use test_allocators::signs::wait_for;
 
 /// A call that has to wait, with its reply, and the operation to which it comes again while it waits.
 pub(crate) type Waiting = (Row, Op<()>);
@@ -30,8 +28,8 @@ struct Told;
 /// A call that is held before a step, and the calls of another party.
 #[derive(Drop)]
 pub(crate) struct Story {
-    /// What is pushed before.
-    pub(crate) full_of: &'static [u64],
+    /// How many items are pushed before: 1, 2 and so on.
+    pub(crate) items: u64,
     pub(crate) held: Row,
     /// The operation of the step before which the call is held.
     pub(crate) at: Op<()>,
@@ -42,36 +40,8 @@ pub(crate) struct Story {
     /// What the other party calls from when the held call may go on.
     pub(crate) then: &'static [Row],
     pub(crate) left: &'static [u64],
-}
-
-/// Makes a call as a user does.
-fn answer<R: Wait>(rt: &R, queue: &Queue, party: &mut Party<u64>, call: Call<u64>) -> Reply<u64>
-    requires { IsPartyOf party.old queue.now }
-    ensures { IsPartyOf party.new queue.now }
-{
-    match call {
-        Call::Push(value) => Reply::Push(queue.push(rt, party, value)),
-        Call::ForcePush(value) => Reply::ForcePush(queue.force_push(rt, party, value)),
-        Call::Pop => Reply::Pop(queue.pop(rt, party)),
-        Call::Close => Reply::Close(queue.close(party)),
-        Call::IsClosed => Reply::IsClosed(queue.is_closed(party)),
-        Call::IsEmpty => Reply::IsEmpty(queue.is_empty(party)),
-        Call::IsFull => Reply::IsFull(queue.is_full(party)),
-        Call::Len => Reply::Len(queue.len(rt, party)),
-        Call::Capacity => Reply::Capacity(queue.capacity()),
-    }
-}
-
-/// Makes calls as a user does. Gives whether each had its reply.
-fn are_answered<R: Wait>(rt: &R, queue: &Queue, party: &mut Party<u64>, rows: &[Row]) -> bool
-    requires { IsPartyOf party.old queue.now }
-    ensures { IsPartyOf party.new queue.now }
-{
-    let mut right = true;
-    for (call, reply) in rows {
-        right = answer(rt, queue, party, *call) == *reply && right;
-    }
-    right
+    /// Whether the queue is closed in the end.
+    pub(crate) closed: bool,
 }
 
 /// Makes a call through a gate. Gives whether it had its reply.
@@ -129,8 +99,8 @@ fn call_waiting<R: Wait>(
     right && signs.let_go.load(Ordering::SeqCst)
 }
 
-/// Makes the other party's calls once the call is held. Gives whether it was held, and each call had its reply in its time.
-fn call_meanwhile<R: Wait>(
+/// Makes the other party's calls once the call is held, and asserts each reply. Gives whether it was held, and the call that has to wait had its reply in its time.
+fn call_meanwhile<R: Wait + Abort>(
     rt: &R,
     queue: &Queue,
     mut party: Party<u64>,
@@ -141,30 +111,18 @@ fn call_meanwhile<R: Wait>(
     ensures { IsPartyOf result.0 queue.now }
 {
     let held = wait_for(&signs.held);
-    let right = are_answered(rt, queue, &mut party, story.meanwhile);
+    are_answered(rt, queue, &mut party, story.meanwhile);
     let waited = match &story.waiting {
         None => true,
         Some(waiting) => call_waiting(rt, queue, &mut party, waiting, signs),
     };
     signs.answered.store(true, Ordering::SeqCst);
-    let later = are_answered(rt, queue, &mut party, story.then);
-    (party, held && right && waited && later)
-}
-
-/// Pushes these items. Gives whether each was accepted.
-fn fill<R: Wait>(rt: &R, queue: &Queue, party: &mut Party<u64>, items: &[u64]) -> bool
-    requires { IsPartyOf party.old queue.now }
-    ensures { IsPartyOf party.new queue.now }
-{
-    let mut right = true;
-    for item in items {
-        right = queue.push(rt, party, *item).is_ok() && right;
-    }
-    right
+    are_answered(rt, queue, &mut party, story.then);
+    (party, held && waited)
 }
 
 /// Tells a story on a queue that is filled, with its only party. Gives that party, and whether all calls had their replies in their time.
-fn is_told<R: Wait + Threads + Sync>(
+fn is_told<R: Wait + Threads + Sync + Abort>(
     rt: &R,
     queue: &Queue,
     party: Party<u64>,
@@ -187,44 +145,17 @@ fn is_told<R: Wait + Threads + Sync>(
     }
 }
 
-/// Ends the sharing. Gives whether it ended with these items, and no more.
-fn is_left(queue: Queue, party: Party<u64>, left: &[u64]) -> bool
-    requires { IsPartyOf party queue }
-{
-    let Ok(mut alone) = queue.finish(party) else {
-        return false;
-    };
-    let mut right = true;
-    for item in left {
-        right = alone.pop() == Ok(*item) && right;
-    }
-    right && alone.is_empty()
-}
-
-/// An empty open queue of this capacity, or without one, and its only party.
-fn open(alloc: Global, cap: Option<usize>) -> Result<(Queue, Party<u64>), AllocError>
-    requires { IfSome cap (λ slots. 0 < slots) }
-    ensures { IfOk result (λ r. IsPartyOf r.1 r.0) }
-{
-    match cap {
-        Some(slots) => ConcurrentQueue::bounded(alloc, slots),
-        None => ConcurrentQueue::unbounded(alloc),
-    }
-}
-
 /// Tells a story on a queue of this capacity, or without one. Asserts that all calls have their replies in their time, and what is left then.
 pub(crate) fn tell<R: Wait + Threads + Sync + Abort>(
     rt: &R,
     alloc: Global,
     cap: Option<usize>,
     story: &Story,
-) -> Result<(), AllocError>
-    requires { IfSome cap (λ slots. 0 < slots) }
-{
-    let (queue, mut party) = open(alloc, cap)?;
-    let filled = fill(rt, &queue, &mut party, story.full_of);
+) {
+    let (queue, mut party) = open_surely(rt, alloc, cap);
+    let pushed = 1..story.items.wrapping_add(1);
+    let filled = find_each(rt, &queue, &mut party, Deed::PushOnce, pushed);
     let (party, told) = is_told(rt, &queue, party, story);
-    let left = is_left(queue, party, story.left);
-    assert_eq!(rt; (filled, told, left), (true, true, true));
-    Ok(())
+    is(rt, (filled, told), (true, true));
+    is_left(rt, &mut end(rt, queue, party), story.left, story.closed);
 }

@@ -2,18 +2,16 @@
 ghost use Rattle.std.specs.Prelude.{◌≡◌, ◌<◌};
 ghost use Rattle.concurrent_queue.specs.Shared.{IsPartyOf};
 
+use crate::asserts::{is, is_in};
+use crate::crew::{Board, Deed, Role, Task, crew, find_each};
+use crate::opening::{end, open_surely};
 use crate::shared::left::in_order;
-use crate::shared::opening::{end, open_surely};
-use crate::shared::threads::{Board, Role, Task, crew};
-use concurrent_queue::{ConcurrentQueue, Exclusive, Party, PushError};
+use concurrent_queue::{ConcurrentQueue, Exclusive, Party};
 use std::alloc::Global;
 use std::process::Abort;
 use std::sync::Wait;
 use std::thread::Threads;
-use test_allocators::{Refusal, Refusing};
-
-/// An allocator that counts, refuses and holds.
-pub(crate) type Heap = Refusing<Global>;
+use test_allocators::{Heap, Refusal};
 
 /// A shared queue whose requests are counted.
 type Queue<'a> = ConcurrentQueue<u64, &'a Heap>;
@@ -66,11 +64,11 @@ fn work_counted<'a, R: Wait + Threads + Sync + Abort>(
 fn passed_blocks_are_given_back(rt: HostRuntime) {
     let tasks = [
         Task::of(Role::PushAndLetGo, 0..ITEMS),
-        Task::of(Role::PopInOrder, 0..ITEMS),
+        Task::of(Role::Each(Deed::PopInOrder), 0..ITEMS),
     ];
-    let board = Board::surely(&rt, rt.alloc(), tasks.len());
+    let board = Board::of(&rt, rt.alloc(), tasks.len());
     let (_, right, counts) = work_counted(&rt, &board, &tasks, 1, false);
-    assert_eq!(rt; (right, counts), (true, [2, 0, 1, 1]));
+    is(&rt, (right, counts), (true, [2, 0, 1, 1]));
 }
 
 /// Of four threads the one that first asks for a block on the empty queue is kept waiting until another one's push is accepted, which asked for the same. No block is left over.
@@ -82,13 +80,11 @@ fn two_of_four_threads_ask_for_the_first_block(rt: HostRuntime) {
         Task::of(Role::PushAndLetGo, 2 * EACH..3 * EACH),
         Task::of(Role::PushAndLetGo, 3 * EACH..4 * EACH),
     ];
-    let board = Board::surely(&rt, rt.alloc(), tasks.len());
+    let board = Board::of(&rt, rt.alloc(), tasks.len());
     let (alone, right, counts) = work_counted(&rt, &board, &tasks, 2, true);
     let held = board.heap.held_until_let_go();
-    assert_eq!(rt;
-        (right, held, counts, in_order(alone, EACH)),
-        (true, true, [65, 4000, 64, 64], [EACH; 4])
-    );
+    let seen = (right, held, counts, in_order(alone, EACH));
+    is(&rt, seen, (true, true, [65, 4000, 64, 64], [EACH; 4]));
 }
 
 /// While the allocator keeps a push waiting for the first block, another thread's pop is answered.
@@ -98,44 +94,16 @@ fn empty_while_a_push_asks_for_memory(rt: HostRuntime) {
         Task::of(Role::PushAndLetGo, 0..1),
         Task::of(Role::PopWhileHeld, 0..1),
     ];
-    let board = Board::surely(&rt, rt.alloc(), tasks.len());
+    let board = Board::of(&rt, rt.alloc(), tasks.len());
     let (mut alone, right, _) = work_counted(&rt, &board, &tasks, 1, true);
     let popped = alone.pop();
     let counts = [alone.blocks() as u64, board.heap.live()];
-    assert_eq!(rt;
-        (right, board.heap.held_until_let_go(), popped, counts),
-        (true, true, Ok(0), [1, 1])
+    let held = board.heap.held_until_let_go();
+    is(
+        &rt,
+        (right, held, popped, counts),
+        (true, true, Ok(0), [1, 1]),
     );
-}
-
-/// Pushes a number. Gives whether it is accepted, or is handed back for want of memory where it is not to be.
-fn is_pushed<R: Wait>(
-    rt: &R,
-    queue: &Queue<'_>,
-    party: &mut Party<u64>,
-    value: u64,
-    accepted: bool,
-) -> bool
-    requires { IsPartyOf party.old queue.now }
-    ensures { IsPartyOf party.new queue.now }
-{
-    match queue.push(rt, party, value) {
-        Ok(()) => accepted,
-        Err(PushError::NoMemory(back)) => back == value && !accepted,
-        Err(_) => false,
-    }
-}
-
-/// Pushes 1 to 127. Gives whether each is accepted, but for the one that is to be refused.
-fn push_to_127<R: Wait>(rt: &R, queue: &Queue<'_>, party: &mut Party<u64>, refused: u64) -> bool
-    requires { IsPartyOf party.old queue.now }
-    ensures { IsPartyOf party.new queue.now }
-{
-    let mut right = true;
-    for value in 1..128u64 {
-        right = is_pushed(rt, queue, party, value, value != refused) && right;
-    }
-    right
 }
 
 /// Which request is refused, and to which push; how many requests there are in the end, and how many items.
@@ -152,12 +120,10 @@ fn one_request_refused<R: Wait + Abort>(rt: &R, alloc: Global, row: &(Refusal, u
     let heap = Heap::new(alloc, refusal);
     let (queue, mut party) = open_surely(rt, &heap, None);
     let before = heap.requests();
-    let right = push_to_127(rt, &queue, &mut party, refused);
+    let right = find_each(rt, &queue, &mut party, Deed::PushBut(refused), 1..128);
     let (_, [_, len, blocks, live]) = end_counted(rt, &heap, queue, party);
-    assert_eq!(rt;
-        (right, [before, len, blocks, live, heap.requests()]),
-        (true, [1, accepted, 3, 3, requests])
-    );
+    let seen = (right, [before, len, blocks, live, heap.requests()]);
+    is_in(rt, refused, seen, (true, [1, accepted, 3, 3, requests]));
 }
 
 /// The constructor's request is granted, and one of the pushes' is refused, or none. The number of blocks is told once the sharing has ended.

@@ -2,40 +2,26 @@
 ghost use Rattle.std.specs.Prelude.{◌≡◌, ◌<◌};
 ghost use Rattle.concurrent_queue.specs.Shared.{IsPartyOf};
 
-use crate::shared::blocks::Heap;
-use crate::shared::drops::{Counted, no_drops};
+use crate::asserts::is_in;
+use crate::opening::{end, part};
 use crate::shared::left::End;
-use crate::shared::opening::{end, part};
 use concurrent_queue::{ConcurrentQueue, Party};
 use std::alloc::Global;
 use std::process::Abort;
-use std::sync::atomic::{AtomicU64, Ordering};
-use std::sync::{Arc, Wait};
-use test_allocators::Refusal;
+use std::sync::Wait;
+use test_allocators::items::{Counted, Items};
+use test_allocators::{Heap, Refusal};
 
 /// A shared queue of items that count their drops, and whose requests are counted.
-type Counting<'a> = ConcurrentQueue<Counted, &'a Heap>;
-
-/// Pushes an item. Gives whether it was refused.
-fn is_refused<R: Wait>(
-    rt: &R,
-    queue: &Counting<'_>,
-    party: &mut Party<Counted>,
-    item: Counted,
-) -> bool
-    requires { IsPartyOf party.old queue.now }
-    ensures { IsPartyOf party.new queue.now }
-{
-    queue.push(rt, party, item).is_err()
-}
+type Counting<'a> = ConcurrentQueue<Counted<'a>, &'a Heap>;
 
 /// Two parties push so many items each, in turn. Gives how many were refused.
-fn push_in_turn<R: Wait>(
+fn push_in_turn<'a, R: Wait>(
     rt: &R,
-    queue: &Counting<'_>,
-    first: &mut Party<Counted>,
-    second: &mut Party<Counted>,
-    drops: &Arc<AtomicU64>,
+    queue: &Counting<'a>,
+    first: &mut Party<Counted<'a>>,
+    second: &mut Party<Counted<'a>>,
+    items: &'a Items,
     each: u64,
 ) -> u64
     requires { IsPartyOf first.old queue.now × IsPartyOf second.old queue.now }
@@ -43,14 +29,10 @@ fn push_in_turn<R: Wait>(
 {
     let mut refused = 0u64;
     for _ in 0..each {
-        if let Ok(item) = Counted::by(drops)
-            && is_refused(rt, queue, first, item)
-        {
+        if queue.push(rt, first, Counted::of(items)).is_err() {
             refused = refused.wrapping_add(1);
         }
-        if let Ok(item) = Counted::by(drops)
-            && is_refused(rt, queue, second, item)
-        {
+        if queue.push(rt, second, Counted::of(items)).is_err() {
             refused = refused.wrapping_add(1);
         }
     }
@@ -58,7 +40,12 @@ fn push_in_turn<R: Wait>(
 }
 
 /// Pops so many items. Gives whether there were as many.
-fn pop_some<R: Wait>(rt: &R, queue: &Counting<'_>, party: &mut Party<Counted>, count: u64) -> bool
+fn pop_some<'a, R: Wait>(
+    rt: &R,
+    queue: &Counting<'a>,
+    party: &mut Party<Counted<'a>>,
+    count: u64,
+) -> bool
     requires { IsPartyOf party.old queue.now }
     ensures { IsPartyOf party.new queue.now }
 {
@@ -70,7 +57,13 @@ fn pop_some<R: Wait>(rt: &R, queue: &Counting<'_>, party: &mut Party<Counted>, c
 }
 
 /// Drops a queue, with its parties joined, kept or dropped before.
-fn drop_all(rt: &impl Abort, queue: Counting<'_>, a: Party<Counted>, b: Party<Counted>, how: End)
+fn drop_all<'a>(
+    rt: &impl Abort,
+    queue: Counting<'a>,
+    a: Party<Counted<'a>>,
+    b: Party<Counted<'a>>,
+    how: End,
+)
     requires { IsPartyOf a queue × IsPartyOf b queue }
 {
     match how {
@@ -100,17 +93,15 @@ struct Use {
 }
 
 /// Uses a queue and drops it, with its parties joined, kept or dropped before. Asserts that what was refused or popped was dropped before. Gives how many items there were: none where there was no memory for the queue.
-fn use_and_drop<R: Wait + Abort>(rt: &R, heap: &Heap, drops: &Arc<AtomicU64>, used: Use) -> u64 {
+fn use_and_drop<'a, R: Wait + Abort>(rt: &R, heap: &'a Heap, items: &'a Items, used: Use) -> u64 {
     let Ok((queue, party)) = Counting::unbounded(heap) else {
         return 0;
     };
     let (mut a, mut b) = part(rt, &queue, party);
-    let refused = push_in_turn(rt, &queue, &mut a, &mut b, drops, used.each);
+    let refused = push_in_turn(rt, &queue, &mut a, &mut b, items, used.each);
     let right = pop_some(rt, &queue, &mut b, used.popped);
-    assert_eq!(rt;
-        (right, drops.load(Ordering::SeqCst)),
-        (true, refused.wrapping_add(used.popped))
-    );
+    let seen = (right, items.dropped());
+    is_in(rt, used, seen, (true, refused.wrapping_add(used.popped)));
     drop_all(rt, queue, a, b, used.how);
     used.each.wrapping_mul(2)
 }
@@ -128,18 +119,15 @@ static USES: [(u64, u64); 6] = [
 /// Uses a queue and drops it, where the request of this number is refused. Asserts that each item is dropped once and nothing stays allocated.
 fn nothing_is_left<R: Wait + Abort>(rt: &R, alloc: Global, used: Use, refused: u64) {
     let heap = Heap::new(alloc, Refusal::Nth(refused));
-    let drops = no_drops(rt, alloc);
-    let items = use_and_drop(rt, &heap, &drops, used);
+    let items = Items::none();
+    let used_up = use_and_drop(rt, &heap, &items, used);
     let wanted = if refused == 1 {
         0
     } else {
         used.each.wrapping_mul(2)
     };
-    assert_eq!(rt;
-        [items, drops.load(Ordering::SeqCst), heap.live()],
-        [wanted, wanted, 0],
-        "{used:?}, request {refused} refused"
-    );
+    let seen = [used_up, items.dropped(), heap.live()];
+    is_in(rt, (used, refused), seen, [wanted, wanted, 0]);
 }
 
 /// With none and each of the requests refused, which are one of the constructor and up to four of the pushes. Each item is dropped once and nothing stays allocated.

@@ -1,25 +1,14 @@
 //! Iterators over shared queues, and what is printed of both.
 ghost use Rattle.concurrent_queue.specs.Shared.{IsPartyOf};
 
-use crate::shared::opening::{open_surely, part};
-use crate::shared::rows::Queue;
+use crate::asserts::{is, is_in};
+use crate::calls::Queue;
+use crate::crew::{Deed, find_each};
+use crate::opening::{open_surely, part};
 use concurrent_queue::Party;
-use std::alloc::{AllocError, Global};
+use std::alloc::Global;
 use std::process::Abort;
 use std::sync::Wait;
-
-/// Pushes numbers from 1 on, and then pops as often as is said.
-fn fill<R: Wait>(rt: &R, queue: &Queue, party: &mut Party<u64>, pushes: u64, pops: u64)
-    requires { IsPartyOf party.old queue.now }
-    ensures { IsPartyOf party.new queue.now }
-{
-    for item in 0..pushes {
-        let _ = queue.push(rt, party, item.wrapping_add(1));
-    }
-    for _ in 0..pops {
-        let _ = queue.pop(rt, party);
-    }
-}
 
 /// Asks an iterator for four items.
 fn four<R: Wait>(rt: &R, queue: &Queue, party: &mut Party<u64>) -> [Option<u64>; 4]
@@ -41,14 +30,16 @@ static WALKS: [(Option<usize>, &[Option<u64>]); 4] = [
 /// Asks an iterator for four items once 1, 2, 3 were pushed, and then a new one once 4 was. Asserts what both give, that 4 is accepted, and that the queue is not closed.
 fn walks<R: Wait + Abort>(rt: &R, alloc: Global, cap: Option<usize>, expected: &[Option<u64>]) {
     let (queue, mut party) = open_surely(rt, alloc, cap);
-    fill(rt, &queue, &mut party, 3, 0);
+    find_each(rt, &queue, &mut party, Deed::TryPush, 1..4);
     let first = four(rt, &queue, &mut party);
     let pushed = queue.push(rt, &mut party, 4).is_ok();
     let second = four(rt, &queue, &mut party);
     let closed = queue.is_closed(&mut party);
-    assert_eq!(rt;
-        (&first[..], second, pushed, closed),
-        (expected, [Some(4), None, None, None], true, false)
+    let seen = (&first[..], second, pushed, closed);
+    is(
+        rt,
+        seen,
+        (expected, [Some(4), None, None, None], true, false),
     );
 }
 
@@ -75,7 +66,7 @@ fn between<R: Wait + Abort>(rt: &R, alloc: Global, cap: Option<usize>) -> [Optio
 fn an_iterator_gives_items_again(rt: HostRuntime) {
     for cap in [Some(1), Some(2), None] {
         let items = between(&rt, rt.alloc(), cap);
-        assert_eq!(rt; items, [None, Some(7), None]);
+        is_in(&rt, cap, items, [None, Some(7), None]);
     }
 }
 
@@ -169,30 +160,19 @@ static SHOWN: [Shown; 11] = [
     },
 ];
 
-/// A text, where there is memory for it.
-type Text = Result<String, AllocError>;
-
-/// What is printed of a queue, and of an iterator over it.
-fn printed<R: Wait>(rt: &R, alloc: Global, queue: &Queue, party: &mut Party<u64>) -> Text
-    requires { IsPartyOf party.old queue.now }
-{
-    let items = queue.try_iter(rt, party);
-    format!(in alloc; "{queue:?} {items:?}")
-}
-
 /// Asserts what is printed of a queue, and of an iterator over it.
 fn is_printed<R: Wait + Abort>(rt: &R, alloc: Global, shown: &Shown) {
     let (queue, mut party) = open_surely(rt, alloc, shown.cap);
-    fill(rt, &queue, &mut party, shown.pushes, shown.pops);
+    let pushed = 1..shown.pushes.wrapping_add(1);
+    find_each(rt, &queue, &mut party, Deed::TryPush, pushed);
+    find_each(rt, &queue, &mut party, Deed::TryPop, 0..shown.pops);
     if shown.closed {
         queue.close(&mut party);
     }
     let text = shown.text;
-    let wanted = format!(in alloc; "{text} Iter({text})");
-    match (printed(rt, alloc, &queue, &mut party), wanted) {
-        (Ok(found), Ok(wanted)) => assert_eq!(rt; found.as_str(), wanted.as_str()),
-        _ => panic!(rt; "no memory"),
-    }
+    let wanted = format!(in alloc; "{text} Iter({text})").expect(rt, "memory");
+    let items = queue.try_iter(rt, &mut party);
+    is(rt, format!(in alloc; "{queue:?} {items:?}"), Ok(wanted));
 }
 
 /// The same for each of these queues.

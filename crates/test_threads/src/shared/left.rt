@@ -2,15 +2,15 @@
 ghost use Rattle.std.specs.Prelude.{◌<◌};
 ghost use Rattle.concurrent_queue.specs.Shared.{IsPartyOf};
 
-use crate::shared::opening::{open_surely, part};
-use concurrent_queue::{ConcurrentQueue, Exclusive, Party};
+use crate::asserts::is_in;
+use crate::calls::Queue;
+use crate::crew::{Board, Deed, Role, Task, act};
+use crate::opening::{open_surely, part};
+use concurrent_queue::{Exclusive, Party};
 use std::alloc::{Allocator, Global};
-use std::ops::Range;
 use std::process::Abort;
 use std::sync::Wait;
 use std::thread::{Threads, join};
-
-type Queue = ConcurrentQueue<u64>;
 
 /// How many items each of two threads pushes.
 const EACH: u64 = 100;
@@ -21,23 +21,6 @@ pub(crate) enum End {
     Joined,
     Kept,
     Dropped,
-}
-
-/// Pushes a thread's items. Gives whether each was accepted.
-fn push_all<R: Wait>(
-    rt: &R,
-    queue: &Queue,
-    mut party: Party<u64>,
-    items: Range<u64>,
-) -> (Party<u64>, bool)
-    requires { IsPartyOf party queue.now }
-    ensures { IsPartyOf result.0 queue.now }
-{
-    let mut right = true;
-    for item in items {
-        right = queue.push(rt, &mut party, item).is_ok() && right;
-    }
-    (party, right)
 }
 
 /// Pops all items, which are those of up to four threads, so many of each: the numbers from 0 on, from so many on, and so on. Gives how many of each thread came in their order.
@@ -87,12 +70,15 @@ fn left_by_two<R: Wait + Threads + Sync + Abort>(
     cap: Option<usize>,
     end: End,
 ) -> Seen {
+    let first = Task::of(Role::Each(Deed::PushOnce), 0..EACH);
+    let second = Task::of(Role::Each(Deed::PushOnce), EACH..2 * EACH);
+    let board = Board::of(rt, alloc, 2);
     let (queue, party) = open_surely(rt, alloc, cap);
     let (a, b) = part(rt, &queue, party);
     let ((a, right), (b, right_too)) = join(
         rt,
-        || push_all(rt, &queue, a, 0..EACH),
-        || push_all(rt, &queue, b, EACH..2 * EACH),
+        || act(rt, &queue, a, &board, first),
+        || act(rt, &queue, b, &board, second),
     );
     let accepted = right && right_too;
     match end {
@@ -128,7 +114,7 @@ fn two_threads_leave_what_they_pushed(rt: HostRuntime) {
                 left,
             };
             let found = left_by_two(&rt, rt.alloc(), cap, end);
-            assert_eq!(rt; found, wanted, "{end:?}, with {cap:?}");
+            is_in(&rt, (end, cap), found, wanted);
         }
     }
 }

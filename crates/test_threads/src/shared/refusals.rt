@@ -1,15 +1,17 @@
 //! Requests of the constructor that are refused, and calls that make none.
-use crate::shared::opening::{Opened, open, open_surely};
-use crate::shared::rows::{Duet, StoryLine, is_left, tell};
+use crate::asserts::{is, is_in};
+use crate::calls::is_left;
+use crate::opening::{Opened, open, open_surely};
+use crate::shared::rows::{Duet, StoryLine, tell};
 use queue_steps::model::{Call, Reply};
 use queue_steps::sizes::MAX_CAPACITY;
 use std::alloc::Global;
 use std::process::Abort;
 use std::sync::Wait;
-use test_allocators::{Refusal, Refusing};
+use test_allocators::{Heap, Refusal};
 
 /// What the constructor answers.
-type Made<'a, T> = Opened<T, &'a Refusing<Global>>;
+type Made<'a, T> = Opened<T, &'a Heap>;
 
 /// What is seen of a constructor.
 #[derive(Clone, Copy, Debug, PartialEq)]
@@ -25,7 +27,7 @@ struct Seen {
 impl Seen {
     /// What is seen of the constructor of a queue of this capacity, or without one, in memory of which requests are refused.
     fn of<T: Drop>(rt: &impl Abort, alloc: Global, refusal: Refusal, cap: Option<usize>) -> Seen {
-        let heap = Refusing::new(alloc, refusal);
+        let heap = Heap::new(alloc, refusal);
         let queue: Made<T> = open(rt, &heap, cap);
         let made = queue.is_ok();
         let live = heap.live();
@@ -55,10 +57,10 @@ fn each_refused(rt: &impl Abort, alloc: Global, cap: Option<usize>, blocks: u64)
         requests: ample.requests.max(blocks),
         live: [blocks, 0],
     };
-    assert_eq!(rt; ample, wanted);
+    is_in(rt, cap, ample, wanted);
     for number in 1..=ample.requests {
         let seen = Seen::of::<u64>(rt, alloc, Refusal::Nth(number), cap);
-        assert_eq!(rt; seen, Seen::want_of_memory(number));
+        is_in(rt, cap, seen, Seen::want_of_memory(number));
     }
 }
 
@@ -75,7 +77,7 @@ fn each_request_refused(rt: HostRuntime) {
 fn too_many_slots_refused(rt: HostRuntime) {
     for cap in [MAX_CAPACITY, MAX_CAPACITY + 1] {
         let seen = Seen::of::<u64>(&rt, rt.alloc(), Refusal::Never, Some(cap));
-        assert_eq!(rt; seen, Seen::want_of_memory(0), "at {cap}");
+        is_in(&rt, cap, seen, Seen::want_of_memory(0));
     }
 }
 
@@ -89,7 +91,7 @@ fn the_greatest_capacity_is_asked_for(rt: HostRuntime) {
         (MAX_CAPACITY + 1, 0),
     ] {
         let seen = Seen::of::<u8>(&rt, rt.alloc(), Refusal::Always, Some(cap));
-        assert_eq!(rt; seen, Seen::want_of_memory(requests), "at {cap}");
+        is_in(&rt, cap, seen, Seen::want_of_memory(requests));
     }
 }
 
@@ -124,14 +126,18 @@ static RING: Duet = Duet {
 
 /// Asserts that the calls ask for no memory, and neither does the end of the sharing, after which so many blocks stay until the queue is dropped.
 fn asks_no_more<R: Wait + Abort>(rt: &R, alloc: Global, story: &Duet<'_>, blocks: u64) {
-    let heap = Refusing::new(alloc, Refusal::Never);
+    let heap = Heap::new(alloc, Refusal::Never);
     let (queue, party) = open_surely(rt, &heap, story.cap);
     let requests = heap.requests();
     let mut alone = tell(rt, queue, party, story.lines);
     is_left(rt, &mut alone, story.left, story.closed);
     let live = heap.live();
     drop(alone);
-    assert_eq!(rt; [heap.requests(), live, heap.live()], [requests, blocks, 0]);
+    is(
+        rt,
+        [heap.requests(), live, heap.live()],
+        [requests, blocks, 0],
+    );
 }
 
 /// The calls ask for no memory, and neither does the end of the sharing, which gives all back.

@@ -1,5 +1,7 @@
 //! Rings that parties share: short stories with known replies.
-use crate::shared::rows::{Duet, Solo, StoryLine, each_of_one_party, each_of_two_parties, one_party};
+use crate::shared::rows::{
+    Duet, Solo, StoryLine, each_of_one_party, each_of_two_parties, one_party,
+};
 use concurrent_queue::{ForcePushError, PopError, PushError};
 use queue_steps::model::{Call, Reply};
 

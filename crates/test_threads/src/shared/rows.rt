@@ -1,18 +1,14 @@
 //! Short stories with known replies, all on one thread, so that each waiting call is seen to return.
 ghost use Rattle.concurrent_queue.specs.Shared.{IsPartyOf};
 
-use crate::shared::opening::{end, open_surely, part, stay_shared};
+use crate::calls::{Row, are_answered, is_answered, is_left};
+use crate::opening::{end, open_surely, part, stay_shared};
 use concurrent_queue::{ConcurrentQueue, Exclusive, ForcePushError, Party, PopError, PushError};
 use mem_blocks::null_testable::NullTestable;
 use queue_steps::model::{Call, Reply};
-use std::alloc::{Allocator, Global};
+use std::alloc::Global;
 use std::process::Abort;
 use std::sync::Wait;
-
-pub(crate) type Queue = ConcurrentQueue<u64>;
-
-/// A call, and its reply.
-pub(crate) type Row = (Call<u64>, Reply<u64>);
 
 /// A line of a story: a call of one of two parties, with its reply.
 #[derive(Clone, Copy)]
@@ -47,90 +43,6 @@ pub(crate) struct Duet<'a> {
     pub(crate) closed: bool,
 }
 
-/// Makes a call.
-fn answer<A: NullTestable, R: Wait>(
-    rt: &R,
-    queue: &ConcurrentQueue<u64, A>,
-    party: &mut Party<u64>,
-    call: Call<u64>,
-) -> Reply<u64>
-    requires { IsPartyOf party.old queue.now }
-    ensures { IsPartyOf party.new queue.now }
-{
-    match call {
-        Call::Push(value) => Reply::Push(queue.push(rt, party, value)),
-        Call::ForcePush(value) => Reply::ForcePush(queue.force_push(rt, party, value)),
-        Call::Pop => Reply::Pop(queue.pop(rt, party)),
-        Call::Close => Reply::Close(queue.close(party)),
-        Call::IsClosed => Reply::IsClosed(queue.is_closed(party)),
-        Call::IsEmpty => Reply::IsEmpty(queue.is_empty(party)),
-        Call::IsFull => Reply::IsFull(queue.is_full(party)),
-        Call::Len => Reply::Len(queue.len(rt, party)),
-        Call::Capacity => Reply::Capacity(queue.capacity()),
-    }
-}
-
-/// Makes a call, and asserts its reply.
-fn is_answered<A: NullTestable, R: Wait + Abort>(
-    rt: &R,
-    queue: &ConcurrentQueue<u64, A>,
-    party: &mut Party<u64>,
-    call: Call<u64>,
-    reply: Reply<u64>,
-)
-    requires { IsPartyOf party.old queue.now }
-    ensures { IsPartyOf party.new queue.now }
-{
-    assert_eq!(rt; answer(rt, queue, party, call), reply, "to {call:?}");
-}
-
-/// Pops so often as there are items here. Gives whether they came, in this order.
-fn gives<A: Allocator>(alone: &mut Exclusive<u64, A>, items: &[u64]) -> bool {
-    let mut right = true;
-    for item in items {
-        right = alone.pop() == Ok(*item) && right;
-    }
-    right
-}
-
-/// Pops from a queue that is no longer shared and has no item, and pushes. Gives whether the replies are those of a closed queue, or of an open one.
-fn has_ended<A: Allocator>(alone: &mut Exclusive<u64, A>, closed: bool) -> bool {
-    match (alone.pop(), alone.push(5)) {
-        (Err(PopError::Closed), Err(PushError::Closed(5))) => closed,
-        (Err(PopError::Empty), Ok(())) => !closed,
-        _ => false,
-    }
-}
-
-/// Asserts which items are in a queue that is no longer shared, in their order, and that it is closed or takes one more.
-pub(crate) fn is_left<A: Allocator>(
-    rt: &impl Abort,
-    alone: &mut Exclusive<u64, A>,
-    left: &[u64],
-    closed: bool,
-) {
-    let full = alone.capacity() == Some(left.len());
-    let len = alone.len();
-    let first = [alone.is_full(), alone.is_closed()];
-    let given = gives(alone, left);
-    let lens = [len, alone.len()];
-    let right = given && has_ended(alone, closed);
-    assert_eq!(rt;
-        (lens, first, right),
-        ([left.len(), 0], [full, closed], true)
-    );
-}
-
-/// Makes the calls of one party, and asserts each reply.
-fn are_answered<R: Wait + Abort>(rt: &R, queue: &Queue, party: &mut Party<u64>, rows: &[Row])
-    requires { IsPartyOf party.old queue.now }
-    ensures { IsPartyOf party.new queue.now }
-{
-    for (call, reply) in rows {
-        is_answered(rt, queue, party, *call, *reply);
-    }
-}
-
 /// Makes the calls of a queue's only party, and asserts each reply, and what is left.
 pub(crate) fn one_party<R: Wait + Abort>(rt: &R, alloc: Global, story: &Solo<'_>) {
     let (queue, mut party) = open_surely(rt, alloc, story.cap);
@@ -158,8 +70,8 @@ fn both_are_answered<A: NullTestable, R: Wait + Abort>(
 {
     for line in lines {
         match *line {
-            StoryLine::First(call, reply) => is_answered(rt, queue, first, call, reply),
-            StoryLine::Second(call, reply) => is_answered(rt, queue, second, call, reply),
+            StoryLine::First(call, reply) => is_answered(rt, queue, first, (call, reply)),
+            StoryLine::Second(call, reply) => is_answered(rt, queue, second, (call, reply)),
             StoryLine::Meet => queue.meet(first, second),
         }
     }
@@ -350,16 +262,16 @@ static DROPPED: [(Row, Result<u64, PopError>); 2] = [
 fn goes_on_with_one_dropped<R: Wait + Abort>(
     rt: &R,
     alloc: Global,
-    (call, reply): Row,
+    row: Row,
     popped: Result<u64, PopError>,
 ) {
     let (queue, party) = open_surely(rt, alloc, Some(1));
     let (first, mut second) = part(rt, &queue, party);
-    is_answered(rt, &queue, &mut second, call, reply);
+    is_answered(rt, &queue, &mut second, row);
     drop(second);
     let (queue, first) = stay_shared(rt, queue, first);
     let (queue, mut first) = stay_shared(rt, queue, first);
-    is_answered(rt, &queue, &mut first, Call::Pop, Reply::Pop(popped));
+    is_answered(rt, &queue, &mut first, (Call::Pop, Reply::Pop(popped)));
 }
 
 /// A party that was dropped is missing for ever, whether or not it had pushed.

@@ -1,9 +1,9 @@
 //! Jobs are handed to as many workers as there are, or are left where there is none.
-use std::alloc::AllocError;
+use crate::asserts::is;
 use use_work::distribute;
 
 #[test]
-fn all_jobs_are_handed_out(rt: HostRuntime) -> Result<(), AllocError> {
+fn all_jobs_are_handed_out(rt: HostRuntime) {
     for (jobs, workers, handed) in [
         (10, 0, 0),
         (0, 2, 0),
@@ -12,11 +12,8 @@ fn all_jobs_are_handed_out(rt: HostRuntime) -> Result<(), AllocError> {
         (1000, 4, 1000),
         (1000, 40, 1000),
     ] {
-        let report = distribute(&rt, rt.alloc(), jobs, workers)?;
-        assert_eq!(rt;
-            (report.handed.len() as u64, report.left.len() as u64),
-            (handed, jobs - handed)
-        );
+        let report = distribute(&rt, rt.alloc(), jobs, workers).expect(&rt, "memory");
+        let seen = (report.handed.len() as u64, report.left.len() as u64);
+        is(&rt, seen, (handed, jobs - handed));
     }
-    Ok(())
 }

@@ -1,5 +1,5 @@
 use Rattle.concurrent_queue.specs.Shared.{IsPartyOf}
-use Rattle.test_threads.proofs.shared.threads.pop_one.Given as goal
+use Rattle.test_threads.proofs.crew.drain.Given as goal
 
 -- the party is still one of the queue's
 abbrev pub invariant-loop : goal.invariant-loop

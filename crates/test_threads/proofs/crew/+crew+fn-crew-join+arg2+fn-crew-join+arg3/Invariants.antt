@@ -1,5 +1,5 @@
 use Rattle.std.proofs.Common.{◌-◌, ◌*◌}
-use Rattle.test_threads.proofs.shared.threads.+crew+fn-crew-join+arg2+fn-crew-join+arg3.Given as goal
+use Rattle.test_threads.proofs.crew.+crew+fn-crew-join+arg2+fn-crew-join+arg3.Given as goal
 
 -- each half has one doubling less, and stands between its crew and the half's own
 abbrev pub decreases-join+arg2 : goal.decreases-join+arg2

@@ -1,0 +1,127 @@
+//! Runs of which each request for memory is refused in turn.
+use crate::runs::{Program, run};
+use std::process::Abort;
+use std::sync::Wait;
+use std::thread::Threads;
+use test_allocators::{Refusal, Refusing};
+use test_streams::runs::{End, SOUND};
+
+/// More requests than any of these runs makes.
+const MANY: u64 = 100_000;
+
+/// A run: its arguments, its input and its output, and, where it asks for a block, what it writes if that request is refused: then it still ends well.
+#[derive(Clone, Copy)]
+pub struct Asking<'a> {
+    pub line: &'a str,
+    pub input: &'a str,
+    pub output: &'a str,
+    pub told: Option<&'static str>,
+}
+
+impl Asking<'_> {
+    /// Whether a run may end so: well with its output; or, where a request was refused, well with what tells of the block, if it asks for one, or for want of memory with a beginning of the output.
+    fn may_end(&self, was_refused: bool, end: End<'_>) -> bool {
+        match (end.status, was_refused, self.told) {
+            (0, false, _) => end == End::right(self.output),
+            (0, true, Some(told)) => end == End::right(told),
+            (3, true, _) => {
+                self.output.as_bytes().starts_with(end.output)
+                    && end.faults == "no memory\n".as_bytes()
+            }
+            _ => false,
+        }
+    }
+}
+
+/// What is seen of a run of which a request is refused.
+#[derive(Clone, Copy)]
+struct Refused {
+    requests: u64,
+    /// Whether it ended as it may.
+    right: bool,
+    /// How many allocations stayed.
+    live: u64,
+    well: bool,
+    begun: bool,
+}
+
+/// Runs with the request of this number refused.
+fn refuse<R: Abort + Threads + Wait + Sync + AllocGlobal>(
+    rt: &R,
+    program: Program,
+    asking: &Asking<'_>,
+    number: u64,
+) -> Refused {
+    let heap = Refusing::new(rt.alloc(), Refusal::Nth(number));
+    let input = asking.input.as_bytes();
+    let outcome = run(rt, program, &heap, asking.line, input, SOUND);
+    let end = outcome.end();
+    let requests = heap.requests();
+    Refused {
+        requests,
+        right: asking.may_end(number <= requests, end),
+        live: heap.live(),
+        well: end.status == 0,
+        begun: !end.output.is_empty(),
+    }
+}
+
+/// How many requests a run makes; at how many of them, refused, it ended well; and at how many a part of its output was written before it ended for want of memory.
+#[derive(Clone, Copy)]
+pub struct Tally {
+    pub requests: u64,
+    pub well: u64,
+    pub begun: u64,
+}
+
+/// Refuses each request of a run in turn. Asserts that each ends as it may, and that nothing stays allocated.
+pub fn refuse_each<R: Abort + Threads + Wait + Sync + AllocGlobal>(
+    rt: &R,
+    program: Program,
+    asking: &Asking<'_>,
+) -> Tally {
+    let mut well = 0u64;
+    let mut begun = 0u64;
+    for number in 1..MANY {
+        let refused = refuse(rt, program, asking, number);
+        assert_eq!(rt;
+            (refused.right, refused.live),
+            (true, 0),
+            "{:?}, request {number}",
+            asking.line
+        );
+        if refused.requests < number {
+            return Tally {
+                requests: refused.requests,
+                well,
+                begun,
+            };
+        }
+        if refused.well {
+            well = well.wrapping_add(1);
+        } else if refused.begun {
+            begun = begun.wrapping_add(1);
+        }
+    }
+    panic!(rt; "more requests");
+}
+
+/// Asserts that of each of these runs, which makes so many requests at least: that it goes on where the request for a block is refused, which is one at most, and ends at every other, with nothing written.
+pub fn all_refuse<R: Abort + Threads + Wait + Sync + AllocGlobal>(
+    rt: &R,
+    program: Program,
+    runs: &[Asking<'_>],
+    least: u64,
+) {
+    for asking in runs {
+        let tally = refuse_each(rt, program, asking);
+        let blocks = u64::from(asking.told.is_some());
+        assert_eq!(rt;
+            (least <= tally.requests, tally.well, tally.begun),
+            (true, blocks, 0),
+            "{:?} on {:?}",
+            asking.line,
+            asking.input
+        );
+    }
+}

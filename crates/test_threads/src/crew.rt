@@ -1,0 +1,385 @@
+//! Parties of a queue that work at numbers, alone or in threads that wait for one another.
+ghost use Rattle.std.specs.Prelude.{◌<◌};
+ghost use Rattle.concurrent_queue.specs.Shared.{IsPartyOf};
+ghost use denote.Param.Send.{IsSync};
+
+use concurrent_queue::{ConcurrentQueue, Party, PopError, PushError};
+use mem_blocks::null_testable::NullTestable;
+use std::alloc::{Allocator, Global};
+use std::ops::Range;
+use std::process::Abort;
+use std::sync::Wait;
+use std::sync::atomic::{AtomicBool, AtomicU64, Ordering};
+use std::thread::{Threads, join, yield_now};
+use test_allocators::signs::wait_for;
+use test_allocators::{Heap, Refusal};
+
+/// How many turns a thread takes.
+pub(crate) const TURNS: u64 = 25_000;
+
+/// How often each value came out, how many threads push, and whether all threads have come.
+#[derive(Drop)]
+pub(crate) struct Board {
+    counts: Vec<AtomicU64>,
+    running: AtomicU64,
+    threads: u64,
+    here: AtomicU64,
+    all_are_here: AtomicBool,
+    /// Where a queue without a capacity may have its blocks.
+    pub(crate) heap: Heap,
+}
+
+impl Board {
+    /// A board for so many threads. Asserts that there is memory.
+    pub(crate) fn of(rt: &impl Abort, alloc: Global, threads: usize) -> Board {
+        let mut counts = Vec::new(alloc);
+        for _ in 0..TURNS {
+            counts.push(AtomicU64::new(0)).expect(rt, "memory");
+        }
+        let threads = threads as u64;
+        Board {
+            counts,
+            running: AtomicU64::new(threads / 2),
+            threads,
+            here: AtomicU64::new(0),
+            all_are_here: AtomicBool::new(false),
+            heap: Heap::new(alloc, Refusal::Never),
+        }
+    }
+
+    /// Comes, and waits until all threads have, though not for ever. Gives whether they have: on one thread after another they never do.
+    fn come(&self) -> bool {
+        let before = self.here.fetch_add(1, Ordering::SeqCst);
+        if before.wrapping_add(1) == self.threads {
+            self.all_are_here.store(true, Ordering::SeqCst);
+        }
+        wait_for(&self.all_are_here)
+    }
+
+    fn count(&self, value: u64) {
+        if let Some(count) = self.counts.get(value as usize) {
+            count.fetch_add(1, Ordering::SeqCst);
+        }
+    }
+
+    pub(crate) fn each_came(&self, times: u64) -> bool {
+        self.counts
+            .iter()
+            .all(|count| count.load(Ordering::SeqCst) == times)
+    }
+}
+
+/// What a party does with a number, and finds.
+#[derive(Clone, Copy)]
+pub(crate) enum Deed {
+    /// Pushes it, whatever is answered.
+    TryPush,
+    /// Pops, whatever is answered.
+    TryPop,
+    /// Pushes it, and tries again where the queue is full.
+    Push,
+    /// Pushes it, which has to be accepted.
+    PushOnce,
+    /// Pushes it, which has to be accepted but for this one, which is handed back for want of memory.
+    PushBut(u64),
+    /// Pushes it into a queue that has as many items, and finds one more there.
+    Grow,
+    /// Pops of so many items, of which as many are gone already, and finds one less there.
+    Shrink(u64),
+    /// Pops it.
+    PopInOrder,
+    /// Pushes it, and finds no more items in the queue than so many.
+    PushWithin(usize),
+    /// Pops it, and finds no more items in the queue than so many.
+    PopInOrderWithin(usize),
+    /// Pushes until it is accepted, and then pops, which has to give an item.
+    PushAndPop,
+    /// Pushes by force, and pops where it displaced nothing, which has to give an item.
+    ForceAndPop,
+}
+
+/// What a thread does with the numbers that it is given.
+#[derive(Clone, Copy)]
+pub(crate) enum Role {
+    /// This with each.
+    Each(Deed),
+    /// Pushes each, which has to be accepted, and lets the request go then that is held.
+    PushAndLetGo,
+    /// Pops once a request is held, finds the queue empty, and lets the request go.
+    PopWhileHeld,
+    /// Pops as many items as there are numbers, and tries again where the queue is empty.
+    Pop,
+    /// Pushes each by force, and counts what it displaces.
+    Force,
+    /// Pops until no thread pushes and the queue is empty.
+    Drain,
+}
+
+/// What one thread does, and with which numbers.
+#[derive(Clone, Copy)]
+pub(crate) struct Task {
+    role: Role,
+    first: u64,
+    end: u64,
+}
+
+impl Task {
+    pub(crate) fn of(role: Role, numbers: Range<u64>) -> Task {
+        Task {
+            role,
+            first: numbers.start,
+            end: numbers.end,
+        }
+    }
+
+    /// This role, with so many numbers as there are turns.
+    pub(crate) fn turns(role: Role) -> Task {
+        Task::of(role, 0..TURNS)
+    }
+}
+
+/// Pushes an item, and tries again while the queue is full.
+pub(crate) fn push_one<T: Drop, A: NullTestable, R: Wait>(
+    rt: &R,
+    queue: &ConcurrentQueue<T, A>,
+    party: &mut Party<T>,
+    item: T,
+)
+    requires { IsPartyOf party.old queue.now }
+    ensures { IsPartyOf party.new queue.now }
+{
+    let mut next = item;
+    for _ in rt.forever() {
+        match queue.push(rt, party, next) {
+            Ok(()) => return,
+            Err(error) => {
+                next = error.into_inner();
+                yield_now();
+            }
+        }
+    }
+    unreachable!()
+}
+
+/// Pops an item, and tries again while the queue is empty.
+pub(crate) fn pop_one<T: Drop, A: Allocator, R: Wait>(
+    rt: &R,
+    queue: &ConcurrentQueue<T, A>,
+    party: &mut Party<T>,
+) -> T
+    requires { IsPartyOf party.old queue.now }
+    ensures { IsPartyOf party.new queue.now }
+{
+    for _ in rt.forever() {
+        match queue.pop(rt, party) {
+            Ok(item) => return item,
+            Err(_) => yield_now(),
+        }
+    }
+    unreachable!()
+}
+
+/// Does this with a number. Gives false where what had to be found was not.
+fn find<A: NullTestable, R: Wait>(
+    rt: &R,
+    queue: &ConcurrentQueue<u64, A>,
+    party: &mut Party<u64>,
+    deed: Deed,
+    number: u64,
+) -> bool
+    requires { IsPartyOf party.old queue.now }
+    ensures { IsPartyOf party.new queue.now }
+{
+    match deed {
+        Deed::TryPush => {
+            let _ = queue.push(rt, party, number);
+            true
+        }
+        Deed::TryPop => {
+            let _ = queue.pop(rt, party);
+            true
+        }
+        Deed::Push => {
+            push_one(rt, queue, party, number);
+            true
+        }
+        Deed::PushOnce => queue.push(rt, party, number).is_ok(),
+        Deed::PushBut(refused) if number == refused => {
+            queue.push(rt, party, number) == Err(PushError::NoMemory(number))
+        }
+        Deed::PushBut(_) => queue.push(rt, party, number).is_ok(),
+        Deed::Grow => {
+            let pushed = queue.push(rt, party, number).is_ok();
+            pushed && queue.len(rt, party) as u64 == number.wrapping_add(1)
+        }
+        Deed::Shrink(items) => {
+            let popped = queue.pop(rt, party).is_ok();
+            let left = items.wrapping_sub(number).wrapping_sub(1);
+            popped && queue.len(rt, party) as u64 == left
+        }
+        Deed::PopInOrder => pop_one(rt, queue, party) == number,
+        Deed::PushWithin(most) => {
+            push_one(rt, queue, party, number);
+            queue.len(rt, party) <= most
+        }
+        Deed::PopInOrderWithin(most) => {
+            let in_order = pop_one(rt, queue, party) == number;
+            queue.len(rt, party) <= most && in_order
+        }
+        Deed::PushAndPop => {
+            push_one(rt, queue, party, number);
+            queue.pop(rt, party).is_ok()
+        }
+        Deed::ForceAndPop => match queue.force_push(rt, party, number) {
+            Ok(Some(_)) => true,
+            Ok(None) => queue.pop(rt, party).is_ok(),
+            Err(_) => false,
+        },
+    }
+}
+
+/// Does this with each of these numbers. Gives false where what had to be found was not.
+pub(crate) fn find_each<A: NullTestable, R: Wait>(
+    rt: &R,
+    queue: &ConcurrentQueue<u64, A>,
+    party: &mut Party<u64>,
+    deed: Deed,
+    numbers: Range<u64>,
+) -> bool
+    requires { IsPartyOf party.old queue.now }
+    ensures { IsPartyOf party.new queue.now }
+{
+    let mut right = true;
+    for number in numbers {
+        right = find(rt, queue, party, deed, number) && right;
+    }
+    right
+}
+
+/// One turn of a thread. Gives false where what had to be found was not.
+fn turn<A: NullTestable, R: Wait>(
+    rt: &R,
+    queue: &ConcurrentQueue<u64, A>,
+    party: &mut Party<u64>,
+    board: &Board,
+    role: Role,
+    number: u64,
+) -> bool
+    requires { IsPartyOf party.old queue.now }
+    ensures { IsPartyOf party.new queue.now }
+{
+    match role {
+        Role::Each(deed) => find(rt, queue, party, deed, number),
+        Role::PushAndLetGo => {
+            let accepted = queue.push(rt, party, number).is_ok();
+            board.heap.let_go();
+            accepted
+        }
+        Role::PopWhileHeld => {
+            let held = board.heap.comes_to_hold();
+            let popped = queue.pop(rt, party);
+            board.heap.let_go();
+            held && popped == Err(PopError::Empty)
+        }
+        Role::Pop => {
+            board.count(pop_one(rt, queue, party));
+            true
+        }
+        Role::Force => {
+            if let Ok(Some(old)) = queue.force_push(rt, party, number) {
+                board.count(old);
+            }
+            true
+        }
+        Role::Drain => true,
+    }
+}
+
+/// Pops until no thread pushes and the queue is empty.
+fn drain<A: Allocator, R: Wait>(
+    rt: &R,
+    queue: &ConcurrentQueue<u64, A>,
+    party: &mut Party<u64>,
+    board: &Board,
+)
+    requires { IsPartyOf party.old queue.now }
+    ensures { IsPartyOf party.new queue.now }
+{
+    for _ in rt.forever() {
+        let last = board.running.load(Ordering::SeqCst) == 0;
+        match queue.pop(rt, party) {
+            Ok(value) => board.count(value),
+            Err(_) => {
+                if last {
+                    return;
+                }
+                yield_now();
+            }
+        }
+    }
+}
+
+/// All turns of a thread, which begin once all threads have come.
+pub(crate) fn act<A: NullTestable, R: Wait>(
+    rt: &R,
+    queue: &ConcurrentQueue<u64, A>,
+    mut party: Party<u64>,
+    board: &Board,
+    task: Task,
+) -> (Party<u64>, bool)
+    requires { IsPartyOf party queue.now }
+    ensures { IsPartyOf result.0 queue.now }
+{
+    let mut right = board.come();
+    for number in task.first..task.end {
+        right = turn(rt, queue, &mut party, board, task.role, number) && right;
+    }
+    match task.role {
+        Role::Force => {
+            board.running.fetch_sub(1, Ordering::SeqCst);
+        }
+        Role::Drain => drain(rt, queue, &mut party, board),
+        _ => {}
+    }
+    (party, right)
+}
+
+/// A thread, doubled so many times. Each has the task of its number among all, of which the first one's is this number, doubled as often.
+pub(crate) fn crew<A: NullTestable + Send + Sync, R: Wait + Threads + Sync>(
+    rt: &R,
+    queue: &ConcurrentQueue<u64, A>,
+    party: Party<u64>,
+    board: &Board,
+    tasks: &[Task],
+    doublings: u64,
+    number: usize,
+) -> (Party<u64>, bool)
+    requires { IsPartyOf party queue.now }
+    ensures { IsPartyOf result.0 queue.now }
+{
+    if doublings == 0 {
+        return match tasks.get(number) {
+            Some(task) => act(rt, queue, party, board, *task),
+            None => (party, false),
+        };
+    }
+    let even = number.wrapping_mul(2);
+    let odd = even.wrapping_add(1);
+    match queue.split(party) {
+        Err(party) => (party, false),
+        Ok((a, b)) => {
+            let ((a, right), (b, right_too)) = join(
+                rt,
+                || -> (Party<u64>, bool)
+                    requires { IsSync R.row × IsPartyOf a queue.now × (0 < doublings) }
+                    ensures { IsPartyOf result.0 queue.entry.now }
+                { crew(rt, queue, a, board, tasks, doublings - 1, even) },
+                || -> (Party<u64>, bool)
+                    requires { IsSync R.row × IsPartyOf b queue.now × (0 < doublings) }
+                    ensures { IsPartyOf result.0 queue.entry.now }
+                { crew(rt, queue, b, board, tasks, doublings - 1, odd) },
+            );
+            (queue.join(a, b), right && right_too)
+        }
+    }
+}
