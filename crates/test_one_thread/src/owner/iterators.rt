@@ -1,19 +1,21 @@
 //! Iterators over queues with one owner, and what is printed of both.
 use crate::asserts::{is, is_in};
-use crate::owner::rows::{Counting, Made, StoryLine, open};
+use crate::owner::rows::{Made, open};
+use exclusive_queue::Exclusive;
 use std::alloc::{AllocError, Global};
 use std::process::Abort;
-use test_allocators::{Heap, Refusal};
 
-/// Pushes so many numbers from the first on into a queue. Asserts that there is memory.
-fn filled<'a>(rt: &impl Abort, heap: &'a Heap, made: Made, first: u64, count: u64) -> Counting<'a> {
-    let mut queue = open(rt, heap, made);
-    StoryLine::Pushes(first, count).is_right(&mut queue, heap);
+/// A queue that is made so, into which so many numbers from the first on are pushed. Asserts that there is memory.
+fn filled(rt: &impl Abort, alloc: Global, made: Made, first: u64, count: u64) -> Exclusive<u64> {
+    let mut queue = open(rt, alloc, made);
+    for before in 0..count {
+        let _ = queue.push(first.wrapping_add(before));
+    }
     queue
 }
 
 /// Takes so many items off, if there are as many, and gives a number whose digits they are.
-fn digits(queue: &mut Counting<'_>, count: usize) -> u64 {
+fn digits(queue: &mut Exclusive<u64>, count: usize) -> u64 {
     let mut number: u64 = 0;
     let mut items = queue.try_iter();
     for _ in 0..count {
@@ -37,7 +39,7 @@ static WALKS: [(Made, usize, u64, u64); 8] = [
 ];
 
 /// Takes so many items off, and then the rest. Gives the digits of both, and what is left, whether the queue is closed, and whether it takes one more.
-fn walked(mut queue: Counting<'_>, count: usize) -> (u64, u64, usize, bool, bool) {
+fn walked(mut queue: Exclusive<u64>, count: usize) -> (u64, u64, usize, bool, bool) {
     let first = digits(&mut queue, count);
     let rest = digits(&mut queue, 5);
     let closed = queue.is_closed();
@@ -47,10 +49,9 @@ fn walked(mut queue: Counting<'_>, count: usize) -> (u64, u64, usize, bool, bool
 /// What an iterator did not take stays, and the queue is as open as before.
 #[test]
 fn an_iterator_takes_from_the_front(rt: HostRuntime) {
-    let heap = Heap::new(rt.alloc(), Refusal::Never);
     for (made, count, taken, left) in WALKS.iter() {
-        let seen = walked(filled(&rt, &heap, *made, 1, 3), *count);
-        is_in(&rt, *made, seen, (*taken, *left, 0, false, true));
+        let seen = walked(filled(&rt, rt.alloc(), *made, 1, 3), *count);
+        is_in(&rt, *count, seen, (*taken, *left, 0, false, true));
     }
 }
 
@@ -59,9 +60,8 @@ static BLOCKS: [(usize, usize, usize); 4] = [(0, 0, 3), (62, 62, 3), (63, 63, 2)
 
 #[test]
 fn an_iterator_gives_blocks_back(rt: HostRuntime) {
-    let heap = Heap::new(rt.alloc(), Refusal::Never);
     for (count, taken, blocks) in BLOCKS.iter() {
-        let mut queue = filled(&rt, &heap, Made::Unbounded, 0, 140);
+        let mut queue = filled(&rt, rt.alloc(), Made::Unbounded, 0, 140);
         let came = queue.try_iter().take(*count).count();
         is(&rt, (came, queue.blocks()), (*taken, *blocks));
     }
@@ -114,7 +114,7 @@ static TEXTS: [(Made, u64, bool, &str); 7] = [
 ];
 
 /// What is printed of a queue, and of an iterator over it.
-fn printed(alloc: Global, queue: &mut Counting<'_>) -> Result<String, AllocError> {
+fn printed(alloc: Global, queue: &mut Exclusive<u64>) -> Result<String, AllocError> {
     let text = format!(in alloc; "{queue:?}")?;
     let items = queue.try_iter();
     format!(in alloc; "{text} {items:?}")
@@ -122,13 +122,12 @@ fn printed(alloc: Global, queue: &mut Counting<'_>) -> Result<String, AllocError
 
 #[test]
 fn queues_and_iterators_are_printed(rt: HostRuntime) {
-    let heap = Heap::new(rt.alloc(), Refusal::Never);
     for (made, items, closed, text) in TEXTS.iter() {
-        let mut queue = filled(&rt, &heap, *made, 0, *items);
+        let mut queue = filled(&rt, rt.alloc(), *made, 0, *items);
         if *closed {
             queue.close();
         }
         let wanted = format!(in rt.alloc(); "{text} Iter({text})").expect(&rt, "memory");
-        is_in(&rt, *made, printed(rt.alloc(), &mut queue), Ok(wanted));
+        is(&rt, printed(rt.alloc(), &mut queue), Ok(wanted));
     }
 }

@@ -185,9 +185,8 @@ fn stories_of_rings(rt: HostRuntime) {
 
 #[test]
 fn capacities(rt: HostRuntime) {
-    let heap = Heap::new(rt.alloc(), Refusal::Never);
     for cap in 1..10usize {
-        let queue = open(&rt, &heap, Made::Bounded(cap));
+        let queue = open(&rt, rt.alloc(), Made::Bounded(cap));
         is(&rt, queue.capacity(), Some(cap));
     }
 }

@@ -3,16 +3,16 @@ use crate::asserts::is_in;
 use exclusive_queue::{Exclusive, PushError};
 use queue_steps::model::{Call, Reply};
 use queue_steps::sizes::LIMIT;
-use std::alloc::{AllocError, Global};
+use std::alloc::{AllocError, Allocator, Global};
 use std::ops::Range;
 use std::process::Abort;
 use test_allocators::{Heap, Refusal};
 
 /// A queue whose requests are counted.
-pub(crate) type Counting<'a> = Exclusive<u64, &'a Heap>;
+type Counting<'a> = Exclusive<u64, &'a Heap>;
 
 /// How a queue is made.
-#[derive(Clone, Copy, Debug)]
+#[derive(Clone, Copy)]
 pub(crate) enum Made {
     Bounded(usize),
     BoundedAfter(usize, u64),
@@ -22,25 +22,30 @@ pub(crate) enum Made {
 
 impl Made {
     /// The queue, where there is memory.
-    fn queue<'a>(self, rt: &impl Abort, heap: &'a Heap) -> Result<Counting<'a>, AllocError> {
+    fn queue<A: Allocator + Clone>(
+        self,
+        rt: &impl Abort,
+        alloc: A,
+    ) -> Result<Exclusive<u64, A>, AllocError> {
         match self {
-            Made::Bounded(cap) if 0 < cap => Exclusive::bounded(heap, cap),
+            Made::Bounded(cap) if 0 < cap => Exclusive::bounded(alloc, cap),
             Made::BoundedAfter(cap, n) if 1 < cap && n <= LIMIT => {
-                Exclusive::bounded_after(heap, cap, n)
+                Exclusive::bounded_after(alloc, cap, n)
             }
-            Made::Unbounded => Ok(Exclusive::unbounded(heap)),
-            Made::UnboundedAfter(n) if n <= LIMIT => Exclusive::unbounded_after(heap, n),
+            Made::Unbounded => Ok(Exclusive::unbounded(alloc)),
+            Made::UnboundedAfter(n) if n <= LIMIT => Exclusive::unbounded_after(alloc, n),
             _ => panic!(rt; "there is no such queue"),
         }
     }
 }
 
 /// A queue that is made so. Asserts that there is memory.
-pub(crate) fn open<'a>(rt: &impl Abort, heap: &'a Heap, made: Made) -> Counting<'a> {
-    match made.queue(rt, heap) {
-        Ok(queue) => queue,
-        Err(_) => panic!(rt; "no memory"),
-    }
+pub(crate) fn open<A: Allocator + Clone>(
+    rt: &impl Abort,
+    alloc: A,
+    made: Made,
+) -> Exclusive<u64, A> {
+    made.queue(rt, alloc).expect(rt, "memory")
 }
 
 /// A line of a story.
@@ -142,7 +147,7 @@ impl StoryLine {
     }
 
     /// Does what the line says. Gives whether all was as it says.
-    pub(crate) fn is_right(self, queue: &mut Counting<'_>, heap: &Heap) -> bool {
+    fn is_right(self, queue: &mut Counting<'_>, heap: &Heap) -> bool {
         let mut right = true;
         for number in self.numbers() {
             right = self.is_right_at(queue, heap, number) && right;

@@ -102,11 +102,10 @@ fn one_run_on_each_kind(rt: HostRuntime) {
         (Made::Unbounded, &CALLS, &WITHOUT_A_CAPACITY),
         (Made::Bounded(2), &EACH_CALL, &TO_EACH_CALL),
     ];
-    let heap = Heap::new(rt.alloc(), Refusal::Never);
     for (made, calls, replies) in runs {
-        let mut queue = open(&rt, &heap, made);
+        let mut queue = open(&rt, rt.alloc(), made);
         let right = run_gives(&rt, rt.alloc(), &mut queue, calls, replies);
-        is_in(&rt, (made, calls.len()), right, true);
+        is_in(&rt, replies, right, true);
     }
 }
 
