@@ -8,12 +8,43 @@ use std::process::ExitCode;
 use std::thread;
 use std::time::{Duration, Instant};
 
-/// A value that carries a number, in so many bytes.
+/// A value that carries a number, in so many bytes, and the loop that it goes through. Each of the two loops has item types of its own, as in `bench_queue`.
 trait Item: Copy {
+    /// The value of this number.
     fn numbered(number: u64) -> Self;
+
+    /// The number that the value carries.
     fn number(&self) -> u64;
+
+    /// Pushes and pops so many pairs: in turn where so many items lie behind, or in batches of so many items.
+    fn run(queue: &ConcurrentQueue<Self>, items: u64, pairs: u64) -> Taken<Self>;
 }
 
+/// What was popped: the sum of the numbers, and the last item.
+struct Taken<T> {
+    sum: u64,
+    last: T,
+}
+
+impl<T: Item> Taken<T> {
+    #[inline(always)]
+    fn nothing() -> Taken<T> {
+        Taken {
+            sum: 0,
+            last: T::numbered(0),
+        }
+    }
+
+    #[inline(always)]
+    fn add(&mut self, item: Option<T>) {
+        if let Some(item) = item {
+            self.sum = self.sum.wrapping_add(item.number());
+            self.last = item;
+        }
+    }
+}
+
+/// An item that is pushed and popped in turn.
 impl<const WORDS: usize> Item for [u64; WORDS] {
     fn numbered(number: u64) -> [u64; WORDS] {
         [number; WORDS]
@@ -21,6 +52,18 @@ impl<const WORDS: usize> Item for [u64; WORDS] {
 
     fn number(&self) -> u64 {
         self.first().copied().unwrap_or(0)
+    }
+
+    #[inline(never)]
+    fn run(queue: &ConcurrentQueue<[u64; WORDS]>, items: u64, pairs: u64) -> Taken<[u64; WORDS]> {
+        let mut taken = Taken::nothing();
+        let mut number = items;
+        for _ in 0..pairs {
+            let _ = queue.push(Item::numbered(number));
+            number = number.wrapping_add(1);
+            taken.add(queue.pop().ok());
+        }
+        taken
     }
 }
 
@@ -36,23 +79,21 @@ impl<T: Item> Item for Batched<T> {
     fn number(&self) -> u64 {
         self.0.number()
     }
-}
 
-/// An item, and the loop that it goes through. Each of the two loops has an item type of its own, as in `bench_queue`.
-trait Runs: Item {
-    /// Does all rounds on a queue.
-    fn run(queue: &ConcurrentQueue<Self>, rounds: Rounds) -> Taken<Self>;
-}
-
-impl<const WORDS: usize> Runs for [u64; WORDS] {
-    fn run(queue: &ConcurrentQueue<[u64; WORDS]>, rounds: Rounds) -> Taken<[u64; WORDS]> {
-        alternate(queue, rounds.first, rounds.count)
-    }
-}
-
-impl<T: Item> Runs for Batched<T> {
-    fn run(queue: &ConcurrentQueue<Batched<T>>, rounds: Rounds) -> Taken<Batched<T>> {
-        run_rounds(queue, rounds)
+    #[inline(never)]
+    fn run(queue: &ConcurrentQueue<Batched<T>>, items: u64, pairs: u64) -> Taken<Batched<T>> {
+        let mut taken = Taken::nothing();
+        let mut number = 0u64;
+        for _ in 0..pairs.checked_div(items).unwrap_or(0) {
+            for _ in 0..items {
+                let _ = queue.push(Item::numbered(number));
+                number = number.wrapping_add(1);
+            }
+            for _ in 0..items {
+                taken.add(queue.pop().ok());
+            }
+        }
+        taken
     }
 }
 
@@ -95,94 +136,6 @@ fn work_of(word: &str) -> Option<Work> {
     }
 }
 
-/// Rounds of so many pushes, each with as many pops after them as are wanted. The items are numbered on from the first.
-struct Rounds {
-    first: u64,
-    count: u64,
-    puts: u64,
-    takes: u64,
-}
-
-impl Work {
-    /// How many items lie behind, from before the clock is started.
-    fn behind(self) -> u64 {
-        match self {
-            Work::Behind(items) => items,
-            Work::Batch(_) => 0,
-        }
-    }
-
-    /// What is timed, for so many pairs.
-    fn timed(self, pairs: u64) -> Rounds {
-        match self {
-            Work::Behind(items) => Rounds {
-                first: items,
-                count: pairs,
-                puts: 1,
-                takes: 1,
-            },
-            Work::Batch(items) => Rounds {
-                first: 0,
-                count: pairs.checked_div(items).unwrap_or(0),
-                puts: items,
-                takes: items,
-            },
-        }
-    }
-}
-
-/// What was popped: the sum of the numbers, and the last item.
-struct Taken<T> {
-    sum: u64,
-    last: T,
-}
-
-impl<T: Item> Taken<T> {
-    #[inline(always)]
-    fn add(&mut self, item: Option<T>) {
-        if let Some(item) = item {
-            self.sum = self.sum.wrapping_add(item.number());
-            self.last = item;
-        }
-    }
-}
-
-/// Does all rounds.
-#[inline(never)]
-fn run_rounds<T: Item>(queue: &ConcurrentQueue<T>, rounds: Rounds) -> Taken<T> {
-    let mut taken = Taken {
-        sum: 0,
-        last: T::numbered(0),
-    };
-    let mut number = rounds.first;
-    for _ in 0..rounds.count {
-        for _ in 0..rounds.puts {
-            let _ = queue.push(T::numbered(number));
-            number = number.wrapping_add(1);
-        }
-        for _ in 0..rounds.takes {
-            taken.add(queue.pop().ok());
-        }
-    }
-    taken
-}
-
-/// Does rounds of one push and one pop, so many of them.
-#[inline(never)]
-fn alternate<T: Item>(queue: &ConcurrentQueue<T>, first: u64, count: u64) -> Taken<T> {
-    let mut taken = Taken {
-        sum: 0,
-        last: T::numbered(0),
-    };
-    let mut number = first;
-    for _ in 0..count {
-        let _ = queue.push(T::numbered(number));
-        number = number.wrapping_add(1);
-        taken.add(queue.pop().ok());
-    }
-    taken
-}
-
 /// Pushes so many items.
 #[inline(never)]
 fn fill<T: Item>(queue: &ConcurrentQueue<T>, items: u64) {
@@ -192,11 +145,17 @@ fn fill<T: Item>(queue: &ConcurrentQueue<T>, items: u64) {
 }
 
 /// Times pairs by one thread.
-fn time_pairs<T: Runs>(kind: &str, work: Work, pairs: u64) -> Option<Run> {
+fn time_pairs<T: Item>(kind: &str, work: Work, pairs: u64) -> Option<Run> {
     let queue: ConcurrentQueue<T> = black_box(open(kind)?);
-    fill(&queue, work.behind());
+    let items = match work {
+        Work::Behind(items) => {
+            fill(&queue, items);
+            items
+        }
+        Work::Batch(items) => items,
+    };
     let start = Instant::now();
-    let taken = T::run(&queue, work.timed(pairs));
+    let taken = T::run(&queue, items, pairs);
     let took = start.elapsed();
     Some(Run {
         sum: taken.sum.wrapping_add(taken.last.number()),
@@ -277,7 +236,9 @@ fn run(words: &[&str]) -> Option<Run> {
 /// The most memory that this process has had so far, in KiB, where the system tells.
 fn peak() -> Option<u64> {
     let status = fs::read_to_string("/proc/self/status").ok()?;
-    let size = status.lines().find_map(|line| line.strip_prefix("VmHWM:"))?;
+    let size = status
+        .lines()
+        .find_map(|line| line.strip_prefix("VmHWM:"))?;
     size.trim().strip_suffix(" kB")?.parse().ok()
 }
 

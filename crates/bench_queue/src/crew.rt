@@ -1,88 +1,136 @@
-//! Threads that push and pop on one queue, each by a party of its own.
-ghost use Rattle.std.specs.Prelude.{IfOk};
-ghost use Rattle.concurrent_queue.specs.Shared.{IsPartyOf};
-
-use bench_loads::crew::{Crew, Member, Refusal, Role, Seat, run_members};
-use concurrent_queue::{ConcurrentQueue, Party, PopError, PushError};
+//! Threads that push and pop on one queue. No value is counted: the numbers are added up.
 use std::alloc::{AllocError, Global};
 use std::sync::Wait;
-use std::thread::Threads;
+use std::thread;
+use std::thread::{Threads, yield_now};
 
-/// The queue that the threads share.
-pub type Queue = ConcurrentQueue<u64>;
-
-// The queue as one of the threads has it, and its party.
-#[derive(Drop)]
-struct OfParty<'a> {
-    queue: &'a Queue,
-    party: Party<u64>,
-    ghost its: { IsPartyOf party queue.now },
+/// How many threads push and how many pop, and how many numbers each pushes. The poppers share what is pushed evenly.
+#[derive(Clone, Copy)]
+pub struct Crew {
+    pub pushers: u64,
+    pub poppers: u64,
+    pub count: u64,
 }
 
-impl<'a> Seat for OfParty<'a> {
-    fn put<R: Wait>(&mut self, rt: &R, number: u64) -> Result<(), Refusal> {
-        match self.queue.push(rt, &mut self.party, number) {
-            Ok(()) => Ok(()),
-            Err(PushError::Full(_)) => Err(Refusal::ForNow),
-            Err(PushError::Closed(_) | PushError::NoMemory(_)) => {
-                self.queue.close(&mut self.party);
-                Err(Refusal::ForGood)
-            }
-        }
-    }
+/// Why a number was not pushed, or none popped.
+#[derive(Clone, Copy)]
+pub enum Refusal {
+    /// The queue is full, or empty, which another thread may change.
+    ForNow,
+    /// The queue is closed.
+    ForGood,
+}
 
-    fn take<R: Wait>(&mut self, rt: &R) -> Result<u64, Refusal> {
-        match self.queue.pop(rt, &mut self.party) {
-            Ok(number) => Ok(number),
-            Err(PopError::Empty) => Err(Refusal::ForNow),
-            Err(PopError::Closed) => Err(Refusal::ForGood),
-        }
-    }
+/// A queue as one of the threads has it that share it.
+pub trait Seat {
+    /// Makes two seats of one.
+    ///
+    /// # Errors
+    ///
+    /// There may be no more of them.
+    fn part(self) -> Result<(Self, Self), AllocError>;
+
+    /// Pushes a number.
+    fn put<R: Wait>(&mut self, rt: &R, number: u64) -> Result<(), Refusal>;
+
+    /// Pops a number.
+    fn take<R: Wait>(&mut self, rt: &R) -> Result<u64, Refusal>;
+}
+
+// What a thread does.
+#[derive(Clone, Copy)]
+enum Role {
+    // Pushes so many numbers.
+    Pushes(u64),
+    // Pops so many numbers.
+    Pops(u64),
+}
+
+// A thread to be: its seat, and what it does.
+#[derive(Drop)]
+struct Member<S> {
+    seat: S,
+    role: Role,
 }
 
 /// Runs the threads of a crew. Gives the sum of what was popped.
 ///
 /// # Errors
 ///
-/// The allocator refused the list of threads, or there may be no more parties.
-pub fn run_crew<R: Threads + Wait + Sync>(
+/// The allocator refused the list of threads, or there may be no more seats.
+pub fn run_crew<R: Threads + Wait + Sync, S: Seat + Send + Drop>(
     rt: &R,
     alloc: Global,
-    queue: &Queue,
-    party: Party<u64>,
+    seat: S,
     crew: Crew,
-) -> Result<u64, AllocError>
-    requires { IsPartyOf party queue.now }
-{
+) -> Result<u64, AllocError> {
+    let pushed = crew.pushers.wrapping_mul(crew.count);
+    let share = pushed.checked_div(crew.poppers).unwrap_or(0);
     let mut members = Vec::new(alloc);
-    let party = enlist(queue, party, &mut members, crew.pushes(), crew.pushers)?;
-    enlist(queue, party, &mut members, crew.pops(), crew.poppers)?;
-    run_members(rt, members)
+    let seat = enlist(seat, &mut members, Role::Pushes(crew.count), crew.pushers)?;
+    enlist(seat, &mut members, Role::Pops(share), crew.poppers)?;
+    let sums = thread::map_vec(rt, members, &|member: Member<S>| act(rt, member))?;
+    Ok(sums.iter().fold(0u64, |sum, more| sum.wrapping_add(*more)))
 }
 
-// Parts so many parties off, for members with this role. Gives the party that is left.
-fn enlist<'a>(
-    queue: &'a Queue,
-    mut party: Party<u64>,
-    members: &mut Vec<Member<OfParty<'a>>>,
+// Adds so many members with this role. Gives the seat that is left.
+fn enlist<S: Seat + Drop>(
+    mut seat: S,
+    members: &mut Vec<Member<S>>,
     role: Role,
     count: u64,
-) -> Result<Party<u64>, AllocError>
-    requires { IsPartyOf party queue.now }
-    ensures { IfOk result (λ left. IsPartyOf left queue.now) }
-{
+) -> Result<S, AllocError> {
     for _ in 0..count {
-        let Ok((left, theirs)) = queue.split(party) else {
-            return Err(AllocError);
-        };
-        members.push(Member {
-            seat: OfParty {
-                queue,
-                party: theirs,
-            },
-            role,
-        })?;
-        party = left;
+        let (left, theirs) = seat.part()?;
+        members.push(Member { seat: theirs, role })?;
+        seat = left;
     }
-    Ok(party)
+    Ok(seat)
+}
+
+// Does what the member's role says. Gives the sum of what was popped.
+fn act<R: Wait, S: Seat + Drop>(rt: &R, member: Member<S>) -> u64 {
+    let Member { mut seat, role } = member;
+    match role {
+        Role::Pushes(count) => {
+            push_all(rt, &mut seat, count);
+            0
+        }
+        Role::Pops(count) => pop_all(rt, &mut seat, count),
+    }
+}
+
+// Pushes the numbers from 0 up to the count, which is left out, each again for as long as the queue is full.
+fn push_all<R: Wait, S: Seat>(rt: &R, seat: &mut S, count: u64) {
+    let mut number = 0;
+    for _ in rt.forever() {
+        if number >= count {
+            break;
+        }
+        match seat.put(rt, number) {
+            Ok(()) => number += 1,
+            Err(Refusal::ForNow) => yield_now(),
+            Err(Refusal::ForGood) => break,
+        }
+    }
+}
+
+// Pops so many numbers, and waits where the queue is empty. Gives their sum.
+fn pop_all<R: Wait, S: Seat>(rt: &R, seat: &mut S, count: u64) -> u64 {
+    let mut sum = 0u64;
+    let mut left = count;
+    for _ in rt.forever() {
+        if left == 0 {
+            break;
+        }
+        match seat.take(rt) {
+            Ok(number) => {
+                sum = sum.wrapping_add(number);
+                left -= 1;
+            }
+            Err(Refusal::ForNow) => yield_now(),
+            Err(Refusal::ForGood) => break,
+        }
+    }
+    sum
 }

@@ -1,25 +1,26 @@
-//! Times pushes and pops: by one owner, by the only party of a shared queue, once its sharing has ended, and by threads.
+//! Times pushes and pops on this repository's queues: by one owner, by the only party of a shared queue, once its sharing has ended, and by threads; and on the kit's: by one thread through a shared reference, and by threads.
 //!
-//! The arguments are `FORM KIND WORK BYTES COUNT` or `threads KIND PUSHERS POPPERS COUNT`, for one run. `FORM` is `owned`, `alone` or `ended`; `KIND` is `single`, `bounded:CAP` or `unbounded`; `WORK` is `behind:ITEMS` or `batch:ITEMS`; `BYTES` is 8 or 64. Without arguments there is a short run of each.
+//! The arguments are `FORM KIND WORK BYTES COUNT` or `threads KIND PUSHERS POPPERS COUNT`, for one run. `FORM` is `owned`, `alone`, `ended`, or `kit-alone`; `KIND` is `single`, `bounded:CAP` or `unbounded`; `WORK` is `behind:ITEMS` or `batch:ITEMS`; `BYTES` is 8 or 64; `kit-threads` stands for `threads` where the queue is the kit's. Without arguments there is a short run of each.
 //!
 //! Standard output tells the sum of what was popped, which no time changes. Standard error tells how long it took, and the most memory that the process has had.
 #![tactic(auto)]
 
 mod crew;
-mod lanes;
-mod queues;
+mod kit;
+mod load;
+mod ours;
+mod pairs;
 mod runs;
 
-use crate::runs::time;
-use bench_loads::load::parse_load;
-use bench_loads::runs::{arguments, print_run};
-use std::io;
+use crate::load::parse_load;
+use crate::runs::{Run, time};
 use std::io::ErrorKind;
 use std::sync::Wait;
 use std::thread::Threads;
+use std::{env, fs, io};
 
 /// What is run where there are no arguments.
-static SHORT: [&str; 28] = [
+static SHORT: [&str; 41] = [
     "owned single behind:0 8 1000",
     "owned bounded:2 behind:0 8 1000",
     "owned bounded:3 behind:1 8 1000",
@@ -48,6 +49,19 @@ static SHORT: [&str; 28] = [
     "threads unbounded 1 1 1000",
     "threads single 4 4 1000",
     "threads unbounded 4 4 1000",
+    "kit-alone single behind:0 8 1000",
+    "kit-alone bounded:2 behind:0 8 1000",
+    "kit-alone bounded:3 behind:1 8 1000",
+    "kit-alone bounded:1000 behind:100 8 1000",
+    "kit-alone bounded:1000 batch:1000 8 2000",
+    "kit-alone unbounded behind:100 8 1000",
+    "kit-alone single behind:0 64 1000",
+    "kit-alone bounded:1000 batch:1000 64 2000",
+    "kit-alone unbounded batch:100 64 1000",
+    "kit-threads single 1 1 1000",
+    "kit-threads bounded:1000 4 4 1000",
+    "kit-threads unbounded 1 1 1000",
+    "kit-threads unbounded 4 4 1000",
 ];
 
 fn main(rt: HostRuntime) -> io::Result<()> {
@@ -61,10 +75,42 @@ fn main(rt: HostRuntime) -> io::Result<()> {
     Ok(())
 }
 
-/// Runs the load that this line names, and tells what came of it.
+// The arguments of the program, with a space between.
+fn arguments(rt: &HostRuntime) -> io::Result<String> {
+    let mut line = String::new(rt.alloc());
+    for word in env::args(rt)?.skip(1) {
+        if !line.is_empty() {
+            line.push(' ')?;
+        }
+        line.push_str(word.as_str())?;
+    }
+    Ok(line)
+}
+
+// Runs the load that this line names, and tells what came of it.
 fn tell<R: Threads + Wait + Sync>(rt: &HostRuntime, threads: &R, line: &str) -> io::Result<()> {
     let Some(load) = parse_load(line) else {
         return Err(io::Error::from(ErrorKind::InvalidInput));
     };
-    print_run(rt, line, time(rt, threads, load)?)
+    let Run { sum, took } = time(rt, threads, load)?;
+    println!(rt; "{line}: sum {sum}")?;
+    let nanos = took.as_nanos();
+    match peak(rt) {
+        Ok(peak) => eprintln!(rt; "{line}: {nanos} ns, peak {peak} KiB"),
+        Err(_) => eprintln!(rt; "{line}: {nanos} ns"),
+    }
+}
+
+// The most memory that this process has had so far, in KiB, where the system tells.
+fn peak(rt: &HostRuntime) -> io::Result<u64> {
+    let status = fs::read_to_string(rt, "/proc/self/status")?;
+    for line in status.lines() {
+        if let Some(size) = line.strip_prefix("VmHWM:")
+            && let Some(digits) = size.trim().strip_suffix(" kB")
+            && let Ok(peak) = digits.parse()
+        {
+            return Ok(peak);
+        }
+    }
+    Err(io::Error::from(ErrorKind::NotFound))
 }

@@ -1,55 +1,75 @@
 //! One run of a load, and how long it took.
-ghost use Rattle.app_text.specs.KindNames.{IsKindName};
+ghost use Rattle.std.specs.Prelude.{◌<◌};
+ghost use Rattle.std.specs.Option.{IfSome};
 
-use crate::crew::run_crew;
-use crate::lanes::{Alone, Owned};
-use crate::queues::{open_owned, open_shared};
-use app_text::args::KindName;
-use bench_loads::crew::Crew;
-use bench_loads::items::Batched;
-use bench_loads::load::{Form, Load, Pairs, Size, Task, Work};
-use bench_loads::pairs::Runs;
-use bench_loads::runs::{Run, time_lane};
+use crate::crew::{Crew, Seat, run_crew};
+use crate::kit::KitAlone;
+use crate::load::{Form, Load, Pairs, Size, Task, Work};
+use crate::ours::{Alone, OfParty, Owned, open_shared};
+use crate::pairs::{Batched, Lane, Runs};
+use crossbeam_queue::{ArrayQueue, SegQueue};
 use std::io;
 use std::sync::Wait;
 use std::thread::Threads;
-use std::time::Instant;
+use std::time::{Duration, Instant};
+
+/// What came of a run: the sum of the numbers that were popped, and how long it took.
+#[derive(Clone, Copy)]
+pub struct Run {
+    pub sum: u64,
+    pub took: Duration,
+}
 
 /// Runs a load, and times it.
 pub fn time<R: Threads + Wait + Sync>(rt: &HostRuntime, threads: &R, load: Load) -> io::Result<Run>
-    requires { IsKindName load.kind }
+    requires { IfSome load.capacity (λ cap. 0 < cap) }
 {
-    match load.task {
-        Task::Threads(crew) => time_crew(rt, threads, load.kind, crew),
+    let Load { capacity, task } = load;
+    match task {
+        Task::Threads(crew) => {
+            let (queue, party) = open_shared(rt.alloc(), capacity)?;
+            let seat = OfParty {
+                queue: &queue,
+                party,
+            };
+            time_crew(rt, threads, seat, crew)
+        }
+        Task::KitThreads(crew) => match capacity {
+            Some(cap) => {
+                let queue: ArrayQueue<u64> = ArrayQueue::new(rt.alloc(), cap)?;
+                time_crew(rt, threads, &queue, crew)
+            }
+            None => {
+                let queue: SegQueue<u64> = SegQueue::new(rt.alloc())?;
+                time_crew(rt, threads, &queue, crew)
+            }
+        },
         Task::Pairs(pairs) => match (pairs.work, pairs.size) {
             (Work::Behind(_), Size::Bytes8) => {
-                time_pairs::<[u64; 1], R>(rt, threads, load.kind, pairs)
+                time_pairs::<[u64; 1], R>(rt, threads, capacity, pairs)
             }
             (Work::Behind(_), Size::Bytes64) => {
-                time_pairs::<[u64; 8], R>(rt, threads, load.kind, pairs)
+                time_pairs::<[u64; 8], R>(rt, threads, capacity, pairs)
             }
             (Work::Batch(_), Size::Bytes8) => {
-                time_pairs::<Batched<[u64; 1]>, R>(rt, threads, load.kind, pairs)
+                time_pairs::<Batched<[u64; 1]>, R>(rt, threads, capacity, pairs)
             }
             (Work::Batch(_), Size::Bytes64) => {
-                time_pairs::<Batched<[u64; 8]>, R>(rt, threads, load.kind, pairs)
+                time_pairs::<Batched<[u64; 8]>, R>(rt, threads, capacity, pairs)
             }
         },
     }
 }
 
-// Times threads.
-fn time_crew<R: Threads + Wait + Sync>(
+// Times threads on an empty queue.
+fn time_crew<R: Threads + Wait + Sync, S: Seat + Send + Drop>(
     rt: &HostRuntime,
     threads: &R,
-    kind: KindName,
+    seat: S,
     crew: Crew,
-) -> io::Result<Run>
-    requires { IsKindName kind }
-{
-    let (queue, party) = open_shared(rt.alloc(), kind)?;
+) -> io::Result<Run> {
     let start = Instant::now(rt)?;
-    let sum = run_crew(threads, rt.alloc(), &queue, party, crew)?;
+    let sum = run_crew(threads, rt.alloc(), seat, crew)?;
     let took = start.elapsed(rt)?;
     Ok(Run { sum, took })
 }
@@ -58,23 +78,58 @@ fn time_crew<R: Threads + Wait + Sync>(
 fn time_pairs<T: Runs, R: Wait>(
     rt: &HostRuntime,
     waits: &R,
-    kind: KindName,
+    capacity: Option<usize>,
     pairs: Pairs,
 ) -> io::Result<Run>
-    requires { IsKindName kind }
+    requires { IfSome capacity (λ cap. 0 < cap) }
 {
     match pairs.form {
         Form::Owned => {
-            let queue: Owned<T> = Owned(open_owned(rt.alloc(), kind)?);
-            time_lane(rt, queue, pairs)
+            let owned: Owned<T> = Owned::open(rt.alloc(), capacity)?;
+            time_lane(rt, owned, pairs)
         }
         Form::Alone => {
-            let alone: Alone<R, T> = Alone::open(rt.alloc(), waits, kind)?;
+            let alone: Alone<R, T> = Alone::open(rt.alloc(), waits, capacity)?;
             time_lane(rt, alone, pairs)
         }
         Form::Ended => {
-            let alone: Alone<R, T> = Alone::open(rt.alloc(), waits, kind)?;
+            let alone: Alone<R, T> = Alone::open(rt.alloc(), waits, capacity)?;
             time_lane(rt, alone.end(), pairs)
         }
+        Form::KitAlone => match capacity {
+            Some(cap) => {
+                let queue: ArrayQueue<T> = ArrayQueue::new(rt.alloc(), cap)?;
+                time_lane(rt, KitAlone { rt: waits, queue }, pairs)
+            }
+            None => {
+                let queue: SegQueue<T> = SegQueue::new(rt.alloc())?;
+                time_lane(rt, KitAlone { rt: waits, queue }, pairs)
+            }
+        },
     }
+}
+
+// Times pairs on an empty queue.
+fn time_lane<T: Runs, L: Lane<T> + Drop>(
+    rt: &HostRuntime,
+    mut lane: L,
+    pairs: Pairs,
+) -> io::Result<Run> {
+    let items = match pairs.work {
+        Work::Behind(items) => {
+            for number in 0..items {
+                lane.fill(T::numbered(number));
+            }
+            items
+        }
+        Work::Batch(items) => items,
+    };
+    let start = Instant::now(rt)?;
+    let taken = T::run(&mut lane, items, pairs.count);
+    let took = start.elapsed(rt)?;
+    // the last item counts twice, so that the whole of each is wanted
+    Ok(Run {
+        sum: taken.sum.wrapping_add(taken.last.number()),
+        took,
+    })
 }

@@ -1,12 +1,13 @@
 //! What the program is asked to time, and the words that ask for it.
+ghost use Rattle.std.specs.Prelude.{◌<◌};
 ghost use Rattle.std.specs.Option.{IfSome};
 ghost use Rattle.app_text.specs.KindNames.{IsKindName};
 
 use crate::crew::Crew;
 use app_text::args::{KindName, parse_kind};
 
-/// Who has the queue.
-#[derive(Clone, Copy, Debug, PartialEq, Eq)]
+/// Who has the queue, and whose it is.
+#[derive(Clone, Copy)]
 pub enum Form {
     /// One owner.
     Owned,
@@ -14,10 +15,12 @@ pub enum Form {
     Alone,
     /// The owner of what is left of a shared queue, once the sharing has ended.
     Ended,
+    /// One thread has one of the kit's queues, which it calls by a reference.
+    KitAlone,
 }
 
 /// In which order pushes and pops come.
-#[derive(Clone, Copy, Debug, PartialEq, Eq)]
+#[derive(Clone, Copy)]
 pub enum Work {
     /// A push and a pop in turn, on a queue that had so many items before.
     Behind(u64),
@@ -26,14 +29,14 @@ pub enum Work {
 }
 
 /// How many bytes an item has.
-#[derive(Clone, Copy, Debug, PartialEq, Eq)]
+#[derive(Clone, Copy)]
 pub enum Size {
     Bytes8,
     Bytes64,
 }
 
 /// So many pairs of a push and a pop by one thread.
-#[derive(Clone, Copy, Debug, PartialEq, Eq)]
+#[derive(Clone, Copy)]
 pub struct Pairs {
     pub form: Form,
     pub work: Work,
@@ -42,28 +45,30 @@ pub struct Pairs {
 }
 
 /// What is done with a queue.
-#[derive(Clone, Copy, Debug, PartialEq, Eq)]
+#[derive(Clone, Copy)]
 pub enum Task {
     /// One thread pushes and pops.
     Pairs(Pairs),
     /// Threads push numbers, and others pop them.
     Threads(Crew),
+    /// The same on one of the kit's queues.
+    KitThreads(Crew),
 }
 
-/// A task, and the kind of the queue that it is done with.
-#[derive(Clone, Copy, Debug, PartialEq, Eq)]
+/// A task, and the capacity of the queue that it is done with, if it has one.
+#[derive(Clone, Copy)]
 pub struct Load {
-    pub kind: KindName,
+    pub capacity: Option<usize>,
     pub task: Task,
 }
 
-/// The load that a line of words names: `FORM KIND WORK BYTES COUNT`, or `threads KIND PUSHERS POPPERS COUNT`.
+/// The load that a line of words names: `FORM KIND WORK BYTES COUNT`, or `threads KIND PUSHERS POPPERS COUNT`, or the same with `kit-threads`.
 pub fn parse_load(line: &str) -> Option<Load>
-    ensures { IfSome result (λ load. IsKindName load.kind) }
+    ensures { IfSome result (λ load. IfSome load.capacity (λ cap. 0 < cap)) }
 {
     let mut words = line.split(' ');
     let form = words.next()?;
-    let kind = parse_kind(words.next()?)?;
+    let capacity = capacity_of(parse_kind(words.next()?)?);
     let first = words.next()?;
     let second = words.next()?;
     let count = words.next()?.parse().ok()?;
@@ -71,11 +76,8 @@ pub fn parse_load(line: &str) -> Option<Load>
         return None;
     }
     let task = match form {
-        "threads" => Task::Threads(Crew {
-            pushers: first.parse().ok()?,
-            poppers: second.parse().ok()?,
-            count,
-        }),
+        "threads" => Task::Threads(parse_crew(first, second, count)?),
+        "kit-threads" => Task::KitThreads(parse_crew(first, second, count)?),
         _ => Task::Pairs(Pairs {
             form: parse_form(form)?,
             work: parse_work(first)?,
@@ -83,7 +85,28 @@ pub fn parse_load(line: &str) -> Option<Load>
             count,
         }),
     };
-    Some(Load { kind, task })
+    Some(Load { capacity, task })
+}
+
+// The capacity of a queue of this kind, if it has one.
+fn capacity_of(kind: KindName) -> Option<usize>
+    requires { IsKindName kind }
+    ensures { IfSome result (λ cap. 0 < cap) }
+{
+    match kind {
+        KindName::Single => Some(1),
+        KindName::Bounded(cap) => Some(cap),
+        KindName::Unbounded => None,
+    }
+}
+
+// The crew that these numbers name.
+fn parse_crew(pushers: &str, poppers: &str, count: u64) -> Option<Crew> {
+    Some(Crew {
+        pushers: pushers.parse().ok()?,
+        poppers: poppers.parse().ok()?,
+        count,
+    })
 }
 
 // The form that this word names.
@@ -92,6 +115,7 @@ fn parse_form(word: &str) -> Option<Form> {
         "owned" => Some(Form::Owned),
         "alone" => Some(Form::Alone),
         "ended" => Some(Form::Ended),
+        "kit-alone" => Some(Form::KitAlone),
         _ => None,
     }
 }

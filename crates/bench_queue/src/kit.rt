@@ -1,7 +1,8 @@
 //! The kit's queues as the loads have them: a lane of one thread, and a seat of each thread.
-use bench_loads::crew::{Refusal, Seat};
-use bench_loads::pairs::Lane;
+use crate::crew::{Refusal, Seat};
+use crate::pairs::Lane;
 use crossbeam_queue::{ArrayQueue, SegQueue};
+use std::alloc::AllocError;
 use std::sync::Wait;
 
 /// A queue that threads share by a reference.
@@ -50,12 +51,12 @@ impl<T: Drop> Shared<T> for SegQueue<T> {
 
 /// A queue that one thread has to itself, which it calls by a reference all the same.
 #[derive(Drop)]
-pub struct Alone<'a, R: Wait, Q> {
+pub struct KitAlone<'a, R: Wait, Q> {
     pub rt: &'a R,
     pub queue: Q,
 }
 
-impl<'a, R: Wait, T: Drop, Q: Shared<T>> Lane<T> for Alone<'a, R, Q> {
+impl<'a, R: Wait, T: Drop, Q: Shared<T>> Lane<T> for KitAlone<'a, R, Q> {
     #[inline(always)]
     fn put(&mut self, item: T) {
         let _ = self.queue.push_item(self.rt, item);
@@ -72,14 +73,13 @@ impl<'a, R: Wait, T: Drop, Q: Shared<T>> Lane<T> for Alone<'a, R, Q> {
 }
 
 /// The queue as one of its threads has it. A queue that is out of memory is tried again, as a full one is.
-#[derive(Drop)]
-pub struct Share<'a, Q> {
-    pub queue: &'a Q,
-}
+impl<'a, Q: Shared<u64>> Seat for &'a Q {
+    fn part(self) -> Result<(&'a Q, &'a Q), AllocError> {
+        Ok((self, self))
+    }
 
-impl<'a, Q: Shared<u64>> Seat for Share<'a, Q> {
     fn put<R: Wait>(&mut self, rt: &R, number: u64) -> Result<(), Refusal> {
-        if self.queue.push_item(rt, number) {
+        if self.push_item(rt, number) {
             Ok(())
         } else {
             Err(Refusal::ForNow)
@@ -87,6 +87,6 @@ impl<'a, Q: Shared<u64>> Seat for Share<'a, Q> {
     }
 
     fn take<R: Wait>(&mut self, rt: &R) -> Result<u64, Refusal> {
-        self.queue.pop_item(rt).ok_or(Refusal::ForNow)
+        self.pop_item(rt).ok_or(Refusal::ForNow)
     }
 }
