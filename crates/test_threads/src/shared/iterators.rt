@@ -172,7 +172,8 @@ fn is_printed<R: Wait + Abort>(rt: &R, alloc: Global, shown: &Shown) {
     let text = shown.text;
     let wanted = format!(in alloc; "{text} Iter({text})").expect(rt, "memory");
     let items = queue.try_iter(rt, &mut party);
-    is(rt, format!(in alloc; "{queue:?} {items:?}"), Ok(wanted));
+    let printed: Result<_, _> = format!(in alloc; "{queue:?} {items:?}");
+    is(rt, printed, Ok(wanted));
 }
 
 /// The same for each of these queues.
