@@ -7,7 +7,7 @@ use crate::asserts::is;
 use crate::channel::opening::{Came, Left, Sent, left, opened_surely};
 use crate::opening::{open_surely, part};
 use callers_channel::{end_rejoined, hand_through};
-use concurrent_queue::{Party, PopError, PushError};
+use concurrent_queue::{ConcurrentQueue, Party, PopError, PushError};
 use counted_channel::{Channel, Disconnected, Receiver, SendError, Sender, channel};
 use std::alloc::Global;
 use std::fmt::{Debug, Display};
@@ -419,7 +419,12 @@ fn a_party_that_is_left_out_keeps_the_channel(rt: HostRuntime) {
 
 /// What is left where a sender is parted, joined again and ended, and a receiver is parted, joined and ended.
 fn end_both_rejoined(rt: &impl Abort, alloc: Global) -> Option<Left> {
-    let (channel, sender, receiver) = opened_surely(rt, alloc, Some(1));
+    let Ok((queue, party)) = ConcurrentQueue::bounded(alloc, 1) else {
+        panic!(rt; "no memory");
+    };
+    let Ok((channel, sender, receiver)) = channel(alloc, queue, party) else {
+        panic!(rt; "no memory");
+    };
     let first = end_rejoined(&channel, sender);
     let Ok((one, two)) = channel.split_receiver(receiver) else {
         panic!(rt; "no second receiver");

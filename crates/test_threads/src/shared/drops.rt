@@ -6,38 +6,64 @@ use crate::asserts::is_in;
 use crate::crew::{pop_one, push_one};
 use crate::opening::{open_surely, part};
 use concurrent_queue::{ConcurrentQueue, Party};
-use std::alloc::Global;
+use std::alloc::{AllocError, Global};
 use std::process::Abort;
-use std::sync::Wait;
+use std::sync::atomic::{AtomicU64, Ordering};
+use std::sync::{Arc, Wait};
 use std::thread::{Threads, join};
-use test_allocators::items::{Counted, Items};
 
-type Queue<'a> = ConcurrentQueue<Counted<'a>>;
+/// An item that counts its drop.
+struct Counted {
+    drops: Arc<AtomicU64>,
+}
+
+impl Counted {
+    /// An item whose drop is counted here.
+    fn by(drops: &Arc<AtomicU64>) -> Result<Counted, AllocError> {
+        Ok(Counted {
+            drops: drops.clone()?,
+        })
+    }
+}
+
+impl Drop for Counted {
+    fn drop(self) {
+        let Self { drops } = self;
+        drops.fetch_add(1, Ordering::SeqCst);
+    }
+}
+
+/// A count of drops, of which there were none.
+fn no_drops(rt: &impl Abort, alloc: Global) -> Arc<AtomicU64> {
+    match Arc::new(alloc, AtomicU64::new(0)) {
+        Ok(drops) => drops,
+        Err(_) => panic!(rt; "no memory"),
+    }
+}
+
+type Queue = ConcurrentQueue<Counted>;
 
 /// Pushes so many items.
-fn push_all<'a, R: Wait>(
+fn push_all<R: Wait>(
     rt: &R,
-    queue: &Queue<'a>,
-    mut party: Party<Counted<'a>>,
-    items: &'a Items,
+    queue: &Queue,
+    mut party: Party<Counted>,
+    drops: &Arc<AtomicU64>,
     count: u64,
-) -> Party<Counted<'a>>
+) -> Party<Counted>
     requires { IsPartyOf party queue.now }
     ensures { IsPartyOf result queue.now }
 {
     for _ in 0..count {
-        push_one(rt, queue, &mut party, Counted::of(items));
+        if let Ok(item) = Counted::by(drops) {
+            push_one(rt, queue, &mut party, item);
+        }
     }
     party
 }
 
 /// Pops so many items, and drops them.
-fn pop_all<'a, R: Wait>(
-    rt: &R,
-    queue: &Queue<'a>,
-    mut party: Party<Counted<'a>>,
-    count: u64,
-) -> Party<Counted<'a>>
+fn pop_all<R: Wait>(rt: &R, queue: &Queue, mut party: Party<Counted>, count: u64) -> Party<Counted>
     requires { IsPartyOf party queue.now }
     ensures { IsPartyOf result queue.now }
 {
@@ -57,20 +83,20 @@ fn each_dropped_once<R: Wait + Threads + Sync + Abort>(
 )
     requires { (popped < 100000) × (left < 100000) }
 {
-    let items = Items::none();
+    let drops = no_drops(rt, alloc);
     let (queue, party) = open_surely(rt, alloc, cap);
     let (a, b) = part(rt, &queue, party);
     let (a, b) = join(
         rt,
-        || push_all(rt, &queue, a, &items, popped + left),
+        || push_all(rt, &queue, a, &drops, popped + left),
         || pop_all(rt, &queue, b, popped),
     );
     let party = queue.join(a, b);
-    let shared = items.dropped();
+    let shared = drops.load(Ordering::SeqCst);
     drop(party);
-    let without_a_party = items.dropped();
+    let without_a_party = drops.load(Ordering::SeqCst);
     drop(queue);
-    let seen = [shared, without_a_party, items.dropped()];
+    let seen = [shared, without_a_party, drops.load(Ordering::SeqCst)];
     is_in(rt, cap, seen, [popped, popped, popped + left]);
 }
 
