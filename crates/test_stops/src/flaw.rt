@@ -24,7 +24,7 @@ pub enum Flaw {
     Memory,
     /// A call took other steps alone than it has.
     Steps,
-    /// A call waits for one that has done nothing yet, or did not end at all.
+    /// Of two calls one waits for the other, which has done nothing yet, or it did not end at all.
     Waits,
 }
 
