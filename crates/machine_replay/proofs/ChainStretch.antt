@@ -1,6 +1,5 @@
--- A chain: a call that nobody hinders replies by its seventy-fourth step.
-use Rattle.std.proofs.Common.{ℕ, ◌+◌, ◌==◌, if◌then◌else◌, ◌<◌, ◌≤◌, ◌≡◌, ◌≢◌, inl, inr, ◌∙◌, Bool, true, false, Option, Some, None, IsSome, List, [], bit_or, refl, sym, ap, subst, arith}
-use Rattle.std.proofs.lemmas.Bool.{ne_eqb}
+-- A chain: a call that nobody hinders replies by its seventy-third step.
+use Rattle.std.proofs.Common.{ℕ, ◌+◌, if◌then◌else◌, ◌-◌, ◌<◌, ◌≡◌, ◌≢◌, inl, inr, ◌∙◌, Bool, true, false, Option, Some, None, IsSome, List, [], ◌∷◌, bit_or, refl, sym, ap, subst, arith}
 use Rattle.queue_steps.specs.declared.sizes.TheConstants.{BLOCK_SLOTS}
 use Rattle.queue_steps.specs.State.{State}
 use Rattle.queue_steps.specs.Next.{next_of}
@@ -11,7 +10,6 @@ use Rattle.queue_steps.specs.declared.steps.bounded.TheConstants.{MARK}
 use Rattle.queue_steps.specs.declared.steps.types.Kind.TheVariants as queue
 use Rattle.queue_steps.specs.declared.steps.types.Link.TheVariants as link
 use Rattle.queue_steps.specs.declared.steps.types.Local.{Local}
-use Rattle.queue_steps.specs.declared.steps.types.Local.TheVariants as local
 use Rattle.queue_steps.specs.declared.steps.types.Next.{Next}
 use Rattle.queue_steps.specs.declared.steps.types.Next.TheVariants as next
 use Rattle.queue_steps.specs.declared.steps.types.Op.{Op}
@@ -20,29 +18,28 @@ use Rattle.queue_steps.specs.declared.steps.types.Touch.{Touch}
 use Rattle.queue_steps.specs.declared.steps.types.Touch.TheVariants as touch
 use Rattle.queue_steps.specs.declared.steps.types.Word.{Word}
 use Rattle.queue_steps.specs.declared.steps.types.Word.TheVariants as word
-use Rattle.queue_steps.specs.declared.steps.unbounded.UnboundedLocal.TheVariants as chain
+use Rattle.law_common.specs.Effects.{with_effect}
 use Rattle.law_common.proofs.Tails.{mark_tail, shut_tail}
-use Rattle.law_chain.specs.ChainCells.{Shown, Hidden, Showing, Seen, Chain, ChainOk, ShownOk, Holds, Nothing}
+use Rattle.law_chain.specs.ChainCells.{Seen, Chain, Holds, Nothing, queue_of}
 use Rattle.law_chain.specs.ChainAfter.{after_of, left_by}
-use Rattle.law_chain.specs.ChainAnswers.{tail_place, tail_word, head_word, shown_of}
+use Rattle.law_chain.specs.ChainAnswers.{tail_place, tail_word}
 use Rattle.law_chain.specs.ChainAt.{At, push_tail, push_block, asking, installing, showing, claiming, laying, opening, chaining, writing, spending, pop_head, pop_block, pop_tail, taking, following, peeking, passing, entering, awaiting, reading, beginning, walking, destroying, len_tail, len_head, len_again, empty_head, empty_tail, closing, closed_tail}
 use Rattle.law_chain.proofs.ChainFirst.{first}
-use Rattle.law_chain.proofs.ChainRanks.{rank, rank_small, rank_some, longest, lag, walk_rank, is_seen, Falls}
+use Rattle.law_chain.proofs.ChainRanks.{rank, rank_some, Falls}
 use Rattle.law_chain.proofs.ChainRanksStep.{step_falls}
-use Rattle.law_chain.proofs.ChainRight.{step_right}
+use Rattle.law_chain.proofs.ChainRight.{Ends, step_right}
 use Rattle.law_chain.proofs.ChainStep.{is_chain}
 use Rattle.machine_steps.specs.declared.machine.Running.{Running}
 use Rattle.machine_steps.specs.declared.types.EffectKind.{EffectKind}
 use Rattle.machine_replay.specs.Book.{Open}
 use Rattle.machine_steps.specs.SharedMemory.{Shared, answer_to, step_of, running_after, next_after, carried_then, put_word, put_at, touched, operated, granted_if, block_touched, after_touch}
+use Rattle.machine_replay.proofs.ChainFar.{far_at, far_of, one_of_pop, by_call, goes_as, bounded, seen_is}
 use Rattle.machine_replay.proofs.ChainFits.{ChainIdle, ChainFits}
 use Rattle.machine_replay.proofs.ChainHolding.{ChainHolds}
 use Rattle.machine_replay.proofs.ChainLaws.{chain_steps, chain_then, next_on}
-use Rattle.machine_replay.proofs.ChainNames.{Codes}
 use Rattle.machine_replay.proofs.ChainOpening.{chain_opens, chain_all_idle}
 use Rattle.machine_replay.proofs.ChainStands.{steps_stand}
-use Rattle.machine_replay.specs.Progress.{AppendsReplyWithin, UnhinderedWithin}
-use Rattle.machine_replay.proofs.Appended.{HasAppend, appends_reply}
+use Rattle.machine_replay.specs.Progress.{UnhinderedWithin}
 use Rattle.machine_replay.proofs.Stretch.{Rules, Paces, unhindered}
 
 -- once the first block is shown, a call that has had no effect holds no part
@@ -78,62 +75,6 @@ holds_nothing (empty_head none) e seen = none
 holds_nothing (empty_tail h none small saw) e seen = none
 holds_nothing (closing none) e seen = none
 holds_nothing (closed_tail none) e seen = none
-
--- how many steps a call has before it once the first block is shown, by the words of the tail and the head
-far_at : ℕ → ℕ → Local ℕ → ℕ
-far_at t h (local.Unbounded (chain.PushTail d spare)) = 10
-far_at t h (local.Unbounded (chain.PushBlock d tail spare)) = 9 + lag t tail 5
-far_at t h (local.Unbounded (chain.Asking d tail None)) = 13
-far_at t h (local.Unbounded (chain.Asking d tail (Some block))) = 6 + lag t tail 5
-far_at t h (local.Unbounded (chain.Installing d tail fresh)) = 12
-far_at t h (local.Unbounded (chain.Showing d tail block)) = 6 + lag t tail 5
-far_at t h (local.Unbounded (chain.Claiming d tail block spare)) = 5 + lag t tail 5
-far_at t h (local.Unbounded (chain.Laying d tail block fresh)) = 4
-far_at t h (local.Unbounded (chain.Opening d tail block fresh)) = 3
-far_at t h (local.Unbounded (chain.Chaining d tail block fresh)) = 2
-far_at t h (local.Unbounded chain.PopHead) = BLOCK_SLOTS + 9
-far_at t h (local.Unbounded (chain.PopBlock head)) = BLOCK_SLOTS + 8 + lag h head 3
-far_at t h (local.Unbounded (chain.PopTail head None)) = BLOCK_SLOTS + 10
-far_at t h (local.Unbounded (chain.PopTail head (Some block))) = BLOCK_SLOTS + 7 + lag h head 3
-far_at t h (local.Unbounded (chain.Taking head block)) = BLOCK_SLOTS + 6 + lag h head 3
-far_at t h (local.Unbounded (chain.Following head block)) = BLOCK_SLOTS + 5
-far_at t h (local.Unbounded (chain.Peeking head block after)) = BLOCK_SLOTS + 4
-far_at t h (local.Unbounded (chain.Passing head block more)) = BLOCK_SLOTS + 3
-far_at t h (local.Unbounded (chain.Entering head block)) = BLOCK_SLOTS + 2
-far_at t h (local.Unbounded (chain.Awaiting head block)) = BLOCK_SLOTS + 1
-far_at t h (local.Unbounded (chain.Reading block slot)) = walk_rank slot
-far_at t h (local.Unbounded (chain.Walking block slot)) = walk_rank slot
-far_at t h (local.Unbounded (chain.Destroying block slot)) = walk_rank slot
-far_at t h (local.Unbounded chain.LenTail) = 3
-far_at t h (local.Unbounded (chain.LenHead tail)) = 2 + lag t tail 3
-far_at t h (local.Unbounded (chain.LenAgain tail head)) = 1 + lag t tail 3
-far_at t h (local.Unbounded chain.EmptyHead) = 2
-far_at t h _ = 1
-
-far_is : {A : Type 0} (c : Chain A) (l : Local ℕ) → (c.blocks == 0) ≡ false → is_seen c.shown ≡ true → rank c l ≡ far_at (tail_word c) (head_word c) l
-unfolding far_at
-far_is c (local.Unbounded (chain.Asking d tail None)) some seen = rw some refl
-far_is c (local.Unbounded (chain.Asking d tail (Some block))) some seen = refl
-far_is c (local.Unbounded (chain.Installing d tail fresh)) some seen = rw some refl
-far_is c (local.Unbounded (chain.PopTail head None)) some seen = rw seen refl
-far_is c (local.Unbounded (chain.PopTail head (Some block))) some seen = refl
-far_is c l some seen = refl
-
-seen_if : (x : Shown) (name : ℕ) → IsSome (shown_of x name) → x ≡ Seen
-seen_if Seen name h = refl
-seen_if Hidden name h = cc
-seen_if (Showing p) name h = cc
-
-seen_is : {A : Type 0} (s : Shared A) (g : Chain A) → IsSome s.head_block → Codes g s.head s.tail s.head_block s.tail_block s.blocks → g.shown ≡ Seen
-seen_is s g ready codes = seen_if g.shown (g.names g.front) (subst (λ b. IsSome b) codes.front_is ready)
-
--- by the machine's words
-far_of : {A : Type 0} (s : Shared A) (g : Chain A) (l : Local ℕ) → IsSome s.head_block → ChainOk g → Codes g s.head s.tail s.head_block s.tail_block s.blocks → rank g l ≡ far_at s.tail s.head l
-far_of s g l ready ok codes =
-    let seen = seen_is s g ready codes in
-    let shown : ShownOk g.blocks g.head g.front g.known g.passer Seen = subst (λ x. ShownOk g.blocks g.head g.front g.known g.passer x) seen ok.seen in
-    let some : (g.blocks == 0) ≡ false = ne_eqb g.blocks 0 (λ z. absurd (omega (arith, shown, z))) in
-    far_is g l some (ap is_seen seen) ∙ (ap (λ t. far_at t (head_word g) l) (sym codes.tail_is) ∙ ap (λ h. far_at s.tail h l) (sym codes.head_is))
 
 -- a call that goes on has fewer steps before it
 goes_on : {A : Type 0} (c : Chain A) (n : Next ℕ) (v : Option A) (m : ℕ) (x : Running A) → running_after n v ≡ Some x → Falls c n m → rank (left_by c n) x.local < m
@@ -243,7 +184,8 @@ module _ (A : Type 0) where
   Free g p = Holds g p Nothing
 
   own_falls : (busy : ℕ) (ok : Bool) (s : Shared A) (Q : State A) (g : Chain A) (p : ℕ) (x x' : Running A) (o : Open A) → IsSome s.head_block → ChainHolds s Q g → ChainFits busy s Q g p x o → ((j : ℕ) → j ≢ p → Free g j)
-      → (step_of queue.Unbounded ok s x).call ≡ Some x' → far_at (step_of queue.Unbounded ok s x).shared.tail (step_of queue.Unbounded ok s x).shared.head x'.local < far_at s.tail s.head x.local
+      → (step_of queue.Unbounded ok s x).call ≡ Some x'
+      → far_at (step_of queue.Unbounded ok s x).shared.tail (step_of queue.Unbounded ok s x).shared.head x'.local - one_of_pop x'.local < far_at s.tail s.head x.local - one_of_pop x.local
   own_falls busy ok s Q g p x x' o ready holds f quiet goes =
       let a = answer_to ok s x in
       let step = steps_stand A ok s Q g p o.moments x o.call o.effects holds f.here f.spares in
@@ -251,121 +193,37 @@ module _ (A : Type 0) where
       let after = chain_then ok s g p o.moments x o.call o.effects f.here in
       let falls = step_falls f.here a holds.ok step.found quiet in
       let went : next_after queue.Unbounded ok s x ≡ next_on ok s x = ap (λ l. next_of queue.Unbounded l a) (is_chain f.here) in
-      let less = goes_on (after_of f.here a) (next_on ok s x) (carried_then s x) (rank g x.local) x' (subst (λ n. running_after n (carried_then s x) ≡ Some x') went goes) falls in
+      let on = subst (λ n. running_after n (carried_then s x) ≡ Some x') went goes in
+      let less = goes_on (after_of f.here a) (next_on ok s x) (carried_then s x) (rank g x.local) x' on falls in
+      let same = goes_as after p (queue_of after ∷ o.moments) (next_on ok s x) (carried_then s x) o.call (with_effect o.effects right.e) x' on (subst (λ v. Ends after p (queue_of after ∷ o.moments) (next_on ok s x) v o.call (with_effect o.effects right.e)) (sym step.carried) right.ends) ∙ sym (by_call f.here) in
+      let some = rank_some after x'.local in
+      let more = (bounded s.tail s.head f.here holds.ok).0 in
       let there = far_of (step_of queue.Unbounded ok s x).shared after x'.local (ready_on ok s x ready) right.ok step.codes in
       let here = far_of s g x.local ready holds.ok holds.codes in
-      omega (arith, less, there, here)
+      omega (arith, less, there, here, same, some, more)
 
   abbrev pub chain_rules : Rules A queue.Unbounded
   chain_rules = record { G = Chain A; Holds = ChainHolds; Idle = ChainIdle; Fits = ChainFits; laws = chain_steps (steps_stand A); first = first; opens = chain_opens A; all_idle = chain_all_idle A }
 
   chain_paces : Paces A queue.Unbounded chain_rules
   chain_paces = record {
-    rank = λ s r. far_at s.tail s.head r.local;
-    most = longest;
+    rank = λ s r. far_at s.tail s.head r.local - one_of_pop r.local;
+    most = BLOCK_SLOTS + 10;
     Free = Free;
     Ready = λ s. IsSome s.head_block;
     ready_on = ready_on;
-    small = λ s Q g r ready holds. let here = far_of s g r.local ready holds.ok holds.codes in let small = rank_small g r.local in omega arith;
-    some = λ s Q g r ready holds. let here = far_of s g r.local ready holds.ok holds.codes in let some = rank_some g r.local in omega arith;
+    within = λ busy s Q g p r o ready holds f. let b = bounded s.tail s.head f.here holds.ok in let low = b.0 in let high = b.1 in (omega arith, omega arith);
     rests = λ g p h. h.0;
     undone = λ busy s Q g p r o ready holds f e. holds_nothing f.here e (seen_is s g ready holds.codes);
     falls = own_falls;
     keeps = λ busy busy' s s' Q g g' p r o o' ready holds holds' f f' others others' turn. elim turn [
-      | inl same ↦ ap (λ z. far_at z.tail z.head r.local) same
+      | inl same ↦ ap (λ z. far_at z.tail z.head r.local - one_of_pop r.local) same
       | inr t ↦
           let words = words_stay t.granted s t.fits.here t.none holds.codes.tail_is t.quiet in
-          ap (λ z. far_at z.tail z.head r.local) t.leaves ∙ (ap (λ z. far_at z (step_of queue.Unbounded t.granted s t.call).shared.head r.local) words.1 ∙ ap (λ z. far_at s.tail z r.local) words.0)
+          ap (λ z. far_at z.tail z.head r.local - one_of_pop r.local) t.leaves ∙ (ap (λ z. far_at z (step_of queue.Unbounded t.granted s t.call).shared.head r.local - one_of_pop r.local) words.1 ∙ ap (λ z. far_at s.tail z r.local - one_of_pop r.local) words.0)
     ];
   }
 
-  pub chain_unhindered : UnhinderedWithin A queue.Unbounded longest
+  pub chain_unhindered : UnhinderedWithin A queue.Unbounded (BLOCK_SLOTS + 10)
   unfolding chain_paces
   chain_unhindered = unhindered A queue.Unbounded chain_rules chain_paces (λ s shown. shown)
-
--- how many steps a call has before it that has appended
-to_write : Local ℕ → ℕ
-to_write (local.Unbounded (chain.Laying d tail block fresh)) = 4
-to_write (local.Unbounded (chain.Opening d tail block fresh)) = 3
-to_write (local.Unbounded (chain.Chaining d tail block fresh)) = 2
-to_write _ = 1
-
-append_within : {A : Type 0} {c : Chain A} {who : ℕ} {ms : List (State A)} {l : Local ℕ} {t : Touch} {o : Op ℕ} {v : Option A} {k : Call A} {es : List (Effect A)} → At c who ms l t o v k es → HasAppend es → (0 < to_write l) × (to_write l ≤ 4)
-unfolding to_write
-append_within (push_tail d v spare none spare_is) had = absurd had
-append_within (push_block d v spare q none spare_is saw) had = absurd had
-append_within (asking d v q block none saw asked) had = absurd had
-append_within (installing d v f none saw fresh) had = absurd had
-append_within (showing d v name first saw is named) had = absurd had
-append_within (claiming d v q name spare none spare_is saw block enough) had = absurd had
-append_within (laying d v n name f holds mine lays fresh) had = (omega arith, omega arith)
-append_within (opening d v n name f holds mine opens links named) had = (omega arith, omega arith)
-append_within (chaining d v n name f holds mine links named) had = (omega arith, omega arith)
-append_within (writing d v n name spare holds mine spare_is) had = (omega arith, omega arith)
-append_within (spending d v spare none spare_is spent) had = absurd had
-append_within (pop_head none) had = absurd had
-append_within (pop_block n more none is room) had = absurd had
-append_within (pop_tail n block none is front) had = absurd had
-append_within (taking n name next more new none is front there word_is room) had = absurd had
-append_within (following x n name more holds got pass) had = absurd had
-append_within (peeking x n name after more holds got pass behind) had = absurd had
-append_within (passing x n name after more further holds got pass behind room) had = absurd had
-append_within (entering x n name more further holds got enters room) had = absurd had
-append_within (awaiting x n name more holds got) had = absurd had
-append_within (reading x n name more holds got wrote inner) had = absurd had
-append_within (beginning x n name more holds got wrote last) had = absurd had
-append_within (walking x b name slot holds is named) had = absurd had
-append_within (destroying x b name slot holds is named) had = absurd had
-append_within (len_tail none) had = absurd had
-append_within (len_head w none small low) had = absurd had
-append_within (len_again w h none small seen) had = absurd had
-append_within (empty_head none) had = absurd had
-append_within (empty_tail h none small saw) had = absurd had
-append_within (closing none) had = absurd had
-append_within (closed_tail none) had = absurd had
-
-nearer_write : {A : Type 0} (l : Local ℕ) (t : Touch) (o : Op ℕ) (v : Option A) (r' : Running A) (m : ℕ) → Some (record { local = l; touch = t; op = o; carried = v }) ≡ Some r' → to_write l < m → to_write r'.local < m
-nearer_write {A} l t o v r' m e lt = let same : ◌≡◌ {A = Running A} (record { local = l; touch = t; op = o; carried = v }) r' = cc in subst (λ z. to_write z.local < m) same lt
-
-append_falls : {A : Type 0} {c : Chain A} {who : ℕ} {ms : List (State A)} {l : Local ℕ} {t : Touch} {o : Op ℕ} {v : Option A} {k : Call A} {es : List (Effect A)} (ok : Bool) (s : Shared A) (r' : Running A) → At c who ms l t o v k es → HasAppend es
-    → (step_of queue.Unbounded ok s (record { local = l; touch = t; op = o; carried = v })).call ≡ Some r' → to_write r'.local < to_write l
-unfolding to_write
-append_falls ok s r' (push_tail d v spare none spare_is) had goes = absurd had
-append_falls ok s r' (push_block d v spare q none spare_is saw) had goes = absurd had
-append_falls ok s r' (asking d v q block none saw asked) had goes = absurd had
-append_falls ok s r' (installing d v f none saw fresh) had goes = absurd had
-append_falls ok s r' (showing d v name first saw is named) had goes = absurd had
-append_falls ok s r' (claiming d v q name spare none spare_is saw block enough) had goes = absurd had
-append_falls ok s r' (laying d v n name f holds mine lays fresh) had goes = nearer_write _ _ _ _ r' 4 goes (omega arith)
-append_falls ok s r' (opening d v n name f holds mine opens links named) had goes = nearer_write _ _ _ _ r' 3 goes (omega arith)
-append_falls ok s r' (chaining d v n name f holds mine links named) had goes = nearer_write _ _ _ _ r' 2 goes (omega arith)
-append_falls ok s r' (writing d v n name spare holds mine spare_is) had goes = cc
-append_falls ok s r' (spending d v spare none spare_is spent) had goes = absurd had
-append_falls ok s r' (pop_head none) had goes = absurd had
-append_falls ok s r' (pop_block n more none is room) had goes = absurd had
-append_falls ok s r' (pop_tail n block none is front) had goes = absurd had
-append_falls ok s r' (taking n name next more new none is front there word_is room) had goes = absurd had
-append_falls ok s r' (following x n name more holds got pass) had goes = absurd had
-append_falls ok s r' (peeking x n name after more holds got pass behind) had goes = absurd had
-append_falls ok s r' (passing x n name after more further holds got pass behind room) had goes = absurd had
-append_falls ok s r' (entering x n name more further holds got enters room) had goes = absurd had
-append_falls ok s r' (awaiting x n name more holds got) had goes = absurd had
-append_falls ok s r' (reading x n name more holds got wrote inner) had goes = absurd had
-append_falls ok s r' (beginning x n name more holds got wrote last) had goes = absurd had
-append_falls ok s r' (walking x b name slot holds is named) had goes = absurd had
-append_falls ok s r' (destroying x b name slot holds is named) had goes = absurd had
-append_falls ok s r' (len_tail none) had goes = absurd had
-append_falls ok s r' (len_head w none small low) had goes = absurd had
-append_falls ok s r' (len_again w h none small seen) had goes = absurd had
-append_falls ok s r' (empty_head none) had goes = absurd had
-append_falls ok s r' (empty_tail h none small saw) had goes = absurd had
-append_falls ok s r' (closing none) had goes = absurd had
-append_falls ok s r' (closed_tail none) had goes = absurd had
-
-pub chain_appends : (A : Type 0) → AppendsReplyWithin A queue.Unbounded 4
-chain_appends A = appends_reply A queue.Unbounded (chain_rules A) (record {
-  before = to_write;
-  most = 4;
-  within = λ busy s Q g p r o f had. append_within f.here had;
-  falls = λ busy ok s Q g p r r' o f had goes. append_falls ok s r' f.here had goes;
-})

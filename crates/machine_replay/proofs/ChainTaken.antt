@@ -39,6 +39,7 @@ use Rattle.law_chain.proofs.ChainStep.{is_chain}
 use Rattle.machine_steps.specs.declared.machine.Running.{Running}
 use Rattle.machine_replay.specs.Book.{Open}
 use Rattle.machine_steps.specs.SharedMemory.{Shared, answer_to, step_of, running_after, next_after, carried_then}
+use Rattle.machine_replay.proofs.ChainFar.{inner_low}
 use Rattle.machine_replay.proofs.ChainFits.{ChainFits}
 use Rattle.machine_replay.proofs.ChainHolding.{ChainHolds}
 use Rattle.machine_replay.proofs.ChainLaws.{next_on}
@@ -158,9 +159,6 @@ awaiting_nears head name st written = last (eqb_tells (offset_of head + 1) BLOCK
     last : (((offset_of head + 1 == BLOCK_SLOTS) ≡ true) × (offset_of head + 1 ≡ BLOCK_SLOTS)) ⊎ (((offset_of head + 1 == BLOCK_SLOTS) ≡ false) × (offset_of head + 1 ≢ BLOCK_SLOTS)) → Nears (written_found head name st) (2 * LAST + 2)
     last (inl e) = rw (written, e.0) (omega arith)
     last (inr e) = rw (written, e.0) (omega arith)
-
-inner_low : (n i : ℕ) → i ≡ n % BLOCK_SLOTS → (n % BLOCK_SLOTS + 1 ≡ BLOCK_SLOTS → ⊥) → i < LAST
-inner_low n i e ne = elim (eqb_tells (n % BLOCK_SLOTS + 1) BLOCK_SLOTS) [ inl t ↦ absurd (ne t.1) | inr t ↦ let z = t.1 in omega arith ]
 
 nears : {A : Type 0} {c : Chain A} {who : ℕ} {ms : List (State A)} {l : Local ℕ} {t : Touch} {o : Op ℕ} {v : Option A} {k : Call A} {es : List (Effect A)} → At c who ms l t o v k es → HasTake es → (a : Answer ℕ) → ChainOk c → Answers c o a → ((j : ℕ) → j ≢ who → Clear c j)
     → Nears (unbounded_next (chain_of l) a) (to_reply l)

@@ -76,10 +76,13 @@ pub mod OwnersReplay
 pub mod PeakTold
 pub mod Standings
 pub mod Stretch
+pub mod Had
 pub mod Appended
 pub mod Taken
 pub mod SingleStretch
 pub mod RingStretch
+pub mod ChainFar
 pub mod ChainStretch
+pub mod ChainAppended
 pub mod ChainTaken
 pub mod Unhindered

@@ -1,7 +1,11 @@
--- A ring: a call that nobody hinders replies by its seventh step.
-use Rattle.std.proofs.Common.{ℕ, ◌+◌, ◌<◌, ◌≤◌, ◌≡◌, ◌≢◌, ◌||◌, not, ◌∙◌, Bool, true, Option, Some, None, List, [], ◌∷◌, length, refl, sym, ap, subst, arith}
+-- A ring: a call that nobody hinders replies by its sixth step.
+use Rattle.std.proofs.Common.{ℕ, ◌+◌, ◌%◌, ◌<◌, ◌≤◌, ◌≡◌, ◌≢◌, ◌==◌, ◌||◌, ◌⊎◌, inl, inr, if◌then◌else◌, min, not, ◌∙◌, Bool, true, false, Option, Some, None, List, [], ◌∷◌, length, refl, sym, ap, subst, arith}
+use Rattle.std.proofs.Math.Nat.{min-eq_left, min-eq_right}
+use Rattle.std.proofs.lemmas.Bool.{ne_eqb}
+use Rattle.std.proofs.lemmas.Bool.Decides.{eqb_tells}
 use Rattle.queue_steps.specs.State.{State}
-use Rattle.queue_steps.specs.Words.{IsRing, position_of, is_shut, tail_of}
+use Rattle.queue_steps.specs.BoundedNext.{lap_found, loads, push_stamp_found}
+use Rattle.queue_steps.specs.Words.{IsRing, position_of, is_shut, slot_at, stamp_filled, stamp_free, tail_of}
 use Rattle.queue_steps.specs.Next.{next_of}
 use Rattle.queue_steps.specs.declared.model.Call.{Call}
 use Rattle.queue_steps.specs.declared.model.Effect.{Effect}
@@ -11,21 +15,29 @@ use Rattle.queue_steps.specs.declared.steps.types.Local.{Local}
 use Rattle.queue_steps.specs.declared.steps.types.Local.TheVariants as local
 use Rattle.queue_steps.specs.declared.steps.types.Next.{Next}
 use Rattle.queue_steps.specs.declared.steps.types.Next.TheVariants as next
+use Rattle.queue_steps.specs.declared.steps.bounded.PushKind.{PushKind}
+use Rattle.queue_steps.specs.declared.steps.bounded.TheConstants.{TAIL_STEP}
 use Rattle.queue_steps.specs.declared.steps.types.Op.{Op}
+use Rattle.queue_steps.specs.declared.steps.types.Op.TheVariants as op
+use Rattle.queue_steps.specs.declared.steps.types.Touch.TheVariants as touch
+use Rattle.queue_steps.specs.declared.steps.types.Word.TheVariants as word
 use Rattle.queue_steps.specs.declared.steps.types.Touch.{Touch}
 use Rattle.law_common.specs.Effects.{with_effect}
+use Rattle.law_common.proofs.Ranks.{either_small}
 use Rattle.law_common.proofs.Tails.{position_tail, shut_tail}
 use Rattle.law_ring.specs.RingShared as ring
-use Rattle.law_ring.specs.RingCells.{Ring, Free, HoldsNone, queue_of}
+use Rattle.law_ring.specs.RingCells.{Cell, Free, Written, Full, Read, Coming, Swapped, Ring, RingOk, CellOk, HoldsNone, owner, queue_of}
 use Rattle.law_ring.specs.RingAt.{At, push_tail, push_stamp, claiming, filling, push_head, displacing, arriving, swapping, spending, pop_head, pop_stamp, taking, emptying, pop_tail, len_tail, len_head, len_again, empty_head, empty_tail, full_tail, full_head, closing, closed_tail}
 use Rattle.law_ring.specs.RingOpening.{opening_ring}
-use Rattle.law_ring.specs.RingWords.{Codes}
+use Rattle.law_ring.specs.RingWords.{Codes, stamp_in}
 use Rattle.law_ring.proofs.RingGood.{Goes, IsQuiet}
-use Rattle.law_ring.proofs.RingRanks.{rank, rank_small, rank_some, longest}
+use Rattle.law_ring.proofs.RingRanks.{rank, rank_some}
+use Rattle.law_ring.proofs.RingSlots.{nobody}
+use Rattle.law_ring.proofs.RingTransitions.{in_ring}
 use Rattle.law_ring.proofs.RingStep.{step_good}
 use Rattle.machine_steps.specs.declared.machine.Running.{Running}
 use Rattle.machine_replay.specs.Book.{Open}
-use Rattle.machine_steps.specs.SharedMemory.{Shared, step_of, running_after, carried_then, after_operation}
+use Rattle.machine_steps.specs.SharedMemory.{Shared, word_at, step_of, running_after, carried_then, after_operation}
 use Rattle.machine_replay.proofs.Plain.{plain-step}
 use Rattle.machine_replay.proofs.RingCoded.{part, same_step}
 use Rattle.machine_replay.proofs.RingLaws.{RingHolds, RingIdle, RingFits, ring_steps}
@@ -101,19 +113,105 @@ far_is {A} cap g s l codes =
     ∙ (ap (λ t. rank cap (ring_by A g.head t (is_shut (tail_of g.tail g.closed))) l) (position_tail g.tail g.closed)
     ∙ (ap (λ c. rank cap (ring_by A g.head g.tail c) l) (shut_tail g.tail g.closed) ∙ sym (by_words cap g l))))
 
-far_small : {A : Type 0} (cap : ℕ) (s : Shared A) (l : Local ℕ) → far cap s l ≤ longest
-unfolding far
-far_small {A} cap s l = rank_small cap (ring_by A s.head (position_of s.tail) (is_shut s.tail)) l
+-- Where nobody has the slot of a position that the tail has passed, its stamp is not that of the lap before.
+not_lapped : {A : Type 0} (cap head tail p i : ℕ) (items : List A) (coming : Option A) (c : Cell A) → 0 < cap → tail ≤ head + cap → p < tail → CellOk cap head tail items coming i c → ((who : ℕ) → owner c ≢ Some who) → stamp_in c + cap ≢ p + 1
+not_lapped cap head tail p i items coming (Free q) some room past ok free e = let low = ok.1 in omega arith
+not_lapped cap head tail p i items coming (Full q x) some room past ok free e = let low = ok.1 in omega arith
+not_lapped cap head tail p i items coming (Written q who v) some room past ok free e = absurd (free who refl)
+not_lapped cap head tail p i items coming (Read q who x) some room past ok free e = absurd (free who refl)
+not_lapped cap head tail p i items coming (Coming q who old v) some room past ok free e = absurd (free who refl)
+not_lapped cap head tail p i items coming (Swapped q who old v) some room past ok free e = absurd (free who refl)
 
 far_some : {A : Type 0} (cap : ℕ) (s : Shared A) (l : Local ℕ) → 0 < far cap s l
 unfolding far
 far_some {A} cap s l = rank_some cap (ring_by A s.head (position_of s.tail) (is_shut s.tail)) l
+
+before_tail : (p tail : ℕ) → p ≤ tail → p ≢ tail → p < tail
+before_tail p tail le ne = grind (arith, ne, le)
+
+-- So a push that has read such a stamp claims the position, or begins again: it has five steps before it at most.
+after_stamp : {A : Type 0} (cap : ℕ) (s : Shared A) (d : PushKind) (t stamp : ℕ) (v : Option A) (x : Running A) → (stamp + cap == stamp_filled (position_of t)) ≡ false
+    → running_after (push_stamp_found cap d t stamp) v ≡ Some x → far cap s x.local ≤ 5
+unfolding far ring_by
+after_stamp {A} cap s d t stamp v x lapped goes =
+    elim (stamp == stamp_free (position_of t)) as (λ b. running_after (if b then claims else (if stamp + cap == stamp_filled (position_of t) then lap_found cap d t else loads (at.PushTail d) word.Tail)) v ≡ Some x → far cap s x.local ≤ 5) [
+      | true ↦ λ e. let same : record { local = local.Bounded (at.Claiming d t); touch = touch.Nothing; op = op.Exchange word.Tail t (t + TAIL_STEP); carried = v } ≡ x = cc in
+          subst (λ y. far cap s y.local ≤ 5) same (either_small (position_of t == position_of s.tail) 2 5 5 (omega arith) (omega arith))
+      | false ↦ λ e.
+          let at_tail : running_after (loads (at.PushTail d) word.Tail) v ≡ Some x = rw lapped at e in
+          let same : record { local = local.Bounded (at.PushTail d); touch = touch.Nothing; op = op.Load word.Tail; carried = v } ≡ x = cc in
+          subst (λ y. far cap s y.local ≤ 5) same (omega arith)
+    ] goes
+  where
+    claims : Next ℕ
+    claims = next.Step (local.Bounded (at.Claiming d t)) touch.Nothing (op.Exchange word.Tail t (t + TAIL_STEP))
+
+-- how many steps a call has before it, but for a stamp that is never found
+abbrev near : ℕ → ℕ
+near n = min n 6
+
+near_falls : (m n : ℕ) → m < n → n ≤ 6 → near m < near n
+near_falls m n lt le = let a : min m 6 ≡ m = min-eq_left (omega arith) in let b : min n 6 ≡ n = min-eq_left le in omega (arith, lt, a, b)
+
+stale_falls : (m n : ℕ) → m ≤ 5 → 6 ≤ n → near m < near n
+stale_falls m n le high = let a : min m 6 ≡ m = min-eq_left (omega arith) in let b : min n 6 ≡ 6 = min-eq_right high in omega (arith, le, a, b)
 
 -- a call that goes on has fewer steps before it
 goes_on : {A : Type 0} (cap : ℕ) (r s : Ring A) (who : ℕ) (ms : List (State A)) (was : Bool) (n : Next ℕ) (v : Option A) (k : Call A) (es : List (Effect A)) (m : ℕ) (x : Running A)
     → running_after n v ≡ Some x → Goes cap r s who ms was n v k es m → IsQuiet r who → rank cap s x.local < m
 goes_on cap r s who ms was (next.Step l t o) v k es m x e goes quiet = let same : record { local = l; touch = t; op = o; carried = v } ≡ x = cc in subst (λ y. rank cap s y.local < m) same (goes.1 (λ _. quiet))
 goes_on cap r s who ms was (next.Reply y spare) v k es m x e goes quiet = cc
+
+near_within : (n : ℕ) → 0 < n → (0 < near n) × (near n ≤ 6)
+near_within n some = go (sides n)
+  where
+    sides : (n : ℕ) → (n ≤ 6) ⊎ (6 ≤ n)
+    sides n = grind arith
+
+    go : (n ≤ 6) ⊎ (6 ≤ n) → (0 < near n) × (near n ≤ 6)
+    go (inl low) = let e : min n 6 ≡ n = min-eq_left low in (omega (arith, e, some), omega (arith, e, low))
+    go (inr high) = let e : min n 6 ≡ 6 = min-eq_right high in (omega (arith, e), omega (arith, e))
+
+falls_at : {A : Type 0} {cap : ℕ} {r : Ring A} {who : ℕ} {ms : List (State A)} {was : Bool} {l : Local ℕ} {t : Touch} {o : Op ℕ} {v : Option A} {k : Call A} {es : List (Effect A)} (ok : Bool) (s : Shared A) (x : Running A) → At cap r who ms was l t o v k es
+    → RingOk cap r → Codes cap r (part s) → IsQuiet r who → (step_of (queue.Bounded cap) ok s (record { local = l; touch = t; op = o; carried = v })).call ≡ Some x
+    → far cap (step_of (queue.Bounded cap) ok s (record { local = l; touch = t; op = o; carried = v })).shared x.local < far cap s l
+    → near (far cap (step_of (queue.Bounded cap) ok s (record { local = l; touch = t; op = o; carried = v })).shared x.local) < near (far cap s l)
+unfolding far ring_by
+falls_at ok s x (push_tail d v none) fine codes quiet goes less = near_falls _ _ less (omega arith)
+falls_at {cap = cap} {r = r} {who = who} ok s x (push_stamp d v t none saw) fine codes quiet goes less =
+    elim (eqb_tells (position_of t) (position_of s.tail)) [
+      | inl same ↦ near_falls _ _ less (rw same.0 (omega arith))
+      | inr other ↦
+          let i = position_of t % cap in
+          let lt = in_ring cap (position_of t) fine.ring in
+          let tail : position_of s.tail ≡ r.tail = ap position_of codes.tail ∙ position_tail r.tail r.closed in
+          let past : position_of t < r.tail = before_tail (position_of t) r.tail saw.behind (λ e. other.1 (e ∙ sym tail)) in
+          let wide : 0 < cap = (let w = fine.ring.0 in omega arith) in
+          let ne = not_lapped cap r.head r.tail (position_of t) i r.items r.coming (r.cells i) wide fine.room past (fine.cell i lt) (λ w e. nobody r who none quiet w i e) in
+          let late = ne_eqb (word_at s (word.Stamp i) + cap) (position_of t + 1) (λ e. ne (ap (λ n. n + cap) (sym (codes.stamp i lt)) ∙ e)) in
+          stale_falls _ _ (after_stamp cap (step_of (queue.Bounded cap) ok s (record { local = local.Bounded (at.PushStamp d t); touch = touch.Nothing; op = op.Load (word.Stamp (slot_at cap (position_of t))); carried = Some v })).shared d t (word_at s (word.Stamp i)) (Some v) x late goes) (rw other.0 (omega arith))
+    ]
+falls_at {cap = cap} ok s x (claiming d v t none saw free) fine codes quiet goes less = near_falls _ _ less (either_small (position_of t == position_of s.tail) 2 5 6 (omega arith) (omega arith))
+falls_at ok s x (filling d v q one) fine codes quiet goes less = near_falls _ _ less (omega arith)
+falls_at {cap = cap} ok s x (push_head v t none saw) fine codes quiet goes less = near_falls _ _ less (either_small (s.head + cap == position_of t) 1 6 6 (omega arith) (omega arith))
+falls_at {cap = cap} ok s x (displacing v t h none saw back full) fine codes quiet goes less = near_falls _ _ less (either_small (s.head + cap == position_of t) 3 6 6 (omega arith) (omega arith))
+falls_at ok s x (arriving old v t h below back one) fine codes quiet goes less = near_falls _ _ less (omega arith)
+falls_at ok s x (swapping old v h one) fine codes quiet goes less = near_falls _ _ less (omega arith)
+falls_at ok s x (spending d v none high) fine codes quiet goes less = near_falls _ _ less (omega arith)
+falls_at ok s x (pop_head none) fine codes quiet goes less = near_falls _ _ less (omega arith)
+falls_at ok s x (pop_stamp h none low) fine codes quiet goes less = near_falls _ _ less (either_small (h == s.head) 3 6 6 (omega arith) (omega arith))
+falls_at ok s x (taking h none low full) fine codes quiet goes less = near_falls _ _ less (either_small (h == s.head) 2 4 6 (omega arith) (omega arith))
+falls_at ok s x (emptying y h one) fine codes quiet goes less = near_falls _ _ less (omega arith)
+falls_at ok s x (pop_tail h none low free) fine codes quiet goes less = near_falls _ _ less (either_small (position_of s.tail == h) 1 5 6 (omega arith) (omega arith))
+falls_at ok s x (len_tail none) fine codes quiet goes less = near_falls _ _ less (omega arith)
+falls_at ok s x (len_head t none low) fine codes quiet goes less = near_falls _ _ less (either_small _ 2 5 6 (omega arith) (omega arith))
+falls_at ok s x (len_again t h none seen) fine codes quiet goes less = near_falls _ _ less (either_small _ 1 4 6 (omega arith) (omega arith))
+falls_at ok s x (empty_head none) fine codes quiet goes less = near_falls _ _ less (omega arith)
+falls_at ok s x (empty_tail h none saw) fine codes quiet goes less = near_falls _ _ less (omega arith)
+falls_at ok s x (full_tail none) fine codes quiet goes less = near_falls _ _ less (omega arith)
+falls_at ok s x (full_head t none saw) fine codes quiet goes less = near_falls _ _ less (omega arith)
+falls_at ok s x (closing none) fine codes quiet goes less = near_falls _ _ less (omega arith)
+falls_at ok s x (closed_tail none) fine codes quiet goes less = near_falls _ _ less (omega arith)
 
 module _ {A : Type 0} (cap : ℕ) where
   own_granted : (busy : ℕ) (s : Shared A) (Q : State A) (g : Ring A) (p : ℕ) (x x' : Running A) (o : Open A) → RingHolds cap s Q g → RingFits cap busy s Q g p x o → ((j : ℕ) → j ≢ p → RingIdle g j)
@@ -158,24 +256,23 @@ module _ {A : Type 0} (cap : ℕ) where
 
   ring_paces : (ring : IsRing cap) → Paces A (queue.Bounded cap) (ring_rules ring)
   ring_paces ring = record {
-    rank = λ s r. far cap s r.local;
-    most = longest;
+    rank = λ s r. near (far cap s r.local);
+    most = 6;
     Free = RingIdle;
     Ready = λ s. Unit {0};
     ready_on = λ ok s r h. tt;
-    small = λ s Q g r h holds. far_small cap s r.local;
-    some = λ s Q g r h holds. far_some cap s r.local;
+    within = λ busy s Q g p r o h holds f. near_within (far cap s r.local) (far_some cap s r.local);
     rests = λ g p h. h;
     undone = λ busy s Q g p r o h holds f e. holds_none f.here e;
-    falls = λ busy ok s Q g p r r' o h. own_falls busy ok s Q g p r r' o;
+    falls = λ busy ok s Q g p r r' o h holds f quiet goes. falls_at ok s r' f.here holds.ok holds.codes quiet goes (own_falls busy ok s Q g p r r' o holds f quiet goes);
     keeps = λ busy busy' s s' Q g g' p r o o' h holds holds' f f' others others' turn.
         let now = head_is s' Q g' holds' in
         let before = head_is s Q g holds in
         let heads : s'.head ≡ s.head = omega (arith, now, before) in
-        far_same cap s s' r.local heads (tail_is s' Q g' holds' ∙ sym (tail_is s Q g holds));
+        ap near (far_same cap s s' r.local heads (tail_is s' Q g' holds' ∙ sym (tail_is s Q g holds)));
   }
 
-  pub ring_unhindered : IsRing cap → UnhinderedWithin A (queue.Bounded cap) longest
+  pub ring_unhindered : IsRing cap → UnhinderedWithin A (queue.Bounded cap) 6
   unfolding ring_paces
   ring_unhindered ring = unhindered A (queue.Bounded cap) (ring_rules ring) (ring_paces ring) (λ s shown. tt)
 

@@ -1,5 +1,5 @@
 -- A run of the machine so far, and what is told of it. Whatever kind of queue it is, it keeps its laws.
-use Rattle.std.proofs.Common.{ℕ, ◌+◌, ◌/◌, ◌<◌, ◌≤◌, ◌≡◌, ◌∙◌, Bool, Option, Some, None, is_none, List, [], ◌∷◌, ◌++◌, length, refl, sym, ap, subst, arith, append_assoc, append-nil, replicate}
+use Rattle.std.proofs.Common.{ℕ, ◌+◌, ◌/◌, ◌<◌, ◌≤◌, ◌≡◌, ◌∙◌, Bool, Option, Some, None, is_none, List, [], ◌∷◌, ◌++◌, length, refl, sym, ap, subst, arith, append_assoc, append-nil}
 use Rattle.std.proofs.lemmas.List.{length-replicate}
 use Rattle.queue_steps.specs.declared.sizes.TheConstants.{BLOCK_SLOTS}
 use Rattle.queue_steps.specs.declared.steps.types.Kind.{Kind}

@@ -58,8 +58,7 @@ pub record Paces (T : Type 0) (k : Kind) (rules : Rules T k) : Type 1 where
   -- once the queue is ready it stays so
   pub Ready : Shared T → Type 0
   pub ready_on : (ok : Bool) (s : Shared T) (r : Running T) → Ready s → Ready (step_of k ok s r).shared
-  pub small : (s : Shared T) (Q : State T) (g : rules.G) (r : Running T) → Ready s → rules.Holds s Q g → rank s r ≤ most
-  pub some : (s : Shared T) (Q : State T) (g : rules.G) (r : Running T) → Ready s → rules.Holds s Q g → 0 < rank s r
+  pub within : (busy : ℕ) (s : Shared T) (Q : State T) (g : rules.G) (p : ℕ) (r : Running T) (o : Open T) → Ready s → rules.Holds s Q g → rules.Fits busy s Q g p r o → (0 < rank s r) × (rank s r ≤ most)
   -- a party between calls is free, and so is one whose call has had no effect
   pub rests : (g : rules.G) (p : ℕ) → rules.Idle g p → Free g p
   pub undone : (busy : ℕ) (s : Shared T) (Q : State T) (g : rules.G) (p : ℕ) (r : Running T) (o : Open T) → Ready s → rules.Holds s Q g → rules.Fits busy s Q g p r o → o.effects ≡ [] → Free g p
@@ -153,6 +152,13 @@ module _ (T : Type 0) (k : Kind) (laws : Rules T k) (parties : ℕ) where
         here = record { b = led.0; sim = led.2; agrees = λ q. agrees-next (capacity_of k) parties h.b led.0 e (event_of k true w e).1 q (st q) led.1 (h.agrees q) };
         happens = led.1;
       }
+
+  -- the open call of a party that is in one fits
+  pub fits-at : (w : World (Shared T) (Running T)) (st : ℕ → Standing) (h : Here w st) (p : ℕ) (r : Running T) (o : Open T) → h.b.open_call p ≡ Some o → call_at w p ≡ Some r → laws.Fits h.b.busy w.shared h.b.queue h.sim.g p r o
+  fits-at w st h p r o at is =
+      let f = call-there h.b.busy w.shared h.b.queue h.sim.g p (call_at w p) (h.b.open_call p) o (h.sim.each p) at in
+      let same : f.0 ≡ r = (let e : Some f.0 ≡ Some r = sym f.1 ∙ is in cc) in
+      subst (λ x. laws.Fits h.b.busy w.shared h.b.queue h.sim.g p x o) same f.2
 
   pub reach : (w : World (Shared T) (Running T)) (st : ℕ → Standing) (es : List (Event T)) → Here w st → Here (world_after k w es) (λ q. stands_by q (st q) es (told_of k w es))
   reach w st [] h = h
@@ -269,13 +275,8 @@ module _ (T : Type 0) (k : Kind) (laws : Rules T k) (parties : ℕ) where
     as_far w w' st st' h h' p r ready ready' is is' mine mine' others others' same turn =
         let o = open-there (st p) (h.b.open_call p) (h.agrees p) mine in
         let o' = open-there (st' p) (h'.b.open_call p) (h'.agrees p) mine' in
-        let f = call-there h.b.busy w.shared h.b.queue h.sim.g p (call_at w p) (h.b.open_call p) o.0 (h.sim.each p) o.1 in
-        let f' = call-there h'.b.busy w'.shared h'.b.queue h'.sim.g p (call_at w' p) (h'.b.open_call p) o'.0 (h'.sim.each p) o'.1 in
-        let rf : f.0 ≡ r = (let e = f.1 in cc) in
-        let rf' : f'.0 ≡ r = (let e = f'.1 in cc) in
         paces.keeps h.b.busy h'.b.busy w.shared w'.shared h.b.queue h.sim.g h'.sim.g p r o.0 o'.0 ready h.sim.holds (subst (λ Q. laws.Holds w'.shared Q h'.sim.g) same h'.sim.holds)
-        (subst (λ x. laws.Fits h.b.busy w.shared h.b.queue h.sim.g p x o.0) rf f.2)
-        (subst (λ Q. laws.Fits h'.b.busy w'.shared Q h'.sim.g p r o'.0) same (subst (λ x. laws.Fits h'.b.busy w'.shared h'.b.queue h'.sim.g p x o'.0) rf' f'.2))
+        (fits-at w st h p r o.0 o.1 is) (subst (λ Q. laws.Fits h'.b.busy w'.shared Q h'.sim.g p r o'.0) same (fits-at w' st' h' p r o'.0 o'.1 is'))
         (quiet w st h p ready others) (quiet w' st' h' p ready' others') turn
 
     -- an event without effect that leaves the call leaves it as far from its reply
@@ -293,13 +294,11 @@ module _ (T : Type 0) (k : Kind) (laws : Rules T k) (parties : ℕ) where
         → st p ≢ Between → ((q : ℕ) → q ≢ p → st q ≢ HalfDone) → paces.rank (event_of k true w (Step p g)).0.shared r' < paces.rank w.shared r
     own-falls w st h p r r' g ready is is' mine others =
         let o = open-there (st p) (h.b.open_call p) (h.agrees p) mine in
-        let f = call-there h.b.busy w.shared h.b.queue h.sim.g p (call_at w p) (h.b.open_call p) o.0 (h.sim.each p) o.1 in
-        let rf : f.0 ≡ r = (let e : Some f.0 ≡ Some r = sym f.1 ∙ is in cc) in
         let t = step_of k (g && true) w.shared r in
         let after = own-step w p g r is in
         let lt : p < length w.calls = ltb-true p (length w.calls) (engine.within T (Shared T) (Running T) laws.G (capacity_of k) (step_of k) (start_of k) (CanStep k) laws.Holds laws.Idle laws.Fits w p r is) in
         let there : t.call ≡ Some r' = sym (get_or-set_same w.calls p t.call None lt) ∙ (sym (ap (λ z. call_at z p) after) ∙ is') in
-        let falls = paces.falls h.b.busy (g && true) w.shared h.b.queue h.sim.g p r r' o.0 ready h.sim.holds (subst (λ x. laws.Fits h.b.busy w.shared h.b.queue h.sim.g p x o.0) rf f.2) (quiet w st h p ready others) there in
+        let falls = paces.falls h.b.busy (g && true) w.shared h.b.queue h.sim.g p r r' o.0 ready h.sim.holds (fits-at w st h p r o.0 o.1 is) (quiet w st h p ready others) there in
         subst (λ s. paces.rank s r' < paces.rank w.shared r) (sym (ap (λ z. z.shared) after)) falls
 
     -- an event brings the call nearer to its reply where it is its own step, and else leaves it as far
@@ -326,7 +325,9 @@ module _ (T : Type 0) (k : Kind) (laws : Rules T k) (parties : ℕ) where
     -- so it takes fewer steps than it had before it
     takes-few : (w : World (Shared T) (Running T)) (st : ℕ → Standing) (h : Here w st) (p : ℕ) (r : Running T) → paces.Ready w.shared → call_at w p ≡ Some r → st p ≢ Between → ((q : ℕ) → q ≢ p → st q ≢ HalfDone)
         → (es : List (Event T)) → IsLeftToIt p es (told_of k w es) → count_by (is_step_of p) es < paces.rank w.shared r
-    takes-few w st h p r ready is mine others [] left = paces.some w.shared h.b.queue h.sim.g r ready h.sim.holds
+    takes-few w st h p r ready is mine others [] left =
+        let o = open-there (st p) (h.b.open_call p) (h.agrees p) mine in
+        (paces.within h.b.busy w.shared h.b.queue h.sim.g p r o.0 ready h.sim.holds (fits-at w st h p r o.0 o.1 is)).0
     takes-few w st h p r ready is mine others (e ∷ es) left =
         let t = (event_of k true w e).1 in
         let a = next w st e h in
@@ -348,8 +349,8 @@ unhindered T k laws paces shows parties p past stretch shown mine others left =
     let o = open-there T k laws parties (st p) (h.b.open_call p) (h.agrees p) mine in
     let f = call-there T k laws parties h.b.busy w.shared h.b.queue h.sim.g p (call_at w p) (h.b.open_call p) o.0 (h.sim.each p) o.1 in
     let few = takes-few T k laws parties paces w st h p f.0 (shows w.shared shown) f.1 mine others stretch left in
-    let small = paces.small w.shared h.b.queue h.sim.g f.0 (shows w.shared shown) h.sim.holds in
-    omega arith
+    let low = paces.within h.b.busy w.shared h.b.queue h.sim.g p f.0 o.0 (shows w.shared shown) h.sim.holds f.2 in
+    omega (arith, few, low.1)
 
 -- where each step of a call that has had an effect has another one or ends it
 abbrev pub Ends : (T : Type 0) (k : Kind) → Rules T k → Type 0

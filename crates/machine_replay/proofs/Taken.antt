@@ -1,10 +1,8 @@
 -- A call that has taken replies soon, while no other call is between its append and its reply. Nothing here knows a kind of queue.
-use Rattle.std.proofs.Common.{◌≡◌, ◌≢◌, ◌∙◌, ℕ, ◌+◌, ◌<◌, ◌≤◌, ◌==◌, ◌&&◌, nat_lt, if◌then◌else◌, Bool, true, false, cond, Option, Some, None, is_none, List, [], ◌∷◌, ◌++◌, length, get_or-set_same, count_by, refl, sym, ap, subst, arith, inl, inr}
-use Rattle.std.proofs.lemmas.Bool.{ltb-true}
+use Rattle.std.proofs.Common.{◌≡◌, ◌≢◌, ◌∙◌, ℕ, ◌<◌, ◌≤◌, ◌==◌, nat_lt, if◌then◌else◌, Bool, true, false, Option, Some, None, is_none, List, [], ◌∷◌, count_by, refl, sym, ap, subst, arith, inl, inr}
 use Rattle.std.proofs.lemmas.Bool.Decides.{eqb_tells}
 use Rattle.queue_steps.specs.State.{State}
 use Rattle.queue_steps.specs.declared.model.Effect.{Effect}
-use Rattle.queue_steps.specs.declared.model.Effect.TheVariants as effect
 use Rattle.queue_steps.specs.declared.model.Reply.{Reply}
 use Rattle.queue_steps.specs.declared.steps.types.Kind.{Kind}
 use Rattle.queue_steps.specs.declared.steps.types.Local.{Local}
@@ -15,7 +13,7 @@ use Rattle.machine_steps.specs.declared.types.Event.{Event}
 use Rattle.machine_steps.specs.declared.types.Event.TheVariants.{Begin, Step}
 use Rattle.machine_steps.specs.declared.types.Told.{Told}
 use Rattle.machine_steps.specs.declared.types.Told.TheVariants.{Skipped, Ran}
-use Rattle.machine_replay.specs.Book.{Book, Open, Happens, Steps, Moves, kind_of, at_open, put, joined, watched, begun, after_own}
+use Rattle.machine_replay.specs.Book.{Book, Open, Happens, Steps, Moves, at_open, put, joined, watched, begun, after_own}
 use Rattle.machine_replay.specs.Conforms.{capacity_of, party_of}
 use Rattle.machine_steps.specs.Left.{opening_world}
 use Rattle.machine_steps.specs.Machine.{event_of}
@@ -25,90 +23,18 @@ use Rattle.machine_replay.specs.Within.{is_step_of}
 use Rattle.machine_steps.specs.World.{World, call_at}
 use Rattle.machine_replay.proofs.Engine as engine
 use Rattle.machine_replay.proofs.Solo.{and-right, none-if, put-same, put-other}
-use Rattle.machine_replay.specs.Progress.{Standing, Between, effect_told, reply_told, stands_by, stands_then, writes_after, writes_then, writes_by, IsNotHeldUp, TakesReplyWithin}
-use Rattle.machine_replay.proofs.Stretch.{Rules, Here, next, first, call-there, other-stays, begin-stays, own-step, count-cons}
-use Rattle.machine_replay.proofs.Appended.{HasAppend}
+use Rattle.machine_replay.specs.Progress.{Standing, Between, effect_told, stands_by, stands_then, writes_after, writes_then, writes_by, IsNotHeldUp, TakesReplyWithin}
+use Rattle.machine_replay.proofs.Appended.{is_append, HasAppend}
+use Rattle.machine_replay.proofs.Had.{Had, In, less, in-next, in-here, nearer}
+use Rattle.machine_replay.proofs.Stretch.{Rules, Here, next, first, call-there, fits-at, count-cons}
+
+abbrev pub is_take : EffectKind → Bool
+is_take kind.Take = true
+is_take _ = false
 
 -- an item was taken
 abbrev pub HasTake : {T : Type 0} → List (Effect T) → Type 0
-HasTake [] = ⊥
-HasTake (effect.Take v ∷ es) = Unit {0}
-HasTake (e ∷ es) = HasTake es
-
-take-more : {T : Type 0} (es : List (Effect T)) (e : Effect T) → HasTake es → HasTake (es ++ e ∷ [])
-take-more [] e a = absurd a
-take-more (effect.Take v ∷ es) e a = tt
-take-more (effect.Append v ∷ es) e a = take-more es e a
-take-more (effect.Replace u v ∷ es) e a = take-more es e a
-take-more (effect.Front u v ∷ es) e a = take-more es e a
-take-more (effect.Arrive ∷ es) e a = take-more es e a
-take-more (effect.Close ∷ es) e a = take-more es e a
-take-more (effect.SelfClose ∷ es) e a = take-more es e a
-
-take-now : {T : Type 0} (es : List (Effect T)) (e : Effect T) → kind_of e ≡ kind.Take → HasTake (es ++ e ∷ [])
-take-now [] (effect.Take v) is = tt
-take-now [] (effect.Append v) is = cc
-take-now [] (effect.Replace u v) is = cc
-take-now [] (effect.Front u v) is = cc
-take-now [] effect.Arrive is = cc
-take-now [] effect.Close is = cc
-take-now [] effect.SelfClose is = cc
-take-now (effect.Take v ∷ es) e is = tt
-take-now (effect.Append v ∷ es) e is = take-now es e is
-take-now (effect.Replace u v ∷ es) e is = take-now es e is
-take-now (effect.Front u v ∷ es) e is = take-now es e is
-take-now (effect.Arrive ∷ es) e is = take-now es e is
-take-now (effect.Close ∷ es) e is = take-now es e is
-take-now (effect.SelfClose ∷ es) e is = take-now es e is
-
--- the party is in a call that has taken
-abbrev pub InTake : {T : Type 0} → Option (Open T) → Type 0
-InTake {T} y = (o : Open T) × (y ≡ Some o) × HasTake o.effects
-
-in_take-on : {T : Type 0} (f : Open T → Open T) → ((o : Open T) → (f o).effects ≡ o.effects) → (y : Option (Open T)) → InTake y → InTake (at_open f y)
-in_take-on f same y a = (f a.0, ap (at_open f) a.1, subst HasTake (sym (same a.0)) a.2)
-
-moved : {T : Type 0} (Q R : State T) (o : Open T) (k : Option EffectKind) (es : List (Effect T)) → Moves Q o k R es → HasTake o.effects → HasTake es
-moved Q R o None es m a = subst HasTake (sym m.1) a
-moved Q R o (Some k) es m a = subst HasTake (sym m.5) (take-more o.effects m.0 a)
-
-same-open : {T : Type 0} (y : Option (Open T)) (o u : Open T) → y ≡ Some o → y ≡ Some u → o ≡ u
-same-open y o u e f = let g : Some o ≡ Some u = sym e ∙ f in cc
-
--- it is so after any event that is not its reply
-in_take-next : {T : Type 0} (cap : Option ℕ) (parties : ℕ) (b c : Book T) (e : Event T) (t : Told T) (q : ℕ) → Happens cap parties b e t c → (party_of e ≡ q → reply_told t ≡ None) → InTake (b.open_call q) → InTake (c.open_call q)
-in_take-next cap parties b c e Skipped q h none a = rw h.1 a
-in_take-next cap parties b c (Begin p k) (Ran None None) q h none a = rw h.2 (elim (eqb_tells p q) [
-  | inl same ↦
-      let free : b.open_call q ≡ None = ap b.open_call (sym same.1) ∙ none-if (b.open_call p) (and-right (nat_lt p parties) (is_none (b.open_call p)) h.0) in
-      let there = a.1 in cc
-  | inr ne ↦ rw (put-other (λ j. at_open joined (b.open_call j)) p q (Some (begun k)) (λ s. ne.1 (sym s))) (in_take-on joined (λ o. refl) (b.open_call q) a)
-])
-in_take-next cap parties b c (Begin p k) (Ran None (Some r)) q h none a = rw h.3 a
-in_take-next cap parties b c (Begin p k) (Ran (Some z) r) q h none a = absurd h
-in_take-next {T} cap parties b c (Step p granted) (Ran k r) q h none a = by_reply r none h.1
-  where
-    by_reply : (r : Option (Reply T)) → (p ≡ q → r ≡ None) → Steps b p k r c → InTake (c.open_call q)
-    by_reply r none s = rw (ap (λ z. z q) s.calls) (elim (eqb_tells p q) [
-      | inl same ↦
-          let was : b.open_call q ≡ Some s.o = ap b.open_call (sym same.1) ∙ s.in_call in
-          let had : HasTake s.o.effects = subst (λ z. HasTake z.effects) (same-open (b.open_call q) a.0 s.o a.1 was) a.2 in
-          let mine = after_own b.busy s.o c.queue s.effects in
-          let here : put (λ j. at_open (watched c.queue) (b.open_call j)) p (Some mine) q ≡ Some mine = ap (put (λ j. at_open (watched c.queue) (b.open_call j)) p (Some mine)) (sym same.1) ∙ put-same (λ j. at_open (watched c.queue) (b.open_call j)) p (Some mine) in
-          rw (none same.1) (mine, here, moved b.queue c.queue s.o k s.effects s.moves had)
-      | inr ne ↦ rw (put-other (λ j. at_open (watched c.queue) (b.open_call j)) p q _ (λ z. ne.1 (sym z))) (in_take-on (watched c.queue) (λ o. refl) (b.open_call q) a)
-    ])
-
--- where it takes
-in_take-here : {T : Type 0} (cap : Option ℕ) (parties : ℕ) (b c : Book T) (p : ℕ) (granted : Bool) (t : Told T) → t ≡ Ran (Some kind.Take) None → Happens cap parties b (Step p granted) t c → InTake (c.open_call p)
-in_take-here cap parties b c p granted Skipped is h = cc
-in_take-here cap parties b c p granted (Ran (Some k) None) is h =
-    let s = h.1 in
-    let mine = after_own b.busy s.o c.queue s.effects in
-    let what : k ≡ kind.Take = cc in
-    (mine, ap (λ z. z p) s.calls ∙ put-same (λ j. at_open (watched c.queue) (b.open_call j)) p (Some mine), subst HasTake (sym s.moves.5) (take-now s.o.effects s.moves.0 (s.moves.1 ∙ what)))
-in_take-here cap parties b c p granted (Ran None r) is h = cc
-in_take-here cap parties b c p granted (Ran (Some k) (Some r)) is h = cc
+HasTake es = Had is_take es
 
 -- a party that is not writing is in no call that has appended
 abbrev pub MayWrite : {T : Type 0} → Bool → Option (Open T) → Type 0
@@ -128,39 +54,27 @@ may-begun : {T : Type 0} (b : Bool) (y : Option (Open T)) (mine : Open T) → y 
 may-begun true y mine e none = tt
 may-begun false y mine e none = λ o f had. let is : mine ≡ o = (let g : Some mine ≡ Some o = sym e ∙ f in cc) in subst HasAppend none (subst (λ z. HasAppend z.effects) (sym is) had)
 
-before-last : {T : Type 0} (es : List (Effect T)) (e : Effect T) → kind_of e ≢ kind.Append → HasAppend (es ++ e ∷ []) → HasAppend es
-before-last [] (effect.Append v) ne a = absurd (ne refl)
-before-last [] (effect.Take v) ne a = a
-before-last [] (effect.Replace u v) ne a = a
-before-last [] (effect.Front u v) ne a = a
-before-last [] effect.Arrive ne a = a
-before-last [] effect.Close ne a = a
-before-last [] effect.SelfClose ne a = a
-before-last (effect.Append v ∷ es) e ne a = tt
-before-last (effect.Take v ∷ es) e ne a = before-last es e ne a
-before-last (effect.Replace u v ∷ es) e ne a = before-last es e ne a
-before-last (effect.Front u v ∷ es) e ne a = before-last es e ne a
-before-last (effect.Arrive ∷ es) e ne a = before-last es e ne a
-before-last (effect.Close ∷ es) e ne a = before-last es e ne a
-before-last (effect.SelfClose ∷ es) e ne a = before-last es e ne a
+abbrev appends : Option EffectKind → Bool
+appends None = false
+appends (Some k) = is_append k
 
 -- the call after its own step, where that was no append
-kept : {T : Type 0} (b : Bool) (y : Option (Open T)) (o mine : Open T) (k : Option EffectKind) (Q R : State T) → y ≡ Some o → Moves Q o k R mine.effects → k ≢ Some kind.Append → MayWrite b y → MayWrite b (Some mine)
+kept : {T : Type 0} (b : Bool) (y : Option (Open T)) (o mine : Open T) (k : Option EffectKind) (Q R : State T) → y ≡ Some o → Moves Q o k R mine.effects → appends k ≡ false → MayWrite b y → MayWrite b (Some mine)
 kept true y o mine k Q R is m ne may = tt
 kept false y o mine None Q R is m ne may = λ u e had. let same : mine ≡ u = cc in may o is (subst HasAppend m.1 (subst (λ z. HasAppend z.effects) (sym same) had))
 kept false y o mine (Some k) Q R is m ne may = λ u e had.
     let same : mine ≡ u = cc in
-    may o is (before-last o.effects m.0 (λ z. ne (ap (λ n. Some n) (sym m.1 ∙ z))) (subst HasAppend m.5 (subst (λ z. HasAppend z.effects) (sym same) had)))
+    may o is (less is_append o.effects m.0 (ap is_append m.1 ∙ ne) (subst HasAppend m.5 (subst (λ z. HasAppend z.effects) (sym same) had)))
 
 own-step-may : {T : Type 0} (b : Bool) (y : Option (Open T)) (o mine : Open T) (k : Option EffectKind) (Q R : State T) → y ≡ Some o → Moves Q o k R mine.effects → MayWrite b y → MayWrite (writes_after {T = T} b (Ran k None)) (Some mine)
-own-step-may b y o mine None Q R is m may = kept b y o mine None Q R is m (λ e. cc) may
+own-step-may b y o mine None Q R is m may = kept b y o mine None Q R is m refl may
 own-step-may b y o mine (Some kind.Append) Q R is m may = tt
-own-step-may b y o mine (Some kind.Take) Q R is m may = kept b y o mine (Some kind.Take) Q R is m (λ e. cc) may
-own-step-may b y o mine (Some kind.Replace) Q R is m may = kept b y o mine (Some kind.Replace) Q R is m (λ e. cc) may
-own-step-may b y o mine (Some kind.Front) Q R is m may = kept b y o mine (Some kind.Front) Q R is m (λ e. cc) may
-own-step-may b y o mine (Some kind.Arrive) Q R is m may = kept b y o mine (Some kind.Arrive) Q R is m (λ e. cc) may
-own-step-may b y o mine (Some kind.Close) Q R is m may = kept b y o mine (Some kind.Close) Q R is m (λ e. cc) may
-own-step-may b y o mine (Some kind.SelfClose) Q R is m may = kept b y o mine (Some kind.SelfClose) Q R is m (λ e. cc) may
+own-step-may b y o mine (Some kind.Take) Q R is m may = kept b y o mine (Some kind.Take) Q R is m refl may
+own-step-may b y o mine (Some kind.Replace) Q R is m may = kept b y o mine (Some kind.Replace) Q R is m refl may
+own-step-may b y o mine (Some kind.Front) Q R is m may = kept b y o mine (Some kind.Front) Q R is m refl may
+own-step-may b y o mine (Some kind.Arrive) Q R is m may = kept b y o mine (Some kind.Arrive) Q R is m refl may
+own-step-may b y o mine (Some kind.Close) Q R is m may = kept b y o mine (Some kind.Close) Q R is m refl may
+own-step-may b y o mine (Some kind.SelfClose) Q R is m may = kept b y o mine (Some kind.SelfClose) Q R is m refl may
 
 own : {T : Type 0} (q : ℕ) (b : Bool) (e : Event T) (t : Told T) (y : Option (Open T)) → party_of e ≡ q → MayWrite (writes_after b t) y → MayWrite (writes_then q b e t) y
 own q b e t y same a = elim (eqb_tells (party_of e) q) [ inl z ↦ rw z.0 a | inr z ↦ absurd (z.1 same) ]
@@ -237,12 +151,6 @@ pub record Reads (T : Type 0) (k : Kind) (rules : Rules T k) : Type 1 where
       → (step_of k ok s r).call ≡ Some r' → before r'.local < before r.local
 
 module _ (T : Type 0) (k : Kind) (laws : Rules T k) (parties : ℕ) (reads : Reads T k laws) where
-  fits-here : (w : World (Shared T) (Running T)) (st : ℕ → Standing) (h : Here T k laws parties w st) (p : ℕ) (r : Running T) (a : InTake (h.b.open_call p)) → call_at w p ≡ Some r → laws.Fits h.b.busy w.shared h.b.queue h.sim.g p r a.0
-  fits-here w st h p r a is =
-      let f = call-there T k laws parties h.b.busy w.shared h.b.queue h.sim.g p (call_at w p) (h.b.open_call p) a.0 (h.sim.each p) a.1 in
-      let same : f.0 ≡ r = (let e : Some f.0 ≡ Some r = sym f.1 ∙ is in cc) in
-      subst (λ x. laws.Fits h.b.busy w.shared h.b.queue h.sim.g p x a.0) same f.2
-
   clear-if : (busy : ℕ) (s : Shared T) (Q : State T) (g : laws.G) (j : ℕ) (x : Option (Running T)) (y : Option (Open T)) → reads.Ready g
       → engine.Party T (Shared T) (Running T) laws.G (capacity_of k) (step_of k) (start_of k) (CanStep k) laws.Holds laws.Idle laws.Fits busy s Q g j x y → MayWrite false y → reads.Clear g j
   clear-if busy s Q g j None None ready h m = reads.rests g j h
@@ -250,45 +158,21 @@ module _ (T : Type 0) (k : Kind) (laws : Rules T k) (parties : ℕ) (reads : Rea
   clear-if busy s Q g j (Some r) None ready h m = absurd h
   clear-if busy s Q g j None (Some o) ready h m = absurd h
 
-  nearer : (w : World (Shared T) (Running T)) (st : ℕ → Standing) (h : Here T k laws parties w st) (p : ℕ) (r r' : Running T) (o : Open T) (e : Event T) → call_at w p ≡ Some r → call_at (event_of k true w e).0 p ≡ Some r'
-      → laws.Fits h.b.busy w.shared h.b.queue h.sim.g p r o → HasTake o.effects → ((j : ℕ) → j ≢ p → reads.Clear h.sim.g j) → cond (is_step_of p e) 1 0 + reads.before r'.local ≤ reads.before r.local
-  nearer w st h p r r' o (Begin q c) is is' fits had clear =
-      let stays : call_at (event_of k true w (Begin q c)).0 p ≡ call_at w p = elim (eqb_tells q p) [
-        | inl t ↦ subst (λ i. call_at (event_of k true w (Begin i c)).0 p ≡ call_at w p) (sym t.1) (begin-stays T k laws parties w p c r is)
-        | inr t ↦ other-stays T k laws parties w p (Begin q c) t.1
-      ] in
-      let same : r' ≡ r = (let x : Some r' ≡ Some r = sym is' ∙ (stays ∙ is) in cc) in
-      let eq : reads.before r'.local ≡ reads.before r.local = ap (λ x. reads.before x.local) same in
-      omega arith
-  nearer w st h p r r' o (Step q g) is is' fits had clear = elim (eqb_tells q p) [
-    | inl t ↦
-        let there' : call_at (event_of k true w (Step p g)).0 p ≡ Some r' = subst (λ i. call_at (event_of k true w (Step i g)).0 p ≡ Some r') t.1 is' in
-        let lt : p < length w.calls = ltb-true p (length w.calls) (engine.within T (Shared T) (Running T) laws.G (capacity_of k) (step_of k) (start_of k) (CanStep k) laws.Holds laws.Idle laws.Fits w p r is) in
-        let made = step_of k (g && true) w.shared r in
-        let there : made.call ≡ Some r' = sym (get_or-set_same w.calls p made.call None lt) ∙ (sym (ap (λ z. call_at z p) (own-step T k laws parties w p g r is)) ∙ there') in
-        let falls = reads.falls h.b.busy (g && true) w.shared h.b.queue h.sim.g p r r' o h.sim.holds fits had clear there in
-        rw t.0 (omega arith)
-    | inr t ↦
-        let same : r' ≡ r = (let x : Some r' ≡ Some r = sym is' ∙ (other-stays T k laws parties w p (Step q g) t.1 ∙ is) in cc) in
-        let eq : reads.before r'.local ≡ reads.before r.local = ap (λ x. reads.before x.local) same in
-        rw t.0 (omega arith)
-  ]
-
-  takes-few : (w : World (Shared T) (Running T)) (st : ℕ → Standing) (wr : ℕ → Bool) (h : Here T k laws parties w st) → ((q : ℕ) → MayWrite (wr q) (h.b.open_call q)) → (p : ℕ) (r : Running T) → call_at w p ≡ Some r → InTake (h.b.open_call p)
+  takes-few : (w : World (Shared T) (Running T)) (st : ℕ → Standing) (wr : ℕ → Bool) (h : Here T k laws parties w st) → ((q : ℕ) → MayWrite (wr q) (h.b.open_call q)) → (p : ℕ) (r : Running T) → call_at w p ≡ Some r → In is_take (h.b.open_call p)
       → ((q : ℕ) → q ≢ p → wr q ≡ false) → (es : List (Event T)) → IsNotHeldUp p es (told_of k w es) → count_by (is_step_of p) es < reads.before r.local
-  takes-few w st wr h may p r is a idle [] open_ = (reads.within h.b.busy w.shared h.b.queue h.sim.g p r a.0 h.sim.holds (fits-here w st h p r a is) a.2).0
+  takes-few w st wr h may p r is a idle [] open_ = (reads.within h.b.busy w.shared h.b.queue h.sim.g p r a.0 h.sim.holds (fits-at T k laws parties w st h p r a.0 a.1 is) a.2).0
   takes-few w st wr h may p r is a idle (e ∷ es) open_ =
       let t = (event_of k true w e).1 in
       let n = next T k laws parties w st e h in
-      let fits = fits-here w st h p r a is in
+      let fits = fits-at T k laws parties w st h p r a.0 a.1 is in
       let ready = reads.ready h.b.busy w.shared h.b.queue h.sim.g p r a.0 h.sim.holds fits a.2 in
       let clear : (j : ℕ) → j ≢ p → reads.Clear h.sim.g j = λ j ne. clear-if h.b.busy w.shared h.b.queue h.sim.g j (call_at w j) (h.b.open_call j) ready (h.sim.each j) (subst (λ b. MayWrite b (h.b.open_call j)) (idle j ne) (may j)) in
-      let a' = in_take-next (capacity_of k) parties h.b n.here.b e t p n.happens open_.0 a in
+      let a' = in-next is_take (capacity_of k) parties h.b n.here.b e t p n.happens open_.0 a in
       let f' = call-there T k laws parties n.here.b.busy (event_of k true w e).0.shared n.here.b.queue n.here.sim.g p (call_at (event_of k true w e).0 p) (n.here.b.open_call p) a'.0 (n.here.sim.each p) a'.1 in
       let wr' : ℕ → Bool = λ q. writes_then q (wr q) e t in
       let idle' : (q : ℕ) → q ≢ p → wr' q ≡ false = λ q ne. not_writing-next q (wr q) e t (idle q ne) (λ at. open_.1 (λ also. ne (sym at ∙ also))) in
       let rest = takes-few (event_of k true w e).0 (λ q. stands_then q (st q) e t) wr' n.here (λ q. may-next (capacity_of k) parties h.b n.here.b e t q (wr q) n.happens (may q)) p f'.0 f'.1 a' idle' es open_.2 in
-      let step = nearer w st h p r f'.0 a.0 e is f'.1 fits a.2 clear in
+      let step = nearer T k laws parties reads.before w p r f'.0 e is f'.1 (λ ok there. reads.falls h.b.busy ok w.shared h.b.queue h.sim.g p r f'.0 a.0 h.sim.holds fits a.2 clear there) in
       omega (arith, rest, step, count-cons p e es)
 
   -- and who writes, from the beginning on
@@ -312,7 +196,7 @@ takes_reply T k laws reads parties p past stretch granted takes idle open_ =
     let n = next T k laws parties w st e h in
     let t = (event_of k true w e).1 in
     let told : t ≡ Ran (Some kind.Take) None = cc in
-    let a = in_take-here (capacity_of k) parties h.b n.here.b p granted t told n.happens in
+    let a = in-here is_take (capacity_of k) parties h.b n.here.b p granted kind.Take refl t told n.happens in
     let f = call-there T k laws parties n.here.b.busy (event_of k true w e).0.shared n.here.b.queue n.here.sim.g p (call_at (event_of k true w e).0 p) (n.here.b.open_call p) a.0 (n.here.sim.each p) a.1 in
     let idle' : (q : ℕ) → q ≢ p → writes_then q (wr q) e t ≡ false = λ q ne. not_writing-next q (wr q) e t (idle q ne) (λ at. absurd (ne (sym at))) in
     let few = takes-few T k laws parties reads (event_of k true w e).0 (λ q. stands_then q (st q) e t) (λ q. writes_then q (wr q) e t) n.here

@@ -12,7 +12,8 @@ use Rattle.machine_replay.specs.Progress.{AppendsReply, HalfDoneNeverWaits, Half
 use Rattle.machine_replay.proofs.SingleStretch.{single_appends, single_takes, single_never_waits, single_takes_none, single_unhindered}
 use Rattle.machine_replay.proofs.RingStretch.{ring_appends, ring_takes, ring_never_waits, ring_takes_none, ring_unhindered}
 use Rattle.machine_replay.proofs.ChainTaken.{chain_takes}
-use Rattle.machine_replay.proofs.ChainStretch.{chain_appends, chain_unhindered}
+use Rattle.machine_replay.proofs.ChainAppended.{chain_appends}
+use Rattle.machine_replay.proofs.ChainStretch.{chain_unhindered}
 
 pub unhindered_calls : {T : Type 0} → UnhinderedCallsReply T
 unhindered_calls {T} kind.Single can small = single_unhindered T

@@ -67,8 +67,8 @@ IsShown _ s = Unit {0}
 -- how many steps a call takes at most while nobody hinders it: of a chain it may walk over a block
 abbrev pub unhindered_steps : Kind → ℕ
 unhindered_steps kind.Single = 3
-unhindered_steps (kind.Bounded n) = 7
-unhindered_steps kind.Unbounded = BLOCK_SLOTS + 11
+unhindered_steps (kind.Bounded n) = 6
+unhindered_steps kind.Unbounded = BLOCK_SLOTS + 10
 
 -- Of a run, and a stretch of it: where at its beginning a party is in a call and no other party is half done, and in the stretch the party gets no reply and no other party
 -- has an effect, there the party takes fewer steps than this. So among this many steps of a call that has not replied, another party has an effect, or was half done at the first.

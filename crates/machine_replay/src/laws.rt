@@ -34,8 +34,8 @@ pub fn solo_calls_reply<T, A: Allocator>()
     ensures { SoloCallsReply T A }
 {}
 
-/// From any moment on at which no other party is half done, and while no other party has an effect, a call replies by its step of this number: its third on one slot, its seventh on a
-/// ring, its seventy-fourth on a chain that has shown the poppers a block.
+/// From any moment on at which no other party is half done, and while no other party has an effect, a call replies by its step of this number: its third on one slot, its sixth on a
+/// ring, its seventy-third on a chain that has shown the poppers a block.
 ///
 /// A party is half done in a call that has had an effect and has not replied. So a party makes nobody wait while it is between calls, or in a call that has had no effect, wherever it
 /// stops; it may also begin calls, take steps and get replies meanwhile.
