@@ -1,8 +1,5 @@
-mod Filling
 mod Persons
-mod GivesUp
 mod Quits
-mod Settling
 mod Stops
 mod StopsIn
 mod TableCalls

@@ -5,7 +5,6 @@ use Rattle.atomic_table.specs.declared.shared.Seat.{Seat}
 use Rattle.queue_steps.specs.declared.model.Call.{Call}
 use Rattle.queue_steps.specs.declared.model.Reply.{Reply}
 use Rattle.queue_steps.specs.declared.steps.types.Kind.{Kind}
-use Rattle.queue_steps.specs.declared.steps.types.Next.{Next}
 use Rattle.queue_steps.specs.declared.steps.types.Next.TheVariants as next
 use Rattle.queue_steps.specs.Kinds.{call_kind}
 use Rattle.queue_steps.specs.Next.{next_of}
@@ -13,24 +12,24 @@ use Rattle.queue_steps.specs.Parties.{IsView}
 use Rattle.shared_parties.specs.declared.known.CallState.{CallState}
 use Rattle.shared_parties.specs.declared.known.InCall.{InCall}
 use Rattle.shared_parties.specs.declared.known.Work.TheVariants as work
-use Rattle.shared_parties.specs.Called.{call_of_work, nothing_called}
 use Rattle.shared_parties.specs.Calling.{cap_of}
 use Rattle.shared_parties.specs.CallsAt.{begun_at}
 use Rattle.shared_parties.specs.Quitting.{its_call}
 use Rattle.shared_parties.specs.CallStates.{idle}
 use Rattle.shared_parties.specs.Known.{party}
 use Rattle.shared_tables.specs.AtTable.{TableSeat, Ended}
-use Rattle.shared_tables.specs.Seats.{Seated, view_at}
+use Rattle.shared_tables.specs.Seats.{view_at}
 use Rattle.shared_tables.specs.TableRule.{TableOf}
 use Rattle.shared_tables.specs.TableTurns.{After, TableStands}
-use Rattle.concurrent_queue.specs.declared.waiting.Left.{Left}
+use Rattle.shared_calls.specs.declared.waiting.Left.{Left}
 use Rattle.concurrent_queue.specs.declared.party.SeatPlace.{SeatPlace}
 use Rattle.concurrent_queue.specs.declared.party.SeatPlace.TheVariants as place
 use Rattle.concurrent_queue.specs.Shared.{QueueId, QueueName, at_table, Person, person, IsHeld, Calls, person_of}
 use Rattle.concurrent_queue.specs.Begun.{Begun}
-use Rattle.concurrent_queue.specs.Pausing.{IsStep}
+use Rattle.shared_calls.specs.Pausing.{IsStep}
 use Rattle.concurrent_queue.specs.Pending.{begun_by, IsStoppedAt}
 use Rattle.concurrent_queue.proofs.TableCalls.{table_ends}
+use Rattle.shared_calls.proofs.Steps.{at_step, at_its}
 
 -- a table is told by its name
 pub same_table : (a b : TableId) → at_table a ≡ at_table b → a ≡ b
@@ -44,14 +43,6 @@ module _ {T : Type 0} where
   -- the call that a seat is at, seen as contracts see it
   pub begun_is : (n : QueueName) (cap : Option ℕ) (d : CallState T) (v : Person T) (c : Call T) → v.queue ≡ record { name = n; cap = cap } → begun_at (its_call d) ≡ v.view → (its_call d).call ≡ c → begun_by n cap d ≡ record { party = v; call = c }
   begun_is n cap d v c queue view call = λ i. record { party = record { queue = sym queue i; view = view i }; call = call i }
-
-  -- a call that is to do a step is that of its seat
-  pub at_step : (K : TableOf T) (b : InCall T) (v : Option T) (n : Next ℕ) (m : Seated T) → IsStep n → After K b v n m → (d : InCall T) × (m.0.work ≡ work.Calls d) × (d.call ≡ b.call) × (begun_at d ≡ begun_at b) × After K d v n m
-  at_step K b v (next.Step l t o) m is (d, at, local, touch, op, carried, call, begun, lends, touched, word) = (d, at, call, begun, (d, at, local, touch, op, carried, refl, refl, lends, touched, word))
-  at_step K b v (next.Reply x spare) m is h = absurd is
-
-  pub at_its : (d : CallState T) (c : InCall T) → d.work ≡ work.Calls c → its_call d ≡ c
-  at_its d c at = ap (call_of_work nothing_called) at
 
 module _ {T : Type 0} (K : ℕ → TableOf T) (t : TableId) where
   abbrev cap : Option ℕ

@@ -8,7 +8,6 @@ use Rattle.queue_steps.specs.declared.model.Call.{Call}
 use Rattle.queue_steps.specs.declared.model.Reply.{Reply}
 use Rattle.queue_steps.specs.declared.steps.types.Kind.{Kind}
 use Rattle.queue_steps.specs.declared.steps.types.Kind.TheVariants as queue
-use Rattle.queue_steps.specs.declared.steps.types.Next.{Next}
 use Rattle.queue_steps.specs.declared.steps.types.Next.TheVariants as next
 use Rattle.queue_steps.specs.Kinds.{call_kind}
 use Rattle.queue_steps.specs.Next.{next_of}
@@ -26,32 +25,22 @@ use Rattle.shared_chain.specs.Steps as chain
 use Rattle.shared_chain.specs.Turning.{SitsAt, ChainStands, ChainEnded}
 use Rattle.shared_chain.specs.declared.web.ChainWeb.{ChainWeb}
 use Rattle.shared_chain.proofs.Renamed.{next_of_map}
-use Rattle.concurrent_queue.specs.declared.chain.Asking.{Asking}
-use Rattle.concurrent_queue.specs.declared.waiting.Left.{Left}
+use Rattle.shared_calls.specs.declared.chain.Asking.{Asking}
+use Rattle.shared_calls.specs.declared.waiting.Left.{Left}
 use Rattle.concurrent_queue.specs.declared.party.SeatPlace.{SeatPlace}
 use Rattle.concurrent_queue.specs.declared.party.SeatPlace.TheVariants as place
 use Rattle.concurrent_queue.specs.Shared.{QueueId, in_web, Person, person, IsHeld, Calls, person_of}
 use Rattle.concurrent_queue.specs.Begun.{Begun}
-use Rattle.concurrent_queue.specs.InWeb.{EndedAt}
-use Rattle.concurrent_queue.specs.Pausing.{IsStep}
+use Rattle.shared_calls.specs.InWeb.{EndedAt}
+use Rattle.shared_calls.specs.Pausing.{IsStep}
 use Rattle.concurrent_queue.specs.Pending.{begun_by, IsStoppedIn}
 use Rattle.concurrent_queue.proofs.Stops.{begun_is}
 use Rattle.concurrent_queue.proofs.WebParties.{web_ends}
+use Rattle.shared_calls.proofs.Steps.{in_step, step_named}
 
 -- a web is told by its name
 pub same_web : (a b : WebId) → in_web a ≡ in_web b → a ≡ b
 same_web a b e = let h : in_web a ≡ in_web b = e in cc
-
--- a step is one whatever the blocks are named by
-pub step_named : (T : Type 0) (n : Next ℕ) → IsStep (next_map (link_of {T = T}) n) → IsStep n
-step_named T (next.Step l t o) is = tt
-step_named T (next.Reply x spare) is = absurd is
-
-module _ {T : Type 0} where
-  -- a call that is to do a step is that of its seat
-  pub in_step : (b : InCall T) (v : Option T) (n : Next ℕ) (m : Sitter T (CallState T)) → IsStep n → chain.After b v n m → (d : InCall T) × (m.view.work ≡ work.Calls d) × (d.call ≡ b.call) × (begun_at d ≡ begun_at b) × chain.After d v n m
-  in_step b v (next.Step l t o) m is (xs, (d, at, local, touch, op, carried, call, begun, lends), holds, may) = (d, at, call, begun, (xs, (d, at, local, touch, op, carried, refl, refl, lends), holds, may))
-  in_step b v (next.Reply x spare) m is h = absurd is
 
 module _ {T A Q : Type 0} (w : ChainWeb T A) where
   -- the seat with which the call of this seat began

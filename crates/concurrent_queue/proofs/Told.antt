@@ -14,7 +14,7 @@ use Rattle.shared_parties.specs.declared.known.CallState.{CallState}
 use Rattle.shared_tables.specs.AtTable.{Ended}
 use Rattle.concurrent_queue.specs.declared.party.SeatPlace.{SeatPlace}
 use Rattle.concurrent_queue.specs.declared.party.SeatPlace.TheVariants as place
-use Rattle.concurrent_queue.specs.InWeb.{EndedAt}
+use Rattle.shared_calls.specs.InWeb.{EndedAt}
 use Rattle.concurrent_queue.specs.Shared.{Person, IsHeld, person_of}
 use Rattle.concurrent_queue.specs.Tries.{Tries}
 use Rattle.concurrent_queue.proofs.Quits.{saw_more}

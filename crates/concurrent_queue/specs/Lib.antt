@@ -1,11 +1,4 @@
 pub mod Shared
-pub mod ChainSite
-pub mod InWeb
-pub mod Leaving
-pub mod Early
-pub mod Pausing
-pub mod Settling
-pub mod Halts
 pub mod OneHeap
 pub mod Begun
 pub mod Pending
@@ -14,4 +7,3 @@ pub mod SawMore
 pub mod TryErrors
 pub mod Tries
 pub mod SharedIter
-pub mod Laws

@@ -19,13 +19,13 @@ use Rattle.shared_tables.specs.SlotTable.{slot_table}
 use Rattle.shared_tables.specs.RingTable.{ring_table}
 use Rattle.shared_chain.specs.Names.{link_of, local_map, answer_map}
 use Rattle.shared_chain.specs.Steps as chain
-use Rattle.concurrent_queue.specs.declared.chain.Asking.{Asking}
-use Rattle.concurrent_queue.specs.declared.waiting.Left.{Left}
+use Rattle.shared_calls.specs.declared.chain.Asking.{Asking}
+use Rattle.shared_calls.specs.declared.waiting.Left.{Left}
 use Rattle.concurrent_queue.specs.declared.shared.pending.CallPlace.{CallPlace}
 use Rattle.concurrent_queue.specs.declared.shared.pending.CallPlace.TheVariants as place
 use Rattle.concurrent_queue.specs.Shared.{QueueName, at_table, in_web}
 use Rattle.concurrent_queue.specs.Begun.{Begun}
-use Rattle.concurrent_queue.specs.Pausing.{IsStep}
+use Rattle.shared_calls.specs.Pausing.{IsStep}
 
 -- of a seat on the queue of this name and capacity, what it was when its call began, and the call
 abbrev pub begun_by : {T : Type 0} → QueueName → Option ℕ → CallState T → Begun T

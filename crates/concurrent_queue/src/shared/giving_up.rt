@@ -8,8 +8,8 @@ ghost use Rattle.concurrent_queue.specs.Shared.{IsPartyOf};
 use super::Form;
 use super::pending::{CallPlace, Pending};
 use crate::party::{Party, SeatPlace};
-use crate::quitting::{quit_at, quit_in};
 use crate::shared::ConcurrentQueue;
+use shared_calls::quitting::{quit_at, quit_in};
 use std::alloc::Allocator;
 
 impl<T, A: Allocator> ConcurrentQueue<T, A> {

@@ -4,7 +4,6 @@ ghost use Rattle.concurrent_queue.specs.Shared.{IsPartyOf};
 ghost use Rattle.concurrent_queue.specs.Tries.{MayTry, Tries, TriesPush, TriesForcePush, TriesPop};
 
 use super::{Displaces, Form, Masked, Pops, Pushes};
-use crate::attempts::{attempt_at, attempt_in};
 use crate::party::{Party, SeatPlace};
 use crate::shared::ConcurrentQueue;
 use crate::try_errors::{TryForcePushError, TryPopError, TryPushError};
@@ -12,6 +11,7 @@ use call_driver::fast::{Short, Usual};
 use mem_blocks::null_testable::NullTestable;
 use queue_steps::errors::{ForcePushError, PopError, PushError};
 use queue_steps::model::{Call, Reply};
+use shared_calls::attempts::{attempt_at, attempt_in};
 use shared_tables::ring::Rings;
 use shared_tables::slot::Slots;
 use std::ops::ControlFlow;

@@ -5,10 +5,11 @@ use Rattle.shared_tables.specs.SlotTable.{slot_table}
 use Rattle.shared_tables.specs.RingTable.{ring_table}
 use Rattle.shared_chain.specs.Turning.{web_of}
 use Rattle.concurrent_queue.specs.declared.party.SeatPlace.TheVariants as place
-use Rattle.concurrent_queue.specs.InWeb.{RestsAt, EndedAt}
+use Rattle.shared_calls.specs.InWeb.{RestsAt, EndedAt}
 use Rattle.concurrent_queue.specs.Shared.{QueueId, Calls, form_id}
 use Rattle.concurrent_queue.proofs.TableCalls.{table_begins, table_ends}
-use Rattle.concurrent_queue.proofs.WebParties.{wakes_free, rests_ended, web_ends}
+use Rattle.shared_calls.proofs.Wakes.{wakes_free, rests_ended}
+use Rattle.concurrent_queue.proofs.WebParties.{web_ends}
 use Rattle.concurrent_queue.proofs.Stops.{started, go_there}
 use Rattle.concurrent_queue.proofs.StopsIn.{started_in}
 use Rattle.concurrent_queue.proofs.shared.ConcurrentQueue.begin.Goals as goal

@@ -1,0 +1,6 @@
+pub mod Filling
+pub mod GivesUp
+pub mod Quits
+pub mod Settling
+pub mod Steps
+pub mod Wakes

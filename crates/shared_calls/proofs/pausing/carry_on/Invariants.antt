@@ -1,0 +1,16 @@
+use Rattle.std.proofs.Common.{◌-◌}
+use Rattle.queue_steps.specs.declared.sizes.TheConstants.{SOLO_STEPS}
+use Rattle.queue_steps.specs.declared.model.Call.{Call}
+use Rattle.call_driver.specs.OnWay.{Stood}
+use Rattle.shared_calls.proofs.pausing.carry_on.Given as goal
+
+-- some call has taken a step, and whichever call had, has taken one
+abbrev pub invariant-loop : goal.invariant-loop
+invariant-loop g l =
+    let m = g.M.Site in
+    record {
+      going : (c : Call g.row.T.Denot) × (first : g.row.S.Denot) × Stood m (SOLO_STEPS - 1) l.kind l.call l.site first c l.progress l.carried l.seat;
+      stood : (c : Call g.row.T.Denot) (first : g.row.S.Denot)
+          → Stood m (SOLO_STEPS - 1) l.kind l.call l.site first c l.initial.progress l.initial.carried l.initial.seat
+          → Stood m (SOLO_STEPS - 1) l.kind l.call l.site first c l.progress l.carried l.seat;
+    }

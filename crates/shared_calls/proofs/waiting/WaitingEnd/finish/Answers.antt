@@ -1,0 +1,18 @@
+use Rattle.call_driver.proofs.Going.{again}
+use Rattle.shared_calls.proofs.waiting.WaitingEnd.finish.Goals as goal
+
+pub loop-preserved-then-must_give_way : goal.loop-preserved-then-must_give_way
+loop-preserved-then-must_give_way g c =
+    let h = c.loop.invariant.going in
+    record {
+      going = (h.0, (h.1.0, h.1.1, again g.M.Site g.met.M.Site.goes_on g.met.M.Site.more h.0 c.args.kind c.args.call c.args.site.now h.1.1 h.1.0 c.in-Continue.after _ _ (c.in-Continue.ensures h.0 h.1.0 h.1.1 h.1.2)));
+      goes = λ n call first start. again g.M.Site g.met.M.Site.goes_on g.met.M.Site.more n c.args.kind c.args.call c.args.site.now first call c.in-Continue.after _ _ (c.in-Continue.ensures n call first (c.loop.invariant.goes n call first start));
+    }
+
+pub loop-preserved : goal.loop-preserved
+loop-preserved g c =
+    let h = c.loop.invariant.going in
+    record {
+      going = (h.0, (h.1.0, h.1.1, again g.M.Site g.met.M.Site.goes_on g.met.M.Site.more h.0 c.args.kind c.args.call c.args.site.now h.1.1 h.1.0 c.in-Continue.after _ _ (c.in-Continue.ensures h.0 h.1.0 h.1.1 h.1.2)));
+      goes = λ n call first start. again g.M.Site g.met.M.Site.goes_on g.met.M.Site.more n c.args.kind c.args.call c.args.site.now first call c.in-Continue.after _ _ (c.in-Continue.ensures n call first (c.loop.invariant.goes n call first start));
+    }

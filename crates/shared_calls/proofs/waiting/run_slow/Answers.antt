@@ -1,0 +1,19 @@
+use Rattle.std.proofs.Common.{◌-◌, refl}
+use Rattle.queue_steps.specs.declared.sizes.TheConstants.{SOLO_STEPS}
+use Rattle.shared_calls.proofs.Filling.{is_filled, filled_as}
+use Rattle.shared_calls.proofs.waiting.run_slow.Goals as goal
+
+pub leave-reply-requires : goal.leave-reply-requires
+leave-reply-requires g c = (SOLO_STEPS - 1, refl, c.requires)
+
+pub fill-requires : goal.fill-requires
+fill-requires g c =
+    let (call, first, on) = c.requires in
+    let told = c.leave-reply.ensures (SOLO_STEPS - 1) call first refl on in
+    is_filled c.leave-reply.result c.leave-reply.new.carried told.0 told.1
+
+pub returns : goal.returns
+returns g c = λ call first on.
+    let told = c.leave-reply.ensures (SOLO_STEPS - 1) call first refl on in
+    let same = filled_as c.leave-reply.result c.leave-reply.new.carried told.0 told.1 c.fill.result c.fill.ensures in
+    rw same at told.2

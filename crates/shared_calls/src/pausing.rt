@@ -1,0 +1,192 @@
+//! A party's call that does not wait: it takes steps until its reply, or until it has met another call half done, and then stands where it is.
+ghost use Rattle.std.specs.Prelude.{◌≡◌, ◌≤◌, ◌-◌, true};
+ghost use Rattle.std.specs.ControlFlow.{MatchControlFlow};
+ghost use Rattle.queue_steps.specs.declared.model.Call.{Call as SpecCall};
+ghost use Rattle.queue_steps.specs.declared.sizes.TheConstants.{SOLO_STEPS};
+ghost use Rattle.call_driver.specs.Leads.{MayGive, Gave};
+ghost use Rattle.call_driver.specs.OnWay.{Stood};
+ghost use Rattle.shared_calls.specs.Leaving.{IsLeft};
+ghost use Rattle.shared_calls.specs.Pausing.{IsStood, IsPaused};
+ghost use Rattle.shared_calls.specs.Settling.{next_at, is_early_step, left_at, MayWait};
+
+use crate::early::is_early;
+use crate::waiting::{Left, must_give_way, run_fast};
+use call_driver::fast::Row;
+use call_driver::gate::Gate;
+use call_driver::progress::Progress;
+use call_driver::retry::retry;
+use call_driver::site::Site;
+use queue_steps::model::{Call, CallKind, Reply};
+use queue_steps::sizes::SOLO_STEPS;
+use queue_steps::steps::{Kind, KindSteps, Next};
+use std::ops::ControlFlow;
+
+/// How many steps a call takes at most from its effect on, its reply with them, but for a pop on a chain.
+const SETTLE_STEPS: usize = 5;
+
+/// Gives up the block that a reply hands out.
+fn give_back<T, B: Copy, S, M: Site<T, B, S>>(site: &M, seat: &mut S, spare: Option<B>)
+    requires { MayGive M.spares site.now seat.old spare }
+    ensures { Gave M.gives site.now seat.old spare seat.new }
+{
+    if let Some(block) = spare {
+        site.give_up(seat, block);
+    }
+}
+
+/// What is next of a call that has taken a step: its reply, or else it stands there.
+fn pause<T, B: Copy, S, M: Site<T, B, S>>(
+    site: &M,
+    kind: Kind,
+    call: CallKind,
+    seat: &mut S,
+    progress: Progress<B>,
+    carried: Option<T>,
+) -> ControlFlow<Reply<T>, Left<T, B>>
+    requires { (c : SpecCall T) × (first : S) × Stood M.Site (SOLO_STEPS - 1) kind call site.now first c progress carried seat.old }
+    ensures { (c : SpecCall T) (first : S) → Stood M.Site (SOLO_STEPS - 1) kind call site.now first c progress carried seat.old → MatchControlFlow result (λ left. IsPaused M.Site site.now first c left seat.new) (λ reply. M.ended site.now first c reply seat.new) }
+{
+    let todo = M::Steps::next(kind, progress.local, progress.answer);
+    match todo {
+        Next::Reply(reply, spare) => {
+            give_back(site, seat, spare);
+            ControlFlow::Break(Reply::fill(reply, carried))
+        }
+        Next::Step(_, _, _) => ControlFlow::Continue(Left {
+            kind,
+            call,
+            progress,
+            carried,
+        }),
+    }
+}
+
+/// Takes steps of a call until its reply, or until it has met another call half done; at most as many rounds as a call takes steps that meets no other.
+pub fn carry_on<T, B: Copy, S, M: Site<T, B, S>, G: Gate>(
+    site: &M,
+    gate: &G,
+    seat: &mut S,
+    left: Left<T, B>,
+) -> ControlFlow<Reply<T>, Left<T, B>>
+    requires { (c : SpecCall T) × (first : S) × IsLeft M.Site site.now first c left seat.old }
+    ensures { (c : SpecCall T) (first : S) → IsLeft M.Site site.now first c left seat.old → MatchControlFlow result (λ paused. IsPaused M.Site site.now first c paused seat.new) (λ reply. M.ended site.now first c reply seat.new) }
+{
+    let Left {
+        kind,
+        call,
+        progress,
+        mut carried,
+    } = left;
+    let mut before = progress.local;
+    let mut progress = match retry(site, gate, kind, call, seat, progress, &mut carried) {
+        ControlFlow::Break(reply) => return ControlFlow::Break(Reply::fill(reply, carried)),
+        ControlFlow::Continue(after) => after,
+    };
+    for _ in 1..SOLO_STEPS {
+        if must_give_way(&before, &progress.local) {
+            break;
+        }
+        before = progress.local;
+        match retry(site, gate, kind, call, seat, progress, &mut carried) {
+            ControlFlow::Break(reply) => return ControlFlow::Break(Reply::fill(reply, carried)),
+            ControlFlow::Continue(after) => progress = after,
+        }
+    }
+    pause(site, kind, call, seat, progress, carried)
+}
+
+/// The same from where a call stands.
+pub fn take_up<T, B: Copy, S, M: Site<T, B, S>, G: Gate>(
+    site: &M,
+    gate: &G,
+    seat: &mut S,
+    left: Left<T, B>,
+) -> ControlFlow<Reply<T>, Left<T, B>>
+    requires { (c : SpecCall T) × (first : S) × IsPaused M.Site site.now first c left seat.old }
+    ensures { (c : SpecCall T) (first : S) → IsPaused M.Site site.now first c left seat.old → MatchControlFlow result (λ paused. IsPaused M.Site site.now first c paused seat.new) (λ reply. M.ended site.now first c reply seat.new) }
+{
+    carry_on(site, gate, seat, left)
+}
+
+/// The same from a call's beginning, with its fast steps `F` first.
+pub fn set_out<T, B: Copy, S, M: Site<T, B, S>, G: Gate, F: Row<T, B, S, M, G>>(
+    site: &M,
+    gate: &G,
+    seat: &mut S,
+    call: Call<T>,
+) -> ControlFlow<Reply<T>, Left<T, B>>
+    requires { M.rests site.now seat.old }
+    ensures { MatchControlFlow result (λ paused. IsPaused M.Site site.now seat.old call paused seat.new) (λ reply. M.ended site.now seat.old call reply seat.new) }
+{
+    match run_fast::<T, B, S, M, G, F>(site, gate, seat, call) {
+        ControlFlow::Break(reply) => ControlFlow::Break(reply),
+        ControlFlow::Continue(left) => carry_on(site, gate, seat, left),
+    }
+}
+
+/// What a call does next, where it has had an effect; or it stands where it has had none.
+fn settle_step<T, B: Copy, S, M: Site<T, B, S>, G: Gate>(
+    site: &M,
+    gate: &G,
+    seat: &mut S,
+    left: Left<T, B>,
+) -> ControlFlow<Reply<T>, Left<T, B>>
+    requires { (c : SpecCall T) × (first : S) × IsStood M.Site site.now first c left seat.old }
+    ensures stood { (c : SpecCall T) (first : S) → IsStood M.Site site.now first c left seat.old → MatchControlFlow result (λ on. IsStood M.Site site.now first c on seat.new) (λ reply. M.ended site.now first c reply seat.new) }
+    ensures nearer { ¬ (MayWait left.kind (next_at left)) → MatchControlFlow result (λ on. ¬ (MayWait on.kind (next_at on)) × (left_at (next_at on) ≤ 4) × (left_at (next_at on) ≤ left_at (next_at left) - 1)) (λ reply. Unit {0}) }
+{
+    let Left {
+        kind,
+        call,
+        progress,
+        mut carried,
+    } = left;
+    let todo = M::Steps::next(kind, progress.local, progress.answer);
+    match todo {
+        Next::Reply(reply, spare) => {
+            give_back(site, seat, spare);
+            ControlFlow::Break(Reply::fill(reply, carried))
+        }
+        Next::Step(local, touch, op) => {
+            if is_early(&local) {
+                return ControlFlow::Continue(Left {
+                    kind,
+                    call,
+                    progress,
+                    carried,
+                });
+            }
+            gate.pass(&op);
+            let answer = site.take_step(seat, &call, &local, touch, op, &mut carried);
+            ControlFlow::Continue(Left {
+                kind,
+                call,
+                progress: Progress { local, answer },
+                carried,
+            })
+        }
+    }
+}
+
+/// Takes steps of a call until its reply, or until it stands where it has had no effect: at most as many as a call takes behind its effect, but for a pop on a
+/// chain, which may have to wait.
+pub fn settle<T, B: Copy, S, M: Site<T, B, S>, G: Gate>(
+    site: &M,
+    gate: &G,
+    seat: &mut S,
+    left: Left<T, B>,
+) -> ControlFlow<Reply<T>, Left<T, B>>
+    requires { (c : SpecCall T) × (first : S) × IsStood M.Site site.now first c left seat.old }
+    ensures stood { (c : SpecCall T) (first : S) → IsStood M.Site site.now first c left seat.old → MatchControlFlow result (λ on. IsStood M.Site site.now first c on seat.new) (λ reply. M.ended site.now first c reply seat.new) }
+    ensures early { ¬ (MayWait left.kind (next_at left)) → MatchControlFlow result (λ on. is_early_step (next_at on) ≡ true) (λ reply. Unit {0}) }
+{
+    let mut left = left;
+    for turn in 0..SETTLE_STEPS {
+        let _ = turn;
+        match settle_step(site, gate, seat, left) {
+            ControlFlow::Break(reply) => return ControlFlow::Break(reply),
+            ControlFlow::Continue(on) => left = on,
+        }
+    }
+    ControlFlow::Continue(left)
+}

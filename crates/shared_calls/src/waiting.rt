@@ -1,0 +1,185 @@
+//! A party's call that may wait for another party's.
+ghost use Rattle.std.specs.ControlFlow.{MatchControlFlow};
+ghost use Rattle.queue_steps.specs.declared.model.Call.{Call as SpecCall};
+ghost use Rattle.call_driver.specs.OnWay.{CanEnd, EndsRightly};
+ghost use Rattle.shared_calls.specs.Leaving.{IsLeft};
+
+use call_driver::driver::{begin, leave};
+use call_driver::fast::Row;
+use call_driver::gate::Gate;
+use call_driver::progress::Progress;
+use call_driver::retry::{End, retry};
+use call_driver::site::Site;
+use queue_steps::model::{Call, CallKind, Reply, ReplyKind};
+use queue_steps::steps::{BoundedLocal, Kind, Local, UnboundedLocal};
+use std::ops::ControlFlow;
+use std::sync::Wait;
+use std::thread::yield_now;
+
+/// Whether a call that stood there, and then here, has met another one half done, so that it tries again: a stamp is not stored yet, another call moves on to
+/// the next block, or an item is not written yet. A call that finds one slot locked is not among them: it tries again at once.
+#[inline(always)]
+pub fn must_give_way<B: Copy>(before: &Local<B>, after: &Local<B>) -> bool {
+    match (before, after) {
+        (Local::Bounded(before), Local::Bounded(after)) => match (before, after) {
+            (BoundedLocal::PushStamp(_, _), BoundedLocal::PushTail(_)) => true,
+            (BoundedLocal::PopStamp(_), BoundedLocal::PopHead) => true,
+            _ => false,
+        },
+        (Local::Unbounded(before), Local::Unbounded(after)) => match (before, after) {
+            (UnboundedLocal::PushTail(_, _), UnboundedLocal::PushTail(_, _)) => true,
+            (UnboundedLocal::PopHead, UnboundedLocal::PopHead) => true,
+            (UnboundedLocal::Following(_, _), UnboundedLocal::Following(_, _)) => true,
+            (UnboundedLocal::Awaiting(_, _), UnboundedLocal::Awaiting(_, _)) => true,
+            _ => false,
+        },
+        _ => false,
+    }
+}
+
+/// The end of a call beside others: it may wait for one of them. Where it meets another call half done, it gives way to other threads.
+#[derive(Drop)]
+pub struct Waiting<'a, R> {
+    /// What a loop without a bound needs.
+    pub rt: &'a R,
+}
+
+impl<T, B: Copy, S, M: Site<T, B, S>, R: Wait> End<T, B, S, M> for Waiting<'_, R> {
+    fn finish<G: Gate>(
+        self,
+        site: &M,
+        gate: &G,
+        kind: Kind,
+        call: CallKind,
+        seat: &mut S,
+        progress: Progress<B>,
+        carried: &mut Option<T>,
+    ) -> ReplyKind
+        requires { CanEnd M.Site kind call site.now progress carried.old seat.old }
+        ensures { EndsRightly M.Site kind call site.now progress carried.old seat.old carried.new seat.new result }
+    {
+        let mut progress = progress;
+        for _ in self.rt.forever() {
+            let before = progress.local;
+            match retry(site, gate, kind, call, seat, progress, carried) {
+                ControlFlow::Break(reply) => return reply,
+                ControlFlow::Continue(after) => {
+                    if must_give_way(&before, &after.local) {
+                        yield_now();
+                    }
+                    progress = after;
+                }
+            }
+        }
+        unreachable!()
+    }
+}
+
+/// A call that has left its fast steps: which it is, where it stands, and the value that it carries.
+pub struct Left<T, B> {
+    pub kind: Kind,
+    pub call: CallKind,
+    pub progress: Progress<B>,
+    pub carried: Option<T>,
+}
+
+impl<T: Drop, B: Copy> Left<T, B> {
+    /// Drops the value that the call carries.
+    pub fn forgo(self) {
+        let Left {
+            kind: _,
+            call: _,
+            progress: _,
+            carried,
+        } = self;
+        drop(carried);
+    }
+}
+
+/// Begins a call and takes its fast steps `F`. The reply is put together here, so that the compiler knows its kind where the fast steps end.
+///
+/// It does not wait. Behind each call of what may wait there is a test whether it came back, so nothing that may has the fast steps within it.
+#[inline(always)]
+pub fn run_fast<T, B: Copy, S, M: Site<T, B, S>, G: Gate, F: Row<T, B, S, M, G>>(
+    site: &M,
+    gate: &G,
+    seat: &mut S,
+    call: Call<T>,
+) -> ControlFlow<Reply<T>, Left<T, B>>
+    requires { M.rests site.now seat.old }
+    ensures { MatchControlFlow result (λ left. IsLeft M.Site site.now seat.old call left seat.new) (λ reply. M.ended site.now seat.old call reply seat.new) }
+{
+    let (call, mut carried) = call.split();
+    let (kind, mut progress) = begin::<T, B, S, M>(site, seat, call);
+    match F::run(site, gate, kind, call, seat, &mut progress, &mut carried) {
+        ControlFlow::Break(reply) => ControlFlow::Break(Reply::fill(reply, carried)),
+        // Part by part: a `Progress` that is moved whole is written by each fast step.
+        ControlFlow::Continue(()) => ControlFlow::Continue(Left {
+            kind,
+            call,
+            progress: Progress {
+                local: progress.local,
+                answer: progress.answer,
+            },
+            carried,
+        }),
+    }
+}
+
+/// The same by one of two rows. They are the same steps, made once for each answer of a test that each of them would make: so it is made once in a call, and the compiler knows within a row how it came out.
+#[inline(always)]
+pub fn run_either<
+    T,
+    B: Copy,
+    S,
+    M: Site<T, B, S>,
+    G: Gate,
+    E: Row<T, B, S, M, G>,
+    F: Row<T, B, S, M, G>,
+>(
+    is_first: bool,
+    site: &M,
+    gate: &G,
+    seat: &mut S,
+    call: Call<T>,
+) -> ControlFlow<Reply<T>, Left<T, B>>
+    requires { M.rests site.now seat.old }
+    ensures { MatchControlFlow result (λ left. IsLeft M.Site site.now seat.old call left seat.new) (λ reply. M.ended site.now seat.old call reply seat.new) }
+{
+    if is_first {
+        run_fast::<T, B, S, M, G, E>(site, gate, seat, call)
+    } else {
+        run_fast::<T, B, S, M, G, F>(site, gate, seat, call)
+    }
+}
+
+/// Runs a call to its end that has left its fast steps.
+#[inline(always)]
+pub fn run_slow<T, B: Copy, S, M: Site<T, B, S>, G: Gate, R: Wait>(
+    site: &M,
+    rt: &R,
+    gate: &G,
+    seat: &mut S,
+    left: Left<T, B>,
+) -> Reply<T>
+    requires { (call : SpecCall T) × (first : S) × IsLeft M.Site site.now first call left seat.old }
+    ensures { (call : SpecCall T) (first : S) → IsLeft M.Site site.now first call left seat.old → M.ended site.now first call result seat.new }
+{
+    let Left {
+        kind,
+        call,
+        progress,
+        mut carried,
+    } = left;
+    let reply = leave(
+        site,
+        gate,
+        Waiting { rt },
+        kind,
+        call,
+        seat,
+        &progress,
+        &mut carried,
+    );
+    Reply::fill(reply, carried)
+}
