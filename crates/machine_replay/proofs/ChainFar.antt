@@ -24,7 +24,6 @@ use Rattle.law_chain.specs.ChainAnswers.{tail_word, head_word, shown_of}
 use Rattle.law_chain.specs.ChainAt.{At, push_tail, push_block, asking, installing, showing, claiming, laying, opening, chaining, writing, spending, pop_head, pop_block, pop_tail, taking, following, peeking, passing, entering, awaiting, reading, beginning, walking, destroying, len_tail, len_head, len_again, empty_head, empty_tail, closing, closed_tail}
 use Rattle.law_chain.specs.ChainFacts.{head_of, open_tail_of}
 use Rattle.law_chain.proofs.ChainAnswers.{head_offset}
-use Rattle.law_chain.proofs.ChainFirst.{first}
 use Rattle.law_chain.proofs.ChainRanks.{rank, lag, walk_rank, is_seen}
 use Rattle.law_chain.proofs.ChainRanksWalk.{last_claimed}
 use Rattle.law_chain.proofs.ChainRight.{Ends}

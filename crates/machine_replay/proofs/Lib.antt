@@ -85,4 +85,7 @@ pub mod ChainFar
 pub mod ChainStretch
 pub mod ChainAppended
 pub mod ChainTaken
+pub mod Beside
+pub mod SingleWaits
+pub mod RingWaits
 pub mod Unhindered

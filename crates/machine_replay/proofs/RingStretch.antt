@@ -251,7 +251,7 @@ module _ {A : Type 0} (cap : ℕ) where
   tail_is : (s : Shared A) (Q : State A) (g : Ring A) → RingHolds cap s Q g → s.tail ≡ tail_of Q.accepted Q.closed
   tail_is s Q g holds = holds.codes.tail ∙ ap (λ q. tail_of q.accepted q.closed) (sym holds.queue_is)
 
-  abbrev ring_rules : IsRing cap → Rules A (queue.Bounded cap)
+  abbrev pub ring_rules : IsRing cap → Rules A (queue.Bounded cap)
   ring_rules ring = record { G = Ring A; Holds = RingHolds cap; Idle = RingIdle; Fits = RingFits cap; laws = ring_steps cap; first = opening_ring A; opens = ring_opens A cap ring; all_idle = ring_all_idle A }
 
   ring_paces : (ring : IsRing cap) → Paces A (queue.Bounded cap) (ring_rules ring)

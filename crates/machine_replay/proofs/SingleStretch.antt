@@ -109,7 +109,7 @@ module _ {T : Type 0} where
           subst (λ w. rank r'.local w < rank r.local holds.word) (sym (ap (λ c. c.lock) left))
           (goes_on _ (carried_then memory r) r' (rank r.local holds.word) after.lock (subst (λ n. running_after n (carried_then memory r) ≡ Some r') went goes) falls)
 
-abbrev single_rules : (T : Type 0) → Rules T kind.Single
+abbrev pub single_rules : (T : Type 0) → Rules T kind.Single
 single_rules T = record {
   G = Keeps T;
   Holds = Holds;

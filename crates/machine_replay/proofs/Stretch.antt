@@ -187,7 +187,7 @@ module _ (T : Type 0) (k : Kind) (laws : Rules T k) (parties : ℕ) where
   open-effects Undone y o a ne e = let same : a.0 ≡ o = (let i = a.1 in cc) in ap (λ z. z.effects) (sym same) ∙ a.2
   open-effects HalfDone y o a ne e = absurd (ne refl)
 
-  party-open : (busy : ℕ) (s : Shared T) (Q : State T) (g : laws.G) (q : ℕ) (x : Option (Running T)) (y : Option (Open T)) (r : Running T) → Party busy s Q g q x y → x ≡ Some r → (o : Open T) × (y ≡ Some o) × laws.Fits busy s Q g q r o
+  pub party-open : (busy : ℕ) (s : Shared T) (Q : State T) (g : laws.G) (q : ℕ) (x : Option (Running T)) (y : Option (Open T)) (r : Running T) → Party busy s Q g q x y → x ≡ Some r → (o : Open T) × (y ≡ Some o) × laws.Fits busy s Q g q r o
   party-open busy s Q g q (Some z) (Some o) r h e = let same : z ≡ r = cc in (o, refl, subst (λ u. laws.Fits busy s Q g q u o) same h)
   party-open busy s Q g q (Some z) None r h e = absurd h
   party-open busy s Q g q None y r h e = cc

@@ -9,6 +9,9 @@ use Rattle.machine_replay.specs.Replays.{CanReplay, is_too_large}
 use Rattle.machine_steps.specs.declared.types.Event.{Event}
 use Rattle.machine_steps.specs.declared.types.Told.{Told}
 use Rattle.machine_replay.specs.Progress.{AppendsReply, HalfDoneNeverWaits, HalfDoneTakesNone, TakesReply, IsLeftToIt, IsSilent, SilenceIsShort, UnhinderedCallsReply}
+use Rattle.machine_replay.specs.Waits.{CallsWait}
+use Rattle.machine_replay.proofs.RingWaits.{ring_waits}
+use Rattle.machine_replay.proofs.SingleWaits.{slot_waits}
 use Rattle.machine_replay.proofs.SingleStretch.{single_appends, single_takes, single_never_waits, single_takes_none, single_unhindered}
 use Rattle.machine_replay.proofs.RingStretch.{ring_appends, ring_takes, ring_never_waits, ring_takes_none, ring_unhindered}
 use Rattle.machine_replay.proofs.ChainTaken.{chain_takes}
@@ -50,3 +53,6 @@ pub takes_reply : (T : Type 0) → TakesReply T
 takes_reply T kind.Single can small = single_takes T
 takes_reply T (kind.Bounded n) can small = ring_takes T n (can, ltb-false MAX_CAPACITY n small)
 takes_reply T kind.Unbounded can small = chain_takes T
+
+pub calls_wait : (T : Type 0) → CallsWait T
+calls_wait T = record { slot = slot_waits T; ring = ring_waits T }

@@ -13,3 +13,4 @@ pub mod WordsOf
 pub mod AtOnce
 pub mod PeakTold
 pub mod Progress
+pub mod Waits

@@ -5,6 +5,7 @@ ghost use Rattle.machine_replay.specs.OneOwner.{OnePartyIsOneOwner};
 ghost use Rattle.machine_replay.specs.PeakTold.{PeakIsOfTheRun};
 ghost use Rattle.machine_replay.specs.Progress.{AppendsReply, HalfDoneNeverWaits, SilenceIsShort, TakesReply, UnhinderedCallsReply};
 ghost use Rattle.machine_replay.specs.Skips.{SkippedIsExact};
+ghost use Rattle.machine_replay.specs.Waits.{CallsWait};
 ghost use Rattle.machine_replay.specs.Within.{NothingAppendedWithin, SoloCallsReply, WaitFreeCallsReply};
 
 use std::alloc::Allocator;
@@ -57,6 +58,13 @@ pub fn appends_reply<T>()
 /// other call is between its append and its reply: a pop that has taken waits for such a call alone.
 pub fn takes_reply<T>()
     ensures { TakesReply T }
+{}
+
+/// A call on a queue with a capacity that has read the word as it is, and goes back all the same, does so for a call that is half done, and at each step for calls at certain steps alone:
+/// a push on one slot for a pop; a pop on one slot for a push; a push on a ring for a push that has not stored its stamp, or for a call that has taken the last lap's item and not given
+/// its slot back; and a pop on a ring for the call that has its slot.
+pub fn calls_wait<T>()
+    ensures { CallsWait T }
 {}
 
 /// A stretch of a run in which nobody has an effect and nobody gets a reply is short, unless half-done calls stand still in it.

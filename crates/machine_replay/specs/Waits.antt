@@ -1,0 +1,97 @@
+-- Who waits for whom, step by step: a call that has read the words as they are, and goes back all the same, does so beside a call that is half done.
+use Rattle.std.specs.Prelude.{◌≡◌, ◌≢◌, ℕ, true, Some, List}
+use Rattle.queue_steps.specs.SingleNext.{unlocked}
+use Rattle.queue_steps.specs.Words.{IsRing}
+use Rattle.queue_steps.specs.declared.steps.bounded.PushKind.{PushKind}
+use Rattle.queue_steps.specs.declared.steps.bounded.BoundedLocal.TheVariants as ring
+use Rattle.queue_steps.specs.declared.steps.single.SingleLocal.TheVariants.{Pushing, Pushed, Forcing, Forced, Popping, Popped}
+use Rattle.queue_steps.specs.declared.steps.types.Kind.{Kind}
+use Rattle.queue_steps.specs.declared.steps.types.Kind.TheVariants as kind
+use Rattle.queue_steps.specs.declared.steps.types.Local.{Local}
+use Rattle.queue_steps.specs.declared.steps.types.Local.TheVariants as local
+use Rattle.machine_steps.specs.declared.machine.Running.{Running}
+use Rattle.machine_steps.specs.declared.types.Event.{Event}
+use Rattle.machine_steps.specs.Left.{opening_world}
+use Rattle.machine_steps.specs.SharedMemory.{Shared, step_of}
+use Rattle.machine_steps.specs.World.{World, call_at}
+use Rattle.machine_replay.specs.Played.{world_after}
+
+-- at this moment of a run another party's call is at such a step
+abbrev pub IsBeside : {T : Type 0} → World (Shared T) (Running T) → ℕ → (Local ℕ → Type 0) → Type 0
+IsBeside {T} w p Such = (q : ℕ) × (q ≢ p) × ((r : Running T) × (call_at w q ≡ Some r) × Such r.local)
+
+-- a call that stands at this step, and goes on as x by one step, and as y by two, if no other call takes one
+abbrev pub GoesOn : {T : Type 0} → Kind → Shared T → Running T → Running T → Type 0
+GoesOn k s r x = (step_of k true s r).call ≡ Some x
+
+abbrev pub GoesOnTwice : {T : Type 0} → Kind → Shared T → Running T → Running T → Running T → Type 0
+GoesOnTwice k s r x y = ((step_of k true s r).call ≡ Some x) × ((step_of k true (step_of k true s r).shared x).call ≡ Some y)
+
+-- one slot: a push or a forced push has put its item and not unlocked, P2 and F2, or a pop has not, O2
+abbrev pub IsToUnlock : Local ℕ → Type 0
+IsToUnlock (local.Single Pushed) = Unit {0}
+IsToUnlock (local.Single (Forced seen)) = Unit {0}
+IsToUnlock (local.Single Popped) = Unit {0}
+IsToUnlock _ = ⊥
+
+abbrev pub IsPushToUnlock : Local ℕ → Type 0
+IsPushToUnlock (local.Single Pushed) = Unit {0}
+IsPushToUnlock (local.Single (Forced seen)) = Unit {0}
+IsPushToUnlock _ = ⊥
+
+abbrev pub IsPopToUnlock : Local ℕ → Type 0
+IsPopToUnlock (local.Single Popped) = Unit {0}
+IsPopToUnlock _ = ⊥
+
+-- of one slot: a push goes back at P1 for a pop alone; with the word as it is, but for the lock, a forced push goes back at F1 for whoever has the lock, and a pop at O1 for a push
+pub record SlotWaits {T : Type 0} (w : World (Shared T) (Running T)) (p : ℕ) (r x : Running T) : Type 0 where
+  pub push : r.local ≡ local.Single Pushing → x.local ≡ local.Single Pushing → IsBeside w p IsPopToUnlock
+  pub force : (seen : ℕ) → r.local ≡ local.Single (Forcing (unlocked w.shared.lock)) → x.local ≡ local.Single (Forcing seen) → IsBeside w p IsToUnlock
+  pub pop : (seen : ℕ) → r.local ≡ local.Single (Popping (unlocked w.shared.lock)) → x.local ≡ local.Single (Popping seen) → IsBeside w p IsPushToUnlock
+
+abbrev pub SlotCallsWait : Type 0 → Type 0
+SlotCallsWait T = (parties p : ℕ) (past : List (Event T)) (r x : Running T) → call_at (world_after kind.Single (opening_world kind.Single parties) past) p ≡ Some r
+    → GoesOn kind.Single (world_after kind.Single (opening_world kind.Single parties) past).shared r x → SlotWaits (world_after kind.Single (opening_world kind.Single parties) past) p r x
+
+-- ring: a push has not stored its stamp, B4, or a forced push that has arrived has not, F7
+abbrev pub IsPushToStamp : Local ℕ → Type 0
+IsPushToStamp (local.Bounded (ring.Filling d)) = Unit {0}
+IsPushToStamp (local.Bounded ring.Swapping) = Unit {0}
+IsPushToStamp _ = ⊥
+
+-- a pop has not stored its stamp, O4, or a forced push has taken the front off and not arrived, F6
+abbrev pub HasFront : Local ℕ → Type 0
+HasFront (local.Bounded ring.Emptying) = Unit {0}
+HasFront (local.Bounded (ring.Arriving tail)) = Unit {0}
+HasFront _ = ⊥
+
+-- one of these three: O4, F6, F7
+abbrev pub HasLastLap : Local ℕ → Type 0
+HasLastLap (local.Bounded ring.Emptying) = Unit {0}
+HasLastLap (local.Bounded (ring.Arriving tail)) = Unit {0}
+HasLastLap (local.Bounded ring.Swapping) = Unit {0}
+HasLastLap _ = ⊥
+
+-- a push has not stored its stamp, B4
+abbrev pub IsToFill : Local ℕ → Type 0
+IsToFill (local.Bounded (ring.Filling d)) = Unit {0}
+IsToFill _ = ⊥
+
+-- Of a ring, with the tail or the head as it is: a push or forced push goes back at B2 for B4 or F7, and by way of B5 or F5 for O4 or F6; a pop goes back at O2 for O4, F6 or F7, and by
+-- way of O5 for B4.
+pub record RingWaits {T : Type 0} (n : ℕ) (w : World (Shared T) (Running T)) (p : ℕ) (r : Running T) : Type 0 where
+  pub push : (d : PushKind) (x : Running T) → r.local ≡ local.Bounded (ring.PushStamp d w.shared.tail) → GoesOn (kind.Bounded n) w.shared r x → x.local ≡ local.Bounded (ring.PushTail d) → IsBeside w p IsPushToStamp
+  pub full : (d : PushKind) (x y : Running T) → r.local ≡ local.Bounded (ring.PushStamp d w.shared.tail) → GoesOnTwice (kind.Bounded n) w.shared r x y
+      → (x.local ≡ local.Bounded (ring.PushTail d) → ⊥) → y.local ≡ local.Bounded (ring.PushTail d) → IsBeside w p HasFront
+  pub pop : (x : Running T) → r.local ≡ local.Bounded (ring.PopStamp w.shared.head) → GoesOn (kind.Bounded n) w.shared r x → x.local ≡ local.Bounded ring.PopHead → IsBeside w p HasLastLap
+  pub empty : (x y : Running T) → r.local ≡ local.Bounded (ring.PopStamp w.shared.head) → GoesOnTwice (kind.Bounded n) w.shared r x y
+      → (x.local ≡ local.Bounded ring.PopHead → ⊥) → y.local ≡ local.Bounded ring.PopHead → IsBeside w p IsToFill
+
+abbrev pub RingCallsWait : Type 0 → ℕ → Type 0
+RingCallsWait T n = (parties p : ℕ) (past : List (Event T)) (r : Running T) → call_at (world_after (kind.Bounded n) (opening_world (kind.Bounded n) parties) past) p ≡ Some r
+    → RingWaits n (world_after (kind.Bounded n) (opening_world (kind.Bounded n) parties) past) p r
+
+-- so it is at each moment of each run
+pub record CallsWait (T : Type 0) : Type 0 where
+  pub slot : SlotCallsWait T
+  pub ring : (n : ℕ) → IsRing n → RingCallsWait T n
