@@ -88,4 +88,5 @@ pub mod ChainTaken
 pub mod Beside
 pub mod SingleWaits
 pub mod RingWaits
+pub mod LenWaits
 pub mod Unhindered

@@ -114,7 +114,7 @@ module _ (T : Type 0) (k : Kind) (laws : Rules T k) (parties : ℕ) where
   call-there busy s Q g p None (Some z) o h e = absurd h
   call-there busy s Q g p x None o h e = cc
 
-  open-there : (x : Standing) (y : Option (Open T)) → Agrees x y → x ≢ Between → (o : Open T) × (y ≡ Some o)
+  pub open-there : (x : Standing) (y : Option (Open T)) → Agrees x y → x ≢ Between → (o : Open T) × (y ≡ Some o)
   open-there Between y a ne = absurd (ne refl)
   open-there Undone y a ne = (a.0, a.1)
   open-there HalfDone y a ne = (a.0, a.1)

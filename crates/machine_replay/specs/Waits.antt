@@ -1,20 +1,26 @@
 -- Who waits for whom, step by step: a call that has read the words as they are, and goes back all the same, does so beside a call that is half done.
-use Rattle.std.specs.Prelude.{◌≡◌, ◌≢◌, ℕ, true, Some, List}
+use Rattle.std.specs.Prelude.{◌≡◌, ◌≢◌, ℕ, true, Some, List, false, [], ◌∷◌, ◌<◌, count_by}
 use Rattle.queue_steps.specs.SingleNext.{unlocked}
 use Rattle.queue_steps.specs.Words.{IsRing}
 use Rattle.queue_steps.specs.declared.steps.bounded.PushKind.{PushKind}
 use Rattle.queue_steps.specs.declared.steps.bounded.BoundedLocal.TheVariants as ring
-use Rattle.queue_steps.specs.declared.steps.single.SingleLocal.TheVariants.{Pushing, Pushed, Forcing, Forced, Popping, Popped}
+use Rattle.queue_steps.specs.declared.steps.single.SingleLocal.TheVariants.{Pushing, Pushed, Forcing, Forced, Popping, Popped, Looking}
 use Rattle.queue_steps.specs.declared.steps.types.Kind.{Kind}
 use Rattle.queue_steps.specs.declared.steps.types.Kind.TheVariants as kind
 use Rattle.queue_steps.specs.declared.steps.types.Local.{Local}
 use Rattle.queue_steps.specs.declared.steps.types.Local.TheVariants as local
+use Rattle.queue_steps.specs.declared.steps.types.Look.TheVariants as look
+use Rattle.queue_steps.specs.declared.steps.unbounded.UnboundedLocal.TheVariants as chain
 use Rattle.machine_steps.specs.declared.machine.Running.{Running}
 use Rattle.machine_steps.specs.declared.types.Event.{Event}
 use Rattle.machine_steps.specs.Left.{opening_world}
 use Rattle.machine_steps.specs.SharedMemory.{Shared, step_of}
 use Rattle.machine_steps.specs.World.{World, call_at}
-use Rattle.machine_replay.specs.Played.{world_after}
+use Rattle.machine_steps.specs.Machine.{event_of}
+use Rattle.machine_replay.specs.Played.{told_of, world_after}
+use Rattle.machine_replay.specs.Progress.{IsNotAnswered}
+use Rattle.machine_replay.specs.Replays.{CanReplay, is_too_large}
+use Rattle.machine_replay.specs.Within.{is_step_of}
 
 -- at this moment of a run another party's call is at such a step
 abbrev pub IsBeside : {T : Type 0} → World (Shared T) (Running T) → ℕ → (Local ℕ → Type 0) → Type 0
@@ -95,3 +101,24 @@ RingCallsWait T n = (parties p : ℕ) (past : List (Event T)) (r : Running T) �
 pub record CallsWait (T : Type 0) : Type 0 where
   pub slot : SlotCallsWait T
   pub ring : (n : ℕ) → IsRing n → RingCallsWait T n
+
+-- a step of `len`
+abbrev pub IsOfLen : Local ℕ → Type 0
+IsOfLen (local.Single (Looking look.Len)) = Unit {0}
+IsOfLen (local.Bounded ring.LenTail) = Unit {0}
+IsOfLen (local.Bounded (ring.LenHead tail)) = Unit {0}
+IsOfLen (local.Bounded (ring.LenAgain tail head)) = Unit {0}
+IsOfLen (local.Unbounded chain.LenTail) = Unit {0}
+IsOfLen (local.Unbounded (chain.LenHead tail)) = Unit {0}
+IsOfLen (local.Unbounded (chain.LenAgain tail head)) = Unit {0}
+IsOfLen _ = ⊥
+
+-- these events leave the tail, each of them
+abbrev pub IsTailKept : {T : Type 0} → Kind → World (Shared T) (Running T) → List (Event T) → Type 0
+IsTailKept k w [] = Unit {0}
+IsTailKept k w (e ∷ es) = ((event_of k true w e).0.shared.tail ≡ w.shared.tail) × IsTailKept k (event_of k true w e).0 es
+
+-- a call of `len` that is in progress at a moment of a run, and while the tail is left, takes fewer than five steps before its reply, whatever the other parties do and wherever they stand
+abbrev pub LenWaitsForNobody : Type 0 → Type 0
+LenWaitsForNobody T = (k : Kind) → CanReplay k → is_too_large k ≡ false → (parties p : ℕ) (past stretch : List (Event T)) (r : Running T) → call_at (world_after k (opening_world k parties) past) p ≡ Some r → IsOfLen r.local
+    → IsTailKept k (world_after k (opening_world k parties) past) stretch → IsNotAnswered p stretch (told_of k (world_after k (opening_world k parties) past) stretch) → count_by (is_step_of p) stretch < 5

@@ -5,7 +5,7 @@ ghost use Rattle.machine_replay.specs.OneOwner.{OnePartyIsOneOwner};
 ghost use Rattle.machine_replay.specs.PeakTold.{PeakIsOfTheRun};
 ghost use Rattle.machine_replay.specs.Progress.{AppendsReply, HalfDoneNeverWaits, SilenceIsShort, TakesReply, UnhinderedCallsReply};
 ghost use Rattle.machine_replay.specs.Skips.{SkippedIsExact};
-ghost use Rattle.machine_replay.specs.Waits.{CallsWait};
+ghost use Rattle.machine_replay.specs.Waits.{CallsWait, LenWaitsForNobody};
 ghost use Rattle.machine_replay.specs.Within.{NothingAppendedWithin, SoloCallsReply, WaitFreeCallsReply};
 
 use std::alloc::Allocator;
@@ -65,6 +65,11 @@ pub fn takes_reply<T>()
 /// its slot back; and a pop on a ring for the call that has its slot.
 pub fn calls_wait<T>()
     ensures { CallsWait T }
+{}
+
+/// `len` waits for nobody: while the tail is as it is, it replies by its fifth step, whatever the other parties do and wherever they stand.
+pub fn len_waits_for_nobody<T>()
+    ensures { LenWaitsForNobody T }
 {}
 
 /// A stretch of a run in which nobody has an effect and nobody gets a reply is short, unless half-done calls stand still in it.

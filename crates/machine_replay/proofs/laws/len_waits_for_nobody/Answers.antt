@@ -1,0 +1,5 @@
+use Rattle.machine_replay.proofs.LenWaits.{len_waits}
+use Rattle.machine_replay.proofs.laws.len_waits_for_nobody.Goals as goal
+
+pub returns : goal.returns
+returns g c = len_waits _
