@@ -1,2 +1,3 @@
 mod Closings
 pub mod Displacing
+mod Halves

@@ -1,6 +1,7 @@
 //! Callers that are proved from the public contracts alone; `CALLING.md` of each library shows one.
 #![tactic(auto)]
 
+pub mod handle;
 pub mod moments;
 pub mod owner;
 pub mod parties;

@@ -1,5 +1,6 @@
 //! The callers that `exclusive_queue/CALLING.md` and `queue_steps/CALLING.md` show.
-ghost use Rattle.std.specs.Prelude.{◌≡◌, Some, IfOk, IfErr};
+ghost use Rattle.std.specs.Prelude.{◌≡◌, ◌≢◌, ◌<◌, ℕ, List, [], ◌∷◌, ◌++◌, false, None, Some, IfOk, IfErr};
+ghost use Rattle.queue_steps.specs.declared.sizes.TheConstants.{LIMIT};
 ghost use Rattle.queue_steps.specs.declared.errors.PushError.TheVariants as push;
 ghost use Rattle.queue_steps.specs.declared.steps.types.Next.TheVariants as next;
 ghost use Rattle.queue_steps.specs.declared.steps.types.Local.TheVariants as local;
@@ -58,4 +59,31 @@ pub fn first_step_of_a_pop() -> Next<()>
 {
     let local = steps::start(Kind::Single, Call::Pop);
     steps::next(Kind::Single, local, Answer::Start)
+}
+
+/// Takes the front of a queue that has an item.
+pub fn take<A: Allocator>(queue: &mut Exclusive<u64, A>) -> u64
+    requires { queue.old.queue.items ≢ [] }
+    ensures { queue.old.queue ≡ record queue.new.queue { items = result ∷ queue.new.queue.items } }
+{
+    match queue.pop() {
+        Ok(item) => item,
+        Err(_) => unreachable!(),
+    }
+}
+
+/// Moves the front of an open queue with a capacity to its end.
+pub fn rotate<A: Allocator>(queue: &mut Exclusive<u64, A>)
+    requires some { queue.old.queue.items ≢ [] }
+    requires open { queue.old.queue.closed ≡ false }
+    requires bounded { queue.old.queue.cap ≢ None }
+    requires below { queue.old.queue.accepted < LIMIT }
+    ensures { (x : ℕ) (xs : List ℕ) → queue.old.queue.items ≡ x ∷ xs → queue.new.queue.items ≡ xs ++ x ∷ [] }
+{
+    queue.show_sound();
+    let front = take(queue);
+    match queue.push(front) {
+        Ok(()) => {}
+        Err(_) => unreachable!(),
+    }
 }

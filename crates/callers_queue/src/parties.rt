@@ -1,7 +1,8 @@
 //! Callers of `concurrent_queue`; its `CALLING.md` shows the first.
-ghost use Rattle.std.specs.Prelude.{◌≡◌, true, Some, IfOk};
+ghost use Rattle.std.specs.Prelude.{◌≡◌, ◌<◌, true, Some, IfOk};
 ghost use Rattle.queue_steps.specs.Shares.{SamePart, entire};
 ghost use Rattle.concurrent_queue.specs.Shared.{IsPartyOf};
+ghost use denote.Param.Send.{IsSync};
 
 use concurrent_queue::{ConcurrentQueue, NullTestable, Party, PopError, PushError};
 use std::alloc::{AllocError, Allocator, Global};
@@ -67,6 +68,63 @@ pub fn hand_over<R: Threads + Wait + Sync>(
         rt,
         || send_all(rt, &queue, first, count),
         || receive_all(rt, &queue, second),
+    );
+    let party = queue.join(first, second);
+    match queue.finish(party) {
+        Ok(left) => Ok((sum, left.len())),
+        Err(_) => unreachable!(),
+    }
+}
+
+/// Pops in this thread and in so many others, each with a party of its own, until the queue is closed and empty. Gives the party that they become again, and the sum of what came.
+#[tactic(auto, using(crate::proofs::Halves::whole_again))]
+fn receive_by_many<R: Threads + Wait + Sync>(
+    rt: &R,
+    queue: &ConcurrentQueue<u64>,
+    party: Party<u64>,
+    others: u64,
+) -> (Party<u64>, u64)
+    requires { IsPartyOf party queue.now }
+    ensures { IsPartyOf result.0 queue.now × SamePart result.0.view.share party.view.share }
+{
+    if others == 0 {
+        return receive_all(rt, queue, party);
+    }
+    match queue.split(party) {
+        Err(party) => receive_all(rt, queue, party),
+        Ok((first, second)) => {
+            let ((first, sum), (second, more)) = join(
+                rt,
+                || receive_all(rt, queue, first),
+                || -> (Party<u64>, u64)
+                    requires { IsSync R.row × IsPartyOf second queue.now × (0 < others) }
+                    ensures { IsPartyOf result.0 queue.entry.now × SamePart result.0.view.share second.view.share }
+                { receive_by_many(rt, queue, second, others - 1) },
+            );
+            (queue.join(first, second), sum.wrapping_add(more))
+        }
+    }
+}
+
+/// Sends numbers to so many threads. Gives their sum, and how many are left.
+#[tactic(auto, using(crate::proofs::Halves::all_again))]
+pub fn hand_to_many<R: Threads + Wait + Sync>(
+    rt: &R,
+    alloc: Global,
+    count: u64,
+    others: u64,
+) -> Result<(u64, usize), AllocError> {
+    let (queue, party) = ConcurrentQueue::bounded(alloc, 4)?;
+    let Ok((first, second)) = queue.split(party) else {
+        unreachable!()
+    };
+    let (first, (second, sum)) = join(
+        rt,
+        || send_all(rt, &queue, first, count),
+        || -> (Party<u64>, u64)
+            requires { IsSync R.row × IsPartyOf second queue }
+            ensures { IsPartyOf result.0 queue × SamePart result.0.view.share second.view.share }
+        { receive_by_many(rt, &queue, second, others) },
     );
     let party = queue.join(first, second);
     match queue.finish(party) {
