@@ -11,8 +11,8 @@ use Rattle.callers_queue.specs.Displaced.{DisplacedAtOnce}
 displaced_at_once : {T : Type 0} (cap : Option ℕ) (v w : View T) (old value : T) → SharedCall cap v w (call.ForcePush value) (reply.ForcePush (Ok (Some old))) → DisplacedAtOnce cap v w old value
 displaced_at_once cap v w old value calls h legal begins =
     let all = shared_calls_at_once cap h legal in
-    let c = all.1 v w (call.ForcePush value) (reply.ForcePush (Ok (Some old))) begins calls in
-    (all.0, (c.effects, c.tells, c.together))
+    let c = all.2 v w (call.ForcePush value) (reply.ForcePush (Ok (Some old))) begins calls in
+    (all.0, all.1, record { places = c.places; mine = c.mine; effects = c.effects; tells = c.tells; together = c.together })
 
 pub displaced : {T : Type 0} (q : QueueId) (v w : Person T) (value : T) (out : Option T) → IsPartyOf v q → Calls v (call.ForcePush value) (reply.ForcePush (Ok out)) w
     → IfSome out (λ old. DisplacedAtOnce q.cap v.view w.view old value)

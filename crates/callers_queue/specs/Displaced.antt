@@ -1,18 +1,27 @@
 -- What a forced push that displaced an item is in what the history of its queue settles into.
-use Rattle.std.specs.Prelude.{ℕ, List, length, Option, Some, Ok}
+use Rattle.std.specs.Prelude.{◌≡◌, ℕ, List, ◌++◌, length, Option, Some, Ok}
 use mathlib.Core.List.{IsPrefix}
 use Rattle.queue_steps.specs.declared.model.Call.TheVariants as call
 use Rattle.queue_steps.specs.declared.model.Reply.TheVariants as reply
 use Rattle.queue_steps.specs.declared.model.Effect.{Effect}
-use Rattle.queue_steps.specs.Effect.{IsHistory}
+use Rattle.queue_steps.specs.Effect.{IsHistory, after}
 use Rattle.queue_steps.specs.Replies.{Tells}
 use Rattle.queue_steps.specs.Parties.{View}
-use Rattle.law_moments.specs.Moments.{IsAtOnce}
+use Rattle.law_moments.specs.Moments.{IsAtOnce, arrived}
 use Rattle.law_moments.specs.Entries.{effects_in}
-use Rattle.law_moments.specs.Shared.{settled_history, StandsTogether}
+use Rattle.law_moments.specs.Shared.{is_own, settled_history, StandsTogether}
 
--- Whatever history goes on from what the party has seen: in what it settles into, a history in which each displacement is one moment, the old item goes and the value comes with nothing between the two,
--- past what the party had seen before and within what it has seen then.
+-- At the places that the party's call has added, its effects are those of a forced push that put the value for the old item, in what the history h settles into: one right after the other, past what the party
+-- had seen before and within what it has seen then.
+pub record IsDisplacedIn {T : Type 0} (h : List (Effect T)) (v w : View T) (old value : T) : Type 0 where
+  pub places : List ℕ
+  pub mine : w.mine ≡ v.mine ++ places
+  pub effects : List (Effect T)
+  pub tells : Tells (call.ForcePush value) (reply.ForcePush (Ok (Some old))) effects
+  pub together : StandsTogether (settled_history h) (is_own places (length v.seen) (length w.seen)) (length v.seen) (length w.seen) effects
+
+-- Whatever history goes on from what the party has seen: what it settles into is a history in which each displacement is one moment, with the same end once all has arrived, and in it the old item goes
+-- and the value comes with nothing between the two.
 abbrev pub DisplacedAtOnce : {T : Type 0} → Option ℕ → View T → View T → T → T → Type 0
 DisplacedAtOnce {T} cap v w old value = (h : List (Effect T)) → IsHistory cap h → IsPrefix w.seen h
-    → IsAtOnce cap (effects_in (settled_history h)) × ((es : List (Effect T)) × Tells (call.ForcePush value) (reply.ForcePush (Ok (Some old))) es × StandsTogether (settled_history h) (length v.seen) (length w.seen) es)
+    → IsAtOnce cap (effects_in (settled_history h)) × (after cap (effects_in (settled_history h)) ≡ arrived (after cap h)) × IsDisplacedIn h v w old value

@@ -32,6 +32,7 @@ histories_settle {T} cap H legal in_order =
     let same = effects_settle H in
     record {
       legal = subst (IsAtOnce cap) (sym same) whole.legal;
+      effects = same;
       calm = λ n. ap (λ (l : List (Effect T)). (after cap l).coming) (settle_before n 0 H up) ∙ (settles_before cap H legal up n).calm;
       in_order = flat_pairs 0 (settle H) (settle_flat 0 H up);
       left = ap (after cap) same ∙ whole.same (inl refl);

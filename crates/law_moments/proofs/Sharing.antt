@@ -16,7 +16,7 @@ use Rattle.queue_steps.specs.declared.model.Effect.{Effect}
 use Rattle.queue_steps.specs.declared.model.Effect.TheVariants as effect
 use Rattle.queue_steps.specs.Parties.{View, StandAt, Displaces, SharedCall}
 use Rattle.queue_steps.proofs.Places.{below_at}
-use Rattle.law_moments.specs.Moments.{displacements}
+use Rattle.law_moments.specs.Moments.{arrived, displacements}
 use Rattle.law_moments.specs.Entries.{Entry, chosen, effects_in, state_before, SeesNoMove, ClosesWithin, own_of, SettlesInto}
 use Rattle.law_moments.specs.Shared.{numbered, settled_history, is_one_of, is_own, CallsAtOnce, SharedCallsAtOnce}
 use Rattle.law_moments.proofs.Naming.{Rising}
@@ -287,4 +287,4 @@ module _ {T : Type 0} where
 pub shared_calls_at_once : {T : Type 0} → SharedCallsAtOnce T
 shared_calls_at_once {T} limit h legal =
     let settles : SettlesInto limit (numbered 0 h) (settled_history h) = histories_settle limit (numbered 0 h) (subst (IsHistory limit) (sym (effects_numbered 0 h)) legal) (numbered_rise 0 h) in
-    (settles.legal, λ v w c r begins s. call_settles limit h begins.0 v w c r settles begins.1 s)
+    (settles.legal, settles.left ∙ ap (λ (l : List (Effect T)). arrived (after limit l)) (effects_numbered 0 h), λ v w c r begins s. call_settles limit h begins.0 v w c r settles begins.1 s)

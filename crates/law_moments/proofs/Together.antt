@@ -105,8 +105,8 @@ module _ {T : Type 0} where
       ]
 
   pub stands_together : (own : ℕ → ℕ → Bool) (S : List (Entry T)) (from upto : ℕ) (es : List (Effect T)) → Paired S → IsFew es → own_of own S ≡ es
-      → ((p n : ℕ) → own p n ≡ true → (from ≤ n) × (n < upto)) → StandsTogether S from upto es
-  stands_together own S from upto es pairs (inl none) is inside = record { before = []; own = []; behind = S; all = refl; effects = sym none; inside = tt }
+      → ((p n : ℕ) → own p n ≡ true → (from ≤ n) × (n < upto)) → StandsTogether S own from upto es
+  stands_together own S from upto es pairs (inl none) is inside = record { before = []; own = []; behind = S; all = refl; effects = sym none; whole = is; its = tt; inside = tt }
   stands_together own S from upto es pairs (inr (inl one)) is inside =
       let f = first_own own S one.0 [] (is ∙ one.1) in
       record {
@@ -115,6 +115,8 @@ module _ {T : Type 0} where
         behind = f.behind;
         all = f.all;
         effects = ap (λ (e : Effect T). e ∷ []) f.does ∙ sym one.1;
+        whole = is;
+        its = (f.passes, tt);
         inside = (inside f.first.party f.first.event f.passes, tt);
       }
   stands_together own S from upto es pairs (inr (inr two)) is inside =
@@ -129,5 +131,7 @@ module _ {T : Type 0} where
         behind = arrive.0;
         all = f.all ∙ ap (λ (l : List (Entry T)). f.before ++ (f.first ∷ l)) arrive.1;
         effects = ap (λ (e : Effect T). e ∷ effect.Arrive ∷ []) f.does ∙ sym two.2;
+        whole = is;
+        its = (f.passes, (f.passes, tt));
         inside = (here, (here, tt));
       }

@@ -8,7 +8,7 @@ use Rattle.queue_steps.specs.declared.model.Effect.{Effect}
 use Rattle.queue_steps.specs.declared.model.Effect.TheVariants as effect
 use Rattle.queue_steps.specs.Effect.{IsHistory, after}
 use Rattle.queue_steps.specs.Replies.{Allows, Tells}
-use Rattle.law_moments.specs.Moments.{IsAtOnce, IsGlance, arrived}
+use Rattle.law_moments.specs.Moments.{IsAtOnce, IsGlance, arrived, settled}
 
 -- one effect of a run: the number of its event, the party whose step it was, and what it did
 pub record Entry (T : Type 0) : Type 0 where
@@ -72,10 +72,11 @@ ClosesWithin own (x ∷ xs) = (x.effect ≡ effect.Close → SeesNoMove own x.ev
 abbrev pub own_of : {T : Type 0} → (ℕ → ℕ → Bool) → List (Entry T) → List (Effect T)
 own_of own H = chosen (λ x. own x.party x.event) H
 
--- The history S is what H settles into: each displacement of S is one moment, so before each event nothing is on its way in. It leaves what H leaves, once all has arrived. A call's effects are the same in both, and stand within the same
+-- The history S is what H settles into: its effects are what those of H settle into. Each displacement of S is one moment, so before each event nothing is on its way in. It leaves what H leaves, once all has arrived. A call's effects are the same in both, and stand within the same
 -- events; of a call that has begun to displace S has all. What a call may be answered without effect before an event it may be answered there in S, but not a glance while an item is on its way in.
 pub record SettlesInto {T : Type 0} (cap : Option ℕ) (H S : List (Entry T)) : Type 0 where
   pub legal : IsAtOnce cap (effects_in S)
+  pub effects : effects_in S ≡ settled (effects_in H) []
   pub calm : (n : ℕ) → (state_before cap S n).coming ≡ None
   pub in_order : AllPairs (λ x y. x.event ≤ y.event) S
   pub left : after cap (effects_in S) ≡ arrived (after cap (effects_in H))

@@ -19,12 +19,14 @@ use Rattle.law_moments.proofs.Glances.{cases_before, middle_or}
 use Rattle.law_moments.proofs.Shut.{In, each_with, each_in, each_append, same_cap, closed_by}
 use Rattle.law_moments.proofs.Settling.{sound_start, sound_after}
 use Rattle.law_moments.proofs.Histories.{rising, histories_settle}
+use Rattle.law_moments.proofs.Owning.{is_few}
+use Rattle.law_moments.proofs.Together.{settle_paired, stands_together}
 use Rattle.machine_steps.specs.declared.types.Event.{Event}
 use Rattle.machine_steps.specs.declared.types.Event.TheVariants.{Begin, Step}
 use Rattle.machine_replay.specs.Book.{IsBegun, has_steps}
 use Rattle.machine_replay.specs.InCall.{IsStepOf, IsUnanswered, IsInCall}
 use Rattle.machine_replay.specs.Meaning.{state_after, own_effects, SawOpen, IsOwn, EndsCall, RepliesAtOnce, IsAnswer}
-use Rattle.machine_replay.specs.AtOnce.{IsWithin, IsGlanced, DisplacesAtOnce}
+use Rattle.machine_replay.specs.AtOnce.{IsWithin, IsGlanced, IsWhole, DisplacesAtOnce}
 use Rattle.machine_replay.specs.Skips.{IsExact, SkippedIsExact}
 
 -- an effect at the event k, before the event n, is within a call from `first` to `last` exactly where one at n is
@@ -33,6 +35,10 @@ window_same first last k n lt inside outside = grind arith
 
 is_before : (k n : ℕ) → k ≤ n → nat_lt k (n + 1) ≡ true
 is_before k n le = grind arith
+
+within_call : (b : Bool) (first last n : ℕ) → (b && (nat_lt first n && nat_lt n (last + 1))) ≡ true → (first + 1 ≤ n) × (n < last + 1)
+within_call true first last n is = (grind arith, grind arith)
+within_call false first last n is = cc
 
 module _ (T : Type 0) (cap : Option ℕ) (parties : ℕ) (events : List (Event T)) (skipped : List ℕ) (R : List (ℕ × ℕ × Reply T)) (H : List (Entry T)) where
   abbrev Calls : ℕ → ℕ → Type 0
@@ -211,6 +217,14 @@ module _ (T : Type 0) (cap : Option ℕ) (parties : ℕ) (events : List (Event T
             ]
       ]
 
+  -- the call that a reply ends has its effects in a row
+  whole_there : SettlesInto cap H S → Exact → AllByRecursion Own H → Rising 0 H → (y : ℕ × ℕ × Reply T) → In y R → IsWhole cap events skipped R H S y
+  whole_there settles exact all up y has ends =
+      let c = ends.in_call in let own = mine y.1 c.first y.0 in
+      let within : ClosesWithin own H = closes_within exact y.1 y.0 c (ended_by y has) 0 H (λ x here. here) up all in
+      let same : own_of own S ≡ own_of own H = settles.own own c.call y.2 within ends.tells in
+      (same, stands_together own S (c.first + 1) (y.0 + 1) (own_of own H) (settle_paired H) (is_few c.call y.2 (own_of own H) ends.tells) same (λ p n. within_call (p == y.1) c.first y.0 n))
+
   -- nothing is ever on its way into a queue without a capacity
   none_uncapped : IsHistory cap (effects_in H) → Rising 0 H → (n : ℕ) → cap ≡ None → (state_before cap H n).coming ≡ None
   none_uncapped legal up n is =
@@ -272,10 +286,12 @@ displaces_at_once {T} {A} exact cap parties events r conforms h =
     let each = exact cap parties events r conforms in
     record {
       legal = settles.legal;
+      effects = settles.effects;
       calm = λ n. settles.calm (n + 1);
       in_order = settles.in_order;
       left = settles.left;
       own = settle_within T cap parties events skipped R H 0 H (λ x here. here) up h.own;
+      whole = each_with (IsAnswer cap events skipped H R) (IsWhole cap events skipped R H (settle H)) R (λ y has _. whole_there T cap parties events skipped R H settles each h.own up y has) h.answers;
       answers = each_with (IsAnswer cap events skipped H R) (λ y. IsAnswer cap events skipped (settle H) R y ⊎ IsGlanced cap events skipped H R y) R (answered_there T cap parties events skipped R H settles each h.legal h.own up) h.answers;
       unended = λ p c. begun_there T cap parties events skipped R H settles each h.own up p c (h.unended p c);
     }

@@ -1,17 +1,18 @@
 -- What a conforming replay means for all calls but three: a history in which each displacement is one moment.
-use Rattle.std.specs.Prelude.{◌≡◌, ◌⊎◌, ℕ, ◌+◌, ◌<◌, ◌≤◌, Option, Some, None, List, length, AllPairs}
+use Rattle.std.specs.Prelude.{◌≡◌, ◌⊎◌, ℕ, ◌+◌, ◌<◌, ◌≤◌, ◌==◌, ◌&&◌, nat_lt, Bool, Option, Some, None, List, [], length, AllPairs}
 use Rattle.std.specs.List.{AllByRecursion}
 use Rattle.queue_steps.specs.State.{State}
 use Rattle.queue_steps.specs.Effect.{after}
 use Rattle.queue_steps.specs.declared.model.Reply.{Reply}
-use Rattle.law_moments.specs.Moments.{IsAtOnce, IsGlance, arrived}
+use Rattle.law_moments.specs.Moments.{IsAtOnce, IsGlance, arrived, settled}
 use Rattle.law_moments.specs.Entries.{settle}
+use Rattle.law_moments.specs.Shared.{StandsTogether}
 use Rattle.machine_steps.specs.declared.types.Event.{Event}
 use Rattle.machine_steps.specs.declared.types.Replay.{Replay}
 use Rattle.machine_replay.specs.Book.{Allows, IsBegun}
 use Rattle.machine_replay.specs.Conforms.{Conforms}
 use Rattle.machine_replay.specs.InCall.{IsStepOf, IsInCall}
-use Rattle.machine_replay.specs.Meaning.{Entry, effects_in, state_after, own_effects, IsMoment, IsAnswer, HasHistory}
+use Rattle.machine_replay.specs.Meaning.{Entry, effects_in, state_after, own_effects, IsMoment, EndsCall, IsAnswer, HasHistory}
 
 -- an effect stands between two steps of the call that its party is in
 pub record IsWithin {T : Type 0} (events : List (Event T)) (skipped : List ℕ) (replies : List (ℕ × ℕ × Reply T)) (x : Entry T) : Type 0 where
@@ -35,14 +36,26 @@ pub record IsGlanced {T : Type 0} (cap : Option ℕ) (events : List (Event T)) (
   pub is_coming : moment.coming ≡ Some coming
   pub right : Allows in_call.call y.2 moment
 
--- The history S, in which each displacement is one moment, is one of the same run as H: it leaves what H leaves, once all has arrived; each effect stands between two steps of the call
--- that its party is in; each reply ends its call in S as it does in H, or is that of a glance at the middle of a displacement; each call that has not ended has a beginning of its effects in S.
+-- whether an effect of the party q at the event n is one of a call of the party p, after the event `first` and up to the event `last`
+abbrev pub is_of_call : ℕ → ℕ → ℕ → ℕ → ℕ → Bool
+is_of_call p first last q n = (q == p) && (nat_lt first n && nat_lt n (last + 1))
+
+-- the call that the reply y ends has the same effects in S as in H, and in S they are in a row, with nothing between
+abbrev pub IsWhole : {T : Type 0} → Option ℕ → List (Event T) → List ℕ → List (ℕ × ℕ × Reply T) → List (Entry T) → List (Entry T) → ℕ × ℕ × Reply T → Type 0
+IsWhole cap events skipped replies H S y =
+    (ends : EndsCall cap events skipped H replies y.0 y.1 y.2) → (own_effects y.1 ends.in_call.first y.0 S ≡ own_effects y.1 ends.in_call.first y.0 H)
+    × StandsTogether S (is_of_call y.1 ends.in_call.first y.0) (ends.in_call.first + 1) (y.0 + 1) (own_effects y.1 ends.in_call.first y.0 H)
+
+-- The history S, in which each displacement is one moment, is one of the same run as H: its effects are what those of H settle into, and it leaves what H leaves, once all has arrived; each effect stands
+-- between two steps of the call that its party is in; each call that has ended has the same effects as in H, with nothing between them; each reply ends its call in S as it does in H, or is that of a glance at the middle of a displacement; each call that has not ended has a beginning of its effects in S.
 pub record HasMoments {T A : Type 0} (cap : Option ℕ) (events : List (Event T)) (r : Replay T A) (H S : List (Entry T)) : Type 0 where
   pub legal : IsAtOnce cap (effects_in S)
+  pub effects : effects_in S ≡ settled (effects_in H) []
   pub calm : (n : ℕ) → (state_after cap S n).coming ≡ None
   pub in_order : AllPairs (λ x y. x.event ≤ y.event) S
   pub left : after cap (effects_in S) ≡ arrived (after cap (effects_in H))
   pub own : AllByRecursion (IsWithin events r.skipped.items r.replies.items) S
+  pub whole : AllByRecursion (IsWhole cap events r.skipped.items r.replies.items H S) r.replies.items
   pub answers : AllByRecursion (λ y. IsAnswer cap events r.skipped.items S r.replies.items y ⊎ IsGlanced cap events r.skipped.items H r.replies.items y) r.replies.items
   pub unended : (p : ℕ) (c : IsInCall events r.skipped.items r.replies.items p (length events)) → IsBegun c.call (own_effects p c.first (length events) S)
 

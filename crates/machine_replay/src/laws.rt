@@ -86,6 +86,8 @@ pub fn wait_free_calls_reply<T, A: Allocator>()
 
 /// The history of a conforming replay settles into one in which each displacement is one moment, between two steps of its own call.
 ///
+/// Each call that has ended has the same effects there, one right after the other, and what is left is what the history leaves once all has arrived.
+///
 /// Each reply ends its call there as it does in the history itself, but for a reply of `len`, `is_empty` or `is_full` that was read while an item was on its way in.
 pub fn displaces_at_once<T, A: Allocator>()
     ensures { DisplacesAtOnce T A }
