@@ -53,6 +53,7 @@ pub mod Peaking
 pub mod SoFar
 pub mod AllKinds
 pub mod MachineRuns
+pub mod BookRuns
 pub mod Noting
 pub mod Played
 pub mod OneOwner

@@ -3,6 +3,7 @@ pub mod Conforms
 pub mod Peaks
 pub mod Replays
 pub mod MachineRuns
+pub mod BookRuns
 pub mod Played
 pub mod OneOwner
 pub mod InCall

@@ -1,6 +1,7 @@
 //! The machine: a queue whose parties take their atomic steps in any order that a list of events names.
 #![tactic(auto)]
 
+pub mod books;
 mod chain_left;
 pub mod laws;
 mod left;
