@@ -1,4 +1,5 @@
 pub mod Walks
+pub mod Taking
 pub mod Reaching
 pub mod Preparing
 pub mod NoOther

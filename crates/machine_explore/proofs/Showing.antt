@@ -17,7 +17,7 @@ use Rattle.machine_steps.specs.declared.types.Event.{Event}
 use Rattle.machine_steps.specs.declared.types.Event.TheVariants.{Begin, Step}
 use Rattle.machine_steps.specs.declared.types.Told.{Told}
 use Rattle.machine_steps.specs.declared.types.Told.TheVariants.{Skipped, Ran}
-use Rattle.machine_explore.specs.Certified.{IsMove}
+use Rattle.machine_explore.specs.Certified.{IsMove, IsTaken}
 use Rattle.machine_explore.specs.Explored.{IsGranted, begun_by, replies_by}
 use Rattle.machine_explore.specs.Moves.{advanced, call_in, event_at, event_for, led, reply_in}
 use Rattle.machine_replay.specs.Played.{told_by, told_of, world_after, world_by}
@@ -26,6 +26,7 @@ use Rattle.machine_explore.specs.Starts.{IsStart}
 use Rattle.machine_explore.specs.Traces.{IsSeen, IsTraceOf, Seen, seen_at, trace_of}
 use Rattle.machine_explore.specs.declared.schedule.Move.{Move}
 use Rattle.machine_explore.proofs.NoOther.{ends_with, none_begun}
+use Rattle.machine_explore.proofs.Taking.{count_first, event_taken, same_count}
 use Rattle.machine_explore.proofs.Reaching.{if-true, if-false, progress-other, progress-own, same_party}
 
 -- one event more
@@ -110,6 +111,8 @@ pub record IsUnderWay (k : Kind) (refuses : Bool) (calls : List (List (Call ℕ)
   pub rest : List (Event ℕ)
   pub moves : AllZip IsMove schedule rest
   pub grants : refuses ≡ false → All IsGranted rest
+  pub taken : All IsTaken (told_of k w rest)
+  pub calls_are : length s.world.calls ≡ length calls
   pub seen_are : seen ≡ trace_of k w rest
   pub kind : s.kind ≡ k
   pub world : s.world ≡ world_after k w rest
@@ -123,6 +126,8 @@ under_way-first k refuses before calls s start = record {
   rest = [];
   moves = tt;
   grants = λ h. All-nil IsGranted;
+  taken = All-nil IsTaken;
+  calls_are = count_first k before (length calls) s start;
   seen_are = refl;
   kind = start.kind;
   world = refl;
@@ -138,6 +143,8 @@ under_way-next k refuses calls w schedule seen s m e on may is = record {
   rest = on.rest ++ e ∷ [];
   moves = all_zipped_more IsMove schedule on.rest m e on.moves (is_move m (call_at s.world m.party) (slice_get (calls_of calls m.party) (progress_of s m.party).begun) e is);
   grants = λ h. All-push IsGranted on.rest e (on.grants h) (way.grants (may h));
+  taken = subst (λ l. All IsTaken l) (sym told_more) (All-push IsTaken (told_of k w on.rest) t on.taken (event_taken (step_of s.kind) (start_of s.kind) calls s m.party m.granted e on.calls_are is));
+  calls_are = same_count (step_of s.kind) (start_of s.kind) s.world e ∙ on.calls_are;
   seen_are = ap (λ l. l ++ seen_at s.kind s.world e ∷ []) on.seen_are ∙ ap (λ x. trace_of k w on.rest ++ x ∷ []) same_seen ∙ sym (trace_of-snoc k on.rest w e);
   kind = on.kind;
   world = ap (λ x. (world_event (step_of x) (start_of x) s.world true e).0) on.kind ∙ ap (λ x. (world_event (step_of k) (start_of k) x true e).0) on.world ∙ sym (world_by-snoc (step_of k) (start_of k) on.rest w e);
@@ -251,6 +258,7 @@ shows k refuses before calls schedule seen start end starts on begun final =
           };
         };
         moves = from.moves;
+        taken = from.taken;
         outcome = ends_with k calls w from.rest end from.kind from.world from.parties (λ p h. sym (from.replies p h));
       };
       opening = ap (λ x. left_of k x) same;

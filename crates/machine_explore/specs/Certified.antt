@@ -1,10 +1,14 @@
 -- When a schedule shows an outcome.
-use Rattle.std.specs.Prelude.{◌≡◌, ℕ, Bool, List, length}
-use Rattle.std.specs.List.{AllZip}
+use Rattle.std.specs.Prelude.{◌≡◌, ◌≢◌, ℕ, Bool, List, length}
+use Rattle.std.specs.List.{All, AllZip}
 use Rattle.queue_steps.specs.declared.model.Call.{Call}
 use Rattle.queue_steps.specs.declared.steps.types.Kind.{Kind}
 use Rattle.machine_steps.specs.declared.types.Event.{Event}
 use Rattle.machine_steps.specs.declared.types.Event.TheVariants.{Begin, Step}
+use Rattle.machine_steps.specs.declared.types.Told.{Told}
+use Rattle.machine_steps.specs.declared.types.Told.TheVariants.{Skipped}
+use Rattle.machine_steps.specs.Left.{opening_world}
+use Rattle.machine_replay.specs.Played.{told_of, world_after}
 use Rattle.machine_explore.specs.declared.schedule.Move.{Move}
 use Rattle.machine_explore.specs.Explored.{IsRunOf, outcome_of_run}
 use Rattle.machine_explore.specs.Positions.{Outcome}
@@ -14,10 +18,15 @@ abbrev pub IsMove : Move → Event ℕ → Type 0
 IsMove m (Begin p c) = p ≡ m.party
 IsMove m (Step p granted) = (p ≡ m.party) × (granted ≡ m.granted)
 
--- by these moves, behind the calls that come first, the program runs to this outcome
+-- the event of which this is told took place
+abbrev pub IsTaken : Told ℕ → Type 0
+IsTaken t = t ≢ Skipped
+
+-- by these moves, after the calls that come first, the program runs to this outcome. Each move takes place, none is skipped
 pub record IsOutcomeOf (k : Kind) (refuses : Bool) (before : List (Call ℕ)) (calls : List (List (Call ℕ))) (schedule : List Move) (o : Outcome ℕ) : Type 0 where
   pub first : List (Event ℕ)
   pub rest : List (Event ℕ)
   pub run : IsRunOf k refuses before calls first rest
   pub moves : AllZip IsMove schedule rest
+  pub taken : All IsTaken (told_of k (world_after k (opening_world k (length calls)) first) rest)
   pub outcome : o ≡ outcome_of_run k (length calls) first rest
