@@ -1,2 +1,3 @@
 pub mod Doings
 pub mod Whole
+pub mod Laws

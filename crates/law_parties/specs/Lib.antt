@@ -1,1 +1,2 @@
 pub mod Doings
+pub mod Laws

@@ -1,0 +1,45 @@
+-- What is so of what parties did, whatever they call.
+use Rattle.std.specs.Prelude.{◌≡◌, ℕ, ◌+◌, ◌==◌, Bool, Option, None, List, [], ◌++◌}
+use Rattle.std.specs.List.{count_by}
+use mathlib.Core.List.{IsPrefix}
+use Rattle.queue_steps.specs.declared.model.Call.{Call}
+use Rattle.queue_steps.specs.declared.model.Reply.{Reply}
+use Rattle.queue_steps.specs.declared.model.Effect.{Effect}
+use Rattle.queue_steps.specs.Effect.{IsHistory, after}
+use Rattle.queue_steps.specs.Parties.{View, IsView, IsWhole, Split, Join, Meet}
+use Rattle.concurrent_queue.specs.Shared.{Person, Calls}
+use Rattle.law_parties.specs.Doings.{done_by, hands_in, hands_out, Did, Acts, SawClosed}
+
+-- a call adds the effects at its places
+abbrev pub CallsAct : Type 0 → Type 0
+CallsAct T = (v w : Person T) (c : Call T) (r : Reply T) → IsView v.queue.cap v.view → (call : Calls v c r w) → Acts v w call.1.effects
+
+-- nothing is done without a call, and what is done adds up
+abbrev pub DoingsAddUp : Type 0 → Type 0
+DoingsAddUp T = ((v : Person T) → Acts v v []) × ((u v w : Person T) (es fs : List (Effect T)) → Acts u v es → Acts v w fs → Acts u w (es ++ fs))
+
+-- of the two parts of a party the first did what the party did, and the other nothing
+abbrev pub SplitsKeepDoings : Type 0 → Type 0
+SplitsKeepDoings T = (cap : Option ℕ) (v a b : View T) → IsView cap v → Split cap v a b → Did v a [] × ((test : Effect T → Bool) → done_by test b ≡ 0)
+
+-- the party that two become did what both did
+abbrev pub JoinsAddDoings : Type 0 → Type 0
+JoinsAddDoings T = (cap : Option ℕ) (a b w : View T) → IsView cap a → IsView cap b → Join cap a b w → (test : Effect T → Bool) → done_by test w ≡ done_by test a + done_by test b
+
+-- two parties that meet did what they did
+abbrev pub MeetsKeepDoings : Type 0 → Type 0
+MeetsKeepDoings T = (cap : Option ℕ) (a b c d : View T) → IsView cap a → IsView cap b → Meet cap a b c d → Did a c [] × Did b d []
+
+-- the party to whom every place belongs did all of the history
+abbrev pub WholeDidAll : Type 0 → Type 0
+WholeDidAll T = (cap : Option ℕ) (v : View T) → IsView cap v → IsWhole v → (test : Effect T → Bool) → done_by test v ≡ count_by test v.seen
+
+-- as often as it handed a number in, it handed it out, or the number is left
+abbrev pub NumbersAreKept : Type 0
+NumbersAreKept =
+    (cap : Option ℕ) (v : View ℕ) (x : ℕ) → IsView cap v → IsWhole v → (after cap v.seen).coming ≡ None
+    → done_by (hands_in x) v ≡ done_by (hands_out x) v + count_by (λ y. y == x) (after cap v.seen).items
+
+-- what was seen closed is seen closed from then on
+abbrev pub ClosedStaysSeen : Type 0 → Type 0
+ClosedStaysSeen T = (v w : Person T) → w.queue ≡ v.queue → IsPrefix v.view.seen w.view.seen → IsHistory w.queue.cap w.view.seen → SawClosed v → SawClosed w
