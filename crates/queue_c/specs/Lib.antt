@@ -1,0 +1,5 @@
+pub mod Held
+pub mod Answers
+pub mod Fits
+pub mod Ends
+pub mod Handles
