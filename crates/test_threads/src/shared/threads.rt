@@ -2,7 +2,8 @@
 use crate::asserts::{is, is_in};
 use crate::crew::{Board, Deed, Role, TURNS, Task, crew};
 use crate::opening::{end, open_surely};
-use callers_queue::parties::{closed_by_many, hand_over, through_a_shared_slot};
+use callers_queue::handle::sum_of_a_thread;
+use callers_queue::parties::{closed_by_many, hand_over, hand_to_many, through_a_shared_slot};
 use std::alloc::Global;
 use std::process::Abort;
 use std::sync::Wait;
@@ -82,6 +83,21 @@ fn ring_buffer_of_four_threads(rt: HostRuntime) {
 #[test]
 fn handed_over(rt: HostRuntime) {
     is(&rt, hand_over(&rt, rt.alloc(), TURNS), Ok((312_487_500, 0)));
+}
+
+#[test]
+fn handed_to_one_and_to_five(rt: HostRuntime) {
+    for others in [0u64, 4] {
+        let handed = hand_to_many(&rt, rt.alloc(), 1000, others);
+        is_in(&rt, others, handed, Ok((499_500, 0)));
+    }
+}
+
+#[test]
+fn sent_by_a_thread_with_a_handle(rt: HostRuntime) {
+    let (sum, handle) = sum_of_a_thread(rt, rt.alloc(), 1000).expect(&rt, "memory");
+    let left = handle.finish().map(|left| left.len());
+    is(&rt, (sum, left), (499_500, Some(0)));
 }
 
 #[test]
