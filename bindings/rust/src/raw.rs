@@ -1,0 +1,260 @@
+//! All of this crate that is `unsafe`: the library's functions, items as words, and the places of a pool.
+//!
+//! Nothing but the tests compares the declarations with `bindings/c/queue_c.h`.
+use crate::errors::{ForcePushError, PopError, PushError};
+use std::alloc::{Layout, handle_alloc_error};
+use std::ffi::c_void;
+use std::marker::PhantomData;
+use std::mem::{self, MaybeUninit};
+use std::ptr::null_mut;
+use std::sync::atomic::{AtomicPtr, Ordering};
+use std::thread::yield_now;
+
+const DONE: u32 = 0;
+const YES: u32 = 1;
+const FULL: u32 = 2;
+const EMPTY: u32 = 3;
+const CLOSED: u32 = 4;
+const PENDING: u32 = 12;
+
+/// A word of the queue: an item of at most its size, or a box of a larger one. The library never looks at it.
+type Word = MaybeUninit<u64>;
+
+/// A party as C sees it, or none where the pointer is null.
+#[repr(C)]
+struct Handle {
+    at: *mut c_void,
+}
+
+const NO_PARTY: Handle = Handle { at: null_mut() };
+
+unsafe extern "C" {
+    fn queue_c_bounded(out: &mut Handle, cap: usize) -> u32;
+    fn queue_c_unbounded(out: &mut Handle) -> u32;
+    fn queue_c_split(party: &mut Handle, out: &mut Handle) -> u32;
+    fn queue_c_drop(party: &mut Handle) -> u32;
+    fn queue_c_push(party: &mut Handle, value: Word) -> u32;
+    fn queue_c_force_push(party: &mut Handle, value: Word, old: &mut Word) -> u32;
+    fn queue_c_pop(party: &mut Handle, value: &mut Word) -> u32;
+    fn queue_c_len(party: &mut Handle, len: &mut u64) -> u32;
+    fn queue_c_resume(party: &mut Handle, value: &mut Word) -> u32;
+    fn queue_c_close(party: &mut Handle) -> u32;
+    fn queue_c_is_closed(party: &mut Handle) -> u32;
+    fn queue_c_is_empty(party: &mut Handle) -> u32;
+    fn queue_c_is_full(party: &mut Handle) -> u32;
+}
+
+const fn fits_a_word<T>() -> bool {
+    size_of::<T>() <= size_of::<Word>() && align_of::<T>() <= align_of::<Word>()
+}
+
+fn pack<T>(item: T) -> Word {
+    let mut word = Word::uninit();
+    if fits_a_word::<T>() {
+        // SAFETY: the word is as large and as aligned as the item.
+        unsafe { word.as_mut_ptr().cast::<T>().write(item) };
+    } else {
+        // SAFETY: a box of a sized item is one pointer.
+        unsafe { word.as_mut_ptr().cast::<Box<T>>().write(Box::new(item)) };
+    }
+    word
+}
+
+/// # Safety
+///
+/// The word was made by `pack` for this type, and this is the only item that is made of it.
+unsafe fn unpack<T>(word: Word) -> T {
+    if fits_a_word::<T>() {
+        // SAFETY: `pack` wrote the item, by the same test.
+        unsafe { word.as_ptr().cast::<T>().read() }
+    } else {
+        // SAFETY: `pack` wrote the box.
+        unsafe { *word.as_ptr().cast::<Box<T>>().read() }
+    }
+}
+
+fn no_memory<T>() -> ! {
+    handle_alloc_error(Layout::new::<T>())
+}
+
+/// A party of a queue of such items. All parties of its queue have that type, since each is made by `new` or `split`. It has no pending call between its methods,
+/// which give way to other threads and take their call up again until they have its reply.
+pub struct Party<T> {
+    handle: Handle,
+    items: PhantomData<T>,
+}
+
+// SAFETY: the library proves of its party that it may go to another thread; the items that it moves there may do so too.
+unsafe impl<T: Send> Send for Party<T> {}
+
+impl<T> Party<T> {
+    fn of(handle: Handle) -> Self {
+        Party { handle, items: PhantomData }
+    }
+
+    /// The first party of a new queue of this capacity, or of one without a limit.
+    pub fn new(cap: Option<usize>) -> Self {
+        let mut handle = NO_PARTY;
+        // SAFETY: the handle is new, and only this call has it.
+        let answer = match cap {
+            Some(cap) => unsafe { queue_c_bounded(&mut handle, cap) },
+            None => unsafe { queue_c_unbounded(&mut handle) },
+        };
+        if answer != DONE {
+            no_memory::<T>();
+        }
+        Party::of(handle)
+    }
+
+    /// Another party of the same queue.
+    pub fn split(&mut self) -> Self {
+        let mut other = NO_PARTY;
+        // SAFETY: two handles, and only this call has them.
+        if unsafe { queue_c_split(&mut self.handle, &mut other) } != DONE {
+            no_memory::<T>();
+        }
+        Party::of(other)
+    }
+
+    #[cold]
+    fn wait(&mut self, value: &mut Word) -> u32 {
+        loop {
+            yield_now();
+            // SAFETY: only this call has the handle, and the word is no part of it.
+            let answer = unsafe { queue_c_resume(&mut self.handle, value) };
+            if answer != PENDING {
+                return answer;
+            }
+        }
+    }
+
+    #[inline]
+    pub fn push(&mut self, item: T) -> Result<(), PushError<T>> {
+        let word = pack(item);
+        // SAFETY: only this call has the handle.
+        let mut answer = unsafe { queue_c_push(&mut self.handle, word) };
+        if answer == PENDING {
+            answer = self.wait(&mut Word::uninit());
+        }
+        if answer == DONE {
+            return Ok(());
+        }
+        // SAFETY: the word was not pushed, so its item is made here alone.
+        let item = unsafe { unpack(word) };
+        match answer {
+            FULL => Err(PushError::Full(item)),
+            CLOSED => Err(PushError::Closed(item)),
+            _ => no_memory::<T>(),
+        }
+    }
+
+    pub fn force_push(&mut self, item: T) -> Result<Option<T>, ForcePushError<T>> {
+        let word = pack(item);
+        let mut old = Word::uninit();
+        // SAFETY: only this call has the handle, and `old` is no part of it.
+        let mut answer = unsafe { queue_c_force_push(&mut self.handle, word, &mut old) };
+        if answer == PENDING {
+            answer = self.wait(&mut old);
+        }
+        match answer {
+            DONE => Ok(None),
+            // SAFETY: the word was in the queue, and is not any more.
+            YES => Ok(Some(unsafe { unpack(old) })),
+            // SAFETY: the word was not pushed.
+            CLOSED => Err(ForcePushError(unsafe { unpack(word) })),
+            _ => no_memory::<T>(),
+        }
+    }
+
+    #[inline]
+    pub fn pop(&mut self) -> Result<T, PopError> {
+        let mut word = Word::uninit();
+        // SAFETY: only this call has the handle, and the word is no part of it.
+        let mut answer = unsafe { queue_c_pop(&mut self.handle, &mut word) };
+        if answer == PENDING {
+            answer = self.wait(&mut word);
+        }
+        match answer {
+            // SAFETY: the word was in the queue, and is not any more.
+            DONE => Ok(unsafe { unpack(word) }),
+            EMPTY => Err(PopError::Empty),
+            _ => Err(PopError::Closed),
+        }
+    }
+
+    pub fn len(&mut self) -> usize {
+        let mut len = 0;
+        // SAFETY: only this call has the handle, and `len` is no part of it.
+        if unsafe { queue_c_len(&mut self.handle, &mut len) } == PENDING {
+            let mut word = Word::uninit();
+            self.wait(&mut word);
+            // SAFETY: the reply of this call has a length, which the library wrote there.
+            len = unsafe { word.assume_init() };
+        }
+        len as usize
+    }
+
+    pub fn close(&mut self) -> bool {
+        // SAFETY, here and in the next three: only this call has the handle.
+        unsafe { queue_c_close(&mut self.handle) == YES }
+    }
+
+    pub fn is_closed(&mut self) -> bool {
+        unsafe { queue_c_is_closed(&mut self.handle) == YES }
+    }
+
+    pub fn is_empty(&mut self) -> bool {
+        unsafe { queue_c_is_empty(&mut self.handle) == YES }
+    }
+
+    pub fn is_full(&mut self) -> bool {
+        unsafe { queue_c_is_full(&mut self.handle) == YES }
+    }
+}
+
+impl<T> Drop for Party<T> {
+    fn drop(&mut self) {
+        // SAFETY: only this call has the handle. One that went to a place is null.
+        unsafe { queue_c_drop(&mut self.handle) };
+    }
+}
+
+/// A place for a party, on cache lines of its own. The party that is there is nowhere else.
+#[repr(align(128))]
+pub struct Place<T> {
+    at: AtomicPtr<c_void>,
+    items: PhantomData<Party<T>>,
+}
+
+// SAFETY: threads only move whole parties in and out, by one atomic operation.
+unsafe impl<T: Send> Send for Place<T> {}
+unsafe impl<T: Send> Sync for Place<T> {}
+
+impl<T> Place<T> {
+    pub fn new() -> Self {
+        Place { at: AtomicPtr::new(null_mut()), items: PhantomData }
+    }
+
+    fn swap(&self, at: *mut c_void) -> Option<Party<T>> {
+        let at = self.at.swap(at, Ordering::SeqCst);
+        // The pointer of a party was there alone, and is now here alone.
+        (!at.is_null()).then(|| Party::of(Handle { at }))
+    }
+
+    #[inline]
+    pub fn take(&self) -> Option<Party<T>> {
+        self.swap(null_mut())
+    }
+
+    /// Puts a party in, and hands out the one that was there.
+    #[inline]
+    pub fn put(&self, mut party: Party<T>) -> Option<Party<T>> {
+        self.swap(mem::replace(&mut party.handle.at, null_mut()))
+    }
+}
+
+impl<T> Drop for Place<T> {
+    fn drop(&mut self) {
+        drop(self.take());
+    }
+}
