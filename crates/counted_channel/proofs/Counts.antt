@@ -6,8 +6,8 @@ use lib.ListN.{get_elem?}
 use native.Mathlib.Decide.{dec_le}
 use native.Mathlib.Nat.{add-mod_right}
 use Rattle.atomic_table.specs.Table.{Act, keeps, step, stepped, carried_after, Valid, Allows, Splits, Joins}
-use Rattle.queue_steps.specs.Shares.{Share, entire, nothing, half, plus, IsEntire, IsSome, weight}
-use Rattle.queue_steps.proofs.ShareLaws.{weight_halves, weight_none}
+use Rattle.queue_steps.specs.Shares.{Share, entire, nothing, half, plus, IsEntire, IsPart, IsSome, weight}
+use Rattle.queue_steps.proofs.ShareLaws.{part_weight, weight_halves, weight_none}
 use Rattle.counted_channel.specs.declared.counting.Side.{Side}
 use Rattle.counted_channel.specs.declared.counting.SeatCounts.{SeatCounts}
 use Rattle.counted_channel.specs.declared.counting.TheConstants.{MAX_ENDS}
@@ -71,13 +71,15 @@ turns s c i m id v x y lt at is more sum low on same =
 
 -- what the word is where a seat counts so
 one_there : (s : Table) → IsCounted s → (i id : ℕ) (v : SeatCounts) (x : Side) → i < 2 → get_elem? s.views id ≡ some v → v ≡ at_side i x
-    → (word_at i s ≤ 2 * MAX_ENDS) × (x.ends + x.extra ≤ word_at i s) × (IsEntire x.stake → word_at i s ≡ x.ends + x.extra)
+    → (word_at i s ≤ 2 * MAX_ENDS) × (x.ends + x.extra ≤ word_at i s) × (IsEntire x.stake → word_at i s ≡ x.ends + x.extra) × IsPart x.stake
 one_there s c i id v x lt at is =
     let was : side_at i v ≡ x = ap (side_at i) is ∙ same_side i x in
     let k = kept_at s c i lt in
     let e = total_at (ends (side_at i)) s.views id v at in let f = total_at (extra (side_at i)) s.views id v at in
-    subst (λ (p : Side). (word_at i s ≤ 2 * MAX_ENDS) × (p.ends + p.extra ≤ word_at i s) × (IsEntire p.stake → word_at i s ≡ p.ends + p.extra)) was
-    (few (side_at i) (word_at i s) s.views k, omega (arith, e, f, k.counted), solo (side_at i) (word_at i s) id s.views v k at)
+    let own = total_at (heft (side_at i) k.depth) s.views id v at in let most = k.one in
+    let part : IsPart (stake (side_at i) v) = part_weight k.depth (stake (side_at i) v) (k.shallow id v at) (omega (arith, own, most)) in
+    subst (λ (p : Side). (word_at i s ≤ 2 * MAX_ENDS) × (p.ends + p.extra ≤ word_at i s) × (IsEntire p.stake → word_at i s ≡ p.ends + p.extra) × IsPart p.stake) was
+    (few (side_at i) (word_at i s) s.views k, omega (arith, e, f, k.counted), solo (side_at i) (word_at i s) id s.views v k at, part)
 
 -- two descriptions of one seat
 same_sides : (i : ℕ) (v : SeatCounts) (x y : Side) → v ≡ at_side i x → v ≡ at_side i y → x ≡ y
@@ -128,7 +130,8 @@ withdraws slots id m i t lt either s c _ at _ = ⊎_elim (λ me. lowers (side 1 
           (
             refl,
             (λ r other. ap (λ (z : Share). at_side i (side 1 0 z)) (sym (only r other x me same))),
-            λ r other. let b = same_sides i m.0 (side 1 0 r) x other me in let e = ap (λ z. z.ends) b in let f = ap (λ z. z.extra) b in absurd (omega (arith, e, f, two)),
+            (λ r other. let b = same_sides i m.0 (side 1 0 r) x other me in let e = ap (λ z. z.ends) b in let f = ap (λ z. z.extra) b in absurd (omega (arith, e, f, two))),
+            λ r other. subst (λ (z : Share). IsPart z) (sym (ap (λ z. z.stake) (same_sides i m.0 (side 2 0 r) x other me))) there.3,
           ),
         )
 
@@ -146,7 +149,8 @@ leaves slots id m i lt is s c _ at _ =
       (
         refl,
         (λ r other. absurd (⊎_elim (λ o. let e = ap (λ z. z.extra) (same_sides i m.0 (side 1 1 r) x o me) in omega (arith, e)) (λ o. let e = ap (λ z. z.ends) (same_sides i m.0 (side 2 0 r) x o me) in omega (arith, e)) other)),
-        λ r other all. there.2 (subst (λ (z : Share). IsEntire z) (ap (λ z. z.stake) (same_sides i m.0 (side 1 0 r) x other me)) all),
+        (λ r other all. there.2 (subst (λ (z : Share). IsEntire z) (ap (λ z. z.stake) (same_sides i m.0 (side 1 0 r) x other me)) all)),
+        λ r other. let e = ap (λ z. z.ends) (same_sides i m.0 (side 2 0 r) x other me) in absurd (omega (arith, e)),
       ),
     )
 

@@ -10,7 +10,7 @@ use Rattle.queue_steps.specs.declared.errors.PopError.TheVariants as pop
 use Rattle.queue_steps.specs.declared.errors.PushError.TheVariants as push
 use Rattle.queue_steps.specs.declared.errors.ForcePushError.TheVariants as force
 use Rattle.queue_steps.specs.Effect.{IsHistory, after}
-use Rattle.queue_steps.specs.Shares.{Share, SamePart, entire, half, plus}
+use Rattle.queue_steps.specs.Shares.{Share, SamePart, IsPart, entire, half, plus}
 use Rattle.concurrent_queue.specs.Shared.{QueueId, Person, Calls, Parts, Joins}
 use Rattle.counted_channel.specs.declared.counting.SeatCounts.{SeatCounts}
 use Rattle.counted_channel.specs.declared.errors.SendError.{SendError}
@@ -70,9 +70,9 @@ abbrev pub Ends : {T : Type 0} → Person T → Person T → Bool → Type 0
 Ends v w true = ((closed : Bool) × Calls v call.Close (reply.Close closed) w) × ((after w.queue.cap w.view.seen).closed ≡ true)
 Ends v w false = w ≡ v
 
--- the ends a and b become w, which has the stakes of both
+-- the ends a and b become w, which has the stakes of both; these are together no more than one
 abbrev pub EndJoins : {T : Type 0} → End T → End T → End T → Type 0
-EndJoins a b w = Joins a.party b.party w.party × (w.counts ≡ a.counts) × (w.stake ≡ plus a.stake b.stake)
+EndJoins a b w = Joins a.party b.party w.party × (w.counts ≡ a.counts) × (w.stake ≡ plus a.stake b.stake) × IsPart (plus a.stake b.stake)
 
 -- the end d is parted into a and b, each with half of its stake
 abbrev pub EndParts : {T : Type 0} → End T → End T → End T → Type 0

@@ -3,7 +3,7 @@ use Rattle.std.specs.Prelude.{◌≡◌, ◌⊎◌, ℕ, zero, suc, ◌+◌, ◌
 use mathlib.Core.Option.{some}
 use lib.ListN.{get_elem?}
 use Rattle.atomic_table.specs.Table.{State, Me, Step}
-use Rattle.queue_steps.specs.Shares.{Share, entire, nothing, half, plus, IsEntire, IsSome, weight}
+use Rattle.queue_steps.specs.Shares.{Share, entire, nothing, half, plus, IsEntire, IsPart, IsSome, weight}
 use Rattle.counted_channel.specs.declared.counting.Side.{Side}
 use Rattle.counted_channel.specs.declared.counting.SeatCounts.{SeatCounts}
 use Rattle.counted_channel.specs.declared.counting.TheConstants.{MAX_ENDS}
@@ -98,8 +98,9 @@ abbrev pub Added : Step (Unit {0}) → Seated → ℕ → Seated → Type 0
 Added st m n q =
     (q.1 ≡ m.1) × (n < MAX_ENDS → q.0 ≡ at_side st.word (side 2 0 (stake_at st.word m.0))) × (MAX_ENDS ≤ n → q.0 ≡ at_side st.word (side 1 1 (stake_at st.word m.0)))
 
--- the word was n and was lowered: where it had been raised in vain, for one of two ends of a seat, or for its only one. A seat that has all of the side's stakes found it 1 then
+-- the word was n and was lowered: where it had been raised in vain, for one of two ends of a seat, or for its only one. A seat that has all of the side's stakes found it 1 then,
+-- and the stakes of two ends are together no more than one
 abbrev pub Subtracted : Step (Unit {0}) → Seated → ℕ → Seated → Type 0
 Subtracted st m n q =
     (q.1 ≡ m.1) × ((s : Share) → (m.0 ≡ at_side st.word (side 1 1 s)) ⊎ (m.0 ≡ at_side st.word (side 2 0 s)) → q.0 ≡ at_side st.word (side 1 0 s))
-    × ((s : Share) → m.0 ≡ at_side st.word (side 1 0 s) → IsEntire s → n ≡ 1)
+    × ((s : Share) → m.0 ≡ at_side st.word (side 1 0 s) → IsEntire s → n ≡ 1) × ((s : Share) → m.0 ≡ at_side st.word (side 2 0 s) → IsPart s)

@@ -1,6 +1,6 @@
 //! The table of a channel: two words, which count its senders and its receivers.
 ghost use Rattle.std.specs.Prelude.{[], true, ◌≡◌, ◌<◌, IfOk, MatchBool, MatchOption};
-ghost use Rattle.queue_steps.specs.Shares.{entire, plus, IsEntire};
+ghost use Rattle.queue_steps.specs.Shares.{entire, plus, IsEntire, IsPart};
 ghost use Rattle.counted_channel.specs.Counting.{side, at_side, stake_at, IsEnd, IsHalfEnd};
 
 use atomic_table::{Join, Play, Seat, Shared, Split, Table, TableRule};
@@ -154,12 +154,13 @@ pub(crate) fn leave(words: &Words, mut place: EndSeat, word: usize) -> bool
     words.fetch_sub::<Subtract>(&mut place, word, 1) == 1
 }
 
-/// Makes one seat of the seats of two ends of a side, and counts one end less. It has the stakes of both.
+/// Makes one seat of the seats of two ends of a side, and counts one end less. It has the stakes of both, which are no more than one.
 pub(crate) fn unite(words: &Words, place: &mut EndSeat, other: EndSeat, word: usize)
     requires table { (place.old.table_id ≡ words.now.table_id) × (other.table_id ≡ words.now.table_id) × (words.now.table_id.words ≡ 2) × (word < 2) }
     requires ends { IsEnd word place.old.me × IsEnd word other.me }
     ensures same { place.new.table_id ≡ place.old.table_id }
     ensures both { place.new.me ≡ (at_side word (side 1 0 (plus (stake_at word place.old.me.0) (stake_at word other.me.0))), []) }
+    ensures part { IsPart (plus (stake_at word place.old.me.0) (stake_at word other.me.0)) }
 {
     words.join_seat::<Both>(place, other);
     words.fetch_sub::<Subtract>(place, word, 1);

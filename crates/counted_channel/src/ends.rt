@@ -4,7 +4,7 @@ ghost use Rattle.queue_steps.specs.declared.model.Call.TheVariants as call;
 ghost use Rattle.queue_steps.specs.declared.model.Reply.TheVariants as reply;
 ghost use Rattle.queue_steps.specs.Parties.{IsView};
 ghost use Rattle.queue_steps.specs.Shares.{IsEntire};
-ghost use Rattle.concurrent_queue.specs.Shared.{IsPartyOf, Joins, Finishes};
+ghost use Rattle.concurrent_queue.specs.Shared.{Calls, IsPartyOf, Joins, Finishes};
 ghost use Rattle.counted_channel.specs.Channel.{IsEndOf, ChannelCall, EndParts, EndJoins, Ends, GivenBack, sent, force_sent, received};
 
 use crate::counting::{Counts, RECEIVERS, SENDERS};
@@ -253,7 +253,7 @@ impl<T, A: Allocator> Channel<T, A> {
         self.queue.pop(rt, &mut receiver.end.party)
     }
 
-    /// How many items were sent and not received.
+    /// How many items were sent and not received, at a moment of the call.
     pub fn len<R: Wait>(&self, rt: &R, receiver: &mut Receiver<T>) -> usize
         requires { IsEndOf receiver.old self.now }
         ensures { ChannelCall receiver.old call.Len (reply.Len result) receiver.new }
@@ -292,6 +292,22 @@ impl<T, A: Allocator> Channel<T, A> {
         ensures { Joins first second result }
     {
         self.queue.join(first, second)
+    }
+
+    /// How many items are in the queue, at a moment of the call, as a party that an end gave back sees it.
+    pub fn len_by<R: Wait>(&self, rt: &R, party: &mut Party<T>) -> usize
+        requires { IsPartyOf party.old self.now.queue }
+        ensures { Calls party.old call.Len (reply.Len result) party.new }
+    {
+        self.queue.len(rt, party)
+    }
+
+    /// Whether the queue is closed, as a party that an end gave back sees it.
+    pub fn is_closed_by(&self, party: &mut Party<T>) -> bool
+        requires { IsPartyOf party.old self.now.queue }
+        ensures { Calls party.old call.IsClosed (reply.IsClosed result) party.new }
+    {
+        self.queue.is_closed(party)
     }
 
     /// Ends the channel: the queue with its one owner, as it is after the whole history. It does so exactly where the party has all of the share.
