@@ -1,27 +1,29 @@
 -- What ends of a channel have taken, and the works of a crew that is given them.
-use Rattle.std.proofs.Common.{◌≡◌, ℕ, ◌+◌, ◌≤◌, ◌&&◌, Bool, true, false, Option, Result, Ok, Err, List, [], ◌∷◌, length, get_or, replicate, refl, ap, sym, subst, ◌∙◌, ⊎_elim, arith, add-zero}
+use Rattle.std.proofs.Common.{◌≡◌, ℕ, ◌+◌, ◌≤◌, ◌&&◌, Bool, true, false, Option, Result, Ok, Err, List, [], ◌∷◌, length, get_or, replicate, refl, ap, sym, subst, ◌∙◌, ⊎_elim, arith, add-zero, append-nil, ◌++◌}
 use Rattle.std.specs.List.{All, count_by}
 use Rattle.std.proofs.lemmas.List.Elements.{All-weaker}
 use Rattle.queue_steps.specs.declared.model.Effect.{Effect}
 use Rattle.queue_steps.specs.declared.model.Call.TheVariants as call
 use Rattle.queue_steps.specs.declared.model.Effect.TheVariants as effect
+use Rattle.queue_steps.specs.declared.model.Reply.TheVariants as reply
+use Rattle.queue_steps.specs.Effect.{after}
 use Rattle.counted_channel.specs.declared.errors.SendError.{SendError}
 use Rattle.counted_channel.specs.declared.errors.SendError.TheVariants as send
 use Rattle.counted_channel.specs.declared.errors.Disconnected.{Disconnected}
-use Rattle.queue_steps.specs.Shares.{Share, half, plus, SamePart}
+use Rattle.queue_steps.specs.Shares.{Share, entire, half, plus, IsEntire, SamePart}
 use Rattle.queue_steps.specs.Parties.{IsView}
-use Rattle.queue_steps.proofs.ShareLaws.{same_refl, plus_comm, plus_assoc, plus_same, halves_same}
-use Rattle.concurrent_queue.specs.Shared.{QueueId, Person, Calls, Parts, Joins, Finishes}
+use Rattle.queue_steps.proofs.ShareLaws.{same_refl, same_sym, same_trans, entire_same, plus_comm, plus_assoc, plus_same, halves_same}
+use Rattle.concurrent_queue.specs.Shared.{QueueId, Person, Calls, Parts, Joins}
 use Rattle.counted_channel.specs.Channel.{End, EndParts, Ends, GivenBack, sent, received}
-use Rattle.law_parties.specs.Doings.{is_take, takes, Acts}
-use Rattle.law_parties.proofs.Doings.{acts, acts_none, unchanged}
+use Rattle.law_parties.specs.Doings.{is_take, takes, Acts, SawClosed}
+use Rattle.law_parties.proofs.Doings.{acts, acts_none, still_closed, unchanged}
 use Rattle.std.specs.Option.{IfSome}
 use Rattle.queue_steps.specs.declared.sizes.TheConstants.{MAX_CAPACITY}
 use Rattle.app_text.specs.KindNames.{capacity_of}
 use Rattle.app_text.specs.declared.load.Load.{Load}
 use Rattle.app_threads.specs.Counts.{counted, AreSums, IsTally}
-use Rattle.app_threads.specs.Sharing.{IsFinished}
-use Rattle.app_threads.specs.declared.sharing.Finished.{Finished}
+use Rattle.app_threads.specs.Sharing.{IsEnded, SeesLeft}
+use Rattle.app_threads.specs.declared.sharing.EndedChannel.{EndedChannel}
 use Rattle.app_threads.specs.Works.{IsWorkOf, PartsTask, TookNothing, ends_share, ends_taken, task_party}
 use Rattle.app_threads.specs.declared.crew.Work.{Work}
 use Rattle.app_threads.specs.declared.ends.Task.{Task}
@@ -166,11 +168,55 @@ tallied l q items most v s r work last within same parts none is complete now = 
       omega (arith, all, sent_none, came_none, here);
 }
 
--- a queue that came back to one owner
-pub finished : (cap : Option ℕ) (q : QueueId) (p : Person ℕ) (f : Finished) → p.queue ≡ q → q.cap ≡ cap → IsView p.queue.cap p.view → f.party.value ≡ p → Finishes p f.queue → IsFinished cap f
-finished cap q p f of capped is last ends =
-    let room : p.queue.cap ≡ cap = ap (λ (z : QueueId). z.cap) of ∙ capped in record {
-      capped = ap (λ (z : Person ℕ). z.queue.cap) last ∙ room;
-      seen = subst {A = Option ℕ} (λ c. IsView c f.party.value.view) room (subst {A = Person ℕ} (λ z. IsView p.queue.cap z.view) (sym last) is);
-      finishes = subst {A = Person ℕ} (λ z. Finishes z f.queue) (sym last) ends;
+-- halves of a whole share that are together again are whole
+pub whole_again : (v s r : Person ℕ) (t : Share) → Parts v s r → v.view.share ≡ entire → SamePart t (plus s.view.share r.view.share) → IsEntire t
+whole_again v s r t parts all same =
+    let one : s.view.share ≡ half entire = parts.2.share.0 ∙ ap half all in
+    let two : r.view.share ≡ half entire = parts.2.share.1 ∙ ap half all in
+    let sum : plus s.view.share r.view.share ≡ plus (half entire) (half entire) = λ i. plus (one i) (two i) in
+    let back : SamePart t entire = same_trans t (plus (half entire) (half entire)) entire (subst {A = Share} (λ z. SamePart t z) sum same) (halves_same entire) in
+    entire_same entire t (same_sym t entire back) refl
+
+-- the last party finds the queue closed, and sees what is left
+pub sees_left : (u v w : Person ℕ) (left : ℕ) → IsView u.queue.cap u.view → IsView v.queue.cap v.view → IsView w.queue.cap w.view → IsEntire u.view.share
+    → Calls u call.IsClosed (reply.IsClosed true) v → Calls v call.Len (reply.Len left) w → SeesLeft u w left
+sees_left u v w left is_u is_v is_w whole first second =
+    let one = took_by u v [] (acts u v call.IsClosed (reply.IsClosed true) [] is_u first first.1.tells) (λ x. refl) in
+    let two = took_by v w [] (acts v w call.Len (reply.Len left) [] is_v second second.1.tells) (λ x. refl) in
+    let both = took_nothing u v w one two in
+    let shut : (after u.queue.cap u.view.seen).closed ≡ true =
+    ⊎_elim (λ table. let said : reply.IsClosed true ≡ reply.IsClosed (after u.queue.cap u.view.seen).closed = table.0 in cc) (λ lacks. absurd lacks.1) (first.2 whole).table in
+    let shut_v : SawClosed v =
+    subst {A = QueueId} (λ q. (after q.cap v.view.seen).closed ≡ true) (sym first.0) (still_closed u.queue.cap u.view.seen v.view.seen first.1.begins first.1.legal shut) in
+    let shut_w : SawClosed w =
+    subst {A = QueueId} (λ q. (after q.cap w.view.seen).closed ≡ true) (sym second.0) (still_closed v.queue.cap v.view.seen w.view.seen second.1.begins second.1.legal shut_v) in
+    let whole_v : IsEntire v.view.share = subst {A = Share} (λ z. IsEntire z) (sym one.share) whole in
+    let s = second.2 whole_v in
+    let counted_v : left ≡ length (after v.queue.cap v.view.seen).items =
+    ⊎_elim (λ table. let said : reply.Len left ≡ reply.Len (length (after v.queue.cap v.view.seen).items) = table.0 in cc) (λ lacks. absurd lacks.1) s.table in
+    let same : w.view.seen ≡ v.view.seen = s.seen ∙ (ap (λ (es : List (Effect ℕ)). v.view.seen ++ es) s.tells ∙ append-nil v.view.seen) in
+    record {
+      queue = both.queue;
+      share = both.share;
+      taken = both.taken;
+      seen = is_w;
+      closed = shut_w;
+      counts = counted_v ∙ sym (λ i. length (after (second.0 i).cap (same i)).items);
     }
+
+-- a channel that has ended, with the party that all of its ends' have become
+pub ended_channel : (cap : Option ℕ) (q : QueueId) (p : Person ℕ) (left : ℕ) (c : EndedChannel) → p.queue ≡ c.channel.queue → c.channel.queue ≡ q → q.cap ≡ cap → IsEntire p.view.share → SeesLeft p c.party left
+    → IsEnded cap c
+ended_channel cap q p left c of is capped whole sees =
+    let now : c.party.queue ≡ c.channel.queue = sees.queue ∙ of in
+    let room : c.channel.queue.cap ≡ cap = ap (λ (z : QueueId). z.cap) is ∙ capped in record {
+      of = now;
+      capped = room;
+      seen = subst {A = Option ℕ} (λ k. IsView k c.party.view) (ap (λ (z : QueueId). z.cap) now ∙ room) sees.seen;
+      whole = subst {A = Share} (λ z. IsEntire z) (sym sees.share) whole;
+      closed = sees.closed;
+    }
+
+-- a tally stays one while nothing is taken
+pub tallied_on : (l : Load) (v w : Person ℕ) (counts : List ℕ) → IsTally l v.view counts → ((x : ℕ) → takes x w.view ≡ takes x v.view) → IsTally l w.view counts
+tallied_on l v w counts tally same = record { within = tally.within; complete = tally.complete; taken = λ x lt. tally.taken x lt ∙ sym (same x) }

@@ -8,7 +8,7 @@ use Rattle.app_text.specs.KindNames.{capacity_of}
 use Rattle.queue_steps.specs.Parties.{View}
 use Rattle.app_text.specs.declared.load.Load.{Load}
 use Rattle.law_parties.specs.Doings.{takes}
-use Rattle.app_threads.specs.Sharing.{IsAllOf, IsFinished}
+use Rattle.app_threads.specs.Sharing.{IsAllOf, IsEnded, left_in}
 use Rattle.app_threads.specs.declared.counts.Finding.{Finding}
 use Rattle.app_threads.specs.declared.counts.Finding.TheVariants as finding
 use Rattle.app_threads.specs.declared.sharing.Sharing.{Sharing}
@@ -72,15 +72,15 @@ IsCounted l (sharing.Counted s) old new v =
     IsAllOf (capacity_of l.kind) s × ((counts : List ℕ) × IsTally l s.party.view counts × Appends old new (counts_line l counts) × (v ≡ finding_verdict (judged l.pushers counts)))
 IsCounted l _ old new v = ⊥
 
--- that line for the load's channel, which its threads shared, and how many items its end left in the queue
+-- that line for the load's channel, which its threads shared, and how many items its ends left in the queue
 abbrev pub IsReceivedText : Load → Sharing → List ℕ → Type 0
-IsReceivedText l (sharing.Finished f) text =
-    IsFinished (capacity_of l.kind) f × ((counts : List ℕ) × IsTally l f.party.value.view counts × (text ≡ received_text l counts (length f.queue.queue.items)))
+IsReceivedText l (sharing.Ended c) text =
+    IsEnded (capacity_of l.kind) c × ((counts : List ℕ) × IsTally l c.party.view counts × (text ≡ received_text l counts (length (left_in c))))
 IsReceivedText l _ text = ⊥
 
 -- what was received of the load through the channel that its threads shared was counted, and what the counts show was written, and how many items were left
 abbrev pub IsReceived : Load → Sharing → Option (List ℕ) → Option (List ℕ) → Verdict → Type 0
-IsReceived l (sharing.Finished f) old new v =
-    IsFinished (capacity_of l.kind) f × ((counts : List ℕ) × IsTally l f.party.value.view counts
-    × Appends old new (received_text l counts (length f.queue.queue.items)) × (v ≡ finding_verdict (judged l.pushers counts)))
+IsReceived l (sharing.Ended c) old new v =
+    IsEnded (capacity_of l.kind) c × ((counts : List ℕ) × IsTally l c.party.view counts
+    × Appends old new (received_text l counts (length (left_in c))) × (v ≡ finding_verdict (judged l.pushers counts)))
 IsReceived l _ old new v = ⊥

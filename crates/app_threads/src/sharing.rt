@@ -2,8 +2,8 @@
 use crate::crew::Queue;
 use crate::verdict::Verdict;
 use app_text::faults::Fault;
-use concurrent_queue::{Exclusive, Party};
-use std::snapshot::Snapshot;
+use concurrent_queue::Party;
+use counted_channel::Channel;
 
 /// A queue that threads shared, and the party that all of theirs have become.
 #[derive(Drop)]
@@ -12,11 +12,11 @@ pub struct Shared {
     pub party: Party<u64>,
 }
 
-/// The queue of a channel after its end, with its one owner, and the party that all had become, as it was.
+/// A channel all of whose ends have ended, and the party that all of theirs have become.
 #[derive(Drop)]
-pub struct Finished {
-    pub queue: Exclusive<u64>,
-    pub party: Snapshot<Party<u64>>,
+pub struct EndedChannel {
+    pub channel: Channel<u64>,
+    pub party: Party<u64>,
 }
 
 /// What the threads of a run shared.
@@ -28,8 +28,8 @@ pub enum Sharing {
     Counted(Shared),
     /// The two queues by which two threads handed an item to each other: there, and back.
     Met(Shared, Shared),
-    /// The channel through which they counted, after its end.
-    Finished(Finished),
+    /// The channel through which they counted.
+    Ended(EndedChannel),
 }
 
 /// How a run ended, and what its threads shared.
