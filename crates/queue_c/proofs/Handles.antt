@@ -7,8 +7,8 @@ use mathlib.Core.Bool.{true, ◌&&◌}
 use lib.Dec.{T}
 use mir.Val.{Val, vstruct, of_list, has_ty, WT}
 use base.Fraction.{full_share}
-use base.Logic.{SProp, ent, guard, guard_i, via, snd∗}
-use base.Fml.{ftrue, fsep, fex}
+use base.Logic.{ent, guard, guard_i, via, snd∗}
+use base.Fml.{ftrue}
 use types.Logic.{Logic, sem}
 use types.Kit.{Item, Goal, Seq, Step, step, ‵, given, ◌$◌, move, drop, fsplit, fjoin, fpick, fpack, feq_i, feq_l, use1, learn}
 use contract.Monad.{fact_use}
@@ -23,7 +23,6 @@ use denote.Struct.Struct.{within}
 use denote.Struct.Owning.{shape}
 use Rattle.core.proofs.alloc.Calls.{Al, handle_tells}
 use Rattle.core.proofs.cell.Inside.{Good}
-use Rattle.std.specs.declared.option.Option.{Option}
 use Rattle.std.specs.declared.option.Option.TheVariants.{None, Some}
 use Rattle.std.specs.contracts.alloc.Global as heap
 use Rattle.std.proofs.alloc.Global.TheLaws as heap_laws
@@ -33,7 +32,7 @@ use Rattle.std_alloc.proofs.ResultValues.{and_tt}
 use Rattle.queue_c.specs.contracts.handle.Handle as handle
 use Rattle.queue_c.specs.contracts.end.End as end
 use Rattle.std.specs.contracts.option.Option.{the_row as option_row}
-use Rattle.queue_c.specs.Held.{boxed, held, testable}
+use Rattle.queue_c.specs.Held.{boxed, held}
 use Rattle.queue_c.proofs.Values.{both}
 
 abbrev pub Z : RattleType

@@ -5,7 +5,7 @@ use Rattle.queue_steps.specs.declared.model.Call.{Call}
 use Rattle.queue_steps.specs.WaitFree.{is_wait_free}
 use Rattle.queue_steps.specs.Shares.{entire, IsEntire}
 use Rattle.queue_steps.specs.Effect.{after}
-use Rattle.concurrent_queue.specs.Shared.{Person, Calls, Parts}
+use Rattle.concurrent_queue.specs.Shared.{Calls, Parts}
 use Rattle.queue_c.specs.declared.answers.Answer.{Answer}
 use Rattle.queue_c.specs.declared.answers.Answer.TheVariants as answer
 use Rattle.queue_c.specs.declared.end.Turn.{Turn}

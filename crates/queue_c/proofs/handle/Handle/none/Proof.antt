@@ -4,8 +4,8 @@ use mir.Val.{Val}
 use base.Logic.{SProp, ent, emp, id⊢}
 use base.Fml.{ftrue}
 use prog.Wp.{WpFn}
-use types.Kit.{‵, raw, ◌⊛◌, ◌$◌, ◌∵◌, !, qed, by, move, keep, drop, split, join, fsplit, fjoin, suffices, use0, use1}
-use types.Run.{stop, lit, no_more, and_then, returns, enter}
+use types.Kit.{‵, raw, ◌⊛◌, ◌$◌, ◌∵◌, !, qed, by, move, keep, split, fsplit, fjoin, suffices, use0}
+use types.Run.{lit, no_more, and_then, returns, enter}
 use types.ByLocal.{alloc_all, pass_all, free_all, look_at, get, sets}
 use types.Part.{agg}
 use contract.Monad.{fact, fact_i}
@@ -17,10 +17,9 @@ use denote.RawPtr.{null_ptr, ptr_val}
 use denote.Steps.{nothing}
 use denote.Triple.Walked.{Stays, stay_dropped, walk_of, Goes-dropped}
 use Rattle.core.proofs.alloc.Calls.{handle_tells}
-use Rattle.std.specs.declared.option.Option.{Option}
-use Rattle.std.specs.declared.option.Option.TheVariants.{None, Some}
+use Rattle.std.specs.declared.option.Option.TheVariants.{None}
 use Rattle.std.proofs.raw_atomic.Walks.{proved_at, leaves}
-use Rattle.queue_c.proofs.Values.{both, both_tt}
+use Rattle.queue_c.proofs.Values.{both}
 use Rattle.queue_c.proofs.Handles.{Z, E, al, handle_in, null_good}
 use Rattle.queue_c.specs.contracts.handle.Handle.none.{ended, clauses}
 use Rattle.queue_c.specs.contracts.handle.Handle.none.Key.{name as #self}
