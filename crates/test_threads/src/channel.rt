@@ -1,4 +1,5 @@
 //! Channels.
+pub mod many_ends;
 pub mod memory;
 pub mod opening;
 pub mod rows;

@@ -68,7 +68,7 @@ fn an_iterator_gives_blocks_back(rt: HostRuntime) {
 }
 
 /// How a queue is made, how many items are pushed, whether it is closed, and what is printed of it.
-static TEXTS: [(Made, u64, bool, &str); 7] = [
+static TEXTS: [(Made, u64, bool, &str); 9] = [
     (
         Made::Bounded(1),
         0,
@@ -92,6 +92,18 @@ static TEXTS: [(Made, u64, bool, &str); 7] = [
         2,
         true,
         "Exclusive { len: 2, capacity: Some(2), is_closed: true }",
+    ),
+    (
+        Made::Bounded(3),
+        2,
+        true,
+        "Exclusive { len: 2, capacity: Some(3), is_closed: true }",
+    ),
+    (
+        Made::Bounded(300),
+        237,
+        false,
+        "Exclusive { len: 237, capacity: Some(300), is_closed: false }",
     ),
     (
         Made::Unbounded,
