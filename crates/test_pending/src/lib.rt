@@ -1,10 +1,14 @@
-//! Tests of calls that never wait: one that meets another party's call half done, is taken up again, given up or dropped.
+//! Tests of calls that never wait: one that meets another party's call half done, is taken up again or given up, and one whose block is refused or comes late.
 #![tactic(auto)]
 
 #[cfg(test)]
 mod beside;
 #[cfg(test)]
 mod gates;
+#[cfg(test)]
+mod late;
+#[cfg(test)]
+mod refused;
 #[cfg(test)]
 mod stories;
 #[cfg(test)]
