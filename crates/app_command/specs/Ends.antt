@@ -5,6 +5,7 @@ use Rattle.app_text.specs.Actions.{replay_line_text, IsReplayLine}
 use Rattle.app_text.specs.Calls.{call_text, IsCallOfWord}
 use Rattle.app_text.specs.KindNames.{form_words, IsForm}
 use Rattle.app_text.specs.Faults.{fault_status}
+use Rattle.app_text.specs.Usage.{IsFormFault}
 use Rattle.app_text.specs.declared.args.Form.{Form}
 use Rattle.app_text.specs.declared.args.Form.TheVariants as form
 use Rattle.app_text.specs.declared.faults.Fault.{Fault}
@@ -43,9 +44,9 @@ Fails (form.Threads l) shared known old new why = IsOutputFault (IsCountsLine l 
 Fails form.Handshake shared known old new why = IsOutputFault (IsHandshakeText shared) old new why
 Fails (form.Channel l) shared known old new why = IsOutputFault (IsReceivedText l shared) old new why
 
--- why the work was not done: the arguments ask for no form, or what they ask for met a fault
+-- why the work was not done: the arguments ask for no form, of which the reason is right, or what they ask for met a fault
 abbrev pub IsFaultOf : List (List ℕ) → Sharing → Option (List ℕ) → Option (List ℕ) → Option (List ℕ) → Fault → Type 0
-IsFaultOf words shared known old new fault.Usage = (AskForForm words → ⊥) × Keeps old new
+IsFaultOf words shared known old new (fault.Usage why) = (AskForForm words → ⊥) × IsFormFault words why × Keeps old new
 IsFaultOf words shared known old new why = (f : Form) × AskFor words f × Fails f shared known old new why
 
 -- the work that the arguments ask for was done, and has shown this

@@ -80,8 +80,9 @@ fn run<R: Threads + Wait + Sync + AllocGlobal, A: Allocator, I: Read, O: Write>(
         (IsFaultOf (map string_bytes args.now) result.sharing
         (I.remaining input.old) (O.contents output.old) (O.contents output.new)) }
 {
-    let Some(form) = parse_form(args) else {
-        return alone(Err(Fault::Usage));
+    let form = match parse_form(args) {
+        Ok(form) => form,
+        Err(why) => return alone(Err(Fault::Usage(why))),
     };
     match form {
         Form::Script(kind) => alone(shown(script(alloc, kind, input, output))),

@@ -1,1 +1,2 @@
 pub mod OutcomeLines
+pub mod Tallies

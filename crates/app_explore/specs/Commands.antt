@@ -7,7 +7,7 @@ use Rattle.app_text.specs.Given.{IsAskedBy, MayLackMemory}
 use Rattle.app_text.specs.Streams.{IsBegun, IsInput}
 use Rattle.app_text.specs.declared.faults.Fault.TheVariants as fault
 use Rattle.app_explore.specs.Listings.{IsRefused, IsTold}
-use Rattle.app_explore_text.specs.Requests.{IsRequest, request_words}
+use Rattle.app_explore_text.specs.Requests.{IsRequest, IsRequestFault, request_words}
 use Rattle.app_explore.specs.Stops.{stop_status}
 use Rattle.app_explore_text.specs.declared.args.Request.{Request}
 use Rattle.app_explore.specs.declared.faults.Stop.{Stop}
@@ -55,7 +55,7 @@ pub record IsRefusedAsk (words : List (List ℕ)) (known : Option (List ℕ)) (w
 
 -- why it was not told. But for a failed write, nothing is written then
 abbrev pub IsStopOf : List (List ℕ) → Option (List ℕ) → Option (List ℕ) → Option (List ℕ) → Stop → Type 0
-IsStopOf words known old new (stop.Fault fault.Usage) = Keeps old new × AsksForNothing words
+IsStopOf words known old new (stop.Fault (fault.Usage why)) = Keeps old new × AsksForNothing words × IsRequestFault words why
 IsStopOf words known old new (stop.Fault fault.InputFailed) = Keeps old new × AsksForSome words
 IsStopOf words known old new (stop.Fault fault.NoMemory) = Keeps old new × AsksForSome words
 IsStopOf words known old new (stop.Fault fault.OutputFailed) = IsBegunExplored words known old new

@@ -1,10 +1,11 @@
 -- What is told of a program.
 use Rattle.std.specs.Prelude.{◌≡◌, ℕ, Option, None, Some, ◌+◌, ◌-◌, ◌<◌, Bool, List, [], ◌∷◌, ◌++◌, length, map, slice_get}
-use Rattle.std.specs.List.{All, AllZip}
+use Rattle.std.specs.List.{AllZip}
 use Rattle.queue_steps.specs.declared.model.Call.{Call}
 use Rattle.queue_steps.specs.declared.steps.types.Kind.{Kind}
 use Rattle.app_text.specs.Lines.{lines_of}
 use Rattle.app_text.specs.KindNames.{queue_named}
+use Rattle.app_text.specs.declared.faults.Fault.TheVariants as fault
 use Rattle.machine_explore.specs.Certified.{IsOutcomeOf}
 use Rattle.machine_explore.specs.Explored.{HasNoOther}
 use Rattle.machine_explore.specs.Positions.{Outcome}
@@ -12,9 +13,9 @@ use Rattle.machine_explore.specs.Traces.{Course, IsTraceOf}
 use Rattle.machine_explore.specs.declared.schedule.Move.{Move}
 use Rattle.app_explore_text.specs.Lanes.{lanes_text}
 use Rattle.app_explore_text.specs.Outcomes.{AreInOrder, outcome_line, text_of}
-use Rattle.app_explore_text.specs.Reads.{IsReadAs, IsReadFault}
+use Rattle.app_explore_text.specs.Reads.{IsReadAs, IsFirstWrong}
 use Rattle.app_explore_text.specs.Schedules.{schedule_text}
-use Rattle.app_explore.specs.Tails.{IsTail, last_text}
+use Rattle.app_explore.specs.Tails.{Tail, tail_line, last_text, without_order}
 use Rattle.app_explore_text.specs.declared.args.Request.{Request}
 use Rattle.app_explore_text.specs.declared.args.Wanted.{Wanted}
 use Rattle.app_explore_text.specs.declared.args.Wanted.TheVariants as wanted
@@ -32,14 +33,13 @@ pub record AreOutcomes (k : Kind) (refuses : Bool) (before : List (Call ℕ)) (c
   pub shown : AllZip (IsOutcomeOf k refuses before calls) schedules outcomes
   pub in_order : AreInOrder (map text_of outcomes)
 
--- it is the list of outcomes with these texts: a line for each, and a last line
+-- it is the list of outcomes with these texts: a line for each, and a last line, which counts them and those of no order
 pub record IsListOf (texts : List (List ℕ)) (text : List ℕ) : Type 0 where
-  pub tails : List (List ℕ)
+  pub tails : List Tail
   pub counted : length tails ≡ length texts
-  pub are_tails : All IsTail tails
   pub total : Option ℕ
   pub lone : ℕ
-  pub text_is : text ≡ outcome_lines 1 texts tails ++ last_text (length texts) total lone
+  pub text_is : text ≡ outcome_lines 1 texts (map tail_line tails) ++ last_text (length texts) total lone (without_order tails)
 
 -- the text has a line for each outcome of the program, and for no other, and a last line
 pub record IsListing (k : Kind) (refuses : Bool) (before : List (Call ℕ)) (calls : List (List (Call ℕ))) (text : List ℕ) : Type 0 where
@@ -108,6 +108,7 @@ pub record HasFewerOutcomes (r : Request) (input : List ℕ) (number : ℕ) : Ty
 
 -- why nothing is told of the program that the input names
 abbrev pub IsRefused : Request → List ℕ → Stop → Type 0
-IsRefused r input (stop.Fault fault) = IsReadFault (lines_of input) fault
+IsRefused r input (stop.Fault why) = why ≡ fault.NoMemory
+IsRefused r input (stop.Line n why) = IsFirstWrong (lines_of input) n
 IsRefused r input (stop.NoOutcome number) = HasFewerOutcomes r input number
 IsRefused r input _ = Unit {0}

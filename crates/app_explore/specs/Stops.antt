@@ -1,20 +1,24 @@
 -- What is written of a stop, and the status that it ends with.
-use Rattle.std.specs.Prelude.{ℕ, List, ◌++◌, codes}
+use Rattle.std.specs.Prelude.{ℕ, List, ◌∷◌, ◌++◌, codes}
 use Rattle.std.specs.Fmt.{decimal}
 use Rattle.app_text.specs.Faults.{fault_text, fault_status}
+use Rattle.app_text.specs.Usage.{usage_text}
 use Rattle.app_text.specs.declared.faults.Fault.TheVariants as fault
+use Rattle.app_explore_text.specs.Faults.{line_fault_text}
 use Rattle.app_explore.specs.declared.faults.Stop.{Stop}
 use Rattle.app_explore.specs.declared.faults.Stop.TheVariants as stop
 
 abbrev pub stop_text : Stop → List ℕ
-stop_text (stop.Fault fault.Usage) = codes "usage: queue_explore KIND [refuse] [schedule N | lanes N]"
+stop_text (stop.Fault (fault.Usage why)) = codes "usage: queue_explore KIND [refuse] [schedule N | lanes N]" ++ 10 ∷ usage_text why
 stop_text (stop.Fault f) = fault_text f
+stop_text (stop.Line n why) = fault_text (fault.Unreadable n) ++ 10 ∷ line_fault_text why
 stop_text stop.TooManyStates = codes "too many states"
 stop_text (stop.NoOutcome n) = codes "no outcome " ++ decimal n
 stop_text stop.NotShown = codes "not shown"
 
 abbrev pub stop_status : Stop → ℕ
 stop_status (stop.Fault f) = fault_status f
+stop_status (stop.Line n why) = 2
 stop_status (stop.NoOutcome n) = 2
 stop_status _ = 3
 

@@ -1,5 +1,6 @@
 -- What is printed of an outcome behind its text, and of all outcomes.
-use Rattle.std.specs.Prelude.{◌≡◌, ℕ, List, [], ◌∷◌, ◌++◌, codes, flat_map, Option, Some, None, Vec}
+use Rattle.std.specs.Prelude.{ℕ, ◌+◌, ◌==◌, if◌then◌else◌, List, [], ◌∷◌, ◌++◌, codes, flat_map, Option, Some, None, Vec}
+use Rattle.machine_search.specs.declared.figures.Figure.{Figure}
 use Rattle.std.specs.Fmt.{decimal}
 
 -- a number of schedules; at 2^128 and above there is none
@@ -23,9 +24,41 @@ order_text None = codes " none"
 abbrev pub tail_text : Option ℕ → ℕ → Option (List ℕ) → List ℕ
 tail_text schedules steps order = codes " | schedules " ++ count_text schedules ++ codes " | steps " ++ decimal steps ++ codes " | order" ++ order_text order
 
--- it is such a text, whatever the numbers are
-abbrev pub IsTail : List ℕ → Type 0
-IsTail text = (schedules : Option ℕ) × (steps : ℕ) × (order : Option (List ℕ)) × (text ≡ tail_text schedules steps order)
+-- what is told of an outcome beside its text
+pub record Tail : Type 0 where
+  pub schedules : Option ℕ
+  pub steps : ℕ
+  pub order : Option (List ℕ)
 
-abbrev pub last_text : ℕ → Option ℕ → ℕ → List ℕ
-last_text outcomes schedules lone = codes "all " ++ decimal outcomes ++ codes " outcomes, " ++ count_text schedules ++ codes " schedules, longest lone call " ++ decimal lone ++ 10 ∷ []
+abbrev pub tail_line : Tail → List ℕ
+tail_line t = tail_text t.schedules t.steps t.order
+
+-- the same, of the figures that were found of it
+abbrev pub figure_tail : {A : Type 0} → Figure A → Tail
+figure_tail f = record { schedules = f.schedules; steps = f.steps; order = items_in f.order }
+
+-- 1 where there is no order
+abbrev pub none_of : Option (List ℕ) → ℕ
+none_of None = 1
+none_of (Some parties) = 0
+
+-- how many of these have no order
+abbrev pub without_order : List Tail → ℕ
+without_order [] = 0
+without_order (t ∷ ts) = none_of t.order + without_order ts
+
+abbrev pub outcomes_text : ℕ → List ℕ
+outcomes_text n = if n == 1 then codes "all " ++ decimal n ++ codes " outcome, " else codes "all " ++ decimal n ++ codes " outcomes, "
+
+abbrev pub schedule_word : Option ℕ → List ℕ
+schedule_word (Some n) = if n == 1 then codes " schedule" else codes " schedules"
+schedule_word None = codes " schedules"
+
+abbrev pub schedules_text : Option ℕ → List ℕ
+schedules_text count = count_text count ++ schedule_word count
+
+abbrev pub others_text : ℕ → ℕ → List ℕ
+others_text lone unordered = codes ", longest lone call " ++ decimal lone ++ codes ", " ++ decimal unordered ++ codes " with order none" ++ 10 ∷ []
+
+abbrev pub last_text : ℕ → Option ℕ → ℕ → ℕ → List ℕ
+last_text outcomes schedules lone unordered = outcomes_text outcomes ++ schedules_text schedules ++ others_text lone unordered

@@ -9,6 +9,7 @@ ghost use Rattle.app_explore.specs.declared.faults.Stop.TheVariants as stop;
 use crate::faults::Stop;
 use crate::listing::{Task, draw_lanes, list_outcomes, list_schedule};
 use app_explore_text::args::{Request, Wanted, parse_request};
+use app_explore_text::faults::ReadFault;
 use app_explore_text::reading::read_program;
 use app_text::faults::Fault;
 use app_text::streams::{read_input, write_output};
@@ -54,8 +55,9 @@ fn explore<A: Allocator, I: Read, O: Write>(
         (λ _. IsExplored (map string_bytes args.now) (I.remaining input.old) (O.contents output.old) (O.contents output.new))
         (IsStopOf (map string_bytes args.now) (I.remaining input.old) (O.contents output.old) (O.contents output.new)) }
 {
-    let Some(request) = parse_request(args) else {
-        return Err(Stop::Fault(Fault::Usage));
+    let request = match parse_request(args) {
+        Ok(request) => request,
+        Err(why) => return Err(Stop::Fault(Fault::Usage(why))),
     };
     let bytes = match read_input(alloc, input) {
         Ok(bytes) => bytes,
@@ -75,7 +77,7 @@ fn explore<A: Allocator, I: Read, O: Write>(
 ///
 /// # Errors
 ///
-/// `Unreadable`, `NoMemory`, also where no queue may have the capacity, `TooManyStates`, `NoOutcome`, and `NotShown`, which no program is known to meet.
+/// `Line`, `NoMemory`, also where no queue may have the capacity, `TooManyStates`, `NoOutcome`, and `NotShown`, which no program is known to meet.
 pub fn told<'a, A: Allocator>(
     alloc: &'a A,
     request: Request,
@@ -86,7 +88,8 @@ pub fn told<'a, A: Allocator>(
 {
     let program = match read_program(alloc, text) {
         Ok(program) => program,
-        Err(fault) => return Err(Stop::Fault(fault)),
+        Err(ReadFault::Unreadable(number, why)) => return Err(Stop::Line(number, why)),
+        Err(ReadFault::NoMemory) => return Err(Stop::Fault(Fault::NoMemory)),
     };
     let task = Task {
         kind: request.kind.kind(),

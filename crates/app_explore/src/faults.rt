@@ -2,6 +2,7 @@
 ghost use Rattle.std.specs.Prelude.{◌≡◌, Some};
 ghost use Rattle.app_explore.specs.Stops.{stop_text, stop_status};
 
+use app_explore_text::faults::LineFault;
 use app_text::faults::Fault;
 use std::fmt;
 
@@ -10,6 +11,8 @@ use std::fmt;
 pub enum Stop {
     /// As any program of queues may end.
     Fault(Fault),
+    /// The line of this number, counted from 1, is the first that is wrong, or the one that is missing.
+    Line(usize, LineFault),
     /// The program has more states than may be looked at.
     TooManyStates,
     /// The program has no outcome of this number.
@@ -25,7 +28,7 @@ impl Stop {
     {
         match self {
             Stop::Fault(fault) => fault.status(),
-            Stop::NoOutcome(_) => 2,
+            Stop::Line(_, _) | Stop::NoOutcome(_) => 2,
             Stop::TooManyStates | Stop::NotShown => 3,
         }
     }
@@ -36,10 +39,12 @@ impl fmt::Display for Stop {
 
     fn fmt<W: fmt::Write>(&self, f: &mut fmt::Formatter<W>) -> fmt::Result {
         match self {
-            Stop::Fault(Fault::Usage) => {
-                f.write_str("usage: queue_explore KIND [refuse] [schedule N | lanes N]")
-            }
+            Stop::Fault(Fault::Usage(why)) => write!(
+                f,
+                "usage: queue_explore KIND [refuse] [schedule N | lanes N]\n{why}"
+            ),
             Stop::Fault(fault) => write!(f, "{fault}"),
+            Stop::Line(number, why) => write!(f, "{}\n{why}", Fault::Unreadable(*number)),
             Stop::TooManyStates => f.write_str("too many states"),
             Stop::NoOutcome(number) => write!(f, "no outcome {number}"),
             Stop::NotShown => f.write_str("not shown"),

@@ -1,13 +1,12 @@
 //! What is told of a program: a line for each outcome, or the schedule of one.
-ghost use Rattle.std.specs.Prelude.{◌≡◌, ◌++◌, ◌<◌, length, map, string_bytes, IfOk, MatchOption, OnOk};
-ghost use Rattle.std.specs.List.{All};
+ghost use Rattle.std.specs.Prelude.{◌≡◌, ◌++◌, ◌<◌, ◌≤◌, length, map, string_bytes, IfOk, MatchOption, OnOk};
 ghost use Rattle.machine_replay.specs.Replays.{CanReplay};
 ghost use Rattle.machine_explore.specs.Traces.{IsTraceOf};
 ghost use Rattle.app_explore_text.specs.Outcomes.{text_of};
-ghost use Rattle.app_explore.specs.Tails.{IsTail};
+ghost use Rattle.app_explore.specs.Tails.{figure_tail, items_in, none_of, tail_line, without_order};
 ghost use Rattle.app_explore.specs.Listings.{AreOutcomes, HasFewer, IsListOf, IsListing, IsPictureOf, IsScheduleOf, IsTraceOfOutcome, outcome_lines};
 
-use crate::tails::{write_last, write_tail};
+use crate::tails::{Totals, write_last, write_tail};
 use app_explore_text::lanes::write_lanes;
 use app_explore_text::outcomes::{are_in_order, text_of, texts_of, write_outcome_line};
 use app_explore_text::schedules::write_schedule;
@@ -261,13 +260,36 @@ fn write_list<A: Allocator + Copy>(
     }
     let mut text = String::new(alloc);
     write_lines(&shown.texts, &tails, &mut text)?;
-    write_last(
-        shown.texts.len(),
-        figures.schedules,
-        figures.lone,
-        &mut text,
-    )?;
+    let totals = Totals {
+        outcomes: shown.texts.len(),
+        schedules: figures.schedules,
+        lone: figures.lone,
+        unordered: count_without_order(&figures.outcomes),
+    };
+    write_last(totals, &mut text)?;
     Ok(text)
+}
+
+// How many of the outcomes no order of whole calls has.
+fn count_without_order<A: Allocator>(figures: &[Figure<A>]) -> usize
+    ensures { result ≡ without_order (map figure_tail figures.now) }
+{
+    let mut count = 0;
+    for figure in figures {
+        count += unordered(figure);
+    }
+    count
+}
+
+// 1 if no order of whole calls has the outcome, else 0.
+fn unordered<A: Allocator>(figure: &Figure<A>) -> usize
+    ensures counted { result ≡ none_of (items_in figure.now.order) }
+    ensures few { result ≤ 1 }
+{
+    match figure.order {
+        Some(_) => 0,
+        None => 1,
+    }
 }
 
 // What is told of each outcome behind its text.
@@ -275,7 +297,7 @@ fn tails_of<A: Allocator + Copy>(
     alloc: A,
     figures: &[Figure<A>],
 ) -> Result<Vec<String<A>, A>, AllocError>
-    ensures { IfOk result (λ tails. All IsTail (map string_bytes tails.items)) }
+    ensures { IfOk result (λ tails. map string_bytes tails.items ≡ map tail_line (map figure_tail figures.now)) }
 {
     let mut tails = Vec::new(alloc);
     for figure in figures {
@@ -287,7 +309,7 @@ fn tails_of<A: Allocator + Copy>(
 
 // What is told of an outcome behind its text.
 fn tail_of<A: Allocator>(alloc: A, figure: &Figure<A>) -> Result<String<A>, AllocError>
-    ensures { IfOk result (λ tail. IsTail (string_bytes tail)) }
+    ensures { IfOk result (λ tail. string_bytes tail ≡ tail_line (figure_tail figure.now)) }
 {
     let mut tail = String::new(alloc);
     write_tail(figure.schedules, figure.steps, &figure.order, &mut tail)?;

@@ -1,6 +1,6 @@
 //! What is told of an outcome behind its text, and of all outcomes.
 ghost use Rattle.std.specs.Prelude.{◌≡◌, ◌++◌, OnOk, flat_map, string_bytes};
-ghost use Rattle.app_explore.specs.Tails.{count_text, items_in, last_text, order_text, tail_text, with_space};
+ghost use Rattle.app_explore.specs.Tails.{count_text, items_in, last_text, order_text, others_text, outcomes_text, schedule_word, schedules_text, tail_text, with_space};
 
 use machine_search::counts::Count;
 use std::alloc::{AllocError, Allocator};
@@ -20,18 +20,84 @@ pub(crate) fn write_tail<A: Allocator>(
     write_order(order, text)
 }
 
+/// What is told of all outcomes.
+#[derive(Clone, Copy)]
+pub(crate) struct Totals {
+    /// How many there are.
+    pub outcomes: usize,
+    /// How many schedules lead to them.
+    pub schedules: Count,
+    /// The most steps that a lone call takes.
+    pub lone: u64,
+    /// How many of them no order of whole calls has.
+    pub unordered: usize,
+}
+
 /// Appends the line of all outcomes.
 pub(crate) fn write_last<A: Allocator>(
-    outcomes: usize,
-    schedules: Count,
-    lone: u64,
+    totals: Totals,
     text: &mut String<A>,
 ) -> Result<(), AllocError>
-    ensures { OnOk result (string_bytes text.new ≡ string_bytes text.old ++ last_text outcomes schedules lone) }
+    ensures { OnOk result (string_bytes text.new ≡ string_bytes text.old ++ last_text totals.outcomes totals.schedules totals.lone totals.unordered) }
 {
-    write!(text, "all {outcomes} outcomes, ")?;
-    write_count(schedules, text)?;
-    writeln!(text, " schedules, longest lone call {lone}")
+    let Totals {
+        outcomes,
+        schedules,
+        lone,
+        unordered,
+    } = totals;
+    write_outcomes(outcomes, text)?;
+    write_schedules(schedules, text)?;
+    write_others(lone, unordered, text)
+}
+
+// Appends the most steps of a lone call, and how many outcomes no order of whole calls has.
+fn write_others<A: Allocator>(
+    lone: u64,
+    unordered: usize,
+    text: &mut String<A>,
+) -> Result<(), AllocError>
+    ensures { OnOk result (string_bytes text.new ≡ string_bytes text.old ++ others_text lone unordered) }
+{
+    writeln!(
+        text,
+        ", longest lone call {lone}, {unordered} with order none"
+    )
+}
+
+// Appends how many outcomes there are.
+fn write_outcomes<A: Allocator>(outcomes: usize, text: &mut String<A>) -> Result<(), AllocError>
+    ensures { OnOk result (string_bytes text.new ≡ string_bytes text.old ++ outcomes_text outcomes) }
+{
+    if outcomes == 1 {
+        write!(text, "all {outcomes} outcome, ")
+    } else {
+        write!(text, "all {outcomes} outcomes, ")
+    }
+}
+
+// Appends how many schedules there are.
+fn write_schedules<A: Allocator>(count: Count, text: &mut String<A>) -> Result<(), AllocError>
+    ensures { OnOk result (string_bytes text.new ≡ string_bytes text.old ++ schedules_text count) }
+{
+    write_count(count, text)?;
+    text.push_str(schedule_word(count))
+}
+
+// The word behind that number.
+fn schedule_word(count: Count) -> &'static str
+    ensures { result.now ≡ schedule_word count }
+{
+    match count {
+        Some(count) => {
+            if count == 1 {
+                " schedule"
+            } else {
+                " schedules"
+            }
+        }
+        None => " schedules",
+    }
 }
 
 // Appends a number of schedules.

@@ -14,6 +14,7 @@ use Rattle.queue_steps.specs.declared.model.Call.TheVariants as call
 use Rattle.app_text.specs.Calls.{IsCallOfWord}
 use Rattle.app_text.proofs.ReadNumber.{model}
 use Rattle.app_explore_text.specs.Programs.{spaced_call, calls_text, parts_of, IsCalls}
+use Rattle.app_explore_text.specs.Faults.{HasNoCall}
 
 abbrev first_semicolon : List ℕ → ℕ
 first_semicolon bs = position_or_len (λ b. b == 59) bs
@@ -124,6 +125,16 @@ pub cut_stops : (text rest part : List ℕ) (more : List (List ℕ)) (most : ℕ
 cut_stops text rest part more most calls so_far first none cs is same =
     stops cs calls part more is.2 (sym (all_cut most cs is) ∙ ap parts_of same ∙ so_far.parts ∙ ap (λ ps. map spaced_call calls ++ ps) first) none
 
+-- it is a part of the whole text, too
+pub no_call_there : (text rest part : List ℕ) (more : List (List ℕ)) (calls : List (Call ℕ)) → IsCut text rest calls → parts_of rest ≡ part ∷ more → ((c : Call ℕ) → IsCallOfWord c → spaced_call c ≢ part) → HasNoCall text
+no_call_there text rest part more calls so_far first none = record {
+  before = map spaced_call calls;
+  part = part;
+  after = more;
+  parts = so_far.parts ∙ ap (λ ps. map spaced_call calls ++ ps) first;
+  no_call = none;
+}
+
 some_part : (bs : List ℕ) → 0 < length (parts_of bs)
 some_part bs = let count = length-slice_split (λ b. b == 59) bs in omega (arith, count)
 
@@ -135,6 +146,13 @@ cut_long text rest most calls so_far full cs is same =
     let left = some_part rest in
     let few : length cs ≤ most = is.1 in
     omega (arith, counts, length-map cs spaced_call, length-map calls spaced_call, length-append (map spaced_call calls) (parts_of rest), left)
+
+-- there are more parts then
+pub too_long : (text rest : List ℕ) (most : ℕ) (calls : List (Call ℕ)) → IsCut text rest calls → most ≤ length calls → most < length (parts_of text)
+too_long text rest most calls so_far full =
+    let counts : length (parts_of text) ≡ length (map spaced_call calls ++ parts_of rest) = ap (λ (ps : List (List ℕ)). length ps) so_far.parts in
+    let left = some_part rest in
+    omega (arith, counts, full, length-map calls spaced_call, length-append (map spaced_call calls) (parts_of rest), left)
 
 -- the first part, and the others
 pub first_and_more : (part : List ℕ) (rest : List ℕ) (after : Option (Bor (List ℕ))) → MatchOption after (parts_of rest ≡ part ∷ []) (λ r. parts_of rest ≡ part ∷ parts_of r.now) → (more : List (List ℕ)) × (parts_of rest ≡ part ∷ more)

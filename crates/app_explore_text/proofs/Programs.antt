@@ -1,5 +1,5 @@
 -- The lines of a program, read back.
-use Rattle.std.proofs.Common.{◌≡◌, ◌≢◌, ℕ, ◌+◌, ◌<◌, ◌≤◌, List, [], ◌∷◌, ◌++◌, codes, length, get_or, refl, sym, ◌∙◌, ap, subst, arith, append_assoc, length-append, IfOk, Result, Ok, Err, Option, Some, None}
+use Rattle.std.proofs.Common.{◌≡◌, ◌≢◌, ℕ, ◌+◌, ◌<◌, ◌≤◌, List, [], ◌∷◌, ◌++◌, codes, length, get_or, refl, sym, ◌∙◌, ap, subst, arith, append_assoc, length-append, IfOk, Result, Ok, Err}
 use Rattle.std.proofs.lemmas.List.{append-nil}
 use Rattle.std.proofs.lemmas.Fmt.{decimal_digit}
 use Rattle.std.specs.Fmt.{decimal}
@@ -7,29 +7,45 @@ use Rattle.std.specs.List.{AllByRecursion}
 use Rattle.queue_steps.specs.declared.model.Call.{Call}
 use Rattle.queue_steps.specs.declared.model.Call.TheVariants as call
 use Rattle.app_text.specs.Lines.{lines_of}
-use Rattle.app_text.specs.Reading.{IsReading}
+use Rattle.app_text.specs.Reading.{IsParsing}
 use Rattle.app_explore_text.specs.declared.limits.TheConstants.{MOST_PARTIES, MOST_CALLS, MOST_CALLS_BEFORE}
 use Rattle.app_explore_text.specs.Programs.{calls_text, before_line, before_lines, party_line, party_lines, program_lines, IsCalls, IsPartyCalls, IsBefore, IsProgram}
+use Rattle.app_explore_text.specs.Faults.{IsCallsFault, IsPartyFault}
+use Rattle.app_explore_text.specs.declared.faults.LineFault.{LineFault}
+use Rattle.app_explore_text.specs.declared.faults.LineFault.TheVariants as reason
 use Rattle.app_explore_text.specs.Reads.{IsReadAs, BeginsProgram, IsFirstWrong, HasNoBefore}
 
+-- why the text behind the party's number is that of no calls is why the line is not the party's
+party_fault : (n : ℕ) (line spelled : List ℕ) (why : LineFault) → line ≡ decimal n ++ codes ":" ++ spelled → IsCallsFault MOST_CALLS spelled why → IsPartyFault n line why
+party_fault n line spelled reason.Party is fault = absurd fault
+party_fault n line spelled reason.TooManyParties is fault = absurd fault
+party_fault n line spelled (reason.TooManyCalls most) is fault = (spelled, is, fault)
+party_fault n line spelled reason.Call is fault = (spelled, is, fault)
+
 -- a line that begins with the party's number is read by what is behind it
-party_read : (n : ℕ) (line spelled : List ℕ) (found : Option (List (Call ℕ))) → n < MOST_PARTIES → line ≡ (48 + n) ∷ 58 ∷ spelled → IsReading (IsCalls MOST_CALLS) calls_text spelled found → IsReading (IsPartyCalls n) (party_line n) line found
-party_read n line spelled None below is none = λ calls p same. none calls p.1 (behind calls same)
+party_read : (n : ℕ) (line spelled : List ℕ) (found : Result (List (Call ℕ)) LineFault) → n < MOST_PARTIES → line ≡ (48 + n) ∷ 58 ∷ spelled → IsParsing (IsCalls MOST_CALLS) calls_text (IsCallsFault MOST_CALLS) spelled found → IsParsing (IsPartyCalls n) (party_line n) (IsPartyFault n) line found
+party_read n line spelled (Err why) below is fault = ((λ calls p same. fault.0 calls p.1 (behind calls same)), party_fault n line spelled why front fault.1)
   where
     digit : decimal n ≡ (48 + n) ∷ []
     digit = decimal_digit n (omega arith)
 
+    front : line ≡ decimal n ++ codes ":" ++ spelled
+    front = rw digit is
+
     behind : (calls : List (Call ℕ)) → party_line n calls ≡ line → calls_text calls ≡ spelled
     behind calls same = let front : (48 + n) ∷ 58 ∷ calls_text calls ≡ line = rw digit at same in let both : (48 + n) ∷ 58 ∷ calls_text calls ≡ (48 + n) ∷ 58 ∷ spelled = front ∙ is in cc
-party_read n line spelled (Some calls) below is read = ((below, read.0), rw (decimal_digit n (omega arith)) (ap (λ t. (48 + n) ∷ 58 ∷ t) read.1 ∙ sym is))
+party_read n line spelled (Ok calls) below is read = ((below, read.0), rw (decimal_digit n (omega arith)) (ap (λ t. (48 + n) ∷ 58 ∷ t) read.1 ∙ sym is))
 
-pub party_found : {E : Type 0} (n : ℕ) (line spelled : List ℕ) (r : Result (Option (List (Call ℕ))) E) → n < MOST_PARTIES → line ≡ (48 + n) ∷ 58 ∷ spelled → IfOk r (IsReading (IsCalls MOST_CALLS) calls_text spelled) → IfOk r (IsReading (IsPartyCalls n) (party_line n) line)
+pub party_found : {E : Type 0} (n : ℕ) (line spelled : List ℕ) (r : Result (Result (List (Call ℕ)) LineFault) E) → n < MOST_PARTIES → line ≡ (48 + n) ∷ 58 ∷ spelled → IfOk r (IsParsing (IsCalls MOST_CALLS) calls_text (IsCallsFault MOST_CALLS) spelled) → IfOk r (IsParsing (IsPartyCalls n) (party_line n) (IsPartyFault n) line)
 party_found n line spelled (Ok found) below is read = party_read n line spelled found below is read
 party_found n line spelled (Err e) below is read = tt
 
 -- a line that does not begin so is no line of the party
-pub party_missing : (n : ℕ) (line : List ℕ) → n < MOST_PARTIES → ((rest : List ℕ) → line ≢ (48 + n) ∷ 58 ∷ rest) → (calls : List (Call ℕ)) → IsPartyCalls n calls → party_line n calls ≢ line
-party_missing n line below none calls is same = none (calls_text calls) (sym (rw (decimal_digit n (omega arith)) at same))
+pub party_missing : (n : ℕ) (line : List ℕ) → n < MOST_PARTIES → ((rest : List ℕ) → line ≢ (48 + n) ∷ 58 ∷ rest) → ((calls : List (Call ℕ)) → IsPartyCalls n calls → party_line n calls ≢ line) × IsPartyFault n line reason.Party
+party_missing n line below none = (no_calls, λ spelled same. none spelled (rw (decimal_digit n (omega arith)) at same))
+  where
+    no_calls : (calls : List (Call ℕ)) → IsPartyCalls n calls → party_line n calls ≢ line
+    no_calls calls is same = none (calls_text calls) (sym (rw (decimal_digit n (omega arith)) at same))
 
 -- the parties so far, and the lines that are left
 pub record IsReadTo (text rest : List ℕ) (parties : List (List (Call ℕ))) : Type 0 where

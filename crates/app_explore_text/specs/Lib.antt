@@ -1,6 +1,7 @@
 pub mod Lists
 pub mod Requests
 pub mod Programs
+pub mod Faults
 pub mod Reads
 pub mod Outcomes
 pub mod Schedules

@@ -1,9 +1,9 @@
 -- What reading the lines of a program finds.
 use Rattle.std.specs.Prelude.{◌≡◌, ◌≢◌, ℕ, ◌+◌, List, [], ◌∷◌, ◌++◌, codes, length}
 use Rattle.queue_steps.specs.declared.model.Call.{Call}
-use Rattle.app_text.specs.declared.faults.Fault.{Fault}
-use Rattle.app_text.specs.declared.faults.Fault.TheVariants as fault
 use Rattle.app_explore_text.specs.Programs.{program_lines, IsProgram}
+use Rattle.app_explore_text.specs.declared.faults.ReadFault.{ReadFault}
+use Rattle.app_explore_text.specs.declared.faults.ReadFault.TheVariants as fault
 
 -- these are the lines of this program
 pub record IsReadAs (lines : List (List ℕ)) (before : List (Call ℕ)) (parties : List (List (Call ℕ))) : Type 0 where
@@ -33,10 +33,9 @@ pub record IsFirstWrong (lines : List (List ℕ)) (n : ℕ) : Type 0 where
   pub wrong : IsWrong begun rest
 
 -- why no program was read
-abbrev pub IsReadFault : List (List ℕ) → Fault → Type 0
-IsReadFault lines (fault.Unreadable n) = IsFirstWrong lines n
+abbrev pub IsReadFault : List (List ℕ) → ReadFault → Type 0
+IsReadFault lines (fault.Unreadable n why) = IsFirstWrong lines n
 IsReadFault lines fault.NoMemory = Unit {0}
-IsReadFault lines _ = ⊥
 
 -- the first line is no line of calls before
 abbrev pub HasNoBefore : List (List ℕ) → Type 0

@@ -1,11 +1,12 @@
 //! The arguments: what is asked for.
 ghost use Rattle.std.specs.Prelude.{◌≡◌, ◌≢◌, ℕ, List, [], ◌∷◌, ◌++◌, false, codes, map, string_bytes};
 ghost use Rattle.std.specs.Fmt.{decimal};
-ghost use Rattle.app_text.specs.Reading.{IsReading};
-ghost use Rattle.app_explore_text.specs.Requests.{request_words, refuse_words, wanted_words, IsRequest, IsWanted, IsOutcomeNumber, asks_for_blocks};
+ghost use Rattle.app_text.specs.Reading.{IsParsing, IsReading};
+ghost use Rattle.app_explore_text.specs.Requests.{IsOutcomeFault, IsRequestFault, IsWantedFault, IsWantedNameFault, request_words, refuse_words, wanted_words, IsRequest, IsWanted, IsOutcomeNumber, asks_for_blocks};
 
 use app_text::args::{KindName, parse_kind};
 use app_text::numbers::parse_number;
+use app_text::usage::UsageFault;
 
 /// What is to be told of a program.
 #[derive(Clone, Copy, Debug, PartialEq, Eq)]
@@ -30,19 +31,19 @@ pub struct Request {
 }
 
 /// The request that the arguments name.
-pub fn parse_request(args: &[String]) -> Option<Request>
-    ensures { IsReading IsRequest request_words (map string_bytes args.now) result }
+pub fn parse_request(args: &[String]) -> Result<Request, UsageFault>
+    ensures { IsParsing IsRequest request_words IsRequestFault (map string_bytes args.now) result }
 {
     let [kind, rest @ ..] = args else {
-        return None;
+        return Err(UsageFault::WordCount);
     };
     let kind = parse_kind(kind.as_str())?;
     let (refuses, rest) = parse_refuses(rest);
     if refuses && !may_ask(kind) {
-        return None;
+        return Err(UsageFault::Refusal);
     }
     let wanted = parse_wanted(rest)?;
-    Some(Request {
+    Ok(Request {
         kind,
         refuses,
         wanted,
@@ -71,25 +72,44 @@ fn parse_refuses(words: &[String]) -> (bool, &[String])
 }
 
 // What these words ask for.
-fn parse_wanted(words: &[String]) -> Option<Wanted>
-    ensures { IsReading IsWanted wanted_words (map string_bytes words.now) result }
+fn parse_wanted(words: &[String]) -> Result<Wanted, UsageFault>
+    ensures { IsParsing IsWanted wanted_words IsWantedFault (map string_bytes words.now) result }
 {
     match words {
-        [] => Some(Wanted::Outcomes),
+        [] => Ok(Wanted::Outcomes),
         [word, number] => parse_outcome(word.as_str(), number.as_str()),
-        _ => None,
+        [word, ..] => Err(name_fault(word.as_str())),
+    }
+}
+
+// Why this word and others behind it ask for nothing.
+fn name_fault(word: &str) -> UsageFault
+    ensures { IsWantedNameFault word.now result }
+{
+    match word {
+        "schedule" | "lanes" => UsageFault::WordCount,
+        _ => UsageFault::Wanted,
     }
 }
 
 // What these two words ask for.
-fn parse_outcome(word: &str, number: &str) -> Option<Wanted>
-    ensures { IsReading IsWanted wanted_words (word.now ∷ number.now ∷ []) result }
+fn parse_outcome(word: &str, number: &str) -> Result<Wanted, UsageFault>
+    ensures { IsParsing IsWanted wanted_words IsWantedFault (word.now ∷ number.now ∷ []) result }
 {
-    let number = parse_outcome_number(number)?;
     match word {
-        "schedule" => Some(Wanted::Schedule(number)),
-        "lanes" => Some(Wanted::Lanes(number)),
-        _ => None,
+        "schedule" => Ok(Wanted::Schedule(outcome_number(number)?)),
+        "lanes" => Ok(Wanted::Lanes(outcome_number(number)?)),
+        _ => Err(UsageFault::Wanted),
+    }
+}
+
+// The number of an outcome that this text names, or else that it names none.
+fn outcome_number(text: &str) -> Result<u64, UsageFault>
+    ensures { IsParsing IsOutcomeNumber decimal IsOutcomeFault text.now result }
+{
+    match parse_outcome_number(text) {
+        Some(number) => Ok(number),
+        None => Err(UsageFault::Outcome),
     }
 }
 

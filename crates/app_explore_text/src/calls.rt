@@ -1,37 +1,39 @@
 //! The calls of a line, which are read one by one.
 ghost use Rattle.std.specs.Prelude.{◌≡◌, ◌==◌, [], ◌∷◌, position, IfOk, MatchOption};
 ghost use Rattle.app_text.specs.Calls.{IsCallOfWord};
-ghost use Rattle.app_text.specs.Reading.{IsReading};
+ghost use Rattle.app_text.specs.Reading.{IsParsing, IsReading};
+ghost use Rattle.app_explore_text.specs.Faults.{IsCallsFault};
 ghost use Rattle.app_explore_text.specs.Programs.{IsCalls, calls_text, parts_of, spaced_call};
 
+use crate::faults::LineFault;
 use app_text::lines::Line;
 use machine_explore::program::Calls;
 use machine_explore::sequence::Sequence;
 use queue_steps::model::Call;
 use std::alloc::{AllocError, Allocator};
 
-/// The calls that this text names, if they are no more than `most`.
+/// The calls that this text names, if they are no more than `most`, or else why it names none.
 pub fn read_calls<A: Allocator>(
     alloc: A,
     most: usize,
     text: &[u8],
-) -> Result<Option<Calls<A>>, AllocError>
-    ensures { IfOk result (λ found. IsReading (IsCalls most) calls_text text.now found) }
+) -> Result<Result<Calls<A>, LineFault>, AllocError>
+    ensures { IfOk result (λ found. IsParsing (IsCalls most) calls_text (IsCallsFault most) text.now found) }
 {
     let mut calls = Vec::new(alloc);
     let mut rest = text;
     for _ in 0..most {
         let (part, after) = first_part(rest);
         let Some(call) = parse_spaced(part) else {
-            return Ok(None);
+            return Ok(Err(LineFault::Call));
         };
         calls.push(call)?;
         match after {
             Some(more) => rest = more,
-            None => return Ok(Some(Sequence::of(calls))),
+            None => return Ok(Ok(Sequence::of(calls))),
         }
     }
-    Ok(None)
+    Ok(Err(LineFault::TooManyCalls(most)))
 }
 
 // The call that this text names behind a space.

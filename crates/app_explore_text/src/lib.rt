@@ -3,6 +3,7 @@
 
 pub mod args;
 mod calls;
+pub mod faults;
 mod labels;
 pub mod lanes;
 pub mod limits;

@@ -1,13 +1,14 @@
 //! The program that the input names.
 ghost use Rattle.std.specs.Prelude.{◌≡◌, ◌++◌, [], ◌∷◌, codes, length, IfOk, MatchOption, MatchResult};
 ghost use Rattle.app_text.specs.Lines.{lines_of};
-ghost use Rattle.app_text.specs.Reading.{IsReading};
+ghost use Rattle.app_text.specs.Reading.{IsParsing};
+ghost use Rattle.app_explore_text.specs.Faults.{IsPartyFault};
 ghost use Rattle.app_explore_text.specs.Programs.{before_lines, party_line, IsBefore, IsPartyCalls};
 ghost use Rattle.app_explore_text.specs.Reads.{IsReadAs, IsReadFault, HasNoBefore};
 
 use crate::calls::read_calls;
+use crate::faults::{LineFault, ReadFault};
 use crate::limits::{MOST_CALLS, MOST_CALLS_BEFORE, MOST_PARTIES};
-use app_text::faults::Fault;
 use app_text::lines::next_line;
 use machine_explore::program::{Calls, Program};
 use machine_explore::sequence::Sequence;
@@ -19,7 +20,7 @@ use std::alloc::{AllocError, Allocator};
 ///
 /// `Unreadable` with the number of the first line up to which no program's lines go so, or of the line behind the last where the
 /// lines end too early; and `NoMemory`.
-pub fn read_program<A: Allocator + Copy>(alloc: A, text: &[u8]) -> Result<Program<A>, Fault>
+pub fn read_program<A: Allocator + Copy>(alloc: A, text: &[u8]) -> Result<Program<A>, ReadFault>
     ensures { MatchResult result
         (λ program. IsReadAs (lines_of text.now) program.before program.parties.items)
         (IsReadFault (lines_of text.now)) }
@@ -28,12 +29,12 @@ pub fn read_program<A: Allocator + Copy>(alloc: A, text: &[u8]) -> Result<Progra
         return read_parties(alloc, Sequence::of(Vec::new(alloc)), text);
     };
     let Ok(found) = read_calls(alloc, MOST_CALLS_BEFORE, spelled) else {
-        return Err(Fault::NoMemory);
+        return Err(ReadFault::NoMemory);
     };
-    let Some(before) = found else {
-        return Err(Fault::Unreadable(1));
-    };
-    read_parties(alloc, before, rest)
+    match found {
+        Ok(before) => read_parties(alloc, before, rest),
+        Err(why) => Err(ReadFault::Unreadable(1, why)),
+    }
 }
 
 // What the first line has behind `before:`, and the text behind that line.
@@ -52,7 +53,7 @@ fn read_parties<A: Allocator + Copy>(
     alloc: A,
     before: Calls<A>,
     text: &[u8],
-) -> Result<Program<A>, Fault>
+) -> Result<Program<A>, ReadFault>
     requires calls { IsBefore before }
     requires single { before ≡ [] → HasNoBefore (lines_of text.now) }
     ensures { MatchResult result
@@ -64,18 +65,19 @@ fn read_parties<A: Allocator + Copy>(
     let mut rest = text;
     while let Some((line, after)) = next_line(rest) {
         let Ok(found) = read_party(alloc, parties.len(), line) else {
-            return Err(Fault::NoMemory);
+            return Err(ReadFault::NoMemory);
         };
-        let Some(calls) = found else {
-            return Err(Fault::Unreadable(taken + parties.len() + 1));
+        let calls = match found {
+            Ok(calls) => calls,
+            Err(why) => return Err(ReadFault::Unreadable(taken + parties.len() + 1, why)),
         };
         if parties.push(calls).is_err() {
-            return Err(Fault::NoMemory);
+            return Err(ReadFault::NoMemory);
         }
         rest = after;
     }
     if parties.is_empty() {
-        return Err(Fault::Unreadable(taken + 1));
+        return Err(ReadFault::Unreadable(taken + 1, LineFault::Party));
     }
     Ok(Program { before, parties })
 }
@@ -87,20 +89,20 @@ fn count_lines<A: Allocator>(before: &Calls<A>) -> usize
     if before.len() == 0 { 0 } else { 1 }
 }
 
-// The calls of the party of this number, if this is its line.
+// The calls of the party of this number, if this is its line, or else why it is not.
 fn read_party<A: Allocator>(
     alloc: A,
     number: usize,
     line: &[u8],
-) -> Result<Option<Calls<A>>, AllocError>
-    ensures { IfOk result (λ found. IsReading (IsPartyCalls number) (party_line number) line.now found) }
+) -> Result<Result<Calls<A>, LineFault>, AllocError>
+    ensures { IfOk result (λ found. IsParsing (IsPartyCalls number) (party_line number) (IsPartyFault number) line.now found) }
 {
     if number >= MOST_PARTIES {
-        return Ok(None);
+        return Ok(Err(LineFault::TooManyParties));
     }
     let mark = [b'0' + number as u8, b':'];
     match line.strip_prefix(mark.as_slice()) {
         Some(spelled) => read_calls(alloc, MOST_CALLS, spelled),
-        None => Ok(None),
+        None => Ok(Err(LineFault::Party)),
     }
 }

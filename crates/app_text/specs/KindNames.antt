@@ -19,8 +19,11 @@ kind_text (kind.Bounded count) = codes "bounded:" ++ decimal count
 kind_text kind.Unbounded = codes "unbounded"
 
 -- a capacity is a word above 0
+abbrev pub IsCapacity : ℕ → Type 0
+IsCapacity count = IsWord count × (0 < count)
+
 abbrev pub IsKindName : KindName → Type 0
-IsKindName (kind.Bounded count) = IsWord count × (0 < count)
+IsKindName (kind.Bounded count) = IsCapacity count
 IsKindName _ = Unit {0}
 
 -- 1 to 64 threads push, and so many pop

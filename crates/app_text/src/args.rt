@@ -1,13 +1,15 @@
 //! The arguments of the program.
 ghost use Rattle.std.specs.Prelude.{◌≡◌, [], ◌∷◌, map, string_bytes};
 ghost use Rattle.std.specs.Fmt.{decimal};
-ghost use Rattle.app_text.specs.Reading.{IsReading};
+ghost use Rattle.app_text.specs.Reading.{IsParsing, IsReading};
 ghost use Rattle.machine_replay.specs.Conforms.{capacity_of as capacity_of_kind};
 ghost use Rattle.machine_replay.specs.Replays.{CanReplay};
-ghost use Rattle.app_text.specs.KindNames.{capacity_of, kind_text, queue_named, IsKindName, form_words, IsForm, IsPartyCount};
+ghost use Rattle.app_text.specs.Usage.{IsFormFault, IsKindFault, IsNameFault};
+ghost use Rattle.app_text.specs.KindNames.{capacity_of, kind_text, queue_named, IsCapacity, IsKindName, form_words, IsForm, IsPartyCount};
 
 use crate::load::{Load, parse_even_load, parse_load};
 use crate::numbers::parse_number;
+use crate::usage::UsageFault;
 use queue_steps::steps::Kind;
 
 /// The most parties that a replay may have.
@@ -56,10 +58,11 @@ pub enum Form {
 }
 
 /// The form that the arguments name.
-pub fn parse_form(args: &[String]) -> Option<Form>
-    ensures { IsReading IsForm form_words (map string_bytes args.now) result }
+pub fn parse_form(args: &[String]) -> Result<Form, UsageFault>
+    ensures { IsParsing IsForm form_words IsFormFault (map string_bytes args.now) result }
 {
     match args {
+        [] => Err(UsageFault::Form),
         [form] => handshake_form(form.as_str()),
         [form, kind] => script_form(form.as_str(), kind.as_str()),
         [form, kind, parties] => replay_form(form.as_str(), kind.as_str(), parties.as_str()),
@@ -70,40 +73,52 @@ pub fn parse_form(args: &[String]) -> Option<Form>
             poppers.as_str(),
             items.as_str(),
         ),
-        _ => None,
+        [form, ..] => Err(name_fault(form.as_str())),
+    }
+}
+
+// Why no form has this name and other words behind it.
+fn name_fault(form: &str) -> UsageFault
+    ensures { IsNameFault form.now result }
+{
+    match form {
+        "script" | "replay" | "threads" | "handshake" | "channel" => UsageFault::WordCount,
+        _ => UsageFault::Form,
     }
 }
 
 // The form that this word names.
-fn handshake_form(form: &str) -> Option<Form>
-    ensures { IsReading IsForm form_words (form.now ∷ []) result }
+fn handshake_form(form: &str) -> Result<Form, UsageFault>
+    ensures { IsParsing IsForm form_words IsFormFault (form.now ∷ []) result }
 {
     if form != "handshake" {
-        return None;
+        return Err(name_fault(form));
     }
-    Some(Form::Handshake)
+    Ok(Form::Handshake)
 }
 
 // The form that these two words name.
-fn script_form(form: &str, kind: &str) -> Option<Form>
-    ensures { IsReading IsForm form_words (form.now ∷ kind.now ∷ []) result }
+fn script_form(form: &str, kind: &str) -> Result<Form, UsageFault>
+    ensures { IsParsing IsForm form_words IsFormFault (form.now ∷ kind.now ∷ []) result }
 {
     if form != "script" {
-        return None;
+        return Err(name_fault(form));
     }
-    Some(Form::Script(parse_kind(kind)?))
+    Ok(Form::Script(parse_kind(kind)?))
 }
 
 // The form that these three words name.
-fn replay_form(form: &str, kind: &str, parties: &str) -> Option<Form>
-    ensures { IsReading IsForm form_words (form.now ∷ kind.now ∷ parties.now ∷ []) result }
+fn replay_form(form: &str, kind: &str, parties: &str) -> Result<Form, UsageFault>
+    ensures { IsParsing IsForm form_words IsFormFault (form.now ∷ kind.now ∷ parties.now ∷ []) result }
 {
     if form != "replay" {
-        return None;
+        return Err(name_fault(form));
     }
     let kind = parse_kind(kind)?;
-    let parties = parse_parties(parties)?;
-    Some(Form::Replay(kind, parties))
+    let Some(parties) = parse_parties(parties) else {
+        return Err(UsageFault::Parties);
+    };
+    Ok(Form::Replay(kind, parties))
 }
 
 // The number of parties that this text names.
@@ -118,30 +133,48 @@ fn parse_parties(text: &str) -> Option<usize>
 }
 
 // The form that these five words name.
-fn load_form(form: &str, kind: &str, pushers: &str, poppers: &str, items: &str) -> Option<Form>
-    ensures { IsReading IsForm form_words (form.now ∷ kind.now ∷ pushers.now ∷ poppers.now ∷ items.now ∷ []) result }
+fn load_form(
+    form: &str,
+    kind: &str,
+    pushers: &str,
+    poppers: &str,
+    items: &str,
+) -> Result<Form, UsageFault>
+    ensures { IsParsing IsForm form_words IsFormFault (form.now ∷ kind.now ∷ pushers.now ∷ poppers.now ∷ items.now ∷ []) result }
 {
     match form {
-        "threads" => Some(Form::Threads(parse_even_load(kind, pushers, poppers, items)?)),
-        "channel" => Some(Form::Channel(parse_load(kind, pushers, poppers, items)?)),
-        _ => None,
+        "threads" => Ok(Form::Threads(parse_even_load(kind, pushers, poppers, items)?)),
+        "channel" => Ok(Form::Channel(parse_load(kind, pushers, poppers, items)?)),
+        _ => Err(name_fault(form)),
     }
 }
 
 /// The kind that this text names.
-pub fn parse_kind(text: &str) -> Option<KindName>
-    ensures { IsReading IsKindName kind_text text.now result }
+pub fn parse_kind(text: &str) -> Result<KindName, UsageFault>
+    ensures { IsParsing IsKindName kind_text IsKindFault text.now result }
 {
     match text {
-        "single" => Some(KindName::Single),
-        "unbounded" => Some(KindName::Unbounded),
+        "single" => Ok(KindName::Single),
+        "unbounded" => Ok(KindName::Unbounded),
         _ => {
-            let digits = text.as_bytes().strip_prefix(b"bounded:".as_slice())?;
-            let cap = parse_number(digits)?;
-            if cap == 0 {
-                return None;
-            }
-            Some(KindName::Bounded(cap as usize))
+            let Some(digits) = text.as_bytes().strip_prefix(b"bounded:".as_slice()) else {
+                return Err(UsageFault::Kind);
+            };
+            let Some(cap) = parse_capacity(digits) else {
+                return Err(UsageFault::Capacity);
+            };
+            Ok(KindName::Bounded(cap))
         }
     }
+}
+
+// The capacity that these digits name.
+fn parse_capacity(digits: &[u8]) -> Option<usize>
+    ensures { IsReading IsCapacity decimal digits.now result }
+{
+    let cap = parse_number(digits)?;
+    if cap == 0 {
+        return None;
+    }
+    Some(cap as usize)
 }

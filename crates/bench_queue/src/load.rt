@@ -68,7 +68,7 @@ pub fn parse_load(line: &str) -> Option<Load>
 {
     let mut words = line.split(' ');
     let form = words.next()?;
-    let capacity = capacity_of(parse_kind(words.next()?)?);
+    let capacity = capacity_of(parse_kind(words.next()?).ok()?);
     let first = words.next()?;
     let second = words.next()?;
     let count = words.next()?.parse().ok()?;

@@ -10,3 +10,4 @@ pub mod scripts;
 pub mod streams;
 pub mod threads;
 pub mod unbounded;
+pub mod usage;

@@ -4,3 +4,4 @@ pub mod printing;
 pub mod reading;
 pub mod refusals;
 pub mod streams;
+pub mod usage;

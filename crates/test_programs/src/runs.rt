@@ -15,14 +15,14 @@ pub enum Program {
     QueueExplore,
 }
 
-/// What each tells of arguments that ask for nothing that there is.
-pub const RUN_USAGE: &str =
+/// The first line of what each tells of arguments that ask for nothing that there is.
+const RUN_USAGE: &str =
     "usage: queue_run script KIND | replay KIND PARTIES | threads KIND PUSHERS POPPERS ITEMS | handshake | channel KIND SENDERS RECEIVERS ITEMS\n";
 
-pub const EXPLORE_USAGE: &str = "usage: queue_explore KIND [refuse] [schedule N | lanes N]\n";
+const EXPLORE_USAGE: &str = "usage: queue_explore KIND [refuse] [schedule N | lanes N]\n";
 
 impl Program {
-    /// What it tells of such arguments.
+    /// That line.
     fn usage(self) -> &'static str {
         match self {
             Program::QueueRun => RUN_USAGE,
@@ -115,14 +115,21 @@ pub fn all_fail<R: Abort + Threads + Wait + Sync + AllocGlobal>(
     }
 }
 
-/// Asserts that a program tells how it is used on each of these lines of arguments, and this input.
+/// What a program tells of arguments that are wrong for this reason.
+pub fn usage<R: Abort + AllocGlobal>(rt: &R, program: Program, reason: &str) -> String {
+    format!(in rt.alloc(); "{}{reason}\n", program.usage()).expect(rt, "memory for the usage")
+}
+
+/// Asserts that a program tells how it is used, and this reason, on each of these lines of arguments, and this input.
 pub fn all_wrong<R: Abort + Threads + Wait + Sync + AllocGlobal>(
     rt: &R,
     program: Program,
     lines: &[&str],
     input: &[u8],
+    reason: &str,
 ) {
+    let told = usage(rt, program, reason);
     for line in lines {
-        ends(rt, program, line, input, End::fault(2, program.usage()));
+        ends(rt, program, line, input, End::fault(2, told.as_str()));
     }
 }

@@ -1,7 +1,7 @@
 //! Rows of the form `channel`, run through `command`, and two ends of a channel that are at work within one another's calls.
 use crate::command::meanwhile::{Heap, Queue};
 use crate::command::rows::all_end_well;
-use crate::runs::{Program, UNREAD, all_wrong, ends};
+use crate::runs::{Program, UNREAD, ends};
 use app_threads::crew::{Plan, Work};
 use app_threads::ends::run_all;
 use counted_channel::channel;
@@ -102,30 +102,6 @@ fn no_channel_of_too_many_slots(rt: HostRuntime) {
         UNREAD,
         End::fault(3, "no memory\n"),
     );
-}
-
-static WRONG: [&str; 16] = [
-    "channel",
-    "channel single",
-    "channel single 1 1",
-    "channel single 1 1 1 1",
-    "channels single 1 1 1",
-    "Channel single 1 1 1",
-    "channel double 1 1 1",
-    "channel bounded:0 1 1 1",
-    "channel single 0 1 1",
-    "channel single 65 1 1",
-    "channel single 1 0 1",
-    "channel single 1 65 1",
-    "channel single 1 1 1000001",
-    "channel single 1 1 -1",
-    "channel single 01 1 1",
-    "channel single 1 1 18446744073709551616",
-];
-
-#[test]
-fn wrong_channels_give_the_usage_text(rt: HostRuntime) {
-    all_wrong(&rt, Program::QueueRun, &WRONG, UNREAD);
 }
 
 /// What is seen of two threads that send, and one that receives.

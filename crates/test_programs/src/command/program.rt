@@ -1,5 +1,5 @@
 //! The end of the program: the arguments as the system gives them, and the status.
-use crate::runs::RUN_USAGE;
+use crate::runs::{Program, usage};
 use app_command::program::program;
 use std::env::Args;
 use std::io;
@@ -35,8 +35,8 @@ fn given<R: Abort + AllocGlobal>(rt: &R, line: &str) -> Args {
 /// An input of one line.
 const INPUT: &[u8] = b"push 1\n";
 
-/// The status with which each line ends on that input, its output, and what is told of a fault. Five arguments are handed on, and one that is too many.
-static ENDS: [(&str, u8, &str, &str); 7] = [
+/// The status with which each line ends on that input, its output, and what is told of a fault.
+static ENDS: [(&str, u8, &str, &str); 4] = [
     ("queue_run script single", 0, "ok\nleft 1\n", ""),
     (
         "queue_run threads unbounded 2 2 50",
@@ -44,9 +44,6 @@ static ENDS: [(&str, u8, &str, &str); 7] = [
         "50 values, each counted 2 times\n",
         "",
     ),
-    ("queue_run threads unbounded 2 2 50 50", 2, "", RUN_USAGE),
-    ("queue_run", 2, "", RUN_USAGE),
-    ("", 2, "", RUN_USAGE),
     ("queue_run replay single 1", 2, "", "line 1: unreadable\n"),
     (
         "queue_run script bounded:576460752303423489",
@@ -68,6 +65,36 @@ fn each_end_has_its_status(rt: HostRuntime) {
     }
 }
 
+/// Why there is no form of that name.
+const NO_FORM: &str = "form: script, replay, threads, handshake or channel";
+
+/// Lines that name no form, and why. Five arguments are handed on, and one that is too many.
+static WRONG: [(&str, &str); 3] = [
+    (
+        "queue_run threads unbounded 2 2 50 50",
+        "words: too few or too many",
+    ),
+    ("queue_run", NO_FORM),
+    ("", NO_FORM),
+];
+
+/// Asserts that the program tells how it is used, and this reason.
+fn is_wrong<R: Abort + Threads + Wait + Sync + AllocGlobal>(
+    rt: &R,
+    given: io::Result<Args>,
+    reason: &str,
+) {
+    let told = usage(rt, Program::QueueRun, reason);
+    ends(rt, given, INPUT, End::fault(2, told.as_str()));
+}
+
+#[test]
+fn each_wrong_line_has_its_reason(rt: HostRuntime) {
+    for (line, reason) in WRONG.iter() {
+        is_wrong(&rt, Ok(given(&rt, line)), reason);
+    }
+}
+
 #[test]
 fn arguments_without_memory_end_as_want_of_memory(rt: HostRuntime) {
     let error = io::Error::from(ErrorKind::OutOfMemory);
@@ -77,5 +104,5 @@ fn arguments_without_memory_end_as_want_of_memory(rt: HostRuntime) {
 #[test]
 fn arguments_that_are_no_text_are_wrong(rt: HostRuntime) {
     let error = io::Error::from(ErrorKind::InvalidData);
-    ends(&rt, Err(error), INPUT, End::fault(2, RUN_USAGE));
+    is_wrong(&rt, Err(error), NO_FORM);
 }

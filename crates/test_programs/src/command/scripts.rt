@@ -1,6 +1,6 @@
 //! Rows of scripts, run through `command`.
 use crate::command::rows::{Part, all_unreadable, all_write, text_of};
-use crate::runs::{Program, all_wrong, ends, ends_with, run};
+use crate::runs::{Program, ends, ends_with, run};
 use crate::streams::{read_fails, write_fails};
 use std::io::ErrorKind;
 use std::process::Abort;
@@ -11,36 +11,6 @@ use test_streams::streams::{Failing, Flow};
 
 /// The arguments of a script on a queue of one slot.
 pub const SINGLE: &str = "script single";
-
-static WRONG: [&str; 22] = [
-    "",
-    "script",
-    "script double",
-    "script Single",
-    "script bounded",
-    "script bounded:",
-    "script bounded:0",
-    "script bounded:01",
-    "script bounded:18446744073709551616",
-    "script single single",
-    "scripts single",
-    "replay",
-    "replay single",
-    "replay single 0",
-    "replay single 65",
-    "replay single 01",
-    "replay single two",
-    "replay single 18446744073709551617",
-    "replay bounded:0 1",
-    "replay single 1 1",
-    "script single 1",
-    "handshakes",
-];
-
-#[test]
-fn wrong_arguments_give_the_usage_text(rt: HostRuntime) {
-    all_wrong(&rt, Program::QueueRun, &WRONG, b"pop\n");
-}
 
 static UNREADABLE: [(&[u8], &str); 20] = [
     (b"push 07", "line 1: unreadable\n"),

@@ -1,6 +1,6 @@
 //! Rows of the forms that start threads, run through `command`.
 use crate::command::rows::all_end_well;
-use crate::runs::{Program, UNREAD, all_wrong, ends, ends_with};
+use crate::runs::{Program, UNREAD, ends, ends_with};
 use std::io::ErrorKind;
 use test_streams::runs::{End, SOUND, Streams};
 use test_streams::streams::{Failing, Flow};
@@ -117,40 +117,6 @@ fn no_ring_of_too_many_slots(rt: HostRuntime) {
         UNREAD,
         End::fault(3, "no memory\n"),
     );
-}
-
-static WRONG: [&str; 26] = [
-    "threads",
-    "threads single",
-    "threads single 1 1",
-    "threads single 1 1 1 1",
-    "thread single 1 1 1",
-    "threads double 1 1 1",
-    "threads single 1 3 2",
-    "threads single 0 1 1",
-    "threads single 1 0 1",
-    "threads single 65 1 1",
-    "threads single 1 65 65",
-    "threads single 1 1 1000001",
-    "threads single 1 1 -1",
-    "threads single 01 1 1",
-    "threads single 1 1 18446744073709551616",
-    "threads unbounded 1 1",
-    "threads unbounded 1 2 3",
-    "threads unbounded:1 1 1 1",
-    "threads bounded 1 1 1",
-    "threads bounded: 1 1 1",
-    "threads bounded:02 1 1 1",
-    "threads bounded:0 1 1 1",
-    "threads bounded:3 2 3 100",
-    "handshake single",
-    "handshakes",
-    "script",
-];
-
-#[test]
-fn wrong_loads_give_the_usage_text(rt: HostRuntime) {
-    all_wrong(&rt, Program::QueueRun, &WRONG, UNREAD);
 }
 
 /// An output that is a pipe that nobody reads.

@@ -1,26 +1,32 @@
 //! Rows of each form, run through `command`.
-use crate::runs::{FaultRow, Program, all_fail, all_print, all_wrong};
+use crate::runs::{FaultRow, Program, all_fail, all_print};
 use test_streams::runs::Row;
 
 /// A forced push to a full ring of two, beside two `len`s.
 const DISPLACEMENT: &str = "before: push 1; push 2\n0: force 3\n1: len; len\n";
 
-static LISTS: [Row; 3] = [
+static LISTS: [Row; 4] = [
     Row {
         line: "bounded:2",
         input: DISPLACEMENT,
-        output: "outcome 1 | 0: displaced 1 | 1: 1; 1 | left 2 3 | schedules 4 | steps 11 | order none\noutcome 2 | 0: displaced 1 | 1: 1; 2 | left 2 3 | schedules 60 | steps 11 | order none\noutcome 3 | 0: displaced 1 | 1: 2; 1 | left 2 3 | schedules 31 | steps 11 | order none\noutcome 4 | 0: displaced 1 | 1: 2; 2 | left 2 3 | schedules 682 | steps 11 | order 0 1 1\nall 4 outcomes, 777 schedules, longest lone call 5\n",
+        output: "outcome 1 | 0: displaced 1 | 1: 1; 1 | left 2 3 | schedules 4 | steps 11 | order none\noutcome 2 | 0: displaced 1 | 1: 1; 2 | left 2 3 | schedules 60 | steps 11 | order none\noutcome 3 | 0: displaced 1 | 1: 2; 1 | left 2 3 | schedules 31 | steps 11 | order none\noutcome 4 | 0: displaced 1 | 1: 2; 2 | left 2 3 | schedules 682 | steps 11 | order 0 1 1\nall 4 outcomes, 777 schedules, longest lone call 5, 3 with order none\n",
     },
     // A pop looks before the push, or behind it, or waits once between its two steps.
     Row {
         line: "single",
         input: "0: pop\n1: push 1",
-        output: "outcome 1 | 0: empty | 1: ok | left 1 | schedules 1 | steps 3 | order 0 1\noutcome 2 | 0: item 1 | 1: ok | left | schedules 2 | steps 4 | order 1 0\nall 2 outcomes, 3 schedules, longest lone call 2\n",
+        output: "outcome 1 | 0: empty | 1: ok | left 1 | schedules 1 | steps 3 | order 0 1\noutcome 2 | 0: item 1 | 1: ok | left | schedules 2 | steps 4 | order 1 0\nall 2 outcomes, 3 schedules, longest lone call 2, 0 with order none\n",
+    },
+    // One outcome of two schedules.
+    Row {
+        line: "single",
+        input: "0: len\n1: len\n",
+        output: "outcome 1 | 0: 0 | 1: 0 | left | schedules 2 | steps 2 | order 0 1\nall 1 outcome, 2 schedules, longest lone call 1, 0 with order none\n",
     },
     Row {
         line: "unbounded refuse",
         input: "0: push 1\n",
-        output: "outcome 1 | 0: no memory 1 | left | schedules 1 | steps 3 | order 0\noutcome 2 | 0: ok | left 1 | schedules 1 | steps 7 | order 0\nall 2 outcomes, 2 schedules, longest lone call 7\n",
+        output: "outcome 1 | 0: no memory 1 | left | schedules 1 | steps 3 | order 0\noutcome 2 | 0: ok | left 1 | schedules 1 | steps 7 | order 0\nall 2 outcomes, 2 schedules, longest lone call 7, 0 with order none\n",
     },
 ];
 
@@ -210,72 +216,6 @@ static NO_OUTCOMES: [FaultRow; 4] = [
 #[test]
 fn outcomes_that_are_not_there(rt: HostRuntime) {
     all_fail(&rt, Program::QueueExplore, &NO_OUTCOMES);
-}
-
-static UNREADABLE: [FaultRow; 6] = [
-    FaultRow {
-        line: "single",
-        input: "",
-        status: 2,
-        fault: "line 1: unreadable\n",
-    },
-    FaultRow {
-        line: "single",
-        input: "0:push 1\n",
-        status: 2,
-        fault: "line 1: unreadable\n",
-    },
-    FaultRow {
-        line: "single",
-        input: "before: push 1\n",
-        status: 2,
-        fault: "line 2: unreadable\n",
-    },
-    FaultRow {
-        line: "bounded:2",
-        input: "before: push 1\n0: pop\n2: pop\n",
-        status: 2,
-        fault: "line 3: unreadable\n",
-    },
-    FaultRow {
-        line: "unbounded refuse schedule 1",
-        input: "0: pop\n1: pop\n1: pop\n",
-        status: 2,
-        fault: "line 3: unreadable\n",
-    },
-    FaultRow {
-        line: "unbounded lanes 1",
-        input: "0: pop\n\n",
-        status: 2,
-        fault: "line 2: unreadable\n",
-    },
-];
-
-#[test]
-fn lines_that_are_unreadable(rt: HostRuntime) {
-    all_fail(&rt, Program::QueueExplore, &UNREADABLE);
-}
-
-static WRONG: [&str; 14] = [
-    "",
-    "double",
-    "bounded:0",
-    "single refuse",
-    "bounded:2 refuse lanes 1",
-    "single schedule",
-    "single schedule 0",
-    "single schedule 01",
-    "single schedule 18446744073709551616",
-    "single lanes",
-    "single lanes 0",
-    "single picture 1",
-    "single schedule 1 lanes 1",
-    "unbounded lanes 1 refuse",
-];
-
-#[test]
-fn wrong_arguments_give_the_usage_text(rt: HostRuntime) {
-    all_wrong(&rt, Program::QueueExplore, &WRONG, b"0: pop\n");
 }
 
 /// No queue has more slots than 2^59.

@@ -1,17 +1,18 @@
 //! What the lines of programs, and the words of requests, are read as.
 use app_explore_text::args::{Request, Wanted, parse_request};
+use app_explore_text::faults::{LineFault, ReadFault};
 use app_explore_text::reading::read_program;
 use app_text::args::KindName;
-use app_text::faults::Fault;
+use app_text::usage::UsageFault;
 use std::alloc::Global;
 use std::process::Abort;
 use test_streams::runs::words;
 
-/// What reading finds: how many calls there are before, and of each party; or the number of the line that is wrong.
+/// What reading finds: how many calls there are before, and of each party; or the number of the line that is wrong, and why.
 #[derive(Clone, Copy, Debug, PartialEq)]
 enum Found<'a> {
     Program(usize, &'a [usize]),
-    Wrong(usize),
+    Wrong(usize, LineFault),
 }
 
 static ROWS: [(&str, Found<'static>); 20] = [
@@ -31,25 +32,31 @@ static ROWS: [(&str, Found<'static>); 20] = [
     ),
     (
         "0: len; len; len; len; len; len; len; len; len; len; len; len; len; len; len; len; len\n",
-        Found::Wrong(1),
+        Found::Wrong(1, LineFault::TooManyCalls(16)),
     ),
     (
         "0: pop\n1: pop\n2: pop\n3: pop\n4: pop\n5: pop\n6: pop\n7: pop\n8: pop\n",
-        Found::Wrong(9),
+        Found::Wrong(9, LineFault::TooManyParties),
     ),
-    ("", Found::Wrong(1)),
-    ("\n", Found::Wrong(1)),
-    ("before: pop", Found::Wrong(2)),
-    ("before: pop\n\n", Found::Wrong(2)),
-    ("before:\n0: pop\n", Found::Wrong(1)),
-    ("before: pop\nbefore: pop\n0: pop\n", Found::Wrong(2)),
-    ("0: pop\nbefore: pop\n", Found::Wrong(2)),
-    ("1: pop\n", Found::Wrong(1)),
-    ("0: pop\n2: pop\n", Found::Wrong(2)),
-    ("0: pop;pop\n", Found::Wrong(1)),
-    ("0: pop; \n", Found::Wrong(1)),
-    ("0:\n", Found::Wrong(1)),
-    ("0: push 18446744073709551616\n", Found::Wrong(1)),
+    ("", Found::Wrong(1, LineFault::Party)),
+    ("\n", Found::Wrong(1, LineFault::Party)),
+    ("before: pop", Found::Wrong(2, LineFault::Party)),
+    ("before: pop\n\n", Found::Wrong(2, LineFault::Party)),
+    ("before:\n0: pop\n", Found::Wrong(1, LineFault::Call)),
+    (
+        "before: pop\nbefore: pop\n0: pop\n",
+        Found::Wrong(2, LineFault::Party),
+    ),
+    ("0: pop\nbefore: pop\n", Found::Wrong(2, LineFault::Party)),
+    ("1: pop\n", Found::Wrong(1, LineFault::Party)),
+    ("0: pop\n2: pop\n", Found::Wrong(2, LineFault::Party)),
+    ("0: pop;pop\n", Found::Wrong(1, LineFault::Call)),
+    ("0: pop; \n", Found::Wrong(1, LineFault::Call)),
+    ("0:\n", Found::Wrong(1, LineFault::Call)),
+    (
+        "0: push 18446744073709551616\n",
+        Found::Wrong(1, LineFault::Call),
+    ),
 ];
 
 #[test]
@@ -69,16 +76,16 @@ fn is_read(rt: &impl Abort, alloc: Global, text: &[u8], found: Found<'_>) {
             }
             Found::Program(program.before.len(), &counts)
         }
-        Err(Fault::Unreadable(number)) => Found::Wrong(number),
-        Err(_) => panic!(rt; "no memory"),
+        Err(ReadFault::Unreadable(number, why)) => Found::Wrong(number, why),
+        Err(ReadFault::NoMemory) => panic!(rt; "no memory"),
     };
     assert_eq!(rt; read, found, "of {text:?}");
 }
 
-static REQUESTS: [(&str, Option<Request>); 17] = [
+static REQUESTS: [(&str, Result<Request, UsageFault>); 17] = [
     (
         "bounded:2",
-        Some(Request {
+        Ok(Request {
             kind: KindName::Bounded(2),
             refuses: false,
             wanted: Wanted::Outcomes,
@@ -86,7 +93,7 @@ static REQUESTS: [(&str, Option<Request>); 17] = [
     ),
     (
         "unbounded refuse",
-        Some(Request {
+        Ok(Request {
             kind: KindName::Unbounded,
             refuses: true,
             wanted: Wanted::Outcomes,
@@ -94,7 +101,7 @@ static REQUESTS: [(&str, Option<Request>); 17] = [
     ),
     (
         "single schedule 3",
-        Some(Request {
+        Ok(Request {
             kind: KindName::Single,
             refuses: false,
             wanted: Wanted::Schedule(3),
@@ -102,7 +109,7 @@ static REQUESTS: [(&str, Option<Request>); 17] = [
     ),
     (
         "unbounded refuse schedule 1",
-        Some(Request {
+        Ok(Request {
             kind: KindName::Unbounded,
             refuses: true,
             wanted: Wanted::Schedule(1),
@@ -110,7 +117,7 @@ static REQUESTS: [(&str, Option<Request>); 17] = [
     ),
     (
         "single lanes 1",
-        Some(Request {
+        Ok(Request {
             kind: KindName::Single,
             refuses: false,
             wanted: Wanted::Lanes(1),
@@ -118,23 +125,23 @@ static REQUESTS: [(&str, Option<Request>); 17] = [
     ),
     (
         "unbounded refuse lanes 1",
-        Some(Request {
+        Ok(Request {
             kind: KindName::Unbounded,
             refuses: true,
             wanted: Wanted::Lanes(1),
         }),
     ),
-    ("single refuse", None),
-    ("single refuse lanes 1", None),
-    ("single schedule 0", None),
-    ("single schedule", None),
-    ("single lanes 0", None),
-    ("single lanes 01", None),
-    ("single lanes", None),
-    ("single lanes schedule 1", None),
-    ("single lanes 1 schedule 1", None),
-    ("unbounded schedule 1 refuse", None),
-    ("", None),
+    ("single refuse", Err(UsageFault::Refusal)),
+    ("single refuse lanes 1", Err(UsageFault::Refusal)),
+    ("single schedule 0", Err(UsageFault::Outcome)),
+    ("single schedule", Err(UsageFault::WordCount)),
+    ("single lanes 0", Err(UsageFault::Outcome)),
+    ("single lanes 01", Err(UsageFault::Outcome)),
+    ("single lanes", Err(UsageFault::WordCount)),
+    ("single lanes schedule 1", Err(UsageFault::WordCount)),
+    ("single lanes 1 schedule 1", Err(UsageFault::WordCount)),
+    ("unbounded schedule 1 refuse", Err(UsageFault::WordCount)),
+    ("", Err(UsageFault::WordCount)),
 ];
 
 #[test]

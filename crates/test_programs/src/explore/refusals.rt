@@ -6,7 +6,7 @@ static LONE: [Asking<'static>; 4] = [
     Asking {
         line: "single",
         input: "0: push 1\n",
-        output: "outcome 1 | 0: ok | left 1 | schedules 1 | steps 2 | order 0\nall 1 outcomes, 1 schedules, longest lone call 2\n",
+        output: "outcome 1 | 0: ok | left 1 | schedules 1 | steps 2 | order 0\nall 1 outcome, 1 schedule, longest lone call 2, 0 with order none\n",
         told: None,
     },
     Asking {
@@ -33,7 +33,7 @@ static LONE: [Asking<'static>; 4] = [
     Asking {
         line: "unbounded refuse",
         input: "0: push 1\n",
-        output: "outcome 1 | 0: no memory 1 | left | schedules 1 | steps 3 | order 0\noutcome 2 | 0: ok | left 1 | schedules 1 | steps 7 | order 0\nall 2 outcomes, 2 schedules, longest lone call 7\n",
+        output: "outcome 1 | 0: no memory 1 | left | schedules 1 | steps 3 | order 0\noutcome 2 | 0: ok | left 1 | schedules 1 | steps 7 | order 0\nall 2 outcomes, 2 schedules, longest lone call 7, 0 with order none\n",
         told: None,
     },
 ];
@@ -48,7 +48,7 @@ fn each_request_refused(rt: HostRuntime) {
 static PAIR: [Asking<'static>; 1] = [Asking {
     line: "unbounded",
     input: "0: push 1\n1: pop\n",
-    output: "outcome 1 | 0: ok | 1: empty | left 1 | schedules 56 | steps 10 | order 1 0\noutcome 2 | 0: ok | 1: item 1 | left | schedules 137 | steps 13 | order 0 1\nall 2 outcomes, 193 schedules, longest lone call 7\n",
+    output: "outcome 1 | 0: ok | 1: empty | left 1 | schedules 56 | steps 10 | order 1 0\noutcome 2 | 0: ok | 1: item 1 | left | schedules 137 | steps 13 | order 0 1\nall 2 outcomes, 193 schedules, longest lone call 7, 0 with order none\n",
     told: None,
 }];
 

@@ -1,5 +1,5 @@
 //! Runs of the explorer whose readers and writers do as little as they may, and fail at any of their calls.
-use crate::runs::{EXPLORE_USAGE, Program, ends_with};
+use crate::runs::{Program, ends_with};
 use crate::streams;
 use std::io::ErrorKind;
 use test_streams::runs::{End, Row, SOUND, Streams};
@@ -10,7 +10,7 @@ static RUNS: [Row; 3] = [
     Row {
         line: "single",
         input: "0: push 1\n",
-        output: "outcome 1 | 0: ok | left 1 | schedules 1 | steps 2 | order 0\nall 1 outcomes, 1 schedules, longest lone call 2\n",
+        output: "outcome 1 | 0: ok | left 1 | schedules 1 | steps 2 | order 0\nall 1 outcome, 1 schedule, longest lone call 2, 0 with order none\n",
     },
     Row {
         line: "unbounded refuse schedule 1",
@@ -59,14 +59,14 @@ static TELLINGS: [Telling; 6] = [
         input: "0: pop\n",
         streams: SOUND,
         status: 2,
-        fault: EXPLORE_USAGE,
+        fault: "usage: queue_explore KIND [refuse] [schedule N | lanes N]\nrefuse: with unbounded alone\n",
     },
     Telling {
         line: "single",
-        input: "0: pop;\n",
+        input: "0: pop\n0: pop\n",
         streams: SOUND,
         status: 2,
-        fault: "line 1: unreadable\n",
+        fault: "line 2: unreadable\nparty: a line each, from 0 on, in order\n",
     },
     Telling {
         line: "single lanes 2",

@@ -5,5 +5,4 @@ use Rattle.app_explore.proofs.listing.tail_of.Goals as goal
 pub returns : goal.returns
 returns g c =
     let f = c.args.figure.now in
-    let order = items_in f.order in
-    (f.schedules, f.steps, order, c.in_ok-write_tail.ensures ∙ ap (λ l. l ++ tail_text f.schedules f.steps order) c.new-tail.ensures.bytes)
+    c.in_ok-write_tail.ensures ∙ ap (λ l. l ++ tail_text f.schedules f.steps (items_in f.order)) c.new-tail.ensures.bytes

@@ -1,14 +1,14 @@
-use Rattle.std.proofs.Common.{◌≡◌, ◌++◌, ◌∙◌, ◌∷◌, [], ap, map, string_bytes, subst, sym}
-use Rattle.std.specs.List.{All}
+use Rattle.std.proofs.Common.{◌≡◌, ◌++◌, ◌∙◌, ◌∷◌, [], ap, map, string_bytes, sym, take}
 use Rattle.std.proofs.lemmas.List.{map-append}
-use Rattle.std.proofs.lemmas.List.Elements.{All-push}
-use Rattle.app_explore.specs.Tails.{IsTail}
+use Rattle.app_explore.specs.Tails.{figure_tail, tail_line}
+use Rattle.app_explore.proofs.Tallies.{told_more}
 use Rattle.app_explore.proofs.listing.tails_of.Goals as goal
 
 pub loop-figure-preserved : goal.loop-figure-preserved
 loop-figure-preserved g c =
     let old = c.loop-figure.tails.items in
     let tail = c.in_ok-tail.tail in
-    let all = All-push IsTail (map string_bytes old) (string_bytes tail) c.loop-figure.invariant c.in_ok-tail.ensures in
     let grown : c.push.new.self.items ≡ old ++ tail ∷ [] = c.in_ok-push.ensures.items in
-    subst (λ l. All IsTail l) (sym (ap (λ l. map string_bytes l) grown ∙ map-append string_bytes old (tail ∷ []))) all
+    ap (map string_bytes) grown ∙ map-append string_bytes old (tail ∷ []) ∙ ap (λ l. l ++ string_bytes tail ∷ []) c.loop-figure.invariant
+    ∙ ap (λ l. map tail_line (map figure_tail (take c.loop-figure.figure-index c.args.figures.now)) ++ l ∷ []) c.in_ok-tail.ensures
+    ∙ sym (told_more c.args.figures.now c.loop-figure.figure-index c.figure-item.result c.loop-figure-test.true c.figure-item.is)

@@ -3,20 +3,20 @@ use Rattle.std.proofs.lemmas.Grind.{common_steps}
 use Rattle.app_explore_text.proofs.Programs.{read_more, wrong_line, missing_line}
 use Rattle.app_explore_text.proofs.reading.read_parties.Goals as goal
 
-pub returns-in_default-found : goal.returns-in_default-found
-returns-in_default-found g c =
+pub returns-in-Err : goal.returns-in-Err
+returns-in-Err g c =
     let count : c.len.result ≡ length c.loop-line.parties.items = c.len.ensures ∙ c.loop-line.invariant.count in
-    let none = rw (c.in_default-found.is, count) at c.in-Ok.ensures in
-    wrong_line c.args.text.now c.loop-line.rest.now c.in-Some.line.now c.in-Some.after.now c.args.before c.loop-line.parties.items _ c.requires.calls c.requires.single c.loop-line.invariant.so_far c.in-Some.ensures.0 none
-    (omega (arith, c.count_lines-taken.ensures, c.len-in_default-found.ensures, c.loop-line.invariant.count))
+    let none = rw (c.in-Err.is, count) at c.in-Ok.ensures in
+    wrong_line c.args.text.now c.loop-line.rest.now c.in-Some.line.now c.in-Some.after.now c.args.before c.loop-line.parties.items _ c.requires.calls c.requires.single c.loop-line.invariant.so_far c.in-Some.ensures.0 none.0
+    (omega (arith, c.count_lines-taken.ensures, c.len-in-Err.ensures, c.loop-line.invariant.count))
 
 pub loop-line-preserved : goal.loop-line-preserved
 loop-line-preserved g c =
     let count : c.len.result ≡ length c.loop-line.parties.items = c.len.ensures ∙ c.loop-line.invariant.count in
-    let items : c.push.new.self.items ≡ c.loop-line.parties.items ++ c.in-Some-found.calls ∷ [] = grind (arith, common_steps) in
-    let read = rw (c.in-Some-found.is, count) at c.in-Ok.ensures in
+    let items : c.push.new.self.items ≡ c.loop-line.parties.items ++ c.in-Ok-found.calls ∷ [] = grind (arith, common_steps) in
+    let read = rw (c.in-Ok-found.is, count) at c.in-Ok.ensures in
     record {
-      so_far = rw items (read_more c.args.text.now c.loop-line.rest.now c.in-Some.line.now c.in-Some.after.now c.loop-line.parties.items c.in-Some-found.calls c.loop-line.invariant.so_far c.in-Some.ensures.0 read);
+      so_far = rw items (read_more c.args.text.now c.loop-line.rest.now c.in-Some.line.now c.in-Some.after.now c.loop-line.parties.items c.in-Ok-found.calls c.loop-line.invariant.so_far c.in-Some.ensures.0 read);
       count = grind (arith, common_steps);
     }
 
