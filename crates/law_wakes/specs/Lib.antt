@@ -1,0 +1,4 @@
+pub mod Steps
+pub mod World
+pub mod Laws
+pub mod Examples

@@ -1,0 +1,52 @@
+-- What a party does next, and where it is then.
+use Rattle.std.specs.Prelude.{ℕ, ◌%◌, ◌^◌, ◌==◌, Bool, if◌then◌else◌}
+use Rattle.law_wakes.specs.declared.steps.Place.{Place}
+use Rattle.law_wakes.specs.declared.steps.Place.TheVariants.{Idle, Starting, Loaded, Prepared, Missed, Woken, Returned, Cancelling, Made, Moving, Waking}
+use Rattle.law_wakes.specs.declared.steps.Step.{Step}
+use Rattle.law_wakes.specs.declared.steps.Step.TheVariants.{Rest, Load, Add, Subtract, Park, Wake}
+use Rattle.law_wakes.specs.declared.steps.Word.TheVariants as word
+
+-- what a park compares
+abbrev pub low : ℕ → ℕ
+low n = n % 2 ^ 32
+
+abbrev pub step_of : Place → Step
+step_of Idle = Rest
+step_of Starting = Load word.Events
+step_of (Loaded events) = Add word.Sleepers
+step_of (Prepared events) = Rest
+step_of (Missed events) = Park (low events)
+step_of Woken = Subtract word.Sleepers
+step_of Returned = Rest
+step_of Cancelling = Subtract word.Sleepers
+step_of (Made whom) = Load word.Sleepers
+step_of (Moving whom) = Add word.Events
+step_of (Waking whom) = Wake whom
+
+-- where it is after a step that found a number
+abbrev pub after_of : Place → ℕ → Place
+after_of Idle found = Idle
+after_of Starting found = Loaded found
+after_of (Loaded events) found = Prepared events
+after_of (Prepared events) found = Prepared events
+after_of (Missed events) found = Woken
+after_of Woken found = Returned
+after_of Returned found = Returned
+after_of Cancelling found = Idle
+after_of (Made whom) found = if found == 0 then Idle else Moving whom
+after_of (Moving whom) found = Waking whom
+after_of (Waking whom) found = Idle
+
+-- where it is after its caller has looked
+abbrev pub looked_of : Place → Bool → Place
+looked_of Idle found = Idle
+looked_of Starting found = Starting
+looked_of (Loaded events) found = Loaded events
+looked_of (Prepared events) found = if found then Cancelling else Missed events
+looked_of (Missed events) found = Missed events
+looked_of Woken found = Woken
+looked_of Returned found = Idle
+looked_of Cancelling found = Cancelling
+looked_of (Made whom) found = Made whom
+looked_of (Moving whom) found = Moving whom
+looked_of (Waking whom) found = Waking whom
