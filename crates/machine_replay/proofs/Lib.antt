@@ -89,5 +89,6 @@ pub mod ChainTaken
 pub mod Beside
 pub mod SingleWaits
 pub mod RingWaits
+pub mod ChainWaits
 pub mod LenWaits
 pub mod Unhindered

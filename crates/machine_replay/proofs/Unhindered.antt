@@ -10,6 +10,7 @@ use Rattle.machine_steps.specs.declared.types.Event.{Event}
 use Rattle.machine_steps.specs.declared.types.Told.{Told}
 use Rattle.machine_replay.specs.Progress.{AppendsReply, HalfDoneNeverWaits, HalfDoneTakesNone, TakesReply, IsLeftToIt, IsSilent, SilenceIsShort, UnhinderedCallsReply}
 use Rattle.machine_replay.specs.Waits.{CallsWait}
+use Rattle.machine_replay.proofs.ChainWaits.{chain_waits}
 use Rattle.machine_replay.proofs.RingWaits.{ring_waits}
 use Rattle.machine_replay.proofs.SingleWaits.{slot_waits}
 use Rattle.machine_replay.proofs.SingleStretch.{single_appends, single_takes, single_never_waits, single_takes_none, single_unhindered}
@@ -55,4 +56,4 @@ takes_reply T (kind.Bounded n) can small = ring_takes T n (can, ltb-false MAX_CA
 takes_reply T kind.Unbounded can small = chain_takes T
 
 pub calls_wait : (T : Type 0) → CallsWait T
-calls_wait T = record { slot = slot_waits T; ring = ring_waits T }
+calls_wait T = record { slot = slot_waits T; ring = ring_waits T; chain = chain_waits T }

@@ -1,5 +1,5 @@
 -- Who waits for whom, step by step: a call that has read the words as they are, and goes back all the same, does so beside a call that is half done.
-use Rattle.std.specs.Prelude.{◌≡◌, ◌≢◌, ℕ, true, Some, List, false, [], ◌∷◌, ◌<◌, count_by}
+use Rattle.std.specs.Prelude.{◌≡◌, ◌≢◌, ℕ, true, Option, Some, None, List, false, [], ◌∷◌, ◌<◌, count_by}
 use Rattle.queue_steps.specs.SingleNext.{unlocked}
 use Rattle.queue_steps.specs.Words.{IsRing}
 use Rattle.queue_steps.specs.declared.steps.bounded.PushKind.{PushKind}
@@ -97,10 +97,58 @@ abbrev pub RingCallsWait : Type 0 → ℕ → Type 0
 RingCallsWait T n = (parties p : ℕ) (past : List (Event T)) (r : Running T) → call_at (world_after (kind.Bounded n) (opening_world (kind.Bounded n) parties) past) p ≡ Some r
     → RingWaits n (world_after (kind.Bounded n) (opening_world (kind.Bounded n) parties) past) p r
 
+-- chain: a push moves the tail over a block's end, U6 and U7
+abbrev pub IsToMoveTail : Local ℕ → Type 0
+IsToMoveTail (local.Unbounded (chain.Laying d tail block fresh)) = Unit {0}
+IsToMoveTail (local.Unbounded (chain.Opening d tail block fresh)) = Unit {0}
+IsToMoveTail _ = ⊥
+
+-- a pop moves the head over a block's end, V5 to V8
+abbrev pub IsToMoveHead : Local ℕ → Type 0
+IsToMoveHead (local.Unbounded (chain.Following head block)) = Unit {0}
+IsToMoveHead (local.Unbounded (chain.Peeking head block after)) = Unit {0}
+IsToMoveHead (local.Unbounded (chain.Passing head block more)) = Unit {0}
+IsToMoveHead (local.Unbounded (chain.Entering head block)) = Unit {0}
+IsToMoveHead _ = ⊥
+
+-- a push has installed the first block and not shown it, U4b
+abbrev pub IsToShow : Local ℕ → Type 0
+IsToShow (local.Unbounded (chain.Showing d tail block)) = Unit {0}
+IsToShow _ = ⊥
+
+-- a push has taken a block's last slot and not linked the next block, U6 to U8
+abbrev pub IsToLink : Local ℕ → Type 0
+IsToLink (local.Unbounded (chain.Laying d tail block fresh)) = Unit {0}
+IsToLink (local.Unbounded (chain.Opening d tail block fresh)) = Unit {0}
+IsToLink (local.Unbounded (chain.Chaining d tail block fresh)) = Unit {0}
+IsToLink _ = ⊥
+
+-- a push has appended and not written, U6 to U9
+abbrev pub IsToWrite : Local ℕ → Type 0
+IsToWrite (local.Unbounded (chain.Laying d tail block fresh)) = Unit {0}
+IsToWrite (local.Unbounded (chain.Opening d tail block fresh)) = Unit {0}
+IsToWrite (local.Unbounded (chain.Chaining d tail block fresh)) = Unit {0}
+IsToWrite (local.Unbounded (chain.Writing d spare)) = Unit {0}
+IsToWrite _ = ⊥
+
+-- Of a chain, a push or forced push goes back at U1 for U6 or U7; a pop goes back at V1 for V5 to V8, and at V3, where it has read that there is no block, and there is none yet, for
+-- U4b; and a pop that has taken goes back at V5 for U6 to U8, and at V9 for U6 to U9.
+pub record ChainWaits {T : Type 0} (w : World (Shared T) (Running T)) (p : ℕ) (r x : Running T) : Type 0 where
+  pub push : (d : PushKind) (spare : Option ℕ) → r.local ≡ local.Unbounded (chain.PushTail d spare) → x.local ≡ local.Unbounded (chain.PushTail d spare) → IsBeside w p IsToMoveTail
+  pub pop : r.local ≡ local.Unbounded chain.PopHead → x.local ≡ local.Unbounded chain.PopHead → IsBeside w p IsToMoveHead
+  pub first : (head : ℕ) → r.local ≡ local.Unbounded (chain.PopTail head None) → w.shared.head_block ≡ None → x.local ≡ local.Unbounded chain.PopHead → IsBeside w p IsToShow
+  pub link : (head block : ℕ) → r.local ≡ local.Unbounded (chain.Following head block) → x.local ≡ local.Unbounded (chain.Following head block) → IsBeside w p IsToLink
+  pub item : (head block : ℕ) → r.local ≡ local.Unbounded (chain.Awaiting head block) → x.local ≡ local.Unbounded (chain.Awaiting head block) → IsBeside w p IsToWrite
+
+abbrev pub ChainCallsWait : Type 0 → Type 0
+ChainCallsWait T = (parties p : ℕ) (past : List (Event T)) (r x : Running T) → call_at (world_after kind.Unbounded (opening_world kind.Unbounded parties) past) p ≡ Some r
+    → GoesOn kind.Unbounded (world_after kind.Unbounded (opening_world kind.Unbounded parties) past).shared r x → ChainWaits (world_after kind.Unbounded (opening_world kind.Unbounded parties) past) p r x
+
 -- so it is at each moment of each run
 pub record CallsWait (T : Type 0) : Type 0 where
   pub slot : SlotCallsWait T
   pub ring : (n : ℕ) → IsRing n → RingCallsWait T n
+  pub chain : ChainCallsWait T
 
 -- a step of `len`
 abbrev pub IsOfLen : Local ℕ → Type 0

@@ -60,9 +60,14 @@ pub fn takes_reply<T>()
     ensures { TakesReply T }
 {}
 
-/// A call on a queue with a capacity that has read the word as it is, and goes back all the same, does so for a call that is half done, and at each step for calls at certain steps alone:
-/// a push on one slot for a pop; a pop on one slot for a push; a push on a ring for a push that has not stored its stamp, or for a call that has taken the last lap's item and not given
-/// its slot back; and a pop on a ring for the call that has its slot.
+/// A call that has read the word as it is, and goes back all the same, does so beside a call at certain steps alone: a push on one slot beside a pop; a pop on one slot beside a push; a
+/// push on a ring beside a push that has not stored its stamp, or a call that has taken the last lap's item and not given its slot back; and a pop on a ring beside the call that has its
+/// slot.
+///
+/// On a chain a push goes back beside a push that moves the tail over a block's end, and a pop beside a pop that moves the head over one, or beside the push that has installed the first
+/// block and not shown it. A pop that has taken goes back beside a push alone that has appended and not linked the next block, or not written.
+///
+/// But for the push that shows the first block, each such call is half done.
 pub fn calls_wait<T>()
     ensures { CallsWait T }
 {}
