@@ -14,7 +14,7 @@ use Rattle.machine_explore.specs.declared.schedule.Move.{Move}
 use Rattle.app_explore_text.specs.Lanes.{lanes_text}
 use Rattle.app_explore_text.specs.Outcomes.{AreInOrder, outcome_line, text_of}
 use Rattle.app_explore_text.specs.Reads.{IsReadAs, IsFirstWrong}
-use Rattle.app_explore_text.specs.Schedules.{schedule_text}
+use Rattle.app_explore_text.specs.Schedules.{MakeAll, move_lines, schedule_text}
 use Rattle.app_explore.specs.Tails.{Tail, tail_line, last_text, without_order}
 use Rattle.app_explore_text.specs.declared.args.Request.{Request}
 use Rattle.app_explore_text.specs.declared.args.Wanted.{Wanted}
@@ -58,19 +58,18 @@ pub record IsTraceOfOutcome (k : Kind) (refuses : Bool) (before : List (Call ℕ
   pub there : slice_get schedules (number - 1) ≡ Some schedule
   pub trace : IsTraceOf k refuses before calls schedule c
 
--- the text tells what is seen of the schedule of the program's outcome of this number
-pub record IsTextOf (text_of : Course → List ℕ) (k : Kind) (refuses : Bool) (before : List (Call ℕ)) (calls : List (List (Call ℕ))) (number : ℕ) (text : List ℕ) : Type 0 where
+-- the text has the lines by which a replay makes the schedule of the program's outcome of this number: line by line, they make its moves and no other
+pub record IsScheduleOf (k : Kind) (refuses : Bool) (before : List (Call ℕ)) (calls : List (List (Call ℕ))) (number : ℕ) (text : List ℕ) : Type 0 where
   pub course : Course
   pub trace : IsTraceOfOutcome k refuses before calls number course
-  pub text_is : text ≡ text_of course
+  pub text_is : text ≡ schedule_text before course.seen
+  pub made : MakeAll (move_lines 0 course.seen) course.seen
 
--- by the lines of a replay
-abbrev pub IsScheduleOf : Kind → Bool → List (Call ℕ) → List (List (Call ℕ)) → ℕ → List ℕ → Type 0
-IsScheduleOf k refuses before calls number text = IsTextOf (λ (c : Course). schedule_text before c.seen) k refuses before calls number text
-
--- by a picture
-abbrev pub IsPictureOf : Kind → Bool → List (Call ℕ) → List (List (Call ℕ)) → ℕ → List ℕ → Type 0
-IsPictureOf k refuses before calls number text = IsTextOf (λ (c : Course). lanes_text (length calls) c.opening c.seen) k refuses before calls number text
+-- the text is the picture of that schedule
+pub record IsPictureOf (k : Kind) (refuses : Bool) (before : List (Call ℕ)) (calls : List (List (Call ℕ))) (number : ℕ) (text : List ℕ) : Type 0 where
+  pub course : Course
+  pub trace : IsTraceOfOutcome k refuses before calls number course
+  pub text_is : text ≡ lanes_text (length calls) course.opening course.seen
 
 -- the program has fewer outcomes than that
 pub record HasFewer (k : Kind) (refuses : Bool) (before : List (Call ℕ)) (calls : List (List (Call ℕ))) (number : ℕ) : Type 0 where

@@ -5,6 +5,8 @@ use Rattle.app_text.specs.Faults.{fault_text, fault_status}
 use Rattle.app_text.specs.Usage.{usage_text}
 use Rattle.app_text.specs.declared.faults.Fault.TheVariants as fault
 use Rattle.app_explore_text.specs.Faults.{line_fault_text}
+use Rattle.machine_search.specs.declared.faults.SearchFault.{SearchFault}
+use Rattle.machine_search.specs.declared.faults.SearchFault.TheVariants as sought
 use Rattle.app_explore.specs.declared.faults.Stop.{Stop}
 use Rattle.app_explore.specs.declared.faults.Stop.TheVariants as stop
 
@@ -21,6 +23,13 @@ stop_status (stop.Fault f) = fault_status f
 stop_status (stop.Line n why) = 2
 stop_status (stop.NoOutcome n) = 2
 stop_status _ = 3
+
+-- why the explorer stops where a search gives no answer
+abbrev pub search_stop : SearchFault → Stop
+search_stop sought.NoMemory = stop.Fault fault.NoMemory
+search_stop sought.TooManyStates = stop.TooManyStates
+search_stop sought.EndlessCall = stop.NotShown
+search_stop sought.NotShown = stop.NotShown
 
 -- as a search may end that gives no answer
 abbrev pub IsSearchStop : Stop → Type 0

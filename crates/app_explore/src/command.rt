@@ -3,7 +3,7 @@ ghost use Rattle.std.specs.Prelude.{◌≡◌, ◌⊎◌, IfErr, IfOk, MatchResu
 ghost use Rattle.app_explore.specs.Listings.{IsRefused, IsTold};
 ghost use Rattle.app_explore_text.specs.Requests.{IsRequest};
 ghost use Rattle.app_explore.specs.Commands.{IsEnd, IsExplored, IsStopOf};
-ghost use Rattle.app_explore.specs.Stops.{IsSearchStop, stop_status};
+ghost use Rattle.app_explore.specs.Stops.{IsSearchStop, search_stop, stop_status};
 ghost use Rattle.app_explore.specs.declared.faults.Stop.TheVariants as stop;
 
 use crate::faults::Stop;
@@ -123,7 +123,8 @@ fn of_outcome<A: Allocator>(
 
 // Why the explorer ends where a search gives no answer.
 fn stop_of(fault: SearchFault) -> Stop
-    ensures { IsSearchStop result }
+    ensures exact { result ≡ search_stop fault }
+    ensures stops { IsSearchStop result }
 {
     match fault {
         SearchFault::NoMemory => Stop::Fault(Fault::NoMemory),

@@ -33,12 +33,15 @@ pub struct Task<A: Allocator> {
     pub program: Program<A>,
 }
 
-/// What a walk over a program's positions found: its outcomes, in the order in which they are told, and a schedule for each.
+/// What a walk over a program's positions found. Nothing rests on it: it is shown to be right once more.
 #[derive(Drop)]
-struct Walk<A: Allocator> {
-    found: Found<A>,
-    order: Vec<usize, A>,
-    schedules: Vec<Sequence<Move, A>, A>,
+pub struct Walk<A: Allocator> {
+    /// The positions, and the outcomes as they were found.
+    pub found: Found<A>,
+    /// The numbers of the outcomes, in the order in which they are told.
+    pub order: Vec<usize, A>,
+    /// A schedule for each, in that order.
+    pub schedules: Vec<Sequence<Move, A>, A>,
 }
 
 /// The outcomes that were shown to be all, and the text of each.
@@ -61,8 +64,24 @@ pub fn list_outcomes<A: Allocator + Copy>(
     ensures { IfOk result (λ text. IsListing task.now.kind task.now.refuses task.now.program.before task.now.program.parties.items (string_bytes text)) }
 {
     let walk = find_all(alloc, task)?;
-    let shown = show_all(alloc, task, &walk)?;
-    write_list(alloc, task, &walk, &shown)
+    list_found(alloc, task, &walk)
+}
+
+/// The same, by what a walk found.
+///
+/// # Errors
+///
+/// `NoMemory`, and `NotShown` where it is not all, or not in order.
+pub fn list_found<A: Allocator + Copy>(
+    alloc: A,
+    task: &Task<A>,
+    walk: &Walk<A>,
+) -> Result<String<A>, SearchFault>
+    requires { CanReplay task.now.kind }
+    ensures { IfOk result (λ text. IsListing task.now.kind task.now.refuses task.now.program.before task.now.program.parties.items (string_bytes text)) }
+{
+    let shown = show_all(alloc, task, walk)?;
+    write_list(alloc, task, walk, &shown)
 }
 
 /// The lines of the schedule of the outcome of this number, counted from 1, if there are so many.
@@ -161,8 +180,12 @@ fn follow_to<A: Allocator + Copy>(
     }
 }
 
-// What a walk over the task's positions finds.
-fn find_all<A: Allocator + Copy>(alloc: A, task: &Task<A>) -> Result<Walk<A>, SearchFault>
+/// What a walk over the task's positions finds.
+///
+/// # Errors
+///
+/// `NoMemory`, and `TooManyStates`.
+pub fn find_all<A: Allocator + Copy>(alloc: A, task: &Task<A>) -> Result<Walk<A>, SearchFault>
     requires { CanReplay task.now.kind }
 {
     let found = search(alloc, task.kind, task.refuses, &task.program)?;
