@@ -1,0 +1,39 @@
+-- Where a call on the two words may begin, stop and end.
+use Rattle.std.specs.Prelude.{◌≡◌, Bool, true, false}
+use Rattle.law_wakes.specs.declared.steps.Place.{Place}
+use Rattle.law_wakes.specs.declared.steps.Place.TheVariants.{Idle, Starting, Prepared, Returned, Made, Moving}
+use Rattle.law_wakes.specs.declared.steps.Whom.{Whom}
+use Rattle.law_wakes.specs.declared.steps.Step.{Step}
+use Rattle.law_wakes.specs.declared.steps.Step.TheVariants.{Rest, Park}
+
+-- a call of `prepare` or of a notify
+abbrev pub Begins : Place → Type 0
+Begins Starting = Unit {0}
+Begins (Made whom) = Unit {0}
+Begins other = ⊥
+
+-- its caller has looked, and waits for it or gives it up
+abbrev pub is_prepared : Place → Bool
+is_prepared (Prepared events) = true
+is_prepared other = false
+
+-- a notify has seen that somebody is counted
+abbrev pub IsMoving : Place → Type 0
+IsMoving place = (whom : Whom) × (place ≡ Moving whom)
+
+-- a call has ended
+abbrev pub is_over : Place → Bool
+is_over Idle = true
+is_over Returned = true
+is_over other = false
+
+-- the step of a call that sleeps
+abbrev pub IsPark : Step → Type 0
+IsPark (Park events) = Unit {0}
+IsPark other = ⊥
+
+-- a step on one of the words, or a wake
+abbrev pub IsOnWords : Step → Type 0
+IsOnWords Rest = ⊥
+IsOnWords (Park events) = ⊥
+IsOnWords other = Unit {0}

@@ -1,0 +1,90 @@
+//! An eventcount: who waits for a condition sleeps, and who makes it true wakes it. It knows nothing of the condition.
+//!
+//! Who waits takes a ticket, looks at the condition once more, and waits on the ticket or gives it up. Who makes the condition true does so first, and notifies then; where nobody
+//! waits, a notify is one load.
+#![tactic(auto)]
+
+ghost use Rattle.std.specs.Prelude.{IsTrue};
+ghost use Rattle.event_count.specs.Walks.{IsMoving, is_prepared};
+
+mod words;
+
+use crate::words::{Walk, Words};
+use law_wakes::{Place, Whom};
+use std::sync::Wait;
+
+/// Two words that threads share: how often sleepers were woken, and how many there are.
+#[derive(Drop)]
+pub struct EventCount {
+    words: Words,
+}
+
+/// What `prepare` gives. It has to be waited on or given up: until then each notify takes its holder for a sleeper.
+pub struct Ticket<'a> {
+    words: &'a Words,
+    walk: Walk,
+    ghost prepared: { IsTrue (is_prepared walk.place) },
+}
+
+impl EventCount {
+    pub fn new() -> EventCount {
+        EventCount {
+            words: Words::new(),
+        }
+    }
+
+    /// Begins to wait. The caller looks at the condition after this.
+    pub fn prepare(&self) -> Ticket<'_> {
+        let words = &self.words;
+        let loaded = words.take_step(Walk::begin(Place::Starting));
+        let walk = words.take_step(loaded);
+        Ticket { words, walk }
+    }
+
+    /// Wakes one of those that wait, where there are some. The condition is true before this.
+    #[inline(always)]
+    pub fn notify_one(&self) {
+        self.notify(Whom::One);
+    }
+
+    /// Wakes all that wait. The condition is true before this.
+    #[inline(always)]
+    pub fn notify_all(&self) {
+        self.notify(Whom::All);
+    }
+
+    #[inline(always)]
+    fn notify(&self, whom: Whom) {
+        let walk = self.words.take_step(Walk::begin(Place::Made(whom)));
+        if walk.is_over() {
+            walk.end();
+        } else {
+            self.wake(walk);
+        }
+    }
+
+    /// The steps of a notify that has seen a sleeper.
+    #[cold]
+    #[inline(never)]
+    fn wake(&self, walk: Walk)
+        requires { IsMoving walk.place }
+    {
+        let moved = self.words.take_step(walk);
+        self.words.take_step(moved).end();
+    }
+}
+
+impl Ticket<'_> {
+    /// Gives the ticket up: the condition is true, or nobody waits for it any more.
+    pub fn cancel(self) {
+        let Ticket { words, walk } = self;
+        words.take_step(walk.look(true)).end();
+    }
+
+    /// Sleeps until a notify, if there was none since `prepare`. It may return for no reason, so the caller looks at the condition again.
+    pub fn wait<R: Wait>(self, rt: &R) {
+        let Ticket { words, walk } = self;
+        let walk = words.park(rt, walk.look(false));
+        words.take_step(walk).end();
+    }
+}
