@@ -32,7 +32,7 @@ use Rattle.machine_steps.specs.SharedMemory.{Shared, running_after}
 use Rattle.machine_replay.proofs.ChainNames.{Codes}
 
 -- how many steps a call has before it once the first block is shown, by the words of the tail and the head
-pub far_at : ℕ → ℕ → Local ℕ → ℕ
+unfoldable pub far_at : ℕ → ℕ → Local ℕ → ℕ
 far_at t h (local.Unbounded (chain.PushTail d spare)) = 10
 far_at t h (local.Unbounded (chain.PushBlock d tail spare)) = 9 + lag t tail 5
 far_at t h (local.Unbounded (chain.Asking d tail None)) = 13
@@ -72,7 +72,7 @@ far_is c (local.Unbounded (chain.PopTail head (Some block))) some seen = refl
 far_is c l some seen = refl
 
 -- one for a pop: a walk never comes to the last slot, so a pop takes a step less than `far_at` says
-pub one_of_pop : Local ℕ → ℕ
+unfoldable pub one_of_pop : Local ℕ → ℕ
 one_of_pop (local.Unbounded chain.PopHead) = 1
 one_of_pop (local.Unbounded (chain.PopBlock head)) = 1
 one_of_pop (local.Unbounded (chain.PopTail head block)) = 1
@@ -135,7 +135,7 @@ pub goes_as : {A : Type 0} (c : Chain A) (who : ℕ) (ms : List (State A)) (n : 
 goes_as c who ms (next.Step l t o) v k es x e ends = let same : record { local = l; touch = t; op = o; carried = v } ≡ x = cc in subst (λ y. one_of_pop y.local ≡ pop_is_one k) same (by_call ends.0)
 goes_as c who ms (next.Reply y spare) v k es x e ends = cc
 
-lag_most : (now read more : ℕ) → lag now read more ≤ more
+pub lag_most : (now read more : ℕ) → lag now read more ≤ more
 lag_most now read more = either_small (now == read) 0 more more (omega arith) (omega arith)
 
 pub inner_low : (n i : ℕ) → i ≡ n % BLOCK_SLOTS → (n % BLOCK_SLOTS + 1 ≡ BLOCK_SLOTS → ⊥) → i < LAST

@@ -1,6 +1,5 @@
--- A chain: a call that nobody hinders replies by its seventy-third step.
-use Rattle.std.proofs.Common.{ℕ, ◌+◌, if◌then◌else◌, ◌-◌, ◌<◌, ◌≡◌, ◌≢◌, inl, inr, ◌∙◌, Bool, true, false, Option, Some, None, IsSome, List, [], ◌∷◌, bit_or, refl, sym, ap, subst, arith}
-use Rattle.queue_steps.specs.declared.sizes.TheConstants.{BLOCK_SLOTS}
+-- A chain: once the first block is shown, each step of a call that nobody hinders brings it nearer to its reply.
+use Rattle.std.proofs.Common.{ℕ, if◌then◌else◌, ◌-◌, ◌<◌, ◌≡◌, ◌∙◌, Bool, true, false, Option, Some, None, IsSome, List, [], ◌∷◌, bit_or, refl, sym, ap, subst, arith}
 use Rattle.queue_steps.specs.State.{State}
 use Rattle.queue_steps.specs.Next.{next_of}
 use Rattle.queue_steps.specs.Words.{is_shut, tail_of}
@@ -20,12 +19,12 @@ use Rattle.queue_steps.specs.declared.steps.types.Word.{Word}
 use Rattle.queue_steps.specs.declared.steps.types.Word.TheVariants as word
 use Rattle.law_common.specs.Effects.{with_effect}
 use Rattle.law_common.proofs.Tails.{mark_tail, shut_tail}
-use Rattle.law_chain.specs.ChainCells.{Seen, Chain, Holds, Nothing, queue_of}
+use Rattle.law_chain.specs.ChainCells.{Chain, queue_of}
 use Rattle.law_chain.specs.ChainAfter.{after_of, left_by}
 use Rattle.law_chain.specs.ChainAnswers.{tail_place, tail_word}
 use Rattle.law_chain.specs.ChainAt.{At, push_tail, push_block, asking, installing, showing, claiming, laying, opening, chaining, writing, spending, pop_head, pop_block, pop_tail, taking, following, peeking, passing, entering, awaiting, reading, beginning, walking, destroying, len_tail, len_head, len_again, empty_head, empty_tail, closing, closed_tail}
 use Rattle.law_chain.proofs.ChainFirst.{first}
-use Rattle.law_chain.proofs.ChainRanks.{rank, rank_some, Falls}
+use Rattle.law_chain.proofs.ChainRanks.{rank, rank_some, Falls, IsQuiet}
 use Rattle.law_chain.proofs.ChainRanksStep.{step_falls}
 use Rattle.law_chain.proofs.ChainRight.{Ends, step_right}
 use Rattle.law_chain.proofs.ChainStep.{is_chain}
@@ -33,48 +32,13 @@ use Rattle.machine_steps.specs.declared.machine.Running.{Running}
 use Rattle.machine_steps.specs.declared.types.EffectKind.{EffectKind}
 use Rattle.machine_replay.specs.Book.{Open}
 use Rattle.machine_steps.specs.SharedMemory.{Shared, answer_to, step_of, running_after, next_after, carried_then, put_word, put_at, touched, operated, granted_if, block_touched, after_touch}
-use Rattle.machine_replay.proofs.ChainFar.{far_at, far_of, one_of_pop, by_call, goes_as, bounded, seen_is}
+use Rattle.machine_replay.proofs.ChainFar.{far_at, far_of, one_of_pop, by_call, goes_as, bounded}
 use Rattle.machine_replay.proofs.ChainFits.{ChainIdle, ChainFits}
 use Rattle.machine_replay.proofs.ChainHolding.{ChainHolds}
 use Rattle.machine_replay.proofs.ChainLaws.{chain_steps, chain_then, next_on}
 use Rattle.machine_replay.proofs.ChainOpening.{chain_opens, chain_all_idle}
 use Rattle.machine_replay.proofs.ChainStands.{steps_stand}
-use Rattle.machine_replay.specs.Progress.{UnhinderedWithin}
-use Rattle.machine_replay.proofs.Stretch.{Rules, Paces, unhindered}
-
--- once the first block is shown, a call that has had no effect holds no part
-holds_nothing : {A : Type 0} {c : Chain A} {who : ℕ} {ms : List (State A)} {l : Local ℕ} {t : Touch} {o : Op ℕ} {v : Option A} {k : Call A} {es : List (Effect A)} → At c who ms l t o v k es → es ≡ [] → c.shown ≡ Seen → Holds c who Nothing
-holds_nothing (push_tail d v spare none spare_is) e seen = none
-holds_nothing (push_block d v spare q none spare_is saw) e seen = none
-holds_nothing (asking d v q block none saw asked) e seen = none
-holds_nothing (installing d v f none saw fresh) e seen = none
-holds_nothing (showing d v name first saw is named) e seen = cc
-holds_nothing (claiming d v q name spare none spare_is saw block enough) e seen = none
-holds_nothing (laying d v n name f holds mine lays fresh) e seen = cc
-holds_nothing (opening d v n name f holds mine opens links named) e seen = cc
-holds_nothing (chaining d v n name f holds mine links named) e seen = cc
-holds_nothing (writing d v n name spare holds mine spare_is) e seen = cc
-holds_nothing (spending d v spare none spare_is spent) e seen = none
-holds_nothing (pop_head none) e seen = none
-holds_nothing (pop_block n more none is room) e seen = none
-holds_nothing (pop_tail n block none is front) e seen = none
-holds_nothing (taking n name next more new none is front there word_is room) e seen = none
-holds_nothing (following x n name more holds got pass) e seen = cc
-holds_nothing (peeking x n name after more holds got pass behind) e seen = cc
-holds_nothing (passing x n name after more further holds got pass behind room) e seen = cc
-holds_nothing (entering x n name more further holds got enters room) e seen = cc
-holds_nothing (awaiting x n name more holds got) e seen = cc
-holds_nothing (reading x n name more holds got wrote inner) e seen = cc
-holds_nothing (beginning x n name more holds got wrote last) e seen = cc
-holds_nothing (walking x b name slot holds is named) e seen = cc
-holds_nothing (destroying x b name slot holds is named) e seen = cc
-holds_nothing (len_tail none) e seen = none
-holds_nothing (len_head w none small low) e seen = none
-holds_nothing (len_again w h none small seen_it) e seen = none
-holds_nothing (empty_head none) e seen = none
-holds_nothing (empty_tail h none small saw) e seen = none
-holds_nothing (closing none) e seen = none
-holds_nothing (closed_tail none) e seen = none
+use Rattle.machine_replay.proofs.Stretch.{Rules}
 
 -- a call that goes on has fewer steps before it
 goes_on : {A : Type 0} (c : Chain A) (n : Next ℕ) (v : Option A) (m : ℕ) (x : Running A) → running_after n v ≡ Some x → Falls c n m → rank (left_by c n) x.local < m
@@ -102,7 +66,7 @@ marked_before w q true e is none = ap (λ z. bit_or z MARK) is ∙ (mark_tail q 
 marked_before w q false e is none = let opened : is_shut w ≡ false = ap is_shut is ∙ shut_tail q false in let no : Some e ≡ None = rw opened at none in cc
 
 -- a step without effect of a call that has had none leaves the words
-words_stay : {A : Type 0} {c : Chain A} {who : ℕ} {ms : List (State A)} {l : Local ℕ} {t : Touch} {o : Op ℕ} {v : Option A} {k : Call A} {es : List (Effect A)} (ok : Bool) (s : Shared A) → At c who ms l t o v k es → es ≡ [] → s.tail ≡ tail_word c
+pub words_stay : {A : Type 0} {c : Chain A} {who : ℕ} {ms : List (State A)} {l : Local ℕ} {t : Touch} {o : Op ℕ} {v : Option A} {k : Call A} {es : List (Effect A)} (ok : Bool) (s : Shared A) → At c who ms l t o v k es → es ≡ [] → s.tail ≡ tail_word c
     → (step_of queue.Unbounded ok s (record { local = l; touch = t; op = o; carried = v })).effect ≡ None → SameWords s (step_of queue.Unbounded ok s (record { local = l; touch = t; op = o; carried = v })).shared
 words_stay ok s (push_tail d v spare none spare_is) e is quiet = (refl, refl)
 words_stay ok s (push_block d v spare q none spare_is saw) e is quiet = (refl, refl)
@@ -177,13 +141,11 @@ operated_front ok s (op.Install f) h = h
 operated_front ok s op.Ask h = granted_front ok s h
 
 module _ (A : Type 0) where
-  ready_on : (ok : Bool) (s : Shared A) (r : Running A) → IsSome s.head_block → IsSome (step_of queue.Unbounded ok s r).shared.head_block
+  pub ready_on : (ok : Bool) (s : Shared A) (r : Running A) → IsSome s.head_block → IsSome (step_of queue.Unbounded ok s r).shared.head_block
   ready_on ok s r h = operated_front ok (after_touch s r) r.op (subst (λ b. IsSome b) (sym (touched_front r.touch (block_touched r.op) s r.carried)) h)
 
-  abbrev Free : Chain A → ℕ → Type 0
-  Free g p = Holds g p Nothing
-
-  own_falls : (busy : ℕ) (ok : Bool) (s : Shared A) (Q : State A) (g : Chain A) (p : ℕ) (x x' : Running A) (o : Open A) → IsSome s.head_block → ChainHolds s Q g → ChainFits busy s Q g p x o → ((j : ℕ) → j ≢ p → Free g j)
+  -- the step of a call, while no other party holds a part
+  pub own_falls : (busy : ℕ) (ok : Bool) (s : Shared A) (Q : State A) (g : Chain A) (p : ℕ) (x x' : Running A) (o : Open A) → IsSome s.head_block → ChainHolds s Q g → ChainFits busy s Q g p x o → IsQuiet g p
       → (step_of queue.Unbounded ok s x).call ≡ Some x'
       → far_at (step_of queue.Unbounded ok s x).shared.tail (step_of queue.Unbounded ok s x).shared.head x'.local - one_of_pop x'.local < far_at s.tail s.head x.local - one_of_pop x.local
   own_falls busy ok s Q g p x x' o ready holds f quiet goes =
@@ -204,26 +166,3 @@ module _ (A : Type 0) where
 
   abbrev pub chain_rules : Rules A queue.Unbounded
   chain_rules = record { G = Chain A; Holds = ChainHolds; Idle = ChainIdle; Fits = ChainFits; laws = chain_steps (steps_stand A); first = first; opens = chain_opens A; all_idle = chain_all_idle A }
-
-  chain_paces : Paces A queue.Unbounded chain_rules
-  chain_paces = record {
-    rank = λ s r. far_at s.tail s.head r.local - one_of_pop r.local;
-    most = BLOCK_SLOTS + 10;
-    Free = Free;
-    Ready = λ s. IsSome s.head_block;
-    ready_on = ready_on;
-    within = λ busy s Q g p r o ready holds f. let b = bounded s.tail s.head f.here holds.ok in let low = b.0 in let high = b.1 in (omega arith, omega arith);
-    rests = λ g p h. h.0;
-    undone = λ busy s Q g p r o ready holds f e. holds_nothing f.here e (seen_is s g ready holds.codes);
-    falls = own_falls;
-    keeps = λ busy busy' s s' Q g g' p r o o' ready holds holds' f f' others others' turn. elim turn [
-      | inl same ↦ ap (λ z. far_at z.tail z.head r.local - one_of_pop r.local) same
-      | inr t ↦
-          let words = words_stay t.granted s t.fits.here t.none holds.codes.tail_is t.quiet in
-          ap (λ z. far_at z.tail z.head r.local - one_of_pop r.local) t.leaves ∙ (ap (λ z. far_at z (step_of queue.Unbounded t.granted s t.call).shared.head r.local - one_of_pop r.local) words.1 ∙ ap (λ z. far_at s.tail z r.local - one_of_pop r.local) words.0)
-    ];
-  }
-
-  pub chain_unhindered : UnhinderedWithin A queue.Unbounded (BLOCK_SLOTS + 10)
-  unfolding chain_paces
-  chain_unhindered = unhindered A queue.Unbounded chain_rules chain_paces (λ s shown. shown)

@@ -94,11 +94,11 @@ clear_of (empty_tail h none small saw) seen never = λ x e. absurd (none x e)
 clear_of (closing none) seen never = λ x e. absurd (none x e)
 clear_of (closed_tail none) seen never = λ x e. absurd (none x e)
 
--- a part of a push is nobody's, where the others are clear and the call itself is a pop
-unheld : {A : Type 0} (c : Chain A) (who : ℕ) (P : Part → Type 0) (x : Part) → ((j : ℕ) → j ≢ who → Clear c j) → Holds c who P → (P x → ⊥) → (IsPops x → ⊥) → (p : ℕ) → owner c x ≢ Some p
-unheld c who P x clear holds none push p e = elim (eqb_tells p who) [
+-- a part is nobody's that neither the party holds nor another
+pub unheld : {A : Type 0} (c : Chain A) (who : ℕ) (P Q : Part → Type 0) (x : Part) → ((j : ℕ) → j ≢ who → Holds c j Q) → Holds c who P → (P x → ⊥) → (Q x → ⊥) → (p : ℕ) → owner c x ≢ Some p
+unheld c who P Q x others holds none never p e = elim (eqb_tells p who) [
   | inl t ↦ none (holds x (e ∙ ap (λ q. Some q) t.1))
-  | inr t ↦ push (clear p t.1 x e)
+  | inr t ↦ never (others p t.1 x e)
 ]
 
 -- how many steps a call has before it that has taken
@@ -179,8 +179,8 @@ nears (pop_block n more none is room) had a ok found clear = absurd had
 nears (pop_tail n block none is front) had a ok found clear = absurd had
 nears (taking n name next more new none is front there word_is room) had a ok found clear = absurd had
 nears {c = c} {who = who} (following x n name more holds got pass) had a ok found clear =
-    let rest = rests_if c.mover (unheld c who (Either (Read n) Head) Tail clear holds (λ z. elim z [ inl y ↦ absurd (cc) | inr y ↦ absurd (cc) ]) (λ z. z)) in
-    let free = unheld c who (Either (Read n) Head) (cells.Next (n / BLOCK_SLOTS)) clear holds (λ z. elim z [ inl y ↦ absurd (cc) | inr y ↦ absurd (cc) ]) (λ z. z) in
+    let rest = rests_if c.mover (unheld c who (Either (Read n) Head) IsPops Tail clear holds (λ z. elim z [ inl y ↦ absurd (cc) | inr y ↦ absurd (cc) ]) (λ z. z)) in
+    let free = unheld c who (Either (Read n) Head) IsPops (cells.Next (n / BLOCK_SLOTS)) clear holds (λ z. elim z [ inl y ↦ absurd (cc) | inr y ↦ absurd (cc) ]) (λ z. z) in
     rw (found (n / BLOCK_SLOTS) got.named) (subst (λ l. Nears (followed (head_of n more) name (linked_of l (c.names (n / BLOCK_SLOTS + 1)))) (2 * LAST + 6)) (sym (linked_then c who n ok rest free pass)) (omega arith))
 nears {c = c} {who = who} (peeking x n name after more holds got pass behind) had a ok found clear = rw (found (n / BLOCK_SLOTS + 1) behind.1) (omega arith)
 nears {c = c} {who = who} (passing x n name after more further holds got pass behind room) had a ok found clear = rw found (omega arith)
@@ -188,7 +188,7 @@ nears {c = c} {who = who} (entering x n name more further holds got enters room)
 nears {c = c} {who = who} (awaiting x n name more holds got) had a ok found clear =
     let h = found (n / BLOCK_SLOTS) got.named in
     let state : IsState c (n / BLOCK_SLOTS) (n % BLOCK_SLOTS) h.0 = subst (λ i. IsState c (n / BLOCK_SLOTS) i h.0) (head_offset n more) h.2 in
-    let wrote = wrote_then c who n ok (unheld c who (Only (Read n)) (Write n) clear holds (λ z. absurd (cc)) (λ z. z)) got.mine in
+    let wrote = wrote_then c who n ok (unheld c who (Only (Read n)) IsPops (Write n) clear holds (λ z. absurd (cc)) (λ z. z)) got.mine in
     rw (h.1) (awaiting_nears (head_of n more) name h.0 (state.written ∙ (ap (λ m. not (is_wrote (c.writers m))) (own_item n) ∙ ap not wrote)))
 nears {c = c} {who = who} (reading x n name more holds got wrote inner) had a ok found clear =
     let h = found (n / BLOCK_SLOTS) got.named in
@@ -267,7 +267,7 @@ seen_of {A} c n ok ne = go c.shown refl ok.seen
     go Hidden e h = absurd (let l = low in let z = h.1 in omega arith)
     go (Showing p) e h = absurd (let l = low in let z = h.1 in omega arith)
 
-ready_of : {A : Type 0} {c : Chain A} {who : ℕ} {ms : List (State A)} {l : Local ℕ} {t : Touch} {o : Op ℕ} {v : Option A} {k : Call A} {es : List (Effect A)} → At c who ms l t o v k es → HasTake es → ChainOk c → c.shown ≡ Seen
+pub ready_of : {A : Type 0} {c : Chain A} {who : ℕ} {ms : List (State A)} {l : Local ℕ} {t : Touch} {o : Op ℕ} {v : Option A} {k : Call A} {es : List (Effect A)} → At c who ms l t o v k es → HasTake es → ChainOk c → c.shown ≡ Seen
 ready_of (push_tail d v spare none spare_is) had ok = absurd had
 ready_of (push_block d v spare q none spare_is saw) had ok = absurd had
 ready_of (asking d v q block none saw asked) had ok = absurd had

@@ -35,8 +35,8 @@ use Rattle.machine_steps.specs.SharedMemory.{Shared, answer_to, running_after, n
 use Rattle.machine_steps.specs.World.{World, call_at}
 use Rattle.machine_replay.specs.Book.{Open}
 use Rattle.machine_replay.specs.Played.{told_of, world_after}
-use Rattle.machine_replay.specs.Progress.{Standing, Between, stands_by}
-use Rattle.machine_replay.specs.Waits.{ChainCallsWait, IsBeside, GoesOn, IsToMoveTail, IsToMoveHead, IsToShow, IsToLink, IsToWrite}
+use Rattle.machine_replay.specs.Progress.{Standing, Between, stands_by, IsToShow}
+use Rattle.machine_replay.specs.Waits.{ChainCallsWait, IsBeside, GoesOn, IsToMoveTail, IsToMoveHead, IsToLink, IsToWrite}
 use Rattle.machine_replay.proofs.Beside.{beside, not_back}
 use Rattle.machine_replay.proofs.ChainLaws.{next_on}
 use Rattle.machine_replay.proofs.ChainStands.{steps_stand}
@@ -44,7 +44,7 @@ use Rattle.machine_replay.proofs.ChainStretch.{chain_rules}
 use Rattle.machine_replay.proofs.Stretch.{Here, Party, reach, first, party-open}
 
 -- where a call stands that holds a part of the chain. Nobody waits for who reads an item or walks over a block
-abbrev HolderAt : Part → Local ℕ → Type 0
+abbrev pub HolderAt : Part → Local ℕ → Type 0
 HolderAt (Write n) l = IsToWrite l
 HolderAt (Read n) l = Unit {0}
 HolderAt Tail l = IsToMoveTail l
@@ -61,7 +61,7 @@ moves_head : (l : Local ℕ) (n : ℕ) (x : Part) → IsToMoveHead l → (x ≡ 
 moves_head l n x h (inl e) = at_part l (Read n) x e tt
 moves_head l n x h (inr e) = at_part l Head x e h
 
-holds_at : {A : Type 0} {c : Chain A} {who : ℕ} {ms : List (State A)} {l : Local ℕ} {t : Touch} {o : Op ℕ} {v : Option A} {k : Call A} {es : List (Effect A)} (x : Part) → At c who ms l t o v k es → owner c x ≡ Some who → HolderAt x l
+pub holds_at : {A : Type 0} {c : Chain A} {who : ℕ} {ms : List (State A)} {l : Local ℕ} {t : Touch} {o : Op ℕ} {v : Option A} {k : Call A} {es : List (Effect A)} (x : Part) → At c who ms l t o v k es → owner c x ≡ Some who → HolderAt x l
 holds_at x (push_tail d v spare none spare_is) e = absurd (none x e)
 holds_at x (push_block d v spare q none spare_is saw) e = absurd (none x e)
 holds_at x (asking d v q block none saw asked) e = absurd (none x e)
@@ -201,14 +201,14 @@ item_row {c = c} {who = who} head block (awaiting x n name more holds got) a ok 
     (λ l h. h)
 item_row head block _ a ok found is goes = cc
 
-unseen_if : (x : Shown) (name : ℕ) → shown_of x name ≡ None → is_seen x ≡ false
+pub unseen_if : (x : Shown) (name : ℕ) → shown_of x name ≡ None → is_seen x ≡ false
 unseen_if Seen name e = cc
 unseen_if Hidden name e = refl
 unseen_if (Showing p) name e = refl
 
 module _ {A : Type 0} (parties : ℕ) (w : World (Shared A) (Running A)) (st : ℕ → Standing) (h : Here A queue.Unbounded (chain_rules A) parties w st) where
   -- the party that holds a part is in a call, and stands where it holds it
-  holder : (x : Part) (who : ℕ) (r : Option (Running A)) (y : Option (Open A)) → Party A queue.Unbounded (chain_rules A) parties h.b.busy w.shared h.b.queue h.sim.g who r y → owner h.sim.g x ≡ Some who
+  pub holder : (x : Part) (who : ℕ) (r : Option (Running A)) (y : Option (Open A)) → Party A queue.Unbounded (chain_rules A) parties h.b.busy w.shared h.b.queue h.sim.g who r y → owner h.sim.g x ≡ Some who
       → (s : Running A) × (r ≡ Some s) × HolderAt x s.local
   holder x who None None idle e = absurd (idle.0 x e)
   holder x who (Some r) (Some o) f e = (r, refl, holds_at x f.here e)

@@ -91,4 +91,5 @@ pub mod SingleWaits
 pub mod RingWaits
 pub mod ChainWaits
 pub mod LenWaits
+pub mod ChainEarly
 pub mod Unhindered

@@ -259,22 +259,21 @@ module _ {A : Type 0} (cap : ℕ) where
     rank = λ s r. near (far cap s r.local);
     most = 6;
     Free = RingIdle;
-    Ready = λ s. Unit {0};
-    ready_on = λ ok s r h. tt;
+    Ready = λ s r. Unit {0};
     within = λ busy s Q g p r o h holds f. near_within (far cap s r.local) (far_some cap s r.local);
     rests = λ g p h. h;
-    undone = λ busy s Q g p r o h holds f e. holds_none f.here e;
-    falls = λ busy ok s Q g p r r' o h holds f quiet goes. falls_at ok s r' f.here holds.ok holds.codes quiet goes (own_falls busy ok s Q g p r r' o holds f quiet goes);
+    undone = λ busy s Q g p r o holds f e. holds_none f.here e;
+    falls = λ busy ok s Q g p r r' o h holds f quiet goes. (tt, falls_at ok s r' f.here holds.ok holds.codes quiet goes (own_falls busy ok s Q g p r r' o holds f quiet goes));
     keeps = λ busy busy' s s' Q g g' p r o o' h holds holds' f f' others others' turn.
         let now = head_is s' Q g' holds' in
         let before = head_is s Q g holds in
         let heads : s'.head ≡ s.head = omega (arith, now, before) in
-        ap near (far_same cap s s' r.local heads (tail_is s' Q g' holds' ∙ sym (tail_is s Q g holds)));
+        (tt, ap near (far_same cap s s' r.local heads (tail_is s' Q g' holds' ∙ sym (tail_is s Q g holds))));
   }
 
   pub ring_unhindered : IsRing cap → UnhinderedWithin A (queue.Bounded cap) 6
   unfolding ring_paces
-  ring_unhindered ring = unhindered A (queue.Bounded cap) (ring_rules ring) (ring_paces ring) (λ s shown. tt)
+  ring_unhindered ring = unhindered A (queue.Bounded cap) (ring_rules ring) (ring_paces ring) (λ parties w st h p r is nobody. tt)
 
 -- a call that holds a slot ends at its next step, but for the arrival of its item
 half_ends : {A : Type 0} {cap : ℕ} {r : Ring A} {who : ℕ} {ms : List (State A)} {was : Bool} {l : Local ℕ} {t : Touch} {o : Op ℕ} {v : Option A} {k : Call A} {es : List (Effect A)} (ok : Bool) (s : Shared A) (r' : Running A) → At cap r who ms was l t o v k es → es ≢ []

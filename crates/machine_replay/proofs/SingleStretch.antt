@@ -126,18 +126,17 @@ single_paces T = record {
   rank = λ s r. rank r.local s.lock;
   most = 3;
   Free = Idle;
-  Ready = λ s. Unit {0};
-  ready_on = λ ok s r h. tt;
+  Ready = λ s r. Unit {0};
   within = λ busy s Q g p r o h holds f. (rank_some r.local s.lock, rank_small r.local s.lock);
   rests = λ g p h. h;
-  undone = λ busy s Q g p r o h holds f e. own_none f.here e;
-  falls = λ busy ok s Q g p r r' o h. own_falls busy ok s Q g p r r' o;
-  keeps = λ busy busy' s s' Q g g' p r o o' h holds holds' f f' others others' turn. ap (λ w. rank r.local w) (lock_is busy' s' Q g' p r o' holds' f' others' ∙ sym (lock_is busy s Q g p r o holds f others));
+  undone = λ busy s Q g p r o holds f e. own_none f.here e;
+  falls = λ busy ok s Q g p r r' o h holds f quiet goes. (tt, own_falls busy ok s Q g p r r' o holds f quiet goes);
+  keeps = λ busy busy' s s' Q g g' p r o o' h holds holds' f f' others others' turn. (tt, ap (λ w. rank r.local w) (lock_is busy' s' Q g' p r o' holds' f' others' ∙ sym (lock_is busy s Q g p r o holds f others)));
 }
 
 pub single_unhindered : (T : Type 0) → UnhinderedWithin T kind.Single 3
 unfolding single_paces
-single_unhindered T = unhindered T kind.Single (single_rules T) (single_paces T) (λ s shown. tt)
+single_unhindered T = unhindered T kind.Single (single_rules T) (single_paces T) (λ parties w st h p r is nobody. tt)
 
 -- a call that has the lock ends at its next step
 half_ends : {T : Type 0} {l : Local ℕ} {t : Touch} {o : Op ℕ} {v : Option T} {own : SlotHolder T} {k : Call T} {es : List (Effect T)} (ok : Bool) (s : Shared T) (r' : Running T) → At l t o v own k es → es ≢ []

@@ -24,7 +24,7 @@ use Rattle.machine_steps.specs.World.{World, call_at, can_begin, began, stepped_
 use Rattle.machine_steps.proofs.Busy.{nobody_calls, none_are_busy}
 use Rattle.machine_replay.proofs.Engine as engine
 use Rattle.machine_replay.proofs.KindLaws.{LawsOf, SimulatesOf}
-use Rattle.machine_replay.specs.Progress.{Standing, Between, Undone, HalfDone, stands_after, stands_by, stands_then, effect_told, reply_told, IsLeftToIt, IsShown, IsSilent, HalfDoneTakesNone, UnhinderedWithin, NeverWaits}
+use Rattle.machine_replay.specs.Progress.{Standing, Between, Undone, HalfDone, stands_after, stands_by, stands_then, effect_told, reply_told, IsLeftToIt, NobodyShows, IsSilent, HalfDoneTakesNone, UnhinderedWithin, NeverWaits}
 use Rattle.machine_replay.proofs.Standings.{Agrees, agrees-next, in_call-next, not_half-next}
 
 -- what is used of the laws of a kind of queue: what its proof keeps, that each step is right, and the opening
@@ -55,19 +55,18 @@ pub record Paces (T : Type 0) (k : Kind) (rules : Rules T k) : Type 1 where
   pub rank : Shared T → Running T → ℕ
   pub most : ℕ
   pub Free : rules.G → ℕ → Type 0
-  -- once the queue is ready it stays so
-  pub Ready : Shared T → Type 0
-  pub ready_on : (ok : Bool) (s : Shared T) (r : Running T) → Ready s → Ready (step_of k ok s r).shared
-  pub within : (busy : ℕ) (s : Shared T) (Q : State T) (g : rules.G) (p : ℕ) (r : Running T) (o : Open T) → Ready s → rules.Holds s Q g → rules.Fits busy s Q g p r o → (0 < rank s r) × (rank s r ≤ most)
+  -- what is so of the queue beside this call
+  pub Ready : Shared T → Running T → Type 0
+  pub within : (busy : ℕ) (s : Shared T) (Q : State T) (g : rules.G) (p : ℕ) (r : Running T) (o : Open T) → Ready s r → rules.Holds s Q g → rules.Fits busy s Q g p r o → (0 < rank s r) × (rank s r ≤ most)
   -- a party between calls is free, and so is one whose call has had no effect
   pub rests : (g : rules.G) (p : ℕ) → rules.Idle g p → Free g p
-  pub undone : (busy : ℕ) (s : Shared T) (Q : State T) (g : rules.G) (p : ℕ) (r : Running T) (o : Open T) → Ready s → rules.Holds s Q g → rules.Fits busy s Q g p r o → o.effects ≡ [] → Free g p
+  pub undone : (busy : ℕ) (s : Shared T) (Q : State T) (g : rules.G) (p : ℕ) (r : Running T) (o : Open T) → rules.Holds s Q g → rules.Fits busy s Q g p r o → o.effects ≡ [] → Free g p
   -- its own step
-  pub falls : (busy : ℕ) (ok : Bool) (s : Shared T) (Q : State T) (g : rules.G) (p : ℕ) (r r' : Running T) (o : Open T) → Ready s → rules.Holds s Q g → rules.Fits busy s Q g p r o → ((j : ℕ) → j ≢ p → Free g j)
-      → (step_of k ok s r).call ≡ Some r' → rank (step_of k ok s r).shared r' < rank s r
+  pub falls : (busy : ℕ) (ok : Bool) (s : Shared T) (Q : State T) (g : rules.G) (p : ℕ) (r r' : Running T) (o : Open T) → Ready s r → rules.Holds s Q g → rules.Fits busy s Q g p r o → ((j : ℕ) → j ≢ p → Free g j)
+      → (step_of k ok s r).call ≡ Some r' → Ready (step_of k ok s r).shared r' × (rank (step_of k ok s r).shared r' < rank s r)
   -- the step of another party, or none
-  pub keeps : (busy busy' : ℕ) (s s' : Shared T) (Q : State T) (g g' : rules.G) (p : ℕ) (r : Running T) (o o' : Open T) → Ready s → rules.Holds s Q g → rules.Holds s' Q g' → rules.Fits busy s Q g p r o → rules.Fits busy' s' Q g' p r o'
-      → ((j : ℕ) → j ≢ p → Free g j) → ((j : ℕ) → j ≢ p → Free g' j) → (s' ≡ s) ⊎ Turns rules s s' Q g → rank s' r ≡ rank s r
+  pub keeps : (busy busy' : ℕ) (s s' : Shared T) (Q : State T) (g g' : rules.G) (p : ℕ) (r : Running T) (o o' : Open T) → Ready s r → rules.Holds s Q g → rules.Holds s' Q g' → rules.Fits busy s Q g p r o → rules.Fits busy' s' Q g' p r o'
+      → ((j : ℕ) → j ≢ p → Free g j) → ((j : ℕ) → j ≢ p → Free g' j) → (s' ≡ s) ⊎ Turns rules s s' Q g → Ready s' r × (rank s' r ≡ rank s r)
 
 -- one step more is counted
 pub count-cons : {T : Type 0} (p : ℕ) (e : Event T) (es : List (Event T)) → count_by (is_step_of p) (e ∷ es) ≡ cond (is_step_of p e) 1 0 + count_by (is_step_of p) es
@@ -249,81 +248,79 @@ module _ (T : Type 0) (k : Kind) (laws : Rules T k) (parties : ℕ) where
         ]
 
   module _ (paces : Paces T k laws) where
-    idle-if : (busy : ℕ) (s : Shared T) (Q : State T) (g : laws.G) (j : ℕ) (z : Standing) (x : Option (Running T)) (y : Option (Open T)) → paces.Ready s → laws.Holds s Q g → Party busy s Q g j x y → Agrees z y → z ≢ HalfDone → paces.Free g j
-    idle-if busy s Q g j HalfDone x y ready holds h a ne = absurd (ne refl)
-    idle-if busy s Q g j Between None None ready holds h a ne = paces.rests g j h
-    idle-if busy s Q g j Undone (Some r) (Some o) ready holds h a ne = let same : a.0 ≡ o = (let e = a.1 in cc) in paces.undone busy s Q g j r o ready holds h (ap (λ z. z.effects) (sym same) ∙ a.2)
-    idle-if busy s Q g j Between (Some r) None ready holds h a ne = absurd h
-    idle-if busy s Q g j Between x (Some o) ready holds h a ne = cc
-    idle-if busy s Q g j Undone None (Some o) ready holds h a ne = absurd h
-    idle-if busy s Q g j Undone x None ready holds h a ne = let e = a.1 in cc
+    idle-if : (busy : ℕ) (s : Shared T) (Q : State T) (g : laws.G) (j : ℕ) (z : Standing) (x : Option (Running T)) (y : Option (Open T)) → laws.Holds s Q g → Party busy s Q g j x y → Agrees z y → z ≢ HalfDone → paces.Free g j
+    idle-if busy s Q g j HalfDone x y holds h a ne = absurd (ne refl)
+    idle-if busy s Q g j Between None None holds h a ne = paces.rests g j h
+    idle-if busy s Q g j Undone (Some r) (Some o) holds h a ne = let same : a.0 ≡ o = (let e = a.1 in cc) in paces.undone busy s Q g j r o holds h (ap (λ z. z.effects) (sym same) ∙ a.2)
+    idle-if busy s Q g j Between (Some r) None holds h a ne = absurd h
+    idle-if busy s Q g j Between x (Some o) holds h a ne = cc
+    idle-if busy s Q g j Undone None (Some o) holds h a ne = absurd h
+    idle-if busy s Q g j Undone x None holds h a ne = let e = a.1 in cc
 
-    event-ready : (w : World (Shared T) (Running T)) (e : Event T) → paces.Ready w.shared → paces.Ready (event_of k true w e).0.shared
-    event-ready w (Begin q c) ready = subst paces.Ready (sym (begun-shared w q (can_begin w q) (start_of k c).call (start_of k c).reply)) ready
-    event-ready w (Step q g) ready = go (call_at w q)
-      where
-        go : (x : Option (Running T)) → paces.Ready (stepped_if (step_of k) w (g && true) q x).0.shared
-        go None = ready
-        go (Some r) = paces.ready_on (g && true) w.shared r ready
-
-    quiet : (w : World (Shared T) (Running T)) (st : ℕ → Standing) (h : Here w st) (p : ℕ) → paces.Ready w.shared → ((q : ℕ) → q ≢ p → st q ≢ HalfDone) → (j : ℕ) → j ≢ p → paces.Free h.sim.g j
-    quiet w st h p ready others j ne = idle-if h.b.busy w.shared h.b.queue h.sim.g j (st j) (call_at w j) (h.b.open_call j) ready h.sim.holds (h.sim.each j) (h.agrees j) (others j ne)
+    quiet : (w : World (Shared T) (Running T)) (st : ℕ → Standing) (h : Here w st) (p : ℕ) → ((q : ℕ) → q ≢ p → st q ≢ HalfDone) → (j : ℕ) → j ≢ p → paces.Free h.sim.g j
+    quiet w st h p others j ne = idle-if h.b.busy w.shared h.b.queue h.sim.g j (st j) (call_at w j) (h.b.open_call j) h.sim.holds (h.sim.each j) (h.agrees j) (others j ne)
 
     -- where the call stands as it stood, and the queue is as it was, it is as far from its reply
-    as_far : (w w' : World (Shared T) (Running T)) (st st' : ℕ → Standing) (h : Here w st) (h' : Here w' st') (p : ℕ) (r : Running T) → paces.Ready w.shared → paces.Ready w'.shared → call_at w p ≡ Some r → call_at w' p ≡ Some r → st p ≢ Between → st' p ≢ Between
-        → ((q : ℕ) → q ≢ p → st q ≢ HalfDone) → ((q : ℕ) → q ≢ p → st' q ≢ HalfDone) → h'.b.queue ≡ h.b.queue → (w'.shared ≡ w.shared) ⊎ Turns laws w.shared w'.shared h.b.queue h.sim.g → paces.rank w'.shared r ≡ paces.rank w.shared r
-    as_far w w' st st' h h' p r ready ready' is is' mine mine' others others' same turn =
+    as_far : (w w' : World (Shared T) (Running T)) (st st' : ℕ → Standing) (h : Here w st) (h' : Here w' st') (p : ℕ) (r : Running T) → paces.Ready w.shared r → call_at w p ≡ Some r → call_at w' p ≡ Some r → st p ≢ Between → st' p ≢ Between
+        → ((q : ℕ) → q ≢ p → st q ≢ HalfDone) → ((q : ℕ) → q ≢ p → st' q ≢ HalfDone) → h'.b.queue ≡ h.b.queue → (w'.shared ≡ w.shared) ⊎ Turns laws w.shared w'.shared h.b.queue h.sim.g
+        → paces.Ready w'.shared r × (paces.rank w'.shared r ≡ paces.rank w.shared r)
+    as_far w w' st st' h h' p r ready is is' mine mine' others others' same turn =
         let o = open-there (st p) (h.b.open_call p) (h.agrees p) mine in
         let o' = open-there (st' p) (h'.b.open_call p) (h'.agrees p) mine' in
         paces.keeps h.b.busy h'.b.busy w.shared w'.shared h.b.queue h.sim.g h'.sim.g p r o.0 o'.0 ready h.sim.holds (subst (λ Q. laws.Holds w'.shared Q h'.sim.g) same h'.sim.holds)
         (fits-at w st h p r o.0 o.1 is) (subst (λ Q. laws.Fits h'.b.busy w'.shared Q h'.sim.g p r o'.0) same (fits-at w' st' h' p r o'.0 o'.1 is'))
-        (quiet w st h p ready others) (quiet w' st' h' p ready' others') turn
+        (quiet w st h p others) (quiet w' st' h' p others') turn
 
     -- an event without effect that leaves the call leaves it as far from its reply
-    still : (w : World (Shared T) (Running T)) (st : ℕ → Standing) (h : Here w st) (p : ℕ) (r r' : Running T) (e : Event T) (a : After w st e h.b) → paces.Ready w.shared → call_at w p ≡ Some r → call_at (event_of k true w e).0 p ≡ Some r'
+    still : (w : World (Shared T) (Running T)) (st : ℕ → Standing) (h : Here w st) (p : ℕ) (r r' : Running T) (e : Event T) (a : After w st e h.b) → paces.Ready w.shared r → call_at w p ≡ Some r → call_at (event_of k true w e).0 p ≡ Some r'
         → st p ≢ Between → stands_then p (st p) e (event_of k true w e).1 ≢ Between
         → ((q : ℕ) → q ≢ p → st q ≢ HalfDone) → ((q : ℕ) → q ≢ p → stands_then q (st q) e (event_of k true w e).1 ≢ HalfDone)
-        → effect_told (event_of k true w e).1 ≡ None → call_at (event_of k true w e).0 p ≡ call_at w p → ((g : Bool) → e ≡ Step p g → ⊥) → paces.rank (event_of k true w e).0.shared r' ≡ paces.rank w.shared r
+        → effect_told (event_of k true w e).1 ≡ None → call_at (event_of k true w e).0 p ≡ call_at w p → ((g : Bool) → e ≡ Step p g → ⊥)
+        → paces.Ready (event_of k true w e).0.shared r' × (paces.rank (event_of k true w e).0.shared r' ≡ paces.rank w.shared r)
     still w st h p r r' e a ready is is' mine mine' others others' none stays not_own =
         let same : r' ≡ r = (let x : Some r' ≡ Some r = sym is' ∙ (stays ∙ is) in cc) in
-        ap (λ x. paces.rank (event_of k true w e).0.shared x) same
-        ∙ as_far w (event_of k true w e).0 st (λ j. stands_then j (st j) e (event_of k true w e).1) h a.here p r ready (event-ready w e ready) is (stays ∙ is) mine mine' others others' (queue-same h.b a.here.b e (event_of k true w e).1 a.happens none) (turn w st h p e others none not_own)
+        subst (λ x. paces.Ready (event_of k true w e).0.shared x × (paces.rank (event_of k true w e).0.shared x ≡ paces.rank w.shared r)) (sym same)
+        (as_far w (event_of k true w e).0 st (λ j. stands_then j (st j) e (event_of k true w e).1) h a.here p r ready is (stays ∙ is) mine mine' others others' (queue-same h.b a.here.b e (event_of k true w e).1 a.happens none) (turn w st h p e others none not_own))
 
     -- its own step brings it nearer
-    own-falls : (w : World (Shared T) (Running T)) (st : ℕ → Standing) (h : Here w st) (p : ℕ) (r r' : Running T) (g : Bool) → paces.Ready w.shared → call_at w p ≡ Some r → call_at (event_of k true w (Step p g)).0 p ≡ Some r'
-        → st p ≢ Between → ((q : ℕ) → q ≢ p → st q ≢ HalfDone) → paces.rank (event_of k true w (Step p g)).0.shared r' < paces.rank w.shared r
+    own-falls : (w : World (Shared T) (Running T)) (st : ℕ → Standing) (h : Here w st) (p : ℕ) (r r' : Running T) (g : Bool) → paces.Ready w.shared r → call_at w p ≡ Some r → call_at (event_of k true w (Step p g)).0 p ≡ Some r'
+        → st p ≢ Between → ((q : ℕ) → q ≢ p → st q ≢ HalfDone) → paces.Ready (event_of k true w (Step p g)).0.shared r' × (paces.rank (event_of k true w (Step p g)).0.shared r' < paces.rank w.shared r)
     own-falls w st h p r r' g ready is is' mine others =
         let o = open-there (st p) (h.b.open_call p) (h.agrees p) mine in
         let t = step_of k (g && true) w.shared r in
         let after = own-step w p g r is in
         let lt : p < length w.calls = ltb-true p (length w.calls) (engine.within T (Shared T) (Running T) laws.G (capacity_of k) (step_of k) (start_of k) (CanStep k) laws.Holds laws.Idle laws.Fits w p r is) in
         let there : t.call ≡ Some r' = sym (get_or-set_same w.calls p t.call None lt) ∙ (sym (ap (λ z. call_at z p) after) ∙ is') in
-        let falls = paces.falls h.b.busy (g && true) w.shared h.b.queue h.sim.g p r r' o.0 ready h.sim.holds (fits-at w st h p r o.0 o.1 is) (quiet w st h p ready others) there in
-        subst (λ s. paces.rank s r' < paces.rank w.shared r) (sym (ap (λ z. z.shared) after)) falls
+        let falls = paces.falls h.b.busy (g && true) w.shared h.b.queue h.sim.g p r r' o.0 ready h.sim.holds (fits-at w st h p r o.0 o.1 is) (quiet w st h p others) there in
+        subst (λ s. paces.Ready s r' × (paces.rank s r' < paces.rank w.shared r)) (sym (ap (λ z. z.shared) after)) falls
 
     -- an event brings the call nearer to its reply where it is its own step, and else leaves it as far
-    nearer : (w : World (Shared T) (Running T)) (st : ℕ → Standing) (h : Here w st) (p : ℕ) (r r' : Running T) (e : Event T) (a : After w st e h.b) → paces.Ready w.shared → call_at w p ≡ Some r → call_at (event_of k true w e).0 p ≡ Some r'
+    nearer : (w : World (Shared T) (Running T)) (st : ℕ → Standing) (h : Here w st) (p : ℕ) (r r' : Running T) (e : Event T) (a : After w st e h.b) → paces.Ready w.shared r → call_at w p ≡ Some r → call_at (event_of k true w e).0 p ≡ Some r'
         → st p ≢ Between → stands_then p (st p) e (event_of k true w e).1 ≢ Between
         → ((q : ℕ) → q ≢ p → st q ≢ HalfDone) → ((q : ℕ) → q ≢ p → stands_then q (st q) e (event_of k true w e).1 ≢ HalfDone)
-        → (party_of e ≢ p → effect_told (event_of k true w e).1 ≡ None) → cond (is_step_of p e) 1 0 + paces.rank (event_of k true w e).0.shared r' ≤ paces.rank w.shared r
+        → (party_of e ≢ p → effect_told (event_of k true w e).1 ≡ None)
+        → paces.Ready (event_of k true w e).0.shared r' × (cond (is_step_of p e) 1 0 + paces.rank (event_of k true w e).0.shared r' ≤ paces.rank w.shared r)
     nearer w st h p r r' (Begin q c) a ready is is' mine mine' others others' none =
         let stays : call_at (event_of k true w (Begin q c)).0 p ≡ call_at w p = elim (eqb_tells q p) [
           | inl t ↦ subst (λ i. call_at (event_of k true w (Begin i c)).0 p ≡ call_at w p) (sym t.1) (begin-stays w p c r is)
           | inr t ↦ other-stays w p (Begin q c) t.1
         ] in
         let same = still w st h p r r' (Begin q c) a ready is is' mine mine' others others' (begin-quiet h.b a.here.b q c (event_of k true w (Begin q c)).1 a.happens) stays (λ g e. cc) in
-        omega arith
+        let far = same.1 in
+        (same.0, omega arith)
     nearer w st h p r r' (Step q g) a ready is is' mine mine' others others' none = elim (eqb_tells q p) [
       | inl t ↦
-          let falls = subst (λ i. call_at (event_of k true w (Step i g)).0 p ≡ Some r' → paces.rank (event_of k true w (Step i g)).0.shared r' < paces.rank w.shared r) (sym t.1) (λ there. own-falls w st h p r r' g ready is there mine others) is' in
-          rw t.0 (omega arith)
+          let falls = subst (λ i. call_at (event_of k true w (Step i g)).0 p ≡ Some r' → paces.Ready (event_of k true w (Step i g)).0.shared r' × (paces.rank (event_of k true w (Step i g)).0.shared r' < paces.rank w.shared r)) (sym t.1) (λ there. own-falls w st h p r r' g ready is there mine others) is' in
+          let lt = falls.1 in
+          (falls.0, rw t.0 (omega arith))
       | inr t ↦
           let same = still w st h p r r' (Step q g) a ready is is' mine mine' others others' (none t.1) (other-stays w p (Step q g) t.1) (λ b e. t.1 (let z : q ≡ p = ap party_of e in z)) in
-          rw t.0 (omega arith)
+          let far = same.1 in
+          (same.0, rw t.0 (omega arith))
     ]
 
     -- so it takes fewer steps than it had before it
-    takes-few : (w : World (Shared T) (Running T)) (st : ℕ → Standing) (h : Here w st) (p : ℕ) (r : Running T) → paces.Ready w.shared → call_at w p ≡ Some r → st p ≢ Between → ((q : ℕ) → q ≢ p → st q ≢ HalfDone)
+    takes-few : (w : World (Shared T) (Running T)) (st : ℕ → Standing) (h : Here w st) (p : ℕ) (r : Running T) → paces.Ready w.shared r → call_at w p ≡ Some r → st p ≢ Between → ((q : ℕ) → q ≢ p → st q ≢ HalfDone)
         → (es : List (Event T)) → IsLeftToIt p es (told_of k w es) → count_by (is_step_of p) es < paces.rank w.shared r
     takes-few w st h p r ready is mine others [] left =
         let o = open-there (st p) (h.b.open_call p) (h.agrees p) mine in
@@ -336,20 +333,22 @@ module _ (T : Type 0) (k : Kind) (laws : Rules T k) (parties : ℕ) where
         let others' : (q : ℕ) → q ≢ p → st' q ≢ HalfDone = λ q ne. not_half-next q (st q) e t (others q ne) (λ at. left.1 (λ also. ne (sym at ∙ also))) in
         let o = open-there (st' p) (a.here.b.open_call p) (a.here.agrees p) mine' in
         let f = call-there a.here.b.busy (event_of k true w e).0.shared a.here.b.queue a.here.sim.g p (call_at (event_of k true w e).0 p) (a.here.b.open_call p) o.0 (a.here.sim.each p) o.1 in
-        let rest = takes-few (event_of k true w e).0 st' a.here p f.0 (event-ready w e ready) f.1 mine' others' es left.2 in
         let step = nearer w st h p r f.0 e a ready is f.1 mine mine' others others' left.1 in
-        omega (arith, rest, step, count-cons p e es)
+        let rest = takes-few (event_of k true w e).0 st' a.here p f.0 step.0 f.1 mine' others' es left.2 in
+        omega (arith, rest, step.1, count-cons p e es)
 
 -- whatever the kind of queue
-pub unhindered : (T : Type 0) (k : Kind) (laws : Rules T k) (paces : Paces T k laws) → ((s : Shared T) → IsShown k s → paces.Ready s) → UnhinderedWithin T k paces.most
-unhindered T k laws paces shows parties p past stretch shown mine others left =
+pub unhindered : (T : Type 0) (k : Kind) (laws : Rules T k) (paces : Paces T k laws)
+    → ((parties : ℕ) (w : World (Shared T) (Running T)) (st : ℕ → Standing) (h : Here T k laws parties w st) (p : ℕ) (r : Running T) → call_at w p ≡ Some r → NobodyShows k w p → paces.Ready w.shared r) → UnhinderedWithin T k paces.most
+unhindered T k laws paces readies parties p past stretch nobody mine others left =
     let h = reach T k laws parties (opening_world k parties) (λ q. Between) past (first T k laws parties) in
     let w = world_after k (opening_world k parties) past in
     let st : ℕ → Standing = λ q. stands_by q Between past (told_of k (opening_world k parties) past) in
     let o = open-there T k laws parties (st p) (h.b.open_call p) (h.agrees p) mine in
     let f = call-there T k laws parties h.b.busy w.shared h.b.queue h.sim.g p (call_at w p) (h.b.open_call p) o.0 (h.sim.each p) o.1 in
-    let few = takes-few T k laws parties paces w st h p f.0 (shows w.shared shown) f.1 mine others stretch left in
-    let low = paces.within h.b.busy w.shared h.b.queue h.sim.g p f.0 o.0 (shows w.shared shown) h.sim.holds f.2 in
+    let ready = readies parties w st h p f.0 f.1 nobody in
+    let few = takes-few T k laws parties paces w st h p f.0 ready f.1 mine others stretch left in
+    let low = paces.within h.b.busy w.shared h.b.queue h.sim.g p f.0 o.0 ready h.sim.holds f.2 in
     omega (arith, few, low.1)
 
 -- where each step of a call that has had an effect has another one or ends it

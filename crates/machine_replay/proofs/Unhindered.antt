@@ -17,7 +17,7 @@ use Rattle.machine_replay.proofs.SingleStretch.{single_appends, single_takes, si
 use Rattle.machine_replay.proofs.RingStretch.{ring_appends, ring_takes, ring_never_waits, ring_takes_none, ring_unhindered}
 use Rattle.machine_replay.proofs.ChainTaken.{chain_takes}
 use Rattle.machine_replay.proofs.ChainAppended.{chain_appends}
-use Rattle.machine_replay.proofs.ChainStretch.{chain_unhindered}
+use Rattle.machine_replay.proofs.ChainEarly.{chain_unhindered}
 
 pub unhindered_calls : {T : Type 0} → UnhinderedCallsReply T
 unhindered_calls {T} kind.Single can small = single_unhindered T
@@ -41,7 +41,7 @@ takes_none T kind.Unbounded can small capped = cc
 
 pub silence_is_short : (T : Type 0) → SilenceIsShort T
 silence_is_short T = record {
-  few = λ k can small parties p past stretch shown silent nobody mine. unhindered_calls k can small parties p past stretch shown mine (λ q ne. nobody q) (left_alone p stretch _ silent);
+  few = λ k can small parties p past stretch unshowing silent nobody mine. unhindered_calls k can small parties p past stretch unshowing mine (λ q ne. nobody q) (left_alone p stretch _ silent);
   none = takes_none T;
 }
 

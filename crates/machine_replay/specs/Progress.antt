@@ -4,6 +4,10 @@ use Rattle.queue_steps.specs.declared.sizes.TheConstants.{BLOCK_SLOTS}
 use Rattle.queue_steps.specs.declared.model.Reply.{Reply}
 use Rattle.queue_steps.specs.declared.steps.types.Kind.{Kind}
 use Rattle.queue_steps.specs.declared.steps.types.Kind.TheVariants as kind
+use Rattle.queue_steps.specs.declared.steps.types.Local.{Local}
+use Rattle.queue_steps.specs.declared.steps.types.Local.TheVariants as local
+use Rattle.queue_steps.specs.declared.steps.unbounded.UnboundedLocal.TheVariants as chain
+use Rattle.machine_steps.specs.declared.machine.Running.{Running}
 use Rattle.machine_steps.specs.declared.types.EffectKind.{EffectKind}
 use Rattle.machine_steps.specs.declared.types.EffectKind.TheVariants as effect
 use Rattle.machine_steps.specs.declared.types.Event.{Event}
@@ -15,6 +19,7 @@ use Rattle.machine_steps.specs.Left.{opening_world}
 use Rattle.machine_replay.specs.Played.{told_of, world_after}
 use Rattle.machine_replay.specs.Replays.{CanReplay, is_too_large}
 use Rattle.machine_steps.specs.SharedMemory.{Shared}
+use Rattle.machine_steps.specs.World.{World, call_at}
 use Rattle.machine_replay.specs.Within.{is_step_of}
 
 -- a party is between calls, in a call that has had no effect, or in one that has had an effect and has not replied
@@ -59,10 +64,15 @@ IsLeftToIt p [] ts = Unit {0}
 IsLeftToIt p (e ∷ es) [] = Unit {0}
 IsLeftToIt p (e ∷ es) (t ∷ ts) = (party_of e ≡ p → reply_told t ≡ None) × (party_of e ≢ p → effect_told t ≡ None) × IsLeftToIt p es ts
 
--- on a chain, the poppers see a block: so it is for good from the step on by which the first push shows them one, and so before any item is taken
-abbrev pub IsShown : {T : Type 0} → Kind → Shared T → Type 0
-IsShown kind.Unbounded s = IsSome s.head_block
-IsShown _ s = Unit {0}
+-- a push has installed a chain's first block and not shown it to the poppers, U4b
+abbrev pub IsToShow : Local ℕ → Type 0
+IsToShow (local.Unbounded (chain.Showing d tail block)) = Unit {0}
+IsToShow _ = ⊥
+
+-- on a chain, no other party's call is there
+abbrev pub NobodyShows : {T : Type 0} → Kind → World (Shared T) (Running T) → ℕ → Type 0
+NobodyShows {T} kind.Unbounded w p = (q : ℕ) (r : Running T) → q ≢ p → call_at w q ≡ Some r → IsToShow r.local → ⊥
+NobodyShows {T} _ w p = Unit {0}
 
 -- how many steps a call takes at most while nobody hinders it: of a chain it may walk over a block
 abbrev pub unhindered_steps : Kind → ℕ
@@ -70,10 +80,11 @@ unhindered_steps kind.Single = 3
 unhindered_steps (kind.Bounded n) = 6
 unhindered_steps kind.Unbounded = BLOCK_SLOTS + 10
 
--- Of a run, and a stretch of it: where at its beginning a party is in a call and no other party is half done, and in the stretch the party gets no reply and no other party
--- has an effect, there the party takes fewer steps than this. So among this many steps of a call that has not replied, another party has an effect, or was half done at the first.
+-- Of a run, and a stretch of it: where at its beginning a party is in a call and no other party is half done, or to show a
+-- chain's first block, and in the stretch the party gets no reply and no other party has an effect, there the party takes fewer steps than this. So among this many steps of a call that
+-- has not replied, another party has an effect, or was half done at the first, or to show the first block.
 abbrev pub UnhinderedWithin : Type 0 → Kind → ℕ → Type 0
-UnhinderedWithin T k most = (parties p : ℕ) (past stretch : List (Event T)) → IsShown k (world_after k (opening_world k parties) past).shared
+UnhinderedWithin T k most = (parties p : ℕ) (past stretch : List (Event T)) → NobodyShows k (world_after k (opening_world k parties) past) p
     → standing k parties p past ≢ Between → ((q : ℕ) → q ≢ p → standing k parties q past ≢ HalfDone)
     → IsLeftToIt p stretch (told_of k (world_after k (opening_world k parties) past) stretch) → count_by (is_step_of p) stretch < most
 
@@ -99,9 +110,9 @@ abbrev pub HalfDoneTakesNone : Type 0 → Kind → Type 0
 HalfDoneTakesNone T k = (parties q : ℕ) (past stretch : List (Event T)) → IsSilent (told_of k (world_after k (opening_world k parties) past) stretch)
     → standing k parties q past ≡ HalfDone → count_by (is_step_of q) stretch ≡ 0
 
--- in a silent stretch at whose beginning nobody is half done each call takes fewer steps than this
+-- in a silent stretch at whose beginning nobody is half done, and no other party to show a chain's first block, each call takes fewer steps than this
 abbrev pub SilentCallsTakeFew : Type 0 → Kind → ℕ → Type 0
-SilentCallsTakeFew T k most = (parties p : ℕ) (past stretch : List (Event T)) → IsShown k (world_after k (opening_world k parties) past).shared
+SilentCallsTakeFew T k most = (parties p : ℕ) (past stretch : List (Event T)) → NobodyShows k (world_after k (opening_world k parties) past) p
     → IsSilent (told_of k (world_after k (opening_world k parties) past) stretch) → ((q : ℕ) → standing k parties q past ≢ HalfDone)
     → standing k parties p past ≢ Between → count_by (is_step_of p) stretch < most
 

@@ -18,7 +18,7 @@ use Rattle.machine_steps.specs.SharedMemory.{Shared, step_of}
 use Rattle.machine_steps.specs.World.{World, call_at}
 use Rattle.machine_steps.specs.Machine.{event_of}
 use Rattle.machine_replay.specs.Played.{told_of, world_after}
-use Rattle.machine_replay.specs.Progress.{IsNotAnswered}
+use Rattle.machine_replay.specs.Progress.{IsNotAnswered, IsToShow}
 use Rattle.machine_replay.specs.Replays.{CanReplay, is_too_large}
 use Rattle.machine_replay.specs.Within.{is_step_of}
 
@@ -110,11 +110,6 @@ IsToMoveHead (local.Unbounded (chain.Peeking head block after)) = Unit {0}
 IsToMoveHead (local.Unbounded (chain.Passing head block more)) = Unit {0}
 IsToMoveHead (local.Unbounded (chain.Entering head block)) = Unit {0}
 IsToMoveHead _ = ⊥
-
--- a push has installed the first block and not shown it, U4b
-abbrev pub IsToShow : Local ℕ → Type 0
-IsToShow (local.Unbounded (chain.Showing d tail block)) = Unit {0}
-IsToShow _ = ⊥
 
 -- a push has taken a block's last slot and not linked the next block, U6 to U8
 abbrev pub IsToLink : Local ℕ → Type 0

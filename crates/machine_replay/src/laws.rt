@@ -35,8 +35,8 @@ pub fn solo_calls_reply<T, A: Allocator>()
     ensures { SoloCallsReply T A }
 {}
 
-/// From any moment on at which no other party is half done, and while no other party has an effect, a call replies by its step of this number: its third on one slot, its sixth on a
-/// ring, its seventy-third on a chain that has shown the poppers a block.
+/// From any moment on at which no other party is half done, and none has installed a chain's first block and not shown it, and while no other party has an effect, a call replies by its
+/// step of this number: its third on one slot, its sixth on a ring, its seventy-third on a chain.
 ///
 /// A party is half done in a call that has had an effect and has not replied. So a party makes nobody wait while it is between calls, or in a call that has had no effect, wherever it
 /// stops; it may also begin calls, take steps and get replies meanwhile.
@@ -79,7 +79,7 @@ pub fn len_waits_for_nobody<T>()
 
 /// A stretch of a run in which nobody has an effect and nobody gets a reply is short, unless half-done calls stand still in it.
 ///
-/// Where nobody is half done at its beginning each call takes fewer steps in it than `unhindered_calls_reply` says; on a queue with a capacity a half-done call takes none.
+/// Where nobody is half done at its beginning, and no other party is to show a chain's first block, each call takes fewer steps in it than `unhindered_calls_reply` says; on a queue with a capacity a half-done call takes none.
 pub fn silence_is_short<T>()
     ensures { SilenceIsShort T }
 {}
