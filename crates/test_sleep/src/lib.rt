@@ -1,0 +1,5 @@
+//! Tests of an eventcount with threads.
+#![tactic(auto)]
+
+#[cfg(test)]
+mod asleep;
