@@ -16,7 +16,7 @@ use std::thread::{Threads, join};
 pub(crate) type Queue = ConcurrentQueue<u64>;
 
 /// What tells the fast steps of a held call from those of other callers.
-struct Told;
+pub(crate) struct Told;
 
 /// What `give_up` makes of a pending call.
 #[derive(Clone, Copy, Debug, PartialEq)]
@@ -48,8 +48,8 @@ pub(crate) struct Story {
 struct Seen {
     /// The other call was held when this one began.
     held: bool,
-    /// It was pending, and stayed so each time it was taken up.
-    pending: [bool; 3],
+    /// It was pending, each time it was taken up too. The last time is the first one after the held call's end.
+    pending: [bool; 4],
     /// What giving it up made of it; nothing where it gave another value back.
     given_up: Option<GivenUp>,
     /// The held call had ended when it was taken up again.
@@ -147,13 +147,14 @@ fn call_beside(
     stage.is_at(MET);
     let ended = stage.comes_to(ENDED);
     let outcome = take_up(queue, outcome);
+    let fourth = is_pending(&outcome);
     let (party, reply) = match take_up(queue, outcome) {
         Outcome::Done(party, reply) => (Some(party), Some(reply)),
         Outcome::Pending(_) => (None, None),
     };
     let seen = Seen {
         held,
-        pending: [first, second, third],
+        pending: [first, second, third, fourth],
         given_up,
         ended,
         reply,
@@ -215,7 +216,7 @@ pub(crate) fn tell<R: Wait + Threads + Sync + Abort>(
     let (mut first, reply, second, seen) = call_both(rt, &queue, first, second, story);
     let wanted = Seen {
         held: true,
-        pending: [true; 3],
+        pending: [true, true, true, story.cap.is_none()],
         given_up: Some(story.given_up),
         ended: true,
         reply: Some(story.call.1),

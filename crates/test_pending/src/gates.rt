@@ -3,6 +3,7 @@ use call_driver::gate::Gate;
 use queue_steps::steps::{Link, Op, Word};
 use std::sync::atomic::{AtomicU64, Ordering};
 use std::thread::yield_now;
+use test_allocators::Heap;
 
 /// How often a thread looks for the other one's step at most.
 const LOOKS: u64 = 1_000_000;
@@ -87,5 +88,21 @@ impl Gate for Holding<'_> {
             self.stage.is_at(HELD);
             self.stage.comes_to(MET);
         }
+    }
+}
+
+/// The same, and lets the request go then that is held.
+#[derive(Drop)]
+pub(crate) struct LettingGo<'a> {
+    pub(crate) holding: Holding<'a>,
+    pub(crate) heap: &'a Heap,
+}
+
+impl Gate for LettingGo<'_> {
+    fn pass<B: Copy>(&self, op: &Op<B>) {
+        if self.holding.before.is(op) {
+            self.heap.let_go();
+        }
+        self.holding.pass(op);
     }
 }
