@@ -52,10 +52,11 @@ pub mod Counting
 pub mod Peaking
 pub mod SoFar
 pub mod AllKinds
+pub mod Played
 pub mod MachineRuns
 pub mod BookRuns
 pub mod Noting
-pub mod Played
+pub mod Serving
 pub mod OneOwner
 pub mod OneOwnerRun
 pub mod Entries

@@ -19,6 +19,7 @@ use Rattle.machine_steps.specs.Present.{present}
 use Rattle.machine_replay.specs.Replays.{CanReplay, is_too_large}
 use Rattle.machine_steps.specs.World.{World, call_at}
 use Rattle.machine_replay.proofs.AllKinds.{Known, has_machine, has_slot, known-can, known-first, known-grows, known-more, known-peak, known-room}
+use Rattle.machine_replay.proofs.Played.{run-made}
 use Rattle.machine_replay.proofs.SoFar.{so_far-left}
 
 -- a run goes on by one event
@@ -135,6 +136,7 @@ machine_run-ends {T} c r k parties es ts left peak on =
     let known = machine_run-known k parties es ts c on in
     let here : r.left.items ≡ left_of k (world_of c.machine) = rw on.kind_is at left in
     record {
+      made = (run-made k parties es ts c on).told;
       last = known.so_far.book;
       run = known.so_far.run;
       left = here ∙ so_far-left _ parties es ts (world_of c.machine) c.peak known.so_far;

@@ -1,5 +1,5 @@
 -- What is noted of a run, one event after another.
-use Rattle.std.proofs.Common.{◌≡◌, ℕ, List, [], ◌∷◌, ◌++◌, length}
+use Rattle.std.proofs.Common.{◌≡◌, ◌∙◌, ℕ, List, [], ◌∷◌, ◌++◌, length, ap}
 use Rattle.queue_steps.specs.declared.steps.types.Kind.{Kind}
 use Rattle.machine_replay.specs.declared.machine_run.MachineRun.{MachineRun}
 use Rattle.machine_replay.specs.declared.machine_run.Ended.{Ended}
@@ -7,10 +7,14 @@ use Rattle.machine_replay.specs.declared.run.Lists.{Lists}
 use Rattle.machine_steps.specs.declared.types.Event.{Event}
 use Rattle.machine_steps.specs.declared.types.Told.{Told}
 use Rattle.machine_replay.specs.Conforms.{Conforms, capacity_of, party_of, entries_from, reply_entry, effect_entry, skipped_entry}
+use Rattle.machine_replay.specs.Played.{IsPlayed}
+use Rattle.machine_steps.specs.Left.{left_of}
+use Rattle.machine_steps.specs.declared.types.Replay.{Replay}
 use Rattle.machine_replay.specs.MachineRuns.{Continues, IsMachineRun, IsSomeMachineRun, Leaves}
 use Rattle.machine_steps.specs.Machine.{world_of}
 use Rattle.machine_replay.proofs.AllKinds.{known-length}
 use Rattle.machine_replay.proofs.MachineRuns.{machine_run-known}
+use Rattle.machine_replay.proofs.Played.{run-made}
 use Rattle.machine_replay.proofs.SoFar.{noted}
 
 -- the lists have what is told of the events of the run
@@ -55,4 +59,20 @@ notes-end k parties events l c r notes leaves =
       skipped = notes.skipped;
       left = ends.left;
       peak = ends.peak;
+    }
+
+-- and its lists are what the events make
+pub notes-played : {T A B : Type 0} (k : Kind) (parties : ℕ) (events : List (Event T)) (l : Lists T A) (c : MachineRun T B) (r : Replay T A) → Notes k parties events l c
+    → r.replies.items ≡ l.replies.items → r.effects.items ≡ l.effects.items → r.skipped.items ≡ l.skipped.items → r.left.items ≡ left_of c.machine.kind (world_of c.machine)
+    → IsPlayed k parties events r
+notes-played k parties events l c r notes replies effects skipped left =
+    let all = run-made k parties events notes.told c notes.on in
+    let here : r.left.items ≡ left_of k (world_of c.machine) = rw notes.on.kind_is at left in
+    record {
+      told = notes.told;
+      made = all.told;
+      replies = replies ∙ notes.replies;
+      effects = effects ∙ notes.effects;
+      skipped = skipped ∙ notes.skipped;
+      left = here ∙ ap (λ w. left_of k w) all.world;
     }

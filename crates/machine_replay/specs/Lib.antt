@@ -5,6 +5,7 @@ pub mod Replays
 pub mod MachineRuns
 pub mod BookRuns
 pub mod Played
+pub mod Served
 pub mod OneOwner
 pub mod InCall
 pub mod Meaning

@@ -14,6 +14,7 @@ use Rattle.machine_replay.specs.InCall.{IsInCall}
 use Rattle.machine_steps.specs.Left.{left_of, opening_world}
 use Rattle.machine_steps.specs.Machine.{HasCount, HasRoom, event_of, world_of}
 use Rattle.machine_replay.specs.Peaks.{opening_peak, peaked}
+use Rattle.machine_replay.specs.Played.{IsMade}
 use Rattle.machine_replay.specs.Replays.{CanReplay, is_too_large}
 use Rattle.machine_steps.specs.World.{World}
 
@@ -53,8 +54,9 @@ abbrev pub TellsCall : {T A : Type 0} → MachineRun T A → ℕ → Bool → Ty
 TellsCall {T} c p says = (k : Kind) (parties : ℕ) (events : List (Event T)) (told : List (Told T)) → IsMachineRun k parties events told c
     → IsTrue says ↔ IsInCall events (entries_from skipped_entry 0 events told) (entries_from reply_entry 0 events told) p (length events)
 
--- what is told of these events leads from the empty open queue to a last book, whose items are left; and the peak is theirs, which is none with a capacity
+-- what is told of these events is what the machine makes of them, and leads from the empty open queue to a last book, whose items are left; and the peak is theirs, which is none with a capacity
 pub record EndsAs {T A : Type 0} (k : Kind) (parties : ℕ) (events : List (Event T)) (told : List (Told T)) (r : Ended T A) : Type 0 where
+  pub made : IsMade k parties events told
   pub last : Book T
   pub run : Run (capacity_of k) parties (opening (capacity_of k)) events told last
   pub left : r.left.items ≡ last.queue.items

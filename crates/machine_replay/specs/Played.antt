@@ -1,6 +1,10 @@
 -- What a list of events makes of a machine, where the allocator grants each request that no event refuses, and what a replay tells by that.
-use Rattle.std.specs.Prelude.{◌≡◌, ℕ, ◌&&◌, Bool, true, false, Option, Some, None, List, [], ◌∷◌}
+use Rattle.std.specs.Prelude.{◌≡◌, ℕ, ◌&&◌, Bool, true, false, not, Option, Some, None, Err, List, [], ◌∷◌}
+use Rattle.queue_steps.specs.declared.errors.ForcePushError.TheVariants as force
+use Rattle.queue_steps.specs.declared.errors.PushError.TheVariants as push
 use Rattle.queue_steps.specs.declared.model.Call.{Call}
+use Rattle.queue_steps.specs.declared.model.Reply.{Reply}
+use Rattle.queue_steps.specs.declared.model.Reply.TheVariants as reply
 use Rattle.queue_steps.specs.declared.steps.types.Kind.{Kind}
 use Rattle.queue_steps.specs.declared.steps.types.Local.{Local}
 use Rattle.queue_steps.specs.declared.steps.types.Op.{Op}
@@ -10,6 +14,7 @@ use Rattle.machine_steps.specs.declared.types.Event.{Event}
 use Rattle.machine_steps.specs.declared.types.Event.TheVariants.{Begin, Step}
 use Rattle.machine_steps.specs.declared.types.Replay.{Replay}
 use Rattle.machine_steps.specs.declared.types.Told.{Told}
+use Rattle.machine_steps.specs.declared.types.Told.TheVariants.{Ran}
 use Rattle.machine_replay.specs.Conforms.{entries_from, reply_entry, effect_entry, skipped_entry}
 use Rattle.machine_steps.specs.Left.{left_of, opening_world}
 use Rattle.machine_steps.specs.SharedMemory.{Shared, start_of, step_of}
@@ -31,19 +36,37 @@ world_after k w es = world_by (step_of k) (start_of k) w es
 abbrev pub told_of : {T : Type 0} → Kind → World (Shared T) (Running T) → List (Event T) → List (Told T)
 told_of k w es = told_by (step_of k) (start_of k) w es
 
--- the events, with a step also refused where the allocator did not grant its request
-abbrev pub refused : {T : Type 0} → List (Event T) → List Bool → List (Event T)
-refused (Step p granted ∷ es) (ok ∷ oks) = Step p (granted && ok) ∷ refused es oks
-refused (Begin p c ∷ es) (ok ∷ oks) = Begin p c ∷ refused es oks
-refused es _ = es
+-- whether the reply, and what is told, is of want of memory
+abbrev pub is_no_memory : {T : Type 0} → Reply T → Bool
+is_no_memory (reply.Push (Err (push.NoMemory v))) = true
+is_no_memory (reply.ForcePush (Err (force.NoMemory v))) = true
+is_no_memory _ = false
 
--- what is told is what these events make, with a request refused where the allocator refused it
+abbrev pub lacks_memory : {T : Type 0} → Told T → Bool
+lacks_memory (Ran k (Some r)) = is_no_memory r
+lacks_memory _ = false
+
+-- the event as it took place, by what is told of it: a step that tells of want of memory was refused its request, by its event or by the allocator
+abbrev pub event_told : {T : Type 0} → Event T → Told T → Event T
+event_told (Step p granted) t = Step p (granted && not (lacks_memory t))
+event_told (Begin p c) t = Begin p c
+
+abbrev pub as_told : {T : Type 0} → List (Event T) → List (Told T) → List (Event T)
+as_told (e ∷ es) (t ∷ ts) = event_told e t ∷ as_told es ts
+as_told es _ = es
+
+-- what is told is what the machine makes of the events as they took place. So the events and what is told fix which requests were refused
+abbrev pub IsMade : {T : Type 0} → Kind → ℕ → List (Event T) → List (Told T) → Type 0
+IsMade k parties events told = told ≡ told_of k (opening_world k parties) (as_told events told)
+
+-- the lists, and what is left, are what the machine makes of the events as they took place
 pub record IsPlayed {T A : Type 0} (k : Kind) (parties : ℕ) (events : List (Event T)) (r : Replay T A) : Type 0 where
-  pub granted : List Bool
-  pub replies : r.replies.items ≡ entries_from reply_entry 0 (refused events granted) (told_of k (opening_world k parties) (refused events granted))
-  pub effects : r.effects.items ≡ entries_from effect_entry 0 (refused events granted) (told_of k (opening_world k parties) (refused events granted))
-  pub skipped : r.skipped.items ≡ entries_from skipped_entry 0 (refused events granted) (told_of k (opening_world k parties) (refused events granted))
-  pub left : r.left.items ≡ left_of k (world_after k (opening_world k parties) (refused events granted))
+  pub told : List (Told T)
+  pub made : IsMade k parties events told
+  pub replies : r.replies.items ≡ entries_from reply_entry 0 events told
+  pub effects : r.effects.items ≡ entries_from effect_entry 0 events told
+  pub skipped : r.skipped.items ≡ entries_from skipped_entry 0 events told
+  pub left : r.left.items ≡ left_of k (world_after k (opening_world k parties) (as_told events told))
 
 -- where the party's call stands, if it is in one
 abbrev pub local_in : {T : Type 0} → Option (Running T) → Option (Local ℕ)

@@ -5,9 +5,8 @@ use Rattle.std.proofs.lemmas.Iterator.Consumers.{YieldsList-end}
 use Rattle.machine_steps.specs.declared.types.Replay.{Replay}
 use Rattle.machine_replay.specs.Conforms.{Conforms, capacity_of}
 use Rattle.machine_steps.specs.Machine.{HasRoom}
-use Rattle.machine_replay.proofs.Noting.{notes-first, notes-on, notes-next, notes-end}
+use Rattle.machine_replay.proofs.Noting.{notes-first, notes-on, notes-next, notes-end, notes-played}
 use Rattle.machine_replay.proofs.OneOwnerRun.{one_owner}
-use Rattle.machine_replay.proofs.Played.{notes-played}
 use Rattle.machine_replay.proofs.run.replay.Goals as goal
 
 pub handle-told-requires-clause-comes : goal.handle-told-requires-clause-comes
