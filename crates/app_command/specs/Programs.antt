@@ -30,9 +30,3 @@ module _ {Z : Type 0} where
   -- the program ends so
   abbrev pub IsEndOf : Result (IntoIter (String Z) Z) Error → Option (List ℕ) → Option (List ℕ) → Option (List ℕ) → Ended → Type 0
   IsEndOf given known old new ended = IsAskedEnd given known old new ended ⊎ IsWantOfMemory given old new ended
-
-  -- it ends with this status, whatever its threads shared
-  pub record IsSomeEnd (given : Result (IntoIter (String Z) Z) Error) (known old new : Option (List ℕ)) (status : ℕ) : Type 0 where
-    pub ended : Ended
-    pub ends : IsEndOf given known old new ended
-    pub status_is : status ≡ ended.status

@@ -1,6 +1,5 @@
-//! The whole program, with the arguments as the system gives them, and the status that it ends with.
-ghost use Rattle.std.specs.Process.{exit_status};
-ghost use Rattle.app_command.specs.Programs.{IsEndOf, IsSomeEnd};
+//! The whole program, with the arguments as the system gives them, and how it ends.
+ghost use Rattle.app_command.specs.Programs.{IsEndOf};
 
 use crate::command::{Ended, command, lack_memory};
 use app_text::words::words_of;
@@ -9,30 +8,13 @@ use std::alloc::Allocator;
 use std::env::Args;
 use std::io;
 use std::io::{Read, Write};
-use std::process::ExitCode;
 use std::sync::Wait;
 use std::thread::Threads;
-
-/// Does what the arguments say, of which the first is the program's name, and tells how the program ends.
-///
-/// It ends with the status of [`end`].
-pub fn program<R: Threads + Wait + Sync + AllocGlobal, A: Allocator, I: Read, O: Write, F: Write>(
-    rt: &R,
-    alloc: &A,
-    given: io::Result<Args>,
-    input: &mut I,
-    output: &mut O,
-    faults: &mut F,
-) -> ExitCode
-    ensures { IsSomeEnd given (I.remaining input.old) (O.contents output.old) (O.contents output.new) (exit_status result) }
-{
-    ExitCode::from(end(rt, alloc, given, input, output, faults).status)
-}
 
 /// Does what the arguments say, of which the first is the program's name, and answers the status to end with. Hands on what threads shared.
 ///
 /// Arguments for which there is no memory end it as want of memory does, before anything is read or written. Arguments that are no text are wrong ones, as none are.
-pub fn end<R: Threads + Wait + Sync + AllocGlobal, A: Allocator, I: Read, O: Write, F: Write>(
+pub fn program<R: Threads + Wait + Sync + AllocGlobal, A: Allocator, I: Read, O: Write, F: Write>(
     rt: &R,
     alloc: &A,
     given: io::Result<Args>,

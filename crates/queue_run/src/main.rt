@@ -6,12 +6,13 @@ use std::env;
 use std::process::ExitCode;
 
 fn main(rt: HostRuntime) -> ExitCode {
-    program(
+    let ended = program(
         &rt,
         &rt.alloc(),
         env::args(&rt),
         &mut rt.stdin(),
         &mut rt.stdout(),
         &mut rt.stderr(),
-    )
+    );
+    ExitCode::from(ended.status)
 }

@@ -32,14 +32,15 @@ fn end_of<R: Threads + Wait + Sync + AllocGlobal>(
     output: &mut Vec<u8>,
 ) -> ExitCode {
     let mut faults = Vec::new(rt.alloc());
-    program(
+    let ended = program(
         rt,
         &rt.alloc(),
         Ok(words.into_iter()),
         &mut input,
         output,
         &mut faults,
-    )
+    );
+    ExitCode::from(ended.status)
 }
 
 /// Whether the program, run on the case of this line, ends with status 0 and prints what it is to print.

@@ -32,7 +32,7 @@ fn replay<R: Threads + Wait + Sync + AllocGlobal>(
     let args = replay_args(rt.alloc(), kind, parties)?;
     let mut input = schedule;
     let mut faults = Vec::new(rt.alloc());
-    let _code = queue_run(
+    let _ended = queue_run(
         rt,
         &rt.alloc(),
         Ok(args.into_iter()),

@@ -4,7 +4,7 @@ use app_command::program::program;
 use std::env::Args;
 use std::io;
 use std::io::ErrorKind;
-use std::process::{Abort, ExitCode};
+use std::process::Abort;
 use std::sync::Wait;
 use std::thread::Threads;
 use test_streams::runs::{End, words};
@@ -19,10 +19,10 @@ fn ends<R: Abort + Threads + Wait + Sync + AllocGlobal>(
     let alloc = rt.alloc();
     let mut output = Vec::new(alloc);
     let mut faults = Vec::new(alloc);
-    let code = program(rt, &alloc, given, &mut input, &mut output, &mut faults);
+    let ended = program(rt, &alloc, given, &mut input, &mut output, &mut faults);
     assert_eq!(rt;
-        (code, output.as_slice(), faults.as_slice()),
-        (ExitCode::from(end.status), end.output, end.faults)
+        (ended.status, output.as_slice(), faults.as_slice()),
+        (end.status, end.output, end.faults)
     );
 }
 
