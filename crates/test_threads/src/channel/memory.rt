@@ -8,15 +8,23 @@ use std::process::Abort;
 use std::sync::Wait;
 use test_allocators::{Heap, Refusal};
 
-/// Whether a channel was made; where not, the item that its queue has still, and whether that has one owner again.
+/// Whether a channel was made, the item that its queue has still, and whether that has one owner again. Then nothing of the channel is left but the queue.
 type Made = (bool, Option<u64>, bool);
 
-/// Makes a channel of a queue with the item 1, or takes the queue back. The queue takes its memory elsewhere.
+/// Makes a channel of a queue with the item 1, and ends and finishes it, or takes the queue back. The queue takes its memory elsewhere.
 fn make<R: Wait + Abort>(rt: &R, heap: &Heap, counts: &Heap) -> Made {
     let (queue, mut party) = open_surely(rt, heap, Some(2));
     let pushed = queue.push(rt, &mut party, 1).is_ok();
     match channel(counts, queue, party) {
-        Ok(_) => (true, None, false),
+        Ok((channel, sender, receiver)) => {
+            let (first, _) = channel.end_sender(sender);
+            let (second, _) = channel.end_receiver(receiver);
+            let party = channel.join(first, second);
+            match channel.finish(party) {
+                Ok(mut left) => (true, left.pop().ok(), pushed && counts.live() == 0),
+                Err(_) => (true, None, false),
+            }
+        }
         Err((queue, mut party)) => {
             let item = queue.pop(rt, &mut party).ok();
             (false, item, pushed && queue.finish(party).is_ok())
@@ -37,7 +45,7 @@ fn refused<R: Wait + Abort>(rt: &R, alloc: Global, refusal: Refusal) -> (Made, u
 static REFUSED: [(Refusal, (Made, u64, u64)); 3] = [
     (Refusal::Nth(1), ((false, Some(1), true), 1, 0)),
     (Refusal::Nth(2), ((false, Some(1), true), 2, 0)),
-    (Refusal::Never, ((true, None, false), 2, 0)),
+    (Refusal::Never, ((true, Some(1), true), 2, 0)),
 ];
 
 #[test]

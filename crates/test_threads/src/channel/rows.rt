@@ -318,25 +318,6 @@ fn only_the_last_of_two_receivers_closes(rt: HostRuntime) {
     tell(&rt, rt.alloc(), &TWO_RECEIVERS);
 }
 
-static FIVE_RECEIVERS: Story = Story {
-    cap: Some(1),
-    lines: &[
-        Line::EndOneOfTwoReceivers(false),
-        Line::EndOneOfTwoReceivers(false),
-        Line::EndOneOfTwoReceivers(false),
-        Line::EndOneOfTwoReceivers(false),
-        Line::IsClosed(false),
-        Line::EndReceiver(true),
-        Line::IsClosed(true),
-    ],
-    left: None,
-};
-
-#[test]
-fn only_the_last_of_five_receivers_closes(rt: HostRuntime) {
-    tell(&rt, rt.alloc(), &FIVE_RECEIVERS);
-}
-
 static FORCED: Story = Story {
     cap: Some(1),
     lines: &[

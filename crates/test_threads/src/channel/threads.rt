@@ -95,7 +95,7 @@ fn as_many_are_sent_as_are_taken_or_left(rt: HostRuntime) {
 
 #[test]
 fn all_that_two_threads_send_comes(rt: HostRuntime) {
-    for cap in [1usize, 3] {
+    for cap in [1usize, 3, 5000] {
         let all = gather(&rt, rt.alloc(), cap, 1000).expect(&rt, "memory");
         is_in(
             &rt,

@@ -74,15 +74,18 @@ fn an_iterator_gives_items_again(rt: HostRuntime) {
 struct Shown {
     /// The capacity, if there is one.
     cap: Option<usize>,
+    /// How many items have gone through it before.
+    before: u64,
     pushes: u64,
     pops: u64,
     closed: bool,
     text: &'static str,
 }
 
-static SHOWN: [Shown; 11] = [
+static SHOWN: [Shown; 14] = [
     Shown {
         cap: Some(2),
+        before: 0,
         pushes: 1,
         pops: 0,
         closed: false,
@@ -90,6 +93,7 @@ static SHOWN: [Shown; 11] = [
     },
     Shown {
         cap: Some(2),
+        before: 0,
         pushes: 2,
         pops: 1,
         closed: true,
@@ -97,6 +101,7 @@ static SHOWN: [Shown; 11] = [
     },
     Shown {
         cap: Some(300),
+        before: 0,
         pushes: 250,
         pops: 13,
         closed: false,
@@ -104,6 +109,7 @@ static SHOWN: [Shown; 11] = [
     },
     Shown {
         cap: Some(1),
+        before: 0,
         pushes: 0,
         pops: 0,
         closed: false,
@@ -111,6 +117,7 @@ static SHOWN: [Shown; 11] = [
     },
     Shown {
         cap: Some(1),
+        before: 0,
         pushes: 1,
         pops: 0,
         closed: false,
@@ -118,6 +125,7 @@ static SHOWN: [Shown; 11] = [
     },
     Shown {
         cap: Some(1),
+        before: 0,
         pushes: 1,
         pops: 0,
         closed: true,
@@ -125,6 +133,7 @@ static SHOWN: [Shown; 11] = [
     },
     Shown {
         cap: Some(1),
+        before: 0,
         pushes: 1,
         pops: 1,
         closed: true,
@@ -132,6 +141,7 @@ static SHOWN: [Shown; 11] = [
     },
     Shown {
         cap: None,
+        before: 0,
         pushes: 0,
         pops: 0,
         closed: true,
@@ -139,6 +149,7 @@ static SHOWN: [Shown; 11] = [
     },
     Shown {
         cap: None,
+        before: 0,
         pushes: 3,
         pops: 1,
         closed: false,
@@ -146,6 +157,7 @@ static SHOWN: [Shown; 11] = [
     },
     Shown {
         cap: None,
+        before: 0,
         pushes: 63,
         pops: 63,
         closed: false,
@@ -153,10 +165,35 @@ static SHOWN: [Shown; 11] = [
     },
     Shown {
         cap: None,
+        before: 0,
         pushes: 200,
         pops: 70,
         closed: false,
         text: "ConcurrentQueue { len: 130, capacity: None, is_closed: false }",
+    },
+    Shown {
+        cap: Some(3),
+        before: 1000,
+        pushes: 3,
+        pops: 1,
+        closed: false,
+        text: "ConcurrentQueue { len: 2, capacity: Some(3), is_closed: false }",
+    },
+    Shown {
+        cap: Some(5000),
+        before: 4000,
+        pushes: 4321,
+        pops: 21,
+        closed: false,
+        text: "ConcurrentQueue { len: 4300, capacity: Some(5000), is_closed: false }",
+    },
+    Shown {
+        cap: None,
+        before: 1000,
+        pushes: 200,
+        pops: 70,
+        closed: true,
+        text: "ConcurrentQueue { len: 130, capacity: None, is_closed: true }",
     },
 ];
 
@@ -164,6 +201,7 @@ static SHOWN: [Shown; 11] = [
 fn is_printed<R: Wait + Abort>(rt: &R, alloc: Global, shown: &Shown) {
     let (queue, mut party) = open_surely(rt, alloc, shown.cap);
     let pushed = 1..shown.pushes.wrapping_add(1);
+    find_each(rt, &queue, &mut party, Deed::PushAndPop, 0..shown.before);
     find_each(rt, &queue, &mut party, Deed::TryPush, pushed);
     find_each(rt, &queue, &mut party, Deed::TryPop, 0..shown.pops);
     if shown.closed {
