@@ -8,3 +8,4 @@ pub mod Starting
 pub mod Runs
 pub mod Staying
 pub mod Pairs
+pub mod Listing

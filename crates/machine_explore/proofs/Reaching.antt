@@ -40,7 +40,7 @@ call_in-skipped : {T : Type 0} (e : Event T) → call_in e Skipped ≡ []
 call_in-skipped (Begin p c) = refl
 call_in-skipped (Step p granted) = refl
 
-if-nothing : {X : Type 0} (b : Bool) → (let none : List X = [] in if b then none else none) ≡ []
+pub if-nothing : {X : Type 0} (b : Bool) → (let none : List X = [] in if b then none else none) ≡ []
 if-nothing true = refl
 if-nothing false = refl
 

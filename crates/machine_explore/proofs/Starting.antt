@@ -24,11 +24,11 @@ use Rattle.machine_explore.specs.Starts.{IsPrepared}
 use Rattle.machine_explore.proofs.Showing.{begun_by-snoc, told_by-length, told_by-snoc, world_by-snoc}
 
 module _ {S R T : Type 0} (step : Bool → S → R → Made S R T) (start : Call T → Begun R T) where
-  world_by-append : (xs ys : List (Event T)) (w : World S R) → world_by step start w (xs ++ ys) ≡ world_by step start (world_by step start w xs) ys
+  pub world_by-append : (xs ys : List (Event T)) (w : World S R) → world_by step start w (xs ++ ys) ≡ world_by step start (world_by step start w xs) ys
   world_by-append [] ys w = refl
   world_by-append (x ∷ xs) ys w = world_by-append xs ys (world_event step start w true x).0
 
-  told_by-append : (xs ys : List (Event T)) (w : World S R) → told_by step start w (xs ++ ys) ≡ told_by step start w xs ++ told_by step start (world_by step start w xs) ys
+  pub told_by-append : (xs ys : List (Event T)) (w : World S R) → told_by step start w (xs ++ ys) ≡ told_by step start w xs ++ told_by step start (world_by step start w xs) ys
   told_by-append [] ys w = refl
   told_by-append (x ∷ xs) ys w = ap (λ l. (world_event step start w true x).1 ∷ l) (told_by-append xs ys (world_event step start w true x).0)
 

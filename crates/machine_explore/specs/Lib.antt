@@ -5,3 +5,4 @@ pub mod Starts
 pub mod Tables
 pub mod Certified
 pub mod Traces
+pub mod Listed

@@ -3,6 +3,7 @@
 
 pub mod certify;
 pub mod check;
+pub mod laws;
 pub mod outcome;
 pub mod position;
 pub mod program;
