@@ -1,3 +1,4 @@
 pub mod Doings
 pub mod Whole
 pub mod Laws
+pub mod SeenMore

@@ -7,6 +7,7 @@ use Rattle.queue_steps.specs.declared.model.Reply.{Reply}
 use Rattle.queue_steps.specs.declared.model.Effect.{Effect}
 use Rattle.queue_steps.specs.Effect.{IsHistory, after}
 use Rattle.queue_steps.specs.Parties.{View, IsView, IsWhole, Split, Join, Meet}
+use Rattle.concurrent_queue.specs.SawMore.{SawMore}
 use Rattle.concurrent_queue.specs.Shared.{Person, Calls}
 use Rattle.law_parties.specs.Doings.{done_by, hands_in, hands_out, Did, Acts, SawClosed}
 
@@ -43,3 +44,7 @@ NumbersAreKept =
 -- what was seen closed is seen closed from then on
 abbrev pub ClosedStaysSeen : Type 0 → Type 0
 ClosedStaysSeen T = (v w : Person T) → w.queue ≡ v.queue → IsPrefix v.view.seen w.view.seen → IsHistory w.queue.cap w.view.seen → SawClosed v → SawClosed w
+
+-- a party that saw more and then made a call has made it after what it had seen before
+abbrev pub SawMoreThenCalls : Type 0 → Type 0
+SawMoreThenCalls T = (v w u : Person T) (c : Call T) (r : Reply T) → SawMore v w → Calls w c r u → Calls v c r u

@@ -1,7 +1,7 @@
 //! What a party of a shared queue has done, as the effects at its own places tell. Each function is there for its contract alone, which holds of all parties.
 #![tactic(auto)]
 
-ghost use Rattle.law_parties.specs.Laws.{CallsAct, ClosedStaysSeen, DoingsAddUp, JoinsAddDoings, MeetsKeepDoings, NumbersAreKept, SplitsKeepDoings, WholeDidAll};
+ghost use Rattle.law_parties.specs.Laws.{CallsAct, ClosedStaysSeen, DoingsAddUp, JoinsAddDoings, MeetsKeepDoings, NumbersAreKept, SawMoreThenCalls, SplitsKeepDoings, WholeDidAll};
 
 /// A call adds the effects at its places to what its party did, and nothing else.
 pub fn calls_act<T>()
@@ -41,4 +41,9 @@ pub fn numbers_are_kept()
 /// A party that has seen the queue closed has seen so from then on.
 pub fn closed_stays_seen<T>()
     ensures { ClosedStaysSeen T }
+{}
+
+/// A party that saw more and then made a call has made it after what it had seen before.
+pub fn saw_more_then_calls<T>()
+    ensures { SawMoreThenCalls T }
 {}
