@@ -4,13 +4,16 @@
 //! waits, a notify is one load.
 #![tactic(auto)]
 
-ghost use Rattle.std.specs.Prelude.{IsTrue};
-ghost use Rattle.event_count.specs.Walks.{IsMoving, is_prepared};
+ghost use Rattle.std.specs.Prelude.{◌≡◌, ℕ, IsTrue};
+ghost use Rattle.law_wakes.specs.Steps.{step_of, after_of};
+ghost use Rattle.event_count.specs.Walks.{IsMoving, IsOnWords, IsPark, is_prepared};
 
+mod walk;
 mod words;
 
-use crate::words::{Walk, Words};
-use law_wakes::{Place, Whom};
+use crate::walk::Walk;
+use crate::words::Words;
+use law_wakes::{Place, Step, Whom};
 use std::sync::Wait;
 
 /// Two words that threads share: how often sleepers were woken, and how many there are.
@@ -26,6 +29,28 @@ pub struct Ticket<'a> {
     ghost prepared: { IsTrue (is_prepared walk.place) },
 }
 
+/// Takes the next step of a call, which does not sleep.
+#[inline(always)]
+fn take_step(words: &Words, walk: Walk) -> Walk
+    requires { IsOnWords (step_of walk.place) }
+    ensures { (found : ℕ) × (result.place ≡ after_of walk.place found) }
+{
+    let done = words.operate(walk.step());
+    walk.after(done)
+}
+
+/// Takes the next step of a call, which sleeps.
+fn park<R: Wait>(rt: &R, words: &Words, walk: Walk) -> Walk
+    requires { IsPark (step_of walk.place) }
+    ensures { (found : ℕ) × (result.place ≡ after_of walk.place found) }
+{
+    let Step::Park(events) = walk.step() else {
+        unreachable!()
+    };
+    let done = words.park(rt, events);
+    walk.after(done)
+}
+
 impl EventCount {
     pub fn new() -> EventCount {
         EventCount {
@@ -36,8 +61,8 @@ impl EventCount {
     /// Begins to wait. The caller looks at the condition after this.
     pub fn prepare(&self) -> Ticket<'_> {
         let words = &self.words;
-        let loaded = words.take_step(Walk::begin(Place::Starting));
-        let walk = words.take_step(loaded);
+        let loaded = take_step(words, Walk::begin(Place::Starting));
+        let walk = take_step(words, loaded);
         Ticket { words, walk }
     }
 
@@ -55,7 +80,7 @@ impl EventCount {
 
     #[inline(always)]
     fn notify(&self, whom: Whom) {
-        let walk = self.words.take_step(Walk::begin(Place::Made(whom)));
+        let walk = take_step(&self.words, Walk::begin(Place::Made(whom)));
         if walk.is_over() {
             walk.end();
         } else {
@@ -69,8 +94,8 @@ impl EventCount {
     fn wake(&self, walk: Walk)
         requires { IsMoving walk.place }
     {
-        let moved = self.words.take_step(walk);
-        self.words.take_step(moved).end();
+        let moved = take_step(&self.words, walk);
+        take_step(&self.words, moved).end();
     }
 }
 
@@ -78,13 +103,13 @@ impl Ticket<'_> {
     /// Gives the ticket up: the condition is true, or nobody waits for it any more.
     pub fn cancel(self) {
         let Ticket { words, walk } = self;
-        words.take_step(walk.look(true)).end();
+        take_step(words, walk.look(true)).end();
     }
 
     /// Sleeps until a notify, if there was none since `prepare`. It may return for no reason, so the caller looks at the condition again.
     pub fn wait<R: Wait>(self, rt: &R) {
         let Ticket { words, walk } = self;
-        let walk = words.park(rt, walk.look(false));
-        words.take_step(walk).end();
+        let walk = park(rt, words, walk.look(false));
+        take_step(words, walk).end();
     }
 }

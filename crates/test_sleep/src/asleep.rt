@@ -12,7 +12,7 @@ use std::{fs, io};
 const ROUNDS: u64 = 1000;
 
 /// How often the giver looks for a sleeper before it gives up, and how many microseconds it waits in between.
-const LOOKS: u64 = 20_000;
+const LOOKS: u64 = 5_000;
 
 const PAUSE: u64 = 100;
 
