@@ -9,3 +9,5 @@ pub mod Runs
 pub mod Staying
 pub mod Pairs
 pub mod Listing
+pub mod Resting
+pub mod Waits

@@ -1,7 +1,7 @@
 -- A schedule that goes on move by move is a run of the program.
 use Rattle.std.proofs.Common.{◌≡◌, ◌≢◌, ◌∙◌, ◌+◌, ◌<◌, ◌==◌, ◌++◌, ◌∷◌, [], ℕ, zero, suc, Bool, true, false, if◌then◌else◌, ◌⊎◌, List, Option, Some, None, length, refl, subst, sym, ap, inl, inr, arith, append_assoc, append-nil, take}
 use Rattle.std.specs.Prelude.{slice_get, slice_index_or}
-use Rattle.std.specs.List.{All, AllZip}
+use Rattle.std.specs.List.{All}
 use Rattle.std.proofs.lemmas.Bool.Decides.{eqb_tells}
 use Rattle.std.proofs.lemmas.List.{length-replicate, length-set, take_more, take_all}
 use Rattle.std.proofs.lemmas.List.Elements.{All-nil, All-push}
@@ -23,7 +23,7 @@ use Rattle.machine_explore.specs.Moves.{advanced, call_in, event_at, event_for, 
 use Rattle.machine_replay.specs.Played.{told_by, told_of, world_after, world_by}
 use Rattle.machine_explore.specs.Positions.{IsFinal, Progress, Standing, calls_of, no_progress, outcome_at, progress_of}
 use Rattle.machine_explore.specs.Starts.{IsStart}
-use Rattle.machine_explore.specs.Traces.{IsSeen, IsTraceOf, Seen, seen_at, trace_of}
+use Rattle.machine_explore.specs.Traces.{IsSeen, IsTraceOf, IsUnderWay, Seen, seen_at, trace_of}
 use Rattle.machine_explore.specs.declared.schedule.Move.{Move}
 use Rattle.machine_explore.proofs.NoOther.{ends_with, none_begun}
 use Rattle.machine_explore.proofs.Taking.{count_first, event_taken, same_count}
@@ -105,20 +105,6 @@ begun_more calls begun more (inl none) =
     let count : begun ≡ begun + length more = let empty = ap length none in omega (arith, empty) in
     ap (λ l. take begun calls ++ l) none ∙ append-nil (take begun calls) ∙ ap (λ n. take n calls) count
 begun_more calls begun more (inr one) = ap (λ l. take begun calls ++ l) one.1 ∙ take_next calls begun one.0 one.2 ∙ ap (λ l. take (begun + length l) calls) (sym one.1)
-
--- the program has come there from w by these events, which are those of the moves, and of which this was seen
-pub record IsUnderWay (k : Kind) (refuses : Bool) (calls : List (List (Call ℕ))) (w : World (Shared ℕ) (Running ℕ)) (schedule : List Move) (seen : List Seen) (s : Standing) : Type 0 where
-  pub rest : List (Event ℕ)
-  pub moves : AllZip IsMove schedule rest
-  pub grants : refuses ≡ false → All IsGranted rest
-  pub taken : All IsTaken (told_of k w rest)
-  pub calls_are : length s.world.calls ≡ length calls
-  pub seen_are : seen ≡ trace_of k w rest
-  pub kind : s.kind ≡ k
-  pub world : s.world ≡ world_after k w rest
-  pub parties : length s.parties ≡ length calls
-  pub begins : (p : ℕ) → p < length calls → begun_by p rest (told_of k w rest) ≡ take (progress_of s p).begun (calls_of calls p)
-  pub replies : (p : ℕ) → p < length calls → replies_by p rest (told_of k w rest) ≡ (progress_of s p).replies
 
 -- before the first move
 pub under_way-first : (k : Kind) (refuses : Bool) (before : List (Call ℕ)) (calls : List (List (Call ℕ))) (s : Standing) → IsStart k before (length calls) s → IsUnderWay k refuses calls s.world [] [] s

@@ -6,3 +6,4 @@ pub mod Tables
 pub mod Certified
 pub mod Traces
 pub mod Listed
+pub mod Waiting

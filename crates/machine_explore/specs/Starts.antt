@@ -1,5 +1,5 @@
 -- Where the runs of a program start, once the calls that come first are made.
-use Rattle.std.specs.Prelude.{◌≡◌, ℕ, List, replicate}
+use Rattle.std.specs.Prelude.{◌≡◌, ℕ, false, List, replicate}
 use Rattle.queue_steps.specs.declared.model.Call.{Call}
 use Rattle.queue_steps.specs.declared.steps.types.Kind.{Kind}
 use Rattle.machine_steps.specs.declared.machine.Running.{Running}
@@ -9,6 +9,7 @@ use Rattle.machine_steps.specs.SharedMemory.{Shared}
 use Rattle.machine_steps.specs.World.{World}
 use Rattle.machine_explore.specs.Explored.{Prepares}
 use Rattle.machine_replay.specs.Played.{world_after}
+use Rattle.machine_replay.specs.Replays.{is_too_large}
 use Rattle.machine_explore.specs.Positions.{Standing, no_progress}
 
 -- party 0, alone, has made these calls between w and the later world, and is between calls
@@ -17,6 +18,7 @@ IsPrepared k w calls later = (events : List (Event ℕ)) × Prepares k w calls e
 
 -- the run of a program of so many parties starts there, behind the calls that come first
 pub record IsStart (k : Kind) (before : List (Call ℕ)) (parties : ℕ) (s : Standing) : Type 0 where
+  pub small : is_too_large k ≡ false
   pub kind : s.kind ≡ k
   pub prepared : IsPrepared k (opening_world k parties) before s.world
   pub none_begun : s.parties ≡ replicate parties no_progress

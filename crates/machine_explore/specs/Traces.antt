@@ -1,5 +1,6 @@
 -- What is seen of a run of a program: of each event where its call stood, what was told, and the list behind it.
-use Rattle.std.specs.Prelude.{◌≡◌, ℕ, Bool, true, Option, Some, List, [], ◌∷◌, length}
+use Rattle.std.specs.Prelude.{◌≡◌, ℕ, ◌<◌, Bool, true, false, Option, Some, List, [], ◌∷◌, length, take}
+use Rattle.std.specs.List.{All, AllZip}
 use Rattle.queue_steps.specs.declared.model.Call.{Call}
 use Rattle.queue_steps.specs.declared.steps.types.Kind.{Kind}
 use Rattle.queue_steps.specs.declared.steps.types.Local.{Local}
@@ -9,13 +10,15 @@ use Rattle.machine_steps.specs.declared.types.Told.{Told}
 use Rattle.machine_replay.specs.Conforms.{party_of}
 use Rattle.machine_steps.specs.Left.{left_of, opening_world}
 use Rattle.machine_steps.specs.Machine.{event_of}
-use Rattle.machine_replay.specs.Played.{local_in, world_after}
+use Rattle.machine_replay.specs.Played.{local_in, told_of, world_after}
 use Rattle.machine_steps.specs.SharedMemory.{Shared}
 use Rattle.machine_steps.specs.World.{World, call_at}
 use Rattle.machine_explore.specs.declared.schedule.Move.{Move}
-use Rattle.machine_explore.specs.Certified.{IsOutcomeOf}
+use Rattle.machine_explore.specs.Certified.{IsMove, IsOutcomeOf, IsTaken}
+use Rattle.machine_explore.specs.Explored.{IsGranted, begun_by, replies_by}
 use Rattle.machine_explore.specs.Moves.{event_at, led}
-use Rattle.machine_explore.specs.Positions.{Outcome, Standing}
+use Rattle.machine_explore.specs.Positions.{Outcome, Standing, calls_of, progress_of}
+use Rattle.machine_explore.specs.Starts.{IsStart}
 
 -- an event, where the party's call stood before it, what was told of it, and the list behind it
 pub record Seen : Type 0 where
@@ -50,3 +53,24 @@ pub record IsTraceOf (k : Kind) (refuses : Bool) (before : List (Call ℕ)) (cal
   pub of : IsOutcomeOf k refuses before calls schedule c.outcome
   pub opening : c.opening ≡ left_of k (world_after k (opening_world k (length calls)) of.first)
   pub seen : c.seen ≡ trace_of k (world_after k (opening_world k (length calls)) of.first) of.rest
+
+-- the program has come there from w by these events, which are those of the moves, and of which this was seen
+pub record IsUnderWay (k : Kind) (refuses : Bool) (calls : List (List (Call ℕ))) (w : World (Shared ℕ) (Running ℕ)) (schedule : List Move) (seen : List Seen) (s : Standing) : Type 0 where
+  pub rest : List (Event ℕ)
+  pub moves : AllZip IsMove schedule rest
+  pub grants : refuses ≡ false → All IsGranted rest
+  pub taken : All IsTaken (told_of k w rest)
+  pub calls_are : length s.world.calls ≡ length calls
+  pub seen_are : seen ≡ trace_of k w rest
+  pub kind : s.kind ≡ k
+  pub world : s.world ≡ world_after k w rest
+  pub parties : length s.parties ≡ length calls
+  pub begins : (p : ℕ) → p < length calls → begun_by p rest (told_of k w rest) ≡ take (progress_of s p).begun (calls_of calls p)
+  pub replies : (p : ℕ) → p < length calls → replies_by p rest (told_of k w rest) ≡ (progress_of s p).replies
+
+-- by these moves, after the calls that come first, the program comes there, and this is seen of it; the list before the first move is the opening
+pub record IsWayOf (k : Kind) (refuses : Bool) (before : List (Call ℕ)) (calls : List (List (Call ℕ))) (schedule : List Move) (opening : List ℕ) (seen : List Seen) (s : Standing) : Type 0 where
+  pub start : Standing
+  pub starts : IsStart k before (length calls) start
+  pub opens : opening ≡ left_of k start.world
+  pub on : IsUnderWay k refuses calls start.world schedule seen s

@@ -12,3 +12,4 @@ pub mod schedule;
 pub mod sequence;
 pub mod show;
 pub mod trace;
+pub mod waiting;

@@ -123,8 +123,8 @@ impl<A: Allocator + Copy> Position<A> {
         }
     }
 
-    // How many of its calls the party has begun, and how many replies it has got.
-    fn counts(&self, party: usize) -> (usize, usize)
+    /// How many of its calls the party has begun, and how many replies it has got.
+    pub(crate) fn counts(&self, party: usize) -> (usize, usize)
         ensures { (result.0 ≡ (progress_of self.now party).begun) × (result.1 ≡ length (progress_of self.now party).replies) }
     {
         match self.parties.get(party) {

@@ -1,9 +1,8 @@
 //! A schedule is run once more, and what is seen of the run is kept.
-ghost use Rattle.std.specs.Prelude.{◌≡◌, [], ⊤, IfOk, MatchOption, length};
-ghost use Rattle.machine_steps.specs.Left.{left_of};
+ghost use Rattle.std.specs.Prelude.{◌≡◌, ⊤, IfOk, MatchOption};
+ghost use Rattle.machine_replay.specs.Conforms.{party_of};
 ghost use Rattle.machine_replay.specs.Replays.{CanReplay};
-ghost use Rattle.machine_explore.specs.Starts.{IsStart};
-ghost use Rattle.machine_explore.specs.Traces.{Course, IsSeen, IsTraceOf, Seen};
+ghost use Rattle.machine_explore.specs.Traces.{Course, IsSeen, IsTraceOf, IsWayOf, Seen};
 
 use crate::outcome::Outcome;
 use crate::position::Position;
@@ -36,6 +35,15 @@ impl<A: Allocator> TraceEntry<A> {
         ensures { result ≡ self.now.event }
     {
         self.event
+    }
+
+    /// Whose event it is.
+    pub fn party(&self) -> usize
+        ensures { result ≡ party_of self.now.event }
+    {
+        match self.event {
+            Event::Begin(party, _) | Event::Step(party, _) => party,
+        }
     }
 
     /// Where the party's call stood before it, if it was in one.
@@ -119,54 +127,58 @@ pub fn follow<A: Allocator + Copy>(
     requires { CanReplay kind }
     ensures { IfOk result (λ o. MatchOption o ⊤ (IsTraceOf kind refuses program.now.before program.now.parties.items schedule.now)) }
 {
+    let Some(way) = go(alloc, kind, refuses, program, schedule)? else {
+        return Ok(None);
+    };
+    if !way.position.has_begun_all(program) || !way.position.is_final(program) {
+        return Ok(None);
+    }
+    let outcome = way.position.outcome(alloc)?;
+    Ok(Some(Trace {
+        opening: way.opening,
+        entries: way.entries,
+        outcome,
+    }))
+}
+
+/// How far a schedule leads: what is seen of it, and where the run then stands.
+#[derive(Drop)]
+pub(crate) struct Way<A: Allocator> {
+    pub(crate) opening: Vec<u64, A>,
+    pub(crate) entries: Vec<TraceEntry<A>, A>,
+    pub(crate) position: Position<A>,
+}
+
+/// Takes these moves, one after another, if each can be taken.
+pub(crate) fn go<A: Allocator + Copy>(
+    alloc: A,
+    kind: Kind,
+    refuses: bool,
+    program: &Program<A>,
+    schedule: &[Move],
+) -> Result<Option<Way<A>>, AllocError>
+    requires { CanReplay kind }
+    ensures { IfOk result (λ o. MatchOption o ⊤ (λ way. IsWayOf kind refuses program.now.before program.now.parties.items schedule.now way.opening.items way.entries.items way.position)) }
+{
     let Some(mut position) = Position::start(alloc, kind, program)? else {
         return Ok(None);
     };
     let opening = position.list(alloc)?;
     let mut entries = Vec::new(alloc);
-    match take_all(
-        alloc,
-        refuses,
-        program,
-        schedule,
-        &mut position,
-        &mut entries,
-    )? {
-        Some(outcome) => Ok(Some(Trace {
-            opening,
-            entries,
-            outcome,
-        })),
-        None => Ok(None),
-    }
-}
-
-// Takes the moves in place, one after another, and keeps what is seen of them. What the run ends with, if they are a whole run.
-fn take_all<A: Allocator + Copy>(
-    alloc: A,
-    refuses: bool,
-    program: &Program<A>,
-    schedule: &[Move],
-    position: &mut Position<A>,
-    entries: &mut Vec<TraceEntry<A>, A>,
-) -> Result<Option<Outcome<A>>, AllocError>
-    requires { entries.old.items ≡ [] }
-    ensures { IfOk result (λ o. MatchOption o ⊤ (λ outcome. (k : Kind) → IsStart k program.now.before (length program.now.parties.items) position.old
-        → IsTraceOf k refuses program.now.before program.now.parties.items schedule.now (record { opening = left_of k position.old.world; seen = entries.new.items; outcome = outcome }))) }
-{
     for step in schedule {
         if !step.granted && !refuses {
             return Ok(None);
         }
-        let Some(entry) = enter(alloc, program, position, *step)? else {
+        let Some(entry) = enter(alloc, program, &mut position, *step)? else {
             return Ok(None);
         };
         entries.push(entry)?;
     }
-    if !position.has_begun_all(program) || !position.is_final(program) {
-        return Ok(None);
-    }
-    Ok(Some(position.outcome(alloc)?))
+    Ok(Some(Way {
+        opening,
+        entries,
+        position,
+    }))
 }
 
 // Takes a move in place. What is seen of its event, if its party goes on.

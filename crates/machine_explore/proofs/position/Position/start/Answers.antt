@@ -48,6 +48,7 @@ returns g c =
     let k = c.args.kind in
     let w = opening_world k (length c.args.program.now.parties.items) in
     record {
+      small = c.in_ok-run.ensures.opens.small;
       kind = c.loop-call.invariant.kind;
       prepared = subst (λ l. IsPrepared k w l (world_of c.loop-call.run.machine)) (take_all c.loop-call.call-index c.args.program.now.before made) c.loop-call.invariant.prepared;
       none_begun = c.loop.invariant.items ∙ ap (λ n. replicate n no_progress) (all ∙ count);

@@ -1,0 +1,5 @@
+use Rattle.machine_explore.proofs.Waits.{IsOn}
+use Rattle.machine_explore.proofs.waiting.goes_round.Given as goal
+
+abbrev pub invariant-loop : goal.invariant-loop
+invariant-loop g l = IsOn l.fn.position.kind l.fn.position.world l.fn.party l.counter l.later

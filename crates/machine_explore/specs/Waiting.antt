@@ -1,0 +1,78 @@
+-- When a party waits for another at the end of a schedule.
+use Rattle.std.specs.Prelude.{◌≡◌, ◌≢◌, ◌⊎◌, ℕ, ◌-◌, ◌<◌, ◌==◌, Bool, true, false, Option, Some, None, List, [], ◌∷◌, ◌++◌, length, replicate, slice_get}
+use Rattle.queue_steps.specs.declared.model.Call.{Call}
+use Rattle.queue_steps.specs.declared.steps.bounded.BoundedLocal.TheVariants as ring
+use Rattle.queue_steps.specs.declared.steps.unbounded.UnboundedLocal.TheVariants as chain
+use Rattle.queue_steps.specs.declared.steps.types.Kind.{Kind}
+use Rattle.queue_steps.specs.declared.steps.types.Local.{Local}
+use Rattle.queue_steps.specs.declared.steps.types.Local.TheVariants as local
+use Rattle.machine_steps.specs.declared.machine.Running.{Running}
+use Rattle.machine_steps.specs.declared.types.Event.TheVariants.{Step}
+use Rattle.machine_steps.specs.declared.types.Told.TheVariants.{Ran}
+use Rattle.machine_steps.specs.Machine.{event_of}
+use Rattle.machine_steps.specs.SharedMemory.{Shared}
+use Rattle.machine_steps.specs.World.{World, call_at}
+use Rattle.machine_replay.specs.Played.{local_in, told_of, world_after}
+use Rattle.machine_replay.specs.Progress.{Standing as CallStanding, HalfDone, standing, stands_then}
+use Rattle.machine_explore.specs.declared.schedule.Move.{Move}
+use Rattle.machine_explore.specs.declared.waiting.Side.{Side}
+use Rattle.machine_explore.specs.declared.waiting.Wait.{Wait}
+use Rattle.machine_explore.specs.Positions.{Standing, calls_of, progress_of}
+use Rattle.machine_explore.specs.Traces.{IsWayOf, Seen}
+
+-- The party goes round: so many steps of its call, taken now and by it alone, have no effect and get no reply, and then all is as it is now. So alone it would go round for ever.
+pub record GoesRound (k : Kind) (w : World (Shared ℕ) (Running ℕ)) (p : ℕ) : Type 0 where
+  pub steps : ℕ
+  pub some : 0 < steps
+  pub silent : told_of k w (replicate steps (Step p true)) ≡ replicate steps (Ran None None)
+  pub back : world_after k w (replicate steps (Step p true)) ≡ w
+
+-- the first step of a push, a forced push or a pop, on a ring or a chain
+abbrev pub is_first : Option (Local ℕ) → Bool
+is_first (Some (local.Bounded (ring.PushTail d))) = true
+is_first (Some (local.Bounded ring.PopHead)) = true
+is_first (Some (local.Unbounded (chain.PushTail d spare))) = true
+is_first (Some (local.Unbounded chain.PopHead)) = true
+is_first _ = false
+
+-- the party's next step sends it back: all is then as it is now, or its call stands at its first step
+abbrev pub IsSentBack : Kind → World (Shared ℕ) (Running ℕ) → ℕ → Type 0
+IsSentBack k w p = ((event_of k true w (Step p true)).0 ≡ w) ⊎ (is_first (local_in (call_at (event_of k true w (Step p true)).0 p)) ≡ true)
+
+abbrev pub is_half_done : CallStanding → Bool
+is_half_done HalfDone = true
+is_half_done _ = false
+
+-- where the party stands after what is seen
+abbrev pub stands_seen : ℕ → CallStanding → List Seen → CallStanding
+stands_seen p x [] = x
+stands_seen p x (s ∷ ss) = stands_seen p (stands_then p x s.event s.told) ss
+
+-- the party, its call, and where that stands
+abbrev pub side_at : List (List (Call ℕ)) → Standing → ℕ → Side
+side_at calls s p = record { party = p; call = slice_get (calls_of calls p) ((progress_of s p).begun - 1); local = local_in (call_at s.world p) }
+
+-- who waits, for whom, and what is seen of the schedule at whose end it does
+pub record Waiting : Type 0 where
+  pub waiter : Side
+  pub other : Side
+  pub seen : List Seen
+
+abbrev pub wait_of : {A : Type 0} → Wait A → Waiting
+wait_of x = record { waiter = x.waiter; other = x.other; seen = x.entries.items }
+
+-- By these moves, after the calls that come first, the program comes to a moment at which party p waits for party q. Party p goes round, and its next step sends it back. Of all
+-- parties but p, q alone is half done: in a call that has had an effect and has not replied.
+pub record IsWaitOf (k : Kind) (refuses : Bool) (before : List (Call ℕ)) (calls : List (List (Call ℕ))) (schedule : List Move) (x : Waiting) : Type 0 where
+  pub at : Standing
+  pub opening : List ℕ
+  pub way : IsWayOf k refuses before calls schedule opening x.seen at
+  pub p : ℕ
+  pub q : ℕ
+  pub round : GoesRound at.kind at.world p
+  pub back : IsSentBack at.kind at.world p
+  pub there : q < length calls
+  pub apart : p ≢ q
+  pub half : (r : ℕ) → r < length calls → r ≢ p → is_half_done (standing k (length calls) r (way.starts.prepared.0 ++ way.on.rest)) ≡ (r == q)
+  pub waiter : x.waiter ≡ side_at calls at p
+  pub other : x.other ≡ side_at calls at q
