@@ -8,12 +8,13 @@ use Rattle.queue_steps.specs.declared.steps.types.Kind.TheVariants as kind
 use Rattle.machine_replay.specs.Book.{Run, opening}
 use Rattle.machine_replay.specs.Conforms.{IsPeak, capacity_of as capacity_of_kind}
 use Rattle.machine_replay.specs.MachineRuns.{EndsAs, IsMachineRun}
+use Rattle.machine_replay.specs.Played.{IsMade}
 use Rattle.machine_replay.specs.Replays.{is_too_large}
 use Rattle.machine_replay.specs.declared.machine_run.MachineRun.{MachineRun}
 use Rattle.machine_replay.specs.declared.machine_run.Ended.{Ended}
 use Rattle.machine_steps.specs.declared.types.Event.{Event}
 use Rattle.machine_steps.specs.declared.types.Told.{Told}
-use Rattle.app_text.specs.KindNames.{capacity_of}
+use Rattle.app_text.specs.KindNames.{capacity_of, queue_named}
 use Rattle.app_text.specs.declared.actions.ReplayLine.{ReplayLine}
 use Rattle.app_text.specs.declared.args.KindName.{KindName}
 use Rattle.app_command.specs.Reports.{IsReport, peak_text}
@@ -36,16 +37,17 @@ within_limit {T} {E} k name r x has is limited = subst {A = Option ℕ} (λ c. I
 
 -- what is told of the turns of a run, its peak, and the items that are left
 pub reported : {A B : Type 0} (name : KindName) (parties : ℕ) (lines : List ReplayLine) (k : Kind) (c d : MachineRun ℕ A) (r : Ended ℕ B) (start middle peaked text : List ℕ)
-    → capacity_of_kind k ≡ capacity_of name → IfSome (capacity_of name) (λ size. size ≤ MAX_CAPACITY) → IsMachineRun k parties [] [] c → Takes (turns_from 1 lines) c start d middle
+    → k ≡ queue_named name → capacity_of_kind k ≡ capacity_of name → IfSome (capacity_of name) (λ size. size ≤ MAX_CAPACITY) → IsMachineRun k parties [] [] c → Takes (turns_from 1 lines) c start d middle
     → ((es : List (Event ℕ)) (ts : List (Told ℕ)) → IsMachineRun k parties es ts d → EndsAs k parties es ts r)
     → start ≡ [] → peaked ≡ middle ++ peak_text name r.peak → text ≡ peaked ++ left_text r.left.items → IsReport name parties lines text
-reported {A} {B} name parties lines k c d r start middle peaked text has within opens takes ends empty peak left =
+reported {A} {B} name parties lines k c d r start middle peaked text named has within opens takes ends empty peak left =
     let taken = takes k parties [] [] opens in
     let end = ends (events_of lines) taken.more taken.on in
     let printed : middle ≡ turns_text (turns_from 1 lines) taken.more = rw (taken.written, empty) refl in
     record {
       within = within;
       told = taken.more;
+      made = subst {A = Kind} (λ x. IsMade x parties (events_of lines) taken.more) named end.made;
       last = end.last;
       run = subst {A = Option ℕ} (λ o. Run o parties (opening o) (events_of lines) taken.more end.last) has end.run;
       peak = r.peak;

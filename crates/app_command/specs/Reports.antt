@@ -5,9 +5,10 @@ use Rattle.std.specs.Fmt.{decimal}
 use Rattle.queue_steps.specs.declared.sizes.TheConstants.{MAX_CAPACITY}
 use Rattle.machine_replay.specs.Book.{Book, Run, opening}
 use Rattle.machine_replay.specs.Conforms.{IsPeak}
+use Rattle.machine_replay.specs.Played.{IsMade}
 use Rattle.machine_steps.specs.declared.types.Peak.{Peak}
 use Rattle.machine_steps.specs.declared.types.Told.{Told}
-use Rattle.app_text.specs.KindNames.{capacity_of}
+use Rattle.app_text.specs.KindNames.{capacity_of, queue_named}
 use Rattle.app_text.specs.declared.actions.ReplayLine.{ReplayLine}
 use Rattle.app_text.specs.declared.args.KindName.{KindName}
 use Rattle.app_text.specs.declared.args.KindName.TheVariants as kind
@@ -19,11 +20,12 @@ abbrev pub peak_text : KindName → Peak → List ℕ
 peak_text kind.Unbounded p = codes "blocks " ++ decimal p.blocks ++ codes " of " ++ decimal p.bound ++ 10 ∷ []
 peak_text _ p = []
 
--- What is told of each event that the lines make happen conforms, from the empty open queue of this kind that so many parties share, and so
--- does the peak; and the text is what is told, the line of the peak, and the line of what is left.
+-- What is told of each event that the lines make happen is what the machine makes of it, from the empty open queue of this kind that so many parties share. It conforms, and
+-- so does the peak; and the text is what is told, the line of the peak, and the line of what is left.
 pub record IsReport (k : KindName) (parties : ℕ) (lines : List ReplayLine) (text : List ℕ) : Type 0 where
   pub within : IfSome (capacity_of k) (λ size. size ≤ MAX_CAPACITY)
   pub told : List (Told ℕ)
+  pub made : IsMade (queue_named k) parties (events_of lines) told
   pub last : Book ℕ
   pub run : Run (capacity_of k) parties (opening (capacity_of k)) (events_of lines) told last
   pub peak : Peak

@@ -12,5 +12,5 @@ pub returns : goal.returns
 returns g c =
     let left = rw c.deref.ensures.value at c.in_ok-write_left.ensures in
     reported c.args.kind c.args.parties c.args.lines.now _ c.in_ok-run.run' c.take_lines.new.run c.in_ok-ended.ended _ _ _ _
-    c.kind.ensures.has (within_limit _ _ c.new.result c.in_ok-run.run' c.kind.ensures.has c.in_ok-run.was c.new.ensures.limited)
+    c.kind.ensures.kind c.kind.ensures.has (within_limit _ _ c.new.result c.in_ok-run.run' c.kind.ensures.has c.in_ok-run.was c.new.ensures.limited)
     c.in_ok-run.ensures.opens c.in_ok-take_lines.ensures (λ es ts on. c.in_ok-ended.ensures.leaves c.kind.result c.args.parties es ts on) c.new-text.ensures.bytes c.in_ok-write_peak.ensures left
