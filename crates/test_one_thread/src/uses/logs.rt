@@ -1,16 +1,32 @@
 //! A log is filled past its capacity, and emptied.
+ghost use Rattle.std.specs.Prelude.{◌<◌};
+
 use crate::asserts::{is, is_in};
+use std::alloc::Global;
+use std::process::Abort;
 use test_allocators::{Heap, Refusal};
 use use_log::Log;
 
+/// Appends 0, 1, .. up to `count`, which is left out, to a log, and takes out what it holds. Asserts that the oldest gave way, and that the newest came out.
+fn give_way(rt: &impl Abort, alloc: Global, capacity: usize, count: u64)
+    requires { 1 < capacity }
+{
+    let mut log: Log<u64> = Log::new(alloc, capacity).expect(rt, "memory");
+    let mut right = true;
+    for entry in 0..count {
+        let gone = entry.checked_sub(capacity as u64);
+        right = log.append(entry) == Ok(gone) && right;
+    }
+    for entry in count.saturating_sub(capacity as u64)..count {
+        right = log.take_oldest() == Some(entry) && right;
+    }
+    is_in(rt, capacity, (right, log.take_oldest()), (true, None));
+}
+
 #[test]
 fn the_oldest_entries_give_way(rt: HostRuntime) {
-    let mut log: Log<u64> = Log::new(rt.alloc(), 3).expect(&rt, "memory");
-    for (entry, gone) in [(1, None), (2, None), (3, None), (4, Some(1)), (5, Some(2))] {
-        is_in(&rt, entry, log.append(entry), Ok(gone));
-    }
-    for oldest in [Some(3), Some(4), Some(5), None] {
-        is(&rt, log.take_oldest(), oldest);
+    for (capacity, count) in [(3usize, 5u64), (5000, 40), (3000, 10_000)] {
+        give_way(&rt, rt.alloc(), capacity, count);
     }
 }
 

@@ -15,6 +15,16 @@ fn a_place_is_out_once(rt: HostRuntime) {
     is(&rt, seen, (Some(0), 1, Ok(()), Some(1), None));
 }
 
+#[test]
+fn thousands_of_places_are_taken(rt: HostRuntime) {
+    let mut pool = Pool::new(rt.alloc(), 5000).expect(&rt, "memory");
+    let mut right = true;
+    for place in 0..5000u64 {
+        right = pool.take() == Some(place) && right;
+    }
+    is(&rt, (right, pool.take()), (true, None));
+}
+
 /// A pool of which a place is out leaves nothing allocated once it is dropped.
 #[test]
 fn a_dropped_pool_leaves_nothing(rt: HostRuntime) {
