@@ -10,6 +10,7 @@ use Rattle.mem_blocks.specs.declared.block.BlockPtr.{BlockPtr as Link}
 use Rattle.mem_blocks.specs.declared.web.Seat.{Seat as WebSeat}
 use Rattle.queue_steps.specs.declared.model.Call.{Call}
 use Rattle.queue_steps.specs.declared.model.Call.TheVariants as call
+use Rattle.queue_steps.specs.declared.model.Reply.{Reply}
 use Rattle.queue_steps.specs.declared.model.Reply.TheVariants as reply
 use Rattle.queue_steps.specs.declared.steps.types.Answer.{Answer}
 use Rattle.queue_steps.specs.declared.steps.types.Kind.{Kind}
@@ -38,7 +39,7 @@ use Rattle.shared_chain.specs.ChainCalls.{chain_calls}
 use Rattle.shared_chain.specs.Names.{link_of, local_map, answer_map, next_map}
 use Rattle.shared_chain.specs.Quitting.{HasQuit as HasQuitIn, ShowsPlace}
 use Rattle.shared_chain.specs.Steps as chain
-use Rattle.shared_chain.specs.Turning.{ChainStands, ChainEnded}
+use Rattle.shared_chain.specs.Turning.{IsFree, ChainStands, ChainEnded}
 use Rattle.shared_chain.proofs.Renamed.{next_of_map}
 use Rattle.shared_calls.specs.declared.chain.Asking.{Asking}
 use Rattle.shared_calls.specs.declared.waiting.Left.{Left}
@@ -56,6 +57,16 @@ is_step (next.Reply r spare) early = absurd (let f : false ≡ true = early in c
 pub matched : {R V : Type 0} (A B : V → Type 0) (C D : R → Type 0) (x : ControlFlow R V) → ((v : V) → A v → B v) → ((r : R) → C r → D r) → MatchControlFlow x A C → MatchControlFlow x B D
 matched A B C D (Continue v) f g h = f v h
 matched A B C D (Break r) f g h = g r h
+
+module _ {T A Q : Type 0} (w : ChainWeb T A) (p : Asking T A Q) (c : Call T) where
+  -- the call c that the seat p began has ended; or its value has come back, and it is as if the seat had asked for the capacity
+  abbrev pub ToldIn : ControlFlow (Reply T) (Option T) → Asking T A Q → Type 0
+  ToldIn told q = MatchControlFlow told (λ value. ChainEnded w p.seat call.Capacity (reply.Capacity None) q.seat × (value ≡ call_value c)) (λ answer. ChainEnded w p.seat c answer q.seat)
+
+  -- the seat has nothing in hand then
+  pub told_free : (told : ControlFlow (Reply T) (Option T)) (q : Asking T A Q) → ToldIn told q → IsFree q.seat.sitter
+  told_free (Continue v) q h = h.0.0.1
+  told_free (Break r) q h = h.0.1
 
 module _ {T : Type 0} (K : ℕ → TableOf T) (t : TableId) (n : ℕ) (p : TableSeat T) (c : Call T) (s : Seat (Option T) (CallState T)) (l : Left T ℕ) (kind : l.kind ≡ (K t.slots).calls.kind)
     (stands : TableStands K n t p c l.progress.local l.progress.answer (s.table_id, s.me) l.carried) where

@@ -5,4 +5,5 @@ pub mod Early
 pub mod Pausing
 pub mod Settling
 pub mod Halts
+pub mod Trying
 pub mod Laws

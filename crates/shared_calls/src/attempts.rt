@@ -7,19 +7,20 @@ ghost use Rattle.queue_steps.specs.declared.steps.types.Next.{Next as SpecNext};
 ghost use Rattle.queue_steps.specs.Kinds.{call_value};
 ghost use Rattle.law_chain.specs.ChainEarly.{IsPush};
 ghost use Rattle.shared_parties.specs.Calling.{cap_of};
-ghost use Rattle.shared_tables.specs.AtTable.{IsAt, Ended};
-ghost use Rattle.shared_chain.specs.Turning.{ChainRests, ChainEnded, web_of};
+ghost use Rattle.shared_chain.specs.Turning.{web_of};
 ghost use Rattle.shared_calls.specs.InWeb.{RestsAt, EndedAt};
 ghost use Rattle.shared_calls.specs.Settling.{MayWait};
+ghost use Rattle.shared_calls.specs.Trying.{SomeLeft, EndsOrQuits};
 
 use crate::allocated_chain::AllocatedChain;
 use crate::chain::Asking;
 use crate::pausing::{carry_on, settle};
 use crate::quitting::{quit_at, quit_in};
-use crate::waiting::{run_either, run_fast};
+use crate::waiting::{Left, run_fast};
 use atomic_table::Seat;
-use call_driver::fast::{Row, Usual};
+use call_driver::fast::Usual;
 use call_driver::gate::Open;
+use call_driver::site::Site;
 use mem_blocks::item::Place;
 use mem_blocks::null_testable::NullTestable;
 use mem_blocks::web::Rested;
@@ -30,38 +31,19 @@ use shared_tables::table::{SharedTable, TableSteps};
 use std::alloc::Allocator;
 use std::ops::ControlFlow;
 
-/// Makes a call at a table, by one of two rows of fast steps. Where it gives up, what it carried comes back, and its party is as if it had asked for the
-/// capacity.
-#[inline(always)]
-pub fn attempt_at<
-    T,
-    K: TableSteps<T>,
-    A: Allocator,
-    E: Row<T, usize, Seat<Option<T>, CallState<T>>, SharedTable<T, K, A>, Open>,
-    F: Row<T, usize, Seat<Option<T>, CallState<T>>, SharedTable<T, K, A>, Open>,
->(
-    is_first: bool,
+/// Goes on with a call at a table that has left its fast steps, to its end or until it would wait. Where it gives up, what it carried comes back, and its party
+/// is as if it had asked for the capacity.
+#[cold]
+#[inline(never)]
+pub fn end_or_quit_at<T, K: TableSteps<T>, A: Allocator>(
     table: &SharedTable<T, K, A>,
     seat: &mut Seat<Option<T>, CallState<T>>,
-    call: Call<T>,
+    left: Left<T, usize>,
 ) -> ControlFlow<Reply<T>, Option<T>>
-    requires at { IsAt (cap_of (K.layout table.now.table.shared.table_id.slots).calls) table.now.table.shared.table_id (seat.old.table_id, seat.old.me) }
+    requires left { SomeLeft ⟦<SharedTable<T, K, A> as Site<T, usize, Seat<Option<T>, CallState<T>>>>⟧ (λ c. Unit {0}) table.now left seat.old }
     requires ends { (todo : SpecNext ℕ) → ¬ (MayWait (K.layout table.now.table.shared.table_id.slots).calls.kind todo) }
-    ensures { MatchControlFlow result (λ value. Ended (cap_of (K.layout table.now.table.shared.table_id.slots).calls) table.now.table.shared.table_id (seat.old.table_id, seat.old.me) calls.Capacity (replies.Capacity (cap_of (K.layout table.now.table.shared.table_id.slots).calls)) (seat.new.table_id, seat.new.me) × (value ≡ call_value call)) (λ answer. Ended (cap_of (K.layout table.now.table.shared.table_id.slots).calls) table.now.table.shared.table_id (seat.old.table_id, seat.old.me) call answer (seat.new.table_id, seat.new.me)) }
+    ensures { EndsOrQuits ⟦<SharedTable<T, K, A> as Site<T, usize, Seat<Option<T>, CallState<T>>>>⟧ (cap_of (K.layout table.now.table.shared.table_id.slots).calls) table.now left seat.old result seat.new }
 {
-    let left = match run_either::<
-        T,
-        usize,
-        Seat<Option<T>, CallState<T>>,
-        SharedTable<T, K, A>,
-        Open,
-        E,
-        F,
-    >(is_first, table, &Open, seat, call)
-    {
-        ControlFlow::Break(answer) => return ControlFlow::Break(answer),
-        ControlFlow::Continue(left) => left,
-    };
     let left = match carry_on(table, &Open, seat, left) {
         ControlFlow::Break(answer) => return ControlFlow::Break(answer),
         ControlFlow::Continue(left) => left,
@@ -76,29 +58,17 @@ pub fn attempt_at<
     }
 }
 
-/// Makes a push on a chain by a seat in a call.
-#[inline(always)]
-fn attempt_push<T, A: NullTestable, W>(
+/// The same of a push on a chain, by a seat in a call.
+#[cold]
+#[inline(never)]
+fn end_or_quit_in<T, A: NullTestable>(
     queue: &AllocatedChain<T, A>,
     asking: &mut Asking<T, A, Granting>,
-    call: Call<T>,
+    left: Left<T, Place<T>>,
 ) -> ControlFlow<Reply<T>, Option<T>>
-    requires rests { ChainRests queue.now.chain asking.old.seat }
-    requires push { IsPush call }
-    ensures { MatchControlFlow result (λ value. ChainEnded queue.now.chain asking.old.seat calls.Capacity (replies.Capacity None) asking.new.seat × (value ≡ call_value call)) (λ answer. ChainEnded queue.now.chain asking.old.seat call answer asking.new.seat) }
+    requires { SomeLeft ⟦<AllocatedChain<T, A> as Site<T, Place<T>, Asking<T, A, Granting>>>⟧ (λ c. IsPush c) queue.now left asking.old }
+    ensures { EndsOrQuits ⟦<AllocatedChain<T, A> as Site<T, Place<T>, Asking<T, A, Granting>>>⟧ None queue.now left asking.old result asking.new }
 {
-    let left = match run_fast::<
-        T,
-        Place<T>,
-        Asking<T, A, Granting>,
-        AllocatedChain<T, A>,
-        Open,
-        Usual<W>,
-    >(queue, &Open, asking, call)
-    {
-        ControlFlow::Break(answer) => return ControlFlow::Break(answer),
-        ControlFlow::Continue(left) => left,
-    };
     let left = match carry_on(queue, &Open, asking, left) {
         ControlFlow::Break(answer) => return ControlFlow::Break(answer),
         ControlFlow::Continue(left) => left,
@@ -114,7 +84,18 @@ fn attempt_push<T, A: NullTestable, W>(
     }
 }
 
-/// Makes a push on a chain.
+/// The same in a place of its own, part by part, as `Left::apart`: so the place where a call's answer goes is never lent to a function that is not in place.
+#[inline(always)]
+pub fn retold<R, V>(told: ControlFlow<R, V>) -> ControlFlow<R, V>
+    ensures { result ≡ told }
+{
+    match told {
+        ControlFlow::Break(answer) => ControlFlow::Break(answer),
+        ControlFlow::Continue(value) => ControlFlow::Continue(value),
+    }
+}
+
+/// Makes a push on a chain. Where it gives up, what it carried comes back, and its party is as if it had asked for the capacity.
 #[inline(always)]
 pub fn attempt_in<T, A: NullTestable, W>(
     queue: &AllocatedChain<T, A>,
@@ -126,7 +107,18 @@ pub fn attempt_in<T, A: NullTestable, W>(
     ensures { MatchControlFlow result (λ value. EndedAt party.old calls.Capacity (replies.Capacity None) party.new × (value ≡ call_value call)) (λ answer. EndedAt party.old call answer party.new) }
 {
     let mut asking: Asking<T, A, Granting> = Asking::wake(&queue.chain, party);
-    let answer = attempt_push::<T, A, W>(queue, &mut asking, call);
+    let told = match run_fast::<
+        T,
+        Place<T>,
+        Asking<T, A, Granting>,
+        AllocatedChain<T, A>,
+        Open,
+        Usual<W>,
+    >(queue, &Open, &mut asking, call)
+    {
+        ControlFlow::Break(answer) => ControlFlow::Break(answer),
+        ControlFlow::Continue(left) => retold(end_or_quit_in(queue, &mut asking, left.apart())),
+    };
     *party = asking.rests();
-    answer
+    told
 }

@@ -1,4 +1,5 @@
 //! A party's call that may wait for another party's.
+ghost use Rattle.std.specs.Prelude.{◌≡◌};
 ghost use Rattle.std.specs.ControlFlow.{MatchControlFlow};
 ghost use Rattle.queue_steps.specs.declared.model.Call.{Call as SpecCall};
 ghost use Rattle.call_driver.specs.OnWay.{CanEnd, EndsRightly};
@@ -93,6 +94,30 @@ impl<T: Drop, B: Copy> Left<T, B> {
             carried,
         } = self;
         drop(carried);
+    }
+}
+
+impl<T, B: Copy> Left<T, B> {
+    /// The same in a place of its own, part by part. A function that is not in place is lent that one, so that the fast steps write none of it to memory.
+    #[inline(always)]
+    pub fn apart(self) -> Self
+        ensures { result ≡ self }
+    {
+        let Left {
+            kind,
+            call,
+            progress,
+            carried,
+        } = self;
+        Left {
+            kind,
+            call,
+            progress: Progress {
+                local: progress.local,
+                answer: progress.answer,
+            },
+            carried,
+        }
     }
 }
 

@@ -3,18 +3,30 @@ ghost use Rattle.std.specs.Prelude.{◌≡◌, ◌≢◌, None};
 ghost use Rattle.concurrent_queue.specs.Shared.{IsPartyOf};
 ghost use Rattle.concurrent_queue.specs.Tries.{MayTry, Tries, TriesPush, TriesForcePush, TriesPop};
 
-use super::{Displaces, Form, Masked, Pops, Pushes};
+use super::{Form, Masked};
 use crate::party::{Party, SeatPlace};
 use crate::shared::ConcurrentQueue;
 use crate::try_errors::{TryForcePushError, TryPopError, TryPushError};
+use atomic_table::Seat;
 use call_driver::fast::{Short, Usual};
+use call_driver::gate::Open;
 use mem_blocks::null_testable::NullTestable;
 use queue_steps::errors::{ForcePushError, PopError, PushError};
 use queue_steps::model::{Call, Reply};
-use shared_calls::attempts::{attempt_at, attempt_in};
+use shared_calls::attempts::{attempt_in, end_or_quit_at, retold};
+use shared_calls::waiting::{run_either, run_fast};
+use shared_parties::known::CallState;
 use shared_tables::ring::Rings;
 use shared_tables::slot::Slots;
+use shared_tables::table::SharedTable;
 use std::ops::ControlFlow;
+
+/// The calls, for the driver: each has fast steps of its own, also beside those that wait.
+pub(crate) struct TryPushes;
+
+pub(crate) struct TryDisplaces;
+
+pub(crate) struct TryPops;
 
 impl<T, A: NullTestable> ConcurrentQueue<T, A> {
     /// Makes a call which gives up where it would wait. What it carried comes back then.
@@ -26,15 +38,33 @@ impl<T, A: NullTestable> ConcurrentQueue<T, A> {
     {
         match (&self.form, &mut party.place) {
             (Form::Single(slot), SeatPlace::Table(seat)) => {
-                attempt_at::<T, Slots, A, Short<W>, Short<W>>(true, slot, seat, call)
+                match run_fast::<
+                    T,
+                    usize,
+                    Seat<Option<T>, CallState<T>>,
+                    SharedTable<T, Slots, A>,
+                    Open,
+                    Short<W>,
+                >(slot, &Open, seat, call)
+                {
+                    ControlFlow::Break(reply) => ControlFlow::Break(reply),
+                    ControlFlow::Continue(left) => retold(end_or_quit_at(slot, seat, left.apart())),
+                }
             }
             (Form::Ring(ring), SeatPlace::Table(seat)) => {
-                attempt_at::<T, Rings, A, Usual<Masked<W>>, Usual<W>>(
-                    ring.slots().is_power_of_two(),
-                    ring,
-                    seat,
-                    call,
-                )
+                match run_either::<
+                    T,
+                    usize,
+                    Seat<Option<T>, CallState<T>>,
+                    SharedTable<T, Rings, A>,
+                    Open,
+                    Usual<Masked<W>>,
+                    Usual<W>,
+                >(ring.slots().is_power_of_two(), ring, &Open, seat, call)
+                {
+                    ControlFlow::Break(reply) => ControlFlow::Break(reply),
+                    ControlFlow::Continue(left) => retold(end_or_quit_at(ring, seat, left.apart())),
+                }
             }
             (Form::Chain(queue), SeatPlace::Web(rested)) => {
                 attempt_in::<T, A, W>(queue, rested, call)
@@ -52,7 +82,7 @@ impl<T, A: NullTestable> ConcurrentQueue<T, A> {
         requires { IsPartyOf party.old self.now }
         ensures { TriesPush party.old value result party.new }
     {
-        match self.attempt::<Pushes>(party, Call::Push(value)) {
+        match self.attempt::<TryPushes>(party, Call::Push(value)) {
             ControlFlow::Break(Reply::Push(Ok(()))) => Ok(()),
             ControlFlow::Break(Reply::Push(Err(error))) => Err(match error {
                 PushError::Full(value) => TryPushError::Full(value),
@@ -77,7 +107,7 @@ impl<T, A: NullTestable> ConcurrentQueue<T, A> {
         requires { IsPartyOf party.old self.now }
         ensures { TriesForcePush party.old value result party.new }
     {
-        match self.attempt::<Displaces>(party, Call::ForcePush(value)) {
+        match self.attempt::<TryDisplaces>(party, Call::ForcePush(value)) {
             ControlFlow::Break(Reply::ForcePush(Ok(old))) => Ok(old),
             ControlFlow::Break(Reply::ForcePush(Err(error))) => Err(match error {
                 ForcePushError::Closed(value) => TryForcePushError::Closed(value),
@@ -99,7 +129,7 @@ impl<T, A: NullTestable> ConcurrentQueue<T, A> {
         requires capped { self.now.cap ≢ None }
         ensures { TriesPop party.old result party.new }
     {
-        match self.attempt::<Pops>(party, Call::Pop) {
+        match self.attempt::<TryPops>(party, Call::Pop) {
             ControlFlow::Break(Reply::Pop(Ok(item))) => Ok(item),
             ControlFlow::Break(Reply::Pop(Err(PopError::Empty))) => Err(TryPopError::Empty),
             ControlFlow::Break(Reply::Pop(Err(PopError::Closed))) => Err(TryPopError::Closed),

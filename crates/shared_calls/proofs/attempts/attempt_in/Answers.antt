@@ -1,20 +1,37 @@
-use Rattle.std.proofs.Common.{◌≡◌, ◌∙◌, None, sym}
+use Rattle.std.proofs.Common.{◌≡◌, ◌∙◌, Break, None, sym, subst}
 use Rattle.queue_steps.specs.declared.model.Call.TheVariants as calls
 use Rattle.queue_steps.specs.declared.model.Reply.TheVariants as replies
 use Rattle.queue_steps.specs.Kinds.{call_value}
 use Rattle.shared_chain.specs.Turning.{ChainEnded}
 use Rattle.shared_calls.specs.InWeb.{EndedAt}
-use Rattle.shared_calls.proofs.GivesUp.{matched}
+use Rattle.shared_calls.proofs.GivesUp.{matched, ToldIn, told_free}
 use Rattle.shared_calls.proofs.Wakes.{wakes_free, rests_ended}
+use Rattle.shared_calls.proofs.attempts.attempt_in.Goals.{in-Break, in-Continue}
 use Rattle.shared_calls.proofs.attempts.attempt_in.Goals as goal
 
-pub attempt_push-answer-requires-clause-rests : goal.attempt_push-answer-requires-clause-rests
-attempt_push-answer-requires-clause-rests g c = let s = c.wake-asking.ensures.seat in (s.0, wakes_free _ c.args.party.now c.wake-asking.result.seat.sitter c.requires.rests s.1)
+pub run_fast-requires : goal.run_fast-requires
+run_fast-requires g c = let s = c.wake-asking.ensures.seat in (s.0, wakes_free _ c.args.party.now c.wake-asking.result.seat.sitter c.requires.rests s.1)
+
+pub end_or_quit_in-requires : goal.end_or_quit_in-requires
+end_or_quit_in-requires g c = rw c.apart.ensures (c.args.call, c.requires.push, c.wake-asking.result, c.in-Continue.ensures)
+
+pub rests-requires : goal.rests-requires
+rests-requires g c =
+    let m = c.match-run_fast in let k = c.args.call in let w = c.args.queue.now.chain in let p = c.wake-asking.result in
+    let d : ToldIn w p k m.told m.asking = elim m.branch [
+      | in-Break b ↦ subst (λ x. ToldIn w p k x m.asking) (sym b.told-is) (subst (λ a. ToldIn w p k (Break b.in-Break.answer) a) (sym b.asking-is) b.in-Break.ensures)
+      | in-Continue b ↦ let e = b.end_or_quit_in in subst (λ x. ToldIn w p k x m.asking) (sym (b.told-is ∙ b.retold-told.ensures)) (subst (λ a. ToldIn w p k e.result a) (sym b.asking-is) (e.ensures k p (rw b.apart.ensures b.in-Continue.ensures)))
+    ] in
+    let free = told_free w p k m.told m.asking d in (free.0, free.1)
 
 pub returns : goal.returns
 returns g c =
-    let w = c.args.queue.now.chain in let first = c.wake-asking.result.seat in let last = c.attempt_push-answer.new.asking.seat in let r = c.args.party.now in let q = c.rests.result in let call = c.args.call in
+    let m = c.match-run_fast in let k = c.args.call in let w = c.args.queue.now.chain in let p = c.wake-asking.result in let r = c.args.party.now in let q = c.rests.result in
     let s = c.wake-asking.ensures.seat in let out = c.rests.ensures in
-    let ended : (k : _) (y : _) → ChainEnded w first k y last → EndedAt r k y q = λ k y d. rests_ended r q first.sitter last.sitter k y s.1 d.0.1 d.1 out.0 (out.1 ∙ (d.0.0.0 ∙ sym c.requires.rests.1)) out.2 in
-    matched (λ value. ChainEnded w first calls.Capacity (replies.Capacity None) last × (value ≡ call_value call)) (λ value. EndedAt r calls.Capacity (replies.Capacity None) q × (value ≡ call_value call))
-    (λ y. ChainEnded w first call y last) (λ y. EndedAt r call y q) c.attempt_push-answer.result (λ v h. (ended calls.Capacity (replies.Capacity None) h.0, h.1)) (λ y h. ended call y h) c.attempt_push-answer.ensures
+    let d : ToldIn w p k m.told m.asking = elim m.branch [
+      | in-Break b ↦ subst (λ x. ToldIn w p k x m.asking) (sym b.told-is) (subst (λ a. ToldIn w p k (Break b.in-Break.answer) a) (sym b.asking-is) b.in-Break.ensures)
+      | in-Continue b ↦ let e = b.end_or_quit_in in subst (λ x. ToldIn w p k x m.asking) (sym (b.told-is ∙ b.retold-told.ensures)) (subst (λ a. ToldIn w p k e.result a) (sym b.asking-is) (e.ensures k p (rw b.apart.ensures b.in-Continue.ensures)))
+    ] in
+    let ended : (l : _) (y : _) → ChainEnded w p.seat l y m.asking.seat → EndedAt r l y q = λ l y e. rests_ended r q p.seat.sitter m.asking.seat.sitter l y s.1 e.0.1 e.1 out.0 (out.1 ∙ (e.0.0.0 ∙ sym c.requires.rests.1)) out.2 in
+    matched (λ value. ChainEnded w p.seat calls.Capacity (replies.Capacity None) m.asking.seat × (value ≡ call_value k)) (λ value. EndedAt r calls.Capacity (replies.Capacity None) q × (value ≡ call_value k))
+    (λ y. ChainEnded w p.seat k y m.asking.seat) (λ y. EndedAt r k y q) m.told (λ v h. (ended calls.Capacity (replies.Capacity None) h.0, h.1)) (λ y h. ended k y h) d

@@ -1,0 +1,23 @@
+-- A call that has left its fast steps and is not to wait: it ends, or it is given up.
+use Rattle.std.specs.Prelude.{◌≡◌, ℕ, Option}
+use Rattle.std.specs.ControlFlow.{MatchControlFlow}
+use Rattle.std.specs.declared.ops.ControlFlow.{ControlFlow}
+use Rattle.queue_steps.specs.declared.model.Call.{Call}
+use Rattle.queue_steps.specs.declared.model.Call.TheVariants as call
+use Rattle.queue_steps.specs.declared.model.Reply.{Reply}
+use Rattle.queue_steps.specs.declared.model.Reply.TheVariants as reply
+use Rattle.queue_steps.specs.Kinds.{call_value}
+use Rattle.call_driver.specs.declared.site.Site.{Ghosts}
+use Rattle.shared_calls.specs.Leaving.{IsLeft}
+use Rattle.shared_calls.specs.declared.waiting.Left.{Left}
+
+module _ {T B S M K : Type 0} (m : Ghosts M T B S K) where
+  -- some call that is one of these stands there
+  abbrev pub SomeLeft : (Call T → Type 0) → M → Left T B → S → Type 0
+  SomeLeft Is site left seat = (c : Call T) × Is c × (first : S) × IsLeft m site first c left seat
+
+  -- whichever call stood there has ended; or what it carried has come back, and to its party it is as if it had asked for the capacity
+  abbrev pub EndsOrQuits : Option ℕ → M → Left T B → S → ControlFlow (Reply T) (Option T) → S → Type 0
+  EndsOrQuits cap site left before told after =
+      (c : Call T) (first : S) → IsLeft m site first c left before
+      → MatchControlFlow told (λ value. m.ended site first call.Capacity (reply.Capacity cap) after × (value ≡ call_value c)) (λ answer. m.ended site first c answer after)
