@@ -1,0 +1,274 @@
+//! A shared queue and a party of it in one value, so that no call takes both.
+#![tactic(auto)]
+
+ghost use Rattle.std.specs.Prelude.{◌≡◌, ◌≢◌, ◌<◌, Some, None, [], IfOk, IsErr, MatchResult};
+ghost use Rattle.queue_steps.specs.declared.model.Call.TheVariants as call;
+ghost use Rattle.queue_steps.specs.declared.model.Reply.TheVariants as reply;
+ghost use Rattle.queue_steps.specs.declared.sizes.TheConstants.{MAX_CAPACITY};
+ghost use Rattle.queue_steps.specs.Shares.{entire};
+ghost use Rattle.std.specs.Arc.{arc_value};
+ghost use Rattle.concurrent_queue.specs.Shared.{Calls, Finishes, IsPartyOf, Joins, Parts};
+ghost use Rattle.concurrent_queue.specs.Tries.{TriesPush, TriesForcePush, TriesPop};
+ghost use Rattle.queue_handle.specs.Handles.{IsLeft};
+
+use concurrent_queue::{
+    ConcurrentQueue, Exclusive, ForcePushError, NullTestable, Party, PopError, PushError,
+    TryForcePushError, TryPopError, TryPushError,
+};
+use std::alloc::{AllocError, Allocator, Global};
+use std::marker::Model;
+use std::sync::{Arc, Wait};
+
+/// One user of a shared queue: a party, and a share in keeping the queue, which ends with its last handle.
+///
+/// A contract sees the party, which names its queue.
+#[derive(Drop)]
+pub struct Handle<T, A: Allocator = Global> {
+    queue: Arc<ConcurrentQueue<T, A>, A>,
+    party: Party<T>,
+    ghost of: { IsPartyOf party (arc_value queue) },
+}
+
+/// Why a queue could not be had back from a handle.
+#[derive(Drop)]
+pub enum Unfinished<T, A: Allocator = Global> {
+    /// There are other handles. This one is unchanged.
+    Shared(Handle<T, A>),
+    /// There is no other handle, but a party is missing: one was dropped.
+    Missing(ConcurrentQueue<T, A>, Party<T>),
+}
+
+impl<T, A: Allocator> Model for Handle<T, A> {
+    ghost use Rattle.concurrent_queue.specs.Shared.{Person};
+
+    ghost Value = { Person T };
+
+    ghost view = { λ h. h.party };
+}
+
+impl<T: Drop, A: Allocator + Clone> Handle<T, A> {
+    /// The only handle of an empty open queue of this capacity.
+    ///
+    /// # Errors
+    ///
+    /// Where there is no memory, or the capacity is above `MAX_CAPACITY`.
+    pub fn bounded(alloc: A, cap: usize) -> Result<Self, AllocError>
+        requires { 0 < cap }
+        ensures first { IfOk result (λ h. (h.queue.cap ≡ Some cap) × (h.view ≡ record { seen = []; mine = []; share = entire })) }
+        ensures limited { MAX_CAPACITY < cap → IsErr result }
+    {
+        let (queue, party) = ConcurrentQueue::bounded(alloc.clone()?, cap)?;
+        let queue = Arc::new(alloc, queue)?;
+        Ok(Handle { queue, party })
+    }
+
+    /// The only handle of an empty open queue without a capacity.
+    ///
+    /// # Errors
+    ///
+    /// Where there is no memory, or an item has 2^31 bytes or more.
+    pub fn unbounded(alloc: A) -> Result<Self, AllocError>
+    where
+        A: NullTestable,
+        ensures { IfOk result (λ h. (h.queue.cap ≡ None) × (h.view ≡ record { seen = []; mine = []; share = entire })) }
+    {
+        let (queue, party) = ConcurrentQueue::unbounded(alloc.clone()?)?;
+        let queue = Arc::new(alloc, queue)?;
+        Ok(Handle { queue, party })
+    }
+}
+
+impl<T, A: Allocator> Handle<T, A> {
+    /// A handle of a queue and a party of it.
+    pub fn from_parts(queue: Arc<ConcurrentQueue<T, A>, A>, party: Party<T>) -> Self
+        requires { IsPartyOf party (arc_value queue) }
+        ensures { result ≡ party }
+    {
+        Handle { queue, party }
+    }
+
+    /// The queue and the party.
+    pub fn into_parts(self) -> (Arc<ConcurrentQueue<T, A>, A>, Party<T>)
+        ensures { (result.1 ≡ self) × IsPartyOf result.1 (arc_value result.0) }
+    {
+        let Handle { queue, party } = self;
+        (queue, party)
+    }
+
+    /// Appends `value`, as the queue's `push` does.
+    ///
+    /// # Errors
+    ///
+    /// Those of the queue's `push`, each with the value.
+    pub fn push<R: Wait>(&mut self, rt: &R, value: T) -> Result<(), PushError<T>>
+    where
+        A: NullTestable,
+        ensures { Calls self.old (call.Push value) (reply.Push result) self.new }
+    {
+        self.queue.push(rt, &mut self.party, value)
+    }
+
+    /// Appends `value`, and takes the front off and hands it out where the queue was full.
+    ///
+    /// # Errors
+    ///
+    /// Those of the queue's `force_push`, each with the value.
+    pub fn force_push<R: Wait>(
+        &mut self,
+        rt: &R,
+        value: T,
+    ) -> Result<Option<T>, ForcePushError<T>>
+    where
+        A: NullTestable,
+        ensures { Calls self.old (call.ForcePush value) (reply.ForcePush result) self.new }
+    {
+        self.queue.force_push(rt, &mut self.party, value)
+    }
+
+    /// Takes the front off.
+    ///
+    /// # Errors
+    ///
+    /// Those of the queue's `pop`.
+    pub fn pop<R: Wait>(&mut self, rt: &R) -> Result<T, PopError>
+        ensures { Calls self.old call.Pop (reply.Pop result) self.new }
+    {
+        self.queue.pop(rt, &mut self.party)
+    }
+
+    /// How many items there are.
+    pub fn len<R: Wait>(&mut self, rt: &R) -> usize
+        ensures { Calls self.old call.Len (reply.Len result) self.new }
+    {
+        self.queue.len(rt, &mut self.party)
+    }
+
+    /// Closes the queue, and reports whether this call did it.
+    pub fn close(&mut self) -> bool
+        ensures { Calls self.old call.Close (reply.Close result) self.new }
+    {
+        self.queue.close(&mut self.party)
+    }
+
+    /// Whether the queue is closed.
+    pub fn is_closed(&mut self) -> bool
+        ensures { Calls self.old call.IsClosed (reply.IsClosed result) self.new }
+    {
+        self.queue.is_closed(&mut self.party)
+    }
+
+    /// Whether there is no item.
+    pub fn is_empty(&mut self) -> bool
+        ensures { Calls self.old call.IsEmpty (reply.IsEmpty result) self.new }
+    {
+        self.queue.is_empty(&mut self.party)
+    }
+
+    /// Whether there are as many items as the capacity.
+    pub fn is_full(&mut self) -> bool
+        ensures { Calls self.old call.IsFull (reply.IsFull result) self.new }
+    {
+        self.queue.is_full(&mut self.party)
+    }
+
+    /// How many items there may be, or `None` where there is no limit.
+    pub fn capacity(&self) -> Option<usize>
+        ensures { result ≡ self.now.queue.cap }
+    {
+        self.queue.capacity()
+    }
+
+    /// Appends `value`, without waiting.
+    ///
+    /// # Errors
+    ///
+    /// Those of `push`, and `Busy` with the value where another call was half done: nothing has happened then.
+    pub fn try_push(&mut self, value: T) -> Result<(), TryPushError<T>>
+    where
+        A: NullTestable,
+        ensures { TriesPush self.old value result self.new }
+    {
+        self.queue.try_push(&mut self.party, value)
+    }
+
+    /// Appends `value` without waiting, and takes the front off and hands it out where the queue was full.
+    ///
+    /// # Errors
+    ///
+    /// Those of `force_push`, and `Busy` with the value where another call was half done: nothing has happened then.
+    pub fn try_force_push(&mut self, value: T) -> Result<Option<T>, TryForcePushError<T>>
+    where
+        A: NullTestable,
+        ensures { TriesForcePush self.old value result self.new }
+    {
+        self.queue.try_force_push(&mut self.party, value)
+    }
+
+    /// Takes the front off a queue with a capacity, without waiting.
+    ///
+    /// # Errors
+    ///
+    /// Those of `pop`, and `Busy` where another call was half done: nothing has happened then.
+    pub fn try_pop(&mut self) -> Result<T, TryPopError>
+    where
+        A: NullTestable,
+        requires { self.old.queue.cap ≢ None }
+        ensures { TriesPop self.old result self.new }
+    {
+        self.queue.try_pop(&mut self.party)
+    }
+}
+
+impl<T: Drop, A: Allocator> Handle<T, A> {
+    /// Makes two handles of one. The first keeps what the party has done, both have seen what it has, and each has half of its share.
+    ///
+    /// # Errors
+    ///
+    /// The handle itself, unchanged, where the queue has as many parties, or handles, as it may.
+    pub fn split(self) -> Result<(Self, Self), Self>
+        ensures { MatchResult result (λ r. Parts self r.0 r.1) (λ h. h ≡ self) }
+    {
+        let Handle { queue, party } = self;
+        let Ok(other) = Arc::try_clone(&queue) else {
+            return Err(Handle { queue, party });
+        };
+        match queue.split(party) {
+            Ok((party, second)) => Ok((
+                Handle { queue, party },
+                Handle {
+                    queue: other,
+                    party: second,
+                },
+            )),
+            Err(party) => Err(Handle { queue, party }),
+        }
+    }
+
+    /// Makes one of two handles of a queue: its party has seen and done what both have.
+    pub fn join(self, other: Self) -> Self
+        requires { other.queue ≡ self.queue }
+        ensures { Joins self other result }
+    {
+        let Handle { queue, party } = self;
+        let party = queue.join(party, other.party);
+        Handle { queue, party }
+    }
+
+    /// Ends the sharing: the queue with its one owner, as it is after the whole history. It does so where this is the only handle and no party is missing.
+    ///
+    /// # Errors
+    ///
+    /// What there is, unchanged: the handle, or queue and party where a party is missing.
+    pub fn finish(self) -> Result<Exclusive<T, A>, Unfinished<T, A>>
+        ensures { MatchResult result (λ queue. Finishes self queue) (λ left. IsLeft self left) }
+    {
+        let Handle { queue, party } = self;
+        match Arc::try_unwrap(queue) {
+            Ok(queue) => match queue.finish(party) {
+                Ok(queue) => Ok(queue),
+                Err((queue, party)) => Err(Unfinished::Missing(queue, party)),
+            },
+            Err(queue) => Err(Unfinished::Shared(Handle { queue, party })),
+        }
+    }
+}
