@@ -113,11 +113,7 @@ impl<T, A: Allocator> Handle<T, A> {
     /// # Errors
     ///
     /// Those of the queue's `force_push`, each with the value.
-    pub fn force_push<R: Wait>(
-        &mut self,
-        rt: &R,
-        value: T,
-    ) -> Result<Option<T>, ForcePushError<T>>
+    pub fn force_push<R: Wait>(&mut self, rt: &R, value: T) -> Result<Option<T>, ForcePushError<T>>
     where
         A: NullTestable,
         ensures { Calls self.old (call.ForcePush value) (reply.ForcePush result) self.new }

@@ -96,7 +96,7 @@ fn handed_to_one_and_to_five(rt: HostRuntime) {
 #[test]
 fn sent_by_a_thread_with_a_handle(rt: HostRuntime) {
     let (sum, handle) = sum_of_a_thread(rt, rt.alloc(), 1000).expect(&rt, "memory");
-    let left = handle.finish().map(|left| left.len());
+    let left = handle.finish().ok().map(|left| left.len());
     is(&rt, (sum, left), (499_500, Some(0)));
 }
 
