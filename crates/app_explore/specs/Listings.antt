@@ -15,6 +15,7 @@ use Rattle.app_explore_text.specs.Lanes.{lanes_text}
 use Rattle.app_explore_text.specs.Outcomes.{AreInOrder, outcome_line, text_of}
 use Rattle.app_explore_text.specs.Reads.{IsReadAs, IsFirstWrong}
 use Rattle.app_explore_text.specs.Schedules.{MakeAll, move_lines, schedule_text}
+use Rattle.app_explore.specs.Waits.{IsWaitList, IsWaitSchedule}
 use Rattle.app_explore.specs.Tails.{Tail, tail_line, last_text, without_order}
 use Rattle.app_explore_text.specs.declared.args.Request.{Request}
 use Rattle.app_explore_text.specs.declared.args.Wanted.{Wanted}
@@ -83,12 +84,15 @@ abbrev pub Tells : Kind → Bool → List (Call ℕ) → List (List (Call ℕ)) 
 Tells k refuses before calls wanted.Outcomes text = IsListing k refuses before calls text
 Tells k refuses before calls (wanted.Schedule n) text = IsScheduleOf k refuses before calls n text
 Tells k refuses before calls (wanted.Lanes n) text = IsPictureOf k refuses before calls n text
+Tells k refuses before calls wanted.Waits text = IsWaitList k refuses before calls text
+Tells k refuses before calls (wanted.Wait n) text = IsWaitSchedule k refuses before calls text
 
 -- the number of the outcome that is asked for, if one is
 abbrev pub number_in : Wanted → Option ℕ
 number_in wanted.Outcomes = None
 number_in (wanted.Schedule n) = Some n
 number_in (wanted.Lanes n) = Some n
+number_in _ = None
 
 -- the input names a program, and the text tells of it what is asked for
 pub record IsTold (r : Request) (input text : List ℕ) : Type 0 where
@@ -110,4 +114,5 @@ abbrev pub IsRefused : Request → List ℕ → Stop → Type 0
 IsRefused r input (stop.Fault why) = why ≡ fault.NoMemory
 IsRefused r input (stop.Line n why) = IsFirstWrong (lines_of input) n
 IsRefused r input (stop.NoOutcome number) = HasFewerOutcomes r input number
+IsRefused r input (stop.NoWait number) = r.wanted ≡ wanted.Wait number
 IsRefused r input _ = Unit {0}

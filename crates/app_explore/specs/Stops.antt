@@ -11,17 +11,19 @@ use Rattle.app_explore.specs.declared.faults.Stop.{Stop}
 use Rattle.app_explore.specs.declared.faults.Stop.TheVariants as stop
 
 abbrev pub stop_text : Stop → List ℕ
-stop_text (stop.Fault (fault.Usage why)) = codes "usage: queue_explore KIND [refuse] [schedule N | lanes N]" ++ 10 ∷ usage_text why
+stop_text (stop.Fault (fault.Usage why)) = codes "usage: queue_explore KIND [refuse] [schedule N | lanes N | waits [N]]" ++ 10 ∷ usage_text why
 stop_text (stop.Fault f) = fault_text f
 stop_text (stop.Line n why) = fault_text (fault.Unreadable n) ++ 10 ∷ line_fault_text why
 stop_text stop.TooManyStates = codes "too many states"
 stop_text (stop.NoOutcome n) = codes "no outcome " ++ decimal n
+stop_text (stop.NoWait n) = codes "no wait " ++ decimal n
 stop_text stop.NotShown = codes "not shown"
 
 abbrev pub stop_status : Stop → ℕ
 stop_status (stop.Fault f) = fault_status f
 stop_status (stop.Line n why) = 2
 stop_status (stop.NoOutcome n) = 2
+stop_status (stop.NoWait n) = 2
 stop_status _ = 3
 
 -- why the explorer stops where a search gives no answer

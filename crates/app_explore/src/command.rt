@@ -4,10 +4,10 @@ ghost use Rattle.app_explore.specs.Listings.{IsRefused, IsTold};
 ghost use Rattle.app_explore_text.specs.Requests.{IsRequest};
 ghost use Rattle.app_explore.specs.Commands.{IsEnd, IsExplored, IsStopOf};
 ghost use Rattle.app_explore.specs.Stops.{IsSearchStop, search_stop, stop_status};
-ghost use Rattle.app_explore.specs.declared.faults.Stop.TheVariants as stop;
 
 use crate::faults::Stop;
 use crate::listing::{Task, draw_lanes, list_outcomes, list_schedule};
+use crate::waits::{list_waits, wait_schedule};
 use app_explore_text::args::{Request, Wanted, parse_request};
 use app_explore_text::faults::ReadFault;
 use app_explore_text::reading::read_program;
@@ -77,7 +77,7 @@ fn explore<A: Allocator, I: Read, O: Write>(
 ///
 /// # Errors
 ///
-/// `Line`, `NoMemory`, also where no queue may have the capacity, `TooManyStates`, `NoOutcome`, and `NotShown`, which no program is known to meet.
+/// `Line`, `NoMemory`, also where no queue may have the capacity, `TooManyStates`, `NoOutcome`, `NoWait`, and `NotShown`, which no program is known to meet.
 pub fn told<'a, A: Allocator>(
     alloc: &'a A,
     request: Request,
@@ -101,22 +101,34 @@ pub fn told<'a, A: Allocator>(
             Ok(text) => Ok(text),
             Err(fault) => Err(stop_of(fault)),
         },
-        Wanted::Schedule(number) => of_outcome(number, list_schedule(alloc, &task, number)),
-        Wanted::Lanes(number) => of_outcome(number, draw_lanes(alloc, &task, number)),
+        Wanted::Schedule(number) => of_number(
+            Stop::NoOutcome(number),
+            list_schedule(alloc, &task, number),
+        ),
+        Wanted::Lanes(number) => {
+            of_number(Stop::NoOutcome(number), draw_lanes(alloc, &task, number))
+        }
+        Wanted::Waits => match list_waits(alloc, &task) {
+            Ok(text) => Ok(text),
+            Err(fault) => Err(stop_of(fault)),
+        },
+        Wanted::Wait(number) => {
+            of_number(Stop::NoWait(number), wait_schedule(alloc, &task, number))
+        }
     }
 }
 
-// What is told of the outcome of this number, if there is one.
-fn of_outcome<A: Allocator>(
-    number: u64,
+// What is told of a number, if there is something, or else that there is not.
+fn of_number<A: Allocator>(
+    missing: Stop,
     told: Result<Option<String<A>>, SearchFault>,
 ) -> Result<String<A>, Stop>
     ensures told { IfOk result (λ text. told ≡ Ok (Some text)) }
-    ensures refused { IfErr result (λ why. IsSearchStop why ⊎ ((why ≡ stop.NoOutcome number) × (told ≡ Ok None))) }
+    ensures refused { IfErr result (λ why. IsSearchStop why ⊎ ((why ≡ missing) × (told ≡ Ok None))) }
 {
     match told {
         Ok(Some(text)) => Ok(text),
-        Ok(None) => Err(Stop::NoOutcome(number)),
+        Ok(None) => Err(missing),
         Err(fault) => Err(stop_of(fault)),
     }
 }

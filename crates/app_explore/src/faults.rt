@@ -17,6 +17,8 @@ pub enum Stop {
     TooManyStates,
     /// The program has no outcome of this number.
     NoOutcome(u64),
+    /// So many waits were not found.
+    NoWait(u64),
     /// What was found could not be shown to be right.
     NotShown,
 }
@@ -28,7 +30,7 @@ impl Stop {
     {
         match self {
             Stop::Fault(fault) => fault.status(),
-            Stop::Line(_, _) | Stop::NoOutcome(_) => 2,
+            Stop::Line(_, _) | Stop::NoOutcome(_) | Stop::NoWait(_) => 2,
             Stop::TooManyStates | Stop::NotShown => 3,
         }
     }
@@ -41,12 +43,13 @@ impl fmt::Display for Stop {
         match self {
             Stop::Fault(Fault::Usage(why)) => write!(
                 f,
-                "usage: queue_explore KIND [refuse] [schedule N | lanes N]\n{why}"
+                "usage: queue_explore KIND [refuse] [schedule N | lanes N | waits [N]]\n{why}"
             ),
             Stop::Fault(fault) => write!(f, "{fault}"),
             Stop::Line(number, why) => write!(f, "{}\n{why}", Fault::Unreadable(*number)),
             Stop::TooManyStates => f.write_str("too many states"),
             Stop::NoOutcome(number) => write!(f, "no outcome {number}"),
+            Stop::NoWait(number) => write!(f, "no wait {number}"),
             Stop::NotShown => f.write_str("not shown"),
         }
     }

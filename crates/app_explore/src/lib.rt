@@ -6,3 +6,4 @@ pub mod faults;
 pub mod listing;
 pub mod program;
 mod tails;
+pub mod waits;

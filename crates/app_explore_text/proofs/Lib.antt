@@ -6,3 +6,4 @@ pub mod Moving
 pub mod Making
 pub mod InOrder
 pub mod Drawing
+pub mod Waiting

@@ -7,3 +7,4 @@ pub mod Outcomes
 pub mod Schedules
 pub mod Labels
 pub mod Lanes
+pub mod Waits

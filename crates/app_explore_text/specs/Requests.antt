@@ -21,11 +21,13 @@ abbrev pub wanted_words : Wanted → List (List ℕ)
 wanted_words wanted.Outcomes = []
 wanted_words (wanted.Schedule n) = codes "schedule" ∷ decimal n ∷ []
 wanted_words (wanted.Lanes n) = codes "lanes" ∷ decimal n ∷ []
+wanted_words wanted.Waits = codes "waits" ∷ []
+wanted_words (wanted.Wait n) = codes "waits" ∷ decimal n ∷ []
 
 abbrev pub request_words : Request → List (List ℕ)
 request_words r = kind_text r.kind ∷ refuse_words r.refuses ++ wanted_words r.wanted
 
--- outcomes are counted from 1
+-- outcomes and waits are counted from 1
 abbrev pub IsOutcomeNumber : ℕ → Type 0
 IsOutcomeNumber n = IsWord n × (0 < n)
 
@@ -33,6 +35,8 @@ abbrev pub IsWanted : Wanted → Type 0
 IsWanted wanted.Outcomes = Unit {0}
 IsWanted (wanted.Schedule n) = IsOutcomeNumber n
 IsWanted (wanted.Lanes n) = IsOutcomeNumber n
+IsWanted wanted.Waits = Unit {0}
+IsWanted (wanted.Wait n) = IsOutcomeNumber n
 
 -- whether a queue of this kind asks for blocks while it runs
 abbrev pub asks_for_blocks : KindName → Bool
@@ -43,9 +47,9 @@ asks_for_blocks _ = false
 abbrev pub IsRequest : Request → Type 0
 IsRequest r = IsKindName r.kind × (r.refuses ≡ true → asks_for_blocks r.kind ≡ true) × IsWanted r.wanted
 
--- the word is the name of something that is shown of an outcome
+-- the word is the name of something that is shown of a program
 abbrev pub IsWantedName : List ℕ → Type 0
-IsWantedName word = (word ≡ codes "schedule") ⊎ (word ≡ codes "lanes")
+IsWantedName word = (word ≡ codes "schedule") ⊎ (word ≡ codes "lanes") ⊎ (word ≡ codes "waits")
 
 -- why the word, with others behind it, asks for nothing: it is no such name, or the others are too few or too many
 abbrev pub IsWantedNameFault : List ℕ → UsageFault → Type 0
@@ -53,7 +57,7 @@ IsWantedNameFault word usage.Wanted = IsWantedName word → ⊥
 IsWantedNameFault word usage.WordCount = IsWantedName word
 IsWantedNameFault word _ = ⊥
 
--- why the word is the number of no outcome
+-- why the word is the number of no outcome and of no wait
 abbrev pub IsOutcomeFault : List ℕ → UsageFault → Type 0
 IsOutcomeFault word why = (why ≡ usage.Outcome) × IsNoNumber IsOutcomeNumber word
 

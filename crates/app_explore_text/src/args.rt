@@ -17,6 +17,10 @@ pub enum Wanted {
     Schedule(u64),
     /// A picture of that schedule, with a column for each party.
     Lanes(u64),
+    /// Who waits for whom, a line each.
+    Waits,
+    /// The lines of the schedule of the wait of this number, counted from 1.
+    Wait(u64),
 }
 
 /// What the arguments ask for.
@@ -77,6 +81,7 @@ fn parse_wanted(words: &[String]) -> Result<Wanted, UsageFault>
 {
     match words {
         [] => Ok(Wanted::Outcomes),
+        [word] if word.as_str() == "waits" => Ok(Wanted::Waits),
         [word, number] => parse_outcome(word.as_str(), number.as_str()),
         [word, ..] => Err(name_fault(word.as_str())),
     }
@@ -87,7 +92,7 @@ fn name_fault(word: &str) -> UsageFault
     ensures { IsWantedNameFault word.now result }
 {
     match word {
-        "schedule" | "lanes" => UsageFault::WordCount,
+        "schedule" | "lanes" | "waits" => UsageFault::WordCount,
         _ => UsageFault::Wanted,
     }
 }
@@ -99,11 +104,12 @@ fn parse_outcome(word: &str, number: &str) -> Result<Wanted, UsageFault>
     match word {
         "schedule" => Ok(Wanted::Schedule(outcome_number(number)?)),
         "lanes" => Ok(Wanted::Lanes(outcome_number(number)?)),
+        "waits" => Ok(Wanted::Wait(outcome_number(number)?)),
         _ => Err(UsageFault::Wanted),
     }
 }
 
-// The number of an outcome that this text names, or else that it names none.
+// The number of an outcome or a wait that this text names, or else that it names none.
 fn outcome_number(text: &str) -> Result<u64, UsageFault>
     ensures { IsParsing IsOutcomeNumber decimal IsOutcomeFault text.now result }
 {
@@ -113,7 +119,7 @@ fn outcome_number(text: &str) -> Result<u64, UsageFault>
     }
 }
 
-// The number of an outcome that this text names.
+// The number of an outcome or a wait that this text names.
 fn parse_outcome_number(text: &str) -> Option<u64>
     ensures { IsReading IsOutcomeNumber decimal text.now result }
 {

@@ -10,3 +10,4 @@ pub mod limits;
 pub mod outcomes;
 pub mod reading;
 pub mod schedules;
+pub mod waits;

@@ -1,5 +1,6 @@
 //! Where the positions of a table lead.
 use machine_explore::check::{Link, Table};
+use queue_steps::steps::Local;
 use std::alloc::Allocator;
 
 /// What a link has where nothing is led to.
@@ -24,6 +25,11 @@ impl<'a, A: Allocator + Copy> Graph<'a, A> {
             Some(position) => position.is_in_call(party),
             None => false,
         }
+    }
+
+    /// Where the party's call stands at the position at this place, if it is in one.
+    pub(crate) fn local(&self, place: usize, party: usize) -> Option<Local<usize>> {
+        self.table.positions.get(place)?.local(party)
     }
 
     /// The place to which the party leads from the position at this place, if it goes on so.

@@ -14,4 +14,5 @@ mod orders;
 pub mod outcomes;
 mod paths;
 mod places;
+pub mod rounds;
 mod waits;

@@ -167,6 +167,17 @@ impl<A: Allocator + Copy> Paths<A> {
         best.before
     }
 
+    /// The moves on a shortest way to the position at this place.
+    pub(crate) fn way_to(
+        &self,
+        alloc: A,
+        graph: &Graph<A>,
+        place: usize,
+    ) -> Result<Vec<Move, A>, AllocError> {
+        let lane = self.continued(graph.parties, place, NOWHERE);
+        self.trace(alloc, graph, lane.before)
+    }
+
     // The moves on the way of this lane.
     fn trace(&self, alloc: A, graph: &Graph<A>, last: usize) -> Result<Vec<Move, A>, AllocError> {
         let mut moves = Vec::new(alloc);

@@ -1,4 +1,4 @@
-//! Runs every stored program through the explorer, compares what it prints, byte for byte, and replays the schedule of each outcome to see that it ends with it.
+//! Runs every stored program through the explorer, compares what it prints, byte for byte, and replays the schedule of each outcome to see that it ends with it, and of each wait to see that the one party gets its reply after the other's alone.
 //!
 //! The file `LIST` has a line for each case: the explorer's arguments and then the path of the case without its ending. `.in` is the program, `.out` the output.
 #![tactic(auto)]
@@ -6,7 +6,7 @@
 mod replays;
 
 use app_explore::command::command;
-use replays::is_replayed;
+use replays::{is_held_up, is_replayed};
 use std::alloc::{AllocError, Global};
 use std::process::ExitCode;
 use std::rt::Files;
@@ -63,6 +63,33 @@ fn is_shown<R: Threads + Wait + Sync + AllocGlobal>(
     }
 }
 
+/// Whether the wait of this number, which has this line, is what its schedule leads to.
+fn is_wait_shown<R: Threads + Wait + Sync + AllocGlobal>(
+    rt: &R,
+    args: &str,
+    program: &str,
+    number: usize,
+    line: &str,
+) -> Result<bool, AllocError> {
+    let request = format!(in rt.alloc(); "{args} {number}")?;
+    let mut schedule = Vec::new(rt.alloc());
+    match sides_in(line) {
+        Some((waiter, other)) if explore(rt.alloc(), request.as_str(), program, &mut schedule)? => {
+            is_held_up(rt, args, program, &schedule, waiter, other)
+        }
+        _ => Ok(false),
+    }
+}
+
+/// The party that waits and the one that it waits for, of the line of a wait.
+fn sides_in(line: &str) -> Option<(&str, &str)> {
+    let (_, behind) = line.split_once(" | ")?;
+    let (waiter, rest) = behind.split_once(": ")?;
+    let (_, last) = rest.split_once(" | ")?;
+    let (other, _) = last.split_once(": ")?;
+    Some((waiter, other))
+}
+
 /// The part of an outcome's line that tells what it is.
 fn outcome_in(line: &str) -> &str {
     let behind = match line.split_once(" | ") {
@@ -75,8 +102,8 @@ fn outcome_in(line: &str) -> &str {
     }
 }
 
-/// How many outcomes a list has, and how many of them are what their schedules lead to.
-fn count_outcomes<R: Threads + Wait + Sync + AllocGlobal>(
+/// How many outcomes or waits a list has, and how many of them are what their schedules lead to.
+fn count_shown<R: Threads + Wait + Sync + AllocGlobal>(
     rt: &R,
     args: &str,
     program: &str,
@@ -85,17 +112,23 @@ fn count_outcomes<R: Threads + Wait + Sync + AllocGlobal>(
     let mut all: usize = 0;
     let mut shown: usize = 0;
     for (index, line) in list.lines().enumerate() {
-        if line.starts_with("outcome ") {
-            all = all.wrapping_add(1);
-            if is_shown(rt, args, program, index.wrapping_add(1), outcome_in(line))? {
-                shown = shown.wrapping_add(1);
-            }
+        let number = index.wrapping_add(1);
+        let is_right = if line.starts_with("outcome ") {
+            is_shown(rt, args, program, number, outcome_in(line))?
+        } else if line.starts_with("wait ") {
+            is_wait_shown(rt, args, program, number, line)?
+        } else {
+            continue;
+        };
+        all = all.wrapping_add(1);
+        if is_right {
+            shown = shown.wrapping_add(1);
         }
     }
     Ok((all, shown))
 }
 
-/// Whether the explorer prints what it is to print with these arguments on this program, and how many of its outcomes are shown by their schedules.
+/// Whether the explorer prints what it is to print with these arguments on this program, and how many of its outcomes or waits are shown by their schedules.
 fn agrees<R: Threads + Wait + Sync + AllocGlobal>(
     rt: &R,
     args: &str,
@@ -103,7 +136,7 @@ fn agrees<R: Threads + Wait + Sync + AllocGlobal>(
     wanted: &str,
 ) -> Result<(bool, usize), AllocError> {
     let same = prints(rt.alloc(), args, program, wanted)?;
-    let (all, shown) = count_outcomes(rt, args, program, wanted)?;
+    let (all, shown) = count_shown(rt, args, program, wanted)?;
     Ok((same && shown == all, shown))
 }
 
@@ -113,7 +146,7 @@ fn stored<R: Files + AllocGlobal>(rt: &R, case: &str, ending: &str) -> io::Resul
     fs::read_to_string(rt, path.as_str())
 }
 
-/// Whether the case of this line agrees, and how many of its outcomes are shown by their schedules.
+/// Whether the case of this line agrees, and how many of its outcomes or waits are shown by their schedules.
 fn case_agrees<R: Threads + Wait + Sync + Files + AllocGlobal>(
     rt: &R,
     line: &str,
@@ -126,12 +159,12 @@ fn case_agrees<R: Threads + Wait + Sync + Files + AllocGlobal>(
     Ok(agrees(rt, args, program.as_str(), wanted.as_str())?)
 }
 
-/// How many cases there are, how many of them agree, and how many outcomes were replayed.
+/// How many cases there are, how many of them agree, and how many schedules were replayed.
 #[derive(Clone, Copy)]
 struct Tally {
     cases: usize,
     agreeing: usize,
-    outcomes: usize,
+    schedules: usize,
 }
 
 /// Runs the cases of these lines, and names those that do not agree.
@@ -142,12 +175,12 @@ fn run_cases<R: Threads + Wait + Sync + Files + Print + AllocGlobal>(
     let mut tally = Tally {
         cases: 0,
         agreeing: 0,
-        outcomes: 0,
+        schedules: 0,
     };
     for line in list.lines() {
         let (agrees, shown) = case_agrees(rt, line)?;
         tally.cases = tally.cases.wrapping_add(1);
-        tally.outcomes = tally.outcomes.wrapping_add(shown);
+        tally.schedules = tally.schedules.wrapping_add(shown);
         if agrees {
             tally.agreeing = tally.agreeing.wrapping_add(1);
         } else {
@@ -162,9 +195,9 @@ fn tell<R: Print>(rt: &R, tally: Tally) -> io::Result<ExitCode> {
     let Tally {
         cases,
         agreeing,
-        outcomes,
+        schedules,
     } = tally;
-    println!(rt; "{agreeing} of {cases} programs agree, {outcomes} outcomes replayed")?;
+    println!(rt; "{agreeing} of {cases} programs agree, {schedules} schedules replayed")?;
     if agreeing == cases {
         Ok(ExitCode::SUCCESS)
     } else {

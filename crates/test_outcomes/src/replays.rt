@@ -21,6 +21,44 @@ pub fn is_replayed<R: Threads + Wait + Sync + AllocGlobal>(
     Ok(ends.as_str() == outcome)
 }
 
+/// Whether a replay of the schedule shows that the one party waits for the other at its end: the one takes the steps of a run and gets no reply, until the other has got its own.
+pub fn is_held_up<R: Threads + Wait + Sync + AllocGlobal>(
+    rt: &R,
+    args: &str,
+    program: &str,
+    schedule: &[u8],
+    waiter: &str,
+    other: &str,
+) -> Result<bool, AllocError> {
+    let lines = text_of(schedule);
+    let goes_on = format!(in rt.alloc(); "{lines}{waiter} run\n{other} run\n{waiter} run\n")?;
+    let mut told = Vec::new(rt.alloc());
+    replay(
+        rt,
+        kind_in(args),
+        party_count(program),
+        goes_on.as_bytes(),
+        &mut told,
+    )?;
+    let told = text_of(&told);
+    let count = lines.lines().count();
+    Ok(!is_answered(told, waiter, count)
+        && is_answered(told, other, count.wrapping_add(1))
+        && is_answered(told, waiter, count.wrapping_add(2)))
+}
+
+// Whether the party gets a reply at the line behind so many.
+fn is_answered(told: &str, party: &str, before: usize) -> bool {
+    for line in told.lines() {
+        if reply_in(line, party, before).is_some()
+            && reply_in(line, party, before.wrapping_add(1)).is_none()
+        {
+            return true;
+        }
+    }
+    false
+}
+
 // Replays the schedule on a queue of this kind. What is told of it goes to the output.
 fn replay<R: Threads + Wait + Sync + AllocGlobal>(
     rt: &R,

@@ -82,7 +82,7 @@ fn is_read(rt: &impl Abort, alloc: Global, text: &[u8], found: Found<'_>) {
     assert_eq!(rt; read, found, "of {text:?}");
 }
 
-static REQUESTS: [(&str, Result<Request, UsageFault>); 17] = [
+static REQUESTS: [(&str, Result<Request, UsageFault>); 19] = [
     (
         "bounded:2",
         Ok(Request {
@@ -129,6 +129,22 @@ static REQUESTS: [(&str, Result<Request, UsageFault>); 17] = [
             kind: KindName::Unbounded,
             refuses: true,
             wanted: Wanted::Lanes(1),
+        }),
+    ),
+    (
+        "bounded:2 waits",
+        Ok(Request {
+            kind: KindName::Bounded(2),
+            refuses: false,
+            wanted: Wanted::Waits,
+        }),
+    ),
+    (
+        "unbounded refuse waits 29",
+        Ok(Request {
+            kind: KindName::Unbounded,
+            refuses: true,
+            wanted: Wanted::Wait(29),
         }),
     ),
     ("single refuse", Err(UsageFault::Refusal)),

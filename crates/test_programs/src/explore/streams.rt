@@ -59,7 +59,7 @@ static TELLINGS: [Telling; 6] = [
         input: "0: pop\n",
         streams: SOUND,
         status: 2,
-        fault: "usage: queue_explore KIND [refuse] [schedule N | lanes N]\nrefuse: with unbounded alone\n",
+        fault: "usage: queue_explore KIND [refuse] [schedule N | lanes N | waits [N]]\nrefuse: with unbounded alone\n",
     },
     Telling {
         line: "single",

@@ -6,13 +6,14 @@ use std::sync::Wait;
 use std::thread::Threads;
 use test_streams::runs::End;
 
-static WORD_COUNTS: [&str; 6] = [
+static WORD_COUNTS: [&str; 7] = [
     "",
     "single schedule",
     "single lanes",
     "single lanes schedule 1",
     "single schedule 1 lanes 1",
     "unbounded lanes 1 refuse",
+    "single waits 1 2",
 ];
 
 #[test]
@@ -62,11 +63,12 @@ fn nothing_of_the_name(rt: HostRuntime) {
     all_wrong(&rt, Program::QueueExplore, &WANTED, UNREAD, reason);
 }
 
-static OUTCOMES: [&str; 4] = [
+static OUTCOMES: [&str; 5] = [
     "single schedule 0",
     "single schedule 01",
     "single schedule 18446744073709551616",
     "single lanes 0",
+    "single waits 0",
 ];
 
 #[test]

@@ -1,0 +1,140 @@
+//! Who waits for whom in a program: a line for each wait, or the schedule of one.
+ghost use Rattle.std.specs.Prelude.{◌<◌, IfOk, MatchOption, string_bytes, ⊤};
+ghost use Rattle.machine_explore.specs.Waiting.{wait_of};
+ghost use Rattle.machine_replay.specs.Replays.{CanReplay};
+ghost use Rattle.app_explore.specs.Waits.{IsShownWait, IsWaitList, IsWaitSchedule};
+
+use crate::listing::Task;
+use app_explore_text::schedules::write_schedule;
+use app_explore_text::waits::{write_wait, write_waits};
+use machine_explore::check::Table;
+use machine_explore::waiting::{Wait, show_wait, side_of};
+use machine_search::faults::SearchFault;
+use machine_search::find::find;
+use machine_search::rounds::{Approach, Round, approaches, rounds_of};
+use std::alloc::{AllocError, Allocator};
+
+/// The line of each wait, sorted by their bytes, and how many there are. Each is shown by a schedule; that none is missing is not proved.
+///
+/// # Errors
+///
+/// `NoMemory`, also where no queue may have the capacity, `TooManyStates`, and `NotShown`.
+pub fn list_waits<A: Allocator + Copy>(alloc: A, task: &Task<A>) -> Result<String<A>, SearchFault>
+    requires { CanReplay task.now.kind }
+    ensures { IfOk result (λ text. IsWaitList task.now.kind task.now.refuses task.now.program.before task.now.program.parties.items (string_bytes text)) }
+{
+    let approaches = find_waits(alloc, task)?;
+    let mut waits = Vec::new(alloc);
+    for found in &approaches {
+        let wait = show(alloc, task, found)?;
+        waits.push(wait)?;
+    }
+    let mut text = String::new(alloc);
+    write_waits(&waits, &mut text)?;
+    Ok(text)
+}
+
+/// The lines of the schedule of the wait of this number, counted from 1, if so many were found.
+///
+/// # Errors
+///
+/// As of `list_waits`.
+pub fn wait_schedule<A: Allocator + Copy>(
+    alloc: A,
+    task: &Task<A>,
+    number: u64,
+) -> Result<Option<String<A>>, SearchFault>
+    requires can { CanReplay task.now.kind }
+    requires counted { 0 < number }
+    ensures { IfOk result (λ o. MatchOption o ⊤ (λ text. IsWaitSchedule task.now.kind task.now.refuses task.now.program.before task.now.program.parties.items (string_bytes text))) }
+{
+    let waits = find_waits(alloc, task)?;
+    let Some(found) = waits.get((number - 1) as usize) else {
+        return Ok(None);
+    };
+    let wait = show(alloc, task, found)?;
+    let mut text = String::new(alloc);
+    write_schedule(
+        task.program.before.as_slice(),
+        wait.entries.as_slice(),
+        &mut text,
+    )?;
+    Ok(Some(text))
+}
+
+// What is seen of the schedule that was found, shown to lead to a wait.
+fn show<A: Allocator + Copy>(
+    alloc: A,
+    task: &Task<A>,
+    found: &Approach<A>,
+) -> Result<Wait<A>, SearchFault>
+    requires { CanReplay task.now.kind }
+    ensures { IfOk result (λ wait. IsShownWait task.now.kind task.now.refuses task.now.program.before task.now.program.parties.items (wait_of wait)) }
+{
+    let shown = show_wait(
+        alloc,
+        task.kind,
+        task.refuses,
+        &task.program,
+        found.schedule.as_slice(),
+        found.waiter,
+        found.other,
+    )?;
+    match shown {
+        Some(wait) => Ok(wait),
+        None => Err(SearchFault::NotShown),
+    }
+}
+
+// A schedule for each wait, in the order of their lines.
+fn find_waits<A: Allocator + Copy>(
+    alloc: A,
+    task: &Task<A>,
+) -> Result<Vec<Approach<A>, A>, SearchFault>
+    requires { CanReplay task.now.kind }
+{
+    let table = find(alloc, task.kind, task.refuses, &task.program)?;
+    let parties = task.program.parties.len();
+    let rounds = rounds_of(alloc, parties, &table)?;
+    let firsts = first_rounds(alloc, task, &table, &rounds)?;
+    approaches(alloc, parties, &table, &firsts)
+}
+
+// The first of the rounds with each line, in the order of the lines.
+fn first_rounds<A: Allocator + Copy>(
+    alloc: A,
+    task: &Task<A>,
+    table: &Table<A>,
+    rounds: &[Round],
+) -> Result<Vec<Round, A>, AllocError> {
+    let mut keyed = Vec::new(alloc);
+    for (index, round) in rounds.iter().enumerate() {
+        keyed.push((line_of(alloc, task, table, round)?, index))?;
+    }
+    keyed.sort()?;
+    let mut firsts = Vec::new(alloc);
+    for place in 0..keyed.len() {
+        if place == 0 || keyed[place - 1].0.as_str() != keyed[place].0.as_str() {
+            if let Some(round) = rounds.get(keyed[place].1) {
+                firsts.push(*round)?;
+            }
+        }
+    }
+    Ok(firsts)
+}
+
+// The line of a round, with the number 0.
+fn line_of<A: Allocator + Copy>(
+    alloc: A,
+    task: &Task<A>,
+    table: &Table<A>,
+    round: &Round,
+) -> Result<String<A>, AllocError> {
+    let mut text = String::new(alloc);
+    if let Some(position) = table.positions.get(round.place) {
+        let waiter = side_of(&task.program, position, round.waiter);
+        let other = side_of(&task.program, position, round.other);
+        write_wait(0, waiter, other, &mut text)?;
+    }
+    Ok(text)
+}
