@@ -1,5 +1,5 @@
 -- The words that ask for something.
-use Rattle.std.specs.Prelude.{◌≡◌, ◌≢◌, ◌⊎◌, ℕ, ◌<◌, List, [], ◌∷◌, ◌++◌, codes, Bool, true, false, get_or}
+use Rattle.std.specs.Prelude.{◌≡◌, ◌⊎◌, ℕ, ◌<◌, List, [], ◌∷◌, ◌++◌, codes, Bool, true, false, get_or}
 use Rattle.std.specs.Fmt.{decimal}
 use Rattle.app_text.specs.KindNames.{kind_text, IsKindName}
 use Rattle.app_text.specs.Reading.{IsWord}
