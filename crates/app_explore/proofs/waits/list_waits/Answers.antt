@@ -22,5 +22,5 @@ returns g c =
     record {
       waits = map wait_of c.loop-found.waits.items;
       shown = c.loop-found.invariant;
-      text_is = c.in_ok-write_waits.ensures ∙ ap (λ l. l ++ waits_text (map wait_of c.deref-2.result.now)) c.new-text.ensures.bytes ∙ ap (λ l. waits_text (map wait_of l)) c.deref-2.ensures.value;
+      text_is = c.in_ok-write_waits.ensures ∙ ap (λ l. l ++ waits_text (map wait_of c.deref.result.now)) c.new-text.ensures.bytes ∙ ap (λ l. waits_text (map wait_of l)) c.deref.ensures.value;
     }
