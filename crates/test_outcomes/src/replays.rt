@@ -42,9 +42,11 @@ pub fn is_held_up<R: Threads + Wait + Sync + AllocGlobal>(
     )?;
     let told = text_of(&told);
     let count = lines.lines().count();
-    Ok(!is_answered(told, waiter, count)
-        && is_answered(told, other, count.wrapping_add(1))
-        && is_answered(told, waiter, count.wrapping_add(2)))
+    Ok(
+        !is_answered(told, waiter, count)
+            && is_answered(told, other, count.wrapping_add(1))
+            && is_answered(told, waiter, count.wrapping_add(2)),
+    )
 }
 
 // Whether the party gets a reply at the line behind so many.

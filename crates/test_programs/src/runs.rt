@@ -19,7 +19,8 @@ pub enum Program {
 const RUN_USAGE: &str =
     "usage: queue_run script KIND | replay KIND PARTIES | threads KIND PUSHERS POPPERS ITEMS | handshake | channel KIND SENDERS RECEIVERS ITEMS\n";
 
-const EXPLORE_USAGE: &str = "usage: queue_explore KIND [refuse] [schedule N | lanes N | waits [N]]\n";
+const EXPLORE_USAGE: &str =
+    "usage: queue_explore KIND [refuse] [schedule N | lanes N | waits [N]]\n";
 
 impl Program {
     /// That line.
