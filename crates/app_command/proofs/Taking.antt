@@ -1,7 +1,7 @@
 -- Turns of a run are taken one after another.
 use Rattle.std.proofs.Common.{◌≡◌, ◌∙◌, ℕ, zero, suc, ◌+◌, ◌<◌, ◌≤◌, List, [], ◌∷◌, ◌++◌, length, map, drop, drop-cons, add-one, get_or, replicate, append_assoc, append-nil, length-append, true, refl, sym, ap, subst, arith}
 use Rattle.std.proofs.lemmas.List.{drop_all}
-use Rattle.machine_replay.specs.MachineRuns.{Continues, IsSomeMachineRun, IsSameMachineRun}
+use Rattle.machine_replay.specs.MachineRuns.{Continues, IsSomeMachineRun, KeepsRun}
 use Rattle.machine_replay.specs.declared.machine_run.MachineRun.{MachineRun}
 use Rattle.machine_steps.specs.declared.types.Event.{Event}
 use Rattle.machine_steps.specs.declared.types.Event.TheVariants.{Step}
@@ -43,7 +43,7 @@ takes-more xs ys c d e old mid new first then k parties events told on =
     }
 
 -- one turn
-pub takes-one : {A : Type 0} (t : Turn) (x : Told ℕ) (c d e : MachineRun ℕ A) (old new : List ℕ) → IsSameMachineRun c d → Continues d (turn_event t) x e → new ≡ old ++ turn_text t x → Takes (t ∷ []) c old e new
+pub takes-one : {A : Type 0} (t : Turn) (x : Told ℕ) (c d e : MachineRun ℕ A) (old new : List ℕ) → KeepsRun c d → Continues d (turn_event t) x e → new ≡ old ++ turn_text t x → Takes (t ∷ []) c old e new
 takes-one t x c d e old new same goes_on written k parties events told on = record {
   more = x ∷ [];
   each = refl;

@@ -6,7 +6,7 @@ use Rattle.std.specs.declared.vec.IntoIter.{IntoIter}
 use Rattle.app_text.specs.Given.{IsAskedBy, MayLackMemory}
 use Rattle.app_text.specs.Streams.{IsBegun, IsInput}
 use Rattle.app_text.specs.declared.faults.Fault.TheVariants as fault
-use Rattle.app_explore.specs.Listings.{IsRefused, IsTold}
+use Rattle.app_explore.specs.Listings.{MayStop, IsTold}
 use Rattle.app_explore_text.specs.Requests.{IsRequest, IsRequestFault, request_words}
 use Rattle.app_explore.specs.Stops.{stop_status}
 use Rattle.app_explore_text.specs.declared.args.Request.{Request}
@@ -51,7 +51,7 @@ pub record IsRefusedAsk (words : List (List ℕ)) (known : Option (List ℕ)) (w
   pub asked : AskFor words request
   pub bytes : List ℕ
   pub input : IsInput known bytes
-  pub refused : IsRefused request bytes why
+  pub refused : MayStop request bytes why
 
 -- why it was not told. But for a failed write, nothing is written then
 abbrev pub IsStopOf : List (List ℕ) → Option (List ℕ) → Option (List ℕ) → Option (List ℕ) → Stop → Type 0
@@ -62,11 +62,11 @@ IsStopOf words known old new (stop.Fault fault.OutputFailed) = IsBegunExplored w
 IsStopOf words known old new why = Keeps old new × IsRefusedAsk words known why
 
 -- it ends with 0 where all was told, and else with the status of why it was not
-abbrev pub IsEnd : List (List ℕ) → Option (List ℕ) → Option (List ℕ) → Option (List ℕ) → ℕ → Type 0
-IsEnd words known old new status = ((status ≡ 0) × IsExplored words known old new) ⊎ ((why : Stop) × (status ≡ stop_status why) × IsStopOf words known old new why)
+abbrev pub IsExplorerEnd : List (List ℕ) → Option (List ℕ) → Option (List ℕ) → Option (List ℕ) → ℕ → Type 0
+IsExplorerEnd words known old new status = ((status ≡ 0) × IsExplored words known old new) ⊎ ((why : Stop) × (status ≡ stop_status why) × IsStopOf words known old new why)
 
 module _ {Z : Type 0} where
   -- the program ends with this status, by the arguments as the system gives them; or there was no memory for these, and nothing was written
   abbrev pub IsProgramEnd : Result (IntoIter (String Z) Z) Error → Option (List ℕ) → Option (List ℕ) → Option (List ℕ) → ℕ → Type 0
   IsProgramEnd given known old new status =
-      ((words : List (List ℕ)) × IsAskedBy given words × IsEnd words known old new status) ⊎ (MayLackMemory given × (status ≡ stop_status (stop.Fault fault.NoMemory)) × Keeps old new)
+      ((words : List (List ℕ)) × IsAskedBy given words × IsExplorerEnd words known old new status) ⊎ (MayLackMemory given × (status ≡ stop_status (stop.Fault fault.NoMemory)) × Keeps old new)

@@ -80,12 +80,12 @@ pub record HasFewer (k : Kind) (refuses : Bool) (before : List (Call ℕ)) (call
   pub fewer : length outcomes < number
 
 -- the text tells what is asked for
-abbrev pub Tells : Kind → Bool → List (Call ℕ) → List (List (Call ℕ)) → Wanted → List ℕ → Type 0
-Tells k refuses before calls wanted.Outcomes text = IsListing k refuses before calls text
-Tells k refuses before calls (wanted.Schedule n) text = IsScheduleOf k refuses before calls n text
-Tells k refuses before calls (wanted.Lanes n) text = IsPictureOf k refuses before calls n text
-Tells k refuses before calls wanted.Waits text = IsWaitList k refuses before calls text
-Tells k refuses before calls (wanted.Wait n) text = IsWaitSchedule k refuses before calls text
+abbrev pub TellsWanted : Kind → Bool → List (Call ℕ) → List (List (Call ℕ)) → Wanted → List ℕ → Type 0
+TellsWanted k refuses before calls wanted.Outcomes text = IsListing k refuses before calls text
+TellsWanted k refuses before calls (wanted.Schedule n) text = IsScheduleOf k refuses before calls n text
+TellsWanted k refuses before calls (wanted.Lanes n) text = IsPictureOf k refuses before calls n text
+TellsWanted k refuses before calls wanted.Waits text = IsWaitList k refuses before calls text
+TellsWanted k refuses before calls (wanted.Wait n) text = IsWaitSchedule k refuses before calls text
 
 -- the number of the outcome that is asked for, if one is
 abbrev pub number_in : Wanted → Option ℕ
@@ -99,7 +99,7 @@ pub record IsTold (r : Request) (input text : List ℕ) : Type 0 where
   pub before : List (Call ℕ)
   pub calls : List (List (Call ℕ))
   pub read : IsReadAs (lines_of input) before calls
-  pub tells : Tells (queue_named r.kind) r.refuses before calls r.wanted text
+  pub tells : TellsWanted (queue_named r.kind) r.refuses before calls r.wanted text
 
 -- the program that the input names has fewer outcomes than that
 pub record HasFewerOutcomes (r : Request) (input : List ℕ) (number : ℕ) : Type 0 where
@@ -110,9 +110,9 @@ pub record HasFewerOutcomes (r : Request) (input : List ℕ) (number : ℕ) : Ty
   pub fewer : HasFewer (queue_named r.kind) r.refuses before calls number
 
 -- why nothing is told of the program that the input names
-abbrev pub IsRefused : Request → List ℕ → Stop → Type 0
-IsRefused r input (stop.Fault why) = why ≡ fault.NoMemory
-IsRefused r input (stop.Line n why) = IsFirstWrong (lines_of input) n
-IsRefused r input (stop.NoOutcome number) = HasFewerOutcomes r input number
-IsRefused r input (stop.NoWait number) = r.wanted ≡ wanted.Wait number
-IsRefused r input _ = Unit {0}
+abbrev pub MayStop : Request → List ℕ → Stop → Type 0
+MayStop r input (stop.Fault why) = why ≡ fault.NoMemory
+MayStop r input (stop.Line n why) = IsFirstWrong (lines_of input) n
+MayStop r input (stop.NoOutcome number) = HasFewerOutcomes r input number
+MayStop r input (stop.NoWait number) = r.wanted ≡ wanted.Wait number
+MayStop r input _ = Unit {0}

@@ -1,8 +1,8 @@
 //! The whole explorer as a function of its arguments, its input and its two outputs.
 ghost use Rattle.std.specs.Prelude.{◌≡◌, ◌⊎◌, IfErr, IfOk, MatchResult, None, Ok, Some, map, string_bytes};
-ghost use Rattle.app_explore.specs.Listings.{IsRefused, IsTold};
+ghost use Rattle.app_explore.specs.Listings.{MayStop, IsTold};
 ghost use Rattle.app_explore_text.specs.Requests.{IsRequest};
-ghost use Rattle.app_explore.specs.Commands.{IsEnd, IsExplored, IsStopOf};
+ghost use Rattle.app_explore.specs.Commands.{IsExplorerEnd, IsExplored, IsStopOf};
 ghost use Rattle.app_explore.specs.Stops.{IsSearchStop, search_stop, stop_status};
 
 use crate::faults::Stop;
@@ -27,7 +27,7 @@ pub fn command<A: Allocator, I: Read, O: Write, F: Write>(
     output: &mut O,
     faults: &mut F,
 ) -> u8
-    ensures end { IsEnd (map string_bytes args.now) (I.remaining input.old) (O.contents output.old) (O.contents output.new) result }
+    ensures end { IsExplorerEnd (map string_bytes args.now) (I.remaining input.old) (O.contents output.old) (O.contents output.new) result }
     ensures quiet { result ≡ 0 → faults.new ≡ faults.old }
 {
     match explore(alloc, args, input, output) {
@@ -84,7 +84,7 @@ pub fn told<'a, A: Allocator>(
     text: &[u8],
 ) -> Result<String<&'a A>, Stop>
     requires { IsRequest request }
-    ensures { MatchResult result (λ told. IsTold request text.now (string_bytes told)) (IsRefused request text.now) }
+    ensures { MatchResult result (λ told. IsTold request text.now (string_bytes told)) (MayStop request text.now) }
 {
     let program = match read_program(alloc, text) {
         Ok(program) => program,

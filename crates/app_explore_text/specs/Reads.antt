@@ -33,9 +33,9 @@ pub record IsFirstWrong (lines : List (List ℕ)) (n : ℕ) : Type 0 where
   pub wrong : IsWrong begun rest
 
 -- why no program was read
-abbrev pub IsReadFault : List (List ℕ) → ReadFault → Type 0
-IsReadFault lines (fault.Unreadable n why) = IsFirstWrong lines n
-IsReadFault lines fault.NoMemory = Unit {0}
+abbrev pub IsProgramFault : List (List ℕ) → ReadFault → Type 0
+IsProgramFault lines (fault.Unreadable n why) = IsFirstWrong lines n
+IsProgramFault lines fault.NoMemory = Unit {0}
 
 -- the first line is no line of calls before
 abbrev pub HasNoBefore : List (List ℕ) → Type 0

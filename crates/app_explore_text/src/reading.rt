@@ -4,7 +4,7 @@ ghost use Rattle.app_text.specs.Lines.{lines_of};
 ghost use Rattle.app_text.specs.Reading.{IsParsing};
 ghost use Rattle.app_explore_text.specs.Faults.{IsPartyFault};
 ghost use Rattle.app_explore_text.specs.Programs.{before_lines, party_line, IsBefore, IsPartyCalls};
-ghost use Rattle.app_explore_text.specs.Reads.{IsReadAs, IsReadFault, HasNoBefore};
+ghost use Rattle.app_explore_text.specs.Reads.{IsReadAs, IsProgramFault, HasNoBefore};
 
 use crate::calls::read_calls;
 use crate::faults::{LineFault, ReadFault};
@@ -23,7 +23,7 @@ use std::alloc::{AllocError, Allocator};
 pub fn read_program<A: Allocator + Copy>(alloc: A, text: &[u8]) -> Result<Program<A>, ReadFault>
     ensures { MatchResult result
         (λ program. IsReadAs (lines_of text.now) program.before program.parties.items)
-        (IsReadFault (lines_of text.now)) }
+        (IsProgramFault (lines_of text.now)) }
 {
     let Some((spelled, rest)) = line_before(text) else {
         return read_parties(alloc, Sequence::of(Vec::new(alloc)), text);
@@ -58,7 +58,7 @@ fn read_parties<A: Allocator + Copy>(
     requires single { before ≡ [] → HasNoBefore (lines_of text.now) }
     ensures { MatchResult result
         (λ program. IsReadAs (before_lines before ++ lines_of text.now) program.before program.parties.items)
-        (IsReadFault (before_lines before ++ lines_of text.now)) }
+        (IsProgramFault (before_lines before ++ lines_of text.now)) }
 {
     let taken = count_lines(&before);
     let mut parties = Vec::new(alloc);

@@ -8,7 +8,7 @@ use Rattle.app_text.specs.KindNames.{capacity_of}
 use Rattle.queue_steps.specs.Parties.{View}
 use Rattle.app_text.specs.declared.load.Load.{Load}
 use Rattle.law_parties.specs.Doings.{takes}
-use Rattle.app_threads.specs.Sharing.{IsAllOf, IsEnded, left_in}
+use Rattle.app_threads.specs.Sharing.{HasWholeParty, IsEnded, left_in}
 use Rattle.app_threads.specs.declared.counts.Finding.{Finding}
 use Rattle.app_threads.specs.declared.counts.Finding.TheVariants as finding
 use Rattle.app_threads.specs.declared.sharing.Sharing.{Sharing}
@@ -63,13 +63,13 @@ received_text l counts left = finding_text (judged l.pushers counts) ++ (codes "
 
 -- a line of what the counts of the load show on the queue that its threads shared
 abbrev pub IsCountsLine : Load → Sharing → List ℕ → Type 0
-IsCountsLine l (sharing.Counted s) text = IsAllOf (capacity_of l.kind) s × ((counts : List ℕ) × IsTally l s.party.view counts × (text ≡ counts_line l counts))
+IsCountsLine l (sharing.Counted s) text = HasWholeParty (capacity_of l.kind) s × ((counts : List ℕ) × IsTally l s.party.view counts × (text ≡ counts_line l counts))
 IsCountsLine l _ text = ⊥
 
 -- what came of the load out of the queue that its threads shared was counted, and what the counts show was written as a line
 abbrev pub IsCounted : Load → Sharing → Option (List ℕ) → Option (List ℕ) → Verdict → Type 0
 IsCounted l (sharing.Counted s) old new v =
-    IsAllOf (capacity_of l.kind) s × ((counts : List ℕ) × IsTally l s.party.view counts × Appends old new (counts_line l counts) × (v ≡ finding_verdict (judged l.pushers counts)))
+    HasWholeParty (capacity_of l.kind) s × ((counts : List ℕ) × IsTally l s.party.view counts × Appends old new (counts_line l counts) × (v ≡ finding_verdict (judged l.pushers counts)))
 IsCounted l _ old new v = ⊥
 
 -- that line for the load's channel, which its threads shared, and how many items its ends left in the queue

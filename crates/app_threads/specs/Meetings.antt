@@ -6,7 +6,7 @@ use Rattle.concurrent_queue.specs.Shared.{QueueId, Person, IsPartyOf}
 use Rattle.law_parties.specs.Doings.{takes}
 use Rattle.app_threads.specs.declared.handshake.Hands.{Hands}
 use Rattle.app_threads.specs.declared.handshake.Shaken.{Shaken}
-use Rattle.app_threads.specs.Sharing.{IsAllOf}
+use Rattle.app_threads.specs.Sharing.{HasWholeParty}
 use Rattle.app_threads.specs.declared.sharing.Sharing.{Sharing}
 use Rattle.app_threads.specs.declared.sharing.Sharing.TheVariants as sharing
 use Rattle.app_threads.specs.declared.verdict.Verdict.{Verdict}
@@ -44,7 +44,7 @@ pub record IsMeeting (there back : QueueId) (s : Shaken) : Type 0 where
 
 -- all parties of two queues, of one slot each, are joined
 abbrev pub HandsJoined : Sharing → Type 0
-HandsJoined (sharing.Met there back) = IsAllOf (Some 1) there × IsAllOf (Some 1) back
+HandsJoined (sharing.Met there back) = HasWholeParty (Some 1) there × HasWholeParty (Some 1) back
 HandsJoined _ = ⊥
 
 -- 1 was taken from the one queue, and 2 from the other

@@ -10,7 +10,7 @@ use Rattle.app_threads.specs.declared.sharing.EndedChannel.{EndedChannel}
 
 -- The queue is of this capacity. The party is one of this queue's, and has all of the share: all parties have become this one, what it has seen is the
 -- history of everything that was done, and every place of that is its own
-pub record IsAllOf (cap : Option ℕ) (s : Shared) : Type 0 where
+pub record HasWholeParty (cap : Option ℕ) (s : Shared) : Type 0 where
   pub of : IsPartyOf s.party s.queue
   pub capped : s.queue.cap ≡ cap
   pub seen : IsView cap s.party.view

@@ -8,7 +8,7 @@ ghost use Rattle.app_text.specs.KindNames.{IsKindName, IsLoad, capacity_of};
 ghost use Rattle.concurrent_queue.specs.Shared.{IsPartyOf};
 ghost use Rattle.law_parties.specs.Doings.{takes};
 ghost use Rattle.app_threads.specs.Counts.{IsCounted, IsCountsLine, counts_line, finding_verdict, judged};
-ghost use Rattle.app_threads.specs.Sharing.{IsAllOf};
+ghost use Rattle.app_threads.specs.Sharing.{HasWholeParty};
 ghost use Rattle.app_threads.specs.Verdicts.{IsOutputFault};
 
 use crate::counts::{Finding, judge};
@@ -93,7 +93,7 @@ fn count_all<R: Threads + Wait + Sync>(
 ) -> Result<(Shared, Vec<u64>), AllocError>
     requires { IsLoad load }
     ensures within { IfOk result (λ _. IfSome (capacity_of load.kind) (λ size. size ≤ MAX_CAPACITY)) }
-    ensures all { IfOk result (λ r. IsAllOf (capacity_of load.kind) r.0) }
+    ensures all { IfOk result (λ r. HasWholeParty (capacity_of load.kind) r.0) }
     ensures complete { IfOk result (λ r. length r.1.items ≡ load.items) }
     ensures taken { IfOk result (λ r. (x : ℕ) → x < load.items → get_or r.1.items x 0 ≡ takes x r.0.party.view) }
 {

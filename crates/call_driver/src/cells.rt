@@ -10,7 +10,8 @@ ghost use Rattle.queue_steps.specs.Sequential.{Owned};
 ghost use Rattle.queue_steps.specs.LookNext.{IsLoad};
 ghost use Rattle.call_driver.specs.Ends.{EndsRight};
 
-use queue_steps::steps::{Answer, Kind, KindSteps, Op, Touch};
+use call_steps::KindSteps;
+use queue_steps::steps::{Answer, Kind, Op, Touch};
 
 /// Where the steps of the calls of one owner are done.
 pub trait OwnCells<T, B: Copy> {

@@ -15,9 +15,10 @@ use crate::progress::Progress;
 use crate::retry::End;
 use crate::site::{SharedSite, Site};
 use crate::steps::end;
+use call_steps::KindSteps;
 use queue_steps::model::{Call, CallKind, Reply, ReplyKind};
 use queue_steps::sizes::WAIT_FREE_STEPS;
-use queue_steps::steps::{self, Answer, Kind, KindSteps, Local, Next};
+use queue_steps::steps::{Answer, Kind, Local, Next};
 use std::mem;
 use std::ops::ControlFlow;
 
@@ -32,7 +33,7 @@ pub fn begin<T, B: Copy, S, M: Site<T, B, S>>(
     ensures { (whole : SpecCall T) (n : ℕ) → call ≡ call_kind whole → suc n ≡ SOLO_STEPS → OnWay M.Site n result.0 call site.now seat.now whole result.1 (call_value whole) seat.now }
 {
     let kind = site.kind(seat);
-    let local: Local<B> = steps::start(kind, call);
+    let local: Local<B> = call_steps::start(kind, call);
     (
         kind,
         Progress {
@@ -146,7 +147,7 @@ pub fn drive_wait_free<T, B: Copy, S, M: SharedSite<T, B, S>, G: Gate>(
 {
     let kind = site.kind(seat);
     let (call, mut carried) = call.split();
-    let mut local: Local<B> = steps::start(kind, call);
+    let mut local: Local<B> = call_steps::start(kind, call);
     let mut answer: Answer<B> = Answer::Start;
     for _ in 0..WAIT_FREE_STEPS + 1 {
         let todo = M::Steps::next(kind, local, answer);

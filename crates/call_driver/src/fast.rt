@@ -8,12 +8,13 @@ use crate::gate::Gate;
 use crate::progress::Progress;
 use crate::site::Site;
 use crate::steps::{fast_step, passing_step};
-use queue_steps::model::{CallKind, ReplyKind};
-use queue_steps::steps::stages::{
+use call_steps::KindSteps;
+use call_steps::stages::{
     ASKING, AWAITING, CHAINING, CLAIMING, ENTERING, FOLLOWING, LAYING, OPENING, PASSING, PEEKING,
     PUSH_BLOCK, TAKING, is_at,
 };
-use queue_steps::steps::{Kind, KindSteps};
+use queue_steps::model::{CallKind, ReplyKind};
+use queue_steps::steps::Kind;
 use std::marker::PhantomData;
 use std::ops::ControlFlow;
 

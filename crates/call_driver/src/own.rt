@@ -11,9 +11,10 @@ use crate::fast::Usual;
 use crate::gate::Open;
 use crate::retry::Within;
 use crate::site::{Site, SoloSite};
+use call_steps::KindSteps;
 use queue_steps::model::{Call, CallKind, Reply, ReplyKind};
 use queue_steps::sizes::SOLO_STEPS;
-use queue_steps::steps::{self, Answer, Kind, KindSteps, Local, Next, Op, Touch};
+use queue_steps::steps::{Answer, Kind, Local, Next, Op, Touch};
 
 /// One owner. What the steps of its calls are done with is the cells themselves.
 pub struct Own;
@@ -125,7 +126,7 @@ pub fn observe<T, B: Copy, C: OwnCells<T, B>>(cells: &C, call: CallKind) -> Repl
     ensures { result ≡ look_reply (C.owned cells.now).queue call }
 {
     let kind = cells.kind();
-    let mut local: Local<B> = steps::start(kind, call);
+    let mut local: Local<B> = call_steps::start(kind, call);
     let mut answer: Answer<B> = Answer::Start;
     for _ in 0..SOLO_STEPS {
         let todo = C::Steps::next(kind, local, answer);

@@ -11,8 +11,9 @@ ghost use Rattle.queue_steps.specs.Kinds.{call_kind};
 ghost use Rattle.queue_steps.specs.WaitFree.{is_wait_free, EndsWaitFree};
 ghost use Rattle.call_driver.specs.Leads.{Begins, GoesOn};
 
+use call_steps::KindSteps;
 use queue_steps::model::CallKind;
-use queue_steps::steps::{Answer, Kind, KindSteps, Local, Op, Touch};
+use queue_steps::steps::{Answer, Kind, Local, Op, Touch};
 
 /// Where the steps of calls are done. `S` is what a step is done with: the cells of one owner, or a party's seat.
 pub trait Site<T, B: Copy, S> {

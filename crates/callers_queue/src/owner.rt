@@ -11,7 +11,7 @@ ghost use Rattle.queue_steps.specs.declared.steps.single.SingleLocal.TheVariants
 
 use exclusive_queue::model::Call;
 use exclusive_queue::steps::{Answer, Kind, Next};
-use exclusive_queue::{Exclusive, PushError, steps};
+use exclusive_queue::{Exclusive, PushError};
 use std::alloc::{AllocError, Allocator};
 
 /// Puts `value` through a queue of one slot, and gives what comes out of it.
@@ -57,8 +57,8 @@ pub fn one_of_two<A: Allocator + Clone>(
 pub fn first_step_of_a_pop() -> Next<()>
     ensures { result ≡ next.Step (local.Single (slot.Popping 2)) touch.Nothing (op.Exchange word.Lock 2 1) }
 {
-    let local = steps::start(Kind::Single, Call::Pop);
-    steps::next(Kind::Single, local, Answer::Start)
+    let local = call_steps::start(Kind::Single, Call::Pop);
+    call_steps::next(Kind::Single, local, Answer::Start)
 }
 
 /// Takes the front of a queue that has an item.

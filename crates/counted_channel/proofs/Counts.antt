@@ -11,7 +11,7 @@ use Rattle.queue_steps.proofs.ShareLaws.{part_weight, weight_halves, weight_none
 use Rattle.counted_channel.specs.declared.counting.Side.{Side}
 use Rattle.counted_channel.specs.declared.counting.SeatCounts.{SeatCounts}
 use Rattle.counted_channel.specs.declared.counting.TheConstants.{MAX_ENDS}
-use Rattle.counted_channel.specs.Counting.{side, nobody, both, at_side, side_at, stake_at, halved, two_seats, both_sides, first_sender, first_receiver, SideKept, Table, Seated, IsCounted, IsEnd, Added, Subtracted}
+use Rattle.counted_channel.specs.Counting.{side, nobody, both, at_side, side_at, stake_at, halved, two_seats, both_sides, first_sender, first_receiver, SideKept, Table, Seated, IsCounted, IsEndSeat, Added, Subtracted}
 use Rattle.counted_channel.proofs.OneSide.{total_at, ends, extra, stake, heft, changes, stays, divides, unites, few, solo}
 
 up : (n : ℕ) → n ≤ 2 * MAX_ENDS → (n + 1) % 2 ^ 64 ≡ n + 1
@@ -85,7 +85,7 @@ one_there s c i id v x lt at is =
 same_sides : (i : ℕ) (v : SeatCounts) (x y : Side) → v ≡ at_side i x → v ≡ at_side i y → x ≡ y
 same_sides i v x y a b = sym (same_side i x) ∙ (ap (side_at i) (sym a ∙ b) ∙ same_side i y)
 
-pub adds : (slots id : ℕ) (m : Seated) (i : ℕ) → i < 2 → IsEnd i m → Allows IsCounted slots id m i (λ n. (n + 1) % 2 ^ 64) (Added (step slots i 1 0 none) m)
+pub adds : (slots id : ℕ) (m : Seated) (i : ℕ) → i < 2 → IsEndSeat i m → Allows IsCounted slots id m i (λ n. (n + 1) % 2 ^ 64) (Added (step slots i 1 0 none) m)
 adds slots id m i lt is s c _ at _ =
     let n : ℕ = word_at i s in let t : Share = stake_at i m.0 in let x : Side = side 1 0 t in
     let me : m.0 ≡ at_side i x = ap (λ z. z.0) is in
@@ -136,7 +136,7 @@ withdraws slots id m i t lt either s c _ at _ = ⊎_elim (λ me. lowers (side 1 
         )
 
 -- the seat of an end that is no more lowers its word
-pub leaves : (slots id : ℕ) (m : Seated) (i : ℕ) → i < 2 → IsEnd i m → Allows IsCounted slots id m i (λ n. (n + (2 ^ 64 - 1)) % 2 ^ 64) (Subtracted (step slots i 1 0 none) m)
+pub leaves : (slots id : ℕ) (m : Seated) (i : ℕ) → i < 2 → IsEndSeat i m → Allows IsCounted slots id m i (λ n. (n + (2 ^ 64 - 1)) % 2 ^ 64) (Subtracted (step slots i 1 0 none) m)
 leaves slots id m i lt is s c _ at _ =
     let n : ℕ = word_at i s in let t : Share = stake_at i m.0 in let x : Side = side 1 0 t in let y : Side = side 0 0 t in
     let me : m.0 ≡ at_side i x = ap (λ z. z.0) is in

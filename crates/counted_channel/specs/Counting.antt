@@ -86,8 +86,8 @@ pub record IsCounted (s : Table) : Type 0 where
   pub receivers : SideKept (λ v. v.receivers) received s.views
 
 -- the seat of one end of the side whose word it is
-abbrev pub IsEnd : ℕ → Seated → Type 0
-IsEnd i m = m ≡ (at_side i (side 1 0 (stake_at i m.0)), [])
+abbrev pub IsEndSeat : ℕ → Seated → Type 0
+IsEndSeat i m = m ≡ (at_side i (side 1 0 (stake_at i m.0)), [])
 
 -- the seat m is parted, and n is one of the two seats that it becomes
 abbrev pub IsHalfEnd : ℕ → Seated → Seated → Type 0

@@ -1,7 +1,7 @@
 //! The table of a channel: two words, which count its senders and its receivers.
 ghost use Rattle.std.specs.Prelude.{[], true, ◌≡◌, ◌<◌, IfOk, MatchBool, MatchOption};
 ghost use Rattle.queue_steps.specs.Shares.{entire, plus, IsEntire, IsPart};
-ghost use Rattle.counted_channel.specs.Counting.{side, at_side, stake_at, IsEnd, IsHalfEnd};
+ghost use Rattle.counted_channel.specs.Counting.{side, at_side, stake_at, IsEndSeat, IsHalfEnd};
 
 use atomic_table::{Join, Play, Seat, Shared, Split, Table, TableRule};
 use std::alloc::{AllocError, Allocator};
@@ -119,7 +119,7 @@ pub(crate) fn open<A: Allocator>(alloc: A) -> Result<(Counts<A>, EndSeat, EndSea
 /// Counts one end more, where there may be one, and gives whether there may.
 fn enter(words: &Words, place: &mut EndSeat, word: usize) -> bool
     requires table { (place.old.table_id ≡ words.now.table_id) × (words.now.table_id.words ≡ 2) × (word < 2) }
-    requires one { IsEnd word place.old.me }
+    requires one { IsEndSeat word place.old.me }
     ensures same { (place.new.table_id ≡ place.old.table_id) × (place.new.id ≡ place.old.id) }
     ensures counted { MatchBool result (place.new.me ≡ (at_side word (side 2 0 (stake_at word place.old.me.0)), [])) (place.new.me ≡ place.old.me) }
 {
@@ -133,7 +133,7 @@ fn enter(words: &Words, place: &mut EndSeat, word: usize) -> bool
 /// Parts the seat of an end in two, where there may be one more end of its side.
 pub(crate) fn part(words: &Words, place: &mut EndSeat, word: usize) -> Option<EndSeat>
     requires table { (place.old.table_id ≡ words.now.table_id) × (words.now.table_id.words ≡ 2) × (word < 2) }
-    requires one { IsEnd word place.old.me }
+    requires one { IsEndSeat word place.old.me }
     ensures same { place.new.table_id ≡ place.old.table_id }
     ensures parted { MatchOption result
         (place.new.me ≡ place.old.me)
@@ -148,7 +148,7 @@ pub(crate) fn part(words: &Words, place: &mut EndSeat, word: usize) -> Option<En
 /// Counts one end less, and gives whether it was the last of its side.
 pub(crate) fn leave(words: &Words, mut place: EndSeat, word: usize) -> bool
     requires table { (place.table_id ≡ words.now.table_id) × (words.now.table_id.words ≡ 2) × (word < 2) }
-    requires one { IsEnd word place.me }
+    requires one { IsEndSeat word place.me }
     ensures { IsEntire (stake_at word place.me.0) → result ≡ true }
 {
     words.fetch_sub::<Subtract>(&mut place, word, 1) == 1
@@ -157,7 +157,7 @@ pub(crate) fn leave(words: &Words, mut place: EndSeat, word: usize) -> bool
 /// Makes one seat of the seats of two ends of a side, and counts one end less. It has the stakes of both, which are no more than one.
 pub(crate) fn unite(words: &Words, place: &mut EndSeat, other: EndSeat, word: usize)
     requires table { (place.old.table_id ≡ words.now.table_id) × (other.table_id ≡ words.now.table_id) × (words.now.table_id.words ≡ 2) × (word < 2) }
-    requires ends { IsEnd word place.old.me × IsEnd word other.me }
+    requires ends { IsEndSeat word place.old.me × IsEndSeat word other.me }
     ensures same { place.new.table_id ≡ place.old.table_id }
     ensures both { place.new.me ≡ (at_side word (side 1 0 (plus (stake_at word place.old.me.0) (stake_at word other.me.0))), []) }
     ensures part { IsPart (plus (stake_at word place.old.me.0) (stake_at word other.me.0)) }

@@ -48,13 +48,13 @@ pub struct Sender<T> {
 
 impl<T> Model for Sender<T> {
     ghost use Rattle.counted_channel.specs.Channel.{End, end_at};
-    ghost use Rattle.counted_channel.specs.Counting.{IsEnd};
+    ghost use Rattle.counted_channel.specs.Counting.{IsEndSeat};
 
     ghost Value = { End T };
 
     ghost view = { λ s. end_at 0 s.end.party s.end.place.table_id s.end.place.me.0 };
 
-    ghost invariant = { λ s. IsEnd 0 s.end.place.me };
+    ghost invariant = { λ s. IsEndSeat 0 s.end.place.me };
 }
 
 /// An end that receives. It has a party of the queue.
@@ -67,13 +67,13 @@ pub struct Receiver<T> {
 
 impl<T> Model for Receiver<T> {
     ghost use Rattle.counted_channel.specs.Channel.{End, end_at};
-    ghost use Rattle.counted_channel.specs.Counting.{IsEnd};
+    ghost use Rattle.counted_channel.specs.Counting.{IsEndSeat};
 
     ghost Value = { End T };
 
     ghost view = { λ r. end_at 1 r.end.party r.end.place.table_id r.end.place.me.0 };
 
-    ghost invariant = { λ r. IsEnd 1 r.end.place.me };
+    ghost invariant = { λ r. IsEndSeat 1 r.end.place.me };
 }
 
 impl<T> Sender<T> {

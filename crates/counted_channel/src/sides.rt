@@ -3,7 +3,7 @@ ghost use Rattle.std.specs.Prelude.{◌≡◌, ◌<◌, true, MatchResult};
 ghost use Rattle.queue_steps.specs.Shares.{IsEntire};
 ghost use Rattle.concurrent_queue.specs.Shared.{IsPartyOf};
 ghost use Rattle.counted_channel.specs.Channel.{EndParts, EndJoins, Ends, GivenBack, end_at};
-ghost use Rattle.counted_channel.specs.Counting.{IsEnd, stake_at};
+ghost use Rattle.counted_channel.specs.Counting.{IsEndSeat, stake_at};
 
 use crate::counting::{EndSeat, Words, leave, part, unite};
 use concurrent_queue::{ConcurrentQueue, Party};
@@ -24,8 +24,8 @@ pub(crate) fn split_end<T, A: Allocator>(
     word: usize,
 ) -> Result<(SideEnd<T>, SideEnd<T>), SideEnd<T>>
     requires table { (end.place.table_id ≡ words.now.table_id) × (words.now.table_id.words ≡ 2) × (word < 2) }
-    requires end { IsPartyOf end.party queue.now × IsEnd word end.place.me }
-    ensures ends { MatchResult result (λ r. IsEnd word r.0.place.me × IsEnd word r.1.place.me) (λ e. IsEnd word e.place.me) }
+    requires end { IsPartyOf end.party queue.now × IsEndSeat word end.place.me }
+    ensures ends { MatchResult result (λ r. IsEndSeat word r.0.place.me × IsEndSeat word r.1.place.me) (λ e. IsEndSeat word e.place.me) }
     ensures parted { MatchResult result
         (λ r. EndParts (end_at word end.party end.place.table_id end.place.me.0) (end_at word r.0.party r.0.place.table_id r.0.place.me.0) (end_at word r.1.party r.1.place.table_id r.1.place.me.0))
         (λ e. GivenBack (end_at word end.party end.place.table_id end.place.me.0) (end_at word e.party e.place.table_id e.place.me.0)) }
@@ -62,9 +62,9 @@ pub(crate) fn join_ends<T, A: Allocator>(
     word: usize,
 ) -> SideEnd<T>
     requires table { (first.place.table_id ≡ words.now.table_id) × (second.place.table_id ≡ words.now.table_id) × (words.now.table_id.words ≡ 2) × (word < 2) }
-    requires first { IsPartyOf first.party queue.now × IsEnd word first.place.me }
-    requires second { IsPartyOf second.party queue.now × IsEnd word second.place.me }
-    ensures end { IsEnd word result.place.me }
+    requires first { IsPartyOf first.party queue.now × IsEndSeat word first.place.me }
+    requires second { IsPartyOf second.party queue.now × IsEndSeat word second.place.me }
+    ensures end { IsEndSeat word result.place.me }
     ensures joined { EndJoins (end_at word first.party first.place.table_id first.place.me.0) (end_at word second.party second.place.table_id second.place.me.0) (end_at word result.party result.place.table_id result.place.me.0) }
 {
     let SideEnd { party, mut place } = first;
@@ -83,7 +83,7 @@ pub(crate) fn end_one<T, A: Allocator>(
     word: usize,
 ) -> (Party<T>, bool)
     requires table { (end.place.table_id ≡ words.now.table_id) × (words.now.table_id.words ≡ 2) × (word < 2) }
-    requires end { IsPartyOf end.party queue.now × IsEnd word end.place.me }
+    requires end { IsPartyOf end.party queue.now × IsEndSeat word end.place.me }
     ensures party { Ends end.party result.0 result.1 }
     ensures last { IsEntire (stake_at word end.place.me.0) → result.1 ≡ true }
 {

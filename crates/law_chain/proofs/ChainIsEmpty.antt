@@ -4,7 +4,7 @@ use Rattle.std.proofs.lemmas.Bool.Decides.{eqb_tells}
 use Rattle.queue_steps.specs.State.{State}
 use Rattle.queue_steps.specs.Replies.{is_empty}
 use Rattle.queue_steps.specs.Words.{IsWord, position_of}
-use Rattle.queue_steps.specs.ChainWords.{items_before, settled, offset_at}
+use Rattle.queue_steps.specs.ChainWords.{items_before, over_end, offset_at}
 use Rattle.queue_steps.specs.UnboundedNext.{unbounded_next}
 use Rattle.queue_steps.specs.declared.sizes.TheConstants.{BLOCK_SLOTS}
 use Rattle.queue_steps.specs.declared.model.Call.TheVariants as call
@@ -19,7 +19,7 @@ use Rattle.law_chain.proofs.ChainAnswers.{tail_items, tail_small}
 use Rattle.law_chain.proofs.ChainGood.{Goes, Good, still}
 
 -- a settled position is that of its items
-settled_place : (p : ℕ) → settled p ≡ place (items_before p)
+settled_place : (p : ℕ) → over_end p ≡ place (items_before p)
 settled_place p = elim (eqb_tells (offset_at p) BLOCK_SLOTS) [ inl t ↦ rw t.0 (let e = t.1 in omega arith) | inr t ↦ rw t.0 (let e = t.1 in omega arith) ]
 
 none_is : {A : Type 0} (xs : List A) → length xs ≡ 0 → true ≡ is_empty xs
@@ -33,9 +33,9 @@ some_is (x ∷ xs) e = refl
 pub good_empty_tail : {A : Type 0} (c : Chain A) (who : ℕ) (ms : List (State A)) (h : ℕ) → ChainOk c → Holds c who Nothing → IsWord h → SawEmpty (items_before (position_of h)) c ms
     → Good c c who ms (chain.EmptyTail h) None call.IsEmpty [] (answer.Found (tail_word c))
 good_empty_tail {A} c who ms h ok none small saw =
-    still c who ms (chain.EmptyTail h) None call.IsEmpty [] (answer.Found (tail_word c)) refl ok (small, tail_small c ok) (go (eqb_tells (settled (position_of (tail_word c))) (settled (position_of h))))
+    still c who ms (chain.EmptyTail h) None call.IsEmpty [] (answer.Found (tail_word c)) refl ok (small, tail_small c ok) (go (eqb_tells (over_end (position_of (tail_word c))) (over_end (position_of h))))
   where
-    go : (((settled (position_of (tail_word c)) == settled (position_of h)) ≡ true) × (settled (position_of (tail_word c)) ≡ settled (position_of h))) ⊎ (((settled (position_of (tail_word c)) == settled (position_of h)) ≡ false) × (settled (position_of (tail_word c)) ≢ settled (position_of h)))
+    go : (((over_end (position_of (tail_word c)) == over_end (position_of h)) ≡ true) × (over_end (position_of (tail_word c)) ≡ over_end (position_of h))) ⊎ (((over_end (position_of (tail_word c)) == over_end (position_of h)) ≡ false) × (over_end (position_of (tail_word c)) ≢ over_end (position_of h)))
         → Goes c who (queue_of c ∷ ms) (unbounded_next (chain.EmptyTail h) (answer.Found (tail_word c))) None call.IsEmpty []
     go (inl e) =
         let same : place c.tail ≡ place (items_before (position_of h)) = ap place (sym (tail_items c ok)) ∙ (sym (settled_place (position_of (tail_word c))) ∙ (e.1 ∙ settled_place (position_of h))) in

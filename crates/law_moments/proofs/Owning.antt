@@ -11,7 +11,7 @@ use Rattle.queue_steps.specs.declared.errors.ForcePushError.TheVariants as force
 use Rattle.queue_steps.specs.Replies.{Tells}
 use Rattle.queue_steps.specs.Effect.{rest}
 use Rattle.law_moments.specs.Moments.{displacements, others}
-use Rattle.law_moments.specs.Entries.{Entry, front_first, fronts_at, other_entries, settle_first, settle, SeesNoMove, ClosesWithin, own_of}
+use Rattle.law_moments.specs.Entries.{Entry, front_first, fronts_at, other_entries, settle_first, settle, SeesNoMove, KeepsFronts, own_of}
 use Rattle.law_moments.proofs.Naming.{entry}
 use Rattle.law_moments.proofs.Choosing.{bool_or, chosen_yes, chosen_not, chosen_append, chosen_others, keeps_plain, drops_part}
 
@@ -77,7 +77,7 @@ module _ {T : Type 0} where
       chosen_append (passes own) (fronts_at n xs) (x ∷ other_entries xs) ∙ (λ i. (own_fronts own n xs (still refl) ∙ here) i ++ keeps_plain (passes own) x (other_entries xs) xs (λ l. refl) (chosen_others (passes own) xs) i)
   other_named own n p effect.SelfClose xs none still is = keeps_plain (passes own) (entry n p effect.SelfClose) (settle xs) xs (λ l. refl) (is (drops_other own (entry n p effect.SelfClose) xs (λ l. refl) ∙ none))
 
-  own_others : (own : ℕ → ℕ → Bool) (xs : List (Entry T)) → ClosesWithin own xs → displacements (own_of own xs) ≡ [] → own_of own (settle xs) ≡ others (own_of own xs)
+  own_others : (own : ℕ → ℕ → Bool) (xs : List (Entry T)) → KeepsFronts own xs → displacements (own_of own xs) ≡ [] → own_of own (settle xs) ≡ others (own_of own xs)
   own_others own [] within none = refl
   own_others own (x ∷ xs) within none = other_named own x.event x.party x.effect xs none within.0 (own_others own xs within.1)
 
@@ -107,7 +107,7 @@ module _ {T : Type 0} where
       chosen_append (passes own) (fronts_at n xs) (x ∷ other_entries xs) ∙ ((λ i. own_fronts own n xs (still refl) i ++ rest i) ∙ (append-nil (displacements (own_of own xs)) ∙ drops_other own x xs (λ l. refl)))
   front_named own n p effect.SelfClose xs none still is = passed_by own (entry n p effect.SelfClose) xs (λ l. refl) none is
 
-  own_displacements : (own : ℕ → ℕ → Bool) (xs : List (Entry T)) → ClosesWithin own xs → others (own_of own xs) ≡ [] → own_of own (settle xs) ≡ displacements (own_of own xs)
+  own_displacements : (own : ℕ → ℕ → Bool) (xs : List (Entry T)) → KeepsFronts own xs → others (own_of own xs) ≡ [] → own_of own (settle xs) ≡ displacements (own_of own xs)
   own_displacements own [] within none = refl
   own_displacements own (x ∷ xs) within none = front_named own x.event x.party x.effect xs none within.0 (own_displacements own xs within.1)
 
@@ -170,7 +170,7 @@ module _ {T : Type 0} where
       let all : x ∷ y ∷ es ≡ effect.Front f.0 f.1 ∷ effect.Arrive ∷ [] = (λ i. front i ∷ arrive i ∷ none i) in
       inr (ap others all, ap displacements all ∙ sym f.2)
 
-  pub own_begun : (own : ℕ → ℕ → Bool) (H : List (Entry T)) (c : Call T) (r : Reply T) (more : List (Effect T)) → ClosesWithin own H → Tells c r (own_of own H ++ more)
+  pub own_begun : (own : ℕ → ℕ → Bool) (H : List (Entry T)) (c : Call T) (r : Reply T) (more : List (Effect T)) → KeepsFronts own H → Tells c r (own_of own H ++ more)
       → (rest : List (Effect T)) × Tells c r (own_of own (settle H) ++ rest)
   own_begun own H c r more within t =
       elim (part_of (own_of own H) more (is_few c r (own_of own H ++ more) t)) [
@@ -178,7 +178,7 @@ module _ {T : Type 0} where
         | inr part ↦ ([], subst (Tells c r) (sym (append-nil (own_of own (settle H)) ∙ (own_displacements own H within part.0 ∙ part.1))) t)
       ]
 
-  pub own_same : (own : ℕ → ℕ → Bool) (H : List (Entry T)) (c : Call T) (r : Reply T) → ClosesWithin own H → Tells c r (own_of own H) → own_of own (settle H) ≡ own_of own H
+  pub own_same : (own : ℕ → ℕ → Bool) (H : List (Entry T)) (c : Call T) (r : Reply T) → KeepsFronts own H → Tells c r (own_of own H) → own_of own (settle H) ≡ own_of own H
   own_same own H c r within t =
       elim (part_of (own_of own H) [] (is_few c r (own_of own H ++ []) (subst (Tells c r) (sym (append-nil (own_of own H))) t))) [
         | inl part ↦ own_others own H within part.0 ∙ part.1

@@ -17,7 +17,7 @@ use Rattle.queue_steps.specs.declared.model.Effect.TheVariants as effect
 use Rattle.queue_steps.specs.Parties.{View, StandAt, Displaces, SharedCall}
 use Rattle.queue_steps.proofs.Places.{below_at}
 use Rattle.law_moments.specs.Moments.{arrived, displacements}
-use Rattle.law_moments.specs.Entries.{Entry, chosen, effects_in, state_before, SeesNoMove, ClosesWithin, own_of, SettlesInto}
+use Rattle.law_moments.specs.Entries.{Entry, chosen, effects_in, state_before, SeesNoMove, KeepsFronts, own_of, SettlesInto}
 use Rattle.law_moments.specs.Shared.{numbered, settled_history, is_one_of, is_own, CallsAtOnce, SharedCallsAtOnce}
 use Rattle.law_moments.proofs.Naming.{Rising}
 use Rattle.law_moments.proofs.Choosing.{bool_or, chosen_yes, chosen_not}
@@ -222,7 +222,7 @@ module _ {T : Type 0} where
   )
 
   closes_within : (own : ℕ → ℕ → Bool) (h : List (Effect T)) → ((q k : ℕ) (old v : T) → get_elem? h q ≡ some (effect.Front old v) → get_elem? h k ≡ some effect.Close → k < q → own q k ≡ own q q)
-      → (m : ℕ) (xs : List (Entry T)) → Rising m xs → AllByRecursion (Placed h) xs → ClosesWithin own xs
+      → (m : ℕ) (xs : List (Entry T)) → Rising m xs → AllByRecursion (Placed h) xs → KeepsFronts own xs
   closes_within own h alike m [] up all = tt
   closes_within own h alike m (x ∷ xs) up all =
       (λ is. fronts_alike own h alike x (all.0.there ∙ ap some is) (x.event + 1) xs (omega arith) up.1 all.1, closes_within own h alike (x.event + 1) xs up.1 all.1)
@@ -260,7 +260,7 @@ module _ {T : Type 0} where
             ap (λ (t : Bool). is_one_of s.places q && t) (within_all a b k past (omega (arith, lt, here.1)) ∙ sym (within_all a b q here.0 here.1))
         | inr none ↦ (λ i. none i && (nat_le a k && nat_lt k b)) ∙ sym (λ i. none i && (nat_le a q && nat_lt q b))
       ] in
-      let within : ClosesWithin own (numbered 0 h) = closes_within own h alike 0 (numbered 0 h) (numbered_rising 0 h) all in
+      let within : KeepsFronts own (numbered 0 h) = closes_within own h alike 0 (numbered 0 h) (numbered_rising 0 h) all in
       let places : own_of own (numbered 0 h) ≡ s.effects =
       chosen_same (λ x. own x.party x.event) (at_places s.places) (numbered 0 h) (own_places a b s.places 0 h inside)
       ∙ places_hold h 0 [] h s.places s.effects refl refl (stand_lower h a s.places s.effects at_h) in

@@ -64,9 +64,9 @@ abbrev pub SeesNoMove : {T : Type 0} → (ℕ → ℕ → Bool) → ℕ → List
 SeesNoMove {T} own n xs = AllByRecursion (λ x. (old v : T) → x.effect ≡ effect.Front old v → own x.party n ≡ own x.party x.event) xs
 
 -- no front of the call stands behind a close that is no part of it, nor one of another behind a close within it
-abbrev pub ClosesWithin : {T : Type 0} → (ℕ → ℕ → Bool) → List (Entry T) → Type 0
-ClosesWithin own [] = Unit {0}
-ClosesWithin own (x ∷ xs) = (x.effect ≡ effect.Close → SeesNoMove own x.event xs) × ClosesWithin own xs
+abbrev pub KeepsFronts : {T : Type 0} → (ℕ → ℕ → Bool) → List (Entry T) → Type 0
+KeepsFronts own [] = Unit {0}
+KeepsFronts own (x ∷ xs) = (x.effect ≡ effect.Close → SeesNoMove own x.event xs) × KeepsFronts own xs
 
 -- the effects of a call: those of its party at its events
 abbrev pub own_of : {T : Type 0} → (ℕ → ℕ → Bool) → List (Entry T) → List (Effect T)
@@ -80,8 +80,8 @@ pub record SettlesInto {T : Type 0} (cap : Option ℕ) (H S : List (Entry T)) : 
   pub calm : (n : ℕ) → (state_before cap S n).coming ≡ None
   pub in_order : AllPairs (λ x y. x.event ≤ y.event) S
   pub left : after cap (effects_in S) ≡ arrived (after cap (effects_in H))
-  pub own : (own : ℕ → ℕ → Bool) (c : Call T) (r : Reply T) → ClosesWithin own H → Tells c r (own_of own H) → own_of own S ≡ own_of own H
-  pub begun : (own : ℕ → ℕ → Bool) (c : Call T) (r : Reply T) (more : List (Effect T)) → ClosesWithin own H → Tells c r (own_of own H ++ more) → (rest : List (Effect T)) × Tells c r (own_of own S ++ rest)
+  pub own : (own : ℕ → ℕ → Bool) (c : Call T) (r : Reply T) → KeepsFronts own H → Tells c r (own_of own H) → own_of own S ≡ own_of own H
+  pub begun : (own : ℕ → ℕ → Bool) (c : Call T) (r : Reply T) (more : List (Effect T)) → KeepsFronts own H → Tells c r (own_of own H ++ more) → (rest : List (Effect T)) × Tells c r (own_of own S ++ rest)
   pub right : (n : ℕ) (c : Call T) (r : Reply T) → Allows c r (state_before cap H n) → (IsGlance c → (state_before cap H n).coming ≡ None) → Allows c r (state_before cap S n)
 
 abbrev pub HistoriesSettle : Type 0 → Type 0

@@ -10,7 +10,7 @@ use Rattle.queue_steps.specs.Effect.{IsHistory, after}
 use Rattle.queue_steps.specs.Replies.{Allows}
 use Rattle.queue_steps.specs.Sequential.{Owned, fresh, SequentialRun}
 use Rattle.law_moments.specs.Moments.{IsAtOnce, settled}
-use Rattle.law_moments.specs.Entries.{ClosesWithin, own_of, state_before}
+use Rattle.law_moments.specs.Entries.{KeepsFronts, own_of, state_before}
 use Rattle.law_moments.specs.Shared.{numbered, settled_history, is_own}
 use Rattle.law_moments.specs.Orders.{calls_of, replies_of, one_by_one}
 
@@ -57,7 +57,7 @@ pub record Examples : Type 0 where
   pub left_behind_a_close : ¬ (IsAtOnce (Some 2) closing)
   -- a call that begins at the close has its displacement within it there; one that begins behind it has not, and is none that may be so
   pub begun_at_the_close : own_of (is_own (3 ∷ 4 ∷ []) 2 5) (settled_history closing) ≡ effect.Front 1 3 ∷ effect.Arrive ∷ []
-  pub begun_behind_the_close : (own_of (is_own (3 ∷ 4 ∷ []) 3 5) (settled_history closing) ≡ []) × ¬ (ClosesWithin (is_own (3 ∷ 4 ∷ []) 3 5) (numbered 0 closing))
+  pub begun_behind_the_close : (own_of (is_own (3 ∷ 4 ∷ []) 3 5) (settled_history closing) ≡ []) × ¬ (KeepsFronts (is_own (3 ∷ 4 ∷ []) 3 5) (numbered 0 closing))
   -- `len` is right to answer 1 of the full ring in the middle of a displacement, and nowhere once that is one moment: at no place from the second item on, and in no order of the calls
   pub len_in_the_middle : Allows call.Len (reply.Len 1) (state_before (Some 2) (numbered 0 displacing) 3)
   pub len_nowhere : (n : ℕ) → ¬ (Allows call.Len (reply.Len 1) (state_before (Some 2) (settled_history displacing) (2 + n)))

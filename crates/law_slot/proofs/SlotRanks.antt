@@ -66,13 +66,13 @@ step_falls (look_at look.IsFull) st = tt
 step_falls (look_at look.Len) st = tt
 
 -- the call ends
-abbrev pub IsEnd : Next ℕ → Type 0
-IsEnd (next.Step l t o) = ⊥
-IsEnd (next.Reply x spare) = Unit {0}
+abbrev pub IsReplying : Next ℕ → Type 0
+IsReplying (next.Step l t o) = ⊥
+IsReplying (next.Reply x spare) = Unit {0}
 
 -- a wait-free call replies at each step
 pub wait_free_ends : {T : Type 0} {l : Local ℕ} {t : Touch} {o : Op ℕ} {v : Option T} {own : SlotHolder T} {k : Call T} {es : List (Effect T)} (word : ℕ) (slot : Option T)
-    → At l t o v own k es → is_wait_free k ≡ true → IsEnd (next_of kind.Single l (answered (touched (one_slot word slot) t v) o))
+    → At l t o v own k es → is_wait_free k ≡ true → IsReplying (next_of kind.Single l (answered (touched (one_slot word slot) t v) o))
 wait_free_ends word slot (push_try v) e = cc
 wait_free_ends word slot (push_put v) e = cc
 wait_free_ends word slot (force_try_empty v) e = cc

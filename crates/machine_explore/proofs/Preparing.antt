@@ -12,7 +12,7 @@ use Rattle.machine_steps.specs.declared.types.Event.{Event}
 use Rattle.machine_steps.specs.declared.types.Event.TheVariants.{Begin, Step}
 use Rattle.machine_steps.specs.declared.types.Told.{Told}
 use Rattle.machine_steps.specs.declared.types.Told.TheVariants.{Skipped, Ran}
-use Rattle.machine_explore.specs.Explored.{IsAlone, begun_by}
+use Rattle.machine_explore.specs.Explored.{IsPreparing, begun_by}
 use Rattle.machine_explore.specs.Moves.{call_in}
 use Rattle.machine_replay.specs.Played.{told_by, world_by}
 use Rattle.machine_explore.proofs.Reaching.{begun-own, begun-skipped}
@@ -38,7 +38,7 @@ ran-told : {T : Type 0} (t : Told T) (k : Option EffectKind) (r : Option (Reply 
 ran-told t k r e s = let both : Ran k r ≡ Skipped = sym e ∙ s in cc
 
 -- two events of party 0 that go on from the same world are the same
-same_event : {R T : Type 0} (o : Option R) (e f : Event T) (t u : Told T) (before r1 r2 : List (Call T)) → IsAlone e → IsAlone f → CanTake o e → CanTake o f → t ≢ Skipped → u ≢ Skipped
+same_event : {R T : Type 0} (o : Option R) (e f : Event T) (t u : Told T) (before r1 r2 : List (Call T)) → IsPreparing e → IsPreparing f → CanTake o e → CanTake o f → t ≢ Skipped → u ≢ Skipped
     → call_in e t ++ r1 ≡ before → call_in f u ++ r2 ≡ before → e ≡ f
 same_event (Some r) (Step p g) (Step q h) t u before r1 r2 a b can1 can2 ran1 ran2 x y = rw (a.0, a.1, b.0, b.1) refl
 same_event None (Begin p c) (Begin q d) t u before r1 r2 a b can1 can2 ran1 ran2 x y =
@@ -55,14 +55,14 @@ same_event None (Begin p c) (Step q h) t u before r1 r2 a b can1 can2 ran1 ran2 
 module _ {S R T : Type 0} (step : Bool → S → R → Made S R T) (start : Call T → Begun R T) where
   -- from w on party 0, alone, makes these calls, and is between calls then
   pub record PreparesBy (w : World S R) (before : List (Call T)) (events : List (Event T)) : Type 0 where
-    pub alone : All IsAlone events
+    pub alone : All IsPreparing events
     pub begins : begun_by 0 events (told_by step start w events) ≡ before
     pub rests : call_at (world_by step start w events) 0 ≡ None
 
   -- past an event that was skipped
   prepares-skipped : (w : World S R) (before : List (Call T)) (e : Event T) (es : List (Event T)) → world_event step start w true e ≡ (w, Skipped) → PreparesBy w before (e ∷ es) → PreparesBy w before es
   prepares-skipped w before e es skips all = record {
-    alone = All-tail IsAlone e es all.alone;
+    alone = All-tail IsPreparing e es all.alone;
     begins = sym (begun-skipped e es (told_by step start w es) 0) ∙ ap (λ m. begun_by 0 (e ∷ es) (m.1 ∷ told_by step start m.0 es)) (sym skips) ∙ all.begins;
     rests = ap (λ m. call_at (world_by step start m.0 es) 0) (sym skips) ∙ all.rests;
   }
@@ -74,15 +74,15 @@ module _ {S R T : Type 0} (step : Bool → S → R → Made S R T) (start : Call
   prepares-on : (w : World S R) (before rest : List (Call T)) (e : Event T) (es : List (Event T)) → PreparesBy w before (e ∷ es) → call_in e (world_event step start w true e).1 ++ rest ≡ before
       → PreparesBy (world_event step start w true e).0 rest es
   prepares-on w before rest e es all left = record {
-    alone = All-tail IsAlone e es all.alone;
+    alone = All-tail IsPreparing e es all.alone;
     begins = append_cancel_left (call_in e (world_event step start w true e).1) _ rest
-        (sym (party_zero e (world_event step start w true e).1 es (told_by step start (world_event step start w true e).0 es) (All-head IsAlone e es all.alone).0) ∙ all.begins ∙ sym left);
+        (sym (party_zero e (world_event step start w true e).1 es (told_by step start (world_event step start w true e).0 es) (All-head IsPreparing e es all.alone).0) ∙ all.begins ∙ sym left);
     rests = all.rests;
   }
 
   first_left : (w : World S R) (before : List (Call T)) (e : Event T) (es : List (Event T)) → PreparesBy w before (e ∷ es)
       → call_in e (world_event step start w true e).1 ++ begun_by 0 es (told_by step start (world_event step start w true e).0 es) ≡ before
-  first_left w before e es all = sym (party_zero e (world_event step start w true e).1 es (told_by step start (world_event step start w true e).0 es) (All-head IsAlone e es all.alone).0) ∙ all.begins
+  first_left w before e es all = sym (party_zero e (world_event step start w true e).1 es (told_by step start (world_event step start w true e).0 es) (All-head IsPreparing e es all.alone).0) ∙ all.begins
 
   takes_zero : (w : World S R) (e : Event T) → party_of e ≡ 0 → WentOn w e (world_event step start w true e) → CanTake (call_at w 0) e
   takes_zero w e zero_is went = let P : ℕ → Type 0 = λ z. CanTake (call_at w z) e in subst P zero_is went.takes
@@ -97,7 +97,7 @@ module _ {S R T : Type 0} (step : Bool → S → R → Made S R T) (start : Call
       by_event again (inr went) =
           let ran = ran-told (world_event step start w true e).1 went.effect went.reply went.told in
           absurd (begins-something (call_at w 0) e (world_event step start w true e).1 (begun_by 0 es (told_by step start (world_event step start w true e).0 es)) none
-          (takes_zero w e (All-head IsAlone e es all.alone).0 went) (λ c p is. begun_there e (world_event step start w true e).1 c p is ran) (first_left w [] e es all))
+          (takes_zero w e (All-head IsPreparing e es all.alone).0 went) (λ c p is. begun_there e (world_event step start w true e).1 c p is ran) (first_left w [] e es all))
 
   -- where another run begins with the same event
   record Behind (w : World S R) (e : Event T) (before rest : List (Call T)) (ys : List (Event T)) : Type 0 where
@@ -105,7 +105,7 @@ module _ {S R T : Type 0} (step : Bool → S → R → Made S R T) (start : Call
     prepares : PreparesBy (world_event step start w true e).0 rest later
     same : world_by step start w ys ≡ world_by step start (world_event step start w true e).0 later
 
-  behind : (ys : List (Event T)) (w : World S R) (before rest : List (Call T)) (e : Event T) → IsAlone e → WentOn w e (world_event step start w true e)
+  behind : (ys : List (Event T)) (w : World S R) (before rest : List (Call T)) (e : Event T) → IsPreparing e → WentOn w e (world_event step start w true e)
       → call_in e (world_event step start w true e).1 ++ rest ≡ before → PreparesBy w before ys → Behind w e before rest ys
   behind [] w before rest e alone went left all =
       let ran = ran-told (world_event step start w true e).1 went.effect went.reply went.told in
@@ -120,8 +120,8 @@ module _ {S R T : Type 0} (step : Bool → S → R → Made S R T) (start : Call
       by_event again (inr goes) =
           let t = (world_event step start w true e).1 in
           let u = (world_event step start w true f).1 in
-          let same : f ≡ e = same_event (call_at w 0) f e u t before (begun_by 0 fs (told_by step start (world_event step start w true f).0 fs)) rest (All-head IsAlone f fs all.alone) alone
-          (takes_zero w f (All-head IsAlone f fs all.alone).0 goes) (takes_zero w e alone.0 went)
+          let same : f ≡ e = same_event (call_at w 0) f e u t before (begun_by 0 fs (told_by step start (world_event step start w true f).0 fs)) rest (All-head IsPreparing f fs all.alone) alone
+          (takes_zero w f (All-head IsPreparing f fs all.alone).0 goes) (takes_zero w e alone.0 went)
           (ran-told u goes.effect goes.reply goes.told) (ran-told t went.effect went.reply went.told) (first_left w before f fs all) left in
           let P : Event T → Type 0 = λ x. PreparesBy w before (x ∷ fs) in
           record { later = fs; prepares = prepares-on w before rest e fs (subst P same all) left; same = ap (λ x. world_by step start (world_event step start w true x).0 fs) same }
@@ -138,5 +138,5 @@ module _ {S R T : Type 0} (step : Bool → S → R → Made S R T) (start : Call
       by_event again (inr went) =
           let rest = begun_by 0 es (told_by step start (world_event step start w true e).0 es) in
           let left = first_left w before e es one in
-          let r = behind ys w before rest e (All-head IsAlone e es one.alone) went left two in
+          let r = behind ys w before rest e (All-head IsPreparing e es one.alone) went left two in
           again (world_event step start w true e).0 rest r.later (prepares-on w before rest e es one left) r.prepares ∙ sym r.same

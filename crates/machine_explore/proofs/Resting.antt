@@ -23,7 +23,7 @@ use Rattle.machine_replay.proofs.RingStretch.{ring_rules}
 use Rattle.machine_replay.proofs.SingleStretch.{single_rules}
 use Rattle.machine_replay.proofs.Standings.{Agrees}
 use Rattle.machine_replay.proofs.Stretch.{Rules, call-there, first, reach}
-use Rattle.machine_explore.specs.Explored.{IsAlone}
+use Rattle.machine_explore.specs.Explored.{IsPreparing}
 use Rattle.machine_explore.specs.Positions.{Standing}
 use Rattle.machine_explore.specs.Starts.{IsStart}
 use Rattle.machine_explore.proofs.Showing.{told_by-length}
@@ -51,12 +51,12 @@ rules_of (kind.Bounded n) can small = ring_rules {A = ℕ} n (can, ltb-false MAX
 rules_of kind.Unbounded can small = chain_rules ℕ
 
 -- events of party 0 leave the others between calls
-others-between : (q : ℕ) (es : List (Event ℕ)) (ts : List (Told ℕ)) (x : CallStanding) → q ≢ 0 → All IsAlone es → stands_by q x es ts ≡ x
+others-between : (q : ℕ) (es : List (Event ℕ)) (ts : List (Told ℕ)) (x : CallStanding) → q ≢ 0 → All IsPreparing es → stands_by q x es ts ≡ x
 others-between q [] ts x ne alone = refl
 others-between q (e ∷ es) [] x ne alone = refl
 others-between q (e ∷ es) (t ∷ ts) x ne alone =
-    let zero_is = (All-head IsAlone e es alone).0 in
-    ap (λ y. stands_by q y es ts) (other_stands q x e t (λ at. ne (sym at ∙ zero_is))) ∙ others-between q es ts x ne (All-tail IsAlone e es alone)
+    let zero_is = (All-head IsPreparing e es alone).0 in
+    ap (λ y. stands_by q y es ts) (other_stands q x e t (λ at. ne (sym at ∙ zero_is))) ∙ others-between q es ts x ne (All-tail IsPreparing e es alone)
 
 stands_by-append : (q : ℕ) (es fs : List (Event ℕ)) (ts us : List (Told ℕ)) (x : CallStanding) → length ts ≡ length es → stands_by q x (es ++ fs) (ts ++ us) ≡ stands_by q (stands_by q x es ts) fs us
 stands_by-append q [] fs [] us x same = refl

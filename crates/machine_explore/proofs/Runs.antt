@@ -8,7 +8,7 @@ use Rattle.queue_steps.specs.declared.steps.types.Kind.{Kind}
 use Rattle.queue_steps.specs.declared.steps.types.Local.{Local}
 use Rattle.machine_replay.specs.Conforms.{party_of}
 use Rattle.machine_steps.specs.Machine.{event_of}
-use Rattle.machine_replay.specs.MachineRuns.{IsSameMachineRun, IsSomeMachineRun}
+use Rattle.machine_replay.specs.MachineRuns.{KeepsRun, IsSomeMachineRun}
 use Rattle.machine_replay.specs.Played.{local_in}
 use Rattle.machine_steps.specs.SharedMemory.{Shared}
 use Rattle.machine_steps.specs.World.{World, call_at}
@@ -22,7 +22,7 @@ use Rattle.machine_explore.specs.Traces.{IsSeen, Seen}
 use Rattle.machine_explore.specs.declared.schedule.Move.{Move}
 use Rattle.machine_explore.proofs.Showing.{event_party}
 
-pub copied-some : {T A : Type 0} (c d : MachineRun T A) → IsSameMachineRun c d → IsSomeMachineRun c → IsSomeMachineRun d
+pub copied-some : {T A : Type 0} (c d : MachineRun T A) → KeepsRun c d → IsSomeMachineRun c → IsSomeMachineRun d
 copied-some c d same on = (on.0, on.1, on.2, on.3, same on.0 on.1 on.2 on.3 on.4)
 
 -- a standing, part by part

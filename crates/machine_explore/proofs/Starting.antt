@@ -17,7 +17,7 @@ use Rattle.machine_steps.specs.declared.types.Event.TheVariants.{Begin, Step}
 use Rattle.machine_steps.specs.declared.types.Told.{Told}
 use Rattle.machine_steps.specs.declared.types.Told.TheVariants.{Ran}
 use Rattle.machine_steps.proofs.Busy.{nobody_calls}
-use Rattle.machine_explore.specs.Explored.{IsAlone, Prepares, begun_by}
+use Rattle.machine_explore.specs.Explored.{IsPreparing, Prepares, begun_by}
 use Rattle.machine_explore.specs.Moves.{call_in}
 use Rattle.machine_replay.specs.Played.{told_by, told_of, world_after, world_by}
 use Rattle.machine_explore.specs.Starts.{IsPrepared}
@@ -41,7 +41,7 @@ begun_by-append p (x ∷ xs) ys [] us same = cc
 
 -- before the first call
 pub prepared-first : (k : Kind) (parties : ℕ) (w : World (Shared ℕ) (Running ℕ)) → w ≡ opening_world k parties → IsPrepared k (opening_world k parties) [] w
-prepared-first k parties w is = ([], record { alone = All-nil IsAlone; begins = refl; rests = nobody_calls {X = Running ℕ} parties 0 }, is)
+prepared-first k parties w is = ([], record { alone = All-nil IsPreparing; begins = refl; rests = nobody_calls {X = Running ℕ} parties 0 }, is)
 
 -- one call more
 pub prepared-more : (k : Kind) (w v u : World (Shared ℕ) (Running ℕ)) (calls : List (Call ℕ)) (c : Call ℕ) → IsPrepared k w calls v → IsPrepared k v (c ∷ []) u → IsPrepared k w (calls ++ c ∷ []) u
@@ -53,7 +53,7 @@ prepared-more k w v u calls c one two =
     let from : Prepares k (world_after k w xs) (c ∷ []) ys = subst P there two.1 in (
       xs ++ ys,
       record {
-        alone = All-append IsAlone xs ys one.1.alone two.1.alone;
+        alone = All-append IsPreparing xs ys one.1.alone two.1.alone;
         begins = ap (λ l. begun_by 0 (xs ++ ys) l) (told_by-append (step_of k) (start_of k) xs ys w)
             ∙ begun_by-append 0 xs ys (told_of k w xs) (told_of k (world_after k w xs) ys) (told_by-length (step_of k) (start_of k) xs w)
             ∙ ap (λ l. l ++ begun_by 0 ys (told_of k (world_after k w xs) ys)) one.1.begins ∙ ap (λ l. calls ++ l) from.begins;
@@ -65,7 +65,7 @@ prepared-more k w v u calls c one two =
 -- party 0, alone, is in this call, or has ended it, since w
 pub record IsMaking (k : Kind) (w : World (Shared ℕ) (Running ℕ)) (c : Call ℕ) (v : World (Shared ℕ) (Running ℕ)) : Type 0 where
   pub events : List (Event ℕ)
-  pub alone : All IsAlone events
+  pub alone : All IsPreparing events
   pub begins : begun_by 0 events (told_of k w events) ≡ c ∷ []
   pub world : v ≡ world_after k w events
 
@@ -73,7 +73,7 @@ pub making-first : (k : Kind) (w : World (Shared ℕ) (Running ℕ)) (c : Call �
     → v ≡ (event_of k true w (Begin 0 c)).0 → t ≡ (event_of k true w (Begin 0 c)).1 → t ≡ Ran effect reply → IsMaking k w c v
 making-first k w c v t effect reply world told ran = record {
   events = Begin 0 c ∷ [];
-  alone = All-cons IsAlone (Begin 0 c) [] (refl, tt) (All-nil IsAlone);
+  alone = All-cons IsPreparing (Begin 0 c) [] (refl, tt) (All-nil IsPreparing);
   begins = ap (λ x. call_in (Begin 0 c) x ++ []) (sym told ∙ ran);
   world = world;
 }
@@ -81,7 +81,7 @@ making-first k w c v t effect reply world told ran = record {
 pub making-next : (k : Kind) (w : World (Shared ℕ) (Running ℕ)) (c : Call ℕ) (v u : World (Shared ℕ) (Running ℕ)) → IsMaking k w c v → u ≡ (event_of k true v (Step 0 true)).0 → IsMaking k w c u
 making-next k w c v u on world = record {
   events = on.events ++ Step 0 true ∷ [];
-  alone = All-push IsAlone on.events (Step 0 true) on.alone (refl, refl);
+  alone = All-push IsPreparing on.events (Step 0 true) on.alone (refl, refl);
   begins = ap (λ l. begun_by 0 (on.events ++ Step 0 true ∷ []) l) (told_by-snoc (step_of k) (start_of k) on.events w (Step 0 true))
       ∙ begun_by-snoc 0 on.events (told_of k w on.events) (Step 0 true) (world_event (step_of k) (start_of k) (world_after k w on.events) true (Step 0 true)).1 (told_by-length (step_of k) (start_of k) on.events w)
       ∙ append-nil (begun_by 0 on.events (told_of k w on.events)) ∙ on.begins;

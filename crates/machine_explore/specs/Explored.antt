@@ -32,12 +32,12 @@ IsGranted (Begin p c) = Unit {0}
 IsGranted (Step p granted) = granted ≡ true
 
 -- it is an event of party 0 that refuses no request
-abbrev pub IsAlone : {T : Type 0} → Event T → Type 0
-IsAlone e = (party_of e ≡ 0) × IsGranted e
+abbrev pub IsPreparing : {T : Type 0} → Event T → Type 0
+IsPreparing e = (party_of e ≡ 0) × IsGranted e
 
 -- by these events party 0, alone, makes these calls one after another, and is between calls then
 pub record Prepares (k : Kind) (w : World (Shared ℕ) (Running ℕ)) (before : List (Call ℕ)) (events : List (Event ℕ)) : Type 0 where
-  pub alone : All IsAlone events
+  pub alone : All IsPreparing events
   pub begins : begun_by 0 events (told_of k w events) ≡ before
   pub rests : call_at (world_after k w events) 0 ≡ None
 

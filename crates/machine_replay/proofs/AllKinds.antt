@@ -15,7 +15,7 @@ use Rattle.machine_replay.specs.Conforms.{capacity_of}
 use Rattle.machine_steps.specs.Left.{left_of, opening_world, HasSlot}
 use Rattle.machine_replay.specs.Replays.{CanReplay, is_too_large}
 use Rattle.machine_steps.specs.declared.types.Peak.{Peak}
-use Rattle.machine_steps.specs.Machine.{event_of, CanHandle, Handles, Passes, Plays}
+use Rattle.machine_steps.specs.Machine.{event_of, CanHandle, Handles, Passes, PassesAll}
 use Rattle.machine_replay.specs.Peaks.{opening_peak, peaked}
 use Rattle.machine_steps.specs.World.{World, call_at}
 use Rattle.machine_replay.proofs.KindLaws.{KindLaws}
@@ -127,7 +127,7 @@ pub record InOrder {T : Type 0} (k : Kind) (parties : ℕ) (past : List (Event T
   pub told : List (Told T)
   pub peak : Peak
   pub known : Known k parties past told w peak
-  pub plays : Plays k (opening_world k parties) past w
+  pub plays : PassesAll k (opening_world k parties) past w
 
 pub in_order-first : {T : Type 0} (k : Kind) (parties : ℕ) → HasMachine k → InOrder {T = T} k parties [] (opening_world k parties)
 in_order-first k parties has = record { told = []; peak = opening_peak; known = known-first k parties has; plays = refl }
@@ -135,14 +135,14 @@ in_order-first k parties has = record { told = []; peak = opening_peak; known = 
 pub in_order-can : {T : Type 0} (k : Kind) (parties : ℕ) (past : List (Event T)) (w : World (Shared T) (Running T)) → InOrder k parties past w → (e : Event T) → CanHandle k w e
 in_order-can k parties past w s e = known-can k parties past s.told w s.peak s.known e
 
-Plays-more : {T : Type 0} (k : Kind) (w v last : World (Shared T) (Running T)) (es : List (Event T)) (e : Event T) → Plays k w es v → Passes k v e last → Plays k w (es ++ e ∷ []) last
-Plays-more k w v last [] e plays pass = (pass.0, pass.1 ∙ ap (λ z. (event_of k pass.0 z e).0) plays)
-Plays-more k w v last (x ∷ es) e plays pass = (plays.0, Plays-more k (event_of k plays.0 w x).0 v last es e plays.1 pass)
+PassesAll-more : {T : Type 0} (k : Kind) (w v last : World (Shared T) (Running T)) (es : List (Event T)) (e : Event T) → PassesAll k w es v → Passes k v e last → PassesAll k w (es ++ e ∷ []) last
+PassesAll-more k w v last [] e plays pass = (pass.0, pass.1 ∙ ap (λ z. (event_of k pass.0 z e).0) plays)
+PassesAll-more k w v last (x ∷ es) e plays pass = (plays.0, PassesAll-more k (event_of k plays.0 w x).0 v last es e plays.1 pass)
 
 pub in_order-next : {T : Type 0} (k : Kind) (parties : ℕ) (past : List (Event T)) (w w' : World (Shared T) (Running T)) (e : Event T) → InOrder k parties past w → Passes k w e w' → InOrder k parties (past ++ e ∷ []) w'
 in_order-next {T} k parties past w w' e s pass = record {
   told = s.told ++ (event_of k pass.0 w e).1 ∷ [];
   peak = peaked w' s.peak;
   known = subst {A = World (Shared T) (Running T)} (λ v. Known k parties (past ++ e ∷ []) (s.told ++ (event_of k pass.0 w e).1 ∷ []) v (peaked v s.peak)) (sym pass.1) (known-more k parties past s.told w s.peak pass.0 e s.known);
-  plays = Plays-more k (opening_world k parties) w w' past e s.plays pass;
+  plays = PassesAll-more k (opening_world k parties) w w' past e s.plays pass;
 }

@@ -12,7 +12,7 @@ use Rattle.queue_steps.specs.declared.model.Effect.{Effect}
 use Rattle.queue_steps.specs.declared.model.Effect.TheVariants as effect
 use Rattle.queue_steps.specs.declared.model.Reply.{Reply}
 use Rattle.law_moments.specs.Moments.{IsGlance}
-use Rattle.law_moments.specs.Entries.{Entry, effects_in, state_before, front_first, fronts_at, other_first, other_entries, settle_first, settle, SeesNoMove, ClosesWithin, own_of, SettlesInto}
+use Rattle.law_moments.specs.Entries.{Entry, effects_in, state_before, front_first, fronts_at, other_first, other_entries, settle_first, settle, SeesNoMove, KeepsFronts, own_of, SettlesInto}
 use Rattle.law_moments.proofs.Naming.{Rising}
 use Rattle.law_moments.proofs.Choosing.{before, both_parts}
 use Rattle.law_moments.proofs.Glances.{cases_before, middle_or}
@@ -26,7 +26,7 @@ use Rattle.machine_steps.specs.declared.types.Event.TheVariants.{Begin, Step}
 use Rattle.machine_replay.specs.Book.{IsBegun, has_steps}
 use Rattle.machine_replay.specs.InCall.{IsStepOf, IsUnanswered, IsInCall}
 use Rattle.machine_replay.specs.Meaning.{state_after, own_effects, SawOpen, IsOwn, EndsCall, RepliesAtOnce, IsAnswer}
-use Rattle.machine_replay.specs.AtOnce.{IsWithin, IsGlanced, IsWhole, DisplacesAtOnce}
+use Rattle.machine_replay.specs.AtOnce.{IsWithinCall, IsGlanced, IsWhole, RunsDisplaceAtOnce}
 use Rattle.machine_replay.specs.Skips.{IsExact, SkippedIsExact}
 
 -- an effect at the event k, before the event n, is within a call from `first` to `last` exactly where one at n is
@@ -105,14 +105,14 @@ module _ (T : Type 0) (cap : Option ℕ) (parties : ℕ) (events : List (Event T
       (λ old v front. sees_none exact p last c ended x has is y (omega (arith, lt, up.0)) all.0 old v front, fronts_alike exact p last c ended x has is (y.event + 1) xs (omega (arith, lt, up.0)) up.1 all.1)
 
   -- what the call in progress of party p has done up to the event `last` is not moved into it nor out of it
-  closes_within : Exact → (p last : ℕ) (c : Calls p last) → Ended p last → (m : ℕ) (xs : List (Entry T)) → ((x : Entry T) → In x xs → In x H) → Rising m xs → AllByRecursion Own xs → ClosesWithin (mine p c.first last) xs
+  closes_within : Exact → (p last : ℕ) (c : Calls p last) → Ended p last → (m : ℕ) (xs : List (Entry T)) → ((x : Entry T) → In x xs → In x H) → Rising m xs → AllByRecursion Own xs → KeepsFronts (mine p c.first last) xs
   closes_within exact p last c ended m [] sub up all = tt
   closes_within exact p last c ended m (x ∷ xs) sub up all =
       (λ is. fronts_alike exact p last c ended x (sub x (inl refl)) is (x.event + 1) xs (omega arith) up.1 all.1, closes_within exact p last c ended (x.event + 1) xs (λ y has. sub y (inr has)) up.1 all.1)
 
   -- each effect stands within its call
   abbrev Within : Entry T → Type 0
-  Within x = IsWithin events skipped R x
+  Within x = IsWithinCall events skipped R x
 
   within_own : (x : Entry T) → Own x → Within x
   within_own x own =
@@ -187,7 +187,7 @@ module _ (T : Type 0) (cap : Option ℕ) (parties : ℕ) (events : List (Event T
   ends_there : SettlesInto cap H S → Exact → AllByRecursion Own H → Rising 0 H → (y : ℕ × ℕ × Reply T) → In y R → EndsCall cap events skipped H R y.0 y.1 y.2 → Answers y
   ends_there settles exact all up y has ends =
       let c = ends.in_call in let own = mine y.1 c.first y.0 in
-      let within : ClosesWithin own H = closes_within exact y.1 y.0 c (ended_by y has) 0 H (λ x here. here) up all in
+      let within : KeepsFronts own H = closes_within exact y.1 y.0 c (ended_by y has) 0 H (λ x here. here) up all in
       let same : own_of own S ≡ own_of own H = settles.own own c.call y.2 within ends.tells in
       let tells : Tells c.call y.2 (own_of own S) = subst (Tells c.call y.2) (sym same) ends.tells in
       elim (none_or (own_of own H)) [
@@ -221,7 +221,7 @@ module _ (T : Type 0) (cap : Option ℕ) (parties : ℕ) (events : List (Event T
   whole_there : SettlesInto cap H S → Exact → AllByRecursion Own H → Rising 0 H → (y : ℕ × ℕ × Reply T) → In y R → IsWhole cap events skipped R H S y
   whole_there settles exact all up y has ends =
       let c = ends.in_call in let own = mine y.1 c.first y.0 in
-      let within : ClosesWithin own H = closes_within exact y.1 y.0 c (ended_by y has) 0 H (λ x here. here) up all in
+      let within : KeepsFronts own H = closes_within exact y.1 y.0 c (ended_by y has) 0 H (λ x here. here) up all in
       let same : own_of own S ≡ own_of own H = settles.own own c.call y.2 within ends.tells in
       (same, stands_together own S (c.first + 1) (y.0 + 1) (own_of own H) (settle_paired H) (is_few c.call y.2 (own_of own H) ends.tells) same (λ p n. within_call (p == y.1) c.first y.0 n))
 
@@ -275,10 +275,10 @@ module _ (T : Type 0) (cap : Option ℕ) (parties : ℕ) (events : List (Event T
   begun_there : SettlesInto cap H S → Exact → AllByRecursion Own H → Rising 0 H → (p : ℕ) (c : Calls p (length events)) → IsBegun c.call (own_effects p c.first (length events) H) → IsBegun c.call (own_effects p c.first (length events) S)
   begun_there settles exact all up p c begun =
       let ended : Ended p (length events) = λ n d step past. absurd (let lt = slice_get_within events n (Step p step.0) step.1.0 in omega (arith, lt, past)) in
-      let within : ClosesWithin (mine p c.first (length events)) H = closes_within exact p (length events) c ended 0 H (λ x here. here) up all in
+      let within : KeepsFronts (mine p c.first (length events)) H = closes_within exact p (length events) c ended 0 H (λ x here. here) up all in
       let done = settles.begun (mine p c.first (length events)) c.call begun.0 begun.1 within begun.2 in (begun.0, done.0, done.1)
 
-pub displaces_at_once : {T A : Type 0} → SkippedIsExact T A → DisplacesAtOnce T A
+pub displaces_at_once : {T A : Type 0} → SkippedIsExact T A → RunsDisplaceAtOnce T A
 displaces_at_once {T} {A} exact cap parties events r conforms h =
     let skipped = r.skipped.items in let R = r.replies.items in let H : List (Entry T) = h.history in
     let up : Rising 0 H = rising H h.in_order in

@@ -3,11 +3,11 @@ use Rattle.std.proofs.Common.{◌≡◌, ◌∙◌, ℕ, suc, ◌+◌, ◌-◌, 
 use Rattle.std.specs.Option.{option_to_list}
 use Rattle.queue_steps.specs.Words.{slot_at}
 use Rattle.machine_steps.specs.declared.machine.Running.{Running}
-use Rattle.machine_steps.specs.Left.{written_by, settled, gathered}
+use Rattle.machine_steps.specs.Left.{written_by, all_written, gathered}
 
-pub settled-append : {T : Type 0} (xs : List (Option (Running T))) (x : Option (Running T)) (slots : List (Option T)) → settled (xs ++ x ∷ []) slots ≡ written_by x (settled xs slots)
-settled-append [] x slots = refl
-settled-append (y ∷ xs) x slots = settled-append xs x (written_by y slots)
+pub all_written-append : {T : Type 0} (xs : List (Option (Running T))) (x : Option (Running T)) (slots : List (Option T)) → all_written (xs ++ x ∷ []) slots ≡ written_by x (all_written xs slots)
+all_written-append [] x slots = refl
+all_written-append (y ∷ xs) x slots = all_written-append xs x (written_by y slots)
 
 -- the next position is gathered
 pub gathered-turn : {T : Type 0} (n p end : ℕ) (slots : List (Option T)) → p < end

@@ -11,7 +11,7 @@ use Rattle.machine_steps.specs.declared.types.Peak.{Peak}
 use Rattle.machine_steps.specs.declared.types.Told.{Told}
 use Rattle.machine_steps.specs.declared.types.Told.TheVariants.{Skipped}
 use Rattle.machine_steps.specs.SharedMemory.{Shared}
-use Rattle.machine_replay.specs.MachineRuns.{Comes, Continues, EndsAs, IsMachineRun, IsSameMachineRun, IsSomeMachineRun}
+use Rattle.machine_replay.specs.MachineRuns.{Comes, Continues, EndsAs, IsMachineRun, KeepsRun, IsSomeMachineRun}
 use Rattle.machine_steps.specs.Left.{HasSlot, left_of, opening_world}
 use Rattle.machine_steps.specs.Machine.{CanHandle, Handles, HasCount, event_of, world_of}
 use Rattle.machine_replay.specs.Peaks.{opening_peak, peaked}
@@ -91,7 +91,7 @@ machine_run-next c d e t n handles same_kind counted numbers peak handled k part
 
 -- the same machine, with the same peak and as many events, has come the same way
 pub machine_run-same : {T A : Type 0} (c d : MachineRun T A) → d.machine.kind ≡ c.machine.kind → world_of d.machine ≡ world_of c.machine → d.machine.memory.alive ≡ c.machine.memory.alive → d.peak ≡ c.peak → d.handled ≡ c.handled
-    → IsSameMachineRun c d
+    → KeepsRun c d
 machine_run-same c d kind_is world alive peak handled k parties es ts on =
     record {
       can = on.can;

@@ -15,10 +15,10 @@ use Rattle.machine_steps.specs.declared.machine.Running.{Running}
 use Rattle.machine_replay.specs.Book.{Book, Open}
 use Rattle.machine_steps.specs.World.{World}
 use Rattle.machine_steps.specs.SharedMemory.{Shared, CanStep, step_of, start_of}
-use Rattle.machine_steps.specs.Left.{left_of, settled, gathered}
+use Rattle.machine_steps.specs.Left.{left_of, all_written, gathered}
 use Rattle.machine_replay.proofs.Engine as engine
 use Rattle.machine_replay.proofs.KindLaws.{SimulatesOf}
-use Rattle.machine_replay.proofs.Settled.{writes, writes_slot, settled-none, settled-one, nth, gathered-items}
+use Rattle.machine_replay.proofs.AllWritten.{writes, writes_slot, all_written-none, all_written-one, nth, gathered-items}
 use Rattle.law_ring.specs.RingCells.{Cell, Free, Written, Full, Read, Coming, Swapped, Ring, CellOk, RingOk, owner}
 use Rattle.law_ring.proofs.RingCells.{wraps, apart, together}
 use Rattle.law_ring.proofs.RingTransitions.{in_ring}
@@ -168,24 +168,24 @@ party_holder cap busy s Q g p (Some r) None i h own awaited = absurd h
 
 -- an awaited slot has one writer, who writes its item; any other has none
 slot_settled : {A : Type 0} (cap parties : ℕ) (w : World (Shared A) (Running A)) (b : Book A) → (sim : SimulatesOf A (queue.Bounded cap) (Ring A) (RingHolds cap) RingIdle (RingFits cap) parties w b)
-    → (i : ℕ) → i < cap → get_or (settled w.calls w.shared.slots) i None ≡ content (sim.g.cells i)
+    → (i : ℕ) → i < cap → get_or (all_written w.calls w.shared.slots) i None ≡ content (sim.g.cells i)
 slot_settled {A} cap parties w b sim i lt = go (sim.g.cells i) refl (sim.holds.codes.slot i lt)
   where
-    quiet : (c : Cell A) → sim.g.cells i ≡ c → ((p : ℕ) (v : Option A) → IsWriter c p v → ⊥) → get_or w.shared.slots i None ≡ item_in c → content c ≡ item_in c → get_or (settled w.calls w.shared.slots) i None ≡ content c
+    quiet : (c : Cell A) → sim.g.cells i ≡ c → ((p : ℕ) (v : Option A) → IsWriter c p v → ⊥) → get_or w.shared.slots i None ≡ item_in c → content c ≡ item_in c → get_or (all_written w.calls w.shared.slots) i None ≡ content c
     quiet c is never item same =
-        settled-none w.calls w.shared.slots i (λ p. party_apart cap b.busy w.shared b.queue sim.g p (get_or w.calls p None) (b.open_call p) i (sim.each p) (λ v wr. never p v (subst (λ d. IsWriter d p v) is wr)))
+        all_written-none w.calls w.shared.slots i (λ p. party_apart cap b.busy w.shared b.queue sim.g p (get_or w.calls p None) (b.open_call p) i (sim.each p) (λ v wr. never p v (subst (λ d. IsWriter d p v) is wr)))
         ∙ (item ∙ sym same)
 
     written : (c : Cell A) (who : ℕ) (x : A) → sim.g.cells i ≡ c → owner c ≡ Some who → IsAwaited c → ((p : ℕ) (v : Option A) → IsWriter c p v → (who ≡ p) × (v ≡ Some x))
-        → get_or (settled w.calls w.shared.slots) i None ≡ Some x
+        → get_or (all_written w.calls w.shared.slots) i None ≡ Some x
     written c who x is own awaited only =
         let holder = party_holder cap b.busy w.shared b.queue sim.g who (get_or w.calls who None) (b.open_call who) i (sim.each who) (ap owner is ∙ own) (subst (λ d. IsAwaited d) (sym is) awaited) in
         let long : i < length w.shared.slots = rw sim.holds.codes.slotted lt in
-        settled-one w.calls w.shared.slots i who holder.0 long holder.1 holder.2
+        all_written-one w.calls w.shared.slots i who holder.0 long holder.1 holder.2
         (λ p ne. party_apart cap b.busy w.shared b.queue sim.g p (get_or w.calls p None) (b.open_call p) i (sim.each p) (λ v wr. ne (sym (only p v (subst (λ d. IsWriter d p v) is wr)).0)))
         ∙ (only who holder.0.carried (subst (λ d. IsWriter d who holder.0.carried) is holder.3)).1
 
-    go : (c : Cell A) → sim.g.cells i ≡ c → get_or w.shared.slots i None ≡ item_in (sim.g.cells i) → get_or (settled w.calls w.shared.slots) i None ≡ content (sim.g.cells i)
+    go : (c : Cell A) → sim.g.cells i ≡ c → get_or w.shared.slots i None ≡ item_in (sim.g.cells i) → get_or (all_written w.calls w.shared.slots) i None ≡ content (sim.g.cells i)
     go (Free p) is item = quiet (Free p) is (λ p v h. h) (item ∙ ap item_in is) refl ∙ ap content (sym is)
     go (Full p x) is item = quiet (Full p x) is (λ p v h. h) (item ∙ ap item_in is) refl ∙ ap content (sym is)
     go (Read p who x) is item = quiet (Read p who x) is (λ p v h. h) (item ∙ ap item_in is) refl ∙ ap content (sym is)
@@ -208,13 +208,13 @@ ring_leaves {A} cap parties w b sim =
     let room = ok.room in
     let tail : position_of w.shared.tail ≡ g.tail = ap position_of sim.holds.codes.tail ∙ position_tail g.tail g.closed in
     let size : position_of w.shared.tail - w.shared.head ≡ length g.items = let head = sim.holds.codes.head in omega arith in
-    let all : (j : ℕ) → j < length g.items → get_or (settled w.calls w.shared.slots) (slot_at cap (g.head + j)) None ≡ nth g.items j = λ j lt.
+    let all : (j : ℕ) → j < length g.items → get_or (all_written w.calls w.shared.slots) (slot_at cap (g.head + j)) None ≡ nth g.items j = λ j lt.
     let i = (g.head + j) % cap in
     let back : g.head + j - g.head ≡ j = omega arith in
     slot_settled cap parties w b sim i (in_ring cap (g.head + j) ok.ring)
     ∙ (content_is cap g (g.head + j) ok (omega arith) (omega arith) ∙ (ap (λ n. slice_get g.items n) back ∙ nth_is g.items j)) in
     let at_head : w.shared.head ≡ g.head = sim.holds.codes.head in
     let items : b.queue.items ≡ g.items = ap (λ q. q.items) sim.holds.queue_is in
-    ap (λ n. gathered cap w.shared.head n (settled w.calls w.shared.slots)) size
-    ∙ (ap (λ h. gathered cap h (length g.items) (settled w.calls w.shared.slots)) at_head
-    ∙ (gathered-items cap g.head g.items (settled w.calls w.shared.slots) (omega arith) (omega arith) all ∙ sym items))
+    ap (λ n. gathered cap w.shared.head n (all_written w.calls w.shared.slots)) size
+    ∙ (ap (λ h. gathered cap h (length g.items) (all_written w.calls w.shared.slots)) at_head
+    ∙ (gathered-items cap g.head g.items (all_written w.calls w.shared.slots) (omega arith) (omega arith) all ∙ sym items))

@@ -138,15 +138,15 @@ module _ {A : Type 0} (cap head tail i : ℕ) (items : List A) (coming : Option 
   empty_cell (Coming q who old v) at ok free some = let low = ok.1 in let high = ok.2 in absurd (last_lap q at ok.0 (omega arith) low free)
   empty_cell (Swapped q who old v) at ok free some = let low = ok.1 in let high = ok.2 in absurd (last_lap q at ok.0 low (omega arith) free)
 
-abbrev Tells : ℕ → ℕ → Type 0
-Tells a b = (((a == b) ≡ true) × (a ≡ b)) ⊎ (((a == b) ≡ false) × (a ≢ b))
+abbrev EqualTells : ℕ → ℕ → Type 0
+EqualTells a b = (((a == b) ≡ true) × (a ≡ b)) ⊎ (((a == b) ≡ false) × (a ≢ b))
 
 -- what a push does by the stamp that it finds: one step
 push_found : {A : Type 0} (n : ℕ) (d : PushKind) (t stamp : ℕ) (v : Option A) (x : Running A) → running_after (push_stamp_found n d t stamp) v ≡ Some x → x.local ≡ local.Bounded (at.PushTail d)
     → (stamp ≢ position_of t) × (stamp + n ≢ position_of t + 1)
 push_found {A} n d t stamp v x goes back = go (eqb_tells stamp (position_of t)) (eqb_tells (stamp + n) (position_of t + 1)) d goes back
   where
-    go : Tells stamp (position_of t) → Tells (stamp + n) (position_of t + 1) → (d : PushKind) → running_after (push_stamp_found n d t stamp) v ≡ Some x → x.local ≡ local.Bounded (at.PushTail d) → (stamp ≢ position_of t) × (stamp + n ≢ position_of t + 1)
+    go : EqualTells stamp (position_of t) → EqualTells (stamp + n) (position_of t + 1) → (d : PushKind) → running_after (push_stamp_found n d t stamp) v ≡ Some x → x.local ≡ local.Bounded (at.PushTail d) → (stamp ≢ position_of t) × (stamp + n ≢ position_of t + 1)
     go (inr a) (inr b) d goes back = (a.1, b.1)
     go (inl a) b d goes back = let f = not_back x (rw a.0 at goes) back in cc
     go (inr a) (inl b) push.Push goes back = let f = not_back x (rw (a.0, b.0) at goes) back in cc
@@ -164,7 +164,7 @@ full_found {A} n d t stamp v s x y tail goes never on back = go (eqb_tells stamp
     from : (z : Running A) → z ≡ x → (step_of (queue.Bounded n) true s z).call ≡ Some y
     from z is = subst (λ u. (step_of (queue.Bounded n) true s u).call ≡ Some y) (sym is) on
 
-    go : Tells stamp (position_of t) → Tells (stamp + n) (position_of t + 1) → (d : PushKind) → running_after (push_stamp_found n d t stamp) v ≡ Some x
+    go : EqualTells stamp (position_of t) → EqualTells (stamp + n) (position_of t + 1) → (d : PushKind) → running_after (push_stamp_found n d t stamp) v ≡ Some x
         → (x.local ≡ local.Bounded (at.PushTail d) → ⊥) → y.local ≡ local.Bounded (at.PushTail d) → (stamp + n ≡ position_of t + 1) × (s.head + n ≢ position_of t)
     go (inl a) b d goes never back =
         let is = same_call x (rw a.0 at goes) in
@@ -182,7 +182,7 @@ full_found {A} n d t stamp v s x y tail goes never on back = go (eqb_tells stamp
 pop_found : {A : Type 0} (h stamp : ℕ) (v : Option A) (x : Running A) → running_after (pop_stamp_found h stamp) v ≡ Some x → x.local ≡ local.Bounded at.PopHead → (stamp ≢ h) × (stamp ≢ h + 1)
 pop_found {A} h stamp v x goes back = go (eqb_tells stamp (h + 1)) (eqb_tells stamp h)
   where
-    go : Tells stamp (h + 1) → Tells stamp h → (stamp ≢ h) × (stamp ≢ h + 1)
+    go : EqualTells stamp (h + 1) → EqualTells stamp h → (stamp ≢ h) × (stamp ≢ h + 1)
     go (inr a) (inr b) = (b.1, a.1)
     go (inl a) b = let f = not_back x (rw a.0 at goes) back in cc
     go (inr a) (inl b) = let f = not_back x (rw (a.0, b.0) at goes) back in cc
@@ -195,7 +195,7 @@ empty_found {A} n h stamp v s x y head goes never on back = go (eqb_tells stamp 
     from : (z : Running A) → z ≡ x → (step_of (queue.Bounded n) true s z).call ≡ Some y
     from z is = subst (λ u. (step_of (queue.Bounded n) true s u).call ≡ Some y) (sym is) on
 
-    go : Tells stamp (h + 1) → Tells stamp h → (stamp ≡ h) × (position_of s.tail ≢ h)
+    go : EqualTells stamp (h + 1) → EqualTells stamp h → (stamp ≡ h) × (position_of s.tail ≢ h)
     go (inl a) b =
         let is = same_call x (rw a.0 at goes) in
         let emptied = rw (eq-eqb s.head h head) at (from _ is) in

@@ -17,7 +17,7 @@ use Rattle.law_slot.specs.SlotShared as slot
 use Rattle.law_slot.specs.SlotHolder.{SlotHolder, Nobody, Keeps, Idle, own_of}
 use Rattle.law_slot.specs.SlotRows.{Stands, At, push_try, force_try_empty, pop_try, close_try, look_at, single, Lands, IsEffect}
 use Rattle.law_slot.proofs.SlotSteps.{step_good}
-use Rattle.law_slot.proofs.SlotRanks.{rank, rank_small, rank_some, Falls, step_falls, IsEnd, wait_free_ends, wait_free_one, can_operate}
+use Rattle.law_slot.proofs.SlotRanks.{rank, rank_small, rank_some, Falls, step_falls, IsReplying, wait_free_ends, wait_free_one, can_operate}
 use Rattle.law_slot.proofs.SlotHolder.{share_of, next_who, own_self, own_other, own_alone}
 use Rattle.machine_steps.specs.declared.machine.Running.{Running}
 use Rattle.machine_replay.specs.Book.{Open, Allows, after_own, begun}
@@ -51,7 +51,7 @@ GoesWell {T} = engine.Goes T (Shared T) (Running T) (Keeps T) (Some 1) (step_of 
 lands_well : {T : Type 0} (x : Next ℕ) (v : Option T) (busy : ℕ) (s : Shared T) (Q : State T) (g : Keeps T) (p : ℕ) (o : Open T) (own : SlotHolder T) (n : ℕ)
     → own ≡ own_of g.who g.hold p → Lands x v own o.call o.effects o.moments
     → ((m : ℕ) → m ≤ 3 → (busy ≡ 1 → m < n) → (is_wait_free o.call ≡ true → m < n) → FewSteps busy o m 3) → (busy ≡ 1 → Falls x n s.lock)
-    → (is_wait_free o.call ≡ true → IsEnd x) → GoesWell busy s Q g p o (running_after x v) (reply_after x v)
+    → (is_wait_free o.call ≡ true → IsReplying x) → GoesWell busy s Q g p o (running_after x v) (reply_after x v)
 lands_well (next.Step l t a) v busy s Q g p o own n is lands counts falls wait_free =
     let less = counts (rank l s.lock) (rank_small l s.lock) falls (λ e. absurd (wait_free e)) in
     (record { here = rw (sym is) lands; few = less }, few_stays busy o (rank l s.lock) 3 (omega arith) (rank_some l s.lock) (single_begun lands) less)
@@ -93,7 +93,7 @@ stepped_well {T} busy ok s Q g p r o holds f others =
               (λ m small falls hurry. few_own busy o Q' es' (rank r.local holds.word) m 3 small falls hurry few)
               (λ one. subst (λ n. Falls n (rank r.local holds.word) (shared_then kind.Single ok memory r).lock) (sym went)
               (subst (λ w. Falls (next_on holds.word holds.slot r) (rank r.local holds.word) w) (ap (λ x. x.lock) good.leaves ∙ sym word) (step_falls (rw (own_alone g p (others one)) at f.here) holds.stands)))
-              (λ e. subst (λ n. IsEnd n) (sym went) (wait_free_ends holds.word holds.slot f.here e));
+              (λ e. subst (λ n. IsReplying n) (sym went) (wait_free_ends holds.word holds.slot f.here e));
           idle = λ j ne free. own_other good.passes g.who p j refl ne ∙ free;
           others = λ busy' j x m ne many h. record {
             here = rw (own_other good.passes g.who p j refl ne) h.here;

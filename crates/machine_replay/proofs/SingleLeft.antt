@@ -16,12 +16,12 @@ use Rattle.law_slot.specs.SlotRows.{Stands, free_empty, free_full, filling, swap
 use Rattle.machine_steps.specs.declared.machine.Running.{Running}
 use Rattle.machine_replay.specs.Book.{Book, Open}
 use Rattle.machine_steps.specs.SharedMemory.{Shared, CanStep, step_of, start_of}
-use Rattle.machine_steps.specs.Left.{left_of, settled}
+use Rattle.machine_steps.specs.Left.{left_of, all_written}
 use Rattle.machine_steps.specs.World.{World, call_at}
 use Rattle.machine_replay.proofs.Engine as engine
 use Rattle.machine_replay.proofs.KindLaws.{SimulatesOf, KindLaws}
 use Rattle.machine_replay.proofs.Counted.{counted-none}
-use Rattle.machine_replay.proofs.Settled.{writes, writes_slot, settled-none, settled-one}
+use Rattle.machine_replay.proofs.AllWritten.{writes, writes_slot, all_written-none, all_written-one}
 use Rattle.machine_replay.proofs.SingleLaws.{Holds, FitsIn, single_engine}
 
 -- what the lock's holder is about to write
@@ -59,8 +59,8 @@ party_writing busy s Q g p None (Some o) h = absurd h
 party_writing busy s Q g p (Some r) None h = absurd h
 
 -- nobody writes
-slot_kept : {T : Type 0} (calls : List (Option (Running T))) (slots : List (Option T)) (g : Keeps T) → ((p : ℕ) → Writing g p (get_or calls p None)) → wait_of g.hold ≡ None → get_or (settled calls slots) 0 None ≡ get_or slots 0 None
-slot_kept calls slots g all none = settled-none calls slots 0 (λ p. idle_at p (all p))
+slot_kept : {T : Type 0} (calls : List (Option (Running T))) (slots : List (Option T)) (g : Keeps T) → ((p : ℕ) → Writing g p (get_or calls p None)) → wait_of g.hold ≡ None → get_or (all_written calls slots) 0 None ≡ get_or slots 0 None
+slot_kept calls slots g all none = all_written-none calls slots 0 (λ p. idle_at p (all p))
   where
     nothing : (p : ℕ) → wait_of (own_of g.who g.hold p) ≡ None
     nothing p = elim (eqb_tells p g.who) [ inl t ↦ rw t.0 none | inr f ↦ rw f.0 refl ]
@@ -70,7 +70,7 @@ slot_kept calls slots g all none = settled-none calls slots 0 (λ p. idle_at p (
     idle_at p (inr e) = let n = nothing p in let m = e.3 in cc
 
 -- the lock's holder writes
-slot_filled : {T : Type 0} (calls : List (Option (Running T))) (slots : List (Option T)) (g : Keeps T) (v : T) → 0 < length slots → ((p : ℕ) → Writing g p (get_or calls p None)) → wait_of g.hold ≡ Some v → get_or (settled calls slots) 0 None ≡ Some v
+slot_filled : {T : Type 0} (calls : List (Option (Running T))) (slots : List (Option T)) (g : Keeps T) (v : T) → 0 < length slots → ((p : ℕ) → Writing g p (get_or calls p None)) → wait_of g.hold ≡ Some v → get_or (all_written calls slots) 0 None ≡ Some v
 slot_filled calls slots g v long all some = holder (all g.who)
   where
     mine : wait_of (own_of g.who g.hold g.who) ≡ Some v
@@ -80,11 +80,11 @@ slot_filled calls slots g v long all some = holder (all g.who)
     other p ne (inl e) = e.1
     other p ne (inr e) = elim (eqb_tells p g.who) [ inl t ↦ absurd (ne t.1) | inr f ↦ let none : wait_of (own_of g.who g.hold p) ≡ None = rw f.0 refl in let m = e.3 in cc ]
 
-    holder : Writing g g.who (get_or calls g.who None) → get_or (settled calls slots) 0 None ≡ Some v
+    holder : Writing g g.who (get_or calls g.who None) → get_or (all_written calls slots) 0 None ≡ Some v
     holder (inl e) = let m = mine in let n = e.0 in cc
     holder (inr e) =
         let same : Some e.1 ≡ Some v = sym e.3 ∙ mine in
-        settled-one calls slots 0 g.who e.0 long e.2 e.5 (λ p ne. other p ne (all p)) ∙ e.4 ∙ same
+        all_written-one calls slots 0 g.who e.0 long e.2 e.5 (λ p ne. other p ne (all p)) ∙ e.4 ∙ same
 
 left_stands : {T : Type 0} {word : ℕ} {slot : Option T} {h : SlotHolder T} {items : List T} {c : Bool} (found : Option T)
     → Stands word slot h items c → (wait_of h ≡ None → found ≡ slot) → ((v : T) → wait_of h ≡ Some v → found ≡ Some v)
@@ -105,7 +105,7 @@ single_left {T} parties w b sim =
     let holds = sim.holds in
     let writing : (p : ℕ) → Writing sim.g p (call_at w p) = λ p. party_writing b.busy w.shared b.queue sim.g p (call_at w p) (b.open_call p) (sim.each p) in
     rw (holds.queue_is, holds.shared_is) (
-    left_stands (get_or (settled w.calls (holds.slot ∷ [])) 0 None) holds.stands
+    left_stands (get_or (all_written w.calls (holds.slot ∷ [])) 0 None) holds.stands
     (λ none. slot_kept w.calls (holds.slot ∷ []) sim.g writing none)
     (λ v some. slot_filled w.calls (holds.slot ∷ []) sim.g v (omega arith) writing some))
 

@@ -16,7 +16,7 @@ use Rattle.machine_steps.specs.declared.types.Told.TheVariants.{Skipped, Ran}
 use Rattle.machine_replay.specs.Book.{Book, Open, Happens, Run, fits, is_wait_free, opening, at_open, joined, watched, after_own, begun}
 use Rattle.machine_replay.specs.Conforms.{Conforms, party_of}
 use Rattle.machine_replay.specs.InCall.{IsInCall}
-use Rattle.machine_replay.specs.Within.{is_step_of, steps_between, IsAlone, SoloCallsReply, WaitFreeCallsReply}
+use Rattle.machine_replay.specs.Within.{is_step_of, steps_between, IsAloneBetween, SoloCallsReply, WaitFreeCallsReply}
 use Rattle.machine_replay.proofs.Calls.{answered}
 use Rattle.machine_replay.proofs.Entries.{event-last, length-one}
 use Rattle.machine_replay.proofs.Solo.{Counts, counts-first, counts-happens, count-alone, put-same, and-right, none-if}
@@ -48,7 +48,7 @@ no-step p x e = rw e (omega arith)
 record Pace {T : Type 0} (past : List (Event T)) (S : List ℕ) (R : List (ℕ × ℕ × Reply T)) (p n : ℕ) (o : Open T) (k : IsInCall past S R p n) : Type 0 where
   same_call : k.call ≡ o.call
   steps : (since : ℕ) → k.first ≤ since → taken p since past ≤ o.steps
-  alone : (since : ℕ) → k.first ≤ since → IsAlone past S R p since n → taken p since past ≤ o.alone
+  alone : (since : ℕ) → k.first ≤ since → IsAloneBetween past S R p since n → taken p since past ≤ o.alone
 
 is_some-none : {X : Type 0} (o : Option X) → is_some o ≡ true → o ≡ None → ⊥
 is_some-none None e n = cc
@@ -85,12 +85,12 @@ module _ (T : Type 0) (parties : ℕ) (past : List (Event T)) (told : List (Told
   ran-here : (p : ℕ) (k : IsInCall now skipped replied p (n + 1)) → k.first ≡ n → t ≡ Skipped → ⊥
   ran-here p k at e = k.begins.1 (rw (at, e) (Contains-push S n))
 
-  alone-before : (p since : ℕ) → IsAlone now skipped replied p since (n + 1) → IsAlone past S R p since n
+  alone-before : (p since : ℕ) → IsAloneBetween now skipped replied p since (n + 1) → IsAloneBetween past S R p since n
   alone-before p since alone q m ne from upto in_call = alone q m ne from (omega arith) (earlier-now T past x S R n (party_of x) (is_skipped t) (reply_told t) f.len f.early q m upto in_call)
 
   -- a call that was there goes on, and takes so many steps here
   pace-on : (p : ℕ) (o o' : Open T) → b.open_call p ≡ Some o → (k : IsInCall now skipped replied p (n + 1)) → k.first < n → o'.call ≡ o.call → o.steps + cond (is_step_of p x) 1 0 ≤ o'.steps
-      → (IsAlone now skipped replied p n (n + 1) → o.alone + cond (is_step_of p x) 1 0 ≤ o'.alone) → Pace now skipped replied p (n + 1) o' k
+      → (IsAloneBetween now skipped replied p n (n + 1) → o.alone + cond (is_step_of p x) 1 0 ≤ o'.alone) → Pace now skipped replied p (n + 1) o' k
   pace-on p o o' here k lt call steps alone =
       let old = paces p o here (there-before T past x S R n (party_of x) (is_skipped t) (reply_told t) f.len f.early p k lt) in
       let len = f.len in
@@ -211,7 +211,7 @@ record Paced {T : Type 0} (parties : ℕ) (past : List (Event T)) (told : List (
   fair : Fair parties past told n S R b
   counts : Counts parties b
   paces : (p : ℕ) (o : Open T) → b.open_call p ≡ Some o → (k : IsInCall past S R p n) → Pace past S R p n o k
-  solo : (m p since : ℕ) (k : IsInCall past S R p m) → m ≤ n → k.first ≤ since → IsAlone past S R p since m → steps_between past p since m < SOLO_STEPS
+  solo : (m p since : ℕ) (k : IsInCall past S R p m) → m ≤ n → k.first ≤ since → IsAloneBetween past S R p since m → steps_between past p since m < SOLO_STEPS
   wait_free : (m p : ℕ) (k : IsInCall past S R p m) → m ≤ n → is_wait_free k.call ≡ true → steps_between past p k.first m < WAIT_FREE_STEPS
 
 steps-before : {T : Type 0} (past ys : List (Event T)) (p since m : ℕ) → m ≤ length past → steps_between (past ++ ys) p since m ≡ steps_between past p since m
@@ -246,7 +246,7 @@ module _ (T : Type 0) (cap : Option ℕ) (parties : ℕ) (past : List (Event T))
   paces = pace-next cap parties past told n S R b c x t f d.counts d.paces fair happens
 
   -- at the end
-  last_solo : (p since : ℕ) (k : IsInCall later omitted answers p (n + 1)) → k.first ≤ since → IsAlone later omitted answers p since (n + 1) → steps_between later p since (n + 1) < SOLO_STEPS
+  last_solo : (p since : ℕ) (k : IsInCall later omitted answers p (n + 1)) → k.first ≤ since → IsAloneBetween later omitted answers p since (n + 1) → steps_between later p since (n + 1) < SOLO_STEPS
   last_solo p since k from quiet =
       let at = some-open (c.open_call p) (λ none. fair.outside p none k) in
       let few = counts.solo p at.0 at.1 in
@@ -263,9 +263,9 @@ module _ (T : Type 0) (cap : Option ℕ) (parties : ℕ) (past : List (Event T))
       let all = steps-all later p k.first (n + 1) fair.len in
       omega arith
 
-  solo : (m p since : ℕ) (k : IsInCall later omitted answers p m) → m ≤ n + 1 → k.first ≤ since → IsAlone later omitted answers p since m → steps_between later p since m < SOLO_STEPS
+  solo : (m p since : ℕ) (k : IsInCall later omitted answers p m) → m ≤ n + 1 → k.first ≤ since → IsAloneBetween later omitted answers p since m → steps_between later p since m < SOLO_STEPS
   solo m p since k le from quiet = elim (last-or-earlier m (n + 1) (omega arith)) [
-    | inl at ↦ subst (λ i. (k : IsInCall later omitted answers p i) → k.first ≤ since → IsAlone later omitted answers p since i → steps_between later p since i < SOLO_STEPS) (sym at) (last_solo p since) k from quiet
+    | inl at ↦ subst (λ i. (k : IsInCall later omitted answers p i) → k.first ≤ since → IsAloneBetween later omitted answers p since i → steps_between later p since i < SOLO_STEPS) (sym at) (last_solo p since) k from quiet
     | inr lt ↦ rw (steps-before past (x ∷ []) p since m (omega (arith, len))) (
         d.solo m p since (earlier-before T past x S R n (party_of x) (is_skipped t) (reply_told t) f.len f.early p m (omega arith) k) (omega arith) from
         (λ q i ne low high in_call. quiet q i ne low high (earlier-now T past x S R n (party_of x) (is_skipped t) (reply_told t) f.len f.early q i (omega arith) in_call))

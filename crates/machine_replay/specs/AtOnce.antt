@@ -15,7 +15,7 @@ use Rattle.machine_replay.specs.InCall.{IsStepOf, IsInCall}
 use Rattle.machine_replay.specs.Meaning.{Entry, effects_in, state_after, own_effects, IsMoment, EndsCall, IsAnswer, HasHistory}
 
 -- an effect stands between two steps of the call that its party is in
-pub record IsWithin {T : Type 0} (events : List (Event T)) (skipped : List ℕ) (replies : List (ℕ × ℕ × Reply T)) (x : Entry T) : Type 0 where
+pub record IsWithinCall {T : Type 0} (events : List (Event T)) (skipped : List ℕ) (replies : List (ℕ × ℕ × Reply T)) (x : Entry T) : Type 0 where
   pub from : ℕ
   pub upto : ℕ
   pub starts : IsStepOf events skipped x.party from
@@ -54,11 +54,11 @@ pub record HasMoments {T A : Type 0} (cap : Option ℕ) (events : List (Event T)
   pub calm : (n : ℕ) → (state_after cap S n).coming ≡ None
   pub in_order : AllPairs (λ x y. x.event ≤ y.event) S
   pub left : after cap (effects_in S) ≡ arrived (after cap (effects_in H))
-  pub own : AllByRecursion (IsWithin events r.skipped.items r.replies.items) S
+  pub own : AllByRecursion (IsWithinCall events r.skipped.items r.replies.items) S
   pub whole : AllByRecursion (IsWhole cap events r.skipped.items r.replies.items H S) r.replies.items
   pub answers : AllByRecursion (λ y. IsAnswer cap events r.skipped.items S r.replies.items y ⊎ IsGlanced cap events r.skipped.items H r.replies.items y) r.replies.items
   pub unended : (p : ℕ) (c : IsInCall events r.skipped.items r.replies.items p (length events)) → IsBegun c.call (own_effects p c.first (length events) S)
 
 -- the history of a replay that conforms settles into one of moments
-abbrev pub DisplacesAtOnce : Type 0 → Type 0 → Type 0
-DisplacesAtOnce T A = (cap : Option ℕ) (parties : ℕ) (events : List (Event T)) (r : Replay T A) → Conforms cap parties events r → (h : HasHistory cap events r) → HasMoments cap events r h.history (settle h.history)
+abbrev pub RunsDisplaceAtOnce : Type 0 → Type 0 → Type 0
+RunsDisplaceAtOnce T A = (cap : Option ℕ) (parties : ℕ) (events : List (Event T)) (r : Replay T A) → Conforms cap parties events r → (h : HasHistory cap events r) → HasMoments cap events r h.history (settle h.history)

@@ -42,8 +42,8 @@ abbrev pub CanGoOn : {T A : Type 0} → MachineRun T A → Type 0
 CanGoOn c = HasRoom c.machine.memory × (c.handled + 1 < 2 ^ 64)
 
 -- whatever brought the run to c has brought it to d
-abbrev pub IsSameMachineRun : {T A : Type 0} → MachineRun T A → MachineRun T A → Type 0
-IsSameMachineRun {T} c d = (k : Kind) (parties : ℕ) (events : List (Event T)) (told : List (Told T)) → IsMachineRun k parties events told c → IsMachineRun k parties events told d
+abbrev pub KeepsRun : {T A : Type 0} → MachineRun T A → MachineRun T A → Type 0
+KeepsRun {T} c d = (k : Kind) (parties : ℕ) (events : List (Event T)) (told : List (Told T)) → IsMachineRun k parties events told c → IsMachineRun k parties events told d
 
 -- whatever brought the run to c, this event leads on to d, and this is told of it
 abbrev pub Continues : {T A : Type 0} → MachineRun T A → Event T → Told T → MachineRun T A → Type 0

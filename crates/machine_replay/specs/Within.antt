@@ -38,15 +38,15 @@ abbrev pub steps_between : {T : Type 0} → List (Event T) → ℕ → ℕ → �
 steps_between events p first last = count_by (is_step_of p) (drop first (take last events))
 
 -- from the event `first` on, up to the event `last`, no party but p is in a call
-abbrev pub IsAlone : {T : Type 0} → List (Event T) → List ℕ → List (ℕ × ℕ × Reply T) → ℕ → ℕ → ℕ → Type 0
-IsAlone events skipped replies p first last = (q n : ℕ) → q ≢ p → first ≤ n → n ≤ last → IsInCall events skipped replies q n → ⊥
+abbrev pub IsAloneBetween : {T : Type 0} → List (Event T) → List ℕ → List (ℕ × ℕ × Reply T) → ℕ → ℕ → ℕ → Type 0
+IsAloneBetween events skipped replies p first last = (q n : ℕ) → q ≢ p → first ≤ n → n ≤ last → IsInCall events skipped replies q n → ⊥
 
 -- A call that is in progress before the event `last`, and since the event `since` is the only one, has taken fewer than SOLO_STEPS steps in that
 -- time: so it replies by the step of that number.
 abbrev pub SoloCallsReply : Type 0 → Type 0 → Type 0
 SoloCallsReply T A = (cap : Option ℕ) (parties : ℕ) (events : List (Event T)) (r : Replay T A) → Conforms cap parties events r
     → (p since last : ℕ) (c : IsInCall events r.skipped.items r.replies.items p last) → last ≤ length events → c.first ≤ since
-    → IsAlone events r.skipped.items r.replies.items p since last → steps_between events p since last < SOLO_STEPS
+    → IsAloneBetween events r.skipped.items r.replies.items p since last → steps_between events p since last < SOLO_STEPS
 
 -- A wait-free call that is in progress before the event `last` has taken one step at most: so it replies by its second.
 abbrev pub WaitFreeCallsReply : Type 0 → Type 0 → Type 0

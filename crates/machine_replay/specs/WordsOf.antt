@@ -4,7 +4,7 @@ use Rattle.queue_steps.specs.declared.steps.types.Kind.{Kind}
 use Rattle.machine_steps.specs.declared.machine.Running.{Running}
 use Rattle.machine_steps.specs.declared.types.Event.{Event}
 use Rattle.machine_steps.specs.Left.{opening_world}
-use Rattle.machine_steps.specs.Machine.{Plays}
+use Rattle.machine_steps.specs.Machine.{PassesAll}
 use Rattle.machine_steps.specs.World.{World}
 use Rattle.machine_replay.specs.declared.words.Words.{Words}
 use Rattle.machine_steps.specs.SharedMemory.{Shared}
@@ -19,5 +19,5 @@ pub record AreWords {T A : Type 0} (s : Shared T) (w : Words A) : Type 0 where
 -- these are the words of a machine that comes from its opening by these events
 pub record AreWordsAfter {T A : Type 0} (k : Kind) (parties : ℕ) (events : List (Event T)) (w : Words A) : Type 0 where
   pub last : World (Shared T) (Running T)
-  pub plays : Plays k (opening_world k parties) events last
+  pub plays : PassesAll k (opening_world k parties) events last
   pub words : AreWords last.shared w

@@ -1,6 +1,6 @@
 //! What follows from a replay that conforms. Each function is there for its contract alone.
 ghost use Rattle.machine_replay.specs.Meaning.{ConformingHasHistory};
-ghost use Rattle.machine_replay.specs.AtOnce.{DisplacesAtOnce};
+ghost use Rattle.machine_replay.specs.AtOnce.{RunsDisplaceAtOnce};
 ghost use Rattle.machine_replay.specs.OneOwner.{OnePartyIsOneOwner};
 ghost use Rattle.machine_replay.specs.PeakTold.{PeakIsOfTheRun};
 ghost use Rattle.machine_replay.specs.Progress.{AppendsReply, HalfDoneNeverWaits, SilenceIsShort, TakesReply, UnhinderedCallsReply};
@@ -95,7 +95,7 @@ pub fn wait_free_calls_reply<T, A: Allocator>()
 ///
 /// Each reply ends its call there as it does in the history itself, but for a reply of `len`, `is_empty` or `is_full` that was read while an item was on its way in.
 pub fn displaces_at_once<T, A: Allocator>()
-    ensures { DisplacesAtOnce T A }
+    ensures { RunsDisplaceAtOnce T A }
 {}
 
 /// With one party the replies are those of a run of the table of one owner, over the calls that were begun and in their order. At most the last of them has no reply; where it

@@ -3,7 +3,7 @@ ghost use Rattle.std.specs.Prelude.{◌≡◌, ◌++◌, ◌+◌, ◌-◌, ◌�
 ghost use Rattle.std.specs.Option.{option_to_list};
 ghost use Rattle.queue_steps.specs.Words.{position_of};
 ghost use Rattle.machine_steps.specs.SharedMemory.{shared_of};
-ghost use Rattle.machine_steps.specs.Left.{written, settled, gathered, listed_in, HasSlot, left_of};
+ghost use Rattle.machine_steps.specs.Left.{written, all_written, gathered, listed_in, HasSlot, left_of};
 ghost use Rattle.machine_steps.specs.Machine.{world_of};
 
 use crate::chain_left;
@@ -32,7 +32,7 @@ fn settle<T: Drop, A: Allocator>(
     calls: Vec<Option<Running<T>>, A>,
     mut slots: Vec<Option<T>, A>,
 ) -> Vec<Option<T>, A>
-    ensures { result.items ≡ settled calls.items slots.items }
+    ensures { result.items ≡ all_written calls.items slots.items }
 {
     for call in calls {
         if let Some(Running { touch, carried, .. }) = call {

@@ -1,6 +1,6 @@
 //! A run of the machine, one event after another.
 ghost use Rattle.std.specs.Prelude.{◌≡◌, ◌+◌, ◌≤◌, [], Bool, None, true, false, is_some, IfOk, IsErr, OnOk, slice_index_or, vec_len, vec_capacity};
-ghost use Rattle.machine_replay.specs.MachineRuns.{CanGoOn, Continues, IsMachineRun, IsSomeMachineRun, IsSameMachineRun, Leaves, TellsCall};
+ghost use Rattle.machine_replay.specs.MachineRuns.{CanGoOn, Continues, IsMachineRun, IsSomeMachineRun, KeepsRun, Leaves, TellsCall};
 ghost use Rattle.machine_steps.specs.Left.{left_of};
 ghost use Rattle.machine_steps.specs.Machine.{HasRoomFor, KeepsRoom, event_of, world_of};
 ghost use Rattle.machine_steps.specs.World.{call_at};
@@ -68,7 +68,7 @@ impl<T: Drop, A: Allocator + Copy> MachineRun<T, A> {
     ///
     /// Where there is no memory, or 2^64 - 1 events were handled.
     pub fn make_room(&mut self) -> Result<(), AllocError>
-        ensures stays { IsSameMachineRun self.old self.new }
+        ensures stays { KeepsRun self.old self.new }
         ensures kind { self.new.machine.kind ≡ self.old.machine.kind }
         ensures world { world_of self.new.machine ≡ world_of self.old.machine }
         ensures room { OnOk result (CanGoOn self.new) }

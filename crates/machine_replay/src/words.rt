@@ -1,7 +1,7 @@
 //! The words of a machine after a list of events.
 ghost use Rattle.std.specs.Prelude.{◌≡◌, true, IfOk, IsErr};
 ghost use Rattle.machine_steps.specs.Left.{opening_world};
-ghost use Rattle.machine_steps.specs.Machine.{CanHandle, HasCount, HasRoom, KeepsRoom, Passes, Plays, world_of};
+ghost use Rattle.machine_steps.specs.Machine.{CanHandle, HasCount, HasRoom, KeepsRoom, Passes, PassesAll, world_of};
 ghost use Rattle.machine_replay.specs.Replays.{CanReplay, is_too_large};
 ghost use Rattle.machine_replay.specs.WordsOf.{AreWordsAfter};
 
@@ -50,7 +50,7 @@ pub fn machine_after<T: Drop, A: Allocator + Copy>(
     events: Vec<Event<T>, A>,
 ) -> Result<Machine<T, A>, AllocError>
     requires { CanReplay kind }
-    ensures plays { IfOk result (λ m. Plays kind (opening_world kind parties) events.items (world_of m)) }
+    ensures plays { IfOk result (λ m. PassesAll kind (opening_world kind parties) events.items (world_of m)) }
     ensures limited { is_too_large kind ≡ true → IsErr result }
 {
     if too_large(kind) {

@@ -42,9 +42,9 @@ written_by None slots = slots
 written_by (Some r) slots = written r.touch r.carried slots
 
 -- the slots once every call that is about to write has written
-abbrev pub settled : {T : Type 0} → List (Option (Running T)) → List (Option T) → List (Option T)
-settled [] slots = slots
-settled (x ∷ xs) slots = settled xs (written_by x slots)
+abbrev pub all_written : {T : Type 0} → List (Option (Running T)) → List (Option T) → List (Option T)
+all_written [] slots = slots
+all_written (x ∷ xs) slots = all_written xs (written_by x slots)
 
 -- the items of so many positions of a ring of n slots from position p on, each taken out of its slot
 abbrev pub gathered : {T : Type 0} → ℕ → ℕ → ℕ → List (Option T) → List T
@@ -65,4 +65,4 @@ listed_in kind.Unbounded lock head tail slots = []
 -- the list that a machine holds, with the items that are not yet written
 abbrev pub left_of : {T : Type 0} → Kind → World (Shared T) (Running T) → List T
 left_of kind.Unbounded w = chain_left w.calls w.shared.head_block w.shared.blocks
-left_of k w = listed_in k w.shared.lock w.shared.head w.shared.tail (settled w.calls w.shared.slots)
+left_of k w = listed_in k w.shared.lock w.shared.head w.shared.tail (all_written w.calls w.shared.slots)

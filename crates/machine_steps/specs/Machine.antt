@@ -48,9 +48,9 @@ pub record Handles {T : Type 0} (k : Kind) (w : World (Shared T) (Running T)) (e
   pub told_is : told ≡ (event_of k ok w e).1
 
 -- the machine comes from w by these events, one after another, to the last world
-abbrev pub Plays : {T : Type 0} → Kind → World (Shared T) (Running T) → List (Event T) → World (Shared T) (Running T) → Type 0
-Plays k w [] last = last ≡ w
-Plays k w (e ∷ es) last = (ok : Bool) × Plays k (event_of k ok w e).0 es last
+abbrev pub PassesAll : {T : Type 0} → Kind → World (Shared T) (Running T) → List (Event T) → World (Shared T) (Running T) → Type 0
+PassesAll k w [] last = last ≡ w
+PassesAll k w (e ∷ es) last = (ok : Bool) × PassesAll k (event_of k ok w e).0 es last
 
 -- the machine handles the event, whatever is told of it
 abbrev pub Passes : {T : Type 0} → Kind → World (Shared T) (Running T) → Event T → World (Shared T) (Running T) → Type 0

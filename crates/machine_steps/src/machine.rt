@@ -10,8 +10,9 @@ use crate::effects::effect;
 use crate::same::{Same, all_same};
 use crate::shared_memory::{SharedMemory, vacant};
 use crate::types::{Event, Handled, Told};
+use call_steps::{next, start};
 use queue_steps::model::{Call, Reply};
-use queue_steps::steps::{Answer, Kind, Local, Next, Op, Touch, next, start};
+use queue_steps::steps::{Answer, Kind, Local, Next, Op, Touch};
 use std::alloc::{AllocError, Allocator};
 use std::hash::{Hash, Hasher};
 

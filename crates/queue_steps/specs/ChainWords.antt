@@ -19,5 +19,5 @@ abbrev pub items_before : ℕ → ℕ
 items_before position = block_at position * BLOCK_SLOTS + offset_at position
 
 -- the position, moved over its block's end
-abbrev pub settled : ℕ → ℕ
-settled position = if offset_at position == BLOCK_SLOTS then position + 1 else position
+abbrev pub over_end : ℕ → ℕ
+over_end position = if offset_at position == BLOCK_SLOTS then position + 1 else position

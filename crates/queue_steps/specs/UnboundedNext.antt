@@ -27,7 +27,7 @@ use Rattle.queue_steps.specs.declared.steps.unbounded.TheConstants.{WRITE, READ,
 use Rattle.queue_steps.specs.declared.steps.unbounded.UnboundedLocal.{UnboundedLocal}
 use Rattle.queue_steps.specs.declared.steps.unbounded.UnboundedLocal.TheVariants as chain
 use Rattle.queue_steps.specs.Words.{IsWord, position_of, is_shut}
-use Rattle.queue_steps.specs.ChainWords.{block_at, offset_of, items_before, settled}
+use Rattle.queue_steps.specs.ChainWords.{block_at, offset_of, items_before, over_end}
 use Rattle.queue_steps.specs.BoundedNext.{closed_reply, pushed_reply}
 
 -- one step, after which the call waits at l
@@ -229,7 +229,7 @@ unbounded_next (chain.LenAgain tail head) (Found again) =
     if again == tail then ends (reply.Len (items_before (position_of tail) - items_before (position_of head)))
     else loads chain.LenTail word.Tail
 unbounded_next chain.EmptyHead (Found head) = loads (chain.EmptyTail head) word.Tail
-unbounded_next (chain.EmptyTail head) (Found tail) = ends (reply.IsEmpty (settled (position_of tail) == settled (position_of head)))
+unbounded_next (chain.EmptyTail head) (Found tail) = ends (reply.IsEmpty (over_end (position_of tail) == over_end (position_of head)))
 unbounded_next chain.Closing (Found tail) = ends (reply.Close (tail % 2 == 0))
 unbounded_next chain.ClosedTail (Found tail) = ends (reply.IsClosed (is_shut tail))
 unbounded_next _ _ = ends (reply.Capacity None)

@@ -15,7 +15,7 @@ use Rattle.own_unbounded.specs.OwnChainOwned.{own_chain_queue, IsIdle}
 use Rattle.own_unbounded.specs.ChainMemory.{own_chain_in, AreHeld}
 use Rattle.shared_parties.specs.declared.known.CallState.{CallState}
 use Rattle.shared_parties.specs.Known.{view_of}
-use Rattle.shared_parties.specs.CallStates.{IsAlone}
+use Rattle.shared_parties.specs.CallStates.{IsLoneSeat}
 use Rattle.shared_parties.proofs.Endings.{Ends, calls_end}
 use Rattle.shared_chain.specs.ChainCalls.{OutChain, chain_calls}
 use Rattle.shared_chain.specs.Ending.{LeadsTo, IntoBlock, gone_first}
@@ -76,7 +76,7 @@ module _ {A : Type 0} (bs : List (Block A)) (two : 1 < length bs) where
   pub inner_drop : (n : ℕ) → drop (n + 2) inner ≡ drop (n + 2) bs
   inner_drop n = drop-set-lt (n + 2) (without bs 0) 1 (gone (block (without bs 0) 1)) (omega arith) ∙ drop-set-lt (n + 2) bs 0 (gone (block bs 0)) (omega arith)
 
-module _ {A : Type 0} (te he : Ptr) (id : ℕ) (d : CallState A) (bs : List (Block A)) (is : IsAlone d) (last : LastBlocksBy (Rule te he) id d bs) where
+module _ {A : Type 0} (te he : Ptr) (id : ℕ) (d : CallState A) (bs : List (Block A)) (is : IsLoneSeat d) (last : LastBlocksBy (Rule te he) id d bs) where
   abbrev rule : Rule te he record { blocks = bs; views = last.0 }
   rule = last.1
 

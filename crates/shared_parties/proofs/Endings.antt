@@ -12,7 +12,7 @@ use Rattle.shared_parties.specs.declared.known.CallState.{CallState}
 use Rattle.shared_parties.specs.declared.known.Work.{Work}
 use Rattle.shared_parties.specs.declared.known.Work.TheVariants as work
 use Rattle.shared_parties.specs.Known.{view_of}
-use Rattle.shared_parties.specs.CallStates.{is_busy, known_by, IsAlone}
+use Rattle.shared_parties.specs.CallStates.{is_busy, known_by, IsLoneSeat}
 use Rattle.shared_parties.specs.Calling.{CallsOf, cap_of, Standing}
 use Rattle.shared_parties.specs.CallsAt.{CallsAt}
 use Rattle.shared_parties.proofs.Alone.{Alone, alone}
@@ -30,7 +30,7 @@ pub record Ends {T : Type 0} (K : CallsOf T) (g : K.Cells) (h : List (Effect T))
   pub quiet : (j : ℕ) (e : CallState T) → get_elem? views j ≡ some e → is_busy e.work ≡ false
   pub nobody : (who : ℕ) → K.Idle g who
 
-pub calls_end : {T : Type 0} (K : CallsOf T) (g : K.Cells) (h : List (Effect T)) (n : ℕ) (views : List (CallState T)) (id : ℕ) (d : CallState T) → CallsAt K g h n views → get_elem? views id ≡ some d → IsAlone d → Ends K g h views id d
+pub calls_end : {T : Type 0} (K : CallsOf T) (g : K.Cells) (h : List (Effect T)) (n : ℕ) (views : List (CallState T)) (id : ℕ) (d : CallState T) → CallsAt K g h n views → get_elem? views id ≡ some d → IsLoneSeat d → Ends K g h views id d
 calls_end {T} K g h n views id d all at is = record {
   whole = solo.whole;
   seen = solo.seen;

@@ -18,7 +18,7 @@ use Rattle.law_ring.proofs.RingIdle.{NobodyHolds, AtRest, at_rest}
 use Rattle.shared_parties.specs.declared.known.CallState.{CallState}
 use Rattle.shared_parties.specs.Known.{view_of}
 use Rattle.shared_tables.specs.Seats.{count_of}
-use Rattle.shared_parties.specs.CallStates.{IsAlone}
+use Rattle.shared_parties.specs.CallStates.{IsLoneSeat}
 use Rattle.shared_tables.specs.TableRule.{Rule}
 use Rattle.shared_tables.specs.RingTable.{home_when, Homes, ring_words, ring_table}
 use Rattle.own_bounded.specs.RingCells.{RingSlot}
@@ -107,7 +107,7 @@ module _ {T : Type 0} where
       homes.1 i lt ∙ (ap (λ o. some (home_when o (item_in (r.cells i)))) (none_if (owner (r.cells i)) (λ who e. nobody who i e)) ∙ ap (λ (o : Option T). some (some o)) (sym (codes.slot i lt)))
 
   -- the end: the only party has every place, no call is on its way, and the words and slots are those of a ring with one owner after what the party has seen
-  pub ring_finishes : (cap id : ℕ) (d : CallState T) (ws : List ℕ) (xs : List (Option T)) → IsAlone d → Final (Seen (Rule (ring_table cap)) id d) ws xs
+  pub ring_finishes : (cap id : ℕ) (d : CallState T) (ws : List ℕ) (xs : List (Option T)) → IsLoneSeat d → Final (Seen (Rule (ring_table cap)) id d) ws xs
       → IsIdle (ring_in cap ws xs) × IsShown (ring_queue (ring_in cap ws xs)) (after (Some cap) d.known.seen) × IsWhole (view_of d.known)
   ring_finishes cap id d ws xs is end =
       let s = end.0 in let rule : Rule (ring_table cap) s = end.1.0 in let r : Ring T = rule.cells in

@@ -16,7 +16,7 @@ use Rattle.law_slot.proofs.SlotCells.{all_nobody}
 use Rattle.shared_parties.specs.declared.known.CallState.{CallState}
 use Rattle.shared_parties.specs.Known.{party, view_of}
 use Rattle.shared_tables.specs.Seats.{count_of}
-use Rattle.shared_parties.specs.CallStates.{idle, is_busy, IsAlone}
+use Rattle.shared_parties.specs.CallStates.{idle, is_busy, IsLoneSeat}
 use Rattle.own_bounded.specs.SingleCells.{state_of, word_for}
 use Rattle.shared_tables.specs.TableRule.{Rule}
 use Rattle.shared_tables.specs.SlotTable.{home_under, slot_table}
@@ -71,7 +71,7 @@ module _ (T : Type 0) where
   second_word (y ∷ z ∷ ws) word e = some-injective z word e
 
   -- the end: the only party has every place, and the slot and its word are those of the state after what it has seen
-  pub slot_ends : (id : ℕ) (d : CallState T) (ws : List ℕ) (xs : List (Option T)) (word : ℕ) (x : Option T) → IsAlone d → Final (Seen (Rule slot_table) id d) ws xs → get_elem? ws 1 ≡ some word → get_elem? xs 0 ≡ some x
+  pub slot_ends : (id : ℕ) (d : CallState T) (ws : List ℕ) (xs : List (Option T)) (word : ℕ) (x : Option T) → IsLoneSeat d → Final (Seen (Rule slot_table) id d) ws xs → get_elem? ws 1 ≡ some word → get_elem? xs 0 ≡ some x
       → (word ≡ word_for x (is_marked word)) × IsShown (state_of word x) (after (Some 1) d.known.seen) × IsWhole (view_of d.known)
   slot_ends id d ws xs word x is end at_word at_slot =
       let s = end.0 in let rule : Rule slot_table s = end.1.0 in let g : Slot T = rule.cells in

@@ -10,7 +10,7 @@ use Rattle.queue_steps.specs.Parties.{IsWhole}
 use Rattle.shared_parties.specs.declared.known.CallState.{CallState}
 use Rattle.shared_parties.specs.Known.{view_of}
 use Rattle.shared_tables.specs.Seats.{Table, count_of}
-use Rattle.shared_parties.specs.CallStates.{is_busy, known_by, IsAlone}
+use Rattle.shared_parties.specs.CallStates.{is_busy, known_by, IsLoneSeat}
 use Rattle.shared_parties.specs.Calling.{cap_of}
 use Rattle.shared_tables.specs.TableRule.{TableOf, Rule}
 use Rattle.shared_tables.proofs.TableParties.{table_keeps_parties}
@@ -26,7 +26,7 @@ pub record Ends {T : Type 0} (K : TableOf T) (s : Table T) (id : ℕ) (d : CallS
   pub quiet : (j : ℕ) (e : CallState T) → get_elem? s.views j ≡ some e → is_busy e.work ≡ false
   pub nobody : (who : ℕ) → K.calls.Idle rule.cells who
 
-pub table_ends : {T : Type 0} (K : TableOf T) (s : Table T) (id : ℕ) (d : CallState T) (rule : Rule K s) → get_elem? s.views id ≡ some d → IsAlone d → Ends K s id d rule
+pub table_ends : {T : Type 0} (K : TableOf T) (s : Table T) (id : ℕ) (d : CallState T) (rule : Rule K s) → get_elem? s.views id ≡ some d → IsLoneSeat d → Ends K s id d rule
 table_ends {T} K s id d rule at is = record {
   whole = solo.whole;
   seen = solo.seen;

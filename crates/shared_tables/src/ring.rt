@@ -8,15 +8,16 @@ ghost use Rattle.queue_steps.specs.Shares.{entire};
 ghost use Rattle.queue_steps.specs.Words.{IsRing};
 ghost use Rattle.shared_parties.specs.Known.{party, view_of};
 ghost use Rattle.shared_tables.specs.RingOpening.{first_words};
-ghost use Rattle.shared_parties.specs.CallStates.{idle, IsAlone};
+ghost use Rattle.shared_parties.specs.CallStates.{idle, IsLoneSeat};
 
 use crate::table::{SharedTable, Sizes, TableKind, TableSteps};
 use atomic_table::Seat;
+use call_steps::RingSteps;
 use exclusive_queue::Exclusive;
 use own_bounded::ring_words::{HEAD, STAMPS, TAIL, words_before_stamps};
 use own_bounded::vacant::{discard, empty_slots, table_of};
 use queue_steps::sizes::MAX_CAPACITY;
-use queue_steps::steps::{Kind, RingSteps, Word};
+use queue_steps::steps::{Kind, Word};
 use shared_parties::known::CallState;
 use std::alloc::{AllocError, Allocator};
 
@@ -119,7 +120,7 @@ pub fn end_ring<T, A: Allocator>(
     seat: Seat<Option<T>, CallState<T>>,
 ) -> Exclusive<T, A>
     requires table { seat.table_id ≡ ring.table.shared.table_id }
-    requires alone { IsAlone seat.me.0 }
+    requires alone { IsLoneSeat seat.me.0 }
     ensures { IsShown result.queue (after (Some ring.table.shared.table_id.slots) seat.me.0.known.seen) × IsWhole (view_of seat.me.0.known) × (result.blocks ≡ 0) }
 {
     let SharedTable { table, slots } = ring;

@@ -5,13 +5,14 @@ ghost use Rattle.queue_steps.specs.Legal.{IsShown};
 ghost use Rattle.queue_steps.specs.Parties.{IsWhole};
 ghost use Rattle.queue_steps.specs.Shares.{entire};
 ghost use Rattle.shared_parties.specs.Known.{party, view_of};
-ghost use Rattle.shared_parties.specs.CallStates.{idle, IsAlone};
+ghost use Rattle.shared_parties.specs.CallStates.{idle, IsLoneSeat};
 ghost use Rattle.own_bounded.specs.SingleCells.{IsIdle, single_owned};
 
 use crate::table::{SharedTable, Sizes, TableKind, TableSteps};
 use atomic_table::{Seat, Table};
+use call_steps::SlotSteps;
 use own_bounded::Single;
-use queue_steps::steps::{Kind, SlotSteps, Word};
+use queue_steps::steps::{Kind, Word};
 use shared_parties::known::CallState;
 use std::alloc::{AllocError, Allocator};
 
@@ -72,7 +73,7 @@ pub fn end_slot<T, A: Allocator>(
     seat: Seat<Option<T>, CallState<T>>,
 ) -> Single<T>
     requires table { seat.table_id ≡ slot.table.shared.table_id }
-    requires alone { IsAlone seat.me.0 }
+    requires alone { IsLoneSeat seat.me.0 }
     ensures { IsIdle result × IsShown (single_owned result).queue (after (Some 1) seat.me.0.known.seen) × IsWhole (view_of seat.me.0.known) }
 {
     let SharedTable { table, slots: _ } = slot;

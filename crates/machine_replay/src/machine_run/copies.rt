@@ -1,7 +1,7 @@
 //! Copies of runs, and what tells runs from each other.
 ghost use Rattle.std.specs.Prelude.{◌≡◌, Bool, IfOk, None, length, slice_index_or, true, false};
 ghost use Rattle.machine_steps.specs.Machine.{event_of, world_of};
-ghost use Rattle.machine_replay.specs.MachineRuns.{CanGoOn, IsSameMachineRun};
+ghost use Rattle.machine_replay.specs.MachineRuns.{CanGoOn, KeepsRun};
 ghost use Rattle.machine_replay.specs.Played.{asks, local_in};
 ghost use Rattle.machine_steps.specs.World.{call_at};
 ghost use Rattle.machine_steps.specs.declared.types.Event.TheVariants.{Step};
@@ -20,7 +20,7 @@ impl<T: Copy, A: Allocator + Copy> MachineRun<T, A> {
     ///
     /// Where there is no memory, or 2^64 - 1 events were handled.
     pub fn fork(&self, alloc: A) -> Result<MachineRun<T, A>, AllocError>
-        ensures same { IfOk result (λ run. IsSameMachineRun self.now run) }
+        ensures same { IfOk result (λ run. KeepsRun self.now run) }
         ensures kind { IfOk result (λ run. run.machine.kind ≡ self.now.machine.kind) }
         ensures world { IfOk result (λ run. world_of run.machine ≡ world_of self.now.machine) }
         ensures room { IfOk result (λ run. CanGoOn run) }

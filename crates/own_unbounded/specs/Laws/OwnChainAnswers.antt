@@ -15,7 +15,7 @@ use Rattle.queue_steps.specs.declared.steps.bounded.PushKind.TheVariants as push
 use Rattle.queue_steps.specs.declared.steps.unbounded.UnboundedLocal.TheVariants as chain
 use Rattle.queue_steps.specs.Replies.{is_empty}
 use Rattle.queue_steps.specs.Words.{position_of, is_shut}
-use Rattle.queue_steps.specs.ChainWords.{offset_at, settled}
+use Rattle.queue_steps.specs.ChainWords.{offset_at, over_end}
 use Rattle.queue_steps.specs.UnboundedNext.{loads, ends}
 use Rattle.own_unbounded.specs.declared.unbounded.Name.{Name}
 use Rattle.own_bounded.specs.Laws.Numbers.{same_nat, equal_nat, apart_nat, is_even}
@@ -45,7 +45,7 @@ is_closed-answers r i = (
 
 -- the two positions are the same
 abbrev met : {T : Type 0} → OwnChain T → Bool
-met r = settled (position_of r.tail) == settled (position_of r.head)
+met r = over_end (position_of r.tail) == over_end (position_of r.head)
 
 is_empty-answers : {T : Type 0} (r : OwnChain T) → IsIdle r → OwnChainAnswers r call.IsEmpty
 is_empty-answers {T} r i = (
@@ -55,7 +55,7 @@ is_empty-answers {T} r i = (
       (i, (reply.IsEmpty (met r), refl, sequential r r call.IsEmpty (reply.IsEmpty (met r)) i (ap reply.IsEmpty (is (own_chain_queue r).items (length-items r i))) refl (λ x. refl)))),
 )
   where
-    unmoved : (p : ℕ) → offset_at p < BLOCK_SLOTS → settled p ≡ p
+    unmoved : (p : ℕ) → offset_at p < BLOCK_SLOTS → over_end p ≡ p
     unmoved p rests = let other : (offset_at p == BLOCK_SLOTS) ≡ false = apart_nat (offset_at p) BLOCK_SLOTS (omega arith) in rw other refl
 
     same : (xs : List T) → length xs ≡ accepted r - taken r → (position_of r.tail == position_of r.head) ≡ is_empty xs

@@ -1,5 +1,5 @@
 use Rattle.std.proofs.Common.{◌≡◌}
-use Rattle.machine_steps.specs.Left.{settled}
+use Rattle.machine_steps.specs.Left.{all_written}
 use Rattle.machine_replay.proofs.left.settle.Given as goal
 
 abbrev pub invariant-loop-call : goal.invariant-loop-call
@@ -7,5 +7,5 @@ invariant-loop-call g l =
     record {
       can : (goal.iterator-loop-call g).can_next l.call-iterator;
       finite : (goal.iterator-loop-call g).is_finite l.call-iterator;
-      slots : l.slots.items ≡ settled l.yielded l.fn.slots.items;
+      slots : l.slots.items ≡ all_written l.yielded l.fn.slots.items;
     }

@@ -3,7 +3,7 @@ use Rattle.std.proofs.lemmas.List.{map-id}
 use Rattle.std.proofs.lemmas.Iterator.Adapters.{YieldsList-from_vec}
 use Rattle.std.proofs.lemmas.Iterator.Consumers.{YieldsList-end}
 use Rattle.machine_steps.specs.Left.{opening_world}
-use Rattle.machine_steps.specs.Machine.{world_of, Plays}
+use Rattle.machine_steps.specs.Machine.{world_of, PassesAll}
 use Rattle.machine_replay.proofs.AllKinds.{in_order-first, in_order-can, in_order-next, has_machine}
 use Rattle.machine_replay.proofs.words.machine_after.Goals as goal
 
@@ -42,7 +42,7 @@ returns-clause-plays g c =
     let it = c.into_iter-event-iterator.ensures.into_iter_gives in
     let t = YieldsList-end (YieldsList-from_vec c.args.events.items it.0 (it.1 ∙ c.args.events.ok.0)) c.loop-event.yielded c.loop-event.event-iterator c.loop-event.yielded_by c.next.result c.next.new.self c.in-None.is c.next.ensures.steps in
     let all : c.loop-event.yielded ≡ c.args.events.items = sym (map-id c.loop-event.yielded) ∙ t.0 in
-    subst (λ es. Plays c.args.kind (opening_world c.args.kind c.args.parties) es (world_of c.loop-event.machine)) all c.loop-event.invariant.in_order.plays
+    subst (λ es. PassesAll c.args.kind (opening_world c.args.kind c.args.parties) es (world_of c.loop-event.machine)) all c.loop-event.invariant.in_order.plays
 
 pub returns-clause-limited : goal.returns-clause-limited
 returns-clause-limited g c = search (rules, tests)

@@ -16,16 +16,16 @@ apart : {P : Type 0} → false ≡ true → P
 apart e = cc
 
 -- a test that no two different values pass
-record Tells {A : Type 0} (E : A → A → Bool) : Type 0 where
+record SameTells {A : Type 0} (E : A → A → Bool) : Type 0 where
   told : (x y : A) → E x y ≡ true → x ≡ y
 
-kind : Tells (sameb the_type)
+kind : SameTells (sameb the_type)
 kind = record { told = same_true the_type tt }
 
-number : Tells eqb
+number : SameTells eqb
 number = record { told = eqb-true }
 
-flag : Tells beq
+flag : SameTells beq
 flag = record { told = λ x y. (booleans_Decides x y).0 }
 
 spares : (x y : Option ℕ) → option_eq eqb x y ≡ true → x ≡ y
@@ -33,20 +33,20 @@ spares None None e = refl
 spares (Some x) (Some y) e = ap Some (eqb-true x y e)
 spares x y e = apart e
 
-spare : Tells (option_eq eqb)
+spare : SameTells (option_eq eqb)
 spare = record { told = spares }
 
 -- the test of a variant's one field, or of each of its two, three or four
-one : {A K : Type 0} {E : A → A → Bool} → Tells E → (f : A → K) {x y : A} → E x y ≡ true → f x ≡ f y
+one : {A K : Type 0} {E : A → A → Bool} → SameTells E → (f : A → K) {x y : A} → E x y ≡ true → f x ≡ f y
 one a f {x} {y} e = ap f (a.told x y e)
 
-two : {A B K : Type 0} {E : A → A → Bool} {F : B → B → Bool} → Tells E → Tells F → (f : A → B → K) {x y : A} {u v : B} → (E x y && F u v) ≡ true → f x u ≡ f y v
+two : {A B K : Type 0} {E : A → A → Bool} {F : B → B → Bool} → SameTells E → SameTells F → (f : A → B → K) {x y : A} {u v : B} → (E x y && F u v) ≡ true → f x u ≡ f y v
 two {E} {F} a b f {x} {y} {u} {v} e = let h = and_parts (E x y) (F u v) e in λ i. one b (f (a.told x y h.0 i)) h.1 i
 
-three : {A B C K : Type 0} {E : A → A → Bool} {F : B → B → Bool} {G : C → C → Bool} → Tells E → Tells F → Tells G → (f : A → B → C → K) {x y : A} {u v : B} {p q : C} → (E x y && (F u v && G p q)) ≡ true → f x u p ≡ f y v q
+three : {A B C K : Type 0} {E : A → A → Bool} {F : B → B → Bool} {G : C → C → Bool} → SameTells E → SameTells F → SameTells G → (f : A → B → C → K) {x y : A} {u v : B} {p q : C} → (E x y && (F u v && G p q)) ≡ true → f x u p ≡ f y v q
 three {E} {F} {G} a b c f {x} {y} {u} {v} {p} {q} e = let h = and_parts (E x y) (F u v && G p q) e in λ i. two b c (f (a.told x y h.0 i)) h.1 i
 
-four : {A B C D K : Type 0} {E : A → A → Bool} {F : B → B → Bool} {G : C → C → Bool} {H : D → D → Bool} → Tells E → Tells F → Tells G → Tells H → (f : A → B → C → D → K) {x y : A} {u v : B} {p q : C} {s t : D} → (E x y && (F u v && (G p q && H s t))) ≡ true → f x u p s ≡ f y v q t
+four : {A B C D K : Type 0} {E : A → A → Bool} {F : B → B → Bool} {G : C → C → Bool} {H : D → D → Bool} → SameTells E → SameTells F → SameTells G → SameTells H → (f : A → B → C → D → K) {x y : A} {u v : B} {p q : C} {s t : D} → (E x y && (F u v && (G p q && H s t))) ≡ true → f x u p s ≡ f y v q t
 four {E} {F} {G} {H} a b c d f {x} {y} {u} {v} {p} {q} {s} {t} e = let h = and_parts (E x y) (F u v && (G p q && H s t)) e in λ i. three b c d (f (a.told x y h.0 i)) h.1 i
 
 -- two places of one variant, field by field; of two variants the test is false
