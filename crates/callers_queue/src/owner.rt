@@ -1,4 +1,4 @@
-//! The callers that `exclusive_queue/CALLING.md` and `queue_steps/CALLING.md` show.
+//! The callers that `exclusive_queue/CALLING.md` and `call_steps/CALLING.md` show.
 ghost use Rattle.std.specs.Prelude.{◌≡◌, ◌≢◌, ◌<◌, ℕ, List, [], ◌∷◌, ◌++◌, false, None, Some, IfOk, IfErr};
 ghost use Rattle.queue_steps.specs.declared.sizes.TheConstants.{LIMIT};
 ghost use Rattle.queue_steps.specs.declared.errors.PushError.TheVariants as push;
