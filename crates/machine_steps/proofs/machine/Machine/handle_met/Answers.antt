@@ -30,3 +30,12 @@ returns-in-Some-clause-met_told g c met =
     let there : call_at (world_of c.args.self.now) c.in-Step.party ≡ Some c.in-Some.running = grind (arith, common_steps) in
     rw c.in-Step.is (handles-met c.args.self.now.kind (world_of c.args.self.now) (world_of c.step-told.new.self) c.in-Step.party c.in-Step.granted c.step-told.result.1 c.in-Some.running c.step-told.result.0
     (slice_set c.args.self.now.calls.items c.in-Step.party c.take.new.self) (met_if c.in-Step.granted c.step-told.result.1 c.step-told.ensures.refused (c.is_met.ensures met)) there (grind (arith, common_steps)) c.step-told.ensures.world c.step-told.ensures.told).1
+
+pub returns-then-party-len-clause-handles : goal.returns-then-party-len-clause-handles
+returns-then-party-len-clause-handles g c = grind (arith, common_steps)
+
+pub returns-then-party-len-clause-met_world : goal.returns-then-party-len-clause-met_world
+returns-then-party-len-clause-met_world g c = grind (arith, common_steps)
+
+pub returns-then-party-len-clause-met_told : goal.returns-then-party-len-clause-met_told
+returns-then-party-len-clause-met_told g c = grind (arith, common_steps)
