@@ -1,0 +1,5 @@
+use Rattle.std.proofs.Common.{rules}
+use Rattle.counted_channel.proofs.sides.end_one.Goals as goal
+
+pub returns-clause-party : goal.returns-clause-party
+returns-clause-party g c = search rules

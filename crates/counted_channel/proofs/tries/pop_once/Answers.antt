@@ -1,0 +1,8 @@
+use Rattle.std.proofs.Common.{rules}
+use Rattle.counted_channel.proofs.tries.pop_once.Goals as goal
+
+pub returns-in-Ok : goal.returns-in-Ok
+returns-in-Ok g c = search rules
+
+pub returns-in-Err-Empty : goal.returns-in-Err-Empty
+returns-in-Err-Empty g c = search rules

@@ -1,0 +1,5 @@
+use Rattle.std.proofs.Common.{rules}
+use Rattle.counted_channel.proofs.tries.push_once.Goals as goal
+
+pub returns-in-Err-Full : goal.returns-in-Err-Full
+returns-in-Err-Full g c = search rules
