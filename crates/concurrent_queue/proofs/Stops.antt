@@ -31,10 +31,6 @@ use Rattle.concurrent_queue.specs.Pending.{begun_by, IsStoppedAt}
 use Rattle.concurrent_queue.proofs.TableCalls.{table_ends}
 use Rattle.shared_calls.proofs.Steps.{at_step, at_its}
 
--- a table is told by its name
-pub same_table : (a b : TableId) → at_table a ≡ at_table b → a ≡ b
-same_table a b e = let h : at_table a ≡ at_table b = e in cc
-
 -- a ring is no queue of one slot
 pub not_one : (n : ℕ) → 2 ≤ n → Some 1 ≡ Some n → ⊥
 not_one n wide is = let one : 1 ≡ n = cc in omega (arith, wide, one)

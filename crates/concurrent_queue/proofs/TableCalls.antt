@@ -1,5 +1,5 @@
 -- A party at a table that begins a call, and one whose call ended.
-use Rattle.std.proofs.Common.{◌≡◌, ℕ, Option, sym, subst}
+use Rattle.std.proofs.Common.{◌≡◌, ◌∙◌, ℕ, Option, sym, ap, subst}
 use Rattle.atomic_table.specs.Seated.{TableId}
 use Rattle.atomic_table.specs.declared.shared.Seat.{Seat}
 use Rattle.queue_steps.specs.declared.model.Call.{Call}
@@ -9,8 +9,12 @@ use Rattle.shared_parties.specs.declared.known.CallState.{CallState}
 use Rattle.shared_tables.specs.AtTable.{TableSeat, IsAt, Ended}
 use Rattle.concurrent_queue.specs.declared.party.SeatPlace.{SeatPlace}
 use Rattle.concurrent_queue.specs.declared.party.SeatPlace.TheVariants as place
-use Rattle.concurrent_queue.specs.Shared.{Person, IsHeld, Calls, person_of}
+use Rattle.concurrent_queue.specs.Shared.{QueueId, at_table, Person, IsHeld, Calls, person_of}
 use Rattle.concurrent_queue.proofs.Persons.{ended_person, ended_calls}
+
+-- a table is told by its name
+pub same_table : (a b : TableId) → at_table a ≡ at_table b → a ≡ b
+same_table a b e = let h : at_table a ≡ at_table b = e in cc
 
 module _ {T : Type 0} (a : SeatPlace T) (s : Seat (Option T) (CallState T)) (cap : Option ℕ) (t : TableId) (sits : a ≡ place.Table s) (is : IsHeld a) where
   abbrev at : Seat (Option T) (CallState T) → TableSeat T
@@ -29,3 +33,20 @@ module _ {T : Type 0} (a : SeatPlace T) (s : Seat (Option T) (CallState T)) (cap
     subst IsHeld (sym sat) (ended_person cap t (at s) (at q) c r held.0 e),
     subst (λ p. Calls v c z (person_of p)) (sym sat) (subst (λ y. Calls v c y (person_of (place.Table q))) (sym same) (ended_calls cap t (at s) (at q) v c r (subst (λ p. person_of p ≡ v) sits is_v) one here held.0 e)),
   )
+
+abbrev queue_at : TableId → Option ℕ → QueueId
+queue_at t cap = record { name = at_table t; cap = cap }
+
+-- the same of a party of which it is known whose queue that is
+module _ {T : Type 0} (a : SeatPlace T) (s : Seat (Option T) (CallState T)) (cap : Option ℕ) (t : TableId) (v : Person T) (sits : a ≡ place.Table s) (is : IsHeld a) (is_v : person_of a ≡ v) (of : v.queue ≡ queue_at t cap) where
+  sits_there : queue_at s.table_id s.me.0.known.cap ≡ queue_at t cap
+  sits_there = ap (λ (p : Person T). p.queue) (subst (λ p. person_of p ≡ v) sits is_v) ∙ of
+
+  here : s.table_id ≡ t
+  here = same_table s.table_id t (ap (λ (z : QueueId). z.name) sits_there)
+
+  pub begins_here : IsAt cap t (s.table_id, s.me)
+  begins_here = table_begins a s cap t sits is here (ap (λ (z : QueueId). z.cap) sits_there)
+
+  pub ends_here : (q : Seat (Option T) (CallState T)) (b : SeatPlace T) (c : Call T) (r z : Reply T) → b ≡ place.Table q → z ≡ r → Ended cap t (s.table_id, s.me) c r (q.table_id, q.me) → IsHeld b × Calls v c z (person_of b)
+  ends_here q b c r z sat same e = table_ends a s cap t sits is q b v c r z sat same is_v (ap (λ (z : QueueId). z.cap) of) (sym here) e

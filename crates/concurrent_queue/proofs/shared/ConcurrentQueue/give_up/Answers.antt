@@ -10,7 +10,8 @@ use Rattle.concurrent_queue.specs.Shared.{QueueId, form_id}
 use Rattle.concurrent_queue.specs.declared.shared.pending.CallPlace.{CallPlace}
 use Rattle.concurrent_queue.specs.declared.shared.pending.CallPlace.TheVariants as stopped
 use Rattle.concurrent_queue.proofs.Quits.{given_back, given_back_in}
-use Rattle.concurrent_queue.proofs.Stops.{come_here, same_table, not_one}
+use Rattle.concurrent_queue.proofs.Stops.{come_here, not_one}
+use Rattle.concurrent_queue.proofs.TableCalls.{same_table}
 use Rattle.concurrent_queue.proofs.StopsIn.{StopsInside, same_web}
 use Rattle.concurrent_queue.proofs.shared.ConcurrentQueue.give_up.Goals as goal
 

@@ -7,7 +7,8 @@ use Rattle.concurrent_queue.specs.Begun.{Begun}
 use Rattle.concurrent_queue.specs.Pending.{begun_of, IsStopped}
 use Rattle.shared_parties.specs.Quitting.{its_call}
 use Rattle.concurrent_queue.specs.Shared.{QueueId, Calls, form_id}
-use Rattle.concurrent_queue.proofs.Stops.{first_seat, come_here, go_there, own_step, taken_up, went_on, ended, same_table, not_one}
+use Rattle.concurrent_queue.proofs.Stops.{first_seat, come_here, go_there, own_step, taken_up, went_on, ended, not_one}
+use Rattle.concurrent_queue.proofs.TableCalls.{same_table}
 use Rattle.concurrent_queue.proofs.StopsIn.{first_asking, StopsInside, own_step_in, taken_up_in, went_on_in, ended_in, same_web}
 use Rattle.concurrent_queue.proofs.shared.ConcurrentQueue.resume.Goals as goal
 
