@@ -8,6 +8,7 @@ use crate::asserts::is;
 use mem_blocks::block::{BlockPtr, Loose};
 use mem_blocks::chain::Chain;
 use mem_blocks::hub::Hub;
+use mem_blocks::null_testable::NullTestable;
 use mem_blocks::sizes::SLOTS;
 use mem_blocks::web::{Seat, Web};
 use std::alloc::{AllocError, Allocator, Global, Layout};
@@ -160,15 +161,19 @@ fn large_slots_are_asked_for(rt: HostRuntime) {
     is(&rt, seen, ([true, true], 2, [true, true], 4));
 }
 
+/// How many allocations of the watched layout live while there is a block of such slots, and how many of any layout.
+fn counts_with<S>(rt: &impl Abort, alloc: &&Heap) -> (u64, u64) {
+    let (link, block) = Loose::<S, &Heap>::make(alloc).expect(rt, "memory");
+    let counts = (alloc.live_watched(), alloc.live());
+    block.give_up(alloc, link);
+    counts
+}
+
 /// How many allocations of this layout live while there is a block of such slots, and how many of any layout; and how many of either once it is given up.
 fn counts_of<S>(rt: &impl Abort, alloc: Global, size: usize, align: usize) -> [u64; 4] {
     let layout = Layout::from_size_align(size, align).expect(rt, "a layout");
     let heap = Heap::watching(alloc, Refusal::Never, layout);
-    let alloc = &heap;
-    let (link, block) = Loose::<S, &Heap>::make(&alloc).expect(rt, "memory");
-    let watched = heap.live_watched();
-    let live = heap.live();
-    block.give_up(&alloc, link);
+    let (watched, live) = counts_with::<S>(rt, &&heap);
     [watched, live, heap.live_watched(), heap.live()]
 }
 
@@ -180,27 +185,28 @@ fn a_block_goes_back_as_it_came(rt: HostRuntime) {
     is(&rt, [of_words, aligned], [[1, 1, 0, 0]; 2]);
 }
 
+/// Whether the link of a block leads anywhere.
+fn leads<A: NullTestable>(rt: &impl Abort, alloc: &A) -> bool {
+    let (link, block) = Loose::<u8, A>::make_testable(alloc).expect(rt, "memory");
+    let leads = link.get().is_some();
+    block.give_up(alloc, link);
+    leads
+}
+
 #[test]
 fn a_link_tells_whether_it_leads_anywhere(rt: HostRuntime) {
-    let alloc: Global = rt.alloc();
-    let (link, block) = Loose::<u8, Global>::make_testable(&alloc).expect(&rt, "memory");
     let nowhere: BlockPtr<u8> = BlockPtr {
         ptr: std::ptr::null_mut(),
     };
-    let leads = [link.get().is_some(), nowhere.get().is_some()];
-    block.give_up(&alloc, link);
-    is(&rt, leads, [true, false]);
+    let found = [leads(&rt, &rt.alloc()), nowhere.get().is_some()];
+    is(&rt, found, [true, false]);
 }
 
 #[test]
 fn a_counted_block_tells_that_it_is_somewhere(rt: HostRuntime) {
     let heap = Heap::new(rt.alloc(), Refusal::Never);
-    let alloc = &heap;
-    let (link, block) = Loose::<u8, &Heap>::make_testable(&alloc).expect(&rt, "memory");
-    let found = link.get().is_some();
-    let made = heap.live();
-    block.give_up(&alloc, link);
-    let seen = [made, heap.live(), heap.requests()];
+    let found = leads(&rt, &&heap);
+    let seen = [heap.most(), heap.live(), heap.requests()];
     is(&rt, (found, seen), (true, [1, 0, 1]));
 }
 

@@ -22,8 +22,13 @@ pub(crate) fn run(
 ) -> Option<(usize, Peak)>
     requires { CanReplay kind }
 {
-    let told = replay(heap, kind, parties, events.to_vec(heap).ok()?).ok()?;
-    Some((told.left.len(), told.peak))
+    let Ok(events) = events.to_vec(heap) else {
+        return None;
+    };
+    match replay(heap, kind, parties, events) {
+        Ok(told) => Some((told.left.len(), told.peak)),
+        Err(_) => None,
+    }
 }
 
 /// What is seen of a run in memory that is counted.

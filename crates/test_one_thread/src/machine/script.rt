@@ -117,6 +117,14 @@ pub(crate) struct Run<'a> {
     pub(crate) facts: &'a [Fact<'a>],
 }
 
+/// Whether there are more entries than so many, and the next is this one, with its party.
+fn comes_at<T: PartialEq>(told: &[(usize, usize, T)], at: usize, wanted: &(usize, T)) -> bool {
+    match told.get(at) {
+        Some(found) => found.1 == wanted.0 && found.2 == wanted.1,
+        None => false,
+    }
+}
+
 /// Whether these come next after so many entries.
 fn come_next<T: PartialEq>(
     told: &[(usize, usize, T)],
@@ -125,11 +133,8 @@ fn come_next<T: PartialEq>(
 ) -> bool {
     let mut at = before;
     let mut right = true;
-    for (party, sought) in wanted {
-        right = match told.get(at) {
-            Some((_, of, found)) => *of == *party && *found == *sought && right,
-            None => false,
-        };
+    for sought in wanted {
+        right = comes_at(told, at, sought) && right;
         at = at.saturating_add(1);
     }
     right

@@ -2,7 +2,8 @@
 use crate::asserts::{is, is_in};
 use crate::owner::rows::{Made, open};
 use exclusive_queue::Exclusive;
-use std::alloc::{AllocError, Global};
+use std::alloc::Global;
+use std::fmt::Debug;
 use std::process::Abort;
 
 /// A queue that is made so, into which so many numbers from the first on are pushed. Asserts that there is memory.
@@ -125,11 +126,17 @@ static TEXTS: [(Made, u64, bool, &str); 9] = [
     ),
 ];
 
-/// What is printed of a queue, and of an iterator over it.
-fn printed(alloc: Global, queue: &mut Exclusive<u64>) -> Result<String, AllocError> {
-    let text = format!(in alloc; "{queue:?}")?;
-    let items = queue.try_iter();
-    format!(in alloc; "{text} {items:?}")
+/// Asserts what is printed of a queue, or of an iterator.
+fn is_printed<T: Debug>(rt: &impl Abort, alloc: Global, value: &T, wanted: &str) {
+    let text = format!(in alloc; "{value:?}").expect(rt, "memory");
+    is(rt, text.as_str(), wanted);
+}
+
+/// Asserts that this is printed of a queue, and of an iterator over it.
+fn both_are_printed(rt: &impl Abort, alloc: Global, queue: &mut Exclusive<u64>, text: &str) {
+    is_printed(rt, alloc, queue, text);
+    let wanted = format!(in alloc; "Iter({text})").expect(rt, "memory");
+    is_printed(rt, alloc, &queue.try_iter(), wanted.as_str());
 }
 
 #[test]
@@ -139,7 +146,6 @@ fn queues_and_iterators_are_printed(rt: HostRuntime) {
         if *closed {
             queue.close();
         }
-        let wanted = format!(in rt.alloc(); "{text} Iter({text})").expect(&rt, "memory");
-        is(&rt, printed(rt.alloc(), &mut queue), Ok(wanted));
+        both_are_printed(&rt, rt.alloc(), &mut queue, text);
     }
 }

@@ -90,11 +90,18 @@ fn answer(queue: &mut Counting<'_>, call: Call<u64>) -> Reply<u64> {
         Call::ForcePush(value) => Reply::ForcePush(queue.force_push(value)),
         Call::Pop => Reply::Pop(queue.pop()),
         Call::Close => Reply::Close(queue.close()),
+        _ => look(queue, call),
+    }
+}
+
+/// Makes a call that only looks; in the place of any other, that for the capacity.
+fn look(queue: &Counting<'_>, call: Call<u64>) -> Reply<u64> {
+    match call {
         Call::IsClosed => Reply::IsClosed(queue.is_closed()),
         Call::IsEmpty => Reply::IsEmpty(queue.is_empty()),
         Call::IsFull => Reply::IsFull(queue.is_full()),
         Call::Len => Reply::Len(queue.len()),
-        Call::Capacity => Reply::Capacity(queue.capacity()),
+        _ => Reply::Capacity(queue.capacity()),
     }
 }
 
