@@ -1,13 +1,14 @@
 //! A call that never waits beside another party's call that is held before one of its steps: it is pending there, and has its reply once the held one has ended.
-ghost use Rattle.std.specs.Prelude.{◌≡◌, IfOk, IfSome};
+ghost use Rattle.std.specs.Prelude.{◌≡◌, IfSome};
 ghost use Rattle.concurrent_queue.specs.Shared.{IsPartyOf};
 ghost use Rattle.test_pending.specs.Outcomes.{IsOf};
 
 use crate::gates::{Before, ENDED, HELD, Holding, MET, Stage};
+use crate::opening::{end, is_in, open_filled};
 use concurrent_queue::{ConcurrentQueue, Outcome, Party};
 use queue_steps::model::{Call, Reply};
 use shared_chain::source::Granting;
-use std::alloc::{AllocError, Global};
+use std::alloc::Global;
 use std::process::Abort;
 use std::sync::Wait;
 use std::thread::{Threads, join};
@@ -162,40 +163,16 @@ fn call_beside(
     (party, seen)
 }
 
-/// An open queue of this capacity, or without one, into which so many numbers are pushed, and two parties. Asserts that the capacity is not 0.
-pub(crate) fn open<R: Wait + Abort>(
-    rt: &R,
-    alloc: Global,
-    cap: Option<usize>,
-    pushed: u64,
-) -> Result<(Queue, Party<u64>, Party<u64>), AllocError>
-    ensures { IfOk result (λ r. IsPartyOf r.1 r.0 × IsPartyOf r.2 r.0) }
-{
-    let (queue, mut party) = match cap {
-        Some(0) => panic!(rt; "a capacity of 0"),
-        Some(slots) => ConcurrentQueue::bounded(alloc, slots)?,
-        None => ConcurrentQueue::unbounded(alloc)?,
-    };
-    for item in 0..pushed {
-        let pushed = queue.push(rt, &mut party, item);
-        assert_eq!(rt; pushed, Ok(()));
-    }
-    match queue.split(party) {
-        Ok((first, second)) => Ok((queue, first, second)),
-        Err(_) => panic!(rt; "no second party"),
-    }
-}
-
-/// Makes the call that is held and the one beside it.
+/// Makes the call that is held and the one beside it. Gives the parties that are left, the held call's reply, and what is seen of the other.
 fn call_both<R: Wait + Threads + Sync>(
     rt: &R,
     queue: &Queue,
     first: Party<u64>,
     second: Party<u64>,
     story: &Story,
-) -> (Party<u64>, Reply<u64>, Option<Party<u64>>, Seen)
+) -> (Party<u64>, Reply<u64>, Seen)
     requires { IsPartyOf first queue.now × IsPartyOf second queue.now }
-    ensures { IsPartyOf result.0 queue.now × IfSome result.2 (λ p. IsPartyOf p queue.now) }
+    ensures { IsPartyOf result.0 queue.now }
 {
     let stage = Stage::new();
     let ((first, reply), (second, seen)) = join(
@@ -203,17 +180,17 @@ fn call_both<R: Wait + Threads + Sync>(
         || call_held(rt, queue, first, story.held.0, story.before, &stage),
         || call_beside(queue, second, story.call.0, &stage),
     );
-    (first, reply, second, seen)
+    match second {
+        Some(second) => (queue.join(first, second), reply, seen),
+        None => (first, reply, seen),
+    }
 }
 
 /// Tells a story. Asserts what is seen of it, and what is left.
-pub(crate) fn tell<R: Wait + Threads + Sync + Abort>(
-    rt: &R,
-    alloc: Global,
-    story: &Story,
-) -> Result<(), AllocError> {
-    let (queue, first, second) = open(rt, alloc, story.cap, story.pushed)?;
-    let (mut first, reply, second, seen) = call_both(rt, &queue, first, second, story);
+pub(crate) fn tell<R: Wait + Threads + Sync + Abort>(rt: &R, alloc: Global, story: &Story) {
+    let (queue, first, second) = open_filled(rt, alloc, story.cap, story.pushed);
+    let (party, reply, seen) = call_both(rt, &queue, first, second, story);
+    let left = end(queue, party);
     let wanted = Seen {
         held: true,
         pending: [true, true, true, story.cap.is_none()],
@@ -221,14 +198,6 @@ pub(crate) fn tell<R: Wait + Threads + Sync + Abort>(
         ended: true,
         reply: Some(story.call.1),
     };
-    assert_eq!(rt; (reply, seen), (story.held.1, wanted), "{}", story.name);
-    if let Some(second) = second {
-        first = queue.join(first, second);
-    }
-    let left = match queue.finish(first) {
-        Ok(alone) => Some(alone.len()),
-        Err(_) => None,
-    };
-    assert_eq!(rt; left, Some(story.left), "{}", story.name);
-    Ok(())
+    let wanted = (story.held.1, wanted, Some(story.left));
+    is_in(rt, story.name, (reply, seen, left), wanted);
 }

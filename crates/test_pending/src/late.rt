@@ -3,9 +3,9 @@ ghost use Rattle.std.specs.Prelude.{IfSome};
 ghost use Rattle.concurrent_queue.specs.Shared.{IsPartyOf};
 ghost use denote.Param.Send.{IsSync};
 
+use crate::opening::{open, part};
 use concurrent_queue::{ConcurrentQueue, NullTestable, Outcome, Party};
 use queue_steps::model::{Call, Reply};
-use std::alloc::AllocError;
 use std::sync::Wait;
 use std::thread::{Threads, join};
 use test_allocators::{Heap, Refusal};
@@ -70,17 +70,14 @@ fn push_both<A: NullTestable + Send + Sync, R: Wait + Threads + Sync>(
 }
 
 #[test]
-fn a_push_whose_block_comes_late_is_not_pending(rt: HostRuntime) -> Result<(), AllocError> {
+fn a_push_whose_block_comes_late_is_not_pending(rt: HostRuntime) {
     let heap = Heap::new(rt.alloc(), Refusal::Never);
-    let (queue, party) = ConcurrentQueue::unbounded(&heap)?;
-    let Ok((first, second)) = queue.split(party) else {
-        panic!(rt; "no second party")
-    };
+    let (queue, party) = open(&rt, &heap, None);
+    let (first, second) = part(&rt, &queue, party);
     let (mut party, reply) = push_both(&rt, &queue, first, second, &heap);
     let left = queue.len(&rt, &mut party);
     assert_eq!(rt;
         (reply, heap.held_until_let_go(), left, heap.live()),
         (Some(Reply::Push(Ok(()))), true, 2, 2)
     );
-    Ok(())
 }

@@ -10,6 +10,8 @@ mod gates;
 #[cfg(test)]
 mod late;
 #[cfg(test)]
+mod opening;
+#[cfg(test)]
 mod refused;
 #[cfg(test)]
 mod stories;

@@ -3,7 +3,6 @@ use crate::beside::{GivenUp, Story, tell};
 use crate::gates::Before;
 use concurrent_queue::PushError;
 use queue_steps::model::{Call, Reply};
-use std::alloc::AllocError;
 
 static POP_BESIDE_A_PUSH: Story = Story {
     name: "a slot, a pop beside a push",
@@ -94,43 +93,41 @@ static PUSH_BEHIND_A_BLOCK_TO_BE_LAID: Story = Story {
 };
 
 #[test]
-fn a_pop_is_pending_while_a_push_holds_the_slot(rt: HostRuntime) -> Result<(), AllocError> {
-    tell(&rt, rt.alloc(), &POP_BESIDE_A_PUSH)
+fn a_pop_is_pending_while_a_push_holds_the_slot(rt: HostRuntime) {
+    tell(&rt, rt.alloc(), &POP_BESIDE_A_PUSH);
 }
 
 #[test]
-fn a_push_by_force_is_pending_while_a_push_holds_the_slot(
-    rt: HostRuntime,
-) -> Result<(), AllocError> {
-    tell(&rt, rt.alloc(), &FORCE_BESIDE_A_PUSH)
+fn a_push_by_force_is_pending_while_a_push_holds_the_slot(rt: HostRuntime) {
+    tell(&rt, rt.alloc(), &FORCE_BESIDE_A_PUSH);
 }
 
 #[test]
-fn a_push_is_pending_while_a_pop_holds_the_slot(rt: HostRuntime) -> Result<(), AllocError> {
-    tell(&rt, rt.alloc(), &PUSH_BESIDE_A_POP)
+fn a_push_is_pending_while_a_pop_holds_the_slot(rt: HostRuntime) {
+    tell(&rt, rt.alloc(), &PUSH_BESIDE_A_POP);
 }
 
 #[test]
-fn a_pop_is_pending_until_the_item_is_stamped(rt: HostRuntime) -> Result<(), AllocError> {
-    tell(&rt, rt.alloc(), &POP_OF_A_SLOT_TO_BE_STAMPED)
+fn a_pop_is_pending_until_the_item_is_stamped(rt: HostRuntime) {
+    tell(&rt, rt.alloc(), &POP_OF_A_SLOT_TO_BE_STAMPED);
 }
 
 #[test]
-fn a_push_is_pending_until_the_free_slot_is_stamped(rt: HostRuntime) -> Result<(), AllocError> {
-    tell(&rt, rt.alloc(), &PUSH_INTO_A_SLOT_TO_BE_STAMPED)
+fn a_push_is_pending_until_the_free_slot_is_stamped(rt: HostRuntime) {
+    tell(&rt, rt.alloc(), &PUSH_INTO_A_SLOT_TO_BE_STAMPED);
 }
 
 #[test]
-fn a_push_is_pending_until_the_coming_item_is_counted(rt: HostRuntime) -> Result<(), AllocError> {
-    tell(&rt, rt.alloc(), &PUSH_WHILE_AN_ITEM_IS_COMING)
+fn a_push_is_pending_until_the_coming_item_is_counted(rt: HostRuntime) {
+    tell(&rt, rt.alloc(), &PUSH_WHILE_AN_ITEM_IS_COMING);
 }
 
 #[test]
-fn a_pop_is_pending_until_the_item_is_written(rt: HostRuntime) -> Result<(), AllocError> {
-    tell(&rt, rt.alloc(), &POP_OF_AN_ITEM_TO_BE_WRITTEN)
+fn a_pop_is_pending_until_the_item_is_written(rt: HostRuntime) {
+    tell(&rt, rt.alloc(), &POP_OF_AN_ITEM_TO_BE_WRITTEN);
 }
 
 #[test]
-fn a_push_is_pending_until_the_next_block_is_laid(rt: HostRuntime) -> Result<(), AllocError> {
-    tell(&rt, rt.alloc(), &PUSH_BEHIND_A_BLOCK_TO_BE_LAID)
+fn a_push_is_pending_until_the_next_block_is_laid(rt: HostRuntime) {
+    tell(&rt, rt.alloc(), &PUSH_BEHIND_A_BLOCK_TO_BE_LAID);
 }

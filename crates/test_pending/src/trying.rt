@@ -2,17 +2,17 @@
 ghost use Rattle.std.specs.Prelude.{◌≡◌};
 ghost use Rattle.concurrent_queue.specs.Shared.{IsPartyOf};
 
-use crate::beside::{Queue, call_held, open};
+use crate::beside::{Queue, call_held};
 use crate::gates::{Before, HELD, MET, Stage};
+use crate::opening::{end, is_in, open, open_filled};
 use concurrent_queue::{ConcurrentQueue, Party, TryForcePushError, TryPopError, TryPushError};
-use mem_blocks::null_testable::NullTestable;
 use queue_steps::model::Call;
-use std::alloc::{AllocError, Global};
+use std::alloc::Global;
+use std::fmt::{Debug, Display};
 use std::process::Abort;
 use std::sync::Wait;
-use std::test::Fail;
 use std::thread::{Threads, join};
-use test_allocators::{Refusal, Refusing};
+use test_allocators::{Heap, Refusal};
 
 /// What the three calls answer: a push of 8, one by force of 9, and a pop where the queue has a capacity.
 #[derive(Clone, Copy, Debug, PartialEq)]
@@ -23,7 +23,7 @@ struct Answers {
 }
 
 /// Tries the three calls.
-fn try_all<A: NullTestable>(queue: &ConcurrentQueue<u64, A>, party: &mut Party<u64>) -> Answers
+fn try_all(queue: &Queue, party: &mut Party<u64>) -> Answers
     requires { IsPartyOf party.old queue.now }
     ensures { IsPartyOf party.new queue.now }
 {
@@ -160,82 +160,85 @@ fn try_held<R: Wait + Threads + Sync>(
 }
 
 /// Asserts what the three calls answer beside a held one, and that the sharing ends.
-fn are_tried<R: Wait + Threads + Sync + Abort>(
-    rt: &R,
-    alloc: Global,
-    row: &Row,
-) -> Result<(), AllocError> {
-    let (queue, first, second) = open(rt, alloc, row.cap, row.pushed)?;
+fn are_tried<R: Wait + Threads + Sync + Abort>(rt: &R, alloc: Global, row: &Row) {
+    let (queue, first, second) = open_filled(rt, alloc, row.cap, row.pushed);
     let (party, held, answers) = try_held(rt, &queue, first, second, row);
-    let ends = queue.finish(party).is_ok();
-    assert_eq!(rt;
+    let ends = end(queue, party).is_some();
+    is_in(
+        rt,
+        row.name,
         (held, answers, ends),
         (true, row.answers, true),
-        "{}",
-        row.name
     );
-    Ok(())
 }
 
 #[test]
-fn busy_beside_a_call_that_is_half_done(rt: HostRuntime) -> Result<(), AllocError> {
+fn busy_beside_a_call_that_is_half_done(rt: HostRuntime) {
     for row in ROWS.iter() {
-        are_tried(&rt, rt.alloc(), row)?;
+        are_tried(&rt, rt.alloc(), row);
     }
-    Ok(())
 }
 
 /// What the three calls answer twice, and once the queue is closed.
-static ALONE: [(Option<usize>, Answers, Answers, Answers); 3] = [
+type Thrice = (Answers, Answers, Answers);
+
+/// What the only party of an empty queue of each kind is answered.
+static ALONE: [(Option<usize>, Thrice); 3] = [
     (
         Some(1),
-        Answers {
-            push: Ok(()),
-            force: Ok(Some(8)),
-            pop: Some(Ok(9)),
-        },
-        Answers {
-            push: Ok(()),
-            force: Ok(Some(8)),
-            pop: Some(Ok(9)),
-        },
-        CLOSED,
+        (
+            Answers {
+                push: Ok(()),
+                force: Ok(Some(8)),
+                pop: Some(Ok(9)),
+            },
+            Answers {
+                push: Ok(()),
+                force: Ok(Some(8)),
+                pop: Some(Ok(9)),
+            },
+            CLOSED,
+        ),
     ),
     (
         Some(2),
-        Answers {
-            push: Ok(()),
-            force: Ok(None),
-            pop: Some(Ok(8)),
-        },
-        Answers {
-            push: Ok(()),
-            force: Ok(Some(9)),
-            pop: Some(Ok(8)),
-        },
-        Answers {
-            push: Err(TryPushError::Closed(8)),
-            force: Err(TryForcePushError::Closed(9)),
-            pop: Some(Ok(9)),
-        },
+        (
+            Answers {
+                push: Ok(()),
+                force: Ok(None),
+                pop: Some(Ok(8)),
+            },
+            Answers {
+                push: Ok(()),
+                force: Ok(Some(9)),
+                pop: Some(Ok(8)),
+            },
+            Answers {
+                push: Err(TryPushError::Closed(8)),
+                force: Err(TryForcePushError::Closed(9)),
+                pop: Some(Ok(9)),
+            },
+        ),
     ),
     (
         None,
-        Answers {
-            push: Ok(()),
-            force: Ok(None),
-            pop: None,
-        },
-        Answers {
-            push: Ok(()),
-            force: Ok(None),
-            pop: None,
-        },
-        Answers {
-            push: Err(TryPushError::Closed(8)),
-            force: Err(TryForcePushError::Closed(9)),
-            pop: None,
-        },
+        (
+            Answers {
+                push: Ok(()),
+                force: Ok(None),
+                pop: None,
+            },
+            Answers {
+                push: Ok(()),
+                force: Ok(None),
+                pop: None,
+            },
+            Answers {
+                push: Err(TryPushError::Closed(8)),
+                force: Err(TryForcePushError::Closed(9)),
+                pop: None,
+            },
+        ),
     ),
 ];
 
@@ -246,70 +249,84 @@ const CLOSED: Answers = Answers {
     pop: Some(Err(TryPopError::Closed)),
 };
 
+/// What the only party of an empty queue is answered.
+fn answers_alone(rt: &impl Abort, alloc: Global, cap: Option<usize>) -> Thrice {
+    let (queue, mut party) = open(rt, alloc, cap);
+    let first = try_all(&queue, &mut party);
+    let second = try_all(&queue, &mut party);
+    queue.close(&mut party);
+    (first, second, try_all(&queue, &mut party))
+}
+
 /// The only party is answered as by the calls that wait.
 #[test]
-fn replies_of_the_only_party(rt: HostRuntime) -> Result<(), AllocError> {
-    for (cap, one, two, three) in ALONE.iter() {
-        let (queue, mut party) = match cap {
-            Some(slots) => ConcurrentQueue::bounded(rt.alloc(), (*slots).max(1))?,
-            None => ConcurrentQueue::unbounded(rt.alloc())?,
-        };
-        let first = try_all(&queue, &mut party);
-        let second = try_all(&queue, &mut party);
-        queue.close(&mut party);
-        let third = try_all(&queue, &mut party);
-        assert_eq!(rt;
-            (first, second, third),
-            (*one, *two, *three),
-            "with {cap:?}"
-        );
+fn replies_of_the_only_party(rt: HostRuntime) {
+    for (cap, answers) in ALONE.iter() {
+        is_in(&rt, *cap, answers_alone(&rt, rt.alloc(), *cap), *answers);
     }
-    Ok(())
 }
 
 /// A full queue, and an empty one.
 #[test]
-fn full_and_empty(rt: HostRuntime) -> Result<(), AllocError> {
-    let (queue, mut party) = ConcurrentQueue::bounded(rt.alloc(), 1)?;
-    assert_eq!(rt; queue.try_pop(&mut party), Err(TryPopError::Empty));
-    assert_eq!(rt; queue.try_push(&mut party, 1u64), Ok(()));
-    assert_eq!(rt; queue.try_push(&mut party, 2), Err(TryPushError::Full(2)));
-    Ok(())
+fn full_and_empty(rt: HostRuntime) {
+    let (queue, mut party) = ConcurrentQueue::bounded(rt.alloc(), 1).expect(&rt, "memory");
+    let popped = queue.try_pop(&mut party);
+    let pushed = queue.try_push(&mut party, 1u64);
+    let refused = queue.try_push(&mut party, 2);
+    assert_eq!(rt;
+        (popped, pushed, refused),
+        (Err(TryPopError::Empty), Ok(()), Err(TryPushError::Full(2)))
+    );
+}
+
+/// How one of the two pushes of 1 is refused on a chain whose allocator refuses its first block.
+fn refused_by(
+    rt: &impl Abort,
+    alloc: Global,
+    forced: bool,
+) -> (Option<TryPushError<u64>>, Option<TryForcePushError<u64>>) {
+    let heap = Heap::new(alloc, Refusal::Nth(2));
+    let (queue, mut party) = open(rt, &heap, None);
+    if forced {
+        (None, queue.try_force_push(&mut party, 1).err())
+    } else {
+        (queue.try_push(&mut party, 1).err(), None)
+    }
 }
 
 /// A chain whose allocator refuses its first block.
 #[test]
-fn no_memory_for_a_block(rt: HostRuntime) -> Result<(), AllocError> {
-    let heap = Refusing::new(rt.alloc(), Refusal::Nth(2));
-    let (queue, mut party) = ConcurrentQueue::unbounded(&heap)?;
+fn no_memory_for_a_block(rt: HostRuntime) {
+    let plain = refused_by(&rt, rt.alloc(), false);
+    let forced = refused_by(&rt, rt.alloc(), true);
     assert_eq!(rt;
-        queue.try_push(&mut party, 1u64),
-        Err(TryPushError::NoMemory(1))
+        (plain, forced),
+        (
+            (Some(TryPushError::NoMemory(1)), None),
+            (None, Some(TryForcePushError::NoMemory(1)))
+        )
     );
-    let heap = Refusing::new(rt.alloc(), Refusal::Nth(2));
-    let (queue, mut party) = ConcurrentQueue::unbounded(&heap)?;
-    assert_eq!(rt;
-        queue.try_force_push(&mut party, 1u64),
-        Err(TryForcePushError::NoMemory(1))
-    );
-    Ok(())
+}
+
+/// Asserts how an error is printed.
+fn is_printed(rt: &impl Abort, alloc: Global, error: &(impl Display + Debug), wanted: &str) {
+    let printed = format!(in alloc; "{error} {error:?}").expect(rt, "memory");
+    assert_eq!(rt; printed.as_str(), wanted);
 }
 
 /// The errors as they are printed, and the values that they hand back.
 #[test]
-fn printed_errors(rt: HostRuntime) -> Result<(), Fail> {
+fn printed_errors(rt: HostRuntime) {
     let pushes = [
-        (TryPushError::Full(1u64), "Full", "Full(1)"),
-        (TryPushError::Closed(1), "Closed", "Closed(1)"),
-        (TryPushError::NoMemory(1), "NoMemory", "NoMemory(1)"),
-        (TryPushError::Busy(1), "Busy", "Busy(1)"),
+        (TryPushError::Full(1u64), "Full Full(1)"),
+        (TryPushError::Closed(1), "Closed Closed(1)"),
+        (TryPushError::NoMemory(1), "NoMemory NoMemory(1)"),
+        (TryPushError::Busy(1), "Busy Busy(1)"),
     ];
-    for (error, shown, debugged) in pushes {
-        let printed = format!(in rt.alloc(); "{error} {error:?}")?;
-        let wanted = format!(in rt.alloc(); "{shown} {debugged}")?;
-        assert_eq!(rt; printed, wanted);
-        assert_eq!(rt; error.is_busy(), error == TryPushError::Busy(1));
-        assert_eq!(rt; error.into_inner(), 1);
+    for (error, wanted) in pushes {
+        is_printed(&rt, rt.alloc(), &error, wanted);
+        let handed_back = (error.is_busy(), error.into_inner());
+        assert_eq!(rt; handed_back, (error == TryPushError::Busy(1), 1));
     }
     let forces = [
         (TryForcePushError::Closed(1u64), "Closed Closed(1)"),
@@ -317,8 +334,7 @@ fn printed_errors(rt: HostRuntime) -> Result<(), Fail> {
         (TryForcePushError::Busy(1), "Busy Busy(1)"),
     ];
     for (error, wanted) in forces {
-        let printed = format!(in rt.alloc(); "{error} {error:?}")?;
-        assert_eq!(rt; printed.as_str(), wanted);
+        is_printed(&rt, rt.alloc(), &error, wanted);
         assert_eq!(rt; error.into_inner(), 1);
     }
     let pops = [
@@ -327,8 +343,6 @@ fn printed_errors(rt: HostRuntime) -> Result<(), Fail> {
         (TryPopError::Busy, "Busy Busy"),
     ];
     for (error, wanted) in pops {
-        let printed = format!(in rt.alloc(); "{error} {error:?}")?;
-        assert_eq!(rt; printed.as_str(), wanted);
+        is_printed(&rt, rt.alloc(), &error, wanted);
     }
-    Ok(())
 }

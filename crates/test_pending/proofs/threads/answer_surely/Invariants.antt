@@ -1,6 +1,6 @@
-use Rattle.concurrent_queue.specs.Shared.{IsPartyOf}
+use Rattle.test_pending.specs.Outcomes.{IsOf}
 use Rattle.test_pending.proofs.threads.answer_surely.Given as goal
 
--- the party is still one of the queue's
+-- the call is still one of a party of the queue
 abbrev pub invariant-loop : goal.invariant-loop
-invariant-loop g l = IsPartyOf l.party l.fn.queue
+invariant-loop g l = IsOf l.outcome l.fn.queue

@@ -1,5 +1,5 @@
 use Rattle.concurrent_queue.specs.Shared.{IsPartyOf}
-use Rattle.test_pending.proofs.threads.push_all.Given as goal
+use Rattle.test_pending.proofs.threads.work.Given as goal
 
 -- the party is still one of the queue's
 abbrev pub invariant-loop : goal.invariant-loop
