@@ -7,7 +7,7 @@ use Rattle.shared_chain.specs.Turning.{web_of}
 use Rattle.concurrent_queue.specs.declared.party.SeatPlace.TheVariants as place
 use Rattle.shared_calls.specs.InWeb.{RestsAt, EndedAt}
 use Rattle.concurrent_queue.specs.Shared.{QueueId, Calls, form_id}
-use Rattle.concurrent_queue.proofs.TableCalls.{table_begins, table_ends}
+use Rattle.concurrent_queue.proofs.TableCalls.{begins_here, ends_here}
 use Rattle.shared_calls.proofs.Wakes.{wakes_free, rests_ended}
 use Rattle.concurrent_queue.proofs.WebParties.{web_ends}
 use Rattle.concurrent_queue.proofs.Stops.{started, go_there}
@@ -15,18 +15,18 @@ use Rattle.concurrent_queue.proofs.StopsIn.{started_in}
 use Rattle.concurrent_queue.proofs.shared.ConcurrentQueue.begin.Goals as goal
 
 pub set_out-requires : goal.set_out-requires
-set_out-requires g c = let b = c.in-Single-Table in table_begins _ b.seat _ _ b.is-1 c.party.invariant (search rules) (search rules)
+set_out-requires g c = let b = c.in-Single-Table in begins_here _ b.seat _ _ c.args.party b.is-1 c.party.invariant c.party.view_is (c.requires ∙ (sym c.self.view_is ∙ ap form_id b.is-0))
 
 pub at-requires : goal.at-requires
 at-requires g c =
     let b = c.in-Single-Table in let v = c.args.party in let q = c.set_out.new.seat in
-    (table_ends _ b.seat _ _ b.is-1 c.party.invariant q (place.Table q) v c.args.call _ _ refl refl c.party.view_is (search rules) (search rules) c.in-Break.ensures).0
+    (ends_here _ b.seat _ _ v b.is-1 c.party.invariant c.party.view_is (c.requires ∙ (sym c.self.view_is ∙ ap form_id b.is-0)) q (place.Table q) c.args.call _ _ refl refl c.in-Break.ensures).0
 
 pub returns-in-Break : goal.returns-in-Break
 returns-in-Break g c =
     let b = c.in-Single-Table in let v = c.args.party in let q = c.set_out.new.seat in
     subst (λ p. Calls v c.args.call c.in-Break.reply p) (sym c.at.ensures)
-    (table_ends _ b.seat _ _ b.is-1 c.party.invariant q (place.Table q) v c.args.call _ _ refl refl c.party.view_is (search rules) (search rules) c.in-Break.ensures).1
+    (ends_here _ b.seat _ _ v b.is-1 c.party.invariant c.party.view_is (c.requires ∙ (sym c.self.view_is ∙ ap form_id b.is-0)) q (place.Table q) c.args.call _ _ refl refl c.in-Break.ensures).1
 
 pub at-requires-in-Continue : goal.at-requires-in-Continue
 at-requires-in-Continue g c =
@@ -40,18 +40,18 @@ returns-in-Single-Table g c =
     c.at-in-Continue.ensures ∙ (go_there (λ _. slot_table) t q c.in-Continue.left _ h).1
 
 pub set_out-requires-in-Ring-Table : goal.set_out-requires-in-Ring-Table
-set_out-requires-in-Ring-Table g c = let b = c.in-Ring-Table in table_begins _ b.seat _ _ b.is-1 c.party.invariant (search rules) (search rules)
+set_out-requires-in-Ring-Table g c = let b = c.in-Ring-Table in begins_here _ b.seat _ _ c.args.party b.is-1 c.party.invariant c.party.view_is (c.requires ∙ (sym c.self.view_is ∙ ap form_id b.is-0))
 
 pub at-requires-in-Break-set_out : goal.at-requires-in-Break-set_out
 at-requires-in-Break-set_out g c =
     let b = c.in-Ring-Table in let v = c.args.party in let q = c.set_out-in-Ring-Table.new.seat in
-    (table_ends _ b.seat _ _ b.is-1 c.party.invariant q (place.Table q) v c.args.call _ _ refl refl c.party.view_is (search rules) (search rules) c.in-Break-set_out.ensures).0
+    (ends_here _ b.seat _ _ v b.is-1 c.party.invariant c.party.view_is (c.requires ∙ (sym c.self.view_is ∙ ap form_id b.is-0)) q (place.Table q) c.args.call _ _ refl refl c.in-Break-set_out.ensures).0
 
 pub returns-in-Break-set_out : goal.returns-in-Break-set_out
 returns-in-Break-set_out g c =
     let b = c.in-Ring-Table in let v = c.args.party in let q = c.set_out-in-Ring-Table.new.seat in
     subst (λ p. Calls v c.args.call c.in-Break-set_out.reply p) (sym c.at-in-Break-set_out.ensures)
-    (table_ends _ b.seat _ _ b.is-1 c.party.invariant q (place.Table q) v c.args.call _ _ refl refl c.party.view_is (search rules) (search rules) c.in-Break-set_out.ensures).1
+    (ends_here _ b.seat _ _ v b.is-1 c.party.invariant c.party.view_is (c.requires ∙ (sym c.self.view_is ∙ ap form_id b.is-0)) q (place.Table q) c.args.call _ _ refl refl c.in-Break-set_out.ensures).1
 
 pub at-requires-in-Continue-set_out : goal.at-requires-in-Continue-set_out
 at-requires-in-Continue-set_out g c =
