@@ -14,6 +14,25 @@ pub(crate) type Queue = ConcurrentQueue<u64>;
 /// A call, and its reply.
 pub(crate) type Row = (Call<u64>, Reply<u64>);
 
+/// Makes a call that only looks; in the place of any other, that for the capacity.
+fn look<A: NullTestable, R: Wait>(
+    rt: &R,
+    queue: &ConcurrentQueue<u64, A>,
+    party: &mut Party<u64>,
+    call: Call<u64>,
+) -> Reply<u64>
+    requires { IsPartyOf party.old queue.now }
+    ensures { IsPartyOf party.new queue.now }
+{
+    match call {
+        Call::IsClosed => Reply::IsClosed(queue.is_closed(party)),
+        Call::IsEmpty => Reply::IsEmpty(queue.is_empty(party)),
+        Call::IsFull => Reply::IsFull(queue.is_full(party)),
+        Call::Len => Reply::Len(queue.len(rt, party)),
+        _ => Reply::Capacity(queue.capacity()),
+    }
+}
+
 /// Makes a call.
 fn answer<A: NullTestable, R: Wait>(
     rt: &R,
@@ -29,11 +48,7 @@ fn answer<A: NullTestable, R: Wait>(
         Call::ForcePush(value) => Reply::ForcePush(queue.force_push(rt, party, value)),
         Call::Pop => Reply::Pop(queue.pop(rt, party)),
         Call::Close => Reply::Close(queue.close(party)),
-        Call::IsClosed => Reply::IsClosed(queue.is_closed(party)),
-        Call::IsEmpty => Reply::IsEmpty(queue.is_empty(party)),
-        Call::IsFull => Reply::IsFull(queue.is_full(party)),
-        Call::Len => Reply::Len(queue.len(rt, party)),
-        Call::Capacity => Reply::Capacity(queue.capacity()),
+        _ => look(rt, queue, party, call),
     }
 }
 
