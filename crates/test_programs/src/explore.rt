@@ -1,7 +1,9 @@
 //! `queue_explore`.
 pub mod commands;
+pub mod not_shown;
 pub mod printing;
 pub mod reading;
 pub mod refusals;
+pub mod sizes;
 pub mod streams;
 pub mod usage;

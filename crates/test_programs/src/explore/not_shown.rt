@@ -1,0 +1,190 @@
+//! What a walk found, changed in one place, is not shown. No program is known for which a walk finds such a thing, so `queue_explore` is not known to end with `not shown`.
+ghost use Rattle.machine_replay.specs.Replays.{CanReplay};
+
+use app_explore::listing::{Task, Walk, find_all, list_found};
+use app_explore_text::reading::read_program;
+use machine_explore::check::check;
+use machine_explore::schedule::Move;
+use machine_explore::sequence::Sequence;
+use machine_search::faults::SearchFault;
+use queue_steps::steps::Kind;
+use std::alloc::Global;
+use std::process::Abort;
+
+/// Two outcomes: the pop is before the push, or after it.
+const PROGRAM: &str = "0: pop\n1: push 1\n";
+
+/// What is changed of what was found.
+#[derive(Clone, Copy, Debug)]
+enum Change {
+    Nothing,
+    /// The last link is missing.
+    LinkLost,
+    /// The first link leads back.
+    LinkBent,
+    /// The last state is missing.
+    StateLost,
+    /// The states are in the opposite order.
+    StartMoved,
+    /// The last outcome is missing.
+    OutcomeLost,
+    /// The last schedule is missing.
+    ScheduleLost,
+    /// The last schedule is there twice.
+    ScheduleTwice,
+    /// The schedules are in the opposite order.
+    SchedulesTurned,
+    /// The first schedule has no last move.
+    MoveLost,
+    /// The first schedule ends with a move of a party that is not there.
+    PartyUnknown,
+    /// The first schedule ends with a step that is refused.
+    MoveRefused,
+    /// The last outcome has no number.
+    NumberLost,
+}
+
+/// The moves of one of the schedules.
+fn moves_of(rt: &impl Abort, alloc: Global, walk: &Walk<Global>, number: usize) -> Vec<Move> {
+    match walk.schedules.get(number) {
+        Some(schedule) => Vec::from_slice(alloc, schedule.as_slice()).expect(rt, "memory"),
+        None => Vec::new(alloc),
+    }
+}
+
+/// Puts another move in the place of the last one of the first schedule, or none.
+fn change_move(rt: &impl Abort, alloc: Global, walk: &mut Walk<Global>, last: Option<Move>) {
+    let mut moves = moves_of(rt, alloc, walk, 0);
+    moves.pop();
+    if let Some(step) = last {
+        moves.push(step).expect(rt, "memory");
+    }
+    if let Some(schedule) = walk.schedules.get_mut(0) {
+        *schedule = Sequence::of(moves);
+    }
+}
+
+/// Puts a schedule behind the others.
+fn add_schedule(rt: &impl Abort, walk: &mut Walk<Global>, moves: Vec<Move>) {
+    let added = walk.schedules.push(Sequence::of(moves));
+    assert!(rt; added.is_ok(), "memory");
+}
+
+/// Changes what was found.
+fn make_change(rt: &impl Abort, alloc: Global, walk: &mut Walk<Global>, change: Change) {
+    match change {
+        Change::Nothing => {}
+        Change::LinkLost => {
+            walk.found.table.links.pop();
+        }
+        Change::LinkBent => {
+            if let Some(link) = walk.found.table.links.get_mut(0) {
+                link.granted = 0;
+            }
+        }
+        Change::StateLost => {
+            walk.found.table.positions.pop();
+        }
+        Change::StartMoved => walk.found.table.positions.reverse(),
+        Change::OutcomeLost => {
+            walk.found.ends.outcomes.pop();
+        }
+        Change::ScheduleLost => {
+            walk.schedules.pop();
+        }
+        Change::ScheduleTwice => {
+            let moves = moves_of(rt, alloc, walk, 1);
+            add_schedule(rt, walk, moves);
+        }
+        Change::SchedulesTurned => walk.schedules.reverse(),
+        Change::MoveLost => change_move(rt, alloc, walk, None),
+        Change::PartyUnknown => change_move(rt, alloc, walk, Some(UNKNOWN)),
+        Change::MoveRefused => change_move(rt, alloc, walk, Some(REFUSED)),
+        Change::NumberLost => {
+            walk.order.pop();
+        }
+    }
+}
+
+/// A move of a party that is not there, and a refused step of the one whose move is the last.
+const UNKNOWN: Move = Move {
+    party: 2,
+    granted: true,
+};
+
+const REFUSED: Move = Move {
+    party: 1,
+    granted: false,
+};
+
+/// What is answered of a walk.
+#[derive(Clone, Copy, Debug, PartialEq)]
+enum Listed {
+    Listed,
+    NotShown,
+    AnotherFault,
+}
+
+/// The program as a task.
+fn task(rt: &impl Abort, alloc: Global) -> Task<Global>
+    ensures { CanReplay result.kind }
+{
+    let Ok(program) = read_program(alloc, PROGRAM.as_bytes()) else {
+        rt.panic("a program");
+    };
+    Task {
+        kind: Kind::Single,
+        refuses: false,
+        program,
+    }
+}
+
+/// Whether the changed table shows that there is no outcome but those that were found, and what comes of the list.
+fn answers(rt: &impl Abort, alloc: Global, changed: Change) -> (bool, Listed) {
+    let task = task(rt, alloc);
+    let Ok(mut walk) = find_all(alloc, &task) else {
+        return (false, Listed::AnotherFault);
+    };
+    make_change(rt, alloc, &mut walk, changed);
+    let Task { kind, refuses, .. } = task;
+    let (table, outcomes) = (&walk.found.table, &walk.found.ends.outcomes);
+    let checked = check(alloc, kind, refuses, &task.program, table, outcomes);
+    let listed = match list_found(alloc, &task, &walk) {
+        Ok(_) => Listed::Listed,
+        Err(SearchFault::NotShown) => Listed::NotShown,
+        Err(_) => Listed::AnotherFault,
+    };
+    (checked.expect(rt, "memory"), listed)
+}
+
+/// Each change, and whether the table still shows that the outcomes are all.
+static CHANGES: [(Change, bool); 11] = [
+    (Change::LinkLost, false),
+    (Change::LinkBent, false),
+    (Change::StateLost, false),
+    (Change::StartMoved, false),
+    (Change::ScheduleLost, true),
+    (Change::ScheduleTwice, true),
+    (Change::SchedulesTurned, true),
+    (Change::MoveLost, true),
+    (Change::PartyUnknown, true),
+    (Change::MoveRefused, true),
+    (Change::NumberLost, true),
+];
+
+#[test]
+fn what_was_found_wrong_is_not_shown(rt: HostRuntime) {
+    let alloc = rt.alloc();
+    assert_eq!(rt;
+        answers(&rt, alloc, Change::Nothing),
+        (true, Listed::Listed)
+    );
+    assert_eq!(rt;
+        answers(&rt, alloc, Change::OutcomeLost),
+        (false, Listed::Listed)
+    );
+    for (change, checked) in &CHANGES {
+        let found = answers(&rt, alloc, *change);
+        assert_eq!(rt; found, (*checked, Listed::NotShown), "after {change:?}");
+    }
+}
