@@ -11,6 +11,8 @@ use crate::counting::{Counts, RECEIVERS, SENDERS};
 use crate::errors::{Disconnected, SendError};
 use crate::sides::{SideEnd, end_one, join_ends, split_end};
 use crate::tries::{pop_until, push_until};
+use crate::waiting::Awaited;
+use crate::waking::{force_push, pop, push};
 use concurrent_queue::{
     ConcurrentQueue, Exclusive, ForcePushError, NullTestable, Party, PopError, PushError,
 };
@@ -18,13 +20,14 @@ use std::alloc::{Allocator, Global};
 use std::marker::Model;
 use std::sync::Wait;
 
-/// A queue, with the counts of its senders and its receivers.
+/// A queue, with the counts of its senders and its receivers, and what they wait for when they sleep.
 ///
 /// A contract sees which queue it is, and which table counts its ends.
 #[derive(Drop)]
 pub struct Channel<T, A: Allocator = Global> {
     pub(crate) queue: ConcurrentQueue<T, A>,
     pub(crate) counts: Counts<A>,
+    pub(crate) awaited: Awaited,
 }
 
 impl<T, A: Allocator> Model for Channel<T, A> {
@@ -160,7 +163,7 @@ impl<T, A: Allocator> Channel<T, A> {
         }
     }
 
-    /// Appends `value`. It waits while the queue is full, and gives way to other threads between its tries.
+    /// Appends `value`. It waits while the queue is full: it gives way a few times, and then sleeps.
     ///
     /// # Errors
     ///
@@ -176,7 +179,7 @@ impl<T, A: Allocator> Channel<T, A> {
         requires { IsEndOf sender.old self.now }
         ensures { ChannelCall sender.old (call.Push value) (sent result) sender.new }
     {
-        push_until(&self.queue, rt, &mut sender.end.party, value)
+        push_until(&self.queue, &self.awaited, rt, &mut sender.end.party, value)
     }
 
     /// Appends `value` where there is room. It is one push.
@@ -195,7 +198,7 @@ impl<T, A: Allocator> Channel<T, A> {
         requires { IsEndOf sender.old self.now }
         ensures { ChannelCall sender.old (call.Push value) (reply.Push result) sender.new }
     {
-        self.queue.push(rt, &mut sender.end.party, value)
+        push(&self.queue, &self.awaited, rt, &mut sender.end.party, value)
     }
 
     /// Appends `value`, and takes the front off and hands it out where the queue was full.
@@ -214,7 +217,7 @@ impl<T, A: Allocator> Channel<T, A> {
         requires { IsEndOf sender.old self.now }
         ensures { ChannelCall sender.old (call.ForcePush value) (force_sent result) sender.new }
     {
-        match self.queue.force_push(rt, &mut sender.end.party, value) {
+        match force_push(&self.queue, &self.awaited, rt, &mut sender.end.party, value) {
             Ok(old) => Ok(old),
             Err(ForcePushError::Closed(back)) => Err(SendError::Closed(back)),
             Err(ForcePushError::NoMemory(back)) => Err(SendError::NoMemory(back)),
@@ -229,7 +232,7 @@ impl<T, A: Allocator> Channel<T, A> {
         self.queue.is_closed(&mut sender.end.party)
     }
 
-    /// Takes the front off. It waits while the queue is open and empty, and gives way to other threads between its tries.
+    /// Takes the front off. It waits while the queue is open and empty: it gives way a few times, and then sleeps.
     ///
     /// # Errors
     ///
@@ -238,7 +241,7 @@ impl<T, A: Allocator> Channel<T, A> {
         requires { IsEndOf receiver.old self.now }
         ensures { ChannelCall receiver.old call.Pop (received result) receiver.new }
     {
-        pop_until(&self.queue, rt, &mut receiver.end.party)
+        pop_until(&self.queue, &self.awaited, rt, &mut receiver.end.party)
     }
 
     /// Takes the front off where there is one. It is one pop.
@@ -250,7 +253,7 @@ impl<T, A: Allocator> Channel<T, A> {
         requires { IsEndOf receiver.old self.now }
         ensures { ChannelCall receiver.old call.Pop (reply.Pop result) receiver.new }
     {
-        self.queue.pop(rt, &mut receiver.end.party)
+        pop(&self.queue, &self.awaited, rt, &mut receiver.end.party)
     }
 
     /// How many items were sent and not received, at a moment of the call.
@@ -274,7 +277,13 @@ impl<T, A: Allocator> Channel<T, A> {
         ensures party { Ends sender.party result.0 result.1 }
         ensures last { IsEntire sender.stake → result.1 ≡ true }
     {
-        end_one(&self.queue, &self.counts.shared, sender.end, SENDERS)
+        end_one(
+            &self.queue,
+            &self.awaited,
+            &self.counts.shared,
+            sender.end,
+            SENDERS,
+        )
     }
 
     /// Ends a receiver, and gives its party and whether it was the last. The last closes the queue.
@@ -283,7 +292,13 @@ impl<T, A: Allocator> Channel<T, A> {
         ensures party { Ends receiver.party result.0 result.1 }
         ensures last { IsEntire receiver.stake → result.1 ≡ true }
     {
-        end_one(&self.queue, &self.counts.shared, receiver.end, RECEIVERS)
+        end_one(
+            &self.queue,
+            &self.awaited,
+            &self.counts.shared,
+            receiver.end,
+            RECEIVERS,
+        )
     }
 
     /// Makes one party of two that ends gave back, which has seen and done what both have.
@@ -319,10 +334,21 @@ impl<T, A: Allocator> Channel<T, A> {
         requires { IsPartyOf party self.queue }
         ensures { MatchResult result (λ e. Finishes party e) (λ r. (r.0 ≡ self) × (r.1 ≡ party) × ¬ (IsEntire party.view.share)) }
     {
-        let Channel { queue, counts } = self;
+        let Channel {
+            queue,
+            counts,
+            awaited,
+        } = self;
         match queue.finish(party) {
             Ok(left) => Ok(left),
-            Err((queue, party)) => Err((Channel { queue, counts }, party)),
+            Err((queue, party)) => Err((
+                Channel {
+                    queue,
+                    counts,
+                    awaited,
+                },
+                party,
+            )),
         }
     }
 }

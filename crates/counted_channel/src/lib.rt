@@ -8,6 +8,8 @@ mod items;
 mod opening;
 mod sides;
 mod tries;
+mod waiting;
+mod waking;
 
 pub use counting::MAX_ENDS;
 pub use ends::{Channel, Receiver, Sender};

@@ -6,6 +6,7 @@ ghost use Rattle.counted_channel.specs.Channel.{Opens};
 use crate::counting::open;
 use crate::ends::{Channel, Receiver, Sender};
 use crate::sides::SideEnd;
+use crate::waiting::Awaited;
 use concurrent_queue::{ConcurrentQueue, Party};
 use std::alloc::Allocator;
 
@@ -39,7 +40,12 @@ pub fn channel<T, A: Allocator>(
                     place: receiving,
                 },
             };
-            Ok((Channel { queue, counts }, sender, receiver))
+            let channel = Channel {
+                queue,
+                counts,
+                awaited: Awaited::new(),
+            };
+            Ok((channel, sender, receiver))
         }
         Err(party) => Err((queue, party)),
     }

@@ -6,6 +6,8 @@ ghost use Rattle.counted_channel.specs.Channel.{EndParts, EndJoins, Ends, GivenB
 ghost use Rattle.counted_channel.specs.Counting.{IsEndSeat, stake_at};
 
 use crate::counting::{EndSeat, Words, leave, part, unite};
+use crate::waiting::Awaited;
+use crate::waking::close;
 use concurrent_queue::{ConcurrentQueue, Party};
 use std::alloc::Allocator;
 
@@ -78,6 +80,7 @@ pub(crate) fn join_ends<T, A: Allocator>(
 /// Ends an end, and gives its party and whether it was the last of its side. The last closes the queue.
 pub(crate) fn end_one<T, A: Allocator>(
     queue: &ConcurrentQueue<T, A>,
+    awaited: &Awaited,
     words: &Words,
     end: SideEnd<T>,
     word: usize,
@@ -89,16 +92,21 @@ pub(crate) fn end_one<T, A: Allocator>(
 {
     let SideEnd { mut party, place } = end;
     let last = leave(words, place, word);
-    close_after(queue, &mut party, last);
+    close_after(queue, awaited, &mut party, last);
     (party, last)
 }
 
 /// Closes the queue where the end that has ended was the last of its side.
-fn close_after<T, A: Allocator>(queue: &ConcurrentQueue<T, A>, party: &mut Party<T>, last: bool)
+fn close_after<T, A: Allocator>(
+    queue: &ConcurrentQueue<T, A>,
+    awaited: &Awaited,
+    party: &mut Party<T>,
+    last: bool,
+)
     requires { IsPartyOf party.old queue.now }
     ensures { Ends party.old party.new last }
 {
     if last {
-        queue.close(party);
+        close(queue, awaited, party);
     }
 }

@@ -4,18 +4,20 @@ ghost use Rattle.concurrent_queue.specs.Shared.{IsPartyOf, Calls};
 ghost use Rattle.counted_channel.specs.Channel.{sent, received, sent_or_full, received_or_empty};
 
 use crate::errors::{Disconnected, SendError};
+use crate::waiting::{Awaited, Patience};
+use crate::waking::{pop, push};
 use concurrent_queue::{ConcurrentQueue, NullTestable, Party, PopError, PushError};
 use std::alloc::Allocator;
 use std::sync::Wait;
-use std::thread::yield_now;
 
-/// Pushes `value`, again and again while the queue is full.
+/// Pushes `value`, again and again while the queue is full. After a few tries it sleeps between them, until there may be room.
 ///
 /// # Errors
 ///
 /// `Closed` with the value on a closed queue, `NoMemory` with the value where a block was asked for and refused.
 pub(crate) fn push_until<T, A: NullTestable, R: Wait>(
     queue: &ConcurrentQueue<T, A>,
+    awaited: &Awaited,
     rt: &R,
     party: &mut Party<T>,
     value: T,
@@ -23,13 +25,18 @@ pub(crate) fn push_until<T, A: NullTestable, R: Wait>(
     requires { IsPartyOf party.old queue.now }
     ensures { Calls party.old (call.Push value) (sent result) party.new }
 {
+    let patience = Patience::new(&awaited.room);
     let mut value = value;
     for _ in rt.forever() {
-        match push_once(queue, rt, party, value) {
-            Ok(answer) => return answer,
+        let turn = patience.begin();
+        match push_once(queue, awaited, rt, party, value) {
+            Ok(answer) => {
+                turn.end();
+                return answer;
+            }
             Err(back) => value = back,
         }
-        yield_now();
+        turn.wait(rt);
     }
     unreachable!()
 }
@@ -37,6 +44,7 @@ pub(crate) fn push_until<T, A: NullTestable, R: Wait>(
 /// Pushes `value`, or gives it back where the queue is full.
 fn push_once<T, A: NullTestable, R: Wait>(
     queue: &ConcurrentQueue<T, A>,
+    awaited: &Awaited,
     rt: &R,
     party: &mut Party<T>,
     value: T,
@@ -44,7 +52,7 @@ fn push_once<T, A: NullTestable, R: Wait>(
     requires { IsPartyOf party.old queue.now }
     ensures { Calls party.old (call.Push value) (sent_or_full result) party.new }
 {
-    match queue.push(rt, party, value) {
+    match push(queue, awaited, rt, party, value) {
         Ok(()) => Ok(Ok(())),
         Err(PushError::Closed(back)) => Ok(Err(SendError::Closed(back))),
         Err(PushError::NoMemory(back)) => Ok(Err(SendError::NoMemory(back))),
@@ -52,23 +60,29 @@ fn push_once<T, A: NullTestable, R: Wait>(
     }
 }
 
-/// Pops, again and again while the queue is open and empty.
+/// Pops, again and again while the queue is open and empty. After a few tries it sleeps between them, until there may be an item.
 ///
 /// # Errors
 ///
 /// On a closed and empty queue.
 pub(crate) fn pop_until<T, A: Allocator, R: Wait>(
     queue: &ConcurrentQueue<T, A>,
+    awaited: &Awaited,
     rt: &R,
     party: &mut Party<T>,
 ) -> Result<T, Disconnected>
     requires { IsPartyOf party.old queue.now }
     ensures { Calls party.old call.Pop (received result) party.new }
 {
+    let patience = Patience::new(&awaited.items);
     for _ in rt.forever() {
-        match pop_once(queue, rt, party) {
-            Some(answer) => return answer,
-            None => yield_now(),
+        let turn = patience.begin();
+        match pop_once(queue, awaited, rt, party) {
+            Some(answer) => {
+                turn.end();
+                return answer;
+            }
+            None => turn.wait(rt),
         }
     }
     unreachable!()
@@ -77,13 +91,14 @@ pub(crate) fn pop_until<T, A: Allocator, R: Wait>(
 /// Pops, or gives nothing where the queue is open and empty.
 fn pop_once<T, A: Allocator, R: Wait>(
     queue: &ConcurrentQueue<T, A>,
+    awaited: &Awaited,
     rt: &R,
     party: &mut Party<T>,
 ) -> Option<Result<T, Disconnected>>
     requires { IsPartyOf party.old queue.now }
     ensures { Calls party.old call.Pop (received_or_empty result) party.new }
 {
-    match queue.pop(rt, party) {
+    match pop(queue, awaited, rt, party) {
         Ok(item) => Some(Ok(item)),
         Err(PopError::Closed) => Some(Err(Disconnected)),
         Err(PopError::Empty) => None,
