@@ -4,6 +4,7 @@ pub mod crew;
 pub mod meanwhile;
 pub mod program;
 pub mod refusals;
+pub mod refused;
 pub mod replays;
 pub mod rows;
 pub mod scripts;

@@ -46,13 +46,17 @@ fn four_ends_a_side(rt: HostRuntime) {
 }
 
 /// As many ends as there may be, over each kind of queue.
-static MOST: [(&str, &str); 3] = [
+static MOST: [(&str, &str); 4] = [
     (
         "channel single 64 64 10",
         "10 values, each counted 64 times\nleft 0\n",
     ),
     (
         "channel bounded:3 64 64 10",
+        "10 values, each counted 64 times\nleft 0\n",
+    ),
+    (
+        "channel bounded:5000 64 64 10",
         "10 values, each counted 64 times\nleft 0\n",
     ),
     (
@@ -143,4 +147,27 @@ fn two_sends_of_a_crew_ask_for_memory_at_once(rt: HostRuntime) {
     let heap = Heap::new(rt.alloc(), Refusal::Never);
     let seen = send_by_two(&rt, &heap);
     assert_eq!(rt; (seen.at_once, seen.done, seen.came), (true, true, 2));
+}
+
+/// How often each of five items comes that one thread sends, where two threads are to receive two each.
+fn come_to_two<R: Abort + Threads + Wait + Sync + AllocGlobal>(rt: &R, heap: &Heap) -> [u64; 5] {
+    let (queue, party) = Queue::unbounded(heap).expect(rt, "memory for a queue");
+    let Ok((channel, sender, receiver)) = channel(heap, queue, party) else {
+        panic!(rt; "no memory for a channel");
+    };
+    let plan = Plan {
+        pushers: 1,
+        poppers: 2,
+        items: 5,
+        share: 2,
+    };
+    let work = run_all(rt, rt.alloc(), &channel, sender, receiver, plan);
+    let counts = work.expect(rt, "memory for the counts").counts;
+    [counts[0], counts[1], counts[2], counts[3], counts[4]]
+}
+
+#[test]
+fn no_receiver_receives_more_than_its_share(rt: HostRuntime) {
+    let heap = Heap::new(rt.alloc(), Refusal::Never);
+    assert_eq!(rt; come_to_two(&rt, &heap), [1, 1, 1, 1, 0]);
 }

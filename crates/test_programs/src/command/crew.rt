@@ -178,6 +178,35 @@ fn what_a_closed_queue_has_is_counted(rt: HostRuntime) {
     assert_eq!(rt; counted, [0, 1]);
 }
 
+/// What is seen of two threads that are to pop two items each, where a closed queue has five: whether all was done, how often each item was counted, and how many are left.
+fn pop_four_of_five<R: Abort + Threads + Wait + Sync + AllocGlobal>(
+    rt: &R,
+) -> (bool, [u64; 5], Option<usize>) {
+    let (queue, mut party) = Queue::bounded(rt.alloc(), 5).expect(rt, "memory for a queue");
+    let _ = queue.push(rt, &mut party, 0);
+    let _ = queue.push(rt, &mut party, 1);
+    let _ = queue.push(rt, &mut party, 2);
+    let _ = queue.push(rt, &mut party, 3);
+    let _ = queue.push(rt, &mut party, 4);
+    queue.close(&mut party);
+    let Work {
+        party,
+        counts,
+        done,
+    } = work_of(rt, &queue, party, plan_of(0, 2, 5));
+    let counted = [counts[0], counts[1], counts[2], counts[3], counts[4]];
+    match queue.finish(party) {
+        Ok(left) => (done, counted, Some(left.len())),
+        Err(_) => (done, counted, None),
+    }
+}
+
+#[test]
+fn no_popper_pops_more_than_its_share(rt: HostRuntime) {
+    let wanted = (true, [1u64, 1, 1, 1, 0], Some(1));
+    assert_eq!(rt; pop_four_of_five(&rt), wanted);
+}
+
 /// Gives other threads turns.
 fn linger() {
     for _ in 0..1000u64 {

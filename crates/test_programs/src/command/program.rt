@@ -9,20 +9,24 @@ use std::sync::Wait;
 use std::thread::Threads;
 use test_streams::runs::{End, words};
 
-/// Asserts that the program ends so on what it is given and this input.
+/// An input of one line.
+const INPUT: &[u8] = b"push 1\n";
+
+/// Asserts that the program ends so on what it is given and that input, and leaves so much of it unread.
 fn ends<R: Abort + Threads + Wait + Sync + AllocGlobal>(
     rt: &R,
     given: io::Result<Args>,
-    mut input: &[u8],
     end: End<'_>,
+    unread: &[u8],
 ) {
     let alloc = rt.alloc();
+    let mut input = INPUT;
     let mut output = Vec::new(alloc);
     let mut faults = Vec::new(alloc);
     let ended = program(rt, &alloc, given, &mut input, &mut output, &mut faults);
     assert_eq!(rt;
-        (ended.status, output.as_slice(), faults.as_slice()),
-        (end.status, end.output, end.faults)
+        (ended.status, output.as_slice(), faults.as_slice(), input),
+        (end.status, end.output, end.faults, unread)
     );
 }
 
@@ -32,36 +36,49 @@ fn given<R: Abort + AllocGlobal>(rt: &R, line: &str) -> Args {
     words.into_iter()
 }
 
-/// An input of one line.
-const INPUT: &[u8] = b"push 1\n";
-
-/// The status with which each line ends on that input, its output, and what is told of a fault.
-static ENDS: [(&str, u8, &str, &str); 4] = [
-    ("queue_run script single", 0, "ok\nleft 1\n", ""),
+/// The status with which each line ends on that input, its output, what is told of a fault, and what is left of the input.
+static ENDS: [(&str, u8, &str, &str, &[u8]); 6] = [
+    ("queue_run script single", 0, "ok\nleft 1\n", "", b""),
     (
         "queue_run threads unbounded 2 2 50",
         0,
         "50 values, each counted 2 times\n",
         "",
+        INPUT,
     ),
-    ("queue_run replay single 1", 2, "", "line 1: unreadable\n"),
+    ("queue_run handshake", 0, "both\n", "", INPUT),
+    (
+        "queue_run channel single 1 1 2",
+        0,
+        "2 values, each counted 1 times\nleft 0\n",
+        "",
+        INPUT,
+    ),
+    (
+        "queue_run replay single 1",
+        2,
+        "",
+        "line 1: unreadable\n",
+        b"",
+    ),
     (
         "queue_run script bounded:576460752303423489",
         3,
         "",
         "no memory\n",
+        b"",
     ),
 ];
 
 #[test]
 fn each_end_has_its_status(rt: HostRuntime) {
-    for (line, status, output, faults) in ENDS.iter() {
+    for (line, status, output, faults, unread) in ENDS.iter() {
         let end = End {
             status: *status,
             output: output.as_bytes(),
             faults: faults.as_bytes(),
         };
-        ends(&rt, Ok(given(&rt, line)), INPUT, end);
+        ends(&rt, Ok(given(&rt, line)), end, unread);
     }
 }
 
@@ -78,14 +95,14 @@ static WRONG: [(&str, &str); 3] = [
     ("", NO_FORM),
 ];
 
-/// Asserts that the program tells how it is used, and this reason.
+/// Asserts that the program tells how it is used, and this reason, and reads nothing.
 fn is_wrong<R: Abort + Threads + Wait + Sync + AllocGlobal>(
     rt: &R,
     given: io::Result<Args>,
     reason: &str,
 ) {
     let told = usage(rt, Program::QueueRun, reason);
-    ends(rt, given, INPUT, End::fault(2, told.as_str()));
+    ends(rt, given, End::fault(2, told.as_str()), INPUT);
 }
 
 #[test]
@@ -98,7 +115,7 @@ fn each_wrong_line_has_its_reason(rt: HostRuntime) {
 #[test]
 fn arguments_without_memory_end_as_want_of_memory(rt: HostRuntime) {
     let error = io::Error::from(ErrorKind::OutOfMemory);
-    ends(&rt, Err(error), INPUT, End::fault(3, "no memory\n"));
+    ends(&rt, Err(error), End::fault(3, "no memory\n"), INPUT);
 }
 
 #[test]

@@ -68,6 +68,20 @@ fn two_parties_install_the_first_block(rt: HostRuntime) {
     );
 }
 
+static LONG_OUTPUT: [Part<'static>; 4] = [
+    Part::Pushed(20_000),
+    Part::Text("blocks 318 of 319\nleft"),
+    Part::Items(20_000),
+    Part::Text("\n"),
+];
+
+/// The push of a block's last item asks for the next one: with 19,970 items in the list, which fill 316 blocks, for the last of 318.
+#[test]
+fn thousands_of_pushes_are_replayed(rt: HostRuntime) {
+    let input = [Part::Pushes(20_000)];
+    writes(&rt, "replay unbounded 1", &input, &LONG_OUTPUT);
+}
+
 static STOPPED_INPUT: [Part<'static>; 3] = [
     Part::Pushes(62),
     Part::Text("0 push 63\n0 step\n0 step\n0 step\n0 step\n"),
