@@ -12,6 +12,7 @@ use app_text::args::{Form, parse_form};
 use app_text::faults::Fault;
 use app_threads::channel::channel;
 use app_threads::handshake::handshake;
+use app_threads::limit::NO_LIMIT;
 use app_threads::sharing::{Ran, Sharing};
 use app_threads::threads::threads;
 use app_threads::verdict::Verdict;
@@ -87,9 +88,9 @@ fn run<R: Threads + Wait + Sync + AllocGlobal, A: Allocator, I: Read, O: Write>(
     match form {
         Form::Script(kind) => alone(shown(script(alloc, kind, input, output))),
         Form::Replay(kind, parties) => alone(shown(replay(alloc, kind, parties, input, output))),
-        Form::Threads(load) => threads(rt, rt.alloc(), load, output),
-        Form::Handshake => handshake(rt, rt.alloc(), output),
-        Form::Channel(load) => channel(rt, rt.alloc(), load, output),
+        Form::Threads(load) => threads(rt, rt.alloc(), load, NO_LIMIT, output),
+        Form::Handshake => handshake(rt, rt.alloc(), NO_LIMIT, output),
+        Form::Channel(load) => channel(rt, rt.alloc(), load, NO_LIMIT, output),
     }
 }
 

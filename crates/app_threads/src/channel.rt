@@ -13,6 +13,7 @@ ghost use Rattle.app_threads.specs.Verdicts.{IsOutputFault};
 use crate::counts::judge;
 use crate::crew::{Plan, Work};
 use crate::ends::run_all;
+use crate::limit::Limit;
 use crate::sharing::{EndedChannel, Ran, Sharing};
 use crate::threads::{queue_of, write_finding};
 use crate::verdict::Verdict;
@@ -34,6 +35,7 @@ pub fn channel<R: Threads + Wait + Sync, O: Write>(
     rt: &R,
     alloc: Global,
     load: Load,
+    limit: Limit,
     output: &mut O,
 ) -> Ran
     requires { IsLoad load }
@@ -41,7 +43,7 @@ pub fn channel<R: Threads + Wait + Sync, O: Write>(
         (IsReceived load result.sharing (O.contents output.old) (O.contents output.new))
         (IsOutputFault (IsReceivedText load result.sharing) (O.contents output.old) (O.contents output.new)) }
 {
-    match receive_all(rt, alloc, load) {
+    match receive_all(rt, alloc, load, limit) {
         Ok((ended, counts, left)) => Ran {
             end: write_received(alloc, load, &counts, left, output),
             sharing: Sharing::Ended(ended),
@@ -77,6 +79,7 @@ fn receive_all<R: Threads + Wait + Sync>(
     rt: &R,
     alloc: Global,
     load: Load,
+    limit: Limit,
 ) -> Result<(EndedChannel, Vec<u64>, usize), AllocError>
     requires { IsLoad load }
     ensures ended { IfOk result (λ r. IsEnded (capacity_of load.kind) r.0) }
@@ -91,7 +94,7 @@ fn receive_all<R: Threads + Wait + Sync>(
         mut party,
         counts,
         done,
-    } = run_all(rt, alloc, &channel, sender, receiver, plan_of(load))?;
+    } = run_all(rt, alloc, &channel, sender, receiver, plan_of(load, limit))?;
     if !done {
         return Err(AllocError);
     }
@@ -118,7 +121,7 @@ fn items_left<R: Wait>(rt: &R, channel: &Channel<u64>, party: &mut Party<u64>) -
 }
 
 // What the threads have to do. A receiver may have to receive all that is sent, and then that nobody sends any more.
-fn plan_of(load: Load) -> Plan
+fn plan_of(load: Load, limit: Limit) -> Plan
     requires { IsLoad load }
     ensures items { result.items ≡ load.items }
     ensures threads { result.pushers + result.poppers < 2 ^ 64 }
@@ -129,5 +132,6 @@ fn plan_of(load: Load) -> Plan
         poppers: load.poppers,
         items: load.items,
         share: load.pushers * load.items + 1,
+        limit,
     }
 }

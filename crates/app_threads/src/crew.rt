@@ -9,6 +9,7 @@ ghost use Rattle.app_threads.specs.Works.{IsWork, Quits};
 ghost use denote.Param.Send.{IsSync};
 
 use crate::counts::{add, count, none_counted};
+use crate::limit::Limit;
 use concurrent_queue::{ConcurrentQueue, Party, PopError, PushError};
 use crossbeam_utils::Backoff;
 use mem_blocks::null_testable::NullTestable;
@@ -21,13 +22,14 @@ use std::thread::{Promise, Scope, Threads};
 /// The queue that the threads of the program share.
 pub type Queue = ConcurrentQueue<u64>;
 
-/// How many threads push and how many pop, and how much each has to do.
+/// How many threads push and how many pop, how much each has to do, and how many may be started.
 #[derive(Clone, Copy)]
 pub struct Plan {
     pub pushers: u64,
     pub poppers: u64,
     pub items: u64,
     pub share: u64,
+    pub limit: Limit,
 }
 
 /// What came of a party's work.
@@ -119,7 +121,9 @@ fn start_from<'s, E, R: Threads + Wait + Sync, A: NullTestable + Send + Sync>(
                 given: Snapshot::of(&theirs),
                 plan,
             };
-            let started = scope.spawn_with(
+            let started = plan.limit.start(
+                number,
+                scope,
                 promise,
                 move || -> Work
                     requires { IsSync R.row × IsPartyOf theirs queue.now }

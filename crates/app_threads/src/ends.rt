@@ -109,7 +109,7 @@ fn start_from<'s, E, R: Threads + Wait + Sync, A: NullTestable + Send + Sync>(
     match part(channel, sender, receiver, plan, number) {
         Err((sender, receiver)) => end_both(channel, sender, receiver, counts, false),
         Ok((sender, receiver, task)) => {
-            match start_one(rt, alloc, scope, channel, gives_up, task, plan) {
+            match start_one(rt, alloc, scope, channel, gives_up, task, plan, number) {
                 Err(theirs) => {
                     let ours = end_both(channel, sender, receiver, counts, false);
                     both(channel, ours, theirs)
@@ -134,7 +134,7 @@ fn start_from<'s, E, R: Threads + Wait + Sync, A: NullTestable + Send + Sync>(
     }
 }
 
-/// Starts a thread with this task. Where none can be started the crew gives up, and the task's end is ended at once.
+/// Starts the thread of this number with this task. Where none can be started the crew gives up, and the task's end is ended at once.
 fn start_one<'s, E, R: Threads + Wait + Sync, A: NullTestable + Send + Sync>(
     rt: &'s R,
     alloc: Global,
@@ -143,6 +143,7 @@ fn start_one<'s, E, R: Threads + Wait + Sync, A: NullTestable + Send + Sync>(
     gives_up: &'s AtomicBool,
     task: Task,
     plan: Plan,
+    number: u64,
 ) -> Result<PromisedHandle<Work, Returns<'s, A>>, Work>
     requires { IsTaskOf task channel.now }
     ensures { MatchResult result
@@ -154,7 +155,9 @@ fn start_one<'s, E, R: Threads + Wait + Sync, A: NullTestable + Send + Sync>(
         given: Snapshot::of(&task),
         plan,
     };
-    let started = scope.spawn_with(
+    let started = plan.limit.start(
+        number,
+        scope,
         promise,
         move || -> Work
             requires { IsSync R.row × IsTaskOf task channel.now }

@@ -8,6 +8,7 @@ ghost use Rattle.app_threads.specs.Verdicts.{IsOutputFault};
 ghost use denote.Param.Send.{IsSync};
 
 use crate::crew::Queue;
+use crate::limit::Limit;
 use crate::sharing::{Ran, Shared, Sharing};
 use crate::verdict::Verdict;
 use app_text::faults::Fault;
@@ -28,12 +29,17 @@ const MOST_TRIES: u64 = 1_000_000;
 ///
 /// It ends in `NoMemory`, also where a thread cannot be started, and in `OutputFailed`, where a beginning of the output may be
 /// written.
-pub fn handshake<R: Threads + Wait + Sync, O: Write>(rt: &R, alloc: Global, output: &mut O) -> Ran
+pub fn handshake<R: Threads + Wait + Sync, O: Write>(
+    rt: &R,
+    alloc: Global,
+    limit: Limit,
+    output: &mut O,
+) -> Ran
     ensures { MatchResult result.end
         (Handshake result.sharing (O.contents output.old) (O.contents output.new))
         (IsOutputFault (IsHandshakeText result.sharing) (O.contents output.old) (O.contents output.new)) }
 {
-    match shake_hands(rt, alloc) {
+    match shake_hands(rt, alloc, limit) {
         Ok((sharing, met)) => Ran {
             end: write_met(met, output),
             sharing,
@@ -91,6 +97,7 @@ impl<'a> Promise<Shaken> for Shakes<'a> {
 fn shake_hands<R: Threads + Wait + Sync>(
     rt: &R,
     alloc: Global,
+    limit: Limit,
 ) -> Result<(Sharing, bool), AllocError>
     ensures joined { IfOk result (λ r. HandsJoined r.0) }
     ensures met { IfOk result (λ r. r.1 ≡ true → HandsMet r.0) }
@@ -109,7 +116,7 @@ fn shake_hands<R: Threads + Wait + Sync>(
         |scope| -> Result<Shaken, Hands>
             requires { IsSync R.row × AreHandsOf kept there back × AreHandsOf first there back × AreHandsOf second there back × AreThreeParts kept first second }
             ensures { MatchResult result (IsMeeting there back) (λ hands. SawClosed hands.sends × SawClosed hands.takes) }
-        { start_both(rt, scope, &there, &back, kept, first, second) },
+        { start_both(rt, scope, limit, &there, &back, kept, first, second) },
     );
     let Ok(Shaken { hands, came }) = shaken else {
         return Err(AllocError);
@@ -155,6 +162,7 @@ fn part(there: &Queue, back: &Queue, hands: Hands) -> Result<(Hands, Hands), All
 fn start_both<'s, E, R: Threads + Wait + Sync>(
     rt: &'s R,
     scope: &Scope<'s, E>,
+    limit: Limit,
     there: &'s Queue,
     back: &'s Queue,
     mut kept: Hands,
@@ -183,14 +191,18 @@ fn start_both<'s, E, R: Threads + Wait + Sync>(
         given: Snapshot::of(&second),
         item: 1,
     };
-    let opener = scope.spawn_with(
+    let opener = limit.start(
+        0,
+        scope,
         offers,
         move || -> Shaken
             requires { IsSync R.row × AreHandsOf first there.now back.now }
             ensures { IsShaken there.entry.now back.entry.now 2 first result }
         { offer(rt, there, back, first) },
     );
-    let other = scope.spawn_with(
+    let other = limit.start(
+        1,
+        scope,
         replies,
         move || -> Shaken
             requires { IsSync R.row × AreHandsOf second back.now there.now }

@@ -6,6 +6,7 @@ pub mod counts;
 pub mod crew;
 pub mod ends;
 pub mod handshake;
+pub mod limit;
 pub mod sharing;
 pub mod threads;
 pub mod verdict;

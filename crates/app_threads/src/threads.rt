@@ -13,6 +13,7 @@ ghost use Rattle.app_threads.specs.Verdicts.{IsOutputFault};
 
 use crate::counts::{Finding, judge};
 use crate::crew::{Plan, Queue, Work, run_all};
+use crate::limit::Limit;
 use crate::sharing::{Ran, Shared, Sharing};
 use crate::verdict::Verdict;
 use app_text::args::KindName;
@@ -34,6 +35,7 @@ pub fn threads<R: Threads + Wait + Sync, O: Write>(
     rt: &R,
     alloc: Global,
     load: Load,
+    limit: Limit,
     output: &mut O,
 ) -> Ran
     requires { IsLoad load }
@@ -41,7 +43,7 @@ pub fn threads<R: Threads + Wait + Sync, O: Write>(
         (IsCounted load result.sharing (O.contents output.old) (O.contents output.new))
         (IsOutputFault (IsCountsLine load result.sharing) (O.contents output.old) (O.contents output.new)) }
 {
-    match count_all(rt, alloc, load) {
+    match count_all(rt, alloc, load, limit) {
         Ok((shared, counts)) => Ran {
             end: write_counts(alloc, load, &counts, output),
             sharing: Sharing::Counted(shared),
@@ -90,6 +92,7 @@ fn count_all<R: Threads + Wait + Sync>(
     rt: &R,
     alloc: Global,
     load: Load,
+    limit: Limit,
 ) -> Result<(Shared, Vec<u64>), AllocError>
     requires { IsLoad load }
     ensures within { IfOk result (λ _. IfSome (capacity_of load.kind) (λ size. size ≤ MAX_CAPACITY)) }
@@ -102,7 +105,7 @@ fn count_all<R: Threads + Wait + Sync>(
         party,
         counts,
         done,
-    } = run_all(rt, alloc, &queue, party, plan_of(load))?;
+    } = run_all(rt, alloc, &queue, party, plan_of(load, limit))?;
     if !done {
         return Err(AllocError);
     }
@@ -124,7 +127,7 @@ pub(crate) fn queue_of(alloc: Global, kind: KindName) -> Result<(Queue, Party<u6
 }
 
 // What the threads have to do: the poppers share the items evenly.
-fn plan_of(load: Load) -> Plan
+fn plan_of(load: Load, limit: Limit) -> Plan
     requires { IsLoad load }
     ensures items { result.items ≡ load.items }
     ensures threads { result.pushers + result.poppers < 2 ^ 64 }
@@ -135,5 +138,6 @@ fn plan_of(load: Load) -> Plan
         poppers: load.poppers,
         items: load.items,
         share: load.pushers * load.items / load.poppers,
+        limit,
     }
 }

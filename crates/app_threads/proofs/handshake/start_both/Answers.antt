@@ -4,7 +4,7 @@ use Rattle.app_threads.proofs.handshake.start_both.Goals as goal
 
 pub returns-in-Ok-Ok : goal.returns-in-Ok-Ok
 returns-in-Ok-Ok g c =
-    let opener = rw c.in-Ok-Ok.is-0 at c.spawn_with-opener.ensures.ok in let other = rw c.in-Ok-Ok.is-1 at c.spawn_with-other.ensures.ok in
+    let opener = rw c.in-Ok-Ok.is-0 at c.start-opener.ensures.ok in let other = rw c.in-Ok-Ok.is-1 at c.start-other.ensures.ok in
     let promised = rw opener at c.join.ensures in let offered = rw c.of.ensures at promised in
     let promised_too = rw other at c.join-in-Ok-Ok.ensures in let replied = rw c.of-2.ensures at promised_too in let both = c.both.ensures in
     meeting c.args.there.now c.args.back.now c.args.kept c.args.first c.args.second c.join.result c.join-in-Ok-Ok.result c.both.result
