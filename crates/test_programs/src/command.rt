@@ -11,4 +11,5 @@ pub mod scripts;
 pub mod streams;
 pub mod threads;
 pub mod unbounded;
+pub mod unstarted;
 pub mod usage;

@@ -4,6 +4,7 @@ use crate::command::rows::all_end_well;
 use crate::runs::{Program, UNREAD, ends};
 use app_threads::crew::{Plan, Work};
 use app_threads::ends::run_all;
+use app_threads::limit::NO_LIMIT;
 use counted_channel::channel;
 use std::process::Abort;
 use std::sync::Wait;
@@ -131,6 +132,7 @@ fn send_by_two<R: Abort + Threads + Wait + Sync + AllocGlobal>(rt: &R, heap: &He
         poppers: 1,
         items: 1,
         share: 3,
+        limit: NO_LIMIT,
     };
     let work = run_all(rt, rt.alloc(), &channel, sender, receiver, plan);
     let Work { counts, done, .. } = work.expect(rt, "memory for the counts");
@@ -160,6 +162,7 @@ fn come_to_two<R: Abort + Threads + Wait + Sync + AllocGlobal>(rt: &R, heap: &He
         poppers: 2,
         items: 5,
         share: 2,
+        limit: NO_LIMIT,
     };
     let work = run_all(rt, rt.alloc(), &channel, sender, receiver, plan);
     let counts = work.expect(rt, "memory for the counts").counts;

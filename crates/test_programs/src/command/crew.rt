@@ -4,6 +4,7 @@ ghost use Rattle.concurrent_queue.specs.Shared.{IsPartyOf};
 
 use app_threads::counts::{Finding, count, judge, none_counted};
 use app_threads::crew::{Plan, Queue, Work, run_all};
+use app_threads::limit::NO_LIMIT;
 use app_threads::verdict::Verdict;
 use concurrent_queue::Party;
 use std::process::Abort;
@@ -43,13 +44,14 @@ fn a_wrong_count_is_told(rt: HostRuntime) {
 
 /// A plan of so many threads a side. Each popper is to pop two items.
 fn plan_of(pushers: u64, poppers: u64, items: u64) -> Plan
-    ensures { result ≡ record { pushers = pushers; poppers = poppers; items = items; share = 2 } }
+    ensures { (result.pushers ≡ pushers) × (result.poppers ≡ poppers) × (result.items ≡ items) × (result.share ≡ 2) }
 {
     Plan {
         pushers,
         poppers,
         items,
         share: 2,
+        limit: NO_LIMIT,
     }
 }
 
@@ -149,6 +151,7 @@ fn empty_closed<R: Abort + Threads + Wait + Sync + AllocGlobal>(rt: &R) -> Empti
         poppers: 2,
         items: 2,
         share: 1,
+        limit: NO_LIMIT,
     };
     let Work {
         party,
@@ -269,6 +272,7 @@ fn run_of_six<R: Abort + Threads + Wait + Sync + AllocGlobal>(rt: &R) -> Run {
         poppers: 2,
         items: 100,
         share: 200,
+        limit: NO_LIMIT,
     };
     let Work {
         party,

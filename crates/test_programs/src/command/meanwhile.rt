@@ -1,5 +1,6 @@
 //! Threads of a crew that are at work within one another's calls.
 use app_threads::crew::{Plan, Work, run_all};
+use app_threads::limit::NO_LIMIT;
 use concurrent_queue::ConcurrentQueue;
 use std::alloc::Global;
 use std::process::Abort;
@@ -33,6 +34,7 @@ fn push_by_two<R: Abort + Threads + Wait + Sync + AllocGlobal>(rt: &R, heap: &He
         poppers: 0,
         items: 1,
         share: 0,
+        limit: NO_LIMIT,
     };
     let work = run_all(rt, rt.alloc(), &queue, party, plan);
     let Work { party, done, .. } = work.expect(rt, "memory for the counts");

@@ -1,6 +1,7 @@
 //! Blocks that are refused to a thread: it reports that not all was done.
 use crate::command::meanwhile::{Heap, Queue};
 use app_threads::crew::Plan;
+use app_threads::limit::NO_LIMIT;
 use app_threads::{crew, ends};
 use counted_channel::channel;
 use std::process::Abort;
@@ -14,6 +15,7 @@ const PLAN: Plan = Plan {
     poppers: 0,
     items: 1,
     share: 2,
+    limit: NO_LIMIT,
 };
 
 /// Whether a thread has pushed its item, of whose queue the request of this number is refused; nothing where there is no queue.

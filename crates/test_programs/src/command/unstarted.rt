@@ -1,0 +1,152 @@
+//! Threads that cannot be started: those that were started end, and the run ends as one without memory.
+use app_text::args::{Form, parse_form};
+use app_threads::channel::channel;
+use app_threads::crew::{Plan, Queue, Work, run_all};
+use app_threads::handshake::handshake;
+use app_threads::limit::Limit;
+use app_threads::sharing::Ran;
+use app_threads::threads::threads;
+use concurrent_queue::PopError;
+use std::process::Abort;
+use std::sync::Wait;
+use std::thread::Threads;
+use test_streams::runs::words;
+
+/// Runs the form that a line asks for, where no more threads can be started than the limit says.
+fn run<R: Abort + Threads + Wait + Sync + AllocGlobal>(
+    rt: &R,
+    line: &str,
+    limit: Limit,
+    output: &mut Vec<u8>,
+) -> Ran {
+    let alloc = rt.alloc();
+    let args = words(alloc, line).expect(rt, "memory for the arguments");
+    match parse_form(&args) {
+        Ok(Form::Threads(load)) => threads(rt, alloc, load, limit, output),
+        Ok(Form::Handshake) => handshake(rt, alloc, limit, output),
+        Ok(Form::Channel(load)) => channel(rt, alloc, load, limit, output),
+        _ => panic!(rt; "a form without threads"),
+    }
+}
+
+/// Asserts that the run of a line comes to its end where so many threads can be started, and writes this, but without one of them wants memory, and writes nothing.
+fn takes<R: Abort + Threads + Wait + Sync + AllocGlobal>(
+    rt: &R,
+    line: &str,
+    threads: u64,
+    wanted: &str,
+) {
+    let alloc = rt.alloc();
+    for started in 0..threads {
+        let mut output = Vec::new(alloc);
+        let ran = run(rt, line, Limit(started), &mut output);
+        let fault = match ran.end {
+            Ok(_) => String::new(alloc),
+            Err(fault) => format!(in alloc; "{fault}").expect(rt, "memory for the fault"),
+        };
+        assert_eq!(rt;
+            (output.as_slice(), fault.as_str()),
+            (b"".as_slice(), "no memory"),
+            "at {line:?} with {started} threads"
+        );
+    }
+    let mut output = Vec::new(alloc);
+    let ran = run(rt, line, Limit(threads), &mut output);
+    assert!(rt; ran.end.is_ok(), "at {line:?}");
+    assert_eq!(rt; output.as_slice(), wanted.as_bytes(), "at {line:?}");
+}
+
+/// How many threads each line starts, and what is written where they can be.
+static LINES: [(&str, u64, &str); 7] = [
+    ("handshake", 2, "both\n"),
+    (
+        "threads single 2 2 20",
+        4,
+        "20 values, each counted 2 times\n",
+    ),
+    (
+        "threads bounded:3 3 2 20",
+        5,
+        "20 values, each counted 3 times\n",
+    ),
+    (
+        "threads unbounded 2 4 100",
+        6,
+        "100 values, each counted 2 times\n",
+    ),
+    (
+        "channel single 2 2 20",
+        4,
+        "20 values, each counted 2 times\nleft 0\n",
+    ),
+    (
+        "channel bounded:3 3 2 20",
+        5,
+        "20 values, each counted 3 times\nleft 0\n",
+    ),
+    (
+        "channel unbounded 2 4 100",
+        6,
+        "100 values, each counted 2 times\nleft 0\n",
+    ),
+];
+
+/// Each start is refused in turn, with all behind it. A run whose started threads were not to end would not end either.
+#[test]
+fn a_thread_that_cannot_be_started_is_want_of_memory(rt: HostRuntime) {
+    for (line, threads, wanted) in LINES.iter() {
+        takes(&rt, line, *threads, wanted);
+    }
+}
+
+/// What is seen of a thread that pushes ten numbers into a ring of three slots, where the one that is to pop them cannot be started.
+#[derive(Clone, Copy, Debug, PartialEq)]
+struct Seen {
+    /// Whether all was done.
+    done: bool,
+    /// Whether the first numbers came out of the queue, in order.
+    in_order: bool,
+    /// Whether the queue was closed then.
+    closed: bool,
+}
+
+/// Lets one thread push, which ends as the queue is closed.
+fn push_alone<R: Abort + Threads + Wait + Sync + AllocGlobal>(rt: &R) -> Seen {
+    let (queue, party) = Queue::bounded(rt.alloc(), 3).expect(rt, "memory for a queue");
+    let plan = Plan {
+        pushers: 1,
+        poppers: 1,
+        items: 10,
+        share: 10,
+        limit: Limit(1),
+    };
+    let work = run_all(rt, rt.alloc(), &queue, party, plan);
+    let Work {
+        mut party,
+        done,
+        ..
+    } = work.expect(rt, "memory for the counts");
+    let mut in_order = true;
+    let mut closed = false;
+    for item in 0..4 {
+        match queue.pop(rt, &mut party) {
+            Ok(value) => in_order = in_order && value == item,
+            Err(why) => closed = why == PopError::Closed,
+        }
+    }
+    Seen {
+        done,
+        in_order,
+        closed,
+    }
+}
+
+#[test]
+fn items_are_left_where_a_thread_cannot_be_started(rt: HostRuntime) {
+    let wanted = Seen {
+        done: false,
+        in_order: true,
+        closed: true,
+    };
+    assert_eq!(rt; push_alone(&rt), wanted);
+}
