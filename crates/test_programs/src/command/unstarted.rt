@@ -1,12 +1,10 @@
 //! Threads that cannot be started: those that were started end, and the run ends as one without memory.
 use app_text::args::{Form, parse_form};
 use app_threads::channel::channel;
-use app_threads::crew::{Plan, Queue, Work, run_all};
 use app_threads::handshake::handshake;
 use app_threads::limit::Limit;
 use app_threads::sharing::Ran;
 use app_threads::threads::threads;
-use concurrent_queue::PopError;
 use std::process::Abort;
 use std::sync::Wait;
 use std::thread::Threads;
@@ -97,56 +95,4 @@ fn a_thread_that_cannot_be_started_is_want_of_memory(rt: HostRuntime) {
     for (line, threads, wanted) in LINES.iter() {
         takes(&rt, line, *threads, wanted);
     }
-}
-
-/// What is seen of a thread that pushes ten numbers into a ring of three slots, where the one that is to pop them cannot be started.
-#[derive(Clone, Copy, Debug, PartialEq)]
-struct Seen {
-    /// Whether all was done.
-    done: bool,
-    /// Whether the first numbers came out of the queue, in order.
-    in_order: bool,
-    /// Whether the queue was closed then.
-    closed: bool,
-}
-
-/// Lets one thread push, which ends as the queue is closed.
-fn push_alone<R: Abort + Threads + Wait + Sync + AllocGlobal>(rt: &R) -> Seen {
-    let (queue, party) = Queue::bounded(rt.alloc(), 3).expect(rt, "memory for a queue");
-    let plan = Plan {
-        pushers: 1,
-        poppers: 1,
-        items: 10,
-        share: 10,
-        limit: Limit(1),
-    };
-    let work = run_all(rt, rt.alloc(), &queue, party, plan);
-    let Work {
-        mut party,
-        done,
-        ..
-    } = work.expect(rt, "memory for the counts");
-    let mut in_order = true;
-    let mut closed = false;
-    for item in 0..4 {
-        match queue.pop(rt, &mut party) {
-            Ok(value) => in_order = in_order && value == item,
-            Err(why) => closed = why == PopError::Closed,
-        }
-    }
-    Seen {
-        done,
-        in_order,
-        closed,
-    }
-}
-
-#[test]
-fn items_are_left_where_a_thread_cannot_be_started(rt: HostRuntime) {
-    let wanted = Seen {
-        done: false,
-        in_order: true,
-        closed: true,
-    };
-    assert_eq!(rt; push_alone(&rt), wanted);
 }
