@@ -1,5 +1,5 @@
 -- What a call that gives up in the place of waiting adds to its party's view: what the call does that waits, or nothing.
-use Rattle.std.specs.Prelude.{◌≡◌, Option, Ok, Err, None, Result}
+use Rattle.std.specs.Prelude.{◌≡◌, Option, Ok, Err, Result}
 use Rattle.std.specs.ControlFlow.{MatchControlFlow}
 use Rattle.std.specs.declared.ops.ControlFlow.{ControlFlow}
 use Rattle.queue_steps.specs.declared.model.Call.{Call}
@@ -10,7 +10,6 @@ use Rattle.queue_steps.specs.declared.errors.PushError.TheVariants as push
 use Rattle.queue_steps.specs.declared.errors.ForcePushError.TheVariants as force
 use Rattle.queue_steps.specs.declared.errors.PopError.TheVariants as pop
 use Rattle.queue_steps.specs.Kinds.{call_value}
-use Rattle.law_chain.specs.ChainEarly.{IsPush}
 use Rattle.concurrent_queue.specs.declared.try_errors.TryPushError.{TryPushError}
 use Rattle.concurrent_queue.specs.declared.try_errors.TryPushError.TheVariants as try_push
 use Rattle.concurrent_queue.specs.declared.try_errors.TryForcePushError.{TryForcePushError}
@@ -18,11 +17,7 @@ use Rattle.concurrent_queue.specs.declared.try_errors.TryForcePushError.TheVaria
 use Rattle.concurrent_queue.specs.declared.try_errors.TryPopError.{TryPopError}
 use Rattle.concurrent_queue.specs.declared.try_errors.TryPopError.TheVariants as try_pop
 use Rattle.concurrent_queue.specs.SawMore.{SawMore}
-use Rattle.concurrent_queue.specs.Shared.{QueueId, Person, Calls}
-
--- a call that may be tried: a pop only where the queue has a capacity
-abbrev pub MayTry : {T : Type 0} → QueueId → Call T → Type 0
-MayTry q c = q.cap ≡ None → IsPush c
+use Rattle.concurrent_queue.specs.Shared.{Person, Calls}
 
 module _ {T : Type 0} where
   -- the call c was made, or has done nothing and its value comes back

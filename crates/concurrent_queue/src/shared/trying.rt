@@ -1,7 +1,12 @@
 //! Calls that answer busy in the place of waiting.
-ghost use Rattle.std.specs.Prelude.{◌≡◌, ◌≢◌, None};
-ghost use Rattle.concurrent_queue.specs.Shared.{IsPartyOf};
-ghost use Rattle.concurrent_queue.specs.Tries.{MayTry, Tries, TriesPush, TriesForcePush, TriesPop};
+ghost use Rattle.std.specs.Prelude.{◌≢◌, ℕ, None};
+ghost use Rattle.queue_steps.specs.declared.model.Call.TheVariants as call;
+ghost use Rattle.queue_steps.specs.declared.steps.types.Next.{Next as SpecNext};
+ghost use Rattle.shared_parties.specs.Calling.{cap_of};
+ghost use Rattle.shared_calls.specs.Settling.{MayWait};
+ghost use Rattle.shared_calls.specs.Trying.{SomeLeft, EndsOrQuits};
+ghost use Rattle.concurrent_queue.specs.Shared.{IsPartyOf, Person};
+ghost use Rattle.concurrent_queue.specs.Tries.{Tries, TriesPush, TriesForcePush, TriesPop};
 
 use super::{Form, Masked};
 use crate::party::{Party, SeatPlace};
@@ -10,15 +15,17 @@ use crate::try_errors::{TryForcePushError, TryPopError, TryPushError};
 use atomic_table::Seat;
 use call_driver::fast::{Short, Usual};
 use call_driver::gate::Open;
+use call_driver::site::Site;
 use mem_blocks::null_testable::NullTestable;
 use queue_steps::errors::{ForcePushError, PopError, PushError};
 use queue_steps::model::{Call, Reply};
 use shared_calls::attempts::{attempt_in, end_or_quit_at, retold};
-use shared_calls::waiting::{run_either, run_fast};
+use shared_calls::waiting::{Left, run_either, run_fast};
 use shared_parties::known::CallState;
 use shared_tables::ring::Rings;
 use shared_tables::slot::Slots;
-use shared_tables::table::SharedTable;
+use shared_tables::table::{SharedTable, TableSteps};
+use std::alloc::Allocator;
 use std::ops::ControlFlow;
 
 /// The calls, for the driver: each has fast steps of its own, also beside those that wait.
@@ -28,15 +35,83 @@ pub(crate) struct TryDisplaces;
 
 pub(crate) struct TryPops;
 
-impl<T, A: NullTestable> ConcurrentQueue<T, A> {
-    /// Makes a call which gives up where it would wait. What it carried comes back then.
-    #[inline(always)]
-    fn attempt<W>(&self, party: &mut Party<T>, call: Call<T>) -> ControlFlow<Reply<T>, Option<T>>
-        requires of { IsPartyOf party.old self.now }
-        requires may { MayTry self.now call }
-        ensures { Tries party.old call result party.new }
-    {
-        match (&self.form, &mut party.place) {
+/// What `try_push` returns where its push was answered so, or came back.
+#[inline(always)]
+fn pushed<T>(told: ControlFlow<Reply<T>, Option<T>>) -> Result<(), TryPushError<T>>
+    requires { (v w : Person T) × (x : T) × Tries v (call.Push x) told w }
+    ensures { (v w : Person T) (x : T) → Tries v (call.Push x) told w → TriesPush v x result w }
+{
+    match told {
+        ControlFlow::Break(Reply::Push(Ok(()))) => Ok(()),
+        ControlFlow::Break(Reply::Push(Err(PushError::Full(value)))) => Err(TryPushError::Full(
+            value,
+        )),
+        ControlFlow::Break(Reply::Push(Err(PushError::Closed(value)))) => Err(TryPushError::Closed(
+            value,
+        )),
+        ControlFlow::Break(Reply::Push(Err(PushError::NoMemory(value)))) => Err(
+            TryPushError::NoMemory(value),
+        ),
+        ControlFlow::Continue(Some(value)) => Err(TryPushError::Busy(value)),
+        _ => unreachable!(),
+    }
+}
+
+/// What `try_force_push` returns where its call was answered so, or came back.
+#[inline(always)]
+fn displaced<T>(told: ControlFlow<Reply<T>, Option<T>>) -> Result<Option<T>, TryForcePushError<T>>
+    requires { (v w : Person T) × (x : T) × Tries v (call.ForcePush x) told w }
+    ensures { (v w : Person T) (x : T) → Tries v (call.ForcePush x) told w → TriesForcePush v x result w }
+{
+    match told {
+        ControlFlow::Break(Reply::ForcePush(Ok(old))) => Ok(old),
+        ControlFlow::Break(Reply::ForcePush(Err(ForcePushError::Closed(value)))) => Err(
+            TryForcePushError::Closed(value),
+        ),
+        ControlFlow::Break(Reply::ForcePush(Err(ForcePushError::NoMemory(value)))) => Err(
+            TryForcePushError::NoMemory(value),
+        ),
+        ControlFlow::Continue(Some(value)) => Err(TryForcePushError::Busy(value)),
+        _ => unreachable!(),
+    }
+}
+
+/// What `try_pop` returns where its pop was answered so, or came back.
+#[inline(always)]
+fn popped<T>(told: ControlFlow<Reply<T>, Option<T>>) -> Result<T, TryPopError>
+    requires { (v w : Person T) × Tries v call.Pop told w }
+    ensures { (v w : Person T) → Tries v call.Pop told w → TriesPop v result w }
+{
+    match told {
+        ControlFlow::Break(Reply::Pop(Ok(item))) => Ok(item),
+        ControlFlow::Break(Reply::Pop(Err(PopError::Empty))) => Err(TryPopError::Empty),
+        ControlFlow::Break(Reply::Pop(Err(PopError::Closed))) => Err(TryPopError::Closed),
+        ControlFlow::Continue(value) => {
+            let None = value else { unreachable!() };
+            Err(TryPopError::Busy)
+        }
+        _ => unreachable!(),
+    }
+}
+
+/// Goes on with a call that has left its fast steps. What is lent there is this function's own: what a function lends of its own is cleared where it begins, so in the text of the fast steps each call would pay for it.
+#[inline(always)]
+fn end_or_quit<T, K: TableSteps<T>, A: Allocator>(
+    table: &SharedTable<T, K, A>,
+    seat: &mut Seat<Option<T>, CallState<T>>,
+    left: Left<T, usize>,
+) -> ControlFlow<Reply<T>, Option<T>>
+    requires left { SomeLeft ⟦<SharedTable<T, K, A> as Site<T, usize, Seat<Option<T>, CallState<T>>>>⟧ (λ c. Unit {0}) table.now left seat.old }
+    requires ends { (todo : SpecNext ℕ) → ¬ (MayWait (K.layout table.now.table.shared.table_id.slots).calls.kind todo) }
+    ensures { EndsOrQuits ⟦<SharedTable<T, K, A> as Site<T, usize, Seat<Option<T>, CallState<T>>>>⟧ (cap_of (K.layout table.now.table.shared.table_id.slots).calls) table.now left seat.old result seat.new }
+{
+    retold(end_or_quit_at(table, seat, left.apart()))
+}
+
+/// Makes a call which gives up where it would wait: which kind of queue it is, and the party's seat. Each way out has the text in place that makes the result of `$told`, so that the compiler knows there what the call was answered.
+macro_rules! attempt_here {
+    ($queue:ident, $party:ident, $call:expr, $W:ty, $told:ident) => {
+        match (&$queue.form, &mut $party.place) {
             (Form::Single(slot), SeatPlace::Table(seat)) => {
                 match run_fast::<
                     T,
@@ -44,11 +119,10 @@ impl<T, A: NullTestable> ConcurrentQueue<T, A> {
                     Seat<Option<T>, CallState<T>>,
                     SharedTable<T, Slots, A>,
                     Open,
-                    Short<W>,
-                >(slot, &Open, seat, call)
-                {
-                    ControlFlow::Break(reply) => ControlFlow::Break(reply),
-                    ControlFlow::Continue(left) => retold(end_or_quit_at(slot, seat, left.apart())),
+                    Short<$W>,
+                >(slot, &Open, seat, $call) {
+                    ControlFlow::Break(reply) => $told(ControlFlow::Break(reply)),
+                    ControlFlow::Continue(left) => $told(end_or_quit(slot, seat, left)),
                 }
             }
             (Form::Ring(ring), SeatPlace::Table(seat)) => {
@@ -58,21 +132,22 @@ impl<T, A: NullTestable> ConcurrentQueue<T, A> {
                     Seat<Option<T>, CallState<T>>,
                     SharedTable<T, Rings, A>,
                     Open,
-                    Usual<Masked<W>>,
-                    Usual<W>,
-                >(ring.slots().is_power_of_two(), ring, &Open, seat, call)
-                {
-                    ControlFlow::Break(reply) => ControlFlow::Break(reply),
-                    ControlFlow::Continue(left) => retold(end_or_quit_at(ring, seat, left.apart())),
+                    Usual<Masked<$W>>,
+                    Usual<$W>,
+                >(ring.slots().is_power_of_two(), ring, &Open, seat, $call) {
+                    ControlFlow::Break(reply) => $told(ControlFlow::Break(reply)),
+                    ControlFlow::Continue(left) => $told(end_or_quit(ring, seat, left)),
                 }
             }
             (Form::Chain(queue), SeatPlace::Web(rested)) => {
-                attempt_in::<T, A, W>(queue, rested, call)
+                $told(attempt_in::<T, A, $W>(queue, rested, $call))
             }
             _ => unreachable!(),
         }
-    }
+    };
+}
 
+impl<T, A: NullTestable> ConcurrentQueue<T, A> {
     /// Appends `value`, without waiting.
     ///
     /// # Errors
@@ -82,16 +157,8 @@ impl<T, A: NullTestable> ConcurrentQueue<T, A> {
         requires { IsPartyOf party.old self.now }
         ensures { TriesPush party.old value result party.new }
     {
-        match self.attempt::<TryPushes>(party, Call::Push(value)) {
-            ControlFlow::Break(Reply::Push(Ok(()))) => Ok(()),
-            ControlFlow::Break(Reply::Push(Err(error))) => Err(match error {
-                PushError::Full(value) => TryPushError::Full(value),
-                PushError::Closed(value) => TryPushError::Closed(value),
-                PushError::NoMemory(value) => TryPushError::NoMemory(value),
-            }),
-            ControlFlow::Continue(Some(value)) => Err(TryPushError::Busy(value)),
-            _ => unreachable!(),
-        }
+        let call = Call::Push(value);
+        attempt_here!(self, party, call, TryPushes, pushed)
     }
 
     /// Appends `value`, and takes the front off and hands it out where the queue was full, without waiting.
@@ -107,15 +174,8 @@ impl<T, A: NullTestable> ConcurrentQueue<T, A> {
         requires { IsPartyOf party.old self.now }
         ensures { TriesForcePush party.old value result party.new }
     {
-        match self.attempt::<TryDisplaces>(party, Call::ForcePush(value)) {
-            ControlFlow::Break(Reply::ForcePush(Ok(old))) => Ok(old),
-            ControlFlow::Break(Reply::ForcePush(Err(error))) => Err(match error {
-                ForcePushError::Closed(value) => TryForcePushError::Closed(value),
-                ForcePushError::NoMemory(value) => TryForcePushError::NoMemory(value),
-            }),
-            ControlFlow::Continue(Some(value)) => Err(TryForcePushError::Busy(value)),
-            _ => unreachable!(),
-        }
+        let call = Call::ForcePush(value);
+        attempt_here!(self, party, call, TryDisplaces, displaced)
     }
 
     /// Takes the front off, without waiting, on a queue with a capacity. On a chain of blocks a pop that has taken its item may have to wait until that is
@@ -129,15 +189,6 @@ impl<T, A: NullTestable> ConcurrentQueue<T, A> {
         requires capped { self.now.cap ≢ None }
         ensures { TriesPop party.old result party.new }
     {
-        match self.attempt::<TryPops>(party, Call::Pop) {
-            ControlFlow::Break(Reply::Pop(Ok(item))) => Ok(item),
-            ControlFlow::Break(Reply::Pop(Err(PopError::Empty))) => Err(TryPopError::Empty),
-            ControlFlow::Break(Reply::Pop(Err(PopError::Closed))) => Err(TryPopError::Closed),
-            ControlFlow::Continue(value) => {
-                let None = value else { unreachable!() };
-                Err(TryPopError::Busy)
-            }
-            _ => unreachable!(),
-        }
+        attempt_here!(self, party, Call::Pop, TryPops, popped)
     }
 }
