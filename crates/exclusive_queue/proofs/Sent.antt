@@ -20,7 +20,7 @@ pub exclusive_send_over : (T A : RattleType) (g : Allocator.Ghosts A.Denot) → 
 exclusive_send_over T A g s t f = view_send _ _ _ _ _ (declared_send (exclusive_type T A g) (form_send T A g s t f, tt))
 
 form_sync : (T A : RattleType) (g : Allocator.Ghosts A.Denot) → IsSend T → IsSync T → IsSend A → IsSync A → Frees g g.dealloc_token → IsSync (form_row T A g)
-form_sync T A g s ys t yt f = variants_sync (form_enum T A g) ((single_sync T ys, tt), ((ring_sync T A g ys yt f, tt), (((blocks_sync T A g s t yt f, tt), tt))))
+form_sync T A g s ys t yt f = variants_sync (form_enum T A g) ((single_sync T ys, tt), ((ring_sync T A g ys yt f, tt), (((blocks_sync T A g s t ys yt f, tt), tt))))
 
 pub exclusive_sync_over : (T A : RattleType) (g : Allocator.Ghosts A.Denot) → IsSend T → IsSync T → IsSend A → IsSync A → Frees g g.dealloc_token → IsSync (exclusive_row T A g)
 exclusive_sync_over T A g s ys t yt f = view_sync _ _ _ _ _ (declared_sync (exclusive_type T A g) (form_sync T A g s ys t yt f, tt))

@@ -1,3 +1,4 @@
 pub mod Exclusive
 pub mod QueueText
 pub mod Iterating
+pub mod Reading

@@ -39,8 +39,10 @@ use std::fmt;
 use std::marker::Model;
 
 mod iter;
+mod reading;
 
 pub use iter::TryIter;
+pub use reading::{IntoIter, Iter};
 
 /// A queue with one owner, first in first out, that can be closed.
 ///

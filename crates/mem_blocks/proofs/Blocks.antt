@@ -9,7 +9,7 @@ use Rattle.mem_blocks.specs.Web.{takes, gives, lays, lifts, worded, linked, home
 use Rattle.mem_blocks.specs.Laid.{if_alive}
 
 -- where a list has an entry
-found_there : {X : Type 0} (xs : List X) (j : ℕ) (x y : X) → get_elem? xs j ≡ maybe.some x → (j < length xs) × (get_or xs j y ≡ x)
+pub found_there : {X : Type 0} (xs : List X) (j : ℕ) (x y : X) → get_elem? xs j ≡ maybe.some x → (j < length xs) × (get_or xs j y ≡ x)
 found_there [] j x y at = absurd (maybe.some-ne-none x (sym at))
 found_there (z ∷ zs) zero x y at = (omega arith, maybe.some-injective z x at)
 found_there (z ∷ zs) (suc j) x y at = let r = found_there zs j x y at in (let near = r.0 in omega arith, r.1)

@@ -11,3 +11,4 @@ pub mod Rooms
 pub mod Made
 pub mod Stepping
 pub mod Walks
+pub mod Lent

@@ -3,3 +3,4 @@ pub mod Laid
 pub mod Seats
 pub mod Words
 pub mod Links
+pub mod Lent

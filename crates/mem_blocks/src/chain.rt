@@ -4,6 +4,7 @@ ghost use base.Stored.{coded_list};
 ghost use denote.RawPtr.{InBlock};
 ghost use Rattle.mem_blocks.specs.Web.{Block, block_coded, block, alive_at, sitter, vacant, full, Lives, Rests, word_of, with_word, with_next, with_home, without, AllGone};
 ghost use Rattle.mem_blocks.specs.Laid.{chain_owns};
+ghost use Rattle.mem_blocks.specs.Lent.{chain_lent};
 
 use crate::block::{Block, BlockPtr, Loose};
 use crate::sizes::SLOTS;
@@ -21,6 +22,8 @@ pub struct Chain<S, A: Allocator> {
 
 impl<S, A: Allocator> Model for Chain<S, A> {
     ghost also_owns = { λ c. chain_owns S.row (A.dealloc_token c.heap) c.blocks };
+
+    ghost also_shares = { λ c _ κ. chain_lent S.row c.blocks κ };
 }
 
 impl<S, A: Allocator> Chain<S, A> {
@@ -98,9 +101,9 @@ impl<S, A: Allocator> Chain<S, A> {
 
     /// Reads the link of a block.
     #[inline(always)]
-    pub fn next(&mut self, number: u64, link: BlockPtr<S>) -> BlockPtr<S>
-        requires { InBlock link.ptr × Lives self.old.blocks number link.ptr }
-        ensures { (self.new ≡ self.old) × (result.ptr ≡ (block self.old.blocks number).next) }
+    pub fn next(&self, number: u64, link: BlockPtr<S>) -> BlockPtr<S>
+        requires { InBlock link.ptr × Lives self.now.blocks number link.ptr }
+        ensures { result.ptr ≡ (block self.now.blocks number).next }
     {
         let ptr = unsafe { (*link.ptr).next };
         BlockPtr { ptr }
@@ -115,6 +118,15 @@ impl<S, A: Allocator> Chain<S, A> {
         unsafe {
             (*link.ptr).next = new.ptr;
         }
+    }
+
+    /// The value in a full slot.
+    #[inline(always)]
+    pub fn get(&self, number: u64, link: BlockPtr<S>, slot: usize) -> &S
+        requires { InBlock link.ptr × Lives self.now.blocks number link.ptr × ((x : S) × Rests self.now.blocks number slot (Some x)) }
+        ensures { Rests self.now.blocks number slot (Some result.now) }
+    {
+        unsafe { &*(&raw const (*(link.ptr as *const Block<S>)).slots as *const S).add(slot) }
     }
 
     /// Writes an empty slot.
@@ -166,4 +178,4 @@ impl<S, A: Allocator> Chain<S, A> {
 
 unsafe impl<S: Send, A: Allocator + Send> Send for Chain<S, A> {}
 
-unsafe impl<S: Send, A: Allocator + Send> Sync for Chain<S, A> {}
+unsafe impl<S: Sync, A: Allocator> Sync for Chain<S, A> {}

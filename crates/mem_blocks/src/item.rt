@@ -31,6 +31,14 @@ impl<T> Item<T> {
         Item { value }
     }
 
+    /// The item, in its slot.
+    #[inline(always)]
+    pub fn get(&self) -> &T
+        ensures { result.now ≡ self.now }
+    {
+        &self.value
+    }
+
     /// The item, which was taken out of a slot.
     #[inline(always)]
     pub fn into_inner(self) -> T

@@ -3,3 +3,4 @@ pub mod Openings
 pub mod RingWrites
 pub mod RingLies
 pub mod Sent
+pub mod ItemsLeft

@@ -5,4 +5,5 @@ pub mod RingWords
 pub mod RingMemory
 pub mod RingOpening
 pub mod RingOwned
+pub mod ItemsLeft
 pub mod Laws

@@ -149,14 +149,14 @@ impl<T, A: Allocator> Ring<T, A> {
     ghost use Rattle.own_bounded.specs.RingCells.{ring_operable, ring_performed};
 
     #[inline(always)]
-    fn head(&self) -> u64
+    pub(crate) fn head(&self) -> u64
         ensures { result ≡ self.now.head }
     {
         self.memory.word(HEAD)
     }
 
     #[inline(always)]
-    fn tail(&self) -> u64
+    pub(crate) fn tail(&self) -> u64
         ensures { result ≡ self.now.tail }
     {
         self.memory.word(TAIL)

@@ -2,6 +2,7 @@
 #![tactic(auto)]
 
 pub mod bounded;
+pub mod reading;
 pub mod ring_words;
 pub mod single;
 pub mod vacant;

@@ -3,3 +3,4 @@ pub mod Linked
 pub mod Layings
 pub mod OwnChainBegins
 pub mod ChainBegins
+pub mod ItemsLeft

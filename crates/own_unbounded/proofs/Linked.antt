@@ -108,6 +108,10 @@ module _ {T A : Type 0} where
       ∙ get-at_home (contents homes) slot (omega arith)
       ∙ ap (λ p. some (Some (item_in p slot))) (sym k.piece)
 
+  -- what a slot has at home is its content
+  pub item-at_home : (s : Inside T A) (b : Name T) (slot : ℕ) (x : T) → Knows s b → slot < SLOTS → Rests s.chain.blocks b.number slot (Some x) → item_in (piece_of (own_chain_view s) b) slot ≡ Some x
+  item-at_home s b slot x k below is = let home = rests s b slot k below in cc
+
   -- a block that is held is changed
   pub set-linked : (s : Inside T A) (n : ℕ) (x : Block T) (new : Chain T A) → IsLinked s → n < s.laid → IsHeld x → new.heap ≡ s.chain.heap → new.blocks ≡ set s.chain.blocks n x → IsLinked (record s { chain = new })
   set-linked s n x new i below held heap is = record {
@@ -165,16 +169,12 @@ module _ {T A : Type 0} where
       go (inr h) = h.1
 
   -- a link is read
-  pub next-read : (s : Inside T A) (b : Name T) (found : Place T) (new : Chain T A) → Knows s b → IsSome (piece_of (own_chain_view s) b).next → (new ≡ s.chain) × (found.ptr ≡ (block_of s b).next)
-      → (answer.Linked (Some (record { number = b.number + 1; link = found })), own_chain_view (record s { chain = new })) ≡ own_chain_performed (own_chain_view s) (op.LoadLink (link.Next b))
-  next-read s b found new k there h =
-      let N : Chain T A → Answer (Name T) × OwnChain T = λ x. (answer.Linked (Some (record { number = b.number + 1; link = found })), own_chain_view (record s { chain = x })) in
-      let G : Option (Name T) → Answer (Name T) × OwnChain T = λ n. (answer.Linked n, own_chain_view s) in
+  pub next-read : (s : Inside T A) (b : Name T) (found : Place T) → Knows s b → IsSome (piece_of (own_chain_view s) b).next → found.ptr ≡ (block_of s b).next
+      → Some (record { number = b.number + 1; link = found }) ≡ (piece_of (own_chain_view s) b).next
+  next-read s b found k there is =
       let next : Option (Name T) = (piece b.number (block_of s b)).next in
       let here : IsSome next = subst (λ p. IsSome p.next) k.piece there in
-      let named : Some (name_at (b.number + 1) found.ptr) ≡ next =
-      ap (λ p. Some (name_at (b.number + 1) p)) h.1 ∙ sym (linked_name-some (b.number + 1) (block_of s b).next here) in
-      ap N h.0 ∙ ap G named ∙ ap (λ p. G p.next) (sym k.piece)
+      ap (λ p. Some (name_at (b.number + 1) p)) is ∙ sym (linked_name-some (b.number + 1) (block_of s b).next here) ∙ ap (λ p. p.next) (sym k.piece)
 
   -- a link is written
   pub next-set : (s : Inside T A) (b after : Name T) (new : Chain T A) → Knows s b → Knows s after → after.number ≡ b.number + 1

@@ -2,4 +2,5 @@ pub mod OwnChainCells
 pub mod OwnChainOwned
 pub mod LinkedBlocks
 pub mod ChainMemory
+pub mod ItemsLeft
 pub mod Laws

@@ -3,4 +3,5 @@
 
 mod opening;
 mod operations;
+pub mod reading;
 pub mod unbounded;

@@ -80,26 +80,6 @@ impl<T, A: Allocator> LinkedBlocks<T, A> {
         found
     }
 
-    /// The block behind this one: the last block has none.
-    #[inline(always)]
-    fn next(&mut self, block: Name<T>) -> Option<Name<T>>
-        requires { own_chain_can_perform self.old (LoadLink (Next block)) }
-        ensures { (Linked result, self.new) ≡ own_chain_performed self.old (LoadLink (Next block)) }
-    {
-        match self.tail_block {
-            Some(last) => {
-                if last.number == block.number {
-                    return None;
-                }
-                Some(Name {
-                    number: block.number + 1,
-                    link: self.chain.next(block.number, block.link),
-                })
-            }
-            None => unreachable!(),
-        }
-    }
-
     /// Asks for a block.
     #[inline(always)]
     pub(crate) fn ask(&mut self) -> Answer<Name<T>>

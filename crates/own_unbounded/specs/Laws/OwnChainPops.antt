@@ -28,7 +28,7 @@ use Rattle.own_unbounded.specs.Laws.OwnChainPushes.{place-is, named-at, last_nam
 use Rattle.own_unbounded.specs.Laws.OwnChainSequential.{Right, sequential}
 
 -- the numbers tell of each block whether there is one behind it
-can-follow : {T : Type 0} (r : OwnChain T) (i : IsIdle r) (l : Laid r) (k : ℕ) → k < length r.pieces → CanFollow r (piece_at r.pieces k).name
+pub can-follow : {T : Type 0} (r : OwnChain T) (i : IsIdle r) (l : Laid r) (k : ℕ) → k < length r.pieces → CanFollow r (piece_at r.pieces k).name
 can-follow {T} r i l k below = (named-at r k l.linked below, (last_name r i l, last-is r i l, go (last_or_not k (length r.pieces) below)))
   where
     number : ((last_name r i l).number) ≡ r.first + (length r.pieces - 1)

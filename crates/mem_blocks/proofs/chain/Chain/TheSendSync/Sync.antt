@@ -1,8 +1,11 @@
 use denote.RattleType.{RattleType}
-use denote.Param.Send.{IsSend, IsSync, Frees, part_keyless}
+use denote.Param.Send.{IsSync, sendable}
+use denote.Struct.Struct.{Struct}
+use denote.Struct.Owning.{shape}
 use Rattle.std.specs.declared.alloc.Allocator as Allocator
-use Rattle.mem_blocks.specs.contracts.chain.Chain.{the_row}
-use Rattle.mem_blocks.proofs.chain.Chain.TheSendSync.Send.{send}
+use Rattle.mem_blocks.specs.contracts.chain.Chain.{the_row, the_type}
+use Rattle.mem_blocks.proofs.Lent.{chain_common}
 
-pub sync : (S A : RattleType) (g : Allocator.Ghosts A.Denot) → IsSend S → IsSend A → Frees g g.dealloc_token → IsSync (the_row S A g)
-sync S A g s t f = record { shared = λ w b o ν q. part_keyless (the_row S A g) (send S A g s t f) q w b o }
+pub sync : (S A : RattleType) (g : Allocator.Ghosts A.Denot) → IsSync S → IsSync (the_row S A g)
+sync S A g y = let fields : IsSync (Struct (shape (the_type S A g))) = search sendable depth 20 in
+    record { shared = λ c b o ν. (fields.shared (tt, tt) b o ν, chain_common S y c.blocks ν) }

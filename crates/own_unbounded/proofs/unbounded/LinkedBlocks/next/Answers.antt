@@ -23,7 +23,7 @@ returns g c =
     let can = rw (← c.self.view_is) at c.requires in
     let k = Knows-named s b c.self.invariant can.0 in
     let there = links_on s b c.in-Some.last c.in-Some.is c.if-last-block.false can in
-    rw (← c.self.view_is) (next-read s b c.next.result c.next.new.self k there c.next.ensures)
+    rw (← c.self.view_is) (next-read s b c.next.result k there c.next.ensures)
 
 pub returns-then-last-block : goal.returns-then-last-block
 returns-then-last-block g c = search rules
