@@ -3,9 +3,12 @@
 
 ghost use Rattle.std.specs.Prelude.{◌≡◌, ◌+◌, ◌<◌, ◌≤◌, [], ◌∷◌, ◌++◌, length, IfOk, MatchResult};
 ghost use Rattle.queue_steps.specs.declared.sizes.TheConstants.{LIMIT};
+ghost use Rattle.std.specs.Map.Iter.{ShowsInOrder, deref};
+ghost use Rattle.queue_steps.specs.Replies.{is_empty};
 ghost use Rattle.use_log.specs.Log.{newest, with_all, Appends, TakesOldest};
 
 use exclusive_queue::Exclusive;
+use exclusive_queue::exclusive::Iter;
 use std::alloc::{AllocError, Allocator, Global};
 use std::marker::Model;
 
@@ -74,6 +77,40 @@ impl<T, A: Allocator> Log<T, A> {
         ensures { TakesOldest self.old result self.new }
     {
         self.ring.pop().ok()
+    }
+
+    /// How many entries are held.
+    pub fn len(&self) -> usize
+        ensures { result ≡ length self.now.entries }
+    {
+        self.ring.len()
+    }
+
+    /// Whether no entry is held.
+    pub fn is_empty(&self) -> bool
+        ensures { result ≡ is_empty self.now.entries }
+    {
+        self.ring.is_empty()
+    }
+
+    /// The entries that are held, the oldest first. They stay in the log.
+    pub fn iter(&self) -> Iter<'_, T, A>
+        ensures rest { result ≡ self.now.entries }
+        ensures runs { ShowsInOrder (deref {X = T}) }
+    {
+        self.ring.iter()
+    }
+}
+
+impl<'a, T, A: Allocator> IntoIterator for &'a Log<T, A> {
+    type Item = &'a T;
+
+    type IntoIter = Iter<'a, T, A>;
+
+    ghost into_iter_gives = { λ log iter. (iter ≡ log.now.entries) × ShowsInOrder (deref {X = T}) };
+
+    fn into_iter(self) -> Iter<'a, T, A> {
+        self.iter()
     }
 }
 
