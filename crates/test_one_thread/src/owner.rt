@@ -4,6 +4,7 @@ pub mod errors;
 pub mod iterators;
 pub mod looks;
 pub mod one_slot;
+pub mod reading;
 pub mod rings;
 pub mod rows;
 pub mod runs;

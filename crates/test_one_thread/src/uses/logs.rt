@@ -47,3 +47,16 @@ fn a_dropped_log_leaves_nothing(rt: HostRuntime) {
     drop(log);
     is(&rt, (0 < held, heap.live()), (true, 0));
 }
+
+/// The entries of a log are read in their order, and stay.
+#[test]
+fn a_log_is_read_and_stays(rt: HostRuntime) {
+    let mut log: Log<u64> = Log::new(rt.alloc(), 3).expect(&rt, "memory");
+    is(&rt, (log.is_empty(), log.iter().count()), (true, 0));
+    log.append_all(&[6, 7, 8, 9]);
+    for _ in 0..2 {
+        let entries = log.iter().copied();
+        is(&rt, (log.len(), entries.eq(7..10)), (3, true));
+    }
+    is(&rt, (log.take_oldest(), log.is_empty()), (Some(7), false));
+}
