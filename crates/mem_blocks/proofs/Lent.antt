@@ -1,21 +1,20 @@
 -- What a `&` to a chain shows: how it is made of a borrow, how it is read, and where it may go. Assumes `Logic`.
 use Rattle.std.proofs.Common.{◌≡◌, ℕ, zero, suc, ◌+◌, ◌*◌, ◌<◌, Bool, true, false, true≢false, List, [], ◌∷◌, sym, refl, subst, arith, suc-mul, zero-mul}
-use Rattle.std.specs.Prelude.{Option, Some, None}
+use Rattle.std.specs.Prelude.{Some, None}
 use mathlib.Core.Option as maybe
 use lib.ListN.{get_elem?}
 use seplogic.Ra.Ura.{Ura}
 use mir.Syntax.{Ty, ty_ptr}
-use base.Logic.{SProp, ent, sep, via, fst∗, snd∗, id⊢, guard}
-use base.Fml.{Lft, Share, Fml, ftrue, fat, fbor, fshr_bor}
+use base.Logic.{SProp, ent, sep, guard}
+use base.Fml.{Lft, Share, Fml, ftrue, fbor, fshr_bor}
 use base.Fraction.{full_share}
-use base.Share
 use ghost.Rules.{Halves}
 use types.Logic.{Logic, sem, lfts}
-use types.Kit.{‵, raw, given, ◌⊛◌, ◌$◌, ◌∵◌, !, qed, by, use1, drop, move, keep, rewrite, fsplit, fsplit3, fpick, check, updating, now, done}
+use types.Kit.{‵, raw, ◌$◌, ◌∵◌, !, qed, by, use1, drop, move, keep, rewrite, fsplit, fsplit3, fpick, check, updating, now, done}
 use types.Tokens.{bor_fracture}
 use denote.RattleType.{RattleType, RowLaws}
 use denote.Memory.{mem, shared_of}
-use denote.RawPtr.{Ptr, block_ptr, block_of, count_of, InBlock, ptr_val}
+use denote.RawPtr.{Ptr, block_ptr, block_of, count_of, ptr_val}
 use denote.Sharing.{ShrLaws, nothing, said, one, beside}
 use denote.SharingLaws.{nothing_shr_laws, said_shr_laws, one_shr_laws, beside_shr_laws}
 use denote.Shares.{Shares}

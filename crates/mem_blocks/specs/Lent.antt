@@ -1,5 +1,5 @@
 -- What a `&` to a chain shows: the link of each block, and the values in its slots.
-use Rattle.std.specs.Prelude.{ℕ, ◌+◌, Bool, true, false, List, [], ◌∷◌, Option, Some, None}
+use Rattle.std.specs.Prelude.{ℕ, ◌+◌, Bool, true, false, List, [], ◌∷◌, Some, None}
 use base.Fml.{Lft, Share, Fml, fat}
 use mir.Syntax.{ty_ptr}
 use denote.RattleType.{RattleType}

@@ -1,5 +1,5 @@
 -- Reading goes from slot to slot, and round the end of the ring.
-use Rattle.std.proofs.Common.{◌≡◌, ℕ, suc, ◌+◌, ◌-◌, ◌%◌, ◌<◌, ◌≤◌, List, ◌∷◌, length, Option, Some, refl, arith, sym, ap, ◌∙◌, mod-lt}
+use Rattle.std.proofs.Common.{◌≡◌, ℕ, suc, ◌+◌, ◌-◌, ◌%◌, ◌<◌, ◌≤◌, List, ◌∷◌, length, Some, arith, sym, ap, ◌∙◌, mod-lt}
 use Rattle.std.proofs.Math.Nat.{suc-mod, mod-eq_of_lt, mod_self}
 use Rattle.queue_steps.specs.Words.{position_of, slot_at}
 use Rattle.own_bounded.specs.RingCells.{RingState, RingSlot, slot_in}

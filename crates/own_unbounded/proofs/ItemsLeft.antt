@@ -1,12 +1,11 @@
 -- Reading goes from item to item, and from block to block.
-use Rattle.std.proofs.Common.{◌≡◌, ◌⊎◌, ℕ, zero, suc, ◌+◌, ◌-◌, ◌/◌, ◌%◌, ◌<◌, ◌≤◌, List, ◌∷◌, length, Option, Some, None, refl, arith, sym, ap, ◌∙◌, subst, inl, inr}
+use Rattle.std.proofs.Common.{◌≡◌, ℕ, suc, ◌+◌, ◌-◌, ◌/◌, ◌%◌, ◌<◌, ◌≤◌, ◌∷◌, length, Option, Some, arith, sym, ap, ◌∙◌, subst, inl, inr}
 use Rattle.queue_steps.specs.declared.sizes.TheConstants.{BLOCK_SLOTS}
-use Rattle.queue_steps.specs.declared.steps.unbounded.TheConstants.{WRITE}
 use Rattle.queue_steps.specs.ChainWords.{offset_of}
 use Rattle.own_bounded.specs.RingOwned.{put_in}
 use Rattle.own_unbounded.specs.declared.unbounded.Name.{Name}
 use Rattle.own_unbounded.specs.OwnChainCells.{OwnChain, piece_at, piece_of, place_of, item_in, Named, CanTake, CanFollow}
-use Rattle.own_unbounded.specs.OwnChainOwned.{taken, accepted, cell_of, items_from, own_chain_queue, IsBare, IsIdle}
+use Rattle.own_unbounded.specs.OwnChainOwned.{taken, accepted, cell_of, items_from, own_chain_queue, IsIdle}
 use Rattle.own_unbounded.specs.ItemsLeft.{next_item, items_left, Reads}
 use Rattle.own_unbounded.specs.Laws.OwnChainLeaves.{Laid, head-offset}
 use Rattle.own_unbounded.specs.Laws.OwnChainPushes.{place-is, named-at}

@@ -1,6 +1,5 @@
 -- `get` hands on the `&` to a value in a slot that a `&` to the chain holds.
-use Rattle.mem_blocks.proofs.Walks.{◌≡◌, ℕ, ◌+◌, ◌*◌, ◌^◌, ◌<◌, ◌≤◌, List, [], ◌∷◌, sym, refl, ap, subst, arith, w64, Some, mul-le-mul_right, Ty, a_type, dcons, dnil, named, Val, vint, vptr, inst_fn, SProp, Fml, ftrue, fsep, flft, ‵, raw, ◌⊛◌, given, at_ret, ◌$◌, ◌∵◌, !, qed, by, move, keep, drop, use1, split, join, fsplit, fjoin, feq_i, learn, stop, fld, addr, size_word, of_opd, bin, first, blocks, exec, returns, alloc_all, pass_all, free_all, look_at, get, get_in, through, sets, sets_last, is, env, sub, all_of_it, tables, fact, yes, no, RattleType, owns, types_at, plain, mem, Ptr, block_of, count_of, InBlock, unhide, heard, param, bounded, RefOf, u64, usize, shr_vals, shr_Tells, uint_vals, uint_Tells, Stays, stay_dropped, walk_of, Goes-dropped, proved, leaves, Block, Lives, Rests, Small, slots_at, SLOTS, after, place_val, place_told, full_product, tells, spends, enters_at}
-use lib.ListN.{get_elem?, length}
+use Rattle.mem_blocks.proofs.Walks.{ℕ, ◌+◌, ◌*◌, ◌^◌, ◌<◌, ◌≤◌, List, [], ◌∷◌, sym, refl, ap, subst, arith, w64, Some, mul-le-mul_right, a_type, dcons, dnil, named, Val, vint, vptr, inst_fn, SProp, Fml, ftrue, fsep, flft, ‵, raw, ◌⊛◌, given, at_ret, ◌$◌, ◌∵◌, !, qed, by, move, keep, drop, use1, split, join, fsplit, fjoin, feq_i, learn, stop, fld, addr, size_word, of_opd, bin, first, blocks, exec, returns, alloc_all, pass_all, free_all, look_at, get, get_in, through, sets, sets_last, is, env, sub, all_of_it, tables, fact, yes, no, RattleType, owns, types_at, plain, mem, Ptr, block_of, count_of, InBlock, unhide, heard, param, bounded, RefOf, u64, usize, shr_vals, shr_Tells, uint_vals, uint_Tells, Stays, stay_dropped, walk_of, Goes-dropped, proved, leaves, Block, Lives, Rests, Small, slots_at, SLOTS, after, place_val, place_told, full_product, tells, spends, enters_at}
 use denote.Memory.{shared_of}
 use denote.Opens.{hide}
 use Rattle.mem_blocks.specs.contracts.block.BlockPtr as link
