@@ -31,12 +31,15 @@ fn items_are_read_and_stay(rt: HostRuntime) {
             let _ = queue.push(item);
         }
         let in_order = queue.iter().copied().eq(0..*held);
-        let again = (&queue).into_iter().count();
+        let mut again: u64 = 0;
+        for _item in &queue {
+            again = again.wrapping_add(1);
+        }
         let front = if *held == 0 { None } else { Some(0) };
         is_in(
             &rt,
             (*through, *held),
-            (in_order, again as u64, queue.front().copied()),
+            (in_order, again, queue.front().copied()),
             (true, *held, front),
         );
     }
