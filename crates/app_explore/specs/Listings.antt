@@ -101,6 +101,14 @@ pub record IsTold (r : Request) (input text : List ℕ) : Type 0 where
   pub read : IsReadAs (lines_of input) before calls
   pub tells : TellsWanted (queue_named r.kind) r.refuses before calls r.wanted text
 
+-- why nothing of this is told of the program
+abbrev pub MayTellNothing : Kind → Bool → List (Call ℕ) → List (List (Call ℕ)) → Wanted → Stop → Type 0
+MayTellNothing k refuses before calls w (stop.Fault why) = why ≡ fault.NoMemory
+MayTellNothing k refuses before calls w (stop.Line n why) = ⊥
+MayTellNothing k refuses before calls w (stop.NoOutcome number) = (number_in w ≡ Some number) × HasFewer k refuses before calls number
+MayTellNothing k refuses before calls w (stop.NoWait number) = w ≡ wanted.Wait number
+MayTellNothing k refuses before calls w _ = Unit {0}
+
 -- the program that the input names has fewer outcomes than that
 pub record HasFewerOutcomes (r : Request) (input : List ℕ) (number : ℕ) : Type 0 where
   pub before : List (Call ℕ)

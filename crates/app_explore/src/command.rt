@@ -1,7 +1,9 @@
 //! The whole explorer as a function of its arguments, its input and its two outputs.
-ghost use Rattle.std.specs.Prelude.{◌≡◌, ◌⊎◌, IfErr, IfOk, MatchResult, None, Ok, Some, map, string_bytes};
-ghost use Rattle.app_explore.specs.Listings.{MayStop, IsTold};
-ghost use Rattle.app_explore_text.specs.Requests.{IsRequest};
+ghost use Rattle.std.specs.Prelude.{◌≡◌, ◌⊎◌, Err, IfErr, IfOk, MatchResult, None, Ok, Some, map, string_bytes};
+ghost use Rattle.machine_replay.specs.Replays.{CanReplay};
+ghost use Rattle.app_text.specs.KindNames.{queue_named};
+ghost use Rattle.app_explore.specs.Listings.{MayStop, MayTellNothing, IsTold, TellsWanted};
+ghost use Rattle.app_explore_text.specs.Requests.{IsRequest, IsWanted};
 ghost use Rattle.app_explore.specs.Commands.{IsExplorerEnd, IsExplored, IsStopOf};
 ghost use Rattle.app_explore.specs.Stops.{IsSearchStop, search_stop, stop_status};
 
@@ -10,9 +12,11 @@ use crate::listing::{Task, draw_lanes, list_outcomes, list_schedule};
 use crate::waits::{list_waits, wait_schedule};
 use app_explore_text::args::{Request, Wanted, parse_request};
 use app_explore_text::faults::ReadFault;
+use app_explore_text::limits::MOST_STATES;
 use app_explore_text::reading::read_program;
 use app_text::faults::Fault;
 use app_text::streams::{read_input, write_output};
+use machine_explore::program::Program;
 use machine_search::faults::SearchFault;
 use std::alloc::Allocator;
 use std::io::{Read, Write};
@@ -91,29 +95,60 @@ pub fn told<'a, A: Allocator>(
         Err(ReadFault::Unreadable(number, why)) => return Err(Stop::Line(number, why)),
         Err(ReadFault::NoMemory) => return Err(Stop::Fault(Fault::NoMemory)),
     };
-    let task = Task {
+    let task = task_of(request, program);
+    answer(alloc, &task, request.wanted)
+}
+
+// The program on the queue that the request names, with as many states as are looked at.
+fn task_of<A: Allocator>(request: Request, program: Program<A>) -> Task<A>
+    requires { IsRequest request }
+    ensures kind { result.kind ≡ queue_named request.kind }
+    ensures can { CanReplay result.kind }
+    ensures refuses { result.refuses ≡ request.refuses }
+    ensures program { result.program ≡ program }
+    ensures limit { result.most_states ≡ 1000000 }
+{
+    Task {
         kind: request.kind.kind(),
         refuses: request.refuses,
         program,
-    };
-    match request.wanted {
-        Wanted::Outcomes => match list_outcomes(alloc, &task) {
+        most_states: MOST_STATES,
+    }
+}
+
+/// What is told of the task's program.
+///
+/// # Errors
+///
+/// As of `told`, without `Line`.
+pub fn answer<A: Allocator + Copy>(
+    alloc: A,
+    task: &Task<A>,
+    wanted: Wanted,
+) -> Result<String<A>, Stop>
+    requires can { CanReplay task.now.kind }
+    requires asked { IsWanted wanted }
+    ensures { MatchResult result
+        (λ text. TellsWanted task.now.kind task.now.refuses task.now.program.before task.now.program.parties.items wanted (string_bytes text))
+        (MayTellNothing task.now.kind task.now.refuses task.now.program.before task.now.program.parties.items wanted) }
+{
+    match wanted {
+        Wanted::Outcomes => match list_outcomes(alloc, task) {
             Ok(text) => Ok(text),
             Err(fault) => Err(stop_of(fault)),
         },
-        Wanted::Schedule(number) => of_number(
-            Stop::NoOutcome(number),
-            list_schedule(alloc, &task, number),
-        ),
-        Wanted::Lanes(number) => {
-            of_number(Stop::NoOutcome(number), draw_lanes(alloc, &task, number))
+        Wanted::Schedule(number) => {
+            of_number(Stop::NoOutcome(number), list_schedule(alloc, task, number))
         }
-        Wanted::Waits => match list_waits(alloc, &task) {
+        Wanted::Lanes(number) => {
+            of_number(Stop::NoOutcome(number), draw_lanes(alloc, task, number))
+        }
+        Wanted::Waits => match list_waits(alloc, task) {
             Ok(text) => Ok(text),
             Err(fault) => Err(stop_of(fault)),
         },
         Wanted::Wait(number) => {
-            of_number(Stop::NoWait(number), wait_schedule(alloc, &task, number))
+            of_number(Stop::NoWait(number), wait_schedule(alloc, task, number))
         }
     }
 }
@@ -125,6 +160,7 @@ fn of_number<A: Allocator>(
 ) -> Result<String<A>, Stop>
     ensures told { IfOk result (λ text. told ≡ Ok (Some text)) }
     ensures refused { IfErr result (λ why. IsSearchStop why ⊎ ((why ≡ missing) × (told ≡ Ok None))) }
+    ensures stops { IfErr told (λ fault. result ≡ Err (search_stop fault)) }
 {
     match told {
         Ok(Some(text)) => Ok(text),

@@ -31,6 +31,8 @@ pub struct Task<A: Allocator> {
     pub refuses: bool,
     /// What the parties do.
     pub program: Program<A>,
+    /// How many states it may have.
+    pub most_states: usize,
 }
 
 /// What a walk over a program's positions found. Nothing rests on it: it is shown to be right once more.
@@ -188,7 +190,13 @@ fn follow_to<A: Allocator + Copy>(
 pub fn find_all<A: Allocator + Copy>(alloc: A, task: &Task<A>) -> Result<Walk<A>, SearchFault>
     requires { CanReplay task.now.kind }
 {
-    let found = search(alloc, task.kind, task.refuses, &task.program)?;
+    let found = search(
+        alloc,
+        task.kind,
+        task.refuses,
+        &task.program,
+        task.most_states,
+    )?;
     let order = sorted(alloc, &found.ends.outcomes)?;
     let schedules = schedules_of(alloc, task.program.parties.len(), &found, &order)?;
     Ok(Walk {

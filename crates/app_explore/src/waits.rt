@@ -93,7 +93,13 @@ fn find_waits<A: Allocator + Copy>(
 ) -> Result<Vec<Approach<A>, A>, SearchFault>
     requires { CanReplay task.now.kind }
 {
-    let table = find(alloc, task.kind, task.refuses, &task.program)?;
+    let table = find(
+        alloc,
+        task.kind,
+        task.refuses,
+        &task.program,
+        task.most_states,
+    )?;
     let parties = task.program.parties.len();
     let rounds = rounds_of(alloc, parties, &table)?;
     let firsts = first_rounds(alloc, task, &table, &rounds)?;

@@ -9,4 +9,9 @@ pub const MOST_CALLS: usize = 16;
 /// The most calls that are made before the parties begin.
 pub const MOST_CALLS_BEFORE: usize = 1_000;
 
+/// The most states of a program.
+pub const MOST_STATES: usize = 1_000_000;
+
 const _: () = prove!(MOST_PARTIES == 8 && MOST_CALLS == 16 && MOST_CALLS_BEFORE == 1_000);
+
+const _: () = prove!(MOST_STATES == 1_000_000);

@@ -33,10 +33,11 @@ pub fn search<A: Allocator + Copy>(
     kind: Kind,
     refuses: bool,
     program: &Program<A>,
+    most_states: usize,
 ) -> Result<Found<A>, SearchFault>
     requires { CanReplay kind }
 {
-    let table = find(alloc, kind, refuses, program)?;
+    let table = find(alloc, kind, refuses, program, most_states)?;
     let ends = collect_ends(alloc, program, &table)?;
     Ok(Found { table, ends })
 }

@@ -3,7 +3,7 @@ ghost use Rattle.machine_replay.specs.Replays.{CanReplay};
 
 use crate::edges::NOWHERE;
 use crate::faults::SearchFault;
-use crate::known::{Known, MOST_STATES};
+use crate::known::Known;
 use machine_explore::check::{Link, Table};
 use machine_explore::position::Position;
 use machine_explore::program::Program;
@@ -23,20 +23,22 @@ struct Search<A: Allocator> {
 ///
 /// # Errors
 ///
-/// `NoMemory`, `TooManyStates`, and `EndlessCall` where a call that comes first does not end.
+/// `NoMemory`, `TooManyStates` where there are more than `most_states`, and `EndlessCall` where a call that comes first does not end.
 pub fn find<A: Allocator + Copy>(
     alloc: A,
     kind: Kind,
     refuses: bool,
     program: &Program<A>,
+    most_states: usize,
 ) -> Result<Table<A>, SearchFault>
     requires { CanReplay kind }
 {
     let mut search = Search {
-        known: Known::new(alloc)?,
+        known: Known::new(alloc, most_states)?,
         links: Vec::new(alloc),
     };
-    search.run(alloc, kind, refuses, program)?;
+    search.begin(alloc, kind, program)?;
+    search.run(alloc, refuses, program, most_states)?;
     Ok(Table {
         positions: search.known.into_positions(),
         links: search.links,
@@ -44,18 +46,15 @@ pub fn find<A: Allocator + Copy>(
 }
 
 impl<A: Allocator + Copy> Search<A> {
-    // Finds where the program begins, and then where each position leads.
+    // Finds where each position leads, of which there are so many at most.
     fn run(
         &mut self,
         alloc: A,
-        kind: Kind,
         refuses: bool,
         program: &Program<A>,
-    ) -> Result<(), SearchFault>
-        requires { CanReplay kind }
-    {
-        self.begin(alloc, kind, program)?;
-        for place in 0..MOST_STATES {
+        most_states: usize,
+    ) -> Result<(), SearchFault> {
+        for place in 0..most_states {
             if place >= self.known.len() {
                 break;
             }

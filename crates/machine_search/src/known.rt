@@ -4,22 +4,22 @@ use crate::places::Places;
 use machine_explore::position::Position;
 use std::alloc::{AllocError, Allocator};
 
-/// How many positions are looked at, at most.
-pub const MOST_STATES: usize = 1_000_000;
-
 /// The positions that the search has come to, each once, in the order in which they were found.
 #[derive(Drop)]
 pub(crate) struct Known<A: Allocator> {
     positions: Vec<Position<A>, A>,
     places: Places<A>,
+    // How many there may be.
+    most: usize,
 }
 
 impl<A: Allocator + Copy> Known<A> {
-    /// None so far.
-    pub(crate) fn new(alloc: A) -> Result<Self, AllocError> {
+    /// None so far, and so many at most.
+    pub(crate) fn new(alloc: A, most: usize) -> Result<Self, AllocError> {
         Ok(Known {
             positions: Vec::new(alloc),
             places: Places::new(alloc)?,
+            most,
         })
     }
 
@@ -44,7 +44,7 @@ impl<A: Allocator + Copy> Known<A> {
         position: Position<A>,
     ) -> Result<usize, SearchFault> {
         let place = self.positions.len();
-        if place >= MOST_STATES {
+        if place >= self.most {
             return Err(SearchFault::TooManyStates);
         }
         self.places.add(alloc, fingerprint)?;

@@ -2,6 +2,7 @@
 ghost use Rattle.machine_replay.specs.Replays.{CanReplay};
 
 use app_explore::listing::{Task, Walk, find_all, list_found};
+use app_explore_text::limits::MOST_STATES;
 use app_explore_text::reading::read_program;
 use machine_explore::check::check;
 use machine_explore::schedule::Move;
@@ -136,6 +137,7 @@ fn task(rt: &impl Abort, alloc: Global) -> Task<Global>
         kind: Kind::Single,
         refuses: false,
         program,
+        most_states: MOST_STATES,
     }
 }
 

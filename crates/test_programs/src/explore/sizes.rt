@@ -2,6 +2,7 @@
 ghost use Rattle.machine_replay.specs.Replays.{CanReplay};
 
 use app_explore::listing::{Task, list_outcomes};
+use app_explore_text::limits::MOST_STATES;
 use app_explore_text::outcomes::are_in_order;
 use app_explore_text::reading::read_program;
 use machine_explore::program::{Calls, Program};
@@ -103,6 +104,7 @@ fn ends_with(alloc: Global, kind: Kind, program: Program<Global>, last: &str) ->
         kind,
         refuses: false,
         program,
+        most_states: MOST_STATES,
     };
     match list_outcomes(alloc, &task) {
         Ok(text) => text.ends_with(last),
