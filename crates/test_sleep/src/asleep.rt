@@ -1,20 +1,16 @@
 //! Two threads that sleep until the other gives an item: one that is seen asleep before each, and two that take turns.
+use crate::watched::{LOOKS, Watched, pause};
 use event_count::EventCount;
 use std::fs::Files;
+use std::io;
 use std::sync::Wait;
 use std::sync::atomic::AtomicU64;
 use std::sync::atomic::Ordering::SeqCst;
-use std::thread::{Threads, join, sleep};
-use std::time::{Clock, Duration};
-use std::{fs, io};
+use std::thread::{Threads, join};
+use std::time::Clock;
 
 /// How many items are given to a thread that is seen asleep.
 const ROUNDS: u64 = 1000;
-
-/// How often the giver looks for a sleeper before it gives up, and how many microseconds it waits in between.
-const LOOKS: u64 = 5_000;
-
-const PAUSE: u64 = 100;
 
 /// How many turns each of two threads takes.
 const TURNS: u64 = 50_000;
@@ -24,8 +20,7 @@ const TURNS: u64 = 50_000;
 struct Post {
     arrivals: EventCount,
     items: AtomicU64,
-    /// The number that the system gives the taker's thread, or 0.
-    taker: AtomicU64,
+    taker: Watched,
 }
 
 impl Post {
@@ -33,7 +28,7 @@ impl Post {
         Post {
             arrivals: EventCount::new(),
             items: AtomicU64::new(items),
-            taker: AtomicU64::new(0),
+            taker: Watched::new(),
         }
     }
 
@@ -72,38 +67,20 @@ impl Post {
     }
 }
 
-/// The number that the system gives this thread.
-fn own_number<R: Files + Alloc>(rt: &R) -> io::Result<u64> {
-    let text = fs::read_to_string(rt, "/proc/thread-self/stat")?;
-    Ok(
-        text.split(' ')
-            .next()
-            .and_then(|number| number.parse().ok())
-            .unwrap_or(0),
-    )
-}
-
-/// Whether the thread with this number sleeps.
-fn sleeps<R: Files + Alloc>(rt: &R, thread: u64) -> io::Result<bool> {
-    let path = format!(in rt.alloc(); "/proc/self/task/{thread}/status")?;
-    Ok(fs::read_to_string(rt, path)?.contains("State:\tS"))
-}
-
-/// Whether the taker is seen asleep, with no item left.
+/// Whether the taker takes what there is, and is seen asleep then.
 fn is_seen_asleep<R: Files + Alloc + Clock>(rt: &R, post: &Post) -> io::Result<bool> {
     for _ in 0..LOOKS {
-        let taker = post.taker.load(SeqCst);
-        if taker != 0 && post.items.load(SeqCst) == 0 && sleeps(rt, taker)? {
-            return Ok(true);
+        if post.items.load(SeqCst) == 0 {
+            return post.taker.is_seen_asleep(rt);
         }
-        sleep(rt, Duration::from_micros(PAUSE));
+        pause(rt);
     }
     Ok(false)
 }
 
 /// Takes each item.
 fn take_all<R: Wait + Files + Alloc>(rt: &R, post: &Post) -> io::Result<()> {
-    post.taker.store(own_number(rt)?, SeqCst);
+    post.taker.enter(rt)?;
     for _ in 0..ROUNDS {
         post.take(rt);
     }

@@ -1,5 +1,15 @@
-//! Tests of an eventcount with threads.
+//! Tests of threads that sleep: on an eventcount, and on ends of channels.
 #![tactic(auto)]
 
 #[cfg(test)]
 mod asleep;
+#[cfg(test)]
+mod idle;
+#[cfg(test)]
+mod opening;
+#[cfg(test)]
+mod turns;
+#[cfg(test)]
+mod waking;
+#[cfg(test)]
+mod watched;
