@@ -1,6 +1,5 @@
 //! `queue_explore`.
 pub mod commands;
-pub mod limits;
 pub mod not_shown;
 pub mod printing;
 pub mod reading;
