@@ -6,3 +6,4 @@ pub mod moments;
 pub mod owner;
 pub mod parties;
 pub mod phantoms;
+pub mod turns;

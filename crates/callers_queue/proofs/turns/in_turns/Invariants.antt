@@ -2,7 +2,7 @@ use Rattle.std.proofs.Common.{◌≡◌}
 use Rattle.queue_steps.specs.declared.model.Call.{Call}
 use Rattle.concurrent_queue.specs.Comes.{Comes}
 use Rattle.concurrent_queue.specs.Shared.{Person}
-use Rattle.callers_pending.proofs.turns.in_turns.Given as goal
+use Rattle.callers_queue.proofs.turns.in_turns.Given as goal
 
 -- it is still a call of a party of this queue, whichever it is
 abbrev pub invariant-loop : goal.invariant-loop

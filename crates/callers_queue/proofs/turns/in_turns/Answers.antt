@@ -1,7 +1,7 @@
 use Rattle.std.proofs.Common.{◌∙◌, ap, subst}
 use Rattle.concurrent_queue.specs.Begun.{Begun}
 use Rattle.concurrent_queue.specs.Comes.{Comes}
-use Rattle.callers_pending.proofs.turns.in_turns.Goals as goal
+use Rattle.callers_queue.proofs.turns.in_turns.Goals as goal
 
 pub loop-init : goal.loop-init
 loop-init g c = record { going = (c.args.party, c.args.call, c.requires, c.begin-outcome.ensures); goes = λ v k h. h }
