@@ -67,7 +67,7 @@ fn explore<A: Allocator, I: Read, O: Write>(
         Ok(bytes) => bytes,
         Err(fault) => return Err(Stop::Fault(fault)),
     };
-    let text = match told(alloc, request, &bytes) {
+    let text = match told(alloc, request, &bytes, MOST_STATES) {
         Ok(text) => text,
         Err(stop) => return Err(stop),
     };
@@ -77,7 +77,7 @@ fn explore<A: Allocator, I: Read, O: Write>(
     }
 }
 
-/// What is told of the program that the text names.
+/// What is told of the program that the text names, if it has no more states than this.
 ///
 /// # Errors
 ///
@@ -86,6 +86,7 @@ pub fn told<'a, A: Allocator>(
     alloc: &'a A,
     request: Request,
     text: &[u8],
+    most_states: usize,
 ) -> Result<String<&'a A>, Stop>
     requires { IsRequest request }
     ensures { MatchResult result (λ told. IsTold request text.now (string_bytes told)) (MayStop request text.now) }
@@ -95,24 +96,28 @@ pub fn told<'a, A: Allocator>(
         Err(ReadFault::Unreadable(number, why)) => return Err(Stop::Line(number, why)),
         Err(ReadFault::NoMemory) => return Err(Stop::Fault(Fault::NoMemory)),
     };
-    let task = task_of(request, program);
+    let task = task_of(request, program, most_states);
     answer(alloc, &task, request.wanted)
 }
 
 // The program on the queue that the request names, with as many states as are looked at.
-fn task_of<A: Allocator>(request: Request, program: Program<A>) -> Task<A>
+fn task_of<A: Allocator>(
+    request: Request,
+    program: Program<A>,
+    most_states: usize,
+) -> Task<A>
     requires { IsRequest request }
     ensures kind { result.kind ≡ queue_named request.kind }
     ensures can { CanReplay result.kind }
     ensures refuses { result.refuses ≡ request.refuses }
     ensures program { result.program ≡ program }
-    ensures limit { result.most_states ≡ 1000000 }
+    ensures limit { result.most_states ≡ most_states }
 {
     Task {
         kind: request.kind.kind(),
         refuses: request.refuses,
         program,
-        most_states: MOST_STATES,
+        most_states,
     }
 }
 

@@ -94,3 +94,4 @@ pub mod ChainWaits
 pub mod LenWaits
 pub mod ChainEarly
 pub mod Unhindered
+pub mod SoloCalls

@@ -1,5 +1,6 @@
 //! `queue_explore`.
 pub mod commands;
+pub mod limits;
 pub mod not_shown;
 pub mod printing;
 pub mod reading;
