@@ -1,10 +1,14 @@
-//! Runs every stored case through the program and compares what it prints, byte for byte. It ends as a replay ends that no queue may run.
+//! Runs every stored case through `queue_run` and every stored program through the explorer, and compares what they print, byte for byte. It replays the schedule of each outcome to see that it ends with it, and of each wait to see that the one party gets its reply after the other's alone. It ends as a replay ends that no queue may run.
 //!
-//! The file `LIST` has a line for each case: the program's arguments and then the path of the case without its ending. `.in` is the input, `.out` the output.
+//! The file `LIST` has a line for each case: the arguments of `queue_run` and then the path of the case without its ending. `programs/LIST` has the same of each program, with the explorer's arguments. `.in` is the input or the program, `.out` the output.
 #![tactic(auto)]
 
-use app_command::program::program;
-use std::alloc::{AllocError, Global};
+mod programs;
+mod replays;
+mod runs;
+
+use programs::program_agrees;
+use runs::queue_run;
 use std::process::ExitCode;
 use std::rt::Files;
 use std::sync::Wait;
@@ -14,73 +18,117 @@ use std::{fs, io};
 /// The arguments of a replay that is refused: no queue may have so many slots.
 const REFUSED: &str = "replay bounded:576460752303423489 1";
 
-/// The program's name and the words of a line, as the system gives them.
-fn words_of(alloc: Global, line: &str) -> Result<Vec<String>, AllocError> {
-    let mut words = Vec::new(alloc);
-    words.push(String::from_str(alloc, "queue_run")?)?;
-    for word in line.split_whitespace() {
-        words.push(String::from_str(alloc, word)?)?;
+/// What is stored.
+#[derive(Clone, Copy)]
+enum Stored {
+    /// Runs of `queue_run`.
+    Cases,
+    /// Programs for the explorer.
+    Programs,
+}
+
+impl Stored {
+    /// The folder of the paths.
+    fn folder(self) -> &'static str {
+        match self {
+            Stored::Cases => ".",
+            Stored::Programs => "programs",
+        }
     }
-    Ok(words)
 }
 
-/// How the program ends on these words and this input.
-fn end_of<R: Threads + Wait + Sync + AllocGlobal>(
+/// The file of this name.
+fn file<R: Files + AllocGlobal>(
     rt: &R,
-    words: Vec<String>,
-    mut input: &[u8],
-    output: &mut Vec<u8>,
-) -> ExitCode {
-    let mut faults = Vec::new(rt.alloc());
-    let ended = program(
-        rt,
-        &rt.alloc(),
-        Ok(words.into_iter()),
-        &mut input,
-        output,
-        &mut faults,
-    );
-    ExitCode::from(ended.status)
+    stored: Stored,
+    name: &str,
+    ending: &str,
+) -> io::Result<Vec<u8>> {
+    let folder = stored.folder();
+    let path = format!(in rt.alloc(); "{folder}/{name}{ending}")?;
+    fs::read(rt, path.as_str())
 }
 
-/// Whether the program, run on the case of this line, ends with status 0 and prints what it is to print.
-fn agrees<R: Threads + Wait + Sync + Files + AllocGlobal>(rt: &R, line: &str) -> io::Result<bool> {
-    let alloc: Global = rt.alloc();
-    let mut words = words_of(alloc, line)?;
-    let Some(path) = words.pop() else {
-        return Ok(false);
+/// Whether what is stored at this line agrees, and how many schedules were replayed.
+fn line_agrees<R: Threads + Wait + Sync + Files + AllocGlobal>(
+    rt: &R,
+    stored: Stored,
+    line: &str,
+) -> io::Result<(bool, usize)> {
+    let Some((args, path)) = line.rsplit_once(" ") else {
+        return Ok((false, 0));
     };
-    let input = fs::read(rt, format!(in alloc; "{path}.in")?.as_str())?;
-    let wanted = fs::read(rt, format!(in alloc; "{path}.out")?.as_str())?;
-    let mut output = Vec::new(alloc);
-    let code = end_of(rt, words, input.as_slice(), &mut output);
-    Ok(code == ExitCode::SUCCESS && output.as_slice() == wanted.as_slice())
+    let input = file(rt, stored, path, ".in")?;
+    let wanted = file(rt, stored, path, ".out")?;
+    match stored {
+        Stored::Cases => {
+            let mut output = Vec::new(rt.alloc());
+            let status = queue_run(rt, args, &input, &mut output)?;
+            Ok((status == 0 && output.as_slice() == wanted.as_slice(), 0))
+        }
+        Stored::Programs => Ok(program_agrees(rt, args, &input, &wanted)?),
+    }
 }
 
-/// Runs all cases, names those that do not agree, and tells how many do. Where all do, it runs the replay that is refused, and ends as that does.
-fn run<R: Threads + Wait + Sync + Files + Print + AllocGlobal>(rt: &R) -> io::Result<ExitCode> {
-    let list = fs::read_to_string(rt, "LIST")?;
-    let mut cases = 0u64;
-    let mut agreeing = 0u64;
-    for line in list.as_str().lines() {
-        cases = cases.wrapping_add(1);
-        if agrees(rt, line)? {
-            agreeing = agreeing.wrapping_add(1);
+/// How many lines there are, how many of them agree, and how many schedules were replayed.
+#[derive(Clone, Copy)]
+struct Tally {
+    lines: usize,
+    agreeing: usize,
+    schedules: usize,
+}
+
+/// Runs what these lines name, and names those that do not agree.
+fn run_lines<R: Threads + Wait + Sync + Files + Print + AllocGlobal>(
+    rt: &R,
+    stored: Stored,
+    list: &str,
+) -> io::Result<Tally> {
+    let mut tally = Tally {
+        lines: 0,
+        agreeing: 0,
+        schedules: 0,
+    };
+    for line in list.lines() {
+        let (agrees, replayed) = line_agrees(rt, stored, line)?;
+        tally.lines = tally.lines.wrapping_add(1);
+        tally.schedules = tally.schedules.wrapping_add(replayed);
+        if agrees {
+            tally.agreeing = tally.agreeing.wrapping_add(1);
         } else {
             println!(rt; "not as it should be: {line}")?;
         }
     }
-    println!(rt; "{agreeing} of {cases} cases agree")?;
-    if agreeing != cases {
+    Ok(tally)
+}
+
+/// Runs all that is stored of a sort.
+fn run_stored<R: Threads + Wait + Sync + Files + Print + AllocGlobal>(
+    rt: &R,
+    stored: Stored,
+) -> io::Result<Tally> {
+    let folder = stored.folder();
+    let path = format!(in rt.alloc(); "{folder}/LIST")?;
+    let list = fs::read_to_string(rt, path.as_str())?;
+    run_lines(rt, stored, list.as_str())
+}
+
+/// Runs all, and tells how it went. Where all agree, it runs the replay that is refused, and ends as that does.
+fn run<R: Threads + Wait + Sync + Files + Print + AllocGlobal>(rt: &R) -> io::Result<ExitCode> {
+    let cases = run_stored(rt, Stored::Cases)?;
+    println!(rt; "{} of {} cases agree", cases.agreeing, cases.lines)?;
+    let Tally {
+        lines,
+        agreeing,
+        schedules,
+    } = run_stored(rt, Stored::Programs)?;
+    println!(rt; "{agreeing} of {lines} programs agree, {schedules} schedules replayed")?;
+    if cases.agreeing != cases.lines || agreeing != lines {
         return Ok(ExitCode::FAILURE);
     }
     let mut output = Vec::new(rt.alloc());
-    Ok(end_of(
-        rt,
-        words_of(rt.alloc(), REFUSED)?,
-        b"0 push 1\n",
-        &mut output,
-    ))
+    let status = queue_run(rt, REFUSED, b"0 push 1\n", &mut output)?;
+    Ok(ExitCode::from(status))
 }
 
 fn main(rt: HostRuntime) -> io::Result<ExitCode> {

@@ -1,18 +1,9 @@
-//! Runs every stored program through the explorer, compares what it prints, byte for byte, and replays the schedule of each outcome to see that it ends with it, and of each wait to see that the one party gets its reply after the other's alone.
-//!
-//! The file `LIST` has a line for each case: the explorer's arguments and then the path of the case without its ending. `.in` is the program, `.out` the output.
-#![tactic(auto)]
-
-mod replays;
-
+//! Stored programs, which the explorer runs.
+use crate::replays::{is_held_up, is_replayed, text_of};
 use app_explore::command::command;
-use replays::{is_held_up, is_replayed};
 use std::alloc::{AllocError, Global};
-use std::process::ExitCode;
-use std::rt::Files;
 use std::sync::Wait;
 use std::thread::Threads;
-use std::{fs, io};
 use test_streams::runs::words;
 
 /// Whether the explorer ends well with these arguments on this program. What it prints goes to the output.
@@ -129,89 +120,14 @@ fn count_shown<R: Threads + Wait + Sync + AllocGlobal>(
 }
 
 /// Whether the explorer prints what it is to print with these arguments on this program, and how many of its outcomes or waits are shown by their schedules.
-fn agrees<R: Threads + Wait + Sync + AllocGlobal>(
+pub fn program_agrees<R: Threads + Wait + Sync + AllocGlobal>(
     rt: &R,
     args: &str,
-    program: &str,
-    wanted: &str,
+    program: &[u8],
+    wanted: &[u8],
 ) -> Result<(bool, usize), AllocError> {
+    let (program, wanted) = (text_of(program), text_of(wanted));
     let same = prints(rt.alloc(), args, program, wanted)?;
     let (all, shown) = count_shown(rt, args, program, wanted)?;
     Ok((same && shown == all, shown))
-}
-
-/// The file of a case with this ending.
-fn stored<R: Files + AllocGlobal>(rt: &R, case: &str, ending: &str) -> io::Result<String> {
-    let path = format!(in rt.alloc(); "{case}.{ending}")?;
-    fs::read_to_string(rt, path.as_str())
-}
-
-/// Whether the case of this line agrees, and how many of its outcomes or waits are shown by their schedules.
-fn case_agrees<R: Threads + Wait + Sync + Files + AllocGlobal>(
-    rt: &R,
-    line: &str,
-) -> io::Result<(bool, usize)> {
-    let Some((args, case)) = line.rsplit_once(" ") else {
-        return Ok((false, 0));
-    };
-    let program = stored(rt, case, "in")?;
-    let wanted = stored(rt, case, "out")?;
-    Ok(agrees(rt, args, program.as_str(), wanted.as_str())?)
-}
-
-/// How many cases there are, how many of them agree, and how many schedules were replayed.
-#[derive(Clone, Copy)]
-struct Tally {
-    cases: usize,
-    agreeing: usize,
-    schedules: usize,
-}
-
-/// Runs the cases of these lines, and names those that do not agree.
-fn run_cases<R: Threads + Wait + Sync + Files + Print + AllocGlobal>(
-    rt: &R,
-    list: &str,
-) -> io::Result<Tally> {
-    let mut tally = Tally {
-        cases: 0,
-        agreeing: 0,
-        schedules: 0,
-    };
-    for line in list.lines() {
-        let (agrees, shown) = case_agrees(rt, line)?;
-        tally.cases = tally.cases.wrapping_add(1);
-        tally.schedules = tally.schedules.wrapping_add(shown);
-        if agrees {
-            tally.agreeing = tally.agreeing.wrapping_add(1);
-        } else {
-            println!(rt; "not as it should be: {line}")?;
-        }
-    }
-    Ok(tally)
-}
-
-/// Tells how the cases went, and the status to end with.
-fn tell<R: Print>(rt: &R, tally: Tally) -> io::Result<ExitCode> {
-    let Tally {
-        cases,
-        agreeing,
-        schedules,
-    } = tally;
-    println!(rt; "{agreeing} of {cases} programs agree, {schedules} schedules replayed")?;
-    if agreeing == cases {
-        Ok(ExitCode::SUCCESS)
-    } else {
-        Ok(ExitCode::FAILURE)
-    }
-}
-
-/// Runs all cases, and tells how they went.
-fn run<R: Threads + Wait + Sync + Files + Print + AllocGlobal>(rt: &R) -> io::Result<ExitCode> {
-    let list = fs::read_to_string(rt, "LIST")?;
-    let tally = run_cases(rt, list.as_str())?;
-    tell(rt, tally)
-}
-
-fn main(rt: HostRuntime) -> io::Result<ExitCode> {
-    run(&rt)
 }

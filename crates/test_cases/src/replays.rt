@@ -1,10 +1,9 @@
 //! What a replay of a schedule ends with, told as the explorer tells it.
-use app_command::program::program as queue_run;
-use std::alloc::{AllocError, Global};
+use crate::runs::queue_run;
+use std::alloc::AllocError;
 use std::str;
 use std::sync::Wait;
 use std::thread::Threads;
-use test_streams::runs::words;
 
 /// Whether a replay of the schedule ends with this outcome of the program.
 pub fn is_replayed<R: Threads + Wait + Sync + AllocGlobal>(
@@ -69,24 +68,9 @@ fn replay<R: Threads + Wait + Sync + AllocGlobal>(
     schedule: &[u8],
     output: &mut Vec<u8>,
 ) -> Result<(), AllocError> {
-    let args = replay_args(rt.alloc(), kind, parties)?;
-    let mut input = schedule;
-    let mut faults = Vec::new(rt.alloc());
-    let _ended = queue_run(
-        rt,
-        &rt.alloc(),
-        Ok(args.into_iter()),
-        &mut input,
-        output,
-        &mut faults,
-    );
+    let line = format!(in rt.alloc(); "replay {kind} {parties}")?;
+    let _status = queue_run(rt, line.as_str(), schedule, output)?;
     Ok(())
-}
-
-// The words that ask for a replay, of which the first is the program's name.
-fn replay_args(alloc: Global, kind: &str, parties: usize) -> Result<Vec<String>, AllocError> {
-    let line = format!(in alloc; "queue_run replay {kind} {parties}")?;
-    words(alloc, line.as_str())
 }
 
 // The kind of queue that the explorer's arguments name.
@@ -189,8 +173,8 @@ fn party_in(line: &str) -> Option<&str> {
     }
 }
 
-// A text of these bytes, or none.
-fn text_of(bytes: &[u8]) -> &str {
+/// A text of these bytes, or none.
+pub fn text_of(bytes: &[u8]) -> &str {
     match str::from_utf8(bytes) {
         Ok(text) => text,
         Err(_) => "",
