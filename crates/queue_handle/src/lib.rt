@@ -7,7 +7,7 @@ ghost use Rattle.queue_steps.specs.declared.model.Reply.TheVariants as reply;
 ghost use Rattle.queue_steps.specs.declared.sizes.TheConstants.{MAX_CAPACITY};
 ghost use Rattle.queue_steps.specs.Shares.{entire};
 ghost use Rattle.std.specs.Arc.{arc_value};
-ghost use Rattle.concurrent_queue.specs.Shared.{Calls, Finishes, IsPartyOf, Joins, Parts};
+ghost use Rattle.concurrent_queue.specs.Shared.{Calls, Finishes, IsPartyOf, Joins, Meets, Parts};
 ghost use Rattle.concurrent_queue.specs.Tries.{TriesPush, TriesForcePush, TriesPop};
 ghost use Rattle.queue_handle.specs.Handles.{IsLeft};
 
@@ -172,6 +172,14 @@ impl<T, A: Allocator> Handle<T, A> {
         ensures { result ≡ self.now.queue.cap }
     {
         self.queue.capacity()
+    }
+
+    /// Both handles have then seen what either has seen.
+    pub fn meet(&mut self, other: &mut Self)
+        requires { other.old.queue ≡ self.old.queue }
+        ensures { Meets self.old other.old self.new other.new }
+    {
+        self.queue.meet(&mut self.party, &mut other.party)
     }
 
     /// Appends `value`, without waiting.
