@@ -1,18 +1,17 @@
 -- What reading the words of a chain tells.
 use Rattle.std.proofs.Common.{ℕ, ◌*◌, ◌%◌, ◌≤◌, ◌≡◌, ◌≢◌, ◌∙◌, inl, inr, Bool, true, false, refl, sym, ap, arith}
-use Rattle.queue_steps.specs.declared.sizes.TheConstants.{LIMIT, BLOCK_SLOTS}
+use Rattle.law_common.specs.Vocabulary.{LIMIT, BLOCK_SLOTS}
 use Rattle.queue_steps.specs.Words.{IsWord, position_of, is_shut, tail_of}
 use Rattle.queue_steps.specs.ChainWords.{offset_at, offset_of, items_before}
 use Rattle.law_common.proofs.Tails.{position_tail, shut_tail}
 use Rattle.law_chain.specs.ChainFacts.{place, head_of, open_tail_of, HeadIs, TailIs}
 use Rattle.law_chain.proofs.ChainPlaces.{place_offset}
-use Rattle.law_chain.specs.ChainCells.{Reader, Unread, Reading, Done, Mover, Rests, Laying, Opening, Passer, Stands, Passing, Entering, Chain, BlocksOk, FrontOk, ChainOk}
+use Rattle.law_chain.specs.ChainCells.{Reader, Done, Mover, Rests, Passer, Stands, Passing, Entering, Chain, BlocksOk, FrontOk, ChainOk}
 use Rattle.law_chain.specs.ChainAnswers.{tail_place, head_place, tail_word, head_word, is_done}
 
 pub done_is : (r : Reader) → is_done r ≡ true → r ≡ Done
-done_is Unread e = cc
-done_is (Reading p) e = cc
 done_is Done e = refl
+done_is r e = cc
 
 pub head_offset : (n : ℕ) (more : Bool) → offset_of (head_of n more) ≡ n % BLOCK_SLOTS
 head_offset n more = ap offset_at (position_tail (place n) more) ∙ place_offset n
@@ -24,13 +23,11 @@ word_small q false lt = omega arith
 -- a tail that is moved on has filled its blocks
 tail_place_items : (n blocks : ℕ) (m : Mover) → BlocksOk n blocks m → items_before (tail_place n m) ≡ n
 tail_place_items n blocks Rests h = omega arith
-tail_place_items n blocks (Laying who) h = let some = h.0 in let full = h.1 in omega arith
-tail_place_items n blocks (Opening who) h = let some = h.0 in let full = h.1 in omega arith
+tail_place_items n blocks m h = let some = h.0 in let full = h.1 in omega arith
 
 head_place_items : (n front : ℕ) (p : Passer) → FrontOk n front p → items_before (head_place n p) ≡ n
-head_place_items n front Stands h = omega arith
-head_place_items n front (Passing who) h = omega arith
 head_place_items n front (Entering who) h = let at = h.0 in let some = h.1 in omega arith
+head_place_items n front p h = omega arith
 
 -- the items before the words
 pub tail_items : {A : Type 0} (c : Chain A) → ChainOk c → items_before (position_of (tail_word c)) ≡ c.tail
@@ -41,13 +38,11 @@ head_items c ok = rw (position_tail (head_place c.head c.passer) c.known) (head_
 
 tail_place_small : (n : ℕ) (m : Mover) → n ≤ LIMIT → IsWord (tail_of (tail_place n m) true)
 tail_place_small n Rests low = omega arith
-tail_place_small n (Laying who) low = omega arith
-tail_place_small n (Opening who) low = omega arith
+tail_place_small n m low = omega arith
 
 head_place_small : (n : ℕ) (p : Passer) → n ≤ LIMIT → IsWord (tail_of (head_place n p) true)
 head_place_small n Stands low = omega arith
-head_place_small n (Passing who) low = omega arith
-head_place_small n (Entering who) low = omega arith
+head_place_small n p low = omega arith
 
 -- every word leaves room
 pub tail_small : {A : Type 0} (c : Chain A) → ChainOk c → IsWord (tail_word c)
@@ -59,8 +54,7 @@ head_small c ok = word_small (head_place c.head c.passer) c.known (head_place_sm
 -- at no block's end the tail rests, and the head stands
 tail_rests : (n blocks : ℕ) (m : Mover) → BlocksOk n blocks m → offset_at (tail_place n m) ≢ BLOCK_SLOTS → m ≡ Rests
 tail_rests n blocks Rests h ne = refl
-tail_rests n blocks (Laying who) h ne = absurd (ne (let some = h.0 in let full = h.1 in omega arith))
-tail_rests n blocks (Opening who) h ne = absurd (ne (let some = h.0 in let full = h.1 in omega arith))
+tail_rests n blocks m h ne = absurd (ne (let some = h.0 in let full = h.1 in omega arith))
 
 head_stands : (n front : ℕ) (p : Passer) → FrontOk n front p → offset_at (head_place n p) ≢ BLOCK_SLOTS → p ≡ Stands
 head_stands n front Stands h ne = refl

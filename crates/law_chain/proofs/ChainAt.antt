@@ -1,14 +1,9 @@
 -- No step of another party takes away where a call on a chain stands, nor what it knows there.
 use Rattle.std.proofs.Common.{ℕ, ◌+◌, ◌/◌, ◌≡◌, ◌≢◌, ◌⊎◌, Bool, Option, Some, None, List, arith}
-use Rattle.queue_steps.specs.declared.sizes.TheConstants.{BLOCK_SLOTS}
+use Rattle.law_common.specs.Vocabulary.{Call, Effect, Op, Touch, Local, BLOCK_SLOTS}
 use Rattle.queue_steps.specs.State.{State}
 use Rattle.queue_steps.specs.Words.{position_of}
 use Rattle.queue_steps.specs.ChainWords.{items_before}
-use Rattle.queue_steps.specs.declared.model.Call.{Call}
-use Rattle.queue_steps.specs.declared.model.Effect.{Effect}
-use Rattle.queue_steps.specs.declared.steps.types.Local.{Local}
-use Rattle.queue_steps.specs.declared.steps.types.Op.{Op}
-use Rattle.queue_steps.specs.declared.steps.types.Touch.{Touch}
 use Rattle.law_common.specs.Moments.{seen_by}
 use Rattle.law_chain.specs.ChainCells.{Chain, queue_of, ChainOk, Write, Read, Tail, Head, Next, First, Passed, Nothing}
 use Rattle.law_chain.specs.ChainPasses.{Passes}

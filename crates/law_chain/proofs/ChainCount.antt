@@ -1,8 +1,9 @@
 -- How many blocks of a chain are alive: at most two more than its items fill, and one for each call; at least those that its items span.
 use Rattle.std.proofs.Common.{ℕ, ◌+◌, ◌-◌, ◌/◌, ◌<◌, ◌≤◌, ◌≡◌, ◌≢◌, ◌&&◌, not, nat_lt, ◌∙◌, ◌⊎◌, inl, inr, Bool, true, false, List, length, refl, sym, ap, arith}
 use Rattle.std.proofs.lemmas.Bool.{ltb-true, ltb-false}
-use Rattle.queue_steps.specs.declared.sizes.TheConstants.{BLOCK_SLOTS}
-use Rattle.law_chain.specs.ChainCells.{Writer, Free, Writing, Wrote, Reader, Unread, Reading, Done, Mover, Rests, Laying, Opening, Walk, Before, Walker, Waits, GivenUp, Use, Unused, Spare, Chained, Lost, Chain, ItemOk, BlocksOk, WalkOk, item_at, LAST, ChainOk}
+use Rattle.law_common.specs.Vocabulary.{BLOCK_SLOTS}
+use Rattle.law_common.proofs.Tests.{and_true, not_true}
+use Rattle.law_chain.specs.ChainCells.{Writer, Free, Reader, Unread, Reading, Done, Mover, Rests, Walk, Before, Walker, Waits, GivenUp, Use, Spare, Chained, Chain, ItemOk, BlocksOk, WalkOk, item_at, LAST, ChainOk}
 use Rattle.law_chain.proofs.ChainHands.{Hand, Empty, OfSpare, OfBlock, InHand, HandOf, hand_of, hand_is, full_hand}
 use Rattle.law_chain.proofs.Count.{count, count_all, count_into, count_split}
 
@@ -13,10 +14,9 @@ is_given_up _ = false
 
 -- whether a block of this use is alive
 abbrev pub is_alive : (ℕ → Walk) → Use → Bool
-is_alive walks Unused = false
 is_alive walks (Spare who) = true
 is_alive walks (Chained b) = not (is_given_up (walks b))
-is_alive walks Lost = false
+is_alive walks x = false
 
 -- whether the block of this name is alive
 abbrev pub alive : {A : Type 0} → Chain A → ℕ → Bool
@@ -35,15 +35,6 @@ either : (p q : Bool) → p ≡ true → (q ≡ true) ⊎ ((p && not q) ≡ true
 either true true e = inl refl
 either true false e = inr refl
 either false q e = cc
-
-both : (p q : Bool) → (p && q) ≡ true → (p ≡ true) × (q ≡ true)
-both true true e = (refl, refl)
-both true false e = cc
-both false q e = cc
-
-not_true : (p : Bool) → not p ≡ true → p ≡ false
-not_true true e = cc
-not_true false e = refl
 
 not_not : (p : Bool) → not (not p) ≡ true → p ≡ true
 not_not true e = refl
@@ -70,9 +61,7 @@ ahead_few {A} c names ok =
         let within = h.0 in
         let back : b - c.head / BLOCK_SLOTS + c.head / BLOCK_SLOTS ≡ b = omega (arith, low) in
         (omega (arith, low, within), refl, ap c.names back ∙ h.1)
-    go f Unused e is = cc
-    go f (Spare who) e is = cc
-    go f Lost e is = cc
+    go f u e is = cc
 
 -- who reads the item
 abbrev reader_is : Reader → ℕ
@@ -101,12 +90,10 @@ name_in c (OfBlock b) = c.names b
 -- an item that left and is not read yet is just now read
 being_read : {A : Type 0} (head tail : ℕ) (items : List A) (n : ℕ) (w : Writer A) (r : Reader) → head ≤ tail → ItemOk head tail items n w r → n < head → r ≢ Done → (p : ℕ) × (r ≡ Reading p)
 being_read head tail items n Free Unread low ok lt ne = absurd (omega arith)
-being_read head tail items n (Writing who v) Unread low ok lt ne = absurd (let at = ok.0 in omega arith)
-being_read head tail items n (Wrote v) Unread low ok lt ne = absurd (let at = ok.0 in omega arith)
-being_read head tail items n (Writing who v) (Reading p) low ok lt ne = (p, refl)
-being_read head tail items n (Wrote v) (Reading p) low ok lt ne = (p, refl)
 being_read head tail items n Free (Reading p) low ok lt ne = absurd ok
 being_read head tail items n w Done low ok lt ne = absurd (ne refl)
+being_read head tail items n w (Reading p) low ok lt ne = (p, refl)
+being_read head tail items n w Unread low ok lt ne = absurd (let at = ok.0 in omega arith)
 
 reading_hand : {A : Type 0} (c : Chain A) (hands : ℕ → Hand) (n : ℕ) → ChainOk c → ((p : ℕ) → InHand c p (hands p)) → n < c.head → c.readers n ≢ Done → hands (reader_is (c.readers n)) ≡ OfBlock (n / BLOCK_SLOTS)
 reading_hand c hands n ok all lt ne =
@@ -127,12 +114,11 @@ held_hand : {A : Type 0} (c : Chain A) (hands : ℕ → Hand) (f : ℕ) (u : Use
     → (hands (holder c u) ≢ Empty) × (name_in c (hands (holder c u)) ≡ f)
 held_hand c hands f (Spare who) ok all e is = let h = (all who).spares f e in (λ z. let y : OfSpare f ≡ Empty = sym h ∙ z in cc, ap (name_in c) h)
 held_hand c hands f (Chained b) ok all e is =
-    let tests = both (not (is_given_up (c.walks b))) (not (not (nat_lt b (c.head / BLOCK_SLOTS)))) is in
+    let tests = and_true (not (is_given_up (c.walks b))) (not (not (nat_lt b (c.head / BLOCK_SLOTS)))) is in
     let lt = ltb-true b (c.head / BLOCK_SLOTS) (not_not (nat_lt b (c.head / BLOCK_SLOTS)) tests.1) in
     let h = walk_hand c hands b (c.walks b) ok all lt refl (ok.walk b) (not_true (is_given_up (c.walks b)) tests.0) in
     (λ z. let y : OfBlock b ≡ Empty = sym h ∙ z in cc, ap (name_in c) h ∙ (ok.named f b e).1)
-held_hand c hands f Unused ok all e is = cc
-held_hand c hands f Lost ok all e is = cc
+held_hand c hands f u ok all e is = cc
 
 held_few : {A : Type 0} (c : Chain A) (names parties : ℕ) (in_call : ℕ → Bool) → ChainOk c → ((p : ℕ) → HandOf c p (in_call p)) → ((p : ℕ) → in_call p ≡ true → p < parties)
     → count (λ f. is_held (c.head / BLOCK_SLOTS) c.walks (c.uses f)) names ≤ count in_call parties
@@ -148,8 +134,7 @@ held_few {A} c names parties in_call ok each within =
 blocks_few : (tail blocks head len : ℕ) (m : Mover) → BlocksOk tail blocks m → head + len ≡ tail → blocks - head / BLOCK_SLOTS ≤ len / BLOCK_SLOTS + 2
 blocks_few tail blocks head len Rests (inl h) e = let none = h.1 in omega arith
 blocks_few tail blocks head len Rests (inr h) e = omega arith
-blocks_few tail blocks head len (Laying who) h e = let full = h.1 in omega arith
-blocks_few tail blocks head len (Opening who) h e = let full = h.1 in omega arith
+blocks_few tail blocks head len m h e = let full = h.1 in omega arith
 
 -- the blocks that are alive are at most two more than the items fill, and one for each call in progress
 pub few_alive : {A : Type 0} (c : Chain A) (names parties : ℕ) (in_call : ℕ → Bool) → ChainOk c → ((p : ℕ) → HandOf c p (in_call p)) → ((p : ℕ) → in_call p ≡ true → p < parties)

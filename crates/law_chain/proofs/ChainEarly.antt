@@ -2,13 +2,7 @@
 use Rattle.std.proofs.Common.{ℕ, ◌≡◌, inl, true, false, Option, Some, List, [], refl}
 use Rattle.queue_steps.specs.State.{State}
 use Rattle.queue_steps.specs.Kinds.{call_value}
-use Rattle.queue_steps.specs.declared.model.Call.{Call}
-use Rattle.queue_steps.specs.declared.model.Effect.{Effect}
-use Rattle.queue_steps.specs.declared.steps.types.Local.{Local}
-use Rattle.queue_steps.specs.declared.steps.types.Op.{Op}
-use Rattle.queue_steps.specs.declared.steps.types.Touch.{Touch}
-use Rattle.queue_steps.specs.declared.steps.bounded.PushKind.{PushKind}
-use Rattle.queue_steps.specs.declared.steps.bounded.PushKind.TheVariants as kind
+use Rattle.law_common.specs.Vocabulary.{Call, Effect, Op, Touch, Local, PushKind}
 use Rattle.law_common.specs.Pushes.{pushes}
 use Rattle.law_chain.specs.ChainCells.{Chain, Holds, Nothing}
 use Rattle.law_chain.specs.ChainPasses.{spare_in}
@@ -17,8 +11,8 @@ use Rattle.law_chain.specs.ChainAt.{At, push_tail, push_block, asking, installin
 use Rattle.law_chain.proofs.ChainGood.{GivesUp, spare_gives}
 
 pushed : {A : Type 0} (d : PushKind) (v : A) → Some v ≡ call_value (pushes d v)
-pushed kind.Push v = refl
-pushed kind.Force v = refl
+pushed PushKind.Push v = refl
+pushed PushKind.Force v = refl
 
 pub early : {A : Type 0} {c : Chain A} {who : ℕ} {ms : List (State A)} {l : Local ℕ} {t : Touch} {o : Op ℕ} {v : Option A} {k : Call A} {es : List (Effect A)}
     → IsEarly l → At c who ms l t o v k es → (es ≡ []) × Holds c who Nothing × GivesUp c who (spare_in l) × (v ≡ call_value k)

@@ -1,6 +1,6 @@
 -- No step of another party takes away what a call on a chain carries between its steps.
 use Rattle.std.proofs.Common.{ℕ, ◌+◌, ◌/◌, ◌<◌, ◌≤◌, ◌≡◌, ◌≢◌, ◌∙◌, ◌⊎◌, inl, inr, Bool, Option, Some, None, List, length, refl, sym, arith}
-use Rattle.queue_steps.specs.declared.sizes.TheConstants.{BLOCK_SLOTS}
+use Rattle.law_common.specs.Vocabulary.{BLOCK_SLOTS}
 use Rattle.queue_steps.specs.State.{State}
 use Rattle.law_common.specs.Moments.{SeenIn, seen_by, HeadWas, HasItems}
 use Rattle.law_common.proofs.Moments.{seen_map, seen_later, seen_now, started_later}

@@ -1,6 +1,6 @@
 -- The chain before the first call: no item, and no block.
 use Rattle.std.proofs.Common.{ℕ, inl, false, None, [], refl, arith}
-use Rattle.law_chain.specs.ChainCells.{Free, Unread, Rests, Stands, Unlinked, Hidden, Before, Unused, Chain, ChainOk, Write, Read, Tail, Head, Next, First, Passed, Holds, Nothing}
+use Rattle.law_chain.specs.ChainCells.{Free, Unread, Rests, Stands, Unlinked, Hidden, Before, Unused, Chain, ChainOk, Write, Holds, Nothing}
 use Rattle.law_chain.specs.ChainPasses.{Spares}
 
 -- nothing was accepted, and no name was given out
@@ -44,12 +44,7 @@ first_ok = record {
 -- every party is idle
 pub first_idle : (A : Type 0) (who : ℕ) → Holds (first {A = A}) who Nothing
 first_idle A who (Write n) e = cc
-first_idle A who (Read n) e = cc
-first_idle A who Tail e = cc
-first_idle A who Head e = cc
-first_idle A who (Next b) e = cc
-first_idle A who First e = cc
-first_idle A who (Passed b) e = cc
+first_idle A who x e = cc
 
 pub first_spares : (A : Type 0) (who : ℕ) → Spares (first {A = A}) who None
 first_spares A who f e = cc

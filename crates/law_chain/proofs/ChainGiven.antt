@@ -1,9 +1,9 @@
 -- The block that a call gives up with its reply, and that the spares of the others stay.
 use Rattle.std.proofs.Common.{ℕ, ◌≡◌, ◌≢◌, ◌∙◌, inl, inr, Option, Some, None, sym, ap}
-use Rattle.queue_steps.specs.declared.model.Effect.{Effect}
+use Rattle.law_common.specs.Vocabulary.{Effect}
 use Rattle.law_common.proofs.Puts.{put_ok}
 use Rattle.law_common.specs.Effects.{Leads}
-use Rattle.law_chain.specs.ChainCells.{Use, Unused, Spare, Chained, Lost, Chain, queue_of, ChainOk, Part, Holds}
+use Rattle.law_chain.specs.ChainCells.{Use, Unused, Spare, Chained, Chain, queue_of, ChainOk, Part, Holds}
 use Rattle.law_chain.specs.ChainTransitions.{lost_of, given_up}
 use Rattle.law_chain.proofs.ChainTransitions.{rename_ok}
 use Rattle.law_chain.specs.ChainPasses.{Passes, Spares}
@@ -14,16 +14,12 @@ pub spares_stay : {A : Type 0} {r s : Chain A} (who other : ℕ) (spare : Option
 spares_stay who other spare ne pass only = λ f e. only f (pass.spared f other ne e)
 
 lost_chained : (u : Use) (b : ℕ) → lost_of u ≡ Chained b → u ≡ Chained b
-lost_chained Unused b e = e
 lost_chained (Spare who) b e = cc
-lost_chained (Chained i) b e = e
-lost_chained Lost b e = e
+lost_chained u b e = e
 
 lost_spare : (u : Use) (who : ℕ) → lost_of u ≢ Spare who
 lost_spare Unused who e = cc
-lost_spare (Spare p) who e = cc
-lost_spare (Chained b) who e = cc
-lost_spare Lost who e = cc
+lost_spare u who e = cc
 
 pub given_ok : {A : Type 0} (c : Chain A) (spare : Option ℕ) → ChainOk c → ChainOk (given_up c spare)
 given_ok c None ok = ok

@@ -4,16 +4,8 @@ use Rattle.queue_steps.specs.State.{State}
 use Rattle.queue_steps.specs.Kinds.{filled}
 use Rattle.queue_steps.specs.Replies.{Tells, Allows}
 use Rattle.queue_steps.specs.UnboundedNext.{FitsChain, unbounded_next}
-use Rattle.queue_steps.specs.declared.model.Call.{Call}
-use Rattle.queue_steps.specs.declared.model.Reply.{Reply}
-use Rattle.queue_steps.specs.declared.model.Effect.{Effect}
+use Rattle.law_common.specs.Vocabulary.{Call, Reply, Effect, Answer, Next, UnboundedLocal}
 use Rattle.queue_steps.specs.Words.{is_shut}
-use Rattle.queue_steps.specs.declared.model.Effect.TheVariants as effect
-use Rattle.queue_steps.specs.declared.steps.types.Answer.{Answer}
-use Rattle.queue_steps.specs.declared.steps.types.Answer.TheVariants as answer
-use Rattle.queue_steps.specs.declared.steps.types.Next.{Next}
-use Rattle.queue_steps.specs.declared.steps.types.Next.TheVariants as next
-use Rattle.queue_steps.specs.declared.steps.unbounded.UnboundedLocal.{UnboundedLocal}
 use Rattle.queue_steps.specs.declared.steps.unbounded.UnboundedLocal.TheVariants as chain
 use Rattle.law_common.specs.Moments.{SeenIn}
 use Rattle.law_common.specs.Effects.{Leads, with_effect, Whether}
@@ -30,16 +22,16 @@ GivesUp c who (Some f) = (c.uses f ≡ Spare who) ⊎ ((b : ℕ) × IsNamed c b 
 
 -- the call goes on, or ends with a reply that is right, and holds nothing
 abbrev pub Goes : {A : Type 0} → Chain A → ℕ → List (State A) → Next ℕ → Option A → Call A → List (Effect A) → Type 0
-Goes c who ms (next.Step l t o) v k es = At c who ms l t o v k es
-Goes {A} c who ms (next.Reply x spare) v k es =
+Goes c who ms (Next.Step l t o) v k es = At c who ms l t o v k es
+Goes {A} c who ms (Next.Reply x spare) v k es =
     Holds c who Nothing × GivesUp c who spare × ((y : Reply A) × (filled x v ≡ Some y) × Tells k y es × (es ≡ [] → SeenIn ms (Allows k y)))
 
 -- the effect of the step at this local state that got this answer: the exchange of the tail or the head that wins, and the mark on an open tail
 abbrev pub IsEffect : {A : Type 0} → UnboundedLocal ℕ → Answer ℕ → Option (Effect A) → Type 0
-IsEffect {A} (chain.Claiming d tail name spare) (answer.Found found) e = Whether (found == tail) ((v : A) × (e ≡ Some (effect.Append v))) (e ≡ None)
-IsEffect (chain.ClosingAtLimit d spare) (answer.Found found) e = Whether (is_shut found) (e ≡ None) (e ≡ Some effect.SelfClose)
-IsEffect {A} (chain.Taking head name) (answer.Found found) e = Whether (found == head) ((x : A) × (e ≡ Some (effect.Take x))) (e ≡ None)
-IsEffect chain.Closing (answer.Found found) e = Whether (is_shut found) (e ≡ None) (e ≡ Some effect.Close)
+IsEffect {A} (chain.Claiming d tail name spare) (Answer.Found found) e = Whether (found == tail) ((v : A) × (e ≡ Some (Effect.Append v))) (e ≡ None)
+IsEffect (chain.ClosingAtLimit d spare) (Answer.Found found) e = Whether (is_shut found) (e ≡ None) (e ≡ Some Effect.SelfClose)
+IsEffect {A} (chain.Taking head name) (Answer.Found found) e = Whether (found == head) ((x : A) × (e ≡ Some (Effect.Take x))) (e ≡ None)
+IsEffect chain.Closing (Answer.Found found) e = Whether (is_shut found) (e ≡ None) (e ≡ Some Effect.Close)
 IsEffect l a e = e ≡ None
 
 -- the step that got this answer, after which the chain is s and the call carries v, is a step of the queue that leaves the chain right

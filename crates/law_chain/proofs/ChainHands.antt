@@ -1,12 +1,7 @@
 -- Which block a party keeps alive: its spare, or a passed block that it still reads or walks over. It is never two.
 use Rattle.std.proofs.Common.{ℕ, ◌/◌, ◌≡◌, ◌≢◌, ◌∙◌, ◌⊎◌, inl, inr, Bool, true, false, Option, Some, None, List, refl, sym, ap}
-use Rattle.queue_steps.specs.declared.sizes.TheConstants.{BLOCK_SLOTS}
+use Rattle.law_common.specs.Vocabulary.{Call, Effect, Op, Touch, Local, BLOCK_SLOTS}
 use Rattle.queue_steps.specs.State.{State}
-use Rattle.queue_steps.specs.declared.model.Call.{Call}
-use Rattle.queue_steps.specs.declared.model.Effect.{Effect}
-use Rattle.queue_steps.specs.declared.steps.types.Local.{Local}
-use Rattle.queue_steps.specs.declared.steps.types.Op.{Op}
-use Rattle.queue_steps.specs.declared.steps.types.Touch.{Touch}
 use Rattle.law_chain.specs.ChainCells.{Reading, Laying, Opening, Walker, Spare, Chain, Part, Write, Read, Tail, Head, Next, First, Passed, reader_of, mover_of, walker_of, Holds, Nothing}
 use Rattle.law_chain.specs.ChainAt.{Only, Either, At, push_tail, push_block, asking, installing, showing, claiming, laying, opening, chaining, writing, spending, pop_head, pop_block, pop_tail, taking, following, peeking, passing, entering, awaiting, reading, beginning, walking, destroying, len_tail, len_head, len_again, empty_head, empty_tail, closing, closed_tail}
 use Rattle.law_chain.specs.ChainPasses.{spare_in, Spares}

@@ -6,10 +6,7 @@ use Rattle.queue_steps.specs.Replies.{is_empty}
 use Rattle.queue_steps.specs.Words.{IsWord, position_of}
 use Rattle.queue_steps.specs.ChainWords.{items_before, over_end, offset_at}
 use Rattle.queue_steps.specs.UnboundedNext.{unbounded_next}
-use Rattle.queue_steps.specs.declared.sizes.TheConstants.{BLOCK_SLOTS}
-use Rattle.queue_steps.specs.declared.model.Call.TheVariants as call
-use Rattle.queue_steps.specs.declared.model.Reply.TheVariants as reply
-use Rattle.queue_steps.specs.declared.steps.types.Answer.TheVariants as answer
+use Rattle.law_common.specs.Vocabulary.{Call, Reply, Answer, BLOCK_SLOTS}
 use Rattle.queue_steps.specs.declared.steps.unbounded.UnboundedLocal.TheVariants as chain
 use Rattle.law_common.proofs.Moments.{seen_map}
 use Rattle.law_chain.specs.ChainFacts.{place, SawEmpty}
@@ -31,17 +28,17 @@ some_is [] e = absurd (omega arith)
 some_is (x ∷ xs) e = refl
 
 pub good_empty_tail : {A : Type 0} (c : Chain A) (who : ℕ) (ms : List (State A)) (h : ℕ) → ChainOk c → Holds c who Nothing → IsWord h → SawEmpty (items_before (position_of h)) c ms
-    → Good c c who ms (chain.EmptyTail h) None call.IsEmpty [] (answer.Found (tail_word c))
+    → Good c c who ms (chain.EmptyTail h) None Call.IsEmpty [] (Answer.Found (tail_word c))
 good_empty_tail {A} c who ms h ok none small saw =
-    still c who ms (chain.EmptyTail h) None call.IsEmpty [] (answer.Found (tail_word c)) refl ok (small, tail_small c ok) (go (eqb_tells (over_end (position_of (tail_word c))) (over_end (position_of h))))
+    still c who ms (chain.EmptyTail h) None Call.IsEmpty [] (Answer.Found (tail_word c)) refl ok (small, tail_small c ok) (go (eqb_tells (over_end (position_of (tail_word c))) (over_end (position_of h))))
   where
     go : (((over_end (position_of (tail_word c)) == over_end (position_of h)) ≡ true) × (over_end (position_of (tail_word c)) ≡ over_end (position_of h))) ⊎ (((over_end (position_of (tail_word c)) == over_end (position_of h)) ≡ false) × (over_end (position_of (tail_word c)) ≢ over_end (position_of h)))
-        → Goes c who (queue_of c ∷ ms) (unbounded_next (chain.EmptyTail h) (answer.Found (tail_word c))) None call.IsEmpty []
+        → Goes c who (queue_of c ∷ ms) (unbounded_next (chain.EmptyTail h) (Answer.Found (tail_word c))) None Call.IsEmpty []
     go (inl e) =
         let same : place c.tail ≡ place (items_before (position_of h)) = ap place (sym (tail_items c ok)) ∙ (sym (settled_place (position_of (tail_word c))) ∙ (e.1 ∙ settled_place (position_of h))) in
         let low = saw.1 in
         let count = ok.count in
-        rw e.0 (none, tt, (reply.IsEmpty true, refl, refl, λ z. inl (inl (none_is c.items (omega arith)))))
+        rw e.0 (none, tt, (Reply.IsEmpty true, refl, refl, λ z. inl (inl (none_is c.items (omega arith)))))
     go (inr e) =
         let never : c.tail ≢ items_before (position_of h) = λ z. e.1 (settled_place (position_of (tail_word c)) ∙ (ap place (tail_items c ok ∙ z) ∙ sym (settled_place (position_of h)))) in
-        rw e.0 (none, tt, (reply.IsEmpty false, refl, refl, λ z. inr (elim saw.2 [ inl seen ↦ seen_map ms (λ m some. inl (some_is m.items some)) seen | inr at ↦ absurd (never at) ])))
+        rw e.0 (none, tt, (Reply.IsEmpty false, refl, refl, λ z. inr (elim saw.2 [ inl seen ↦ seen_map ms (λ m some. inl (some_is m.items some)) seen | inr at ↦ absurd (never at) ])))

@@ -6,10 +6,7 @@ use Rattle.queue_steps.specs.State.{State}
 use Rattle.queue_steps.specs.Words.{IsWord, position_of, is_shut, tail_of}
 use Rattle.queue_steps.specs.ChainWords.{items_before}
 use Rattle.queue_steps.specs.UnboundedNext.{unbounded_next}
-use Rattle.queue_steps.specs.declared.model.Call.TheVariants as call
-use Rattle.queue_steps.specs.declared.model.Reply.TheVariants as reply
-use Rattle.queue_steps.specs.declared.model.Effect.TheVariants as effect
-use Rattle.queue_steps.specs.declared.steps.types.Answer.TheVariants as answer
+use Rattle.law_common.specs.Vocabulary.{Call, Reply, Effect, Answer}
 use Rattle.queue_steps.specs.declared.steps.unbounded.UnboundedLocal.TheVariants as chain
 use Rattle.law_common.proofs.Tails.{shut_tail}
 use Rattle.law_common.specs.Moments.{SeenIn, HeadWas, HasItems}
@@ -23,25 +20,25 @@ use Rattle.law_chain.specs.ChainAnswers.{tail_word, tail_place, head_word}
 use Rattle.law_chain.proofs.ChainAnswers.{tail_items, tail_small, head_items, head_small}
 use Rattle.law_chain.proofs.ChainGood.{Goes, Good, still}
 
-pub good_closed_tail : {A : Type 0} (c : Chain A) (who : ℕ) (ms : List (State A)) → ChainOk c → Holds c who Nothing → Good c c who ms chain.ClosedTail None call.IsClosed [] (answer.Found (tail_word c))
+pub good_closed_tail : {A : Type 0} (c : Chain A) (who : ℕ) (ms : List (State A)) → ChainOk c → Holds c who Nothing → Good c c who ms chain.ClosedTail None Call.IsClosed [] (Answer.Found (tail_word c))
 good_closed_tail c who ms ok none =
-    still c who ms chain.ClosedTail None call.IsClosed [] (answer.Found (tail_word c)) refl ok tt
-    (none, tt, (reply.IsClosed (is_shut (tail_word c)), refl, refl, λ e. inl (inl (shut_tail (tail_place c.tail c.mover) c.closed))))
+    still c who ms chain.ClosedTail None Call.IsClosed [] (Answer.Found (tail_word c)) refl ok tt
+    (none, tt, (Reply.IsClosed (is_shut (tail_word c)), refl, refl, λ e. inl (inl (shut_tail (tail_place c.tail c.mover) c.closed))))
 
-pub good_len_tail : {A : Type 0} (c : Chain A) (who : ℕ) (ms : List (State A)) → ChainOk c → Holds c who Nothing → Good c c who ms chain.LenTail None call.Len [] (answer.Found (tail_word c))
+pub good_len_tail : {A : Type 0} (c : Chain A) (who : ℕ) (ms : List (State A)) → ChainOk c → Holds c who Nothing → Good c c who ms chain.LenTail None Call.Len [] (Answer.Found (tail_word c))
 good_len_tail c who ms ok none =
-    still c who ms chain.LenTail None call.Len [] (answer.Found (tail_word c)) refl ok tt (len_head (tail_word c) none (tail_small c ok) (let e = tail_items c ok in omega arith))
+    still c who ms chain.LenTail None Call.Len [] (Answer.Found (tail_word c)) refl ok tt (len_head (tail_word c) none (tail_small c ok) (let e = tail_items c ok in omega arith))
 
 pub good_len_head : {A : Type 0} (c : Chain A) (who : ℕ) (ms : List (State A)) (t : ℕ) → ChainOk c → Holds c who Nothing → IsWord t → items_before (position_of t) ≤ c.tail
-    → Good c c who ms (chain.LenHead t) None call.Len [] (answer.Found (head_word c))
+    → Good c c who ms (chain.LenHead t) None Call.Len [] (Answer.Found (head_word c))
 good_len_head c who ms t ok none small low =
-    still c who ms (chain.LenHead t) None call.Len [] (answer.Found (head_word c)) refl ok tt
+    still c who ms (chain.LenHead t) None Call.Len [] (Answer.Found (head_word c)) refl ok tt
     (len_again t (head_word c) none (small, head_small c ok) (inl (let e = head_items c ok in let n = ok.count in omega arith, low, omega arith)))
 
 pub good_len_again : {A : Type 0} (c : Chain A) (who : ℕ) (ms : List (State A)) (t h : ℕ) → ChainOk c → Holds c who Nothing → IsWord t × IsWord h → SeenIn ms (HeadWas (items_before (position_of h)) (items_before (position_of t)) c.tail)
-    → Good c c who ms (chain.LenAgain t h) None call.Len [] (answer.Found (tail_word c))
+    → Good c c who ms (chain.LenAgain t h) None Call.Len [] (Answer.Found (tail_word c))
 good_len_again {A} c who ms t h ok none small seen =
-    still c who ms (chain.LenAgain t h) None call.Len [] (answer.Found (tail_word c)) refl ok (small.0, small.1, λ e. below ms e seen) (go (eqb_tells (tail_word c) t))
+    still c who ms (chain.LenAgain t h) None Call.Len [] (Answer.Found (tail_word c)) refl ok (small.0, small.1, λ e. below ms e seen) (go (eqb_tells (tail_word c) t))
   where
     at : tail_word c ≡ t → items_before (position_of t) ≡ c.tail
     at e = ap (λ w. items_before (position_of w)) (sym e) ∙ tail_items c ok
@@ -51,23 +48,23 @@ good_len_again {A} c who ms t h ok none small seen =
     below (m ∷ ms) e (inl p) = let z = at e in let a = p.0 in let b = p.2 in omega arith
     below (m ∷ ms) e (inr s) = below ms e s
 
-    go : (((tail_word c == t) ≡ true) × (tail_word c ≡ t)) ⊎ (((tail_word c == t) ≡ false) × (tail_word c ≢ t)) → Goes c who (queue_of c ∷ ms) (unbounded_next (chain.LenAgain t h) (answer.Found (tail_word c))) None call.Len []
-    go (inl e) = rw e.0 (none, tt, (reply.Len (items_before (position_of t) - items_before (position_of h)), refl, refl, λ z. inr (seen_map ms (λ m p. inl (let y = at e.1 in let a = p.0 in let b = p.1 in let d = p.2 in omega arith)) seen)))
+    go : (((tail_word c == t) ≡ true) × (tail_word c ≡ t)) ⊎ (((tail_word c == t) ≡ false) × (tail_word c ≢ t)) → Goes c who (queue_of c ∷ ms) (unbounded_next (chain.LenAgain t h) (Answer.Found (tail_word c))) None Call.Len []
+    go (inl e) = rw e.0 (none, tt, (Reply.Len (items_before (position_of t) - items_before (position_of h)), refl, refl, λ z. inr (seen_map ms (λ m p. inl (let y = at e.1 in let a = p.0 in let b = p.1 in let d = p.2 in omega arith)) seen)))
     go (inr e) = rw e.0 (len_tail none)
 
-pub good_empty_head : {A : Type 0} (c : Chain A) (who : ℕ) (ms : List (State A)) → ChainOk c → Holds c who Nothing → Good c c who ms chain.EmptyHead None call.IsEmpty [] (answer.Found (head_word c))
+pub good_empty_head : {A : Type 0} (c : Chain A) (who : ℕ) (ms : List (State A)) → ChainOk c → Holds c who Nothing → Good c c who ms chain.EmptyHead None Call.IsEmpty [] (Answer.Found (head_word c))
 good_empty_head {A} c who ms ok none =
-    still c who ms chain.EmptyHead None call.IsEmpty [] (answer.Found (head_word c)) refl ok tt
+    still c who ms chain.EmptyHead None Call.IsEmpty [] (Answer.Found (head_word c)) refl ok tt
     (empty_tail (head_word c) none (head_small c ok) (tt, (let e = head_items c ok in omega arith), (subst (λ n. SeenIn (queue_of c ∷ ms) HasItems ⊎ (c.tail ≡ n)) (sym (head_items c ok)) (go (eqb_tells (length c.items) 0)))))
   where
     go : (((length c.items == 0) ≡ true) × (length c.items ≡ 0)) ⊎ (((length c.items == 0) ≡ false) × (length c.items ≢ 0)) → SeenIn (queue_of c ∷ ms) HasItems ⊎ (c.tail ≡ c.head)
     go (inl e) = inr (let n = ok.count in let z = e.1 in omega arith)
     go (inr e) = inl (inl (let z = e.1 in omega arith))
 
-pub good_closing : {A : Type 0} (c : Chain A) (who : ℕ) (ms : List (State A)) → ChainOk c → Holds c who Nothing → Good c (moves.marked c) who ms chain.Closing None call.Close [] (answer.Found (tail_word c))
+pub good_closing : {A : Type 0} (c : Chain A) (who : ℕ) (ms : List (State A)) → ChainOk c → Holds c who Nothing → Good c (moves.marked c) who ms chain.Closing None Call.Close [] (Answer.Found (tail_word c))
 good_closing {A} c who ms ok none = go c.closed refl
   where
-    go : (b : Bool) → c.closed ≡ b → Good c (moves.marked c) who ms chain.Closing None call.Close [] (answer.Found (tail_word c))
+    go : (b : Bool) → c.closed ≡ b → Good c (moves.marked c) who ms chain.Closing None Call.Close [] (Answer.Found (tail_word c))
     go true shut = record {
       e = None;
       told = rw (shut_tail (tail_place c.tail c.mover) c.closed ∙ shut) refl;
@@ -75,19 +72,19 @@ good_closing {A} c who ms ok none = go c.closed refl
       ok = mark_ok c ok;
       makes = ap (λ b. queue_of (record c { closed = b })) (sym shut);
       passes = passes_marked c who;
-      goes = rw (ne_eqb (tail_word c % 2) 0 (λ z. absurd (let y = eq_shut shut in omega arith))) (none, tt, (reply.Close false, refl, refl, λ e. inl (inl refl)));
+      goes = rw (ne_eqb (tail_word c % 2) 0 (λ z. absurd (let y = eq_shut shut in omega arith))) (none, tt, (Reply.Close false, refl, refl, λ e. inl (inl refl)));
     }
       where
         eq_shut : c.closed ≡ true → tail_word c ≡ tail_place c.tail c.mover * 2 + 1
         eq_shut e = ap (λ b. tail_of (tail_place c.tail c.mover) b) e
     go false opened = record {
-      e = Some effect.Close;
+      e = Some Effect.Close;
       told = rw (shut_tail (tail_place c.tail c.mover) c.closed ∙ opened) refl;
       goes_on = tt;
       ok = mark_ok c ok;
       makes = (opened, refl);
       passes = passes_marked c who;
-      goes = rw (eq-eqb (tail_word c % 2) 0 (let y = eq_open opened in omega arith)) (none, tt, (reply.Close true, refl, refl, λ e. cc));
+      goes = rw (eq-eqb (tail_word c % 2) 0 (let y = eq_open opened in omega arith)) (none, tt, (Reply.Close true, refl, refl, λ e. cc));
     }
       where
         eq_open : c.closed ≡ false → tail_word c ≡ tail_place c.tail c.mover * 2

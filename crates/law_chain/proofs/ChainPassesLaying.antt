@@ -1,6 +1,6 @@
 -- What the laying of a block, and the writing of an item, leave of what other parties hold.
 use Rattle.std.proofs.Common.{ℕ, ◌-◌, ◌≡◌, ◌≢◌, ◌∙◌, inl, inr, refl, sym, ap}
-use Rattle.law_chain.specs.ChainCells.{Writing, Wrote, Rests, Laying, Opening, Unlinked, Linking, Linked, Use, Spare, Chain, ChainOk, Part, Write, Read, Tail, Head, Next, First, Passed, mover_of, linker_of, owner}
+use Rattle.law_chain.specs.ChainCells.{Writing, Wrote, Rests, Laying, Opening, Unlinked, Linking, Linked, Use, Spare, Chain, ChainOk, Part, Write, mover_of, linker_of, owner}
 use Rattle.law_chain.specs.ChainTransitions.{laid_out, opened, chained, written, renamed}
 use Rattle.law_chain.proofs.ChainLeaves.{leaves_own, free_none, free_own, row_put, end_same, ItemKept, item_same, Once, once_same, spared_put, blocks_same, blocks_more}
 use Rattle.law_chain.specs.ChainPasses.{Kept, Passes}
@@ -55,21 +55,11 @@ passes_written {A} c who n v is = passes_push who (record {
 -- a name that is used otherwise touches no part
 kept_renamed : {A : Type 0} (r s : Chain A) (f : ℕ) (u : Use) (x : Part) → Kept r s x → Kept r (renamed s f u) x
 kept_renamed r s f u (Write n) h = h
-kept_renamed r s f u (Read n) h = h
-kept_renamed r s f u Tail h = h
-kept_renamed r s f u Head h = h
-kept_renamed r s f u (Next b) h = h
-kept_renamed r s f u First h = h
-kept_renamed r s f u (Passed b) h = h
+kept_renamed r s f u x h = h
 
 pub owner_renamed : {A : Type 0} (s : Chain A) (f : ℕ) (u : Use) (x : Part) → owner (renamed s f u) x ≡ owner s x
 owner_renamed s f u (Write n) = refl
-owner_renamed s f u (Read n) = refl
-owner_renamed s f u Tail = refl
-owner_renamed s f u Head = refl
-owner_renamed s f u (Next b) = refl
-owner_renamed s f u First = refl
-owner_renamed s f u (Passed b) = refl
+owner_renamed s f u x = refl
 
 -- U3, and a spare that is given up, after what the party did already
 pub passes_renamed : {A : Type 0} {r : Chain A} (s : Chain A) (who : ℕ) (f : ℕ) (u : Use) → ((other : ℕ) → other ≢ who → s.uses f ≢ Spare other) → ((other : ℕ) → other ≢ who → u ≢ Spare other)

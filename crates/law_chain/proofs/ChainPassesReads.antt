@@ -1,6 +1,6 @@
 -- What a step of a pop leaves of a chain for the others.
 use Rattle.std.proofs.Common.{ℕ, ◌/◌, ◌≡◌, ◌≢◌, ◌∙◌, ◌⊎◌, inl, inr, Bool, Some, refl, sym, ap, arith}
-use Rattle.queue_steps.specs.declared.sizes.TheConstants.{BLOCK_SLOTS}
+use Rattle.law_common.specs.Vocabulary.{BLOCK_SLOTS}
 use Rattle.law_chain.specs.ChainCells.{Unread, Reading, Done, Passer, Stands, Passing, Entering, Walk, Chain, reader_of, passer_of, walker_of}
 use Rattle.law_chain.specs.ChainTransitions.{taken, passed, entered, reads, walked}
 use Rattle.law_chain.proofs.ChainLeaves.{Leaves, leaves_same, IsFree, free_none, free_own, leaves_own, row_put, end_same}

@@ -1,12 +1,9 @@
 -- Whether there is a block more behind the next one, and whether the chain is empty.
 use Rattle.std.proofs.Common.{ℕ, ◌+◌, ◌*◌, ◌/◌, ◌<◌, ◌≤◌, ◌≡◌, inl, inr, Bool, true, false, Some, None, List, [], ◌∷◌, subst, arith, refl}
-use Rattle.queue_steps.specs.declared.sizes.TheConstants.{BLOCK_SLOTS}
+use Rattle.law_common.specs.Vocabulary.{Call, Effect, Answer, BLOCK_SLOTS}
 use Rattle.queue_steps.specs.State.{State}
-use Rattle.queue_steps.specs.declared.model.Call.TheVariants as call
-use Rattle.queue_steps.specs.declared.model.Effect.TheVariants as effect
-use Rattle.queue_steps.specs.declared.steps.types.Answer.TheVariants as answer
 use Rattle.queue_steps.specs.declared.steps.unbounded.UnboundedLocal.TheVariants as chain
-use Rattle.law_chain.specs.ChainCells.{Mover, Rests, Laying, Opening, Passing, LinkState, Unlinked, Linking, Linked, Chain, BlocksOk, LinkOk, FrontOk, ChainOk, Read, Head, Holds}
+use Rattle.law_chain.specs.ChainCells.{Mover, Rests, Passing, LinkState, Linked, Chain, BlocksOk, LinkOk, FrontOk, ChainOk, Read, Head, Holds}
 use Rattle.law_chain.specs.ChainFacts.{head_of, Got}
 use Rattle.law_chain.specs.ChainAt.{Either, IsBehind, passing}
 use Rattle.law_chain.specs.ChainAnswers.{linked_of}
@@ -16,21 +13,19 @@ use Rattle.law_chain.proofs.ChainGood.{Good, still}
 blocks_full : (tail blocks b : ℕ) (m : Mover) → BlocksOk tail blocks m → b + 1 < blocks → (b + 1) * BLOCK_SLOTS ≤ tail
 blocks_full tail blocks b Rests (inl h) lt = absurd (let z = h.1 in omega arith)
 blocks_full tail blocks b Rests (inr e) lt = omega arith
-blocks_full tail blocks b (Laying who) h lt = let full = h.1 in omega arith
-blocks_full tail blocks b (Opening who) h lt = let full = h.1 in omega arith
+blocks_full tail blocks b m h lt = let full = h.1 in omega arith
 
 -- V6: the link behind the next block is read
 pub good_peeking : {A : Type 0} (c : Chain A) (who : ℕ) (ms : List (State A)) (x : A) (n name after : ℕ) (more : Bool)
     → ChainOk c → Holds c who (Either (Read n) Head) → Got c who n x name → (c.passer ≡ Passing who) × (c.head ≡ n + 1) → IsBehind c n after
-    → Good c c who ms (chain.Peeking (head_of n more) name after) None call.Pop (effect.Take x ∷ []) (answer.Linked (linked_of (c.links (n / BLOCK_SLOTS + 1)) (c.names (n / BLOCK_SLOTS + 1 + 1))))
+    → Good c c who ms (chain.Peeking (head_of n more) name after) None Call.Pop (Effect.Take x ∷ []) (Answer.Linked (linked_of (c.links (n / BLOCK_SLOTS + 1)) (c.names (n / BLOCK_SLOTS + 1 + 1))))
 good_peeking {A} c who ms x n name after more ok holds got pass behind = go (c.links (n / BLOCK_SLOTS + 1)) (ok.link (n / BLOCK_SLOTS + 1))
   where
     front : FrontOk c.head c.front (Passing who)
     front = subst (λ p. FrontOk c.head c.front p) pass.0 ok.fronted
 
-    go : (l : LinkState) → LinkOk c.blocks (n / BLOCK_SLOTS + 1) l → Good c c who ms (chain.Peeking (head_of n more) name after) None call.Pop (effect.Take x ∷ []) (answer.Linked (linked_of l (c.names (n / BLOCK_SLOTS + 1 + 1))))
-    go Unlinked h = still c who ms (chain.Peeking (head_of n more) name after) None call.Pop (effect.Take x ∷ []) (answer.Linked None) refl ok tt (passing x n name after more false holds got pass behind (λ e. cc))
-    go (Linking p) h = still c who ms (chain.Peeking (head_of n more) name after) None call.Pop (effect.Take x ∷ []) (answer.Linked None) refl ok tt (passing x n name after more false holds got pass behind (λ e. cc))
+    go : (l : LinkState) → LinkOk c.blocks (n / BLOCK_SLOTS + 1) l → Good c c who ms (chain.Peeking (head_of n more) name after) None Call.Pop (Effect.Take x ∷ []) (Answer.Linked (linked_of l (c.names (n / BLOCK_SLOTS + 1 + 1))))
     go Linked h =
-        still c who ms (chain.Peeking (head_of n more) name after) None call.Pop (effect.Take x ∷ []) (answer.Linked (Some (c.names (n / BLOCK_SLOTS + 1 + 1)))) refl ok tt
+        still c who ms (chain.Peeking (head_of n more) name after) None Call.Pop (Effect.Take x ∷ []) (Answer.Linked (Some (c.names (n / BLOCK_SLOTS + 1 + 1)))) refl ok tt
         (passing x n name after more true holds got pass behind (λ e. let full = blocks_full c.tail c.blocks (n / BLOCK_SLOTS + 1) c.mover ok.laid h in let f = front in let at = pass.1 in omega arith))
+    go l h = still c who ms (chain.Peeking (head_of n more) name after) None Call.Pop (Effect.Take x ∷ []) (Answer.Linked None) refl ok tt (passing x n name after more false holds got pass behind (λ e. cc))

@@ -1,7 +1,7 @@
 -- The place of an item among the positions: its block, its slot, and the items before it.
 use Rattle.std.proofs.Common.{ℕ, ◌+◌, ◌-◌, ◌*◌, ◌/◌, ◌%◌, ◌<◌, ◌≡◌, arith}
 use Rattle.queue_steps.specs.ChainWords.{block_at, offset_at, items_before}
-use Rattle.queue_steps.specs.declared.sizes.TheConstants.{BLOCK_SLOTS}
+use Rattle.law_common.specs.Vocabulary.{BLOCK_SLOTS}
 use Rattle.law_chain.specs.ChainFacts.{place}
 
 pub place_block : (n : ℕ) → block_at (place n) ≡ n / BLOCK_SLOTS

@@ -2,28 +2,14 @@
 use Rattle.std.proofs.Common.{ℕ, ◌+◌, ◌-◌, ◌/◌, ◌%◌, ◌<◌, ◌≡◌, ◌≢◌, ◌==◌, ◌∙◌, ◌⊎◌, inl, inr, zero, suc, Bool, true, false, Option, Some, None, Err, List, [], ◌∷◌, refl, sym, ap, subst, arith}
 use Rattle.std.proofs.lemmas.Bool.{ne_eqb, eq-eqb}
 use Rattle.std.proofs.lemmas.Bool.Decides.{eqb_tells}
-use Rattle.queue_steps.specs.declared.sizes.TheConstants.{LIMIT, BLOCK_SLOTS}
+use Rattle.law_common.specs.Vocabulary.{Reply, PushError, ForcePushError, Word, Link, Op, Touch, Answer, Next, PushKind, LIMIT, BLOCK_SLOTS, MARK}
 use Rattle.queue_steps.specs.State.{State}
 use Rattle.queue_steps.specs.Replies.{Tells, MayAsk, LacksMemory}
 use Rattle.queue_steps.specs.Kinds.{filled}
 use Rattle.queue_steps.specs.Words.{IsWord, position_of, is_shut, tail_of}
 use Rattle.queue_steps.specs.ChainWords.{offset_of, items_before}
 use Rattle.queue_steps.specs.BoundedNext.{closed_reply}
-use Rattle.queue_steps.specs.declared.steps.types.Next.{Next}
-use Rattle.queue_steps.specs.declared.steps.types.Next.TheVariants as next
-use Rattle.queue_steps.specs.declared.steps.types.Link.TheVariants as link
-use Rattle.queue_steps.specs.declared.steps.types.Op.TheVariants as op
-use Rattle.queue_steps.specs.declared.steps.types.Touch.TheVariants as touch
-use Rattle.queue_steps.specs.declared.steps.types.Word.TheVariants as word
-use Rattle.queue_steps.specs.declared.steps.bounded.TheConstants.{MARK}
 use Rattle.queue_steps.specs.UnboundedNext.{at, loads, chain_tail_found, tail_block_found, gives_up, granted}
-use Rattle.queue_steps.specs.declared.model.Reply.{Reply}
-use Rattle.queue_steps.specs.declared.model.Reply.TheVariants as reply
-use Rattle.queue_steps.specs.declared.errors.PushError.TheVariants as push
-use Rattle.queue_steps.specs.declared.errors.ForcePushError.TheVariants as force
-use Rattle.queue_steps.specs.declared.steps.types.Answer.TheVariants as answer
-use Rattle.queue_steps.specs.declared.steps.bounded.PushKind.{PushKind}
-use Rattle.queue_steps.specs.declared.steps.bounded.PushKind.TheVariants as kind
 use Rattle.queue_steps.specs.declared.steps.unbounded.UnboundedLocal.TheVariants as chain
 use Rattle.law_common.proofs.Tails.{shut_tail}
 use Rattle.law_common.proofs.Moments.{seen_map}
@@ -41,15 +27,15 @@ use Rattle.law_chain.proofs.ChainAnswers.{tail_items, tail_small, tail_is_restin
 use Rattle.law_chain.proofs.ChainGood.{Goes, Good, still, silent, spare_gives}
 
 refused_push : {A : Type 0} (d : PushKind) (v : A) → (y : Reply A) × (filled (gives_up d) (Some v) ≡ Some y) × Tells (pushes d v) y [] × ((m : State A) → MayAsk m → LacksMemory m (pushes d v) y)
-refused_push kind.Push v = (reply.Push (Err (push.NoMemory v)), refl, (refl, refl), λ m may. (refl, may))
-refused_push kind.Force v = (reply.ForcePush (Err (force.NoMemory v)), refl, (refl, refl), λ m may. (refl, may))
+refused_push PushKind.Push v = (Reply.Push (Err (PushError.NoMemory v)), refl, (refl, refl), λ m may. (refl, may))
+refused_push PushKind.Force v = (Reply.ForcePush (Err (ForcePushError.NoMemory v)), refl, (refl, refl), λ m may. (refl, may))
 
 -- the ways on from a tail that a push found
 pub tail_ways : (d : PushKind) (x : ℕ) (spare : Option ℕ) (P : Next ℕ → Type 0)
-    → (is_shut x ≡ true → P (next.Reply (closed_reply d) spare))
-    → (is_shut x ≡ false → items_before (position_of x) ≡ LIMIT → P (at (chain.ClosingAtLimit d spare) touch.Nothing (op.Or word.Tail MARK)))
-    → (offset_of x ≡ BLOCK_SLOTS → P (loads (chain.PushTail d spare) word.Tail))
-    → (is_shut x ≡ false → items_before (position_of x) ≢ LIMIT → offset_of x ≢ BLOCK_SLOTS → P (at (chain.PushBlock d x spare) touch.Nothing (op.LoadLink link.TailBlock)))
+    → (is_shut x ≡ true → P (Next.Reply (closed_reply d) spare))
+    → (is_shut x ≡ false → items_before (position_of x) ≡ LIMIT → P (at (chain.ClosingAtLimit d spare) Touch.Nothing (Op.Or Word.Tail MARK)))
+    → (offset_of x ≡ BLOCK_SLOTS → P (loads (chain.PushTail d spare) Word.Tail))
+    → (is_shut x ≡ false → items_before (position_of x) ≢ LIMIT → offset_of x ≢ BLOCK_SLOTS → P (at (chain.PushBlock d x spare) Touch.Nothing (Op.LoadLink Link.TailBlock)))
     → P (chain_tail_found d x spare)
 tail_ways d x spare P shut spent again on = at_mark (is_shut x) refl
   where
@@ -86,12 +72,12 @@ tail_goes {A} c who ms d v spare ok none spare_is =
     is = shut_tail (tail_place c.tail c.mover) c.closed
 
     at_block : ℕ → Next ℕ
-    at_block x = at (chain.PushBlock d x spare) touch.Nothing (op.LoadLink link.TailBlock)
+    at_block x = at (chain.PushBlock d x spare) Touch.Nothing (Op.LoadLink Link.TailBlock)
 
 pub good_push_tail : {A : Type 0} (c : Chain A) (who : ℕ) (ms : List (State A)) (d : PushKind) (v : A) (spare : Option ℕ)
-    → ChainOk c → Holds c who Nothing → HasSpare c who spare → Good c c who ms (chain.PushTail d spare) (Some v) (pushes d v) [] (answer.Found (tail_word c))
+    → ChainOk c → Holds c who Nothing → HasSpare c who spare → Good c c who ms (chain.PushTail d spare) (Some v) (pushes d v) [] (Answer.Found (tail_word c))
 good_push_tail c who ms d v spare ok none spare_is =
-    still c who ms (chain.PushTail d spare) (Some v) (pushes d v) [] (answer.Found (tail_word c)) refl ok (tail_small c ok) (tail_goes c who ms d v spare ok none spare_is)
+    still c who ms (chain.PushTail d spare) (Some v) (pushes d v) [] (Answer.Found (tail_word c)) refl ok (tail_small c ok) (tail_goes c who ms d v spare ok none spare_is)
 
 pub open_small : {A : Type 0} (c : Chain A) (q : ℕ) (ms : List (State A)) → SawTail c q ms → IsWord (open_tail_of q)
 open_small c q ms saw = let low = saw.below in omega arith
@@ -117,7 +103,7 @@ none_spare c who None none h = refl
 none_spare c who (Some f) none h = absurd (let some = h.1 in omega arith)
 
 pub good_push_block : {A : Type 0} (c : Chain A) (who : ℕ) (ms : List (State A)) (d : PushKind) (v : A) (spare : Option ℕ) (q : ℕ)
-    → ChainOk c → Holds c who Nothing → HasSpare c who spare → SawTail c q ms → Good c c who ms (chain.PushBlock d (open_tail_of q) spare) (Some v) (pushes d v) [] (answer.Linked (last_of c.names c.blocks))
+    → ChainOk c → Holds c who Nothing → HasSpare c who spare → SawTail c q ms → Good c c who ms (chain.PushBlock d (open_tail_of q) spare) (Some v) (pushes d v) [] (Answer.Linked (last_of c.names c.blocks))
 good_push_block {A} c who ms d v spare q ok none spare_is saw = go c.blocks refl
   where
     with_block : (b : ℕ) (x : Option ℕ) → HasSpare c who x → c.blocks ≡ suc b → Goes c who (queue_of c ∷ ms) (tail_block_found d (open_tail_of q) (Some (c.names b)) x) (Some v) (pushes d v) []
@@ -129,21 +115,21 @@ good_push_block {A} c who ms d v spare q ok none spare_is saw = go c.blocks refl
         at_end (inl t) = rw t.0 (asking d v q (Some (c.names b)) none (saw_own c q ms (queue_of c) saw) (let at = t.1 in omega arith, last_named c q b ok saw.is e))
         at_end (inr t) = rw t.0 (claiming d v q (c.names b) None none tt (saw_own c q ms (queue_of c) saw) (last_named c q b ok saw.is e) (λ last. absurd (t.1 (omega arith))))
 
-    go : (n : ℕ) → c.blocks ≡ n → Good c c who ms (chain.PushBlock d (open_tail_of q) spare) (Some v) (pushes d v) [] (answer.Linked (last_of c.names n))
+    go : (n : ℕ) → c.blocks ≡ n → Good c c who ms (chain.PushBlock d (open_tail_of q) spare) (Some v) (pushes d v) [] (Answer.Linked (last_of c.names n))
     go zero e =
         let empty = no_block c ok e in
         let at : q ≡ 0 = elim saw.is [ inl lt ↦ absurd (let z = empty.1 in omega arith) | inr h ↦ (let z = empty.1 in let y = h.0 in omega arith) ] in
-        still c who ms (chain.PushBlock d (open_tail_of q) spare) (Some v) (pushes d v) [] (answer.Linked None) refl ok (open_small c q ms saw, λ _. none_spare c who spare e spare_is)
+        still c who ms (chain.PushBlock d (open_tail_of q) spare) (Some v) (pushes d v) [] (Answer.Linked None) refl ok (open_small c q ms saw, λ _. none_spare c who spare e spare_is)
         (asking d v q None none (saw_own c q ms (queue_of c) saw) at)
     go (suc b) e =
-        still c who ms (chain.PushBlock d (open_tail_of q) spare) (Some v) (pushes d v) [] (answer.Linked (Some (c.names b))) refl ok (open_small c q ms saw, λ z. cc) (with_block b spare spare_is e)
+        still c who ms (chain.PushBlock d (open_tail_of q) spare) (Some v) (pushes d v) [] (Answer.Linked (Some (c.names b))) refl ok (open_small c q ms saw, λ z. cc) (with_block b spare spare_is e)
 
 -- U3, refused: one of the call's moments allows it
 pub good_refused : {A : Type 0} (c : Chain A) (who : ℕ) (ms : List (State A)) (d : PushKind) (v : A) (q : ℕ) (block : Option ℕ)
-    → ChainOk c → Holds c who Nothing → SawTail c q ms → Asks c q block → Good c c who ms (chain.Asking d (open_tail_of q) block) (Some v) (pushes d v) [] answer.Refused
+    → ChainOk c → Holds c who Nothing → SawTail c q ms → Asks c q block → Good c c who ms (chain.Asking d (open_tail_of q) block) (Some v) (pushes d v) [] Answer.Refused
 good_refused {A} c who ms d v q block ok none saw asked =
     let y = refused_push d v in
-    still c who ms (chain.Asking d (open_tail_of q) block) (Some v) (pushes d v) [] answer.Refused refl ok tt
+    still c who ms (chain.Asking d (open_tail_of q) block) (Some v) (pushes d v) [] Answer.Refused refl ok tt
     (none, tt, (y.0, y.1, y.2, λ e. inr (seen_map ms (λ m was. inr (y.3 m (was.0, was.1, allowed block asked m was))) saw.moment)))
   where
     allowed : (block : Option ℕ) → Asks c q block → (m : State A) → WasOpenAt q m → (m.accepted ≡ 0) ⊎ (m.accepted % BLOCK_SLOTS ≡ BLOCK_SLOTS - 1)
@@ -152,9 +138,9 @@ good_refused {A} c who ms d v q block ok none saw asked =
 
 -- U3, granted: a block that was nobody's is the call's
 pub good_granted : {A : Type 0} (c : Chain A) (who : ℕ) (ms : List (State A)) (d : PushKind) (v : A) (q : ℕ) (block : Option ℕ) (f : ℕ)
-    → ChainOk c → Holds c who Nothing → SawTail c q ms → Asks c q block → c.uses f ≡ Unused → Good c (renamed c f (Spare who)) who ms (chain.Asking d (open_tail_of q) block) (Some v) (pushes d v) [] (answer.Granted f)
+    → ChainOk c → Holds c who Nothing → SawTail c q ms → Asks c q block → c.uses f ≡ Unused → Good c (renamed c f (Spare who)) who ms (chain.Asking d (open_tail_of q) block) (Some v) (pushes d v) [] (Answer.Granted f)
 good_granted {A} c who ms d v q block f ok none saw asked unused =
-    silent c s who ms (chain.Asking d (open_tail_of q) block) (Some v) (pushes d v) [] (answer.Granted f) refl ok2 refl
+    silent c s who ms (chain.Asking d (open_tail_of q) block) (Some v) (pushes d v) [] (Answer.Granted f) refl ok2 refl
     (passes_renamed c who f (Spare who) (λ other ne e. let z : Unused ≡ Spare other = sym unused ∙ e in cc) (λ other ne e. ne (let z : Spare who ≡ Spare other = e in cc)) (passes_same c who)) (open_small c q ms saw) (go block asked)
   where
     s : Chain A

@@ -2,11 +2,7 @@
 use Rattle.std.proofs.Common.{ℕ, ◌+◌, ◌-◌, ◌<◌, ◌≤◌, ◌≡◌, ◌≢◌, ◌==◌, ◌∙◌, Bool, true, false, if◌then◌else◌, Option, Some, None, inl, inr, refl, ap, arith}
 use Rattle.std.proofs.lemmas.Bool.{eq-eqb}
 use Rattle.std.proofs.lemmas.Bool.Decides.{eqb_tells}
-use Rattle.queue_steps.specs.declared.sizes.TheConstants.{BLOCK_SLOTS}
-use Rattle.queue_steps.specs.declared.steps.types.Local.{Local}
-use Rattle.queue_steps.specs.declared.steps.types.Local.TheVariants as local
-use Rattle.queue_steps.specs.declared.steps.types.Next.{Next}
-use Rattle.queue_steps.specs.declared.steps.types.Next.TheVariants as next
+use Rattle.law_common.specs.Vocabulary.{Local, Next, BLOCK_SLOTS}
 use Rattle.queue_steps.specs.declared.steps.unbounded.UnboundedLocal.TheVariants as chain
 use Rattle.law_common.proofs.Ranks.{either_small, either_some}
 use Rattle.law_chain.specs.ChainCells.{Mover, Rests, Laying, Opening, Passer, Stands, Passing, Entering, Shown, Seen, Chain, LAST, Part, owner, mover_of, passer_of, Holds, Nothing}
@@ -36,31 +32,31 @@ walk_rank slot = LAST - slot + 1
 
 -- how many steps a call takes from here at most, while no other party holds a part: a word that it read may be another one now, and is the same once it has read again
 abbrev pub rank : {A : Type 0} → Chain A → Local ℕ → ℕ
-rank c (local.Unbounded (chain.PushTail d spare)) = 10
-rank c (local.Unbounded (chain.PushBlock d tail spare)) = 9 + lag (tail_word c) tail 5
-rank c (local.Unbounded (chain.Asking d tail block)) = asking_rank c tail block
-rank c (local.Unbounded (chain.Installing d tail fresh)) = if c.blocks == 0 then 7 + lag (tail_word c) tail 5 else 12
-rank c (local.Unbounded (chain.Showing d tail block)) = 6 + lag (tail_word c) tail 5
-rank c (local.Unbounded (chain.Claiming d tail block spare)) = 5 + lag (tail_word c) tail 5
-rank c (local.Unbounded (chain.Laying d tail block fresh)) = 4
-rank c (local.Unbounded (chain.Opening d tail block fresh)) = 3
-rank c (local.Unbounded (chain.Chaining d tail block fresh)) = 2
-rank c (local.Unbounded chain.PopHead) = BLOCK_SLOTS + 9
-rank c (local.Unbounded (chain.PopBlock head)) = BLOCK_SLOTS + 8 + lag (head_word c) head 3
-rank c (local.Unbounded (chain.PopTail head block)) = tail_rank c head block
-rank c (local.Unbounded (chain.Taking head block)) = BLOCK_SLOTS + 6 + lag (head_word c) head 3
-rank c (local.Unbounded (chain.Following head block)) = BLOCK_SLOTS + 5
-rank c (local.Unbounded (chain.Peeking head block after)) = BLOCK_SLOTS + 4
-rank c (local.Unbounded (chain.Passing head block more)) = BLOCK_SLOTS + 3
-rank c (local.Unbounded (chain.Entering head block)) = BLOCK_SLOTS + 2
-rank c (local.Unbounded (chain.Awaiting head block)) = BLOCK_SLOTS + 1
-rank c (local.Unbounded (chain.Reading block slot)) = walk_rank slot
-rank c (local.Unbounded (chain.Walking block slot)) = walk_rank slot
-rank c (local.Unbounded (chain.Destroying block slot)) = walk_rank slot
-rank c (local.Unbounded chain.LenTail) = 3
-rank c (local.Unbounded (chain.LenHead tail)) = 2 + lag (tail_word c) tail 3
-rank c (local.Unbounded (chain.LenAgain tail head)) = 1 + lag (tail_word c) tail 3
-rank c (local.Unbounded chain.EmptyHead) = 2
+rank c (Local.Unbounded (chain.PushTail d spare)) = 10
+rank c (Local.Unbounded (chain.PushBlock d tail spare)) = 9 + lag (tail_word c) tail 5
+rank c (Local.Unbounded (chain.Asking d tail block)) = asking_rank c tail block
+rank c (Local.Unbounded (chain.Installing d tail fresh)) = if c.blocks == 0 then 7 + lag (tail_word c) tail 5 else 12
+rank c (Local.Unbounded (chain.Showing d tail block)) = 6 + lag (tail_word c) tail 5
+rank c (Local.Unbounded (chain.Claiming d tail block spare)) = 5 + lag (tail_word c) tail 5
+rank c (Local.Unbounded (chain.Laying d tail block fresh)) = 4
+rank c (Local.Unbounded (chain.Opening d tail block fresh)) = 3
+rank c (Local.Unbounded (chain.Chaining d tail block fresh)) = 2
+rank c (Local.Unbounded chain.PopHead) = BLOCK_SLOTS + 9
+rank c (Local.Unbounded (chain.PopBlock head)) = BLOCK_SLOTS + 8 + lag (head_word c) head 3
+rank c (Local.Unbounded (chain.PopTail head block)) = tail_rank c head block
+rank c (Local.Unbounded (chain.Taking head block)) = BLOCK_SLOTS + 6 + lag (head_word c) head 3
+rank c (Local.Unbounded (chain.Following head block)) = BLOCK_SLOTS + 5
+rank c (Local.Unbounded (chain.Peeking head block after)) = BLOCK_SLOTS + 4
+rank c (Local.Unbounded (chain.Passing head block more)) = BLOCK_SLOTS + 3
+rank c (Local.Unbounded (chain.Entering head block)) = BLOCK_SLOTS + 2
+rank c (Local.Unbounded (chain.Awaiting head block)) = BLOCK_SLOTS + 1
+rank c (Local.Unbounded (chain.Reading block slot)) = walk_rank slot
+rank c (Local.Unbounded (chain.Walking block slot)) = walk_rank slot
+rank c (Local.Unbounded (chain.Destroying block slot)) = walk_rank slot
+rank c (Local.Unbounded chain.LenTail) = 3
+rank c (Local.Unbounded (chain.LenHead tail)) = 2 + lag (tail_word c) tail 3
+rank c (Local.Unbounded (chain.LenAgain tail head)) = 1 + lag (tail_word c) tail 3
+rank c (Local.Unbounded chain.EmptyHead) = 2
 rank c _ = 1
 
 -- the most steps that a call has before it, wherever it stands
@@ -79,33 +75,18 @@ tail_small c head None = either_small (is_seen c.shown) (BLOCK_SLOTS + 10) 1 lon
 tail_small c head (Some block) = let x = lag_small (head_word c) head 3 in omega arith
 
 pub rank_small : {A : Type 0} (c : Chain A) (l : Local ℕ) → rank c l ≤ longest
-rank_small c (local.Unbounded (chain.PushTail d spare)) = omega arith
-rank_small c (local.Unbounded (chain.PushBlock d tail spare)) = let x = lag_small (tail_word c) tail 5 in omega arith
-rank_small c (local.Unbounded (chain.Asking d tail block)) = asking_small c tail block
-rank_small c (local.Unbounded (chain.Installing d tail fresh)) =
+rank_small c (Local.Unbounded (chain.PushBlock d tail spare)) = let x = lag_small (tail_word c) tail 5 in omega arith
+rank_small c (Local.Unbounded (chain.Asking d tail block)) = asking_small c tail block
+rank_small c (Local.Unbounded (chain.Installing d tail fresh)) =
     let x = lag_small (tail_word c) tail 5 in either_small (c.blocks == 0) (7 + lag (tail_word c) tail 5) 12 longest (omega arith) (omega arith)
-rank_small c (local.Unbounded (chain.Showing d tail block)) = let x = lag_small (tail_word c) tail 5 in omega arith
-rank_small c (local.Unbounded (chain.Claiming d tail block spare)) = let x = lag_small (tail_word c) tail 5 in omega arith
-rank_small c (local.Unbounded (chain.Laying d tail block fresh)) = omega arith
-rank_small c (local.Unbounded (chain.Opening d tail block fresh)) = omega arith
-rank_small c (local.Unbounded (chain.Chaining d tail block fresh)) = omega arith
-rank_small c (local.Unbounded chain.PopHead) = omega arith
-rank_small c (local.Unbounded (chain.PopBlock head)) = let x = lag_small (head_word c) head 3 in omega arith
-rank_small c (local.Unbounded (chain.PopTail head block)) = tail_small c head block
-rank_small c (local.Unbounded (chain.Taking head block)) = let x = lag_small (head_word c) head 3 in omega arith
-rank_small c (local.Unbounded (chain.Following head block)) = omega arith
-rank_small c (local.Unbounded (chain.Peeking head block after)) = omega arith
-rank_small c (local.Unbounded (chain.Passing head block more)) = omega arith
-rank_small c (local.Unbounded (chain.Entering head block)) = omega arith
-rank_small c (local.Unbounded (chain.Awaiting head block)) = omega arith
-rank_small c (local.Unbounded (chain.Reading block slot)) = omega arith
-rank_small c (local.Unbounded (chain.Walking block slot)) = omega arith
-rank_small c (local.Unbounded (chain.Destroying block slot)) = omega arith
-rank_small c (local.Unbounded chain.LenTail) = omega arith
-rank_small c (local.Unbounded (chain.LenHead tail)) = let x = lag_small (tail_word c) tail 3 in omega arith
-rank_small c (local.Unbounded (chain.LenAgain tail head)) = let x = lag_small (tail_word c) tail 3 in omega arith
-rank_small c (local.Unbounded chain.EmptyHead) = omega arith
-rank_small c _ = omega arith
+rank_small c (Local.Unbounded (chain.Showing d tail block)) = let x = lag_small (tail_word c) tail 5 in omega arith
+rank_small c (Local.Unbounded (chain.Claiming d tail block spare)) = let x = lag_small (tail_word c) tail 5 in omega arith
+rank_small c (Local.Unbounded (chain.PopBlock head)) = let x = lag_small (head_word c) head 3 in omega arith
+rank_small c (Local.Unbounded (chain.PopTail head block)) = tail_small c head block
+rank_small c (Local.Unbounded (chain.Taking head block)) = let x = lag_small (head_word c) head 3 in omega arith
+rank_small c (Local.Unbounded (chain.LenHead tail)) = let x = lag_small (tail_word c) tail 3 in omega arith
+rank_small c (Local.Unbounded (chain.LenAgain tail head)) = let x = lag_small (tail_word c) tail 3 in omega arith
+rank_small c l = omega arith
 
 asking_some : {A : Type 0} (c : Chain A) (tail : ℕ) (block : Option ℕ) → 0 < asking_rank c tail block
 asking_some c tail None = either_some (c.blocks == 0) (8 + lag (tail_word c) tail 5) 13 (omega arith) (omega arith)
@@ -117,37 +98,15 @@ tail_some c head (Some block) = omega arith
 
 -- a call in progress has a step before it
 pub rank_some : {A : Type 0} (c : Chain A) (l : Local ℕ) → 0 < rank c l
-rank_some c (local.Unbounded (chain.PushTail d spare)) = omega arith
-rank_some c (local.Unbounded (chain.PushBlock d tail spare)) = omega arith
-rank_some c (local.Unbounded (chain.Asking d tail block)) = asking_some c tail block
-rank_some c (local.Unbounded (chain.Installing d tail fresh)) = either_some (c.blocks == 0) (7 + lag (tail_word c) tail 5) 12 (omega arith) (omega arith)
-rank_some c (local.Unbounded (chain.Showing d tail block)) = omega arith
-rank_some c (local.Unbounded (chain.Claiming d tail block spare)) = omega arith
-rank_some c (local.Unbounded (chain.Laying d tail block fresh)) = omega arith
-rank_some c (local.Unbounded (chain.Opening d tail block fresh)) = omega arith
-rank_some c (local.Unbounded (chain.Chaining d tail block fresh)) = omega arith
-rank_some c (local.Unbounded chain.PopHead) = omega arith
-rank_some c (local.Unbounded (chain.PopBlock head)) = omega arith
-rank_some c (local.Unbounded (chain.PopTail head block)) = tail_some c head block
-rank_some c (local.Unbounded (chain.Taking head block)) = omega arith
-rank_some c (local.Unbounded (chain.Following head block)) = omega arith
-rank_some c (local.Unbounded (chain.Peeking head block after)) = omega arith
-rank_some c (local.Unbounded (chain.Passing head block more)) = omega arith
-rank_some c (local.Unbounded (chain.Entering head block)) = omega arith
-rank_some c (local.Unbounded (chain.Awaiting head block)) = omega arith
-rank_some c (local.Unbounded (chain.Reading block slot)) = omega arith
-rank_some c (local.Unbounded (chain.Walking block slot)) = omega arith
-rank_some c (local.Unbounded (chain.Destroying block slot)) = omega arith
-rank_some c (local.Unbounded chain.LenTail) = omega arith
-rank_some c (local.Unbounded (chain.LenHead tail)) = omega arith
-rank_some c (local.Unbounded (chain.LenAgain tail head)) = omega arith
-rank_some c (local.Unbounded chain.EmptyHead) = omega arith
-rank_some c _ = omega arith
+rank_some c (Local.Unbounded (chain.Asking d tail block)) = asking_some c tail block
+rank_some c (Local.Unbounded (chain.Installing d tail fresh)) = either_some (c.blocks == 0) (7 + lag (tail_word c) tail 5) 12 (omega arith) (omega arith)
+rank_some c (Local.Unbounded (chain.PopTail head block)) = tail_some c head block
+rank_some c l = omega arith
 
 -- the call replies, or goes on with fewer steps before it
 abbrev pub Falls : {A : Type 0} → Chain A → Next ℕ → ℕ → Type 0
-Falls s (next.Step l t o) n = rank s l < n
-Falls s (next.Reply x spare) n = Unit {0}
+Falls s (Next.Step l t o) n = rank s l < n
+Falls s (Next.Reply x spare) n = Unit {0}
 
 -- a word that was just read is the same
 pub lag_none : (w n more m : ℕ) → n < m → n + lag w w more < m

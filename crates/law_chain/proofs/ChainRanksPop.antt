@@ -2,13 +2,11 @@
 use Rattle.std.proofs.Common.{ℕ, ◌+◌, ◌/◌, ◌%◌, ◌<◌, ◌≡◌, ◌≢◌, ◌==◌, ◌∙◌, ◌⊎◌, inl, inr, Bool, true, false, if◌then◌else◌, Option, Some, None, refl, sym, ap, subst, arith, bit_and}
 use Rattle.std.proofs.lemmas.Bool.{ne_eqb, eq-eqb}
 use Rattle.std.proofs.lemmas.Bool.Decides.{eqb_tells}
-use Rattle.queue_steps.specs.declared.sizes.TheConstants.{BLOCK_SLOTS}
+use Rattle.law_common.specs.Vocabulary.{BLOCK_SLOTS, TAIL_STEP, WRITE}
 use Rattle.queue_steps.specs.Words.{position_of}
 use Rattle.queue_steps.specs.ChainWords.{block_at, offset_at, offset_of}
 use Rattle.queue_steps.specs.UnboundedNext as steps
 use Rattle.queue_steps.specs.UnboundedNext.{chain_head_found, head_block_found, chain_pop_tail_found, takes, followed, written_found, is_last_slot}
-use Rattle.queue_steps.specs.declared.steps.bounded.TheConstants.{TAIL_STEP}
-use Rattle.queue_steps.specs.declared.steps.unbounded.TheConstants.{WRITE}
 use Rattle.law_common.proofs.Tails.{position_tail}
 use Rattle.law_chain.specs.ChainFacts.{place, head_of, HeadIs, IsMore}
 use Rattle.law_chain.proofs.ChainPlaces.{place_offset}
@@ -44,8 +42,7 @@ pop_block_falls {A} c n false room = go c.shown refl
   where
     go : (s : Shown) → c.shown ≡ s → Falls c (head_block_found (head_of n false) (shown_of s (c.names c.front))) (BLOCK_SLOTS + 8 + lag (head_word c) (head_of n false) 3)
     go Seen e = rw (ne_eqb (head_of n false % 2) 1 (λ z. absurd (omega arith))) (omega arith)
-    go Hidden e = rw (ne_eqb (head_of n false % 2) 1 (λ z. absurd (omega arith)), ap is_seen e) (omega arith)
-    go (Showing p) e = rw (ne_eqb (head_of n false % 2) 1 (λ z. absurd (omega arith)), ap is_seen e) (omega arith)
+    go s e = rw (ne_eqb (head_of n false % 2) 1 (λ z. absurd (omega arith)), ap is_seen e) (omega arith)
 
 -- where nobody is to show the first block and the words differ, it is shown
 shown_then : {A : Type 0} (c : Chain A) (n : ℕ) → ChainOk c → ((p : ℕ) → shower_of c.shown ≢ Some p) → HeadIs c n → position_of (tail_word c) ≢ position_of (head_of n false) → is_seen c.shown ≡ true
@@ -88,7 +85,7 @@ taking_falls c who head name new stood =
     ]
 
 -- where nobody moves the tail or is to link a block, a block that is passed is linked
-linked_then : {A : Type 0} (c : Chain A) (who n : ℕ) → ChainOk c → c.mover ≡ Rests → ((p : ℕ) → linker_of (c.links (n / BLOCK_SLOTS)) ≢ Some p) → (c.passer ≡ Passing who) × (c.head ≡ n + 1) → c.links (n / BLOCK_SLOTS) ≡ Linked
+pub linked_then : {A : Type 0} (c : Chain A) (who n : ℕ) → ChainOk c → c.mover ≡ Rests → ((p : ℕ) → linker_of (c.links (n / BLOCK_SLOTS)) ≢ Some p) → (c.passer ≡ Passing who) × (c.head ≡ n + 1) → c.links (n / BLOCK_SLOTS) ≡ Linked
 linked_then {A} c who n ok rest free pass = go (c.links (n / BLOCK_SLOTS)) refl (ok.link (n / BLOCK_SLOTS))
   where
     front : FrontOk c.head c.front (Passing who)

@@ -1,13 +1,11 @@
 -- The steps of a push have fewer steps before them, one after another, while no other party holds a part of the chain.
 use Rattle.std.proofs.Common.{ℕ, ◌+◌, ◌%◌, ◌<◌, ◌≡◌, ◌≢◌, ◌==◌, ◌∙◌, zero, suc, true, false, if◌then◌else◌, Option, Some, None, refl, sym, ap, arith}
 use Rattle.std.proofs.lemmas.Bool.{ne_eqb, eq-eqb}
-use Rattle.queue_steps.specs.declared.sizes.TheConstants.{BLOCK_SLOTS}
+use Rattle.law_common.specs.Vocabulary.{Local, PushKind, BLOCK_SLOTS}
 use Rattle.queue_steps.specs.Words.{position_of}
 use Rattle.queue_steps.specs.ChainWords.{offset_at, offset_of}
 use Rattle.queue_steps.specs.UnboundedNext as steps
 use Rattle.queue_steps.specs.UnboundedNext.{chain_tail_found, tail_block_found, asks, claims, lays, writes, is_last_slot}
-use Rattle.queue_steps.specs.declared.steps.types.Local.TheVariants as local
-use Rattle.queue_steps.specs.declared.steps.bounded.PushKind.{PushKind}
 use Rattle.queue_steps.specs.declared.steps.unbounded.UnboundedLocal.TheVariants as chain
 use Rattle.law_common.proofs.Tails.{position_tail}
 use Rattle.law_chain.specs.ChainFacts.{place}
@@ -59,10 +57,10 @@ granted_falls c who d tail (Some block) f = omega arith
 
 -- U4: the first block is installed
 pub installing_falls : {A : Type 0} (c : Chain A) (who : ℕ) (d : PushKind) (tail f : ℕ)
-    → Falls (if_installed c who f c.blocks) (steps.installed d tail f (last_of c.names c.blocks)) (rank c (local.Unbounded (chain.Installing d tail f)))
+    → Falls (if_installed c who f c.blocks) (steps.installed d tail f (last_of c.names c.blocks)) (rank c (Local.Unbounded (chain.Installing d tail f)))
 installing_falls {A} c who d tail f = go c.blocks refl
   where
-    go : (n : ℕ) → c.blocks ≡ n → Falls (if_installed c who f n) (steps.installed d tail f (last_of c.names n)) (rank c (local.Unbounded (chain.Installing d tail f)))
+    go : (n : ℕ) → c.blocks ≡ n → Falls (if_installed c who f n) (steps.installed d tail f (last_of c.names n)) (rank c (Local.Unbounded (chain.Installing d tail f)))
     go zero none = rw (eq-eqb c.blocks 0 none) (omega arith)
     go (suc b) some = rw (ne_eqb c.blocks 0 (λ none. absurd (omega (arith, some, none)))) (omega arith)
 

@@ -1,17 +1,10 @@
 -- Each step of a call on a chain leaves fewer steps before it while no other party holds a part of the chain, and each step of a wait-free call always.
 use Rattle.std.proofs.Common.{true, ℕ, ◌+◌, ◌/◌, ◌%◌, ◌<◌, ◌≤◌, ◌≡◌, ◌==◌, not, ◌∙◌, inl, inr, Option, List, refl, sym, ap, subst, arith, bit_and}
-use Rattle.queue_steps.specs.declared.sizes.TheConstants.{BLOCK_SLOTS}
+use Rattle.law_common.specs.Vocabulary.{Call, Effect, Op, Touch, Answer, Local, BLOCK_SLOTS, READ, DESTROY}
 use Rattle.queue_steps.specs.WaitFree.{is_wait_free}
 use Rattle.queue_steps.specs.State.{State}
 use Rattle.queue_steps.specs.ChainWords.{offset_of}
 use Rattle.queue_steps.specs.UnboundedNext.{unbounded_next}
-use Rattle.queue_steps.specs.declared.model.Call.{Call}
-use Rattle.queue_steps.specs.declared.model.Effect.{Effect}
-use Rattle.queue_steps.specs.declared.steps.types.Answer.{Answer}
-use Rattle.queue_steps.specs.declared.steps.types.Local.{Local}
-use Rattle.queue_steps.specs.declared.steps.types.Op.{Op}
-use Rattle.queue_steps.specs.declared.steps.types.Touch.{Touch}
-use Rattle.queue_steps.specs.declared.steps.unbounded.TheConstants.{READ, DESTROY}
 use Rattle.law_common.proofs.Pushes.{never_push}
 use Rattle.law_chain.specs.ChainCells.{Reading, Unread, Chain, ChainOk, item_at, LAST, Write, Read, Head, Next, First, Passed, Nothing}
 use Rattle.law_chain.proofs.ChainReads.{own_item}
@@ -97,26 +90,11 @@ wait_free_falls (opening d x n name f holds mine opens links named) a found wait
 wait_free_falls (chaining d x n name f holds mine links named) a found wait_free = absurd (never_push d x wait_free)
 wait_free_falls (writing d x n name spare holds mine spare_is) a found wait_free = absurd (never_push d x wait_free)
 wait_free_falls (spending d x spare none spare_is spent) a found wait_free = absurd (never_push d x wait_free)
-wait_free_falls (pop_head none) a found wait_free = cc
-wait_free_falls (pop_block n more none is room) a found wait_free = cc
-wait_free_falls (pop_tail n block none is front) a found wait_free = cc
-wait_free_falls (taking n name next more new none is front there word_is room) a found wait_free = cc
-wait_free_falls (following x n name more holds got pass) a found wait_free = cc
-wait_free_falls (peeking x n name after more holds got pass behind) a found wait_free = cc
-wait_free_falls (passing x n name after more further holds got pass behind room) a found wait_free = cc
-wait_free_falls (entering x n name more further holds got enters room) a found wait_free = cc
-wait_free_falls (awaiting x n name more holds got) a found wait_free = cc
-wait_free_falls (reading x n name more holds got wrote inner) a found wait_free = cc
-wait_free_falls (beginning x n name more holds got wrote last) a found wait_free = cc
-wait_free_falls (walking x b name slot holds is named) a found wait_free = cc
-wait_free_falls (destroying x b name slot holds is named) a found wait_free = cc
-wait_free_falls (len_tail none) a found wait_free = cc
-wait_free_falls (len_head w none small low) a found wait_free = cc
-wait_free_falls (len_again w h none small seen) a found wait_free = cc
 wait_free_falls (empty_head none) a found wait_free = rw found (omega arith)
 wait_free_falls (empty_tail h none small saw) a found wait_free = rw found tt
 wait_free_falls (closing none) a found wait_free = rw found tt
 wait_free_falls (closed_tail none) a found wait_free = rw found tt
+wait_free_falls at a found wait_free = cc
 
 -- a wait-free call has two steps before it at most, whatever the chain
 pub wait_free_small : {A : Type 0} {c : Chain A} {who : ℕ} {ms : List (State A)} {l : Local ℕ} {t : Touch} {o : Op ℕ} {v : Option A} {k : Call A} {es : List (Effect A)} (s : Chain A)
@@ -132,23 +110,8 @@ wait_free_small s (opening d x n name f holds mine opens links named) wait_free 
 wait_free_small s (chaining d x n name f holds mine links named) wait_free = absurd (never_push d x wait_free)
 wait_free_small s (writing d x n name spare holds mine spare_is) wait_free = absurd (never_push d x wait_free)
 wait_free_small s (spending d x spare none spare_is spent) wait_free = absurd (never_push d x wait_free)
-wait_free_small s (pop_head none) wait_free = cc
-wait_free_small s (pop_block n more none is room) wait_free = cc
-wait_free_small s (pop_tail n block none is front) wait_free = cc
-wait_free_small s (taking n name next more new none is front there word_is room) wait_free = cc
-wait_free_small s (following x n name more holds got pass) wait_free = cc
-wait_free_small s (peeking x n name after more holds got pass behind) wait_free = cc
-wait_free_small s (passing x n name after more further holds got pass behind room) wait_free = cc
-wait_free_small s (entering x n name more further holds got enters room) wait_free = cc
-wait_free_small s (awaiting x n name more holds got) wait_free = cc
-wait_free_small s (reading x n name more holds got wrote inner) wait_free = cc
-wait_free_small s (beginning x n name more holds got wrote last) wait_free = cc
-wait_free_small s (walking x b name slot holds is named) wait_free = cc
-wait_free_small s (destroying x b name slot holds is named) wait_free = cc
-wait_free_small s (len_tail none) wait_free = cc
-wait_free_small s (len_head w none small low) wait_free = cc
-wait_free_small s (len_again w h none small seen) wait_free = cc
 wait_free_small s (empty_head none) wait_free = (omega arith, refl)
 wait_free_small s (empty_tail h none small saw) wait_free = (omega arith, refl)
 wait_free_small s (closing none) wait_free = (omega arith, refl)
 wait_free_small s (closed_tail none) wait_free = (omega arith, refl)
+wait_free_small s x wait_free = cc

@@ -1,50 +1,41 @@
 -- The steps of the walk over a passed block, and of the calls that look, have fewer steps before them while no other party holds a part of the chain.
 use Rattle.std.proofs.Common.{ℕ, ◌+◌, ◌-◌, ◌<◌, ◌≤◌, ◌≡◌, ◌≢◌, ◌==◌, ◌∙◌, Bool, true, false, if◌then◌else◌, nat_lt, Some, Ok, List, refl, sym, ap, subst, arith, bit_and}
 use Rattle.std.proofs.lemmas.Bool.{cond_both, ltb-true}
-use Rattle.queue_steps.specs.declared.sizes.TheConstants.{BLOCK_SLOTS}
-use Rattle.queue_steps.specs.declared.model.Reply.TheVariants as reply
-use Rattle.queue_steps.specs.declared.steps.types.Answer.TheVariants as answer
-use Rattle.queue_steps.specs.declared.steps.types.Next.TheVariants as next
-use Rattle.queue_steps.specs.declared.steps.types.Touch.TheVariants as touch
-use Rattle.queue_steps.specs.declared.steps.unbounded.TheConstants.{READ}
+use Rattle.law_common.specs.Vocabulary.{Reply, Word, Touch, Answer, Next, BLOCK_SLOTS, READ}
 use Rattle.queue_steps.specs.declared.steps.unbounded.UnboundedLocal.TheVariants as chain
-use Rattle.queue_steps.specs.declared.steps.types.Word.TheVariants as word
 use Rattle.queue_steps.specs.Words.{position_of}
 use Rattle.queue_steps.specs.ChainWords.{items_before}
 use Rattle.queue_steps.specs.UnboundedNext.{ends, loads, walks, walks_on, unbounded_next}
-use Rattle.law_chain.specs.ChainCells.{Writer, Free, Writing, Wrote, Reader, Unread, Reading, Done, Walker, Chain, ItemOk, WalkOk, item_at, LAST, ChainOk, reader_of}
+use Rattle.law_chain.specs.ChainCells.{Writer, Free, Writing, Reader, Unread, Reading, Done, Walker, Chain, ItemOk, WalkOk, item_at, LAST, ChainOk, reader_of}
 use Rattle.law_chain.specs.ChainAnswers.{tail_word, is_done}
 use Rattle.law_chain.proofs.ChainRanks.{lag, walk_rank, Falls}
 
 -- the walk goes on after a slot
 on_falls : {A : Type 0} (s : Chain A) (name slot : ℕ) → Falls s (walks_on name slot) (walk_rank slot)
 on_falls s name slot =
-    cond_both (nat_lt (slot + 2) BLOCK_SLOTS) (walks name (slot + 1) touch.Nothing) (next.Reply (reply.Pop (Ok tt)) (Some name)) (λ x. Falls s x (walk_rank slot))
+    cond_both (nat_lt (slot + 2) BLOCK_SLOTS) (walks name (slot + 1) Touch.Nothing) (Next.Reply (Reply.Pop (Ok tt)) (Some name)) (λ x. Falls s x (walk_rank slot))
     (λ on. let lt = ltb-true (slot + 2) BLOCK_SLOTS on in omega arith) (λ over. tt)
 
 -- V10, W2: the walk goes on after the slot, or the call replies
-pub maybe_on_falls : {A : Type 0} (s : Chain A) (on : Bool) (name slot : ℕ) → Falls s (if on then walks_on name slot else ends (reply.Pop (Ok tt))) (walk_rank slot)
+pub maybe_on_falls : {A : Type 0} (s : Chain A) (on : Bool) (name slot : ℕ) → Falls s (if on then walks_on name slot else ends (Reply.Pop (Ok tt))) (walk_rank slot)
 maybe_on_falls s true name slot = on_falls s name slot
 maybe_on_falls s false name slot = tt
 
 -- W1: the state of a passed block's slot is read, and its item was read
-pub walking_falls : {A : Type 0} (s : Chain A) (name slot st : ℕ) → (bit_and st READ == 0) ≡ false → Falls s (unbounded_next (chain.Walking name slot) (answer.Found st)) (walk_rank slot)
+pub walking_falls : {A : Type 0} (s : Chain A) (name slot st : ℕ) → (bit_and st READ == 0) ≡ false → Falls s (unbounded_next (chain.Walking name slot) (Answer.Found st)) (walk_rank slot)
 walking_falls s name slot st read = rw read (on_falls s name slot)
 
 -- an item that is claimed has left the list
 claimed_low : {A : Type 0} (head tail : ℕ) (items : List A) (n : ℕ) (w : Writer A) (r : Reader) → r ≢ Unread → ItemOk head tail items n w r → n < head
 claimed_low head tail items n w Unread ne ok = absurd (ne refl)
-claimed_low head tail items n (Writing p v) (Reading q) ne ok = ok
-claimed_low head tail items n (Wrote v) (Reading q) ne ok = ok
-claimed_low head tail items n (Wrote v) Done ne ok = ok
 claimed_low head tail items n Free (Reading q) ne ok = absurd ok
 claimed_low head tail items n Free Done ne ok = absurd ok
 claimed_low head tail items n (Writing p v) Done ne ok = absurd ok
+claimed_low head tail items n w r ne ok = ok
 
 unclaimed_high : {A : Type 0} (head tail : ℕ) (items : List A) (n : ℕ) (w : Writer A) → head ≤ tail → ItemOk head tail items n w Unread → head ≤ n
 unclaimed_high head tail items n Free low ok = omega arith
-unclaimed_high head tail items n (Writing p v) low ok = ok.0
-unclaimed_high head tail items n (Wrote v) low ok = ok.0
+unclaimed_high head tail items n w low ok = ok.0
 
 -- where nobody is to read an item before one that was claimed, it is read
 pub done_then : {A : Type 0} (c : Chain A) (m n : ℕ) → ChainOk c → ((p : ℕ) → reader_of (c.readers m) ≢ Some p) → c.readers n ≢ Unread → m ≤ n → is_done (c.readers m) ≡ true
@@ -65,6 +56,6 @@ last_claimed c who b slot ok is =
     (at.0, λ e. let z : Done ≡ Unread = sym (at.1.0) ∙ e in cc)
 
 -- Y3: the tail is read again, after the head
-pub len_again_falls : {A : Type 0} (c : Chain A) (t h : ℕ) → Falls c (unbounded_next (chain.LenAgain t h) (answer.Found (tail_word c))) (1 + lag (tail_word c) t 3)
+pub len_again_falls : {A : Type 0} (c : Chain A) (t h : ℕ) → Falls c (unbounded_next (chain.LenAgain t h) (Answer.Found (tail_word c))) (1 + lag (tail_word c) t 3)
 len_again_falls c t h =
-    elim (tail_word c == t) as (λ b. Falls c (if b then ends (reply.Len (items_before (position_of t) - items_before (position_of h))) else loads chain.LenTail word.Tail) (1 + (if b then 0 else 3))) [ true ↦ tt | false ↦ omega arith ]
+    elim (tail_word c == t) as (λ b. Falls c (if b then ends (Reply.Len (items_before (position_of t) - items_before (position_of h))) else loads chain.LenTail Word.Tail) (1 + (if b then 0 else 3))) [ true ↦ tt | false ↦ omega arith ]

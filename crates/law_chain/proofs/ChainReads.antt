@@ -1,28 +1,24 @@
 -- The steps of pops that change a chain: each keeps the chain right, and its effect fits.
 use Rattle.std.proofs.Common.{ℕ, ◌+◌, ◌-◌, ◌*◌, ◌/◌, ◌%◌, ◌<◌, ◌≤◌, ◌≡◌, ◌≢◌, ◌∙◌, inl, inr, Bool, true, Some, List, refl, sym, ap, subst, arith, slice_get}
 use Rattle.std.proofs.lemmas.Bool.Decides.{eqb_tells}
-use Rattle.queue_steps.specs.declared.sizes.TheConstants.{BLOCK_SLOTS}
-use Rattle.queue_steps.specs.declared.model.Effect.TheVariants as effect
+use Rattle.law_common.specs.Vocabulary.{Effect, BLOCK_SLOTS}
 use Rattle.queue_steps.specs.Effect.{Fits, rest}
 use Rattle.law_common.specs.Puts.{put}
 use Rattle.law_common.proofs.Puts.{put_ok}
 use Rattle.law_common.proofs.Lists.{behind, first, length-rest}
 use Rattle.law_chain.proofs.ChainTransitions.{items_ok}
-use Rattle.law_chain.specs.ChainCells.{Writer, Free, Writing, Wrote, Reader, Unread, Reading, Done, Passer, Stands, Passing, Entering, Opening, Linking, Linked, Shown, Hidden, Showing, Seen, Walk, Before, Walker, Waits, GivenUp, Chain, queue_of, value, ItemOk, LinkOk, FrontOk, ShownOk, WalkOk, IsWalked, item_at, LAST, ChainOk}
+use Rattle.law_chain.specs.ChainCells.{Writer, Free, Writing, Wrote, Reader, Unread, Reading, Done, Passer, Stands, Passing, Entering, Opening, Linking, Linked, Shown, Seen, Walk, Before, Walker, Waits, GivenUp, Chain, queue_of, value, ItemOk, LinkOk, FrontOk, ShownOk, WalkOk, IsWalked, item_at, LAST, ChainOk}
 use Rattle.law_chain.specs.ChainTransitions.{taken, passed, entered, reads, walk_after, walked}
 
 -- an item that is in the list: nobody reads it, and it is the one at its place
 pub in_list : {A : Type 0} (head tail : ℕ) (items : List A) (n : ℕ) (w : Writer A) (r : Reader) → head ≤ n → n < tail → ItemOk head tail items n w r
     → (r ≡ Unread) × ((x : A) × (value w ≡ Some x) × (slice_get items (n - head) ≡ Some x))
-in_list head tail items n Free Unread low lt ok = absurd (omega arith)
 in_list head tail items n (Writing who v) Unread low lt ok = (refl, (v, refl, ok.2))
 in_list head tail items n (Wrote v) Unread low lt ok = (refl, (v, refl, ok.2))
-in_list head tail items n (Writing who v) (Reading p) low lt ok = absurd (omega arith)
-in_list head tail items n (Wrote v) (Reading p) low lt ok = absurd (omega arith)
-in_list head tail items n (Wrote v) Done low lt ok = absurd (omega arith)
 in_list head tail items n Free (Reading p) low lt ok = absurd ok
 in_list head tail items n Free Done low lt ok = absurd ok
 in_list head tail items n (Writing who v) Done low lt ok = absurd ok
+in_list head tail items n w r low lt ok = absurd (omega arith)
 
 -- the front, where the queue is not empty
 pub front_is : {A : Type 0} (c : Chain A) → ChainOk c → c.head < c.tail → (c.readers c.head ≡ Unread) × ((x : A) × (value (c.writers c.head) ≡ Some x) × (slice_get c.items 0 ≡ Some x))
@@ -36,17 +32,14 @@ item_take : {A : Type 0} (head tail : ℕ) (items : List A) (n : ℕ) (w : Write
 item_take head tail items n Free Unread ne ok = ok
 item_take head tail items n (Writing who v) Unread ne ok = let low = ok.0 in (omega arith, ok.1, behind items n head v (omega arith) ok.2)
 item_take head tail items n (Wrote v) Unread ne ok = let low = ok.0 in (omega arith, ok.1, behind items n head v (omega arith) ok.2)
-item_take head tail items n (Writing who v) (Reading p) ne ok = omega arith
-item_take head tail items n (Wrote v) (Reading p) ne ok = omega arith
-item_take head tail items n (Wrote v) Done ne ok = omega arith
 item_take head tail items n Free (Reading p) ne ok = absurd ok
 item_take head tail items n Free Done ne ok = absurd ok
 item_take head tail items n (Writing who v) Done ne ok = absurd ok
+item_take head tail items n w r ne ok = omega arith
 
 item_claim : {A : Type 0} (head tail : ℕ) (items : List A) (n who : ℕ) (w : Writer A) (x : A) → n < head → value w ≡ Some x → ItemOk head tail items n w (Reading who)
 item_claim head tail items n who Free x lt e = cc
-item_claim head tail items n who (Writing p v) x lt e = lt
-item_claim head tail items n who (Wrote v) x lt e = lt
+item_claim head tail items n who w x lt e = lt
 
 -- a change of the readers that leaves what is read
 pub walked_same : (f g : ℕ → Reader) (b slot : ℕ) → ((n : ℕ) → f n ≡ Done → g n ≡ Done) → IsWalked f b slot → IsWalked g b slot
@@ -60,7 +53,7 @@ walk_same f g b GivenUp keeps back h = walked_same f g b LAST keeps h
 
 pub take_ok : {A : Type 0} (c : Chain A) (who : ℕ) (p : Passer) (more : Bool) (x : A) → ChainOk c → c.head < c.tail → value (c.writers c.head) ≡ Some x → c.shown ≡ Seen
     → FrontOk (c.head + 1) c.front p → (more ≡ true → p ≡ Stands → (c.head + 1) / BLOCK_SLOTS * BLOCK_SLOTS + BLOCK_SLOTS ≤ c.tail)
-    → Fits (effect.Take x) (queue_of c) × ChainOk (taken c who p more)
+    → Fits (Effect.Take x) (queue_of c) × ChainOk (taken c who p more)
 take_ok {A} c who p more x ok lt is shown fronted knows =
     let f = front_is c ok lt in
     let same : f.1.0 ≡ x = let e : Some f.1.0 ≡ Some x = sym f.1.1 ∙ is in cc in
@@ -112,9 +105,8 @@ pub passer_sees : {A : Type 0} (c : Chain A) → ChainOk c → c.passer ≢ Stan
 passer_sees {A} c ok moving = go c.shown refl ok.seen
   where
     go : (s : Shown) → c.shown ≡ s → ShownOk c.blocks c.head c.front c.known c.passer s → c.shown ≡ Seen
-    go Hidden is h = absurd (moving h.4)
-    go (Showing who) is h = absurd (moving h.4)
     go Seen is h = is
+    go s is h = absurd (moving h.4)
 
 pub pass_ok : {A : Type 0} (c : Chain A) (who : ℕ) → ChainOk c → c.passer ≡ Passing who → c.links c.front ≡ Linked → ChainOk (passed c who)
 pass_ok c who ok is linked =
@@ -180,3 +172,13 @@ walk_after_ok f b who slot lt h read = elim (eqb_tells (slot + 1) LAST) [ inl t 
 
 pub walk_ok : {A : Type 0} (c : Chain A) (b : ℕ) (w : Walk) → ChainOk c → WalkOk c.readers b w → ChainOk (walked c b w)
 walk_ok c b w ok walk = items_ok c c.closed c.writers c.readers (put c.walks b w) ok ok.item (λ j. put_ok c.walks b j w (λ j x. WalkOk c.readers j x) walk (λ ne. ok.walk j))
+
+-- a block with a slot that is not read is not given up
+pub not_given_up : {A : Type 0} (c : Chain A) (n : ℕ) → ChainOk c → c.readers n ≢ Done → c.walks (n / BLOCK_SLOTS) ≢ GivenUp
+not_given_up {A} c n ok unread e = unread (elim (eqb_tells (n % BLOCK_SLOTS) LAST) [
+  | inl t ↦ (let last = t.1 in let is : n ≡ item_at (n / BLOCK_SLOTS) LAST = omega arith in ap c.readers is ∙ walked.0)
+  | inr t ↦ (let ne = t.1 in let is : n ≡ item_at (n / BLOCK_SLOTS) (n % BLOCK_SLOTS) = omega arith in ap c.readers is ∙ walked.1 (n % BLOCK_SLOTS) (omega arith))
+])
+  where
+    walked : IsWalked c.readers (n / BLOCK_SLOTS) LAST
+    walked = subst (λ w. WalkOk c.readers (n / BLOCK_SLOTS) w) e (ok.walk (n / BLOCK_SLOTS))

@@ -4,16 +4,7 @@ use Rattle.queue_steps.specs.State.{State}
 use Rattle.queue_steps.specs.Kinds.{filled}
 use Rattle.queue_steps.specs.Replies.{Tells, Allows}
 use Rattle.queue_steps.specs.UnboundedNext.{FitsChain, unbounded_next}
-use Rattle.queue_steps.specs.declared.model.Call.{Call}
-use Rattle.queue_steps.specs.declared.model.Reply.{Reply}
-use Rattle.queue_steps.specs.declared.model.Effect.{Effect}
-use Rattle.queue_steps.specs.declared.steps.types.Answer.{Answer}
-use Rattle.queue_steps.specs.declared.steps.types.Local.{Local}
-use Rattle.queue_steps.specs.declared.steps.types.Next.{Next}
-use Rattle.queue_steps.specs.declared.steps.types.Next.TheVariants as next
-use Rattle.queue_steps.specs.declared.steps.types.Op.{Op}
-use Rattle.queue_steps.specs.declared.steps.types.Touch.{Touch}
-use Rattle.queue_steps.specs.declared.steps.unbounded.UnboundedLocal.{UnboundedLocal}
+use Rattle.law_common.specs.Vocabulary.{Call, Reply, Effect, Op, Touch, Answer, Local, Next, UnboundedLocal}
 use Rattle.law_common.specs.Moments.{SeenIn}
 use Rattle.law_common.specs.Effects.{Leads, with_effect}
 use Rattle.law_chain.specs.ChainCells.{Chain, queue_of, ChainOk, Holds, Nothing}
@@ -28,13 +19,13 @@ use Rattle.law_chain.proofs.ChainSpares.{SparesAfter, step_spares}
 
 -- what is given up with a reply is the call's to give
 abbrev pub Gives : {A : Type 0} → Chain A → ℕ → Next ℕ → Type 0
-Gives r who (next.Step l t o) = Unit {0}
-Gives r who (next.Reply x spare) = GivesUp r who spare
+Gives r who (Next.Step l t o) = Unit {0}
+Gives r who (Next.Reply x spare) = GivesUp r who spare
 
 -- the call stands on, with no spare but that in its hands, or it ends with a reply that is right, and its party holds nothing
 abbrev pub Ends : {A : Type 0} → Chain A → ℕ → List (State A) → Next ℕ → Option A → Call A → List (Effect A) → Type 0
-Ends s who ms (next.Step l t o) v k es = At s who ms l t o v k es × Spares s who (spare_in l)
-Ends {A} s who ms (next.Reply x spare) v k es = Holds s who Nothing × Spares s who None × ((y : Reply A) × (filled x v ≡ Some y) × Tells k y es × (es ≡ [] → SeenIn ms (Allows k y)))
+Ends s who ms (Next.Step l t o) v k es = At s who ms l t o v k es × Spares s who (spare_in l)
+Ends {A} s who ms (Next.Reply x spare) v k es = Holds s who Nothing × Spares s who None × ((y : Reply A) × (filled x v ≡ Some y) × Tells k y es × (es ≡ [] → SeenIn ms (Allows k y)))
 
 -- the step that got this answer leads from the chain c to r, and a block given up with it from there: it is a step of the queue
 pub record Right {A : Type 0} (c r : Chain A) (who : ℕ) (ms : List (State A)) (l : UnboundedLocal ℕ) (v : Option A) (k : Call A) (es : List (Effect A)) (a : Answer ℕ) : Type 0 where
@@ -48,26 +39,26 @@ pub record Right {A : Type 0} (c r : Chain A) (who : ℕ) (ms : List (State A)) 
   pub ends : Ends (left_by r (unbounded_next l a)) who (queue_of (left_by r (unbounded_next l a)) ∷ ms) (unbounded_next l a) v k (with_effect es e)
 
 goes_gives : {A : Type 0} (r : Chain A) (who : ℕ) (ms : List (State A)) (n : Next ℕ) (v : Option A) (k : Call A) (es : List (Effect A)) → Goes r who ms n v k es → Gives r who n
-goes_gives r who ms (next.Step l t o) v k es goes = tt
-goes_gives r who ms (next.Reply x spare) v k es goes = goes.1
+goes_gives r who ms (Next.Step l t o) v k es goes = tt
+goes_gives r who ms (Next.Reply x spare) v k es goes = goes.1
 
 left_ok : {A : Type 0} (r : Chain A) (n : Next ℕ) → ChainOk r → ChainOk (left_by r n)
-left_ok r (next.Step l t o) ok = ok
-left_ok r (next.Reply x spare) ok = given_ok r spare ok
+left_ok r (Next.Step l t o) ok = ok
+left_ok r (Next.Reply x spare) ok = given_ok r spare ok
 
 left_makes : {A : Type 0} (c r : Chain A) (n : Next ℕ) (e : Option (Effect A)) → Leads (queue_of c) e (queue_of r) → Leads (queue_of c) e (queue_of (left_by r n))
-left_makes c r (next.Step l t o) e h = h
-left_makes c r (next.Reply x spare) e h = makes_given c r spare e h
+left_makes c r (Next.Step l t o) e h = h
+left_makes c r (Next.Reply x spare) e h = makes_given c r spare e h
 
 left_passes : {A : Type 0} (c r : Chain A) (who : ℕ) (n : Next ℕ) → ChainOk r → Gives r who n → Passes who c r → Passes who c (left_by r n)
-left_passes c r who (next.Step l t o) ok gives pass = pass
-left_passes c r who (next.Reply x spare) ok gives pass = passes_given c r who spare ok gives pass
+left_passes c r who (Next.Step l t o) ok gives pass = pass
+left_passes c r who (Next.Reply x spare) ok gives pass = passes_given c r who spare ok gives pass
 
 left_ends : {A : Type 0} (r : Chain A) (who : ℕ) (ms : List (State A)) (n : Next ℕ) (v : Option A) (k : Call A) (es : List (Effect A))
     → Goes r who (queue_of r ∷ ms) n v k es → SparesAfter r who n → Ends (left_by r n) who (queue_of (left_by r n) ∷ ms) n v k es
-left_ends r who ms (next.Step l t o) v k es goes only = (goes, only)
-left_ends r who ms (next.Reply x None) v k es goes only = (goes.0, only, goes.2)
-left_ends r who ms (next.Reply x (Some f)) v k es goes only = (holds_given r who (Some f) Nothing goes.0, only, goes.2)
+left_ends r who ms (Next.Step l t o) v k es goes only = (goes, only)
+left_ends r who ms (Next.Reply x None) v k es goes only = (goes.0, only, goes.2)
+left_ends r who ms (Next.Reply x (Some f)) v k es goes only = (holds_given r who (Some f) Nothing goes.0, only, goes.2)
 
 -- each step of a call is right, wherever the call stands
 pub step_right : {A : Type 0} {c : Chain A} {who : ℕ} {ms : List (State A)} {l : Local ℕ} {t : Touch} {o : Op ℕ} {v : Option A} {k : Call A} {es : List (Effect A)} (at : At c who ms l t o v k es) (a : Answer ℕ)

@@ -1,12 +1,12 @@
 -- At least the blocks that the items of a chain span are alive.
 use Rattle.std.proofs.Common.{ℕ, ◌+◌, ◌-◌, ◌/◌, ◌<◌, ◌≤◌, ◌≡◌, ◌≢◌, not, ◌∙◌, inl, inr, Bool, true, false, List, length, refl, ap, arith}
-use Rattle.queue_steps.specs.declared.sizes.TheConstants.{BLOCK_SLOTS}
+use Rattle.law_common.specs.Vocabulary.{BLOCK_SLOTS}
 use Rattle.queue_steps.specs.Sequential.{blocks_of}
 use Rattle.queue_steps.specs.Words.{position_of}
 use Rattle.queue_steps.specs.ChainWords.{items_before}
 use Rattle.law_common.specs.Puts.{put}
 use Rattle.law_common.proofs.Puts.{put_ok}
-use Rattle.law_chain.specs.ChainCells.{Writer, Free, Writing, Wrote, Reader, Unread, Reading, Done, Mover, Rests, Laying, Opening, Walk, Before, Walker, Waits, GivenUp, Use, Spare, Chained, Chain, queue_of, ItemOk, BlocksOk, WalkOk, item_at, LAST, ChainOk}
+use Rattle.law_chain.specs.ChainCells.{Writer, Wrote, Reader, Unread, Reading, Done, Mover, Rests, Laying, Opening, Walk, GivenUp, Use, Spare, Chained, Chain, queue_of, ItemOk, BlocksOk, WalkOk, item_at, LAST, ChainOk}
 use Rattle.law_chain.specs.ChainAnswers.{tail_word, head_word}
 use Rattle.law_chain.proofs.ChainAnswers.{tail_items, head_items}
 use Rattle.law_chain.proofs.ChainHands.{HandOf, hand_is}
@@ -20,17 +20,14 @@ place_of next _ = next
 
 pub not_done : {A : Type 0} (head tail : ℕ) (items : List A) (n : ℕ) (w : Writer A) (r : Reader) → ItemOk head tail items n w r → head ≤ n → r ≢ Done
 not_done head tail items n (Wrote v) Done ok le e = omega arith
-not_done head tail items n Free Done ok le e = ok
-not_done head tail items n (Writing who v) Done ok le e = ok
 not_done head tail items n w Unread ok le e = cc
 not_done head tail items n w (Reading p) ok le e = cc
+not_done head tail items n w Done ok le e = ok
 
 -- a block from the head's on is not given up
 not_given_up : {A : Type 0} (c : Chain A) (b : ℕ) (w : Walk) → ChainOk c → c.head / BLOCK_SLOTS ≤ b → WalkOk c.readers b w → is_given_up w ≡ false
-not_given_up c b Before ok le walk = refl
-not_given_up c b (Walker who slot) ok le walk = refl
-not_given_up c b (Waits slot) ok le walk = refl
 not_given_up c b GivenUp ok le walk = absurd (not_done c.head c.tail c.items (item_at b LAST) (c.writers (item_at b LAST)) (c.readers (item_at b LAST)) (ok.item (item_at b LAST)) (omega arith) walk.0)
+not_given_up c b w ok le walk = refl
 
 -- it is alive, and its use says its place
 stands : {A : Type 0} (c : Chain A) (b next : ℕ) → ChainOk c → c.head / BLOCK_SLOTS ≤ b → b < c.blocks → (alive c (c.names b) ≡ true) × (place_of next (c.uses (c.names b)) ≡ b)

@@ -1,21 +1,9 @@
 -- A party never has a spare but that in its call's hands.
 use Rattle.std.proofs.Common.{ℕ, ◌+◌, ◌/◌, ◌≡◌, ◌==◌, ◌∙◌, inl, inr, zero, suc, Bool, true, false, if◌then◌else◌, Option, Some, None, List, ◌∷◌, refl, sym, subst}
-use Rattle.queue_steps.specs.declared.sizes.TheConstants.{BLOCK_SLOTS}
+use Rattle.law_common.specs.Vocabulary.{Call, Effect, Op, Touch, Answer, Local, Next, PushKind, BLOCK_SLOTS}
 use Rattle.queue_steps.specs.State.{State}
 use Rattle.queue_steps.specs.ChainWords.{offset_of}
 use Rattle.queue_steps.specs.UnboundedNext.{unbounded_next, chain_tail_found, tail_block_found, asks, claims, granted, lays, writes}
-use Rattle.queue_steps.specs.declared.model.Call.{Call}
-use Rattle.queue_steps.specs.declared.model.Call.TheVariants as call
-use Rattle.queue_steps.specs.declared.model.Effect.{Effect}
-use Rattle.queue_steps.specs.declared.steps.types.Answer.{Answer}
-use Rattle.queue_steps.specs.declared.steps.types.Answer.TheVariants as answer
-use Rattle.queue_steps.specs.declared.steps.types.Local.{Local}
-use Rattle.queue_steps.specs.declared.steps.types.Next.{Next}
-use Rattle.queue_steps.specs.declared.steps.types.Next.TheVariants as next
-use Rattle.queue_steps.specs.declared.steps.types.Op.{Op}
-use Rattle.queue_steps.specs.declared.steps.types.Touch.{Touch}
-use Rattle.queue_steps.specs.declared.steps.bounded.PushKind.{PushKind}
-use Rattle.queue_steps.specs.declared.steps.bounded.PushKind.TheVariants as kind
 use Rattle.queue_steps.specs.declared.steps.unbounded.UnboundedLocal.TheVariants as chain
 use Rattle.law_common.proofs.Puts.{put_ok}
 use Rattle.law_common.specs.Effects.{with_effect}
@@ -34,18 +22,18 @@ use Rattle.law_chain.proofs.ChainStep.{step_good}
 
 -- whether the call pushes
 abbrev is_push : {A : Type 0} → Call A → Bool
-is_push (call.Push v) = true
-is_push (call.ForcePush v) = true
+is_push (Call.Push v) = true
+is_push (Call.ForcePush v) = true
 is_push _ = false
 
 -- after a step the party has no spare but that in its hands; after a reply, none
 abbrev pub SparesAfter : {A : Type 0} → Chain A → ℕ → Next ℕ → Type 0
-SparesAfter s who (next.Step l t o) = Spares s who (spare_in l)
-SparesAfter s who (next.Reply x spare) = Spares (given_up s spare) who None
+SparesAfter s who (Next.Step l t o) = Spares s who (spare_in l)
+SparesAfter s who (Next.Reply x spare) = Spares (given_up s spare) who None
 
 push_is : {A : Type 0} (d : PushKind) (v : A) → is_push (pushes d v) ≡ true
-push_is kind.Push v = refl
-push_is kind.Force v = refl
+push_is PushKind.Push v = refl
+push_is PushKind.Force v = refl
 
 no_push : {A : Type 0} (d : PushKind) (v : A) (X : Type 0) → is_push (pushes d v) ≡ false → X
 no_push d v X e = let z : true ≡ false = sym (push_is d v) ∙ e in cc
@@ -62,8 +50,8 @@ no_spare (spending d x spare none spare_is spent) e = no_push d x (spare ≡ Non
 no_spare _ e = refl
 
 others_spares : {A : Type 0} (s : Chain A) (who : ℕ) (ms : List (State A)) (n : Next ℕ) (v : Option A) (k : Call A) (es : List (Effect A)) → is_push k ≡ false → Goes s who ms n v k es → Spares s who None → SparesAfter s who n
-others_spares s who ms (next.Step l t o) v k es other_call at only = subst (λ x. Spares s who x) (sym (no_spare at other_call)) only
-others_spares s who ms (next.Reply x spare) v k es other_call goes only = none_given s who spare only
+others_spares s who ms (Next.Step l t o) v k es other_call at only = subst (λ x. Spares s who x) (sym (no_spare at other_call)) only
+others_spares s who ms (Next.Reply x spare) v k es other_call goes only = none_given s who spare only
 
 tail_spares : {A : Type 0} (s : Chain A) (who : ℕ) (d : PushKind) (x : ℕ) (spare : Option ℕ) → Spares s who spare → SparesAfter s who (chain_tail_found d x spare)
 tail_spares s who d x spare only = tail_ways d x spare (λ n. SparesAfter s who n) (λ shut. spares_given s who spare only) (λ opened spent. only) (λ over. only) (λ opened ne inner. only)
@@ -91,21 +79,19 @@ granted_spares {A} c who d tail block f only = go block
 laid_spares : {A : Type 0} (c : Chain A) (who f b : ℕ) → Spares c who (Some f) → Spares (renamed c f (Chained b)) who None
 laid_spares c who f b only g = put_ok c.uses f g (Chained b) (λ j u. u ≡ Spare who → None ≡ Some j) (λ e. let z : Chained b ≡ Spare who = e in cc) (λ ne e. absurd (ne (let z = only g e in cc)))
 
-installed_spares : {A : Type 0} (c : Chain A) (who : ℕ) (d : PushKind) (f n : ℕ) → Spares c who (Some f) → SparesAfter (if_installed c who f n) who (unbounded_next (chain.Installing d (open_tail_of 0) f) (answer.Linked (last_of c.names n)))
+installed_spares : {A : Type 0} (c : Chain A) (who : ℕ) (d : PushKind) (f n : ℕ) → Spares c who (Some f) → SparesAfter (if_installed c who f n) who (unbounded_next (chain.Installing d (open_tail_of 0) f) (Answer.Linked (last_of c.names n)))
 installed_spares c who d f zero only = laid_spares c who f c.blocks only
 installed_spares c who d f (suc b) only = only
 
 claimed_uses : {A : Type 0} (c : Chain A) (who : ℕ) (v : A) (same last : Bool) (spare : Option ℕ) → Spares c who spare → Spares (claimed_if c who v same last) who spare
 claimed_uses c who v true true spare only = only
-claimed_uses c who v true false spare only = only
-claimed_uses c who v false last spare only = only
+claimed_uses c who v same last spare only = only
 
 taken_uses : {A : Type 0} (c : Chain A) (who : ℕ) (more same last : Bool) → Spares c who None → Spares (taken_if c who more same last) who None
 taken_uses c who more true true only = only
-taken_uses c who more true false only = only
-taken_uses c who more false last only = only
+taken_uses c who more same last only = only
 
-claimed_spares : {A : Type 0} (s : Chain A) (who : ℕ) (d : PushKind) (tail name found : ℕ) (spare : Option ℕ) → Spares s who spare → SparesAfter s who (unbounded_next (chain.Claiming d tail name spare) (answer.Found found))
+claimed_spares : {A : Type 0} (s : Chain A) (who : ℕ) (d : PushKind) (tail name found : ℕ) (spare : Option ℕ) → Spares s who spare → SparesAfter s who (unbounded_next (chain.Claiming d tail name spare) (Answer.Found found))
 claimed_spares {A} s who d tail name found spare only = go (found == tail) (offset_of tail + 1 == BLOCK_SLOTS)
   where
     laid : (x : Option ℕ) → Spares s who x → SparesAfter s who (lays d tail name x)

@@ -4,28 +4,22 @@ use Rattle.queue_steps.specs.State.{State}
 use Rattle.queue_steps.specs.Kinds.{call_kind, call_value, filled}
 use Rattle.queue_steps.specs.Replies.{IsRightAt}
 use Rattle.queue_steps.specs.UnboundedNext.{unbounded_begin}
-use Rattle.queue_steps.specs.declared.model.Call.{Call}
-use Rattle.queue_steps.specs.declared.model.Call.TheVariants as call
-use Rattle.queue_steps.specs.declared.model.Reply.{Reply}
-use Rattle.queue_steps.specs.declared.model.Reply.TheVariants as reply
-use Rattle.queue_steps.specs.declared.steps.types.Next.{Next}
-use Rattle.queue_steps.specs.declared.steps.types.Next.TheVariants as next
-use Rattle.queue_steps.specs.declared.steps.bounded.PushKind.TheVariants as kind
+use Rattle.law_common.specs.Vocabulary.{Call, Reply, Next, PushKind}
 use Rattle.law_chain.specs.ChainCells.{Chain, Holds, Nothing}
 use Rattle.law_chain.specs.ChainAt.{At, push_tail, pop_head, len_tail, empty_head, closing, closed_tail}
 
 -- the call stands at its first step, or replies at once: that is right at any state without a capacity
 abbrev pub Begins : {A : Type 0} → Chain A → ℕ → List (State A) → Call A → Next ℕ → Type 0
-Begins c who ms k (next.Step l t o) = At c who ms l t o (call_value k) k []
-Begins {A} c who ms k (next.Reply x spare) = (spare ≡ None) × ((y : Reply A) × (filled x (call_value k) ≡ Some y) × ((m : State A) → m.cap ≡ None → IsRightAt m k y))
+Begins c who ms k (Next.Step l t o) = At c who ms l t o (call_value k) k []
+Begins {A} c who ms k (Next.Reply x spare) = (spare ≡ None) × ((y : Reply A) × (filled x (call_value k) ≡ Some y) × ((m : State A) → m.cap ≡ None → IsRightAt m k y))
 
 pub at_begun : {A : Type 0} (c : Chain A) (who : ℕ) (ms : List (State A)) (k : Call A) → Holds c who Nothing → Begins c who ms k (unbounded_begin (call_kind k))
-at_begun c who ms (call.Push v) none = push_tail kind.Push v None none tt
-at_begun c who ms (call.ForcePush v) none = push_tail kind.Force v None none tt
-at_begun c who ms call.Pop none = pop_head none
-at_begun c who ms call.Close none = closing none
-at_begun c who ms call.IsClosed none = closed_tail none
-at_begun c who ms call.IsEmpty none = empty_head none
-at_begun c who ms call.IsFull none = (refl, (reply.IsFull false, refl, λ m open_ended. rw open_ended refl))
-at_begun c who ms call.Len none = len_tail none
-at_begun c who ms call.Capacity none = (refl, (reply.Capacity None, refl, λ m open_ended. sym open_ended))
+at_begun c who ms (Call.Push v) none = push_tail PushKind.Push v None none tt
+at_begun c who ms (Call.ForcePush v) none = push_tail PushKind.Force v None none tt
+at_begun c who ms Call.Pop none = pop_head none
+at_begun c who ms Call.Close none = closing none
+at_begun c who ms Call.IsClosed none = closed_tail none
+at_begun c who ms Call.IsEmpty none = empty_head none
+at_begun c who ms Call.IsFull none = (refl, (Reply.IsFull false, refl, λ m open_ended. rw open_ended refl))
+at_begun c who ms Call.Len none = len_tail none
+at_begun c who ms Call.Capacity none = (refl, (Reply.Capacity None, refl, λ m open_ended. sym open_ended))

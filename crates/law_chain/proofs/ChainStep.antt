@@ -1,15 +1,8 @@
 -- Each step of a call on a chain, wherever the call stands, is right.
 use Rattle.std.proofs.Common.{ℕ, ◌+◌, ◌/◌, ◌≡◌, inl, inr, Option, List, refl, subst, arith}
-use Rattle.queue_steps.specs.declared.sizes.TheConstants.{BLOCK_SLOTS}
+use Rattle.law_common.specs.Vocabulary.{Call, Effect, Op, Touch, Answer, Local, BLOCK_SLOTS}
 use Rattle.queue_steps.specs.State.{State}
 use Rattle.queue_steps.specs.ChainWords.{offset_of}
-use Rattle.queue_steps.specs.declared.model.Call.{Call}
-use Rattle.queue_steps.specs.declared.model.Effect.{Effect}
-use Rattle.queue_steps.specs.declared.steps.types.Answer.{Answer}
-use Rattle.queue_steps.specs.declared.steps.types.Local.{Local}
-use Rattle.queue_steps.specs.declared.steps.types.Local.TheVariants as local
-use Rattle.queue_steps.specs.declared.steps.types.Op.{Op}
-use Rattle.queue_steps.specs.declared.steps.types.Touch.{Touch}
 use Rattle.law_chain.specs.ChainCells.{Chain, ChainOk}
 use Rattle.law_chain.specs.ChainFacts.{head_of}
 use Rattle.law_chain.specs.ChainAt.{At, push_tail, push_block, asking, installing, showing, claiming, laying, opening, chaining, writing, spending, pop_head, pop_block, pop_tail, taking, following, peeking, passing, entering, awaiting, reading, beginning, walking, destroying, len_tail, len_head, len_again, empty_head, empty_tail, closing, closed_tail}
@@ -29,38 +22,9 @@ use Rattle.law_chain.proofs.ChainLook.{good_closed_tail, good_len_tail, good_len
 use Rattle.law_chain.proofs.ChainIsEmpty.{good_empty_tail}
 
 -- a call that stands on a chain is at a local state of a chain
-pub is_chain : {A : Type 0} {c : Chain A} {who : ℕ} {ms : List (State A)} {l : Local ℕ} {t : Touch} {o : Op ℕ} {v : Option A} {k : Call A} {es : List (Effect A)} → At c who ms l t o v k es → l ≡ local.Unbounded (chain_of l)
+pub is_chain : {A : Type 0} {c : Chain A} {who : ℕ} {ms : List (State A)} {l : Local ℕ} {t : Touch} {o : Op ℕ} {v : Option A} {k : Call A} {es : List (Effect A)} → At c who ms l t o v k es → l ≡ Local.Unbounded (chain_of l)
 is_chain (push_tail d x spare none spare_is) = refl
-is_chain (push_block d x spare q none spare_is saw) = refl
-is_chain (asking d x q block none saw asked) = refl
-is_chain (installing d x f none saw fresh) = refl
-is_chain (showing d x name first saw is named) = refl
-is_chain (claiming d x q name spare none spare_is saw block enough) = refl
-is_chain (laying d x n name f holds mine lays fresh) = refl
-is_chain (opening d x n name f holds mine opens links named) = refl
-is_chain (chaining d x n name f holds mine links named) = refl
-is_chain (writing d x n name spare holds mine spare_is) = refl
-is_chain (spending d x spare none spare_is spent) = refl
-is_chain (pop_head none) = refl
-is_chain (pop_block n more none is room) = refl
-is_chain (pop_tail n block none is front) = refl
-is_chain (taking n name next more new none is front there word_is room) = refl
-is_chain (following x n name more holds got pass) = refl
-is_chain (peeking x n name after more holds got pass behind) = refl
-is_chain (passing x n name after more further holds got pass behind room) = refl
-is_chain (entering x n name more further holds got enters room) = refl
-is_chain (awaiting x n name more holds got) = refl
-is_chain (reading x n name more holds got wrote inner) = refl
-is_chain (beginning x n name more holds got wrote last) = refl
-is_chain (walking x b name slot holds is named) = refl
-is_chain (destroying x b name slot holds is named) = refl
-is_chain (len_tail none) = refl
-is_chain (len_head w none small low) = refl
-is_chain (len_again w h none small seen) = refl
-is_chain (empty_head none) = refl
-is_chain (empty_tail h none small saw) = refl
-is_chain (closing none) = refl
-is_chain (closed_tail none) = refl
+is_chain x = refl
 
 -- each step of a call is right
 pub step_good : {A : Type 0} {c : Chain A} {who : ℕ} {ms : List (State A)} {l : Local ℕ} {t : Touch} {o : Op ℕ} {v : Option A} {k : Call A} {es : List (Effect A)} (at : At c who ms l t o v k es) (a : Answer ℕ)

@@ -1,8 +1,7 @@
 -- The steps of pushes and of closes that change a chain: each keeps the chain right, and its effect fits.
 use Rattle.std.proofs.Common.{ℕ, ◌+◌, ◌-◌, ◌*◌, ◌/◌, ◌%◌, ◌<◌, ◌≤◌, ◌≡◌, ◌≢◌, ◌∙◌, inl, inr, Bool, true, false, List, [], ◌∷◌, ◌++◌, length, refl, sym, ap, subst, arith}
 use Rattle.std.proofs.lemmas.List.{length-append}
-use Rattle.queue_steps.specs.declared.sizes.TheConstants.{LIMIT, BLOCK_SLOTS}
-use Rattle.queue_steps.specs.declared.model.Effect.TheVariants as effect
+use Rattle.law_common.specs.Vocabulary.{Effect, LIMIT, BLOCK_SLOTS}
 use Rattle.queue_steps.specs.Effect.{Fits}
 use Rattle.law_common.specs.Puts.{put}
 use Rattle.law_common.proofs.Puts.{put_ok, put_same, put_other}
@@ -15,12 +14,10 @@ fresh_item : {A : Type 0} (head tail : ℕ) (items : List A) (n : ℕ) (w : Writ
 fresh_item head tail items n Free Unread low high ok = (refl, refl)
 fresh_item head tail items n (Writing who v) Unread low high ok = absurd (let lt = ok.1 in omega arith)
 fresh_item head tail items n (Wrote v) Unread low high ok = absurd (let lt = ok.1 in omega arith)
-fresh_item head tail items n (Writing who v) (Reading p) low high ok = absurd (omega arith)
-fresh_item head tail items n (Wrote v) (Reading p) low high ok = absurd (omega arith)
-fresh_item head tail items n (Wrote v) Done low high ok = absurd (omega arith)
 fresh_item head tail items n Free (Reading p) low high ok = absurd ok
 fresh_item head tail items n Free Done low high ok = absurd ok
 fresh_item head tail items n (Writing who v) Done low high ok = absurd ok
+fresh_item head tail items n w r low high ok = absurd (omega arith)
 
 pub item_free : {A : Type 0} (c : Chain A) (n : ℕ) → ChainOk c → c.tail ≤ n → (c.writers n ≡ Free) × (c.readers n ≡ Unread)
 item_free c n ok high = fresh_item c.head c.tail c.items n (c.writers n) (c.readers n) (let e = ok.count in omega arith) high (ok.item n)
@@ -34,15 +31,13 @@ item_append : {A : Type 0} (head tail : ℕ) (items : List A) (v : A) (n : ℕ) 
 item_append head tail items v n Free Unread ne ok = omega arith
 item_append head tail items v n (Writing who x) Unread ne ok = (ok.0, (let lt = ok.1 in omega arith), front_stays items v (n - head) x ok.2)
 item_append head tail items v n (Wrote x) Unread ne ok = (ok.0, (let lt = ok.1 in omega arith), front_stays items v (n - head) x ok.2)
-item_append head tail items v n (Writing who x) (Reading p) ne ok = ok
-item_append head tail items v n (Wrote x) (Reading p) ne ok = ok
-item_append head tail items v n (Wrote x) Done ne ok = ok
 item_append head tail items v n Free (Reading p) ne ok = absurd ok
 item_append head tail items v n Free Done ne ok = absurd ok
 item_append head tail items v n (Writing who x) Done ne ok = absurd ok
+item_append head tail items v n w r ne ok = ok
 
 pub append_ok : {A : Type 0} (c : Chain A) (who : ℕ) (v : A) (m : Mover) → ChainOk c → c.closed ≡ false → c.tail < LIMIT → BlocksOk (c.tail + 1) c.blocks m → ((p : ℕ) → m ≢ Opening p)
-    → Fits (effect.Append v) (queue_of c) × ChainOk (appended c who v m)
+    → Fits (Effect.Append v) (queue_of c) × ChainOk (appended c who v m)
 append_ok {A} c who v m ok opened below blocks other =
     let count = ok.count in (
       (opened, refl, refl, inr below),
@@ -78,8 +73,7 @@ append_last tail blocks who some (inr is) e = (some, omega arith)
 none_yet : (tail : ℕ) (m : Mover) → BlocksOk tail 0 m → (m ≡ Rests) × (tail ≡ 0)
 none_yet tail Rests (inl h) = (refl, h.0)
 none_yet tail Rests (inr e) = absurd (omega arith)
-none_yet tail (Laying who) h = absurd (let lt = h.0 in omega arith)
-none_yet tail (Opening who) h = absurd (let lt = h.0 in omega arith)
+none_yet tail m h = absurd (let lt = h.0 in omega arith)
 
 pub no_block : {A : Type 0} (c : Chain A) → ChainOk c → c.blocks ≡ 0 → (c.mover ≡ Rests) × (c.tail ≡ 0)
 no_block c ok none = none_yet c.tail c.mover (subst (λ n. BlocksOk c.tail n c.mover) none ok.laid)
@@ -164,8 +158,7 @@ named_more c f ok g b =
 
 link_more : (blocks b : ℕ) (l : LinkState) → b + 1 ≢ blocks → LinkOk blocks b l → LinkOk (blocks + 1) b l
 link_more blocks b Unlinked ne h = omega arith
-link_more blocks b (Linking who) ne h = omega arith
-link_more blocks b Linked ne h = omega arith
+link_more blocks b l ne h = omega arith
 
 pub install_ok : {A : Type 0} (c : Chain A) (who f : ℕ) → ChainOk c → c.blocks ≡ 0 → c.uses f ≡ Spare who → ChainOk (installed c who f)
 install_ok c who f ok none spare =
@@ -247,9 +240,8 @@ chain_ok c who b ok is other = blocks_ok ok refl (record {
 })
 
 item_write : {A : Type 0} (head tail : ℕ) (items : List A) (n who : ℕ) (v : A) (r : Reader) → ItemOk head tail items n (Writing who v) r → ItemOk head tail items n (Wrote v) r
-item_write head tail items n who v Unread h = h
-item_write head tail items n who v (Reading p) h = h
 item_write head tail items n who v Done h = absurd h
+item_write head tail items n who v r h = h
 
 pub write_ok : {A : Type 0} (c : Chain A) (who n : ℕ) (v : A) → ChainOk c → c.writers n ≡ Writing who v → ChainOk (written c n v)
 write_ok {A} c who n v ok is = items_ok c c.closed (put c.writers n (Wrote v)) c.readers c.walks ok wrote_ok ok.walk

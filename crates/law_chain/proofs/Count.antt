@@ -65,7 +65,5 @@ count_split P Q R zero h = omega arith
 count_split P Q R (suc n) h = let before = count_split P Q R n h in let here = one (P n) (Q n) (R n) (h n) in omega arith
   where
     one : (p q r : Bool) → (p ≡ true → (q ≡ true) ⊎ (r ≡ true)) → one_if p ≤ one_if q + one_if r
-    one false q r h = omega arith
-    one true true r h = omega arith
-    one true false true h = omega arith
     one true false false h = elim (h refl) [ inl e ↦ cc | inr e ↦ cc ]
+    one p q r h = omega arith

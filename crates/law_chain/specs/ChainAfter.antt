@@ -1,25 +1,14 @@
 -- The chain after each step of a call, by what the step found, and what the call carries then.
 use Rattle.std.proofs.Common.{ℕ, ◌+◌, ◌/◌, ◌==◌, zero, suc, Bool, true, false, if◌then◌else◌, Option, Some, None, List}
-use Rattle.queue_steps.specs.declared.sizes.TheConstants.{BLOCK_SLOTS}
+use Rattle.law_common.specs.Vocabulary.{Call, Effect, Op, Touch, Answer, Local, Next, UnboundedLocal, BLOCK_SLOTS}
 use Rattle.queue_steps.specs.ChainWords.{offset_of}
 use Rattle.law_chain.specs.ChainCells.{Rests, Laying, Stands, Passing, Walker, Waits, Chain, item_at, Spare}
 use Rattle.law_chain.specs.ChainTransitions.{appended, installed, taken, reads, walk_after, walked, displayed, laid_out, opened, chained, written, marked, renamed, passed, entered, given_up}
 use Rattle.law_chain.specs.ChainFacts.{head_of, open_tail_of}
 use Rattle.law_chain.specs.ChainAnswers.{tail_word, head_word, waits_at, is_done}
 use Rattle.queue_steps.specs.State.{State}
-use Rattle.queue_steps.specs.declared.model.Call.{Call}
-use Rattle.queue_steps.specs.declared.model.Effect.{Effect}
-use Rattle.queue_steps.specs.declared.steps.types.Answer.{Answer}
-use Rattle.queue_steps.specs.declared.steps.types.Answer.TheVariants as answer
-use Rattle.queue_steps.specs.declared.steps.types.Local.{Local}
-use Rattle.queue_steps.specs.declared.steps.types.Local.TheVariants as local
-use Rattle.queue_steps.specs.declared.steps.types.Op.{Op}
-use Rattle.queue_steps.specs.declared.steps.types.Touch.{Touch}
-use Rattle.queue_steps.specs.declared.steps.unbounded.UnboundedLocal.{UnboundedLocal}
 use Rattle.queue_steps.specs.declared.steps.unbounded.UnboundedLocal.TheVariants as chain
 use Rattle.law_chain.specs.ChainAt.{At, asking, installing, showing, claiming, laying, opening, chaining, writing, spending, taking, passing, entering, reading, beginning, walking, destroying, closing}
-use Rattle.queue_steps.specs.declared.steps.types.Next.{Next}
-use Rattle.queue_steps.specs.declared.steps.types.Next.TheVariants as next
 
 -- U4: the first block is installed where there is none yet
 abbrev pub if_installed : {A : Type 0} → Chain A → ℕ → ℕ → ℕ → Chain A
@@ -64,7 +53,7 @@ if_destroyed c who b slot = walked c b (if is_done (c.readers (item_at b slot)) 
 
 -- the local state of a call on a chain. The last line stands for what is none
 abbrev pub chain_of : Local ℕ → UnboundedLocal ℕ
-chain_of (local.Unbounded l) = l
+chain_of (Local.Unbounded l) = l
 chain_of _ = chain.PopHead
 
 -- what the call carries after its touch: nothing once its item is put, the item once that is taken
@@ -76,7 +65,7 @@ carried_of {v = v} _ = v
 
 -- U3: the block is the call's, where it was granted
 abbrev pub if_granted : {A : Type 0} → Chain A → ℕ → Answer ℕ → Chain A
-if_granted c who (answer.Granted f) = renamed c f (Spare who)
+if_granted c who (Answer.Granted f) = renamed c f (Spare who)
 if_granted c who _ = c
 
 -- the chain after the step that got this answer
@@ -102,5 +91,5 @@ after_of {c = c} _ a = c
 
 -- the chain once a call that replies has given its block up
 abbrev pub left_by : {A : Type 0} → Chain A → Next ℕ → Chain A
-left_by r (next.Step l t o) = r
-left_by r (next.Reply x spare) = given_up r spare
+left_by r (Next.Step l t o) = r
+left_by r (Next.Reply x spare) = given_up r spare

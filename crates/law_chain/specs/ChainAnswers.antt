@@ -1,13 +1,7 @@
 -- How the words and links of a chain stand for it, and what the operations of the calls answer.
 use Rattle.std.proofs.Common.{ℕ, ◌+◌, ◌-◌, ◌≡◌, ◌≢◌, ◌==◌, not, ◌⊎◌, zero, suc, Bool, true, false, Option, Some, None, bit_and}
 use Rattle.queue_steps.specs.Words.{tail_of}
-use Rattle.queue_steps.specs.declared.steps.types.Answer.{Answer}
-use Rattle.queue_steps.specs.declared.steps.types.Answer.TheVariants as answer
-use Rattle.queue_steps.specs.declared.steps.types.Link.TheVariants as link
-use Rattle.queue_steps.specs.declared.steps.types.Op.{Op}
-use Rattle.queue_steps.specs.declared.steps.types.Op.TheVariants as op
-use Rattle.queue_steps.specs.declared.steps.types.Word.TheVariants as word
-use Rattle.queue_steps.specs.declared.steps.unbounded.TheConstants.{WRITE, READ, DESTROY}
+use Rattle.law_common.specs.Vocabulary.{Word, Link, Op, Answer, WRITE, READ, DESTROY}
 use Rattle.law_chain.specs.ChainFacts.{place, IsNamed}
 use Rattle.law_chain.specs.ChainCells.{Writer, Wrote, Reader, Done, Mover, Rests, Passer, Stands, LinkState, Linked, Shown, Seen, Walk, Waits, Unused, Chain, item_at}
 
@@ -58,23 +52,23 @@ pub record IsState {A : Type 0} (c : Chain A) (b slot : ℕ) (x : ℕ) : Type 0 
   pub destroyed : c.readers (item_at b slot) ≢ Done → (bit_and x DESTROY == 0) ≡ not (waits_at (c.walks b) slot)
 
 abbrev pub StateAnswers : {A : Type 0} → Chain A → ℕ → ℕ → Answer ℕ → Type 0
-StateAnswers c name slot a = (b : ℕ) → IsNamed c b name → (x : ℕ) × (a ≡ answer.Found x) × IsState c b slot x
+StateAnswers c name slot a = (b : ℕ) → IsNamed c b name → (x : ℕ) × (a ≡ Answer.Found x) × IsState c b slot x
 
 -- what an operation of a call answers
 abbrev pub Answers : {A : Type 0} → Chain A → Op ℕ → Answer ℕ → Type 0
-Answers c (op.Load word.Tail) a = a ≡ answer.Found (tail_word c)
-Answers c (op.Load word.Head) a = a ≡ answer.Found (head_word c)
-Answers c (op.Load (word.State name slot)) a = StateAnswers c name slot a
-Answers c (op.Or word.Tail x) a = a ≡ answer.Found (tail_word c)
-Answers c (op.Or (word.State name slot) x) a = StateAnswers c name slot a
-Answers c (op.Add word.Tail x) a = a ≡ answer.Found (tail_word c)
-Answers c (op.Exchange word.Tail x y) a = a ≡ answer.Found (tail_word c)
-Answers c (op.Exchange word.Head x y) a = a ≡ answer.Found (head_word c)
-Answers c (op.Store word.Head x) a = a ≡ answer.Done
-Answers c (op.LoadLink link.TailBlock) a = a ≡ answer.Linked (last_of c.names c.blocks)
-Answers c (op.LoadLink link.HeadBlock) a = a ≡ answer.Linked (shown_of c.shown (c.names c.front))
-Answers c (op.LoadLink (link.Next name)) a = (b : ℕ) → IsNamed c b name → a ≡ answer.Linked (linked_of (c.links b) (c.names (b + 1)))
-Answers c (op.StoreLink l x) a = a ≡ answer.Done
-Answers c (op.Install x) a = a ≡ answer.Linked (last_of c.names c.blocks)
-Answers c op.Ask a = (a ≡ answer.Refused) ⊎ ((f : ℕ) × (a ≡ answer.Granted f) × (c.uses f ≡ Unused))
+Answers c (Op.Load Word.Tail) a = a ≡ Answer.Found (tail_word c)
+Answers c (Op.Load Word.Head) a = a ≡ Answer.Found (head_word c)
+Answers c (Op.Load (Word.State name slot)) a = StateAnswers c name slot a
+Answers c (Op.Or Word.Tail x) a = a ≡ Answer.Found (tail_word c)
+Answers c (Op.Or (Word.State name slot) x) a = StateAnswers c name slot a
+Answers c (Op.Add Word.Tail x) a = a ≡ Answer.Found (tail_word c)
+Answers c (Op.Exchange Word.Tail x y) a = a ≡ Answer.Found (tail_word c)
+Answers c (Op.Exchange Word.Head x y) a = a ≡ Answer.Found (head_word c)
+Answers c (Op.Store Word.Head x) a = a ≡ Answer.Done
+Answers c (Op.LoadLink Link.TailBlock) a = a ≡ Answer.Linked (last_of c.names c.blocks)
+Answers c (Op.LoadLink Link.HeadBlock) a = a ≡ Answer.Linked (shown_of c.shown (c.names c.front))
+Answers c (Op.LoadLink (Link.Next name)) a = (b : ℕ) → IsNamed c b name → a ≡ Answer.Linked (linked_of (c.links b) (c.names (b + 1)))
+Answers c (Op.StoreLink l x) a = a ≡ Answer.Done
+Answers c (Op.Install x) a = a ≡ Answer.Linked (last_of c.names c.blocks)
+Answers c Op.Ask a = (a ≡ Answer.Refused) ⊎ ((f : ℕ) × (a ≡ Answer.Granted f) × (c.uses f ≡ Unused))
 Answers c _ a = ⊥

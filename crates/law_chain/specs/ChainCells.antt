@@ -1,6 +1,6 @@
 -- A chain of blocks by the numbers of its items: what each part of it is for, whose it is just now, and the state of the queue that it stands for.
 use Rattle.std.proofs.Common.{ℕ, ◌+◌, ◌-◌, ◌*◌, ◌/◌, ◌<◌, ◌≤◌, ◌≡◌, ◌≢◌, ◌⊎◌, Bool, true, false, Option, Some, None, List, length, slice_get}
-use Rattle.queue_steps.specs.declared.sizes.TheConstants.{LIMIT, BLOCK_SLOTS}
+use Rattle.law_common.specs.Vocabulary.{LIMIT, BLOCK_SLOTS}
 use Rattle.queue_steps.specs.State.{State}
 
 -- what became of the place of an item: free; claimed by this party's push, which is still to write it; written

@@ -1,10 +1,6 @@
 -- Where a call on a chain stands that has had no effect yet, and where one does that may have to wait for its item.
 use Rattle.std.specs.Prelude.{◌≡◌, ℕ, Bool, true, false}
-use Rattle.queue_steps.specs.declared.model.Call.{Call}
-use Rattle.queue_steps.specs.declared.model.Call.TheVariants as call
-use Rattle.queue_steps.specs.declared.steps.types.Local.{Local}
-use Rattle.queue_steps.specs.declared.steps.types.Local.TheVariants as local
-use Rattle.queue_steps.specs.declared.steps.unbounded.UnboundedLocal.{UnboundedLocal}
+use Rattle.law_common.specs.Vocabulary.{Call, Local, UnboundedLocal}
 use Rattle.queue_steps.specs.declared.steps.unbounded.UnboundedLocal.TheVariants as chain
 
 -- before its effect, and not where it is to show the first block
@@ -25,7 +21,7 @@ is_early (chain.Destroying block slot) = false
 is_early _ = true
 
 abbrev pub IsEarly : Local ℕ → Type 0
-IsEarly (local.Unbounded l) = is_early l ≡ true
+IsEarly (Local.Unbounded l) = is_early l ≡ true
 IsEarly _ = Unit {0}
 
 -- a pop that has taken its item, and may have to wait for it
@@ -41,11 +37,11 @@ is_bound (chain.Destroying block slot) = true
 is_bound _ = false
 
 abbrev pub IsBound : {B : Type 0} → Local B → Type 0
-IsBound (local.Unbounded l) = is_bound l ≡ true
+IsBound (Local.Unbounded l) = is_bound l ≡ true
 IsBound _ = ⊥
 
 -- the call pushes
 abbrev pub IsPush : {A : Type 0} → Call A → Type 0
-IsPush (call.Push v) = Unit {0}
-IsPush (call.ForcePush v) = Unit {0}
+IsPush (Call.Push v) = Unit {0}
+IsPush (Call.ForcePush v) = Unit {0}
 IsPush _ = ⊥

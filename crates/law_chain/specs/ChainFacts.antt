@@ -1,6 +1,6 @@
 -- What a call on a chain carries between its steps: positions and words, names of blocks, and what was seen or claimed.
 use Rattle.std.proofs.Common.{ℕ, ◌+◌, ◌/◌, ◌*◌, ◌<◌, ◌≤◌, ◌≡◌, ◌⊎◌, Bool, true, false, Option, Some, None, List}
-use Rattle.queue_steps.specs.declared.sizes.TheConstants.{BLOCK_SLOTS, LIMIT}
+use Rattle.law_common.specs.Vocabulary.{LIMIT, BLOCK_SLOTS}
 use Rattle.queue_steps.specs.State.{State}
 use Rattle.queue_steps.specs.Words.{tail_of}
 use Rattle.law_common.specs.Moments.{SeenIn, IsStarted, HasItems}

@@ -1,9 +1,7 @@
 -- What one party's step leaves of a chain for the others: counts that grow, and parts that stay. And the spares of a party.
 use Rattle.std.proofs.Common.{ℕ, ◌+◌, ◌<◌, ◌≤◌, ◌≡◌, ◌≢◌, ◌⊎◌, Some, Option, None}
 use Rattle.law_chain.specs.ChainCells.{Wrote, Rests, Stands, Linked, Seen, Spare, Chain, value, Part, Write, Read, Tail, Head, Next, First, Passed, owner}
-use Rattle.queue_steps.specs.declared.steps.types.Local.{Local}
-use Rattle.queue_steps.specs.declared.steps.types.Local.TheVariants as local
-use Rattle.queue_steps.specs.declared.steps.unbounded.UnboundedLocal.{UnboundedLocal}
+use Rattle.law_common.specs.Vocabulary.{Local, UnboundedLocal}
 use Rattle.queue_steps.specs.declared.steps.unbounded.UnboundedLocal.TheVariants as chain
 
 -- the part is the same
@@ -48,7 +46,7 @@ spare_of _ = None
 
 -- the same of any local state: none but a chain's has a spare
 abbrev pub spare_in : Local ℕ → Option ℕ
-spare_in (local.Unbounded l) = spare_of l
+spare_in (Local.Unbounded l) = spare_of l
 spare_in _ = None
 
 -- the party has no spare but this

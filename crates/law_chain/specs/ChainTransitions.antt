@@ -2,7 +2,7 @@
 use Rattle.std.proofs.Common.{ℕ, ◌+◌, ◌-◌, true, [], ◌∷◌, ◌++◌, ◌/◌, ◌==◌, Bool, if◌then◌else◌, Option, Some, None}
 use Rattle.law_common.specs.Puts.{put}
 use Rattle.law_chain.specs.ChainCells.{Writing, Wrote, Mover, Rests, Opening, Linking, Linked, Showing, Seen, Use, Chained, Chain, Reading, Done, Passer, Stands, Entering, Walk, Walker, GivenUp, LAST, Unused, Spare, Lost}
-use Rattle.queue_steps.specs.declared.sizes.TheConstants.{BLOCK_SLOTS}
+use Rattle.law_common.specs.Vocabulary.{BLOCK_SLOTS}
 use Rattle.queue_steps.specs.Effect.{rest}
 
 -- U5: the tail is exchanged, by which an item is appended. The mover is the party, where this is the last slot of its block

@@ -4,3 +4,6 @@ pub mod Tails
 pub mod Ranks
 pub mod Moments
 pub mod Pushes
+pub mod Tests
+pub mod Runs
+pub mod TellsAs

@@ -10,9 +10,8 @@ front_stays (x ∷ xs) y (suc k) v e = front_stays xs y k v e
 
 pub last_is : {X : Type 0} (xs : List X) (y : X) (k : ℕ) → k ≡ length xs → slice_get (xs ++ y ∷ []) k ≡ Some y
 last_is [] y zero e = refl
-last_is [] y (suc k) e = absurd (omega arith)
-last_is (x ∷ xs) y zero e = absurd (omega arith)
 last_is (x ∷ xs) y (suc k) e = last_is xs y k (omega arith)
+last_is xs y k e = absurd (omega arith)
 
 -- the item behind the front
 pub behind : {X : Type 0} (xs : List X) (n head : ℕ) (v : X) → head < n → slice_get xs (n - head) ≡ Some v → slice_get (rest xs) (n - (head + 1)) ≡ Some v

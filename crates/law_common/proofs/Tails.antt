@@ -5,7 +5,7 @@ use Rattle.std.proofs.lemmas.Bool.{ne_eqb, eq-eqb}
 use Rattle.std.proofs.lemmas.Bool.Decides.{eqb_tells}
 use Rattle.std.proofs.lemmas.Nat.{and_mask}
 use Rattle.queue_steps.specs.Words.{position_of, is_shut, tail_of}
-use Rattle.queue_steps.specs.declared.steps.bounded.TheConstants.{MARK, TAIL_STEP}
+use Rattle.law_common.specs.Vocabulary.{MARK, TAIL_STEP}
 
 pub position_tail : (q : ℕ) (c : Bool) → position_of (tail_of q c) ≡ q
 position_tail q true = omega arith

@@ -2,10 +2,7 @@
 use Rattle.std.proofs.Common.{◌≡◌, ℕ, Bool, true, false, Option, Some, None, List, [], ◌∷◌, ◌++◌}
 use Rattle.queue_steps.specs.State.{State}
 use Rattle.queue_steps.specs.Effect.{Fits, made}
-use Rattle.queue_steps.specs.declared.model.Effect.{Effect}
-use Rattle.queue_steps.specs.declared.model.Effect.TheVariants as effect
-use Rattle.queue_steps.specs.declared.steps.types.Touch.{Touch}
-use Rattle.queue_steps.specs.declared.steps.types.Touch.TheVariants as touch
+use Rattle.law_common.specs.Vocabulary.{Effect, Touch}
 
 -- the step has no effect and leaves the queue, or has this effect, which fits there
 abbrev pub Leads : {A : Type 0} → State A → Option (Effect A) → State A → Type 0
@@ -24,12 +21,12 @@ Whether false P Q = Q
 
 -- the call has taken the front off, and its own item has not arrived
 abbrev pub IsBetween : {A : Type 0} → List (Effect A) → Type 0
-IsBetween (effect.Front old v ∷ []) = Unit {0}
+IsBetween (Effect.Front old v ∷ []) = Unit {0}
 IsBetween _ = ⊥
 
 -- the touch is one of the slot i
 abbrev pub Touches : Touch → ℕ → Type 0
-Touches touch.Nothing i = ⊥
-Touches (touch.Put k) i = k ≡ i
-Touches (touch.Swap k) i = k ≡ i
-Touches (touch.Take k) i = k ≡ i
+Touches Touch.Nothing i = ⊥
+Touches (Touch.Put k) i = k ≡ i
+Touches (Touch.Swap k) i = k ≡ i
+Touches (Touch.Take k) i = k ≡ i

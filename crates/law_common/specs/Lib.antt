@@ -1,3 +1,4 @@
+pub mod Vocabulary
 pub mod Effects
 pub mod Moments
 pub mod Pushes

@@ -58,9 +58,8 @@ below_rest n xs all = λ k d lt.
     let low = All-filter (is_not n) (λ x. x < suc n) xs all k d lt in let other = other_by _ n (filter_passes (is_not n) xs k d lt) in omega (arith, low, other)
 
 few_same : (n : ℕ) (xs : List ℕ) → All (λ x. eqb x n ≡ true) xs → AreDistinct xs → length xs ≤ 1
-few_same n [] same once = omega arith
-few_same n (x ∷ []) same once = omega arith
 few_same n (x ∷ y ∷ xs) same once = absurd (once 0 1 x (omega arith) (omega arith) (same_by x n (same 0 x (omega arith)) ∙ sym (same_by y n (same 1 x (omega arith)))))
+few_same n xs same once = omega arith
 
 only_one : (n : ℕ) (xs : List ℕ) → All (λ x. eqb x n ≡ true) xs → length xs ≤ 1 → Contains xs n → xs ≡ n ∷ []
 only_one n [] same few has = absurd (let lt = has.1 in omega arith)

@@ -2,13 +2,7 @@
 use Rattle.std.specs.Prelude.{◌≡◌, ℕ, ◌+◌, cond, List, [], ◌∷◌, ◌++◌, length, Option, Err}
 use mathlib.Core.List.{IsPrefix}
 use Rattle.queue_steps.specs.State.{State}
-use Rattle.queue_steps.specs.declared.model.Effect.{Effect}
-use Rattle.queue_steps.specs.declared.model.Effect.TheVariants as effect
-use Rattle.queue_steps.specs.declared.model.Call.{Call}
-use Rattle.queue_steps.specs.declared.model.Call.TheVariants as call
-use Rattle.queue_steps.specs.declared.model.Reply.{Reply}
-use Rattle.queue_steps.specs.declared.model.Reply.TheVariants as reply
-use Rattle.queue_steps.specs.declared.errors.PopError.TheVariants as pop
+use Rattle.law_common.specs.Vocabulary.{Call, Reply, Effect, PopError}
 use Rattle.queue_steps.specs.Effect.{Runs, IsHistory, after, with_coming}
 use Rattle.queue_steps.specs.Replies.{IsRightAt, Tells}
 use Rattle.queue_steps.specs.Parties.{View, SharedCall}
@@ -16,24 +10,24 @@ use Rattle.queue_steps.specs.Parties.{View, SharedCall}
 -- the items that were handed in, in their order: appended, in the place of another, or on their way in
 abbrev pub handed_in : {T : Type 0} → List (Effect T) → List T
 handed_in [] = []
-handed_in (effect.Append v ∷ es) = v ∷ handed_in es
-handed_in (effect.Replace old v ∷ es) = v ∷ handed_in es
-handed_in (effect.Front old v ∷ es) = v ∷ handed_in es
+handed_in (Effect.Append v ∷ es) = v ∷ handed_in es
+handed_in (Effect.Replace old v ∷ es) = v ∷ handed_in es
+handed_in (Effect.Front old v ∷ es) = v ∷ handed_in es
 handed_in (e ∷ es) = handed_in es
 
 -- the items that were handed out, in their order: taken by a pop, or displaced by a forced push
 abbrev pub handed_out : {T : Type 0} → List (Effect T) → List T
 handed_out [] = []
-handed_out (effect.Take v ∷ es) = v ∷ handed_out es
-handed_out (effect.Replace old v ∷ es) = old ∷ handed_out es
-handed_out (effect.Front old v ∷ es) = old ∷ handed_out es
+handed_out (Effect.Take v ∷ es) = v ∷ handed_out es
+handed_out (Effect.Replace old v ∷ es) = old ∷ handed_out es
+handed_out (Effect.Front old v ∷ es) = old ∷ handed_out es
 handed_out (e ∷ es) = handed_out es
 
 -- how often the queue was closed, by a close or of itself
 abbrev pub closings : {T : Type 0} → List (Effect T) → ℕ
 closings [] = 0
-closings (effect.Close ∷ es) = closings es + 1
-closings (effect.SelfClose ∷ es) = closings es + 1
+closings (Effect.Close ∷ es) = closings es + 1
+closings (Effect.SelfClose ∷ es) = closings es + 1
 closings (e ∷ es) = closings es
 
 -- the accepted items are those that were handed out, and behind them those of the list; an item on its way in is behind these, and is not accepted yet
@@ -51,7 +45,7 @@ ClosesOnce T = (cap : Option ℕ) (es : List (Effect T)) → IsHistory cap es �
 
 -- a pop may answer that the queue is closed
 abbrev pub IsDrained : {T : Type 0} → State T → Type 0
-IsDrained Q = IsRightAt Q call.Pop (reply.Pop (Err pop.Closed))
+IsDrained Q = IsRightAt Q Call.Pop (Reply.Pop (Err PopError.Closed))
 
 -- no effect stands behind such a state
 abbrev pub EndsOnceDrained : Type 0 → Type 0

@@ -2,15 +2,7 @@
 use Rattle.std.proofs.Common.{◌≡◌, false, List, [], ◌∷◌, ◌++◌, length, None, Err, refl, ap, sym, ◌∙◌, subst, inl, inr, arith, append-nil}
 use mathlib.Core.List.{IsPrefix}
 use Rattle.queue_steps.specs.State.{State, start, fills}
-use Rattle.queue_steps.specs.declared.model.Call.{Call}
-use Rattle.queue_steps.specs.declared.model.Call.TheVariants as call
-use Rattle.queue_steps.specs.declared.model.Reply.{Reply}
-use Rattle.queue_steps.specs.declared.model.Reply.TheVariants as reply
-use Rattle.queue_steps.specs.declared.errors.PopError.TheVariants as pop
-use Rattle.queue_steps.specs.declared.errors.PushError.TheVariants as push
-use Rattle.queue_steps.specs.declared.errors.ForcePushError.TheVariants as force
-use Rattle.queue_steps.specs.declared.model.Effect.{Effect}
-use Rattle.queue_steps.specs.declared.model.Effect.TheVariants as effect
+use Rattle.law_common.specs.Vocabulary.{Call, Reply, Effect, PopError, PushError, ForcePushError}
 use Rattle.queue_steps.specs.Effect.{made, Runs, after}
 use Rattle.queue_steps.specs.Replies.{IsRightAt, LacksMemory, Allows, is_empty}
 use Rattle.law_moments.specs.Moments.{RunsAtOnce, AtOnceIsLegal, IsGlance, settled, DisplacesAtOnce}
@@ -19,10 +11,9 @@ use Rattle.law_moments.proofs.Settling.{Sound, many_none, full_none, sound_start
 
 module _ {T : Type 0} where
   same_empty : (xs ys : List T) → length xs ≡ length ys → is_empty xs ≡ is_empty ys
-  same_empty [] [] is = refl
   same_empty [] (y ∷ ys) is = absurd (omega arith)
   same_empty (x ∷ xs) [] is = absurd (omega arith)
-  same_empty (x ∷ xs) (y ∷ ys) is = refl
+  same_empty xs ys is = refl
 
   no_items : (xs : List T) → length xs ≡ 0 → xs ≡ []
   no_items [] is = refl
@@ -36,26 +27,26 @@ module _ {T : Type 0} where
   as_many next Q S a none = let count = a.count in let zero : many Q.coming ≡ 0 = ap many none in omega (arith, count, zero)
 
   right_there : (next : List (Effect T)) (Q S : State T) → Sound Q → Agrees next Q S → (c : Call T) (r : Reply T) → IsRightAt Q c r → (IsGlance c → Q.coming ≡ None) → IsRightAt S c r
-  right_there next Q S s a (call.Push v) (reply.Push (Err (push.Full w))) h calm =
-      subst (λ (R : State T). IsRightAt R (call.Push v) (reply.Push (Err (push.Full w)))) (itself next Q S a h.1 (many_none Q.coming (full_none Q.cap (length Q.items) (many Q.coming) h.2 s.room))) h
-  right_there next Q S s a (call.Push v) (reply.Push (Err (push.Closed w))) h calm = (h.0, a.closed ∙ h.1)
-  right_there next Q S s a (call.ForcePush v) (reply.ForcePush (Err (force.Closed w))) h calm = (h.0, a.closed ∙ h.1)
-  right_there next Q S s a call.Pop (reply.Pop (Err pop.Empty)) h calm =
-      subst (λ (R : State T). IsRightAt R call.Pop (reply.Pop (Err pop.Empty))) (itself next Q S a h.2 h.1) h
-  right_there next Q S s a call.Pop (reply.Pop (Err pop.Closed)) h calm = (no_items S.items (as_many next Q S a h.1 ∙ ap length h.0), a.coming, a.closed ∙ h.2)
-  right_there next Q S s a call.Close (reply.Close false) h calm = a.closed ∙ h
-  right_there next Q S s a call.IsClosed (reply.IsClosed b) h calm = h ∙ sym a.closed
-  right_there next Q S s a call.IsEmpty (reply.IsEmpty b) h calm = h ∙ same_empty Q.items S.items (sym (as_many next Q S a (calm tt)))
-  right_there next Q S s a call.IsFull (reply.IsFull b) h calm = h ∙ (λ i. fills (sym a.cap i) (sym (as_many next Q S a (calm tt)) i))
-  right_there next Q S s a call.Len (reply.Len n) h calm = h ∙ sym (as_many next Q S a (calm tt))
-  right_there next Q S s a call.Capacity (reply.Capacity c) h calm = h ∙ sym a.cap
+  right_there next Q S s a (Call.Push v) (Reply.Push (Err (PushError.Full w))) h calm =
+      subst (λ (R : State T). IsRightAt R (Call.Push v) (Reply.Push (Err (PushError.Full w)))) (itself next Q S a h.1 (many_none Q.coming (full_none Q.cap (length Q.items) (many Q.coming) h.2 s.room))) h
+  right_there next Q S s a (Call.Push v) (Reply.Push (Err (PushError.Closed w))) h calm = (h.0, a.closed ∙ h.1)
+  right_there next Q S s a (Call.ForcePush v) (Reply.ForcePush (Err (ForcePushError.Closed w))) h calm = (h.0, a.closed ∙ h.1)
+  right_there next Q S s a Call.Pop (Reply.Pop (Err PopError.Empty)) h calm =
+      subst (λ (R : State T). IsRightAt R Call.Pop (Reply.Pop (Err PopError.Empty))) (itself next Q S a h.2 h.1) h
+  right_there next Q S s a Call.Pop (Reply.Pop (Err PopError.Closed)) h calm = (no_items S.items (as_many next Q S a h.1 ∙ ap length h.0), a.coming, a.closed ∙ h.2)
+  right_there next Q S s a Call.Close (Reply.Close false) h calm = a.closed ∙ h
+  right_there next Q S s a Call.IsClosed (Reply.IsClosed b) h calm = h ∙ sym a.closed
+  right_there next Q S s a Call.IsEmpty (Reply.IsEmpty b) h calm = h ∙ same_empty Q.items S.items (sym (as_many next Q S a (calm tt)))
+  right_there next Q S s a Call.IsFull (Reply.IsFull b) h calm = h ∙ (λ i. fills (sym a.cap i) (sym (as_many next Q S a (calm tt)) i))
+  right_there next Q S s a Call.Len (Reply.Len n) h calm = h ∙ sym (as_many next Q S a (calm tt))
+  right_there next Q S s a Call.Capacity (Reply.Capacity c) h calm = h ∙ sym a.cap
   right_there next Q S s a _ _ h calm = absurd h
 
   lacks_there : (next : List (Effect T)) (Q S : State T) → Sound Q → Agrees next Q S → (c : Call T) (r : Reply T) → LacksMemory Q c r → LacksMemory S c r
-  lacks_there next Q S s a (call.Push v) (reply.Push (Err (push.NoMemory w))) h =
-      subst (λ (R : State T). LacksMemory R (call.Push v) (reply.Push (Err (push.NoMemory w)))) (itself next Q S a h.1.1 (s.uncapped h.1.0)) h
-  lacks_there next Q S s a (call.ForcePush v) (reply.ForcePush (Err (force.NoMemory w))) h =
-      subst (λ (R : State T). LacksMemory R (call.ForcePush v) (reply.ForcePush (Err (force.NoMemory w)))) (itself next Q S a h.1.1 (s.uncapped h.1.0)) h
+  lacks_there next Q S s a (Call.Push v) (Reply.Push (Err (PushError.NoMemory w))) h =
+      subst (λ (R : State T). LacksMemory R (Call.Push v) (Reply.Push (Err (PushError.NoMemory w)))) (itself next Q S a h.1.1 (s.uncapped h.1.0)) h
+  lacks_there next Q S s a (Call.ForcePush v) (Reply.ForcePush (Err (ForcePushError.NoMemory w))) h =
+      subst (λ (R : State T). LacksMemory R (Call.ForcePush v) (Reply.ForcePush (Err (ForcePushError.NoMemory w)))) (itself next Q S a h.1.1 (s.uncapped h.1.0)) h
   lacks_there next Q S s a _ _ h = absurd h
 
   pub allowed_there : (next : List (Effect T)) (Q S : State T) → Sound Q → Agrees next Q S → (c : Call T) (r : Reply T) → Allows c r Q → (IsGlance c → Q.coming ≡ None) → Allows c r S
@@ -78,20 +69,13 @@ displaces_at_once {T} cap es next r =
 
 at_once_runs : {T : Type 0} (Q : State T) (es : List (Effect T)) → RunsAtOnce Q es → Runs Q es
 at_once_runs Q [] r = tt
-at_once_runs Q (effect.Append v ∷ es) r = (r.0, at_once_runs (made (effect.Append v) Q) es r.1)
-at_once_runs Q (effect.Take v ∷ es) r = (r.0, at_once_runs (made (effect.Take v) Q) es r.1)
-at_once_runs Q (effect.Replace old v ∷ es) r = (r.0, at_once_runs (made (effect.Replace old v) Q) es r.1)
-at_once_runs Q (effect.Front old v ∷ effect.Arrive ∷ es) r = (r.1, ((v, refl), at_once_runs (made effect.Arrive (made (effect.Front old v) Q)) es r.2))
-at_once_runs Q (effect.Arrive ∷ es) r = absurd r
-at_once_runs Q (effect.Close ∷ es) r = (r.0, at_once_runs (made effect.Close Q) es r.1)
-at_once_runs Q (effect.SelfClose ∷ es) r = (r.0, at_once_runs (made effect.SelfClose Q) es r.1)
-at_once_runs Q (effect.Front old v ∷ []) r = absurd r
-at_once_runs Q (effect.Front old v ∷ effect.Append w ∷ es) r = absurd r
-at_once_runs Q (effect.Front old v ∷ effect.Take w ∷ es) r = absurd r
-at_once_runs Q (effect.Front old v ∷ effect.Replace u w ∷ es) r = absurd r
-at_once_runs Q (effect.Front old v ∷ effect.Front u w ∷ es) r = absurd r
-at_once_runs Q (effect.Front old v ∷ effect.Close ∷ es) r = absurd r
-at_once_runs Q (effect.Front old v ∷ effect.SelfClose ∷ es) r = absurd r
+at_once_runs Q (Effect.Append v ∷ es) r = (r.0, at_once_runs (made (Effect.Append v) Q) es r.1)
+at_once_runs Q (Effect.Take v ∷ es) r = (r.0, at_once_runs (made (Effect.Take v) Q) es r.1)
+at_once_runs Q (Effect.Replace old v ∷ es) r = (r.0, at_once_runs (made (Effect.Replace old v) Q) es r.1)
+at_once_runs Q (Effect.Front old v ∷ Effect.Arrive ∷ es) r = (r.1, ((v, refl), at_once_runs (made Effect.Arrive (made (Effect.Front old v) Q)) es r.2))
+at_once_runs Q (Effect.Close ∷ es) r = (r.0, at_once_runs (made Effect.Close Q) es r.1)
+at_once_runs Q (Effect.SelfClose ∷ es) r = (r.0, at_once_runs (made Effect.SelfClose Q) es r.1)
+at_once_runs Q (x ∷ es) r = absurd r
 
 pub at_once_is_legal : {T : Type 0} → AtOnceIsLegal T
 at_once_is_legal limit es r = at_once_runs (start limit 0) es r

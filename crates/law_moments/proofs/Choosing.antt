@@ -1,7 +1,6 @@
 -- What stands before an event, and what is a call's own, in a history and in what it settles into.
 use Rattle.std.proofs.Common.{◌≡◌, ◌⊎◌, ℕ, ◌+◌, ◌≤◌, nat_lt, Bool, true, false, not, if◌then◌else◌, List, [], ◌∷◌, ◌++◌, refl, ap, sym, ◌∙◌, inl, inr, arith}
-use Rattle.queue_steps.specs.declared.model.Effect.{Effect}
-use Rattle.queue_steps.specs.declared.model.Effect.TheVariants as effect
+use Rattle.law_common.specs.Vocabulary.{Effect}
 use Rattle.law_moments.specs.Moments.{displacements, others, settled}
 use Rattle.law_moments.specs.Entries.{Entry, chosen, effects_in, front_first, fronts_at, other_first, other_entries, settle_first, settle}
 use Rattle.law_moments.proofs.Naming.{entry, Rising, Flat, settle_flat}
@@ -47,13 +46,9 @@ module _ {T : Type 0} where
       ]
 
   others_named : (f : Entry T → Bool) (n p : ℕ) (e : Effect T) (xs : List (Entry T)) → chosen f (other_entries xs) ≡ others (chosen f xs) → chosen f (other_first (entry n p e) e (other_entries xs)) ≡ others (chosen f (entry n p e ∷ xs))
-  others_named f n p (effect.Append v) xs is = keeps_plain f (entry n p (effect.Append v)) (other_entries xs) xs (λ l. refl) is
-  others_named f n p (effect.Take v) xs is = keeps_plain f (entry n p (effect.Take v)) (other_entries xs) xs (λ l. refl) is
-  others_named f n p (effect.Replace old v) xs is = keeps_plain f (entry n p (effect.Replace old v)) (other_entries xs) xs (λ l. refl) is
-  others_named f n p (effect.Front old v) xs is = drops_part f (entry n p (effect.Front old v)) xs (chosen f (other_entries xs)) (λ l. refl) is
-  others_named f n p effect.Arrive xs is = drops_part f (entry n p effect.Arrive) xs (chosen f (other_entries xs)) (λ l. refl) is
-  others_named f n p effect.Close xs is = keeps_plain f (entry n p effect.Close) (other_entries xs) xs (λ l. refl) is
-  others_named f n p effect.SelfClose xs is = keeps_plain f (entry n p effect.SelfClose) (other_entries xs) xs (λ l. refl) is
+  others_named f n p (Effect.Front old v) xs is = drops_part f (entry n p (Effect.Front old v)) xs (chosen f (other_entries xs)) (λ l. refl) is
+  others_named f n p Effect.Arrive xs is = drops_part f (entry n p Effect.Arrive) xs (chosen f (other_entries xs)) (λ l. refl) is
+  others_named f n p e xs is = keeps_plain f (entry n p e) (other_entries xs) xs (λ l. refl) is
 
   pub chosen_others : (f : Entry T → Bool) (xs : List (Entry T)) → chosen f (other_entries xs) ≡ others (chosen f xs)
   chosen_others f [] = refl
@@ -90,19 +85,14 @@ module _ {T : Type 0} where
             (λ i. none_before n x.event (x ∷ xs) le flat i ++ all_later n x.event (x ∷ xs) le flat i)
       ]
 
-  front_before : (n k p q : ℕ) (old v : T) (ys : List (Entry T)) (es : List (Effect T)) → nat_lt k n ≡ true → before n ys ≡ es → before n (entry k p (effect.Front old v) ∷ entry k q effect.Arrive ∷ ys) ≡ effect.Front old v ∷ effect.Arrive ∷ es
+  front_before : (n k p q : ℕ) (old v : T) (ys : List (Entry T)) (es : List (Effect T)) → nat_lt k n ≡ true → before n ys ≡ es → before n (entry k p (Effect.Front old v) ∷ entry k q Effect.Arrive ∷ ys) ≡ Effect.Front old v ∷ Effect.Arrive ∷ es
   front_before n k p q old v ys es e is =
-      chosen_yes (λ y. nat_lt y.event n) (entry k p (effect.Front old v)) (entry k q effect.Arrive ∷ ys) e
-      ∙ ap (λ (l : List (Effect T)). effect.Front old v ∷ l) (chosen_yes (λ y. nat_lt y.event n) (entry k q effect.Arrive) ys e ∙ ap (λ (l : List (Effect T)). effect.Arrive ∷ l) is)
+      chosen_yes (λ y. nat_lt y.event n) (entry k p (Effect.Front old v)) (entry k q Effect.Arrive ∷ ys) e
+      ∙ ap (λ (l : List (Effect T)). Effect.Front old v ∷ l) (chosen_yes (λ y. nat_lt y.event n) (entry k q Effect.Arrive) ys e ∙ ap (λ (l : List (Effect T)). Effect.Arrive ∷ l) is)
 
   fronts_named : (n k j p : ℕ) (e : Effect T) (ys : List (Entry T)) (es : List (Effect T)) → nat_lt k n ≡ true → before n ys ≡ displacements es → before n (front_first k (entry j p e) e ys) ≡ displacements (e ∷ es)
-  fronts_named n k j p (effect.Append v) ys es e is = is
-  fronts_named n k j p (effect.Take v) ys es e is = is
-  fronts_named n k j p (effect.Replace old v) ys es e is = is
-  fronts_named n k j p (effect.Front old v) ys es e is = front_before n k p p old v ys (displacements es) e is
-  fronts_named n k j p effect.Arrive ys es e is = is
-  fronts_named n k j p effect.Close ys es e is = is
-  fronts_named n k j p effect.SelfClose ys es e is = is
+  fronts_named n k j p (Effect.Front old v) ys es e is = front_before n k p p old v ys (displacements es) e is
+  fronts_named n k j p x ys es e is = is
 
   fronts_before : (n k : ℕ) (xs : List (Entry T)) → nat_lt k n ≡ true → before n (fronts_at k xs) ≡ displacements (effects_in xs)
   fronts_before n k [] e = refl
@@ -113,15 +103,12 @@ module _ {T : Type 0} where
 
   before_named : (n k p : ℕ) (e : Effect T) (xs : List (Entry T)) → nat_lt k n ≡ true → before n xs ++ later n xs ≡ effects_in xs → before n (settle xs) ≡ settled (before n xs) (later n xs)
       → before n (settle_first (entry k p e) e xs (settle xs)) ≡ settled (e ∷ before n xs) (later n xs)
-  before_named n k p (effect.Append v) xs e both is = one_before n k p (effect.Append v) (settle xs) (settled (before n xs) (later n xs)) e is
-  before_named n k p (effect.Take v) xs e both is = one_before n k p (effect.Take v) (settle xs) (settled (before n xs) (later n xs)) e is
-  before_named n k p (effect.Replace old v) xs e both is = one_before n k p (effect.Replace old v) (settle xs) (settled (before n xs) (later n xs)) e is
-  before_named n k p (effect.Front old v) xs e both is = front_before n k p p old v (settle xs) (settled (before n xs) (later n xs)) e is
-  before_named n k p effect.Arrive xs e both is = is
-  before_named n k p effect.Close xs e both is =
-      chosen_append (λ y. nat_lt y.event n) (fronts_at k xs) (entry k p effect.Close ∷ other_entries xs)
-      ∙ (λ i. (fronts_before n k xs e ∙ ap displacements (sym both)) i ++ one_before n k p effect.Close (other_entries xs) (others (before n xs)) e (chosen_others (λ y. nat_lt y.event n) xs) i)
-  before_named n k p effect.SelfClose xs e both is = one_before n k p effect.SelfClose (settle xs) (settled (before n xs) (later n xs)) e is
+  before_named n k p (Effect.Front old v) xs e both is = front_before n k p p old v (settle xs) (settled (before n xs) (later n xs)) e is
+  before_named n k p Effect.Arrive xs e both is = is
+  before_named n k p Effect.Close xs e both is =
+      chosen_append (λ y. nat_lt y.event n) (fronts_at k xs) (entry k p Effect.Close ∷ other_entries xs)
+      ∙ (λ i. (fronts_before n k xs e ∙ ap displacements (sym both)) i ++ one_before n k p Effect.Close (other_entries xs) (others (before n xs)) e (chosen_others (λ y. nat_lt y.event n) xs) i)
+  before_named n k p x xs e both is = one_before n k p x (settle xs) (settled (before n xs) (later n xs)) e is
 
   pub settle_before : (n m : ℕ) (xs : List (Entry T)) → Rising m xs → before n (settle xs) ≡ settled (before n xs) (later n xs)
   settle_before n m [] up = refl

@@ -1,8 +1,7 @@
 -- Cases: a place before another or not; a glance at the middle of a displacement or none.
 use Rattle.std.proofs.Common.{◌≡◌, ◌⊎◌, ℕ, ◌<◌, ◌≤◌, Option, Some, None, refl, inl, inr, arith}
 use Rattle.queue_steps.specs.State.{State}
-use Rattle.queue_steps.specs.declared.model.Call.{Call}
-use Rattle.queue_steps.specs.declared.model.Call.TheVariants as call
+use Rattle.law_common.specs.Vocabulary.{Call}
 use Rattle.law_moments.specs.Moments.{IsGlance}
 
 pub cases_before : (k n : ℕ) → (k < n) ⊎ (n ≤ k)
@@ -10,15 +9,10 @@ cases_before k n = grind arith
 
 module _ {T : Type 0} where
   glance_or : (c : Call T) → IsGlance c ⊎ (IsGlance c → ⊥)
-  glance_or call.Len = inl tt
-  glance_or call.IsEmpty = inl tt
-  glance_or call.IsFull = inl tt
-  glance_or (call.Push v) = inr (λ h. h)
-  glance_or (call.ForcePush v) = inr (λ h. h)
-  glance_or call.Pop = inr (λ h. h)
-  glance_or call.Close = inr (λ h. h)
-  glance_or call.IsClosed = inr (λ h. h)
-  glance_or call.Capacity = inr (λ h. h)
+  glance_or Call.Len = inl tt
+  glance_or Call.IsEmpty = inl tt
+  glance_or Call.IsFull = inl tt
+  glance_or c = inr (λ h. h)
 
   coming_or : (o : Option T) → (o ≡ None) ⊎ ((v : T) × (o ≡ Some v))
   coming_or None = inl refl

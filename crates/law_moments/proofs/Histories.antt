@@ -1,9 +1,7 @@
 -- A history settles into one whose displacements are moments, with the same calls.
 use Rattle.std.proofs.Common.{◌≡◌, ℕ, ◌<◌, List, [], Option, None, refl, ap, sym, ◌∙◌, subst, inl, arith, append-nil}
 use Rattle.std.specs.List.{AllPairs}
-use Rattle.queue_steps.specs.declared.model.Call.{Call}
-use Rattle.queue_steps.specs.declared.model.Reply.{Reply}
-use Rattle.queue_steps.specs.declared.model.Effect.{Effect}
+use Rattle.law_common.specs.Vocabulary.{Call, Reply, Effect}
 use Rattle.queue_steps.specs.Effect.{IsHistory, after}
 use Rattle.queue_steps.specs.Replies.{Allows}
 use Rattle.law_moments.specs.Moments.{IsAtOnce, IsGlance, OneMoment}

@@ -1,8 +1,7 @@
 -- An order of whole calls whose effects are a history of moments is a run of the table of one owner.
 use Rattle.std.proofs.Common.{◌≡◌, ℕ, List, [], ◌∷◌, ◌++◌, Option, refl, ap, sym, ◌∙◌, subst, inl, inr, append-nil}
 use Rattle.queue_steps.specs.State.{State, start}
-use Rattle.queue_steps.specs.declared.model.Effect.{Effect}
-use Rattle.queue_steps.specs.declared.model.Effect.TheVariants as effect
+use Rattle.law_common.specs.Vocabulary.{Effect}
 use Rattle.queue_steps.specs.Effect.{made, Runs, IsHistory, after_from, after}
 use Rattle.queue_steps.specs.Legal.{IsShown}
 use Rattle.queue_steps.specs.Sequential.{Owned, fresh, SequentialRun}
@@ -24,18 +23,14 @@ module _ {T : Type 0} where
     next : RunsAtOnce (after_from Q es) more
 
   one_runs : (Q : State T) (e : Effect T) (more : List (Effect T)) → others (e ∷ []) ≡ e ∷ [] → RunsAtOnce Q (e ∷ more) → FirstRuns Q (e ∷ []) more
-  one_runs Q (effect.Append v) more plain r = record { runs = (r.0, tt); first = tt; next = r.1 }
-  one_runs Q (effect.Take v) more plain r = record { runs = (r.0, tt); first = tt; next = r.1 }
-  one_runs Q (effect.Replace old v) more plain r = record { runs = (r.0, tt); first = tt; next = r.1 }
-  one_runs Q (effect.Front old v) more plain r = absurd (let no : [] ≡ effect.Front old v ∷ [] = plain in cc)
-  one_runs Q effect.Arrive more plain r = absurd r
-  one_runs Q effect.Close more plain r = record { runs = (r.0, tt); first = tt; next = r.1 }
-  one_runs Q effect.SelfClose more plain r = record { runs = (r.0, tt); first = tt; next = r.1 }
+  one_runs Q (Effect.Front old v) more plain r = absurd (let no : [] ≡ Effect.Front old v ∷ [] = plain in cc)
+  one_runs Q Effect.Arrive more plain r = absurd r
+  one_runs Q e more plain r = record { runs = (r.0, tt); first = tt; next = r.1 }
 
   none_runs : (Q : State T) (more : List (Effect T)) → RunsAtOnce Q more → FirstRuns Q [] more
   none_runs Q more r = record { runs = tt; first = tt; next = r }
 
-  both_run : (Q : State T) (old v : T) (more : List (Effect T)) → RunsAtOnce Q (effect.Front old v ∷ effect.Arrive ∷ more) → FirstRuns Q (effect.Front old v ∷ effect.Arrive ∷ []) more
+  both_run : (Q : State T) (old v : T) (more : List (Effect T)) → RunsAtOnce Q (Effect.Front old v ∷ Effect.Arrive ∷ more) → FirstRuns Q (Effect.Front old v ∷ Effect.Arrive ∷ []) more
   both_run Q old v more r = record { runs = (r.1, ((v, refl), tt)); first = r.0; next = r.2 }
 
   first_runs : (Q : State T) (es more : List (Effect T)) → IsFew es → RunsAtOnce Q (es ++ more) → FirstRuns Q es more
@@ -74,32 +69,25 @@ module _ {T : Type 0} where
 
   one_by_one_is : (Q : State T) (v : T) (es : List (Effect T)) → RunsAtOnce Q es → OneByOne Q v es
   one_by_one_is Q v [] r = record { effects = refl; is = tt }
-  one_by_one_is Q v (effect.Append w ∷ es) r =
-      let more = one_by_one_is (made (effect.Append w) Q) v es r.1 in
-      record { effects = ap (λ (l : List (Effect T)). effect.Append w ∷ l) more.effects; is = (refl, λ none. absurd (cc), more.is) }
-  one_by_one_is Q v (effect.Take w ∷ es) r =
-      let more = one_by_one_is (made (effect.Take w) Q) v es r.1 in
-      record { effects = ap (λ (l : List (Effect T)). effect.Take w ∷ l) more.effects; is = (refl, λ none. absurd (cc), more.is) }
-  one_by_one_is Q v (effect.Replace old w ∷ es) r =
-      let more = one_by_one_is (made (effect.Replace old w) Q) v es r.1 in
-      record { effects = ap (λ (l : List (Effect T)). effect.Replace old w ∷ l) more.effects; is = (inl refl, λ none. absurd (cc), more.is) }
-  one_by_one_is Q v (effect.Front old w ∷ effect.Arrive ∷ es) r =
-      let more = one_by_one_is (made effect.Arrive (made (effect.Front old w) Q)) v es r.2 in
-      record { effects = ap (λ (l : List (Effect T)). effect.Front old w ∷ effect.Arrive ∷ l) more.effects; is = (inr refl, λ none. absurd (cc), more.is) }
-  one_by_one_is Q v (effect.Arrive ∷ es) r = absurd r
-  one_by_one_is Q v (effect.Close ∷ es) r =
-      let more = one_by_one_is (made effect.Close Q) v es r.1 in
-      record { effects = ap (λ (l : List (Effect T)). effect.Close ∷ l) more.effects; is = (refl, λ none. absurd (cc), more.is) }
-  one_by_one_is Q v (effect.SelfClose ∷ es) r =
-      let more = one_by_one_is (made effect.SelfClose Q) v es r.1 in
-      record { effects = ap (λ (l : List (Effect T)). effect.SelfClose ∷ l) more.effects; is = ((refl, inl refl), λ none. absurd (cc), more.is) }
-  one_by_one_is Q v (effect.Front old w ∷ []) r = absurd r
-  one_by_one_is Q v (effect.Front old w ∷ effect.Append x ∷ es) r = absurd r
-  one_by_one_is Q v (effect.Front old w ∷ effect.Take x ∷ es) r = absurd r
-  one_by_one_is Q v (effect.Front old w ∷ effect.Replace x y ∷ es) r = absurd r
-  one_by_one_is Q v (effect.Front old w ∷ effect.Front x y ∷ es) r = absurd r
-  one_by_one_is Q v (effect.Front old w ∷ effect.Close ∷ es) r = absurd r
-  one_by_one_is Q v (effect.Front old w ∷ effect.SelfClose ∷ es) r = absurd r
+  one_by_one_is Q v (Effect.Append w ∷ es) r =
+      let more = one_by_one_is (made (Effect.Append w) Q) v es r.1 in
+      record { effects = ap (λ (l : List (Effect T)). Effect.Append w ∷ l) more.effects; is = (refl, λ none. absurd (cc), more.is) }
+  one_by_one_is Q v (Effect.Take w ∷ es) r =
+      let more = one_by_one_is (made (Effect.Take w) Q) v es r.1 in
+      record { effects = ap (λ (l : List (Effect T)). Effect.Take w ∷ l) more.effects; is = (refl, λ none. absurd (cc), more.is) }
+  one_by_one_is Q v (Effect.Replace old w ∷ es) r =
+      let more = one_by_one_is (made (Effect.Replace old w) Q) v es r.1 in
+      record { effects = ap (λ (l : List (Effect T)). Effect.Replace old w ∷ l) more.effects; is = (inl refl, λ none. absurd (cc), more.is) }
+  one_by_one_is Q v (Effect.Front old w ∷ Effect.Arrive ∷ es) r =
+      let more = one_by_one_is (made Effect.Arrive (made (Effect.Front old w) Q)) v es r.2 in
+      record { effects = ap (λ (l : List (Effect T)). Effect.Front old w ∷ Effect.Arrive ∷ l) more.effects; is = (inr refl, λ none. absurd (cc), more.is) }
+  one_by_one_is Q v (Effect.Close ∷ es) r =
+      let more = one_by_one_is (made Effect.Close Q) v es r.1 in
+      record { effects = ap (λ (l : List (Effect T)). Effect.Close ∷ l) more.effects; is = (refl, λ none. absurd (cc), more.is) }
+  one_by_one_is Q v (Effect.SelfClose ∷ es) r =
+      let more = one_by_one_is (made Effect.SelfClose Q) v es r.1 in
+      record { effects = ap (λ (l : List (Effect T)). Effect.SelfClose ∷ l) more.effects; is = ((refl, inl refl), λ none. absurd (cc), more.is) }
+  one_by_one_is Q v (x ∷ es) r = absurd r
 
 pub orders_are_runs : {T : Type 0} → OrdersAreRuns T
 orders_are_runs cap order r is = order_runs cap order r is

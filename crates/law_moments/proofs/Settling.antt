@@ -1,9 +1,7 @@
 -- A history settles into one whose displacements are moments.
 use Rattle.std.proofs.Common.{◌≡◌, ◌⊎◌, ℕ, ◌+◌, ◌<◌, Bool, true, false, List, [], ◌∷◌, ◌++◌, length, Option, Some, None, refl, ap, sym, ◌∙◌, subst, inl, inr, arith, length-append, append_assoc}
 use mathlib.Core.List.{IsPrefix}
-use Rattle.queue_steps.specs.declared.sizes.TheConstants.{LIMIT}
-use Rattle.queue_steps.specs.declared.model.Effect.{Effect}
-use Rattle.queue_steps.specs.declared.model.Effect.TheVariants as effect
+use Rattle.law_common.specs.Vocabulary.{Effect, LIMIT}
 use Rattle.queue_steps.specs.State.{State, start, fills, is_single_cap}
 use Rattle.queue_steps.specs.Effect.{Fits, made, with_coming, Runs, after_from}
 use Rattle.law_moments.specs.Moments.{RunsAtOnce, displacements, others, settled, arrived}
@@ -45,23 +43,22 @@ module _ {T : Type 0} where
     pub room : Fit Q.cap (held Q)
 
   pub sound_on : (e : Effect T) (Q : State T) → Fits e Q → Sound Q → Sound (made e Q)
-  sound_on (effect.Append v) Q f s =
+  sound_on (Effect.Append v) Q f s =
       record { single = s.single; uncapped = s.uncapped; below = λ is many. f.1; room = fit_more Q.cap (length Q.items) (many Q.coming) (length (Q.items ++ v ∷ [])) (ap many f.1) (length-append Q.items (v ∷ [])) f.2 s.room }
-  sound_on (effect.Take v) Q f s =
-      record { single = s.single; uncapped = s.uncapped; below = s.below; room = fit_less Q.cap (held Q) (held (made (effect.Take v) Q)) (held_less Q v f.0 f.1) s.room }
-  sound_on (effect.Replace old v) Q f s =
+  sound_on (Effect.Take v) Q f s =
+      record { single = s.single; uncapped = s.uncapped; below = s.below; room = fit_less Q.cap (held Q) (held (made (Effect.Take v) Q)) (held_less Q v f.0 f.1) s.room }
+  sound_on (Effect.Replace old v) Q f s =
       let none = s.single (ap is_single_cap f.0) in let zero : many Q.coming ≡ 0 = ap many none in
       record { single = s.single; uncapped = s.uncapped; below = λ is other. none; room = fit_single Q.cap (1 + many Q.coming) f.0 (omega (arith, zero)) }
-  sound_on (effect.Front old v) Q f s =
+  sound_on (Effect.Front old v) Q f s =
       record {
         single = λ yes. absurd (let no = f.0 in cc);
         uncapped = λ is. absurd (none_uncapped Q.cap (length Q.items) f.1 is);
         below = λ is other. absurd (below_front (is_single_cap Q.cap) Q.accepted other f.3 is);
         room = subst (Fit Q.cap) (sym (held_front Q old v f)) s.room;
       }
-  sound_on effect.Arrive Q f s = record { single = λ yes. refl; uncapped = λ is. refl; below = λ is no. refl; room = subst (Fit Q.cap) (sym (held_arrive Q)) s.room }
-  sound_on effect.Close Q f s = record { single = s.single; uncapped = s.uncapped; below = s.below; room = s.room }
-  sound_on effect.SelfClose Q f s = record { single = s.single; uncapped = s.uncapped; below = s.below; room = s.room }
+  sound_on Effect.Arrive Q f s = record { single = λ yes. refl; uncapped = λ is. refl; below = λ is no. refl; room = subst (Fit Q.cap) (sym (held_arrive Q)) s.room }
+  sound_on e Q f s = record { single = s.single; uncapped = s.uncapped; below = s.below; room = s.room }
 
   pub sound_after : (Q : State T) (es next : List (Effect T)) → Runs Q (es ++ next) → Sound Q → Sound (after_from Q es)
   sound_after Q [] next r s = s
@@ -74,48 +71,47 @@ module _ {T : Type 0} where
   -- a queue that has closed itself
   spent_settles : (Q : State T) (es next : List (Effect T)) → Q.closed ≡ true → Q.coming ≡ None → is_single_cap Q.cap ≡ false → Q.accepted ≡ LIMIT → Runs Q (es ++ next) → Settles es next (after_from Q es) Q
   spent_settles Q [] next shut none other spent r = (tt, subst (Agrees next Q) (arrived_none Q none) (agrees_arrived next Q))
-  spent_settles Q (effect.Append v ∷ es) next shut none other spent r = absurd (let no = r.0.0 in cc)
-  spent_settles Q (effect.Take v ∷ es) next shut none other spent r = let more = spent_settles (made (effect.Take v) Q) es next shut none other spent r.1 in ((r.0, more.0), more.1)
-  spent_settles Q (effect.Replace old v ∷ es) next shut none other spent r = absurd (let no = r.0.1 in cc)
-  spent_settles Q (effect.Front old v ∷ es) next shut none other spent r = absurd (below_front (is_single_cap Q.cap) Q.accepted other r.0.3 spent)
-  spent_settles Q (effect.Arrive ∷ es) next shut none other spent r = absurd (let some = r.0.1 in cc)
-  spent_settles Q (effect.Close ∷ es) next shut none other spent r = absurd (let no = r.0 in cc)
-  spent_settles Q (effect.SelfClose ∷ es) next shut none other spent r = absurd (let no = r.0.0 in cc)
+  spent_settles Q (Effect.Take v ∷ es) next shut none other spent r = let more = spent_settles (made (Effect.Take v) Q) es next shut none other spent r.1 in ((r.0, more.0), more.1)
+  spent_settles Q (Effect.Replace old v ∷ es) next shut none other spent r = absurd (let no = r.0.1 in cc)
+  spent_settles Q (Effect.Front old v ∷ es) next shut none other spent r = absurd (below_front (is_single_cap Q.cap) Q.accepted other r.0.3 spent)
+  spent_settles Q (Effect.Arrive ∷ es) next shut none other spent r = absurd (let some = r.0.1 in cc)
+  spent_settles Q (Effect.Close ∷ es) next shut none other spent r = absurd (let no = r.0 in cc)
+  spent_settles Q (x ∷ es) next shut none other spent r = absurd (let no = r.0.0 in cc)
 
   pub open_settles : (Q : State T) (es next : List (Effect T)) → Q.closed ≡ false → Sound Q → Runs Q (es ++ next) → Settles es next (after_from Q es) (arrived Q)
   open_settles Q [] next free s r = (tt, agrees_arrived next Q)
-  open_settles Q (effect.Append v ∷ es) next free s r =
-      let R : State T = made (effect.Append v) Q in let none : Q.coming ≡ None = r.0.1 in
-      let more = open_settles R es next free (sound_on (effect.Append v) Q r.0 s) r.1 in
+  open_settles Q (Effect.Append v ∷ es) next free s r =
+      let R : State T = made (Effect.Append v) Q in let none : Q.coming ≡ None = r.0.1 in
+      let more = open_settles R es next free (sound_on (Effect.Append v) Q r.0 s) r.1 in
       let there : Settles es next (after_from R es) R = subst (Settles es next (after_from R es)) (arrived_none R none) more in
-      subst (Settles (effect.Append v ∷ es) next (after_from R es)) (sym (arrived_none Q none)) ((r.0, there.0), there.1)
-  open_settles Q (effect.Take v ∷ es) next free s r =
-      let R : State T = made (effect.Take v) Q in let ys = r.0.0 in let is = r.0.1 in
-      let more = open_settles R es next free (sound_on (effect.Take v) Q r.0 s) r.1 in
-      let there : Settles es next (after_from R es) (made (effect.Take v) (arrived Q)) = subst (Settles es next (after_from R es)) (sym (arrived_take Q v ys is)) more in
+      subst (Settles (Effect.Append v ∷ es) next (after_from R es)) (sym (arrived_none Q none)) ((r.0, there.0), there.1)
+  open_settles Q (Effect.Take v ∷ es) next free s r =
+      let R : State T = made (Effect.Take v) Q in let ys = r.0.0 in let is = r.0.1 in
+      let more = open_settles R es next free (sound_on (Effect.Take v) Q r.0 s) r.1 in
+      let there : Settles es next (after_from R es) (made (Effect.Take v) (arrived Q)) = subst (Settles es next (after_from R es)) (sym (arrived_take Q v ys is)) more in
       (((with_coming ys Q.coming, take_first Q.items ys v Q.coming is), there.0), there.1)
-  open_settles Q (effect.Replace old v ∷ es) next free s r =
-      let R : State T = made (effect.Replace old v) Q in let none : Q.coming ≡ None = s.single (ap is_single_cap r.0.0) in
-      let more = open_settles R es next free (sound_on (effect.Replace old v) Q r.0 s) r.1 in
+  open_settles Q (Effect.Replace old v ∷ es) next free s r =
+      let R : State T = made (Effect.Replace old v) Q in let none : Q.coming ≡ None = s.single (ap is_single_cap r.0.0) in
+      let more = open_settles R es next free (sound_on (Effect.Replace old v) Q r.0 s) r.1 in
       let there : Settles es next (after_from R es) R = subst (Settles es next (after_from R es)) (arrived_none R none) more in
-      subst (Settles (effect.Replace old v ∷ es) next (after_from R es)) (sym (arrived_none Q none)) ((r.0, there.0), there.1)
-  open_settles Q (effect.Front old v ∷ es) next free s r =
-      let R : State T = made (effect.Front old v) Q in let none : Q.coming ≡ None = r.0.2 in
-      let more = open_settles R es next free (sound_on (effect.Front old v) Q r.0 s) r.1 in
-      subst (Settles (effect.Front old v ∷ es) next (after_from R es)) (sym (arrived_none Q none)) ((free, r.0, more.0), more.1)
-  open_settles Q (effect.Arrive ∷ es) next free s r =
-      let R : State T = made effect.Arrive Q in
-      let more = open_settles R es next free (sound_on effect.Arrive Q r.0 s) r.1 in
+      subst (Settles (Effect.Replace old v ∷ es) next (after_from R es)) (sym (arrived_none Q none)) ((r.0, there.0), there.1)
+  open_settles Q (Effect.Front old v ∷ es) next free s r =
+      let R : State T = made (Effect.Front old v) Q in let none : Q.coming ≡ None = r.0.2 in
+      let more = open_settles R es next free (sound_on (Effect.Front old v) Q r.0 s) r.1 in
+      subst (Settles (Effect.Front old v ∷ es) next (after_from R es)) (sym (arrived_none Q none)) ((free, r.0, more.0), more.1)
+  open_settles Q (Effect.Arrive ∷ es) next free s r =
+      let R : State T = made Effect.Arrive Q in
+      let more = open_settles R es next free (sound_on Effect.Arrive Q r.0 s) r.1 in
       subst (Settles es next (after_from R es)) (arrived_none R refl ∙ arrived_arrive Q r.0.0 r.0.1) more
-  open_settles Q (effect.Close ∷ es) next free s r =
-      let R : State T = made effect.Close Q in
+  open_settles Q (Effect.Close ∷ es) next free s r =
+      let R : State T = made Effect.Close Q in
       let more = close_settles R es next refl s.room r.1 in
       let back : reopened (arrived R) ≡ arrived Q = ap {B = State T} (λ (b : Bool). record (arrived Q) { closed = b }) (sym free) in
       subst (Closes es next (after_from R es)) back more
-  open_settles Q (effect.SelfClose ∷ es) next free s r =
-      let R : State T = made effect.SelfClose Q in let none : Q.coming ≡ None = s.below r.0.2 r.0.1 in
+  open_settles Q (Effect.SelfClose ∷ es) next free s r =
+      let R : State T = made Effect.SelfClose Q in let none : Q.coming ≡ None = s.below r.0.2 r.0.1 in
       let more = spent_settles R es next refl none r.0.1 r.0.2 r.1 in
-      subst (Settles (effect.SelfClose ∷ es) next (after_from R es)) (sym (arrived_none Q none)) ((r.0, more.0), more.1)
+      subst (Settles (Effect.SelfClose ∷ es) next (after_from R es)) (sym (arrived_none Q none)) ((r.0, more.0), more.1)
 
   pub sound_start : (cap : Option ℕ) → Sound (start {T = T} cap 0)
   sound_start None = record { single = λ is. refl; uncapped = λ is. refl; below = λ is no. refl; room = tt }
@@ -123,13 +119,12 @@ module _ {T : Type 0} where
 
   others_append : (es more : List (Effect T)) → others (es ++ more) ≡ others es ++ others more
   others_append [] more = refl
-  others_append (effect.Append v ∷ es) more = ap (λ (l : List (Effect T)). effect.Append v ∷ l) (others_append es more)
-  others_append (effect.Take v ∷ es) more = ap (λ (l : List (Effect T)). effect.Take v ∷ l) (others_append es more)
-  others_append (effect.Replace old v ∷ es) more = ap (λ (l : List (Effect T)). effect.Replace old v ∷ l) (others_append es more)
-  others_append (effect.Front old v ∷ es) more = others_append es more
-  others_append (effect.Arrive ∷ es) more = others_append es more
-  others_append (effect.Close ∷ es) more = ap (λ (l : List (Effect T)). effect.Close ∷ l) (others_append es more)
-  others_append (effect.SelfClose ∷ es) more = ap (λ (l : List (Effect T)). effect.SelfClose ∷ l) (others_append es more)
+  others_append (Effect.Append v ∷ es) more = ap (λ (l : List (Effect T)). Effect.Append v ∷ l) (others_append es more)
+  others_append (Effect.Take v ∷ es) more = ap (λ (l : List (Effect T)). Effect.Take v ∷ l) (others_append es more)
+  others_append (Effect.Replace old v ∷ es) more = ap (λ (l : List (Effect T)). Effect.Replace old v ∷ l) (others_append es more)
+  others_append (Effect.Close ∷ es) more = ap (λ (l : List (Effect T)). Effect.Close ∷ l) (others_append es more)
+  others_append (Effect.SelfClose ∷ es) more = ap (λ (l : List (Effect T)). Effect.SelfClose ∷ l) (others_append es more)
+  others_append (x ∷ es) more = others_append es more
 
   -- what is settled stays settled
   abbrev GoesOn : List (Effect T) → List (Effect T) → List (Effect T) → Type 0
@@ -140,13 +135,10 @@ module _ {T : Type 0} where
 
   pub goes_on : (es more next : List (Effect T)) → GoesOn es more next
   goes_on [] more next = (settled more next, refl)
-  goes_on (effect.Append v ∷ es) more next = behind (effect.Append v) _ _ (goes_on es more next)
-  goes_on (effect.Take v ∷ es) more next = behind (effect.Take v) _ _ (goes_on es more next)
-  goes_on (effect.Replace old v ∷ es) more next = behind (effect.Replace old v) _ _ (goes_on es more next)
-  goes_on (effect.Front old v ∷ es) more next = behind (effect.Front old v) (effect.Arrive ∷ settled es (more ++ next)) (effect.Arrive ∷ settled (es ++ more) next) (behind effect.Arrive (settled es (more ++ next)) (settled (es ++ more) next) (goes_on es more next))
-  goes_on (effect.Arrive ∷ es) more next = goes_on es more next
-  goes_on (effect.Close ∷ es) more next =
+  goes_on (Effect.Front old v ∷ es) more next = behind (Effect.Front old v) (Effect.Arrive ∷ settled es (more ++ next)) (Effect.Arrive ∷ settled (es ++ more) next) (behind Effect.Arrive (settled es (more ++ next)) (settled (es ++ more) next) (goes_on es more next))
+  goes_on (Effect.Arrive ∷ es) more next = goes_on es more next
+  goes_on (Effect.Close ∷ es) more next =
       let D : List (Effect T) = displacements (es ++ (more ++ next)) in
       let same : D ≡ displacements ((es ++ more) ++ next) = ap displacements (sym (append_assoc es more next)) in
-      (others more, append_assoc D (effect.Close ∷ others es) (others more) ∙ ((λ i. same i ++ effect.Close ∷ sym (others_append es more) i)))
-  goes_on (effect.SelfClose ∷ es) more next = behind effect.SelfClose _ _ (goes_on es more next)
+      (others more, append_assoc D (Effect.Close ∷ others es) (others more) ∙ ((λ i. same i ++ Effect.Close ∷ sym (others_append es more) i)))
+  goes_on (x ∷ es) more next = behind x _ _ (goes_on es more next)

@@ -10,10 +10,7 @@ use lib.ListN.{get_elem?}
 use Rattle.queue_steps.specs.State.{State, start}
 use Rattle.queue_steps.specs.Effect.{IsHistory, after}
 use Rattle.queue_steps.specs.Replies.{Allows, Tells}
-use Rattle.queue_steps.specs.declared.model.Call.{Call}
-use Rattle.queue_steps.specs.declared.model.Reply.{Reply}
-use Rattle.queue_steps.specs.declared.model.Effect.{Effect}
-use Rattle.queue_steps.specs.declared.model.Effect.TheVariants as effect
+use Rattle.law_common.specs.Vocabulary.{Call, Reply, Effect}
 use Rattle.queue_steps.specs.Parties.{View, StandAt, Displaces, SharedCall}
 use Rattle.queue_steps.proofs.Places.{below_at}
 use Rattle.law_moments.specs.Moments.{arrived, displacements}
@@ -61,8 +58,7 @@ module _ {T : Type 0} where
   stand_more : (t d : List (Effect T)) (n : ℕ) (ps : List ℕ) (es : List (Effect T)) → StandAt t n ps es → StandAt (t ++ d) n ps es
   stand_more t d n [] [] st = tt
   stand_more t d n (p ∷ ps) (e ∷ es) st = (st.0, elem_more t d p e st.1, stand_more t d (p + 1) ps es st.2)
-  stand_more t d n [] (e ∷ es) st = absurd st
-  stand_more t d n (p ∷ ps) [] st = absurd st
+  stand_more t d n ps es st = absurd st
 
   -- a place of the call is in what was seen, past what was seen before
   place_inside : (t : List (Effect T)) (n : ℕ) (ps : List ℕ) (es : List (Effect T)) → StandAt t n ps es → (q : ℕ) → is_one_of ps q ≡ true → (n ≤ q) × (q < length t)
@@ -72,8 +68,7 @@ module _ {T : Type 0} where
         | inl is ↦ let lt = below_at t p e st.1 in (omega (arith, st.0, is), omega (arith, lt, is))
         | inr more ↦ let there = place_inside t (p + 1) ps es st.2 q more in (omega (arith, st.0, there.0), there.1)
       ]
-  place_inside t n [] (e ∷ es) st q has = absurd st
-  place_inside t n (p ∷ ps) [] st q has = absurd st
+  place_inside t n ps es st q has = absurd st
 
   chosen_same : (f g : Entry T → Bool) (xs : List (Entry T)) → AllByRecursion (λ x. f x ≡ g x) xs → chosen f xs ≡ chosen g xs
   chosen_same f g [] all = refl
@@ -118,8 +113,7 @@ module _ {T : Type 0} where
             let st' : StandAt t (k + 1) (p ∷ ps) (e ∷ es) = (later, st.1, st.2) in
             chosen_not (at_places (p ∷ ps)) y (numbered (k + 1) l) (none_yet t k (p ∷ ps) (e ∷ es) st') ∙ places_hold t (k + 1) (pre ++ x ∷ []) l (p ∷ ps) (e ∷ es) next more st'
       ]
-  places_hold t k pre l [] (e ∷ es) is len st = absurd st
-  places_hold t k pre l (p ∷ ps) [] is len st = absurd st
+  places_hold t k pre l ps es is len st = absurd st
 
   -- an entry of the history is at its own place
   record Placed (h : List (Effect T)) (x : Entry T) : Type 0 where
@@ -162,16 +156,16 @@ module _ {T : Type 0} where
 
   -- a close before a front of the call is past what its party had seen
   close_past : (limit : Option ℕ) (s t d : List (Effect T)) (n : ℕ) (ps : List ℕ) (es : List (Effect T)) → StandAt t n ps es → IsFew es → Displaces limit s t ps
-      → (q : ℕ) → is_one_of ps q ≡ true → (old v : T) → get_elem? (t ++ d) q ≡ some (effect.Front old v) → (k : ℕ) → get_elem? (t ++ d) k ≡ some effect.Close → k < q → length s ≤ k
+      → (q : ℕ) → is_one_of ps q ≡ true → (old v : T) → get_elem? (t ++ d) q ≡ some (Effect.Front old v) → (k : ℕ) → get_elem? (t ++ d) k ≡ some Effect.Close → k < q → length s ≤ k
   close_past limit s t d n [] [] st few shows q has old v front k shut lt = cc
   close_past limit s t d n (p ∷ []) (e ∷ []) st few shows q has old v front k shut lt =
       let here : get_elem? (t ++ d) q ≡ some e = subst (λ (m : ℕ). get_elem? (t ++ d) m ≡ some e) (same_place p q has) (elem_more t d p e st.1) in
-      let is : e ≡ effect.Front old v = some-injective e (effect.Front old v) (sym here ∙ front) in
+      let is : e ≡ Effect.Front old v = some-injective e (Effect.Front old v) (sym here ∙ front) in
       elim few [
         | inl none ↦ absurd (cc)
         | inr (inl one) ↦
-            absurd (let never : effect.Front old v ∷ effect.Arrive ∷ [] ≡ [] = ap (λ (x : Effect T). displacements (x ∷ [])) (sym is ∙ head_of [] [] e one.0 one.1) ∙ one.2 in cc)
-        | inr (inr two) ↦ absurd (let never : [] ≡ effect.Arrive ∷ [] = tail_of [] (effect.Arrive ∷ []) e (effect.Front two.0 two.1) two.2 in cc)
+            absurd (let never : Effect.Front old v ∷ Effect.Arrive ∷ [] ≡ [] = ap (λ (x : Effect T). displacements (x ∷ [])) (sym is ∙ head_of [] [] e one.0 one.1) ∙ one.2 in cc)
+        | inr (inr two) ↦ absurd (let never : [] ≡ Effect.Arrive ∷ [] = tail_of [] (Effect.Arrive ∷ []) e (Effect.Front two.0 two.1) two.2 in cc)
       ]
   close_past limit s t d n (p ∷ r ∷ []) (e ∷ f ∷ []) st few shows q has old v front k shut lt =
       elim few [
@@ -183,45 +177,42 @@ module _ {T : Type 0} where
                   let g : List (Effect T) = shows.0.0 in let long = prefix_long s g shows.0.1 in let d' : List (Effect T) = shows.0.2.0 in
                   elim (cases_before k (length g)) [
                     | inl early ↦
-                        let there : get_elem? (g ++ (d' ++ d)) k ≡ some effect.Close = ap (λ (l : List (Effect T)). get_elem? l k) (sym (append_assoc g d' d) ∙ ap (λ (l : List (Effect T)). l ++ d) shows.0.2.1) ∙ shut in
+                        let there : get_elem? (g ++ (d' ++ d)) k ≡ some Effect.Close = ap (λ (l : List (Effect T)). get_elem? l k) (sym (append_assoc g d' d) ∙ ap (λ (l : List (Effect T)). l ++ d) shows.0.2.1) ∙ shut in
                         let closed : (after limit g).closed ≡ true = closed_within (start limit 0) g (d' ++ d) k there early in
                         let free = shows.0.4 in absurd (cc)
                     | inr le ↦ omega (arith, le, long)
                   ]
               | inr more ↦
                   let here : get_elem? (t ++ d) q ≡ some f = subst (λ (m : ℕ). get_elem? (t ++ d) m ≡ some f) (same_place r q more) (elem_more t d r f st.2.1) in
-                  let arrive : f ≡ effect.Arrive = head_of [] [] f effect.Arrive (tail_of (f ∷ []) (effect.Arrive ∷ []) e (effect.Front two.0 two.1) two.2) in
-                  let is : f ≡ effect.Front old v = some-injective f (effect.Front old v) (sym here ∙ front) in absurd (cc)
+                  let arrive : f ≡ Effect.Arrive = head_of [] [] f Effect.Arrive (tail_of (f ∷ []) (Effect.Arrive ∷ []) e (Effect.Front two.0 two.1) two.2) in
+                  let is : f ≡ Effect.Front old v = some-injective f (Effect.Front old v) (sym here ∙ front) in absurd (cc)
             ]
       ]
   close_past limit s t d n (p ∷ r ∷ u ∷ ps) (e ∷ f ∷ g ∷ es) st few shows q has old v front k shut lt =
       elim few [
         | inl none ↦ absurd (cc)
         | inr (inl one) ↦ absurd (let never : f ∷ g ∷ es ≡ [] = tail_of (f ∷ g ∷ es) [] e one.0 one.1 in cc)
-        | inr (inr two) ↦ absurd (let never : g ∷ es ≡ [] = tail_of (g ∷ es) [] f effect.Arrive (tail_of (f ∷ g ∷ es) (effect.Arrive ∷ []) e (effect.Front two.0 two.1) two.2) in cc)
+        | inr (inr two) ↦ absurd (let never : g ∷ es ≡ [] = tail_of (g ∷ es) [] f Effect.Arrive (tail_of (f ∷ g ∷ es) (Effect.Arrive ∷ []) e (Effect.Front two.0 two.1) two.2) in cc)
       ]
-  close_past limit s t d n [] (e ∷ es) st few shows q has old v front k shut lt = absurd st
-  close_past limit s t d n (p ∷ ps) [] st few shows q has old v front k shut lt = absurd st
-  close_past limit s t d n (p ∷ []) (e ∷ f ∷ es) st few shows q has old v front k shut lt = absurd st.2
-  close_past limit s t d n (p ∷ r ∷ ps) (e ∷ []) st few shows q has old v front k shut lt = absurd st.2
-  close_past limit s t d n (p ∷ r ∷ []) (e ∷ f ∷ g ∷ es) st few shows q has old v front k shut lt = absurd st.2.2
-  close_past limit s t d n (p ∷ r ∷ u ∷ ps) (e ∷ f ∷ []) st few shows q has old v front k shut lt = absurd st.2.2
+  close_past limit s t d n (p ∷ r ∷ ps) (e ∷ f ∷ es) st few shows q has old v front k shut lt = absurd st.2.2
+  close_past limit s t d n (p ∷ ps) (e ∷ es) st few shows q has old v front k shut lt = absurd st.2
+  close_past limit s t d n ps es st few shows q has old v front k shut lt = absurd st
 
   -- the entries of a history rise, each at its place
   numbered_rising : (k : ℕ) (h : List (Effect T)) → Rising k (numbered k h)
   numbered_rising k [] = tt
   numbered_rising k (e ∷ h) = (omega arith, numbered_rising (k + 1) h)
 
-  fronts_alike : (own : ℕ → ℕ → Bool) (h : List (Effect T)) → ((q k : ℕ) (old v : T) → get_elem? h q ≡ some (effect.Front old v) → get_elem? h k ≡ some effect.Close → k < q → own q k ≡ own q q)
-      → (x : Entry T) → get_elem? h x.event ≡ some effect.Close → (m : ℕ) (ys : List (Entry T)) → x.event < m → Rising m ys → AllByRecursion (Placed h) ys → SeesNoMove own x.event ys
+  fronts_alike : (own : ℕ → ℕ → Bool) (h : List (Effect T)) → ((q k : ℕ) (old v : T) → get_elem? h q ≡ some (Effect.Front old v) → get_elem? h k ≡ some Effect.Close → k < q → own q k ≡ own q q)
+      → (x : Entry T) → get_elem? h x.event ≡ some Effect.Close → (m : ℕ) (ys : List (Entry T)) → x.event < m → Rising m ys → AllByRecursion (Placed h) ys → SeesNoMove own x.event ys
   fronts_alike own h alike x shut m [] lt up all = tt
   fronts_alike own h alike x shut m (y ∷ ys) lt up all = (
-    λ old v front. let there : get_elem? h y.event ≡ some (effect.Front old v) = all.0.there ∙ ap some front in
+    λ old v front. let there : get_elem? h y.event ≡ some (Effect.Front old v) = all.0.there ∙ ap some front in
         ap (λ (p : ℕ). own p x.event) all.0.own ∙ (alike y.event x.event old v there shut (omega (arith, lt, up.0)) ∙ sym (ap (λ (p : ℕ). own p y.event) all.0.own)),
     fronts_alike own h alike x shut (y.event + 1) ys (omega (arith, lt, up.0)) up.1 all.1,
   )
 
-  closes_within : (own : ℕ → ℕ → Bool) (h : List (Effect T)) → ((q k : ℕ) (old v : T) → get_elem? h q ≡ some (effect.Front old v) → get_elem? h k ≡ some effect.Close → k < q → own q k ≡ own q q)
+  closes_within : (own : ℕ → ℕ → Bool) (h : List (Effect T)) → ((q k : ℕ) (old v : T) → get_elem? h q ≡ some (Effect.Front old v) → get_elem? h k ≡ some Effect.Close → k < q → own q k ≡ own q q)
       → (m : ℕ) (xs : List (Entry T)) → Rising m xs → AllByRecursion (Placed h) xs → KeepsFronts own xs
   closes_within own h alike m [] up all = tt
   closes_within own h alike m (x ∷ xs) up all =
@@ -241,8 +232,7 @@ module _ {T : Type 0} where
   stand_lower : (t : List (Effect T)) (n : ℕ) (ps : List ℕ) (es : List (Effect T)) → StandAt t n ps es → StandAt t 0 ps es
   stand_lower t n [] [] st = tt
   stand_lower t n (p ∷ ps) (e ∷ es) st = (omega arith, st.1, st.2)
-  stand_lower t n [] (e ∷ es) st = absurd st
-  stand_lower t n (p ∷ ps) [] st = absurd st
+  stand_lower t n ps es st = absurd st
 
   call_settles : (limit : Option ℕ) (h d : List (Effect T)) (v w : View T) (c : Call T) (r : Reply T) → SettlesInto limit (numbered 0 h) (settled_history h) → w.seen ++ d ≡ h → SharedCall limit v w c r → CallsAtOnce limit h v w c r
   call_settles limit h d v w c r settles is s =
@@ -251,12 +241,12 @@ module _ {T : Type 0} where
       let few = is_few c r s.effects s.tells in
       let at_h : StandAt h a s.places s.effects = subst (λ (l : List (Effect T)). StandAt l a s.places s.effects) is (stand_more w.seen d a s.places s.effects s.stand) in
       let all : AllByRecursion (Placed h) (numbered 0 h) = all_placed h 0 [] h refl refl in
-      let alike : (q k : ℕ) (old x : T) → get_elem? h q ≡ some (effect.Front old x) → get_elem? h k ≡ some effect.Close → k < q → own q k ≡ own q q =
+      let alike : (q k : ℕ) (old x : T) → get_elem? h q ≡ some (Effect.Front old x) → get_elem? h k ≡ some Effect.Close → k < q → own q k ≡ own q q =
       λ q k old x front shut lt. elim (bool_or (is_one_of s.places q)) [
         | inl has ↦
             let here = inside q has in
-            let past : a ≤ k = close_past limit v.seen w.seen d a s.places s.effects s.stand few s.displaces q has old x (subst (λ (l : List (Effect T)). get_elem? l q ≡ some (effect.Front old x)) (sym is) front) k
-            (subst (λ (l : List (Effect T)). get_elem? l k ≡ some effect.Close) (sym is) shut) lt in
+            let past : a ≤ k = close_past limit v.seen w.seen d a s.places s.effects s.stand few s.displaces q has old x (subst (λ (l : List (Effect T)). get_elem? l q ≡ some (Effect.Front old x)) (sym is) front) k
+            (subst (λ (l : List (Effect T)). get_elem? l k ≡ some Effect.Close) (sym is) shut) lt in
             ap (λ (t : Bool). is_one_of s.places q && t) (within_all a b k past (omega (arith, lt, here.1)) ∙ sym (within_all a b q here.0 here.1))
         | inr none ↦ (λ i. none i && (nat_le a k && nat_lt k b)) ∙ sym (λ i. none i && (nat_le a q && nat_lt q b))
       ] in

@@ -5,14 +5,7 @@ use Rattle.queue_steps.specs.Effect.{Runs, after_from}
 use Rattle.queue_steps.specs.Legal.{IsShown}
 use Rattle.queue_steps.specs.Replies.{MayAsk, LacksMemory, Allows, Tells}
 use Rattle.queue_steps.specs.Sequential.{Owned, Sequential, moved, sequential_reply, sequential_state, counted, is_spent}
-use Rattle.queue_steps.specs.declared.model.Call.{Call}
-use Rattle.queue_steps.specs.declared.model.Call.TheVariants as call
-use Rattle.queue_steps.specs.declared.model.Effect.{Effect}
-use Rattle.queue_steps.specs.declared.model.Effect.TheVariants as effect
-use Rattle.queue_steps.specs.declared.model.Reply.{Reply}
-use Rattle.queue_steps.specs.declared.model.Reply.TheVariants as reply
-use Rattle.queue_steps.specs.declared.errors.PushError.TheVariants as push
-use Rattle.queue_steps.specs.declared.errors.ForcePushError.TheVariants as force
+use Rattle.law_common.specs.Vocabulary.{Call, Reply, Effect, PushError, ForcePushError}
 use Rattle.queue_steps.proofs.Keeping.{coming-sequential}
 use Rattle.queue_steps.proofs.Rows.{Same, with_count, Does, does_row}
 
@@ -31,11 +24,9 @@ counts-counted Q = elim (is_single_cap Q.cap) as (λ b. Q.accepted ≤ (if b the
 
 -- no call of the table counts down
 counts-up : {T : Type 0} (Q : State T) (c : Call T) → Q.accepted ≤ (sequential_state Q c).accepted
-counts-up Q (call.Push v) = counts-if Q.closed _ _ Q.accepted (omega arith) (counts-if (is_spent Q) _ _ Q.accepted (omega arith) (counts-if (is_full Q) _ _ Q.accepted (omega arith) (counts-counted Q)))
-counts-up Q (call.ForcePush v) = counts-if Q.closed _ _ Q.accepted (omega arith) (counts-if (is_spent Q) _ _ Q.accepted (omega arith) (counts-if (is_full Q) _ _ Q.accepted (counts-counted Q) (counts-counted Q)))
-counts-up Q call.Pop = omega arith
-counts-up Q call.Close = omega arith
-counts-up Q _ = omega arith
+counts-up Q (Call.Push v) = counts-if Q.closed _ _ Q.accepted (omega arith) (counts-if (is_spent Q) _ _ Q.accepted (omega arith) (counts-if (is_full Q) _ _ Q.accepted (omega arith) (counts-counted Q)))
+counts-up Q (Call.ForcePush v) = counts-if Q.closed _ _ Q.accepted (omega arith) (counts-if (is_spent Q) _ _ Q.accepted (omega arith) (counts-if (is_full Q) _ _ Q.accepted (counts-counted Q) (counts-counted Q)))
+counts-up Q c = omega arith
 
 -- the call of the table, and what agrees after it
 abbrev pub Done : {T : Type 0} → Owned T → State T → Call T → Reply T → Type 0
@@ -69,13 +60,13 @@ may_ask S Q h m =
     (cap, h.shown.closed ∙ m.1, elim m.2 [ inl e ↦ inl (count ∙ e) | inr e ↦ inr (rw count e) ])
 
 refused : {T : Type 0} (S : Owned T) (Q : State T) (c : Call T) (r : Reply T) → Agrees S Q → LacksMemory Q c r → LacksMemory S.queue c r
-refused S Q (call.Push v) (reply.Push (Err (push.NoMemory w))) h l = (l.0, may_ask S Q h l.1)
-refused S Q (call.ForcePush v) (reply.ForcePush (Err (force.NoMemory w))) h l = (l.0, may_ask S Q h l.1)
+refused S Q (Call.Push v) (Reply.Push (Err (PushError.NoMemory w))) h l = (l.0, may_ask S Q h l.1)
+refused S Q (Call.ForcePush v) (Reply.ForcePush (Err (ForcePushError.NoMemory w))) h l = (l.0, may_ask S Q h l.1)
 refused S Q _ _ h l = absurd l
 
 -- a front that left first left an open queue
 abbrev pub FrontOpen : {T : Type 0} → State T → List (Effect T) → Type 0
-FrontOpen Q (effect.Front old v ∷ es) = Q.closed ≡ false
+FrontOpen Q (Effect.Front old v ∷ es) = Q.closed ≡ false
 FrontOpen Q _ = Unit {0}
 
 -- a call from a state that agrees, whose effects lead to the state Q'

@@ -1,7 +1,6 @@
 -- The effects of a call stand together in what a history settles into.
 use Rattle.std.proofs.Common.{◌≡◌, ℕ, ◌<◌, ◌≤◌, ◌&&◌, nat_lt, nat_le, Bool, true, false, List, [], ◌∷◌, ◌++◌, refl, ap, sym, ◌∙◌, subst, inl, inr, arith}
-use Rattle.queue_steps.specs.declared.model.Effect.{Effect}
-use Rattle.queue_steps.specs.declared.model.Effect.TheVariants as effect
+use Rattle.law_common.specs.Vocabulary.{Effect}
 use Rattle.law_moments.specs.Moments.{others}
 use Rattle.law_moments.specs.Entries.{Entry, front_first, fronts_at, other_first, other_entries, settle_first, settle, own_of}
 use Rattle.law_moments.specs.Shared.{StandsTogether}
@@ -17,18 +16,18 @@ module _ {T : Type 0} where
   -- right behind each front is its arrive, of the same event and party
   abbrev pub Paired : List (Entry T) → Type 0
   Paired [] = Unit {0}
-  Paired (x ∷ xs) = ((old v : T) → x.effect ≡ effect.Front old v → (ys : List (Entry T)) × (xs ≡ record x { effect = effect.Arrive } ∷ ys)) × Paired xs
+  Paired (x ∷ xs) = ((old v : T) → x.effect ≡ Effect.Front old v → (ys : List (Entry T)) × (xs ≡ record x { effect = Effect.Arrive } ∷ ys)) × Paired xs
 
   plain_paired : (n p : ℕ) (e : Effect T) (ys : List (Entry T)) → others (e ∷ []) ≡ e ∷ [] → Paired ys → Paired (entry n p e ∷ ys)
   plain_paired n p e ys plain all = (
     λ old v is. absurd (
-        let no : [] ≡ effect.Front old v ∷ [] = sym (ap (λ (d : Effect T). others (d ∷ [])) is) ∙ (plain ∙ ap (λ (d : Effect T). d ∷ []) is) in cc
+        let no : [] ≡ Effect.Front old v ∷ [] = sym (ap (λ (d : Effect T). others (d ∷ [])) is) ∙ (plain ∙ ap (λ (d : Effect T). d ∷ []) is) in cc
         ),
     all,
   )
 
-  front_paired : (n p : ℕ) (old v : T) (ys : List (Entry T)) → Paired ys → Paired (entry n p (effect.Front old v) ∷ entry n p effect.Arrive ∷ ys)
-  front_paired n p old v ys all = (λ a b is. (ys, refl), (λ a b is. absurd (let no : effect.Arrive ≡ effect.Front a b = is in cc), all))
+  front_paired : (n p : ℕ) (old v : T) (ys : List (Entry T)) → Paired ys → Paired (entry n p (Effect.Front old v) ∷ entry n p Effect.Arrive ∷ ys)
+  front_paired n p old v ys all = (λ a b is. (ys, refl), (λ a b is. absurd (let no : Effect.Arrive ≡ Effect.Front a b = is in cc), all))
 
   paired_append : (xs ys : List (Entry T)) → Paired xs → Paired ys → Paired (xs ++ ys)
   paired_append [] ys all more = more
@@ -39,40 +38,28 @@ module _ {T : Type 0} where
   paired_behind (x ∷ xs) ys all = paired_behind xs ys all.1
 
   fronts_named : (n k p : ℕ) (e : Effect T) (ys : List (Entry T)) → Paired ys → Paired (front_first n (entry k p e) e ys)
-  fronts_named n k p (effect.Append v) ys all = all
-  fronts_named n k p (effect.Take v) ys all = all
-  fronts_named n k p (effect.Replace old v) ys all = all
-  fronts_named n k p (effect.Front old v) ys all = front_paired n p old v ys all
-  fronts_named n k p effect.Arrive ys all = all
-  fronts_named n k p effect.Close ys all = all
-  fronts_named n k p effect.SelfClose ys all = all
+  fronts_named n k p (Effect.Front old v) ys all = front_paired n p old v ys all
+  fronts_named n k p e ys all = all
 
   fronts_paired : (n : ℕ) (xs : List (Entry T)) → Paired (fronts_at n xs)
   fronts_paired n [] = tt
   fronts_paired n (x ∷ xs) = fronts_named n x.event x.party x.effect (fronts_at n xs) (fronts_paired n xs)
 
   others_named : (n p : ℕ) (e : Effect T) (ys : List (Entry T)) → Paired ys → Paired (other_first (entry n p e) e ys)
-  others_named n p (effect.Append v) ys all = plain_paired n p (effect.Append v) ys refl all
-  others_named n p (effect.Take v) ys all = plain_paired n p (effect.Take v) ys refl all
-  others_named n p (effect.Replace old v) ys all = plain_paired n p (effect.Replace old v) ys refl all
-  others_named n p (effect.Front old v) ys all = all
-  others_named n p effect.Arrive ys all = all
-  others_named n p effect.Close ys all = plain_paired n p effect.Close ys refl all
-  others_named n p effect.SelfClose ys all = plain_paired n p effect.SelfClose ys refl all
+  others_named n p (Effect.Front old v) ys all = all
+  others_named n p Effect.Arrive ys all = all
+  others_named n p e ys all = plain_paired n p e ys refl all
 
   others_paired : (xs : List (Entry T)) → Paired (other_entries xs)
   others_paired [] = tt
   others_paired (x ∷ xs) = others_named x.event x.party x.effect (other_entries xs) (others_paired xs)
 
   settle_named : (n p : ℕ) (e : Effect T) (xs ys : List (Entry T)) → Paired ys → Paired (settle_first (entry n p e) e xs ys)
-  settle_named n p (effect.Append v) xs ys all = plain_paired n p (effect.Append v) ys refl all
-  settle_named n p (effect.Take v) xs ys all = plain_paired n p (effect.Take v) ys refl all
-  settle_named n p (effect.Replace old v) xs ys all = plain_paired n p (effect.Replace old v) ys refl all
-  settle_named n p (effect.Front old v) xs ys all = front_paired n p old v ys all
-  settle_named n p effect.Arrive xs ys all = all
-  settle_named n p effect.Close xs ys all =
-      paired_append (fronts_at n xs) (entry n p effect.Close ∷ other_entries xs) (fronts_paired n xs) (plain_paired n p effect.Close (other_entries xs) refl (others_paired xs))
-  settle_named n p effect.SelfClose xs ys all = plain_paired n p effect.SelfClose ys refl all
+  settle_named n p (Effect.Front old v) xs ys all = front_paired n p old v ys all
+  settle_named n p Effect.Arrive xs ys all = all
+  settle_named n p Effect.Close xs ys all =
+      paired_append (fronts_at n xs) (entry n p Effect.Close ∷ other_entries xs) (fronts_paired n xs) (plain_paired n p Effect.Close (other_entries xs) refl (others_paired xs))
+  settle_named n p e xs ys all = plain_paired n p e ys refl all
 
   pub settle_paired : (xs : List (Entry T)) → Paired (settle xs)
   settle_paired [] = tt
@@ -120,17 +107,17 @@ module _ {T : Type 0} where
         inside = (inside f.first.party f.first.event f.passes, tt);
       }
   stands_together own S from upto es pairs (inr (inr two)) is inside =
-      let front : Effect T = effect.Front two.0 two.1 in
-      let f = first_own own S front (effect.Arrive ∷ []) (is ∙ two.2) in
+      let front : Effect T = Effect.Front two.0 two.1 in
+      let f = first_own own S front (Effect.Arrive ∷ []) (is ∙ two.2) in
       let behind : Paired (f.first ∷ f.behind) = paired_behind f.before (f.first ∷ f.behind) (subst Paired f.all pairs) in
       let arrive = behind.0 two.0 two.1 f.does in
       let here = inside f.first.party f.first.event f.passes in
       record {
         before = f.before;
-        own = f.first ∷ record f.first { effect = effect.Arrive } ∷ [];
+        own = f.first ∷ record f.first { effect = Effect.Arrive } ∷ [];
         behind = arrive.0;
         all = f.all ∙ ap (λ (l : List (Entry T)). f.before ++ (f.first ∷ l)) arrive.1;
-        effects = ap (λ (e : Effect T). e ∷ effect.Arrive ∷ []) f.does ∙ sym two.2;
+        effects = ap (λ (e : Effect T). e ∷ Effect.Arrive ∷ []) f.does ∙ sym two.2;
         whole = is;
         its = (f.passes, (f.passes, tt));
         inside = (here, (here, tt));

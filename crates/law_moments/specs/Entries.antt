@@ -2,10 +2,7 @@
 use Rattle.std.specs.Prelude.{◌≡◌, ℕ, ◌<◌, ◌≤◌, nat_lt, Bool, if◌then◌else◌, List, [], ◌∷◌, ◌++◌, Option, None, AllPairs}
 use Rattle.std.specs.List.{AllByRecursion}
 use Rattle.queue_steps.specs.State.{State}
-use Rattle.queue_steps.specs.declared.model.Call.{Call}
-use Rattle.queue_steps.specs.declared.model.Reply.{Reply}
-use Rattle.queue_steps.specs.declared.model.Effect.{Effect}
-use Rattle.queue_steps.specs.declared.model.Effect.TheVariants as effect
+use Rattle.law_common.specs.Vocabulary.{Call, Reply, Effect}
 use Rattle.queue_steps.specs.Effect.{IsHistory, after}
 use Rattle.queue_steps.specs.Replies.{Allows, Tells}
 use Rattle.law_moments.specs.Moments.{IsAtOnce, IsGlance, arrived, settled}
@@ -31,7 +28,7 @@ state_before cap H n = after cap (chosen (λ x. nat_lt x.event n) H)
 
 -- the fronts, each with its arrive, all at the event n
 abbrev pub front_first : {T : Type 0} → ℕ → Entry T → Effect T → List (Entry T) → List (Entry T)
-front_first n x (effect.Front old v) xs = record x { event = n } ∷ record x { event = n; effect = effect.Arrive } ∷ xs
+front_first n x (Effect.Front old v) xs = record x { event = n } ∷ record x { event = n; effect = Effect.Arrive } ∷ xs
 front_first n x _ xs = xs
 
 abbrev pub fronts_at : {T : Type 0} → ℕ → List (Entry T) → List (Entry T)
@@ -40,8 +37,8 @@ fronts_at n (x ∷ xs) = front_first n x x.effect (fronts_at n xs)
 
 -- the entries that are no part of a displacement
 abbrev pub other_first : {T : Type 0} → Entry T → Effect T → List (Entry T) → List (Entry T)
-other_first x (effect.Front old v) xs = xs
-other_first x effect.Arrive xs = xs
+other_first x (Effect.Front old v) xs = xs
+other_first x Effect.Arrive xs = xs
 other_first x _ xs = x ∷ xs
 
 abbrev pub other_entries : {T : Type 0} → List (Entry T) → List (Entry T)
@@ -50,9 +47,9 @@ other_entries (x ∷ xs) = other_first x x.effect (other_entries xs)
 
 -- Each arrive stands at its front, and what is displaced after a close is displaced just before it.
 abbrev pub settle_first : {T : Type 0} → Entry T → Effect T → List (Entry T) → List (Entry T) → List (Entry T)
-settle_first x (effect.Front old v) xs done = x ∷ record x { effect = effect.Arrive } ∷ done
-settle_first x effect.Arrive xs done = done
-settle_first x effect.Close xs done = fronts_at x.event xs ++ x ∷ other_entries xs
+settle_first x (Effect.Front old v) xs done = x ∷ record x { effect = Effect.Arrive } ∷ done
+settle_first x Effect.Arrive xs done = done
+settle_first x Effect.Close xs done = fronts_at x.event xs ++ x ∷ other_entries xs
 settle_first x _ xs done = x ∷ done
 
 abbrev pub settle : {T : Type 0} → List (Entry T) → List (Entry T)
@@ -61,12 +58,12 @@ settle (x ∷ xs) = settle_first x x.effect xs (settle xs)
 
 -- whether an effect of this party at this event belongs to a call, which has taken a front at the event m, is the same as at the event n
 abbrev pub SeesNoMove : {T : Type 0} → (ℕ → ℕ → Bool) → ℕ → List (Entry T) → Type 0
-SeesNoMove {T} own n xs = AllByRecursion (λ x. (old v : T) → x.effect ≡ effect.Front old v → own x.party n ≡ own x.party x.event) xs
+SeesNoMove {T} own n xs = AllByRecursion (λ x. (old v : T) → x.effect ≡ Effect.Front old v → own x.party n ≡ own x.party x.event) xs
 
 -- no front of the call stands behind a close that is no part of it, nor one of another behind a close within it
 abbrev pub KeepsFronts : {T : Type 0} → (ℕ → ℕ → Bool) → List (Entry T) → Type 0
 KeepsFronts own [] = Unit {0}
-KeepsFronts own (x ∷ xs) = (x.effect ≡ effect.Close → SeesNoMove own x.event xs) × KeepsFronts own xs
+KeepsFronts own (x ∷ xs) = (x.effect ≡ Effect.Close → SeesNoMove own x.event xs) × KeepsFronts own xs
 
 -- the effects of a call: those of its party at its events
 abbrev pub own_of : {T : Type 0} → (ℕ → ℕ → Bool) → List (Entry T) → List (Effect T)

@@ -1,13 +1,7 @@
 -- An order of whole calls: all effects of a call stand before those of the next one. Such an order is a run of the table of one owner.
 use Rattle.std.specs.Prelude.{◌≡◌, ℕ, true, List, [], ◌∷◌, ◌++◌, Option, Some, Ok, Err}
 use Rattle.queue_steps.specs.State.{State, start}
-use Rattle.queue_steps.specs.declared.model.Call.{Call}
-use Rattle.queue_steps.specs.declared.model.Call.TheVariants as call
-use Rattle.queue_steps.specs.declared.model.Reply.{Reply}
-use Rattle.queue_steps.specs.declared.model.Reply.TheVariants as reply
-use Rattle.queue_steps.specs.declared.errors.PushError.TheVariants as push
-use Rattle.queue_steps.specs.declared.model.Effect.{Effect}
-use Rattle.queue_steps.specs.declared.model.Effect.TheVariants as effect
+use Rattle.law_common.specs.Vocabulary.{Call, Reply, Effect, PushError}
 use Rattle.queue_steps.specs.Effect.{IsHistory, after_from, after}
 use Rattle.queue_steps.specs.Replies.{Allows, Tells}
 use Rattle.queue_steps.specs.Legal.{IsShown}
@@ -50,13 +44,13 @@ OrdersAreRuns T = (cap : Option ℕ) (order : List (Whole T)) → IsAtOnce cap (
 -- A call for each moment of a history: a displacement is one forced push, which answers the old item. A push that finds all accepted brings the item v.
 abbrev pub one_by_one : {T : Type 0} → T → List (Effect T) → List (Whole T)
 one_by_one v [] = []
-one_by_one v (effect.Append w ∷ es) = record { call = call.Push w; reply = reply.Push (Ok tt); effects = effect.Append w ∷ [] } ∷ one_by_one v es
-one_by_one v (effect.Take w ∷ es) = record { call = call.Pop; reply = reply.Pop (Ok w); effects = effect.Take w ∷ [] } ∷ one_by_one v es
-one_by_one v (effect.Replace old w ∷ es) = record { call = call.ForcePush w; reply = reply.ForcePush (Ok (Some old)); effects = effect.Replace old w ∷ [] } ∷ one_by_one v es
-one_by_one v (effect.Front old w ∷ es) = record { call = call.ForcePush w; reply = reply.ForcePush (Ok (Some old)); effects = effect.Front old w ∷ effect.Arrive ∷ [] } ∷ one_by_one v es
-one_by_one v (effect.Arrive ∷ es) = one_by_one v es
-one_by_one v (effect.Close ∷ es) = record { call = call.Close; reply = reply.Close true; effects = effect.Close ∷ [] } ∷ one_by_one v es
-one_by_one v (effect.SelfClose ∷ es) = record { call = call.Push v; reply = reply.Push (Err (push.Closed v)); effects = effect.SelfClose ∷ [] } ∷ one_by_one v es
+one_by_one v (Effect.Append w ∷ es) = record { call = Call.Push w; reply = Reply.Push (Ok tt); effects = Effect.Append w ∷ [] } ∷ one_by_one v es
+one_by_one v (Effect.Take w ∷ es) = record { call = Call.Pop; reply = Reply.Pop (Ok w); effects = Effect.Take w ∷ [] } ∷ one_by_one v es
+one_by_one v (Effect.Replace old w ∷ es) = record { call = Call.ForcePush w; reply = Reply.ForcePush (Ok (Some old)); effects = Effect.Replace old w ∷ [] } ∷ one_by_one v es
+one_by_one v (Effect.Front old w ∷ es) = record { call = Call.ForcePush w; reply = Reply.ForcePush (Ok (Some old)); effects = Effect.Front old w ∷ Effect.Arrive ∷ [] } ∷ one_by_one v es
+one_by_one v (Effect.Arrive ∷ es) = one_by_one v es
+one_by_one v (Effect.Close ∷ es) = record { call = Call.Close; reply = Reply.Close true; effects = Effect.Close ∷ [] } ∷ one_by_one v es
+one_by_one v (Effect.SelfClose ∷ es) = record { call = Call.Push v; reply = Reply.Push (Err (PushError.Closed v)); effects = Effect.SelfClose ∷ [] } ∷ one_by_one v es
 
 -- what a history settles into is a run of the table of one owner, to what the history leaves once all has arrived
 abbrev pub SettledIsRun : Type 0 → Type 0

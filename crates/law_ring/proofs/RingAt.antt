@@ -2,11 +2,7 @@
 use Rattle.std.proofs.Common.{ℕ, ◌%◌, ◌≢◌, Bool, Option, List, refl, arith}
 use Rattle.queue_steps.specs.State.{State}
 use Rattle.queue_steps.specs.Words.{position_of}
-use Rattle.queue_steps.specs.declared.model.Call.{Call}
-use Rattle.queue_steps.specs.declared.model.Effect.{Effect}
-use Rattle.queue_steps.specs.declared.steps.types.Local.{Local}
-use Rattle.queue_steps.specs.declared.steps.types.Op.{Op}
-use Rattle.queue_steps.specs.declared.steps.types.Touch.{Touch}
+use Rattle.law_common.specs.Vocabulary.{Call, Effect, Op, Touch, Local}
 use Rattle.law_common.specs.Moments.{seen_by}
 use Rattle.law_ring.specs.RingCells.{Written, Read, Coming, Swapped, Ring, queue_of, RingOk}
 use Rattle.law_ring.specs.RingPasses.{Passes}

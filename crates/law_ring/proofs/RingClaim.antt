@@ -2,23 +2,11 @@
 use Rattle.std.proofs.Common.{ℕ, ◌+◌, ◌%◌, ◌<◌, ◌≤◌, ◌≡◌, ◌≢◌, ◌==◌, ◌||◌, not, ◌∙◌, ◌⊎◌, inl, inr, Bool, true, false, if◌then◌else◌, Some, None, Err, List, [], ◌∷◌, length, refl, sym, ap, subst, arith, get_or}
 use Rattle.std.proofs.lemmas.Bool.{eq-eqb}
 use Rattle.std.proofs.lemmas.Bool.Decides.{eqb_tells}
-use Rattle.queue_steps.specs.declared.sizes.TheConstants.{LIMIT}
+use Rattle.law_common.specs.Vocabulary.{Call, Reply, Effect, PushError, Word, Op, Touch, Local, Next, PushKind, LIMIT, MARK, TAIL_STEP}
 use Rattle.queue_steps.specs.State.{State}
 use Rattle.queue_steps.specs.Replies.{IsRightAt}
 use Rattle.queue_steps.specs.Words.{IsWord, position_of, is_shut, tail_of, slot_at, stamp_filled}
 use Rattle.queue_steps.specs.BoundedNext.{loads, ends, tail_found}
-use Rattle.queue_steps.specs.declared.model.Call.TheVariants as call
-use Rattle.queue_steps.specs.declared.model.Reply.TheVariants as reply
-use Rattle.queue_steps.specs.declared.model.Effect.TheVariants as effect
-use Rattle.queue_steps.specs.declared.errors.PushError.TheVariants as push
-use Rattle.queue_steps.specs.declared.steps.types.Local.TheVariants as local
-use Rattle.queue_steps.specs.declared.steps.types.Next.TheVariants as next
-use Rattle.queue_steps.specs.declared.steps.types.Op.TheVariants as op
-use Rattle.queue_steps.specs.declared.steps.types.Touch.TheVariants as touch
-use Rattle.queue_steps.specs.declared.steps.types.Word.TheVariants as word
-use Rattle.queue_steps.specs.declared.steps.bounded.TheConstants.{MARK, TAIL_STEP}
-use Rattle.queue_steps.specs.declared.steps.bounded.PushKind.{PushKind}
-use Rattle.queue_steps.specs.declared.steps.bounded.PushKind.TheVariants as kind
 use Rattle.queue_steps.specs.declared.steps.bounded.BoundedLocal.TheVariants as ring
 use Rattle.law_common.proofs.Tails.{shut_tail, next_tail, same_tail, open_tail}
 use Rattle.law_common.proofs.Moments.{seen_map}
@@ -41,13 +29,13 @@ use Rattle.law_ring.proofs.RingPush.{tail_goes, tail_word, saw_word}
 
 pub good_claiming : {A : Type 0} (cap : ℕ) (r : Ring A) (who : ℕ) (s : Shared A) (ms : List (State A)) (was : Bool) (d : PushKind) (v : A) (t : ℕ)
     → RingOk cap r → Codes cap r s → HoldsNone r.cells who → SawTail cap r t ms was → FreeAt cap r (position_of t)
-    → Good cap r who s ms was (local.Bounded (ring.Claiming d t)) touch.Nothing (op.Exchange word.Tail t (t + TAIL_STEP)) (Some v) (pushes d v) []
+    → Good cap r who s ms was (Local.Bounded (ring.Claiming d t)) Touch.Nothing (Op.Exchange Word.Tail t (t + TAIL_STEP)) (Some v) (pushes d v) []
 good_claiming {A} cap r who s ms was d v t ok codes none saw free = go (eqb_tells s.tail t)
   where
     words : IsWord t × IsWord s.tail
     words = (saw_word cap r t ms was saw, tail_word cap r s ok codes)
 
-    won : (s.tail == t) ≡ true → s.tail ≡ t → Good cap r who s ms was (local.Bounded (ring.Claiming d t)) touch.Nothing (op.Exchange word.Tail t (t + TAIL_STEP)) (Some v) (pushes d v) []
+    won : (s.tail == t) ≡ true → s.tail ≡ t → Good cap r who s ms was (Local.Bounded (ring.Claiming d t)) Touch.Nothing (Op.Exchange Word.Tail t (t + TAIL_STEP)) (Some v) (pushes d v) []
     won test e =
         let same = same_tail r.tail r.closed t saw.unshut (sym codes.tail ∙ e) in
         let at : r.tail ≡ position_of t = same.1 in
@@ -56,7 +44,7 @@ good_claiming {A} cap r who s ms was d v t ok codes none saw free = go (eqb_tell
         let good = append_ok cap r who v ok same.0 (omega arith) is in
         record {
           after = appended cap r who v;
-          e = Some (effect.Append v);
+          e = Some (Effect.Append v);
           touches = tt;
           operates = tt;
           goes_on = (ok.ring, words);
@@ -68,15 +56,15 @@ good_claiming {A} cap r who s ms was d v t ok codes none saw free = go (eqb_tell
           passes = passes_append cap r who v is;
           shift = Claims (r.tail % cap) (Written r.tail who v) (in_ring cap r.tail ok.ring) refl none (ap owner is) refl (ap item_in (sym is)) refl;
           goes = rw test (subst (λ q. Goes cap r (appended cap r who v) who (queue_of cap (appended cap r who v) ∷ ms) (was || not r.closed)
-              (next.Step (local.Bounded (ring.Filling d)) (touch.Put (slot_at cap q)) (op.Store (word.Stamp (slot_at cap q)) (stamp_filled q))) (Some v) (pushes d v) (effect.Append v ∷ []) (if position_of t == r.tail then 2 else 5)) at
+              (Next.Step (Local.Bounded (ring.Filling d)) (Touch.Put (slot_at cap q)) (Op.Store (Word.Stamp (slot_at cap q)) (stamp_filled q))) (Some v) (pushes d v) (Effect.Append v ∷ []) (if position_of t == r.tail then 2 else 5)) at
               (filling d v r.tail (claims r.cells who (r.tail % cap) (Written r.tail who v) none), λ calm. rw (pick (position_of t) r.tail 2 5 (sym at)) (omega arith)));
         }
 
     go : (((s.tail == t) ≡ true) × (s.tail ≡ t)) ⊎ (((s.tail == t) ≡ false) × (s.tail ≢ t))
-        → Good cap r who s ms was (local.Bounded (ring.Claiming d t)) touch.Nothing (op.Exchange word.Tail t (t + TAIL_STEP)) (Some v) (pushes d v) []
+        → Good cap r who s ms was (Local.Bounded (ring.Claiming d t)) Touch.Nothing (Op.Exchange Word.Tail t (t + TAIL_STEP)) (Some v) (pushes d v) []
     go (inl h) = won h.0 h.1
     go (inr h) =
-        still cap r who s ms was (local.Bounded (ring.Claiming d t)) (op.Exchange word.Tail t (t + TAIL_STEP)) (Some v) (pushes d v) [] ok codes tt (rw h.0 refl)
+        still cap r who s ms was (Local.Bounded (ring.Claiming d t)) (Op.Exchange Word.Tail t (t + TAIL_STEP)) (Some v) (pushes d v) [] ok codes tt (rw h.0 refl)
         (ok.ring, words) (rw h.0 refl)
         (rw h.0 (stale (eqb_tells (position_of t) r.tail)))
       where
@@ -97,7 +85,7 @@ good_claiming {A} cap r who s ms was d v t ok codes none saw free = go (eqb_tell
 
 pub good_filling : {A : Type 0} (cap : ℕ) (r : Ring A) (who : ℕ) (s : Shared A) (ms : List (State A)) (was : Bool) (d : PushKind) (v : A) (q : ℕ)
     → RingOk cap r → Codes cap r s → HoldsOne r.cells who (q % cap) (Written q who v)
-    → Good cap r who s ms was (local.Bounded (ring.Filling d)) (touch.Put (slot_at cap q)) (op.Store (word.Stamp (slot_at cap q)) (stamp_filled q)) (Some v) (pushes d v) (effect.Append v ∷ [])
+    → Good cap r who s ms was (Local.Bounded (ring.Filling d)) (Touch.Put (slot_at cap q)) (Op.Store (Word.Stamp (slot_at cap q)) (stamp_filled q)) (Some v) (pushes d v) (Effect.Append v ∷ [])
 good_filling {A} cap r who s ms was d v q ok codes one =
     let i = q % cap in
     let lt : i < cap = in_ring cap q ok.ring in
@@ -120,14 +108,14 @@ good_filling {A} cap r who s ms was d v q ok codes one =
 
 pub good_push_head : {A : Type 0} (cap : ℕ) (r : Ring A) (who : ℕ) (s : Shared A) (ms : List (State A)) (was : Bool) (v : A) (t : ℕ)
     → RingOk cap r → Codes cap r s → HoldsNone r.cells who → SawTail cap r t ms was
-    → Good cap r who s ms was (local.Bounded (ring.PushHead t)) touch.Nothing (op.Load word.Head) (Some v) (call.Push v) []
+    → Good cap r who s ms was (Local.Bounded (ring.PushHead t)) Touch.Nothing (Op.Load Word.Head) (Some v) (Call.Push v) []
 good_push_head {A} cap r who s ms was v t ok codes none saw =
-    still cap r who s ms was (local.Bounded (ring.PushHead t)) (op.Load word.Head) (Some v) (call.Push v) [] ok codes tt refl
+    still cap r who s ms was (Local.Bounded (ring.PushHead t)) (Op.Load Word.Head) (Some v) (Call.Push v) [] ok codes tt refl
     (ok.ring, (saw_word cap r t ms was saw, rw codes.head (head_small cap r r.head ok (omega arith)))) refl
     (rw codes.head (go (eqb_tells (r.head + cap) (position_of t))))
   where
     -- the queue was full where the tail was read: no more items had left than by now
-    full_then : r.head + cap ≡ position_of t → (m : State A) → TailWas cap (position_of t) r.head m → IsRightAt m (call.Push v) (reply.Push (Err (push.Full v)))
+    full_then : r.head + cap ≡ position_of t → (m : State A) → TailWas cap (position_of t) r.head m → IsRightAt m (Call.Push v) (Reply.Push (Err (PushError.Full v)))
     full_then e m was =
         let low = was.3 in
         let high = was.4 in
@@ -137,25 +125,25 @@ good_push_head {A} cap r who s ms was v t ok codes none saw =
         (refl, was.1, rw was.0 (eq-eqb (length m.items) cap size), inr (omega arith))
 
     go : (((r.head + cap == position_of t) ≡ true) × (r.head + cap ≡ position_of t)) ⊎ (((r.head + cap == position_of t) ≡ false) × (r.head + cap ≢ position_of t))
-        → Goes cap r r who (queue_of cap r ∷ ms) (was || not r.closed) (if r.head + cap == position_of t then ends (reply.Push (Err (push.Full tt))) else loads (ring.PushTail kind.Push) word.Tail)
-        (Some v) (call.Push v) [] (if r.head + cap == position_of t then 1 else 6)
-    go (inl h) = rw h.0 (none, refl, (reply.Push (Err (push.Full v)), refl, (refl, refl), λ _. inr (seen_map ms (full_then h.1) saw.moment)))
-    go (inr h) = rw h.0 (push_tail kind.Push v none, λ calm. omega arith)
+        → Goes cap r r who (queue_of cap r ∷ ms) (was || not r.closed) (if r.head + cap == position_of t then ends (Reply.Push (Err (PushError.Full tt))) else loads (ring.PushTail PushKind.Push) Word.Tail)
+        (Some v) (Call.Push v) [] (if r.head + cap == position_of t then 1 else 6)
+    go (inl h) = rw h.0 (none, refl, (Reply.Push (Err (PushError.Full v)), refl, (refl, refl), λ _. inr (seen_map ms (full_then h.1) saw.moment)))
+    go (inr h) = rw h.0 (push_tail PushKind.Push v none, λ calm. omega arith)
 
 pub good_spending : {A : Type 0} (cap : ℕ) (r : Ring A) (who : ℕ) (s : Shared A) (ms : List (State A)) (was : Bool) (d : PushKind) (v : A)
     → RingOk cap r → Codes cap r s → HoldsNone r.cells who → LIMIT ≤ r.tail
-    → Good cap r who s ms was (local.Bounded (ring.ClosingAtLimit d)) touch.Nothing (op.Or word.Tail MARK) (Some v) (pushes d v) []
+    → Good cap r who s ms was (Local.Bounded (ring.ClosingAtLimit d)) Touch.Nothing (Op.Or Word.Tail MARK) (Some v) (pushes d v) []
 good_spending {A} cap r who s ms was d v ok codes none high = go r.closed refl
   where
-    go : (c : Bool) → r.closed ≡ c → Good cap r who s ms was (local.Bounded (ring.ClosingAtLimit d)) touch.Nothing (op.Or word.Tail MARK) (Some v) (pushes d v) []
+    go : (c : Bool) → r.closed ≡ c → Good cap r who s ms was (Local.Bounded (ring.ClosingAtLimit d)) Touch.Nothing (Op.Or Word.Tail MARK) (Some v) (pushes d v) []
     go true c =
         let shut : is_shut s.tail ≡ true = ap is_shut codes.tail ∙ (shut_tail r.tail r.closed ∙ c) in
         let y = closed_push d v in
-        marks cap r who s ms was (local.Bounded (ring.ClosingAtLimit d)) (Some v) (pushes d v) [] None ok codes (ok.ring, tt) (rw shut refl) (marks_closed cap r c)
+        marks cap r who s ms was (Local.Bounded (ring.ClosingAtLimit d)) (Some v) (pushes d v) [] None ok codes (ok.ring, tt) (rw shut refl) (marks_closed cap r c)
         (none, refl, (y.0, y.1, y.2, λ _. inl (y.4 (queue_of cap (marked r)) refl)))
     go false c =
         let shut : is_shut s.tail ≡ false = ap is_shut codes.tail ∙ (shut_tail r.tail r.closed ∙ c) in
         let most = ok.most in
         let y = closed_push d v in
-        marks cap r who s ms was (local.Bounded (ring.ClosingAtLimit d)) (Some v) (pushes d v) [] (Some effect.SelfClose) ok codes (ok.ring, tt) (rw shut refl)
+        marks cap r who s ms was (Local.Bounded (ring.ClosingAtLimit d)) (Some v) (pushes d v) [] (Some Effect.SelfClose) ok codes (ok.ring, tt) (rw shut refl)
         ((c, not_single cap ok.ring, (let e : r.tail ≡ LIMIT = omega arith in e)), refl) (none, refl, (y.0, y.1, y.3, λ e. cc))

@@ -2,37 +2,27 @@
 use Rattle.std.proofs.Common.{ℕ, ◌≡◌, true, false, Bool, Option, Some, List, [], refl}
 use Rattle.queue_steps.specs.State.{State}
 use Rattle.queue_steps.specs.Kinds.{call_value}
-use Rattle.queue_steps.specs.declared.model.Call.{Call}
-use Rattle.queue_steps.specs.declared.model.Effect.{Effect}
-use Rattle.queue_steps.specs.declared.steps.types.Local.{Local}
-use Rattle.queue_steps.specs.declared.steps.types.Op.{Op}
-use Rattle.queue_steps.specs.declared.steps.types.Touch.{Touch}
-use Rattle.queue_steps.specs.declared.steps.bounded.PushKind.{PushKind}
-use Rattle.queue_steps.specs.declared.steps.bounded.PushKind.TheVariants as kind
+use Rattle.law_common.specs.Vocabulary.{Call, Effect, Op, Touch, Local, PushKind}
 use Rattle.law_common.specs.Pushes.{pushes}
 use Rattle.law_ring.specs.RingCells.{Ring, HoldsNone}
 use Rattle.law_ring.specs.RingEarly.{IsEarly}
-use Rattle.law_ring.specs.RingAt.{At, push_tail, push_stamp, claiming, filling, push_head, displacing, arriving, swapping, spending, pop_head, pop_stamp, taking, emptying, pop_tail, len_tail, len_head, len_again, empty_head, empty_tail, full_tail, full_head, closing, closed_tail}
+use Rattle.law_ring.specs.RingAt.{At, push_tail, push_stamp, claiming, push_head, displacing, spending, pop_head, pop_stamp, taking, pop_tail, len_tail, len_head, len_again, empty_head, empty_tail, full_tail, full_head, closing, closed_tail}
 
 pushed : {A : Type 0} (d : PushKind) (v : A) → Some v ≡ call_value (pushes d v)
-pushed kind.Push v = refl
-pushed kind.Force v = refl
+pushed PushKind.Push v = refl
+pushed PushKind.Force v = refl
 
 pub early : {A : Type 0} {cap : ℕ} {r : Ring A} {who : ℕ} {ms : List (State A)} {was : Bool} {l : Local ℕ} {t : Touch} {o : Op ℕ} {v : Option A} {k : Call A} {es : List (Effect A)}
     → IsEarly l → At cap r who ms was l t o v k es → (es ≡ []) × HoldsNone r.cells who × (v ≡ call_value k)
 early is (push_tail d v none) = (refl, none, pushed d v)
 early is (push_stamp d v t none saw) = (refl, none, pushed d v)
 early is (claiming d v t none saw free) = (refl, none, pushed d v)
-early is (filling d v q one) = absurd (let f : false ≡ true = is in cc)
 early is (push_head v t none saw) = (refl, none, refl)
 early is (displacing v t h none saw one full) = (refl, none, refl)
-early is (arriving old v t h low one has) = absurd (let f : false ≡ true = is in cc)
-early is (swapping old v h has) = absurd (let f : false ≡ true = is in cc)
 early is (spending d v none all) = (refl, none, pushed d v)
 early is (pop_head none) = (refl, none, refl)
 early is (pop_stamp h none low) = (refl, none, refl)
 early is (taking h none low full) = (refl, none, refl)
-early is (emptying x h has) = absurd (let f : false ≡ true = is in cc)
 early is (pop_tail h none low free) = (refl, none, refl)
 early is (len_tail none) = (refl, none, refl)
 early is (len_head t none low) = (refl, none, refl)
@@ -43,3 +33,4 @@ early is (full_tail none) = (refl, none, refl)
 early is (full_head t none saw) = (refl, none, refl)
 early is (closing none) = (refl, none, refl)
 early is (closed_tail none) = (refl, none, refl)
+early is x = absurd (let f : false ≡ true = is in cc)

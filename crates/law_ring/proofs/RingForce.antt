@@ -2,19 +2,9 @@
 use Rattle.std.proofs.Common.{ℕ, ◌+◌, ◌-◌, ◌%◌, ◌<◌, ◌≡◌, ◌≢◌, ◌==◌, ◌||◌, not, ◌∙◌, ◌⊎◌, inl, inr, Bool, true, false, Some, None, Ok, List, [], ◌∷◌, refl, sym, ap, subst, arith, get_or}
 use Rattle.std.proofs.lemmas.Bool.{eq-eqb, ne_eqb}
 use Rattle.std.proofs.lemmas.Bool.Decides.{eqb_tells}
-use Rattle.queue_steps.specs.declared.sizes.TheConstants.{LIMIT}
+use Rattle.law_common.specs.Vocabulary.{Call, Reply, Effect, Word, Op, Touch, Local, Next, PushKind, LIMIT, TAIL_STEP}
 use Rattle.queue_steps.specs.State.{State}
 use Rattle.queue_steps.specs.Words.{IsWord, position_of, slot_at, stamp_filled}
-use Rattle.queue_steps.specs.declared.model.Call.TheVariants as call
-use Rattle.queue_steps.specs.declared.model.Reply.TheVariants as reply
-use Rattle.queue_steps.specs.declared.model.Effect.TheVariants as effect
-use Rattle.queue_steps.specs.declared.steps.types.Local.TheVariants as local
-use Rattle.queue_steps.specs.declared.steps.types.Next.TheVariants as next
-use Rattle.queue_steps.specs.declared.steps.types.Op.TheVariants as op
-use Rattle.queue_steps.specs.declared.steps.types.Touch.TheVariants as touch
-use Rattle.queue_steps.specs.declared.steps.types.Word.TheVariants as word
-use Rattle.queue_steps.specs.declared.steps.bounded.TheConstants.{TAIL_STEP}
-use Rattle.queue_steps.specs.declared.steps.bounded.PushKind.TheVariants as kind
 use Rattle.queue_steps.specs.declared.steps.bounded.BoundedLocal.TheVariants as ring
 use Rattle.law_common.specs.Puts.{put}
 use Rattle.law_common.proofs.Tails.{next_tail}
@@ -33,11 +23,11 @@ use Rattle.law_ring.proofs.RingSlots.{codes_claim, codes_store}
 use Rattle.law_ring.proofs.RingPush.{tail_word, saw_word}
 
 abbrev Displaces : {A : Type 0} → ℕ → Ring A → ℕ → Shared A → List (State A) → Bool → A → ℕ → Type 0
-Displaces cap r who s ms was v t = Good cap r who s ms was (local.Bounded (ring.Displacing t)) touch.Nothing (op.Exchange word.Head (position_of t - cap) (position_of t - cap + 1)) (Some v) (call.ForcePush v) []
+Displaces cap r who s ms was v t = Good cap r who s ms was (Local.Bounded (ring.Displacing t)) Touch.Nothing (Op.Exchange Word.Head (position_of t - cap) (position_of t - cap + 1)) (Some v) (Call.ForcePush v) []
 
 pub good_displacing : {A : Type 0} (cap : ℕ) (r : Ring A) (who : ℕ) (s : Shared A) (ms : List (State A)) (was : Bool) (v : A) (t h : ℕ)
     → RingOk cap r → Codes cap r s → HoldsNone r.cells who → SawTail cap r t ms was → h + cap ≡ position_of t → FullAt cap r h
-    → Good cap r who s ms was (local.Bounded (ring.Displacing t)) touch.Nothing (op.Exchange word.Head (position_of t - cap) (position_of t - cap + 1)) (Some v) (call.ForcePush v) []
+    → Good cap r who s ms was (Local.Bounded (ring.Displacing t)) Touch.Nothing (Op.Exchange Word.Head (position_of t - cap) (position_of t - cap + 1)) (Some v) (Call.ForcePush v) []
 good_displacing {A} cap r who s ms was v t h ok codes none saw back full = go (eqb_tells r.head h)
   where
     from : position_of t - cap ≡ h
@@ -67,7 +57,7 @@ good_displacing {A} cap r who s ms was v t h ok codes none saw back full = go (e
         let good = front_ok cap r who x v ok (omega arith) (omega arith) is in
         record {
           after = fronted cap r who x v;
-          e = Some (effect.Front x v);
+          e = Some (Effect.Front x v);
           touches = tt;
           operates = tt;
           goes_on = (ok.ring, words);
@@ -89,13 +79,13 @@ good_displacing {A} cap r who s ms was v t h ok codes none saw back full = go (e
         filled_now (inr (x, is)) = won e.0 e.1 x is
     go (inr e) =
         let tested = tests false e.0 (λ x. absurd (e.1 x)) (λ ne. refl) in
-        still cap r who s ms was (local.Bounded (ring.Displacing t)) (op.Exchange word.Head (position_of t - cap) (position_of t - cap + 1)) (Some v) (call.ForcePush v) [] ok codes tt (rw tested.0 refl)
+        still cap r who s ms was (Local.Bounded (ring.Displacing t)) (Op.Exchange Word.Head (position_of t - cap) (position_of t - cap + 1)) (Some v) (Call.ForcePush v) [] ok codes tt (rw tested.0 refl)
         (ok.ring, words) (rw tested.1 refl)
-        (rw (tested.1, tested.2) (push_tail kind.Force v none, λ calm. omega arith))
+        (rw (tested.1, tested.2) (push_tail PushKind.Force v none, λ calm. omega arith))
 
 pub good_arriving : {A : Type 0} (cap : ℕ) (r : Ring A) (who : ℕ) (s : Shared A) (ms : List (State A)) (was : Bool) (old v : A) (t h : ℕ)
     → RingOk cap r → Codes cap r s → position_of t < LIMIT → h + cap ≡ position_of t → HoldsOne r.cells who (h % cap) (Coming h who old v)
-    → Good cap r who s ms was (local.Bounded (ring.Arriving t)) touch.Nothing (op.Add word.Tail TAIL_STEP) (Some v) (call.ForcePush v) (effect.Front old v ∷ [])
+    → Good cap r who s ms was (Local.Bounded (ring.Arriving t)) Touch.Nothing (Op.Add Word.Tail TAIL_STEP) (Some v) (Call.ForcePush v) (Effect.Front old v ∷ [])
 good_arriving {A} cap r who s ms was old v t h ok codes below back one =
     let i = h % cap in
     let here : CellOk cap r.head r.tail r.items r.coming i (Coming h who old v) = rw one.0 at (ok.cell i (in_ring cap h ok.ring)) in
@@ -104,7 +94,7 @@ good_arriving {A} cap r who s ms was old v t h ok codes below back one =
     let small = tail_word cap r s ok codes in
     record {
       after = arrived cap r h who old v;
-      e = Some effect.Arrive;
+      e = Some Effect.Arrive;
       touches = tt;
       operates = (tt, omega arith);
       goes_on = (ok.ring, word_small t (omega arith));
@@ -115,18 +105,18 @@ good_arriving {A} cap r who s ms was old v t h ok codes below back one =
       passes = passes_arrive cap r h who old v one.0;
       shift = GoesOn i (Swapped h who old v) refl (ap owner one.0) refl (ap item_in (sym one.0)) refl;
       goes = subst (λ q. Goes cap r (arrived cap r h who old v) who (queue_of cap (arrived cap r h who old v) ∷ ms) (was || not r.closed)
-          (next.Step (local.Bounded ring.Swapping) (touch.Swap (slot_at cap q)) (op.Store (word.Stamp (slot_at cap q)) (stamp_filled q))) (Some v) (call.ForcePush v) (effect.Front old v ∷ effect.Arrive ∷ []) 2) back
+          (Next.Step (Local.Bounded ring.Swapping) (Touch.Swap (slot_at cap q)) (Op.Store (Word.Stamp (slot_at cap q)) (stamp_filled q))) (Some v) (Call.ForcePush v) (Effect.Front old v ∷ Effect.Arrive ∷ []) 2) back
           (swapping old v h (keeps_on r.cells who i (Coming h who old v) (Swapped h who old v) one), λ calm. omega arith);
     }
 
 pub good_swapping : {A : Type 0} (cap : ℕ) (r : Ring A) (who : ℕ) (s : Shared A) (ms : List (State A)) (was : Bool) (old v : A) (h : ℕ)
     → RingOk cap r → Codes cap r s → HoldsOne r.cells who (h % cap) (Swapped h who old v)
-    → Good cap r who s ms was (local.Bounded ring.Swapping) (touch.Swap (slot_at cap (h + cap))) (op.Store (word.Stamp (slot_at cap (h + cap))) (stamp_filled (h + cap))) (Some v) (call.ForcePush v) (effect.Front old v ∷ effect.Arrive ∷ [])
+    → Good cap r who s ms was (Local.Bounded ring.Swapping) (Touch.Swap (slot_at cap (h + cap))) (Op.Store (Word.Stamp (slot_at cap (h + cap))) (stamp_filled (h + cap))) (Some v) (Call.ForcePush v) (Effect.Front old v ∷ Effect.Arrive ∷ [])
 good_swapping {A} cap r who s ms was old v h ok codes one =
-    subst (λ i. Good cap r who s ms was (local.Bounded ring.Swapping) (touch.Swap i) (op.Store (word.Stamp i) (stamp_filled (h + cap))) (Some v) (call.ForcePush v) (effect.Front old v ∷ effect.Arrive ∷ []))
+    subst (λ i. Good cap r who s ms was (Local.Bounded ring.Swapping) (Touch.Swap i) (Op.Store (Word.Stamp i) (stamp_filled (h + cap))) (Some v) (Call.ForcePush v) (Effect.Front old v ∷ Effect.Arrive ∷ []))
     (sym (wraps h cap)) there
   where
-    there : Good cap r who s ms was (local.Bounded ring.Swapping) (touch.Swap (h % cap)) (op.Store (word.Stamp (h % cap)) (stamp_filled (h + cap))) (Some v) (call.ForcePush v) (effect.Front old v ∷ effect.Arrive ∷ [])
+    there : Good cap r who s ms was (Local.Bounded ring.Swapping) (Touch.Swap (h % cap)) (Op.Store (Word.Stamp (h % cap)) (stamp_filled (h + cap))) (Some v) (Call.ForcePush v) (Effect.Front old v ∷ Effect.Arrive ∷ [])
     there =
         let i = h % cap in
         let lt : i < cap = in_ring cap h ok.ring in
@@ -143,5 +133,5 @@ good_swapping {A} cap r who s ms was old v h ok codes one =
           makes = refl;
           passes = passes_written r who i (Swapped h who old v) (Full (h + cap) v) one.0 refl refl;
           shift = Returns i (Full (h + cap) v) lt refl (ap owner one.0) refl refl refl;
-          goes = rw hand (lets_go r.cells who i (Swapped h who old v) (Full (h + cap) v) refl one, refl, (reply.ForcePush (Ok (Some old)), refl, inr refl, λ e. cc));
+          goes = rw hand (lets_go r.cells who i (Swapped h who old v) (Full (h + cap) v) refl one, refl, (Reply.ForcePush (Ok (Some old)), refl, inr refl, λ e. cc));
         }

@@ -6,35 +6,18 @@ use Rattle.queue_steps.specs.Next.{CanNext, next_of}
 use Rattle.queue_steps.specs.WaitFree.{is_wait_free}
 use Rattle.queue_steps.specs.Replies.{Tells, IsRightAt}
 use Rattle.queue_steps.specs.Words.{position_of, is_shut}
-use Rattle.queue_steps.specs.declared.model.Call.{Call}
-use Rattle.queue_steps.specs.declared.model.Reply.{Reply}
-use Rattle.queue_steps.specs.declared.model.Effect.{Effect}
-use Rattle.queue_steps.specs.declared.model.Effect.TheVariants as effect
-use Rattle.queue_steps.specs.declared.steps.types.Answer.{Answer}
-use Rattle.queue_steps.specs.declared.steps.types.Answer.TheVariants as answer
-use Rattle.queue_steps.specs.declared.steps.types.Kind.TheVariants as queue
-use Rattle.queue_steps.specs.declared.steps.types.Local.{Local}
-use Rattle.queue_steps.specs.declared.steps.types.Local.TheVariants as local
-use Rattle.queue_steps.specs.declared.steps.types.Next.{Next}
-use Rattle.queue_steps.specs.declared.steps.types.Next.TheVariants as next
-use Rattle.queue_steps.specs.declared.steps.types.Op.{Op}
-use Rattle.queue_steps.specs.declared.steps.types.Op.TheVariants as op
-use Rattle.queue_steps.specs.declared.steps.types.Touch.{Touch}
-use Rattle.queue_steps.specs.declared.steps.types.Touch.TheVariants as touch
-use Rattle.queue_steps.specs.declared.steps.types.Word.TheVariants as word
-use Rattle.queue_steps.specs.declared.steps.bounded.TheConstants.{MARK}
+use Rattle.law_common.specs.Vocabulary.{Call, Reply, Effect, Kind, Word, Op, Touch, Answer, Local, Next, MARK}
 use Rattle.queue_steps.specs.declared.steps.bounded.BoundedLocal.TheVariants as ring
 use Rattle.law_common.specs.Moments.{SeenIn}
 use Rattle.law_common.specs.Effects.{Leads, with_effect, Whether}
 use Rattle.law_ring.specs.RingShared.{Shared, CanTouch, CanOperate, answered, operated, touched, handed}
 use Rattle.law_ring.specs.RingCells.{Ring, queue_of, RingOk, HoldsNone}
 use Rattle.law_ring.specs.RingPasses.{Passes}
-use Rattle.law_ring.proofs.RingPasses.{passes_same}
+use Rattle.law_ring.proofs.RingPasses.{passes_same, passes_marked}
 use Rattle.law_ring.specs.RingWords.{Codes}
 use Rattle.law_common.proofs.Tails.{mark_tail}
 use Rattle.law_ring.specs.RingTransitions.{marked}
 use Rattle.law_ring.proofs.RingTransitions.{mark_ok}
-use Rattle.law_ring.proofs.RingPasses.{passes_marked}
 use Rattle.law_ring.proofs.RingHands.{Shift, Rests}
 use Rattle.law_ring.specs.RingAt.{SawTail, At}
 use Rattle.law_ring.proofs.RingRanks.{rank}
@@ -49,20 +32,20 @@ IsCalm r who k = is_wait_free k ≡ false → IsQuiet r who
 
 -- the call goes on with fewer steps before it, if it is calm, or ends with a reply that is right, and holds nothing
 abbrev pub Goes : {A : Type 0} → ℕ → Ring A → Ring A → ℕ → List (State A) → Bool → Next ℕ → Option A → Call A → List (Effect A) → ℕ → Type 0
-Goes cap r s who ms was (next.Step l t o) v k es n = At cap s who ms was l t o v k es × (IsCalm r who k → rank cap s l < n)
-Goes {A} cap r s who ms was (next.Reply x spare) v k es n =
+Goes cap r s who ms was (Next.Step l t o) v k es n = At cap s who ms was l t o v k es × (IsCalm r who k → rank cap s l < n)
+Goes {A} cap r s who ms was (Next.Reply x spare) v k es n =
     HoldsNone s.cells who × (spare ≡ None) × ((y : Reply A) × (filled x v ≡ Some y) × Tells k y es × (es ≡ [] → SeenIn ms (λ m. IsRightAt m k y)))
 
 -- The effect of the step at this local state that got this answer: the exchange of the tail or the head that wins, the tail that moves on, and
 -- the mark on an open tail. A front leaves only by a call that has seen the queue open
 abbrev pub IsEffect : {A : Type 0} → ℕ → Bool → Local ℕ → Answer ℕ → Option (Effect A) → Type 0
-IsEffect {A} cap was (local.Bounded (ring.Claiming d tail)) (answer.Found found) e = Whether (found == tail) ((v : A) × (e ≡ Some (effect.Append v))) (e ≡ None)
-IsEffect {A} cap was (local.Bounded (ring.Displacing tail)) (answer.Found found) e = Whether (found + cap == position_of tail) ((x : A × A) × (e ≡ Some (effect.Front x.0 x.1)) × (was ≡ true)) (e ≡ None)
-IsEffect cap was (local.Bounded (ring.Arriving tail)) (answer.Found found) e = e ≡ Some effect.Arrive
-IsEffect cap was (local.Bounded (ring.ClosingAtLimit d)) (answer.Found found) e = Whether (is_shut found) (e ≡ None) (e ≡ Some effect.SelfClose)
-IsEffect {A} cap was (local.Bounded (ring.Taking head)) (answer.Found found) e = Whether (found == head) ((x : A) × (e ≡ Some (effect.Take x))) (e ≡ None)
-IsEffect cap was (local.Bounded ring.Closing) (answer.Found found) e = Whether (is_shut found) (e ≡ None) (e ≡ Some effect.Close)
-IsEffect cap was (local.Bounded l) a e = e ≡ None
+IsEffect {A} cap was (Local.Bounded (ring.Claiming d tail)) (Answer.Found found) e = Whether (found == tail) ((v : A) × (e ≡ Some (Effect.Append v))) (e ≡ None)
+IsEffect {A} cap was (Local.Bounded (ring.Displacing tail)) (Answer.Found found) e = Whether (found + cap == position_of tail) ((x : A × A) × (e ≡ Some (Effect.Front x.0 x.1)) × (was ≡ true)) (e ≡ None)
+IsEffect cap was (Local.Bounded (ring.Arriving tail)) (Answer.Found found) e = e ≡ Some Effect.Arrive
+IsEffect cap was (Local.Bounded (ring.ClosingAtLimit d)) (Answer.Found found) e = Whether (is_shut found) (e ≡ None) (e ≡ Some Effect.SelfClose)
+IsEffect {A} cap was (Local.Bounded (ring.Taking head)) (Answer.Found found) e = Whether (found == head) ((x : A) × (e ≡ Some (Effect.Take x))) (e ≡ None)
+IsEffect cap was (Local.Bounded ring.Closing) (Answer.Found found) e = Whether (is_shut found) (e ≡ None) (e ≡ Some Effect.Close)
+IsEffect cap was (Local.Bounded l) a e = e ≡ None
 IsEffect cap was _ a e = ⊥
 
 -- the next step of the call can be taken, and is a step of the queue that leaves the ring right
@@ -71,21 +54,21 @@ pub record Good {A : Type 0} (cap : ℕ) (r : Ring A) (who : ℕ) (s : Shared A)
   pub e : Option (Effect A)
   pub touches : CanTouch s t
   pub operates : CanOperate (touched s t v) o
-  pub goes_on : CanNext (queue.Bounded cap) l (answered (touched s t v) o)
+  pub goes_on : CanNext (Kind.Bounded cap) l (answered (touched s t v) o)
   pub ok : RingOk cap after
   pub codes : Codes cap after (operated (touched s t v) o)
   pub told : IsEffect cap was l (answered (touched s t v) o) e
   pub makes : Leads (queue_of cap r) e (queue_of cap after)
   pub passes : Passes who r after
   pub shift : Shift cap who r after t v
-  pub goes : Goes cap r after who (queue_of cap after ∷ ms) (was || not after.closed) (next_of (queue.Bounded cap) l (answered (touched s t v) o)) (handed s t v) k (with_effect es e) (rank cap r l)
+  pub goes : Goes cap r after who (queue_of cap after ∷ ms) (was || not after.closed) (next_of (Kind.Bounded cap) l (answered (touched s t v) o)) (handed s t v) k (with_effect es e) (rank cap r l)
 
 -- a step that changes nothing
 pub still : {A : Type 0} (cap : ℕ) (r : Ring A) (who : ℕ) (s : Shared A) (ms : List (State A)) (was : Bool) (l : Local ℕ) (o : Op ℕ) (v : Option A) (k : Call A) (es : List (Effect A))
     → RingOk cap r → Codes cap r s → CanOperate s o → operated s o ≡ s
-    → CanNext (queue.Bounded cap) l (answered s o) → IsEffect {A = A} cap was l (answered s o) None
-    → Goes cap r r who (queue_of cap r ∷ ms) (was || not r.closed) (next_of (queue.Bounded cap) l (answered s o)) v k es (rank cap r l)
-    → Good cap r who s ms was l touch.Nothing o v k es
+    → CanNext (Kind.Bounded cap) l (answered s o) → IsEffect {A = A} cap was l (answered s o) None
+    → Goes cap r r who (queue_of cap r ∷ ms) (was || not r.closed) (next_of (Kind.Bounded cap) l (answered s o)) v k es (rank cap r l)
+    → Good cap r who s ms was l Touch.Nothing o v k es
 still cap r who s ms was l o v k es ok codes operates same goes_on told goes = record {
   after = r;
   e = None;
@@ -103,9 +86,9 @@ still cap r who s ms was l o v k es ok codes operates same goes_on told goes = r
 
 -- the mark of the tail, whether it closes the ring or finds it closed
 pub marks : {A : Type 0} (cap : ℕ) (r : Ring A) (who : ℕ) (s : Shared A) (ms : List (State A)) (was : Bool) (l : Local ℕ) (v : Option A) (k : Call A) (es : List (Effect A)) (e : Option (Effect A))
-    → RingOk cap r → Codes cap r s → CanNext (queue.Bounded cap) l (answer.Found s.tail) → IsEffect cap was l (answer.Found s.tail) e → Leads (queue_of cap r) e (queue_of cap (marked r))
-    → Goes cap r (marked r) who (queue_of cap (marked r) ∷ ms) (was || not (marked r).closed) (next_of (queue.Bounded cap) l (answer.Found s.tail)) v k (with_effect es e) (rank cap r l)
-    → Good cap r who s ms was l touch.Nothing (op.Or word.Tail MARK) v k es
+    → RingOk cap r → Codes cap r s → CanNext (Kind.Bounded cap) l (Answer.Found s.tail) → IsEffect cap was l (Answer.Found s.tail) e → Leads (queue_of cap r) e (queue_of cap (marked r))
+    → Goes cap r (marked r) who (queue_of cap (marked r) ∷ ms) (was || not (marked r).closed) (next_of (Kind.Bounded cap) l (Answer.Found s.tail)) v k (with_effect es e) (rank cap r l)
+    → Good cap r who s ms was l Touch.Nothing (Op.Or Word.Tail MARK) v k es
 marks cap r who s ms was l v k es e ok codes goes_on told makes goes = record {
   after = marked r;
   e = e;
@@ -133,9 +116,8 @@ pub marks_closed : {A : Type 0} (cap : ℕ) (r : Ring A) → r.closed ≡ true �
 marks_closed cap r c = ap (λ b. queue_of cap (record r { closed = b })) (sym c)
 
 pub opened_now : (was closed : Bool) → closed ≡ false → (was || not closed) ≡ true
-opened_now true closed e = refl
-opened_now false false e = refl
 opened_now false true e = cc
+opened_now was closed e = refl
 
 pub opened_still : (was c : Bool) → was ≡ true → (was || c) ≡ true
 opened_still true c e = refl

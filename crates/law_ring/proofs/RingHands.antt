@@ -1,7 +1,6 @@
 -- Who holds which slot, for a keeper of the slots that lends them out: what a step takes, passes on or gives back.
 use Rattle.std.proofs.Common.{ℕ, ◌<◌, ◌≡◌, ◌≢◌, ◌∙◌, Option, Some, None, List, [], ◌∷◌, ap}
-use Rattle.queue_steps.specs.declared.steps.types.Touch.{Touch}
-use Rattle.queue_steps.specs.declared.steps.types.Touch.TheVariants as touch
+use Rattle.law_common.specs.Vocabulary.{Touch}
 use Rattle.law_common.specs.Puts.{put}
 use Rattle.law_common.specs.Effects.{Touches}
 use Rattle.law_ring.specs.RingCells.{Cell, Ring, owner, HoldsNone}
@@ -11,9 +10,9 @@ use Rattle.law_ring.specs.RingWords.{item_in}
 
 -- What a step with this touch does to the slots, where v is carried: nothing; it claims one that is nobody's; it goes on with its own; it gives its own back with v
 pub data Shift {A : Type 0} (cap who : ℕ) (r s : Ring A) (t : Touch) (v : Option A) : Type 0 where
-  Rests : t ≡ touch.Nothing → s.cells ≡ r.cells → Shift cap who r s t v
-  Claims : (i : ℕ) (c : Cell A) → i < cap → t ≡ touch.Nothing → HoldsNone r.cells who → owner (r.cells i) ≡ None → owner c ≡ Some who → item_in c ≡ item_in (r.cells i) → s.cells ≡ put r.cells i c → Shift cap who r s t v
-  GoesOn : (i : ℕ) (c : Cell A) → t ≡ touch.Nothing → owner (r.cells i) ≡ Some who → owner c ≡ Some who → item_in c ≡ item_in (r.cells i) → s.cells ≡ put r.cells i c → Shift cap who r s t v
+  Rests : t ≡ Touch.Nothing → s.cells ≡ r.cells → Shift cap who r s t v
+  Claims : (i : ℕ) (c : Cell A) → i < cap → t ≡ Touch.Nothing → HoldsNone r.cells who → owner (r.cells i) ≡ None → owner c ≡ Some who → item_in c ≡ item_in (r.cells i) → s.cells ≡ put r.cells i c → Shift cap who r s t v
+  GoesOn : (i : ℕ) (c : Cell A) → t ≡ Touch.Nothing → owner (r.cells i) ≡ Some who → owner c ≡ Some who → item_in c ≡ item_in (r.cells i) → s.cells ≡ put r.cells i c → Shift cap who r s t v
   Returns : (i : ℕ) (c : Cell A) → i < cap → Touches t i → owner (r.cells i) ≡ Some who → owner c ≡ None → item_in c ≡ v → s.cells ≡ put r.cells i c → Shift cap who r s t v
 
 -- what a party has stays with it at the steps of others

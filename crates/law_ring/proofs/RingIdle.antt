@@ -1,5 +1,6 @@
 -- A ring of which nobody has a slot: nothing is coming, and each slot is full or free, by its position.
-use Rattle.std.proofs.Common.{ℕ, ◌+◌, ◌-◌, ◌%◌, ◌<◌, ◌≤◌, ◌≡◌, ◌∙◌, ◌⊎◌, inl, inr, Option, Some, None, refl, sym, ap, arith, get_or, slice_get}
+use Rattle.std.proofs.Common.{ℕ, ◌+◌, ◌-◌, ◌%◌, ◌<◌, ◌≤◌, ◌≡◌, ◌∙◌, ◌⊎◌, inl, inr, Some, None, refl, sym, ap, arith, get_or, slice_get}
+use Rattle.law_common.proofs.Tests.{none_if}
 use Rattle.queue_steps.specs.Words.{stamp_free, stamp_filled}
 use Rattle.law_ring.specs.RingShared.{Shared}
 use Rattle.law_ring.specs.RingCells.{Cell, Free, Written, Full, Read, Coming, Swapped, Ring, CellOk, RingOk, owner, HoldsNone}
@@ -10,10 +11,6 @@ use Rattle.law_ring.specs.RingWords.{Codes, stamp_in, item_in}
 -- nobody has a slot
 abbrev pub NobodyHolds : {A : Type 0} → Ring A → Type 0
 NobodyHolds r = (who : ℕ) → HoldsNone r.cells who
-
-none_if : {X : Type 0} (o : Option X) → ((x : X) → o ≡ Some x → ⊥) → o ≡ None
-none_if None never = refl
-none_if (Some x) never = absurd (never x refl)
 
 -- what is coming has its slot, which is somebody's
 pub nothing_comes : {A : Type 0} (cap : ℕ) (r : Ring A) → RingOk cap r → NobodyHolds r → r.coming ≡ None

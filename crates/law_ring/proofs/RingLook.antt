@@ -6,14 +6,7 @@ use Rattle.queue_steps.specs.State.{State, is_full}
 use Rattle.queue_steps.specs.Replies.{is_empty}
 use Rattle.queue_steps.specs.Words.{position_of, is_shut, tail_of}
 use Rattle.queue_steps.specs.BoundedNext.{loads, ends}
-use Rattle.queue_steps.specs.declared.model.Call.TheVariants as call
-use Rattle.queue_steps.specs.declared.model.Reply.TheVariants as reply
-use Rattle.queue_steps.specs.declared.model.Effect.TheVariants as effect
-use Rattle.queue_steps.specs.declared.steps.types.Local.TheVariants as local
-use Rattle.queue_steps.specs.declared.steps.types.Op.TheVariants as op
-use Rattle.queue_steps.specs.declared.steps.types.Touch.TheVariants as touch
-use Rattle.queue_steps.specs.declared.steps.types.Word.TheVariants as word
-use Rattle.queue_steps.specs.declared.steps.bounded.TheConstants.{MARK}
+use Rattle.law_common.specs.Vocabulary.{Call, Reply, Effect, Word, Op, Touch, Local, MARK}
 use Rattle.queue_steps.specs.declared.steps.bounded.BoundedLocal.TheVariants as ring
 use Rattle.law_common.proofs.Tails.{position_tail, shut_tail}
 use Rattle.law_common.specs.Moments.{HasItems, HeadWas, SeenIn}
@@ -28,27 +21,27 @@ use Rattle.law_ring.proofs.RingGood.{Goes, Good, still, marks, marks_closed}
 
 pub good_len_tail : {A : Type 0} (cap : ℕ) (r : Ring A) (who : ℕ) (s : Shared A) (ms : List (State A)) (was : Bool)
     → RingOk cap r → Codes cap r s → HoldsNone r.cells who
-    → Good cap r who s ms was (local.Bounded ring.LenTail) touch.Nothing (op.Load word.Tail) None call.Len []
+    → Good cap r who s ms was (Local.Bounded ring.LenTail) Touch.Nothing (Op.Load Word.Tail) None Call.Len []
 good_len_tail cap r who s ms was ok codes none =
-    still cap r who s ms was (local.Bounded ring.LenTail) (op.Load word.Tail) None call.Len [] ok codes tt refl (ok.ring, tt) refl (
+    still cap r who s ms was (Local.Bounded ring.LenTail) (Op.Load Word.Tail) None Call.Len [] ok codes tt refl (ok.ring, tt) refl (
       len_head s.tail none (let a = ap position_of codes.tail ∙ position_tail r.tail r.closed in omega arith),
       λ calm. rw (pick s.tail (tail_of r.tail r.closed) 2 5 codes.tail) (omega arith),
     )
 
 pub good_len_head : {A : Type 0} (cap : ℕ) (r : Ring A) (who : ℕ) (s : Shared A) (ms : List (State A)) (was : Bool) (t : ℕ)
     → RingOk cap r → Codes cap r s → HoldsNone r.cells who → position_of t ≤ r.tail
-    → Good cap r who s ms was (local.Bounded (ring.LenHead t)) touch.Nothing (op.Load word.Head) None call.Len []
+    → Good cap r who s ms was (Local.Bounded (ring.LenHead t)) Touch.Nothing (Op.Load Word.Head) None Call.Len []
 good_len_head cap r who s ms was t ok codes none low =
-    still cap r who s ms was (local.Bounded (ring.LenHead t)) (op.Load word.Head) None call.Len [] ok codes tt refl (ok.ring, tt) refl (
+    still cap r who s ms was (Local.Bounded (ring.LenHead t)) (Op.Load Word.Head) None Call.Len [] ok codes tt refl (ok.ring, tt) refl (
       len_again t s.head none (inl ((let a = codes.head in let b = ok.count in omega arith), low, omega arith)),
       λ calm. elim (t == tail_of r.tail r.closed) as (λ b. (if b then 1 else 4) < (if b then 2 else 5)) [ true ↦ omega arith | false ↦ omega arith ],
     )
 
 pub good_len_again : {A : Type 0} (cap : ℕ) (r : Ring A) (who : ℕ) (s : Shared A) (ms : List (State A)) (was : Bool) (t h : ℕ)
     → RingOk cap r → Codes cap r s → HoldsNone r.cells who → SeenIn ms (HeadWas h (position_of t) r.tail)
-    → Good cap r who s ms was (local.Bounded (ring.LenAgain t h)) touch.Nothing (op.Load word.Tail) None call.Len []
+    → Good cap r who s ms was (Local.Bounded (ring.LenAgain t h)) Touch.Nothing (Op.Load Word.Tail) None Call.Len []
 good_len_again {A} cap r who s ms was t h ok codes none seen =
-    still cap r who s ms was (local.Bounded (ring.LenAgain t h)) (op.Load word.Tail) None call.Len [] ok codes tt refl
+    still cap r who s ms was (Local.Bounded (ring.LenAgain t h)) (Op.Load Word.Tail) None Call.Len [] ok codes tt refl
     (ok.ring, λ e. low_of (at_tail e) ms seen) refl
     (go (eqb_tells s.tail t))
   where
@@ -61,19 +54,19 @@ good_len_again {A} cap r who s ms was t h ok codes none seen =
     low_of e (m ∷ ns) (inr seen) = low_of e ns seen
 
     go : (((s.tail == t) ≡ true) × (s.tail ≡ t)) ⊎ (((s.tail == t) ≡ false) × (s.tail ≢ t))
-        → Goes cap r r who (queue_of cap r ∷ ms) (was || not r.closed) (if s.tail == t then ends (reply.Len (position_of t - h)) else loads ring.LenTail word.Tail) None call.Len [] (if t == tail_of r.tail r.closed then 1 else 4)
+        → Goes cap r r who (queue_of cap r ∷ ms) (was || not r.closed) (if s.tail == t then ends (Reply.Len (position_of t - h)) else loads ring.LenTail Word.Tail) None Call.Len [] (if t == tail_of r.tail r.closed then 1 else 4)
     go (inl e) =
         let at = at_tail e.1 in
-        rw e.0 (none, refl, (reply.Len (position_of t - h), refl, refl, λ _. inr (seen_map ms (λ m was. let a = was.0 in let b = was.1 in let c = was.2 in omega arith) seen)))
+        rw e.0 (none, refl, (Reply.Len (position_of t - h), refl, refl, λ _. inr (seen_map ms (λ m was. let a = was.0 in let b = was.1 in let c = was.2 in omega arith) seen)))
     go (inr e) =
         let other : (t == tail_of r.tail r.closed) ≡ false = ne_eqb t (tail_of r.tail r.closed) (λ same. e.1 (codes.tail ∙ sym same)) in
         rw (e.0, other) (len_tail none, λ calm. omega arith)
 
 pub good_empty_head : {A : Type 0} (cap : ℕ) (r : Ring A) (who : ℕ) (s : Shared A) (ms : List (State A)) (was : Bool)
     → RingOk cap r → Codes cap r s → HoldsNone r.cells who
-    → Good cap r who s ms was (local.Bounded ring.EmptyHead) touch.Nothing (op.Load word.Head) None call.IsEmpty []
+    → Good cap r who s ms was (Local.Bounded ring.EmptyHead) Touch.Nothing (Op.Load Word.Head) None Call.IsEmpty []
 good_empty_head {A} cap r who s ms was ok codes none =
-    still cap r who s ms was (local.Bounded ring.EmptyHead) (op.Load word.Head) None call.IsEmpty [] ok codes tt refl (ok.ring, tt) refl
+    still cap r who s ms was (Local.Bounded ring.EmptyHead) (Op.Load Word.Head) None Call.IsEmpty [] ok codes tt refl (ok.ring, tt) refl
     (empty_tail s.head none (tt, (let a = codes.head in omega arith), seen r.items refl), λ calm. omega arith)
   where
     seen : (xs : List A) → r.items ≡ xs → SeenIn (queue_of cap r ∷ ms) HasItems ⊎ (r.tail ≡ s.head)
@@ -90,10 +83,10 @@ some_items (x ∷ xs) e = refl
 
 pub good_empty_tail : {A : Type 0} (cap : ℕ) (r : Ring A) (who : ℕ) (s : Shared A) (ms : List (State A)) (was : Bool) (h : ℕ)
     → RingOk cap r → Codes cap r s → HoldsNone r.cells who → SawEmpty h r ms
-    → Good cap r who s ms was (local.Bounded (ring.EmptyTail h)) touch.Nothing (op.Load word.Tail) None call.IsEmpty []
+    → Good cap r who s ms was (Local.Bounded (ring.EmptyTail h)) Touch.Nothing (Op.Load Word.Tail) None Call.IsEmpty []
 good_empty_tail {A} cap r who s ms was h ok codes none saw =
-    still cap r who s ms was (local.Bounded (ring.EmptyTail h)) (op.Load word.Tail) None call.IsEmpty [] ok codes tt refl (ok.ring, tt) refl
-    (rw at (none, refl, (reply.IsEmpty (r.tail == h), refl, refl, λ _. go (eqb_tells r.tail h))))
+    still cap r who s ms was (Local.Bounded (ring.EmptyTail h)) (Op.Load Word.Tail) None Call.IsEmpty [] ok codes tt refl (ok.ring, tt) refl
+    (rw at (none, refl, (Reply.IsEmpty (r.tail == h), refl, refl, λ _. go (eqb_tells r.tail h))))
   where
     at : position_of s.tail ≡ r.tail
     at = ap position_of codes.tail ∙ position_tail r.tail r.closed
@@ -112,9 +105,9 @@ good_empty_tail {A} cap r who s ms was h ok codes none saw =
 
 pub good_full_tail : {A : Type 0} (cap : ℕ) (r : Ring A) (who : ℕ) (s : Shared A) (ms : List (State A)) (was : Bool)
     → RingOk cap r → Codes cap r s → HoldsNone r.cells who
-    → Good cap r who s ms was (local.Bounded ring.FullTail) touch.Nothing (op.Load word.Tail) None call.IsFull []
+    → Good cap r who s ms was (Local.Bounded ring.FullTail) Touch.Nothing (Op.Load Word.Tail) None Call.IsFull []
 good_full_tail {A} cap r who s ms was ok codes none =
-    still cap r who s ms was (local.Bounded ring.FullTail) (op.Load word.Tail) None call.IsFull [] ok codes tt refl (ok.ring, tt) refl
+    still cap r who s ms was (Local.Bounded ring.FullTail) (Op.Load Word.Tail) None Call.IsFull [] ok codes tt refl (ok.ring, tt) refl
     (full_head s.tail none (tt, (let a = at in omega arith), seen (cases (length r.items) cap)), λ calm. omega arith)
   where
     at : position_of s.tail ≡ r.tail
@@ -129,11 +122,11 @@ good_full_tail {A} cap r who s ms was ok codes none =
 
 pub good_full_head : {A : Type 0} (cap : ℕ) (r : Ring A) (who : ℕ) (s : Shared A) (ms : List (State A)) (was : Bool) (t : ℕ)
     → RingOk cap r → Codes cap r s → HoldsNone r.cells who → SawFull cap (position_of t) r ms
-    → Good cap r who s ms was (local.Bounded (ring.FullHead t)) touch.Nothing (op.Load word.Head) None call.IsFull []
+    → Good cap r who s ms was (Local.Bounded (ring.FullHead t)) Touch.Nothing (Op.Load Word.Head) None Call.IsFull []
 good_full_head {A} cap r who s ms was t ok codes none saw =
-    still cap r who s ms was (local.Bounded (ring.FullHead t)) (op.Load word.Head) None call.IsFull [] ok codes tt refl
+    still cap r who s ms was (Local.Bounded (ring.FullHead t)) (Op.Load Word.Head) None Call.IsFull [] ok codes tt refl
     (ok.ring, rw codes.head (head_small cap r r.head ok (omega arith))) refl
-    (rw codes.head (none, refl, (reply.IsFull (r.head + cap == position_of t), refl, refl, λ _. go (eqb_tells (r.head + cap) (position_of t)))))
+    (rw codes.head (none, refl, (Reply.IsFull (r.head + cap == position_of t), refl, refl, λ _. go (eqb_tells (r.head + cap) (position_of t)))))
   where
     go : (((r.head + cap == position_of t) ≡ true) × (r.head + cap ≡ position_of t)) ⊎ (((r.head + cap == position_of t) ≡ false) × (r.head + cap ≢ position_of t))
         → SeenIn (queue_of cap r ∷ ms) (λ m. (r.head + cap == position_of t) ≡ is_full m)
@@ -150,26 +143,26 @@ good_full_head {A} cap r who s ms was t ok codes none saw =
 
 pub good_closing : {A : Type 0} (cap : ℕ) (r : Ring A) (who : ℕ) (s : Shared A) (ms : List (State A)) (was : Bool)
     → RingOk cap r → Codes cap r s → HoldsNone r.cells who
-    → Good cap r who s ms was (local.Bounded ring.Closing) touch.Nothing (op.Or word.Tail MARK) None call.Close []
+    → Good cap r who s ms was (Local.Bounded ring.Closing) Touch.Nothing (Op.Or Word.Tail MARK) None Call.Close []
 good_closing {A} cap r who s ms was ok codes none = go r.closed refl
   where
     even : (n : ℕ) (c : Bool) → (tail_of n c % 2 == 0) ≡ not c
     even n true = ne_eqb ((n * 2 + 1) % 2) 0 (λ e. absurd (let z : (n * 2 + 1) % 2 ≡ 1 = omega arith in omega arith))
     even n false = eq-eqb ((n * 2) % 2) 0 (omega arith)
 
-    go : (c : Bool) → r.closed ≡ c → Good cap r who s ms was (local.Bounded ring.Closing) touch.Nothing (op.Or word.Tail MARK) None call.Close []
+    go : (c : Bool) → r.closed ≡ c → Good cap r who s ms was (Local.Bounded ring.Closing) Touch.Nothing (Op.Or Word.Tail MARK) None Call.Close []
     go true c =
         let shut : is_shut s.tail ≡ true = ap is_shut codes.tail ∙ (shut_tail r.tail r.closed ∙ c) in
         let odd : (s.tail % 2 == 0) ≡ false = ap (λ n. n % 2 == 0) codes.tail ∙ (even r.tail r.closed ∙ ap not c) in
-        marks cap r who s ms was (local.Bounded ring.Closing) None call.Close [] None ok codes (ok.ring, tt) (rw shut refl) (marks_closed cap r c) (rw odd (none, refl, (reply.Close false, refl, refl, λ _. inl refl)))
+        marks cap r who s ms was (Local.Bounded ring.Closing) None Call.Close [] None ok codes (ok.ring, tt) (rw shut refl) (marks_closed cap r c) (rw odd (none, refl, (Reply.Close false, refl, refl, λ _. inl refl)))
     go false c =
         let shut : is_shut s.tail ≡ false = ap is_shut codes.tail ∙ (shut_tail r.tail r.closed ∙ c) in
         let odd : (s.tail % 2 == 0) ≡ true = ap (λ n. n % 2 == 0) codes.tail ∙ (even r.tail r.closed ∙ ap not c) in
-        marks cap r who s ms was (local.Bounded ring.Closing) None call.Close [] (Some effect.Close) ok codes (ok.ring, tt) (rw shut refl) (c, refl) (rw odd (none, refl, (reply.Close true, refl, refl, λ e. cc)))
+        marks cap r who s ms was (Local.Bounded ring.Closing) None Call.Close [] (Some Effect.Close) ok codes (ok.ring, tt) (rw shut refl) (c, refl) (rw odd (none, refl, (Reply.Close true, refl, refl, λ e. cc)))
 
 pub good_closed_tail : {A : Type 0} (cap : ℕ) (r : Ring A) (who : ℕ) (s : Shared A) (ms : List (State A)) (was : Bool)
     → RingOk cap r → Codes cap r s → HoldsNone r.cells who
-    → Good cap r who s ms was (local.Bounded ring.ClosedTail) touch.Nothing (op.Load word.Tail) None call.IsClosed []
+    → Good cap r who s ms was (Local.Bounded ring.ClosedTail) Touch.Nothing (Op.Load Word.Tail) None Call.IsClosed []
 good_closed_tail cap r who s ms was ok codes none =
-    still cap r who s ms was (local.Bounded ring.ClosedTail) (op.Load word.Tail) None call.IsClosed [] ok codes tt refl (ok.ring, tt) refl
-    (none, refl, (reply.IsClosed (is_shut s.tail), refl, refl, λ _. inl (ap is_shut codes.tail ∙ shut_tail r.tail r.closed)))
+    still cap r who s ms was (Local.Bounded ring.ClosedTail) (Op.Load Word.Tail) None Call.IsClosed [] ok codes tt refl (ok.ring, tt) refl
+    (none, refl, (Reply.IsClosed (is_shut s.tail), refl, refl, λ _. inl (ap is_shut codes.tail ∙ shut_tail r.tail r.closed)))

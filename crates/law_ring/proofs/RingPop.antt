@@ -5,14 +5,7 @@ use Rattle.std.proofs.lemmas.Bool.Decides.{eqb_tells}
 use Rattle.queue_steps.specs.State.{State}
 use Rattle.queue_steps.specs.Words.{IsWord, tail_of, slot_at, stamp_free, stamp_filled, stamp_emptied}
 use Rattle.queue_steps.specs.BoundedNext.{ends, head_found, pop_stamp_found, pop_tail_found}
-use Rattle.queue_steps.specs.declared.model.Call.TheVariants as call
-use Rattle.queue_steps.specs.declared.model.Reply.TheVariants as reply
-use Rattle.queue_steps.specs.declared.model.Effect.TheVariants as effect
-use Rattle.queue_steps.specs.declared.errors.PopError.TheVariants as pop
-use Rattle.queue_steps.specs.declared.steps.types.Local.TheVariants as local
-use Rattle.queue_steps.specs.declared.steps.types.Op.TheVariants as op
-use Rattle.queue_steps.specs.declared.steps.types.Touch.TheVariants as touch
-use Rattle.queue_steps.specs.declared.steps.types.Word.TheVariants as word
+use Rattle.law_common.specs.Vocabulary.{Call, Reply, Effect, PopError, Word, Op, Touch, Local}
 use Rattle.queue_steps.specs.declared.steps.bounded.BoundedLocal.TheVariants as ring
 use Rattle.law_common.specs.Puts.{put}
 use Rattle.law_common.proofs.Lists.{none_left}
@@ -33,20 +26,20 @@ use Rattle.law_ring.proofs.RingSlots.{stamp_free_at, stamp_full_at, nobody, head
 
 -- after a head that a pop found
 head_goes : {A : Type 0} (cap : ℕ) (r : Ring A) (who : ℕ) (ms : List (State A)) (was : Bool) (x n : ℕ)
-    → HoldsNone r.cells who → x ≡ r.head → 3 < n → Goes cap r r who ms was (head_found cap x) None call.Pop [] n
+    → HoldsNone r.cells who → x ≡ r.head → 3 < n → Goes cap r r who ms was (head_found cap x) None Call.Pop [] n
 head_goes cap r who ms was x n none at more = (pop_stamp x none (omega arith), λ calm. rw (pick x r.head 3 6 at) more)
 
 pub good_pop_head : {A : Type 0} (cap : ℕ) (r : Ring A) (who : ℕ) (s : Shared A) (ms : List (State A)) (was : Bool)
     → RingOk cap r → Codes cap r s → HoldsNone r.cells who
-    → Good cap r who s ms was (local.Bounded ring.PopHead) touch.Nothing (op.Load word.Head) None call.Pop []
+    → Good cap r who s ms was (Local.Bounded ring.PopHead) Touch.Nothing (Op.Load Word.Head) None Call.Pop []
 good_pop_head cap r who s ms was ok codes none =
-    still cap r who s ms was (local.Bounded ring.PopHead) (op.Load word.Head) None call.Pop [] ok codes tt refl
+    still cap r who s ms was (Local.Bounded ring.PopHead) (Op.Load Word.Head) None Call.Pop [] ok codes tt refl
     (ok.ring, rw codes.head (head_small cap r r.head ok (omega arith))) refl (head_goes cap r who (queue_of cap r ∷ ms) (was || not r.closed) s.head 4 none codes.head (omega arith))
 
 -- after the stamp of the slot of the head that it read
 stamp_goes : {A : Type 0} (cap : ℕ) (r : Ring A) (who : ℕ) (ms : List (State A)) (was : Bool) (h stamp : ℕ)
     → RingOk cap r → HoldsNone r.cells who → h ≤ r.head → stamp ≡ stamp_in (r.cells (h % cap))
-    → Goes cap r r who ms was (pop_stamp_found h stamp) None call.Pop [] (if h == r.head then 3 else 6)
+    → Goes cap r r who ms was (pop_stamp_found h stamp) None Call.Pop [] (if h == r.head then 3 else 6)
 stamp_goes {A} cap r who ms was h stamp ok none low is =
     go (eqb_tells stamp (stamp_filled h)) (eqb_tells stamp (stamp_free h))
   where
@@ -58,7 +51,7 @@ stamp_goes {A} cap r who ms was h stamp ok none low is =
         at_slot (inl free) = inl (free.0 ∙ sym e, is ∙ (ap (λ n. stamp_in (r.cells (n % cap))) e ∙ (ap stamp_in free.1 ∙ sym e)))
         at_slot (inr full) = inr (is ∙ (ap (λ n. stamp_in (r.cells (n % cap))) e ∙ (ap stamp_in full.1 ∙ ap (λ n. n + 1) (sym e))))
 
-    empty_falls : stamp ≢ h + 1 → IsCalm r who call.Pop → (if r.tail == h then 1 else 5) < (if h == r.head then 3 else 6)
+    empty_falls : stamp ≢ h + 1 → IsCalm r who Call.Pop → (if r.tail == h then 1 else 5) < (if h == r.head then 3 else 6)
     empty_falls ne calm = at_head (eqb_tells h r.head)
       where
         at_head : (((h == r.head) ≡ true) × (h ≡ r.head)) ⊎ (((h == r.head) ≡ false) × (h ≢ r.head)) → (if r.tail == h then 1 else 5) < (if h == r.head then 3 else 6)
@@ -71,7 +64,7 @@ stamp_goes {A} cap r who ms was h stamp ok none low is =
 
     go : (((stamp == stamp_filled h) ≡ true) × (stamp ≡ stamp_filled h)) ⊎ (((stamp == stamp_filled h) ≡ false) × (stamp ≢ stamp_filled h))
         → (((stamp == stamp_free h) ≡ true) × (stamp ≡ stamp_free h)) ⊎ (((stamp == stamp_free h) ≡ false) × (stamp ≢ stamp_free h))
-        → Goes cap r r who ms was (pop_stamp_found h stamp) None call.Pop [] (if h == r.head then 3 else 6)
+        → Goes cap r r who ms was (pop_stamp_found h stamp) None Call.Pop [] (if h == r.head then 3 else 6)
     go (inl a) b =
         rw a.0 (
           taking h none low (stamp_full_at cap r h ok (sym is ∙ a.1)),
@@ -82,26 +75,26 @@ stamp_goes {A} cap r who ms was h stamp ok none low is =
     go (inr a) (inr b) =
         rw (a.0, b.0) (pop_head none, λ calm. again (eqb_tells h r.head) calm)
       where
-        again : (((h == r.head) ≡ true) × (h ≡ r.head)) ⊎ (((h == r.head) ≡ false) × (h ≢ r.head)) → IsCalm r who call.Pop → 4 < (if h == r.head then 3 else 6)
+        again : (((h == r.head) ≡ true) × (h ≡ r.head)) ⊎ (((h == r.head) ≡ false) × (h ≢ r.head)) → IsCalm r who Call.Pop → 4 < (if h == r.head then 3 else 6)
         again (inl e) calm = elim (fresh e.1 (nobody r who none (calm refl))) [ inl f ↦ absurd (b.1 f.1) | inr f ↦ absurd (a.1 f) ]
         again (inr e) calm = rw e.0 (omega arith)
 
 pub good_pop_stamp : {A : Type 0} (cap : ℕ) (r : Ring A) (who : ℕ) (s : Shared A) (ms : List (State A)) (was : Bool) (h : ℕ)
     → RingOk cap r → Codes cap r s → HoldsNone r.cells who → h ≤ r.head
-    → Good cap r who s ms was (local.Bounded (ring.PopStamp h)) touch.Nothing (op.Load (word.Stamp (slot_at cap h))) None call.Pop []
+    → Good cap r who s ms was (Local.Bounded (ring.PopStamp h)) Touch.Nothing (Op.Load (Word.Stamp (slot_at cap h))) None Call.Pop []
 good_pop_stamp cap r who s ms was h ok codes none low =
     let i = h % cap in
     let lt : i < cap = in_ring cap h ok.ring in
-    still cap r who s ms was (local.Bounded (ring.PopStamp h)) (op.Load (word.Stamp (slot_at cap h))) None call.Pop [] ok codes (rw codes.stamped lt) refl
+    still cap r who s ms was (Local.Bounded (ring.PopStamp h)) (Op.Load (Word.Stamp (slot_at cap h))) None Call.Pop [] ok codes (rw codes.stamped lt) refl
     (ok.ring, head_small cap r h ok low) refl
     (stamp_goes cap r who (queue_of cap r ∷ ms) (was || not r.closed) h (get_or s.stamps i 0) ok none low (codes.stamp i lt))
 
 abbrev Takes : {A : Type 0} → ℕ → Ring A → ℕ → Shared A → List (State A) → Bool → ℕ → Type 0
-Takes cap r who s ms was h = Good cap r who s ms was (local.Bounded (ring.Taking h)) touch.Nothing (op.Exchange word.Head h (h + 1)) None call.Pop []
+Takes cap r who s ms was h = Good cap r who s ms was (Local.Bounded (ring.Taking h)) Touch.Nothing (Op.Exchange Word.Head h (h + 1)) None Call.Pop []
 
 pub good_taking : {A : Type 0} (cap : ℕ) (r : Ring A) (who : ℕ) (s : Shared A) (ms : List (State A)) (was : Bool) (h : ℕ)
     → RingOk cap r → Codes cap r s → HoldsNone r.cells who → h ≤ r.head → FullAt cap r h
-    → Good cap r who s ms was (local.Bounded (ring.Taking h)) touch.Nothing (op.Exchange word.Head h (h + 1)) None call.Pop []
+    → Good cap r who s ms was (Local.Bounded (ring.Taking h)) Touch.Nothing (Op.Exchange Word.Head h (h + 1)) None Call.Pop []
 good_taking {A} cap r who s ms was h ok codes none low full = go (eqb_tells s.head h)
   where
     words : IsWord h × IsWord s.head
@@ -114,7 +107,7 @@ good_taking {A} cap r who s ms was h ok codes none low full = go (eqb_tells s.he
         let good = take_ok cap r who x ok is in
         record {
           after = taken cap r who x;
-          e = Some (effect.Take x);
+          e = Some (Effect.Take x);
           touches = tt;
           operates = tt;
           goes_on = (ok.ring, words);
@@ -138,13 +131,13 @@ good_taking {A} cap r who s ms was h ok codes none low full = go (eqb_tells s.he
         filled_now (inr (x, is)) = won e.0 e.1 x is
     go (inr e) =
         let other : (h == r.head) ≡ false = ne_eqb h r.head (λ same. e.1 (codes.head ∙ sym same)) in
-        still cap r who s ms was (local.Bounded (ring.Taking h)) (op.Exchange word.Head h (h + 1)) None call.Pop [] ok codes tt (rw e.0 refl)
+        still cap r who s ms was (Local.Bounded (ring.Taking h)) (Op.Exchange Word.Head h (h + 1)) None Call.Pop [] ok codes tt (rw e.0 refl)
         (ok.ring, words) (rw e.0 refl)
         (rw (e.0, other) (head_goes cap r who (queue_of cap r ∷ ms) (was || not r.closed) s.head 4 none codes.head (omega arith)))
 
 pub good_emptying : {A : Type 0} (cap : ℕ) (r : Ring A) (who : ℕ) (s : Shared A) (ms : List (State A)) (was : Bool) (x : A) (h : ℕ)
     → RingOk cap r → Codes cap r s → HoldsOne r.cells who (h % cap) (Read h who x)
-    → Good cap r who s ms was (local.Bounded ring.Emptying) (touch.Take (slot_at cap h)) (op.Store (word.Stamp (slot_at cap h)) (stamp_emptied cap h)) None call.Pop (effect.Take x ∷ [])
+    → Good cap r who s ms was (Local.Bounded ring.Emptying) (Touch.Take (slot_at cap h)) (Op.Store (Word.Stamp (slot_at cap h)) (stamp_emptied cap h)) None Call.Pop (Effect.Take x ∷ [])
 good_emptying {A} cap r who s ms was x h ok codes one =
     let i = h % cap in
     let lt : i < cap = in_ring cap h ok.ring in
@@ -161,16 +154,16 @@ good_emptying {A} cap r who s ms was x h ok codes one =
       makes = refl;
       passes = passes_written r who i (Read h who x) (Free (h + cap)) one.0 refl refl;
       shift = Returns i (Free (h + cap)) lt refl (ap owner one.0) refl refl refl;
-      goes = rw hand (lets_go r.cells who i (Read h who x) (Free (h + cap)) refl one, refl, (reply.Pop (Ok x), refl, refl, λ e. cc));
+      goes = rw hand (lets_go r.cells who i (Read h who x) (Free (h + cap)) refl one, refl, (Reply.Pop (Ok x), refl, refl, λ e. cc));
     }
 
 pub good_pop_tail : {A : Type 0} (cap : ℕ) (r : Ring A) (who : ℕ) (s : Shared A) (ms : List (State A)) (was : Bool) (h : ℕ)
     → RingOk cap r → Codes cap r s → HoldsNone r.cells who → h ≤ r.head → FreeAt cap r h
-    → Good cap r who s ms was (local.Bounded (ring.PopTail h)) touch.Nothing (op.Load word.Tail) None call.Pop []
+    → Good cap r who s ms was (Local.Bounded (ring.PopTail h)) Touch.Nothing (Op.Load Word.Tail) None Call.Pop []
 good_pop_tail {A} cap r who s ms was h ok codes none low free =
-    still cap r who s ms was (local.Bounded (ring.PopTail h)) (op.Load word.Tail) None call.Pop [] ok codes tt refl
+    still cap r who s ms was (Local.Bounded (ring.PopTail h)) (Op.Load Word.Tail) None Call.Pop [] ok codes tt refl
     (ok.ring, tt) refl
-    (subst (λ x. Goes cap r r who (queue_of cap r ∷ ms) (was || not r.closed) (pop_tail_found h x) None call.Pop [] (if r.tail == h then 1 else 5)) (sym codes.tail) (go (eqb_tells r.tail h)))
+    (subst (λ x. Goes cap r r who (queue_of cap r ∷ ms) (was || not r.closed) (pop_tail_found h x) None Call.Pop [] (if r.tail == h then 1 else 5)) (sym codes.tail) (go (eqb_tells r.tail h)))
   where
     -- nothing is in the ring, and nothing on its way in: its tail is where its slot was seen free
     empty : r.tail ≡ h → (r.items ≡ []) × (r.coming ≡ None)
@@ -180,10 +173,10 @@ good_pop_tail {A} cap r who s ms was h ok codes none low free =
         (none_left r.items (omega arith), none_coming cap r ok is)
 
     go : (((r.tail == h) ≡ true) × (r.tail ≡ h)) ⊎ (((r.tail == h) ≡ false) × (r.tail ≢ h))
-        → Goes cap r r who (queue_of cap r ∷ ms) (was || not r.closed) (pop_tail_found h (tail_of r.tail r.closed)) None call.Pop [] (if r.tail == h then 1 else 5)
+        → Goes cap r r who (queue_of cap r ∷ ms) (was || not r.closed) (pop_tail_found h (tail_of r.tail r.closed)) None Call.Pop [] (if r.tail == h then 1 else 5)
     go (inl e) = rw (position_tail r.tail r.closed, shut_tail r.tail r.closed, e.0) (ends_with r.closed refl)
       where
-        ends_with : (c : Bool) → r.closed ≡ c → Goes cap r r who (queue_of cap r ∷ ms) (was || not r.closed) (ends (reply.Pop (Err (if c then pop.Closed else pop.Empty)))) None call.Pop [] 1
-        ends_with true c = (none, refl, (reply.Pop (Err pop.Closed), refl, refl, λ _. inl ((empty e.1).0, (empty e.1).1, c)))
-        ends_with false c = (none, refl, (reply.Pop (Err pop.Empty), refl, refl, λ _. inl ((empty e.1).0, (empty e.1).1, c)))
+        ends_with : (c : Bool) → r.closed ≡ c → Goes cap r r who (queue_of cap r ∷ ms) (was || not r.closed) (ends (Reply.Pop (Err (if c then PopError.Closed else PopError.Empty)))) None Call.Pop [] 1
+        ends_with true c = (none, refl, (Reply.Pop (Err PopError.Closed), refl, refl, λ _. inl ((empty e.1).0, (empty e.1).1, c)))
+        ends_with false c = (none, refl, (Reply.Pop (Err PopError.Empty), refl, refl, λ _. inl ((empty e.1).0, (empty e.1).1, c)))
     go (inr e) = rw (position_tail r.tail r.closed, e.0) (pop_head none, λ calm. omega arith)

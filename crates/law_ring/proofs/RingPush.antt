@@ -1,16 +1,10 @@
 -- The steps of a push into a ring, as far as it displaces nothing.
 use Rattle.std.proofs.Common.{ℕ, ◌+◌, ◌-◌, ◌%◌, ◌<◌, ◌≡◌, ◌≢◌, ◌==◌, ◌||◌, not, ◌∙◌, ◌⊎◌, inl, inr, Bool, true, false, if◌then◌else◌, Some, List, [], ◌∷◌, refl, sym, ap, arith, get_or}
 use Rattle.std.proofs.lemmas.Bool.Decides.{eqb_tells}
-use Rattle.queue_steps.specs.declared.sizes.TheConstants.{LIMIT}
+use Rattle.law_common.specs.Vocabulary.{Word, Op, Touch, Local, PushKind, LIMIT}
 use Rattle.queue_steps.specs.State.{State}
 use Rattle.queue_steps.specs.Words.{IsWord, position_of, is_shut, tail_of, slot_at, stamp_free, stamp_filled}
 use Rattle.queue_steps.specs.BoundedNext.{tail_found, push_stamp_found, lap_found}
-use Rattle.queue_steps.specs.declared.steps.types.Local.TheVariants as local
-use Rattle.queue_steps.specs.declared.steps.types.Op.TheVariants as op
-use Rattle.queue_steps.specs.declared.steps.types.Touch.TheVariants as touch
-use Rattle.queue_steps.specs.declared.steps.types.Word.TheVariants as word
-use Rattle.queue_steps.specs.declared.steps.bounded.PushKind.{PushKind}
-use Rattle.queue_steps.specs.declared.steps.bounded.PushKind.TheVariants as kind
 use Rattle.queue_steps.specs.declared.steps.bounded.BoundedLocal.TheVariants as ring
 use Rattle.law_common.proofs.Tails.{position_tail, shut_tail}
 use Rattle.law_common.specs.Pushes.{pushes}
@@ -67,9 +61,9 @@ saw_word cap r t ms was saw = let b = saw.below in word_small t (omega arith)
 
 pub good_push_tail : {A : Type 0} (cap : ℕ) (r : Ring A) (who : ℕ) (s : Shared A) (ms : List (State A)) (was : Bool) (d : PushKind) (v : A)
     → RingOk cap r → Codes cap r s → HoldsNone r.cells who
-    → Good cap r who s ms was (local.Bounded (ring.PushTail d)) touch.Nothing (op.Load word.Tail) (Some v) (pushes d v) []
+    → Good cap r who s ms was (Local.Bounded (ring.PushTail d)) Touch.Nothing (Op.Load Word.Tail) (Some v) (pushes d v) []
 good_push_tail cap r who s ms was d v ok codes none =
-    still cap r who s ms was (local.Bounded (ring.PushTail d)) (op.Load word.Tail) (Some v) (pushes d v) [] ok codes tt refl
+    still cap r who s ms was (Local.Bounded (ring.PushTail d)) (Op.Load Word.Tail) (Some v) (pushes d v) [] ok codes tt refl
     (ok.ring, tail_word cap r s ok codes) refl (tail_goes cap r who ms was d v s.tail 5 ok none codes.tail (omega arith))
 
 -- after the stamp of the slot of the tail that it read
@@ -128,8 +122,8 @@ stamp_goes {A} cap r who ms was d v t stamp ok none saw is =
       where
         lap : (d : PushKind) → ((a : ℕ) → a < 4 → stamp ≢ position_of t → IsCalm r who (pushes d v) → (if r.head + cap == position_of t then a else 6) < (if position_of t == r.tail then 4 else 7))
             → Goes cap r r who (queue_of cap r ∷ ms) (was || not r.closed) (lap_found cap d t) (Some v) (pushes d v) [] (if position_of t == r.tail then 4 else 7)
-        lap kind.Push falls = (push_head v t none own, λ calm. falls 1 (omega arith) a.1 calm)
-        lap kind.Force falls = let f = full_at b.1 in (displacing v t f.0 none own f.1 f.2, λ calm. falls 3 (omega arith) a.1 calm)
+        lap PushKind.Push falls = (push_head v t none own, λ calm. falls 1 (omega arith) a.1 calm)
+        lap PushKind.Force falls = let f = full_at b.1 in (displacing v t f.0 none own f.1 f.2, λ calm. falls 3 (omega arith) a.1 calm)
     go (inr a) (inr b) =
         rw (a.0, b.0) (push_tail d v none, λ calm. again (eqb_tells (position_of t) r.tail) calm)
       where
@@ -140,12 +134,12 @@ stamp_goes {A} cap r who ms was d v t stamp ok none saw is =
 
 pub good_push_stamp : {A : Type 0} (cap : ℕ) (r : Ring A) (who : ℕ) (s : Shared A) (ms : List (State A)) (was : Bool) (d : PushKind) (v : A) (t : ℕ)
     → RingOk cap r → Codes cap r s → HoldsNone r.cells who → SawTail cap r t ms was
-    → Good cap r who s ms was (local.Bounded (ring.PushStamp d t)) touch.Nothing (op.Load (word.Stamp (slot_at cap (position_of t)))) (Some v) (pushes d v) []
+    → Good cap r who s ms was (Local.Bounded (ring.PushStamp d t)) Touch.Nothing (Op.Load (Word.Stamp (slot_at cap (position_of t)))) (Some v) (pushes d v) []
 good_push_stamp cap r who s ms was d v t ok codes none saw =
     let i = position_of t % cap in
     let lt : i < cap = in_ring cap (position_of t) ok.ring in
     let is : get_or s.stamps i 0 ≡ stamp_in (r.cells i) = codes.stamp i lt in
-    still cap r who s ms was (local.Bounded (ring.PushStamp d t)) (op.Load (word.Stamp (slot_at cap (position_of t)))) (Some v) (pushes d v) [] ok codes
+    still cap r who s ms was (Local.Bounded (ring.PushStamp d t)) (Op.Load (Word.Stamp (slot_at cap (position_of t)))) (Some v) (pushes d v) [] ok codes
     (rw codes.stamped lt) refl (
       ok.ring,
       record {

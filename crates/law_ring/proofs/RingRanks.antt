@@ -4,12 +4,7 @@ use Rattle.std.proofs.lemmas.Bool.{eq-eqb}
 use Rattle.queue_steps.specs.State.{State}
 use Rattle.queue_steps.specs.WaitFree.{is_wait_free}
 use Rattle.queue_steps.specs.Words.{position_of, tail_of}
-use Rattle.queue_steps.specs.declared.model.Call.{Call}
-use Rattle.queue_steps.specs.declared.model.Effect.{Effect}
-use Rattle.queue_steps.specs.declared.steps.types.Local.{Local}
-use Rattle.queue_steps.specs.declared.steps.types.Local.TheVariants as local
-use Rattle.queue_steps.specs.declared.steps.types.Op.{Op}
-use Rattle.queue_steps.specs.declared.steps.types.Touch.{Touch}
+use Rattle.law_common.specs.Vocabulary.{Call, Effect, Op, Touch, Local}
 use Rattle.queue_steps.specs.declared.steps.bounded.BoundedLocal.TheVariants as ring
 use Rattle.law_common.proofs.Ranks.{either_small, either_some}
 use Rattle.law_common.proofs.Pushes.{never_push}
@@ -18,21 +13,21 @@ use Rattle.law_ring.specs.RingAt.{At, push_tail, push_stamp, claiming, filling, 
 
 -- how many steps a call takes from here at most: what it read may be stale, and is not once it has read again
 abbrev pub rank : {A : Type 0} → ℕ → Ring A → Local ℕ → ℕ
-rank cap r (local.Bounded (ring.PushTail d)) = 5
-rank cap r (local.Bounded (ring.PushStamp d t)) = if position_of t == r.tail then 4 else 7
-rank cap r (local.Bounded (ring.Claiming d t)) = if position_of t == r.tail then 2 else 5
-rank cap r (local.Bounded (ring.PushHead t)) = if r.head + cap == position_of t then 1 else 6
-rank cap r (local.Bounded (ring.Displacing t)) = if r.head + cap == position_of t then 3 else 6
-rank cap r (local.Bounded (ring.Arriving t)) = 2
-rank cap r (local.Bounded ring.PopHead) = 4
-rank cap r (local.Bounded (ring.PopStamp h)) = if h == r.head then 3 else 6
-rank cap r (local.Bounded (ring.Taking h)) = if h == r.head then 2 else 4
-rank cap r (local.Bounded (ring.PopTail h)) = if r.tail == h then 1 else 5
-rank cap r (local.Bounded ring.LenTail) = 3
-rank cap r (local.Bounded (ring.LenHead t)) = if t == tail_of r.tail r.closed then 2 else 5
-rank cap r (local.Bounded (ring.LenAgain t h)) = if t == tail_of r.tail r.closed then 1 else 4
-rank cap r (local.Bounded ring.EmptyHead) = 2
-rank cap r (local.Bounded ring.FullTail) = 2
+rank cap r (Local.Bounded (ring.PushTail d)) = 5
+rank cap r (Local.Bounded (ring.PushStamp d t)) = if position_of t == r.tail then 4 else 7
+rank cap r (Local.Bounded (ring.Claiming d t)) = if position_of t == r.tail then 2 else 5
+rank cap r (Local.Bounded (ring.PushHead t)) = if r.head + cap == position_of t then 1 else 6
+rank cap r (Local.Bounded (ring.Displacing t)) = if r.head + cap == position_of t then 3 else 6
+rank cap r (Local.Bounded (ring.Arriving t)) = 2
+rank cap r (Local.Bounded ring.PopHead) = 4
+rank cap r (Local.Bounded (ring.PopStamp h)) = if h == r.head then 3 else 6
+rank cap r (Local.Bounded (ring.Taking h)) = if h == r.head then 2 else 4
+rank cap r (Local.Bounded (ring.PopTail h)) = if r.tail == h then 1 else 5
+rank cap r (Local.Bounded ring.LenTail) = 3
+rank cap r (Local.Bounded (ring.LenHead t)) = if t == tail_of r.tail r.closed then 2 else 5
+rank cap r (Local.Bounded (ring.LenAgain t h)) = if t == tail_of r.tail r.closed then 1 else 4
+rank cap r (Local.Bounded ring.EmptyHead) = 2
+rank cap r (Local.Bounded ring.FullTail) = 2
 rank cap r _ = 1
 
 -- the most steps that a call has before it, wherever it stands
@@ -44,40 +39,28 @@ pub pick : (p q a b : ℕ) → p ≡ q → (if p == q then a else b) ≡ a
 pick p q a b e = ap (λ t. if t then a else b) (eq-eqb p q e)
 
 pub rank_small : {A : Type 0} (cap : ℕ) (r : Ring A) (l : Local ℕ) → rank cap r l ≤ longest
-rank_small cap r (local.Bounded (ring.PushTail d)) = omega arith
-rank_small cap r (local.Bounded (ring.PushStamp d t)) = either_small (position_of t == r.tail) 4 7 longest (omega arith) (omega arith)
-rank_small cap r (local.Bounded (ring.Claiming d t)) = either_small (position_of t == r.tail) 2 5 longest (omega arith) (omega arith)
-rank_small cap r (local.Bounded (ring.PushHead t)) = either_small (r.head + cap == position_of t) 1 6 longest (omega arith) (omega arith)
-rank_small cap r (local.Bounded (ring.Displacing t)) = either_small (r.head + cap == position_of t) 3 6 longest (omega arith) (omega arith)
-rank_small cap r (local.Bounded (ring.Arriving t)) = omega arith
-rank_small cap r (local.Bounded ring.PopHead) = omega arith
-rank_small cap r (local.Bounded (ring.PopStamp h)) = either_small (h == r.head) 3 6 longest (omega arith) (omega arith)
-rank_small cap r (local.Bounded (ring.Taking h)) = either_small (h == r.head) 2 4 longest (omega arith) (omega arith)
-rank_small cap r (local.Bounded (ring.PopTail h)) = either_small (r.tail == h) 1 5 longest (omega arith) (omega arith)
-rank_small cap r (local.Bounded ring.LenTail) = omega arith
-rank_small cap r (local.Bounded (ring.LenHead t)) = either_small (t == tail_of r.tail r.closed) 2 5 longest (omega arith) (omega arith)
-rank_small cap r (local.Bounded (ring.LenAgain t h)) = either_small (t == tail_of r.tail r.closed) 1 4 longest (omega arith) (omega arith)
-rank_small cap r (local.Bounded ring.EmptyHead) = omega arith
-rank_small cap r (local.Bounded ring.FullTail) = omega arith
-rank_small cap r _ = omega arith
+rank_small cap r (Local.Bounded (ring.PushStamp d t)) = either_small (position_of t == r.tail) 4 7 longest (omega arith) (omega arith)
+rank_small cap r (Local.Bounded (ring.Claiming d t)) = either_small (position_of t == r.tail) 2 5 longest (omega arith) (omega arith)
+rank_small cap r (Local.Bounded (ring.PushHead t)) = either_small (r.head + cap == position_of t) 1 6 longest (omega arith) (omega arith)
+rank_small cap r (Local.Bounded (ring.Displacing t)) = either_small (r.head + cap == position_of t) 3 6 longest (omega arith) (omega arith)
+rank_small cap r (Local.Bounded (ring.PopStamp h)) = either_small (h == r.head) 3 6 longest (omega arith) (omega arith)
+rank_small cap r (Local.Bounded (ring.Taking h)) = either_small (h == r.head) 2 4 longest (omega arith) (omega arith)
+rank_small cap r (Local.Bounded (ring.PopTail h)) = either_small (r.tail == h) 1 5 longest (omega arith) (omega arith)
+rank_small cap r (Local.Bounded (ring.LenHead t)) = either_small (t == tail_of r.tail r.closed) 2 5 longest (omega arith) (omega arith)
+rank_small cap r (Local.Bounded (ring.LenAgain t h)) = either_small (t == tail_of r.tail r.closed) 1 4 longest (omega arith) (omega arith)
+rank_small cap r l = omega arith
 
 pub rank_some : {A : Type 0} (cap : ℕ) (r : Ring A) (l : Local ℕ) → 0 < rank cap r l
-rank_some cap r (local.Bounded (ring.PushTail d)) = omega arith
-rank_some cap r (local.Bounded (ring.PushStamp d t)) = either_some (position_of t == r.tail) 4 7 (omega arith) (omega arith)
-rank_some cap r (local.Bounded (ring.Claiming d t)) = either_some (position_of t == r.tail) 2 5 (omega arith) (omega arith)
-rank_some cap r (local.Bounded (ring.PushHead t)) = either_some (r.head + cap == position_of t) 1 6 (omega arith) (omega arith)
-rank_some cap r (local.Bounded (ring.Displacing t)) = either_some (r.head + cap == position_of t) 3 6 (omega arith) (omega arith)
-rank_some cap r (local.Bounded (ring.Arriving t)) = omega arith
-rank_some cap r (local.Bounded ring.PopHead) = omega arith
-rank_some cap r (local.Bounded (ring.PopStamp h)) = either_some (h == r.head) 3 6 (omega arith) (omega arith)
-rank_some cap r (local.Bounded (ring.Taking h)) = either_some (h == r.head) 2 4 (omega arith) (omega arith)
-rank_some cap r (local.Bounded (ring.PopTail h)) = either_some (r.tail == h) 1 5 (omega arith) (omega arith)
-rank_some cap r (local.Bounded ring.LenTail) = omega arith
-rank_some cap r (local.Bounded (ring.LenHead t)) = either_some (t == tail_of r.tail r.closed) 2 5 (omega arith) (omega arith)
-rank_some cap r (local.Bounded (ring.LenAgain t h)) = either_some (t == tail_of r.tail r.closed) 1 4 (omega arith) (omega arith)
-rank_some cap r (local.Bounded ring.EmptyHead) = omega arith
-rank_some cap r (local.Bounded ring.FullTail) = omega arith
-rank_some cap r _ = omega arith
+rank_some cap r (Local.Bounded (ring.PushStamp d t)) = either_some (position_of t == r.tail) 4 7 (omega arith) (omega arith)
+rank_some cap r (Local.Bounded (ring.Claiming d t)) = either_some (position_of t == r.tail) 2 5 (omega arith) (omega arith)
+rank_some cap r (Local.Bounded (ring.PushHead t)) = either_some (r.head + cap == position_of t) 1 6 (omega arith) (omega arith)
+rank_some cap r (Local.Bounded (ring.Displacing t)) = either_some (r.head + cap == position_of t) 3 6 (omega arith) (omega arith)
+rank_some cap r (Local.Bounded (ring.PopStamp h)) = either_some (h == r.head) 3 6 (omega arith) (omega arith)
+rank_some cap r (Local.Bounded (ring.Taking h)) = either_some (h == r.head) 2 4 (omega arith) (omega arith)
+rank_some cap r (Local.Bounded (ring.PopTail h)) = either_some (r.tail == h) 1 5 (omega arith) (omega arith)
+rank_some cap r (Local.Bounded (ring.LenHead t)) = either_some (t == tail_of r.tail r.closed) 2 5 (omega arith) (omega arith)
+rank_some cap r (Local.Bounded (ring.LenAgain t h)) = either_some (t == tail_of r.tail r.closed) 1 4 (omega arith) (omega arith)
+rank_some cap r l = omega arith
 
 -- how many steps a wait-free call has before it does not hang on the ring
 pub wait_free_rank : {A : Type 0} {cap : ℕ} {r : Ring A} {who : ℕ} {ms : List (State A)} {was : Bool} {l : Local ℕ} {t : Touch} {o : Op ℕ} {v : Option A} {k : Call A} {es : List (Effect A)} (s : Ring A)

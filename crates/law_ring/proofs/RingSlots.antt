@@ -12,7 +12,7 @@ use Rattle.law_ring.proofs.RingTransitions.{in_ring}
 use Rattle.law_ring.specs.RingTransitions.{written}
 use Rattle.law_ring.specs.RingAt.{FreeAt, FullAt}
 use Rattle.law_ring.specs.RingWords.{Codes, stamp_in, item_in}
-use Rattle.law_ring.proofs.RingWords.{IsFreeCell, is_free, is_written, IsFullCell, is_full, is_read, is_coming, is_swapped, stamp_is_free, stamp_is_full}
+use Rattle.law_ring.proofs.RingWords.{IsFreeCell, is_free, is_written, IsFullCell, is_full, is_swapped, stamp_is_free, stamp_is_full}
 use Rattle.law_ring.proofs.RingGood.{IsQuiet}
 
 -- a slot with the stamp q, of a position that the tail has reached, is free for it, or the tail has moved on
@@ -30,9 +30,8 @@ stamp_full_at {A} cap r h ok e =
   where
     go : (c : Cell A) → r.cells (h % cap) ≡ c → CellOk cap r.head r.tail r.items r.coming (h % cap) c → IsFullCell h c → FullAt cap r h
     go c is okc (is_full p x) = inr (x, is)
-    go c is okc (is_read p who x) = inl okc.1
-    go c is okc (is_coming p who old v) = inl okc.1
     go c is okc (is_swapped p who old v) = inl (let room = ok.room in let lt = okc.2 in omega arith)
+    go c is okc x = inl okc.1
 
 -- every stamp leaves room in its word
 pub stamp_small : {A : Type 0} (cap : ℕ) (r : Ring A) (i : ℕ) → RingOk cap r → i < cap → IsWord (stamp_in (r.cells i))
@@ -40,11 +39,9 @@ stamp_small {A} cap r i ok lt = go (r.cells i) (ok.cell i lt)
   where
     go : (c : Cell A) → CellOk cap r.head r.tail r.items r.coming i c → IsWord (stamp_in c)
     go (Free p) h = let a = ok.count in let b = ok.most in let c = ok.ring.1 in let d = h.2 in omega arith
-    go (Written p who v) h = let b = ok.most in let d = h.2 in omega arith
-    go (Full p x) h = let b = ok.most in let d = h.2 in omega arith
     go (Read p who x) h = let a = ok.count in let b = ok.most in let d = h.1 in omega arith
     go (Coming p who old v) h = let a = ok.count in let b = ok.most in let d = h.1 in omega arith
-    go (Swapped p who old v) h = let b = ok.most in let d = h.2 in omega arith
+    go c h = let b = ok.most in let d = h.2 in omega arith
 
 -- a stamp of the lap before is one of a position
 pub stamp_lapped : {A : Type 0} (cap : ℕ) (r : Ring A) (q : ℕ) → RingOk cap r → stamp_in (r.cells (q % cap)) + cap ≡ q + 1 → cap ≤ q
@@ -60,10 +57,7 @@ stamp_lapped {A} cap r q ok e = go (r.cells (q % cap)) (ok.cell (q % cap) (in_ri
     go : (c : Cell A) → CellOk cap r.head r.tail r.items r.coming (q % cap) c → stamp_in c + cap ≡ q + 1 → cap ≤ q
     go (Free p) h e = first p h.0 e
     go (Written p who v) h e = first p h.0 e
-    go (Full p x) h e = omega arith
-    go (Read p who x) h e = omega arith
-    go (Coming p who old v) h e = omega arith
-    go (Swapped p who old v) h e = omega arith
+    go c h e = omega arith
 
 -- nobody holds a slot, where no other party does and this one does not
 pub nobody : {A : Type 0} (r : Ring A) (who : ℕ) → HoldsNone r.cells who → IsQuiet r who → (other : ℕ) → HoldsNone r.cells other

@@ -3,14 +3,8 @@ use Rattle.std.proofs.Common.{ℕ, ◌+◌, ◌%◌, ◌≡◌, ◌∙◌, Bool,
 use Rattle.queue_steps.specs.State.{State}
 use Rattle.queue_steps.specs.Kinds.{call_kind}
 use Rattle.queue_steps.specs.BoundedNext.{bounded_begin}
-use Rattle.queue_steps.specs.declared.model.Call.{Call}
-use Rattle.queue_steps.specs.declared.model.Call.TheVariants as call
-use Rattle.queue_steps.specs.declared.model.Effect.{Effect}
-use Rattle.queue_steps.specs.declared.steps.types.Local.{Local}
-use Rattle.queue_steps.specs.declared.steps.types.Op.{Op}
+use Rattle.law_common.specs.Vocabulary.{Call, Effect, Op, Touch, Local, PushKind}
 use Rattle.queue_steps.specs.Words.{position_of}
-use Rattle.queue_steps.specs.declared.steps.types.Touch.{Touch}
-use Rattle.queue_steps.specs.declared.steps.bounded.PushKind.TheVariants as kind
 use Rattle.law_ring.specs.RingCells.{Coming, Ring, CellOk, RingOk, owner, HoldsNone}
 use Rattle.law_ring.proofs.RingCells.{wraps}
 use Rattle.law_ring.proofs.RingTransitions.{in_ring}
@@ -18,15 +12,15 @@ use Rattle.law_common.specs.Effects.{IsBetween, Touches}
 use Rattle.law_ring.specs.RingAt.{At, push_tail, push_stamp, claiming, filling, push_head, displacing, arriving, swapping, spending, pop_head, pop_stamp, taking, emptying, pop_tail, len_tail, len_head, len_again, empty_head, empty_tail, full_tail, full_head, closing, closed_tail, Begun, InRing}
 
 pub at_first : {A : Type 0} (cap : ℕ) (r : Ring A) (who : ℕ) (c : Call A) → HoldsNone r.cells who → Begun cap r who c (bounded_begin cap (call_kind c))
-at_first cap r who (call.Push v) none = push_tail kind.Push v none
-at_first cap r who (call.ForcePush v) none = push_tail kind.Force v none
-at_first cap r who call.Pop none = pop_head none
-at_first cap r who call.Close none = closing none
-at_first cap r who call.IsClosed none = closed_tail none
-at_first cap r who call.IsEmpty none = empty_head none
-at_first cap r who call.IsFull none = full_tail none
-at_first cap r who call.Len none = len_tail none
-at_first cap r who call.Capacity none = tt
+at_first cap r who (Call.Push v) none = push_tail PushKind.Push v none
+at_first cap r who (Call.ForcePush v) none = push_tail PushKind.Force v none
+at_first cap r who Call.Pop none = pop_head none
+at_first cap r who Call.Close none = closing none
+at_first cap r who Call.IsClosed none = closed_tail none
+at_first cap r who Call.IsEmpty none = empty_head none
+at_first cap r who Call.IsFull none = full_tail none
+at_first cap r who Call.Len none = len_tail none
+at_first cap r who Call.Capacity none = tt
 
 -- a slot that is touched is the party's own
 pub at_touches : {A : Type 0} {cap : ℕ} {r : Ring A} {who : ℕ} {ms : List (State A)} {was : Bool} {l : Local ℕ} {t : Touch} {o : Op ℕ} {v : Option A} {k : Call A} {es : List (Effect A)}

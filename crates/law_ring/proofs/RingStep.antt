@@ -1,11 +1,7 @@
 -- Each step of a call on a ring, wherever the call stands.
 use Rattle.std.proofs.Common.{ℕ, Bool, Option, List}
 use Rattle.queue_steps.specs.State.{State}
-use Rattle.queue_steps.specs.declared.model.Call.{Call}
-use Rattle.queue_steps.specs.declared.model.Effect.{Effect}
-use Rattle.queue_steps.specs.declared.steps.types.Local.{Local}
-use Rattle.queue_steps.specs.declared.steps.types.Op.{Op}
-use Rattle.queue_steps.specs.declared.steps.types.Touch.{Touch}
+use Rattle.law_common.specs.Vocabulary.{Call, Effect, Op, Touch, Local}
 use Rattle.law_ring.specs.RingShared.{Shared}
 use Rattle.law_ring.specs.RingCells.{Ring, RingOk}
 use Rattle.law_ring.specs.RingWords.{Codes}

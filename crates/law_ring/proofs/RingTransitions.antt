@@ -2,13 +2,13 @@
 use Rattle.std.proofs.Common.{ℕ, ◌+◌, ◌-◌, ◌%◌, ◌<◌, ◌≡◌, ◌≢◌, ◌∙◌, inr, false, Option, Some, None, List, [], ◌∷◌, ◌++◌, length, refl, sym, ap, arith, slice_get}
 use Rattle.std.proofs.lemmas.List.{length-append}
 use Rattle.std.proofs.lemmas.Bool.{ne_eqb, eq-eqb}
-use Rattle.queue_steps.specs.declared.sizes.TheConstants.{LIMIT}
-use Rattle.queue_steps.specs.declared.model.Effect.TheVariants as effect
+use Rattle.law_common.specs.Vocabulary.{Effect, LIMIT}
 use Rattle.queue_steps.specs.State.{is_single_cap}
 use Rattle.queue_steps.specs.Effect.{Fits, rest, with_coming}
 use Rattle.queue_steps.specs.Words.{IsRing}
 use Rattle.law_common.proofs.Puts.{put_ok}
 use Rattle.law_common.proofs.Lists.{behind, first, front_stays, last_is, length-rest}
+use Rattle.law_common.proofs.Tests.{none_if}
 use Rattle.law_ring.specs.RingCells.{Cell, Free, Written, Full, Read, Coming, Swapped, Ring, queue_of, CellOk, RingOk}
 use Rattle.law_ring.proofs.RingCells.{wraps}
 use Rattle.law_ring.specs.RingTransitions.{appended, taken, written, fronted, arrived, marked}
@@ -38,10 +38,6 @@ cell_take cap head tail items coming coming' i (Coming p who old w) ne keeps ok 
 cell_take cap head tail items coming coming' i (Swapped p who old w) ne keeps ok =
     let other : p + cap ≢ head = λ e. ne (sym ok.0 ∙ sym (wraps p cap) ∙ ap (λ n. n % cap) e) in (ok.0, omega arith, ok.2, behind items (p + cap) head w (omega arith) ok.3)
 
-none_if : {X : Type 0} (o : Option X) → ((x : X) → o ≡ Some x → ⊥) → o ≡ None
-none_if None never = refl
-none_if (Some x) never = absurd (never x refl)
-
 -- where the slot of the tail is free for it, nothing is coming
 pub none_coming : {A : Type 0} (cap : ℕ) (r : Ring A) → RingOk cap r → r.cells (r.tail % cap) ≡ Free r.tail → r.coming ≡ None
 none_coming cap r ok free = none_if r.coming (λ w e.
@@ -57,7 +53,7 @@ pub not_single : (cap : ℕ) → IsRing cap → is_single_cap (Some cap) ≡ fal
 not_single cap ring = ne_eqb cap 1 (λ e. absurd (let wide : 1 < cap = ring.0 in omega arith))
 
 pub append_ok : {A : Type 0} (cap : ℕ) (r : Ring A) (who : ℕ) (v : A) → RingOk cap r → r.closed ≡ false → r.tail < LIMIT → r.cells (r.tail % cap) ≡ Free r.tail
-    → Fits (effect.Append v) (queue_of cap r) × RingOk cap (appended cap r who v)
+    → Fits (Effect.Append v) (queue_of cap r) × RingOk cap (appended cap r who v)
 append_ok {A = A} cap r who v ok opened below free =
     let i = r.tail % cap in
     let here : CellOk cap r.head r.tail r.items r.coming i (Free r.tail) = rw free at (ok.cell i (in_ring cap r.tail ok.ring)) in
@@ -84,7 +80,7 @@ front_is cap r x ok full =
     rw at at here.3
 
 pub take_ok : {A : Type 0} (cap : ℕ) (r : Ring A) (who : ℕ) (x : A) → RingOk cap r → r.cells (r.head % cap) ≡ Full r.head x
-    → Fits (effect.Take x) (queue_of cap r) × RingOk cap (taken cap r who x)
+    → Fits (Effect.Take x) (queue_of cap r) × RingOk cap (taken cap r who x)
 take_ok cap r who x ok full =
     let i = r.head % cap in
     let here : CellOk cap r.head r.tail r.items r.coming i (Full r.head x) = rw full at (ok.cell i (in_ring cap r.head ok.ring)) in
@@ -147,7 +143,7 @@ pub swap_ok : {A : Type 0} (cap : ℕ) (r : Ring A) (p who : ℕ) (old v : A) �
 swap_ok cap r p who old v ok is = slot_ok cap r (p % cap) (Swapped p who old v) (Full (p + cap) v) ok (in_ring cap p ok.ring) is (λ q w a b e. cc) (λ c. (wraps p cap, c.1, c.2, c.3))
 
 pub front_ok : {A : Type 0} (cap : ℕ) (r : Ring A) (who : ℕ) (old v : A) → RingOk cap r → r.tail < LIMIT → r.head + cap ≡ r.tail → r.cells (r.head % cap) ≡ Full r.head old
-    → Fits (effect.Front old v) (queue_of cap r) × RingOk cap (fronted cap r who old v)
+    → Fits (Effect.Front old v) (queue_of cap r) × RingOk cap (fronted cap r who old v)
 front_ok {A = A} cap r who old v ok below all full =
     let i = r.head % cap in
     let here : CellOk cap r.head r.tail r.items r.coming i (Full r.head old) = rw full at (ok.cell i (in_ring cap r.head ok.ring)) in
@@ -172,7 +168,7 @@ front_ok {A = A} cap r who old v ok below all full =
     )
 
 pub arrive_ok : {A : Type 0} (cap : ℕ) (r : Ring A) (p who : ℕ) (old v : A) → RingOk cap r → r.tail < LIMIT → r.cells (p % cap) ≡ Coming p who old v
-    → Fits effect.Arrive (queue_of cap r) × RingOk cap (arrived cap r p who old v)
+    → Fits Effect.Arrive (queue_of cap r) × RingOk cap (arrived cap r p who old v)
 arrive_ok {A = A} cap r p who old v ok below is =
     let i = p % cap in
     let here : CellOk cap r.head r.tail r.items r.coming i (Coming p who old v) = rw is at (ok.cell i (in_ring cap p ok.ring)) in

@@ -1,6 +1,6 @@
 -- What reading the words of a ring tells.
 use Rattle.std.proofs.Common.{ℕ, ◌+◌, ◌%◌, ◌<◌, ◌≤◌, ◌≡◌, ◌∙◌, ◌⊎◌, inl, inr, Option, List, refl, sym, ap, arith}
-use Rattle.queue_steps.specs.declared.sizes.TheConstants.{LIMIT}
+use Rattle.law_common.specs.Vocabulary.{LIMIT}
 use Rattle.queue_steps.specs.Words.{IsWord, position_of}
 use Rattle.law_ring.specs.RingCells.{Cell, Free, Written, Full, Read, Coming, Swapped, Ring, CellOk, RingOk}
 use Rattle.law_ring.proofs.RingCells.{together}
@@ -40,9 +40,7 @@ stamp_free_is (is_written q who v) = refl
 
 stamp_full_is : {A : Type 0} {q : ℕ} {c : Cell A} → IsFullCell q c → stamp_in c ≡ q + 1
 stamp_full_is (is_full q x) = refl
-stamp_full_is (is_read q who x) = refl
-stamp_full_is (is_coming q who old v) = refl
-stamp_full_is (is_swapped q who old v) = refl
+stamp_full_is x = refl
 
 in_slot_free : {A : Type 0} {q : ℕ} {c : Cell A} (cap head tail : ℕ) (items : List A) (coming : Option A) (i : ℕ) → IsFreeCell q c → CellOk cap head tail items coming i c → q % cap ≡ i
 in_slot_free cap head tail items coming i (is_free q) ok = ok.0
@@ -50,9 +48,7 @@ in_slot_free cap head tail items coming i (is_written q who v) ok = ok.0
 
 in_slot_full : {A : Type 0} {q : ℕ} {c : Cell A} (cap head tail : ℕ) (items : List A) (coming : Option A) (i : ℕ) → IsFullCell q c → CellOk cap head tail items coming i c → q % cap ≡ i
 in_slot_full cap head tail items coming i (is_full q x) ok = ok.0
-in_slot_full cap head tail items coming i (is_read q who x) ok = ok.0
-in_slot_full cap head tail items coming i (is_coming q who old v) ok = ok.0
-in_slot_full cap head tail items coming i (is_swapped q who old v) ok = ok.0
+in_slot_full cap head tail items coming i x ok = ok.0
 
 -- neighbouring positions have slots of their own
 neighbours : (cap p : ℕ) → 1 < cap → (p + 1) % cap ≡ p % cap → ⊥

@@ -3,27 +3,11 @@ use Rattle.std.proofs.Common.{ℕ, ◌+◌, ◌%◌, ◌<◌, ◌≤◌, ◌≡�
 use Rattle.queue_steps.specs.State.{State}
 use Rattle.law_common.specs.Moments.{HasItems, IsStarted, SeenIn, HeadWas}
 use Rattle.law_ring.specs.RingCells.{Free, Full, Ring, Written, Read, Coming, Swapped, HoldsNone, HoldsOne}
-use Rattle.queue_steps.specs.declared.sizes.TheConstants.{LIMIT}
+use Rattle.law_common.specs.Vocabulary.{Call, Effect, Word, Op, Touch, Local, Next, PushKind, LIMIT, MARK, TAIL_STEP}
 use Rattle.queue_steps.specs.Words.{position_of, is_shut, slot_at, stamp_filled, stamp_emptied}
-use Rattle.queue_steps.specs.declared.model.Call.{Call}
-use Rattle.queue_steps.specs.declared.model.Call.TheVariants as call
-use Rattle.queue_steps.specs.declared.model.Effect.{Effect}
-use Rattle.queue_steps.specs.declared.model.Effect.TheVariants as effect
-use Rattle.queue_steps.specs.declared.steps.types.Local.{Local}
-use Rattle.queue_steps.specs.declared.steps.types.Local.TheVariants as local
-use Rattle.queue_steps.specs.declared.steps.types.Op.{Op}
-use Rattle.queue_steps.specs.declared.steps.types.Op.TheVariants as op
-use Rattle.queue_steps.specs.declared.steps.types.Touch.{Touch}
-use Rattle.queue_steps.specs.declared.steps.types.Touch.TheVariants as touch
-use Rattle.queue_steps.specs.declared.steps.types.Word.TheVariants as word
-use Rattle.queue_steps.specs.declared.steps.bounded.TheConstants.{MARK, TAIL_STEP}
-use Rattle.queue_steps.specs.declared.steps.bounded.PushKind.{PushKind}
 use Rattle.queue_steps.specs.declared.steps.bounded.BoundedLocal.TheVariants as ring
 use Rattle.law_common.specs.Pushes.{pushes}
 use Rattle.queue_steps.specs.Kinds.{call_value}
-use Rattle.queue_steps.specs.declared.steps.types.Word.{Word}
-use Rattle.queue_steps.specs.declared.steps.types.Next.{Next}
-use Rattle.queue_steps.specs.declared.steps.types.Next.TheVariants as next
 
 -- the slot of the position q is free for it, or the tail has moved on
 abbrev pub FreeAt : {A : Type 0} → ℕ → Ring A → ℕ → Type 0
@@ -60,69 +44,69 @@ pub record SawTail {A : Type 0} (cap : ℕ) (r : Ring A) (t : ℕ) (ms : List (S
 -- Where a call of the party who stands: its local state, touch and operation, its value, the call, and its effects so far.
 pub data At {A : Type 0} (cap : ℕ) (r : Ring A) (who : ℕ) (ms : List (State A)) (was : Bool) : Local ℕ → Touch → Op ℕ → Option A → Call A → List (Effect A) → Type 0 where
   push_tail : (d : PushKind) (v : A) → HoldsNone r.cells who
-      → At cap r who ms was (local.Bounded (ring.PushTail d)) touch.Nothing (op.Load word.Tail) (Some v) (pushes d v) []
+      → At cap r who ms was (Local.Bounded (ring.PushTail d)) Touch.Nothing (Op.Load Word.Tail) (Some v) (pushes d v) []
   push_stamp : (d : PushKind) (v : A) (t : ℕ) → HoldsNone r.cells who → SawTail cap r t ms was
-      → At cap r who ms was (local.Bounded (ring.PushStamp d t)) touch.Nothing (op.Load (word.Stamp (slot_at cap (position_of t)))) (Some v) (pushes d v) []
+      → At cap r who ms was (Local.Bounded (ring.PushStamp d t)) Touch.Nothing (Op.Load (Word.Stamp (slot_at cap (position_of t)))) (Some v) (pushes d v) []
   claiming : (d : PushKind) (v : A) (t : ℕ) → HoldsNone r.cells who → SawTail cap r t ms was → FreeAt cap r (position_of t)
-      → At cap r who ms was (local.Bounded (ring.Claiming d t)) touch.Nothing (op.Exchange word.Tail t (t + TAIL_STEP)) (Some v) (pushes d v) []
+      → At cap r who ms was (Local.Bounded (ring.Claiming d t)) Touch.Nothing (Op.Exchange Word.Tail t (t + TAIL_STEP)) (Some v) (pushes d v) []
   filling : (d : PushKind) (v : A) (q : ℕ) → HoldsOne r.cells who (q % cap) (Written q who v)
-      → At cap r who ms was (local.Bounded (ring.Filling d)) (touch.Put (slot_at cap q)) (op.Store (word.Stamp (slot_at cap q)) (stamp_filled q)) (Some v) (pushes d v) (effect.Append v ∷ [])
+      → At cap r who ms was (Local.Bounded (ring.Filling d)) (Touch.Put (slot_at cap q)) (Op.Store (Word.Stamp (slot_at cap q)) (stamp_filled q)) (Some v) (pushes d v) (Effect.Append v ∷ [])
   push_head : (v : A) (t : ℕ) → HoldsNone r.cells who → SawTail cap r t ms was
-      → At cap r who ms was (local.Bounded (ring.PushHead t)) touch.Nothing (op.Load word.Head) (Some v) (call.Push v) []
+      → At cap r who ms was (Local.Bounded (ring.PushHead t)) Touch.Nothing (Op.Load Word.Head) (Some v) (Call.Push v) []
   displacing : (v : A) (t h : ℕ) → HoldsNone r.cells who → SawTail cap r t ms was → h + cap ≡ position_of t → FullAt cap r h
-      → At cap r who ms was (local.Bounded (ring.Displacing t)) touch.Nothing (op.Exchange word.Head (position_of t - cap) (position_of t - cap + 1)) (Some v) (call.ForcePush v) []
+      → At cap r who ms was (Local.Bounded (ring.Displacing t)) Touch.Nothing (Op.Exchange Word.Head (position_of t - cap) (position_of t - cap + 1)) (Some v) (Call.ForcePush v) []
   arriving : (old v : A) (t h : ℕ) → position_of t < LIMIT → h + cap ≡ position_of t → HoldsOne r.cells who (h % cap) (Coming h who old v)
-      → At cap r who ms was (local.Bounded (ring.Arriving t)) touch.Nothing (op.Add word.Tail TAIL_STEP) (Some v) (call.ForcePush v) (effect.Front old v ∷ [])
+      → At cap r who ms was (Local.Bounded (ring.Arriving t)) Touch.Nothing (Op.Add Word.Tail TAIL_STEP) (Some v) (Call.ForcePush v) (Effect.Front old v ∷ [])
   swapping : (old v : A) (h : ℕ) → HoldsOne r.cells who (h % cap) (Swapped h who old v)
-      → At cap r who ms was (local.Bounded ring.Swapping) (touch.Swap (slot_at cap (h + cap))) (op.Store (word.Stamp (slot_at cap (h + cap))) (stamp_filled (h + cap))) (Some v) (call.ForcePush v) (effect.Front old v ∷ effect.Arrive ∷ [])
+      → At cap r who ms was (Local.Bounded ring.Swapping) (Touch.Swap (slot_at cap (h + cap))) (Op.Store (Word.Stamp (slot_at cap (h + cap))) (stamp_filled (h + cap))) (Some v) (Call.ForcePush v) (Effect.Front old v ∷ Effect.Arrive ∷ [])
   spending : (d : PushKind) (v : A) → HoldsNone r.cells who → LIMIT ≤ r.tail
-      → At cap r who ms was (local.Bounded (ring.ClosingAtLimit d)) touch.Nothing (op.Or word.Tail MARK) (Some v) (pushes d v) []
+      → At cap r who ms was (Local.Bounded (ring.ClosingAtLimit d)) Touch.Nothing (Op.Or Word.Tail MARK) (Some v) (pushes d v) []
   pop_head : HoldsNone r.cells who
-      → At cap r who ms was (local.Bounded ring.PopHead) touch.Nothing (op.Load word.Head) None call.Pop []
+      → At cap r who ms was (Local.Bounded ring.PopHead) Touch.Nothing (Op.Load Word.Head) None Call.Pop []
   pop_stamp : (h : ℕ) → HoldsNone r.cells who → h ≤ r.head
-      → At cap r who ms was (local.Bounded (ring.PopStamp h)) touch.Nothing (op.Load (word.Stamp (slot_at cap h))) None call.Pop []
+      → At cap r who ms was (Local.Bounded (ring.PopStamp h)) Touch.Nothing (Op.Load (Word.Stamp (slot_at cap h))) None Call.Pop []
   taking : (h : ℕ) → HoldsNone r.cells who → h ≤ r.head → FullAt cap r h
-      → At cap r who ms was (local.Bounded (ring.Taking h)) touch.Nothing (op.Exchange word.Head h (h + 1)) None call.Pop []
+      → At cap r who ms was (Local.Bounded (ring.Taking h)) Touch.Nothing (Op.Exchange Word.Head h (h + 1)) None Call.Pop []
   emptying : (x : A) (h : ℕ) → HoldsOne r.cells who (h % cap) (Read h who x)
-      → At cap r who ms was (local.Bounded ring.Emptying) (touch.Take (slot_at cap h)) (op.Store (word.Stamp (slot_at cap h)) (stamp_emptied cap h)) None call.Pop (effect.Take x ∷ [])
+      → At cap r who ms was (Local.Bounded ring.Emptying) (Touch.Take (slot_at cap h)) (Op.Store (Word.Stamp (slot_at cap h)) (stamp_emptied cap h)) None Call.Pop (Effect.Take x ∷ [])
   pop_tail : (h : ℕ) → HoldsNone r.cells who → h ≤ r.head → FreeAt cap r h
-      → At cap r who ms was (local.Bounded (ring.PopTail h)) touch.Nothing (op.Load word.Tail) None call.Pop []
+      → At cap r who ms was (Local.Bounded (ring.PopTail h)) Touch.Nothing (Op.Load Word.Tail) None Call.Pop []
   len_tail : HoldsNone r.cells who
-      → At cap r who ms was (local.Bounded ring.LenTail) touch.Nothing (op.Load word.Tail) None call.Len []
+      → At cap r who ms was (Local.Bounded ring.LenTail) Touch.Nothing (Op.Load Word.Tail) None Call.Len []
   len_head : (t : ℕ) → HoldsNone r.cells who → position_of t ≤ r.tail
-      → At cap r who ms was (local.Bounded (ring.LenHead t)) touch.Nothing (op.Load word.Head) None call.Len []
+      → At cap r who ms was (Local.Bounded (ring.LenHead t)) Touch.Nothing (Op.Load Word.Head) None Call.Len []
   len_again : (t h : ℕ) → HoldsNone r.cells who → SeenIn ms (HeadWas h (position_of t) r.tail)
-      → At cap r who ms was (local.Bounded (ring.LenAgain t h)) touch.Nothing (op.Load word.Tail) None call.Len []
+      → At cap r who ms was (Local.Bounded (ring.LenAgain t h)) Touch.Nothing (Op.Load Word.Tail) None Call.Len []
   empty_head : HoldsNone r.cells who
-      → At cap r who ms was (local.Bounded ring.EmptyHead) touch.Nothing (op.Load word.Head) None call.IsEmpty []
+      → At cap r who ms was (Local.Bounded ring.EmptyHead) Touch.Nothing (Op.Load Word.Head) None Call.IsEmpty []
   empty_tail : (h : ℕ) → HoldsNone r.cells who → SawEmpty h r ms
-      → At cap r who ms was (local.Bounded (ring.EmptyTail h)) touch.Nothing (op.Load word.Tail) None call.IsEmpty []
+      → At cap r who ms was (Local.Bounded (ring.EmptyTail h)) Touch.Nothing (Op.Load Word.Tail) None Call.IsEmpty []
   full_tail : HoldsNone r.cells who
-      → At cap r who ms was (local.Bounded ring.FullTail) touch.Nothing (op.Load word.Tail) None call.IsFull []
+      → At cap r who ms was (Local.Bounded ring.FullTail) Touch.Nothing (Op.Load Word.Tail) None Call.IsFull []
   full_head : (t : ℕ) → HoldsNone r.cells who → SawFull cap (position_of t) r ms
-      → At cap r who ms was (local.Bounded (ring.FullHead t)) touch.Nothing (op.Load word.Head) None call.IsFull []
+      → At cap r who ms was (Local.Bounded (ring.FullHead t)) Touch.Nothing (Op.Load Word.Head) None Call.IsFull []
   closing : HoldsNone r.cells who
-      → At cap r who ms was (local.Bounded ring.Closing) touch.Nothing (op.Or word.Tail MARK) None call.Close []
+      → At cap r who ms was (Local.Bounded ring.Closing) Touch.Nothing (Op.Or Word.Tail MARK) None Call.Close []
   closed_tail : HoldsNone r.cells who
-      → At cap r who ms was (local.Bounded ring.ClosedTail) touch.Nothing (op.Load word.Tail) None call.IsClosed []
+      → At cap r who ms was (Local.Bounded ring.ClosedTail) Touch.Nothing (Op.Load Word.Tail) None Call.IsClosed []
 
 -- the first step of a call of a party that holds nothing
 abbrev pub Begun : {A : Type 0} → ℕ → Ring A → ℕ → Call A → Next ℕ → Type 0
-Begun cap r who c (next.Step l t o) = At cap r who [] false l t o (call_value c) c []
-Begun cap r who c (next.Reply x spare) = Unit {0}
+Begun cap r who c (Next.Step l t o) = At cap r who [] false l t o (call_value c) c []
+Begun cap r who c (Next.Reply x spare) = Unit {0}
 
 -- the word is one of a ring of cap slots
 abbrev pub HasPlace : ℕ → Word ℕ → Type 0
-HasPlace cap word.Tail = Unit {0}
-HasPlace cap word.Head = Unit {0}
-HasPlace cap (word.Stamp i) = i < cap
+HasPlace cap Word.Tail = Unit {0}
+HasPlace cap Word.Head = Unit {0}
+HasPlace cap (Word.Stamp i) = i < cap
 HasPlace cap _ = ⊥
 
 -- so is that of the operation
 abbrev pub InRing : ℕ → Op ℕ → Type 0
-InRing cap (op.Load w) = HasPlace cap w
-InRing cap (op.Store w x) = HasPlace cap w
-InRing cap (op.Add w x) = HasPlace cap w
-InRing cap (op.Or w x) = HasPlace cap w
-InRing cap (op.Exchange w a b) = HasPlace cap w
+InRing cap (Op.Load w) = HasPlace cap w
+InRing cap (Op.Store w x) = HasPlace cap w
+InRing cap (Op.Add w x) = HasPlace cap w
+InRing cap (Op.Or w x) = HasPlace cap w
+InRing cap (Op.Exchange w a b) = HasPlace cap w
 InRing cap _ = ⊥

@@ -1,8 +1,6 @@
 -- Where a call on a ring stands that has had no effect yet.
 use Rattle.std.specs.Prelude.{◌≡◌, ℕ, Bool, true, false}
-use Rattle.queue_steps.specs.declared.steps.types.Local.{Local}
-use Rattle.queue_steps.specs.declared.steps.types.Local.TheVariants as local
-use Rattle.queue_steps.specs.declared.steps.bounded.BoundedLocal.{BoundedLocal}
+use Rattle.law_common.specs.Vocabulary.{Local, BoundedLocal}
 use Rattle.queue_steps.specs.declared.steps.bounded.BoundedLocal.TheVariants as ring
 
 -- all but between a call's effects, and after them
@@ -14,5 +12,5 @@ is_early ring.Emptying = false
 is_early _ = true
 
 abbrev pub IsEarly : Local ℕ → Type 0
-IsEarly (local.Bounded l) = is_early l ≡ true
+IsEarly (Local.Bounded l) = is_early l ≡ true
 IsEarly _ = Unit {0}

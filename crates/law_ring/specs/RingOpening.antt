@@ -1,6 +1,5 @@
 -- A ring at its beginning: no item accepted and none taken, every slot free for the position of its own number.
-use Rattle.std.proofs.Common.{ℕ, zero, suc, false, List, None, [], ◌∷◌, ◌++◌}
-use Rattle.std.specs.Prelude.{replicate}
+use Rattle.std.proofs.Common.{ℕ, zero, suc, false, List, None, [], ◌∷◌, ◌++◌, replicate}
 use Rattle.law_ring.specs.RingCells.{Free, Ring}
 use Rattle.law_ring.specs.RingShared.{Shared}
 

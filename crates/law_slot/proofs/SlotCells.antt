@@ -1,22 +1,16 @@
 -- Where a call on one slot stands, what a step of another party leaves of it, and that who has the lock has the slot.
 use Rattle.std.proofs.Common.{ℕ, ◌≡◌, ◌≢◌, ◌∙◌, Bool, Option, Some, None, List, [], ◌∷◌, refl, sym, ap, subst}
 use Rattle.std.proofs.lemmas.Bool.{eq-eqb}
-use Rattle.queue_steps.specs.declared.model.Call.{Call}
-use Rattle.queue_steps.specs.declared.model.Effect.{Effect}
-use Rattle.queue_steps.specs.declared.steps.types.Local.{Local}
-use Rattle.queue_steps.specs.declared.steps.types.Op.{Op}
-use Rattle.queue_steps.specs.declared.steps.types.Touch.{Touch}
+use Rattle.law_common.specs.Vocabulary.{Call, Effect, Op, Touch, Local}
 use Rattle.law_common.specs.Effects.{IsBetween, Touches}
 use Rattle.law_slot.specs.SlotShared.{CanOperate}
-use Rattle.law_slot.specs.SlotHolder.{SlotHolder, Nobody, Filling, Swapping, Taking}
-use Rattle.law_slot.specs.SlotRows.{Stands, free_empty, free_full, filling, swapping, taking, At, push_try, push_put, force_try_empty, force_try_full, force_put_empty, force_put_full, pop_try, pop_take, close_try, look_at}
+use Rattle.law_slot.specs.SlotHolder.{SlotHolder, Nobody}
+use Rattle.law_slot.specs.SlotRows.{Stands, free_empty, free_full, At, push_try, push_put, force_put_empty, force_put_full, pop_take}
 use Rattle.law_slot.specs.SlotCells.{Slot, own_in, Passes, lent_by, Lent, IsHeld}
 
 pub nobody_if : {T : Type 0} (h : SlotHolder T) → [] ≡ lent_by h → h ≡ Nobody
 nobody_if Nobody e = refl
-nobody_if (Filling v) e = cc
-nobody_if (Swapping old v) e = cc
-nobody_if (Taking x) e = cc
+nobody_if h e = cc
 
 -- where nobody has the slot nobody has the lock
 pub all_nobody : {T : Type 0} (g : Slot T) → ((who : ℕ) → Lent g who []) → g.keeps.hold ≡ Nobody
@@ -26,9 +20,7 @@ all_nobody g none = nobody_if g.keeps.hold (rw (eq-eqb g.keeps.who g.keeps.who r
 pub held_lent : {T : Type 0} {word : ℕ} {slot : Option T} {h : SlotHolder T} {items : List T} {c : Bool} → Stands word slot h items c → IsHeld h → lent_by h ≡ (0, slot) ∷ []
 held_lent (free_empty c) held = absurd held
 held_lent (free_full c x) held = absurd held
-held_lent (filling c v) held = refl
-held_lent (swapping c old v) held = refl
-held_lent (taking c x) held = refl
+held_lent x held = refl
 
 -- a step of another party leaves a call where it stands
 pub at_stays : {T : Type 0} (g s : Slot T) (who other : ℕ) {l : Local ℕ} {t : Touch} {o : Op ℕ} {v : Option T} {k : Call T} {es : List (Effect T)}
@@ -41,28 +33,12 @@ lent_stays g s who other xs ne pass lent = lent ∙ ap lent_by (sym (pass other 
 -- no call on one slot takes the front off before its own item arrives
 pub at_whole : {T : Type 0} {l : Local ℕ} {t : Touch} {o : Op ℕ} {v : Option T} {own : SlotHolder T} {k : Call T} {es : List (Effect T)} → At l t o v own k es → IsBetween es → ⊥
 at_whole (push_try v) b = b
-at_whole (push_put v) b = b
-at_whole (force_try_empty v) b = b
-at_whole (force_try_full v) b = b
-at_whole (force_put_empty v) b = b
-at_whole (force_put_full old v) b = b
-at_whole (pop_try d) b = b
-at_whole (pop_take x) b = b
-at_whole close_try b = b
-at_whole (look_at l) b = b
+at_whole x b = b
 
 -- each operation is one on the lock
 pub at_lock : {T : Type 0} {l : Local ℕ} {t : Touch} {o : Op ℕ} {v : Option T} {own : SlotHolder T} {k : Call T} {es : List (Effect T)} → At l t o v own k es → CanOperate o
 at_lock (push_try v) = tt
-at_lock (push_put v) = tt
-at_lock (force_try_empty v) = tt
-at_lock (force_try_full v) = tt
-at_lock (force_put_empty v) = tt
-at_lock (force_put_full old v) = tt
-at_lock (pop_try d) = tt
-at_lock (pop_take x) = tt
-at_lock close_try = tt
-at_lock (look_at l) = tt
+at_lock x = tt
 
 -- the slot is touched by the party who has it
 pub at_touches : {T : Type 0} {l : Local ℕ} {t : Touch} {o : Op ℕ} {v : Option T} {own : SlotHolder T} {k : Call T} {es : List (Effect T)} (i : ℕ) → At l t o v own k es → Touches t i → (y : Option T) × (lent_by own ≡ (i, y) ∷ [])
@@ -70,9 +46,4 @@ at_touches i (push_put v) e = (None, ap (λ n. (n, None) ∷ []) e)
 at_touches i (force_put_empty v) e = (None, ap (λ n. (n, None) ∷ []) e)
 at_touches i (force_put_full old v) e = (Some old, ap (λ n. (n, Some old) ∷ []) e)
 at_touches i (pop_take x) e = (Some x, ap (λ n. (n, Some x) ∷ []) e)
-at_touches i (push_try v) e = absurd e
-at_touches i (force_try_empty v) e = absurd e
-at_touches i (force_try_full v) e = absurd e
-at_touches i (pop_try d) e = absurd e
-at_touches i close_try e = absurd e
-at_touches i (look_at l) e = absurd e
+at_touches i x e = absurd e

@@ -1,31 +1,13 @@
 -- One slot: each atomic step of a call is a step of the queue.
-use Rattle.std.specs.Prelude.{◌≡◌, ℕ, ◌+◌, Bool, true, false, not, Option, Some, None, Err, List, [], ◌∷◌, length, bit_or, if◌then◌else◌}
-use Rattle.std.proofs.Common.{refl, inl, inr}
+use Rattle.std.proofs.Common.{◌≡◌, ℕ, ◌+◌, Bool, true, false, not, Option, Some, None, Err, List, [], ◌∷◌, length, bit_or, if◌then◌else◌, refl, inl, inr}
 use Rattle.queue_steps.specs.State.{State, is_full}
 use Rattle.queue_steps.specs.Replies.{is_empty, IsRightAt, Tells}
 use Rattle.queue_steps.specs.SingleNext.{is_marked, is_pushed}
-use Rattle.queue_steps.specs.declared.model.Call.{Call}
-use Rattle.queue_steps.specs.declared.model.Call.TheVariants as call
-use Rattle.queue_steps.specs.declared.model.Reply.TheVariants as reply
-use Rattle.queue_steps.specs.declared.model.Effect.{Effect}
-use Rattle.queue_steps.specs.declared.model.Effect.TheVariants as effect
-use Rattle.queue_steps.specs.declared.errors.PopError.TheVariants as pop
-use Rattle.queue_steps.specs.declared.errors.PushError.TheVariants as push
-use Rattle.queue_steps.specs.declared.errors.ForcePushError.TheVariants as force
-use Rattle.queue_steps.specs.declared.steps.single.TheConstants.{LOCKED, PUSHED, CLOSED}
+use Rattle.law_common.specs.Vocabulary.{Call, Reply, Effect, PopError, PushError, ForcePushError, Op, Touch, Look, Local, LOCKED, PUSHED, CLOSED}
 use Rattle.queue_steps.specs.declared.steps.single.SingleLocal.TheVariants.{Pushing, Forcing, Popping, Closing, Looking}
-use Rattle.queue_steps.specs.declared.steps.types.Local.{Local}
-use Rattle.queue_steps.specs.declared.steps.types.Local.TheVariants as local
-use Rattle.queue_steps.specs.declared.steps.types.Look.{Look}
-use Rattle.queue_steps.specs.declared.steps.types.Look.TheVariants as look
-use Rattle.queue_steps.specs.declared.steps.types.Op.{Op}
-use Rattle.queue_steps.specs.declared.steps.types.Op.TheVariants as op
-use Rattle.queue_steps.specs.declared.steps.types.Touch.{Touch}
-use Rattle.queue_steps.specs.declared.steps.types.Touch.TheVariants as touch
 use Rattle.queue_steps.specs.declared.steps.types.Word.TheVariants.{Lock}
 use Rattle.law_slot.specs.SlotHolder.{SlotHolder, Nobody, Filling, Swapping, Taking}
 use Rattle.law_slot.specs.SlotRows.{Stands, free_empty, free_full, filling, swapping, taking, code, asks, At, push_try, push_put, force_try_empty, force_try_full, force_put_empty, force_put_full, pop_try, pop_take, close_try, look_at, Share, idle, fills, swaps, takes, stays, changes, single, Good}
-use Rattle.queue_steps.specs.declared.model.Reply.{Reply}
 use Rattle.law_common.specs.Moments.{SeenIn}
 
 -- a reply without effect that is right now
@@ -37,95 +19,91 @@ right_now Q ms k y told now = (refl, refl, (y, refl, told, λ e. inl now))
 abbrev Row : {T : Type 0} → Local ℕ → Touch → Op ℕ → Option T → ℕ → Option T → SlotHolder T → SlotHolder T → List T → Bool → Call T → List (Effect T) → Type 0
 Row {T} l t o v word slot own h items c k es = (n : ℕ) (ms : List (State T)) → Good l t o v word slot own h items c n k es ms
 
-push_step : {T : Type 0} {word : ℕ} {slot : Option T} {h : SlotHolder T} {items : List T} {c : Bool} (v : T) → Stands word slot h items c → Row (local.Single Pushing) touch.Nothing (op.Exchange Lock 0 (bit_or LOCKED PUSHED)) (Some v) word slot Nobody h items c (call.Push v) []
-push_step v (free_empty true) n ms = record { word' = 4; slot' = None; items' = []; c' = true; n' = n; e = None; own' = Nobody; h' = Nobody; leaves = refl; stands = free_empty true; told = refl; makes = refl; lands = right_now (single [] true n) ms (call.Push v) (reply.Push (Err (push.Closed v))) (refl, inr refl) (refl, refl); passes = stays Nobody Nobody }
-push_step v (free_empty false) n ms = record { word' = 3; slot' = None; items' = (v ∷ []); c' = false; n' = n + 1; e = Some (effect.Append v); own' = Filling v; h' = Filling v; leaves = refl; stands = filling false v; told = (v, refl); makes = ((refl, refl, refl, inl refl), refl); lands = push_put v; passes = changes Nobody (Filling v) }
-push_step v (free_full true x) n ms = record { word' = 6; slot' = (Some x); items' = (x ∷ []); c' = true; n' = n; e = None; own' = Nobody; h' = Nobody; leaves = refl; stands = free_full true x; told = refl; makes = refl; lands = right_now (single (x ∷ []) true n) ms (call.Push v) (reply.Push (Err (push.Closed v))) (refl, inr refl) (refl, refl); passes = stays Nobody Nobody }
-push_step v (free_full false x) n ms = record { word' = 2; slot' = (Some x); items' = (x ∷ []); c' = false; n' = n; e = None; own' = Nobody; h' = Nobody; leaves = refl; stands = free_full false x; told = refl; makes = refl; lands = right_now (single (x ∷ []) false n) ms (call.Push v) (reply.Push (Err (push.Full v))) (refl, refl) (refl, refl, refl, inl refl); passes = stays Nobody Nobody }
-push_step v (filling true y) n ms = record { word' = 7; slot' = None; items' = (y ∷ []); c' = true; n' = n; e = None; own' = Nobody; h' = (Filling y); leaves = refl; stands = filling true y; told = refl; makes = refl; lands = right_now (single (y ∷ []) true n) ms (call.Push v) (reply.Push (Err (push.Closed v))) (refl, inr refl) (refl, refl); passes = stays Nobody (Filling y) }
-push_step v (filling false y) n ms = record { word' = 3; slot' = None; items' = (y ∷ []); c' = false; n' = n; e = None; own' = Nobody; h' = (Filling y); leaves = refl; stands = filling false y; told = refl; makes = refl; lands = right_now (single (y ∷ []) false n) ms (call.Push v) (reply.Push (Err (push.Full v))) (refl, refl) (refl, refl, refl, inl refl); passes = stays Nobody (Filling y) }
-push_step v (swapping true old y) n ms = record { word' = 7; slot' = (Some old); items' = (y ∷ []); c' = true; n' = n; e = None; own' = Nobody; h' = (Swapping old y); leaves = refl; stands = swapping true old y; told = refl; makes = refl; lands = right_now (single (y ∷ []) true n) ms (call.Push v) (reply.Push (Err (push.Closed v))) (refl, inr refl) (refl, refl); passes = stays Nobody (Swapping old y) }
-push_step v (swapping false old y) n ms = record { word' = 3; slot' = (Some old); items' = (y ∷ []); c' = false; n' = n; e = None; own' = Nobody; h' = (Swapping old y); leaves = refl; stands = swapping false old y; told = refl; makes = refl; lands = right_now (single (y ∷ []) false n) ms (call.Push v) (reply.Push (Err (push.Full v))) (refl, refl) (refl, refl, refl, inl refl); passes = stays Nobody (Swapping old y) }
-push_step v (taking true x) n ms = record { word' = 5; slot' = (Some x); items' = []; c' = true; n' = n; e = None; own' = Nobody; h' = (Taking x); leaves = refl; stands = taking true x; told = refl; makes = refl; lands = right_now (single [] true n) ms (call.Push v) (reply.Push (Err (push.Closed v))) (refl, inr refl) (refl, refl); passes = stays Nobody (Taking x) }
+push_step : {T : Type 0} {word : ℕ} {slot : Option T} {h : SlotHolder T} {items : List T} {c : Bool} (v : T) → Stands word slot h items c → Row (Local.Single Pushing) Touch.Nothing (Op.Exchange Lock 0 (bit_or LOCKED PUSHED)) (Some v) word slot Nobody h items c (Call.Push v) []
+push_step v (free_empty true) n ms = record { word' = 4; slot' = None; items' = []; c' = true; n' = n; e = None; own' = Nobody; h' = Nobody; leaves = refl; stands = free_empty true; told = refl; makes = refl; lands = right_now (single [] true n) ms (Call.Push v) (Reply.Push (Err (PushError.Closed v))) (refl, inr refl) (refl, refl); passes = stays Nobody Nobody }
+push_step v (free_empty false) n ms = record { word' = 3; slot' = None; items' = (v ∷ []); c' = false; n' = n + 1; e = Some (Effect.Append v); own' = Filling v; h' = Filling v; leaves = refl; stands = filling false v; told = (v, refl); makes = ((refl, refl, refl, inl refl), refl); lands = push_put v; passes = changes Nobody (Filling v) }
+push_step v (free_full true x) n ms = record { word' = 6; slot' = (Some x); items' = (x ∷ []); c' = true; n' = n; e = None; own' = Nobody; h' = Nobody; leaves = refl; stands = free_full true x; told = refl; makes = refl; lands = right_now (single (x ∷ []) true n) ms (Call.Push v) (Reply.Push (Err (PushError.Closed v))) (refl, inr refl) (refl, refl); passes = stays Nobody Nobody }
+push_step v (free_full false x) n ms = record { word' = 2; slot' = (Some x); items' = (x ∷ []); c' = false; n' = n; e = None; own' = Nobody; h' = Nobody; leaves = refl; stands = free_full false x; told = refl; makes = refl; lands = right_now (single (x ∷ []) false n) ms (Call.Push v) (Reply.Push (Err (PushError.Full v))) (refl, refl) (refl, refl, refl, inl refl); passes = stays Nobody Nobody }
+push_step v (filling true y) n ms = record { word' = 7; slot' = None; items' = (y ∷ []); c' = true; n' = n; e = None; own' = Nobody; h' = (Filling y); leaves = refl; stands = filling true y; told = refl; makes = refl; lands = right_now (single (y ∷ []) true n) ms (Call.Push v) (Reply.Push (Err (PushError.Closed v))) (refl, inr refl) (refl, refl); passes = stays Nobody (Filling y) }
+push_step v (filling false y) n ms = record { word' = 3; slot' = None; items' = (y ∷ []); c' = false; n' = n; e = None; own' = Nobody; h' = (Filling y); leaves = refl; stands = filling false y; told = refl; makes = refl; lands = right_now (single (y ∷ []) false n) ms (Call.Push v) (Reply.Push (Err (PushError.Full v))) (refl, refl) (refl, refl, refl, inl refl); passes = stays Nobody (Filling y) }
+push_step v (swapping true old y) n ms = record { word' = 7; slot' = (Some old); items' = (y ∷ []); c' = true; n' = n; e = None; own' = Nobody; h' = (Swapping old y); leaves = refl; stands = swapping true old y; told = refl; makes = refl; lands = right_now (single (y ∷ []) true n) ms (Call.Push v) (Reply.Push (Err (PushError.Closed v))) (refl, inr refl) (refl, refl); passes = stays Nobody (Swapping old y) }
+push_step v (swapping false old y) n ms = record { word' = 3; slot' = (Some old); items' = (y ∷ []); c' = false; n' = n; e = None; own' = Nobody; h' = (Swapping old y); leaves = refl; stands = swapping false old y; told = refl; makes = refl; lands = right_now (single (y ∷ []) false n) ms (Call.Push v) (Reply.Push (Err (PushError.Full v))) (refl, refl) (refl, refl, refl, inl refl); passes = stays Nobody (Swapping old y) }
+push_step v (taking true x) n ms = record { word' = 5; slot' = (Some x); items' = []; c' = true; n' = n; e = None; own' = Nobody; h' = (Taking x); leaves = refl; stands = taking true x; told = refl; makes = refl; lands = right_now (single [] true n) ms (Call.Push v) (Reply.Push (Err (PushError.Closed v))) (refl, inr refl) (refl, refl); passes = stays Nobody (Taking x) }
 push_step v (taking false x) n ms = record { word' = 1; slot' = (Some x); items' = []; c' = false; n' = n; e = None; own' = Nobody; h' = (Taking x); leaves = refl; stands = taking false x; told = refl; makes = refl; lands = push_try v; passes = stays Nobody (Taking x) }
 
-force_empty_step : {T : Type 0} {word : ℕ} {slot : Option T} {h : SlotHolder T} {items : List T} {c : Bool} (v : T) → Stands word slot h items c → Row (local.Single (Forcing 0)) touch.Nothing (op.Exchange Lock 0 (bit_or LOCKED PUSHED)) (Some v) word slot Nobody h items c (call.ForcePush v) []
-force_empty_step v (free_empty true) n ms = record { word' = 4; slot' = None; items' = []; c' = true; n' = n; e = None; own' = Nobody; h' = Nobody; leaves = refl; stands = free_empty true; told = refl; makes = refl; lands = right_now (single [] true n) ms (call.ForcePush v) (reply.ForcePush (Err (force.Closed v))) (refl, inr refl) (refl, refl); passes = stays Nobody Nobody }
-force_empty_step v (free_empty false) n ms = record { word' = 3; slot' = None; items' = (v ∷ []); c' = false; n' = n + 1; e = Some (effect.Append v); own' = Filling v; h' = Filling v; leaves = refl; stands = filling false v; told = (v, refl); makes = ((refl, refl, refl, inl refl), refl); lands = force_put_empty v; passes = changes Nobody (Filling v) }
-force_empty_step v (free_full true x) n ms = record { word' = 6; slot' = (Some x); items' = (x ∷ []); c' = true; n' = n; e = None; own' = Nobody; h' = Nobody; leaves = refl; stands = free_full true x; told = refl; makes = refl; lands = right_now (single (x ∷ []) true n) ms (call.ForcePush v) (reply.ForcePush (Err (force.Closed v))) (refl, inr refl) (refl, refl); passes = stays Nobody Nobody }
+force_empty_step : {T : Type 0} {word : ℕ} {slot : Option T} {h : SlotHolder T} {items : List T} {c : Bool} (v : T) → Stands word slot h items c → Row (Local.Single (Forcing 0)) Touch.Nothing (Op.Exchange Lock 0 (bit_or LOCKED PUSHED)) (Some v) word slot Nobody h items c (Call.ForcePush v) []
+force_empty_step v (free_empty true) n ms = record { word' = 4; slot' = None; items' = []; c' = true; n' = n; e = None; own' = Nobody; h' = Nobody; leaves = refl; stands = free_empty true; told = refl; makes = refl; lands = right_now (single [] true n) ms (Call.ForcePush v) (Reply.ForcePush (Err (ForcePushError.Closed v))) (refl, inr refl) (refl, refl); passes = stays Nobody Nobody }
+force_empty_step v (free_empty false) n ms = record { word' = 3; slot' = None; items' = (v ∷ []); c' = false; n' = n + 1; e = Some (Effect.Append v); own' = Filling v; h' = Filling v; leaves = refl; stands = filling false v; told = (v, refl); makes = ((refl, refl, refl, inl refl), refl); lands = force_put_empty v; passes = changes Nobody (Filling v) }
+force_empty_step v (free_full true x) n ms = record { word' = 6; slot' = (Some x); items' = (x ∷ []); c' = true; n' = n; e = None; own' = Nobody; h' = Nobody; leaves = refl; stands = free_full true x; told = refl; makes = refl; lands = right_now (single (x ∷ []) true n) ms (Call.ForcePush v) (Reply.ForcePush (Err (ForcePushError.Closed v))) (refl, inr refl) (refl, refl); passes = stays Nobody Nobody }
 force_empty_step v (free_full false x) n ms = record { word' = 2; slot' = (Some x); items' = (x ∷ []); c' = false; n' = n; e = None; own' = Nobody; h' = Nobody; leaves = refl; stands = free_full false x; told = refl; makes = refl; lands = force_try_full v; passes = stays Nobody Nobody }
-force_empty_step v (filling true y) n ms = record { word' = 7; slot' = None; items' = (y ∷ []); c' = true; n' = n; e = None; own' = Nobody; h' = (Filling y); leaves = refl; stands = filling true y; told = refl; makes = refl; lands = right_now (single (y ∷ []) true n) ms (call.ForcePush v) (reply.ForcePush (Err (force.Closed v))) (refl, inr refl) (refl, refl); passes = stays Nobody (Filling y) }
+force_empty_step v (filling true y) n ms = record { word' = 7; slot' = None; items' = (y ∷ []); c' = true; n' = n; e = None; own' = Nobody; h' = (Filling y); leaves = refl; stands = filling true y; told = refl; makes = refl; lands = right_now (single (y ∷ []) true n) ms (Call.ForcePush v) (Reply.ForcePush (Err (ForcePushError.Closed v))) (refl, inr refl) (refl, refl); passes = stays Nobody (Filling y) }
 force_empty_step v (filling false y) n ms = record { word' = 3; slot' = None; items' = (y ∷ []); c' = false; n' = n; e = None; own' = Nobody; h' = (Filling y); leaves = refl; stands = filling false y; told = refl; makes = refl; lands = force_try_full v; passes = stays Nobody (Filling y) }
-force_empty_step v (swapping true old y) n ms = record { word' = 7; slot' = (Some old); items' = (y ∷ []); c' = true; n' = n; e = None; own' = Nobody; h' = (Swapping old y); leaves = refl; stands = swapping true old y; told = refl; makes = refl; lands = right_now (single (y ∷ []) true n) ms (call.ForcePush v) (reply.ForcePush (Err (force.Closed v))) (refl, inr refl) (refl, refl); passes = stays Nobody (Swapping old y) }
+force_empty_step v (swapping true old y) n ms = record { word' = 7; slot' = (Some old); items' = (y ∷ []); c' = true; n' = n; e = None; own' = Nobody; h' = (Swapping old y); leaves = refl; stands = swapping true old y; told = refl; makes = refl; lands = right_now (single (y ∷ []) true n) ms (Call.ForcePush v) (Reply.ForcePush (Err (ForcePushError.Closed v))) (refl, inr refl) (refl, refl); passes = stays Nobody (Swapping old y) }
 force_empty_step v (swapping false old y) n ms = record { word' = 3; slot' = (Some old); items' = (y ∷ []); c' = false; n' = n; e = None; own' = Nobody; h' = (Swapping old y); leaves = refl; stands = swapping false old y; told = refl; makes = refl; lands = force_try_full v; passes = stays Nobody (Swapping old y) }
-force_empty_step v (taking true x) n ms = record { word' = 5; slot' = (Some x); items' = []; c' = true; n' = n; e = None; own' = Nobody; h' = (Taking x); leaves = refl; stands = taking true x; told = refl; makes = refl; lands = right_now (single [] true n) ms (call.ForcePush v) (reply.ForcePush (Err (force.Closed v))) (refl, inr refl) (refl, refl); passes = stays Nobody (Taking x) }
+force_empty_step v (taking true x) n ms = record { word' = 5; slot' = (Some x); items' = []; c' = true; n' = n; e = None; own' = Nobody; h' = (Taking x); leaves = refl; stands = taking true x; told = refl; makes = refl; lands = right_now (single [] true n) ms (Call.ForcePush v) (Reply.ForcePush (Err (ForcePushError.Closed v))) (refl, inr refl) (refl, refl); passes = stays Nobody (Taking x) }
 force_empty_step v (taking false x) n ms = record { word' = 1; slot' = (Some x); items' = []; c' = false; n' = n; e = None; own' = Nobody; h' = (Taking x); leaves = refl; stands = taking false x; told = refl; makes = refl; lands = force_try_empty v; passes = stays Nobody (Taking x) }
 
-force_full_step : {T : Type 0} {word : ℕ} {slot : Option T} {h : SlotHolder T} {items : List T} {c : Bool} (v : T) → Stands word slot h items c → Row (local.Single (Forcing 2)) touch.Nothing (op.Exchange Lock 2 (bit_or LOCKED PUSHED)) (Some v) word slot Nobody h items c (call.ForcePush v) []
-force_full_step v (free_empty true) n ms = record { word' = 4; slot' = None; items' = []; c' = true; n' = n; e = None; own' = Nobody; h' = Nobody; leaves = refl; stands = free_empty true; told = refl; makes = refl; lands = right_now (single [] true n) ms (call.ForcePush v) (reply.ForcePush (Err (force.Closed v))) (refl, inr refl) (refl, refl); passes = stays Nobody Nobody }
+force_full_step : {T : Type 0} {word : ℕ} {slot : Option T} {h : SlotHolder T} {items : List T} {c : Bool} (v : T) → Stands word slot h items c → Row (Local.Single (Forcing 2)) Touch.Nothing (Op.Exchange Lock 2 (bit_or LOCKED PUSHED)) (Some v) word slot Nobody h items c (Call.ForcePush v) []
+force_full_step v (free_empty true) n ms = record { word' = 4; slot' = None; items' = []; c' = true; n' = n; e = None; own' = Nobody; h' = Nobody; leaves = refl; stands = free_empty true; told = refl; makes = refl; lands = right_now (single [] true n) ms (Call.ForcePush v) (Reply.ForcePush (Err (ForcePushError.Closed v))) (refl, inr refl) (refl, refl); passes = stays Nobody Nobody }
 force_full_step v (free_empty false) n ms = record { word' = 0; slot' = None; items' = []; c' = false; n' = n; e = None; own' = Nobody; h' = Nobody; leaves = refl; stands = free_empty false; told = refl; makes = refl; lands = force_try_empty v; passes = stays Nobody Nobody }
-force_full_step v (free_full true x) n ms = record { word' = 6; slot' = (Some x); items' = (x ∷ []); c' = true; n' = n; e = None; own' = Nobody; h' = Nobody; leaves = refl; stands = free_full true x; told = refl; makes = refl; lands = right_now (single (x ∷ []) true n) ms (call.ForcePush v) (reply.ForcePush (Err (force.Closed v))) (refl, inr refl) (refl, refl); passes = stays Nobody Nobody }
-force_full_step v (free_full false x) n ms = record { word' = 3; slot' = (Some x); items' = (v ∷ []); c' = false; n' = n + 1; e = Some (effect.Replace x v); own' = Swapping x v; h' = Swapping x v; leaves = refl; stands = swapping false x v; told = ((x, v), refl); makes = ((refl, refl, refl), refl); lands = force_put_full x v; passes = changes Nobody (Swapping x v) }
-force_full_step v (filling true y) n ms = record { word' = 7; slot' = None; items' = (y ∷ []); c' = true; n' = n; e = None; own' = Nobody; h' = (Filling y); leaves = refl; stands = filling true y; told = refl; makes = refl; lands = right_now (single (y ∷ []) true n) ms (call.ForcePush v) (reply.ForcePush (Err (force.Closed v))) (refl, inr refl) (refl, refl); passes = stays Nobody (Filling y) }
+force_full_step v (free_full true x) n ms = record { word' = 6; slot' = (Some x); items' = (x ∷ []); c' = true; n' = n; e = None; own' = Nobody; h' = Nobody; leaves = refl; stands = free_full true x; told = refl; makes = refl; lands = right_now (single (x ∷ []) true n) ms (Call.ForcePush v) (Reply.ForcePush (Err (ForcePushError.Closed v))) (refl, inr refl) (refl, refl); passes = stays Nobody Nobody }
+force_full_step v (free_full false x) n ms = record { word' = 3; slot' = (Some x); items' = (v ∷ []); c' = false; n' = n + 1; e = Some (Effect.Replace x v); own' = Swapping x v; h' = Swapping x v; leaves = refl; stands = swapping false x v; told = ((x, v), refl); makes = ((refl, refl, refl), refl); lands = force_put_full x v; passes = changes Nobody (Swapping x v) }
+force_full_step v (filling true y) n ms = record { word' = 7; slot' = None; items' = (y ∷ []); c' = true; n' = n; e = None; own' = Nobody; h' = (Filling y); leaves = refl; stands = filling true y; told = refl; makes = refl; lands = right_now (single (y ∷ []) true n) ms (Call.ForcePush v) (Reply.ForcePush (Err (ForcePushError.Closed v))) (refl, inr refl) (refl, refl); passes = stays Nobody (Filling y) }
 force_full_step v (filling false y) n ms = record { word' = 3; slot' = None; items' = (y ∷ []); c' = false; n' = n; e = None; own' = Nobody; h' = (Filling y); leaves = refl; stands = filling false y; told = refl; makes = refl; lands = force_try_full v; passes = stays Nobody (Filling y) }
-force_full_step v (swapping true old y) n ms = record { word' = 7; slot' = (Some old); items' = (y ∷ []); c' = true; n' = n; e = None; own' = Nobody; h' = (Swapping old y); leaves = refl; stands = swapping true old y; told = refl; makes = refl; lands = right_now (single (y ∷ []) true n) ms (call.ForcePush v) (reply.ForcePush (Err (force.Closed v))) (refl, inr refl) (refl, refl); passes = stays Nobody (Swapping old y) }
+force_full_step v (swapping true old y) n ms = record { word' = 7; slot' = (Some old); items' = (y ∷ []); c' = true; n' = n; e = None; own' = Nobody; h' = (Swapping old y); leaves = refl; stands = swapping true old y; told = refl; makes = refl; lands = right_now (single (y ∷ []) true n) ms (Call.ForcePush v) (Reply.ForcePush (Err (ForcePushError.Closed v))) (refl, inr refl) (refl, refl); passes = stays Nobody (Swapping old y) }
 force_full_step v (swapping false old y) n ms = record { word' = 3; slot' = (Some old); items' = (y ∷ []); c' = false; n' = n; e = None; own' = Nobody; h' = (Swapping old y); leaves = refl; stands = swapping false old y; told = refl; makes = refl; lands = force_try_full v; passes = stays Nobody (Swapping old y) }
-force_full_step v (taking true x) n ms = record { word' = 5; slot' = (Some x); items' = []; c' = true; n' = n; e = None; own' = Nobody; h' = (Taking x); leaves = refl; stands = taking true x; told = refl; makes = refl; lands = right_now (single [] true n) ms (call.ForcePush v) (reply.ForcePush (Err (force.Closed v))) (refl, inr refl) (refl, refl); passes = stays Nobody (Taking x) }
+force_full_step v (taking true x) n ms = record { word' = 5; slot' = (Some x); items' = []; c' = true; n' = n; e = None; own' = Nobody; h' = (Taking x); leaves = refl; stands = taking true x; told = refl; makes = refl; lands = right_now (single [] true n) ms (Call.ForcePush v) (Reply.ForcePush (Err (ForcePushError.Closed v))) (refl, inr refl) (refl, refl); passes = stays Nobody (Taking x) }
 force_full_step v (taking false x) n ms = record { word' = 1; slot' = (Some x); items' = []; c' = false; n' = n; e = None; own' = Nobody; h' = (Taking x); leaves = refl; stands = taking false x; told = refl; makes = refl; lands = force_try_empty v; passes = stays Nobody (Taking x) }
 
-pop_step : {T : Type 0} {word : ℕ} {slot : Option T} {h : SlotHolder T} {items : List T} {c : Bool} (d : Bool) → Stands word slot h items c → Row (local.Single (Popping (code false true d))) touch.Nothing (op.Exchange Lock (code false true d) (code true false d)) None word slot Nobody h items c call.Pop []
-pop_step true (free_empty true) n ms = record { word' = 4; slot' = None; items' = []; c' = true; n' = n; e = None; own' = Nobody; h' = Nobody; leaves = refl; stands = free_empty true; told = refl; makes = refl; lands = right_now (single [] true n) ms call.Pop (reply.Pop (Err pop.Closed)) refl (refl, refl, refl); passes = stays Nobody Nobody }
-pop_step true (free_empty false) n ms = record { word' = 0; slot' = None; items' = []; c' = false; n' = n; e = None; own' = Nobody; h' = Nobody; leaves = refl; stands = free_empty false; told = refl; makes = refl; lands = right_now (single [] false n) ms call.Pop (reply.Pop (Err pop.Empty)) refl (refl, refl, refl); passes = stays Nobody Nobody }
-pop_step true (free_full true x) n ms = record { word' = 5; slot' = (Some x); items' = []; c' = true; n' = n; e = Some (effect.Take x); own' = Taking x; h' = Taking x; leaves = refl; stands = taking true x; told = (x, refl); makes = (([], refl), refl); lands = pop_take x; passes = changes Nobody (Taking x) }
+pop_step : {T : Type 0} {word : ℕ} {slot : Option T} {h : SlotHolder T} {items : List T} {c : Bool} (d : Bool) → Stands word slot h items c → Row (Local.Single (Popping (code false true d))) Touch.Nothing (Op.Exchange Lock (code false true d) (code true false d)) None word slot Nobody h items c Call.Pop []
+pop_step true (free_empty true) n ms = record { word' = 4; slot' = None; items' = []; c' = true; n' = n; e = None; own' = Nobody; h' = Nobody; leaves = refl; stands = free_empty true; told = refl; makes = refl; lands = right_now (single [] true n) ms Call.Pop (Reply.Pop (Err PopError.Closed)) refl (refl, refl, refl); passes = stays Nobody Nobody }
+pop_step true (free_empty false) n ms = record { word' = 0; slot' = None; items' = []; c' = false; n' = n; e = None; own' = Nobody; h' = Nobody; leaves = refl; stands = free_empty false; told = refl; makes = refl; lands = right_now (single [] false n) ms Call.Pop (Reply.Pop (Err PopError.Empty)) refl (refl, refl, refl); passes = stays Nobody Nobody }
+pop_step true (free_full true x) n ms = record { word' = 5; slot' = (Some x); items' = []; c' = true; n' = n; e = Some (Effect.Take x); own' = Taking x; h' = Taking x; leaves = refl; stands = taking true x; told = (x, refl); makes = (([], refl), refl); lands = pop_take x; passes = changes Nobody (Taking x) }
 pop_step true (free_full false x) n ms = record { word' = 2; slot' = (Some x); items' = (x ∷ []); c' = false; n' = n; e = None; own' = Nobody; h' = Nobody; leaves = refl; stands = free_full false x; told = refl; makes = refl; lands = pop_try false; passes = stays Nobody Nobody }
 pop_step true (filling true y) n ms = record { word' = 7; slot' = None; items' = (y ∷ []); c' = true; n' = n; e = None; own' = Nobody; h' = (Filling y); leaves = refl; stands = filling true y; told = refl; makes = refl; lands = pop_try true; passes = stays Nobody (Filling y) }
 pop_step true (filling false y) n ms = record { word' = 3; slot' = None; items' = (y ∷ []); c' = false; n' = n; e = None; own' = Nobody; h' = (Filling y); leaves = refl; stands = filling false y; told = refl; makes = refl; lands = pop_try false; passes = stays Nobody (Filling y) }
 pop_step true (swapping true old y) n ms = record { word' = 7; slot' = (Some old); items' = (y ∷ []); c' = true; n' = n; e = None; own' = Nobody; h' = (Swapping old y); leaves = refl; stands = swapping true old y; told = refl; makes = refl; lands = pop_try true; passes = stays Nobody (Swapping old y) }
 pop_step true (swapping false old y) n ms = record { word' = 3; slot' = (Some old); items' = (y ∷ []); c' = false; n' = n; e = None; own' = Nobody; h' = (Swapping old y); leaves = refl; stands = swapping false old y; told = refl; makes = refl; lands = pop_try false; passes = stays Nobody (Swapping old y) }
-pop_step true (taking true x) n ms = record { word' = 5; slot' = (Some x); items' = []; c' = true; n' = n; e = None; own' = Nobody; h' = (Taking x); leaves = refl; stands = taking true x; told = refl; makes = refl; lands = right_now (single [] true n) ms call.Pop (reply.Pop (Err pop.Closed)) refl (refl, refl, refl); passes = stays Nobody (Taking x) }
-pop_step true (taking false x) n ms = record { word' = 1; slot' = (Some x); items' = []; c' = false; n' = n; e = None; own' = Nobody; h' = (Taking x); leaves = refl; stands = taking false x; told = refl; makes = refl; lands = right_now (single [] false n) ms call.Pop (reply.Pop (Err pop.Empty)) refl (refl, refl, refl); passes = stays Nobody (Taking x) }
-pop_step false (free_empty true) n ms = record { word' = 4; slot' = None; items' = []; c' = true; n' = n; e = None; own' = Nobody; h' = Nobody; leaves = refl; stands = free_empty true; told = refl; makes = refl; lands = right_now (single [] true n) ms call.Pop (reply.Pop (Err pop.Closed)) refl (refl, refl, refl); passes = stays Nobody Nobody }
-pop_step false (free_empty false) n ms = record { word' = 0; slot' = None; items' = []; c' = false; n' = n; e = None; own' = Nobody; h' = Nobody; leaves = refl; stands = free_empty false; told = refl; makes = refl; lands = right_now (single [] false n) ms call.Pop (reply.Pop (Err pop.Empty)) refl (refl, refl, refl); passes = stays Nobody Nobody }
+pop_step true (taking true x) n ms = record { word' = 5; slot' = (Some x); items' = []; c' = true; n' = n; e = None; own' = Nobody; h' = (Taking x); leaves = refl; stands = taking true x; told = refl; makes = refl; lands = right_now (single [] true n) ms Call.Pop (Reply.Pop (Err PopError.Closed)) refl (refl, refl, refl); passes = stays Nobody (Taking x) }
+pop_step true (taking false x) n ms = record { word' = 1; slot' = (Some x); items' = []; c' = false; n' = n; e = None; own' = Nobody; h' = (Taking x); leaves = refl; stands = taking false x; told = refl; makes = refl; lands = right_now (single [] false n) ms Call.Pop (Reply.Pop (Err PopError.Empty)) refl (refl, refl, refl); passes = stays Nobody (Taking x) }
+pop_step false (free_empty true) n ms = record { word' = 4; slot' = None; items' = []; c' = true; n' = n; e = None; own' = Nobody; h' = Nobody; leaves = refl; stands = free_empty true; told = refl; makes = refl; lands = right_now (single [] true n) ms Call.Pop (Reply.Pop (Err PopError.Closed)) refl (refl, refl, refl); passes = stays Nobody Nobody }
+pop_step false (free_empty false) n ms = record { word' = 0; slot' = None; items' = []; c' = false; n' = n; e = None; own' = Nobody; h' = Nobody; leaves = refl; stands = free_empty false; told = refl; makes = refl; lands = right_now (single [] false n) ms Call.Pop (Reply.Pop (Err PopError.Empty)) refl (refl, refl, refl); passes = stays Nobody Nobody }
 pop_step false (free_full true x) n ms = record { word' = 6; slot' = (Some x); items' = (x ∷ []); c' = true; n' = n; e = None; own' = Nobody; h' = Nobody; leaves = refl; stands = free_full true x; told = refl; makes = refl; lands = pop_try true; passes = stays Nobody Nobody }
-pop_step false (free_full false x) n ms = record { word' = 1; slot' = (Some x); items' = []; c' = false; n' = n; e = Some (effect.Take x); own' = Taking x; h' = Taking x; leaves = refl; stands = taking false x; told = (x, refl); makes = (([], refl), refl); lands = pop_take x; passes = changes Nobody (Taking x) }
+pop_step false (free_full false x) n ms = record { word' = 1; slot' = (Some x); items' = []; c' = false; n' = n; e = Some (Effect.Take x); own' = Taking x; h' = Taking x; leaves = refl; stands = taking false x; told = (x, refl); makes = (([], refl), refl); lands = pop_take x; passes = changes Nobody (Taking x) }
 pop_step false (filling true y) n ms = record { word' = 7; slot' = None; items' = (y ∷ []); c' = true; n' = n; e = None; own' = Nobody; h' = (Filling y); leaves = refl; stands = filling true y; told = refl; makes = refl; lands = pop_try true; passes = stays Nobody (Filling y) }
 pop_step false (filling false y) n ms = record { word' = 3; slot' = None; items' = (y ∷ []); c' = false; n' = n; e = None; own' = Nobody; h' = (Filling y); leaves = refl; stands = filling false y; told = refl; makes = refl; lands = pop_try false; passes = stays Nobody (Filling y) }
 pop_step false (swapping true old y) n ms = record { word' = 7; slot' = (Some old); items' = (y ∷ []); c' = true; n' = n; e = None; own' = Nobody; h' = (Swapping old y); leaves = refl; stands = swapping true old y; told = refl; makes = refl; lands = pop_try true; passes = stays Nobody (Swapping old y) }
 pop_step false (swapping false old y) n ms = record { word' = 3; slot' = (Some old); items' = (y ∷ []); c' = false; n' = n; e = None; own' = Nobody; h' = (Swapping old y); leaves = refl; stands = swapping false old y; told = refl; makes = refl; lands = pop_try false; passes = stays Nobody (Swapping old y) }
-pop_step false (taking true x) n ms = record { word' = 5; slot' = (Some x); items' = []; c' = true; n' = n; e = None; own' = Nobody; h' = (Taking x); leaves = refl; stands = taking true x; told = refl; makes = refl; lands = right_now (single [] true n) ms call.Pop (reply.Pop (Err pop.Closed)) refl (refl, refl, refl); passes = stays Nobody (Taking x) }
-pop_step false (taking false x) n ms = record { word' = 1; slot' = (Some x); items' = []; c' = false; n' = n; e = None; own' = Nobody; h' = (Taking x); leaves = refl; stands = taking false x; told = refl; makes = refl; lands = right_now (single [] false n) ms call.Pop (reply.Pop (Err pop.Empty)) refl (refl, refl, refl); passes = stays Nobody (Taking x) }
+pop_step false (taking true x) n ms = record { word' = 5; slot' = (Some x); items' = []; c' = true; n' = n; e = None; own' = Nobody; h' = (Taking x); leaves = refl; stands = taking true x; told = refl; makes = refl; lands = right_now (single [] true n) ms Call.Pop (Reply.Pop (Err PopError.Closed)) refl (refl, refl, refl); passes = stays Nobody (Taking x) }
+pop_step false (taking false x) n ms = record { word' = 1; slot' = (Some x); items' = []; c' = false; n' = n; e = None; own' = Nobody; h' = (Taking x); leaves = refl; stands = taking false x; told = refl; makes = refl; lands = right_now (single [] false n) ms Call.Pop (Reply.Pop (Err PopError.Empty)) refl (refl, refl, refl); passes = stays Nobody (Taking x) }
 
-close_step : {T : Type 0} {word : ℕ} {slot : Option T} {h : SlotHolder T} {items : List T} {c : Bool} → Stands word slot h items c → Row (local.Single Closing) touch.Nothing (op.Or Lock CLOSED) None word slot Nobody h items c call.Close []
-close_step (free_empty true) n ms = record { word' = 4; slot' = None; items' = []; c' = true; n' = n; e = None; own' = Nobody; h' = Nobody; leaves = refl; stands = free_empty true; told = refl; makes = refl; lands = right_now (single [] true n) ms call.Close (reply.Close false) refl refl; passes = stays Nobody Nobody }
-close_step (free_empty false) n ms = record { word' = 4; slot' = None; items' = []; c' = true; n' = n; e = Some effect.Close; own' = Nobody; h' = Nobody; leaves = refl; stands = free_empty true; told = refl; makes = (refl, refl); lands = (refl, refl, (_, refl, refl, λ e. cc)); passes = stays Nobody Nobody }
-close_step (free_full true x) n ms = record { word' = 6; slot' = (Some x); items' = (x ∷ []); c' = true; n' = n; e = None; own' = Nobody; h' = Nobody; leaves = refl; stands = free_full true x; told = refl; makes = refl; lands = right_now (single (x ∷ []) true n) ms call.Close (reply.Close false) refl refl; passes = stays Nobody Nobody }
-close_step (free_full false x) n ms = record { word' = 6; slot' = (Some x); items' = (x ∷ []); c' = true; n' = n; e = Some effect.Close; own' = Nobody; h' = Nobody; leaves = refl; stands = free_full true x; told = refl; makes = (refl, refl); lands = (refl, refl, (_, refl, refl, λ e. cc)); passes = stays Nobody Nobody }
-close_step (filling true y) n ms = record { word' = 7; slot' = None; items' = (y ∷ []); c' = true; n' = n; e = None; own' = Nobody; h' = (Filling y); leaves = refl; stands = filling true y; told = refl; makes = refl; lands = right_now (single (y ∷ []) true n) ms call.Close (reply.Close false) refl refl; passes = stays Nobody (Filling y) }
-close_step (filling false y) n ms = record { word' = 7; slot' = None; items' = (y ∷ []); c' = true; n' = n; e = Some effect.Close; own' = Nobody; h' = (Filling y); leaves = refl; stands = filling true y; told = refl; makes = (refl, refl); lands = (refl, refl, (_, refl, refl, λ e. cc)); passes = stays Nobody (Filling y) }
-close_step (swapping true old y) n ms = record { word' = 7; slot' = (Some old); items' = (y ∷ []); c' = true; n' = n; e = None; own' = Nobody; h' = (Swapping old y); leaves = refl; stands = swapping true old y; told = refl; makes = refl; lands = right_now (single (y ∷ []) true n) ms call.Close (reply.Close false) refl refl; passes = stays Nobody (Swapping old y) }
-close_step (swapping false old y) n ms = record { word' = 7; slot' = (Some old); items' = (y ∷ []); c' = true; n' = n; e = Some effect.Close; own' = Nobody; h' = (Swapping old y); leaves = refl; stands = swapping true old y; told = refl; makes = (refl, refl); lands = (refl, refl, (_, refl, refl, λ e. cc)); passes = stays Nobody (Swapping old y) }
-close_step (taking true x) n ms = record { word' = 5; slot' = (Some x); items' = []; c' = true; n' = n; e = None; own' = Nobody; h' = (Taking x); leaves = refl; stands = taking true x; told = refl; makes = refl; lands = right_now (single [] true n) ms call.Close (reply.Close false) refl refl; passes = stays Nobody (Taking x) }
-close_step (taking false x) n ms = record { word' = 5; slot' = (Some x); items' = []; c' = true; n' = n; e = Some effect.Close; own' = Nobody; h' = (Taking x); leaves = refl; stands = taking true x; told = refl; makes = (refl, refl); lands = (refl, refl, (_, refl, refl, λ e. cc)); passes = stays Nobody (Taking x) }
+close_step : {T : Type 0} {word : ℕ} {slot : Option T} {h : SlotHolder T} {items : List T} {c : Bool} → Stands word slot h items c → Row (Local.Single Closing) Touch.Nothing (Op.Or Lock CLOSED) None word slot Nobody h items c Call.Close []
+close_step (free_empty true) n ms = record { word' = 4; slot' = None; items' = []; c' = true; n' = n; e = None; own' = Nobody; h' = Nobody; leaves = refl; stands = free_empty true; told = refl; makes = refl; lands = right_now (single [] true n) ms Call.Close (Reply.Close false) refl refl; passes = stays Nobody Nobody }
+close_step (free_empty false) n ms = record { word' = 4; slot' = None; items' = []; c' = true; n' = n; e = Some Effect.Close; own' = Nobody; h' = Nobody; leaves = refl; stands = free_empty true; told = refl; makes = (refl, refl); lands = (refl, refl, (_, refl, refl, λ e. cc)); passes = stays Nobody Nobody }
+close_step (free_full true x) n ms = record { word' = 6; slot' = (Some x); items' = (x ∷ []); c' = true; n' = n; e = None; own' = Nobody; h' = Nobody; leaves = refl; stands = free_full true x; told = refl; makes = refl; lands = right_now (single (x ∷ []) true n) ms Call.Close (Reply.Close false) refl refl; passes = stays Nobody Nobody }
+close_step (free_full false x) n ms = record { word' = 6; slot' = (Some x); items' = (x ∷ []); c' = true; n' = n; e = Some Effect.Close; own' = Nobody; h' = Nobody; leaves = refl; stands = free_full true x; told = refl; makes = (refl, refl); lands = (refl, refl, (_, refl, refl, λ e. cc)); passes = stays Nobody Nobody }
+close_step (filling true y) n ms = record { word' = 7; slot' = None; items' = (y ∷ []); c' = true; n' = n; e = None; own' = Nobody; h' = (Filling y); leaves = refl; stands = filling true y; told = refl; makes = refl; lands = right_now (single (y ∷ []) true n) ms Call.Close (Reply.Close false) refl refl; passes = stays Nobody (Filling y) }
+close_step (filling false y) n ms = record { word' = 7; slot' = None; items' = (y ∷ []); c' = true; n' = n; e = Some Effect.Close; own' = Nobody; h' = (Filling y); leaves = refl; stands = filling true y; told = refl; makes = (refl, refl); lands = (refl, refl, (_, refl, refl, λ e. cc)); passes = stays Nobody (Filling y) }
+close_step (swapping true old y) n ms = record { word' = 7; slot' = (Some old); items' = (y ∷ []); c' = true; n' = n; e = None; own' = Nobody; h' = (Swapping old y); leaves = refl; stands = swapping true old y; told = refl; makes = refl; lands = right_now (single (y ∷ []) true n) ms Call.Close (Reply.Close false) refl refl; passes = stays Nobody (Swapping old y) }
+close_step (swapping false old y) n ms = record { word' = 7; slot' = (Some old); items' = (y ∷ []); c' = true; n' = n; e = Some Effect.Close; own' = Nobody; h' = (Swapping old y); leaves = refl; stands = swapping true old y; told = refl; makes = (refl, refl); lands = (refl, refl, (_, refl, refl, λ e. cc)); passes = stays Nobody (Swapping old y) }
+close_step (taking true x) n ms = record { word' = 5; slot' = (Some x); items' = []; c' = true; n' = n; e = None; own' = Nobody; h' = (Taking x); leaves = refl; stands = taking true x; told = refl; makes = refl; lands = right_now (single [] true n) ms Call.Close (Reply.Close false) refl refl; passes = stays Nobody (Taking x) }
+close_step (taking false x) n ms = record { word' = 5; slot' = (Some x); items' = []; c' = true; n' = n; e = Some Effect.Close; own' = Nobody; h' = (Taking x); leaves = refl; stands = taking true x; told = refl; makes = (refl, refl); lands = (refl, refl, (_, refl, refl, λ e. cc)); passes = stays Nobody (Taking x) }
 
 -- what the word tells of the items and the flag
 reads : {T : Type 0} {word : ℕ} {slot : Option T} {h : SlotHolder T} {items : List T} {c : Bool} → Stands word slot h items c
     → (is_marked word ≡ c) × (not (is_pushed word) ≡ is_empty items) × (is_pushed word ≡ is_full (single items c 0)) × ((if is_pushed word then 1 else 0) ≡ length items)
 reads (free_empty true) = (refl, refl, refl, refl)
-reads (free_empty false) = (refl, refl, refl, refl)
 reads (free_full true x) = (refl, refl, refl, refl)
-reads (free_full false x) = (refl, refl, refl, refl)
 reads (filling true y) = (refl, refl, refl, refl)
-reads (filling false y) = (refl, refl, refl, refl)
 reads (swapping true old y) = (refl, refl, refl, refl)
-reads (swapping false old y) = (refl, refl, refl, refl)
 reads (taking true x) = (refl, refl, refl, refl)
-reads (taking false x) = (refl, refl, refl, refl)
+reads x = (refl, refl, refl, refl)
 
-look_step : {T : Type 0} {word : ℕ} {slot : Option T} {h : SlotHolder T} {items : List T} {c : Bool} (l : Look) → Stands word slot h items c → Row (local.Single (Looking l)) touch.Nothing (op.Load Lock) None word slot Nobody h items c (asks l) []
-look_step {word = word} {slot = slot} {h = h} {items = items} {c = c} look.IsClosed st n ms = record { word' = word; slot' = slot; items' = items; c' = c; n' = n; e = None; own' = Nobody; h' = h; leaves = refl; stands = st; told = refl; makes = refl; lands = right_now (single items c n) ms call.IsClosed (reply.IsClosed (is_marked word)) refl (reads st).0; passes = stays Nobody h }
-look_step {word = word} {slot = slot} {h = h} {items = items} {c = c} look.IsEmpty st n ms = record { word' = word; slot' = slot; items' = items; c' = c; n' = n; e = None; own' = Nobody; h' = h; leaves = refl; stands = st; told = refl; makes = refl; lands = right_now (single items c n) ms call.IsEmpty (reply.IsEmpty (not (is_pushed word))) refl (reads st).1; passes = stays Nobody h }
-look_step {word = word} {slot = slot} {h = h} {items = items} {c = c} look.IsFull st n ms = record { word' = word; slot' = slot; items' = items; c' = c; n' = n; e = None; own' = Nobody; h' = h; leaves = refl; stands = st; told = refl; makes = refl; lands = right_now (single items c n) ms call.IsFull (reply.IsFull (is_pushed word)) refl (reads st).2; passes = stays Nobody h }
-look_step {word = word} {slot = slot} {h = h} {items = items} {c = c} look.Len st n ms = record { word' = word; slot' = slot; items' = items; c' = c; n' = n; e = None; own' = Nobody; h' = h; leaves = refl; stands = st; told = refl; makes = refl; lands = right_now (single items c n) ms call.Len (reply.Len (if is_pushed word then 1 else 0)) refl (reads st).3; passes = stays Nobody h }
+look_step : {T : Type 0} {word : ℕ} {slot : Option T} {h : SlotHolder T} {items : List T} {c : Bool} (l : Look) → Stands word slot h items c → Row (Local.Single (Looking l)) Touch.Nothing (Op.Load Lock) None word slot Nobody h items c (asks l) []
+look_step {word = word} {slot = slot} {h = h} {items = items} {c = c} Look.IsClosed st n ms = record { word' = word; slot' = slot; items' = items; c' = c; n' = n; e = None; own' = Nobody; h' = h; leaves = refl; stands = st; told = refl; makes = refl; lands = right_now (single items c n) ms Call.IsClosed (Reply.IsClosed (is_marked word)) refl (reads st).0; passes = stays Nobody h }
+look_step {word = word} {slot = slot} {h = h} {items = items} {c = c} Look.IsEmpty st n ms = record { word' = word; slot' = slot; items' = items; c' = c; n' = n; e = None; own' = Nobody; h' = h; leaves = refl; stands = st; told = refl; makes = refl; lands = right_now (single items c n) ms Call.IsEmpty (Reply.IsEmpty (not (is_pushed word))) refl (reads st).1; passes = stays Nobody h }
+look_step {word = word} {slot = slot} {h = h} {items = items} {c = c} Look.IsFull st n ms = record { word' = word; slot' = slot; items' = items; c' = c; n' = n; e = None; own' = Nobody; h' = h; leaves = refl; stands = st; told = refl; makes = refl; lands = right_now (single items c n) ms Call.IsFull (Reply.IsFull (is_pushed word)) refl (reads st).2; passes = stays Nobody h }
+look_step {word = word} {slot = slot} {h = h} {items = items} {c = c} Look.Len st n ms = record { word' = word; slot' = slot; items' = items; c' = c; n' = n; e = None; own' = Nobody; h' = h; leaves = refl; stands = st; told = refl; makes = refl; lands = right_now (single items c n) ms Call.Len (Reply.Len (if is_pushed word then 1 else 0)) refl (reads st).3; passes = stays Nobody h }
 
 -- each step of a call, wherever it stands, is a step of the queue
 pub step_good : {T : Type 0} {l : Local ℕ} {t : Touch} {o : Op ℕ} {v : Option T} {word : ℕ} {slot : Option T} {own h : SlotHolder T} {items : List T} {c : Bool} {k : Call T} {es : List (Effect T)}

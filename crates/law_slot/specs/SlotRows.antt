@@ -5,26 +5,8 @@ use Rattle.queue_steps.specs.Kinds.{filled}
 use Rattle.queue_steps.specs.Next.{next_of}
 use Rattle.queue_steps.specs.Replies.{IsRightAt, Tells}
 use Rattle.queue_steps.specs.SingleNext.{is_marked}
-use Rattle.queue_steps.specs.declared.model.Call.{Call}
-use Rattle.queue_steps.specs.declared.model.Call.TheVariants as call
-use Rattle.queue_steps.specs.declared.model.Reply.{Reply}
-use Rattle.queue_steps.specs.declared.model.Effect.{Effect}
-use Rattle.queue_steps.specs.declared.model.Effect.TheVariants as effect
-use Rattle.queue_steps.specs.declared.steps.single.TheConstants.{LOCKED, PUSHED, CLOSED, UNLOCKED}
+use Rattle.law_common.specs.Vocabulary.{Call, Reply, Effect, Kind, Op, Touch, Answer, Look, Local, Next, LOCKED, PUSHED, CLOSED, UNLOCKED}
 use Rattle.queue_steps.specs.declared.steps.single.SingleLocal.TheVariants.{Pushing, Pushed, Forcing, Forced, Popping, Popped, Closing, Looking}
-use Rattle.queue_steps.specs.declared.steps.types.Answer.{Answer}
-use Rattle.queue_steps.specs.declared.steps.types.Answer.TheVariants as answer
-use Rattle.queue_steps.specs.declared.steps.types.Kind.TheVariants as kind
-use Rattle.queue_steps.specs.declared.steps.types.Local.{Local}
-use Rattle.queue_steps.specs.declared.steps.types.Local.TheVariants as local
-use Rattle.queue_steps.specs.declared.steps.types.Look.{Look}
-use Rattle.queue_steps.specs.declared.steps.types.Look.TheVariants as look
-use Rattle.queue_steps.specs.declared.steps.types.Next.{Next}
-use Rattle.queue_steps.specs.declared.steps.types.Next.TheVariants as next
-use Rattle.queue_steps.specs.declared.steps.types.Op.{Op}
-use Rattle.queue_steps.specs.declared.steps.types.Op.TheVariants as op
-use Rattle.queue_steps.specs.declared.steps.types.Touch.{Touch}
-use Rattle.queue_steps.specs.declared.steps.types.Touch.TheVariants as touch
 use Rattle.queue_steps.specs.declared.steps.types.Word.TheVariants.{Lock}
 use Rattle.law_common.specs.Moments.{SeenIn}
 use Rattle.law_common.specs.Effects.{Leads, with_effect, Whether}
@@ -51,23 +33,23 @@ pub data Stands {T : Type 0} : ℕ → Option T → SlotHolder T → List T → 
   taking : (c : Bool) (x : T) → Stands (code true false c) (Some x) (Taking x) [] c
 
 abbrev pub asks : {T : Type 0} → Look → Call T
-asks look.IsClosed = call.IsClosed
-asks look.IsEmpty = call.IsEmpty
-asks look.IsFull = call.IsFull
-asks look.Len = call.Len
+asks Look.IsClosed = Call.IsClosed
+asks Look.IsEmpty = Call.IsEmpty
+asks Look.IsFull = Call.IsFull
+asks Look.Len = Call.Len
 
 -- where a call stands, its next step, the value that it carries, what it holds, the call and its effects so far
 pub data At {T : Type 0} : Local ℕ → Touch → Op ℕ → Option T → SlotHolder T → Call T → List (Effect T) → Type 0 where
-  push_try : (v : T) → At (local.Single Pushing) touch.Nothing (op.Exchange Lock 0 (bit_or LOCKED PUSHED)) (Some v) Nobody (call.Push v) []
-  push_put : (v : T) → At (local.Single Pushed) (touch.Put 0) (op.And Lock UNLOCKED) (Some v) (Filling v) (call.Push v) (effect.Append v ∷ [])
-  force_try_empty : (v : T) → At (local.Single (Forcing 0)) touch.Nothing (op.Exchange Lock 0 (bit_or LOCKED PUSHED)) (Some v) Nobody (call.ForcePush v) []
-  force_try_full : (v : T) → At (local.Single (Forcing 2)) touch.Nothing (op.Exchange Lock 2 (bit_or LOCKED PUSHED)) (Some v) Nobody (call.ForcePush v) []
-  force_put_empty : (v : T) → At (local.Single (Forced 0)) (touch.Put 0) (op.And Lock UNLOCKED) (Some v) (Filling v) (call.ForcePush v) (effect.Append v ∷ [])
-  force_put_full : (old v : T) → At (local.Single (Forced 2)) (touch.Swap 0) (op.And Lock UNLOCKED) (Some v) (Swapping old v) (call.ForcePush v) (effect.Replace old v ∷ [])
-  pop_try : (d : Bool) → At (local.Single (Popping (code false true d))) touch.Nothing (op.Exchange Lock (code false true d) (code true false d)) None Nobody call.Pop []
-  pop_take : (x : T) → At (local.Single Popped) (touch.Take 0) (op.And Lock UNLOCKED) None (Taking x) call.Pop (effect.Take x ∷ [])
-  close_try : At (local.Single Closing) touch.Nothing (op.Or Lock CLOSED) None Nobody call.Close []
-  look_at : (l : Look) → At (local.Single (Looking l)) touch.Nothing (op.Load Lock) None Nobody (asks l) []
+  push_try : (v : T) → At (Local.Single Pushing) Touch.Nothing (Op.Exchange Lock 0 (bit_or LOCKED PUSHED)) (Some v) Nobody (Call.Push v) []
+  push_put : (v : T) → At (Local.Single Pushed) (Touch.Put 0) (Op.And Lock UNLOCKED) (Some v) (Filling v) (Call.Push v) (Effect.Append v ∷ [])
+  force_try_empty : (v : T) → At (Local.Single (Forcing 0)) Touch.Nothing (Op.Exchange Lock 0 (bit_or LOCKED PUSHED)) (Some v) Nobody (Call.ForcePush v) []
+  force_try_full : (v : T) → At (Local.Single (Forcing 2)) Touch.Nothing (Op.Exchange Lock 2 (bit_or LOCKED PUSHED)) (Some v) Nobody (Call.ForcePush v) []
+  force_put_empty : (v : T) → At (Local.Single (Forced 0)) (Touch.Put 0) (Op.And Lock UNLOCKED) (Some v) (Filling v) (Call.ForcePush v) (Effect.Append v ∷ [])
+  force_put_full : (old v : T) → At (Local.Single (Forced 2)) (Touch.Swap 0) (Op.And Lock UNLOCKED) (Some v) (Swapping old v) (Call.ForcePush v) (Effect.Replace old v ∷ [])
+  pop_try : (d : Bool) → At (Local.Single (Popping (code false true d))) Touch.Nothing (Op.Exchange Lock (code false true d) (code true false d)) None Nobody Call.Pop []
+  pop_take : (x : T) → At (Local.Single Popped) (Touch.Take 0) (Op.And Lock UNLOCKED) None (Taking x) Call.Pop (Effect.Take x ∷ [])
+  close_try : At (Local.Single Closing) Touch.Nothing (Op.Or Lock CLOSED) None Nobody Call.Close []
+  look_at : (l : Look) → At (Local.Single (Looking l)) Touch.Nothing (Op.Load Lock) None Nobody (asks l) []
 
 -- what a party has of the lock: all that is held, or nothing
 pub data Share {T : Type 0} : SlotHolder T → SlotHolder T → Type 0 where
@@ -87,18 +69,18 @@ single items c n = record { items = items; cap = Some 1; closed = c; coming = No
 
 -- the call goes on from a known place, or ends with a reply that is right, and holds nothing
 abbrev pub Lands : {T : Type 0} → Next ℕ → Option T → SlotHolder T → Call T → List (Effect T) → List (State T) → Type 0
-Lands (next.Step l t o) v own k es ms = At l t o v own k es
-Lands {T} (next.Reply x spare) v own k es ms =
+Lands (Next.Step l t o) v own k es ms = At l t o v own k es
+Lands {T} (Next.Reply x spare) v own k es ms =
     (own ≡ Nobody) × (spare ≡ None) × ((y : Reply T) × (filled x v ≡ Some y) × Tells k y es × (es ≡ [] → SeenIn ms (λ m. IsRightAt m k y)))
 
 -- the effect of the step at this local state that got this answer: the exchange that wins, and the mark on an open queue
 abbrev pub IsEffect : {T : Type 0} → Local ℕ → Answer ℕ → Option (Effect T) → Type 0
-IsEffect {T} (local.Single Pushing) (answer.Found found) e = Whether (found == 0) ((v : T) × (e ≡ Some (effect.Append v))) (e ≡ None)
-IsEffect {T} (local.Single (Forcing seen)) (answer.Found found) e =
-    Whether (is_marked found) (e ≡ None) (Whether (found == seen) (Whether (seen == 0) ((v : T) × (e ≡ Some (effect.Append v))) ((x : T × T) × (e ≡ Some (effect.Replace x.0 x.1)))) (e ≡ None))
-IsEffect {T} (local.Single (Popping seen)) (answer.Found found) e = Whether (found == seen) ((x : T) × (e ≡ Some (effect.Take x))) (e ≡ None)
-IsEffect (local.Single Closing) (answer.Found found) e = Whether (is_marked found) (e ≡ None) (e ≡ Some effect.Close)
-IsEffect (local.Single l) a e = e ≡ None
+IsEffect {T} (Local.Single Pushing) (Answer.Found found) e = Whether (found == 0) ((v : T) × (e ≡ Some (Effect.Append v))) (e ≡ None)
+IsEffect {T} (Local.Single (Forcing seen)) (Answer.Found found) e =
+    Whether (is_marked found) (e ≡ None) (Whether (found == seen) (Whether (seen == 0) ((v : T) × (e ≡ Some (Effect.Append v))) ((x : T × T) × (e ≡ Some (Effect.Replace x.0 x.1)))) (e ≡ None))
+IsEffect {T} (Local.Single (Popping seen)) (Answer.Found found) e = Whether (found == seen) ((x : T) × (e ≡ Some (Effect.Take x))) (e ≡ None)
+IsEffect (Local.Single Closing) (Answer.Found found) e = Whether (is_marked found) (e ≡ None) (e ≡ Some Effect.Close)
+IsEffect (Local.Single l) a e = e ≡ None
 IsEffect _ a e = ⊥
 
 -- the step of a call is a step of the queue
@@ -115,5 +97,5 @@ pub record Good {T : Type 0} (l : Local ℕ) (t : Touch) (o : Op ℕ) (v : Optio
   pub stands : Stands word' slot' h' items' c'
   pub told : IsEffect l (answered (touched (one_slot word slot) t v) o) e
   pub makes : Leads (single items c n) e (single items' c' n')
-  pub lands : Lands (next_of kind.Single l (answered (touched (one_slot word slot) t v) o)) (handed (one_slot word slot) t v) own' k (with_effect es e) (single items' c' n' ∷ ms)
+  pub lands : Lands (next_of Kind.Single l (answered (touched (one_slot word slot) t v) o)) (handed (one_slot word slot) t v) own' k (with_effect es e) (single items' c' n' ∷ ms)
   pub passes : Passes own h own' h'
