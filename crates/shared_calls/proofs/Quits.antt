@@ -2,16 +2,7 @@
 use Rattle.std.proofs.Common.{◌≡◌, ℕ, true, List, Option, refl, sym, ap, subst, ◌∙◌}
 use Rattle.atomic_table.specs.declared.shared.Seat.{Seat}
 use Rattle.mem_blocks.specs.declared.block.BlockPtr.{BlockPtr as Link}
-use Rattle.queue_steps.specs.declared.steps.types.Kind.{Kind}
-use Rattle.queue_steps.specs.declared.steps.types.Kind.TheVariants as queue
-use Rattle.queue_steps.specs.declared.steps.types.Local.{Local}
-use Rattle.queue_steps.specs.declared.steps.types.Local.TheVariants as local
-use Rattle.queue_steps.specs.declared.steps.types.Next.{Next}
-use Rattle.queue_steps.specs.declared.steps.types.Next.TheVariants as next
-use Rattle.queue_steps.specs.declared.steps.types.Op.{Op}
-use Rattle.queue_steps.specs.declared.steps.types.Touch.{Touch}
-use Rattle.queue_steps.specs.declared.steps.unbounded.UnboundedLocal.{UnboundedLocal}
-use Rattle.queue_steps.specs.declared.steps.unbounded.UnboundedLocal.TheVariants as step
+use Rattle.law_common.specs.Vocabulary.{Kind, Op, Touch, Local, Next, UnboundedLocal}
 use Rattle.queue_steps.specs.Next.{next_of}
 use Rattle.law_chain.specs.ChainEarly as chain
 use Rattle.law_chain.specs.ChainPasses.{spare_in, spare_of as named_spare}
@@ -36,70 +27,35 @@ use Rattle.shared_calls.specs.Settling.{next_at}
 
 -- what is early on any queue is so on the one that the place is on
 early_at : (l : Local ℕ) → is_early l ≡ true → IsEarly l
-early_at (local.Begin c) is = (tt, tt)
-early_at (local.Single l) is = (is, tt)
-early_at (local.Bounded l) is = (tt, is)
-early_at (local.Unbounded l) is = (tt, tt)
+early_at (Local.Single l) is = (is, tt)
+early_at (Local.Bounded l) is = (tt, is)
+early_at l is = (tt, tt)
 
 early_in : (l : Local ℕ) → is_early l ≡ true → chain.IsEarly l
-early_in (local.Begin c) is = tt
-early_in (local.Single l) is = tt
-early_in (local.Bounded l) is = tt
-early_in (local.Unbounded l) is = is
+early_in (Local.Unbounded l) is = is
+early_in l is = tt
 
 module _ {B : Type 0} where
   -- whatever the blocks are named by
   chain_named : (f : ℕ → B) (l : UnboundedLocal ℕ) → (chain.is_early (chain_map f l) ≡ chain.is_early l) × (spare_of (chain_map f l) ≡ name_map f (named_spare l)) × (chain.is_bound (chain_map f l) ≡ chain.is_bound l)
-  chain_named f (step.PushTail d s) = (refl, refl, refl)
-  chain_named f (step.PushBlock d t s) = (refl, refl, refl)
-  chain_named f (step.Asking d t b) = (refl, refl, refl)
-  chain_named f (step.Installing d t b) = (refl, refl, refl)
-  chain_named f (step.Showing d t b) = (refl, refl, refl)
-  chain_named f (step.Claiming d t b s) = (refl, refl, refl)
-  chain_named f (step.Laying d t b s) = (refl, refl, refl)
-  chain_named f (step.Opening d t b s) = (refl, refl, refl)
-  chain_named f (step.Chaining d t b s) = (refl, refl, refl)
-  chain_named f (step.Writing d s) = (refl, refl, refl)
-  chain_named f (step.ClosingAtLimit d s) = (refl, refl, refl)
-  chain_named f step.PopHead = (refl, refl, refl)
-  chain_named f (step.PopBlock h) = (refl, refl, refl)
-  chain_named f (step.PopTail h b) = (refl, refl, refl)
-  chain_named f (step.Taking h b) = (refl, refl, refl)
-  chain_named f (step.Following h b) = (refl, refl, refl)
-  chain_named f (step.Peeking h b a) = (refl, refl, refl)
-  chain_named f (step.Passing h b m) = (refl, refl, refl)
-  chain_named f (step.Entering h b) = (refl, refl, refl)
-  chain_named f (step.Awaiting h b) = (refl, refl, refl)
-  chain_named f (step.Reading b i) = (refl, refl, refl)
-  chain_named f (step.Walking b i) = (refl, refl, refl)
-  chain_named f (step.Destroying b i) = (refl, refl, refl)
-  chain_named f step.LenTail = (refl, refl, refl)
-  chain_named f (step.LenHead t) = (refl, refl, refl)
-  chain_named f (step.LenAgain t h) = (refl, refl, refl)
-  chain_named f step.EmptyHead = (refl, refl, refl)
-  chain_named f (step.EmptyTail h) = (refl, refl, refl)
-  chain_named f step.Closing = (refl, refl, refl)
-  chain_named f step.ClosedTail = (refl, refl, refl)
+  chain_named f (UnboundedLocal.PushTail d s) = (refl, refl, refl)
+  chain_named f l = (refl, refl, refl)
 
   named : (f : ℕ → B) (l : Local ℕ) → (is_early (local_map f l) ≡ is_early l) × (spare_at (local_map f l) ≡ name_map f (spare_in l))
-  named f (local.Begin c) = (refl, refl)
-  named f (local.Single l) = (refl, refl)
-  named f (local.Bounded l) = (refl, refl)
-  named f (local.Unbounded l) = let h = chain_named f l in (h.0, h.1)
+  named f (Local.Unbounded l) = let h = chain_named f l in (h.0, h.1)
+  named f l = (refl, refl)
 
   pub bound_named : (f : ℕ → B) (l : Local ℕ) → chain.IsBound (local_map f l) → chain.IsBound l
-  bound_named f (local.Begin c) h = h
-  bound_named f (local.Single l) h = h
-  bound_named f (local.Bounded l) h = h
-  bound_named f (local.Unbounded l) h = sym (chain_named f l).2 ∙ h
+  bound_named f (Local.Unbounded l) h = sym (chain_named f l).2 ∙ h
+  bound_named f l h = h
 
 module _ {T : Type 0} where
   -- the seat of a call that is to do a step from an early place may give it up
-  pub may_quit : (K : TableOf T) (s : Seat (Option T) (CallState T)) (l : Left T ℕ) (x : Local ℕ) (t : Touch) (o : Op ℕ) → Halts K s l → next_at l ≡ next.Step x t o → is_early x ≡ true → MayQuit s.me × (l.carried ≡ (its_call s.me.0).carried)
+  pub may_quit : (K : TableOf T) (s : Seat (Option T) (CallState T)) (l : Left T ℕ) (x : Local ℕ) (t : Touch) (o : Op ℕ) → Halts K s l → next_at l ≡ Next.Step x t o → is_early x ≡ true → MayQuit s.me × (l.carried ≡ (its_call s.me.0).carried)
   may_quit K s l x t o (kind, b, can, after) is early =
-      from (subst (λ (n : Next ℕ). After K b l.carried n s.me) (subst (λ (k : Kind). next_of k l.progress.local l.progress.answer ≡ next.Step x t o) kind is) after)
+      from (subst (λ (n : Next ℕ). After K b l.carried n s.me) (subst (λ (k : Kind). next_of k l.progress.local l.progress.answer ≡ Next.Step x t o) kind is) after)
     where
-      from : After K b l.carried (next.Step x t o) s.me → MayQuit s.me × (l.carried ≡ (its_call s.me.0).carried)
+      from : After K b l.carried (Next.Step x t o) s.me → MayQuit s.me × (l.carried ≡ (its_call s.me.0).carried)
       from (d, at, local_is, touch_is, op_is, carried_is, call_is, begun_is, lends_is, touched, word) =
           let same : d ≡ its_call s.me.0 = sym (ap (call_of_work nothing_called) at) in (
             (at ∙ ap work.Calls same, lends_is ∙ ap (λ (z : InCall T). z.lends) same, subst IsEarly (sym local_is ∙ ap (λ (z : InCall T). z.local) same) (early_at x early)),
@@ -107,17 +63,17 @@ module _ {T : Type 0} where
           )
 
   -- the same in a web
-  pub may_quit_in : {A Q : Type 0} (s : Asking T A Q) (l : Left T (Link T)) (x : Local (Link T)) (t : Touch) (o : Op (Link T)) → HaltsIn s l → next_at l ≡ next.Step x t o → is_early x ≡ true
+  pub may_quit_in : {A Q : Type 0} (s : Asking T A Q) (l : Left T (Link T)) (x : Local (Link T)) (t : Touch) (o : Op (Link T)) → HaltsIn s l → next_at l ≡ Next.Step x t o → is_early x ≡ true
       → MayQuitIn s.seat.sitter × (spare_at x ≡ name_map link_of (spare_in (its_call s.seat.sitter.view).local)) × (l.carried ≡ (its_call s.seat.sitter.view).carried)
   may_quit_in s l x t o (kind, b, i, a, i_is, a_is, can, after) is early =
-      from (next_of queue.Unbounded i a)
-      (sym (next_of_map link_of i a can) ∙ ((λ j. next_of queue.Unbounded (i_is j) (sym a_is j)) ∙ subst (λ (k : Kind). next_of k l.progress.local l.progress.answer ≡ next.Step x t o) kind is)) after
+      from (next_of Kind.Unbounded i a)
+      (sym (next_of_map link_of i a can) ∙ ((λ j. next_of Kind.Unbounded (i_is j) (sym a_is j)) ∙ subst (λ (k : Kind). next_of k l.progress.local l.progress.answer ≡ Next.Step x t o) kind is)) after
     where
-      from : (n : Next ℕ) → next_map link_of n ≡ next.Step x t o → AfterIn b l.carried n s.seat.sitter
+      from : (n : Next ℕ) → next_map link_of n ≡ Next.Step x t o → AfterIn b l.carried n s.seat.sitter
           → MayQuitIn s.seat.sitter × (spare_at x ≡ name_map link_of (spare_in (its_call s.seat.sitter.view).local)) × (l.carried ≡ (its_call s.seat.sitter.view).carried)
-      from (next.Reply r spare) e told = absurd (let f : next.Reply r (name_map link_of spare) ≡ next.Step x t o = e in cc)
-      from (next.Step y u q) e (xs, (d, at, local_is, touch_is, op_is, carried_is, call_is, begun_is, lends_is), holds, may) =
-          let f : next.Step (local_map link_of y) u (op_map link_of q) ≡ next.Step x t o = e in
+      from (Next.Reply r spare) e told = absurd (let f : Next.Reply r (name_map link_of spare) ≡ Next.Step x t o = e in cc)
+      from (Next.Step y u q) e (xs, (d, at, local_is, touch_is, op_is, carried_is, call_is, begun_is, lends_is), holds, may) =
+          let f : Next.Step (local_map link_of y) u (op_map link_of q) ≡ Next.Step x t o = e in
           let is_x : local_map link_of y ≡ x = cc in
           let same : d ≡ its_call s.seat.sitter.view = sym (ap (call_of_work nothing_called) at) in
           let there : y ≡ (its_call s.seat.sitter.view).local = sym local_is ∙ ap (λ (z : InCall T). z.local) same in (

@@ -1,20 +1,7 @@
 -- A call that has had an effect comes nearer to its reply by each step, but for a pop on a chain.
 use Rattle.std.proofs.Common.{◌≡◌, ◌≤◌, ℕ, suc, Bool, true, false, if◌then◌else◌, refl, arith}
-use Rattle.queue_steps.specs.declared.steps.types.Answer.{Answer}
-use Rattle.queue_steps.specs.declared.steps.types.Answer.TheVariants as answer
-use Rattle.queue_steps.specs.declared.steps.types.Kind.{Kind}
-use Rattle.queue_steps.specs.declared.steps.types.Kind.TheVariants as kind
-use Rattle.queue_steps.specs.declared.steps.types.Local.{Local}
-use Rattle.queue_steps.specs.declared.steps.types.Local.TheVariants as local
-use Rattle.queue_steps.specs.declared.steps.types.Next.{Next}
-use Rattle.queue_steps.specs.declared.steps.types.Next.TheVariants as next
-use Rattle.queue_steps.specs.declared.steps.types.Op.{Op}
-use Rattle.queue_steps.specs.declared.steps.types.Touch.{Touch}
-use Rattle.queue_steps.specs.declared.steps.single.SingleLocal.{SingleLocal}
-use Rattle.queue_steps.specs.declared.steps.single.SingleLocal.TheVariants as slot
-use Rattle.queue_steps.specs.declared.steps.bounded.BoundedLocal.{BoundedLocal}
+use Rattle.law_common.specs.Vocabulary.{Kind, Op, Touch, Answer, Local, Next, SingleLocal, BoundedLocal, UnboundedLocal}
 use Rattle.queue_steps.specs.declared.steps.bounded.BoundedLocal.TheVariants as ring
-use Rattle.queue_steps.specs.declared.steps.unbounded.UnboundedLocal.{UnboundedLocal}
 use Rattle.queue_steps.specs.declared.steps.unbounded.UnboundedLocal.TheVariants as chain
 use Rattle.queue_steps.specs.Next.{CanNext, next_of}
 use Rattle.queue_steps.specs.SingleNext.{single_next}
@@ -32,34 +19,34 @@ module _ {B : Type 0} where
   Near k m n = ¬ (MayWait k n) × (left_at n ≤ 4) × (left_at n ≤ m)
 
 module _ (B : Type 0) where
-  slot_nearer : (l : SingleLocal) (w : ℕ) → slots.is_early l ≡ false → Near {B = B} kind.Single 1 (single_next l w)
-  slot_nearer slot.Pushed w late = (λ h. h, omega arith, omega arith)
-  slot_nearer (slot.Forced seen) w late = (λ h. h, omega arith, omega arith)
-  slot_nearer slot.Popped w late = (λ h. h, omega arith, omega arith)
+  slot_nearer : (l : SingleLocal) (w : ℕ) → slots.is_early l ≡ false → Near {B = B} Kind.Single 1 (single_next l w)
+  slot_nearer SingleLocal.Pushed w late = (λ h. h, omega arith, omega arith)
+  slot_nearer (SingleLocal.Forced seen) w late = (λ h. h, omega arith, omega arith)
+  slot_nearer SingleLocal.Popped w late = (λ h. h, omega arith, omega arith)
   slot_nearer _ w late = absurd (let f : true ≡ false = late in cc)
 
 module _ {B : Type 0} where
-  ring_nearer : (n : ℕ) (l : BoundedLocal) (a : Answer B) → rings.is_early l ≡ false → FitsRing n l a → Near (kind.Bounded n) (ring_left l) (bounded_next n l a)
-  ring_nearer n (ring.Filling d) answer.Done late fits = (λ h. h, omega arith, omega arith)
+  ring_nearer : (n : ℕ) (l : BoundedLocal) (a : Answer B) → rings.is_early l ≡ false → FitsRing n l a → Near (Kind.Bounded n) (ring_left l) (bounded_next n l a)
+  ring_nearer n (ring.Filling d) Answer.Done late fits = (λ h. h, omega arith, omega arith)
   ring_nearer n (ring.Filling d) _ late fits = absurd fits
-  ring_nearer n (ring.Arriving t) (answer.Found x) late fits = (λ h. h, omega arith, omega arith)
+  ring_nearer n (ring.Arriving t) (Answer.Found x) late fits = (λ h. h, omega arith, omega arith)
   ring_nearer n (ring.Arriving t) _ late fits = absurd fits
-  ring_nearer n ring.Swapping answer.Done late fits = (λ h. h, omega arith, omega arith)
+  ring_nearer n ring.Swapping Answer.Done late fits = (λ h. h, omega arith, omega arith)
   ring_nearer n ring.Swapping _ late fits = absurd fits
-  ring_nearer n ring.Emptying answer.Done late fits = (λ h. h, omega arith, omega arith)
+  ring_nearer n ring.Emptying Answer.Done late fits = (λ h. h, omega arith, omega arith)
   ring_nearer n ring.Emptying _ late fits = absurd fits
   ring_nearer n _ a late fits = absurd (let f : true ≡ false = late in cc)
 
-  chain_nearer : (l : UnboundedLocal B) (a : Answer B) → chains.is_early l ≡ false → FitsChain l a → ¬ (chains.is_bound l ≡ true) → Near kind.Unbounded (chain_left l) (unbounded_next l a)
-  chain_nearer (chain.Showing d t b) answer.Done late fits stays = (λ e. absurd (let f : false ≡ true = e in cc), omega arith, omega arith)
+  chain_nearer : (l : UnboundedLocal B) (a : Answer B) → chains.is_early l ≡ false → FitsChain l a → ¬ (chains.is_bound l ≡ true) → Near Kind.Unbounded (chain_left l) (unbounded_next l a)
+  chain_nearer (chain.Showing d t b) Answer.Done late fits stays = (λ e. absurd (let f : false ≡ true = e in cc), omega arith, omega arith)
   chain_nearer (chain.Showing d t b) _ late fits stays = absurd fits
-  chain_nearer (chain.Laying d t b s) answer.Done late fits stays = (λ e. absurd (let f : false ≡ true = e in cc), omega arith, omega arith)
+  chain_nearer (chain.Laying d t b s) Answer.Done late fits stays = (λ e. absurd (let f : false ≡ true = e in cc), omega arith, omega arith)
   chain_nearer (chain.Laying d t b s) _ late fits stays = absurd fits
-  chain_nearer (chain.Opening d t b s) (answer.Found x) late fits stays = (λ e. absurd (let f : false ≡ true = e in cc), omega arith, omega arith)
+  chain_nearer (chain.Opening d t b s) (Answer.Found x) late fits stays = (λ e. absurd (let f : false ≡ true = e in cc), omega arith, omega arith)
   chain_nearer (chain.Opening d t b s) _ late fits stays = absurd fits
-  chain_nearer (chain.Chaining d t b s) answer.Done late fits stays = (λ e. absurd (let f : false ≡ true = e in cc), omega arith, omega arith)
+  chain_nearer (chain.Chaining d t b s) Answer.Done late fits stays = (λ e. absurd (let f : false ≡ true = e in cc), omega arith, omega arith)
   chain_nearer (chain.Chaining d t b s) _ late fits stays = absurd fits
-  chain_nearer (chain.Writing d s) (answer.Found x) late fits stays = (λ h. h, omega arith, omega arith)
+  chain_nearer (chain.Writing d s) (Answer.Found x) late fits stays = (λ h. h, omega arith, omega arith)
   chain_nearer (chain.Writing d s) _ late fits stays = absurd fits
   chain_nearer (chain.Following h b) a late fits stays = absurd (stays refl)
   chain_nearer (chain.Peeking h b x) a late fits stays = absurd (stays refl)
@@ -72,31 +59,25 @@ module _ {B : Type 0} where
   chain_nearer _ a late fits stays = absurd (let f : true ≡ false = late in cc)
 
   -- after a step from a place where the call has had an effect
-  pub nearer : (k : Kind) (l : Local B) (t : Touch) (o : Op B) (a : Answer B) → is_early l ≡ false → CanNext k l a → ¬ (MayWait k (next.Step l t o)) → Near k (steps_left l) (next_of k l a)
-  nearer kind.Single (local.Single l) t o (answer.Found w) late can stays = slot_nearer B l w late
-  nearer kind.Single (local.Single l) t o _ late can stays = absurd can
-  nearer (kind.Bounded n) (local.Bounded l) t o a late can stays = ring_nearer n l a late can.1
-  nearer kind.Unbounded (local.Unbounded l) t o a late can stays = chain_nearer l a late can stays
-  nearer k (local.Begin c) t o a late can stays = absurd (let f : true ≡ false = late in cc)
-  nearer kind.Single (local.Bounded l) t o a late can stays = absurd can
-  nearer kind.Single (local.Unbounded l) t o a late can stays = absurd can
-  nearer (kind.Bounded n) (local.Single l) t o a late can stays = absurd can
-  nearer (kind.Bounded n) (local.Unbounded l) t o a late can stays = absurd can
-  nearer kind.Unbounded (local.Single l) t o a late can stays = absurd can
-  nearer kind.Unbounded (local.Bounded l) t o a late can stays = absurd can
+  pub nearer : (k : Kind) (l : Local B) (t : Touch) (o : Op B) (a : Answer B) → is_early l ≡ false → CanNext k l a → ¬ (MayWait k (Next.Step l t o)) → Near k (steps_left l) (next_of k l a)
+  nearer Kind.Single (Local.Single l) t o (Answer.Found w) late can stays = slot_nearer B l w late
+  nearer (Kind.Bounded n) (Local.Bounded l) t o a late can stays = ring_nearer n l a late can.1
+  nearer Kind.Unbounded (Local.Unbounded l) t o a late can stays = chain_nearer l a late can stays
+  nearer k (Local.Begin c) t o a late can stays = absurd (let f : true ≡ false = late in cc)
+  nearer k l t o a late can stays = absurd can
 
   -- where no step is left, the call has had no effect
   pub all_done : (n : Next B) → left_at n ≤ 0 → is_early_step n ≡ true
-  all_done (next.Step l t o) none = go (is_early l) none
+  all_done (Next.Step l t o) none = go (is_early l) none
     where
       go : (b : Bool) → (if b then 0 else suc (steps_left l)) ≤ 0 → b ≡ true
       go true le = refl
       go false le = absurd (omega (arith, le))
-  all_done (next.Reply r spare) none = absurd (omega (arith, none))
+  all_done (Next.Reply r spare) none = absurd (omega (arith, none))
 
   -- of a call that has had an effect, one step less than before it is left
-  pub left_late : (l : Local B) (t : Touch) (o : Op B) → is_early l ≡ false → left_at (next.Step l t o) ≡ suc (steps_left l)
+  pub left_late : (l : Local B) (t : Touch) (o : Op B) → is_early l ≡ false → left_at (Next.Step l t o) ≡ suc (steps_left l)
   left_late l t o late = rw late refl
 
-  pub left_early : (l : Local B) (t : Touch) (o : Op B) → is_early l ≡ true → left_at (next.Step l t o) ≡ 0
+  pub left_early : (l : Local B) (t : Touch) (o : Op B) → is_early l ≡ true → left_at (Next.Step l t o) ≡ 0
   left_early l t o early = rw early refl

@@ -2,9 +2,7 @@
 use Rattle.std.specs.Prelude.{◌≡◌, ℕ, Option}
 use Rattle.atomic_table.specs.declared.shared.Seat.{Seat}
 use Rattle.mem_blocks.specs.declared.block.BlockPtr.{BlockPtr as Link}
-use Rattle.queue_steps.specs.declared.steps.types.Answer.{Answer}
-use Rattle.queue_steps.specs.declared.steps.types.Kind.TheVariants as queue
-use Rattle.queue_steps.specs.declared.steps.types.Local.{Local}
+use Rattle.law_common.specs.Vocabulary.{Kind, Answer, Local}
 use Rattle.queue_steps.specs.Next.{CanNext, next_of}
 use Rattle.shared_parties.specs.declared.known.CallState.{CallState}
 use Rattle.shared_parties.specs.declared.known.InCall.{InCall}
@@ -23,4 +21,4 @@ Halts {T} K s l =
 -- the same in a web
 abbrev pub HaltsIn : {T A Q : Type 0} → Asking T A Q → Left T (Link T) → Type 0
 HaltsIn {T} s l =
-    (l.kind ≡ queue.Unbounded) × (b : InCall T) × (i : Local ℕ) × (a : Answer ℕ) × (local_map link_of i ≡ l.progress.local) × (l.progress.answer ≡ answer_map link_of a) × CanNext queue.Unbounded i a × chain.After b l.carried (next_of queue.Unbounded i a) s.seat.sitter
+    (l.kind ≡ Kind.Unbounded) × (b : InCall T) × (i : Local ℕ) × (a : Answer ℕ) × (local_map link_of i ≡ l.progress.local) × (l.progress.answer ≡ answer_map link_of a) × CanNext Kind.Unbounded i a × chain.After b l.carried (next_of Kind.Unbounded i a) s.seat.sitter

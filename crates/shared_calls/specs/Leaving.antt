@@ -1,7 +1,6 @@
 -- A call that has left its fast steps.
 use Rattle.std.specs.Prelude.{◌-◌}
-use Rattle.queue_steps.specs.declared.sizes.TheConstants.{SOLO_STEPS}
-use Rattle.queue_steps.specs.declared.model.Call.{Call}
+use Rattle.law_common.specs.Vocabulary.{Call, SOLO_STEPS}
 use Rattle.call_driver.specs.OnWay.{OnWay}
 use Rattle.call_driver.specs.declared.site.Site.{Ghosts}
 use Rattle.shared_calls.specs.declared.waiting.Left.{Left}

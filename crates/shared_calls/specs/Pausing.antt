@@ -1,9 +1,6 @@
 -- A call that stands before one of its steps, after another of them.
 use Rattle.std.specs.Prelude.{◌-◌}
-use Rattle.queue_steps.specs.declared.sizes.TheConstants.{SOLO_STEPS}
-use Rattle.queue_steps.specs.declared.model.Call.{Call}
-use Rattle.queue_steps.specs.declared.steps.types.Next.{Next}
-use Rattle.queue_steps.specs.declared.steps.types.Next.TheVariants as next
+use Rattle.law_common.specs.Vocabulary.{Call, Next, SOLO_STEPS}
 use Rattle.queue_steps.specs.Next.{next_of}
 use Rattle.call_driver.specs.OnWay.{Stood}
 use Rattle.call_driver.specs.declared.site.Site.{Ghosts}
@@ -11,8 +8,8 @@ use Rattle.shared_calls.specs.declared.waiting.Left.{Left}
 
 -- a step is to be done, and no reply is due
 abbrev pub IsStep : {B : Type 0} → Next B → Type 0
-IsStep (next.Step l t o) = Unit {0}
-IsStep (next.Reply r spare) = ⊥
+IsStep (Next.Step l t o) = Unit {0}
+IsStep (Next.Reply r spare) = ⊥
 
 module _ {T B S M K : Type 0} (m : Ghosts M T B S K) where
   -- the call c, begun by the seat `first`, has taken a step, and stands there

@@ -1,14 +1,7 @@
 -- A call that goes on until it has had no effect yet where it stands, or ends: how far it is from that.
 use Rattle.std.specs.Prelude.{ℕ, suc, Bool, false, if◌then◌else◌}
-use Rattle.queue_steps.specs.declared.steps.types.Kind.{Kind}
-use Rattle.queue_steps.specs.declared.steps.types.Kind.TheVariants as kind
-use Rattle.queue_steps.specs.declared.steps.types.Local.{Local}
-use Rattle.queue_steps.specs.declared.steps.types.Local.TheVariants as local
-use Rattle.queue_steps.specs.declared.steps.types.Next.{Next}
-use Rattle.queue_steps.specs.declared.steps.types.Next.TheVariants as next
-use Rattle.queue_steps.specs.declared.steps.bounded.BoundedLocal.{BoundedLocal}
+use Rattle.law_common.specs.Vocabulary.{Kind, Local, Next, BoundedLocal, UnboundedLocal}
 use Rattle.queue_steps.specs.declared.steps.bounded.BoundedLocal.TheVariants as ring
-use Rattle.queue_steps.specs.declared.steps.unbounded.UnboundedLocal.{UnboundedLocal}
 use Rattle.queue_steps.specs.declared.steps.unbounded.UnboundedLocal.TheVariants as chain
 use Rattle.queue_steps.specs.Next.{next_of}
 use Rattle.law_chain.specs.ChainEarly.{IsBound}
@@ -27,8 +20,8 @@ ring_left _ = 1
 module _ {B : Type 0} where
   -- a step before which the call has had no effect
   abbrev pub is_early_step : Next B → Bool
-  is_early_step (next.Step l t o) = is_early l
-  is_early_step (next.Reply r spare) = false
+  is_early_step (Next.Step l t o) = is_early l
+  is_early_step (Next.Reply r spare) = false
 
   -- on a chain, also of one that is to show the first block
   abbrev pub chain_left : UnboundedLocal B → ℕ
@@ -39,16 +32,16 @@ module _ {B : Type 0} where
 
   -- on a queue of any kind
   abbrev pub steps_left : Local B → ℕ
-  steps_left (local.Bounded l) = ring_left l
-  steps_left (local.Unbounded l) = chain_left l
+  steps_left (Local.Bounded l) = ring_left l
+  steps_left (Local.Unbounded l) = chain_left l
   steps_left _ = 1
 
   -- the same by what it is to do next, with the reply for a step
   abbrev pub left_at : Next B → ℕ
-  left_at (next.Step l t o) = if is_early l then 0 else suc (steps_left l)
-  left_at (next.Reply r spare) = 1
+  left_at (Next.Step l t o) = if is_early l then 0 else suc (steps_left l)
+  left_at (Next.Reply r spare) = 1
 
   -- a pop on a chain may have to wait for its item
   abbrev pub MayWait : Kind → Next B → Type 0
-  MayWait kind.Unbounded (next.Step l t o) = IsBound l
+  MayWait Kind.Unbounded (Next.Step l t o) = IsBound l
   MayWait _ _ = ⊥

@@ -2,10 +2,7 @@
 use Rattle.std.specs.Prelude.{◌≡◌, ℕ, Option}
 use Rattle.std.specs.ControlFlow.{MatchControlFlow}
 use Rattle.std.specs.declared.ops.ControlFlow.{ControlFlow}
-use Rattle.queue_steps.specs.declared.model.Call.{Call}
-use Rattle.queue_steps.specs.declared.model.Call.TheVariants as call
-use Rattle.queue_steps.specs.declared.model.Reply.{Reply}
-use Rattle.queue_steps.specs.declared.model.Reply.TheVariants as reply
+use Rattle.law_common.specs.Vocabulary.{Call, Reply}
 use Rattle.queue_steps.specs.Kinds.{call_value}
 use Rattle.call_driver.specs.declared.site.Site.{Ghosts}
 use Rattle.shared_calls.specs.Leaving.{IsLeft}
@@ -20,4 +17,4 @@ module _ {T B S M K : Type 0} (m : Ghosts M T B S K) where
   abbrev pub EndsOrQuits : Option ℕ → M → Left T B → S → ControlFlow (Reply T) (Option T) → S → Type 0
   EndsOrQuits cap site left before told after =
       (c : Call T) (first : S) → IsLeft m site first c left before
-      → MatchControlFlow told (λ value. m.ended site first call.Capacity (reply.Capacity cap) after × (value ≡ call_value c)) (λ answer. m.ended site first c answer after)
+      → MatchControlFlow told (λ value. m.ended site first Call.Capacity (Reply.Capacity cap) after × (value ≡ call_value c)) (λ answer. m.ended site first c answer after)

@@ -3,11 +3,10 @@
 use Rattle.std.proofs.Common.{◌≡◌, ◌≢◌, ◌⊎◌, ◌∙◌, inl, inr, ℕ, ◌+◌, ◌*◌, ◌<◌, ◌≤◌, Bool, true, bit_and, List, length, refl, sym, ap, subst, arith}
 use mathlib.Core.Option.{some}
 use denote.RawPtr.{Ptr, null_ptr, InBlock, Testable}
-use Rattle.queue_steps.specs.declared.sizes.TheConstants.{LIMIT, BLOCK_SLOTS}
-use Rattle.queue_steps.specs.declared.steps.unbounded.TheConstants.{WRITE, READ}
+use Rattle.law_common.specs.Vocabulary.{LIMIT, BLOCK_SLOTS, WRITE, READ}
 use Rattle.queue_steps.specs.Words.{position_of}
 use Rattle.queue_steps.specs.ChainWords.{offset_of, items_before}
-use Rattle.law_chain.specs.ChainCells.{Writer, Free, Writing, Wrote, Reader, Unread, Reading, Done, Mover, Rests, Laying, Opening, Stands, LinkState as Joint, Unlinked, Linking, Linked, Shown, Hidden, Showing, Seen, Passer, Before, GivenUp, Chain, ItemOk, BlocksOk, LinkOk, ShownOk, ChainOk, item_at}
+use Rattle.law_chain.specs.ChainCells.{Writer, Wrote, Reader, Unread, Done, Mover, Rests, Stands, LinkState as Joint, Linked, Shown, Seen, Passer, Before, GivenUp, Chain, ItemOk, BlocksOk, LinkOk, ShownOk, ChainOk, item_at}
 use Rattle.law_chain.proofs.ChainAnswers.{tail_items, head_items, head_is_standing}
 use Rattle.law_chain.specs.ChainAnswers.{linked_of, shown_of}
 use Rattle.mem_blocks.specs.Web.{Block, block, vacant, full, Lives, without, word_of, LastBlocks}
@@ -24,37 +23,29 @@ use Rattle.shared_chain.proofs.Finished.{inner, long_inner, inner_else}
 
 -- an item that was taken, and is read, is out of its slot
 read_left : {A : Type 0} (w : Writer A) (r : Reader) (b : Bool) → bit_and (plain_state w r) READ ≢ 0 → home_of w r b ≡ vacant
-read_left Free r b set = absurd (set refl)
-read_left (Writing p v) r b set = absurd (set refl)
-read_left (Wrote v) Unread b set = absurd (set refl)
-read_left (Wrote v) (Reading p) b set = absurd (set refl)
 read_left (Wrote v) Done b set = refl
+read_left w r b set = absurd (set refl)
 
 -- one that was not taken, and is written, lies in its slot
 written_left : {A : Type 0} (head tail : ℕ) (items : List A) (n : ℕ) (w : Writer A) (r : Reader) (b : Bool) → head ≤ n → bit_and (plain_state w r) WRITE ≢ 0 → ItemOk head tail items n w r → (v : A) × (home_of w r b ≡ full v)
-written_left head tail items n Free r b low set ok = absurd (set refl)
-written_left head tail items n (Writing p v) r b low set ok = absurd (set refl)
 written_left head tail items n (Wrote v) Unread b low set ok = (v, refl)
-written_left head tail items n (Wrote v) (Reading p) b low set ok = absurd (omega arith)
-written_left head tail items n (Wrote v) Done b low set ok = absurd (omega arith)
+written_left head tail items n (Wrote v) r b low set ok = absurd (omega arith)
+written_left head tail items n w r b low set ok = absurd (set refl)
 
 few_blocks : (tail blocks : ℕ) (m : Mover) → tail ≤ LIMIT → BlocksOk tail blocks m → (blocks + 2) * BLOCK_SLOTS ≤ 2 * LIMIT
 few_blocks tail blocks Rests low (inl z) = let none = z.1 in omega arith
 few_blocks tail blocks Rests low (inr z) = omega arith
-few_blocks tail blocks (Laying p) low z = let all = z.1 in omega arith
-few_blocks tail blocks (Opening p) low z = let all = z.1 in omega arith
+few_blocks tail blocks m low z = let all = z.1 in omega arith
 
 -- where a link leads
 next_of_link : (blocks b : ℕ) (l : Joint) (name : ℕ) → LinkOk blocks b l → (lead_of (linked_of l name) ≡ null_ptr) ⊎ ((b + 1 < blocks) × (lead_of (linked_of l name) ≡ spot name))
-next_of_link blocks b Unlinked name ok = inl refl
-next_of_link blocks b (Linking p) name ok = inl refl
 next_of_link blocks b Linked name ok = inr (ok, refl)
+next_of_link blocks b l name ok = inl refl
 
 -- a link that leads into a block shows the front
 front_shown : (blocks head front : ℕ) (known : Bool) (passer : Passer) (s : Shown) (name : ℕ) → ShownOk blocks head front known passer s → InBlock (lead_of (shown_of s name)) → (front < blocks) × (lead_of (shown_of s name) ≡ spot name)
-front_shown blocks head front known passer Hidden name ok inside = absurd inside
-front_shown blocks head front known passer (Showing p) name ok inside = absurd inside
 front_shown blocks head front known passer Seen name ok inside = (ok, refl)
+front_shown blocks head front known passer s name ok inside = absurd inside
 
 module _ {A : Type 0} (te he : Ptr) (bs : List (Block A)) (last : LastBlocks (Rule {T = A} te he) bs) where
   abbrev g : OutChain A

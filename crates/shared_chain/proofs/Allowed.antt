@@ -3,12 +3,7 @@ use Rattle.std.proofs.Common.{ℕ, ◌+◌, ◌%◌, ◌^◌, ◌<◌, ◌≡◌
 use mathlib.Core.Option.{some}
 use lib.ListN.{get_elem?}
 use denote.RawPtr.{Ptr, Testable}
-use Rattle.queue_steps.specs.declared.steps.types.Answer.{Answer}
-use Rattle.queue_steps.specs.declared.steps.types.Answer.TheVariants as answer
-use Rattle.queue_steps.specs.declared.steps.types.Link.{Link}
-use Rattle.queue_steps.specs.declared.steps.types.Op.{Op}
-use Rattle.queue_steps.specs.declared.steps.types.Op.TheVariants as op
-use Rattle.queue_steps.specs.declared.steps.types.Word.{Word}
+use Rattle.law_common.specs.Vocabulary.{Word, Link, Op, Answer}
 use Rattle.law_chain.specs.ChainCells.{Chain}
 use Rattle.law_chain.specs.ChainAnswers.{Answers, last_of}
 use Rattle.mem_blocks.specs.Web.{Block, State, Sitter, Lives, viewed, block, word_of, with_word, with_next, blocks_after, sitter_after, Goes, Allows, AllowsLink}
@@ -33,88 +28,57 @@ use Rattle.shared_chain.proofs.Unset.{FindsUnset, finds_unset}
 
 -- an operation on a word
 abbrev pub IsWordOp : Op ℕ → Type 0
-IsWordOp (op.Load w) = Unit {0}
-IsWordOp (op.Store w x) = Unit {0}
-IsWordOp (op.Add w x) = Unit {0}
-IsWordOp (op.Or w x) = Unit {0}
-IsWordOp (op.And w x) = Unit {0}
-IsWordOp (op.Exchange w a b) = Unit {0}
+IsWordOp (Op.Load w) = Unit {0}
+IsWordOp (Op.Store w x) = Unit {0}
+IsWordOp (Op.Add w x) = Unit {0}
+IsWordOp (Op.Or w x) = Unit {0}
+IsWordOp (Op.And w x) = Unit {0}
+IsWordOp (Op.Exchange w a b) = Unit {0}
 IsWordOp _ = ⊥
 
 -- a load or an install of a link
 abbrev pub IsRead : Op ℕ → Type 0
-IsRead (op.LoadLink l) = Unit {0}
-IsRead (op.Install x) = Unit {0}
+IsRead (Op.LoadLink l) = Unit {0}
+IsRead (Op.Install x) = Unit {0}
 IsRead _ = ⊥
 
 -- what a load or an install of a link finds
 abbrev found_name : {A : Type 0} → Chain A → Op ℕ → ℕ → Option ℕ
-found_name c (op.LoadLink l) k = link_found c l k
-found_name c (op.Install x) k = last_of c.names c.blocks
+found_name c (Op.LoadLink l) k = link_found c l k
+found_name c (Op.Install x) k = last_of c.names c.blocks
 found_name c _ k = None
 
 on_word : (o : Op ℕ) → IsWordOp o → OnBlocks o
-on_word (op.Load w) word = tt
-on_word (op.Store w x) word = tt
-on_word (op.Add w x) word = tt
-on_word (op.Or w x) word = tt
-on_word (op.And w x) word = tt
-on_word (op.Exchange w x y) word = tt
-on_word (op.LoadLink l) word = absurd word
-on_word (op.StoreLink l x) word = absurd word
-on_word (op.Install x) word = absurd word
-on_word op.Ask word = absurd word
+on_word (Op.LoadLink l) word = absurd word
+on_word (Op.StoreLink l x) word = absurd word
+on_word (Op.Install x) word = absurd word
+on_word Op.Ask word = absurd word
+on_word o word = tt
 
 on_found : (o : Op ℕ) → IsRead o → OnBlocks o
-on_found (op.LoadLink l) finds = tt
-on_found (op.Install x) finds = tt
-on_found (op.StoreLink l x) finds = absurd finds
-on_found (op.Load w) finds = absurd finds
-on_found (op.Store w x) finds = absurd finds
-on_found (op.Add w x) finds = absurd finds
-on_found (op.Or w x) finds = absurd finds
-on_found (op.And w x) finds = absurd finds
-on_found (op.Exchange w x y) finds = absurd finds
-on_found op.Ask finds = absurd finds
+on_found (Op.LoadLink l) finds = tt
+on_found (Op.Install x) finds = tt
+on_found o finds = absurd finds
 
 module _ {A : Type 0} where
   -- what an operation on a word makes of the blocks, and what it answers
   made_word : (c : Chain A) (o : Op ℕ) (k : ℕ) (bs : List (Block A)) → IsWordOp o
       → (blocks_made o k bs ≡ with_word bs k (word_index (op_word o)) (op_makes o (word_of bs k (word_index (op_word o))))) × (answered c bs o k ≡ answer_for o (word_of bs k (word_index (op_word o))))
-  made_word c (op.Load w) k bs word = (refl, refl)
-  made_word c (op.Store w x) k bs word = (refl, refl)
-  made_word c (op.Add w x) k bs word = (refl, refl)
-  made_word c (op.Or w x) k bs word = (refl, refl)
-  made_word c (op.And w x) k bs word = (refl, refl)
-  made_word c (op.Exchange w x y) k bs word = (refl, refl)
-  made_word c (op.LoadLink l) k bs word = absurd word
-  made_word c (op.StoreLink l x) k bs word = absurd word
-  made_word c (op.Install x) k bs word = absurd word
-  made_word c op.Ask k bs word = absurd word
+  made_word c (Op.LoadLink l) k bs word = absurd word
+  made_word c (Op.StoreLink l x) k bs word = absurd word
+  made_word c (Op.Install x) k bs word = absurd word
+  made_word c Op.Ask k bs word = absurd word
+  made_word c o k bs word = (refl, refl)
 
   made_found : (o : Op ℕ) (k : ℕ) (bs : List (Block A)) → IsRead o → blocks_made o k bs ≡ with_next bs k (link_makes o (block bs k).next)
-  made_found (op.LoadLink l) k bs finds = refl
-  made_found (op.Install x) k bs finds = refl
-  made_found (op.StoreLink l x) k bs finds = absurd finds
-  made_found (op.Load w) k bs finds = absurd finds
-  made_found (op.Store w x) k bs finds = absurd finds
-  made_found (op.Add w x) k bs finds = absurd finds
-  made_found (op.Or w x) k bs finds = absurd finds
-  made_found (op.And w x) k bs finds = absurd finds
-  made_found (op.Exchange w x y) k bs finds = absurd finds
-  made_found op.Ask k bs finds = absurd finds
+  made_found (Op.LoadLink l) k bs finds = refl
+  made_found (Op.Install x) k bs finds = refl
+  made_found o k bs finds = absurd finds
 
-  answered_found : (c : Chain A) (bs : List (Block A)) (o : Op ℕ) (k : ℕ) → IsRead o → LeadsThere c bs o k → (answered c bs o k ≡ answer.Linked (found_name c o k)) × ((block bs k).next ≡ lead_of (found_name c o k))
-  answered_found c bs (op.LoadLink l) k finds leads = (refl, leads)
-  answered_found c bs (op.Install x) k finds leads = (refl, leads)
-  answered_found c bs (op.StoreLink l x) k finds leads = absurd finds
-  answered_found c bs (op.Load w) k finds leads = absurd finds
-  answered_found c bs (op.Store w x) k finds leads = absurd finds
-  answered_found c bs (op.Add w x) k finds leads = absurd finds
-  answered_found c bs (op.Or w x) k finds leads = absurd finds
-  answered_found c bs (op.And w x) k finds leads = absurd finds
-  answered_found c bs (op.Exchange w x y) k finds leads = absurd finds
-  answered_found c bs op.Ask k finds leads = absurd finds
+  answered_found : (c : Chain A) (bs : List (Block A)) (o : Op ℕ) (k : ℕ) → IsRead o → LeadsThere c bs o k → (answered c bs o k ≡ Answer.Linked (found_name c o k)) × ((block bs k).next ≡ lead_of (found_name c o k))
+  answered_found c bs (Op.LoadLink l) k finds leads = (refl, leads)
+  answered_found c bs (Op.Install x) k finds leads = (refl, leads)
+  answered_found c bs o k finds leads = absurd finds
 
   -- what one step does at one state of the web
   pub record Done (te he : Ptr) (id : ℕ) (m : Sitter A (CallState A)) (c : InCall A) (s : State A (CallState A)) (r : Rule te he s) : Type 0 where
@@ -165,7 +129,7 @@ module _ {A : Type 0} where
         (d.number, d.lives, λ small. word_goes s r d word)
 
     -- a bit that is unset is added
-    pub allows_added : (w : Word ℕ) (bits : ℕ) → Ready chain_calls m.view c → HoldsBy c.local c.op (touched_list c.touch c.carried c.lends) m → c.op ≡ op.Or w bits → is_set_once w bits ≡ true
+    pub allows_added : (w : Word ℕ) (bits : ℕ) → Ready chain_calls m.view c → HoldsBy c.local c.op (touched_list c.touch c.carried c.lends) m → c.op ≡ Op.Or w bits → is_set_once w bits ≡ true
         → Allows (Rule te he) id m (op_place te he c.op) (word_index (op_word c.op)) (λ n. (n + bits) % 2 ^ 64) (λ n q. Follows c (answer_for c.op n) q)
     allows_added w bits ready holds is once s r at =
         let word : IsWordOp c.op = subst IsWordOp (sym is) tt in
@@ -182,8 +146,8 @@ module _ {A : Type 0} where
         let g = subst (λ (z : List (Block A) × Answer ℕ). Goes (Rule te he) s z.0 id m (Follows c z.1)) (λ i. (made_found c.op d.number s.blocks finds i, found.0 i)) d.goes in
         (d.number, d.lives, (d.tested, (g.0, g.1, g.2, g.3, (x, found.1, g.4))))
 
-    pub allows_store : (l : Link ℕ) (x : ℕ) → Ready chain_calls m.view c → HoldsBy c.local c.op (touched_list c.touch c.carried c.lends) m → c.op ≡ op.StoreLink l x
-        → AllowsLink (Rule te he) id m (op_place te he c.op) (λ _. spot x) (λ _ k. Follows c answer.Done k)
+    pub allows_store : (l : Link ℕ) (x : ℕ) → Ready chain_calls m.view c → HoldsBy c.local c.op (touched_list c.touch c.carried c.lends) m → c.op ≡ Op.StoreLink l x
+        → AllowsLink (Rule te he) id m (op_place te he c.op) (λ _. spot x) (λ _ k. Follows c Answer.Done k)
     allows_store l x ready holds is s r at =
         let on : OnBlocks c.op = subst OnBlocks (sym is) tt in
         let d = step_done ready holds on s r at in

@@ -4,17 +4,7 @@ use Rattle.std.proofs.Common.{ℕ, ◌≡◌, ◌≢◌, ◌||◌, not, Bool, Op
 use mathlib.Core.Option.{some}
 use lib.ListN.{get_elem?}
 use denote.RawPtr.{Ptr}
-use Rattle.queue_steps.specs.declared.model.Call.{Call}
-use Rattle.queue_steps.specs.declared.model.Effect.{Effect}
-use Rattle.queue_steps.specs.declared.model.Effect.TheVariants as effect
-use Rattle.queue_steps.specs.declared.steps.types.Answer.{Answer}
-use Rattle.queue_steps.specs.declared.steps.types.Kind.TheVariants as queue
-use Rattle.queue_steps.specs.declared.steps.types.Local.{Local}
-use Rattle.queue_steps.specs.declared.steps.types.Local.TheVariants as local
-use Rattle.queue_steps.specs.declared.steps.types.Next.{Next}
-use Rattle.queue_steps.specs.declared.steps.types.Next.TheVariants as next
-use Rattle.queue_steps.specs.declared.steps.types.Op.{Op}
-use Rattle.queue_steps.specs.declared.steps.types.Touch.{Touch}
+use Rattle.law_common.specs.Vocabulary.{Call, Effect, Kind, Op, Touch, Answer, Local, Next}
 use Rattle.queue_steps.specs.Next.{CanNext, next_of}
 use Rattle.queue_steps.specs.State.{State as Queue}
 use Rattle.queue_steps.specs.UnboundedNext.{FitsChain, unbounded_next}
@@ -40,31 +30,25 @@ use Rattle.shared_chain.proofs.CallLaws.{chain_call_laws}
 use Rattle.shared_chain.proofs.Carrying.{carried_is}
 use Rattle.shared_chain.proofs.MaySteps.{may_go_on}
 
-can_next : (l : Local ℕ) (a : Answer ℕ) → l ≡ local.Unbounded (chain_of l) → FitsChain (chain_of l) a → CanNext queue.Unbounded l a × (next_of queue.Unbounded l a ≡ unbounded_next (chain_of l) a)
-can_next l a is fits = (subst (λ z. CanNext queue.Unbounded z a) (sym is) fits, ap (λ z. next_of queue.Unbounded z a) is)
+can_next : (l : Local ℕ) (a : Answer ℕ) → l ≡ Local.Unbounded (chain_of l) → FitsChain (chain_of l) a → CanNext Kind.Unbounded l a × (next_of Kind.Unbounded l a ≡ unbounded_next (chain_of l) a)
+can_next l a is fits = (subst (λ z. CanNext Kind.Unbounded z a) (sym is) fits, ap (λ z. next_of Kind.Unbounded z a) is)
 
 module _ {A : Type 0} where
   -- a chain makes no front
   no_front : (c r : Chain A) (e : Option (Effect A)) (was : Bool) → Leads (queue_of c) e (queue_of r) → MayFront e was
-  no_front c r None was leads = tt
-  no_front c r (Some (effect.Append v)) was leads = tt
-  no_front c r (Some (effect.Take v)) was leads = tt
-  no_front c r (Some (effect.Replace old v)) was leads = tt
-  no_front c r (Some (effect.Front old v)) was leads = absurd (let z = ap (λ (q : Queue A). q.coming) leads.1 in cc)
-  no_front c r (Some effect.Arrive) was leads = tt
-  no_front c r (Some effect.Close) was leads = tt
-  no_front c r (Some effect.SelfClose) was leads = tt
+  no_front c r (Some (Effect.Front old v)) was leads = absurd (let z = ap (λ (q : Queue A). q.coming) leads.1 in cc)
+  no_front c r e was leads = tt
 
   -- a call that goes on stands, one that ends has no part in the chain
   goes_well : (g : OutChain A) (who : ℕ) (ms : List (Queue A)) (was : Bool) (n : Next ℕ) (v : Option A) (k : Call A) (es : List (Effect A)) → Ends g.chain who ms n v k es → SlotsFor g who n → GoesOn chain_calls g who ms was n v k es
-  goes_well g who ms was (next.Step l t o) v k es ends slots = (ends.0, ends.1, slots)
-  goes_well g who ms was (next.Reply x spare) v k es ends slots = ((ends.0, ends.1), tt, ends.2)
+  goes_well g who ms was (Next.Step l t o) v k es ends slots = (ends.0, ends.1, slots)
+  goes_well g who ms was (Next.Reply x spare) v k es ends slots = ((ends.0, ends.1), tt, ends.2)
 
   -- what a seat holds has no part in its view
   holds_viewed : (w : CallState A) (xs : List (ℕ × Option A)) (n : Next ℕ) (m : Sitter A (CallState A)) → HoldsFor xs n m → HoldsFor xs n (viewed w m)
-  holds_viewed w xs (next.Step l t o) m h = h
-  holds_viewed w xs (next.Reply x None) m h = h
-  holds_viewed w xs (next.Reply x (Some f)) m h = h
+  holds_viewed w xs (Next.Step l t o) m h = h
+  holds_viewed w xs (Next.Reply x None) m h = h
+  holds_viewed w xs (Next.Reply x (Some f)) m h = h
 
   module _ (te he : Ptr) where
     -- What a step finds and leaves, whatever its operation is: the blocks bs stand for the chain after it, and the seat holds what its call has then
@@ -103,7 +87,7 @@ module _ {A : Type 0} where
         after : OutChain A
         after = record { chain = chain_then here a; out = f.out }
 
-        can : CanNext queue.Unbounded c.local a × (next_of queue.Unbounded c.local a ≡ todo)
+        can : CanNext Kind.Unbounded c.local a × (next_of Kind.Unbounded c.local a ≡ todo)
         can = can_next c.local a (is_chain here) right.goes_on
 
         v : Option A

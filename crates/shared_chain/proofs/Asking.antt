@@ -3,16 +3,10 @@ use Rattle.std.proofs.Common.{ℕ, ◌≡◌, ◌∙◌, Option, Some, None, Lis
 use mathlib.Core.Option.{some}
 use lib.ListN.{get_elem?}
 use denote.RawPtr.{Ptr, block_ptr, null_ptr, InBlock, Testable}
-use Rattle.queue_steps.specs.declared.model.Call.{Call}
-use Rattle.queue_steps.specs.declared.model.Effect.{Effect}
-use Rattle.queue_steps.specs.declared.steps.types.Answer.TheVariants as answer
-use Rattle.queue_steps.specs.declared.steps.types.Local.{Local}
-use Rattle.queue_steps.specs.declared.steps.types.Op.{Op}
-use Rattle.queue_steps.specs.declared.steps.types.Op.TheVariants as op
-use Rattle.queue_steps.specs.declared.steps.types.Touch.{Touch}
+use Rattle.law_common.specs.Vocabulary.{Call, Effect, Op, Touch, Answer, Local}
 use Rattle.queue_steps.specs.State.{State as Queue}
-use Rattle.law_chain.specs.ChainAt.{At, push_tail, push_block, asking, installing, showing, claiming, laying, opening, chaining, writing, spending, pop_head, pop_block, pop_tail, taking, following, peeking, passing, entering, awaiting, reading, beginning, walking, destroying, len_tail, len_head, len_again, empty_head, empty_tail, closing, closed_tail}
-use Rattle.mem_blocks.specs.Web.{Block, State, Sitter, block, word_of, Goes, Allows}
+use Rattle.law_chain.specs.ChainAt.{At, asking}
+use Rattle.mem_blocks.specs.Web.{Block, State, Sitter, word_of, Goes, Allows}
 use Rattle.mem_blocks.specs.declared.hub.TheConstants.{TAIL, PARTIES}
 use Rattle.shared_parties.specs.declared.known.CallState.{CallState}
 use Rattle.shared_parties.specs.declared.known.InCall.{InCall}
@@ -32,97 +26,39 @@ use Rattle.shared_chain.proofs.Granting.{granted_at, refused_codes}
 module _ {A : Type 0} (te he : Ptr) where
   -- where the call asks for a block, one that lies at p and that the seat carries is its spare
   granted : (g : OutChain A) (who : ℕ) (bs : List (Block A)) (m : Sitter A (CallState A)) {ms : List (Queue A)} {l : Local ℕ} {t : Touch} {o : Op ℕ} {v : Option A} {k : Call A} {es : List (Effect A)} (here : At g.chain who ms l t o v k es)
-      → o ≡ op.Ask → Codes te he g bs → SlotsAs g who l → (xs : List (ℕ × Option A)) → ChainLent g who xs → m.hand ≡ None → (b i : ℕ) → Testable (block_ptr b i) → m.spare ≡ Some (fresh_at (block_ptr b i))
-      → (f : ℕ) × (spot f ≡ block_ptr b i) × Found te he g who here (answer.Granted f) bs m
+      → o ≡ Op.Ask → Codes te he g bs → SlotsAs g who l → (xs : List (ℕ × Option A)) → ChainLent g who xs → m.hand ≡ None → (b i : ℕ) → Testable (block_ptr b i) → m.spare ≡ Some (fresh_at (block_ptr b i))
+      → (f : ℕ) × (spot f ≡ block_ptr b i) × Found te he g who here (Answer.Granted f) bs m
   granted g who bs m (asking d v q lead none saw asked) is codes slots xs lent hand b i tests spare =
       let empty = hand ∙ sym (ap (λ ys. hand_by 0 ys) (nothing_lent g who xs none lent)) in
       let h = granted_at te he g who bs m d q lead codes slots xs lent empty b i tests spare in let z = h.3 in
       (h.0, h.1, record { found = h.2; out = g.out; codes = z.codes; others = λ j ne n e. refl; slots = z.slots; lends = z.lends; lent = z.lent; holds = z.holds })
-  granted g who bs m (push_tail d v spare a b) is codes slots xs lent hand at i tests spare2 = absurd (cc)
-  granted g who bs m (push_block d v spare q a b e) is codes slots xs lent hand at i tests spare2 = absurd (cc)
-  granted g who bs m (installing d v f a b e) is codes slots xs lent hand at i tests spare2 = absurd (cc)
-  granted g who bs m (showing d v name a b e f) is codes slots xs lent hand at i tests spare2 = absurd (cc)
-  granted g who bs m (claiming d v q name spare a b e f h) is codes slots xs lent hand at i tests spare2 = absurd (cc)
-  granted g who bs m (laying d v n name f a b e h) is codes slots xs lent hand at i tests spare2 = absurd (cc)
-  granted g who bs m (opening d v n name f a b e h k) is codes slots xs lent hand at i tests spare2 = absurd (cc)
-  granted g who bs m (chaining d v n name f a b e h) is codes slots xs lent hand at i tests spare2 = absurd (cc)
-  granted g who bs m (writing d v n name spare a b e) is codes slots xs lent hand at i tests spare2 = absurd (cc)
-  granted g who bs m (spending d v spare a b e) is codes slots xs lent hand at i tests spare2 = absurd (cc)
-  granted g who bs m (pop_head a) is codes slots xs lent hand at i tests spare2 = absurd (cc)
-  granted g who bs m (pop_block n more a b e) is codes slots xs lent hand at i tests spare2 = absurd (cc)
-  granted g who bs m (pop_tail n block a b e) is codes slots xs lent hand at i tests spare2 = absurd (cc)
-  granted g who bs m (taking n name after more new a b e f h k) is codes slots xs lent hand at i tests spare2 = absurd (cc)
-  granted g who bs m (following x n name more a b e) is codes slots xs lent hand at i tests spare2 = absurd (cc)
-  granted g who bs m (peeking x n name after more a b e f) is codes slots xs lent hand at i tests spare2 = absurd (cc)
-  granted g who bs m (passing x n name after more further a b e f h) is codes slots xs lent hand at i tests spare2 = absurd (cc)
-  granted g who bs m (entering x n name more further a b e f) is codes slots xs lent hand at i tests spare2 = absurd (cc)
-  granted g who bs m (awaiting x n name more a b) is codes slots xs lent hand at i tests spare2 = absurd (cc)
-  granted g who bs m (reading x n name more a b e f) is codes slots xs lent hand at i tests spare2 = absurd (cc)
-  granted g who bs m (beginning x n name more a b e f) is codes slots xs lent hand at i tests spare2 = absurd (cc)
-  granted g who bs m (walking x b name slot a e f) is codes slots xs lent hand at i tests spare2 = absurd (cc)
-  granted g who bs m (destroying x b name slot a e f) is codes slots xs lent hand at i tests spare2 = absurd (cc)
-  granted g who bs m (len_tail a) is codes slots xs lent hand at i tests spare2 = absurd (cc)
-  granted g who bs m (len_head w a b e) is codes slots xs lent hand at i tests spare2 = absurd (cc)
-  granted g who bs m (len_again w z a b e) is codes slots xs lent hand at i tests spare2 = absurd (cc)
-  granted g who bs m (empty_head a) is codes slots xs lent hand at i tests spare2 = absurd (cc)
-  granted g who bs m (empty_tail w a b e) is codes slots xs lent hand at i tests spare2 = absurd (cc)
-  granted g who bs m (closing a) is codes slots xs lent hand at i tests spare2 = absurd (cc)
-  granted g who bs m (closed_tail a) is codes slots xs lent hand at i tests spare2 = absurd (cc)
+  granted g who bs m here is codes slots xs lent hand at i tests spare2 = absurd (cc)
 
   -- and where it is refused the call ends
   refused : (g : OutChain A) (who : ℕ) (bs : List (Block A)) (m : Sitter A (CallState A)) {ms : List (Queue A)} {l : Local ℕ} {t : Touch} {o : Op ℕ} {v : Option A} {k : Call A} {es : List (Effect A)} (here : At g.chain who ms l t o v k es)
-      → o ≡ op.Ask → Codes te he g bs → (xs : List (ℕ × Option A)) → ChainLent g who xs → m.hand ≡ None → m.spare ≡ None → Found te he g who here answer.Refused bs m
+      → o ≡ Op.Ask → Codes te he g bs → (xs : List (ℕ × Option A)) → ChainLent g who xs → m.hand ≡ None → m.spare ≡ None → Found te he g who here Answer.Refused bs m
   refused g who bs m (asking d v q lead none saw asked) is codes xs lent hand spare =
       let empty = hand ∙ sym (ap (λ ys. hand_by 0 ys) (nothing_lent g who xs none lent)) in
       let h = refused_codes te he g who bs m d q lead none codes xs lent (empty, spare) in let z = h.1 in
       record { found = h.0; out = g.out; codes = z.codes; others = λ j ne n e. refl; slots = z.slots; lends = z.lends; lent = z.lent; holds = z.holds }
-  refused g who bs m (push_tail d v spare a b) is codes xs lent hand spare2 = absurd (cc)
-  refused g who bs m (push_block d v spare q a b e) is codes xs lent hand spare2 = absurd (cc)
-  refused g who bs m (installing d v f a b e) is codes xs lent hand spare2 = absurd (cc)
-  refused g who bs m (showing d v name a b e f) is codes xs lent hand spare2 = absurd (cc)
-  refused g who bs m (claiming d v q name spare a b e f h) is codes xs lent hand spare2 = absurd (cc)
-  refused g who bs m (laying d v n name f a b e h) is codes xs lent hand spare2 = absurd (cc)
-  refused g who bs m (opening d v n name f a b e h k) is codes xs lent hand spare2 = absurd (cc)
-  refused g who bs m (chaining d v n name f a b e h) is codes xs lent hand spare2 = absurd (cc)
-  refused g who bs m (writing d v n name spare a b e) is codes xs lent hand spare2 = absurd (cc)
-  refused g who bs m (spending d v spare a b e) is codes xs lent hand spare2 = absurd (cc)
-  refused g who bs m (pop_head a) is codes xs lent hand spare2 = absurd (cc)
-  refused g who bs m (pop_block n more a b e) is codes xs lent hand spare2 = absurd (cc)
-  refused g who bs m (pop_tail n block a b e) is codes xs lent hand spare2 = absurd (cc)
-  refused g who bs m (taking n name after more new a b e f h k) is codes xs lent hand spare2 = absurd (cc)
-  refused g who bs m (following x n name more a b e) is codes xs lent hand spare2 = absurd (cc)
-  refused g who bs m (peeking x n name after more a b e f) is codes xs lent hand spare2 = absurd (cc)
-  refused g who bs m (passing x n name after more further a b e f h) is codes xs lent hand spare2 = absurd (cc)
-  refused g who bs m (entering x n name more further a b e f) is codes xs lent hand spare2 = absurd (cc)
-  refused g who bs m (awaiting x n name more a b) is codes xs lent hand spare2 = absurd (cc)
-  refused g who bs m (reading x n name more a b e f) is codes xs lent hand spare2 = absurd (cc)
-  refused g who bs m (beginning x n name more a b e f) is codes xs lent hand spare2 = absurd (cc)
-  refused g who bs m (walking x b name slot a e f) is codes xs lent hand spare2 = absurd (cc)
-  refused g who bs m (destroying x b name slot a e f) is codes xs lent hand spare2 = absurd (cc)
-  refused g who bs m (len_tail a) is codes xs lent hand spare2 = absurd (cc)
-  refused g who bs m (len_head w a b e) is codes xs lent hand spare2 = absurd (cc)
-  refused g who bs m (len_again w z a b e) is codes xs lent hand spare2 = absurd (cc)
-  refused g who bs m (empty_head a) is codes xs lent hand spare2 = absurd (cc)
-  refused g who bs m (empty_tail w a b e) is codes xs lent hand spare2 = absurd (cc)
-  refused g who bs m (closing a) is codes xs lent hand spare2 = absurd (cc)
-  refused g who bs m (closed_tail a) is codes xs lent hand spare2 = absurd (cc)
+  refused g who bs m here is codes xs lent hand spare2 = absurd (cc)
 
   module _ (id : ℕ) (m : Sitter A (CallState A)) (c : InCall A) where
     standing : Ready chain_calls m.view c → (s : State A (CallState A)) (r : Rule te he s) → get_elem? s.views id ≡ some m.view → Standing chain_calls r.cells r.history id m.view.known c
     standing ready s r at = stands_at chain_calls chain_call_laws OnBlocks r.cells r.history (word_of s.blocks 0 PARTIES) s.views r.all id m.view c (chain_opens c.call) at ready
 
     -- the load of the tail's word after a grant, and after a refusal
-    pub allows_grant : (p : Ptr) → Ready chain_calls m.view c → m.hand ≡ None → m.spare ≡ Some (fresh_at p) → InBlock p × Testable p → c.op ≡ op.Ask → Allows (Rule te he) id m te TAIL (λ n. n) (λ n q. FollowsGrant c p q)
+    pub allows_grant : (p : Ptr) → Ready chain_calls m.view c → m.hand ≡ None → m.spare ≡ Some (fresh_at p) → InBlock p × Testable p → c.op ≡ Op.Ask → Allows (Rule te he) id m te TAIL (λ n. n) (λ n q. FollowsGrant c p q)
     allows_grant (block_ptr b i) ready hand spare lies asks s r at =
         let st = standing ready s r at in
         let g = granted r.cells id s.blocks m st.here.0 asks r.codes st.here.2 c.lends st.lent hand b i lies.1 spare in
-        let w = follows te he s r id m.view c at st (answer.Granted g.0) s.blocks m refl g.2 in
+        let w = follows te he s r id m.view c at st (Answer.Granted g.0) s.blocks m refl g.2 in
         (0, r.codes.tail, λ small. subst (λ (bs : List (Block A)). Goes (Rule te he) s bs id m (λ q. FollowsGrant c (block_ptr b i) q)) (sym (word_same s.blocks 0 TAIL)) (w.0, [], tt, w.1, (g.0, g.1, w.2)))
     allows_grant null_ptr ready hand spare lies asks s r at = absurd lies.0
 
-    pub allows_refusal : Ready chain_calls m.view c → m.hand ≡ None → m.spare ≡ None → c.op ≡ op.Ask → Allows (Rule te he) id m te TAIL (λ n. n) (λ n q. Follows c answer.Refused q)
+    pub allows_refusal : Ready chain_calls m.view c → m.hand ≡ None → m.spare ≡ None → c.op ≡ Op.Ask → Allows (Rule te he) id m te TAIL (λ n. n) (λ n q. Follows c Answer.Refused q)
     allows_refusal ready hand spare asks s r at =
         let st = standing ready s r at in
         let f = refused r.cells id s.blocks m st.here.0 asks r.codes c.lends st.lent hand spare in
-        let w = follows te he s r id m.view c at st answer.Refused s.blocks m refl f in
-        (0, r.codes.tail, λ small. subst (λ (bs : List (Block A)). Goes (Rule te he) s bs id m (λ q. Follows c answer.Refused q)) (sym (word_same s.blocks 0 TAIL)) (w.0, [], tt, w.1, w.2))
+        let w = follows te he s r id m.view c at st Answer.Refused s.blocks m refl f in
+        (0, r.codes.tail, λ small. subst (λ (bs : List (Block A)). Goes (Rule te he) s bs id m (λ q. Follows c Answer.Refused q)) (sym (word_same s.blocks 0 TAIL)) (w.0, [], tt, w.1, w.2))

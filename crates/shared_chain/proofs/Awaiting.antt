@@ -4,21 +4,12 @@ use mathlib.Core.Option.{some}
 use denote.RawPtr.{Ptr}
 use Rattle.law_common.specs.Puts.{put}
 use Rattle.law_common.proofs.Puts.{put_same, put_other}
-use Rattle.queue_steps.specs.declared.sizes.TheConstants.{BLOCK_SLOTS}
+use Rattle.law_common.specs.Vocabulary.{Word, Op, Touch, Local, Next, BLOCK_SLOTS, WRITE, READ}
 use Rattle.queue_steps.specs.State.{State}
 use Rattle.queue_steps.specs.ChainWords.{offset_of}
 use Rattle.queue_steps.specs.UnboundedNext.{at, walks, awaits, is_last_slot, written_found}
-use Rattle.queue_steps.specs.declared.steps.types.Local.{Local}
-use Rattle.queue_steps.specs.declared.steps.types.Local.TheVariants as local
-use Rattle.queue_steps.specs.declared.steps.types.Next.TheVariants as next
-use Rattle.queue_steps.specs.declared.steps.types.Op.{Op}
-use Rattle.queue_steps.specs.declared.steps.types.Op.TheVariants as op
-use Rattle.queue_steps.specs.declared.steps.types.Touch.{Touch}
-use Rattle.queue_steps.specs.declared.steps.types.Touch.TheVariants as touch
-use Rattle.queue_steps.specs.declared.steps.types.Word.TheVariants as word
-use Rattle.queue_steps.specs.declared.steps.unbounded.TheConstants.{WRITE, READ}
 use Rattle.queue_steps.specs.declared.steps.unbounded.UnboundedLocal.TheVariants as chain
-use Rattle.law_chain.specs.ChainCells.{Writer, Free, Writing, Wrote, Reading, Done, GivenUp, ChainOk, Write, Read, Holds, value, reader_of, item_at}
+use Rattle.law_chain.specs.ChainCells.{Writer, Wrote, Reading, Done, GivenUp, ChainOk, Write, Read, Holds, value, reader_of, item_at}
 use Rattle.law_chain.proofs.ChainReads.{own_item}
 use Rattle.law_chain.specs.ChainFacts.{head_of, Got}
 use Rattle.law_chain.specs.ChainAt.{Only, awaiting}
@@ -37,9 +28,8 @@ use Rattle.shared_chain.proofs.States.{state_is, others_out, Leaves, load_step, 
 
 -- an item that is x, and is written
 wrote_is : {A : Type 0} (w : Writer A) (x : A) → value w ≡ Some x → is_wrote w ≡ true → w ≡ Wrote x
-wrote_is Free x e t = cc
-wrote_is (Writing p v) x e t = cc
 wrote_is (Wrote v) x e t = ap (λ y. Wrote y) (cc)
+wrote_is w x e t = cc
 
 module _ {A : Type 0} (g : OutChain A) (who n : ℕ) (holds : Holds g.chain who (Only (Read n))) where
   -- no other item is the party's
@@ -79,7 +69,7 @@ module _ {A : Type 0} (te he : Ptr) (g : OutChain A) (who : ℕ) (bs : List (Blo
   waits = idles te he g who bs m g.chain (awaits (head_of n more) name) g.out codes (λ j ne k e. refl) (λ k e. ap g.out (only g who n holds k e) ∙ not_yet) (none g who n holds not_yet) free
 
   -- it is, and the call has the slot then
-  took : g.chain.writers n ≡ Wrote x → (l : Local ℕ) (t : Touch) (o : Op ℕ) → has_slot l ≡ true → slot_block l o ≡ name → spare_in l ≡ None → Leaves te he g who bs m g.chain (next.Step l t o)
+  took : g.chain.writers n ≡ Wrote x → (l : Local ℕ) (t : Touch) (o : Op ℕ) → has_slot l ≡ true → slot_block l o ≡ name → spare_in l ≡ None → Leaves te he g who bs m g.chain (Next.Step l t o)
   took wrote l t o slot block_is spare =
       let b = n / BLOCK_SLOTS in
       let k = b + 2 in
@@ -115,15 +105,15 @@ module _ {A : Type 0} (te he : Ptr) (g : OutChain A) (who : ℕ) (bs : List (Blo
 
   -- the call goes on by what the state says, and by whether the slot is the last
   abbrev found : Bool → Bool → Type 0
-  found t u = Leaves te he g who bs m g.chain (if t then awaits (head_of n more) name else (if u then walks name 0 (touch.Take (offset_of (head_of n more)))
-      else at (chain.Reading name (offset_of (head_of n more))) (touch.Take (offset_of (head_of n more))) (op.Or (word.State name (offset_of (head_of n more))) READ)))
+  found t u = Leaves te he g who bs m g.chain (if t then awaits (head_of n more) name else (if u then walks name 0 (Touch.Take (offset_of (head_of n more)))
+      else at (chain.Reading name (offset_of (head_of n more))) (Touch.Take (offset_of (head_of n more))) (Op.Or (Word.State name (offset_of (head_of n more))) READ)))
 
   await_left : Leaves te he g who bs m g.chain (written_found (head_of n more) name (word_of bs (n / BLOCK_SLOTS + 2) i))
   await_left = go (is_wrote (g.chain.writers (item_at (n / BLOCK_SLOTS) i))) refl
     where
       last : g.chain.writers n ≡ Wrote x → (u : Bool) → found false u
-      last wrote true = took wrote (local.Unbounded (chain.Walking name 0)) (touch.Take (offset_of (head_of n more))) (op.Load (word.State name 0)) refl refl refl
-      last wrote false = took wrote (local.Unbounded (chain.Reading name (offset_of (head_of n more)))) (touch.Take (offset_of (head_of n more))) (op.Or (word.State name (offset_of (head_of n more))) READ) refl refl refl
+      last wrote true = took wrote (Local.Unbounded (chain.Walking name 0)) (Touch.Take (offset_of (head_of n more))) (Op.Load (Word.State name 0)) refl refl refl
+      last wrote false = took wrote (Local.Unbounded (chain.Reading name (offset_of (head_of n more)))) (Touch.Take (offset_of (head_of n more))) (Op.Or (Word.State name (offset_of (head_of n more))) READ) refl refl refl
 
       go : (t : Bool) → is_wrote (g.chain.writers (item_at (n / BLOCK_SLOTS) i)) ≡ t → found (bit_and (word_of bs (n / BLOCK_SLOTS + 2) i) WRITE == 0) (is_last_slot (head_of n more))
       go false e = subst (λ t. found t (is_last_slot (head_of n more))) (sym (state.written ∙ ap not e)) waits
@@ -132,11 +122,11 @@ module _ {A : Type 0} (te he : Ptr) (g : OutChain A) (who : ℕ) (bs : List (Blo
 
 module _ {A : Type 0} (te he : Ptr) where
   pub step_awaiting : (g : OutChain A) (who : ℕ) (bs : List (Block A)) (m : Sitter A (CallState A)) (ms : List (State A)) (x : A) (n name : ℕ) (more : Bool) (holds : Holds g.chain who (Only (Read n))) (got : Got g.chain who n x name)
-      → ChainOk g.chain → Codes te he g bs → SlotsAs g who (local.Unbounded (chain.Awaiting (head_of n more) name)) → (xs : List (ℕ × Option A)) → ChainLent g who xs
-      → HoldsBy (local.Unbounded (chain.Awaiting (head_of n more) name)) (op.Load (word.State name (offset_of (head_of n more)))) xs m → BlockStep te he g who bs m {ms = ms} (awaiting x n name more holds got)
+      → ChainOk g.chain → Codes te he g bs → SlotsAs g who (Local.Unbounded (chain.Awaiting (head_of n more) name)) → (xs : List (ℕ × Option A)) → ChainLent g who xs
+      → HoldsBy (Local.Unbounded (chain.Awaiting (head_of n more) name)) (Op.Load (Word.State name (offset_of (head_of n more)))) xs m → BlockStep te he g who bs m {ms = ms} (awaiting x n name more holds got)
   step_awaiting g who bs m ms x n name more holds got ok codes slots xs lent has =
       let not_yet = slots n got.mine in
-      let free : (m.hand ≡ None) × (m.spare ≡ None) = subst (λ ys. HoldsBy (local.Unbounded (chain.Awaiting (head_of n more) name)) (op.Load (word.State name (offset_of (head_of n more)))) ys m) (no_lent te he g who xs (none g who n holds not_yet) lent) has in
+      let free : (m.hand ≡ None) × (m.spare ≡ None) = subst (λ ys. HoldsBy (Local.Unbounded (chain.Awaiting (head_of n more) name)) (Op.Load (Word.State name (offset_of (head_of n more)))) ys m) (no_lent te he g who xs (none g who n holds not_yet) lent) has in
       let i = offset_of (head_of n more) in
       let offset = head_offset n more in
       load_step te he g who bs m (n / BLOCK_SLOTS) name i {ms = ms} (awaiting x n name more holds got) ok codes got.named (on te he g who bs m x n i name more holds got offset ok codes not_yet free)

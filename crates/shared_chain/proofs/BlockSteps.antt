@@ -1,11 +1,7 @@
 -- What each step of a call does to the blocks of the web, wherever the call stands.
 use Rattle.std.proofs.Common.{ℕ, Option, List}
 use denote.RawPtr.{Ptr}
-use Rattle.queue_steps.specs.declared.model.Call.{Call}
-use Rattle.queue_steps.specs.declared.model.Effect.{Effect}
-use Rattle.queue_steps.specs.declared.steps.types.Local.{Local}
-use Rattle.queue_steps.specs.declared.steps.types.Op.{Op}
-use Rattle.queue_steps.specs.declared.steps.types.Touch.{Touch}
+use Rattle.law_common.specs.Vocabulary.{Call, Effect, Op, Touch, Local}
 use Rattle.queue_steps.specs.State.{State}
 use Rattle.law_chain.specs.ChainCells.{ChainOk}
 use Rattle.law_chain.specs.ChainAt.{At, push_tail, push_block, asking, installing, showing, claiming, laying, opening, chaining, writing, spending, pop_head, pop_block, pop_tail, taking, following, peeking, passing, entering, awaiting, reading, beginning, walking, destroying, len_tail, len_head, len_again, empty_head, empty_tail, closing, closed_tail}

@@ -1,28 +1,24 @@
 -- What changes of one word, link or slot leave of the blocks of a web, and which changes of a chain leave its blocks as they are.
-use Rattle.std.proofs.Common.{ℕ, ◌+◌, ◌<◌, ◌≤◌, ◌≡◌, ◌≢◌, ◌∙◌, not, inl, inr, Bool, Some, None, List, length, refl, sym, ap, set, get_or-set_same, get_or-set_other}
+use Rattle.std.proofs.Common.{ℕ, ◌+◌, ◌<◌, ◌≤◌, ◌≡◌, ◌≢◌, ◌∙◌, not, inl, inr, Bool, Some, List, length, refl, sym, ap, set, get_or-set_same, get_or-set_other}
 use Rattle.std.proofs.lemmas.List.{set-get_or}
 use mathlib.Core.Option.{some}
 use denote.RawPtr.{Ptr, Testable}
-use Rattle.queue_steps.specs.declared.sizes.TheConstants.{BLOCK_SLOTS}
-use Rattle.queue_steps.specs.declared.steps.types.Next.{Next}
-use Rattle.queue_steps.specs.declared.steps.types.Next.TheVariants as next
+use Rattle.law_common.specs.Vocabulary.{Next, BLOCK_SLOTS}
 use Rattle.law_common.specs.Puts.{put}
 use Rattle.law_common.proofs.Puts.{put_ok}
-use Rattle.law_chain.specs.ChainCells.{GivenUp, Unused, Spare, Chained, Lost, Use, Chain, item_at}
+use Rattle.law_chain.specs.ChainCells.{GivenUp, Unused, Spare, Chained, Use, Chain, item_at}
 use Rattle.law_chain.specs.ChainAnswers.{linked_of, is_wrote, is_done, waits_at}
-use Rattle.law_chain.specs.ChainTransitions.{lost_of}
+use Rattle.law_chain.specs.ChainTransitions.{lost_of, renamed}
 use Rattle.law_chain.specs.ChainAfter.{left_by}
-use Rattle.law_chain.specs.ChainTransitions.{renamed}
 use Rattle.mem_blocks.specs.Web.{Block, block, worded, linked, homed, gone, with_word, with_next, with_home, without, word_of, Home, Lives}
 use Rattle.shared_chain.specs.Spots.{spot}
 use Rattle.shared_chain.specs.ChainCalls.{OutChain}
 use Rattle.shared_chain.specs.Rule.{home_of, plain_state, lead_of, BlockIs, IsThere, IsUsed, Codes}
 
 used_before : (u : Use) → IsUsed (lost_of u) → IsUsed u
-used_before Unused h = h
 used_before (Spare who) h = tt
 used_before (Chained b) h = tt
-used_before Lost h = h
+used_before u h = h
 
 module _ {A : Type 0} where
   -- the block k with another word i, and every other block
@@ -114,12 +110,11 @@ module _ {A : Type 0} where
 
   -- a block that a reply gives up is a spare, or left the web before
   pub codes_left : (tail_end head_end : Ptr) (c : Chain A) (out : ℕ → Bool) (bs : List (Block A)) (n : Next ℕ) → Codes tail_end head_end (record { chain = c; out = out }) bs → Codes tail_end head_end (record { chain = left_by c n; out = out }) bs
-  codes_left tail_end head_end c out bs (next.Step l t o) codes = codes
-  codes_left tail_end head_end c out bs (next.Reply x None) codes = codes
-  codes_left tail_end head_end c out bs (next.Reply x (Some f)) codes =
+  codes_left tail_end head_end c out bs (Next.Reply x (Some f)) codes =
       codes_renamed tail_end head_end (record { chain = c; out = out }) f (lost_of (c.uses f)) bs codes
       (λ g used. codes.tested g (put_ok c.uses f g (lost_of (c.uses f)) (λ j u. IsUsed u → IsUsed (c.uses j)) (used_before (c.uses f)) (λ ne h. h) used))
       (codes.fresh.0, λ g le. put_ok c.uses f g (lost_of (c.uses f)) (λ j u. c.uses j ≡ Unused → u ≡ Unused) (λ e. ap lost_of e) (λ ne e. e) (codes.fresh.1 g le))
+  codes_left tail_end head_end c out bs n codes = codes
 
   -- the block b of the chain, which is not given up
   pub alive_is : (tail_end head_end : Ptr) (g : OutChain A) (bs : List (Block A)) (b : ℕ) → Codes tail_end head_end g bs → b < g.chain.blocks → g.chain.walks b ≢ GivenUp

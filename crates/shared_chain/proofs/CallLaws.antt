@@ -1,16 +1,6 @@
 -- What a shared chain owes of its calls: no step of another party takes away what a call knows, and where each call begins.
 use Rattle.std.proofs.Common.{ℕ, ◌%◌, ◌≡◌, ◌≢◌, ◌∙◌, inl, inr, true, false, List, [], ◌∷◌, Option, Some, None, refl, sym, ap}
-use Rattle.queue_steps.specs.declared.sizes.TheConstants.{BLOCK_SLOTS}
-use Rattle.queue_steps.specs.declared.model.Call.{Call}
-use Rattle.queue_steps.specs.declared.model.Call.TheVariants as call
-use Rattle.queue_steps.specs.declared.model.Effect.{Effect}
-use Rattle.queue_steps.specs.declared.model.Reply.TheVariants as reply
-use Rattle.queue_steps.specs.declared.steps.types.Kind.TheVariants as queue
-use Rattle.queue_steps.specs.declared.steps.types.Local.{Local}
-use Rattle.queue_steps.specs.declared.steps.types.Local.TheVariants as local
-use Rattle.queue_steps.specs.declared.steps.types.Op.{Op}
-use Rattle.queue_steps.specs.declared.steps.types.Op.TheVariants as op
-use Rattle.queue_steps.specs.declared.steps.types.Touch.{Touch}
+use Rattle.law_common.specs.Vocabulary.{Call, Reply, Effect, Kind, Op, Touch, Local, BLOCK_SLOTS}
 use Rattle.queue_steps.specs.declared.steps.unbounded.UnboundedLocal.TheVariants as chain
 use Rattle.queue_steps.specs.State.{State}
 use Rattle.queue_steps.specs.ChainWords.{offset_at, offset_of}
@@ -18,10 +8,10 @@ use Rattle.law_common.specs.Effects.{IsBetween}
 use Rattle.law_common.proofs.Tails.{position_tail}
 use Rattle.law_chain.specs.ChainFacts.{place, open_tail_of}
 use Rattle.law_chain.proofs.ChainPlaces.{place_offset}
-use Rattle.law_chain.specs.ChainCells.{Wrote, Reader, Unread, Reading, Done, Chain, Part, Write, Read, Holds, Nothing, writer_of, reader_of}
+use Rattle.law_chain.specs.ChainCells.{Wrote, Reader, Reading, Chain, Part, Write, Read, Holds, Nothing, writer_of, reader_of}
 use Rattle.law_chain.proofs.ChainFacts.{holds_stays}
 use Rattle.law_chain.proofs.ChainAnswers.{head_offset}
-use Rattle.law_chain.specs.ChainAt.{Only, At, push_tail, push_block, asking, installing, showing, claiming, laying, opening, chaining, writing, spending, pop_head, pop_block, pop_tail, taking, following, peeking, passing, entering, awaiting, reading, beginning, walking, destroying, len_tail, len_head, len_again, empty_head, empty_tail, closing, closed_tail}
+use Rattle.law_chain.specs.ChainAt.{Only, At, push_tail, writing, reading, beginning}
 use Rattle.law_chain.proofs.ChainAt.{at_stays}
 use Rattle.law_chain.specs.ChainPasses.{spare_in}
 use Rattle.law_chain.proofs.ChainGiven.{spares_stay}
@@ -30,9 +20,8 @@ use Rattle.shared_parties.specs.Calling.{CallLaws, HasTouched, first_of, Opens}
 use Rattle.shared_chain.specs.ChainCalls.{OutChain, HasOut, Out, ChainLent, ChainIdle, SlotsAs, PassesOut, chain_calls}
 
 pub reader_is : (r : Reader) (j : ℕ) → reader_of r ≡ Some j → r ≡ Reading j
-reader_is Unread j e = cc
 reader_is (Reading p) j e = ap (λ i. Reading i) (cc)
-reader_is Done j e = cc
+reader_is r j e = cc
 
 pub tail_offset : (n : ℕ) → offset_of (open_tail_of n) ≡ n % BLOCK_SLOTS
 tail_offset n = ap offset_at (position_tail (place n) false) ∙ place_offset n
@@ -44,7 +33,7 @@ part_item _ = 0
 
 -- every operation but the question for a block is on a block of the web
 abbrev pub OnBlocks : Op ℕ → Type 0
-OnBlocks op.Ask = ⊥
+OnBlocks Op.Ask = ⊥
 OnBlocks _ = Unit {0}
 
 module _ {T : Type 0} where
@@ -85,36 +74,7 @@ module _ {T : Type 0} where
   -- a chain has no displacement
   no_front : {c : Chain T} {j : ℕ} {ms : List (State T)} {l : Local ℕ} {t : Touch} {o : Op ℕ} {v : Option T} {k : Call T} {es : List (Effect T)} → At c j ms l t o v k es → IsBetween es → ⊥
   no_front (push_tail d v spare a b) h = h
-  no_front (push_block d v spare q a b e) h = h
-  no_front (asking d v q block a b e) h = h
-  no_front (installing d v f a b e) h = h
-  no_front (showing d v name a b e f) h = h
-  no_front (claiming d v q name spare a b e f i) h = h
-  no_front (laying d v n name f a b e i) h = h
-  no_front (opening d v n name f a b e i k) h = h
-  no_front (chaining d v n name f a b e i) h = h
-  no_front (writing d v n name spare a b e) h = h
-  no_front (spending d v spare a b e) h = h
-  no_front (pop_head a) h = h
-  no_front (pop_block n more a b e) h = h
-  no_front (pop_tail n block a b e) h = h
-  no_front (taking n name after more new a b e f i k) h = h
-  no_front (following x n name more a b e) h = h
-  no_front (peeking x n name after more a b e f) h = h
-  no_front (passing x n name after more further a b e f i) h = h
-  no_front (entering x n name more further a b e f) h = h
-  no_front (awaiting x n name more a b) h = h
-  no_front (reading x n name more a b e f) h = h
-  no_front (beginning x n name more a b e f) h = h
-  no_front (walking x b name slot a e f) h = h
-  no_front (destroying x b name slot a e f) h = h
-  no_front (len_tail a) h = h
-  no_front (len_head t a b e) h = h
-  no_front (len_again t w a b e) h = h
-  no_front (empty_head a) h = h
-  no_front (empty_tail w a b e) h = h
-  no_front (closing a) h = h
-  no_front (closed_tail a) h = h
+  no_front x h = h
 
   -- the one slot of a party that holds this writer's part, or this reader's, alone
   pub of_writer : (g : OutChain T) (j n : ℕ) (xs : List (ℕ × Option T)) → Holds g.chain j (Only (Write n)) → writer_of (g.chain.writers n) ≡ Some j → ChainLent g j xs → xs ≡ (n % BLOCK_SLOTS, None) ∷ []
@@ -139,34 +99,7 @@ module _ {T : Type 0} where
       (None, of_writer g j n xs holds w lent ∙ ap (λ z. (z, None) ∷ []) (sym (tail_offset n) ∙ at))
   touches_own g j xs (reading x n name more holds got wrote inner) slots lent = λ i at. (Some x, of_reader g j n x xs holds got.mine (slots n got.mine) wrote lent ∙ ap (λ z. (z, Some x) ∷ []) (sym (head_offset n more) ∙ at))
   touches_own g j xs (beginning x n name more holds got wrote last) slots lent = λ i at. (Some x, of_reader g j n x xs holds got.mine (slots n got.mine) wrote lent ∙ ap (λ z. (z, Some x) ∷ []) (sym (head_offset n more) ∙ at))
-  touches_own g j xs (push_tail d v spare a b) slots lent = λ i at. absurd at
-  touches_own g j xs (push_block d v spare q a b e) slots lent = λ i at. absurd at
-  touches_own g j xs (asking d v q block a b e) slots lent = λ i at. absurd at
-  touches_own g j xs (installing d v f a b e) slots lent = λ i at. absurd at
-  touches_own g j xs (showing d v name a b e f) slots lent = λ i at. absurd at
-  touches_own g j xs (claiming d v q name spare a b e f h) slots lent = λ i at. absurd at
-  touches_own g j xs (laying d v n name f a b e h) slots lent = λ i at. absurd at
-  touches_own g j xs (opening d v n name f a b e h k) slots lent = λ i at. absurd at
-  touches_own g j xs (chaining d v n name f a b e h) slots lent = λ i at. absurd at
-  touches_own g j xs (spending d v spare a b e) slots lent = λ i at. absurd at
-  touches_own g j xs (pop_head a) slots lent = λ i at. absurd at
-  touches_own g j xs (pop_block n more a b e) slots lent = λ i at. absurd at
-  touches_own g j xs (pop_tail n block a b e) slots lent = λ i at. absurd at
-  touches_own g j xs (taking n name after more new a b e f h k) slots lent = λ i at. absurd at
-  touches_own g j xs (following x n name more a b e) slots lent = λ i at. absurd at
-  touches_own g j xs (peeking x n name after more a b e f) slots lent = λ i at. absurd at
-  touches_own g j xs (passing x n name after more further a b e f h) slots lent = λ i at. absurd at
-  touches_own g j xs (entering x n name more further a b e f) slots lent = λ i at. absurd at
-  touches_own g j xs (awaiting x n name more a b) slots lent = λ i at. absurd at
-  touches_own g j xs (walking x b name slot a e f) slots lent = λ i at. absurd at
-  touches_own g j xs (destroying x b name slot a e f) slots lent = λ i at. absurd at
-  touches_own g j xs (len_tail a) slots lent = λ i at. absurd at
-  touches_own g j xs (len_head w a b e) slots lent = λ i at. absurd at
-  touches_own g j xs (len_again w z a b e) slots lent = λ i at. absurd at
-  touches_own g j xs (empty_head a) slots lent = λ i at. absurd at
-  touches_own g j xs (empty_tail w a b e) slots lent = λ i at. absurd at
-  touches_own g j xs (closing a) slots lent = λ i at. absurd at
-  touches_own g j xs (closed_tail a) slots lent = λ i at. absurd at
+  touches_own g j xs x slots lent = λ i at. absurd at
 
   pub chain_call_laws : CallLaws {T = T} chain_calls
   chain_call_laws = record {
@@ -183,13 +116,7 @@ module _ {T : Type 0} where
   no_slots : (g : OutChain T) (j : ℕ) (l : Local ℕ) → ChainIdle g j → SlotsAs g j l
   no_slots g j l idle n e = absurd (idle.0 (Read n) (ap reader_of e))
 
-  pub chain_opens : (c : Call T) → Opens {T = T} chain_calls OnBlocks c (first_of queue.Unbounded c)
-  chain_opens (call.Push v) = (refl, tt, λ g j idle. (at_begun g.chain j [] (call.Push v) idle.0, idle.1, no_slots g j (local.Unbounded chain.PopHead) idle))
-  chain_opens (call.ForcePush v) = (refl, tt, λ g j idle. (at_begun g.chain j [] (call.ForcePush v) idle.0, idle.1, no_slots g j (local.Unbounded chain.PopHead) idle))
-  chain_opens call.Pop = (refl, tt, λ g j idle. (at_begun g.chain j [] call.Pop idle.0, idle.1, no_slots g j (local.Unbounded chain.PopHead) idle))
-  chain_opens call.Close = (refl, tt, λ g j idle. (at_begun g.chain j [] call.Close idle.0, idle.1, no_slots g j (local.Unbounded chain.PopHead) idle))
-  chain_opens call.IsClosed = (refl, tt, λ g j idle. (at_begun g.chain j [] call.IsClosed idle.0, idle.1, no_slots g j (local.Unbounded chain.PopHead) idle))
-  chain_opens call.IsEmpty = (refl, tt, λ g j idle. (at_begun g.chain j [] call.IsEmpty idle.0, idle.1, no_slots g j (local.Unbounded chain.PopHead) idle))
-  chain_opens call.IsFull = (refl, (reply.IsFull false, refl, refl, λ m open_ended. rw open_ended refl))
-  chain_opens call.Len = (refl, tt, λ g j idle. (at_begun g.chain j [] call.Len idle.0, idle.1, no_slots g j (local.Unbounded chain.PopHead) idle))
-  chain_opens call.Capacity = (refl, (reply.Capacity None, refl, refl, λ m open_ended. sym open_ended))
+  pub chain_opens : (c : Call T) → Opens {T = T} chain_calls OnBlocks c (first_of Kind.Unbounded c)
+  chain_opens Call.IsFull = (refl, (Reply.IsFull false, refl, refl, λ m open_ended. rw open_ended refl))
+  chain_opens Call.Capacity = (refl, (Reply.Capacity None, refl, refl, λ m open_ended. sym open_ended))
+  chain_opens c = (refl, tt, λ g j idle. (at_begun g.chain j [] c idle.0, idle.1, no_slots g j (Local.Unbounded chain.PopHead) idle))

@@ -3,20 +3,11 @@ use Rattle.std.proofs.Common.{ℕ, ◌+◌, ◌/◌, ◌%◌, ◌<◌, ◌≤◌
 use Rattle.std.proofs.lemmas.Bool.Decides.{eqb_tells}
 use denote.RawPtr.{Ptr}
 use mathlib.Core.Option.{some}
-use Rattle.queue_steps.specs.declared.sizes.TheConstants.{BLOCK_SLOTS}
+use Rattle.law_common.specs.Vocabulary.{Word, Op, Touch, Answer, Local, Next, PushKind, BLOCK_SLOTS, TAIL_STEP}
 use Rattle.queue_steps.specs.State.{State}
 use Rattle.queue_steps.specs.Words.{tail_of}
 use Rattle.queue_steps.specs.ChainWords.{offset_of}
 use Rattle.queue_steps.specs.UnboundedNext.{unbounded_next, chain_tail_found, lays, writes}
-use Rattle.queue_steps.specs.declared.steps.bounded.PushKind.{PushKind}
-use Rattle.queue_steps.specs.declared.steps.bounded.TheConstants.{TAIL_STEP}
-use Rattle.queue_steps.specs.declared.steps.types.Answer.TheVariants as answer
-use Rattle.queue_steps.specs.declared.steps.types.Local.TheVariants as local
-use Rattle.queue_steps.specs.declared.steps.types.Next.{Next}
-use Rattle.queue_steps.specs.declared.steps.types.Next.TheVariants as next
-use Rattle.queue_steps.specs.declared.steps.types.Op.TheVariants as op
-use Rattle.queue_steps.specs.declared.steps.types.Touch.TheVariants as touch
-use Rattle.queue_steps.specs.declared.steps.types.Word.TheVariants as word
 use Rattle.queue_steps.specs.declared.steps.unbounded.UnboundedLocal.TheVariants as chain
 use Rattle.law_common.specs.Puts.{put}
 use Rattle.law_common.proofs.Puts.{put_ok, put_same, put_other}
@@ -52,8 +43,8 @@ claimed_word who n p (inr (is, last)) = subst (λ x. open_tail_of n + TAIL_STEP 
 
 -- the call goes on with this block, of which it has a slot, and with this spare
 abbrev HoldsOn : ℕ → Option ℕ → Next ℕ → Type 0
-HoldsOn name spare (next.Step l t o) = (has_slot l ≡ false) × (spare_in l ≡ spare) × (slot_block l o ≡ name)
-HoldsOn name spare (next.Reply x s) = ⊥
+HoldsOn name spare (Next.Step l t o) = (has_slot l ≡ false) × (spare_in l ≡ spare) × (slot_block l o ≡ name)
+HoldsOn name spare (Next.Reply x s) = ⊥
 
 lays_on : (d : PushKind) (tail name : ℕ) (spare : Option ℕ) → HoldsOn name spare (lays d tail name spare)
 lays_on d tail name None = (refl, refl, refl)
@@ -115,7 +106,7 @@ module _ {A : Type 0} (te he : Ptr) (g : OutChain A) (who : ℕ) (bs : List (Blo
     pub step_claiming : (d : PushKind) (v : A) (q name : ℕ) (spare : Option ℕ) (none : Holds g.chain who Nothing) (spare_is : HasSpare g.chain who spare) (saw : SawTail g.chain q ms) (found : TailBlockIs g.chain q name)
         (enough : IsLast q → IsSome spare)
         → ChainOk g.chain → Codes te he g bs → (xs : List (ℕ × Option A)) → ChainLent g who xs
-        → HoldsBy (local.Unbounded (chain.Claiming d (open_tail_of q) name spare)) (op.Exchange word.Tail (open_tail_of q) (open_tail_of q + TAIL_STEP)) xs m
+        → HoldsBy (Local.Unbounded (chain.Claiming d (open_tail_of q) name spare)) (Op.Exchange Word.Tail (open_tail_of q) (open_tail_of q + TAIL_STEP)) xs m
         → BlockStep te he g who bs m {ms = ms} (claiming d v q name spare none spare_is saw found enough)
     step_claiming d v q name spare none spare_is saw found enough ok codes xs lent held = elim (eqb_tells (word_of bs 0 TAIL) (open_tail_of q)) [
       | inl e ↦ elim (eqb_tells (offset_of (open_tail_of q) + 1) BLOCK_SLOTS) [
@@ -126,23 +117,23 @@ module _ {A : Type 0} (te he : Ptr) (g : OutChain A) (who : ℕ) (bs : List (Blo
           codes none (tail_spare d (word_of bs 0 TAIL) spare) empty
     ]
       where
-        here : At g.chain who ms (local.Unbounded (chain.Claiming d (open_tail_of q) name spare)) touch.Nothing (op.Exchange word.Tail (open_tail_of q) (open_tail_of q + TAIL_STEP)) (Some v) (pushes d v) []
+        here : At g.chain who ms (Local.Unbounded (chain.Claiming d (open_tail_of q) name spare)) Touch.Nothing (Op.Exchange Word.Tail (open_tail_of q) (open_tail_of q + TAIL_STEP)) (Some v) (pushes d v) []
         here = claiming d v q name spare none spare_is saw found enough
 
-        answers : Answers g.chain (op.Exchange word.Tail (open_tail_of q) (open_tail_of q + TAIL_STEP)) (answer.Found (word_of bs 0 TAIL))
-        answers = ap (λ w. answer.Found w) codes.tail_is
+        answers : Answers g.chain (Op.Exchange Word.Tail (open_tail_of q) (open_tail_of q + TAIL_STEP)) (Answer.Found (word_of bs 0 TAIL))
+        answers = ap (λ w. Answer.Found w) codes.tail_is
 
         same_bit : (b : Bool) → (word_of bs 0 TAIL == open_tail_of q) ≡ b → (tail_word g.chain == open_tail_of q) ≡ b
         same_bit b e = ap (λ w. w == open_tail_of q) (sym codes.tail_is) ∙ e
 
         empty : (m.hand ≡ None) × (m.spare ≡ carried_by spare)
-        empty = none_held g who (local.Unbounded (chain.Claiming d (open_tail_of q) name spare)) (op.Exchange word.Tail (open_tail_of q) (open_tail_of q + TAIL_STEP)) xs m none lent held
+        empty = none_held g who (Local.Unbounded (chain.Claiming d (open_tail_of q) name spare)) (Op.Exchange Word.Tail (open_tail_of q) (open_tail_of q + TAIL_STEP)) xs m none lent held
 
         won : (word_of bs 0 TAIL == open_tail_of q) ≡ true → word_of bs 0 TAIL ≡ open_tail_of q → (p : Mover) → Moves_on who q p → if_claimed g.chain who q v ≡ appended g.chain who v p
-            → (n : Next ℕ) → unbounded_next (chain.Claiming d (open_tail_of q) name spare) (answer.Found (word_of bs 0 TAIL)) ≡ n → HoldsOn name spare n → BlockStep te he g who bs m here
-        won bit e p moves claimed_is (next.Reply y s) goes on = absurd on
-        won bit e p moves claimed_is (next.Step l t o) goes on =
-            step_by te he g who bs m here 0 codes.tail (λ z. refl) tt answers ws (rw bit refl) (appended g.chain who v p) claimed_is (next.Step l t o) goes
+            → (n : Next ℕ) → unbounded_next (chain.Claiming d (open_tail_of q) name spare) (Answer.Found (word_of bs 0 TAIL)) ≡ n → HoldsOn name spare n → BlockStep te he g who bs m here
+        won bit e p moves claimed_is (Next.Reply y s) goes on = absurd on
+        won bit e p moves claimed_is (Next.Step l t o) goes on =
+            step_by te he g who bs m here 0 codes.tail (λ z. refl) tt answers ws (rw bit refl) (appended g.chain who v p) claimed_is (Next.Step l t o) goes
             g.out (takes (b + 2) i None ∷ []) ((lives.0, rests), tt) (codes_claimed v p b i new at low free named.0 word_is codes) (λ j ne n z. refl)
             (λ n z. absurd (none (Read n) (ap reader_of z))) ((i, None) ∷ []) (inr (q, None, inl (mine, refl), refl)) (ap (λ (z : Ptr). Some (z, i, None)) lies, empty.1 ∙ ap carried_by (sym on.1))
           where

@@ -4,8 +4,7 @@ use Rattle.std.proofs.lemmas.List.{get_or-drop, length-drop}
 use mathlib.Core.Option.{some, some-injective}
 use lib.ListN.{get_elem?}
 use denote.RawPtr.{Ptr, null_ptr, InBlock}
-use Rattle.queue_steps.specs.declared.sizes.TheConstants.{BLOCK_SLOTS}
-use Rattle.queue_steps.specs.declared.steps.unbounded.TheConstants.{WRITE}
+use Rattle.law_common.specs.Vocabulary.{BLOCK_SLOTS, WRITE}
 use Rattle.law_chain.specs.ChainCells.{Before, GivenUp, Chain, ChainOk, item_at}
 use Rattle.law_chain.specs.ChainAnswers.{linked_of}
 use Rattle.mem_blocks.specs.Web.{Block, Home, Content, block}
@@ -39,8 +38,6 @@ content_at (x ∷ hs) (suc i) h e = content_at hs i h e
 pub items_are : {A : Type 0} (pieces : List (Piece A)) (base k n : ℕ) (items : List A) → length items ≡ k
     → ((i : ℕ) → i < k → (v : A) × ((cell_of pieces base (n + i)).1 ≡ Some v) × (slice_get items i ≡ Some v)) → items_from pieces base n k ≡ items
 items_are pieces base zero n [] long at = refl
-items_are pieces base zero n (x ∷ items) long at = absurd (omega (arith, long))
-items_are pieces base (suc k) n [] long at = absurd (omega (arith, long))
 items_are pieces base (suc k) n (x ∷ items) long at =
     let first = at 0 (omega arith) in
     let here : n + 0 ≡ n = omega arith in
@@ -51,6 +48,7 @@ items_are pieces base (suc k) n (x ∷ items) long at =
     let next : n + 1 + i ≡ n + suc i = omega arith in
     (a.0, ap (λ q. (cell_of pieces base q).1) next ∙ a.1, a.2)) in
     ap (λ o. put_in o (items_from pieces base (n + 1) k)) item ∙ ap (λ l. x ∷ l) behind
+items_are pieces base k n items long at = absurd (omega (arith, long))
 
 pub lead_named : {A : Type 0} (k : ℕ) (o : Option (BlockPtr A)) (f : ℕ) → LeadsTo o (spot f) → named_by k o ≡ Some (name_at k (spot f))
 lead_named k None f e = absurd (subst InBlock e tt)

@@ -1,14 +1,14 @@
 -- What is left of a shared chain that its only party ended is a chain with one owner, in the state after the history.
 use Rattle.std.proofs.Common.{◌≡◌, ◌⊎◌, ◌∙◌, inl, inr, ℕ, suc, ◌+◌, ◌-◌, ◌*◌, ◌/◌, ◌%◌, ◌<◌, ◌≤◌, ◌==◌, Bool, true, List, [], ◌∷◌, length, slice_get, Option, Some, None, refl, sym, ap, subst, arith}
 use denote.RawPtr.{Ptr}
-use Rattle.queue_steps.specs.declared.sizes.TheConstants.{BLOCK_SLOTS}
+use Rattle.law_common.specs.Vocabulary.{BLOCK_SLOTS}
 use Rattle.queue_steps.specs.Legal.{IsShown}
 use Rattle.queue_steps.specs.Words.{is_shut, tail_of}
 use Rattle.queue_steps.specs.ChainWords.{offset_at, offset_of}
 use Rattle.law_common.proofs.Tails.{position_tail, shut_tail}
 use Rattle.law_chain.specs.ChainFacts.{place}
 use Rattle.law_chain.proofs.ChainPlaces.{place_offset}
-use Rattle.law_chain.specs.ChainCells.{Shown, Hidden, Showing, Seen, Passer, Chain, queue_of, ChainOk, ShownOk}
+use Rattle.law_chain.specs.ChainCells.{Shown, Seen, Passer, Chain, queue_of, ChainOk, ShownOk}
 use Rattle.law_chain.specs.ChainAnswers.{tail_word, head_word, last_of, shown_of}
 use Rattle.law_chain.proofs.ChainAnswers.{tail_items, head_items, resting_word, standing_word}
 use Rattle.mem_blocks.specs.Web.{Block, block, word_of}
@@ -31,9 +31,8 @@ nil_if (x ∷ xs) e = absurd (omega (arith, e))
 
 -- without blocks the poppers see none
 none_shown : (blocks head front : ℕ) (known : Bool) (passer : Passer) (s : Shown) (name : ℕ) → blocks ≡ 0 → ShownOk blocks head front known passer s → shown_of s name ≡ None
-none_shown blocks head front known passer Hidden name none ok = refl
-none_shown blocks head front known passer (Showing who) name none ok = refl
 none_shown blocks head front known passer Seen name none ok = absurd (omega arith)
+none_shown blocks head front known passer s name none ok = refl
 
 -- a head at rest tells its front
 word_rests : (n : ℕ) (more : Bool) → offset_of (tail_of (place n) more) < BLOCK_SLOTS

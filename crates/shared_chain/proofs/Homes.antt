@@ -6,8 +6,8 @@ use mathlib.Core.Option as maybe
 use lib.ListN.{get_elem?}
 use denote.RawPtr.{Ptr}
 use Rattle.atomic_table.proofs.Lists.{set_here, set_else}
-use Rattle.queue_steps.specs.declared.sizes.TheConstants.{BLOCK_SLOTS}
-use Rattle.law_chain.specs.ChainCells.{Writer, Free, Writing, Wrote, Reader, Done, Walk, Before, GivenUp, Chain, ChainOk, ItemOk, WalkOk, IsWalked, item_at, LAST}
+use Rattle.law_common.specs.Vocabulary.{BLOCK_SLOTS}
+use Rattle.law_chain.specs.ChainCells.{Writer, Writing, Reader, Done, Walk, Before, GivenUp, Chain, ChainOk, ItemOk, WalkOk, IsWalked, item_at, LAST}
 use Rattle.law_chain.specs.ChainAnswers.{waits_at, is_wrote, is_done, IsState}
 use Rattle.mem_blocks.specs.Web.{Block, Home, block, worded, homed, gone, with_word, with_home, without, word_of, vacant, AllVacant}
 use Rattle.shared_chain.specs.ChainCalls.{OutChain}
@@ -211,9 +211,8 @@ module _ {A : Type 0} where
 
   -- the slot of an item that is read is empty
   read_vacant : (head tail : ℕ) (items : List A) (n : ℕ) (w : Writer A) (b : Bool) → ItemOk head tail items n w Done → home_of w Done b ≡ vacant
-  read_vacant head tail items n Free b ok = refl
   read_vacant head tail items n (Writing p v) b ok = absurd ok
-  read_vacant head tail items n (Wrote v) b ok = refl
+  read_vacant head tail items n w b ok = refl
 
   pub read_home : (c : Chain A) (n : ℕ) (b : Bool) → ChainOk c → c.readers n ≡ Done → home_of (c.writers n) Done b ≡ vacant
   read_home c n b ok read = read_vacant c.head c.tail c.items n (c.writers n) b (subst (λ r. ItemOk c.head c.tail c.items n (c.writers n) r) read (ok.item n))

@@ -5,22 +5,14 @@ use Rattle.std.proofs.lemmas.List.{get_or_append_left, get_or_push, length_push,
 use Rattle.atomic_table.proofs.Lists.{at_index}
 use mathlib.Core.Option.{some}
 use denote.RawPtr.{Ptr, Testable}
-use Rattle.queue_steps.specs.declared.sizes.TheConstants.{BLOCK_SLOTS}
-use Rattle.queue_steps.specs.declared.steps.types.Answer.TheVariants as answer
-use Rattle.queue_steps.specs.declared.steps.types.Link.TheVariants as link
-use Rattle.queue_steps.specs.declared.steps.types.Local.TheVariants as local
-use Rattle.queue_steps.specs.declared.steps.types.Op.TheVariants as op
-use Rattle.queue_steps.specs.declared.steps.types.Touch.TheVariants as touch
-use Rattle.queue_steps.specs.declared.steps.types.Word.TheVariants as word
-use Rattle.queue_steps.specs.declared.steps.bounded.TheConstants.{TAIL_STEP}
-use Rattle.queue_steps.specs.declared.steps.bounded.PushKind.{PushKind}
+use Rattle.law_common.specs.Vocabulary.{Word, Link, Op, Touch, Answer, Local, PushKind, BLOCK_SLOTS, TAIL_STEP}
 use Rattle.queue_steps.specs.declared.steps.unbounded.UnboundedLocal.TheVariants as chain
 use Rattle.queue_steps.specs.Words.{tail_of}
 use Rattle.queue_steps.specs.State.{State}
 use Rattle.queue_steps.specs.UnboundedNext.{unbounded_next}
 use Rattle.law_common.specs.Puts.{put}
 use Rattle.law_common.proofs.Puts.{put_ok, put_same, put_other}
-use Rattle.law_chain.specs.ChainCells.{Free, Unread, Done, Mover, Laying, Opening, Passer, LinkState, Unlinked, Linking, Linked, Shown, Hidden, Showing, Seen, Walk, Before, Walker, Waits, GivenUp, Unused, Spare, Chained, Chain, BlocksOk, LinkOk, ShownOk, WalkOk, item_at, LAST, ChainOk, Write, Tail, Holds, Nothing}
+use Rattle.law_chain.specs.ChainCells.{Free, Unread, Done, Mover, Laying, Opening, Passer, LinkState, Linking, Linked, Shown, Showing, Seen, Walk, Before, GivenUp, Unused, Spare, Chained, Chain, BlocksOk, LinkOk, ShownOk, WalkOk, item_at, LAST, ChainOk, Write, Tail, Holds, Nothing}
 use Rattle.law_chain.specs.ChainTransitions as moves
 use Rattle.law_chain.proofs.ChainTransitions.{item_free, no_block, no_front}
 use Rattle.law_chain.specs.ChainFacts.{open_tail_of, SawTail, Claimed}
@@ -42,15 +34,13 @@ grown c f ls mv sh = record c { blocks = c.blocks + 1; names = put c.names c.blo
 
 -- the last block leads nowhere
 last_leads : (blocks b name : ℕ) (l : LinkState) → blocks ≤ b + 1 → LinkOk blocks b l → linked_of l name ≡ None
-last_leads blocks b name Unlinked high h = refl
-last_leads blocks b name (Linking who) high h = refl
 last_leads blocks b name Linked high h = absurd (omega arith)
+last_leads blocks b name l high h = refl
 
 -- the poppers see the same block, where another one gets a name
 shown_same : (blocks head front : ℕ) (known : Bool) (passer : Passer) (names : ℕ → ℕ) (f : ℕ) (s : Shown) → ShownOk blocks head front known passer s → shown_of s (put names blocks f front) ≡ shown_of s (names front)
-shown_same blocks head front known passer names f Hidden h = refl
-shown_same blocks head front known passer names f (Showing who) h = refl
 shown_same blocks head front known passer names f Seen h = ap (λ x. Some x) (put_other names blocks front f (λ e. omega arith))
+shown_same blocks head front known passer names f s h = refl
 
 module _ {A : Type 0} where
   -- the walk over a block has not begun where no item of it was accepted
@@ -62,9 +52,8 @@ module _ {A : Type 0} where
 
       go : (w : Walk) → c.walks b ≡ w → WalkOk c.readers b w → c.walks b ≡ Before
       go Before is h = is
-      go (Walker who slot) is h = absurd (unread h.1.0)
-      go (Waits slot) is h = absurd (unread h.1.0)
       go GivenUp is h = absurd (unread h.0)
+      go w is h = absurd (unread h.1.0)
 
   -- a block as it was granted stands for one without items
   fresh_there : (r : OutChain A) (b f : ℕ) → r.chain.names b ≡ f → ((i : ℕ) → (r.chain.writers (item_at b i) ≡ Free) × (r.chain.readers (item_at b i) ≡ Unread)) → r.chain.walks b ≡ Before
@@ -155,15 +144,15 @@ module _ {A : Type 0} where
 
     -- the install of the first block: where another was there before, this one is kept
     pub step_installing : (g : OutChain A) (who : ℕ) (bs : List (Block A)) (m : Sitter A (CallState A)) (ms : List (State A)) (d : PushKind) (v : A) (f : ℕ) (none : Holds g.chain who Nothing) (saw : SawTail g.chain 0 ms) (mine : g.chain.uses f ≡ Spare who)
-        → ChainOk g.chain → Codes tail_end head_end g bs → SlotsAs g who (local.Unbounded (chain.Installing d (open_tail_of 0) f)) → (xs : List (ℕ × Option A)) → ChainLent g who xs
-        → HoldsBy (local.Unbounded (chain.Installing d (open_tail_of 0) f)) (op.Install f) xs m → BlockStep tail_end head_end g who bs m {ms = ms} (installing d v f none saw mine)
+        → ChainOk g.chain → Codes tail_end head_end g bs → SlotsAs g who (Local.Unbounded (chain.Installing d (open_tail_of 0) f)) → (xs : List (ℕ × Option A)) → ChainLent g who xs
+        → HoldsBy (Local.Unbounded (chain.Installing d (open_tail_of 0) f)) (Op.Install f) xs m → BlockStep tail_end head_end g who bs m {ms = ms} (installing d v f none saw mine)
     step_installing g who bs m ms d v f none saw mine ok codes slots xs lent holds =
         let s = go g.chain.blocks refl in step_by tail_end head_end g who bs m (installing d v f none saw mine) 0 codes.tail (λ e. refl) codes.last_is refl s.0 s.1 s.2
       where
         Installs : ℕ → Type 0
-        Installs n = (acts : List (Act A)) × Mays (blocks_made (op.Install f) 0 bs) m acts
-            × Leaves tail_end head_end (record { chain = if_installed g.chain who f n; out = g.out }) who (blocks_after (blocks_made (op.Install f) 0 bs) acts) (sitter_after (blocks_made (op.Install f) 0 bs) m acts)
-            (unbounded_next (chain.Installing d (open_tail_of 0) f) (answer.Linked (last_of g.chain.names n)))
+        Installs n = (acts : List (Act A)) × Mays (blocks_made (Op.Install f) 0 bs) m acts
+            × Leaves tail_end head_end (record { chain = if_installed g.chain who f n; out = g.out }) who (blocks_after (blocks_made (Op.Install f) 0 bs) acts) (sitter_after (blocks_made (Op.Install f) 0 bs) m acts)
+            (unbounded_next (chain.Installing d (open_tail_of 0) f) (Answer.Linked (last_of g.chain.names n)))
 
         leads : (n : ℕ) → g.chain.blocks ≡ n → (block bs 0).next ≡ lead_of (last_of g.chain.names n)
         leads n e = codes.last_is ∙ ap (λ i. lead_of (last_of g.chain.names i)) e
@@ -176,29 +165,29 @@ module _ {A : Type 0} where
             (λ b lt. refl) (λ b name high. last_leads g.chain.blocks b name (g.chain.links b) high (ok.link b)) codes in (
               lays (fresh_at (spot f)) ∷ [],
               (holds.1, tt),
-              goes_on tail_end head_end (record { chain = moves.installed g.chain who f; out = g.out }) who (blocks_made (op.Install f) 0 bs ++ fresh_at (spot f) ∷ []) (sitter_after (blocks_made (op.Install f) 0 bs) m (lays (fresh_at (spot f)) ∷ []))
-                  (local.Unbounded (chain.Showing d (open_tail_of 0) f)) touch.Nothing (op.StoreLink link.HeadBlock f) xs
+              goes_on tail_end head_end (record { chain = moves.installed g.chain who f; out = g.out }) who (blocks_made (Op.Install f) 0 bs ++ fresh_at (spot f) ∷ []) (sitter_after (blocks_made (Op.Install f) 0 bs) m (lays (fresh_at (spot f)) ∷ []))
+                  (Local.Unbounded (chain.Showing d (open_tail_of 0) f)) Touch.Nothing (Op.StoreLink Link.HeadBlock f) xs
                   (subst (λ q. Codes tail_end head_end (record { chain = moves.installed g.chain who f; out = g.out }) (with_next bs 0 (if_unset (spot f) q) ++ fresh_at (spot f) ∷ [])) (sym (leads zero e)) laid)
                   slots lent (holds.0, refl),
             )
         go (suc b) e = (
           [],
           tt,
-          goes_on tail_end head_end g who (blocks_made (op.Install f) 0 bs) m (local.Unbounded (chain.PushTail d (Some f))) touch.Nothing (op.Load word.Tail) xs (subst (λ ys. Codes tail_end head_end g ys) (sym kept) codes) slots lent holds,
+          goes_on tail_end head_end g who (blocks_made (Op.Install f) 0 bs) m (Local.Unbounded (chain.PushTail d (Some f))) Touch.Nothing (Op.Load Word.Tail) xs (subst (λ ys. Codes tail_end head_end g ys) (sym kept) codes) slots lent holds,
         )
           where
-            kept : blocks_made (op.Install f) 0 bs ≡ bs
+            kept : blocks_made (Op.Install f) 0 bs ≡ bs
             kept = ap (λ q. with_next bs 0 (if_unset (spot f) q)) (leads (suc b) e) ∙ (ap (λ q. with_next bs 0 q) (sym (leads (suc b) e)) ∙ next_same bs 0)
 
     -- the store of the link to the block that is laid behind the pushers' block
     pub step_laying : (g : OutChain A) (who : ℕ) (bs : List (Block A)) (m : Sitter A (CallState A)) (ms : List (State A)) (d : PushKind) (v : A) (n name f : ℕ) (parts : Holds g.chain who (Either (Write n) Tail)) (claims : Claimed g.chain who n v name)
         (moving : (g.chain.mover ≡ Laying who) × (g.chain.tail ≡ n + 1)) (mine : g.chain.uses f ≡ Spare who)
-        → ChainOk g.chain → Codes tail_end head_end g bs → SlotsAs g who (local.Unbounded (chain.Laying d (open_tail_of n) name f)) → (xs : List (ℕ × Option A)) → ChainLent g who xs
-        → HoldsBy (local.Unbounded (chain.Laying d (open_tail_of n) name f)) (op.StoreLink link.TailBlock f) xs m → BlockStep tail_end head_end g who bs m {ms = ms} (laying d v n name f parts claims moving mine)
+        → ChainOk g.chain → Codes tail_end head_end g bs → SlotsAs g who (Local.Unbounded (chain.Laying d (open_tail_of n) name f)) → (xs : List (ℕ × Option A)) → ChainLent g who xs
+        → HoldsBy (Local.Unbounded (chain.Laying d (open_tail_of n) name f)) (Op.StoreLink Link.TailBlock f) xs m → BlockStep tail_end head_end g who bs m {ms = ms} (laying d v n name f parts claims moving mine)
     step_laying g who bs m ms d v n name f parts claims moving mine ok codes slots xs lent holds =
         step_by tail_end head_end g who bs m (laying d v n name f parts claims moving mine) 0 codes.tail (λ e. refl) tt refl (lays (fresh_at (spot f)) ∷ []) (holds.1, tt)
         (goes_on tail_end head_end (record { chain = moves.laid_out g.chain who f; out = g.out }) who (with_next bs 0 (spot f) ++ fresh_at (spot f) ∷ []) (sitter_after (with_next bs 0 (spot f)) m (lays (fresh_at (spot f)) ∷ []))
-        (local.Unbounded (chain.Opening d (open_tail_of n) name f)) touch.Nothing (op.Add word.Tail TAIL_STEP) xs laid slots lent (holds.0, refl))
+        (Local.Unbounded (chain.Opening d (open_tail_of n) name f)) Touch.Nothing (Op.Add Word.Tail TAIL_STEP) xs laid slots lent (holds.0, refl))
       where
         full : BlocksOk g.chain.tail g.chain.blocks (Laying who)
         full = subst (λ k. BlocksOk g.chain.tail g.chain.blocks k) moving.0 ok.laid

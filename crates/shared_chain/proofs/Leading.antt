@@ -1,24 +1,13 @@
 -- The laws of a party's driver on a shared chain: what a step told leads on, and so does what a call does first.
 use Rattle.std.proofs.Common.{ℕ, ◌≡◌, ◌∙◌, false, Option, Some, None, List, [], refl, sym, ap, subst, inl, inr}
-use Rattle.queue_steps.specs.declared.model.Call.{Call}
-use Rattle.queue_steps.specs.declared.model.Call.TheVariants as call
-use Rattle.queue_steps.specs.declared.model.Reply.{Reply}
-use Rattle.queue_steps.specs.declared.model.Reply.TheVariants as reply
-use Rattle.queue_steps.specs.declared.steps.types.Answer.{Answer}
-use Rattle.queue_steps.specs.declared.steps.types.Answer.TheVariants as answer
-use Rattle.queue_steps.specs.declared.steps.types.Kind.TheVariants as queue
-use Rattle.queue_steps.specs.declared.steps.types.Local.{Local}
-use Rattle.queue_steps.specs.declared.steps.types.Next.{Next}
-use Rattle.queue_steps.specs.declared.steps.types.Next.TheVariants as next
-use Rattle.queue_steps.specs.declared.steps.types.Op.{Op}
-use Rattle.queue_steps.specs.declared.steps.types.Touch.{Touch}
-use Rattle.queue_steps.specs.declared.steps.types.Touch.TheVariants as touch
+use Rattle.law_common.specs.Vocabulary.{Call, Reply, Kind, Op, Touch, Answer, Local, Next}
 use Rattle.queue_steps.specs.Effect.{after}
 use Rattle.queue_steps.specs.Kinds.{call_kind, call_value}
 use Rattle.queue_steps.specs.Next.{CanNext, next_of, first_local}
 use Rattle.queue_steps.specs.Parties.{View, SharedCall}
 use Rattle.queue_steps.specs.Replies.{Tells, IsRightAt}
 use Rattle.queue_steps.specs.State.{State}
+use Rattle.law_common.proofs.Runs.{cap_after}
 use Rattle.law_chain.specs.ChainPasses.{spare_in}
 use Rattle.mem_blocks.specs.Web.{Sitter, sitter}
 use Rattle.mem_blocks.specs.Seats.{Sits}
@@ -33,7 +22,7 @@ use Rattle.shared_parties.specs.CallsAt.{begun_at}
 use Rattle.shared_parties.proofs.Called.{whole}
 use Rattle.shared_parties.specs.Called.{call_of_work, begun_by}
 use Rattle.shared_parties.proofs.Histories.{prefix_self}
-use Rattle.shared_parties.proofs.SharedCalls.{quiet, cap_after}
+use Rattle.shared_parties.proofs.SharedCalls.{quiet}
 use Rattle.shared_chain.specs.declared.web.ChainWeb.{ChainWeb}
 use Rattle.shared_chain.specs.Names.{link_of, name_map, local_map, op_map, next_map}
 use Rattle.shared_chain.specs.Steps.{HoldsBy, HoldsFor, MayDo, MayStep, After, carried_by}
@@ -43,26 +32,26 @@ use Rattle.shared_chain.proofs.Renamed.{can_next_map, next_of_map}
 
 module _ {T A : Type 0} (w : ChainWeb T A) where
   -- a block that a reply gives up is carried by its place too
-  carries_map : (spare : Option ℕ) (r : Reply Unit) (xs : List (ℕ × Option T)) (m : Sitter T (CallState T)) → HoldsFor xs (next.Reply r spare) m → (m.hand ≡ None) × Carries (name_map link_of spare) m
+  carries_map : (spare : Option ℕ) (r : Reply Unit) (xs : List (ℕ × Option T)) (m : Sitter T (CallState T)) → HoldsFor xs (Next.Reply r spare) m → (m.hand ≡ None) × Carries (name_map link_of spare) m
   carries_map None r xs m holds = holds
   carries_map (Some f) r xs m holds = (holds.0, holds.1)
 
   -- what a step did is told of the call d, which is that of the seat
   leads_to : (p s : Seat T (CallState T) A) (c : Call T) (x : Option T) (d : InCall T) (l : Local (Place T)) (u : Touch) (o : Op (Place T)) → Sits s w.web → d.call ≡ c → begun_at d ≡ view_of p.sitter.view.known
-      → call_at s.sitter (call_kind c) l u o x ≡ d → CanDo s.sitter l u o x d → ChainLeads w p c (next.Step l u o) s x
+      → call_at s.sitter (call_kind c) l u o x ≡ d → CanDo s.sitter l u o x d → ChainLeads w p c (Next.Step l u o) s x
   leads_to p s c x d l u o sits is begun same can = (
     (sits, subst (CanDo s.sitter l u o x) (sym same) can),
     λ a q y did.
         let told : Operated d a q.sitter = subst (λ (e : InCall T). Operated e a q.sitter) same did.2 in
         let handed : handed_by d.touch d.carried d.lends ≡ y = (λ i. handed_by (can.touch i) (can.carried i) d.lends) ∙ sym (did.1 ∙ ap (λ (e : InCall T). handed_by u x e.lends) same) in (
           sits_still w.web s q did.0 sits,
-          (d, is, begun, (d.local, told.0, can.local, told.1, told.2.0, subst (λ v. After d v (next_of queue.Unbounded d.local told.0) q.sitter) handed told.2.1)),
+          (d, is, begun, (d.local, told.0, can.local, told.1, told.2.0, subst (λ v. After d v (next_of Kind.Unbounded d.local told.0) q.sitter) handed told.2.1)),
         ),
   )
 
   -- what a step told leads on
   told_leads : (p s : Seat T (CallState T) A) (c : Call T) (x : Option T) (b : InCall T) (n : Next ℕ) → Sits s w.web → b.call ≡ c → begun_at b ≡ view_of p.sitter.view.known → After b x n s.sitter → ChainLeads w p c (next_map link_of n) s x
-  told_leads p s c x b (next.Step l u o) sits is begun (xs, (d, at, local_is, touch_is, op_is, carried_is, call_is, begun_is, lends_is), holds, may) =
+  told_leads p s c x b (Next.Step l u o) sits is begun (xs, (d, at, local_is, touch_is, op_is, carried_is, call_is, begun_is, lends_is), holds, may) =
       leads_to p s c x d (local_map link_of l) u (op_map link_of o) sits (call_is ∙ is) (begun_is ∙ begun)
       (ap (call_of_work (begun_by s.sitter.view (call_kind c) (local_map unnamed (local_map (link_of {T = T}) l)) u (op_map unnamed (op_map (link_of {T = T}) o)) x)) at) (record {
         local = ap (local_map link_of) local_is;
@@ -73,7 +62,7 @@ module _ {T A : Type 0} (w : ChainWeb T A) where
         may = subst (λ (z : Local ℕ × Touch × Op ℕ × Option T × List (ℕ × Option T)). MayStep z.0 z.1 z.2 z.3 z.4) (λ i. (sym local_is i, sym touch_is i, sym op_is i, sym carried_is i, sym lends_is i)) may;
         holds = subst (λ (z : Local ℕ × Op ℕ × List (ℕ × Option T)). HoldsBy z.0 z.1 z.2 s.sitter) (λ i. (sym local_is i, sym op_is i, sym lends_is i)) holds;
       })
-  told_leads p s c x b (next.Reply r spare) sits is begun (xs, (gives, none, (y, fill, rests, cap, owns, calls)), holds, may) =
+  told_leads p s c x b (Next.Reply r spare) sits is begun (xs, (gives, none, (y, fill, rests, cap, owns, calls)), holds, may) =
       let h = carries_map spare r xs s.sitter holds in (
         h.1,
         (
@@ -89,18 +78,18 @@ module _ {T A : Type 0} (w : ChainWeb T A) where
 
   -- wherever a call stands, it leads on
   pub chain_goes_on : (p : Seat T (CallState T) A) (c : Call T) (l : Local (Place T)) (a : Answer (Place T)) (s : Seat T (CallState T) A) (x : Option T) → ChainStands w p c l a s x
-      → CanNext queue.Unbounded l a × ChainLeads w p c (next_of queue.Unbounded l a) s x
+      → CanNext Kind.Unbounded l a × ChainLeads w p c (next_of Kind.Unbounded l a) s x
   chain_goes_on p c l a s x (sits, (d, is, begun, (i, b, local_is, answer_is, can, more))) = (
-    subst (λ (z : Local (Place T) × Answer (Place T)). CanNext queue.Unbounded z.0 z.1) (λ j. (local_is j, sym answer_is j)) (can_next_map link_of i b can),
-    subst (λ n. ChainLeads w p c n s x) (sym (next_of_map link_of i b can) ∙ (λ j. next_of queue.Unbounded (local_is j) (sym answer_is j))) (told_leads p s c x d (next_of queue.Unbounded i b) sits is begun more),
+    subst (λ (z : Local (Place T) × Answer (Place T)). CanNext Kind.Unbounded z.0 z.1) (λ j. (local_is j, sym answer_is j)) (can_next_map link_of i b can),
+    subst (λ n. ChainLeads w p c n s x) (sym (next_of_map link_of i b can) ∙ (λ j. next_of Kind.Unbounded (local_is j) (sym answer_is j))) (told_leads p s c x d (next_of Kind.Unbounded i b) sits is begun more),
   )
 
   -- the first step of a call that takes steps: it names no block
   begins_step : (p : Seat T (CallState T) A) (c : Call T) (l : Local ℕ) (o : Op ℕ) → ChainRests w p → local_map unnamed (local_map (link_of {T = T}) l) ≡ l → op_map unnamed (op_map (link_of {T = T}) o) ≡ o → spare_in l ≡ None
-      → MayDo {T = T} l o [] → next_of queue.Unbounded (first_local (call_kind c)) answer.Start ≡ next.Step l touch.Nothing o → ChainLeads w p c (next_map link_of (next.Step l touch.Nothing o)) p (call_value c)
+      → MayDo {T = T} l o [] → next_of Kind.Unbounded (first_local (call_kind c)) Answer.Start ≡ Next.Step l Touch.Nothing o → ChainLeads w p c (next_map link_of (Next.Step l Touch.Nothing o)) p (call_value c)
   begins_step p c l o rests l_same o_same light may step =
-      let d = begun_by p.sitter.view (call_kind c) (local_map unnamed (local_map (link_of {T = T}) l)) touch.Nothing (op_map unnamed (op_map (link_of {T = T}) o)) (call_value c) in
-      leads_to p p c (call_value c) d (local_map link_of l) touch.Nothing (op_map link_of o) rests.0 (whole c) refl (ap (call_of_work d) (ap (λ (z : CallState T). z.work) rests.1.2)) (record {
+      let d = begun_by p.sitter.view (call_kind c) (local_map unnamed (local_map (link_of {T = T}) l)) Touch.Nothing (op_map unnamed (op_map (link_of {T = T}) o)) (call_value c) in
+      leads_to p p c (call_value c) d (local_map link_of l) Touch.Nothing (op_map link_of o) rests.0 (whole c) refl (ap (call_of_work d) (ap (λ (z : CallState T). z.work) rests.1.2)) (record {
         local = ap (local_map link_of) l_same;
         touch = refl;
         op = ap (op_map link_of) o_same;
@@ -114,7 +103,7 @@ module _ {T A : Type 0} (w : ChainWeb T A) where
           places = refl;
           lends = refl;
           carried = ap call_value (sym (whole c));
-          step = ap (λ (z : Call T). first_of queue.Unbounded z) (whole c) ∙ (step ∙ (λ i. next.Step (sym l_same i) touch.Nothing (sym o_same i)));
+          step = ap (λ (z : Call T). first_of Kind.Unbounded z) (whole c) ∙ (step ∙ (λ i. Next.Step (sym l_same i) Touch.Nothing (sym o_same i)));
         });
         may = (subst (λ (z : Local ℕ × Op ℕ). MayDo {T = T} z.0 z.1 []) (λ i. (sym l_same i, sym o_same i)) may, tt);
         holds = (rests.1.0, rests.1.1 ∙ ap carried_by (sym light ∙ ap spare_in (sym l_same)));
@@ -131,13 +120,7 @@ module _ {T A : Type 0} (w : ChainWeb T A) where
 
   -- a call that begins leads on
   pub chain_begins : (p : Seat T (CallState T) A) (c : Call T) → ChainRests w p
-      → CanNext queue.Unbounded (first_local {B = Place T} (call_kind c)) answer.Start × ChainLeads w p c (next_of queue.Unbounded (first_local (call_kind c)) answer.Start) p (call_value c)
-  chain_begins p (call.Push v) rests = (tt, begins_step p (call.Push v) _ _ rests refl refl refl tt refl)
-  chain_begins p (call.ForcePush v) rests = (tt, begins_step p (call.ForcePush v) _ _ rests refl refl refl tt refl)
-  chain_begins p call.Pop rests = (tt, begins_step p call.Pop _ _ rests refl refl refl tt refl)
-  chain_begins p call.Close rests = (tt, begins_step p call.Close _ _ rests refl refl refl tt refl)
-  chain_begins p call.IsClosed rests = (tt, begins_step p call.IsClosed _ _ rests refl refl refl tt refl)
-  chain_begins p call.IsEmpty rests = (tt, begins_step p call.IsEmpty _ _ rests refl refl refl tt refl)
-  chain_begins p call.IsFull rests = (tt, (rests.1.1, (reply.IsFull false, refl, begins_reply p call.IsFull (reply.IsFull false) rests refl (λ m open_ended. rw open_ended refl))))
-  chain_begins p call.Len rests = (tt, begins_step p call.Len _ _ rests refl refl refl tt refl)
-  chain_begins p call.Capacity rests = (tt, (rests.1.1, (reply.Capacity None, refl, begins_reply p call.Capacity (reply.Capacity None) rests refl (λ m open_ended. sym open_ended))))
+      → CanNext Kind.Unbounded (first_local {B = Place T} (call_kind c)) Answer.Start × ChainLeads w p c (next_of Kind.Unbounded (first_local (call_kind c)) Answer.Start) p (call_value c)
+  chain_begins p Call.IsFull rests = (tt, (rests.1.1, (Reply.IsFull false, refl, begins_reply p Call.IsFull (Reply.IsFull false) rests refl (λ m open_ended. rw open_ended refl))))
+  chain_begins p Call.Capacity rests = (tt, (rests.1.1, (Reply.Capacity None, refl, begins_reply p Call.Capacity (Reply.Capacity None) rests refl (λ m open_ended. sym open_ended))))
+  chain_begins p c rests = (tt, begins_step p c _ _ rests refl refl refl tt refl)

@@ -1,13 +1,11 @@
 -- Blocks of a chain that nobody shares any more are emptied, one slot after the other.
-use Rattle.std.proofs.Common.{◌≡◌, ◌∙◌, ◌⊎◌, inl, inr, ℕ, suc, ◌+◌, ◌*◌, ◌<◌, ◌≤◌, ◌&&◌, ◌||◌, Bool, true, false, not, bit_and, List, [], ◌∷◌, length, Option, Some, None, IfSome, refl, sym, ap, subst, arith}
+use Rattle.std.proofs.Common.{◌≡◌, ◌∙◌, ◌⊎◌, inl, inr, ℕ, suc, ◌+◌, ◌*◌, ◌<◌, ◌≤◌, ◌&&◌, ◌||◌, Bool, true, false, not, bit_and, List, [], ◌∷◌, length, Option, Some, None, IfSome, refl, sym, ap, subst, arith, slice_index_or}
 use Rattle.std.proofs.lemmas.List.{length-set}
 use Rattle.atomic_table.proofs.Lists.{set_else}
 use mathlib.Core.Option.{some, some-injective}
 use lib.ListN.{get_elem?}
 use denote.RawPtr.{Ptr, null_ptr, InBlock, Testable}
-use Rattle.std.specs.Prelude.{slice_index_or}
-use Rattle.queue_steps.specs.declared.steps.unbounded.TheConstants.{WRITE, READ}
-use Rattle.queue_steps.specs.declared.sizes.TheConstants.{LIMIT, BLOCK_SLOTS}
+use Rattle.law_common.specs.Vocabulary.{LIMIT, BLOCK_SLOTS, WRITE, READ}
 use Rattle.mem_blocks.specs.Web.{Block, Home, block, homed, with_home, without, vacant, full, AllVacant, Lives}
 use Rattle.mem_blocks.specs.declared.block.BlockPtr.{BlockPtr}
 use Rattle.mem_blocks.specs.declared.sizes.TheConstants.{SLOTS}

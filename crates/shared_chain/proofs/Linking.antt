@@ -2,15 +2,7 @@
 use Rattle.std.proofs.Common.{ℕ, ◌+◌, ◌*◌, ◌/◌, ◌%◌, ◌<◌, ◌≡◌, ◌≢◌, ◌∙◌, inl, inr, Bool, true, false, if◌then◌else◌, Option, Some, None, List, [], refl, sym, ap, subst, arith, length-set, get_or-set_same}
 use Rattle.std.proofs.lemmas.Bool.Decides.{eqb_tells}
 use denote.RawPtr.{Ptr}
-use Rattle.queue_steps.specs.declared.sizes.TheConstants.{BLOCK_SLOTS}
-use Rattle.queue_steps.specs.declared.steps.types.Link.TheVariants as link
-use Rattle.queue_steps.specs.declared.steps.types.Local.TheVariants as local
-use Rattle.queue_steps.specs.declared.steps.types.Op.TheVariants as op
-use Rattle.queue_steps.specs.declared.steps.types.Touch.TheVariants as touch
-use Rattle.queue_steps.specs.declared.steps.types.Word.TheVariants as word
-use Rattle.queue_steps.specs.declared.steps.bounded.TheConstants.{TAIL_STEP}
-use Rattle.queue_steps.specs.declared.steps.bounded.PushKind.{PushKind}
-use Rattle.queue_steps.specs.declared.steps.unbounded.TheConstants.{WRITE}
+use Rattle.law_common.specs.Vocabulary.{Word, Link, Op, Touch, Local, PushKind, BLOCK_SLOTS, TAIL_STEP, WRITE}
 use Rattle.queue_steps.specs.declared.steps.unbounded.UnboundedLocal.TheVariants as chain
 use Rattle.queue_steps.specs.ChainWords.{offset_of}
 use Rattle.queue_steps.specs.Words.{position_of, tail_of}
@@ -23,6 +15,7 @@ use Rattle.law_chain.specs.ChainTransitions.{displayed, chained, passed, entered
 use Rattle.law_chain.proofs.ChainReads.{passer_sees}
 use Rattle.law_chain.specs.ChainAt.{Only, Either, IsBehind, IsFurther, showing, chaining, passing, entering}
 use Rattle.law_chain.specs.ChainAnswers.{head_place, head_word, shown_of, linked_of}
+use Rattle.law_chain.proofs.ChainReads.{not_given_up}
 use Rattle.mem_blocks.specs.Web.{Block, Sitter, block, linked, worded, with_word, with_next}
 use Rattle.shared_parties.specs.declared.known.CallState.{CallState}
 use Rattle.shared_chain.specs.Spots.{spot}
@@ -30,7 +23,7 @@ use Rattle.shared_chain.specs.ChainCalls.{OutChain, SlotsAs, ChainLent}
 use Rattle.shared_chain.specs.Rule.{lead_of, IsThere, Codes}
 use Rattle.shared_chain.specs.Steps.{HoldsBy, BlockStep}
 use Rattle.shared_chain.proofs.Blocks.{word_here, word_else, next_here, next_else, there_same}
-use Rattle.shared_chain.proofs.Links.{not_given_up, goes_on, step_by, named_alive}
+use Rattle.shared_chain.proofs.Links.{goes_on, step_by, named_alive}
 
 -- a slot that is being written is not read
 unread : {A : Type 0} (head tail : ℕ) (items : List A) (n who : ℕ) (v : A) (w : Writer A) (r : Reader) → w ≡ Writing who v → ItemOk head tail items n w r → r ≢ Done
@@ -73,27 +66,27 @@ module _ (tail_end head_end : Ptr) {A : Type 0} where
   -- the store of the link to the first block, for the poppers
   pub step_showing : (g : OutChain A) (who : ℕ) (bs : List (Block A)) (m : Sitter A (CallState A)) (ms : List (State A)) (d : PushKind) (v : A) (name : ℕ) (first : Holds g.chain who (Only First)) (saw : SawTail g.chain 0 ms) (is : g.chain.shown ≡ Showing who)
       (named : IsNamed g.chain 0 name)
-      → ChainOk g.chain → Codes tail_end head_end g bs → SlotsAs g who (local.Unbounded (chain.Showing d (open_tail_of 0) name)) → (xs : List (ℕ × Option A)) → ChainLent g who xs
-      → HoldsBy (local.Unbounded (chain.Showing d (open_tail_of 0) name)) (op.StoreLink link.HeadBlock name) xs m → BlockStep tail_end head_end g who bs m {ms = ms} (showing d v name first saw is named)
+      → ChainOk g.chain → Codes tail_end head_end g bs → SlotsAs g who (Local.Unbounded (chain.Showing d (open_tail_of 0) name)) → (xs : List (ℕ × Option A)) → ChainLent g who xs
+      → HoldsBy (Local.Unbounded (chain.Showing d (open_tail_of 0) name)) (Op.StoreLink Link.HeadBlock name) xs m → BlockStep tail_end head_end g who bs m {ms = ms} (showing d v name first saw is named)
   step_showing g who bs m ms d v name first saw is named ok codes slots xs lent holds =
       let at_first : g.chain.front ≡ 0 = front_first g.chain.blocks g.chain.head g.chain.front g.chain.known g.chain.passer who (subst (λ s. ShownOk g.chain.blocks g.chain.head g.chain.front g.chain.known g.chain.passer s) is ok.seen) in
       step_by tail_end head_end g who bs m (showing d v name first saw is named) 1 codes.head (λ e. refl) tt refl [] tt
-      (goes_on tail_end head_end (record { chain = displayed g.chain; out = g.out }) who (with_next bs 1 (spot name)) m (local.Unbounded (chain.Claiming d (open_tail_of 0) name None)) touch.Nothing
-      (op.Exchange word.Tail (open_tail_of 0) (open_tail_of 0 + TAIL_STEP)) xs (codes_front g bs Seen g.chain.front g.chain.passer name refl (ap (λ b. Some (g.chain.names b)) at_first ∙ ap (λ x. Some x) (sym named.1)) codes) slots lent holds)
+      (goes_on tail_end head_end (record { chain = displayed g.chain; out = g.out }) who (with_next bs 1 (spot name)) m (Local.Unbounded (chain.Claiming d (open_tail_of 0) name None)) Touch.Nothing
+      (Op.Exchange Word.Tail (open_tail_of 0) (open_tail_of 0 + TAIL_STEP)) xs (codes_front g bs Seen g.chain.front g.chain.passer name refl (ap (λ b. Some (g.chain.names b)) at_first ∙ ap (λ x. Some x) (sym named.1)) codes) slots lent holds)
 
   -- the store of the link to the next block, for the poppers
   pub step_passing : (g : OutChain A) (who : ℕ) (bs : List (Block A)) (m : Sitter A (CallState A)) (ms : List (State A)) (x : A) (n name after : ℕ) (more further : Bool) (parts : Holds g.chain who (Either (Read n) Head)) (got : Got g.chain who n x name)
       (moves : (g.chain.passer ≡ Passing who) × (g.chain.head ≡ n + 1)) (behind : IsBehind g.chain n after) (room : IsFurther g.chain n further)
-      → ChainOk g.chain → Codes tail_end head_end g bs → SlotsAs g who (local.Unbounded (chain.Passing (head_of n more) name further)) → (xs : List (ℕ × Option A)) → ChainLent g who xs
-      → HoldsBy (local.Unbounded (chain.Passing (head_of n more) name further)) (op.StoreLink link.HeadBlock after) xs m → BlockStep tail_end head_end g who bs m {ms = ms} (passing x n name after more further parts got moves behind room)
+      → ChainOk g.chain → Codes tail_end head_end g bs → SlotsAs g who (Local.Unbounded (chain.Passing (head_of n more) name further)) → (xs : List (ℕ × Option A)) → ChainLent g who xs
+      → HoldsBy (Local.Unbounded (chain.Passing (head_of n more) name further)) (Op.StoreLink Link.HeadBlock after) xs m → BlockStep tail_end head_end g who bs m {ms = ms} (passing x n name after more further parts got moves behind room)
   step_passing g who bs m ms x n name after more further parts got moves behind room ok codes slots xs lent holds =
       let seen : g.chain.shown ≡ Seen = passer_sees g.chain ok (λ e. let z : Passing who ≡ Stands = sym moves.0 ∙ e in cc) in
       let stood : FrontOk g.chain.head g.chain.front (Passing who) = subst (λ p. FrontOk g.chain.head g.chain.front p) moves.0 ok.fronted in
       let at_next : g.chain.front + 1 ≡ n / BLOCK_SLOTS + 1 = let at_n = moves.1 in omega arith in
       let leads : shown_of g.chain.shown (g.chain.names (g.chain.front + 1)) ≡ Some after = ap (λ s. shown_of s (g.chain.names (g.chain.front + 1))) seen ∙ (ap (λ b. Some (g.chain.names b)) at_next ∙ ap (λ f. Some f) (sym behind.1.1)) in
       step_by tail_end head_end g who bs m (passing x n name after more further parts got moves behind room) 1 codes.head (λ e. refl) tt refl [] tt
-      (goes_on tail_end head_end (record { chain = passed g.chain who; out = g.out }) who (with_next bs 1 (spot after)) m (local.Unbounded (chain.Entering (head_of n more) name)) touch.Nothing
-      (op.Store word.Head ((position_of (head_of n more) + 2) * 2 + (if further then 1 else 0))) xs (codes_front g bs g.chain.shown (g.chain.front + 1) (Entering who) after (ap (λ p. head_place g.chain.head p) (sym moves.0)) leads codes) slots lent holds)
+      (goes_on tail_end head_end (record { chain = passed g.chain who; out = g.out }) who (with_next bs 1 (spot after)) m (Local.Unbounded (chain.Entering (head_of n more) name)) Touch.Nothing
+      (Op.Store Word.Head ((position_of (head_of n more) + 2) * 2 + (if further then 1 else 0))) xs (codes_front g bs g.chain.shown (g.chain.front + 1) (Entering who) after (ap (λ p. head_place g.chain.head p) (sym moves.0)) leads codes) slots lent holds)
 
   -- another link of the block b
   codes_chained : (g : OutChain A) (bs : List (Block A)) (b f : ℕ) → IsNamed g.chain (b + 1) f → Codes tail_end head_end g bs → Codes tail_end head_end (record { chain = chained g.chain b; out = g.out }) (with_next bs (b + 2) (spot f))
@@ -162,14 +155,14 @@ module _ (tail_end head_end : Ptr) {A : Type 0} where
   -- the store of the link from the block that was the last to the one behind it
   pub step_chaining : (g : OutChain A) (who : ℕ) (bs : List (Block A)) (m : Sitter A (CallState A)) (ms : List (State A)) (d : PushKind) (v : A) (n name f : ℕ) (parts : Holds g.chain who (Either (Write n) (Next (n / BLOCK_SLOTS)))) (claims : Claimed g.chain who n v name)
       (links : g.chain.links (n / BLOCK_SLOTS) ≡ Linking who) (named : IsNamed g.chain (n / BLOCK_SLOTS + 1) f)
-      → ChainOk g.chain → Codes tail_end head_end g bs → SlotsAs g who (local.Unbounded (chain.Chaining d (open_tail_of n) name f)) → (xs : List (ℕ × Option A)) → ChainLent g who xs
-      → HoldsBy (local.Unbounded (chain.Chaining d (open_tail_of n) name f)) (op.StoreLink (link.Next name) f) xs m → BlockStep tail_end head_end g who bs m {ms = ms} (chaining d v n name f parts claims links named)
+      → ChainOk g.chain → Codes tail_end head_end g bs → SlotsAs g who (Local.Unbounded (chain.Chaining d (open_tail_of n) name f)) → (xs : List (ℕ × Option A)) → ChainLent g who xs
+      → HoldsBy (Local.Unbounded (chain.Chaining d (open_tail_of n) name f)) (Op.StoreLink (Link.Next name) f) xs m → BlockStep tail_end head_end g who bs m {ms = ms} (chaining d v n name f parts claims links named)
   step_chaining g who bs m ms d v n name f parts claims links named ok codes slots xs lent holds =
       let on = not_given_up g.chain n ok (unread g.chain.head g.chain.tail g.chain.items n who v (g.chain.writers n) (g.chain.readers n) claims.mine (ok.item n)) in
       let alive = named_alive tail_end head_end g bs (n / BLOCK_SLOTS) name codes claims.named on in
       step_by tail_end head_end g who bs m (chaining d v n name f parts claims links named) (n / BLOCK_SLOTS + 2) alive.0 (λ e. refl) tt refl [] tt
-      (goes_on tail_end head_end (record { chain = chained g.chain (n / BLOCK_SLOTS); out = g.out }) who (with_next bs (n / BLOCK_SLOTS + 2) (spot f)) m (local.Unbounded (chain.Writing d None)) (touch.Put (offset_of (open_tail_of n)))
-      (op.Or (word.State name (offset_of (open_tail_of n))) WRITE) xs (codes_chained g bs (n / BLOCK_SLOTS) f named codes) slots lent holds)
+      (goes_on tail_end head_end (record { chain = chained g.chain (n / BLOCK_SLOTS); out = g.out }) who (with_next bs (n / BLOCK_SLOTS + 2) (spot f)) m (Local.Unbounded (chain.Writing d None)) (Touch.Put (offset_of (open_tail_of n)))
+      (Op.Or (Word.State name (offset_of (open_tail_of n))) WRITE) xs (codes_chained g bs (n / BLOCK_SLOTS) f named codes) slots lent holds)
 
   -- another word of the head
   codes_entered : (g : OutChain A) (bs : List (Block A)) (further : Bool) (w : ℕ) → w ≡ head_word (entered g.chain further) → Codes tail_end head_end g bs → Codes tail_end head_end (record { chain = entered g.chain further; out = g.out }) (with_word bs 1 0 w)
@@ -198,12 +191,12 @@ module _ (tail_end head_end : Ptr) {A : Type 0} where
   -- the store of the head's word, behind the block that was passed
   pub step_entering : (g : OutChain A) (who : ℕ) (bs : List (Block A)) (m : Sitter A (CallState A)) (ms : List (State A)) (x : A) (n name : ℕ) (more further : Bool) (parts : Holds g.chain who (Either (Read n) Head)) (got : Got g.chain who n x name)
       (enters : (g.chain.passer ≡ Entering who) × (g.chain.head ≡ n + 1)) (room : IsFurther g.chain n further)
-      → ChainOk g.chain → Codes tail_end head_end g bs → SlotsAs g who (local.Unbounded (chain.Entering (head_of n more) name)) → (xs : List (ℕ × Option A)) → ChainLent g who xs
-      → HoldsBy (local.Unbounded (chain.Entering (head_of n more) name)) (op.Store word.Head ((position_of (head_of n more) + 2) * 2 + (if further then 1 else 0))) xs m
+      → ChainOk g.chain → Codes tail_end head_end g bs → SlotsAs g who (Local.Unbounded (chain.Entering (head_of n more) name)) → (xs : List (ℕ × Option A)) → ChainLent g who xs
+      → HoldsBy (Local.Unbounded (chain.Entering (head_of n more) name)) (Op.Store Word.Head ((position_of (head_of n more) + 2) * 2 + (if further then 1 else 0))) xs m
       → BlockStep tail_end head_end g who bs m {ms = ms} (entering x n name more further parts got enters room)
   step_entering g who bs m ms x n name more further parts got enters room ok codes slots xs lent holds =
       let stood : FrontOk g.chain.head g.chain.front (Entering who) = subst (λ p. FrontOk g.chain.head g.chain.front p) enters.0 ok.fronted in
       let is = next_head n more further (let at_n = enters.1 in let at_front = stood.0 in omega arith) ∙ ap (λ i. tail_of (head_place i Stands) further) (sym enters.1) in
       step_by tail_end head_end g who bs m (entering x n name more further parts got enters room) 1 codes.head (λ e. refl) tt refl [] tt
-      (goes_on tail_end head_end (record { chain = entered g.chain further; out = g.out }) who (with_word bs 1 0 ((position_of (head_of n more) + 2) * 2 + (if further then 1 else 0))) m (local.Unbounded (chain.Awaiting (head_of n more) name)) touch.Nothing
-      (op.Load (word.State name (offset_of (head_of n more)))) xs (codes_entered g bs further ((position_of (head_of n more) + 2) * 2 + (if further then 1 else 0)) is codes) slots lent holds)
+      (goes_on tail_end head_end (record { chain = entered g.chain further; out = g.out }) who (with_word bs 1 0 ((position_of (head_of n more) + 2) * 2 + (if further then 1 else 0))) m (Local.Unbounded (chain.Awaiting (head_of n more) name)) Touch.Nothing
+      (Op.Load (Word.State name (offset_of (head_of n more)))) xs (codes_entered g bs further ((position_of (head_of n more) + 2) * 2 + (if further then 1 else 0)) is codes) slots lent holds)

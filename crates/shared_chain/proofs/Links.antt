@@ -1,18 +1,10 @@
 -- What the steps on links share: what a step leaves for the next one, which blocks are alive, and what another link of an end or of a block leaves of the blocks.
-use Rattle.std.proofs.Common.{ℕ, ◌+◌, ◌/◌, ◌%◌, ◌≡◌, ◌≢◌, ◌∙◌, inl, inr, Option, List, [], refl, sym, ap, subst, arith}
-use Rattle.std.proofs.lemmas.Bool.Decides.{eqb_tells}
+use Rattle.std.proofs.Common.{ℕ, ◌+◌, ◌≡◌, ◌≢◌, ◌∙◌, inl, inr, Option, List, [], refl, sym, ap, subst}
 use denote.RawPtr.{Ptr}
-use Rattle.queue_steps.specs.declared.sizes.TheConstants.{BLOCK_SLOTS}
-use Rattle.queue_steps.specs.declared.model.Call.{Call}
-use Rattle.queue_steps.specs.declared.model.Effect.{Effect}
-use Rattle.queue_steps.specs.declared.steps.types.Local.{Local}
-use Rattle.queue_steps.specs.declared.steps.types.Next.{Next}
-use Rattle.queue_steps.specs.declared.steps.types.Next.TheVariants as next
-use Rattle.queue_steps.specs.declared.steps.types.Op.{Op}
-use Rattle.queue_steps.specs.declared.steps.types.Touch.{Touch}
+use Rattle.law_common.specs.Vocabulary.{Call, Effect, Op, Touch, Local, Next}
 use Rattle.queue_steps.specs.State.{State}
 use Rattle.queue_steps.specs.UnboundedNext.{unbounded_next}
-use Rattle.law_chain.specs.ChainCells.{Done, GivenUp, Chained, Chain, WalkOk, IsWalked, item_at, LAST, ChainOk, Write, Read, reader_of, Holds, Nothing}
+use Rattle.law_chain.specs.ChainCells.{GivenUp, Chained, Chain, ChainOk, Write, Read, reader_of, Holds, Nothing}
 use Rattle.law_chain.specs.ChainFacts.{IsNamed}
 use Rattle.law_chain.specs.ChainAt.{At}
 use Rattle.law_chain.specs.ChainAnswers.{Answers}
@@ -42,16 +34,6 @@ pub record Leaves {A : Type 0} (tail_end head_end : Ptr) (r : OutChain A) (who :
 pub same_block : {A : Type 0} (c : Chain A) (a b name : ℕ) → ChainOk c → IsNamed c a name → IsNamed c b name → a ≡ b
 same_block c a b name ok one two = let e : Chained a ≡ Chained b = sym (ok.name a one.0) ∙ (ap c.uses (sym one.1 ∙ two.1) ∙ ok.name b two.0) in cc
 
--- a block with a slot that is not read is not given up
-pub not_given_up : {A : Type 0} (c : Chain A) (n : ℕ) → ChainOk c → c.readers n ≢ Done → c.walks (n / BLOCK_SLOTS) ≢ GivenUp
-not_given_up {A} c n ok unread e = unread (elim (eqb_tells (n % BLOCK_SLOTS) LAST) [
-  | inl t ↦ (let last = t.1 in let is : n ≡ item_at (n / BLOCK_SLOTS) LAST = omega arith in ap c.readers is ∙ walked.0)
-  | inr t ↦ (let ne = t.1 in let is : n ≡ item_at (n / BLOCK_SLOTS) (n % BLOCK_SLOTS) = omega arith in ap c.readers is ∙ walked.1 (n % BLOCK_SLOTS) (omega arith))
-])
-  where
-    walked : IsWalked c.readers (n / BLOCK_SLOTS) LAST
-    walked = subst (λ w. WalkOk c.readers (n / BLOCK_SLOTS) w) e (ok.walk (n / BLOCK_SLOTS))
-
 -- a party that holds nothing has no slot
 pub nothing_lent : {A : Type 0} (g : OutChain A) (who : ℕ) (xs : List (ℕ × Option A)) → Holds g.chain who Nothing → ChainLent g who xs → xs ≡ []
 nothing_lent g who xs none (inl h) = h.0
@@ -61,7 +43,7 @@ nothing_lent g who xs none (inr (n, y, inr reads, is)) = absurd (none (Read n) (
 module _ (tail_end head_end : Ptr) {A : Type 0} where
   -- a call that goes on with the slots and the spare that it has
   pub goes_on : (r : OutChain A) (who : ℕ) (bs : List (Block A)) (m : Sitter A (CallState A)) (l : Local ℕ) (t : Touch) (o : Op ℕ) (xs : List (ℕ × Option A))
-      → Codes tail_end head_end r bs → SlotsAs r who l → ChainLent r who xs → HoldsBy l o xs m → Leaves tail_end head_end r who bs m (next.Step l t o)
+      → Codes tail_end head_end r bs → SlotsAs r who l → ChainLent r who xs → HoldsBy l o xs m → Leaves tail_end head_end r who bs m (Next.Step l t o)
   goes_on r who bs m l t o xs codes slots lent holds = record { codes = codes; slots = slots; lends = xs; lent = lent; holds = holds }
 
   -- a step that takes and gives no slot

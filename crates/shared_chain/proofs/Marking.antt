@@ -1,19 +1,12 @@
 -- The steps that add to the tail's word, or set its mark: the tail moves over a block's end, and the queue is closed.
 use Rattle.std.proofs.Common.{ℕ, ◌+◌, ◌-◌, ◌/◌, ◌%◌, ◌^◌, ◌≤◌, ◌≡◌, ◌==◌, ◌∙◌, ◌⊎◌, Option, List, [], refl, ap, arith, bit_or}
 use denote.RawPtr.{Ptr}
-use Rattle.queue_steps.specs.declared.sizes.TheConstants.{LIMIT, BLOCK_SLOTS}
+use Rattle.law_common.specs.Vocabulary.{Reply, Word, Op, Answer, Local, PushKind, LIMIT, BLOCK_SLOTS, MARK, TAIL_STEP}
 use Rattle.queue_steps.specs.State.{State}
 use Rattle.queue_steps.specs.Words.{tail_of}
-use Rattle.queue_steps.specs.declared.steps.bounded.PushKind.{PushKind}
-use Rattle.queue_steps.specs.declared.steps.bounded.TheConstants.{MARK, TAIL_STEP}
-use Rattle.queue_steps.specs.declared.model.Reply.TheVariants as reply
-use Rattle.queue_steps.specs.declared.steps.types.Answer.TheVariants as answer
 use Rattle.queue_steps.specs.declared.steps.types.Next.TheVariants as next
 use Rattle.queue_steps.specs.BoundedNext.{closed_reply}
 use Rattle.queue_steps.specs.UnboundedNext.{ends}
-use Rattle.queue_steps.specs.declared.steps.types.Local.TheVariants as local
-use Rattle.queue_steps.specs.declared.steps.types.Op.TheVariants as op
-use Rattle.queue_steps.specs.declared.steps.types.Word.TheVariants as word
 use Rattle.queue_steps.specs.declared.steps.unbounded.UnboundedLocal.TheVariants as chain
 use Rattle.law_common.proofs.Tails.{mark_tail, next_tail}
 use Rattle.law_chain.specs.ChainFacts.{place, open_tail_of, IsNamed, HasSpare, Claimed}
@@ -44,14 +37,14 @@ opened_word c who n ok (is, at) =
 module _ {A : Type 0} (te he : Ptr) (g : OutChain A) (who : ℕ) (bs : List (Block A)) (m : Sitter A (CallState A)) (ms : List (State A)) where
   pub step_opening : (d : PushKind) (v : A) (n name f : ℕ) (holds : Holds g.chain who (λ x. (x ≡ Write n) ⊎ (x ≡ Tail) ⊎ (x ≡ Next (n / BLOCK_SLOTS)))) (mine : Claimed g.chain who n v name) (opens : (g.chain.mover ≡ Opening who) × (g.chain.tail ≡ n + 1))
       (links : g.chain.links (n / BLOCK_SLOTS) ≡ Linking who) (named : IsNamed g.chain (n / BLOCK_SLOTS + 1) f)
-      → ChainOk g.chain → Codes te he g bs → SlotsAs g who (local.Unbounded (chain.Opening d (open_tail_of n) name f)) → (xs : List (ℕ × Option A)) → ChainLent g who xs
-      → HoldsBy (local.Unbounded (chain.Opening d (open_tail_of n) name f)) (op.Add word.Tail TAIL_STEP) xs m → BlockStep te he g who bs m {ms = ms} (opening d v n name f holds mine opens links named)
+      → ChainOk g.chain → Codes te he g bs → SlotsAs g who (Local.Unbounded (chain.Opening d (open_tail_of n) name f)) → (xs : List (ℕ × Option A)) → ChainLent g who xs
+      → HoldsBy (Local.Unbounded (chain.Opening d (open_tail_of n) name f)) (Op.Add Word.Tail TAIL_STEP) xs m → BlockStep te he g who bs m {ms = ms} (opening d v n name f holds mine opens links named)
   step_opening d v n name f holds mine opens links named ok codes slots xs lent held = record {
     number = 0;
     lives = codes.tail;
     counts = λ e. refl;
     leads = tt;
-    found = ap (λ w. answer.Found w) codes.tail_is;
+    found = ap (λ w. Answer.Found w) codes.tail_is;
     out = g.out;
     acts = [];
     mays = tt;
@@ -72,16 +65,16 @@ module _ {A : Type 0} (te he : Ptr) (g : OutChain A) (who : ℕ) (bs : List (Blo
       (λ b y lt. there_same g (record { chain = marked g.chain; out = g.out }) b y (record { name = refl; link = refl; walk = refl; writers = λ i low. refl; readers = λ i low. refl; out = λ i low. refl }))
 
   pub step_spending : (d : PushKind) (v : A) (spare : Option ℕ) (none : Holds g.chain who Nothing) (spare_is : HasSpare g.chain who spare) (spent : LIMIT ≤ g.chain.tail)
-      → Codes te he g bs → (xs : List (ℕ × Option A)) → ChainLent g who xs → HoldsBy (local.Unbounded (chain.ClosingAtLimit d spare)) (op.Or word.Tail MARK) xs m
+      → Codes te he g bs → (xs : List (ℕ × Option A)) → ChainLent g who xs → HoldsBy (Local.Unbounded (chain.ClosingAtLimit d spare)) (Op.Or Word.Tail MARK) xs m
       → BlockStep te he g who bs m {ms = ms} (spending d v spare none spare_is spent)
   step_spending d v spare none spare_is spent codes xs lent held =
-      step_none te he g who bs m (spending d v spare none spare_is spent) 0 codes.tail (λ e. refl) tt (ap (λ w. answer.Found w) codes.tail_is)
+      step_none te he g who bs m (spending d v spare none spare_is spent) 0 codes.tail (λ e. refl) tt (ap (λ w. Answer.Found w) codes.tail_is)
       (with_word bs 0 TAIL (bit_or (word_of bs 0 TAIL) MARK)) refl (marked g.chain) refl (next.Reply (closed_reply d) spare) refl (codes_marked codes) none refl
-      (none_held g who (local.Unbounded (chain.ClosingAtLimit d spare)) (op.Or word.Tail MARK) xs m none lent held)
+      (none_held g who (Local.Unbounded (chain.ClosingAtLimit d spare)) (Op.Or Word.Tail MARK) xs m none lent held)
 
   pub step_closing : (none : Holds g.chain who Nothing)
-      → Codes te he g bs → (xs : List (ℕ × Option A)) → ChainLent g who xs → HoldsBy (local.Unbounded chain.Closing) (op.Or word.Tail MARK) xs m → BlockStep te he g who bs m {ms = ms} (closing none)
+      → Codes te he g bs → (xs : List (ℕ × Option A)) → ChainLent g who xs → HoldsBy (Local.Unbounded chain.Closing) (Op.Or Word.Tail MARK) xs m → BlockStep te he g who bs m {ms = ms} (closing none)
   step_closing none codes xs lent held =
-      step_none te he g who bs m (closing none) 0 codes.tail (λ e. refl) tt (ap (λ w. answer.Found w) codes.tail_is)
-      (with_word bs 0 TAIL (bit_or (word_of bs 0 TAIL) MARK)) refl (marked g.chain) refl (ends (reply.Close (word_of bs 0 TAIL % 2 == 0))) refl (codes_marked codes) none refl
-      (none_held g who (local.Unbounded chain.Closing) (op.Or word.Tail MARK) xs m none lent held)
+      step_none te he g who bs m (closing none) 0 codes.tail (λ e. refl) tt (ap (λ w. Answer.Found w) codes.tail_is)
+      (with_word bs 0 TAIL (bit_or (word_of bs 0 TAIL) MARK)) refl (marked g.chain) refl (ends (Reply.Close (word_of bs 0 TAIL % 2 == 0))) refl (codes_marked codes) none refl
+      (none_held g who (Local.Unbounded chain.Closing) (Op.Or Word.Tail MARK) xs m none lent held)

@@ -1,19 +1,12 @@
 -- The step of a call may be done wherever the call stands: its word is one of the chain's, and the slot that it touches is the one that it has.
 use Rattle.std.proofs.Common.{ℕ, ◌<◌, ◌%◌, ◌≡◌, ◌∙◌, inl, inr, Bool, true, false, Option, Some, None, List, [], ◌∷◌, refl, sym, ap, subst, arith, lit<}
-use Rattle.queue_steps.specs.declared.sizes.TheConstants.{BLOCK_SLOTS}
-use Rattle.queue_steps.specs.declared.model.Call.{Call}
-use Rattle.queue_steps.specs.declared.model.Effect.{Effect}
-use Rattle.queue_steps.specs.declared.steps.types.Local.{Local}
-use Rattle.queue_steps.specs.declared.steps.types.Next.{Next}
-use Rattle.queue_steps.specs.declared.steps.types.Next.TheVariants as next
-use Rattle.queue_steps.specs.declared.steps.types.Op.{Op}
-use Rattle.queue_steps.specs.declared.steps.types.Touch.{Touch}
+use Rattle.law_common.specs.Vocabulary.{Call, Effect, Op, Touch, Local, Next, BLOCK_SLOTS}
 use Rattle.queue_steps.specs.State.{State}
 use Rattle.queue_steps.specs.ChainWords.{offset_of}
 use Rattle.law_chain.specs.ChainCells.{Writing, Reading, Walker, WalkOk, ChainOk, Write, Read, writer_of, reader_of, Holds, Nothing}
 use Rattle.law_chain.specs.ChainFacts.{head_of, open_tail_of}
 use Rattle.law_chain.proofs.ChainAnswers.{head_offset}
-use Rattle.law_chain.specs.ChainAt.{Only, push_tail, push_block, asking, installing, showing, claiming, laying, opening, chaining, writing, spending, pop_head, pop_block, pop_tail, taking, following, peeking, passing, entering, awaiting, reading, beginning, walking, destroying, len_tail, len_head, len_again, empty_head, empty_tail, closing, closed_tail}
+use Rattle.law_chain.specs.ChainAt.{Only, asking, writing, awaiting, reading, beginning, walking, destroying}
 use Rattle.law_chain.proofs.ChainRight.{Ends}
 use Rattle.shared_chain.specs.ChainCalls.{OutChain, ChainLent, ChainAt}
 use Rattle.shared_chain.specs.Steps.{SlotsFor, MayStep, MayGoOn}
@@ -56,26 +49,9 @@ module _ {A : Type 0} where
 
   pub may_step : (g : OutChain A) (who : ℕ) {ms : List (State A)} {l : Local ℕ} {t : Touch} {o : Op ℕ} {v : Option A} {k : Call A} {es : List (Effect A)} (xs : List (ℕ × Option A))
       → ChainOk g.chain → ChainAt g who ms l t o v k es → ChainLent g who xs → MayStep l t o v xs
-  may_step g who xs ok (push_tail d v spare none has, only, slots) lent = (tt, tt)
-  may_step g who xs ok (push_block d v spare q none has saw, only, slots) lent = (tt, tt)
   may_step g who xs ok (asking d v q block none saw asks, only, slots) lent = ((none_lent g who xs none lent, refl), tt)
-  may_step g who xs ok (installing d v f none saw mine, only, slots) lent = (tt, tt)
-  may_step g who xs ok (showing d v name part saw is named, only, slots) lent = (tt, tt)
-  may_step g who xs ok (claiming d v q name spare none has saw is last, only, slots) lent = (tt, tt)
-  may_step g who xs ok (laying d v n name f part claimed at mine, only, slots) lent = (tt, tt)
-  may_step g who xs ok (opening d v n name f part claimed at link named, only, slots) lent = (tt, tt)
-  may_step g who xs ok (chaining d v n name f part claimed link named, only, slots) lent = (tt, tt)
   may_step g who xs ok (writing d v n name spare part claimed has, only, slots) lent =
       (tail_low n, (refl, write_lent g who n v xs part claimed.mine lent ∙ ap (λ i. (i, None) ∷ []) (sym (tail_offset n)), (v, refl)))
-  may_step g who xs ok (spending d v spare none has most, only, slots) lent = (tt, tt)
-  may_step g who xs ok (pop_head none, only, slots) lent = (tt, tt)
-  may_step g who xs ok (pop_block n more none is known, only, slots) lent = (tt, tt)
-  may_step g who xs ok (pop_tail n block none is read, only, slots) lent = (tt, tt)
-  may_step g who xs ok (taking n name next more new none is at lt e known, only, slots) lent = (tt, tt)
-  may_step g who xs ok (following x n name more part got at, only, slots) lent = (tt, tt)
-  may_step g who xs ok (peeking x n name after more part got at behind, only, slots) lent = (tt, tt)
-  may_step g who xs ok (passing x n name after more further part got at behind is, only, slots) lent = (tt, tt)
-  may_step g who xs ok (entering x n name more further part got at is, only, slots) lent = (tt, tt)
   may_step g who xs ok (awaiting x n name more part got, only, slots) lent = (head_low n more, tt)
   may_step g who xs ok (reading x n name more part got wrote last, only, slots) lent =
       let z = read_lent g who n xs part got.mine (slots n got.mine) lent in (head_low n more, (refl, refl, (z.0, z.1 ∙ ap (λ i. (i, Some z.0) ∷ []) (sym (head_offset n more)))))
@@ -83,16 +59,10 @@ module _ {A : Type 0} where
       let z = read_lent g who n xs part got.mine (slots n got.mine) lent in (lit< tt, (refl, refl, (z.0, z.1 ∙ ap (λ i. (i, Some z.0) ∷ []) (sym (head_offset n more)))))
   may_step g who xs ok (walking x b name slot part is named, only, slots) lent = (walk_low g who b slot ok is, tt)
   may_step g who xs ok (destroying x b name slot part is named, only, slots) lent = (walk_low g who b slot ok is, tt)
-  may_step g who xs ok (len_tail none, only, slots) lent = (tt, tt)
-  may_step g who xs ok (len_head t none word most, only, slots) lent = (tt, tt)
-  may_step g who xs ok (len_again t h none words seen, only, slots) lent = (tt, tt)
-  may_step g who xs ok (empty_head none, only, slots) lent = (tt, tt)
-  may_step g who xs ok (empty_tail h none word saw, only, slots) lent = (tt, tt)
-  may_step g who xs ok (closing none, only, slots) lent = (tt, tt)
-  may_step g who xs ok (closed_tail none, only, slots) lent = (tt, tt)
+  may_step g who xs ok (x, only, slots) lent = (tt, tt)
 
   -- where the step of a call leads, the next one may be done
   pub may_go_on : (g : OutChain A) (who : ℕ) (ms : List (State A)) (n : Next ℕ) (v : Option A) (k : Call A) (es : List (Effect A)) (xs : List (ℕ × Option A)) → ChainOk g.chain → Ends g.chain who ms n v k es → SlotsFor g who n → ChainLent g who xs
       → MayGoOn v xs n
-  may_go_on g who ms (next.Step l t o) v k es xs ok ends slots lent = may_step g who xs ok (ends.0, ends.1, slots) lent
-  may_go_on g who ms (next.Reply x spare) v k es xs ok ends slots lent = tt
+  may_go_on g who ms (Next.Step l t o) v k es xs ok ends slots lent = may_step g who xs ok (ends.0, ends.1, slots) lent
+  may_go_on g who ms (Next.Reply x spare) v k es xs ok ends slots lent = tt

@@ -1,16 +1,7 @@
 -- The operation of a ready call's step may be done on the chain, and what it answered at run time is what it answered with names.
 use Rattle.std.proofs.Common.{ℕ, ◌+◌, ◌%◌, ◌^◌, ◌<◌, ◌≡◌, ◌∙◌, true, Option, Some, None, List, [], refl, sym, ap, subst}
 use denote.RawPtr.{Ptr, InBlock, Testable, null_ptr}
-use Rattle.queue_steps.specs.declared.steps.types.Answer.{Answer}
-use Rattle.queue_steps.specs.declared.steps.types.Answer.TheVariants as answer
-use Rattle.queue_steps.specs.declared.steps.types.Link.{Link}
-use Rattle.queue_steps.specs.declared.steps.types.Local.{Local}
-use Rattle.queue_steps.specs.declared.steps.types.Op.{Op}
-use Rattle.queue_steps.specs.declared.steps.types.Op.TheVariants as op
-use Rattle.queue_steps.specs.declared.steps.types.Touch.{Touch}
-use Rattle.queue_steps.specs.declared.steps.types.Touch.TheVariants as touch
-use Rattle.queue_steps.specs.declared.steps.types.Word.{Word}
-use Rattle.queue_steps.specs.declared.steps.types.Word.TheVariants as word
+use Rattle.law_common.specs.Vocabulary.{Word, Link, Op, Touch, Answer, Local}
 use Rattle.mem_blocks.specs.Web.{State, Block, Sitter, Allows, AllowsLink, sitter}
 use Rattle.mem_blocks.specs.declared.block.BlockPtr.{BlockPtr as Place}
 use Rattle.mem_blocks.specs.declared.hub.TheConstants.{TAIL}
@@ -29,36 +20,33 @@ use Rattle.shared_chain.proofs.Asking.{allows_grant, allows_refusal}
 
 -- the operation with names that one at run time stands for
 abbrev Named : {T : Type 0} → Op (Place T) → Op ℕ → Type 0
-Named (op.Load w) o = (v : Word ℕ) × (o ≡ op.Load v) × (w ≡ word_map link_of v)
-Named (op.Store w x) o = (v : Word ℕ) × (o ≡ op.Store v x) × (w ≡ word_map link_of v)
-Named (op.Add w x) o = (v : Word ℕ) × (o ≡ op.Add v x) × (w ≡ word_map link_of v)
-Named (op.Or w x) o = (v : Word ℕ) × (o ≡ op.Or v x) × (w ≡ word_map link_of v)
-Named (op.And w x) o = (v : Word ℕ) × (o ≡ op.And v x) × (w ≡ word_map link_of v)
-Named (op.Exchange w x y) o = (v : Word ℕ) × (o ≡ op.Exchange v x y) × (w ≡ word_map link_of v)
-Named (op.LoadLink l) o = (k : Link ℕ) × (o ≡ op.LoadLink k) × (l ≡ link_map link_of k)
-Named (op.StoreLink l p) o = (k : Link ℕ) × (f : ℕ) × (o ≡ op.StoreLink k f) × (l ≡ link_map link_of k) × (p ≡ link_of f)
-Named (op.Install p) o = (f : ℕ) × (o ≡ op.Install f) × (p ≡ link_of f)
-Named op.Ask o = o ≡ op.Ask
+Named (Op.Load w) o = (v : Word ℕ) × (o ≡ Op.Load v) × (w ≡ word_map link_of v)
+Named (Op.Store w x) o = (v : Word ℕ) × (o ≡ Op.Store v x) × (w ≡ word_map link_of v)
+Named (Op.Add w x) o = (v : Word ℕ) × (o ≡ Op.Add v x) × (w ≡ word_map link_of v)
+Named (Op.Or w x) o = (v : Word ℕ) × (o ≡ Op.Or v x) × (w ≡ word_map link_of v)
+Named (Op.And w x) o = (v : Word ℕ) × (o ≡ Op.And v x) × (w ≡ word_map link_of v)
+Named (Op.Exchange w x y) o = (v : Word ℕ) × (o ≡ Op.Exchange v x y) × (w ≡ word_map link_of v)
+Named (Op.LoadLink l) o = (k : Link ℕ) × (o ≡ Op.LoadLink k) × (l ≡ link_map link_of k)
+Named (Op.StoreLink l p) o = (k : Link ℕ) × (f : ℕ) × (o ≡ Op.StoreLink k f) × (l ≡ link_map link_of k) × (p ≡ link_of f)
+Named (Op.Install p) o = (f : ℕ) × (o ≡ Op.Install f) × (p ≡ link_of f)
+Named Op.Ask o = o ≡ Op.Ask
 
 named_map : (T : Type 0) (o : Op ℕ) → Named (op_map (link_of {T = T}) o) o
-named_map T (op.Load w) = (w, refl, refl)
-named_map T (op.Store w x) = (w, refl, refl)
-named_map T (op.Add w x) = (w, refl, refl)
-named_map T (op.Or w x) = (w, refl, refl)
-named_map T (op.And w x) = (w, refl, refl)
-named_map T (op.Exchange w x y) = (w, refl, refl)
-named_map T (op.LoadLink l) = (l, refl, refl)
-named_map T (op.StoreLink l f) = (l, f, refl, refl, refl)
-named_map T (op.Install f) = (f, refl, refl)
-named_map T op.Ask = refl
+named_map T (Op.Load w) = (w, refl, refl)
+named_map T (Op.Store w x) = (w, refl, refl)
+named_map T (Op.Add w x) = (w, refl, refl)
+named_map T (Op.Or w x) = (w, refl, refl)
+named_map T (Op.And w x) = (w, refl, refl)
+named_map T (Op.Exchange w x y) = (w, refl, refl)
+named_map T (Op.LoadLink l) = (l, refl, refl)
+named_map T (Op.StoreLink l f) = (l, f, refl, refl, refl)
+named_map T (Op.Install f) = (f, refl, refl)
+named_map T Op.Ask = refl
 
 -- bits that are set once are so by whatever name
 once_named : (T : Type 0) (w : Word ℕ) (bits : ℕ) → is_set_once (word_map (link_of {T = T}) w) bits ≡ is_set_once w bits
-once_named T (word.State name i) bits = refl
-once_named T word.Tail bits = refl
-once_named T word.Head bits = refl
-once_named T word.Lock bits = refl
-once_named T (word.Stamp i) bits = refl
+once_named T (Word.State name i) bits = refl
+once_named T w bits = refl
 
 -- where the word of an operation lies
 abbrev Reached : Ptr → Ptr → Op ℕ → Ptr → ℕ → Type 0
@@ -87,7 +75,7 @@ module _ {T : Type 0} (m : Sitter T (CallState T)) (o : Op (Place T)) (c : InCal
     )
 
     -- bits that are set once are added
-    pub may_add : (w : Word ℕ) (at_run : Word (Place T)) (bits : ℕ) (p : Ptr) (i : ℕ) → c.op ≡ op.Or w bits → at_run ≡ word_map link_of w → is_set_once at_run bits ≡ true → Reached te he (op.Or w bits) p i
+    pub may_add : (w : Word ℕ) (at_run : Word (Place T)) (bits : ℕ) (p : Ptr) (i : ℕ) → c.op ≡ Op.Or w bits → at_run ≡ word_map link_of w → is_set_once at_run bits ≡ true → Reached te he (Op.Or w bits) p i
         → InBlock p × (i < SLOTS) × ((by : ℕ) → by ≡ bits → Allows (Rule te he) id m p i (λ n. (n + by) % 2 ^ 64) (λ n q. Follows c (answer_for c.op n) q))
     may_add w at_run bits p i is stands once (at, number, lies, low) = (
       lies,
@@ -98,9 +86,9 @@ module _ {T : Type 0} (m : Sitter T (CallState T)) (o : Op (Place T)) (c : InCal
     )
 
     -- a store tells the same, whatever it found
-    pub may_store : (w : Word ℕ) (x : ℕ) (p : Ptr) (i : ℕ) → c.op ≡ op.Store w x → Reached te he (op.Store w x) p i → InBlock p × (i < SLOTS) × Allows (Rule te he) id m p i (λ n. x) (λ n q. Follows c (answer_for c.op x) q)
+    pub may_store : (w : Word ℕ) (x : ℕ) (p : Ptr) (i : ℕ) → c.op ≡ Op.Store w x → Reached te he (Op.Store w x) p i → InBlock p × (i < SLOTS) × Allows (Rule te he) id m p i (λ n. x) (λ n q. Follows c (answer_for c.op x) q)
     may_store w x p i is at =
-        let d = may_do (op.Store w x) p i is tt at in
+        let d = may_do (Op.Store w x) p i is tt at in
         (d.0, d.1, allows_as (Rule te he) id m p i (λ n. x) (λ n q. Follows c (answer_for c.op n) q) (λ n q. Follows c (answer_for c.op x) q) (λ n q. subst (λ (a : Answer ℕ). Follows c a q) (same n)) d.2)
       where
         same : (n : ℕ) → answer_for c.op n ≡ answer_for c.op x
@@ -113,10 +101,10 @@ module _ {T : Type 0} (m : Sitter T (CallState T)) (o : Op (Place T)) (c : InCal
         (subst (λ (z : Op ℕ). AllowsLink (Rule te he) id m (op_place te he z) (link_makes z) (λ q k. FollowsLink c q k)) is
         (allows_link te he id m c can.ready can.holds (subst IsRead (sym is) reads)))
 
-    pub may_lead : (l : Link ℕ) (f : ℕ) (p q : Ptr) → c.op ≡ op.StoreLink l f → p ≡ op_place te he (op.StoreLink l f) → q ≡ spot f → AllowsLink (Rule te he) id m p (λ _. q) (λ _ k. Follows c answer.Done k)
+    pub may_lead : (l : Link ℕ) (f : ℕ) (p q : Ptr) → c.op ≡ Op.StoreLink l f → p ≡ op_place te he (Op.StoreLink l f) → q ≡ spot f → AllowsLink (Rule te he) id m p (λ _. q) (λ _ k. Follows c Answer.Done k)
     may_lead l f p q is at leads =
-        subst (λ (z : Ptr × Ptr). AllowsLink (Rule te he) id m z.0 (λ _. z.1) (λ _ k. Follows c answer.Done k)) (λ j. (sym at j, sym leads j))
-        (subst (λ (z : Op ℕ). AllowsLink (Rule te he) id m (op_place te he z) (λ _. spot f) (λ _ k. Follows c answer.Done k)) is
+        subst (λ (z : Ptr × Ptr). AllowsLink (Rule te he) id m z.0 (λ _. z.1) (λ _ k. Follows c Answer.Done k)) (λ j. (sym at j, sym leads j))
+        (subst (λ (z : Op ℕ). AllowsLink (Rule te he) id m (op_place te he z) (λ _. spot f) (λ _ k. Follows c Answer.Done k)) is
         (allows_store te he id m c l f can.ready can.holds is))
 
 module _ {T : Type 0} (c : InCall T) where
@@ -124,28 +112,27 @@ module _ {T : Type 0} (c : InCall T) where
   pub told : (a : Op ℕ) (n : ℕ) (q : Sitter T (CallState T)) → c.op ≡ a → Follows c (answer_for c.op n) q → Operated c (answer_map link_of (answer_for a n)) q
   told a n q is follows = (answer_for a n, refl, subst (λ (z : Op ℕ). Follows c (answer_for z n) q) is follows)
 
-  pub told_link : (p : Ptr) (x : Option (Place T)) (q : Sitter T (CallState T)) → ((l : Place T) → x ≡ Some l → (l.ptr ≡ p) × InBlock l.ptr) → (x ≡ None → p ≡ null_ptr) → FollowsLink c p q → Operated c (answer.Linked x) q
-  told_link p None q some none (None, leads, follows) = (answer.Linked None, refl, follows)
+  pub told_link : (p : Ptr) (x : Option (Place T)) (q : Sitter T (CallState T)) → ((l : Place T) → x ≡ Some l → (l.ptr ≡ p) × InBlock l.ptr) → (x ≡ None → p ≡ null_ptr) → FollowsLink c p q → Operated c (Answer.Linked x) q
+  told_link p None q some none (None, leads, follows) = (Answer.Linked None, refl, follows)
   told_link p None q some none (Some f, leads, follows) = absurd (let e : null_ptr ≡ spot f = sym (none refl) ∙ leads in cc)
   told_link p (Some l) q some none (None, leads, follows) = absurd (subst InBlock ((some l refl).0 ∙ leads) (some l refl).1)
-  told_link p (Some l) q some none (Some f, leads, follows) = (answer.Linked (Some f), (λ j. answer.Linked (Some (record { ptr = ((some l refl).0 ∙ leads) j }))), follows)
+  told_link p (Some l) q some none (Some f, leads, follows) = (Answer.Linked (Some f), (λ j. Answer.Linked (Some (record { ptr = ((some l refl).0 ∙ leads) j }))), follows)
 
-  pub told_grant : (l : Place T) (q : Sitter T (CallState T)) → FollowsGrant c l.ptr q → Operated c (answer.Granted l) q
-  told_grant l q (f, is, follows) = (answer.Granted f, (λ j. answer.Granted (record { ptr = sym is j })), follows)
+  pub told_grant : (l : Place T) (q : Sitter T (CallState T)) → FollowsGrant c l.ptr q → Operated c (Answer.Granted l) q
+  told_grant l q (f, is, follows) = (Answer.Granted f, (λ j. Answer.Granted (record { ptr = sym is j })), follows)
 
 -- a call that asks has no slot and no spare
-touches_nothing : {T : Type 0} (l : Local ℕ) (t : Touch) (v : Option T) (xs : List (ℕ × Option T)) → MayTouch l t op.Ask v xs → t ≡ touch.Nothing
-touches_nothing l touch.Nothing v xs may = refl
-touches_nothing l (touch.Put i) v xs may = absurd (let e = may.0 in cc)
-touches_nothing l (touch.Swap i) v xs may = absurd may
-touches_nothing l (touch.Take i) v xs may = absurd (let e = may.0 in cc)
+touches_nothing : {T : Type 0} (l : Local ℕ) (t : Touch) (v : Option T) (xs : List (ℕ × Option T)) → MayTouch l t Op.Ask v xs → t ≡ Touch.Nothing
+touches_nothing l Touch.Nothing v xs may = refl
+touches_nothing l (Touch.Swap i) v xs may = absurd may
+touches_nothing l t v xs may = absurd (let e = may.0 in cc)
 
-module _ {T : Type 0} (m : Sitter T (CallState T)) (c : InCall T) (can : CanOperate m op.Ask c) where
-  pub asks : c.op ≡ op.Ask
-  asks = named m op.Ask c can op.Ask refl
+module _ {T : Type 0} (m : Sitter T (CallState T)) (c : InCall T) (can : CanOperate m Op.Ask c) where
+  pub asks : c.op ≡ Op.Ask
+  asks = named m Op.Ask c can Op.Ask refl
 
-  may : MayDo c.local op.Ask c.lends
-  may = may_as m op.Ask c can op.Ask asks
+  may : MayDo c.local Op.Ask c.lends
+  may = may_as m Op.Ask c can Op.Ask asks
 
   untouched : touched_list c.touch c.carried c.lends ≡ []
   untouched = ap (λ t. touched_list t c.carried c.lends) (touches_nothing c.local c.touch c.carried c.lends (subst (λ (z : Op ℕ). MayTouch c.local c.touch z c.carried c.lends) asks can.may.1)) ∙ may.0
@@ -157,8 +144,8 @@ module _ {T : Type 0} (m : Sitter T (CallState T)) (c : InCall T) (can : CanOper
   asks_light = can.holds.1 ∙ ap carried_by may.1
 
   -- the look after a request that was refused
-  pub may_refuse : (te he p : Ptr) (id : ℕ) → te ≡ p → Allows (Rule te he) id m p TAIL (λ n. n) (λ n q. Follows c answer.Refused q)
-  may_refuse te he p id at = subst (λ z. Allows (Rule te he) id m z TAIL (λ n. n) (λ n q. Follows c answer.Refused q)) at (allows_refusal te he id m c can.ready asks_empty asks_light asks)
+  pub may_refuse : (te he p : Ptr) (id : ℕ) → te ≡ p → Allows (Rule te he) id m p TAIL (λ n. n) (λ n q. Follows c Answer.Refused q)
+  may_refuse te he p id at = subst (λ z. Allows (Rule te he) id m z TAIL (λ n. n) (λ n q. Follows c Answer.Refused q)) at (allows_refusal te he id m c can.ready asks_empty asks_light asks)
 
   -- the look after one that was granted, with the block that the seat took up then
   pub may_grant : (te he p : Ptr) (id : ℕ) (k : Sitter T (CallState T)) (q : Ptr) (x : Block T) → te ≡ p → k ≡ sitter m.view m.hand (Some x) → x ≡ fresh_at q → InBlock q × Testable q

@@ -6,11 +6,7 @@ use mathlib.Core.List.{IsPrefix}
 use lib.ListN.{get_elem?}
 use denote.RawPtr.{Ptr}
 use Rattle.atomic_table.proofs.Lists.{set_again}
-use Rattle.queue_steps.specs.declared.sizes.TheConstants.{BLOCK_SLOTS}
-use Rattle.queue_steps.specs.declared.model.Effect.{Effect}
-use Rattle.queue_steps.specs.declared.model.Effect.TheVariants as effect
-use Rattle.queue_steps.specs.declared.model.Reply.TheVariants as reply
-use Rattle.queue_steps.specs.declared.steps.types.Next.TheVariants as next
+use Rattle.law_common.specs.Vocabulary.{Reply, Effect, Next, BLOCK_SLOTS}
 use Rattle.queue_steps.specs.Kinds.{call_value}
 use Rattle.law_chain.specs.ChainCells.{Chain, queue_of, ChainOk, Holds, Nothing}
 use Rattle.law_chain.specs.ChainTransitions.{given_up}
@@ -66,7 +62,7 @@ module _ {T : Type 0} where
       record {
         cells = after;
         history = r.history;
-        codes = codes_left te he g.chain g.out s.blocks (next.Reply (reply.IsFull false) spare) r.codes;
+        codes = codes_left te he g.chain g.out s.blocks (Next.Reply (Reply.IsFull false) spare) r.codes;
         all = quits chain_calls g r.history (word_of s.blocks 0 PARTIES) s.views id m.view r.all at after ok same others (λ j ne idle. chain_call_laws.idle_stays g after id j ne passes idle)
             (holds_given g.chain id spare Nothing e.1, spares_given g.chain id spare st.here.1);
       },
@@ -107,7 +103,7 @@ module _ {T : Type 0} where
 
         others : (j : ℕ) (k : Known T) (b : InCall T) → j ≢ id → IsPrefix k.seen r.history → Standing chain_calls g r.history j k b → Standing chain_calls after r.history j k b
         others j k b ne seen stands =
-            others_stay chain_calls chain_call_laws g after r.history None id j k b r.all.ok ok ne passes (same ∙ r.all.state) (λ (is : None ≡ Some effect.Arrive). absurd (cc)) seen stands
+            others_stay chain_calls chain_call_laws g after r.history None id j k b r.all.ok ok ne passes (same ∙ r.all.state) (λ (is : None ≡ Some Effect.Arrive). absurd (cc)) seen stands
 
     -- the load of the tail's word by which the call is given up
     pub gives_up : (p : Ptr) → te ≡ p → Allows (Rule te he) id m p PARTIES (λ n. n) (λ n q. HasLeft m q)

@@ -7,20 +7,10 @@ use lib.ListN.{get_elem?}
 use denote.RawPtr.{Ptr}
 use Rattle.law_common.specs.Puts.{put}
 use Rattle.law_common.proofs.Puts.{put_same, put_other}
-use Rattle.queue_steps.specs.declared.sizes.TheConstants.{BLOCK_SLOTS}
+use Rattle.law_common.specs.Vocabulary.{Reply, Word, Op, Touch, Local, Next, BLOCK_SLOTS, WRITE, READ, DESTROY}
 use Rattle.queue_steps.specs.State.{State}
 use Rattle.queue_steps.specs.ChainWords.{offset_of}
 use Rattle.queue_steps.specs.UnboundedNext.{at, ends, walks_on}
-use Rattle.queue_steps.specs.declared.model.Reply.TheVariants as reply
-use Rattle.queue_steps.specs.declared.steps.types.Local.{Local}
-use Rattle.queue_steps.specs.declared.steps.types.Local.TheVariants as local
-use Rattle.queue_steps.specs.declared.steps.types.Next.TheVariants as next
-use Rattle.queue_steps.specs.declared.steps.types.Op.{Op}
-use Rattle.queue_steps.specs.declared.steps.types.Op.TheVariants as op
-use Rattle.queue_steps.specs.declared.steps.types.Touch.{Touch}
-use Rattle.queue_steps.specs.declared.steps.types.Touch.TheVariants as touch
-use Rattle.queue_steps.specs.declared.steps.types.Word.TheVariants as word
-use Rattle.queue_steps.specs.declared.steps.unbounded.TheConstants.{WRITE, READ, DESTROY}
 use Rattle.queue_steps.specs.declared.steps.unbounded.UnboundedLocal.TheVariants as chain
 use Rattle.law_chain.specs.ChainCells.{Wrote, Reader, Reading, Done, Walk, Before, Walker, Waits, GivenUp, ChainOk, WalkOk, Read, Passed, Holds, Nothing, reader_of, item_at, LAST}
 use Rattle.law_chain.specs.ChainTransitions.{reads, walk_after}
@@ -47,9 +37,8 @@ use Rattle.shared_chain.proofs.Walking.{IsRead, walk_goes}
 -- no walk has begun while the last slot is not read
 before_last : (readers : ℕ → Reader) (b : ℕ) (w : Walk) → WalkOk readers b w → readers (item_at b LAST) ≢ Done → w ≡ Before
 before_last readers b Before ok unread = refl
-before_last readers b (Walker who slot) ok unread = absurd (unread ok.1.0)
-before_last readers b (Waits slot) ok unread = absurd (unread ok.1.0)
 before_last readers b GivenUp ok unread = absurd (unread ok.0)
+before_last readers b w ok unread = absurd (unread ok.1.0)
 
 -- The slot i of the block of the item n goes back vacant. The step's operation made cs of the blocks bs, and changed at most the state of this slot
 module _ {A : Type 0} (te he : Ptr) (g : OutChain A) (who : ℕ) (bs cs : List (Block A)) (m : Sitter A (CallState A)) (x : A) (n i name : ℕ) (holds : Holds g.chain who (Only (Read n))) (got : Got g.chain who n x name) (wrote : g.chain.writers n ≡ Wrote x)
@@ -134,20 +123,20 @@ module _ {A : Type 0} (te he : Ptr) (g : OutChain A) (who : ℕ) (bs cs : List (
       })
 
   -- the last slot: the walk begins at it, or behind it
-  begins : i ≡ LAST → (slot : ℕ) (l : Local ℕ) (t : Touch) (o : Op ℕ) → spare_in l ≡ None → Leaves te he g who cs m (reads g.chain n (Walker who slot)) (next.Step l t o)
+  begins : i ≡ LAST → (slot : ℕ) (l : Local ℕ) (t : Touch) (o : Op ℕ) → spare_in l ≡ None → Leaves te he g who cs m (reads g.chain n (Walker who slot)) (Next.Step l t o)
   begins last slot l t o spare =
       let b = n / BLOCK_SLOTS in
       let before : g.chain.walks b ≡ Before = before_last g.chain.readers b (g.chain.walks b) (ok.walk b) (subst (λ j. g.chain.readers (item_at b j) ≢ Done) last unread) in
       let none = after_read_on g.chain who n (Walker who slot) holds in
-      acts_first te he g who cs m (reads g.chain n (Walker who slot)) (next.Step l t o) (gives (b + 2) i None) gives_back
-      (idles te he g who back (sitter_acted cs m (gives (b + 2) i None)) (reads g.chain n (Walker who slot)) (next.Step l t o) (put g.out n false)
+      acts_first te he g who cs m (reads g.chain n (Walker who slot)) (Next.Step l t o) (gives (b + 2) i None) gives_back
+      (idles te he g who back (sitter_acted cs m (gives (b + 2) i None)) (reads g.chain n (Walker who slot)) (Next.Step l t o) (put g.out n false)
       (codes_read (Walker who slot) (λ e. cc) (λ e. absurd (cc)) (λ j ne. sym (ap (λ w. waits_at w j) before)) (λ ne. absurd (ne last)) (λ e. absurd (cc)))
       (others_out te he g who n false got.mine) (λ k e. absurd (let z : Read k ≡ Passed b = none (Read k) (ap reader_of e) in cc)) (walks_none te he (after (Walker who slot)) who b none)
       (refl, has.1 ∙ ap carried_by (sym spare)))
 
   -- the call goes on by whether the walk waits for the slot, and by whether the state says that it does not
   abbrev goes : Bool → Bool → Type 0
-  goes t u = Leaves te he g who cs m (reads g.chain n (if t then walk_after who i else g.chain.walks (n / BLOCK_SLOTS))) (if not u then walks_on name i else ends (reply.Pop (Ok tt)))
+  goes t u = Leaves te he g who cs m (reads g.chain n (if t then walk_after who i else g.chain.walks (n / BLOCK_SLOTS))) (if not u then walks_on name i else ends (Reply.Pop (Ok tt)))
 
   -- any other slot
   read_left : i < LAST → IsRead g.chain (n / BLOCK_SLOTS) i (word_of cs (n / BLOCK_SLOTS + 2) i) → word_of cs (n / BLOCK_SLOTS + 2) i ≡ bit_or (word_of bs (n / BLOCK_SLOTS + 2) i) READ
@@ -163,8 +152,8 @@ module _ {A : Type 0} (te he : Ptr) (g : OutChain A) (who : ℕ) (bs cs : List (
           let b = n / BLOCK_SLOTS in
           let w = g.chain.walks b in
           let none = after_read g.chain who n w (λ e. let z : Passed b ≡ Read n = holds (Passed b) e in cc) holds in
-          acts_first te he g who cs m (reads g.chain n w) (ends (reply.Pop (Ok tt))) (gives (b + 2) i None) gives_back
-          (idles te he g who back m_back (reads g.chain n w) (ends (reply.Pop (Ok tt))) (put g.out n false)
+          acts_first te he g who cs m (reads g.chain n w) (ends (Reply.Pop (Ok tt))) (gives (b + 2) i None) gives_back
+          (idles te he g who back m_back (reads g.chain n w) (ends (Reply.Pop (Ok tt))) (put g.out n false)
           (codes_read w on (λ e. e) (λ j ne. refl) (λ ne. is) (λ e. made ∙ ap (λ k. bit_or k READ) (there.1.plain e i low ∙ (λ j. plain_state (wrote_here j) (mine j)))))
           (others_out te he g who n false got.mine) tt (none_out te he (after w) who Nothing none (λ k z. z) (λ k z. z)) (refl, has.1))
 
@@ -186,7 +175,7 @@ module _ {A : Type 0} (te he : Ptr) (g : OutChain A) (who : ℕ) (bs cs : List (
 module _ {A : Type 0} (te he : Ptr) where
   pub step_reading : (g : OutChain A) (who : ℕ) (bs : List (Block A)) (m : Sitter A (CallState A)) (ms : List (State A)) (x : A) (n name : ℕ) (more : Bool) (holds : Holds g.chain who (Only (Read n))) (got : Got g.chain who n x name) (wrote : g.chain.writers n ≡ Wrote x) (inner : IsLast n → ⊥)
       → ChainOk g.chain → Codes te he g bs → (xs : List (ℕ × Option A))
-      → HoldsBy (local.Unbounded (chain.Reading name (offset_of (head_of n more)))) (op.Or (word.State name (offset_of (head_of n more))) READ) (touched_list (touch.Take (offset_of (head_of n more))) None xs) m
+      → HoldsBy (Local.Unbounded (chain.Reading name (offset_of (head_of n more)))) (Op.Or (Word.State name (offset_of (head_of n more))) READ) (touched_list (Touch.Take (offset_of (head_of n more))) None xs) m
       → BlockStep te he g who bs m {ms = ms} (reading x n name more holds got wrote inner)
   step_reading g who bs m ms x n name more holds got wrote inner ok codes xs has =
       or_step te he g who bs m b name i READ {ms = ms} (reading x n name more holds got wrote inner) ok codes got.named (on te he g who bs bs m x n i name holds got wrote offset ok codes has none) here
@@ -225,7 +214,7 @@ module _ {A : Type 0} (te he : Ptr) where
       set = word_set bs (b + 2) i (bit_or (word_of bs (b + 2) i) READ) long (omega (arith, (there te he g who bs bs m x n i name holds got wrote offset ok codes has none).1.words, offset))
 
   pub step_beginning : (g : OutChain A) (who : ℕ) (bs : List (Block A)) (m : Sitter A (CallState A)) (ms : List (State A)) (x : A) (n name : ℕ) (more : Bool) (holds : Holds g.chain who (Only (Read n))) (got : Got g.chain who n x name) (wrote : g.chain.writers n ≡ Wrote x) (last : IsLast n)
-      → ChainOk g.chain → Codes te he g bs → (xs : List (ℕ × Option A)) → HoldsBy (local.Unbounded (chain.Walking name 0)) (op.Load (word.State name 0)) (touched_list (touch.Take (offset_of (head_of n more))) None xs) m
+      → ChainOk g.chain → Codes te he g bs → (xs : List (ℕ × Option A)) → HoldsBy (Local.Unbounded (chain.Walking name 0)) (Op.Load (Word.State name 0)) (touched_list (Touch.Take (offset_of (head_of n more))) None xs) m
       → BlockStep te he g who bs m {ms = ms} (beginning x n name more holds got wrote last)
   step_beginning g who bs m ms x n name more holds got wrote last ok codes xs has =
       load_step te he g who bs m b name 0 {ms = ms} (beginning x n name more holds got wrote last) ok codes got.named begun state
@@ -253,8 +242,8 @@ module _ {A : Type 0} (te he : Ptr) where
       at_end = omega (arith, offset, last)
 
       starts : Bool → Bool → Type 0
-      starts t u = Leaves te he g who bs m (reads g.chain n (if t then walk_after who 0 else Walker who 0)) (if not u then walks_on name 0 else at (chain.Destroying name 0) touch.Nothing (op.Or (word.State name 0) DESTROY))
+      starts t u = Leaves te he g who bs m (reads g.chain n (if t then walk_after who 0 else Walker who 0)) (if not u then walks_on name 0 else at (chain.Destroying name 0) Touch.Nothing (Op.Or (Word.State name 0) DESTROY))
 
       goes_from : (t : Bool) → starts t (not t)
-      goes_from true = begins te he g who bs bs m x n i name holds got wrote offset ok codes has none at_end 1 (local.Unbounded (chain.Walking name 1)) touch.Nothing (op.Load (word.State name 1)) refl
-      goes_from false = begins te he g who bs bs m x n i name holds got wrote offset ok codes has none at_end 0 (local.Unbounded (chain.Destroying name 0)) touch.Nothing (op.Or (word.State name 0) DESTROY) refl
+      goes_from true = begins te he g who bs bs m x n i name holds got wrote offset ok codes has none at_end 1 (Local.Unbounded (chain.Walking name 1)) Touch.Nothing (Op.Load (Word.State name 1)) refl
+      goes_from false = begins te he g who bs bs m x n i name holds got wrote offset ok codes has none at_end 0 (Local.Unbounded (chain.Destroying name 0)) Touch.Nothing (Op.Or (Word.State name 0) DESTROY) refl

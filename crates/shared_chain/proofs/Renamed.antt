@@ -1,22 +1,11 @@
 -- The steps of a chain ask nothing of the names of blocks: with other names the next step is the same, with those names.
-use Rattle.std.proofs.Common.{ℕ, ◌+◌, ◌%◌, ◌≡◌, ◌==◌, Bool, true, false, not, if◌then◌else◌, Option, Some, None, IsSome, refl, bit_and}
-use Rattle.std.specs.Prelude.{nat_lt, is_some}
-use Rattle.queue_steps.specs.declared.sizes.TheConstants.{LIMIT, BLOCK_SLOTS}
-use Rattle.queue_steps.specs.declared.steps.types.Answer.{Answer}
+use Rattle.std.proofs.Common.{ℕ, ◌+◌, ◌%◌, ◌≡◌, ◌==◌, Bool, true, false, not, if◌then◌else◌, Option, Some, None, IsSome, refl, bit_and, nat_lt, is_some}
+use Rattle.law_common.specs.Vocabulary.{Call, Kind, Answer, Local, Next, PushKind, UnboundedLocal, LIMIT, BLOCK_SLOTS, WRITE, READ, DESTROY}
 use Rattle.queue_steps.specs.declared.steps.types.Answer.TheVariants.{Start, Found, Linked, Granted, Refused, Done}
-use Rattle.queue_steps.specs.declared.steps.types.Local.{Local}
-use Rattle.queue_steps.specs.declared.steps.types.Local.TheVariants as local
-use Rattle.queue_steps.specs.declared.steps.types.Next.{Next}
-use Rattle.queue_steps.specs.declared.steps.bounded.PushKind.{PushKind}
-use Rattle.queue_steps.specs.declared.steps.unbounded.UnboundedLocal.{UnboundedLocal}
 use Rattle.queue_steps.specs.declared.steps.unbounded.UnboundedLocal.TheVariants as chain
-use Rattle.queue_steps.specs.declared.steps.unbounded.TheConstants.{WRITE, READ, DESTROY}
 use Rattle.queue_steps.specs.Words.{position_of, is_shut}
 use Rattle.queue_steps.specs.ChainWords.{block_at, offset_of, items_before}
 use Rattle.queue_steps.specs.UnboundedNext.{is_last_slot, chain_tail_found, tail_block_found, granted, installed, lays, chain_head_found, head_block_found, chain_pop_tail_found, followed, walks_on, FitsChain, unbounded_begin, unbounded_next}
-use Rattle.queue_steps.specs.declared.model.Call.{Call}
-use Rattle.queue_steps.specs.declared.model.Call.TheVariants as call
-use Rattle.queue_steps.specs.declared.steps.types.Kind.TheVariants as queue
 use Rattle.queue_steps.specs.Next.{CanNext, next_of}
 use Rattle.shared_chain.specs.Names.{name_map, answer_map, chain_map, local_map, next_map}
 
@@ -29,9 +18,8 @@ module _ {B C : Type 0} (f : B → C) where
   tail_found_map d x s = if_map (is_shut x) _ _ _ _ refl (if_map (items_before (position_of x) == LIMIT) _ _ _ _ refl (if_map (offset_of x == BLOCK_SLOTS) _ _ _ _ refl refl))
 
   block_found_map : (d : PushKind) (x : ℕ) (b s : Option B) → tail_block_found d x (name_map f b) (name_map f s) ≡ next_map f (tail_block_found d x b s)
-  block_found_map d x (Some b) (Some s) = refl
   block_found_map d x (Some b) None = if_map (is_last_slot x) _ _ _ _ refl refl
-  block_found_map d x None s = refl
+  block_found_map d x b s = refl
 
   granted_map : (d : PushKind) (x : ℕ) (b : Option B) (s : B) → granted d x (name_map f b) (f s) ≡ next_map f (granted d x b s)
   granted_map d x None s = refl
@@ -148,23 +136,16 @@ module _ {B C : Type 0} (f : B → C) where
 
   -- a call begins so with any names
   pub unbounded_begin_map : (c : Call Unit) → unbounded_begin c ≡ next_map f (unbounded_begin c)
-  unbounded_begin_map (call.Push v) = refl
-  unbounded_begin_map (call.ForcePush v) = refl
-  unbounded_begin_map call.Pop = refl
-  unbounded_begin_map call.Close = refl
-  unbounded_begin_map call.IsClosed = refl
-  unbounded_begin_map call.IsEmpty = refl
-  unbounded_begin_map call.IsFull = refl
-  unbounded_begin_map call.Len = refl
-  unbounded_begin_map call.Capacity = refl
+  unbounded_begin_map (Call.Push v) = refl
+  unbounded_begin_map c = refl
 
-  pub can_next_map : (l : Local B) (a : Answer B) → CanNext queue.Unbounded l a → CanNext queue.Unbounded (local_map f l) (answer_map f a)
-  can_next_map (local.Begin c) Start can = tt
-  can_next_map (local.Unbounded l) a can = fits_map l a can
+  pub can_next_map : (l : Local B) (a : Answer B) → CanNext Kind.Unbounded l a → CanNext Kind.Unbounded (local_map f l) (answer_map f a)
+  can_next_map (Local.Begin c) Start can = tt
+  can_next_map (Local.Unbounded l) a can = fits_map l a can
   can_next_map _ _ can = absurd can
 
   -- what a call does next, with other names
-  pub next_of_map : (l : Local B) (a : Answer B) → CanNext queue.Unbounded l a → next_of queue.Unbounded (local_map f l) (answer_map f a) ≡ next_map f (next_of queue.Unbounded l a)
-  next_of_map (local.Begin c) Start can = unbounded_begin_map c
-  next_of_map (local.Unbounded l) a can = unbounded_next_map l a can
+  pub next_of_map : (l : Local B) (a : Answer B) → CanNext Kind.Unbounded l a → next_of Kind.Unbounded (local_map f l) (answer_map f a) ≡ next_map f (next_of Kind.Unbounded l a)
+  next_of_map (Local.Begin c) Start can = unbounded_begin_map c
+  next_of_map (Local.Unbounded l) a can = unbounded_next_map l a can
   next_of_map _ _ can = absurd can

@@ -1,7 +1,7 @@
 -- A chain on which no call is on its way: each item that was taken is read, each that was not is written, the blocks before the front's are given up, and the
 -- others are linked to one another.
 use Rattle.std.proofs.Common.{ℕ, ◌+◌, ◌-◌, ◌/◌, ◌<◌, ◌≤◌, ◌≡◌, ◌≢◌, ◌⊎◌, ◌∙◌, inl, inr, Bool, Some, List, refl, sym, ap, subst, arith, slice_get}
-use Rattle.queue_steps.specs.declared.sizes.TheConstants.{BLOCK_SLOTS}
+use Rattle.law_common.specs.Vocabulary.{BLOCK_SLOTS}
 use Rattle.queue_steps.specs.ChainWords.{block_at}
 use Rattle.law_common.proofs.Tails.{position_tail}
 use Rattle.law_chain.specs.ChainFacts.{place}
@@ -9,7 +9,8 @@ use Rattle.law_chain.proofs.ChainPlaces.{place_block}
 use Rattle.law_chain.specs.ChainAnswers.{head_word}
 use Rattle.law_chain.proofs.ChainAnswers.{standing_word}
 use Rattle.own_unbounded.specs.ChainMemory.{block_of}
-use Rattle.law_chain.specs.ChainCells.{Writer, Free, Writing, Wrote, Reader, Unread, Reading, Done, Mover, Rests, Laying, Opening, Passer, Stands, Passing, Entering, LinkState, Unlinked, Linking, Linked, Shown, Hidden, Showing, Seen, Walk, Before, Walker, Waits, GivenUp, Chain, ItemOk, BlocksOk, LinkOk, FrontOk, ShownOk, WalkOk, ChainOk, Write, Read, Tail, Head, Next, First, Passed, writer_of, reader_of, mover_of, passer_of, linker_of, shower_of, walker_of, Holds, Nothing, item_at, LAST}
+use Rattle.law_chain.specs.ChainCells.{Writer, Free, Writing, Wrote, Reader, Unread, Reading, Done, Rests, Passer, Stands, LinkState, Unlinked, Linking, Linked, Shown, Hidden, Showing, Seen, Walk, Before, Walker, Waits, GivenUp, Chain, ItemOk, BlocksOk, LinkOk, FrontOk, ShownOk, WalkOk, ChainOk, Write, Read, Tail, Head, Next, First, Passed, writer_of, reader_of, linker_of, shower_of, walker_of, Holds, Nothing, item_at, LAST}
+use Rattle.law_chain.proofs.ChainRanks.{rests_if, stands_if}
 
 -- nobody writes or reads the items of these cells
 abbrev NoWriter : {A : Type 0} → Writer A → Type 0
@@ -21,54 +22,36 @@ NoReader r = (p : ℕ) → reader_of r ≢ Some p
 module _ {A : Type 0} (head tail : ℕ) (items : List A) (n : ℕ) where
   taken_item : (w : Writer A) (r : Reader) → head ≤ tail → n < head → NoWriter w → NoReader r → ItemOk head tail items n w r → (r ≡ Done) × ((v : A) × (w ≡ Wrote v))
   taken_item w (Reading p) high lt quiet none ok = absurd (none p refl)
-  taken_item Free Done high lt quiet none ok = absurd ok
-  taken_item (Writing p v) Done high lt quiet none ok = absurd ok
   taken_item (Wrote v) Done high lt quiet none ok = (refl, (v, refl))
   taken_item Free Unread high lt quiet none ok = absurd (omega arith)
   taken_item (Writing p v) Unread high lt quiet none ok = absurd (quiet p refl)
   taken_item (Wrote v) Unread high lt quiet none ok = absurd (let low = ok.0 in omega arith)
+  taken_item w Done high lt quiet none ok = absurd ok
 
   held_item : (w : Writer A) (r : Reader) → head ≤ n → n < tail → NoWriter w → ItemOk head tail items n w r → (r ≡ Unread) × ((v : A) × (w ≡ Wrote v) × (slice_get items (n - head) ≡ Some v))
   held_item (Writing p v) r low lt quiet ok = absurd (quiet p refl)
-  held_item Free Unread low lt quiet ok = absurd (omega arith)
   held_item Free (Reading p) low lt quiet ok = absurd ok
   held_item Free Done low lt quiet ok = absurd ok
   held_item (Wrote v) Unread low lt quiet ok = (refl, (v, refl, ok.2))
-  held_item (Wrote v) (Reading p) low lt quiet ok = absurd (omega arith)
-  held_item (Wrote v) Done low lt quiet ok = absurd (omega arith)
+  held_item w r low lt quiet ok = absurd (omega arith)
 
   pub free_item : (w : Writer A) (r : Reader) → head ≤ tail → tail ≤ n → ItemOk head tail items n w r → (r ≡ Unread) × (w ≡ Free)
   free_item Free Unread high low ok = (refl, refl)
-  free_item Free (Reading p) high low ok = absurd ok
-  free_item Free Done high low ok = absurd ok
   free_item (Writing p v) Unread high low ok = absurd (let lt = ok.1 in omega arith)
   free_item (Writing p v) (Reading q) high low ok = absurd (omega arith)
-  free_item (Writing p v) Done high low ok = absurd ok
   free_item (Wrote v) Unread high low ok = absurd (let lt = ok.1 in omega arith)
   free_item (Wrote v) (Reading q) high low ok = absurd (omega arith)
   free_item (Wrote v) Done high low ok = absurd (omega arith)
+  free_item w r high low ok = absurd ok
 
   -- an item that was not taken is not read, whoever is on the way
   pub untaken_item : (w : Writer A) (r : Reader) → head ≤ n → ItemOk head tail items n w r → r ≡ Unread
-  untaken_item Free Unread low ok = refl
   untaken_item Free (Reading p) low ok = absurd ok
-  untaken_item Free Done low ok = absurd ok
-  untaken_item (Writing p v) Unread low ok = refl
   untaken_item (Writing p v) (Reading q) low ok = absurd (omega arith)
-  untaken_item (Writing p v) Done low ok = absurd ok
-  untaken_item (Wrote v) Unread low ok = refl
   untaken_item (Wrote v) (Reading q) low ok = absurd (omega arith)
   untaken_item (Wrote v) Done low ok = absurd (omega arith)
-
-mover_rests : (m : Mover) → ((p : ℕ) → mover_of m ≢ Some p) → m ≡ Rests
-mover_rests Rests none = refl
-mover_rests (Laying p) none = absurd (none p refl)
-mover_rests (Opening p) none = absurd (none p refl)
-
-passer_stands : (m : Passer) → ((p : ℕ) → passer_of m ≢ Some p) → m ≡ Stands
-passer_stands Stands none = refl
-passer_stands (Passing p) none = absurd (none p refl)
-passer_stands (Entering p) none = absurd (none p refl)
+  untaken_item w Done low ok = absurd ok
+  untaken_item w Unread low ok = refl
 
 is_linked : (blocks b : ℕ) (l : LinkState) → ((p : ℕ) → linker_of l ≢ Some p) → LinkOk blocks b l → ((b + 1 < blocks) × (l ≡ Linked)) ⊎ ((blocks ≤ b + 1) × (l ≡ Unlinked))
 is_linked blocks b Unlinked none ok = inr (ok, refl)
@@ -90,9 +73,8 @@ over f b GivenUp all none h = refl
 -- over a block whose last slot is not read no walk began
 pub not_walked : (f : ℕ → Reader) (b : ℕ) (w : Walk) → f (item_at b LAST) ≢ Done → WalkOk f b w → w ≡ Before
 not_walked f b Before ne h = refl
-not_walked f b (Walker p slot) ne h = absurd (ne h.1.0)
-not_walked f b (Waits slot) ne h = absurd (ne h.1.0)
 not_walked f b GivenUp ne h = absurd (ne h.0)
+not_walked f b w ne h = absurd (ne h.1.0)
 
 module _ {A : Type 0} (c : Chain A) (ok : ChainOk c) (stands : c.passer ≡ Stands) where
   pub standing_front : c.front ≡ c.head / BLOCK_SLOTS
@@ -127,11 +109,11 @@ pub record AtRest {A : Type 0} (c : Chain A) : Type 0 where
 
 pub at_rest : {A : Type 0} (c : Chain A) → ChainOk c → ((who : ℕ) → Holds c who Nothing) → AtRest c
 at_rest {A} c ok idle = record {
-  rests = mover_rests c.mover (λ p e. idle p Tail e);
+  rests = rests_if c.mover (λ p e. idle p Tail e);
   stands = stands;
   order = order;
   front = front;
-  laid = subst (λ m. BlocksOk c.tail c.blocks m) (mover_rests c.mover (λ p e. idle p Tail e)) ok.laid;
+  laid = subst (λ m. BlocksOk c.tail c.blocks m) (rests_if c.mover (λ p e. idle p Tail e)) ok.laid;
   seen = λ some. is_seen c.blocks c.head c.front c.known c.passer c.shown some (λ p e. idle p First e) ok.seen;
   taken = taken;
   held = λ n low lt. held_item c.head c.tail c.items n (c.writers n) (c.readers n) low lt (λ p e. idle p (Write n) e) (ok.item n);
@@ -145,7 +127,7 @@ at_rest {A} c ok idle = record {
     order = let e = ok.count in omega arith
 
     stands : c.passer ≡ Stands
-    stands = passer_stands c.passer (λ p e. idle p Head e)
+    stands = stands_if c.passer (λ p e. idle p Head e)
 
     front : c.front ≡ c.head / BLOCK_SLOTS
     front = standing_front c ok stands

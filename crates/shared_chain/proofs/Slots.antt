@@ -5,18 +5,10 @@ use mathlib.Core.Option.{some}
 use lib.ListN.{get_elem?}
 use denote.RawPtr.{Ptr}
 use Rattle.atomic_table.proofs.Lists.{set_here, set_else}
-use Rattle.queue_steps.specs.declared.sizes.TheConstants.{BLOCK_SLOTS}
+use Rattle.law_common.specs.Vocabulary.{Call, Effect, Op, Touch, Local, Next, BLOCK_SLOTS, WRITE, READ}
 use Rattle.queue_steps.specs.State.{State}
 use Rattle.queue_steps.specs.UnboundedNext.{unbounded_next}
-use Rattle.queue_steps.specs.declared.model.Call.{Call}
-use Rattle.queue_steps.specs.declared.model.Effect.{Effect}
-use Rattle.queue_steps.specs.declared.steps.types.Local.{Local}
-use Rattle.queue_steps.specs.declared.steps.types.Op.{Op}
-use Rattle.queue_steps.specs.declared.steps.types.Touch.{Touch}
-use Rattle.queue_steps.specs.declared.steps.types.Next.{Next}
-use Rattle.queue_steps.specs.declared.steps.types.Next.TheVariants as next
-use Rattle.queue_steps.specs.declared.steps.unbounded.TheConstants.{WRITE, READ}
-use Rattle.law_chain.specs.ChainCells.{Writer, Free, Writing, Wrote, Reader, Unread, Reading, Done, Chain, Write, Read, reader_of, Holds, Nothing, item_at}
+use Rattle.law_chain.specs.ChainCells.{Writer, Free, Wrote, Reader, Unread, Reading, Done, Chain, Write, Read, reader_of, Holds, Nothing, item_at}
 use Rattle.law_chain.specs.ChainAt.{At}
 use Rattle.law_chain.specs.ChainAfter.{chain_of, after_of, left_by}
 use Rattle.law_chain.specs.ChainAnswers.{Answers, linked_of, last_of, shown_of, tail_word, head_word, is_wrote, is_done, waits_at}
@@ -41,15 +33,13 @@ plain_by false d = 0
 
 plain_tells : {A : Type 0} (w : Writer A) (r : Reader) → plain_state w r ≡ plain_by (is_wrote w) (is_done r)
 plain_tells Free r = refl
-plain_tells (Writing who v) r = refl
 plain_tells (Wrote v) Unread = refl
-plain_tells (Wrote v) (Reading p) = refl
-plain_tells (Wrote v) Done = refl
+plain_tells w r = refl
 
 -- the spare that a call goes on with, or gives up
 abbrev pub spare_on : Next ℕ → Option ℕ
-spare_on (next.Step l t o) = spare_in l
-spare_on (next.Reply x spare) = spare
+spare_on (Next.Step l t o) = spare_in l
+spare_on (Next.Reply x spare) = spare
 
 pub all_vacant : (A : Type 0) (n : ℕ) → AllVacant (replicate n (vacant {S = A}))
 all_vacant A zero = tt
@@ -181,18 +171,17 @@ module _ {A : Type 0} where
   lent_none g who xs none (inr (n, y, inr o, e)) = absurd (none (Read n) (ap reader_of o.0))
 
   pub none_left : (c : Chain A) (who : ℕ) (n : Next ℕ) → Holds c who Nothing → Holds (left_by c n) who Nothing
-  none_left c who (next.Step l t o) none = none
-  none_left c who (next.Reply x spare) none = holds_given c who spare Nothing none
+  none_left c who (Next.Step l t o) none = none
+  none_left c who (Next.Reply x spare) none = holds_given c who spare Nothing none
 
   pub none_slots : (g : OutChain A) (who : ℕ) (n : Next ℕ) → Holds g.chain who Nothing → SlotsFor g who n
-  none_slots g who (next.Step l t o) none = λ i e. absurd (none (Read i) (ap reader_of e))
-  none_slots g who (next.Reply x spare) none = tt
+  none_slots g who (Next.Step l t o) none = λ i e. absurd (none (Read i) (ap reader_of e))
+  none_slots g who (Next.Reply x spare) none = tt
 
   -- a seat with no slot in hand goes on with the block that it carries
   pub none_holds : (n : Next ℕ) (spare : Option ℕ) (m : Sitter A (CallState A)) → spare_on n ≡ spare → m.hand ≡ None → m.spare ≡ carried_by spare → HoldsFor [] n m
-  none_holds (next.Step l t o) spare m same hand carried = (hand, carried ∙ ap carried_by (sym same))
-  none_holds (next.Reply x None) spare m same hand carried = (hand, carried ∙ ap carried_by (sym same))
-  none_holds (next.Reply x (Some f)) spare m same hand carried = (hand, (fresh_at (spot f), carried ∙ ap carried_by (sym same), refl, refl, refl, all_vacant A BLOCK_SLOTS))
+  none_holds (Next.Reply x (Some f)) spare m same hand carried = (hand, (fresh_at (spot f), carried ∙ ap carried_by (sym same), refl, refl, refl, all_vacant A BLOCK_SLOTS))
+  none_holds n spare m same hand carried = (hand, carried ∙ ap carried_by (sym same))
 
   -- The step of a call, told by what it finds, by the blocks and the chain after it, and by how the call goes on
   pub step_by : (te he : Ptr) (g : OutChain A) (who : ℕ) (bs : List (Block A)) (m : Sitter A (CallState A)) {ms : List (State A)} {l : Local ℕ} {t : Touch} {o : Op ℕ} {v : Option A} {k : Call A} {es : List (Effect A)}

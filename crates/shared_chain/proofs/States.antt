@@ -5,30 +5,16 @@ use Rattle.std.proofs.lemmas.Nat.{and_or_apart}
 use denote.RawPtr.{Ptr}
 use Rattle.law_common.specs.Puts.{put}
 use Rattle.law_common.proofs.Puts.{put_other}
-use Rattle.queue_steps.specs.declared.sizes.TheConstants.{BLOCK_SLOTS}
+use Rattle.law_common.specs.Vocabulary.{Call, Reply, Effect, Word, Op, Touch, Answer, Local, Next, BLOCK_SLOTS}
 use Rattle.queue_steps.specs.State.{State}
-use Rattle.queue_steps.specs.declared.model.Call.{Call}
-use Rattle.queue_steps.specs.declared.model.Effect.{Effect}
-use Rattle.queue_steps.specs.declared.model.Reply.TheVariants as reply
-use Rattle.queue_steps.specs.declared.steps.types.Answer.TheVariants as answer
-use Rattle.queue_steps.specs.declared.steps.types.Local.{Local}
-use Rattle.queue_steps.specs.declared.steps.types.Local.TheVariants as local
-use Rattle.queue_steps.specs.declared.steps.types.Next.{Next}
-use Rattle.queue_steps.specs.declared.steps.types.Next.TheVariants as next
-use Rattle.queue_steps.specs.declared.steps.types.Op.{Op}
-use Rattle.queue_steps.specs.declared.steps.types.Op.TheVariants as op
-use Rattle.queue_steps.specs.declared.steps.types.Touch.{Touch}
-use Rattle.queue_steps.specs.declared.steps.types.Touch.TheVariants as touch
-use Rattle.queue_steps.specs.declared.steps.types.Word.TheVariants as word
 use Rattle.queue_steps.specs.declared.steps.unbounded.UnboundedLocal.TheVariants as chain
 use Rattle.queue_steps.specs.UnboundedNext.{unbounded_next, walks_on}
 use Rattle.law_chain.specs.ChainCells.{Reading, Done, Walk, Walker, GivenUp, Chained, Chain, ChainOk, Part, Write, Read, Passed, Holds, reader_of, item_at, LAST}
 use Rattle.law_chain.specs.ChainTransitions.{walk_after}
 use Rattle.law_chain.specs.ChainFacts.{IsNamed}
 use Rattle.law_chain.specs.ChainAt.{At, Only}
-use Rattle.law_chain.specs.ChainAnswers.{StateAnswers, IsState}
+use Rattle.law_chain.specs.ChainAnswers.{StateAnswers, IsState, Answers}
 use Rattle.law_chain.specs.ChainAfter.{chain_of, after_of, left_by}
-use Rattle.law_chain.specs.ChainAnswers.{Answers}
 use Rattle.law_chain.proofs.ChainWalk.{after_walker}
 use Rattle.mem_blocks.specs.Web.{Block, Sitter, Act, lifts, block, Lives, word_of, with_word, without, AllVacant, acted, May, Mays, blocks_after, sitter_acted, sitter_after}
 use Rattle.shared_parties.specs.declared.known.CallState.{CallState}
@@ -49,7 +35,7 @@ module _ {A : Type 0} (te he : Ptr) where
   state_is g bs b i codes lt on low unread = (alive_is te he g bs b codes lt on).1.state i low unread
 
   -- it is what the operation answers
-  pub state_answers : (g : OutChain A) (bs : List (Block A)) (b name i : ℕ) → ChainOk g.chain → IsNamed g.chain b name → IsState g.chain b i (word_of bs (b + 2) i) → StateAnswers g.chain name i (answer.Found (word_of bs (b + 2) i))
+  pub state_answers : (g : OutChain A) (bs : List (Block A)) (b name i : ℕ) → ChainOk g.chain → IsNamed g.chain b name → IsState g.chain b i (word_of bs (b + 2) i) → StateAnswers g.chain name i (Answer.Found (word_of bs (b + 2) i))
   state_answers g bs b name i ok named state j other = (word_of bs (b + 2) i, refl, subst (λ k. IsState g.chain k i (word_of bs (b + 2) i)) (sym same) state)
     where
       same : j ≡ b
@@ -107,20 +93,20 @@ module _ {A : Type 0} (te he : Ptr) where
   }
 
   -- a load of a slot's state
-  pub load_step : (g : OutChain A) (who : ℕ) (bs : List (Block A)) (m : Sitter A (CallState A)) (b name i : ℕ) {ms : List (State A)} {l : Local ℕ} {t : Touch} {v : Option A} {k : Call A} {es : List (Effect A)} (here : At g.chain who ms l t (op.Load (word.State name i)) v k es)
+  pub load_step : (g : OutChain A) (who : ℕ) (bs : List (Block A)) (m : Sitter A (CallState A)) (b name i : ℕ) {ms : List (State A)} {l : Local ℕ} {t : Touch} {v : Option A} {k : Call A} {es : List (Effect A)} (here : At g.chain who ms l t (Op.Load (Word.State name i)) v k es)
       → ChainOk g.chain → Codes te he g bs → IsNamed g.chain b name → g.chain.walks b ≢ GivenUp → IsState g.chain b i (word_of bs (b + 2) i)
-      → Leaves g who bs m (after_of here (answer.Found (word_of bs (b + 2) i))) (unbounded_next (chain_of l) (answer.Found (word_of bs (b + 2) i))) → BlockStep te he g who bs m here
+      → Leaves g who bs m (after_of here (Answer.Found (word_of bs (b + 2) i))) (unbounded_next (chain_of l) (Answer.Found (word_of bs (b + 2) i))) → BlockStep te he g who bs m here
   load_step g who bs m b name i {l = l} here ok codes named on state left =
       let there = alive_is te he g bs b codes named.0 on in
-      let r = after_of here (answer.Found (word_of bs (b + 2) i)) in
-      let x = unbounded_next (chain_of l) (answer.Found (word_of bs (b + 2) i)) in
+      let r = after_of here (Answer.Found (word_of bs (b + 2) i)) in
+      let x = unbounded_next (chain_of l) (Answer.Found (word_of bs (b + 2) i)) in
       op_step g who bs m (b + 2) here (subst (λ f. Lives bs (b + 2) (spot f)) (sym named.1) there.0) (λ e. absurd (omega arith)) tt (state_answers g bs b name i ok named state)
       (subst (λ (cs : List (Block A)). Leaves g who cs m r x) (sym (word_same bs (b + 2) i)) left)
 
   -- bits of a slot's state that are set
-  pub or_step : (g : OutChain A) (who : ℕ) (bs : List (Block A)) (m : Sitter A (CallState A)) (b name i y : ℕ) {ms : List (State A)} {l : Local ℕ} {t : Touch} {v : Option A} {k : Call A} {es : List (Effect A)} (here : At g.chain who ms l t (op.Or (word.State name i) y) v k es)
+  pub or_step : (g : OutChain A) (who : ℕ) (bs : List (Block A)) (m : Sitter A (CallState A)) (b name i y : ℕ) {ms : List (State A)} {l : Local ℕ} {t : Touch} {v : Option A} {k : Call A} {es : List (Effect A)} (here : At g.chain who ms l t (Op.Or (Word.State name i) y) v k es)
       → ChainOk g.chain → Codes te he g bs → IsNamed g.chain b name → g.chain.walks b ≢ GivenUp → IsState g.chain b i (word_of bs (b + 2) i)
-      → Leaves g who (with_word bs (b + 2) i (bit_or (word_of bs (b + 2) i) y)) m (after_of here (answer.Found (word_of bs (b + 2) i))) (unbounded_next (chain_of l) (answer.Found (word_of bs (b + 2) i))) → BlockStep te he g who bs m here
+      → Leaves g who (with_word bs (b + 2) i (bit_or (word_of bs (b + 2) i) y)) m (after_of here (Answer.Found (word_of bs (b + 2) i))) (unbounded_next (chain_of l) (Answer.Found (word_of bs (b + 2) i))) → BlockStep te he g who bs m here
   or_step g who bs m b name i y here ok codes named on state z =
       let there = alive_is te he g bs b codes named.0 on in
       op_step g who bs m (b + 2) here (subst (λ f. Lives bs (b + 2) (spot f)) (sym named.1) there.0) (λ e. absurd (omega arith)) tt (state_answers g bs b name i ok named state) z
@@ -140,9 +126,9 @@ module _ {A : Type 0} (te he : Ptr) where
 
   -- nor has it one after a block is given up
   none_left : (r : Chain A) (x : Next ℕ) (out : ℕ → Bool) (who : ℕ) → ((n : ℕ) → ¬ (HasOut (record { chain = r; out = out }) who n)) → (n : ℕ) → ¬ (HasOut (record { chain = left_by r x; out = out }) who n)
-  none_left r (next.Step l t o) out who none = none
-  none_left r (next.Reply x None) out who none = none
-  none_left r (next.Reply x (Some f)) out who none = none
+  none_left r (Next.Step l t o) out who none = none
+  none_left r (Next.Reply x None) out who none = none
+  none_left r (Next.Reply x (Some f)) out who none = none
 
   -- nothing more is done, and the seat has no slot
   pub idles : (g : OutChain A) (who : ℕ) (cs : List (Block A)) (m : Sitter A (CallState A)) (r : Chain A) (x : Next ℕ) (out : ℕ → Bool) → Codes te he (record { chain = r; out = out }) cs
@@ -175,13 +161,13 @@ module _ {A : Type 0} (te he : Ptr) where
       go : ((walk_after who slot ≡ GivenUp) × (slot + 1 ≡ LAST)) ⊎ ((walk_after who slot ≡ Walker who (slot + 1)) × (slot + 1 ≢ LAST)) → Leaves g who cs m (r (walk_after who slot)) (walks_on name slot)
       go (inl h) =
           let last = over h.1 in
-          let x : Next ℕ = next.Reply (reply.Pop (Ok tt)) (Some name) in
+          let x : Next ℕ = Next.Reply (Reply.Pop (Ok tt)) (Some name) in
           rw (h.0, le-ltb (slot + 2) BLOCK_SLOTS (let e = h.1 in omega arith))
           (acts_first g who cs m (r GivenUp) x (lifts (b + 2)) last.1.lives.0
           (idles g who (without cs (b + 2)) (sitter_acted cs m (lifts (b + 2))) (r GivenUp) x out last.0 others tt (walks_none (record { chain = r GivenUp; out = out }) who b (holds GivenUp))
           (free.0, (block cs (b + 2), refl, last.1.lives.1, last.1.lives.0, last.1.homes, last.1.vacant))))
       go (inr h) =
-          let x : Next ℕ = next.Step (local.Unbounded (chain.Walking name (slot + 1))) touch.Nothing (op.Load (word.State name (slot + 1))) in
+          let x : Next ℕ = Next.Step (Local.Unbounded (chain.Walking name (slot + 1))) Touch.Nothing (Op.Load (Word.State name (slot + 1))) in
           let none = walks_none (record { chain = r (Walker who (slot + 1)); out = out }) who b (holds (Walker who (slot + 1))) in
           rw (h.0, lt-ltb (slot + 2) BLOCK_SLOTS (let ne = h.1 in omega arith))
           (idles g who cs m (r (Walker who (slot + 1))) x out (on h.1) others (λ n e. absurd (let z : Read n ≡ Passed b = holds (Walker who (slot + 1)) (Read n) (ap reader_of e) in cc)) none free)

@@ -2,28 +2,16 @@
 use Rattle.std.proofs.Common.{ℕ, ◌+◌, ◌*◌, ◌%◌, ◌<◌, ◌≡◌, ◌≢◌, ◌==◌, ◌∙◌, ◌⊎◌, inl, inr, Bool, true, false, if◌then◌else◌, Option, None, List, [], refl, sym, ap, subst, arith}
 use Rattle.std.proofs.lemmas.Bool.Decides.{eqb_tells}
 use denote.RawPtr.{Ptr}
-use Rattle.queue_steps.specs.declared.sizes.TheConstants.{BLOCK_SLOTS}
+use Rattle.law_common.specs.Vocabulary.{Call, Word, Link, Op, Touch, Answer, Local, Next, BLOCK_SLOTS, TAIL_STEP}
 use Rattle.queue_steps.specs.State.{State}
 use Rattle.queue_steps.specs.Words.{tail_of}
 use Rattle.queue_steps.specs.ChainWords.{offset_of}
 use Rattle.queue_steps.specs.UnboundedNext.{unbounded_next, chain_head_found}
-use Rattle.queue_steps.specs.declared.steps.bounded.TheConstants.{TAIL_STEP}
-use Rattle.queue_steps.specs.declared.steps.types.Answer.TheVariants as answer
-use Rattle.queue_steps.specs.declared.model.Call.TheVariants as call
-use Rattle.queue_steps.specs.declared.steps.types.Link.TheVariants as link
-use Rattle.queue_steps.specs.declared.steps.types.Local.{Local}
-use Rattle.queue_steps.specs.declared.steps.types.Local.TheVariants as local
-use Rattle.queue_steps.specs.declared.steps.types.Next.TheVariants as next
-use Rattle.queue_steps.specs.declared.steps.types.Op.{Op}
-use Rattle.queue_steps.specs.declared.steps.types.Op.TheVariants as op
-use Rattle.queue_steps.specs.declared.steps.types.Touch.{Touch}
-use Rattle.queue_steps.specs.declared.steps.types.Touch.TheVariants as touch
-use Rattle.queue_steps.specs.declared.steps.types.Word.TheVariants as word
 use Rattle.queue_steps.specs.declared.steps.unbounded.UnboundedLocal.TheVariants as chain
 use Rattle.law_common.specs.Puts.{put}
 use Rattle.law_common.proofs.Puts.{put_ok, put_other}
 use Rattle.law_chain.specs.ChainFacts.{place, head_of, HeadIs, HeadBlockIs, IsMore}
-use Rattle.law_chain.specs.ChainCells.{Writer, Free, Writing, Wrote, Unread, Reading, Passer, Stands, Passing, ChainOk, Write, Read, Holds, Nothing, reader_of, item_at}
+use Rattle.law_chain.specs.ChainCells.{Writer, Free, Unread, Reading, Passer, Stands, Passing, ChainOk, Write, Read, Holds, Nothing, reader_of, item_at}
 use Rattle.law_chain.specs.ChainTransitions.{taken}
 use Rattle.law_chain.proofs.ChainReads.{front_is}
 use Rattle.law_chain.specs.ChainAfter.{if_taken}
@@ -55,8 +43,7 @@ taken_word who n p false (inr (is, last)) = subst (λ x. place n * 2 + TAIL_STEP
 -- a slot that a pop claims stays where it is
 home_claimed : {A : Type 0} (w : Writer A) (who : ℕ) (b : Bool) → home_of w (Reading who) false ≡ home_of w Unread b
 home_claimed Free who b = refl
-home_claimed (Writing p v) who b = refl
-home_claimed (Wrote v) who b = refl
+home_claimed w who b = refl
 
 module _ {A : Type 0} (te he : Ptr) (g : OutChain A) (who : ℕ) where
   -- the chain after the exchange, with the front's slot at home
@@ -93,42 +80,42 @@ module _ {A : Type 0} (te he : Ptr) (g : OutChain A) (who : ℕ) where
   module _ (bs : List (Block A)) (m : Sitter A (CallState A)) (ms : List (State A)) where
     pub step_taking : (n name after : ℕ) (more new : Bool) (none : Holds g.chain who Nothing) (is : HeadIs g.chain n) (front : HeadBlockIs g.chain n name) (there : n < g.chain.tail)
         (word_is : after ≡ place n * 2 + TAIL_STEP + (if new then 1 else 0)) (room : IsMore g.chain n new)
-        → ChainOk g.chain → Codes te he g bs → (xs : List (ℕ × Option A)) → ChainLent g who xs → HoldsBy (local.Unbounded (chain.Taking (head_of n more) name)) (op.Exchange word.Head (head_of n more) after) xs m
+        → ChainOk g.chain → Codes te he g bs → (xs : List (ℕ × Option A)) → ChainLent g who xs → HoldsBy (Local.Unbounded (chain.Taking (head_of n more) name)) (Op.Exchange Word.Head (head_of n more) after) xs m
         → BlockStep te he g who bs m {ms = ms} (taking n name after more new none is front there word_is room)
     step_taking n name after more new none is front there word_is room ok codes xs lent held = elim (eqb_tells (word_of bs 1 HEAD) (head_of n more)) [
       | inl e ↦ elim (eqb_tells (offset_of (head_of n more) + 1) BLOCK_SLOTS) [
         | inl t ↦ won e.0 e.1 (Passing who) (inr (refl, (let last = t.1 in let off = head_offset n more in omega arith))) (rw (same_bit true e.0, t.0) refl)
-            (local.Unbounded (chain.Following (head_of n more) name)) touch.Nothing (op.LoadLink (link.Next name)) (rw (e.0, t.0) refl) refl refl
+            (Local.Unbounded (chain.Following (head_of n more) name)) Touch.Nothing (Op.LoadLink (Link.Next name)) (rw (e.0, t.0) refl) refl refl
         | inr t ↦ won e.0 e.1 Stands (inl (refl, (λ z. t.1 (let off = head_offset n more in omega arith)))) (rw (same_bit true e.0, t.0) refl)
-            (local.Unbounded (chain.Awaiting (head_of n more) name)) touch.Nothing (op.Load (word.State name (offset_of (head_of n more)))) (rw (e.0, t.0) refl) refl refl
+            (Local.Unbounded (chain.Awaiting (head_of n more) name)) Touch.Nothing (Op.Load (Word.State name (offset_of (head_of n more)))) (rw (e.0, t.0) refl) refl refl
       ]
       | inr e ↦ lost e.0
     ]
       where
-        here : At g.chain who ms (local.Unbounded (chain.Taking (head_of n more) name)) touch.Nothing (op.Exchange word.Head (head_of n more) after) None call.Pop []
+        here : At g.chain who ms (Local.Unbounded (chain.Taking (head_of n more) name)) Touch.Nothing (Op.Exchange Word.Head (head_of n more) after) None Call.Pop []
         here = taking n name after more new none is front there word_is room
 
-        found : Answers g.chain (op.Exchange word.Head (head_of n more) after) (answer.Found (word_of bs 1 HEAD))
-        found = ap (λ w. answer.Found w) codes.head_is
+        found : Answers g.chain (Op.Exchange Word.Head (head_of n more) after) (Answer.Found (word_of bs 1 HEAD))
+        found = ap (λ w. Answer.Found w) codes.head_is
 
         same_bit : (b : Bool) → (word_of bs 1 HEAD == head_of n more) ≡ b → (head_word g.chain == head_of n more) ≡ b
         same_bit b e = ap (λ w. w == head_of n more) (sym codes.head_is) ∙ e
 
         empty : (m.hand ≡ None) × (m.spare ≡ None)
-        empty = none_held g who (local.Unbounded (chain.Taking (head_of n more) name)) (op.Exchange word.Head (head_of n more) after) xs m none lent held
+        empty = none_held g who (Local.Unbounded (chain.Taking (head_of n more) name)) (Op.Exchange Word.Head (head_of n more) after) xs m none lent held
 
         lost : (word_of bs 1 HEAD == head_of n more) ≡ false → BlockStep te he g who bs m here
         lost e = step_none te he g who bs m here 1 codes.head (λ z. refl) tt found bs (rw e (word_same bs 1 HEAD)) g.chain (rw (same_bit false e) refl) (chain_head_found (word_of bs 1 HEAD)) (rw e refl)
             codes none (head_spare (word_of bs 1 HEAD)) empty
 
         won : (word_of bs 1 HEAD == head_of n more) ≡ true → word_of bs 1 HEAD ≡ head_of n more → (p : Passer) → Passes_on who n p → if_taken g.chain who n more new ≡ taken g.chain who p new
-            → (l : Local ℕ) (t : Touch) (o : Op ℕ) → unbounded_next (chain.Taking (head_of n more) name) (answer.Found (word_of bs 1 HEAD)) ≡ next.Step l t o → has_slot l ≡ false → spare_in l ≡ None
+            → (l : Local ℕ) (t : Touch) (o : Op ℕ) → unbounded_next (chain.Taking (head_of n more) name) (Answer.Found (word_of bs 1 HEAD)) ≡ Next.Step l t o → has_slot l ≡ false → spare_in l ≡ None
             → BlockStep te he g who bs m here
         won b e p moves taken_is l t o goes slot spare =
-            step_by te he g who bs m here 1 codes.head (λ z. refl) tt found (with_word bs 1 HEAD after) (rw b refl) (taken g.chain who p new) taken_is (next.Step l t o) goes
+            step_by te he g who bs m here 1 codes.head (λ z. refl) tt found (with_word bs 1 HEAD after) (rw b refl) (taken g.chain who p new) taken_is (Next.Step l t o) goes
             (put g.out g.chain.head false) [] tt (subst (λ w. Codes te he (taken_out p new) (with_word bs 1 HEAD w)) word_at (codes_taken bs p new free (subst (λ i. Passes_on who i p) (sym at) moves) codes))
             (λ j ne i z. put_other g.out g.chain.head i false (λ same. absurd (let y : Unread ≡ Reading j = sym free ∙ (ap g.chain.readers (sym same) ∙ z) in cc)))
-            (λ i z. taken_away none p new i z ∙ sym slot) [] (inl (refl, taken_none none p new)) (none_holds (next.Step l t o) None m spare empty.0 empty.1)
+            (λ i z. taken_away none p new i z ∙ sym slot) [] (inl (refl, taken_none none p new)) (none_holds (Next.Step l t o) None m spare empty.0 empty.1)
           where
             at : g.chain.head ≡ n
             at = (same_head g.chain n more ok is (sym codes.head_is ∙ e)).1

@@ -3,9 +3,8 @@ use Rattle.std.proofs.Common.{ℕ, zero, suc, ◌+◌, ◌<◌, ◌≡◌, ◌�
 use mathlib.Core.Logic.{dite}
 use native.Mathlib.Decide.{ℕ_discrete}
 use denote.RawPtr.{Ptr, Testable}
-use Rattle.queue_steps.specs.declared.steps.types.Op.{Op}
-use Rattle.queue_steps.specs.declared.steps.types.Op.TheVariants as op
-use Rattle.law_chain.specs.ChainCells.{LinkState, Unlinked, Linking, Linked, Shown, Hidden, Showing, Seen, Use, Chained, ChainOk, LinkOk, ShownOk}
+use Rattle.law_common.specs.Vocabulary.{Op}
+use Rattle.law_chain.specs.ChainCells.{LinkState, Linked, Shown, Seen, Use, Chained, ChainOk, LinkOk, ShownOk}
 use Rattle.law_chain.specs.ChainAnswers.{last_of, shown_of, linked_of}
 use Rattle.mem_blocks.specs.Web.{Block, Home, Act, takes, gives, lays, lifts, block, word_of, homed, gone, linked, worded, with_word, with_next, with_home, without, acted, blocks_after, if_unset}
 use Rattle.mem_blocks.specs.declared.hub.TheConstants.{PARTIES}
@@ -35,14 +34,12 @@ module _ {A : Type 0} where
     last_tested (suc b) e = named_tested b (omega arith)
 
     shown_tested : (s : Shown) → ShownOk g.chain.blocks g.chain.head g.chain.front g.chain.known g.chain.passer s → Testable (lead_of (shown_of s (g.chain.names g.chain.front)))
-    shown_tested Hidden h = omega arith
-    shown_tested (Showing who) h = omega arith
     shown_tested Seen h = named_tested g.chain.front h
+    shown_tested s h = omega arith
 
     linked_tested : (b : ℕ) (l : LinkState) → LinkOk g.chain.blocks b l → Testable (lead_of (linked_of l (g.chain.names (b + 1))))
-    linked_tested b Unlinked h = omega arith
-    linked_tested b (Linking who) h = omega arith
     linked_tested b Linked h = named_tested (b + 1) h
+    linked_tested b l h = omega arith
 
     -- where a link of a living block leads can be compared with null
     pub next_tested : (k : ℕ) → (block bs k).alive ≡ true → Testable (block bs k).next
@@ -102,16 +99,10 @@ module _ {A : Type 0} where
   next_count bs b q lt = (next_word bs b q 0 PARTIES lt, omega (arith, length-set bs b (linked (block bs b) q)))
 
   made_count : (bs : List (Block A)) (o : Op ℕ) (b : ℕ) → 0 < length bs → (b ≡ 0 → word_index (op_word o) ≡ 0) → (word_of (blocks_made o b bs) 0 PARTIES ≡ word_of bs 0 PARTIES) × (0 < length (blocks_made o b bs))
-  made_count bs (op.LoadLink l) b lt at = next_count bs b (block bs b).next lt
-  made_count bs (op.StoreLink l x) b lt at = next_count bs b (spot x) lt
-  made_count bs (op.Install x) b lt at = next_count bs b (if_unset (spot x) (block bs b).next) lt
-  made_count bs (op.Load w) b lt at = written_count bs b (word_index (op_word (op.Load w))) (op_makes (op.Load w) (word_of bs b (word_index (op_word (op.Load w))))) lt at
-  made_count bs (op.Store w x) b lt at = written_count bs b (word_index (op_word (op.Store w x))) (op_makes (op.Store w x) (word_of bs b (word_index (op_word (op.Store w x))))) lt at
-  made_count bs (op.Add w x) b lt at = written_count bs b (word_index (op_word (op.Add w x))) (op_makes (op.Add w x) (word_of bs b (word_index (op_word (op.Add w x))))) lt at
-  made_count bs (op.Or w x) b lt at = written_count bs b (word_index (op_word (op.Or w x))) (op_makes (op.Or w x) (word_of bs b (word_index (op_word (op.Or w x))))) lt at
-  made_count bs (op.And w x) b lt at = written_count bs b (word_index (op_word (op.And w x))) (op_makes (op.And w x) (word_of bs b (word_index (op_word (op.And w x))))) lt at
-  made_count bs (op.Exchange w x y) b lt at = written_count bs b (word_index (op_word (op.Exchange w x y))) (op_makes (op.Exchange w x y) (word_of bs b (word_index (op_word (op.Exchange w x y))))) lt at
-  made_count bs op.Ask b lt at = written_count bs b (word_index (op_word op.Ask)) (op_makes op.Ask (word_of bs b (word_index (op_word op.Ask)))) lt at
+  made_count bs (Op.LoadLink l) b lt at = next_count bs b (block bs b).next lt
+  made_count bs (Op.StoreLink l x) b lt at = next_count bs b (spot x) lt
+  made_count bs (Op.Install x) b lt at = next_count bs b (if_unset (spot x) (block bs b).next) lt
+  made_count bs o b lt at = written_count bs b (word_index (op_word o)) (op_makes o (word_of bs b (word_index (op_word o)))) lt at
 
   -- the count of parties after a step of a call and the acts beside it
   pub count_kept : (bs : List (Block A)) (o : Op ℕ) (b : ℕ) (acts : List (Act A)) → 0 < length bs → (b ≡ 0 → word_index (op_word o) ≡ 0) → word_of (blocks_after (blocks_made o b bs) acts) 0 PARTIES ≡ word_of bs 0 PARTIES

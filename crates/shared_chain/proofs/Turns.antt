@@ -2,13 +2,7 @@
 use Rattle.std.proofs.Common.{ℕ, ◌≡◌, ◌∙◌, true, Option, Some, None, List, [], ◌∷◌, refl, sym, ap, subst, inl, inr}
 use denote.RawPtr.{Ptr, null_ptr}
 use Rattle.atomic_table.specs.Table.{rest}
-use Rattle.queue_steps.specs.declared.model.Call.{Call}
-use Rattle.queue_steps.specs.declared.steps.types.Local.{Local}
-use Rattle.queue_steps.specs.declared.steps.types.Op.{Op}
-use Rattle.queue_steps.specs.declared.steps.types.Op.TheVariants as op
-use Rattle.queue_steps.specs.declared.steps.types.Touch.{Touch}
-use Rattle.queue_steps.specs.declared.steps.types.Touch.TheVariants as touch
-use Rattle.queue_steps.specs.declared.steps.types.Word.TheVariants as word
+use Rattle.law_common.specs.Vocabulary.{Call, Word, Op, Touch, Local}
 use Rattle.mem_blocks.specs.Web.{Block, Hand, Sitter, alive_at}
 use Rattle.mem_blocks.specs.Seats.{Sits, Same}
 use Rattle.mem_blocks.specs.declared.block.BlockPtr.{BlockPtr as Place}
@@ -40,24 +34,9 @@ sits_still w a b same sits = (same.0 ∙ sits.0, same.1 ∙ sits.1)
 
 -- the block whose state an operation is on, with other names
 state_map : {B C : Type 0} (f : B → C) (o : Op B) → state_block (op_map f o) ≡ name_map f (state_block o)
-state_map f (op.Load (word.State b i)) = refl
-state_map f (op.Load word.Lock) = refl
-state_map f (op.Load word.Head) = refl
-state_map f (op.Load word.Tail) = refl
-state_map f (op.Load (word.Stamp i)) = refl
-state_map f (op.Store w x) = refl
-state_map f (op.Add w x) = refl
-state_map f (op.Or (word.State b i) x) = refl
-state_map f (op.Or word.Lock x) = refl
-state_map f (op.Or word.Head x) = refl
-state_map f (op.Or word.Tail x) = refl
-state_map f (op.Or (word.Stamp i) x) = refl
-state_map f (op.And w x) = refl
-state_map f (op.Exchange w x y) = refl
-state_map f (op.LoadLink l) = refl
-state_map f (op.StoreLink l b) = refl
-state_map f (op.Install b) = refl
-state_map f op.Ask = refl
+state_map f (Op.Load (Word.State b i)) = refl
+state_map f (Op.Or (Word.State b i) x) = refl
+state_map f o = refl
 
 -- the place of the slot in hand, and what lies in it
 abbrev hand_place : {T : Type 0} → Option (Hand T) → Ptr
@@ -77,10 +56,10 @@ module _ {T : Type 0} where
   can_touch m l u o x c can = go u (subst (λ t. MayTouch c.local t c.op c.carried c.lends) can.touch can.may.1)
     where
       go : (t : Touch) → MayTouch c.local t c.op c.carried c.lends → CanTouch m t o x
-      go touch.Nothing may = tt
-      go (touch.Put i) (at, lends, (v, carried)) = (link_of (slot_block c.local c.op), block_is c.local c.op o can.op at, tt, can.holds.0 ∙ ap (hand_by (slot_block c.local c.op)) lends, (v, sym can.carried ∙ carried))
-      go (touch.Take i) (at, none, (v, lends)) = (link_of (slot_block c.local c.op), block_is c.local c.op o can.op at, tt, (v, can.holds.0 ∙ ap (hand_by (slot_block c.local c.op)) lends), sym can.carried ∙ none)
-      go (touch.Swap i) may = may
+      go Touch.Nothing may = tt
+      go (Touch.Put i) (at, lends, (v, carried)) = (link_of (slot_block c.local c.op), block_is c.local c.op o can.op at, tt, can.holds.0 ∙ ap (hand_by (slot_block c.local c.op)) lends, (v, sym can.carried ∙ carried))
+      go (Touch.Take i) (at, none, (v, lends)) = (link_of (slot_block c.local c.op), block_is c.local c.op o can.op at, tt, (v, can.holds.0 ∙ ap (hand_by (slot_block c.local c.op)) lends), sym can.carried ∙ none)
+      go (Touch.Swap i) may = may
 
   -- a seat that has a slot is in the middle of its call
   in_call : (m : Sitter T (CallState T)) (c : InCall T) (k : ℕ) (y : Option T) → Ready chain_calls m.view c → c.lends ≡ (k, y) ∷ [] → m.view.work ≡ work.Calls c
@@ -120,9 +99,9 @@ module _ {T : Type 0} where
           }
 
       by : (v : Touch) → CanDo m l v o x (call_at m k l v o x) → Touched m v x m' y → TouchedAt k l v o x m m' y
-      by touch.Nothing can (same, kept) =
-          let c = call_at m k l touch.Nothing o x in
-          let is : call_at m' k l touch.Nothing o y ≡ c = λ i. call_at (same i) k l touch.Nothing o (kept i) in record {
+      by Touch.Nothing can (same, kept) =
+          let c = call_at m k l Touch.Nothing o x in
+          let is : call_at m' k l Touch.Nothing o y ≡ c = λ i. call_at (same i) k l Touch.Nothing o (kept i) in record {
             same = is;
             can = subst (λ (z : Sitter T (CallState T) × InCall T). CanOperate z.0 o z.1) (λ i. (sym same i, sym is i)) (record {
               op = can.op;
@@ -132,8 +111,8 @@ module _ {T : Type 0} where
             });
             handed = kept;
           }
-      by (touch.Put i) can swap = let h = subst (λ t. MayTouch (call_at m k l (touch.Put i) o x).local t (call_at m k l (touch.Put i) o x).op (call_at m k l (touch.Put i) o x).carried (call_at m k l (touch.Put i) o x).lends) can.touch can.may.1 in
-          swapped (touch.Put i) i None can h.1 (λ xs. refl) (λ xs. refl) swap
-      by (touch.Take i) can swap = let h = subst (λ t. MayTouch (call_at m k l (touch.Take i) o x).local t (call_at m k l (touch.Take i) o x).op (call_at m k l (touch.Take i) o x).carried (call_at m k l (touch.Take i) o x).lends) can.touch can.may.1 in
-          swapped (touch.Take i) i (Some h.2.0) can h.2.1 (λ xs. refl) (λ xs. refl) swap
-      by (touch.Swap i) can swap = absurd (subst (λ t. MayTouch (call_at m k l (touch.Swap i) o x).local t (call_at m k l (touch.Swap i) o x).op (call_at m k l (touch.Swap i) o x).carried (call_at m k l (touch.Swap i) o x).lends) can.touch can.may.1)
+      by (Touch.Put i) can swap = let h = subst (λ t. MayTouch (call_at m k l (Touch.Put i) o x).local t (call_at m k l (Touch.Put i) o x).op (call_at m k l (Touch.Put i) o x).carried (call_at m k l (Touch.Put i) o x).lends) can.touch can.may.1 in
+          swapped (Touch.Put i) i None can h.1 (λ xs. refl) (λ xs. refl) swap
+      by (Touch.Take i) can swap = let h = subst (λ t. MayTouch (call_at m k l (Touch.Take i) o x).local t (call_at m k l (Touch.Take i) o x).op (call_at m k l (Touch.Take i) o x).carried (call_at m k l (Touch.Take i) o x).lends) can.touch can.may.1 in
+          swapped (Touch.Take i) i (Some h.2.0) can h.2.1 (λ xs. refl) (λ xs. refl) swap
+      by (Touch.Swap i) can swap = absurd (subst (λ t. MayTouch (call_at m k l (Touch.Swap i) o x).local t (call_at m k l (Touch.Swap i) o x).op (call_at m k l (Touch.Swap i) o x).carried (call_at m k l (Touch.Swap i) o x).lends) can.touch can.may.1)

@@ -2,14 +2,7 @@
 use Rattle.std.proofs.Common.{ℕ, ◌+◌, ◌/◌, ◌%◌, ◌^◌, ◌<◌, ◌≡◌, ◌==◌, ◌∙◌, not, true, false, ap, arith, lit<, bit_and, bit_or, Option, List}
 use Rattle.std.proofs.lemmas.Bool.{eqb-true}
 use Rattle.std.proofs.lemmas.Nat.{or_disjoint, or_lt}
-use Rattle.queue_steps.specs.declared.sizes.TheConstants.{BLOCK_SLOTS}
-use Rattle.queue_steps.specs.declared.model.Call.{Call}
-use Rattle.queue_steps.specs.declared.model.Effect.{Effect}
-use Rattle.queue_steps.specs.declared.steps.types.Local.{Local}
-use Rattle.queue_steps.specs.declared.steps.types.Op.{Op}
-use Rattle.queue_steps.specs.declared.steps.types.Op.TheVariants as op
-use Rattle.queue_steps.specs.declared.steps.types.Touch.{Touch}
-use Rattle.queue_steps.specs.declared.steps.unbounded.TheConstants.{WRITE, READ}
+use Rattle.law_common.specs.Vocabulary.{Call, Effect, Op, Touch, Local, BLOCK_SLOTS, WRITE, READ}
 use Rattle.queue_steps.specs.State.{State}
 use Rattle.shared_parties.specs.Operations.{answer_for}
 use Rattle.law_chain.specs.ChainCells.{Chain, item_at}
@@ -21,7 +14,7 @@ use Rattle.shared_chain.specs.Names.{is_set_once}
 
 -- where the operation sets bits that are set once, to set them is to add them
 abbrev pub FindsUnset : Op ℕ → ℕ → Type 0
-FindsUnset (op.Or w bits) n = is_set_once w bits ≡ true → n < 2 ^ 64 → bit_or n bits ≡ (n + bits) % 2 ^ 64
+FindsUnset (Op.Or w bits) n = is_set_once w bits ≡ true → n < 2 ^ 64 → bit_or n bits ≡ (n + bits) % 2 ^ 64
 FindsUnset _ n = Unit {0}
 
 set_is_added : (n bits : ℕ) → n < 2 ^ 64 → bits < 2 ^ 64 → (bit_and n bits == 0) ≡ true → bit_or n bits ≡ (n + bits) % 2 ^ 64

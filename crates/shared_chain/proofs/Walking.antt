@@ -9,12 +9,7 @@ use Rattle.law_common.specs.Puts.{put}
 use Rattle.law_common.proofs.Puts.{put_same, put_other}
 use Rattle.queue_steps.specs.State.{State}
 use Rattle.queue_steps.specs.UnboundedNext.{at, ends, walks_on}
-use Rattle.queue_steps.specs.declared.model.Reply.TheVariants as reply
-use Rattle.queue_steps.specs.declared.steps.types.Local.TheVariants as local
-use Rattle.queue_steps.specs.declared.steps.types.Op.TheVariants as op
-use Rattle.queue_steps.specs.declared.steps.types.Touch.TheVariants as touch
-use Rattle.queue_steps.specs.declared.steps.types.Word.TheVariants as word
-use Rattle.queue_steps.specs.declared.steps.unbounded.TheConstants.{WRITE, READ, DESTROY}
+use Rattle.law_common.specs.Vocabulary.{Reply, Word, Op, Touch, Local, WRITE, READ, DESTROY}
 use Rattle.queue_steps.specs.declared.steps.unbounded.UnboundedLocal.TheVariants as chain
 use Rattle.law_chain.specs.ChainCells.{Reader, Reading, Done, Walk, Before, Walker, Waits, GivenUp, Chain, ChainOk, WalkOk, IsWalked, Read, Passed, Holds, reader_of, item_at, LAST}
 use Rattle.law_chain.specs.ChainTransitions.{walked, walk_after}
@@ -119,25 +114,25 @@ module _ {A : Type 0} (te he : Ptr) where
 
     -- the call goes on by whether the slot is read, and by whether its state says that it is not
     abbrev goes : Bool → Bool → Type 0
-    goes t u = Leaves te he g who bs m (if t then walked g.chain b (walk_after who slot) else g.chain) (if not u then walks_on name slot else at (chain.Destroying name slot) touch.Nothing (op.Or (word.State name slot) DESTROY))
+    goes t u = Leaves te he g who bs m (if t then walked g.chain b (walk_after who slot) else g.chain) (if not u then walks_on name slot else at (chain.Destroying name slot) Touch.Nothing (Op.Or (Word.State name slot) DESTROY))
 
     walk_left : (m.hand ≡ None) × (m.spare ≡ None) → (t : Bool) → is_done (g.chain.readers (item_at b slot)) ≡ t → goes (is_done (g.chain.readers (item_at b slot))) (bit_and (word_of bs (b + 2) slot) READ == 0)
     walk_left free true e = subst (λ u. goes u (bit_and (word_of bs (b + 2) slot) READ == 0)) (sym e) (subst (λ u. goes true u) (sym (state.read ∙ ap not e))
         (passes bs free (turns_not (b + 2) slot bs) (record { written = state.written; read = state.read ∙ ap not e }) refl (done_is (g.chain.readers (item_at b slot)) e)))
     walk_left free false e = subst (λ u. goes u (bit_and (word_of bs (b + 2) slot) READ == 0)) (sym e) (subst (λ u. goes false u) (sym (state.read ∙ ap not e))
-        (idles te he g who bs m g.chain (at (chain.Destroying name slot) touch.Nothing (op.Or (word.State name slot) DESTROY)) g.out codes (λ j ne n z. refl) (λ n z. absurd (let y : Read n ≡ Passed b = holds (Read n) (ap reader_of z) in cc)) (walks_none te he g who b holds) free))
+        (idles te he g who bs m g.chain (at (chain.Destroying name slot) Touch.Nothing (Op.Or (Word.State name slot) DESTROY)) g.out codes (λ j ne n z. refl) (λ n z. absurd (let y : Read n ≡ Passed b = holds (Read n) (ap reader_of z) in cc)) (walks_none te he g who b holds) free))
 
   pub step_walking : (g : OutChain A) (who : ℕ) (bs : List (Block A)) (m : Sitter A (CallState A)) (ms : List (State A)) (x : A) (b name slot : ℕ) (holds : Holds g.chain who (Only (Passed b))) (is : g.chain.walks b ≡ Walker who slot) (named : IsNamed g.chain b name)
-      → ChainOk g.chain → Codes te he g bs → (xs : List (ℕ × Option A)) → ChainLent g who xs → HoldsBy (local.Unbounded (chain.Walking name slot)) (op.Load (word.State name slot)) xs m
+      → ChainOk g.chain → Codes te he g bs → (xs : List (ℕ × Option A)) → ChainLent g who xs → HoldsBy (Local.Unbounded (chain.Walking name slot)) (Op.Load (Word.State name slot)) xs m
       → BlockStep te he g who bs m {ms = ms} (walking x b name slot holds is named)
   step_walking g who bs m ms x b name slot holds is named ok codes xs lent has =
       let none = no_hand g who b holds xs lent in
-      let free : (m.hand ≡ None) × (m.spare ≡ None) = subst (λ ys. HoldsBy (local.Unbounded (chain.Walking name slot)) (op.Load (word.State name slot)) ys m) none has in
+      let free : (m.hand ≡ None) × (m.spare ≡ None) = subst (λ ys. HoldsBy (Local.Unbounded (chain.Walking name slot)) (Op.Load (Word.State name slot)) ys m) none has in
       load_step te he g who bs m b name slot {ms = ms} (walking x b name slot holds is named) ok codes named (on g who bs m x b name slot holds is named ok codes) (state g who bs m x b name slot holds is named ok codes)
       (walk_left g who bs m x b name slot holds is named ok codes free (is_done (g.chain.readers (item_at b slot))) refl)
 
   pub step_destroying : (g : OutChain A) (who : ℕ) (bs : List (Block A)) (m : Sitter A (CallState A)) (ms : List (State A)) (x : A) (b name slot : ℕ) (holds : Holds g.chain who (Only (Passed b))) (is : g.chain.walks b ≡ Walker who slot) (named : IsNamed g.chain b name)
-      → ChainOk g.chain → Codes te he g bs → (xs : List (ℕ × Option A)) → ChainLent g who xs → HoldsBy (local.Unbounded (chain.Destroying name slot)) (op.Or (word.State name slot) DESTROY) xs m
+      → ChainOk g.chain → Codes te he g bs → (xs : List (ℕ × Option A)) → ChainLent g who xs → HoldsBy (Local.Unbounded (chain.Destroying name slot)) (Op.Or (Word.State name slot) DESTROY) xs m
       → BlockStep te he g who bs m {ms = ms} (destroying x b name slot holds is named)
   step_destroying g who bs m ms x b name slot holds is named ok codes xs lent has =
       or_step te he g who bs m b name slot DESTROY {ms = ms} (destroying x b name slot holds is named) ok codes named (on g who bs m x b name slot holds is named ok codes) here (left (is_done (g.chain.readers (item_at b slot))) refl)
@@ -158,13 +153,13 @@ module _ {A : Type 0} (te he : Ptr) where
       long = omega (arith, codes.size, named.0)
 
       free : (m.hand ≡ None) × (m.spare ≡ None)
-      free = subst (λ ys. HoldsBy (local.Unbounded (chain.Destroying name slot)) (op.Or (word.State name slot) DESTROY) ys m) (no_hand g who b holds xs lent) has
+      free = subst (λ ys. HoldsBy (Local.Unbounded (chain.Destroying name slot)) (Op.Or (Word.State name slot) DESTROY) ys m) (no_hand g who b holds xs lent) has
 
       set : word_of cs (b + 2) slot ≡ bit_or (word_of bs (b + 2) slot) DESTROY
       set = word_set bs (b + 2) slot (bit_or (word_of bs (b + 2) slot) DESTROY) long (omega (arith, block_is.words, low))
 
       goes_on : Bool → Bool → Type 0
-      goes_on t u = Leaves te he g who cs m (walked g.chain b (if t then walk_after who slot else Waits slot)) (if not u then walks_on name slot else ends (reply.Pop (Ok tt)))
+      goes_on t u = Leaves te he g who cs m (walked g.chain b (if t then walk_after who slot else Waits slot)) (if not u then walks_on name slot else ends (Reply.Pop (Ok tt)))
 
       left : (t : Bool) → is_done (g.chain.readers (item_at b slot)) ≡ t → goes_on (is_done (g.chain.readers (item_at b slot))) (bit_and (word_of bs (b + 2) slot) READ == 0)
       left true e = subst (λ u. goes_on u (bit_and (word_of bs (b + 2) slot) READ == 0)) (sym e) (subst (λ u. goes_on true u) (sym (here.read ∙ ap not e))
@@ -179,7 +174,7 @@ module _ {A : Type 0} (te he : Ptr) where
           let walk : put g.chain.walks b w b ≡ w = put_same g.chain.walks b w in
           let r : OutChain A = turned g g.chain.writers g.chain.readers (put g.chain.walks b w) g.out in
           subst (λ u. goes_on u (bit_and (word_of bs (b + 2) slot) READ == 0)) (sym e) (subst (λ u. goes_on false u) (sym (here.read ∙ ap not e))
-          (idles te he g who cs m r.chain (ends (reply.Pop (Ok tt))) g.out
+          (idles te he g who cs m r.chain (ends (Reply.Pop (Ok tt))) g.out
           (codes_turned te he g g.chain.writers g.chain.readers (put g.chain.walks b w) g.out bs cs b slot (omega (arith, low)) named.0 (on g who bs m x b name slot holds is named ok codes) (λ z. let y : Waits slot ≡ GivenUp = sym walk ∙ z in cc) codes (but_walk g b slot w)
           (record {
             begun = λ z. absurd (let y : Waits slot ≡ Before = sym walk ∙ z in cc);

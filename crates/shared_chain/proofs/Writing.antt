@@ -5,18 +5,10 @@ use mathlib.Core.Option.{some}
 use denote.RawPtr.{Ptr}
 use Rattle.law_common.specs.Puts.{put}
 use Rattle.law_common.proofs.Puts.{put_same, put_other}
-use Rattle.queue_steps.specs.declared.sizes.TheConstants.{BLOCK_SLOTS}
+use Rattle.law_common.specs.Vocabulary.{Word, Op, Touch, Local, Next, PushKind, BLOCK_SLOTS, WRITE, READ, DESTROY}
 use Rattle.queue_steps.specs.State.{State}
 use Rattle.queue_steps.specs.BoundedNext.{pushed_reply}
 use Rattle.queue_steps.specs.ChainWords.{offset_of}
-use Rattle.queue_steps.specs.declared.steps.bounded.PushKind.{PushKind}
-use Rattle.queue_steps.specs.declared.steps.types.Local.TheVariants as local
-use Rattle.queue_steps.specs.declared.steps.types.Next.{Next}
-use Rattle.queue_steps.specs.declared.steps.types.Next.TheVariants as next
-use Rattle.queue_steps.specs.declared.steps.types.Op.TheVariants as op
-use Rattle.queue_steps.specs.declared.steps.types.Touch.TheVariants as touch
-use Rattle.queue_steps.specs.declared.steps.types.Word.TheVariants as word
-use Rattle.queue_steps.specs.declared.steps.unbounded.TheConstants.{WRITE, READ, DESTROY}
 use Rattle.queue_steps.specs.declared.steps.unbounded.UnboundedLocal.TheVariants as chain
 use Rattle.law_chain.specs.ChainCells.{Writing, Wrote, Reader, Unread, Reading, Done, GivenUp, ChainOk, ItemOk, Write, Holds, Nothing, item_at}
 use Rattle.law_chain.specs.ChainTransitions.{written}
@@ -42,9 +34,8 @@ OutWrote {A} g = (j n : ℕ) → g.chain.readers n ≡ Reading j → g.out n ≡
 
 -- an item that is still to be written is not read
 writing_unread : {A : Type 0} (head tail : ℕ) (items : List A) (n who : ℕ) (v : A) (r : Reader) → ItemOk head tail items n (Writing who v) r → r ≢ Done
-writing_unread head tail items n who v Unread ok e = cc
-writing_unread head tail items n who v (Reading p) ok e = cc
 writing_unread head tail items n who v Done ok e = absurd ok
+writing_unread head tail items n who v r ok e = cc
 
 -- once it is written its slot is full, and its state says so
 home_written : {A : Type 0} (v : A) (r : Reader) (b : Bool) → r ≢ Done → ((j : ℕ) → r ≡ Reading j → b ≡ false) → home_of (Wrote v) r b ≡ full v
@@ -53,9 +44,8 @@ home_written v (Reading p) b ne out = rw (out p refl) refl
 home_written v Done b ne out = absurd (ne refl)
 
 plain_written : {A : Type 0} (v : A) (r : Reader) → r ≢ Done → plain_state (Wrote v) r ≡ WRITE
-plain_written v Unread ne = refl
-plain_written v (Reading p) ne = refl
 plain_written v Done ne = absurd (ne refl)
+plain_written v r ne = refl
 
 vacant_rows : (A : Type 0) (n : ℕ) → AllVacant (replicate n (vacant {S = A}))
 vacant_rows A zero = tt
@@ -63,14 +53,14 @@ vacant_rows A (suc n) = (refl, vacant_rows A n)
 
 module _ {A : Type 0} (te he : Ptr) where
   -- the reply gives up the spare that the seat carries
-  gives_spare : (m : Sitter A (CallState A)) (d : PushKind) (spare : Option ℕ) → m.hand ≡ None → m.spare ≡ carried_by spare → HoldsFor [] (next.Reply (pushed_reply d) spare) m
+  gives_spare : (m : Sitter A (CallState A)) (d : PushKind) (spare : Option ℕ) → m.hand ≡ None → m.spare ≡ carried_by spare → HoldsFor [] (Next.Reply (pushed_reply d) spare) m
   gives_spare m d None empty is = (empty, is)
   gives_spare m d (Some f) empty is = (empty, (fresh_at (spot f), is, refl, refl, refl, vacant_rows A BLOCK_SLOTS))
 
   -- U9: the item is written, at the slot i of the block b
   write_left : (g : OutChain A) (who : ℕ) (bs : List (Block A)) (m : Sitter A (CallState A)) (d : PushKind) (x : A) (n b i name : ℕ) (spare : Option ℕ) → Holds g.chain who (Only (Write n)) → g.chain.writers n ≡ Writing who x → OutWrote g → item_at b i ≡ n → i < BLOCK_SLOTS → b < g.chain.blocks → name ≡ g.chain.names b
       → ChainOk g.chain → Codes te he g bs → (m.hand ≡ Some (spot name, i, Some x)) × (m.spare ≡ carried_by spare)
-      → (g.chain.walks b ≢ GivenUp) × IsState g.chain b i (word_of bs (b + 2) i) × Leaves te he g who (with_word bs (b + 2) i (bit_or (word_of bs (b + 2) i) WRITE)) m (written g.chain n x) (next.Reply (pushed_reply d) spare)
+      → (g.chain.walks b ≢ GivenUp) × IsState g.chain b i (word_of bs (b + 2) i) × Leaves te he g who (with_word bs (b + 2) i (bit_or (word_of bs (b + 2) i) WRITE)) m (written g.chain n x) (Next.Reply (pushed_reply d) spare)
   write_left g who bs m d x n b i name spare holds mine ready at low lt named ok codes has = (
     on,
     here,
@@ -89,7 +79,7 @@ module _ {A : Type 0} (te he : Ptr) where
       ds = with_home cs (b + 2) i (full x)
 
       y : Next ℕ
-      y = next.Reply (pushed_reply d) spare
+      y = Next.Reply (pushed_reply d) spare
 
       r : OutChain A
       r = record { chain = written g.chain n x; out = g.out }
@@ -151,7 +141,7 @@ module _ {A : Type 0} (te he : Ptr) where
           })
 
   pub step_writing : (g : OutChain A) (who : ℕ) (bs : List (Block A)) (m : Sitter A (CallState A)) (ms : List (State A)) (d : PushKind) (x : A) (n name : ℕ) (spare : Option ℕ) (holds : Holds g.chain who (Only (Write n))) (mine : Claimed g.chain who n x name) (spare_is : HasSpare g.chain who spare)
-      → ChainOk g.chain → Codes te he g bs → (xs : List (ℕ × Option A)) → HoldsBy (local.Unbounded (chain.Writing d spare)) (op.Or (word.State name (offset_of (open_tail_of n))) WRITE) (touched_list (touch.Put (offset_of (open_tail_of n))) (Some x) xs) m → OutWrote g
+      → ChainOk g.chain → Codes te he g bs → (xs : List (ℕ × Option A)) → HoldsBy (Local.Unbounded (chain.Writing d spare)) (Op.Or (Word.State name (offset_of (open_tail_of n))) WRITE) (touched_list (Touch.Put (offset_of (open_tail_of n))) (Some x) xs) m → OutWrote g
       → BlockStep te he g who bs m {ms = ms} (writing d x n name spare holds mine spare_is)
   step_writing g who bs m ms d x n name spare holds mine spare_is ok codes xs has ready =
       let i = offset_of (open_tail_of n) in

@@ -3,17 +3,12 @@ use Rattle.std.proofs.Common.{ℕ, ◌≡◌, ◌∙◌, true, Option, List, ref
 use mathlib.Core.Option.{some, some-injective, some-ne-none}
 use mathlib.Core.Option as maybe
 use lib.ListN.{get_elem?}
-use Rattle.queue_steps.specs.declared.model.Call.{Call}
-use Rattle.queue_steps.specs.declared.model.Effect.{Effect}
-use Rattle.queue_steps.specs.declared.steps.types.Local.{Local}
-use Rattle.queue_steps.specs.declared.steps.types.Op.{Op}
-use Rattle.queue_steps.specs.declared.steps.types.Touch.{Touch}
+use Rattle.law_common.specs.Vocabulary.{Call, Effect, Op, Touch, Local}
 use Rattle.queue_steps.specs.State.{State}
 use Rattle.law_chain.specs.ChainCells.{Wrote, Reading, Chain, Read, reader_of}
 use Rattle.law_chain.specs.ChainAt.{At, push_tail, push_block, asking, installing, showing, claiming, laying, opening, chaining, writing, spending, pop_head, pop_block, pop_tail, taking, following, peeking, passing, entering, awaiting, reading, beginning, walking, destroying, len_tail, len_head, len_again, empty_head, empty_tail, closing, closed_tail}
 use Rattle.shared_parties.specs.declared.known.CallState.{CallState}
 use Rattle.shared_parties.specs.declared.known.Work.{Work}
-use Rattle.shared_parties.specs.declared.known.Work.TheVariants as work
 use Rattle.shared_parties.specs.CallStates.{is_busy}
 use Rattle.shared_parties.specs.CallsAt.{CallsAt}
 use Rattle.shared_chain.specs.ChainCalls.{OutChain, has_slot, chain_calls}
@@ -60,9 +55,9 @@ module _ {A : Type 0} where
   module _ (g : OutChain A) (h : List (Effect A)) (count : ℕ) (views : List (CallState A)) (all : CallsAt chain_calls g h count views) where
     -- a party that reads is at a call
     by_work : (j n : ℕ) (d : CallState A) (w : Work A) → get_elem? views j ≡ some d → d.work ≡ w → g.chain.readers n ≡ Reading j → g.out n ≡ true → IsWritten g.chain n
-    by_work j n d work.Nothing at is mine out =
+    by_work j n d Work.Nothing at is mine out =
         absurd ((all.free j (λ e there. ap (λ (z : CallState A). is_busy z.work) (some-injective e d (sym there ∙ at)) ∙ ap is_busy is)).0 (Read n) (ap reader_of mine))
-    by_work j n d (work.Calls c) at is mine out = let st = all.calls j d c at is in wrote_by n st.here.0 mine (sym (st.here.2 n mine) ∙ out)
+    by_work j n d (Work.Calls c) at is mine out = let st = all.calls j d c at is in wrote_by n st.here.0 mine (sym (st.here.2 n mine) ∙ out)
 
     by_view : (j n : ℕ) (v : maybe.Option (CallState A)) → get_elem? views j ≡ v → g.chain.readers n ≡ Reading j → g.out n ≡ true → IsWritten g.chain n
     by_view j n maybe.none at mine out = absurd ((all.free j (λ e there. absurd (some-ne-none e (sym there ∙ at)))).0 (Read n) (ap reader_of mine))

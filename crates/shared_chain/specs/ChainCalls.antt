@@ -1,13 +1,6 @@
 -- A chain that parties share, as a kind of queue.
 use Rattle.std.specs.Prelude.{◌≡◌, ◌≢◌, ◌⊎◌, ℕ, ◌%◌, Bool, true, false, List, [], ◌∷◌, Option, Some, None}
-use Rattle.queue_steps.specs.declared.sizes.TheConstants.{BLOCK_SLOTS}
-use Rattle.queue_steps.specs.declared.model.Call.{Call}
-use Rattle.queue_steps.specs.declared.model.Effect.{Effect}
-use Rattle.queue_steps.specs.declared.steps.types.Kind.TheVariants as queue
-use Rattle.queue_steps.specs.declared.steps.types.Local.{Local}
-use Rattle.queue_steps.specs.declared.steps.types.Local.TheVariants as local
-use Rattle.queue_steps.specs.declared.steps.types.Op.{Op}
-use Rattle.queue_steps.specs.declared.steps.types.Touch.{Touch}
+use Rattle.law_common.specs.Vocabulary.{Call, Effect, Kind, Op, Touch, Local, BLOCK_SLOTS}
 use Rattle.queue_steps.specs.declared.steps.unbounded.UnboundedLocal.TheVariants as chain
 use Rattle.queue_steps.specs.State.{State}
 use Rattle.law_chain.specs.ChainCells.{Wrote, Reading, Chain, queue_of, ChainOk, Holds, Nothing, writer_of}
@@ -22,8 +15,8 @@ pub record OutChain (T : Type 0) : Type 0 where
 
 -- the call has the slot of the item that it reads
 abbrev pub has_slot : Local ℕ → Bool
-has_slot (local.Unbounded (chain.Reading name slot)) = true
-has_slot (local.Unbounded (chain.Walking name slot)) = true
+has_slot (Local.Unbounded (chain.Reading name slot)) = true
+has_slot (Local.Unbounded (chain.Walking name slot)) = true
 has_slot _ = false
 
 -- the party has the slot of the item n: it is to write it, or it reads it
@@ -55,7 +48,7 @@ PassesOut who g s = Passes who g.chain s.chain × ((j n : ℕ) → j ≢ who →
 
 abbrev pub chain_calls : {T : Type 0} → CallsOf T
 chain_calls {T} = record {
-  kind = queue.Unbounded;
+  kind = Kind.Unbounded;
   Cells = OutChain T;
   Ok = λ g. ChainOk g.chain;
   queue_of = λ g. queue_of g.chain;

@@ -1,20 +1,7 @@
 -- At run time a name is the place of its block. What the steps of calls say is the same with other names.
 use Rattle.std.specs.Prelude.{ℕ, ◌==◌, ◌||◌, Bool, false, Option, Some, None}
-use Rattle.queue_steps.specs.declared.steps.types.Answer.{Answer}
-use Rattle.queue_steps.specs.declared.steps.types.Answer.TheVariants as answer
-use Rattle.queue_steps.specs.declared.steps.types.Link.{Link}
-use Rattle.queue_steps.specs.declared.steps.types.Link.TheVariants as link
-use Rattle.queue_steps.specs.declared.steps.types.Local.{Local}
-use Rattle.queue_steps.specs.declared.steps.types.Local.TheVariants as local
-use Rattle.queue_steps.specs.declared.steps.types.Next.{Next}
-use Rattle.queue_steps.specs.declared.steps.types.Next.TheVariants as next
-use Rattle.queue_steps.specs.declared.steps.types.Op.{Op}
-use Rattle.queue_steps.specs.declared.steps.types.Op.TheVariants as op
-use Rattle.queue_steps.specs.declared.steps.types.Word.{Word}
-use Rattle.queue_steps.specs.declared.steps.types.Word.TheVariants as word
-use Rattle.queue_steps.specs.declared.steps.unbounded.UnboundedLocal.{UnboundedLocal}
+use Rattle.law_common.specs.Vocabulary.{Word, Link, Op, Answer, Local, Next, UnboundedLocal, WRITE, READ}
 use Rattle.queue_steps.specs.declared.steps.unbounded.UnboundedLocal.TheVariants as chain
-use Rattle.queue_steps.specs.declared.steps.unbounded.TheConstants.{WRITE, READ}
 use Rattle.mem_blocks.specs.declared.block.BlockPtr.{BlockPtr as Place}
 use Rattle.shared_chain.specs.Spots.{spot}
 
@@ -28,36 +15,36 @@ module _ {B C : Type 0} (f : B → C) where
   name_map (Some b) = Some (f b)
 
   abbrev pub word_map : Word B → Word C
-  word_map word.Lock = word.Lock
-  word_map word.Head = word.Head
-  word_map word.Tail = word.Tail
-  word_map (word.Stamp i) = word.Stamp i
-  word_map (word.State b i) = word.State (f b) i
+  word_map Word.Lock = Word.Lock
+  word_map Word.Head = Word.Head
+  word_map Word.Tail = Word.Tail
+  word_map (Word.Stamp i) = Word.Stamp i
+  word_map (Word.State b i) = Word.State (f b) i
 
   abbrev pub link_map : Link B → Link C
-  link_map link.HeadBlock = link.HeadBlock
-  link_map link.TailBlock = link.TailBlock
-  link_map (link.Next b) = link.Next (f b)
+  link_map Link.HeadBlock = Link.HeadBlock
+  link_map Link.TailBlock = Link.TailBlock
+  link_map (Link.Next b) = Link.Next (f b)
 
   abbrev pub op_map : Op B → Op C
-  op_map (op.Load w) = op.Load (word_map w)
-  op_map (op.Store w n) = op.Store (word_map w) n
-  op_map (op.Add w n) = op.Add (word_map w) n
-  op_map (op.Or w n) = op.Or (word_map w) n
-  op_map (op.And w n) = op.And (word_map w) n
-  op_map (op.Exchange w m n) = op.Exchange (word_map w) m n
-  op_map (op.LoadLink l) = op.LoadLink (link_map l)
-  op_map (op.StoreLink l b) = op.StoreLink (link_map l) (f b)
-  op_map (op.Install b) = op.Install (f b)
-  op_map op.Ask = op.Ask
+  op_map (Op.Load w) = Op.Load (word_map w)
+  op_map (Op.Store w n) = Op.Store (word_map w) n
+  op_map (Op.Add w n) = Op.Add (word_map w) n
+  op_map (Op.Or w n) = Op.Or (word_map w) n
+  op_map (Op.And w n) = Op.And (word_map w) n
+  op_map (Op.Exchange w m n) = Op.Exchange (word_map w) m n
+  op_map (Op.LoadLink l) = Op.LoadLink (link_map l)
+  op_map (Op.StoreLink l b) = Op.StoreLink (link_map l) (f b)
+  op_map (Op.Install b) = Op.Install (f b)
+  op_map Op.Ask = Op.Ask
 
   abbrev pub answer_map : Answer B → Answer C
-  answer_map answer.Start = answer.Start
-  answer_map (answer.Found n) = answer.Found n
-  answer_map (answer.Linked b) = answer.Linked (name_map b)
-  answer_map (answer.Granted b) = answer.Granted (f b)
-  answer_map answer.Refused = answer.Refused
-  answer_map answer.Done = answer.Done
+  answer_map Answer.Start = Answer.Start
+  answer_map (Answer.Found n) = Answer.Found n
+  answer_map (Answer.Linked b) = Answer.Linked (name_map b)
+  answer_map (Answer.Granted b) = Answer.Granted (f b)
+  answer_map Answer.Refused = Answer.Refused
+  answer_map Answer.Done = Answer.Done
 
   abbrev pub chain_map : UnboundedLocal B → UnboundedLocal C
   chain_map (chain.PushTail d s) = chain.PushTail d (name_map s)
@@ -92,22 +79,22 @@ module _ {B C : Type 0} (f : B → C) where
   chain_map chain.ClosedTail = chain.ClosedTail
 
   abbrev pub local_map : Local B → Local C
-  local_map (local.Begin k) = local.Begin k
-  local_map (local.Single l) = local.Single l
-  local_map (local.Bounded l) = local.Bounded l
-  local_map (local.Unbounded l) = local.Unbounded (chain_map l)
+  local_map (Local.Begin k) = Local.Begin k
+  local_map (Local.Single l) = Local.Single l
+  local_map (Local.Bounded l) = Local.Bounded l
+  local_map (Local.Unbounded l) = Local.Unbounded (chain_map l)
 
   abbrev pub next_map : Next B → Next C
-  next_map (next.Step l t o) = next.Step (local_map l) t (op_map o)
-  next_map (next.Reply r b) = next.Reply r (name_map b)
+  next_map (Next.Step l t o) = Next.Step (local_map l) t (op_map o)
+  next_map (Next.Reply r b) = Next.Reply r (name_map b)
 
 -- the block whose state an operation reads or sets, of whose slots a touch beside it is
 abbrev pub state_block : {B : Type 0} → Op B → Option B
-state_block (op.Load (word.State b i)) = Some b
-state_block (op.Or (word.State b i) x) = Some b
+state_block (Op.Load (Word.State b i)) = Some b
+state_block (Op.Or (Word.State b i) x) = Some b
 state_block _ = None
 
 -- whether one call alone sets these bits of the word: that an item is written, or read
 abbrev pub is_set_once : {B : Type 0} → Word B → ℕ → Bool
-is_set_once (word.State b i) bits = (bits == WRITE) || (bits == READ)
+is_set_once (Word.State b i) bits = (bits == WRITE) || (bits == READ)
 is_set_once _ bits = false

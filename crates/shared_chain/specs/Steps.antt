@@ -1,24 +1,7 @@
 -- What the step of a call does to the blocks of a web, and what it tells its seat.
 use Rattle.std.specs.Prelude.{◌≡◌, ◌≢◌, ℕ, ◌+◌, ◌-◌, ◌<◌, Bool, true, false, List, [], ◌∷◌, replicate, length, Option, Some, None}
 use denote.RawPtr.{Ptr, null_ptr}
-use Rattle.queue_steps.specs.declared.sizes.TheConstants.{BLOCK_SLOTS}
-use Rattle.queue_steps.specs.declared.model.Call.{Call}
-use Rattle.queue_steps.specs.declared.model.Effect.{Effect}
-use Rattle.queue_steps.specs.declared.steps.types.Answer.{Answer}
-use Rattle.queue_steps.specs.declared.steps.types.Answer.TheVariants as answer
-use Rattle.queue_steps.specs.declared.steps.types.Kind.TheVariants as queue
-use Rattle.queue_steps.specs.declared.steps.types.Link.{Link}
-use Rattle.queue_steps.specs.declared.steps.types.Link.TheVariants as link
-use Rattle.queue_steps.specs.declared.steps.types.Local.{Local}
-use Rattle.queue_steps.specs.declared.steps.types.Local.TheVariants as local
-use Rattle.queue_steps.specs.declared.steps.types.Next.{Next}
-use Rattle.queue_steps.specs.declared.steps.types.Next.TheVariants as next
-use Rattle.queue_steps.specs.declared.steps.types.Op.{Op}
-use Rattle.queue_steps.specs.declared.steps.types.Op.TheVariants as op
-use Rattle.queue_steps.specs.declared.steps.types.Touch.{Touch}
-use Rattle.queue_steps.specs.declared.steps.types.Touch.TheVariants as touch
-use Rattle.queue_steps.specs.declared.steps.types.Word.{Word}
-use Rattle.queue_steps.specs.declared.steps.types.Word.TheVariants as word
+use Rattle.law_common.specs.Vocabulary.{Call, Effect, Kind, Word, Link, Op, Touch, Answer, Local, Next, BLOCK_SLOTS}
 use Rattle.queue_steps.specs.declared.steps.unbounded.UnboundedLocal.TheVariants as chain
 use Rattle.queue_steps.specs.Next.{CanNext, next_of}
 use Rattle.queue_steps.specs.State.{State}
@@ -50,12 +33,12 @@ carried_by (Some f) = Some (fresh_at (spot f))
 
 -- the block whose slot a call has, by where it stands
 abbrev pub slot_block : Local ℕ → Op ℕ → ℕ
-slot_block (local.Unbounded (chain.Laying d t name f)) o = name
-slot_block (local.Unbounded (chain.Opening d t name f)) o = name
-slot_block (local.Unbounded (chain.Chaining d t name f)) o = name
-slot_block (local.Unbounded (chain.Writing d f)) (op.Or (word.State name i) x) = name
-slot_block (local.Unbounded (chain.Reading name i)) o = name
-slot_block (local.Unbounded (chain.Walking name i)) o = name
+slot_block (Local.Unbounded (chain.Laying d t name f)) o = name
+slot_block (Local.Unbounded (chain.Opening d t name f)) o = name
+slot_block (Local.Unbounded (chain.Chaining d t name f)) o = name
+slot_block (Local.Unbounded (chain.Writing d f)) (Op.Or (Word.State name i) x) = name
+slot_block (Local.Unbounded (chain.Reading name i)) o = name
+slot_block (Local.Unbounded (chain.Walking name i)) o = name
 slot_block _ o = 0
 
 -- the slot that a seat has in hand, by those that its call has
@@ -69,72 +52,72 @@ HoldsBy l o xs m = (m.hand ≡ hand_by (slot_block l o) xs) × (m.spare ≡ carr
 
 -- after a step it does so for the next one; after a reply it has nothing in hand, and carries the block that the reply gives up, in which nothing lies
 abbrev pub HoldsFor : {T : Type 0} → List (ℕ × Option T) → Next ℕ → Sitter T (CallState T) → Type 0
-HoldsFor xs (next.Step l t o) m = HoldsBy l o xs m
-HoldsFor xs (next.Reply x None) m = (m.hand ≡ None) × (m.spare ≡ None)
-HoldsFor {T} xs (next.Reply x (Some f)) m = (m.hand ≡ None) × ((y : Block T) × (m.spare ≡ Some y) × (y.at ≡ spot f) × (y.alive ≡ true) × (length y.homes ≡ BLOCK_SLOTS) × AllVacant y.homes)
+HoldsFor xs (Next.Step l t o) m = HoldsBy l o xs m
+HoldsFor xs (Next.Reply x None) m = (m.hand ≡ None) × (m.spare ≡ None)
+HoldsFor {T} xs (Next.Reply x (Some f)) m = (m.hand ≡ None) × ((y : Block T) × (m.spare ≡ Some y) × (y.at ≡ spot f) × (y.alive ≡ true) × (length y.homes ≡ BLOCK_SLOTS) × AllVacant y.homes)
 
 -- whether an operation is on a link
 abbrev pub is_link : Op ℕ → Bool
-is_link (op.LoadLink l) = true
-is_link (op.StoreLink l x) = true
-is_link (op.Install x) = true
+is_link (Op.LoadLink l) = true
+is_link (Op.StoreLink l x) = true
+is_link (Op.Install x) = true
 is_link _ = false
 
 module _ (tail_end head_end : Ptr) where
   abbrev pub word_place : Word ℕ → Ptr
-  word_place word.Tail = tail_end
-  word_place word.Head = head_end
-  word_place (word.State name i) = spot name
+  word_place Word.Tail = tail_end
+  word_place Word.Head = head_end
+  word_place (Word.State name i) = spot name
   word_place _ = null_ptr
 
   abbrev pub link_place : Link ℕ → Ptr
-  link_place link.TailBlock = tail_end
-  link_place link.HeadBlock = head_end
-  link_place (link.Next name) = spot name
+  link_place Link.TailBlock = tail_end
+  link_place Link.HeadBlock = head_end
+  link_place (Link.Next name) = spot name
 
   -- where the block lies that an operation is on
   abbrev pub op_place : Op ℕ → Ptr
-  op_place (op.LoadLink l) = link_place l
-  op_place (op.StoreLink l x) = link_place l
-  op_place (op.Install x) = tail_end
-  op_place op.Ask = null_ptr
+  op_place (Op.LoadLink l) = link_place l
+  op_place (Op.StoreLink l x) = link_place l
+  op_place (Op.Install x) = tail_end
+  op_place Op.Ask = null_ptr
   op_place o = word_place (op_word o)
 
 -- the number of a word in its block
 abbrev pub word_index : Word ℕ → ℕ
-word_index (word.State name i) = i
+word_index (Word.State name i) = i
 word_index _ = 0
 
 -- what an operation makes of a link
 abbrev pub link_makes : Op ℕ → Ptr → Ptr
-link_makes (op.StoreLink l x) q = spot x
-link_makes (op.Install x) q = if_unset (spot x) q
+link_makes (Op.StoreLink l x) q = spot x
+link_makes (Op.Install x) q = if_unset (spot x) q
 link_makes _ q = q
 
 -- the blocks after the operation on the block k
 abbrev pub blocks_made : {T : Type 0} → Op ℕ → ℕ → List (Block T) → List (Block T)
-blocks_made (op.LoadLink l) k bs = with_next bs k (block bs k).next
-blocks_made (op.StoreLink l x) k bs = with_next bs k (spot x)
-blocks_made (op.Install x) k bs = with_next bs k (if_unset (spot x) (block bs k).next)
+blocks_made (Op.LoadLink l) k bs = with_next bs k (block bs k).next
+blocks_made (Op.StoreLink l x) k bs = with_next bs k (spot x)
+blocks_made (Op.Install x) k bs = with_next bs k (if_unset (spot x) (block bs k).next)
 blocks_made o k bs = with_word bs k (word_index (op_word o)) (op_makes o (word_of bs k (word_index (op_word o))))
 
 -- the name that a link leads to, which is that of the block k
 abbrev pub link_found : {T : Type 0} → Chain T → Link ℕ → ℕ → Option ℕ
-link_found c link.TailBlock k = last_of c.names c.blocks
-link_found c link.HeadBlock k = shown_of c.shown (c.names c.front)
-link_found c (link.Next name) k = linked_of (c.links (k - 2)) (c.names (k - 2 + 1))
+link_found c Link.TailBlock k = last_of c.names c.blocks
+link_found c Link.HeadBlock k = shown_of c.shown (c.names c.front)
+link_found c (Link.Next name) k = linked_of (c.links (k - 2)) (c.names (k - 2 + 1))
 
 -- what the operation on the block k answers
 abbrev pub answered : {T : Type 0} → Chain T → List (Block T) → Op ℕ → ℕ → Answer ℕ
-answered c bs (op.LoadLink l) k = answer.Linked (link_found c l k)
-answered c bs (op.StoreLink l x) k = answer.Done
-answered c bs (op.Install x) k = answer.Linked (last_of c.names c.blocks)
+answered c bs (Op.LoadLink l) k = Answer.Linked (link_found c l k)
+answered c bs (Op.StoreLink l x) k = Answer.Done
+answered c bs (Op.Install x) k = Answer.Linked (last_of c.names c.blocks)
 answered c bs o k = answer_for o (word_of bs k (word_index (op_word o)))
 
 -- the link of the block k leads where the answer says
 abbrev pub LeadsThere : {T : Type 0} → Chain T → List (Block T) → Op ℕ → ℕ → Type 0
-LeadsThere c bs (op.LoadLink l) k = (block bs k).next ≡ lead_of (link_found c l k)
-LeadsThere c bs (op.Install x) k = (block bs k).next ≡ lead_of (last_of c.names c.blocks)
+LeadsThere c bs (Op.LoadLink l) k = (block bs k).next ≡ lead_of (link_found c l k)
+LeadsThere c bs (Op.Install x) k = (block bs k).next ≡ lead_of (last_of c.names c.blocks)
 LeadsThere c bs _ k = Unit {0}
 
 -- the chain after the step that was answered so, and a block given up with it
@@ -143,8 +126,8 @@ chain_then {l = l} here a = left_by (after_of here a) (unbounded_next (chain_of 
 
 -- the readers of the party have their slot exactly where the call that goes on says so
 abbrev pub SlotsFor : {T : Type 0} → OutChain T → ℕ → Next ℕ → Type 0
-SlotsFor g who (next.Step l t o) = SlotsAs g who l
-SlotsFor g who (next.Reply x spare) = Unit {0}
+SlotsFor g who (Next.Step l t o) = SlotsAs g who l
+SlotsFor g who (Next.Reply x spare) = Unit {0}
 
 -- What the operation of a step finds in the blocks, and what it and the acts beside it make of them and of the seat: they stand for the chain after the step
 pub record BlockStep {T : Type 0} (tail_end head_end : Ptr) (g : OutChain T) (who : ℕ) (bs : List (Block T)) (m : Sitter T (CallState T)) {ms : List (State T)} {l : Local ℕ} {t : Touch} {o : Op ℕ} {v : Option T} {k : Call T} {es : List (Effect T)} (here : At g.chain who ms l t o v k es) : Type 0 where
@@ -165,28 +148,28 @@ pub record BlockStep {T : Type 0} (tail_end head_end : Ptr) (g : OutChain T) (wh
 
 -- the words that a chain has
 abbrev pub HasWord : Word ℕ → Type 0
-HasWord word.Head = Unit {0}
-HasWord word.Tail = Unit {0}
-HasWord (word.State name i) = i < BLOCK_SLOTS
+HasWord Word.Head = Unit {0}
+HasWord Word.Tail = Unit {0}
+HasWord (Word.State name i) = i < BLOCK_SLOTS
 HasWord _ = ⊥
 
 -- the operations that a call at this local state does on a chain. Who asks for a block has no slot and no spare
 abbrev pub MayDo : {T : Type 0} → Local ℕ → Op ℕ → List (ℕ × Option T) → Type 0
-MayDo l (op.Load w) xs = HasWord w
-MayDo l (op.Store w x) xs = HasWord w
-MayDo l (op.Add w x) xs = HasWord w
-MayDo l (op.Or w x) xs = HasWord w
-MayDo l (op.And w x) xs = ⊥
-MayDo l (op.Exchange w x y) xs = HasWord w
-MayDo l op.Ask xs = (xs ≡ []) × (spare_in l ≡ None)
+MayDo l (Op.Load w) xs = HasWord w
+MayDo l (Op.Store w x) xs = HasWord w
+MayDo l (Op.Add w x) xs = HasWord w
+MayDo l (Op.Or w x) xs = HasWord w
+MayDo l (Op.And w x) xs = ⊥
+MayDo l (Op.Exchange w x y) xs = HasWord w
+MayDo l Op.Ask xs = (xs ≡ []) × (spare_in l ≡ None)
 MayDo l _ xs = Unit {0}
 
 -- the slot that is touched is the one that the call has, of the block whose state the operation is on. A put finds it empty and writes what is carried, a take finds it full
 abbrev pub MayTouch : {T : Type 0} → Local ℕ → Touch → Op ℕ → Option T → List (ℕ × Option T) → Type 0
-MayTouch l touch.Nothing o v xs = Unit {0}
-MayTouch {T} l (touch.Put i) o v xs = (state_block o ≡ Some (slot_block l o)) × (xs ≡ (i, None) ∷ []) × ((x : T) × (v ≡ Some x))
-MayTouch {T} l (touch.Take i) o v xs = (state_block o ≡ Some (slot_block l o)) × (v ≡ None) × ((x : T) × (xs ≡ (i, Some x) ∷ []))
-MayTouch l (touch.Swap i) o v xs = ⊥
+MayTouch l Touch.Nothing o v xs = Unit {0}
+MayTouch {T} l (Touch.Put i) o v xs = (state_block o ≡ Some (slot_block l o)) × (xs ≡ (i, None) ∷ []) × ((x : T) × (v ≡ Some x))
+MayTouch {T} l (Touch.Take i) o v xs = (state_block o ≡ Some (slot_block l o)) × (v ≡ None) × ((x : T) × (xs ≡ (i, Some x) ∷ []))
+MayTouch l (Touch.Swap i) o v xs = ⊥
 
 -- the step may be done with these slots, and v carried
 abbrev pub MayStep : {T : Type 0} → Local ℕ → Touch → Op ℕ → Option T → List (ℕ × Option T) → Type 0
@@ -194,8 +177,8 @@ MayStep l t o v xs = MayDo l o xs × MayTouch l t o v xs
 
 -- the next step may be done
 abbrev pub MayGoOn : {T : Type 0} → Option T → List (ℕ × Option T) → Next ℕ → Type 0
-MayGoOn v xs (next.Step l t o) = MayStep l t o v xs
-MayGoOn v xs (next.Reply x spare) = Unit {0}
+MayGoOn v xs (Next.Step l t o) = MayStep l t o v xs
+MayGoOn v xs (Next.Reply x spare) = Unit {0}
 
 -- what is so of the seat of the call c once its step was done, with v carried: it stands at what is to be done next, or has ended
 abbrev pub After : {T : Type 0} → InCall T → Option T → Next ℕ → Sitter T (CallState T) → Type 0
@@ -203,12 +186,12 @@ After {T} c v n m = (xs : List (ℕ × Option T)) × Told chain_calls c v xs n m
 
 -- what the step of the call c tells its seat, where it was answered so
 abbrev pub Follows : {T : Type 0} → InCall T → Answer ℕ → Sitter T (CallState T) → Type 0
-Follows c a m = CanNext queue.Unbounded c.local a × After c (handed_by c.touch c.carried c.lends) (next_of queue.Unbounded c.local a) m
+Follows c a m = CanNext Kind.Unbounded c.local a × After c (handed_by c.touch c.carried c.lends) (next_of Kind.Unbounded c.local a) m
 
 -- what the load or the install of a link tells its seat, where the link led to q
 abbrev pub FollowsLink : {T : Type 0} → InCall T → Ptr → Sitter T (CallState T) → Type 0
-FollowsLink c q m = (x : Option ℕ) × (q ≡ lead_of x) × Follows c (answer.Linked x) m
+FollowsLink c q m = (x : Option ℕ) × (q ≡ lead_of x) × Follows c (Answer.Linked x) m
 
 -- the step after which a block is the call's that lies at p: the block has a name now
 abbrev pub FollowsGrant : {T : Type 0} → InCall T → Ptr → Sitter T (CallState T) → Type 0
-FollowsGrant c p m = (f : ℕ) × (spot f ≡ p) × Follows c (answer.Granted f) m
+FollowsGrant c p m = (f : ℕ) × (spot f ≡ p) × Follows c (Answer.Granted f) m

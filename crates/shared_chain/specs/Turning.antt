@@ -1,17 +1,7 @@
 -- What a party's driver may do with a seat at a shared chain, and what that leaves: at run time, where names are places.
 use Rattle.std.specs.Prelude.{◌≡◌, ℕ, length, Option, Some, None, true}
 use denote.RawPtr.{Ptr, InBlock, null_ptr}
-use Rattle.queue_steps.specs.declared.sizes.TheConstants.{BLOCK_SLOTS}
-use Rattle.queue_steps.specs.declared.model.Call.{Call}
-use Rattle.queue_steps.specs.declared.model.Reply.{Reply}
-use Rattle.queue_steps.specs.declared.steps.types.Answer.{Answer}
-use Rattle.queue_steps.specs.declared.steps.types.Kind.TheVariants as queue
-use Rattle.queue_steps.specs.declared.steps.types.Local.{Local}
-use Rattle.queue_steps.specs.declared.steps.types.Next.{Next}
-use Rattle.queue_steps.specs.declared.steps.types.Next.TheVariants as next
-use Rattle.queue_steps.specs.declared.steps.types.Op.{Op}
-use Rattle.queue_steps.specs.declared.steps.types.Touch.{Touch}
-use Rattle.queue_steps.specs.declared.steps.types.Touch.TheVariants as touch
+use Rattle.law_common.specs.Vocabulary.{Call, Reply, Kind, Op, Touch, Answer, Local, Next, BLOCK_SLOTS}
 use Rattle.queue_steps.specs.Effect.{IsHistory}
 use Rattle.queue_steps.specs.Kinds.{call_kind, filled}
 use Rattle.queue_steps.specs.Next.{CanNext, next_of}
@@ -61,20 +51,20 @@ pub record CanDo {T : Type 0} (m : Sitter T (CallState T)) (l : Local (Place T))
 
 -- the slot in the seat's hand is the one that is touched. A put finds it empty, a take full
 abbrev pub CanTouch : {T : Type 0} → Sitter T (CallState T) → Touch → Op (Place T) → Option T → Type 0
-CanTouch m touch.Nothing o x = Unit {0}
-CanTouch {T} m (touch.Put i) o x = (p : Place T) × (state_block o ≡ Some p) × InBlock p.ptr × (m.hand ≡ Some (p.ptr, i, None)) × ((v : T) × (x ≡ Some v))
-CanTouch {T} m (touch.Take i) o x = (p : Place T) × (state_block o ≡ Some p) × InBlock p.ptr × ((v : T) × (m.hand ≡ Some (p.ptr, i, Some v))) × (x ≡ None)
-CanTouch m (touch.Swap i) o x = ⊥
+CanTouch m Touch.Nothing o x = Unit {0}
+CanTouch {T} m (Touch.Put i) o x = (p : Place T) × (state_block o ≡ Some p) × InBlock p.ptr × (m.hand ≡ Some (p.ptr, i, None)) × ((v : T) × (x ≡ Some v))
+CanTouch {T} m (Touch.Take i) o x = (p : Place T) × (state_block o ≡ Some p) × InBlock p.ptr × ((v : T) × (m.hand ≡ Some (p.ptr, i, Some v))) × (x ≡ None)
+CanTouch m (Touch.Swap i) o x = ⊥
 
 -- the slot in the seat's hand and what the call carries have changed places
 abbrev pub Swapped : {T : Type 0} → Sitter T (CallState T) → ℕ → Option T → Sitter T (CallState T) → Option T → Type 0
 Swapped m i x m' y = (p : Ptr) × (m.hand ≡ Some (p, i, y)) × (m' ≡ sitter m.view (Some (p, i, x)) m.spare)
 
 abbrev pub Touched : {T : Type 0} → Sitter T (CallState T) → Touch → Option T → Sitter T (CallState T) → Option T → Type 0
-Touched m touch.Nothing x m' y = (m' ≡ m) × (y ≡ x)
-Touched m (touch.Put i) x m' y = Swapped m i x m' y
-Touched m (touch.Take i) x m' y = Swapped m i x m' y
-Touched m (touch.Swap i) x m' y = Swapped m i x m' y
+Touched m Touch.Nothing x m' y = (m' ≡ m) × (y ≡ x)
+Touched m (Touch.Put i) x m' y = Swapped m i x m' y
+Touched m (Touch.Take i) x m' y = Swapped m i x m' y
+Touched m (Touch.Swap i) x m' y = Swapped m i x m' y
 
 -- the seat has its slot touched, and may do the operation
 pub record CanOperate {T : Type 0} (m : Sitter T (CallState T)) (o : Op (Place T)) (c : InCall T) : Type 0 where
@@ -119,7 +109,7 @@ module _ {T A : Type 0} where
 
   -- the call c that the seat p began had its step at l answered so, and goes on or has ended
   abbrev pub ChainStands : ChainWeb T A → Seat T (CallState T) A → Call T → Local (Place T) → Answer (Place T) → Seat T (CallState T) A → Option T → Type 0
-  ChainStands w p c l a q y = SitsAt w q × ((d : InCall T) × (d.call ≡ c) × (begun_at d ≡ view_of p.sitter.view.known) × ((i : Local ℕ) × (b : Answer ℕ) × (local_map link_of i ≡ l) × (a ≡ answer_map link_of b) × CanNext queue.Unbounded i b × After d y (next_of queue.Unbounded i b) q.sitter))
+  ChainStands w p c l a q y = SitsAt w q × ((d : InCall T) × (d.call ≡ c) × (begun_at d ≡ view_of p.sitter.view.known) × ((i : Local ℕ) × (b : Answer ℕ) × (local_map link_of i ≡ l) × (a ≡ answer_map link_of b) × CanNext Kind.Unbounded i b × After d y (next_of Kind.Unbounded i b) q.sitter))
 
   -- the seat of a party of the chain, between its calls
   abbrev pub ChainRests : ChainWeb T A → Seat T (CallState T) A → Type 0
@@ -135,6 +125,6 @@ module _ {T A : Type 0} where
 
   -- what is to be done may be done and leads the call c, begun by the seat p, on; or it ends right, once the block is given back that its reply gives up
   abbrev pub ChainLeads : ChainWeb T A → Seat T (CallState T) A → Call T → Next (Place T) → Seat T (CallState T) A → Option T → Type 0
-  ChainLeads w p c (next.Step l t o) s x =
+  ChainLeads w p c (Next.Step l t o) s x =
       ChainCan w s (call_kind c) l t o x × ((a : Answer (Place T)) (q : Seat T (CallState T) A) (y : Option T) → ChainDoes s (call_kind c) l t o x a q y → ChainStands w p c l a q y)
-  ChainLeads w p c (next.Reply r spare) s x = Carries spare s.sitter × ((y : Reply T) × (filled r x ≡ Some y) × ((q : Seat T (CallState T) A) → GaveUp s q → ChainEnded w p c y q))
+  ChainLeads w p c (Next.Reply r spare) s x = Carries spare s.sitter × ((y : Reply T) × (filled r x ≡ Some y) × ((q : Seat T (CallState T) A) → GaveUp s q → ChainEnded w p c y q))

@@ -8,28 +8,21 @@ use lib.Seq.{map-set}
 use mathlib.Core.Logic.{dite}
 use native.Mathlib.Decide.{ℕ_discrete}
 use Rattle.atomic_table.proofs.Lists.{at_set, at_map, set_else}
-use Rattle.queue_steps.specs.declared.model.Effect.{Effect}
-use Rattle.queue_steps.specs.declared.model.Effect.TheVariants as effect
-use Rattle.queue_steps.specs.declared.model.Call.{Call}
-use Rattle.queue_steps.specs.declared.steps.types.Local.{Local}
-use Rattle.queue_steps.specs.declared.steps.types.Op.{Op}
-use Rattle.queue_steps.specs.declared.steps.types.Touch.{Touch}
-use Rattle.queue_steps.specs.declared.steps.types.Next.{Next}
-use Rattle.queue_steps.specs.declared.steps.types.Next.TheVariants as next
+use Rattle.law_common.specs.Vocabulary.{Call, Effect, Op, Touch, Local, Next}
 use Rattle.queue_steps.specs.State.{State, start}
 use Rattle.queue_steps.specs.Effect.{Fits, IsHistory, made, after}
 use Rattle.queue_steps.specs.Kinds.{call_value}
 use Rattle.queue_steps.specs.Shares.{Share, IsEntire}
 use Rattle.queue_steps.specs.Parties.{IsWhole}
+use Rattle.law_common.proofs.Runs.{after_snoc, runs_snoc}
 use Rattle.law_common.specs.Effects.{Leads, with_effect}
 use Rattle.shared_parties.specs.declared.known.Known.{Known}
 use Rattle.shared_parties.specs.declared.known.InCall.{InCall}
 use Rattle.shared_parties.specs.declared.known.Work.{Work}
-use Rattle.shared_parties.specs.declared.known.Work.TheVariants as work
 use Rattle.shared_parties.specs.declared.known.CallState.{CallState}
 use Rattle.shared_parties.specs.Known.{party, view_of, Kept}
 use Rattle.shared_parties.specs.CallStates.{is_busy, idle, known_by, IsResting}
-use Rattle.shared_parties.proofs.Histories.{prefix_self, after_snoc, runs_snoc}
+use Rattle.shared_parties.proofs.Histories.{prefix_self}
 use Rattle.shared_parties.specs.Calling.{CallsOf, CallLaws, cap_of, Standing, MayFront, Goes, first_of, Opens}
 use Rattle.shared_parties.specs.CallsAt.{CallsAt, IsFirst, Ready, Told}
 use Rattle.shared_parties.proofs.Keeping.{looks, gains}
@@ -49,12 +42,12 @@ module _ {T : Type 0} where
 
   -- the step's effect is the history's next
   makes_history : (cap : Option ℕ) (q r : State T) (h : List (Effect T)) (e : Option (Effect T)) → q ≡ after cap h → Leads q e r
-      → (r ≡ after cap (grown h e)) × FitsAt e (after cap h) × (e ≡ Some effect.Arrive → r.coming ≡ None)
-  makes_history cap q r h None state same = (same ∙ state, tt, λ e. absurd (let f : None ≡ Some effect.Arrive = e in cc))
+      → (r ≡ after cap (grown h e)) × FitsAt e (after cap h) × (e ≡ Some Effect.Arrive → r.coming ≡ None)
+  makes_history cap q r h None state same = (same ∙ state, tt, λ e. absurd (let f : None ≡ Some Effect.Arrive = e in cc))
   makes_history cap q r h (Some x) state m = (
     m.1 ∙ (ap (made x) state ∙ sym (after_snoc (start cap 0) h x)),
     subst (Fits x) state m.0,
-    λ e. let is : x ≡ effect.Arrive = cc in ap (λ z. z.coming) m.1 ∙ ap (λ z. (made z q).coming) is,
+    λ e. let is : x ≡ Effect.Arrive = cc in ap (λ z. z.coming) m.1 ∙ ap (λ z. (made z q).coming) is,
   )
 
   legal_after : (cap : Option ℕ) (h : List (Effect T)) (e : Option (Effect T)) → IsHistory cap h → FitsAt e (after cap h) → IsHistory cap (grown h e)
@@ -67,8 +60,8 @@ module _ {T : Type 0} where
   kept_after cap h (Some e) n ks id k kept at counts can = (gains T cap h n ks id k e kept at counts can).0
 
   call_in : InCall T → Work T → InCall T
-  call_in c work.Nothing = c
-  call_in c (work.Calls d) = d
+  call_in c Work.Nothing = c
+  call_in c (Work.Calls d) = d
 
   rests_as : (cap : Option ℕ) (seen : List (Effect T)) (mine : List ℕ) (share : Share) (d : CallState T) → d ≡ idle (party cap seen mine share) → IsResting d
   rests_as cap seen mine share d is = is ∙ sym (ap (λ (z : CallState T). idle (party z.known.cap z.known.seen z.known.mine z.known.share)) is)
@@ -80,7 +73,7 @@ module _ {T : Type 0} (K : CallsOf T) (laws : CallLaws K) where
   -- what a step leaves of its own seat
   record OwnAfter (g : K.Cells) (h : List (Effect T)) (who : ℕ) (k : Known T) (c : InCall T) (v : Option T) (n : Next ℕ) (xs : List (ℕ × Option T)) : Type 0 where
     pub does : Work T
-    pub calls : (d : InCall T) → does ≡ work.Calls d → Standing K g h who k d
+    pub calls : (d : InCall T) → does ≡ Work.Calls d → Standing K g h who k d
     pub free : is_busy does ≡ false → K.Idle g who
     pub tells : Told K c v xs n (record { known = k; work = does })
 
@@ -89,19 +82,19 @@ module _ {T : Type 0} (K : CallsOf T) (laws : CallLaws K) where
       → (st : Standing K r h who k c) → MayFront e st.was → K.Lent s who xs
       → Goes K s who (K.queue_of s ∷ st.ms) (st.was || not (K.queue_of s).closed) n v c.call (with_effect c.effects e) → OwnAfter s (grown h e) who (known_after h e k) c v n xs
   unfolding call_in
-  own_after r s h e who k c (next.Step l t o) v xs seen owns legal state st may lent goes =
+  own_after r s h e who k c (Next.Step l t o) v xs seen owns legal state st may lent goes =
       let d = call_after c h e l t o v xs in
       let stands = own_stands K r s h e who k c l t o v xs seen state st may lent goes in record {
-        does = work.Calls d;
+        does = Work.Calls d;
         calls = λ d' is. subst (Standing K s (grown h e) who (known_after h e k)) (ap (call_in d) is) stands;
         free = λ no. absurd (let f : true ≡ false = no in cc);
         tells = (d, refl, refl, refl, refl, refl, refl, refl, refl);
       }
-  own_after r s h e who k c (next.Reply x spare) v xs seen owns legal state st may lent goes =
+  own_after r s h e who k c (Next.Reply x spare) v xs seen owns legal state st may lent goes =
       let y = goes.2 in
       let knows = knows_after cap h e k c.before c.places c.share st.knows in record {
-        does = work.Nothing;
-        calls = λ d is. absurd (let f : work.Nothing ≡ work.Calls d = is in cc);
+        does = Work.Nothing;
+        calls = λ d is. absurd (let f : Work.Nothing ≡ Work.Calls d = is in cc);
         free = λ no. goes.0;
         tells = (
           goes.1,
@@ -118,7 +111,7 @@ module _ {T : Type 0} (K : CallsOf T) (laws : CallLaws K) where
       }
 
   -- the first step of a call stands too
-  first_here : (May : Op ℕ → Type 0) (g : K.Cells) (j : ℕ) (c : Call T) (n : Next ℕ) (l : Local ℕ) (t : Touch) (o : Op ℕ) → K.Idle g j → Opens K May c n → n ≡ next.Step l t o
+  first_here : (May : Op ℕ → Type 0) (g : K.Cells) (j : ℕ) (c : Call T) (n : Next ℕ) (l : Local ℕ) (t : Touch) (o : Op ℕ) → K.Idle g j → Opens K May c n → n ≡ Next.Step l t o
       → K.At g j [] false l t o (call_value c) c []
   first_here May g j c n l t o none opens step = (subst (Opens K May c) step opens).2 g j none
 
@@ -168,7 +161,7 @@ module _ {T : Type 0} (K : CallsOf T) (laws : CallLaws K) where
     tells = own.tells;
   }
     where
-      made_is : (K.queue_of s ≡ after cap (grown h e)) × FitsAt e (after cap h) × (e ≡ Some effect.Arrive → (K.queue_of s).coming ≡ None)
+      made_is : (K.queue_of s ≡ after cap (grown h e)) × FitsAt e (after cap h) × (e ≡ Some Effect.Arrive → (K.queue_of s).coming ≡ None)
       made_is = makes_history cap (K.queue_of g) (K.queue_of s) h e all.state leads
 
       seen : IsPrefix u.known.seen h
@@ -193,7 +186,7 @@ module _ {T : Type 0} (K : CallsOf T) (laws : CallLaws K) where
       other : (j : ℕ) (d : CallState T) → j ≢ id → get_elem? views j ≡ some d → IsPrefix d.known.seen h
       other j d ne there = (all.kept.true_of j d.known (at_map known_by views j d there)).begins
 
-      calls : (j : ℕ) (d : CallState T) (b : InCall T) → get_elem? (set views id w) j ≡ some d → d.work ≡ work.Calls b → Standing K s (grown h e) j d.known b
+      calls : (j : ℕ) (d : CallState T) (b : InCall T) → get_elem? (set views id w) j ≡ some d → d.work ≡ Work.Calls b → Standing K s (grown h e) j d.known b
       calls j d b there is = ⊎_elim
           (λ (t : (j ≡ id) × (w ≡ d)). subst (λ (z : ℕ × Known T). Standing K s (grown h e) z.0 z.1 b) (λ k. (sym t.0 k, (t.1 k).known)) (own.calls b (ap (λ (z : CallState T). z.work) t.1 ∙ is)))
           (λ (t : (j ≢ id) × (get_elem? views j ≡ some d)).

@@ -1,14 +1,14 @@
 -- What is so of a call in progress stays so at the steps of others, as the history grows.
 use Rattle.std.proofs.Common.{◌≡◌, ◌≢◌, ℕ, zero, suc, ◌+◌, ◌<◌, ◌≤◌, Bool, List, [], ◌∷◌, ◌++◌, length, Option, Some, None, ap, sym, ◌∙◌, ⊎_elim, arith, length-append}
-use mathlib.Core.Option.{some, some-ne-none}
+use mathlib.Core.Option.{some}
 use mathlib.Core.List.{IsPrefix}
 use lib.ListN.{get_elem?}
 use Rattle.atomic_table.proofs.Lists.{at_longer, at_snoc}
-use Rattle.queue_steps.specs.declared.model.Effect.{Effect}
-use Rattle.queue_steps.specs.declared.model.Effect.TheVariants as effect
+use Rattle.law_common.specs.Vocabulary.{Effect}
 use Rattle.queue_steps.specs.State.{State}
 use Rattle.queue_steps.specs.Effect.{after}
 use Rattle.queue_steps.specs.Parties.{StandAt}
+use Rattle.queue_steps.proofs.Places.{below_at}
 use Rattle.law_common.specs.Moments.{seen_by}
 use Rattle.law_common.specs.Effects.{IsBetween}
 use Rattle.shared_parties.specs.declared.known.Known.{Known}
@@ -41,11 +41,6 @@ module _ {T : Type 0} where
   moments_seen cap s h q [] p e all = tt
   moments_seen cap s h q (m ∷ ms) p e all = (moment_now cap s h q p e, all)
 
-  pub below_at : (t : List (Effect T)) (p : ℕ) (e : Effect T) → get_elem? t p ≡ some e → p < length t
-  below_at [] p e is = absurd (some-ne-none e (sym is))
-  below_at (x ∷ t) zero e is = omega arith
-  below_at (x ∷ t) (suc p) e is = omega (arith, below_at t p e is)
-
   -- a place that lies in the shorter history
   pub shorter : (h : List (Effect T)) (e x : Effect T) (k : ℕ) → k < length h → get_elem? (h ++ e ∷ []) k ≡ some x → get_elem? h k ≡ some x
   shorter [] e x k lt is = absurd (omega arith)
@@ -56,43 +51,29 @@ module _ {T : Type 0} where
   stand_later h None n ps es s = s
   stand_later h (Some e) n [] [] s = tt
   stand_later h (Some e) n (p ∷ ps) (x ∷ es) s = (s.0, at_longer h (e ∷ []) p x s.1, stand_later h (Some e) (p + 1) ps es s.2)
-  stand_later h (Some e) n [] (x ∷ es) s = absurd s
-  stand_later h (Some e) n (p ∷ ps) [] s = absurd s
+  stand_later h (Some e) n ps es s = absurd s
 
   pub open_later : (cap : Option ℕ) (s h : List (Effect T)) (e : Option (Effect T)) (m n : ℕ) → m ≤ n → WasOpen cap s h m → WasOpen cap s (grown h e) n
   open_later cap s h e m n le w = (w.0, w.1, grown_more w.0 h e w.2, (let a = w.3 in omega arith), w.4)
 
   pub opened_later : (cap : Option ℕ) (s h : List (Effect T)) (e : Option (Effect T)) (was : Bool) (es : List (Effect T)) (ps : List ℕ) → Opened cap s h was es ps → Opened cap s (grown h e) was es ps
   opened_later cap s h e was [] ps o = λ w. open_later cap s h e (length h) (length (grown h e)) (grown_long h e) (o w)
-  opened_later cap s h e was (effect.Front old v ∷ es) (p ∷ ps) o = open_later cap s h e p p (omega arith) o
-  opened_later cap s h e was (effect.Front old v ∷ es) [] o = tt
-  opened_later cap s h e was (effect.Append v ∷ es) ps o = tt
-  opened_later cap s h e was (effect.Take v ∷ es) ps o = tt
-  opened_later cap s h e was (effect.Replace x v ∷ es) ps o = tt
-  opened_later cap s h e was (effect.Arrive ∷ es) ps o = tt
-  opened_later cap s h e was (effect.Close ∷ es) ps o = tt
-  opened_later cap s h e was (effect.SelfClose ∷ es) ps o = tt
+  opened_later cap s h e was (Effect.Front old v ∷ es) (p ∷ ps) o = open_later cap s h e p p (omega arith) o
+  opened_later cap s h e was (x ∷ es) ps o = tt
 
-  pub waits_later : (h : List (Effect T)) (e : Option (Effect T)) (n : ℕ) (es : List (Effect T)) (ps : List ℕ) → (IsBetween es → ¬ (e ≡ Some effect.Arrive)) → StandAt h n ps es → Waits h es ps → Waits (grown h e) es ps
+  pub waits_later : (h : List (Effect T)) (e : Option (Effect T)) (n : ℕ) (es : List (Effect T)) (ps : List ℕ) → (IsBetween es → ¬ (e ≡ Some Effect.Arrive)) → StandAt h n ps es → Waits h es ps → Waits (grown h e) es ps
   waits_later h None n es ps other stand w = w
-  waits_later h (Some e) n (effect.Front old v ∷ []) (p ∷ []) other stand w =
-      λ k lt is. ⊎_elim (λ (t : get_elem? h k ≡ some effect.Arrive). w k lt t) (λ (t : e ≡ effect.Arrive). other tt (ap Some t)) (at_snoc h e effect.Arrive k is)
-  waits_later h (Some e) n (effect.Front old v ∷ x ∷ es) (p ∷ q ∷ ps) other stand w =
-      λ k lt low is. w k lt low (shorter h e effect.Arrive k (let b = below_at h q x stand.2.1 in omega arith) is)
-  waits_later h (Some e) n (effect.Front old v ∷ x ∷ es) (p ∷ []) other stand w = absurd stand.2
-  waits_later h (Some e) n (effect.Front old v ∷ []) (p ∷ q ∷ ps) other stand w = absurd stand.2
-  waits_later h (Some e) n (effect.Front old v ∷ es) [] other stand w = absurd stand
-  waits_later h (Some e) n [] ps other stand w = tt
-  waits_later h (Some e) n (effect.Append v ∷ es) ps other stand w = tt
-  waits_later h (Some e) n (effect.Take v ∷ es) ps other stand w = tt
-  waits_later h (Some e) n (effect.Replace x v ∷ es) ps other stand w = tt
-  waits_later h (Some e) n (effect.Arrive ∷ es) ps other stand w = tt
-  waits_later h (Some e) n (effect.Close ∷ es) ps other stand w = tt
-  waits_later h (Some e) n (effect.SelfClose ∷ es) ps other stand w = tt
+  waits_later h (Some e) n (Effect.Front old v ∷ []) (p ∷ []) other stand w =
+      λ k lt is. ⊎_elim (λ (t : get_elem? h k ≡ some Effect.Arrive). w k lt t) (λ (t : e ≡ Effect.Arrive). other tt (ap Some t)) (at_snoc h e Effect.Arrive k is)
+  waits_later h (Some e) n (Effect.Front old v ∷ x ∷ es) (p ∷ q ∷ ps) other stand w =
+      λ k lt low is. w k lt low (shorter h e Effect.Arrive k (let b = below_at h q x stand.2.1 in omega arith) is)
+  waits_later h (Some e) n (Effect.Front old v ∷ es) [] other stand w = absurd stand
+  waits_later h (Some e) n (Effect.Front old v ∷ es) (p ∷ x) other stand w = absurd stand.2
+  waits_later h (Some e) n es ps other stand w = tt
 
 -- the call of another party stands where it stood, by the laws of its kind
 pub others_stay : {T : Type 0} (K : CallsOf T) (laws : CallLaws K) (g s : K.Cells) (h : List (Effect T)) (e : Option (Effect T)) (who j : ℕ) (k : Known T) (c : InCall T)
-    → K.Ok g → K.Ok s → j ≢ who → K.Passes who g s → K.queue_of s ≡ after (cap_of K) (grown h e) → (e ≡ Some effect.Arrive → (K.queue_of s).coming ≡ None)
+    → K.Ok g → K.Ok s → j ≢ who → K.Passes who g s → K.queue_of s ≡ after (cap_of K) (grown h e) → (e ≡ Some Effect.Arrive → (K.queue_of s).coming ≡ None)
     → IsPrefix k.seen h → Standing K g h j k c → Standing K s (grown h e) j k c
 others_stay {T} K laws g s h e who j k c ok ok' ne pass state gone seen st = record {
   ms = seen_by (K.queue_of s) st.ms;

@@ -6,11 +6,10 @@ use mathlib.Core.Logic.{dite}
 use native.Mathlib.Decide.{ℕ_discrete}
 use lib.ListN.{get_elem?}
 use Rattle.atomic_table.proofs.Lists.{at_map}
-use Rattle.queue_steps.specs.declared.model.Effect.{Effect}
+use Rattle.law_common.specs.Vocabulary.{Effect}
 use Rattle.queue_steps.specs.Parties.{IsWhole}
 use Rattle.shared_parties.specs.declared.known.CallState.{CallState}
 use Rattle.shared_parties.specs.declared.known.Work.{Work}
-use Rattle.shared_parties.specs.declared.known.Work.TheVariants as work
 use Rattle.shared_parties.specs.Known.{view_of}
 use Rattle.shared_parties.specs.CallStates.{is_busy, known_by, IsLoneSeat}
 use Rattle.shared_parties.specs.Calling.{CallsOf, cap_of, Standing}
@@ -47,8 +46,8 @@ calls_end {T} K g h n views id d all at is = record {
 
     -- a seat in a call counts for a party
     counts : (j : ℕ) (e : CallState T) (w : Work T) → get_elem? views j ≡ some e → e.work ≡ w → is_busy w ≡ true → 0 < e.known.parts
-    counts j e work.Nothing there has busy = absurd (let z : false ≡ true = busy in cc)
-    counts j e (work.Calls c) there has busy = let s : Standing K g h j e.known c = all.calls j e c there has in let one = ap (λ z. z.parts) s.knows in omega arith
+    counts j e Work.Nothing there has busy = absurd (let z : false ≡ true = busy in cc)
+    counts j e (Work.Calls c) there has busy = let s : Standing K g h j e.known c = all.calls j e c there has in let one = ap (λ z. z.parts) s.knows in omega arith
 
     quiet : (j : ℕ) (e : CallState T) → get_elem? views j ≡ some e → is_busy e.work ≡ false
     quiet j e there = dite (ℕ_discrete j id)

@@ -1,18 +1,8 @@
 -- A call after a step of its own: where it stands then, or that it ends as a shared call.
-use Rattle.std.proofs.Common.{◌≡◌, ℕ, ◌+◌, ◌≤◌, ◌||◌, not, ◌⊎◌, inl, inr, Bool, true, false, List, [], ◌∷◌, ◌++◌, length, Option, Some, None, Ok, Err, refl, ap, sym, ◌∙◌, subst, ⊎_elim, arith, length-append, append_assoc}
+use Rattle.std.proofs.Common.{◌≡◌, ℕ, ◌+◌, ◌≤◌, ◌||◌, not, ◌⊎◌, inl, inr, Bool, true, List, [], ◌∷◌, ◌++◌, length, Option, Some, None, refl, ap, sym, ◌∙◌, subst, ⊎_elim, arith, length-append, append_assoc}
 use mathlib.Core.List.{IsPrefix}
 use Rattle.atomic_table.proofs.Lists.{at_longer, at_last}
-use Rattle.queue_steps.specs.declared.model.Call.{Call}
-use Rattle.queue_steps.specs.declared.model.Call.TheVariants as call
-use Rattle.queue_steps.specs.declared.model.Reply.{Reply}
-use Rattle.queue_steps.specs.declared.model.Reply.TheVariants as reply
-use Rattle.queue_steps.specs.declared.model.Effect.{Effect}
-use Rattle.queue_steps.specs.declared.model.Effect.TheVariants as effect
-use Rattle.queue_steps.specs.declared.errors.PushError.TheVariants as push
-use Rattle.queue_steps.specs.declared.errors.ForcePushError.TheVariants as force
-use Rattle.queue_steps.specs.declared.steps.types.Local.{Local}
-use Rattle.queue_steps.specs.declared.steps.types.Op.{Op}
-use Rattle.queue_steps.specs.declared.steps.types.Touch.{Touch}
+use Rattle.law_common.specs.Vocabulary.{Call, Reply, Effect, Op, Touch, Local}
 use Rattle.queue_steps.specs.State.{State}
 use Rattle.queue_steps.specs.Effect.{IsHistory, after}
 use Rattle.queue_steps.specs.Replies.{Allows, Tells}
@@ -20,12 +10,15 @@ use Rattle.queue_steps.specs.Shares.{Share}
 use Rattle.queue_steps.specs.Parties.{View, StandAt, Between, Displaces, SharedCall}
 use Rattle.law_common.specs.Moments.{SeenIn}
 use Rattle.law_common.specs.Effects.{with_effect}
+use Rattle.law_common.proofs.Tests.{or_true, not_true}
 use Rattle.shared_parties.specs.declared.known.Known.{Known}
 use Rattle.shared_parties.specs.declared.known.InCall.{InCall}
 use Rattle.shared_parties.specs.Known.{party, looked, gained, view_of}
+use Rattle.law_common.proofs.TellsAs.{TellsAs, displace, tells_as}
+use Rattle.queue_steps.proofs.Places.{below_at}
 use Rattle.shared_parties.proofs.Histories.{prefix_self, prefix_trans, prefix_length}
 use Rattle.shared_parties.specs.Calling.{CallsOf, cap_of, AreMoments, Opened, Waits, Standing, MayFront}
-use Rattle.shared_parties.proofs.Callings.{grown, grown_more, moments_later, moment_now, open_later, shorter, below_at}
+use Rattle.shared_parties.proofs.Callings.{grown, grown_more, moments_later, moment_now, open_later, shorter}
 
 -- what a party knows after a step of its own at the history h
 abbrev pub known_after : {T : Type 0} → List (Effect T) → Option (Effect T) → Known T → Known T
@@ -56,14 +49,6 @@ call_after c h e l t o v lends = record {
 abbrev pub view_before : {T : Type 0} → InCall T → View T
 view_before c = record { seen = c.since; mine = c.before; share = c.share }
 
-either_true : (a b : Bool) → (a || b) ≡ true → (a ≡ true) ⊎ (b ≡ true)
-either_true true b e = inl refl
-either_true false b e = inr e
-
-not_true : (b : Bool) → not b ≡ true → b ≡ false
-not_true false e = refl
-not_true true e = cc
-
 module _ {T : Type 0} where
   pub knows_after : (cap : Option ℕ) (h : List (Effect T)) (e : Option (Effect T)) (k : Known T) (before ps : List ℕ) (share : Share) → k ≡ party cap k.seen (before ++ ps) share
       → known_after h e k ≡ party cap (grown h e) (before ++ with_place ps e (length h)) share
@@ -73,8 +58,7 @@ module _ {T : Type 0} where
   stand_snoc : (h : List (Effect T)) (e : Effect T) (n : ℕ) (ps : List ℕ) (es : List (Effect T)) → n ≤ length h → StandAt h n ps es → StandAt (h ++ e ∷ []) n (ps ++ length h ∷ []) (es ++ e ∷ [])
   stand_snoc h e n [] [] le s = (le, at_last h e (length h) refl, tt)
   stand_snoc h e n (p ∷ ps) (x ∷ es) le s = (s.0, at_longer h (e ∷ []) p x s.1, stand_snoc h e (p + 1) ps es (let b = below_at h p x s.1 in omega arith) s.2)
-  stand_snoc h e n [] (x ∷ es) le s = absurd s
-  stand_snoc h e n (p ∷ ps) [] le s = absurd s
+  stand_snoc h e n ps es le s = absurd s
 
   pub stand_after : (h : List (Effect T)) (e : Option (Effect T)) (n : ℕ) (ps : List ℕ) (es : List (Effect T)) → n ≤ length h → StandAt h n ps es → StandAt (grown h e) n (with_place ps e (length h)) (with_effect es e)
   stand_after h None n ps es le s = s
@@ -83,54 +67,26 @@ module _ {T : Type 0} where
   pub opened_after : (cap : Option ℕ) (s h : List (Effect T)) (e : Option (Effect T)) (was closed : Bool) (n : ℕ) (es : List (Effect T)) (ps : List ℕ) → IsPrefix s h → (after cap (grown h e)).closed ≡ closed → MayFront e was
       → StandAt h n ps es → Opened cap s h was es ps → Opened cap s (grown h e) (was || not closed) (with_effect es e) (with_place ps e (length h))
   opened_after cap s h None was closed n [] ps from is may stand o =
-      λ now. ⊎_elim (λ (w : was ≡ true). o w) (λ (w : not closed ≡ true). (h, from, prefix_self h, omega arith, is ∙ not_true closed w)) (either_true was (not closed) now)
-  opened_after cap s h (Some (effect.Front old v)) was closed n [] [] from is may stand o = open_later cap s h (Some (effect.Front old v)) (length h) (length h) (omega arith) (o may)
-  opened_after cap s h (Some (effect.Append v)) was closed n [] ps from is may stand o = tt
-  opened_after cap s h (Some (effect.Take v)) was closed n [] ps from is may stand o = tt
-  opened_after cap s h (Some (effect.Replace x v)) was closed n [] ps from is may stand o = tt
-  opened_after cap s h (Some effect.Arrive) was closed n [] ps from is may stand o = tt
-  opened_after cap s h (Some effect.Close) was closed n [] ps from is may stand o = tt
-  opened_after cap s h (Some effect.SelfClose) was closed n [] ps from is may stand o = tt
-  opened_after cap s h (Some (effect.Front old v)) was closed n [] (p ∷ ps) from is may stand o = absurd stand
-  opened_after cap s h None was closed n (effect.Front old v ∷ es) (p ∷ ps) from is may stand o = o
-  opened_after cap s h (Some e) was closed n (effect.Front old v ∷ es) (p ∷ ps) from is may stand o = open_later cap s h (Some e) p p (omega arith) o
-  opened_after cap s h e was closed n (effect.Front old v ∷ es) [] from is may stand o = absurd stand
-  opened_after cap s h None was closed n (effect.Append v ∷ es) ps from is may stand o = tt
-  opened_after cap s h None was closed n (effect.Take v ∷ es) ps from is may stand o = tt
-  opened_after cap s h None was closed n (effect.Replace x v ∷ es) ps from is may stand o = tt
-  opened_after cap s h None was closed n (effect.Arrive ∷ es) ps from is may stand o = tt
-  opened_after cap s h None was closed n (effect.Close ∷ es) ps from is may stand o = tt
-  opened_after cap s h None was closed n (effect.SelfClose ∷ es) ps from is may stand o = tt
-  opened_after cap s h (Some e) was closed n (effect.Append v ∷ es) ps from is may stand o = tt
-  opened_after cap s h (Some e) was closed n (effect.Take v ∷ es) ps from is may stand o = tt
-  opened_after cap s h (Some e) was closed n (effect.Replace x v ∷ es) ps from is may stand o = tt
-  opened_after cap s h (Some e) was closed n (effect.Arrive ∷ es) ps from is may stand o = tt
-  opened_after cap s h (Some e) was closed n (effect.Close ∷ es) ps from is may stand o = tt
-  opened_after cap s h (Some e) was closed n (effect.SelfClose ∷ es) ps from is may stand o = tt
+      λ now. ⊎_elim (λ (w : was ≡ true). o w) (λ (w : not closed ≡ true). (h, from, prefix_self h, omega arith, is ∙ not_true closed w)) (or_true was (not closed) now)
+  opened_after cap s h (Some (Effect.Front old v)) was closed n [] [] from is may stand o = open_later cap s h (Some (Effect.Front old v)) (length h) (length h) (omega arith) (o may)
+  opened_after cap s h (Some (Effect.Front old v)) was closed n [] (p ∷ ps) from is may stand o = absurd stand
+  opened_after cap s h None was closed n (Effect.Front old v ∷ es) (p ∷ ps) from is may stand o = o
+  opened_after cap s h (Some e) was closed n (Effect.Front old v ∷ es) (p ∷ ps) from is may stand o = open_later cap s h (Some e) p p (omega arith) o
+  opened_after cap s h e was closed n (Effect.Front old v ∷ es) [] from is may stand o = absurd stand
+  opened_after cap s h e was closed n es ps from is may stand o = tt
 
   pub waits_after : (h : List (Effect T)) (e : Option (Effect T)) (n : ℕ) (es : List (Effect T)) (ps : List ℕ) → StandAt h n ps es → Waits h es ps → Waits (grown h e) (with_effect es e) (with_place ps e (length h))
   waits_after h None n es ps stand w = w
-  waits_after h (Some (effect.Front old v)) n [] [] stand w =
-      λ k lt is. let b = below_at (h ++ effect.Front old v ∷ []) k effect.Arrive is in let l = length-append h (effect.Front old v ∷ []) in absurd (omega arith)
-  waits_after h (Some (effect.Append v)) n [] [] stand w = tt
-  waits_after h (Some (effect.Take v)) n [] [] stand w = tt
-  waits_after h (Some (effect.Replace x v)) n [] [] stand w = tt
-  waits_after h (Some effect.Arrive) n [] [] stand w = tt
-  waits_after h (Some effect.Close) n [] [] stand w = tt
-  waits_after h (Some effect.SelfClose) n [] [] stand w = tt
+  waits_after h (Some (Effect.Front old v)) n [] [] stand w =
+      λ k lt is. let b = below_at (h ++ Effect.Front old v ∷ []) k Effect.Arrive is in let l = length-append h (Effect.Front old v ∷ []) in absurd (omega arith)
   waits_after h (Some e) n [] (p ∷ ps) stand w = absurd stand
   waits_after h (Some e) n (x ∷ es) [] stand w = absurd stand
-  waits_after h (Some e) n (effect.Front old v ∷ []) (p ∷ []) stand w = λ k lt low is. w k lt (shorter h e effect.Arrive k low is)
-  waits_after h (Some e) n (effect.Front old v ∷ x ∷ es) (p ∷ q ∷ ps) stand w =
-      λ k lt low is. w k lt low (shorter h e effect.Arrive k (let b = below_at h q x stand.2.1 in omega arith) is)
-  waits_after h (Some e) n (effect.Front old v ∷ []) (p ∷ q ∷ ps) stand w = absurd stand.2
-  waits_after h (Some e) n (effect.Front old v ∷ x ∷ es) (p ∷ []) stand w = absurd stand.2
-  waits_after h (Some e) n (effect.Append v ∷ es) (p ∷ ps) stand w = tt
-  waits_after h (Some e) n (effect.Take v ∷ es) (p ∷ ps) stand w = tt
-  waits_after h (Some e) n (effect.Replace x v ∷ es) (p ∷ ps) stand w = tt
-  waits_after h (Some e) n (effect.Arrive ∷ es) (p ∷ ps) stand w = tt
-  waits_after h (Some e) n (effect.Close ∷ es) (p ∷ ps) stand w = tt
-  waits_after h (Some e) n (effect.SelfClose ∷ es) (p ∷ ps) stand w = tt
+  waits_after h (Some e) n (Effect.Front old v ∷ []) (p ∷ []) stand w = λ k lt low is. w k lt (shorter h e Effect.Arrive k low is)
+  waits_after h (Some e) n (Effect.Front old v ∷ x ∷ es) (p ∷ q ∷ ps) stand w =
+      λ k lt low is. w k lt low (shorter h e Effect.Arrive k (let b = below_at h q x stand.2.1 in omega arith) is)
+  waits_after h (Some e) n (Effect.Front old v ∷ []) (p ∷ q ∷ ps) stand w = absurd stand.2
+  waits_after h (Some e) n (Effect.Front old v ∷ x ∷ es) (p ∷ []) stand w = absurd stand.2
+  waits_after h (Some e) n es ps stand w = tt
 
   -- what was right at some moment was right between
   pub between : (cap : Option ℕ) (s h : List (Effect T)) (ms : List (State T)) (c : Call T) (r : Reply T) → AreMoments cap s h ms → SeenIn ms (Allows c r)
@@ -140,120 +96,19 @@ module _ {T : Type 0} where
   between cap s h (m ∷ ms) c r all (inr seen) = between cap s h ms c r all.1 seen
 
   abbrev pub IsFront : Effect T → Type 0
-  IsFront (effect.Front old v) = Unit {0}
+  IsFront (Effect.Front old v) = Unit {0}
   IsFront _ = ⊥
 
-  abbrev head_or : Effect T → List (Effect T) → Effect T
-  head_or x [] = x
-  head_or x (y ∷ ys) = y
-
   -- of two effects of a call the first is a front
-  two_effects : (c : Call T) (r : Reply T) (a b : Effect T) (es : List (Effect T)) → Tells c r (a ∷ b ∷ es) → IsFront a
-  two_effects (call.Push v) (reply.Push (Ok d)) a b es t = cc
-  two_effects (call.Push v) (reply.Push (Err (push.Full w))) a b es t = let f = t.1 in cc
-  two_effects (call.Push v) (reply.Push (Err (push.Closed w))) a b es (e, inl f) = cc
-  two_effects (call.Push v) (reply.Push (Err (push.Closed w))) a b es (e, inr f) = cc
-  two_effects (call.Push v) (reply.Push (Err (push.NoMemory w))) a b es t = let f = t.1 in cc
-  two_effects (call.ForcePush v) (reply.ForcePush (Ok None)) a b es t = cc
-  two_effects (call.ForcePush v) (reply.ForcePush (Ok (Some old))) a b es (inl f) = cc
-  two_effects (call.ForcePush v) (reply.ForcePush (Ok (Some old))) a b es (inr f) = subst IsFront (sym (ap (head_or a) f)) tt
-  two_effects (call.ForcePush v) (reply.ForcePush (Err (force.Closed w))) a b es (e, inl f) = cc
-  two_effects (call.ForcePush v) (reply.ForcePush (Err (force.Closed w))) a b es (e, inr f) = cc
-  two_effects (call.ForcePush v) (reply.ForcePush (Err (force.NoMemory w))) a b es t = let f = t.1 in cc
-  two_effects call.Pop (reply.Pop (Ok x)) a b es t = cc
-  two_effects call.Pop (reply.Pop (Err why)) a b es t = cc
-  two_effects call.Close (reply.Close true) a b es t = cc
-  two_effects call.Close (reply.Close false) a b es t = cc
-  two_effects call.IsClosed (reply.IsClosed x) a b es t = cc
-  two_effects call.IsEmpty (reply.IsEmpty x) a b es t = cc
-  two_effects call.IsFull (reply.IsFull x) a b es t = cc
-  two_effects call.Len (reply.Len x) a b es t = cc
-  two_effects call.Capacity (reply.Capacity x) a b es t = cc
-  two_effects (call.Push v) (reply.ForcePush z) a b es t = absurd t
-  two_effects (call.Push v) (reply.Pop z) a b es t = absurd t
-  two_effects (call.Push v) (reply.Close z) a b es t = absurd t
-  two_effects (call.Push v) (reply.IsClosed z) a b es t = absurd t
-  two_effects (call.Push v) (reply.IsEmpty z) a b es t = absurd t
-  two_effects (call.Push v) (reply.IsFull z) a b es t = absurd t
-  two_effects (call.Push v) (reply.Len z) a b es t = absurd t
-  two_effects (call.Push v) (reply.Capacity z) a b es t = absurd t
-  two_effects (call.ForcePush v) (reply.Push z) a b es t = absurd t
-  two_effects (call.ForcePush v) (reply.Pop z) a b es t = absurd t
-  two_effects (call.ForcePush v) (reply.Close z) a b es t = absurd t
-  two_effects (call.ForcePush v) (reply.IsClosed z) a b es t = absurd t
-  two_effects (call.ForcePush v) (reply.IsEmpty z) a b es t = absurd t
-  two_effects (call.ForcePush v) (reply.IsFull z) a b es t = absurd t
-  two_effects (call.ForcePush v) (reply.Len z) a b es t = absurd t
-  two_effects (call.ForcePush v) (reply.Capacity z) a b es t = absurd t
-  two_effects call.Pop (reply.Push z) a b es t = absurd t
-  two_effects call.Pop (reply.ForcePush z) a b es t = absurd t
-  two_effects call.Pop (reply.Close z) a b es t = absurd t
-  two_effects call.Pop (reply.IsClosed z) a b es t = absurd t
-  two_effects call.Pop (reply.IsEmpty z) a b es t = absurd t
-  two_effects call.Pop (reply.IsFull z) a b es t = absurd t
-  two_effects call.Pop (reply.Len z) a b es t = absurd t
-  two_effects call.Pop (reply.Capacity z) a b es t = absurd t
-  two_effects call.Close (reply.Push z) a b es t = absurd t
-  two_effects call.Close (reply.ForcePush z) a b es t = absurd t
-  two_effects call.Close (reply.Pop z) a b es t = absurd t
-  two_effects call.Close (reply.IsClosed z) a b es t = absurd t
-  two_effects call.Close (reply.IsEmpty z) a b es t = absurd t
-  two_effects call.Close (reply.IsFull z) a b es t = absurd t
-  two_effects call.Close (reply.Len z) a b es t = absurd t
-  two_effects call.Close (reply.Capacity z) a b es t = absurd t
-  two_effects call.IsClosed (reply.Push z) a b es t = absurd t
-  two_effects call.IsClosed (reply.ForcePush z) a b es t = absurd t
-  two_effects call.IsClosed (reply.Pop z) a b es t = absurd t
-  two_effects call.IsClosed (reply.Close z) a b es t = absurd t
-  two_effects call.IsClosed (reply.IsEmpty z) a b es t = absurd t
-  two_effects call.IsClosed (reply.IsFull z) a b es t = absurd t
-  two_effects call.IsClosed (reply.Len z) a b es t = absurd t
-  two_effects call.IsClosed (reply.Capacity z) a b es t = absurd t
-  two_effects call.IsEmpty (reply.Push z) a b es t = absurd t
-  two_effects call.IsEmpty (reply.ForcePush z) a b es t = absurd t
-  two_effects call.IsEmpty (reply.Pop z) a b es t = absurd t
-  two_effects call.IsEmpty (reply.Close z) a b es t = absurd t
-  two_effects call.IsEmpty (reply.IsClosed z) a b es t = absurd t
-  two_effects call.IsEmpty (reply.IsFull z) a b es t = absurd t
-  two_effects call.IsEmpty (reply.Len z) a b es t = absurd t
-  two_effects call.IsEmpty (reply.Capacity z) a b es t = absurd t
-  two_effects call.IsFull (reply.Push z) a b es t = absurd t
-  two_effects call.IsFull (reply.ForcePush z) a b es t = absurd t
-  two_effects call.IsFull (reply.Pop z) a b es t = absurd t
-  two_effects call.IsFull (reply.Close z) a b es t = absurd t
-  two_effects call.IsFull (reply.IsClosed z) a b es t = absurd t
-  two_effects call.IsFull (reply.IsEmpty z) a b es t = absurd t
-  two_effects call.IsFull (reply.Len z) a b es t = absurd t
-  two_effects call.IsFull (reply.Capacity z) a b es t = absurd t
-  two_effects call.Len (reply.Push z) a b es t = absurd t
-  two_effects call.Len (reply.ForcePush z) a b es t = absurd t
-  two_effects call.Len (reply.Pop z) a b es t = absurd t
-  two_effects call.Len (reply.Close z) a b es t = absurd t
-  two_effects call.Len (reply.IsClosed z) a b es t = absurd t
-  two_effects call.Len (reply.IsEmpty z) a b es t = absurd t
-  two_effects call.Len (reply.IsFull z) a b es t = absurd t
-  two_effects call.Len (reply.Capacity z) a b es t = absurd t
-  two_effects call.Capacity (reply.Push z) a b es t = absurd t
-  two_effects call.Capacity (reply.ForcePush z) a b es t = absurd t
-  two_effects call.Capacity (reply.Pop z) a b es t = absurd t
-  two_effects call.Capacity (reply.Close z) a b es t = absurd t
-  two_effects call.Capacity (reply.IsClosed z) a b es t = absurd t
-  two_effects call.Capacity (reply.IsEmpty z) a b es t = absurd t
-  two_effects call.Capacity (reply.IsFull z) a b es t = absurd t
-  two_effects call.Capacity (reply.Len z) a b es t = absurd t
+  two_effects : {c : Call T} {r : Reply T} {a b : Effect T} {es : List (Effect T)} → TellsAs c r (a ∷ b ∷ es) → IsFront a
+  two_effects (displace old v asked told) = tt
 
   pub displaces : (cap : Option ℕ) (s t : List (Effect T)) (was : Bool) (n : ℕ) (c : Call T) (r : Reply T) (es : List (Effect T)) (ps : List ℕ) → Tells c r es → StandAt t n ps es → Opened cap s t was es ps → Waits t es ps → Displaces cap s t ps
-  displaces cap s t was n c r es [] tells stand o w = tt
-  displaces cap s t was n c r es (p ∷ []) tells stand o w = tt
-  displaces cap s t was n c r (effect.Front old v ∷ x ∷ es) (p ∷ q ∷ ps) tells stand o w = (o, w)
-  displaces cap s t was n c r (effect.Append v ∷ x ∷ es) (p ∷ q ∷ ps) tells stand o w = absurd (two_effects c r (effect.Append v) x es tells)
-  displaces cap s t was n c r (effect.Take v ∷ x ∷ es) (p ∷ q ∷ ps) tells stand o w = absurd (two_effects c r (effect.Take v) x es tells)
-  displaces cap s t was n c r (effect.Replace y v ∷ x ∷ es) (p ∷ q ∷ ps) tells stand o w = absurd (two_effects c r (effect.Replace y v) x es tells)
-  displaces cap s t was n c r (effect.Arrive ∷ x ∷ es) (p ∷ q ∷ ps) tells stand o w = absurd (two_effects c r effect.Arrive x es tells)
-  displaces cap s t was n c r (effect.Close ∷ x ∷ es) (p ∷ q ∷ ps) tells stand o w = absurd (two_effects c r effect.Close x es tells)
-  displaces cap s t was n c r (effect.SelfClose ∷ x ∷ es) (p ∷ q ∷ ps) tells stand o w = absurd (two_effects c r effect.SelfClose x es tells)
+  displaces cap s t was n c r (Effect.Front old v ∷ x ∷ es) (p ∷ q ∷ ps) tells stand o w = (o, w)
+  displaces cap s t was n c r (e ∷ x ∷ es) (p ∷ q ∷ ps) tells stand o w = absurd (two_effects (tells_as c r (e ∷ x ∷ es) tells))
   displaces cap s t was n c r (x ∷ []) (p ∷ q ∷ ps) tells stand o w = absurd stand.2
   displaces cap s t was n c r [] (p ∷ q ∷ ps) tells stand o w = absurd stand
+  displaces cap s t was n c r es ps tells stand o w = tt
 
 -- after a step of its own a call that goes on stands where the laws of its kind have it
 pub own_stands : {T : Type 0} (K : CallsOf T) (r s : K.Cells) (h : List (Effect T)) (e : Option (Effect T)) (who : ℕ) (k : Known T) (c : InCall T) (l : Local ℕ) (t : Touch) (o : Op ℕ) (v : Option T) (lends : List (ℕ × Option T))

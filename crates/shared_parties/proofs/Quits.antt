@@ -1,5 +1,5 @@
 -- A call that has had no effect, and whose party has no part in the cells, is given up: its seat is at nothing again, and all other calls stand as they stood.
-use Rattle.std.proofs.Common.{◌≡◌, ◌≢◌, ℕ, List, [], ◌∷◌, ◌++◌, Option, map, length, set, refl, ap, sym, ◌∙◌, subst, ⊎_elim}
+use Rattle.std.proofs.Common.{◌≡◌, ◌≢◌, ℕ, List, [], ◌∷◌, ◌++◌, map, length, set, refl, ap, sym, ◌∙◌, subst, ⊎_elim}
 use Rattle.std.proofs.lemmas.List.{append-nil}
 use mathlib.Core.Option.{some}
 use mathlib.Core.List.{IsPrefix}
@@ -8,12 +8,9 @@ use lib.Seq.{map-set}
 use mathlib.Core.Logic.{dite}
 use native.Mathlib.Decide.{ℕ_discrete}
 use Rattle.atomic_table.proofs.Lists.{at_set, at_map, set_else, set_again}
-use Rattle.queue_steps.specs.declared.model.Call.TheVariants as call
-use Rattle.queue_steps.specs.declared.model.Reply.TheVariants as reply
-use Rattle.queue_steps.specs.declared.model.Effect.{Effect}
-use Rattle.queue_steps.specs.State.{State, start}
-use Rattle.queue_steps.specs.Effect.{IsHistory, Runs, made}
+use Rattle.law_common.specs.Vocabulary.{Call, Reply, Effect}
 use Rattle.queue_steps.specs.Parties.{View, StandAt, SharedCall}
+use Rattle.law_common.proofs.Runs.{cap_after, history_before}
 use Rattle.shared_parties.specs.declared.known.Known.{Known}
 use Rattle.shared_parties.specs.declared.known.InCall.{InCall}
 use Rattle.shared_parties.specs.declared.known.Work.TheVariants as work
@@ -25,7 +22,7 @@ use Rattle.shared_parties.specs.CallsAt.{CallsAt, begun_at}
 use Rattle.shared_parties.specs.Quitting.{Quit}
 use Rattle.shared_parties.proofs.Alone.{alone}
 use Rattle.shared_parties.proofs.Histories.{prefix_self}
-use Rattle.shared_parties.proofs.SharedCalls.{quiet, cap_after}
+use Rattle.shared_parties.proofs.SharedCalls.{quiet}
 
 -- no effects stand at no places
 pub places_none : {T : Type 0} (t : List (Effect T)) (n : ℕ) (ps : List ℕ) (es : List (Effect T)) → es ≡ [] → StandAt t n ps es → ps ≡ []
@@ -33,18 +30,10 @@ places_none t n [] es none s = refl
 places_none t n (p ∷ ps) [] none s = absurd s
 places_none t n (p ∷ ps) (e ∷ es) none s = absurd (let f : e ∷ es ≡ [] = none in cc)
 
--- a beginning of a history is one
-runs_before : {T : Type 0} (Q : State T) (s d : List (Effect T)) → Runs Q (s ++ d) → Runs Q s
-runs_before Q [] d r = tt
-runs_before Q (e ∷ s) d r = (r.0, runs_before (made e Q) s d r.1)
-
-begins : {T : Type 0} (cap : Option ℕ) (s t : List (Effect T)) → IsPrefix s t → IsHistory cap t → IsHistory cap s
-begins cap s t (d, is) legal = runs_before (start cap 0) s d (subst (IsHistory cap) (sym is) legal)
-
 -- to a party whose call was given up it is as if it had asked for the capacity
-pub quit_looks : {T : Type 0} (K : CallsOf T) (c : InCall T) (w : CallState T) (v : View T) → begun_at c ≡ v → Quit K c w → SharedCall (cap_of K) v (view_of w.known) call.Capacity (reply.Capacity (cap_of K))
-quit_looks K c w v is q = subst (λ (z : View _). SharedCall (cap_of K) z (view_of w.known) call.Capacity (reply.Capacity (cap_of K))) is
-    (quiet (cap_of K) (begun_at c) (view_of w.known) c.since call.Capacity (reply.Capacity (cap_of K)) (prefix_self c.since) q.later q.legal q.mine q.share refl (sym (cap_after (cap_of K) c.since)))
+pub quit_looks : {T : Type 0} (K : CallsOf T) (c : InCall T) (w : CallState T) (v : View T) → begun_at c ≡ v → Quit K c w → SharedCall (cap_of K) v (view_of w.known) Call.Capacity (Reply.Capacity (cap_of K))
+quit_looks K c w v is q = subst (λ (z : View _). SharedCall (cap_of K) z (view_of w.known) Call.Capacity (Reply.Capacity (cap_of K))) is
+    (quiet (cap_of K) (begun_at c) (view_of w.known) c.since Call.Capacity (Reply.Capacity (cap_of K)) (prefix_self c.since) q.later q.legal q.mine q.share refl (sym (cap_after (cap_of K) c.since)))
 
 module _ {T : Type 0} (K : CallsOf T) (g : K.Cells) (h : List (Effect T)) (n : ℕ) (vs : List (CallState T)) (i : ℕ) (d : CallState T) (all : CallsAt K g h n vs) (at : get_elem? vs i ≡ some d) where
   -- the party of a call without effects has what it had when that began
@@ -52,7 +41,7 @@ module _ {T : Type 0} (K : CallsOf T) (g : K.Cells) (h : List (Effect T)) (n : �
   quit c busy none = record {
     rests = λ j. idle (rests' j);
     cap = ap (λ (z : Known T). z.cap) there;
-    legal = begins (cap_of K) d.known.seen h (all.kept.true_of i d.known (at_map known_by vs i d at)).begins all.kept.legal;
+    legal = history_before (cap_of K) d.known.seen h (all.kept.true_of i d.known (at_map known_by vs i d at)).begins all.kept.legal;
     later = stands.since;
     mine = ap (λ (z : Known T). z.mine) there ∙ (ap (λ (ps : List ℕ). c.before ++ ps) (places_none h (length c.since) c.places c.effects none stands.stand) ∙ append-nil c.before);
     share = ap (λ (z : Known T). z.share) there;

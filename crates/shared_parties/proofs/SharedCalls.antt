@@ -4,12 +4,9 @@ use Rattle.std.proofs.lemmas.List.{append-nil}
 use Rattle.std.specs.List.{Contains}
 use mathlib.Core.List.{IsPrefix}
 use Rattle.atomic_table.proofs.Lists.{at_last}
-use Rattle.queue_steps.specs.declared.model.Call.{Call}
-use Rattle.queue_steps.specs.declared.model.Reply.{Reply}
-use Rattle.queue_steps.specs.declared.model.Effect.{Effect}
-use Rattle.queue_steps.specs.declared.model.Effect.TheVariants as effect
-use Rattle.queue_steps.specs.State.{State, start}
-use Rattle.queue_steps.specs.Effect.{IsHistory, made, after_from, after}
+use Rattle.law_common.specs.Vocabulary.{Call, Reply, Effect}
+use Rattle.queue_steps.specs.State.{State}
+use Rattle.queue_steps.specs.Effect.{IsHistory, after}
 use Rattle.queue_steps.specs.Replies.{IsRightAt, Tells}
 use Rattle.queue_steps.specs.Shares.{Share, IsEntire}
 use Rattle.queue_steps.specs.Parties.{View, Between, SharedCall}
@@ -64,20 +61,3 @@ module _ {T : Type 0} where
       let share_is : share_of v ≡ share = ap share_of is_v ∙ plus_nothing share in
       let here : (p : ℕ) → has p w ≡ times p mine' + 0 = λ p. ap (has p) is_w in
       all_places mine' n (λ p. omega (arith, here p, all (subst IsEntire (sym share_is) entire) p))
-
-  cap_made : (e : Effect T) (Q : State T) → (made e Q).cap ≡ Q.cap
-  cap_made (effect.Append v) Q = refl
-  cap_made (effect.Take v) Q = refl
-  cap_made (effect.Replace old v) Q = refl
-  cap_made (effect.Front old v) Q = refl
-  cap_made effect.Arrive Q = refl
-  cap_made effect.Close Q = refl
-  cap_made effect.SelfClose Q = refl
-
-  cap_after_from : (Q : State T) (es : List (Effect T)) → (after_from Q es).cap ≡ Q.cap
-  cap_after_from Q [] = refl
-  cap_after_from Q (e ∷ es) = cap_after_from (made e Q) es ∙ cap_made e Q
-
-  -- the capacity is that of the beginning
-  pub cap_after : (cap : Option ℕ) (es : List (Effect T)) → (after cap es).cap ≡ cap
-  cap_after cap es = cap_after_from (start cap 0) es

@@ -2,11 +2,10 @@
 use Rattle.std.proofs.Common.{◌≡◌, ◌<◌, ℕ, true, false, Bool, List, ap, refl, sym, ◌∙◌, arith}
 use mathlib.Core.Option.{some}
 use lib.ListN.{get_elem?}
-use Rattle.queue_steps.specs.declared.model.Effect.{Effect}
+use Rattle.law_common.specs.Vocabulary.{Effect}
 use Rattle.shared_parties.specs.declared.known.CallState.{CallState}
 use Rattle.shared_parties.specs.declared.known.Known.{Known}
 use Rattle.shared_parties.specs.declared.known.Work.{Work}
-use Rattle.shared_parties.specs.declared.known.Work.TheVariants as work
 use Rattle.shared_parties.specs.CallStates.{is_busy, Sharing}
 use Rattle.shared_parties.specs.Parting.{Regroups}
 use Rattle.shared_parties.specs.Calling.{CallsOf, cap_of}
@@ -21,8 +20,8 @@ module _ {T : Type 0} (K : CallsOf T) (g : K.Cells) (h : List (Effect T)) (n : �
   active j d there busy = by d.work refl busy
     where
       by : (w : Work T) → d.work ≡ w → is_busy w ≡ true → 0 < d.known.parts
-      by work.Nothing is busy = absurd (let f : false ≡ true = busy in cc)
-      by (work.Calls c) is busy = let st = all.calls j d c there is in let one : d.known.parts ≡ 1 = ap (λ (k : Known T). k.parts) st.knows in omega arith
+      by Work.Nothing is busy = absurd (let f : false ≡ true = busy in cc)
+      by (Work.Calls c) is busy = let st = all.calls j d c there is in let one : d.known.parts ≡ 1 = ap (λ (k : Known T). k.parts) st.knows in omega arith
 
   abbrev pub sharing : Sharing n vs
   sharing = record { cap = cap_of K; history = h; kept = all.kept; active = active }

@@ -2,26 +2,25 @@
 use Rattle.std.specs.Prelude.{◌≡◌, ◌<◌, ℕ, Bool, true, false, List, map, Option, None}
 use mathlib.Core.Option.{some}
 use lib.ListN.{get_elem?}
-use Rattle.queue_steps.specs.declared.model.Effect.{Effect}
+use Rattle.law_common.specs.Vocabulary.{Effect}
 use Rattle.queue_steps.specs.Shares.{IsEntire}
 use Rattle.queue_steps.specs.Parties.{IsWhole}
 use Rattle.shared_parties.specs.declared.known.Known.{Known}
 use Rattle.shared_parties.specs.declared.known.Work.{Work}
-use Rattle.shared_parties.specs.declared.known.Work.TheVariants as work
 use Rattle.shared_parties.specs.declared.known.CallState.{CallState}
 use Rattle.shared_parties.specs.Known.{party, nobody, view_of, Kept}
 
 -- a call is on its way, between two of its steps
 abbrev pub is_busy : {T : Type 0} → Work T → Bool
-is_busy work.Nothing = false
-is_busy (work.Calls c) = true
+is_busy Work.Nothing = false
+is_busy (Work.Calls c) = true
 
 abbrev pub known_by : {T : Type 0} → CallState T → Known T
 known_by d = d.known
 
 -- a seat that is at nothing
 abbrev pub idle : {T : Type 0} → Known T → CallState T
-idle k = record { known = k; work = work.Nothing }
+idle k = record { known = k; work = Work.Nothing }
 
 -- the seat of nobody
 abbrev pub empty_seat : {T : Type 0} → CallState T

@@ -4,18 +4,7 @@ use mathlib.Core.Option.{some}
 use mathlib.Core.List.{IsPrefix}
 use lib.ListN.{get_elem?}
 use Rattle.atomic_table.specs.Table.{rest}
-use Rattle.queue_steps.specs.declared.model.Call.{Call}
-use Rattle.queue_steps.specs.declared.model.Reply.{Reply}
-use Rattle.queue_steps.specs.declared.model.Effect.{Effect}
-use Rattle.queue_steps.specs.declared.model.Effect.TheVariants as effect
-use Rattle.queue_steps.specs.declared.steps.types.Answer.TheVariants as answer
-use Rattle.queue_steps.specs.declared.steps.types.Kind.{Kind}
-use Rattle.queue_steps.specs.declared.steps.types.Local.{Local}
-use Rattle.queue_steps.specs.declared.steps.types.Next.{Next}
-use Rattle.queue_steps.specs.declared.steps.types.Next.TheVariants as next
-use Rattle.queue_steps.specs.declared.steps.types.Op.{Op}
-use Rattle.queue_steps.specs.declared.steps.types.Touch.{Touch}
-use Rattle.queue_steps.specs.declared.steps.types.Touch.TheVariants as touch
+use Rattle.law_common.specs.Vocabulary.{Call, Reply, Effect, Kind, Op, Touch, Answer, Local, Next}
 use Rattle.queue_steps.specs.State.{State}
 use Rattle.queue_steps.specs.Effect.{after}
 use Rattle.queue_steps.specs.Kinds.{call_kind, call_value, filled}
@@ -60,13 +49,13 @@ WasOpen {T} cap s h n = (u : List (Effect T)) × IsPrefix s u × IsPrefix u h ×
 -- what a call with these effects at these places knows of the queue being open: at one of its own steps so far, or before its front
 abbrev pub Opened : {T : Type 0} → Option ℕ → List (Effect T) → List (Effect T) → Bool → List (Effect T) → List ℕ → Type 0
 Opened cap s h was [] ps = was ≡ true → WasOpen cap s h (length h)
-Opened cap s h was (effect.Front old v ∷ es) (p ∷ ps) = WasOpen cap s h p
+Opened cap s h was (Effect.Front old v ∷ es) (p ∷ ps) = WasOpen cap s h p
 Opened cap s h was _ _ = Unit {0}
 
 -- no item arrives behind a front before the call's own
 abbrev pub Waits : {T : Type 0} → List (Effect T) → List (Effect T) → List ℕ → Type 0
-Waits h (effect.Front old v ∷ []) (p ∷ []) = (k : ℕ) → p < k → ¬ (get_elem? h k ≡ some effect.Arrive)
-Waits h (effect.Front old v ∷ es) (p ∷ q ∷ ps) = (k : ℕ) → p < k → k < q → ¬ (get_elem? h k ≡ some effect.Arrive)
+Waits h (Effect.Front old v ∷ []) (p ∷ []) = (k : ℕ) → p < k → ¬ (get_elem? h k ≡ some Effect.Arrive)
+Waits h (Effect.Front old v ∷ es) (p ∷ q ∷ ps) = (k : ℕ) → p < k → k < q → ¬ (get_elem? h k ≡ some Effect.Arrive)
 Waits h _ _ = Unit {0}
 
 -- where the call c of the party j stands, at the cells g and a history h; k is what the party knows
@@ -84,17 +73,17 @@ pub record Standing {T : Type 0} (K : CallsOf T) (g : K.Cells) (h : List (Effect
 
 -- the slots that a seat has once the one that is touched has what was carried, and what is carried then
 abbrev pub touched_list : {T : Type 0} → Touch → Option T → List (ℕ × Option T) → List (ℕ × Option T)
-touched_list touch.Nothing v xs = xs
-touched_list (touch.Put i) v xs = (i, v) ∷ rest xs
-touched_list (touch.Swap i) v xs = (i, v) ∷ rest xs
-touched_list (touch.Take i) v xs = (i, v) ∷ rest xs
+touched_list Touch.Nothing v xs = xs
+touched_list (Touch.Put i) v xs = (i, v) ∷ rest xs
+touched_list (Touch.Swap i) v xs = (i, v) ∷ rest xs
+touched_list (Touch.Take i) v xs = (i, v) ∷ rest xs
 
 abbrev pub lies_in : {T : Type 0} → List (ℕ × Option T) → Option T
 lies_in [] = None
 lies_in (x ∷ xs) = x.1
 
 abbrev pub handed_by : {T : Type 0} → Touch → Option T → List (ℕ × Option T) → Option T
-handed_by touch.Nothing v xs = v
+handed_by Touch.Nothing v xs = v
 handed_by _ v xs = lies_in xs
 
 -- a slot that is touched is the one that the seat has
@@ -103,13 +92,13 @@ HasTouched {T} t xs = (i : ℕ) → Touches t i → (y : Option T) × (xs ≡ (i
 
 -- a front is made only by a call that saw the queue open
 abbrev pub MayFront : {T : Type 0} → Option (Effect T) → Bool → Type 0
-MayFront (Some (effect.Front old v)) was = was ≡ true
+MayFront (Some (Effect.Front old v)) was = was ≡ true
 MayFront _ was = Unit {0}
 
 -- the call of the party j goes on from a known place, or ends with a reply that is right, and the party has no part in the cells then
 abbrev pub Goes : {T : Type 0} (K : CallsOf T) → K.Cells → ℕ → List (State T) → Bool → Next ℕ → Option T → Call T → List (Effect T) → Type 0
-Goes K g j ms was (next.Step l t o) v k es = K.At g j ms was l t o v k es
-Goes {T} K g j ms was (next.Reply x spare) v k es =
+Goes K g j ms was (Next.Step l t o) v k es = K.At g j ms was l t o v k es
+Goes {T} K g j ms was (Next.Reply x spare) v k es =
     K.Idle g j × K.Gives spare × ((y : Reply T) × (filled x v ≡ Some y) × Tells k y es × (es ≡ [] → SeenIn ms (Allows k y)))
 
 -- What a kind owes of its calls: no step of another party takes away what a call knows, nor a slot that its party has; who has no part in the cells has no slot;
@@ -128,10 +117,10 @@ pub record CallLaws {T : Type 0} (K : CallsOf T) : Type 0 where
 
 -- what a call on queues of this kind does first
 abbrev pub first_of : {T : Type 0} → Kind → Call T → Next ℕ
-first_of k c = next_of k (first_local (call_kind c)) answer.Start
+first_of k c = next_of k (first_local (call_kind c)) Answer.Start
 
 -- that step of a party that has no part in the cells stands, and is one of those that may be done; or the reply is right, whatever the state is
 abbrev pub Opens : {T : Type 0} (K : CallsOf T) → (Op ℕ → Type 0) → Call T → Next ℕ → Type 0
-Opens K May c (next.Step l t o) = (t ≡ touch.Nothing) × May o × ((g : K.Cells) (j : ℕ) → K.Idle g j → K.At g j [] false l t o (call_value c) c [])
-Opens {T} K May c (next.Reply x spare) =
+Opens K May c (Next.Step l t o) = (t ≡ Touch.Nothing) × May o × ((g : K.Cells) (j : ℕ) → K.Idle g j → K.At g j [] false l t o (call_value c) c [])
+Opens {T} K May c (Next.Reply x spare) =
     (spare ≡ None) × ((y : Reply T) × (filled x (call_value c) ≡ Some y) × Tells c y [] × ((m : State T) → m.cap ≡ cap_of K → IsRightAt m c y))

@@ -2,10 +2,7 @@
 use Rattle.std.specs.Prelude.{◌≡◌, ◌⊎◌, ℕ, false, List, [], map, Option, Some}
 use mathlib.Core.Option.{some}
 use lib.ListN.{get_elem?}
-use Rattle.queue_steps.specs.declared.model.Effect.{Effect}
-use Rattle.queue_steps.specs.declared.model.Reply.{Reply}
-use Rattle.queue_steps.specs.declared.steps.types.Next.{Next}
-use Rattle.queue_steps.specs.declared.steps.types.Next.TheVariants as next
+use Rattle.law_common.specs.Vocabulary.{Reply, Effect, Next}
 use Rattle.queue_steps.specs.Effect.{after}
 use Rattle.queue_steps.specs.Kinds.{call_value, filled}
 use Rattle.queue_steps.specs.Parties.{View, SharedCall}
@@ -35,7 +32,7 @@ pub record IsFirst {T : Type 0} (K : CallsOf T) (d : CallState T) (c : InCall T)
   pub places : c.places ≡ []
   pub lends : c.lends ≡ []
   pub carried : c.carried ≡ call_value c.call
-  pub step : first_of K.kind c.call ≡ next.Step c.local c.touch c.op
+  pub step : first_of K.kind c.call ≡ Next.Step c.local c.touch c.op
 
 -- the seat is at the call c
 abbrev pub Ready : {T : Type 0} → CallsOf T → CallState T → InCall T → Type 0
@@ -47,6 +44,6 @@ begun_at c = record { seen = c.since; mine = c.before; share = c.share }
 
 -- what the call's step tells: it is at its next step, with v carried and the slots xs; or it ended as a shared call, with no slot
 abbrev pub Told : {T : Type 0} → CallsOf T → InCall T → Option T → List (ℕ × Option T) → Next ℕ → CallState T → Type 0
-Told {T} K c v xs (next.Step l t o) w = (d : InCall T) × (w.work ≡ work.Calls d) × (d.local ≡ l) × (d.touch ≡ t) × (d.op ≡ o) × (d.carried ≡ v) × (d.call ≡ c.call) × (begun_at d ≡ begun_at c) × (d.lends ≡ xs)
-Told {T} K c v xs (next.Reply x spare) w =
+Told {T} K c v xs (Next.Step l t o) w = (d : InCall T) × (w.work ≡ work.Calls d) × (d.local ≡ l) × (d.touch ≡ t) × (d.op ≡ o) × (d.carried ≡ v) × (d.call ≡ c.call) × (begun_at d ≡ begun_at c) × (d.lends ≡ xs)
+Told {T} K c v xs (Next.Reply x spare) w =
     K.Gives spare × (xs ≡ []) × ((y : Reply T) × (filled x v ≡ Some y) × IsResting w × (w.known.cap ≡ cap_of K) × HasAll w × SharedCall (cap_of K) (begun_at c) (view_of w.known) c.call y)

@@ -3,16 +3,15 @@ use Rattle.std.specs.Prelude.{◌≡◌, ℕ, ◌+◌, ◌-◌, ◌%◌, ◌^◌
 use mathlib.Core.Option.{some}
 use lib.ListN.{get_elem?}
 use Rattle.shared_parties.specs.declared.count.Change.{Change}
-use Rattle.shared_parties.specs.declared.count.Change.TheVariants as change
 use Rattle.shared_parties.specs.declared.known.CallState.{CallState}
 use Rattle.shared_parties.specs.CallStates.{Sharing}
 use Rattle.shared_parties.specs.Parting.{Recounts}
 
 -- the count n becomes this, as a word of 64 bits
 abbrev pub changed : Change → ℕ → ℕ
-changed change.Raise n = (n + 1) % 2 ^ 64
-changed change.Lower n = (n + (2 ^ 64 - 1)) % 2 ^ 64
-changed change.Look n = n
+changed Change.Raise n = (n + 1) % 2 ^ 64
+changed Change.Lower n = (n + (2 ^ 64 - 1)) % 2 ^ 64
+changed Change.Look n = n
 
 -- whatever the count is, and whoever the seats are, the seat id that knows d may do it, and this is told
 abbrev pub MayAct : {T : Type 0} → Change → (ℕ → CallState T → CallState T → Type 0) → ℕ → CallState T → Type 0

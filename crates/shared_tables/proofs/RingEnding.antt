@@ -1,6 +1,5 @@
 -- The table of a shared ring at its beginning keeps the rule.
-use Rattle.std.proofs.Common.{ℕ, zero, suc, ◌<◌, ◌≡◌, Some, None, [], map, length, refl, ap, arith}
-use Rattle.std.specs.Prelude.{replicate}
+use Rattle.std.proofs.Common.{ℕ, zero, suc, ◌<◌, ◌≡◌, Some, None, [], map, length, refl, ap, arith, replicate}
 use mathlib.Core.Option.{some}
 use lib.ListN.{get_elem?}
 use Rattle.atomic_table.specs.Table.{opening}

@@ -10,6 +10,7 @@ use Rattle.queue_steps.specs.Legal.{IsShown}
 use Rattle.queue_steps.specs.Words.{position_of, is_shut, stamp_free, stamp_filled}
 use Rattle.queue_steps.specs.Parties.{IsWhole}
 use Rattle.law_common.proofs.Tails.{position_tail, shut_tail}
+use Rattle.law_common.proofs.Tests.{none_if}
 use Rattle.law_ring.specs.RingCells.{Ring, queue_of, RingOk, owner}
 use Rattle.law_ring.specs.RingShared.{Shared}
 use Rattle.law_ring.proofs.RingTransitions.{in_ring}
@@ -27,16 +28,10 @@ use Rattle.own_bounded.specs.RingMemory.{paired, ring_in}
 use Rattle.own_bounded.proofs.RingWrites.{elem_or, length_paired, pair_at}
 use Rattle.shared_tables.proofs.TableRests.{table_ends}
 
-none_if : {X : Type 0} (o : Option X) → ((x : X) → o ≡ Some x → ⊥) → o ≡ None
-none_if None never = refl
-none_if (Some x) never = absurd (never x refl)
-
 module _ {T : Type 0} where
   -- items that lie one after the other from position p on are the list of those positions
   items_are : (n k p : ℕ) (slots : List (RingSlot T)) (items : List T) → length items ≡ k → ((i : ℕ) → i < k → (x : T) × ((at_position n slots (p + i)).item ≡ Some x) × (slice_get items i ≡ Some x)) → items_of n slots p k ≡ items
   items_are n zero p slots [] long at = refl
-  items_are n zero p slots (x ∷ items) long at = absurd (omega (arith, long))
-  items_are n (suc k) p slots [] long at = absurd (omega (arith, long))
   items_are n (suc k) p slots (x ∷ items) long at =
       let first = at 0 (omega arith) in
       let here : p + 0 ≡ p = omega arith in
@@ -47,6 +42,7 @@ module _ {T : Type 0} where
       let next : p + 1 + i ≡ p + suc i = omega arith in
       (a.0, ap (λ q. (at_position n slots q).item) next ∙ a.1, a.2)) in
       ap (λ o. put_in o (items_of n slots (p + 1) k)) item ∙ ap (λ l. x ∷ l) behind
+  items_are n k p slots items long at = absurd (omega (arith, long))
 
   -- a ring at rest, in these words and slots, is one with one owner, in the same state
   module _ (cap : ℕ) (r : Ring T) (s : Shared T) (n : ℕ) (xs : List (Option T)) (ok : RingOk cap r) (codes : Codes cap r s) (rest : AtRest cap r s) (long : length xs ≡ cap)

@@ -61,14 +61,12 @@ module _ (T : Type 0) where
     where
       by : {w : ℕ} {x : Option T} {ys : List T} {d : Bool} → Stands w x Nobody ys d → Left w x (single ys d n)
       by (free_empty true) = (refl, record { items = refl; cap = refl; closed = refl; coming = refl; accepted = inl refl })
-      by (free_empty false) = (refl, record { items = refl; cap = refl; closed = refl; coming = refl; accepted = inl refl })
       by (free_full true x) = (refl, record { items = refl; cap = refl; closed = refl; coming = refl; accepted = inl refl })
-      by (free_full false x) = (refl, record { items = refl; cap = refl; closed = refl; coming = refl; accepted = inl refl })
+      by x = (refl, record { items = refl; cap = refl; closed = refl; coming = refl; accepted = inl refl })
 
   second_word : (ws : List ℕ) (word : ℕ) → get_elem? ws 1 ≡ some word → get_or ws 1 0 ≡ word
-  second_word [] word e = absurd (some-ne-none word (sym e))
-  second_word (y ∷ []) word e = absurd (some-ne-none word (sym e))
   second_word (y ∷ z ∷ ws) word e = some-injective z word e
+  second_word ws word e = absurd (some-ne-none word (sym e))
 
   -- the end: the only party has every place, and the slot and its word are those of the state after what it has seen
   pub slot_ends : (id : ℕ) (d : CallState T) (ws : List ℕ) (xs : List (Option T)) (word : ℕ) (x : Option T) → IsLoneSeat d → Final (Seen (Rule slot_table) id d) ws xs → get_elem? ws 1 ≡ some word → get_elem? xs 0 ≡ some x

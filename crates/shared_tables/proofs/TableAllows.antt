@@ -3,10 +3,7 @@ use Rattle.std.proofs.Common.{◌≡◌, ℕ, List, ◌∷◌, get_or, set, Opti
 use mathlib.Core.Option.{some}
 use lib.ListN.{get_elem?}
 use Rattle.atomic_table.specs.Table.{Act, Valid, carried_after, homes_after, stepped, Allows}
-use Rattle.queue_steps.specs.declared.model.Effect.{Effect}
-use Rattle.queue_steps.specs.declared.steps.types.Answer.{Answer}
-use Rattle.queue_steps.specs.declared.steps.types.Next.{Next}
-use Rattle.queue_steps.specs.declared.steps.types.Next.TheVariants as next
+use Rattle.law_common.specs.Vocabulary.{Effect, Answer, Next}
 use Rattle.queue_steps.specs.Next.{CanNext, next_of}
 use Rattle.shared_parties.specs.declared.known.InCall.{InCall}
 use Rattle.shared_parties.specs.declared.known.Work.TheVariants as work
@@ -16,9 +13,8 @@ use Rattle.shared_parties.specs.Calling.{CallsOf, Standing, touched_list, handed
 use Rattle.shared_tables.specs.TableRule.{TableOf, Rule, found_by, InTable, TakesOff, Stepped, TableLaws}
 use Rattle.shared_parties.specs.Operations.{op_word, op_makes, answer_for}
 use Rattle.shared_tables.specs.TableTurns.{After, Follows}
-use Rattle.shared_parties.specs.CallsAt.{Ready}
+use Rattle.shared_parties.specs.CallsAt.{Ready, CallsAt, Told}
 use Rattle.shared_parties.proofs.Callings.{grown}
-use Rattle.shared_parties.specs.CallsAt.{CallsAt, Ready, Told}
 use Rattle.shared_parties.proofs.CallSteps.{set_at, stands_at, Stepping, call_step}
 
 module _ {T : Type 0} (K : TableOf T) (words : ℕ) (laws : TableLaws K words) where
@@ -28,12 +24,12 @@ module _ {T : Type 0} (K : TableOf T) (words : ℕ) (laws : TableLaws K words) w
   -- what the step told, of the seat with its slots
   after_told : (g : K.calls.Cells) (h : List (Effect T)) (who : ℕ) (c : InCall T) (v : Option T) (xs : List (ℕ × Option T)) (n : Next ℕ) (w : CallState T) → K.calls.Ok g → ((d : InCall T) → w.work ≡ work.Calls d → Standing C g h who w.known d)
       → ((spare : Option ℕ) → C.Gives spare → spare ≡ None) → Told C c v xs n w → After K c v n (w, xs)
-  after_told g h who c v xs (next.Step l t o) w ok stands none (d, at, local_is, touch_is, op_is, carried_is, call_is, begun_is, lends) =
+  after_told g h who c v xs (Next.Step l t o) w ok stands none (d, at, local_is, touch_is, op_is, carried_is, call_is, begun_is, lends) =
       let st = stands d at in
       let touches : HasTouched d.touch d.lends = laws.calls.touches g who st.ms st.was d.local d.touch d.op d.carried d.call d.effects d.lends st.here st.lent in
       let word : InTable K d.op = laws.at_word g who st.ms st.was d.local d.touch d.op d.carried d.call d.effects ok st.here in
       (d, at, local_is, touch_is, op_is, carried_is, call_is, begun_is, sym lends, subst (λ z. HasTouched z d.lends) touch_is touches, subst (InTable K) op_is word)
-  after_told g h who c v xs (next.Reply x spare) w ok stands none (gives, empty, (y, fill, rests, cap_is, owns, calls)) =
+  after_told g h who c v xs (Next.Reply x spare) w ok stands none (gives, empty, (y, fill, rests, cap_is, owns, calls)) =
       (none spare gives, (y, fill, (rests, empty), cap_is, owns, calls))
 
   -- where the call stands that a seat is ready for

@@ -4,10 +4,7 @@ use Rattle.std.specs.Int.{bit_not}
 use mathlib.Core.Option.{some}
 use lib.ListN.{get_elem?}
 use Rattle.atomic_table.specs.Table.{Allows, stepped, carried_after}
-use Rattle.queue_steps.specs.declared.steps.types.Answer.{Answer}
-use Rattle.queue_steps.specs.declared.steps.types.Op.{Op}
-use Rattle.queue_steps.specs.declared.steps.types.Op.TheVariants as op
-use Rattle.queue_steps.specs.declared.steps.types.Word.{Word}
+use Rattle.law_common.specs.Vocabulary.{Word, Op, Answer}
 use Rattle.queue_steps.specs.Next.{CanNext, next_of}
 use Rattle.shared_parties.specs.declared.known.InCall.{InCall}
 use Rattle.shared_tables.specs.Seats.{Table, Seated}
@@ -19,16 +16,11 @@ use Rattle.shared_parties.specs.CallsAt.{Ready}
 use Rattle.shared_tables.proofs.TableAllows.{table_allows, takes_off}
 
 has_word : {T : Type 0} (K : TableOf T) (o : Op ℕ) → InTable K o → K.HasWord (op_word o)
-has_word K (op.Load w) can = can
-has_word K (op.Store w x) can = can
-has_word K (op.Add w x) can = can
-has_word K (op.Or w x) can = can
-has_word K (op.And w x) can = can
-has_word K (op.Exchange w a b) can = can
-has_word K (op.LoadLink l) can = absurd can
-has_word K (op.StoreLink l f) can = absurd can
-has_word K (op.Install f) can = absurd can
-has_word K op.Ask can = absurd can
+has_word K (Op.LoadLink l) can = absurd can
+has_word K (Op.StoreLink l f) can = absurd can
+has_word K (Op.Install f) can = absurd can
+has_word K Op.Ask can = absurd can
+has_word K o can = can
 
 module _ {T : Type 0} (kinds : ℕ → TableOf T) (key slots words wide id : ℕ) (m : Seated T) (c : InCall T) (laws : TableLaws (kinds slots) words) (same : key ≡ slots) (size : wide ≡ words)
     (ready : Ready (kinds slots).calls m.0 c × (m.1 ≡ touched_list c.touch c.carried c.lends)) where
@@ -59,9 +51,9 @@ module _ {T : Type 0} (kinds : ℕ → TableOf T) (key slots words wide id : ℕ
       (d.0, d.1, d.2, subst (λ x. Rule (kinds key) (stepped s k x id m.1 d.0 d.1)) (alike s rule at small) d.3, d.4)
 
   -- to take bits off is to subtract them
-  subtracted : (w : Word ℕ) (bits by : ℕ) → c.op ≡ op.And w bits → by ≡ bit_not w64 bits
+  subtracted : (w : Word ℕ) (bits by : ℕ) → c.op ≡ Op.And w bits → by ≡ bit_not w64 bits
       → Allows (Rule (kinds key)) slots id m (K.place w) (λ n. (n + (2 ^ 64 - by)) % 2 ^ 64) (λ n q. Follows K c n q)
-  subtracted w bits by is gone = in_place (K.place w) (λ n. bit_and n bits) (λ n. (n + (2 ^ 64 - by)) % 2 ^ 64) (λ n q. Follows K c n q) alike (allowed (op.And w bits) is)
+  subtracted w bits by is gone = in_place (K.place w) (λ n. bit_and n bits) (λ n. (n + (2 ^ 64 - by)) % 2 ^ 64) (λ n q. Follows K c n q) alike (allowed (Op.And w bits) is)
     where
       alike : (s : Table T) → Rule (kinds key) s → get_elem? s.views id ≡ some m.0 → get_or s.words (K.place w) 0 < 2 ^ 64 → bit_and (get_or s.words (K.place w) 0) bits ≡ (get_or s.words (K.place w) 0 + (2 ^ 64 - by)) % 2 ^ 64
       alike s rule at small =
@@ -69,24 +61,24 @@ module _ {T : Type 0} (kinds : ℕ → TableOf T) (key slots words wide id : ℕ
           subst (λ (o : Op ℕ). TakesOff o (found_by K o s.words)) is (takes_off K words laws s id m c (subst (λ i. Rule (kinds i) s) same rule) at ready.0) in
           omega arith
 
-  pub may_take_off : (w : Word ℕ) (bits k : ℕ) → c.op ≡ op.And w bits → K.HasWord w → k ≡ K.place w
+  pub may_take_off : (w : Word ℕ) (bits k : ℕ) → c.op ≡ Op.And w bits → K.HasWord w → k ≡ K.place w
       → (k < wide) × ((by : ℕ) → by ≡ bit_not w64 bits → Allows (Rule (kinds key)) slots id m k (λ n. (n + (2 ^ 64 - by)) % 2 ^ 64) (λ n q. Follows K c n q))
   may_take_off w bits k is can at =
       subst (λ i. (i < wide) × ((by : ℕ) → by ≡ bit_not w64 bits → Allows (Rule (kinds key)) slots id m i (λ n. (n + (2 ^ 64 - by)) % 2 ^ 64) (λ n q. Follows K c n q))) (sym at)
-      (below (op.And w bits) can, λ by gone. subtracted w bits by is gone)
+      (below (Op.And w bits) can, λ by gone. subtracted w bits by is gone)
 
   -- a store tells the same, whatever it found
-  stored : (w : Word ℕ) (x : ℕ) → c.op ≡ op.Store w x → Allows (Rule (kinds key)) slots id m (K.place w) (λ n. x) (λ n q. Follows K c x q)
+  stored : (w : Word ℕ) (x : ℕ) → c.op ≡ Op.Store w x → Allows (Rule (kinds key)) slots id m (K.place w) (λ n. x) (λ n q. Follows K c x q)
   stored w x is s rule wide at small =
-      let d = allowed (op.Store w x) is s rule wide at small in
+      let d = allowed (Op.Store w x) is s rule wide at small in
       let answers : (n : ℕ) → answer_for c.op n ≡ answer_for c.op x = λ n. ap (λ z. answer_for z n) is ∙ sym (ap (λ z. answer_for z x) is) in (
         d.0,
         d.1,
         d.2,
         d.3,
         subst (λ (a : Answer ℕ). CanNext K.calls.kind c.local a × After K c (handed_by c.touch c.carried c.lends) (next_of K.calls.kind c.local a) (d.0, carried_after m.1 d.1))
-            (answers (found_by K (op.Store w x) s.words)) d.4,
+            (answers (found_by K (Op.Store w x) s.words)) d.4,
       )
 
-  pub may_store : (w : Word ℕ) (x k : ℕ) → c.op ≡ op.Store w x → K.HasWord w → k ≡ K.place w → May k (λ n. x) (λ n q. Follows K c x q)
-  may_store w x k is can at = subst (λ i. May i (λ n. x) (λ n q. Follows K c x q)) (sym at) (below (op.Store w x) can, stored w x is)
+  pub may_store : (w : Word ℕ) (x k : ℕ) → c.op ≡ Op.Store w x → K.HasWord w → k ≡ K.place w → May k (λ n. x) (λ n q. Follows K c x q)
+  may_store w x k is can at = subst (λ i. May i (λ n. x) (λ n q. Follows K c x q)) (sym at) (below (Op.Store w x) can, stored w x is)

@@ -1,6 +1,5 @@
 -- The rule of a shared table stays true where only the views change.
-use Rattle.std.specs.Prelude.{◌≡◌, ℕ, List, ◌∷◌}
-use Rattle.std.proofs.Common.{ap, sym, ◌∙◌, subst, set, get_or}
+use Rattle.std.proofs.Common.{◌≡◌, ℕ, List, ◌∷◌, ap, sym, ◌∙◌, subst, set, get_or}
 use Rattle.shared_parties.specs.declared.known.CallState.{CallState}
 use Rattle.shared_parties.specs.CallStates.{Sharing}
 use Rattle.shared_parties.specs.Parting.{Regroups}

@@ -1,11 +1,7 @@
 -- A seat whose slot is touched is at the same call as before.
 use Rattle.std.proofs.Common.{◌≡◌, ℕ, List, [], ◌∷◌, Option, refl, ap, sym, ◌∙◌, subst, inl, inr}
 use Rattle.atomic_table.specs.Table.{rest}
-use Rattle.queue_steps.specs.declared.model.Call.{Call}
-use Rattle.queue_steps.specs.declared.steps.types.Local.{Local}
-use Rattle.queue_steps.specs.declared.steps.types.Op.{Op}
-use Rattle.queue_steps.specs.declared.steps.types.Touch.{Touch}
-use Rattle.queue_steps.specs.declared.steps.types.Touch.TheVariants as touch
+use Rattle.law_common.specs.Vocabulary.{Call, Op, Touch, Local}
 use Rattle.shared_parties.specs.declared.known.InCall.{InCall}
 use Rattle.shared_parties.specs.declared.known.Work.TheVariants as work
 use Rattle.shared_tables.specs.Seats.{Seated}
@@ -18,10 +14,10 @@ use Rattle.shared_tables.specs.TableTurns.{CanDo, CanOperate, call_at}
 
 module _ {T : Type 0} (K : TableOf T) where
   pub can_touch : (m : Seated T) (l : Local ℕ) (u : Touch) (o : Op ℕ) (x : Option T) (c : InCall T) → CanDo K m l u o x c → CanTouch u m
-  can_touch m l touch.Nothing o x c can = tt
-  can_touch m l (touch.Put k) o x c can = let h = can.touched k refl in (h.0, (can.lends ∙ h.1) ∙ ap (λ z. (k, h.0) ∷ z) (sym (ap rest (can.lends ∙ h.1))))
-  can_touch m l (touch.Swap k) o x c can = let h = can.touched k refl in (h.0, (can.lends ∙ h.1) ∙ ap (λ z. (k, h.0) ∷ z) (sym (ap rest (can.lends ∙ h.1))))
-  can_touch m l (touch.Take k) o x c can = let h = can.touched k refl in (h.0, (can.lends ∙ h.1) ∙ ap (λ z. (k, h.0) ∷ z) (sym (ap rest (can.lends ∙ h.1))))
+  can_touch m l Touch.Nothing o x c can = tt
+  can_touch m l (Touch.Put k) o x c can = let h = can.touched k refl in (h.0, (can.lends ∙ h.1) ∙ ap (λ z. (k, h.0) ∷ z) (sym (ap rest (can.lends ∙ h.1))))
+  can_touch m l (Touch.Swap k) o x c can = let h = can.touched k refl in (h.0, (can.lends ∙ h.1) ∙ ap (λ z. (k, h.0) ∷ z) (sym (ap rest (can.lends ∙ h.1))))
+  can_touch m l (Touch.Take k) o x c can = let h = can.touched k refl in (h.0, (can.lends ∙ h.1) ∙ ap (λ z. (k, h.0) ∷ z) (sym (ap rest (can.lends ∙ h.1))))
 
   -- a seat that has a slot is in the middle of its call
   in_call : (m : Seated T) (c : InCall T) (k : ℕ) (y : Option T) → Ready K.calls m.0 c → c.lends ≡ (k, y) ∷ [] → m.0.work ≡ work.Calls c
@@ -61,14 +57,14 @@ module _ {T : Type 0} (K : TableOf T) where
           }
 
       by : (v : Touch) → CanDo K m l v o x (call_at m k l v o x) → Touched v m x m' y → TouchedAt k l v o x m m' y
-      by touch.Nothing can (same, kept) =
-          let c = call_at m k l touch.Nothing o x in
-          let is : call_at m' k l touch.Nothing o y ≡ c = λ i. call_at (same i) k l touch.Nothing o (kept i) in record {
+      by Touch.Nothing can (same, kept) =
+          let c = call_at m k l Touch.Nothing o x in
+          let is : call_at m' k l Touch.Nothing o y ≡ c = λ i. call_at (same i) k l Touch.Nothing o (kept i) in record {
             same = is;
             can = subst (λ (z : Seated T × InCall T). CanOperate K z.0 o z.1) (λ i. (sym same i, sym is i))
                 (can.ready, can.lends ∙ sym (ap (λ w. touched_list w c.carried c.lends) can.touch), can.op, can.word);
             handed = kept;
           }
-      by (touch.Put i) can swap = let h = can.touched i refl in swapped (touch.Put i) i h.0 can h.1 (λ xs. refl) (λ xs. refl) swap
-      by (touch.Swap i) can swap = let h = can.touched i refl in swapped (touch.Swap i) i h.0 can h.1 (λ xs. refl) (λ xs. refl) swap
-      by (touch.Take i) can swap = let h = can.touched i refl in swapped (touch.Take i) i h.0 can h.1 (λ xs. refl) (λ xs. refl) swap
+      by (Touch.Put i) can swap = let h = can.touched i refl in swapped (Touch.Put i) i h.0 can h.1 (λ xs. refl) (λ xs. refl) swap
+      by (Touch.Swap i) can swap = let h = can.touched i refl in swapped (Touch.Swap i) i h.0 can h.1 (λ xs. refl) (λ xs. refl) swap
+      by (Touch.Take i) can swap = let h = can.touched i refl in swapped (Touch.Take i) i h.0 can h.1 (λ xs. refl) (λ xs. refl) swap

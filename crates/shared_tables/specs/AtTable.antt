@@ -2,10 +2,7 @@
 use Rattle.std.specs.Prelude.{◌≡◌, ℕ, ◌∷◌, Option}
 use Rattle.atomic_table.specs.Table.{rest}
 use Rattle.atomic_table.specs.Seated.{TableId}
-use Rattle.queue_steps.specs.declared.model.Call.{Call}
-use Rattle.queue_steps.specs.declared.model.Reply.{Reply}
-use Rattle.queue_steps.specs.declared.steps.types.Touch.{Touch}
-use Rattle.queue_steps.specs.declared.steps.types.Touch.TheVariants as touch
+use Rattle.law_common.specs.Vocabulary.{Call, Reply, Touch}
 use Rattle.queue_steps.specs.Effect.{IsHistory}
 use Rattle.queue_steps.specs.Parties.{SharedCall}
 use Rattle.shared_tables.specs.Seats.{Seated, Rests, view_at}
@@ -17,20 +14,20 @@ TableSeat T = TableId × Seated T
 
 -- the seat holds the slot that is touched
 abbrev pub CanTouch : {T : Type 0} → Touch → Seated T → Type 0
-CanTouch touch.Nothing m = Unit {0}
-CanTouch {T} (touch.Put k) m = (y : Option T) × (m.1 ≡ (k, y) ∷ rest m.1)
-CanTouch {T} (touch.Swap k) m = (y : Option T) × (m.1 ≡ (k, y) ∷ rest m.1)
-CanTouch {T} (touch.Take k) m = (y : Option T) × (m.1 ≡ (k, y) ∷ rest m.1)
+CanTouch Touch.Nothing m = Unit {0}
+CanTouch {T} (Touch.Put k) m = (y : Option T) × (m.1 ≡ (k, y) ∷ rest m.1)
+CanTouch {T} (Touch.Swap k) m = (y : Option T) × (m.1 ≡ (k, y) ∷ rest m.1)
+CanTouch {T} (Touch.Take k) m = (y : Option T) × (m.1 ≡ (k, y) ∷ rest m.1)
 
 -- the slot k and what the call carries change places
 abbrev pub Swapped : {T : Type 0} → ℕ → Seated T → Option T → Seated T → Option T → Type 0
 Swapped k m x m' x' = (m.1 ≡ (k, x') ∷ rest m.1) × (m' ≡ (m.0, (k, x) ∷ rest m.1))
 
 abbrev pub Touched : {T : Type 0} → Touch → Seated T → Option T → Seated T → Option T → Type 0
-Touched touch.Nothing m x m' x' = (m' ≡ m) × (x' ≡ x)
-Touched (touch.Put k) m x m' x' = Swapped k m x m' x'
-Touched (touch.Swap k) m x m' x' = Swapped k m x m' x'
-Touched (touch.Take k) m x m' x' = Swapped k m x m' x'
+Touched Touch.Nothing m x m' x' = (m' ≡ m) × (x' ≡ x)
+Touched (Touch.Put k) m x m' x' = Swapped k m x m' x'
+Touched (Touch.Swap k) m x m' x' = Swapped k m x m' x'
+Touched (Touch.Take k) m x m' x' = Swapped k m x m' x'
 
 -- the seat of a party of the queue of this capacity at the table t, between its calls
 abbrev pub IsAt : {T : Type 0} → Option ℕ → TableId → TableSeat T → Type 0

@@ -1,6 +1,6 @@
 -- Where a call on a queue in a table stands that has had no effect yet.
 use Rattle.std.specs.Prelude.{ℕ}
-use Rattle.queue_steps.specs.declared.steps.types.Local.{Local}
+use Rattle.law_common.specs.Vocabulary.{Local}
 use Rattle.law_slot.specs.SlotEarly as slot
 use Rattle.law_ring.specs.RingEarly as ring
 

@@ -3,9 +3,7 @@ use Rattle.std.specs.Prelude.{◌≡◌, ℕ, ◌+◌, ◌<◌, List, [], length
 use mathlib.Core.Option.{some}
 use mathlib.Core.Option as maybe
 use lib.ListN.{get_elem?}
-use Rattle.queue_steps.specs.declared.steps.types.Kind.TheVariants as queue
-use Rattle.queue_steps.specs.declared.steps.types.Word.{Word}
-use Rattle.queue_steps.specs.declared.steps.types.Word.TheVariants as word
+use Rattle.law_common.specs.Vocabulary.{Kind, Word}
 use Rattle.law_ring.specs.RingCells.{Cell, Ring, queue_of, RingOk, owner}
 use Rattle.law_ring.specs.RingShared.{Shared}
 use Rattle.law_ring.specs.RingWords.{Codes, item_in}
@@ -34,9 +32,9 @@ ring_words s = words_behind s.tail s.head s.stamps
 
 -- the number of a word in the table
 abbrev pub word_index : Word ℕ → ℕ
-word_index word.Tail = TAIL
-word_index word.Head = HEAD
-word_index (word.Stamp i) = STAMPS + i
+word_index Word.Tail = TAIL
+word_index Word.Head = HEAD
+word_index (Word.Stamp i) = STAMPS + i
 word_index _ = 0
 
 -- the words and the slots at home are those of the ring
@@ -46,7 +44,7 @@ RingCoded {T} cap g ws hs = (s : Shared T) × Codes cap g s × (ws ≡ ring_word
 -- the calls on a ring of cap slots
 abbrev pub ring_calls : {T : Type 0} → ℕ → CallsOf T
 ring_calls {T} cap = record {
-  kind = queue.Bounded cap;
+  kind = Kind.Bounded cap;
   Cells = Ring T;
   Ok = λ g. RingOk cap g;
   queue_of = λ g. queue_of cap g;

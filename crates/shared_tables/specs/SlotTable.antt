@@ -2,7 +2,7 @@
 use Rattle.std.specs.Prelude.{None, ◌≡◌, ℕ, List, [], ◌∷◌, Option}
 use mathlib.Core.Option.{some}
 use mathlib.Core.Option as maybe
-use Rattle.queue_steps.specs.declared.steps.types.Kind.TheVariants as queue
+use Rattle.law_common.specs.Vocabulary.{Kind}
 use Rattle.law_slot.specs.SlotShared.{IsLock}
 use Rattle.law_slot.specs.SlotHolder.{SlotHolder, Nobody}
 use Rattle.law_slot.specs.SlotRows.{Stands, At}
@@ -22,7 +22,7 @@ SlotCoded {T} g ws hs = (word : ℕ) × (slot : Option T) × Stands word slot g.
 -- the calls on one slot
 abbrev pub slot_calls : {T : Type 0} → CallsOf T
 slot_calls {T} = record {
-  kind = queue.Single;
+  kind = Kind.Single;
   Cells = Slot T;
   Ok = λ g. Unit {0};
   queue_of = λ g. queue_of g;

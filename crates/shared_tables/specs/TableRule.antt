@@ -4,14 +4,7 @@ use Rattle.std.specs.Int.{w64, bit_not}
 use mathlib.Core.Option.{some}
 use mathlib.Core.Option as maybe
 use Rattle.atomic_table.specs.Table.{Act, Valid, carried_after, homes_after}
-use Rattle.queue_steps.specs.declared.model.Call.{Call}
-use Rattle.queue_steps.specs.declared.model.Effect.{Effect}
-use Rattle.queue_steps.specs.declared.steps.types.Answer.TheVariants as answer
-use Rattle.queue_steps.specs.declared.steps.types.Local.{Local}
-use Rattle.queue_steps.specs.declared.steps.types.Op.{Op}
-use Rattle.queue_steps.specs.declared.steps.types.Op.TheVariants as op
-use Rattle.queue_steps.specs.declared.steps.types.Touch.{Touch}
-use Rattle.queue_steps.specs.declared.steps.types.Word.{Word}
+use Rattle.law_common.specs.Vocabulary.{Call, Effect, Word, Op, Touch, Answer, Local}
 use Rattle.queue_steps.specs.Kinds.{call_kind, call_value}
 use Rattle.queue_steps.specs.Next.{CanNext, first_local, next_of}
 use Rattle.queue_steps.specs.WaitFree.{is_wait_free, EndsWaitFree}
@@ -41,12 +34,12 @@ pub record Rule {T : Type 0} (K : TableOf T) (s : Table T) : Type 0 where
 
 -- the operation is one on a word that the table has
 abbrev pub InTable : {T : Type 0} → TableOf T → Op ℕ → Type 0
-InTable K (op.Load w) = K.HasWord w
-InTable K (op.Store w x) = K.HasWord w
-InTable K (op.Add w x) = K.HasWord w
-InTable K (op.Or w x) = K.HasWord w
-InTable K (op.And w x) = K.HasWord w
-InTable K (op.Exchange w a b) = K.HasWord w
+InTable K (Op.Load w) = K.HasWord w
+InTable K (Op.Store w x) = K.HasWord w
+InTable K (Op.Add w x) = K.HasWord w
+InTable K (Op.Or w x) = K.HasWord w
+InTable K (Op.And w x) = K.HasWord w
+InTable K (Op.Exchange w a b) = K.HasWord w
 InTable K _ = ⊥
 
 -- what the operation o finds in these words
@@ -55,7 +48,7 @@ found_by K o ws = slice_index_or ws (K.place (op_word o)) 0
 
 -- the bits that the operation takes off the word n are all in it: they and what is left make it up
 abbrev pub TakesOff : Op ℕ → ℕ → Type 0
-TakesOff (op.And w bits) n = bit_and n bits + bit_not w64 bits ≡ n
+TakesOff (Op.And w bits) n = bit_and n bits + bit_not w64 bits ≡ n
 TakesOff _ n = Unit {0}
 
 -- What the next step of a call of the party who does at these cells, for which the words ws, of them n counts the parties, and the homes hs stand: an effect at
@@ -79,7 +72,7 @@ pub record Stepped {T : Type 0} (K : TableOf T) (g : K.calls.Cells) (who n : ℕ
 
 -- the first step of a call is on a word of the table
 abbrev pub OpensIn : {T : Type 0} → TableOf T → Call T → Type 0
-OpensIn K c = CanNext K.calls.kind (first_local {B = ℕ} (call_kind c)) answer.Start × Opens K.calls (InTable K) c (first_of K.calls.kind c)
+OpensIn K c = CanNext K.calls.kind (first_local {B = ℕ} (call_kind c)) Answer.Start × Opens K.calls (InTable K) c (first_of K.calls.kind c)
 
 -- what a kind owes of its table of so many words
 pub record TableLaws {T : Type 0} (K : TableOf T) (words : ℕ) : Type 0 where

@@ -1,8 +1,6 @@
 -- What a step of a call on a shared table asks of a party's seat, and what it tells; and so where a call stands for the driver.
 use Rattle.std.specs.Prelude.{◌≡◌, ℕ, Option, Some, None}
-use Rattle.queue_steps.specs.declared.model.Reply.{Reply}
-use Rattle.queue_steps.specs.declared.steps.types.Next.{Next}
-use Rattle.queue_steps.specs.declared.steps.types.Next.TheVariants as next
+use Rattle.law_common.specs.Vocabulary.{Call, Reply, Op, Touch, Answer, Local, Next}
 use Rattle.queue_steps.specs.Kinds.{filled}
 use Rattle.queue_steps.specs.Next.{CanNext, next_of}
 use Rattle.queue_steps.specs.Parties.{SharedCall}
@@ -15,18 +13,13 @@ use Rattle.shared_parties.specs.Calling.{cap_of, handed_by, HasTouched, touched_
 use Rattle.shared_tables.specs.TableRule.{TableOf, InTable}
 use Rattle.shared_parties.specs.Operations.{answer_for}
 use Rattle.atomic_table.specs.Seated.{TableId}
-use Rattle.queue_steps.specs.declared.model.Call.{Call}
-use Rattle.queue_steps.specs.declared.steps.types.Answer.{Answer}
-use Rattle.queue_steps.specs.declared.steps.types.Local.{Local}
-use Rattle.queue_steps.specs.declared.steps.types.Op.{Op}
-use Rattle.queue_steps.specs.declared.steps.types.Touch.{Touch}
 use Rattle.shared_tables.specs.AtTable.{TableSeat, Ended}
 use Rattle.shared_parties.specs.Called.{called_at}
 
 -- the call is at its next step, with v carried; or it ended as a shared call
 abbrev pub After : {T : Type 0} → TableOf T → InCall T → Option T → Next ℕ → Seated T → Type 0
-After {T} K c v (next.Step l t o) m = (d : InCall T) × (m.0.work ≡ work.Calls d) × (d.local ≡ l) × (d.touch ≡ t) × (d.op ≡ o) × (d.carried ≡ v) × (d.call ≡ c.call) × (begun_at d ≡ begun_at c) × (m.1 ≡ d.lends) × HasTouched t d.lends × InTable K o
-After {T} K c v (next.Reply x spare) m = (spare ≡ None) × ((y : Reply T) × (filled x v ≡ Some y) × Rests m × (m.0.known.cap ≡ cap_of K.calls) × HasAll m.0 × SharedCall (cap_of K.calls) (begun_at c) (view_at m) c.call y)
+After {T} K c v (Next.Step l t o) m = (d : InCall T) × (m.0.work ≡ work.Calls d) × (d.local ≡ l) × (d.touch ≡ t) × (d.op ≡ o) × (d.carried ≡ v) × (d.call ≡ c.call) × (begun_at d ≡ begun_at c) × (m.1 ≡ d.lends) × HasTouched t d.lends × InTable K o
+After {T} K c v (Next.Reply x spare) m = (spare ≡ None) × ((y : Reply T) × (filled x v ≡ Some y) × Rests m × (m.0.known.cap ≡ cap_of K.calls) × HasAll m.0 × SharedCall (cap_of K.calls) (begun_at c) (view_at m) c.call y)
 
 -- what the step of the call c tells its seat, where it found n
 abbrev pub Follows : {T : Type 0} → TableOf T → InCall T → ℕ → Seated T → Type 0

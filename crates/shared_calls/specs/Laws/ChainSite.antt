@@ -1,13 +1,6 @@
 -- The laws of `Site` for a shared chain: where a call stands after a step is what the step told.
-use Rattle.std.specs.Prelude.{ℕ, Option, Some, None}
-use Rattle.std.proofs.Common.{refl, sym, ap, subst}
-use Rattle.queue_steps.specs.declared.model.Call.{Call}
-use Rattle.queue_steps.specs.declared.steps.types.Answer.{Answer}
-use Rattle.queue_steps.specs.declared.steps.types.Answer.TheVariants as answer
-use Rattle.queue_steps.specs.declared.steps.types.Kind.TheVariants as kind
-use Rattle.queue_steps.specs.declared.steps.types.Local.{Local}
-use Rattle.queue_steps.specs.declared.steps.types.Next.{Next}
-use Rattle.queue_steps.specs.declared.steps.types.Next.TheVariants as next
+use Rattle.std.proofs.Common.{ℕ, Option, Some, None, refl, sym, ap, subst}
+use Rattle.law_common.specs.Vocabulary.{Call, Kind, Answer, Local, Next}
 use Rattle.queue_steps.specs.Kinds.{call_kind, call_value}
 use Rattle.queue_steps.specs.Next.{next_of, first_local}
 use Rattle.mem_blocks.specs.Web.{sitter}
@@ -26,14 +19,14 @@ module _ {T A : Type 0} (left : ℕ) where
 
   -- what leads on for a chain does so for the driver
   leads : (w : ChainWeb T A) (p : Seat T (CallState T) A) (c : Call T) (n : Next (Place T)) (s : Seat T (CallState T) A) (x : Option T) → SitsAt w s → ChainLeads w p c n s x → Goes w p c n s x
-  leads w p c (next.Step l t o) s x sits h = h
-  leads w p c (next.Reply r None) s x sits h = (tt, λ q same. (h.1.0, h.1.1, h.1.2 q (subst (λ z. GaveUp s z) (sym same) ((refl, refl, refl), ap (λ spare. sitter s.sitter.view s.sitter.hand spare) h.0))))
-  leads w p c (next.Reply r (Some b)) s x sits h = ((sits, h.0), λ q gave. (h.1.0, h.1.1, h.1.2 q gave))
+  leads w p c (Next.Step l t o) s x sits h = h
+  leads w p c (Next.Reply r None) s x sits h = (tt, λ q same. (h.1.0, h.1.1, h.1.2 q (subst (λ z. GaveUp s z) (sym same) ((refl, refl, refl), ap (λ spare. sitter s.sitter.view s.sitter.hand spare) h.0))))
+  leads w p c (Next.Reply r (Some b)) s x sits h = ((sits, h.0), λ q gave. (h.1.0, h.1.1, h.1.2 q gave))
 
   pub chain_goes_on : (w : ChainWeb T A) (p : Seat T (CallState T) A) (c : Call T) (l : Local (Place T)) (a : Answer (Place T)) (s : Seat T (CallState T) A) (x : Option T) → ChainStands w p c l a s x
-      → GoesOn ChainCan (λ w s k l u o x a q y. ChainDoes s k l u o x a q y) ChainSpares ChainGives ChainOnWay ChainEnded left kind.Unbounded w p c l a s x
-  chain_goes_on w p c l a s x stands = let g = steps.chain_goes_on w p c l a s x stands in (g.0, leads w p c (next_of kind.Unbounded l a) s x stands.0 g.1)
+      → GoesOn ChainCan (λ w s k l u o x a q y. ChainDoes s k l u o x a q y) ChainSpares ChainGives ChainOnWay ChainEnded left Kind.Unbounded w p c l a s x
+  chain_goes_on w p c l a s x stands = let g = steps.chain_goes_on w p c l a s x stands in (g.0, leads w p c (next_of Kind.Unbounded l a) s x stands.0 g.1)
 
   pub chain_begins : (w : ChainWeb T A) (s : Seat T (CallState T) A) (c : Call T) → ChainRests w s
-      → GoesOn ChainCan (λ w s k l u o x a q y. ChainDoes s k l u o x a q y) ChainSpares ChainGives ChainOnWay ChainEnded left kind.Unbounded w s c (first_local (call_kind c)) answer.Start s (call_value c)
-  chain_begins w s c rests = let b = steps.chain_begins w s c rests in (b.0, leads w s c (next_of kind.Unbounded (first_local (call_kind c)) answer.Start) s (call_value c) rests.0 b.1)
+      → GoesOn ChainCan (λ w s k l u o x a q y. ChainDoes s k l u o x a q y) ChainSpares ChainGives ChainOnWay ChainEnded left Kind.Unbounded w s c (first_local (call_kind c)) Answer.Start s (call_value c)
+  chain_begins w s c rests = let b = steps.chain_begins w s c rests in (b.0, leads w s c (next_of Kind.Unbounded (first_local (call_kind c)) Answer.Start) s (call_value c) rests.0 b.1)

@@ -7,23 +7,7 @@ use lib.ListN.{get_elem?}
 use prog.Atomic.{either}
 use Rattle.atomic_table.specs.Table.{Act, keeps, takes, gives, Valid, carried_after, homes_after, rest}
 use Rattle.atomic_table.proofs.Lists.{set_here, set_else}
-use Rattle.queue_steps.specs.declared.steps.types.Op.{Op}
-use Rattle.queue_steps.specs.declared.steps.types.Op.TheVariants as op
-use Rattle.queue_steps.specs.declared.steps.types.Word.{Word}
-use Rattle.queue_steps.specs.declared.steps.types.Word.TheVariants as word
-use Rattle.queue_steps.specs.declared.steps.types.Touch.{Touch}
-use Rattle.queue_steps.specs.declared.steps.types.Touch.TheVariants as touch
-use Rattle.queue_steps.specs.declared.model.Call.{Call}
-use Rattle.queue_steps.specs.declared.model.Call.TheVariants as call
-use Rattle.queue_steps.specs.declared.model.Reply.TheVariants as reply
-use Rattle.queue_steps.specs.declared.model.Effect.{Effect}
-use Rattle.queue_steps.specs.declared.steps.types.Answer.{Answer}
-use Rattle.queue_steps.specs.declared.steps.types.Answer.TheVariants as answer
-use Rattle.queue_steps.specs.declared.steps.types.Kind.TheVariants as queue
-use Rattle.queue_steps.specs.declared.steps.types.Local.{Local}
-use Rattle.queue_steps.specs.declared.steps.types.Local.TheVariants as local
-use Rattle.queue_steps.specs.declared.steps.types.Next.{Next}
-use Rattle.queue_steps.specs.declared.steps.types.Next.TheVariants as next
+use Rattle.law_common.specs.Vocabulary.{Call, Reply, Effect, Kind, Word, Op, Touch, Answer, Local, Next}
 use Rattle.queue_steps.specs.declared.steps.bounded.BoundedLocal.TheVariants as ring
 use Rattle.queue_steps.specs.State.{State}
 use Rattle.queue_steps.specs.Words.{IsRing, position_of, is_shut}
@@ -54,76 +38,68 @@ use Rattle.shared_tables.specs.Laws.RingWaitFree.{ring_wait_free}
 
 -- the table has the word
 place_below : (cap : ℕ) (w : Word ℕ) → HasPlace cap w → word_index w < cap + STAMPS
-place_below cap word.Tail has = omega arith
-place_below cap word.Head has = omega arith
-place_below cap (word.Stamp i) has = omega arith
-place_below cap word.Lock has = absurd has
-place_below cap (word.State b i) has = absurd has
+place_below cap Word.Lock has = absurd has
+place_below cap (Word.State b i) has = absurd has
+place_below cap w has = omega arith
 
 in_table : (T : Type 0) (cap : ℕ) (o : Op ℕ) → InRing cap o → InTable {T = T} (ring_table cap) o
-in_table T cap (op.Load w) has = has
-in_table T cap (op.Store w x) has = has
-in_table T cap (op.Add w x) has = has
-in_table T cap (op.Or w x) has = has
-in_table T cap (op.Exchange w a b) has = has
+in_table T cap (Op.Load w) has = has
+in_table T cap (Op.Store w x) has = has
+in_table T cap (Op.Add w x) has = has
+in_table T cap (Op.Or w x) has = has
+in_table T cap (Op.Exchange w a b) has = has
 in_table T cap _ has = absurd has
 
 -- no operation on a ring takes bits off a word
 takes_none : (cap : ℕ) (o : Op ℕ) (n : ℕ) → InRing cap o → TakesOff o n
-takes_none cap (op.And w bits) n has = absurd has
+takes_none cap (Op.And w bits) n has = absurd has
 takes_none cap _ n has = tt
 
 module _ {T : Type 0} where
   -- the table has the words of the ring
   word_found : (n : ℕ) (s : Shared T) (w : Word ℕ) → HasWord s w → get_or (n ∷ ring_words s) (word_index w) 0 ≡ word_at s w
-  word_found n s word.Tail has = refl
-  word_found n s word.Head has = refl
-  word_found n s (word.Stamp i) has = sym (get_or-drop STAMPS (n ∷ ring_words s) i 0)
-  word_found n s word.Lock has = absurd has
-  word_found n s (word.State b i) has = absurd has
+  word_found n s (Word.Stamp i) has = sym (get_or-drop STAMPS (n ∷ ring_words s) i 0)
+  word_found n s Word.Lock has = absurd has
+  word_found n s (Word.State b i) has = absurd has
+  word_found n s w has = refl
 
   word_put : (n : ℕ) (s : Shared T) (w : Word ℕ) (x : ℕ) → HasWord s w → set (n ∷ ring_words s) (word_index w) x ≡ n ∷ ring_words (put_word s w x)
-  word_put n s word.Tail x has = refl
-  word_put n s word.Head x has = refl
-  word_put n s (word.Stamp i) x has =
+  word_put n s (Word.Stamp i) x has =
       let behind : STAMPS + i - STAMPS ≡ i = omega arith in
       set-append_right (n ∷ words_behind s.tail s.head []) s.stamps STAMPS (STAMPS + i) x refl (omega arith) ∙ ap (λ k. n ∷ words_behind s.tail s.head (set s.stamps k x)) behind
-  word_put n s word.Lock x has = absurd has
-  word_put n s (word.State b i) x has = absurd has
+  word_put n s Word.Lock x has = absurd has
+  word_put n s (Word.State b i) x has = absurd has
+  word_put n s w x has = refl
 
   -- what the operation finds is what the ring's operation answers
   pub answers_found : (n : ℕ) (s : Shared T) (o : Op ℕ) → CanOperate s o → answered s o ≡ answer_for o (get_or (n ∷ ring_words s) (word_index (op_word o)) 0)
-  answers_found n s (op.Load w) can = ap (λ x. answer_for (op.Load w) x) (sym (word_found n s w can))
-  answers_found n s (op.Store w x) can = refl
-  answers_found n s (op.Add w x) can = ap (λ y. answer_for (op.Add w x) y) (sym (word_found n s w can.0))
-  answers_found n s (op.Or w x) can = ap (λ y. answer_for (op.Or w x) y) (sym (word_found n s w can))
-  answers_found n s (op.Exchange w a b) can = ap (λ y. answer_for (op.Exchange w a b) y) (sym (word_found n s w can))
-  answers_found n s (op.And w x) can = absurd can
-  answers_found n s (op.LoadLink l) can = absurd can
-  answers_found n s (op.StoreLink l f) can = absurd can
-  answers_found n s (op.Install f) can = absurd can
-  answers_found n s op.Ask can = absurd can
+  answers_found n s (Op.Load w) can = ap (λ x. answer_for (Op.Load w) x) (sym (word_found n s w can))
+  answers_found n s (Op.Store w x) can = refl
+  answers_found n s (Op.Add w x) can = ap (λ y. answer_for (Op.Add w x) y) (sym (word_found n s w can.0))
+  answers_found n s (Op.Or w x) can = ap (λ y. answer_for (Op.Or w x) y) (sym (word_found n s w can))
+  answers_found n s (Op.Exchange w a b) can = ap (λ y. answer_for (Op.Exchange w a b) y) (sym (word_found n s w can))
+  answers_found n s o can = absurd can
 
   -- and the words after it are those of the ring's operation
   pub words_step : (n : ℕ) (s : Shared T) (o : Op ℕ) → CanOperate s o
       → set (n ∷ ring_words s) (word_index (op_word o)) (op_makes o (get_or (n ∷ ring_words s) (word_index (op_word o)) 0)) ≡ n ∷ ring_words (operated s o)
-  words_step n s (op.Load w) can = set-get_or (n ∷ ring_words s) (word_index w) 0
-  words_step n s (op.Store w x) can = word_put n s w x can
-  words_step n s (op.Add w x) can =
+  words_step n s (Op.Load w) can = set-get_or (n ∷ ring_words s) (word_index w) 0
+  words_step n s (Op.Store w x) can = word_put n s w x can
+  words_step n s (Op.Add w x) can =
       let at = word_found n s w can.0 in
       let small : (get_or (n ∷ ring_words s) (word_index w) 0 + x) % 2 ^ 64 ≡ word_at s w + x = (let lt = can.1 in omega arith) in
       ap (set (n ∷ ring_words s) (word_index w)) small ∙ word_put n s w (word_at s w + x) can.0
-  words_step n s (op.Or w x) can = ap (λ y. set (n ∷ ring_words s) (word_index w) (bit_or y x)) (word_found n s w can) ∙ word_put n s w (bit_or (word_at s w) x) can
-  words_step n s (op.Exchange w a b) can = ap (λ y. set (n ∷ ring_words s) (word_index w) (either (y == a) b (get_or (n ∷ ring_words s) (word_index w) 0))) (word_found n s w can) ∙ cases (word_at s w == a)
+  words_step n s (Op.Or w x) can = ap (λ y. set (n ∷ ring_words s) (word_index w) (bit_or y x)) (word_found n s w can) ∙ word_put n s w (bit_or (word_at s w) x) can
+  words_step n s (Op.Exchange w a b) can = ap (λ y. set (n ∷ ring_words s) (word_index w) (either (y == a) b (get_or (n ∷ ring_words s) (word_index w) 0))) (word_found n s w can) ∙ cases (word_at s w == a)
     where
       cases : (t : Bool) → set (n ∷ ring_words s) (word_index w) (either t b (get_or (n ∷ ring_words s) (word_index w) 0)) ≡ n ∷ ring_words (if t then put_word s w b else s)
       cases true = word_put n s w b can
       cases false = set-get_or (n ∷ ring_words s) (word_index w) 0
-  words_step n s (op.And w x) can = absurd can
-  words_step n s (op.LoadLink l) can = absurd can
-  words_step n s (op.StoreLink l f) can = absurd can
-  words_step n s (op.Install f) can = absurd can
-  words_step n s op.Ask can = absurd can
+  words_step n s (Op.And w x) can = absurd can
+  words_step n s (Op.LoadLink l) can = absurd can
+  words_step n s (Op.StoreLink l f) can = absurd can
+  words_step n s (Op.Install f) can = absurd can
+  words_step n s Op.Ask can = absurd can
 
   home_none : (c : Cell T) → owner c ≡ None → home_of c ≡ some (item_in c)
   home_none c e = ap (λ o. home_when o (item_in c)) e
@@ -208,10 +184,8 @@ module _ {T : Type 0} where
       back ys = at t mine
         where
           at : (u : Touch) → Touches u i → touched_list u v ys ≡ (i, v) ∷ rest ys
-          at touch.Nothing e = absurd e
-          at (touch.Put k) e = ap (λ n. (n, v) ∷ rest ys) e
-          at (touch.Swap k) e = ap (λ n. (n, v) ∷ rest ys) e
-          at (touch.Take k) e = ap (λ n. (n, v) ∷ rest ys) e
+          at Touch.Nothing e = absurd e
+          at u e = ap (λ n. (n, v) ∷ rest ys) e
 
       from : (ys : List (ℕ × Option T)) → Lent r who ys → Shifted cap who s hs (touched_list t v ys)
       from [] l = absurd (l i own)
@@ -232,18 +206,18 @@ module _ {T : Type 0} where
   fronts was e false P Q h here there = there h
 
   may_front : (cap : ℕ) (was : Bool) (l : Local ℕ) (a : Answer ℕ) (e : Option (Effect T)) → IsEffect cap was l a e → MayFront e was
-  may_front cap was (local.Bounded (ring.Claiming d tail)) (answer.Found found) e h =
+  may_front cap was (Local.Bounded (ring.Claiming d tail)) (Answer.Found found) e h =
       fronts was e (found == tail) _ _ h (λ w. subst (λ x. MayFront x was) (sym w.1) tt) (none_fronts was e)
-  may_front cap was (local.Bounded (ring.Displacing tail)) (answer.Found found) e h =
+  may_front cap was (Local.Bounded (ring.Displacing tail)) (Answer.Found found) e h =
       fronts was e (found + cap == position_of tail) _ _ h (λ w. subst (λ x. MayFront x was) (sym w.1) w.2) (none_fronts was e)
-  may_front cap was (local.Bounded (ring.Arriving tail)) (answer.Found found) e h = subst (λ x. MayFront x was) (sym h) tt
-  may_front cap was (local.Bounded (ring.ClosingAtLimit d)) (answer.Found found) e h =
+  may_front cap was (Local.Bounded (ring.Arriving tail)) (Answer.Found found) e h = subst (λ x. MayFront x was) (sym h) tt
+  may_front cap was (Local.Bounded (ring.ClosingAtLimit d)) (Answer.Found found) e h =
       fronts was e (is_shut found) _ _ h (none_fronts was e) (λ is. subst (λ x. MayFront x was) (sym is) tt)
-  may_front cap was (local.Bounded (ring.Taking head)) (answer.Found found) e h =
+  may_front cap was (Local.Bounded (ring.Taking head)) (Answer.Found found) e h =
       fronts was e (found == head) _ _ h (λ w. subst (λ x. MayFront x was) (sym w.1) tt) (none_fronts was e)
-  may_front cap was (local.Bounded ring.Closing) (answer.Found found) e h =
+  may_front cap was (Local.Bounded ring.Closing) (Answer.Found found) e h =
       fronts was e (is_shut found) _ _ h (none_fronts was e) (λ is. subst (λ x. MayFront x was) (sym is) tt)
-  may_front cap was (local.Bounded l) a e h = none_fronts was e h
+  may_front cap was (Local.Bounded l) a e h = none_fronts was e h
   may_front cap was _ a e h = absurd h
 
   has_touched : (cap : ℕ) (s : Ring T) (who : ℕ) (ms : List (State T)) (was : Bool) (l : Local ℕ) (t : Touch) (o : Op ℕ) (v : Option T) (k : Call T) (es : List (Effect T)) (xs : List (ℕ × Option T)) → At cap s who ms was l t o v k es → Lent s who xs → HasTouched t xs
@@ -252,10 +226,8 @@ module _ {T : Type 0} where
   has_touched cap s who ms was l t o v k es (x ∷ y ∷ zs) here lent = absurd lent
 
   words_touched : (s : Shared T) (t : Touch) (v : Option T) → ring_words s ≡ ring_words (touched s t v)
-  words_touched s touch.Nothing v = refl
-  words_touched s (touch.Put i) v = refl
-  words_touched s (touch.Swap i) v = refl
-  words_touched s (touch.Take i) v = refl
+  words_touched s Touch.Nothing v = refl
+  words_touched s t v = refl
 
   -- what the touch hands over is what lies in the seat's slot
   hands_over : (cap : ℕ) (r : Ring T) (s : Shared T) (who : ℕ) (t : Touch) (v : Option T) (xs : List (ℕ × Option T)) → Codes cap r s → CanTouch s t → ((i : ℕ) → Touches t i → owner (r.cells i) ≡ Some who) → Lent r who xs
@@ -268,10 +240,10 @@ module _ {T : Type 0} where
       lies i lt own (y ∷ z ∷ zs) l = absurd l
 
       by : (u : Touch) → CanTouch s u → ((i : ℕ) → Touches u i → owner (r.cells i) ≡ Some who) → handed s u v ≡ handed_by u v xs
-      by touch.Nothing c o = refl
-      by (touch.Put i) c o = lies i c (o i refl) xs lent
-      by (touch.Swap i) c o = lies i c (o i refl) xs lent
-      by (touch.Take i) c o = lies i c (o i refl) xs lent
+      by Touch.Nothing c o = refl
+      by (Touch.Put i) c o = lies i c (o i refl) xs lent
+      by (Touch.Swap i) c o = lies i c (o i refl) xs lent
+      by (Touch.Take i) c o = lies i c (o i refl) xs lent
 
   lent_none : (s : Ring T) (who : ℕ) (xs : List (ℕ × Option T)) → Lent s who xs → HoldsNone s.cells who → xs ≡ []
   lent_none s who [] lent none = refl
@@ -281,8 +253,8 @@ module _ {T : Type 0} where
   -- where the call stands after its step, or that it ends right
   goes_well : (cap : ℕ) (r s : Ring T) (who : ℕ) (ms : List (State T)) (was : Bool) (n : Next ℕ) (v : Option T) (k : Call T) (es : List (Effect T)) (m : ℕ)
       → RingGoes cap r s who ms was n v k es m → Goes (ring_calls cap) s who ms was n v k es
-  goes_well cap r s who ms was (next.Step l t o) v k es m goes = goes.0
-  goes_well cap r s who ms was (next.Reply x spare) v k es m goes = let y = goes.2 in (goes.0, goes.1, (y.0, y.1, y.2, λ none. seen_map ms (λ q p. inl p) (y.3 none)))
+  goes_well cap r s who ms was (Next.Step l t o) v k es m goes = goes.0
+  goes_well cap r s who ms was (Next.Reply x spare) v k es m goes = let y = goes.2 in (goes.0, goes.1, (y.0, y.1, y.2, λ none. seen_map ms (λ q p. inl p) (y.3 none)))
 
   -- each step of a call does what the table is owed
   ring_steps : (cap : ℕ) (g : Ring T) (who n : ℕ) (ws : List ℕ) (hs : List (maybe.Option (Option T))) (ms : List (State T)) (was : Bool) (l : Local ℕ) (t : Touch) (o : Op ℕ) (v : Option T) (k : Call T) (es : List (Effect T)) (xs : List (ℕ × Option T))
@@ -292,7 +264,7 @@ module _ {T : Type 0} where
     words = ring_words (operated touching o);
     effect = good.e;
     act = moved.act;
-    can_next = subst (λ (a : Answer ℕ). CanNext (queue.Bounded cap) l a) found_is good.goes_on;
+    can_next = subst (λ (a : Answer ℕ). CanNext (Kind.Bounded cap) l a) found_is good.goes_on;
     ok = good.ok;
     written = ap (λ y. set y (word_index (op_word o)) (op_makes o (get_or y (word_index (op_word o)) 0))) table ∙ words_step n touching o good.operates;
     valid = moved.valid;
@@ -301,9 +273,9 @@ module _ {T : Type 0} where
     front = may_front cap was l (answered touching o) good.e good.told;
     makes = good.makes;
     passes = good.passes;
-    goes = subst (λ (z : Answer ℕ × Option T). Goes (ring_calls cap) good.after who (queue_of cap good.after ∷ ms) (was || not good.after.closed) (next_of (queue.Bounded cap) l z.0) z.1 k (with_effect es good.e))
+    goes = subst (λ (z : Answer ℕ × Option T). Goes (ring_calls cap) good.after who (queue_of cap good.after ∷ ms) (was || not good.after.closed) (next_of (Kind.Bounded cap) l z.0) z.1 k (with_effect es good.e))
         (λ i. (found_is i, handed_is i))
-        (goes_well cap g good.after who (queue_of cap good.after ∷ ms) (was || not good.after.closed) (next_of (queue.Bounded cap) l (answered touching o)) (handed s t v) k (with_effect es good.e) (rank cap g l) good.goes);
+        (goes_well cap g good.after who (queue_of cap good.after ∷ ms) (was || not good.after.closed) (next_of (Kind.Bounded cap) l (answered touching o)) (handed s t v) k (with_effect es good.e) (rank cap g l) good.goes);
   }
     where
       touching : Shared T
@@ -325,15 +297,8 @@ module _ {T : Type 0} where
       handed_is = hands_over cap g s who t v xs codes good.touches (λ i e. at_touches i here e) lent
 
   ring_opens_in : (cap : ℕ) → IsRing cap → (c : Call T) → OpensIn (ring_table cap) c
-  ring_opens_in cap ring (call.Push v) = (ring, (refl, tt, λ g j none. at_first cap g j (call.Push v) none))
-  ring_opens_in cap ring (call.ForcePush v) = (ring, (refl, tt, λ g j none. at_first cap g j (call.ForcePush v) none))
-  ring_opens_in cap ring call.Pop = (ring, (refl, tt, λ g j none. at_first cap g j call.Pop none))
-  ring_opens_in cap ring call.Close = (ring, (refl, tt, λ g j none. at_first cap g j call.Close none))
-  ring_opens_in cap ring call.IsClosed = (ring, (refl, tt, λ g j none. at_first cap g j call.IsClosed none))
-  ring_opens_in cap ring call.IsEmpty = (ring, (refl, tt, λ g j none. at_first cap g j call.IsEmpty none))
-  ring_opens_in cap ring call.IsFull = (ring, (refl, tt, λ g j none. at_first cap g j call.IsFull none))
-  ring_opens_in cap ring call.Len = (ring, (refl, tt, λ g j none. at_first cap g j call.Len none))
-  ring_opens_in cap ring call.Capacity = (ring, (refl, (reply.Capacity (Some cap), refl, refl, λ m is. sym is)))
+  ring_opens_in cap ring Call.Capacity = (ring, (refl, (Reply.Capacity (Some cap), refl, refl, λ m is. sym is)))
+  ring_opens_in cap ring c = (ring, (refl, tt, λ g j none. at_first cap g j c none))
 
   pub ring_call_laws : (cap : ℕ) → CallLaws {T = T} (ring_calls cap)
   ring_call_laws cap = record {

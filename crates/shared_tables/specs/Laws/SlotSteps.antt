@@ -1,27 +1,10 @@
 -- The laws of one slot in a table: what each step of a call does to the word and the slot, and where calls begin.
-use Rattle.std.proofs.Common.{◌≡◌, ℕ, ◌==◌, ◌||◌, not, Bool, true, false, List, [], ◌∷◌, get_or, set, Option, Some, None, if◌then◌else◌, refl, ap, sym, ◌∙◌, subst, inl, arith}
+use Rattle.std.proofs.Common.{◌≡◌, ℕ, ◌==◌, ◌||◌, not, Bool, true, false, List, [], ◌∷◌, get_or, set, Option, Some, if◌then◌else◌, refl, ap, sym, ◌∙◌, subst, inl, arith}
 use mathlib.Core.Option.{some}
 use mathlib.Core.Option as maybe
 use prog.Atomic.{either}
 use Rattle.atomic_table.specs.Table.{Act, keeps, takes, gives, Valid, carried_after, homes_after}
-use Rattle.queue_steps.specs.declared.model.Call.{Call}
-use Rattle.queue_steps.specs.declared.model.Call.TheVariants as call
-use Rattle.queue_steps.specs.declared.model.Reply.TheVariants as reply
-use Rattle.queue_steps.specs.declared.model.Effect.{Effect}
-use Rattle.queue_steps.specs.declared.model.Effect.TheVariants as effect
-use Rattle.queue_steps.specs.declared.steps.types.Answer.{Answer}
-use Rattle.queue_steps.specs.declared.steps.types.Answer.TheVariants as answer
-use Rattle.queue_steps.specs.declared.steps.types.Kind.TheVariants as kind
-use Rattle.queue_steps.specs.declared.steps.types.Local.{Local}
-use Rattle.queue_steps.specs.declared.steps.types.Local.TheVariants as local
-use Rattle.queue_steps.specs.declared.steps.types.Look.TheVariants as look
-use Rattle.queue_steps.specs.declared.steps.types.Next.{Next}
-use Rattle.queue_steps.specs.declared.steps.types.Next.TheVariants as next
-use Rattle.queue_steps.specs.declared.steps.types.Op.{Op}
-use Rattle.queue_steps.specs.declared.steps.types.Op.TheVariants as op
-use Rattle.queue_steps.specs.declared.steps.types.Touch.{Touch}
-use Rattle.queue_steps.specs.declared.steps.types.Touch.TheVariants as touch
-use Rattle.queue_steps.specs.declared.steps.single.SingleLocal.{SingleLocal}
+use Rattle.law_common.specs.Vocabulary.{Call, Reply, Effect, Kind, Op, Touch, Answer, Look, Local, Next, SingleLocal}
 use Rattle.queue_steps.specs.declared.steps.single.SingleLocal.TheVariants.{Closing, Looking}
 use Rattle.queue_steps.specs.State.{State}
 use Rattle.queue_steps.specs.Kinds.{call_kind}
@@ -29,7 +12,7 @@ use Rattle.queue_steps.specs.Next.{CanNext, next_of}
 use Rattle.queue_steps.specs.WaitFree.{is_wait_free, EndsBefore, EndsWaitFree}
 use Rattle.law_common.specs.Effects.{Leads, with_effect}
 use Rattle.law_slot.specs.SlotShared.{Shared, one_slot, CanOperate, answered, operated, touched, handed}
-use Rattle.law_slot.specs.SlotHolder.{SlotHolder, Nobody, Filling, Swapping, Taking}
+use Rattle.law_slot.specs.SlotHolder.{SlotHolder, Nobody}
 use Rattle.law_slot.specs.SlotRows.{Stands, filling, swapping, taking, At, push_try, push_put, force_try_empty, force_try_full, force_put_empty, force_put_full, pop_try, pop_take, close_try, look_at, Share, fills, swaps, takes as takes_share, Passes, stays, changes, single, Lands, Good}
 use Rattle.law_slot.proofs.SlotEarly.{early}
 use Rattle.law_slot.proofs.SlotSteps.{step_good}
@@ -44,89 +27,69 @@ use Rattle.shared_parties.specs.Operations.{op_makes, answer_for}
 use Rattle.shared_tables.specs.SlotTable.{home_under, SlotCoded, slot_calls, slot_table}
 
 -- the wait-free calls take one step
-ends_next : (l : SingleLocal) → ((n : ℕ) → EndsBefore {B = ℕ} 2 kind.Single (next_of kind.Single (local.Single l) (answer.Found n))) → (a : Answer ℕ) → CanNext kind.Single (local.Single l) a → EndsBefore {B = ℕ} 2 kind.Single (next_of kind.Single (local.Single l) a)
-ends_next l ends (answer.Found n) can = ends n
-ends_next l ends answer.Start can = absurd can
-ends_next l ends (answer.Linked b) can = absurd can
-ends_next l ends (answer.Granted b) can = absurd can
-ends_next l ends answer.Refused can = absurd can
-ends_next l ends answer.Done can = absurd can
+ends_next : (l : SingleLocal) → ((n : ℕ) → EndsBefore {B = ℕ} 2 Kind.Single (next_of Kind.Single (Local.Single l) (Answer.Found n))) → (a : Answer ℕ) → CanNext Kind.Single (Local.Single l) a → EndsBefore {B = ℕ} 2 Kind.Single (next_of Kind.Single (Local.Single l) a)
+ends_next l ends (Answer.Found n) can = ends n
+ends_next l ends a can = absurd can
 
-slot_wait_free : {T : Type 0} (c : Call T) → is_wait_free c ≡ true → EndsWaitFree ℕ kind.Single (call_kind c)
-slot_wait_free call.Close h = λ a can. ends_next Closing (λ n. tt) a can
-slot_wait_free call.IsClosed h = λ a can. ends_next (Looking look.IsClosed) (λ n. tt) a can
-slot_wait_free call.IsEmpty h = λ a can. ends_next (Looking look.IsEmpty) (λ n. tt) a can
-slot_wait_free call.IsFull h = λ a can. ends_next (Looking look.IsFull) (λ n. tt) a can
-slot_wait_free (call.Push v) h = cc
-slot_wait_free (call.ForcePush v) h = cc
-slot_wait_free call.Pop h = cc
-slot_wait_free call.Len h = cc
-slot_wait_free call.Capacity h = cc
+slot_wait_free : {T : Type 0} (c : Call T) → is_wait_free c ≡ true → EndsWaitFree ℕ Kind.Single (call_kind c)
+slot_wait_free Call.Close h = λ a can. ends_next Closing (λ n. tt) a can
+slot_wait_free Call.IsClosed h = λ a can. ends_next (Looking Look.IsClosed) (λ n. tt) a can
+slot_wait_free Call.IsEmpty h = λ a can. ends_next (Looking Look.IsEmpty) (λ n. tt) a can
+slot_wait_free Call.IsFull h = λ a can. ends_next (Looking Look.IsFull) (λ n. tt) a can
+slot_wait_free c h = cc
 
 in_table : (T : Type 0) (o : Op ℕ) → CanOperate o → InTable {T = T} slot_table o
-in_table T (op.Load w) can = can
-in_table T (op.Or w x) can = can
-in_table T (op.And w x) can = can
-in_table T (op.Exchange w a b) can = can
-in_table T (op.Store w x) can = absurd can
-in_table T (op.Add w x) can = absurd can
-in_table T (op.LoadLink l) can = absurd can
-in_table T (op.StoreLink l f) can = absurd can
-in_table T (op.Install f) can = absurd can
-in_table T op.Ask can = absurd can
+in_table T (Op.Load w) can = can
+in_table T (Op.Or w x) can = can
+in_table T (Op.And w x) can = can
+in_table T (Op.Exchange w a b) can = can
+in_table T o can = absurd can
 
 module _ {T : Type 0} where
   -- a touch leaves the word, and an operation leaves the slot
   lock_touched : (word : ℕ) (slot : Option T) (t : Touch) (v : Option T) → (touched (one_slot word slot) t v).lock ≡ word
-  lock_touched word slot touch.Nothing v = refl
-  lock_touched word slot (touch.Put i) v = refl
-  lock_touched word slot (touch.Swap i) v = refl
-  lock_touched word slot (touch.Take i) v = refl
+  lock_touched word slot Touch.Nothing v = refl
+  lock_touched word slot t v = refl
 
   slot_operated : (s : Shared T) (o : Op ℕ) → (operated s o).slot ≡ s.slot
-  slot_operated s (op.Exchange w a b) = cases (s.lock == a)
+  slot_operated s (Op.Exchange w a b) = cases (s.lock == a)
     where
       cases : (t : Bool) → (if◌then◌else◌ {A = Shared T} t (record s { lock = b }) s).slot ≡ s.slot
       cases true = refl
       cases false = refl
-  slot_operated s (op.Load w) = refl
-  slot_operated s (op.Or w x) = refl
-  slot_operated s (op.And w x) = refl
-  slot_operated s (op.Store w x) = refl
-  slot_operated s (op.Add w x) = refl
-  slot_operated s (op.LoadLink l) = refl
-  slot_operated s (op.StoreLink l f) = refl
-  slot_operated s (op.Install f) = refl
-  slot_operated s op.Ask = refl
+  slot_operated s (Op.Load w) = refl
+  slot_operated s (Op.Or w x) = refl
+  slot_operated s (Op.And w x) = refl
+  slot_operated s (Op.Store w x) = refl
+  slot_operated s (Op.Add w x) = refl
+  slot_operated s (Op.LoadLink l) = refl
+  slot_operated s (Op.StoreLink l f) = refl
+  slot_operated s (Op.Install f) = refl
+  slot_operated s Op.Ask = refl
 
   -- what the operation makes of the word, and answers
   lock_operated : (s : Shared T) (o : Op ℕ) → CanOperate o → (operated s o).lock ≡ op_makes o s.lock
-  lock_operated s (op.Exchange w a b) can = cases (s.lock == a)
+  lock_operated s (Op.Exchange w a b) can = cases (s.lock == a)
     where
       cases : (t : Bool) → (if◌then◌else◌ {A = Shared T} t (record s { lock = b }) s).lock ≡ either t b s.lock
       cases true = refl
       cases false = refl
-  lock_operated s (op.Load w) can = refl
-  lock_operated s (op.Or w x) can = refl
-  lock_operated s (op.And w x) can = refl
-  lock_operated s (op.Store w x) can = absurd can
-  lock_operated s (op.Add w x) can = absurd can
-  lock_operated s (op.LoadLink l) can = absurd can
-  lock_operated s (op.StoreLink l f) can = absurd can
-  lock_operated s (op.Install f) can = absurd can
-  lock_operated s op.Ask can = absurd can
+  lock_operated s (Op.Load w) can = refl
+  lock_operated s (Op.Or w x) can = refl
+  lock_operated s (Op.And w x) can = refl
+  lock_operated s (Op.Store w x) can = absurd can
+  lock_operated s (Op.Add w x) can = absurd can
+  lock_operated s (Op.LoadLink l) can = absurd can
+  lock_operated s (Op.StoreLink l f) can = absurd can
+  lock_operated s (Op.Install f) can = absurd can
+  lock_operated s Op.Ask can = absurd can
 
   lock_answered : (s : Shared T) (o : Op ℕ) → CanOperate o → answered s o ≡ answer_for o s.lock
-  lock_answered s (op.Load w) can = refl
-  lock_answered s (op.Or w x) can = refl
-  lock_answered s (op.And w x) can = refl
-  lock_answered s (op.Exchange w a b) can = refl
-  lock_answered s (op.Store w x) can = absurd can
-  lock_answered s (op.Add w x) can = absurd can
-  lock_answered s (op.LoadLink l) can = absurd can
-  lock_answered s (op.StoreLink l f) can = absurd can
-  lock_answered s (op.Install f) can = absurd can
-  lock_answered s op.Ask can = absurd can
+  lock_answered s (Op.Load w) can = refl
+  lock_answered s (Op.Or w x) can = refl
+  lock_answered s (Op.And w x) can = refl
+  lock_answered s (Op.Exchange w a b) can = refl
+  lock_answered s o can = absurd can
 
   -- What the table does at a step that leads from the lock's holder h and this slot to h' and slot', for a party that had the slots ys and has own' of the lock then
   record Moved (h : SlotHolder T) (slot : Option T) (h' : SlotHolder T) (slot' : Option T) (own' : SlotHolder T) (ys : List (ℕ × Option T)) : Type 0 where
@@ -137,9 +100,7 @@ module _ {T : Type 0} where
 
   out_of : (h : SlotHolder T) (x : Option T) → IsHeld h → home_under h x ≡ maybe.none
   out_of Nobody x held = absurd held
-  out_of (Filling v) x held = refl
-  out_of (Swapping old v) x held = refl
-  out_of (Taking y) x held = refl
+  out_of h x held = refl
 
   -- a party that has nothing of the lock leaves it so, or takes it with the slot
   takes_slot : {word' : ℕ} {items' : List T} {c' : Bool} (slot slot' : Option T) (own h own' h' : SlotHolder T) → Passes own h own' h' → own ≡ Nobody → slot' ≡ slot → Stands word' slot' h' items' c' → Moved h slot h' slot' own' []
@@ -156,9 +117,7 @@ module _ {T : Type 0} where
 
       by : {w : ℕ} {ys : List T} {d : Bool} (f : SlotHolder T) → Stands w slot' f ys d → Moved h slot f slot' f []
       by Nobody st = record { act = keeps; valid = tt; homes = (λ i. home_under (is i) (sym same i) ∷ []); lent = refl }
-      by (Filling v) st = taken (Filling v) tt st
-      by (Swapping old v) st = taken (Swapping old v) tt st
-      by (Taking x) st = taken (Taking x) tt st
+      by f st = taken f tt st
 
   -- one that gives the lock back gives back the slot, with what it put there
   gives_slot : (slot slot' v : Option T) (own h own' h' : SlotHolder T) → Passes own h own' h' → IsHeld own → own' ≡ Nobody → slot' ≡ v → Moved h slot h' slot' own' ((0, v) ∷ [])
@@ -174,7 +133,7 @@ module _ {T : Type 0} where
   left_there s o w x is = sym (ap (λ z. z.slot) is) ∙ slot_operated s o
 
   from_free : {l : Local ℕ} {o : Op ℕ} {v : Option T} {word : ℕ} {slot : Option T} {h : SlotHolder T} {items : List T} {c : Bool} {k : Call T} {es : List (Effect T)} {n : ℕ} {ms : List (State T)}
-      → (good : Good l touch.Nothing o v word slot Nobody h items c n k es ms) → Shifts word slot Nobody h good.own' good.h' good.slot' touch.Nothing v
+      → (good : Good l Touch.Nothing o v word slot Nobody h items c n k es ms) → Shifts word slot Nobody h good.own' good.h' good.slot' Touch.Nothing v
   from_free {o = o} {word = word} {slot = slot} {h = h} good = record {
     moved = takes_slot slot good.slot' Nobody h good.own' good.h' good.passes refl (left_there (one_slot word slot) o good.word' good.slot' good.leaves) good.stands;
     handed_is = refl;
@@ -192,32 +151,21 @@ module _ {T : Type 0} where
 
   shifts : {l : Local ℕ} {t : Touch} {o : Op ℕ} {v : Option T} {word : ℕ} {slot : Option T} {own h : SlotHolder T} {items : List T} {c : Bool} {k : Call T} {es : List (Effect T)} {n : ℕ} {ms : List (State T)}
       → At l t o v own k es → Share own h → Stands word slot h items c → (good : Good l t o v word slot own h items c n k es ms) → Shifts word slot own h good.own' good.h' good.slot' t v
-  shifts (push_try v) share st good = from_free good
-  shifts (force_try_empty v) share st good = from_free good
-  shifts (force_try_full v) share st good = from_free good
-  shifts (pop_try d) share st good = from_free good
-  shifts close_try share st good = from_free good
-  shifts (look_at l) share st good = from_free good
   shifts (push_put v) (fills _) st good = from_held good st tt good.lands.0 refl refl refl refl
   shifts (force_put_empty v) (fills _) st good = from_held good st tt good.lands.0 refl refl refl refl
   shifts (force_put_full old v) (swaps _ _) st good = from_held good st tt good.lands.0 refl refl refl refl
   shifts (pop_take x) (takes_share _) st good = from_held good st tt good.lands.0 refl refl refl refl
+  shifts x share st good = from_free good
 
   -- one slot has no fronts
   no_front : (items : List T) (c was : Bool) (n : ℕ) (e : Option (Effect T)) (R : State T) → Leads (single items c n) e R → MayFront e was
-  no_front items c was n None R m = tt
-  no_front items c was n (Some (effect.Front old v)) R m = absurd (let f : true ≡ false = m.0.0 in cc)
-  no_front items c was n (Some (effect.Append v)) R m = tt
-  no_front items c was n (Some (effect.Take v)) R m = tt
-  no_front items c was n (Some (effect.Replace old v)) R m = tt
-  no_front items c was n (Some effect.Arrive) R m = tt
-  no_front items c was n (Some effect.Close) R m = tt
-  no_front items c was n (Some effect.SelfClose) R m = tt
+  no_front items c was n (Some (Effect.Front old v)) R m = absurd (let f : true ≡ false = m.0.0 in cc)
+  no_front items c was n e R m = tt
 
   -- where the call stands after its step, or that it ends right
   goes_well : (g : Slot T) (who : ℕ) (own : SlotHolder T) (ms : List (State T)) (was : Bool) (x : Next ℕ) (v : Option T) (k : Call T) (es : List (Effect T)) → own ≡ own_in g who → Lands x v own k es ms → Goes slot_calls g who ms was x v k es
-  goes_well g who own ms was (next.Step l t o) v k es is lands = subst (λ h. At l t o v h k es) is lands
-  goes_well g who own ms was (next.Reply x spare) v k es is lands = let y = lands.2 in (ap lent_by (sym lands.0 ∙ is), lands.1, (y.0, y.1, y.2, λ none. seen_map ms (λ q p. inl p) (y.3 none)))
+  goes_well g who own ms was (Next.Step l t o) v k es is lands = subst (λ h. At l t o v h k es) is lands
+  goes_well g who own ms was (Next.Reply x spare) v k es is lands = let y = lands.2 in (ap lent_by (sym lands.0 ∙ is), lands.1, (y.0, y.1, y.2, λ none. seen_map ms (λ q p. inl p) (y.3 none)))
 
   -- each step of a call does what the table is owed
   slot_steps : (g : Slot T) (who n : ℕ) (ws : List ℕ) (hs : List (maybe.Option (Option T))) (ms : List (State T)) (was : Bool) (l : Local ℕ) (t : Touch) (o : Op ℕ) (v : Option T) (k : Call T) (es : List (Effect T)) (xs : List (ℕ × Option T))
@@ -227,7 +175,7 @@ module _ {T : Type 0} where
     words = good.word' ∷ [];
     effect = good.e;
     act = moved.act;
-    can_next = subst (λ (a : Answer ℕ). CanNext kind.Single l a) found_is (can_operate word slot here).2;
+    can_next = subst (λ (a : Answer ℕ). CanNext Kind.Single l a) found_is (can_operate word slot here).2;
     ok = tt;
     written = ap (λ (y : List ℕ). set (n ∷ y) 1 (op_makes o (get_or (n ∷ y) 1 0))) words ∙ ap (λ w. n ∷ w ∷ []) made_is;
     valid = subst (λ (z : List (maybe.Option (Option T)) × List (ℕ × Option T)). Valid z.0 (touched_list t v z.1) moved.act) back moved.valid;
@@ -242,8 +190,8 @@ module _ {T : Type 0} where
     front = no_front g.items g.closed was g.accepted good.e (queue_of after) good.makes;
     makes = good.makes;
     passes = λ j ne. own_other good.passes g.keeps.who who j refl ne;
-    goes = subst (λ (z : Answer ℕ × Option T). Goes slot_calls after who (queue_of after ∷ ms) (was || not after.closed) (next_of kind.Single l z.0) z.1 k (with_effect es good.e)) (λ i. (found_is i, handed_is i))
-        (goes_well after who good.own' (queue_of after ∷ ms) (was || not after.closed) (next_of kind.Single l (answered touching o)) (handed (one_slot word slot) t v) k (with_effect es good.e) own_is good.lands);
+    goes = subst (λ (z : Answer ℕ × Option T). Goes slot_calls after who (queue_of after ∷ ms) (was || not after.closed) (next_of Kind.Single l z.0) z.1 k (with_effect es good.e)) (λ i. (found_is i, handed_is i))
+        (goes_well after who good.own' (queue_of after ∷ ms) (was || not after.closed) (next_of Kind.Single l (answered touching o)) (handed (one_slot word slot) t v) k (with_effect es good.e) own_is good.lands);
   }
     where
       touching : Shared T
@@ -286,19 +234,16 @@ module _ {T : Type 0} where
   unlocks : {l : Local ℕ} {t : Touch} {o : Op ℕ} {v : Option T} {word : ℕ} {slot : Option T} {own h : SlotHolder T} {items : List T} {c : Bool} {k : Call T} {es : List (Effect T)}
       → At l t o v own k es → Share own h → Stands word slot h items c → TakesOff o word
   unlocks (push_put v) (fills _) (filling true _) = refl
-  unlocks (push_put v) (fills _) (filling false _) = refl
   unlocks (force_put_empty v) (fills _) (filling true _) = refl
-  unlocks (force_put_empty v) (fills _) (filling false _) = refl
   unlocks (force_put_full old v) (swaps _ _) (swapping true _ _) = refl
-  unlocks (force_put_full old v) (swaps _ _) (swapping false _ _) = refl
   unlocks (pop_take x) (takes_share _) (taking true _) = refl
-  unlocks (pop_take x) (takes_share _) (taking false _) = refl
   unlocks (push_try v) share st = tt
   unlocks (force_try_empty v) share st = tt
   unlocks (force_try_full v) share st = tt
   unlocks (pop_try d) share st = tt
   unlocks close_try share st = tt
   unlocks (look_at l) share st = tt
+  unlocks x share st = refl
 
   slot_takes_off : (g : Slot T) (who n : ℕ) (ws : List ℕ) (hs : List (maybe.Option (Option T))) (l : Local ℕ) (t : Touch) (o : Op ℕ) (v : Option T) (k : Call T) (es : List (Effect T))
       → SlotCoded g ws hs → At l t o v (own_in g who) k es → TakesOff o (get_or (n ∷ ws) 1 0)
@@ -310,15 +255,15 @@ module _ {T : Type 0} where
   first_at g j l t o v k none here = subst (λ h. At l t o v h k []) (sym (nobody_if (own_in g j) none)) here
 
   slot_opens_in : (c : Call T) → OpensIn slot_table c
-  slot_opens_in (call.Push v) = (tt, (refl, tt, λ g j none. first_at g j _ _ _ _ _ none (push_try v)))
-  slot_opens_in (call.ForcePush v) = (tt, (refl, tt, λ g j none. first_at g j _ _ _ _ _ none (force_try_empty v)))
-  slot_opens_in call.Pop = (tt, (refl, tt, λ g j none. first_at g j _ _ _ _ _ none (pop_try false)))
-  slot_opens_in call.Close = (tt, (refl, tt, λ g j none. first_at g j _ _ _ _ _ none close_try))
-  slot_opens_in call.IsClosed = (tt, (refl, tt, λ g j none. first_at g j _ _ _ _ _ none (look_at look.IsClosed)))
-  slot_opens_in call.IsEmpty = (tt, (refl, tt, λ g j none. first_at g j _ _ _ _ _ none (look_at look.IsEmpty)))
-  slot_opens_in call.IsFull = (tt, (refl, tt, λ g j none. first_at g j _ _ _ _ _ none (look_at look.IsFull)))
-  slot_opens_in call.Len = (tt, (refl, tt, λ g j none. first_at g j _ _ _ _ _ none (look_at look.Len)))
-  slot_opens_in call.Capacity = (tt, (refl, (reply.Capacity (Some 1), refl, refl, λ m is. sym is)))
+  slot_opens_in (Call.Push v) = (tt, (refl, tt, λ g j none. first_at g j _ _ _ _ _ none (push_try v)))
+  slot_opens_in (Call.ForcePush v) = (tt, (refl, tt, λ g j none. first_at g j _ _ _ _ _ none (force_try_empty v)))
+  slot_opens_in Call.Pop = (tt, (refl, tt, λ g j none. first_at g j _ _ _ _ _ none (pop_try false)))
+  slot_opens_in Call.Close = (tt, (refl, tt, λ g j none. first_at g j _ _ _ _ _ none close_try))
+  slot_opens_in Call.IsClosed = (tt, (refl, tt, λ g j none. first_at g j _ _ _ _ _ none (look_at Look.IsClosed)))
+  slot_opens_in Call.IsEmpty = (tt, (refl, tt, λ g j none. first_at g j _ _ _ _ _ none (look_at Look.IsEmpty)))
+  slot_opens_in Call.IsFull = (tt, (refl, tt, λ g j none. first_at g j _ _ _ _ _ none (look_at Look.IsFull)))
+  slot_opens_in Call.Len = (tt, (refl, tt, λ g j none. first_at g j _ _ _ _ _ none (look_at Look.Len)))
+  slot_opens_in Call.Capacity = (tt, (refl, (Reply.Capacity (Some 1), refl, refl, λ m is. sym is)))
 
   slot_call_laws : CallLaws {T = T} slot_calls
   slot_call_laws = record {

@@ -1,20 +1,12 @@
 -- The laws of `Site` for a queue in a table: where a call stands after a step is what the step told.
-use Rattle.std.specs.Prelude.{◌≡◌, ℕ, [], Option, Some, None}
-use Rattle.std.proofs.Common.{refl, ap, sym, ◌∙◌, subst, inl, inr}
+use Rattle.std.proofs.Common.{◌≡◌, ℕ, [], Option, Some, None, refl, ap, sym, ◌∙◌, subst, inl, inr}
 use Rattle.atomic_table.specs.Seated.{TableId}
-use Rattle.queue_steps.specs.declared.model.Call.{Call}
-use Rattle.queue_steps.specs.declared.steps.types.Answer.{Answer}
-use Rattle.queue_steps.specs.declared.steps.types.Answer.TheVariants as answer
-use Rattle.queue_steps.specs.declared.steps.types.Local.{Local}
-use Rattle.queue_steps.specs.declared.steps.types.Next.{Next}
-use Rattle.queue_steps.specs.declared.steps.types.Next.TheVariants as next
-use Rattle.queue_steps.specs.declared.steps.types.Op.{Op}
-use Rattle.queue_steps.specs.declared.steps.types.Touch.{Touch}
-use Rattle.queue_steps.specs.declared.steps.types.Touch.TheVariants as touch
+use Rattle.law_common.specs.Vocabulary.{Call, Op, Touch, Answer, Local, Next}
 use Rattle.queue_steps.specs.Effect.{after}
 use Rattle.queue_steps.specs.Kinds.{call_kind, call_value}
 use Rattle.queue_steps.specs.Next.{CanNext, next_of, first_local}
 use Rattle.queue_steps.specs.Parties.{View, SharedCall}
+use Rattle.law_common.proofs.Runs.{cap_after}
 use Rattle.law_common.specs.Effects.{Touches}
 use Rattle.shared_parties.specs.declared.known.CallState.{CallState}
 use Rattle.shared_parties.specs.declared.known.InCall.{InCall}
@@ -31,7 +23,7 @@ use Rattle.shared_parties.specs.CallsAt.{begun_at}
 use Rattle.shared_parties.specs.Called.{with_value, call_of_work}
 use Rattle.shared_parties.proofs.Called.{whole}
 use Rattle.shared_parties.proofs.Histories.{prefix_self}
-use Rattle.shared_parties.proofs.SharedCalls.{quiet, cap_after}
+use Rattle.shared_parties.proofs.SharedCalls.{quiet}
 use Rattle.call_driver.specs.Leads.{Leads, GoesOn}
 
 module _ (T : Type 0) (K : ℕ → TableOf T) (t : TableId) (left : ℕ) where
@@ -40,7 +32,7 @@ module _ (T : Type 0) (K : ℕ → TableOf T) (t : TableId) (left : ℕ) where
 
   -- what a step told leads on
   told_leads : (p : TableSeat T) (c : Call T) (q : TableSeat T) (y : Option T) (b : InCall T) (n : Next ℕ) → q.0 ≡ t → b.call ≡ c → begun_at b ≡ view_at p.1 → After (K t.slots) b y n q.1 → TableLeads p c n q y
-  told_leads p c q y b (next.Step l u o) same is begun (d, at, local_is, touch_is, op_is, carried_is, call_is, begun_is, lends, touched, word) = (
+  told_leads p c q y b (Next.Step l u o) same is begun (d, at, local_is, touch_is, op_is, carried_is, call_is, begun_is, lends, touched, word) = (
     (
       same,
       subst (CanDo (K t.slots) q.1 l u o y) (sym call_same) (record {
@@ -76,8 +68,8 @@ module _ (T : Type 0) (K : ℕ → TableOf T) (t : TableId) (left : ℕ) where
 
       handed : (z : Option T) → z ≡ handed_by u y (call_at q.1 (call_kind c) l u o y).lends → handed_by d.touch d.carried d.lends ≡ z
       handed z e = (λ i. handed_by (touch_is i) (carried_is i) d.lends) ∙ sym (e ∙ ap (λ (x : InCall T). handed_by u y x.lends) call_same)
-  told_leads p c q y b (next.Reply r (Some block)) same is begun (none, told) = absurd (let f : Some block ≡ None = none in cc)
-  told_leads p c q y b (next.Reply r None) same is begun (none, (x, fill, rests, cap_is, owns, calls)) = (
+  told_leads p c q y b (Next.Reply r (Some block)) same is begun (none, told) = absurd (let f : Some block ≡ None = none in cc)
+  told_leads p c q y b (Next.Reply r None) same is begun (none, (x, fill, rests, cap_is, owns, calls)) = (
     tt,
     λ after still. (
       x,
@@ -98,8 +90,8 @@ module _ (T : Type 0) (K : ℕ → TableOf T) (t : TableId) (left : ℕ) where
   rests_nothing p at = (ap (λ (d : CallState T). d.work) at.1.0, at.1.1)
 
   -- the first step of a call that takes steps
-  begins_step : (p : TableSeat T) (c : Call T) (l : Local ℕ) (u : Touch) (o : Op ℕ) → IsAt (cap_of (K t.slots).calls) t p → u ≡ touch.Nothing → InTable (K t.slots) o
-      → first_of (K t.slots).calls.kind c ≡ next.Step l u o → TableLeads p c (next.Step l u o) p (call_value c)
+  begins_step : (p : TableSeat T) (c : Call T) (l : Local ℕ) (u : Touch) (o : Op ℕ) → IsAt (cap_of (K t.slots).calls) t p → u ≡ Touch.Nothing → InTable (K t.slots) o
+      → first_of (K t.slots).calls.kind c ≡ Next.Step l u o → TableLeads p c (Next.Step l u o) p (call_value c)
   begins_step p c l u o at quiet word step = (
     (
       at.0,
@@ -152,12 +144,12 @@ module _ (T : Type 0) (K : ℕ → TableOf T) (t : TableId) (left : ℕ) where
 
   -- what a call does first leads on
   opens_leads : (p : TableSeat T) (c : Call T) (n : Next ℕ) → IsAt (cap_of (K t.slots).calls) t p → first_of (K t.slots).calls.kind c ≡ n → Opens (K t.slots).calls (InTable (K t.slots)) c n → TableLeads p c n p (call_value c)
-  opens_leads p c (next.Step l u o) at step opens = begins_step p c l u o at opens.0 opens.1 step
-  opens_leads p c (next.Reply x (Some block)) at step (none, right) = absurd (let f : Some block ≡ None = none in cc)
-  opens_leads p c (next.Reply x None) at step (none, (y, fill, tells, right)) =
+  opens_leads p c (Next.Step l u o) at step opens = begins_step p c l u o at opens.0 opens.1 step
+  opens_leads p c (Next.Reply x (Some block)) at step (none, right) = absurd (let f : Some block ≡ None = none in cc)
+  opens_leads p c (Next.Reply x None) at step (none, (y, fill, tells, right)) =
       let cap : Option ℕ = cap_of (K t.slots).calls in let h = p.1.0.known.seen in
       (tt, λ last still. (y, fill, subst (TableEnded K t p c y) (sym still) (at, quiet cap (view_at p.1) (view_at p.1) h c y (prefix_self h) (prefix_self h) at.3 refl refl tells (right (after cap h) (cap_after cap h)))))
 
   pub table_begins : (words : ℕ) → TableLaws (K t.slots) words → (p : TableSeat T) (c : Call T) → IsAt (cap_of (K t.slots).calls) t p
-      → GoesOn (TableCan K) (TableDoes K) NoBlock NoGift (TableStands K) (TableEnded K) left (K t.slots).calls.kind t p c (first_local (call_kind c)) answer.Start p (call_value c)
+      → GoesOn (TableCan K) (TableDoes K) NoBlock NoGift (TableStands K) (TableEnded K) left (K t.slots).calls.kind t p c (first_local (call_kind c)) Answer.Start p (call_value c)
   table_begins words laws p c at = let o = laws.opens c in (o.0, opens_leads p c (first_of (K t.slots).calls.kind c) at refl o.1)

@@ -1,6 +1,5 @@
 use Rattle.std.proofs.Common.{◌≡◌, ◌∙◌, Break, None, sym, subst}
-use Rattle.queue_steps.specs.declared.model.Call.TheVariants as calls
-use Rattle.queue_steps.specs.declared.model.Reply.TheVariants as replies
+use Rattle.law_common.specs.Vocabulary.{Call, Reply}
 use Rattle.queue_steps.specs.Kinds.{call_value}
 use Rattle.shared_chain.specs.Turning.{ChainEnded}
 use Rattle.shared_calls.specs.InWeb.{EndedAt}
@@ -33,5 +32,5 @@ returns g c =
       | in-Continue b ↦ let e = b.end_or_quit_in in subst (λ x. ToldIn w p k x m.asking) (sym (b.told-is ∙ b.retold-told.ensures)) (subst (λ a. ToldIn w p k e.result a) (sym b.asking-is) (e.ensures k p (rw b.apart.ensures b.in-Continue.ensures)))
     ] in
     let ended : (l : _) (y : _) → ChainEnded w p.seat l y m.asking.seat → EndedAt r l y q = λ l y e. rests_ended r q p.seat.sitter m.asking.seat.sitter l y s.1 e.0.1 e.1 out.0 (out.1 ∙ (e.0.0.0 ∙ sym c.requires.rests.1)) out.2 in
-    matched (λ value. ChainEnded w p.seat calls.Capacity (replies.Capacity None) m.asking.seat × (value ≡ call_value k)) (λ value. EndedAt r calls.Capacity (replies.Capacity None) q × (value ≡ call_value k))
-    (λ y. ChainEnded w p.seat k y m.asking.seat) (λ y. EndedAt r k y q) m.told (λ v h. (ended calls.Capacity (replies.Capacity None) h.0, h.1)) (λ y h. ended k y h) d
+    matched (λ value. ChainEnded w p.seat Call.Capacity (Reply.Capacity None) m.asking.seat × (value ≡ call_value k)) (λ value. EndedAt r Call.Capacity (Reply.Capacity None) q × (value ≡ call_value k))
+    (λ y. ChainEnded w p.seat k y m.asking.seat) (λ y. EndedAt r k y q) m.told (λ v h. (ended Call.Capacity (Reply.Capacity None) h.0, h.1)) (λ y h. ended k y h) d

@@ -1,5 +1,5 @@
 use Rattle.std.proofs.Common.{◌≡◌, ◌-◌, ◌∙◌, true, false, subst}
-use Rattle.queue_steps.specs.declared.sizes.TheConstants.{SOLO_STEPS}
+use Rattle.law_common.specs.Vocabulary.{SOLO_STEPS}
 use Rattle.shared_calls.specs.Settling.{next_at, MayWait}
 use Rattle.shared_calls.proofs.GivesUp.{halts, gave_up}
 use Rattle.shared_calls.proofs.attempts.end_or_quit_at.Goals as goal

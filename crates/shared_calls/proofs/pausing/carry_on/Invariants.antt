@@ -1,6 +1,5 @@
 use Rattle.std.proofs.Common.{◌-◌}
-use Rattle.queue_steps.specs.declared.sizes.TheConstants.{SOLO_STEPS}
-use Rattle.queue_steps.specs.declared.model.Call.{Call}
+use Rattle.law_common.specs.Vocabulary.{Call, SOLO_STEPS}
 use Rattle.call_driver.specs.OnWay.{Stood}
 use Rattle.shared_calls.proofs.pausing.carry_on.Given as goal
 

@@ -1,5 +1,5 @@
 use Rattle.std.proofs.Common.{◌-◌}
-use Rattle.queue_steps.specs.declared.sizes.TheConstants.{SOLO_STEPS}
+use Rattle.law_common.specs.Vocabulary.{SOLO_STEPS}
 use Rattle.call_driver.proofs.Going.{replies, again}
 use Rattle.shared_calls.proofs.Filling.{is_filled, filled_as}
 use Rattle.shared_calls.proofs.pausing.pause.Goals as goal

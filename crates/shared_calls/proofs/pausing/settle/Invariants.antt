@@ -1,5 +1,5 @@
 use Rattle.std.proofs.Common.{◌-◌, ◌<◌, ◌≤◌}
-use Rattle.queue_steps.specs.declared.model.Call.{Call}
+use Rattle.law_common.specs.Vocabulary.{Call}
 use Rattle.shared_calls.specs.Pausing.{IsStood}
 use Rattle.shared_calls.specs.Settling.{next_at, left_at, MayWait}
 use Rattle.shared_calls.proofs.pausing.settle.Given as goal

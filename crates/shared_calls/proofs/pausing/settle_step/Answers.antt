@@ -1,6 +1,5 @@
 use Rattle.std.proofs.Common.{◌≡◌, ◌-◌, ◌∙◌, false, sym, ap, subst, arith}
-use Rattle.queue_steps.specs.declared.sizes.TheConstants.{SOLO_STEPS}
-use Rattle.queue_steps.specs.declared.steps.types.Next.TheVariants as next
+use Rattle.law_common.specs.Vocabulary.{Next, SOLO_STEPS}
 use Rattle.call_driver.proofs.Going.{replies, again, step}
 use Rattle.shared_calls.specs.Early.{is_early}
 use Rattle.shared_calls.specs.Settling.{next_at, left_at, MayWait}
@@ -54,7 +53,7 @@ returns-else-is_early-clause-nearer g c = λ stays.
     (again g.M.Site g.met.M.Site.goes_on g.met.M.Site.more n l.kind l.call c.args.site.now h.1 h.0 l.progress l.carried c.args.seat.now h.2)).1
     c.take_step-answer.result c.take_step-answer.new.seat c.take_step-answer.new.carried c.take_step-answer.ensures in
     let can = (again g.M.Site g.met.M.Site.goes_on g.met.M.Site.more n l.kind l.call c.args.site.now h.1 h.0 (record { local = c.in-Step.local; answer = c.take_step-answer.result }) c.take_step-answer.new.carried c.take_step-answer.new.seat stood).1.0 in
-    let is : next_at l ≡ next.Step c.in-Step.local c.in-Step.touch c.in-Step.op = sym c.next-todo.ensures ∙ c.in-Step.is in
+    let is : next_at l ≡ Next.Step c.in-Step.local c.in-Step.touch c.in-Step.op = sym c.next-todo.ensures ∙ c.in-Step.is in
     let late : is_early c.in-Step.local ≡ false = sym c.is_early.ensures ∙ c.if-is_early.false in
     let near = nearer l.kind c.in-Step.local c.in-Step.touch c.in-Step.op c.take_step-answer.result late can (subst (λ z. ¬ (MayWait l.kind z)) is stays) in
     let more = ap left_at is ∙ left_late c.in-Step.local c.in-Step.touch c.in-Step.op late in

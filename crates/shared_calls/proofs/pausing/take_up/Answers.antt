@@ -1,5 +1,5 @@
 use Rattle.std.proofs.Common.{◌-◌}
-use Rattle.queue_steps.specs.declared.sizes.TheConstants.{SOLO_STEPS}
+use Rattle.law_common.specs.Vocabulary.{SOLO_STEPS}
 use Rattle.call_driver.proofs.Going.{again}
 use Rattle.shared_calls.proofs.pausing.take_up.Goals as goal
 

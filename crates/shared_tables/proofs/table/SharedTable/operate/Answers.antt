@@ -1,5 +1,5 @@
 use Rattle.std.proofs.Common.{◌∙◌, subst, arith}
-use Rattle.queue_steps.specs.declared.steps.types.Op.TheVariants as op
+use Rattle.law_common.specs.Vocabulary.{Op}
 use Rattle.shared_tables.specs.TableRule.{InTable}
 use Rattle.shared_tables.proofs.TableOperations.{may_do, may_take_off, may_store}
 use Rattle.shared_tables.proofs.table.SharedTable.operate.Goals as goal
@@ -9,7 +9,7 @@ load-requires g c =
     let t = c.args.self.now.table.shared.table_id in let sized = c.args.self.now.sized in let m = c.args.seat.now in
     let can = subst (λ o. InTable (g.K.TableKind.layout t.slots) o) c.in-Load.is c.requires.op.1 in
     let may = may_do g.K.TableKind.layout c.args.self.now.table.shared.key t.slots (g.K.Sizes.words t.slots) t.words m.id m.me g.J.Task.call (g.met.K.TableSteps.laws t.slots sized.2 sized.3) sized.1 sized.0 c.requires.ready
-    (op.Load c.in-Load.word) c.place.result (c.requires.op.0 ∙ c.in-Load.is) can (c.place.ensures t.slots) in
+    (Op.Load c.in-Load.word) c.place.result (c.requires.op.0 ∙ c.in-Load.is) can (c.place.ensures t.slots) in
     (c.requires.table, may.0, may.1)
 
 pub fetch_add-requires : goal.fetch_add-requires
@@ -17,7 +17,7 @@ fetch_add-requires g c =
     let t = c.args.self.now.table.shared.table_id in let sized = c.args.self.now.sized in let m = c.args.seat.now in
     let can = subst (λ o. InTable (g.K.TableKind.layout t.slots) o) c.in-Add.is c.requires.op.1 in
     let may = may_do g.K.TableKind.layout c.args.self.now.table.shared.key t.slots (g.K.Sizes.words t.slots) t.words m.id m.me g.J.Task.call (g.met.K.TableSteps.laws t.slots sized.2 sized.3) sized.1 sized.0 c.requires.ready
-    (op.Add c.in-Add.word c.in-Add.by) c.place-in-Add.result (c.requires.op.0 ∙ c.in-Add.is) can (c.place-in-Add.ensures t.slots) in
+    (Op.Add c.in-Add.word c.in-Add.by) c.place-in-Add.result (c.requires.op.0 ∙ c.in-Add.is) can (c.place-in-Add.ensures t.slots) in
     (c.requires.table, may.0, may.1)
 
 pub fetch_or-requires : goal.fetch_or-requires
@@ -25,7 +25,7 @@ fetch_or-requires g c =
     let t = c.args.self.now.table.shared.table_id in let sized = c.args.self.now.sized in let m = c.args.seat.now in
     let can = subst (λ o. InTable (g.K.TableKind.layout t.slots) o) c.in-Or.is c.requires.op.1 in
     let may = may_do g.K.TableKind.layout c.args.self.now.table.shared.key t.slots (g.K.Sizes.words t.slots) t.words m.id m.me g.J.Task.call (g.met.K.TableSteps.laws t.slots sized.2 sized.3) sized.1 sized.0 c.requires.ready
-    (op.Or c.in-Or.word c.in-Or.bits) c.place-in-Or.result (c.requires.op.0 ∙ c.in-Or.is) can (c.place-in-Or.ensures t.slots) in
+    (Op.Or c.in-Or.word c.in-Or.bits) c.place-in-Or.result (c.requires.op.0 ∙ c.in-Or.is) can (c.place-in-Or.ensures t.slots) in
     (c.requires.table, may.0, may.1)
 
 pub fetch_sub-requires : goal.fetch_sub-requires
@@ -41,7 +41,7 @@ compare_exchange-requires g c =
     let t = c.args.self.now.table.shared.table_id in let sized = c.args.self.now.sized in let m = c.args.seat.now in
     let can = subst (λ o. InTable (g.K.TableKind.layout t.slots) o) c.in-Exchange.is c.requires.op.1 in
     let may = may_do g.K.TableKind.layout c.args.self.now.table.shared.key t.slots (g.K.Sizes.words t.slots) t.words m.id m.me g.J.Task.call (g.met.K.TableSteps.laws t.slots sized.2 sized.3) sized.1 sized.0 c.requires.ready
-    (op.Exchange c.in-Exchange.word c.in-Exchange.old c.in-Exchange.new) c.place-in-Exchange.result (c.requires.op.0 ∙ c.in-Exchange.is) can (c.place-in-Exchange.ensures t.slots) in
+    (Op.Exchange c.in-Exchange.word c.in-Exchange.old c.in-Exchange.new) c.place-in-Exchange.result (c.requires.op.0 ∙ c.in-Exchange.is) can (c.place-in-Exchange.ensures t.slots) in
     (c.requires.table, may.0, may.1)
 
 pub store-requires : goal.store-requires
