@@ -5,8 +5,7 @@ use mathlib.Core.Option.{some, some-injective}
 use lib.ListN.{get_elem?}
 use Rattle.queue_steps.specs.State.{State}
 use Rattle.queue_steps.specs.Effect.{made, after_from}
-use Rattle.queue_steps.specs.declared.model.Effect.{Effect}
-use Rattle.queue_steps.specs.declared.model.Effect.TheVariants as effect
+use Rattle.law_common.specs.Vocabulary.{Effect}
 use Rattle.law_moments.specs.Entries.{Entry, chosen}
 use Rattle.law_moments.proofs.Choosing.{bool_or, chosen_yes, chosen_not}
 
@@ -31,36 +30,19 @@ each_append P (x ∷ xs) ys all more = (all.0, each_append P xs ys all.1 more)
 module _ {T : Type 0} where
   -- no effect opens a closed queue
   closed_made : (e : Effect T) (Q : State T) → Q.closed ≡ true → (made e Q).closed ≡ true
-  closed_made (effect.Append v) Q h = h
-  closed_made (effect.Take v) Q h = h
-  closed_made (effect.Replace old v) Q h = h
-  closed_made (effect.Front old v) Q h = h
-  closed_made effect.Arrive Q h = h
-  closed_made effect.Close Q h = refl
-  closed_made effect.SelfClose Q h = refl
+  closed_made Effect.Close Q h = refl
+  closed_made Effect.SelfClose Q h = refl
+  closed_made e Q h = h
 
   closed_on : (Q : State T) (es : List (Effect T)) → Q.closed ≡ true → (after_from Q es).closed ≡ true
   closed_on Q [] h = h
   closed_on Q (e ∷ es) h = closed_on (made e Q) es (closed_made e Q h)
 
-  closes_on : (e : Effect T) (Q : State T) → e ≡ effect.Close → (made e Q).closed ≡ true
+  closes_on : (e : Effect T) (Q : State T) → e ≡ Effect.Close → (made e Q).closed ≡ true
   closes_on e Q is = ap (λ (d : Effect T). (made d Q).closed) is
 
-  cap_made : (e : Effect T) (Q : State T) → (made e Q).cap ≡ Q.cap
-  cap_made (effect.Append v) Q = refl
-  cap_made (effect.Take v) Q = refl
-  cap_made (effect.Replace old v) Q = refl
-  cap_made (effect.Front old v) Q = refl
-  cap_made effect.Arrive Q = refl
-  cap_made effect.Close Q = refl
-  cap_made effect.SelfClose Q = refl
-
-  pub same_cap : (Q : State T) (es : List (Effect T)) → (after_from Q es).cap ≡ Q.cap
-  same_cap Q [] = refl
-  same_cap Q (e ∷ es) = same_cap (made e Q) es ∙ cap_made e Q
-
   -- where a close is chosen, the queue is closed after
-  pub closed_by : (Q : State T) (f : Entry T → Bool) (H : List (Entry T)) (x : Entry T) → In x H → f x ≡ true → x.effect ≡ effect.Close → (after_from Q (chosen f H)).closed ≡ true
+  pub closed_by : (Q : State T) (f : Entry T → Bool) (H : List (Entry T)) (x : Entry T) → In x H → f x ≡ true → x.effect ≡ Effect.Close → (after_from Q (chosen f H)).closed ≡ true
   closed_by Q f [] x has pass is = absurd has
   closed_by Q f (y ∷ H) x (inl same) pass is =
       let here : f y ≡ true = ap f same ∙ pass in
@@ -73,7 +55,7 @@ module _ {T : Type 0} where
       ]
 
   -- where a close stands within the beginning of a history, the queue is closed after that
-  pub closed_within : (Q : State T) (s d : List (Effect T)) (k : ℕ) → get_elem? (s ++ d) k ≡ some effect.Close → k < length s → (after_from Q s).closed ≡ true
+  pub closed_within : (Q : State T) (s d : List (Effect T)) (k : ℕ) → get_elem? (s ++ d) k ≡ some Effect.Close → k < length s → (after_from Q s).closed ≡ true
   closed_within Q [] d k is lt = absurd (omega arith)
-  closed_within Q (e ∷ s) d zero is lt = closed_on (made e Q) s (closes_on e Q (some-injective e effect.Close is))
+  closed_within Q (e ∷ s) d zero is lt = closed_on (made e Q) s (closes_on e Q (some-injective e Effect.Close is))
   closed_within Q (e ∷ s) d (suc k) is lt = closed_within (made e Q) s d k is (omega arith)

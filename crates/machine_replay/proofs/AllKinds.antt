@@ -1,20 +1,12 @@
 -- Every kind of queue that the machine has keeps the laws, and so every run of it conforms.
 use Rattle.std.proofs.Common.{ℕ, ◌+◌, ◌≤◌, ◌≡◌, Bool, nat_lt, false, is_none, if◌then◌else◌, List, [], ◌∷◌, ◌++◌, length, refl, arith, ◌∙◌, ap, sym, subst}
-use Rattle.queue_steps.specs.declared.model.Call.{Call}
-use Rattle.queue_steps.specs.declared.model.Call.TheVariants as call
-use Rattle.queue_steps.specs.declared.steps.types.Kind.{Kind}
-use Rattle.queue_steps.specs.declared.steps.types.Kind.TheVariants as kind
+use Rattle.machine_replay.specs.Vocabulary.{Call, Kind, MAX_CAPACITY, Event, Told, Peak, Begin, Step, Running}
 use Rattle.queue_steps.specs.Words.{IsRing}
-use Rattle.machine_steps.specs.declared.machine.Running.{Running}
-use Rattle.machine_steps.specs.declared.types.Event.{Event}
-use Rattle.machine_steps.specs.declared.types.Event.TheVariants.{Begin, Step}
-use Rattle.machine_steps.specs.declared.types.Told.{Told}
 use Rattle.machine_replay.specs.Book.{opening}
 use Rattle.machine_steps.specs.SharedMemory.{Shared, CanStart}
 use Rattle.machine_replay.specs.Conforms.{capacity_of}
 use Rattle.machine_steps.specs.Left.{left_of, opening_world, HasSlot}
 use Rattle.machine_replay.specs.Replays.{CanReplay, is_too_large}
-use Rattle.machine_steps.specs.declared.types.Peak.{Peak}
 use Rattle.machine_steps.specs.Machine.{event_of, CanHandle, Handles, Passes, PassesAll}
 use Rattle.machine_replay.specs.Peaks.{opening_peak, peaked}
 use Rattle.machine_steps.specs.World.{World, call_at}
@@ -22,7 +14,6 @@ use Rattle.machine_replay.proofs.KindLaws.{KindLaws}
 use Rattle.machine_replay.proofs.SingleLeft.{single_laws}
 use Rattle.machine_replay.proofs.RingKind.{ring_laws}
 use Rattle.machine_replay.proofs.ChainKind.{chain_laws}
-use Rattle.queue_steps.specs.declared.sizes.TheConstants.{MAX_CAPACITY}
 use Rattle.std.proofs.lemmas.Bool.{ltb-false}
 use Rattle.machine_replay.proofs.Peaking.{Run-length, peaked-if}
 use Rattle.machine_steps.proofs.Presence.{Sparing, event-sparing}
@@ -30,44 +21,22 @@ use Rattle.machine_replay.proofs.SoFar.{SoFar, so_far-first, so_far-more, so_far
 
 -- the machine has queues of this kind
 abbrev pub HasMachine : Kind → Type 0
-HasMachine kind.Single = Unit {0}
-HasMachine (kind.Bounded n) = IsRing n
-HasMachine kind.Unbounded = Unit {0}
+HasMachine (Kind.Bounded n) = IsRing n
+HasMachine x = Unit {0}
 
 pub laws_of : (T : Type 0) (k : Kind) → HasMachine k → KindLaws T k
-laws_of T kind.Single has = single_laws T
-laws_of T (kind.Bounded n) has = ring_laws T n has
-laws_of T kind.Unbounded has = chain_laws T
+laws_of T Kind.Single has = single_laws T
+laws_of T (Kind.Bounded n) has = ring_laws T n has
+laws_of T Kind.Unbounded has = chain_laws T
 
 -- every call can begin
 can_start : {T : Type 0} (k : Kind) → HasMachine k → (c : Call T) → CanStart k c
-can_start kind.Single has (call.Push v) = record { goes_on = tt; replies = tt }
-can_start kind.Single has (call.ForcePush v) = record { goes_on = tt; replies = tt }
-can_start kind.Single has call.Pop = record { goes_on = tt; replies = tt }
-can_start kind.Single has call.Close = record { goes_on = tt; replies = tt }
-can_start kind.Single has call.IsClosed = record { goes_on = tt; replies = tt }
-can_start kind.Single has call.IsEmpty = record { goes_on = tt; replies = tt }
-can_start kind.Single has call.IsFull = record { goes_on = tt; replies = tt }
-can_start kind.Single has call.Len = record { goes_on = tt; replies = tt }
-can_start kind.Single has call.Capacity = record { goes_on = tt; replies = refl }
-can_start (kind.Bounded n) has (call.Push v) = record { goes_on = has; replies = tt }
-can_start (kind.Bounded n) has (call.ForcePush v) = record { goes_on = has; replies = tt }
-can_start (kind.Bounded n) has call.Pop = record { goes_on = has; replies = tt }
-can_start (kind.Bounded n) has call.Close = record { goes_on = has; replies = tt }
-can_start (kind.Bounded n) has call.IsClosed = record { goes_on = has; replies = tt }
-can_start (kind.Bounded n) has call.IsEmpty = record { goes_on = has; replies = tt }
-can_start (kind.Bounded n) has call.IsFull = record { goes_on = has; replies = tt }
-can_start (kind.Bounded n) has call.Len = record { goes_on = has; replies = tt }
-can_start (kind.Bounded n) has call.Capacity = record { goes_on = has; replies = refl }
-can_start kind.Unbounded has (call.Push v) = record { goes_on = tt; replies = tt }
-can_start kind.Unbounded has (call.ForcePush v) = record { goes_on = tt; replies = tt }
-can_start kind.Unbounded has call.Pop = record { goes_on = tt; replies = tt }
-can_start kind.Unbounded has call.Close = record { goes_on = tt; replies = tt }
-can_start kind.Unbounded has call.IsClosed = record { goes_on = tt; replies = tt }
-can_start kind.Unbounded has call.IsEmpty = record { goes_on = tt; replies = tt }
-can_start kind.Unbounded has call.IsFull = record { goes_on = tt; replies = refl }
-can_start kind.Unbounded has call.Len = record { goes_on = tt; replies = tt }
-can_start kind.Unbounded has call.Capacity = record { goes_on = tt; replies = refl }
+can_start Kind.Single has Call.Capacity = record { goes_on = tt; replies = refl }
+can_start (Kind.Bounded n) has Call.Capacity = record { goes_on = has; replies = refl }
+can_start Kind.Unbounded has Call.IsFull = record { goes_on = tt; replies = refl }
+can_start Kind.Unbounded has Call.Capacity = record { goes_on = tt; replies = refl }
+can_start (Kind.Bounded n) has c = record { goes_on = has; replies = tt }
+can_start k has c = record { goes_on = tt; replies = tt }
 
 -- what is known after these events, of a queue of any kind
 pub record Known {T : Type 0} (k : Kind) (parties : ℕ) (past : List (Event T)) (told : List (Told T)) (w : World (Shared T) (Running T)) (peak : Peak) : Type 0 where
@@ -113,14 +82,12 @@ known-length k parties past told w peak known = Run-length (capacity_of k) parti
 
 -- the machine has the queue that `replay` is asked for
 pub has_machine : (k : Kind) → CanReplay k → is_too_large k ≡ false → HasMachine k
-has_machine kind.Single can small = tt
-has_machine (kind.Bounded n) can small = (can, ltb-false MAX_CAPACITY n small)
-has_machine kind.Unbounded can small = tt
+has_machine (Kind.Bounded n) can small = (can, ltb-false MAX_CAPACITY n small)
+has_machine k can small = tt
 
 pub has_slot : (k : Kind) → HasMachine k → HasSlot k
-has_slot kind.Single has = tt
-has_slot (kind.Bounded n) has = let many = has.0 in omega arith
-has_slot kind.Unbounded has = tt
+has_slot (Kind.Bounded n) has = let many = has.0 in omega arith
+has_slot k has = tt
 
 -- the machine comes from its opening by these events, and all is known of it, whatever was told
 pub record InOrder {T : Type 0} (k : Kind) (parties : ℕ) (past : List (Event T)) (w : World (Shared T) (Running T)) : Type 0 where

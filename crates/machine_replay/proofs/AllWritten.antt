@@ -2,17 +2,15 @@
 use Rattle.std.proofs.Common.{◌≡◌, ◌≢◌, ◌∙◌, ℕ, zero, suc, ◌+◌, ◌<◌, ◌≤◌, ◌==◌, Bool, true, false, Option, Some, None, List, [], ◌∷◌, length, get_or, set, get_or-set_same, get_or-set_other, refl, sym, ap, arith, inl, inr}
 use Rattle.std.proofs.lemmas.List.{length-set}
 use Rattle.std.proofs.lemmas.Bool.Decides.{eqb_tells}
-use Rattle.queue_steps.specs.declared.steps.types.Touch.{Touch}
-use Rattle.queue_steps.specs.declared.steps.types.Touch.TheVariants as touch
+use Rattle.machine_replay.specs.Vocabulary.{Touch, Running}
 use Rattle.queue_steps.specs.Words.{slot_at}
 use Rattle.law_ring.proofs.RingCells.{slots-apart}
-use Rattle.machine_steps.specs.declared.machine.Running.{Running}
 use Rattle.machine_steps.specs.Left.{written, written_by, all_written, gathered}
 
 -- whether a touch writes slot i
 abbrev pub writes_slot : Touch → ℕ → Bool
-writes_slot (touch.Put j) i = j == i
-writes_slot (touch.Swap j) i = j == i
+writes_slot (Touch.Put j) i = j == i
+writes_slot (Touch.Swap j) i = j == i
 writes_slot _ i = false
 
 -- whether a call is about to write slot i
@@ -22,29 +20,28 @@ writes (Some r) i = writes_slot r.touch i
 
 -- a write to another slot, or to none
 written-other : {T : Type 0} (t : Touch) (v : Option T) (slots : List (Option T)) (i : ℕ) → writes_slot t i ≡ false → get_or (written t v slots) i None ≡ get_or slots i None
-written-other touch.Nothing v slots i e = refl
-written-other (touch.Take j) v slots i e = refl
-written-other (touch.Put j) v slots i e = get_or-set_other slots j i v None (apart_from j i e)
+written-other Touch.Nothing v slots i e = refl
+written-other (Touch.Take j) v slots i e = refl
+written-other (Touch.Put j) v slots i e = get_or-set_other slots j i v None (apart_from j i e)
   where
     apart_from : (j i : ℕ) → (j == i) ≡ false → i ≢ j
     apart_from j i e = elim (eqb_tells j i) [ inl t ↦ λ _. cc | inr f ↦ λ s. f.1 (sym s) ]
-written-other (touch.Swap j) v slots i e = get_or-set_other slots j i v None (apart_from j i e)
+written-other (Touch.Swap j) v slots i e = get_or-set_other slots j i v None (apart_from j i e)
   where
     apart_from : (j i : ℕ) → (j == i) ≡ false → i ≢ j
     apart_from j i e = elim (eqb_tells j i) [ inl t ↦ λ _. cc | inr f ↦ λ s. f.1 (sym s) ]
 
 -- a write to this slot
 written-same : {T : Type 0} (t : Touch) (v : Option T) (slots : List (Option T)) (i : ℕ) → i < length slots → writes_slot t i ≡ true → get_or (written t v slots) i None ≡ v
-written-same touch.Nothing v slots i lt e = cc
-written-same (touch.Take j) v slots i lt e = cc
-written-same {T} (touch.Put j) v slots i lt e = elim (eqb_tells j i) as (λ _. get_or (set slots j v) i None ≡ v) [ inl t ↦ rw t.1 (get_or-set_same slots i v None lt) | inr f ↦ let no = f.0 in cc ]
-written-same {T} (touch.Swap j) v slots i lt e = elim (eqb_tells j i) as (λ _. get_or (set slots j v) i None ≡ v) [ inl t ↦ rw t.1 (get_or-set_same slots i v None lt) | inr f ↦ let no = f.0 in cc ]
+written-same Touch.Nothing v slots i lt e = cc
+written-same (Touch.Take j) v slots i lt e = cc
+written-same {T} (Touch.Put j) v slots i lt e = elim (eqb_tells j i) as (λ _. get_or (set slots j v) i None ≡ v) [ inl t ↦ rw t.1 (get_or-set_same slots i v None lt) | inr f ↦ let no = f.0 in cc ]
+written-same {T} (Touch.Swap j) v slots i lt e = elim (eqb_tells j i) as (λ _. get_or (set slots j v) i None ≡ v) [ inl t ↦ rw t.1 (get_or-set_same slots i v None lt) | inr f ↦ let no = f.0 in cc ]
 
 length-written : {T : Type 0} (t : Touch) (v : Option T) (slots : List (Option T)) → length (written t v slots) ≡ length slots
-length-written touch.Nothing v slots = refl
-length-written (touch.Take j) v slots = refl
-length-written (touch.Put j) v slots = length-set slots j v
-length-written (touch.Swap j) v slots = length-set slots j v
+length-written (Touch.Put j) v slots = length-set slots j v
+length-written (Touch.Swap j) v slots = length-set slots j v
+length-written t v slots = refl
 
 written_by-other : {T : Type 0} (x : Option (Running T)) (slots : List (Option T)) (i : ℕ) → writes x i ≡ false → get_or (written_by x slots) i None ≡ get_or slots i None
 written_by-other None slots i e = refl

@@ -1,15 +1,7 @@
 -- A call that has appended replies soon, whatever the other parties do. Nothing here knows a kind of queue.
 use Rattle.std.proofs.Common.{◌≡◌, ℕ, ◌<◌, ◌≤◌, Bool, true, false, Some, None, List, [], ◌∷◌, count_by, refl, arith}
 use Rattle.queue_steps.specs.State.{State}
-use Rattle.queue_steps.specs.declared.model.Effect.{Effect}
-use Rattle.queue_steps.specs.declared.steps.types.Kind.{Kind}
-use Rattle.queue_steps.specs.declared.steps.types.Local.{Local}
-use Rattle.machine_steps.specs.declared.machine.Running.{Running}
-use Rattle.machine_steps.specs.declared.types.EffectKind.{EffectKind}
-use Rattle.machine_steps.specs.declared.types.EffectKind.TheVariants as kind
-use Rattle.machine_steps.specs.declared.types.Event.{Event}
-use Rattle.machine_steps.specs.declared.types.Event.TheVariants.{Step}
-use Rattle.machine_steps.specs.declared.types.Told.TheVariants.{Ran}
+use Rattle.machine_replay.specs.Vocabulary.{Effect, Kind, Local, Event, EffectKind, Step, Ran, Running}
 use Rattle.machine_replay.specs.Book.{Open}
 use Rattle.machine_replay.specs.Conforms.{capacity_of}
 use Rattle.machine_steps.specs.Left.{opening_world}
@@ -23,7 +15,7 @@ use Rattle.machine_replay.proofs.Had.{Had, In, in-next, in-here, nearer}
 use Rattle.machine_replay.proofs.Stretch.{Rules, Here, next, reach, first, call-there, fits-at, count-cons}
 
 abbrev pub is_append : EffectKind → Bool
-is_append kind.Append = true
+is_append EffectKind.Append = true
 is_append _ = false
 
 -- an item was appended
@@ -58,8 +50,8 @@ appends_reply T k laws closes parties p past stretch granted appends open_ =
     let e : Event T = Step p granted in
     let n = next T k laws parties w st e h in
     let t = (event_of k true w e).1 in
-    let told : t ≡ Ran (Some kind.Append) None = cc in
-    let a = in-here is_append (capacity_of k) parties h.b n.here.b p granted kind.Append refl t told n.happens in
+    let told : t ≡ Ran (Some EffectKind.Append) None = cc in
+    let a = in-here is_append (capacity_of k) parties h.b n.here.b p granted EffectKind.Append refl t told n.happens in
     let f = call-there T k laws parties n.here.b.busy (event_of k true w e).0.shared n.here.b.queue n.here.sim.g p (call_at (event_of k true w e).0 p) (n.here.b.open_call p) a.0 (n.here.sim.each p) a.1 in
     let few = takes-few T k laws parties closes (event_of k true w e).0 (λ q. stands_then q (st q) e t) n.here p f.0 f.1 a stretch open_.1 in
     let low = closes.within n.here.b.busy (event_of k true w e).0.shared n.here.b.queue n.here.sim.g p f.0 a.0 f.2 a.2 in

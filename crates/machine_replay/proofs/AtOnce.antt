@@ -6,23 +6,18 @@ use Rattle.std.proofs.lemmas.Option.{slice_get_within}
 use Rattle.queue_steps.specs.State.{State, start}
 use Rattle.queue_steps.specs.Effect.{IsHistory}
 use Rattle.queue_steps.specs.Replies.{IsRightAt, Allows, Tells}
-use Rattle.queue_steps.specs.declared.model.Call.{Call}
-use Rattle.queue_steps.specs.declared.model.Call.TheVariants as call
-use Rattle.queue_steps.specs.declared.model.Effect.{Effect}
-use Rattle.queue_steps.specs.declared.model.Effect.TheVariants as effect
-use Rattle.queue_steps.specs.declared.model.Reply.{Reply}
+use Rattle.machine_replay.specs.Vocabulary.{Call, Reply, Effect, Event, Begin, Step}
+use Rattle.law_common.proofs.Runs.{cap_after}
 use Rattle.law_moments.specs.Moments.{IsGlance}
 use Rattle.law_moments.specs.Entries.{Entry, effects_in, state_before, front_first, fronts_at, other_first, other_entries, settle_first, settle, SeesNoMove, KeepsFronts, own_of, SettlesInto}
 use Rattle.law_moments.proofs.Naming.{Rising}
 use Rattle.law_moments.proofs.Choosing.{before, both_parts}
 use Rattle.law_moments.proofs.Glances.{cases_before, middle_or}
-use Rattle.law_moments.proofs.Shut.{In, each_with, each_in, each_append, same_cap, closed_by}
+use Rattle.law_moments.proofs.Shut.{In, each_with, each_in, each_append, closed_by}
 use Rattle.law_moments.proofs.Settling.{sound_start, sound_after}
 use Rattle.law_moments.proofs.Histories.{rising, histories_settle}
 use Rattle.law_moments.proofs.Owning.{is_few}
 use Rattle.law_moments.proofs.Together.{settle_paired, stands_together}
-use Rattle.machine_steps.specs.declared.types.Event.{Event}
-use Rattle.machine_steps.specs.declared.types.Event.TheVariants.{Begin, Step}
 use Rattle.machine_replay.specs.Book.{IsBegun, has_steps}
 use Rattle.machine_replay.specs.InCall.{IsStepOf, IsUnanswered, IsInCall}
 use Rattle.machine_replay.specs.Meaning.{state_after, own_effects, SawOpen, IsOwn, EndsCall, RepliesAtOnce, IsAnswer}
@@ -66,7 +61,7 @@ module _ (T : Type 0) (cap : Option ℕ) (parties : ℕ) (events : List (Event T
       ]
 
   -- a call that takes a front after a close had seen the queue open before that
-  saw_before : (x y : Entry T) → In x H → x.effect ≡ effect.Close → (p first end : ℕ) (s : SawOpen cap events skipped H p first end) → s.step < x.event
+  saw_before : (x y : Entry T) → In x H → x.effect ≡ Effect.Close → (p first end : ℕ) (s : SawOpen cap events skipped H p first end) → s.step < x.event
   saw_before x y has is p first end s =
       elim (cases_before s.step x.event) [
         | inl lt ↦ lt
@@ -82,8 +77,8 @@ module _ (T : Type 0) (cap : Option ℕ) (parties : ℕ) (events : List (Event T
   abbrev mine : ℕ → ℕ → ℕ → ℕ → ℕ → Bool
   mine p first last q n = (q == p) && (nat_lt first n && nat_lt n (last + 1))
 
-  sees_none : Exact → (p last : ℕ) (c : Calls p last) → Ended p last → (x : Entry T) → In x H → x.effect ≡ effect.Close → (y : Entry T) → x.event < y.event → Own y
-      → (old v : T) → y.effect ≡ effect.Front old v → mine p c.first last y.party x.event ≡ mine p c.first last y.party y.event
+  sees_none : Exact → (p last : ℕ) (c : Calls p last) → Ended p last → (x : Entry T) → In x H → x.effect ≡ Effect.Close → (y : Entry T) → x.event < y.event → Own y
+      → (old v : T) → y.effect ≡ Effect.Front old v → mine p c.first last y.party x.event ≡ mine p c.first last y.party y.event
   sees_none exact p last c ended x has is y lt own old v front =
       let saw = own.saw_open old v front in
       let open_before = saw_before x y has is y.party own.in_call.first y.event saw in
@@ -98,7 +93,7 @@ module _ (T : Type 0) (cap : Option ℕ) (parties : ℕ) (events : List (Event T
         | inr e ↦ (λ i. e.0 i && (nat_lt c.first x.event && nat_lt x.event (last + 1))) ∙ sym (λ i. e.0 i && (nat_lt c.first y.event && nat_lt y.event (last + 1)))
       ]
 
-  fronts_alike : Exact → (p last : ℕ) (c : Calls p last) → Ended p last → (x : Entry T) → In x H → x.effect ≡ effect.Close → (m : ℕ) (xs : List (Entry T)) → x.event < m → Rising m xs → AllByRecursion Own xs
+  fronts_alike : Exact → (p last : ℕ) (c : Calls p last) → Ended p last → (x : Entry T) → In x H → x.effect ≡ Effect.Close → (m : ℕ) (xs : List (Entry T)) → x.event < m → Rising m xs → AllByRecursion Own xs
       → SeesNoMove (mine p c.first last) x.event xs
   fronts_alike exact p last c ended x has is m [] lt up all = tt
   fronts_alike exact p last c ended x has is m (y ∷ xs) lt up all =
@@ -118,51 +113,39 @@ module _ (T : Type 0) (cap : Option ℕ) (parties : ℕ) (events : List (Event T
   within_own x own =
       record { from = x.event; upto = x.event; starts = own.step; ends = own.step; in_call = own.in_call; later = own.in_call.before; before = omega arith; until = omega arith }
 
-  within_moved : (x y : Entry T) → In x H → x.effect ≡ effect.Close → x.event < y.event → Own y → (old v : T) → y.effect ≡ effect.Front old v → (e : Effect T) → Within (record y { event = x.event; effect = e })
+  within_moved : (x y : Entry T) → In x H → x.effect ≡ Effect.Close → x.event < y.event → Own y → (old v : T) → y.effect ≡ Effect.Front old v → (e : Effect T) → Within (record y { event = x.event; effect = e })
   within_moved x y has is lt own old v front e =
       let saw = own.saw_open old v front in
       let open_before = saw_before x y has is y.party own.in_call.first y.event saw in
       record { from = saw.step; upto = y.event; starts = saw.own; ends = own.step; in_call = own.in_call; later = saw.later; before = omega (arith, open_before); until = omega (arith, lt) }
 
-  fronts_in : (x y : Entry T) → In x H → x.effect ≡ effect.Close → x.event < y.event → Own y → (e : Effect T) → y.effect ≡ e → (zs : List (Entry T)) → AllByRecursion Within zs → AllByRecursion Within (front_first x.event y e zs)
-  fronts_in x y has is lt own (effect.Append v) here zs all = all
-  fronts_in x y has is lt own (effect.Take v) here zs all = all
-  fronts_in x y has is lt own (effect.Replace old v) here zs all = all
-  fronts_in x y has is lt own (effect.Front old v) here zs all = (within_moved x y has is lt own old v here y.effect, (within_moved x y has is lt own old v here effect.Arrive, all))
-  fronts_in x y has is lt own effect.Arrive here zs all = all
-  fronts_in x y has is lt own effect.Close here zs all = all
-  fronts_in x y has is lt own effect.SelfClose here zs all = all
+  fronts_in : (x y : Entry T) → In x H → x.effect ≡ Effect.Close → x.event < y.event → Own y → (e : Effect T) → y.effect ≡ e → (zs : List (Entry T)) → AllByRecursion Within zs → AllByRecursion Within (front_first x.event y e zs)
+  fronts_in x y has is lt own (Effect.Front old v) here zs all = (within_moved x y has is lt own old v here y.effect, (within_moved x y has is lt own old v here Effect.Arrive, all))
+  fronts_in x y has is lt own e here zs all = all
 
-  fronts_within : (x : Entry T) → In x H → x.effect ≡ effect.Close → (m : ℕ) (xs : List (Entry T)) → x.event < m → Rising m xs → AllByRecursion Own xs → AllByRecursion Within (fronts_at x.event xs)
+  fronts_within : (x : Entry T) → In x H → x.effect ≡ Effect.Close → (m : ℕ) (xs : List (Entry T)) → x.event < m → Rising m xs → AllByRecursion Own xs → AllByRecursion Within (fronts_at x.event xs)
   fronts_within x has is m [] lt up all = tt
   fronts_within x has is m (y ∷ xs) lt up all =
       fronts_in x y has is (omega (arith, lt, up.0)) all.0 y.effect refl (fronts_at x.event xs) (fronts_within x has is (y.event + 1) xs (omega (arith, lt, up.0)) up.1 all.1)
 
   others_in : (y : Entry T) (e : Effect T) (zs : List (Entry T)) → Own y → AllByRecursion Within zs → AllByRecursion Within (other_first y e zs)
-  others_in y (effect.Append v) zs own all = (within_own y own, all)
-  others_in y (effect.Take v) zs own all = (within_own y own, all)
-  others_in y (effect.Replace old v) zs own all = (within_own y own, all)
-  others_in y (effect.Front old v) zs own all = all
-  others_in y effect.Arrive zs own all = all
-  others_in y effect.Close zs own all = (within_own y own, all)
-  others_in y effect.SelfClose zs own all = (within_own y own, all)
+  others_in y (Effect.Front old v) zs own all = all
+  others_in y Effect.Arrive zs own all = all
+  others_in y e zs own all = (within_own y own, all)
 
   others_within : (xs : List (Entry T)) → AllByRecursion Own xs → AllByRecursion Within (other_entries xs)
   others_within [] all = tt
   others_within (y ∷ xs) all = others_in y y.effect (other_entries xs) all.0 (others_within xs all.1)
 
-  arrives_in : (x : Entry T) → Own x → Within (record x { effect = effect.Arrive })
+  arrives_in : (x : Entry T) → Own x → Within (record x { effect = Effect.Arrive })
   arrives_in x own = record { from = x.event; upto = x.event; starts = own.step; ends = own.step; in_call = own.in_call; later = own.in_call.before; before = omega arith; until = omega arith }
 
   settle_in : (x : Entry T) → In x H → (e : Effect T) → x.effect ≡ e → (xs : List (Entry T)) → Rising (x.event + 1) xs → Own x → AllByRecursion Own xs → AllByRecursion Within (settle xs) → AllByRecursion Within (settle_first x e xs (settle xs))
-  settle_in x has (effect.Append v) is xs up own more all = (within_own x own, all)
-  settle_in x has (effect.Take v) is xs up own more all = (within_own x own, all)
-  settle_in x has (effect.Replace old v) is xs up own more all = (within_own x own, all)
-  settle_in x has (effect.Front old v) is xs up own more all = (within_own x own, (arrives_in x own, all))
-  settle_in x has effect.Arrive is xs up own more all = all
-  settle_in x has effect.Close is xs up own more all =
+  settle_in x has (Effect.Front old v) is xs up own more all = (within_own x own, (arrives_in x own, all))
+  settle_in x has Effect.Arrive is xs up own more all = all
+  settle_in x has Effect.Close is xs up own more all =
       each_append Within (fronts_at x.event xs) (x ∷ other_entries xs) (fronts_within x has is (x.event + 1) xs (omega arith) up more) (within_own x own, others_within xs more)
-  settle_in x has effect.SelfClose is xs up own more all = (within_own x own, all)
+  settle_in x has e is xs up own more all = (within_own x own, all)
 
   settle_within : (m : ℕ) (xs : List (Entry T)) → ((x : Entry T) → In x xs → In x H) → Rising m xs → AllByRecursion Own xs → AllByRecursion Within (settle xs)
   settle_within m [] sub up all = tt
@@ -230,37 +213,26 @@ module _ (T : Type 0) (cap : Option ℕ) (parties : ℕ) (events : List (Event T
   none_uncapped legal up n is =
       let l : List (Effect T) = before n H in let whole = both_parts n 0 H up in
       let runs = subst (IsHistory cap) (sym whole) legal in
-      let s = sound_after (start cap 0) l _ runs (sound_start cap) in s.uncapped (same_cap (start cap 0) l ∙ is)
+      let s = sound_after (start cap 0) l _ runs (sound_start cap) in s.uncapped (cap_after cap l ∙ is)
 
   -- a call without steps is answered alike
   no_steps_calm : IsHistory cap (effects_in H) → Rising 0 H → (n : ℕ) (c : Call T) → (limit : Option ℕ) → cap ≡ limit → has_steps limit c ≡ false → IsGlance c → (state_before cap H n).coming ≡ None
-  no_steps_calm legal up n call.IsFull None same none glance = none_uncapped legal up n same
-  no_steps_calm legal up n call.IsFull (Some k) same none glance = cc
-  no_steps_calm legal up n call.IsEmpty None same none glance = cc
-  no_steps_calm legal up n call.IsEmpty (Some k) same none glance = cc
-  no_steps_calm legal up n call.Len None same none glance = cc
-  no_steps_calm legal up n call.Len (Some k) same none glance = cc
-  no_steps_calm legal up n (call.Push v) limit same none glance = absurd glance
-  no_steps_calm legal up n (call.ForcePush v) limit same none glance = absurd glance
-  no_steps_calm legal up n call.Pop limit same none glance = absurd glance
-  no_steps_calm legal up n call.Close limit same none glance = absurd glance
-  no_steps_calm legal up n call.IsClosed limit same none glance = absurd glance
-  no_steps_calm legal up n call.Capacity limit same none glance = absurd glance
+  no_steps_calm legal up n Call.IsFull None same none glance = none_uncapped legal up n same
+  no_steps_calm legal up n Call.IsFull (Some k) same none glance = cc
+  no_steps_calm legal up n Call.IsEmpty None same none glance = cc
+  no_steps_calm legal up n Call.IsEmpty (Some k) same none glance = cc
+  no_steps_calm legal up n Call.Len None same none glance = cc
+  no_steps_calm legal up n Call.Len (Some k) same none glance = cc
+  no_steps_calm legal up n c limit same none glance = absurd glance
 
   -- a call without steps asks for no block
   needs_none : (c : Call T) (limit : Option ℕ) (x : Reply T) (Q : State T) → has_steps limit c ≡ false → Allows c x Q → IsRightAt Q c x
   needs_none c limit x Q none (inl right) = right
-  needs_none call.Capacity limit x Q none (inr lacks) = absurd lacks
-  needs_none call.IsFull limit x Q none (inr lacks) = absurd lacks
-  needs_none call.IsEmpty limit x Q none (inr lacks) = absurd lacks
-  needs_none call.Len limit x Q none (inr lacks) = absurd lacks
-  needs_none call.IsClosed limit x Q none (inr lacks) = absurd lacks
-  needs_none call.Close limit x Q none (inr lacks) = absurd lacks
-  needs_none call.Pop limit x Q none (inr lacks) = absurd lacks
-  needs_none (call.Push v) None x Q none (inr lacks) = cc
-  needs_none (call.Push v) (Some k) x Q none (inr lacks) = cc
-  needs_none (call.ForcePush v) None x Q none (inr lacks) = cc
-  needs_none (call.ForcePush v) (Some k) x Q none (inr lacks) = cc
+  needs_none (Call.Push v) None x Q none (inr lacks) = cc
+  needs_none (Call.Push v) (Some k) x Q none (inr lacks) = cc
+  needs_none (Call.ForcePush v) None x Q none (inr lacks) = cc
+  needs_none (Call.ForcePush v) (Some k) x Q none (inr lacks) = cc
+  needs_none c limit x Q none (inr lacks) = absurd lacks
 
   at_once_there : SettlesInto cap H S → IsHistory cap (effects_in H) → Rising 0 H → (y : ℕ × ℕ × Reply T) → RepliesAtOnce cap events skipped H y.0 y.1 y.2 → Answers y
   at_once_there settles legal up y once =

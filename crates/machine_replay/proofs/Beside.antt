@@ -1,7 +1,6 @@
 -- A call that another one waits for.
 use Rattle.std.proofs.Common.{ℕ, ◌≡◌, ◌∙◌, Some, sym, ap, subst}
-use Rattle.queue_steps.specs.declared.steps.types.Local.{Local}
-use Rattle.machine_steps.specs.declared.machine.Running.{Running}
+use Rattle.machine_replay.specs.Vocabulary.{Local, Running}
 use Rattle.machine_steps.specs.SharedMemory.{Shared}
 use Rattle.machine_steps.specs.World.{World, call_at}
 use Rattle.machine_replay.specs.Waits.{IsBeside}

@@ -1,10 +1,6 @@
 -- At each point of a run there is a reader's book.
 use Rattle.std.proofs.Common.{ℕ, true, List, [], ◌∷◌, ◌++◌, append_assoc, append-nil}
-use Rattle.queue_steps.specs.declared.steps.types.Kind.{Kind}
-use Rattle.machine_steps.specs.declared.machine.Running.{Running}
-use Rattle.machine_steps.specs.declared.types.Event.{Event}
-use Rattle.machine_steps.specs.declared.types.Peak.{Peak}
-use Rattle.machine_steps.specs.declared.types.Told.{Told}
+use Rattle.machine_replay.specs.Vocabulary.{Kind, Event, Told, Peak, Running}
 use Rattle.machine_steps.specs.Left.{opening_world}
 use Rattle.machine_steps.specs.Machine.{event_of, world_of}
 use Rattle.machine_steps.specs.SharedMemory.{Shared}

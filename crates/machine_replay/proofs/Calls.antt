@@ -1,9 +1,7 @@
 -- What one event more leaves of the calls that parties are in.
 use Rattle.std.proofs.Common.{◌≡◌, ◌≢◌, ◌⊎◌, ℕ, ◌+◌, ◌<◌, ◌≤◌, Option, Some, None, List, [], ◌∷◌, ◌++◌, sym, arith, inl, inr}
 use Rattle.std.specs.List.{AllByRecursion}
-use Rattle.queue_steps.specs.declared.model.Reply.{Reply}
-use Rattle.machine_steps.specs.declared.types.Event.{Event}
-use Rattle.machine_steps.specs.declared.types.Event.TheVariants.{Begin, Step}
+use Rattle.machine_replay.specs.Vocabulary.{Reply, Event, Begin, Step}
 use Rattle.machine_replay.specs.InCall.{HasRun, IsStepOf, IsUnanswered, IsInCall}
 use Rattle.machine_replay.proofs.Entries.{each-more, each-both, each-all, event-more}
 

@@ -10,10 +10,9 @@ use Rattle.machine_replay.proofs.MachineRuns.{machine_run-known}
 use Rattle.machine_replay.proofs.SkipsAll.{run-whole}
 
 none-same : {X Y : Type 0} (o : Option X) (r : Option Y) → is_none o ≡ is_none r → is_some o ≡ is_some r
-none-same None None e = refl
-none-same (Some x) (Some y) e = refl
 none-same None (Some y) e = cc
 none-same (Some x) None e = cc
+none-same o r e = refl
 
 -- what holds where there is a value, and only there, is told by whether there is one
 tells : {X P : Type 0} (o : Option X) → ((x : X) → o ≡ Some x → P) → (o ≡ None → P → ⊥) → IsTrue (is_some o) ↔ P

@@ -3,7 +3,7 @@ use Rattle.std.proofs.Common.{ℕ, ◌≡◌, ◌≢◌, ◌==◌, not, ◌∙�
 use Rattle.std.proofs.lemmas.Nat.{and_or_self, and_or_apart}
 use Rattle.std.proofs.lemmas.Bool.Decides.{eqb_tells}
 use Rattle.std.proofs.lemmas.Bool.{eq-eqb}
-use Rattle.queue_steps.specs.declared.steps.unbounded.TheConstants.{WRITE, READ, DESTROY}
+use Rattle.machine_replay.specs.Vocabulary.{WRITE, READ, DESTROY}
 use Rattle.law_chain.specs.ChainCells.{Wrote, Done, Waits, Chain, item_at}
 use Rattle.law_chain.specs.ChainAnswers.{is_wrote, is_done, waits_at, IsState}
 use Rattle.machine_replay.proofs.ChainCodes.{wrote_in, wrote_alike}

@@ -2,19 +2,13 @@
 use Rattle.std.proofs.Common.{ℕ, ◌≡◌, Bool, Option, List}
 use Rattle.queue_steps.specs.State.{State}
 use Rattle.queue_steps.specs.UnboundedNext.{unbounded_next}
-use Rattle.queue_steps.specs.declared.model.Call.{Call}
-use Rattle.queue_steps.specs.declared.model.Effect.{Effect}
-use Rattle.queue_steps.specs.declared.steps.types.Kind.TheVariants as queue
-use Rattle.queue_steps.specs.declared.steps.types.Local.{Local}
-use Rattle.queue_steps.specs.declared.steps.types.Op.{Op}
-use Rattle.queue_steps.specs.declared.steps.types.Touch.{Touch}
+use Rattle.machine_replay.specs.Vocabulary.{Call, Effect, Kind, Op, Touch, Local, Running}
 use Rattle.law_chain.specs.ChainCells.{Chain, ChainOk}
 use Rattle.law_chain.specs.ChainAt.{At}
 use Rattle.law_chain.specs.ChainAnswers.{Answers}
 use Rattle.law_chain.specs.ChainAfter.{chain_of, carried_of, after_of, left_by}
 use Rattle.law_chain.proofs.ChainRight.{Gives}
 use Rattle.machine_steps.specs.SharedMemory.{Shared, CanTouch, CanOperate, slots_there, block_touched, after_touch, carried_then, answer_to, shared_then}
-use Rattle.machine_steps.specs.declared.machine.Running.{Running}
 use Rattle.machine_replay.proofs.ChainNames.{Codes}
 
 abbrev running : {A : Type 0} → Local ℕ → Touch → Op ℕ → Option A → Running A
@@ -31,4 +25,4 @@ pub record Coded {A : Type 0} (c : Chain A) (who : ℕ) (ms : List (State A)) {l
   pub answers : Answers c o (answer_to granted s (running l t o v))
   pub carried : carried_then s (running l t o v) ≡ carried_of at
   pub codes : ChainOk (after_of at (answer_to granted s (running l t o v))) → Gives (after_of at (answer_to granted s (running l t o v))) who (unbounded_next (chain_of l) (answer_to granted s (running l t o v)))
-      → Stands (shared_then queue.Unbounded granted s (running l t o v)) (left_by (after_of at (answer_to granted s (running l t o v))) (unbounded_next (chain_of l) (answer_to granted s (running l t o v))))
+      → Stands (shared_then Kind.Unbounded granted s (running l t o v)) (left_by (after_of at (answer_to granted s (running l t o v))) (unbounded_next (chain_of l) (answer_to granted s (running l t o v))))

@@ -1,11 +1,7 @@
 -- The shared memory at each step of a call on a chain, wherever the call stands.
 use Rattle.std.proofs.Common.{ℕ, Bool, Option, List}
 use Rattle.queue_steps.specs.State.{State}
-use Rattle.queue_steps.specs.declared.model.Call.{Call}
-use Rattle.queue_steps.specs.declared.model.Effect.{Effect}
-use Rattle.queue_steps.specs.declared.steps.types.Local.{Local}
-use Rattle.queue_steps.specs.declared.steps.types.Op.{Op}
-use Rattle.queue_steps.specs.declared.steps.types.Touch.{Touch}
+use Rattle.machine_replay.specs.Vocabulary.{Call, Effect, Op, Touch, Local}
 use Rattle.law_chain.specs.ChainCells.{Chain, ChainOk}
 use Rattle.law_chain.specs.ChainAt.{At, push_tail, push_block, asking, installing, showing, claiming, laying, opening, chaining, writing, spending, pop_head, pop_block, pop_tail, taking, following, peeking, passing, entering, awaiting, len_tail, len_head, len_again, empty_head, empty_tail, closing, closed_tail, walking, destroying, reading, beginning}
 use Rattle.machine_steps.specs.SharedMemory.{Shared}

@@ -1,29 +1,28 @@
 -- The shared memory at each step of a pop on a chain up to the wait for its item, and at the steps that only look.
 use Rattle.std.proofs.Common.{ℕ, ◌+◌, ◌*◌, ◌/◌, ◌<◌, ◌≤◌, ◌≡◌, ◌≢◌, ◌==◌, ◌∙◌, ◌⊎◌, inl, inr, Bool, true, false, if◌then◌else◌, Option, IsSome, List, refl, sym, ap, subst, arith}
 use Rattle.std.proofs.lemmas.Bool.Decides.{eqb_tells}
-use Rattle.queue_steps.specs.declared.sizes.TheConstants.{BLOCK_SLOTS}
+use Rattle.machine_replay.specs.Vocabulary.{Answer, BLOCK_SLOTS, TAIL_STEP}
 use Rattle.queue_steps.specs.State.{State}
 use Rattle.queue_steps.specs.Words.{IsWord, position_of}
 use Rattle.queue_steps.specs.ChainWords.{offset_of, items_before}
 use Rattle.queue_steps.specs.UnboundedNext.{unbounded_next}
-use Rattle.queue_steps.specs.declared.steps.types.Answer.TheVariants as answer
-use Rattle.queue_steps.specs.declared.steps.bounded.TheConstants.{TAIL_STEP}
 use Rattle.queue_steps.specs.declared.steps.unbounded.UnboundedLocal.TheVariants as chain
 use Rattle.law_common.specs.Moments.{HeadWas, SeenIn}
 use Rattle.law_chain.specs.ChainFacts.{place, head_of, HeadIs, IsNamed, HeadBlockIs, HeadBlockRead, IsMore, Got, SawEmpty}
-use Rattle.law_chain.specs.ChainCells.{Writer, Writing, Wrote, Reader, Reading, Done, Stands as Rested, Passing, Entering, GivenUp, Chain, FrontOk, ChainOk, Read, Head, Holds, Nothing, item_at, Free, Unread, ItemOk}
+use Rattle.law_chain.specs.ChainCells.{Writer, Writing, Wrote, Reader, Reading, Done, Stands as Rested, Passing, Entering, GivenUp, Chain, FrontOk, ChainOk, Read, Head, Holds, Nothing, item_at, Free, ItemOk}
 use Rattle.law_chain.specs.ChainAnswers.{head_word, linked_of}
 use Rattle.machine_steps.specs.Blocks.{block_of, behind, behind_in, state_of}
 use Rattle.machine_steps.specs.SharedMemory.{Shared}
 use Rattle.machine_replay.proofs.ChainNames.{Codes}
 use Rattle.machine_replay.proofs.ChainBlocks.{state_is}
-use Rattle.machine_replay.proofs.ChainGives.{codes_left, block_at, unread_on, has_place, state_answers, one_block}
+use Rattle.machine_replay.proofs.ChainGives.{codes_left, block_at, has_place, state_answers, one_block}
 use Rattle.machine_replay.proofs.ChainCoded.{Stands, Coded}
 use Rattle.law_chain.proofs.ChainReads.{front_is}
 use Rattle.law_chain.specs.ChainTransitions.{taken}
 use Rattle.law_chain.specs.ChainAfter.{taken_if, if_taken}
 use Rattle.law_chain.proofs.ChainAnswers.{same_head, head_offset}
 use Rattle.law_chain.specs.ChainAt.{Only, Either, IsBehind, IsFurther, pop_head, pop_block, pop_tail, taking, following, peeking, passing, entering, awaiting, len_tail, len_head, len_again, empty_head, empty_tail, closing, closed_tail}
+use Rattle.law_chain.proofs.ChainReads.{not_given_up}
 use Rattle.machine_replay.proofs.ChainCodesPush.{codes_marked}
 use Rattle.machine_replay.proofs.ChainCodesPop.{codes_taken, codes_passed, codes_entered}
 
@@ -32,9 +31,9 @@ pub coded_pop_head : {A : Type 0} (c : Chain A) (who : ℕ) (ms : List (State A)
 coded_pop_head c who ms ok s none right codes = record {
   touches = tt;
   operates = tt;
-  answers = ap (λ w. answer.Found w) codes.head_is;
+  answers = ap (λ w. Answer.Found w) codes.head_is;
   carried = refl;
-  codes = λ fine gives. codes_left who (unbounded_next chain.PopHead (answer.Found s.head)) fine gives codes;
+  codes = λ fine gives. codes_left who (unbounded_next chain.PopHead (Answer.Found s.head)) fine gives codes;
 }
 
 -- V2: the poppers' block is read
@@ -43,9 +42,9 @@ pub coded_pop_block : {A : Type 0} (c : Chain A) (who : ℕ) (ms : List (State A
 coded_pop_block c who ms ok s n more none is room right codes = record {
   touches = tt;
   operates = tt;
-  answers = ap (λ w. answer.Linked w) codes.front_is;
+  answers = ap (λ w. Answer.Linked w) codes.front_is;
   carried = refl;
-  codes = λ fine gives. codes_left who (unbounded_next (chain.PopBlock (head_of n more)) (answer.Linked s.head_block)) fine gives codes;
+  codes = λ fine gives. codes_left who (unbounded_next (chain.PopBlock (head_of n more)) (Answer.Linked s.head_block)) fine gives codes;
 }
 
 -- V3: the tail is read after that head
@@ -54,9 +53,9 @@ pub coded_pop_tail : {A : Type 0} (c : Chain A) (who : ℕ) (ms : List (State A)
 coded_pop_tail c who ms ok s n block none is front right codes = record {
   touches = tt;
   operates = tt;
-  answers = ap (λ w. answer.Found w) codes.tail_is;
+  answers = ap (λ w. Answer.Found w) codes.tail_is;
   carried = refl;
-  codes = λ fine gives. codes_left who (unbounded_next (chain.PopTail (head_of n false) block) (answer.Found s.tail)) fine gives codes;
+  codes = λ fine gives. codes_left who (unbounded_next (chain.PopTail (head_of n false) block) (Answer.Found s.tail)) fine gives codes;
 }
 
 -- V4: the head is exchanged, by which the front is taken
@@ -65,9 +64,9 @@ pub coded_taking : {A : Type 0} (c : Chain A) (who : ℕ) (ms : List (State A)) 
 coded_taking {A} c who ms ok s n name after more new none is front lt word_is room right codes = record {
   touches = tt;
   operates = tt;
-  answers = ap (λ w. answer.Found w) codes.head_is;
+  answers = ap (λ w. Answer.Found w) codes.head_is;
   carried = refl;
-  codes = λ fine gives. codes_left who (unbounded_next (chain.Taking (head_of n more) name) (answer.Found s.head)) fine gives
+  codes = λ fine gives. codes_left who (unbounded_next (chain.Taking (head_of n more) name) (Answer.Found s.head)) fine gives
       (subst (λ w. Stands (moved (w == head_of n more)) (if_taken c who n more new)) (sym codes.head_is) (go (eqb_tells (head_word c) (head_of n more))));
 }
   where
@@ -102,24 +101,24 @@ unread_got c n who is e = let z : Reading who ≡ Done = sym is ∙ e in cc
 
 -- what the link of a block answers
 link_answers : {A : Type 0} {c : Chain A} (s : Shared A) (b name : ℕ) → ChainOk c → IsNamed c b name → c.walks b ≢ GivenUp → Stands s c
-    → IsSome (block_of s.blocks name) × ((i : ℕ) → IsNamed c i name → answer.Linked (behind s.blocks name) ≡ answer.Linked (linked_of (c.links i) (c.names (i + 1))))
+    → IsSome (block_of s.blocks name) × ((i : ℕ) → IsNamed c i name → Answer.Linked (behind s.blocks name) ≡ Answer.Linked (linked_of (c.links i) (c.names (i + 1))))
 link_answers {c = c} s b name right named on codes =
     let x = block_at b name right named on codes in (
       subst (λ y. IsSome y) (sym x.1) refl,
-      λ i other. ap (λ y. answer.Linked (behind_in y)) x.1 ∙ ap (λ y. answer.Linked y) (x.2.linked ∙ ap (λ j. linked_of (c.links j) (c.names (j + 1))) (sym (one_block c b i name right named other))),
+      λ i other. ap (λ y. Answer.Linked (behind_in y)) x.1 ∙ ap (λ y. Answer.Linked y) (x.2.linked ∙ ap (λ j. linked_of (c.links j) (c.names (j + 1))) (sym (one_block c b i name right named other))),
     )
 
 -- V5: the link to the next block is read, which may be unset yet
 pub coded_following : {A : Type 0} (c : Chain A) (who : ℕ) (ms : List (State A)) (ok : Bool) (s : Shared A) (x : A) (n name : ℕ) (more : Bool) (holds : Holds c who (Either (Read n) Head)) (got : Got c who n x name) (pass : (c.passer ≡ Passing who) × (c.head ≡ n + 1))
     → ChainOk c → Stands s c → Coded c who ms ok s (following x n name more holds got pass)
 coded_following c who ms ok s x n name more holds got pass right codes =
-    let links = link_answers s (n / BLOCK_SLOTS) name right got.named (unread_on c n right (unread_got c n who got.mine)) codes in
+    let links = link_answers s (n / BLOCK_SLOTS) name right got.named (not_given_up c n right (unread_got c n who got.mine)) codes in
     record {
       touches = tt;
       operates = links.0;
       answers = links.1;
       carried = refl;
-      codes = λ fine gives. codes_left who (unbounded_next (chain.Following (head_of n more) name) (answer.Linked (behind s.blocks name))) fine gives codes;
+      codes = λ fine gives. codes_left who (unbounded_next (chain.Following (head_of n more) name) (Answer.Linked (behind s.blocks name))) fine gives codes;
     }
 
 -- the items behind the head are not read
@@ -127,11 +126,10 @@ unread_ahead : {A : Type 0} (c : Chain A) (n : ℕ) → ChainOk c → c.head ≤
 unread_ahead {A} c n right low = go (c.writers n) (c.readers n) (right.item n)
   where
     go : (w : Writer A) (r : Reader) → ItemOk c.head c.tail c.items n w r → r ≢ Done
-    go w Unread h e = cc
-    go w (Reading p) h e = cc
     go Free Done h e = absurd h
     go (Writing p v) Done h e = absurd h
     go (Wrote v) Done h e = absurd (omega arith)
+    go w r h e = cc
 
 -- V6: the link behind the next block is read
 pub coded_peeking : {A : Type 0} (c : Chain A) (who : ℕ) (ms : List (State A)) (ok : Bool) (s : Shared A) (x : A) (n name after : ℕ) (more : Bool) (holds : Holds c who (Either (Read n) Head)) (got : Got c who n x name) (pass : (c.passer ≡ Passing who) × (c.head ≡ n + 1)) (behind_it : IsBehind c n after)
@@ -140,14 +138,14 @@ coded_peeking c who ms ok s x n name after more holds got pass behind_it right c
     let front : FrontOk c.head c.front (Passing who) = subst (λ p. FrontOk c.head c.front p) pass.0 right.fronted in
     let at_n = pass.1 in
     let next_block : c.head / BLOCK_SLOTS ≡ n / BLOCK_SLOTS + 1 = omega arith in
-    let on = subst (λ b. c.walks b ≢ GivenUp) next_block (unread_on c c.head right (unread_ahead c c.head right (omega arith))) in
+    let on = subst (λ b. c.walks b ≢ GivenUp) next_block (not_given_up c c.head right (unread_ahead c c.head right (omega arith))) in
     let links = link_answers s (n / BLOCK_SLOTS + 1) after right behind_it.1 on codes in
     record {
       touches = tt;
       operates = links.0;
       answers = links.1;
       carried = refl;
-      codes = λ fine gives. codes_left who (unbounded_next (chain.Peeking (head_of n more) name after) (answer.Linked (behind s.blocks after))) fine gives codes;
+      codes = λ fine gives. codes_left who (unbounded_next (chain.Peeking (head_of n more) name after) (Answer.Linked (behind s.blocks after))) fine gives codes;
     }
 
 -- V7: the next block is shown to the poppers
@@ -162,7 +160,7 @@ coded_passing c who ms ok s x n name after more further holds got pass behind_it
       operates = tt;
       answers = refl;
       carried = refl;
-      codes = λ fine gives. codes_left who (unbounded_next (chain.Passing (head_of n more) name further) answer.Done) fine gives (codes_passed who after right pass.0 (subst (λ b. IsNamed c b after) front_is behind_it.1) codes);
+      codes = λ fine gives. codes_left who (unbounded_next (chain.Passing (head_of n more) name further) Answer.Done) fine gives (codes_passed who after right pass.0 (subst (λ b. IsNamed c b after) front_is behind_it.1) codes);
     }
 
 -- V8: the head moves on to the next block
@@ -173,7 +171,7 @@ coded_entering c who ms ok s x n name more further holds got enters room right c
   operates = tt;
   answers = refl;
   carried = refl;
-  codes = λ fine gives. codes_left who (unbounded_next (chain.Entering (head_of n more) name) answer.Done) fine gives (codes_entered who n more further right enters.0 enters.1 codes);
+  codes = λ fine gives. codes_left who (unbounded_next (chain.Entering (head_of n more) name) Answer.Done) fine gives (codes_entered who n more further right enters.0 enters.1 codes);
 }
 
 -- V9: the slot's state is read, until its item is written
@@ -181,7 +179,7 @@ pub coded_awaiting : {A : Type 0} (c : Chain A) (who : ℕ) (ms : List (State A)
     → ChainOk c → Stands s c → Coded c who ms ok s (awaiting x n name more holds got)
 coded_awaiting c who ms ok s x n name more holds got right codes =
     let unread = unread_got c n who got.mine in
-    let block = block_at (n / BLOCK_SLOTS) name right got.named (unread_on c n right unread) codes in
+    let block = block_at (n / BLOCK_SLOTS) name right got.named (not_given_up c n right unread) codes in
     let i = offset_of (head_of n more) in
     let slot = head_offset n more in
     let low : i < BLOCK_SLOTS = omega arith in
@@ -191,7 +189,7 @@ coded_awaiting c who ms ok s x n name more holds got right codes =
       operates = has_place s.blocks (n / BLOCK_SLOTS) name i block.0 block.1 block.2 low;
       answers = state_answers s.blocks (n / BLOCK_SLOTS) name i (state_of s.blocks name i) block.0 right got.named block.2 low (λ last e. unread (ap c.readers (sym at) ∙ e)) (state_is s.blocks name i block.0 block.1);
       carried = refl;
-      codes = λ fine gives. codes_left who (unbounded_next (chain.Awaiting (head_of n more) name) (answer.Found (state_of s.blocks name i))) fine gives codes;
+      codes = λ fine gives. codes_left who (unbounded_next (chain.Awaiting (head_of n more) name) (Answer.Found (state_of s.blocks name i))) fine gives codes;
     }
 
 -- the steps of a length
@@ -199,27 +197,27 @@ pub coded_len_tail : {A : Type 0} (c : Chain A) (who : ℕ) (ms : List (State A)
 coded_len_tail c who ms ok s none right codes = record {
   touches = tt;
   operates = tt;
-  answers = ap (λ w. answer.Found w) codes.tail_is;
+  answers = ap (λ w. Answer.Found w) codes.tail_is;
   carried = refl;
-  codes = λ fine gives. codes_left who (unbounded_next chain.LenTail (answer.Found s.tail)) fine gives codes;
+  codes = λ fine gives. codes_left who (unbounded_next chain.LenTail (Answer.Found s.tail)) fine gives codes;
 }
 
 pub coded_len_head : {A : Type 0} (c : Chain A) (who : ℕ) (ms : List (State A)) (ok : Bool) (s : Shared A) (t : ℕ) (none : Holds c who Nothing) (small : IsWord t) (low : items_before (position_of t) ≤ c.tail) → ChainOk c → Stands s c → Coded c who ms ok s (len_head t none small low)
 coded_len_head c who ms ok s t none small low right codes = record {
   touches = tt;
   operates = tt;
-  answers = ap (λ w. answer.Found w) codes.head_is;
+  answers = ap (λ w. Answer.Found w) codes.head_is;
   carried = refl;
-  codes = λ fine gives. codes_left who (unbounded_next (chain.LenHead t) (answer.Found s.head)) fine gives codes;
+  codes = λ fine gives. codes_left who (unbounded_next (chain.LenHead t) (Answer.Found s.head)) fine gives codes;
 }
 
 pub coded_len_again : {A : Type 0} (c : Chain A) (who : ℕ) (ms : List (State A)) (ok : Bool) (s : Shared A) (t h : ℕ) (none : Holds c who Nothing) (small : IsWord t × IsWord h) (seen : SeenIn ms (HeadWas (items_before (position_of h)) (items_before (position_of t)) c.tail)) → ChainOk c → Stands s c → Coded c who ms ok s (len_again t h none small seen)
 coded_len_again c who ms ok s t h none small seen right codes = record {
   touches = tt;
   operates = tt;
-  answers = ap (λ w. answer.Found w) codes.tail_is;
+  answers = ap (λ w. Answer.Found w) codes.tail_is;
   carried = refl;
-  codes = λ fine gives. codes_left who (unbounded_next (chain.LenAgain t h) (answer.Found s.tail)) fine gives codes;
+  codes = λ fine gives. codes_left who (unbounded_next (chain.LenAgain t h) (Answer.Found s.tail)) fine gives codes;
 }
 
 -- the steps of is_empty, close and is_closed
@@ -227,34 +225,34 @@ pub coded_empty_head : {A : Type 0} (c : Chain A) (who : ℕ) (ms : List (State 
 coded_empty_head c who ms ok s none right codes = record {
   touches = tt;
   operates = tt;
-  answers = ap (λ w. answer.Found w) codes.head_is;
+  answers = ap (λ w. Answer.Found w) codes.head_is;
   carried = refl;
-  codes = λ fine gives. codes_left who (unbounded_next chain.EmptyHead (answer.Found s.head)) fine gives codes;
+  codes = λ fine gives. codes_left who (unbounded_next chain.EmptyHead (Answer.Found s.head)) fine gives codes;
 }
 
 pub coded_empty_tail : {A : Type 0} (c : Chain A) (who : ℕ) (ms : List (State A)) (ok : Bool) (s : Shared A) (h : ℕ) (none : Holds c who Nothing) (small : IsWord h) (saw : SawEmpty (items_before (position_of h)) c ms) → ChainOk c → Stands s c → Coded c who ms ok s (empty_tail h none small saw)
 coded_empty_tail c who ms ok s h none small saw right codes = record {
   touches = tt;
   operates = tt;
-  answers = ap (λ w. answer.Found w) codes.tail_is;
+  answers = ap (λ w. Answer.Found w) codes.tail_is;
   carried = refl;
-  codes = λ fine gives. codes_left who (unbounded_next (chain.EmptyTail h) (answer.Found s.tail)) fine gives codes;
+  codes = λ fine gives. codes_left who (unbounded_next (chain.EmptyTail h) (Answer.Found s.tail)) fine gives codes;
 }
 
 pub coded_closing : {A : Type 0} (c : Chain A) (who : ℕ) (ms : List (State A)) (ok : Bool) (s : Shared A) (none : Holds c who Nothing) → ChainOk c → Stands s c → Coded c who ms ok s (closing none)
 coded_closing c who ms ok s none right codes = record {
   touches = tt;
   operates = tt;
-  answers = ap (λ w. answer.Found w) codes.tail_is;
+  answers = ap (λ w. Answer.Found w) codes.tail_is;
   carried = refl;
-  codes = λ fine gives. codes_left who (unbounded_next chain.Closing (answer.Found s.tail)) fine gives (codes_marked codes);
+  codes = λ fine gives. codes_left who (unbounded_next chain.Closing (Answer.Found s.tail)) fine gives (codes_marked codes);
 }
 
 pub coded_closed_tail : {A : Type 0} (c : Chain A) (who : ℕ) (ms : List (State A)) (ok : Bool) (s : Shared A) (none : Holds c who Nothing) → ChainOk c → Stands s c → Coded c who ms ok s (closed_tail none)
 coded_closed_tail c who ms ok s none right codes = record {
   touches = tt;
   operates = tt;
-  answers = ap (λ w. answer.Found w) codes.tail_is;
+  answers = ap (λ w. Answer.Found w) codes.tail_is;
   carried = refl;
-  codes = λ fine gives. codes_left who (unbounded_next chain.ClosedTail (answer.Found s.tail)) fine gives codes;
+  codes = λ fine gives. codes_left who (unbounded_next chain.ClosedTail (Answer.Found s.tail)) fine gives codes;
 }

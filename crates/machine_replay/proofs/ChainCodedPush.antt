@@ -2,14 +2,10 @@
 use Rattle.std.proofs.Common.{ℕ, ◌+◌, ◌/◌, ◌%◌, ◌<◌, ◌≤◌, ◌≡◌, ◌≢◌, ◌==◌, ◌∙◌, ◌⊎◌, inl, inr, zero, suc, Bool, true, false, if◌then◌else◌, Option, Some, None, IsSome, List, length, refl, sym, ap, subst, arith, get_or, bit_or}
 use Rattle.std.proofs.lemmas.List.{length-set}
 use Rattle.std.proofs.lemmas.Bool.Decides.{eqb_tells}
-use Rattle.queue_steps.specs.declared.sizes.TheConstants.{LIMIT, BLOCK_SLOTS}
+use Rattle.machine_replay.specs.Vocabulary.{Answer, Next, PushKind, LIMIT, BLOCK_SLOTS, TAIL_STEP, WRITE}
 use Rattle.queue_steps.specs.State.{State}
 use Rattle.queue_steps.specs.ChainWords.{offset_of}
 use Rattle.queue_steps.specs.UnboundedNext.{unbounded_next, chain_tail_found}
-use Rattle.queue_steps.specs.declared.steps.types.Answer.TheVariants as answer
-use Rattle.queue_steps.specs.declared.steps.types.Next.{Next}
-use Rattle.queue_steps.specs.declared.steps.bounded.TheConstants.{TAIL_STEP}
-use Rattle.queue_steps.specs.declared.steps.bounded.PushKind.{PushKind}
 use Rattle.queue_steps.specs.declared.steps.unbounded.UnboundedLocal.TheVariants as chain
 use Rattle.law_chain.specs.ChainCells.{Done, Rests, Laying, Opening, Linking, Showing, Spare, Chain, ChainOk, Write, Tail, Next as Behind, First, Holds, Nothing, item_at}
 use Rattle.law_chain.specs.ChainFacts.{open_tail_of, IsNamed, TailBlockIs, HasSpare, SawTail, Claimed}
@@ -17,17 +13,17 @@ use Rattle.law_chain.specs.ChainAnswers.{tail_word, last_of, is_done}
 use Rattle.law_chain.proofs.ChainAnswers.{tail_small, same_tail}
 use Rattle.law_chain.proofs.ChainRight.{Gives}
 use Rattle.law_chain.specs.ChainAfter.{left_by, if_installed, claimed_if, if_claimed}
-use Rattle.queue_steps.specs.declared.steps.unbounded.TheConstants.{WRITE}
 use Rattle.machine_steps.specs.Blocks.{without, blank, places_in, state_of, put_state, put_item}
 use Rattle.machine_steps.specs.SharedMemory.{Shared, installed, spare_in}
 use Rattle.machine_replay.proofs.ChainCodes.{lies}
 use Rattle.machine_replay.proofs.ChainNames.{Codes, Changed}
 use Rattle.machine_replay.proofs.ChainBlocks.{placed, place_in, item_put, next_put, state_left, both_put}
-use Rattle.machine_replay.proofs.ChainGives.{codes_left, block_at, unread_on, has_place, state_answers}
+use Rattle.machine_replay.proofs.ChainGives.{codes_left, block_at, has_place, state_answers}
 use Rattle.machine_replay.proofs.ChainCoded.{Stands, Coded}
-use Rattle.law_chain.specs.ChainTransitions.{appended, displayed, laid_out, opened, chained, written, marked, renamed}
+use Rattle.law_chain.specs.ChainTransitions.{appended}
 use Rattle.law_chain.specs.ChainTransitions as moves
 use Rattle.law_chain.specs.ChainAt.{Only, Either, IsLast, Asks, push_tail, push_block, asking, installing, showing, claiming, laying, opening, chaining, writing, spending}
+use Rattle.law_chain.proofs.ChainReads.{not_given_up}
 use Rattle.machine_replay.proofs.ChainCodesPush.{codes_marked, codes_granted, codes_installed, codes_displayed, codes_appended, codes_laid_out, codes_opened}
 use Rattle.machine_replay.proofs.ChainCodesAt.{unread_item, codes_chained, codes_written}
 
@@ -37,7 +33,7 @@ pub coded_push_tail : {A : Type 0} (c : Chain A) (who : ℕ) (ms : List (State A
 coded_push_tail c who ms ok s d v spare none spare_is right codes = record {
   touches = tt;
   operates = tt;
-  answers = ap (λ w. answer.Found w) codes.tail_is;
+  answers = ap (λ w. Answer.Found w) codes.tail_is;
   carried = refl;
   codes = λ fine gives. codes_left who (chain_tail_found d s.tail spare) fine gives codes;
 }
@@ -48,9 +44,9 @@ pub coded_push_block : {A : Type 0} (c : Chain A) (who : ℕ) (ms : List (State 
 coded_push_block c who ms ok s d v spare q none spare_is saw right codes = record {
   touches = tt;
   operates = tt;
-  answers = ap (λ w. answer.Linked w) codes.last_is;
+  answers = ap (λ w. Answer.Linked w) codes.last_is;
   carried = refl;
-  codes = λ fine gives. codes_left who (unbounded_next (chain.PushBlock d (open_tail_of q) spare) (answer.Linked s.tail_block)) fine gives codes;
+  codes = λ fine gives. codes_left who (unbounded_next (chain.PushBlock d (open_tail_of q) spare) (Answer.Linked s.tail_block)) fine gives codes;
 }
 
 -- U3: a block is asked for
@@ -61,14 +57,14 @@ coded_asking c who ms false s d v q block none saw asked right codes = record {
   operates = tt;
   answers = inl refl;
   carried = refl;
-  codes = λ fine gives. codes_left who (unbounded_next (chain.Asking d (open_tail_of q) block) answer.Refused) fine gives codes;
+  codes = λ fine gives. codes_left who (unbounded_next (chain.Asking d (open_tail_of q) block) Answer.Refused) fine gives codes;
 }
 coded_asking c who ms true s d v q block none saw asked right codes = record {
   touches = tt;
   operates = tt;
   answers = inr (length s.blocks, refl, codes.unused (length s.blocks) (omega arith));
   carried = refl;
-  codes = λ fine gives. codes_left who (unbounded_next (chain.Asking d (open_tail_of q) block) (answer.Granted (length s.blocks))) fine gives (codes_granted who codes);
+  codes = λ fine gives. codes_left who (unbounded_next (chain.Asking d (open_tail_of q) block) (Answer.Granted (length s.blocks))) fine gives (codes_granted who codes);
 }
 
 -- U4: the first block is installed
@@ -77,13 +73,13 @@ pub coded_installing : {A : Type 0} (c : Chain A) (who : ℕ) (ms : List (State 
 coded_installing {A} c who ms ok s d v f none saw fresh right codes = record {
   touches = tt;
   operates = tt;
-  answers = ap (λ w. answer.Linked w) codes.last_is;
+  answers = ap (λ w. Answer.Linked w) codes.last_is;
   carried = refl;
   codes = λ fine gives. go c.blocks refl fine gives;
 }
   where
     n : Next ℕ
-    n = unbounded_next (chain.Installing d (open_tail_of 0) f) (answer.Linked s.tail_block)
+    n = unbounded_next (chain.Installing d (open_tail_of 0) f) (Answer.Linked s.tail_block)
 
     go : (b : ℕ) → c.blocks ≡ b → ChainOk (if_installed c who f b) → Gives (if_installed c who f b) who n → Codes (left_by (if_installed c who f b) n) s.head s.tail s.head_block (installed s.tail_block f) (without (spare_in n) s.blocks)
     go zero e fine gives =
@@ -103,7 +99,7 @@ coded_showing c who ms ok s d v name first saw is named right codes = record {
   operates = tt;
   answers = refl;
   carried = refl;
-  codes = λ fine gives. codes_left who (unbounded_next (chain.Showing d (open_tail_of 0) name) answer.Done) fine gives (codes_displayed who name right is named codes);
+  codes = λ fine gives. codes_left who (unbounded_next (chain.Showing d (open_tail_of 0) name) Answer.Done) fine gives (codes_displayed who name right is named codes);
 }
 
 -- U5: the tail is exchanged, by which an item is appended
@@ -112,9 +108,9 @@ pub coded_claiming : {A : Type 0} (c : Chain A) (who : ℕ) (ms : List (State A)
 coded_claiming {A} c who ms ok s d v q name spare none spare_is saw block enough right codes = record {
   touches = tt;
   operates = tt;
-  answers = ap (λ w. answer.Found w) codes.tail_is;
+  answers = ap (λ w. Answer.Found w) codes.tail_is;
   carried = refl;
-  codes = λ fine gives. codes_left who (unbounded_next (chain.Claiming d (open_tail_of q) name spare) (answer.Found s.tail)) fine gives
+  codes = λ fine gives. codes_left who (unbounded_next (chain.Claiming d (open_tail_of q) name spare) (Answer.Found s.tail)) fine gives
       (subst (λ w. Stands (moved (w == open_tail_of q)) (if_claimed c who q v)) (sym codes.tail_is) (go (eqb_tells (tail_word c) (open_tail_of q))));
 }
   where
@@ -146,7 +142,7 @@ coded_laying c who ms ok s d v n name f holds mine lays fresh right codes = reco
   operates = tt;
   answers = refl;
   carried = refl;
-  codes = λ fine gives. codes_left who (unbounded_next (chain.Laying d (open_tail_of n) name f) answer.Done) fine gives (codes_laid_out who f right lays.0 fresh codes);
+  codes = λ fine gives. codes_left who (unbounded_next (chain.Laying d (open_tail_of n) name f) Answer.Done) fine gives (codes_laid_out who f right lays.0 fresh codes);
 }
 
 -- U7: the tail moves on to the next block
@@ -155,30 +151,30 @@ pub coded_opening : {A : Type 0} (c : Chain A) (who : ℕ) (ms : List (State A))
 coded_opening c who ms ok s d v n name f holds mine opens links named right codes = record {
   touches = tt;
   operates = (tt, (let small = tail_small c right in let is = codes.tail_is in omega arith));
-  answers = ap (λ w. answer.Found w) codes.tail_is;
+  answers = ap (λ w. Answer.Found w) codes.tail_is;
   carried = refl;
-  codes = λ fine gives. codes_left who (unbounded_next (chain.Opening d (open_tail_of n) name f) (answer.Found s.tail)) fine gives (codes_opened who right opens.0 codes);
+  codes = λ fine gives. codes_left who (unbounded_next (chain.Opening d (open_tail_of n) name f) (Answer.Found s.tail)) fine gives (codes_opened who right opens.0 codes);
 }
 
 -- U8: the block is linked to the next one
 pub coded_chaining : {A : Type 0} (c : Chain A) (who : ℕ) (ms : List (State A)) (ok : Bool) (s : Shared A) (d : PushKind) (v : A) (n name f : ℕ) (holds : Holds c who (Either (Write n) (Behind (n / BLOCK_SLOTS)))) (mine : Claimed c who n v name) (links : c.links (n / BLOCK_SLOTS) ≡ Linking who) (named : IsNamed c (n / BLOCK_SLOTS + 1) f)
     → ChainOk c → Stands s c → Coded c who ms ok s (chaining d v n name f holds mine links named)
 coded_chaining c who ms ok s d v n name f holds mine links named right codes =
-    let on = unread_on c n right (unread_item c n who v right mine.mine) in
+    let on = not_given_up c n right (unread_item c n who v right mine.mine) in
     let x = block_at (n / BLOCK_SLOTS) name right mine.named on codes in
     record {
       touches = tt;
       operates = subst (λ y. IsSome y) (sym x.1) refl;
       answers = refl;
       carried = refl;
-      codes = λ fine gives. codes_left who (unbounded_next (chain.Chaining d (open_tail_of n) name f) answer.Done) fine gives (codes_chained (n / BLOCK_SLOTS) name f x.0 right mine.named named on x.2 (next_put s.blocks name (Some f) x.0 x.1) codes);
+      codes = λ fine gives. codes_left who (unbounded_next (chain.Chaining d (open_tail_of n) name f) Answer.Done) fine gives (codes_chained (n / BLOCK_SLOTS) name f x.0 right mine.named named on x.2 (next_put s.blocks name (Some f) x.0 x.1) codes);
     }
 
 -- U9: the item is written into its slot
 pub coded_writing : {A : Type 0} (c : Chain A) (who : ℕ) (ms : List (State A)) (ok : Bool) (s : Shared A) (d : PushKind) (v : A) (n name : ℕ) (spare : Option ℕ) (holds : Holds c who (Only (Write n))) (mine : Claimed c who n v name) (spare_is : HasSpare c who spare)
     → ChainOk c → Stands s c → Coded c who ms ok s (writing d v n name spare holds mine spare_is)
 coded_writing {A} c who ms ok s d v n name spare holds mine spare_is right codes =
-    let on = unread_on c n right unread in
+    let on = not_given_up c n right unread in
     let x = block_at (n / BLOCK_SLOTS) name right mine.named on codes in
     let wide : i < length x.0.places = subst (λ m. i < m) (sym x.2.wide) low in
     let word = state_left s.blocks name i (Some v) x.0 x.1 wide in
@@ -188,7 +184,7 @@ coded_writing {A} c who ms ok s d v n name spare holds mine spare_is right codes
       operates = subst (λ y. i < length (places_in y)) (sym put.here) (subst (λ m. i < m) (sym (length-set x.0.places i (record (place_in x.0 i) { item = Some v }))) wide);
       answers = state_answers s.blocks (n / BLOCK_SLOTS) name i (state_of (put_item s.blocks name i (Some v)) name i) x.0 right mine.named x.2 low (λ last e. unread (ap c.readers (sym at) ∙ e)) word;
       carried = ap (λ y. (get_or (places_in y) i blank).item) x.1 ∙ (x.2.slot i low ∙ empty);
-      codes = λ fine gives. codes_left who (unbounded_next (chain.Writing d spare) (answer.Found (state_of (put_item s.blocks name i (Some v)) name i))) fine gives
+      codes = λ fine gives. codes_left who (unbounded_next (chain.Writing d spare) (Answer.Found (state_of (put_item s.blocks name i (Some v)) name i))) fine gives
           (codes_written who n i name v x.0 right mine.mine low at mine.named on x.2
           (subst (λ m. Changed s.blocks (put_state (put_item s.blocks name i (Some v)) name i (bit_or (state_of (put_item s.blocks name i (Some v)) name i) WRITE)) name (Some (placed x.0 i (record { state = bit_or m WRITE; item = Some v })))) word
           (both_put s.blocks name i (bit_or (state_of (put_item s.blocks name i (Some v)) name i) WRITE) (Some v) x.0 x.1 wide))
@@ -223,7 +219,7 @@ pub coded_spending : {A : Type 0} (c : Chain A) (who : ℕ) (ms : List (State A)
 coded_spending c who ms ok s d v spare none spare_is spent right codes = record {
   touches = tt;
   operates = tt;
-  answers = ap (λ w. answer.Found w) codes.tail_is;
+  answers = ap (λ w. Answer.Found w) codes.tail_is;
   carried = refl;
-  codes = λ fine gives. codes_left who (unbounded_next (chain.ClosingAtLimit d spare) (answer.Found s.tail)) fine gives (codes_marked codes);
+  codes = λ fine gives. codes_left who (unbounded_next (chain.ClosingAtLimit d spare) (Answer.Found s.tail)) fine gives (codes_marked codes);
 }

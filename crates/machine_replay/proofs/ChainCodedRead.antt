@@ -2,16 +2,10 @@
 use Rattle.std.proofs.Common.{ℕ, ◌+◌, ◌/◌, ◌%◌, ◌<◌, ◌≡◌, ◌≢◌, ◌==◌, ◌∙◌, ◌⊎◌, inl, inr, Bool, true, false, if◌then◌else◌, Option, Some, None, List, length, refl, sym, ap, subst, arith, get_or, bit_or}
 use Rattle.std.proofs.lemmas.List.{length-set}
 use Rattle.std.proofs.lemmas.Bool.{le-ltb, lt-ltb, ne_eqb}
-use Rattle.queue_steps.specs.declared.sizes.TheConstants.{BLOCK_SLOTS}
+use Rattle.machine_replay.specs.Vocabulary.{Reply, Word, Op, Touch, Answer, Next, BLOCK_SLOTS, READ, DESTROY}
 use Rattle.queue_steps.specs.State.{State}
 use Rattle.queue_steps.specs.ChainWords.{offset_of}
 use Rattle.queue_steps.specs.UnboundedNext.{at, walks, walks_on}
-use Rattle.queue_steps.specs.declared.steps.types.Answer.TheVariants as answer
-use Rattle.queue_steps.specs.declared.steps.types.Next.{Next}
-use Rattle.queue_steps.specs.declared.steps.types.Next.TheVariants as next
-use Rattle.queue_steps.specs.declared.steps.types.Op.TheVariants as op
-use Rattle.queue_steps.specs.declared.steps.types.Touch.TheVariants as touch
-use Rattle.queue_steps.specs.declared.steps.types.Word.TheVariants as word
 use Rattle.queue_steps.specs.declared.steps.unbounded.UnboundedLocal.TheVariants as chain
 use Rattle.law_chain.specs.ChainCells.{Wrote, Reading, Done, Walker, Waits, GivenUp, Chain, ChainOk, Read, Passed, Holds, item_at, LAST, Walk, Before, Chained, WalkOk}
 use Rattle.law_chain.specs.ChainFacts.{head_of, IsNamed, Got}
@@ -20,11 +14,9 @@ use Rattle.machine_steps.specs.Blocks.{place_count, Block, without, blank, place
 use Rattle.machine_steps.specs.SharedMemory.{Shared, spare_in}
 use Rattle.machine_replay.proofs.ChainNames.{Codes, Changed}
 use Rattle.machine_replay.proofs.ChainBlocks.{there, place_in, item_put, state_put, state_is, state_left, both_put, placed_same, placed, changed_twice, changed_set, changed_none}
-use Rattle.machine_replay.proofs.ChainGives.{block_at, unread_on, has_place, state_answers}
+use Rattle.machine_replay.proofs.ChainGives.{block_at, has_place, state_answers}
 use Rattle.machine_replay.proofs.ChainCoded.{Stands, Coded}
 use Rattle.std.proofs.Common.{not, Ok, bit_and, get_or-set_other}
-use Rattle.queue_steps.specs.declared.model.Reply.TheVariants as reply
-use Rattle.queue_steps.specs.declared.steps.unbounded.TheConstants.{READ, DESTROY}
 use Rattle.law_common.proofs.Puts.{put_same}
 use Rattle.law_chain.specs.ChainTransitions.{walk_after, reads, walked}
 use Rattle.law_chain.specs.ChainAnswers.{is_done, waits_at, IsState, StateAnswers}
@@ -32,6 +24,7 @@ use Rattle.law_chain.proofs.ChainAnswers.{done_is, head_offset}
 use Rattle.law_chain.proofs.ChainRead.{waits_is}
 use Rattle.law_chain.proofs.ChainWalk.{after_walker}
 use Rattle.law_chain.specs.ChainAt.{Only, IsLast, reading, beginning, walking, destroying}
+use Rattle.law_chain.proofs.ChainReads.{not_given_up}
 use Rattle.machine_steps.specs.declared.blocks.Place.{Place}
 use Rattle.machine_replay.proofs.ChainCodes.{BlockIs, lies}
 use Rattle.machine_replay.proofs.ChainFresh.{unwalked}
@@ -50,7 +43,7 @@ walk_on : {A : Type 0} {r : Walk → Chain A} {head tail : ℕ} {front last : Op
 walk_on {A} {r = r} {head = head} {tail = tail} {front = front} {last = last} {blocks = blocks} {changed = changed} who slot b name x low now used gives = go (after_walker who slot)
   where
     n : Bool → Next ℕ
-    n t = if t then walks name (slot + 1) touch.Nothing else next.Reply (reply.Pop (Ok tt)) (Some name)
+    n t = if t then walks name (slot + 1) Touch.Nothing else Next.Reply (Reply.Pop (Ok tt)) (Some name)
 
     go : ((walk_after who slot ≡ GivenUp) × (slot + 1 ≡ LAST)) ⊎ ((walk_after who slot ≡ Walker who (slot + 1)) × (slot + 1 ≢ LAST))
         → Codes (left_by (r (walk_after who slot)) (walks_on name slot)) head tail front last (without (spare_in (walks_on name slot)) changed)
@@ -69,7 +62,7 @@ record WalkBlock {A : Type 0} (c : Chain A) (s : Shared A) (b name slot : ℕ) :
   low : slot < LAST
   state : IsState c b slot (state_of s.blocks name slot)
   placed_in : slot < place_count s.blocks name
-  answers : StateAnswers c name slot (answer.Found (state_of s.blocks name slot))
+  answers : StateAnswers c name slot (Answer.Found (state_of s.blocks name slot))
 
 walk_block : {A : Type 0} (c : Chain A) (who : ℕ) (s : Shared A) (b name slot : ℕ) → ChainOk c → Stands s c → c.walks b ≡ Walker who slot → IsNamed c b name → WalkBlock c s b name slot
 walk_block c who s b name slot right codes is named =
@@ -101,7 +94,7 @@ coded_walking {A} c who ms ok s x b name slot holds is named right codes = recor
     at_walk = walk_block c who s b name slot right codes is named
 
     n : Bool → Next ℕ
-    n u = if not u then walks_on name slot else at (chain.Destroying name slot) touch.Nothing (op.Or (word.State name slot) DESTROY)
+    n u = if not u then walks_on name slot else at (chain.Destroying name slot) Touch.Nothing (Op.Or (Word.State name slot) DESTROY)
 
     go : (t u : Bool) → is_done (c.readers (item_at b slot)) ≡ t → u ≡ not t → Codes (left_by (if t then walked c b (walk_after who slot) else c) (n u)) s.head s.tail s.head_block s.tail_block (without (spare_in (n u)) s.blocks)
     go false u done e = subst (λ u. Codes (left_by c (n u)) s.head s.tail s.head_block s.tail_block (without (spare_in (n u)) s.blocks)) (sym e) codes
@@ -140,7 +133,7 @@ coded_destroying {A} c who ms ok s x b name slot holds is named right codes = re
     changed = state_put s.blocks name slot marked_word at_walk.x at_walk.is
 
     n : Bool → Next ℕ
-    n u = if not u then walks_on name slot else next.Reply (reply.Pop (Ok tt)) None
+    n u = if not u then walks_on name slot else Next.Reply (Reply.Pop (Ok tt)) None
 
     go : (t u : Bool) → is_done (c.readers (item_at b slot)) ≡ t → u ≡ not t
         → Codes (left_by (walked c b (if t then walk_after who slot else Waits slot)) (n u)) s.head s.tail s.head_block s.tail_block (without (spare_in (n u)) (put_state s.blocks name slot marked_word))
@@ -199,7 +192,7 @@ coded_reading {A} c who ms ok s x n name more holds got wrote inner right codes 
     unread e = let z : Reading who ≡ Done = sym got.mine ∙ e in cc
 
     on : c.walks (n / BLOCK_SLOTS) ≢ GivenUp
-    on = unread_on c n right unread
+    on = not_given_up c n right unread
 
     block : (y : Block A) × (get_or s.blocks name None ≡ Some y) × BlockIs c (n / BLOCK_SLOTS) y.places y.next
     block = block_at (n / BLOCK_SLOTS) name right got.named on codes
@@ -229,7 +222,7 @@ coded_reading {A} c who ms ok s x n name more holds got wrote inner right codes 
     changed = both_put s.blocks name i (bit_or st READ) None block.0 block.1 room
 
     nx : Bool → Next ℕ
-    nx u = if not u then walks_on name (offset_of (head_of n more)) else next.Reply (reply.Pop (Ok tt)) None
+    nx u = if not u then walks_on name (offset_of (head_of n more)) else Next.Reply (Reply.Pop (Ok tt)) None
 
     go : (t u : Bool) → waits_at (c.walks (n / BLOCK_SLOTS)) (offset_of (head_of n more)) ≡ t → u ≡ not t
         → Codes (left_by (reads c n (if t then walk_after who (offset_of (head_of n more)) else c.walks (n / BLOCK_SLOTS))) (nx u)) s.head s.tail s.head_block s.tail_block (without (spare_in (nx u)) after)
@@ -270,7 +263,7 @@ coded_beginning {A} c who ms ok s x n name more holds got wrote last_is right co
     unread e = let z : Reading who ≡ Done = sym got.mine ∙ e in cc
 
     block : (y : Block A) × (get_or s.blocks name None ≡ Some y) × BlockIs c (n / BLOCK_SLOTS) y.places y.next
-    block = block_at (n / BLOCK_SLOTS) name right got.named (unread_on c n right unread) codes
+    block = block_at (n / BLOCK_SLOTS) name right got.named (not_given_up c n right unread) codes
 
     room : offset_of (head_of n more) < length block.0.places
     room = subst (λ m. offset_of (head_of n more) < m) (sym block.2.wide) wide
@@ -297,7 +290,7 @@ coded_beginning {A} c who ms ok s x n name more holds got wrote last_is right co
     before = unwalked c (n / BLOCK_SLOTS) right (λ e. unread (ap c.readers (sym there_is ∙ ap (λ j. item_at (n / BLOCK_SLOTS) j) at_last) ∙ e))
 
     nx : Bool → Next ℕ
-    nx u = if not u then walks_on name 0 else at (chain.Destroying name 0) touch.Nothing (op.Or (word.State name 0) DESTROY)
+    nx u = if not u then walks_on name 0 else at (chain.Destroying name 0) Touch.Nothing (Op.Or (Word.State name 0) DESTROY)
 
     go : (t u : Bool) → is_done (c.readers (item_at (n / BLOCK_SLOTS) 0)) ≡ t → u ≡ not t
         → Codes (left_by (reads c n (if t then walk_after who 0 else Walker who 0)) (nx u)) s.head s.tail s.head_block s.tail_block (without (spare_in (nx u)) after)

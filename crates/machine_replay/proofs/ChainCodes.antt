@@ -2,7 +2,7 @@
 use Rattle.std.proofs.Common.{ℕ, ◌+◌, ◌<◌, ◌≡◌, ◌≢◌, not, ◌∙◌, inl, inr, if◌then◌else◌, Option, Some, None, List, length, refl, sym, ap, subst, arith, get_or, set, get_or-set_same, get_or-set_other}
 use Rattle.std.proofs.lemmas.List.{length-set}
 use Rattle.std.proofs.lemmas.Bool.Decides.{eqb_tells}
-use Rattle.queue_steps.specs.declared.sizes.TheConstants.{BLOCK_SLOTS}
+use Rattle.machine_replay.specs.Vocabulary.{BLOCK_SLOTS}
 use Rattle.law_chain.specs.ChainCells.{Writer, Free, Writing, Wrote, Reader, Done, Chain, item_at, LAST}
 use Rattle.law_chain.specs.ChainAnswers.{linked_of, is_wrote, is_done, waits_at, IsState}
 use Rattle.law_chain.proofs.ChainAnswers.{done_is}
@@ -11,24 +11,19 @@ use Rattle.machine_steps.specs.Blocks.{blank}
 
 -- the item of a slot, once it is written
 abbrev pub wrote_in : {A : Type 0} → Writer A → Option A
-wrote_in Free = None
-wrote_in (Writing who v) = None
 wrote_in (Wrote v) = Some v
+wrote_in x = None
 
 -- what lies in the slot of an item: the item, from its write until it is read
 abbrev pub lies : {A : Type 0} → Writer A → Reader → Option A
 lies w r = if is_done r then None else wrote_in w
 
 pub wrote_alike : {A : Type 0} (w x : Writer A) → wrote_in w ≡ wrote_in x → is_wrote w ≡ is_wrote x
-wrote_alike Free Free e = refl
-wrote_alike Free (Writing p v) e = refl
-wrote_alike (Writing p v) Free e = refl
-wrote_alike (Writing p v) (Writing q u) e = refl
-wrote_alike (Wrote v) (Wrote u) e = refl
 wrote_alike Free (Wrote u) e = cc
 wrote_alike (Writing p v) (Wrote u) e = cc
 wrote_alike (Wrote v) Free e = cc
 wrote_alike (Wrote v) (Writing p u) e = cc
+wrote_alike w x e = refl
 
 pub done_alike : (r x : Reader) → is_done r ≡ is_done x → x ≢ Done → r ≢ Done
 done_alike r x e ne d = ne (done_is x (sym e ∙ ap is_done d))

@@ -1,11 +1,10 @@
 -- A step that changes one block leaves the machine standing for the chain after it.
 use Rattle.std.proofs.Common.{ℕ, ◌+◌, ◌/◌, ◌<◌, ◌≡◌, ◌≢◌, ◌∙◌, inl, inr, false, Option, Some, None, List, refl, sym, ap, subst, arith, get_or, set, bit_or}
 use Rattle.std.proofs.lemmas.Bool.Decides.{eqb_tells}
-use Rattle.queue_steps.specs.declared.sizes.TheConstants.{BLOCK_SLOTS}
-use Rattle.queue_steps.specs.declared.steps.unbounded.TheConstants.{WRITE}
+use Rattle.machine_replay.specs.Vocabulary.{BLOCK_SLOTS, WRITE}
 use Rattle.law_common.specs.Puts.{put}
 use Rattle.law_common.proofs.Puts.{put_other, put_same}
-use Rattle.law_chain.specs.ChainCells.{Writer, Writing, Wrote, Reader, Unread, Reading, Done, LinkState, Linked, Walk, GivenUp, Chained, Chain, ItemOk, ChainOk, item_at}
+use Rattle.law_chain.specs.ChainCells.{Writer, Writing, Wrote, Reader, Done, LinkState, Linked, Walk, GivenUp, Chained, Chain, ItemOk, ChainOk, item_at}
 use Rattle.law_chain.specs.ChainTransitions.{chained, written}
 use Rattle.law_chain.specs.ChainFacts.{IsNamed}
 use Rattle.law_chain.specs.ChainAnswers.{linked_of, is_done}
@@ -54,9 +53,8 @@ pub unread_item : {A : Type 0} (c : Chain A) (n who : ℕ) (v : A) → ChainOk c
 unread_item c n who v ok is e = let h : ItemOk c.head c.tail c.items n (Writing who v) Done = rw (is, e) at (ok.item n) in absurd h
 
 not_done : (r : Reader) → r ≢ Done → is_done r ≡ false
-not_done Unread ne = refl
-not_done (Reading p) ne = refl
 not_done Done ne = absurd (ne refl)
+not_done r ne = refl
 
 -- U8: the block is linked to the next one
 pub codes_chained : {A : Type 0} {c : Chain A} {head tail : ℕ} {front last : Option ℕ} {blocks after : List (Option (Block A))} (b f g : ℕ) (x : Block A)

@@ -1,8 +1,7 @@
 -- The steps of pops that move the head leave the machine standing for the chain after them.
 use Rattle.std.proofs.Common.{ℕ, ◌+◌, ◌*◌, ◌%◌, ◌≡◌, ◌≢◌, ◌∙◌, ◌⊎◌, inl, inr, Bool, true, false, if◌then◌else◌, Option, Some, None, List, refl, sym, ap, subst, arith, get_or}
-use Rattle.queue_steps.specs.declared.sizes.TheConstants.{BLOCK_SLOTS}
+use Rattle.machine_replay.specs.Vocabulary.{BLOCK_SLOTS, TAIL_STEP}
 use Rattle.queue_steps.specs.Words.{tail_of, position_of}
-use Rattle.queue_steps.specs.declared.steps.bounded.TheConstants.{TAIL_STEP}
 use Rattle.law_common.proofs.Puts.{put_ok}
 use Rattle.law_common.proofs.Tails.{position_tail}
 use Rattle.law_chain.specs.ChainFacts.{place, head_of, IsNamed}

@@ -3,14 +3,13 @@ use Rattle.std.proofs.Common.{ℕ, ◌+◌, ◌-◌, ◌%◌, ◌<◌, ◌≤◌
 use Rattle.std.proofs.lemmas.List.{get_or_append_left, get_or_past, length-append}
 use Rattle.std.proofs.Math.Seq.{get_or-append_seam}
 use Rattle.std.proofs.lemmas.Bool.{cases_lt}
-use Rattle.queue_steps.specs.declared.sizes.TheConstants.{BLOCK_SLOTS}
+use Rattle.machine_replay.specs.Vocabulary.{BLOCK_SLOTS, MARK, TAIL_STEP}
 use Rattle.queue_steps.specs.Words.{tail_of}
-use Rattle.queue_steps.specs.declared.steps.bounded.TheConstants.{MARK, TAIL_STEP}
 use Rattle.law_common.specs.Puts.{put}
 use Rattle.law_common.proofs.Puts.{put_ok, put_other, put_same}
 use Rattle.law_common.proofs.Tails.{mark_tail, next_tail}
 use Rattle.law_chain.specs.ChainFacts.{place, open_tail_of, IsNamed}
-use Rattle.law_chain.specs.ChainCells.{Writing, Mover, Rests, Laying, Opening, LinkState, Unlinked, Linking, Linked, Shown, Hidden, Showing, Seen, Unused, Spare, Chained, Chain, BlocksOk, LinkOk, ShownOk, ChainOk, item_at}
+use Rattle.law_chain.specs.ChainCells.{Writing, Mover, Rests, Laying, Opening, LinkState, Linking, Linked, Shown, Showing, Seen, Unused, Spare, Chained, Chain, BlocksOk, LinkOk, ShownOk, ChainOk, item_at}
 use Rattle.law_chain.proofs.ChainTransitions.{next_free, no_front}
 use Rattle.law_chain.specs.ChainTransitions.{appended, installed, displayed, laid_out, opened, marked, renamed}
 use Rattle.law_chain.specs.ChainAnswers.{tail_place, shown_of, linked_of}
@@ -60,9 +59,8 @@ more_link : {A : Type 0} (c : Chain A) (f b : ℕ) → ChainOk c → linked_of (
 more_link {A} c f b ok = go (c.links b) (ok.link b)
   where
     go : (l : LinkState) → LinkOk c.blocks b l → linked_of l (c.names (b + 1)) ≡ linked_of l (put c.names c.blocks f (b + 1))
-    go Unlinked h = refl
-    go (Linking who) h = refl
     go Linked h = ap (λ n. Some n) (sym (put_other c.names c.blocks (b + 1) f (λ e. absurd (omega arith))))
+    go l h = refl
 
 -- U4: the first block is installed
 pub codes_installed : {A : Type 0} {c : Chain A} {head tail : ℕ} {front last : Option ℕ} {blocks : List (Option (Block A))} (who f : ℕ)
@@ -147,9 +145,8 @@ codes_laid_out {A} {c = c} {head = head} {tail = tail} {front = front} {blocks =
     filled = subst (λ m. BlocksOk c.tail c.blocks m) lays ok.laid
 
     seen : (s : Shown) → ShownOk c.blocks c.head c.front c.known c.passer s → shown_of s (c.names c.front) ≡ shown_of s (put c.names c.blocks f c.front)
-    seen Hidden h = refl
-    seen (Showing p) h = refl
     seen Seen h = ap (λ n. Some n) (sym (put_other c.names c.blocks c.front f (λ e. absurd (omega arith))))
+    seen s h = refl
 
     link : (b : ℕ) → linked_of (c.links b) (c.names (b + 1)) ≡ linked_of (put c.links (c.blocks - 1) (Linking who) b) (put c.names c.blocks f (b + 1))
     link b = put_ok c.links (c.blocks - 1) b (Linking who) (λ j l. linked_of (c.links j) (c.names (j + 1)) ≡ linked_of l (put c.names c.blocks f (j + 1)))

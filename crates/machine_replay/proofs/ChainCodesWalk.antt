@@ -1,8 +1,7 @@
 -- The steps that read an item or walk over a passed block, and the block that is given up with a reply, leave the machine standing for the chain after them.
 use Rattle.std.proofs.Common.{ℕ, ◌+◌, ◌/◌, ◌<◌, ◌≡◌, ◌≢◌, ◌∙◌, ◌⊎◌, inl, inr, false, Option, Some, None, List, refl, sym, ap, subst, arith, get_or, set, bit_or}
 use Rattle.std.proofs.lemmas.Bool.Decides.{eqb_tells}
-use Rattle.queue_steps.specs.declared.sizes.TheConstants.{BLOCK_SLOTS}
-use Rattle.queue_steps.specs.declared.steps.unbounded.TheConstants.{READ}
+use Rattle.machine_replay.specs.Vocabulary.{BLOCK_SLOTS, READ}
 use Rattle.law_common.specs.Puts.{put}
 use Rattle.law_common.proofs.Puts.{put_ok, put_other, put_same}
 use Rattle.law_chain.specs.ChainCells.{Done, Walk, GivenUp, Unused, Spare, Chained, Chain, ChainOk, item_at, LAST}

@@ -4,16 +4,14 @@ use Rattle.std.proofs.lemmas.Bool.{ltb-true, ltb-false}
 use Rattle.std.proofs.lemmas.List.{get_or_past}
 use Rattle.queue_steps.specs.State.{State}
 use Rattle.queue_steps.specs.Sequential.{blocks_of}
-use Rattle.queue_steps.specs.declared.model.Call.{Call}
-use Rattle.queue_steps.specs.declared.model.Effect.{Effect}
-use Rattle.law_chain.specs.ChainCells.{Walk, Before, Walker, Waits, GivenUp, Use, Unused, Spare, Chained, Lost, Chain, queue_of, Holds, Nothing}
+use Rattle.machine_replay.specs.Vocabulary.{Call, Effect, Running}
+use Rattle.law_chain.specs.ChainCells.{Walk, GivenUp, Use, Chained, Chain, queue_of, Holds, Nothing}
 use Rattle.law_chain.specs.ChainAt.{At}
 use Rattle.law_chain.specs.ChainPasses.{spare_in, Spares}
 use Rattle.law_chain.proofs.Count.{count, count_same, count_front}
 use Rattle.law_chain.proofs.ChainHands.{HandOf, in_hand, idle_hand}
 use Rattle.law_chain.proofs.ChainCount.{is_given_up, is_alive, alive, few_alive}
 use Rattle.law_chain.proofs.ChainSpan.{spans_if, held_items}
-use Rattle.machine_steps.specs.declared.machine.Running.{Running}
 use Rattle.machine_steps.specs.Blocks.{Block}
 use Rattle.machine_replay.specs.Book.{Book}
 use Rattle.machine_steps.specs.SharedMemory.{Shared}
@@ -50,19 +48,15 @@ within_list xs i e =
     ] refl
 
 kept_walk : (w : Walk) → w ≢ GivenUp → true ≡ not (is_given_up w)
-kept_walk Before ne = refl
-kept_walk (Walker who slot) ne = refl
-kept_walk (Waits slot) ne = refl
 kept_walk GivenUp ne = absurd (ne refl)
+kept_walk w ne = refl
 
 -- a block is there exactly where it is alive
 name_present : {A : Type 0} (g : Chain A) (f : ℕ) (u : Use) (y : Option (Block A)) → NameIs g f u y → is_some y ≡ is_alive g.walks u
-name_present g f Unused y h = ap is_some h
-name_present g f (Spare who) y h = ap is_some h
 name_present g f (Chained b) y (named, inl h) = ap is_some h.1 ∙ ap (λ w. not (is_given_up w)) (sym h.0)
 name_present g f (Chained b) None (named, inr h) = absurd h.1
 name_present g f (Chained b) (Some x) (named, inr h) = kept_walk (g.walks b) h.0
-name_present g f Lost y h = ap is_some h
+name_present g f u y h = ap is_some h
 
 present_alive : {A : Type 0} (s : Shared A) (Q : State A) (g : Chain A) → ChainHolds s Q g → present s.blocks ≡ count (alive g) (length s.blocks)
 present_alive s Q g holds = present_count s.blocks ∙ count_same (λ i. is_some (get_or s.blocks i None)) (alive g) (length s.blocks) (λ f lt. name_present g f (g.uses f) (get_or s.blocks f None) (holds.codes.name f))

@@ -1,14 +1,7 @@
 -- What a call on a chain has claimed and is still to do to a block: to put its item, to lay a block behind, or to read.
 use Rattle.std.proofs.Common.{ℕ, ◌+◌, ◌-◌, ◌/◌, ◌%◌, ◌≡◌, ◌∙◌, ◌⊎◌, inl, inr, Bool, Option, Some, None, List, refl, sym, ap, arith}
-use Rattle.queue_steps.specs.declared.sizes.TheConstants.{BLOCK_SLOTS}
+use Rattle.machine_replay.specs.Vocabulary.{Op, Touch, Local, UnboundedLocal, BLOCK_SLOTS, READ}
 use Rattle.queue_steps.specs.ChainWords.{offset_of}
-use Rattle.queue_steps.specs.declared.steps.types.Local.{Local}
-use Rattle.queue_steps.specs.declared.steps.types.Local.TheVariants as local
-use Rattle.queue_steps.specs.declared.steps.types.Op.{Op}
-use Rattle.queue_steps.specs.declared.steps.types.Touch.{Touch}
-use Rattle.queue_steps.specs.declared.steps.types.Touch.TheVariants as touch
-use Rattle.queue_steps.specs.declared.steps.unbounded.TheConstants.{READ}
-use Rattle.queue_steps.specs.declared.steps.unbounded.UnboundedLocal.{UnboundedLocal}
 use Rattle.queue_steps.specs.declared.steps.unbounded.UnboundedLocal.TheVariants as chain
 use Rattle.law_chain.specs.ChainCells.{Writing, Reading, Laying, Passing, Linking, Showing, Spare, Chain, Part, Write, Read, Tail, Head, Next, First, Passed, writer_of, reader_of, mover_of, passer_of, linker_of, shower_of, Holds, Nothing}
 use Rattle.law_chain.specs.ChainFacts.{head_of, open_tail_of, IsNamed, Claimed, Got}
@@ -27,8 +20,8 @@ pub data Deed (A : Type 0) : Type 0 where
 
 -- what a touch of a slot of this block does
 abbrev touch_deed : {A : Type 0} → Touch → Option ℕ → Option A → Deed A
-touch_deed (touch.Put i) (Some b) v = Puts b i v
-touch_deed (touch.Take i) (Some b) v = Reads b i
+touch_deed (Touch.Put i) (Some b) v = Puts b i v
+touch_deed (Touch.Take i) (Some b) v = Reads b i
 touch_deed _ _ v = Rest
 
 -- what a call at this local state of a chain is still to do
@@ -45,7 +38,7 @@ chain_deed _ t o v = touch_deed t (block_touched o) v
 
 -- what a call that stands here is still to do
 abbrev pub deed_of : {A : Type 0} → Local ℕ → Touch → Op ℕ → Option A → Deed A
-deed_of (local.Unbounded l) t o v = chain_deed l t o v
+deed_of (Local.Unbounded l) t o v = chain_deed l t o v
 deed_of _ t o v = Rest
 
 -- the blocks once it is done
@@ -56,13 +49,11 @@ done (Lays b i v fresh) bs = put_next (put_item bs b i v) b (Some fresh)
 done (Reads b i) bs = put_state bs b i READ
 
 touch_done : {A : Type 0} (t : Touch) (x : Option ℕ) (v : Option A) (bs : List (Option (Block A))) → reached t x v bs ≡ done (touch_deed t x v) bs
-touch_done touch.Nothing x v bs = refl
-touch_done (touch.Put i) None v bs = refl
-touch_done (touch.Put i) (Some b) v bs = refl
-touch_done (touch.Take i) None v bs = refl
-touch_done (touch.Take i) (Some b) v bs = refl
-touch_done (touch.Swap i) None v bs = refl
-touch_done (touch.Swap i) (Some b) v bs = refl
+touch_done Touch.Nothing x v bs = refl
+touch_done (Touch.Put i) None v bs = refl
+touch_done (Touch.Take i) None v bs = refl
+touch_done (Touch.Swap i) None v bs = refl
+touch_done t (Some b) v bs = refl
 
 chain_done : {A : Type 0} (l : UnboundedLocal ℕ) (t : Touch) (o : Op ℕ) (v : Option A) (bs : List (Option (Block A))) → settled_at l t (block_touched o) v bs ≡ done (chain_deed l t o v) bs
 chain_done (chain.Laying p tail block fresh) t o v bs = refl
@@ -76,7 +67,7 @@ chain_done (chain.Awaiting head block) t o v bs = refl
 chain_done _ t o v bs = touch_done t (block_touched o) v bs
 
 pub deed_done : {A : Type 0} (l : Local ℕ) (t : Touch) (o : Op ℕ) (v : Option A) (bs : List (Option (Block A))) → settled_by l t o v bs ≡ done (deed_of l t o v) bs
-deed_done (local.Unbounded l) t o v bs = chain_done l t o v bs
+deed_done (Local.Unbounded l) t o v bs = chain_done l t o v bs
 deed_done _ t o v bs = refl
 
 -- it puts this into this slot

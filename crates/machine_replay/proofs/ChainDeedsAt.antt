@@ -1,12 +1,7 @@
 -- What each call on a chain has claimed, wherever it stands.
 use Rattle.std.proofs.Common.{ℕ, ◌+◌, ◌/◌, ◌≡◌, ◌∙◌, ◌⊎◌, inl, inr, Option, Some, List, sym, ap, subst, arith}
-use Rattle.queue_steps.specs.declared.sizes.TheConstants.{BLOCK_SLOTS}
+use Rattle.machine_replay.specs.Vocabulary.{Call, Effect, Op, Touch, Local, BLOCK_SLOTS}
 use Rattle.queue_steps.specs.State.{State}
-use Rattle.queue_steps.specs.declared.model.Call.{Call}
-use Rattle.queue_steps.specs.declared.model.Effect.{Effect}
-use Rattle.queue_steps.specs.declared.steps.types.Local.{Local}
-use Rattle.queue_steps.specs.declared.steps.types.Op.{Op}
-use Rattle.queue_steps.specs.declared.steps.types.Touch.{Touch}
 use Rattle.law_chain.specs.ChainCells.{Laying, Opening, Chain, ChainOk, BlocksOk, Part, Write, Tail, Next, writer_of, reader_of, mover_of, passer_of, linker_of, Read, Head}
 use Rattle.law_chain.specs.ChainAt.{Either, At, push_tail, push_block, asking, installing, showing, claiming, laying, opening, chaining, writing, spending, pop_head, pop_block, pop_tail, taking, following, peeking, passing, entering, awaiting, reading, beginning, walking, destroying, len_tail, len_head, len_again, empty_head, empty_tail, closing, closed_tail}
 use Rattle.machine_steps.specs.ChainLeft.{front_at}

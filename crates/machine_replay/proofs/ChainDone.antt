@@ -2,10 +2,8 @@
 use Rattle.std.proofs.Common.{ℕ, suc, zero, ◌<◌, ◌≡◌, ◌≢◌, ◌==◌, ◌∙◌, inl, inr, Bool, true, false, if◌then◌else◌, Option, Some, None, List, [], ◌∷◌, length, refl, sym, ap, subst, set, get_or, get_or-set_same, get_or-set_other, bit_and, arith}
 use Rattle.std.proofs.lemmas.List.{length-set}
 use Rattle.std.proofs.lemmas.Bool.Decides.{eqb_tells}
-use Rattle.queue_steps.specs.declared.sizes.TheConstants.{BLOCK_SLOTS}
-use Rattle.queue_steps.specs.declared.steps.unbounded.TheConstants.{READ}
+use Rattle.machine_replay.specs.Vocabulary.{BLOCK_SLOTS, READ, Running}
 use Rattle.machine_steps.specs.declared.blocks.Place.{Place}
-use Rattle.machine_steps.specs.declared.machine.Running.{Running}
 use Rattle.machine_steps.specs.Blocks.{Block, blank, places_in, with_place, with_next, put_item}
 use Rattle.machine_steps.specs.ChainLeft.{settled_by, settled_blocks}
 use Rattle.machine_replay.proofs.ChainDeeds.{Deed, Rest, Puts, Lays, Reads, deed_of, done, deed_done, PutsAt, LinksTo}
@@ -115,12 +113,11 @@ item_kept (Reads b j) f i v x lt w only q =
     if_at b f (HasItem i v) x (with_read j x) (λ e. put_at x.places j i (record (get_or x.places j blank) { state = READ }) (λ p. p.item ≡ v) (omega arith) (λ s. subst (λ k. (get_or x.places k blank).item ≡ v) (sym s) q) (λ ne. q)) (λ ne. q)
 
 pub item_made : {A : Type 0} (d : Deed A) (f i : ℕ) (v : Option A) (x : Block A) → i < BLOCK_SLOTS → IsWide x → PutsAt d f i v → HasItem i v (done_to d f x)
-item_made Rest f i v x lt w puts = absurd puts
-item_made (Reads b j) f i v x lt w puts = absurd puts
 item_made (Puts b j y) f i v x lt w puts =
     if_at b f (HasItem i v) x (with_item j y x) (λ e. put_at x.places j i (record (get_or x.places j blank) { item = y }) (λ p. p.item ≡ v) (omega arith) (λ s. puts.2) (λ ne. absurd (ne puts.1))) (λ ne. absurd (ne puts.0))
 item_made (Lays b j y fresh) f i v x lt w puts =
     if_at b f (HasItem i v) x (record (with_item j y x) { next = Some fresh }) (λ e. put_at x.places j i (record (get_or x.places j blank) { item = y }) (λ p. p.item ≡ v) (omega arith) (λ s. puts.2) (λ ne. absurd (ne puts.1))) (λ ne. absurd (ne puts.0))
+item_made d f i v x lt w puts = absurd puts
 
 -- the slot's word says whether it is not read
 abbrev pub SaysUnread : {A : Type 0} → ℕ → Bool → Block A → Type 0
@@ -152,7 +149,5 @@ next_kept (Lays b j y fresh) f n x only q = if_at b f (HasNext n) x (record (wit
 next_kept (Reads b j) f n x only q = if_at b f (HasNext n) x (with_read j x) (λ e. q) (λ ne. q)
 
 pub next_made : {A : Type 0} (d : Deed A) (f h : ℕ) (x : Block A) → LinksTo d f h → HasNext (Some h) (done_to d f x)
-next_made Rest f h x links = absurd links
-next_made (Puts b j y) f h x links = absurd links
-next_made (Reads b j) f h x links = absurd links
 next_made (Lays b j y fresh) f h x links = if_at b f (HasNext (Some h)) x (record (with_item j y x) { next = Some fresh }) (λ e. ap (λ k. Some k) links.1) (λ ne. absurd (ne links.0))
+next_made d f h x links = absurd links

@@ -2,30 +2,13 @@
 use Rattle.std.proofs.Common.{ℕ, ◌+◌, ◌-◌, ◌/◌, ◌%◌, ◌==◌, if◌then◌else◌, ◌<◌, ◌≤◌, ◌≡◌, ◌≢◌, ◌⊎◌, inl, inr, ◌∙◌, zero, suc, Bool, true, false, Option, Some, None, IsSome, List, [], ◌∷◌, refl, sym, ap, subst, arith}
 use Rattle.std.proofs.lemmas.Bool.{ne_eqb, eq-eqb}
 use Rattle.std.proofs.lemmas.Bool.Decides.{eqb_tells}
-use Rattle.queue_steps.specs.declared.sizes.TheConstants.{BLOCK_SLOTS}
+use Rattle.machine_replay.specs.Vocabulary.{Call, Reply, Effect, Kind, Word, Link, Op, Touch, Answer, Local, Next, PushKind, BLOCK_SLOTS, Running}
 use Rattle.queue_steps.specs.State.{State}
 use Rattle.queue_steps.specs.Next.{next_of}
 use Rattle.queue_steps.specs.Words.{is_shut, position_of, tail_of}
 use Rattle.queue_steps.specs.ChainWords.{offset_of, items_before}
 use Rattle.queue_steps.specs.UnboundedNext as steps
-use Rattle.queue_steps.specs.UnboundedNext.{chain_tail_found, chain_head_found, chain_pop_tail_found, head_block_found, tail_block_found, asks, claims, lays, writes, ends, loads, is_last_slot, unbounded_next}
-use Rattle.queue_steps.specs.declared.model.Call.{Call}
-use Rattle.queue_steps.specs.declared.model.Effect.{Effect}
-use Rattle.queue_steps.specs.declared.model.Reply.TheVariants as reply
-use Rattle.queue_steps.specs.declared.steps.bounded.PushKind.{PushKind}
-use Rattle.queue_steps.specs.declared.steps.types.Answer.{Answer}
-use Rattle.queue_steps.specs.declared.steps.types.Answer.TheVariants as answer
-use Rattle.queue_steps.specs.declared.steps.types.Kind.TheVariants as queue
-use Rattle.queue_steps.specs.declared.steps.types.Link.TheVariants as link
-use Rattle.queue_steps.specs.declared.steps.types.Local.{Local}
-use Rattle.queue_steps.specs.declared.steps.types.Local.TheVariants as local
-use Rattle.queue_steps.specs.declared.steps.types.Next.{Next}
-use Rattle.queue_steps.specs.declared.steps.types.Next.TheVariants as next
-use Rattle.queue_steps.specs.declared.steps.types.Op.{Op}
-use Rattle.queue_steps.specs.declared.steps.types.Op.TheVariants as op
-use Rattle.queue_steps.specs.declared.steps.types.Touch.{Touch}
-use Rattle.queue_steps.specs.declared.steps.types.Touch.TheVariants as touch
-use Rattle.queue_steps.specs.declared.steps.types.Word.TheVariants as word
+use Rattle.queue_steps.specs.UnboundedNext.{chain_tail_found, chain_head_found, head_block_found, tail_block_found, asks, claims, lays, writes, ends, loads, is_last_slot, unbounded_next}
 use Rattle.queue_steps.specs.declared.steps.unbounded.UnboundedLocal.TheVariants as chain
 use Rattle.law_common.specs.Effects.{with_effect}
 use Rattle.law_common.proofs.Ranks.{either_small}
@@ -44,7 +27,6 @@ use Rattle.law_chain.proofs.ChainRanksPush.{push_tail_falls}
 use Rattle.law_chain.proofs.ChainRight.{Ends, step_right}
 use Rattle.law_chain.proofs.ChainStep.{is_chain}
 use Rattle.law_chain.proofs.ChainTransitions.{no_block}
-use Rattle.machine_steps.specs.declared.machine.Running.{Running}
 use Rattle.machine_steps.specs.SharedMemory.{Shared, answer_to, step_of, running_after, next_after, carried_then, put_word}
 use Rattle.machine_steps.specs.World.{World, call_at}
 use Rattle.machine_replay.specs.Book.{Open}
@@ -65,9 +47,9 @@ early t = if position_of t == 0 then 6 else 0
 
 -- how many steps a call has before it, by the words of the tail and the head. A pop that saw no block replies where there is no item
 near_at : ℕ → ℕ → Local ℕ → ℕ
-near_at t h (local.Unbounded (chain.PushTail d None)) = 10 + early t
-near_at t h (local.Unbounded (chain.PushBlock d tail None)) = 9 + lag t tail 5 + early t
-near_at t h (local.Unbounded (chain.PopTail head None)) = if position_of t == 0 then 2 else BLOCK_SLOTS + 10
+near_at t h (Local.Unbounded (chain.PushTail d None)) = 10 + early t
+near_at t h (Local.Unbounded (chain.PushBlock d tail None)) = 9 + lag t tail 5 + early t
+near_at t h (Local.Unbounded (chain.PopTail head None)) = if position_of t == 0 then 2 else BLOCK_SLOTS + 10
 near_at t h l = far_at t h l
 
 early_most : (t : ℕ) → early t ≤ 6
@@ -75,31 +57,31 @@ early_most t = either_small (position_of t == 0) 6 0 6 (omega arith) (omega arit
 
 near_within : (t h : ℕ) (l : Local ℕ) → (one_of_pop l < far_at t h l) × (far_at t h l ≤ BLOCK_SLOTS + 10 + one_of_pop l) → (one_of_pop l < near_at t h l) × (near_at t h l ≤ BLOCK_SLOTS + 10 + one_of_pop l)
 unfolding near_at far_at one_of_pop
-near_within t h (local.Unbounded (chain.PushTail d None)) b = let e = early_most t in (omega arith, omega arith)
-near_within t h (local.Unbounded (chain.PushBlock d tail None)) b = let e = early_most t in let x = lag_most t tail 5 in (omega arith, omega arith)
-near_within t h (local.Unbounded (chain.PopTail head None)) b = elim (position_of t == 0) as (λ z. (1 < (if z then 2 else BLOCK_SLOTS + 10)) × ((if z then 2 else BLOCK_SLOTS + 10) ≤ BLOCK_SLOTS + 10 + 1)) [ true ↦ (omega arith, omega arith) | false ↦ (omega arith, omega arith) ]
+near_within t h (Local.Unbounded (chain.PushTail d None)) b = let e = early_most t in (omega arith, omega arith)
+near_within t h (Local.Unbounded (chain.PushBlock d tail None)) b = let e = early_most t in let x = lag_most t tail 5 in (omega arith, omega arith)
+near_within t h (Local.Unbounded (chain.PopTail head None)) b = elim (position_of t == 0) as (λ z. (1 < (if z then 2 else BLOCK_SLOTS + 10)) × ((if z then 2 else BLOCK_SLOTS + 10) ≤ BLOCK_SLOTS + 10 + 1)) [ true ↦ (omega arith, omega arith) | false ↦ (omega arith, omega arith) ]
 near_within t h l b = b
 
 -- for a pop it is no more than by the words alone
 near_pop : (t h : ℕ) (l : Local ℕ) → one_of_pop l ≡ 1 → near_at t h l ≤ far_at t h l
 unfolding near_at far_at one_of_pop
-near_pop t h (local.Unbounded (chain.PushTail d None)) pop = absurd (omega (arith, pop))
-near_pop t h (local.Unbounded (chain.PushBlock d tail None)) pop = absurd (omega (arith, pop))
-near_pop t h (local.Unbounded (chain.PopTail head None)) pop = either_small (position_of t == 0) 2 (BLOCK_SLOTS + 10) (BLOCK_SLOTS + 10) (omega arith) (omega arith)
+near_pop t h (Local.Unbounded (chain.PushTail d None)) pop = absurd (omega (arith, pop))
+near_pop t h (Local.Unbounded (chain.PushBlock d tail None)) pop = absurd (omega (arith, pop))
+near_pop t h (Local.Unbounded (chain.PopTail head None)) pop = either_small (position_of t == 0) 2 (BLOCK_SLOTS + 10) (BLOCK_SLOTS + 10) (omega arith) (omega arith)
 near_pop t h l pop = omega arith
 
 -- and as much, but for a pop that replies
-near_same : (t h : ℕ) (l : Local ℕ) → one_of_pop l ≡ 1 → ((head : ℕ) → l ≡ local.Unbounded (chain.PopTail head None) → position_of t ≢ 0) → near_at t h l ≡ far_at t h l
+near_same : (t h : ℕ) (l : Local ℕ) → one_of_pop l ≡ 1 → ((head : ℕ) → l ≡ Local.Unbounded (chain.PopTail head None) → position_of t ≢ 0) → near_at t h l ≡ far_at t h l
 unfolding near_at far_at one_of_pop
-near_same t h (local.Unbounded (chain.PushTail d None)) pop later = absurd (omega (arith, pop))
-near_same t h (local.Unbounded (chain.PushBlock d tail None)) pop later = absurd (omega (arith, pop))
-near_same t h (local.Unbounded (chain.PopTail head None)) pop later = rw (ne_eqb (position_of t) 0 (later head refl)) refl
+near_same t h (Local.Unbounded (chain.PushTail d None)) pop later = absurd (omega (arith, pop))
+near_same t h (Local.Unbounded (chain.PushBlock d tail None)) pop later = absurd (omega (arith, pop))
+near_same t h (Local.Unbounded (chain.PopTail head None)) pop later = rw (ne_eqb (position_of t) 0 (later head refl)) refl
 near_same t h l pop later = refl
 
 -- the call replies, or goes on with fewer steps before it
 abbrev Fewer : ℕ → ℕ → Next ℕ → ℕ → Type 0
-Fewer t h (next.Step l a o) m = near_at t h l < m
-Fewer t h (next.Reply x spare) m = Unit {0}
+Fewer t h (Next.Step l a o) m = near_at t h l < m
+Fewer t h (Next.Reply x spare) m = Unit {0}
 
 -- where there is no block the tail is at its first place
 first_place : {A : Type 0} (c : Chain A) → ChainOk c → c.blocks ≡ 0 → position_of (tail_word c) ≡ 0
@@ -117,7 +99,7 @@ moved_on c q (inr (is, rests)) opened other =
     absurd (other (resting_word c rests ∙ (ap (λ b. tail_of (place c.tail) b) unshut ∙ ap open_tail_of is)))
 
 -- U1: the tail is read
-tail_fewer : {A : Type 0} (c : Chain A) (d : PushKind) (spare : Option ℕ) → c.mover ≡ Rests → Fewer (tail_word c) (head_word c) (chain_tail_found d (tail_word c) spare) (near_at (tail_word c) (head_word c) (local.Unbounded (chain.PushTail d spare)))
+tail_fewer : {A : Type 0} (c : Chain A) (d : PushKind) (spare : Option ℕ) → c.mover ≡ Rests → Fewer (tail_word c) (head_word c) (chain_tail_found d (tail_word c) spare) (near_at (tail_word c) (head_word c) (Local.Unbounded (chain.PushTail d spare)))
 unfolding near_at far_at
 tail_fewer c d None rest =
     tail_ways d (tail_word c) None (λ n. Falls c n 10 → Fewer (tail_word c) (head_word c) n (10 + early (tail_word c)))
@@ -155,11 +137,11 @@ claim_fewer c who v d q name spare last false e ok is rest = lost_fewer c d q sp
 
 -- U2: the pushers' block is read
 block_fewer : {A : Type 0} (c : Chain A) (who : ℕ) (d : PushKind) (tail : ℕ) (spare : Option ℕ) → ChainOk c → HasSpare c who spare
-    → Fewer (tail_word c) (head_word c) (tail_block_found d tail (last_of c.names c.blocks) spare) (near_at (tail_word c) (head_word c) (local.Unbounded (chain.PushBlock d tail spare)))
+    → Fewer (tail_word c) (head_word c) (tail_block_found d tail (last_of c.names c.blocks) spare) (near_at (tail_word c) (head_word c) (Local.Unbounded (chain.PushBlock d tail spare)))
 unfolding near_at far_at
 block_fewer {A} c who d tail spare ok has = go c.blocks spare refl has
   where
-    go : (n : ℕ) (x : Option ℕ) → c.blocks ≡ n → HasSpare c who x → Fewer (tail_word c) (head_word c) (tail_block_found d tail (last_of c.names n) x) (near_at (tail_word c) (head_word c) (local.Unbounded (chain.PushBlock d tail x)))
+    go : (n : ℕ) (x : Option ℕ) → c.blocks ≡ n → HasSpare c who x → Fewer (tail_word c) (head_word c) (tail_block_found d tail (last_of c.names n) x) (near_at (tail_word c) (head_word c) (Local.Unbounded (chain.PushBlock d tail x)))
     go zero None none has = let six : early (tail_word c) ≡ 6 = rw (eq-eqb (position_of (tail_word c)) 0 (first_place c ok none)) refl in omega (arith, six)
     go zero (Some f) none has = let some = has.1 in absurd (omega (arith, some, none))
     go (suc b) (Some f) more has = omega arith
@@ -167,7 +149,7 @@ block_fewer {A} c who d tail spare ok has = go c.blocks spare refl has
         elim (is_last_slot tail) as (λ z. Fewer (tail_word c) (head_word c) (if z then asks d tail (Some (c.names b)) else claims d tail (c.names b) None) (9 + lag (tail_word c) tail 5 + early (tail_word c))) [ true ↦ omega arith | false ↦ omega arith ]
 
 -- U3: a block is granted
-granted_fewer : (t h : ℕ) (d : PushKind) (tail : ℕ) (block : Option ℕ) (f : ℕ) → Fewer t h (steps.granted d tail block f) (near_at t h (local.Unbounded (chain.Asking d tail block)))
+granted_fewer : (t h : ℕ) (d : PushKind) (tail : ℕ) (block : Option ℕ) (f : ℕ) → Fewer t h (steps.granted d tail block f) (near_at t h (Local.Unbounded (chain.Asking d tail block)))
 unfolding near_at far_at
 granted_fewer t h d tail None f = omega arith
 granted_fewer t h d tail (Some block) f = omega arith
@@ -183,8 +165,8 @@ head_fewer : {A : Type 0} (c : Chain A) → c.passer ≡ Stands → Fewer (tail_
 unfolding near_at far_at
 head_fewer c stood =
     (elim (offset_of (head_word c) == BLOCK_SLOTS)
-    as (λ b. Falls c (if b then loads chain.PopHead word.Head else steps.at (chain.PopBlock (head_word c)) touch.Nothing (op.LoadLink link.HeadBlock)) (BLOCK_SLOTS + 9)
-    → Fewer (tail_word c) (head_word c) (if b then loads chain.PopHead word.Head else steps.at (chain.PopBlock (head_word c)) touch.Nothing (op.LoadLink link.HeadBlock)) (BLOCK_SLOTS + 9))
+    as (λ b. Falls c (if b then loads chain.PopHead Word.Head else steps.at (chain.PopBlock (head_word c)) Touch.Nothing (Op.LoadLink Link.HeadBlock)) (BLOCK_SLOTS + 9)
+    → Fewer (tail_word c) (head_word c) (if b then loads chain.PopHead Word.Head else steps.at (chain.PopBlock (head_word c)) Touch.Nothing (Op.LoadLink Link.HeadBlock)) (BLOCK_SLOTS + 9))
     [ true ↦ λ f. absurd (omega (arith, f)) | false ↦ λ f. f ]) (head_falls c stood)
 
 -- V2: there is no block to be seen yet
@@ -195,8 +177,7 @@ no_block_fewer {A} c n unseen first = go c.shown unseen
   where
     go : (s : Shown) → is_seen s ≡ false → Fewer (tail_word c) (head_word c) (head_block_found (head_of n false) (shown_of s (c.names c.front))) (BLOCK_SLOTS + 8 + lag (head_word c) (head_of n false) 3)
     go Seen e = cc
-    go Hidden e = rw (ne_eqb (head_of n false % 2) 1 (λ z. absurd (omega arith)), eq-eqb (position_of (tail_word c)) 0 first) (omega arith)
-    go (Showing p) e = rw (ne_eqb (head_of n false % 2) 1 (λ z. absurd (omega arith)), eq-eqb (position_of (tail_word c)) 0 first) (omega arith)
+    go s e = rw (ne_eqb (head_of n false % 2) 1 (λ z. absurd (omega arith)), eq-eqb (position_of (tail_word c)) 0 first) (omega arith)
 
 -- V3: nothing was accepted yet, so the words' positions are one
 same_place : {A : Type 0} (c : Chain A) (n : ℕ) → ChainOk c → HeadIs c n → position_of (tail_word c) ≡ 0 → (position_of (tail_word c) == position_of (head_of n false)) ≡ true
@@ -222,10 +203,10 @@ stands_bare : {A : Type 0} (c : Chain A) (who : ℕ) → IsBare c who → Holds 
 stands_bare c who bare none = stands_if c.passer (unheld c who Nothing (Only First) Head bare none (λ z. z) (λ z. absurd (cc)))
 
 -- Y3: the tail is read again
-again_fewer : (now head t h : ℕ) → Fewer now head (unbounded_next (chain.LenAgain t h) (answer.Found now)) (1 + lag now t 3)
+again_fewer : (now head t h : ℕ) → Fewer now head (unbounded_next (chain.LenAgain t h) (Answer.Found now)) (1 + lag now t 3)
 unfolding near_at far_at
 again_fewer now head t h =
-    elim (now == t) as (λ b. Fewer now head (if b then ends (reply.Len (items_before (position_of t) - items_before (position_of h))) else loads chain.LenTail word.Tail) (1 + (if b then 0 else 3))) [ true ↦ tt | false ↦ omega arith ]
+    elim (now == t) as (λ b. Fewer now head (if b then ends (Reply.Len (items_before (position_of t) - items_before (position_of h))) else loads chain.LenTail Word.Tail) (1 + (if b then 0 else 3))) [ true ↦ tt | false ↦ omega arith ]
 
 -- each step of a call leaves fewer steps before it; of a pop, while no block is to be seen and nothing was accepted
 fewer : {A : Type 0} {c : Chain A} {who : ℕ} {ms : List (State A)} {l : Local ℕ} {t : Touch} {o : Op ℕ} {v : Option A} {k : Call A} {es : List (Effect A)} (at : At c who ms l t o v k es) (a : Answer ℕ) → ChainOk c → Answers c o a → IsBare c who
@@ -260,12 +241,12 @@ fewer {c = c} took a ok found bare pop = absurd (seen_not c (ready_of took tt ok
 
 -- a call that goes on has fewer steps before it
 goes_near : {A : Type 0} (c : Chain A) (n : Next ℕ) (v : Option A) (m : ℕ) (x : Running A) → running_after n v ≡ Some x → Fewer (tail_word c) (head_word c) n m → near_at (tail_word (left_by c n)) (head_word (left_by c n)) x.local < m
-goes_near c (next.Step l t o) v m x e less = let same : record { local = l; touch = t; op = o; carried = v } ≡ x = cc in subst (λ y. near_at (tail_word c) (head_word c) y.local < m) same less
-goes_near c (next.Reply y spare) v m x e less = cc
+goes_near c (Next.Step l t o) v m x e less = let same : record { local = l; touch = t; op = o; carried = v } ≡ x = cc in subst (λ y. near_at (tail_word c) (head_word c) y.local < m) same less
+goes_near c (Next.Reply y spare) v m x e less = cc
 
 -- V3: a pop that saw no block replies, where nothing was accepted
 early_ends : {A : Type 0} {c : Chain A} {who : ℕ} {ms : List (State A)} {l : Local ℕ} {t : Touch} {o : Op ℕ} {v : Option A} {k : Call A} {es : List (Effect A)} (head : ℕ) (u : Option A) (x : Running A) → At c who ms l t o v k es → (a : Answer ℕ) → ChainOk c → Answers c o a
-    → l ≡ local.Unbounded (chain.PopTail head None) → position_of (tail_word c) ≡ 0 → running_after (unbounded_next (chain_of l) a) u ≡ Some x → ⊥
+    → l ≡ Local.Unbounded (chain.PopTail head None) → position_of (tail_word c) ≡ 0 → running_after (unbounded_next (chain_of l) a) u ≡ Some x → ⊥
 early_ends {c = c} head u x (pop_tail n b none is front) a ok found at_it first goes =
     let on = subst (λ z. running_after (unbounded_next (chain.PopTail (head_of n false) b) z) u ≡ Some x) found goes in
     let ended = rw (same_place c n ok is first) at on in
@@ -273,12 +254,12 @@ early_ends {c = c} head u x (pop_tail n b none is front) a ok found at_it first 
 early_ends head u x _ a ok found at_it first goes = cc
 
 -- a step of a pop leaves the tail
-won_head : {A : Type 0} (b : Bool) (s : Shared A) (x : ℕ) → (if b then put_word s word.Head x else s).tail ≡ s.tail
+won_head : {A : Type 0} (b : Bool) (s : Shared A) (x : ℕ) → (if b then put_word s Word.Head x else s).tail ≡ s.tail
 won_head true s x = refl
 won_head false s x = refl
 
 pop_leaves : {A : Type 0} {c : Chain A} {who : ℕ} {ms : List (State A)} {l : Local ℕ} {t : Touch} {o : Op ℕ} {v : Option A} {k : Call A} {es : List (Effect A)} (ok : Bool) (s : Shared A) → At c who ms l t o v k es → one_of_pop l ≡ 1
-    → (step_of queue.Unbounded ok s (record { local = l; touch = t; op = o; carried = v })).shared.tail ≡ s.tail
+    → (step_of Kind.Unbounded ok s (record { local = l; touch = t; op = o; carried = v })).shared.tail ≡ s.tail
 unfolding one_of_pop
 pop_leaves ok s (pop_head none) pop = refl
 pop_leaves ok s (pop_block n more none is room) pop = refl
@@ -320,7 +301,7 @@ has_bare _ e = cc
 -- a call that is to show the first block is no pop
 shows_no_pop : (l : Local ℕ) → IsToShow l → one_of_pop l ≡ 1 → ⊥
 unfolding one_of_pop
-shows_no_pop (local.Unbounded (chain.Showing d tail block)) such pop = omega (arith, pop)
+shows_no_pop (Local.Unbounded (chain.Showing d tail block)) such pop = omega (arith, pop)
 shows_no_pop _ such pop = such
 
 not_none : (x : Option ℕ) → x ≡ None → IsSome x → ⊥
@@ -342,19 +323,19 @@ module _ (A : Type 0) where
       let no : None ≡ Some j = sym (ap shower_of seen) ∙ mine in
       cc
 
-  none_before : (ok : Bool) (s : Shared A) (r : Running A) → (step_of queue.Unbounded ok s r).shared.head_block ≡ None → s.head_block ≡ None
+  none_before : (ok : Bool) (s : Shared A) (r : Running A) → (step_of Kind.Unbounded ok s r).shared.head_block ≡ None → s.head_block ≡ None
   none_before ok s r none = go s.head_block refl
     where
       go : (b : Option ℕ) → s.head_block ≡ b → s.head_block ≡ None
       go None e = e
-      go (Some b) e = absurd (not_none (step_of queue.Unbounded ok s r).shared.head_block none (ready_on A ok s r (subst (λ z. IsSome z) (sym e) refl)))
+      go (Some b) e = absurd (not_none (step_of Kind.Unbounded ok s r).shared.head_block none (ready_on A ok s r (subst (λ z. IsSome z) (sym e) refl)))
 
   own_nears : (busy : ℕ) (ok : Bool) (s : Shared A) (Q : State A) (g : Chain A) (p : ℕ) (x x' : Running A) (o : Open A) → Ready s x → ChainHolds s Q g → ChainFits busy s Q g p x o → IsBare g p
-      → (step_of queue.Unbounded ok s x).call ≡ Some x' → Ready (step_of queue.Unbounded ok s x).shared x' × (near (step_of queue.Unbounded ok s x).shared x' < near s x)
+      → (step_of Kind.Unbounded ok s x).call ≡ Some x' → Ready (step_of Kind.Unbounded ok s x).shared x' × (near (step_of Kind.Unbounded ok s x).shared x' < near s x)
   own_nears busy ok s Q g p x x' o ready holds f bare goes = by_kind (eqb_tells (one_of_pop x.local) 1) s.head_block refl
     where
       t : Shared A
-      t = (step_of queue.Unbounded ok s x).shared
+      t = (step_of Kind.Unbounded ok s x).shared
 
       a : Answer ℕ
       a = answer_to ok s x
@@ -363,7 +344,7 @@ module _ (A : Type 0) where
       step = steps_stand A ok s Q g p o.moments x o.call o.effects holds f.here f.spares
 
       on : running_after (next_on ok s x) (carried_then s x) ≡ Some x'
-      on = let went : next_after queue.Unbounded ok s x ≡ next_on ok s x = ap (λ l. next_of queue.Unbounded l a) (is_chain f.here) in subst (λ n. running_after n (carried_then s x) ≡ Some x') went goes
+      on = let went : next_after Kind.Unbounded ok s x ≡ next_on ok s x = ap (λ l. next_of Kind.Unbounded l a) (is_chain f.here) in subst (λ n. running_after n (carried_then s x) ≡ Some x') went goes
 
       same : one_of_pop x'.local ≡ one_of_pop x.local
       same =
@@ -409,7 +390,7 @@ module _ (A : Type 0) where
         ap (λ z. near_at z s'.head r.local - one_of_pop r.local) tail ∙ ap (λ z. near_at s.tail z r.local - one_of_pop r.local) head,
       )
 
-  chain_paces : Paces A queue.Unbounded (chain_rules A)
+  chain_paces : Paces A Kind.Unbounded (chain_rules A)
   chain_paces = record {
     rank = near;
     most = BLOCK_SLOTS + 10;
@@ -425,7 +406,7 @@ module _ (A : Type 0) where
   }
 
   -- where no other party is to show the first block, it is shown, or nothing was accepted yet, or the call is to show it
-  readies : (parties : ℕ) (w : World (Shared A) (Running A)) (st : ℕ → Standing) (h : Here A queue.Unbounded (chain_rules A) parties w st) (p : ℕ) (r : Running A) → call_at w p ≡ Some r → NobodyShows queue.Unbounded w p → Ready w.shared r
+  readies : (parties : ℕ) (w : World (Shared A) (Running A)) (st : ℕ → Standing) (h : Here A Kind.Unbounded (chain_rules A) parties w st) (p : ℕ) (r : Running A) → call_at w p ≡ Some r → NobodyShows Kind.Unbounded w p → Ready w.shared r
   readies parties w st h p r is nobody pop none = go h.sim.g.shown refl h.sim.holds.ok.seen
     where
       go : (x : Shown) → h.sim.g.shown ≡ x → ShownOk h.sim.g.blocks h.sim.g.head h.sim.g.front h.sim.g.known h.sim.g.passer x → position_of w.shared.tail ≡ 0
@@ -433,13 +414,13 @@ module _ (A : Type 0) where
       go Seen e shown = let no : true ≡ false = sym (ap is_seen e) ∙ unseen_if h.sim.g.shown (h.sim.g.names h.sim.g.front) (sym h.sim.holds.codes.front_is ∙ none) in cc
       go (Showing q) e shown = elim (eqb_tells q p) [
         | inl same ↦
-            let o = party-open A queue.Unbounded (chain_rules A) parties h.b.busy w.shared h.b.queue h.sim.g p (call_at w p) (h.b.open_call p) r (h.sim.each p) is in
+            let o = party-open A Kind.Unbounded (chain_rules A) parties h.b.busy w.shared h.b.queue h.sim.g p (call_at w p) (h.b.open_call p) r (h.sim.each p) is in
             absurd (shows_no_pop r.local (holds_at First o.2.here (ap shower_of e ∙ ap (λ j. Some j) same.1)) pop)
         | inr other ↦
             let by = holder parties w st h First q (call_at w q) (h.b.open_call q) (h.sim.each q) (ap shower_of e) in
             absurd (nobody q by.0 other.1 by.1 by.2)
       ]
 
-  pub chain_unhindered : UnhinderedWithin A queue.Unbounded (BLOCK_SLOTS + 10)
+  pub chain_unhindered : UnhinderedWithin A Kind.Unbounded (BLOCK_SLOTS + 10)
   unfolding chain_paces
-  chain_unhindered = unhindered A queue.Unbounded (chain_rules A) chain_paces readies
+  chain_unhindered = unhindered A Kind.Unbounded (chain_rules A) chain_paces readies

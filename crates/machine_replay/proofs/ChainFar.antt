@@ -2,24 +2,13 @@
 use Rattle.std.proofs.Common.{ℕ, ◌+◌, ◌==◌, ◌%◌, ◌<◌, ◌≤◌, ◌≡◌, inl, inr, ◌∙◌, true, false, Option, Some, None, IsSome, List, refl, sym, ap, subst, arith}
 use Rattle.std.proofs.lemmas.Bool.{ne_eqb}
 use Rattle.std.proofs.lemmas.Bool.Decides.{eqb_tells}
-use Rattle.queue_steps.specs.declared.sizes.TheConstants.{BLOCK_SLOTS}
+use Rattle.machine_replay.specs.Vocabulary.{Call, Effect, Op, Touch, Local, Next, PushKind, BLOCK_SLOTS, Running}
 use Rattle.queue_steps.specs.State.{State}
 use Rattle.queue_steps.specs.ChainWords.{offset_of}
-use Rattle.queue_steps.specs.declared.model.Call.{Call}
-use Rattle.queue_steps.specs.declared.model.Call.TheVariants as call
-use Rattle.queue_steps.specs.declared.model.Effect.{Effect}
-use Rattle.queue_steps.specs.declared.steps.bounded.PushKind.{PushKind}
-use Rattle.queue_steps.specs.declared.steps.bounded.PushKind.TheVariants as push
-use Rattle.queue_steps.specs.declared.steps.types.Local.{Local}
-use Rattle.queue_steps.specs.declared.steps.types.Local.TheVariants as local
-use Rattle.queue_steps.specs.declared.steps.types.Next.{Next}
-use Rattle.queue_steps.specs.declared.steps.types.Next.TheVariants as next
-use Rattle.queue_steps.specs.declared.steps.types.Op.{Op}
-use Rattle.queue_steps.specs.declared.steps.types.Touch.{Touch}
 use Rattle.queue_steps.specs.declared.steps.unbounded.UnboundedLocal.TheVariants as chain
 use Rattle.law_common.specs.Pushes.{pushes}
 use Rattle.law_common.proofs.Ranks.{either_small}
-use Rattle.law_chain.specs.ChainCells.{Shown, Hidden, Showing, Seen, Chain, ChainOk, ShownOk, LAST}
+use Rattle.law_chain.specs.ChainCells.{Shown, Showing, Seen, Chain, ChainOk, ShownOk, LAST}
 use Rattle.law_chain.specs.ChainAnswers.{tail_word, head_word, shown_of}
 use Rattle.law_chain.specs.ChainAt.{At, push_tail, push_block, asking, installing, showing, claiming, laying, opening, chaining, writing, spending, pop_head, pop_block, pop_tail, taking, following, peeking, passing, entering, awaiting, reading, beginning, walking, destroying, len_tail, len_head, len_again, empty_head, empty_tail, closing, closed_tail}
 use Rattle.law_chain.specs.ChainFacts.{head_of, open_tail_of}
@@ -27,74 +16,71 @@ use Rattle.law_chain.proofs.ChainAnswers.{head_offset}
 use Rattle.law_chain.proofs.ChainRanks.{rank, lag, walk_rank, is_seen}
 use Rattle.law_chain.proofs.ChainRanksWalk.{last_claimed}
 use Rattle.law_chain.proofs.ChainRight.{Ends}
-use Rattle.machine_steps.specs.declared.machine.Running.{Running}
 use Rattle.machine_steps.specs.SharedMemory.{Shared, running_after}
 use Rattle.machine_replay.proofs.ChainNames.{Codes}
 
 -- how many steps a call has before it once the first block is shown, by the words of the tail and the head
 unfoldable pub far_at : ℕ → ℕ → Local ℕ → ℕ
-far_at t h (local.Unbounded (chain.PushTail d spare)) = 10
-far_at t h (local.Unbounded (chain.PushBlock d tail spare)) = 9 + lag t tail 5
-far_at t h (local.Unbounded (chain.Asking d tail None)) = 13
-far_at t h (local.Unbounded (chain.Asking d tail (Some block))) = 6 + lag t tail 5
-far_at t h (local.Unbounded (chain.Installing d tail fresh)) = 12
-far_at t h (local.Unbounded (chain.Showing d tail block)) = 6 + lag t tail 5
-far_at t h (local.Unbounded (chain.Claiming d tail block spare)) = 5 + lag t tail 5
-far_at t h (local.Unbounded (chain.Laying d tail block fresh)) = 4
-far_at t h (local.Unbounded (chain.Opening d tail block fresh)) = 3
-far_at t h (local.Unbounded (chain.Chaining d tail block fresh)) = 2
-far_at t h (local.Unbounded chain.PopHead) = BLOCK_SLOTS + 9
-far_at t h (local.Unbounded (chain.PopBlock head)) = BLOCK_SLOTS + 8 + lag h head 3
-far_at t h (local.Unbounded (chain.PopTail head None)) = BLOCK_SLOTS + 10
-far_at t h (local.Unbounded (chain.PopTail head (Some block))) = BLOCK_SLOTS + 7 + lag h head 3
-far_at t h (local.Unbounded (chain.Taking head block)) = BLOCK_SLOTS + 6 + lag h head 3
-far_at t h (local.Unbounded (chain.Following head block)) = BLOCK_SLOTS + 5
-far_at t h (local.Unbounded (chain.Peeking head block after)) = BLOCK_SLOTS + 4
-far_at t h (local.Unbounded (chain.Passing head block more)) = BLOCK_SLOTS + 3
-far_at t h (local.Unbounded (chain.Entering head block)) = BLOCK_SLOTS + 2
-far_at t h (local.Unbounded (chain.Awaiting head block)) = BLOCK_SLOTS + 1
-far_at t h (local.Unbounded (chain.Reading block slot)) = walk_rank slot
-far_at t h (local.Unbounded (chain.Walking block slot)) = walk_rank slot
-far_at t h (local.Unbounded (chain.Destroying block slot)) = walk_rank slot
-far_at t h (local.Unbounded chain.LenTail) = 3
-far_at t h (local.Unbounded (chain.LenHead tail)) = 2 + lag t tail 3
-far_at t h (local.Unbounded (chain.LenAgain tail head)) = 1 + lag t tail 3
-far_at t h (local.Unbounded chain.EmptyHead) = 2
+far_at t h (Local.Unbounded (chain.PushTail d spare)) = 10
+far_at t h (Local.Unbounded (chain.PushBlock d tail spare)) = 9 + lag t tail 5
+far_at t h (Local.Unbounded (chain.Asking d tail None)) = 13
+far_at t h (Local.Unbounded (chain.Asking d tail (Some block))) = 6 + lag t tail 5
+far_at t h (Local.Unbounded (chain.Installing d tail fresh)) = 12
+far_at t h (Local.Unbounded (chain.Showing d tail block)) = 6 + lag t tail 5
+far_at t h (Local.Unbounded (chain.Claiming d tail block spare)) = 5 + lag t tail 5
+far_at t h (Local.Unbounded (chain.Laying d tail block fresh)) = 4
+far_at t h (Local.Unbounded (chain.Opening d tail block fresh)) = 3
+far_at t h (Local.Unbounded (chain.Chaining d tail block fresh)) = 2
+far_at t h (Local.Unbounded chain.PopHead) = BLOCK_SLOTS + 9
+far_at t h (Local.Unbounded (chain.PopBlock head)) = BLOCK_SLOTS + 8 + lag h head 3
+far_at t h (Local.Unbounded (chain.PopTail head None)) = BLOCK_SLOTS + 10
+far_at t h (Local.Unbounded (chain.PopTail head (Some block))) = BLOCK_SLOTS + 7 + lag h head 3
+far_at t h (Local.Unbounded (chain.Taking head block)) = BLOCK_SLOTS + 6 + lag h head 3
+far_at t h (Local.Unbounded (chain.Following head block)) = BLOCK_SLOTS + 5
+far_at t h (Local.Unbounded (chain.Peeking head block after)) = BLOCK_SLOTS + 4
+far_at t h (Local.Unbounded (chain.Passing head block more)) = BLOCK_SLOTS + 3
+far_at t h (Local.Unbounded (chain.Entering head block)) = BLOCK_SLOTS + 2
+far_at t h (Local.Unbounded (chain.Awaiting head block)) = BLOCK_SLOTS + 1
+far_at t h (Local.Unbounded (chain.Reading block slot)) = walk_rank slot
+far_at t h (Local.Unbounded (chain.Walking block slot)) = walk_rank slot
+far_at t h (Local.Unbounded (chain.Destroying block slot)) = walk_rank slot
+far_at t h (Local.Unbounded chain.LenTail) = 3
+far_at t h (Local.Unbounded (chain.LenHead tail)) = 2 + lag t tail 3
+far_at t h (Local.Unbounded (chain.LenAgain tail head)) = 1 + lag t tail 3
+far_at t h (Local.Unbounded chain.EmptyHead) = 2
 far_at t h _ = 1
 
 far_is : {A : Type 0} (c : Chain A) (l : Local ℕ) → (c.blocks == 0) ≡ false → is_seen c.shown ≡ true → rank c l ≡ far_at (tail_word c) (head_word c) l
 unfolding far_at
-far_is c (local.Unbounded (chain.Asking d tail None)) some seen = rw some refl
-far_is c (local.Unbounded (chain.Asking d tail (Some block))) some seen = refl
-far_is c (local.Unbounded (chain.Installing d tail fresh)) some seen = rw some refl
-far_is c (local.Unbounded (chain.PopTail head None)) some seen = rw seen refl
-far_is c (local.Unbounded (chain.PopTail head (Some block))) some seen = refl
+far_is c (Local.Unbounded (chain.Asking d tail None)) some seen = rw some refl
+far_is c (Local.Unbounded (chain.Installing d tail fresh)) some seen = rw some refl
+far_is c (Local.Unbounded (chain.PopTail head None)) some seen = rw seen refl
 far_is c l some seen = refl
 
 -- one for a pop: a walk never comes to the last slot, so a pop takes a step less than `far_at` says
 unfoldable pub one_of_pop : Local ℕ → ℕ
-one_of_pop (local.Unbounded chain.PopHead) = 1
-one_of_pop (local.Unbounded (chain.PopBlock head)) = 1
-one_of_pop (local.Unbounded (chain.PopTail head block)) = 1
-one_of_pop (local.Unbounded (chain.Taking head block)) = 1
-one_of_pop (local.Unbounded (chain.Following head block)) = 1
-one_of_pop (local.Unbounded (chain.Peeking head block after)) = 1
-one_of_pop (local.Unbounded (chain.Passing head block more)) = 1
-one_of_pop (local.Unbounded (chain.Entering head block)) = 1
-one_of_pop (local.Unbounded (chain.Awaiting head block)) = 1
-one_of_pop (local.Unbounded (chain.Reading block slot)) = 1
-one_of_pop (local.Unbounded (chain.Walking block slot)) = 1
-one_of_pop (local.Unbounded (chain.Destroying block slot)) = 1
+one_of_pop (Local.Unbounded chain.PopHead) = 1
+one_of_pop (Local.Unbounded (chain.PopBlock head)) = 1
+one_of_pop (Local.Unbounded (chain.PopTail head block)) = 1
+one_of_pop (Local.Unbounded (chain.Taking head block)) = 1
+one_of_pop (Local.Unbounded (chain.Following head block)) = 1
+one_of_pop (Local.Unbounded (chain.Peeking head block after)) = 1
+one_of_pop (Local.Unbounded (chain.Passing head block more)) = 1
+one_of_pop (Local.Unbounded (chain.Entering head block)) = 1
+one_of_pop (Local.Unbounded (chain.Awaiting head block)) = 1
+one_of_pop (Local.Unbounded (chain.Reading block slot)) = 1
+one_of_pop (Local.Unbounded (chain.Walking block slot)) = 1
+one_of_pop (Local.Unbounded (chain.Destroying block slot)) = 1
 one_of_pop _ = 0
 
 pub pop_is_one : {A : Type 0} → Call A → ℕ
-pop_is_one call.Pop = 1
+pop_is_one Call.Pop = 1
 pop_is_one _ = 0
 
 no_pop : {A : Type 0} (d : PushKind) (v : A) → pop_is_one (pushes d v) ≡ 0
 unfolding pop_is_one
-no_pop push.Push v = refl
-no_pop push.Force v = refl
+no_pop PushKind.Push v = refl
+no_pop PushKind.Force v = refl
 
 pub by_call : {A : Type 0} {c : Chain A} {who : ℕ} {ms : List (State A)} {l : Local ℕ} {t : Touch} {o : Op ℕ} {v : Option A} {k : Call A} {es : List (Effect A)} → At c who ms l t o v k es → one_of_pop l ≡ pop_is_one k
 unfolding one_of_pop pop_is_one
@@ -109,31 +95,12 @@ by_call (opening d v n name f holds mine opens links named) = sym (no_pop d v)
 by_call (chaining d v n name f holds mine links named) = sym (no_pop d v)
 by_call (writing d v n name spare holds mine spare_is) = sym (no_pop d v)
 by_call (spending d v spare none spare_is spent) = sym (no_pop d v)
-by_call (pop_head none) = refl
-by_call (pop_block n more none is room) = refl
-by_call (pop_tail n block none is front) = refl
-by_call (taking n name next more new none is front there word_is room) = refl
-by_call (following x n name more holds got pass) = refl
-by_call (peeking x n name after more holds got pass behind) = refl
-by_call (passing x n name after more further holds got pass behind room) = refl
-by_call (entering x n name more further holds got enters room) = refl
-by_call (awaiting x n name more holds got) = refl
-by_call (reading x n name more holds got wrote inner) = refl
-by_call (beginning x n name more holds got wrote last) = refl
-by_call (walking x b name slot holds is named) = refl
-by_call (destroying x b name slot holds is named) = refl
-by_call (len_tail none) = refl
-by_call (len_head w none small low) = refl
-by_call (len_again w h none small seen) = refl
-by_call (empty_head none) = refl
-by_call (empty_tail h none small saw) = refl
-by_call (closing none) = refl
-by_call (closed_tail none) = refl
+by_call x = refl
 
 -- a call goes on as the call that it is
 pub goes_as : {A : Type 0} (c : Chain A) (who : ℕ) (ms : List (State A)) (n : Next ℕ) (v : Option A) (k : Call A) (es : List (Effect A)) (x : Running A) → running_after n v ≡ Some x → Ends c who ms n v k es → one_of_pop x.local ≡ pop_is_one k
-goes_as c who ms (next.Step l t o) v k es x e ends = let same : record { local = l; touch = t; op = o; carried = v } ≡ x = cc in subst (λ y. one_of_pop y.local ≡ pop_is_one k) same (by_call ends.0)
-goes_as c who ms (next.Reply y spare) v k es x e ends = cc
+goes_as c who ms (Next.Step l t o) v k es x e ends = let same : record { local = l; touch = t; op = o; carried = v } ≡ x = cc in subst (λ y. one_of_pop y.local ≡ pop_is_one k) same (by_call ends.0)
+goes_as c who ms (Next.Reply y spare) v k es x e ends = cc
 
 pub lag_most : (now read more : ℕ) → lag now read more ≤ more
 lag_most now read more = either_small (now == read) 0 more more (omega arith) (omega arith)
@@ -181,8 +148,7 @@ bounded tail head (closed_tail none) ok = (omega arith, omega arith)
 
 seen_if : (x : Shown) (name : ℕ) → IsSome (shown_of x name) → x ≡ Seen
 seen_if Seen name h = refl
-seen_if Hidden name h = cc
-seen_if (Showing p) name h = cc
+seen_if x name h = cc
 
 pub seen_is : {A : Type 0} (s : Shared A) (g : Chain A) → IsSome s.head_block → Codes g s.head s.tail s.head_block s.tail_block s.blocks → g.shown ≡ Seen
 seen_is s g ready codes = seen_if g.shown (g.names g.front) (subst (λ b. IsSome b) codes.front_is ready)

@@ -2,14 +2,7 @@
 use Rattle.std.proofs.Common.{ℕ, ◌≡◌, ◌≢◌, true, Option, None, List, [], ◌∷◌, refl, sym, subst, arith}
 use Rattle.queue_steps.specs.State.{State}
 use Rattle.queue_steps.specs.UnboundedNext.{unbounded_next}
-use Rattle.queue_steps.specs.declared.model.Call.{Call}
-use Rattle.queue_steps.specs.declared.model.Call.TheVariants as call
-use Rattle.queue_steps.specs.declared.model.Reply.{Reply}
-use Rattle.queue_steps.specs.declared.model.Effect.{Effect}
-use Rattle.queue_steps.specs.declared.steps.types.Answer.{Answer}
-use Rattle.queue_steps.specs.declared.steps.types.Kind.TheVariants as queue
-use Rattle.queue_steps.specs.declared.steps.types.Next.{Next}
-use Rattle.queue_steps.specs.declared.steps.types.Next.TheVariants as next
+use Rattle.machine_replay.specs.Vocabulary.{Call, Reply, Effect, Kind, Answer, Next, Running}
 use Rattle.law_common.specs.Effects.{with_effect}
 use Rattle.law_chain.specs.ChainCells.{Chain, queue_of, ChainOk, Holds, Nothing}
 use Rattle.law_chain.specs.ChainPasses.{Passes, Spares, spare_in}
@@ -23,7 +16,6 @@ use Rattle.law_chain.proofs.ChainGiven.{spares_stay}
 use Rattle.law_chain.proofs.ChainRight.{Ends, step_right}
 use Rattle.law_chain.proofs.ChainRanks.{rank, longest, rank_small, rank_some, Falls}
 use Rattle.law_chain.proofs.ChainRanksStep.{step_falls, wait_free_falls, wait_free_small}
-use Rattle.machine_steps.specs.declared.machine.Running.{Running}
 use Rattle.machine_replay.specs.Book.{Open, after_own, begun, is_wait_free, joined, watched}
 use Rattle.machine_steps.specs.SharedMemory.{Shared, CanStep, step_of, start_of, running_after, reply_after}
 use Rattle.machine_replay.proofs.Engine as engine
@@ -43,26 +35,26 @@ pub record ChainFits {A : Type 0} (busy : ℕ) (s : Shared A) (Q : State A) (g :
 
 -- the engine's words at a chain, for any shared memory that stands for it
 abbrev pub ChainGoes : (A : Type 0) (Stands : Shared A → State A → Chain A → Type 0) → ℕ → Shared A → State A → Chain A → ℕ → Open A → Option (Running A) → Option (Reply A) → Type 0
-ChainGoes A Stands = engine.Goes A (Shared A) (Running A) (Chain A) None (step_of queue.Unbounded) (start_of queue.Unbounded) (CanStep queue.Unbounded) Stands ChainIdle ChainFits
+ChainGoes A Stands = engine.Goes A (Shared A) (Running A) (Chain A) None (step_of Kind.Unbounded) (start_of Kind.Unbounded) (CanStep Kind.Unbounded) Stands ChainIdle ChainFits
 
 abbrev ChainBegins : (A : Type 0) (Stands : Shared A → State A → Chain A → Type 0) → Shared A → State A → Chain A → ℕ → Call A → Option (Running A) → Option (Reply A) → Type 0
-ChainBegins A Stands = engine.BeginsWell A (Shared A) (Running A) (Chain A) None (step_of queue.Unbounded) (start_of queue.Unbounded) (CanStep queue.Unbounded) Stands ChainIdle ChainFits
+ChainBegins A Stands = engine.BeginsWell A (Shared A) (Running A) (Chain A) None (step_of Kind.Unbounded) (start_of Kind.Unbounded) (CanStep Kind.Unbounded) Stands ChainIdle ChainFits
 
 -- where the call stands after its step, or its reply
 goes_on : {A : Type 0} (Stands : Shared A → State A → Chain A → Type 0) (busy : ℕ) (s : Shared A) (g : Chain A) (p : ℕ) (o : Open A) (n : Next ℕ) (v : Option A) (es : List (Effect A)) (m : ℕ)
     → FewSteps busy o m longest → (busy ≡ 1 → Falls g n m) → (is_wait_free o.call ≡ true → Falls g n m) → Ends g p (queue_of g ∷ o.moments) n v o.call es
     → ChainGoes A Stands busy s (queue_of g) g p (after_own busy o (queue_of g) es) (running_after n v) (reply_after n v)
-goes_on {A} Stands busy s g p o (next.Step l t x) v es m few falls hurry ends =
+goes_on {A} Stands busy s g p o (Next.Step l t x) v es m few falls hurry ends =
     let less = few_own busy o (queue_of g) es m (rank g l) longest (rank_small g l) falls hurry few in
     (record { here = ends.0; spares = ends.1; few = less }, few_stays busy (after_own busy o (queue_of g) es) (rank g l) longest (omega arith) (rank_some g l) (chain_begun ends.0) less)
-goes_on {A} Stands busy s g p o (next.Reply x spare) v es m few falls hurry ends =
+goes_on {A} Stands busy s g p o (Next.Reply x spare) v es m few falls hurry ends =
     let y = ends.2 in
     rw y.1 ((ends.0, ends.1), (y.2, λ e. allowed_in o.call y.0 (queue_of g ∷ o.moments) (y.3 e)))
 
 -- the block that a reply gives up makes no difference to the count
 falls_left : {A : Type 0} (r : Chain A) (n : Next ℕ) (m : ℕ) → Falls r n m → Falls (left_by r n) n m
-falls_left r (next.Step l t o) m h = h
-falls_left r (next.Reply x spare) m h = tt
+falls_left r (Next.Step l t o) m h = h
+falls_left r (Next.Reply x spare) m h = tt
 
 -- where a call stands after the step that got this answer
 pub chain_goes : {A : Type 0} (Stands : Shared A → State A → Chain A → Type 0) (busy : ℕ) (s t : Shared A) (Q : State A) (g : Chain A) (p : ℕ) (x : Running A) (o : Open A) (a : Answer ℕ)
@@ -104,13 +96,7 @@ fresh s Q g p k x here spares busy = record {
 }
 
 pub chain_begins : {A : Type 0} (Stands : Shared A → State A → Chain A → Type 0) (s : Shared A) (Q : State A) (g : Chain A) (p : ℕ) (k : Call A) → Q.cap ≡ None → ChainIdle g p
-    → ChainBegins A Stands s Q g p k (start_of queue.Unbounded k).call (start_of queue.Unbounded k).reply
-chain_begins Stands s Q g p (call.Push v) open_ended idle = (refl, fresh s Q g p (call.Push v) _ (at_begun g p [] (call.Push v) idle.0) idle.1)
-chain_begins Stands s Q g p (call.ForcePush v) open_ended idle = (refl, fresh s Q g p (call.ForcePush v) _ (at_begun g p [] (call.ForcePush v) idle.0) idle.1)
-chain_begins Stands s Q g p call.Pop open_ended idle = (refl, fresh s Q g p call.Pop _ (at_begun g p [] call.Pop idle.0) idle.1)
-chain_begins Stands s Q g p call.Close open_ended idle = (refl, fresh s Q g p call.Close _ (at_begun g p [] call.Close idle.0) idle.1)
-chain_begins Stands s Q g p call.IsClosed open_ended idle = (refl, fresh s Q g p call.IsClosed _ (at_begun g p [] call.IsClosed idle.0) idle.1)
-chain_begins Stands s Q g p call.IsEmpty open_ended idle = (refl, fresh s Q g p call.IsEmpty _ (at_begun g p [] call.IsEmpty idle.0) idle.1)
-chain_begins Stands s Q g p call.Len open_ended idle = (refl, fresh s Q g p call.Len _ (at_begun g p [] call.Len idle.0) idle.1)
-chain_begins Stands s Q g p call.IsFull open_ended idle = (refl, rw open_ended refl)
-chain_begins Stands s Q g p call.Capacity open_ended idle = (refl, sym open_ended)
+    → ChainBegins A Stands s Q g p k (start_of Kind.Unbounded k).call (start_of Kind.Unbounded k).reply
+chain_begins Stands s Q g p Call.IsFull open_ended idle = (refl, rw open_ended refl)
+chain_begins Stands s Q g p Call.Capacity open_ended idle = (refl, sym open_ended)
+chain_begins Stands s Q g p k open_ended idle = (refl, fresh s Q g p k _ (at_begun g p [] k idle.0) idle.1)

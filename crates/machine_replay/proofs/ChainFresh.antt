@@ -1,8 +1,8 @@
 -- A block that was just granted stands for a block of the chain that nobody has touched.
 use Rattle.std.proofs.Common.{ℕ, ◌+◌, ◌*◌, ◌≤◌, ◌≡◌, ◌≢◌, not, ◌∙◌, inl, inr, zero, suc, Some, None, refl, sym, ap, subst, arith}
 use Rattle.std.proofs.lemmas.List.{get_or-replicate, length-replicate}
-use Rattle.queue_steps.specs.declared.sizes.TheConstants.{BLOCK_SLOTS}
-use Rattle.law_chain.specs.ChainCells.{Free, Unread, Done, Mover, Rests, Laying, Opening, LinkState, Unlinked, Linking, Linked, Walk, Before, Walker, Waits, GivenUp, Chain, BlocksOk, LinkOk, WalkOk, ChainOk, item_at, LAST}
+use Rattle.machine_replay.specs.Vocabulary.{BLOCK_SLOTS}
+use Rattle.law_chain.specs.ChainCells.{Free, Unread, Done, Mover, Rests, LinkState, Linked, Walk, Before, GivenUp, Chain, BlocksOk, LinkOk, WalkOk, ChainOk, item_at, LAST}
 use Rattle.law_chain.proofs.ChainTransitions.{item_free}
 use Rattle.law_chain.specs.ChainAnswers.{last_of, linked_of, is_wrote, is_done, waits_at, IsState}
 use Rattle.machine_steps.specs.Blocks.{blank, fresh_block}
@@ -12,8 +12,7 @@ use Rattle.machine_replay.proofs.ChainCodes.{BlockIs, lies}
 pub next_high : (tail blocks : ℕ) (m : Mover) → BlocksOk tail blocks m → tail ≤ blocks * BLOCK_SLOTS
 next_high tail blocks Rests (inl h) = let e = h.0 in omega arith
 next_high tail blocks Rests (inr e) = omega arith
-next_high tail blocks (Laying who) h = let e = h.1 in omega arith
-next_high tail blocks (Opening who) h = let e = h.1 in omega arith
+next_high tail blocks m h = let e = h.1 in omega arith
 
 pub block_free : {A : Type 0} (c : Chain A) (i : ℕ) → ChainOk c → (c.writers (item_at c.blocks i) ≡ Free) × (c.readers (item_at c.blocks i) ≡ Unread)
 block_free c i ok = item_free c (item_at c.blocks i) ok (let h = next_high c.tail c.blocks c.mover ok.laid in omega arith)
@@ -24,9 +23,8 @@ unwalked {A} c b ok unread = go (c.walks b) refl (ok.walk b)
   where
     go : (w : Walk) → c.walks b ≡ w → WalkOk c.readers b w → c.walks b ≡ Before
     go Before e h = e
-    go (Walker who i) e h = absurd (unread h.1.0)
-    go (Waits i) e h = absurd (unread h.1.0)
     go GivenUp e h = absurd (unread h.0)
+    go w e h = absurd (unread h.1.0)
 
 next_unwalked : {A : Type 0} (c : Chain A) → ChainOk c → c.walks c.blocks ≡ Before
 next_unwalked c ok = unwalked c c.blocks ok (λ e. let z : Unread ≡ Done = sym (block_free c LAST ok).1 ∙ e in cc)
@@ -36,9 +34,8 @@ pub unlinked : {A : Type 0} (c : Chain A) (b : ℕ) (name : ℕ) → ChainOk c �
 unlinked {A} c b name ok high = go (c.links b) (ok.link b)
   where
     go : (l : LinkState) → LinkOk c.blocks b l → linked_of l name ≡ None
-    go Unlinked h = refl
-    go (Linking who) h = refl
     go Linked h = absurd (omega arith)
+    go l h = refl
 
 -- a fresh block stands for the next one, of a chain with the same items and walks
 pub fresh_is : {A : Type 0} (c s : Chain A) → ChainOk c → s.writers ≡ c.writers → s.readers ≡ c.readers → s.walks ≡ c.walks → linked_of (s.links c.blocks) (s.names (c.blocks + 1)) ≡ None

@@ -2,14 +2,8 @@
 use Rattle.std.proofs.Common.{◌≡◌, ◌∙◌, ℕ, suc, ◌+◌, ◌-◌, ◌<◌, ◌≤◌, Option, Some, None, List, [], ◌∷◌, ◌++◌, length, refl, sym, ap, arith, append_assoc, append-nil, length-append}
 use Rattle.std.proofs.lemmas.List.{length-set}
 use Rattle.queue_steps.specs.ChainWords.{offset_of}
-use Rattle.queue_steps.specs.declared.steps.types.Local.{Local}
-use Rattle.queue_steps.specs.declared.steps.types.Local.TheVariants as local
-use Rattle.queue_steps.specs.declared.steps.types.Op.{Op}
-use Rattle.queue_steps.specs.declared.steps.types.Touch.{Touch}
-use Rattle.queue_steps.specs.declared.steps.types.Touch.TheVariants as touch
-use Rattle.queue_steps.specs.declared.steps.unbounded.UnboundedLocal.{UnboundedLocal}
+use Rattle.machine_replay.specs.Vocabulary.{Op, Touch, Local, UnboundedLocal, Running}
 use Rattle.queue_steps.specs.declared.steps.unbounded.UnboundedLocal.TheVariants as chain
-use Rattle.machine_steps.specs.declared.machine.Running.{Running}
 use Rattle.machine_steps.specs.SharedMemory.{block_touched}
 use Rattle.machine_steps.specs.Blocks.{Block, put_item, without}
 use Rattle.machine_steps.specs.ChainLeft.{laid, marked, reached, settled_at, settled_by, settled_blocks, front_at, settled_front, unread_at, behind_at, chained, chain_left}
@@ -63,17 +57,15 @@ marked-length : {T : Type 0} (block slot : ℕ) (bs : List (Option (Block T))) �
 marked-length block slot bs = length-set bs block _
 
 reached-length : {T : Type 0} (t : Touch) (b : Option ℕ) (v : Option T) (bs : List (Option (Block T))) → length (reached t b v bs) ≡ length bs
-reached-length (touch.Put i) (Some b) v bs = item-length bs b i v
-reached-length (touch.Take i) (Some b) v bs = marked-length b i bs
-reached-length (touch.Swap i) (Some b) v bs = refl
-reached-length touch.Nothing (Some b) v bs = refl
+reached-length (Touch.Put i) (Some b) v bs = item-length bs b i v
+reached-length (Touch.Take i) (Some b) v bs = marked-length b i bs
+reached-length (Touch.Swap i) (Some b) v bs = refl
+reached-length Touch.Nothing (Some b) v bs = refl
 reached-length t None v bs = nothing t
   where
     nothing : (t : Touch) → length (reached t None v bs) ≡ length bs
-    nothing touch.Nothing = refl
-    nothing (touch.Put i) = refl
-    nothing (touch.Swap i) = refl
-    nothing (touch.Take i) = refl
+    nothing Touch.Nothing = refl
+    nothing t = refl
 
 at-length : {T : Type 0} (l : UnboundedLocal ℕ) (t : Touch) (b : Option ℕ) (v : Option T) (bs : List (Option (Block T))) → length (settled_at l t b v bs) ≡ length bs
 at-length (chain.Laying p tail block fresh) t b v bs = laid-length tail block fresh v bs
@@ -84,34 +76,11 @@ at-length (chain.Peeking head block after) t b v bs = marked-length block (offse
 at-length (chain.Passing head block more) t b v bs = marked-length block (offset_of head) bs
 at-length (chain.Entering head block) t b v bs = marked-length block (offset_of head) bs
 at-length (chain.Awaiting head block) t b v bs = marked-length block (offset_of head) bs
-at-length (chain.PushTail p spare) t b v bs = reached-length t b v bs
-at-length (chain.PushBlock p tail spare) t b v bs = reached-length t b v bs
-at-length (chain.Asking p tail block) t b v bs = reached-length t b v bs
-at-length (chain.Installing p tail fresh) t b v bs = reached-length t b v bs
-at-length (chain.Showing p tail block) t b v bs = reached-length t b v bs
-at-length (chain.Claiming p tail block spare) t b v bs = reached-length t b v bs
-at-length (chain.Writing p spare) t b v bs = reached-length t b v bs
-at-length (chain.ClosingAtLimit p spare) t b v bs = reached-length t b v bs
-at-length chain.PopHead t b v bs = reached-length t b v bs
-at-length (chain.PopBlock head) t b v bs = reached-length t b v bs
-at-length (chain.PopTail head block) t b v bs = reached-length t b v bs
-at-length (chain.Taking head block) t b v bs = reached-length t b v bs
-at-length (chain.Reading block slot) t b v bs = reached-length t b v bs
-at-length (chain.Walking block slot) t b v bs = reached-length t b v bs
-at-length (chain.Destroying block slot) t b v bs = reached-length t b v bs
-at-length chain.LenTail t b v bs = reached-length t b v bs
-at-length (chain.LenHead tail) t b v bs = reached-length t b v bs
-at-length (chain.LenAgain tail head) t b v bs = reached-length t b v bs
-at-length chain.EmptyHead t b v bs = reached-length t b v bs
-at-length (chain.EmptyTail head) t b v bs = reached-length t b v bs
-at-length chain.Closing t b v bs = reached-length t b v bs
-at-length chain.ClosedTail t b v bs = reached-length t b v bs
+at-length l t b v bs = reached-length t b v bs
 
 by-length : {T : Type 0} (l : Local ℕ) (t : Touch) (o : Op ℕ) (v : Option T) (bs : List (Option (Block T))) → length (settled_by l t o v bs) ≡ length bs
-by-length (local.Unbounded l) t o v bs = at-length l t (block_touched o) v bs
-by-length (local.Begin c) t o v bs = refl
-by-length (local.Single l) t o v bs = refl
-by-length (local.Bounded l) t o v bs = refl
+by-length (Local.Unbounded l) t o v bs = at-length l t (block_touched o) v bs
+by-length l t o v bs = refl
 
 pub blocks-length : {T : Type 0} (calls : List (Option (Running T))) (bs : List (Option (Block T))) → length (settled_blocks calls bs) ≡ length bs
 blocks-length [] bs = refl

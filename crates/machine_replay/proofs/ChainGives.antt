@@ -1,14 +1,10 @@
 -- A block that is there, and one that is given up with a reply.
-use Rattle.std.proofs.Common.{ℕ, ◌/◌, ◌%◌, ◌<◌, ◌≡◌, ◌≢◌, ◌==◌, ◌∙◌, ◌⊎◌, inl, inr, true, false, Option, Some, None, List, length, refl, sym, ap, subst, arith, get_or, set, get_or-set_same, get_or-set_other}
+use Rattle.std.proofs.Common.{ℕ, ◌<◌, ◌≡◌, ◌≢◌, ◌∙◌, inl, inr, Option, Some, None, List, length, refl, sym, ap, subst, arith, get_or, set, get_or-set_same, get_or-set_other}
 use Rattle.std.proofs.lemmas.List.{get_or_past, length-set}
 use Rattle.std.proofs.lemmas.Bool.Decides.{eqb_tells}
 use Rattle.std.proofs.lemmas.Bool.{cases_lt}
-use Rattle.queue_steps.specs.declared.sizes.TheConstants.{BLOCK_SLOTS}
-use Rattle.queue_steps.specs.declared.steps.types.Answer.TheVariants as answer
-use Rattle.queue_steps.specs.declared.steps.types.Next.{Next}
-use Rattle.queue_steps.specs.declared.steps.types.Next.TheVariants as next
-use Rattle.law_chain.specs.ChainCells.{Done, GivenUp, Chained, Chain, IsWalked, WalkOk, ChainOk, item_at, LAST}
-use Rattle.law_chain.proofs.ChainReads.{own_item}
+use Rattle.machine_replay.specs.Vocabulary.{Answer, Next, BLOCK_SLOTS}
+use Rattle.law_chain.specs.ChainCells.{Done, GivenUp, Chained, Chain, ChainOk, item_at, LAST}
 use Rattle.law_chain.specs.ChainFacts.{IsNamed}
 use Rattle.law_chain.specs.ChainAnswers.{IsState, StateAnswers}
 use Rattle.law_chain.proofs.ChainRight.{Gives}
@@ -28,17 +24,6 @@ held_of {c = c} {blocks = blocks} b f ok named codes = (name_of c b f (get_or bl
 pub block_at : {A : Type 0} {c : Chain A} {head tail : ℕ} {front last : Option ℕ} {blocks : List (Option (Block A))} (b f : ℕ) → ChainOk c → IsNamed c b f → c.walks b ≢ GivenUp → Codes c head tail front last blocks
     → (x : Block A) × (get_or blocks f None ≡ Some x) × BlockIs c b x.places x.next
 block_at {c = c} {blocks = blocks} b f ok named on codes = alive_of c b (get_or blocks f None) on (held_of b f ok named codes)
-
--- the block of an item that is not read is not given up
-pub unread_on : {A : Type 0} (c : Chain A) (n : ℕ) → ChainOk c → c.readers n ≢ Done → c.walks (n / BLOCK_SLOTS) ≢ GivenUp
-unread_on {A} c n ok unread over = unread (go (eqb_tells (n % BLOCK_SLOTS) LAST))
-  where
-    walked : IsWalked c.readers (n / BLOCK_SLOTS) LAST
-    walked = subst (λ w. WalkOk c.readers (n / BLOCK_SLOTS) w) over (ok.walk (n / BLOCK_SLOTS))
-
-    go : (((n % BLOCK_SLOTS == LAST) ≡ true) × (n % BLOCK_SLOTS ≡ LAST)) ⊎ (((n % BLOCK_SLOTS == LAST) ≡ false) × (n % BLOCK_SLOTS ≢ LAST)) → c.readers n ≡ Done
-    go (inl t) = ap c.readers (sym (own_item n) ∙ ap (λ i. item_at (n / BLOCK_SLOTS) i) t.1) ∙ walked.0
-    go (inr t) = ap c.readers (sym (own_item n)) ∙ walked.1 (n % BLOCK_SLOTS) (let ne = t.1 in omega arith)
 
 -- a number that has no block has none once it is given up again
 codes_reset : {A : Type 0} {c : Chain A} {head tail : ℕ} {front last : Option ℕ} {blocks : List (Option (Block A))} (f : ℕ) → get_or blocks f None ≡ None → Codes c head tail front last blocks → Codes c head tail front last (set blocks f None)
@@ -63,12 +48,12 @@ codes_reset {A} {c = c} {blocks = blocks} f none codes = record {
 -- the block that a call gives up where it replies
 pub codes_left : {A : Type 0} {c : Chain A} {head tail : ℕ} {front last : Option ℕ} {blocks : List (Option (Block A))} (who : ℕ) (n : Next ℕ) → ChainOk c → Gives c who n → Codes c head tail front last blocks
     → Codes (left_by c n) head tail front last (without (spare_in n) blocks)
-codes_left who (next.Step l t o) ok gives codes = codes
-codes_left who (next.Reply x None) ok gives codes = codes
-codes_left {c = c} {blocks = blocks} who (next.Reply x (Some f)) ok (inl spare) codes =
+codes_left who (Next.Step l t o) ok gives codes = codes
+codes_left who (Next.Reply x None) ok gives codes = codes
+codes_left {c = c} {blocks = blocks} who (Next.Reply x (Some f)) ok (inl spare) codes =
     let fresh : get_or blocks f None ≡ Some fresh_block = subst (λ u. NameIs c f u (get_or blocks f None)) spare (codes.name f) in
     codes_given_spare who f spare (changed_set blocks f None (there blocks f fresh_block fresh)) codes
-codes_left {c = c} {blocks = blocks} who (next.Reply x (Some f)) ok (inr (b, named, over)) codes =
+codes_left {c = c} {blocks = blocks} who (Next.Reply x (Some f)) ok (inr (b, named, over)) codes =
     let none : get_or blocks f None ≡ None = elim (held_of b f ok named codes) [ inl h ↦ h.1 | inr h ↦ absurd (h.0 over) ] in
     codes_reset f none (codes_given_block b f (ap c.uses named.1 ∙ ok.name b named.0) codes)
 
@@ -82,6 +67,6 @@ has_place bs b f i x is block low = subst (λ y. i < length (places_in y)) (sym 
 
 -- what the state of a slot answers
 pub state_answers : {A : Type 0} {c : Chain A} (bs : List (Option (Block A))) (b f i n : ℕ) (x : Block A) → ChainOk c → IsNamed c b f → BlockIs c b x.places x.next → i < BLOCK_SLOTS → (i ≡ LAST → c.readers (item_at b i) ≢ Done)
-    → n ≡ (place_in x i).state → StateAnswers c f i (answer.Found n)
+    → n ≡ (place_in x i).state → StateAnswers c f i (Answer.Found n)
 state_answers {c = c} bs b f i n x ok named block low unread is j other =
     (n, refl, subst (λ k. IsState c k i n) (sym (one_block c b j f ok named other)) (subst (λ m. IsState c b i m) (sym is) (block.state i low unread)))

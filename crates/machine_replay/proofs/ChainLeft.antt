@@ -4,14 +4,12 @@ use Rattle.std.proofs.lemmas.Bool.{ltb-true, ltb-false}
 use Rattle.std.proofs.lemmas.Bool.Decides.{eqb_tells}
 use Rattle.std.proofs.lemmas.List.{drop_all}
 use Rattle.queue_steps.specs.State.{State}
-use Rattle.queue_steps.specs.declared.sizes.TheConstants.{BLOCK_SLOTS}
-use Rattle.queue_steps.specs.declared.steps.types.Kind.TheVariants as kind
+use Rattle.machine_replay.specs.Vocabulary.{Kind, BLOCK_SLOTS, Running}
 use Rattle.law_chain.specs.ChainCells.{Reading, Done, Passer, Stands, Passing, Entering, Shown, Hidden, Showing, Seen, GivenUp, Before, Unused, Spare, Chained, Chain, ChainOk, FrontOk, ShownOk, item_at, LAST, Head, passer_of}
 use Rattle.law_chain.proofs.ChainTransitions.{no_block}
 use Rattle.law_chain.proofs.ChainCount.{number_of}
 use Rattle.law_chain.proofs.ChainSpan.{not_done}
 use Rattle.law_chain.proofs.Count.{count_all, count_into}
-use Rattle.machine_steps.specs.declared.machine.Running.{Running}
 use Rattle.machine_steps.specs.Blocks.{Block, fresh_block, places_in, behind_in, without}
 use Rattle.machine_replay.specs.Book.{Book}
 use Rattle.machine_steps.specs.SharedMemory.{Shared}
@@ -102,9 +100,8 @@ walk {A} g calls blocks bs start k (suc fuel) b w low left enough agrees =
 
 -- the blocks from that which the poppers see on are there
 front_low : (head front : ℕ) (p : Passer) → FrontOk head front p → front * BLOCK_SLOTS ≤ head
-front_low head front Stands h = omega arith
-front_low head front (Passing who) h = omega arith
 front_low head front (Entering who) h = let at = h.0 in omega arith
+front_low head front p h = omega arith
 
 -- a block from there on is not given up: its last item is in the list, or who passes it is to read that
 not_over : {A : Type 0} (g : Chain A) (calls : List (Option (Running A))) (b : ℕ) → ChainOk g → AllStand g calls → g.front ≤ b → g.walks b ≢ GivenUp
@@ -162,7 +159,7 @@ walk_from s Q g calls holds each lt =
     ∙ ap (λ k. drop k g.items) (let e : g.front * BLOCK_SLOTS - g.head ≡ 0 = omega arith in e)
 
 -- the list that is left is the queue's
-pub chain_left : {A : Type 0} (w : World (Shared A) (Running A)) (b : Book A) (g : Chain A) → ChainHolds w.shared b.queue g → ((p : ℕ) → StandsAt g p (call_at w p)) → left_of kind.Unbounded w ≡ b.queue.items
+pub chain_left : {A : Type 0} (w : World (Shared A) (Running A)) (b : Book A) (g : Chain A) → ChainHolds w.shared b.queue g → ((p : ℕ) → StandsAt g p (call_at w p)) → left_of Kind.Unbounded w ≡ b.queue.items
 chain_left {A} w b g holds each =
     ap (λ y. chained (length w.shared.blocks) (settled_blocks w.calls w.shared.blocks) y) (front_is g w.calls w.shared.head_block holds.ok each holds.codes.front_is)
     ∙ (go g.shown refl holds.ok.seen ∙ sym (ap (λ q. q.items) holds.queue_is))

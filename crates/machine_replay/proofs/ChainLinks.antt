@@ -1,12 +1,11 @@
 -- How the blocks are linked once every call in progress has done what it has claimed, and which block is the first.
 use Rattle.std.proofs.Common.{ℕ, suc, zero, ◌+◌, ◌-◌, ◌/◌, ◌<◌, ◌≡◌, ◌≢◌, ◌∙◌, ◌⊎◌, inl, inr, Option, Some, None, List, [], ◌∷◌, length, refl, sym, ap, subst, get_or, arith}
 use Rattle.std.proofs.lemmas.List.{get_or-replicate, length-replicate}
-use Rattle.queue_steps.specs.declared.sizes.TheConstants.{BLOCK_SLOTS}
+use Rattle.machine_replay.specs.Vocabulary.{BLOCK_SLOTS, Running}
 use Rattle.law_chain.specs.ChainCells.{Mover, Rests, Laying, Opening, LinkState, Unlinked, Linking, Linked, Shown, Hidden, Showing, Seen, Spare, Chained, Chain, ChainOk, LinkOk, Next, First, Tail, mover_of, linker_of, shower_of}
 use Rattle.law_chain.specs.ChainAnswers.{linked_of, shown_of}
 use Rattle.law_chain.specs.ChainPasses.{spare_in, Spares}
 use Rattle.machine_steps.specs.declared.blocks.Place.{Place}
-use Rattle.machine_steps.specs.declared.machine.Running.{Running}
 use Rattle.machine_steps.specs.Blocks.{Block, blank, fresh_block}
 use Rattle.machine_steps.specs.ChainLeft.{unread, settled_front, front_at}
 use Rattle.machine_replay.proofs.ChainCodes.{BlockIs}
@@ -66,8 +65,7 @@ last_next {A} g calls b x ok each last is = go g.mover refl
   where
     unlinked : (l : LinkState) → LinkOk g.blocks b l → (linked_of l (g.names (b + 1)) ≡ None) × ((q : ℕ) → l ≢ Linking q)
     unlinked Unlinked h = (refl, λ q e. cc)
-    unlinked (Linking q) h = absurd (omega arith)
-    unlinked Linked h = absurd (omega arith)
+    unlinked l h = absurd (omega arith)
 
     none : x.next ≡ None
     none = is.linked ∙ (unlinked (g.links b) (ok.link b)).0
@@ -104,14 +102,13 @@ last_next {A} g calls b x ok each last is = go g.mover refl
 
 -- nothing is done to a spare
 spare_apart : {A : Type 0} (g : Chain A) (q f p : ℕ) (d : Deed A) (X : Type 0) → ChainOk g → g.uses f ≡ Spare p → IsClaimed g q d → ((i : ℕ) (y : Option A) → PutsAt d f i y → X) × ((h : ℕ) → LinksTo d f h → X)
-spare_apart g q f p Rest X ok spare claimed = (λ i y z. absurd z, λ h z. absurd z)
-spare_apart g q f p (Reads b j) X ok spare claimed = (λ i y z. absurd z, λ h z. absurd z)
 spare_apart g q f p (Puts b j x) X ok spare (n, v, mine, slot, is) =
     (λ i y z. let twice : Chained (n / BLOCK_SLOTS) ≡ Spare p = sym (ok.name (n / BLOCK_SLOTS) slot.0.0) ∙ (ap g.uses (sym slot.0.1 ∙ z.0) ∙ spare) in cc, λ h z. absurd z)
 spare_apart g q f p (Lays b j x fresh) X ok spare (n, v, mine, slot, is, laid) = (
   λ i y z. let twice : Chained (n / BLOCK_SLOTS) ≡ Spare p = sym (ok.name (n / BLOCK_SLOTS) slot.0.0) ∙ (ap g.uses (sym slot.0.1 ∙ z.0) ∙ spare) in cc,
   λ h z. let twice : Chained (n / BLOCK_SLOTS) ≡ Spare p = sym (ok.name (n / BLOCK_SLOTS) slot.0.0) ∙ (ap g.uses (sym slot.0.1 ∙ z.0) ∙ spare) in cc,
 )
+spare_apart g q f p d X ok spare claimed = (λ i y z. absurd z, λ h z. absurd z)
 
 -- a spare is empty, and the last
 pub spare_empty : {A : Type 0} (g : Chain A) (calls : List (Option (Running A))) (f p : ℕ) → ChainOk g → AllStand g calls → g.uses f ≡ Spare p → (unread (all_done calls f (fresh_block {T = A})).places ≡ []) × ((all_done calls f (fresh_block {T = A})).next ≡ None)
@@ -141,11 +138,10 @@ front_kept (None ∷ calls) Q keeps x q = front_kept calls Q (λ p r e. keeps (s
 front_kept (Some r ∷ calls) Q keeps x q = front_kept calls Q (λ p s e. keeps (suc p) s e) (front_at r.local x) (keeps 0 r refl x q)
 
 front_made : {A : Type 0} (calls : List (Option (Running A))) (Q : Option ℕ → Type 0) → ((p : ℕ) (r : Running A) → get_or calls p None ≡ Some r → (x : Option ℕ) → Q x → Q (front_at r.local x)) → (p : ℕ) (r : Running A) → get_or calls p None ≡ Some r → ((x : Option ℕ) → Q (front_at r.local x)) → (x : Option ℕ) → Q (settled_front calls x)
-front_made [] Q keeps p r e made x = cc
-front_made (None ∷ calls) Q keeps zero r e made x = cc
 front_made (None ∷ calls) Q keeps (suc p) r e made x = front_made calls Q (λ j s h. keeps (suc j) s h) p r e made x
 front_made (Some y ∷ calls) Q keeps zero r e made x = let same : y ≡ r = cc in front_kept calls Q (λ j s h. keeps (suc j) s h) (front_at y.local x) (subst (λ s. Q (front_at s.local x)) (sym same) (made x))
 front_made (Some y ∷ calls) Q keeps (suc p) r e made x = front_made calls Q (λ j s h. keeps (suc j) s h) p r e made (front_at y.local x)
+front_made calls Q keeps p r e made x = cc
 
 -- the block that the poppers see once it is shown
 abbrev pub front_then : Shown → (ℕ → ℕ) → ℕ → Option ℕ

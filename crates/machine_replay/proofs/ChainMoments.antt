@@ -3,27 +3,13 @@ use Rattle.std.proofs.Common.{ℕ, ◌≡◌, ◌==◌, true, Option, Ok, Err, L
 use Rattle.std.specs.List.{Any}
 use Rattle.queue_steps.specs.State.{State}
 use Rattle.queue_steps.specs.Words.{is_shut}
-use Rattle.queue_steps.specs.declared.model.Call.{Call}
-use Rattle.queue_steps.specs.declared.model.Reply.{Reply}
-use Rattle.queue_steps.specs.declared.model.Reply.TheVariants as reply
-use Rattle.queue_steps.specs.declared.model.Effect.{Effect}
-use Rattle.queue_steps.specs.declared.model.Effect.TheVariants as effect
-use Rattle.queue_steps.specs.declared.errors.PopError.TheVariants as pop
-use Rattle.queue_steps.specs.declared.steps.types.Answer.{Answer}
-use Rattle.queue_steps.specs.declared.steps.types.Answer.TheVariants as answer
-use Rattle.queue_steps.specs.declared.steps.types.Kind.TheVariants as queue
-use Rattle.queue_steps.specs.declared.steps.types.Local.{Local}
-use Rattle.queue_steps.specs.declared.steps.types.Local.TheVariants as local
-use Rattle.queue_steps.specs.declared.steps.types.Op.{Op}
-use Rattle.queue_steps.specs.declared.steps.types.Touch.{Touch}
-use Rattle.queue_steps.specs.declared.steps.unbounded.UnboundedLocal.{UnboundedLocal}
+use Rattle.machine_replay.specs.Vocabulary.{Call, Reply, Effect, PopError, Kind, Op, Touch, Answer, Local, UnboundedLocal, EffectKind}
 use Rattle.queue_steps.specs.declared.steps.unbounded.UnboundedLocal.TheVariants as chain
 use Rattle.law_common.specs.Moments.{SeenIn}
 use Rattle.law_common.specs.Effects.{Leads, with_effect}
 use Rattle.law_chain.specs.ChainCells.{Chain, queue_of}
 use Rattle.law_chain.specs.ChainAt.{At, push_tail, push_block, asking, installing, showing, claiming, laying, opening, chaining, writing, spending, pop_head, pop_block, pop_tail, taking, following, peeking, passing, entering, awaiting, reading, beginning, walking, destroying, len_tail, len_head, len_again, empty_head, empty_tail, closing, closed_tail}
 use Rattle.law_chain.proofs.ChainGood.{IsEffect}
-use Rattle.machine_steps.specs.declared.types.EffectKind.TheVariants as told
 use Rattle.machine_replay.specs.Book.{Open, Moves, Allows, IsBegun}
 use Rattle.machine_steps.specs.EffectOf.{effect_of}
 use Rattle.machine_replay.proofs.Moments.{any_in, begun_push}
@@ -42,36 +28,33 @@ chain_begun (opening d x n name f holds mine opens links named) = (begun_push d 
 chain_begun (chaining d x n name f holds mine links named) = (begun_push d x).1
 chain_begun (writing d x n name spare holds mine spare_is) = (begun_push d x).1
 chain_begun (spending d x spare none spare_is spent) = (begun_push d x).0
-chain_begun (pop_head none) = (reply.Pop (Err pop.Empty), [], refl)
-chain_begun (pop_block n more none is room) = (reply.Pop (Err pop.Empty), [], refl)
-chain_begun (pop_tail n block none is front) = (reply.Pop (Err pop.Empty), [], refl)
-chain_begun (taking n name next more new none is front there word_is room) = (reply.Pop (Err pop.Empty), [], refl)
-chain_begun (following x n name more holds got pass) = (reply.Pop (Ok x), [], refl)
-chain_begun (peeking x n name after more holds got pass behind) = (reply.Pop (Ok x), [], refl)
-chain_begun (passing x n name after more further holds got pass behind room) = (reply.Pop (Ok x), [], refl)
-chain_begun (entering x n name more further holds got enters room) = (reply.Pop (Ok x), [], refl)
-chain_begun (awaiting x n name more holds got) = (reply.Pop (Ok x), [], refl)
-chain_begun (reading x n name more holds got wrote inner) = (reply.Pop (Ok x), [], refl)
-chain_begun (beginning x n name more holds got wrote last) = (reply.Pop (Ok x), [], refl)
-chain_begun (walking x b name slot holds is named) = (reply.Pop (Ok x), [], refl)
-chain_begun (destroying x b name slot holds is named) = (reply.Pop (Ok x), [], refl)
-chain_begun (len_tail none) = (reply.Len 0, [], refl)
-chain_begun (len_head w none small low) = (reply.Len 0, [], refl)
-chain_begun (len_again w h none small seen) = (reply.Len 0, [], refl)
-chain_begun (empty_head none) = (reply.IsEmpty true, [], refl)
-chain_begun (empty_tail h none small saw) = (reply.IsEmpty true, [], refl)
-chain_begun (closing none) = (reply.Close true, effect.Close ∷ [], refl)
-chain_begun (closed_tail none) = (reply.IsClosed true, [], refl)
+chain_begun (following x n name more holds got pass) = (Reply.Pop (Ok x), [], refl)
+chain_begun (peeking x n name after more holds got pass behind) = (Reply.Pop (Ok x), [], refl)
+chain_begun (passing x n name after more further holds got pass behind room) = (Reply.Pop (Ok x), [], refl)
+chain_begun (entering x n name more further holds got enters room) = (Reply.Pop (Ok x), [], refl)
+chain_begun (awaiting x n name more holds got) = (Reply.Pop (Ok x), [], refl)
+chain_begun (reading x n name more holds got wrote inner) = (Reply.Pop (Ok x), [], refl)
+chain_begun (beginning x n name more holds got wrote last) = (Reply.Pop (Ok x), [], refl)
+chain_begun (walking x b name slot holds is named) = (Reply.Pop (Ok x), [], refl)
+chain_begun (destroying x b name slot holds is named) = (Reply.Pop (Ok x), [], refl)
+chain_begun (len_tail none) = (Reply.Len 0, [], refl)
+chain_begun (len_head w none small low) = (Reply.Len 0, [], refl)
+chain_begun (len_again w h none small seen) = (Reply.Len 0, [], refl)
+chain_begun (empty_head none) = (Reply.IsEmpty true, [], refl)
+chain_begun (empty_tail h none small saw) = (Reply.IsEmpty true, [], refl)
+chain_begun (closing none) = (Reply.Close true, Effect.Close ∷ [], refl)
+chain_begun (closed_tail none) = (Reply.IsClosed true, [], refl)
+chain_begun x = (Reply.Pop (Err PopError.Empty), [], refl)
 
 pub allowed_in : {A : Type 0} (k : Call A) (y : Reply A) (ms : List (State A)) → SeenIn ms (Allows k y) → Any (Allows k y) ms
 allowed_in k y ms seen = any_in ms (Allows k y) (Allows k y) (λ m right. right) seen
 
 -- the effect that is told of a step moves the queue
 pub chain_moves : {A : Type 0} (Q : State A) (c s : Chain A) (o : Open A) (l : UnboundedLocal ℕ) (a : Answer ℕ) (e : Option (Effect A)) → Q ≡ queue_of c → IsEffect l a e → Leads (queue_of c) e (queue_of s)
-    → Moves Q o (effect_of queue.Unbounded (local.Unbounded l) a) (queue_of s) (with_effect o.effects e)
-chain_moves Q c s o (chain.Claiming d tail name spare) (answer.Found found) e is h makes = won Q (queue_of c) (queue_of s) o e told.Append (found == tail) is tt (appends (found == tail) e h) makes
-chain_moves Q c s o (chain.ClosingAtLimit d spare) (answer.Found found) e is h makes = marked Q (queue_of c) (queue_of s) o e effect.SelfClose told.SelfClose (is_shut found) is refl tt h makes
-chain_moves Q c s o (chain.Taking head name) (answer.Found found) e is h makes = won Q (queue_of c) (queue_of s) o e told.Take (found == head) is tt (takes (found == head) e h) makes
-chain_moves Q c s o chain.Closing (answer.Found found) e is h makes = marked Q (queue_of c) (queue_of s) o e effect.Close told.Close (is_shut found) is refl tt h makes
-chain_moves Q c s o _ (answer.Found found) e is h makes = no_move Q (queue_of c) (queue_of s) o e is h makes
-chain_moves Q c s o _ _ e is h makes = no_move Q (queue_of c) (queue_of s) o e is h makes
+    → Moves Q o (effect_of Kind.Unbounded (Local.Unbounded l) a) (queue_of s) (with_effect o.effects e)
+chain_moves Q c s o (chain.Claiming d tail name spare) (Answer.Found found) e is h makes = won Q (queue_of c) (queue_of s) o e EffectKind.Append (found == tail) is tt (appends (found == tail) e h) makes
+chain_moves Q c s o (chain.ClosingAtLimit d spare) (Answer.Found found) e is h makes = marked Q (queue_of c) (queue_of s) o e Effect.SelfClose EffectKind.SelfClose (is_shut found) is refl tt h makes
+chain_moves Q c s o (chain.Taking head name) (Answer.Found found) e is h makes = won Q (queue_of c) (queue_of s) o e EffectKind.Take (found == head) is tt (takes (found == head) e h) makes
+chain_moves Q c s o chain.Closing (Answer.Found found) e is h makes = marked Q (queue_of c) (queue_of s) o e Effect.Close EffectKind.Close (is_shut found) is refl tt h makes
+chain_moves Q c s o _ (Answer.Found found) e is h makes = no_move Q (queue_of c) (queue_of s) o e is h makes
+chain_moves Q c s o _ a e is h makes = no_move Q (queue_of c) (queue_of s) o e is h makes

@@ -1,7 +1,7 @@
 -- How the words, links and blocks of the machine stand for a chain.
 use Rattle.std.proofs.Common.{ℕ, ◌+◌, ◌<◌, ◌≤◌, ◌≡◌, ◌≢◌, ◌∙◌, ◌⊎◌, inl, inr, Option, Some, None, List, length, refl, sym, ap, subst, get_or}
-use Rattle.queue_steps.specs.declared.sizes.TheConstants.{BLOCK_SLOTS}
-use Rattle.law_chain.specs.ChainCells.{item_at, GivenUp, Use, Unused, Spare, Chained, Lost, Chain}
+use Rattle.machine_replay.specs.Vocabulary.{BLOCK_SLOTS}
+use Rattle.law_chain.specs.ChainCells.{item_at, GivenUp, Use, Unused, Spare, Chained, Chain}
 use Rattle.law_chain.specs.ChainFacts.{IsNamed}
 use Rattle.law_chain.specs.ChainAnswers.{tail_word, head_word, last_of, shown_of, linked_of, is_done, waits_at}
 use Rattle.machine_steps.specs.Blocks.{Block, fresh_block}
@@ -18,10 +18,9 @@ HeldIs c b y = ((c.walks b ≡ GivenUp) × (y ≡ None)) ⊎ ((c.walks b ≢ Giv
 
 -- what stands under a name that is for this
 abbrev pub NameIs : {A : Type 0} → Chain A → ℕ → Use → Option (Block A) → Type 0
-NameIs c f Unused y = y ≡ None
 NameIs c f (Spare who) y = y ≡ Some fresh_block
 NameIs c f (Chained b) y = IsNamed c b f × HeldIs c b y
-NameIs c f Lost y = y ≡ None
+NameIs c f x y = y ≡ None
 
 -- the words, the links and the blocks are those of the chain. The names are given out in their order
 pub record Codes {A : Type 0} (c : Chain A) (head tail : ℕ) (head_block tail_block : Option ℕ) (blocks : List (Option (Block A))) : Type 0 where
@@ -49,10 +48,8 @@ held_kept c s b y keeps (inr h) = inr ((λ e. h.0 (keeps.on e)), alive_kept c s 
 
 -- a name that is for the same
 pub name_kept : {A : Type 0} (c s : Chain A) (f : ℕ) (u : Use) (y : Option (Block A)) → ((b : ℕ) → IsNamed c b f → IsNamed s b f × Keeps c s b) → NameIs c f u y → NameIs s f u y
-name_kept c s f Unused y keeps h = h
-name_kept c s f (Spare who) y keeps h = h
 name_kept c s f (Chained b) y keeps h = let k = keeps b h.0 in (k.0, held_kept c s b y k.1 h.1)
-name_kept c s f Lost y keeps h = h
+name_kept c s f u y keeps h = h
 
 -- a chain that has the same items, walks and links
 pub keeps_all : {A : Type 0} (c s : Chain A) (b : ℕ) → s.writers ≡ c.writers → s.readers ≡ c.readers → s.walks ≡ c.walks → linked_of (c.links b) (c.names (b + 1)) ≡ linked_of (s.links b) (s.names (b + 1)) → Keeps c s b

@@ -2,13 +2,13 @@
 use Rattle.std.proofs.Common.{ℕ, None, [], refl, arith}
 use Rattle.std.proofs.lemmas.List.{get_or_past}
 use Rattle.queue_steps.specs.State.{start}
-use Rattle.queue_steps.specs.declared.steps.types.Kind.TheVariants as queue
+use Rattle.machine_replay.specs.Vocabulary.{Kind}
 use Rattle.law_chain.proofs.ChainFirst.{first, first_ok, first_idle, first_spares}
 use Rattle.machine_steps.specs.Left.{opening_shared}
 use Rattle.machine_replay.proofs.ChainFits.{ChainIdle}
 use Rattle.machine_replay.proofs.ChainHolding.{ChainHolds}
 
-pub chain_opens : (A : Type 0) → ChainHolds {A = A} (opening_shared queue.Unbounded) (start None 0) first
+pub chain_opens : (A : Type 0) → ChainHolds {A = A} (opening_shared Kind.Unbounded) (start None 0) first
 chain_opens A = record {
   ok = first_ok;
   codes = record {

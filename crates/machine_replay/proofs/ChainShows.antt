@@ -2,17 +2,15 @@
 use Rattle.std.proofs.Common.{ℕ, suc, zero, ◌+◌, ◌-◌, ◌*◌, ◌/◌, ◌%◌, ◌<◌, ◌≤◌, ◌≡◌, ◌==◌, not, ◌∙◌, Bool, true, false, if◌then◌else◌, Option, Some, None, List, [], ◌∷◌, ◌++◌, length, refl, sym, ap, subst, get_or, slice_get, drop, bit_and, arith}
 use Rattle.std.proofs.lemmas.List.{append_assoc, drop_all}
 use Rattle.std.specs.Option.{option_to_list}
-use Rattle.queue_steps.specs.declared.sizes.TheConstants.{BLOCK_SLOTS}
-use Rattle.queue_steps.specs.declared.steps.unbounded.TheConstants.{READ}
+use Rattle.machine_replay.specs.Vocabulary.{BLOCK_SLOTS, READ, Running}
 use Rattle.law_chain.specs.ChainCells.{Writer, Free, Writing, Wrote, Reader, Unread, Reading, Done, Chained, Chain, ChainOk, ItemOk, item_at, Part, Write, Read, owner, writer_of, reader_of}
 use Rattle.law_chain.specs.ChainAnswers.{is_done}
 use Rattle.machine_steps.specs.declared.blocks.Place.{Place}
-use Rattle.machine_steps.specs.declared.machine.Running.{Running}
 use Rattle.machine_steps.specs.Blocks.{Block, blank}
 use Rattle.machine_steps.specs.ChainLeft.{unread_in, unread, front_at}
 use Rattle.machine_replay.proofs.ChainCodes.{BlockIs, lies}
 use Rattle.machine_replay.proofs.ChainCounted.{InCall, StandsAt}
-use Rattle.machine_replay.proofs.ChainDeeds.{Deed, Rest, Puts, Lays, Reads, deed_of, PutsAt, IsSlotOf, IsClaimed, DeedIs}
+use Rattle.machine_replay.proofs.ChainDeeds.{Deed, Puts, Lays, Reads, deed_of, PutsAt, IsSlotOf, IsClaimed, DeedIs}
 use Rattle.machine_replay.proofs.ChainDeedsAt.{at_deed}
 use Rattle.machine_replay.proofs.ChainDone.{all_done, done_to, keeps_all, makes_all, IsWide, wide_done, HasItem, item_kept, item_made, SaysUnread, unread_kept, read_made}
 
@@ -45,10 +43,9 @@ one_item g n b i f j ok lt slot same at =
 
 -- who puts something into a slot has claimed its item; who reads it reads its item
 puts_claimed : {A : Type 0} (g : Chain A) (q b i : ℕ) (d : Deed A) (y : Option A) → ChainOk g → b < g.blocks → IsClaimed g q d → PutsAt d (g.names b) i y → (v : A) × (g.writers (item_at b i) ≡ Writing q v) × (y ≡ Some v)
-puts_claimed g q b i Rest y ok lt claimed puts = absurd puts
-puts_claimed g q b i (Reads f j) y ok lt claimed puts = absurd puts
 puts_claimed g q b i (Puts f j x) y ok lt (n, v, mine, slot, is) puts = (v, ap g.writers (sym (one_item g n b i f j ok lt slot puts.0 puts.1)) ∙ mine, sym puts.2 ∙ is)
 puts_claimed g q b i (Lays f j x fresh) y ok lt (n, v, mine, slot, is, laid) puts = (v, ap g.writers (sym (one_item g n b i f j ok lt slot puts.0 puts.1)) ∙ mine, sym puts.2 ∙ is)
+puts_claimed g q b i d y ok lt claimed puts = absurd puts
 
 reads_claimed : {A : Type 0} (g : Chain A) (q b i : ℕ) (d : Deed A) → ChainOk g → b < g.blocks → IsClaimed g q d → d ≡ Reads (g.names b) i → g.readers (item_at b i) ≡ Reading q
 reads_claimed g q b i d ok lt claimed is =
@@ -158,9 +155,7 @@ slot_shows {A} g calls b i x ok each lt low is = go (g.writers n) (g.readers n) 
     go (Wrote v) Done e f h =
         shows_gone g (item_at b i) (get_or (all_done calls (g.names b) x).places i blank)
         (unread_none (get_or (all_done calls (g.names b) x).places i blank) (keeps_item None (λ q u z. let y : Wrote v ≡ Writing q u = sym e ∙ z in cc) (lies_none (rw (e, f) refl)))) h
-    go Free (Reading q) e f h = absurd h
-    go Free Done e f h = absurd h
-    go (Writing p v) Done e f h = absurd h
+    go w r e f h = absurd h
 
 -- places that show their items one after another show them all
 places_show : {A : Type 0} (g : Chain A) (ps : List (Place A)) (m : ℕ) → ((i : ℕ) → i < length ps → Shows g (m + i) (get_or ps i blank)) → unread ps ++ drop (m + length ps - g.head) g.items ≡ drop (m - g.head) g.items

@@ -3,20 +3,7 @@ use Rattle.std.proofs.Common.{ℕ, if◌then◌else◌, ◌-◌, ◌<◌, ◌≡
 use Rattle.queue_steps.specs.State.{State}
 use Rattle.queue_steps.specs.Next.{next_of}
 use Rattle.queue_steps.specs.Words.{is_shut, tail_of}
-use Rattle.queue_steps.specs.declared.model.Call.{Call}
-use Rattle.queue_steps.specs.declared.model.Effect.{Effect}
-use Rattle.queue_steps.specs.declared.steps.bounded.TheConstants.{MARK}
-use Rattle.queue_steps.specs.declared.steps.types.Kind.TheVariants as queue
-use Rattle.queue_steps.specs.declared.steps.types.Link.TheVariants as link
-use Rattle.queue_steps.specs.declared.steps.types.Local.{Local}
-use Rattle.queue_steps.specs.declared.steps.types.Next.{Next}
-use Rattle.queue_steps.specs.declared.steps.types.Next.TheVariants as next
-use Rattle.queue_steps.specs.declared.steps.types.Op.{Op}
-use Rattle.queue_steps.specs.declared.steps.types.Op.TheVariants as op
-use Rattle.queue_steps.specs.declared.steps.types.Touch.{Touch}
-use Rattle.queue_steps.specs.declared.steps.types.Touch.TheVariants as touch
-use Rattle.queue_steps.specs.declared.steps.types.Word.{Word}
-use Rattle.queue_steps.specs.declared.steps.types.Word.TheVariants as word
+use Rattle.machine_replay.specs.Vocabulary.{Call, Effect, Kind, Word, Link, Op, Touch, Local, Next, MARK, EffectKind, Running}
 use Rattle.law_common.specs.Effects.{with_effect}
 use Rattle.law_common.proofs.Tails.{mark_tail, shut_tail}
 use Rattle.law_chain.specs.ChainCells.{Chain, queue_of}
@@ -28,8 +15,6 @@ use Rattle.law_chain.proofs.ChainRanks.{rank, rank_some, Falls, IsQuiet}
 use Rattle.law_chain.proofs.ChainRanksStep.{step_falls}
 use Rattle.law_chain.proofs.ChainRight.{Ends, step_right}
 use Rattle.law_chain.proofs.ChainStep.{is_chain}
-use Rattle.machine_steps.specs.declared.machine.Running.{Running}
-use Rattle.machine_steps.specs.declared.types.EffectKind.{EffectKind}
 use Rattle.machine_replay.specs.Book.{Open}
 use Rattle.machine_steps.specs.SharedMemory.{Shared, answer_to, step_of, running_after, next_after, carried_then, put_word, put_at, touched, operated, granted_if, block_touched, after_touch}
 use Rattle.machine_replay.proofs.ChainFar.{far_at, far_of, one_of_pop, by_call, goes_as, bounded}
@@ -42,8 +27,8 @@ use Rattle.machine_replay.proofs.Stretch.{Rules}
 
 -- a call that goes on has fewer steps before it
 goes_on : {A : Type 0} (c : Chain A) (n : Next ℕ) (v : Option A) (m : ℕ) (x : Running A) → running_after n v ≡ Some x → Falls c n m → rank (left_by c n) x.local < m
-goes_on c (next.Step l t o) v m x e falls = let same : record { local = l; touch = t; op = o; carried = v } ≡ x = cc in subst (λ y. rank c y.local < m) same falls
-goes_on c (next.Reply y spare) v m x e falls = cc
+goes_on c (Next.Step l t o) v m x e falls = let same : record { local = l; touch = t; op = o; carried = v } ≡ x = cc in subst (λ y. rank c y.local < m) same falls
+goes_on c (Next.Reply y spare) v m x e falls = cc
 
 -- the words that a step leaves
 abbrev SameWords : {A : Type 0} → Shared A → Shared A → Type 0
@@ -53,11 +38,11 @@ granted_words : {A : Type 0} (ok : Bool) (s : Shared A) → SameWords s (granted
 granted_words true s = (refl, refl)
 granted_words false s = (refl, refl)
 
-lost_tail : {A : Type 0} (b : Bool) (s : Shared A) (x : ℕ) (e : EffectKind) → (if b then Some e else None) ≡ None → SameWords s (if b then put_word s word.Tail x else s)
+lost_tail : {A : Type 0} (b : Bool) (s : Shared A) (x : ℕ) (e : EffectKind) → (if b then Some e else None) ≡ None → SameWords s (if b then put_word s Word.Tail x else s)
 lost_tail true s x e none = cc
 lost_tail false s x e none = (refl, refl)
 
-lost_head : {A : Type 0} (b : Bool) (s : Shared A) (x : ℕ) (e : EffectKind) → (if b then Some e else None) ≡ None → SameWords s (if b then put_word s word.Head x else s)
+lost_head : {A : Type 0} (b : Bool) (s : Shared A) (x : ℕ) (e : EffectKind) → (if b then Some e else None) ≡ None → SameWords s (if b then put_word s Word.Head x else s)
 lost_head true s x e none = cc
 lost_head false s x e none = (refl, refl)
 
@@ -67,7 +52,7 @@ marked_before w q false e is none = let opened : is_shut w ≡ false = ap is_shu
 
 -- a step without effect of a call that has had none leaves the words
 pub words_stay : {A : Type 0} {c : Chain A} {who : ℕ} {ms : List (State A)} {l : Local ℕ} {t : Touch} {o : Op ℕ} {v : Option A} {k : Call A} {es : List (Effect A)} (ok : Bool) (s : Shared A) → At c who ms l t o v k es → es ≡ [] → s.tail ≡ tail_word c
-    → (step_of queue.Unbounded ok s (record { local = l; touch = t; op = o; carried = v })).effect ≡ None → SameWords s (step_of queue.Unbounded ok s (record { local = l; touch = t; op = o; carried = v })).shared
+    → (step_of Kind.Unbounded ok s (record { local = l; touch = t; op = o; carried = v })).effect ≡ None → SameWords s (step_of Kind.Unbounded ok s (record { local = l; touch = t; op = o; carried = v })).shared
 words_stay ok s (push_tail d v spare none spare_is) e is quiet = (refl, refl)
 words_stay ok s (push_block d v spare q none spare_is saw) e is quiet = (refl, refl)
 words_stay ok s (asking d v q block none saw asked) e is quiet = granted_words ok s
@@ -106,17 +91,14 @@ put_at_front s None i v = refl
 put_at_front s (Some b) i v = refl
 
 touched_front : {A : Type 0} (t : Touch) (b : Option ℕ) (s : Shared A) (v : Option A) → (touched t b s v).head_block ≡ s.head_block
-touched_front touch.Nothing b s v = refl
-touched_front (touch.Put i) b s v = put_at_front s b i v
-touched_front (touch.Swap i) b s v = put_at_front s b i v
-touched_front (touch.Take i) b s v = put_at_front s b i v
+touched_front Touch.Nothing b s v = refl
+touched_front (Touch.Put i) b s v = put_at_front s b i v
+touched_front (Touch.Swap i) b s v = put_at_front s b i v
+touched_front (Touch.Take i) b s v = put_at_front s b i v
 
 put_word_front : {A : Type 0} (s : Shared A) (w : Word ℕ) (x : ℕ) → (put_word s w x).head_block ≡ s.head_block
-put_word_front s word.Lock x = refl
-put_word_front s word.Head x = refl
-put_word_front s word.Tail x = refl
-put_word_front s (word.Stamp i) x = refl
-put_word_front s (word.State b i) x = refl
+put_word_front s Word.Lock x = refl
+put_word_front s w x = refl
 
 if_front : {A : Type 0} (b : Bool) (s : Shared A) (w : Word ℕ) (x : ℕ) → IsSome s.head_block → IsSome (if b then put_word s w x else s).head_block
 if_front true s w x h = subst (λ b. IsSome b) (sym (put_word_front s w x)) h
@@ -127,42 +109,38 @@ granted_front true s h = h
 granted_front false s h = h
 
 operated_front : {A : Type 0} (ok : Bool) (s : Shared A) (o : Op ℕ) → IsSome s.head_block → IsSome (operated ok s o).head_block
-operated_front ok s (op.Load w) h = h
-operated_front ok s (op.LoadLink l) h = h
-operated_front ok s (op.Store w x) h = subst (λ b. IsSome b) (sym (put_word_front s w x)) h
-operated_front ok s (op.Add w x) h = subst (λ b. IsSome b) (sym (put_word_front s w _)) h
-operated_front ok s (op.Or w x) h = subst (λ b. IsSome b) (sym (put_word_front s w _)) h
-operated_front ok s (op.And w x) h = subst (λ b. IsSome b) (sym (put_word_front s w _)) h
-operated_front ok s (op.Exchange w a b) h = if_front _ s w b h
-operated_front ok s (op.StoreLink link.HeadBlock f) h = refl
-operated_front ok s (op.StoreLink link.TailBlock f) h = h
-operated_front ok s (op.StoreLink (link.Next b) f) h = h
-operated_front ok s (op.Install f) h = h
-operated_front ok s op.Ask h = granted_front ok s h
+operated_front ok s (Op.Store w x) h = subst (λ b. IsSome b) (sym (put_word_front s w x)) h
+operated_front ok s (Op.Add w x) h = subst (λ b. IsSome b) (sym (put_word_front s w _)) h
+operated_front ok s (Op.Or w x) h = subst (λ b. IsSome b) (sym (put_word_front s w _)) h
+operated_front ok s (Op.And w x) h = subst (λ b. IsSome b) (sym (put_word_front s w _)) h
+operated_front ok s (Op.Exchange w a b) h = if_front _ s w b h
+operated_front ok s (Op.StoreLink Link.HeadBlock f) h = refl
+operated_front ok s Op.Ask h = granted_front ok s h
+operated_front ok s o h = h
 
 module _ (A : Type 0) where
-  pub ready_on : (ok : Bool) (s : Shared A) (r : Running A) → IsSome s.head_block → IsSome (step_of queue.Unbounded ok s r).shared.head_block
+  pub ready_on : (ok : Bool) (s : Shared A) (r : Running A) → IsSome s.head_block → IsSome (step_of Kind.Unbounded ok s r).shared.head_block
   ready_on ok s r h = operated_front ok (after_touch s r) r.op (subst (λ b. IsSome b) (sym (touched_front r.touch (block_touched r.op) s r.carried)) h)
 
   -- the step of a call, while no other party holds a part
   pub own_falls : (busy : ℕ) (ok : Bool) (s : Shared A) (Q : State A) (g : Chain A) (p : ℕ) (x x' : Running A) (o : Open A) → IsSome s.head_block → ChainHolds s Q g → ChainFits busy s Q g p x o → IsQuiet g p
-      → (step_of queue.Unbounded ok s x).call ≡ Some x'
-      → far_at (step_of queue.Unbounded ok s x).shared.tail (step_of queue.Unbounded ok s x).shared.head x'.local - one_of_pop x'.local < far_at s.tail s.head x.local - one_of_pop x.local
+      → (step_of Kind.Unbounded ok s x).call ≡ Some x'
+      → far_at (step_of Kind.Unbounded ok s x).shared.tail (step_of Kind.Unbounded ok s x).shared.head x'.local - one_of_pop x'.local < far_at s.tail s.head x.local - one_of_pop x.local
   own_falls busy ok s Q g p x x' o ready holds f quiet goes =
       let a = answer_to ok s x in
       let step = steps_stand A ok s Q g p o.moments x o.call o.effects holds f.here f.spares in
       let right = step_right f.here a holds.ok step.found f.spares in
       let after = chain_then ok s g p o.moments x o.call o.effects f.here in
       let falls = step_falls f.here a holds.ok step.found quiet in
-      let went : next_after queue.Unbounded ok s x ≡ next_on ok s x = ap (λ l. next_of queue.Unbounded l a) (is_chain f.here) in
+      let went : next_after Kind.Unbounded ok s x ≡ next_on ok s x = ap (λ l. next_of Kind.Unbounded l a) (is_chain f.here) in
       let on = subst (λ n. running_after n (carried_then s x) ≡ Some x') went goes in
       let less = goes_on (after_of f.here a) (next_on ok s x) (carried_then s x) (rank g x.local) x' on falls in
       let same = goes_as after p (queue_of after ∷ o.moments) (next_on ok s x) (carried_then s x) o.call (with_effect o.effects right.e) x' on (subst (λ v. Ends after p (queue_of after ∷ o.moments) (next_on ok s x) v o.call (with_effect o.effects right.e)) (sym step.carried) right.ends) ∙ sym (by_call f.here) in
       let some = rank_some after x'.local in
       let more = (bounded s.tail s.head f.here holds.ok).0 in
-      let there = far_of (step_of queue.Unbounded ok s x).shared after x'.local (ready_on ok s x ready) right.ok step.codes in
+      let there = far_of (step_of Kind.Unbounded ok s x).shared after x'.local (ready_on ok s x ready) right.ok step.codes in
       let here = far_of s g x.local ready holds.ok holds.codes in
       omega (arith, less, there, here, same, some, more)
 
-  abbrev pub chain_rules : Rules A queue.Unbounded
+  abbrev pub chain_rules : Rules A Kind.Unbounded
   chain_rules = record { G = Chain A; Holds = ChainHolds; Idle = ChainIdle; Fits = ChainFits; laws = chain_steps (steps_stand A); first = first; opens = chain_opens A; all_idle = chain_all_idle A }

@@ -2,41 +2,24 @@
 use Rattle.std.proofs.Common.{ℕ, ◌+◌, ◌-◌, ◌*◌, ◌/◌, ◌%◌, ◌==◌, if◌then◌else◌, ◌<◌, ◌≤◌, ◌≡◌, ◌≢◌, ◌⊎◌, inl, inr, ◌∙◌, nat_lt, not, Bool, true, false, Ok, Option, Some, List, bit_and, refl, sym, ap, subst, arith}
 use Rattle.std.proofs.lemmas.Bool.{cond_both, ltb-true}
 use Rattle.std.proofs.lemmas.Bool.Decides.{eqb_tells}
-use Rattle.queue_steps.specs.declared.sizes.TheConstants.{BLOCK_SLOTS}
+use Rattle.machine_replay.specs.Vocabulary.{Call, Reply, Effect, Kind, Word, Op, Touch, Answer, Local, Next, BLOCK_SLOTS, WRITE, READ, DESTROY, Running}
 use Rattle.queue_steps.specs.State.{State}
 use Rattle.queue_steps.specs.Next.{next_of}
 use Rattle.queue_steps.specs.ChainWords.{offset_of}
 use Rattle.queue_steps.specs.UnboundedNext.{followed, written_found, ends, walks, walks_on, unbounded_next}
-use Rattle.queue_steps.specs.declared.model.Call.{Call}
-use Rattle.queue_steps.specs.declared.model.Effect.{Effect}
-use Rattle.queue_steps.specs.declared.model.Reply.TheVariants as reply
-use Rattle.queue_steps.specs.declared.steps.types.Answer.{Answer}
-use Rattle.queue_steps.specs.declared.steps.types.Answer.TheVariants as answer
-use Rattle.queue_steps.specs.declared.steps.types.Kind.TheVariants as queue
-use Rattle.queue_steps.specs.declared.steps.types.Local.{Local}
-use Rattle.queue_steps.specs.declared.steps.types.Local.TheVariants as local
-use Rattle.queue_steps.specs.declared.steps.types.Next.{Next}
-use Rattle.queue_steps.specs.declared.steps.types.Next.TheVariants as next
-use Rattle.queue_steps.specs.declared.steps.types.Op.{Op}
-use Rattle.queue_steps.specs.declared.steps.types.Op.TheVariants as op
-use Rattle.queue_steps.specs.declared.steps.types.Word.TheVariants as word
-use Rattle.queue_steps.specs.declared.steps.types.Touch.{Touch}
-use Rattle.queue_steps.specs.declared.steps.types.Touch.TheVariants as touch
-use Rattle.queue_steps.specs.declared.steps.unbounded.TheConstants.{WRITE, READ, DESTROY}
 use Rattle.queue_steps.specs.declared.steps.unbounded.UnboundedLocal.TheVariants as chain
 use Rattle.law_chain.specs.ChainCells as cells
-use Rattle.law_chain.specs.ChainCells.{Reader, Unread, Reading, Done, Rests, Passing, LinkState, Unlinked, Linking, Linked, Shown, Hidden, Showing, Seen, Chain, ChainOk, ItemOk, BlocksOk, LinkOk, FrontOk, ShownOk, Part, Write, Read, Tail, Head, Passed, owner, linker_of, item_at, LAST, Holds}
+use Rattle.law_chain.specs.ChainCells.{Reader, Unread, Reading, Done, Passing, Shown, Seen, Chain, ChainOk, ItemOk, ShownOk, Part, Write, Read, Tail, Head, Passed, owner, item_at, LAST, Holds}
 use Rattle.law_chain.specs.ChainAfter.{chain_of}
 use Rattle.law_chain.specs.ChainAnswers.{Answers, IsState, linked_of, is_wrote}
 use Rattle.law_chain.specs.ChainAt.{Only, Either, At, push_tail, push_block, asking, installing, showing, claiming, laying, opening, chaining, writing, spending, pop_head, pop_block, pop_tail, taking, following, peeking, passing, entering, awaiting, reading, beginning, walking, destroying, len_tail, len_head, len_again, empty_head, empty_tail, closing, closed_tail}
 use Rattle.law_chain.specs.ChainFacts.{head_of}
 use Rattle.law_chain.proofs.ChainAnswers.{head_offset}
 use Rattle.law_chain.proofs.ChainRanks.{rests_if}
-use Rattle.law_chain.proofs.ChainRanksPop.{wrote_then}
+use Rattle.law_chain.proofs.ChainRanksPop.{wrote_then, linked_then}
 use Rattle.law_chain.proofs.ChainRanksWalk.{last_claimed}
 use Rattle.law_chain.proofs.ChainReads.{own_item}
 use Rattle.law_chain.proofs.ChainStep.{is_chain}
-use Rattle.machine_steps.specs.declared.machine.Running.{Running}
 use Rattle.machine_replay.specs.Book.{Open}
 use Rattle.machine_steps.specs.SharedMemory.{Shared, answer_to, step_of, running_after, next_after, carried_then}
 use Rattle.machine_replay.proofs.ChainFar.{inner_low}
@@ -68,10 +51,6 @@ clear_of (asking d v q block none saw asked) seen never = λ x e. absurd (none x
 clear_of (installing d v f none saw fresh) seen never = λ x e. absurd (none x e)
 clear_of (showing d v name first saw is named) seen never = cc
 clear_of (claiming d v q name spare none spare_is saw block enough) seen never = λ x e. absurd (none x e)
-clear_of (laying d v n name f holds mine lays fresh) seen never = absurd (never tt)
-clear_of (opening d v n name f holds mine opens links named) seen never = absurd (never tt)
-clear_of (chaining d v n name f holds mine links named) seen never = absurd (never tt)
-clear_of (writing d v n name spare holds mine spare_is) seen never = absurd (never tt)
 clear_of (spending d v spare none spare_is spent) seen never = λ x e. absurd (none x e)
 clear_of (pop_head none) seen never = λ x e. absurd (none x e)
 clear_of (pop_block n more none is room) seen never = λ x e. absurd (none x e)
@@ -93,6 +72,7 @@ clear_of (empty_head none) seen never = λ x e. absurd (none x e)
 clear_of (empty_tail h none small saw) seen never = λ x e. absurd (none x e)
 clear_of (closing none) seen never = λ x e. absurd (none x e)
 clear_of (closed_tail none) seen never = λ x e. absurd (none x e)
+clear_of x seen never = absurd (never tt)
 
 -- a part is nobody's that neither the party holds nor another
 pub unheld : {A : Type 0} (c : Chain A) (who : ℕ) (P Q : Part → Type 0) (x : Part) → ((j : ℕ) → j ≢ who → Holds c j Q) → Holds c who P → (P x → ⊥) → (Q x → ⊥) → (p : ℕ) → owner c x ≢ Some p
@@ -103,51 +83,35 @@ unheld c who P Q x others holds none never p e = elim (eqb_tells p who) [
 
 -- how many steps a call has before it that has taken
 to_reply : Local ℕ → ℕ
-to_reply (local.Unbounded (chain.Following head block)) = 2 * LAST + 6
-to_reply (local.Unbounded (chain.Peeking head block after)) = 2 * LAST + 5
-to_reply (local.Unbounded (chain.Passing head block more)) = 2 * LAST + 4
-to_reply (local.Unbounded (chain.Entering head block)) = 2 * LAST + 3
-to_reply (local.Unbounded (chain.Awaiting head block)) = 2 * LAST + 2
-to_reply (local.Unbounded (chain.Reading block slot)) = 2 * (LAST - slot) + 1
-to_reply (local.Unbounded (chain.Walking block slot)) = 2 * (LAST - slot) + 1
-to_reply (local.Unbounded (chain.Destroying block slot)) = 2 * (LAST - slot)
+to_reply (Local.Unbounded (chain.Following head block)) = 2 * LAST + 6
+to_reply (Local.Unbounded (chain.Peeking head block after)) = 2 * LAST + 5
+to_reply (Local.Unbounded (chain.Passing head block more)) = 2 * LAST + 4
+to_reply (Local.Unbounded (chain.Entering head block)) = 2 * LAST + 3
+to_reply (Local.Unbounded (chain.Awaiting head block)) = 2 * LAST + 2
+to_reply (Local.Unbounded (chain.Reading block slot)) = 2 * (LAST - slot) + 1
+to_reply (Local.Unbounded (chain.Walking block slot)) = 2 * (LAST - slot) + 1
+to_reply (Local.Unbounded (chain.Destroying block slot)) = 2 * (LAST - slot)
 to_reply _ = 1
 
 abbrev Nears : Next ℕ → ℕ → Type 0
-Nears (next.Step l t o) m = to_reply l < m
-Nears (next.Reply x spare) m = Unit {0}
-
--- where nobody moves the tail or is to link a block, a block that is passed is linked
-linked_then : {A : Type 0} (c : Chain A) (who n : ℕ) → ChainOk c → c.mover ≡ Rests → ((p : ℕ) → linker_of (c.links (n / BLOCK_SLOTS)) ≢ Some p) → (c.passer ≡ Passing who) × (c.head ≡ n + 1) → c.links (n / BLOCK_SLOTS) ≡ Linked
-linked_then {A} c who n ok rest free pass = go (c.links (n / BLOCK_SLOTS)) refl (ok.link (n / BLOCK_SLOTS))
-  where
-    front : FrontOk c.head c.front (Passing who)
-    front = subst (λ p. FrontOk c.head c.front p) pass.0 ok.fronted
-
-    more : BlocksOk c.tail c.blocks Rests → n / BLOCK_SLOTS + 1 < c.blocks
-    more (inl none) = absurd (let f = front in let count = ok.count in let z = none.0 in omega arith)
-    more (inr is) = let f = front in let at = pass.1 in let count = ok.count in omega arith
-
-    go : (l : LinkState) → c.links (n / BLOCK_SLOTS) ≡ l → LinkOk c.blocks (n / BLOCK_SLOTS) l → c.links (n / BLOCK_SLOTS) ≡ Linked
-    go Linked e h = e
-    go (Linking p) e h = absurd (free p (ap linker_of e))
-    go Unlinked e h = absurd (let lt = more (subst (λ m. BlocksOk c.tail c.blocks m) rest ok.laid) in omega arith)
+Nears (Next.Step l t o) m = to_reply l < m
+Nears (Next.Reply x spare) m = Unit {0}
 
 -- the walk goes on behind a slot
 on_nears : (name slot m : ℕ) → slot < LAST → 2 * (LAST - slot) ≤ m → Nears (walks_on name slot) m
 unfolding to_reply
 on_nears name slot m low le =
-    cond_both (nat_lt (slot + 2) BLOCK_SLOTS) (walks name (slot + 1) touch.Nothing) (next.Reply (reply.Pop (Ok tt)) (Some name)) (λ x. Nears x m)
+    cond_both (nat_lt (slot + 2) BLOCK_SLOTS) (walks name (slot + 1) Touch.Nothing) (Next.Reply (Reply.Pop (Ok tt)) (Some name)) (λ x. Nears x m)
     (λ on. let lt = ltb-true (slot + 2) BLOCK_SLOTS on in omega arith) (λ over. tt)
 
-maybe_on_nears : (on : Bool) (name slot m : ℕ) → slot < LAST → 2 * (LAST - slot) ≤ m → Nears (if on then walks_on name slot else ends (reply.Pop (Ok tt))) m
+maybe_on_nears : (on : Bool) (name slot m : ℕ) → slot < LAST → 2 * (LAST - slot) ≤ m → Nears (if on then walks_on name slot else ends (Reply.Pop (Ok tt))) m
 maybe_on_nears true name slot m low le = on_nears name slot m low le
 maybe_on_nears false name slot m low le = tt
 
-walking_nears : (name slot st : ℕ) → slot < LAST → Nears (unbounded_next (chain.Walking name slot) (answer.Found st)) (2 * (LAST - slot) + 1)
+walking_nears : (name slot st : ℕ) → slot < LAST → Nears (unbounded_next (chain.Walking name slot) (Answer.Found st)) (2 * (LAST - slot) + 1)
 unfolding to_reply
 walking_nears name slot st low =
-    elim (bit_and st READ == 0) as (λ b. Nears (if not b then walks_on name slot else next.Step (local.Unbounded (chain.Destroying name slot)) touch.Nothing (op.Or (word.State name slot) DESTROY)) (2 * (LAST - slot) + 1)) [
+    elim (bit_and st READ == 0) as (λ b. Nears (if not b then walks_on name slot else Next.Step (Local.Unbounded (chain.Destroying name slot)) Touch.Nothing (Op.Or (Word.State name slot) DESTROY)) (2 * (LAST - slot) + 1)) [
       | true ↦ omega arith
       | false ↦ on_nears name slot (2 * (LAST - slot) + 1) low (omega arith)
     ]
@@ -249,12 +213,10 @@ in_bounds (closed_tail none) had ok = absurd had
 -- an item that is claimed has left the list, so the first block is shown
 claimed_low : {A : Type 0} (head tail : ℕ) (items : List A) (n : ℕ) (w : cells.Writer A) (r : Reader) → r ≢ Unread → ItemOk head tail items n w r → n < head
 claimed_low head tail items n w Unread ne ok = absurd (ne refl)
-claimed_low head tail items n (cells.Writing p v) (Reading q) ne ok = ok
-claimed_low head tail items n (cells.Wrote v) (Reading q) ne ok = ok
-claimed_low head tail items n (cells.Wrote v) Done ne ok = ok
 claimed_low head tail items n cells.Free (Reading q) ne ok = absurd ok
 claimed_low head tail items n cells.Free Done ne ok = absurd ok
 claimed_low head tail items n (cells.Writing p v) Done ne ok = absurd ok
+claimed_low head tail items n w r ne ok = ok
 
 seen_of : {A : Type 0} (c : Chain A) (n : ℕ) → ChainOk c → c.readers n ≢ Unread → c.shown ≡ Seen
 seen_of {A} c n ok ne = go c.shown refl ok.seen
@@ -264,8 +226,7 @@ seen_of {A} c n ok ne = go c.shown refl ok.seen
 
     go : (s : Shown) → c.shown ≡ s → ShownOk c.blocks c.head c.front c.known c.passer s → c.shown ≡ Seen
     go Seen e h = e
-    go Hidden e h = absurd (let l = low in let z = h.1 in omega arith)
-    go (Showing p) e h = absurd (let l = low in let z = h.1 in omega arith)
+    go s e h = absurd (let l = low in let z = h.1 in omega arith)
 
 pub ready_of : {A : Type 0} {c : Chain A} {who : ℕ} {ms : List (State A)} {l : Local ℕ} {t : Touch} {o : Op ℕ} {v : Option A} {k : Call A} {es : List (Effect A)} → At c who ms l t o v k es → HasTake es → ChainOk c → c.shown ≡ Seen
 ready_of (push_tail d v spare none spare_is) had ok = absurd had
@@ -302,20 +263,20 @@ ready_of (closed_tail none) had ok = absurd had
 
 -- a call that goes on has fewer steps before it
 goes_on : {A : Type 0} (n : Next ℕ) (v : Option A) (m : ℕ) (x : Running A) → running_after n v ≡ Some x → Nears n m → to_reply x.local < m
-goes_on (next.Step l t o) v m x e near = let same : record { local = l; touch = t; op = o; carried = v } ≡ x = cc in subst (λ y. to_reply y.local < m) same near
-goes_on (next.Reply y spare) v m x e near = cc
+goes_on (Next.Step l t o) v m x e near = let same : record { local = l; touch = t; op = o; carried = v } ≡ x = cc in subst (λ y. to_reply y.local < m) same near
+goes_on (Next.Reply y spare) v m x e near = cc
 
 own_falls : {A : Type 0} (busy : ℕ) (ok : Bool) (s : Shared A) (Q : State A) (g : Chain A) (p : ℕ) (x x' : Running A) (o : Open A) → ChainHolds s Q g → ChainFits busy s Q g p x o → HasTake o.effects → ((j : ℕ) → j ≢ p → Clear g j)
-    → (step_of queue.Unbounded ok s x).call ≡ Some x' → to_reply x'.local < to_reply x.local
+    → (step_of Kind.Unbounded ok s x).call ≡ Some x' → to_reply x'.local < to_reply x.local
 own_falls {A} busy ok s Q g p x x' o holds f had clear goes =
     let a = answer_to ok s x in
     let step = steps_stand A ok s Q g p o.moments x o.call o.effects holds f.here f.spares in
     let near = nears f.here had a holds.ok step.found clear in
-    let went : next_after queue.Unbounded ok s x ≡ next_on ok s x = ap (λ l. next_of queue.Unbounded l a) (is_chain f.here) in
+    let went : next_after Kind.Unbounded ok s x ≡ next_on ok s x = ap (λ l. next_of Kind.Unbounded l a) (is_chain f.here) in
     goes_on (next_on ok s x) (carried_then s x) (to_reply x.local) x' (subst (λ n. running_after n (carried_then s x) ≡ Some x') went goes) near
 
-pub chain_takes : (A : Type 0) → TakesReplyWithin A queue.Unbounded (2 * BLOCK_SLOTS + 4)
-chain_takes A = takes_reply A queue.Unbounded (chain_rules A) (record {
+pub chain_takes : (A : Type 0) → TakesReplyWithin A Kind.Unbounded (2 * BLOCK_SLOTS + 4)
+chain_takes A = takes_reply A Kind.Unbounded (chain_rules A) (record {
   before = to_reply;
   most = 2 * LAST + 6;
   Clear = Clear;

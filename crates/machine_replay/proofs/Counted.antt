@@ -1,7 +1,7 @@
 -- A queue with a capacity has no block.
 use Rattle.std.proofs.Common.{◌≡◌, ℕ, Some, [], length, ap, arith}
 use Rattle.queue_steps.specs.Sequential.{blocks_of, spanned}
-use Rattle.machine_steps.specs.declared.machine.Running.{Running}
+use Rattle.machine_replay.specs.Vocabulary.{Running}
 use Rattle.machine_replay.specs.Book.{Book}
 use Rattle.machine_steps.specs.SharedMemory.{Shared}
 use Rattle.machine_steps.specs.Present.{present}

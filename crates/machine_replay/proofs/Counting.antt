@@ -3,57 +3,39 @@ use Rattle.std.proofs.Common.{◌≡◌, ◌∙◌, ℕ, ◌+◌, ◌-◌, Optio
 use Rattle.queue_steps.specs.State.{State}
 use Rattle.queue_steps.specs.Effect.{Fits, made, rest, with_coming}
 use Rattle.queue_steps.specs.Sequential.{blocks_of, spanned}
-use Rattle.queue_steps.specs.declared.model.Effect.{Effect}
-use Rattle.queue_steps.specs.declared.model.Effect.TheVariants as effect
-use Rattle.machine_steps.specs.declared.types.EffectKind.{EffectKind}
-use Rattle.machine_steps.specs.declared.types.EffectKind.TheVariants as kind
-use Rattle.machine_steps.specs.declared.types.Event.{Event}
-use Rattle.machine_steps.specs.declared.types.Event.TheVariants.{Begin, Step}
-use Rattle.machine_steps.specs.declared.types.Told.{Told}
-use Rattle.machine_steps.specs.declared.types.Told.TheVariants.{Skipped, Ran}
+use Rattle.machine_replay.specs.Vocabulary.{Effect, Event, Told, EffectKind, Begin, Step, Skipped, Ran}
 use Rattle.machine_replay.specs.Book.{Book, Open, Moves, Happens, Run, kind_of, opening}
 use Rattle.machine_replay.proofs.Growing.{run-cap}
 
 -- how many items are accepted, and how many are there, after an effect of this kind
 abbrev pub accepted_by : EffectKind → ℕ → ℕ
-accepted_by kind.Append n = n + 1
-accepted_by kind.Take n = n
-accepted_by kind.Replace n = n + 1
-accepted_by kind.Front n = n
-accepted_by kind.Arrive n = n + 1
-accepted_by kind.Close n = n
-accepted_by kind.SelfClose n = n
+accepted_by EffectKind.Append n = n + 1
+accepted_by EffectKind.Replace n = n + 1
+accepted_by EffectKind.Arrive n = n + 1
+accepted_by x n = n
 
 abbrev pub length_by : EffectKind → ℕ → ℕ
-length_by kind.Append n = n + 1
-length_by kind.Take n = n - 1
-length_by kind.Replace n = n
-length_by kind.Front n = n - 1
-length_by kind.Arrive n = n + 1
-length_by kind.Close n = n
-length_by kind.SelfClose n = n
+length_by EffectKind.Append n = n + 1
+length_by EffectKind.Take n = n - 1
+length_by EffectKind.Front n = n - 1
+length_by EffectKind.Arrive n = n + 1
+length_by x n = n
 
 length-rest : {T : Type 0} (xs : List T) → length (rest xs) ≡ length xs - 1
 length-rest [] = refl
 length-rest (x ∷ xs) = omega arith
 
 pub made-accepted : {T : Type 0} (e : Effect T) (Q : State T) → (made e Q).accepted ≡ accepted_by (kind_of e) Q.accepted
-made-accepted (effect.Append v) Q = refl
-made-accepted (effect.Take v) Q = refl
-made-accepted (effect.Replace old v) Q = refl
-made-accepted (effect.Front old v) Q = refl
-made-accepted effect.Arrive Q = refl
-made-accepted effect.Close Q = refl
-made-accepted effect.SelfClose Q = refl
+made-accepted (Effect.Append v) Q = refl
+made-accepted e Q = refl
 
 pub made-length : {T : Type 0} (e : Effect T) (Q : State T) → Fits e Q → length (made e Q).items ≡ length_by (kind_of e) (length Q.items)
-made-length (effect.Append v) Q fits = omega (arith, length-append Q.items (v ∷ []))
-made-length (effect.Take v) Q fits = length-rest Q.items
-made-length (effect.Replace old v) Q fits = sym (ap length fits.2)
-made-length (effect.Front old v) Q fits = length-rest Q.items
-made-length effect.Arrive Q fits = ap (λ o. length (with_coming Q.items o)) fits.1 ∙ (omega (arith, length-append Q.items (fits.0 ∷ [])))
-made-length effect.Close Q fits = refl
-made-length effect.SelfClose Q fits = refl
+made-length (Effect.Append v) Q fits = omega (arith, length-append Q.items (v ∷ []))
+made-length (Effect.Replace old v) Q fits = sym (ap length fits.2)
+made-length Effect.Arrive Q fits = ap (λ o. length (with_coming Q.items o)) fits.1 ∙ (omega (arith, length-append Q.items (fits.0 ∷ [])))
+made-length Effect.Close Q fits = refl
+made-length Effect.SelfClose Q fits = refl
+made-length e Q fits = length-rest Q.items
 
 -- the same after what is told of an event, and of events
 abbrev pub counts_if : (EffectKind → ℕ → ℕ) → Option EffectKind → ℕ → ℕ
@@ -93,14 +75,12 @@ happens-length cap parties b (Step p granted) (Ran k r) c h = moves-length b.que
 pub run-accepted : {T : Type 0} (cap : Option ℕ) (parties : ℕ) (b : Book T) (es : List (Event T)) (ts : List (Told T)) (c : Book T) → Run cap parties b es ts c → c.queue.accepted ≡ counts_all accepted_by ts b.queue.accepted
 run-accepted cap parties b [] [] c run = ap (λ x. x.queue.accepted) run
 run-accepted cap parties b (e ∷ es) (t ∷ ts) c run = run-accepted cap parties run.0 es ts c run.2 ∙ ap (counts_all accepted_by ts) (happens-accepted cap parties b e t run.0 run.1)
-run-accepted cap parties b [] (t ∷ ts) c run = absurd run
-run-accepted cap parties b (e ∷ es) [] c run = absurd run
+run-accepted cap parties b es ts c run = absurd run
 
 pub run-length : {T : Type 0} (cap : Option ℕ) (parties : ℕ) (b : Book T) (es : List (Event T)) (ts : List (Told T)) (c : Book T) → Run cap parties b es ts c → length c.queue.items ≡ counts_all length_by ts (length b.queue.items)
 run-length cap parties b [] [] c run = ap (λ x. length x.queue.items) run
 run-length cap parties b (e ∷ es) (t ∷ ts) c run = run-length cap parties run.0 es ts c run.2 ∙ ap (counts_all length_by ts) (happens-length cap parties b e t run.0 run.1)
-run-length cap parties b [] (t ∷ ts) c run = absurd run
-run-length cap parties b (e ∷ es) [] c run = absurd run
+run-length cap parties b es ts c run = absurd run
 
 -- so two runs of which the same is told end with as many accepted items, and span as many blocks
 pub same-accepted : {T : Type 0} (cap : Option ℕ) (parties : ℕ) (es ds : List (Event T)) (ts : List (Told T)) (c d : Book T)

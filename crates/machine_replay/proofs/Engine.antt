@@ -3,31 +3,18 @@ use Rattle.std.proofs.Common.{ℕ, ◌+◌, ◌-◌, ◌<◌, ◌≡◌, ◌≢�
 use Rattle.std.proofs.lemmas.List.{get_or_past, length-set}
 use Rattle.std.proofs.lemmas.Bool.{ltb-true, ltb-false}
 use Rattle.std.proofs.lemmas.Bool.Decides.{eqb_tells}
+use Rattle.law_common.proofs.Tests.{and_true, is_none_true}
 use Rattle.queue_steps.specs.State.{State}
 use Rattle.queue_steps.specs.Replies.{IsRightAt}
-use Rattle.queue_steps.specs.declared.model.Call.{Call}
-use Rattle.queue_steps.specs.declared.model.Reply.{Reply}
-use Rattle.queue_steps.specs.declared.model.Effect.{Effect}
-use Rattle.machine_steps.specs.declared.types.Told.TheVariants.{Skipped}
-use Rattle.machine_steps.specs.declared.types.Event.{Event}
-use Rattle.machine_steps.specs.declared.types.Event.TheVariants.{Begin, Step}
+use Rattle.machine_replay.specs.Vocabulary.{Call, Reply, Effect, Event, Begin, Step, Skipped}
 use Rattle.machine_replay.specs.Book.{Book, Open, Moves, GoesOn, Stays, Ends, Steps, Happens, put, watched, joined, at_open, after_own, begun, has_steps}
 use Rattle.machine_steps.specs.World.{World, Made, Begun, call_at, can_begin, stepped, stepped_if, began, began_by, world_event}
 use Rattle.machine_steps.specs.Present.{present}
 use Rattle.machine_steps.proofs.Busy.{busy_set, one_if, one_busy}
 
-both : (a b : Bool) → (a && b) ≡ true → (a ≡ true) × (b ≡ true)
-both true true e = (refl, refl)
-both true false e = (refl, e)
-both false b e = cc
-
 and_false : (a : Bool) → (a && false) ≡ false
 and_false true = refl
 and_false false = refl
-
-is_none-true : {X : Type 0} (o : Option X) → is_none o ≡ true → o ≡ None
-is_none-true None e = refl
-is_none-true (Some x) e = cc
 
 -- What a kind of queue, of capacity cap, proves of its steps. G is what its proof keeps, as who has the lock. `Holds` says
 -- how the shared part stands for the queue, `Idle` what is so of a party between calls, `Fits` what is so of a party in a
@@ -83,17 +70,15 @@ module _ (T S R G : Type 0) (cap : Option ℕ) (step : Bool → S → R → Made
     pub each : (p : ℕ) → Party b.busy w.shared b.queue g p (call_at w p) (b.open_call p)
 
   pub party_none : (busy : ℕ) (s : S) (Q : State T) (g : G) (p : ℕ) (r : Option R) (o : Option (Open T)) → Party busy s Q g p r o → is_none o ≡ is_none r
-  party_none busy s Q g p None None h = refl
-  party_none busy s Q g p (Some r) (Some o) h = refl
   party_none busy s Q g p None (Some o) h = absurd h
   party_none busy s Q g p (Some r) None h = absurd h
+  party_none busy s Q g p r o h = refl
 
   party_joined : (laws : Laws) (busy busy' : ℕ) (s : S) (Q : State T) (g : G) (p : ℕ) (r : Option R) (o : Option (Open T))
       → Party busy s Q g p r o → Party busy' s Q g p r (at_open joined o)
   party_joined laws busy busy' s Q g p None None h = h
   party_joined laws busy busy' s Q g p (Some r) (Some o) h = laws.joins_well busy busy' s Q g p r o h
-  party_joined laws busy busy' s Q g p None (Some o) h = absurd h
-  party_joined laws busy busy' s Q g p (Some r) None h = absurd h
+  party_joined laws busy busy' s Q g p r o h = absurd h
 
   each_after : (P : Option R → Option (Open T) → Type 0) (calls : List (Option R)) (p j : ℕ) (x : Option R) (y : Option (Open T)) (f : ℕ → Option (Open T))
       → p < length calls → (j ≡ p → P x y) → (j ≢ p → P (get_or calls j None) (f j))
@@ -128,22 +113,19 @@ module _ (T S R G : Type 0) (cap : Option ℕ) (step : Bool → S → R → Made
       let e = busy_set calls p None lt in
       let f : one_if (get_or calls p None) ≡ 1 = rw there refl in
       omega (arith, e, f)
-  busy_after calls p r busy None None s Q g o goes lt there is = absurd goes
-  busy_after calls p r busy (Some r') (Some y) s Q g o goes lt there is = absurd goes
+  busy_after calls p r busy x y s Q g o goes lt there is = absurd goes
 
   -- the party after its step
   party_after : (busy : ℕ) (s : S) (Q : State T) (g : G) (p : ℕ) (o : Open T) (x : Option R) (y : Option (Reply T))
       → Goes busy s Q g p o x y → Party (if is_some y then busy - 1 else busy) s Q g p x (if is_some y then None else Some o)
-  party_after busy s Q g p o (Some r) None goes = goes.0
-  party_after busy s Q g p o None (Some y) goes = goes.0
   party_after busy s Q g p o None None goes = absurd goes
   party_after busy s Q g p o (Some r) (Some y) goes = absurd goes
+  party_after busy s Q g p o x y goes = goes.0
 
   goes_on : (busy : ℕ) (s : S) (Q : State T) (g : G) (p : ℕ) (o : Open T) (x : Option R) (y : Option (Reply T)) → Goes busy s Q g p o x y → GoesOn o y
-  goes_on busy s Q g p o (Some r) None goes = goes.1
-  goes_on busy s Q g p o None (Some y) goes = goes.1
   goes_on busy s Q g p o None None goes = absurd goes
   goes_on busy s Q g p o (Some r) (Some y) goes = absurd goes
+  goes_on busy s Q g p o x y goes = goes.1
 
   step_event : (laws : Laws) (parties : ℕ) (w : World S R) (b : Book T) (ok : Bool) (p : ℕ) (sim : Simulates parties w b) (r : R) (o : Open T)
       → call_at w p ≡ Some r → b.open_call p ≡ Some o
@@ -184,8 +166,7 @@ module _ (T S R G : Type 0) (cap : Option ℕ) (step : Bool → S → R → Made
       other_party parties w b sim p j r o t well busy' in_w ne None e None h = well.idle j ne h
       other_party parties w b sim p j r o t well busy' in_w ne (Some x) e (Some y) h =
           well.others busy' j x y ne (λ one. let none = one_busy w.calls p j r (sym sim.busy_is ∙ one) in_w ne in cc) h
-      other_party parties w b sim p j r o t well busy' in_w ne None e (Some y) h = absurd h
-      other_party parties w b sim p j r o t well busy' in_w ne (Some x) e None h = absurd h
+      other_party parties w b sim p j r o t well busy' in_w ne x e y h = absurd h
 
   same_fit : (parties : ℕ) (w : World S R) (b : Book T) (sim : Simulates parties w b) (p : ℕ) → (nat_lt p parties && is_none (b.open_call p)) ≡ can_begin w p
   same_fit parties w b sim p = rw (sim.parties_are, party_none b.busy w.shared b.queue sim.g p (call_at w p) (b.open_call p) (sim.each p)) refl
@@ -201,22 +182,21 @@ module _ (T S R G : Type 0) (cap : Option ℕ) (step : Bool → S → R → Made
       → (c : Book T) × Happens cap parties b (Begin p k) (began w p x y).1 c × Simulates parties (began w p x y).0 c
   begin_event laws parties w b sim p k None (Some y) fit well = (b, (same_fit parties w b sim p ∙ fit, well.0, well.1, refl), sim)
   begin_event laws parties w b sim p k (Some r) None fit well =
-      let tests = both (nat_lt p (length w.calls)) (is_none (call_at w p)) fit in
+      let tests = and_true (nat_lt p (length w.calls)) (is_none (call_at w p)) fit in
       let lt = ltb-true p (length w.calls) tests.0 in (
         record { queue = b.queue; busy = b.busy + 1; open_call = put (λ j. at_open joined (b.open_call j)) p (Some (begun k)) },
         (same_fit parties w b sim p ∙ fit, well.0, refl),
         record {
           g = sim.g;
           parties_are = length-set w.calls p (Some r) ∙ sim.parties_are;
-          busy_is = busy_begun w.calls p r b.busy lt (is_none-true (call_at w p) tests.1) sim.busy_is;
+          busy_is = busy_begun w.calls p r b.busy lt (is_none_true (call_at w p) tests.1) sim.busy_is;
           holds = sim.holds;
           each = λ j. each_after (Party (b.busy + 1) w.shared b.queue sim.g j) w.calls p j (Some r) (Some (begun k)) (λ j. at_open joined (b.open_call j)) lt
               (λ e. rw e (well.1 (b.busy + 1)))
               (λ ne. party_joined laws b.busy (b.busy + 1) w.shared b.queue sim.g j (get_or w.calls j None) (b.open_call j) (sim.each j));
         },
       )
-  begin_event laws parties w b sim p k None None fit well = absurd well
-  begin_event laws parties w b sim p k (Some r) (Some y) fit well = absurd well
+  begin_event laws parties w b sim p k x y fit well = absurd well
 
   -- the code of any event owes nothing more
   pub can_take : (laws : Laws) (parties : ℕ) (w : World S R) (b : Book T) → Simulates parties w b → (ok : Bool) (p : ℕ) (r : R) → call_at w p ≡ Some r → CanStep ok w.shared r
@@ -231,8 +211,8 @@ module _ (T S R G : Type 0) (cap : Option ℕ) (step : Bool → S → R → Made
   simulates_event laws parties w b sim ok (Begin p k) =
       elim (can_begin w p) as (λ t. can_begin w p ≡ t → (c : Book T) × Happens cap parties b (Begin p k) (if t then began_by w p (start k) else (w, Skipped)).1 c × Simulates parties (if t then began_by w p (start k) else (w, Skipped)).0 c) [
         | true ↦ λ is.
-            let tests = both (nat_lt p (length w.calls)) (is_none (call_at w p)) is in
-            let free = idle_if b.busy w.shared b.queue sim.g p (call_at w p) (b.open_call p) (is_none-true (call_at w p) tests.1) (sim.each p) in
+            let tests = and_true (nat_lt p (length w.calls)) (is_none (call_at w p)) is in
+            let free = idle_if b.busy w.shared b.queue sim.g p (call_at w p) (b.open_call p) (is_none_true (call_at w p) tests.1) (sim.each p) in
             begin_event laws parties w b sim p k (start k).call (start k).reply is (laws.begins_well w.shared b.queue sim.g p k sim.holds free)
         | false ↦ λ is. (b, (same_fit parties w b sim p ∙ is, refl), sim)
       ] refl
@@ -242,8 +222,7 @@ module _ (T S R G : Type 0) (cap : Option ℕ) (step : Bool → S → R → Made
       step_fits : (x : Option R) → call_at w p ≡ x → (y : Option (Open T)) → b.open_call p ≡ y
           → (c : Book T) × Happens cap parties b (Step p granted) (stepped_if step w (granted && ok) p x).1 c × Simulates parties (stepped_if step w (granted && ok) p x).0 c
       step_fits None e None f = (b, (rw f (and_false (nat_lt p parties)), refl), sim)
-      step_fits None e (Some o) f = absurd (rw (e, f) at (sim.each p))
-      step_fits (Some r) e None f = absurd (rw (e, f) at (sim.each p))
       step_fits (Some r) e (Some o) f =
           let t = step_event laws parties w b (granted && ok) p sim r o e f in
           (t.0, (rw (f, sym sim.parties_are, within w p r e) refl, t.1), t.2)
+      step_fits x e y f = absurd (rw (e, f) at (sim.each p))

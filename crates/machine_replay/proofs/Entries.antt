@@ -5,7 +5,7 @@ use Rattle.std.proofs.lemmas.Bool.{lt-ltb, eq-eqb}
 use Rattle.std.proofs.lemmas.Bool.Decides.{eqb_tells}
 use Rattle.queue_steps.specs.State.{start}
 use Rattle.queue_steps.specs.Effect.{after_from}
-use Rattle.queue_steps.specs.declared.model.Effect.{Effect}
+use Rattle.machine_replay.specs.Vocabulary.{Effect}
 use Rattle.machine_replay.specs.Meaning.{Entry, chosen, effects_in, state_after, own_effects}
 
 pub each-more : {X : Type 0} (P : X → Type 0) (xs : List X) (x : X) → AllByRecursion P xs → P x → AllByRecursion P (xs ++ x ∷ [])
@@ -30,9 +30,8 @@ event-more (y ∷ xs) ys (suc n) x e = event-more xs ys n x e
 
 pub event-last : {X : Type 0} (xs : List X) (n : ℕ) (x : X) → n ≡ length xs → slice_get (xs ++ x ∷ []) n ≡ Some x
 event-last [] zero x e = refl
-event-last [] (suc n) x e = absurd (omega arith)
-event-last (y ∷ xs) zero x e = absurd (omega arith)
 event-last (y ∷ xs) (suc n) x e = event-last xs n x (omega arith)
+event-last xs n x e = absurd (omega arith)
 
 -- the new entries are those of the event n
 pub data Extends {T : Type 0} : ℕ → List (Entry T) → List (Entry T) → Type 0 where

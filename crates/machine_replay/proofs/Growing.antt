@@ -1,14 +1,9 @@
 -- The list grows by one item an event at most, and the capacity stays.
-use Rattle.std.proofs.Common.{◌≡◌, ◌∙◌, ℕ, ◌+◌, ◌≤◌, Option, Some, None, List, [], ◌∷◌, length, refl, ap, arith, length-append}
+use Rattle.std.proofs.Common.{◌≡◌, ◌∙◌, ℕ, ◌+◌, ◌≤◌, Option, Some, None, List, [], ◌∷◌, length, ap, arith, length-append}
 use Rattle.queue_steps.specs.State.{State}
 use Rattle.queue_steps.specs.Effect.{made, rest, with_coming}
-use Rattle.queue_steps.specs.declared.model.Effect.{Effect}
-use Rattle.queue_steps.specs.declared.model.Effect.TheVariants as effect
-use Rattle.machine_steps.specs.declared.types.EffectKind.{EffectKind}
-use Rattle.machine_steps.specs.declared.types.Event.{Event}
-use Rattle.machine_steps.specs.declared.types.Event.TheVariants.{Begin, Step}
-use Rattle.machine_steps.specs.declared.types.Told.{Told}
-use Rattle.machine_steps.specs.declared.types.Told.TheVariants.{Skipped, Ran}
+use Rattle.machine_replay.specs.Vocabulary.{Effect, Event, Told, EffectKind, Begin, Step, Skipped, Ran}
+use Rattle.law_common.proofs.Runs.{cap_made}
 use Rattle.machine_replay.specs.Book.{Book, Open, Moves, Happens, Run}
 
 length-rest : {T : Type 0} (xs : List T) → length (rest xs) ≤ length xs
@@ -20,13 +15,11 @@ length-coming xs None = omega arith
 length-coming xs (Some v) = omega (arith, length-append xs (v ∷ []))
 
 made-grows : {T : Type 0} (e : Effect T) (Q : State T) → length (made e Q).items ≤ length Q.items + 1
-made-grows (effect.Append v) Q = omega (arith, length-append Q.items (v ∷ []))
-made-grows (effect.Take v) Q = omega (arith, length-rest Q.items)
-made-grows (effect.Replace old v) Q = omega arith
-made-grows (effect.Front old v) Q = omega (arith, length-rest Q.items)
-made-grows effect.Arrive Q = length-coming Q.items Q.coming
-made-grows effect.Close Q = omega arith
-made-grows effect.SelfClose Q = omega arith
+made-grows (Effect.Append v) Q = omega (arith, length-append Q.items (v ∷ []))
+made-grows (Effect.Take v) Q = omega (arith, length-rest Q.items)
+made-grows (Effect.Front old v) Q = omega (arith, length-rest Q.items)
+made-grows Effect.Arrive Q = length-coming Q.items Q.coming
+made-grows e Q = omega arith
 
 moves-grows : {T : Type 0} (Q : State T) (o : Open T) (k : Option EffectKind) (R : State T) (es : List (Effect T)) → Moves Q o k R es → length R.items ≤ length Q.items + 1
 moves-grows Q o None R es m = let e : length R.items ≡ length Q.items = ap (λ q. length q.items) m.0 in omega arith
@@ -42,21 +35,11 @@ happens-grows cap parties b (Step p granted) (Ran k r) c h = moves-grows b.queue
 pub run-grows : {T : Type 0} (cap : Option ℕ) (parties : ℕ) (b : Book T) (es : List (Event T)) (ts : List (Told T)) (c : Book T) → Run cap parties b es ts c → length c.queue.items ≤ length b.queue.items + length es
 run-grows cap parties b [] [] c run = let s : length c.queue.items ≡ length b.queue.items = ap (λ x. length x.queue.items) run in omega arith
 run-grows cap parties b (e ∷ es) (t ∷ ts) c run = omega (arith, happens-grows cap parties b e t run.0 run.1, run-grows cap parties run.0 es ts c run.2)
-run-grows cap parties b [] (t ∷ ts) c run = absurd run
-run-grows cap parties b (e ∷ es) [] c run = absurd run
-
-pub made-cap : {T : Type 0} (e : Effect T) (Q : State T) → (made e Q).cap ≡ Q.cap
-made-cap (effect.Append v) Q = refl
-made-cap (effect.Take v) Q = refl
-made-cap (effect.Replace old v) Q = refl
-made-cap (effect.Front old v) Q = refl
-made-cap effect.Arrive Q = refl
-made-cap effect.Close Q = refl
-made-cap effect.SelfClose Q = refl
+run-grows cap parties b es ts c run = absurd run
 
 moves-cap : {T : Type 0} (Q : State T) (o : Open T) (k : Option EffectKind) (R : State T) (es : List (Effect T)) → Moves Q o k R es → R.cap ≡ Q.cap
 moves-cap Q o None R es m = ap (λ q. q.cap) m.0
-moves-cap Q o (Some k) R es m = ap (λ q. q.cap) m.4 ∙ made-cap m.0 Q
+moves-cap Q o (Some k) R es m = ap (λ q. q.cap) m.4 ∙ cap_made m.0 Q
 
 happens-cap : {T : Type 0} (cap : Option ℕ) (parties : ℕ) (b : Book T) (e : Event T) (t : Told T) (c : Book T) → Happens cap parties b e t c → c.queue.cap ≡ b.queue.cap
 happens-cap cap parties b e Skipped c h = ap (λ x. x.queue.cap) h.1
@@ -69,5 +52,4 @@ happens-cap cap parties b (Step p granted) (Ran k r) c h = moves-cap b.queue h.1
 pub run-cap : {T : Type 0} (cap : Option ℕ) (parties : ℕ) (b : Book T) (es : List (Event T)) (ts : List (Told T)) (c : Book T) → Run cap parties b es ts c → c.queue.cap ≡ b.queue.cap
 run-cap cap parties b [] [] c run = ap (λ x. x.queue.cap) run
 run-cap cap parties b (e ∷ es) (t ∷ ts) c run = run-cap cap parties run.0 es ts c run.2 ∙ happens-cap cap parties b e t run.0 run.1
-run-cap cap parties b [] (t ∷ ts) c run = absurd run
-run-cap cap parties b (e ∷ es) [] c run = absurd run
+run-cap cap parties b es ts c run = absurd run

@@ -2,17 +2,9 @@
 use Rattle.std.proofs.Common.{◌≡◌, ◌∙◌, ℕ, ◌+◌, ◌<◌, ◌≤◌, ◌&&◌, nat_lt, Bool, true, false, cond, Option, Some, None, is_none, List, [], ◌∷◌, ◌++◌, length, get_or-set_same, refl, sym, ap, subst, arith, inl, inr}
 use Rattle.std.proofs.lemmas.Bool.{ltb-true}
 use Rattle.std.proofs.lemmas.Bool.Decides.{eqb_tells}
+use Rattle.law_common.proofs.Tests.{is_none_true}
 use Rattle.queue_steps.specs.State.{State}
-use Rattle.queue_steps.specs.declared.model.Effect.{Effect}
-use Rattle.queue_steps.specs.declared.model.Reply.{Reply}
-use Rattle.queue_steps.specs.declared.steps.types.Kind.{Kind}
-use Rattle.queue_steps.specs.declared.steps.types.Local.{Local}
-use Rattle.machine_steps.specs.declared.machine.Running.{Running}
-use Rattle.machine_steps.specs.declared.types.EffectKind.{EffectKind}
-use Rattle.machine_steps.specs.declared.types.Event.{Event}
-use Rattle.machine_steps.specs.declared.types.Event.TheVariants.{Begin, Step}
-use Rattle.machine_steps.specs.declared.types.Told.{Told}
-use Rattle.machine_steps.specs.declared.types.Told.TheVariants.{Skipped, Ran}
+use Rattle.machine_replay.specs.Vocabulary.{Reply, Effect, Kind, Local, Event, Told, EffectKind, Begin, Step, Skipped, Ran, Running}
 use Rattle.machine_replay.specs.Book.{Book, Open, Happens, Steps, Moves, kind_of, at_open, put, joined, watched, begun, after_own}
 use Rattle.machine_replay.specs.Conforms.{capacity_of, party_of}
 use Rattle.machine_replay.specs.Progress.{reply_told}
@@ -21,7 +13,7 @@ use Rattle.machine_steps.specs.Machine.{event_of}
 use Rattle.machine_steps.specs.SharedMemory.{Shared, CanStep, step_of, start_of}
 use Rattle.machine_steps.specs.World.{World, call_at}
 use Rattle.machine_replay.proofs.Engine as engine
-use Rattle.machine_replay.proofs.Solo.{and-right, none-if, put-same, put-other}
+use Rattle.machine_replay.proofs.Solo.{and-right, put-same, put-other}
 use Rattle.machine_replay.proofs.Stretch.{Rules, other-stays, begin-stays, own-step}
 
 -- one of the effects is of such a kind
@@ -64,7 +56,7 @@ pub in-next : {T : Type 0} (such : EffectKind → Bool) (cap : Option ℕ) (part
 in-next such cap parties b c e Skipped q h none a = rw h.1 a
 in-next such cap parties b c (Begin p k) (Ran None None) q h none a = rw h.2 (elim (eqb_tells p q) [
   | inl same ↦
-      let free : b.open_call q ≡ None = ap b.open_call (sym same.1) ∙ none-if (b.open_call p) (and-right (nat_lt p parties) (is_none (b.open_call p)) h.0) in
+      let free : b.open_call q ≡ None = ap b.open_call (sym same.1) ∙ is_none_true (b.open_call p) (and-right (nat_lt p parties) (is_none (b.open_call p)) h.0) in
       let there = a.1 in cc
   | inr ne ↦ rw (put-other (λ j. at_open joined (b.open_call j)) p q (Some (begun k)) (λ s. ne.1 (sym s))) (in-on such joined (λ o. refl) (b.open_call q) a)
 ])
@@ -85,14 +77,12 @@ in-next {T} such cap parties b c (Step p granted) (Ran k r) q h none a = by_repl
 
 -- where it has one
 pub in-here : {T : Type 0} (such : EffectKind → Bool) (cap : Option ℕ) (parties : ℕ) (b c : Book T) (p : ℕ) (granted : Bool) (x : EffectKind) → such x ≡ true → (t : Told T) → t ≡ Ran (Some x) None → Happens cap parties b (Step p granted) t c → In such (c.open_call p)
-in-here such cap parties b c p granted x is Skipped told h = cc
 in-here such cap parties b c p granted x is (Ran (Some k) None) told h =
     let s = h.1 in
     let mine = after_own b.busy s.o c.queue s.effects in
     let what : k ≡ x = cc in
     (mine, ap (λ z. z p) s.calls ∙ put-same (λ j. at_open (watched c.queue) (b.open_call j)) p (Some mine), subst (λ es. Had such es) (sym s.moves.5) (now such s.o.effects s.moves.0 (ap such (s.moves.1 ∙ what) ∙ is)))
-in-here such cap parties b c p granted x is (Ran None r) told h = cc
-in-here such cap parties b c p granted x is (Ran (Some k) (Some r)) told h = cc
+in-here such cap parties b c p granted x is t told h = cc
 
 -- an event brings a call nearer to its reply where it is its own step, and else leaves it as far
 module _ (T : Type 0) (k : Kind) (laws : Rules T k) (parties : ℕ) (before : Local ℕ → ℕ) where

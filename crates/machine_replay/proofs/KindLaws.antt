@@ -2,8 +2,7 @@
 use Rattle.std.specs.Prelude.{◌≡◌, ℕ, ◌<◌, ◌≤◌, Some, length}
 use Rattle.queue_steps.specs.State.{State, start}
 use Rattle.queue_steps.specs.Sequential.{blocks_of}
-use Rattle.queue_steps.specs.declared.steps.types.Kind.{Kind}
-use Rattle.machine_steps.specs.declared.machine.Running.{Running}
+use Rattle.machine_replay.specs.Vocabulary.{Kind, Running}
 use Rattle.machine_replay.specs.Book.{Book, Open}
 use Rattle.machine_replay.specs.Conforms.{capacity_of, share}
 use Rattle.machine_steps.specs.Present.{present}

@@ -3,19 +3,8 @@ use Rattle.std.proofs.Common.{◌≡◌, ◌≢◌, ◌∙◌, ℕ, ◌+◌, ◌
 use Rattle.std.proofs.lemmas.Bool.{eq-eqb, ltb-false}
 use Rattle.std.proofs.lemmas.Bool.Decides.{eqb_tells}
 use Rattle.queue_steps.specs.State.{State}
-use Rattle.queue_steps.specs.declared.model.Call.{Call}
-use Rattle.queue_steps.specs.declared.model.Effect.{Effect}
-use Rattle.queue_steps.specs.declared.sizes.TheConstants.{MAX_CAPACITY}
-use Rattle.queue_steps.specs.declared.steps.bounded.BoundedLocal.TheVariants as at
+use Rattle.machine_replay.specs.Vocabulary.{Call, Effect, Kind, Op, Touch, Look, Local, Next, BoundedLocal, MAX_CAPACITY, Event, Running}
 use Rattle.queue_steps.specs.declared.steps.single.SingleLocal.TheVariants.{Looking}
-use Rattle.queue_steps.specs.declared.steps.types.Kind.{Kind}
-use Rattle.queue_steps.specs.declared.steps.types.Kind.TheVariants as kind
-use Rattle.queue_steps.specs.declared.steps.types.Local.{Local}
-use Rattle.queue_steps.specs.declared.steps.types.Local.TheVariants as local
-use Rattle.queue_steps.specs.declared.steps.types.Look.TheVariants as look
-use Rattle.queue_steps.specs.declared.steps.types.Next.{Next}
-use Rattle.queue_steps.specs.declared.steps.types.Op.{Op}
-use Rattle.queue_steps.specs.declared.steps.types.Touch.{Touch}
 use Rattle.queue_steps.specs.declared.steps.unbounded.UnboundedLocal.TheVariants as chain
 use Rattle.law_slot.specs.SlotHolder.{SlotHolder}
 use Rattle.law_slot.specs.SlotRows as slot
@@ -23,8 +12,6 @@ use Rattle.law_ring.specs.RingCells.{Ring}
 use Rattle.law_ring.specs.RingAt as ring
 use Rattle.law_chain.specs.ChainCells.{Chain}
 use Rattle.law_chain.specs.ChainAt as links
-use Rattle.machine_steps.specs.declared.machine.Running.{Running}
-use Rattle.machine_steps.specs.declared.types.Event.{Event}
 use Rattle.machine_steps.specs.Left.{opening_world}
 use Rattle.machine_steps.specs.Machine.{event_of}
 use Rattle.machine_steps.specs.SharedMemory.{Shared, step_of, running_after}
@@ -59,35 +46,35 @@ late_most t u = elim (eqb_tells t u) [ inl e ↦ let z : late t u ≡ 0 = ap (λ
 
 -- how many steps a call of `len` has before it, and more than any has at the steps of other calls
 before : ℕ → Local ℕ → ℕ
-before t (local.Single (Looking look.Len)) = 1
-before t (local.Bounded at.LenTail) = 3
-before t (local.Bounded (at.LenHead u)) = 2 + late t u
-before t (local.Bounded (at.LenAgain u h)) = 1 + late t u
-before t (local.Unbounded chain.LenTail) = 3
-before t (local.Unbounded (chain.LenHead u)) = 2 + late t u
-before t (local.Unbounded (chain.LenAgain u h)) = 1 + late t u
+before t (Local.Single (Looking Look.Len)) = 1
+before t (Local.Bounded BoundedLocal.LenTail) = 3
+before t (Local.Bounded (BoundedLocal.LenHead u)) = 2 + late t u
+before t (Local.Bounded (BoundedLocal.LenAgain u h)) = 1 + late t u
+before t (Local.Unbounded chain.LenTail) = 3
+before t (Local.Unbounded (chain.LenHead u)) = 2 + late t u
+before t (Local.Unbounded (chain.LenAgain u h)) = 1 + late t u
 before t _ = 9
 
 within : (t : ℕ) (l : Local ℕ) → IsOfLen l → (0 < before t l) × (before t l ≤ 5)
 unfolding before
-within t (local.Single (Looking look.Len)) is = (omega arith, omega arith)
-within t (local.Bounded at.LenTail) is = (omega arith, omega arith)
-within t (local.Bounded (at.LenHead u)) is = let z = late_most t u in (omega arith, omega (arith, z))
-within t (local.Bounded (at.LenAgain u h)) is = let z = late_most t u in (omega arith, omega (arith, z))
-within t (local.Unbounded chain.LenTail) is = (omega arith, omega arith)
-within t (local.Unbounded (chain.LenHead u)) is = let z = late_most t u in (omega arith, omega (arith, z))
-within t (local.Unbounded (chain.LenAgain u h)) is = let z = late_most t u in (omega arith, omega (arith, z))
+within t (Local.Single (Looking Look.Len)) is = (omega arith, omega arith)
+within t (Local.Bounded BoundedLocal.LenTail) is = (omega arith, omega arith)
+within t (Local.Bounded (BoundedLocal.LenHead u)) is = let z = late_most t u in (omega arith, omega (arith, z))
+within t (Local.Bounded (BoundedLocal.LenAgain u h)) is = let z = late_most t u in (omega arith, omega (arith, z))
+within t (Local.Unbounded chain.LenTail) is = (omega arith, omega arith)
+within t (Local.Unbounded (chain.LenHead u)) is = let z = late_most t u in (omega arith, omega (arith, z))
+within t (Local.Unbounded (chain.LenAgain u h)) is = let z = late_most t u in (omega arith, omega (arith, z))
 within t _ is = absurd is
 
 is_of_len : (t : ℕ) (l : Local ℕ) → before t l ≤ 5 → IsOfLen l
 unfolding before
-is_of_len t (local.Single (Looking look.Len)) low = tt
-is_of_len t (local.Bounded at.LenTail) low = tt
-is_of_len t (local.Bounded (at.LenHead u)) low = tt
-is_of_len t (local.Bounded (at.LenAgain u h)) low = tt
-is_of_len t (local.Unbounded chain.LenTail) low = tt
-is_of_len t (local.Unbounded (chain.LenHead u)) low = tt
-is_of_len t (local.Unbounded (chain.LenAgain u h)) low = tt
+is_of_len t (Local.Single (Looking Look.Len)) low = tt
+is_of_len t (Local.Bounded BoundedLocal.LenTail) low = tt
+is_of_len t (Local.Bounded (BoundedLocal.LenHead u)) low = tt
+is_of_len t (Local.Bounded (BoundedLocal.LenAgain u h)) low = tt
+is_of_len t (Local.Unbounded chain.LenTail) low = tt
+is_of_len t (Local.Unbounded (chain.LenHead u)) low = tt
+is_of_len t (Local.Unbounded (chain.LenAgain u h)) low = tt
 is_of_len t _ low = absurd (omega (arith, low))
 
 -- what a kind of queue owes: a step of `len` brings it nearer to its reply, where it leaves the tail
@@ -127,12 +114,9 @@ module _ (T : Type 0) (k : Kind) (laws : Rules T k) (parties : ℕ) (looks : Loo
 
 -- on one slot it is one look
 slot_looks : {T : Type 0} {l : Local ℕ} {t : Touch} {o : Op ℕ} {v : Option T} {own : SlotHolder T} {k : Call T} {es : List (Effect T)} (ok : Bool) (s : Shared T) (x : Running T) → slot.At l t o v own k es → IsOfLen l
-    → (step_of kind.Single ok s (record { local = l; touch = t; op = o; carried = v })).call ≡ Some x → before s.tail x.local < before s.tail l
-slot_looks ok s x (slot.look_at look.Len) is goes = cc
-slot_looks ok s x (slot.look_at look.IsClosed) is goes = absurd is
-slot_looks ok s x (slot.look_at look.IsEmpty) is goes = absurd is
-slot_looks ok s x (slot.look_at look.IsFull) is goes = absurd is
-slot_looks ok s x _ is goes = absurd is
+    → (step_of Kind.Single ok s (record { local = l; touch = t; op = o; carried = v })).call ≡ Some x → before s.tail x.local < before s.tail l
+slot_looks ok s x (slot.look_at Look.Len) is goes = cc
+slot_looks ok s x y is goes = absurd is
 
 -- the second read of the tail finds it as it was, or the call begins again
 again : {A : Type 0} (now read : ℕ) (m l : Next ℕ) (v : Option A) (x : Running A) → (running_after m v ≡ Some x → ⊥) → (running_after l v ≡ Some x → before now x.local ≡ 3) → running_after (if now == read then m else l) v ≡ Some x → before now x.local < 1 + late now read
@@ -142,7 +126,7 @@ again now read m l v x ends begins goes = elim (eqb_tells now read) [
 ]
 
 ring_looks : {A : Type 0} {cap : ℕ} {r : Ring A} {who : ℕ} {ms : List (State A)} {was : Bool} {l : Local ℕ} {t : Touch} {o : Op ℕ} {v : Option A} {k : Call A} {es : List (Effect A)} (ok : Bool) (s : Shared A) (x : Running A) → ring.At cap r who ms was l t o v k es → IsOfLen l
-    → (step_of (kind.Bounded cap) ok s (record { local = l; touch = t; op = o; carried = v })).call ≡ Some x → before s.tail x.local < before s.tail l
+    → (step_of (Kind.Bounded cap) ok s (record { local = l; touch = t; op = o; carried = v })).call ≡ Some x → before s.tail x.local < before s.tail l
 unfolding before
 ring_looks ok s x (ring.len_tail none) is goes = let same = same_call x goes in let z = late_same s.tail in subst (λ y. before s.tail y.local < 3) same (omega (arith, z))
 ring_looks ok s x (ring.len_head t none low) is goes = let same = same_call x goes in subst (λ y. before s.tail y.local < 2 + late s.tail t) same (omega arith)
@@ -150,7 +134,7 @@ ring_looks ok s x (ring.len_again t h none seen) is goes = again s.tail t _ _ _ 
 ring_looks ok s x _ is goes = absurd is
 
 chain_looks : {A : Type 0} {c : Chain A} {who : ℕ} {ms : List (State A)} {l : Local ℕ} {t : Touch} {o : Op ℕ} {v : Option A} {k : Call A} {es : List (Effect A)} (ok : Bool) (s : Shared A) (x : Running A) → links.At c who ms l t o v k es → IsOfLen l
-    → (step_of kind.Unbounded ok s (record { local = l; touch = t; op = o; carried = v })).call ≡ Some x → before s.tail x.local < before s.tail l
+    → (step_of Kind.Unbounded ok s (record { local = l; touch = t; op = o; carried = v })).call ≡ Some x → before s.tail x.local < before s.tail l
 unfolding before
 chain_looks ok s x (links.len_tail none) is goes = let same = same_call x goes in let z = late_same s.tail in subst (λ y. before s.tail y.local < 3) same (omega (arith, z))
 chain_looks ok s x (links.len_head t none small low) is goes = let same = same_call x goes in subst (λ y. before s.tail y.local < 2 + late s.tail t) same (omega arith)
@@ -158,6 +142,6 @@ chain_looks ok s x (links.len_again t h none small seen) is goes = again s.tail 
 chain_looks ok s x _ is goes = absurd is
 
 pub len_waits : (T : Type 0) → LenWaitsForNobody T
-len_waits T kind.Single can small parties = few T kind.Single (single_rules T) parties (λ busy ok s Q g p r x o f is goes. slot_looks ok s x f.here is goes)
-len_waits T (kind.Bounded n) can small parties = few T (kind.Bounded n) (ring_rules n (can, ltb-false MAX_CAPACITY n small)) parties (λ busy ok s Q g p r x o f is goes. ring_looks ok s x f.here is goes)
-len_waits T kind.Unbounded can small parties = few T kind.Unbounded (chain_rules T) parties (λ busy ok s Q g p r x o f is goes. chain_looks ok s x f.here is goes)
+len_waits T Kind.Single can small parties = few T Kind.Single (single_rules T) parties (λ busy ok s Q g p r x o f is goes. slot_looks ok s x f.here is goes)
+len_waits T (Kind.Bounded n) can small parties = few T (Kind.Bounded n) (ring_rules n (can, ltb-false MAX_CAPACITY n small)) parties (λ busy ok s Q g p r x o f is goes. ring_looks ok s x f.here is goes)
+len_waits T Kind.Unbounded can small parties = few T Kind.Unbounded (chain_rules T) parties (λ busy ok s Q g p r x o f is goes. chain_looks ok s x f.here is goes)

@@ -1,15 +1,9 @@
 -- A run of the machine, one event after another, is a run of the book.
 use Rattle.std.proofs.Common.{◌≡◌, ◌∙◌, ℕ, ◌+◌, ◌≤◌, nat_lt, Bool, false, if◌then◌else◌, Option, Some, None, is_some, List, [], ◌∷◌, ◌++◌, length, refl, sym, ap, arith, append_assoc, append-nil}
 use Rattle.std.proofs.lemmas.Bool.{le-ltb}
-use Rattle.queue_steps.specs.declared.steps.types.Kind.{Kind}
+use Rattle.machine_replay.specs.Vocabulary.{Kind, Event, Told, Peak, Step, Skipped, Running}
 use Rattle.machine_replay.specs.declared.machine_run.MachineRun.{MachineRun}
 use Rattle.machine_replay.specs.declared.machine_run.Ended.{Ended}
-use Rattle.machine_steps.specs.declared.machine.Running.{Running}
-use Rattle.machine_steps.specs.declared.types.Event.{Event}
-use Rattle.machine_steps.specs.declared.types.Event.TheVariants.{Step}
-use Rattle.machine_steps.specs.declared.types.Peak.{Peak}
-use Rattle.machine_steps.specs.declared.types.Told.{Told}
-use Rattle.machine_steps.specs.declared.types.Told.TheVariants.{Skipped}
 use Rattle.machine_steps.specs.SharedMemory.{Shared}
 use Rattle.machine_replay.specs.MachineRuns.{Comes, Continues, EndsAs, IsMachineRun, KeepsRun, IsSomeMachineRun}
 use Rattle.machine_steps.specs.Left.{HasSlot, left_of, opening_world}
@@ -31,8 +25,7 @@ Comes-more k w v last p q top [] [] e t comes handles is =
     (handles.ok, told, (world, is ∙ ap (λ z. peaked z q) world ∙ ap (λ r. peaked (event_of k handles.ok w e).0 r) comes.1))
 Comes-more k w v last p q top (x ∷ es) (y ∷ ts) e t comes handles is =
     (comes.0, comes.1, Comes-more k (event_of k comes.0 w x).0 v last (peaked (event_of k comes.0 w x).0 p) q top es ts e t comes.2 handles is)
-Comes-more k w v last p q top [] (y ∷ ts) e t comes handles is = absurd comes
-Comes-more k w v last p q top (x ∷ es) [] e t comes handles is = absurd comes
+Comes-more k w v last p q top es ts e t comes handles is = absurd comes
 
 -- what is known of a run is known where it has come
 Comes-known : {T : Type 0} (k : Kind) (parties : ℕ) (w last : World (Shared T) (Running T)) (p top : Peak) (past es : List (Event T)) (told ts : List (Told T))

@@ -2,10 +2,7 @@
 use Rattle.std.proofs.Common.{suc, ◌≡◌, inl, inr, None, Ok, List, [], ◌∷◌, refl, arith}
 use Rattle.std.specs.List.{Any}
 use Rattle.queue_steps.specs.State.{State}
-use Rattle.queue_steps.specs.declared.model.Reply.TheVariants as reply
-use Rattle.queue_steps.specs.declared.model.Effect.TheVariants as effect
-use Rattle.queue_steps.specs.declared.steps.bounded.PushKind.{PushKind}
-use Rattle.queue_steps.specs.declared.steps.bounded.PushKind.TheVariants as kind
+use Rattle.machine_replay.specs.Vocabulary.{Reply, Effect, PushKind}
 use Rattle.law_common.specs.Moments as laws
 use Rattle.law_common.specs.Moments.{SeenIn}
 use Rattle.law_common.specs.Pushes.{pushes}
@@ -23,6 +20,6 @@ same_moments q [] = refl
 same_moments q (m ∷ ms) = refl
 
 -- a push has no effect, or has appended
-pub begun_push : {A : Type 0} (d : PushKind) (v : A) → IsBegun (pushes d v) [] × IsBegun (pushes d v) (effect.Append v ∷ [])
-begun_push kind.Push v = ((reply.Push (Ok tt), effect.Append v ∷ [], refl), (reply.Push (Ok tt), [], refl))
-begun_push kind.Force v = ((reply.ForcePush (Ok None), effect.Append v ∷ [], refl), (reply.ForcePush (Ok None), [], refl))
+pub begun_push : {A : Type 0} (d : PushKind) (v : A) → IsBegun (pushes d v) [] × IsBegun (pushes d v) (Effect.Append v ∷ [])
+begun_push PushKind.Push v = ((Reply.Push (Ok tt), Effect.Append v ∷ [], refl), (Reply.Push (Ok tt), [], refl))
+begun_push PushKind.Force v = ((Reply.ForcePush (Ok None), Effect.Append v ∷ [], refl), (Reply.ForcePush (Ok None), [], refl))

@@ -1,11 +1,8 @@
 -- How the effect that is told of a step moves the queue of the book, for rings and chains alike.
 use Rattle.std.proofs.Common.{◌≡◌, Bool, true, false, if◌then◌else◌, Option, Some, None, refl, sym, subst}
 use Rattle.queue_steps.specs.State.{State}
-use Rattle.queue_steps.specs.declared.model.Effect.{Effect}
-use Rattle.queue_steps.specs.declared.model.Effect.TheVariants as effect
+use Rattle.machine_replay.specs.Vocabulary.{Effect, EffectKind}
 use Rattle.law_common.specs.Effects.{Leads, with_effect, Whether}
-use Rattle.machine_steps.specs.declared.types.EffectKind.{EffectKind}
-use Rattle.machine_steps.specs.declared.types.EffectKind.TheVariants as told
 use Rattle.machine_replay.specs.Book.{Open, Moves, MayMake, kind_of}
 
 -- a step without effect leaves the queue
@@ -28,10 +25,10 @@ pub marked : {A : Type 0} (Q R S : State A) (o : Open A) (e : Option (Effect A))
 marked Q R S o e x k true is kind_is may h makes = no_move Q R S o e is h makes
 marked Q R S o e x k false is kind_is may h makes = moved Q R S o e x k is h kind_is may makes
 
-pub appends : {A : Type 0} (b : Bool) (e : Option (Effect A)) → Whether b ((v : A) × (e ≡ Some (effect.Append v))) (e ≡ None) → Whether b ((x : Effect A) × (e ≡ Some x) × (kind_of x ≡ told.Append)) (e ≡ None)
-appends true e h = (effect.Append h.0, h.1, refl)
+pub appends : {A : Type 0} (b : Bool) (e : Option (Effect A)) → Whether b ((v : A) × (e ≡ Some (Effect.Append v))) (e ≡ None) → Whether b ((x : Effect A) × (e ≡ Some x) × (kind_of x ≡ EffectKind.Append)) (e ≡ None)
+appends true e h = (Effect.Append h.0, h.1, refl)
 appends false e h = h
 
-pub takes : {A : Type 0} (b : Bool) (e : Option (Effect A)) → Whether b ((v : A) × (e ≡ Some (effect.Take v))) (e ≡ None) → Whether b ((x : Effect A) × (e ≡ Some x) × (kind_of x ≡ told.Take)) (e ≡ None)
-takes true e h = (effect.Take h.0, h.1, refl)
+pub takes : {A : Type 0} (b : Bool) (e : Option (Effect A)) → Whether b ((v : A) × (e ≡ Some (Effect.Take v))) (e ≡ None) → Whether b ((x : Effect A) × (e ≡ Some x) × (kind_of x ≡ EffectKind.Take)) (e ≡ None)
+takes true e h = (Effect.Take h.0, h.1, refl)
 takes false e h = h

@@ -1,15 +1,12 @@
 -- What is noted of a run, one event after another.
 use Rattle.std.proofs.Common.{◌≡◌, ◌∙◌, ℕ, List, [], ◌∷◌, ◌++◌, length, ap}
-use Rattle.queue_steps.specs.declared.steps.types.Kind.{Kind}
+use Rattle.machine_replay.specs.Vocabulary.{Kind, Event, Told, Replay}
 use Rattle.machine_replay.specs.declared.machine_run.MachineRun.{MachineRun}
 use Rattle.machine_replay.specs.declared.machine_run.Ended.{Ended}
 use Rattle.machine_replay.specs.declared.run.Lists.{Lists}
-use Rattle.machine_steps.specs.declared.types.Event.{Event}
-use Rattle.machine_steps.specs.declared.types.Told.{Told}
 use Rattle.machine_replay.specs.Conforms.{Conforms, capacity_of, party_of, entries_from, reply_entry, effect_entry, skipped_entry}
 use Rattle.machine_replay.specs.Played.{IsPlayed}
 use Rattle.machine_steps.specs.Left.{left_of}
-use Rattle.machine_steps.specs.declared.types.Replay.{Replay}
 use Rattle.machine_replay.specs.MachineRuns.{Continues, IsMachineRun, IsSomeMachineRun, Leaves}
 use Rattle.machine_steps.specs.Machine.{world_of}
 use Rattle.machine_replay.proofs.AllKinds.{known-length}

@@ -1,18 +1,14 @@
 -- With one party, the replies are those of a queue that has one owner.
-use Rattle.std.proofs.Common.{ℕ, ◌<◌, ◌≡◌, ◌||◌, ◌⊎◌, ◌∙◌, inl, inr, not, Bool, true, false, Option, Some, None, List, [], ◌∷◌, ◌++◌, length, refl, sym, ap, subst, arith, get_or, zero, suc}
+use Rattle.std.proofs.Common.{ℕ, ◌<◌, ◌≡◌, ◌∙◌, inl, inr, not, true, false, Option, Some, None, List, [], ◌∷◌, ◌++◌, length, refl, sym, ap, subst, arith, get_or, zero, suc}
 use Rattle.std.specs.List.{Any}
+use Rattle.law_common.proofs.Tests.{or_true, not_true}
 use Rattle.queue_steps.specs.State.{State}
 use Rattle.queue_steps.specs.Effect.{Fits, made, Runs, after_from}
 use Rattle.queue_steps.specs.Replies.{IsRightAt}
 use Rattle.queue_steps.specs.Sequential.{Owned}
-use Rattle.queue_steps.specs.declared.model.Call.{Call}
-use Rattle.queue_steps.specs.declared.model.Call.TheVariants as call
-use Rattle.queue_steps.specs.declared.model.Effect.{Effect}
-use Rattle.queue_steps.specs.declared.model.Effect.TheVariants as effect
-use Rattle.queue_steps.specs.declared.model.Reply.{Reply}
-use Rattle.queue_steps.specs.declared.model.Reply.TheVariants as reply
+use Rattle.law_common.proofs.Runs.{after_snoc, runs_snoc}
+use Rattle.machine_replay.specs.Vocabulary.{Call, Reply, Effect, EffectKind}
 use Rattle.law_moments.proofs.Table.{Agrees, Done, FrontOpen, finish}
-use Rattle.machine_steps.specs.declared.types.EffectKind.{EffectKind}
 use Rattle.machine_replay.specs.Book.{Open, Allows, Ends, Moves, MayMake, kind_of, has_steps, after_own}
 
 -- each moment is this one
@@ -42,42 +38,15 @@ abbrev pub Ready : {T : Type 0} → Owned T → State T → Option (Open T) → 
 Ready S Q None = Agrees S Q
 Ready S Q (Some o) = Midway S Q o
 
-runs-more : {T : Type 0} (Q : State T) (es : List (Effect T)) (e : Effect T) → Runs Q es → Fits e (after_from Q es) → Runs Q (es ++ e ∷ [])
-runs-more Q [] e run fits = (fits, tt)
-runs-more Q (f ∷ es) e run fits = (run.0, runs-more (made f Q) es e run.1 fits)
-
-after-more : {T : Type 0} (Q : State T) (es : List (Effect T)) (e : Effect T) → after_from Q (es ++ e ∷ []) ≡ made e (after_from Q es)
-after-more Q [] e = refl
-after-more Q (f ∷ es) e = after-more (made f Q) es e
-
 not_empty : {X : Type 0} (xs : List X) (x : X) → xs ++ x ∷ [] ≡ [] → ⊥
 not_empty [] x e = cc
 not_empty (y ∷ xs) x e = cc
 
 -- a front that this call takes off first
 front-more : {T : Type 0} (Q : State T) (es : List (Effect T)) (e : Effect T) (o : Open T) → FrontOpen Q es → MayMake (kind_of e) o → (es ≡ [] → o.was_open ≡ true → Q.closed ≡ false) → FrontOpen Q (es ++ e ∷ [])
-front-more Q [] (effect.Front old v) o first may seen = seen refl may
-front-more Q [] (effect.Append v) o first may seen = tt
-front-more Q [] (effect.Take v) o first may seen = tt
-front-more Q [] (effect.Replace old v) o first may seen = tt
-front-more Q [] effect.Arrive o first may seen = tt
-front-more Q [] effect.Close o first may seen = tt
-front-more Q [] effect.SelfClose o first may seen = tt
-front-more Q (effect.Front old v ∷ es) e o first may seen = first
-front-more Q (effect.Append v ∷ es) e o first may seen = tt
-front-more Q (effect.Take v ∷ es) e o first may seen = tt
-front-more Q (effect.Replace old v ∷ es) e o first may seen = tt
-front-more Q (effect.Arrive ∷ es) e o first may seen = tt
-front-more Q (effect.Close ∷ es) e o first may seen = tt
-front-more Q (effect.SelfClose ∷ es) e o first may seen = tt
-
-or_true : (a b : Bool) → (a || b) ≡ true → (a ≡ true) ⊎ (b ≡ true)
-or_true true b e = inl refl
-or_true false b e = inr e
-
-not_true : (b : Bool) → not b ≡ true → b ≡ false
-not_true true e = cc
-not_true false e = refl
+front-more Q [] (Effect.Front old v) o first may seen = seen refl may
+front-more Q (Effect.Front old v ∷ es) e o first may seen = first
+front-more Q es e o first may seen = tt
 
 -- after its own step
 pub midway-more : {T : Type 0} (S : Owned T) (Q R : State T) (o : Open T) (k : Option EffectKind) (es : List (Effect T)) (busy : ℕ) → Midway S Q o → Moves Q o k R es → Midway S R (after_own busy o R es)
@@ -102,8 +71,8 @@ midway-more S Q R o (Some k) es busy h m =
     record {
       from = h.from;
       agrees = h.agrees;
-      runs = rw m.5 (runs-more h.from o.effects e h.runs fits);
-      leads = ap (λ l. after_from h.from l) m.5 ∙ after-more h.from o.effects e ∙ ap (λ q. made e q) h.leads ∙ sym m.4;
+      runs = rw m.5 (runs_snoc h.from o.effects e h.runs fits);
+      leads = ap (λ l. after_from h.from l) m.5 ∙ after_snoc h.from o.effects e ∙ ap (λ q. made e q) h.leads ∙ sym m.4;
       only = λ none. absurd (not_empty o.effects e (sym m.5 ∙ none));
       seen = λ none open_. absurd (not_empty o.effects e (sym m.5 ∙ none));
       first = rw m.5 (front-more h.from o.effects e o h.first may h.seen);
@@ -115,14 +84,8 @@ midway-ends S Q o r h ends =
 
 -- a call that replies where it begins
 pub at_once : {T : Type 0} (cap : Option ℕ) (S : Owned T) (Q : State T) (c : Call T) (r : Reply T) → Agrees S Q → has_steps cap c ≡ false → IsRightAt Q c r → Done S Q c r
-at_once cap S Q call.Capacity (reply.Capacity x) h e right = finish S Q Q call.Capacity (reply.Capacity x) [] h refl tt refl (λ n. inl right) tt
-at_once cap S Q call.IsFull (reply.IsFull x) h e right = finish S Q Q call.IsFull (reply.IsFull x) [] h refl tt refl (λ n. inl right) tt
-at_once cap S Q call.IsFull _ h e right = absurd right
-at_once cap S Q call.Capacity _ h e right = absurd right
-at_once cap S Q (call.Push v) r h e right = cc
-at_once cap S Q (call.ForcePush v) r h e right = cc
-at_once cap S Q call.Pop r h e right = cc
-at_once cap S Q call.Close r h e right = cc
-at_once cap S Q call.IsClosed r h e right = cc
-at_once cap S Q call.IsEmpty r h e right = cc
-at_once cap S Q call.Len r h e right = cc
+at_once cap S Q Call.Capacity (Reply.Capacity x) h e right = finish S Q Q Call.Capacity (Reply.Capacity x) [] h refl tt refl (λ n. inl right) tt
+at_once cap S Q Call.IsFull (Reply.IsFull x) h e right = finish S Q Q Call.IsFull (Reply.IsFull x) [] h refl tt refl (λ n. inl right) tt
+at_once cap S Q Call.IsFull _ h e right = absurd right
+at_once cap S Q Call.Capacity _ h e right = absurd right
+at_once cap S Q c r h e right = cc

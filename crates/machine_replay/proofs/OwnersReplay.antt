@@ -3,11 +3,7 @@ use Rattle.std.proofs.Common.{◌≡◌, ◌∙◌, ℕ, ◌+◌, ◌<◌, ◌�
 use Rattle.std.specs.List.{AllByRecursion}
 use Rattle.std.proofs.lemmas.Bool.{eq-eqb}
 use Rattle.std.proofs.lemmas.Bool.Decides.{eqb_tells}
-use Rattle.queue_steps.specs.declared.model.Call.{Call}
-use Rattle.machine_steps.specs.declared.types.Event.{Event}
-use Rattle.machine_steps.specs.declared.types.Event.TheVariants.{Begin, Step}
-use Rattle.machine_steps.specs.declared.types.Told.{Told}
-use Rattle.machine_steps.specs.declared.types.Told.TheVariants.{Skipped, Ran}
+use Rattle.machine_replay.specs.Vocabulary.{Call, Event, Told, Begin, Step, Skipped, Ran}
 use Rattle.machine_replay.specs.Book.{opening}
 use Rattle.machine_replay.specs.Conforms.{entries_from, skipped_entry}
 use Rattle.machine_replay.specs.OneOwner.{begun_calls, calls_from, is_among, OnePartyIsOneOwner}
@@ -45,8 +41,6 @@ earlier n S early = each-all _ _ S (λ m lt. omega arith) early
 -- the calls that ran as what was told has them are those of the lists; S are the skipped events before these
 pub begun-listed : {T : Type 0} (n : ℕ) (S : List ℕ) (es : List (Event T)) (ts : List (Told T)) → length es ≡ length ts → AllByRecursion (λ m. m < n) S → begun_calls es ts ≡ calls_from n (S ++ entries_from skipped_entry n es ts) es
 begun-listed n S [] [] same early = refl
-begun-listed n S [] (t ∷ ts) same early = cc
-begun-listed n S (e ∷ es) [] same early = cc
 begun-listed n S (Begin p k ∷ es) (Skipped ∷ ts) same early =
     let late = entries_from skipped_entry (n + 1) es ts in
     let rest = begun-listed (n + 1) (S ++ n ∷ []) es ts (omega arith) (each-more _ S n (earlier n S early) (omega arith)) in
@@ -61,6 +55,7 @@ begun-listed n S (Begin p k ∷ es) (Ran x r ∷ ts) same early =
     let rest = begun-listed (n + 1) S es ts (omega arith) (earlier n S early) in
     ap (λ l. k ∷ l) rest ∙ sym (calls-begun n p k (S ++ late) es (among-behind n S late early ∙ among-later n late (skipped-late (n + 1) es ts)))
 begun-listed n S (Step p g ∷ es) (Ran x r ∷ ts) same early = begun-listed (n + 1) S es ts (omega arith) (earlier n S early)
+begun-listed n S es ts same early = cc
 
 pub owners_replay : {T A : Type 0} → OnePartyIsOneOwner T A
 owners_replay cap events r c =

@@ -3,17 +3,11 @@ use Rattle.std.proofs.Common.{◌≡◌, ◌∙◌, ℕ, ◌+◌, ◌/◌, ◌<�
 use lib.Seq.{take-append_seam}
 use Rattle.std.specs.List.{AllByRecursion}
 use Rattle.std.proofs.lemmas.Bool.{lt-ltb, le-ltb}
-use Rattle.queue_steps.specs.declared.sizes.TheConstants.{BLOCK_SLOTS}
+use Rattle.machine_replay.specs.Vocabulary.{Call, Reply, BLOCK_SLOTS, Event, Told, EffectKind, Begin, Step, Skipped, Ran}
 use Rattle.queue_steps.specs.State.{State, start}
 use Rattle.queue_steps.specs.Effect.{Runs, IsHistory, made, after_from}
 use Rattle.queue_steps.specs.Sequential.{blocks_of, spanned}
-use Rattle.queue_steps.specs.declared.model.Call.{Call}
-use Rattle.queue_steps.specs.declared.model.Reply.{Reply}
-use Rattle.machine_steps.specs.declared.types.EffectKind.{EffectKind}
-use Rattle.machine_steps.specs.declared.types.Event.{Event}
-use Rattle.machine_steps.specs.declared.types.Event.TheVariants.{Begin, Step}
-use Rattle.machine_steps.specs.declared.types.Told.{Told}
-use Rattle.machine_steps.specs.declared.types.Told.TheVariants.{Skipped, Ran}
+use Rattle.law_common.proofs.Runs.{cap_made}
 use Rattle.machine_replay.specs.Book.{Book, Run, kind_of, opening}
 use Rattle.machine_replay.specs.Conforms.{party_of, entries_from, effect_entry, reply_entry, skipped_entry}
 use Rattle.machine_replay.specs.Meaning.{Entry, chosen, effects_in, kinds_in}
@@ -21,7 +15,7 @@ use Rattle.machine_replay.specs.OneOwner.{begun_calls, calls_from, is_among}
 use Rattle.machine_replay.specs.PeakTold.{state_before, in_progress, PeakIsOfTheRun}
 use Rattle.machine_replay.proofs.Counting.{accepted_by, length_by, counts_all, made-accepted, made-length, run-accepted, run-length}
 use Rattle.machine_replay.proofs.Entries.{each-all}
-use Rattle.machine_replay.proofs.Growing.{made-cap, run-cap}
+use Rattle.machine_replay.proofs.Growing.{run-cap}
 use Rattle.machine_replay.proofs.Solo.{Counts, counts-first, counts-happens, some-busy}
 use Rattle.machine_replay.proofs.OwnersReplay.{among-later, begun-listed}
 use Rattle.machine_replay.proofs.Peaking.{Run-length}
@@ -33,8 +27,7 @@ entries-append : {T E : Type 0} (entry : ℕ → ℕ → Told T → List E) (n k
 entries-append entry n k [] cs [] us same is = let at : n ≡ k = omega arith in ap (λ j. entries_from entry j cs us) at
 entries-append entry n k (x ∷ es) cs (y ∷ ts) us same is =
     ap (λ l. entry n (party_of x) y ++ l) (entries-append entry (n + 1) k es cs ts us (omega arith) (omega arith)) ∙ sym (append_assoc (entry n (party_of x) y) (entries_from entry (n + 1) es ts) (entries_from entry k cs us))
-entries-append entry n k [] cs (y ∷ ts) us same is = absurd (omega arith)
-entries-append entry n k (x ∷ es) cs [] us same is = absurd (omega arith)
+entries-append entry n k es cs ts us same is = absurd (omega arith)
 
 -- what passes a test stands in front of what does not
 filter-front : {X : Type 0} (p : X → Bool) (xs ys : List X) → AllByRecursion (λ x. p x ≡ true) xs → AllByRecursion (λ y. p y ≡ false) ys → filter p (xs ++ ys) ≡ xs
@@ -64,14 +57,6 @@ calls-front k n A B (Step p g ∷ es) le late = calls-front (k + 1) n A B es (om
 busy-told : {T : Type 0} (cap : Option ℕ) (parties k : ℕ) (b c : Book T) (es : List (Event T)) (ts : List (Told T)) → Counts parties b → Run cap parties b es ts c
     → c.busy + length (entries_from reply_entry k es ts) ≡ b.busy + length (begun_calls es ts)
 busy-told cap parties k b c [] [] h run = let e : c.busy ≡ b.busy = ap (λ z. z.busy) run in omega arith
-busy-told cap parties k b c (Begin p q ∷ es) (Skipped ∷ ts) h run =
-    let rest = busy-told cap parties (k + 1) run.0 c es ts (counts-happens cap parties b run.0 (Begin p q) Skipped h run.1) run.2 in
-    let e : run.0.busy ≡ b.busy = ap (λ z. z.busy) run.1.1 in
-    omega arith
-busy-told cap parties k b c (Step p g ∷ es) (Skipped ∷ ts) h run =
-    let rest = busy-told cap parties (k + 1) run.0 c es ts (counts-happens cap parties b run.0 (Step p g) Skipped h run.1) run.2 in
-    let e : run.0.busy ≡ b.busy = ap (λ z. z.busy) run.1.1 in
-    omega arith
 busy-told cap parties k b c (Begin p q ∷ es) (Ran None None ∷ ts) h run =
     let rest = busy-told cap parties (k + 1) run.0 c es ts (counts-happens cap parties b run.0 (Begin p q) (Ran None None) h run.1) run.2 in
     let e : run.0.busy ≡ b.busy + 1 = ap (λ z. z.busy) run.1.2 in
@@ -92,6 +77,14 @@ busy-told cap parties k b c (Step p g ∷ es) (Ran x (Some r) ∷ ts) h run =
     omega arith
 busy-told cap parties k b c [] (t ∷ ts) h run = absurd run
 busy-told cap parties k b c (e ∷ es) [] h run = absurd run
+busy-told cap parties k b c (Begin p q ∷ es) (Skipped ∷ ts) h run =
+    let rest = busy-told cap parties (k + 1) run.0 c es ts (counts-happens cap parties b run.0 (Begin p q) Skipped h run.1) run.2 in
+    let e : run.0.busy ≡ b.busy = ap (λ z. z.busy) run.1.1 in
+    omega arith
+busy-told cap parties k b c (Step p g ∷ es) (Skipped ∷ ts) h run =
+    let rest = busy-told cap parties (k + 1) run.0 c es ts (counts-happens cap parties b run.0 (Step p g) Skipped h run.1) run.2 in
+    let e : run.0.busy ≡ b.busy = ap (λ z. z.busy) run.1.1 in
+    omega arith
 
 -- how many they are, by the lists of the whole run
 busy-before : {T : Type 0} (cap : Option ℕ) (parties : ℕ) (events es cs : List (Event T)) (told ts us : List (Told T)) (S : List ℕ) (R : List (ℕ × ℕ × Reply T)) (b : Book T)
@@ -124,11 +117,9 @@ counts_kinds f (x ∷ xs) n = counts_kinds f xs (f x.2 n)
 
 told-kinds : {T : Type 0} (f : EffectKind → ℕ → ℕ) (k n : ℕ) (es : List (Event T)) (ts : List (Told T)) → length es ≡ length ts → counts_all f ts n ≡ counts_kinds f (entries_from effect_entry k es ts) n
 told-kinds f k n [] [] same = refl
-told-kinds f k n [] (t ∷ ts) same = absurd (omega arith)
-told-kinds f k n (e ∷ es) [] same = absurd (omega arith)
-told-kinds f k n (e ∷ es) (Skipped ∷ ts) same = told-kinds f (k + 1) n es ts (omega arith)
-told-kinds f k n (e ∷ es) (Ran None r ∷ ts) same = told-kinds f (k + 1) n es ts (omega arith)
 told-kinds f k n (e ∷ es) (Ran (Some x) r ∷ ts) same = told-kinds f (k + 1) (f x n) es ts (omega arith)
+told-kinds f k n (e ∷ es) (t ∷ ts) same = told-kinds f (k + 1) n es ts (omega arith)
+told-kinds f k n es ts same = absurd (omega arith)
 
 kinds-accepted : {T : Type 0} (Q : State T) (H : List (Entry T)) → (after_from Q (effects_in H)).accepted ≡ counts_kinds accepted_by (kinds_in H) Q.accepted
 kinds-accepted Q [] = refl
@@ -140,7 +131,7 @@ kinds-length Q (x ∷ H) run = kinds-length (made x.effect Q) H run.1 ∙ ap (co
 
 kinds-cap : {T : Type 0} (Q : State T) (H : List (Entry T)) → (after_from Q (effects_in H)).cap ≡ Q.cap
 kinds-cap Q [] = refl
-kinds-cap Q (x ∷ H) = kinds-cap (made x.effect Q) H ∙ made-cap x.effect Q
+kinds-cap Q (x ∷ H) = kinds-cap (made x.effect Q) H ∙ cap_made x.effect Q
 
 front-runs : {T : Type 0} (Q : State T) (xs ys : List (Entry T)) → Runs Q (effects_in (xs ++ ys)) → Runs Q (effects_in xs)
 front-runs Q [] ys run = tt
@@ -208,8 +199,7 @@ run-split cap parties b [] cs [] us c same run = (b, refl)
 run-split cap parties b (x ∷ es) cs (t ∷ ts) us c same run =
     let rest = run-split cap parties run.0 es cs ts us c (omega arith) run.2 in
     (rest.0, (run.0, run.1, rest.1))
-run-split cap parties b [] cs (t ∷ ts) us c same run = absurd (omega arith)
-run-split cap parties b (x ∷ es) cs [] us c same run = absurd (omega arith)
+run-split cap parties b es cs ts us c same run = absurd (omega arith)
 
 length-first : {X : Type 0} (n : ℕ) (xs : List X) → n ≤ length xs → length (take n xs) ≡ n
 length-first n xs le = length-take-le n xs le

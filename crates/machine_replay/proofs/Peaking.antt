@@ -3,10 +3,7 @@ use Rattle.std.proofs.Common.{◌≡◌, ◌∙◌, ◌⊎◌, inl, inr, ℕ, �
 use Rattle.std.proofs.lemmas.List.{length_push}
 use Rattle.std.proofs.lemmas.Bool.{ltb-true, ltb-false, le-ltb}
 use Rattle.queue_steps.specs.Sequential.{blocks_of}
-use Rattle.machine_steps.specs.declared.machine.Running.{Running}
-use Rattle.machine_steps.specs.declared.types.Event.{Event}
-use Rattle.machine_steps.specs.declared.types.Peak.{Peak}
-use Rattle.machine_steps.specs.declared.types.Told.{Told}
+use Rattle.machine_replay.specs.Vocabulary.{Event, Told, Peak, Running}
 use Rattle.machine_replay.specs.Book.{Book, Run, opening}
 use Rattle.machine_replay.specs.Conforms.{ComesBy, IsPeak, share}
 use Rattle.machine_replay.specs.Peaks.{bound_of, opening_peak, peaked}
@@ -22,11 +19,7 @@ IsSplit {A} xs x past coming = ((coming ≡ []) × (past ≡ xs ++ x ∷ [])) �
 
 split-last : {A : Type 0} (xs : List A) (x : A) (past coming : List A) → xs ++ x ∷ [] ≡ past ++ coming → IsSplit xs x past coming
 split-last [] x [] (y ∷ []) e = inr ([], refl, sym e)
-split-last [] x [] [] e = cc
-split-last [] x [] (y ∷ z ∷ zs) e = cc
 split-last [] x (y ∷ []) [] e = inl (refl, sym e)
-split-last [] x (y ∷ []) (z ∷ zs) e = cc
-split-last [] x (y ∷ z ∷ past) coming e = cc
 split-last (w ∷ xs) x [] coming e = inr (w ∷ xs, refl, sym e)
 split-last (w ∷ xs) x (y ∷ past) coming e =
     let heads : w ≡ y = cc in
@@ -35,6 +28,7 @@ split-last (w ∷ xs) x (y ∷ past) coming e =
       | inl h ↦ inl (h.0, rw (h.1, heads) refl)
       | inr h ↦ inr (h.0, rw (h.1, heads) refl, h.2)
     ]
+split-last [] x past coming e = cc
 
 split-length : {A B : Type 0} (xs : List A) (x : A) (past coming : List A) (ys : List B) (y : B) (past' coming' : List B)
     → length past ≡ length past' → length xs ≡ length ys → IsSplit xs x past coming → IsSplit ys y past' coming'
@@ -54,8 +48,7 @@ split-length xs x past coming ys y past' coming' same as_long (inr h) (inl k) =
 pub Run-length : {T : Type 0} (cap : Option ℕ) (parties : ℕ) (b : Book T) (es : List (Event T)) (ts : List (Told T)) (c : Book T) → Run cap parties b es ts c → length es ≡ length ts
 Run-length cap parties b [] [] c run = refl
 Run-length cap parties b (x ∷ es) (y ∷ ts) c run = ap suc (Run-length cap parties run.0 es ts c run.2)
-Run-length cap parties b [] (y ∷ ts) c run = absurd run
-Run-length cap parties b (x ∷ es) [] c run = absurd run
+Run-length cap parties b es ts c run = absurd run
 
 -- a book that a run comes by still is one after an event more
 comes-more : {T : Type 0} {cap : Option ℕ} {parties : ℕ} {es : List (Event T)} {ts : List (Told T)} {m : Book T} (e : Event T) (t : Told T) → ComesBy cap parties es ts m → ComesBy cap parties (es ++ e ∷ []) (ts ++ t ∷ []) m

@@ -1,115 +1,82 @@
 -- Operations on the words of a queue with a capacity: they need no block, and where there is none, none comes.
 use Rattle.std.proofs.Common.{◌≡◌, ◌∙◌, ◌==◌, ℕ, Bool, true, false, if◌then◌else◌, Option, Some, None, [], refl, ap}
-use Rattle.queue_steps.specs.declared.steps.types.Kind.{Kind}
-use Rattle.queue_steps.specs.declared.steps.types.Local.{Local}
-use Rattle.queue_steps.specs.declared.steps.types.Op.{Op}
-use Rattle.queue_steps.specs.declared.steps.types.Op.TheVariants as op
-use Rattle.queue_steps.specs.declared.steps.types.Touch.{Touch}
-use Rattle.queue_steps.specs.declared.steps.types.Touch.TheVariants as touch
-use Rattle.queue_steps.specs.declared.steps.types.Word.{Word}
-use Rattle.queue_steps.specs.declared.steps.types.Word.TheVariants as word
-use Rattle.machine_steps.specs.declared.machine.Running.{Running}
+use Rattle.machine_replay.specs.Vocabulary.{Kind, Word, Op, Touch, Local, Running}
 use Rattle.machine_steps.specs.Blocks.{without}
 use Rattle.machine_steps.specs.SharedMemory.{Shared, word_at, put_word, operated, block_touched, touched, after_touch, after_operation, shared_then, step_of, CanStep}
 
 abbrev pub IsPlainWord : Word ℕ → Type 0
-IsPlainWord (word.State b i) = ⊥
+IsPlainWord (Word.State b i) = ⊥
 IsPlainWord _ = Unit {0}
 
 -- the operation is one on such a word
 abbrev pub IsPlain : Op ℕ → Type 0
-IsPlain (op.Load w) = IsPlainWord w
-IsPlain (op.Store w x) = IsPlainWord w
-IsPlain (op.Add w x) = IsPlainWord w
-IsPlain (op.Or w x) = IsPlainWord w
-IsPlain (op.And w x) = IsPlainWord w
-IsPlain (op.Exchange w a b) = IsPlainWord w
+IsPlain (Op.Load w) = IsPlainWord w
+IsPlain (Op.Store w x) = IsPlainWord w
+IsPlain (Op.Add w x) = IsPlainWord w
+IsPlain (Op.Or w x) = IsPlainWord w
+IsPlain (Op.And w x) = IsPlainWord w
+IsPlain (Op.Exchange w a b) = IsPlainWord w
 IsPlain _ = ⊥
 
 -- it does not hang on what the allocator does
 pub plain-step : {T : Type 0} (k : Kind) (ok : Bool) (s : Shared T) (l : Local ℕ) (t : Touch) (o : Op ℕ) (v : Option T) → IsPlain o
     → step_of k ok s (record { local = l; touch = t; op = o; carried = v }) ≡ step_of k true s (record { local = l; touch = t; op = o; carried = v })
-plain-step k ok s l t (op.Load w) v p = refl
-plain-step k ok s l t (op.Store w x) v p = refl
-plain-step k ok s l t (op.Add w x) v p = refl
-plain-step k ok s l t (op.Or w x) v p = refl
-plain-step k ok s l t (op.And w x) v p = refl
-plain-step k ok s l t (op.Exchange w a b) v p = refl
-plain-step k ok s l t (op.LoadLink _) v p = absurd p
-plain-step k ok s l t (op.StoreLink _ _) v p = absurd p
-plain-step k ok s l t (op.Install _) v p = absurd p
-plain-step k ok s l t op.Ask v p = absurd p
+plain-step k ok s l t (Op.LoadLink _) v p = absurd p
+plain-step k ok s l t (Op.StoreLink _ _) v p = absurd p
+plain-step k ok s l t (Op.Install _) v p = absurd p
+plain-step k ok s l t Op.Ask v p = absurd p
+plain-step k ok s l t o v p = refl
 
 pub plain-can : {T : Type 0} (k : Kind) (ok : Bool) (s : Shared T) (l : Local ℕ) (t : Touch) (o : Op ℕ) (v : Option T) → IsPlain o
     → CanStep k true s (record { local = l; touch = t; op = o; carried = v }) → CanStep k ok s (record { local = l; touch = t; op = o; carried = v })
-plain-can k ok s l t (op.Load w) v p c = record { touches = c.touches; operates = c.operates; goes_on = c.goes_on; replies = c.replies }
-plain-can k ok s l t (op.Store w x) v p c = record { touches = c.touches; operates = c.operates; goes_on = c.goes_on; replies = c.replies }
-plain-can k ok s l t (op.Add w x) v p c = record { touches = c.touches; operates = c.operates; goes_on = c.goes_on; replies = c.replies }
-plain-can k ok s l t (op.Or w x) v p c = record { touches = c.touches; operates = c.operates; goes_on = c.goes_on; replies = c.replies }
-plain-can k ok s l t (op.And w x) v p c = record { touches = c.touches; operates = c.operates; goes_on = c.goes_on; replies = c.replies }
-plain-can k ok s l t (op.Exchange w a b) v p c = record { touches = c.touches; operates = c.operates; goes_on = c.goes_on; replies = c.replies }
-plain-can k ok s l t (op.LoadLink _) v p c = absurd p
-plain-can k ok s l t (op.StoreLink _ _) v p c = absurd p
-plain-can k ok s l t (op.Install _) v p c = absurd p
-plain-can k ok s l t op.Ask v p c = absurd p
+plain-can k ok s l t (Op.LoadLink _) v p c = absurd p
+plain-can k ok s l t (Op.StoreLink _ _) v p c = absurd p
+plain-can k ok s l t (Op.Install _) v p c = absurd p
+plain-can k ok s l t Op.Ask v p c = absurd p
+plain-can k ok s l t o v p c = record { touches = c.touches; operates = c.operates; goes_on = c.goes_on; replies = c.replies }
 
 put_word-blocks : {T : Type 0} (s : Shared T) (w : Word ℕ) (x : ℕ) → IsPlainWord w → (put_word s w x).blocks ≡ s.blocks
-put_word-blocks s word.Lock x p = refl
-put_word-blocks s word.Head x p = refl
-put_word-blocks s word.Tail x p = refl
-put_word-blocks s (word.Stamp i) x p = refl
-put_word-blocks s (word.State _ _) x p = absurd p
+put_word-blocks s (Word.State _ _) x p = absurd p
+put_word-blocks s w x p = refl
 
 operated-blocks : {T : Type 0} (ok : Bool) (s : Shared T) (o : Op ℕ) → IsPlain o → (operated ok s o).blocks ≡ s.blocks
-operated-blocks ok s (op.Load w) p = refl
-operated-blocks ok s (op.Store w x) p = put_word-blocks s w x p
-operated-blocks ok s (op.Add w x) p = put_word-blocks s w _ p
-operated-blocks ok s (op.Or w x) p = put_word-blocks s w _ p
-operated-blocks ok s (op.And w x) p = put_word-blocks s w _ p
-operated-blocks {T} ok s (op.Exchange w a b) p = by_test (word_at s w == a)
+operated-blocks ok s (Op.Load w) p = refl
+operated-blocks ok s (Op.Store w x) p = put_word-blocks s w x p
+operated-blocks ok s (Op.Add w x) p = put_word-blocks s w _ p
+operated-blocks ok s (Op.Or w x) p = put_word-blocks s w _ p
+operated-blocks ok s (Op.And w x) p = put_word-blocks s w _ p
+operated-blocks {T} ok s (Op.Exchange w a b) p = by_test (word_at s w == a)
   where
     by_test : (t : Bool) → (if◌then◌else◌ {A = Shared T} t (put_word s w b) s).blocks ≡ s.blocks
     by_test true = put_word-blocks s w b p
     by_test false = refl
-operated-blocks ok s (op.LoadLink _) p = absurd p
-operated-blocks ok s (op.StoreLink _ _) p = absurd p
-operated-blocks ok s (op.Install _) p = absurd p
-operated-blocks ok s op.Ask p = absurd p
+operated-blocks ok s (Op.LoadLink _) p = absurd p
+operated-blocks ok s (Op.StoreLink _ _) p = absurd p
+operated-blocks ok s (Op.Install _) p = absurd p
+operated-blocks ok s Op.Ask p = absurd p
 
-untouched : (w : Word ℕ) → IsPlainWord w → block_touched (op.Load w) ≡ None
-untouched word.Lock p = refl
-untouched word.Head p = refl
-untouched word.Tail p = refl
-untouched (word.Stamp i) p = refl
-untouched (word.State _ _) p = absurd p
+untouched : (w : Word ℕ) → IsPlainWord w → block_touched (Op.Load w) ≡ None
+untouched (Word.State _ _) p = absurd p
+untouched w p = refl
 
-untouched-or : (w : Word ℕ) (x : ℕ) → IsPlainWord w → block_touched (op.Or w x) ≡ None
-untouched-or word.Lock x p = refl
-untouched-or word.Head x p = refl
-untouched-or word.Tail x p = refl
-untouched-or (word.Stamp i) x p = refl
-untouched-or (word.State _ _) x p = absurd p
+untouched-or : (w : Word ℕ) (x : ℕ) → IsPlainWord w → block_touched (Op.Or w x) ≡ None
+untouched-or (Word.State _ _) x p = absurd p
+untouched-or w x p = refl
 
 pub plain-untouched : (o : Op ℕ) → IsPlain o → block_touched o ≡ None
-plain-untouched (op.Load w) p = untouched w p
-plain-untouched (op.Store w x) p = refl
-plain-untouched (op.Add w x) p = refl
-plain-untouched (op.Or w x) p = untouched-or w x p
-plain-untouched (op.And w x) p = refl
-plain-untouched (op.Exchange w a b) p = refl
-plain-untouched (op.LoadLink _) p = absurd p
-plain-untouched (op.StoreLink _ _) p = absurd p
-plain-untouched (op.Install _) p = absurd p
-plain-untouched op.Ask p = absurd p
+plain-untouched (Op.Load w) p = untouched w p
+plain-untouched (Op.Or w x) p = untouched-or w x p
+plain-untouched (Op.LoadLink _) p = absurd p
+plain-untouched (Op.StoreLink _ _) p = absurd p
+plain-untouched (Op.Install _) p = absurd p
+plain-untouched Op.Ask p = absurd p
+plain-untouched o p = refl
 
 touched-blocks : {T : Type 0} (s : Shared T) (t : Touch) (b : Option ℕ) (v : Option T) → b ≡ None → (touched t b s v).blocks ≡ s.blocks
-touched-blocks s touch.Nothing b v e = refl
-touched-blocks s (touch.Put i) None v e = refl
-touched-blocks s (touch.Swap i) None v e = refl
-touched-blocks s (touch.Take i) None v e = refl
-touched-blocks s (touch.Put i) (Some b) v e = cc
-touched-blocks s (touch.Swap i) (Some b) v e = cc
-touched-blocks s (touch.Take i) (Some b) v e = cc
+touched-blocks s (Touch.Put i) (Some b) v e = cc
+touched-blocks s (Touch.Swap i) (Some b) v e = cc
+touched-blocks s (Touch.Take i) (Some b) v e = cc
+touched-blocks s t b v e = refl
 
 pub without-none : {T : Type 0} (b : Option ℕ) → without {T = T} b [] ≡ []
 without-none None = refl

@@ -2,26 +2,10 @@
 use Rattle.std.proofs.Common.{◌≡◌, ◌∙◌, ◌&&◌, not, ℕ, Bool, true, false, Option, Some, None, List, [], ◌∷◌, ◌++◌, length, refl, sym, ap, subst}
 use Rattle.queue_steps.specs.BoundedNext.{FitsRing}
 use Rattle.queue_steps.specs.Next.{CanNext, next_of}
-use Rattle.queue_steps.specs.declared.steps.bounded.BoundedLocal.{BoundedLocal}
+use Rattle.machine_replay.specs.Vocabulary.{Kind, Op, Answer, Local, PushKind, BoundedLocal, Event, Told, EffectKind, Peak, Begin, Step, Ran, Running}
 use Rattle.queue_steps.specs.declared.steps.bounded.BoundedLocal.TheVariants as ring
-use Rattle.queue_steps.specs.declared.steps.bounded.PushKind.TheVariants as way
-use Rattle.queue_steps.specs.declared.steps.types.Answer.{Answer}
-use Rattle.queue_steps.specs.declared.steps.types.Answer.TheVariants as answer
-use Rattle.queue_steps.specs.declared.steps.types.Kind.{Kind}
-use Rattle.queue_steps.specs.declared.steps.types.Kind.TheVariants as kind
-use Rattle.queue_steps.specs.declared.steps.types.Local.{Local}
-use Rattle.queue_steps.specs.declared.steps.types.Local.TheVariants as local
-use Rattle.queue_steps.specs.declared.steps.types.Op.{Op}
-use Rattle.queue_steps.specs.declared.steps.types.Op.TheVariants as op
 use Rattle.queue_steps.specs.declared.steps.unbounded.UnboundedLocal.TheVariants as chain
 use Rattle.machine_replay.specs.declared.machine_run.MachineRun.{MachineRun}
-use Rattle.machine_steps.specs.declared.machine.Running.{Running}
-use Rattle.machine_steps.specs.declared.types.EffectKind.{EffectKind}
-use Rattle.machine_steps.specs.declared.types.Event.{Event}
-use Rattle.machine_steps.specs.declared.types.Event.TheVariants.{Begin, Step}
-use Rattle.machine_steps.specs.declared.types.Peak.{Peak}
-use Rattle.machine_steps.specs.declared.types.Told.{Told}
-use Rattle.machine_steps.specs.declared.types.Told.TheVariants.{Ran}
 use Rattle.machine_steps.specs.Left.{opening_world}
 use Rattle.machine_steps.specs.Machine.{CanHandle, event_of, world_of}
 use Rattle.machine_replay.specs.MachineRuns.{Comes, IsMachineRun}
@@ -33,11 +17,11 @@ use Rattle.machine_replay.proofs.AllKinds.{Known, has_machine, known-can, known-
 
 -- only a request looks at what the allocator grants
 answered-plain : {T : Type 0} (o : Op ℕ) (a b : Bool) (s : Shared T) → is_request o ≡ false → answered a s o ≡ answered b s o
-answered-plain op.Ask a b s e = cc
+answered-plain Op.Ask a b s e = cc
 answered-plain o a b s e = refl
 
 operated-plain : {T : Type 0} (o : Op ℕ) (a b : Bool) (s : Shared T) → is_request o ≡ false → operated a s o ≡ operated b s o
-operated-plain op.Ask a b s e = cc
+operated-plain Op.Ask a b s e = cc
 operated-plain o a b s e = refl
 
 step-plain : {T : Type 0} (k : Kind) (a b : Bool) (s : Shared T) (r : Running T) → is_request r.op ≡ false → step_of k a s r ≡ step_of k b s r
@@ -51,34 +35,34 @@ pub event-plain : {T : Type 0} (k : Kind) (w : World (Shared T) (Running T)) (p 
 event-plain k w p granted e = stepped-plain k w (granted && true) true p (call_at w p) e
 
 -- a request is the operation of one place alone
-is_ask : (o : Op ℕ) → is_request o ≡ true → o ≡ op.Ask
-is_ask op.Ask e = refl
+is_ask : (o : Op ℕ) → is_request o ≡ true → o ≡ Op.Ask
+is_ask Op.Ask e = refl
 is_ask o e = cc
 
-ring_granted : (n : ℕ) (l : BoundedLocal) (f : ℕ) → FitsRing n l (answer.Granted f) → ⊥
+ring_granted : (n : ℕ) (l : BoundedLocal) (f : ℕ) → FitsRing n l (Answer.Granted f) → ⊥
 ring_granted n ring.Closing f fits = absurd fits
 ring_granted n l f fits = absurd fits
 
-ring_refused : (n : ℕ) (l : BoundedLocal) → (let a : Answer ℕ = answer.Refused in FitsRing n l a) → ⊥
+ring_refused : (n : ℕ) (l : BoundedLocal) → (let a : Answer ℕ = Answer.Refused in FitsRing n l a) → ⊥
 ring_refused n ring.Closing fits = absurd fits
 ring_refused n l fits = absurd fits
 
 -- a call whose request is granted goes on
-granted_told : {T : Type 0} (k : Kind) (l : Local ℕ) (f : ℕ) (v : Option T) (e : Option EffectKind) → CanNext k l (answer.Granted f) → lacks_memory (Ran e (reply_after (next_of k l (answer.Granted f)) v)) ≡ false
-granted_told kind.Unbounded (local.Unbounded (chain.Asking p tail (Some block))) f v e can = refl
-granted_told kind.Unbounded (local.Unbounded (chain.Asking p tail None)) f v e can = refl
-granted_told (kind.Bounded n) (local.Bounded l) f v e can = absurd (ring_granted n l f can.1)
-granted_told kind.Single (local.Begin c) f v e can = absurd can
+granted_told : {T : Type 0} (k : Kind) (l : Local ℕ) (f : ℕ) (v : Option T) (e : Option EffectKind) → CanNext k l (Answer.Granted f) → lacks_memory (Ran e (reply_after (next_of k l (Answer.Granted f)) v)) ≡ false
+granted_told Kind.Unbounded (Local.Unbounded (chain.Asking p tail (Some block))) f v e can = refl
+granted_told Kind.Unbounded (Local.Unbounded (chain.Asking p tail None)) f v e can = refl
+granted_told (Kind.Bounded n) (Local.Bounded l) f v e can = absurd (ring_granted n l f can.1)
+granted_told Kind.Single (Local.Begin c) f v e can = absurd can
 granted_told _ _ f v e can = absurd can
 
 -- one whose request is refused ends with want of memory
-refused_told : {T : Type 0} (k : Kind) (l : Local ℕ) (v : Option T) (e : Option EffectKind) → CanNext k l answer.Refused → CanReply (next_of k l answer.Refused) v → lacks_memory (Ran e (reply_after (next_of k l answer.Refused) v)) ≡ true
-refused_told kind.Unbounded (local.Unbounded (chain.Asking way.Push tail block)) (Some v) e can replies = refl
-refused_told kind.Unbounded (local.Unbounded (chain.Asking way.Force tail block)) (Some v) e can replies = refl
-refused_told kind.Unbounded (local.Unbounded (chain.Asking way.Push tail block)) None e can replies = cc
-refused_told kind.Unbounded (local.Unbounded (chain.Asking way.Force tail block)) None e can replies = cc
-refused_told (kind.Bounded n) (local.Bounded l) v e can replies = absurd (ring_refused n l can.1)
-refused_told kind.Single (local.Begin c) v e can replies = absurd can
+refused_told : {T : Type 0} (k : Kind) (l : Local ℕ) (v : Option T) (e : Option EffectKind) → CanNext k l Answer.Refused → CanReply (next_of k l Answer.Refused) v → lacks_memory (Ran e (reply_after (next_of k l Answer.Refused) v)) ≡ true
+refused_told Kind.Unbounded (Local.Unbounded (chain.Asking PushKind.Push tail block)) (Some v) e can replies = refl
+refused_told Kind.Unbounded (Local.Unbounded (chain.Asking PushKind.Force tail block)) (Some v) e can replies = refl
+refused_told Kind.Unbounded (Local.Unbounded (chain.Asking PushKind.Push tail block)) None e can replies = cc
+refused_told Kind.Unbounded (Local.Unbounded (chain.Asking PushKind.Force tail block)) None e can replies = cc
+refused_told (Kind.Bounded n) (Local.Bounded l) v e can replies = absurd (ring_refused n l can.1)
+refused_told Kind.Single (Local.Begin c) v e can replies = absurd can
 refused_told _ _ v e can replies = absurd can
 
 -- so the step of a request tells whether it was granted

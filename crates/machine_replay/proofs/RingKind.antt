@@ -1,7 +1,7 @@
 -- All that a ring owes the machine.
 use Rattle.std.proofs.Common.{ℕ, ap}
 use Rattle.queue_steps.specs.Words.{IsRing}
-use Rattle.queue_steps.specs.declared.steps.types.Kind.TheVariants as kind
+use Rattle.machine_replay.specs.Vocabulary.{Kind}
 use Rattle.machine_replay.proofs.KindLaws.{KindLaws}
 use Rattle.machine_replay.proofs.Counted.{counted-none}
 use Rattle.law_ring.specs.RingCells.{Ring}
@@ -11,7 +11,7 @@ use Rattle.machine_replay.proofs.RingOpening.{ring_opens, ring_all_idle}
 use Rattle.machine_replay.proofs.RingLeft.{ring_leaves}
 
 -- a ring of n slots keeps the laws of the machine
-pub ring_laws : (T : Type 0) (n : ℕ) → IsRing n → KindLaws T (kind.Bounded n)
+pub ring_laws : (T : Type 0) (n : ℕ) → IsRing n → KindLaws T (Kind.Bounded n)
 ring_laws T n ring = record {
   G = Ring T;
   Holds = RingHolds n;

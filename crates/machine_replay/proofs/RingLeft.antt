@@ -1,17 +1,11 @@
 -- The list that a ring holds, once each call that is about to write has written, is that of the queue.
-use Rattle.std.proofs.Common.{ℕ, zero, suc, ◌+◌, ◌-◌, ◌%◌, ◌<◌, ◌≤◌, ◌≡◌, ◌==◌, ◌∙◌, ◌⊎◌, inl, inr, Bool, true, false, Option, Some, None, List, [], ◌∷◌, length, refl, sym, ap, subst, arith, get_or, slice_get}
+use Rattle.std.proofs.Common.{ℕ, suc, ◌+◌, ◌-◌, ◌%◌, ◌<◌, ◌≤◌, ◌≡◌, ◌==◌, ◌∙◌, ◌⊎◌, inl, inr, Bool, true, false, Option, Some, None, List, ◌∷◌, length, refl, sym, ap, subst, arith, get_or, slice_get}
 use Rattle.std.proofs.lemmas.Bool.{eq-eqb}
 use Rattle.std.proofs.lemmas.Bool.Decides.{eqb_tells}
 use Rattle.queue_steps.specs.State.{State}
 use Rattle.queue_steps.specs.Words.{position_of, slot_at}
-use Rattle.queue_steps.specs.declared.model.Call.{Call}
-use Rattle.queue_steps.specs.declared.model.Effect.{Effect}
-use Rattle.queue_steps.specs.declared.steps.types.Kind.TheVariants as queue
-use Rattle.queue_steps.specs.declared.steps.types.Local.{Local}
-use Rattle.queue_steps.specs.declared.steps.types.Op.{Op}
-use Rattle.queue_steps.specs.declared.steps.types.Touch.{Touch}
+use Rattle.machine_replay.specs.Vocabulary.{Call, Effect, Kind, Op, Touch, Local, Running}
 use Rattle.law_common.proofs.Tails.{position_tail}
-use Rattle.machine_steps.specs.declared.machine.Running.{Running}
 use Rattle.machine_replay.specs.Book.{Book, Open}
 use Rattle.machine_steps.specs.World.{World}
 use Rattle.machine_steps.specs.SharedMemory.{Shared, CanStep, step_of, start_of}
@@ -142,7 +136,7 @@ at_holder i (closed_tail none) own awaited = absurd (none i own)
 
 -- what is so of a party, in a call or not
 abbrev RingParty : (A : Type 0) → ℕ → ℕ → Shared A → State A → Ring A → ℕ → Option (Running A) → Option (Open A) → Type 0
-RingParty A cap = engine.Party A (Shared A) (Running A) (Ring A) (Some cap) (step_of (queue.Bounded cap)) (start_of (queue.Bounded cap)) (CanStep (queue.Bounded cap)) (RingHolds cap) RingIdle (RingFits cap)
+RingParty A cap = engine.Party A (Shared A) (Running A) (Ring A) (Some cap) (step_of (Kind.Bounded cap)) (start_of (Kind.Bounded cap)) (CanStep (Kind.Bounded cap)) (RingHolds cap) RingIdle (RingFits cap)
 
 -- no party writes a slot that is not awaited
 party_apart : {A : Type 0} (cap busy : ℕ) (s : Shared A) (Q : State A) (g : Ring A) (p : ℕ) (x : Option (Running A)) (y : Option (Open A)) (i : ℕ)
@@ -153,8 +147,7 @@ party_apart cap busy s Q g p (Some r) (Some o) i h never =
       | false ↦ λ e. refl
       | true ↦ λ e. absurd (never r.carried (at_writes i h.here e))
     ] refl
-party_apart cap busy s Q g p None (Some o) i h never = absurd h
-party_apart cap busy s Q g p (Some r) None i h never = absurd h
+party_apart cap busy s Q g p x y i h never = absurd h
 
 -- the holder of an awaited slot writes it
 party_holder : {A : Type 0} (cap busy : ℕ) (s : Shared A) (Q : State A) (g : Ring A) (p : ℕ) (x : Option (Running A)) (y : Option (Open A)) (i : ℕ)
@@ -163,11 +156,10 @@ party_holder : {A : Type 0} (cap busy : ℕ) (s : Shared A) (Q : State A) (g : R
 party_holder cap busy s Q g p None None i h own awaited = absurd (h i own)
 party_holder cap busy s Q g p (Some r) (Some o) i h own awaited =
     let w = at_holder i h.here own awaited in (r, refl, w, at_writes i h.here w)
-party_holder cap busy s Q g p None (Some o) i h own awaited = absurd h
-party_holder cap busy s Q g p (Some r) None i h own awaited = absurd h
+party_holder cap busy s Q g p x y i h own awaited = absurd h
 
 -- an awaited slot has one writer, who writes its item; any other has none
-slot_settled : {A : Type 0} (cap parties : ℕ) (w : World (Shared A) (Running A)) (b : Book A) → (sim : SimulatesOf A (queue.Bounded cap) (Ring A) (RingHolds cap) RingIdle (RingFits cap) parties w b)
+slot_settled : {A : Type 0} (cap parties : ℕ) (w : World (Shared A) (Running A)) (b : Book A) → (sim : SimulatesOf A (Kind.Bounded cap) (Ring A) (RingHolds cap) RingIdle (RingFits cap) parties w b)
     → (i : ℕ) → i < cap → get_or (all_written w.calls w.shared.slots) i None ≡ content (sim.g.cells i)
 slot_settled {A} cap parties w b sim i lt = go (sim.g.cells i) refl (sim.holds.codes.slot i lt)
   where
@@ -194,12 +186,11 @@ slot_settled {A} cap parties w b sim i lt = go (sim.g.cells i) refl (sim.holds.c
     go (Swapped p who old v) is item = written (Swapped p who old v) who v is refl tt (λ p v h. h) ∙ ap content (sym is)
 
 nth_is : {A : Type 0} (xs : List A) (j : ℕ) → slice_get xs j ≡ nth xs j
-nth_is [] j = refl
-nth_is (x ∷ xs) zero = refl
 nth_is (x ∷ xs) (suc j) = nth_is xs j
+nth_is xs j = refl
 
-pub ring_leaves : {A : Type 0} (cap parties : ℕ) (w : World (Shared A) (Running A)) (b : Book A) → SimulatesOf A (queue.Bounded cap) (Ring A) (RingHolds cap) RingIdle (RingFits cap) parties w b
-    → left_of (queue.Bounded cap) w ≡ b.queue.items
+pub ring_leaves : {A : Type 0} (cap parties : ℕ) (w : World (Shared A) (Running A)) (b : Book A) → SimulatesOf A (Kind.Bounded cap) (Ring A) (RingHolds cap) RingIdle (RingFits cap) parties w b
+    → left_of (Kind.Bounded cap) w ≡ b.queue.items
 ring_leaves {A} cap parties w b sim =
     let g = sim.g in
     let ok = sim.holds.ok in

@@ -7,26 +7,12 @@ use Rattle.queue_steps.specs.State.{State}
 use Rattle.queue_steps.specs.BoundedNext.{lap_found, loads, push_stamp_found}
 use Rattle.queue_steps.specs.Words.{IsRing, position_of, is_shut, slot_at, stamp_filled, stamp_free, tail_of}
 use Rattle.queue_steps.specs.Next.{next_of}
-use Rattle.queue_steps.specs.declared.model.Call.{Call}
-use Rattle.queue_steps.specs.declared.model.Effect.{Effect}
-use Rattle.queue_steps.specs.declared.steps.bounded.BoundedLocal.TheVariants as at
-use Rattle.queue_steps.specs.declared.steps.types.Kind.TheVariants as queue
-use Rattle.queue_steps.specs.declared.steps.types.Local.{Local}
-use Rattle.queue_steps.specs.declared.steps.types.Local.TheVariants as local
-use Rattle.queue_steps.specs.declared.steps.types.Next.{Next}
-use Rattle.queue_steps.specs.declared.steps.types.Next.TheVariants as next
-use Rattle.queue_steps.specs.declared.steps.bounded.PushKind.{PushKind}
-use Rattle.queue_steps.specs.declared.steps.bounded.TheConstants.{TAIL_STEP}
-use Rattle.queue_steps.specs.declared.steps.types.Op.{Op}
-use Rattle.queue_steps.specs.declared.steps.types.Op.TheVariants as op
-use Rattle.queue_steps.specs.declared.steps.types.Touch.TheVariants as touch
-use Rattle.queue_steps.specs.declared.steps.types.Word.TheVariants as word
-use Rattle.queue_steps.specs.declared.steps.types.Touch.{Touch}
+use Rattle.machine_replay.specs.Vocabulary.{Call, Effect, Kind, Word, Op, Touch, Local, Next, PushKind, BoundedLocal, TAIL_STEP, Running}
 use Rattle.law_common.specs.Effects.{with_effect}
 use Rattle.law_common.proofs.Ranks.{either_small}
 use Rattle.law_common.proofs.Tails.{position_tail, shut_tail}
 use Rattle.law_ring.specs.RingShared as ring
-use Rattle.law_ring.specs.RingCells.{Cell, Free, Written, Full, Read, Coming, Swapped, Ring, RingOk, CellOk, HoldsNone, owner, queue_of}
+use Rattle.law_ring.specs.RingCells.{Cell, Free, Written, Read, Coming, Swapped, Ring, RingOk, CellOk, HoldsNone, owner, queue_of}
 use Rattle.law_ring.specs.RingAt.{At, push_tail, push_stamp, claiming, filling, push_head, displacing, arriving, swapping, spending, pop_head, pop_stamp, taking, emptying, pop_tail, len_tail, len_head, len_again, empty_head, empty_tail, full_tail, full_head, closing, closed_tail}
 use Rattle.law_ring.specs.RingOpening.{opening_ring}
 use Rattle.law_ring.specs.RingWords.{Codes, stamp_in}
@@ -35,7 +21,6 @@ use Rattle.law_ring.proofs.RingRanks.{rank, rank_some}
 use Rattle.law_ring.proofs.RingSlots.{nobody}
 use Rattle.law_ring.proofs.RingTransitions.{in_ring}
 use Rattle.law_ring.proofs.RingStep.{step_good}
-use Rattle.machine_steps.specs.declared.machine.Running.{Running}
 use Rattle.machine_replay.specs.Book.{Open}
 use Rattle.machine_steps.specs.SharedMemory.{Shared, word_at, step_of, running_after, carried_then, after_operation}
 use Rattle.machine_replay.proofs.Plain.{plain-step}
@@ -52,16 +37,12 @@ holds_none : {A : Type 0} {cap : ℕ} {r : Ring A} {who : ℕ} {ms : List (State
 holds_none (push_tail d v none) e = none
 holds_none (push_stamp d v t none saw) e = none
 holds_none (claiming d v t none saw free) e = none
-holds_none (filling d v q one) e = cc
 holds_none (push_head v t none saw) e = none
 holds_none (displacing v t h none saw back full) e = none
-holds_none (arriving old v t h below back one) e = cc
-holds_none (swapping old v h one) e = cc
 holds_none (spending d v none high) e = none
 holds_none (pop_head none) e = none
 holds_none (pop_stamp h none low) e = none
 holds_none (taking h none low full) e = none
-holds_none (emptying x h one) e = cc
 holds_none (pop_tail h none low free) e = none
 holds_none (len_tail none) e = none
 holds_none (len_head t none low) e = none
@@ -72,6 +53,7 @@ holds_none (full_tail none) e = none
 holds_none (full_head t none saw) e = none
 holds_none (closing none) e = none
 holds_none (closed_tail none) e = none
+holds_none x e = cc
 
 -- a ring with these words
 ring_by : (A : Type 0) → ℕ → ℕ → Bool → Ring A
@@ -80,22 +62,8 @@ ring_by A head tail closed = record { head = head; tail = tail; closed = closed;
 -- how many steps a call has before it hangs on the words alone
 by_words : {A : Type 0} (cap : ℕ) (r : Ring A) (l : Local ℕ) → rank cap r l ≡ rank cap (ring_by A r.head r.tail r.closed) l
 unfolding ring_by
-by_words cap r (local.Bounded (at.PushTail d)) = refl
-by_words cap r (local.Bounded (at.PushStamp d t)) = refl
-by_words cap r (local.Bounded (at.Claiming d t)) = refl
-by_words cap r (local.Bounded (at.PushHead t)) = refl
-by_words cap r (local.Bounded (at.Displacing t)) = refl
-by_words cap r (local.Bounded (at.Arriving t)) = refl
-by_words cap r (local.Bounded at.PopHead) = refl
-by_words cap r (local.Bounded (at.PopStamp h)) = refl
-by_words cap r (local.Bounded (at.Taking h)) = refl
-by_words cap r (local.Bounded (at.PopTail h)) = refl
-by_words cap r (local.Bounded at.LenTail) = refl
-by_words cap r (local.Bounded (at.LenHead t)) = refl
-by_words cap r (local.Bounded (at.LenAgain t h)) = refl
-by_words cap r (local.Bounded at.EmptyHead) = refl
-by_words cap r (local.Bounded at.FullTail) = refl
-by_words cap r _ = refl
+by_words cap r (Local.Bounded (BoundedLocal.PushTail d)) = refl
+by_words cap r l = refl
 
 -- by the machine's words
 far : {A : Type 0} → ℕ → Shared A → Local ℕ → ℕ
@@ -115,12 +83,11 @@ far_is {A} cap g s l codes =
 
 -- Where nobody has the slot of a position that the tail has passed, its stamp is not that of the lap before.
 not_lapped : {A : Type 0} (cap head tail p i : ℕ) (items : List A) (coming : Option A) (c : Cell A) → 0 < cap → tail ≤ head + cap → p < tail → CellOk cap head tail items coming i c → ((who : ℕ) → owner c ≢ Some who) → stamp_in c + cap ≢ p + 1
-not_lapped cap head tail p i items coming (Free q) some room past ok free e = let low = ok.1 in omega arith
-not_lapped cap head tail p i items coming (Full q x) some room past ok free e = let low = ok.1 in omega arith
 not_lapped cap head tail p i items coming (Written q who v) some room past ok free e = absurd (free who refl)
 not_lapped cap head tail p i items coming (Read q who x) some room past ok free e = absurd (free who refl)
 not_lapped cap head tail p i items coming (Coming q who old v) some room past ok free e = absurd (free who refl)
 not_lapped cap head tail p i items coming (Swapped q who old v) some room past ok free e = absurd (free who refl)
+not_lapped cap head tail p i items coming c some room past ok free e = let low = ok.1 in omega arith
 
 far_some : {A : Type 0} (cap : ℕ) (s : Shared A) (l : Local ℕ) → 0 < far cap s l
 unfolding far
@@ -134,17 +101,17 @@ after_stamp : {A : Type 0} (cap : ℕ) (s : Shared A) (d : PushKind) (t stamp : 
     → running_after (push_stamp_found cap d t stamp) v ≡ Some x → far cap s x.local ≤ 5
 unfolding far ring_by
 after_stamp {A} cap s d t stamp v x lapped goes =
-    elim (stamp == stamp_free (position_of t)) as (λ b. running_after (if b then claims else (if stamp + cap == stamp_filled (position_of t) then lap_found cap d t else loads (at.PushTail d) word.Tail)) v ≡ Some x → far cap s x.local ≤ 5) [
-      | true ↦ λ e. let same : record { local = local.Bounded (at.Claiming d t); touch = touch.Nothing; op = op.Exchange word.Tail t (t + TAIL_STEP); carried = v } ≡ x = cc in
+    elim (stamp == stamp_free (position_of t)) as (λ b. running_after (if b then claims else (if stamp + cap == stamp_filled (position_of t) then lap_found cap d t else loads (BoundedLocal.PushTail d) Word.Tail)) v ≡ Some x → far cap s x.local ≤ 5) [
+      | true ↦ λ e. let same : record { local = Local.Bounded (BoundedLocal.Claiming d t); touch = Touch.Nothing; op = Op.Exchange Word.Tail t (t + TAIL_STEP); carried = v } ≡ x = cc in
           subst (λ y. far cap s y.local ≤ 5) same (either_small (position_of t == position_of s.tail) 2 5 5 (omega arith) (omega arith))
       | false ↦ λ e.
-          let at_tail : running_after (loads (at.PushTail d) word.Tail) v ≡ Some x = rw lapped at e in
-          let same : record { local = local.Bounded (at.PushTail d); touch = touch.Nothing; op = op.Load word.Tail; carried = v } ≡ x = cc in
+          let at_tail : running_after (loads (BoundedLocal.PushTail d) Word.Tail) v ≡ Some x = rw lapped at e in
+          let same : record { local = Local.Bounded (BoundedLocal.PushTail d); touch = Touch.Nothing; op = Op.Load Word.Tail; carried = v } ≡ x = cc in
           subst (λ y. far cap s y.local ≤ 5) same (omega arith)
     ] goes
   where
     claims : Next ℕ
-    claims = next.Step (local.Bounded (at.Claiming d t)) touch.Nothing (op.Exchange word.Tail t (t + TAIL_STEP))
+    claims = Next.Step (Local.Bounded (BoundedLocal.Claiming d t)) Touch.Nothing (Op.Exchange Word.Tail t (t + TAIL_STEP))
 
 -- how many steps a call has before it, but for a stamp that is never found
 abbrev near : ℕ → ℕ
@@ -159,8 +126,8 @@ stale_falls m n le high = let a : min m 6 ≡ m = min-eq_left (omega arith) in l
 -- a call that goes on has fewer steps before it
 goes_on : {A : Type 0} (cap : ℕ) (r s : Ring A) (who : ℕ) (ms : List (State A)) (was : Bool) (n : Next ℕ) (v : Option A) (k : Call A) (es : List (Effect A)) (m : ℕ) (x : Running A)
     → running_after n v ≡ Some x → Goes cap r s who ms was n v k es m → IsQuiet r who → rank cap s x.local < m
-goes_on cap r s who ms was (next.Step l t o) v k es m x e goes quiet = let same : record { local = l; touch = t; op = o; carried = v } ≡ x = cc in subst (λ y. rank cap s y.local < m) same (goes.1 (λ _. quiet))
-goes_on cap r s who ms was (next.Reply y spare) v k es m x e goes quiet = cc
+goes_on cap r s who ms was (Next.Step l t o) v k es m x e goes quiet = let same : record { local = l; touch = t; op = o; carried = v } ≡ x = cc in subst (λ y. rank cap s y.local < m) same (goes.1 (λ _. quiet))
+goes_on cap r s who ms was (Next.Reply y spare) v k es m x e goes quiet = cc
 
 near_within : (n : ℕ) → 0 < n → (0 < near n) × (near n ≤ 6)
 near_within n some = go (sides n)
@@ -173,9 +140,9 @@ near_within n some = go (sides n)
     go (inr high) = let e : min n 6 ≡ 6 = min-eq_right high in (omega (arith, e), omega (arith, e))
 
 falls_at : {A : Type 0} {cap : ℕ} {r : Ring A} {who : ℕ} {ms : List (State A)} {was : Bool} {l : Local ℕ} {t : Touch} {o : Op ℕ} {v : Option A} {k : Call A} {es : List (Effect A)} (ok : Bool) (s : Shared A) (x : Running A) → At cap r who ms was l t o v k es
-    → RingOk cap r → Codes cap r (part s) → IsQuiet r who → (step_of (queue.Bounded cap) ok s (record { local = l; touch = t; op = o; carried = v })).call ≡ Some x
-    → far cap (step_of (queue.Bounded cap) ok s (record { local = l; touch = t; op = o; carried = v })).shared x.local < far cap s l
-    → near (far cap (step_of (queue.Bounded cap) ok s (record { local = l; touch = t; op = o; carried = v })).shared x.local) < near (far cap s l)
+    → RingOk cap r → Codes cap r (part s) → IsQuiet r who → (step_of (Kind.Bounded cap) ok s (record { local = l; touch = t; op = o; carried = v })).call ≡ Some x
+    → far cap (step_of (Kind.Bounded cap) ok s (record { local = l; touch = t; op = o; carried = v })).shared x.local < far cap s l
+    → near (far cap (step_of (Kind.Bounded cap) ok s (record { local = l; touch = t; op = o; carried = v })).shared x.local) < near (far cap s l)
 unfolding far ring_by
 falls_at ok s x (push_tail d v none) fine codes quiet goes less = near_falls _ _ less (omega arith)
 falls_at {cap = cap} {r = r} {who = who} ok s x (push_stamp d v t none saw) fine codes quiet goes less =
@@ -188,8 +155,8 @@ falls_at {cap = cap} {r = r} {who = who} ok s x (push_stamp d v t none saw) fine
           let past : position_of t < r.tail = before_tail (position_of t) r.tail saw.behind (λ e. other.1 (e ∙ sym tail)) in
           let wide : 0 < cap = (let w = fine.ring.0 in omega arith) in
           let ne = not_lapped cap r.head r.tail (position_of t) i r.items r.coming (r.cells i) wide fine.room past (fine.cell i lt) (λ w e. nobody r who none quiet w i e) in
-          let late = ne_eqb (word_at s (word.Stamp i) + cap) (position_of t + 1) (λ e. ne (ap (λ n. n + cap) (sym (codes.stamp i lt)) ∙ e)) in
-          stale_falls _ _ (after_stamp cap (step_of (queue.Bounded cap) ok s (record { local = local.Bounded (at.PushStamp d t); touch = touch.Nothing; op = op.Load (word.Stamp (slot_at cap (position_of t))); carried = Some v })).shared d t (word_at s (word.Stamp i)) (Some v) x late goes) (rw other.0 (omega arith))
+          let late = ne_eqb (word_at s (Word.Stamp i) + cap) (position_of t + 1) (λ e. ne (ap (λ n. n + cap) (sym (codes.stamp i lt)) ∙ e)) in
+          stale_falls _ _ (after_stamp cap (step_of (Kind.Bounded cap) ok s (record { local = Local.Bounded (BoundedLocal.PushStamp d t); touch = Touch.Nothing; op = Op.Load (Word.Stamp (slot_at cap (position_of t))); carried = Some v })).shared d t (word_at s (Word.Stamp i)) (Some v) x late goes) (rw other.0 (omega arith))
     ]
 falls_at {cap = cap} ok s x (claiming d v t none saw free) fine codes quiet goes less = near_falls _ _ less (either_small (position_of t == position_of s.tail) 2 5 6 (omega arith) (omega arith))
 falls_at ok s x (filling d v q one) fine codes quiet goes less = near_falls _ _ less (omega arith)
@@ -215,28 +182,28 @@ falls_at ok s x (closed_tail none) fine codes quiet goes less = near_falls _ _ l
 
 module _ {A : Type 0} (cap : ℕ) where
   own_granted : (busy : ℕ) (s : Shared A) (Q : State A) (g : Ring A) (p : ℕ) (x x' : Running A) (o : Open A) → RingHolds cap s Q g → RingFits cap busy s Q g p x o → ((j : ℕ) → j ≢ p → RingIdle g j)
-      → (step_of (queue.Bounded cap) true s x).call ≡ Some x' → far cap (step_of (queue.Bounded cap) true s x).shared x'.local < far cap s x.local
+      → (step_of (Kind.Bounded cap) true s x).call ≡ Some x' → far cap (step_of (Kind.Bounded cap) true s x).shared x'.local < far cap s x.local
   own_granted busy s Q g p x x' o holds f quiet goes =
       let good = step_good cap g p (part s) o.moments o.was_open holds.ok holds.codes f.here in
       let same = same_step s x good.touches good.operates in
       let after = good.after in
       let codes : Codes cap after (part (after_operation true s x)) = subst (λ c. Codes cap after c) (sym same.leaves) good.codes in
-      let went = ap (λ a. next_of (queue.Bounded cap) x.local a) same.answers in
-      let falls = goes_on cap g after p (queue_of cap after ∷ o.moments) (o.was_open || not after.closed) (next_of (queue.Bounded cap) x.local (ring.answered (ring.touched (part s) x.touch x.carried) x.op)) (ring.handed (part s) x.touch x.carried) o.call (with_effect o.effects good.e) (rank cap g x.local) x'
-      (subst (λ v. running_after (next_of (queue.Bounded cap) x.local (ring.answered (ring.touched (part s) x.touch x.carried) x.op)) v ≡ Some x') same.carries (subst (λ n. running_after n (carried_then s x) ≡ Some x') went goes)) good.goes quiet in
-      let there = far_is cap after (step_of (queue.Bounded cap) true s x).shared x'.local (far_codes codes) in
+      let went = ap (λ a. next_of (Kind.Bounded cap) x.local a) same.answers in
+      let falls = goes_on cap g after p (queue_of cap after ∷ o.moments) (o.was_open || not after.closed) (next_of (Kind.Bounded cap) x.local (ring.answered (ring.touched (part s) x.touch x.carried) x.op)) (ring.handed (part s) x.touch x.carried) o.call (with_effect o.effects good.e) (rank cap g x.local) x'
+      (subst (λ v. running_after (next_of (Kind.Bounded cap) x.local (ring.answered (ring.touched (part s) x.touch x.carried) x.op)) v ≡ Some x') same.carries (subst (λ n. running_after n (carried_then s x) ≡ Some x') went goes)) good.goes quiet in
+      let there = far_is cap after (step_of (Kind.Bounded cap) true s x).shared x'.local (far_codes codes) in
       let here = far_is cap g s x.local holds.codes in
       omega (arith, falls, there, here)
     where
-      far_codes : {after : Ring A} → Codes cap after (part (after_operation true s x)) → Codes cap after (part (step_of (queue.Bounded cap) true s x).shared)
+      far_codes : {after : Ring A} → Codes cap after (part (after_operation true s x)) → Codes cap after (part (step_of (Kind.Bounded cap) true s x).shared)
       far_codes codes = codes
 
   own_falls : (busy : ℕ) (ok : Bool) (s : Shared A) (Q : State A) (g : Ring A) (p : ℕ) (x x' : Running A) (o : Open A) → RingHolds cap s Q g → RingFits cap busy s Q g p x o → ((j : ℕ) → j ≢ p → RingIdle g j)
-      → (step_of (queue.Bounded cap) ok s x).call ≡ Some x' → far cap (step_of (queue.Bounded cap) ok s x).shared x'.local < far cap s x.local
+      → (step_of (Kind.Bounded cap) ok s x).call ≡ Some x' → far cap (step_of (Kind.Bounded cap) ok s x).shared x'.local < far cap s x.local
   own_falls busy ok s Q g p x x' o holds f quiet goes =
       let good = step_good cap g p (part s) o.moments o.was_open holds.ok holds.codes f.here in
       let same = same_step s x good.touches good.operates in
-      let plain = plain-step (queue.Bounded cap) ok s x.local x.touch x.op x.carried same.is_plain in
+      let plain = plain-step (Kind.Bounded cap) ok s x.local x.touch x.op x.carried same.is_plain in
       subst (λ t. t.call ≡ Some x' → far cap t.shared x'.local < far cap s x.local) (sym plain) (own_granted busy s Q g p x x' o holds f quiet) goes
 
   -- the words tell the queue, and the queue the words
@@ -251,10 +218,10 @@ module _ {A : Type 0} (cap : ℕ) where
   tail_is : (s : Shared A) (Q : State A) (g : Ring A) → RingHolds cap s Q g → s.tail ≡ tail_of Q.accepted Q.closed
   tail_is s Q g holds = holds.codes.tail ∙ ap (λ q. tail_of q.accepted q.closed) (sym holds.queue_is)
 
-  abbrev pub ring_rules : IsRing cap → Rules A (queue.Bounded cap)
+  abbrev pub ring_rules : IsRing cap → Rules A (Kind.Bounded cap)
   ring_rules ring = record { G = Ring A; Holds = RingHolds cap; Idle = RingIdle; Fits = RingFits cap; laws = ring_steps cap; first = opening_ring A; opens = ring_opens A cap ring; all_idle = ring_all_idle A }
 
-  ring_paces : (ring : IsRing cap) → Paces A (queue.Bounded cap) (ring_rules ring)
+  ring_paces : (ring : IsRing cap) → Paces A (Kind.Bounded cap) (ring_rules ring)
   ring_paces ring = record {
     rank = λ s r. near (far cap s r.local);
     most = 6;
@@ -271,72 +238,33 @@ module _ {A : Type 0} (cap : ℕ) where
         (tt, ap near (far_same cap s s' r.local heads (tail_is s' Q g' holds' ∙ sym (tail_is s Q g holds))));
   }
 
-  pub ring_unhindered : IsRing cap → UnhinderedWithin A (queue.Bounded cap) 6
+  pub ring_unhindered : IsRing cap → UnhinderedWithin A (Kind.Bounded cap) 6
   unfolding ring_paces
-  ring_unhindered ring = unhindered A (queue.Bounded cap) (ring_rules ring) (ring_paces ring) (λ parties w st h p r is nobody. tt)
+  ring_unhindered ring = unhindered A (Kind.Bounded cap) (ring_rules ring) (ring_paces ring) (λ parties w st h p r is nobody. tt)
 
 -- a call that holds a slot ends at its next step, but for the arrival of its item
 half_ends : {A : Type 0} {cap : ℕ} {r : Ring A} {who : ℕ} {ms : List (State A)} {was : Bool} {l : Local ℕ} {t : Touch} {o : Op ℕ} {v : Option A} {k : Call A} {es : List (Effect A)} (ok : Bool) (s : Shared A) (r' : Running A) → At cap r who ms was l t o v k es → es ≢ []
-    → (step_of (queue.Bounded cap) ok s (record { local = l; touch = t; op = o; carried = v })).call ≡ Some r' → (step_of (queue.Bounded cap) ok s (record { local = l; touch = t; op = o; carried = v })).effect ≡ None → ⊥
-half_ends ok s r' (push_tail d v none) some goes quiet = absurd (some refl)
-half_ends ok s r' (push_stamp d v t none saw) some goes quiet = absurd (some refl)
-half_ends ok s r' (claiming d v t none saw free) some goes quiet = absurd (some refl)
+    → (step_of (Kind.Bounded cap) ok s (record { local = l; touch = t; op = o; carried = v })).call ≡ Some r' → (step_of (Kind.Bounded cap) ok s (record { local = l; touch = t; op = o; carried = v })).effect ≡ None → ⊥
 half_ends ok s r' (filling d v q one) some goes quiet = cc
-half_ends ok s r' (push_head v t none saw) some goes quiet = absurd (some refl)
-half_ends ok s r' (displacing v t h none saw back full) some goes quiet = absurd (some refl)
 half_ends ok s r' (arriving old v t h below back one) some goes quiet = cc
 half_ends ok s r' (swapping old v h one) some goes quiet = cc
-half_ends ok s r' (spending d v none high) some goes quiet = absurd (some refl)
-half_ends ok s r' (pop_head none) some goes quiet = absurd (some refl)
-half_ends ok s r' (pop_stamp h none low) some goes quiet = absurd (some refl)
-half_ends ok s r' (taking h none low full) some goes quiet = absurd (some refl)
 half_ends ok s r' (emptying x h one) some goes quiet = cc
-half_ends ok s r' (pop_tail h none low free) some goes quiet = absurd (some refl)
-half_ends ok s r' (len_tail none) some goes quiet = absurd (some refl)
-half_ends ok s r' (len_head t none low) some goes quiet = absurd (some refl)
-half_ends ok s r' (len_again t h none seen) some goes quiet = absurd (some refl)
-half_ends ok s r' (empty_head none) some goes quiet = absurd (some refl)
-half_ends ok s r' (empty_tail h none saw) some goes quiet = absurd (some refl)
-half_ends ok s r' (full_tail none) some goes quiet = absurd (some refl)
-half_ends ok s r' (full_head t none saw) some goes quiet = absurd (some refl)
-half_ends ok s r' (closing none) some goes quiet = absurd (some refl)
-half_ends ok s r' (closed_tail none) some goes quiet = absurd (some refl)
+half_ends ok s r' x some goes quiet = absurd (some refl)
 
-pub ring_never_waits : (A : Type 0) (cap : ℕ) → IsRing cap → NeverWaits A (queue.Bounded cap)
-ring_never_waits A cap ring = never_waits A (queue.Bounded cap) (ring_rules cap ring) (λ busy ok s Q g p r r' o f some goes quiet. half_ends ok s r' f.here some goes quiet)
+pub ring_never_waits : (A : Type 0) (cap : ℕ) → IsRing cap → NeverWaits A (Kind.Bounded cap)
+ring_never_waits A cap ring = never_waits A (Kind.Bounded cap) (ring_rules cap ring) (λ busy ok s Q g p r r' o f some goes quiet. half_ends ok s r' f.here some goes quiet)
 
-pub ring_takes_none : (A : Type 0) (cap : ℕ) → IsRing cap → HalfDoneTakesNone A (queue.Bounded cap)
-ring_takes_none A cap ring = waits_take_none A (queue.Bounded cap) (ring_rules cap ring) (λ busy ok s Q g p r r' o f some goes quiet. half_ends ok s r' f.here some goes quiet)
+pub ring_takes_none : (A : Type 0) (cap : ℕ) → IsRing cap → HalfDoneTakesNone A (Kind.Bounded cap)
+ring_takes_none A cap ring = waits_take_none A (Kind.Bounded cap) (ring_rules cap ring) (λ busy ok s Q g p r r' o f some goes quiet. half_ends ok s r' f.here some goes quiet)
 
 -- a call that has appended ends at its next step
 append_ends : {A : Type 0} {cap : ℕ} {r : Ring A} {who : ℕ} {ms : List (State A)} {was : Bool} {l : Local ℕ} {t : Touch} {o : Op ℕ} {v : Option A} {k : Call A} {es : List (Effect A)} (ok : Bool) (s : Shared A) (r' : Running A) → At cap r who ms was l t o v k es → HasAppend es
-    → (step_of (queue.Bounded cap) ok s (record { local = l; touch = t; op = o; carried = v })).call ≡ Some r' → ⊥
-append_ends ok s r' (push_tail d v none) had goes = absurd had
-append_ends ok s r' (push_stamp d v t none saw) had goes = absurd had
-append_ends ok s r' (claiming d v t none saw free) had goes = absurd had
+    → (step_of (Kind.Bounded cap) ok s (record { local = l; touch = t; op = o; carried = v })).call ≡ Some r' → ⊥
 append_ends ok s r' (filling d v q one) had goes = cc
-append_ends ok s r' (push_head v t none saw) had goes = absurd had
-append_ends ok s r' (displacing v t h none saw back full) had goes = absurd had
-append_ends ok s r' (arriving old v t h below back one) had goes = absurd had
-append_ends ok s r' (swapping old v h one) had goes = absurd had
-append_ends ok s r' (spending d v none high) had goes = absurd had
-append_ends ok s r' (pop_head none) had goes = absurd had
-append_ends ok s r' (pop_stamp h none low) had goes = absurd had
-append_ends ok s r' (taking h none low full) had goes = absurd had
-append_ends ok s r' (emptying x h one) had goes = absurd had
-append_ends ok s r' (pop_tail h none low free) had goes = absurd had
-append_ends ok s r' (len_tail none) had goes = absurd had
-append_ends ok s r' (len_head t none low) had goes = absurd had
-append_ends ok s r' (len_again t h none seen) had goes = absurd had
-append_ends ok s r' (empty_head none) had goes = absurd had
-append_ends ok s r' (empty_tail h none saw) had goes = absurd had
-append_ends ok s r' (full_tail none) had goes = absurd had
-append_ends ok s r' (full_head t none saw) had goes = absurd had
-append_ends ok s r' (closing none) had goes = absurd had
-append_ends ok s r' (closed_tail none) had goes = absurd had
+append_ends ok s r' x had goes = absurd had
 
-pub ring_appends : (A : Type 0) (cap : ℕ) → IsRing cap → AppendsReplyWithin A (queue.Bounded cap) 1
-ring_appends A cap ring = appends_reply A (queue.Bounded cap) (ring_rules cap ring) (record {
+pub ring_appends : (A : Type 0) (cap : ℕ) → IsRing cap → AppendsReplyWithin A (Kind.Bounded cap) 1
+ring_appends A cap ring = appends_reply A (Kind.Bounded cap) (ring_rules cap ring) (record {
   before = λ l. 1;
   most = 1;
   within = λ busy s Q g p r o f had. (omega arith, omega arith);
@@ -345,33 +273,12 @@ ring_appends A cap ring = appends_reply A (queue.Bounded cap) (ring_rules cap ri
 
 -- a call that has taken ends at its next step
 take_ends : {A : Type 0} {cap : ℕ} {r : Ring A} {who : ℕ} {ms : List (State A)} {was : Bool} {l : Local ℕ} {t : Touch} {o : Op ℕ} {v : Option A} {k : Call A} {es : List (Effect A)} (ok : Bool) (s : Shared A) (r' : Running A) → At cap r who ms was l t o v k es → HasTake es
-    → (step_of (queue.Bounded cap) ok s (record { local = l; touch = t; op = o; carried = v })).call ≡ Some r' → ⊥
-take_ends ok s r' (push_tail d v none) had goes = absurd had
-take_ends ok s r' (push_stamp d v t none saw) had goes = absurd had
-take_ends ok s r' (claiming d v t none saw free) had goes = absurd had
-take_ends ok s r' (filling d v q one) had goes = absurd had
-take_ends ok s r' (push_head v t none saw) had goes = absurd had
-take_ends ok s r' (displacing v t h none saw back full) had goes = absurd had
-take_ends ok s r' (arriving old v t h below back one) had goes = absurd had
-take_ends ok s r' (swapping old v h one) had goes = absurd had
-take_ends ok s r' (spending d v none high) had goes = absurd had
-take_ends ok s r' (pop_head none) had goes = absurd had
-take_ends ok s r' (pop_stamp h none low) had goes = absurd had
-take_ends ok s r' (taking h none low full) had goes = absurd had
+    → (step_of (Kind.Bounded cap) ok s (record { local = l; touch = t; op = o; carried = v })).call ≡ Some r' → ⊥
 take_ends ok s r' (emptying x h one) had goes = cc
-take_ends ok s r' (pop_tail h none low free) had goes = absurd had
-take_ends ok s r' (len_tail none) had goes = absurd had
-take_ends ok s r' (len_head t none low) had goes = absurd had
-take_ends ok s r' (len_again t h none seen) had goes = absurd had
-take_ends ok s r' (empty_head none) had goes = absurd had
-take_ends ok s r' (empty_tail h none saw) had goes = absurd had
-take_ends ok s r' (full_tail none) had goes = absurd had
-take_ends ok s r' (full_head t none saw) had goes = absurd had
-take_ends ok s r' (closing none) had goes = absurd had
-take_ends ok s r' (closed_tail none) had goes = absurd had
+take_ends ok s r' x had goes = absurd had
 
-pub ring_takes : (A : Type 0) (cap : ℕ) → IsRing cap → TakesReplyWithin A (queue.Bounded cap) 1
-ring_takes A cap ring = takes_reply A (queue.Bounded cap) (ring_rules cap ring) (record {
+pub ring_takes : (A : Type 0) (cap : ℕ) → IsRing cap → TakesReplyWithin A (Kind.Bounded cap) 1
+ring_takes A cap ring = takes_reply A (Kind.Bounded cap) (ring_rules cap ring) (record {
   before = λ l. 1;
   most = 1;
   Clear = λ g q. Unit {0};

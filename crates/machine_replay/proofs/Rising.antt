@@ -1,13 +1,9 @@
 -- The lists of a replay stand in the order of the events, with one entry an event at most.
-use Rattle.std.proofs.Common.{◌≡◌, ℕ, ◌+◌, ◌<◌, ◌≤◌, None, Some, List, [], ◌∷◌, ◌++◌, length, refl, arith}
+use Rattle.std.proofs.Common.{◌≡◌, ℕ, ◌+◌, ◌<◌, ◌≤◌, Some, List, [], ◌∷◌, ◌++◌, length, refl, arith}
 use Rattle.std.specs.List.{AllByRecursion, AllPairs}
 use Rattle.std.proofs.lemmas.List.Elements.{All-from_recursion}
 use Rattle.std.proofs.lemmas.List.Kept.{AllPairs-cons}
-use Rattle.queue_steps.specs.declared.model.Reply.{Reply}
-use Rattle.machine_steps.specs.declared.types.EffectKind.{EffectKind}
-use Rattle.machine_steps.specs.declared.types.Event.{Event}
-use Rattle.machine_steps.specs.declared.types.Told.{Told}
-use Rattle.machine_steps.specs.declared.types.Told.TheVariants.{Skipped, Ran}
+use Rattle.machine_replay.specs.Vocabulary.{Reply, Event, Told, EffectKind, Skipped, Ran}
 use Rattle.machine_replay.specs.Conforms.{entries_from, effect_entry, party_of, reply_entry, skipped_entry}
 use Rattle.machine_replay.proofs.Entries.{each-all}
 
@@ -25,9 +21,8 @@ module _ {T E : Type 0} (entry : ℕ → ℕ → Told T → List E) (number : E 
 
   -- the entries of the events from n on are of no earlier one
   pub entries-late : (n : ℕ) (es : List (Event T)) (ts : List (Told T)) → AllByRecursion (λ x. n ≤ number x) (entries_from entry n es ts)
-  entries-late n [] ts = tt
-  entries-late n (e ∷ es) [] = tt
   entries-late n (e ∷ es) (t ∷ ts) = late-then n (entry n (party_of e) t) (entries_from entry (n + 1) es ts) (one n (party_of e) t) (entries-late (n + 1) es ts)
+  entries-late n es ts = tt
 
   early-then : (n k : ℕ) (xs ys : List E) → IsOneOf number n xs → n < k → AllByRecursion (λ x. number x < k) ys → AllByRecursion (λ x. number x < k) (xs ++ ys)
   early-then n k [] ys is lt early = early
@@ -36,9 +31,8 @@ module _ {T E : Type 0} (entry : ℕ → ℕ → Told T → List E) (number : E 
 
   -- and of none behind the last
   pub entries-early : (n k : ℕ) (es : List (Event T)) (ts : List (Told T)) → n + length es ≤ k → AllByRecursion (λ x. number x < k) (entries_from entry n es ts)
-  entries-early n k [] ts le = tt
-  entries-early n k (e ∷ es) [] le = tt
   entries-early n k (e ∷ es) (t ∷ ts) le = early-then n k (entry n (party_of e) t) (entries_from entry (n + 1) es ts) (one n (party_of e) t) (omega arith) (entries-early (n + 1) k es ts (omega arith))
+  entries-early n k es ts le = tt
 
   rise-then : (n : ℕ) (xs ys : List E) → IsOneOf number n xs → AllByRecursion (λ x. n + 1 ≤ number x) ys → AllPairs (λ x y. number x < number y) ys → AllPairs (λ x y. number x < number y) (xs ++ ys)
   rise-then n [] ys is late rise = rise
@@ -48,10 +42,9 @@ module _ {T E : Type 0} (entry : ℕ → ℕ → Told T → List E) (number : E 
 
   -- they rise
   pub entries-rise : (n : ℕ) (es : List (Event T)) (ts : List (Told T)) → AllPairs (λ x y. number x < number y) (entries_from entry n es ts)
-  entries-rise n [] ts = λ i j d lt within. absurd (omega arith)
-  entries-rise n (e ∷ es) [] = λ i j d lt within. absurd (omega arith)
   entries-rise n (e ∷ es) (t ∷ ts) =
       rise-then n (entry n (party_of e) t) (entries_from entry (n + 1) es ts) (one n (party_of e) t) (entries-late (n + 1) es ts) (entries-rise (n + 1) es ts)
+  entries-rise n es ts = λ i j d lt within. absurd (omega arith)
 
 abbrev number_in : {T : Type 0} → ℕ × ℕ × Reply T → ℕ
 number_in y = y.0
@@ -60,9 +53,8 @@ abbrev kind_number : ℕ × ℕ × EffectKind → ℕ
 kind_number y = y.0
 
 reply-one : {T : Type 0} (n p : ℕ) (t : Told T) → IsOneOf number_in n (reply_entry n p t)
-reply-one n p Skipped = tt
-reply-one n p (Ran k None) = tt
 reply-one n p (Ran k (Some r)) = refl
+reply-one n p t = tt
 
 skipped-one : {T : Type 0} (n p : ℕ) (t : Told T) → IsOneOf (λ (m : ℕ). m) n (skipped_entry n p t)
 skipped-one n p Skipped = refl
@@ -75,9 +67,8 @@ pub skipped-rise : {T : Type 0} (es : List (Event T)) (ts : List (Told T)) → A
 skipped-rise es ts = entries-rise skipped_entry (λ (m : ℕ). m) skipped-one 0 es ts
 
 effect-one : {T : Type 0} (n p : ℕ) (t : Told T) → IsOneOf kind_number n (effect_entry n p t)
-effect-one n p Skipped = tt
-effect-one n p (Ran None r) = tt
 effect-one n p (Ran (Some k) r) = refl
+effect-one n p t = tt
 
 -- the entries of the events from n on are no earlier ones, and those of the events before k no later ones
 pub replies-late : {T : Type 0} (n : ℕ) (es : List (Event T)) (ts : List (Told T)) → AllByRecursion (λ y. n ≤ y.0) (entries_from reply_entry n es ts)

@@ -2,10 +2,7 @@
 use Rattle.std.proofs.Common.{◌≡◌, ◌∙◌, ◌&&◌, not, ℕ, ◌+◌, Bool, true, false, Some, None, List, [], ◌∷◌, ◌++◌, length, length-append, refl, sym, ap, subst, arith, append_assoc, slice_get}
 use Rattle.std.specs.List.{AllByRecursion}
 use Rattle.machine_steps.specs.Left.{left_of, opening_world}
-use Rattle.machine_steps.specs.declared.types.Event.{Event}
-use Rattle.machine_steps.specs.declared.types.Event.TheVariants.{Begin, Step}
-use Rattle.machine_steps.specs.declared.types.Told.{Told}
-use Rattle.machine_steps.specs.declared.types.Told.TheVariants.{Skipped, Ran}
+use Rattle.machine_replay.specs.Vocabulary.{Event, Told, Begin, Step, Skipped, Ran}
 use Rattle.machine_replay.specs.Conforms.{entries_from, party_of, reply_entry, effect_entry, skipped_entry}
 use Rattle.machine_replay.specs.Played.{as_told, event_told, is_no_memory, told_of, world_after}
 use Rattle.machine_replay.specs.Served.{IsAsRefused, ServedIsExact}
@@ -41,13 +38,12 @@ one_as_told {T} n past es (Step p granted) (Ran k (Some r)) is all = by_reply (i
         subst Goal (sym lacks) (rw none refl)
 
 all_as_told : {T : Type 0} (n : ℕ) (past es : List (Event T)) (ts : List (Told T)) → n ≡ length past → AllByRecursion (IsAsRefused (past ++ es)) (entries_from reply_entry n es ts) → as_told es ts ≡ es
-all_as_told n past [] ts is all = refl
-all_as_told n past (e ∷ es) [] is all = refl
 all_as_told n past (e ∷ es) (t ∷ ts) is all =
     let parts = all_parts (IsAsRefused (past ++ e ∷ es)) (reply_entry n (party_of e) t) (entries_from reply_entry (n + 1) es ts) all in
     let next : AllByRecursion (IsAsRefused ((past ++ e ∷ []) ++ es)) (entries_from reply_entry (n + 1) es ts) = rw (append_assoc past (e ∷ []) es) parts.1 in
     let more = length-append past (e ∷ []) in
     ap (λ x. x ∷ as_told es ts) (one_as_told n past es e t is parts.0) ∙ ap (λ l. e ∷ l) (all_as_told (n + 1) (past ++ e ∷ []) es ts (omega arith) next)
+all_as_told n past es ts is all = refl
 
 pub served_is_exact : {T A : Type 0} → ServedIsExact T A
 served_is_exact k parties events r played served =

@@ -1,15 +1,9 @@
 -- The machine's word and slot at each step of a call on one slot: what the laws of the slot say of them.
 use Rattle.std.proofs.Common.{ℕ, ◌≡◌, ◌==◌, ◌∙◌, Bool, true, false, Option, None, List, [], ◌∷◌, if◌then◌else◌, refl, ap}
-use Rattle.queue_steps.specs.declared.model.Call.{Call}
-use Rattle.queue_steps.specs.declared.model.Effect.{Effect}
-use Rattle.queue_steps.specs.declared.steps.types.Kind.TheVariants as kind
-use Rattle.queue_steps.specs.declared.steps.types.Local.{Local}
-use Rattle.queue_steps.specs.declared.steps.types.Op.{Op}
-use Rattle.queue_steps.specs.declared.steps.types.Touch.{Touch}
+use Rattle.machine_replay.specs.Vocabulary.{Call, Effect, Kind, Op, Touch, Local, Running}
 use Rattle.law_slot.specs.SlotShared as slot
 use Rattle.law_slot.specs.SlotHolder.{SlotHolder}
-use Rattle.law_slot.specs.SlotRows.{At, push_try, push_put, force_try_empty, force_try_full, force_put_empty, force_put_full, pop_try, pop_take, close_try, look_at}
-use Rattle.machine_steps.specs.declared.machine.Running.{Running}
+use Rattle.law_slot.specs.SlotRows.{At, push_try, force_try_empty, force_try_full, pop_try, close_try, look_at}
 use Rattle.machine_steps.specs.Blocks.{without}
 use Rattle.machine_steps.specs.SharedMemory.{Shared, CanTouch, CanOperate, slots_there, block_touched, after_touch, after_operation, answer_to, carried_then, shared_then, spare_in, next_after}
 use Rattle.machine_replay.proofs.Plain.{without-none}
@@ -47,15 +41,12 @@ module _ {T : Type 0} where
   same_step granted word x (force_try_empty v) = record { touches = λ can. tt; operates = tt; answers = refl; carries = refl; leaves = exchanged (word == 0) word _ x }
   same_step granted word x (force_try_full v) = record { touches = λ can. tt; operates = tt; answers = refl; carries = refl; leaves = exchanged (word == 2) word _ x }
   same_step granted word x (pop_try d) = record { touches = λ can. tt; operates = tt; answers = refl; carries = refl; leaves = exchanged _ word _ x }
-  same_step granted word x (push_put v) = record { touches = λ can. can; operates = tt; answers = refl; carries = refl; leaves = refl }
-  same_step granted word x (force_put_empty v) = record { touches = λ can. can; operates = tt; answers = refl; carries = refl; leaves = refl }
-  same_step granted word x (force_put_full old v) = record { touches = λ can. can; operates = tt; answers = refl; carries = refl; leaves = refl }
-  same_step granted word x (pop_take y) = record { touches = λ can. can; operates = tt; answers = refl; carries = refl; leaves = refl }
   same_step granted word x close_try = record { touches = λ can. tt; operates = tt; answers = refl; carries = refl; leaves = refl }
   same_step granted word x (look_at l) = record { touches = λ can. tt; operates = tt; answers = refl; carries = refl; leaves = refl }
+  same_step granted word x y = record { touches = λ can. can; operates = tt; answers = refl; carries = refl; leaves = refl }
 
   -- no block is given up where there is none
-  pub shared_same : (granted : Bool) (s : Shared T) (r : Running T) (word : ℕ) (x : Option T) → after_operation granted s r ≡ one_slot word x → shared_then kind.Single granted s r ≡ one_slot word x
+  pub shared_same : (granted : Bool) (s : Shared T) (r : Running T) (word : ℕ) (x : Option T) → after_operation granted s r ≡ one_slot word x → shared_then Kind.Single granted s r ≡ one_slot word x
   shared_same granted s r word x e =
-      let bare : without (spare_in (next_after kind.Single granted s r)) (after_operation granted s r).blocks ≡ [] = ap (λ c. without (spare_in (next_after kind.Single granted s r)) c.blocks) e ∙ without-none _ in
+      let bare : without (spare_in (next_after Kind.Single granted s r)) (after_operation granted s r).blocks ≡ [] = ap (λ c. without (spare_in (next_after Kind.Single granted s r)) c.blocks) e ∙ without-none _ in
       ap (λ b. record (after_operation granted s r) { blocks = b }) bare ∙ ap {A = Shared T} (λ c. record c { blocks = [] }) e

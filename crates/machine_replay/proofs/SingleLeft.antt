@@ -5,15 +5,9 @@ use Rattle.std.proofs.lemmas.Bool.{eq-eqb}
 use Rattle.std.proofs.lemmas.Bool.Decides.{eqb_tells}
 use Rattle.queue_steps.specs.SingleNext.{is_pushed}
 use Rattle.queue_steps.specs.State.{State}
-use Rattle.queue_steps.specs.declared.model.Call.{Call}
-use Rattle.queue_steps.specs.declared.model.Effect.{Effect}
-use Rattle.queue_steps.specs.declared.steps.types.Kind.TheVariants as kind
-use Rattle.queue_steps.specs.declared.steps.types.Local.{Local}
-use Rattle.queue_steps.specs.declared.steps.types.Op.{Op}
-use Rattle.queue_steps.specs.declared.steps.types.Touch.{Touch}
-use Rattle.law_slot.specs.SlotHolder.{SlotHolder, Nobody, Filling, Swapping, Taking, Keeps, Idle, own_of}
-use Rattle.law_slot.specs.SlotRows.{Stands, free_empty, free_full, filling, swapping, taking, At, push_try, push_put, force_try_empty, force_try_full, force_put_empty, force_put_full, pop_try, pop_take, close_try, look_at}
-use Rattle.machine_steps.specs.declared.machine.Running.{Running}
+use Rattle.machine_replay.specs.Vocabulary.{Call, Effect, Kind, Op, Touch, Local, Running}
+use Rattle.law_slot.specs.SlotHolder.{SlotHolder, Nobody, Filling, Swapping, Keeps, Idle, own_of}
+use Rattle.law_slot.specs.SlotRows.{Stands, free_empty, free_full, filling, swapping, taking, At, push_put, force_put_empty, force_put_full}
 use Rattle.machine_replay.specs.Book.{Book, Open}
 use Rattle.machine_steps.specs.SharedMemory.{Shared, CanStep, step_of, start_of}
 use Rattle.machine_steps.specs.Left.{left_of, all_written}
@@ -26,24 +20,17 @@ use Rattle.machine_replay.proofs.SingleLaws.{Holds, FitsIn, single_engine}
 
 -- what the lock's holder is about to write
 abbrev wait_of : {T : Type 0} → SlotHolder T → Option T
-wait_of Nobody = None
 wait_of (Filling v) = Some v
 wait_of (Swapping old v) = Some v
-wait_of (Taking x) = None
+wait_of x = None
 
 -- a party writes exactly where it holds a value to be written
 at_writing : {T : Type 0} {l : Local ℕ} {t : Touch} {o : Op ℕ} {v : Option T} {own : SlotHolder T} {k : Call T} {es : List (Effect T)} → At l t o v own k es
     → ((wait_of own ≡ None) × (writes_slot t 0 ≡ false)) ⊎ ((x : T) × (wait_of own ≡ Some x) × (v ≡ Some x) × (writes_slot t 0 ≡ true))
-at_writing (push_try v) = inl (refl, refl)
 at_writing (push_put v) = inr (v, refl, refl, refl)
-at_writing (force_try_empty v) = inl (refl, refl)
-at_writing (force_try_full v) = inl (refl, refl)
 at_writing (force_put_empty v) = inr (v, refl, refl, refl)
 at_writing (force_put_full old v) = inr (v, refl, refl, refl)
-at_writing (pop_try d) = inl (refl, refl)
-at_writing (pop_take x) = inl (refl, refl)
-at_writing close_try = inl (refl, refl)
-at_writing (look_at l) = inl (refl, refl)
+at_writing x = inl (refl, refl)
 
 -- what a party, in a call or not, is about to write
 abbrev Writing : {T : Type 0} → Keeps T → ℕ → Option (Running T) → Type 0
@@ -52,11 +39,10 @@ Writing {T} g p x =
     ⊎ ((r : Running T) × (y : T) × (x ≡ Some r) × (wait_of (own_of g.who g.hold p) ≡ Some y) × (r.carried ≡ Some y) × (writes_slot r.touch 0 ≡ true))
 
 party_writing : {T : Type 0} (busy : ℕ) (s : Shared T) (Q : State T) (g : Keeps T) (p : ℕ) (x : Option (Running T)) (y : Option (Open T))
-    → engine.Party T (Shared T) (Running T) (Keeps T) (Some 1) (step_of kind.Single) (start_of kind.Single) (CanStep kind.Single) Holds Idle FitsIn busy s Q g p x y → Writing g p x
+    → engine.Party T (Shared T) (Running T) (Keeps T) (Some 1) (step_of Kind.Single) (start_of Kind.Single) (CanStep Kind.Single) Holds Idle FitsIn busy s Q g p x y → Writing g p x
 party_writing busy s Q g p None None h = inl (ap wait_of h, refl)
 party_writing busy s Q g p (Some r) (Some o) h = elim (at_writing h.here) [ inl e ↦ inl e | inr e ↦ inr (r, e.0, refl, e.1, e.2, e.3) ]
-party_writing busy s Q g p None (Some o) h = absurd h
-party_writing busy s Q g p (Some r) None h = absurd h
+party_writing busy s Q g p x y h = absurd h
 
 -- nobody writes
 slot_kept : {T : Type 0} (calls : List (Option (Running T))) (slots : List (Option T)) (g : Keeps T) → ((p : ℕ) → Writing g p (get_or calls p None)) → wait_of g.hold ≡ None → get_or (all_written calls slots) 0 None ≡ get_or slots 0 None
@@ -90,7 +76,6 @@ left_stands : {T : Type 0} {word : ℕ} {slot : Option T} {h : SlotHolder T} {it
     → Stands word slot h items c → (wait_of h ≡ None → found ≡ slot) → ((v : T) → wait_of h ≡ Some v → found ≡ Some v)
     → (if is_pushed word then option_to_list found else []) ≡ items
 left_stands found (free_empty true) kept f = refl
-left_stands found (free_empty false) kept f = refl
 left_stands found (free_full true x) kept f = rw (kept refl) refl
 left_stands found (free_full false x) kept f = rw (kept refl) refl
 left_stands found (filling true v) kept f = rw (f v refl) refl
@@ -98,9 +83,9 @@ left_stands found (filling false v) kept f = rw (f v refl) refl
 left_stands found (swapping true old v) kept f = rw (f v refl) refl
 left_stands found (swapping false old v) kept f = rw (f v refl) refl
 left_stands found (taking true x) kept f = refl
-left_stands found (taking false x) kept f = refl
+left_stands found x kept f = refl
 
-single_left : {T : Type 0} (parties : ℕ) (w : World (Shared T) (Running T)) (b : Book T) → SimulatesOf T kind.Single (Keeps T) Holds Idle FitsIn parties w b → left_of kind.Single w ≡ b.queue.items
+single_left : {T : Type 0} (parties : ℕ) (w : World (Shared T) (Running T)) (b : Book T) → SimulatesOf T Kind.Single (Keeps T) Holds Idle FitsIn parties w b → left_of Kind.Single w ≡ b.queue.items
 single_left {T} parties w b sim =
     let holds = sim.holds in
     let writing : (p : ℕ) → Writing sim.g p (call_at w p) = λ p. party_writing b.busy w.shared b.queue sim.g p (call_at w p) (b.open_call p) (sim.each p) in
@@ -110,7 +95,7 @@ single_left {T} parties w b sim =
     (λ v some. slot_filled w.calls (holds.slot ∷ []) sim.g v (omega arith) writing some))
 
 -- a queue of one slot owes no more
-pub single_laws : (T : Type 0) → KindLaws T kind.Single
+pub single_laws : (T : Type 0) → KindLaws T Kind.Single
 single_laws T = record {
   G = Keeps T;
   Holds = Holds;

@@ -2,25 +2,11 @@
 use Rattle.std.proofs.Common.{ℕ, ◌≡◌, ◌==◌, inl, Bool, true, false, if◌then◌else◌, Option, Some, None, Ok, Err, List, [], ◌∷◌, refl}
 use Rattle.queue_steps.specs.State.{State}
 use Rattle.queue_steps.specs.SingleNext.{is_marked}
-use Rattle.queue_steps.specs.declared.model.Call.{Call}
-use Rattle.queue_steps.specs.declared.model.Reply.TheVariants as reply
-use Rattle.queue_steps.specs.declared.model.Effect.{Effect}
-use Rattle.queue_steps.specs.declared.model.Effect.TheVariants as effect
-use Rattle.queue_steps.specs.declared.errors.PopError.TheVariants as pop
+use Rattle.machine_replay.specs.Vocabulary.{Call, Reply, Effect, PopError, Kind, Op, Touch, Answer, Look, Local, PushKind, EffectKind}
 use Rattle.queue_steps.specs.declared.steps.single.SingleLocal.TheVariants.{Pushing, Forcing, Popping, Closing}
-use Rattle.queue_steps.specs.declared.steps.bounded.PushKind.TheVariants as push
-use Rattle.queue_steps.specs.declared.steps.types.Answer.{Answer}
-use Rattle.queue_steps.specs.declared.steps.types.Answer.TheVariants as answer
-use Rattle.queue_steps.specs.declared.steps.types.Kind.TheVariants as kind
-use Rattle.queue_steps.specs.declared.steps.types.Local.{Local}
-use Rattle.queue_steps.specs.declared.steps.types.Local.TheVariants as local
-use Rattle.queue_steps.specs.declared.steps.types.Look.TheVariants as look
-use Rattle.queue_steps.specs.declared.steps.types.Op.{Op}
-use Rattle.queue_steps.specs.declared.steps.types.Touch.{Touch}
 use Rattle.law_common.specs.Effects.{Leads, with_effect, Whether}
 use Rattle.law_slot.specs.SlotHolder.{SlotHolder}
 use Rattle.law_slot.specs.SlotRows.{At, push_try, push_put, force_try_empty, force_try_full, force_put_empty, force_put_full, pop_try, pop_take, close_try, look_at, IsEffect}
-use Rattle.machine_steps.specs.declared.types.EffectKind.TheVariants as told
 use Rattle.machine_replay.specs.Book.{IsBegun, Open, Moves}
 use Rattle.machine_steps.specs.EffectOf.{effect_of}
 use Rattle.machine_replay.proofs.Moments.{begun_push}
@@ -28,36 +14,35 @@ use Rattle.machine_replay.proofs.Moving.{no_move, moved, won, marked, appends, t
 
 -- the effects of a call in progress begin those of some reply
 pub single_begun : {T : Type 0} {l : Local ℕ} {t : Touch} {o : Op ℕ} {v : Option T} {own : SlotHolder T} {k : Call T} {es : List (Effect T)} → At l t o v own k es → IsBegun k es
-single_begun (push_try v) = (begun_push push.Push v).0
-single_begun (push_put v) = (begun_push push.Push v).1
-single_begun (force_try_empty v) = (begun_push push.Force v).0
-single_begun (force_try_full v) = (begun_push push.Force v).0
-single_begun (force_put_empty v) = (begun_push push.Force v).1
-single_begun (force_put_full old v) = (reply.ForcePush (Ok (Some old)), [], inl refl)
-single_begun (pop_try d) = (reply.Pop (Err pop.Empty), [], refl)
-single_begun (pop_take x) = (reply.Pop (Ok x), [], refl)
-single_begun close_try = (reply.Close true, effect.Close ∷ [], refl)
-single_begun (look_at look.IsClosed) = (reply.IsClosed true, [], refl)
-single_begun (look_at look.IsEmpty) = (reply.IsEmpty true, [], refl)
-single_begun (look_at look.IsFull) = (reply.IsFull true, [], refl)
-single_begun (look_at look.Len) = (reply.Len 0, [], refl)
+single_begun (push_try v) = (begun_push PushKind.Push v).0
+single_begun (push_put v) = (begun_push PushKind.Push v).1
+single_begun (force_try_empty v) = (begun_push PushKind.Force v).0
+single_begun (force_try_full v) = (begun_push PushKind.Force v).0
+single_begun (force_put_empty v) = (begun_push PushKind.Force v).1
+single_begun (force_put_full old v) = (Reply.ForcePush (Ok (Some old)), [], inl refl)
+single_begun (pop_try d) = (Reply.Pop (Err PopError.Empty), [], refl)
+single_begun (pop_take x) = (Reply.Pop (Ok x), [], refl)
+single_begun close_try = (Reply.Close true, Effect.Close ∷ [], refl)
+single_begun (look_at Look.IsClosed) = (Reply.IsClosed true, [], refl)
+single_begun (look_at Look.IsEmpty) = (Reply.IsEmpty true, [], refl)
+single_begun (look_at Look.IsFull) = (Reply.IsFull true, [], refl)
+single_begun (look_at Look.Len) = (Reply.Len 0, [], refl)
 
 -- the exchange of a push by force that wins appends, or replaces the item that it saw
 forces : {T : Type 0} (Q R S : State T) (o : Open T) (e : Option (Effect T)) (shut same empty : Bool) → Q ≡ R
-    → Whether shut (e ≡ None) (Whether same (Whether empty ((v : T) × (e ≡ Some (effect.Append v))) ((x : T × T) × (e ≡ Some (effect.Replace x.0 x.1)))) (e ≡ None)) → Leads R e S
-    → Moves Q o (if shut then None else (if same then (if empty then Some told.Append else Some told.Replace) else None)) S (with_effect o.effects e)
-forces Q R S o e true same empty is h makes = no_move Q R S o e is h makes
-forces Q R S o e false false empty is h makes = no_move Q R S o e is h makes
-forces Q R S o e false true true is h makes = moved Q R S o e (effect.Append h.0) told.Append is h.1 refl tt makes
-forces Q R S o e false true false is h makes = moved Q R S o e (effect.Replace h.0.0 h.0.1) told.Replace is h.1 refl tt makes
+    → Whether shut (e ≡ None) (Whether same (Whether empty ((v : T) × (e ≡ Some (Effect.Append v))) ((x : T × T) × (e ≡ Some (Effect.Replace x.0 x.1)))) (e ≡ None)) → Leads R e S
+    → Moves Q o (if shut then None else (if same then (if empty then Some EffectKind.Append else Some EffectKind.Replace) else None)) S (with_effect o.effects e)
+forces Q R S o e false true true is h makes = moved Q R S o e (Effect.Append h.0) EffectKind.Append is h.1 refl tt makes
+forces Q R S o e false true false is h makes = moved Q R S o e (Effect.Replace h.0.0 h.0.1) EffectKind.Replace is h.1 refl tt makes
+forces Q R S o e shut same empty is h makes = no_move Q R S o e is h makes
 
 -- the effect that is told of a step moves the queue
 pub single_moves : {T : Type 0} (Q R S : State T) (o : Open T) (l : Local ℕ) (a : Answer ℕ) (e : Option (Effect T)) → Q ≡ R → IsEffect l a e → Leads R e S
-    → Moves Q o (effect_of kind.Single l a) S (with_effect o.effects e)
-single_moves Q R S o (local.Single Pushing) (answer.Found found) e is h makes = won Q R S o e told.Append (found == 0) is tt (appends (found == 0) e h) makes
-single_moves Q R S o (local.Single (Forcing seen)) (answer.Found found) e is h makes = forces Q R S o e (is_marked found) (found == seen) (seen == 0) is h makes
-single_moves Q R S o (local.Single (Popping seen)) (answer.Found found) e is h makes = won Q R S o e told.Take (found == seen) is tt (takes (found == seen) e h) makes
-single_moves Q R S o (local.Single Closing) (answer.Found found) e is h makes = marked Q R S o e effect.Close told.Close (is_marked found) is refl tt h makes
-single_moves Q R S o (local.Single _) (answer.Found found) e is h makes = no_move Q R S o e is h makes
-single_moves Q R S o (local.Single _) _ e is h makes = no_move Q R S o e is h makes
+    → Moves Q o (effect_of Kind.Single l a) S (with_effect o.effects e)
+single_moves Q R S o (Local.Single Pushing) (Answer.Found found) e is h makes = won Q R S o e EffectKind.Append (found == 0) is tt (appends (found == 0) e h) makes
+single_moves Q R S o (Local.Single (Forcing seen)) (Answer.Found found) e is h makes = forces Q R S o e (is_marked found) (found == seen) (seen == 0) is h makes
+single_moves Q R S o (Local.Single (Popping seen)) (Answer.Found found) e is h makes = won Q R S o e EffectKind.Take (found == seen) is tt (takes (found == seen) e h) makes
+single_moves Q R S o (Local.Single Closing) (Answer.Found found) e is h makes = marked Q R S o e Effect.Close EffectKind.Close (is_marked found) is refl tt h makes
+single_moves Q R S o (Local.Single _) (Answer.Found found) e is h makes = no_move Q R S o e is h makes
+single_moves Q R S o (Local.Single _) _ e is h makes = no_move Q R S o e is h makes
 single_moves Q R S o _ a e is h makes = absurd h

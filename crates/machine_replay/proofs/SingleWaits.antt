@@ -3,19 +3,11 @@ use Rattle.std.proofs.Common.{ℕ, ◌≡◌, ◌≢◌, ◌∙◌, Bool, true, 
 use Rattle.std.proofs.lemmas.Bool.{eq-eqb}
 use Rattle.queue_steps.specs.Next.{next_of}
 use Rattle.queue_steps.specs.SingleNext.{unlocked}
-use Rattle.queue_steps.specs.declared.model.Call.{Call}
-use Rattle.queue_steps.specs.declared.model.Effect.{Effect}
+use Rattle.machine_replay.specs.Vocabulary.{Call, Effect, Kind, Op, Touch, Answer, Local, Running}
 use Rattle.queue_steps.specs.declared.steps.single.SingleLocal.TheVariants.{Pushing, Pushed, Forcing, Forced, Popping, Popped}
-use Rattle.queue_steps.specs.declared.steps.types.Answer.TheVariants as answer
-use Rattle.queue_steps.specs.declared.steps.types.Kind.TheVariants as kind
-use Rattle.queue_steps.specs.declared.steps.types.Local.{Local}
-use Rattle.queue_steps.specs.declared.steps.types.Local.TheVariants as local
-use Rattle.queue_steps.specs.declared.steps.types.Op.{Op}
-use Rattle.queue_steps.specs.declared.steps.types.Touch.{Touch}
 use Rattle.law_slot.specs.SlotShared as slot
-use Rattle.law_slot.specs.SlotHolder.{SlotHolder, Nobody, Filling, Swapping, Taking, Keeps}
-use Rattle.law_slot.specs.SlotRows.{Stands, free_empty, free_full, filling, swapping, taking, At, push_try, push_put, force_try_empty, force_try_full, force_put_empty, force_put_full, pop_try, pop_take, close_try, look_at}
-use Rattle.machine_steps.specs.declared.machine.Running.{Running}
+use Rattle.law_slot.specs.SlotHolder.{SlotHolder, Nobody, Taking, Keeps}
+use Rattle.law_slot.specs.SlotRows.{Stands, free_empty, free_full, filling, swapping, taking, At, push_try, push_put, force_put_empty, force_put_full, pop_take}
 use Rattle.machine_steps.specs.Left.{opening_world}
 use Rattle.machine_steps.specs.SharedMemory.{Shared, step_of, running_after, carried_then}
 use Rattle.machine_steps.specs.World.{World, call_at}
@@ -31,97 +23,76 @@ use Rattle.machine_replay.proofs.Stretch.{Here, Party, reach, first, party-open}
 -- where a call stands that has the lock
 abbrev HolderAt : {T : Type 0} → SlotHolder T → Local ℕ → Type 0
 HolderAt Nobody l = ⊥
-HolderAt (Filling v) l = IsPushToUnlock l
-HolderAt (Swapping old v) l = IsPushToUnlock l
 HolderAt (Taking x) l = IsPopToUnlock l
+HolderAt x l = IsPushToUnlock l
 
 holds_at : {T : Type 0} {l : Local ℕ} {t : Touch} {o : Op ℕ} {v : Option T} {own : SlotHolder T} {k : Call T} {es : List (Effect T)} → At l t o v own k es → own ≢ Nobody → HolderAt own l
-holds_at (push_try v) some = absurd (some refl)
 holds_at (push_put v) some = tt
-holds_at (force_try_empty v) some = absurd (some refl)
-holds_at (force_try_full v) some = absurd (some refl)
 holds_at (force_put_empty v) some = tt
 holds_at (force_put_full old v) some = tt
-holds_at (pop_try d) some = absurd (some refl)
 holds_at (pop_take x) some = tt
-holds_at close_try some = absurd (some refl)
-holds_at (look_at l) some = absurd (some refl)
+holds_at x some = absurd (some refl)
 
 -- each step finds the word
-finds : {T : Type 0} {l : Local ℕ} {t : Touch} {o : Op ℕ} {v : Option T} {own : SlotHolder T} {k : Call T} {es : List (Effect T)} (word : ℕ) (x : Option T) → At l t o v own k es → slot.answered (slot.touched (slot.one_slot word x) t v) o ≡ answer.Found word
+finds : {T : Type 0} {l : Local ℕ} {t : Touch} {o : Op ℕ} {v : Option T} {own : SlotHolder T} {k : Call T} {es : List (Effect T)} (word : ℕ) (x : Option T) → At l t o v own k es → slot.answered (slot.touched (slot.one_slot word x) t v) o ≡ Answer.Found word
 finds word x (push_try v) = refl
-finds word x (push_put v) = refl
-finds word x (force_try_empty v) = refl
-finds word x (force_try_full v) = refl
-finds word x (force_put_empty v) = refl
-finds word x (force_put_full old v) = refl
-finds word x (pop_try d) = refl
-finds word x (pop_take y) = refl
-finds word x close_try = refl
-finds word x (look_at l) = refl
+finds word x y = refl
 
 -- a party has the lock, and stands at such a step
 abbrev Waits : {T : Type 0} → SlotHolder T → (Local ℕ → Type 0) → Type 0
 Waits h Such = (h ≢ Nobody) × ((l : Local ℕ) → HolderAt h l → Such l)
 
 whoever : (l : Local ℕ) → IsPushToUnlock l → IsToUnlock l
-whoever (local.Single Pushed) a = tt
-whoever (local.Single (Forced seen)) a = tt
+whoever (Local.Single Pushed) a = tt
+whoever (Local.Single (Forced seen)) a = tt
 whoever _ a = absurd a
 
 or_a_pop : (l : Local ℕ) → IsPopToUnlock l → IsToUnlock l
-or_a_pop (local.Single Popped) a = tt
+or_a_pop (Local.Single Popped) a = tt
 or_a_pop _ a = absurd a
 
 push_back : {T : Type 0} {word : ℕ} {x : Option T} {h : SlotHolder T} {items : List T} {c : Bool} (v : Option T) (y : Running T) → Stands word x h items c
-    → running_after (next_of kind.Single (local.Single Pushing) (answer.Found word)) v ≡ Some y → y.local ≡ local.Single Pushing → Waits h IsPopToUnlock
-push_back v y (free_empty true) goes back = cc
+    → running_after (next_of Kind.Single (Local.Single Pushing) (Answer.Found word)) v ≡ Some y → y.local ≡ Local.Single Pushing → Waits h IsPopToUnlock
 push_back v y (free_empty false) goes back = let e = not_back y goes back in cc
 push_back v y (free_full true x) goes back = cc
-push_back v y (free_full false x) goes back = cc
 push_back v y (filling true z) goes back = cc
-push_back v y (filling false z) goes back = cc
 push_back v y (swapping true old z) goes back = cc
-push_back v y (swapping false old z) goes back = cc
-push_back v y (taking true z) goes back = cc
 push_back v y (taking false z) goes back = (λ e. cc, λ l a. a)
+push_back v y x goes back = cc
 
 force_back : {T : Type 0} {word : ℕ} {x : Option T} {h : SlotHolder T} {items : List T} {c : Bool} (v : Option T) (y : Running T) (seen : ℕ) → Stands word x h items c
-    → running_after (next_of kind.Single (local.Single (Forcing (unlocked word))) (answer.Found word)) v ≡ Some y → y.local ≡ local.Single (Forcing seen) → Waits h IsToUnlock
-force_back v y seen (free_empty true) goes back = cc
+    → running_after (next_of Kind.Single (Local.Single (Forcing (unlocked word))) (Answer.Found word)) v ≡ Some y → y.local ≡ Local.Single (Forcing seen) → Waits h IsToUnlock
 force_back v y seen (free_empty false) goes back = let e = not_back y goes back in cc
-force_back v y seen (free_full true x) goes back = cc
 force_back v y seen (free_full false x) goes back = let e = not_back y goes back in cc
 force_back v y seen (filling c z) goes back = (λ e. cc, whoever)
 force_back v y seen (swapping c old z) goes back = (λ e. cc, whoever)
 force_back v y seen (taking c z) goes back = (λ e. cc, or_a_pop)
+force_back v y seen x goes back = cc
 
 pop_back : {T : Type 0} {word : ℕ} {x : Option T} {h : SlotHolder T} {items : List T} {c : Bool} (v : Option T) (y : Running T) (seen : ℕ) → Stands word x h items c
-    → running_after (next_of kind.Single (local.Single (Popping (unlocked word))) (answer.Found word)) v ≡ Some y → y.local ≡ local.Single (Popping seen) → Waits h IsPushToUnlock
+    → running_after (next_of Kind.Single (Local.Single (Popping (unlocked word))) (Answer.Found word)) v ≡ Some y → y.local ≡ Local.Single (Popping seen) → Waits h IsPushToUnlock
 pop_back v y seen (free_empty true) goes back = let e = not_back y goes back in cc
-pop_back v y seen (free_empty false) goes back = let e = not_back y goes back in cc
 pop_back v y seen (free_full true x) goes back = let e = not_back y goes back in cc
-pop_back v y seen (free_full false x) goes back = let e = not_back y goes back in cc
 pop_back v y seen (filling c z) goes back = (λ e. cc, λ l a. a)
 pop_back v y seen (swapping c old z) goes back = (λ e. cc, λ l a. a)
 pop_back v y seen (taking true z) goes back = cc
 pop_back v y seen (taking false z) goes back = cc
+pop_back v y seen x goes back = let e = not_back y goes back in cc
 
-module _ {T : Type 0} (parties : ℕ) (w : World (Shared T) (Running T)) (st : ℕ → Standing) (h : Here T kind.Single (single_rules T) parties w st) where
+module _ {T : Type 0} (parties : ℕ) (w : World (Shared T) (Running T)) (st : ℕ → Standing) (h : Here T Kind.Single (single_rules T) parties w st) where
   -- the party that has the lock is in a call, and stands where it gives it back
-  holder : (busy : ℕ) (s : Shared T) (g : Keeps T) (x : Option (Running T)) (y : Option (Open T)) → Party T kind.Single (single_rules T) parties busy s h.b.queue g g.who x y → g.hold ≢ Nobody → (r : Running T) × (x ≡ Some r) × HolderAt g.hold r.local
+  holder : (busy : ℕ) (s : Shared T) (g : Keeps T) (x : Option (Running T)) (y : Option (Open T)) → Party T Kind.Single (single_rules T) parties busy s h.b.queue g g.who x y → g.hold ≢ Nobody → (r : Running T) × (x ≡ Some r) × HolderAt g.hold r.local
   holder busy s g None None idle some = absurd (some (rw (eq-eqb g.who g.who refl) at idle))
   holder busy s g (Some r) (Some o) f some = (r, refl, holds_at (subst (λ own. At r.local r.touch r.op r.carried own o.call o.effects) (rw (eq-eqb g.who g.who refl) refl) f.here) some)
-  holder busy s g None (Some o) f some = absurd f
-  holder busy s g (Some r) None f some = absurd f
+  holder busy s g x y f some = absurd f
 
   -- what a call does on the word that is there
-  on_word : (p : ℕ) (r x : Running T) → call_at w p ≡ Some r → GoesOn kind.Single w.shared r x → running_after (next_of kind.Single r.local (answer.Found w.shared.lock)) (carried_then w.shared r) ≡ Some x
+  on_word : (p : ℕ) (r x : Running T) → call_at w p ≡ Some r → GoesOn Kind.Single w.shared r x → running_after (next_of Kind.Single r.local (Answer.Found w.shared.lock)) (carried_then w.shared r) ≡ Some x
   on_word p r x is goes =
       let holds = h.sim.holds in
-      let o = party-open T kind.Single (single_rules T) parties h.b.busy w.shared h.b.queue h.sim.g p (call_at w p) (h.b.open_call p) r (h.sim.each p) is in
-      subst (λ s. (step_of kind.Single true s r).call ≡ Some x → running_after (next_of kind.Single r.local (answer.Found s.lock)) (carried_then s r) ≡ Some x) (sym holds.shared_is)
-      (λ there. subst (λ a. running_after (next_of kind.Single r.local a) (carried_then (one_slot holds.word holds.slot) r) ≡ Some x) ((same_step true holds.word holds.slot o.2.here).answers ∙ finds holds.word holds.slot o.2.here) there) goes
+      let o = party-open T Kind.Single (single_rules T) parties h.b.busy w.shared h.b.queue h.sim.g p (call_at w p) (h.b.open_call p) r (h.sim.each p) is in
+      subst (λ s. (step_of Kind.Single true s r).call ≡ Some x → running_after (next_of Kind.Single r.local (Answer.Found s.lock)) (carried_then s r) ≡ Some x) (sym holds.shared_is)
+      (λ there. subst (λ a. running_after (next_of Kind.Single r.local a) (carried_then (one_slot holds.word holds.slot) r) ≡ Some x) ((same_step true holds.word holds.slot o.2.here).answers ∙ finds holds.word holds.slot o.2.here) there) goes
 
   found : (p : ℕ) (r : Running T) (Such : Local ℕ → Type 0) → call_at w p ≡ Some r → Waits h.sim.g.hold Such → (Such r.local → ⊥) → IsBeside w p Such
   found p r Such is waits never =
@@ -132,10 +103,10 @@ module _ {T : Type 0} (parties : ℕ) (w : World (Shared T) (Running T)) (st : �
   stands : Stands w.shared.lock h.sim.holds.slot h.sim.g.hold h.sim.holds.items h.sim.holds.c
   stands = subst (λ n. Stands n h.sim.holds.slot h.sim.g.hold h.sim.holds.items h.sim.holds.c) (sym (ap (λ s. s.lock) h.sim.holds.shared_is)) h.sim.holds.stands
 
-  on : (l : Local ℕ) (p : ℕ) (r x : Running T) → call_at w p ≡ Some r → GoesOn kind.Single w.shared r x → r.local ≡ l → running_after (next_of kind.Single l (answer.Found w.shared.lock)) (carried_then w.shared r) ≡ Some x
-  on l p r x is goes at = subst (λ z. running_after (next_of kind.Single z (answer.Found w.shared.lock)) (carried_then w.shared r) ≡ Some x) at (on_word p r x is goes)
+  on : (l : Local ℕ) (p : ℕ) (r x : Running T) → call_at w p ≡ Some r → GoesOn Kind.Single w.shared r x → r.local ≡ l → running_after (next_of Kind.Single l (Answer.Found w.shared.lock)) (carried_then w.shared r) ≡ Some x
+  on l p r x is goes at = subst (λ z. running_after (next_of Kind.Single z (Answer.Found w.shared.lock)) (carried_then w.shared r) ≡ Some x) at (on_word p r x is goes)
 
-  rows : (p : ℕ) (r x : Running T) → call_at w p ≡ Some r → GoesOn kind.Single w.shared r x → SlotWaits w p r x
+  rows : (p : ℕ) (r x : Running T) → call_at w p ≡ Some r → GoesOn Kind.Single w.shared r x → SlotWaits w p r x
   rows p r x is goes = record {
     push = λ at back. found p r IsPopToUnlock is (push_back (carried_then w.shared r) x stands (on _ p r x is goes at) back) (λ such. subst IsPopToUnlock at such);
     force = λ seen at back. found p r IsToUnlock is (force_back (carried_then w.shared r) x seen stands (on _ p r x is goes at) back) (λ such. subst IsToUnlock at such);
@@ -144,5 +115,5 @@ module _ {T : Type 0} (parties : ℕ) (w : World (Shared T) (Running T)) (st : �
 
 pub slot_waits : (T : Type 0) → SlotCallsWait T
 slot_waits T parties p past r x is goes =
-    let st : ℕ → Standing = λ q. stands_by q Between past (told_of kind.Single (opening_world kind.Single parties) past) in
-    rows parties (world_after kind.Single (opening_world kind.Single parties) past) st (reach T kind.Single (single_rules T) parties (opening_world kind.Single parties) (λ q. Between) past (first T kind.Single (single_rules T) parties)) p r x is goes
+    let st : ℕ → Standing = λ q. stands_by q Between past (told_of Kind.Single (opening_world Kind.Single parties) past) in
+    rows parties (world_after Kind.Single (opening_world Kind.Single parties) past) st (reach T Kind.Single (single_rules T) parties (opening_world Kind.Single parties) (λ q. Between) past (first T Kind.Single (single_rules T) parties)) p r x is goes

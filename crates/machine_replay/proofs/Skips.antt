@@ -2,9 +2,7 @@
 use Rattle.std.proofs.Common.{◌≡◌, ◌≢◌, ◌⊎◌, ℕ, zero, suc, ◌+◌, ◌<◌, ◌≤◌, Bool, true, false, Option, Some, None, List, [], ◌∷◌, ◌++◌, length, refl, subst, arith, inl, inr, slice_get, Contains}
 use Rattle.std.specs.List.{AllByRecursion}
 use Rattle.std.proofs.lemmas.List.Elements.{All-contains, All-from_recursion, Contains-append_left, Contains-push_cases}
-use Rattle.queue_steps.specs.declared.model.Reply.{Reply}
-use Rattle.machine_steps.specs.declared.types.Event.{Event}
-use Rattle.machine_steps.specs.declared.types.Event.TheVariants.{Begin, Step}
+use Rattle.machine_replay.specs.Vocabulary.{Reply, Event, Begin, Step}
 use Rattle.machine_replay.specs.InCall.{HasRun, IsUnanswered, IsInCall}
 use Rattle.machine_replay.specs.Skips.{IsExact}
 use Rattle.machine_replay.proofs.Calls.{answered, in-call-late, in-call-on}

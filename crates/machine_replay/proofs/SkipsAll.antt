@@ -1,13 +1,7 @@
 -- Exactly the events that do not fit are skipped, in every conforming replay.
 use Rattle.std.proofs.Common.{◌≡◌, ◌⊎◌, ◌∙◌, ℕ, ◌+◌, ◌<◌, if◌then◌else◌, Option, Some, None, is_some, List, [], ◌∷◌, ◌++◌, refl, sym, ap, arith, inl, inr, length, append-nil, append_assoc, slice_get}
-use Rattle.queue_steps.specs.declared.model.Call.{Call}
-use Rattle.queue_steps.specs.declared.model.Reply.{Reply}
-use Rattle.machine_steps.specs.declared.types.Event.{Event}
-use Rattle.machine_steps.specs.declared.types.Event.TheVariants.{Begin, Step}
-use Rattle.machine_steps.specs.declared.types.Told.{Told}
-use Rattle.machine_steps.specs.declared.types.Told.TheVariants.{Skipped, Ran}
+use Rattle.machine_replay.specs.Vocabulary.{Call, Reply, Event, Told, Replay, Begin, Step, Skipped, Ran}
 use Rattle.machine_replay.specs.Book.{Book, Open, Happens, Run, begun, joined, watched, at_open, after_own, opening}
-use Rattle.machine_steps.specs.declared.types.Replay.{Replay}
 use Rattle.machine_replay.specs.Conforms.{Conforms, party_of, entries_from, reply_entry, skipped_entry}
 use Rattle.machine_replay.specs.InCall.{IsInCall}
 use Rattle.machine_replay.specs.Skips.{IsExact, SkippedIsExact}
@@ -56,8 +50,7 @@ run-fair cap parties past [] told [] n S R b c f run = rw (append-nil past, appe
 run-fair cap parties past (x ∷ es) told (t ∷ ts) n S R b c f run =
     let rest = run-fair cap parties (past ++ x ∷ []) es (told ++ t ∷ []) ts (n + 1) (noted n (is_skipped t) S) (answered n (party_of x) (reply_told t) R) run.0 c (fair-next cap parties past told n S R b run.0 x t f run.1) run.2 in
     rw (append_assoc past (x ∷ []) es, append_assoc told (t ∷ []) ts) at rest
-run-fair cap parties past [] told (t ∷ ts) n S R b c f run = absurd run
-run-fair cap parties past (x ∷ es) told [] n S R b c f run = absurd run
+run-fair cap parties past es told ts n S R b c f run = absurd run
 
 pub fair-first : (T : Type 0) (cap : Option ℕ) (parties : ℕ) → Fair {T = T} parties [] [] 0 [] [] (opening cap)
 fair-first T cap parties = record {

@@ -5,20 +5,15 @@ use Rattle.std.proofs.lemmas.List.Elements.{Contains-push}
 use Rattle.std.proofs.lemmas.Option.{slice_get_within}
 use Rattle.std.proofs.lemmas.Bool.{ltb-true, lt-ltb}
 use Rattle.std.proofs.lemmas.Bool.Decides.{eqb_tells}
-use Rattle.queue_steps.specs.declared.model.Call.{Call}
-use Rattle.queue_steps.specs.declared.model.Reply.{Reply}
-use Rattle.machine_steps.specs.declared.types.EffectKind.{EffectKind}
-use Rattle.machine_steps.specs.declared.types.Event.{Event}
-use Rattle.machine_steps.specs.declared.types.Event.TheVariants.{Begin, Step}
-use Rattle.machine_steps.specs.declared.types.Told.{Told}
-use Rattle.machine_steps.specs.declared.types.Told.TheVariants.{Skipped, Ran}
+use Rattle.law_common.proofs.Tests.{is_none_true}
+use Rattle.machine_replay.specs.Vocabulary.{Call, Reply, Event, Told, EffectKind, Begin, Step, Skipped, Ran}
 use Rattle.machine_replay.specs.Book.{Book, Open, fits, joined, watched, at_open}
 use Rattle.machine_replay.specs.Conforms.{party_of, entries_from, reply_entry, skipped_entry}
 use Rattle.machine_replay.specs.InCall.{IsInCall}
 use Rattle.machine_replay.specs.Skips.{ShouldRun, IsExact}
 use Rattle.machine_replay.proofs.Calls.{answered, early-answered}
 use Rattle.machine_replay.proofs.Entries.{each-more, each-all, event-last, length-one}
-use Rattle.machine_replay.proofs.Solo.{and-left, and-right, none-if}
+use Rattle.machine_replay.proofs.Solo.{and-left, and-right}
 use Rattle.machine_replay.proofs.SoFar.{entries-more}
 use Rattle.machine_replay.proofs.Skips.{noted, event-less, not-in-later, earlier-now, earlier-before, exact-now, goes-on, there-before, was-there, is-over, last-or-earlier}
 
@@ -47,9 +42,8 @@ noted-append n p Skipped S = refl
 noted-append n p (Ran k r) S = sym (append-nil S)
 
 answered-append : {T : Type 0} (n p : ℕ) (t : Told T) (R : List (ℕ × ℕ × Reply T)) → answered n p (reply_told t) R ≡ R ++ reply_entry n p t
-answered-append n p Skipped R = sym (append-nil R)
-answered-append n p (Ran k None) R = sym (append-nil R)
 answered-append n p (Ran k (Some r)) R = refl
+answered-append n p t R = sym (append-nil R)
 
 early-noted : (n : ℕ) (b : Bool) (S : List ℕ) → AllByRecursion (λ m. m < n) S → AllByRecursion (λ m. m < n + 1) (noted n b S)
 early-noted n true S all = each-more _ S n (each-all _ _ S (λ m lt. omega arith) all) (omega arith)
@@ -138,7 +132,7 @@ module _ (T : Type 0) (parties : ℕ) (past : List (Event T)) (told : List (Told
   -- a call that begins, with steps
   pub fair-begun : (p : ℕ) (k : Call T) (c : Book T) → fits parties b (Begin p k) ≡ true → ((j : ℕ) → j ≢ p → c.open_call j ≡ at_open joined (b.open_call j)) → (o : Open T) → c.open_call p ≡ Some o → next (Begin p k) (Ran None None) c
   fair-begun p k c good others o mine = fair-more parties past told n S R b c (Begin p k) (Ran None None) f
-      (inl ((ltb-true p parties (and-left (nat_lt p parties) (is_none (b.open_call p)) good), λ in_call. f.outside p (none-if (b.open_call p) (and-right (nat_lt p parties) (is_none (b.open_call p)) good)) (earlier-before T past (Begin p k) S R n p false None f.len f.early p n (omega arith) in_call)), not-in-later n S f.early_skipped))
+      (inl ((ltb-true p parties (and-left (nat_lt p parties) (is_none (b.open_call p)) good), λ in_call. f.outside p (is_none_true (b.open_call p) (and-right (nat_lt p parties) (is_none (b.open_call p)) good)) (earlier-before T past (Begin p k) S R n p false None f.len f.early p n (omega arith) in_call)), not-in-later n S f.early_skipped))
       (λ q x e. elim (eqb_tells q p) [
         | inl t ↦ subst (λ z. IsInCall (past ++ Begin p k ∷ []) S R z (n + 1)) (sym t.1) fresh
         | inr t ↦ let old = open-some joined (b.open_call q) x (sym (others q t.1) ∙ e) in goes-on T past (Begin p k) S R n p false None f.len f.early q (inl refl) (f.inside q old.0 old.1)
@@ -157,7 +151,7 @@ module _ (T : Type 0) (parties : ℕ) (past : List (Event T)) (told : List (Told
   -- a call that replies where it begins
   pub fair-at-once : (p : ℕ) (k : Call T) (r : Reply T) (c : Book T) → fits parties b (Begin p k) ≡ true → c ≡ b → next (Begin p k) (Ran None (Some r)) c
   fair-at-once p k r c good same =
-      let free = none-if (b.open_call p) (and-right (nat_lt p parties) (is_none (b.open_call p)) good) in
+      let free = is_none_true (b.open_call p) (and-right (nat_lt p parties) (is_none (b.open_call p)) good) in
       fair-more parties past told n S R b c (Begin p k) (Ran None (Some r)) f
       (inl ((ltb-true p parties (and-left (nat_lt p parties) (is_none (b.open_call p)) good), λ in_call. f.outside p free (earlier-before T past (Begin p k) S R n p false (Some r) f.len f.early p n (omega arith) in_call)), not-in-later n S f.early_skipped))
       (λ q x e.

@@ -1,14 +1,10 @@
 -- A run of the machine so far, and what is told of it. Whatever kind of queue it is, it keeps its laws.
 use Rattle.std.proofs.Common.{ℕ, ◌+◌, ◌/◌, ◌<◌, ◌≤◌, ◌≡◌, ◌∙◌, Bool, Option, Some, None, is_none, List, [], ◌∷◌, ◌++◌, length, refl, sym, ap, subst, arith, append_assoc, append-nil}
 use Rattle.std.proofs.lemmas.List.{length-replicate}
-use Rattle.queue_steps.specs.declared.sizes.TheConstants.{BLOCK_SLOTS}
-use Rattle.queue_steps.specs.declared.steps.types.Kind.{Kind}
-use Rattle.machine_steps.specs.declared.machine.Running.{Running}
-use Rattle.machine_steps.specs.declared.types.Event.{Event}
-use Rattle.machine_steps.specs.declared.types.Told.{Told}
+use Rattle.machine_replay.specs.Vocabulary.{Kind, BLOCK_SLOTS, Event, Told, Peak, Running}
 use Rattle.machine_replay.specs.Book.{Book, Run, Happens, opening}
 use Rattle.machine_steps.specs.SharedMemory.{Shared, CanStep, step_of, start_of}
-use Rattle.machine_replay.specs.Conforms.{capacity_of, party_of, entries_from}
+use Rattle.machine_replay.specs.Conforms.{capacity_of, party_of, entries_from, IsPeak, HasNoBlocks, share}
 use Rattle.machine_steps.specs.Left.{left_of, opening_world}
 use Rattle.machine_steps.specs.Machine.{event_of}
 use Rattle.machine_steps.specs.World.{World, call_at}
@@ -19,16 +15,13 @@ use Rattle.machine_replay.proofs.KindLaws.{KindLaws, SimulatesOf}
 use Rattle.machine_replay.proofs.Growing.{run-grows, run-cap, happens-grows}
 use Rattle.machine_replay.proofs.Peaking.{Run-length, peak-first, peak-more, peaked-covers}
 use Rattle.machine_replay.specs.Peaks.{bound_of, opening_peak, peaked}
-use Rattle.machine_steps.specs.declared.types.Peak.{Peak}
-use Rattle.machine_replay.specs.Conforms.{IsPeak, HasNoBlocks, share}
 
 -- a run goes on by one event
 Run-more : {T : Type 0} (cap : Option ℕ) (parties : ℕ) (b : Book T) (es : List (Event T)) (ts : List (Told T)) (mid : Book T) (e : Event T) (t : Told T) (c : Book T)
     → Run cap parties b es ts mid → Happens cap parties mid e t c → Run cap parties b (es ++ e ∷ []) (ts ++ t ∷ []) c
 Run-more cap parties b [] [] mid e t c run here = (c, subst (λ m. Happens cap parties m e t c) run here, refl)
 Run-more cap parties b (x ∷ es) (y ∷ ts) mid e t c run here = (run.0, run.1, Run-more cap parties run.0 es ts mid e t c run.2 here)
-Run-more cap parties b [] (y ∷ ts) mid e t c run here = absurd run
-Run-more cap parties b (x ∷ es) [] mid e t c run here = absurd run
+Run-more cap parties b es ts mid e t c run here = absurd run
 
 -- the entries of one event more
 pub entries-more : {T E : Type 0} (entry : ℕ → ℕ → Told T → List E) (n k : ℕ) (es : List (Event T)) (ts : List (Told T)) (e : Event T) (t : Told T)
@@ -37,8 +30,7 @@ entries-more entry n k [] [] e t same is =
     let at : n ≡ k = omega arith in rw at (append-nil (entry k (party_of e) t))
 entries-more entry n k (x ∷ es) (y ∷ ts) e t same is =
     ap (λ l. entry n (party_of x) y ++ l) (entries-more entry (n + 1) k es ts e t (cc) (omega arith)) ∙ sym (append_assoc (entry n (party_of x) y) (entries_from entry (n + 1) es ts) (entry k (party_of e) t))
-entries-more entry n k [] (y ∷ ts) e t same is = cc
-entries-more entry n k (x ∷ es) [] e t same is = cc
+entries-more entry n k es ts e t same is = cc
 
 -- the entries of one event more, as a list of them has them
 pub noted : {T E : Type 0} (entry : ℕ → ℕ → Told T → List E) (n p : ℕ) (past : List (Event T)) (told : List (Told T)) (e : Event T) (t : Told T) (xs ys : List E)

@@ -2,13 +2,8 @@
 use Rattle.std.proofs.Common.{◌≡◌, ◌≢◌, ◌⊎◌, ◌∙◌, ℕ, zero, suc, ◌+◌, ◌<◌, ◌&&◌, nat_lt, Bool, true, false, Option, Some, None, is_some, is_none, List, [], ◌∷◌, refl, sym, ap, subst, arith, inl, inr}
 use Rattle.std.proofs.lemmas.Bool.{ltb-true, eq-eqb}
 use Rattle.std.proofs.lemmas.Bool.Decides.{eqb_tells}
-use Rattle.queue_steps.specs.declared.sizes.TheConstants.{SOLO_STEPS, WAIT_FREE_STEPS}
-use Rattle.queue_steps.specs.declared.model.Reply.{Reply}
-use Rattle.machine_steps.specs.declared.types.EffectKind.{EffectKind}
-use Rattle.machine_steps.specs.declared.types.Event.{Event}
-use Rattle.machine_steps.specs.declared.types.Event.TheVariants.{Begin, Step}
-use Rattle.machine_steps.specs.declared.types.Told.{Told}
-use Rattle.machine_steps.specs.declared.types.Told.TheVariants.{Skipped, Ran}
+use Rattle.law_common.proofs.Tests.{is_none_true}
+use Rattle.machine_replay.specs.Vocabulary.{Reply, SOLO_STEPS, WAIT_FREE_STEPS, Event, Told, EffectKind, Begin, Step, Skipped, Ran}
 use Rattle.machine_replay.specs.Book.{Book, Open, Run, Happens, Steps, is_wait_free, opening, put, at_open, joined, watched, after_own, begun}
 use Rattle.machine_replay.proofs.TraceSteps.{put-cases, at_open-cases}
 
@@ -80,10 +75,6 @@ and-left false b e = cc
 pub and-right : (a b : Bool) → (a && b) ≡ true → b ≡ true
 and-right true b e = e
 and-right false b e = cc
-
-pub none-if : {X : Type 0} (o : Option X) → is_none o ≡ true → o ≡ None
-none-if None e = refl
-none-if (Some x) e = cc
 
 counts-begun : {T : Type 0} (parties : ℕ) (b c : Book T) (p : ℕ) (k : _) → Counts parties b → p < parties → b.open_call p ≡ None
     → c ≡ record { queue = b.queue; busy = b.busy + 1; open_call = put (λ j. at_open joined (b.open_call j)) p (Some (begun k)) } → Counts parties c
@@ -172,7 +163,7 @@ counts-stepped {T} parties b c p k (Some r) h lt s = record {
 pub counts-happens : {T : Type 0} (cap : Option ℕ) (parties : ℕ) (b c : Book T) (x : Event T) (t : Told T) → Counts parties b → Happens cap parties b x t c → Counts parties c
 counts-happens cap parties b c x Skipped h e = rw e.1 h
 counts-happens cap parties b c (Begin p k) (Ran None None) h e =
-    counts-begun parties b c p k h (ltb-true p parties (and-left (nat_lt p parties) (is_none (b.open_call p)) e.0)) (none-if (b.open_call p) (and-right (nat_lt p parties) (is_none (b.open_call p)) e.0)) e.2
+    counts-begun parties b c p k h (ltb-true p parties (and-left (nat_lt p parties) (is_none (b.open_call p)) e.0)) (is_none_true (b.open_call p) (and-right (nat_lt p parties) (is_none (b.open_call p)) e.0)) e.2
 counts-happens cap parties b c (Begin p k) (Ran None (Some r)) h e = rw e.3 h
 counts-happens cap parties b c (Begin p k) (Ran (Some x) r) h e = absurd e
 counts-happens cap parties b c (Step p granted) (Ran k r) h e =
@@ -181,8 +172,7 @@ counts-happens cap parties b c (Step p granted) (Ran k r) h e =
 pub counts-run : {T : Type 0} (cap : Option ℕ) (parties : ℕ) (b c : Book T) (es : List (Event T)) (ts : List (Told T)) → Counts parties b → Run cap parties b es ts c → Counts parties c
 counts-run cap parties b c [] [] h run = rw run h
 counts-run cap parties b c (x ∷ es) (t ∷ ts) h run = counts-run cap parties run.0 c es ts (counts-happens cap parties b run.0 x t h run.1) run.2
-counts-run cap parties b c [] (t ∷ ts) h run = absurd run
-counts-run cap parties b c (x ∷ es) [] h run = absurd run
+counts-run cap parties b c es ts h run = absurd run
 
 -- where a party is in a call, one is in progress
 pub some-busy : {T : Type 0} (parties : ℕ) (b : Book T) (p : ℕ) (o : Open T) → Counts parties b → b.open_call p ≡ Some o → 0 < b.busy

@@ -1,11 +1,6 @@
 -- A call that is the only one in progress is hindered by nobody.
 use Rattle.std.proofs.Common.{◌≡◌, ◌≢◌, ◌∙◌, ℕ, Some, None, List, [], ◌∷◌, refl, sym, subst}
-use Rattle.queue_steps.specs.declared.steps.types.Kind.{Kind}
-use Rattle.queue_steps.specs.declared.steps.types.Kind.TheVariants as kind
-use Rattle.machine_steps.specs.declared.machine.Running.{Running}
-use Rattle.machine_steps.specs.declared.types.Event.{Event}
-use Rattle.machine_steps.specs.declared.types.Told.{Told}
-use Rattle.machine_steps.specs.declared.types.Told.TheVariants.{Skipped, Ran}
+use Rattle.machine_replay.specs.Vocabulary.{Kind, Event, Told, Skipped, Ran, Running}
 use Rattle.machine_steps.specs.Left.{opening_world}
 use Rattle.machine_steps.specs.World.{call_at}
 use Rattle.machine_replay.specs.Played.{world_after}
@@ -36,9 +31,9 @@ has_none {T} k laws parties q past r rests is =
     cc
 
 nobody_shows : {T : Type 0} (k : Kind) (parties p : ℕ) (past : List (Event T)) → ((q : ℕ) → q ≢ p → standing k parties q past ≡ Between) → NobodyShows k (world_after k (opening_world k parties) past) p
-nobody_shows kind.Single parties p past others = tt
-nobody_shows (kind.Bounded n) parties p past others = tt
-nobody_shows {T} kind.Unbounded parties p past others = λ q r ne is shows. has_none kind.Unbounded (chain_rules T) parties q past r (others q ne) is
+nobody_shows Kind.Single parties p past others = tt
+nobody_shows (Kind.Bounded n) parties p past others = tt
+nobody_shows {T} Kind.Unbounded parties p past others = λ q r ne is shows. has_none Kind.Unbounded (chain_rules T) parties q past r (others q ne) is
 
 pub solo_runs : (T : Type 0) → SoloRunsReply T
 solo_runs T k can small parties p past stretch mine others alone =

@@ -5,21 +5,15 @@ use Rattle.std.proofs.lemmas.Bool.Decides.{eqb_tells}
 use Rattle.std.proofs.lemmas.List.{drop-append-le, drop_all, take-append-le, take_all}
 use Rattle.std.proofs.lemmas.List.Elements.{Contains-push}
 use Rattle.std.proofs.lemmas.List.Sums.{sum_by-append}
-use Rattle.queue_steps.specs.declared.sizes.TheConstants.{SOLO_STEPS, WAIT_FREE_STEPS}
-use Rattle.queue_steps.specs.declared.model.Call.{Call}
-use Rattle.queue_steps.specs.declared.model.Reply.{Reply}
-use Rattle.machine_steps.specs.declared.types.Event.{Event}
-use Rattle.machine_steps.specs.declared.types.Event.TheVariants.{Begin, Step}
-use Rattle.machine_steps.specs.declared.types.Replay.{Replay}
-use Rattle.machine_steps.specs.declared.types.Told.{Told}
-use Rattle.machine_steps.specs.declared.types.Told.TheVariants.{Skipped, Ran}
+use Rattle.law_common.proofs.Tests.{none_if, is_none_true}
+use Rattle.machine_replay.specs.Vocabulary.{Call, Reply, SOLO_STEPS, WAIT_FREE_STEPS, Event, Told, Replay, Begin, Step, Skipped, Ran}
 use Rattle.machine_replay.specs.Book.{Book, Open, Happens, Run, fits, is_wait_free, opening, at_open, joined, watched, after_own, begun}
 use Rattle.machine_replay.specs.Conforms.{Conforms, party_of}
 use Rattle.machine_replay.specs.InCall.{IsInCall}
 use Rattle.machine_replay.specs.Within.{is_step_of, steps_between, IsAloneBetween, SoloCallsReply, WaitFreeCallsReply}
 use Rattle.machine_replay.proofs.Calls.{answered}
 use Rattle.machine_replay.proofs.Entries.{event-last, length-one}
-use Rattle.machine_replay.proofs.Solo.{Counts, counts-first, counts-happens, count-alone, put-same, and-right, none-if}
+use Rattle.machine_replay.proofs.Solo.{Counts, counts-first, counts-happens, count-alone, put-same, and-right}
 use Rattle.machine_replay.proofs.Skips.{noted, earlier-now, earlier-before, there-before, was-there, last-or-earlier}
 use Rattle.machine_replay.proofs.SkipsRun.{Fair, is_skipped, reply_told}
 use Rattle.machine_replay.proofs.SkipsAll.{fair-first, fair-next, some-open}
@@ -53,10 +47,6 @@ record Pace {T : Type 0} (past : List (Event T)) (S : List ℕ) (R : List (ℕ �
 is_some-none : {X : Type 0} (o : Option X) → is_some o ≡ true → o ≡ None → ⊥
 is_some-none None e n = cc
 is_some-none (Some x) e n = cc
-
-none-unless : {X : Type 0} (o : Option X) → ((x : X) → o ≡ Some x → ⊥) → o ≡ None
-none-unless None absent = refl
-none-unless (Some x) absent = absurd (absent x refl)
 
 same-open : {T : Type 0} (y : Option (Open T)) (o x : Open T) → y ≡ Some o → y ≡ Some x → o ≡ x
 same-open y o x e f = let g : Some o ≡ Some x = sym e ∙ f in cc
@@ -156,7 +146,7 @@ pace-next {T} cap parties past told n S R b c (Begin q d) (Ran None None) f h pa
         | inl at ↦
             let is : begun d ≡ o = let e = m.1 in cc in
             subst (λ z. Pace (past ++ Begin q d ∷ []) S R p (n + 1) z k) is (pace-begun T parties past told n S R b c (Begin q d) (Ran None None) f h paces p d (ap (λ z. Begin z d) (sym m.0)) k at)
-        | inr lt ↦ absurd (f.outside p (ap b.open_call m.0 ∙ none-if (b.open_call q) (and-right (nat_lt q parties) (is_none (b.open_call q)) happens.0)) (there-before T past (Begin q d) S R n q false None f.len f.early p k lt))
+        | inr lt ↦ absurd (f.outside p (ap b.open_call m.0 ∙ is_none_true (b.open_call q) (and-right (nat_lt q parties) (is_none (b.open_call q)) happens.0)) (there-before T past (Begin q d) S R n q false None f.len f.early p k lt))
       ]
       | inr m ↦
           let old = at_open-cases joined (b.open_call p) o m.1 in
@@ -173,7 +163,7 @@ pace-next {T} cap parties past told n S R b c (Begin q d) (Ran None (Some r)) f 
     elim (was-there T past (Begin q d) S R n q false (Some r) f.len f.early p k) [
       | inl at ↦
           let same = (begin-is q p d k.call (began-here T parties past told n S R b c (Begin q d) (Ran None (Some r)) f h paces p k at)).0 in
-          let free : b.open_call p ≡ None = ap b.open_call same ∙ none-if (b.open_call q) (and-right (nat_lt q parties) (is_none (b.open_call q)) happens.0) in
+          let free : b.open_call p ≡ None = ap b.open_call same ∙ is_none_true (b.open_call q) (and-right (nat_lt q parties) (is_none (b.open_call q)) happens.0) in
           cc
       | inr lt ↦ pace-on T parties past told n S R b c (Begin q d) (Ran None (Some r)) f h paces p o o was k lt refl (omega arith) (λ quiet. omega arith)
     ]
@@ -193,7 +183,7 @@ pace-next {T} cap parties past told n S R b c (Step q g) (Ran e r) f h paces f' 
           let steps : o.steps ≡ s.o.steps + 1 = ap (λ z. z.steps) (sym is) in
           pace-on T parties past told n S R b c (Step q g) (Ran e r) f h paces p s.o o was k earlier (ap (λ z. z.call) (sym is)) (omega arith)
           (λ quiet.
-          let others : (j : ℕ) → j ≢ p → b.open_call j ≡ None = λ j ne. none-unless (b.open_call j) (λ y open_. quiet j n ne (omega arith) (omega arith) (earlier-now T past (Step q g) S R n q false r f.len f.early j n (omega arith) (f.inside j y open_))) in
+          let others : (j : ℕ) → j ≢ p → b.open_call j ≡ None = λ j ne. none_if (b.open_call j) (λ y open_. quiet j n ne (omega arith) (omega arith) (earlier-now T past (Step q g) S R n q false r f.len f.early j n (omega arith) (f.inside j y open_))) in
           let one : b.busy ≡ 1 = h.busy ∙ count-alone parties p b.open_call s.o (h.within p s.o was) was others in
           let more : mine.alone ≡ s.o.alone + 1 = rw one refl in
           let alone : o.alone ≡ mine.alone = ap (λ z. z.alone) (sym is) in
@@ -301,8 +291,7 @@ run-paced cap parties past [] told [] n S R b c d run = rw (append-nil past, app
 run-paced cap parties past (x ∷ es) told (t ∷ ts) n S R b c d run =
     let rest = run-paced cap parties (past ++ x ∷ []) es (told ++ t ∷ []) ts (n + 1) (noted n (is_skipped t) S) (answered n (party_of x) (reply_told t) R) run.0 c (paced-next _ cap parties past told n S R b run.0 x t d run.1) run.2 in
     rw (append_assoc past (x ∷ []) es, append_assoc told (t ∷ []) ts) at rest
-run-paced cap parties past [] told (t ∷ ts) n S R b c d run = absurd run
-run-paced cap parties past (x ∷ es) told [] n S R b c d run = absurd run
+run-paced cap parties past es told ts n S R b c d run = absurd run
 
 whole-paced : {T A : Type 0} (cap : Option ℕ) (parties : ℕ) (events : List (Event T)) (r : Replay T A) (c : Conforms cap parties events r) → Paced parties events c.told (length events) r.skipped.items r.replies.items c.last
 whole-paced {T} cap parties events r c =

@@ -1,17 +1,12 @@
 -- Where a party stands, as the book of a run has it.
 use Rattle.std.proofs.Common.{◌≡◌, ◌≢◌, ◌∙◌, ℕ, ◌==◌, nat_lt, true, false, if◌then◌else◌, Option, Some, None, is_none, List, [], ◌∷◌, ◌++◌, refl, sym, ap, inl, inr}
 use Rattle.std.proofs.lemmas.Bool.Decides.{eqb_tells}
+use Rattle.law_common.proofs.Tests.{is_none_true}
 use Rattle.queue_steps.specs.State.{State}
-use Rattle.queue_steps.specs.declared.model.Reply.{Reply}
-use Rattle.queue_steps.specs.declared.model.Effect.{Effect}
-use Rattle.machine_steps.specs.declared.types.EffectKind.{EffectKind}
-use Rattle.machine_steps.specs.declared.types.Event.{Event}
-use Rattle.machine_steps.specs.declared.types.Event.TheVariants.{Begin, Step}
-use Rattle.machine_steps.specs.declared.types.Told.{Told}
-use Rattle.machine_steps.specs.declared.types.Told.TheVariants.{Skipped, Ran}
+use Rattle.machine_replay.specs.Vocabulary.{Reply, Effect, Event, Told, EffectKind, Begin, Step, Skipped, Ran}
 use Rattle.machine_replay.specs.Book.{Book, Open, Happens, Steps, Moves, at_open, put, joined, watched, begun, after_own}
 use Rattle.machine_replay.specs.Conforms.{party_of}
-use Rattle.machine_replay.proofs.Solo.{and-right, none-if, put-same, put-other}
+use Rattle.machine_replay.proofs.Solo.{and-right, put-same, put-other}
 use Rattle.machine_replay.specs.Progress.{Standing, Between, Undone, HalfDone, stands_after, stands_then, effect_told, reply_told}
 
 -- the party's open call is as it stands
@@ -22,8 +17,7 @@ Agrees {T} HalfDone y = (o : Open T) × (y ≡ Some o) × (o.effects ≢ [])
 
 agrees-none : {T : Type 0} (x : Standing) (y : Option (Open T)) → Agrees x y → y ≡ None → x ≡ Between
 agrees-none Between y a e = refl
-agrees-none Undone y a e = let is = a.1 in cc
-agrees-none HalfDone y a e = let is = a.1 in cc
+agrees-none x y a e = let is = a.1 in cc
 
 -- another party's event leaves the call's effects
 agrees-on : {T : Type 0} (f : Open T → Open T) → ((o : Open T) → (f o).effects ≡ o.effects) → (x : Standing) (y : Option (Open T)) → Agrees x y → Agrees x (at_open f y)
@@ -41,8 +35,7 @@ stepped {T} x y o mine Q R (Some k) a is m = half x
   where
     half : (x : Standing) → Agrees (stands_after {T = T} x (Ran (Some k) None)) (Some mine)
     half Between = (mine, refl, some-effect o.effects m.0 mine.effects m.5)
-    half Undone = (mine, refl, some-effect o.effects m.0 mine.effects m.5)
-    half HalfDone = (mine, refl, some-effect o.effects m.0 mine.effects m.5)
+    half x = (mine, refl, some-effect o.effects m.0 mine.effects m.5)
 stepped Between y o mine Q R None a is m = cc
 stepped Undone y o mine Q R None a is m = let same : a.0 ≡ o = (let i = a.1 in let e : Some a.0 ≡ Some o = sym i ∙ is in cc) in (mine, refl, m.1 ∙ (ap (λ z. z.effects) (sym same) ∙ a.2))
 stepped HalfDone y o mine Q R None a is m = let same : a.0 ≡ o = (let i = a.1 in let e : Some a.0 ≡ Some o = sym i ∙ is in cc) in (mine, refl, λ none. a.2 (ap (λ z. z.effects) same ∙ (sym m.1 ∙ none)))
@@ -62,7 +55,7 @@ pub agrees-next : {T : Type 0} (cap : Option ℕ) (parties : ℕ) (b c : Book T)
 agrees-next cap parties b c e Skipped q x h a = rw (skips q x e, h.1) a
 agrees-next cap parties b c (Begin p k) (Ran None None) q x h a = rw h.2 (elim (eqb_tells p q) [
   | inl same ↦
-      let free : b.open_call q ≡ None = ap b.open_call (sym same.1) ∙ none-if (b.open_call p) (and-right (nat_lt p parties) (is_none (b.open_call p)) h.0) in
+      let free : b.open_call q ≡ None = ap b.open_call (sym same.1) ∙ is_none_true (b.open_call p) (and-right (nat_lt p parties) (is_none (b.open_call p)) h.0) in
       let was = agrees-none x (b.open_call q) a free in
       let here : put (λ j. at_open joined (b.open_call j)) p (Some (begun k)) q ≡ Some (begun k) = ap (put (λ j. at_open joined (b.open_call j)) p (Some (begun k))) (sym same.1) ∙ put-same (λ j. at_open joined (b.open_call j)) p (Some (begun k)) in
       own q x (Begin p k) (Ran None None) _ same.1 (rw was (begun k, here, refl))
@@ -71,7 +64,7 @@ agrees-next cap parties b c (Begin p k) (Ran None None) q x h a = rw h.2 (elim (
 ])
 agrees-next cap parties b c (Begin p k) (Ran None (Some r)) q x h a = rw h.3 (elim (eqb_tells p q) [
   | inl same ↦
-      let free : b.open_call q ≡ None = ap b.open_call (sym same.1) ∙ none-if (b.open_call p) (and-right (nat_lt p parties) (is_none (b.open_call p)) h.0) in
+      let free : b.open_call q ≡ None = ap b.open_call (sym same.1) ∙ is_none_true (b.open_call p) (and-right (nat_lt p parties) (is_none (b.open_call p)) h.0) in
       own q x (Begin p k) (Ran None (Some r)) (b.open_call q) same.1 free
   | inr ne ↦ others q x (Begin p k) (Ran None (Some r)) (b.open_call q) ne.1 a
 ])
@@ -103,14 +96,11 @@ in_call-next {T} p x e t is none = elim (eqb_tells (party_of e) p) [ inl b ↦ r
   where
     go : (x : Standing) (t : Told T) → x ≢ Between → reply_told t ≡ None → stands_after x t ≢ Between
     go Between t is none = absurd (is refl)
-    go Undone Skipped is none = is
-    go HalfDone Skipped is none = is
-    go Undone (Ran None None) is none = is
-    go HalfDone (Ran None None) is none = is
     go Undone (Ran (Some k) None) is none = λ e. cc
     go HalfDone (Ran (Some k) None) is none = λ e. cc
     go Undone (Ran k (Some r)) is none = absurd (cc)
     go HalfDone (Ran k (Some r)) is none = absurd (cc)
+    go x t is none = is
 
 -- a party that is not half done, and has no effect, is not half done still
 pub not_half-next : {T : Type 0} (q : ℕ) (x : Standing) (e : Event T) (t : Told T) → x ≢ HalfDone → (party_of e ≡ q → effect_told t ≡ None) → stands_then q x e t ≢ HalfDone
@@ -118,11 +108,9 @@ not_half-next {T} q x e t is none = elim (eqb_tells (party_of e) q) [ inl b ↦ 
   where
     go : (x : Standing) (t : Told T) → x ≢ HalfDone → effect_told t ≡ None → stands_after x t ≢ HalfDone
     go HalfDone t is none = absurd (is refl)
-    go Between Skipped is none = is
-    go Undone Skipped is none = is
     go Between (Ran None None) is none = λ e. cc
-    go Undone (Ran None None) is none = is
     go Between (Ran k (Some r)) is none = λ e. cc
     go Undone (Ran k (Some r)) is none = λ e. cc
     go Between (Ran (Some k) None) is none = absurd (cc)
     go Undone (Ran (Some k) None) is none = absurd (cc)
+    go x t is none = is

@@ -5,14 +5,7 @@ use Rattle.std.proofs.lemmas.Bool.{ltb-true}
 use Rattle.std.proofs.lemmas.List.Sums.{sum_by-append}
 use Rattle.std.proofs.lemmas.Bool.Decides.{eqb_tells}
 use Rattle.queue_steps.specs.State.{State, start}
-use Rattle.queue_steps.specs.declared.model.Call.{Call}
-use Rattle.queue_steps.specs.declared.model.Reply.{Reply}
-use Rattle.queue_steps.specs.declared.steps.types.Kind.{Kind}
-use Rattle.machine_steps.specs.declared.machine.Running.{Running}
-use Rattle.machine_steps.specs.declared.types.Event.{Event}
-use Rattle.machine_steps.specs.declared.types.Event.TheVariants.{Begin, Step}
-use Rattle.machine_steps.specs.declared.types.Told.{Told}
-use Rattle.machine_steps.specs.declared.types.Told.TheVariants.{Skipped, Ran}
+use Rattle.machine_replay.specs.Vocabulary.{Call, Reply, Kind, Event, Told, Begin, Step, Skipped, Ran, Running}
 use Rattle.machine_replay.specs.Book.{Book, Open, Happens, opening}
 use Rattle.machine_replay.specs.Conforms.{capacity_of, party_of}
 use Rattle.machine_steps.specs.Left.{opening_shared, opening_world}
@@ -76,8 +69,7 @@ count-cons p e es = sum_by-append (λ y. cond (is_step_of p y) 1 0) (e ∷ []) e
 other-call : {S R T : Type 0} (w : World S R) (p q : ℕ) (b : Bool) (x : Option R) (y : Option (Reply T)) → p ≢ q
     → call_at (if◌then◌else◌ {A = World S R × Told T} b (began w q x y) (w, Skipped)).0 p ≡ call_at w p
 other-call w p q true (Some r) y ne = get_or-set_other w.calls q p (Some r) None ne
-other-call w p q true None y ne = refl
-other-call w p q false x y ne = refl
+other-call w p q b x y ne = refl
 
 module _ (T : Type 0) (k : Kind) (laws : Rules T k) (parties : ℕ) where
   abbrev pub Sim : World (Shared T) (Running T) → Book T → Type 0
@@ -115,8 +107,7 @@ module _ (T : Type 0) (k : Kind) (laws : Rules T k) (parties : ℕ) where
 
   pub open-there : (x : Standing) (y : Option (Open T)) → Agrees x y → x ≢ Between → (o : Open T) × (y ≡ Some o)
   open-there Between y a ne = absurd (ne refl)
-  open-there Undone y a ne = (a.0, a.1)
-  open-there HalfDone y a ne = (a.0, a.1)
+  open-there x y a ne = (a.0, a.1)
 
   -- the queue is as it was where the event has no effect
   queue-same : (b c : Book T) (e : Event T) (t : Told T) → Happens (capacity_of k) parties b e t c → effect_told t ≡ None → c.queue ≡ b.queue
@@ -129,9 +120,8 @@ module _ (T : Type 0) (k : Kind) (laws : Rules T k) (parties : ℕ) where
 
   -- a beginning has none
   begin-quiet : (b c : Book T) (p : ℕ) (d : Call T) (t : Told T) → Happens (capacity_of k) parties b (Begin p d) t c → effect_told t ≡ None
-  begin-quiet b c p d Skipped h = refl
-  begin-quiet b c p d (Ran None r) h = refl
   begin-quiet b c p d (Ran (Some x) r) h = absurd h
+  begin-quiet b c p d t h = refl
 
   -- where a run stands
   pub record Here (w : World (Shared T) (Running T)) (st : ℕ → Standing) : Type 0 where
@@ -178,8 +168,7 @@ module _ (T : Type 0) (k : Kind) (laws : Rules T k) (parties : ℕ) where
 
   begun-shared : (w : World (Shared T) (Running T)) (q : ℕ) (b : Bool) (x : Option (Running T)) (y : Option (Reply T)) → (if◌then◌else◌ {A = World (Shared T) (Running T) × Told T} b (began w q x y) (w, Skipped)).0.shared ≡ w.shared
   begun-shared w q true (Some r) y = refl
-  begun-shared w q true None y = refl
-  begun-shared w q false x y = refl
+  begun-shared w q b x y = refl
 
   open-effects : (z : Standing) (y : Option (Open T)) (o : Open T) → Agrees z y → z ≢ HalfDone → y ≡ Some o → o.effects ≡ []
   open-effects Between y o a ne e = cc
@@ -226,10 +215,9 @@ module _ (T : Type 0) (k : Kind) (laws : Rules T k) (parties : ℕ) where
         ends h.b.busy (granted && true) w.shared h.b.queue h.sim.g p f.0 f'.0 o.0 f.2 o.2 there still_none
 
     half-stays : (t : Told T) → effect_told t ≡ None → reply_told t ≡ None → stands_after HalfDone t ≡ HalfDone
-    half-stays Skipped none unanswered = refl
-    half-stays (Ran None None) none unanswered = refl
     half-stays (Ran (Some x) None) none unanswered = cc
     half-stays (Ran x (Some r)) none unanswered = cc
+    half-stays t none unanswered = refl
 
     -- so it takes no step where nobody has an effect and nobody gets a reply
     takes-none : (w : World (Shared T) (Running T)) (st : ℕ → Standing) (h : Here w st) (p : ℕ) (es : List (Event T)) → st p ≡ HalfDone → IsSilent (told_of k w es) → count_by (is_step_of p) es ≡ 0
@@ -252,10 +240,9 @@ module _ (T : Type 0) (k : Kind) (laws : Rules T k) (parties : ℕ) where
     idle-if busy s Q g j HalfDone x y holds h a ne = absurd (ne refl)
     idle-if busy s Q g j Between None None holds h a ne = paces.rests g j h
     idle-if busy s Q g j Undone (Some r) (Some o) holds h a ne = let same : a.0 ≡ o = (let e = a.1 in cc) in paces.undone busy s Q g j r o holds h (ap (λ z. z.effects) (sym same) ∙ a.2)
-    idle-if busy s Q g j Between (Some r) None holds h a ne = absurd h
     idle-if busy s Q g j Between x (Some o) holds h a ne = cc
-    idle-if busy s Q g j Undone None (Some o) holds h a ne = absurd h
     idle-if busy s Q g j Undone x None holds h a ne = let e = a.1 in cc
+    idle-if busy s Q g j z x y holds h a ne = absurd h
 
     quiet : (w : World (Shared T) (Running T)) (st : ℕ → Standing) (h : Here w st) (p : ℕ) → ((q : ℕ) → q ≢ p → st q ≢ HalfDone) → (j : ℕ) → j ≢ p → paces.Free h.sim.g j
     quiet w st h p others j ne = idle-if h.b.busy w.shared h.b.queue h.sim.g j (st j) (call_at w j) (h.b.open_call j) h.sim.holds (h.sim.each j) (h.agrees j) (others j ne)

@@ -1,18 +1,9 @@
 -- A call that has taken replies soon, while no other call is between its append and its reply. Nothing here knows a kind of queue.
 use Rattle.std.proofs.Common.{◌≡◌, ◌≢◌, ◌∙◌, ℕ, ◌<◌, ◌≤◌, ◌==◌, nat_lt, if◌then◌else◌, Bool, true, false, Option, Some, None, is_none, List, [], ◌∷◌, count_by, refl, sym, ap, subst, arith, inl, inr}
 use Rattle.std.proofs.lemmas.Bool.Decides.{eqb_tells}
+use Rattle.law_common.proofs.Tests.{is_none_true}
 use Rattle.queue_steps.specs.State.{State}
-use Rattle.queue_steps.specs.declared.model.Effect.{Effect}
-use Rattle.queue_steps.specs.declared.model.Reply.{Reply}
-use Rattle.queue_steps.specs.declared.steps.types.Kind.{Kind}
-use Rattle.queue_steps.specs.declared.steps.types.Local.{Local}
-use Rattle.machine_steps.specs.declared.machine.Running.{Running}
-use Rattle.machine_steps.specs.declared.types.EffectKind.{EffectKind}
-use Rattle.machine_steps.specs.declared.types.EffectKind.TheVariants as kind
-use Rattle.machine_steps.specs.declared.types.Event.{Event}
-use Rattle.machine_steps.specs.declared.types.Event.TheVariants.{Begin, Step}
-use Rattle.machine_steps.specs.declared.types.Told.{Told}
-use Rattle.machine_steps.specs.declared.types.Told.TheVariants.{Skipped, Ran}
+use Rattle.machine_replay.specs.Vocabulary.{Reply, Effect, Kind, Local, Event, Told, EffectKind, Begin, Step, Skipped, Ran, Running}
 use Rattle.machine_replay.specs.Book.{Book, Open, Happens, Steps, Moves, at_open, put, joined, watched, begun, after_own}
 use Rattle.machine_replay.specs.Conforms.{capacity_of, party_of}
 use Rattle.machine_steps.specs.Left.{opening_world}
@@ -22,14 +13,14 @@ use Rattle.machine_steps.specs.SharedMemory.{Shared, CanStep, step_of, start_of}
 use Rattle.machine_replay.specs.Within.{is_step_of}
 use Rattle.machine_steps.specs.World.{World, call_at}
 use Rattle.machine_replay.proofs.Engine as engine
-use Rattle.machine_replay.proofs.Solo.{and-right, none-if, put-same, put-other}
+use Rattle.machine_replay.proofs.Solo.{and-right, put-same, put-other}
 use Rattle.machine_replay.specs.Progress.{Standing, Between, effect_told, stands_by, stands_then, writes_after, writes_then, writes_by, IsNotHeldUp, TakesReplyWithin}
 use Rattle.machine_replay.proofs.Appended.{is_append, HasAppend}
 use Rattle.machine_replay.proofs.Had.{Had, In, less, in-next, in-here, nearer}
 use Rattle.machine_replay.proofs.Stretch.{Rules, Here, next, first, call-there, fits-at, count-cons}
 
 abbrev pub is_take : EffectKind → Bool
-is_take kind.Take = true
+is_take EffectKind.Take = true
 is_take _ = false
 
 -- an item was taken
@@ -67,14 +58,8 @@ kept false y o mine (Some k) Q R is m ne may = λ u e had.
     may o is (less is_append o.effects m.0 (ap is_append m.1 ∙ ne) (subst HasAppend m.5 (subst (λ z. HasAppend z.effects) (sym same) had)))
 
 own-step-may : {T : Type 0} (b : Bool) (y : Option (Open T)) (o mine : Open T) (k : Option EffectKind) (Q R : State T) → y ≡ Some o → Moves Q o k R mine.effects → MayWrite b y → MayWrite (writes_after {T = T} b (Ran k None)) (Some mine)
-own-step-may b y o mine None Q R is m may = kept b y o mine None Q R is m refl may
-own-step-may b y o mine (Some kind.Append) Q R is m may = tt
-own-step-may b y o mine (Some kind.Take) Q R is m may = kept b y o mine (Some kind.Take) Q R is m refl may
-own-step-may b y o mine (Some kind.Replace) Q R is m may = kept b y o mine (Some kind.Replace) Q R is m refl may
-own-step-may b y o mine (Some kind.Front) Q R is m may = kept b y o mine (Some kind.Front) Q R is m refl may
-own-step-may b y o mine (Some kind.Arrive) Q R is m may = kept b y o mine (Some kind.Arrive) Q R is m refl may
-own-step-may b y o mine (Some kind.Close) Q R is m may = kept b y o mine (Some kind.Close) Q R is m refl may
-own-step-may b y o mine (Some kind.SelfClose) Q R is m may = kept b y o mine (Some kind.SelfClose) Q R is m refl may
+own-step-may b y o mine (Some EffectKind.Append) Q R is m may = tt
+own-step-may b y o mine k Q R is m may = kept b y o mine k Q R is m refl may
 
 own : {T : Type 0} (q : ℕ) (b : Bool) (e : Event T) (t : Told T) (y : Option (Open T)) → party_of e ≡ q → MayWrite (writes_after b t) y → MayWrite (writes_then q b e t) y
 own q b e t y same a = elim (eqb_tells (party_of e) q) [ inl z ↦ rw z.0 a | inr z ↦ absurd (z.1 same) ]
@@ -95,7 +80,7 @@ may-next cap parties b c (Begin p k) (Ran None None) q x h a = rw h.2 (elim (eqb
 ])
 may-next cap parties b c (Begin p k) (Ran None (Some r)) q x h a = rw h.3 (elim (eqb_tells p q) [
   | inl same ↦
-      let free : b.open_call q ≡ None = ap b.open_call (sym same.1) ∙ none-if (b.open_call p) (and-right (nat_lt p parties) (is_none (b.open_call p)) h.0) in
+      let free : b.open_call q ≡ None = ap b.open_call (sym same.1) ∙ is_none_true (b.open_call p) (and-right (nat_lt p parties) (is_none (b.open_call p)) h.0) in
       own q x (Begin p k) (Ran None (Some r)) (b.open_call q) same.1 (may-none false (b.open_call q) free)
   | inr ne ↦ others q x (Begin p k) (Ran None (Some r)) (b.open_call q) ne.1 a
 ])
@@ -122,20 +107,13 @@ may-next {T} cap parties b c (Step p granted) (Ran k r) q x h a = by_reply r h.1
         ])
 
 -- a party that is not writing and does not append is not writing
-not_writing-next : {T : Type 0} (q : ℕ) (b : Bool) (e : Event T) (t : Told T) → b ≡ false → (party_of e ≡ q → effect_told t ≢ Some kind.Append) → writes_then q b e t ≡ false
+not_writing-next : {T : Type 0} (q : ℕ) (b : Bool) (e : Event T) (t : Told T) → b ≡ false → (party_of e ≡ q → effect_told t ≢ Some EffectKind.Append) → writes_then q b e t ≡ false
 not_writing-next {T} q b e t is ne = elim (eqb_tells (party_of e) q) [ inl z ↦ rw (z.0, is) (go t (ne z.1)) | inr z ↦ rw z.0 is ]
   where
-    go : (t : Told T) → effect_told t ≢ Some kind.Append → writes_after false t ≡ false
-    go Skipped ne = refl
+    go : (t : Told T) → effect_told t ≢ Some EffectKind.Append → writes_after false t ≡ false
     go (Ran k (Some r)) ne = refl
-    go (Ran None None) ne = refl
-    go (Ran (Some kind.Append) None) ne = absurd (ne refl)
-    go (Ran (Some kind.Take) None) ne = refl
-    go (Ran (Some kind.Replace) None) ne = refl
-    go (Ran (Some kind.Front) None) ne = refl
-    go (Ran (Some kind.Arrive) None) ne = refl
-    go (Ran (Some kind.Close) None) ne = refl
-    go (Ran (Some kind.SelfClose) None) ne = refl
+    go (Ran (Some EffectKind.Append) None) ne = absurd (ne refl)
+    go t ne = refl
 
 -- what a kind of queue owes: how many steps a call has before it that has taken, while no other party is clear, which is to write nothing
 pub record Reads (T : Type 0) (k : Kind) (rules : Rules T k) : Type 1 where
@@ -155,8 +133,7 @@ module _ (T : Type 0) (k : Kind) (laws : Rules T k) (parties : ℕ) (reads : Rea
       → engine.Party T (Shared T) (Running T) laws.G (capacity_of k) (step_of k) (start_of k) (CanStep k) laws.Holds laws.Idle laws.Fits busy s Q g j x y → MayWrite false y → reads.Clear g j
   clear-if busy s Q g j None None ready h m = reads.rests g j h
   clear-if busy s Q g j (Some r) (Some o) ready h m = reads.clears busy s Q g j r o ready h (m o refl)
-  clear-if busy s Q g j (Some r) None ready h m = absurd h
-  clear-if busy s Q g j None (Some o) ready h m = absurd h
+  clear-if busy s Q g j x y ready h m = absurd h
 
   takes-few : (w : World (Shared T) (Running T)) (st : ℕ → Standing) (wr : ℕ → Bool) (h : Here T k laws parties w st) → ((q : ℕ) → MayWrite (wr q) (h.b.open_call q)) → (p : ℕ) (r : Running T) → call_at w p ≡ Some r → In is_take (h.b.open_call p)
       → ((q : ℕ) → q ≢ p → wr q ≡ false) → (es : List (Event T)) → IsNotHeldUp p es (told_of k w es) → count_by (is_step_of p) es < reads.before r.local
@@ -195,8 +172,8 @@ takes_reply T k laws reads parties p past stretch granted takes idle open_ =
     let e : Event T = Step p granted in
     let n = next T k laws parties w st e h in
     let t = (event_of k true w e).1 in
-    let told : t ≡ Ran (Some kind.Take) None = cc in
-    let a = in-here is_take (capacity_of k) parties h.b n.here.b p granted kind.Take refl t told n.happens in
+    let told : t ≡ Ran (Some EffectKind.Take) None = cc in
+    let a = in-here is_take (capacity_of k) parties h.b n.here.b p granted EffectKind.Take refl t told n.happens in
     let f = call-there T k laws parties n.here.b.busy (event_of k true w e).0.shared n.here.b.queue n.here.sim.g p (call_at (event_of k true w e).0 p) (n.here.b.open_call p) a.0 (n.here.sim.each p) a.1 in
     let idle' : (q : ℕ) → q ≢ p → writes_then q (wr q) e t ≡ false = λ q ne. not_writing-next q (wr q) e t (idle q ne) (λ at. absurd (ne (sym at))) in
     let few = takes-few T k laws parties reads (event_of k true w e).0 (λ q. stands_then q (st q) e t) (λ q. writes_then q (wr q) e t) n.here

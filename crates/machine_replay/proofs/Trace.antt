@@ -5,12 +5,8 @@ use Rattle.std.proofs.lemmas.List.Elements.{All-from_recursion}
 use Rattle.std.proofs.lemmas.List.Quantifiers.{all_pairs_push}
 use Rattle.queue_steps.specs.State.{State, start}
 use Rattle.queue_steps.specs.Effect.{Fits, made, Runs, after_from}
-use Rattle.queue_steps.specs.declared.model.Effect.{Effect}
-use Rattle.queue_steps.specs.declared.model.Effect.TheVariants as effect
-use Rattle.queue_steps.specs.declared.model.Reply.{Reply}
-use Rattle.machine_steps.specs.declared.types.Event.{Event}
-use Rattle.machine_steps.specs.declared.types.Event.TheVariants.{Begin}
-use Rattle.machine_steps.specs.declared.types.Told.{Told}
+use Rattle.law_common.proofs.Runs.{after_snoc, runs_snoc}
+use Rattle.machine_replay.specs.Vocabulary.{Reply, Effect, Event, Told, Begin}
 use Rattle.machine_replay.specs.Book.{Book, Open, IsBegun, kind_of}
 use Rattle.machine_replay.specs.Conforms.{party_of, entries_from, reply_entry, effect_entry}
 use Rattle.machine_replay.specs.InCall.{IsInCall}
@@ -35,7 +31,7 @@ pub record Since {T : Type 0} (cap : Option ℕ) (S : List ℕ) (past : List (Ev
   pub moments : AllByRecursion (IsMoment cap past S H p in_call.first n) o.moments
   pub opened : o.was_open ≡ true → SawOpen cap past S H p in_call.first n
   pub begun : IsBegun o.call o.effects
-  pub displaces : (old v : T) → o.effects ≡ effect.Front old v ∷ [] → IsDisplacing H p in_call.first
+  pub displaces : (old v : T) → o.effects ≡ Effect.Front old v ∷ [] → IsDisplacing H p in_call.first
 
 pub record Trace {T : Type 0} (cap : Option ℕ) (S : List ℕ) (past : List (Event T)) (told : List (Told T)) (n : ℕ) (H : List (Entry T)) (R : List (ℕ × ℕ × Reply T)) (b : Book T) : Type 0 where
   pub len : n ≡ length past
@@ -77,21 +73,13 @@ in-order-added : {T : Type 0} (n p : ℕ) (e : Option (Effect T)) (H : List (Ent
 in-order-added n p None H early all = all
 in-order-added n p (Some e) H early all = all_pairs_push (λ x y. x.event < y.event) H (record { event = n; party = p; effect = e }) all (All-from_recursion (λ x. x.event < n) H early)
 
-runs-append : {T : Type 0} (Q : State T) (es : List (Effect T)) (e : Effect T) → Runs Q es → Fits e (after_from Q es) → Runs Q (es ++ e ∷ [])
-runs-append Q [] e run fits = (fits, tt)
-runs-append Q (f ∷ es) e run fits = (run.0, runs-append (made f Q) es e run.1 fits)
-
-after-append : {T : Type 0} (Q : State T) (es : List (Effect T)) (e : Effect T) → after_from Q (es ++ e ∷ []) ≡ made e (after_from Q es)
-after-append Q [] e = refl
-after-append Q (f ∷ es) e = after-append (made f Q) es e
-
 legal-added : {T : Type 0} (cap : Option ℕ) (n p : ℕ) (e : Option (Effect T)) (H : List (Entry T)) (Q : State T) → Runs (start cap 0) (effects_in H) → after_from (start cap 0) (effects_in H) ≡ Q → FitsIf e Q → Runs (start cap 0) (effects_in (added n p e H))
 legal-added cap n p None H Q run leads fits = run
-legal-added cap n p (Some e) H Q run leads fits = rw (effects-append H (record { event = n; party = p; effect = e })) (runs-append (start cap 0) (effects_in H) e run (rw leads fits))
+legal-added cap n p (Some e) H Q run leads fits = rw (effects-append H (record { event = n; party = p; effect = e })) (runs_snoc (start cap 0) (effects_in H) e run (rw leads fits))
 
 pub leads-added : {T : Type 0} (cap : Option ℕ) (n p : ℕ) (e : Option (Effect T)) (H : List (Entry T)) (Q : State T) → after_from (start cap 0) (effects_in H) ≡ Q → after_from (start cap 0) (effects_in (added n p e H)) ≡ made_if e Q
 leads-added cap n p None H Q leads = leads
-leads-added cap n p (Some e) H Q leads = ap (λ l. after_from (start cap 0) l) (effects-append H (record { event = n; party = p; effect = e })) ∙ after-append (start cap 0) (effects_in H) e ∙ ap (made e) leads
+leads-added cap n p (Some e) H Q leads = ap (λ l. after_from (start cap 0) l) (effects-append H (record { event = n; party = p; effect = e })) ∙ after_snoc (start cap 0) (effects_in H) e ∙ ap (made e) leads
 
 kinds-append : {T : Type 0} (H : List (Entry T)) (x : Entry T) → kinds_in (H ++ x ∷ []) ≡ kinds_in H ++ (x.event, x.party, kind_of x.effect) ∷ []
 kinds-append [] x = refl

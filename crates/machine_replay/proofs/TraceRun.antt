@@ -2,19 +2,9 @@
 use Rattle.std.proofs.Common.{zero, suc, length, ◌≡◌, ◌≢◌, ◌⊎◌, ◌∙◌, ℕ, ◌+◌, ◌<◌, nat_lt, Bool, false, if◌then◌else◌, Option, Some, None, is_some, is_none, Ok, Err, List, [], ◌∷◌, ◌++◌, refl, sym, ap, subst, arith, inl, inr, append-nil, append_assoc, slice_get, Contains}
 use Rattle.std.specs.List.{AllByRecursion}
 use Rattle.std.proofs.lemmas.List.Elements.{All-contains, All-from_recursion}
+use Rattle.law_common.proofs.Tests.{is_none_true}
 use Rattle.queue_steps.specs.Replies.{IsRightAt}
-use Rattle.queue_steps.specs.declared.model.Call.{Call}
-use Rattle.queue_steps.specs.declared.model.Call.TheVariants as call
-use Rattle.queue_steps.specs.declared.model.Effect.{Effect}
-use Rattle.queue_steps.specs.declared.model.Effect.TheVariants as effect
-use Rattle.queue_steps.specs.declared.model.Reply.{Reply}
-use Rattle.queue_steps.specs.declared.model.Reply.TheVariants as reply
-use Rattle.queue_steps.specs.declared.errors.PopError.TheVariants as pop
-use Rattle.machine_steps.specs.declared.types.EffectKind.{EffectKind}
-use Rattle.machine_steps.specs.declared.types.Event.{Event}
-use Rattle.machine_steps.specs.declared.types.Event.TheVariants.{Begin, Step}
-use Rattle.machine_steps.specs.declared.types.Told.{Told}
-use Rattle.machine_steps.specs.declared.types.Told.TheVariants.{Skipped, Ran}
+use Rattle.machine_replay.specs.Vocabulary.{Call, Reply, Effect, PopError, Event, Told, EffectKind, Begin, Step, Skipped, Ran}
 use Rattle.machine_replay.specs.Book.{Book, Open, IsBegun, Steps, GoesOn, Happens, Run, has_steps, begun, joined, watched, after_own, put, at_open, opening}
 use Rattle.machine_replay.specs.Conforms.{entries_from, reply_entry, skipped_entry}
 use Rattle.machine_replay.specs.InCall.{IsInCall}
@@ -22,7 +12,7 @@ use Rattle.machine_replay.specs.Meaning.{Entry, state_after, own_effects, Replie
 use Rattle.machine_replay.proofs.Calls.{answered}
 use Rattle.machine_replay.proofs.Displacing.{pending}
 use Rattle.machine_replay.proofs.Entries.{each-all, each-more, event-last, state-last, own-none}
-use Rattle.machine_replay.proofs.Solo.{and-right, none-if}
+use Rattle.machine_replay.proofs.Solo.{and-right}
 use Rattle.machine_replay.proofs.Rising.{replies-rise, skipped-late, skipped-rise}
 use Rattle.machine_replay.proofs.SkipsAll.{in-call-at-end}
 use Rattle.machine_replay.proofs.Trace.{Since, Trace, ReplyOwes, FitsIf, trace-more, added, leads-added}
@@ -30,15 +20,15 @@ use Rattle.machine_replay.proofs.TraceSteps.{put-cases, at_open-cases, since-oth
 
 -- no effect begins the effects of every call
 begun-nil : {T : Type 0} (c : Call T) → IsBegun c []
-begun-nil (call.Push v) = (reply.Push (Ok tt), effect.Append v ∷ [], refl)
-begun-nil (call.ForcePush v) = (reply.ForcePush (Ok None), effect.Append v ∷ [], refl)
-begun-nil call.Pop = (reply.Pop (Err pop.Empty), [], refl)
-begun-nil call.Close = (reply.Close false, [], refl)
-begun-nil call.IsClosed = (reply.IsClosed false, [], refl)
-begun-nil call.IsEmpty = (reply.IsEmpty false, [], refl)
-begun-nil call.IsFull = (reply.IsFull false, [], refl)
-begun-nil call.Len = (reply.Len 0, [], refl)
-begun-nil call.Capacity = (reply.Capacity None, [], refl)
+begun-nil (Call.Push v) = (Reply.Push (Ok tt), Effect.Append v ∷ [], refl)
+begun-nil (Call.ForcePush v) = (Reply.ForcePush (Ok None), Effect.Append v ∷ [], refl)
+begun-nil Call.Pop = (Reply.Pop (Err PopError.Empty), [], refl)
+begun-nil Call.Close = (Reply.Close false, [], refl)
+begun-nil Call.IsClosed = (Reply.IsClosed false, [], refl)
+begun-nil Call.IsEmpty = (Reply.IsEmpty false, [], refl)
+begun-nil Call.IsFull = (Reply.IsFull false, [], refl)
+begun-nil Call.Len = (Reply.Len 0, [], refl)
+begun-nil Call.Capacity = (Reply.Capacity None, [], refl)
 
 -- the trace after one event more
 record Next {T : Type 0} (cap : Option ℕ) (S : List ℕ) (past : List (Event T)) (told : List (Told T)) (n : ℕ) (x : Event T) (t : Told T) (c : Book T) : Type 0 where
@@ -164,7 +154,7 @@ happens-next : {T : Type 0} (cap : Option ℕ) (S : List ℕ) (parties : ℕ) (p
 happens-next cap S parties past told n H R b c x Skipped tr ran h = skipped-next cap S past told n H R b c x tr h.1
 happens-next cap S parties past told n H R b c (Begin p k) (Ran None None) tr ran h = began-next cap S past told n H R b c p k tr ran h.2
 happens-next cap S parties past told n H R b c (Begin p k) (Ran None (Some y)) tr ran h =
-    at-once-next cap S past told n H R b c p k y tr ran (none-if (b.open_call p) (and-right (nat_lt p parties) (is_none (b.open_call p)) h.0)) h.1 h.2 h.3
+    at-once-next cap S past told n H R b c p k y tr ran (is_none_true (b.open_call p) (and-right (nat_lt p parties) (is_none (b.open_call p)) h.0)) h.1 h.2 h.3
 happens-next cap S parties past told n H R b c (Begin p k) (Ran (Some e) r) tr ran h = absurd h
 happens-next cap S parties past told n H R b c (Step p granted) (Ran k r) tr ran h = step-next cap S past told n H R b c p granted k r tr ran h.1
 
@@ -177,9 +167,8 @@ record Whole {T : Type 0} (cap : Option ℕ) (S : List ℕ) (events : List (Even
 
 event-mid : {X : Type 0} (xs ys : List X) (y : X) (n : ℕ) → n ≡ length xs → slice_get (xs ++ y ∷ ys) n ≡ Some y
 event-mid [] ys y zero e = refl
-event-mid [] ys y (suc n) e = absurd (omega arith)
-event-mid (x ∷ xs) ys y zero e = absurd (omega arith)
 event-mid (x ∷ xs) ys y (suc n) e = event-mid xs ys y n (omega arith)
+event-mid xs ys y n e = absurd (omega arith)
 
 -- no event that ran is one of these
 abbrev AllRan : {T : Type 0} → List ℕ → List (Told T) → Type 0
@@ -197,17 +186,15 @@ run-trace cap S parties past (x ∷ es) told (t ∷ ts) n H R b c tr all run =
     let after = happens-next cap S parties past told n H R b run.0 x t tr here run.1 in
     let rest = run-trace cap S parties (past ++ x ∷ []) es (told ++ t ∷ []) ts (n + 1) after.H after.R run.0 c after.trace (rw (append_assoc told (t ∷ []) ts) all) run.2 in
     rw (append_assoc past (x ∷ []) es, append_assoc told (t ∷ []) ts) at rest
-run-trace cap S parties past [] told (t ∷ ts) n H R b c tr all run = absurd run
-run-trace cap S parties past (x ∷ es) told [] n H R b c tr all run = absurd run
+run-trace cap S parties past es told ts n H R b c tr all run = absurd run
 
 -- an event that ran is none of the skipped
 skipped-ran : {T : Type 0} (n : ℕ) (es : List (Event T)) (ts : List (Told T)) (m : ℕ) (k : Option EffectKind) (r : Option (Reply T)) → slice_get ts m ≡ Some (Ran k r) → AllByRecursion (λ i. i ≢ n + m) (entries_from skipped_entry n es ts)
-skipped-ran n [] ts m k r e = tt
-skipped-ran n (x ∷ es) [] m k r e = tt
 skipped-ran n (x ∷ es) (Skipped ∷ ts) zero k r e = cc
 skipped-ran n (x ∷ es) (Ran k' r' ∷ ts) zero k r e = each-all _ _ (entries_from skipped_entry (n + 1) es ts) (λ i le same. absurd (omega arith)) (skipped-late (n + 1) es ts)
 skipped-ran n (x ∷ es) (Skipped ∷ ts) (suc m) k r e = ((λ same. absurd (omega arith)), each-all _ _ (entries_from skipped_entry (n + 1) es ts) (λ i ne same. ne (omega arith)) (skipped-ran (n + 1) es ts m k r e))
 skipped-ran n (x ∷ es) (Ran k' r' ∷ ts) (suc m) k r e = each-all _ _ (entries_from skipped_entry (n + 1) es ts) (λ i ne same. ne (omega arith)) (skipped-ran (n + 1) es ts m k r e)
+skipped-ran n es ts m k r e = tt
 
 -- the effects of a call that has not ended, which is the only one of its party
 unended-since : {T : Type 0} (cap : Option ℕ) (S : List ℕ) (events : List (Event T)) (H : List (Entry T)) (R : List (ℕ × ℕ × Reply T)) (p n : ℕ) (o : Open T) (s : Since cap S events H R p n o) (k : IsInCall events S R p n)

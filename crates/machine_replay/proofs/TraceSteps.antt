@@ -1,17 +1,11 @@
 -- Where each call stands after an event.
-use Rattle.std.proofs.Common.{◌≡◌, ◌≢◌, ◌⊎◌, ◌∙◌, ℕ, zero, suc, ◌+◌, ◌<◌, ◌≤◌, ◌||◌, not, Bool, true, false, Option, Some, None, List, [], ◌∷◌, ◌++◌, length, refl, sym, ap, subst, arith, inl, inr, get_or, append-nil, is_some, Contains}
-use Rattle.std.specs.List.{AllByRecursion}
-use Rattle.std.specs.List.{Any}
+use Rattle.std.proofs.Common.{◌≡◌, ◌≢◌, ◌⊎◌, ◌∙◌, ℕ, zero, suc, ◌+◌, ◌<◌, ◌≤◌, ◌||◌, not, Bool, true, Option, Some, None, List, [], ◌∷◌, ◌++◌, length, refl, sym, ap, subst, arith, inl, inr, get_or, append-nil, is_some, Contains}
+use Rattle.std.specs.List.{AllByRecursion, Any}
 use Rattle.std.proofs.lemmas.Bool.Decides.{eqb_tells}
+use Rattle.law_common.proofs.Tests.{or_true, not_true}
 use Rattle.queue_steps.specs.State.{State, start}
 use Rattle.queue_steps.specs.Effect.{after_from}
-use Rattle.queue_steps.specs.declared.model.Effect.{Effect}
-use Rattle.queue_steps.specs.declared.model.Effect.TheVariants as effect
-use Rattle.queue_steps.specs.declared.model.Reply.{Reply}
-use Rattle.machine_steps.specs.declared.types.EffectKind.{EffectKind}
-use Rattle.machine_steps.specs.declared.types.Event.{Event}
-use Rattle.machine_steps.specs.declared.types.Event.TheVariants.{Step}
-use Rattle.machine_steps.specs.declared.types.Told.TheVariants.{Ran}
+use Rattle.machine_replay.specs.Vocabulary.{Reply, Effect, Event, EffectKind, Step, Ran}
 use Rattle.machine_replay.specs.Book.{Open, Allows, Ends, GoesOn, IsBegun, Moves, MayMake, kind_of, put, at_open, watched, joined, after_own, seen_by}
 use Rattle.machine_replay.specs.Conforms.{effect_entry}
 use Rattle.machine_replay.specs.InCall.{IsStepOf}
@@ -104,16 +98,8 @@ own-step n p first last None H es early after upto own = own-last p first n last
 own-step n p first last (Some e) H es early after upto own =
     own-mine p first last n e H after upto ∙ ap (λ l. l ++ e ∷ []) (own-last p first n last n H early (omega arith) (omega arith) ∙ own)
 
-or_true : (a b : Bool) → (a || b) ≡ true → (a ≡ true) ⊎ (b ≡ true)
-or_true true b e = inl refl
-or_true false b e = inr e
-
-not_true : (b : Bool) → not b ≡ true → b ≡ false
-not_true true e = cc
-not_true false e = refl
-
 -- no other effect comes last in a list that is a front alone
-no-other : {T : Type 0} (e : Effect T) (es : List (Effect T)) {old v : T} → es ++ e ∷ [] ≡ effect.Front old v ∷ [] → ((old v : T) → e ≡ effect.Front old v → ⊥) → ⊥
+no-other : {T : Type 0} (e : Effect T) (es : List (Effect T)) {old v : T} → es ++ e ∷ [] ≡ Effect.Front old v ∷ [] → ((old v : T) → e ≡ Effect.Front old v → ⊥) → ⊥
 no-other e [] {old} {v} all other = other old v (cc)
 no-other e (x ∷ []) all other = cc
 no-other e (x ∷ y ∷ es) all other = cc
@@ -164,24 +150,19 @@ module _ (T : Type 0) (cap : Option ℕ) (S : List ℕ) (past : List (Event T)) 
       ]
 
   -- a call that has an arrive has a front, which waits for it
-  arrives-from : e ≡ Some effect.Arrive → IsDisplacing H p first
+  arrives-from : e ≡ Some Effect.Arrive → IsDisplacing H p first
   arrives-from some =
       let begun = begun-now mine r goes in
-      let same : es ≡ o.effects ++ effect.Arrive ∷ [] = effects ∙ ap (effects_added o.effects) some in
+      let same : es ≡ o.effects ++ Effect.Arrive ∷ [] = effects ∙ ap (effects_added o.effects) some in
       let front = begun-by-front o.call o.effects (subst (IsBegun o.call) same begun) in
       s.displaces front.0 front.1 front.2
 
-  front-now : (f : Option (Effect T)) → e ≡ f → (old v : T) → effects_added o.effects f ≡ effect.Front old v ∷ [] → IsDisplacing (added n p f H) p first
+  front-now : (f : Option (Effect T)) → e ≡ f → (old v : T) → effects_added o.effects f ≡ Effect.Front old v ∷ [] → IsDisplacing (added n p f H) p first
   front-now None none old v all = s.displaces old v all
-  front-now (Some (effect.Front x y)) some old v all =
+  front-now (Some (Effect.Front x y)) some old v all =
       let after = s.in_call.before in
-      record { front = record { event = n; party = p; effect = effect.Front x y }; waits = pending-append None H (record { event = n; party = p; effect = effect.Front x y }); party = refl; later = after }
-  front-now (Some (effect.Append x)) some old v all = absurd (no-other (effect.Append x) o.effects all (λ old v e. cc))
-  front-now (Some (effect.Take x)) some old v all = absurd (no-other (effect.Take x) o.effects all (λ old v e. cc))
-  front-now (Some (effect.Replace x y)) some old v all = absurd (no-other (effect.Replace x y) o.effects all (λ old v e. cc))
-  front-now (Some effect.Arrive) some old v all = absurd (no-other effect.Arrive o.effects all (λ old v e. cc))
-  front-now (Some effect.Close) some old v all = absurd (no-other effect.Close o.effects all (λ old v e. cc))
-  front-now (Some effect.SelfClose) some old v all = absurd (no-other effect.SelfClose o.effects all (λ old v e. cc))
+      record { front = record { event = n; party = p; effect = Effect.Front x y }; waits = pending-append None H (record { event = n; party = p; effect = Effect.Front x y }); party = refl; later = after }
+  front-now (Some x) some old v all = absurd (no-other x o.effects all (λ old v e. cc))
 
   -- the call goes on
   pub since-own : r ≡ None → Since cap S now (added n p e H) (answered n p r R) p (n + 1) mine
@@ -216,20 +197,15 @@ module _ (T : Type 0) (cap : Option ℕ) (S : List ℕ) (past : List (Event T)) 
     saw_open = λ old v front. opened-more cap past (Step p granted ∷ []) S H (added n p e H) p first n n n (extends-added n p e H) (omega arith) (omega arith) (s.opened (saw f may old v front));
   }
     where
-      saw : (f : Effect T) → MayMake (kind_of f) o → (old v : T) → f ≡ effect.Front old v → o.was_open ≡ true
+      saw : (f : Effect T) → MayMake (kind_of f) o → (old v : T) → f ≡ Effect.Front old v → o.was_open ≡ true
       saw f may old v front = subst (λ g. MayMake (kind_of g) o) front may
 
   arrival-owes : (f : Effect T) → e ≡ Some f → IsArrivalOf (answered n p r R) (pending None H) (record { event = n; party = p; effect = f }) f
-  arrival-owes effect.Arrive some =
+  arrival-owes Effect.Arrive some =
       let d = arrives-from some in
       let after = d.later in
       rw d.waits (sym d.party, rw d.party (unanswered-since n p first d.front.event r R (omega arith) s.in_call.unanswered))
-  arrival-owes (effect.Front old v) some = tt
-  arrival-owes (effect.Append v) some = tt
-  arrival-owes (effect.Take v) some = tt
-  arrival-owes (effect.Replace old v) some = tt
-  arrival-owes effect.Close some = tt
-  arrival-owes effect.SelfClose some = tt
+  arrival-owes f some = tt
 
   pub entry-owes : MayIf e o → EntryOwes cap S now (added n p e H) (answered n p r R) n p e (pending None H)
   entry-owes may = owes e refl may
@@ -244,13 +220,12 @@ module _ (T : Type 0) (cap : Option ℕ) (S : List ℕ) (past : List (Event T)) 
     where
       waits : (f : Option (Effect T)) → e ≡ f → FitsIf f (after_from (start cap 0) (effects_in H)) → StillWaits q H (added n p f H)
       waits None none fits f is waiting = waiting
-      waits (Some effect.Arrive) some fits f is waiting =
+      waits (Some Effect.Arrive) some fits f is waiting =
           let d = arrives-from some in
           let same : d.front ≡ f = some-is d.front f (sym d.waits ∙ waiting) in
           absurd (ne (sym is ∙ ap (λ x. x.party) (sym same) ∙ d.party))
-      waits (Some (effect.Front old v)) some fits f is waiting = absurd (nothing-comes (after_from (start cap 0) (effects_in H)).coming (pending None H) f fits.2 waiting (coming-pending (start cap 0) None H refl))
-      waits (Some (effect.Append v)) some fits f is waiting = pending-append None H (record { event = n; party = p; effect = effect.Append v }) ∙ waiting
-      waits (Some (effect.Take v)) some fits f is waiting = pending-append None H (record { event = n; party = p; effect = effect.Take v }) ∙ waiting
-      waits (Some (effect.Replace old v)) some fits f is waiting = pending-append None H (record { event = n; party = p; effect = effect.Replace old v }) ∙ waiting
-      waits (Some effect.Close) some fits f is waiting = pending-append None H (record { event = n; party = p; effect = effect.Close }) ∙ waiting
-      waits (Some effect.SelfClose) some fits f is waiting = pending-append None H (record { event = n; party = p; effect = effect.SelfClose }) ∙ waiting
+      waits (Some (Effect.Front old v)) some fits f is waiting = absurd (nothing-comes (after_from (start cap 0) (effects_in H)).coming (pending None H) f fits.2 waiting (coming-pending (start cap 0) None H refl))
+      waits (Some (Effect.Append v)) some fits f is waiting = pending-append None H (record { event = n; party = p; effect = Effect.Append v }) ∙ waiting
+      waits (Some (Effect.Take v)) some fits f is waiting = pending-append None H (record { event = n; party = p; effect = Effect.Take v }) ∙ waiting
+      waits (Some (Effect.Replace old v)) some fits f is waiting = pending-append None H (record { event = n; party = p; effect = Effect.Replace old v }) ∙ waiting
+      waits (Some x) some fits f is waiting = pending-append None H (record { event = n; party = p; effect = x }) ∙ waiting

@@ -3,12 +3,10 @@ use Rattle.std.specs.Prelude.{◌≡◌, ◌⊎◌, ℕ, ◌+◌, ◌<◌, ◌�
 use Rattle.std.specs.List.{AllByRecursion}
 use Rattle.queue_steps.specs.State.{State}
 use Rattle.queue_steps.specs.Effect.{after}
-use Rattle.queue_steps.specs.declared.model.Reply.{Reply}
+use Rattle.machine_replay.specs.Vocabulary.{Reply, Event, Replay}
 use Rattle.law_moments.specs.Moments.{IsAtOnce, IsGlance, arrived, settled}
 use Rattle.law_moments.specs.Entries.{settle}
 use Rattle.law_moments.specs.Shared.{StandsTogether}
-use Rattle.machine_steps.specs.declared.types.Event.{Event}
-use Rattle.machine_steps.specs.declared.types.Replay.{Replay}
 use Rattle.machine_replay.specs.Book.{Allows, IsBegun}
 use Rattle.machine_replay.specs.Conforms.{Conforms}
 use Rattle.machine_replay.specs.InCall.{IsStepOf, IsInCall}

@@ -1,33 +1,22 @@
 -- What a reader of a run keeps, and what an event may do to it.
 use Rattle.std.specs.Prelude.{◌≡◌, ℕ, ◌+◌, ◌-◌, ◌<◌, ◌==◌, ◌&&◌, ◌||◌, nat_lt, Bool, true, false, not, if◌then◌else◌, Option, Some, None, is_some, is_none, List, [], ◌∷◌, ◌++◌}
 use Rattle.std.specs.List.{Any}
-use Rattle.queue_steps.specs.declared.sizes.TheConstants.{SOLO_STEPS, WAIT_FREE_STEPS}
+use Rattle.machine_replay.specs.Vocabulary.{Call, Reply, Effect, SOLO_STEPS, WAIT_FREE_STEPS, Event, Told, EffectKind, Begin, Step, Skipped, Ran}
 use Rattle.queue_steps.specs.State.{State, start}
 use Rattle.queue_steps.specs.Effect.{Fits, made}
 use Rattle.queue_steps.specs.Replies.{IsRightAt, Tells}
 pub use Rattle.queue_steps.specs.Replies.{Allows}
 pub use Rattle.queue_steps.specs.WaitFree.{is_wait_free}
-use Rattle.queue_steps.specs.declared.model.Call.{Call}
-use Rattle.queue_steps.specs.declared.model.Call.TheVariants as call
-use Rattle.queue_steps.specs.declared.model.Reply.{Reply}
-use Rattle.queue_steps.specs.declared.model.Effect.{Effect}
-use Rattle.queue_steps.specs.declared.model.Effect.TheVariants as effect
-use Rattle.machine_steps.specs.declared.types.Event.{Event}
-use Rattle.machine_steps.specs.declared.types.Event.TheVariants.{Begin, Step}
-use Rattle.machine_steps.specs.declared.types.Told.{Told}
-use Rattle.machine_steps.specs.declared.types.Told.TheVariants.{Skipped, Ran}
-use Rattle.machine_steps.specs.declared.types.EffectKind.{EffectKind}
-use Rattle.machine_steps.specs.declared.types.EffectKind.TheVariants as kind
 
 -- an effect without its values
 abbrev pub kind_of : {T : Type 0} → Effect T → EffectKind
-kind_of (effect.Append v) = kind.Append
-kind_of (effect.Take v) = kind.Take
-kind_of (effect.Replace old v) = kind.Replace
-kind_of (effect.Front old v) = kind.Front
-kind_of effect.Arrive = kind.Arrive
-kind_of effect.Close = kind.Close
-kind_of effect.SelfClose = kind.SelfClose
+kind_of (Effect.Append v) = EffectKind.Append
+kind_of (Effect.Take v) = EffectKind.Take
+kind_of (Effect.Replace old v) = EffectKind.Replace
+kind_of (Effect.Front old v) = EffectKind.Front
+kind_of Effect.Arrive = EffectKind.Arrive
+kind_of Effect.Close = EffectKind.Close
+kind_of Effect.SelfClose = EffectKind.SelfClose
 
 -- A call that was begun and not ended: its effects so far; its moments so far, the latest first, which are the states
 -- after each step of any party since its own first step; whether the queue was open after one of its own steps; how
@@ -88,13 +77,13 @@ fits parties b (Step p granted) = nat_lt p parties && is_some (b.open_call p)
 
 -- whether a call has steps on a queue of this capacity: `capacity` never has, and `is_full` has none without a capacity
 abbrev pub has_steps : {T : Type 0} → Option ℕ → Call T → Bool
-has_steps cap call.Capacity = false
-has_steps None call.IsFull = false
+has_steps cap Call.Capacity = false
+has_steps None Call.IsFull = false
 has_steps cap _ = true
 
 -- a front may leave by a displacing call only once the call has seen the queue open, at a step before
 abbrev pub MayMake : {T : Type 0} → EffectKind → Open T → Type 0
-MayMake kind.Front o = o.was_open ≡ true
+MayMake EffectKind.Front o = o.was_open ≡ true
 MayMake _ o = Unit {0}
 
 -- the effect of this kind, if there is one, leads the queue from Q to R, and the call has the effects es then

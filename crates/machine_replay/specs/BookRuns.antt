@@ -1,10 +1,7 @@
 -- What brought a machine where it is, as a reader's book has it: at each point of a run, and of the events that an explorer makes.
 use Rattle.std.specs.Prelude.{◌≡◌, ℕ, false, List}
-use Rattle.queue_steps.specs.declared.steps.types.Kind.{Kind}
+use Rattle.machine_replay.specs.Vocabulary.{Kind, Event, Told, Running}
 use Rattle.machine_replay.specs.declared.machine_run.MachineRun.{MachineRun}
-use Rattle.machine_steps.specs.declared.machine.Running.{Running}
-use Rattle.machine_steps.specs.declared.types.Event.{Event}
-use Rattle.machine_steps.specs.declared.types.Told.{Told}
 use Rattle.machine_steps.specs.Left.{left_of, opening_world}
 use Rattle.machine_steps.specs.Machine.{world_of}
 use Rattle.machine_steps.specs.SharedMemory.{Shared}

@@ -1,10 +1,7 @@
 -- When a party is in a call, told from the lists of a replay alone.
 use Rattle.std.specs.Prelude.{◌≡◌, ◌⊎◌, ℕ, ◌<◌, ◌≤◌, Bool, Some, List, slice_get, Contains}
 use Rattle.std.specs.List.{AllByRecursion}
-use Rattle.queue_steps.specs.declared.model.Call.{Call}
-use Rattle.queue_steps.specs.declared.model.Reply.{Reply}
-use Rattle.machine_steps.specs.declared.types.Event.{Event}
-use Rattle.machine_steps.specs.declared.types.Event.TheVariants.{Begin, Step}
+use Rattle.machine_replay.specs.Vocabulary.{Call, Reply, Event, Begin, Step}
 
 -- the event of this number is e, and it was not skipped
 abbrev pub HasRun : {T : Type 0} → List (Event T) → List ℕ → ℕ → Event T → Type 0

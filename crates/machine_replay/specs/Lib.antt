@@ -1,3 +1,4 @@
+pub mod Vocabulary
 pub mod Book
 pub mod Conforms
 pub mod Peaks

@@ -1,12 +1,8 @@
 -- A run of the machine, one event after another: what brought it where it is, and what it leaves.
 use Rattle.std.specs.Prelude.{◌≡◌, ◌↔◌, ℕ, ◌+◌, ◌<◌, ◌≤◌, ◌^◌, Bool, false, IsTrue, List, [], ◌∷◌, ◌++◌, length}
-use Rattle.queue_steps.specs.declared.steps.types.Kind.{Kind}
+use Rattle.machine_replay.specs.Vocabulary.{Kind, Event, Told, Peak, Running}
 use Rattle.machine_replay.specs.declared.machine_run.MachineRun.{MachineRun}
 use Rattle.machine_replay.specs.declared.machine_run.Ended.{Ended}
-use Rattle.machine_steps.specs.declared.machine.Running.{Running}
-use Rattle.machine_steps.specs.declared.types.Event.{Event}
-use Rattle.machine_steps.specs.declared.types.Peak.{Peak}
-use Rattle.machine_steps.specs.declared.types.Told.{Told}
 use Rattle.machine_replay.specs.Book.{Book, Run, opening}
 use Rattle.machine_steps.specs.SharedMemory.{Shared}
 use Rattle.machine_replay.specs.Conforms.{HasNoBlocks, IsPeak, capacity_of, entries_from, reply_entry, skipped_entry}

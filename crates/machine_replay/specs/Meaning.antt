@@ -4,14 +4,7 @@ use Rattle.std.specs.List.{AllByRecursion}
 use Rattle.queue_steps.specs.State.{State}
 use Rattle.queue_steps.specs.Effect.{IsHistory, after}
 use Rattle.queue_steps.specs.Replies.{IsRightAt, Tells}
-use Rattle.queue_steps.specs.declared.model.Call.{Call}
-use Rattle.queue_steps.specs.declared.model.Effect.{Effect}
-use Rattle.queue_steps.specs.declared.model.Effect.TheVariants as effect
-use Rattle.queue_steps.specs.declared.model.Reply.{Reply}
-use Rattle.machine_steps.specs.declared.types.EffectKind.{EffectKind}
-use Rattle.machine_steps.specs.declared.types.Event.{Event}
-use Rattle.machine_steps.specs.declared.types.Event.TheVariants.{Begin}
-use Rattle.machine_steps.specs.declared.types.Replay.{Replay}
+use Rattle.machine_replay.specs.Vocabulary.{Call, Reply, Effect, Event, EffectKind, Replay, Begin}
 use Rattle.machine_replay.specs.Book.{Allows, IsBegun, has_steps, kind_of}
 use Rattle.machine_replay.specs.Conforms.{Conforms}
 pub use Rattle.law_moments.specs.Entries.{Entry, chosen, effects_in}
@@ -52,12 +45,12 @@ pub record SawOpen {T : Type 0} (cap : Option ℕ) (events : List (Event T)) (sk
 pub record IsOwn {T : Type 0} (cap : Option ℕ) (events : List (Event T)) (skipped : List ℕ) (H : List (Entry T)) (replies : List (ℕ × ℕ × Reply T)) (x : Entry T) : Type 0 where
   pub step : IsStepOf events skipped x.party x.event
   pub in_call : IsInCall events skipped replies x.party x.event
-  pub saw_open : (old v : T) → x.effect ≡ effect.Front old v → SawOpen cap events skipped H x.party in_call.first x.event
+  pub saw_open : (old v : T) → x.effect ≡ Effect.Front old v → SawOpen cap events skipped H x.party in_call.first x.event
 
 -- the front whose item is on its way in after the entry x, of this effect, if it was that of f before
 abbrev pub displacing : {T : Type 0} → Option (Entry T) → Entry T → Effect T → Option (Entry T)
-displacing f x (effect.Front old v) = Some x
-displacing f x effect.Arrive = None
+displacing f x (Effect.Front old v) = Some x
+displacing f x Effect.Arrive = None
 displacing f x _ = f
 
 -- there is such a front, and the entry x is of the same call: of the same party, which has no reply between the two
@@ -66,7 +59,7 @@ IsOfItsFront replies None x = ⊥
 IsOfItsFront replies (Some f) x = (x.party ≡ f.party) × IsUnanswered replies f.party f.event x.event
 
 abbrev pub IsArrivalOf : {T : Type 0} → List (ℕ × ℕ × Reply T) → Option (Entry T) → Entry T → Effect T → Type 0
-IsArrivalOf replies f x effect.Arrive = IsOfItsFront replies f x
+IsArrivalOf replies f x Effect.Arrive = IsOfItsFront replies f x
 IsArrivalOf replies f x _ = Unit {0}
 
 -- each arrive is of the same call as the last front before it, and no other arrive stands between

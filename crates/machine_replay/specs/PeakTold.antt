@@ -1,11 +1,8 @@
 -- The greatest number of blocks of a replay, told from its lists and its history.
 use Rattle.std.specs.Prelude.{◌≡◌, ℕ, ◌+◌, ◌-◌, ◌/◌, ◌<◌, ◌≤◌, nat_lt, Option, List, length, filter, take}
-use Rattle.queue_steps.specs.declared.sizes.TheConstants.{BLOCK_SLOTS}
+use Rattle.machine_replay.specs.Vocabulary.{Reply, BLOCK_SLOTS, Event, Replay}
 use Rattle.queue_steps.specs.Sequential.{blocks_of}
-use Rattle.queue_steps.specs.declared.model.Reply.{Reply}
 pub use Rattle.law_moments.specs.Entries.{state_before}
-use Rattle.machine_steps.specs.declared.types.Event.{Event}
-use Rattle.machine_steps.specs.declared.types.Replay.{Replay}
 use Rattle.machine_replay.specs.Conforms.{Conforms}
 use Rattle.machine_replay.specs.Meaning.{Entry, HasHistory}
 use Rattle.machine_replay.specs.OneOwner.{calls_from}

@@ -1,10 +1,8 @@
 -- How many blocks a machine has at most, told from the machine alone.
 use Rattle.std.specs.Prelude.{ℕ, ◌+◌, ◌-◌, ◌/◌, nat_lt, if◌then◌else◌}
-use Rattle.queue_steps.specs.declared.sizes.TheConstants.{BLOCK_SLOTS}
+use Rattle.machine_replay.specs.Vocabulary.{BLOCK_SLOTS, Peak, Running}
 use Rattle.queue_steps.specs.Words.{position_of}
 use Rattle.queue_steps.specs.ChainWords.{items_before}
-use Rattle.machine_steps.specs.declared.machine.Running.{Running}
-use Rattle.machine_steps.specs.declared.types.Peak.{Peak}
 use Rattle.machine_steps.specs.SharedMemory.{Shared}
 use Rattle.machine_steps.specs.Present.{present}
 use Rattle.machine_steps.specs.World.{World}

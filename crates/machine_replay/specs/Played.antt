@@ -1,20 +1,6 @@
 -- What a list of events makes of a machine, where the allocator grants each request that no event refuses, and what a replay tells by that.
 use Rattle.std.specs.Prelude.{◌≡◌, ℕ, ◌&&◌, Bool, true, false, not, Option, Some, None, Err, List, [], ◌∷◌}
-use Rattle.queue_steps.specs.declared.errors.ForcePushError.TheVariants as force
-use Rattle.queue_steps.specs.declared.errors.PushError.TheVariants as push
-use Rattle.queue_steps.specs.declared.model.Call.{Call}
-use Rattle.queue_steps.specs.declared.model.Reply.{Reply}
-use Rattle.queue_steps.specs.declared.model.Reply.TheVariants as reply
-use Rattle.queue_steps.specs.declared.steps.types.Kind.{Kind}
-use Rattle.queue_steps.specs.declared.steps.types.Local.{Local}
-use Rattle.queue_steps.specs.declared.steps.types.Op.{Op}
-use Rattle.queue_steps.specs.declared.steps.types.Op.TheVariants as op
-use Rattle.machine_steps.specs.declared.machine.Running.{Running}
-use Rattle.machine_steps.specs.declared.types.Event.{Event}
-use Rattle.machine_steps.specs.declared.types.Event.TheVariants.{Begin, Step}
-use Rattle.machine_steps.specs.declared.types.Replay.{Replay}
-use Rattle.machine_steps.specs.declared.types.Told.{Told}
-use Rattle.machine_steps.specs.declared.types.Told.TheVariants.{Ran}
+use Rattle.machine_replay.specs.Vocabulary.{Call, Reply, PushError, ForcePushError, Kind, Op, Local, Event, Told, Replay, Begin, Step, Ran, Running}
 use Rattle.machine_replay.specs.Conforms.{entries_from, reply_entry, effect_entry, skipped_entry}
 use Rattle.machine_steps.specs.Left.{left_of, opening_world}
 use Rattle.machine_steps.specs.SharedMemory.{Shared, start_of, step_of}
@@ -38,8 +24,8 @@ told_of k w es = told_by (step_of k) (start_of k) w es
 
 -- whether the reply, and what is told, is of want of memory
 abbrev pub is_no_memory : {T : Type 0} → Reply T → Bool
-is_no_memory (reply.Push (Err (push.NoMemory v))) = true
-is_no_memory (reply.ForcePush (Err (force.NoMemory v))) = true
+is_no_memory (Reply.Push (Err (PushError.NoMemory v))) = true
+is_no_memory (Reply.ForcePush (Err (ForcePushError.NoMemory v))) = true
 is_no_memory _ = false
 
 abbrev pub lacks_memory : {T : Type 0} → Told T → Bool
@@ -75,7 +61,7 @@ local_in (Some r) = Some r.local
 
 -- whether the operation is a request for a block, and whether a party's call has that before it
 abbrev pub is_request : Op ℕ → Bool
-is_request op.Ask = true
+is_request Op.Ask = true
 is_request _ = false
 
 abbrev pub asks : {T : Type 0} → Option (Running T) → Bool

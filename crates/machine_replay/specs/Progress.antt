@@ -1,19 +1,7 @@
 -- Who can make a call wait: where a party stands in a run, and how soon a call replies that nobody hinders.
 use Rattle.std.specs.Prelude.{◌≡◌, ◌≢◌, ℕ, ◌+◌, ◌*◌, ◌<◌, ◌==◌, Bool, true, false, if◌then◌else◌, Option, Some, None, IsSome, List, [], ◌∷◌, count_by}
-use Rattle.queue_steps.specs.declared.sizes.TheConstants.{BLOCK_SLOTS}
-use Rattle.queue_steps.specs.declared.model.Reply.{Reply}
-use Rattle.queue_steps.specs.declared.steps.types.Kind.{Kind}
-use Rattle.queue_steps.specs.declared.steps.types.Kind.TheVariants as kind
-use Rattle.queue_steps.specs.declared.steps.types.Local.{Local}
-use Rattle.queue_steps.specs.declared.steps.types.Local.TheVariants as local
+use Rattle.machine_replay.specs.Vocabulary.{Reply, Kind, Local, BLOCK_SLOTS, Event, Told, EffectKind, Step, Skipped, Ran, Running}
 use Rattle.queue_steps.specs.declared.steps.unbounded.UnboundedLocal.TheVariants as chain
-use Rattle.machine_steps.specs.declared.machine.Running.{Running}
-use Rattle.machine_steps.specs.declared.types.EffectKind.{EffectKind}
-use Rattle.machine_steps.specs.declared.types.EffectKind.TheVariants as effect
-use Rattle.machine_steps.specs.declared.types.Event.{Event}
-use Rattle.machine_steps.specs.declared.types.Event.TheVariants.{Step}
-use Rattle.machine_steps.specs.declared.types.Told.{Told}
-use Rattle.machine_steps.specs.declared.types.Told.TheVariants.{Skipped, Ran}
 use Rattle.machine_replay.specs.Conforms.{capacity_of, party_of}
 use Rattle.machine_steps.specs.Left.{opening_world}
 use Rattle.machine_replay.specs.Played.{told_of, world_after}
@@ -66,19 +54,19 @@ IsLeftToIt p (e ∷ es) (t ∷ ts) = (party_of e ≡ p → reply_told t ≡ None
 
 -- a push has installed a chain's first block and not shown it to the poppers, U4b
 abbrev pub IsToShow : Local ℕ → Type 0
-IsToShow (local.Unbounded (chain.Showing d tail block)) = Unit {0}
+IsToShow (Local.Unbounded (chain.Showing d tail block)) = Unit {0}
 IsToShow _ = ⊥
 
 -- on a chain, no other party's call is there
 abbrev pub NobodyShows : {T : Type 0} → Kind → World (Shared T) (Running T) → ℕ → Type 0
-NobodyShows {T} kind.Unbounded w p = (q : ℕ) (r : Running T) → q ≢ p → call_at w q ≡ Some r → IsToShow r.local → ⊥
+NobodyShows {T} Kind.Unbounded w p = (q : ℕ) (r : Running T) → q ≢ p → call_at w q ≡ Some r → IsToShow r.local → ⊥
 NobodyShows {T} _ w p = Unit {0}
 
 -- how many steps a call takes at most while nobody hinders it: of a chain it may walk over a block
 abbrev pub unhindered_steps : Kind → ℕ
-unhindered_steps kind.Single = 3
-unhindered_steps (kind.Bounded n) = 6
-unhindered_steps kind.Unbounded = BLOCK_SLOTS + 10
+unhindered_steps Kind.Single = 3
+unhindered_steps (Kind.Bounded n) = 6
+unhindered_steps Kind.Unbounded = BLOCK_SLOTS + 10
 
 -- Of a run, and a stretch of it: where at its beginning a party is in a call and no other party is half done, or to show a
 -- chain's first block, and in the stretch the party gets no reply and no other party has an effect, there the party takes fewer steps than this. So among this many steps of a call that
@@ -149,13 +137,13 @@ IsNotAnswered p (e ∷ es) (t ∷ ts) = (party_of e ≡ p → reply_told t ≡ N
 
 -- how many steps a call takes at most behind its append: of a chain it may lay the next block
 abbrev pub steps_to_write : Kind → ℕ
-steps_to_write kind.Unbounded = 4
+steps_to_write Kind.Unbounded = 4
 steps_to_write _ = 1
 
 -- behind the step by which its call appends, and before its reply, a party takes fewer steps than this, whatever the others do
 abbrev pub AppendsReplyWithin : Type 0 → Kind → ℕ → Type 0
 AppendsReplyWithin T k most = (parties p : ℕ) (past stretch : List (Event T)) (granted : Bool)
-    → told_of k (world_after k (opening_world k parties) past) (Step p granted ∷ []) ≡ Ran (Some effect.Append) None ∷ []
+    → told_of k (world_after k (opening_world k parties) past) (Step p granted ∷ []) ≡ Ran (Some EffectKind.Append) None ∷ []
     → IsNotAnswered p (Step p granted ∷ stretch) (told_of k (world_after k (opening_world k parties) past) (Step p granted ∷ stretch)) → count_by (is_step_of p) stretch < most
 
 abbrev pub AppendsReply : Type 0 → Type 0
@@ -165,7 +153,7 @@ AppendsReply T = (k : Kind) → CanReplay k → is_too_large k ≡ false → App
 abbrev pub writes_after : {T : Type 0} → Bool → Told T → Bool
 writes_after b Skipped = b
 writes_after b (Ran k (Some r)) = false
-writes_after b (Ran (Some effect.Append) None) = true
+writes_after b (Ran (Some EffectKind.Append) None) = true
 writes_after b (Ran k None) = b
 
 -- after an event of any party
@@ -185,17 +173,17 @@ is_writing k parties p past = writes_by p false past (told_of k (opening_world k
 abbrev pub IsNotHeldUp : {T : Type 0} → ℕ → List (Event T) → List (Told T) → Type 0
 IsNotHeldUp p [] ts = Unit {0}
 IsNotHeldUp p (e ∷ es) [] = Unit {0}
-IsNotHeldUp p (e ∷ es) (t ∷ ts) = (party_of e ≡ p → reply_told t ≡ None) × (party_of e ≢ p → effect_told t ≢ Some effect.Append) × IsNotHeldUp p es ts
+IsNotHeldUp p (e ∷ es) (t ∷ ts) = (party_of e ≡ p → reply_told t ≡ None) × (party_of e ≢ p → effect_told t ≢ Some EffectKind.Append) × IsNotHeldUp p es ts
 
 -- how many steps a call takes at most behind its take: of a chain it may walk over a block, with two steps at each slot
 abbrev pub steps_to_read : Kind → ℕ
-steps_to_read kind.Unbounded = 2 * BLOCK_SLOTS + 4
+steps_to_read Kind.Unbounded = 2 * BLOCK_SLOTS + 4
 steps_to_read _ = 1
 
 -- behind the step by which its call takes, and before its reply, a party takes fewer steps than this, while no other party is between its append and its reply
 abbrev pub TakesReplyWithin : Type 0 → Kind → ℕ → Type 0
 TakesReplyWithin T k most = (parties p : ℕ) (past stretch : List (Event T)) (granted : Bool)
-    → told_of k (world_after k (opening_world k parties) past) (Step p granted ∷ []) ≡ Ran (Some effect.Take) None ∷ [] → ((q : ℕ) → q ≢ p → is_writing k parties q past ≡ false)
+    → told_of k (world_after k (opening_world k parties) past) (Step p granted ∷ []) ≡ Ran (Some EffectKind.Take) None ∷ [] → ((q : ℕ) → q ≢ p → is_writing k parties q past ≡ false)
     → IsNotHeldUp p (Step p granted ∷ stretch) (told_of k (world_after k (opening_world k parties) past) (Step p granted ∷ stretch)) → count_by (is_step_of p) stretch < most
 
 abbrev pub TakesReply : Type 0 → Type 0

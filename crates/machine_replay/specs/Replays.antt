@@ -1,19 +1,17 @@
 -- Which queues `replay` takes, and the room in its lists.
 use Rattle.std.specs.Prelude.{◌≡◌, ℕ, ◌<◌, ◌≤◌, nat_lt, Bool, false, vec_len, vec_capacity}
-use Rattle.queue_steps.specs.declared.sizes.TheConstants.{MAX_CAPACITY}
-use Rattle.queue_steps.specs.declared.steps.types.Kind.{Kind}
-use Rattle.queue_steps.specs.declared.steps.types.Kind.TheVariants as kind
+use Rattle.machine_replay.specs.Vocabulary.{Kind, MAX_CAPACITY}
 use Rattle.machine_replay.specs.declared.run.Lists.{Lists}
 
 -- a ring has more than one slot
 abbrev pub CanReplay : Kind → Type 0
-CanReplay kind.Single = Unit {0}
-CanReplay (kind.Bounded n) = 1 < n
-CanReplay kind.Unbounded = Unit {0}
+CanReplay Kind.Single = Unit {0}
+CanReplay (Kind.Bounded n) = 1 < n
+CanReplay Kind.Unbounded = Unit {0}
 
 -- the capacity is more than any queue may have
 abbrev pub is_too_large : Kind → Bool
-is_too_large (kind.Bounded n) = nat_lt MAX_CAPACITY n
+is_too_large (Kind.Bounded n) = nat_lt MAX_CAPACITY n
 is_too_large _ = false
 
 -- no list has more entries than so many events can have made, and each has room for those of `room` events

@@ -1,11 +1,7 @@
 -- What a replay says where the allocator refused nothing.
 use Rattle.std.specs.Prelude.{◌≡◌, ℕ, true, false, Some, List, slice_get}
 use Rattle.std.specs.List.{AllByRecursion}
-use Rattle.queue_steps.specs.declared.model.Reply.{Reply}
-use Rattle.queue_steps.specs.declared.steps.types.Kind.{Kind}
-use Rattle.machine_steps.specs.declared.types.Event.{Event}
-use Rattle.machine_steps.specs.declared.types.Event.TheVariants.{Step}
-use Rattle.machine_steps.specs.declared.types.Replay.{Replay}
+use Rattle.machine_replay.specs.Vocabulary.{Reply, Kind, Event, Replay, Step}
 use Rattle.machine_steps.specs.Left.{left_of, opening_world}
 use Rattle.machine_replay.specs.Conforms.{entries_from, reply_entry, effect_entry, skipped_entry}
 use Rattle.machine_replay.specs.Played.{IsPlayed, is_no_memory, told_of, world_after}

@@ -1,9 +1,6 @@
 -- Which events are skipped, told from the lists of a replay alone.
 use Rattle.std.specs.Prelude.{◌≡◌, ◌⊎◌, ℕ, ◌<◌, Option, Some, List, slice_get, Contains}
-use Rattle.queue_steps.specs.declared.model.Reply.{Reply}
-use Rattle.machine_steps.specs.declared.types.Event.{Event}
-use Rattle.machine_steps.specs.declared.types.Event.TheVariants.{Begin, Step}
-use Rattle.machine_steps.specs.declared.types.Replay.{Replay}
+use Rattle.machine_replay.specs.Vocabulary.{Reply, Event, Replay, Begin, Step}
 use Rattle.machine_replay.specs.Conforms.{Conforms}
 use Rattle.machine_replay.specs.InCall.{IsInCall}
 

@@ -2,17 +2,10 @@
 use Rattle.std.specs.Prelude.{◌≡◌, ◌≢◌, ℕ, true, Option, Some, None, List, false, [], ◌∷◌, ◌<◌, count_by}
 use Rattle.queue_steps.specs.SingleNext.{unlocked}
 use Rattle.queue_steps.specs.Words.{IsRing}
-use Rattle.queue_steps.specs.declared.steps.bounded.PushKind.{PushKind}
+use Rattle.machine_replay.specs.Vocabulary.{Kind, Look, Local, PushKind, Event, Running}
 use Rattle.queue_steps.specs.declared.steps.bounded.BoundedLocal.TheVariants as ring
 use Rattle.queue_steps.specs.declared.steps.single.SingleLocal.TheVariants.{Pushing, Pushed, Forcing, Forced, Popping, Popped, Looking}
-use Rattle.queue_steps.specs.declared.steps.types.Kind.{Kind}
-use Rattle.queue_steps.specs.declared.steps.types.Kind.TheVariants as kind
-use Rattle.queue_steps.specs.declared.steps.types.Local.{Local}
-use Rattle.queue_steps.specs.declared.steps.types.Local.TheVariants as local
-use Rattle.queue_steps.specs.declared.steps.types.Look.TheVariants as look
 use Rattle.queue_steps.specs.declared.steps.unbounded.UnboundedLocal.TheVariants as chain
-use Rattle.machine_steps.specs.declared.machine.Running.{Running}
-use Rattle.machine_steps.specs.declared.types.Event.{Event}
 use Rattle.machine_steps.specs.Left.{opening_world}
 use Rattle.machine_steps.specs.SharedMemory.{Shared, step_of}
 use Rattle.machine_steps.specs.World.{World, call_at}
@@ -35,109 +28,109 @@ GoesOnTwice k s r x y = ((step_of k true s r).call ≡ Some x) × ((step_of k tr
 
 -- one slot: a push or a forced push has put its item and not unlocked, P2 and F2, or a pop has not, O2
 abbrev pub IsToUnlock : Local ℕ → Type 0
-IsToUnlock (local.Single Pushed) = Unit {0}
-IsToUnlock (local.Single (Forced seen)) = Unit {0}
-IsToUnlock (local.Single Popped) = Unit {0}
+IsToUnlock (Local.Single Pushed) = Unit {0}
+IsToUnlock (Local.Single (Forced seen)) = Unit {0}
+IsToUnlock (Local.Single Popped) = Unit {0}
 IsToUnlock _ = ⊥
 
 abbrev pub IsPushToUnlock : Local ℕ → Type 0
-IsPushToUnlock (local.Single Pushed) = Unit {0}
-IsPushToUnlock (local.Single (Forced seen)) = Unit {0}
+IsPushToUnlock (Local.Single Pushed) = Unit {0}
+IsPushToUnlock (Local.Single (Forced seen)) = Unit {0}
 IsPushToUnlock _ = ⊥
 
 abbrev pub IsPopToUnlock : Local ℕ → Type 0
-IsPopToUnlock (local.Single Popped) = Unit {0}
+IsPopToUnlock (Local.Single Popped) = Unit {0}
 IsPopToUnlock _ = ⊥
 
 -- of one slot: a push goes back at P1 for a pop alone; with the word as it is, but for the lock, a forced push goes back at F1 for whoever has the lock, and a pop at O1 for a push
 pub record SlotWaits {T : Type 0} (w : World (Shared T) (Running T)) (p : ℕ) (r x : Running T) : Type 0 where
-  pub push : r.local ≡ local.Single Pushing → x.local ≡ local.Single Pushing → IsBeside w p IsPopToUnlock
-  pub force : (seen : ℕ) → r.local ≡ local.Single (Forcing (unlocked w.shared.lock)) → x.local ≡ local.Single (Forcing seen) → IsBeside w p IsToUnlock
-  pub pop : (seen : ℕ) → r.local ≡ local.Single (Popping (unlocked w.shared.lock)) → x.local ≡ local.Single (Popping seen) → IsBeside w p IsPushToUnlock
+  pub push : r.local ≡ Local.Single Pushing → x.local ≡ Local.Single Pushing → IsBeside w p IsPopToUnlock
+  pub force : (seen : ℕ) → r.local ≡ Local.Single (Forcing (unlocked w.shared.lock)) → x.local ≡ Local.Single (Forcing seen) → IsBeside w p IsToUnlock
+  pub pop : (seen : ℕ) → r.local ≡ Local.Single (Popping (unlocked w.shared.lock)) → x.local ≡ Local.Single (Popping seen) → IsBeside w p IsPushToUnlock
 
 abbrev pub SlotCallsWait : Type 0 → Type 0
-SlotCallsWait T = (parties p : ℕ) (past : List (Event T)) (r x : Running T) → call_at (world_after kind.Single (opening_world kind.Single parties) past) p ≡ Some r
-    → GoesOn kind.Single (world_after kind.Single (opening_world kind.Single parties) past).shared r x → SlotWaits (world_after kind.Single (opening_world kind.Single parties) past) p r x
+SlotCallsWait T = (parties p : ℕ) (past : List (Event T)) (r x : Running T) → call_at (world_after Kind.Single (opening_world Kind.Single parties) past) p ≡ Some r
+    → GoesOn Kind.Single (world_after Kind.Single (opening_world Kind.Single parties) past).shared r x → SlotWaits (world_after Kind.Single (opening_world Kind.Single parties) past) p r x
 
 -- ring: a push has not stored its stamp, B4, or a forced push that has arrived has not, F7
 abbrev pub IsPushToStamp : Local ℕ → Type 0
-IsPushToStamp (local.Bounded (ring.Filling d)) = Unit {0}
-IsPushToStamp (local.Bounded ring.Swapping) = Unit {0}
+IsPushToStamp (Local.Bounded (ring.Filling d)) = Unit {0}
+IsPushToStamp (Local.Bounded ring.Swapping) = Unit {0}
 IsPushToStamp _ = ⊥
 
 -- a pop has not stored its stamp, O4, or a forced push has taken the front off and not arrived, F6
 abbrev pub HasFront : Local ℕ → Type 0
-HasFront (local.Bounded ring.Emptying) = Unit {0}
-HasFront (local.Bounded (ring.Arriving tail)) = Unit {0}
+HasFront (Local.Bounded ring.Emptying) = Unit {0}
+HasFront (Local.Bounded (ring.Arriving tail)) = Unit {0}
 HasFront _ = ⊥
 
 -- one of these three: O4, F6, F7
 abbrev pub HasLastLap : Local ℕ → Type 0
-HasLastLap (local.Bounded ring.Emptying) = Unit {0}
-HasLastLap (local.Bounded (ring.Arriving tail)) = Unit {0}
-HasLastLap (local.Bounded ring.Swapping) = Unit {0}
+HasLastLap (Local.Bounded ring.Emptying) = Unit {0}
+HasLastLap (Local.Bounded (ring.Arriving tail)) = Unit {0}
+HasLastLap (Local.Bounded ring.Swapping) = Unit {0}
 HasLastLap _ = ⊥
 
 -- a push has not stored its stamp, B4
 abbrev pub IsToFill : Local ℕ → Type 0
-IsToFill (local.Bounded (ring.Filling d)) = Unit {0}
+IsToFill (Local.Bounded (ring.Filling d)) = Unit {0}
 IsToFill _ = ⊥
 
 -- Of a ring, with the tail or the head as it is: a push or forced push goes back at B2 for B4 or F7, and by way of B5 or F5 for O4 or F6; a pop goes back at O2 for O4, F6 or F7, and by
 -- way of O5 for B4.
 pub record RingWaits {T : Type 0} (n : ℕ) (w : World (Shared T) (Running T)) (p : ℕ) (r : Running T) : Type 0 where
-  pub push : (d : PushKind) (x : Running T) → r.local ≡ local.Bounded (ring.PushStamp d w.shared.tail) → GoesOn (kind.Bounded n) w.shared r x → x.local ≡ local.Bounded (ring.PushTail d) → IsBeside w p IsPushToStamp
-  pub full : (d : PushKind) (x y : Running T) → r.local ≡ local.Bounded (ring.PushStamp d w.shared.tail) → GoesOnTwice (kind.Bounded n) w.shared r x y
-      → (x.local ≡ local.Bounded (ring.PushTail d) → ⊥) → y.local ≡ local.Bounded (ring.PushTail d) → IsBeside w p HasFront
-  pub pop : (x : Running T) → r.local ≡ local.Bounded (ring.PopStamp w.shared.head) → GoesOn (kind.Bounded n) w.shared r x → x.local ≡ local.Bounded ring.PopHead → IsBeside w p HasLastLap
-  pub empty : (x y : Running T) → r.local ≡ local.Bounded (ring.PopStamp w.shared.head) → GoesOnTwice (kind.Bounded n) w.shared r x y
-      → (x.local ≡ local.Bounded ring.PopHead → ⊥) → y.local ≡ local.Bounded ring.PopHead → IsBeside w p IsToFill
+  pub push : (d : PushKind) (x : Running T) → r.local ≡ Local.Bounded (ring.PushStamp d w.shared.tail) → GoesOn (Kind.Bounded n) w.shared r x → x.local ≡ Local.Bounded (ring.PushTail d) → IsBeside w p IsPushToStamp
+  pub full : (d : PushKind) (x y : Running T) → r.local ≡ Local.Bounded (ring.PushStamp d w.shared.tail) → GoesOnTwice (Kind.Bounded n) w.shared r x y
+      → (x.local ≡ Local.Bounded (ring.PushTail d) → ⊥) → y.local ≡ Local.Bounded (ring.PushTail d) → IsBeside w p HasFront
+  pub pop : (x : Running T) → r.local ≡ Local.Bounded (ring.PopStamp w.shared.head) → GoesOn (Kind.Bounded n) w.shared r x → x.local ≡ Local.Bounded ring.PopHead → IsBeside w p HasLastLap
+  pub empty : (x y : Running T) → r.local ≡ Local.Bounded (ring.PopStamp w.shared.head) → GoesOnTwice (Kind.Bounded n) w.shared r x y
+      → (x.local ≡ Local.Bounded ring.PopHead → ⊥) → y.local ≡ Local.Bounded ring.PopHead → IsBeside w p IsToFill
 
 abbrev pub RingCallsWait : Type 0 → ℕ → Type 0
-RingCallsWait T n = (parties p : ℕ) (past : List (Event T)) (r : Running T) → call_at (world_after (kind.Bounded n) (opening_world (kind.Bounded n) parties) past) p ≡ Some r
-    → RingWaits n (world_after (kind.Bounded n) (opening_world (kind.Bounded n) parties) past) p r
+RingCallsWait T n = (parties p : ℕ) (past : List (Event T)) (r : Running T) → call_at (world_after (Kind.Bounded n) (opening_world (Kind.Bounded n) parties) past) p ≡ Some r
+    → RingWaits n (world_after (Kind.Bounded n) (opening_world (Kind.Bounded n) parties) past) p r
 
 -- chain: a push moves the tail over a block's end, U6 and U7
 abbrev pub IsToMoveTail : Local ℕ → Type 0
-IsToMoveTail (local.Unbounded (chain.Laying d tail block fresh)) = Unit {0}
-IsToMoveTail (local.Unbounded (chain.Opening d tail block fresh)) = Unit {0}
+IsToMoveTail (Local.Unbounded (chain.Laying d tail block fresh)) = Unit {0}
+IsToMoveTail (Local.Unbounded (chain.Opening d tail block fresh)) = Unit {0}
 IsToMoveTail _ = ⊥
 
 -- a pop moves the head over a block's end, V5 to V8
 abbrev pub IsToMoveHead : Local ℕ → Type 0
-IsToMoveHead (local.Unbounded (chain.Following head block)) = Unit {0}
-IsToMoveHead (local.Unbounded (chain.Peeking head block after)) = Unit {0}
-IsToMoveHead (local.Unbounded (chain.Passing head block more)) = Unit {0}
-IsToMoveHead (local.Unbounded (chain.Entering head block)) = Unit {0}
+IsToMoveHead (Local.Unbounded (chain.Following head block)) = Unit {0}
+IsToMoveHead (Local.Unbounded (chain.Peeking head block after)) = Unit {0}
+IsToMoveHead (Local.Unbounded (chain.Passing head block more)) = Unit {0}
+IsToMoveHead (Local.Unbounded (chain.Entering head block)) = Unit {0}
 IsToMoveHead _ = ⊥
 
 -- a push has taken a block's last slot and not linked the next block, U6 to U8
 abbrev pub IsToLink : Local ℕ → Type 0
-IsToLink (local.Unbounded (chain.Laying d tail block fresh)) = Unit {0}
-IsToLink (local.Unbounded (chain.Opening d tail block fresh)) = Unit {0}
-IsToLink (local.Unbounded (chain.Chaining d tail block fresh)) = Unit {0}
+IsToLink (Local.Unbounded (chain.Laying d tail block fresh)) = Unit {0}
+IsToLink (Local.Unbounded (chain.Opening d tail block fresh)) = Unit {0}
+IsToLink (Local.Unbounded (chain.Chaining d tail block fresh)) = Unit {0}
 IsToLink _ = ⊥
 
 -- a push has appended and not written, U6 to U9
 abbrev pub IsToWrite : Local ℕ → Type 0
-IsToWrite (local.Unbounded (chain.Laying d tail block fresh)) = Unit {0}
-IsToWrite (local.Unbounded (chain.Opening d tail block fresh)) = Unit {0}
-IsToWrite (local.Unbounded (chain.Chaining d tail block fresh)) = Unit {0}
-IsToWrite (local.Unbounded (chain.Writing d spare)) = Unit {0}
+IsToWrite (Local.Unbounded (chain.Laying d tail block fresh)) = Unit {0}
+IsToWrite (Local.Unbounded (chain.Opening d tail block fresh)) = Unit {0}
+IsToWrite (Local.Unbounded (chain.Chaining d tail block fresh)) = Unit {0}
+IsToWrite (Local.Unbounded (chain.Writing d spare)) = Unit {0}
 IsToWrite _ = ⊥
 
 -- Of a chain, a push or forced push goes back at U1 for U6 or U7; a pop goes back at V1 for V5 to V8, and at V3, where it has read that there is no block, and there is none yet, for
 -- U4b; and a pop that has taken goes back at V5 for U6 to U8, and at V9 for U6 to U9.
 pub record ChainWaits {T : Type 0} (w : World (Shared T) (Running T)) (p : ℕ) (r x : Running T) : Type 0 where
-  pub push : (d : PushKind) (spare : Option ℕ) → r.local ≡ local.Unbounded (chain.PushTail d spare) → x.local ≡ local.Unbounded (chain.PushTail d spare) → IsBeside w p IsToMoveTail
-  pub pop : r.local ≡ local.Unbounded chain.PopHead → x.local ≡ local.Unbounded chain.PopHead → IsBeside w p IsToMoveHead
-  pub first : (head : ℕ) → r.local ≡ local.Unbounded (chain.PopTail head None) → w.shared.head_block ≡ None → x.local ≡ local.Unbounded chain.PopHead → IsBeside w p IsToShow
-  pub link : (head block : ℕ) → r.local ≡ local.Unbounded (chain.Following head block) → x.local ≡ local.Unbounded (chain.Following head block) → IsBeside w p IsToLink
-  pub item : (head block : ℕ) → r.local ≡ local.Unbounded (chain.Awaiting head block) → x.local ≡ local.Unbounded (chain.Awaiting head block) → IsBeside w p IsToWrite
+  pub push : (d : PushKind) (spare : Option ℕ) → r.local ≡ Local.Unbounded (chain.PushTail d spare) → x.local ≡ Local.Unbounded (chain.PushTail d spare) → IsBeside w p IsToMoveTail
+  pub pop : r.local ≡ Local.Unbounded chain.PopHead → x.local ≡ Local.Unbounded chain.PopHead → IsBeside w p IsToMoveHead
+  pub first : (head : ℕ) → r.local ≡ Local.Unbounded (chain.PopTail head None) → w.shared.head_block ≡ None → x.local ≡ Local.Unbounded chain.PopHead → IsBeside w p IsToShow
+  pub link : (head block : ℕ) → r.local ≡ Local.Unbounded (chain.Following head block) → x.local ≡ Local.Unbounded (chain.Following head block) → IsBeside w p IsToLink
+  pub item : (head block : ℕ) → r.local ≡ Local.Unbounded (chain.Awaiting head block) → x.local ≡ Local.Unbounded (chain.Awaiting head block) → IsBeside w p IsToWrite
 
 abbrev pub ChainCallsWait : Type 0 → Type 0
-ChainCallsWait T = (parties p : ℕ) (past : List (Event T)) (r x : Running T) → call_at (world_after kind.Unbounded (opening_world kind.Unbounded parties) past) p ≡ Some r
-    → GoesOn kind.Unbounded (world_after kind.Unbounded (opening_world kind.Unbounded parties) past).shared r x → ChainWaits (world_after kind.Unbounded (opening_world kind.Unbounded parties) past) p r x
+ChainCallsWait T = (parties p : ℕ) (past : List (Event T)) (r x : Running T) → call_at (world_after Kind.Unbounded (opening_world Kind.Unbounded parties) past) p ≡ Some r
+    → GoesOn Kind.Unbounded (world_after Kind.Unbounded (opening_world Kind.Unbounded parties) past).shared r x → ChainWaits (world_after Kind.Unbounded (opening_world Kind.Unbounded parties) past) p r x
 
 -- so it is at each moment of each run
 pub record CallsWait (T : Type 0) : Type 0 where
@@ -147,13 +140,13 @@ pub record CallsWait (T : Type 0) : Type 0 where
 
 -- a step of `len`
 abbrev pub IsOfLen : Local ℕ → Type 0
-IsOfLen (local.Single (Looking look.Len)) = Unit {0}
-IsOfLen (local.Bounded ring.LenTail) = Unit {0}
-IsOfLen (local.Bounded (ring.LenHead tail)) = Unit {0}
-IsOfLen (local.Bounded (ring.LenAgain tail head)) = Unit {0}
-IsOfLen (local.Unbounded chain.LenTail) = Unit {0}
-IsOfLen (local.Unbounded (chain.LenHead tail)) = Unit {0}
-IsOfLen (local.Unbounded (chain.LenAgain tail head)) = Unit {0}
+IsOfLen (Local.Single (Looking Look.Len)) = Unit {0}
+IsOfLen (Local.Bounded ring.LenTail) = Unit {0}
+IsOfLen (Local.Bounded (ring.LenHead tail)) = Unit {0}
+IsOfLen (Local.Bounded (ring.LenAgain tail head)) = Unit {0}
+IsOfLen (Local.Unbounded chain.LenTail) = Unit {0}
+IsOfLen (Local.Unbounded (chain.LenHead tail)) = Unit {0}
+IsOfLen (Local.Unbounded (chain.LenAgain tail head)) = Unit {0}
 IsOfLen _ = ⊥
 
 -- these events leave the tail, each of them

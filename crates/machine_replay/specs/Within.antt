@@ -1,32 +1,26 @@
 -- Laws of runs: what stands within a displacement, and how soon a call replies.
 use Rattle.std.specs.Prelude.{◌≡◌, ◌≢◌, ℕ, ◌<◌, ◌≤◌, ◌==◌, Bool, true, false, Option, List, ◌∷◌, length, drop, take, count_by}
 use Rattle.std.specs.List.{AllByRecursion}
-use Rattle.queue_steps.specs.declared.sizes.TheConstants.{SOLO_STEPS, WAIT_FREE_STEPS}
+use Rattle.machine_replay.specs.Vocabulary.{Reply, Effect, SOLO_STEPS, WAIT_FREE_STEPS, Event, Replay, Begin, Step}
 use Rattle.queue_steps.specs.State.{State}
 use Rattle.queue_steps.specs.Effect.{Runs}
-use Rattle.queue_steps.specs.declared.model.Effect.{Effect}
-use Rattle.queue_steps.specs.declared.model.Effect.TheVariants as effect
-use Rattle.queue_steps.specs.declared.model.Reply.{Reply}
-use Rattle.machine_steps.specs.declared.types.Event.{Event}
-use Rattle.machine_steps.specs.declared.types.Event.TheVariants.{Begin, Step}
-use Rattle.machine_steps.specs.declared.types.Replay.{Replay}
 use Rattle.machine_replay.specs.Book.{is_wait_free}
 use Rattle.machine_replay.specs.Conforms.{Conforms}
 use Rattle.machine_replay.specs.InCall.{IsInCall}
 
 abbrev pub IsNotArrive : {T : Type 0} → Effect T → Type 0
-IsNotArrive effect.Arrive = ⊥
+IsNotArrive Effect.Arrive = ⊥
 IsNotArrive _ = Unit {0}
 
 -- neither an append nor the beginning of another displacement
 abbrev pub IsNotAppend : {T : Type 0} → Effect T → Type 0
-IsNotAppend (effect.Append v) = ⊥
-IsNotAppend (effect.Front old v) = ⊥
+IsNotAppend (Effect.Append v) = ⊥
+IsNotAppend (Effect.Front old v) = ⊥
 IsNotAppend _ = Unit {0}
 
 -- from a front on, up to its arrival, nothing is appended
 abbrev pub NothingAppendedWithin : Type 0 → Type 0
-NothingAppendedWithin T = (Q : State T) (old v : T) (es : List (Effect T)) → Runs Q (effect.Front old v ∷ es) → AllByRecursion IsNotArrive es → AllByRecursion IsNotAppend es
+NothingAppendedWithin T = (Q : State T) (old v : T) (es : List (Effect T)) → Runs Q (Effect.Front old v ∷ es) → AllByRecursion IsNotArrive es → AllByRecursion IsNotAppend es
 
 -- the event is a step of party p
 abbrev pub is_step_of : {T : Type 0} → ℕ → Event T → Bool

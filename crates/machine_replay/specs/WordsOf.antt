@@ -1,8 +1,6 @@
 -- The words of a machine, as a value.
 use Rattle.std.specs.Prelude.{◌≡◌, ℕ, List}
-use Rattle.queue_steps.specs.declared.steps.types.Kind.{Kind}
-use Rattle.machine_steps.specs.declared.machine.Running.{Running}
-use Rattle.machine_steps.specs.declared.types.Event.{Event}
+use Rattle.machine_replay.specs.Vocabulary.{Kind, Event, Running}
 use Rattle.machine_steps.specs.Left.{opening_world}
 use Rattle.machine_steps.specs.Machine.{PassesAll}
 use Rattle.machine_steps.specs.World.{World}

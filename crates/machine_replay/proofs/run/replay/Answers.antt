@@ -2,7 +2,7 @@ use Rattle.std.proofs.Common.{arith, refl, ◌≡◌, ◌∙◌, ◌+◌, ◌<�
 use Rattle.std.proofs.lemmas.List.{length_push, map-id}
 use Rattle.std.proofs.lemmas.Iterator.Adapters.{YieldsList-from_vec}
 use Rattle.std.proofs.lemmas.Iterator.Consumers.{YieldsList-end}
-use Rattle.machine_steps.specs.declared.types.Replay.{Replay}
+use Rattle.machine_replay.specs.Vocabulary.{Replay}
 use Rattle.machine_replay.specs.Conforms.{Conforms, capacity_of}
 use Rattle.machine_steps.specs.Machine.{HasRoom}
 use Rattle.machine_replay.proofs.Noting.{notes-first, notes-on, notes-next, notes-end, notes-played}
