@@ -1,7 +1,9 @@
 -- What calls, partings and joinings add to the jobs that a party took.
-use Rattle.std.proofs.Common.{◌≡◌, ℕ, zero, suc, ◌+◌, ◌-◌, ◌<◌, ◌≤◌, ◌==◌, Bool, true, false, cond, Option, None, List, [], ◌∷◌, ◌++◌, Ok, Err, refl, ap, sym, subst, ◌∙◌, inl, inr, ⊎_elim, append_assoc, arith}
-use Rattle.std.specs.List.{count_by}
+use Rattle.std.proofs.Common.{◌≡◌, ℕ, zero, suc, ◌+◌, ◌<◌, ◌≤◌, ◌==◌, Bool, true, false, cond, Option, None, List, [], ◌∷◌, ◌++◌, Ok, Err, refl, ap, sym, subst, ◌∙◌, inl, inr, ⊎_elim, append_assoc, append-nil, length, map, arith}
+use Rattle.std.specs.List.{All, count_by}
 use Rattle.std.proofs.lemmas.Bool.Decides.{eqb_tells}
+use Rattle.std.proofs.lemmas.List.{length-map}
+use Rattle.std.proofs.lemmas.List.Elements.{All-head, All-tail}
 use Rattle.std.proofs.lemmas.List.Sums.{sum_by-cons, sum_by-append}
 use mathlib.Core.List.{IsPrefix}
 use lib.ListN.{get_elem?}
@@ -13,18 +15,18 @@ use Rattle.queue_steps.specs.declared.errors.PopError.{PopError}
 use Rattle.queue_steps.specs.declared.errors.PopError.TheVariants as pop
 use Rattle.queue_steps.specs.Effect.{after}
 use Rattle.queue_steps.specs.Legal.{IsSoundOwned}
-use Rattle.queue_steps.specs.Shares.{Share, SamePart, IsEntire}
 use Rattle.queue_steps.specs.Sequential.{Owned}
-use Rattle.queue_steps.specs.Parties.{View, IsView}
-use Rattle.queue_steps.proofs.ShareLaws.{halves_joined, shares_add_up}
-use Rattle.concurrent_queue.specs.Shared.{QueueId, Person, Calls, Parts, Joins, Finishes}
+use Rattle.queue_steps.specs.Parties.{IsView}
+use Rattle.concurrent_queue.specs.Shared.{QueueId, Person, IsPartyOf, Calls, Finishes}
 use Rattle.law_histories.specs.Histories.{IsDrained}
 use Rattle.law_histories.proofs.Closing.{ends_at}
 use Rattle.law_parties.specs.Doings.{passes, done_by, hands_in, hands_out, Acts}
-use Rattle.law_parties.proofs.Doings.{acts, acts_on, unchanged, did_both}
+use Rattle.law_parties.proofs.Doings.{acts, acts_on}
 use Rattle.law_parties.proofs.Whole.{all_there}
-use Rattle.use_work.specs.Work.{times, appended, Took, IsShift, SawDrained}
-use Rattle.use_work.specs.declared.Shift.{Shift}
+use Rattle.queue_crew.specs.Work.{Piece, EachReports, IsPartOf, done_by_all, HasWorked}
+use Rattle.queue_crew.specs.declared.refusal.OnRefusal.TheVariants as refusal
+use Rattle.use_work.specs.Work.{times, all_handed, appended, Took, HasTaken, Hauled, SawDrained}
+use Rattle.use_work.specs.declared.Haul.{Haul}
 
 single : {X : Type 0} (test : X → Bool) (e : X) → count_by test (e ∷ []) ≡ cond (test e) 1 0
 single test e = let one = sum_by-cons (λ f. cond (test f) 1 0) e [] in omega (arith, one)
@@ -66,57 +68,67 @@ close_takes_none v w true is closed =
     took_by v w (effect.Close ∷ []) [] (acts v w call.Close (reply.Close true) (effect.Close ∷ []) is closed closed.1.tells) (λ x. (single (hands_out x) effect.Close, single (hands_in x) effect.Close))
 close_takes_none v w false is closed = took_by v w [] [] (acts v w call.Close (reply.Close false) [] is closed closed.1.tells) (λ x. (refl, refl))
 
--- what a party did before it was parted, the first of the two did, and the second did nothing
-parted : (v a b : Person ℕ) (test : Effect ℕ → Bool) → IsView v.queue.cap v.view → Parts v a b → (done_by test a.view ≡ done_by test v.view) × (done_by test b.view ≡ 0)
-parted v a b test is parts =
-    (unchanged v.queue.cap v.view a.view is parts.2.begins parts.2.mine.0 test, ap (λ (ps : List ℕ). count_by (λ p. passes test (get_elem? b.view.seen p)) ps) parts.2.mine.1)
-
-prefix_on : (h s t : List (Effect ℕ)) → IsPrefix h s → IsPrefix s t → IsPrefix h t
-prefix_on h s t (d, is) (e, on) = (d ++ e, sym (append_assoc h d e) ∙ (ap (λ (l : List (Effect ℕ)). l ++ e) is ∙ on))
-
 -- a pop that finds the queue closed has seen it closed and empty
 pub saw_drained : (v w : Person ℕ) → Calls v call.Pop (reply.Pop (Err pop.Closed)) w → SawDrained w
 saw_drained v w popped =
     let seen = popped.1.right popped.1.tells in
     (seen.0, seen.2, subst {A = Option ℕ} (λ cap. IsDrained (after cap seen.0)) (sym (ap (λ (q : QueueId). q.cap) popped.0)) (⊎_elim (λ right. right) (λ lacks. absurd lacks) seen.3))
 
--- who is joined with such a party has seen it too
-pub joined_drained : (a b w : Person ℕ) → b.queue ≡ a.queue → Joins a b w → SawDrained b → SawDrained w
-joined_drained a b w same joins (h, begins, drained) =
-    (h, prefix_on h b.view.seen w.view.seen begins joins.1.begins.1, subst {A = QueueId} (λ q. IsDrained (after q.cap h)) (same ∙ sym joins.0) drained)
+prefix_on : (h s t : List (Effect ℕ)) → IsPrefix h s → IsPrefix s t → IsPrefix h t
+prefix_on h s t (d, is) (e, on) = (d ++ e, sym (append_assoc h d e) ∙ (ap (λ (l : List (Effect ℕ)). l ++ e) is ∙ on))
 
--- the shifts of two halves of a party, of which the second had a worker, joined
-pub joined_shift : (q : QueueId) (workers : ℕ) (v a b : Person ℕ) (ours theirs shift : Shift) → v.queue ≡ q → IsView v.queue.cap v.view → Parts v a b → IsShift q (workers - 1) a ours → IsShift q 1 b theirs
-    → IsView ours.party.queue.cap ours.party.view → IsView theirs.party.queue.cap theirs.party.view → Joins ours.party theirs.party shift.party × (shift.handed.items ≡ ours.handed.items ++ theirs.handed.items)
-    → IsShift q workers v shift
-joined_shift q workers v a b ours theirs shift of is parts our their is_ours is_theirs (joins, lists) = record {
-  queue = joins.0 ∙ our.queue;
-  took = λ job.
-      let one = our.took job in let two = their.took job in
-      let all : times job shift.handed.items ≡ times job ours.handed.items + times job theirs.handed.items = ap (times job) lists ∙ sum_by-append (λ j. cond (j == job) 1 0) ours.handed.items theirs.handed.items in
-      let outs = did (hands_out job) in let ins = did (hands_in job) in let split_out = parted v a b (hands_out job) is parts in let split_in = parted v a b (hands_in job) is parts in
-      (omega (arith, one.0, two.0, all, outs, split_out.0, split_out.1), omega (arith, one.1, two.1, ins, split_in.0, split_in.1));
-  share =
-      subst {A = Share} (λ s. SamePart s v.view.share) (sym joins.1.share)
-      (halves_joined v.view.share ours.party.view.share theirs.party.view.share
-      (subst {A = Share} (SamePart ours.party.view.share) parts.2.share.0 our.share) (subst {A = Share} (SamePart theirs.party.view.share) parts.2.share.1 their.share));
-  drained = λ some. joined_drained ours.party theirs.party shift.party same joins (their.drained (omega arith));
-}
-  where
-    same : theirs.party.queue ≡ ours.party.queue
-    same = their.queue ∙ sym our.queue
+-- the jobs of one worker more
+pub handed_on : (hauls : List Haul) (haul : Haul) → all_handed (hauls ++ haul ∷ []) ≡ all_handed hauls ++ haul.handed.items
+handed_on [] haul = append-nil haul.handed.items
+handed_on (h ∷ hs) haul = ap (λ jobs. h.handed.items ++ jobs) (handed_on hs haul) ∙ sym (append_assoc h.handed.items (all_handed hs) haul.handed.items)
 
-    did : (test : Effect ℕ → Bool) → done_by test shift.party.view ≡ done_by test ours.party.view + done_by test theirs.party.view
-    did test = did_both ours.party.queue.cap ours.party.view theirs.party.view shift.party.view is_ours (subst {A = QueueId} (λ z. IsView z.cap theirs.party.view) same is_theirs) joins.1 test
+-- a party with no place has done nothing
+nothing_done : (v : Person ℕ) → v.view.mine ≡ [] → (test : Effect ℕ → Bool) → done_by test v.view ≡ 0
+nothing_done v fresh test = ap (λ (ps : List ℕ). count_by (λ p. passes test (get_elem? v.view.seen p)) ps) fresh
 
--- one worker does for all
-pub one_for_all : (q : QueueId) (workers : ℕ) (v : Person ℕ) (shift : Shift) → IsShift q 1 v shift → IsShift q workers v shift
-one_for_all q workers v shift one = record {
-  queue = one.queue;
-  took = one.took;
-  share = one.share;
-  drained = λ some. one.drained (omega arith);
-}
+-- a party that had done nothing has taken what it took since
+pub has_taken : (v w : Person ℕ) (jobs : List ℕ) → v.view.mine ≡ [] → Took v w jobs → HasTaken w jobs
+has_taken v w jobs fresh took job =
+    let t = took job in let out = nothing_done v fresh (hands_out job) in let came = nothing_done v fresh (hands_in job) in (omega (arith, t.0, out), omega (arith, t.1, came))
+
+-- what the workers' parties did, from one worker on, where each haul is finished: they took the jobs of all hauls
+hauled : (n : ℕ) (pieces : List (Piece ℕ Haul)) → EachReports Hauled n pieces → All (λ haul. haul.finished ≡ true) (map (λ p. p.post) pieces) → (job : ℕ)
+    → (done_by_all (hands_out job) pieces ≡ times job (all_handed (map (λ p. p.post) pieces))) × (done_by_all (hands_in job) pieces ≡ 0)
+hauled n [] told all job = (refl, refl)
+hauled n (p ∷ ps) told all job =
+    let one = (told.0 (All-head (λ haul. haul.finished ≡ true) p.post (map (λ x. x.post) ps) all)).0 job in
+    let others = hauled (n + 1) ps told.1 (All-tail (λ haul. haul.finished ≡ true) p.post (map (λ x. x.post) ps) all) job in
+    let outs = sum_by-cons (λ (x : Piece ℕ Haul). done_by (hands_out job) x.party.view) p ps in
+    let ins = sum_by-cons (λ (x : Piece ℕ Haul). done_by (hands_in job) x.party.view) p ps in
+    let lists : times job (p.post.handed.items ++ all_handed (map (λ x. x.post) ps)) ≡ times job p.post.handed.items + times job (all_handed (map (λ x. x.post) ps)) =
+    sum_by-append (λ j. cond (j == job) 1 0) p.post.handed.items (all_handed (map (λ x. x.post) ps)) in
+    (omega (arith, one.0, others.0, outs, lists), omega (arith, one.1, others.1, ins))
+
+-- so the party that all have become took these, beside what the first party did
+pub all_took : (q : QueueId) (started : Bool) (v all : Person ℕ) (hauls : List Haul) → HasWorked Hauled q refusal.GoOn started v all hauls → All (λ haul. haul.finished ≡ true) hauls → Took v all (all_handed hauls)
+all_took q started v all hauls worked finished job =
+    let each = hauled 0 worked.pieces worked.reported (subst (All (λ haul. haul.finished ≡ true)) worked.posts_are finished) job in
+    let jobs : times job (all_handed hauls) ≡ times job (all_handed (map (λ p. p.post) worked.pieces)) = ap (λ hs. times job (all_handed hs)) worked.posts_are in
+    let outs = worked.did (hands_out job) in let ins = worked.did (hands_in job) in
+    let out_before : done_by (hands_out job) worked.kept.view ≡ done_by (hands_out job) v.view + 0 = worked.is_kept.did (hands_out job) in
+    let in_before : done_by (hands_in job) worked.kept.view ≡ done_by (hands_in job) v.view + 0 = worked.is_kept.did (hands_in job) in
+    (omega (arith, each.0, jobs, outs, out_before), omega (arith, each.1, ins, in_before))
+
+-- and it has seen the queue closed and empty, as the first worker has
+drained_by : (q : QueueId) (all : Person ℕ) (pieces : List (Piece ℕ Haul)) → IsPartyOf all q → EachReports Hauled 0 pieces → All (λ haul. haul.finished ≡ true) (map (λ p. p.post) pieces)
+    → All (λ p. IsPartOf q p.party all) pieces → 0 < length pieces → SawDrained all
+drained_by q all [] of told finished within some = absurd (omega (arith, some))
+drained_by q all (p ∷ ps) of told finished within some =
+    let (h, begins, drained) = (told.0 (All-head (λ haul. haul.finished ≡ true) p.post (map (λ x. x.post) ps) finished)).1 in
+    let part = All-head (λ (x : Piece ℕ Haul). IsPartOf q x.party all) p ps within in
+    (h, prefix_on h p.party.view.seen all.view.seen begins part.1, subst {A = QueueId} (λ z. IsDrained (after z.cap h)) (part.0 ∙ sym of) drained)
+
+pub all_drained : (q : QueueId) (started : Bool) (v all : Person ℕ) (hauls : List Haul) → HasWorked Hauled q refusal.GoOn started v all hauls → All (λ haul. haul.finished ≡ true) hauls → 0 < length hauls
+    → SawDrained all
+all_drained q started v all hauls worked finished some =
+    let posts = worked.posts_are in
+    let many : length hauls ≡ length worked.pieces = ap length posts ∙ length-map worked.pieces (λ p. p.post) in
+    drained_by q all worked.pieces worked.queue worked.reported (subst (All (λ haul. haul.finished ≡ true)) posts finished) worked.within (omega (arith, some, many))
 
 cond_one : (b : Bool) → b ≡ true → cond {A = ℕ} b 1 0 ≡ 1
 cond_one true e = refl
@@ -147,23 +159,19 @@ none_out : (n job : ℕ) → count_by (hands_out job) (appended n) ≡ 0
 none_out zero job = refl
 none_out (suc n) job = let before = none_out n job in let more = one_more (hands_out job) (appended n) (effect.Append n) in omega (arith, before, more)
 
-pub whole_again : (v w : View ℕ) → IsEntire v.share → SamePart w.share v.share → IsEntire w.share
-whole_again v w all same = shares_add_up.same_entire v.share w.share (shares_add_up.same_back w.share v.share same) all
-
--- a party that had done nothing appended the jobs, closed the queue, and is whole again after the workers' shifts
-pub each_once : (n : ℕ) (first full closed : Person ℕ) (shift : Shift) (left : Owned ℕ) → first.view.mine ≡ [] → Acts first full (appended n) → Took full closed [] → Took closed shift.party shift.handed.items
-    → IsView shift.party.queue.cap shift.party.view → Finishes shift.party left → IsSoundOwned left → (job : ℕ) → job < n → times job shift.handed.items + times job left.queue.items ≡ 1
-each_once n first full closed shift left fresh put shut took is ended sound job lt =
-    let nothing : (test : Effect ℕ → Bool) → done_by test first.view ≡ 0 = λ test. ap (λ (ps : List ℕ). count_by (λ p. passes test (get_elem? first.view.seen p)) ps) fresh in
+-- a party that had done nothing appended the jobs, closed the queue, and is whole again after the workers have taken theirs
+pub each_once : (n : ℕ) (first full closed all : Person ℕ) (handed : List ℕ) (left : Owned ℕ) → first.view.mine ≡ [] → Acts first full (appended n) → Took full closed [] → Took closed all handed
+    → IsView all.queue.cap all.view → Finishes all left → IsSoundOwned left → (job : ℕ) → job < n → times job handed + times job left.queue.items ≡ 1
+each_once n first full closed all handed left fresh put shut took is ended sound job lt =
     let put_in = put.did (hands_in job) in let put_out = put.did (hands_out job) in
-    let zero_in = nothing (hands_in job) in let zero_out = nothing (hands_out job) in
+    let zero_in = nothing_done first fresh (hands_in job) in let zero_out = nothing_done first fresh (hands_out job) in
     let one = in_below n job lt in let none = none_out n job in
     let s = shut job in let t = took job in
-    let calm : (after shift.party.queue.cap shift.party.view.seen).coming ≡ None = sym ended.2.coming ∙ sound.0.none_coming in
-    let all = all_there shift.party.queue.cap shift.party.view job is ended.1 calm in
-    let items : times job left.queue.items ≡ times job (after shift.party.queue.cap shift.party.view.seen).items = ap (times job) ended.2.items in
+    let calm : (after all.queue.cap all.view.seen).coming ≡ None = sym ended.2.coming ∙ sound.0.none_coming in
+    let kept = all_there all.queue.cap all.view job is ended.1 calm in
+    let items : times job left.queue.items ≡ times job (after all.queue.cap all.view.seen).items = ap (times job) ended.2.items in
     let empty : times job [] ≡ 0 = refl in
-    omega (arith, put_in, put_out, zero_in, zero_out, one, none, s.0, s.1, t.0, t.1, all, items, empty)
+    omega (arith, put_in, put_out, zero_in, zero_out, one, none, s.0, s.1, t.0, t.1, kept, items, empty)
 
 -- one job more is appended
 pub append_more : (v u w : Person ℕ) (n : ℕ) (done : Unit {0}) → IsView u.queue.cap u.view → Acts v u (appended n) → Calls u (call.Push n) (reply.Push (Ok done)) w → Acts v w (appended (n + 1))

@@ -1,16 +1,15 @@
 -- Which jobs were handed out, and what a worker has done.
-use Rattle.std.specs.Prelude.{◌≡◌, ℕ, zero, suc, ◌+◌, ◌<◌, ◌==◌, List, [], ◌∷◌, ◌++◌}
+use Rattle.std.specs.Prelude.{◌≡◌, ℕ, zero, suc, ◌+◌, ◌<◌, ◌==◌, true, List, [], ◌∷◌, ◌++◌}
 use Rattle.std.specs.List.{count_by}
 use Rattle.queue_steps.specs.declared.model.Effect.{Effect}
 use Rattle.queue_steps.specs.declared.model.Effect.TheVariants as effect
 use mathlib.Core.List.{IsPrefix}
 use Rattle.queue_steps.specs.Effect.{after}
-use Rattle.queue_steps.specs.Shares.{SamePart}
 use Rattle.law_histories.specs.Histories.{IsDrained}
-use Rattle.concurrent_queue.specs.Shared.{QueueId, Person, IsPartyOf}
+use Rattle.concurrent_queue.specs.Shared.{Person}
 use Rattle.law_parties.specs.Doings.{done_by, hands_in, hands_out}
 use Rattle.use_work.specs.declared.Report.{Report}
-use Rattle.use_work.specs.declared.Shift.{Shift}
+use Rattle.use_work.specs.declared.Haul.{Haul}
 
 -- how often the job is in the list
 abbrev pub times : ℕ → List ℕ → ℕ
@@ -37,9 +36,15 @@ Took v w jobs = (job : ℕ) → (done_by (hands_out job) w.view ≡ done_by (han
 abbrev pub SawDrained : Person ℕ → Type 0
 SawDrained p = (h : List (Effect ℕ)) × IsPrefix h p.view.seen × IsDrained (after p.queue.cap h)
 
--- The shift of so many workers, who had the party v of the queue q: the jobs that were handed to it are those that it took, and it has its share again. It ends only where no job is left, if there was a worker
-pub record IsShift (q : QueueId) (workers : ℕ) (v : Person ℕ) (shift : Shift) : Type 0 where
-  pub queue : IsPartyOf shift.party q
-  pub took : Took v shift.party shift.handed.items
-  pub share : SamePart shift.party.view.share v.view.share
-  pub drained : 0 < workers → SawDrained shift.party
+-- all that the party has done is that it took these jobs
+abbrev pub HasTaken : Person ℕ → List ℕ → Type 0
+HasTaken p jobs = (job : ℕ) → (done_by (hands_out job) p.view ≡ times job jobs) × (done_by (hands_in job) p.view ≡ 0)
+
+-- a worker's haul that is finished: what its party took, which has seen the queue closed and empty
+abbrev pub Hauled : ℕ → Person ℕ → Haul → Type 0
+Hauled number p haul = haul.finished ≡ true → HasTaken p haul.handed.items × SawDrained p
+
+-- the jobs of all workers, worker by worker
+abbrev pub all_handed : List Haul → List ℕ
+all_handed [] = []
+all_handed (h ∷ hs) = h.handed.items ++ all_handed hs

@@ -1,17 +1,17 @@
 //! Jobs that workers share: each is handed to one of them, or is left.
 #![tactic(auto)]
 
-ghost use Rattle.std.specs.Prelude.{◌≡◌, ◌<◌, ◌-◌, ◌++◌, IfOk};
-ghost use Rattle.queue_steps.specs.Parties.{IsView};
-ghost use Rattle.concurrent_queue.specs.Shared.{IsPartyOf, Joins};
+ghost use Rattle.std.specs.Prelude.{◌≡◌, true, [], IfOk};
+ghost use Rattle.std.specs.List.{All};
+ghost use Rattle.concurrent_queue.specs.Shared.{IsPartyOf};
 ghost use Rattle.law_parties.specs.Doings.{Acts};
-ghost use Rattle.use_work.specs.Work.{appended, IsShift, EachOnce, NoneLeft};
-ghost use denote.Param.Send.{IsSync};
+ghost use Rattle.use_work.specs.Work.{all_handed, appended, Hauled, EachOnce, NoneLeft};
 
 use concurrent_queue::{ConcurrentQueue, Exclusive, Party, PopError};
+use queue_crew::{Gathered, NO_LIMIT, OnRefusal, Roster, Shift, run_shift};
 use std::alloc::{AllocError, Global};
 use std::sync::Wait;
-use std::thread::{Threads, join, yield_now};
+use std::thread::{Threads, yield_now};
 
 /// The jobs that no worker has yet. A job is a number.
 type Jobs = ConcurrentQueue<u64>;
@@ -23,14 +23,31 @@ pub struct Report {
     pub left: Exclusive<u64>,
 }
 
-/// A party after its work, or several that have become one, and the jobs that were handed to it.
+/// The jobs that were handed to one worker.
 #[derive(Drop)]
-struct Shift {
-    party: Party<u64>,
+struct Haul {
     handed: Vec<u64>,
+    /// Whether the worker went on until no job was left. If not, there was no memory to note a job.
+    finished: bool,
 }
 
-/// Hands the jobs 0, 1, .. up to `jobs`, which is left out, to so many workers, or to as many as the queue may have parties, and waits for them. Each is a thread of its own where one can be made.
+/// What each worker does: it takes jobs until the queue is closed and has none.
+#[derive(Clone, Copy)]
+struct Taking {
+    alloc: Global,
+}
+
+impl Shift<u64, Global> for Taking {
+    type Post = Haul;
+
+    ghost reports = { λ shift. Hauled };
+
+    fn work<R: Wait>(&self, rt: &R, queue: &Jobs, _number: u64, party: &mut Party<u64>) -> Haul {
+        take_all(rt, self.alloc, queue, party)
+    }
+}
+
+/// Hands the jobs 0, 1, .. up to `jobs`, which is left out, to so many workers, or to as many as can be started, and waits for them. Each is a thread of its own; where one cannot be started, the calling thread works in its place.
 ///
 /// # Errors
 ///
@@ -48,7 +65,16 @@ pub fn distribute<R: Threads + Wait + Sync>(
     push_all(rt, &queue, &mut party, jobs)?;
     party.show_view();
     queue.close(&mut party);
-    let Shift { party, handed } = run_workers(rt, alloc, &queue, party, workers)?;
+    let roster = Roster {
+        threads: workers,
+        limit: NO_LIMIT,
+        on_refusal: OnRefusal::GoOn,
+    };
+    let Ok(crew) = run_shift(rt, alloc, &queue, party, &Taking { alloc }, roster) else {
+        return Err(AllocError);
+    };
+    let Gathered { party, posts, .. } = crew;
+    let handed = gather(alloc, posts)?;
     party.show_view();
     match queue.finish(party) {
         Ok(left) => {
@@ -82,85 +108,53 @@ fn push_all<R: Wait>(
     Ok(())
 }
 
-/// Runs so many workers, each with a party that is parted off, and joins what they give back. Where no further party can be had, one worker does the work of the rest.
-///
-/// # Errors
-///
-/// There was no memory.
-fn run_workers<R: Threads + Wait + Sync>(
-    rt: &R,
-    alloc: Global,
-    queue: &Jobs,
-    party: Party<u64>,
-    workers: u64,
-) -> Result<Shift, AllocError>
-    requires { IsPartyOf party queue.now }
-    ensures { IfOk result (λ shift. IsShift queue.now workers party shift) }
-{
-    if workers == 0 {
-        let handed = Vec::new(alloc);
-        return Ok(Shift { party, handed });
-    }
-    party.show_view();
-    match queue.split(party) {
-        Err(party) => work(rt, alloc, queue, party),
-        Ok((party, theirs)) => {
-            let (theirs, ours) = join(
-                rt,
-                || -> Result<Shift, AllocError>
-                    requires { IsPartyOf theirs queue.now }
-                    ensures { IfOk result (λ shift. IsShift queue.entry.now 1 theirs shift) }
-                { work(rt, alloc, queue, theirs) },
-                || -> Result<Shift, AllocError>
-                    requires { IsSync R.row × IsPartyOf party queue.now × (0 < workers) }
-                    ensures { IfOk result (λ shift. IsShift queue.entry.now (workers - 1) party shift) }
-                { run_workers(rt, alloc, queue, party, workers - 1) },
-            );
-            both(queue, ours?, theirs?)
-        }
-    }
-}
-
-/// Takes jobs until the queue is closed and has none.
-///
-/// # Errors
-///
-/// There was no memory to note a job.
-fn work<R: Wait>(
-    rt: &R,
-    alloc: Global,
-    queue: &Jobs,
-    mut party: Party<u64>,
-) -> Result<Shift, AllocError>
-    requires { IsPartyOf party queue.now }
-    ensures { IfOk result (λ shift. IsShift queue.now 1 party shift) }
+/// Takes jobs until the queue is closed and has none, or there is no memory to note one.
+fn take_all<R: Wait>(rt: &R, alloc: Global, queue: &Jobs, party: &mut Party<u64>) -> Haul
+    requires of { IsPartyOf party.old queue.now }
+    requires fresh { party.old.view.mine ≡ [] }
+    ensures of { IsPartyOf party.new queue.now }
+    ensures share { party.new.view.share ≡ party.old.view.share }
+    ensures took { Hauled 0 party.new result }
 {
     let mut handed = Vec::new(alloc);
     for _ in rt.forever() {
         party.show_view();
-        match queue.pop(rt, &mut party) {
-            Ok(job) => handed.push(job)?,
+        match queue.pop(rt, party) {
+            Ok(job) => {
+                let Ok(()) = handed.push(job) else {
+                    return Haul {
+                        handed,
+                        finished: false,
+                    };
+                };
+            }
             Err(PopError::Empty) => yield_now(),
-            Err(PopError::Closed) => return Ok(Shift { party, handed }),
+            Err(PopError::Closed) => {
+                return Haul {
+                    handed,
+                    finished: true,
+                };
+            }
         }
     }
     unreachable!()
 }
 
-/// The shifts of both, whose parties become one.
+/// The jobs that were handed to all workers, worker by worker.
 ///
 /// # Errors
 ///
-/// There was no memory.
-fn both(queue: &Jobs, ours: Shift, theirs: Shift) -> Result<Shift, AllocError>
-    requires { IsPartyOf ours.party queue.now × IsPartyOf theirs.party queue.now }
-    ensures views { IsView ours.party.queue.cap ours.party.view × IsView theirs.party.queue.cap theirs.party.view }
-    ensures joined { IfOk result (λ shift. Joins ours.party theirs.party shift.party × (shift.handed.items ≡ ours.handed.items ++ theirs.handed.items)) }
+/// There was no memory, here or at one of them.
+fn gather(alloc: Global, hauls: Vec<Haul>) -> Result<Vec<u64>, AllocError>
+    ensures finished { IfOk result (λ all. All (λ haul. haul.finished ≡ true) hauls.items) }
+    ensures all { IfOk result (λ all. all.items ≡ all_handed hauls.items) }
 {
-    ours.party.show_view();
-    theirs.party.show_view();
-    let Shift { party, mut handed } = ours;
-    handed.extend_from_slice(&theirs.handed)?;
-    let party = queue.join(party, theirs.party);
-    Ok(Shift { party, handed })
+    let mut all = Vec::new(alloc);
+    for haul in hauls {
+        if !haul.finished {
+            return Err(AllocError);
+        }
+        all.extend_from_slice(&haul.handed)?;
+    }
+    Ok(all)
 }

@@ -1,6 +1,6 @@
 use Rattle.std.proofs.Common.{◌≡◌}
 use Rattle.use_work.specs.Work.{Took}
-use Rattle.use_work.proofs.work.Given as goal
+use Rattle.use_work.proofs.take_all.Given as goal
 
 -- the party is still the queue's, with its share, and the jobs that it took are noted
 abbrev pub invariant-loop : goal.invariant-loop
