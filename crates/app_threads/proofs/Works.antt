@@ -1,5 +1,5 @@
 -- What calls of a crew's threads come to, and two works that are joined.
-use Rattle.std.proofs.Common.{◌≡◌, ◌≢◌, ⊎_elim, ℕ, zero, suc, ◌+◌, ◌-◌, ◌*◌, ◌<◌, ◌≤◌, ◌^◌, ◌&&◌, Bool, true, false, Option, List, [], ◌∷◌, length, get_or, set, replicate, Err, refl, ap, sym, subst, ◌∙◌, arith, add-zero}
+use Rattle.std.proofs.Common.{◌≡◌, ◌≢◌, ⊎_elim, ℕ, zero, suc, ◌+◌, ◌*◌, ◌<◌, ◌≤◌, ◌^◌, ◌&&◌, Bool, true, false, Option, List, [], ◌∷◌, length, get_or, set, replicate, Err, refl, ap, sym, subst, ◌∙◌, arith, add-zero}
 use Rattle.std.proofs.Math.Nat.{add-mul, mul-le-mul_right}
 use Rattle.std.specs.List.{All, count_by}
 use Rattle.std.proofs.lemmas.Bool.{true≢false, false≢true}
@@ -196,16 +196,21 @@ either_false true true first second is = absurd (true≢false is)
 either_false true false first second is = second refl
 either_false false b first second is = first refl
 
--- the shares of the threads that are still to be started, and of those behind the first of them
-pub shares_left : (threads number share : ℕ) → number < threads → (threads - (number + 1)) * share + share ≡ (threads - number) * share
-shares_left threads number share lt =
-    let one_more : threads - (number + 1) + 1 ≡ threads - number = omega arith in
-    let apart : (threads - (number + 1) + 1) * share ≡ (threads - (number + 1)) * share + 1 * share = add-mul (threads - (number + 1)) 1 share in
-    let itself : 1 * share ≡ share = omega arith in
-    sym (ap (λ (n : ℕ). n * share) (sym one_more) ∙ (apart ∙ ap (λ (n : ℕ). (threads - (number + 1)) * share + n) itself))
+-- one piece of work more
+pub one_more : (made share : ℕ) → made * share + share ≡ (made + 1) * share
+one_more made share = let itself : 1 * share ≡ share = omega arith in sym (add-mul made 1 share ∙ ap (λ (n : ℕ). made * share + n) itself)
 
-pub shares_low : (threads number share : ℕ) → (threads - number) * share ≤ threads * share
-shares_low threads number share = mul-le-mul_right share (let le : threads - number ≤ threads = omega arith in le)
+-- so few pieces of work count no more than so many
+pub fewer : (made threads share : ℕ) → made ≤ threads → made * share ≤ threads * share
+fewer made threads share le = mul-le-mul_right share le
+
+pub fewer_work : (q : QueueId) (items low most : ℕ) (t : ℕ → ℕ) (s : Share) (work : Work) → low ≤ most → IsWorkOf q items low t s work → IsWorkOf q items most t s work
+fewer_work q items low most t s work le is = record {
+  queue = is.queue;
+  taken = is.taken;
+  few = All-weaker (λ count. count ≤ low) (λ count. count ≤ most) (λ count few. omega (arith, few, le)) work.counts.items is.few;
+  share = is.share;
+}
 
 -- one party of two took what they took
 pub takes_both : (q : QueueId) (a b w : Person ℕ) → a.queue ≡ q → b.queue ≡ q → IsView a.queue.cap a.view → IsView b.queue.cap b.view → Joins a b w → (x : ℕ) → takes x w.view ≡ takes x a.view + takes x b.view

@@ -1,23 +1,21 @@
 //! Threads that push and pop on one queue, each with a party of its own.
-ghost use Rattle.std.specs.Prelude.{◌≡◌, ◌<◌, ◌≤◌, ◌+◌, ◌-◌, ◌*◌, ◌^◌, ◌&&◌, [], ◌∷◌, false, length, replicate, IfOk, MatchBool, MatchOption};
+ghost use Rattle.std.specs.Prelude.{◌≡◌, ◌<◌, ◌+◌, ◌*◌, ◌^◌, ◌&&◌, [], ◌∷◌, ⊤, false, length, replicate, IfOk, MatchBool, MatchOption};
 ghost use Rattle.queue_steps.specs.declared.model.Effect.TheVariants as effect;
 ghost use Rattle.queue_steps.specs.Parties.{IsView};
-ghost use Rattle.concurrent_queue.specs.Shared.{IsPartyOf, Joins};
+ghost use Rattle.concurrent_queue.specs.Shared.{IsPartyOf, Joins, Parts};
 ghost use Rattle.app_threads.specs.Counts.{EachSumFits, AreSums};
 ghost use Rattle.law_parties.specs.Doings.{Acts};
 ghost use Rattle.app_threads.specs.Works.{IsWork, Quits};
-ghost use denote.Param.Send.{IsSync};
 
 use crate::counts::{add, count, none_counted};
 use crate::limit::Limit;
 use concurrent_queue::{ConcurrentQueue, Party, PopError, PushError};
 use crossbeam_utils::Backoff;
 use mem_blocks::null_testable::NullTestable;
+use queue_crew::crew::{Crew, Parting, run};
 use std::alloc::{AllocError, Allocator, Global};
-use std::snapshot::Snapshot;
 use std::sync::Wait;
-use std::thread;
-use std::thread::{Promise, Scope, Threads};
+use std::thread::Threads;
 
 /// The queue that the threads of the program share.
 pub type Queue = ConcurrentQueue<u64>;
@@ -42,16 +40,92 @@ pub struct Work {
     pub done: bool,
 }
 
-/// A thread gives back its party of this queue, and counts what that took: of each of so many values no more than so many.
+/// What the calling thread keeps: a party, and a count for each value.
 #[derive(Drop)]
-struct Returns<'a, A: Allocator> {
+struct Hand {
+    party: Party<u64>,
+    counts: Vec<u64>,
+}
+
+/// Threads that push and pop as a plan says. Each gives back its party, and counts what that took: of each value no more than the plan's share.
+#[derive(Drop)]
+struct Counting<'a, A: Allocator> {
     queue: &'a ConcurrentQueue<u64, A>,
-    given: Snapshot<Party<u64>>,
+    alloc: Global,
     plan: Plan,
 }
 
-impl<'a, A: Allocator> Promise<Work> for Returns<'a, A> {
-    ghost kept_by = { λ p work. IsWork p.queue.now p.plan.items p.plan.share p.given.value work };
+impl<'a, A: NullTestable + Send + Sync> Crew for Counting<'a, A> {
+    type Kept = Hand;
+
+    type Given = Party<u64>;
+
+    type Back = Work;
+
+    type All = Work;
+
+    ghost can_part = { λ c k. IsPartyOf k.party c.queue.now × (k.counts.items ≡ replicate c.plan.items 0) };
+
+    ghost can_work = { λ c g. IsPartyOf g c.queue.now };
+
+    ghost fits = { λ c n. n * c.plan.share < 2 ^ 64 };
+
+    ghost parted = { λ c w k g. IsView w.party.queue.cap w.party.view × Parts w.party k.party g };
+
+    ghost worked = { λ c n g work. IsWork c.queue.now c.plan.items c.plan.share g work };
+
+    ghost came = { λ c n started made k work. IsWork c.queue.now c.plan.items (made * c.plan.share) k.party work × (length work.counts.items ≡ c.plan.items) };
+
+    ghost is_least = { λ c k. ⊤ };
+
+    fn part(&self, number: u64, kept: Hand) -> Result<(Hand, Party<u64>), Work> {
+        let Hand { party, counts } = kept;
+        party.show_view();
+        match self.queue.split(party) {
+            Ok((party, given)) => Ok((Hand { party, counts }, given)),
+            Err(party) => Err(self.end(number, Hand { party, counts }, false)),
+        }
+    }
+
+    /// The pushers come first.
+    fn work<R: Wait>(&self, rt: &R, number: u64, given: Party<u64>) -> Work {
+        if number < self.plan.pushers {
+            push_all(rt, self.alloc, self.queue, given, self.plan)
+        } else {
+            pop_all(rt, self.alloc, self.queue, given, self.plan)
+        }
+    }
+
+    /// Closes the queue where not all threads were started, so that the others end.
+    fn end(&self, _number: u64, kept: Hand, all_started: bool) -> Work {
+        let Hand { party, counts } = kept;
+        if !all_started {
+            return give_up(self.queue, party, counts);
+        }
+        Work {
+            party,
+            counts,
+            done: true,
+        }
+    }
+
+    fn join(
+        &self,
+        _number: u64,
+        _all_started: bool,
+        made: u64,
+        parting: Parting<Hand, Party<u64>>,
+        all: Work,
+        back: Work,
+    ) -> Work
+        requires parted { IsView parting.whole.value.party.queue.cap parting.whole.value.party.view × Parts parting.whole.value.party parting.kept.value.party parting.given.value }
+        requires came { IsWork self.now.queue.now self.now.plan.items (made * self.now.plan.share) parting.kept.value.party all × (length all.counts.items ≡ self.now.plan.items) }
+        requires worked { IsWork self.now.queue.now self.now.plan.items self.now.plan.share parting.given.value back }
+        requires fits { (made + 1) * self.now.plan.share < 2 ^ 64 }
+        ensures { IsWork self.now.queue.now self.now.plan.items ((made + 1) * self.now.plan.share) parting.whole.value.party result × (length result.counts.items ≡ self.now.plan.items) }
+    {
+        both(self.queue, all, back)
+    }
 }
 
 /// Runs all threads of a plan, joins them, and adds up what they counted.
@@ -74,71 +148,10 @@ pub fn run_all<R: Threads + Wait + Sync, A: NullTestable + Send + Sync>(
     ensures { IfOk result (λ work. IsWork queue.now plan.items ((plan.pushers + plan.poppers) * plan.share) party work × (length work.counts.items ≡ plan.items)) }
 {
     let counts = none_counted(alloc, plan.items)?;
-    Ok(thread::scope(
-        thread::scope_env(),
-        rt,
-        |scope| -> Work
-            requires { IsSync R.row × IsPartyOf party queue.now
-                × ((plan.pushers + plan.poppers) * plan.share < 2 ^ 64) × (plan.pushers + plan.poppers < 2 ^ 64)
-                × (counts.items ≡ replicate plan.items 0) }
-            ensures { IsWork queue.entry.now plan.items ((plan.pushers + plan.poppers) * plan.share) party result × (length result.counts.items ≡ plan.items) }
-        { start_from(rt, alloc, scope, queue, party, counts, plan, 0) },
-    ))
-}
-
-/// Runs the threads of a plan from this number on, joins them, and adds up what they counted.
-fn start_from<'s, E, R: Threads + Wait + Sync, A: NullTestable + Send + Sync>(
-    rt: &'s R,
-    alloc: Global,
-    scope: &Scope<'s, E>,
-    queue: &'s ConcurrentQueue<u64, A>,
-    party: Party<u64>,
-    counts: Vec<u64>,
-    plan: Plan,
-    number: u64,
-) -> Work
-    requires of { IsPartyOf party queue.now }
-    requires few { (plan.pushers + plan.poppers) * plan.share < 2 ^ 64 }
-    requires threads { plan.pushers + plan.poppers < 2 ^ 64 }
-    requires so_far { number ≤ plan.pushers + plan.poppers }
-    requires none { counts.items ≡ replicate plan.items 0 }
-    ensures work { IsWork queue.now plan.items ((plan.pushers + plan.poppers - number) * plan.share) party result }
-    ensures all { length result.counts.items ≡ plan.items }
-{
-    if number == plan.pushers + plan.poppers {
-        return Work {
-            party,
-            counts,
-            done: true,
-        };
-    }
-    party.show_view();
-    match queue.split(party) {
-        Err(party) => give_up(queue, party, counts),
-        Ok((party, theirs)) => {
-            let promise = Returns {
-                queue,
-                given: Snapshot::of(&theirs),
-                plan,
-            };
-            let started = plan.limit.start(
-                number,
-                scope,
-                promise,
-                move || -> Work
-                    requires { IsSync R.row × IsPartyOf theirs queue.now }
-                    ensures { IsWork queue.entry.now plan.items plan.share theirs result }
-                { act(rt, alloc, queue, theirs, plan, number) },
-            );
-            match started {
-                Err(_) => give_up(queue, party, counts),
-                Ok(handle) => {
-                    let ours = start_from(rt, alloc, scope, queue, party, counts, plan, number + 1);
-                    both(queue, ours, handle.join(rt))
-                }
-            }
-        }
-    }
+    let crew = Counting { queue, alloc, plan };
+    let threads = plan.pushers + plan.poppers;
+    let ran = run(rt, &crew, Hand { party, counts }, threads, plan.limit);
+    Ok(ran.all)
 }
 
 /// Closes the queue, so that whoever works on it ends.
@@ -189,25 +202,6 @@ fn both<A: Allocator>(queue: &ConcurrentQueue<u64, A>, ours: Work, theirs: Work)
         party: queue.join(party, theirs.party),
         counts,
         done: done && theirs.done,
-    }
-}
-
-/// Does what the thread of this number has to do: the pushers come first.
-fn act<R: Wait, A: NullTestable>(
-    rt: &R,
-    alloc: Global,
-    queue: &ConcurrentQueue<u64, A>,
-    party: Party<u64>,
-    plan: Plan,
-    number: u64,
-) -> Work
-    requires { IsPartyOf party queue.now }
-    ensures { IsWork queue.now plan.items plan.share party result }
-{
-    if number < plan.pushers {
-        push_all(rt, alloc, queue, party, plan)
-    } else {
-        pop_all(rt, alloc, queue, party, plan)
     }
 }
 

@@ -1,5 +1,5 @@
 //! Threads that send and receive through one channel, each with an end of its own.
-ghost use Rattle.std.specs.Prelude.{◌≡◌, ℕ, ◌<◌, ◌≤◌, ◌+◌, ◌-◌, ◌*◌, ◌^◌, ◌&&◌, [], true, false, length, replicate, IfOk, MatchResult};
+ghost use Rattle.std.specs.Prelude.{◌≡◌, ℕ, ◌<◌, ◌+◌, ◌*◌, ◌^◌, ◌&&◌, [], ⊤, true, false, length, replicate, IfOk, MatchResult};
 ghost use Rattle.queue_steps.specs.Parties.{IsView};
 ghost use Rattle.concurrent_queue.specs.Shared.{IsPartyOf, Joins};
 ghost use Rattle.counted_channel.specs.Channel.{IsEndOf};
@@ -7,19 +7,17 @@ ghost use Rattle.law_parties.specs.Doings.{takes};
 ghost use Rattle.app_threads.specs.Counts.{EachSumFits, AreSums};
 ghost use Rattle.app_threads.specs.Works.{IsWorkOf, IsTaskOf, IsTaskDone, PartsTask, TakesNothing, TookNothing, ends_share, ends_taken};
 ghost use Rattle.app_threads.specs.declared.ends.Task.TheVariants as task;
-ghost use denote.Param.Send.{IsSync};
 
 use crate::counts::{add, count, none_counted};
 use crate::crew::{Plan, Work};
 use concurrent_queue::Party;
 use counted_channel::{Channel, Receiver, Sender};
 use mem_blocks::null_testable::NullTestable;
+use queue_crew::crew::{Crew, Parting, run};
 use std::alloc::{AllocError, Allocator, Global};
-use std::snapshot::Snapshot;
 use std::sync::Wait;
 use std::sync::atomic::{AtomicBool, Ordering};
-use std::thread;
-use std::thread::{Promise, PromisedHandle, Scope, Threads};
+use std::thread::Threads;
 
 /// What a thread has to do, with the end that it does it by.
 #[derive(Drop)]
@@ -30,16 +28,113 @@ enum Task {
     Receive(Receiver<u64>),
 }
 
-/// A thread gives back the party of its end of this channel, and counts what that took: of each of so many values no more than so many.
+/// What the calling thread keeps: an end of each side, and a count for each value.
 #[derive(Drop)]
-struct Returns<'a, A: Allocator> {
-    channel: &'a Channel<u64, A>,
-    given: Snapshot<Task>,
-    plan: Plan,
+struct Ends {
+    sender: Sender<u64>,
+    receiver: Receiver<u64>,
+    counts: Vec<u64>,
 }
 
-impl<'a, A: Allocator> Promise<Work> for Returns<'a, A> {
-    ghost kept_by = { λ p work. IsTaskDone p.channel.now p.plan.items p.plan.share p.given.value work };
+/// Threads that send and receive as a plan says. Each gives back the party of its end, and counts what that took: of each value no more than the plan's share.
+#[derive(Drop)]
+struct Passing<'a, A: Allocator> {
+    channel: &'a Channel<u64, A>,
+    alloc: Global,
+    plan: Plan,
+    /// Whether not all threads could be started. Who begins then ends at once.
+    gives_up: AtomicBool,
+}
+
+impl<'a, A: NullTestable + Send + Sync> Crew for Passing<'a, A> {
+    type Kept = Ends;
+
+    type Given = Task;
+
+    type Back = Work;
+
+    type All = Work;
+
+    ghost can_part = { λ c k. IsEndOf k.sender c.channel.now × IsEndOf k.receiver c.channel.now × (k.counts.items ≡ replicate c.plan.items 0) };
+
+    ghost can_work = { λ c g. IsTaskOf g c.channel.now };
+
+    ghost fits = { λ c n. n * c.plan.share < 2 ^ 64 };
+
+    ghost parted = { λ c w k g. PartsTask w.sender w.receiver k.sender k.receiver g };
+
+    ghost worked = { λ c n g work. IsTaskDone c.channel.now c.plan.items c.plan.share g work };
+
+    ghost came = { λ c n started made k work. IsWorkOf c.channel.now.queue c.plan.items (made * c.plan.share) (ends_taken k.sender k.receiver) (ends_share k.sender k.receiver) work
+        × (length work.counts.items ≡ c.plan.items) };
+
+    ghost is_least = { λ c k. ⊤ };
+
+    fn part(&self, number: u64, kept: Ends) -> Result<(Ends, Task), Work> {
+        let Ends {
+            sender,
+            receiver,
+            counts,
+        } = kept;
+        match part(self.channel, sender, receiver, self.plan, number) {
+            Err((sender, receiver)) => {
+                Err(end_both(self.channel, sender, receiver, counts, false))
+            }
+            Ok((sender, receiver, task)) => {
+                let kept = Ends {
+                    sender,
+                    receiver,
+                    counts,
+                };
+                Ok((kept, task))
+            }
+        }
+    }
+
+    /// Does what the task says, or nothing where the crew gives up. Ends the end in any case.
+    fn work<R: Wait>(&self, rt: &R, _number: u64, given: Task) -> Work {
+        if self.gives_up.load(Ordering::SeqCst) {
+            return end_at_once(self.alloc, self.channel, given, self.plan);
+        }
+        match given {
+            Task::Send(sender) => send_all(rt, self.alloc, self.channel, sender, self.plan),
+            Task::Receive(receiver) => {
+                receive_all(rt, self.alloc, self.channel, receiver, self.plan)
+            }
+        }
+    }
+
+    fn end(&self, _number: u64, kept: Ends, all_started: bool) -> Work {
+        let Ends {
+            sender,
+            receiver,
+            counts,
+        } = kept;
+        if !all_started {
+            self.gives_up.store(true, Ordering::SeqCst);
+        }
+        end_both(self.channel, sender, receiver, counts, all_started)
+    }
+
+    fn join(
+        &self,
+        _number: u64,
+        _all_started: bool,
+        made: u64,
+        parting: Parting<Ends, Task>,
+        all: Work,
+        back: Work,
+    ) -> Work
+        requires parted { PartsTask parting.whole.value.sender parting.whole.value.receiver parting.kept.value.sender parting.kept.value.receiver parting.given.value }
+        requires came { IsWorkOf self.now.channel.now.queue self.now.plan.items (made * self.now.plan.share) (ends_taken parting.kept.value.sender parting.kept.value.receiver)
+            (ends_share parting.kept.value.sender parting.kept.value.receiver) all × (length all.counts.items ≡ self.now.plan.items) }
+        requires worked { IsTaskDone self.now.channel.now self.now.plan.items self.now.plan.share parting.given.value back }
+        requires fits { (made + 1) * self.now.plan.share < 2 ^ 64 }
+        ensures { IsWorkOf self.now.channel.now.queue self.now.plan.items ((made + 1) * self.now.plan.share) (ends_taken parting.whole.value.sender parting.whole.value.receiver)
+            (ends_share parting.whole.value.sender parting.whole.value.receiver) result × (length result.counts.items ≡ self.now.plan.items) }
+    {
+        both(self.channel, all, back)
+    }
 }
 
 /// Runs all threads of a plan, joins them, and adds up what they counted. Each receives no more often than its share, which is to be one more than is sent.
@@ -64,113 +159,19 @@ pub fn run_all<R: Threads + Wait + Sync, A: NullTestable + Send + Sync>(
         × (length work.counts.items ≡ plan.items)) }
 {
     let counts = none_counted(alloc, plan.items)?;
-    let gives_up = AtomicBool::new(false);
-    Ok(thread::scope(
-        thread::scope_env(),
-        rt,
-        |scope| -> Work
-            requires { IsSync R.row × IsEndOf sender channel.now × IsEndOf receiver channel.now
-                × ((plan.pushers + plan.poppers) * plan.share < 2 ^ 64) × (plan.pushers + plan.poppers < 2 ^ 64)
-                × (counts.items ≡ replicate plan.items 0) }
-            ensures { IsWorkOf channel.entry.now.queue plan.items ((plan.pushers + plan.poppers) * plan.share) (ends_taken sender receiver) (ends_share sender receiver) result
-                × (length result.counts.items ≡ plan.items) }
-        {
-            start_from(
-                rt, alloc, scope, channel, &gives_up, sender, receiver, counts, plan, 0,
-            )
-        },
-    ))
-}
-
-/// Runs the threads of a plan from this number on, joins them, and adds up what they counted. Both ends are ended once all are started.
-fn start_from<'s, E, R: Threads + Wait + Sync, A: NullTestable + Send + Sync>(
-    rt: &'s R,
-    alloc: Global,
-    scope: &Scope<'s, E>,
-    channel: &'s Channel<u64, A>,
-    gives_up: &'s AtomicBool,
-    sender: Sender<u64>,
-    receiver: Receiver<u64>,
-    counts: Vec<u64>,
-    plan: Plan,
-    number: u64,
-) -> Work
-    requires of { IsEndOf sender channel.now × IsEndOf receiver channel.now }
-    requires few { (plan.pushers + plan.poppers) * plan.share < 2 ^ 64 }
-    requires threads { plan.pushers + plan.poppers < 2 ^ 64 }
-    requires so_far { number ≤ plan.pushers + plan.poppers }
-    requires none { counts.items ≡ replicate plan.items 0 }
-    ensures work { IsWorkOf channel.now.queue plan.items ((plan.pushers + plan.poppers - number) * plan.share) (ends_taken sender receiver) (ends_share sender receiver) result }
-    ensures all { length result.counts.items ≡ plan.items }
-{
-    if number == plan.pushers + plan.poppers {
-        return end_both(channel, sender, receiver, counts, true);
-    }
-    match part(channel, sender, receiver, plan, number) {
-        Err((sender, receiver)) => end_both(channel, sender, receiver, counts, false),
-        Ok((sender, receiver, task)) => {
-            match start_one(rt, alloc, scope, channel, gives_up, task, plan, number) {
-                Err(theirs) => {
-                    let ours = end_both(channel, sender, receiver, counts, false);
-                    both(channel, ours, theirs)
-                }
-                Ok(handle) => {
-                    let ours = start_from(
-                        rt,
-                        alloc,
-                        scope,
-                        channel,
-                        gives_up,
-                        sender,
-                        receiver,
-                        counts,
-                        plan,
-                        number + 1,
-                    );
-                    both(channel, ours, handle.join(rt))
-                }
-            }
-        }
-    }
-}
-
-/// Starts the thread of this number with this task. Where none can be started the crew gives up, and the task's end is ended at once.
-fn start_one<'s, E, R: Threads + Wait + Sync, A: NullTestable + Send + Sync>(
-    rt: &'s R,
-    alloc: Global,
-    scope: &Scope<'s, E>,
-    channel: &'s Channel<u64, A>,
-    gives_up: &'s AtomicBool,
-    task: Task,
-    plan: Plan,
-    number: u64,
-) -> Result<PromisedHandle<Work, Returns<'s, A>>, Work>
-    requires { IsTaskOf task channel.now }
-    ensures { MatchResult result
-        (λ handle. (handle.promise.channel.now ≡ channel.now) × (handle.promise.given.value ≡ task) × (handle.promise.plan ≡ plan))
-        (IsTaskDone channel.now plan.items plan.share task) }
-{
-    let promise = Returns {
+    let crew = Passing {
         channel,
-        given: Snapshot::of(&task),
+        alloc,
         plan,
+        gives_up: AtomicBool::new(false),
     };
-    let started = plan.limit.start(
-        number,
-        scope,
-        promise,
-        move || -> Work
-            requires { IsSync R.row × IsTaskOf task channel.now }
-            ensures { IsTaskDone channel.entry.now plan.items plan.share task result }
-        { act(rt, alloc, channel, gives_up, task, plan) },
-    );
-    match started {
-        Ok(handle) => Ok(handle),
-        Err(refused) => {
-            gives_up.store(true, Ordering::SeqCst);
-            Err((refused.value)())
-        }
-    }
+    let ends = Ends {
+        sender,
+        receiver,
+        counts,
+    };
+    let ran = run(rt, &crew, ends, plan.pushers + plan.poppers, plan.limit);
+    Ok(ran.all)
 }
 
 /// Parts the end of the side that the thread of this number belongs to: the senders come first. Gives both ends back where that has too many.
@@ -268,27 +269,6 @@ fn both<A: Allocator>(channel: &Channel<u64, A>, ours: Work, theirs: Work) -> Wo
         party: channel.join(party, theirs.party),
         counts,
         done: done && theirs.done,
-    }
-}
-
-/// Does what the task says, or nothing where the crew gives up. Ends the end in any case.
-fn act<R: Wait, A: NullTestable>(
-    rt: &R,
-    alloc: Global,
-    channel: &Channel<u64, A>,
-    gives_up: &AtomicBool,
-    task: Task,
-    plan: Plan,
-) -> Work
-    requires { IsTaskOf task channel.now }
-    ensures { IsTaskDone channel.now plan.items plan.share task result }
-{
-    if gives_up.load(Ordering::SeqCst) {
-        return end_at_once(alloc, channel, task, plan);
-    }
-    match task {
-        Task::Send(sender) => send_all(rt, alloc, channel, sender, plan),
-        Task::Receive(receiver) => receive_all(rt, alloc, channel, receiver, plan),
     }
 }
 
