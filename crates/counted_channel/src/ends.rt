@@ -8,6 +8,7 @@ ghost use Rattle.concurrent_queue.specs.Shared.{Calls, IsPartyOf, Joins, Finishe
 ghost use Rattle.counted_channel.specs.Channel.{IsEndOf, ChannelCall, EndParts, EndJoins, Ends, GivenBack, sent, force_sent, received};
 
 use crate::counting::{Counts, RECEIVERS, SENDERS};
+use crate::either::ChannelEnd;
 use crate::errors::{Disconnected, SendError};
 use crate::sides::{SideEnd, end_one, join_ends, split_end};
 use crate::tries::{pop_until, push_until};
@@ -224,14 +225,6 @@ impl<T, A: Allocator> Channel<T, A> {
         }
     }
 
-    /// Whether the queue is closed, so that nothing can be sent any more: the last end of either side has ended.
-    pub fn is_closed(&self, sender: &mut Sender<T>) -> bool
-        requires { IsEndOf sender.old self.now }
-        ensures { ChannelCall sender.old call.IsClosed (reply.IsClosed result) sender.new }
-    {
-        self.queue.is_closed(&mut sender.end.party)
-    }
-
     /// Takes the front off. It waits while the queue is open and empty: it gives way a few times, and then sleeps.
     ///
     /// # Errors
@@ -256,12 +249,29 @@ impl<T, A: Allocator> Channel<T, A> {
         pop(&self.queue, &self.awaited, rt, &mut receiver.end.party)
     }
 
-    /// How many items were sent and not received, at a moment of the call.
-    pub fn len<R: Wait>(&self, rt: &R, receiver: &mut Receiver<T>) -> usize
-        requires { IsEndOf receiver.old self.now }
-        ensures { ChannelCall receiver.old call.Len (reply.Len result) receiver.new }
+    /// Closes the channel, by an end of either side, and returns whether it was open. Nothing can be sent from then on; what was sent is received. Every end that
+    /// sleeps is woken. The end is still to be ended.
+    pub fn close<E: ChannelEnd<T>>(&self, end: &mut E) -> bool
+        requires { IsEndOf (E.end end.old) self.now }
+        ensures { ChannelCall (E.end end.old) call.Close (reply.Close result) (E.end end.new) }
     {
-        self.queue.len(rt, &mut receiver.end.party)
+        end.close_queue(&self.queue, &self.awaited)
+    }
+
+    /// Whether the queue is closed, so that nothing can be sent any more: an end has closed it, or the last one of either side has ended.
+    pub fn is_closed<E: ChannelEnd<T>>(&self, end: &mut E) -> bool
+        requires { IsEndOf (E.end end.old) self.now }
+        ensures { ChannelCall (E.end end.old) call.IsClosed (reply.IsClosed result) (E.end end.new) }
+    {
+        end.sees_closed(&self.queue)
+    }
+
+    /// How many items were sent and not received, at a moment of the call.
+    pub fn len<E: ChannelEnd<T>, R: Wait>(&self, rt: &R, end: &mut E) -> usize
+        requires { IsEndOf (E.end end.old) self.now }
+        ensures { ChannelCall (E.end end.old) call.Len (reply.Len result) (E.end end.new) }
+    {
+        end.count_items(&self.queue, rt)
     }
 
     /// How many items the channel has room for, in items; nothing where it has no limit.

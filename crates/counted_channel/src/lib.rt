@@ -2,16 +2,18 @@
 #![tactic(auto)]
 
 mod counting;
+mod either;
 mod ends;
 mod errors;
 mod items;
 mod opening;
 mod sides;
-mod tries;
-mod waiting;
-mod waking;
+pub mod tries;
+pub mod waiting;
+pub mod waking;
 
 pub use counting::MAX_ENDS;
+pub use either::ChannelEnd;
 pub use ends::{Channel, Receiver, Sender};
 pub use errors::{Disconnected, SendError};
 pub use items::Items;

@@ -15,7 +15,7 @@ use std::sync::Wait;
 /// # Errors
 ///
 /// `Closed` with the value on a closed queue, `NoMemory` with the value where a block was asked for and refused.
-pub(crate) fn push_until<T, A: NullTestable, R: Wait>(
+pub fn push_until<T, A: NullTestable, R: Wait>(
     queue: &ConcurrentQueue<T, A>,
     awaited: &Awaited,
     rt: &R,
@@ -65,7 +65,7 @@ fn push_once<T, A: NullTestable, R: Wait>(
 /// # Errors
 ///
 /// On a closed and empty queue.
-pub(crate) fn pop_until<T, A: Allocator, R: Wait>(
+pub fn pop_until<T, A: Allocator, R: Wait>(
     queue: &ConcurrentQueue<T, A>,
     awaited: &Awaited,
     rt: &R,

@@ -5,13 +5,13 @@ use std::sync::Wait;
 
 /// What the ends of a channel wait for: receivers for items, senders for room.
 #[derive(Drop)]
-pub(crate) struct Awaited {
+pub struct Awaited {
     pub(crate) items: EventCount,
     pub(crate) room: EventCount,
 }
 
 impl Awaited {
-    pub(crate) fn new() -> Awaited {
+    pub fn new() -> Awaited {
         Awaited {
             items: EventCount::new(),
             room: EventCount::new(),

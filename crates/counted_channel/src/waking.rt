@@ -9,7 +9,7 @@ use std::alloc::Allocator;
 use std::sync::Wait;
 
 /// Pushes. One that is answered `Closed` may have closed the queue.
-pub(crate) fn push<T, A: NullTestable, R: Wait>(
+pub fn push<T, A: NullTestable, R: Wait>(
     queue: &ConcurrentQueue<T, A>,
     awaited: &Awaited,
     rt: &R,
@@ -29,7 +29,7 @@ pub(crate) fn push<T, A: NullTestable, R: Wait>(
 }
 
 /// Pushes, by force. One that is answered `Closed` may have closed the queue.
-pub(crate) fn force_push<T, A: NullTestable, R: Wait>(
+pub fn force_push<T, A: NullTestable, R: Wait>(
     queue: &ConcurrentQueue<T, A>,
     awaited: &Awaited,
     rt: &R,
@@ -49,7 +49,7 @@ pub(crate) fn force_push<T, A: NullTestable, R: Wait>(
 }
 
 /// Pops. Nobody waits for room where the queue has no limit.
-pub(crate) fn pop<T, A: Allocator, R: Wait>(
+pub fn pop<T, A: Allocator, R: Wait>(
     queue: &ConcurrentQueue<T, A>,
     awaited: &Awaited,
     rt: &R,
@@ -66,7 +66,7 @@ pub(crate) fn pop<T, A: Allocator, R: Wait>(
 }
 
 /// Closes the queue, and returns whether it was open.
-pub(crate) fn close<T, A: Allocator>(
+pub fn close<T, A: Allocator>(
     queue: &ConcurrentQueue<T, A>,
     awaited: &Awaited,
     party: &mut Party<T>,

@@ -3,4 +3,5 @@ pub mod many_ends;
 pub mod memory;
 pub mod opening;
 pub mod rows;
+pub mod stories;
 pub mod threads;
