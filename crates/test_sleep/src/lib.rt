@@ -4,7 +4,11 @@
 #[cfg(test)]
 mod asleep;
 #[cfg(test)]
+mod closing;
+#[cfg(test)]
 mod idle;
+#[cfg(test)]
+mod limit;
 #[cfg(test)]
 mod opening;
 #[cfg(test)]

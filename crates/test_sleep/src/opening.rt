@@ -15,8 +15,8 @@ pub(crate) type Sent = Result<(), SendError<u64>>;
 /// What a receiver is answered.
 pub(crate) type Came = Result<u64, Disconnected>;
 
-/// A queue of this capacity, or without one.
-fn queue(
+/// A queue of this capacity, or without one, and its party.
+pub(crate) fn queue(
     alloc: Global,
     cap: Option<usize>,
 ) -> Result<(ConcurrentQueue<u64>, Party<u64>), AllocError>

@@ -12,7 +12,7 @@ use std::sync::Wait;
 use std::thread::{Threads, join};
 
 /// What an end sends, or is to send.
-const ITEM: u64 = 7;
+pub(crate) const ITEM: u64 = 7;
 
 /// How an item comes.
 #[derive(Clone, Copy, Debug)]
@@ -29,8 +29,17 @@ enum Takes {
     Trying,
 }
 
+/// How a channel is closed by an end that is the only one of its side.
+#[derive(Clone, Copy, Debug)]
+enum Closes {
+    /// The end closes, and stays.
+    Staying,
+    /// The end ends.
+    Ending,
+}
+
 /// Receives once, and is looked at.
-fn receive<R: Wait + Abort>(
+pub(crate) fn receive<R: Wait + Abort>(
     rt: &R,
     host: &HostRuntime,
     channel: &Channel<u64>,
@@ -46,7 +55,7 @@ fn receive<R: Wait + Abort>(
 }
 
 /// Sends once, and is looked at.
-fn send<R: Wait + Abort>(
+pub(crate) fn send<R: Wait + Abort>(
     rt: &R,
     host: &HostRuntime,
     channel: &Channel<u64>,
@@ -62,7 +71,7 @@ fn send<R: Wait + Abort>(
 }
 
 /// Whether a thread is seen asleep.
-fn is_asleep<R: Abort>(rt: &R, host: &HostRuntime, watched: &Watched) -> bool {
+pub(crate) fn is_asleep<R: Abort>(rt: &R, host: &HostRuntime, watched: &Watched) -> bool {
     watched
         .is_seen_asleep(host)
         .expect(rt, "the thread's state")
@@ -152,41 +161,52 @@ fn are_asleep<R: Abort>(rt: &R, host: &HostRuntime, first: &Watched, second: &Wa
     is_asleep(rt, host, first) && is_asleep(rt, host, second)
 }
 
-/// Ends a sender, once two receivers are seen asleep. Gives whether they were, and it was the last.
-fn wake_by_last_sender<R: Abort>(
+/// Closes by the only sender, once two receivers are seen asleep. Gives whether they were, and the channel was open.
+fn wake_by_sender<R: Abort>(
     rt: &R,
     host: &HostRuntime,
     channel: &Channel<u64>,
-    sender: Sender<u64>,
+    mut sender: Sender<u64>,
+    how: Closes,
     first: &Watched,
     second: &Watched,
 ) -> bool
     requires { IsEndOf sender channel.now }
 {
     let asleep = are_asleep(rt, host, first, second);
-    channel.end_sender(sender).1 && asleep
+    let closed = match how {
+        Closes::Staying => channel.close(&mut sender),
+        Closes::Ending => channel.end_sender(sender).1,
+    };
+    closed && asleep
 }
 
-/// Ends a receiver, once two senders are seen asleep. Gives whether they were, and it was the last.
-fn wake_by_last_receiver<R: Abort>(
+/// Closes by the only receiver, once two senders are seen asleep. Gives whether they were, and the channel was open.
+fn wake_by_receiver<R: Abort>(
     rt: &R,
     host: &HostRuntime,
     channel: &Channel<u64>,
-    receiver: Receiver<u64>,
+    mut receiver: Receiver<u64>,
+    how: Closes,
     first: &Watched,
     second: &Watched,
 ) -> bool
     requires { IsEndOf receiver channel.now }
 {
     let asleep = are_asleep(rt, host, first, second);
-    channel.end_receiver(receiver).1 && asleep
+    let closed = match how {
+        Closes::Staying => channel.close(&mut receiver),
+        Closes::Ending => channel.end_receiver(receiver).1,
+    };
+    closed && asleep
 }
 
-/// What two receivers are answered that the last sender wakes, and whether both were seen asleep before.
-fn woken_by_last_sender<R: Threads + Wait + Abort + Sync>(
+/// What two receivers are answered that the only sender wakes, and whether both were seen asleep before.
+fn woken_by_sender<R: Threads + Wait + Abort + Sync>(
     rt: &R,
     host: &HostRuntime,
     alloc: Global,
+    how: Closes,
 ) -> (Came, Came, bool) {
     let (channel, sender, receiver) = empty(rt, alloc, Some(1));
     let Ok((one, two)) = channel.split_receiver(receiver) else {
@@ -202,18 +222,19 @@ fn woken_by_last_sender<R: Threads + Wait + Abort + Sync>(
             join(
                 rt,
                 || receive(rt, host, &channel, two, &second),
-                || wake_by_last_sender(rt, host, &channel, sender, &first, &second),
+                || wake_by_sender(rt, host, &channel, sender, how, &first, &second),
             )
         },
     );
     (came, also, asleep)
 }
 
-/// What two senders are answered that the last receiver wakes, and whether both were seen asleep before.
-fn woken_by_last_receiver<R: Threads + Wait + Abort + Sync>(
+/// What two senders are answered that the only receiver wakes, and whether both were seen asleep before.
+fn woken_by_receiver<R: Threads + Wait + Abort + Sync>(
     rt: &R,
     host: &HostRuntime,
     alloc: Global,
+    how: Closes,
 ) -> (Sent, Sent, bool) {
     let (channel, sender, receiver) = full(rt, alloc, 2);
     let Ok((one, two)) = channel.split_sender(sender) else {
@@ -229,7 +250,7 @@ fn woken_by_last_receiver<R: Threads + Wait + Abort + Sync>(
             join(
                 rt,
                 || send(rt, host, &channel, two, &second),
-                || wake_by_last_receiver(rt, host, &channel, receiver, &first, &second),
+                || wake_by_receiver(rt, host, &channel, receiver, how, &first, &second),
             )
         },
     );
@@ -258,13 +279,26 @@ fn room_wakes_a_sender(rt: HostRuntime) {
 
 #[test]
 fn the_last_sender_wakes_each_receiver(rt: HostRuntime) {
-    let found = woken_by_last_sender(&rt, &rt, rt.alloc());
+    let found = woken_by_sender(&rt, &rt, rt.alloc(), Closes::Ending);
+    assert_eq!(rt; found, (Err(Disconnected), Err(Disconnected), true));
+}
+
+#[test]
+fn a_sender_that_closes_wakes_each_receiver(rt: HostRuntime) {
+    let found = woken_by_sender(&rt, &rt, rt.alloc(), Closes::Staying);
     assert_eq!(rt; found, (Err(Disconnected), Err(Disconnected), true));
 }
 
 #[test]
 fn the_last_receiver_wakes_each_sender(rt: HostRuntime) {
     let closed = Err(SendError::Closed(ITEM));
-    let found = woken_by_last_receiver(&rt, &rt, rt.alloc());
+    let found = woken_by_receiver(&rt, &rt, rt.alloc(), Closes::Ending);
+    assert_eq!(rt; found, (closed, closed, true));
+}
+
+#[test]
+fn a_receiver_that_closes_wakes_each_sender(rt: HostRuntime) {
+    let closed = Err(SendError::Closed(ITEM));
+    let found = woken_by_receiver(&rt, &rt, rt.alloc(), Closes::Staying);
     assert_eq!(rt; found, (closed, closed, true));
 }
