@@ -16,6 +16,9 @@ use Rattle.queue_steps.proofs.Keeping.{stays_closed}
 use Rattle.concurrent_queue.specs.Shared.{Person, Calls}
 use Rattle.law_parties.specs.Doings.{passes, done_by, Acts}
 
+pub single : {X : Type 0} (test : X → Bool) (e : X) → count_by test (e ∷ []) ≡ cond (test e) 1 0
+single test e = let one = sum_by-cons (λ f. cond (test f) 1 0) e [] in omega (arith, one)
+
 module _ {T : Type 0} where
   -- what stands in a history stands in a longer one
   at_longer : (s d : List (Effect T)) (p : ℕ) → p < length s → get_elem? (s ++ d) p ≡ get_elem? s p

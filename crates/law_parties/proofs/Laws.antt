@@ -1,16 +1,17 @@
 -- The laws of what parties did.
-use Rattle.std.proofs.Common.{◌≡◌, ℕ, Bool, true, Option, List, [], refl, ap, sym, subst, ◌∙◌, add-zero}
+use Rattle.std.proofs.Common.{◌≡◌, ℕ, true, Option, List, [], refl, ap, sym, subst, ◌∙◌, add-zero}
 use Rattle.queue_steps.specs.declared.model.Effect.{Effect}
-use Rattle.queue_steps.specs.Effect.{IsHistory, after}
+use Rattle.queue_steps.specs.Effect.{after}
 use Rattle.queue_steps.specs.Parties.{View, IsView}
 use mathlib.Core.List.{IsPrefix}
 use Rattle.std.specs.List.{count_by}
 use lib.ListN.{get_elem?}
 use Rattle.concurrent_queue.specs.Shared.{QueueId}
 use Rattle.law_parties.specs.Doings.{passes, done_by, Did}
-use Rattle.law_parties.specs.Laws.{CallsAct, ClosedStaysSeen, DoingsAddUp, JoinsAddDoings, MeetsKeepDoings, NumbersAreKept, SplitsKeepDoings, WholeDidAll}
+use Rattle.law_parties.specs.Laws.{CallsAct, ClosedStaysSeen, DoingsAddUp, DrainedStays, ItemsAreKept, JoinsAddDoings, MeetsKeepDoings, NumbersAreKept, PopsSeeDrained, SplitsKeepDoings, WholeDidAll}
 use Rattle.law_parties.proofs.Doings.{acts, acts_none, acts_on, did_both, still_closed, unchanged}
-use Rattle.law_parties.proofs.Whole.{all_there, done_by_whole}
+use Rattle.law_parties.proofs.Whole.{all_kept, all_there, done_by_whole}
+use Rattle.law_parties.proofs.Drained.{saw_drained, still_drained, is_drained}
 
 pub calls_act : {T : Type 0} → CallsAct T
 calls_act v w c r is call = acts v w c r call.1.effects is call refl
@@ -36,6 +37,9 @@ meets_keep_doings {T} cap a b c d is_a is_b meet =
 pub whole_did_all : {T : Type 0} → WholeDidAll T
 whole_did_all cap v is whole test = done_by_whole test cap v is whole
 
+pub items_are_kept : {T : Type 0} → ItemsAreKept T
+items_are_kept = all_kept
+
 pub numbers_are_kept : NumbersAreKept
 numbers_are_kept = all_there
 
@@ -43,3 +47,9 @@ pub closed_stays_seen : {T : Type 0} → ClosedStaysSeen T
 closed_stays_seen {T} v w queue begins legal closed =
     let before : (after w.queue.cap v.view.seen).closed ≡ true = subst (λ (q : QueueId). (after q.cap v.view.seen).closed ≡ true) (sym queue) closed in
     still_closed w.queue.cap v.view.seen w.view.seen begins legal before
+
+pub pops_see_drained : {T : Type 0} → PopsSeeDrained T
+pops_see_drained = saw_drained
+
+pub drained_stays : {T : Type 0} → DrainedStays T
+drained_stays v w queue begins legal drained = let now = still_drained v w queue begins drained in (now, is_drained w legal now)

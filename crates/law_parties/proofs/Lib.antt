@@ -1,4 +1,5 @@
 pub mod Doings
 pub mod Whole
+pub mod Drained
 pub mod Laws
 pub mod SeenMore

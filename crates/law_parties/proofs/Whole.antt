@@ -10,7 +10,7 @@ use Rattle.queue_steps.specs.Parties.{View, IsView, IsWhole}
 use Rattle.law_histories.specs.Histories.{handed_in, handed_out}
 use Rattle.law_histories.proofs.Keeping.{keeps_all}
 use Rattle.law_histories.proofs.Numbers.{sum_below, sum_covering, sum_first}
-use Rattle.law_parties.specs.Doings.{passes, done_by, hands_in, hands_out}
+use Rattle.law_parties.specs.Doings.{passes, done_by, hands_in_such, hands_out_such, hands_in, hands_out}
 
 module _ {T : Type 0} where
   -- over all places of a history
@@ -30,36 +30,42 @@ one_more b n m e = ap (λ k. cond b 1 0 + k) e
 none_more : (n m : ℕ) → n ≡ m → 0 + n ≡ m
 none_more n m e = omega arith
 
--- how often a number was handed in, and handed out
-ins : (x : ℕ) (es : List (Effect ℕ)) → count_by (hands_in x) es ≡ count_by (λ y. y == x) (handed_in es)
-ins x [] = refl
-ins x (effect.Append v ∷ es) = sum_by-cons (λ e. cond (hands_in x e) 1 0) (effect.Append v) es ∙ (one_more (v == x) _ _ (ins x es) ∙ sym (sum_by-cons (λ y. cond (y == x) 1 0) v (handed_in es)))
-ins x (effect.Take v ∷ es) = sum_by-cons (λ e. cond (hands_in x e) 1 0) (effect.Take v) es ∙ none_more (count_by (hands_in x) es) (count_by (λ y. y == x) (handed_in es)) (ins x es)
-ins x (effect.Replace old v ∷ es) = sum_by-cons (λ e. cond (hands_in x e) 1 0) (effect.Replace old v) es ∙ (one_more (v == x) _ _ (ins x es) ∙ sym (sum_by-cons (λ y. cond (y == x) 1 0) v (handed_in es)))
-ins x (effect.Front old v ∷ es) = sum_by-cons (λ e. cond (hands_in x e) 1 0) (effect.Front old v) es ∙ (one_more (v == x) _ _ (ins x es) ∙ sym (sum_by-cons (λ y. cond (y == x) 1 0) v (handed_in es)))
-ins x (effect.Arrive ∷ es) = sum_by-cons (λ e. cond (hands_in x e) 1 0) effect.Arrive es ∙ none_more (count_by (hands_in x) es) (count_by (λ y. y == x) (handed_in es)) (ins x es)
-ins x (effect.Close ∷ es) = sum_by-cons (λ e. cond (hands_in x e) 1 0) effect.Close es ∙ none_more (count_by (hands_in x) es) (count_by (λ y. y == x) (handed_in es)) (ins x es)
-ins x (effect.SelfClose ∷ es) = sum_by-cons (λ e. cond (hands_in x e) 1 0) effect.SelfClose es ∙ none_more (count_by (hands_in x) es) (count_by (λ y. y == x) (handed_in es)) (ins x es)
+module _ {T : Type 0} where
+  -- how many such items were handed in, and handed out
+  ins : (such : T → Bool) (es : List (Effect T)) → count_by (hands_in_such such) es ≡ count_by such (handed_in es)
+  ins such [] = refl
+  ins such (effect.Append v ∷ es) = sum_by-cons (λ e. cond (hands_in_such such e) 1 0) (effect.Append v) es ∙ (one_more (such v) _ _ (ins such es) ∙ sym (sum_by-cons (λ y. cond (such y) 1 0) v (handed_in es)))
+  ins such (effect.Take v ∷ es) = sum_by-cons (λ e. cond (hands_in_such such e) 1 0) (effect.Take v) es ∙ none_more (count_by (hands_in_such such) es) (count_by such (handed_in es)) (ins such es)
+  ins such (effect.Replace old v ∷ es) = sum_by-cons (λ e. cond (hands_in_such such e) 1 0) (effect.Replace old v) es ∙ (one_more (such v) _ _ (ins such es) ∙ sym (sum_by-cons (λ y. cond (such y) 1 0) v (handed_in es)))
+  ins such (effect.Front old v ∷ es) = sum_by-cons (λ e. cond (hands_in_such such e) 1 0) (effect.Front old v) es ∙ (one_more (such v) _ _ (ins such es) ∙ sym (sum_by-cons (λ y. cond (such y) 1 0) v (handed_in es)))
+  ins such (effect.Arrive ∷ es) = sum_by-cons (λ e. cond (hands_in_such such e) 1 0) effect.Arrive es ∙ none_more (count_by (hands_in_such such) es) (count_by such (handed_in es)) (ins such es)
+  ins such (effect.Close ∷ es) = sum_by-cons (λ e. cond (hands_in_such such e) 1 0) effect.Close es ∙ none_more (count_by (hands_in_such such) es) (count_by such (handed_in es)) (ins such es)
+  ins such (effect.SelfClose ∷ es) = sum_by-cons (λ e. cond (hands_in_such such e) 1 0) effect.SelfClose es ∙ none_more (count_by (hands_in_such such) es) (count_by such (handed_in es)) (ins such es)
 
-outs : (x : ℕ) (es : List (Effect ℕ)) → count_by (hands_out x) es ≡ count_by (λ y. y == x) (handed_out es)
-outs x [] = refl
-outs x (effect.Append v ∷ es) = sum_by-cons (λ e. cond (hands_out x e) 1 0) (effect.Append v) es ∙ none_more (count_by (hands_out x) es) (count_by (λ y. y == x) (handed_out es)) (outs x es)
-outs x (effect.Take v ∷ es) = sum_by-cons (λ e. cond (hands_out x e) 1 0) (effect.Take v) es ∙ (one_more (v == x) _ _ (outs x es) ∙ sym (sum_by-cons (λ y. cond (y == x) 1 0) v (handed_out es)))
-outs x (effect.Replace old v ∷ es) = sum_by-cons (λ e. cond (hands_out x e) 1 0) (effect.Replace old v) es ∙ (one_more (old == x) _ _ (outs x es) ∙ sym (sum_by-cons (λ y. cond (y == x) 1 0) old (handed_out es)))
-outs x (effect.Front old v ∷ es) = sum_by-cons (λ e. cond (hands_out x e) 1 0) (effect.Front old v) es ∙ (one_more (old == x) _ _ (outs x es) ∙ sym (sum_by-cons (λ y. cond (y == x) 1 0) old (handed_out es)))
-outs x (effect.Arrive ∷ es) = sum_by-cons (λ e. cond (hands_out x e) 1 0) effect.Arrive es ∙ none_more (count_by (hands_out x) es) (count_by (λ y. y == x) (handed_out es)) (outs x es)
-outs x (effect.Close ∷ es) = sum_by-cons (λ e. cond (hands_out x e) 1 0) effect.Close es ∙ none_more (count_by (hands_out x) es) (count_by (λ y. y == x) (handed_out es)) (outs x es)
-outs x (effect.SelfClose ∷ es) = sum_by-cons (λ e. cond (hands_out x e) 1 0) effect.SelfClose es ∙ none_more (count_by (hands_out x) es) (count_by (λ y. y == x) (handed_out es)) (outs x es)
+  outs : (such : T → Bool) (es : List (Effect T)) → count_by (hands_out_such such) es ≡ count_by such (handed_out es)
+  outs such [] = refl
+  outs such (effect.Append v ∷ es) = sum_by-cons (λ e. cond (hands_out_such such e) 1 0) (effect.Append v) es ∙ none_more (count_by (hands_out_such such) es) (count_by such (handed_out es)) (outs such es)
+  outs such (effect.Take v ∷ es) = sum_by-cons (λ e. cond (hands_out_such such e) 1 0) (effect.Take v) es ∙ (one_more (such v) _ _ (outs such es) ∙ sym (sum_by-cons (λ y. cond (such y) 1 0) v (handed_out es)))
+  outs such (effect.Replace old v ∷ es) = sum_by-cons (λ e. cond (hands_out_such such e) 1 0) (effect.Replace old v) es ∙ (one_more (such old) _ _ (outs such es) ∙ sym (sum_by-cons (λ y. cond (such y) 1 0) old (handed_out es)))
+  outs such (effect.Front old v ∷ es) = sum_by-cons (λ e. cond (hands_out_such such e) 1 0) (effect.Front old v) es ∙ (one_more (such old) _ _ (outs such es) ∙ sym (sum_by-cons (λ y. cond (such y) 1 0) old (handed_out es)))
+  outs such (effect.Arrive ∷ es) = sum_by-cons (λ e. cond (hands_out_such such e) 1 0) effect.Arrive es ∙ none_more (count_by (hands_out_such such) es) (count_by such (handed_out es)) (outs such es)
+  outs such (effect.Close ∷ es) = sum_by-cons (λ e. cond (hands_out_such such e) 1 0) effect.Close es ∙ none_more (count_by (hands_out_such such) es) (count_by such (handed_out es)) (outs such es)
+  outs such (effect.SelfClose ∷ es) = sum_by-cons (λ e. cond (hands_out_such such e) 1 0) effect.SelfClose es ∙ none_more (count_by (hands_out_such such) es) (count_by such (handed_out es)) (outs such es)
+
+  -- as many such items as a whole party handed in, it handed out, or they are left
+  pub all_kept : (cap : Option ℕ) (v : View T) (such : T → Bool) → IsView cap v → IsWhole v → (after cap v.seen).coming ≡ None
+      → done_by (hands_in_such such) v ≡ done_by (hands_out_such such) v + count_by such (after cap v.seen).items
+  all_kept cap v such is whole none =
+      let law = (keeps_all cap v.seen is.legal).0 in
+      let items : with_coming (after cap v.seen).items (after cap v.seen).coming ≡ (after cap v.seen).items = ap (with_coming (after cap v.seen).items) none in
+      let lists : handed_in v.seen ≡ handed_out v.seen ++ (after cap v.seen).items = law ∙ ap (λ (l : List T). handed_out v.seen ++ l) items in
+      let sums : count_by such (handed_in v.seen) ≡ count_by such (handed_out v.seen) + count_by such (after cap v.seen).items =
+      ap (count_by such) lists ∙ sum_by-append (λ y. cond (such y) 1 0) (handed_out v.seen) (after cap v.seen).items in
+      let came = done_by_whole (hands_in_such such) cap v is whole ∙ ins such v.seen in
+      let went = done_by_whole (hands_out_such such) cap v is whole ∙ outs such v.seen in
+      came ∙ (sums ∙ ap (λ k. k + count_by such (after cap v.seen).items) (sym went))
 
 -- as often as a whole party handed a number in, it handed it out, or it is left
 pub all_there : (cap : Option ℕ) (v : View ℕ) (x : ℕ) → IsView cap v → IsWhole v → (after cap v.seen).coming ≡ None
     → done_by (hands_in x) v ≡ done_by (hands_out x) v + count_by (λ y. y == x) (after cap v.seen).items
-all_there cap v x is whole none =
-    let law = (keeps_all cap v.seen is.legal).0 in
-    let items : with_coming (after cap v.seen).items (after cap v.seen).coming ≡ (after cap v.seen).items = ap (with_coming (after cap v.seen).items) none in
-    let lists : handed_in v.seen ≡ handed_out v.seen ++ (after cap v.seen).items = law ∙ ap (λ (l : List ℕ). handed_out v.seen ++ l) items in
-    let sums : count_by (λ y. y == x) (handed_in v.seen) ≡ count_by (λ y. y == x) (handed_out v.seen) + count_by (λ y. y == x) (after cap v.seen).items =
-    ap (count_by (λ y. y == x)) lists ∙ sum_by-append (λ y. cond (y == x) 1 0) (handed_out v.seen) (after cap v.seen).items in
-    let came = done_by_whole (hands_in x) cap v is whole ∙ ins x v.seen in
-    let went = done_by_whole (hands_out x) cap v is whole ∙ outs x v.seen in
-    came ∙ (sums ∙ ap (λ k. k + count_by (λ y. y == x) (after cap v.seen).items) (sym went))
+all_there cap v x = all_kept cap v (λ y. y == x)

@@ -2,11 +2,13 @@
 use Rattle.std.specs.Prelude.{◌≡◌, ℕ, ◌+◌, ◌==◌, Bool, true, false, List}
 use Rattle.std.specs.List.{count_by}
 use mathlib.Core.Option.{Option, none, some}
+use mathlib.Core.List.{IsPrefix}
 use lib.ListN.{get_elem?}
 use Rattle.queue_steps.specs.declared.model.Effect.{Effect}
 use Rattle.queue_steps.specs.declared.model.Effect.TheVariants as effect
 use Rattle.queue_steps.specs.Effect.{after}
 use Rattle.queue_steps.specs.Parties.{View}
+use Rattle.law_histories.specs.Histories.{IsDrained}
 use Rattle.concurrent_queue.specs.Shared.{Person}
 
 abbrev pub passes : {T : Type 0} → (Effect T → Bool) → Option (Effect T) → Bool
@@ -25,19 +27,26 @@ abbrev pub is_append : ℕ → Effect ℕ → Bool
 is_append x (effect.Append y) = y == x
 is_append x e = false
 
--- the effect hands the value in: it is appended, takes another's place, or is on its way in
-abbrev pub hands_in : ℕ → Effect ℕ → Bool
-hands_in x (effect.Append v) = v == x
-hands_in x (effect.Replace old v) = v == x
-hands_in x (effect.Front old v) = v == x
-hands_in x e = false
+-- the effect hands such an item in: it is appended, takes another's place, or is on its way in
+abbrev pub hands_in_such : {T : Type 0} → (T → Bool) → Effect T → Bool
+hands_in_such such (effect.Append v) = such v
+hands_in_such such (effect.Replace old v) = such v
+hands_in_such such (effect.Front old v) = such v
+hands_in_such such e = false
 
--- the effect hands the value out: it is taken, or displaced
+-- the effect hands such an item out: it is taken, or displaced
+abbrev pub hands_out_such : {T : Type 0} → (T → Bool) → Effect T → Bool
+hands_out_such such (effect.Take v) = such v
+hands_out_such such (effect.Replace old v) = such old
+hands_out_such such (effect.Front old v) = such old
+hands_out_such such e = false
+
+-- the effect hands this number in, and out
+abbrev pub hands_in : ℕ → Effect ℕ → Bool
+hands_in x = hands_in_such (λ v. v == x)
+
 abbrev pub hands_out : ℕ → Effect ℕ → Bool
-hands_out x (effect.Take v) = v == x
-hands_out x (effect.Replace old v) = old == x
-hands_out x (effect.Front old v) = old == x
-hands_out x e = false
+hands_out x = hands_out_such (λ v. v == x)
 
 -- how often the party took the value
 abbrev pub takes : ℕ → View ℕ → ℕ
@@ -60,3 +69,7 @@ pub record Acts {T : Type 0} (v w : Person T) (es : List (Effect T)) : Type 0 wh
 -- the party has seen the queue closed
 abbrev pub SawClosed : {T : Type 0} → Person T → Type 0
 SawClosed p = (after p.queue.cap p.view.seen).closed ≡ true
+
+-- the party has seen the queue closed and empty
+abbrev pub SawDrained : {T : Type 0} → Person T → Type 0
+SawDrained {T} p = (h : List (Effect T)) × IsPrefix h p.view.seen × IsDrained (after p.queue.cap h)

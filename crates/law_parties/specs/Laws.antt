@@ -1,15 +1,19 @@
 -- What is so of what parties did, whatever they call.
-use Rattle.std.specs.Prelude.{◌≡◌, ℕ, ◌+◌, ◌==◌, Bool, Option, None, List, [], ◌++◌}
+use Rattle.std.specs.Prelude.{◌≡◌, ℕ, ◌+◌, ◌==◌, Bool, Option, None, List, [], ◌++◌, Err}
 use Rattle.std.specs.List.{count_by}
 use mathlib.Core.List.{IsPrefix}
 use Rattle.queue_steps.specs.declared.model.Call.{Call}
 use Rattle.queue_steps.specs.declared.model.Reply.{Reply}
 use Rattle.queue_steps.specs.declared.model.Effect.{Effect}
+use Rattle.queue_steps.specs.declared.model.Call.TheVariants as call
+use Rattle.queue_steps.specs.declared.model.Reply.TheVariants as reply
+use Rattle.queue_steps.specs.declared.errors.PopError.TheVariants as pop
 use Rattle.queue_steps.specs.Effect.{IsHistory, after}
 use Rattle.queue_steps.specs.Parties.{View, IsView, IsWhole, Split, Join, Meet}
+use Rattle.law_histories.specs.Histories.{IsDrained}
 use Rattle.concurrent_queue.specs.SawMore.{SawMore}
 use Rattle.concurrent_queue.specs.Shared.{Person, Calls}
-use Rattle.law_parties.specs.Doings.{done_by, hands_in, hands_out, Did, Acts, SawClosed}
+use Rattle.law_parties.specs.Doings.{done_by, hands_in_such, hands_out_such, hands_in, hands_out, Did, Acts, SawClosed, SawDrained}
 
 -- a call adds the effects at its places
 abbrev pub CallsAct : Type 0 → Type 0
@@ -35,6 +39,12 @@ MeetsKeepDoings T = (cap : Option ℕ) (a b c d : View T) → IsView cap a → I
 abbrev pub WholeDidAll : Type 0 → Type 0
 WholeDidAll T = (cap : Option ℕ) (v : View T) → IsView cap v → IsWhole v → (test : Effect T → Bool) → done_by test v ≡ count_by test v.seen
 
+-- as many such items as it handed in, it handed out, or they are left
+abbrev pub ItemsAreKept : Type 0 → Type 0
+ItemsAreKept T =
+    (cap : Option ℕ) (v : View T) (such : T → Bool) → IsView cap v → IsWhole v → (after cap v.seen).coming ≡ None
+    → done_by (hands_in_such such) v ≡ done_by (hands_out_such such) v + count_by such (after cap v.seen).items
+
 -- as often as it handed a number in, it handed it out, or the number is left
 abbrev pub NumbersAreKept : Type 0
 NumbersAreKept =
@@ -44,6 +54,14 @@ NumbersAreKept =
 -- what was seen closed is seen closed from then on
 abbrev pub ClosedStaysSeen : Type 0 → Type 0
 ClosedStaysSeen T = (v w : Person T) → w.queue ≡ v.queue → IsPrefix v.view.seen w.view.seen → IsHistory w.queue.cap w.view.seen → SawClosed v → SawClosed w
+
+-- a pop that is answered Closed has seen the queue closed and empty
+abbrev pub PopsSeeDrained : Type 0 → Type 0
+PopsSeeDrained T = (v w : Person T) → Calls v call.Pop (reply.Pop (Err pop.Closed)) w → SawDrained w
+
+-- what was seen closed and empty is seen so from then on, and is so
+abbrev pub DrainedStays : Type 0 → Type 0
+DrainedStays T = (v w : Person T) → w.queue ≡ v.queue → IsPrefix v.view.seen w.view.seen → IsHistory w.queue.cap w.view.seen → SawDrained v → SawDrained w × IsDrained (after w.queue.cap w.view.seen)
 
 -- a party that saw more and then made a call has made it after what it had seen before
 abbrev pub SawMoreThenCalls : Type 0 → Type 0

@@ -1,2 +1,3 @@
 //! Uses of shared queues.
 pub mod jobs;
+pub mod tasks;
