@@ -1,3 +1,4 @@
 //! Uses of shared queues.
+pub mod crews;
 pub mod jobs;
 pub mod tasks;
