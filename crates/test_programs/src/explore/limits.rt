@@ -56,7 +56,8 @@ fn comes_of(
     wanted: &str,
 ) -> Comes {
     let mut args = words(alloc, limit.line).expect(rt, "memory");
-    args.append(&mut words(alloc, wanted).expect(rt, "memory")).expect(rt, "memory");
+    args.append(&mut words(alloc, wanted).expect(rt, "memory"))
+        .expect(rt, "memory");
     let Ok(request) = parse_request(&args) else {
         return Comes::Another;
     };
