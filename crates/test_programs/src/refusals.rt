@@ -1,4 +1,5 @@
 //! Runs of which each request for memory is refused in turn.
+use crate::asserts::is_in;
 use crate::runs::{Program, run};
 use std::process::Abort;
 use std::sync::Wait;
@@ -84,12 +85,8 @@ pub fn refuse_each<R: Abort + Threads + Wait + Sync + AllocGlobal>(
     let mut begun = 0u64;
     for number in 1..MANY {
         let refused = refuse(rt, program, asking, number);
-        assert_eq!(rt;
-            (refused.right, refused.live),
-            (true, 0),
-            "{:?}, request {number}",
-            asking.line
-        );
+        let seen = (refused.right, refused.live);
+        is_in(rt, (asking.line, number), seen, (true, 0));
         if refused.requests < number {
             return Tally {
                 requests: refused.requests,
@@ -116,12 +113,7 @@ pub fn all_refuse<R: Abort + Threads + Wait + Sync + AllocGlobal>(
     for asking in runs {
         let tally = refuse_each(rt, program, asking);
         let blocks = u64::from(asking.told.is_some());
-        assert_eq!(rt;
-            (least <= tally.requests, tally.well, tally.begun),
-            (true, blocks, 0),
-            "{:?} on {:?}",
-            asking.line,
-            asking.input
-        );
+        let seen = (least <= tally.requests, tally.well, tally.begun);
+        is_in(rt, (asking.line, asking.input), seen, (true, blocks, 0));
     }
 }

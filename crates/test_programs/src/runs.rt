@@ -1,4 +1,5 @@
 //! Runs of the two programs: what they are given, how they are to end, and what they are to write.
+use crate::asserts::is_in;
 use app_command::command::command;
 use app_explore::command::command as explore;
 use std::alloc::Allocator;
@@ -70,7 +71,7 @@ pub fn ends_with<R: Abort + Threads + Wait + Sync + AllocGlobal>(
     end: End<'_>,
 ) {
     let outcome = run(rt, program, &rt.alloc(), line, input, streams);
-    assert_eq!(rt; outcome.end(), end, "at {line:?} on {input:?}");
+    is_in(rt, (line, input), outcome.end(), end);
 }
 
 /// The same where the streams do not fail.

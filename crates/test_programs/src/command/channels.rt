@@ -1,4 +1,5 @@
 //! Rows of the form `channel`, run through `command`, and two ends of a channel that are at work within one another's calls.
+use crate::asserts::is;
 use crate::command::meanwhile::{Heap, Queue};
 use crate::command::rows::all_end_well;
 use crate::runs::{Program, UNREAD, ends};
@@ -148,7 +149,7 @@ fn send_by_two<R: Abort + Threads + Wait + Sync + AllocGlobal>(rt: &R, heap: &He
 fn two_sends_of_a_crew_ask_for_memory_at_once(rt: HostRuntime) {
     let heap = Heap::new(rt.alloc(), Refusal::Never);
     let seen = send_by_two(&rt, &heap);
-    assert_eq!(rt; (seen.at_once, seen.done, seen.came), (true, true, 2));
+    is(&rt, (seen.at_once, seen.done, seen.came), (true, true, 2));
 }
 
 /// How often each of five items comes that one thread sends, where two threads are to receive two each.
@@ -172,5 +173,5 @@ fn come_to_two<R: Abort + Threads + Wait + Sync + AllocGlobal>(rt: &R, heap: &He
 #[test]
 fn no_receiver_receives_more_than_its_share(rt: HostRuntime) {
     let heap = Heap::new(rt.alloc(), Refusal::Never);
-    assert_eq!(rt; come_to_two(&rt, &heap), [1, 1, 1, 1, 0]);
+    is(&rt, come_to_two(&rt, &heap), [1, 1, 1, 1, 0]);
 }

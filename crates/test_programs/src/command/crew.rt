@@ -2,6 +2,7 @@
 ghost use Rattle.std.specs.Prelude.{◌≡◌, ◌<◌, ◌+◌, ◌*◌, ◌^◌, length};
 ghost use Rattle.concurrent_queue.specs.Shared.{IsPartyOf};
 
+use crate::asserts::is;
 use app_threads::counts::{Finding, count, judge, none_counted};
 use app_threads::crew::{Plan, Queue, Work, run_all};
 use app_threads::limit::NO_LIMIT;
@@ -28,7 +29,7 @@ fn wrong_counts_are_found(rt: HostRuntime) {
     let findings = [judge(2, &counts), judge(1, &counts)];
     let lost = Finding::Wrong { value: 1, times: 1 };
     let doubled = Finding::Wrong { value: 0, times: 2 };
-    assert_eq!(rt; (counts, findings), ([2u64, 1, 3], [lost, doubled]));
+    is(&rt, (counts, findings), ([2u64, 1, 3], [lost, doubled]));
 }
 
 #[test]
@@ -36,10 +37,8 @@ fn a_wrong_count_is_told(rt: HostRuntime) {
     let lost = Finding::Wrong { value: 1, times: 1 };
     let verdict = lost.verdict();
     let text = format!(in rt.alloc(); "{lost}").expect(&rt, "memory for the text");
-    assert_eq!(rt;
-        (verdict, verdict.status(), text.as_str()),
-        (Verdict::Wrong, 1, "value 1 counted 1 times")
-    );
+    let seen = (verdict, verdict.status(), text.as_str());
+    is(&rt, seen, (Verdict::Wrong, 1, "value 1 counted 1 times"));
 }
 
 /// A plan of so many threads a side. Each popper is to pop two items.
@@ -128,7 +127,7 @@ fn nothing_is_done_on_a_closed_queue(rt: HostRuntime) {
         does_something(&rt, plan_of(0, 3, 2)),
         does_something(&rt, plan_of(2, 2, 2)),
     ];
-    assert_eq!(rt; done, [false; 3]);
+    is(&rt, done, [false; 3]);
 }
 
 /// What is seen of threads on a queue that was closed before, with an item in it.
@@ -177,8 +176,8 @@ fn what_a_closed_queue_has_is_counted(rt: HostRuntime) {
         counted,
         finished,
     } = empty_closed(&rt);
-    assert_eq!(rt; (pushed, closed, done, finished), (true, true, false, true));
-    assert_eq!(rt; counted, [0, 1]);
+    let seen = ((pushed, closed, done, finished), counted);
+    is(&rt, seen, ((true, true, false, true), [0, 1]));
 }
 
 /// What is seen of two threads that are to pop two items each, where a closed queue has five: whether all was done, how often each item was counted, and how many are left.
@@ -207,7 +206,7 @@ fn pop_four_of_five<R: Abort + Threads + Wait + Sync + AllocGlobal>(
 #[test]
 fn no_popper_pops_more_than_its_share(rt: HostRuntime) {
     let wanted = (true, [1u64, 1, 1, 1, 0], Some(1));
-    assert_eq!(rt; pop_four_of_five(&rt), wanted);
+    is(&rt, pop_four_of_five(&rt), wanted);
 }
 
 /// Gives other threads turns.
@@ -258,7 +257,7 @@ fn a_close_ends_threads_that_wait(rt: HostRuntime) {
         done_in_spite_of_a_close(&rt, plan_of(0, 3, 5)),
         done_in_spite_of_a_close(&rt, plan_of(3, 0, 5)),
     ];
-    assert_eq!(rt; done, [false; 2]);
+    is(&rt, done, [false; 2]);
 }
 
 /// What is seen of a run that ends well: whether all was done, what the counts show, and whether the queue is empty and open then.
@@ -290,5 +289,5 @@ fn a_run_gives_its_party_back(rt: HostRuntime) {
         times: 4,
     };
     let wanted: Run = (true, right, Some((true, true)));
-    assert_eq!(rt; run_of_six(&rt), wanted);
+    is(&rt, run_of_six(&rt), wanted);
 }

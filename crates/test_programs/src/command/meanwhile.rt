@@ -1,4 +1,5 @@
 //! Threads of a crew that are at work within one another's calls.
+use crate::asserts::is;
 use app_threads::crew::{Plan, Work, run_all};
 use app_threads::limit::NO_LIMIT;
 use concurrent_queue::ConcurrentQueue;
@@ -54,5 +55,5 @@ fn push_by_two<R: Abort + Threads + Wait + Sync + AllocGlobal>(rt: &R, heap: &He
 fn two_pushes_of_a_crew_ask_for_memory_at_once(rt: HostRuntime) {
     let heap = Heap::new(rt.alloc(), Refusal::Never);
     let seen = push_by_two(&rt, &heap);
-    assert_eq!(rt; (seen.at_once, seen.done, seen.left), (true, true, 2));
+    is(&rt, (seen.at_once, seen.done, seen.left), (true, true, 2));
 }

@@ -1,4 +1,5 @@
 //! The end of the program: the arguments as the system gives them, and the status.
+use crate::asserts::is;
 use crate::runs::{Program, usage};
 use app_command::program::program;
 use std::env::Args;
@@ -24,10 +25,8 @@ fn ends<R: Abort + Threads + Wait + Sync + AllocGlobal>(
     let mut output = Vec::new(alloc);
     let mut faults = Vec::new(alloc);
     let ended = program(rt, &alloc, given, &mut input, &mut output, &mut faults);
-    assert_eq!(rt;
-        (ended.status, output.as_slice(), faults.as_slice(), input),
-        (end.status, end.output, end.faults, unread)
-    );
+    let seen = (ended.status, output.as_slice(), faults.as_slice(), input);
+    is(rt, seen, (end.status, end.output, end.faults, unread));
 }
 
 /// The words of a line, of which the first is the program's name, as the system gives them.

@@ -1,4 +1,5 @@
 //! Each request for memory of scripts and of replays, refused in turn.
+use crate::asserts::is;
 use crate::command::rows::{Part, text_of};
 use crate::refusals::{Asking, all_refuse, refuse_each};
 use crate::runs::Program;
@@ -82,5 +83,5 @@ fn each_request_of_a_long_script_refused(rt: HostRuntime) {
         told: None,
     };
     let tally = refuse_each(&rt, Program::QueueRun, &asking);
-    assert_eq!(rt; (tally.well, 0 < tally.begun), (0, true));
+    is(&rt, (tally.well, 0 < tally.begun), (0, true));
 }

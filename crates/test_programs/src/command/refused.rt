@@ -1,4 +1,5 @@
 //! Blocks that are refused to a thread: it reports that not all was done.
+use crate::asserts::is;
 use crate::command::meanwhile::{Heap, Queue};
 use app_threads::crew::Plan;
 use app_threads::limit::NO_LIMIT;
@@ -46,7 +47,7 @@ fn sent<R: Abort + Threads + Wait + Sync + AllocGlobal>(rt: &R, number: u64) -> 
 #[test]
 fn an_item_without_a_block_is_not_done(rt: HostRuntime) {
     let seen = [pushed(&rt, 1), pushed(&rt, 2), pushed(&rt, 3)];
-    assert_eq!(rt; seen, [None, Some(false), Some(true)]);
+    is(&rt, seen, [None, Some(false), Some(true)]);
     let seen = [sent(&rt, 3), sent(&rt, 4), sent(&rt, 5)];
-    assert_eq!(rt; seen, [None, Some(false), Some(true)]);
+    is(&rt, seen, [None, Some(false), Some(true)]);
 }

@@ -1,4 +1,5 @@
 //! Threads that cannot be started: those that were started end, and the run ends as one without memory.
+use crate::asserts::is_in;
 use app_text::args::{Form, parse_form};
 use app_threads::channel::channel;
 use app_threads::handshake::handshake;
@@ -42,16 +43,13 @@ fn takes<R: Abort + Threads + Wait + Sync + AllocGlobal>(
             Ok(_) => String::new(alloc),
             Err(fault) => format!(in alloc; "{fault}").expect(rt, "memory for the fault"),
         };
-        assert_eq!(rt;
-            (output.as_slice(), fault.as_str()),
-            (b"".as_slice(), "no memory"),
-            "at {line:?} with {started} threads"
-        );
+        let seen = (output.as_slice(), fault.as_str());
+        is_in(rt, (line, started), seen, (b"".as_slice(), "no memory"));
     }
     let mut output = Vec::new(alloc);
     let ran = run(rt, line, Limit(threads), &mut output);
-    assert!(rt; ran.end.is_ok(), "at {line:?}");
-    assert_eq!(rt; output.as_slice(), wanted.as_bytes(), "at {line:?}");
+    let seen = (ran.end.is_ok(), output.as_slice());
+    is_in(rt, line, seen, (true, wanted.as_bytes()));
 }
 
 /// How many threads each line starts, and what is written where they can be.

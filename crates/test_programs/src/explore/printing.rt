@@ -1,4 +1,5 @@
 //! What outcomes and schedules are printed as.
+use crate::asserts::is;
 use app_explore_text::outcomes::{write_outcome, write_outcome_line};
 use app_explore_text::reading::read_program;
 use app_explore_text::schedules::write_schedule;
@@ -24,12 +25,13 @@ fn outcome_lines(alloc: Global) -> Result<[String; 2], AllocError> {
 #[test]
 fn an_outcome_is_a_line(rt: HostRuntime) {
     let lines = outcome_lines(rt.alloc()).expect(&rt, "memory");
-    assert_eq!(rt;
-        [lines[0].as_str(), lines[1].as_str()],
-        [
+    is(
+        &rt,
+        (lines[0].as_str(), lines[1].as_str()),
+        (
             "0: displaced 1 | 1: 1; 2 | left 2 3",
-            "outcome 2 | 0: displaced 1 | 1: 1; 2 | left 2 3 | steps 11\n"
-        ]
+            "outcome 2 | 0: displaced 1 | 1: 1; 2 | left 2 3 | steps 11\n",
+        ),
     );
 }
 
@@ -73,8 +75,9 @@ fn schedule_lines(alloc: Global) -> Result<String, AllocError> {
 #[test]
 fn a_schedule_is_lines_of_a_replay(rt: HostRuntime) {
     let text = schedule_lines(rt.alloc()).expect(&rt, "memory");
-    assert_eq!(rt;
+    is(
+        &rt,
         text.as_str(),
-        "0 pop\n0 run\n0 force 3\n0 step\n0 step\n1 len\n1 run\n1 push 4\n1 step\n1 step\n1 refuse\n0 step\n0 step\n0 step\n0 step\n1 is_closed\n1 step\n0 step\n0 capacity\n0 close\n0 step\n"
+        "0 pop\n0 run\n0 force 3\n0 step\n0 step\n1 len\n1 run\n1 push 4\n1 step\n1 step\n1 refuse\n0 step\n0 step\n0 step\n0 step\n1 is_closed\n1 step\n0 step\n0 capacity\n0 close\n0 step\n",
     );
 }

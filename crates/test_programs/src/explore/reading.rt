@@ -1,4 +1,5 @@
 //! What the lines of programs, and the words of requests, are read as.
+use crate::asserts::is_in;
 use app_explore_text::args::{Request, Wanted, parse_request};
 use app_explore_text::faults::{LineFault, ReadFault};
 use app_explore_text::reading::read_program;
@@ -79,7 +80,7 @@ fn is_read(rt: &impl Abort, alloc: Global, text: &[u8], found: Found<'_>) {
         Err(ReadFault::Unreadable(number, why)) => Found::Wrong(number, why),
         Err(ReadFault::NoMemory) => panic!(rt; "no memory"),
     };
-    assert_eq!(rt; read, found, "of {text:?}");
+    is_in(rt, text, read, found);
 }
 
 static REQUESTS: [(&str, Result<Request, UsageFault>); 19] = [
@@ -164,6 +165,6 @@ static REQUESTS: [(&str, Result<Request, UsageFault>); 19] = [
 fn requests_are_read(rt: HostRuntime) {
     for (line, request) in &REQUESTS {
         let words = words(rt.alloc(), line).expect(&rt, "memory");
-        assert_eq!(rt; parse_request(&words), *request, "at {line:?}");
+        is_in(&rt, *line, parse_request(&words), *request);
     }
 }

@@ -1,6 +1,7 @@
 //! Programs with many parties, calls, slots, items, states or outcomes: what is found of each is shown, and is all.
 ghost use Rattle.machine_replay.specs.Replays.{CanReplay};
 
+use crate::asserts::{is, is_in};
 use app_explore::listing::{Task, list_outcomes};
 use app_explore_text::limits::MOST_STATES;
 use app_explore_text::outcomes::are_in_order;
@@ -116,12 +117,8 @@ fn ends_with(alloc: Global, kind: Kind, program: Program<Global>, last: &str) ->
 fn large_programs_are_listed(rt: HostRuntime) {
     for size in &SIZES {
         let program = program(&rt, rt.alloc(), size);
-        assert!(rt;
-            ends_with(rt.alloc(), size.kind, program, size.last),
-            "{} parties on {:?}",
-            size.parties,
-            size.kind
-        );
+        let found = ends_with(rt.alloc(), size.kind, program, size.last);
+        is_in(&rt, (size.parties, size.kind), found, true);
     }
 }
 
@@ -138,7 +135,8 @@ fn hundreds_of_outcomes_are_listed(rt: HostRuntime) {
     let Ok(program) = read_program(rt.alloc(), MANY_OUTCOMES.as_bytes()) else {
         rt.panic("a program");
     };
-    assert!(rt; ends_with(rt.alloc(), Kind::Unbounded, program, LAST_OF_MANY));
+    let found = ends_with(rt.alloc(), Kind::Unbounded, program, LAST_OF_MANY);
+    is(&rt, found, true);
 }
 
 /// How many parties look, each once.
@@ -174,7 +172,7 @@ fn looks_seen(rt: &impl Abort, alloc: Global) -> usize {
 
 #[test]
 fn a_schedule_of_hundreds_of_parties_is_followed(rt: HostRuntime) {
-    assert_eq!(rt; looks_seen(&rt, rt.alloc()), 1_200);
+    is(&rt, looks_seen(&rt, rt.alloc()), 1_200);
 }
 
 /// So many texts in order, and then this one.
@@ -198,6 +196,6 @@ fn thousands_of_texts_are_in_order(rt: HostRuntime) {
         ("", false),
     ] {
         let texts = texts(&rt, rt.alloc(), 5_000, last);
-        assert_eq!(rt; are_in_order(&texts), wanted, "at {last:?}");
+        is_in(&rt, last, are_in_order(&texts), wanted);
     }
 }
