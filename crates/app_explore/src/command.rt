@@ -101,11 +101,7 @@ pub fn told<'a, A: Allocator>(
 }
 
 // The program on the queue that the request names, with as many states as are looked at.
-fn task_of<A: Allocator>(
-    request: Request,
-    program: Program<A>,
-    most_states: usize,
-) -> Task<A>
+fn task_of<A: Allocator>(request: Request, program: Program<A>, most_states: usize) -> Task<A>
     requires { IsRequest request }
     ensures kind { result.kind ≡ queue_named request.kind }
     ensures can { CanReplay result.kind }
