@@ -3,6 +3,7 @@
 
 pub mod blocks;
 pub mod effects;
+mod feeding;
 pub mod machine;
 pub mod same;
 pub mod shared_memory;

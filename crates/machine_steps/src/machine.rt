@@ -7,6 +7,7 @@ ghost use Rattle.machine_steps.specs.World.{stepped};
 ghost use Rattle.machine_steps.specs.declared.types.Event.TheVariants.{Begin};
 
 use crate::effects::effect;
+use crate::feeding::feed_calls;
 use crate::same::{Same, all_same};
 use crate::shared_memory::{SharedMemory, vacant};
 use crate::types::{Event, Handled, Told};
@@ -17,7 +18,7 @@ use std::alloc::{AllocError, Allocator};
 use std::hash::{Hash, Hasher};
 
 /// A call that was begun and not ended: where it stands, what its next step does, and the value that it carries.
-#[derive(Copy, Drop, PartialEq, Eq, Hash)]
+#[derive(Copy, Drop)]
 pub struct Running<T> {
     /// Where the call stands once its next step is taken.
     pub local: Local<usize>,
@@ -108,7 +109,7 @@ impl<T: Hash, A: Allocator> Machine<T, A> {
             Kind::Unbounded => state.write_u8(1),
         }
         self.memory.feed(state);
-        self.calls.hash(state);
+        feed_calls(&self.calls, state);
     }
 }
 

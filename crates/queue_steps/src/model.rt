@@ -5,7 +5,7 @@ ghost use Rattle.queue_steps.specs.Kinds.{call_kind, call_value, filled};
 use crate::errors::{ForcePushError, PopError, PushError};
 
 /// A call, with the value that it carries.
-#[derive(Clone, Copy, Debug, Drop, PartialEq, Eq, Hash)]
+#[derive(Clone, Copy, Debug, Drop, PartialEq, Eq)]
 pub enum Call<T> {
     /// Appends the value where there is room.
     Push(T),

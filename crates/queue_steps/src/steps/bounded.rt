@@ -7,14 +7,14 @@ pub const MARK: u64 = 1;
 pub const TAIL_STEP: u64 = 2;
 
 /// Which push: one that answers `Full`, or one that displaces the front.
-#[derive(Clone, Copy, Debug, PartialEq, Eq, Hash)]
+#[derive(Clone, Copy, Debug, PartialEq, Eq)]
 pub enum PushKind {
     Push,
     Force,
 }
 
 /// Where a call on a ring stands, with the words that it remembers.
-#[derive(Clone, Copy, PartialEq, Eq, Hash)]
+#[derive(Clone, Copy, PartialEq, Eq)]
 pub enum BoundedLocal {
     /// B1: the read of the tail.
     PushTail(PushKind),

@@ -19,7 +19,7 @@ pub enum Kind {
 }
 
 /// A word of 64 bits.
-#[derive(Copy, Drop, PartialEq, Eq, Hash)]
+#[derive(Copy, Drop)]
 pub enum Word<B> {
     /// What is in the slot of a queue of one slot, and whether a call holds it.
     Lock,
@@ -44,7 +44,7 @@ impl<B: Copy> Clone for Word<B> {
 }
 
 /// A place for a block or none.
-#[derive(Copy, Drop, PartialEq, Eq, Hash)]
+#[derive(Copy, Drop)]
 pub enum Link<B> {
     /// The block of the poppers.
     HeadBlock,
@@ -65,7 +65,7 @@ impl<B: Copy> Clone for Link<B> {
 }
 
 /// One atomic operation, or a request for a block.
-#[derive(Copy, Drop, PartialEq, Eq, Hash)]
+#[derive(Copy, Drop)]
 pub enum Op<B> {
     /// Reads the word.
     Load(Word<B>),
@@ -100,7 +100,7 @@ impl<B: Copy> Clone for Op<B> {
 }
 
 /// What is done to a slot just before the operation, in the same step. On a chain it is a slot of the block whose state the operation names.
-#[derive(Clone, Copy, PartialEq, Eq, Hash)]
+#[derive(Clone, Copy, PartialEq, Eq)]
 pub enum Touch {
     /// Nothing.
     Nothing,
@@ -140,7 +140,7 @@ impl<B: Copy> Clone for Answer<B> {
 }
 
 /// A call that looks at the queue and changes nothing.
-#[derive(Clone, Copy, PartialEq, Eq, Hash)]
+#[derive(Clone, Copy, PartialEq, Eq)]
 pub enum Look {
     IsClosed,
     IsEmpty,
@@ -149,7 +149,7 @@ pub enum Look {
 }
 
 /// Where a call stands: what it asked last, and what it has to remember.
-#[derive(Copy, Drop, PartialEq, Eq, Hash)]
+#[derive(Copy, Drop)]
 pub enum Local<B> {
     /// Before the first step.
     Begin(CallKind),

@@ -16,7 +16,7 @@ pub const READ: u64 = 2;
 pub const DESTROY: u64 = 4;
 
 /// Where a call on a chain stands, with the words and blocks that it remembers. A push holds at most one spare block.
-#[derive(Copy, Drop, PartialEq, Eq, Hash)]
+#[derive(Copy, Drop)]
 pub enum UnboundedLocal<B> {
     /// U1: the read of the tail, with the spare.
     PushTail(PushKind, Option<B>),
