@@ -1,4 +1,4 @@
-//! Tests of what threads share: queues, calls that are held between their steps, channels, webs of raw blocks, and jobs.
+//! Tests of what threads use: channels, ends that sleep, crews and tasks, and webs of raw blocks.
 #![tactic(auto)]
 
 #[cfg(test)]
@@ -6,16 +6,10 @@ mod asserts;
 #[cfg(test)]
 mod blocks;
 #[cfg(test)]
-mod calls;
-#[cfg(test)]
 mod channel;
-#[cfg(test)]
-mod crew;
-#[cfg(test)]
-mod held;
 #[cfg(test)]
 mod opening;
 #[cfg(test)]
-mod shared;
+mod sleep;
 #[cfg(test)]
 mod uses;

@@ -1,9 +1,8 @@
-//! Queues of every kind, as the tests open them, part their parties, and end their sharing.
-ghost use Rattle.std.specs.Prelude.{◌≡◌, IfOk};
-ghost use Rattle.queue_steps.specs.Shares.{entire};
+//! Queues of every kind and their parties, as the tests open and part them.
+ghost use Rattle.std.specs.Prelude.{IfOk};
 ghost use Rattle.concurrent_queue.specs.Shared.{IsPartyOf};
 
-use concurrent_queue::{ConcurrentQueue, Exclusive, Party};
+use concurrent_queue::{ConcurrentQueue, Party};
 use mem_blocks::null_testable::NullTestable;
 use std::alloc::{AllocError, Allocator};
 use std::process::Abort;
@@ -17,7 +16,7 @@ pub(crate) fn open<T: Drop, A: NullTestable + Clone>(
     alloc: A,
     cap: Option<usize>,
 ) -> Opened<T, A>
-    ensures { IfOk result (λ r. IsPartyOf r.1 r.0 × (r.1.view.share ≡ entire)) }
+    ensures { IfOk result (λ r. IsPartyOf r.1 r.0) }
 {
     match cap {
         Some(0) => panic!(rt; "a capacity of 0"),
@@ -32,7 +31,7 @@ pub(crate) fn open_surely<T: Drop, A: NullTestable + Clone>(
     alloc: A,
     cap: Option<usize>,
 ) -> (ConcurrentQueue<T, A>, Party<T>)
-    ensures { IsPartyOf result.1 result.0 × (result.1.view.share ≡ entire) }
+    ensures { IsPartyOf result.1 result.0 }
 {
     match open(rt, alloc, cap) {
         Ok(both) => both,
@@ -52,34 +51,5 @@ pub(crate) fn part<T: Drop, A: Allocator>(
     match queue.split(party) {
         Ok(parties) => parties,
         Err(_) => panic!(rt; "no second party"),
-    }
-}
-
-/// Ends the sharing. Asserts that it ends.
-pub(crate) fn end<T: Drop, A: Allocator>(
-    rt: &impl Abort,
-    queue: ConcurrentQueue<T, A>,
-    party: Party<T>,
-) -> Exclusive<T, A>
-    requires { IsPartyOf party queue }
-{
-    match queue.finish(party) {
-        Ok(alone) => alone,
-        Err(_) => panic!(rt; "not finished"),
-    }
-}
-
-/// Asserts that the sharing does not end with this party alone.
-pub(crate) fn stay_shared<T: Drop, A: Allocator>(
-    rt: &impl Abort,
-    queue: ConcurrentQueue<T, A>,
-    party: Party<T>,
-) -> (ConcurrentQueue<T, A>, Party<T>)
-    requires { IsPartyOf party queue }
-    ensures { (result.0 ≡ queue) × IsPartyOf result.1 queue }
-{
-    match queue.finish(party) {
-        Err(both) => both,
-        Ok(_) => panic!(rt; "finished with a party missing"),
     }
 }

@@ -1,0 +1,17 @@
+//! Tests of queues that parties share: stories of one thread, threads, calls that are held between their steps, and calls that never wait.
+#![tactic(auto)]
+
+#[cfg(test)]
+mod asserts;
+#[cfg(test)]
+mod calls;
+#[cfg(test)]
+mod crew;
+#[cfg(test)]
+mod held;
+#[cfg(test)]
+mod opening;
+#[cfg(test)]
+mod pending;
+#[cfg(test)]
+mod shared;

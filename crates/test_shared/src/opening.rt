@@ -1,0 +1,85 @@
+//! Queues of every kind, as the tests open them, part their parties, and end their sharing.
+ghost use Rattle.std.specs.Prelude.{◌≡◌, IfOk};
+ghost use Rattle.queue_steps.specs.Shares.{entire};
+ghost use Rattle.concurrent_queue.specs.Shared.{IsPartyOf};
+
+use concurrent_queue::{ConcurrentQueue, Exclusive, Party};
+use mem_blocks::null_testable::NullTestable;
+use std::alloc::{AllocError, Allocator};
+use std::process::Abort;
+
+/// A queue and its only party, where there was memory.
+pub(crate) type Opened<T, A> = Result<(ConcurrentQueue<T, A>, Party<T>), AllocError>;
+
+/// An empty open queue of this capacity, or without one, and its only party. Asserts that the capacity is not 0.
+pub(crate) fn open<T: Drop, A: NullTestable + Clone>(
+    rt: &impl Abort,
+    alloc: A,
+    cap: Option<usize>,
+) -> Opened<T, A>
+    ensures { IfOk result (λ r. IsPartyOf r.1 r.0 × (r.1.view.share ≡ entire)) }
+{
+    match cap {
+        Some(0) => panic!(rt; "a capacity of 0"),
+        Some(slots) => ConcurrentQueue::bounded(alloc, slots),
+        None => ConcurrentQueue::unbounded(alloc),
+    }
+}
+
+/// The same, where there has to be memory. Asserts that there is.
+pub(crate) fn open_surely<T: Drop, A: NullTestable + Clone>(
+    rt: &impl Abort,
+    alloc: A,
+    cap: Option<usize>,
+) -> (ConcurrentQueue<T, A>, Party<T>)
+    ensures { IsPartyOf result.1 result.0 × (result.1.view.share ≡ entire) }
+{
+    match open(rt, alloc, cap) {
+        Ok(both) => both,
+        Err(_) => panic!(rt; "no memory"),
+    }
+}
+
+/// Two parties, of one that is parted. Asserts that it is.
+pub(crate) fn part<T: Drop, A: Allocator>(
+    rt: &impl Abort,
+    queue: &ConcurrentQueue<T, A>,
+    party: Party<T>,
+) -> (Party<T>, Party<T>)
+    requires { IsPartyOf party queue.now }
+    ensures { IsPartyOf result.0 queue.now × IsPartyOf result.1 queue.now }
+{
+    match queue.split(party) {
+        Ok(parties) => parties,
+        Err(_) => panic!(rt; "no second party"),
+    }
+}
+
+/// Ends the sharing. Asserts that it ends.
+pub(crate) fn end<T: Drop, A: Allocator>(
+    rt: &impl Abort,
+    queue: ConcurrentQueue<T, A>,
+    party: Party<T>,
+) -> Exclusive<T, A>
+    requires { IsPartyOf party queue }
+{
+    match queue.finish(party) {
+        Ok(alone) => alone,
+        Err(_) => panic!(rt; "not finished"),
+    }
+}
+
+/// Asserts that the sharing does not end with this party alone.
+pub(crate) fn stay_shared<T: Drop, A: Allocator>(
+    rt: &impl Abort,
+    queue: ConcurrentQueue<T, A>,
+    party: Party<T>,
+) -> (ConcurrentQueue<T, A>, Party<T>)
+    requires { IsPartyOf party queue }
+    ensures { (result.0 ≡ queue) × IsPartyOf result.1 queue }
+{
+    match queue.finish(party) {
+        Err(both) => both,
+        Ok(_) => panic!(rt; "finished with a party missing"),
+    }
+}
