@@ -1,14 +1,12 @@
 -- What calls of a crew's threads come to, and two works that are joined.
-use Rattle.std.proofs.Common.{◌≡◌, ◌≢◌, ⊎_elim, ℕ, zero, suc, ◌+◌, ◌*◌, ◌<◌, ◌≤◌, ◌^◌, ◌&&◌, Bool, true, false, Option, List, [], ◌∷◌, length, get_or, set, replicate, Err, refl, ap, sym, subst, ◌∙◌, arith, add-zero}
-use Rattle.std.proofs.Math.Nat.{add-mul, mul-le-mul_right}
+use Rattle.std.proofs.Common.{◌≡◌, ⊎_elim, ℕ, zero, suc, ◌+◌, ◌*◌, ◌<◌, ◌≤◌, ◌^◌, ◌&&◌, Bool, true, false, cond, inl, inr, Option, List, [], ◌∷◌, length, get_or, set, replicate, Err, refl, ap, sym, subst, ◌∙◌, arith, add-zero}
+use Rattle.std.proofs.Math.Nat.{add-mul}
 use Rattle.std.specs.List.{All, count_by}
 use Rattle.std.proofs.lemmas.Bool.{true≢false, false≢true}
-use Rattle.std.proofs.lemmas.Bool.Decides.{nat_tests}
+use Rattle.std.proofs.lemmas.Bool.Decides.{eqb_tells}
 use Rattle.std.proofs.lemmas.List.{get_or-set_other}
 use Rattle.std.proofs.lemmas.Grind.{get_or-set_at}
 use Rattle.std.proofs.lemmas.List.Elements.{All-head, All-tail, All-replicate, All-set, All-weaker, All-from_get_or}
-use mathlib.Core.Logic.{dite}
-use native.Mathlib.Decide.{ℕ_discrete}
 use mathlib.Core.Option.{some, some-injective, some-ne-none}
 use lib.ListN.{get_elem?}
 use Rattle.queue_steps.specs.declared.model.Call.TheVariants as call
@@ -34,7 +32,7 @@ use Rattle.app_threads.specs.Meetings.{AreHandsOf, AreThreeParts, Unites, IsShak
 use Rattle.app_threads.specs.declared.handshake.Hands.{Hands}
 use Rattle.app_threads.specs.declared.handshake.Shaken.{Shaken}
 use Rattle.app_threads.specs.declared.crew.Work.{Work}
-use Rattle.law_parties.proofs.Doings.{acts, acts_on, unchanged, did_both, still_closed}
+use Rattle.law_parties.proofs.Doings.{acts, acts_on, single, unchanged, did_both, still_closed}
 
 -- a party that has done nothing makes a call
 pub first_acts : {T : Type 0} (u v w : Person T) (c : Call T) (r : Reply T) (es : List (Effect T)) → IsView v.queue.cap v.view → Acts u v [] → (call : Calls v c r w) → call.1.effects ≡ es → Acts u w es
@@ -137,16 +135,17 @@ none_taken items n v u counts are same x lt =
 pub taken_more : (items value : ℕ) (v u w : Person ℕ) (old new : List ℕ) → length old ≡ items → new ≡ counted value old → Acts u w (effect.Take value ∷ [])
     → ((x : ℕ) → x < items → takes x u.view ≡ takes x v.view + get_or old x 0) → (x : ℕ) → x < items → takes x w.view ≡ takes x v.view + get_or new x 0
 taken_more items value v u w old new complete is acts before x lt =
-    let more = acts.did (is_take x) in let so_far = before x lt in
-    dite (ℕ_discrete value x)
-    (λ same.
-    let old_one : get_or old value 0 ≡ get_or old x 0 = ap (λ (n : ℕ). get_or old n 0) same in
-    let here : get_or (set old value (get_or old value 0 + 1)) x 0 ≡ get_or old value 0 + 1 = get_or-set_at old value x (get_or old value 0 + 1) 0 (sym same) (omega (arith, same, lt, complete)) in
-    let now : get_or new x 0 ≡ get_or old x 0 + 1 = ap (λ (l : List ℕ). get_or l x 0) is ∙ (here ∙ ap (λ (n : ℕ). n + 1) old_one) in
-    let one : count_by (is_take x) (effect.Take value ∷ []) ≡ 1 = grind (arith, nat_tests) in omega (arith, more, so_far, now, one))
-    (λ (other : value ≢ x).
-    let now : get_or new x 0 ≡ get_or old x 0 = ap (λ (l : List ℕ). get_or l x 0) is ∙ get_or-set_other old value x (get_or old value 0 + 1) 0 (λ same. other (sym same)) in
-    let none : count_by (is_take x) (effect.Take value ∷ []) ≡ 0 = grind (arith, nat_tests) in omega (arith, more, so_far, now, none))
+    let more = acts.did (is_take x) in let so_far = before x lt in let counts = single (is_take x) (effect.Take value) in
+    elim (eqb_tells value x) [
+      | inl h ↦
+          let old_one : get_or old value 0 ≡ get_or old x 0 = ap (λ (n : ℕ). get_or old n 0) h.1 in
+          let here : get_or (set old value (get_or old value 0 + 1)) x 0 ≡ get_or old value 0 + 1 = get_or-set_at old value x (get_or old value 0 + 1) 0 (sym h.1) (omega (arith, h.1, lt, complete)) in
+          let now : get_or new x 0 ≡ get_or old x 0 + 1 = ap (λ (l : List ℕ). get_or l x 0) is ∙ (here ∙ ap (λ (n : ℕ). n + 1) old_one) in
+          let one : count_by (is_take x) (effect.Take value ∷ []) ≡ 1 = counts ∙ ap (λ (b : Bool). cond {A = ℕ} b 1 0) h.0 in omega (arith, more, so_far, now, one)
+      | inr h ↦
+          let now : get_or new x 0 ≡ get_or old x 0 = ap (λ (l : List ℕ). get_or l x 0) is ∙ get_or-set_other old value x (get_or old value 0 + 1) 0 (λ same. h.1 (sym same)) in
+          let none : count_by (is_take x) (effect.Take value ∷ []) ≡ 0 = counts ∙ ap (λ (b : Bool). cond {A = ℕ} b 1 0) h.0 in omega (arith, more, so_far, now, none)
+    ]
 
 pub low_at : (most : ℕ) (counts : List ℕ) (x : ℕ) → All (λ count. count ≤ most) counts → get_or counts x 0 ≤ most
 low_at most [] x few = omega arith
@@ -199,18 +198,6 @@ either_false false b first second is = first refl
 -- one piece of work more
 pub one_more : (made share : ℕ) → made * share + share ≡ (made + 1) * share
 one_more made share = let itself : 1 * share ≡ share = omega arith in sym (add-mul made 1 share ∙ ap (λ (n : ℕ). made * share + n) itself)
-
--- so few pieces of work count no more than so many
-pub fewer : (made threads share : ℕ) → made ≤ threads → made * share ≤ threads * share
-fewer made threads share le = mul-le-mul_right share le
-
-pub fewer_work : (q : QueueId) (items low most : ℕ) (t : ℕ → ℕ) (s : Share) (work : Work) → low ≤ most → IsWorkOf q items low t s work → IsWorkOf q items most t s work
-fewer_work q items low most t s work le is = record {
-  queue = is.queue;
-  taken = is.taken;
-  few = All-weaker (λ count. count ≤ low) (λ count. count ≤ most) (λ count few. omega (arith, few, le)) work.counts.items is.few;
-  share = is.share;
-}
 
 -- one party of two took what they took
 pub takes_both : (q : QueueId) (a b w : Person ℕ) → a.queue ≡ q → b.queue ≡ q → IsView a.queue.cap a.view → IsView b.queue.cap b.view → Joins a b w → (x : ℕ) → takes x w.view ≡ takes x a.view + takes x b.view

@@ -276,7 +276,13 @@ fn reply<R: Wait>(rt: &R, back: &Queue, there: &Queue, hands: Hands) -> Shaken
         mut sends,
         mut takes,
     } = hands;
-    let came = expect_item(rt, there, &mut takes, 1) && back.push(rt, &mut sends, 2).is_ok();
+    if !expect_item(rt, there, &mut takes, 1) {
+        return Shaken {
+            hands: Hands { sends, takes },
+            came: false,
+        };
+    }
+    let came = back.push(rt, &mut sends, 2).is_ok();
     Shaken {
         hands: Hands { sends, takes },
         came,

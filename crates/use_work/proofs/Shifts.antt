@@ -1,35 +1,29 @@
 -- What calls, partings and joinings add to the jobs that a party took.
-use Rattle.std.proofs.Common.{◌≡◌, ℕ, zero, suc, ◌+◌, ◌<◌, ◌≤◌, ◌==◌, Bool, true, false, cond, Option, None, List, [], ◌∷◌, ◌++◌, Ok, Err, refl, ap, sym, subst, ◌∙◌, inl, inr, ⊎_elim, append_assoc, append-nil, length, map, arith}
+use Rattle.std.proofs.Common.{◌≡◌, ℕ, zero, suc, ◌+◌, ◌<◌, ◌≤◌, ◌==◌, Bool, true, false, cond, None, List, [], ◌∷◌, ◌++◌, Ok, Err, refl, ap, sym, subst, ◌∙◌, inl, inr, append_assoc, append-nil, length, map, arith}
 use Rattle.std.specs.List.{All, count_by}
 use Rattle.std.proofs.lemmas.Bool.Decides.{eqb_tells}
 use Rattle.std.proofs.lemmas.List.{length-map}
 use Rattle.std.proofs.lemmas.List.Elements.{All-head, All-tail}
 use Rattle.std.proofs.lemmas.List.Sums.{sum_by-cons, sum_by-append}
-use mathlib.Core.List.{IsPrefix}
 use lib.ListN.{get_elem?}
 use Rattle.queue_steps.specs.declared.model.Effect.{Effect}
 use Rattle.queue_steps.specs.declared.model.Effect.TheVariants as effect
 use Rattle.queue_steps.specs.declared.model.Call.TheVariants as call
 use Rattle.queue_steps.specs.declared.model.Reply.TheVariants as reply
 use Rattle.queue_steps.specs.declared.errors.PopError.{PopError}
-use Rattle.queue_steps.specs.declared.errors.PopError.TheVariants as pop
 use Rattle.queue_steps.specs.Effect.{after}
 use Rattle.queue_steps.specs.Legal.{IsSoundOwned}
 use Rattle.queue_steps.specs.Sequential.{Owned}
 use Rattle.queue_steps.specs.Parties.{IsView}
 use Rattle.concurrent_queue.specs.Shared.{QueueId, Person, IsPartyOf, Calls, Finishes}
-use Rattle.law_histories.specs.Histories.{IsDrained}
-use Rattle.law_histories.proofs.Closing.{ends_at}
-use Rattle.law_parties.specs.Doings.{passes, done_by, hands_in, hands_out, Acts}
-use Rattle.law_parties.proofs.Doings.{acts, acts_on}
+use Rattle.law_parties.specs.Doings.{passes, done_by, hands_in, hands_out, Acts, SawDrained}
+use Rattle.law_parties.proofs.Doings.{acts, acts_on, single}
+use Rattle.law_parties.proofs.Drained.{still_drained, is_drained}
 use Rattle.law_parties.proofs.Whole.{all_there}
 use Rattle.queue_crew.specs.Work.{Piece, EachReports, IsPartOf, done_by_all, HasWorked}
 use Rattle.queue_crew.specs.declared.refusal.OnRefusal.TheVariants as refusal
-use Rattle.use_work.specs.Work.{times, all_handed, appended, Took, HasTaken, Hauled, SawDrained}
+use Rattle.use_work.specs.Work.{times, all_handed, appended, Took, HasTaken, Hauled}
 use Rattle.use_work.specs.declared.Haul.{Haul}
-
-single : {X : Type 0} (test : X → Bool) (e : X) → count_by test (e ∷ []) ≡ cond (test e) 1 0
-single test e = let one = sum_by-cons (λ f. cond (test f) 1 0) e [] in omega (arith, one)
 
 one_more : {X : Type 0} (test : X → Bool) (es : List X) (e : X) → count_by test (es ++ e ∷ []) ≡ count_by test es + cond (test e) 1 0
 one_more test es e = sum_by-append (λ f. cond (test f) 1 0) es (e ∷ []) ∙ ap (λ k. count_by test es + k) (single test e)
@@ -67,15 +61,6 @@ pub close_takes_none : (v w : Person ℕ) (b : Bool) → IsView v.queue.cap v.vi
 close_takes_none v w true is closed =
     took_by v w (effect.Close ∷ []) [] (acts v w call.Close (reply.Close true) (effect.Close ∷ []) is closed closed.1.tells) (λ x. (single (hands_out x) effect.Close, single (hands_in x) effect.Close))
 close_takes_none v w false is closed = took_by v w [] [] (acts v w call.Close (reply.Close false) [] is closed closed.1.tells) (λ x. (refl, refl))
-
--- a pop that finds the queue closed has seen it closed and empty
-pub saw_drained : (v w : Person ℕ) → Calls v call.Pop (reply.Pop (Err pop.Closed)) w → SawDrained w
-saw_drained v w popped =
-    let seen = popped.1.right popped.1.tells in
-    (seen.0, seen.2, subst {A = Option ℕ} (λ cap. IsDrained (after cap seen.0)) (sym (ap (λ (q : QueueId). q.cap) popped.0)) (⊎_elim (λ right. right) (λ lacks. absurd lacks) seen.3))
-
-prefix_on : (h s t : List (Effect ℕ)) → IsPrefix h s → IsPrefix s t → IsPrefix h t
-prefix_on h s t (d, is) (e, on) = (d ++ e, sym (append_assoc h d e) ∙ (ap (λ (l : List (Effect ℕ)). l ++ e) is ∙ on))
 
 -- the jobs of one worker more
 pub handed_on : (hauls : List Haul) (haul : Haul) → all_handed (hauls ++ haul ∷ []) ≡ all_handed hauls ++ haul.handed.items
@@ -119,9 +104,9 @@ drained_by : (q : QueueId) (all : Person ℕ) (pieces : List (Piece ℕ Haul)) �
     → All (λ p. IsPartOf q p.party all) pieces → 0 < length pieces → SawDrained all
 drained_by q all [] of told finished within some = absurd (omega (arith, some))
 drained_by q all (p ∷ ps) of told finished within some =
-    let (h, begins, drained) = (told.0 (All-head (λ haul. haul.finished ≡ true) p.post (map (λ x. x.post) ps) finished)).1 in
+    let drained = (told.0 (All-head (λ haul. haul.finished ≡ true) p.post (map (λ x. x.post) ps) finished)).1 in
     let part = All-head (λ (x : Piece ℕ Haul). IsPartOf q x.party all) p ps within in
-    (h, prefix_on h p.party.view.seen all.view.seen begins part.1, subst {A = QueueId} (λ z. IsDrained (after z.cap h)) (part.0 ∙ sym of) drained)
+    still_drained p.party all (of ∙ sym part.0) part.1 drained
 
 pub all_drained : (q : QueueId) (started : Bool) (v all : Person ℕ) (hauls : List Haul) → HasWorked Hauled q refusal.GoOn started v all hauls → All (λ haul. haul.finished ≡ true) hauls → 0 < length hauls
     → SawDrained all
@@ -182,5 +167,4 @@ append_more v u w n done is before pushed =
 
 -- then no job is left
 pub none_left : (p : Person ℕ) (left : Owned ℕ) → IsView p.queue.cap p.view → SawDrained p → Finishes p left → left.queue.items ≡ []
-none_left p left is (h, begins, drained) ended =
-    ended.2.items ∙ (ap (λ (t : List (Effect ℕ)). (after p.queue.cap t).items) (ends_at p.queue.cap h p.view.seen drained begins is.legal) ∙ drained.0)
+none_left p left is drained ended = ended.2.items ∙ (is_drained p is.legal drained).0

@@ -3,11 +3,8 @@ use Rattle.std.specs.Prelude.{◌≡◌, ℕ, zero, suc, ◌+◌, ◌<◌, ◌==
 use Rattle.std.specs.List.{count_by}
 use Rattle.queue_steps.specs.declared.model.Effect.{Effect}
 use Rattle.queue_steps.specs.declared.model.Effect.TheVariants as effect
-use mathlib.Core.List.{IsPrefix}
-use Rattle.queue_steps.specs.Effect.{after}
-use Rattle.law_histories.specs.Histories.{IsDrained}
 use Rattle.concurrent_queue.specs.Shared.{Person}
-use Rattle.law_parties.specs.Doings.{done_by, hands_in, hands_out}
+use Rattle.law_parties.specs.Doings.{done_by, hands_in, hands_out, SawDrained}
 use Rattle.use_work.specs.declared.Report.{Report}
 use Rattle.use_work.specs.declared.Haul.{Haul}
 
@@ -31,10 +28,6 @@ appended (suc n) = appended n ++ effect.Append n ∷ []
 -- from v to w the party took these jobs, and appended none
 abbrev pub Took : Person ℕ → Person ℕ → List ℕ → Type 0
 Took v w jobs = (job : ℕ) → (done_by (hands_out job) w.view ≡ done_by (hands_out job) v.view + times job jobs) × (done_by (hands_in job) w.view ≡ done_by (hands_in job) v.view)
-
--- the party has seen the queue closed and empty
-abbrev pub SawDrained : Person ℕ → Type 0
-SawDrained p = (h : List (Effect ℕ)) × IsPrefix h p.view.seen × IsDrained (after p.queue.cap h)
 
 -- all that the party has done is that it took these jobs
 abbrev pub HasTaken : Person ℕ → List ℕ → Type 0

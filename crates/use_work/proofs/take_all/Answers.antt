@@ -1,6 +1,7 @@
 use Rattle.std.proofs.Common.{◌∙◌}
 use Rattle.queue_steps.specs.declared.errors.PopError.TheVariants as pop
-use Rattle.use_work.proofs.Shifts.{took_one, took_no_more, has_taken, saw_drained}
+use Rattle.law_parties.proofs.Drained.{saw_drained}
+use Rattle.use_work.proofs.Shifts.{took_one, took_no_more, has_taken}
 use Rattle.use_work.proofs.take_all.Goals as goal
 
 pub loop-preserved-in-Ok-push : goal.loop-preserved-in-Ok-push
