@@ -64,13 +64,31 @@ pub fn run_crew<R: Threads + Wait + Sync, S: Seat + Send + Drop>(
     seat: S,
     crew: Crew,
 ) -> Result<u64, AllocError> {
+    let members = enlist_all(alloc, seat, crew)?;
+    let sums = thread::map_vec(rt, members, &|member: Member<S>| act(rt, member))?;
+    Ok(sum_of(sums.as_slice()))
+}
+
+fn sum_of(numbers: &[u64]) -> u64 {
+    let mut sum = 0u64;
+    for number in numbers {
+        sum = sum.wrapping_add(*number);
+    }
+    sum
+}
+
+// The members of a crew.
+fn enlist_all<S: Seat + Drop>(
+    alloc: Global,
+    seat: S,
+    crew: Crew,
+) -> Result<Vec<Member<S>>, AllocError> {
     let pushed = crew.pushers.wrapping_mul(crew.count);
     let share = pushed.checked_div(crew.poppers).unwrap_or(0);
     let mut members = Vec::new(alloc);
     let seat = enlist(seat, &mut members, Role::Pushes(crew.count), crew.pushers)?;
     enlist(seat, &mut members, Role::Pops(share), crew.poppers)?;
-    let sums = thread::map_vec(rt, members, &|member: Member<S>| act(rt, member))?;
-    Ok(sums.iter().fold(0u64, |sum, more| sum.wrapping_add(*more)))
+    Ok(members)
 }
 
 // Adds so many members with this role. Gives the seat that is left.

@@ -14,6 +14,7 @@ mod runs;
 
 use crate::load::parse_load;
 use crate::runs::{Run, time};
+use app_text::words::words_of;
 use std::io::ErrorKind;
 use std::sync::Wait;
 use std::thread::Threads;
@@ -65,26 +66,20 @@ static SHORT: [&str; 41] = [
 ];
 
 fn main(rt: HostRuntime) -> io::Result<()> {
-    let line = arguments(&rt)?;
-    if !line.is_empty() {
-        return tell(&rt, &rt, line.as_str());
-    }
-    for line in SHORT {
-        tell(&rt, &rt, line)?;
-    }
-    Ok(())
+    let words = words_of(rt.alloc(), env::args(&rt))?;
+    let line = words.join(rt.alloc(), " ")?;
+    run(&rt, &rt, line.as_str())
 }
 
-// The arguments of the program, with a space between.
-fn arguments(rt: &HostRuntime) -> io::Result<String> {
-    let mut line = String::new(rt.alloc());
-    for word in env::args(rt)?.skip(1) {
-        if !line.is_empty() {
-            line.push(' ')?;
-        }
-        line.push_str(word.as_str())?;
+// Runs what this line names, or each of the short runs where it names none.
+fn run<R: Threads + Wait + Sync>(rt: &HostRuntime, threads: &R, line: &str) -> io::Result<()> {
+    if !line.is_empty() {
+        return tell(rt, threads, line);
     }
-    Ok(line)
+    for line in SHORT.iter() {
+        tell(rt, threads, line)?;
+    }
+    Ok(())
 }
 
 // Runs the load that this line names, and tells what came of it.
@@ -93,24 +88,32 @@ fn tell<R: Threads + Wait + Sync>(rt: &HostRuntime, threads: &R, line: &str) -> 
         return Err(io::Error::from(ErrorKind::InvalidInput));
     };
     let Run { sum, took } = time(rt, threads, load)?;
-    println!(rt; "{line}: sum {sum}")?;
-    let nanos = took.as_nanos();
+    tell_sum(rt, line, sum)?;
+    tell_time(rt, line, took.as_nanos())
+}
+
+fn tell_sum<R: Print>(rt: &R, line: &str, sum: u64) -> io::Result<()> {
+    println!(rt; "{line}: sum {sum}")
+}
+
+fn tell_time(rt: &HostRuntime, line: &str, nanos: u128) -> io::Result<()> {
     match peak(rt) {
-        Ok(peak) => eprintln!(rt; "{line}: {nanos} ns, peak {peak} KiB"),
-        Err(_) => eprintln!(rt; "{line}: {nanos} ns"),
+        Some(peak) => eprintln!(rt; "{line}: {nanos} ns, peak {peak} KiB"),
+        None => eprintln!(rt; "{line}: {nanos} ns"),
     }
 }
 
 // The most memory that this process has had so far, in KiB, where the system tells.
-fn peak(rt: &HostRuntime) -> io::Result<u64> {
-    let status = fs::read_to_string(rt, "/proc/self/status")?;
-    for line in status.lines() {
-        if let Some(size) = line.strip_prefix("VmHWM:")
-            && let Some(digits) = size.trim().strip_suffix(" kB")
-            && let Ok(peak) = digits.parse()
-        {
-            return Ok(peak);
-        }
+fn peak(rt: &HostRuntime) -> Option<u64> {
+    match fs::read_to_string(rt, "/proc/self/status") {
+        Ok(status) => peak_in(status.as_str()),
+        Err(_) => None,
     }
-    Err(io::Error::from(ErrorKind::NotFound))
+}
+
+// The peak that is told by one of these lines.
+fn peak_in(status: &str) -> Option<u64> {
+    let (_, behind) = status.split_once("VmHWM:")?;
+    let (size, _) = behind.split_once(" kB")?;
+    size.trim().parse().ok()
 }

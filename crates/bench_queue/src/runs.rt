@@ -115,6 +115,10 @@ fn time_lane<T: Runs, L: Lane<T> + Drop>(
     mut lane: L,
     pairs: Pairs,
 ) -> io::Result<Run> {
+    time_loop(rt, &mut lane, pairs)
+}
+
+fn time_loop<T: Runs, L: Lane<T>>(rt: &HostRuntime, lane: &mut L, pairs: Pairs) -> io::Result<Run> {
     let items = match pairs.work {
         Work::Behind(items) => {
             for number in 0..items {
@@ -125,7 +129,7 @@ fn time_lane<T: Runs, L: Lane<T> + Drop>(
         Work::Batch(items) => items,
     };
     let start = Instant::now(rt)?;
-    let taken = T::run(&mut lane, items, pairs.count);
+    let taken = T::run(lane, items, pairs.count);
     let took = start.elapsed(rt)?;
     // the last item counts twice, so that the whole of each is wanted
     Ok(Run {

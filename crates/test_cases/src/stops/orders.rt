@@ -1,11 +1,11 @@
 //! Finds the calls of a run in one order of whole calls, each of which is one moment, a displacement too.
-use crate::claims::{Claim, claim_of};
-use crate::events::Item;
-use crate::flaw::Flaw;
-use crate::queue::{Moment, Queue};
+use crate::stops::claims::{Claim, claim_of};
+use crate::stops::events::Item;
+use crate::stops::flaw::{Flaw, append};
+use crate::stops::queue::{Moment, Queue};
 use machine_replay::types::EffectKind;
 use queue_steps::model::{Call, Reply};
-use std::alloc::{AllocError, Global};
+use std::alloc::Global;
 
 /// A call of a run, with the numbers of its events.
 #[derive(Clone, Copy)]
@@ -52,13 +52,14 @@ impl History {
     }
 
     /// Notes a call that begins with this event, and gives its number.
-    pub fn begin(&mut self, call: Call<Item>, event: usize) -> Result<usize, AllocError> {
+    pub fn begin(&mut self, call: Call<Item>, event: usize) -> Result<usize, Flaw> {
         let number = self.calls.len();
-        self.calls.push(Span {
+        let span = Span {
             call,
             first: event,
             end: None,
-        })?;
+        };
+        append(&mut self.calls, span)?;
         Ok(number)
     }
 
@@ -70,13 +71,13 @@ impl History {
     }
 
     /// Notes what the call does at this event.
-    pub fn act(&mut self, call: usize, event: usize, effect: EffectKind) -> Result<(), AllocError> {
-        self.acts.push(Act {
+    pub fn act(&mut self, call: usize, event: usize, effect: EffectKind) -> Result<(), Flaw> {
+        let act = Act {
             event,
             call,
             effect,
-        })?;
-        Ok(())
+        };
+        append(&mut self.acts, act)
     }
 
     /// Notes that the call ends with this event, and its reply.
@@ -95,8 +96,7 @@ struct Settling {
 }
 
 // The settlings of the calls that did something. A displacement is settled where it takes the front off, or right before a close that comes earlier.
-fn settle(alloc: Global, acts: &[Act]) -> Result<Vec<Settling>, AllocError> {
-    let mut settlings = Vec::new(alloc);
+fn settle(acts: &[Act], settlings: &mut Vec<Settling>) -> Result<(), Flaw> {
     let mut closed = false;
     for (number, act) in acts.iter().enumerate() {
         match act.effect {
@@ -104,13 +104,13 @@ fn settle(alloc: Global, acts: &[Act]) -> Result<Vec<Settling>, AllocError> {
             EffectKind::Front if closed => {}
             EffectKind::Close | EffectKind::SelfClose => {
                 closed = true;
-                displace(&mut settlings, act.event, acts, number)?;
-                settlings.push(act.settling())?;
+                displace(settlings, act.event, acts, number)?;
+                append(settlings, act.settling())?;
             }
-            _ => settlings.push(act.settling())?,
+            _ => append(settlings, act.settling())?,
         }
     }
-    Ok(settlings)
+    Ok(())
 }
 
 // The displacements from the effect of this number on are settled at this event.
@@ -119,13 +119,14 @@ fn displace(
     event: usize,
     acts: &[Act],
     number: usize,
-) -> Result<(), AllocError> {
+) -> Result<(), Flaw> {
     for act in acts.iter().skip(number) {
         if act.effect == EffectKind::Front {
-            settlings.push(Settling {
+            let settling = Settling {
                 event,
                 call: act.call,
-            })?;
+            };
+            append(settlings, settling)?;
         }
     }
     Ok(())
@@ -167,15 +168,10 @@ pub fn find_order(
     moments: &[Moment],
     queue: &Queue,
 ) -> Result<(), Flaw> {
-    let mut order = Order {
-        queue: Queue::new(alloc, queue.capacity()),
-        stands: Vec::new(alloc),
-        made: Vec::from_elem(alloc, false, history.calls.len())?,
-    };
-    order.note(0)?;
-    for settling in settle(alloc, history.acts.as_slice())? {
-        order.make_call(history, settling)?;
-    }
+    let mut settlings = Vec::new(alloc);
+    settle(history.acts.as_slice(), &mut settlings)?;
+    let mut order = Order::new(alloc, queue.capacity(), history.calls.len())?;
+    order.make_calls(history, settlings.as_slice())?;
     if order.has_rest(history, moments) && order.queue.is_settled(queue) {
         Ok(())
     } else {
@@ -184,17 +180,36 @@ pub fn find_order(
 }
 
 impl Order {
+    // Of an empty queue, and none of so many calls.
+    fn new(alloc: Global, cap: Option<usize>, calls: usize) -> Result<Order, Flaw> {
+        let made = Vec::from_elem(alloc, false, calls)?;
+        Ok(Order {
+            queue: Queue::new(alloc, cap),
+            stands: Vec::new(alloc),
+            made,
+        })
+    }
+
+    // Makes the calls of these settlings.
+    fn make_calls(&mut self, history: &History, settlings: &[Settling]) -> Result<(), Flaw> {
+        self.note(0)?;
+        for settling in settlings {
+            self.make_call(history, *settling)?;
+        }
+        Ok(())
+    }
+
     // Notes the state that the queue has from this event on.
-    fn note(&mut self, event: usize) -> Result<(), AllocError> {
+    fn note(&mut self, event: usize) -> Result<(), Flaw> {
         if let Some(before) = self.stands.last_mut() {
             before.until = event;
         }
-        self.stands.push(Stand {
+        let stand = Stand {
             from: event,
             until: usize::MAX,
             moment: self.queue.moment(),
-        })?;
-        Ok(())
+        };
+        append(&mut self.stands, stand)
     }
 
     // Makes a call that was not made yet, in its time.
@@ -214,8 +229,7 @@ impl Order {
             Some((last, told)) if settling.event > last || told != reply => return Err(Flaw::Order),
             _ => {}
         }
-        self.note(settling.event)?;
-        Ok(())
+        self.note(settling.event)
     }
 
     // Whether each other call that has ended is right at one of its moments.

@@ -1,6 +1,6 @@
 //! What a reply without an effect says of the queue, which is to be right at a moment of its call.
-use crate::events::Item;
-use crate::queue::Moment;
+use crate::stops::events::Item;
+use crate::stops::queue::Moment;
 use queue_steps::errors::{ForcePushError, PopError, PushError};
 use queue_steps::model::{Call, Reply};
 use queue_steps::sizes::BLOCK_SLOTS;

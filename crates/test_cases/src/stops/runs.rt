@@ -1,11 +1,11 @@
 //! Runs of the machine in memory that is counted, each of which is read.
-use crate::events::{Events, Item};
-use crate::flaw::Flaw;
-use crate::reader::read;
-use crate::shapes::Shape;
+use crate::stops::events::{Events, Item};
+use crate::stops::flaw::Flaw;
+use crate::stops::reader::read;
+use crate::stops::shapes::Shape;
 use machine_replay::blocks::Place;
 use machine_replay::replay;
-use machine_replay::types::{EffectKind, Replay};
+use machine_replay::types::{Event, Replay};
 use queue_steps::sizes::BLOCK_SLOTS;
 use std::alloc::{Global, Layout};
 use test_allocators::{Refusal, Refusing};
@@ -71,14 +71,27 @@ fn run_in(
     let mut list = Vec::with_capacity(heap, events.len().max(ROOM))?;
     list.extend_from_slice(events)?;
     let told = replay(heap, shape.kind(), PARTIES, list)?;
-    let in_progress = read(alloc, shape.capacity(), PARTIES, events, &told)?;
+    judge(alloc, heap, shape, events, &told, at_end)?;
+    Ok((times_of(&told, 0, from), times_of(&told, 1, from)))
+}
+
+// Reads what is told of a run, and compares its blocks with those that were counted.
+fn judge(
+    alloc: Global,
+    heap: &Refusing<Global>,
+    shape: Shape,
+    events: &[Event<Item>],
+    told: &Replay<Item, &Refusing<Global>>,
+    at_end: AtEnd,
+) -> Result<(), Flaw> {
+    let in_progress = read(alloc, shape.capacity(), PARTIES, events, told)?;
     if in_progress != 0 && matches!(at_end, AtEnd::Ended) {
         return Err(Flaw::Waits);
     }
     if heap.most_watched() != told.peak.blocks as u64 {
         return Err(Flaw::Blocks);
     }
-    Ok((times_of(&told, 0, from), times_of(&told, 1, from)))
+    Ok(())
 }
 
 fn times_of(told: &Replay<Item, &Refusing<Global>>, party: usize, from: usize) -> Times {

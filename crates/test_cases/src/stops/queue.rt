@@ -1,6 +1,6 @@
 //! A queue as it is defined: a list, an optional capacity, a closed flag, at most one item on its way in, and a count of accepted items.
-use crate::events::Item;
-use crate::flaw::Flaw;
+use crate::stops::events::Item;
+use crate::stops::flaw::{Flaw, append};
 use machine_replay::types::EffectKind;
 use queue_steps::errors::{ForcePushError, PopError, PushError};
 use queue_steps::model::{Call, Reply};
@@ -146,8 +146,8 @@ impl Queue {
     /// `Order` for a call that only looks, and `NoMemory`.
     pub fn make(&mut self, call: Call<Item>) -> Result<Reply<Item>, Flaw> {
         match call {
-            Call::Push(item) => Ok(Reply::Push(self.push(item)?)),
-            Call::ForcePush(item) => Ok(Reply::ForcePush(self.force_push(item)?)),
+            Call::Push(item) => self.push(item),
+            Call::ForcePush(item) => self.force_push(item),
             Call::Pop => Ok(Reply::Pop(self.pop())),
             Call::Close => Ok(Reply::Close(!mem::replace(&mut self.closed, true))),
             _ => Err(Flaw::Order),
@@ -168,23 +168,20 @@ impl Queue {
         self.closed
     }
 
-    fn push(&mut self, item: Item) -> Result<Result<(), PushError<Item>>, Flaw> {
+    fn push(&mut self, item: Item) -> Result<Reply<Item>, Flaw> {
         if self.is_full() && !self.closed {
-            return Ok(Err(PushError::Full(item)));
+            return Ok(Reply::Push(Err(PushError::Full(item))));
         }
         if self.is_shut() {
-            return Ok(Err(PushError::Closed(item)));
+            return Ok(Reply::Push(Err(PushError::Closed(item))));
         }
         self.accept(item)?;
-        Ok(Ok(()))
+        Ok(Reply::Push(Ok(())))
     }
 
-    fn force_push(
-        &mut self,
-        item: Item,
-    ) -> Result<Result<Option<Item>, ForcePushError<Item>>, Flaw> {
+    fn force_push(&mut self, item: Item) -> Result<Reply<Item>, Flaw> {
         if self.is_shut() {
-            return Ok(Err(ForcePushError::Closed(item)));
+            return Ok(Reply::ForcePush(Err(ForcePushError::Closed(item))));
         }
         let old = if self.is_full() {
             self.pop().ok()
@@ -192,7 +189,7 @@ impl Queue {
             None
         };
         self.accept(item)?;
-        Ok(Ok(old))
+        Ok(Reply::ForcePush(Ok(old)))
     }
 
     fn pop(&mut self) -> Result<Item, PopError> {
@@ -280,9 +277,7 @@ impl Queue {
     }
 
     fn accept(&mut self, item: Item) -> Result<(), Flaw> {
-        if self.items.push(item).is_err() {
-            return Err(Flaw::NoMemory);
-        }
+        append(&mut self.items, item)?;
         self.accepted = self.accepted.wrapping_add(1);
         Ok(())
     }

@@ -1,8 +1,8 @@
 //! Calls that stop after each of their steps, while another party's call begins.
-use crate::events::{Events, Item};
-use crate::flaw::Flaw;
-use crate::runs::{AtEnd, Times, run};
-use crate::shapes::{Shape, Start};
+use crate::stops::events::{Events, Item};
+use crate::stops::flaw::Flaw;
+use crate::stops::runs::{AtEnd, Times, run};
+use crate::stops::shapes::{Shape, Start};
 use queue_steps::model::Call;
 use queue_steps::sizes::{BLOCK_SLOTS, SOLO_STEPS};
 use std::alloc::Global;
@@ -308,47 +308,67 @@ fn try_second<R: Print>(
     Ok(())
 }
 
+/// Where the calls of a case are, by the numbers of events.
+#[derive(Clone, Copy)]
+struct Marks {
+    /// The first call begins.
+    begun: usize,
+    /// It has stopped.
+    stopped: usize,
+    /// The second call has stopped too.
+    after: usize,
+}
+
 // Runs a case, up to where both stop and then to the end, and tells whether the second call waited for the first.
 fn judge(alloc: Global, case: Case, alone: u64) -> Result<bool, Flaw> {
-    let Case {
-        shape,
-        start,
-        first,
-        first_stop,
-        second,
-        second_stop,
-        grants,
-    } = case;
     let mut events = Events::new(alloc);
-    start.reach(&mut events)?;
-    let begun = events.len();
-    events.begin(0, first)?;
-    events.steps(0, first_stop, grants.first)?;
-    let stopped = events.len();
-    events.begin(1, second)?;
-    events.steps(1, second_stop, grants.second)?;
-    let after = events.len();
-    run(alloc, shape, &events, begun, AtEnd::Stopped)?;
-    events.steps(0, SOLO_STEPS, grants.first)?;
-    events.steps(1, SOLO_STEPS, grants.second)?;
-    events.steps(0, SOLO_STEPS, grants.first)?;
-    let (times, others) = run(alloc, shape, &events, begun, AtEnd::Ended)?;
-    if grants.first && !stops_in_time(times, begun, stopped, alone) {
+    judge_events(alloc, case, alone, &mut events)
+}
+
+fn judge_events(alloc: Global, case: Case, alone: u64, events: &mut Events) -> Result<bool, Flaw> {
+    let marks = stop_both(case, events)?;
+    run(alloc, case.shape, events, marks.begun, AtEnd::Stopped)?;
+    go_on(case.grants, events)?;
+    let (times, others) = run(alloc, case.shape, events, marks.begun, AtEnd::Ended)?;
+    if case.grants.first && !stops_in_time(times, marks, alone) {
         return Err(Flaw::Steps);
     }
-    let waited = second_stop == SOLO_STEPS && comes_late(others.ended, after);
-    if waited && !holds(times, stopped) {
+    let waited = case.second_stop == SOLO_STEPS && comes_late(others.ended, marks.after);
+    if waited && !holds(times, marks.stopped) {
         return Err(Flaw::Waits);
     }
     Ok(waited)
 }
 
-// Whether a call that began with the event of one number, and stopped before that of another, was then in the middle, or had ended with its last step.
-fn stops_in_time(times: Times, begun: usize, stopped: usize, alone: u64) -> bool {
-    let end = begun.wrapping_add(alone as usize);
+// The events up to where both stop.
+fn stop_both(case: Case, events: &mut Events) -> Result<Marks, Flaw> {
+    case.start.reach(events)?;
+    let begun = events.len();
+    events.begin(0, case.first)?;
+    events.steps(0, case.first_stop, case.grants.first)?;
+    let stopped = events.len();
+    events.begin(1, case.second)?;
+    events.steps(1, case.second_stop, case.grants.second)?;
+    Ok(Marks {
+        begun,
+        stopped,
+        after: events.len(),
+    })
+}
+
+// The events by which both go on to their ends.
+fn go_on(grants: Grants, events: &mut Events) -> Result<(), Flaw> {
+    events.steps(0, SOLO_STEPS, grants.first)?;
+    events.steps(1, SOLO_STEPS, grants.second)?;
+    events.steps(0, SOLO_STEPS, grants.first)
+}
+
+// Whether the first call was in the middle where it stopped, or had ended with its last step.
+fn stops_in_time(times: Times, marks: Marks, alone: u64) -> bool {
+    let end = marks.begun.wrapping_add(alone as usize);
     match times.ended {
-        Some(ended) if end < stopped => ended == end,
-        ended => comes_late(ended, stopped),
+        Some(ended) if end < marks.stopped => ended == end,
+        ended => comes_late(ended, marks.stopped),
     }
 }
 

@@ -1,19 +1,19 @@
 //! Lists of events of all sorts, made from fixed numbers.
-use crate::events::{Events, Item, numbered};
-use crate::flaw::Flaw;
-use crate::runs::{AtEnd, PARTIES, run};
-use crate::shapes::{Shape, Start};
-use crate::stops::MOST_TOLD;
+use crate::stops::cases::MOST_TOLD;
+use crate::stops::events::{Events, Item, numbered};
+use crate::stops::flaw::Flaw;
+use crate::stops::runs::{AtEnd, PARTIES, run};
+use crate::stops::shapes::{Shape, Start};
 use queue_steps::model::Call;
 use queue_steps::sizes::{BLOCK_SLOTS, SOLO_STEPS};
-use std::alloc::{AllocError, Global};
+use std::alloc::Global;
 use std::io;
 
 /// How many times a list goes on with a step, some steps or a call.
 const TURNS: u64 = 80;
 
 /// Numbers that follow from a seed.
-#[derive(Drop)]
+#[derive(Clone, Copy)]
 struct Dice {
     state: u64,
 }
@@ -66,15 +66,25 @@ fn judge(alloc: Global, seed: u64) -> Result<(), Flaw> {
     let mut dice = Dice::new(seed);
     let shape = shape_of(&mut dice);
     let mut events = Events::new(alloc);
+    judge_list(alloc, shape, &mut dice, &mut events)
+}
+
+// Makes the list, runs it, and runs it again with a way to each call's end.
+fn judge_list(
+    alloc: Global,
+    shape: Shape,
+    dice: &mut Dice,
+    events: &mut Events,
+) -> Result<(), Flaw> {
     for _ in 0..dice.roll(4).wrapping_add(1) {
-        start_of(shape, &mut dice).reach(&mut events)?;
+        start_of(shape, dice).reach(events)?;
     }
     for _ in 0..TURNS {
-        add_turn(&mut dice, &mut events)?;
+        add_turn(dice, events)?;
     }
-    run(alloc, shape, &events, 0, AtEnd::Stopped)?;
-    end_all(&mut events)?;
-    run(alloc, shape, &events, 0, AtEnd::Ended)?;
+    run(alloc, shape, events, 0, AtEnd::Stopped)?;
+    end_all(events)?;
+    run(alloc, shape, events, 0, AtEnd::Ended)?;
     Ok(())
 }
 
@@ -103,7 +113,7 @@ fn start_of(shape: Shape, dice: &mut Dice) -> Start {
     }
 }
 
-fn add_turn(dice: &mut Dice, events: &mut Events) -> Result<(), AllocError> {
+fn add_turn(dice: &mut Dice, events: &mut Events) -> Result<(), Flaw> {
     let party = party_of(dice);
     match dice.roll(8) {
         0 | 1 | 2 => {
@@ -139,7 +149,7 @@ fn call_of(dice: &mut Dice) -> Call<Item> {
 }
 
 // Each party goes on in turn, until none waits for another any more: each time one of them at least can end.
-fn end_all(events: &mut Events) -> Result<(), AllocError> {
+fn end_all(events: &mut Events) -> Result<(), Flaw> {
     for _ in 0..PARTIES {
         for party in 0..PARTIES {
             events.steps(party, SOLO_STEPS, true)?;

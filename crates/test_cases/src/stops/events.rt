@@ -1,7 +1,8 @@
 //! Lists of events.
+use crate::stops::flaw::{Flaw, append};
 use machine_replay::types::Event;
 use queue_steps::model::Call;
-use std::alloc::{AllocError, Global};
+use std::alloc::Global;
 
 /// An item of the queues that are tried: a number, four times. Its size and alignment give a block a layout that no list of a run has.
 pub type Item = [u128; 4];
@@ -36,21 +37,20 @@ impl Events {
     }
 
     /// The party begins the call.
-    pub fn begin(&mut self, party: usize, call: Call<Item>) -> Result<(), AllocError> {
-        self.list.push(Event::Begin(party, call))?;
-        Ok(())
+    pub fn begin(&mut self, party: usize, call: Call<Item>) -> Result<(), Flaw> {
+        append(&mut self.list, Event::Begin(party, call))
     }
 
     /// The party takes so many steps, at each of which a block is granted or refused.
-    pub fn steps(&mut self, party: usize, count: u64, granted: bool) -> Result<(), AllocError> {
+    pub fn steps(&mut self, party: usize, count: u64, granted: bool) -> Result<(), Flaw> {
         for _ in 0..count {
-            self.list.push(Event::Step(party, granted))?;
+            append(&mut self.list, Event::Step(party, granted))?;
         }
         Ok(())
     }
 
     /// The party begins the call, and takes so many steps.
-    pub fn call(&mut self, party: usize, call: Call<Item>, count: u64) -> Result<(), AllocError> {
+    pub fn call(&mut self, party: usize, call: Call<Item>, count: u64) -> Result<(), Flaw> {
         self.begin(party, call)?;
         self.steps(party, count, true)
     }

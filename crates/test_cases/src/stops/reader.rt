@@ -1,14 +1,14 @@
 //! Reads what is told of a run, event by event, beside a queue that does what is told.
-use crate::claims::{Claim, claim_of};
-use crate::events::Item;
-use crate::flaw::Flaw;
-use crate::orders::{History, find_order};
-use crate::queue::{Deed, Moment, Queue};
+use crate::stops::claims::{Claim, claim_of};
+use crate::stops::events::Item;
+use crate::stops::flaw::{Flaw, append};
+use crate::stops::orders::{History, find_order};
+use crate::stops::queue::{Deed, Moment, Queue};
 use machine_replay::types::{EffectKind, Event, Peak, Replay};
 use queue_steps::errors::{ForcePushError, PushError};
 use queue_steps::model::{Call, Reply};
 use queue_steps::sizes::{BLOCK_SLOTS, WAIT_FREE_STEPS};
-use std::alloc::{AllocError, Allocator, Global};
+use std::alloc::{Allocator, Global};
 
 /// A call that its party is in.
 #[derive(Clone, Copy)]
@@ -99,9 +99,7 @@ pub fn read<A: Allocator>(
     events: &[Event<Item>],
     run: &Replay<Item, A>,
 ) -> Result<u64, Flaw> {
-    let Ok(calls) = Vec::from_elem(alloc, None, parties) else {
-        return Err(Flaw::NoMemory);
-    };
+    let calls = Vec::from_elem(alloc, None, parties)?;
     let mut reader = Reader {
         queue: Queue::new(alloc, cap),
         calls,
@@ -115,21 +113,25 @@ pub fn read<A: Allocator>(
         replies: run.replies.as_slice(),
         skipped: run.skipped.as_slice(),
     };
-    reader.note_blocks();
-    for (number, event) in events.iter().enumerate() {
-        reader.read_event(number, event)?;
-    }
-    reader.end(run.left.as_slice())?;
-    find_order(
-        alloc,
-        &reader.history,
-        reader.moments.as_slice(),
-        &reader.queue,
-    )?;
-    Ok(reader.in_progress)
+    reader.read_all(alloc, events, run.left.as_slice())
 }
 
 impl<'a> Reader<'a> {
+    fn read_all(
+        &mut self,
+        alloc: Global,
+        events: &[Event<Item>],
+        left: &[Item],
+    ) -> Result<u64, Flaw> {
+        self.note_blocks();
+        for (number, event) in events.iter().enumerate() {
+            self.read_event(number, event)?;
+        }
+        self.end(left)?;
+        find_order(alloc, &self.history, self.moments.as_slice(), &self.queue)?;
+        Ok(self.in_progress)
+    }
+
     fn read_event(&mut self, number: usize, event: &Event<Item>) -> Result<(), Flaw> {
         match event {
             Event::Begin(party, call) => {
@@ -263,9 +265,8 @@ impl<'a> Reader<'a> {
     }
 
     // Notes the queue as it is now.
-    fn note_moment(&mut self) -> Result<(), AllocError> {
-        self.moments.push(self.queue.moment())?;
-        Ok(())
+    fn note_moment(&mut self) -> Result<(), Flaw> {
+        append(&mut self.moments, self.queue.moment())
     }
 
     fn has_no_steps(&self, call: Call<Item>) -> bool {
@@ -297,7 +298,7 @@ impl<'a> Reader<'a> {
                 Some(claim) => self.was_so(in_call.first, claim),
                 None => false,
             },
-            deed => stands_for(deed, in_call.call, reply),
+            deed => reply_for(deed, in_call.call) == Some(reply),
         }
     }
 
@@ -352,23 +353,21 @@ impl<'a> Reader<'a> {
     }
 }
 
-// Whether a reply stands for what its call has done.
-fn stands_for(deed: Deed, call: Call<Item>, reply: Reply<Item>) -> bool {
-    match (deed, call, reply) {
-        (Deed::Appended, Call::Push(_), Reply::Push(Ok(()))) => true,
-        (Deed::Appended, Call::ForcePush(_), Reply::ForcePush(Ok(None))) => true,
-        (Deed::Took(item), Call::Pop, Reply::Pop(Ok(told))) => item == told,
-        (Deed::Replaced(old), Call::ForcePush(_), Reply::ForcePush(Ok(Some(told)))) => old == told,
-        (Deed::Displaced(old), Call::ForcePush(_), Reply::ForcePush(Ok(Some(told)))) => old == told,
-        (Deed::Closed, Call::Close, Reply::Close(true)) => true,
-        (Deed::SelfClosed, Call::Push(item), Reply::Push(Err(PushError::Closed(back)))) => item
-            == back,
-        (
-            Deed::SelfClosed,
-            Call::ForcePush(item),
-            Reply::ForcePush(Err(ForcePushError::Closed(back))),
-        ) => item == back,
-        _ => false,
+// The reply of a call that has done this.
+fn reply_for(deed: Deed, call: Call<Item>) -> Option<Reply<Item>> {
+    match (deed, call) {
+        (Deed::Appended, Call::Push(_)) => Some(Reply::Push(Ok(()))),
+        (Deed::Appended, Call::ForcePush(_)) => Some(Reply::ForcePush(Ok(None))),
+        (Deed::Took(item), Call::Pop) => Some(Reply::Pop(Ok(item))),
+        (Deed::Replaced(old) | Deed::Displaced(old), Call::ForcePush(_)) => {
+            Some(Reply::ForcePush(Ok(Some(old))))
+        }
+        (Deed::Closed, Call::Close) => Some(Reply::Close(true)),
+        (Deed::SelfClosed, Call::Push(item)) => Some(Reply::Push(Err(PushError::Closed(item)))),
+        (Deed::SelfClosed, Call::ForcePush(item)) => {
+            Some(Reply::ForcePush(Err(ForcePushError::Closed(item))))
+        }
+        _ => None,
     }
 }
 

@@ -1,5 +1,5 @@
 //! What a replay of a schedule ends with, told as the explorer tells it.
-use crate::runs::queue_run;
+use crate::stored::runs::queue_run;
 use std::alloc::AllocError;
 use std::str;
 use std::sync::Wait;

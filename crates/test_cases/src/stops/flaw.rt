@@ -2,7 +2,7 @@
 use std::alloc::AllocError;
 
 /// What is wrong with what is told of a run.
-#[derive(Clone, Copy, Debug, Drop, PartialEq, Eq)]
+#[derive(Clone, Copy, Debug)]
 pub enum Flaw {
     /// There was no memory for the run or for its reader.
     NoMemory,
@@ -31,5 +31,17 @@ pub enum Flaw {
 impl From<AllocError> for Flaw {
     fn from(_: AllocError) -> Flaw {
         Flaw::NoMemory
+    }
+}
+
+/// Appends an item to a list.
+///
+/// # Errors
+///
+/// `NoMemory`.
+pub fn append<T: Copy>(list: &mut Vec<T>, item: T) -> Result<(), Flaw> {
+    match list.push(item) {
+        Ok(()) => Ok(()),
+        Err(_) => Err(Flaw::NoMemory),
     }
 }

@@ -1,11 +1,11 @@
 //! Queues as stops and lists of events find them: their kinds, and what they hold.
 ghost use Rattle.machine_replay.specs.Replays.{CanReplay};
 
-use crate::events::{Events, numbered};
+use crate::stops::events::{Events, numbered};
+use crate::stops::flaw::Flaw;
 use queue_steps::model::Call;
 use queue_steps::sizes::{BLOCK_SLOTS, WAIT_FREE_STEPS};
 use queue_steps::steps::Kind;
-use std::alloc::AllocError;
 
 /// Which queue.
 #[derive(Clone, Copy, Debug)]
@@ -72,7 +72,7 @@ fn push_steps(before: u64) -> u64 {
 
 impl Start {
     /// The events by which party 0 brings an empty queue there.
-    pub fn reach(self, events: &mut Events) -> Result<(), AllocError> {
+    pub fn reach(self, events: &mut Events) -> Result<(), Flaw> {
         for before in 0..self.pushed {
             let item = numbered(before.wrapping_add(1));
             events.call(0, Call::Push(item), push_steps(before))?;

@@ -1,5 +1,5 @@
 //! Stored programs, which the explorer runs.
-use crate::replays::{is_held_up, is_replayed, text_of};
+use crate::stored::replays::{is_held_up, is_replayed, text_of};
 use app_explore::command::command;
 use std::alloc::{AllocError, Global};
 use std::sync::Wait;
