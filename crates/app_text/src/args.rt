@@ -18,7 +18,7 @@ pub const MOST_PARTIES: u64 = 64;
 const _: () = prove!(MOST_PARTIES == 64);
 
 /// The kind of a queue, as an argument names it.
-#[derive(Clone, Copy, Debug, PartialEq, Eq)]
+#[derive(Clone, Copy, Debug, PartialEq)]
 pub enum KindName {
     Single,
     /// With this capacity, which is above 0. The capacity 1 is `Single`.

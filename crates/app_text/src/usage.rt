@@ -5,7 +5,7 @@ ghost use Rattle.app_text.specs.Usage.{usage_text};
 use std::fmt;
 
 /// Why the arguments ask for nothing that exists.
-#[derive(Clone, Copy, Debug, PartialEq, Eq)]
+#[derive(Clone, Copy, Debug, PartialEq)]
 pub enum UsageFault {
     /// No form has this name.
     Form,

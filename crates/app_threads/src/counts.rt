@@ -46,7 +46,7 @@ fn wrong_value(pushers: u64, counts: &[u64]) -> Option<usize>
 }
 
 /// What the counts have shown.
-#[derive(Clone, Copy, Debug, PartialEq, Eq)]
+#[derive(Clone, Copy, Debug, PartialEq)]
 pub enum Finding {
     /// Each of so many values came so often.
     Right { values: usize, times: u64 },

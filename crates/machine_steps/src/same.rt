@@ -103,7 +103,50 @@ impl Same for SingleLocal {
 
 impl Same for BoundedLocal {
     fn same(&self, other: &BoundedLocal) -> bool {
-        *self == *other
+        match (self, other) {
+            (BoundedLocal::PushTail(kind), BoundedLocal::PushTail(other_kind)) => *kind
+                == *other_kind,
+            (
+                BoundedLocal::PushStamp(kind, word),
+                BoundedLocal::PushStamp(other_kind, other_word),
+            ) => (*kind == *other_kind) & (*word == *other_word),
+            (BoundedLocal::Claiming(kind, word), BoundedLocal::Claiming(other_kind, other_word)) =>
+                (*kind == *other_kind) & (*word == *other_word),
+            (BoundedLocal::Filling(kind), BoundedLocal::Filling(other_kind)) => *kind
+                == *other_kind,
+            (BoundedLocal::PushHead(word), BoundedLocal::PushHead(other_word)) => *word
+                == *other_word,
+            (BoundedLocal::Displacing(word), BoundedLocal::Displacing(other_word)) => *word
+                == *other_word,
+            (BoundedLocal::Arriving(word), BoundedLocal::Arriving(other_word)) => *word
+                == *other_word,
+            (BoundedLocal::Swapping, BoundedLocal::Swapping) => true,
+            (BoundedLocal::ClosingAtLimit(kind), BoundedLocal::ClosingAtLimit(other_kind)) => *kind
+                == *other_kind,
+            (BoundedLocal::PopHead, BoundedLocal::PopHead) => true,
+            (BoundedLocal::PopStamp(word), BoundedLocal::PopStamp(other_word)) => *word
+                == *other_word,
+            (BoundedLocal::Taking(word), BoundedLocal::Taking(other_word)) => *word == *other_word,
+            (BoundedLocal::Emptying, BoundedLocal::Emptying) => true,
+            (BoundedLocal::PopTail(word), BoundedLocal::PopTail(other_word)) => *word
+                == *other_word,
+            (BoundedLocal::LenTail, BoundedLocal::LenTail) => true,
+            (BoundedLocal::LenHead(word), BoundedLocal::LenHead(other_word)) => *word
+                == *other_word,
+            (
+                BoundedLocal::LenAgain(word, second),
+                BoundedLocal::LenAgain(other_word, other_second),
+            ) => (*word == *other_word) & (*second == *other_second),
+            (BoundedLocal::EmptyHead, BoundedLocal::EmptyHead) => true,
+            (BoundedLocal::EmptyTail(word), BoundedLocal::EmptyTail(other_word)) => *word
+                == *other_word,
+            (BoundedLocal::FullTail, BoundedLocal::FullTail) => true,
+            (BoundedLocal::FullHead(word), BoundedLocal::FullHead(other_word)) => *word
+                == *other_word,
+            (BoundedLocal::Closing, BoundedLocal::Closing) => true,
+            (BoundedLocal::ClosedTail, BoundedLocal::ClosedTail) => true,
+            _ => false,
+        }
     }
 }
 

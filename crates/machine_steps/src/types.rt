@@ -3,7 +3,7 @@ use queue_steps::model::{Call, Reply};
 use std::alloc::{Allocator, Global};
 
 /// What happens next: a party begins a call, or takes one step of the call that it is in.
-#[derive(Clone, Copy, Debug, Drop, PartialEq, Eq)]
+#[derive(Clone, Copy, Debug, Drop, PartialEq)]
 pub enum Event<T> {
     /// The party begins the call.
     Begin(usize, Call<T>),
@@ -12,7 +12,7 @@ pub enum Event<T> {
 }
 
 /// What a step did to the queue, without its values.
-#[derive(Clone, Copy, Debug, Drop, PartialEq, Eq)]
+#[derive(Clone, Copy, Debug, Drop, PartialEq)]
 pub enum EffectKind {
     /// An item is put at the end of the list.
     Append,
@@ -31,7 +31,7 @@ pub enum EffectKind {
 }
 
 /// What is told of one event.
-#[derive(Clone, Copy, Debug, Drop, PartialEq, Eq)]
+#[derive(Clone, Copy, Debug, Drop, PartialEq)]
 pub enum Told<T> {
     /// It did not fit, and nothing happened.
     Skipped,
@@ -40,7 +40,7 @@ pub enum Told<T> {
 }
 
 /// What is told of one event, and whether the allocator had what it asked for.
-#[derive(Clone, Copy, Debug, Drop, PartialEq, Eq)]
+#[derive(Clone, Copy, Debug, Drop, PartialEq)]
 pub struct Handled<T> {
     /// What is told of the event.
     pub told: Told<T>,
@@ -49,7 +49,7 @@ pub struct Handled<T> {
 }
 
 /// How many blocks a run held at most.
-#[derive(Clone, Copy, Debug, Drop, PartialEq, Eq)]
+#[derive(Clone, Copy, Debug, Drop, PartialEq)]
 pub struct Peak {
     /// The greatest number of blocks at any moment, the opening included.
     pub blocks: usize,

@@ -5,7 +5,7 @@ ghost use Rattle.queue_steps.specs.Kinds.{call_kind, call_value, filled};
 use crate::errors::{ForcePushError, PopError, PushError};
 
 /// A call, with the value that it carries.
-#[derive(Clone, Copy, Debug, Drop, PartialEq, Eq)]
+#[derive(Clone, Copy, Debug, Drop, PartialEq)]
 pub enum Call<T> {
     /// Appends the value where there is room.
     Push(T),
@@ -28,7 +28,7 @@ pub enum Call<T> {
 }
 
 /// What a call answers: the variant of the call, with the result of that call.
-#[derive(Clone, Copy, Debug, Drop, PartialEq, Eq)]
+#[derive(Clone, Copy, Debug, Drop, PartialEq)]
 pub enum Reply<T> {
     Push(Result<(), PushError<T>>),
     ForcePush(Result<Option<T>, ForcePushError<T>>),
@@ -42,7 +42,7 @@ pub enum Reply<T> {
 }
 
 /// What a call does to the queue, at one of its steps.
-#[derive(Clone, Copy, Debug, Drop, PartialEq, Eq)]
+#[derive(Clone, Copy, Debug, Drop, PartialEq)]
 pub enum Effect<T> {
     /// The item is put at the end of the list.
     Append(T),

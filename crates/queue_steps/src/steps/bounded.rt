@@ -1,5 +1,9 @@
 //! Where a call on a ring is, and the words of a ring. `Tail` is twice the position of the next item to come, and one more once the queue is closed; `Head` is the position of the front.
 //! A slot's stamp is the position for which it is free, and one more once it is filled for it.
+ghost use Rattle.std.specs.Prelude.{◌≡◌, ⊤};
+
+use std::alloc::AllocError;
+
 /// What is set in a tail once the queue is closed.
 pub const MARK: u64 = 1;
 
@@ -7,14 +11,14 @@ pub const MARK: u64 = 1;
 pub const TAIL_STEP: u64 = 2;
 
 /// Which push: one that answers `Full`, or one that displaces the front.
-#[derive(Clone, Copy, Debug, PartialEq, Eq)]
+#[derive(Clone, Copy, Debug, PartialEq)]
 pub enum PushKind {
     Push,
     Force,
 }
 
 /// Where a call on a ring stands, with the words that it remembers.
-#[derive(Clone, Copy, PartialEq, Eq)]
+#[derive(Copy)]
 pub enum BoundedLocal {
     /// B1: the read of the tail.
     PushTail(PushKind),
@@ -62,4 +66,14 @@ pub enum BoundedLocal {
     Closing,
     /// K1: the read of the tail.
     ClosedTail,
+}
+
+impl Clone for BoundedLocal {
+    ghost is_clone = { λ x y. y ≡ x };
+
+    ghost is_infallible = { λ _. ⊤ };
+
+    fn clone(&self) -> Result<BoundedLocal, AllocError> {
+        Ok(*self)
+    }
 }

@@ -17,7 +17,7 @@ pub const UNLOCKED: u64 = u64::MAX - LOCKED;
 pub const UNPUSHED: u64 = u64::MAX - PUSHED;
 
 /// Where a call on one slot stands. A number is what its exchange expects to find.
-#[derive(Clone, Copy, PartialEq, Eq)]
+#[derive(Clone, Copy, PartialEq)]
 pub enum SingleLocal {
     /// P1: the exchange of a push.
     Pushing,

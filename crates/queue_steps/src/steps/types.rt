@@ -8,7 +8,7 @@ use crate::steps::unbounded::UnboundedLocal;
 use std::alloc::AllocError;
 
 /// Which queue.
-#[derive(Clone, Copy, Debug, PartialEq, Eq)]
+#[derive(Clone, Copy, Debug, PartialEq)]
 pub enum Kind {
     /// One slot under one word.
     Single,
@@ -100,7 +100,7 @@ impl<B: Copy> Clone for Op<B> {
 }
 
 /// What is done to a slot just before the operation, in the same step. On a chain it is a slot of the block whose state the operation names.
-#[derive(Clone, Copy, PartialEq, Eq)]
+#[derive(Clone, Copy, PartialEq)]
 pub enum Touch {
     /// Nothing.
     Nothing,
@@ -140,7 +140,7 @@ impl<B: Copy> Clone for Answer<B> {
 }
 
 /// A call that looks at the queue and changes nothing.
-#[derive(Clone, Copy, PartialEq, Eq)]
+#[derive(Clone, Copy, PartialEq)]
 pub enum Look {
     IsClosed,
     IsEmpty,
