@@ -8,8 +8,9 @@ use crate::asserts::is;
 use mem_blocks::block::BlockPtr;
 use mem_blocks::web::{Rested, Seat, Web};
 use std::alloc::Global;
+use std::process::Abort;
 use std::sync::atomic::{AtomicBool, Ordering};
-use std::thread::{join_mut, yield_now};
+use std::thread::{Threads, join_mut, yield_now};
 use test_allocators::signs::wait_for;
 use test_closing::closing;
 use test_closing::closing_rule::{ClosingRule, Place, View};
@@ -61,23 +62,25 @@ fn answers(queue: &Queue, party: &mut Party, tail: BlockPtr<u8>, answer: &Atomic
     right
 }
 
-/// Each thread waits for what the other one does, so neither of them alone comes to a good end.
-#[test]
-fn two_threads_see_each_other(rt: HostRuntime) {
-    let alloc: Global = rt.alloc();
+/// What two threads come to, a seat each, of which one calls and the other answers.
+fn call_and_answer<R: Threads>(
+    rt: &R,
+    queue: &Queue,
+    seat: &mut Party,
+    tail: BlockPtr<u8>,
+) -> (bool, bool)
+    requires { Sits seat.old queue.now × InBlock tail.ptr × (tail.ptr ≡ queue.now.key.tail.ptr) }
+    ensures { Same seat.new seat.old }
+{
     let answer = AtomicBool::new(false);
-    let (queue, mut seat, hub, tail, head) = closing::open::<u8, Global>(&alloc).expect(
-        &rt, "memory",
-    );
-    let mut other = closing::part(&queue, &mut seat, tail);
+    let mut other = closing::part(queue, seat, tail);
     let seen = join_mut(
-        &rt,
-        &mut || calls(&queue, &mut seat, tail, &answer),
-        &mut || answers(&queue, &mut other, tail, &answer),
+        rt,
+        &mut || calls(queue, seat, tail, &answer),
+        &mut || answers(queue, &mut other, tail, &answer),
     );
-    closing::take_back(&queue, &mut seat, other, tail);
-    closing::end(queue, seat, hub, &alloc, tail, head);
-    is(&rt, seen, (true, true));
+    closing::take_back(queue, seat, other, tail);
+    seen
 }
 
 /// Wakes, waits until the other thread has closed the queue and answers, and rests again.
@@ -96,21 +99,49 @@ fn wakes_and_answers(
     right
 }
 
+/// The same, where the other seat has come to rest before its thread begins, and after it ends.
+fn call_and_wake<R: Threads>(
+    rt: &R,
+    queue: &Queue,
+    seat: &mut Party,
+    tail: BlockPtr<u8>,
+) -> (bool, bool)
+    requires { Sits seat.old queue.now × InBlock tail.ptr × (tail.ptr ≡ queue.now.key.tail.ptr) }
+    ensures { Same seat.new seat.old }
+{
+    let answer = AtomicBool::new(false);
+    let mut other = closing::part(queue, seat, tail).rests();
+    let seen = join_mut(
+        rt,
+        &mut || calls(queue, seat, tail, &answer),
+        &mut || wakes_and_answers(queue, &mut other, tail, &answer),
+    );
+    closing::take_back(queue, seat, other.wakes(queue), tail);
+    seen
+}
+
+/// What two threads come to on a queue of their own, which is ended then.
+fn seen<R: Threads + Abort>(rt: &R, alloc: Global, rests: bool) -> (bool, bool) {
+    let Ok((queue, mut seat, hub, tail, head)) = closing::open::<u8, Global>(&alloc) else {
+        panic!(rt; "no memory");
+    };
+    let seen = if rests {
+        call_and_wake(rt, &queue, &mut seat, tail)
+    } else {
+        call_and_answer(rt, &queue, &mut seat, tail)
+    };
+    closing::end(queue, seat, hub, &alloc, tail, head);
+    seen
+}
+
+/// Each thread waits for what the other one does, so neither of them alone comes to a good end.
+#[test]
+fn two_threads_see_each_other(rt: HostRuntime) {
+    is(&rt, seen(&rt, rt.alloc(), false), (true, true));
+}
+
 /// A seat comes to rest, wakes and rests again in the other thread, and wakes here.
 #[test]
 fn a_seat_rests_and_wakes_in_another_thread(rt: HostRuntime) {
-    let alloc: Global = rt.alloc();
-    let answer = AtomicBool::new(false);
-    let (queue, mut seat, hub, tail, head) = closing::open::<u8, Global>(&alloc).expect(
-        &rt, "memory",
-    );
-    let mut other = closing::part(&queue, &mut seat, tail).rests();
-    let seen = join_mut(
-        &rt,
-        &mut || calls(&queue, &mut seat, tail, &answer),
-        &mut || wakes_and_answers(&queue, &mut other, tail, &answer),
-    );
-    closing::take_back(&queue, &mut seat, other.wakes(&queue), tail);
-    closing::end(queue, seat, hub, &alloc, tail, head);
-    is(&rt, seen, (true, true));
+    is(&rt, seen(&rt, rt.alloc(), true), (true, true));
 }

@@ -3,7 +3,7 @@ ghost use Rattle.concurrent_queue.specs.Shared.{IsPartyOf};
 ghost use Rattle.counted_channel.specs.Channel.{IsEndOf};
 
 use crate::asserts::is_in;
-use crate::channel::opening::{left, opened_surely};
+use crate::channel::opening::{left, opened_surely, two_receivers, two_senders};
 use concurrent_queue::Party;
 use counted_channel::{Channel, Receiver, Sender};
 use std::alloc::Global;
@@ -103,12 +103,8 @@ fn end_all(
     let Some((turn, later)) = turns.split_first() else {
         return end_two(channel, sender, receiver, first, seen);
     };
-    let Ok((sender, others)) = channel.split_sender(sender) else {
-        panic!(rt; "no further sender");
-    };
-    let Ok((receiver, more)) = channel.split_receiver(receiver) else {
-        panic!(rt; "no further receiver");
-    };
+    let (sender, others) = two_senders(rt, channel, sender);
+    let (receiver, more) = two_receivers(rt, channel, receiver);
     match turn {
         Turn::Before => {
             let two = end_two(channel, sender, receiver, first, seen);

@@ -1,8 +1,12 @@
 //! Memory that is refused, and what is left of a channel that is dropped.
+ghost use Rattle.concurrent_queue.specs.Shared.{IsPartyOf};
+ghost use Rattle.counted_channel.specs.Channel.{IsEndOf};
+
 use crate::asserts::is;
 use crate::channel::opening::{Sent, opened};
 use crate::opening::open_surely;
-use counted_channel::{SendError, channel};
+use concurrent_queue::{ConcurrentQueue, Exclusive, Party};
+use counted_channel::{Channel, Receiver, SendError, Sender, channel};
 use std::alloc::{AllocError, Global};
 use std::process::Abort;
 use std::sync::Wait;
@@ -11,23 +15,55 @@ use test_allocators::{Heap, Refusal};
 /// Whether a channel was made, the item that its queue has still, and whether that has one owner again. Then nothing of the channel is left but the queue.
 type Made = (bool, Option<u64>, bool);
 
-/// Makes a channel of a queue with the item 1, and ends and finishes it, or takes the queue back. The queue takes its memory elsewhere.
-fn make<R: Wait + Abort>(rt: &R, heap: &Heap, counts: &Heap) -> Made {
+/// The queue of a channel that both its ends leave; nothing where a party is missing.
+fn finished<'a>(
+    channel: Channel<u64, &'a Heap>,
+    sender: Sender<u64>,
+    receiver: Receiver<u64>,
+) -> Option<Exclusive<u64, &'a Heap>>
+    requires { IsEndOf sender channel × IsEndOf receiver channel }
+{
+    let (first, _) = channel.end_sender(sender);
+    let (second, _) = channel.end_receiver(receiver);
+    let party = channel.join(first, second);
+    channel.finish(party).ok()
+}
+
+/// A queue with the item 1, its party, and whether the item was pushed.
+fn with_one<'a, R: Wait + Abort>(
+    rt: &R,
+    heap: &'a Heap,
+) -> (ConcurrentQueue<u64, &'a Heap>, Party<u64>, bool)
+    ensures { IsPartyOf result.1 result.0 }
+{
     let (queue, mut party) = open_surely(rt, heap, Some(2));
     let pushed = queue.push(rt, &mut party, 1).is_ok();
+    (queue, party, pushed)
+}
+
+/// The item of a queue that is taken back, and whether that has one owner again.
+fn taken_back<R: Wait>(
+    rt: &R,
+    queue: ConcurrentQueue<u64, &Heap>,
+    mut party: Party<u64>,
+) -> (Option<u64>, bool)
+    requires { IsPartyOf party queue }
+{
+    let item = queue.pop(rt, &mut party).ok();
+    (item, queue.finish(party).is_ok())
+}
+
+/// Makes a channel of a queue with the item 1, and ends and finishes it, or takes the queue back. The queue takes its memory elsewhere.
+fn make<R: Wait + Abort>(rt: &R, heap: &Heap, counts: &Heap) -> Made {
+    let (queue, party, pushed) = with_one(rt, heap);
     match channel(counts, queue, party) {
-        Ok((channel, sender, receiver)) => {
-            let (first, _) = channel.end_sender(sender);
-            let (second, _) = channel.end_receiver(receiver);
-            let party = channel.join(first, second);
-            match channel.finish(party) {
-                Ok(mut left) => (true, left.pop().ok(), pushed && counts.live() == 0),
-                Err(_) => (true, None, false),
-            }
-        }
-        Err((queue, mut party)) => {
-            let item = queue.pop(rt, &mut party).ok();
-            (false, item, pushed && queue.finish(party).is_ok())
+        Ok((channel, sender, receiver)) => match finished(channel, sender, receiver) {
+            Some(mut queue) => (true, queue.pop().ok(), pushed && counts.live() == 0),
+            None => (true, None, false),
+        },
+        Err((queue, party)) => {
+            let (item, whole) = taken_back(rt, queue, party);
+            (false, item, pushed && whole)
         }
     }
 }
@@ -55,18 +91,26 @@ fn a_refused_channel_gives_its_queue_back(rt: HostRuntime) {
     }
 }
 
-/// What a sender is answered that sends 1 and 2, and whether there are blocks then.
+/// What a sender is answered that sends 1 and 2.
+fn sent_two<R: Wait>(rt: &R, channel: &Channel<u64, &Heap>, sender: &mut Sender<u64>) -> [Sent; 2]
+    requires { IsEndOf sender.old channel.now }
+{
+    [channel.send(rt, sender, 1), channel.send(rt, sender, 2)]
+}
+
+/// The same on a channel of its own, and whether there are blocks then.
 fn send_two<R: Wait + Abort>(
     rt: &R,
     heap: &Heap,
     cap: Option<usize>,
 ) -> Result<([Sent; 2], bool), AllocError> {
-    let (channel, mut sender, _receiver) = opened(rt, heap, cap)?;
-    let sent = [
-        channel.send(rt, &mut sender, 1),
-        channel.send(rt, &mut sender, 2),
-    ];
-    Ok((sent, heap.live() > 0))
+    match opened(rt, heap, cap) {
+        Ok((channel, mut sender, _receiver)) => {
+            let sent = sent_two(rt, &channel, &mut sender);
+            Ok((sent, heap.live() > 0))
+        }
+        Err(why) => Err(why),
+    }
 }
 
 /// The same where the allocator refuses a request, and how many blocks stay once the channel is dropped with its ends and its items.

@@ -4,7 +4,7 @@ ghost use Rattle.concurrent_queue.specs.Shared.{IsPartyOf};
 ghost use Rattle.counted_channel.specs.Channel.{IsEndOf};
 
 use crate::opening::open;
-use concurrent_queue::{NullTestable, Party, PopError};
+use concurrent_queue::{Exclusive, NullTestable, Party, PopError};
 use counted_channel::{Channel, Disconnected, Receiver, SendError, Sender, channel};
 use std::alloc::{AllocError, Global};
 use std::process::Abort;
@@ -43,15 +43,50 @@ pub fn opened_surely(
     }
 }
 
+/// Two senders, of one that is parted. Asserts that it is.
+pub fn two_senders(
+    rt: &impl Abort,
+    channel: &Channel<u64>,
+    sender: Sender<u64>,
+) -> (Sender<u64>, Sender<u64>)
+    requires { IsEndOf sender channel.now }
+    ensures { IsEndOf result.0 channel.now × IsEndOf result.1 channel.now }
+{
+    match channel.split_sender(sender) {
+        Ok(both) => both,
+        Err(_) => panic!(rt; "no second sender"),
+    }
+}
+
+/// Two receivers, of one that is parted. Asserts that it is.
+pub fn two_receivers(
+    rt: &impl Abort,
+    channel: &Channel<u64>,
+    receiver: Receiver<u64>,
+) -> (Receiver<u64>, Receiver<u64>)
+    requires { IsEndOf receiver channel.now }
+    ensures { IsEndOf result.0 channel.now × IsEndOf result.1 channel.now }
+{
+    match channel.split_receiver(receiver) {
+        Ok(both) => both,
+        Err(_) => panic!(rt; "no second receiver"),
+    }
+}
+
 /// What is left of a channel: how many items, whether it was closed, and what two pops give.
 pub type Left = (usize, bool, Result<u64, PopError>, Result<u64, PopError>);
+
+/// What is left in a queue.
+fn left_in(queue: &mut Exclusive<u64>) -> Left {
+    (queue.len(), queue.is_closed(), queue.pop(), queue.pop())
+}
 
 /// What a channel leaves to this party; nothing where there is none, or another one is missing.
 pub fn left(channel: Channel<u64>, party: Option<Party<u64>>) -> Option<Left>
     requires { IfSome party (λ p. IsPartyOf p channel.queue) }
 {
     match channel.finish(party?) {
-        Ok(mut queue) => Some((queue.len(), queue.is_closed(), queue.pop(), queue.pop())),
+        Ok(mut queue) => Some(left_in(&mut queue)),
         Err(_) => None,
     }
 }

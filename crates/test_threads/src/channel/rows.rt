@@ -2,11 +2,11 @@
 ghost use Rattle.concurrent_queue.specs.Shared.{IsPartyOf};
 
 use crate::asserts::is;
-use crate::channel::opening::{Left, left};
+use crate::channel::opening::{Left, left, two_receivers};
 use crate::channel::stories::{Ask, Line, Story, tell};
 use crate::opening::{open_surely, part};
 use callers_channel::{end_rejoined, hand_through};
-use concurrent_queue::{ConcurrentQueue, Party, PopError, PushError};
+use concurrent_queue::{Party, PopError, PushError};
 use counted_channel::{Channel, Disconnected, SendError, channel};
 use std::alloc::Global;
 use std::fmt::{Debug, Display};
@@ -230,16 +230,12 @@ fn a_party_that_is_left_out_keeps_the_channel(rt: HostRuntime) {
 
 /// What is left where a sender is parted, joined again and ended, and a receiver is parted, joined and ended.
 fn end_both_rejoined(rt: &impl Abort, alloc: Global) -> Option<Left> {
-    let Ok((queue, party)) = ConcurrentQueue::bounded(alloc, 1) else {
-        panic!(rt; "no memory");
-    };
+    let (queue, party) = open_surely(rt, alloc, Some(1));
     let Ok((channel, sender, receiver)) = channel(alloc, queue, party) else {
         panic!(rt; "no memory");
     };
     let first = end_rejoined(&channel, sender);
-    let Ok((one, two)) = channel.split_receiver(receiver) else {
-        panic!(rt; "no second receiver");
-    };
+    let (one, two) = two_receivers(rt, &channel, receiver);
     let (second, _) = channel.end_receiver(channel.join_receivers(one, two));
     let party = channel.join(first, second);
     left(channel, Some(party))

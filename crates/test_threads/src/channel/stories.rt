@@ -196,29 +196,40 @@ impl Line {
         }
     }
 
-    /// Ends an end. Gives whether it is answered so.
-    fn is_right_end(self, channel: &Channel<u64>, ends: &mut Ends) -> bool
+    /// What an end is told that is to end: whether it was the last.
+    fn last(self) -> Option<bool> {
+        match self {
+            Line::EndSender(last)
+            | Line::EndReceiver(last)
+            | Line::EndOneOfTwoSenders(last)
+            | Line::EndOneOfTwoReceivers(last) => Some(last),
+            _ => None,
+        }
+    }
+
+    /// Ends an end. Gives whether it was the last; nothing where there is none, or none is to end.
+    fn end(self, channel: &Channel<u64>, ends: &mut Ends) -> Option<bool>
         requires { IfSome ends.old.sender (λ s. IsEndOf s channel.now) × IfSome ends.old.receiver (λ r. IsEndOf r channel.now) × IfSome ends.old.party (λ p. IsPartyOf p channel.now.queue) }
         ensures { IfSome ends.new.sender (λ s. IsEndOf s channel.now) × IfSome ends.new.receiver (λ r. IsEndOf r channel.now) × IfSome ends.new.party (λ p. IsPartyOf p channel.now.queue) }
     {
         match self {
-            Line::EndSender(last) => {
+            Line::EndSender(_) => {
                 let sender = ends.sender.take();
-                end_sender(channel, sender, &mut ends.party) == Some(last)
+                end_sender(channel, sender, &mut ends.party)
             }
-            Line::EndReceiver(last) => {
+            Line::EndReceiver(_) => {
                 let receiver = ends.receiver.take();
-                end_receiver(channel, receiver, &mut ends.party) == Some(last)
+                end_receiver(channel, receiver, &mut ends.party)
             }
-            Line::EndOneOfTwoSenders(last) => {
+            Line::EndOneOfTwoSenders(_) => {
                 let sender = part_sender(channel, &mut ends.sender);
-                end_sender(channel, sender, &mut ends.party) == Some(last)
+                end_sender(channel, sender, &mut ends.party)
             }
-            Line::EndOneOfTwoReceivers(last) => {
+            Line::EndOneOfTwoReceivers(_) => {
                 let receiver = part_receiver(channel, &mut ends.receiver);
-                end_receiver(channel, receiver, &mut ends.party) == Some(last)
+                end_receiver(channel, receiver, &mut ends.party)
             }
-            _ => false,
+            _ => None,
         }
     }
 
@@ -241,7 +252,10 @@ impl Line {
                     None => false,
                 }
             }
-            _ => self.is_right_end(channel, ends),
+            _ => match self.last() {
+                Some(last) => self.end(channel, ends) == Some(last),
+                None => false,
+            },
         }
     }
 }

@@ -3,7 +3,7 @@ ghost use Rattle.concurrent_queue.specs.Shared.{IsPartyOf};
 ghost use Rattle.counted_channel.specs.Channel.{IsEndOf};
 
 use crate::asserts::{is, is_in};
-use crate::channel::opening::{Left, left, opened_surely};
+use crate::channel::opening::{Left, left, opened_surely, two_senders};
 use callers_channel::gather;
 use concurrent_queue::Party;
 use counted_channel::{Channel, Receiver, SendError, Sender};
@@ -57,9 +57,7 @@ fn two_send<R: Threads + Wait + Abort + Sync>(
     alloc: Global,
 ) -> (u64, bool, u64, Option<Left>) {
     let (channel, sender, receiver) = opened_surely(rt, alloc, Some(400));
-    let Ok((one, two)) = channel.split_sender(sender) else {
-        panic!(rt; "no second sender");
-    };
+    let (one, two) = two_senders(rt, &channel, sender);
     let ((a, sent, right), ((b, more, right_too), (c, taken))) = join(
         rt,
         || send_hundred(rt, &channel, one),

@@ -1,13 +1,12 @@
 //! Two threads that sleep until the other gives an item: one that is seen asleep before each, and two that take turns.
+use crate::asserts::is;
 use crate::sleep::watched::{LOOKS, Watched, pause};
 use event_count::EventCount;
-use std::fs::Files;
-use std::io;
+use std::process::Abort;
 use std::sync::Wait;
 use std::sync::atomic::AtomicU64;
 use std::sync::atomic::Ordering::SeqCst;
 use std::thread::{Threads, join};
-use std::time::Clock;
 
 /// How many items are given to a thread that is seen asleep.
 const ROUNDS: u64 = 1000;
@@ -68,33 +67,32 @@ impl Post {
 }
 
 /// Whether the taker takes what there is, and is seen asleep then.
-fn is_seen_asleep<R: Files + Alloc + Clock>(rt: &R, post: &Post) -> io::Result<bool> {
+fn is_seen_asleep(rt: &impl Abort, host: &HostRuntime, post: &Post) -> bool {
     for _ in 0..LOOKS {
         if post.items.load(SeqCst) == 0 {
-            return post.taker.is_seen_asleep(rt);
+            return post.taker.is_seen_asleep(rt, host);
         }
-        pause(rt);
+        pause(host);
     }
-    Ok(false)
+    false
 }
 
 /// Takes each item.
-fn take_all<R: Wait + Files + Alloc>(rt: &R, post: &Post) -> io::Result<()> {
-    post.taker.enter(rt)?;
+fn take_all<R: Wait + Abort>(rt: &R, host: &HostRuntime, post: &Post) {
+    post.taker.enter(rt, host);
     for _ in 0..ROUNDS {
         post.take(rt);
     }
-    Ok(())
 }
 
 /// Gives each item, and returns whether the taker was seen asleep before each.
-fn give_all<R: Files + Alloc + Clock>(rt: &R, post: &Post) -> io::Result<bool> {
+fn give_all(rt: &impl Abort, host: &HostRuntime, post: &Post) -> bool {
     let mut asleep = true;
     for round in 0..ROUNDS {
-        asleep = asleep && is_seen_asleep(rt, post)?;
+        asleep = asleep && is_seen_asleep(rt, host, post);
         post.give(round);
     }
-    Ok(asleep)
+    asleep
 }
 
 /// Takes turns with another thread.
@@ -118,15 +116,17 @@ fn ping_pong<R: Threads + Wait + Sync>(rt: &R) -> (u64, u64) {
 }
 
 #[test]
-fn each_item_wakes_a_sleeper(rt: HostRuntime) -> io::Result<()> {
+fn each_item_wakes_a_sleeper(rt: HostRuntime) {
     let post = Post::new(0);
-    let (taken, asleep) = join(&rt, || take_all(&rt, &post), || give_all(&rt, &post));
-    taken?;
-    assert_eq!(rt; (asleep?, post.items.load(SeqCst)), (true, 0));
-    Ok(())
+    let ((), asleep) = join(
+        &rt,
+        || take_all(&rt, &rt, &post),
+        || give_all(&rt, &rt, &post),
+    );
+    is(&rt, (asleep, post.items.load(SeqCst)), (true, 0));
 }
 
 #[test]
 fn no_turn_is_slept_through(rt: HostRuntime) {
-    assert_eq!(rt; ping_pong(&rt), (1, 0));
+    is(&rt, ping_pong(&rt), (1, 0));
 }

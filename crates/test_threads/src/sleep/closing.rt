@@ -1,9 +1,10 @@
 //! An end that closes wakes another one of its side.
 ghost use Rattle.counted_channel.specs.Channel.{IsEndOf};
 
-use crate::channel::opening::{Came, Sent, opened_surely};
+use crate::asserts::is;
+use crate::channel::opening::{Came, Sent, opened_surely, two_receivers, two_senders};
 use crate::sleep::opening::full;
-use crate::sleep::waking::{ITEM, is_asleep, receive, send};
+use crate::sleep::waking::{ITEM, receive, send};
 use crate::sleep::watched::Watched;
 use counted_channel::{Channel, ChannelEnd, Disconnected, SendError};
 use std::alloc::Global;
@@ -12,8 +13,8 @@ use std::sync::Wait;
 use std::thread::{Threads, join};
 
 /// Closes by this end, once another one is seen asleep. Gives whether it was, and the channel was open.
-fn close_late<R: Abort, E: ChannelEnd<u64>>(
-    rt: &R,
+fn close_late<E: ChannelEnd<u64>>(
+    rt: &impl Abort,
     host: &HostRuntime,
     channel: &Channel<u64>,
     end: &mut E,
@@ -21,7 +22,7 @@ fn close_late<R: Abort, E: ChannelEnd<u64>>(
 ) -> bool
     requires { IsEndOf (E.end end.old) channel.now }
 {
-    let asleep = is_asleep(rt, host, watched);
+    let asleep = watched.is_seen_asleep(rt, host);
     channel.close(end) && asleep
 }
 
@@ -32,16 +33,13 @@ fn woken_receiver<R: Threads + Wait + Abort + Sync>(
     alloc: Global,
 ) -> (Came, bool) {
     let (channel, _sender, receiver) = opened_surely(rt, alloc, None);
-    let Ok((one, mut two)) = channel.split_receiver(receiver) else {
-        panic!(rt; "no second receiver");
-    };
+    let (mut one, mut two) = two_receivers(rt, &channel, receiver);
     let watched = Watched::new();
-    let ((_one, came), asleep) = join(
+    join(
         rt,
-        || receive(rt, host, &channel, one, &watched),
+        || receive(rt, host, &channel, &mut one, &watched),
         || close_late(rt, host, &channel, &mut two, &watched),
-    );
-    (came, asleep)
+    )
 }
 
 /// What a sender is answered that another one wakes, and whether it was seen asleep before.
@@ -51,26 +49,23 @@ fn woken_sender<R: Threads + Wait + Abort + Sync>(
     alloc: Global,
 ) -> (Sent, bool) {
     let (channel, sender, _receiver) = full(rt, alloc, 2);
-    let Ok((one, mut two)) = channel.split_sender(sender) else {
-        panic!(rt; "no second sender");
-    };
+    let (mut one, mut two) = two_senders(rt, &channel, sender);
     let watched = Watched::new();
-    let ((_one, sent), asleep) = join(
+    join(
         rt,
-        || send(rt, host, &channel, one, &watched),
+        || send(rt, host, &channel, &mut one, &watched),
         || close_late(rt, host, &channel, &mut two, &watched),
-    );
-    (sent, asleep)
+    )
 }
 
 #[test]
 fn a_receiver_that_closes_wakes_another(rt: HostRuntime) {
     let found = woken_receiver(&rt, &rt, rt.alloc());
-    assert_eq!(rt; found, (Err(Disconnected), true));
+    is(&rt, found, (Err(Disconnected), true));
 }
 
 #[test]
 fn a_sender_that_closes_wakes_another(rt: HostRuntime) {
     let found = woken_sender(&rt, &rt, rt.alloc());
-    assert_eq!(rt; found, (Err(SendError::Closed(ITEM)), true));
+    is(&rt, found, (Err(SendError::Closed(ITEM)), true));
 }

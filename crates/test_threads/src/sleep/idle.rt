@@ -1,6 +1,7 @@
 //! An end that waits for a second takes next to no processor time.
 ghost use Rattle.counted_channel.specs.Channel.{IsEndOf};
 
+use crate::asserts::is_in;
 use crate::channel::opening::opened_surely;
 use crate::sleep::opening::full;
 use crate::sleep::watched::own_time;
@@ -14,11 +15,6 @@ use std::time::Duration;
 /// How many hundredths of a second of processor time a wait of a second may take.
 const MOST: u64 = 1;
 
-/// How much processor time this thread had.
-fn time<R: Abort>(rt: &R, host: &HostRuntime) -> u64 {
-    own_time(host).expect(rt, "the thread's time")
-}
-
 /// Receives once. Gives how much processor time that took.
 fn receive<R: Wait + Abort>(
     rt: &R,
@@ -28,9 +24,9 @@ fn receive<R: Wait + Abort>(
 ) -> u64
     requires { IsEndOf receiver.old channel.now }
 {
-    let before = time(rt, host);
+    let before = own_time(rt, host);
     let _came = channel.recv(rt, receiver);
-    time(rt, host).wrapping_sub(before)
+    own_time(rt, host).wrapping_sub(before)
 }
 
 /// Sends once. Gives how much processor time that took.
@@ -42,9 +38,9 @@ fn send<R: Wait + Abort>(
 ) -> u64
     requires { IsEndOf sender.old channel.now }
 {
-    let before = time(rt, host);
+    let before = own_time(rt, host);
     let _sent = channel.send(rt, sender, 7);
-    time(rt, host).wrapping_sub(before)
+    own_time(rt, host).wrapping_sub(before)
 }
 
 /// Sends after a second.
@@ -106,11 +102,11 @@ fn sender_waits<R: Threads + Wait + Abort + Sync>(
 #[test]
 fn an_idle_receiver_takes_no_processor_time(rt: HostRuntime) {
     let (spent, came) = receiver_waits(&rt, &rt, rt.alloc(), None);
-    assert!(rt; came && spent <= MOST, "{spent}");
+    is_in(&rt, spent, (came, spent <= MOST), (true, true));
 }
 
 #[test]
 fn a_sender_at_a_full_queue_takes_no_processor_time(rt: HostRuntime) {
     let (spent, took) = sender_waits(&rt, &rt, rt.alloc(), 1);
-    assert!(rt; took && spent <= MOST, "{spent}");
+    is_in(&rt, spent, (took, spent <= MOST), (true, true));
 }

@@ -5,9 +5,9 @@
 ghost use Rattle.concurrent_queue.specs.Shared.{IsPartyOf};
 ghost use denote.Param.Send.{IsSync};
 
+use crate::asserts::is_in;
 use crate::channel::opening::Came;
 use crate::opening::{open_surely, part};
-use crate::sleep::waking::is_asleep;
 use crate::sleep::watched::Watched;
 use concurrent_queue::{ConcurrentQueue, ForcePushError, Party, PushError};
 use counted_channel::Disconnected;
@@ -32,13 +32,13 @@ fn receive<R: Wait + Abort>(
     host: &HostRuntime,
     queue: &ConcurrentQueue<u64>,
     awaited: &Awaited,
-    mut party: Party<u64>,
+    party: &mut Party<u64>,
     watched: &Watched,
 ) -> Came
-    requires { IsPartyOf party queue.now }
+    requires { IsPartyOf party.old queue.now }
 {
-    watched.enter(host).expect(rt, "the thread's number");
-    pop_until(queue, awaited, rt, &mut party)
+    watched.enter(rt, host);
+    pop_until(queue, awaited, rt, party)
 }
 
 /// Closes the queue, once two receivers are seen asleep, and then is refused an item while they sleep still. Gives whether it was so.
@@ -47,20 +47,20 @@ fn close_and_send<R: Wait + Abort>(
     host: &HostRuntime,
     queue: &ConcurrentQueue<u64>,
     awaited: &Awaited,
-    mut party: Party<u64>,
+    party: &mut Party<u64>,
     how: Refuses,
     first: &Watched,
     second: &Watched,
 ) -> bool
-    requires { IsPartyOf party queue.now }
+    requires { IsPartyOf party.old queue.now }
 {
-    let asleep = is_asleep(rt, host, first) && is_asleep(rt, host, second);
-    let closed = queue.close(&mut party);
-    let still = is_asleep(rt, host, first) && is_asleep(rt, host, second);
+    let asleep = first.is_seen_asleep(rt, host) && second.is_seen_asleep(rt, host);
+    let closed = queue.close(party);
+    let still = first.is_seen_asleep(rt, host) && second.is_seen_asleep(rt, host);
     let refused = match how {
-        Refuses::Push => push(queue, awaited, rt, &mut party, 7) == Err(PushError::Closed(7)),
+        Refuses::Push => push(queue, awaited, rt, party, 7) == Err(PushError::Closed(7)),
         Refuses::ForcePush => {
-            force_push(queue, awaited, rt, &mut party, 7) == Err(ForcePushError::Closed(7))
+            force_push(queue, awaited, rt, party, 7) == Err(ForcePushError::Closed(7))
         }
     };
     asleep && closed && still && refused
@@ -74,20 +74,20 @@ fn woken<R: Threads + Wait + Abort + Sync>(
     how: Refuses,
 ) -> (Came, Came, bool) {
     let (queue, party) = open_surely(rt, alloc, None);
-    let (one, others) = part(rt, &queue, party);
-    let (two, three) = part(rt, &queue, others);
+    let (mut one, others) = part(rt, &queue, party);
+    let (mut two, mut three) = part(rt, &queue, others);
     let awaited = Awaited::new();
     let (first, second) = (Watched::new(), Watched::new());
     let (came, (also, right)) = join(
         rt,
-        || receive(rt, host, &queue, &awaited, one, &first),
+        || receive(rt, host, &queue, &awaited, &mut one, &first),
         || -> (Came, bool)
             requires { IsSync R.row × IsPartyOf two queue × IsPartyOf three queue }
         {
             join(
                 rt,
-                || receive(rt, host, &queue, &awaited, two, &second),
-                || close_and_send(rt, host, &queue, &awaited, three, how, &first, &second),
+                || receive(rt, host, &queue, &awaited, &mut two, &second),
+                || close_and_send(rt, host, &queue, &awaited, &mut three, how, &first, &second),
             )
         },
     );
@@ -99,6 +99,6 @@ fn a_refused_item_wakes_each_receiver(rt: HostRuntime) {
     for how in [Refuses::Push, Refuses::ForcePush] {
         let found = woken(&rt, &rt, rt.alloc(), how);
         let gone = Err(Disconnected);
-        assert_eq!(rt; found, (gone, gone, true), "{how:?}");
+        is_in(&rt, how, found, (gone, gone, true));
     }
 }

@@ -1,6 +1,7 @@
 //! Two threads hand a number to and fro over two channels, and each sleeps until it comes.
 ghost use Rattle.counted_channel.specs.Channel.{IsEndOf};
 
+use crate::asserts::is;
 use crate::channel::opening::opened_surely;
 use crate::sleep::watched::Watched;
 use counted_channel::{Channel, Receiver, Sender};
@@ -17,17 +18,17 @@ fn echo<R: Wait + Abort>(
     rt: &R,
     host: &HostRuntime,
     there: &Channel<u64>,
-    mut receiver: Receiver<u64>,
+    receiver: &mut Receiver<u64>,
     back: &Channel<u64>,
-    mut sender: Sender<u64>,
+    sender: &mut Sender<u64>,
     watched: &Watched,
 )
-    requires { IsEndOf receiver there.now × IsEndOf sender back.now }
+    requires { IsEndOf receiver.old there.now × IsEndOf sender.old back.now }
 {
-    watched.enter(host).expect(rt, "the thread's number");
+    watched.enter(rt, host);
     for _ in 0..TURNS {
-        if let Ok(number) = there.recv(rt, &mut receiver) {
-            let _sent = back.send(rt, &mut sender, number);
+        if let Ok(number) = there.recv(rt, receiver) {
+            let _sent = back.send(rt, sender, number);
         }
     }
 }
@@ -37,20 +38,18 @@ fn call<R: Wait + Abort>(
     rt: &R,
     host: &HostRuntime,
     there: &Channel<u64>,
-    mut sender: Sender<u64>,
+    sender: &mut Sender<u64>,
     back: &Channel<u64>,
-    mut receiver: Receiver<u64>,
+    receiver: &mut Receiver<u64>,
     watched: &Watched,
 ) -> (u64, bool)
-    requires { IsEndOf sender there.now × IsEndOf receiver back.now }
+    requires { IsEndOf sender.old there.now × IsEndOf receiver.old back.now }
 {
-    let asleep = watched
-        .is_seen_asleep(host)
-        .expect(rt, "the thread's state");
+    let asleep = watched.is_seen_asleep(rt, host);
     let mut came: u64 = 0;
     for number in 0..TURNS {
-        let sent = there.send(rt, &mut sender, number).is_ok();
-        if sent && back.recv(rt, &mut receiver) == Ok(number) {
+        let sent = there.send(rt, sender, number).is_ok();
+        if sent && back.recv(rt, receiver) == Ok(number) {
             came = came.wrapping_add(1);
         }
     }
@@ -64,19 +63,34 @@ fn hand_over<R: Threads + Wait + Abort + Sync>(
     alloc: Global,
     cap: Option<usize>,
 ) -> (u64, bool) {
-    let (there, sender, receiver) = opened_surely(rt, alloc, cap);
-    let (back, other_sender, other_receiver) = opened_surely(rt, alloc, cap);
+    let (there, mut sender, mut receiver) = opened_surely(rt, alloc, cap);
+    let (back, mut other_sender, mut other_receiver) = opened_surely(rt, alloc, cap);
     let watched = Watched::new();
     let ((), seen) = join(
         rt,
-        || echo(rt, host, &there, receiver, &back, other_sender, &watched),
-        || call(rt, host, &there, sender, &back, other_receiver, &watched),
+        || echo(
+            rt,
+            host,
+            &there,
+            &mut receiver,
+            &back,
+            &mut other_sender,
+            &watched,
+        ),
+        || call(
+            rt,
+            host,
+            &there,
+            &mut sender,
+            &back,
+            &mut other_receiver,
+            &watched,
+        ),
     );
     seen
 }
 
 #[test]
 fn no_turn_is_slept_through(rt: HostRuntime) {
-    let found = hand_over(&rt, &rt, rt.alloc(), Some(1));
-    assert_eq!(rt; found, (TURNS, true));
+    is(&rt, hand_over(&rt, &rt, rt.alloc(), Some(1)), (TURNS, true));
 }

@@ -2,7 +2,8 @@
 ghost use Rattle.counted_channel.specs.Channel.{IsEndOf};
 ghost use denote.Param.Send.{IsSync};
 
-use crate::channel::opening::{Came, Sent, opened_surely};
+use crate::asserts::{is, is_in};
+use crate::channel::opening::{Came, Sent, opened_surely, two_receivers, two_senders};
 use crate::sleep::opening::full;
 use crate::sleep::watched::Watched;
 use counted_channel::{Channel, Disconnected, Receiver, SendError, Sender};
@@ -43,15 +44,13 @@ pub(crate) fn receive<R: Wait + Abort>(
     rt: &R,
     host: &HostRuntime,
     channel: &Channel<u64>,
-    mut receiver: Receiver<u64>,
+    receiver: &mut Receiver<u64>,
     watched: &Watched,
-) -> (Receiver<u64>, Came)
-    requires { IsEndOf receiver channel.now }
-    ensures { IsEndOf result.0 channel.now }
+) -> Came
+    requires { IsEndOf receiver.old channel.now }
 {
-    watched.enter(host).expect(rt, "the thread's number");
-    let came = channel.recv(rt, &mut receiver);
-    (receiver, came)
+    watched.enter(rt, host);
+    channel.recv(rt, receiver)
 }
 
 /// Sends once, and is looked at.
@@ -59,61 +58,52 @@ pub(crate) fn send<R: Wait + Abort>(
     rt: &R,
     host: &HostRuntime,
     channel: &Channel<u64>,
-    mut sender: Sender<u64>,
+    sender: &mut Sender<u64>,
     watched: &Watched,
-) -> (Sender<u64>, Sent)
-    requires { IsEndOf sender channel.now }
-    ensures { IsEndOf result.0 channel.now }
+) -> Sent
+    requires { IsEndOf sender.old channel.now }
 {
-    watched.enter(host).expect(rt, "the thread's number");
-    let sent = channel.send(rt, &mut sender, ITEM);
-    (sender, sent)
+    watched.enter(rt, host);
+    channel.send(rt, sender, ITEM)
 }
 
-/// Whether a thread is seen asleep.
-pub(crate) fn is_asleep<R: Abort>(rt: &R, host: &HostRuntime, watched: &Watched) -> bool {
-    watched
-        .is_seen_asleep(host)
-        .expect(rt, "the thread's state")
-}
-
-/// Sends, once a receiver is seen asleep. The sender does not end.
+/// Sends, once a receiver is seen asleep. Gives whether it was, and the item was sent.
 fn wake_by_item<R: Wait + Abort>(
     rt: &R,
     host: &HostRuntime,
     channel: &Channel<u64>,
-    mut sender: Sender<u64>,
+    sender: &mut Sender<u64>,
     how: Sends,
     watched: &Watched,
-) -> (Sender<u64>, bool)
-    requires { IsEndOf sender channel.now }
+) -> bool
+    requires { IsEndOf sender.old channel.now }
 {
-    let asleep = is_asleep(rt, host, watched);
+    let asleep = watched.is_seen_asleep(rt, host);
     let sent = match how {
-        Sends::Waiting => channel.send(rt, &mut sender, ITEM).is_ok(),
-        Sends::Trying => channel.try_send(rt, &mut sender, ITEM).is_ok(),
-        Sends::Forced => channel.force_send(rt, &mut sender, ITEM).is_ok(),
+        Sends::Waiting => channel.send(rt, sender, ITEM).is_ok(),
+        Sends::Trying => channel.try_send(rt, sender, ITEM).is_ok(),
+        Sends::Forced => channel.force_send(rt, sender, ITEM).is_ok(),
     };
-    (sender, asleep && sent)
+    asleep && sent
 }
 
-/// Takes an item, once a sender is seen asleep. The receiver does not end.
+/// Takes an item, once a sender is seen asleep. Gives whether it was, and the item was the first.
 fn wake_by_room<R: Wait + Abort>(
     rt: &R,
     host: &HostRuntime,
     channel: &Channel<u64>,
-    mut receiver: Receiver<u64>,
+    receiver: &mut Receiver<u64>,
     how: Takes,
     watched: &Watched,
-) -> (Receiver<u64>, bool)
-    requires { IsEndOf receiver channel.now }
+) -> bool
+    requires { IsEndOf receiver.old channel.now }
 {
-    let asleep = is_asleep(rt, host, watched);
+    let asleep = watched.is_seen_asleep(rt, host);
     let took = match how {
-        Takes::Waiting => channel.recv(rt, &mut receiver) == Ok(0),
-        Takes::Trying => channel.try_recv(rt, &mut receiver) == Ok(0),
+        Takes::Waiting => channel.recv(rt, receiver) == Ok(0),
+        Takes::Trying => channel.try_recv(rt, receiver) == Ok(0),
     };
-    (receiver, asleep && took)
+    asleep && took
 }
 
 /// What a receiver is answered that an item wakes, and whether it was seen asleep before.
@@ -124,14 +114,13 @@ fn woken_by_item<R: Threads + Wait + Abort + Sync>(
     cap: Option<usize>,
     how: Sends,
 ) -> (Came, bool) {
-    let (channel, sender, receiver) = opened_surely(rt, alloc, cap);
+    let (channel, mut sender, mut receiver) = opened_surely(rt, alloc, cap);
     let watched = Watched::new();
-    let ((_receiver, came), (_sender, asleep)) = join(
+    join(
         rt,
-        || receive(rt, host, &channel, receiver, &watched),
-        || wake_by_item(rt, host, &channel, sender, how, &watched),
-    );
-    (came, asleep)
+        || receive(rt, host, &channel, &mut receiver, &watched),
+        || wake_by_item(rt, host, &channel, &mut sender, how, &watched),
+    )
 }
 
 /// What a sender is answered that room wakes, and whether it was seen asleep before.
@@ -142,19 +131,18 @@ fn woken_by_room<R: Threads + Wait + Abort + Sync>(
     cap: usize,
     how: Takes,
 ) -> (Sent, bool) {
-    let (channel, sender, receiver) = full(rt, alloc, cap);
+    let (channel, mut sender, mut receiver) = full(rt, alloc, cap);
     let watched = Watched::new();
-    let ((_sender, sent), (_receiver, asleep)) = join(
+    join(
         rt,
-        || send(rt, host, &channel, sender, &watched),
-        || wake_by_room(rt, host, &channel, receiver, how, &watched),
-    );
-    (sent, asleep)
+        || send(rt, host, &channel, &mut sender, &watched),
+        || wake_by_room(rt, host, &channel, &mut receiver, how, &watched),
+    )
 }
 
 /// Whether two threads are seen asleep.
 fn are_asleep<R: Abort>(rt: &R, host: &HostRuntime, first: &Watched, second: &Watched) -> bool {
-    is_asleep(rt, host, first) && is_asleep(rt, host, second)
+    first.is_seen_asleep(rt, host) && second.is_seen_asleep(rt, host)
 }
 
 /// Closes by the only sender, once two receivers are seen asleep. Gives whether they were, and the channel was open.
@@ -205,19 +193,17 @@ fn woken_by_sender<R: Threads + Wait + Abort + Sync>(
     how: Closes,
 ) -> (Came, Came, bool) {
     let (channel, sender, receiver) = opened_surely(rt, alloc, Some(1));
-    let Ok((one, two)) = channel.split_receiver(receiver) else {
-        panic!(rt; "no second receiver");
-    };
+    let (mut one, mut two) = two_receivers(rt, &channel, receiver);
     let (first, second) = (Watched::new(), Watched::new());
-    let ((_one, came), ((_two, also), asleep)) = join(
+    let (came, (also, asleep)) = join(
         rt,
-        || receive(rt, host, &channel, one, &first),
-        || -> ((Receiver<u64>, Came), bool)
+        || receive(rt, host, &channel, &mut one, &first),
+        || -> (Came, bool)
             requires { IsSync R.row × IsEndOf two channel × IsEndOf sender channel }
         {
             join(
                 rt,
-                || receive(rt, host, &channel, two, &second),
+                || receive(rt, host, &channel, &mut two, &second),
                 || wake_by_sender(rt, host, &channel, sender, how, &first, &second),
             )
         },
@@ -233,19 +219,17 @@ fn woken_by_receiver<R: Threads + Wait + Abort + Sync>(
     how: Closes,
 ) -> (Sent, Sent, bool) {
     let (channel, sender, receiver) = full(rt, alloc, 2);
-    let Ok((one, two)) = channel.split_sender(sender) else {
-        panic!(rt; "no second sender");
-    };
+    let (mut one, mut two) = two_senders(rt, &channel, sender);
     let (first, second) = (Watched::new(), Watched::new());
-    let ((_one, sent), ((_two, also), asleep)) = join(
+    let (sent, (also, asleep)) = join(
         rt,
-        || send(rt, host, &channel, one, &first),
-        || -> ((Sender<u64>, Sent), bool)
+        || send(rt, host, &channel, &mut one, &first),
+        || -> (Sent, bool)
             requires { IsSync R.row × IsEndOf two channel × IsEndOf receiver channel }
         {
             join(
                 rt,
-                || send(rt, host, &channel, two, &second),
+                || send(rt, host, &channel, &mut two, &second),
                 || wake_by_receiver(rt, host, &channel, receiver, how, &first, &second),
             )
         },
@@ -258,7 +242,7 @@ fn an_item_wakes_a_receiver(rt: HostRuntime) {
     for how in [Sends::Waiting, Sends::Trying, Sends::Forced] {
         for cap in [Some(1usize), Some(3), None] {
             let found = woken_by_item(&rt, &rt, rt.alloc(), cap, how);
-            assert_eq!(rt; found, (Ok(ITEM), true), "{how:?} {cap:?}");
+            is_in(&rt, (how, cap), found, (Ok(ITEM), true));
         }
     }
 }
@@ -268,33 +252,41 @@ fn room_wakes_a_sender(rt: HostRuntime) {
     for how in [Takes::Waiting, Takes::Trying] {
         for cap in [1usize, 3] {
             let found = woken_by_room(&rt, &rt, rt.alloc(), cap, how);
-            assert_eq!(rt; found, (Ok(()), true), "{how:?} {cap}");
+            is_in(&rt, (how, cap), found, (Ok(()), true));
         }
     }
 }
 
+/// What two receivers are answered that a close wakes.
+const GONE: (Came, Came, bool) = (Err(Disconnected), Err(Disconnected), true);
+
+/// What two senders are answered that a close wakes.
+const CLOSED: (Sent, Sent, bool) = (
+    Err(SendError::Closed(ITEM)),
+    Err(SendError::Closed(ITEM)),
+    true,
+);
+
 #[test]
 fn the_last_sender_wakes_each_receiver(rt: HostRuntime) {
     let found = woken_by_sender(&rt, &rt, rt.alloc(), Closes::Ending);
-    assert_eq!(rt; found, (Err(Disconnected), Err(Disconnected), true));
+    is(&rt, found, GONE);
 }
 
 #[test]
 fn a_sender_that_closes_wakes_each_receiver(rt: HostRuntime) {
     let found = woken_by_sender(&rt, &rt, rt.alloc(), Closes::Staying);
-    assert_eq!(rt; found, (Err(Disconnected), Err(Disconnected), true));
+    is(&rt, found, GONE);
 }
 
 #[test]
 fn the_last_receiver_wakes_each_sender(rt: HostRuntime) {
-    let closed = Err(SendError::Closed(ITEM));
     let found = woken_by_receiver(&rt, &rt, rt.alloc(), Closes::Ending);
-    assert_eq!(rt; found, (closed, closed, true));
+    is(&rt, found, CLOSED);
 }
 
 #[test]
 fn a_receiver_that_closes_wakes_each_sender(rt: HostRuntime) {
-    let closed = Err(SendError::Closed(ITEM));
     let found = woken_by_receiver(&rt, &rt, rt.alloc(), Closes::Staying);
-    assert_eq!(rt; found, (closed, closed, true));
+    is(&rt, found, CLOSED);
 }

@@ -1,10 +1,10 @@
 //! What the system tells of a thread: its number, whether it sleeps, and how much processor time it had.
-use std::fs::Files;
+use std::fs;
+use std::process::Abort;
 use std::sync::atomic::AtomicU64;
 use std::sync::atomic::Ordering::SeqCst;
 use std::thread::sleep;
-use std::time::{Clock, Duration};
-use std::{fs, io};
+use std::time::Duration;
 
 /// How often a thread is looked at before it is taken to be awake for ever.
 pub(crate) const LOOKS: u64 = 5_000;
@@ -27,49 +27,63 @@ impl Watched {
     }
 
     /// The thread that calls this is looked at from now on.
-    pub(crate) fn enter<R: Files + Alloc>(&self, rt: &R) -> io::Result<()> {
-        self.number.store(own_fields(rt, 0, 1)?, SeqCst);
-        Ok(())
+    pub(crate) fn enter(&self, rt: &impl Abort, host: &HostRuntime) {
+        let text = read(rt, host, "/proc/thread-self/stat");
+        self.number.store(sum(&text, 0, 1), SeqCst);
     }
 
     /// Whether it sleeps.
-    fn sleeps<R: Files + Alloc>(&self, rt: &R) -> io::Result<bool> {
+    fn sleeps(&self, rt: &impl Abort, host: &HostRuntime) -> bool {
         let number = self.number.load(SeqCst);
         if number == 0 {
-            return Ok(false);
+            return false;
         }
-        let path = format!(in rt.alloc(); "/proc/self/task/{number}/status")?;
-        Ok(fs::read_to_string(rt, path)?.contains("State:\tS"))
+        match format!(in host.alloc(); "/proc/self/task/{number}/status") {
+            Ok(path) => read(rt, host, &path).contains("State:\tS"),
+            Err(_) => false,
+        }
     }
 
     /// Whether it is seen asleep.
-    pub(crate) fn is_seen_asleep<R: Files + Alloc + Clock>(&self, rt: &R) -> io::Result<bool> {
+    pub(crate) fn is_seen_asleep(&self, rt: &impl Abort, host: &HostRuntime) -> bool {
         for _ in 0..LOOKS {
-            if self.sleeps(rt)? {
-                return Ok(true);
+            if self.sleeps(rt, host) {
+                return true;
             }
-            pause(rt);
+            pause(host);
         }
-        Ok(false)
+        false
     }
 }
 
 /// Waits for the next look.
-pub(crate) fn pause<R: Clock>(rt: &R) {
-    sleep(rt, Duration::from_micros(PAUSE));
+pub(crate) fn pause(host: &HostRuntime) {
+    sleep(host, Duration::from_micros(PAUSE));
 }
 
 /// How much processor time this thread had, in hundredths of a second.
-pub(crate) fn own_time<R: Files + Alloc>(rt: &R) -> io::Result<u64> {
-    own_fields(rt, 13, 2)
+pub(crate) fn own_time(rt: &impl Abort, host: &HostRuntime) -> u64 {
+    sum(&read(rt, host, "/proc/thread-self/stat"), 13, 2)
 }
 
-/// The sum of so many numbers, after so many fields, of what the system tells of this thread.
-fn own_fields<R: Files + Alloc>(rt: &R, after: usize, count: usize) -> io::Result<u64> {
-    let text = fs::read_to_string(rt, "/proc/thread-self/stat")?;
+/// How much processor time this process had, in hundredths of a second.
+pub(crate) fn process_time(rt: &impl Abort, host: &HostRuntime) -> u64 {
+    sum(&read(rt, host, "/proc/self/stat"), 13, 2)
+}
+
+/// A text of the system. Asserts that it can be read.
+fn read(rt: &impl Abort, host: &HostRuntime, path: &str) -> String {
+    match fs::read_to_string(host, path) {
+        Ok(text) => text,
+        Err(_) => panic!(rt; "a text of the system"),
+    }
+}
+
+/// The sum of so many numbers, after so many fields of a text.
+fn sum(text: &str, after: usize, count: usize) -> u64 {
     let mut sum: u64 = 0;
     for field in text.split(' ').skip(after).take(count) {
         sum = sum.wrapping_add(field.parse().unwrap_or(0));
     }
-    Ok(sum)
+    sum
 }

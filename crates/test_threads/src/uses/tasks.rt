@@ -2,14 +2,13 @@
 ghost use Rattle.std.specs.Prelude.{true};
 
 use crate::asserts::{is, is_in};
+use crate::sleep::watched::process_time;
 use std::alloc::Global;
-use std::fs::Files;
 use std::process::Abort;
 use std::sync::Wait;
 use std::sync::atomic::{AtomicBool, AtomicU64, Ordering};
 use std::thread::{Threads, sleep};
 use std::time::Duration;
-use std::{fs, io};
 use test_allocators::signs::wait_for;
 use test_allocators::{Heap, Refusal};
 use use_tasks::{Step, Task, run};
@@ -77,6 +76,24 @@ fn all_steps(count: u64, most: u64) -> u64 {
     sum
 }
 
+/// What comes of such tasks: whether each output is its task's own, how many steps were taken, and how many blocks stay.
+fn worked<R: Threads + Wait + Abort + Sync>(
+    rt: &R,
+    alloc: Global,
+    count: u64,
+    most: u64,
+    workers: u64,
+) -> (bool, u64, u64) {
+    let heap = Heap::new(alloc, Refusal::Never);
+    let steps = AtomicU64::new(0);
+    let tasks = countdowns(rt, &heap, &steps, count, most);
+    let right = match run(rt, &&heap, tasks, workers) {
+        Ok(outputs) => are_all(&outputs, count),
+        Err(_) => false,
+    };
+    (right, steps.load(Ordering::SeqCst), heap.live())
+}
+
 #[test]
 fn each_output_is_its_tasks_own(rt: HostRuntime) {
     for (count, most, workers) in [
@@ -89,20 +106,9 @@ fn each_output_is_its_tasks_own(rt: HostRuntime) {
         (7, 5000, 3),
         (100, 60, 40),
     ] {
-        let heap = Heap::new(rt.alloc(), Refusal::Never);
-        let steps = AtomicU64::new(0);
-        let tasks = countdowns(&rt, &heap, &steps, count, most);
-        let right = match run(&rt, &&heap, tasks, workers) {
-            Ok(outputs) => are_all(&outputs, count),
-            Err(_) => false,
-        };
-        let found = (right, steps.load(Ordering::SeqCst), heap.live());
-        is_in(
-            &rt,
-            (count, most, workers),
-            found,
-            (true, all_steps(count, most), 0),
-        );
+        let found = worked(&rt, rt.alloc(), count, most, workers);
+        let wanted = (true, all_steps(count, most), 0);
+        is_in(&rt, (count, most, workers), found, wanted);
     }
 }
 
@@ -164,32 +170,36 @@ impl<'a> Task for Meeting<'a> {
     }
 }
 
+/// Whether each of so many tasks that wait for each other is done, and how many have come.
+fn met<R: Threads + Wait + Abort + Sync>(
+    rt: &R,
+    alloc: Global,
+    all: u64,
+    workers: u64,
+) -> (bool, u64) {
+    let came = AtomicU64::new(0);
+    let mut tasks = Vec::new(alloc);
+    for _ in 0..all {
+        let task = Meeting {
+            came: &came,
+            all,
+            here: false,
+        };
+        tasks.push(task).expect(rt, "memory");
+    }
+    let right = match run(rt, &alloc, tasks, workers) {
+        Ok(outputs) => outputs.len() as u64 == all && outputs.iter().all(|output| *output == all),
+        Err(_) => false,
+    };
+    (right, came.load(Ordering::SeqCst))
+}
+
 /// Each is done only once every other one has been stepped, so all are in progress at a time, also where one worker steps them.
 #[test]
 fn tasks_that_wait_for_each_other_are_done(rt: HostRuntime) {
     for (all, workers) in [(3, 1), (100, 1), (100, 4), (3, 8)] {
-        let came = AtomicU64::new(0);
-        let alloc: Global = rt.alloc();
-        let mut tasks = Vec::new(alloc);
-        for _ in 0..all {
-            let task = Meeting {
-                came: &came,
-                all,
-                here: false,
-            };
-            tasks.push(task).expect(&rt, "memory");
-        }
-        let right = match run(&rt, &alloc, tasks, workers) {
-            Ok(outputs) => outputs.len() as u64 == all
-                && outputs.iter().all(|output| *output == all),
-            Err(_) => false,
-        };
-        is_in(
-            &rt,
-            (all, workers),
-            (right, came.load(Ordering::SeqCst)),
-            (true, all),
-        );
+        let found = met(&rt, rt.alloc(), all, workers);
+        is_in(&rt, (all, workers), found, (true, all));
     }
 }
 
@@ -219,27 +229,28 @@ impl<'a> Task for Together<'a> {
     }
 }
 
+/// Whether so many tasks are done by as many workers, and how many of them met.
+fn met_at_once<R: Threads + Wait + Abort + Sync>(rt: &R, alloc: Global, all: u64) -> (bool, u64) {
+    let (came, met) = (AtomicU64::new(0), AtomicU64::new(0));
+    let all_are_here = AtomicBool::new(false);
+    let mut tasks = Vec::new(alloc);
+    for _ in 0..all {
+        let task = Together {
+            came: &came,
+            all_are_here: &all_are_here,
+            met: &met,
+            all,
+        };
+        tasks.push(task).expect(rt, "memory");
+    }
+    let done = run(rt, &alloc, tasks, all).is_ok();
+    (done, met.load(Ordering::SeqCst))
+}
+
 #[test]
 fn each_worker_steps_a_task_at_the_same_time(rt: HostRuntime) {
     for all in [2, 4] {
-        let (came, met, all_are_here) = (
-            AtomicU64::new(0),
-            AtomicU64::new(0),
-            AtomicBool::new(false),
-        );
-        let alloc: Global = rt.alloc();
-        let mut tasks = Vec::new(alloc);
-        for _ in 0..all {
-            let task = Together {
-                came: &came,
-                all_are_here: &all_are_here,
-                met: &met,
-                all,
-            };
-            tasks.push(task).expect(&rt, "memory");
-        }
-        let done = run(&rt, &alloc, tasks, all).is_ok();
-        is_in(&rt, all, (done, met.load(Ordering::SeqCst)), (true, all));
+        is_in(&rt, all, met_at_once(&rt, rt.alloc(), all), (true, all));
     }
 }
 
@@ -267,19 +278,9 @@ impl<'a> Task for Slow<'a> {
     }
 }
 
-/// How much processor time this process had, in hundredths of a second.
-fn time<R: Files + Alloc>(rt: &R) -> io::Result<u64> {
-    let text = fs::read_to_string(rt, "/proc/self/stat")?;
-    let mut sum: u64 = 0;
-    for field in text.split(' ').skip(13).take(2) {
-        sum = sum.wrapping_add(field.parse().unwrap_or(0));
-    }
-    Ok(sum)
-}
-
 /// Of eight workers seven have no task for a second. They take next to no time.
 #[test]
-fn workers_without_a_task_sleep(rt: HostRuntime) -> io::Result<()> {
+fn workers_without_a_task_sleep(rt: HostRuntime) {
     let alloc: Global = rt.alloc();
     let mut tasks = Vec::new(alloc);
     let task = Slow {
@@ -287,9 +288,8 @@ fn workers_without_a_task_sleep(rt: HostRuntime) -> io::Result<()> {
         left: 99,
     };
     tasks.push(task).expect(&rt, "memory");
-    let before = time(&rt)?;
+    let before = process_time(&rt, &rt);
     let done = run(&rt, &alloc, tasks, 8).is_ok();
-    let took = time(&rt)?.wrapping_sub(before);
+    let took = process_time(&rt, &rt).wrapping_sub(before);
     is_in(&rt, took, (done, took <= 10), (true, true));
-    Ok(())
 }
