@@ -31,10 +31,15 @@ pub(crate) struct Board {
 }
 
 impl Board {
-    /// A board for so many threads. Asserts that there is memory.
+    /// A board for so many threads, with as many values as there are turns. Asserts that there is memory.
     pub(crate) fn of(rt: &impl Abort, alloc: Global, threads: usize) -> Board {
+        Board::with(rt, alloc, threads, TURNS)
+    }
+
+    /// A board for so many threads and values. Asserts that there is memory.
+    pub(crate) fn with(rt: &impl Abort, alloc: Global, threads: usize, values: u64) -> Board {
         let mut counts = Vec::new(alloc);
-        for _ in 0..TURNS {
+        for _ in 0..values {
             counts.push(AtomicU64::new(0)).expect(rt, "memory");
         }
         let threads = threads as u64;

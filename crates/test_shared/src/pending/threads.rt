@@ -5,7 +5,7 @@ ghost use denote.Param.Send.{IsSync};
 
 use crate::asserts::is_in;
 use crate::calls::Queue;
-use crate::crew::{Board, TURNS};
+use crate::crew::Board;
 use crate::opening::{items_left, open_surely};
 use crate::pending::beside::{begin, take_up};
 use concurrent_queue::{Outcome, Party};
@@ -16,7 +16,7 @@ use std::sync::Wait;
 use std::thread::{Threads, join, yield_now};
 
 /// How many values each of four threads pushes.
-const EACH: u64 = TURNS / 4;
+const EACH: u64 = 2500;
 
 /// Pushes a value, or pops one: the call is begun, taken up until it has its reply, and begun again until it is accepted. Gives the value that came out.
 fn answer_surely<R: Wait>(
@@ -110,7 +110,7 @@ fn crew<R: Wait + Threads + Sync>(
 
 /// Lets the threads work on a queue of this capacity, or without one. Asserts that each value came out once.
 fn each_came_once<R: Wait + Threads + Sync + Abort>(rt: &R, alloc: Global, cap: Option<usize>) {
-    let board = Board::of(rt, alloc, 8);
+    let board = Board::with(rt, alloc, 8, 4 * EACH);
     let (queue, party) = open_surely(rt, alloc, cap);
     let party = crew(rt, &queue, party, &board, 3, true);
     let left = items_left(queue, party);
