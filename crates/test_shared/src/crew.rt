@@ -17,9 +17,10 @@ use test_allocators::{Heap, Refusal};
 /// How many turns a thread takes.
 pub(crate) const TURNS: u64 = 25_000;
 
-/// How often each value came out, how many threads push, and whether all threads have come.
+/// Which value is handed out next, how often each came out, how many threads push, and whether all threads have come.
 #[derive(Drop)]
 pub(crate) struct Board {
+    next: AtomicU64,
     counts: Vec<AtomicU64>,
     running: AtomicU64,
     threads: u64,
@@ -30,14 +31,20 @@ pub(crate) struct Board {
 }
 
 impl Board {
-    /// A board for so many threads. Asserts that there is memory.
+    /// A board for so many threads, with as many values as there are turns. Asserts that there is memory.
     pub(crate) fn of(rt: &impl Abort, alloc: Global, threads: usize) -> Board {
+        Board::with(rt, alloc, threads, TURNS)
+    }
+
+    /// A board for so many threads and values. Asserts that there is memory.
+    pub(crate) fn with(rt: &impl Abort, alloc: Global, threads: usize, values: u64) -> Board {
         let mut counts = Vec::new(alloc);
-        for _ in 0..TURNS {
+        for _ in 0..values {
             counts.push(AtomicU64::new(0)).expect(rt, "memory");
         }
         let threads = threads as u64;
         Board {
+            next: AtomicU64::new(0),
             counts,
             running: AtomicU64::new(threads / 2),
             threads,
@@ -56,7 +63,12 @@ impl Board {
         wait_for(&self.all_are_here)
     }
 
-    fn count(&self, value: u64) {
+    /// The next value that is handed out, from 0 on.
+    pub(crate) fn next_value(&self) -> u64 {
+        self.next.fetch_add(1, Ordering::SeqCst)
+    }
+
+    pub(crate) fn count(&self, value: u64) {
         if let Some(count) = self.counts.get(value as usize) {
             count.fetch_add(1, Ordering::SeqCst);
         }
@@ -72,26 +84,16 @@ impl Board {
 /// What a party does with a number, and finds.
 #[derive(Clone, Copy)]
 pub(crate) enum Deed {
-    /// Pushes it, whatever is answered.
-    TryPush,
-    /// Pops, whatever is answered.
-    TryPop,
     /// Pushes it, and tries again where the queue is full.
     Push,
     /// Pushes it, which has to be accepted.
     PushOnce,
     /// Pushes it, which has to be accepted but for this one, which is handed back for want of memory.
     PushBut(u64),
-    /// Pushes it into a queue that has as many items, and finds one more there.
-    Grow,
-    /// Pops of so many items, of which as many are gone already, and finds one less there.
-    Shrink(u64),
+    /// Pops, which has to give an item.
+    PopOnce,
     /// Pops it.
     PopInOrder,
-    /// Pushes it, and finds no more items in the queue than so many.
-    PushWithin(usize),
-    /// Pops it, and finds no more items in the queue than so many.
-    PopInOrderWithin(usize),
     /// Pushes until it is accepted, and then pops, which has to give an item.
     PushAndPop,
     /// Pushes by force, and pops where it displaced nothing, which has to give an item.
@@ -103,6 +105,8 @@ pub(crate) enum Deed {
 pub(crate) enum Role {
     /// This with each.
     Each(Deed),
+    /// This with each, and finds no more items in the queue then than so many.
+    EachWithin(Deed, usize),
     /// Pushes each, which has to be accepted, and lets the request go then that is held.
     PushAndLetGo,
     /// Pops once a request is held, finds the queue empty, and lets the request go.
@@ -180,7 +184,7 @@ pub(crate) fn pop_one<T: Drop, A: Allocator, R: Wait>(
 }
 
 /// Does this with a number. Gives false where what had to be found was not.
-fn find<A: NullTestable, R: Wait>(
+pub(crate) fn find<A: NullTestable, R: Wait>(
     rt: &R,
     queue: &ConcurrentQueue<u64, A>,
     party: &mut Party<u64>,
@@ -191,41 +195,21 @@ fn find<A: NullTestable, R: Wait>(
     ensures { IsPartyOf party.new queue.now }
 {
     match deed {
-        Deed::TryPush => {
-            let _ = queue.push(rt, party, number);
-            true
-        }
-        Deed::TryPop => {
-            let _ = queue.pop(rt, party);
-            true
-        }
         Deed::Push => {
             push_one(rt, queue, party, number);
             true
         }
         Deed::PushOnce => queue.push(rt, party, number).is_ok(),
-        Deed::PushBut(refused) if number == refused => {
-            queue.push(rt, party, number) == Err(PushError::NoMemory(number))
+        Deed::PushBut(refused) => {
+            let wanted = if number == refused {
+                Err(PushError::NoMemory(number))
+            } else {
+                Ok(())
+            };
+            queue.push(rt, party, number) == wanted
         }
-        Deed::PushBut(_) => queue.push(rt, party, number).is_ok(),
-        Deed::Grow => {
-            let pushed = queue.push(rt, party, number).is_ok();
-            pushed && queue.len(rt, party) as u64 == number.wrapping_add(1)
-        }
-        Deed::Shrink(items) => {
-            let popped = queue.pop(rt, party).is_ok();
-            let left = items.wrapping_sub(number).wrapping_sub(1);
-            popped && queue.len(rt, party) as u64 == left
-        }
+        Deed::PopOnce => queue.pop(rt, party).is_ok(),
         Deed::PopInOrder => pop_one(rt, queue, party) == number,
-        Deed::PushWithin(most) => {
-            push_one(rt, queue, party, number);
-            queue.len(rt, party) <= most
-        }
-        Deed::PopInOrderWithin(most) => {
-            let in_order = pop_one(rt, queue, party) == number;
-            queue.len(rt, party) <= most && in_order
-        }
         Deed::PushAndPop => {
             push_one(rt, queue, party, number);
             queue.pop(rt, party).is_ok()
@@ -270,6 +254,10 @@ fn turn<A: NullTestable, R: Wait>(
 {
     match role {
         Role::Each(deed) => find(rt, queue, party, deed, number),
+        Role::EachWithin(deed, most) => {
+            let right = find(rt, queue, party, deed, number);
+            queue.len(rt, party) <= most && right
+        }
         Role::PushAndLetGo => {
             let accepted = queue.push(rt, party, number).is_ok();
             board.heap.let_go();

@@ -83,3 +83,16 @@ pub(crate) fn stay_shared<T: Drop, A: Allocator>(
         Ok(_) => panic!(rt; "finished with a party missing"),
     }
 }
+
+/// Ends the sharing. Gives how many items are left, unless a party is missing.
+pub(crate) fn items_left<T: Drop, A: Allocator>(
+    queue: ConcurrentQueue<T, A>,
+    party: Party<T>,
+) -> Option<usize>
+    requires { IsPartyOf party queue }
+{
+    match queue.finish(party) {
+        Ok(alone) => Some(alone.len()),
+        Err(_) => None,
+    }
+}

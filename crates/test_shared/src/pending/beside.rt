@@ -4,18 +4,17 @@ ghost use Rattle.concurrent_queue.specs.Shared.{IsPartyOf};
 ghost use Rattle.test_shared.specs.Outcomes.{IsOf};
 
 use crate::asserts::is_in;
+use crate::calls::Queue;
+use crate::opening::items_left;
 use crate::pending::gates::{Before, ENDED, HELD, Holding, MET, Stage};
-use crate::pending::opening::{items_left, open_filled};
-use concurrent_queue::{ConcurrentQueue, Outcome, Party};
+use crate::pending::opening::open_filled;
+use concurrent_queue::{Outcome, Party};
 use queue_steps::model::{Call, Reply};
 use shared_chain::source::Granting;
 use std::alloc::Global;
 use std::process::Abort;
 use std::sync::Wait;
 use std::thread::{Threads, join};
-
-/// The queue of a story.
-pub(crate) type Queue = ConcurrentQueue<u64>;
 
 /// What tells the fast steps of a held call from those of other callers.
 pub(crate) struct Told;

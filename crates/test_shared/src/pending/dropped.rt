@@ -4,10 +4,9 @@ ghost use Rattle.concurrent_queue.specs.Shared.{IsPartyOf};
 ghost use denote.Param.Send.{IsSync};
 
 use crate::asserts::is_in;
-use crate::opening::{open_surely, part};
+use crate::opening::{items_left, open_surely, part};
 use crate::pending::beside::Told;
 use crate::pending::gates::{Before, HELD, Holding, LettingGo, MET, Stage};
-use crate::pending::opening::items_left;
 use concurrent_queue::{ConcurrentQueue, NullTestable, Outcome, Party, TryPushError};
 use queue_steps::model::{Call, CallKind};
 use shared_chain::source::Granting;

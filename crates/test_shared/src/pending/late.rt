@@ -3,9 +3,11 @@ ghost use Rattle.std.specs.Prelude.{IfSome};
 ghost use Rattle.concurrent_queue.specs.Shared.{IsPartyOf};
 ghost use denote.Param.Send.{IsSync};
 
+use crate::asserts::is;
 use crate::opening::{open_surely, part};
 use concurrent_queue::{ConcurrentQueue, NullTestable, Outcome, Party};
 use queue_steps::model::{Call, Reply};
+use std::process::Abort;
 use std::sync::Wait;
 use std::thread::{Threads, join};
 use test_allocators::{Heap, Refusal};
@@ -69,15 +71,19 @@ fn push_both<A: NullTestable + Send + Sync, R: Wait + Threads + Sync>(
     }
 }
 
+/// Makes both pushes on a new chain. Gives the late one's reply, and how many items and allocations there are then.
+fn see<R: Wait + Threads + Sync + Abort>(rt: &R, heap: &Heap) -> (Option<Reply<u64>>, [u64; 2]) {
+    let (queue, party) = open_surely(rt, heap, None);
+    let (first, second) = part(rt, &queue, party);
+    let (mut party, reply) = push_both(rt, &queue, first, second, heap);
+    let left = queue.len(rt, &mut party) as u64;
+    (reply, [left, heap.live()])
+}
+
 #[test]
 fn a_push_whose_block_comes_late_is_not_pending(rt: HostRuntime) {
     let heap = Heap::new(rt.alloc(), Refusal::Never);
-    let (queue, party) = open_surely(&rt, &heap, None);
-    let (first, second) = part(&rt, &queue, party);
-    let (mut party, reply) = push_both(&rt, &queue, first, second, &heap);
-    let left = queue.len(&rt, &mut party);
-    assert_eq!(rt;
-        (reply, heap.held_until_let_go(), left, heap.live()),
-        (Some(Reply::Push(Ok(()))), true, 2, 2)
-    );
+    let (reply, counts) = see(&rt, &heap);
+    let seen = (reply, heap.held_until_let_go(), counts);
+    is(&rt, seen, (Some(Reply::Push(Ok(()))), true, [2, 2]));
 }

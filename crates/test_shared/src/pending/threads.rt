@@ -4,61 +4,19 @@ ghost use Rattle.concurrent_queue.specs.Shared.{IsPartyOf};
 ghost use denote.Param.Send.{IsSync};
 
 use crate::asserts::is_in;
-use crate::opening::open_surely;
-use crate::pending::beside::{Queue, begin, take_up};
-use crate::pending::opening::items_left;
+use crate::calls::Queue;
+use crate::crew::Board;
+use crate::opening::{items_left, open_surely};
+use crate::pending::beside::{begin, take_up};
 use concurrent_queue::{Outcome, Party};
 use queue_steps::model::{Call, Reply};
 use std::alloc::Global;
 use std::process::Abort;
 use std::sync::Wait;
-use std::sync::atomic::{AtomicU64, Ordering};
 use std::thread::{Threads, join, yield_now};
 
 /// How many values each of four threads pushes.
 const EACH: u64 = 2500;
-
-/// The values that are not handed to a thread yet, and how often each came out.
-#[derive(Drop)]
-struct Board {
-    next: AtomicU64,
-    counts: Vec<AtomicU64>,
-}
-
-impl Board {
-    /// A board of which no value was handed out. Asserts that there is memory.
-    fn of(rt: &impl Abort, alloc: Global) -> Board {
-        let mut counts = Vec::new(alloc);
-        for _ in 0..4 * EACH {
-            counts.push(AtomicU64::new(0)).expect(rt, "memory");
-        }
-        Board {
-            next: AtomicU64::new(0),
-            counts,
-        }
-    }
-
-    /// A push of the next value.
-    fn next_push(&self) -> Call<u64> {
-        Call::Push(self.next.fetch_add(1, Ordering::SeqCst))
-    }
-
-    /// Counts what came out, if anything did.
-    fn count(&self, came: Option<u64>) {
-        if let Some(value) = came {
-            if let Some(count) = self.counts.get(value as usize) {
-                count.fetch_add(1, Ordering::SeqCst);
-            }
-        }
-    }
-
-    /// Whether each value came out so often.
-    fn each_came(&self, times: u64) -> bool {
-        self.counts
-            .iter()
-            .all(|count| count.load(Ordering::SeqCst) == times)
-    }
-}
 
 /// Pushes a value, or pops one: the call is begun, taken up until it has its reply, and begun again until it is accepted. Gives the value that came out.
 fn answer_surely<R: Wait>(
@@ -102,10 +60,16 @@ fn work<R: Wait>(
     ensures { IsPartyOf result queue.now }
 {
     for _ in 0..EACH {
-        let call = if pushes { board.next_push() } else { Call::Pop };
+        let call = if pushes {
+            Call::Push(board.next_value())
+        } else {
+            Call::Pop
+        };
         let (after, came) = answer_surely(rt, queue, party, call);
         party = after;
-        board.count(came);
+        if let Some(value) = came {
+            board.count(value);
+        }
     }
     party
 }
@@ -146,7 +110,7 @@ fn crew<R: Wait + Threads + Sync>(
 
 /// Lets the threads work on a queue of this capacity, or without one. Asserts that each value came out once.
 fn each_came_once<R: Wait + Threads + Sync + Abort>(rt: &R, alloc: Global, cap: Option<usize>) {
-    let board = Board::of(rt, alloc);
+    let board = Board::with(rt, alloc, 8, 4 * EACH);
     let (queue, party) = open_surely(rt, alloc, cap);
     let party = crew(rt, &queue, party, &board, 3, true);
     let left = items_left(queue, party);

@@ -2,11 +2,12 @@
 ghost use Rattle.std.specs.Prelude.{◌≡◌};
 ghost use Rattle.concurrent_queue.specs.Shared.{IsPartyOf};
 
-use crate::asserts::is_in;
-use crate::opening::open_surely;
-use crate::pending::beside::{Queue, call_held};
+use crate::asserts::{is, is_in};
+use crate::calls::Queue;
+use crate::opening::{items_left, open_surely};
+use crate::pending::beside::call_held;
 use crate::pending::gates::{Before, HELD, MET, Stage};
-use crate::pending::opening::{items_left, open_filled};
+use crate::pending::opening::open_filled;
 use concurrent_queue::{ConcurrentQueue, Party, TryForcePushError, TryPopError, TryPushError};
 use queue_steps::model::Call;
 use std::alloc::Global;
@@ -268,52 +269,52 @@ fn replies_of_the_only_party(rt: HostRuntime) {
     }
 }
 
+/// Pops of an empty queue of capacity 1, and pushes 1 and 2.
+fn pop_and_push_twice(
+    rt: &impl Abort,
+    alloc: Global,
+) -> (Result<u64, TryPopError>, [Result<(), TryPushError<u64>>; 2]) {
+    let (queue, mut party) = ConcurrentQueue::bounded(alloc, 1).expect(rt, "memory");
+    let popped = queue.try_pop(&mut party);
+    let first = queue.try_push(&mut party, 1);
+    (popped, [first, queue.try_push(&mut party, 2)])
+}
+
 /// A full queue, and an empty one.
 #[test]
 fn full_and_empty(rt: HostRuntime) {
-    let (queue, mut party) = ConcurrentQueue::bounded(rt.alloc(), 1).expect(&rt, "memory");
-    let popped = queue.try_pop(&mut party);
-    let pushed = queue.try_push(&mut party, 1u64);
-    let refused = queue.try_push(&mut party, 2);
-    assert_eq!(rt;
-        (popped, pushed, refused),
-        (Err(TryPopError::Empty), Ok(()), Err(TryPushError::Full(2)))
-    );
+    let pushed = [Ok(()), Err(TryPushError::Full(2))];
+    let wanted = (Err(TryPopError::Empty), pushed);
+    is(&rt, pop_and_push_twice(&rt, rt.alloc()), wanted);
 }
 
-/// How one of the two pushes of 1 is refused on a chain whose allocator refuses its first block.
-fn refused_by(
-    rt: &impl Abort,
-    alloc: Global,
-    forced: bool,
-) -> (Option<TryPushError<u64>>, Option<TryForcePushError<u64>>) {
-    let heap = Heap::new(alloc, Refusal::Nth(2));
-    let (queue, mut party) = open_surely(rt, &heap, None);
-    if forced {
-        (None, queue.try_force_push(&mut party, 1).err())
-    } else {
-        (queue.try_push(&mut party, 1).err(), None)
-    }
+/// Pushes 1 to a new chain.
+fn push_first(rt: &impl Abort, heap: &Heap) -> Result<(), TryPushError<u64>> {
+    let (queue, mut party) = open_surely(rt, heap, None);
+    queue.try_push(&mut party, 1)
+}
+
+/// Pushes 1 to a new chain, by force.
+fn force_first(rt: &impl Abort, heap: &Heap) -> Result<Option<u64>, TryForcePushError<u64>> {
+    let (queue, mut party) = open_surely(rt, heap, None);
+    queue.try_force_push(&mut party, 1)
 }
 
 /// A chain whose allocator refuses its first block.
 #[test]
 fn no_memory_for_a_block(rt: HostRuntime) {
-    let plain = refused_by(&rt, rt.alloc(), false);
-    let forced = refused_by(&rt, rt.alloc(), true);
-    assert_eq!(rt;
-        (plain, forced),
-        (
-            (Some(TryPushError::NoMemory(1)), None),
-            (None, Some(TryForcePushError::NoMemory(1)))
-        )
-    );
+    let heap = Heap::new(rt.alloc(), Refusal::Nth(2));
+    let plain = push_first(&rt, &heap);
+    let heap = Heap::new(rt.alloc(), Refusal::Nth(2));
+    let forced = force_first(&rt, &heap);
+    is(&rt, plain, Err(TryPushError::NoMemory(1)));
+    is(&rt, forced, Err(TryForcePushError::NoMemory(1)));
 }
 
 /// Asserts how an error is printed.
 fn is_printed(rt: &impl Abort, alloc: Global, error: &(impl Display + Debug), wanted: &str) {
     let printed = format!(in alloc; "{error} {error:?}").expect(rt, "memory");
-    assert_eq!(rt; printed.as_str(), wanted);
+    is(rt, printed.as_str(), wanted);
 }
 
 /// The errors as they are printed, and the values that they hand back.
@@ -328,7 +329,7 @@ fn printed_errors(rt: HostRuntime) {
     for (error, wanted) in pushes {
         is_printed(&rt, rt.alloc(), &error, wanted);
         let handed_back = (error.is_busy(), error.into_inner());
-        assert_eq!(rt; handed_back, (error == TryPushError::Busy(1), 1));
+        is(&rt, handed_back, (error == TryPushError::Busy(1), 1));
     }
     let forces = [
         (TryForcePushError::Closed(1u64), "Closed Closed(1)"),
@@ -337,7 +338,7 @@ fn printed_errors(rt: HostRuntime) {
     ];
     for (error, wanted) in forces {
         is_printed(&rt, rt.alloc(), &error, wanted);
-        assert_eq!(rt; error.into_inner(), 1);
+        is(&rt, error.into_inner(), 1);
     }
     let pops = [
         (TryPopError::Empty, "Empty Empty"),

@@ -71,16 +71,8 @@ fn drop_all<'a>(
             let whole = queue.join(a, b);
             drop(end(rt, queue, whole));
         }
-        End::Kept => {
-            drop(queue);
-            drop(a);
-            drop(b);
-        }
-        End::Dropped => {
-            drop(b);
-            drop(a);
-            drop(queue);
-        }
+        End::Kept => drop((queue, a, b)),
+        End::Dropped => drop((b, a, queue)),
     }
 }
 

@@ -1,5 +1,5 @@
 //! Every accepted item is dropped once.
-ghost use Rattle.std.specs.Prelude.{◌≡◌, ◌<◌};
+ghost use Rattle.std.specs.Prelude.{◌≡◌};
 ghost use Rattle.concurrent_queue.specs.Shared.{IsPartyOf};
 
 use crate::asserts::is_in;
@@ -73,36 +73,51 @@ fn pop_all<R: Wait>(rt: &R, queue: &Queue, mut party: Party<Counted>, count: u64
     party
 }
 
-/// Pops and drops so many items while another thread pushes them and as many more as are left in a queue of this capacity, or without one, and drops the queue.
-fn each_dropped_once<R: Wait + Threads + Sync + Abort>(
+/// One thread pushes so many items, and another one pops as many as these, and drops them.
+fn push_and_pop<R: Wait + Threads + Sync + Abort>(
+    rt: &R,
+    queue: &Queue,
+    party: Party<Counted>,
+    drops: &Arc<AtomicU64>,
+    pushed: u64,
+    popped: u64,
+) -> Party<Counted>
+    requires { IsPartyOf party queue.now }
+    ensures { IsPartyOf result queue.now }
+{
+    let (a, b) = part(rt, queue, party);
+    let (a, b) = join(
+        rt,
+        || push_all(rt, queue, a, drops, pushed),
+        || pop_all(rt, queue, b, popped),
+    );
+    queue.join(a, b)
+}
+
+/// Pops and drops so many items while another thread pushes them and as many more as are left in a queue of this capacity, or without one, and drops the queue. Gives how many items were dropped while it had its party, once that was dropped, and once the queue was.
+fn dropped<R: Wait + Threads + Sync + Abort>(
     rt: &R,
     alloc: Global,
+    drops: &Arc<AtomicU64>,
     cap: Option<usize>,
     popped: u64,
     left: u64,
-)
-    requires { (popped < 100000) × (left < 100000) }
-{
-    let drops = no_drops(rt, alloc);
+) -> [u64; 3] {
     let (queue, party) = open_surely(rt, alloc, cap);
-    let (a, b) = part(rt, &queue, party);
-    let (a, b) = join(
-        rt,
-        || push_all(rt, &queue, a, &drops, popped + left),
-        || pop_all(rt, &queue, b, popped),
-    );
-    let party = queue.join(a, b);
+    let pushed = popped.wrapping_add(left);
+    let party = push_and_pop(rt, &queue, party, drops, pushed, popped);
     let shared = drops.load(Ordering::SeqCst);
     drop(party);
     let without_a_party = drops.load(Ordering::SeqCst);
     drop(queue);
-    let seen = [shared, without_a_party, drops.load(Ordering::SeqCst)];
-    is_in(rt, cap, seen, [popped, popped, popped + left]);
+    [shared, without_a_party, drops.load(Ordering::SeqCst)]
 }
 
 #[test]
 fn every_item_once(rt: HostRuntime) {
     for (cap, left) in [(Some(1), 1), (Some(50), 20), (None, 77)] {
-        each_dropped_once(&rt, rt.alloc(), cap, 1000, left);
+        let drops = no_drops(&rt, rt.alloc());
+        let seen = dropped(&rt, rt.alloc(), &drops, cap, 1000, left);
+        is_in(&rt, cap, seen, [1000, 1000, left.wrapping_add(1000)]);
     }
 }

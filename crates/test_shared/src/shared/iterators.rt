@@ -30,7 +30,7 @@ static WALKS: [(Option<usize>, &[Option<u64>]); 4] = [
 /// Asks an iterator for four items once 1, 2, 3 were pushed, and then a new one once 4 was. Asserts what both give, that 4 is accepted, and that the queue is not closed.
 fn walks<R: Wait + Abort>(rt: &R, alloc: Global, cap: Option<usize>, expected: &[Option<u64>]) {
     let (queue, mut party) = open_surely(rt, alloc, cap);
-    find_each(rt, &queue, &mut party, Deed::TryPush, 1..4);
+    find_each(rt, &queue, &mut party, Deed::PushOnce, 1..4);
     let first = four(rt, &queue, &mut party);
     let pushed = queue.push(rt, &mut party, 4).is_ok();
     let second = four(rt, &queue, &mut party);
@@ -202,8 +202,8 @@ fn is_printed<R: Wait + Abort>(rt: &R, alloc: Global, shown: &Shown) {
     let (queue, mut party) = open_surely(rt, alloc, shown.cap);
     let pushed = 1..shown.pushes.wrapping_add(1);
     find_each(rt, &queue, &mut party, Deed::PushAndPop, 0..shown.before);
-    find_each(rt, &queue, &mut party, Deed::TryPush, pushed);
-    find_each(rt, &queue, &mut party, Deed::TryPop, 0..shown.pops);
+    find_each(rt, &queue, &mut party, Deed::PushOnce, pushed);
+    find_each(rt, &queue, &mut party, Deed::PopOnce, 0..shown.pops);
     if shown.closed {
         queue.close(&mut party);
     }

@@ -63,24 +63,38 @@ fn seen_by<R: Wait>(rt: &R, queue: Queue, mut party: Party<u64>, accepted: bool)
     }
 }
 
-/// Lets two threads push into a queue of this capacity, or without one.
-fn left_by_two<R: Wait + Threads + Sync + Abort>(
+/// Lets two threads push, a party each. Gives both, and whether each item was accepted.
+fn push_both<R: Wait + Threads + Sync + Abort>(
     rt: &R,
-    alloc: Global,
-    cap: Option<usize>,
-    end: End,
-) -> Seen {
+    queue: &Queue,
+    party: Party<u64>,
+    board: &Board,
+) -> (Party<u64>, Party<u64>, bool)
+    requires { IsPartyOf party queue.now }
+    ensures { IsPartyOf result.0 queue.now × IsPartyOf result.1 queue.now }
+{
     let first = Task::of(Role::Each(Deed::PushOnce), 0..EACH);
     let second = Task::of(Role::Each(Deed::PushOnce), EACH..2 * EACH);
-    let board = Board::of(rt, alloc, 2);
-    let (queue, party) = open_surely(rt, alloc, cap);
-    let (a, b) = part(rt, &queue, party);
+    let (a, b) = part(rt, queue, party);
     let ((a, right), (b, right_too)) = join(
         rt,
-        || act(rt, &queue, a, &board, first),
-        || act(rt, &queue, b, &board, second),
+        || act(rt, queue, a, board, first),
+        || act(rt, queue, b, board, second),
     );
-    let accepted = right && right_too;
+    (a, b, right && right_too)
+}
+
+/// What is seen of a queue with two parties.
+fn seen_by_both<R: Wait>(
+    rt: &R,
+    queue: Queue,
+    a: Party<u64>,
+    b: Party<u64>,
+    end: End,
+    accepted: bool,
+) -> Seen
+    requires { IsPartyOf a queue × IsPartyOf b queue }
+{
     match end {
         End::Joined => {
             let whole = queue.join(a, b);
@@ -96,6 +110,19 @@ fn left_by_two<R: Wait + Threads + Sync + Abort>(
             seen_by(rt, queue, a, accepted)
         }
     }
+}
+
+/// Lets two threads push into a queue of this capacity, or without one.
+fn left_by_two<R: Wait + Threads + Sync + Abort>(
+    rt: &R,
+    alloc: Global,
+    cap: Option<usize>,
+    end: End,
+) -> Seen {
+    let board = Board::of(rt, alloc, 2);
+    let (queue, party) = open_surely(rt, alloc, cap);
+    let (a, b, accepted) = push_both(rt, &queue, party, &board);
+    seen_by_both(rt, queue, a, b, end, accepted)
 }
 
 /// All that they pushed is counted, and is there in its order once both parties are one. With one kept or dropped the sharing does not end.
