@@ -101,7 +101,7 @@ impl<T: Same, A: Allocator> Machine<T, A> {
 }
 
 impl<T: Hash, A: Allocator> Machine<T, A> {
-    /// Feeds the hasher with all that the machine holds.
+    /// Feeds the hasher with what is shared and with what each call does next. Machines that are the same feed it alike.
     pub fn feed<H: Hasher>(&self, state: &mut H) {
         match self.kind {
             Kind::Single => state.write_u8(0),

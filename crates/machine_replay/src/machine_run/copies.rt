@@ -47,7 +47,7 @@ impl<T: Same, A: Allocator> MachineRun<T, A> {
 }
 
 impl<T: Hash, A: Allocator> MachineRun<T, A> {
-    /// A hash of all that `is_same` compares. Machines that are the same have the same.
+    /// A hash of what `is_same` compares, but for where calls stand. Machines that are the same have the same.
     pub fn fingerprint(&self) -> u64 {
         let mut state = FoldHasher::default();
         self.machine.feed(&mut state);
