@@ -41,3 +41,8 @@ module _ {T : Type 0} where
   told_web a b r q v c (Break y) z rested is resting same is_v none h =
       let e = web_ends a b r q v c y y rested is resting refl is_v none h in
       (e.0, subst (λ u. Tries v c u (person_of b)) (sym same) e.1)
+
+-- what follows of each way that a call was told
+pub told_map : {R V : Type 0} {P Q : V → Type 0} {E F : R → Type 0} → ((v : V) → P v → Q v) → ((r : R) → E r → F r) → (x : ControlFlow R V) → MatchControlFlow x P E → MatchControlFlow x Q F
+told_map f g (Continue v) h = f v h
+told_map f g (Break r) h = g r h

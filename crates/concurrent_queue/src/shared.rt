@@ -40,6 +40,7 @@ use std::ops::ControlFlow;
 use std::sync::Wait;
 use std::{fmt, mem};
 
+mod calling;
 mod count;
 mod giving_up;
 mod iter;
@@ -248,7 +249,19 @@ impl<T, A: Allocator> ConcurrentQueue<T, A> {
         requires { IsPartyOf party.old self.now }
         ensures { Calls party.old call result party.new }
     {
-        answer_here!(self, rt, gate, party, call, Q, G, W)
+        match &mut party.place {
+            SeatPlace::Table(seat) => match self.form.begin_at::<G, W>(gate, seat, call) {
+                ControlFlow::Break(reply) => reply,
+                ControlFlow::Continue(left) => self.form.end_at(rt, gate, seat, left),
+            },
+            SeatPlace::Web(rested) => match &self.form {
+                Form::Chain(chain) => {
+                    chain::answer::<T, A, Q, G, R, W>(chain, rt, gate, rested, call)
+                }
+                _ => unreachable!(),
+            },
+            SeatPlace::Away => unreachable!(),
+        }
     }
 
     /// Runs a wait-free call to its end.
