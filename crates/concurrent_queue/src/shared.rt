@@ -371,7 +371,25 @@ impl<T, A: Allocator> ConcurrentQueue<T, A> {
         requires { IsPartyOf party.old self.now }
         ensures { Calls party.old call.Pop (reply.Pop result) party.new }
     {
-        let reply = answer_here!(self, rt, &Open, party, Call::Pop, Refusing, Open, Pops);
+        let reply = match &mut party.place {
+            SeatPlace::Table(seat) => {
+                match self.form.begin_at::<Open, Pops>(&Open, seat, Call::Pop) {
+                    ControlFlow::Break(reply) => reply,
+                    ControlFlow::Continue(left) => self.form.end_at(rt, &Open, seat, left),
+                }
+            }
+            SeatPlace::Web(rested) => match &self.form {
+                Form::Chain(chain) => chain::answer::<T, A, Refusing, Open, R, Pops>(
+                    chain,
+                    rt,
+                    &Open,
+                    rested,
+                    Call::Pop,
+                ),
+                _ => unreachable!(),
+            },
+            SeatPlace::Away => unreachable!(),
+        };
         match reply {
             Reply::Pop(result) => result,
             _ => unreachable!(),
