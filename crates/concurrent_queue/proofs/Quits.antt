@@ -10,7 +10,6 @@ use Rattle.queue_steps.specs.declared.model.Call.TheVariants as call
 use Rattle.queue_steps.specs.declared.model.Effect.{Effect}
 use Rattle.queue_steps.specs.declared.model.Reply.{Reply}
 use Rattle.queue_steps.specs.declared.model.Reply.TheVariants as reply
-use Rattle.queue_steps.specs.declared.steps.types.Kind.TheVariants as queue
 use Rattle.queue_steps.specs.Replies.{Tells}
 use Rattle.queue_steps.specs.SequentialCalls.{SequentialCall}
 use Rattle.shared_parties.specs.declared.known.CallState.{CallState}

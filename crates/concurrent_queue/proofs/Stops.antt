@@ -5,7 +5,6 @@ use Rattle.atomic_table.specs.declared.shared.Seat.{Seat}
 use Rattle.queue_steps.specs.declared.model.Call.{Call}
 use Rattle.queue_steps.specs.declared.model.Reply.{Reply}
 use Rattle.queue_steps.specs.declared.steps.types.Kind.{Kind}
-use Rattle.queue_steps.specs.declared.steps.types.Next.TheVariants as next
 use Rattle.queue_steps.specs.Kinds.{call_kind}
 use Rattle.queue_steps.specs.Next.{next_of}
 use Rattle.queue_steps.specs.Parties.{IsView}

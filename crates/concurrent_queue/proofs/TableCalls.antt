@@ -34,6 +34,13 @@ module _ {T : Type 0} (a : SeatPlace T) (s : Seat (Option T) (CallState T)) (cap
     subst (λ p. Calls v c z (person_of p)) (sym sat) (subst (λ y. Calls v c y (person_of (place.Table q))) (sym same) (ended_calls cap t (at s) (at q) v c r (subst (λ p. person_of p ≡ v) sits is_v) one here held.0 e)),
   )
 
+-- the same of a call that a seat's own function has ended
+pub ends_where : {T : Type 0} (a s b q : SeatPlace T) (v : Person T) (c : Call T) (r z : Reply T) → a ≡ s → person_of a ≡ v → b ≡ q → z ≡ r → IsHeld q × Calls (person_of s) c r (person_of q) → IsHeld b × Calls v c z (person_of b)
+ends_where a s b q v c r z sits is_v sat same h = (
+  subst IsHeld (sym sat) h.0,
+  subst (λ p. Calls v c z (person_of p)) (sym sat) (subst (λ y. Calls v c y (person_of q)) (sym same) (subst (λ p. Calls p c r (person_of q)) (ap person_of (sym sits) ∙ is_v) h.1)),
+)
+
 abbrev queue_at : TableId → Option ℕ → QueueId
 queue_at t cap = record { name = at_table t; cap = cap }
 

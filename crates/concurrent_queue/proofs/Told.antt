@@ -1,5 +1,5 @@
 -- A party whose call was tried: it is held again, and the call was made or has done nothing.
-use Rattle.std.proofs.Common.{◌≡◌, ℕ, Option, None, Continue, Break, refl, sym, subst}
+use Rattle.std.proofs.Common.{◌≡◌, ℕ, Option, None, Continue, Break, ◌∙◌, refl, sym, ap, subst}
 use Rattle.std.specs.ControlFlow.{MatchControlFlow}
 use Rattle.std.specs.declared.ops.ControlFlow.{ControlFlow}
 use Rattle.atomic_table.specs.Seated.{TableId}
@@ -41,3 +41,15 @@ module _ {T : Type 0} where
   told_web a b r q v c (Break y) z rested is resting same is_v none h =
       let e = web_ends a b r q v c y y rested is resting refl is_v none h in
       (e.0, subst (λ u. Tries v c u (person_of b)) (sym same) e.1)
+
+-- the same of a call that a seat's own function has tried
+pub told_where : {T : Type 0} (a s b q : SeatPlace T) (v : Person T) (c : Call T) (x : ControlFlow (Reply T) (Option T)) → a ≡ s → person_of a ≡ v → b ≡ q → IsHeld q × Tries (person_of s) c x (person_of q) → IsHeld b × Tries v c x (person_of b)
+told_where a s b q v c x sits is_v sat h = (
+  subst IsHeld (sym sat) h.0,
+  subst (λ p. Tries v c x (person_of p)) (sym sat) (subst (λ p. Tries p c x (person_of q)) (ap person_of (sym sits) ∙ is_v) h.1),
+)
+
+-- what follows of each way that a call was told
+pub told_map : {R V : Type 0} {P Q : V → Type 0} {E F : R → Type 0} → ((v : V) → P v → Q v) → ((r : R) → E r → F r) → (x : ControlFlow R V) → MatchControlFlow x P E → MatchControlFlow x Q F
+told_map f g (Continue v) h = f v h
+told_map f g (Break r) h = g r h

@@ -1,5 +1,6 @@
 pub mod Shared
 pub mod OneHeap
+pub mod Calling
 pub mod Begun
 pub mod Pending
 pub mod Comes

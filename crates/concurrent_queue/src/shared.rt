@@ -40,6 +40,7 @@ use std::ops::ControlFlow;
 use std::sync::Wait;
 use std::{fmt, mem};
 
+mod calling;
 mod count;
 mod giving_up;
 mod iter;
@@ -175,45 +176,6 @@ impl<T, A: Allocator + Clone> ConcurrentQueue<T, A> {
     }
 }
 
-/// Runs a call to its end: which kind of queue it is, and the party's seat. `push` and `pop` have the text in place, since each function that may wait costs a test behind its call.
-macro_rules! answer_here {
-    ($queue:ident, $rt:ident, $gate:expr, $party:ident, $call:expr, $Q:ty, $G:ty, $W:ty) => {
-        match (&$queue.form, &mut $party.place) {
-            (Form::Single(slot), SeatPlace::Table(seat)) => {
-                match run_fast::<
-                    T,
-                    usize,
-                    Seat<Option<T>, CallState<T>>,
-                    SharedTable<T, Slots, A>,
-                    $G,
-                    Short<$W>,
-                >(slot, $gate, seat, $call) {
-                    ControlFlow::Break(reply) => reply,
-                    ControlFlow::Continue(left) => run_slow(slot, $rt, $gate, seat, left),
-                }
-            }
-            (Form::Ring(ring), SeatPlace::Table(seat)) => {
-                match run_either::<
-                    T,
-                    usize,
-                    Seat<Option<T>, CallState<T>>,
-                    SharedTable<T, Rings, A>,
-                    $G,
-                    Usual<Masked<$W>>,
-                    Usual<$W>,
-                >(ring.slots().is_power_of_two(), ring, $gate, seat, $call) {
-                    ControlFlow::Break(reply) => reply,
-                    ControlFlow::Continue(left) => run_slow(ring, $rt, $gate, seat, left),
-                }
-            }
-            (Form::Chain(chain), SeatPlace::Web(rested)) => {
-                chain::answer::<T, A, $Q, $G, R, $W>(chain, $rt, $gate, rested, $call)
-            }
-            _ => unreachable!(),
-        }
-    };
-}
-
 impl<T, A: Allocator> ConcurrentQueue<T, A> {
     /// An empty open queue without a capacity, and its only party, which has seen nothing and has all of the share.
     ///
@@ -248,7 +210,19 @@ impl<T, A: Allocator> ConcurrentQueue<T, A> {
         requires { IsPartyOf party.old self.now }
         ensures { Calls party.old call result party.new }
     {
-        answer_here!(self, rt, gate, party, call, Q, G, W)
+        match &mut party.place {
+            SeatPlace::Table(seat) => match self.form.begin_at::<G, W>(gate, seat, call) {
+                ControlFlow::Break(reply) => reply,
+                ControlFlow::Continue(left) => self.form.end_at(rt, gate, seat, left),
+            },
+            SeatPlace::Web(rested) => match &self.form {
+                Form::Chain(chain) => {
+                    chain::answer::<T, A, Q, G, R, W>(chain, rt, gate, rested, call)
+                }
+                _ => unreachable!(),
+            },
+            SeatPlace::Away => unreachable!(),
+        }
     }
 
     /// Runs a wait-free call to its end.
@@ -315,7 +289,42 @@ impl<T, A: Allocator> ConcurrentQueue<T, A> {
         ensures { Calls party.old (call.Push value) (reply.Push result) party.new }
     {
         let call = Call::Push(value);
-        let reply = answer_here!(self, rt, &Open, party, call, Granting, Open, Pushes);
+        // In place, as in `pop`: each function that may wait costs a test behind its call. And by form, so that what a ring leaves is put together for a ring.
+        let reply = match (&self.form, &mut party.place) {
+            (Form::Single(slot), SeatPlace::Table(seat)) => {
+                match run_fast::<
+                    T,
+                    usize,
+                    Seat<Option<T>, CallState<T>>,
+                    SharedTable<T, Slots, A>,
+                    Open,
+                    Short<Pushes>,
+                >(slot, &Open, seat, call)
+                {
+                    ControlFlow::Break(reply) => reply,
+                    ControlFlow::Continue(left) => run_slow(slot, rt, &Open, seat, left),
+                }
+            }
+            (Form::Ring(ring), SeatPlace::Table(seat)) => {
+                match run_either::<
+                    T,
+                    usize,
+                    Seat<Option<T>, CallState<T>>,
+                    SharedTable<T, Rings, A>,
+                    Open,
+                    Usual<Masked<Pushes>>,
+                    Usual<Pushes>,
+                >(ring.slots().is_power_of_two(), ring, &Open, seat, call)
+                {
+                    ControlFlow::Break(reply) => reply,
+                    ControlFlow::Continue(left) => run_slow(ring, rt, &Open, seat, left),
+                }
+            }
+            (Form::Chain(chain), SeatPlace::Web(rested)) => {
+                chain::answer::<T, A, Granting, Open, R, Pushes>(chain, rt, &Open, rested, call)
+            }
+            _ => unreachable!(),
+        };
         match reply {
             Reply::Push(result) => result,
             _ => unreachable!(),
@@ -358,7 +367,25 @@ impl<T, A: Allocator> ConcurrentQueue<T, A> {
         requires { IsPartyOf party.old self.now }
         ensures { Calls party.old call.Pop (reply.Pop result) party.new }
     {
-        let reply = answer_here!(self, rt, &Open, party, Call::Pop, Refusing, Open, Pops);
+        let reply = match &mut party.place {
+            SeatPlace::Table(seat) => {
+                match self.form.begin_at::<Open, Pops>(&Open, seat, Call::Pop) {
+                    ControlFlow::Break(reply) => reply,
+                    ControlFlow::Continue(left) => self.form.end_at(rt, &Open, seat, left),
+                }
+            }
+            SeatPlace::Web(rested) => match &self.form {
+                Form::Chain(chain) => chain::answer::<T, A, Refusing, Open, R, Pops>(
+                    chain,
+                    rt,
+                    &Open,
+                    rested,
+                    Call::Pop,
+                ),
+                _ => unreachable!(),
+            },
+            SeatPlace::Away => unreachable!(),
+        };
         match reply {
             Reply::Pop(result) => result,
             _ => unreachable!(),

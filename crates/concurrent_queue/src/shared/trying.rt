@@ -5,7 +5,14 @@ ghost use Rattle.queue_steps.specs.declared.steps.types.Next.{Next as SpecNext};
 ghost use Rattle.shared_parties.specs.Calling.{cap_of};
 ghost use Rattle.shared_calls.specs.Settling.{MayWait};
 ghost use Rattle.shared_calls.specs.Trying.{SomeLeft, EndsOrQuits};
-ghost use Rattle.concurrent_queue.specs.Shared.{IsPartyOf, Person};
+ghost use Rattle.std.specs.Prelude.{Option as SpecOption};
+ghost use Rattle.atomic_table.specs.declared.shared.Seat.{Seat as SpecSeat};
+ghost use Rattle.queue_steps.specs.declared.model.Call.{Call as SpecCall};
+ghost use Rattle.shared_parties.specs.declared.known.CallState.{CallState as SpecState};
+ghost use Rattle.concurrent_queue.specs.declared.party.SeatPlace.TheVariants as place;
+ghost use Rattle.concurrent_queue.specs.declared.shared.Form.TheVariants as form;
+ghost use Rattle.concurrent_queue.specs.Calling.{HasLeft};
+ghost use Rattle.concurrent_queue.specs.Shared.{IsPartyOf, Person, IsHeld, person_of};
 ghost use Rattle.concurrent_queue.specs.Tries.{Tries, TriesPush, TriesForcePush, TriesPop};
 
 use super::{Form, Masked};
@@ -108,6 +115,25 @@ fn end_or_quit<T, K: TableSteps<T>, A: Allocator>(
     retold(end_or_quit_at(table, seat, left.apart()))
 }
 
+impl<T, A: Allocator> Form<T, A> {
+    /// The same at the table of a queue of either kind.
+    #[inline(always)]
+    fn end_or_quit(
+        &self,
+        seat: &mut Seat<Option<T>, CallState<T>>,
+        left: Left<T, usize>,
+    ) -> ControlFlow<Reply<T>, Option<T>>
+        requires { (call : SpecCall T) × (first : SpecSeat (SpecOption T) (SpecState T)) × HasLeft ⟦<SharedTable<T, Slots, A> as Site<T, usize, Seat<Option<T>, CallState<T>>>>⟧ ⟦<SharedTable<T, Rings, A> as Site<T, usize, Seat<Option<T>, CallState<T>>>>⟧ form.Single form.Ring self.now first call left seat.old }
+        ensures { (call : SpecCall T) (first : SpecSeat (SpecOption T) (SpecState T)) → HasLeft ⟦<SharedTable<T, Slots, A> as Site<T, usize, Seat<Option<T>, CallState<T>>>>⟧ ⟦<SharedTable<T, Rings, A> as Site<T, usize, Seat<Option<T>, CallState<T>>>>⟧ form.Single form.Ring self.now first call left seat.old → IsHeld (place.Table seat.new) × Tries (person_of (place.Table first)) call result (person_of (place.Table seat.new)) }
+    {
+        match self {
+            Form::Single(slot) => end_or_quit(slot, seat, left),
+            Form::Ring(ring) => end_or_quit(ring, seat, left),
+            Form::Chain(_) => unreachable!(),
+        }
+    }
+}
+
 /// Makes a call which gives up where it would wait: which kind of queue it is, and the party's seat. Each way out has the text in place that makes the result of `$told`, so that the compiler knows there what the call was answered.
 macro_rules! attempt_here {
     ($queue:ident, $party:ident, $call:expr, $W:ty, $told:ident) => {
@@ -175,7 +201,21 @@ impl<T, A: NullTestable> ConcurrentQueue<T, A> {
         ensures { TriesForcePush party.old value result party.new }
     {
         let call = Call::ForcePush(value);
-        attempt_here!(self, party, call, TryDisplaces, displaced)
+        match &mut party.place {
+            SeatPlace::Table(seat) => {
+                match self.form.begin_at::<Open, TryDisplaces>(&Open, seat, call) {
+                    ControlFlow::Break(reply) => displaced(ControlFlow::Break(reply)),
+                    ControlFlow::Continue(left) => displaced(self.form.end_or_quit(seat, left)),
+                }
+            }
+            SeatPlace::Web(rested) => match &self.form {
+                Form::Chain(queue) => {
+                    displaced(attempt_in::<T, A, TryDisplaces>(queue, rested, call))
+                }
+                _ => unreachable!(),
+            },
+            SeatPlace::Away => unreachable!(),
+        }
     }
 
     /// Takes the front off, without waiting, on a queue with a capacity. On a chain of blocks a pop that has taken its item may have to wait until that is

@@ -1,0 +1,22 @@
+-- A call of a party at a table in two parts: its fast steps, and what comes behind them.
+use Rattle.std.specs.Prelude.{◌≡◌, ℕ, Option}
+use Rattle.atomic_table.specs.declared.shared.Seat.{Seat}
+use Rattle.queue_steps.specs.declared.model.Call.{Call}
+use Rattle.call_driver.specs.declared.site.Site.{Ghosts}
+use Rattle.shared_parties.specs.declared.known.CallState.{CallState}
+use Rattle.shared_calls.specs.Leaving.{IsLeft}
+use Rattle.shared_calls.specs.declared.waiting.Left.{Left}
+use Rattle.concurrent_queue.specs.declared.party.SeatPlace.{SeatPlace}
+use Rattle.concurrent_queue.specs.declared.party.SeatPlace.TheVariants as place
+use Rattle.concurrent_queue.specs.declared.shared.Form.{Form}
+use Rattle.concurrent_queue.specs.Shared.{IsPartyOf, IsHeld, form_id, person_of}
+
+-- the seat is that of a party of this queue, between its calls
+abbrev pub IsHeldIn : {T A : Type 0} → Form T A → SeatPlace T → Type 0
+IsHeldIn f p = IsHeld p × IsPartyOf (person_of p) (form_id f)
+
+-- the call c that the party with the seat `first` began at this queue's table has left its fast steps, and stands there
+abbrev pub HasLeft : {T A M N K J : Type 0} → Ghosts M T ℕ (Seat (Option T) (CallState T)) K → Ghosts N T ℕ (Seat (Option T) (CallState T)) J → (M → Form T A) → (N → Form T A)
+    → Form T A → Seat (Option T) (CallState T) → Call T → Left T ℕ → Seat (Option T) (CallState T) → Type 0
+HasLeft {M = M} {N = N} slots rings single ring f first c l seat =
+    IsHeldIn f (place.Table first) × ((s : M) → f ≡ single s → IsLeft slots s first c l seat) × ((r : N) → f ≡ ring r → IsLeft rings r first c l seat)
