@@ -1,9 +1,11 @@
 //! Calls of parties, with the replies that they are to have, and what is to be left of a queue.
 ghost use Rattle.concurrent_queue.specs.Shared.{IsPartyOf};
 
-use crate::asserts::{is, is_in};
-use concurrent_queue::{ConcurrentQueue, Exclusive, Party, PopError, PushError};
-use mem_blocks::null_testable::NullTestable;
+use crate::asserts::is_in;
+use concurrent_queue::{
+    ConcurrentQueue, Exclusive, NullTestable, Party, PopError, PushError, TryForcePushError,
+    TryPopError, TryPushError,
+};
 use queue_steps::model::{Call, Reply};
 use std::alloc::Allocator;
 use std::process::Abort;
@@ -13,6 +15,13 @@ pub(crate) type Queue = ConcurrentQueue<u64>;
 
 /// A call, and its reply.
 pub(crate) type Row = (Call<u64>, Reply<u64>);
+
+/// A call that answers busy in the place of waiting, and its reply.
+pub(crate) enum Try {
+    Push(u64, Result<(), TryPushError<u64>>),
+    ForcePush(u64, Result<Option<u64>, TryForcePushError<u64>>),
+    Pop(Result<u64, TryPopError>),
+}
 
 /// Makes a call that only looks; in the place of any other, that for the capacity.
 fn look<A: NullTestable, R: Wait>(
@@ -52,9 +61,10 @@ fn answer<A: NullTestable, R: Wait>(
     }
 }
 
-/// Makes a call, and asserts its reply.
+/// Makes a call of this story, and asserts its reply.
 pub(crate) fn is_answered<A: NullTestable, R: Wait + Abort>(
     rt: &R,
+    story: &'static str,
     queue: &ConcurrentQueue<u64, A>,
     party: &mut Party<u64>,
     row: Row,
@@ -63,12 +73,13 @@ pub(crate) fn is_answered<A: NullTestable, R: Wait + Abort>(
     ensures { IsPartyOf party.new queue.now }
 {
     let (call, reply) = row;
-    is_in(rt, call, answer(rt, queue, party, call), reply);
+    is_in(rt, (story, call), answer(rt, queue, party, call), reply);
 }
 
-/// Makes the calls of one party, and asserts each reply.
+/// Makes the calls of one party of this story, and asserts each reply.
 pub(crate) fn are_answered<R: Wait + Abort>(
     rt: &R,
+    story: &'static str,
     queue: &Queue,
     party: &mut Party<u64>,
     rows: &[Row],
@@ -77,22 +88,74 @@ pub(crate) fn are_answered<R: Wait + Abort>(
     ensures { IsPartyOf party.new queue.now }
 {
     for row in rows {
-        is_answered(rt, queue, party, *row);
+        is_answered(rt, story, queue, party, *row);
+    }
+}
+
+/// Tries to pop from a queue with a capacity. Asserts that it has one.
+fn try_pop<A: NullTestable>(
+    rt: &impl Abort,
+    queue: &ConcurrentQueue<u64, A>,
+    party: &mut Party<u64>,
+) -> Result<u64, TryPopError>
+    requires { IsPartyOf party.old queue.now }
+    ensures { IsPartyOf party.new queue.now }
+{
+    match queue.capacity() {
+        Some(_) => queue.try_pop(party),
+        None => panic!(rt; "no capacity"),
+    }
+}
+
+/// Tries a call of this story, and asserts its reply.
+fn is_tried<A: NullTestable>(
+    rt: &impl Abort,
+    story: &'static str,
+    queue: &ConcurrentQueue<u64, A>,
+    party: &mut Party<u64>,
+    row: &Try,
+)
+    requires { IsPartyOf party.old queue.now }
+    ensures { IsPartyOf party.new queue.now }
+{
+    match row {
+        Try::Push(value, reply) => is_in(rt, story, queue.try_push(party, *value), *reply),
+        Try::ForcePush(value, reply) => {
+            is_in(rt, story, queue.try_force_push(party, *value), *reply)
+        }
+        Try::Pop(reply) => is_in(rt, story, try_pop(rt, queue, party), *reply),
+    }
+}
+
+/// Tries the calls of one party of this story, and asserts each reply.
+pub(crate) fn are_tried<A: NullTestable>(
+    rt: &impl Abort,
+    story: &'static str,
+    queue: &ConcurrentQueue<u64, A>,
+    party: &mut Party<u64>,
+    rows: &[Try],
+)
+    requires { IsPartyOf party.old queue.now }
+    ensures { IsPartyOf party.new queue.now }
+{
+    for row in rows {
+        is_tried(rt, story, queue, party, row);
     }
 }
 
 /// Asserts which items are in a queue that is no longer shared, in their order, and that it is closed or takes one more.
 pub(crate) fn is_left<A: Allocator>(
     rt: &impl Abort,
+    story: &'static str,
     alone: &mut Exclusive<u64, A>,
     left: &[u64],
     closed: bool,
 ) {
     let full = alone.capacity() == Some(left.len());
     let seen = (alone.len(), alone.is_full(), alone.is_closed());
-    is(rt, seen, (left.len(), full, closed));
+    is_in(rt, story, seen, (left.len(), full, closed));
     for item in left {
-        is(rt, alone.pop(), Ok(*item));
+        is_in(rt, story, alone.pop(), Ok(*item));
     }
     let ended = (alone.len(), alone.pop(), alone.push(5));
     let wanted = if closed {
@@ -100,5 +163,5 @@ pub(crate) fn is_left<A: Allocator>(
     } else {
         (0, Err(PopError::Empty), Ok(()))
     };
-    is(rt, ended, wanted);
+    is_in(rt, story, ended, wanted);
 }

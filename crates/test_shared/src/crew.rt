@@ -3,6 +3,7 @@ ghost use Rattle.std.specs.Prelude.{◌<◌};
 ghost use Rattle.concurrent_queue.specs.Shared.{IsPartyOf};
 ghost use denote.Param.Send.{IsSync};
 
+use crate::opening::part;
 use concurrent_queue::{ConcurrentQueue, Party, PopError, PushError};
 use mem_blocks::null_testable::NullTestable;
 use std::alloc::{Allocator, Global};
@@ -17,10 +18,11 @@ use test_allocators::{Heap, Refusal};
 /// How many turns a thread takes.
 pub(crate) const TURNS: u64 = 25_000;
 
-/// Which value is handed out next, how often each came out, how many threads push, and whether all threads have come.
+/// What threads share: which value is handed out next, how often each came out, how many threads push, and whether all threads have come.
 #[derive(Drop)]
 pub(crate) struct Board {
-    next: AtomicU64,
+    /// The next value that is handed out, from 0 on.
+    pub(crate) next: AtomicU64,
     counts: Vec<AtomicU64>,
     running: AtomicU64,
     threads: u64,
@@ -31,13 +33,8 @@ pub(crate) struct Board {
 }
 
 impl Board {
-    /// A board for so many threads, with as many values as there are turns. Asserts that there is memory.
-    pub(crate) fn of(rt: &impl Abort, alloc: Global, threads: usize) -> Board {
-        Board::with(rt, alloc, threads, TURNS)
-    }
-
     /// A board for so many threads and values. Asserts that there is memory.
-    pub(crate) fn with(rt: &impl Abort, alloc: Global, threads: usize, values: u64) -> Board {
+    pub(crate) fn of(rt: &impl Abort, alloc: Global, threads: usize, values: u64) -> Board {
         let mut counts = Vec::new(alloc);
         for _ in 0..values {
             counts.push(AtomicU64::new(0)).expect(rt, "memory");
@@ -63,11 +60,6 @@ impl Board {
         wait_for(&self.all_are_here)
     }
 
-    /// The next value that is handed out, from 0 on.
-    pub(crate) fn next_value(&self) -> u64 {
-        self.next.fetch_add(1, Ordering::SeqCst)
-    }
-
     pub(crate) fn count(&self, value: u64) {
         if let Some(count) = self.counts.get(value as usize) {
             count.fetch_add(1, Ordering::SeqCst);
@@ -75,9 +67,12 @@ impl Board {
     }
 
     pub(crate) fn each_came(&self, times: u64) -> bool {
-        self.counts
-            .iter()
-            .all(|count| count.load(Ordering::SeqCst) == times)
+        for count in &self.counts {
+            if count.load(Ordering::SeqCst) != times {
+                return false;
+            }
+        }
+        true
     }
 }
 
@@ -119,28 +114,8 @@ pub(crate) enum Role {
     Drain,
 }
 
-/// What one thread does, and with which numbers.
-#[derive(Clone, Copy)]
-pub(crate) struct Task {
-    role: Role,
-    first: u64,
-    end: u64,
-}
-
-impl Task {
-    pub(crate) fn of(role: Role, numbers: Range<u64>) -> Task {
-        Task {
-            role,
-            first: numbers.start,
-            end: numbers.end,
-        }
-    }
-
-    /// This role, with so many numbers as there are turns.
-    pub(crate) fn turns(role: Role) -> Task {
-        Task::of(role, 0..TURNS)
-    }
-}
+/// What one thread does, and with which numbers: from the first on, below the second.
+pub(crate) type Task = (Role, u64, u64);
 
 /// Pushes an item, and tries again while the queue is full.
 pub(crate) fn push_one<T: Drop, A: NullTestable, R: Wait>(
@@ -318,11 +293,12 @@ pub(crate) fn act<A: NullTestable, R: Wait>(
     requires { IsPartyOf party queue.now }
     ensures { IsPartyOf result.0 queue.now }
 {
+    let (role, first, end) = task;
     let mut right = board.come();
-    for number in task.first..task.end {
-        right = turn(rt, queue, &mut party, board, task.role, number) && right;
+    for number in first..end {
+        right = turn(rt, queue, &mut party, board, role, number) && right;
     }
-    match task.role {
+    match role {
         Role::Force => {
             board.running.fetch_sub(1, Ordering::SeqCst);
         }
@@ -332,42 +308,32 @@ pub(crate) fn act<A: NullTestable, R: Wait>(
     (party, right)
 }
 
-/// A thread, doubled so many times. Each has the task of its number among all, of which the first one's is this number, doubled as often.
-pub(crate) fn crew<A: NullTestable + Send + Sync, R: Wait + Threads + Sync>(
+/// A thread and so many others. Each has the task of its number, of which this one has the greatest.
+pub(crate) fn crew<A: NullTestable + Send + Sync, R: Wait + Threads + Sync + Abort>(
     rt: &R,
     queue: &ConcurrentQueue<u64, A>,
     party: Party<u64>,
     board: &Board,
     tasks: &[Task],
-    doublings: u64,
-    number: usize,
+    others: u64,
 ) -> (Party<u64>, bool)
     requires { IsPartyOf party queue.now }
     ensures { IsPartyOf result.0 queue.now }
 {
-    if doublings == 0 {
-        return match tasks.get(number) {
-            Some(task) => act(rt, queue, party, board, *task),
-            None => (party, false),
-        };
+    let Some(task) = tasks.get(others as usize) else {
+        return (party, false);
+    };
+    if others == 0 {
+        return act(rt, queue, party, board, *task);
     }
-    let even = number.wrapping_mul(2);
-    let odd = even.wrapping_add(1);
-    match queue.split(party) {
-        Err(party) => (party, false),
-        Ok((a, b)) => {
-            let ((a, right), (b, right_too)) = join(
-                rt,
-                || -> (Party<u64>, bool)
-                    requires { IsSync R.row × IsPartyOf a queue.now × (0 < doublings) }
-                    ensures { IsPartyOf result.0 queue.entry.now }
-                { crew(rt, queue, a, board, tasks, doublings - 1, even) },
-                || -> (Party<u64>, bool)
-                    requires { IsSync R.row × IsPartyOf b queue.now × (0 < doublings) }
-                    ensures { IsPartyOf result.0 queue.entry.now }
-                { crew(rt, queue, b, board, tasks, doublings - 1, odd) },
-            );
-            (queue.join(a, b), right && right_too)
-        }
-    }
+    let (a, b) = part(rt, queue, party);
+    let ((a, right), (b, right_too)) = join(
+        rt,
+        || act(rt, queue, a, board, *task),
+        || -> (Party<u64>, bool)
+            requires { IsSync R.row × IsPartyOf b queue.now × (0 < others) }
+            ensures { IsPartyOf result.0 queue.entry.now }
+        { crew(rt, queue, b, board, tasks, others - 1) },
+    );
+    (queue.join(a, b), right && right_too)
 }

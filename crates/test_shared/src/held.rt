@@ -1,4 +1,3 @@
 //! Calls that are held between their steps.
-pub mod gates;
 pub mod stories;
 pub mod telling;

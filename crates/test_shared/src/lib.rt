@@ -8,7 +8,11 @@ mod calls;
 #[cfg(test)]
 mod crew;
 #[cfg(test)]
+mod gates;
+#[cfg(test)]
 mod held;
+#[cfg(test)]
+mod items;
 #[cfg(test)]
 mod opening;
 #[cfg(test)]

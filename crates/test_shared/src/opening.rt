@@ -3,10 +3,12 @@ ghost use Rattle.std.specs.Prelude.{◌≡◌, IfOk};
 ghost use Rattle.queue_steps.specs.Shares.{entire};
 ghost use Rattle.concurrent_queue.specs.Shared.{IsPartyOf};
 
-use concurrent_queue::{ConcurrentQueue, Exclusive, Party};
-use mem_blocks::null_testable::NullTestable;
+use crate::asserts::is;
+use crate::crew::{Deed, find_each};
+use concurrent_queue::{ConcurrentQueue, Exclusive, NullTestable, Party};
 use std::alloc::{AllocError, Allocator};
 use std::process::Abort;
+use std::sync::Wait;
 
 /// A queue and its only party, where there was memory.
 pub(crate) type Opened<T, A> = Result<(ConcurrentQueue<T, A>, Party<T>), AllocError>;
@@ -55,6 +57,23 @@ pub(crate) fn part<T: Drop, A: Allocator>(
     }
 }
 
+/// A queue into which so many numbers are pushed, from 1 on, and two parties. Asserts that each is accepted.
+pub(crate) fn open_filled<A: NullTestable + Clone, R: Wait + Abort>(
+    rt: &R,
+    alloc: A,
+    cap: Option<usize>,
+    pushed: u64,
+) -> (ConcurrentQueue<u64, A>, Party<u64>, Party<u64>)
+    ensures { IsPartyOf result.1 result.0 × IsPartyOf result.2 result.0 }
+{
+    let (queue, mut party) = open_surely(rt, alloc, cap);
+    let numbers = 1..pushed.wrapping_add(1);
+    let filled = find_each(rt, &queue, &mut party, Deed::PushOnce, numbers);
+    is(rt, filled, true);
+    let (first, second) = part(rt, &queue, party);
+    (queue, first, second)
+}
+
 /// Ends the sharing. Asserts that it ends.
 pub(crate) fn end<T: Drop, A: Allocator>(
     rt: &impl Abort,
@@ -81,18 +100,5 @@ pub(crate) fn stay_shared<T: Drop, A: Allocator>(
     match queue.finish(party) {
         Err(both) => both,
         Ok(_) => panic!(rt; "finished with a party missing"),
-    }
-}
-
-/// Ends the sharing. Gives how many items are left, unless a party is missing.
-pub(crate) fn items_left<T: Drop, A: Allocator>(
-    queue: ConcurrentQueue<T, A>,
-    party: Party<T>,
-) -> Option<usize>
-    requires { IsPartyOf party queue }
-{
-    match queue.finish(party) {
-        Ok(alone) => Some(alone.len()),
-        Err(_) => None,
     }
 }

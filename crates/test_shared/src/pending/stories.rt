@@ -1,133 +1,131 @@
 //! The places where a call is pending: on a slot, on a ring and on a chain, each beside a call of another party that is half done.
-use crate::pending::beside::{GivenUp, Story, tell};
-use crate::pending::gates::Before;
+use crate::held::telling::{Story, tell};
 use concurrent_queue::PushError;
 use queue_steps::model::{Call, Reply};
+use queue_steps::steps::{Link, Op, TAIL_STEP, WRITE, Word};
 
-static POP_BESIDE_A_PUSH: Story = Story {
-    name: "a slot, a pop beside a push",
-    cap: Some(1),
-    pushed: 0,
-    held: (Call::Push(7), Reply::Push(Ok(()))),
-    before: Before::Unlock,
-    call: (Call::Pop, Reply::Pop(Ok(7))),
-    given_up: GivenUp::Back,
-    left: 0,
-};
-
-static FORCE_BESIDE_A_PUSH: Story = Story {
-    name: "a slot, a push by force beside a push",
-    cap: Some(1),
-    pushed: 0,
-    held: (Call::Push(7), Reply::Push(Ok(()))),
-    before: Before::Unlock,
-    call: (Call::ForcePush(8), Reply::ForcePush(Ok(Some(7)))),
-    given_up: GivenUp::Back,
-    left: 1,
-};
-
-static PUSH_BESIDE_A_POP: Story = Story {
-    name: "a slot, a push beside a pop",
-    cap: Some(1),
-    pushed: 1,
-    held: (Call::Pop, Reply::Pop(Ok(0))),
-    before: Before::Unlock,
-    call: (Call::Push(8), Reply::Push(Ok(()))),
-    given_up: GivenUp::Back,
-    left: 1,
-};
-
-static POP_OF_A_SLOT_TO_BE_STAMPED: Story = Story {
-    name: "a ring, a pop beside a push",
-    cap: Some(3),
-    pushed: 0,
-    held: (Call::Push(7), Reply::Push(Ok(()))),
-    before: Before::Stamp,
-    call: (Call::Pop, Reply::Pop(Ok(7))),
-    given_up: GivenUp::Back,
-    left: 0,
-};
-
-static PUSH_INTO_A_SLOT_TO_BE_STAMPED: Story = Story {
-    name: "a ring, a push beside a pop",
-    cap: Some(2),
-    pushed: 2,
-    held: (Call::Pop, Reply::Pop(Ok(0))),
-    before: Before::Stamp,
-    call: (Call::Push(8), Reply::Push(Ok(()))),
-    given_up: GivenUp::Back,
-    left: 2,
-};
-
-static PUSH_WHILE_AN_ITEM_IS_COMING: Story = Story {
-    name: "a ring, a push beside a push by force",
-    cap: Some(2),
-    pushed: 2,
-    held: (Call::ForcePush(7), Reply::ForcePush(Ok(Some(0)))),
-    before: Before::Arrive,
-    call: (Call::Push(8), Reply::Push(Err(PushError::Full(8)))),
-    given_up: GivenUp::Back,
-    left: 2,
-};
-
-static POP_OF_AN_ITEM_TO_BE_WRITTEN: Story = Story {
-    name: "a chain, a pop beside a push",
-    cap: None,
-    pushed: 0,
-    held: (Call::Push(7), Reply::Push(Ok(()))),
-    before: Before::Write,
-    call: (Call::Pop, Reply::Pop(Ok(7))),
-    given_up: GivenUp::TooLate,
-    left: 0,
-};
-
-static PUSH_BEHIND_A_BLOCK_TO_BE_LAID: Story = Story {
-    name: "a chain, a push beside one that lays a block",
-    cap: None,
-    pushed: 62,
-    held: (Call::Push(7), Reply::Push(Ok(()))),
-    before: Before::Lay,
-    call: (Call::Push(8), Reply::Push(Ok(()))),
-    given_up: GivenUp::Back,
-    left: 64,
-};
-
-#[test]
-fn a_pop_is_pending_while_a_push_holds_the_slot(rt: HostRuntime) {
-    tell(&rt, rt.alloc(), &POP_BESIDE_A_PUSH);
-}
-
-#[test]
-fn a_push_by_force_is_pending_while_a_push_holds_the_slot(rt: HostRuntime) {
-    tell(&rt, rt.alloc(), &FORCE_BESIDE_A_PUSH);
-}
-
-#[test]
-fn a_push_is_pending_while_a_pop_holds_the_slot(rt: HostRuntime) {
-    tell(&rt, rt.alloc(), &PUSH_BESIDE_A_POP);
-}
-
-#[test]
-fn a_pop_is_pending_until_the_item_is_stamped(rt: HostRuntime) {
-    tell(&rt, rt.alloc(), &POP_OF_A_SLOT_TO_BE_STAMPED);
-}
-
-#[test]
-fn a_push_is_pending_until_the_free_slot_is_stamped(rt: HostRuntime) {
-    tell(&rt, rt.alloc(), &PUSH_INTO_A_SLOT_TO_BE_STAMPED);
-}
-
-#[test]
-fn a_push_is_pending_until_the_coming_item_is_counted(rt: HostRuntime) {
-    tell(&rt, rt.alloc(), &PUSH_WHILE_AN_ITEM_IS_COMING);
-}
-
-#[test]
-fn a_pop_is_pending_until_the_item_is_written(rt: HostRuntime) {
-    tell(&rt, rt.alloc(), &POP_OF_AN_ITEM_TO_BE_WRITTEN);
-}
+static STORIES: [Story; 8] = [
+    Story {
+        name: "a slot, a pop beside a push",
+        cap: Some(1),
+        pushed: 0,
+        held: (Call::Push(7), Reply::Push(Ok(()))),
+        at: Op::And(Word::Lock, u64::MAX - 1),
+        meanwhile: &[],
+        tried: &[],
+        waiting: None,
+        begun: Some(((Call::Pop, Reply::Pop(Ok(7))), false)),
+        then: &[],
+        left: &[],
+        closed: false,
+    },
+    Story {
+        name: "a slot, a push by force beside a push",
+        cap: Some(1),
+        pushed: 0,
+        held: (Call::Push(7), Reply::Push(Ok(()))),
+        at: Op::And(Word::Lock, u64::MAX - 1),
+        meanwhile: &[],
+        tried: &[],
+        waiting: None,
+        begun: Some(((Call::ForcePush(8), Reply::ForcePush(Ok(Some(7)))), false)),
+        then: &[],
+        left: &[8],
+        closed: false,
+    },
+    Story {
+        name: "a slot, a push beside a pop",
+        cap: Some(1),
+        pushed: 1,
+        held: (Call::Pop, Reply::Pop(Ok(1))),
+        at: Op::And(Word::Lock, u64::MAX - 1),
+        meanwhile: &[],
+        tried: &[],
+        waiting: None,
+        begun: Some(((Call::Push(8), Reply::Push(Ok(()))), false)),
+        then: &[],
+        left: &[8],
+        closed: false,
+    },
+    Story {
+        name: "a ring, a pop beside a push",
+        cap: Some(3),
+        pushed: 0,
+        held: (Call::Push(7), Reply::Push(Ok(()))),
+        at: Op::Store(Word::Stamp(0), 1),
+        meanwhile: &[],
+        tried: &[],
+        waiting: None,
+        begun: Some(((Call::Pop, Reply::Pop(Ok(7))), false)),
+        then: &[],
+        left: &[],
+        closed: false,
+    },
+    Story {
+        name: "a ring, a push beside a pop",
+        cap: Some(2),
+        pushed: 2,
+        held: (Call::Pop, Reply::Pop(Ok(1))),
+        at: Op::Store(Word::Stamp(0), 2),
+        meanwhile: &[],
+        tried: &[],
+        waiting: None,
+        begun: Some(((Call::Push(8), Reply::Push(Ok(()))), false)),
+        then: &[],
+        left: &[2, 8],
+        closed: false,
+    },
+    Story {
+        name: "a ring, a push beside a push by force",
+        cap: Some(2),
+        pushed: 2,
+        held: (Call::ForcePush(7), Reply::ForcePush(Ok(Some(1)))),
+        at: Op::Add(Word::Tail, TAIL_STEP),
+        meanwhile: &[],
+        tried: &[],
+        waiting: None,
+        begun: Some(((Call::Push(8), Reply::Push(Err(PushError::Full(8)))), false)),
+        then: &[],
+        left: &[2, 7],
+        closed: false,
+    },
+    Story {
+        name: "a chain, a pop beside a push",
+        cap: None,
+        pushed: 0,
+        held: (Call::Push(7), Reply::Push(Ok(()))),
+        at: Op::Or(Word::State((), 0), WRITE),
+        meanwhile: &[],
+        tried: &[],
+        waiting: None,
+        begun: Some(((Call::Pop, Reply::Pop(Ok(7))), true)),
+        then: &[],
+        left: &[],
+        closed: false,
+    },
+    Story {
+        name: "a chain, a push beside one that lays a block",
+        cap: None,
+        pushed: 62,
+        held: (Call::Push(7), Reply::Push(Ok(()))),
+        at: Op::StoreLink(Link::TailBlock, ()),
+        meanwhile: &[],
+        tried: &[],
+        waiting: None,
+        begun: Some(((Call::Push(8), Reply::Push(Ok(()))), false)),
+        then: &[],
+        left: &[
+            1, 2, 3, 4, 5, 6, 7, 8, 9, 10, 11, 12, 13, 14, 15, 16, 17, 18, 19, 20, 21, 22, 23, 24,
+            25, 26, 27, 28, 29, 30, 31, 32, 33, 34, 35, 36, 37, 38, 39, 40, 41, 42, 43, 44, 45, 46,
+            47, 48, 49, 50, 51, 52, 53, 54, 55, 56, 57, 58, 59, 60, 61, 62, 7, 8,
+        ],
+        closed: false,
+    },
+];
 
 #[test]
-fn a_push_is_pending_until_the_next_block_is_laid(rt: HostRuntime) {
-    tell(&rt, rt.alloc(), &PUSH_BEHIND_A_BLOCK_TO_BE_LAID);
+fn stories_of_pending_calls(rt: HostRuntime) {
+    for story in STORIES.iter() {
+        tell(&rt, rt.alloc(), story);
+    }
 }

@@ -6,13 +6,14 @@ ghost use denote.Param.Send.{IsSync};
 use crate::asserts::is_in;
 use crate::calls::Queue;
 use crate::crew::Board;
-use crate::opening::{items_left, open_surely};
+use crate::opening::{end, open_surely, part};
 use crate::pending::beside::{begin, take_up};
 use concurrent_queue::{Outcome, Party};
 use queue_steps::model::{Call, Reply};
 use std::alloc::Global;
 use std::process::Abort;
 use std::sync::Wait;
+use std::sync::atomic::Ordering;
 use std::thread::{Threads, join, yield_now};
 
 /// How many values each of four threads pushes.
@@ -61,7 +62,7 @@ fn work<R: Wait>(
 {
     for _ in 0..EACH {
         let call = if pushes {
-            Call::Push(board.next_value())
+            Call::Push(board.next.fetch_add(1, Ordering::SeqCst))
         } else {
             Call::Pop
         };
@@ -74,47 +75,40 @@ fn work<R: Wait>(
     party
 }
 
-/// A thread, doubled so many times, where there can be as many parties. Each second one pushes, and the others pop.
-fn crew<R: Wait + Threads + Sync>(
+/// A thread and so many others. Each second one pushes, and the others pop.
+fn crew<R: Wait + Threads + Sync + Abort>(
     rt: &R,
     queue: &Queue,
     party: Party<u64>,
     board: &Board,
-    doublings: u64,
+    others: u64,
     pushes: bool,
 ) -> Party<u64>
     requires { IsPartyOf party queue.now }
     ensures { IsPartyOf result queue.now }
 {
-    if doublings == 0 {
+    if others == 0 {
         return work(rt, queue, party, board, pushes);
     }
-    match queue.split(party) {
-        Err(party) => party,
-        Ok((a, b)) => {
-            let (a, b) = join(
-                rt,
-                || -> Party<u64>
-                    requires { IsSync R.row × IsPartyOf a queue.now × (0 < doublings) }
-                    ensures { IsPartyOf result queue.entry.now }
-                { crew(rt, queue, a, board, doublings - 1, true) },
-                || -> Party<u64>
-                    requires { IsSync R.row × IsPartyOf b queue.now × (0 < doublings) }
-                    ensures { IsPartyOf result queue.entry.now }
-                { crew(rt, queue, b, board, doublings - 1, false) },
-            );
-            queue.join(a, b)
-        }
-    }
+    let (a, b) = part(rt, queue, party);
+    let (a, b) = join(
+        rt,
+        || work(rt, queue, a, board, pushes),
+        || -> Party<u64>
+            requires { IsSync R.row × IsPartyOf b queue.now × (0 < others) }
+            ensures { IsPartyOf result queue.entry.now }
+        { crew(rt, queue, b, board, others - 1, !pushes) },
+    );
+    queue.join(a, b)
 }
 
 /// Lets the threads work on a queue of this capacity, or without one. Asserts that each value came out once.
 fn each_came_once<R: Wait + Threads + Sync + Abort>(rt: &R, alloc: Global, cap: Option<usize>) {
-    let board = Board::with(rt, alloc, 8, 4 * EACH);
+    let board = Board::of(rt, alloc, 8, 4 * EACH);
     let (queue, party) = open_surely(rt, alloc, cap);
-    let party = crew(rt, &queue, party, &board, 3, true);
-    let left = items_left(queue, party);
-    is_in(rt, cap, (board.each_came(1), left), (true, Some(0)));
+    let party = crew(rt, &queue, party, &board, 7, true);
+    let left = end(rt, queue, party).len();
+    is_in(rt, cap, (board.each_came(1), left), (true, 0));
 }
 
 #[test]

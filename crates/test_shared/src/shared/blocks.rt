@@ -42,60 +42,60 @@ fn end_counted<'a>(
     (alone, counts)
 }
 
-/// Lets threads work at these tasks, one doubled so many times, on a queue without a capacity, where the first request of the pushes may be held. Gives the queue, whether each thread got what it had to, and what `end_counted` gives.
+/// Lets threads work at these tasks, of one and so many others, on a queue without a capacity, where the first request of the pushes may be held. Gives the queue, whether each thread got what it had to, and what `end_counted` gives.
 fn work_counted<'a, R: Wait + Threads + Sync + Abort>(
     rt: &R,
     board: &'a Board,
     tasks: &[Task],
-    doublings: u64,
+    others: u64,
     held: bool,
 ) -> (Exclusive<u64, &'a Heap>, bool, [u64; 4]) {
     let (queue, party) = open_surely(rt, &board.heap, None);
     if held {
         board.heap.hold_next();
     }
-    let (party, right) = crew(rt, &queue, party, board, tasks, doublings, 0);
+    let (party, right) = crew(rt, &queue, party, board, tasks, others);
     let (alone, counts) = end_counted(rt, &board.heap, queue, party);
     (alone, right, counts)
 }
 
+static PASS: [Task; 2] = [
+    (Role::PushAndLetGo, 0, ITEMS),
+    (Role::Each(Deed::PopInOrder), 0, ITEMS),
+];
+
 /// Of all blocks that items went through one is left, beside the allocation of both ends, which the end of the sharing gives back.
 #[test]
 fn passed_blocks_are_given_back(rt: HostRuntime) {
-    let tasks = [
-        Task::of(Role::PushAndLetGo, 0..ITEMS),
-        Task::of(Role::Each(Deed::PopInOrder), 0..ITEMS),
-    ];
-    let board = Board::of(&rt, rt.alloc(), tasks.len());
-    let (_, right, counts) = work_counted(&rt, &board, &tasks, 1, false);
+    let board = Board::of(&rt, rt.alloc(), PASS.len(), 0);
+    let (_, right, counts) = work_counted(&rt, &board, &PASS, 1, false);
     is(&rt, (right, counts), (true, [2, 0, 1, 1]));
 }
+
+static ASK: [Task; 4] = [
+    (Role::PushAndLetGo, 0, EACH),
+    (Role::PushAndLetGo, EACH, 2 * EACH),
+    (Role::PushAndLetGo, 2 * EACH, 3 * EACH),
+    (Role::PushAndLetGo, 3 * EACH, 4 * EACH),
+];
 
 /// Of four threads the one that first asks for a block on the empty queue is kept waiting until another one's push is accepted, which asked for the same. No block is left over.
 #[test]
 fn two_of_four_threads_ask_for_the_first_block(rt: HostRuntime) {
-    let tasks = [
-        Task::of(Role::PushAndLetGo, 0..EACH),
-        Task::of(Role::PushAndLetGo, EACH..2 * EACH),
-        Task::of(Role::PushAndLetGo, 2 * EACH..3 * EACH),
-        Task::of(Role::PushAndLetGo, 3 * EACH..4 * EACH),
-    ];
-    let board = Board::of(&rt, rt.alloc(), tasks.len());
-    let (alone, right, counts) = work_counted(&rt, &board, &tasks, 2, true);
+    let board = Board::of(&rt, rt.alloc(), ASK.len(), 0);
+    let (alone, right, counts) = work_counted(&rt, &board, &ASK, 3, true);
     let held = board.heap.held_until_let_go();
     let seen = (right, held, counts, in_order(alone, EACH));
     is(&rt, seen, (true, true, [65, 4000, 64, 64], [EACH; 4]));
 }
 
+static MEANWHILE: [Task; 2] = [(Role::PushAndLetGo, 0, 1), (Role::PopWhileHeld, 0, 1)];
+
 /// While the allocator keeps a push waiting for the first block, another thread's pop is answered.
 #[test]
 fn empty_while_a_push_asks_for_memory(rt: HostRuntime) {
-    let tasks = [
-        Task::of(Role::PushAndLetGo, 0..1),
-        Task::of(Role::PopWhileHeld, 0..1),
-    ];
-    let board = Board::of(&rt, rt.alloc(), tasks.len());
-    let (mut alone, right, _) = work_counted(&rt, &board, &tasks, 1, true);
+    let board = Board::of(&rt, rt.alloc(), MEANWHILE.len(), 0);
+    let (mut alone, right, _) = work_counted(&rt, &board, &MEANWHILE, 1, true);
     let popped = alone.pop();
     let counts = [alone.blocks() as u64, board.heap.live()];
     let held = board.heap.held_until_let_go();
@@ -134,14 +134,10 @@ fn each_request_of_a_push_refused(rt: HostRuntime) {
     }
 }
 
-fn is_sent<T: Send>() {}
-
-fn is_shared<T: Sync>() {}
+fn are_sent<Queue: Send + Sync, Party: Send>() {}
 
 /// A queue may be sent to threads and shared between them, and its parties may be sent.
 #[test]
 fn may_be_sent() {
-    is_sent::<Queue>();
-    is_shared::<Queue>();
-    is_sent::<Party<u64>>();
+    are_sent::<Queue, Party<u64>>();
 }

@@ -1,11 +1,12 @@
 //! Queues without a capacity that parties share: short stories with known replies.
-use crate::shared::rows::{Duet, Solo, StoryLine, each_of_one_party, each_of_two_parties};
+use crate::shared::rows::{Duet, Solo, StoryLine};
 use concurrent_queue::{ForcePushError, PopError, PushError};
 use queue_steps::model::{Call, Reply};
 
 /// The calls of the only party, what is left, and whether the queue is closed.
-static ONE_PARTY: [Solo; 4] = [
+pub(crate) static ONE_PARTY: [Solo; 4] = [
     Solo {
+        name: "a chain, each call",
         cap: None,
         rows: &[
             (Call::Capacity, Reply::Capacity(None)),
@@ -31,6 +32,7 @@ static ONE_PARTY: [Solo; 4] = [
         closed: true,
     },
     Solo {
+        name: "a chain, closed",
         cap: None,
         rows: &[
             (Call::ForcePush(10), Reply::ForcePush(Ok(None))),
@@ -52,6 +54,7 @@ static ONE_PARTY: [Solo; 4] = [
         closed: true,
     },
     Solo {
+        name: "a chain, emptied twice",
         cap: None,
         rows: &[
             (Call::Push(1), Reply::Push(Ok(()))),
@@ -69,6 +72,7 @@ static ONE_PARTY: [Solo; 4] = [
         closed: false,
     },
     Solo {
+        name: "a chain, items are left",
         cap: None,
         rows: &[
             (Call::Push(1), Reply::Push(Ok(()))),
@@ -79,14 +83,10 @@ static ONE_PARTY: [Solo; 4] = [
     },
 ];
 
-#[test]
-fn stories_of_one_party(rt: HostRuntime) {
-    each_of_one_party(&rt, rt.alloc(), &ONE_PARTY);
-}
-
 /// The lines of a story of two parties, what is left, and whether the queue is closed.
-static TWO_PARTIES: [Duet; 3] = [
+pub(crate) static TWO_PARTIES: [Duet; 3] = [
     Duet {
+        name: "a chain, items of the other party",
         cap: None,
         lines: &[
             StoryLine::First(Call::Push(5), Reply::Push(Ok(()))),
@@ -106,6 +106,7 @@ static TWO_PARTIES: [Duet; 3] = [
         closed: true,
     },
     Duet {
+        name: "a chain, looked at by the other party",
         cap: None,
         lines: &[
             StoryLine::Second(Call::Capacity, Reply::Capacity(None)),
@@ -131,6 +132,7 @@ static TWO_PARTIES: [Duet; 3] = [
         closed: true,
     },
     Duet {
+        name: "a chain, in turn",
         cap: None,
         lines: &[
             StoryLine::First(Call::Push(1), Reply::Push(Ok(()))),
@@ -143,8 +145,3 @@ static TWO_PARTIES: [Duet; 3] = [
         closed: false,
     },
 ];
-
-#[test]
-fn stories_of_two_parties(rt: HostRuntime) {
-    each_of_two_parties(&rt, rt.alloc(), &TWO_PARTIES);
-}

@@ -77,25 +77,21 @@ fn drop_all<'a>(
 }
 
 /// How many items each of two parties pushes, how many are popped then, and what becomes of the second party.
-#[derive(Clone, Copy, Debug)]
-struct Use {
-    each: u64,
-    popped: u64,
-    how: End,
-}
+type Use = (u64, u64, End);
 
 /// Uses a queue and drops it, with its parties joined, kept or dropped before. Asserts that what was refused or popped was dropped before. Gives how many items there were: none where there was no memory for the queue.
 fn use_and_drop<'a, R: Wait + Abort>(rt: &R, heap: &'a Heap, items: &'a Items, used: Use) -> u64 {
+    let (each, popped, how) = used;
     let Ok((queue, party)) = Counting::unbounded(heap) else {
         return 0;
     };
     let (mut a, mut b) = part(rt, &queue, party);
-    let refused = push_in_turn(rt, &queue, &mut a, &mut b, items, used.each);
-    let right = pop_some(rt, &queue, &mut b, used.popped);
+    let refused = push_in_turn(rt, &queue, &mut a, &mut b, items, each);
+    let right = pop_some(rt, &queue, &mut b, popped);
     let seen = (right, items.dropped());
-    is_in(rt, used, seen, (true, refused.wrapping_add(used.popped)));
-    drop_all(rt, queue, a, b, used.how);
-    used.each.wrapping_mul(2)
+    is_in(rt, used, seen, (true, refused.wrapping_add(popped)));
+    drop_all(rt, queue, a, b, how);
+    each.wrapping_mul(2)
 }
 
 /// How many items each of two parties pushes, and how many are popped. Of 200 none, some past a block, and all but one; of 126, behind which an empty block lies, none, one less than a block's, and all but one.
@@ -116,7 +112,7 @@ fn nothing_is_left<R: Wait + Abort>(rt: &R, alloc: Global, used: Use, refused: u
     let wanted = if refused == 1 {
         0
     } else {
-        used.each.wrapping_mul(2)
+        used.0.wrapping_mul(2)
     };
     let seen = [used_up, items.dropped(), heap.live()];
     is_in(rt, (used, refused), seen, [wanted, wanted, 0]);
@@ -127,13 +123,8 @@ fn nothing_is_left<R: Wait + Abort>(rt: &R, alloc: Global, used: Use, refused: u
 fn nothing_is_left_of_a_dropped_queue(rt: HostRuntime) {
     for how in [End::Joined, End::Kept, End::Dropped] {
         for (each, popped) in USES.iter() {
-            let used = Use {
-                each: *each,
-                popped: *popped,
-                how,
-            };
             for refused in 0..8u64 {
-                nothing_is_left(&rt, rt.alloc(), used, refused);
+                nothing_is_left(&rt, rt.alloc(), (*each, *popped, how), refused);
             }
         }
     }

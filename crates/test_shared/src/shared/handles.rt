@@ -2,27 +2,14 @@
 ghost use Rattle.std.specs.Prelude.{◌≡◌};
 
 use crate::asserts::is_in;
+use crate::shared::left::End;
 use queue_handle::{Handle, Unfinished};
 use std::alloc::Global;
 use std::process::Abort;
 use std::sync::Wait;
 
-/// What becomes of a second handle.
-#[derive(Clone, Copy, Debug)]
-enum Second {
-    Joined,
-    Kept,
-    Dropped,
-}
-
-/// What the first handle comes to.
-#[derive(Clone, Copy, Debug, PartialEq)]
-enum Came {
-    /// The queue with its one owner, which has so many items.
-    Alone(usize),
-    Shared,
-    Missing,
-}
+/// What a handle comes to: how many items the queue with its one owner has, or why the sharing goes on.
+type Came = Result<usize, &'static str>;
 
 /// A handle of a queue of this capacity, or without one. Asserts that there is memory.
 fn opened(rt: &impl Abort, alloc: Global, cap: Option<usize>) -> Handle<u64> {
@@ -37,24 +24,24 @@ fn opened(rt: &impl Abort, alloc: Global, cap: Option<usize>) -> Handle<u64> {
 /// What a handle comes to that ends the sharing.
 fn end(handle: Handle<u64>) -> Came {
     match handle.finish() {
-        Ok(alone) => Came::Alone(alone.len()),
-        Err(Unfinished::Shared(_)) => Came::Shared,
-        Err(Unfinished::Missing(_, _)) => Came::Missing,
+        Ok(alone) => Ok(alone.len()),
+        Err(Unfinished::Shared(_)) => Err("shared"),
+        Err(Unfinished::Missing(_, _)) => Err("a party is missing"),
     }
 }
 
 /// Ends the sharing by the first of two handles.
-fn end_by_first(one: Handle<u64>, other: Handle<u64>, second: Second) -> Came
+fn end_by_first(one: Handle<u64>, other: Handle<u64>, second: End) -> Came
     requires { other.queue ≡ one.queue }
 {
     match second {
-        Second::Joined => end(one.join(other)),
-        Second::Kept => {
+        End::Joined => end(one.join(other)),
+        End::Kept => {
             let came = end(one);
             drop(other);
             came
         }
-        Second::Dropped => {
+        End::Dropped => {
             drop(other);
             end(one)
         }
@@ -66,7 +53,7 @@ fn came_of<R: Wait + Abort>(
     rt: &R,
     alloc: Global,
     cap: Option<usize>,
-    second: Second,
+    second: End,
 ) -> ([bool; 2], Came) {
     let Ok((mut one, mut other)) = opened(rt, alloc, cap).split() else {
         panic!(rt; "no second handle")
@@ -77,19 +64,15 @@ fn came_of<R: Wait + Abort>(
 
 #[test]
 fn what_a_handle_comes_to(rt: HostRuntime) {
-    for cap in [Some(2), Some(3), None] {
-        let rows = [
-            (Second::Joined, Came::Alone(2)),
-            (Second::Kept, Came::Shared),
-            (Second::Dropped, Came::Missing),
-        ];
-        for (second, wanted) in rows {
-            is_in(
-                &rt,
-                (cap, second),
-                came_of(&rt, rt.alloc(), cap, second),
-                ([true, true], wanted),
-            );
+    let rows = [
+        (End::Joined, Ok(2)),
+        (End::Kept, Err("shared")),
+        (End::Dropped, Err("a party is missing")),
+    ];
+    for (second, wanted) in rows {
+        for cap in [Some(2), Some(3), None] {
+            let found = came_of(&rt, rt.alloc(), cap, second);
+            is_in(&rt, (cap, second), found, ([true, true], wanted));
         }
     }
 }

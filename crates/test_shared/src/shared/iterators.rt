@@ -214,14 +214,9 @@ fn is_printed<R: Wait + Abort>(rt: &R, alloc: Global, shown: &Shown) {
     is(rt, printed, Ok(wanted));
 }
 
-/// The same for each of these queues.
-fn each_is_printed<R: Wait + Abort>(rt: &R, alloc: Global, all: &[Shown]) {
-    for shown in all {
-        is_printed(rt, alloc, shown);
-    }
-}
-
 #[test]
 fn queues_and_iterators_are_printed(rt: HostRuntime) {
-    each_is_printed(&rt, rt.alloc(), &SHOWN);
+    for shown in SHOWN.iter() {
+        is_printed(&rt, rt.alloc(), shown);
+    }
 }

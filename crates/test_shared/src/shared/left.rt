@@ -15,7 +15,13 @@ use std::thread::{Threads, join};
 /// How many items each of two threads pushes.
 const EACH: u64 = 100;
 
-/// What becomes of the second thread's party.
+/// What the first thread does.
+const FIRST: Task = (Role::Each(Deed::PushOnce), 0, EACH);
+
+/// What the second one does.
+const SECOND: Task = (Role::Each(Deed::PushOnce), EACH, 2 * EACH);
+
+/// What becomes of the second party, or of the second handle.
 #[derive(Clone, Copy, Debug)]
 pub(crate) enum End {
     Joined,
@@ -40,26 +46,16 @@ pub(crate) fn in_order<A: Allocator>(mut alone: Exclusive<u64, A>, each: u64) ->
 }
 
 /// What is seen of a queue that two threads have left: whether each item was accepted, the length that a party is told, and where the sharing ends how many of each thread came out in their order.
-#[derive(Clone, Copy, Debug, PartialEq)]
-struct Seen {
-    accepted: bool,
-    len: usize,
-    left: Option<[u64; 4]>,
-}
+type Seen = (bool, usize, Option<[u64; 4]>);
 
 /// What is seen of a queue whose sharing may end with this party.
 fn seen_by<R: Wait>(rt: &R, queue: Queue, mut party: Party<u64>, accepted: bool) -> Seen
     requires { IsPartyOf party queue }
 {
     let len = queue.len(rt, &mut party);
-    let left = match queue.finish(party) {
-        Ok(alone) => Some(in_order(alone, EACH)),
-        Err(_) => None,
-    };
-    Seen {
-        accepted,
-        len,
-        left,
+    match queue.finish(party) {
+        Ok(alone) => (accepted, len, Some(in_order(alone, EACH))),
+        Err(_) => (accepted, len, None),
     }
 }
 
@@ -73,13 +69,11 @@ fn push_both<R: Wait + Threads + Sync + Abort>(
     requires { IsPartyOf party queue.now }
     ensures { IsPartyOf result.0 queue.now × IsPartyOf result.1 queue.now }
 {
-    let first = Task::of(Role::Each(Deed::PushOnce), 0..EACH);
-    let second = Task::of(Role::Each(Deed::PushOnce), EACH..2 * EACH);
     let (a, b) = part(rt, queue, party);
     let ((a, right), (b, right_too)) = join(
         rt,
-        || act(rt, queue, a, board, first),
-        || act(rt, queue, b, board, second),
+        || act(rt, queue, a, board, FIRST),
+        || act(rt, queue, b, board, SECOND),
     );
     (a, b, right && right_too)
 }
@@ -119,7 +113,7 @@ fn left_by_two<R: Wait + Threads + Sync + Abort>(
     cap: Option<usize>,
     end: End,
 ) -> Seen {
-    let board = Board::of(rt, alloc, 2);
+    let board = Board::of(rt, alloc, 2, 0);
     let (queue, party) = open_surely(rt, alloc, cap);
     let (a, b, accepted) = push_both(rt, &queue, party, &board);
     seen_by_both(rt, queue, a, b, end, accepted)
@@ -135,13 +129,8 @@ fn two_threads_leave_what_they_pushed(rt: HostRuntime) {
     ];
     for (end, left) in ends {
         for cap in [Some(400), None] {
-            let wanted = Seen {
-                accepted: true,
-                len: 2 * EACH as usize,
-                left,
-            };
             let found = left_by_two(&rt, rt.alloc(), cap, end);
-            is_in(&rt, (end, cap), found, wanted);
+            is_in(&rt, (end, cap), found, (true, 2 * EACH as usize, left));
         }
     }
 }

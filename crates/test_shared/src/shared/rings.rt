@@ -1,13 +1,12 @@
 //! Rings that parties share: short stories with known replies.
-use crate::shared::rows::{
-    Duet, Solo, StoryLine, each_of_one_party, each_of_two_parties, one_party,
-};
+use crate::shared::rows::{Duet, Solo, StoryLine};
 use concurrent_queue::{ForcePushError, PopError, PushError};
 use queue_steps::model::{Call, Reply};
 
 /// The capacity of a ring, the calls of its only party, what is left, and whether it is closed.
-static ONE_PARTY: [Solo; 6] = [
+pub(crate) static ONE_PARTY: [Solo; 15] = [
     Solo {
+        name: "a ring, filled and emptied",
         cap: Some(2),
         rows: &[
             (Call::Push(1), Reply::Push(Ok(()))),
@@ -21,6 +20,7 @@ static ONE_PARTY: [Solo; 6] = [
         closed: false,
     },
     Solo {
+        name: "a ring, full and not full",
         cap: Some(3),
         rows: &[
             (Call::Push(1), Reply::Push(Ok(()))),
@@ -37,6 +37,7 @@ static ONE_PARTY: [Solo; 6] = [
         closed: false,
     },
     Solo {
+        name: "a ring, pushed to by force, and closed",
         cap: Some(3),
         rows: &[
             (Call::ForcePush(1), Reply::ForcePush(Ok(None))),
@@ -56,6 +57,7 @@ static ONE_PARTY: [Solo; 6] = [
         closed: true,
     },
     Solo {
+        name: "a ring, by force past its end",
         cap: Some(5),
         rows: &[
             (Call::ForcePush(1), Reply::ForcePush(Ok(None))),
@@ -84,6 +86,7 @@ static ONE_PARTY: [Solo; 6] = [
         closed: true,
     },
     Solo {
+        name: "a ring, each call",
         cap: Some(2),
         rows: &[
             (Call::Capacity, Reply::Capacity(Some(2))),
@@ -110,6 +113,7 @@ static ONE_PARTY: [Solo; 6] = [
         closed: true,
     },
     Solo {
+        name: "a ring, filled and half emptied",
         cap: Some(2),
         rows: &[
             (Call::Push(1), Reply::Push(Ok(()))),
@@ -125,29 +129,75 @@ static ONE_PARTY: [Solo; 6] = [
         left: &[2],
         closed: false,
     },
+    Solo {
+        name: "a capacity that is told",
+        cap: Some(1),
+        rows: &[(Call::Capacity, Reply::Capacity(Some(1)))],
+        left: &[],
+        closed: false,
+    },
+    Solo {
+        name: "a capacity that is told",
+        cap: Some(2),
+        rows: &[(Call::Capacity, Reply::Capacity(Some(2)))],
+        left: &[],
+        closed: false,
+    },
+    Solo {
+        name: "a capacity that is told",
+        cap: Some(3),
+        rows: &[(Call::Capacity, Reply::Capacity(Some(3)))],
+        left: &[],
+        closed: false,
+    },
+    Solo {
+        name: "a capacity that is told",
+        cap: Some(4),
+        rows: &[(Call::Capacity, Reply::Capacity(Some(4)))],
+        left: &[],
+        closed: false,
+    },
+    Solo {
+        name: "a capacity that is told",
+        cap: Some(5),
+        rows: &[(Call::Capacity, Reply::Capacity(Some(5)))],
+        left: &[],
+        closed: false,
+    },
+    Solo {
+        name: "a capacity that is told",
+        cap: Some(6),
+        rows: &[(Call::Capacity, Reply::Capacity(Some(6)))],
+        left: &[],
+        closed: false,
+    },
+    Solo {
+        name: "a capacity that is told",
+        cap: Some(7),
+        rows: &[(Call::Capacity, Reply::Capacity(Some(7)))],
+        left: &[],
+        closed: false,
+    },
+    Solo {
+        name: "a capacity that is told",
+        cap: Some(8),
+        rows: &[(Call::Capacity, Reply::Capacity(Some(8)))],
+        left: &[],
+        closed: false,
+    },
+    Solo {
+        name: "a capacity that is told",
+        cap: Some(9),
+        rows: &[(Call::Capacity, Reply::Capacity(Some(9)))],
+        left: &[],
+        closed: false,
+    },
 ];
 
-#[test]
-fn stories_of_one_party(rt: HostRuntime) {
-    each_of_one_party(&rt, rt.alloc(), &ONE_PARTY);
-}
-
-#[test]
-fn each_capacity_is_told(rt: HostRuntime) {
-    for cap in 1..10usize {
-        let story = Solo {
-            cap: Some(cap),
-            rows: &[(Call::Capacity, Reply::Capacity(Some(cap)))],
-            left: &[],
-            closed: false,
-        };
-        one_party(&rt, rt.alloc(), &story);
-    }
-}
-
 /// The lines of a story of two parties of a ring, what is left, and whether it is closed.
-static TWO_PARTIES: [Duet; 3] = [
+pub(crate) static TWO_PARTIES: [Duet; 3] = [
     Duet {
+        name: "a ring, items of the other party",
         cap: Some(2),
         lines: &[
             StoryLine::First(Call::Push(5), Reply::Push(Ok(()))),
@@ -167,6 +217,7 @@ static TWO_PARTIES: [Duet; 3] = [
         closed: true,
     },
     Duet {
+        name: "a ring, looked at by the other party",
         cap: Some(2),
         lines: &[
             StoryLine::Second(Call::Capacity, Reply::Capacity(Some(2))),
@@ -189,6 +240,7 @@ static TWO_PARTIES: [Duet; 3] = [
         closed: true,
     },
     Duet {
+        name: "a ring, by force in turn",
         cap: Some(2),
         lines: &[
             StoryLine::First(Call::ForcePush(1), Reply::ForcePush(Ok(None))),
@@ -201,8 +253,3 @@ static TWO_PARTIES: [Duet; 3] = [
         closed: false,
     },
 ];
-
-#[test]
-fn stories_of_two_parties(rt: HostRuntime) {
-    each_of_two_parties(&rt, rt.alloc(), &TWO_PARTIES);
-}

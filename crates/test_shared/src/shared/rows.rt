@@ -3,15 +3,16 @@ ghost use Rattle.concurrent_queue.specs.Shared.{IsPartyOf};
 
 use crate::calls::{Row, are_answered, is_answered, is_left};
 use crate::opening::{end, open_surely, part, stay_shared};
-use concurrent_queue::{ConcurrentQueue, Exclusive, ForcePushError, Party, PopError, PushError};
-use mem_blocks::null_testable::NullTestable;
+use crate::shared::{chains, rings};
+use concurrent_queue::{
+    ConcurrentQueue, Exclusive, ForcePushError, NullTestable, Party, PopError, PushError,
+};
 use queue_steps::model::{Call, Reply};
 use std::alloc::Global;
 use std::process::Abort;
 use std::sync::Wait;
 
 /// A line of a story: a call of one of two parties, with its reply.
-#[derive(Clone, Copy)]
 pub(crate) enum StoryLine {
     First(Call<u64>, Reply<u64>),
     Second(Call<u64>, Reply<u64>),
@@ -20,38 +21,39 @@ pub(crate) enum StoryLine {
 }
 
 /// The calls of a queue's only party.
-#[derive(Clone, Copy)]
-pub(crate) struct Solo<'a> {
+pub(crate) struct Solo {
+    pub(crate) name: &'static str,
     /// The capacity, if there is one.
     pub(crate) cap: Option<usize>,
-    pub(crate) rows: &'a [Row],
+    pub(crate) rows: &'static [Row],
     /// The items that are left, in their order.
-    pub(crate) left: &'a [u64],
+    pub(crate) left: &'static [u64],
     /// Whether the queue is closed in the end.
     pub(crate) closed: bool,
 }
 
 /// The calls of two parties.
-#[derive(Clone, Copy)]
-pub(crate) struct Duet<'a> {
+pub(crate) struct Duet {
+    pub(crate) name: &'static str,
     /// The capacity, if there is one.
     pub(crate) cap: Option<usize>,
-    pub(crate) lines: &'a [StoryLine],
+    pub(crate) lines: &'static [StoryLine],
     /// The items that are left, in their order.
-    pub(crate) left: &'a [u64],
+    pub(crate) left: &'static [u64],
     /// Whether the queue is closed in the end.
     pub(crate) closed: bool,
 }
 
 /// Makes the calls of a queue's only party, and asserts each reply, and what is left.
-pub(crate) fn one_party<R: Wait + Abort>(rt: &R, alloc: Global, story: &Solo<'_>) {
+fn one_party<R: Wait + Abort>(rt: &R, alloc: Global, story: &Solo) {
     let (queue, mut party) = open_surely(rt, alloc, story.cap);
-    are_answered(rt, &queue, &mut party, story.rows);
-    is_left(rt, &mut end(rt, queue, party), story.left, story.closed);
+    are_answered(rt, story.name, &queue, &mut party, story.rows);
+    let mut alone = end(rt, queue, party);
+    is_left(rt, story.name, &mut alone, story.left, story.closed);
 }
 
 /// The same for each of these stories.
-pub(crate) fn each_of_one_party<R: Wait + Abort>(rt: &R, alloc: Global, stories: &[Solo<'_>]) {
+fn each_of_one_party<R: Wait + Abort>(rt: &R, alloc: Global, stories: &[Solo]) {
     for story in stories {
         one_party(rt, alloc, story);
     }
@@ -60,56 +62,54 @@ pub(crate) fn each_of_one_party<R: Wait + Abort>(rt: &R, alloc: Global, stories:
 /// Makes the calls of two parties, and asserts each reply.
 fn both_are_answered<A: NullTestable, R: Wait + Abort>(
     rt: &R,
+    story: &Duet,
     queue: &ConcurrentQueue<u64, A>,
     first: &mut Party<u64>,
     second: &mut Party<u64>,
-    lines: &[StoryLine],
 )
     requires { IsPartyOf first.old queue.now × IsPartyOf second.old queue.now }
     ensures { IsPartyOf first.new queue.now × IsPartyOf second.new queue.now }
 {
-    for line in lines {
-        match *line {
-            StoryLine::First(call, reply) => is_answered(rt, queue, first, (call, reply)),
-            StoryLine::Second(call, reply) => is_answered(rt, queue, second, (call, reply)),
+    let name = story.name;
+    for line in story.lines {
+        match line {
+            StoryLine::First(call, reply) => is_answered(rt, name, queue, first, (*call, *reply)),
+            StoryLine::Second(call, reply) => is_answered(rt, name, queue, second, (*call, *reply)),
             StoryLine::Meet => queue.meet(first, second),
         }
     }
 }
 
-/// Tells a story of two parties, of which neither can end the sharing until they are joined. Asserts each reply, and gives what is left.
+/// Tells a story of two parties, of which neither can end the sharing until they are joined. Asserts each reply, and what is left, which it gives.
 pub(crate) fn tell<A: NullTestable, R: Wait + Abort>(
     rt: &R,
     queue: ConcurrentQueue<u64, A>,
     party: Party<u64>,
-    lines: &[StoryLine],
+    story: &Duet,
 ) -> Exclusive<u64, A>
     requires { IsPartyOf party queue }
 {
     let (mut first, mut second) = part(rt, &queue, party);
-    both_are_answered(rt, &queue, &mut first, &mut second, lines);
+    both_are_answered(rt, story, &queue, &mut first, &mut second);
     let (queue, first) = stay_shared(rt, queue, first);
     let whole = queue.join(first, second);
-    end(rt, queue, whole)
+    let mut alone = end(rt, queue, whole);
+    is_left(rt, story.name, &mut alone, story.left, story.closed);
+    alone
 }
 
-/// Tells a story of two parties, and asserts each reply, and what is left.
-fn two_parties<R: Wait + Abort>(rt: &R, alloc: Global, story: &Duet<'_>) {
-    let (queue, party) = open_surely(rt, alloc, story.cap);
-    let mut alone = tell(rt, queue, party, story.lines);
-    is_left(rt, &mut alone, story.left, story.closed);
-}
-
-/// The same for each of these stories.
-pub(crate) fn each_of_two_parties<R: Wait + Abort>(rt: &R, alloc: Global, stories: &[Duet<'_>]) {
+/// Tells these stories of two parties, and asserts each reply, and what is left.
+fn each_of_two_parties<R: Wait + Abort>(rt: &R, alloc: Global, stories: &[Duet]) {
     for story in stories {
-        two_parties(rt, alloc, story);
+        let (queue, party) = open_surely(rt, alloc, story.cap);
+        drop(tell(rt, queue, party, story));
     }
 }
 
 /// The calls of the only party of a slot, what is left, and whether it is closed.
 static ONE_PARTY: [Solo; 4] = [
     Solo {
+        name: "a slot, pushed to while it is full, and closed",
         cap: Some(1),
         rows: &[
             (Call::Push(10), Reply::Push(Ok(()))),
@@ -123,6 +123,7 @@ static ONE_PARTY: [Solo; 4] = [
         closed: true,
     },
     Solo {
+        name: "a slot, pushed to by force, and closed",
         cap: Some(1),
         rows: &[
             (Call::ForcePush(10), Reply::ForcePush(Ok(None))),
@@ -140,6 +141,7 @@ static ONE_PARTY: [Solo; 4] = [
         closed: true,
     },
     Solo {
+        name: "a slot, each call",
         cap: Some(1),
         rows: &[
             (Call::Capacity, Reply::Capacity(Some(1))),
@@ -165,6 +167,7 @@ static ONE_PARTY: [Solo; 4] = [
         closed: true,
     },
     Solo {
+        name: "a slot, an item is left",
         cap: Some(1),
         rows: &[(Call::Push(4), Reply::Push(Ok(())))],
         left: &[4],
@@ -175,11 +178,14 @@ static ONE_PARTY: [Solo; 4] = [
 #[test]
 fn stories_of_one_party(rt: HostRuntime) {
     each_of_one_party(&rt, rt.alloc(), &ONE_PARTY);
+    each_of_one_party(&rt, rt.alloc(), &rings::ONE_PARTY);
+    each_of_one_party(&rt, rt.alloc(), &chains::ONE_PARTY);
 }
 
 /// The lines of a story of two parties of a slot, what is left, and whether it is closed.
 static TWO_PARTIES: [Duet; 4] = [
     Duet {
+        name: "a slot, by force, and closed by the other party",
         cap: Some(1),
         lines: &[
             StoryLine::First(Call::ForcePush(10), Reply::ForcePush(Ok(None))),
@@ -196,6 +202,7 @@ static TWO_PARTIES: [Duet; 4] = [
         closed: true,
     },
     Duet {
+        name: "a slot, items of the other party",
         cap: Some(1),
         lines: &[
             StoryLine::First(Call::Push(5), Reply::Push(Ok(()))),
@@ -215,6 +222,7 @@ static TWO_PARTIES: [Duet; 4] = [
         closed: true,
     },
     Duet {
+        name: "a slot, looked at by the other party",
         cap: Some(1),
         lines: &[
             StoryLine::Second(Call::IsEmpty, Reply::IsEmpty(true)),
@@ -237,6 +245,7 @@ static TWO_PARTIES: [Duet; 4] = [
         closed: true,
     },
     Duet {
+        name: "a slot, an item of the other party is left",
         cap: Some(1),
         lines: &[StoryLine::Second(Call::Push(1), Reply::Push(Ok(())))],
         left: &[1],
@@ -247,37 +256,45 @@ static TWO_PARTIES: [Duet; 4] = [
 #[test]
 fn stories_of_two_parties(rt: HostRuntime) {
     each_of_two_parties(&rt, rt.alloc(), &TWO_PARTIES);
+    each_of_two_parties(&rt, rt.alloc(), &rings::TWO_PARTIES);
+    each_of_two_parties(&rt, rt.alloc(), &chains::TWO_PARTIES);
 }
 
 /// What the second party does before it is dropped, and what the first one's pop answers then.
-static DROPPED: [(Row, Result<u64, PopError>); 2] = [
+static DROPPED: [(&str, Row, Row); 2] = [
     (
+        "dropped without an item",
         (Call::Capacity, Reply::Capacity(Some(1))),
-        Err(PopError::Empty),
+        (Call::Pop, Reply::Pop(Err(PopError::Empty))),
     ),
-    ((Call::Push(1), Reply::Push(Ok(()))), Ok(1)),
+    (
+        "dropped once it had pushed",
+        (Call::Push(1), Reply::Push(Ok(()))),
+        (Call::Pop, Reply::Pop(Ok(1))),
+    ),
 ];
 
 /// Drops one of two parties after a call, without which the sharing does not end. Asserts that, the call's reply, and what the other party's pop answers.
 fn goes_on_with_one_dropped<R: Wait + Abort>(
     rt: &R,
     alloc: Global,
+    name: &'static str,
     row: Row,
-    popped: Result<u64, PopError>,
+    then: Row,
 ) {
     let (queue, party) = open_surely(rt, alloc, Some(1));
     let (first, mut second) = part(rt, &queue, party);
-    is_answered(rt, &queue, &mut second, row);
+    is_answered(rt, name, &queue, &mut second, row);
     drop(second);
     let (queue, first) = stay_shared(rt, queue, first);
     let (queue, mut first) = stay_shared(rt, queue, first);
-    is_answered(rt, &queue, &mut first, (Call::Pop, Reply::Pop(popped)));
+    is_answered(rt, name, &queue, &mut first, then);
 }
 
 /// A party that was dropped is missing for ever, whether or not it had pushed.
 #[test]
 fn not_finished_with_a_party_dropped(rt: HostRuntime) {
-    for (row, popped) in DROPPED.iter() {
-        goes_on_with_one_dropped(&rt, rt.alloc(), *row, *popped);
+    for (name, row, then) in DROPPED.iter() {
+        goes_on_with_one_dropped(&rt, rt.alloc(), *name, *row, *then);
     }
 }

@@ -9,75 +9,126 @@ use std::process::Abort;
 use std::sync::Wait;
 use std::thread::Threads;
 
-/// Lets threads work at these tasks, one doubled so many times, on a queue of this capacity, or without one. Asserts that they ran at one time, that each got what it had to, that each value was counted so often, and that nothing is left.
-fn works_at<R: Wait + Threads + Sync + Abort>(
-    rt: &R,
-    alloc: Global,
-    cap: Option<usize>,
-    tasks: &[Task],
-    doublings: u64,
+/// What threads do at a queue of each of some capacities.
+struct Work {
+    caps: &'static [Option<usize>],
+    /// The tasks of one thread and so many others.
+    tasks: &'static [Task],
+    others: u64,
+    /// How often each value is counted.
     times: u64,
-) {
-    let board = Board::of(rt, alloc, tasks.len());
-    let (queue, party) = open_surely(rt, alloc, cap);
-    let (party, right) = crew(rt, &queue, party, &board, tasks, doublings, 0);
-    let left = end(rt, queue, party);
-    let seen = (right, board.each_came(times), left.len());
-    is_in(rt, cap, seen, (true, true, 0));
-}
-
-/// The same at each of these capacities.
-pub(crate) fn works<R: Wait + Threads + Sync + Abort>(
-    rt: &R,
-    alloc: Global,
-    caps: &[Option<usize>],
-    tasks: &[Task],
-    doublings: u64,
-    times: u64,
-) {
-    for cap in caps {
-        works_at(rt, alloc, *cap, tasks, doublings, times);
-    }
 }
 
 /// The capacities of a slot and of a small ring, and none.
 const KINDS: [Option<usize>; 3] = [Some(1), Some(3), None];
 
+const PUSH: Task = (Role::Each(Deed::Push), 0, TURNS);
+
+const POP: Task = (Role::Pop, 0, TURNS);
+
+const PUSH_AND_POP: Task = (Role::Each(Deed::PushAndPop), 0, TURNS);
+
+const FORCE_AND_POP: Task = (Role::Each(Deed::ForceAndPop), 0, TURNS);
+
+const FORCE: Task = (Role::Force, 0, TURNS);
+
+const DRAIN: Task = (Role::Drain, 0, TURNS);
+
+static IN_ORDER: Work = Work {
+    caps: &KINDS,
+    tasks: &[PUSH, (Role::Each(Deed::PopInOrder), 0, TURNS)],
+    others: 1,
+    times: 0,
+};
+
+static WITHIN: Work = Work {
+    caps: &[Some(1000)],
+    tasks: &[
+        (Role::EachWithin(Deed::Push, 1000), 0, TURNS),
+        (Role::EachWithin(Deed::PopInOrder, 1000), 0, TURNS),
+    ],
+    others: 1,
+    times: 0,
+};
+
+static FOUR_AND_FOUR: Work = Work {
+    caps: &KINDS,
+    tasks: &[PUSH, POP, PUSH, POP, PUSH, POP, PUSH, POP],
+    others: 7,
+    times: 4,
+};
+
+static LINEARIZABLE: Work = Work {
+    caps: &[Some(1), Some(4), None],
+    tasks: &[PUSH_AND_POP, FORCE_AND_POP, FORCE_AND_POP, PUSH_AND_POP],
+    others: 3,
+    times: 0,
+};
+
+static ONE_RING_BUFFER: Work = Work {
+    caps: &KINDS,
+    tasks: &[FORCE, DRAIN],
+    others: 1,
+    times: 1,
+};
+
+static FOUR_RING_BUFFERS: Work = Work {
+    caps: &KINDS,
+    tasks: &[FORCE, DRAIN, FORCE, DRAIN, FORCE, DRAIN, FORCE, DRAIN],
+    others: 7,
+    times: 4,
+};
+
+/// Lets threads work at a queue of this capacity, or without one. Asserts that they ran at one time, that each got what it had to, that each value was counted so often, and that nothing is left.
+fn works_at<R: Wait + Threads + Sync + Abort>(
+    rt: &R,
+    alloc: Global,
+    work: &Work,
+    cap: Option<usize>,
+) {
+    let board = Board::of(rt, alloc, work.tasks.len(), TURNS);
+    let (queue, party) = open_surely(rt, alloc, cap);
+    let (party, right) = crew(rt, &queue, party, &board, work.tasks, work.others);
+    let left = end(rt, queue, party);
+    let seen = (right, board.each_came(work.times), left.len());
+    is_in(rt, cap, seen, (true, true, 0));
+}
+
+/// The same at each of the capacities.
+fn works<R: Wait + Threads + Sync + Abort>(rt: &R, alloc: Global, work: &Work) {
+    for cap in work.caps {
+        works_at(rt, alloc, work, *cap);
+    }
+}
+
 #[test]
 fn in_order_from_one_thread_to_another(rt: HostRuntime) {
-    let tasks = [
-        Task::turns(Role::Each(Deed::Push)),
-        Task::turns(Role::Each(Deed::PopInOrder)),
-    ];
-    works(&rt, rt.alloc(), &KINDS, &tasks, 1, 0);
+    works(&rt, rt.alloc(), &IN_ORDER);
+}
+
+#[test]
+fn no_length_above_the_capacity(rt: HostRuntime) {
+    works(&rt, rt.alloc(), &WITHIN);
 }
 
 #[test]
 fn four_pushers_and_four_poppers(rt: HostRuntime) {
-    let (push, pop) = (Task::turns(Role::Each(Deed::Push)), Task::turns(Role::Pop));
-    let tasks = [push, pop, push, pop, push, pop, push, pop];
-    works(&rt, rt.alloc(), &KINDS, &tasks, 3, 4);
+    works(&rt, rt.alloc(), &FOUR_AND_FOUR);
 }
 
 #[test]
 fn linearizable(rt: HostRuntime) {
-    let push = Task::turns(Role::Each(Deed::PushAndPop));
-    let force = Task::turns(Role::Each(Deed::ForceAndPop));
-    let caps = [Some(1), Some(4), None];
-    works(&rt, rt.alloc(), &caps, &[push, force, force, push], 2, 0);
+    works(&rt, rt.alloc(), &LINEARIZABLE);
 }
 
 #[test]
 fn ring_buffer_of_one_thread(rt: HostRuntime) {
-    let tasks = [Task::turns(Role::Force), Task::turns(Role::Drain)];
-    works(&rt, rt.alloc(), &KINDS, &tasks, 1, 1);
+    works(&rt, rt.alloc(), &ONE_RING_BUFFER);
 }
 
 #[test]
 fn ring_buffer_of_four_threads(rt: HostRuntime) {
-    let (force, drain) = (Task::turns(Role::Force), Task::turns(Role::Drain));
-    let tasks = [force, drain, force, drain, force, drain, force, drain];
-    works(&rt, rt.alloc(), &KINDS, &tasks, 3, 4);
+    works(&rt, rt.alloc(), &FOUR_RING_BUFFERS);
 }
 
 #[test]
@@ -87,16 +138,18 @@ fn handed_over(rt: HostRuntime) {
 
 #[test]
 fn handed_to_one_and_to_five(rt: HostRuntime) {
-    for others in [0u64, 4] {
-        let handed = hand_to_many(&rt, rt.alloc(), 1000, others);
-        is_in(&rt, others, handed, Ok((499_500, 0)));
-    }
+    let one = hand_to_many(&rt, rt.alloc(), 1000, 0);
+    let five = hand_to_many(&rt, rt.alloc(), 1000, 4);
+    is(&rt, (one, five), (Ok((499_500, 0)), Ok((499_500, 0))));
 }
 
 #[test]
 fn sent_by_a_thread_with_a_handle(rt: HostRuntime) {
     let (sum, handle) = sum_of_a_thread(rt, rt.alloc(), 1000).expect(&rt, "memory");
-    let left = handle.finish().ok().map(|left| left.len());
+    let left = match handle.finish() {
+        Ok(left) => Some(left.len()),
+        Err(_) => None,
+    };
     is(&rt, (sum, left), (499_500, Some(0)));
 }
 
