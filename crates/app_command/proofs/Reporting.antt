@@ -12,8 +12,8 @@ use Rattle.machine_replay.specs.Played.{IsMade}
 use Rattle.machine_replay.specs.Replays.{is_too_large}
 use Rattle.machine_replay.specs.declared.machine_run.MachineRun.{MachineRun}
 use Rattle.machine_replay.specs.declared.machine_run.Ended.{Ended}
-use Rattle.machine_steps.specs.declared.types.Event.{Event}
-use Rattle.machine_steps.specs.declared.types.Told.{Told}
+use Rattle.machine_memory.specs.declared.types.Event.{Event}
+use Rattle.machine_memory.specs.declared.types.Told.{Told}
 use Rattle.app_text.specs.KindNames.{capacity_of, queue_named}
 use Rattle.app_text.specs.declared.actions.ReplayLine.{ReplayLine}
 use Rattle.app_text.specs.declared.args.KindName.{KindName}

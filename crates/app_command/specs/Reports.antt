@@ -6,8 +6,8 @@ use Rattle.queue_steps.specs.declared.sizes.TheConstants.{MAX_CAPACITY}
 use Rattle.machine_replay.specs.Book.{Book, Run, opening}
 use Rattle.machine_replay.specs.Conforms.{IsPeak}
 use Rattle.machine_replay.specs.Played.{IsMade}
-use Rattle.machine_steps.specs.declared.types.Peak.{Peak}
-use Rattle.machine_steps.specs.declared.types.Told.{Told}
+use Rattle.machine_memory.specs.declared.types.Peak.{Peak}
+use Rattle.machine_memory.specs.declared.types.Told.{Told}
 use Rattle.app_text.specs.KindNames.{capacity_of, queue_named}
 use Rattle.app_text.specs.declared.actions.ReplayLine.{ReplayLine}
 use Rattle.app_text.specs.declared.args.KindName.{KindName}

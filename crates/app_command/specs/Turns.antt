@@ -3,11 +3,11 @@ use Rattle.std.specs.Prelude.{ℕ, ◌+◌, true, false, Option, Some, None, Lis
 use Rattle.std.specs.Fmt.{decimal}
 use Rattle.queue_steps.specs.declared.sizes.TheConstants.{SOLO_STEPS}
 use Rattle.queue_steps.specs.declared.model.Reply.{Reply}
-use Rattle.machine_steps.specs.declared.types.Event.{Event}
-use Rattle.machine_steps.specs.declared.types.Event.TheVariants.{Begin, Step}
-use Rattle.machine_steps.specs.declared.types.EffectKind.{EffectKind}
-use Rattle.machine_steps.specs.declared.types.Told.{Told}
-use Rattle.machine_steps.specs.declared.types.Told.TheVariants.{Skipped, Ran}
+use Rattle.machine_memory.specs.declared.types.Event.{Event}
+use Rattle.machine_memory.specs.declared.types.Event.TheVariants.{Begin, Step}
+use Rattle.machine_memory.specs.declared.types.EffectKind.{EffectKind}
+use Rattle.machine_memory.specs.declared.types.Told.{Told}
+use Rattle.machine_memory.specs.declared.types.Told.TheVariants.{Skipped, Ran}
 use Rattle.app_text.specs.Replies.{reply_text}
 use Rattle.app_text.specs.declared.actions.Action.{Action}
 use Rattle.app_text.specs.declared.actions.Action.TheVariants as action

@@ -9,10 +9,11 @@ use Rattle.queue_steps.specs.declared.model.Call.{Call}
 use Rattle.queue_steps.specs.declared.model.Reply.{Reply}
 use Rattle.queue_steps.specs.declared.steps.types.Kind.{Kind}
 use Rattle.machine_steps.specs.Left.{left_of, opening_world}
-use Rattle.machine_steps.specs.SharedMemory.{Shared, start_of, step_of}
+use Rattle.machine_memory.specs.SharedMemory.{Shared}
+use Rattle.machine_steps.specs.Steps.{start_of, step_of}
 use Rattle.machine_steps.specs.World.{World}
-use Rattle.machine_steps.specs.declared.machine.Running.{Running}
-use Rattle.machine_steps.specs.declared.types.Event.{Event}
+use Rattle.machine_memory.specs.declared.calls.Running.{Running}
+use Rattle.machine_memory.specs.declared.types.Event.{Event}
 use Rattle.machine_explore.specs.Explored.{HasNoOther, Prepares, begun_by, outcome_of, replies_by}
 use Rattle.machine_explore.specs.Moves.{led}
 use Rattle.machine_replay.specs.Played.{told_of, world_after}

@@ -9,10 +9,10 @@ use Rattle.std.proofs.lemmas.List.Elements.{All-contains, All-head, All-tail}
 use Rattle.queue_steps.specs.declared.model.Call.{Call}
 use Rattle.machine_replay.specs.Conforms.{party_of}
 use Rattle.machine_steps.specs.World.{Begun, Made, World, call_at, world_event}
-use Rattle.machine_steps.specs.declared.types.Event.{Event}
-use Rattle.machine_steps.specs.declared.types.Event.TheVariants.{Begin, Step}
-use Rattle.machine_steps.specs.declared.types.Told.{Told}
-use Rattle.machine_steps.specs.declared.types.Told.TheVariants.{Skipped}
+use Rattle.machine_memory.specs.declared.types.Event.{Event}
+use Rattle.machine_memory.specs.declared.types.Event.TheVariants.{Begin, Step}
+use Rattle.machine_memory.specs.declared.types.Told.{Told}
+use Rattle.machine_memory.specs.declared.types.Told.TheVariants.{Skipped}
 use Rattle.machine_explore.specs.Explored.{begun_by, replies_by, IsGranted}
 use Rattle.machine_explore.specs.Moves.{advanced, call_in, event_at, event_for, led_by, reply_in}
 use Rattle.machine_replay.specs.Played.{told_by, world_by}

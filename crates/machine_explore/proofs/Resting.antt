@@ -8,10 +8,10 @@ use Rattle.queue_steps.specs.declared.model.Call.{Call}
 use Rattle.queue_steps.specs.declared.sizes.TheConstants.{MAX_CAPACITY}
 use Rattle.queue_steps.specs.declared.steps.types.Kind.{Kind}
 use Rattle.queue_steps.specs.declared.steps.types.Kind.TheVariants as kind
-use Rattle.machine_steps.specs.declared.types.Event.{Event}
-use Rattle.machine_steps.specs.declared.types.Told.{Told}
+use Rattle.machine_memory.specs.declared.types.Event.{Event}
+use Rattle.machine_memory.specs.declared.types.Told.{Told}
 use Rattle.machine_steps.specs.Left.{opening_world}
-use Rattle.machine_steps.specs.SharedMemory.{start_of, step_of}
+use Rattle.machine_steps.specs.Steps.{start_of, step_of}
 use Rattle.machine_steps.specs.World.{call_at}
 use Rattle.machine_replay.specs.Book.{Open}
 use Rattle.machine_replay.specs.Conforms.{party_of}

@@ -10,12 +10,12 @@ use Rattle.machine_replay.specs.Conforms.{party_of}
 use Rattle.machine_steps.specs.Machine.{event_of}
 use Rattle.machine_replay.specs.MachineRuns.{KeepsRun, IsSomeMachineRun}
 use Rattle.machine_replay.specs.Played.{local_in}
-use Rattle.machine_steps.specs.SharedMemory.{Shared}
+use Rattle.machine_memory.specs.SharedMemory.{Shared}
 use Rattle.machine_steps.specs.World.{World, call_at}
-use Rattle.machine_steps.specs.declared.machine.Running.{Running}
+use Rattle.machine_memory.specs.declared.calls.Running.{Running}
 use Rattle.machine_replay.specs.declared.machine_run.MachineRun.{MachineRun}
-use Rattle.machine_steps.specs.declared.types.Event.{Event}
-use Rattle.machine_steps.specs.declared.types.Told.{Told}
+use Rattle.machine_memory.specs.declared.types.Event.{Event}
+use Rattle.machine_memory.specs.declared.types.Told.{Told}
 use Rattle.machine_explore.specs.Moves.{event_at, led}
 use Rattle.machine_explore.specs.Positions.{Outcome, Progress, Standing, outcome_at}
 use Rattle.machine_explore.specs.Traces.{IsSeen, Seen}

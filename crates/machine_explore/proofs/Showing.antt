@@ -10,13 +10,14 @@ use Rattle.queue_steps.specs.declared.model.Call.{Call}
 use Rattle.queue_steps.specs.declared.steps.types.Kind.{Kind}
 use Rattle.machine_replay.specs.Conforms.{party_of}
 use Rattle.machine_steps.specs.Left.{left_of, opening_world}
-use Rattle.machine_steps.specs.SharedMemory.{Shared, start_of, step_of}
+use Rattle.machine_memory.specs.SharedMemory.{Shared}
+use Rattle.machine_steps.specs.Steps.{start_of, step_of}
 use Rattle.machine_steps.specs.World.{Begun, Made, World, call_at, world_event}
-use Rattle.machine_steps.specs.declared.machine.Running.{Running}
-use Rattle.machine_steps.specs.declared.types.Event.{Event}
-use Rattle.machine_steps.specs.declared.types.Event.TheVariants.{Begin, Step}
-use Rattle.machine_steps.specs.declared.types.Told.{Told}
-use Rattle.machine_steps.specs.declared.types.Told.TheVariants.{Skipped, Ran}
+use Rattle.machine_memory.specs.declared.calls.Running.{Running}
+use Rattle.machine_memory.specs.declared.types.Event.{Event}
+use Rattle.machine_memory.specs.declared.types.Event.TheVariants.{Begin, Step}
+use Rattle.machine_memory.specs.declared.types.Told.{Told}
+use Rattle.machine_memory.specs.declared.types.Told.TheVariants.{Skipped, Ran}
 use Rattle.machine_explore.specs.Certified.{IsMove, IsTaken}
 use Rattle.machine_explore.specs.Explored.{IsGranted, begun_by, replies_by}
 use Rattle.machine_explore.specs.Moves.{advanced, call_in, event_at, event_for, led, reply_in}

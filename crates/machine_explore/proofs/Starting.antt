@@ -8,15 +8,16 @@ use Rattle.queue_steps.specs.declared.steps.types.Kind.{Kind}
 use Rattle.machine_replay.specs.Conforms.{party_of}
 use Rattle.machine_steps.specs.Left.{opening_world}
 use Rattle.machine_steps.specs.Machine.{event_of}
-use Rattle.machine_steps.specs.SharedMemory.{Shared, start_of, step_of}
+use Rattle.machine_memory.specs.SharedMemory.{Shared}
+use Rattle.machine_steps.specs.Steps.{start_of, step_of}
 use Rattle.machine_steps.specs.World.{Begun, Made, World, call_at, world_event}
-use Rattle.machine_steps.specs.declared.machine.Running.{Running}
-use Rattle.machine_steps.specs.declared.types.EffectKind.{EffectKind}
-use Rattle.machine_steps.specs.declared.types.Event.{Event}
-use Rattle.machine_steps.specs.declared.types.Event.TheVariants.{Begin, Step}
-use Rattle.machine_steps.specs.declared.types.Told.{Told}
-use Rattle.machine_steps.specs.declared.types.Told.TheVariants.{Ran}
-use Rattle.machine_steps.proofs.Busy.{nobody_calls}
+use Rattle.machine_memory.specs.declared.calls.Running.{Running}
+use Rattle.machine_memory.specs.declared.types.EffectKind.{EffectKind}
+use Rattle.machine_memory.specs.declared.types.Event.{Event}
+use Rattle.machine_memory.specs.declared.types.Event.TheVariants.{Begin, Step}
+use Rattle.machine_memory.specs.declared.types.Told.{Told}
+use Rattle.machine_memory.specs.declared.types.Told.TheVariants.{Ran}
+use Rattle.machine_memory.proofs.Busy.{nobody_calls}
 use Rattle.machine_explore.specs.Explored.{IsPreparing, Prepares, begun_by}
 use Rattle.machine_explore.specs.Moves.{call_in}
 use Rattle.machine_replay.specs.Played.{told_by, told_of, world_after, world_by}

@@ -5,10 +5,10 @@ use Rattle.std.specs.declared.alloc.AllocError.{AllocError}
 use Rattle.queue_steps.specs.declared.model.Call.{Call}
 use Rattle.machine_steps.specs.Machine.{event_of}
 use Rattle.machine_steps.specs.World.{World, call_at}
-use Rattle.machine_steps.specs.declared.types.Event.TheVariants.{Step}
-use Rattle.machine_steps.specs.declared.types.Told.{Told}
-use Rattle.machine_steps.specs.declared.machine.Running.{Running}
-use Rattle.machine_steps.specs.SharedMemory.{Shared}
+use Rattle.machine_memory.specs.declared.types.Event.TheVariants.{Step}
+use Rattle.machine_memory.specs.declared.types.Told.{Told}
+use Rattle.machine_memory.specs.declared.calls.Running.{Running}
+use Rattle.machine_memory.specs.SharedMemory.{Shared}
 use Rattle.machine_explore.specs.Moves.{advanced, event_for, led}
 use Rattle.machine_explore.specs.Positions.{Standing, calls_of, progress_of}
 use Rattle.machine_explore.specs.Tables.{Stays, StaysOnce}

@@ -7,12 +7,13 @@ use Rattle.queue_steps.specs.declared.model.Call.{Call}
 use Rattle.queue_steps.specs.declared.model.Reply.{Reply}
 use Rattle.queue_steps.specs.declared.steps.types.Kind.{Kind}
 use Rattle.machine_steps.specs.Left.{opening_world}
-use Rattle.machine_steps.specs.SharedMemory.{Shared, start_of, step_of}
+use Rattle.machine_memory.specs.SharedMemory.{Shared}
+use Rattle.machine_steps.specs.Steps.{start_of, step_of}
 use Rattle.machine_steps.specs.World.{Begun, Made, World, began, began_by, call_at, can_begin, stepped_if, world_event}
-use Rattle.machine_steps.specs.declared.machine.Running.{Running}
-use Rattle.machine_steps.specs.declared.types.Event.{Event}
-use Rattle.machine_steps.specs.declared.types.Event.TheVariants.{Begin, Step}
-use Rattle.machine_steps.specs.declared.types.Told.TheVariants.{Skipped}
+use Rattle.machine_memory.specs.declared.calls.Running.{Running}
+use Rattle.machine_memory.specs.declared.types.Event.{Event}
+use Rattle.machine_memory.specs.declared.types.Event.TheVariants.{Begin, Step}
+use Rattle.machine_memory.specs.declared.types.Told.TheVariants.{Skipped}
 use Rattle.machine_explore.specs.Moves.{event_at, event_for}
 use Rattle.machine_explore.specs.Positions.{At, calls_of, progress_of}
 use Rattle.machine_explore.specs.Starts.{IsStart}

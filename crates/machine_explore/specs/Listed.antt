@@ -4,8 +4,8 @@ use Rattle.std.specs.List.{range_with_len}
 use Rattle.queue_steps.specs.declared.model.Call.{Call}
 use Rattle.queue_steps.specs.declared.model.Reply.{Reply}
 use Rattle.queue_steps.specs.declared.steps.types.Kind.{Kind}
-use Rattle.machine_steps.specs.declared.types.Event.{Event}
-use Rattle.machine_steps.specs.declared.types.Replay.{Replay}
+use Rattle.machine_memory.specs.declared.types.Event.{Event}
+use Rattle.machine_memory.specs.declared.types.Replay.{Replay}
 use Rattle.machine_replay.specs.Played.{IsPlayed}
 use Rattle.machine_replay.specs.Served.{IsServed}
 use Rattle.machine_explore.specs.Explored.{HasNoOther, IsRunOf}

@@ -3,12 +3,12 @@ use Rattle.std.specs.Prelude.{ℕ, ◌+◌, Bool, true, Option, Some, None, List
 use Rattle.queue_steps.specs.declared.model.Call.{Call}
 use Rattle.queue_steps.specs.declared.model.Reply.{Reply}
 use Rattle.queue_steps.specs.declared.steps.types.Kind.{Kind}
-use Rattle.machine_steps.specs.declared.types.Event.{Event}
-use Rattle.machine_steps.specs.declared.types.Event.TheVariants.{Begin, Step}
-use Rattle.machine_steps.specs.declared.types.Told.{Told}
-use Rattle.machine_steps.specs.declared.types.Told.TheVariants.{Ran}
+use Rattle.machine_memory.specs.declared.types.Event.{Event}
+use Rattle.machine_memory.specs.declared.types.Event.TheVariants.{Begin, Step}
+use Rattle.machine_memory.specs.declared.types.Told.{Told}
+use Rattle.machine_memory.specs.declared.types.Told.TheVariants.{Ran}
 use Rattle.machine_replay.specs.Conforms.{party_of}
-use Rattle.machine_steps.specs.SharedMemory.{step_of, start_of}
+use Rattle.machine_steps.specs.Steps.{step_of, start_of}
 use Rattle.machine_steps.specs.World.{Made, Begun, call_at, world_event}
 use Rattle.machine_explore.specs.Positions.{At, Progress, Standing, calls_of, progress_of}
 

@@ -1,7 +1,7 @@
 -- When a table of standings has all that the moves of a program lead to.
 use Rattle.std.specs.Prelude.{◌≡◌, ℕ, ◌<◌, Bool, true, false, List, length, Contains, ⊤, MatchOption}
 use Rattle.queue_steps.specs.declared.model.Call.{Call}
-use Rattle.machine_steps.specs.declared.types.Event.{Event}
+use Rattle.machine_memory.specs.declared.types.Event.{Event}
 use Rattle.queue_steps.specs.declared.steps.types.Kind.{Kind}
 use Rattle.machine_explore.specs.Moves.{event_at, led}
 use Rattle.machine_explore.specs.Positions.{At, IsFinal, Outcome, Standing, outcome_at}

@@ -4,14 +4,14 @@ use Rattle.std.specs.List.{All, AllZip}
 use Rattle.queue_steps.specs.declared.model.Call.{Call}
 use Rattle.queue_steps.specs.declared.steps.types.Kind.{Kind}
 use Rattle.queue_steps.specs.declared.steps.types.Local.{Local}
-use Rattle.machine_steps.specs.declared.machine.Running.{Running}
-use Rattle.machine_steps.specs.declared.types.Event.{Event}
-use Rattle.machine_steps.specs.declared.types.Told.{Told}
+use Rattle.machine_memory.specs.declared.calls.Running.{Running}
+use Rattle.machine_memory.specs.declared.types.Event.{Event}
+use Rattle.machine_memory.specs.declared.types.Told.{Told}
 use Rattle.machine_replay.specs.Conforms.{party_of}
 use Rattle.machine_steps.specs.Left.{left_of, opening_world}
 use Rattle.machine_steps.specs.Machine.{event_of}
 use Rattle.machine_replay.specs.Played.{local_in, told_of, world_after}
-use Rattle.machine_steps.specs.SharedMemory.{Shared}
+use Rattle.machine_memory.specs.SharedMemory.{Shared}
 use Rattle.machine_steps.specs.World.{World, call_at}
 use Rattle.machine_explore.specs.declared.schedule.Move.{Move}
 use Rattle.machine_explore.specs.Certified.{IsMove, IsOutcomeOf, IsTaken}

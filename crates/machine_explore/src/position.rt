@@ -6,7 +6,7 @@ ghost use Rattle.machine_steps.specs.Left.{left_of};
 ghost use Rattle.machine_steps.specs.Machine.{event_of, world_of};
 ghost use Rattle.machine_replay.specs.Played.{local_in};
 ghost use Rattle.machine_steps.specs.World.{call_at};
-ghost use Rattle.machine_steps.specs.declared.types.Event.TheVariants.{Step};
+ghost use Rattle.machine_memory.specs.declared.types.Event.TheVariants.{Step};
 ghost use Rattle.machine_replay.specs.Replays.{CanReplay};
 ghost use Rattle.machine_explore.specs.Moves.{event_at, led};
 ghost use Rattle.machine_explore.specs.Positions.{IsFinal, Standing, calls_of, no_progress, outcome_at, progress_of};

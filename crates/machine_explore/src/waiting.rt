@@ -1,6 +1,6 @@
 //! A schedule at whose end one party waits for another.
 ghost use Rattle.std.specs.Prelude.{◌≡◌, ◌≢◌, ◌==◌, ◌<◌, ℕ, ⊤, None, true, IfOk, MatchOption};
-ghost use Rattle.machine_steps.specs.declared.types.Told.TheVariants.{Ran};
+ghost use Rattle.machine_memory.specs.declared.types.Told.TheVariants.{Ran};
 ghost use Rattle.machine_replay.specs.Progress.{Between, Standing as CallStanding, stands_then};
 ghost use Rattle.machine_replay.specs.Replays.{CanReplay};
 ghost use Rattle.machine_explore.specs.Waiting.{GoesRound, IsSentBack, IsWaitOf, is_first, is_half_done, side_at, stands_seen, wait_of};

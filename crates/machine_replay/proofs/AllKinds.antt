@@ -3,7 +3,8 @@ use Rattle.std.proofs.Common.{ℕ, ◌+◌, ◌≤◌, ◌≡◌, Bool, nat_lt, 
 use Rattle.machine_replay.specs.Vocabulary.{Call, Kind, MAX_CAPACITY, Event, Told, Peak, Begin, Step, Running}
 use Rattle.queue_steps.specs.Words.{IsRing}
 use Rattle.machine_replay.specs.Book.{opening}
-use Rattle.machine_steps.specs.SharedMemory.{Shared, CanStart}
+use Rattle.machine_memory.specs.SharedMemory.{Shared}
+use Rattle.machine_steps.specs.Steps.{CanStart}
 use Rattle.machine_replay.specs.Conforms.{capacity_of}
 use Rattle.machine_steps.specs.Left.{left_of, opening_world, HasSlot}
 use Rattle.machine_replay.specs.Replays.{CanReplay, is_too_large}
@@ -16,7 +17,8 @@ use Rattle.machine_replay.proofs.RingKind.{ring_laws}
 use Rattle.machine_replay.proofs.ChainKind.{chain_laws}
 use Rattle.std.proofs.lemmas.Bool.{ltb-false}
 use Rattle.machine_replay.proofs.Peaking.{Run-length, peaked-if}
-use Rattle.machine_steps.proofs.Presence.{Sparing, event-sparing}
+use Rattle.machine_memory.proofs.Presence.{Sparing}
+use Rattle.machine_steps.proofs.EventPresence.{event-sparing}
 use Rattle.machine_replay.proofs.SoFar.{SoFar, so_far-first, so_far-more, so_far-can, so_far-grows, so_far-none, so_far-room}
 
 -- the machine has queues of this kind

@@ -1,7 +1,7 @@
 -- A call that another one waits for.
 use Rattle.std.proofs.Common.{ℕ, ◌≡◌, ◌∙◌, Some, sym, ap, subst}
 use Rattle.machine_replay.specs.Vocabulary.{Local, Running}
-use Rattle.machine_steps.specs.SharedMemory.{Shared}
+use Rattle.machine_memory.specs.SharedMemory.{Shared}
 use Rattle.machine_steps.specs.World.{World, call_at}
 use Rattle.machine_replay.specs.Waits.{IsBeside}
 

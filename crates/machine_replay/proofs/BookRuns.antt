@@ -3,7 +3,7 @@ use Rattle.std.proofs.Common.{ℕ, true, List, [], ◌∷◌, ◌++◌, append_a
 use Rattle.machine_replay.specs.Vocabulary.{Kind, Event, Told, Peak, Running}
 use Rattle.machine_steps.specs.Left.{opening_world}
 use Rattle.machine_steps.specs.Machine.{event_of, world_of}
-use Rattle.machine_steps.specs.SharedMemory.{Shared}
+use Rattle.machine_memory.specs.SharedMemory.{Shared}
 use Rattle.machine_steps.specs.World.{World}
 use Rattle.machine_replay.specs.Peaks.{opening_peak, peaked}
 use Rattle.machine_replay.specs.Played.{told_of, world_after}

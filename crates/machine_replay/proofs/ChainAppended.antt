@@ -5,7 +5,8 @@ use Rattle.machine_replay.specs.Vocabulary.{Call, Effect, Kind, Op, Touch, Local
 use Rattle.queue_steps.specs.declared.steps.unbounded.UnboundedLocal.TheVariants as chain
 use Rattle.law_chain.specs.ChainCells.{Chain}
 use Rattle.law_chain.specs.ChainAt.{At, laying, opening, chaining, writing}
-use Rattle.machine_steps.specs.SharedMemory.{Shared, step_of}
+use Rattle.machine_memory.specs.SharedMemory.{Shared}
+use Rattle.machine_steps.specs.Steps.{step_of}
 use Rattle.machine_replay.specs.Progress.{AppendsReplyWithin}
 use Rattle.machine_replay.proofs.Appended.{HasAppend, appends_reply}
 use Rattle.machine_replay.proofs.ChainStretch.{chain_rules}

@@ -2,8 +2,8 @@
 use Rattle.std.proofs.Common.{ℕ, ◌<◌, ◌≡◌, ◌∙◌, inl, inr, Option, Some, None, List, length, refl, sym, ap, subst, get_or, set, get_or-set_same, get_or-set_other}
 use Rattle.std.proofs.lemmas.List.{get_or_past, length-set, set-set, set-get_or}
 use Rattle.std.proofs.lemmas.Bool.{cases_lt}
-use Rattle.machine_steps.specs.declared.blocks.Place.{Place}
-use Rattle.machine_steps.specs.Blocks.{Block, blank, places_in, with_place, with_next, state_of, put_state, put_item, put_next}
+use Rattle.machine_memory.specs.declared.blocks.Place.{Place}
+use Rattle.machine_memory.specs.Blocks.{Block, blank, places_in, with_place, with_next, state_of, put_state, put_item, put_next}
 use Rattle.machine_replay.proofs.ChainNames.{Changed}
 
 -- a block that is there has a number among those

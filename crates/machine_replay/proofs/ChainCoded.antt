@@ -8,7 +8,8 @@ use Rattle.law_chain.specs.ChainAt.{At}
 use Rattle.law_chain.specs.ChainAnswers.{Answers}
 use Rattle.law_chain.specs.ChainAfter.{chain_of, carried_of, after_of, left_by}
 use Rattle.law_chain.proofs.ChainRight.{Gives}
-use Rattle.machine_steps.specs.SharedMemory.{Shared, CanTouch, CanOperate, slots_there, block_touched, after_touch, carried_then, answer_to, shared_then}
+use Rattle.machine_memory.specs.SharedMemory.{Shared, CanTouch, CanOperate, slots_there, block_touched}
+use Rattle.machine_steps.specs.Steps.{after_touch, carried_then, answer_to, shared_then}
 use Rattle.machine_replay.proofs.ChainNames.{Codes}
 
 abbrev running : {A : Type 0} → Local ℕ → Touch → Op ℕ → Option A → Running A

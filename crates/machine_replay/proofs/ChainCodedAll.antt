@@ -4,7 +4,7 @@ use Rattle.queue_steps.specs.State.{State}
 use Rattle.machine_replay.specs.Vocabulary.{Call, Effect, Op, Touch, Local}
 use Rattle.law_chain.specs.ChainCells.{Chain, ChainOk}
 use Rattle.law_chain.specs.ChainAt.{At, push_tail, push_block, asking, installing, showing, claiming, laying, opening, chaining, writing, spending, pop_head, pop_block, pop_tail, taking, following, peeking, passing, entering, awaiting, len_tail, len_head, len_again, empty_head, empty_tail, closing, closed_tail, walking, destroying, reading, beginning}
-use Rattle.machine_steps.specs.SharedMemory.{Shared}
+use Rattle.machine_memory.specs.SharedMemory.{Shared}
 use Rattle.machine_replay.proofs.ChainCoded.{Stands, Coded}
 use Rattle.machine_replay.proofs.ChainCodedPush.{coded_push_tail, coded_push_block, coded_asking, coded_installing, coded_showing, coded_claiming, coded_laying, coded_opening, coded_chaining, coded_writing, coded_spending}
 use Rattle.machine_replay.proofs.ChainCodedPop.{coded_pop_head, coded_pop_block, coded_pop_tail, coded_taking, coded_following, coded_peeking, coded_passing, coded_entering, coded_awaiting, coded_len_tail, coded_len_head, coded_len_again, coded_empty_head, coded_empty_tail, coded_closing, coded_closed_tail}

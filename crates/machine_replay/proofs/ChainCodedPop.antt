@@ -11,8 +11,8 @@ use Rattle.law_common.specs.Moments.{HeadWas, SeenIn}
 use Rattle.law_chain.specs.ChainFacts.{place, head_of, HeadIs, IsNamed, HeadBlockIs, HeadBlockRead, IsMore, Got, SawEmpty}
 use Rattle.law_chain.specs.ChainCells.{Writer, Writing, Wrote, Reader, Reading, Done, Stands as Rested, Passing, Entering, GivenUp, Chain, FrontOk, ChainOk, Read, Head, Holds, Nothing, item_at, Free, ItemOk}
 use Rattle.law_chain.specs.ChainAnswers.{head_word, linked_of}
-use Rattle.machine_steps.specs.Blocks.{block_of, behind, behind_in, state_of}
-use Rattle.machine_steps.specs.SharedMemory.{Shared}
+use Rattle.machine_memory.specs.Blocks.{block_of, behind, behind_in, state_of}
+use Rattle.machine_memory.specs.SharedMemory.{Shared}
 use Rattle.machine_replay.proofs.ChainNames.{Codes}
 use Rattle.machine_replay.proofs.ChainBlocks.{state_is}
 use Rattle.machine_replay.proofs.ChainGives.{codes_left, block_at, has_place, state_answers, one_block}

@@ -13,8 +13,9 @@ use Rattle.law_chain.specs.ChainAnswers.{tail_word, last_of, is_done}
 use Rattle.law_chain.proofs.ChainAnswers.{tail_small, same_tail}
 use Rattle.law_chain.proofs.ChainRight.{Gives}
 use Rattle.law_chain.specs.ChainAfter.{left_by, if_installed, claimed_if, if_claimed}
-use Rattle.machine_steps.specs.Blocks.{without, blank, places_in, state_of, put_state, put_item}
-use Rattle.machine_steps.specs.SharedMemory.{Shared, installed, spare_in}
+use Rattle.machine_memory.specs.Blocks.{without, blank, places_in, state_of, put_state, put_item}
+use Rattle.machine_memory.specs.SharedMemory.{Shared, installed}
+use Rattle.machine_steps.specs.Steps.{spare_in}
 use Rattle.machine_replay.proofs.ChainCodes.{lies}
 use Rattle.machine_replay.proofs.ChainNames.{Codes, Changed}
 use Rattle.machine_replay.proofs.ChainBlocks.{placed, place_in, item_put, next_put, state_left, both_put}

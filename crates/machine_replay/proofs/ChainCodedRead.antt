@@ -10,8 +10,9 @@ use Rattle.queue_steps.specs.declared.steps.unbounded.UnboundedLocal.TheVariants
 use Rattle.law_chain.specs.ChainCells.{Wrote, Reading, Done, Walker, Waits, GivenUp, Chain, ChainOk, Read, Passed, Holds, item_at, LAST, Walk, Before, Chained, WalkOk}
 use Rattle.law_chain.specs.ChainFacts.{head_of, IsNamed, Got}
 use Rattle.law_chain.specs.ChainAfter.{left_by}
-use Rattle.machine_steps.specs.Blocks.{place_count, Block, without, blank, places_in, state_of, put_item, put_state}
-use Rattle.machine_steps.specs.SharedMemory.{Shared, spare_in}
+use Rattle.machine_memory.specs.Blocks.{place_count, Block, without, blank, places_in, state_of, put_item, put_state}
+use Rattle.machine_memory.specs.SharedMemory.{Shared}
+use Rattle.machine_steps.specs.Steps.{spare_in}
 use Rattle.machine_replay.proofs.ChainNames.{Codes, Changed}
 use Rattle.machine_replay.proofs.ChainBlocks.{there, place_in, item_put, state_put, state_is, state_left, both_put, placed_same, placed, changed_twice, changed_set, changed_none}
 use Rattle.machine_replay.proofs.ChainGives.{block_at, has_place, state_answers}
@@ -25,7 +26,7 @@ use Rattle.law_chain.proofs.ChainRead.{waits_is}
 use Rattle.law_chain.proofs.ChainWalk.{after_walker}
 use Rattle.law_chain.specs.ChainAt.{Only, IsLast, reading, beginning, walking, destroying}
 use Rattle.law_chain.proofs.ChainReads.{not_given_up}
-use Rattle.machine_steps.specs.declared.blocks.Place.{Place}
+use Rattle.machine_memory.specs.declared.blocks.Place.{Place}
 use Rattle.machine_replay.proofs.ChainCodes.{BlockIs, lies}
 use Rattle.machine_replay.proofs.ChainFresh.{unwalked}
 use Rattle.machine_replay.proofs.ChainBits.{state_waits, state_passed}

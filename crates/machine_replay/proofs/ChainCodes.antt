@@ -6,8 +6,8 @@ use Rattle.machine_replay.specs.Vocabulary.{BLOCK_SLOTS}
 use Rattle.law_chain.specs.ChainCells.{Writer, Free, Writing, Wrote, Reader, Done, Chain, item_at, LAST}
 use Rattle.law_chain.specs.ChainAnswers.{linked_of, is_wrote, is_done, waits_at, IsState}
 use Rattle.law_chain.proofs.ChainAnswers.{done_is}
-use Rattle.machine_steps.specs.declared.blocks.Place.{Place}
-use Rattle.machine_steps.specs.Blocks.{blank}
+use Rattle.machine_memory.specs.declared.blocks.Place.{Place}
+use Rattle.machine_memory.specs.Blocks.{blank}
 
 -- the item of a slot, once it is written
 abbrev pub wrote_in : {A : Type 0} → Writer A → Option A

@@ -8,7 +8,7 @@ use Rattle.law_chain.specs.ChainCells.{Writer, Writing, Wrote, Reader, Done, Lin
 use Rattle.law_chain.specs.ChainTransitions.{chained, written}
 use Rattle.law_chain.specs.ChainFacts.{IsNamed}
 use Rattle.law_chain.specs.ChainAnswers.{linked_of, is_done}
-use Rattle.machine_steps.specs.Blocks.{Block, blank}
+use Rattle.machine_memory.specs.Blocks.{Block, blank}
 use Rattle.machine_replay.proofs.ChainCodes.{BlockIs, wrote_in, lies, block_put, block_same}
 use Rattle.machine_replay.proofs.ChainBits.{state_written}
 use Rattle.machine_replay.proofs.ChainNames.{NameIs, HeldIs, Codes, Keeps, Changed, name_kept, one_name}

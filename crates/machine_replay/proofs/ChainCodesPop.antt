@@ -9,7 +9,7 @@ use Rattle.law_chain.specs.ChainCells.{Unread, Reading, Passer, Stands, Passing,
 use Rattle.law_chain.specs.ChainTransitions.{taken, passed, entered}
 use Rattle.law_chain.proofs.ChainReads.{passer_sees}
 use Rattle.law_chain.specs.ChainAnswers.{head_place, shown_of, is_done}
-use Rattle.machine_steps.specs.Blocks.{Block}
+use Rattle.machine_memory.specs.Blocks.{Block}
 use Rattle.machine_replay.proofs.ChainNames.{Codes, Keeps, name_kept, keeps_all}
 
 -- the head's word after the item n is taken

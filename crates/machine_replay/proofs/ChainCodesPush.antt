@@ -13,7 +13,7 @@ use Rattle.law_chain.specs.ChainCells.{Writing, Mover, Rests, Laying, Opening, L
 use Rattle.law_chain.proofs.ChainTransitions.{next_free, no_front}
 use Rattle.law_chain.specs.ChainTransitions.{appended, installed, displayed, laid_out, opened, marked, renamed}
 use Rattle.law_chain.specs.ChainAnswers.{tail_place, shown_of, linked_of}
-use Rattle.machine_steps.specs.Blocks.{Block, fresh_block}
+use Rattle.machine_memory.specs.Blocks.{Block, fresh_block}
 use Rattle.machine_replay.proofs.ChainCodes.{wrote_in}
 use Rattle.machine_replay.proofs.ChainNames.{NameIs, Codes, Keeps, name_kept, keeps_all}
 use Rattle.machine_replay.proofs.ChainFresh.{fresh_is, unlinked, last_name}

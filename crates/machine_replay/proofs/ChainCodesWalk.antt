@@ -8,8 +8,8 @@ use Rattle.law_chain.specs.ChainCells.{Done, Walk, GivenUp, Unused, Spare, Chain
 use Rattle.law_chain.specs.ChainTransitions.{reads, walked, walk_after, given_up, lost_of}
 use Rattle.law_chain.specs.ChainFacts.{IsNamed}
 use Rattle.law_chain.specs.ChainAnswers.{is_done, waits_at, IsState}
-use Rattle.machine_steps.specs.declared.blocks.Place.{Place}
-use Rattle.machine_steps.specs.Blocks.{Block, blank}
+use Rattle.machine_memory.specs.declared.blocks.Place.{Place}
+use Rattle.machine_memory.specs.Blocks.{Block, blank}
 use Rattle.machine_replay.proofs.ChainCodes.{BlockIs, lies, block_put}
 use Rattle.machine_replay.proofs.ChainBits.{state_read}
 use Rattle.machine_replay.proofs.ChainNames.{NameIs, HeldIs, AliveIs, Codes, Changed, name_kept, keeps_all}

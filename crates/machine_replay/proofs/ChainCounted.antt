@@ -12,10 +12,10 @@ use Rattle.law_chain.proofs.Count.{count, count_same, count_front}
 use Rattle.law_chain.proofs.ChainHands.{HandOf, in_hand, idle_hand}
 use Rattle.law_chain.proofs.ChainCount.{is_given_up, is_alive, alive, few_alive}
 use Rattle.law_chain.proofs.ChainSpan.{spans_if, held_items}
-use Rattle.machine_steps.specs.Blocks.{Block}
+use Rattle.machine_memory.specs.Blocks.{Block}
 use Rattle.machine_replay.specs.Book.{Book}
-use Rattle.machine_steps.specs.SharedMemory.{Shared}
-use Rattle.machine_steps.specs.Present.{present}
+use Rattle.machine_memory.specs.SharedMemory.{Shared}
+use Rattle.machine_memory.specs.Present.{present}
 use Rattle.machine_steps.specs.World.{World, call_at}
 use Rattle.machine_replay.proofs.ChainNames.{NameIs}
 use Rattle.machine_replay.proofs.ChainHolding.{ChainHolds}

@@ -7,8 +7,8 @@ use Rattle.law_chain.specs.ChainCells.{Writing, Reading, Laying, Passing, Linkin
 use Rattle.law_chain.specs.ChainFacts.{head_of, open_tail_of, IsNamed, Claimed, Got}
 use Rattle.law_chain.specs.ChainAt.{Only, Either}
 use Rattle.law_chain.proofs.ChainAnswers.{head_offset}
-use Rattle.machine_steps.specs.Blocks.{Block, put_state, put_item, put_next}
-use Rattle.machine_steps.specs.SharedMemory.{block_touched}
+use Rattle.machine_memory.specs.Blocks.{Block, put_state, put_item, put_next}
+use Rattle.machine_memory.specs.SharedMemory.{block_touched}
 use Rattle.machine_steps.specs.ChainLeft.{reached, settled_at, settled_by}
 
 -- nothing; to put this into a slot; that, and to link the block to a fresh one; to read a slot

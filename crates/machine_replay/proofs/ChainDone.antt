@@ -3,8 +3,8 @@ use Rattle.std.proofs.Common.{ℕ, suc, zero, ◌<◌, ◌≡◌, ◌≢◌, ◌
 use Rattle.std.proofs.lemmas.List.{length-set}
 use Rattle.std.proofs.lemmas.Bool.Decides.{eqb_tells}
 use Rattle.machine_replay.specs.Vocabulary.{BLOCK_SLOTS, READ, Running}
-use Rattle.machine_steps.specs.declared.blocks.Place.{Place}
-use Rattle.machine_steps.specs.Blocks.{Block, blank, places_in, with_place, with_next, put_item}
+use Rattle.machine_memory.specs.declared.blocks.Place.{Place}
+use Rattle.machine_memory.specs.Blocks.{Block, blank, places_in, with_place, with_next, put_item}
 use Rattle.machine_steps.specs.ChainLeft.{settled_by, settled_blocks}
 use Rattle.machine_replay.proofs.ChainDeeds.{Deed, Rest, Puts, Lays, Reads, deed_of, done, deed_done, PutsAt, LinksTo}
 use Rattle.machine_replay.proofs.ChainCounted.{within_list}

@@ -27,7 +27,8 @@ use Rattle.law_chain.proofs.ChainRanksPush.{push_tail_falls}
 use Rattle.law_chain.proofs.ChainRight.{Ends, step_right}
 use Rattle.law_chain.proofs.ChainStep.{is_chain}
 use Rattle.law_chain.proofs.ChainTransitions.{no_block}
-use Rattle.machine_steps.specs.SharedMemory.{Shared, answer_to, step_of, running_after, next_after, carried_then, put_word}
+use Rattle.machine_memory.specs.SharedMemory.{Shared, put_word}
+use Rattle.machine_steps.specs.Steps.{answer_to, step_of, running_after, next_after, carried_then}
 use Rattle.machine_steps.specs.World.{World, call_at}
 use Rattle.machine_replay.specs.Book.{Open}
 use Rattle.machine_replay.specs.Progress.{Standing, IsToShow, NobodyShows, UnhinderedWithin}

@@ -16,7 +16,8 @@ use Rattle.law_chain.proofs.ChainAnswers.{head_offset}
 use Rattle.law_chain.proofs.ChainRanks.{rank, lag, walk_rank, is_seen}
 use Rattle.law_chain.proofs.ChainRanksWalk.{last_claimed}
 use Rattle.law_chain.proofs.ChainRight.{Ends}
-use Rattle.machine_steps.specs.SharedMemory.{Shared, running_after}
+use Rattle.machine_memory.specs.SharedMemory.{Shared}
+use Rattle.machine_steps.specs.Steps.{running_after}
 use Rattle.machine_replay.proofs.ChainNames.{Codes}
 
 -- how many steps a call has before it once the first block is shown, by the words of the tail and the head

@@ -17,7 +17,8 @@ use Rattle.law_chain.proofs.ChainRight.{Ends, step_right}
 use Rattle.law_chain.proofs.ChainRanks.{rank, longest, rank_small, rank_some, Falls}
 use Rattle.law_chain.proofs.ChainRanksStep.{step_falls, wait_free_falls, wait_free_small}
 use Rattle.machine_replay.specs.Book.{Open, after_own, begun, is_wait_free, joined, watched}
-use Rattle.machine_steps.specs.SharedMemory.{Shared, CanStep, step_of, start_of, running_after, reply_after}
+use Rattle.machine_memory.specs.SharedMemory.{Shared}
+use Rattle.machine_steps.specs.Steps.{CanStep, step_of, start_of, running_after, reply_after}
 use Rattle.machine_replay.proofs.Engine as engine
 use Rattle.machine_replay.proofs.FewSteps.{FewSteps, few_begun, few_joined, few_watched, few_own, few_stays}
 use Rattle.machine_replay.proofs.ChainMoments.{chain_begun, allowed_in}

@@ -5,7 +5,7 @@ use Rattle.machine_replay.specs.Vocabulary.{BLOCK_SLOTS}
 use Rattle.law_chain.specs.ChainCells.{Free, Unread, Done, Mover, Rests, LinkState, Linked, Walk, Before, GivenUp, Chain, BlocksOk, LinkOk, WalkOk, ChainOk, item_at, LAST}
 use Rattle.law_chain.proofs.ChainTransitions.{item_free}
 use Rattle.law_chain.specs.ChainAnswers.{last_of, linked_of, is_wrote, is_done, waits_at, IsState}
-use Rattle.machine_steps.specs.Blocks.{blank, fresh_block}
+use Rattle.machine_memory.specs.Blocks.{blank, fresh_block}
 use Rattle.machine_replay.proofs.ChainCodes.{BlockIs, lies}
 
 -- the items of the next block are all beyond the tail

@@ -4,8 +4,8 @@ use Rattle.std.proofs.lemmas.List.{length-set}
 use Rattle.queue_steps.specs.ChainWords.{offset_of}
 use Rattle.machine_replay.specs.Vocabulary.{Op, Touch, Local, UnboundedLocal, Running}
 use Rattle.queue_steps.specs.declared.steps.unbounded.UnboundedLocal.TheVariants as chain
-use Rattle.machine_steps.specs.SharedMemory.{block_touched}
-use Rattle.machine_steps.specs.Blocks.{Block, put_item, without}
+use Rattle.machine_memory.specs.SharedMemory.{block_touched}
+use Rattle.machine_memory.specs.Blocks.{Block, put_item, without}
 use Rattle.machine_steps.specs.ChainLeft.{laid, marked, reached, settled_at, settled_by, settled_blocks, front_at, settled_front, unread_at, behind_at, chained, chain_left}
 
 -- what comes first of what is left goes to the end of what there is

@@ -9,8 +9,8 @@ use Rattle.law_chain.specs.ChainFacts.{IsNamed}
 use Rattle.law_chain.specs.ChainAnswers.{IsState, StateAnswers}
 use Rattle.law_chain.proofs.ChainRight.{Gives}
 use Rattle.law_chain.specs.ChainAfter.{left_by}
-use Rattle.machine_steps.specs.Blocks.{Block, fresh_block, without, places_in, place_count}
-use Rattle.machine_steps.specs.SharedMemory.{spare_in}
+use Rattle.machine_memory.specs.Blocks.{Block, fresh_block, without, places_in, place_count}
+use Rattle.machine_steps.specs.Steps.{spare_in}
 use Rattle.machine_replay.proofs.ChainCodes.{BlockIs}
 use Rattle.machine_replay.proofs.ChainNames.{NameIs, HeldIs, Codes, alive_of, name_of}
 use Rattle.machine_replay.proofs.ChainCodesWalk.{codes_given_spare, codes_given_block}

@@ -2,7 +2,7 @@
 use Rattle.std.proofs.Common.{◌≡◌}
 use Rattle.queue_steps.specs.State.{State}
 use Rattle.law_chain.specs.ChainCells.{Chain, queue_of, ChainOk}
-use Rattle.machine_steps.specs.SharedMemory.{Shared}
+use Rattle.machine_memory.specs.SharedMemory.{Shared}
 use Rattle.machine_replay.proofs.ChainNames.{Codes}
 
 -- the chain stands for the state, and the words, the links and the blocks for the chain

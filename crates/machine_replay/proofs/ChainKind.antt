@@ -4,7 +4,8 @@ use Rattle.machine_replay.specs.Vocabulary.{Kind, Running}
 use Rattle.law_chain.specs.ChainCells.{Chain}
 use Rattle.law_chain.proofs.ChainFirst.{first}
 use Rattle.machine_replay.specs.Book.{Book, Open}
-use Rattle.machine_steps.specs.SharedMemory.{Shared, CanStep, step_of, start_of}
+use Rattle.machine_memory.specs.SharedMemory.{Shared}
+use Rattle.machine_steps.specs.Steps.{CanStep, step_of, start_of}
 use Rattle.machine_replay.proofs.Engine as engine
 use Rattle.machine_steps.specs.World.{World, call_at}
 use Rattle.machine_replay.proofs.KindLaws.{KindLaws, SimulatesOf, IsCounted}

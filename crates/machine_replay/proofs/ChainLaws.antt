@@ -13,8 +13,9 @@ use Rattle.law_chain.proofs.ChainStep.{is_chain}
 use Rattle.law_chain.specs.ChainPasses.{Spares, spare_in}
 use Rattle.law_chain.proofs.ChainRight.{Ends, step_right}
 use Rattle.machine_replay.specs.Book.{Open, Moves, after_own}
-use Rattle.machine_steps.specs.SharedMemory.{Shared, CanTouch, CanOperate, CanReply, CanStep, block_touched, slots_there, after_touch, answer_to, carried_then, shared_then, next_after, running_after, reply_after, step_of, start_of}
-use Rattle.machine_steps.specs.EffectOf.{effect_of}
+use Rattle.machine_memory.specs.SharedMemory.{Shared, CanTouch, CanOperate, block_touched, slots_there}
+use Rattle.machine_steps.specs.Steps.{CanReply, CanStep, after_touch, answer_to, carried_then, shared_then, next_after, running_after, reply_after, step_of, start_of}
+use Rattle.machine_memory.specs.EffectOf.{effect_of}
 use Rattle.machine_replay.proofs.Engine as engine
 use Rattle.machine_replay.proofs.KindLaws.{LawsOf}
 use Rattle.machine_replay.proofs.ChainNames.{Codes}

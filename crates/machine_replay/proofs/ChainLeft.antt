@@ -10,9 +10,9 @@ use Rattle.law_chain.proofs.ChainTransitions.{no_block}
 use Rattle.law_chain.proofs.ChainCount.{number_of}
 use Rattle.law_chain.proofs.ChainSpan.{not_done}
 use Rattle.law_chain.proofs.Count.{count_all, count_into}
-use Rattle.machine_steps.specs.Blocks.{Block, fresh_block, places_in, behind_in, without}
+use Rattle.machine_memory.specs.Blocks.{Block, fresh_block, places_in, behind_in, without}
 use Rattle.machine_replay.specs.Book.{Book}
-use Rattle.machine_steps.specs.SharedMemory.{Shared}
+use Rattle.machine_memory.specs.SharedMemory.{Shared}
 use Rattle.machine_steps.specs.ChainLeft.{unread, chained, settled_blocks}
 use Rattle.machine_steps.specs.Left.{left_of}
 use Rattle.machine_steps.specs.World.{World, call_at}

@@ -5,8 +5,8 @@ use Rattle.machine_replay.specs.Vocabulary.{BLOCK_SLOTS, Running}
 use Rattle.law_chain.specs.ChainCells.{Mover, Rests, Laying, Opening, LinkState, Unlinked, Linking, Linked, Shown, Hidden, Showing, Seen, Spare, Chained, Chain, ChainOk, LinkOk, Next, First, Tail, mover_of, linker_of, shower_of}
 use Rattle.law_chain.specs.ChainAnswers.{linked_of, shown_of}
 use Rattle.law_chain.specs.ChainPasses.{spare_in, Spares}
-use Rattle.machine_steps.specs.declared.blocks.Place.{Place}
-use Rattle.machine_steps.specs.Blocks.{Block, blank, fresh_block}
+use Rattle.machine_memory.specs.declared.blocks.Place.{Place}
+use Rattle.machine_memory.specs.Blocks.{Block, blank, fresh_block}
 use Rattle.machine_steps.specs.ChainLeft.{unread, settled_front, front_at}
 use Rattle.machine_replay.proofs.ChainCodes.{BlockIs}
 use Rattle.machine_replay.proofs.ChainCounted.{InCall, StandsAt}

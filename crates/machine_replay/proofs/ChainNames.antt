@@ -4,7 +4,7 @@ use Rattle.machine_replay.specs.Vocabulary.{BLOCK_SLOTS}
 use Rattle.law_chain.specs.ChainCells.{item_at, GivenUp, Use, Unused, Spare, Chained, Chain}
 use Rattle.law_chain.specs.ChainFacts.{IsNamed}
 use Rattle.law_chain.specs.ChainAnswers.{tail_word, head_word, last_of, shown_of, linked_of, is_done, waits_at}
-use Rattle.machine_steps.specs.Blocks.{Block, fresh_block}
+use Rattle.machine_memory.specs.Blocks.{Block, fresh_block}
 use Rattle.machine_replay.proofs.ChainCodes.{BlockIs, SameItem, wrote_in, block_same}
 
 -- the block is there, and is the chain's block b

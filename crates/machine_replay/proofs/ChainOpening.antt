@@ -4,7 +4,7 @@ use Rattle.std.proofs.lemmas.List.{get_or_past}
 use Rattle.queue_steps.specs.State.{start}
 use Rattle.machine_replay.specs.Vocabulary.{Kind}
 use Rattle.law_chain.proofs.ChainFirst.{first, first_ok, first_idle, first_spares}
-use Rattle.machine_steps.specs.Left.{opening_shared}
+use Rattle.machine_memory.specs.Opening.{opening_shared}
 use Rattle.machine_replay.proofs.ChainFits.{ChainIdle}
 use Rattle.machine_replay.proofs.ChainHolding.{ChainHolds}
 

@@ -5,8 +5,8 @@ use Rattle.std.specs.Option.{option_to_list}
 use Rattle.machine_replay.specs.Vocabulary.{BLOCK_SLOTS, READ, Running}
 use Rattle.law_chain.specs.ChainCells.{Writer, Free, Writing, Wrote, Reader, Unread, Reading, Done, Chained, Chain, ChainOk, ItemOk, item_at, Part, Write, Read, owner, writer_of, reader_of}
 use Rattle.law_chain.specs.ChainAnswers.{is_done}
-use Rattle.machine_steps.specs.declared.blocks.Place.{Place}
-use Rattle.machine_steps.specs.Blocks.{Block, blank}
+use Rattle.machine_memory.specs.declared.blocks.Place.{Place}
+use Rattle.machine_memory.specs.Blocks.{Block, blank}
 use Rattle.machine_steps.specs.ChainLeft.{unread_in, unread, front_at}
 use Rattle.machine_replay.proofs.ChainCodes.{BlockIs, lies}
 use Rattle.machine_replay.proofs.ChainCounted.{InCall, StandsAt}

@@ -1,7 +1,7 @@
 -- Each step of a call on a chain leaves words, links and blocks that stand for the chain after it.
 use Rattle.law_chain.proofs.ChainStep.{step_good}
 use Rattle.law_chain.proofs.ChainRight.{step_right}
-use Rattle.machine_steps.specs.SharedMemory.{answer_to}
+use Rattle.machine_steps.specs.Steps.{answer_to}
 use Rattle.machine_replay.proofs.ChainCodedAll.{coded}
 use Rattle.machine_replay.proofs.ChainLaws.{StepsStand}
 

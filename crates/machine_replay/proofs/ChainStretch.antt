@@ -16,7 +16,8 @@ use Rattle.law_chain.proofs.ChainRanksStep.{step_falls}
 use Rattle.law_chain.proofs.ChainRight.{Ends, step_right}
 use Rattle.law_chain.proofs.ChainStep.{is_chain}
 use Rattle.machine_replay.specs.Book.{Open}
-use Rattle.machine_steps.specs.SharedMemory.{Shared, answer_to, step_of, running_after, next_after, carried_then, put_word, put_at, touched, operated, granted_if, block_touched, after_touch}
+use Rattle.machine_memory.specs.SharedMemory.{Shared, put_word, put_at, touched, operated, granted_if, block_touched}
+use Rattle.machine_steps.specs.Steps.{answer_to, step_of, running_after, next_after, carried_then, after_touch}
 use Rattle.machine_replay.proofs.ChainFar.{far_at, far_of, one_of_pop, by_call, goes_as, bounded}
 use Rattle.machine_replay.proofs.ChainFits.{ChainIdle, ChainFits}
 use Rattle.machine_replay.proofs.ChainHolding.{ChainHolds}

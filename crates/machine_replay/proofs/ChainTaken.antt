@@ -21,7 +21,8 @@ use Rattle.law_chain.proofs.ChainRanksWalk.{last_claimed}
 use Rattle.law_chain.proofs.ChainReads.{own_item}
 use Rattle.law_chain.proofs.ChainStep.{is_chain}
 use Rattle.machine_replay.specs.Book.{Open}
-use Rattle.machine_steps.specs.SharedMemory.{Shared, answer_to, step_of, running_after, next_after, carried_then}
+use Rattle.machine_memory.specs.SharedMemory.{Shared}
+use Rattle.machine_steps.specs.Steps.{answer_to, step_of, running_after, next_after, carried_then}
 use Rattle.machine_replay.proofs.ChainFar.{inner_low}
 use Rattle.machine_replay.proofs.ChainFits.{ChainFits}
 use Rattle.machine_replay.proofs.ChainHolding.{ChainHolds}

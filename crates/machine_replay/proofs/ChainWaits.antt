@@ -19,7 +19,8 @@ use Rattle.law_chain.proofs.ChainRanksPush.{push_tail_falls}
 use Rattle.law_chain.proofs.ChainReads.{own_item}
 use Rattle.law_chain.proofs.ChainStep.{is_chain}
 use Rattle.machine_steps.specs.Left.{opening_world}
-use Rattle.machine_steps.specs.SharedMemory.{Shared, answer_to, running_after, next_after, carried_then}
+use Rattle.machine_memory.specs.SharedMemory.{Shared}
+use Rattle.machine_steps.specs.Steps.{answer_to, running_after, next_after, carried_then}
 use Rattle.machine_steps.specs.World.{World, call_at}
 use Rattle.machine_replay.specs.Book.{Open}
 use Rattle.machine_replay.specs.Played.{told_of, world_after}

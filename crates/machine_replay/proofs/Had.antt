@@ -10,7 +10,8 @@ use Rattle.machine_replay.specs.Conforms.{capacity_of, party_of}
 use Rattle.machine_replay.specs.Progress.{reply_told}
 use Rattle.machine_replay.specs.Within.{is_step_of}
 use Rattle.machine_steps.specs.Machine.{event_of}
-use Rattle.machine_steps.specs.SharedMemory.{Shared, CanStep, step_of, start_of}
+use Rattle.machine_memory.specs.SharedMemory.{Shared}
+use Rattle.machine_steps.specs.Steps.{CanStep, step_of, start_of}
 use Rattle.machine_steps.specs.World.{World, call_at}
 use Rattle.machine_replay.proofs.Engine as engine
 use Rattle.machine_replay.proofs.Solo.{and-right, put-same, put-other}

@@ -5,11 +5,13 @@ use Rattle.queue_steps.specs.Sequential.{blocks_of}
 use Rattle.machine_replay.specs.Vocabulary.{Kind, Running}
 use Rattle.machine_replay.specs.Book.{Book, Open}
 use Rattle.machine_replay.specs.Conforms.{capacity_of, share}
-use Rattle.machine_steps.specs.Present.{present}
+use Rattle.machine_memory.specs.Present.{present}
 use Rattle.machine_replay.specs.Peaks.{held}
 use Rattle.machine_steps.specs.World.{World}
-use Rattle.machine_steps.specs.SharedMemory.{Shared, CanStep, step_of, start_of}
-use Rattle.machine_steps.specs.Left.{opening_shared, left_of}
+use Rattle.machine_memory.specs.SharedMemory.{Shared}
+use Rattle.machine_steps.specs.Steps.{CanStep, step_of, start_of}
+use Rattle.machine_memory.specs.Opening.{opening_shared}
+use Rattle.machine_steps.specs.Left.{left_of}
 use Rattle.machine_replay.proofs.Engine as engine
 
 -- the laws of the engine, at the shared memory of the machine

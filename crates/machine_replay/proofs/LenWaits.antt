@@ -14,7 +14,8 @@ use Rattle.law_chain.specs.ChainCells.{Chain}
 use Rattle.law_chain.specs.ChainAt as links
 use Rattle.machine_steps.specs.Left.{opening_world}
 use Rattle.machine_steps.specs.Machine.{event_of}
-use Rattle.machine_steps.specs.SharedMemory.{Shared, step_of, running_after}
+use Rattle.machine_memory.specs.SharedMemory.{Shared}
+use Rattle.machine_steps.specs.Steps.{step_of, running_after}
 use Rattle.machine_steps.specs.World.{World, call_at}
 use Rattle.machine_replay.specs.Book.{Open}
 use Rattle.machine_replay.specs.Played.{told_of, world_after}

@@ -4,12 +4,13 @@ use Rattle.std.proofs.lemmas.Bool.{le-ltb}
 use Rattle.machine_replay.specs.Vocabulary.{Kind, Event, Told, Peak, Step, Skipped, Running}
 use Rattle.machine_replay.specs.declared.machine_run.MachineRun.{MachineRun}
 use Rattle.machine_replay.specs.declared.machine_run.Ended.{Ended}
-use Rattle.machine_steps.specs.SharedMemory.{Shared}
+use Rattle.machine_memory.specs.SharedMemory.{Shared}
 use Rattle.machine_replay.specs.MachineRuns.{Comes, Continues, EndsAs, IsMachineRun, KeepsRun, IsSomeMachineRun}
 use Rattle.machine_steps.specs.Left.{HasSlot, left_of, opening_world}
-use Rattle.machine_steps.specs.Machine.{CanHandle, Handles, HasCount, event_of, world_of}
+use Rattle.machine_memory.specs.Room.{HasCount}
+use Rattle.machine_steps.specs.Machine.{CanHandle, Handles, event_of, world_of}
 use Rattle.machine_replay.specs.Peaks.{opening_peak, peaked}
-use Rattle.machine_steps.specs.Present.{present}
+use Rattle.machine_memory.specs.Present.{present}
 use Rattle.machine_replay.specs.Replays.{CanReplay, is_too_large}
 use Rattle.machine_steps.specs.World.{World, call_at}
 use Rattle.machine_replay.proofs.AllKinds.{Known, has_machine, has_slot, known-can, known-first, known-grows, known-more, known-peak, known-room}

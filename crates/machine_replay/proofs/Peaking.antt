@@ -7,11 +7,11 @@ use Rattle.machine_replay.specs.Vocabulary.{Event, Told, Peak, Running}
 use Rattle.machine_replay.specs.Book.{Book, Run, opening}
 use Rattle.machine_replay.specs.Conforms.{ComesBy, IsPeak, share}
 use Rattle.machine_replay.specs.Peaks.{bound_of, opening_peak, peaked}
-use Rattle.machine_steps.specs.Present.{present}
-use Rattle.machine_steps.specs.SharedMemory.{Shared}
+use Rattle.machine_memory.specs.Present.{present}
+use Rattle.machine_memory.specs.SharedMemory.{Shared}
 use Rattle.machine_steps.specs.World.{World}
 use Rattle.machine_replay.proofs.Counting.{same-accepted, same-blocks}
-use Rattle.machine_steps.proofs.Presence.{Sparing}
+use Rattle.machine_memory.proofs.Presence.{Sparing}
 
 -- a beginning of a list with one entry more is all of it, or a beginning of the list
 abbrev IsSplit : {A : Type 0} → List A → A → List A → List A → Type 0

@@ -1,8 +1,9 @@
 -- Operations on the words of a queue with a capacity: they need no block, and where there is none, none comes.
 use Rattle.std.proofs.Common.{◌≡◌, ◌∙◌, ◌==◌, ℕ, Bool, true, false, if◌then◌else◌, Option, Some, None, [], refl, ap}
 use Rattle.machine_replay.specs.Vocabulary.{Kind, Word, Op, Touch, Local, Running}
-use Rattle.machine_steps.specs.Blocks.{without}
-use Rattle.machine_steps.specs.SharedMemory.{Shared, word_at, put_word, operated, block_touched, touched, after_touch, after_operation, shared_then, step_of, CanStep}
+use Rattle.machine_memory.specs.Blocks.{without}
+use Rattle.machine_memory.specs.SharedMemory.{Shared, word_at, put_word, operated, block_touched, touched}
+use Rattle.machine_steps.specs.Steps.{after_touch, after_operation, shared_then, step_of, CanStep}
 
 abbrev pub IsPlainWord : Word ℕ → Type 0
 IsPlainWord (Word.State b i) = ⊥

@@ -11,7 +11,8 @@ use Rattle.machine_steps.specs.Machine.{CanHandle, event_of, world_of}
 use Rattle.machine_replay.specs.MachineRuns.{Comes, IsMachineRun}
 use Rattle.machine_replay.specs.Peaks.{opening_peak, peaked}
 use Rattle.machine_replay.specs.Played.{as_told, asks, event_told, is_request, lacks_memory, told_of, world_after}
-use Rattle.machine_steps.specs.SharedMemory.{CanReply, CanStep, Shared, after_touch, answer_to, answered, asked, carried_then, operated, reply_after, step_of}
+use Rattle.machine_memory.specs.SharedMemory.{Shared, answered, asked, operated}
+use Rattle.machine_steps.specs.Steps.{CanReply, CanStep, after_touch, answer_to, carried_then, reply_after, step_of}
 use Rattle.machine_steps.specs.World.{World, call_at, stepped, stepped_if}
 use Rattle.machine_replay.proofs.AllKinds.{Known, has_machine, known-can, known-first, known-more}
 

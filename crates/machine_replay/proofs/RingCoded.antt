@@ -2,7 +2,8 @@
 use Rattle.std.proofs.Common.{ℕ, ◌+◌, ◌<◌, ◌^◌, ◌≡◌, ◌==◌, ◌∙◌, Bool, true, false, Option, None, if◌then◌else◌, bit_or, refl, sym, ap, subst}
 use Rattle.machine_replay.specs.Vocabulary.{Word, Op, Touch, Answer, Running}
 use Rattle.law_ring.specs.RingShared as ring
-use Rattle.machine_steps.specs.SharedMemory.{Shared, HasWord, word_at, put_word, CanTouch, CanOperate, slots_there, block_touched, after_touch, after_operation, answer_to, answered, operated, carried_then, touched, handed}
+use Rattle.machine_memory.specs.SharedMemory.{Shared, HasWord, word_at, put_word, CanTouch, CanOperate, slots_there, block_touched, answered, operated, touched, handed}
+use Rattle.machine_steps.specs.Steps.{after_touch, after_operation, answer_to, carried_then}
 use Rattle.machine_replay.proofs.Plain.{IsPlainWord, IsPlain, plain-untouched}
 
 module _ {T : Type 0} where

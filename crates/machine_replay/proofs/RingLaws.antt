@@ -19,7 +19,8 @@ use Rattle.law_ring.proofs.RingStep.{step_good}
 use Rattle.law_ring.proofs.RingStart.{at_first}
 use Rattle.machine_replay.specs.Book.{Open, Allows, after_own, begun, joined}
 use Rattle.machine_steps.specs.World.{Made}
-use Rattle.machine_steps.specs.SharedMemory.{Shared, CanTouch, CanOperate, CanStep, CanReply, slots_there, block_touched, after_touch, answer_to, step_of, start_of, next_after, carried_then, running_after, reply_after, after_operation}
+use Rattle.machine_memory.specs.SharedMemory.{Shared, CanTouch, CanOperate, slots_there, block_touched}
+use Rattle.machine_steps.specs.Steps.{CanStep, CanReply, after_touch, answer_to, step_of, start_of, next_after, carried_then, running_after, reply_after, after_operation}
 use Rattle.machine_replay.proofs.Engine as engine
 use Rattle.machine_replay.proofs.Moments.{any_in, same_moments}
 use Rattle.machine_replay.proofs.FewSteps.{FewSteps, few_begun, few_joined, few_watched, few_own, few_stays}

@@ -8,7 +8,8 @@ use Rattle.machine_replay.specs.Vocabulary.{Call, Effect, Kind, Op, Touch, Local
 use Rattle.law_common.proofs.Tails.{position_tail}
 use Rattle.machine_replay.specs.Book.{Book, Open}
 use Rattle.machine_steps.specs.World.{World}
-use Rattle.machine_steps.specs.SharedMemory.{Shared, CanStep, step_of, start_of}
+use Rattle.machine_memory.specs.SharedMemory.{Shared}
+use Rattle.machine_steps.specs.Steps.{CanStep, step_of, start_of}
 use Rattle.machine_steps.specs.Left.{left_of, all_written, gathered}
 use Rattle.machine_replay.proofs.Engine as engine
 use Rattle.machine_replay.proofs.KindLaws.{SimulatesOf}

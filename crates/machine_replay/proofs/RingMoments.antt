@@ -9,7 +9,7 @@ use Rattle.law_ring.specs.RingCells.{Ring}
 use Rattle.law_ring.specs.RingAt.{At, push_tail, push_stamp, claiming, filling, push_head, displacing, arriving, swapping, spending, emptying, len_tail, len_head, len_again, empty_head, empty_tail, full_tail, full_head, closing, closed_tail}
 use Rattle.law_ring.proofs.RingGood.{IsEffect}
 use Rattle.machine_replay.specs.Book.{IsBegun, Open, Moves}
-use Rattle.machine_steps.specs.EffectOf.{effect_of}
+use Rattle.machine_memory.specs.EffectOf.{effect_of}
 use Rattle.machine_replay.proofs.Moments.{begun_push}
 use Rattle.machine_replay.proofs.Moving.{no_move, moved, won, marked, appends, takes}
 

@@ -3,7 +3,7 @@ use Rattle.std.proofs.Common.{ℕ, Some, refl}
 use Rattle.queue_steps.specs.State.{start}
 use Rattle.queue_steps.specs.Words.{IsRing}
 use Rattle.machine_replay.specs.Vocabulary.{Kind}
-use Rattle.machine_steps.specs.Left.{opening_shared}
+use Rattle.machine_memory.specs.Opening.{opening_shared}
 use Rattle.law_ring.specs.RingOpening.{opening_ring}
 use Rattle.law_ring.proofs.RingOpening.{opening_ok, opening_codes}
 use Rattle.machine_replay.proofs.RingLaws.{RingHolds, RingIdle}

@@ -22,7 +22,8 @@ use Rattle.law_ring.proofs.RingSlots.{nobody}
 use Rattle.law_ring.proofs.RingTransitions.{in_ring}
 use Rattle.law_ring.proofs.RingStep.{step_good}
 use Rattle.machine_replay.specs.Book.{Open}
-use Rattle.machine_steps.specs.SharedMemory.{Shared, word_at, step_of, running_after, carried_then, after_operation}
+use Rattle.machine_memory.specs.SharedMemory.{Shared, word_at}
+use Rattle.machine_steps.specs.Steps.{step_of, running_after, carried_then, after_operation}
 use Rattle.machine_replay.proofs.Plain.{plain-step}
 use Rattle.machine_replay.proofs.RingCoded.{part, same_step}
 use Rattle.machine_replay.proofs.RingLaws.{RingHolds, RingIdle, RingFits, ring_steps}

@@ -13,7 +13,8 @@ use Rattle.law_ring.specs.RingWords.{stamp_in}
 use Rattle.law_ring.proofs.RingCells.{together, wraps}
 use Rattle.law_ring.proofs.RingTransitions.{in_ring}
 use Rattle.machine_steps.specs.Left.{opening_world}
-use Rattle.machine_steps.specs.SharedMemory.{Shared, word_at, step_of, running_after}
+use Rattle.machine_memory.specs.SharedMemory.{Shared, word_at}
+use Rattle.machine_steps.specs.Steps.{step_of, running_after}
 use Rattle.machine_steps.specs.World.{World, call_at}
 use Rattle.machine_replay.specs.Book.{Open}
 use Rattle.machine_replay.specs.Played.{told_of, world_after}

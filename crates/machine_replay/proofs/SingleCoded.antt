@@ -4,8 +4,9 @@ use Rattle.machine_replay.specs.Vocabulary.{Call, Effect, Kind, Op, Touch, Local
 use Rattle.law_slot.specs.SlotShared as slot
 use Rattle.law_slot.specs.SlotHolder.{SlotHolder}
 use Rattle.law_slot.specs.SlotRows.{At, push_try, force_try_empty, force_try_full, pop_try, close_try, look_at}
-use Rattle.machine_steps.specs.Blocks.{without}
-use Rattle.machine_steps.specs.SharedMemory.{Shared, CanTouch, CanOperate, slots_there, block_touched, after_touch, after_operation, answer_to, carried_then, shared_then, spare_in, next_after}
+use Rattle.machine_memory.specs.Blocks.{without}
+use Rattle.machine_memory.specs.SharedMemory.{Shared, CanTouch, CanOperate, slots_there, block_touched}
+use Rattle.machine_steps.specs.Steps.{after_touch, after_operation, answer_to, carried_then, shared_then, spare_in, next_after}
 use Rattle.machine_replay.proofs.Plain.{without-none}
 
 module _ {T : Type 0} where

@@ -13,7 +13,8 @@ use Rattle.law_slot.proofs.SlotSteps.{step_good}
 use Rattle.law_slot.proofs.SlotRanks.{rank, rank_small, rank_some, Falls, step_falls, IsReplying, wait_free_ends, wait_free_one, can_operate}
 use Rattle.law_slot.proofs.SlotHolder.{share_of, next_who, own_self, own_other, own_alone}
 use Rattle.machine_replay.specs.Book.{Open, Allows, after_own, begun}
-use Rattle.machine_steps.specs.SharedMemory.{Shared, CanStep, CanReply, answer_to, step_of, start_of, running_after, reply_after, next_after, carried_then, shared_then}
+use Rattle.machine_memory.specs.SharedMemory.{Shared}
+use Rattle.machine_steps.specs.Steps.{CanStep, CanReply, answer_to, step_of, start_of, running_after, reply_after, next_after, carried_then, shared_then}
 use Rattle.machine_replay.proofs.Engine as engine
 use Rattle.machine_replay.proofs.Moments.{any_in}
 use Rattle.machine_replay.proofs.FewSteps.{FewSteps, few_begun, few_joined, few_watched, few_own, few_stays}

@@ -9,7 +9,8 @@ use Rattle.machine_replay.specs.Vocabulary.{Call, Effect, Kind, Op, Touch, Local
 use Rattle.law_slot.specs.SlotHolder.{SlotHolder, Nobody, Filling, Swapping, Keeps, Idle, own_of}
 use Rattle.law_slot.specs.SlotRows.{Stands, free_empty, free_full, filling, swapping, taking, At, push_put, force_put_empty, force_put_full}
 use Rattle.machine_replay.specs.Book.{Book, Open}
-use Rattle.machine_steps.specs.SharedMemory.{Shared, CanStep, step_of, start_of}
+use Rattle.machine_memory.specs.SharedMemory.{Shared}
+use Rattle.machine_steps.specs.Steps.{CanStep, step_of, start_of}
 use Rattle.machine_steps.specs.Left.{left_of, all_written}
 use Rattle.machine_steps.specs.World.{World, call_at}
 use Rattle.machine_replay.proofs.Engine as engine

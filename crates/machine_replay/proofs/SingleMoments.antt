@@ -8,7 +8,7 @@ use Rattle.law_common.specs.Effects.{Leads, with_effect, Whether}
 use Rattle.law_slot.specs.SlotHolder.{SlotHolder}
 use Rattle.law_slot.specs.SlotRows.{At, push_try, push_put, force_try_empty, force_try_full, force_put_empty, force_put_full, pop_try, pop_take, close_try, look_at, IsEffect}
 use Rattle.machine_replay.specs.Book.{IsBegun, Open, Moves}
-use Rattle.machine_steps.specs.EffectOf.{effect_of}
+use Rattle.machine_memory.specs.EffectOf.{effect_of}
 use Rattle.machine_replay.proofs.Moments.{begun_push}
 use Rattle.machine_replay.proofs.Moving.{no_move, moved, won, marked, appends, takes}
 

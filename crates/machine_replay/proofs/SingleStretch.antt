@@ -10,7 +10,8 @@ use Rattle.law_slot.specs.SlotRows.{Stands, free_empty, At, push_try, push_put, 
 use Rattle.law_slot.proofs.SlotHolder.{own_alone}
 use Rattle.law_slot.proofs.SlotRanks.{rank, rank_small, rank_some, Falls, step_falls}
 use Rattle.machine_replay.specs.Book.{Open}
-use Rattle.machine_steps.specs.SharedMemory.{Shared, step_of, running_after, next_after, carried_then, shared_then}
+use Rattle.machine_memory.specs.SharedMemory.{Shared}
+use Rattle.machine_steps.specs.Steps.{step_of, running_after, next_after, carried_then, shared_then}
 use Rattle.machine_replay.proofs.SingleCoded.{one_slot, same_step, shared_same}
 use Rattle.machine_replay.proofs.SingleLaws.{Holds, FitsIn, single_engine}
 use Rattle.machine_replay.specs.Progress.{AppendsReplyWithin, TakesReplyWithin, HalfDoneTakesNone, UnhinderedWithin, NeverWaits}

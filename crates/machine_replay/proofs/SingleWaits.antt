@@ -9,7 +9,8 @@ use Rattle.law_slot.specs.SlotShared as slot
 use Rattle.law_slot.specs.SlotHolder.{SlotHolder, Nobody, Taking, Keeps}
 use Rattle.law_slot.specs.SlotRows.{Stands, free_empty, free_full, filling, swapping, taking, At, push_try, push_put, force_put_empty, force_put_full, pop_take}
 use Rattle.machine_steps.specs.Left.{opening_world}
-use Rattle.machine_steps.specs.SharedMemory.{Shared, step_of, running_after, carried_then}
+use Rattle.machine_memory.specs.SharedMemory.{Shared}
+use Rattle.machine_steps.specs.Steps.{step_of, running_after, carried_then}
 use Rattle.machine_steps.specs.World.{World, call_at}
 use Rattle.machine_replay.specs.Book.{Open}
 use Rattle.machine_replay.specs.Played.{told_of, world_after}

@@ -3,13 +3,14 @@ use Rattle.std.proofs.Common.{ℕ, ◌+◌, ◌/◌, ◌<◌, ◌≤◌, ◌≡�
 use Rattle.std.proofs.lemmas.List.{length-replicate}
 use Rattle.machine_replay.specs.Vocabulary.{Kind, BLOCK_SLOTS, Event, Told, Peak, Running}
 use Rattle.machine_replay.specs.Book.{Book, Run, Happens, opening}
-use Rattle.machine_steps.specs.SharedMemory.{Shared, CanStep, step_of, start_of}
+use Rattle.machine_memory.specs.SharedMemory.{Shared}
+use Rattle.machine_steps.specs.Steps.{CanStep, step_of, start_of}
 use Rattle.machine_replay.specs.Conforms.{capacity_of, party_of, entries_from, IsPeak, HasNoBlocks, share}
 use Rattle.machine_steps.specs.Left.{left_of, opening_world}
 use Rattle.machine_steps.specs.Machine.{event_of}
 use Rattle.machine_steps.specs.World.{World, call_at}
-use Rattle.machine_steps.specs.Present.{present}
-use Rattle.machine_steps.proofs.Busy.{nobody_calls, none_are_busy}
+use Rattle.machine_memory.specs.Present.{present}
+use Rattle.machine_memory.proofs.Busy.{nobody_calls, none_are_busy}
 use Rattle.machine_replay.proofs.Engine as engine
 use Rattle.machine_replay.proofs.KindLaws.{KindLaws, SimulatesOf}
 use Rattle.machine_replay.proofs.Growing.{run-grows, run-cap, happens-grows}

@@ -8,13 +8,15 @@ use Rattle.queue_steps.specs.State.{State, start}
 use Rattle.machine_replay.specs.Vocabulary.{Call, Reply, Kind, Event, Told, Begin, Step, Skipped, Ran, Running}
 use Rattle.machine_replay.specs.Book.{Book, Open, Happens, opening}
 use Rattle.machine_replay.specs.Conforms.{capacity_of, party_of}
-use Rattle.machine_steps.specs.Left.{opening_shared, opening_world}
+use Rattle.machine_memory.specs.Opening.{opening_shared}
+use Rattle.machine_steps.specs.Left.{opening_world}
 use Rattle.machine_steps.specs.Machine.{event_of}
 use Rattle.machine_replay.specs.Played.{told_of, world_after}
-use Rattle.machine_steps.specs.SharedMemory.{Shared, CanStep, step_of, start_of}
+use Rattle.machine_memory.specs.SharedMemory.{Shared}
+use Rattle.machine_steps.specs.Steps.{CanStep, step_of, start_of}
 use Rattle.machine_replay.specs.Within.{is_step_of}
 use Rattle.machine_steps.specs.World.{World, call_at, can_begin, began, stepped_if}
-use Rattle.machine_steps.proofs.Busy.{nobody_calls, none_are_busy}
+use Rattle.machine_memory.proofs.Busy.{nobody_calls, none_are_busy}
 use Rattle.machine_replay.proofs.Engine as engine
 use Rattle.machine_replay.proofs.KindLaws.{LawsOf, SimulatesOf}
 use Rattle.machine_replay.specs.Progress.{Standing, Between, Undone, HalfDone, stands_after, stands_by, stands_then, effect_told, reply_told, IsLeftToIt, NobodyShows, IsSilent, HalfDoneTakesNone, UnhinderedWithin, NeverWaits}

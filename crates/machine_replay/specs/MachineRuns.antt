@@ -4,11 +4,12 @@ use Rattle.machine_replay.specs.Vocabulary.{Kind, Event, Told, Peak, Running}
 use Rattle.machine_replay.specs.declared.machine_run.MachineRun.{MachineRun}
 use Rattle.machine_replay.specs.declared.machine_run.Ended.{Ended}
 use Rattle.machine_replay.specs.Book.{Book, Run, opening}
-use Rattle.machine_steps.specs.SharedMemory.{Shared}
+use Rattle.machine_memory.specs.SharedMemory.{Shared}
 use Rattle.machine_replay.specs.Conforms.{HasNoBlocks, IsPeak, capacity_of, entries_from, reply_entry, skipped_entry}
 use Rattle.machine_replay.specs.InCall.{IsInCall}
 use Rattle.machine_steps.specs.Left.{left_of, opening_world}
-use Rattle.machine_steps.specs.Machine.{HasCount, HasRoom, event_of, world_of}
+use Rattle.machine_memory.specs.Room.{HasCount, HasRoom}
+use Rattle.machine_steps.specs.Machine.{event_of, world_of}
 use Rattle.machine_replay.specs.Peaks.{opening_peak, peaked}
 use Rattle.machine_replay.specs.Played.{IsMade}
 use Rattle.machine_replay.specs.Replays.{CanReplay, is_too_large}

@@ -3,8 +3,8 @@ use Rattle.std.specs.Prelude.{ℕ, ◌+◌, ◌-◌, ◌/◌, nat_lt, if◌then�
 use Rattle.machine_replay.specs.Vocabulary.{BLOCK_SLOTS, Peak, Running}
 use Rattle.queue_steps.specs.Words.{position_of}
 use Rattle.queue_steps.specs.ChainWords.{items_before}
-use Rattle.machine_steps.specs.SharedMemory.{Shared}
-use Rattle.machine_steps.specs.Present.{present}
+use Rattle.machine_memory.specs.SharedMemory.{Shared}
+use Rattle.machine_memory.specs.Present.{present}
 use Rattle.machine_steps.specs.World.{World}
 
 -- how many items a chain holds, by its head and its tail

@@ -6,7 +6,7 @@ use Rattle.machine_replay.specs.Conforms.{capacity_of, party_of}
 use Rattle.machine_steps.specs.Left.{opening_world}
 use Rattle.machine_replay.specs.Played.{told_of, world_after}
 use Rattle.machine_replay.specs.Replays.{CanReplay, is_too_large}
-use Rattle.machine_steps.specs.SharedMemory.{Shared}
+use Rattle.machine_memory.specs.SharedMemory.{Shared}
 use Rattle.machine_steps.specs.World.{World, call_at}
 use Rattle.machine_replay.specs.Within.{is_step_of}
 

@@ -7,7 +7,8 @@ use Rattle.queue_steps.specs.declared.steps.bounded.BoundedLocal.TheVariants as 
 use Rattle.queue_steps.specs.declared.steps.single.SingleLocal.TheVariants.{Pushing, Pushed, Forcing, Forced, Popping, Popped, Looking}
 use Rattle.queue_steps.specs.declared.steps.unbounded.UnboundedLocal.TheVariants as chain
 use Rattle.machine_steps.specs.Left.{opening_world}
-use Rattle.machine_steps.specs.SharedMemory.{Shared, step_of}
+use Rattle.machine_memory.specs.SharedMemory.{Shared}
+use Rattle.machine_steps.specs.Steps.{step_of}
 use Rattle.machine_steps.specs.World.{World, call_at}
 use Rattle.machine_steps.specs.Machine.{event_of}
 use Rattle.machine_replay.specs.Played.{told_of, world_after}

@@ -5,7 +5,7 @@ use Rattle.machine_steps.specs.Left.{opening_world}
 use Rattle.machine_steps.specs.Machine.{PassesAll}
 use Rattle.machine_steps.specs.World.{World}
 use Rattle.machine_replay.specs.declared.words.Words.{Words}
-use Rattle.machine_steps.specs.SharedMemory.{Shared}
+use Rattle.machine_memory.specs.SharedMemory.{Shared}
 
 -- these are the words of what is shared
 pub record AreWords {T A : Type 0} (s : Shared T) (w : Words A) : Type 0 where

@@ -1,12 +1,12 @@
 //! The list that a chain of blocks holds at the end of a run: what its calls in progress have claimed is done first.
 ghost use Rattle.std.specs.Prelude.{◌≡◌, ◌++◌, ◌+◌, ◌≤◌, Some, length, vec_len, vec_capacity};
 ghost use Rattle.queue_steps.specs.ChainWords.{offset_of};
-ghost use Rattle.machine_steps.specs.Blocks.{behind, put_state, put_item, put_next, without};
+ghost use Rattle.machine_memory.specs.Blocks.{behind, put_state, put_item, put_next, without};
 ghost use Rattle.machine_steps.specs.ChainLeft.{laid, marked, reached, settled_at, settled_by, settled_blocks, front_at, settled_front, unread_in, unread, unread_at, behind_at, chained, chain_left};
 
-use machine_steps::blocks::{self, Block, Place};
-use machine_steps::machine::Running;
-use machine_steps::shared_memory::named_block;
+use machine_memory::blocks::{self, Block, Place};
+use machine_memory::calls::Running;
+use machine_memory::shared_memory::named_block;
 use queue_steps::sizes::BLOCK_POSITIONS;
 use queue_steps::steps::{Local, READ, Touch, UnboundedLocal};
 use queue_steps::words::position_of;

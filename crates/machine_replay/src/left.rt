@@ -2,13 +2,14 @@
 ghost use Rattle.std.specs.Prelude.{◌≡◌, ◌++◌, ◌+◌, ◌-◌, ◌≤◌, ◌<◌, [], None, length, vec_len, vec_capacity, slice_index_or, slice_set};
 ghost use Rattle.std.specs.Option.{option_to_list};
 ghost use Rattle.queue_steps.specs.Words.{position_of};
-ghost use Rattle.machine_steps.specs.SharedMemory.{shared_of};
+ghost use Rattle.machine_memory.specs.SharedMemory.{shared_of};
 ghost use Rattle.machine_steps.specs.Left.{written, all_written, gathered, listed_in, HasSlot, left_of};
 ghost use Rattle.machine_steps.specs.Machine.{world_of};
 
 use crate::chain_left;
-use machine_steps::machine::{Machine, Running};
-use machine_steps::shared_memory::SharedMemory;
+use machine_memory::calls::Running;
+use machine_memory::shared_memory::SharedMemory;
+use machine_steps::machine::Machine;
 use queue_steps::steps::{Kind, PUSHED, Touch};
 use queue_steps::words::position_of;
 use std::alloc::Allocator;

@@ -10,5 +10,6 @@ mod peaks;
 mod run;
 pub mod words;
 
-pub use machine_steps::{blocks, machine, same, shared_memory, types};
+pub use machine_memory::{blocks, same, shared_memory, types};
+pub use machine_steps::machine;
 pub use run::replay;

@@ -2,19 +2,20 @@
 ghost use Rattle.std.specs.Prelude.{◌≡◌, ◌+◌, ◌≤◌, [], Bool, None, true, false, is_some, IfOk, IsErr, OnOk, slice_index_or, vec_len, vec_capacity};
 ghost use Rattle.machine_replay.specs.MachineRuns.{CanGoOn, Continues, IsMachineRun, IsSomeMachineRun, KeepsRun, Leaves, TellsCall};
 ghost use Rattle.machine_steps.specs.Left.{left_of};
-ghost use Rattle.machine_steps.specs.Machine.{HasRoomFor, KeepsRoom, event_of, world_of};
+ghost use Rattle.machine_memory.specs.Room.{HasRoomFor, KeepsRoom};
+ghost use Rattle.machine_steps.specs.Machine.{event_of, world_of};
 ghost use Rattle.machine_steps.specs.World.{call_at};
 ghost use Rattle.machine_replay.specs.Replays.{CanReplay, is_too_large};
-ghost use Rattle.machine_steps.specs.declared.types.Event.TheVariants.{Step};
-ghost use Rattle.machine_steps.specs.declared.types.Told.TheVariants.{Skipped};
+ghost use Rattle.machine_memory.specs.declared.types.Event.TheVariants.{Step};
+ghost use Rattle.machine_memory.specs.declared.types.Told.TheVariants.{Skipped};
 
 mod copies;
 
 use crate::left::left;
 use crate::peaks;
 use crate::run::too_large;
+use machine_memory::types::{Event, Handled, Peak, Told};
 use machine_steps::machine::Machine;
-use machine_steps::types::{Event, Handled, Peak, Told};
 use queue_steps::steps::Kind;
 use std::alloc::{AllocError, Allocator, Global};
 

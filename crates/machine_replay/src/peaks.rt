@@ -2,14 +2,15 @@
 ghost use Rattle.std.specs.Prelude.{◌≡◌, ◌<◌, ◌^◌, nat_lt, if◌then◌else◌, length};
 ghost use Rattle.queue_steps.specs.Words.{position_of};
 ghost use Rattle.queue_steps.specs.ChainWords.{items_before};
-ghost use Rattle.machine_steps.specs.SharedMemory.{shared_of};
-ghost use Rattle.machine_steps.specs.Machine.{world_of, HasCount};
+ghost use Rattle.machine_memory.specs.SharedMemory.{shared_of};
+ghost use Rattle.machine_memory.specs.Room.{HasCount};
+ghost use Rattle.machine_steps.specs.Machine.{world_of};
 ghost use Rattle.machine_replay.specs.Peaks.{held, bound_of, opening_peak, peaked};
-ghost use Rattle.machine_steps.specs.Present.{present};
+ghost use Rattle.machine_memory.specs.Present.{present};
 
+use machine_memory::shared_memory::SharedMemory;
+use machine_memory::types::Peak;
 use machine_steps::machine::Machine;
-use machine_steps::shared_memory::SharedMemory;
-use machine_steps::types::Peak;
 use queue_steps::sizes::{BLOCK_POSITIONS, BLOCK_SLOTS};
 use queue_steps::words::position_of;
 use std::alloc::Allocator;

@@ -6,7 +6,7 @@ ghost use Rattle.machine_replay.specs.Played.{IsPlayed};
 ghost use Rattle.machine_replay.specs.Replays.{CanReplay, is_too_large, IsRoomy};
 
 use crate::machine_run::{Ended, MachineRun};
-use machine_steps::types::{EffectKind, Event, Replay, Told};
+use machine_memory::types::{EffectKind, Event, Replay, Told};
 use queue_steps::model::Reply;
 use queue_steps::sizes::MAX_CAPACITY;
 use queue_steps::steps::Kind;

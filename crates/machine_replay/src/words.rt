@@ -1,14 +1,15 @@
 //! The words of a machine after a list of events.
 ghost use Rattle.std.specs.Prelude.{◌≡◌, true, IfOk, IsErr};
 ghost use Rattle.machine_steps.specs.Left.{opening_world};
-ghost use Rattle.machine_steps.specs.Machine.{CanHandle, HasCount, HasRoom, KeepsRoom, Passes, PassesAll, world_of};
+ghost use Rattle.machine_memory.specs.Room.{HasCount, HasRoom, KeepsRoom};
+ghost use Rattle.machine_steps.specs.Machine.{CanHandle, Passes, PassesAll, world_of};
 ghost use Rattle.machine_replay.specs.Replays.{CanReplay, is_too_large};
 ghost use Rattle.machine_replay.specs.WordsOf.{AreWordsAfter};
 
 use crate::run::too_large;
+use machine_memory::shared_memory::SharedMemory;
+use machine_memory::types::Event;
 use machine_steps::machine::Machine;
-use machine_steps::shared_memory::SharedMemory;
-use machine_steps::types::Event;
 use queue_steps::steps::Kind;
 use std::alloc::{AllocError, Allocator, Global};
 

@@ -2,10 +2,11 @@
 use Rattle.std.proofs.Common.{◌≡◌, ◌∙◌, ◌&&◌, ℕ, Bool, true, false, Option, Some, None, List, refl, sym, ap, slice_set}
 use Rattle.std.proofs.lemmas.List.{set-set}
 use Rattle.queue_steps.specs.declared.steps.types.Kind.{Kind}
-use Rattle.machine_steps.specs.declared.machine.Running.{Running}
-use Rattle.machine_steps.specs.declared.types.Event.TheVariants.{Step}
-use Rattle.machine_steps.specs.declared.types.Told.{Told}
-use Rattle.machine_steps.specs.SharedMemory.{Shared, step_of}
+use Rattle.machine_memory.specs.declared.calls.Running.{Running}
+use Rattle.machine_memory.specs.declared.types.Event.TheVariants.{Step}
+use Rattle.machine_memory.specs.declared.types.Told.{Told}
+use Rattle.machine_memory.specs.SharedMemory.{Shared}
+use Rattle.machine_steps.specs.Steps.{step_of}
 use Rattle.machine_steps.specs.Machine.{Handles, event_of}
 use Rattle.machine_steps.specs.World.{World, call_at, stepped}
 

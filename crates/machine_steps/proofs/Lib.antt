@@ -1,3 +1,2 @@
-pub mod Busy
+pub mod EventPresence
 pub mod Handling
-pub mod Presence

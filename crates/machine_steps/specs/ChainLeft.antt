@@ -10,10 +10,10 @@ use Rattle.queue_steps.specs.declared.steps.types.Touch.TheVariants as touch
 use Rattle.queue_steps.specs.declared.steps.unbounded.TheConstants.{READ}
 use Rattle.queue_steps.specs.declared.steps.unbounded.UnboundedLocal.{UnboundedLocal}
 use Rattle.queue_steps.specs.declared.steps.unbounded.UnboundedLocal.TheVariants as chain
-use Rattle.machine_steps.specs.declared.blocks.Place.{Place}
-use Rattle.machine_steps.specs.declared.machine.Running.{Running}
-use Rattle.machine_steps.specs.Blocks.{Block, block_of, places_in, behind, put_state, put_item, put_next, without}
-use Rattle.machine_steps.specs.SharedMemory.{block_touched}
+use Rattle.machine_memory.specs.declared.blocks.Place.{Place}
+use Rattle.machine_memory.specs.declared.calls.Running.{Running}
+use Rattle.machine_memory.specs.Blocks.{Block, block_of, places_in, behind, put_state, put_item, put_next, without}
+use Rattle.machine_memory.specs.SharedMemory.{block_touched}
 
 -- a push that claimed the last slot of a block writes it, and links the block that it lays
 abbrev pub laid : {T : Type 0} → ℕ → ℕ → ℕ → Option T → List (Option (Block T)) → List (Option (Block T))

@@ -1,8 +1,5 @@
 pub mod World
-pub mod EffectOf
-pub mod Present
-pub mod Blocks
-pub mod SharedMemory
+pub mod Steps
 pub mod ChainLeft
 pub mod Left
 pub mod Machine

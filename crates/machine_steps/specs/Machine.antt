@@ -1,36 +1,17 @@
 -- The machine as a value, and what one event of it owes.
-use Rattle.std.specs.Prelude.{◌≡◌, ℕ, ◌+◌, ◌≤◌, Bool, Some, List, [], ◌∷◌, vec_len, vec_capacity}
-use Rattle.machine_steps.specs.declared.shared_memory.SharedMemory.{SharedMemory}
+use Rattle.std.specs.Prelude.{◌≡◌, Bool, Some, List, [], ◌∷◌}
 use Rattle.queue_steps.specs.declared.steps.types.Kind.{Kind}
+use Rattle.machine_memory.specs.declared.calls.Running.{Running}
+use Rattle.machine_memory.specs.declared.types.Event.{Event}
+use Rattle.machine_memory.specs.declared.types.Event.TheVariants.{Begin, Step}
+use Rattle.machine_memory.specs.declared.types.Told.{Told}
+use Rattle.machine_memory.specs.SharedMemory.{Shared, shared_of}
 use Rattle.machine_steps.specs.declared.machine.Machine.{Machine}
-use Rattle.machine_steps.specs.declared.machine.Running.{Running}
-use Rattle.machine_steps.specs.declared.types.Event.{Event}
-use Rattle.machine_steps.specs.declared.types.Event.TheVariants.{Begin, Step}
-use Rattle.machine_steps.specs.declared.types.Told.{Told}
-use Rattle.machine_steps.specs.Present.{present}
 use Rattle.machine_steps.specs.World.{World, call_at, world_event}
-use Rattle.machine_steps.specs.SharedMemory.{Shared, shared_of, CanStart, CanStep, step_of, start_of}
+use Rattle.machine_steps.specs.Steps.{CanStart, CanStep, step_of, start_of}
 
 abbrev pub world_of : {T A : Type 0} → Machine T A → World (Shared T) (Running T)
 world_of m = record { shared = shared_of m.memory; calls = m.calls.items }
-
--- there is room for so many blocks more, and for one
-abbrev pub HasRoomFor : {T A : Type 0} → SharedMemory T A → ℕ → Type 0
-HasRoomFor c n = vec_len c.blocks + n ≤ vec_capacity c.blocks
-
-abbrev pub HasRoom : {T A : Type 0} → SharedMemory T A → Type 0
-HasRoom c = HasRoomFor c 1
-
--- no room was used, or that of one block at most
-abbrev pub HasSameRoom : {T A : Type 0} → SharedMemory T A → SharedMemory T A → Type 0
-HasSameRoom c d = (vec_len d.blocks ≡ vec_len c.blocks) × (vec_capacity d.blocks ≡ vec_capacity c.blocks)
-
-abbrev pub KeepsRoom : {T A : Type 0} → SharedMemory T A → SharedMemory T A → Type 0
-KeepsRoom c d = (vec_len d.blocks ≤ vec_len c.blocks + 1) × (vec_capacity d.blocks ≡ vec_capacity c.blocks)
-
--- the count that stands beside the blocks is how many of them are there
-abbrev pub HasCount : {T A : Type 0} → SharedMemory T A → Type 0
-HasCount c = c.alive ≡ present c.blocks.items
 
 -- the machine after an event, and what is told of it. `ok` says whether the allocator grants a block that is asked for
 abbrev pub event_of : {T : Type 0} → Kind → Bool → World (Shared T) (Running T) → Event T → World (Shared T) (Running T) × Told T

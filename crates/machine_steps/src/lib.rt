@@ -1,10 +1,4 @@
-//! The machine's words, slots, blocks and calls in progress, and what one event makes of them.
+//! What one event makes of the machine: what all share, and the call that each party is in.
 #![tactic(auto)]
 
-pub mod blocks;
-pub mod effects;
-mod feeding;
 pub mod machine;
-pub mod same;
-pub mod shared_memory;
-pub mod types;

@@ -1,44 +1,24 @@
 //! The machine: what the parties of a queue share, and the call that each is in.
-ghost use Rattle.std.specs.Prelude.{◌≡◌, ◌<◌, ⊤, Bool, IfOk, vec_len, true, false};
-ghost use Rattle.machine_steps.specs.SharedMemory.{shared_of, running_after, reply_after, CanReply, CanStep, CanStart, step_of, spare_in};
+ghost use Rattle.std.specs.Prelude.{◌≡◌, ◌<◌, Bool, IfOk, vec_len, true, false};
+ghost use Rattle.machine_memory.specs.Room.{HasRoom, HasRoomFor, KeepsRoom, HasSameRoom, HasCount};
+ghost use Rattle.machine_memory.specs.SharedMemory.{shared_of};
+ghost use Rattle.machine_memory.specs.declared.types.Event.TheVariants.{Begin};
 ghost use Rattle.machine_steps.specs.Left.{opening_world};
-ghost use Rattle.machine_steps.specs.Machine.{HasRoom, HasRoomFor, KeepsRoom, HasSameRoom, HasCount, world_of, event_of, CanHandle, Handles};
+ghost use Rattle.machine_steps.specs.Machine.{world_of, event_of, CanHandle, Handles};
+ghost use Rattle.machine_steps.specs.Steps.{running_after, reply_after, CanReply, CanStep, CanStart, step_of, spare_in};
 ghost use Rattle.machine_steps.specs.World.{stepped};
-ghost use Rattle.machine_steps.specs.declared.types.Event.TheVariants.{Begin};
 
-use crate::effects::effect;
-use crate::feeding::feed_calls;
-use crate::same::{Same, all_same};
-use crate::shared_memory::{SharedMemory, vacant};
-use crate::types::{Event, Handled, Told};
 use call_steps::{next, start};
+use machine_memory::calls::Running;
+use machine_memory::effects::effect;
+use machine_memory::feeding::feed_calls;
+use machine_memory::same::{Same, all_same};
+use machine_memory::shared_memory::{SharedMemory, vacant};
+use machine_memory::types::{Event, Handled, Told};
 use queue_steps::model::{Call, Reply};
-use queue_steps::steps::{Answer, Kind, Local, Next, Op, Touch};
+use queue_steps::steps::{Answer, Kind, Next};
 use std::alloc::{AllocError, Allocator};
 use std::hash::{Hash, Hasher};
-
-/// A call that was begun and not ended: where it stands, what its next step does, and the value that it carries.
-#[derive(Copy, Drop)]
-pub struct Running<T> {
-    /// Where the call stands once its next step is taken.
-    pub local: Local<usize>,
-    /// What its next step does to a slot.
-    pub touch: Touch,
-    /// What its next step does then.
-    pub op: Op<usize>,
-    /// The value that the call carries.
-    pub carried: Option<T>,
-}
-
-impl<T: Copy> Clone for Running<T> {
-    ghost is_clone = { λ x y. y ≡ x };
-
-    ghost is_infallible = { λ _. ⊤ };
-
-    fn clone(&self) -> Result<Running<T>, AllocError> {
-        Ok(*self)
-    }
-}
 
 /// A queue and its parties.
 #[derive(Drop)]

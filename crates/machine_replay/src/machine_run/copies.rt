@@ -4,11 +4,11 @@ ghost use Rattle.machine_steps.specs.Machine.{event_of, world_of};
 ghost use Rattle.machine_replay.specs.MachineRuns.{CanGoOn, KeepsRun};
 ghost use Rattle.machine_replay.specs.Played.{asks, local_in};
 ghost use Rattle.machine_steps.specs.World.{call_at};
-ghost use Rattle.machine_steps.specs.declared.types.Event.TheVariants.{Step};
+ghost use Rattle.machine_memory.specs.declared.types.Event.TheVariants.{Step};
 
 use super::MachineRun;
-use machine_steps::machine::Running;
-use machine_steps::same::Same;
+use machine_memory::calls::Running;
+use machine_memory::same::Same;
 use queue_steps::steps::{Kind, Local, Op};
 use std::alloc::{AllocError, Allocator};
 use std::hash::{FoldHasher, Hash, Hasher};

@@ -1,5 +1,5 @@
 use Rattle.std.proofs.Common.{◌∙◌, ◌-◌, ◌+◌, ◌<◌, ◌≤◌, arith, length}
-use Rattle.machine_steps.specs.Blocks.{without}
+use Rattle.machine_memory.specs.Blocks.{without}
 use Rattle.machine_steps.specs.ChainLeft.{unread_at, behind_at, chained}
 use Rattle.machine_replay.proofs.ChainGathering.{first-fits, first-taken, chained-next, chained-end}
 use Rattle.machine_replay.proofs.chain_left.gather_blocks.Goals as goal

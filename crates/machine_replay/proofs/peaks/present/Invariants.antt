@@ -1,5 +1,5 @@
 use Rattle.std.proofs.Common.{◌≡◌, ◌≤◌, ◌+◌, drop}
-use Rattle.machine_steps.specs.Present.{present}
+use Rattle.machine_memory.specs.Present.{present}
 use Rattle.machine_replay.proofs.peaks.present.Given as goal
 
 abbrev pub invariant-loop-place : goal.invariant-loop-place

@@ -1,5 +1,5 @@
 use Rattle.std.proofs.Common.{◌≡◌, ◌+◌, length}
-use Rattle.machine_steps.specs.Machine.{HasRoomFor}
+use Rattle.machine_memory.specs.Room.{HasRoomFor}
 use Rattle.machine_replay.specs.Replays.{IsRoomy}
 use Rattle.machine_replay.proofs.Noting.{Notes}
 use Rattle.machine_replay.proofs.run.replay.Given as goal

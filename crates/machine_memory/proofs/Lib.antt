@@ -1,0 +1,2 @@
+pub mod Busy
+pub mod Presence
