@@ -1,4 +1,5 @@
 //! Channels.
+pub mod ends;
 pub mod many_ends;
 pub mod memory;
 pub mod opening;

@@ -5,9 +5,9 @@ ghost use Rattle.counted_channel.specs.Channel.{IsEndOf};
 use crate::asserts::is;
 use crate::channel::opening::{Sent, opened};
 use crate::opening::open_surely;
-use concurrent_queue::{ConcurrentQueue, Exclusive, Party};
+use concurrent_queue::{ConcurrentQueue, Party};
 use counted_channel::{Channel, Receiver, SendError, Sender, channel};
-use std::alloc::{AllocError, Global};
+use std::alloc::Global;
 use std::process::Abort;
 use std::sync::Wait;
 use test_allocators::{Heap, Refusal};
@@ -15,56 +15,39 @@ use test_allocators::{Heap, Refusal};
 /// Whether a channel was made, the item that its queue has still, and whether that has one owner again. Then nothing of the channel is left but the queue.
 type Made = (bool, Option<u64>, bool);
 
-/// The queue of a channel that both its ends leave; nothing where a party is missing.
-fn finished<'a>(
-    channel: Channel<u64, &'a Heap>,
+/// What is left of a channel that both its ends leave. Its counts took their memory there.
+fn ended(
+    channel: Channel<u64, &Heap>,
     sender: Sender<u64>,
     receiver: Receiver<u64>,
-) -> Option<Exclusive<u64, &'a Heap>>
+    counts: &Heap,
+) -> Made
     requires { IsEndOf sender channel × IsEndOf receiver channel }
 {
     let (first, _) = channel.end_sender(sender);
     let (second, _) = channel.end_receiver(receiver);
     let party = channel.join(first, second);
-    channel.finish(party).ok()
+    match channel.finish(party) {
+        Ok(mut queue) => (true, queue.pop().ok(), counts.live() == 0),
+        Err(_) => (true, None, false),
+    }
 }
 
-/// A queue with the item 1, its party, and whether the item was pushed.
-fn with_one<'a, R: Wait + Abort>(
-    rt: &R,
-    heap: &'a Heap,
-) -> (ConcurrentQueue<u64, &'a Heap>, Party<u64>, bool)
-    ensures { IsPartyOf result.1 result.0 }
-{
-    let (queue, mut party) = open_surely(rt, heap, Some(2));
-    let pushed = queue.push(rt, &mut party, 1).is_ok();
-    (queue, party, pushed)
-}
-
-/// The item of a queue that is taken back, and whether that has one owner again.
-fn taken_back<R: Wait>(
-    rt: &R,
-    queue: ConcurrentQueue<u64, &Heap>,
-    mut party: Party<u64>,
-) -> (Option<u64>, bool)
+/// What is left of a queue that is taken back.
+fn taken_back<R: Wait>(rt: &R, queue: ConcurrentQueue<u64, &Heap>, mut party: Party<u64>) -> Made
     requires { IsPartyOf party queue }
 {
     let item = queue.pop(rt, &mut party).ok();
-    (item, queue.finish(party).is_ok())
+    (false, item, queue.finish(party).is_ok())
 }
 
 /// Makes a channel of a queue with the item 1, and ends and finishes it, or takes the queue back. The queue takes its memory elsewhere.
 fn make<R: Wait + Abort>(rt: &R, heap: &Heap, counts: &Heap) -> Made {
-    let (queue, party, pushed) = with_one(rt, heap);
+    let (queue, mut party) = open_surely(rt, heap, Some(2));
+    is(rt, queue.push(rt, &mut party, 1).is_ok(), true);
     match channel(counts, queue, party) {
-        Ok((channel, sender, receiver)) => match finished(channel, sender, receiver) {
-            Some(mut queue) => (true, queue.pop().ok(), pushed && counts.live() == 0),
-            None => (true, None, false),
-        },
-        Err((queue, party)) => {
-            let (item, whole) = taken_back(rt, queue, party);
-            (false, item, pushed && whole)
-        }
+        Ok((channel, sender, receiver)) => ended(channel, sender, receiver, counts),
+        Err((queue, party)) => taken_back(rt, queue, party),
     }
 }
 
@@ -91,26 +74,17 @@ fn a_refused_channel_gives_its_queue_back(rt: HostRuntime) {
     }
 }
 
-/// What a sender is answered that sends 1 and 2.
-fn sent_two<R: Wait>(rt: &R, channel: &Channel<u64, &Heap>, sender: &mut Sender<u64>) -> [Sent; 2]
-    requires { IsEndOf sender.old channel.now }
-{
-    [channel.send(rt, sender, 1), channel.send(rt, sender, 2)]
-}
+/// What a sender is answered that sends 1 and 2, and whether there are blocks then; nothing where there was no memory for a channel.
+type SentTwo = Option<(Sent, Sent, bool)>;
 
-/// The same on a channel of its own, and whether there are blocks then.
-fn send_two<R: Wait + Abort>(
-    rt: &R,
-    heap: &Heap,
-    cap: Option<usize>,
-) -> Result<([Sent; 2], bool), AllocError> {
-    match opened(rt, heap, cap) {
-        Ok((channel, mut sender, _receiver)) => {
-            let sent = sent_two(rt, &channel, &mut sender);
-            Ok((sent, heap.live() > 0))
-        }
-        Err(why) => Err(why),
-    }
+/// What a sender is answered that sends 1 and 2 on a channel of its own.
+fn send_two<R: Wait + Abort>(rt: &R, heap: &Heap, cap: Option<usize>) -> SentTwo {
+    let Ok((channel, mut sender, _receiver)) = opened(rt, heap, cap) else {
+        return None;
+    };
+    let first = channel.send(rt, &mut sender, 1);
+    let second = channel.send(rt, &mut sender, 2);
+    Some((first, second, heap.live() > 0))
 }
 
 /// The same where the allocator refuses a request, and how many blocks stay once the channel is dropped with its ends and its items.
@@ -119,7 +93,7 @@ fn send_two_and_drop<R: Wait + Abort>(
     alloc: Global,
     refusal: Refusal,
     cap: Option<usize>,
-) -> (Result<([Sent; 2], bool), AllocError>, u64) {
+) -> (SentTwo, u64) {
     let heap = Heap::new(alloc, refusal);
     (send_two(rt, &heap, cap), heap.live())
 }
@@ -129,8 +103,8 @@ fn send_two_and_drop<R: Wait + Abort>(
 fn a_refused_block_gives_the_value_back(rt: HostRuntime) {
     let mut refused: u64 = 0;
     for number in 1..10u64 {
-        let seen = send_two_and_drop(&rt, rt.alloc(), Refusal::Nth(number), None);
-        if seen.0 == Ok(([Err(SendError::NoMemory(1)), Ok(())], true)) {
+        let (sent, _) = send_two_and_drop(&rt, rt.alloc(), Refusal::Nth(number), None);
+        if sent == Some((Err(SendError::NoMemory(1)), Ok(()), true)) {
             refused = refused.wrapping_add(1);
         }
     }
@@ -141,6 +115,6 @@ fn a_refused_block_gives_the_value_back(rt: HostRuntime) {
 fn a_dropped_channel_leaves_nothing(rt: HostRuntime) {
     for cap in [Some(2), None] {
         let seen = send_two_and_drop(&rt, rt.alloc(), Refusal::Never, cap);
-        is(&rt, seen, (Ok(([Ok(()), Ok(())], true)), 0));
+        is(&rt, seen, (Some((Ok(()), Ok(()), true)), 0));
     }
 }

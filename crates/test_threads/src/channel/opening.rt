@@ -43,36 +43,6 @@ pub fn opened_surely(
     }
 }
 
-/// Two senders, of one that is parted. Asserts that it is.
-pub fn two_senders(
-    rt: &impl Abort,
-    channel: &Channel<u64>,
-    sender: Sender<u64>,
-) -> (Sender<u64>, Sender<u64>)
-    requires { IsEndOf sender channel.now }
-    ensures { IsEndOf result.0 channel.now × IsEndOf result.1 channel.now }
-{
-    match channel.split_sender(sender) {
-        Ok(both) => both,
-        Err(_) => panic!(rt; "no second sender"),
-    }
-}
-
-/// Two receivers, of one that is parted. Asserts that it is.
-pub fn two_receivers(
-    rt: &impl Abort,
-    channel: &Channel<u64>,
-    receiver: Receiver<u64>,
-) -> (Receiver<u64>, Receiver<u64>)
-    requires { IsEndOf receiver channel.now }
-    ensures { IsEndOf result.0 channel.now × IsEndOf result.1 channel.now }
-{
-    match channel.split_receiver(receiver) {
-        Ok(both) => both,
-        Err(_) => panic!(rt; "no second receiver"),
-    }
-}
-
 /// What is left of a channel: how many items, whether it was closed, and what two pops give.
 pub type Left = (usize, bool, Result<u64, PopError>, Result<u64, PopError>);
 

@@ -2,8 +2,14 @@
 ghost use Rattle.concurrent_queue.specs.Shared.{IsPartyOf};
 
 use crate::asserts::is;
-use crate::channel::opening::{Left, left, two_receivers};
-use crate::channel::stories::{Ask, Line, Story, tell};
+use crate::channel::ends::AnyEnd;
+use crate::channel::ends::Call::{
+    Capacity, Close, End, EndOneOfTwo, ForceSend, IsClosed, Items, Len, Recv, Send, TryRecv,
+    TrySend,
+};
+use crate::channel::opening::{Left, left};
+use crate::channel::stories::Line::{Receiver, Sender};
+use crate::channel::stories::{Story, tell};
 use crate::opening::{open_surely, part};
 use callers_channel::{end_rejoined, hand_through};
 use concurrent_queue::{Party, PopError, PushError};
@@ -15,13 +21,13 @@ use std::process::Abort;
 static ITEMS_BEFORE_THE_END: Story = Story {
     cap: Some(2),
     lines: &[
-        Line::Send(1, Ok(())),
-        Line::Send(2, Ok(())),
-        Line::EndSender(true),
-        Line::Recv(Ok(1)),
-        Line::Recv(Ok(2)),
-        Line::Recv(Err(Disconnected)),
-        Line::EndReceiver(true),
+        Sender(Send(1, Ok(()))),
+        Sender(Send(2, Ok(()))),
+        Sender(End(true)),
+        Receiver(Recv(Ok(1))),
+        Receiver(Recv(Ok(2))),
+        Receiver(Recv(Err(Disconnected))),
+        Receiver(End(true)),
     ],
     left: Some((0, true, Err(PopError::Closed), Err(PopError::Closed))),
 };
@@ -34,10 +40,10 @@ fn what_was_sent_comes_before_the_end(rt: HostRuntime) {
 static NO_RECEIVER: Story = Story {
     cap: Some(1),
     lines: &[
-        Line::Send(7, Ok(())),
-        Line::EndReceiver(true),
-        Line::Send(8, Err(SendError::Closed(8))),
-        Line::EndSender(true),
+        Sender(Send(7, Ok(()))),
+        Receiver(End(true)),
+        Sender(Send(8, Err(SendError::Closed(8)))),
+        Sender(End(true)),
     ],
     left: Some((1, true, Ok(7), Err(PopError::Closed))),
 };
@@ -50,11 +56,11 @@ fn nothing_is_sent_to_nobody(rt: HostRuntime) {
 static TWO_SENDERS: Story = Story {
     cap: None,
     lines: &[
-        Line::EndOneOfTwoSenders(false),
-        Line::Send(5, Ok(())),
-        Line::Recv(Ok(5)),
-        Line::EndSender(true),
-        Line::Recv(Err(Disconnected)),
+        Sender(EndOneOfTwo(false)),
+        Sender(Send(5, Ok(()))),
+        Receiver(Recv(Ok(5))),
+        Sender(End(true)),
+        Receiver(Recv(Err(Disconnected))),
     ],
     left: None,
 };
@@ -67,12 +73,12 @@ fn only_the_last_of_two_senders_closes(rt: HostRuntime) {
 static TWO_RECEIVERS: Story = Story {
     cap: Some(2),
     lines: &[
-        Line::EndOneOfTwoReceivers(false),
-        Line::OfSender(Ask::IsClosed(false)),
-        Line::Send(6, Ok(())),
-        Line::EndReceiver(true),
-        Line::OfSender(Ask::IsClosed(true)),
-        Line::Send(7, Err(SendError::Closed(7))),
+        Receiver(EndOneOfTwo(false)),
+        Sender(IsClosed(false)),
+        Sender(Send(6, Ok(()))),
+        Receiver(End(true)),
+        Sender(IsClosed(true)),
+        Sender(Send(7, Err(SendError::Closed(7)))),
     ],
     left: None,
 };
@@ -86,18 +92,18 @@ fn only_the_last_of_two_receivers_closes(rt: HostRuntime) {
 static CLOSED_BY_A_SENDER: Story = Story {
     cap: Some(2),
     lines: &[
-        Line::Send(1, Ok(())),
-        Line::OfSender(Ask::Close(true)),
-        Line::OfSender(Ask::Close(false)),
-        Line::OfSender(Ask::IsClosed(true)),
-        Line::OfReceiver(Ask::IsClosed(true)),
-        Line::Send(2, Err(SendError::Closed(2))),
-        Line::OfSender(Ask::Len(1)),
-        Line::Recv(Ok(1)),
-        Line::Recv(Err(Disconnected)),
-        Line::OfSender(Ask::Len(0)),
-        Line::EndSender(true),
-        Line::EndReceiver(true),
+        Sender(Send(1, Ok(()))),
+        Sender(Close(true)),
+        Sender(Close(false)),
+        Sender(IsClosed(true)),
+        Receiver(IsClosed(true)),
+        Sender(Send(2, Err(SendError::Closed(2)))),
+        Sender(Len(1)),
+        Receiver(Recv(Ok(1))),
+        Receiver(Recv(Err(Disconnected))),
+        Sender(Len(0)),
+        Sender(End(true)),
+        Receiver(End(true)),
     ],
     left: Some((0, true, Err(PopError::Closed), Err(PopError::Closed))),
 };
@@ -111,15 +117,15 @@ fn a_sender_closes(rt: HostRuntime) {
 static CLOSED_BY_A_RECEIVER: Story = Story {
     cap: None,
     lines: &[
-        Line::Send(3, Ok(())),
-        Line::OfReceiver(Ask::Close(true)),
-        Line::EndOneOfTwoReceivers(false),
-        Line::OfSender(Ask::IsClosed(true)),
-        Line::TrySend(4, Err(PushError::Closed(4))),
-        Line::ForceSend(5, Err(SendError::Closed(5))),
-        Line::OfReceiver(Ask::Close(false)),
-        Line::EndReceiver(true),
-        Line::EndSender(true),
+        Sender(Send(3, Ok(()))),
+        Receiver(Close(true)),
+        Receiver(EndOneOfTwo(false)),
+        Sender(IsClosed(true)),
+        Sender(TrySend(4, Err(PushError::Closed(4)))),
+        Sender(ForceSend(5, Err(SendError::Closed(5)))),
+        Receiver(Close(false)),
+        Receiver(End(true)),
+        Sender(End(true)),
     ],
     left: Some((1, true, Ok(3), Err(PopError::Closed))),
 };
@@ -132,11 +138,11 @@ fn a_receiver_closes(rt: HostRuntime) {
 static FORCED: Story = Story {
     cap: Some(1),
     lines: &[
-        Line::ForceSend(1, Ok(None)),
-        Line::ForceSend(2, Ok(Some(1))),
-        Line::Recv(Ok(2)),
-        Line::EndReceiver(true),
-        Line::ForceSend(3, Err(SendError::Closed(3))),
+        Sender(ForceSend(1, Ok(None))),
+        Sender(ForceSend(2, Ok(Some(1)))),
+        Receiver(Recv(Ok(2))),
+        Receiver(End(true)),
+        Sender(ForceSend(3, Err(SendError::Closed(3)))),
     ],
     left: None,
 };
@@ -150,14 +156,14 @@ fn the_front_gives_way(rt: HostRuntime) {
 static TRIED: Story = Story {
     cap: Some(1),
     lines: &[
-        Line::TryRecv(Err(PopError::Empty)),
-        Line::TrySend(1, Ok(())),
-        Line::TrySend(2, Err(PushError::Full(2))),
-        Line::OfReceiver(Ask::Len(1)),
-        Line::TryRecv(Ok(1)),
-        Line::OfReceiver(Ask::Len(0)),
-        Line::EndSender(true),
-        Line::TryRecv(Err(PopError::Closed)),
+        Receiver(TryRecv(Err(PopError::Empty))),
+        Sender(TrySend(1, Ok(()))),
+        Sender(TrySend(2, Err(PushError::Full(2)))),
+        Receiver(Len(1)),
+        Receiver(TryRecv(Ok(1))),
+        Receiver(Len(0)),
+        Sender(End(true)),
+        Receiver(TryRecv(Err(PopError::Closed))),
     ],
     left: None,
 };
@@ -170,10 +176,10 @@ fn one_try_is_one_call(rt: HostRuntime) {
 static ITERATED: Story = Story {
     cap: None,
     lines: &[
-        Line::Send(1, Ok(())),
-        Line::Send(2, Ok(())),
-        Line::EndSender(true),
-        Line::Items(Some(1), Some(2), None),
+        Sender(Send(1, Ok(()))),
+        Sender(Send(2, Ok(()))),
+        Sender(End(true)),
+        Receiver(Items(Some(1), Some(2), None)),
     ],
     left: None,
 };
@@ -186,12 +192,12 @@ fn items_come_until_the_end(rt: HostRuntime) {
 static CAPACITIES: [Story; 2] = [
     Story {
         cap: Some(3),
-        lines: &[Line::Capacity(Some(3))],
+        lines: &[Receiver(Capacity(Some(3)))],
         left: None,
     },
     Story {
         cap: None,
-        lines: &[Line::Capacity(None)],
+        lines: &[Receiver(Capacity(None))],
         left: None,
     },
 ];
@@ -235,7 +241,7 @@ fn end_both_rejoined(rt: &impl Abort, alloc: Global) -> Option<Left> {
         panic!(rt; "no memory");
     };
     let first = end_rejoined(&channel, sender);
-    let (one, two) = two_receivers(rt, &channel, receiver);
+    let (one, two) = receiver.two(rt, &channel);
     let (second, _) = channel.end_receiver(channel.join_receivers(one, two));
     let party = channel.join(first, second);
     left(channel, Some(party))

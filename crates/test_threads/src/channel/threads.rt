@@ -3,7 +3,8 @@ ghost use Rattle.concurrent_queue.specs.Shared.{IsPartyOf};
 ghost use Rattle.counted_channel.specs.Channel.{IsEndOf};
 
 use crate::asserts::{is, is_in};
-use crate::channel::opening::{Left, left, opened_surely, two_senders};
+use crate::channel::ends::AnyEnd;
+use crate::channel::opening::{Left, left, opened_surely};
 use callers_channel::gather;
 use concurrent_queue::Party;
 use counted_channel::{Channel, Receiver, SendError, Sender};
@@ -57,7 +58,7 @@ fn two_send<R: Threads + Wait + Abort + Sync>(
     alloc: Global,
 ) -> (u64, bool, u64, Option<Left>) {
     let (channel, sender, receiver) = opened_surely(rt, alloc, Some(400));
-    let (one, two) = two_senders(rt, &channel, sender);
+    let (one, two) = sender.two(rt, &channel);
     let ((a, sent, right), ((b, more, right_too), (c, taken))) = join(
         rt,
         || send_hundred(rt, &channel, one),

@@ -1,18 +1,12 @@
-//! Two threads that sleep until the other gives an item: one that is seen asleep before each, and two that take turns.
+//! Two threads that take turns, and sleep until the other gives an item: each that is seen asleep before, and as fast as they wake.
 use crate::asserts::is;
-use crate::sleep::watched::{LOOKS, Watched, pause};
+use crate::sleep::watched::Watched;
 use event_count::EventCount;
 use std::process::Abort;
 use std::sync::Wait;
 use std::sync::atomic::AtomicU64;
 use std::sync::atomic::Ordering::SeqCst;
 use std::thread::{Threads, join};
-
-/// How many items are given to a thread that is seen asleep.
-const ROUNDS: u64 = 1000;
-
-/// How many turns each of two threads takes.
-const TURNS: u64 = 50_000;
 
 /// Items for one thread, which sleeps where there is none.
 #[derive(Drop)]
@@ -66,67 +60,50 @@ impl Post {
     }
 }
 
-/// Whether the taker takes what there is, and is seen asleep then.
-fn is_seen_asleep(rt: &impl Abort, host: &HostRuntime, post: &Post) -> bool {
-    for _ in 0..LOOKS {
-        if post.items.load(SeqCst) == 0 {
-            return post.taker.is_seen_asleep(rt, host);
-        }
-        pause(host);
-    }
-    false
-}
-
-/// Takes each item.
-fn take_all<R: Wait + Abort>(rt: &R, host: &HostRuntime, post: &Post) {
-    post.taker.enter(rt, host);
-    for _ in 0..ROUNDS {
-        post.take(rt);
-    }
-}
-
-/// Gives each item, and returns whether the taker was seen asleep before each.
-fn give_all(rt: &impl Abort, host: &HostRuntime, post: &Post) -> bool {
+/// Takes turns with another thread, and looks before each, where it is to, until that is seen asleep. Gives whether it always was.
+fn take_turns<R: Wait + Abort>(
+    rt: &R,
+    host: &HostRuntime,
+    mine: &Post,
+    others: &Post,
+    turns: u64,
+    looks: bool,
+) -> bool {
+    mine.taker.enter(rt, host);
     let mut asleep = true;
-    for round in 0..ROUNDS {
-        asleep = asleep && is_seen_asleep(rt, host, post);
-        post.give(round);
+    for round in 0..turns {
+        mine.take(rt);
+        if looks {
+            asleep = asleep && others.taker.is_seen_asleep(rt, host);
+        }
+        others.give(round);
     }
     asleep
 }
 
-/// Takes turns with another thread.
-fn take_turns<R: Wait>(rt: &R, mine: &Post, others: &Post) {
-    for round in 0..TURNS {
-        mine.take(rt);
-        others.give(round);
-    }
-}
-
-/// Two threads take turns, as fast as they wake. Returns what is left for each.
-fn ping_pong<R: Threads + Wait + Sync>(rt: &R) -> (u64, u64) {
+/// Two threads take so many turns each, of which the first looks or none. Gives whether the second was always seen asleep, and what is left for each.
+fn turns_taken<R: Threads + Wait + Abort + Sync>(
+    rt: &R,
+    host: &HostRuntime,
+    turns: u64,
+    looks: bool,
+) -> (bool, u64, u64) {
     let first = Post::new(1);
     let second = Post::new(0);
-    join(
+    let (asleep, _) = join(
         rt,
-        || take_turns(rt, &first, &second),
-        || take_turns(rt, &second, &first),
+        || take_turns(rt, host, &first, &second, turns, looks),
+        || take_turns(rt, host, &second, &first, turns, false),
     );
-    (first.items.load(SeqCst), second.items.load(SeqCst))
+    (asleep, first.items.load(SeqCst), second.items.load(SeqCst))
 }
 
 #[test]
 fn each_item_wakes_a_sleeper(rt: HostRuntime) {
-    let post = Post::new(0);
-    let ((), asleep) = join(
-        &rt,
-        || take_all(&rt, &rt, &post),
-        || give_all(&rt, &rt, &post),
-    );
-    is(&rt, (asleep, post.items.load(SeqCst)), (true, 0));
+    is(&rt, turns_taken(&rt, &rt, 1000, true), (true, 1, 0));
 }
 
 #[test]
 fn no_turn_is_slept_through(rt: HostRuntime) {
-    is(&rt, ping_pong(&rt), (1, 0));
+    is(&rt, turns_taken(&rt, &rt, 50_000, false), (true, 1, 0));
 }

@@ -19,26 +19,41 @@ use std::process::Abort;
 use std::sync::Wait;
 use std::thread::{Threads, join};
 
-/// What the queue refuses.
-#[derive(Clone, Copy, Debug)]
-enum Refuses {
-    Push,
-    ForcePush,
-}
-
 /// Receives once, and is looked at.
 fn receive<R: Wait + Abort>(
     rt: &R,
     host: &HostRuntime,
     queue: &ConcurrentQueue<u64>,
     awaited: &Awaited,
-    party: &mut Party<u64>,
+    mut party: Party<u64>,
     watched: &Watched,
 ) -> Came
-    requires { IsPartyOf party.old queue.now }
+    requires { IsPartyOf party queue.now }
 {
     watched.enter(rt, host);
-    pop_until(queue, awaited, rt, party)
+    pop_until(queue, awaited, rt, &mut party)
+}
+
+/// Whether an item is refused as it is at a closed queue, where it is pushed, or pushed by force.
+fn is_refused<R: Wait>(
+    rt: &R,
+    queue: &ConcurrentQueue<u64>,
+    awaited: &Awaited,
+    party: &mut Party<u64>,
+    by_force: bool,
+) -> bool
+    requires { IsPartyOf party.old queue.now }
+{
+    if by_force {
+        force_push(queue, awaited, rt, party, 7) == Err(ForcePushError::Closed(7))
+    } else {
+        push(queue, awaited, rt, party, 7) == Err(PushError::Closed(7))
+    }
+}
+
+/// Whether both are seen asleep.
+fn are_asleep(rt: &impl Abort, host: &HostRuntime, both: &[Watched; 2]) -> bool {
+    both[0].is_seen_asleep(rt, host) && both[1].is_seen_asleep(rt, host)
 }
 
 /// Closes the queue, once two receivers are seen asleep, and then is refused an item while they sleep still. Gives whether it was so.
@@ -47,23 +62,36 @@ fn close_and_send<R: Wait + Abort>(
     host: &HostRuntime,
     queue: &ConcurrentQueue<u64>,
     awaited: &Awaited,
-    party: &mut Party<u64>,
-    how: Refuses,
-    first: &Watched,
-    second: &Watched,
+    mut party: Party<u64>,
+    by_force: bool,
+    receivers: &[Watched; 2],
 ) -> bool
-    requires { IsPartyOf party.old queue.now }
+    requires { IsPartyOf party queue.now }
 {
-    let asleep = first.is_seen_asleep(rt, host) && second.is_seen_asleep(rt, host);
-    let closed = queue.close(party);
-    let still = first.is_seen_asleep(rt, host) && second.is_seen_asleep(rt, host);
-    let refused = match how {
-        Refuses::Push => push(queue, awaited, rt, party, 7) == Err(PushError::Closed(7)),
-        Refuses::ForcePush => {
-            force_push(queue, awaited, rt, party, 7) == Err(ForcePushError::Closed(7))
-        }
-    };
-    asleep && closed && still && refused
+    let asleep = are_asleep(rt, host, receivers);
+    let closed = queue.close(&mut party);
+    let still = are_asleep(rt, host, receivers);
+    asleep && closed && still && is_refused(rt, queue, awaited, &mut party, by_force)
+}
+
+/// What the second receiver is answered, and whether both were seen asleep before.
+fn second_woken<R: Threads + Wait + Abort + Sync>(
+    rt: &R,
+    host: &HostRuntime,
+    queue: &ConcurrentQueue<u64>,
+    awaited: &Awaited,
+    receiver: Party<u64>,
+    sender: Party<u64>,
+    by_force: bool,
+    receivers: &[Watched; 2],
+) -> (Came, bool)
+    requires { IsPartyOf receiver queue.now × IsPartyOf sender queue.now }
+{
+    join(
+        rt,
+        || receive(rt, host, queue, awaited, receiver, &receivers[1]),
+        || close_and_send(rt, host, queue, awaited, sender, by_force, receivers),
+    )
 }
 
 /// What two receivers are answered that a refused item wakes, and whether both were seen asleep before.
@@ -71,34 +99,27 @@ fn woken<R: Threads + Wait + Abort + Sync>(
     rt: &R,
     host: &HostRuntime,
     alloc: Global,
-    how: Refuses,
-) -> (Came, Came, bool) {
+    by_force: bool,
+) -> (Came, (Came, bool)) {
     let (queue, party) = open_surely(rt, alloc, None);
-    let (mut one, others) = part(rt, &queue, party);
-    let (mut two, mut three) = part(rt, &queue, others);
+    let (one, others) = part(rt, &queue, party);
+    let (two, three) = part(rt, &queue, others);
     let awaited = Awaited::new();
-    let (first, second) = (Watched::new(), Watched::new());
-    let (came, (also, right)) = join(
+    let receivers = [Watched::new(), Watched::new()];
+    join(
         rt,
-        || receive(rt, host, &queue, &awaited, &mut one, &first),
+        || receive(rt, host, &queue, &awaited, one, &receivers[0]),
         || -> (Came, bool)
             requires { IsSync R.row × IsPartyOf two queue × IsPartyOf three queue }
-        {
-            join(
-                rt,
-                || receive(rt, host, &queue, &awaited, &mut two, &second),
-                || close_and_send(rt, host, &queue, &awaited, &mut three, how, &first, &second),
-            )
-        },
-    );
-    (came, also, right)
+        { second_woken(rt, host, &queue, &awaited, two, three, by_force, &receivers) },
+    )
 }
 
 #[test]
 fn a_refused_item_wakes_each_receiver(rt: HostRuntime) {
-    for how in [Refuses::Push, Refuses::ForcePush] {
-        let found = woken(&rt, &rt, rt.alloc(), how);
+    for by_force in [false, true] {
+        let found = woken(&rt, &rt, rt.alloc(), by_force);
         let gone = Err(Disconnected);
-        is_in(&rt, how, found, (gone, gone, true));
+        is_in(&rt, by_force, found, (gone, (gone, true)));
     }
 }

@@ -2,291 +2,316 @@
 ghost use Rattle.counted_channel.specs.Channel.{IsEndOf};
 ghost use denote.Param.Send.{IsSync};
 
-use crate::asserts::{is, is_in};
-use crate::channel::opening::{Came, Sent, opened_surely, two_receivers, two_senders};
-use crate::sleep::opening::full;
-use crate::sleep::watched::Watched;
-use counted_channel::{Channel, Disconnected, Receiver, SendError, Sender};
+use crate::asserts::is_in;
+use crate::channel::ends::{AnyEnd, Call};
+use crate::channel::opening::opened_surely;
+use crate::sleep::watched::{OWN, Watched, time};
+use counted_channel::{Channel, Disconnected, SendError, Sender};
 use std::alloc::Global;
 use std::process::Abort;
 use std::sync::Wait;
-use std::thread::{Threads, join};
+use std::thread::{Threads, join, sleep};
+use std::time::Duration;
 
 /// What an end sends, or is to send.
 pub(crate) const ITEM: u64 = 7;
 
-/// How an item comes.
-#[derive(Clone, Copy, Debug)]
-enum Sends {
-    Waiting,
-    Trying,
-    Forced,
+/// Which ends sleep, and which one wakes them.
+pub(crate) enum Who {
+    /// The only end of a side sleeps, and that of the other side wakes it.
+    One,
+    /// Two ends of a side sleep, and the only end of the other side wakes them.
+    Two,
+    /// Of two ends of a side one sleeps, and the other wakes it.
+    OneOfTwo,
 }
 
-/// How an item goes.
-#[derive(Clone, Copy, Debug)]
-enum Takes {
-    Waiting,
-    Trying,
+/// A call in which ends sleep.
+pub(crate) struct Sleep {
+    pub(crate) who: Who,
+    /// What each of them calls: it sends to a channel without room, or receives from an empty one.
+    pub(crate) call: Call,
+    /// For how many milliseconds they sleep on, once they are seen asleep.
+    pub(crate) pause: u64,
 }
 
-/// How a channel is closed by an end that is the only one of its side.
-#[derive(Clone, Copy, Debug)]
-enum Closes {
-    /// The end closes, and stays.
-    Staying,
-    /// The end ends.
-    Ending,
-}
+/// Whether each end that slept was answered as it was to be, whether each was seen asleep and then the call that wakes them was answered as it was to be, and how much
+/// processor time a sleeper took at most.
+pub(crate) type Woken = (bool, bool, u64);
 
-/// Receives once, and is looked at.
-pub(crate) fn receive<R: Wait + Abort>(
+/// Calls once, and is looked at. Gives whether it is answered so, and how much processor time it took.
+fn call_once<E: AnyEnd, R: Wait + Abort>(
     rt: &R,
     host: &HostRuntime,
     channel: &Channel<u64>,
-    receiver: &mut Receiver<u64>,
+    mut end: E,
+    call: &Call,
     watched: &Watched,
-) -> Came
-    requires { IsEndOf receiver.old channel.now }
+) -> (bool, u64)
+    requires { IsEndOf (E.end end) channel.now }
 {
     watched.enter(rt, host);
-    channel.recv(rt, receiver)
+    let before = time(rt, host, OWN);
+    let right = end.is_answered(rt, channel, call);
+    (right, time(rt, host, OWN).wrapping_sub(before))
 }
 
-/// Sends once, and is looked at.
-pub(crate) fn send<R: Wait + Abort>(
+/// Makes the call that wakes, once the other end is seen asleep. Gives whether it was, and the call is answered so.
+fn wake<E: AnyEnd, R: Wait + Abort>(
     rt: &R,
     host: &HostRuntime,
     channel: &Channel<u64>,
-    sender: &mut Sender<u64>,
-    watched: &Watched,
-) -> Sent
-    requires { IsEndOf sender.old channel.now }
-{
-    watched.enter(rt, host);
-    channel.send(rt, sender, ITEM)
-}
-
-/// Sends, once a receiver is seen asleep. Gives whether it was, and the item was sent.
-fn wake_by_item<R: Wait + Abort>(
-    rt: &R,
-    host: &HostRuntime,
-    channel: &Channel<u64>,
-    sender: &mut Sender<u64>,
-    how: Sends,
+    mut end: E,
+    call: &Call,
+    pause: u64,
     watched: &Watched,
 ) -> bool
-    requires { IsEndOf sender.old channel.now }
+    requires { IsEndOf (E.end end) channel.now }
 {
     let asleep = watched.is_seen_asleep(rt, host);
-    let sent = match how {
-        Sends::Waiting => channel.send(rt, sender, ITEM).is_ok(),
-        Sends::Trying => channel.try_send(rt, sender, ITEM).is_ok(),
-        Sends::Forced => channel.force_send(rt, sender, ITEM).is_ok(),
+    sleep(host, Duration::from_millis(pause));
+    let right = match call {
+        Call::End(last) => end.leave(channel).1 == *last,
+        _ => end.is_answered(rt, channel, call),
     };
-    asleep && sent
+    asleep && right
 }
 
-/// Takes an item, once a sender is seen asleep. Gives whether it was, and the item was the first.
-fn wake_by_room<R: Wait + Abort>(
+/// An end sleeps, and another one wakes it.
+fn one_sleeps<S: AnyEnd, W: AnyEnd, R: Threads + Wait + Abort + Sync>(
     rt: &R,
     host: &HostRuntime,
     channel: &Channel<u64>,
-    receiver: &mut Receiver<u64>,
-    how: Takes,
-    watched: &Watched,
-) -> bool
-    requires { IsEndOf receiver.old channel.now }
+    slept: &Sleep,
+    sleeper: S,
+    waker: W,
+    wakes: &Call,
+) -> Woken
+    requires { IsEndOf (S.end sleeper) channel.now × IsEndOf (W.end waker) channel.now }
 {
-    let asleep = watched.is_seen_asleep(rt, host);
-    let took = match how {
-        Takes::Waiting => channel.recv(rt, receiver) == Ok(0),
-        Takes::Trying => channel.try_recv(rt, receiver) == Ok(0),
-    };
-    asleep && took
+    let watched = Watched::new();
+    let ((answered, spent), woke) = join(
+        rt,
+        || -> (bool, u64)
+            requires { IsEndOf (S.end sleeper) channel.now }
+        { call_once(rt, host, channel, sleeper, &slept.call, &watched) },
+        || -> bool
+            requires { IsEndOf (W.end waker) channel.now }
+        { wake(rt, host, channel, waker, wakes, slept.pause, &watched) },
+    );
+    (answered, woke, spent)
 }
 
-/// What a receiver is answered that an item wakes, and whether it was seen asleep before.
-fn woken_by_item<R: Threads + Wait + Abort + Sync>(
+/// The same, once the one that sleeps already is seen asleep.
+fn another_sleeps<S: AnyEnd, W: AnyEnd, R: Threads + Wait + Abort + Sync>(
+    rt: &R,
+    host: &HostRuntime,
+    channel: &Channel<u64>,
+    slept: &Sleep,
+    sleeper: S,
+    waker: W,
+    wakes: &Call,
+    watched: &Watched,
+) -> Woken
+    requires { IsEndOf (S.end sleeper) channel.now × IsEndOf (W.end waker) channel.now }
+{
+    let asleep = watched.is_seen_asleep(rt, host);
+    let (answered, woke, spent) = one_sleeps(rt, host, channel, slept, sleeper, waker, wakes);
+    (answered, asleep && woke, spent)
+}
+
+/// Two ends sleep, and another one wakes them.
+fn two_sleep<S: AnyEnd, W: AnyEnd, R: Threads + Wait + Abort + Sync>(
+    rt: &R,
+    host: &HostRuntime,
+    channel: &Channel<u64>,
+    slept: &Sleep,
+    one: S,
+    two: S,
+    waker: W,
+    wakes: &Call,
+) -> Woken
+    requires { IsEndOf (S.end one) channel.now × IsEndOf (S.end two) channel.now × IsEndOf (W.end waker) channel.now }
+{
+    let watched = Watched::new();
+    let ((first, spent), (second, woke, also)) = join(
+        rt,
+        || -> (bool, u64)
+            requires { IsEndOf (S.end one) channel.now }
+        { call_once(rt, host, channel, one, &slept.call, &watched) },
+        || -> Woken
+            requires { IsSync R.row × IsEndOf (S.end two) channel.now × IsEndOf (W.end waker) channel.now }
+        { another_sleeps(rt, host, channel, slept, two, waker, wakes, &watched) },
+    );
+    (first && second, woke, spent.max(also))
+}
+
+/// Ends of the one side sleep, and one of the other side wakes them, or of the same.
+fn apart<S: AnyEnd, W: AnyEnd, R: Threads + Wait + Abort + Sync>(
+    rt: &R,
+    host: &HostRuntime,
+    channel: &Channel<u64>,
+    slept: &Sleep,
+    sleeper: S,
+    waker: W,
+    wakes: &Call,
+) -> Woken
+    requires { IsEndOf (S.end sleeper) channel.now × IsEndOf (W.end waker) channel.now }
+{
+    match &slept.who {
+        Who::One => one_sleeps(rt, host, channel, slept, sleeper, waker, wakes),
+        Who::Two => {
+            let (one, two) = sleeper.two(rt, channel);
+            two_sleep(rt, host, channel, slept, one, two, waker, wakes)
+        }
+        Who::OneOfTwo => {
+            let (one, two) = sleeper.two(rt, channel);
+            one_sleeps(rt, host, channel, slept, one, two, wakes)
+        }
+    }
+}
+
+/// Sends 0, 1, .. until a channel of one to three items has no room.
+fn fill<R: Wait>(rt: &R, channel: &Channel<u64>, sender: &mut Sender<u64>)
+    requires { IsEndOf sender.old channel.now }
+    ensures { IsEndOf sender.new channel.now }
+{
+    for item in 0..3u64 {
+        let _sent = channel.try_send(rt, sender, item);
+    }
+}
+
+/// What comes of it where ends sleep in this call, and this call wakes them.
+pub(crate) fn woken<R: Threads + Wait + Abort + Sync>(
     rt: &R,
     host: &HostRuntime,
     alloc: Global,
     cap: Option<usize>,
-    how: Sends,
-) -> (Came, bool) {
-    let (channel, mut sender, mut receiver) = opened_surely(rt, alloc, cap);
-    let watched = Watched::new();
-    join(
-        rt,
-        || receive(rt, host, &channel, &mut receiver, &watched),
-        || wake_by_item(rt, host, &channel, &mut sender, how, &watched),
-    )
+    slept: &Sleep,
+    wakes: &Call,
+) -> Woken {
+    let (channel, mut sender, receiver) = opened_surely(rt, alloc, cap);
+    match &slept.call {
+        Call::Send(..) => {
+            fill(rt, &channel, &mut sender);
+            apart(rt, host, &channel, slept, sender, receiver, wakes)
+        }
+        _ => apart(rt, host, &channel, slept, receiver, sender, wakes),
+    }
 }
 
-/// What a sender is answered that room wakes, and whether it was seen asleep before.
-fn woken_by_room<R: Threads + Wait + Abort + Sync>(
+/// A call in which ends sleep, on channels of each of these capacities, and the calls of which each wakes them.
+struct Waking {
+    slept: Sleep,
+    caps: &'static [Option<usize>],
+    wakes: &'static [Call],
+}
+
+/// Asserts that each of the calls wakes.
+fn each_wakes<R: Threads + Wait + Abort + Sync>(
     rt: &R,
     host: &HostRuntime,
     alloc: Global,
-    cap: usize,
-    how: Takes,
-) -> (Sent, bool) {
-    let (channel, mut sender, mut receiver) = full(rt, alloc, cap);
-    let watched = Watched::new();
-    join(
-        rt,
-        || send(rt, host, &channel, &mut sender, &watched),
-        || wake_by_room(rt, host, &channel, &mut receiver, how, &watched),
-    )
+    waking: &Waking,
+) {
+    for cap in waking.caps {
+        for (row, wakes) in waking.wakes.iter().enumerate() {
+            let (answered, woke, _) = woken(rt, host, alloc, *cap, &waking.slept, wakes);
+            is_in(rt, (*cap, row), (answered, woke), (true, true));
+        }
+    }
 }
 
-/// Whether two threads are seen asleep.
-fn are_asleep<R: Abort>(rt: &R, host: &HostRuntime, first: &Watched, second: &Watched) -> bool {
-    first.is_seen_asleep(rt, host) && second.is_seen_asleep(rt, host)
-}
-
-/// Closes by the only sender, once two receivers are seen asleep. Gives whether they were, and the channel was open.
-fn wake_by_sender<R: Abort>(
-    rt: &R,
-    host: &HostRuntime,
-    channel: &Channel<u64>,
-    mut sender: Sender<u64>,
-    how: Closes,
-    first: &Watched,
-    second: &Watched,
-) -> bool
-    requires { IsEndOf sender channel.now }
-{
-    let asleep = are_asleep(rt, host, first, second);
-    let closed = match how {
-        Closes::Staying => channel.close(&mut sender),
-        Closes::Ending => channel.end_sender(sender).1,
-    };
-    closed && asleep
-}
-
-/// Closes by the only receiver, once two senders are seen asleep. Gives whether they were, and the channel was open.
-fn wake_by_receiver<R: Abort>(
-    rt: &R,
-    host: &HostRuntime,
-    channel: &Channel<u64>,
-    mut receiver: Receiver<u64>,
-    how: Closes,
-    first: &Watched,
-    second: &Watched,
-) -> bool
-    requires { IsEndOf receiver channel.now }
-{
-    let asleep = are_asleep(rt, host, first, second);
-    let closed = match how {
-        Closes::Staying => channel.close(&mut receiver),
-        Closes::Ending => channel.end_receiver(receiver).1,
-    };
-    closed && asleep
-}
-
-/// What two receivers are answered that the only sender wakes, and whether both were seen asleep before.
-fn woken_by_sender<R: Threads + Wait + Abort + Sync>(
-    rt: &R,
-    host: &HostRuntime,
-    alloc: Global,
-    how: Closes,
-) -> (Came, Came, bool) {
-    let (channel, sender, receiver) = opened_surely(rt, alloc, Some(1));
-    let (mut one, mut two) = two_receivers(rt, &channel, receiver);
-    let (first, second) = (Watched::new(), Watched::new());
-    let (came, (also, asleep)) = join(
-        rt,
-        || receive(rt, host, &channel, &mut one, &first),
-        || -> (Came, bool)
-            requires { IsSync R.row × IsEndOf two channel × IsEndOf sender channel }
-        {
-            join(
-                rt,
-                || receive(rt, host, &channel, &mut two, &second),
-                || wake_by_sender(rt, host, &channel, sender, how, &first, &second),
-            )
-        },
-    );
-    (came, also, asleep)
-}
-
-/// What two senders are answered that the only receiver wakes, and whether both were seen asleep before.
-fn woken_by_receiver<R: Threads + Wait + Abort + Sync>(
-    rt: &R,
-    host: &HostRuntime,
-    alloc: Global,
-    how: Closes,
-) -> (Sent, Sent, bool) {
-    let (channel, sender, receiver) = full(rt, alloc, 2);
-    let (mut one, mut two) = two_senders(rt, &channel, sender);
-    let (first, second) = (Watched::new(), Watched::new());
-    let (sent, (also, asleep)) = join(
-        rt,
-        || send(rt, host, &channel, &mut one, &first),
-        || -> (Sent, bool)
-            requires { IsSync R.row × IsEndOf two channel × IsEndOf receiver channel }
-        {
-            join(
-                rt,
-                || send(rt, host, &channel, &mut two, &second),
-                || wake_by_receiver(rt, host, &channel, receiver, how, &first, &second),
-            )
-        },
-    );
-    (sent, also, asleep)
-}
+static RECEIVER: Waking = Waking {
+    slept: Sleep {
+        who: Who::One,
+        call: Call::Recv(Ok(ITEM)),
+        pause: 0,
+    },
+    caps: &[Some(1), Some(3), None],
+    wakes: &[
+        Call::Send(ITEM, Ok(())),
+        Call::TrySend(ITEM, Ok(())),
+        Call::ForceSend(ITEM, Ok(None)),
+    ],
+};
 
 #[test]
 fn an_item_wakes_a_receiver(rt: HostRuntime) {
-    for how in [Sends::Waiting, Sends::Trying, Sends::Forced] {
-        for cap in [Some(1usize), Some(3), None] {
-            let found = woken_by_item(&rt, &rt, rt.alloc(), cap, how);
-            is_in(&rt, (how, cap), found, (Ok(ITEM), true));
-        }
-    }
+    each_wakes(&rt, &rt, rt.alloc(), &RECEIVER);
 }
+
+static SENDER: Waking = Waking {
+    slept: Sleep {
+        who: Who::One,
+        call: Call::Send(ITEM, Ok(())),
+        pause: 0,
+    },
+    caps: &[Some(1), Some(3)],
+    wakes: &[Call::Recv(Ok(0)), Call::TryRecv(Ok(0))],
+};
 
 #[test]
 fn room_wakes_a_sender(rt: HostRuntime) {
-    for how in [Takes::Waiting, Takes::Trying] {
-        for cap in [1usize, 3] {
-            let found = woken_by_room(&rt, &rt, rt.alloc(), cap, how);
-            is_in(&rt, (how, cap), found, (Ok(()), true));
-        }
-    }
+    each_wakes(&rt, &rt, rt.alloc(), &SENDER);
 }
 
-/// What two receivers are answered that a close wakes.
-const GONE: (Came, Came, bool) = (Err(Disconnected), Err(Disconnected), true);
+static RECEIVERS: Waking = Waking {
+    slept: Sleep {
+        who: Who::Two,
+        call: Call::Recv(Err(Disconnected)),
+        pause: 0,
+    },
+    caps: &[Some(1)],
+    wakes: &[Call::End(true), Call::Close(true)],
+};
 
-/// What two senders are answered that a close wakes.
-const CLOSED: (Sent, Sent, bool) = (
-    Err(SendError::Closed(ITEM)),
-    Err(SendError::Closed(ITEM)),
-    true,
-);
-
+/// It ends, or it closes and stays.
 #[test]
 fn the_last_sender_wakes_each_receiver(rt: HostRuntime) {
-    let found = woken_by_sender(&rt, &rt, rt.alloc(), Closes::Ending);
-    is(&rt, found, GONE);
+    each_wakes(&rt, &rt, rt.alloc(), &RECEIVERS);
 }
 
-#[test]
-fn a_sender_that_closes_wakes_each_receiver(rt: HostRuntime) {
-    let found = woken_by_sender(&rt, &rt, rt.alloc(), Closes::Staying);
-    is(&rt, found, GONE);
-}
+static SENDERS: Waking = Waking {
+    slept: Sleep {
+        who: Who::Two,
+        call: Call::Send(ITEM, Err(SendError::Closed(ITEM))),
+        pause: 0,
+    },
+    caps: &[Some(2)],
+    wakes: &[Call::End(true), Call::Close(true)],
+};
 
+/// It ends, or it closes and stays.
 #[test]
 fn the_last_receiver_wakes_each_sender(rt: HostRuntime) {
-    let found = woken_by_receiver(&rt, &rt, rt.alloc(), Closes::Ending);
-    is(&rt, found, CLOSED);
+    each_wakes(&rt, &rt, rt.alloc(), &SENDERS);
 }
 
+static ONE_OF_TWO: [Waking; 2] = [
+    Waking {
+        slept: Sleep {
+            who: Who::OneOfTwo,
+            call: Call::Recv(Err(Disconnected)),
+            pause: 0,
+        },
+        caps: &[None],
+        wakes: &[Call::Close(true)],
+    },
+    Waking {
+        slept: Sleep {
+            who: Who::OneOfTwo,
+            call: Call::Send(ITEM, Err(SendError::Closed(ITEM))),
+            pause: 0,
+        },
+        caps: &[Some(2)],
+        wakes: &[Call::Close(true)],
+    },
+];
+
 #[test]
-fn a_receiver_that_closes_wakes_each_sender(rt: HostRuntime) {
-    let found = woken_by_receiver(&rt, &rt, rt.alloc(), Closes::Staying);
-    is(&rt, found, CLOSED);
+fn an_end_that_closes_wakes_another_of_its_side(rt: HostRuntime) {
+    for waking in &ONE_OF_TWO {
+        each_wakes(&rt, &rt, rt.alloc(), waking);
+    }
 }

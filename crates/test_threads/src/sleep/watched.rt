@@ -7,7 +7,7 @@ use std::thread::sleep;
 use std::time::Duration;
 
 /// How often a thread is looked at before it is taken to be awake for ever.
-pub(crate) const LOOKS: u64 = 5_000;
+const LOOKS: u64 = 5_000;
 
 /// How many microseconds there are between two looks.
 const PAUSE: u64 = 100;
@@ -28,8 +28,8 @@ impl Watched {
 
     /// The thread that calls this is looked at from now on.
     pub(crate) fn enter(&self, rt: &impl Abort, host: &HostRuntime) {
-        let text = read(rt, host, "/proc/thread-self/stat");
-        self.number.store(sum(&text, 0, 1), SeqCst);
+        let text = read(rt, host, OWN);
+        self.number.store(field(&text, 0), SeqCst);
     }
 
     /// Whether it sleeps.
@@ -57,18 +57,20 @@ impl Watched {
 }
 
 /// Waits for the next look.
-pub(crate) fn pause(host: &HostRuntime) {
+fn pause(host: &HostRuntime) {
     sleep(host, Duration::from_micros(PAUSE));
 }
 
-/// How much processor time this thread had, in hundredths of a second.
-pub(crate) fn own_time(rt: &impl Abort, host: &HostRuntime) -> u64 {
-    sum(&read(rt, host, "/proc/thread-self/stat"), 13, 2)
-}
+/// Where the system tells how much processor time this thread had.
+pub(crate) const OWN: &str = "/proc/thread-self/stat";
 
-/// How much processor time this process had, in hundredths of a second.
-pub(crate) fn process_time(rt: &impl Abort, host: &HostRuntime) -> u64 {
-    sum(&read(rt, host, "/proc/self/stat"), 13, 2)
+/// Where it tells how much all threads of this process had.
+pub(crate) const PROCESS: &str = "/proc/self/stat";
+
+/// How much processor time is told there, in hundredths of a second.
+pub(crate) fn time(rt: &impl Abort, host: &HostRuntime, path: &str) -> u64 {
+    let text = read(rt, host, path);
+    field(&text, 13).wrapping_add(field(&text, 14))
 }
 
 /// A text of the system. Asserts that it can be read.
@@ -79,11 +81,10 @@ fn read(rt: &impl Abort, host: &HostRuntime, path: &str) -> String {
     }
 }
 
-/// The sum of so many numbers, after so many fields of a text.
-fn sum(text: &str, after: usize, count: usize) -> u64 {
-    let mut sum: u64 = 0;
-    for field in text.split(' ').skip(after).take(count) {
-        sum = sum.wrapping_add(field.parse().unwrap_or(0));
+/// A number in a text, after so many fields.
+fn field(text: &str, after: usize) -> u64 {
+    match text.split(' ').nth(after) {
+        Some(field) => field.parse().unwrap_or(0),
+        None => 0,
     }
-    sum
 }

@@ -4,7 +4,7 @@ ghost use Rattle.concurrent_queue.specs.Shared.{IsPartyOf};
 
 use crate::asserts::{is, is_in};
 use crate::opening::open_surely;
-use concurrent_queue::{ConcurrentQueue, Party};
+use concurrent_queue::{ConcurrentQueue, Exclusive, Party};
 use queue_crew::{Gathered, Limit, NO_LIMIT, OnRefusal, Roster, Shift, run_shift};
 use std::alloc::Global;
 use std::process::Abort;
@@ -36,17 +36,6 @@ impl Shift<u64, Global> for Signing {
 /// What the caller pushes before the crew.
 const BEFORE: u64 = 1000;
 
-/// What came of a crew.
-#[derive(Debug, PartialEq, Drop)]
-struct Seen {
-    started: u64,
-    all_started: bool,
-    posts: Vec<Sign>,
-    /// What is in the queue then, in order of the numbers.
-    left: Vec<u64>,
-    closed: bool,
-}
-
 /// What came of such a crew. Asserts that there is memory for its posts.
 fn worked<R: Abort + Threads + Wait + Sync>(
     rt: &R,
@@ -64,80 +53,79 @@ fn worked<R: Abort + Threads + Wait + Sync>(
     }
 }
 
-/// What is in a queue that all parties have left, in order, and whether it was closed. Asserts that no party is missing, and that there are no more than so many items.
-fn left(
-    rt: &impl Abort,
-    alloc: Global,
-    queue: ConcurrentQueue<u64>,
-    party: Party<u64>,
-    most: u64,
-) -> (Vec<u64>, bool)
+/// The queue that a party leaves, which is to have all of it. Asserts that it has.
+fn left(rt: &impl Abort, queue: ConcurrentQueue<u64>, party: Party<u64>) -> Exclusive<u64>
     requires { IsPartyOf party queue }
 {
-    let Ok(mut queue) = queue.finish(party) else {
-        panic!(rt; "a party is missing");
-    };
-    let closed = queue.is_closed();
-    let mut left = Vec::new(alloc);
-    for _ in 0..most {
-        if let Ok(number) = queue.pop() {
-            left.push(number).expect(rt, "memory");
-        }
+    match queue.finish(party) {
+        Ok(left) => left,
+        Err(_) => panic!(rt; "a party is missing"),
     }
-    is(rt, queue.len(), 0);
-    left.sort().expect(rt, "memory");
-    (left, closed)
 }
 
-/// Runs such a crew on a queue with one item. Asserts that no party is missing then.
-fn run<R: Abort + Threads + Wait + Sync>(rt: &R, alloc: Global, roster: Roster) -> Seen {
+/// How many of these pushed their number.
+fn pushed(posts: &[Sign]) -> usize {
+    let mut count: usize = 0;
+    for (_, accepted) in posts {
+        count = count.wrapping_add(usize::from(*accepted));
+    }
+    count
+}
+
+/// Crosses a number off those that were pushed. Gives whether it was one of them, and not crossed off before.
+fn cross_off(posts: &mut [Sign], number: u64) -> bool {
+    match posts.get_mut(number as usize) {
+        Some(sign) => {
+            let before = *sign;
+            *sign = (number, false);
+            before == (number, true)
+        }
+        None => false,
+    }
+}
+
+/// Whether what is left is what the caller pushed, and then the numbers that so many of these pushed.
+fn are_left(queue: &mut Exclusive<u64>, posts: &mut [Sign], count: usize) -> bool {
+    let mut right = queue.pop() == Ok(BEFORE) && queue.len() == count;
+    for _ in 0..count {
+        right = match queue.pop() {
+            Ok(number) => cross_off(posts, number) && right,
+            Err(_) => false,
+        };
+    }
+    right
+}
+
+/// What came of a crew: how many threads were started, whether all were, whether the queue is closed, how many posts there are, how many of them pushed their number, and whether those numbers
+/// are in the queue.
+type Seen = (u64, bool, bool, usize, usize, bool);
+
+/// Runs such a crew on a queue with one item. Gives what came of it, and whether its last thread pushed its number.
+fn run<R: Abort + Threads + Wait + Sync>(rt: &R, alloc: Global, roster: Roster) -> (Seen, bool) {
     let (queue, mut party) = open_surely(rt, alloc, Some(64));
     is(rt, queue.push(rt, &mut party, BEFORE).is_ok(), true);
-    let most = roster.threads.saturating_add(1);
-    let crew = worked(rt, alloc, &queue, party, roster);
-    let (left, closed) = left(rt, alloc, queue, crew.party, most);
-    Seen {
-        started: crew.started,
-        all_started: crew.all_started,
-        posts: crew.posts,
-        left,
-        closed,
-    }
-}
-
-/// The numbers below `count`, each pushed.
-fn signs(rt: &impl Abort, alloc: Global, count: u64) -> Vec<Sign> {
-    let mut all = Vec::new(alloc);
-    for number in 0..count {
-        all.push((number, true)).expect(rt, "memory");
-    }
-    all
-}
-
-/// The numbers below `count`, and what the caller pushed.
-fn numbers(rt: &impl Abort, alloc: Global, count: u64) -> Vec<u64> {
-    let mut all = Vec::new(alloc);
-    for number in 0..count {
-        all.push(number).expect(rt, "memory");
-    }
-    all.push(BEFORE).expect(rt, "memory");
-    all
-}
-
-/// What is to be seen where each of the first `count` threads pushed its number, and so many were started.
-fn all_signed(rt: &impl Abort, alloc: Global, count: u64, started: u64) -> Seen {
-    Seen {
+    let Gathered {
+        party,
+        mut posts,
         started,
-        all_started: started == count,
-        posts: signs(rt, alloc, count),
-        left: numbers(rt, alloc, count),
-        closed: false,
-    }
+        all_started,
+    } = worked(rt, alloc, &queue, party, roster);
+    let mut left = left(rt, queue, party);
+    let closed = left.is_closed();
+    let count = pushed(&posts);
+    let last = match posts.last() {
+        Some((_, accepted)) => *accepted,
+        None => false,
+    };
+    let are_left = are_left(&mut left, &mut posts, count);
+    (
+        (started, all_started, closed, posts.len(), count, are_left),
+        last,
+    )
 }
 
 #[test]
 fn each_thread_works_once(rt: HostRuntime) {
-    let alloc = rt.alloc();
     for threads in [0, 1, 3, 40] {
         for on_refusal in [OnRefusal::GoOn, OnRefusal::CloseQueue] {
             let roster = Roster {
@@ -145,59 +133,51 @@ fn each_thread_works_once(rt: HostRuntime) {
                 limit: NO_LIMIT,
                 on_refusal,
             };
-            let seen = run(&rt, alloc, roster);
-            is_in(&rt, threads, seen, all_signed(&rt, alloc, threads, threads));
+            let (seen, _) = run(&rt, rt.alloc(), roster);
+            let all = threads as usize;
+            is_in(&rt, threads, seen, (threads, true, false, all, all, true));
         }
     }
+}
+
+/// What came of such a crew where of so many threads one is refused.
+fn refused<R: Abort + Threads + Wait + Sync>(
+    rt: &R,
+    alloc: Global,
+    threads: u64,
+    started: u64,
+    on_refusal: OnRefusal,
+) -> (Seen, bool) {
+    let roster = Roster {
+        threads,
+        limit: Limit(started),
+        on_refusal,
+    };
+    run(rt, alloc, roster)
 }
 
 /// One piece of work more than threads were started: the calling thread does it.
 #[test]
 fn the_work_of_a_thread_that_is_refused_is_done_here(rt: HostRuntime) {
-    let alloc = rt.alloc();
     for threads in [1, 3, 40] {
         for started in 0..threads {
-            let roster = Roster {
-                threads,
-                limit: Limit(started),
-                on_refusal: OnRefusal::GoOn,
-            };
-            let seen = run(&rt, alloc, roster);
-            let wanted = all_signed(&rt, alloc, started + 1, started);
-            is_in(&rt, (threads, started), seen, wanted);
+            let found = refused(&rt, rt.alloc(), threads, started, OnRefusal::GoOn);
+            let posts = started as usize + 1;
+            let wanted = ((started, false, false, posts, posts, true), true);
+            is_in(&rt, (threads, started), found, wanted);
         }
     }
-}
-
-/// The numbers that were pushed, as the posts say, and what the caller pushed.
-fn pushed(rt: &impl Abort, alloc: Global, posts: &[Sign]) -> Vec<u64> {
-    let mut all = Vec::new(alloc);
-    for (number, accepted) in posts.iter() {
-        if *accepted {
-            all.push(*number).expect(rt, "memory");
-        }
-    }
-    all.push(BEFORE).expect(rt, "memory");
-    all
 }
 
 /// What is pushed is what the posts say, and the thread that is refused finds the queue closed.
 #[test]
 fn the_queue_is_closed_where_a_thread_is_refused(rt: HostRuntime) {
-    let alloc = rt.alloc();
     for threads in [1, 3, 40] {
         for started in 0..threads {
-            let roster = Roster {
-                threads,
-                limit: Limit(started),
-                on_refusal: OnRefusal::CloseQueue,
-            };
-            let seen = run(&rt, alloc, roster);
-            let last = seen.posts.last() == Some(&(started, false));
-            let found = (seen.started, seen.closed, last);
-            is_in(&rt, (threads, started), found, (started, true, true));
-            let wanted = pushed(&rt, alloc, &seen.posts);
-            is_in(&rt, (threads, started), seen.left, wanted);
+            let found = refused(&rt, rt.alloc(), threads, started, OnRefusal::CloseQueue);
+            let posts = started as usize + 1;
+            let wanted = ((started, false, true, posts, found.0.4, true), false);
+            is_in(&rt, (threads, started), found, wanted);
         }
     }
 }

@@ -1,8 +1,6 @@
 //! Tasks that workers share come to what each comes to alone, in as many steps, and workers that have none sleep.
-ghost use Rattle.std.specs.Prelude.{true};
-
 use crate::asserts::{is, is_in};
-use crate::sleep::watched::process_time;
+use crate::sleep::watched::{PROCESS, time};
 use std::alloc::Global;
 use std::process::Abort;
 use std::sync::Wait;
@@ -13,44 +11,133 @@ use test_allocators::signs::wait_for;
 use test_allocators::{Heap, Refusal};
 use use_tasks::{Step, Task, run};
 
-/// A task of so many steps and one, each of which is counted. Its output is its value.
+/// What each task does, and what all count together.
 #[derive(Drop)]
-struct Countdown<'a> {
-    steps: &'a AtomicU64,
-    left: u64,
-    value: u64,
+enum Does {
+    /// It has one to so many steps, each of which is counted.
+    Counts(u64),
+    /// It is done once so many have come. Each that has come is counted.
+    Meets(u64),
+    /// Its one step ends once the steps of so many are in progress, or after a while. Those that met are counted.
+    Blocks(u64),
+    /// It sleeps for 10 milliseconds in each of so many steps, which are counted.
+    Sleeps(u64),
 }
 
-impl<'a> Task for Countdown<'a> {
+/// What the tasks of a test share.
+#[derive(Drop)]
+struct Board<'h> {
+    host: &'h HostRuntime,
+    does: Does,
+    counted: AtomicU64,
+    came: AtomicU64,
+    all_are_here: AtomicBool,
+}
+
+impl<'h> Board<'h> {
+    /// Of tasks that have done nothing.
+    fn new(host: &'h HostRuntime, does: Does) -> Board<'h> {
+        Board {
+            host,
+            does,
+            counted: AtomicU64::new(0),
+            came: AtomicU64::new(0),
+            all_are_here: AtomicBool::new(false),
+        }
+    }
+
+    /// How many were counted.
+    fn count(&self) -> u64 {
+        self.counted.load(Ordering::SeqCst)
+    }
+
+    /// Counts one more.
+    fn add(&self) {
+        self.counted.fetch_add(1, Ordering::SeqCst);
+    }
+
+    /// Waits until the steps of so many are in progress, though not for ever.
+    fn block(&self, all: u64) {
+        let before = self.came.fetch_add(1, Ordering::SeqCst);
+        if before.wrapping_add(1) == all {
+            self.all_are_here.store(true, Ordering::SeqCst);
+        }
+        if wait_for(&self.all_are_here) {
+            self.add();
+        }
+    }
+
+    /// A step of the task of this number, after so many of it. Gives whether the task is done.
+    fn step(&self, number: u64, before: u64) -> bool {
+        match self.does {
+            Does::Counts(most) => {
+                self.add();
+                before == steps_but_one(number, most)
+            }
+            Does::Meets(all) => {
+                if before == 0 {
+                    self.add();
+                }
+                self.count() >= all
+            }
+            Does::Blocks(all) => {
+                self.block(all);
+                true
+            }
+            Does::Sleeps(steps) => {
+                self.add();
+                sleep(self.host, Duration::from_millis(10));
+                before.wrapping_add(1) == steps
+            }
+        }
+    }
+}
+
+/// How many steps a task has besides its last, where it is one that counts them.
+fn steps_but_one(number: u64, most: u64) -> u64 {
+    number.wrapping_mul(7) % most.max(1)
+}
+
+/// A task. Its output is its number.
+#[derive(Drop)]
+struct Numbered<'a> {
+    board: &'a Board<'a>,
+    number: u64,
+    /// How many steps it has taken.
+    taken: u64,
+}
+
+impl<'a> Task for Numbered<'a> {
     type Output = u64;
 
-    ghost outcome = { λ t. t.value };
+    ghost outcome = { λ t. t.number };
 
-    fn step(self) -> Step<Countdown<'a>, u64> {
-        self.steps.fetch_add(1, Ordering::SeqCst);
-        if self.left == 0 {
-            return Step::Done(self.value);
+    fn step(self) -> Step<Numbered<'a>, u64> {
+        if self.board.step(self.number, self.taken) {
+            return Step::Done(self.number);
         }
-        Step::More(Countdown {
-            steps: self.steps,
-            left: self.left - 1,
-            value: self.value,
+        Step::More(Numbered {
+            board: self.board,
+            number: self.number,
+            taken: self.taken.wrapping_add(1),
         })
     }
 }
 
-/// So many tasks, of 1 to so many steps, in memory of this heap.
-fn countdowns<'a, 'b>(
+/// So many tasks, in memory of this heap.
+fn many<'a, 'b>(
     rt: &impl Abort,
     heap: &'a Heap,
-    steps: &'b AtomicU64,
+    board: &'b Board<'b>,
     count: u64,
-    most: u64,
-) -> Vec<Countdown<'b>, &'a Heap> {
+) -> Vec<Numbered<'b>, &'a Heap> {
     let mut tasks = Vec::with_capacity(heap, count as usize).expect(rt, "memory");
-    for value in 0..count {
-        let left = value.wrapping_mul(7) % most.max(1);
-        let task = Countdown { steps, left, value };
+    for number in 0..count {
+        let task = Numbered {
+            board,
+            number,
+            taken: 0,
+        };
         tasks.push(task).expect(rt, "memory");
     }
     tasks
@@ -58,40 +145,53 @@ fn countdowns<'a, 'b>(
 
 /// Whether these are 0, 1, .. up to `count`, which is left out.
 fn are_all(values: &[u64], count: u64) -> bool {
+    for (i, value) in values.iter().enumerate() {
+        if *value != i as u64 {
+            return false;
+        }
+    }
     values.len() as u64 == count
-        && values
-            .iter()
-            .enumerate()
-            .all(|(i, value)| *value == i as u64)
 }
 
-/// How many steps such tasks have together.
+/// Runs so many tasks. Gives whether each output is its task's own, or else whether all tasks come back.
+fn ran<R: Threads + Wait + Abort + Sync>(
+    rt: &R,
+    heap: &Heap,
+    board: &Board<'_>,
+    count: u64,
+    workers: u64,
+) -> Result<bool, bool> {
+    let tasks = many(rt, heap, board, count);
+    match run(rt, &heap, tasks, workers) {
+        Ok(outputs) => Ok(are_all(&outputs, count)),
+        Err(back) => Err(back.len() as u64 == count),
+    }
+}
+
+/// What comes of tasks that do this: whether each output is its task's own, how many they counted, and how many blocks stay.
+fn worked<R: Threads + Wait + Abort + Sync>(
+    rt: &R,
+    host: &HostRuntime,
+    alloc: Global,
+    does: Does,
+    count: u64,
+    workers: u64,
+) -> (Result<bool, bool>, u64, u64) {
+    let heap = Heap::new(alloc, Refusal::Never);
+    let board = Board::new(host, does);
+    let right = ran(rt, &heap, &board, count, workers);
+    (right, board.count(), heap.live())
+}
+
+/// How many steps so many tasks have together that count them.
 fn all_steps(count: u64, most: u64) -> u64 {
     let mut sum: u64 = 0;
-    for value in 0..count {
+    for number in 0..count {
         sum = sum
-            .wrapping_add(value.wrapping_mul(7) % most.max(1))
+            .wrapping_add(steps_but_one(number, most))
             .wrapping_add(1);
     }
     sum
-}
-
-/// What comes of such tasks: whether each output is its task's own, how many steps were taken, and how many blocks stay.
-fn worked<R: Threads + Wait + Abort + Sync>(
-    rt: &R,
-    alloc: Global,
-    count: u64,
-    most: u64,
-    workers: u64,
-) -> (bool, u64, u64) {
-    let heap = Heap::new(alloc, Refusal::Never);
-    let steps = AtomicU64::new(0);
-    let tasks = countdowns(rt, &heap, &steps, count, most);
-    let right = match run(rt, &&heap, tasks, workers) {
-        Ok(outputs) => are_all(&outputs, count),
-        Err(_) => false,
-    };
-    (right, steps.load(Ordering::SeqCst), heap.live())
 }
 
 #[test]
@@ -106,190 +206,65 @@ fn each_output_is_its_tasks_own(rt: HostRuntime) {
         (7, 5000, 3),
         (100, 60, 40),
     ] {
-        let found = worked(&rt, rt.alloc(), count, most, workers);
-        let wanted = (true, all_steps(count, most), 0);
+        let found = worked(&rt, &rt, rt.alloc(), Does::Counts(most), count, workers);
+        let wanted = (Ok(true), all_steps(count, most), 0);
         is_in(&rt, (count, most, workers), found, wanted);
     }
-}
-
-/// What comes of 20 tasks where this heap refuses a request that is not the first, in which the tasks lie: how many outputs, and whether the tasks that come back have had no step.
-fn refused<R: Threads + Wait + Abort + Sync>(rt: &R, heap: &Heap) -> (Option<u64>, bool) {
-    let steps = AtomicU64::new(0);
-    let tasks = countdowns(rt, heap, &steps, 20, 5);
-    match run(rt, &heap, tasks, 3) {
-        Ok(outputs) => (Some(outputs.len() as u64), true),
-        Err(back) => (None, back.len() == 20 && steps.load(Ordering::SeqCst) == 0),
-    }
-}
-
-/// Each request that is made is refused in turn: then the tasks come back, and in the end nothing of them is left.
-#[test]
-fn a_refused_request_gives_the_tasks_back(rt: HostRuntime) {
-    let mut given_back: u64 = 0;
-    let mut done: u64 = 0;
-    for number in 2..20u64 {
-        let heap = Heap::new(rt.alloc(), Refusal::Nth(number));
-        let (outputs, untouched) = refused(&rt, &heap);
-        is_in(&rt, number, (untouched, heap.live()), (true, 0));
-        match outputs {
-            Some(count) => {
-                is_in(&rt, number, (count, heap.requests() < number), (20, true));
-                done = done.wrapping_add(1);
-            }
-            None => given_back = given_back.wrapping_add(1),
-        }
-    }
-    is(&rt, (given_back > 3, done > 0), (true, true));
-}
-
-/// A task that is done once all have come.
-#[derive(Drop)]
-struct Meeting<'a> {
-    came: &'a AtomicU64,
-    all: u64,
-    here: bool,
-}
-
-impl<'a> Task for Meeting<'a> {
-    type Output = u64;
-
-    ghost outcome = { λ t. t.all };
-
-    fn step(self) -> Step<Meeting<'a>, u64> {
-        if !self.here {
-            self.came.fetch_add(1, Ordering::SeqCst);
-        }
-        if self.came.load(Ordering::SeqCst) >= self.all {
-            return Step::Done(self.all);
-        }
-        Step::More(Meeting {
-            came: self.came,
-            all: self.all,
-            here: true,
-        })
-    }
-}
-
-/// Whether each of so many tasks that wait for each other is done, and how many have come.
-fn met<R: Threads + Wait + Abort + Sync>(
-    rt: &R,
-    alloc: Global,
-    all: u64,
-    workers: u64,
-) -> (bool, u64) {
-    let came = AtomicU64::new(0);
-    let mut tasks = Vec::new(alloc);
-    for _ in 0..all {
-        let task = Meeting {
-            came: &came,
-            all,
-            here: false,
-        };
-        tasks.push(task).expect(rt, "memory");
-    }
-    let right = match run(rt, &alloc, tasks, workers) {
-        Ok(outputs) => outputs.len() as u64 == all && outputs.iter().all(|output| *output == all),
-        Err(_) => false,
-    };
-    (right, came.load(Ordering::SeqCst))
 }
 
 /// Each is done only once every other one has been stepped, so all are in progress at a time, also where one worker steps them.
 #[test]
 fn tasks_that_wait_for_each_other_are_done(rt: HostRuntime) {
     for (all, workers) in [(3, 1), (100, 1), (100, 4), (3, 8)] {
-        let found = met(&rt, rt.alloc(), all, workers);
-        is_in(&rt, (all, workers), found, (true, all));
+        let found = worked(&rt, &rt, rt.alloc(), Does::Meets(all), all, workers);
+        is_in(&rt, (all, workers), found, (Ok(true), all, 0));
     }
-}
-
-/// A task whose one step ends once the steps of all are in progress, or after a while. It counts those that met.
-#[derive(Drop)]
-struct Together<'a> {
-    came: &'a AtomicU64,
-    all_are_here: &'a AtomicBool,
-    met: &'a AtomicU64,
-    all: u64,
-}
-
-impl<'a> Task for Together<'a> {
-    type Output = u64;
-
-    ghost outcome = { λ t. t.all };
-
-    fn step(self) -> Step<Together<'a>, u64> {
-        let before = self.came.fetch_add(1, Ordering::SeqCst);
-        if before.wrapping_add(1) == self.all {
-            self.all_are_here.store(true, Ordering::SeqCst);
-        }
-        if wait_for(self.all_are_here) {
-            self.met.fetch_add(1, Ordering::SeqCst);
-        }
-        Step::Done(self.all)
-    }
-}
-
-/// Whether so many tasks are done by as many workers, and how many of them met.
-fn met_at_once<R: Threads + Wait + Abort + Sync>(rt: &R, alloc: Global, all: u64) -> (bool, u64) {
-    let (came, met) = (AtomicU64::new(0), AtomicU64::new(0));
-    let all_are_here = AtomicBool::new(false);
-    let mut tasks = Vec::new(alloc);
-    for _ in 0..all {
-        let task = Together {
-            came: &came,
-            all_are_here: &all_are_here,
-            met: &met,
-            all,
-        };
-        tasks.push(task).expect(rt, "memory");
-    }
-    let done = run(rt, &alloc, tasks, all).is_ok();
-    (done, met.load(Ordering::SeqCst))
 }
 
 #[test]
 fn each_worker_steps_a_task_at_the_same_time(rt: HostRuntime) {
     for all in [2, 4] {
-        is_in(&rt, all, met_at_once(&rt, rt.alloc(), all), (true, all));
-    }
-}
-
-/// A task of so many steps, in each of which its worker sleeps for 10 milliseconds.
-#[derive(Drop)]
-struct Slow<'a> {
-    host: &'a HostRuntime,
-    left: u64,
-}
-
-impl<'a> Task for Slow<'a> {
-    type Output = bool;
-
-    ghost outcome = { λ t. true };
-
-    fn step(self) -> Step<Slow<'a>, bool> {
-        sleep(self.host, Duration::from_millis(10));
-        if self.left == 0 {
-            return Step::Done(true);
-        }
-        Step::More(Slow {
-            host: self.host,
-            left: self.left - 1,
-        })
+        let found = worked(&rt, &rt, rt.alloc(), Does::Blocks(all), all, all);
+        is_in(&rt, all, found, (Ok(true), all, 0));
     }
 }
 
 /// Of eight workers seven have no task for a second. They take next to no time.
 #[test]
 fn workers_without_a_task_sleep(rt: HostRuntime) {
-    let alloc: Global = rt.alloc();
-    let mut tasks = Vec::new(alloc);
-    let task = Slow {
-        host: &rt,
-        left: 99,
-    };
-    tasks.push(task).expect(&rt, "memory");
-    let before = process_time(&rt, &rt);
-    let done = run(&rt, &alloc, tasks, 8).is_ok();
-    let took = process_time(&rt, &rt).wrapping_sub(before);
-    is_in(&rt, took, (done, took <= 10), (true, true));
+    let before = time(&rt, &rt, PROCESS);
+    let found = worked(&rt, &rt, rt.alloc(), Does::Sleeps(100), 1, 8);
+    let took = time(&rt, &rt, PROCESS).wrapping_sub(before);
+    is_in(&rt, took, (found, took <= 10), ((Ok(true), 100, 0), true));
+}
+
+/// What comes of 20 tasks where this request is refused, which is not the first, in which the tasks lie: whether all are right or come back, whether one was stepped, and whether it was refused and all memory was given back.
+fn refused<R: Threads + Wait + Abort + Sync>(
+    rt: &R,
+    host: &HostRuntime,
+    alloc: Global,
+    number: u64,
+) -> (Result<bool, bool>, bool, (bool, u64)) {
+    let heap = Heap::new(alloc, Refusal::Nth(number));
+    let board = Board::new(host, Does::Counts(5));
+    let right = ran(rt, &heap, &board, 20, 3);
+    let was_refused = heap.requests() >= number;
+    (right, board.count() > 0, (was_refused, heap.live()))
+}
+
+/// Each request that is made is refused in turn: then the tasks come back, and in the end nothing of them is left.
+#[test]
+fn a_refused_request_gives_the_tasks_back(rt: HostRuntime) {
+    let mut given_back: u64 = 0;
+    for number in 2..20u64 {
+        let found = refused(&rt, &rt, rt.alloc(), number);
+        let wanted = if found.0.is_ok() {
+            (Ok(true), true, (false, 0))
+        } else {
+            given_back = given_back.wrapping_add(1);
+            (Err(true), false, (true, 0))
+        };
+        is_in(&rt, number, found, wanted);
+    }
+    is(&rt, (given_back > 3, given_back < 18), (true, true));
 }

@@ -1,6 +1,5 @@
-use Rattle.std.proofs.Common.{length}
 use Rattle.test_threads.proofs.channel.many_ends.+end_all.Given as goal
 
 -- a turn fewer is left
 abbrev pub decreases-end_all : goal.decreases-end_all
-decreases-end_all g l = length l.turns.now
+decreases-end_all g l = l.count
