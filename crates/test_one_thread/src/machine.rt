@@ -6,5 +6,6 @@ pub mod left_on_three;
 pub mod limits;
 pub mod memory;
 pub mod refusals;
+pub mod runs;
 pub mod script;
 pub mod single;

@@ -1,5 +1,6 @@
 //! Queues with one owner.
 pub mod chains;
+pub mod drops;
 pub mod errors;
 pub mod iterators;
 pub mod looks;
@@ -8,3 +9,4 @@ pub mod reading;
 pub mod rings;
 pub mod rows;
 pub mod runs;
+pub mod tables;

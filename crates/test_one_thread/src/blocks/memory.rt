@@ -48,29 +48,6 @@ fn refuses_ends<S>(alloc: &&Heap) -> bool {
     }
 }
 
-#[test]
-fn two_blocks_made_and_given_up(rt: HostRuntime) {
-    let heap = Heap::new(rt.alloc(), Refusal::Never);
-    let alloc = &heap;
-    let (link, block) = Loose::<u8, &Heap>::make(&alloc).expect(&rt, "memory");
-    let one = heap.live();
-    let refused = refuses_block::<u8>(&alloc);
-    let again = heap.live();
-    block.give_up(&alloc, link);
-    let seen = [one, again, heap.live(), heap.most(), heap.requests()];
-    is(&rt, (refused, seen), (false, [1, 1, 0, 2, 2]));
-}
-
-#[test]
-fn both_ends_are_one_request(rt: HostRuntime) {
-    let heap = Heap::new(rt.alloc(), Refusal::Never);
-    let alloc = &heap;
-    let (hub, link, tail, _, head) = Hub::<u8, &Heap>::make(&alloc).expect(&rt, "memory");
-    let made = heap.live();
-    hub.give_up(&alloc, link, tail, head);
-    is(&rt, [made, heap.live(), heap.requests()], [1, 0, 1]);
-}
-
 /// Lays a block, writes a word and an item into it, and reads both. Gives them, and how many allocations live while the block lies there.
 fn use_a_block<A: Allocator>(alloc: &A, heap: &Heap) -> Result<(u64, u8, u64), AllocError> {
     let (link, block) = Loose::<u8, A>::make(alloc)?;
@@ -84,14 +61,6 @@ fn use_a_block<A: Allocator>(alloc: &A, heap: &Heap) -> Result<(u64, u8, u64), A
     chain.lift(0, link).give_up(alloc, link);
     chain.leave();
     Ok((word, item, laid))
-}
-
-#[test]
-fn a_chain_keeps_words_items_and_its_block(rt: HostRuntime) {
-    let heap = Heap::new(rt.alloc(), Refusal::Never);
-    let seen = use_a_block(&&heap, &heap);
-    let seen = (seen, heap.live(), heap.requests());
-    is(&rt, seen, (Ok((9, 7, 1)), 0, 1));
 }
 
 /// Asks whether a queue is closed and closes it, and again by a party that is parted off and taken back. Gives what was answered.
@@ -126,55 +95,54 @@ fn a_closed_queue_gives_its_memory_back(rt: HostRuntime) {
     is(&rt, [shared, heap.live(), heap.requests()], [1, 0, 1]);
 }
 
-#[test]
-fn what_is_refused_leaves_nothing(rt: HostRuntime) {
-    let heap = Heap::new(rt.alloc(), Refusal::Always);
+/// Whether the request for a block of such slots, and that for both ends, are refused. What is granted is given up, the block before the ends are asked for. And how many allocations there were at most at one time, how many stay, and how many requests there were.
+fn asked<S>(alloc: Global, refusal: Refusal) -> ([bool; 2], [u64; 3]) {
+    let heap = Heap::new(alloc, refusal);
     let alloc = &heap;
-    let refused = [refuses_block::<u8>(&alloc), refuses_ends::<u8>(&alloc)];
-    let seen = (refused, heap.live(), heap.requests());
-    is(&rt, seen, ([true, true], 0, 2));
+    let refused = [refuses_block::<S>(&alloc), refuses_ends::<S>(&alloc)];
+    (refused, [heap.most(), heap.live(), heap.requests()])
 }
 
-#[test]
-fn huge_slots_are_refused_without_a_request(rt: HostRuntime) {
-    let heap = Heap::new(rt.alloc(), Refusal::Never);
-    let alloc = &heap;
-    let refused = [refuses_block::<Huge>(&alloc), refuses_ends::<Huge>(&alloc)];
-    let seen = (refused, heap.live(), heap.requests());
-    is(&rt, seen, ([true, true], 0, 0));
-}
-
-/// Whether the request for a block of such slots, and that for both ends, are refused.
-fn refuses_both<S>(alloc: &&Heap) -> [bool; 2] {
-    [refuses_block::<S>(alloc), refuses_ends::<S>(alloc)]
-}
-
-/// Slots of fewer bytes are asked for, once for a block and once for both ends.
+/// A block is one request, and so are both ends. Slots that are too large are refused without one, and those of fewer bytes are asked for.
 #[test]
 fn large_slots_are_asked_for(rt: HostRuntime) {
-    let heap = Heap::new(rt.alloc(), Refusal::Always);
-    let alloc = &heap;
-    let large = refuses_both::<Large>(&alloc);
-    let before = heap.requests();
-    let largest = refuses_both::<Largest>(&alloc);
-    let seen = (large, before, largest, heap.requests());
-    is(&rt, seen, ([true, true], 2, [true, true], 4));
+    let alloc = rt.alloc();
+    let found = [
+        asked::<u8>(alloc, Refusal::Never),
+        asked::<u8>(alloc, Refusal::Always),
+        asked::<Large>(alloc, Refusal::Always),
+        asked::<Largest>(alloc, Refusal::Always),
+        asked::<Huge>(alloc, Refusal::Never),
+    ];
+    let granted = ([false, false], [1, 0, 2]);
+    let refused = ([true, true], [0, 0, 2]);
+    let not_asked = ([true, true], [0, 0, 0]);
+    is(&rt, found, [granted, refused, refused, refused, not_asked]);
 }
 
-/// How many allocations of the watched layout live while there is a block of such slots, and how many of any layout.
-fn counts_with<S>(rt: &impl Abort, alloc: &&Heap) -> (u64, u64) {
+/// How many allocations of the watched layout live while there is a block of such slots, and how many of any layout; and whether a second block is refused, and how many live once it is given up.
+fn counts_with<S>(rt: &impl Abort, alloc: &&Heap) -> ([u64; 3], bool) {
     let (link, block) = Loose::<S, &Heap>::make(alloc).expect(rt, "memory");
-    let counts = (alloc.live_watched(), alloc.live());
+    let watched = alloc.live_watched();
+    let one = alloc.live();
+    let refused = refuses_block::<S>(alloc);
+    let again = alloc.live();
     block.give_up(alloc, link);
-    counts
+    ([watched, one, again], refused)
 }
 
-/// How many allocations of this layout live while there is a block of such slots, and how many of any layout; and how many of either once it is given up.
-fn counts_of<S>(rt: &impl Abort, alloc: Global, size: usize, align: usize) -> [u64; 4] {
+/// Makes two blocks of such slots and gives them up, the second one first. Gives what is counted with the first; and in the end how many allocations of this layout live, how many of any, how many there were at most, and how many requests.
+fn counts_of<S>(
+    rt: &impl Abort,
+    alloc: Global,
+    size: usize,
+    align: usize,
+) -> (([u64; 3], bool), [u64; 4]) {
     let layout = Layout::from_size_align(size, align).expect(rt, "a layout");
     let heap = Heap::watching(alloc, Refusal::Never, layout);
-    let (watched, live) = counts_with::<S>(rt, &&heap);
-    [watched, live, heap.live_watched(), heap.live()]
+    let with = counts_with::<S>(rt, &&heap);
+    let live = heap.live_watched();
+    (with, [live, heap.live(), heap.most(), heap.requests()])
 }
 
 /// A block of slots that are aligned more strictly than its words goes back with the size and the alignment that it was asked for with.
@@ -182,7 +150,11 @@ fn counts_of<S>(rt: &impl Abort, alloc: Global, size: usize, align: usize) -> [u
 fn a_block_goes_back_as_it_came(rt: HostRuntime) {
     let of_words = counts_of::<u64>(&rt, rt.alloc(), 1016, 8);
     let aligned = counts_of::<u128>(&rt, rt.alloc(), 1520, 16);
-    is(&rt, [of_words, aligned], [[1, 1, 0, 0]; 2]);
+    is(
+        &rt,
+        [of_words, aligned],
+        [(([1, 1, 1], false), [0, 0, 2, 2]); 2],
+    );
 }
 
 /// Whether the link of a block leads anywhere.
@@ -193,21 +165,20 @@ fn leads<A: NullTestable>(rt: &impl Abort, alloc: &A) -> bool {
     leads
 }
 
+/// The link of a block leads somewhere, also where its requests are counted; a null pointer leads nowhere.
 #[test]
 fn a_link_tells_whether_it_leads_anywhere(rt: HostRuntime) {
+    let heap = Heap::new(rt.alloc(), Refusal::Never);
     let nowhere: BlockPtr<u8> = BlockPtr {
         ptr: std::ptr::null_mut(),
     };
-    let found = [leads(&rt, &rt.alloc()), nowhere.get().is_some()];
-    is(&rt, found, [true, false]);
-}
-
-#[test]
-fn a_counted_block_tells_that_it_is_somewhere(rt: HostRuntime) {
-    let heap = Heap::new(rt.alloc(), Refusal::Never);
-    let found = leads(&rt, &&heap);
-    let seen = [heap.most(), heap.live(), heap.requests()];
-    is(&rt, (found, seen), (true, [1, 0, 1]));
+    let found = [
+        leads(&rt, &rt.alloc()),
+        leads(&rt, &&heap),
+        nowhere.get().is_some(),
+    ];
+    let counted = [heap.most(), heap.live(), heap.requests()];
+    is(&rt, (found, counted), ([true, true, false], [1, 0, 1]));
 }
 
 /// Lays two blocks, and lifts, gives up and forgets the first.
@@ -245,11 +216,16 @@ fn use_the_second<A: Allocator>(alloc: &A, heap: &Heap) -> Result<(u64, u64), Al
     Ok((word, kept))
 }
 
-/// The second of two blocks is the first, once the one before it is gone and forgotten.
+/// A chain keeps words, items and its block. The second of two blocks is the first, once the one before it is gone and forgotten.
 #[test]
-fn a_chain_forgets_a_block_that_is_gone(rt: HostRuntime) {
+fn a_chain_keeps_and_forgets_blocks(rt: HostRuntime) {
     let heap = Heap::new(rt.alloc(), Refusal::Never);
-    let seen = use_the_second(&&heap, &heap);
-    let seen = (seen, heap.live(), heap.requests());
-    is(&rt, seen, (Ok((9, 1)), 0, 2));
+    let kept = use_a_block(&&heap, &heap);
+    let second = use_the_second(&&heap, &heap);
+    let counted = (heap.live(), heap.requests());
+    is(
+        &rt,
+        (kept, second, counted),
+        (Ok((9, 7, 1)), Ok((9, 1)), (0, 3)),
+    );
 }

@@ -1,14 +1,19 @@
 //! Runs on a chain of blocks, with calls that go on within each other.
-use crate::machine::script::{Fact, Run, StoryLine, are_told, is_told};
+use crate::machine::script::{Fact, Run, StoryLine, Sweep};
 use machine_replay::types::EffectKind;
 use queue_steps::errors::{ForcePushError, PopError, PushError};
 use queue_steps::model::{Call, Reply};
-use queue_steps::steps::Kind;
 
 const ONE_TO_63: [u64; 63] = [
     1, 2, 3, 4, 5, 6, 7, 8, 9, 10, 11, 12, 13, 14, 15, 16, 17, 18, 19, 20, 21, 22, 23, 24, 25, 26,
     27, 28, 29, 30, 31, 32, 33, 34, 35, 36, 37, 38, 39, 40, 41, 42, 43, 44, 45, 46, 47, 48, 49, 50,
     51, 52, 53, 54, 55, 56, 57, 58, 59, 60, 61, 62, 63,
+];
+
+const TWO_TO_63: [u64; 62] = [
+    2, 3, 4, 5, 6, 7, 8, 9, 10, 11, 12, 13, 14, 15, 16, 17, 18, 19, 20, 21, 22, 23, 24, 25, 26, 27,
+    28, 29, 30, 31, 32, 33, 34, 35, 36, 37, 38, 39, 40, 41, 42, 43, 44, 45, 46, 47, 48, 49, 50, 51,
+    52, 53, 54, 55, 56, 57, 58, 59, 60, 61, 62, 63,
 ];
 
 const TWO_TO_64: [u64; 63] = [
@@ -17,7 +22,15 @@ const TWO_TO_64: [u64; 63] = [
     52, 53, 54, 55, 56, 57, 58, 59, 60, 61, 62, 63, 64,
 ];
 
-static RUNS: [Run<'static>; 8] = [
+/// The replies to two pushes whose blocks are refused and two whose blocks are granted.
+const GRANTED: [(usize, Reply<u64>); 4] = [
+    (0, Reply::Push(Err(PushError::NoMemory(7)))),
+    (0, Reply::ForcePush(Err(ForcePushError::NoMemory(8)))),
+    (0, Reply::ForcePush(Ok(None))),
+    (0, Reply::Push(Ok(()))),
+];
+
+pub(crate) static RUNS: [Run<'static>; 11] = [
     // The first request refused, and then granted; a step between calls and a stranger's call are skipped.
     Run {
         name: "refused and granted",
@@ -186,87 +199,12 @@ static RUNS: [Run<'static>; 8] = [
             Fact::Left(&[]),
         ],
     },
-];
-
-#[test]
-fn runs_on_a_chain(rt: HostRuntime) {
-    are_told(&rt, rt.alloc(), Kind::Unbounded, &RUNS);
-}
-
-/// The list that is left where calls are in the middle: a push that has claimed its place and not written it, one that moves the tail over a
-/// block's end, and a pop that has claimed an item and not read it.
-#[test]
-fn left_in_the_middle_of_calls(rt: HostRuntime) {
-    for (name, steps, left) in [
-        ("left after 4 steps", 4, &TWO_TO_64[..62]),
-        ("left after 5 steps", 5, &TWO_TO_64[..62]),
-        ("left after 6 steps", 6, &TWO_TO_64[..]),
-        ("left after 7 steps", 7, &TWO_TO_64[..]),
-        ("left after 8 steps", 8, &TWO_TO_64[..]),
-    ] {
-        let lines = [
-            StoryLine::Pushes(0, 62),
-            StoryLine::Begins(0, Call::Push(63)),
-            StoryLine::Steps(0, steps),
-            StoryLine::Begins(1, Call::Pop),
-            StoryLine::Steps(1, steps),
-            StoryLine::Begins(2, Call::Push(64)),
-            StoryLine::Steps(2, steps - 1),
-        ];
-        let run = Run {
-            name,
-            parties: 3,
-            lines: &lines,
-            facts: &[Fact::Left(left)],
-        };
-        is_told(&rt, rt.alloc(), Kind::Unbounded, &run);
-    }
-}
-
-/// After each step of a pop of a block's last item the queue is empty exactly where its length is 0.
-#[test]
-fn empty_where_the_length_is_zero(rt: HostRuntime) {
-    for steps in 0..72u64 {
-        let lines = [
-            StoryLine::Pushes(0, 63),
-            StoryLine::Pops(0, 62),
-            StoryLine::Begins(0, Call::Pop),
-            StoryLine::Steps(0, steps),
-            StoryLine::Calls(1, Call::Len),
-            StoryLine::Calls(1, Call::IsEmpty),
-        ];
-        let replied = if steps < 70 { 125 } else { 126 };
-        let claimed = steps > 2;
-        let len = if claimed { 0 } else { 1 };
-        let replies = [(1, Reply::Len(len)), (1, Reply::IsEmpty(claimed))];
-        let run = Run {
-            name: "empty where the length is zero",
-            parties: 2,
-            lines: &lines,
-            facts: &[Fact::LastReplies(replied, &replies)],
-        };
-        is_told(&rt, rt.alloc(), Kind::Unbounded, &run);
-    }
-}
-
-/// The replies to two pushes whose blocks are refused and two whose blocks are granted.
-static GRANTED: [(usize, Reply<u64>); 4] = [
-    (0, Reply::Push(Err(PushError::NoMemory(7)))),
-    (0, Reply::ForcePush(Err(ForcePushError::NoMemory(8)))),
-    (0, Reply::ForcePush(Ok(None))),
-    (0, Reply::Push(Ok(()))),
-];
-
-/// A request that is granted is never called refused: of a push and of a forced push, with nothing accepted and one item short of a block.
-#[test]
-fn granted_requests(rt: HostRuntime) {
-    for (name, accepted) in [
-        ("granted: nothing accepted", 0u64),
-        ("granted: an item short of a block", 62),
-        ("granted: an item short of two blocks", 125),
-    ] {
-        let lines = [
-            StoryLine::Pushes(0, accepted),
+    // A request that is granted is never called refused: of a push and of a forced push, with nothing accepted, and one item short of a block and of two.
+    Run {
+        name: "granted: nothing accepted",
+        parties: 1,
+        lines: &[
+            StoryLine::Pushes(0, 0),
             StoryLine::Begins(0, Call::Push(7)),
             StoryLine::Steps(0, 2),
             StoryLine::IsRefused(0),
@@ -275,13 +213,119 @@ fn granted_requests(rt: HostRuntime) {
             StoryLine::IsRefused(0),
             StoryLine::Calls(0, Call::ForcePush(9)),
             StoryLine::Calls(0, Call::Push(10)),
-        ];
-        let run = Run {
-            name,
-            parties: 1,
-            lines: &lines,
-            facts: &[Fact::LastReplies(accepted as usize, &GRANTED)],
-        };
-        is_told(&rt, rt.alloc(), Kind::Unbounded, &run);
-    }
-}
+        ],
+        facts: &[Fact::LastReplies(0, &GRANTED)],
+    },
+    Run {
+        name: "granted: an item short of a block",
+        parties: 1,
+        lines: &[
+            StoryLine::Pushes(0, 62),
+            StoryLine::Begins(0, Call::Push(7)),
+            StoryLine::Steps(0, 2),
+            StoryLine::IsRefused(0),
+            StoryLine::Begins(0, Call::ForcePush(8)),
+            StoryLine::Steps(0, 2),
+            StoryLine::IsRefused(0),
+            StoryLine::Calls(0, Call::ForcePush(9)),
+            StoryLine::Calls(0, Call::Push(10)),
+        ],
+        facts: &[Fact::LastReplies(62, &GRANTED)],
+    },
+    Run {
+        name: "granted: an item short of two blocks",
+        parties: 1,
+        lines: &[
+            StoryLine::Pushes(0, 125),
+            StoryLine::Begins(0, Call::Push(7)),
+            StoryLine::Steps(0, 2),
+            StoryLine::IsRefused(0),
+            StoryLine::Begins(0, Call::ForcePush(8)),
+            StoryLine::Steps(0, 2),
+            StoryLine::IsRefused(0),
+            StoryLine::Calls(0, Call::ForcePush(9)),
+            StoryLine::Calls(0, Call::Push(10)),
+        ],
+        facts: &[Fact::LastReplies(125, &GRANTED)],
+    },
+];
+
+/// A push that moves the tail over a block's end, a pop and another push, all in the middle.
+const IN_THE_MIDDLE: [StoryLine; 7] = [
+    StoryLine::Pushes(0, 62),
+    StoryLine::Begins(0, Call::Push(63)),
+    StoryLine::Swept(0, 0),
+    StoryLine::Begins(1, Call::Pop),
+    StoryLine::Swept(1, 0),
+    StoryLine::Begins(2, Call::Push(64)),
+    StoryLine::Swept(2, 1),
+];
+
+/// A pop of a block's last item, and looks within it.
+const LAST_OF_A_BLOCK: [StoryLine; 6] = [
+    StoryLine::Pushes(0, 63),
+    StoryLine::Pops(0, 62),
+    StoryLine::Begins(0, Call::Pop),
+    StoryLine::Swept(0, 0),
+    StoryLine::Calls(1, Call::Len),
+    StoryLine::Calls(1, Call::IsEmpty),
+];
+
+/// What the looks find once the item is claimed.
+const CLAIMED: [(usize, Reply<u64>); 2] = [(1, Reply::Len(0)), (1, Reply::IsEmpty(true))];
+
+pub(crate) static SWEEPS: [Sweep<'static>; 5] = [
+    // The list that is left where calls are in the middle: a push that has claimed its place and not written it, one that moves the tail over a
+    // block's end, and a pop that has claimed an item and not read it.
+    (
+        4,
+        6,
+        Run {
+            name: "left: the third place not claimed",
+            parties: 3,
+            lines: &IN_THE_MIDDLE,
+            facts: &[Fact::Left(&TWO_TO_63)],
+        },
+    ),
+    (
+        6,
+        9,
+        Run {
+            name: "left: each place claimed",
+            parties: 3,
+            lines: &IN_THE_MIDDLE,
+            facts: &[Fact::Left(&TWO_TO_64)],
+        },
+    ),
+    // After each step of a pop of a block's last item the queue is empty exactly where its length is 0.
+    (
+        0,
+        3,
+        Run {
+            name: "last of a block: not claimed",
+            parties: 2,
+            lines: &LAST_OF_A_BLOCK,
+            facts: &[Fact::LastReplies(125, &[(1, Reply::Len(1)), (1, Reply::IsEmpty(false))])],
+        },
+    ),
+    (
+        3,
+        70,
+        Run {
+            name: "last of a block: claimed",
+            parties: 2,
+            lines: &LAST_OF_A_BLOCK,
+            facts: &[Fact::LastReplies(125, &CLAIMED)],
+        },
+    ),
+    (
+        70,
+        72,
+        Run {
+            name: "last of a block: the pop has ended",
+            parties: 2,
+            lines: &LAST_OF_A_BLOCK,
+            facts: &[Fact::LastReplies(126, &CLAIMED)],
+        },
+    ),
+];

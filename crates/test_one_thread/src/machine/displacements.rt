@@ -1,20 +1,17 @@
 //! Runs on a ring of two slots, with calls that go on within each other.
 use crate::asserts::is;
-use crate::machine::refusals::capacity_is_refused;
-use crate::machine::script::{Fact, Run, StoryLine, are_told, events_of, is_told};
+use crate::machine::script::{Fact, Run, StoryLine, Sweep, events_of};
 use machine_replay::types::EffectKind;
 use machine_replay::words::{Words, words_after};
 use queue_steps::errors::{ForcePushError, PopError, PushError};
 use queue_steps::model::{Call, Reply};
-use queue_steps::sizes::MAX_CAPACITY;
 use queue_steps::steps::Kind;
 use std::alloc::Global;
 use std::process::Abort;
-use test_allocators::Refusal;
 
 const RING: Kind = Kind::Bounded(2);
 
-static RUNS: [Run<'static>; 10] = [
+pub(crate) static RUNS: [Run<'static>; 10] = [
     // A displacement with a close within it: a pop that finds the list empty waits for the item on its way in.
     Run {
         name: "close within a displacement",
@@ -197,14 +194,9 @@ static RUNS: [Run<'static>; 10] = [
     },
 ];
 
-#[test]
-fn runs_on_two_slots(rt: HostRuntime) {
-    are_told(&rt, rt.alloc(), RING, &RUNS);
-}
-
 /// Asserts the tail, the head and both stamps after these lines.
 fn has_words(rt: &impl Abort, alloc: Global, lines: &[StoryLine], words: &[u64; 4]) {
-    let events = events_of(rt, alloc, lines);
+    let events = events_of(rt, alloc, lines, 0);
     let Words {
         lock: _,
         head,
@@ -237,13 +229,6 @@ fn words_within_a_displacement(rt: HostRuntime) {
     for (lines, words) in &rows {
         has_words(&rt, rt.alloc(), lines, words);
     }
-}
-
-/// What is told of a close after so many steps of a displacement.
-struct Closed {
-    name: &'static str,
-    steps: u64,
-    facts: &'static [Fact<'static>],
 }
 
 /// The replies to a forced push that the close comes before.
@@ -291,81 +276,84 @@ const AFTER: Fact<'static> = Fact::Effects(&[
     (1, EffectKind::Close),
 ]);
 
-static CLOSES: [Closed; 6] = [
-    Closed {
-        name: "close before a displacement",
-        steps: 0,
-        facts: &[
-            Fact::Effects(&[
-                (0, EffectKind::Append),
-                (0, EffectKind::Append),
-                (1, EffectKind::Close),
-            ]),
-            REFUSED,
-            Fact::Left(&[1, 2]),
-        ],
-    },
-    Closed {
-        name: "close once a displacement has read the tail",
-        steps: 1,
-        facts: &[BEFORE, WITHIN, Fact::Left(&[2, 3])],
-    },
-    Closed {
-        name: "close before the front is displaced",
-        steps: 2,
-        facts: &[BEFORE, WITHIN, Fact::Left(&[2, 3])],
-    },
-    Closed {
-        name: "close between front and arrival",
-        steps: 3,
-        facts: &[
-            Fact::Effects(&[
-                (0, EffectKind::Append),
-                (0, EffectKind::Append),
-                (0, EffectKind::Front),
-                (1, EffectKind::Close),
-                (0, EffectKind::Arrive),
-            ]),
-            WITHIN,
-            Fact::Left(&[2, 3]),
-        ],
-    },
-    Closed {
-        name: "close after the arrival",
-        steps: 4,
-        facts: &[AFTER, WITHIN, Fact::Left(&[2, 3])],
-    },
-    Closed {
-        name: "close after a displacement",
-        steps: 5,
-        facts: &[AFTER, ENDED, Fact::Left(&[2, 3])],
-    },
+/// A displacement, and a close within it.
+const CLOSED: [StoryLine; 6] = [
+    StoryLine::Pushes(0, 2),
+    StoryLine::Begins(0, Call::ForcePush(3)),
+    StoryLine::Swept(0, 0),
+    StoryLine::Calls(1, Call::Close),
+    StoryLine::Runs(0),
+    StoryLine::Calls(1, Call::IsClosed),
 ];
 
 /// A close before each step of a displacement, and after it.
-#[test]
-fn closes_at_each_step_of_a_displacement(rt: HostRuntime) {
-    for Closed { name, steps, facts } in CLOSES.iter() {
-        let lines = [
-            StoryLine::Pushes(0, 2),
-            StoryLine::Begins(0, Call::ForcePush(3)),
-            StoryLine::Steps(0, *steps),
-            StoryLine::Calls(1, Call::Close),
-            StoryLine::Runs(0),
-            StoryLine::Calls(1, Call::IsClosed),
-        ];
-        let run = Run {
-            name,
+pub(crate) static SWEEPS: [Sweep<'static>; 5] = [
+    (
+        0,
+        1,
+        Run {
+            name: "close before a displacement",
             parties: 2,
-            lines: &lines,
-            facts,
-        };
-        is_told(&rt, rt.alloc(), RING, &run);
-    }
-}
-
-/// A capacity that no queue may have is want of memory.
-#[test]
-fn capacity_above_the_greatest(rt: HostRuntime) {
-    capacity_is_refused(&rt, rt.alloc(), Refusal::Never, MAX_CAPACITY + 1, 0);
-}
+            lines: &CLOSED,
+            facts: &[
+                Fact::Effects(&[
+                    (0, EffectKind::Append),
+                    (0, EffectKind::Append),
+                    (1, EffectKind::Close),
+                ]),
+                REFUSED,
+                Fact::Left(&[1, 2]),
+            ],
+        },
+    ),
+    (
+        1,
+        3,
+        Run {
+            name: "close before the front is displaced",
+            parties: 2,
+            lines: &CLOSED,
+            facts: &[BEFORE, WITHIN, Fact::Left(&[2, 3])],
+        },
+    ),
+    (
+        3,
+        4,
+        Run {
+            name: "close between front and arrival",
+            parties: 2,
+            lines: &CLOSED,
+            facts: &[
+                Fact::Effects(&[
+                    (0, EffectKind::Append),
+                    (0, EffectKind::Append),
+                    (0, EffectKind::Front),
+                    (1, EffectKind::Close),
+                    (0, EffectKind::Arrive),
+                ]),
+                WITHIN,
+                Fact::Left(&[2, 3]),
+            ],
+        },
+    ),
+    (
+        4,
+        5,
+        Run {
+            name: "close after the arrival",
+            parties: 2,
+            lines: &CLOSED,
+            facts: &[AFTER, WITHIN, Fact::Left(&[2, 3])],
+        },
+    ),
+    (
+        5,
+        6,
+        Run {
+            name: "close after a displacement",
+            parties: 2,
+            lines: &CLOSED,
+            facts: &[AFTER, ENDED, Fact::Left(&[2, 3])],
+        },
+    ),
+];

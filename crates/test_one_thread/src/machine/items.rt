@@ -28,7 +28,7 @@ fn counted_events<'a>(
     items: &'a Items,
 ) -> Vec<Event<Counted<'a>>> {
     let mut events = Vec::new(alloc);
-    for event in events_of(rt, alloc, lines) {
+    for event in events_of(rt, alloc, lines, 0) {
         let event = match event {
             Event::Begin(party, call) => Event::Begin(party, with_item(call, items)),
             Event::Step(party, granted) => Event::Step(party, granted),

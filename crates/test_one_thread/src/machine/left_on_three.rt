@@ -1,10 +1,9 @@
 //! The list that is left of a ring of three slots where calls have not ended: what is appended or has arrived is in it, written or not; what is taken or displaced is not.
-use crate::machine::script::{Fact, Run, StoryLine, are_told};
+use crate::machine::script::{Fact, Run, StoryLine};
 use machine_replay::types::EffectKind;
 use queue_steps::model::Call;
-use queue_steps::steps::Kind;
 
-static RUNS: [Run<'static>; 14] = [
+pub(crate) static RUNS: [Run<'static>; 14] = [
     // After an append that is not yet written, in each slot.
     Run {
         name: "appended, not written: first slot",
@@ -203,8 +202,3 @@ static RUNS: [Run<'static>; 14] = [
         facts: &[Fact::Left(&[3, 9]), Fact::RepliesCount(5)],
     },
 ];
-
-#[test]
-fn runs_on_three_slots(rt: HostRuntime) {
-    are_told(&rt, rt.alloc(), Kind::Bounded(3), &RUNS);
-}

@@ -10,22 +10,21 @@ use queue_steps::steps::{
     Answer, BoundedLocal, Kind, Local, Next, Op, PushKind, UnboundedLocal, Word,
 };
 
-/// What a push does next.
-#[derive(Clone, Copy, Debug, PartialEq)]
-enum AtLimit {
-    ClosesTheQueue,
-    IsAnsweredClosed,
-    GoesOn,
-}
+/// Whether a push closes the queue next, and whether it is answered that the queue is closed.
+type AtLimit = (bool, bool);
+
+const CLOSES_THE_QUEUE: AtLimit = (true, false);
+
+const IS_ANSWERED_CLOSED: AtLimit = (false, true);
+
+const GOES_ON: AtLimit = (false, false);
 
 fn at_limit(next: Next<usize>) -> AtLimit {
     match next {
-        Next::Step(_, _, Op::Or(Word::Tail, 1)) => AtLimit::ClosesTheQueue,
-        Next::Reply(Reply::Push(Err(PushError::Closed(()))), None) => AtLimit::IsAnsweredClosed,
-        Next::Reply(Reply::ForcePush(Err(ForcePushError::Closed(()))), None) => {
-            AtLimit::IsAnsweredClosed
-        }
-        _ => AtLimit::GoesOn,
+        Next::Step(_, _, Op::Or(Word::Tail, 1)) => CLOSES_THE_QUEUE,
+        Next::Reply(Reply::Push(Err(PushError::Closed(()))), None) => IS_ANSWERED_CLOSED,
+        Next::Reply(Reply::ForcePush(Err(ForcePushError::Closed(()))), None) => IS_ANSWERED_CLOSED,
+        _ => GOES_ON,
     }
 }
 
@@ -58,16 +57,23 @@ fn once_closed(push: PushKind, ring: u64, chain: u64) -> [AtLimit; 3] {
     ]
 }
 
+/// What a push does that has read the tail at the limit, once the queue is closed there, and one item before; and once it has closed the queue itself.
+const WANTED: [[AtLimit; 3]; 4] = [
+    [CLOSES_THE_QUEUE; 3],
+    [IS_ANSWERED_CLOSED; 3],
+    [GOES_ON; 3],
+    [IS_ANSWERED_CLOSED; 3],
+];
+
 #[test]
 fn a_tail_at_the_limit(rt: HostRuntime) {
     for push in [PushKind::Push, PushKind::Force] {
-        let at_the_limit = once_read(push, RING_END, CHAIN_END);
-        let closed_there = once_read(push, RING_END + 1, CHAIN_END + 1);
-        let one_before = once_read(push, RING_END - 2, CHAIN_END - 2);
-        let then = once_closed(push, RING_END, CHAIN_END);
-        is(&rt, at_the_limit, [AtLimit::ClosesTheQueue; 3]);
-        is(&rt, closed_there, [AtLimit::IsAnsweredClosed; 3]);
-        is(&rt, one_before, [AtLimit::GoesOn; 3]);
-        is(&rt, then, [AtLimit::IsAnsweredClosed; 3]);
+        let found = [
+            once_read(push, RING_END, CHAIN_END),
+            once_read(push, RING_END + 1, CHAIN_END + 1),
+            once_read(push, RING_END - 2, CHAIN_END - 2),
+            once_closed(push, RING_END, CHAIN_END),
+        ];
+        is(&rt, found, WANTED);
     }
 }

@@ -3,7 +3,6 @@ use crate::asserts::is_in;
 use crate::machine::refusals::run;
 use crate::machine::script::{StoryLine, events_of};
 use machine_replay::blocks::Place;
-use machine_replay::types::Peak;
 use machine_replay::words::machine_after;
 use queue_steps::model::Call;
 use queue_steps::sizes::BLOCK_SLOTS;
@@ -36,42 +35,20 @@ struct Row<'a> {
     bound: usize,
 }
 
-/// What is counted of a run.
-#[derive(Clone, Copy, Debug, PartialEq)]
-struct Memory {
-    /// What the run tells of its blocks.
-    peak: Option<Peak>,
-    /// How many blocks there were at most at one time, how many allocations, and how many requests.
-    most_blocks: u64,
-    most: u64,
-    requests: u64,
-    /// How many allocations stay once the run is dropped.
-    live: u64,
-}
-
-/// Asserts what is counted of a run: nothing but the lists and the blocks is asked for.
+/// Asserts what is counted of a run: nothing but the lists and the blocks is asked for, and nothing stays allocated.
 fn is_counted(rt: &impl Abort, alloc: Global, row: &Row<'_>) {
-    let events = events_of(rt, alloc, row.lines);
+    let events = events_of(rt, alloc, row.lines, 0);
     let heap = counting(rt, alloc);
-    let told = run(&heap, Kind::Unbounded, 3, &events);
-    let counted = Memory {
-        peak: told.map(|(_, peak)| peak),
-        most_blocks: heap.most_watched(),
-        most: heap.most(),
-        requests: heap.requests(),
-        live: heap.live(),
-    };
-    let wanted = Memory {
-        peak: Some(Peak {
-            blocks: row.blocks as usize,
-            bound: row.bound,
-        }),
-        most_blocks: row.blocks,
-        most: row.blocks.wrapping_add(RUN_LISTS),
-        requests: row.granted.wrapping_add(RUN_LISTS),
-        live: 0,
-    };
-    is_in(rt, row.name, counted, wanted);
+    let (_, peak) = run(&heap, Kind::Unbounded, 3, &events).expect(rt, "memory");
+    let most = [peak.blocks as u64, heap.most_watched(), heap.most()];
+    let wanted = [row.blocks, row.blocks, row.blocks.wrapping_add(RUN_LISTS)];
+    let requests = row.granted.wrapping_add(RUN_LISTS);
+    is_in(
+        rt,
+        row.name,
+        (peak.bound, most, heap.requests(), heap.live()),
+        (row.bound, wanted, requests, 0),
+    );
 }
 
 /// A pop of the first of 63 items that stops once it has claimed it, while another party takes all others; and then the pop goes on.
@@ -219,7 +196,7 @@ fn blocks_are_those_that_are_allocated(rt: HostRuntime) {
 
 /// How many blocks live in the machine after these lines, and how many allocations in all; and how many once it is dropped.
 fn lives_after(rt: &impl Abort, alloc: Global, lines: &[StoryLine]) -> (u64, u64, u64) {
-    let events = events_of(rt, alloc, lines);
+    let events = events_of(rt, alloc, lines, 0);
     let heap = counting(rt, alloc);
     let events = events.to_vec(&heap).expect(rt, "memory");
     let machine = machine_after(&heap, Kind::Unbounded, 2, events).expect(rt, "memory");

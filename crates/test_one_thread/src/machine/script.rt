@@ -16,6 +16,8 @@ pub(crate) enum StoryLine {
     Begins(usize, Call<u64>),
     /// Takes so many steps.
     Steps(usize, u64),
+    /// Takes as many steps as the sweep is at, less so many.
+    Swept(usize, u64),
     /// Takes one step, at which no block is granted.
     IsRefused(usize),
     /// Takes as many steps as a solo call ever does.
@@ -34,11 +36,12 @@ pub(crate) enum StoryLine {
 const CALL: u64 = SOLO_STEPS + 1;
 
 impl StoryLine {
-    /// How many events it is.
-    fn count(self) -> u64 {
+    /// How many events it is where the sweep is at this number.
+    fn count(self, swept: u64) -> u64 {
         match self {
             StoryLine::Begins(..) | StoryLine::IsRefused(_) => 1,
             StoryLine::Steps(_, count) => count,
+            StoryLine::Swept(_, less) => swept.saturating_sub(less),
             StoryLine::Runs(_) => SOLO_STEPS,
             StoryLine::Calls(..) => CALL,
             StoryLine::Pushes(_, count) | StoryLine::Pops(_, count) => count.wrapping_mul(CALL),
@@ -62,6 +65,7 @@ impl StoryLine {
                 Event::Begin(party, Call::Pop)
             }
             StoryLine::Steps(party, _)
+            | StoryLine::Swept(party, _)
             | StoryLine::Runs(party)
             | StoryLine::Calls(party, _)
             | StoryLine::Pushes(party, _)
@@ -71,11 +75,16 @@ impl StoryLine {
     }
 }
 
-/// The events of these lines, one after another. Asserts that there is memory.
-pub(crate) fn events_of(rt: &impl Abort, alloc: Global, lines: &[StoryLine]) -> Vec<Event<u64>> {
+/// The events of these lines, one after another, where the sweep is at this number. Asserts that there is memory.
+pub(crate) fn events_of(
+    rt: &impl Abort,
+    alloc: Global,
+    lines: &[StoryLine],
+    swept: u64,
+) -> Vec<Event<u64>> {
     let mut events = Vec::new(alloc);
     for line in lines {
-        for before in 0..line.count() {
+        for before in 0..line.count(swept) {
             events.push(line.event(before)).expect(rt, "memory");
         }
     }
@@ -116,6 +125,9 @@ pub(crate) struct Run<'a> {
     pub(crate) lines: &'a [StoryLine],
     pub(crate) facts: &'a [Fact<'a>],
 }
+
+/// Runs that differ in a number of steps alone: the first such number, the one behind the last, and the run.
+pub(crate) type Sweep<'a> = (u64, u64, Run<'a>);
 
 /// Whether there are more entries than so many, and the next is this one, with its party.
 fn comes_at<T: PartialEq>(told: &[(usize, usize, T)], at: usize, wanted: &(usize, T)) -> bool {
@@ -169,16 +181,16 @@ impl Fact<'_> {
     }
 }
 
-/// Asserts what is told of a run. A failure names the run, counts the facts before the one that is not told, and prints what is told.
-pub(crate) fn is_told(rt: &impl Abort, alloc: Global, kind: Kind, run: &Run)
+/// Asserts what is told of a run where the sweep is at this number. A failure names the run and the number, counts the facts before the one that is not told, and prints what is told.
+fn is_told(rt: &impl Abort, alloc: Global, kind: Kind, run: &Run, swept: u64)
     requires { CanReplay kind }
 {
-    let events = events_of(rt, alloc, run.lines);
+    let events = events_of(rt, alloc, run.lines, swept);
     let told = replay(alloc, kind, run.parties, events).expect(rt, "memory");
     for (number, fact) in run.facts.iter().enumerate() {
         assert!(rt;
             fact.is_told(&told),
-            "{}, fact {number}: {told:?}",
+            "{} {swept}, fact {number}: {told:?}",
             run.name
         );
     }
@@ -189,6 +201,17 @@ pub(crate) fn are_told(rt: &impl Abort, alloc: Global, kind: Kind, runs: &[Run])
     requires { CanReplay kind }
 {
     for run in runs {
-        is_told(rt, alloc, kind, run);
+        is_told(rt, alloc, kind, run, 0);
+    }
+}
+
+/// Asserts what is told of each run of these sweeps.
+pub(crate) fn are_swept(rt: &impl Abort, alloc: Global, kind: Kind, sweeps: &[Sweep])
+    requires { CanReplay kind }
+{
+    for (first, end, run) in sweeps {
+        for swept in *first..*end {
+            is_told(rt, alloc, kind, run, swept);
+        }
     }
 }

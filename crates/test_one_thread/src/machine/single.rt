@@ -1,11 +1,10 @@
 //! Runs on one slot.
-use crate::machine::script::{Fact, Run, StoryLine, are_told};
+use crate::machine::script::{Fact, Run, StoryLine};
 use machine_replay::types::EffectKind;
 use queue_steps::errors::PopError;
 use queue_steps::model::{Call, Reply};
-use queue_steps::steps::Kind;
 
-static RUNS: [Run<'static>; 6] = [
+pub(crate) static RUNS: [Run<'static>; 6] = [
     // A pop that holds the slot: another pop finds nothing, and a push waits until the first pop has ended.
     Run {
         name: "pop holds the slot",
@@ -107,8 +106,3 @@ static RUNS: [Run<'static>; 6] = [
         facts: &[Fact::Left(&[2])],
     },
 ];
-
-#[test]
-fn runs_on_one_slot(rt: HostRuntime) {
-    are_told(&rt, rt.alloc(), Kind::Single, &RUNS);
-}

@@ -1,14 +1,12 @@
 //! Queues without a capacity and with one owner: replies from the table of the abstract queue, the ends of ranges, the blocks that are held, and want of memory.
-use crate::asserts::is_in;
-use crate::owner::rows::{Made, Story, StoryLine, are_refused, tell_all};
+use crate::owner::rows::{Made, Refused, Story, StoryLine};
 use exclusive_queue::Exclusive;
 use exclusive_queue::errors::{ForcePushError, PopError, PushError};
 use queue_steps::model::{Call, Reply};
 use queue_steps::sizes::LIMIT;
-use test_allocators::items::{Counted, Items};
-use test_allocators::{Heap, Refusal};
+use test_allocators::Refusal;
 
-static STORIES: [Story<'static>; 16] = [
+pub(crate) static STORIES: [Story<'static>; 16] = [
     // As many as a block has, and far more: each is accepted, and comes out in its turn.
     Story {
         name: "100 in and out",
@@ -215,13 +213,8 @@ static STORIES: [Story<'static>; 16] = [
     },
 ];
 
-#[test]
-fn stories_of_chains(rt: HostRuntime) {
-    tell_all(&rt, rt.alloc(), &STORIES);
-}
-
 /// A queue that is to stand as after some items asks for one block.
-static REFUSED: [(&str, Refusal, Made, u64); 5] = [
+pub(crate) static REFUSED: [Refused; 5] = [
     ("after 1", Refusal::Always, Made::UnboundedAfter(1), 1),
     ("after 62", Refusal::Always, Made::UnboundedAfter(62), 1),
     ("after 63", Refusal::Always, Made::UnboundedAfter(63), 1),
@@ -233,34 +226,6 @@ static REFUSED: [(&str, Refusal, Made, u64); 5] = [
         1,
     ),
 ];
-
-#[test]
-fn refused_chains(rt: HostRuntime) {
-    are_refused(&rt, rt.alloc(), &REFUSED);
-}
-
-/// Pushes so many items, pops one and drops the queue. Gives how many were dropped before the queue was, and in the end.
-fn drops_of(heap: &Heap, count: u64) -> [u64; 2] {
-    let items = Items::none();
-    let mut queue: Exclusive<Counted, &Heap> = Exclusive::unbounded(heap);
-    for _ in 0..count {
-        let _ = queue.push(Counted::of(&items));
-    }
-    let _ = queue.pop();
-    let before = items.dropped();
-    drop(queue);
-    [before, items.dropped()]
-}
-
-/// An item that was refused would be dropped before the queue is.
-#[test]
-fn drops_what_is_left(rt: HostRuntime) {
-    for count in [0, 1, 62, 63, 64, 126, 127] {
-        let heap = Heap::new(rt.alloc(), Refusal::Never);
-        let drops = drops_of(&heap, count);
-        is_in(&rt, count, (drops, heap.live()), ([count.min(1), count], 0));
-    }
-}
 
 fn is_sent<T: Send>(_value: &T) {}
 

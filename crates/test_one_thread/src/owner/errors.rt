@@ -12,11 +12,8 @@ fn is_printed<E: Display + Debug>(alloc: Global, error: &E, expected: &str) -> b
     }
 }
 
-/// An error, what is printed of it, and whether it is said to be of each of two kinds.
-type Told<E> = (E, &'static str, bool, bool);
-
-/// Whether it is that of an empty queue, and that of a closed one.
-static POP: [Told<PopError>; 2] = [
+/// An error, what is printed of it, and whether it is that of an empty queue, and that of a closed one.
+static POP: [(PopError, &str, bool, bool); 2] = [
     (
         PopError::Empty,
         "Empty|     Empty|Empty     |Empty",
@@ -31,108 +28,74 @@ static POP: [Told<PopError>; 2] = [
     ),
 ];
 
-/// Whether it is that of a full queue, and that of a closed one.
-static PUSH: [Told<PushError<u64>>; 3] = [
+/// An error, what is printed of it, whether it is that of a full queue, and that of a closed one, and the value that it hands back.
+static PUSH: [(PushError<u64>, &str, bool, bool, u64); 3] = [
     (
         PushError::Full(7),
         "Full|      Full|Full      |Full(7)",
         true,
         false,
+        7,
     ),
     (
-        PushError::Closed(7),
-        "Closed|    Closed|Closed    |Closed(7)",
+        PushError::Closed(8),
+        "Closed|    Closed|Closed    |Closed(8)",
         false,
         true,
+        8,
     ),
     (
-        PushError::NoMemory(7),
-        "NoMemory|  NoMemory|NoMemory  |NoMemory(7)",
+        PushError::NoMemory(9),
+        "NoMemory|  NoMemory|NoMemory  |NoMemory(9)",
         false,
         false,
+        9,
     ),
 ];
 
-static FORCE: [(ForcePushError<u64>, &str); 2] = [
+/// An error, what is printed of it, and the value that it hands back.
+static FORCE: [(ForcePushError<u64>, &str, u64); 2] = [
     (
         ForcePushError::Closed(7),
         "Closed|    Closed|Closed    |Closed(7)",
+        7,
     ),
     (
-        ForcePushError::NoMemory(7),
-        "NoMemory|  NoMemory|NoMemory  |NoMemory(7)",
+        ForcePushError::NoMemory(8),
+        "NoMemory|  NoMemory|NoMemory  |NoMemory(8)",
+        8,
     ),
 ];
 
+/// Each error is printed, each predicate is true on its variant alone, and each value is handed back.
 #[test]
-fn each_error_is_printed(rt: HostRuntime) {
-    for (error, text, _, _) in POP.iter() {
-        is_in(&rt, *text, is_printed(rt.alloc(), error, text), true);
-    }
-    for (error, text, _, _) in PUSH.iter() {
-        is_in(&rt, *text, is_printed(rt.alloc(), error, text), true);
-    }
-    for (error, text) in FORCE.iter() {
-        is_in(&rt, *text, is_printed(rt.alloc(), error, text), true);
-    }
-}
-
-#[test]
-fn each_predicate_is_true_on_its_variant_alone(rt: HostRuntime) {
+fn each_error_tells_what_it_is(rt: HostRuntime) {
     for (error, text, empty, closed) in POP.iter() {
-        let right = error.is_empty() == *empty && error.is_closed() == *closed;
-        is_in(&rt, *text, right, true);
+        let printed = is_printed(rt.alloc(), error, text);
+        let told = (printed, error.is_empty(), error.is_closed());
+        is_in(&rt, *text, told, (true, *empty, *closed));
     }
-    for (error, text, full, closed) in PUSH.iter() {
-        let right = error.is_full() == *full && error.is_closed() == *closed;
-        is_in(&rt, *text, right, true);
+    for (error, text, full, closed, value) in PUSH.iter() {
+        let printed = is_printed(rt.alloc(), error, text);
+        let told = (printed, error.is_full(), error.is_closed());
+        let inner = (*error).into_inner();
+        is_in(&rt, *text, (told, inner), ((true, *full, *closed), *value));
     }
-}
-
-static OF_PUSHES: [(PushError<u64>, u64); 3] = [
-    (PushError::Full(7), 7),
-    (PushError::Closed(8), 8),
-    (PushError::NoMemory(9), 9),
-];
-
-static OF_FORCED_PUSHES: [(ForcePushError<u64>, u64); 2] = [
-    (ForcePushError::Closed(7), 7),
-    (ForcePushError::NoMemory(8), 8),
-];
-
-#[test]
-fn into_inner_hands_the_value_back(rt: HostRuntime) {
-    for (error, value) in OF_PUSHES.iter() {
-        is(&rt, (*error).into_inner(), *value);
-    }
-    for (error, value) in OF_FORCED_PUSHES.iter() {
-        is(&rt, (*error).into_inner(), *value);
+    for (error, text, value) in FORCE.iter() {
+        let printed = is_printed(rt.alloc(), error, text);
+        is_in(&rt, *text, (printed, (*error).into_inner()), (true, *value));
     }
 }
 
-/// Two errors, and whether they are equal.
-static PAIRS: [(&str, PushError<u64>, PushError<u64>, bool); 3] = [
-    ("the same", PushError::Full(7), PushError::Full(7), true),
-    (
-        "another value",
-        PushError::Full(7),
-        PushError::Full(8),
-        false,
-    ),
-    (
-        "another variant",
-        PushError::Full(7),
-        PushError::Closed(7),
-        false,
-    ),
-];
-
+/// The same, another value, and another variant of each error.
 #[test]
 fn errors_are_equal_by_variant_and_value(rt: HostRuntime) {
-    for (name, one, other, equal) in PAIRS.iter() {
-        is_in(&rt, *name, *one == *other, *equal);
-    }
-    let pops = PopError::Empty == PopError::Closed;
-    let forced = ForcePushError::Closed(7u64) == ForcePushError::NoMemory(7);
-    is(&rt, (pops, forced), (false, false));
+    let equal = [
+        PushError::Full(7) == PushError::Full(7u64),
+        PushError::Full(7) == PushError::Full(8u64),
+        PushError::Full(7) == PushError::Closed(7u64),
+        PopError::Empty == PopError::Closed,
+        ForcePushError::Closed(7u64) == ForcePushError::NoMemory(7),
+    ];
+    is(&rt, equal, [true, false, false, false, false]);
 }

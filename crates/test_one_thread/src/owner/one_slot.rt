@@ -1,14 +1,10 @@
 //! Queues of one slot with one owner: worked examples.
-use crate::asserts::is;
-use crate::owner::rows::{Made, Story, StoryLine, tell_all};
-use exclusive_queue::{Exclusive, ForcePushError, PopError, PushError};
+use crate::owner::rows::{Made, Story, StoryLine};
+use exclusive_queue::errors::{ForcePushError, PopError, PushError};
 use queue_steps::model::{Call, Reply};
-use std::alloc::Global;
-use std::process::Abort;
-use std::sync::Arc;
 use test_allocators::Refusal;
 
-static STORIES: [Story<'static>; 3] = [
+pub(crate) static STORIES: [Story<'static>; 3] = [
     Story {
         name: "a full slot and a closed one refuse",
         refusal: Refusal::Never,
@@ -51,33 +47,3 @@ static STORIES: [Story<'static>; 3] = [
         ],
     },
 ];
-
-#[test]
-fn stories_of_one_slot(rt: HostRuntime) {
-    tell_all(&rt, rt.alloc(), &STORIES);
-}
-
-/// Pushes an item, and drops what is handed back.
-fn push_or_drop(queue: &mut Exclusive<Arc<()>>, item: Arc<()>) {
-    if let Err(why) = queue.push(item) {
-        drop(why.into_inner());
-    }
-}
-
-/// Pushes two items into one slot and drops the queue. Gives how many are there after each.
-fn counts(rt: &impl Abort, alloc: Global) -> [usize; 3] {
-    let counter = Arc::new(alloc, ()).expect(rt, "memory");
-    let mut queue = Exclusive::bounded(alloc, 1).expect(rt, "memory");
-    push_or_drop(&mut queue, counter.clone().expect(rt, "memory"));
-    let first = Arc::strong_count(&counter);
-    push_or_drop(&mut queue, counter.clone().expect(rt, "memory"));
-    let second = Arc::strong_count(&counter);
-    drop(queue);
-    [first, second, Arc::strong_count(&counter)]
-}
-
-/// What is refused is handed back, and what is left is dropped once with the queue.
-#[test]
-fn what_is_left_is_dropped_once(rt: HostRuntime) {
-    is(&rt, counts(&rt, rt.alloc()), [2, 2, 1]);
-}

@@ -1,7 +1,6 @@
 //! Items that are read in their places, and items that are taken out of a queue that ends.
 use crate::asserts::{is, is_in};
-use crate::owner::rows::{Made, open};
-use exclusive_queue::Exclusive;
+use crate::owner::rows::{Counting, Made, filled};
 use test_allocators::{Heap, Refusal};
 
 /// How a queue is made, how many items go through it first, and how many are in it then.
@@ -18,42 +17,53 @@ static READ: [(Made, u64, u64); 10] = [
     (Made::Unbounded, 60, 140),
 ];
 
+/// How many items of a queue are 0, 1 and so on.
+fn in_order(queue: &Counting<'_>) -> u64 {
+    let mut next: u64 = 0;
+    for item in queue {
+        if *item == next {
+            next = next.wrapping_add(1);
+        }
+    }
+    next
+}
+
 /// The items come in their order, the front is the first of them, and all stay.
 #[test]
 fn items_are_read_and_stay(rt: HostRuntime) {
+    let heap = Heap::new(rt.alloc(), Refusal::Never);
     for (made, through, held) in READ.iter() {
-        let mut queue = open(&rt, rt.alloc(), *made);
-        for item in 0..*through {
-            let _ = queue.push(item);
-            let _ = queue.pop();
-        }
-        for item in 0..*held {
-            let _ = queue.push(item);
-        }
-        let in_order = queue.iter().copied().eq(0..*held);
-        let mut again: u64 = 0;
-        for _item in &queue {
-            again = again.wrapping_add(1);
-        }
-        let front = if *held == 0 { None } else { Some(0) };
+        let queue = filled(&rt, &heap, *made, *through, *held);
+        let read = [in_order(&queue), in_order(&queue), queue.len() as u64];
+        let first = queue.iter().next().copied();
+        let wanted = if *held == 0 { None } else { Some(0) };
         is_in(
             &rt,
             (*through, *held),
-            (in_order, again, queue.front().copied()),
-            (true, *held, front),
+            (read, first, queue.front().copied()),
+            ([*held; 3], wanted, wanted),
         );
     }
+}
+
+/// Takes so many items out of a queue that ends. Gives how many came in their turn, 0 first.
+fn first_of(queue: Counting<'_>, count: u64) -> u64 {
+    let mut next: u64 = 0;
+    let mut items = queue.into_iter();
+    for _ in 0..count {
+        if items.next() == Some(next) {
+            next = next.wrapping_add(1);
+        }
+    }
+    next
 }
 
 /// A queue that ends gives its items, and drops what is not asked for.
 #[test]
 fn a_queue_that_ends_gives_its_items(rt: HostRuntime) {
     let heap = Heap::new(rt.alloc(), Refusal::Never);
-    let mut queue: Exclusive<u64, _> = Exclusive::unbounded(&heap);
-    for item in 0..70u64 {
-        let _ = queue.push(item);
-    }
+    let queue = filled(&rt, &heap, Made::Unbounded, 0, 70);
     let held = heap.live();
-    let in_order = queue.into_iter().take(65).eq(0..65);
-    is(&rt, (0 < held, in_order, heap.live()), (true, true, 0));
+    let came = first_of(queue, 65);
+    is(&rt, (0 < held, came, heap.live()), (true, 65, 0));
 }

@@ -1,27 +1,24 @@
 //! Rings with one owner: replies from the table of the abstract queue, the ends of ranges, and want of memory.
-ghost use Rattle.std.specs.Prelude.{◌<◌};
-
-use crate::asserts::{is, is_in};
-use crate::owner::rows::{Made, Story, StoryLine, are_refused, open, tell_all};
-use exclusive_queue::Exclusive;
+use crate::owner::rows::{Made, Refused, Story, StoryLine};
 use exclusive_queue::errors::{ForcePushError, PopError, PushError};
 use queue_steps::model::{Call, Reply};
 use queue_steps::sizes::{LIMIT, MAX_CAPACITY};
-use std::alloc::{AllocError, Global};
-use std::process::Abort;
-use test_allocators::items::{Counted, Items};
-use test_allocators::{Heap, Refusal};
+use test_allocators::Refusal;
 
-#[test]
-fn first_in_first_out(rt: HostRuntime) {
-    let mut queue = Exclusive::bounded(rt.alloc(), 2).expect(&rt, "memory");
-    let pushed = [queue.push('a'), queue.push('b'), queue.push('c')];
-    let popped = [queue.pop(), queue.pop(), queue.pop()];
-    is(&rt, pushed, [Ok(()), Ok(()), Err(PushError::Full('c'))]);
-    is(&rt, popped, [Ok('a'), Ok('b'), Err(PopError::Empty)]);
-}
-
-static STORIES: [Story<'static>; 9] = [
+pub(crate) static STORIES: [Story<'static>; 10] = [
+    Story {
+        name: "first in, first out",
+        refusal: Refusal::Never,
+        made: Made::Bounded(2),
+        lines: &[
+            StoryLine::Call(Call::Push(1), Reply::Push(Ok(()))),
+            StoryLine::Call(Call::Push(2), Reply::Push(Ok(()))),
+            StoryLine::Call(Call::Push(3), Reply::Push(Err(PushError::Full(3)))),
+            StoryLine::Call(Call::Pop, Reply::Pop(Ok(1))),
+            StoryLine::Call(Call::Pop, Reply::Pop(Ok(2))),
+            StoryLine::Call(Call::Pop, Reply::Pop(Err(PopError::Empty))),
+        ],
+    },
     Story {
         name: "displaced fronts",
         refusal: Refusal::Never,
@@ -178,21 +175,7 @@ static STORIES: [Story<'static>; 9] = [
     },
 ];
 
-#[test]
-fn stories_of_rings(rt: HostRuntime) {
-    tell_all(&rt, rt.alloc(), &STORIES);
-}
-
-#[test]
-fn capacities(rt: HostRuntime) {
-    for cap in 1..10usize {
-        let queue = open(&rt, rt.alloc(), Made::Bounded(cap));
-        is(&rt, queue.capacity(), Some(cap));
-    }
-}
-
-/// What is refused: the request, how the queue is to be made, and how many requests there are then.
-static REFUSED: [(&str, Refusal, Made, u64); 19] = [
+pub(crate) static REFUSED: [Refused; 19] = [
     // Without a request: a capacity above the greatest, and one whose slots are more bytes than one allocation may have.
     (
         "above the greatest",
@@ -292,51 +275,44 @@ static REFUSED: [(&str, Refusal, Made, u64); 19] = [
     ),
 ];
 
-/// No ring is made where a request is refused, and nothing stays allocated.
-#[test]
-fn refused_rings(rt: HostRuntime) {
-    are_refused(&rt, rt.alloc(), &REFUSED);
-}
-
-/// Whether a ring of so many slots for bytes is refused, from the beginning and as after some items, and how many requests there are then.
-fn refuses_bytes(alloc: Global, cap: usize) -> ([bool; 2], u64)
-    requires { 1 < cap }
-{
-    let heap = Heap::new(alloc, Refusal::Always);
-    let fresh: Result<Exclusive<u8, &Heap>, AllocError> = Exclusive::bounded(&heap, cap);
-    let later: Result<Exclusive<u8, &Heap>, AllocError> = Exclusive::bounded_after(&heap, cap, 7);
-    ([fresh.is_err(), later.is_err()], heap.requests())
-}
-
-/// The allocator is asked for each capacity up to the greatest, and for none above it.
-#[test]
-fn the_greatest_capacity_is_asked_for(rt: HostRuntime) {
-    for (cap, requests) in [
-        (1 << 40, 2),
-        (1 << 50, 2),
-        (MAX_CAPACITY, 2),
-        (MAX_CAPACITY + 1, 0),
-    ] {
-        let seen = refuses_bytes(rt.alloc(), cap);
-        is_in(&rt, cap, seen, ([true, true], requests));
-    }
-}
-
-/// Pushes five items by force into three slots, pops one and drops the queue. Gives how many were dropped after each.
-fn drops_of(rt: &impl Abort, alloc: Global) -> [u64; 3] {
-    let items = Items::none();
-    let mut queue = Exclusive::bounded(alloc, 3).expect(rt, "memory");
-    for _ in 0..5u64 {
-        let _ = queue.force_push(Counted::of(&items));
-    }
-    let displaced = items.dropped();
-    let _ = queue.pop();
-    let taken = items.dropped();
-    drop(queue);
-    [displaced, taken, items.dropped()]
-}
-
-#[test]
-fn drops_what_is_left(rt: HostRuntime) {
-    is(&rt, drops_of(&rt, rt.alloc()), [2, 3, 5]);
-}
+/// Of rings for bytes the allocator is asked for each capacity up to the greatest, and for none above it.
+pub(crate) static OF_BYTES: [Refused; 8] = [
+    ("many bytes", Refusal::Always, Made::Bounded(1 << 40), 1),
+    (
+        "many bytes, after 7",
+        Refusal::Always,
+        Made::BoundedAfter(1 << 40, 7),
+        1,
+    ),
+    ("more bytes", Refusal::Always, Made::Bounded(1 << 50), 1),
+    (
+        "more bytes, after 7",
+        Refusal::Always,
+        Made::BoundedAfter(1 << 50, 7),
+        1,
+    ),
+    (
+        "the greatest of bytes",
+        Refusal::Always,
+        Made::Bounded(MAX_CAPACITY),
+        1,
+    ),
+    (
+        "the greatest of bytes, after 7",
+        Refusal::Always,
+        Made::BoundedAfter(MAX_CAPACITY, 7),
+        1,
+    ),
+    (
+        "above the greatest of bytes",
+        Refusal::Always,
+        Made::Bounded(MAX_CAPACITY + 1),
+        0,
+    ),
+    (
+        "above the greatest of bytes, after 7",
+        Refusal::Always,
+        Made::BoundedAfter(MAX_CAPACITY + 1, 7),
+        0,
+    ),
+];

@@ -3,13 +3,13 @@ use crate::asserts::is_in;
 use exclusive_queue::{Exclusive, PushError};
 use queue_steps::model::{Call, Reply};
 use queue_steps::sizes::LIMIT;
-use std::alloc::{AllocError, Allocator, Global};
+use std::alloc::{AllocError, Global};
 use std::ops::Range;
 use std::process::Abort;
 use test_allocators::{Heap, Refusal};
 
 /// A queue whose requests are counted.
-type Counting<'a> = Exclusive<u64, &'a Heap>;
+pub(crate) type Counting<'a> = Exclusive<u64, &'a Heap>;
 
 /// How a queue is made.
 #[derive(Clone, Copy)]
@@ -22,30 +22,45 @@ pub(crate) enum Made {
 
 impl Made {
     /// The queue, where there is memory.
-    fn queue<A: Allocator + Clone>(
+    pub(crate) fn queue<'a, T: Drop>(
         self,
         rt: &impl Abort,
-        alloc: A,
-    ) -> Result<Exclusive<u64, A>, AllocError> {
+        heap: &'a Heap,
+    ) -> Result<Exclusive<T, &'a Heap>, AllocError> {
         match self {
-            Made::Bounded(cap) if 0 < cap => Exclusive::bounded(alloc, cap),
+            Made::Bounded(cap) if 0 < cap => Exclusive::bounded(heap, cap),
             Made::BoundedAfter(cap, n) if 1 < cap && n <= LIMIT => {
-                Exclusive::bounded_after(alloc, cap, n)
+                Exclusive::bounded_after(heap, cap, n)
             }
-            Made::Unbounded => Ok(Exclusive::unbounded(alloc)),
-            Made::UnboundedAfter(n) if n <= LIMIT => Exclusive::unbounded_after(alloc, n),
+            Made::Unbounded => Ok(Exclusive::unbounded(heap)),
+            Made::UnboundedAfter(n) if n <= LIMIT => Exclusive::unbounded_after(heap, n),
             _ => panic!(rt; "there is no such queue"),
         }
     }
 }
 
 /// A queue that is made so. Asserts that there is memory.
-pub(crate) fn open<A: Allocator + Clone>(
+pub(crate) fn open<'a>(rt: &impl Abort, heap: &'a Heap, made: Made) -> Counting<'a> {
+    made.queue(rt, heap).expect(rt, "memory")
+}
+
+/// A queue that is made so, which so many items go through, and into which 0, 1 and so on are pushed, so many numbers. Asserts that there is memory.
+pub(crate) fn filled<'a>(
     rt: &impl Abort,
-    alloc: A,
+    heap: &'a Heap,
     made: Made,
-) -> Exclusive<u64, A> {
-    made.queue(rt, alloc).expect(rt, "memory")
+    through: u64,
+    count: u64,
+) -> Counting<'a> {
+    let mut queue = open(rt, heap, made);
+    for item in 0..through {
+        let _ = queue.push(item);
+        let _ = queue.pop();
+    }
+    for item in 0..count {
+        let _ = queue.push(item);
+    }
+    queue
 }
 
 /// A line of a story.
@@ -188,11 +203,14 @@ pub(crate) fn tell_all(rt: &impl Abort, alloc: Global, stories: &[Story<'_>]) {
     }
 }
 
+/// A request that is refused, how a queue is to be made, and how many requests there are then.
+pub(crate) type Refused = (&'static str, Refusal, Made, u64);
+
 /// Asserts that none of these queues is made, after so many requests each, and that nothing stays allocated.
-pub(crate) fn are_refused(rt: &impl Abort, alloc: Global, rows: &[(&str, Refusal, Made, u64)]) {
+pub(crate) fn are_refused<T: Drop>(rt: &impl Abort, alloc: Global, rows: &[Refused]) {
     for (name, refusal, made, requests) in rows {
         let heap = Heap::new(alloc, *refusal);
-        let refused = made.queue(rt, &heap).is_err();
+        let refused = made.queue::<T>(rt, &heap).is_err();
         let seen = (refused, heap.requests(), heap.live());
         is_in(rt, *name, seen, (true, *requests, 0));
     }

@@ -10,7 +10,7 @@ use test_allocators::items::{Counted, Items};
 use test_allocators::{Heap, Refusal};
 
 /// A run in which queues of capacity 1, of capacity 2 and without one answer each otherwise.
-static CALLS: [Call<u64>; 7] = [
+const CALLS: [Call<u64>; 7] = [
     Call::Push(1),
     Call::Push(2),
     Call::ForcePush(3),
@@ -20,7 +20,7 @@ static CALLS: [Call<u64>; 7] = [
     Call::Len,
 ];
 
-static OF_ONE_SLOT: [Reply<u64>; 7] = [
+const OF_ONE_SLOT: [Reply<u64>; 7] = [
     Reply::Push(Ok(())),
     Reply::Push(Err(PushError::Full(2))),
     Reply::ForcePush(Ok(Some(1))),
@@ -30,7 +30,7 @@ static OF_ONE_SLOT: [Reply<u64>; 7] = [
     Reply::Len(0),
 ];
 
-static OF_TWO_SLOTS: [Reply<u64>; 7] = [
+const OF_TWO_SLOTS: [Reply<u64>; 7] = [
     Reply::Push(Ok(())),
     Reply::Push(Ok(())),
     Reply::ForcePush(Ok(Some(1))),
@@ -40,7 +40,7 @@ static OF_TWO_SLOTS: [Reply<u64>; 7] = [
     Reply::Len(1),
 ];
 
-static WITHOUT_A_CAPACITY: [Reply<u64>; 7] = [
+const WITHOUT_A_CAPACITY: [Reply<u64>; 7] = [
     Reply::Push(Ok(())),
     Reply::Push(Ok(())),
     Reply::ForcePush(Ok(None)),
@@ -51,7 +51,7 @@ static WITHOUT_A_CAPACITY: [Reply<u64>; 7] = [
 ];
 
 /// Each call once.
-static EACH_CALL: [Call<u64>; 9] = [
+const EACH_CALL: [Call<u64>; 9] = [
     Call::Push(1),
     Call::ForcePush(2),
     Call::IsFull,
@@ -63,7 +63,7 @@ static EACH_CALL: [Call<u64>; 9] = [
     Call::Capacity,
 ];
 
-static TO_EACH_CALL: [Reply<u64>; 9] = [
+const TO_EACH_CALL: [Reply<u64>; 9] = [
     Reply::Push(Ok(())),
     Reply::ForcePush(Ok(None)),
     Reply::IsFull(true),
@@ -92,58 +92,45 @@ fn run_gives<S: Store<u64>>(
 }
 
 /// How a queue is made, a run of calls on it, and the replies.
-type Run = (Made, &'static [Call<u64>], &'static [Reply<u64>]);
+type Run = (
+    &'static str,
+    Made,
+    &'static [Call<u64>],
+    &'static [Reply<u64>],
+);
+
+static RUNS: [Run; 4] = [
+    ("one slot", Made::Bounded(1), &CALLS, &OF_ONE_SLOT),
+    ("two slots", Made::Bounded(2), &CALLS, &OF_TWO_SLOTS),
+    ("a chain", Made::Unbounded, &CALLS, &WITHOUT_A_CAPACITY),
+    ("each call", Made::Bounded(2), &EACH_CALL, &TO_EACH_CALL),
+];
 
 #[test]
 fn one_run_on_each_kind(rt: HostRuntime) {
-    let runs: [Run; 4] = [
-        (Made::Bounded(1), &CALLS, &OF_ONE_SLOT),
-        (Made::Bounded(2), &CALLS, &OF_TWO_SLOTS),
-        (Made::Unbounded, &CALLS, &WITHOUT_A_CAPACITY),
-        (Made::Bounded(2), &EACH_CALL, &TO_EACH_CALL),
-    ];
-    for (made, calls, replies) in runs {
-        let mut queue = open(&rt, rt.alloc(), made);
+    let heap = Heap::new(rt.alloc(), Refusal::Never);
+    for (name, made, calls, replies) in RUNS.iter() {
+        let mut queue = open(&rt, &heap, *made);
         let right = run_gives(&rt, rt.alloc(), &mut queue, calls, replies);
-        is_in(&rt, replies, right, true);
+        is_in(&rt, *name, right, true);
     }
-}
-
-/// So many calls, pushes and pops in turn. Asserts that there is memory.
-fn turns(rt: &impl Abort, alloc: Global, count: u64) -> Vec<Call<u64>> {
-    let mut calls = Vec::new(alloc);
-    for turn in 0..count {
-        let call = if turn % 2 == 0 {
-            Call::Push(turn)
-        } else {
-            Call::Pop
-        };
-        calls.push(call).expect(rt, "memory");
-    }
-    calls
-}
-
-/// Runs so many calls. Gives how many pushes were accepted, and how many pops gave an item. Asserts that there is memory.
-fn run_turns(rt: &impl Abort, alloc: Global, count: u64) -> (u64, u64) {
-    let mut queue: Exclusive<u64> = Exclusive::unbounded(alloc);
-    let calls = turns(rt, alloc, count);
-    let mut pushed = 0u64;
-    let mut popped = 0u64;
-    for reply in run(alloc, &mut queue, calls).expect(rt, "memory") {
-        match reply {
-            Reply::Push(Ok(())) => pushed = pushed.wrapping_add(1),
-            Reply::Pop(Ok(_)) => popped = popped.wrapping_add(1),
-            _ => {}
-        }
-    }
-    (pushed, popped)
 }
 
 /// There is no bound on the calls of a run but memory.
 #[test]
 fn one_long_run(rt: HostRuntime) {
-    let seen = run_turns(&rt, rt.alloc(), 70_000);
-    is(&rt, seen, (35_000, 35_000));
+    let alloc = rt.alloc();
+    let heap = Heap::new(alloc, Refusal::Never);
+    let calls = [Call::Push(7u64), Call::Pop].repeat(alloc, 35_000);
+    let replies = [Reply::Push(Ok(())), Reply::Pop(Ok(7u64))].repeat(alloc, 35_000);
+    let calls = calls.expect(&rt, "memory");
+    let replies = replies.expect(&rt, "memory");
+    let mut queue = open(&rt, &heap, Made::Unbounded);
+    is(
+        &rt,
+        run_gives(&rt, alloc, &mut queue, &calls, &replies),
+        true,
+    );
 }
 
 #[test]
@@ -159,10 +146,10 @@ fn one_run_on_a_slot(rt: HostRuntime) {
 /// What is seen of a run that has no room for its replies: whether that is told, how many items were dropped then, and in the end; and the length of the queue, and whether it is closed.
 type Seen = (bool, [u64; 2], usize, bool);
 
-/// Runs two calls with an item each, and a close between them, on two slots of which one has an item. The list of the calls is the heap's first request.
-fn run_without_room(rt: &impl Abort, alloc: Global, heap: &Heap) -> Seen {
+/// Runs two calls with an item each, and a close between them, on two slots of which one has an item. The queue is the heap's first four requests, and the list of the calls is the fifth.
+fn run_without_room(rt: &impl Abort, heap: &Heap) -> Seen {
     let items = Items::none();
-    let mut queue = Exclusive::bounded(alloc, 2).expect(rt, "memory");
+    let mut queue = Exclusive::bounded(heap, 2).expect(rt, "memory");
     let _ = queue.push(Counted::of(&items));
     let calls = vec![in heap;
         Call::Push(Counted::of(&items)),
@@ -179,8 +166,8 @@ fn run_without_room(rt: &impl Abort, alloc: Global, heap: &Heap) -> Seen {
 /// Where there is no room for the replies no call is made, and what the calls carry is dropped once.
 #[test]
 fn no_room_for_the_replies(rt: HostRuntime) {
-    let heap = Heap::new(rt.alloc(), Refusal::Nth(2));
-    let seen = run_without_room(&rt, rt.alloc(), &heap);
+    let heap = Heap::new(rt.alloc(), Refusal::Nth(6));
+    let seen = run_without_room(&rt, &heap);
     is(&rt, seen, (true, [2, 3], 1, false));
-    is(&rt, (heap.requests(), heap.live()), (2, 0));
+    is(&rt, (heap.requests(), heap.live()), (6, 0));
 }

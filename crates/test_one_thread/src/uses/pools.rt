@@ -1,37 +1,37 @@
 //! Places are taken until none is left, and one is given back between.
-use crate::asserts::is;
+ghost use Rattle.std.specs.Prelude.{◌<◌};
+
+use crate::asserts::is_in;
+use std::alloc::Global;
+use std::process::Abort;
 use test_allocators::{Heap, Refusal};
 use use_pool::Pool;
 
-#[test]
-fn a_place_is_out_once(rt: HostRuntime) {
-    let mut pool = Pool::new(rt.alloc(), 2).expect(&rt, "memory");
-    let first = pool.take();
-    let second = pool.take().expect(&rt, "a second place");
-    let back = pool.give_back(second);
-    let again = pool.take();
-    let none = pool.take();
-    let seen = (first, second, back, again, none);
-    is(&rt, seen, (Some(0), 1, Ok(()), Some(1), None));
-}
-
-#[test]
-fn thousands_of_places_are_taken(rt: HostRuntime) {
-    let mut pool = Pool::new(rt.alloc(), 5000).expect(&rt, "memory");
+/// Takes all places of a pool but the last, and then the last one, which is given back and taken again. Asserts that each was out once, that no other was, and that the pool, of which all places are out, leaves nothing allocated once it is dropped.
+fn places_are_out(rt: &impl Abort, alloc: Global, count: usize)
+    requires { 1 < count }
+{
+    let heap = Heap::new(alloc, Refusal::Never);
+    let mut pool = Pool::new(&heap, count).expect(rt, "memory");
     let mut right = true;
-    for place in 0..5000u64 {
-        right = pool.take() == Some(place) && right;
+    for place in 1..count as u64 {
+        right = pool.take() == Some(place - 1) && right;
     }
-    is(&rt, (right, pool.take()), (true, None));
-}
-
-/// A pool of which a place is out leaves nothing allocated once it is dropped.
-#[test]
-fn a_dropped_pool_leaves_nothing(rt: HostRuntime) {
-    let heap = Heap::new(rt.alloc(), Refusal::Never);
-    let mut pool = Pool::new(&heap, 3).expect(&rt, "memory");
-    let first = pool.take();
+    let last = pool.take().expect(rt, "a last place");
+    let seen = (pool.give_back(last), pool.take(), pool.take());
     let held = heap.live();
     drop(pool);
-    is(&rt, (first, 0 < held, heap.live()), (Some(0), true, 0));
+    is_in(
+        rt,
+        count,
+        (right, last.wrapping_add(1), seen, 0 < held, heap.live()),
+        (true, count as u64, (Ok(()), Some(last), None), true, 0),
+    );
+}
+
+#[test]
+fn a_place_is_out_once(rt: HostRuntime) {
+    for count in [2, 3, 5000usize] {
+        places_are_out(&rt, rt.alloc(), count);
+    }
 }
