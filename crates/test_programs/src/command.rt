@@ -1,12 +1,12 @@
 //! `queue_run`.
 pub mod channels;
+pub mod closing;
+pub mod counts;
 pub mod crew;
-pub mod meanwhile;
+pub mod ends;
 pub mod program;
 pub mod refusals;
-pub mod refused;
 pub mod replays;
-pub mod rows;
 pub mod scripts;
 pub mod streams;
 pub mod threads;

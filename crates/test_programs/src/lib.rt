@@ -4,12 +4,18 @@
 #[cfg(test)]
 mod asserts;
 #[cfg(test)]
+mod comes;
+#[cfg(test)]
 mod command;
 #[cfg(test)]
 mod explore;
+#[cfg(test)]
+mod parts;
 #[cfg(test)]
 mod refusals;
 #[cfg(test)]
 mod runs;
 #[cfg(test)]
 mod streams;
+#[cfg(test)]
+mod tables;

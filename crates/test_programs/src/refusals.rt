@@ -17,6 +17,10 @@ pub struct Asking<'a> {
     pub input: &'a str,
     pub output: &'a str,
     pub told: Option<&'static str>,
+    /// How many requests it makes at least.
+    pub least: u64,
+    /// Whether a part of the output is written before the last requests.
+    pub begins: bool,
 }
 
 impl Asking<'_> {
@@ -67,22 +71,22 @@ fn refuse<R: Abort + Threads + Wait + Sync + AllocGlobal>(
     }
 }
 
-/// How many requests a run makes; at how many of them, refused, it ended well; and at how many a part of its output was written before it ended for want of memory.
+/// How many requests a run makes; at how many of them, refused, it ended well; and whether a part of its output was written before one for want of which it ended.
 #[derive(Clone, Copy)]
-pub struct Tally {
-    pub requests: u64,
-    pub well: u64,
-    pub begun: u64,
+struct Tally {
+    requests: u64,
+    well: u64,
+    begun: bool,
 }
 
 /// Refuses each request of a run in turn. Asserts that each ends as it may, and that nothing stays allocated.
-pub fn refuse_each<R: Abort + Threads + Wait + Sync + AllocGlobal>(
+fn refuse_each<R: Abort + Threads + Wait + Sync + AllocGlobal>(
     rt: &R,
     program: Program,
     asking: &Asking<'_>,
 ) -> Tally {
     let mut well = 0u64;
-    let mut begun = 0u64;
+    let mut begun = false;
     for number in 1..MANY {
         let refused = refuse(rt, program, asking, number);
         let seen = (refused.right, refused.live);
@@ -96,24 +100,24 @@ pub fn refuse_each<R: Abort + Threads + Wait + Sync + AllocGlobal>(
         }
         if refused.well {
             well = well.wrapping_add(1);
-        } else if refused.begun {
-            begun = begun.wrapping_add(1);
+        } else {
+            begun = begun || refused.begun;
         }
     }
     panic!(rt; "more requests");
 }
 
-/// Asserts that of each of these runs, which makes so many requests at least: that it goes on where the request for a block is refused, which is one at most, and ends at every other, with nothing written.
+/// Asserts that of each of these runs, that it goes on where the request for a block is refused, which is one at most, and ends at every other.
 pub fn all_refuse<R: Abort + Threads + Wait + Sync + AllocGlobal>(
     rt: &R,
     program: Program,
     runs: &[Asking<'_>],
-    least: u64,
 ) {
     for asking in runs {
         let tally = refuse_each(rt, program, asking);
         let blocks = u64::from(asking.told.is_some());
-        let seen = (least <= tally.requests, tally.well, tally.begun);
-        is_in(rt, (asking.line, asking.input), seen, (true, blocks, 0));
+        let seen = (asking.least <= tally.requests, tally.well, tally.begun);
+        let wanted = (true, blocks, asking.begins);
+        is_in(rt, (asking.line, asking.input), seen, wanted);
     }
 }

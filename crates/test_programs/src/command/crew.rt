@@ -1,293 +1,344 @@
-//! Paths of the form `threads` that no run of the program takes: counts that are wrong, and a queue that is closed while threads work on it.
-ghost use Rattle.std.specs.Prelude.{◌≡◌, ◌<◌, ◌+◌, ◌*◌, ◌^◌, length};
+//! Crews of the form `threads` as no run of the program has them: on queues that are closed, or have items before, or whose blocks are refused, and at work within one another's calls.
+ghost use Rattle.std.specs.Prelude.{◌≡◌, ◌<◌, ◌+◌, ◌*◌, ◌^◌, true, IfOk};
 ghost use Rattle.concurrent_queue.specs.Shared.{IsPartyOf};
 
-use crate::asserts::is;
-use app_threads::counts::{Finding, count, judge, none_counted};
-use app_threads::crew::{Plan, Queue, Work, run_all};
+use crate::asserts::is_in;
+use app_threads::counts::{Finding, judge};
+use app_threads::crew::{Plan, Work, run_all};
 use app_threads::limit::NO_LIMIT;
-use app_threads::verdict::Verdict;
-use concurrent_queue::Party;
+use concurrent_queue::{ConcurrentQueue, Party};
+use std::alloc::AllocError;
 use std::process::Abort;
 use std::sync::Wait;
-use std::thread::{Threads, join, yield_now};
+use std::thread::Threads;
+use test_allocators::{Heap, Refusal};
 
-/// How often each of three values came, of these values.
-fn counts_of<R: Abort + AllocGlobal>(rt: &R, values: &[u64]) -> [u64; 3] {
-    let mut counts = none_counted(rt.alloc(), 3).expect(rt, "memory for the counts");
-    for value in values {
-        if counts.iter().all(|count| *count < 9) {
-            count(&mut counts, *value);
+/// A queue that asks such a heap for its memory.
+pub type Queue<'a> = ConcurrentQueue<u64, &'a Heap>;
+
+/// What is seen of a crew: whether all was done, what the counts show, and how many items are left, in a queue that is open or not; nothing of them where a party is missing.
+pub type Seen = (bool, Finding, Option<(usize, bool)>);
+
+/// What a crew is given, and what is to be seen of it.
+pub struct Row {
+    pub name: &'static str,
+    /// The capacity of its queue, if there is one.
+    pub cap: Option<usize>,
+    /// Which requests for memory are refused.
+    pub refusal: Refusal,
+    /// Whether the first request of a thread is held until there is another one.
+    pub holds: bool,
+    /// What the queue has before.
+    pub before: &'static [u64],
+    /// Whether it is closed before.
+    pub closed: bool,
+    pub pushers: u64,
+    pub poppers: u64,
+    pub items: u64,
+    /// How many items each popper pops.
+    pub share: u64,
+    /// How often each item is to come.
+    pub times: u64,
+    /// Nothing where there is no memory for the queue.
+    pub seen: Option<Seen>,
+}
+
+impl Row {
+    /// What the threads are to do.
+    pub fn plan(&self) -> Plan {
+        Plan {
+            pushers: self.pushers,
+            poppers: self.poppers,
+            items: self.items,
+            share: self.share,
+            limit: NO_LIMIT,
         }
     }
-    [counts[0], counts[1], counts[2]]
 }
 
-#[test]
-fn wrong_counts_are_found(rt: HostRuntime) {
-    let counts = counts_of(&rt, &[0, 0, 1, 2, 2, 2, 3, u64::MAX]);
-    let findings = [judge(2, &counts), judge(1, &counts)];
-    let lost = Finding::Wrong { value: 1, times: 1 };
-    let doubled = Finding::Wrong { value: 0, times: 2 };
-    is(&rt, (counts, findings), ([2u64, 1, 3], [lost, doubled]));
-}
+/// No threads, on a queue without a capacity.
+pub const IDLE: Row = Row {
+    name: "",
+    cap: None,
+    refusal: Refusal::Never,
+    holds: false,
+    before: &[],
+    closed: false,
+    pushers: 0,
+    poppers: 0,
+    items: 0,
+    share: 0,
+    times: 0,
+    seen: None,
+};
 
-#[test]
-fn a_wrong_count_is_told(rt: HostRuntime) {
-    let lost = Finding::Wrong { value: 1, times: 1 };
-    let verdict = lost.verdict();
-    let text = format!(in rt.alloc(); "{lost}").expect(&rt, "memory for the text");
-    let seen = (verdict, verdict.status(), text.as_str());
-    is(&rt, seen, (Verdict::Wrong, 1, "value 1 counted 1 times"));
-}
+/// Nothing of two items is done on a queue that was closed before.
+const NOTHING: Option<Seen> = Some((
+    false,
+    Finding::Right {
+        values: 2,
+        times: 0,
+    },
+    Some((0, false)),
+));
 
-/// A plan of so many threads a side. Each popper is to pop two items.
-fn plan_of(pushers: u64, poppers: u64, items: u64) -> Plan
-    ensures { (result.pushers ≡ pushers) × (result.poppers ≡ poppers) × (result.items ≡ items) × (result.share ≡ 2) }
-{
-    Plan {
-        pushers,
-        poppers,
-        items,
+static ROWS: [Row; 10] = [
+    Row {
+        name: "nothing_is_done_on_a_closed_queue, by pushers",
+        cap: Some(1),
+        closed: true,
+        pushers: 3,
+        items: 2,
         share: 2,
-        limit: NO_LIMIT,
+        seen: NOTHING,
+        ..IDLE
+    },
+    Row {
+        name: "nothing_is_done_on_a_closed_queue, by poppers",
+        cap: Some(1),
+        closed: true,
+        poppers: 3,
+        items: 2,
+        share: 2,
+        seen: NOTHING,
+        ..IDLE
+    },
+    Row {
+        name: "nothing_is_done_on_a_closed_queue, by both",
+        cap: Some(1),
+        closed: true,
+        pushers: 2,
+        poppers: 2,
+        items: 2,
+        share: 2,
+        seen: NOTHING,
+        ..IDLE
+    },
+    // The item that a closed queue still has is popped and counted; then the poppers find it closed.
+    Row {
+        name: "what_a_closed_queue_has_is_counted",
+        cap: Some(1),
+        before: &[1],
+        closed: true,
+        pushers: 1,
+        poppers: 2,
+        items: 2,
+        share: 1,
+        seen: Some((
+            false,
+            Finding::Wrong { value: 1, times: 1 },
+            Some((0, false)),
+        )),
+        ..IDLE
+    },
+    Row {
+        name: "no_popper_pops_more_than_its_share",
+        cap: Some(5),
+        before: &[0, 1, 2, 3, 4],
+        closed: true,
+        poppers: 2,
+        items: 5,
+        share: 2,
+        times: 1,
+        seen: Some((
+            true,
+            Finding::Wrong { value: 4, times: 0 },
+            Some((1, false)),
+        )),
+        ..IDLE
+    },
+    // All parties are joined again at the end of a run, and nothing is left.
+    Row {
+        name: "a_run_gives_its_party_back",
+        cap: Some(1),
+        pushers: 4,
+        poppers: 2,
+        items: 100,
+        share: 200,
+        times: 4,
+        seen: Some((
+            true,
+            Finding::Right {
+                values: 100,
+                times: 4,
+            },
+            Some((0, true)),
+        )),
+        ..IDLE
+    },
+    // While one thread's push waits for the first block, another thread's push asks for it too. On one thread no other call is made before that push is answered.
+    Row {
+        name: "two_pushes_of_a_crew_ask_for_memory_at_once",
+        holds: true,
+        pushers: 2,
+        items: 1,
+        seen: Some((
+            true,
+            Finding::Right {
+                values: 1,
+                times: 0,
+            },
+            Some((2, true)),
+        )),
+        ..IDLE
+    },
+    // The first request is for the queue, and the next one for a block. A thread that is refused a block reports that not all was done.
+    Row {
+        name: "an_item_without_a_block_is_not_done, without a queue",
+        refusal: Refusal::Nth(1),
+        pushers: 1,
+        items: 1,
+        share: 2,
+        ..IDLE
+    },
+    Row {
+        name: "an_item_without_a_block_is_not_done",
+        refusal: Refusal::Nth(2),
+        pushers: 1,
+        items: 1,
+        share: 2,
+        seen: Some((
+            false,
+            Finding::Right {
+                values: 1,
+                times: 0,
+            },
+            Some((0, false)),
+        )),
+        ..IDLE
+    },
+    Row {
+        name: "an_item_without_a_block_is_not_done, with a block",
+        refusal: Refusal::Nth(3),
+        pushers: 1,
+        items: 1,
+        share: 2,
+        seen: Some((
+            true,
+            Finding::Right {
+                values: 1,
+                times: 0,
+            },
+            Some((1, true)),
+        )),
+        ..IDLE
+    },
+];
+
+/// An empty open queue of this capacity, or without one, and its only party.
+pub fn open<'a>(
+    rt: &impl Abort,
+    heap: &'a Heap,
+    cap: Option<usize>,
+) -> Result<(Queue<'a>, Party<u64>), AllocError>
+    ensures { IfOk result (λ r. IsPartyOf r.1 r.0) }
+{
+    match cap {
+        Some(0) => panic!(rt; "a capacity of 0"),
+        Some(slots) => Queue::bounded(heap, slots),
+        None => Queue::unbounded(heap),
     }
 }
 
-/// Whether a value was counted.
-fn is_counted(counts: &[u64]) -> bool {
-    let mut counted = false;
-    for count in counts {
-        counted = *count != 0 || counted;
+/// Pushes these items.
+fn push_each<R: Abort + Wait>(rt: &R, queue: &Queue<'_>, party: &mut Party<u64>, items: &[u64])
+    requires { IsPartyOf party.old queue.now }
+    ensures { IsPartyOf party.new queue.now }
+{
+    for item in items {
+        let pushed = queue.push(rt, party, *item).is_ok();
+        is_in(rt, *item, pushed, true);
     }
-    counted
+}
+
+/// Makes a queue what it is to be before the threads begin.
+fn prepare<R: Abort + Wait>(
+    rt: &R,
+    heap: &Heap,
+    queue: &Queue<'_>,
+    party: &mut Party<u64>,
+    row: &Row,
+)
+    requires { IsPartyOf party.old queue.now }
+    ensures { IsPartyOf party.new queue.now }
+{
+    push_each(rt, queue, party, row.before);
+    if row.closed {
+        queue.close(party);
+    }
+    if row.holds {
+        heap.hold_until_another();
+    }
+}
+
+/// Whether there are so few threads that all that they pop can be counted.
+pub fn are_few(plan: Plan) -> bool
+    ensures { result ≡ true → (plan.pushers + plan.poppers < 2 ^ 64) × ((plan.pushers + plan.poppers) * plan.share < 2 ^ 64) }
+{
+    match plan.pushers.checked_add(plan.poppers) {
+        Some(threads) => threads.checked_mul(plan.share).is_some(),
+        None => false,
+    }
 }
 
 /// Runs the threads of a plan, for whose counts there is to be memory.
 fn work_of<R: Abort + Threads + Wait + Sync + AllocGlobal>(
     rt: &R,
-    queue: &Queue,
+    queue: &Queue<'_>,
     party: Party<u64>,
     plan: Plan,
 ) -> Work
-    requires of { IsPartyOf party queue.now }
-    requires few { (plan.pushers + plan.poppers) * plan.share < 2 ^ 64 }
-    requires threads { plan.pushers + plan.poppers < 2 ^ 64 }
-    ensures of { IsPartyOf result.party queue.now }
-    ensures counted { length result.counts.items ≡ plan.items }
+    requires { IsPartyOf party queue.now }
+    ensures { IsPartyOf result.party queue.now }
 {
+    if !are_few(plan) {
+        panic!(rt; "too many threads");
+    }
     run_all(rt, rt.alloc(), queue, party, plan).expect(rt, "memory for the counts")
 }
 
-/// Runs the threads of a plan. Gives the party back, and whether they did all, or counted something.
-fn run_plan<R: Abort + Threads + Wait + Sync + AllocGlobal>(
-    rt: &R,
-    queue: &Queue,
-    party: Party<u64>,
-    plan: Plan,
-) -> (Party<u64>, bool)
-    requires of { IsPartyOf party queue.now }
-    requires few { (plan.pushers + plan.poppers) * plan.share < 2 ^ 64 }
-    requires threads { plan.pushers + plan.poppers < 2 ^ 64 }
-    ensures { IsPartyOf result.0 queue.now }
-{
-    let Work {
-        party,
-        counts,
-        done,
-    } = work_of(rt, queue, party, plan);
-    (party, done || is_counted(&counts))
-}
-
-/// Whether a queue is empty, and whether it is open, once all parties are joined; nothing where one is missing.
-fn end(queue: Queue, party: Party<u64>) -> Option<(bool, bool)>
+/// How many items are left once all parties are joined, and whether the queue is open; nothing where a party is missing.
+fn left(queue: Queue<'_>, party: Party<u64>) -> Option<(usize, bool)>
     requires { IsPartyOf party queue }
 {
     match queue.finish(party) {
-        Ok(left) => Some((left.is_empty(), !left.is_closed())),
+        Ok(alone) => Some((alone.len(), !alone.is_closed())),
         Err(_) => None,
     }
 }
 
-/// Whether the threads of a plan did all on a queue that was closed before, or counted something, or left a party out.
-fn does_something<R: Abort + Threads + Wait + Sync + AllocGlobal>(rt: &R, plan: Plan) -> bool
-    requires few { (plan.pushers + plan.poppers) * plan.share < 2 ^ 64 }
-    requires threads { plan.pushers + plan.poppers < 2 ^ 64 }
+/// What is seen of work on a queue.
+fn seen_of(queue: Queue<'_>, work: Work, times: u64) -> Seen
+    requires { IsPartyOf work.party queue }
 {
-    let (queue, mut party) = Queue::bounded(rt.alloc(), 1).expect(rt, "memory for a queue");
-    queue.close(&mut party);
-    let (party, done) = run_plan(rt, &queue, party, plan);
-    done || end(queue, party).is_none()
-}
-
-#[test]
-fn nothing_is_done_on_a_closed_queue(rt: HostRuntime) {
-    let done = [
-        does_something(&rt, plan_of(3, 0, 2)),
-        does_something(&rt, plan_of(0, 3, 2)),
-        does_something(&rt, plan_of(2, 2, 2)),
-    ];
-    is(&rt, done, [false; 3]);
-}
-
-/// What is seen of threads on a queue that was closed before, with an item in it.
-#[derive(Clone, Copy)]
-struct Emptied {
-    pushed: bool,
-    closed: bool,
-    done: bool,
-    counted: [u64; 2],
-    finished: bool,
-}
-
-/// What is seen where a closed queue has the item 1, of which one thread is to push more and two are to pop one each.
-fn empty_closed<R: Abort + Threads + Wait + Sync + AllocGlobal>(rt: &R) -> Emptied {
-    let (queue, mut party) = Queue::bounded(rt.alloc(), 1).expect(rt, "memory for a queue");
-    let pushed = queue.push(rt, &mut party, 1).is_ok();
-    let closed = queue.close(&mut party);
-    let plan = Plan {
-        pushers: 1,
-        poppers: 2,
-        items: 2,
-        share: 1,
-        limit: NO_LIMIT,
-    };
     let Work {
         party,
         counts,
         done,
-    } = work_of(rt, &queue, party, plan);
-    Emptied {
-        pushed,
-        closed,
-        done,
-        counted: [counts[0], counts[1]],
-        finished: end(queue, party).is_some(),
-    }
+    } = work;
+    (done, judge(times, &counts), left(queue, party))
 }
 
-/// The item that a closed queue still has is popped and counted; then the poppers find it closed.
-#[test]
-fn what_a_closed_queue_has_is_counted(rt: HostRuntime) {
-    let Emptied {
-        pushed,
-        closed,
-        done,
-        counted,
-        finished,
-    } = empty_closed(&rt);
-    let seen = ((pushed, closed, done, finished), counted);
-    is(&rt, seen, ((true, true, false, true), [0, 1]));
-}
-
-/// What is seen of two threads that are to pop two items each, where a closed queue has five: whether all was done, how often each item was counted, and how many are left.
-fn pop_four_of_five<R: Abort + Threads + Wait + Sync + AllocGlobal>(
+/// What is seen of a crew; nothing where there is no queue.
+fn see<R: Abort + Threads + Wait + Sync + AllocGlobal>(
     rt: &R,
-) -> (bool, [u64; 5], Option<usize>) {
-    let (queue, mut party) = Queue::bounded(rt.alloc(), 5).expect(rt, "memory for a queue");
-    let _ = queue.push(rt, &mut party, 0);
-    let _ = queue.push(rt, &mut party, 1);
-    let _ = queue.push(rt, &mut party, 2);
-    let _ = queue.push(rt, &mut party, 3);
-    let _ = queue.push(rt, &mut party, 4);
-    queue.close(&mut party);
-    let Work {
-        party,
-        counts,
-        done,
-    } = work_of(rt, &queue, party, plan_of(0, 2, 5));
-    let counted = [counts[0], counts[1], counts[2], counts[3], counts[4]];
-    match queue.finish(party) {
-        Ok(left) => (done, counted, Some(left.len())),
-        Err(_) => (done, counted, None),
+    heap: &Heap,
+    row: &Row,
+) -> Option<Seen> {
+    let Ok((queue, mut party)) = open(rt, heap, row.cap) else {
+        return None;
+    };
+    prepare(rt, heap, &queue, &mut party, row);
+    let work = work_of(rt, &queue, party, row.plan());
+    Some(seen_of(queue, work, row.times))
+}
+
+#[test]
+fn crews_do_what_they_can(rt: HostRuntime) {
+    for row in ROWS.iter() {
+        let heap = Heap::new(rt.alloc(), row.refusal);
+        let seen = see(&rt, &heap, row);
+        let at_once = heap.held_until_let_go();
+        is_in(&rt, row.name, (seen, at_once), (row.seen, row.holds));
     }
-}
-
-#[test]
-fn no_popper_pops_more_than_its_share(rt: HostRuntime) {
-    let wanted = (true, [1u64, 1, 1, 1, 0], Some(1));
-    is(&rt, pop_four_of_five(&rt), wanted);
-}
-
-/// Gives other threads turns.
-fn linger() {
-    for _ in 0..1000u64 {
-        yield_now();
-    }
-}
-
-/// Closes the queue after a while.
-fn close_later(queue: &Queue, mut party: Party<u64>) -> Party<u64>
-    requires { IsPartyOf party queue.now }
-    ensures { IsPartyOf result queue.now }
-{
-    linger();
-    queue.close(&mut party);
-    party
-}
-
-/// Whether the threads of a plan did all on a queue that another party closes meanwhile, or counted something, or left a party out.
-fn done_in_spite_of_a_close<R: Abort + Threads + Wait + Sync + AllocGlobal>(
-    rt: &R,
-    plan: Plan,
-) -> bool
-    requires few { (plan.pushers + plan.poppers) * plan.share < 2 ^ 64 }
-    requires threads { plan.pushers + plan.poppers < 2 ^ 64 }
-{
-    let (queue, party) = Queue::bounded(rt.alloc(), 1).expect(rt, "memory for a queue");
-    let Ok((crew, closer)) = queue.split(party) else {
-        unreachable!()
-    };
-    let ((party, done), closer) = join(
-        rt,
-        || -> (Party<u64>, bool)
-            requires { IsPartyOf crew queue × ((plan.pushers + plan.poppers) * plan.share < 2 ^ 64) × (plan.pushers + plan.poppers < 2 ^ 64) }
-            ensures { IsPartyOf result.0 queue }
-        { run_plan(rt, &queue, crew, plan) },
-        || close_later(&queue, closer),
-    );
-    let whole = queue.join(party, closer);
-    done || end(queue, whole).is_none()
-}
-
-/// Threads that wait, for items that nobody pushes or for a place that nobody makes free, end when another party closes the queue.
-#[test]
-fn a_close_ends_threads_that_wait(rt: HostRuntime) {
-    let done = [
-        done_in_spite_of_a_close(&rt, plan_of(0, 3, 5)),
-        done_in_spite_of_a_close(&rt, plan_of(3, 0, 5)),
-    ];
-    is(&rt, done, [false; 2]);
-}
-
-/// What is seen of a run that ends well: whether all was done, what the counts show, and whether the queue is empty and open then.
-type Run = (bool, Finding, Option<(bool, bool)>);
-
-/// What is seen of a run of four pushers and two poppers.
-fn run_of_six<R: Abort + Threads + Wait + Sync + AllocGlobal>(rt: &R) -> Run {
-    let (queue, party) = Queue::bounded(rt.alloc(), 1).expect(rt, "memory for a queue");
-    let plan = Plan {
-        pushers: 4,
-        poppers: 2,
-        items: 100,
-        share: 200,
-        limit: NO_LIMIT,
-    };
-    let Work {
-        party,
-        counts,
-        done,
-    } = work_of(rt, &queue, party, plan);
-    (done, judge(4, &counts), end(queue, party))
-}
-
-/// All parties are joined again at the end of a run, and nothing is left.
-#[test]
-fn a_run_gives_its_party_back(rt: HostRuntime) {
-    let right = Finding::Right {
-        values: 100,
-        times: 4,
-    };
-    let wanted: Run = (true, right, Some((true, true)));
-    is(&rt, run_of_six(&rt), wanted);
 }

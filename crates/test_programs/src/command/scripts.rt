@@ -1,8 +1,8 @@
 //! Rows of scripts, run through `command`.
-use crate::asserts::is_in;
-use crate::command::rows::{Part, all_unreadable, all_write, text_of};
-use crate::runs::{Program, ends, ends_with, run};
+use crate::parts::{Part, Piece, text_of};
+use crate::runs::{Program, Suite, ends};
 use crate::streams::{read_fails, write_fails};
+use crate::tables::{Row, Rows, StreamRow, Table, all_tables_end};
 use std::io::ErrorKind;
 use std::process::Abort;
 use std::sync::Wait;
@@ -10,95 +10,158 @@ use std::thread::Threads;
 use test_streams::runs::{End, SOUND, Streams};
 use test_streams::streams::{Failing, Flow};
 
-/// The arguments of a script on a queue of one slot.
-pub const SINGLE: &str = "script single";
-
-static UNREADABLE: [(&[u8], &str); 20] = [
-    (b"push 07", "line 1: unreadable\n"),
-    (b"push 18446744073709551616\n", "line 1: unreadable\n"),
-    (b"push  1\n", "line 1: unreadable\n"),
-    (b" push 1\n", "line 1: unreadable\n"),
-    (b"pop\r\n", "line 1: unreadable\n"),
-    (b"force", "line 1: unreadable\n"),
-    (b"force ", "line 1: unreadable\n"),
-    (b"len ", "line 1: unreadable\n"),
-    (b"push +1\n", "line 1: unreadable\n"),
-    (b"push -1\n", "line 1: unreadable\n"),
-    (b"push 00\n", "line 1: unreadable\n"),
-    (b"push 1 \n", "line 1: unreadable\n"),
-    (b"Pop\n", "line 1: unreadable\n"),
-    (b"pop 1\n", "line 1: unreadable\n"),
-    (b"\n", "line 1: unreadable\n"),
-    (b"pop\n\n", "line 2: unreadable\n"),
-    (b"pop\n\npop\n", "line 2: unreadable\n"),
-    (b"pop\nlen\n\xff\n", "line 3: unreadable\n"),
-    (b"push 1\npush \xd9\xa1\nforce\n", "line 2: unreadable\n"),
-    (b"pop\0\n", "line 1: unreadable\n"),
-];
-
-#[test]
-fn the_first_unreadable_line_is_told(rt: HostRuntime) {
-    all_unreadable(&rt, SINGLE, &UNREADABLE);
-}
-
-static SCRIPTS: [(&str, &str); 8] = [
-    ("", "left\n"),
+/// What a slot, or a ring of one slot, writes.
+const SCRIPTS: &[(&[u8], &str)] = &[
+    (b"", "left\n"),
     (
-        "push 18446744073709551615",
+        b"push 18446744073709551615",
         "ok\nleft 18446744073709551615\n",
     ),
     (
-        "push 1\npush 2\npop\nclose\npop\n",
+        b"push 1\npush 2\npop\nclose\npop\n",
         "ok\nfull 2\nitem 1\ntrue\nclosed\nleft\n",
     ),
     (
-        "push 10\npush 20\nclose\npush 20\npop\npush 20\n",
+        b"push 10\npush 20\nclose\npush 20\npop\npush 20\n",
         "ok\nfull 20\ntrue\nclosed 20\nitem 10\nclosed 20\nleft\n",
     ),
     (
-        "force 10\nforce 20\nforce 30\nclose\nforce 40\npop\npop\n",
+        b"force 10\nforce 20\nforce 30\nclose\nforce 40\npop\npop\n",
         "ok\ndisplaced 10\ndisplaced 20\ntrue\nclosed 40\nitem 30\nclosed\nleft\n",
     ),
     (
-        "is_empty\nis_full\npush 7\nlen\nis_empty\nis_full\npop\nlen\nis_empty\nis_full\n",
+        b"is_empty\nis_full\npush 7\nlen\nis_empty\nis_full\npop\nlen\nis_empty\nis_full\n",
         "true\nfalse\nok\n1\nfalse\ntrue\nitem 7\n0\ntrue\nfalse\nleft\n",
     ),
     (
-        "push 8\npop\npop\nis_closed\nclose\nis_closed\nclose\n",
+        b"push 8\npop\npop\nis_closed\nclose\nis_closed\nclose\n",
         "ok\nitem 8\nempty\nfalse\ntrue\ntrue\nfalse\nleft\n",
     ),
-    ("capacity\npush 0", "1\nok\nleft 0\n"),
+    (b"capacity\npush 0", "1\nok\nleft 0\n"),
+];
+
+static TABLES: [Table; 7] = [
+    Table {
+        name: "the_first_unreadable_line_is_told",
+        rows: Rows::Inputs(
+            "script single",
+            2,
+            &[
+                (b"push 07", "line 1: unreadable\n"),
+                (b"push 18446744073709551616\n", "line 1: unreadable\n"),
+                (b"push  1\n", "line 1: unreadable\n"),
+                (b" push 1\n", "line 1: unreadable\n"),
+                (b"pop\r\n", "line 1: unreadable\n"),
+                (b"force", "line 1: unreadable\n"),
+                (b"force ", "line 1: unreadable\n"),
+                (b"len ", "line 1: unreadable\n"),
+                (b"push +1\n", "line 1: unreadable\n"),
+                (b"push -1\n", "line 1: unreadable\n"),
+                (b"push 00\n", "line 1: unreadable\n"),
+                (b"push 1 \n", "line 1: unreadable\n"),
+                (b"Pop\n", "line 1: unreadable\n"),
+                (b"pop 1\n", "line 1: unreadable\n"),
+                (b"\n", "line 1: unreadable\n"),
+                (b"pop\n\n", "line 2: unreadable\n"),
+                (b"pop\n\npop\n", "line 2: unreadable\n"),
+                (b"pop\nlen\n\xff\n", "line 3: unreadable\n"),
+                (b"push 1\npush \xd9\xa1\nforce\n", "line 2: unreadable\n"),
+                (b"pop\0\n", "line 1: unreadable\n"),
+            ],
+        ),
+    },
+    Table {
+        name: "scripts_print_the_replies_and_what_is_left",
+        rows: Rows::Inputs("script single", 0, SCRIPTS),
+    },
+    Table {
+        name: "rings_of_one_slot_print_the_same",
+        rows: Rows::Inputs("script bounded:1", 0, SCRIPTS),
+    },
+    Table {
+        name: "rings_are_run_by_their_capacity",
+        rows: Rows::Ends(
+            0,
+            &[Row {
+                line: "script bounded:3",
+                input: "force 1\nforce 2\nforce 3\npush 4\nforce 5\nforce 6\nclose\nforce 7\npop\npop\npop\n",
+                told: "ok\nok\nok\nfull 4\ndisplaced 1\ndisplaced 2\ntrue\nclosed 7\nitem 3\nitem 5\nitem 6\nleft\n",
+            }],
+        ),
+    },
+    Table {
+        name: "a_capacity_past_the_longest_is_want_of_memory",
+        rows: Rows::Ends(
+            3,
+            &[Row {
+                line: "script bounded:576460752303423489",
+                input: "push 1\n",
+                told: "no memory\n",
+            }],
+        ),
+    },
+    // Each form that ends well without an input.
+    Table {
+        name: "all_output_is_flushed",
+        rows: Rows::Ends(
+            0,
+            &[
+                Row {
+                    line: "script single",
+                    input: "",
+                    told: "left\n",
+                },
+                Row {
+                    line: "replay single 1",
+                    input: "",
+                    told: "left\n",
+                },
+                Row {
+                    line: "threads single 1 1 2",
+                    input: "",
+                    told: "2 values, each counted 1 times\n",
+                },
+                Row {
+                    line: "handshake",
+                    input: "",
+                    told: "both\n",
+                },
+            ],
+        ),
+    },
+    Table {
+        name: "a_fault_that_cannot_be_told_keeps_its_status",
+        rows: Rows::Streams(&[StreamRow {
+            line: "script single",
+            input: "pop \n",
+            streams: Streams {
+                faults: Flow {
+                    most: 3,
+                    failing: Failing::Full(4, ErrorKind::StorageFull),
+                },
+                ..SOUND
+            },
+            end: End {
+                status: 2,
+                output: b"",
+                faults: b"line",
+            },
+        }]),
+    },
 ];
 
 #[test]
-fn scripts_print_the_replies_and_what_is_left(rt: HostRuntime) {
-    all_write(&rt, SINGLE, &SCRIPTS);
-    all_write(&rt, "script bounded:1", &SCRIPTS);
+fn scripts_end(rt: HostRuntime) {
+    all_tables_end(&rt, Program::QueueRun, &TABLES);
 }
 
-#[test]
-fn rings_are_run_by_their_capacity(rt: HostRuntime) {
-    ends(
-        &rt,
-        Program::QueueRun,
-        "script bounded:3",
-        b"force 1\nforce 2\nforce 3\npush 4\nforce 5\nforce 6\nclose\nforce 7\npop\npop\npop\n",
-        End::right(
-            "ok\nok\nok\nfull 4\ndisplaced 1\ndisplaced 2\ntrue\nclosed 7\nitem 3\nitem 5\nitem 6\nleft\n",
-        ),
-    );
-}
+/// Scripts on a queue of one slot.
+const SUITE: Suite = Suite {
+    program: Program::QueueRun,
+    table: "scripts whose streams fail",
+};
 
-#[test]
-fn a_capacity_past_the_longest_is_want_of_memory(rt: HostRuntime) {
-    ends(
-        &rt,
-        Program::QueueRun,
-        "script bounded:576460752303423489",
-        b"push 1\n",
-        End::fault(3, "no memory\n"),
-    );
-}
+const SINGLE: &str = "script single";
 
 static STARTS: [&[u8]; 3] = [b"", b"push 1\npop\n", b"unreadable\n"];
 
@@ -107,23 +170,7 @@ static STARTS: [&[u8]; 3] = [b"", b"push 1\npop\n", b"unreadable\n"];
 fn a_failed_read_prints_nothing(rt: HostRuntime) {
     for start in STARTS.iter() {
         let number = start.len().min(1) as u64;
-        read_fails(&rt, Program::QueueRun, SINGLE, start, usize::MAX, number);
-    }
-}
-
-static FLUSHED: [(&str, &str); 4] = [
-    ("script single", "left\n"),
-    ("replay single 1", "left\n"),
-    ("threads single 1 1 2", "2 values, each counted 1 times\n"),
-    ("handshake", "both\n"),
-];
-
-#[test]
-fn all_output_is_flushed(rt: HostRuntime) {
-    for (line, output) in FLUSHED.iter() {
-        let outcome = run(&rt, Program::QueueRun, &rt.alloc(), line, b"", SOUND);
-        let seen = (outcome.end(), outcome.output.flushed());
-        is_in(&rt, *line, seen, (End::right(output), output.len()));
+        read_fails(&rt, SUITE, SINGLE, start, usize::MAX, number);
     }
 }
 
@@ -135,76 +182,75 @@ fn room(bytes: usize) -> Flow {
     }
 }
 
-/// Asserts that a script whose output has too little room ends with the beginning that fits.
-fn fills<R: Abort + Threads + Wait + Sync + AllocGlobal>(
+/// Asserts that a script whose output flows so ends with a beginning of so many bytes, and well where that is all.
+fn begins<R: Abort + Threads + Wait + Sync + AllocGlobal>(
     rt: &R,
     input: &[u8],
     output: &[u8],
+    flow: Flow,
     bytes: usize,
 ) {
-    let (begun, _) = output.split_at(bytes.min(output.len()));
-    write_fails(rt, Program::QueueRun, SINGLE, input, room(bytes), begun);
+    let (begun, rest) = output.split_at(bytes.min(output.len()));
+    if rest.is_empty() {
+        let streams = Streams {
+            output: flow,
+            ..SOUND
+        };
+        let end = End {
+            status: 0,
+            output,
+            faults: b"",
+        };
+        ends(rt, SUITE, SINGLE, input, streams, end);
+    } else {
+        write_fails(rt, SUITE, SINGLE, input, flow, begun);
+    }
 }
 
 #[test]
 fn a_failed_write_leaves_a_beginning(rt: HostRuntime) {
     let input = b"push 1\npush 2\npop\n";
     let output = b"ok\nfull 2\nitem 1\nleft\n";
-    for room in 0..output.len() {
-        fills(&rt, input, output, room);
+    for bytes in 0..output.len() {
+        begins(&rt, input, output, room(bytes), bytes);
     }
 }
 
-/// A script whose output is longer than two pieces.
-pub static LONG_SCRIPT: [Part<'static>; 2] = [
+/// A script whose output is longer than two pieces, of 65,536 bytes each.
+static LONG_SCRIPT: [Part; 2] = [
     Part::Text("push 1\n"),
-    Part::Times(6_000, "push 18446744073709551615\n"),
+    Part::Times(6_000, &[Piece::Text("push 18446744073709551615\n")]),
 ];
 
 /// Its output.
-pub static LONG_OUTPUT: [Part<'static>; 3] = [
+static LONG_OUTPUT: [Part; 3] = [
     Part::Text("ok\n"),
-    Part::Times(6_000, "full 18446744073709551615\n"),
+    Part::Times(6_000, &[Piece::Text("full 18446744073709551615\n")]),
     Part::Text("left 1\n"),
 ];
 
-/// The room of an output that fails on either side of a piece's end, or in the last piece.
-static ROOMS: [usize; 6] = [0, 65_535, 65_536, 65_537, 131_072, 150_000];
+/// The room of an output that fails on either side of a piece's end, or in the last piece; and of one that is whole.
+static ROOMS: [usize; 7] = [0, 65_535, 65_536, 65_537, 131_072, 150_000, 156_010];
 
-#[test]
-fn a_failed_write_of_a_later_piece_leaves_a_beginning(rt: HostRuntime) {
-    let input = text_of(&rt, &LONG_SCRIPT);
-    let output = text_of(&rt, &LONG_OUTPUT);
-    for room in ROOMS.iter() {
-        fills(&rt, input.as_bytes(), output.as_bytes(), *room);
+/// How much is written before a single write that fails: less than a piece. Those after it would not, so nobody else tells that it failed.
+const BEGUN: usize = 1_000;
+
+/// Asserts that a long script ends with each of these beginnings.
+fn long_begins<R: Abort + Threads + Wait + Sync + AllocGlobal>(
+    rt: &R,
+    input: &[u8],
+    output: &[u8],
+) {
+    for bytes in ROOMS.iter() {
+        begins(rt, input, output, room(*bytes), *bytes);
     }
+    let once = Failing::At(BEGUN as u64, ErrorKind::StorageFull);
+    begins(rt, input, output, Flow::bytewise(once), BEGUN);
 }
 
 #[test]
-fn output_in_pieces_is_whole(rt: HostRuntime) {
+fn output_in_pieces_is_whole_or_begun(rt: HostRuntime) {
     let input = text_of(&rt, &LONG_SCRIPT);
     let output = text_of(&rt, &LONG_OUTPUT);
-    let end = End::right(output.as_str());
-    let streams = Streams {
-        output: room(output.len()),
-        ..SOUND
-    };
-    ends_with(
-        &rt,
-        Program::QueueRun,
-        SINGLE,
-        input.as_bytes(),
-        streams,
-        end,
-    );
-}
-
-#[test]
-fn a_fault_that_cannot_be_told_keeps_its_status(rt: HostRuntime) {
-    let streams = Streams {
-        faults: room(4),
-        ..SOUND
-    };
-    let end = End::fault(2, "line");
-    ends_with(&rt, Program::QueueRun, SINGLE, b"pop \n", streams, end);
+    long_begins(&rt, input.as_bytes(), output.as_bytes());
 }

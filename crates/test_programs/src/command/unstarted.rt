@@ -1,6 +1,8 @@
 //! Threads that cannot be started: those that were started end, and the run ends as one without memory.
 use crate::asserts::is_in;
+use crate::comes::Comes;
 use app_text::args::{Form, parse_form};
+use app_text::faults::Fault;
 use app_threads::channel::channel;
 use app_threads::handshake::handshake;
 use app_threads::limit::Limit;
@@ -28,6 +30,22 @@ fn run<R: Abort + Threads + Wait + Sync + AllocGlobal>(
     }
 }
 
+/// What comes of the run of a line where no more threads can be started than the limit says, and which is to write this.
+fn comes<R: Abort + Threads + Wait + Sync + AllocGlobal>(
+    rt: &R,
+    line: &str,
+    limit: Limit,
+    wanted: &str,
+) -> Comes {
+    let mut output = Vec::new(rt.alloc());
+    let ran = run(rt, line, limit, &mut output);
+    match ran.end {
+        Ok(_) if output.as_slice() == wanted.as_bytes() => Comes::Text,
+        Err(Fault::NoMemory) if output.is_empty() => Comes::NoMemory,
+        _ => Comes::Another,
+    }
+}
+
 /// Asserts that the run of a line comes to its end where so many threads can be started, and writes this, but without one of them wants memory, and writes nothing.
 fn takes<R: Abort + Threads + Wait + Sync + AllocGlobal>(
     rt: &R,
@@ -35,21 +53,12 @@ fn takes<R: Abort + Threads + Wait + Sync + AllocGlobal>(
     threads: u64,
     wanted: &str,
 ) {
-    let alloc = rt.alloc();
     for started in 0..threads {
-        let mut output = Vec::new(alloc);
-        let ran = run(rt, line, Limit(started), &mut output);
-        let fault = match ran.end {
-            Ok(_) => String::new(alloc),
-            Err(fault) => format!(in alloc; "{fault}").expect(rt, "memory for the fault"),
-        };
-        let seen = (output.as_slice(), fault.as_str());
-        is_in(rt, (line, started), seen, (b"".as_slice(), "no memory"));
+        let seen = comes(rt, line, Limit(started), wanted);
+        is_in(rt, (line, started), seen, Comes::NoMemory);
     }
-    let mut output = Vec::new(alloc);
-    let ran = run(rt, line, Limit(threads), &mut output);
-    let seen = (ran.end.is_ok(), output.as_slice());
-    is_in(rt, line, seen, (true, wanted.as_bytes()));
+    let seen = comes(rt, line, Limit(threads), wanted);
+    is_in(rt, (line, threads), seen, Comes::Text);
 }
 
 /// How many threads each line starts, and what is written where they can be.

@@ -2,6 +2,7 @@
 ghost use Rattle.machine_replay.specs.Replays.{CanReplay};
 
 use crate::asserts::is_in;
+use crate::comes::Comes;
 use app_explore::listing::{Task, Walk, find_all, list_found};
 use app_explore_text::limits::MOST_STATES;
 use app_explore_text::reading::read_program;
@@ -17,7 +18,6 @@ use std::process::Abort;
 const PROGRAM: &str = "0: pop\n1: push 1\n";
 
 /// What is changed of what was found.
-#[derive(Clone, Copy, Debug)]
 enum Change {
     Nothing,
     /// The last link is missing.
@@ -72,28 +72,25 @@ fn add_schedule(rt: &impl Abort, walk: &mut Walk<Global>, moves: Vec<Move>) {
     added.ok().expect(rt, "memory");
 }
 
+/// Takes the last away.
+fn lose<T: Drop>(list: &mut Vec<T>) {
+    list.pop();
+}
+
 /// Changes what was found.
-fn make_change(rt: &impl Abort, alloc: Global, walk: &mut Walk<Global>, change: Change) {
+fn make_change(rt: &impl Abort, alloc: Global, walk: &mut Walk<Global>, change: &Change) {
     match change {
         Change::Nothing => {}
-        Change::LinkLost => {
-            walk.found.table.links.pop();
-        }
+        Change::LinkLost => lose(&mut walk.found.table.links),
         Change::LinkBent => {
             if let Some(link) = walk.found.table.links.get_mut(0) {
                 link.granted = 0;
             }
         }
-        Change::StateLost => {
-            walk.found.table.positions.pop();
-        }
+        Change::StateLost => lose(&mut walk.found.table.positions),
         Change::StartMoved => walk.found.table.positions.reverse(),
-        Change::OutcomeLost => {
-            walk.found.ends.outcomes.pop();
-        }
-        Change::ScheduleLost => {
-            walk.schedules.pop();
-        }
+        Change::OutcomeLost => lose(&mut walk.found.ends.outcomes),
+        Change::ScheduleLost => lose(&mut walk.schedules),
         Change::ScheduleTwice => {
             let moves = moves_of(rt, alloc, walk, 1);
             add_schedule(rt, walk, moves);
@@ -102,9 +99,7 @@ fn make_change(rt: &impl Abort, alloc: Global, walk: &mut Walk<Global>, change: 
         Change::MoveLost => change_move(rt, alloc, walk, None),
         Change::PartyUnknown => change_move(rt, alloc, walk, Some(UNKNOWN)),
         Change::MoveRefused => change_move(rt, alloc, walk, Some(REFUSED)),
-        Change::NumberLost => {
-            walk.order.pop();
-        }
+        Change::NumberLost => lose(&mut walk.order),
     }
 }
 
@@ -118,14 +113,6 @@ const REFUSED: Move = Move {
     party: 1,
     granted: false,
 };
-
-/// What is answered of a walk.
-#[derive(Clone, Copy, Debug, PartialEq)]
-enum Listed {
-    Listed,
-    NotShown,
-    AnotherFault,
-}
 
 /// The program as a task.
 fn task(rt: &impl Abort, alloc: Global) -> Task<Global>
@@ -142,46 +129,77 @@ fn task(rt: &impl Abort, alloc: Global) -> Task<Global>
     }
 }
 
-/// Whether the changed table shows that there is no outcome but those that were found, and what comes of the list.
-fn answers(rt: &impl Abort, alloc: Global, changed: Change) -> (bool, Listed) {
-    let task = task(rt, alloc);
-    let Ok(mut walk) = find_all(alloc, &task) else {
-        return (false, Listed::AnotherFault);
-    };
-    make_change(rt, alloc, &mut walk, changed);
-    let Task { kind, refuses, .. } = task;
+/// Whether the table shows that there is no outcome but those that were found.
+fn is_checked(rt: &impl Abort, alloc: Global, task: &Task<Global>, walk: &Walk<Global>) -> bool
+    requires { CanReplay task.now.kind }
+{
     let (table, outcomes) = (&walk.found.table, &walk.found.ends.outcomes);
-    let checked = check(alloc, kind, refuses, &task.program, table, outcomes);
-    let listed = match list_found(alloc, &task, &walk) {
-        Ok(_) => Listed::Listed,
-        Err(SearchFault::NotShown) => Listed::NotShown,
-        Err(_) => Listed::AnotherFault,
-    };
-    (checked.expect(rt, "memory"), listed)
+    let checked = check(
+        alloc,
+        task.kind,
+        task.refuses,
+        &task.program,
+        table,
+        outcomes,
+    );
+    checked.expect(rt, "memory")
 }
 
-/// Each change, whether the table still shows that the outcomes are all, and what is answered of the walk.
-static CHANGES: [(Change, bool, Listed); 13] = [
-    (Change::Nothing, true, Listed::Listed),
-    (Change::OutcomeLost, false, Listed::Listed),
-    (Change::LinkLost, false, Listed::NotShown),
-    (Change::LinkBent, false, Listed::NotShown),
-    (Change::StateLost, false, Listed::NotShown),
-    (Change::StartMoved, false, Listed::NotShown),
-    (Change::ScheduleLost, true, Listed::NotShown),
-    (Change::ScheduleTwice, true, Listed::NotShown),
-    (Change::SchedulesTurned, true, Listed::NotShown),
-    (Change::MoveLost, true, Listed::NotShown),
-    (Change::PartyUnknown, true, Listed::NotShown),
-    (Change::MoveRefused, true, Listed::NotShown),
-    (Change::NumberLost, true, Listed::NotShown),
+/// What comes of the list.
+fn listed(alloc: Global, task: &Task<Global>, walk: &Walk<Global>) -> Comes
+    requires { CanReplay task.now.kind }
+{
+    match list_found(alloc, task, walk) {
+        Ok(_) => Comes::Text,
+        Err(SearchFault::NotShown) => Comes::NotShown,
+        Err(_) => Comes::Another,
+    }
+}
+
+/// Both, of a walk that is changed.
+fn answers(rt: &impl Abort, alloc: Global, change: &Change) -> (bool, Comes) {
+    let task = task(rt, alloc);
+    let Ok(mut walk) = find_all(alloc, &task) else {
+        return (false, Comes::Another);
+    };
+    make_change(rt, alloc, &mut walk, change);
+    (
+        is_checked(rt, alloc, &task, &walk),
+        listed(alloc, &task, &walk),
+    )
+}
+
+/// Each change, whether the table still shows that the outcomes are all, and what comes of the list.
+static CHANGES: [(&str, Change, bool, Comes); 13] = [
+    ("nothing", Change::Nothing, true, Comes::Text),
+    ("outcome lost", Change::OutcomeLost, false, Comes::Text),
+    ("link lost", Change::LinkLost, false, Comes::NotShown),
+    ("link bent", Change::LinkBent, false, Comes::NotShown),
+    ("state lost", Change::StateLost, false, Comes::NotShown),
+    ("start moved", Change::StartMoved, false, Comes::NotShown),
+    ("schedule lost", Change::ScheduleLost, true, Comes::NotShown),
+    (
+        "schedule twice",
+        Change::ScheduleTwice,
+        true,
+        Comes::NotShown,
+    ),
+    (
+        "schedules turned",
+        Change::SchedulesTurned,
+        true,
+        Comes::NotShown,
+    ),
+    ("move lost", Change::MoveLost, true, Comes::NotShown),
+    ("party unknown", Change::PartyUnknown, true, Comes::NotShown),
+    ("move refused", Change::MoveRefused, true, Comes::NotShown),
+    ("number lost", Change::NumberLost, true, Comes::NotShown),
 ];
 
 #[test]
 fn what_was_found_wrong_is_not_shown(rt: HostRuntime) {
-    let alloc = rt.alloc();
-    for (change, checked, listed) in &CHANGES {
-        let found = answers(&rt, alloc, *change);
-        is_in(&rt, *change, found, (*checked, *listed));
+    for (name, change, checked, listed) in &CHANGES {
+        let found = answers(&rt, rt.alloc(), change);
+        is_in(&rt, *name, found, (*checked, *listed));
     }
 }

@@ -1,5 +1,5 @@
 //! What outcomes and schedules are printed as.
-use crate::asserts::is;
+use crate::asserts::is_in;
 use app_explore_text::outcomes::{write_outcome, write_outcome_line};
 use app_explore_text::reading::read_program;
 use app_explore_text::schedules::write_schedule;
@@ -8,31 +8,41 @@ use machine_explore::sequence::Sequence;
 use machine_explore::trace::follow;
 use queue_steps::model::Reply;
 use queue_steps::steps::Kind;
-use std::alloc::{AllocError, Global};
+use std::alloc::Global;
+use std::process::Abort;
 
-/// An outcome, and its line.
-fn outcome_lines(alloc: Global) -> Result<[String; 2], AllocError> {
-    let mut replies = Vec::new(alloc);
-    replies.push(Sequence::of(Vec::from_slice(alloc, &[Reply::ForcePush(Ok(Some(1)))])?))?;
-    replies.push(Sequence::of(Vec::from_slice(alloc, &[Reply::Len(1), Reply::Len(2)])?))?;
-    let mut outcome = String::new(alloc);
-    write_outcome(&replies, &[2, 3], &mut outcome)?;
+/// The replies to the calls of a party.
+fn replies(rt: &impl Abort, alloc: Global, made: &[Reply<u64>]) -> Sequence<Reply<u64>, Global> {
+    Sequence::of(Vec::from_slice(alloc, made).expect(rt, "memory"))
+}
+
+/// The text of an outcome of two parties.
+fn outcome(rt: &impl Abort, alloc: Global) -> String {
+    let of_parties = [
+        replies(rt, alloc, &[Reply::ForcePush(Ok(Some(1)))]),
+        replies(rt, alloc, &[Reply::Len(1), Reply::Len(2)]),
+    ];
+    let mut text = String::new(alloc);
+    write_outcome(&of_parties, &[2, 3], &mut text).expect(rt, "memory");
+    text
+}
+
+/// The line of that outcome.
+fn outcome_line(rt: &impl Abort, alloc: Global, outcome: &str) -> String {
     let mut line = String::new(alloc);
-    write_outcome_line(2, outcome.as_str(), " | steps 11", &mut line)?;
-    Ok([outcome, line])
+    write_outcome_line(2, outcome, " | steps 11", &mut line).expect(rt, "memory");
+    line
 }
 
 #[test]
 fn an_outcome_is_a_line(rt: HostRuntime) {
-    let lines = outcome_lines(rt.alloc()).expect(&rt, "memory");
-    is(
-        &rt,
-        (lines[0].as_str(), lines[1].as_str()),
-        (
-            "0: displaced 1 | 1: 1; 2 | left 2 3",
-            "outcome 2 | 0: displaced 1 | 1: 1; 2 | left 2 3 | steps 11\n",
-        ),
+    let outcome = outcome(&rt, rt.alloc());
+    let line = outcome_line(&rt, rt.alloc(), outcome.as_str());
+    let wanted = (
+        "0: displaced 1 | 1: 1; 2 | left 2 3",
+        "outcome 2 | 0: displaced 1 | 1: 1; 2 | left 2 3 | steps 11\n",
     );
+    is_in(&rt, "an outcome", (outcome.as_str(), line.as_str()), wanted);
 }
 
 /// Two parties on a chain without a block.
@@ -47,36 +57,40 @@ static PARTIES: [usize; 21] = [
 const REFUSED: usize = 10;
 
 /// The moves of the whole program.
-fn moves(alloc: Global) -> Result<Vec<Move>, AllocError> {
+fn moves(rt: &impl Abort, alloc: Global) -> Vec<Move> {
     let mut moves = Vec::new(alloc);
     for (index, party) in PARTIES.iter().enumerate() {
-        moves.push(Move {
+        let step = Move {
             party: *party,
             granted: index != REFUSED,
-        })?;
+        };
+        moves.push(step).expect(rt, "memory");
     }
-    Ok(moves)
+    moves
 }
 
 /// The lines of that schedule. There are none where it is no run of the program.
-fn schedule_lines(alloc: Global) -> Result<String, AllocError> {
+fn schedule_lines(rt: &impl Abort, alloc: Global) -> String {
     let mut text = String::new(alloc);
     let Ok(program) = read_program(alloc, PROGRAM.as_bytes()) else {
-        return Ok(text);
+        return text;
     };
-    let moves = moves(alloc)?;
-    if let Some(trace) = follow(alloc, Kind::Unbounded, true, &program, &moves)? {
-        write_schedule(program.before.as_slice(), trace.entries(), &mut text)?;
+    let moves = moves(rt, alloc);
+    let followed = follow(alloc, Kind::Unbounded, true, &program, &moves);
+    if let Some(trace) = followed.expect(rt, "memory") {
+        let written = write_schedule(program.before.as_slice(), trace.entries(), &mut text);
+        written.expect(rt, "memory");
     }
-    Ok(text)
+    text
 }
 
 /// Two steps or more that end a call are a `run`, but where another party's moves come between, or the last is refused. A single one is a `step`, and a call without steps has none.
 #[test]
 fn a_schedule_is_lines_of_a_replay(rt: HostRuntime) {
-    let text = schedule_lines(rt.alloc()).expect(&rt, "memory");
-    is(
+    let text = schedule_lines(&rt, rt.alloc());
+    is_in(
         &rt,
+        PROGRAM,
         text.as_str(),
         "0 pop\n0 run\n0 force 3\n0 step\n0 step\n1 len\n1 run\n1 push 4\n1 step\n1 step\n1 refuse\n0 step\n0 step\n0 step\n0 step\n1 is_closed\n1 step\n0 step\n0 capacity\n0 close\n0 step\n",
     );

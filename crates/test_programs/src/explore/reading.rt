@@ -5,82 +5,106 @@ use app_explore_text::faults::{LineFault, ReadFault};
 use app_explore_text::reading::read_program;
 use app_text::args::KindName;
 use app_text::usage::UsageFault;
+use machine_explore::program::Program;
 use std::alloc::Global;
 use std::process::Abort;
 use test_streams::runs::words;
 
 /// What reading finds: how many calls there are before, and of each party; or the number of the line that is wrong, and why.
-#[derive(Clone, Copy, Debug, PartialEq)]
-enum Found<'a> {
-    Program(usize, &'a [usize]),
-    Wrong(usize, LineFault),
-}
+type Found<'a> = Result<(usize, &'a [usize]), ReadFault>;
 
 static ROWS: [(&str, Found<'static>); 20] = [
-    ("0: pop", Found::Program(0, &[1])),
-    ("0: pop\n", Found::Program(0, &[1])),
+    ("0: pop", Ok((0, &[1]))),
+    ("0: pop\n", Ok((0, &[1]))),
     (
         "before: push 1; push 2\n0: force 3\n1: len; len\n",
-        Found::Program(2, &[1, 2]),
+        Ok((2, &[1, 2])),
     ),
     (
         "0: pop\n1: pop\n2: pop\n3: pop\n4: pop\n5: pop\n6: pop\n7: push 18446744073709551615; close\n",
-        Found::Program(0, &[1, 1, 1, 1, 1, 1, 1, 2]),
+        Ok((0, &[1, 1, 1, 1, 1, 1, 1, 2])),
     ),
     (
         "0: len; len; len; len; len; len; len; len; len; len; len; len; len; len; len; len\n",
-        Found::Program(0, &[16]),
+        Ok((0, &[16])),
     ),
     (
         "0: len; len; len; len; len; len; len; len; len; len; len; len; len; len; len; len; len\n",
-        Found::Wrong(1, LineFault::TooManyCalls(16)),
+        Err(ReadFault::Unreadable(1, LineFault::TooManyCalls(16))),
     ),
     (
         "0: pop\n1: pop\n2: pop\n3: pop\n4: pop\n5: pop\n6: pop\n7: pop\n8: pop\n",
-        Found::Wrong(9, LineFault::TooManyParties),
+        Err(ReadFault::Unreadable(9, LineFault::TooManyParties)),
     ),
-    ("", Found::Wrong(1, LineFault::Party)),
-    ("\n", Found::Wrong(1, LineFault::Party)),
-    ("before: pop", Found::Wrong(2, LineFault::Party)),
-    ("before: pop\n\n", Found::Wrong(2, LineFault::Party)),
-    ("before:\n0: pop\n", Found::Wrong(1, LineFault::Call)),
+    ("", Err(ReadFault::Unreadable(1, LineFault::Party))),
+    ("\n", Err(ReadFault::Unreadable(1, LineFault::Party))),
+    (
+        "before: pop",
+        Err(ReadFault::Unreadable(2, LineFault::Party)),
+    ),
+    (
+        "before: pop\n\n",
+        Err(ReadFault::Unreadable(2, LineFault::Party)),
+    ),
+    (
+        "before:\n0: pop\n",
+        Err(ReadFault::Unreadable(1, LineFault::Call)),
+    ),
     (
         "before: pop\nbefore: pop\n0: pop\n",
-        Found::Wrong(2, LineFault::Party),
+        Err(ReadFault::Unreadable(2, LineFault::Party)),
     ),
-    ("0: pop\nbefore: pop\n", Found::Wrong(2, LineFault::Party)),
-    ("1: pop\n", Found::Wrong(1, LineFault::Party)),
-    ("0: pop\n2: pop\n", Found::Wrong(2, LineFault::Party)),
-    ("0: pop;pop\n", Found::Wrong(1, LineFault::Call)),
-    ("0: pop; \n", Found::Wrong(1, LineFault::Call)),
-    ("0:\n", Found::Wrong(1, LineFault::Call)),
+    (
+        "0: pop\nbefore: pop\n",
+        Err(ReadFault::Unreadable(2, LineFault::Party)),
+    ),
+    ("1: pop\n", Err(ReadFault::Unreadable(1, LineFault::Party))),
+    (
+        "0: pop\n2: pop\n",
+        Err(ReadFault::Unreadable(2, LineFault::Party)),
+    ),
+    (
+        "0: pop;pop\n",
+        Err(ReadFault::Unreadable(1, LineFault::Call)),
+    ),
+    ("0: pop; \n", Err(ReadFault::Unreadable(1, LineFault::Call))),
+    ("0:\n", Err(ReadFault::Unreadable(1, LineFault::Call))),
     (
         "0: push 18446744073709551616\n",
-        Found::Wrong(1, LineFault::Call),
+        Err(ReadFault::Unreadable(1, LineFault::Call)),
     ),
 ];
+
+/// How many calls each party of a program has.
+fn counts_of(rt: &impl Abort, alloc: Global, program: &Program<Global>) -> Vec<usize> {
+    let mut counts = Vec::new(alloc);
+    for calls in &program.parties {
+        counts.push(calls.len()).expect(rt, "memory");
+    }
+    counts
+}
+
+/// Asserts that reading this text finds this.
+fn is_read(rt: &impl Abort, alloc: Global, text: &str, found: Found<'_>) {
+    match read_program(alloc, text.as_bytes()) {
+        Ok(program) => {
+            let counts = counts_of(rt, alloc, &program);
+            is_in(
+                rt,
+                text,
+                Ok((program.before.len(), counts.as_slice())),
+                found,
+            );
+        }
+        Err(why) => is_in(rt, text, Err(why), found),
+    }
+}
 
 #[test]
 fn programs_are_read(rt: HostRuntime) {
     for (text, found) in &ROWS {
-        is_read(&rt, rt.alloc(), text.as_bytes(), *found);
+        is_read(&rt, rt.alloc(), text, *found);
     }
-}
-
-// Asserts that reading this text finds this.
-fn is_read(rt: &impl Abort, alloc: Global, text: &[u8], found: Found<'_>) {
-    let mut counts = Vec::new(alloc);
-    let read = match read_program(alloc, text) {
-        Ok(program) => {
-            for calls in &program.parties {
-                counts.push(calls.len()).expect(rt, "memory");
-            }
-            Found::Program(program.before.len(), &counts)
-        }
-        Err(ReadFault::Unreadable(number, why)) => Found::Wrong(number, why),
-        Err(ReadFault::NoMemory) => panic!(rt; "no memory"),
-    };
-    is_in(rt, text, read, found);
 }
 
 static REQUESTS: [(&str, Result<Request, UsageFault>); 19] = [

@@ -1,7 +1,7 @@
 //! Programs with many parties, calls, slots, items, states or outcomes: what is found of each is shown, and is all.
 ghost use Rattle.machine_replay.specs.Replays.{CanReplay};
 
-use crate::asserts::{is, is_in};
+use crate::asserts::is_in;
 use app_explore::listing::{Task, list_outcomes};
 use app_explore_text::limits::MOST_STATES;
 use app_explore_text::outcomes::are_in_order;
@@ -136,7 +136,7 @@ fn hundreds_of_outcomes_are_listed(rt: HostRuntime) {
         rt.panic("a program");
     };
     let found = ends_with(rt.alloc(), Kind::Unbounded, program, LAST_OF_MANY);
-    is(&rt, found, true);
+    is_in(&rt, MANY_OUTCOMES, found, true);
 }
 
 /// How many parties look, each once.
@@ -172,7 +172,7 @@ fn looks_seen(rt: &impl Abort, alloc: Global) -> usize {
 
 #[test]
 fn a_schedule_of_hundreds_of_parties_is_followed(rt: HostRuntime) {
-    is(&rt, looks_seen(&rt, rt.alloc()), 1_200);
+    is_in(&rt, LOOKERS, looks_seen(&rt, rt.alloc()), 1_200);
 }
 
 /// So many texts in order, and then this one.
