@@ -44,15 +44,15 @@ fn a_dropped_log_leaves_nothing(rt: HostRuntime) {
     is(&rt, seen, ([Some(8), Some(9), None], true, 0));
 }
 
-/// How many entries of a log are 7, 8 and so on.
-fn in_order(log: &Log<u64, &Heap>) -> u64 {
+/// How many entries of a log are 7, 8 and so on, and how many there are.
+fn read(log: &Log<u64, &Heap>) -> (u64, usize) {
     let mut next: u64 = 7;
-    for entry in log {
+    for entry in log.iter() {
         if *entry == next {
             next = next.wrapping_add(1);
         }
     }
-    next.wrapping_sub(7)
+    (next.wrapping_sub(7), log.len())
 }
 
 /// The entries of a log are read in their order, and stay.
@@ -60,9 +60,10 @@ fn in_order(log: &Log<u64, &Heap>) -> u64 {
 fn a_log_is_read_and_stays(rt: HostRuntime) {
     let heap = Heap::new(rt.alloc(), Refusal::Never);
     let mut log: Log<u64, &Heap> = Log::new(&heap, 3).expect(&rt, "memory");
-    is(&rt, (log.is_empty(), log.iter().count()), (true, 0));
+    let empty = log.is_empty();
+    let none = read(&log);
     log.append_all(&[6, 7, 8, 9]);
-    let read = [in_order(&log), in_order(&log), log.len() as u64];
-    let seen = (log.iter().count(), log.take_oldest(), log.is_empty());
-    is(&rt, (read, seen), ([3; 3], (3, Some(7), false)));
+    let found = [none, read(&log), read(&log)];
+    let seen = (empty, found, log.take_oldest(), log.is_empty());
+    is(&rt, seen, (true, [(0, 0), (3, 3), (3, 3)], Some(7), false));
 }
