@@ -1,15 +1,15 @@
 -- Where a call on the two words may begin, stop and end.
-use Rattle.std.specs.Prelude.{◌≡◌, Bool, true, false}
+use Rattle.std.specs.Prelude.{◌≡◌, ℕ, Bool, true, false}
 use Rattle.law_wakes.specs.declared.steps.Place.{Place}
-use Rattle.law_wakes.specs.declared.steps.Place.TheVariants.{Idle, Starting, Prepared, Returned, Made, Moving}
-use Rattle.law_wakes.specs.declared.steps.Whom.{Whom}
+use Rattle.law_wakes.specs.declared.steps.Place.TheVariants.{Idle, Starting, Prepared, Returned, Given, Taking, Moving}
 use Rattle.law_wakes.specs.declared.steps.Step.{Step}
 use Rattle.law_wakes.specs.declared.steps.Step.TheVariants.{Rest, Park}
 
 -- a call of `prepare` or of a notify
 abbrev pub Begins : Place → Type 0
 Begins Starting = Unit {0}
-Begins (Made whom) = Unit {0}
+Begins Given = Unit {0}
+Begins (Moving whom) = Unit {0}
 Begins other = ⊥
 
 -- its caller has looked, and waits for it or gives it up
@@ -17,9 +17,9 @@ abbrev pub is_prepared : Place → Bool
 is_prepared (Prepared events) = true
 is_prepared other = false
 
--- a notify has seen that somebody is counted
-abbrev pub IsMoving : Place → Type 0
-IsMoving place = (whom : Whom) × (place ≡ Moving whom)
+-- a notify of one has found that so many may sleep
+abbrev pub IsTaking : Place → Type 0
+IsTaking place = (sleepers : ℕ) × (place ≡ Taking sleepers)
 
 -- a call has ended
 abbrev pub is_over : Place → Bool

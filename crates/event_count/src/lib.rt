@@ -1,12 +1,12 @@
 //! An eventcount: who waits for a condition sleeps, and who makes it true wakes it. It knows nothing of the condition.
 //!
-//! Who waits takes a ticket, looks at the condition once more, and waits on the ticket or gives it up. Who makes the condition true does so first, and notifies then; where nobody
-//! waits, a notify is one load.
+//! Who waits takes a ticket, looks at the condition once more, and waits on the ticket or gives it up. Who makes the condition true does so first, and notifies then. Where nobody
+//! sleeps, or others have gone to wake each that does, a notify of one is one load.
 #![tactic(auto)]
 
 ghost use Rattle.std.specs.Prelude.{◌≡◌, ℕ, IsTrue};
 ghost use Rattle.law_wakes.specs.Steps.{step_of, after_of};
-ghost use Rattle.event_count.specs.Walks.{IsMoving, IsOnWords, IsPark, is_prepared};
+ghost use Rattle.event_count.specs.Walks.{IsTaking, IsOnWords, IsPark, is_prepared};
 
 mod walk;
 mod words;
@@ -16,13 +16,13 @@ use crate::words::Words;
 use law_wakes::{Place, Step, Whom};
 use std::sync::Wait;
 
-/// Two words that threads share: how often sleepers were woken, and how many there are.
+/// Two words that threads share: how often somebody went to wake, and how many may sleep that nobody has gone to wake.
 #[derive(Drop)]
 pub struct EventCount {
     words: Words,
 }
 
-/// What `prepare` gives. It has to be waited on or given up: until then each notify takes its holder for a sleeper.
+/// What `prepare` gives. It has to be waited on or given up.
 pub struct Ticket<'a> {
     words: &'a Words,
     walk: Walk,
@@ -69,32 +69,29 @@ impl EventCount {
     /// Wakes one of those that wait, where there are some. The condition is true before this.
     #[inline(always)]
     pub fn notify_one(&self) {
-        self.notify(Whom::One);
-    }
-
-    /// Wakes all that wait. The condition is true before this.
-    #[inline(always)]
-    pub fn notify_all(&self) {
-        self.notify(Whom::All);
-    }
-
-    #[inline(always)]
-    fn notify(&self, whom: Whom) {
-        let walk = take_step(&self.words, Walk::begin(Place::Made(whom)));
+        let walk = take_step(&self.words, Walk::begin(Place::Given));
         if walk.is_over() {
             walk.end();
         } else {
-            self.wake(walk);
+            self.wake_one(walk);
         }
     }
 
-    /// The steps of a notify that has seen a sleeper.
+    /// Wakes all that wait. The condition is true before this.
+    #[inline]
+    pub fn notify_all(&self) {
+        let moved = take_step(&self.words, Walk::begin(Place::Moving(Whom::All)));
+        take_step(&self.words, moved).end();
+    }
+
+    /// The steps of a notify of one that goes to wake.
     #[cold]
     #[inline(never)]
-    fn wake(&self, walk: Walk)
-        requires { IsMoving walk.place }
+    fn wake_one(&self, walk: Walk)
+        requires { IsTaking walk.place }
     {
-        let moved = take_step(&self.words, walk);
+        let taken = take_step(&self.words, walk);
+        let moved = take_step(&self.words, taken);
         take_step(&self.words, moved).end();
     }
 }
@@ -102,14 +99,13 @@ impl EventCount {
 impl Ticket<'_> {
     /// Gives the ticket up: the condition is true, or nobody waits for it any more.
     pub fn cancel(self) {
-        let Ticket { words, walk } = self;
-        take_step(words, walk.look(true)).end();
+        let Ticket { words: _, walk } = self;
+        walk.look(true).end();
     }
 
     /// Sleeps until a notify, if there was none since `prepare`. It may return for no reason, so the caller looks at the condition again.
     pub fn wait<R: Wait>(self, rt: &R) {
         let Ticket { words, walk } = self;
-        let walk = park(rt, words, walk.look(false));
-        take_step(words, walk).end();
+        park(rt, words, walk.look(false)).end();
     }
 }

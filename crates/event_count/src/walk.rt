@@ -55,10 +55,7 @@ impl Walk {
     pub(crate) fn is_over(&self) -> bool
         ensures { result ≡ is_over self.now.place }
     {
-        match self.place {
-            Place::Idle | Place::Returned => true,
-            _ => false,
-        }
+        matches!(self.place, Place::Idle | Place::Returned)
     }
 
     #[inline(always)]

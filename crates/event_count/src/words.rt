@@ -57,7 +57,13 @@ impl Words {
         let found = match step {
             Step::Load(word) => self.word(word).load(SeqCst),
             Step::Add(word) => self.word(word).fetch_add(1, SeqCst),
-            Step::Subtract(word) => self.word(word).fetch_sub(1, SeqCst),
+            Step::Take(sleepers) => {
+                let less = sleepers.saturating_sub(1);
+                let (Ok(found) | Err(found)) = self
+                    .sleepers
+                    .compare_exchange(sleepers, less, SeqCst, SeqCst);
+                found
+            }
             Step::Wake(whom) => {
                 match whom {
                     Whom::One => self.events.wake_one(),

@@ -6,7 +6,7 @@ use Rattle.std.proofs.lemmas.Option.{slice_get_within, get_or_from_slice_get}
 abbrev pub one : {X : Type 0} → (X → Bool) → X → ℕ
 one f x = cond (f x) 1 0
 
-count_cons : {X : Type 0} (f : X → Bool) (x : X) (xs : List X) → count_by f (x ∷ xs) ≡ one f x + count_by f xs
+pub count_cons : {X : Type 0} (f : X → Bool) (x : X) (xs : List X) → count_by f (x ∷ xs) ≡ one f x + count_by f xs
 count_cons f x xs = sum_by-cons (λ y. cond (f y) 1 0) x xs
 
 pub count_set : {X : Type 0} (f : X → Bool) (xs : List X) (k : ℕ) (x y : X) → slice_get xs k ≡ Some x → count_by f (slice_set xs k y) + one f x ≡ count_by f xs + one f y

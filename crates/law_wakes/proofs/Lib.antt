@@ -1,6 +1,6 @@
 pub mod Counts
-pub mod Kept
-pub mod Turning
-pub mod Waking
-pub mod Acting
+pub mod Told
+pub mod Telling
+pub mod Heed
+pub mod Heeding
 pub mod Runs

@@ -1,34 +1,79 @@
 -- The laws of every run.
-use Rattle.std.proofs.Common.{inl, inr, ℕ, List, [], ◌∷◌, replicate, refl, sym, ap, subst}
-use Rattle.law_wakes.specs.declared.steps.Place.TheVariants.{Idle}
-use Rattle.law_wakes.specs.World.{Awake, Asleep, World, Event, start, happens, run}
-use Rattle.law_wakes.specs.Laws.{is_telling, Sleeps, HasMissedNothing, NobodySleepsThrough, NoItemIsLeft}
+use Rattle.std.proofs.Common.{◌≡◌, ◌⊎◌, inl, inr, ℕ, ◌+◌, ◌≤◌, ◌∙◌, Bool, List, [], ◌∷◌, replicate, count_by, refl, sym, ap, subst, arith, le_refl}
+use Rattle.law_wakes.specs.declared.steps.Place.TheVariants.{Idle, Given, Taking, Moving, Waking}
+use Rattle.law_wakes.specs.declared.steps.Whom.TheVariants.{One, All}
+use Rattle.law_wakes.specs.World.{Party, Awake, Asleep, World, Event, is_asleep, start, happens, run}
+use Rattle.law_wakes.specs.Laws.{is_woken, is_giving, is_telling, Sleeps, HasMissedNothing, NobodySleepsThrough, IsHeeded, NoItemIsLeft}
 use Rattle.law_wakes.specs.Examples.{Examples}
-use Rattle.law_wakes.proofs.Counts.{one, count_none, some_counted, replicate_get}
-use Rattle.law_wakes.proofs.Kept.{is_counted, MaySleep, Fits, Kept}
-use Rattle.law_wakes.proofs.Acting.{happens_keeps}
+use Rattle.law_wakes.proofs.Counts.{one, count_at, count_le, count_none, some_counted, replicate_get, count_cons}
+use Rattle.law_wakes.proofs.Told.{MaySleep, Fits, Told}
+use Rattle.law_wakes.proofs.Heed.{is_near, is_unmoved, is_moving, is_waking, tally_of, Heeds}
+use Rattle.law_wakes.proofs.Heeding.{Heeded}
+use Rattle.law_wakes.proofs.Telling as telling
+use Rattle.law_wakes.proofs.Heeding as heeding
 
-kept_start : (n : ℕ) → Kept (start n)
-kept_start n = record {
-  counted = sym (count_none is_counted (replicate n (Awake Idle 0)) (λ k p at. ap (one is_counted) (replicate_get n k (Awake Idle 0) p at)));
-  fits = λ k p at. subst (Fits (start n)) (sym (replicate_get n k (Awake Idle 0) p at)) tt;
-}
+told_start : (n : ℕ) → Told (start n)
+told_start n = λ k p at. subst (Fits (start n)) (sym (replicate_get n k (Awake Idle 0) p at)) tt
 
-kept_run : (w : World) (es : List Event) → Kept w → Kept (run es w)
-kept_run w [] kept = kept
-kept_run w (e ∷ es) kept = kept_run (happens w e) es (happens_keeps w e kept)
+no_such : (n : ℕ) (f : Party → Bool) → one f (Awake Idle 0) ≡ 0 → count_by f (start n).parties ≡ 0
+no_such n f none = count_none f (start n).parties (λ k p at. ap (one f) (replicate_get n k (Awake Idle 0) p at) ∙ none)
 
-asleep : (w : World) (k mark : ℕ) → Kept w → Sleeps w k mark → MaySleep w mark
-asleep w k mark kept s = kept.fits k (Asleep s.ticket s.parked mark) s.at s.near
+heeded_start : (n : ℕ) → Heeded (start n)
+heeded_start n = λ early.
+    let asleep = no_such n is_asleep refl in
+    let near = no_such n (is_near 0) refl in
+    record {
+      reached = omega (arith, asleep, near);
+      reached_near = omega (arith, near);
+      for_parking = λ some. inl (omega arith);
+      for_asleep = λ some. inl (omega arith);
+    }
+
+told_run : (w : World) (es : List Event) → Told w → Told (run es w)
+told_run w [] told = told
+told_run w (e ∷ es) told = told_run (happens w e) es (telling.happens_keeps w e told)
+
+heeded_run : (w : World) (es : List Event) → Told w → Heeded w → Heeded (run es w)
+heeded_run w [] told h = h
+heeded_run w (e ∷ es) told h = heeded_run (happens w e) es (telling.happens_keeps w e told) (heeding.happens_keeps w e told h)
 
 missed_nothing : (w : World) (mark : ℕ) → MaySleep w mark → HasMissedNothing w mark
-missed_nothing w mark may = elim may.1 [ inl same ↦ inl same | inr some ↦ inr (some_counted (is_telling w.times) w.parties some) ]
+missed_nothing w mark may = elim may [ inl same ↦ inl same | inr some ↦ inr (some_counted (is_telling w.times) w.parties some) ]
 
 pub nobody_sleeps_through : NobodySleepsThrough
-nobody_sleeps_through n es k mark s = let w = run es (start n) in missed_nothing w mark (asleep w k mark (kept_run (start n) es (kept_start n)) s)
+nobody_sleeps_through n es k mark s =
+    let w = run es (start n) in missed_nothing w mark (told_run (start n) es (told_start n) k (Asleep s.ticket s.parked mark) s.at s.near)
+
+giving : (p : Party) → one is_giving p ≡ one is_unmoved p + one is_waking p
+giving (Awake Given m) = refl
+giving (Awake (Taking n) m) = refl
+giving (Awake (Moving One) m) = refl
+giving (Awake (Moving All) m) = refl
+giving (Awake (Waking One) m) = refl
+giving (Awake (Waking All) m) = refl
+giving other = refl
+
+moving : (p : Party) → one is_moving p ≤ one is_unmoved p
+moving (Awake (Moving One) m) = le_refl _
+moving other = omega arith
+
+-- those that give are those that have not moved `EVENTS`, and those that wake
+gives : (ps : List Party) → count_by is_giving ps ≡ count_by is_unmoved ps + count_by is_waking ps
+gives [] = refl
+gives (p ∷ ps) =
+    let rest = gives ps in let here = giving p in
+    let a = count_cons is_giving p ps in let b = count_cons is_unmoved p ps in let c = count_cons is_waking p ps in omega (arith, rest, here, a, b, c)
+
+heeds : (w : World) → Heeds w.sleepers w.items (tally_of w.events w.parties) → 1 ≤ count_by is_asleep w.parties → IsHeeded w
+heeds w h some =
+    let all = gives w.parties in
+    let fewer = count_le is_moving is_unmoved moving w.parties in
+    elim (h.for_asleep some) [ inl left ↦ inl (omega (arith, all, left)) | inr c ↦ inr (let few = c.all in omega (arith, all, fewer, few)) ]
 
 pub no_item_is_left : NoItemIsLeft
-no_item_is_left n es k mark s = (asleep (run es (start n)) k mark (kept_run (start n) es (kept_start n)) s).0
+no_item_is_left n es early k mark s =
+    let w = run es (start n) in
+    let some : 1 ≤ count_by is_asleep w.parties = count_at is_asleep w.parties k (Asleep s.ticket s.parked mark) s.at in heeds w (heeded_run (start n) es (told_start n) (heeded_start n) early) some
 
 pub examples : Examples
-examples = record { sleeps = refl; still_asleep = refl; all_still_asleep = refl; one_woken = refl; all_woken = refl; does_not_sleep = refl }
+examples = record { sleeps = refl; still_asleep = refl; all_still_asleep = refl; taken = refl; one_woken = refl; all_woken = refl; does_not_sleep = refl }

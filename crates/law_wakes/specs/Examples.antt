@@ -1,6 +1,6 @@
--- Short runs of two parties, of which the first waits and the second notifies.
-use Rattle.std.specs.Prelude.{◌≡◌, List, [], ◌∷◌, ◌++◌}
-use Rattle.law_wakes.specs.declared.steps.Place.TheVariants.{Idle, Woken, Moving, Waking}
+-- Short runs, in which the first party waits and the others notify.
+use Rattle.std.specs.Prelude.{◌≡◌, ℕ, List, [], ◌∷◌, ◌++◌}
+use Rattle.law_wakes.specs.declared.steps.Place.TheVariants.{Idle, Returned, Taking, Moving, Waking}
 use Rattle.law_wakes.specs.declared.steps.Whom.TheVariants.{One, All}
 use Rattle.law_wakes.specs.World.{Party, Awake, Asleep, Event, Steps, Prepares, Looks, Gives, Tells, start, run}
 
@@ -12,20 +12,27 @@ misses = Prepares 0 ∷ Steps 0 0 ∷ Steps 0 0 ∷ Looks 0 ∷ []
 abbrev pub parks : List Event
 parks = Steps 0 0 ∷ []
 
--- the second party's notify, step by step
-abbrev pub notifies : List Event
-notifies = Steps 1 0 ∷ Steps 1 0 ∷ Steps 1 0 ∷ []
+-- the second party gives an item and notifies one, step by step
+abbrev pub gives : List Event
+gives = Gives 1 ∷ Steps 1 0 ∷ Steps 1 0 ∷ Steps 1 0 ∷ Steps 1 0 ∷ []
 
-abbrev pub EndsAs : List Event → Party → Party → Type 0
-EndsAs es p q = (run es (start 2)).parties ≡ p ∷ q ∷ []
+-- it notifies all
+abbrev pub tells : List Event
+tells = Tells 1 ∷ Steps 1 0 ∷ Steps 1 0 ∷ []
+
+-- so many parties end so
+abbrev pub EndsAs : ℕ → List Event → List Party → Type 0
+EndsAs n es ps = (run es (start n)).parties ≡ ps
 
 pub record Examples : Type 0 where
-  pub sleeps : EndsAs (misses ++ parks) (Asleep 0 0 0) (Awake Idle 0)
-  -- the two cases in which the law's second part is needed: the second party has not ended its notify
-  pub still_asleep : EndsAs (misses ++ parks ++ Gives 1 ∷ Steps 1 0 ∷ []) (Asleep 0 0 0) (Awake (Moving One) 0)
-  pub all_still_asleep : EndsAs (misses ++ parks ++ Tells 1 ∷ Steps 1 0 ∷ Steps 1 0 ∷ []) (Asleep 0 0 0) (Awake (Waking All) 1)
+  pub sleeps : EndsAs 2 (misses ++ parks) (Asleep 0 0 0 ∷ Awake Idle 0 ∷ [])
+  -- the cases in which the laws' second parts are needed: a notify has not ended
+  pub still_asleep : EndsAs 2 (misses ++ parks ++ Gives 1 ∷ Steps 1 0 ∷ []) (Asleep 0 0 0 ∷ Awake (Taking 1) 0 ∷ [])
+  pub all_still_asleep : EndsAs 2 (misses ++ parks ++ Tells 1 ∷ Steps 1 0 ∷ []) (Asleep 0 0 0 ∷ Awake (Waking All) 1 ∷ [])
+  -- a notify that goes to wake the only sleeper: the next one has nobody to wake, and ends at once
+  pub taken : EndsAs 3 (misses ++ parks ++ Gives 1 ∷ Steps 1 0 ∷ Steps 1 0 ∷ Gives 2 ∷ Steps 2 0 ∷ []) (Asleep 0 0 0 ∷ Awake (Moving One) 0 ∷ Awake Idle 0 ∷ [])
   -- it is woken
-  pub one_woken : EndsAs (misses ++ parks ++ Gives 1 ∷ notifies) (Awake Woken 0) (Awake Idle 0)
-  pub all_woken : EndsAs (misses ++ parks ++ Tells 1 ∷ notifies) (Awake Woken 0) (Awake Idle 1)
+  pub one_woken : EndsAs 2 (misses ++ parks ++ gives) (Awake Returned 0 ∷ Awake Idle 0 ∷ [])
+  pub all_woken : EndsAs 2 (misses ++ parks ++ tells) (Awake Returned 0 ∷ Awake Idle 1 ∷ [])
   -- the notify comes between its look and its park, so it does not sleep
-  pub does_not_sleep : EndsAs (misses ++ Gives 1 ∷ notifies ++ parks) (Awake Woken 0) (Awake Idle 0)
+  pub does_not_sleep : EndsAs 2 (misses ++ gives ++ parks) (Awake Returned 0 ∷ Awake Idle 0 ∷ [])

@@ -1,25 +1,24 @@
 -- What holds in every run.
 use Rattle.std.specs.Prelude.{◌≡◌, ℕ, ◌+◌, ◌^◌, ◌<◌, ◌≤◌, ◌==◌, ◌⊎◌, Bool, true, false, Some, List, count_by, slice_get}
-use Rattle.law_wakes.specs.declared.steps.Place.TheVariants.{Woken, Returned, Made, Moving, Waking}
+use Rattle.law_wakes.specs.declared.steps.Place.TheVariants.{Returned, Given, Taking, Moving, Waking}
 use Rattle.law_wakes.specs.declared.steps.Whom.TheVariants.{One, All}
-use Rattle.law_wakes.specs.World.{Party, Awake, Asleep, World, Event, start, run}
+use Rattle.law_wakes.specs.World.{Party, Awake, Asleep, World, Event, is_asleep, start, run}
 
 -- it was woken, and its caller has not looked again
 abbrev pub is_woken : Party → Bool
-is_woken (Awake Woken m) = true
 is_woken (Awake Returned m) = true
 is_woken other = false
 
 -- it has given an item, and its notify has not ended
 abbrev pub is_giving : Party → Bool
-is_giving (Awake (Made One) m) = true
+is_giving (Awake Given m) = true
+is_giving (Awake (Taking n) m) = true
 is_giving (Awake (Moving One) m) = true
 is_giving (Awake (Waking One) m) = true
 is_giving other = false
 
 -- it made what all wait for come for the n-th time, and its notify has not ended
 abbrev pub is_telling : ℕ → Party → Bool
-is_telling n (Awake (Made All) m) = m == n
 is_telling n (Awake (Moving All) m) = m == n
 is_telling n (Awake (Waking All) m) = m == n
 is_telling n other = false
@@ -38,9 +37,9 @@ HasMissedNothing w mark = (w.times ≡ mark) ⊎ ((k : ℕ) × (p : Party) × (s
 abbrev pub NobodySleepsThrough : Type 0
 NobodySleepsThrough = (parties : ℕ) (es : List Event) (k mark : ℕ) → Sleeps (run es (start parties)) k mark → HasMissedNothing (run es (start parties)) mark
 
--- somebody is on the way to each item
+-- somebody is on the way to each item, or a notify to each sleeper
 abbrev pub IsHeeded : World → Type 0
-IsHeeded w = w.items ≤ count_by is_woken w.parties + count_by is_giving w.parties
+IsHeeded w = (w.items ≤ count_by is_woken w.parties + count_by is_giving w.parties) ⊎ (count_by is_asleep w.parties ≤ count_by is_giving w.parties)
 
 abbrev pub NoItemIsLeft : Type 0
-NoItemIsLeft = (parties : ℕ) (es : List Event) (k mark : ℕ) → Sleeps (run es (start parties)) k mark → IsHeeded (run es (start parties))
+NoItemIsLeft = (parties : ℕ) (es : List Event) → (run es (start parties)).late ≡ 0 → (k mark : ℕ) → Sleeps (run es (start parties)) k mark → IsHeeded (run es (start parties))

@@ -1,9 +1,10 @@
 -- What a party does next, and where it is then.
 use Rattle.std.specs.Prelude.{ℕ, ◌%◌, ◌^◌, ◌==◌, Bool, if◌then◌else◌}
 use Rattle.law_wakes.specs.declared.steps.Place.{Place}
-use Rattle.law_wakes.specs.declared.steps.Place.TheVariants.{Idle, Starting, Loaded, Prepared, Missed, Woken, Returned, Cancelling, Made, Moving, Waking}
+use Rattle.law_wakes.specs.declared.steps.Place.TheVariants.{Idle, Starting, Loaded, Prepared, Missed, Returned, Given, Taking, Moving, Waking}
 use Rattle.law_wakes.specs.declared.steps.Step.{Step}
-use Rattle.law_wakes.specs.declared.steps.Step.TheVariants.{Rest, Load, Add, Subtract, Park, Wake}
+use Rattle.law_wakes.specs.declared.steps.Step.TheVariants.{Rest, Load, Add, Take, Park, Wake}
+use Rattle.law_wakes.specs.declared.steps.Whom.TheVariants.{One}
 use Rattle.law_wakes.specs.declared.steps.Word.TheVariants as word
 
 -- what a park compares
@@ -16,10 +17,9 @@ step_of Starting = Load word.Events
 step_of (Loaded events) = Add word.Sleepers
 step_of (Prepared events) = Rest
 step_of (Missed events) = Park (low events)
-step_of Woken = Subtract word.Sleepers
 step_of Returned = Rest
-step_of Cancelling = Subtract word.Sleepers
-step_of (Made whom) = Load word.Sleepers
+step_of Given = Load word.Sleepers
+step_of (Taking sleepers) = Take sleepers
 step_of (Moving whom) = Add word.Events
 step_of (Waking whom) = Wake whom
 
@@ -29,11 +29,10 @@ after_of Idle found = Idle
 after_of Starting found = Loaded found
 after_of (Loaded events) found = Prepared events
 after_of (Prepared events) found = Prepared events
-after_of (Missed events) found = Woken
-after_of Woken found = Returned
+after_of (Missed events) found = Returned
 after_of Returned found = Returned
-after_of Cancelling found = Idle
-after_of (Made whom) found = if found == 0 then Idle else Moving whom
+after_of Given found = if found == 0 then Idle else Taking found
+after_of (Taking sleepers) found = Moving One
 after_of (Moving whom) found = Waking whom
 after_of (Waking whom) found = Idle
 
@@ -42,11 +41,10 @@ abbrev pub looked_of : Place → Bool → Place
 looked_of Idle found = Idle
 looked_of Starting found = Starting
 looked_of (Loaded events) found = Loaded events
-looked_of (Prepared events) found = if found then Cancelling else Missed events
+looked_of (Prepared events) found = if found then Idle else Missed events
 looked_of (Missed events) found = Missed events
-looked_of Woken found = Woken
 looked_of Returned found = Idle
-looked_of Cancelling found = Cancelling
-looked_of (Made whom) found = Made whom
+looked_of Given found = Given
+looked_of (Taking sleepers) found = Taking sleepers
 looked_of (Moving whom) found = Moving whom
 looked_of (Waking whom) found = Waking whom

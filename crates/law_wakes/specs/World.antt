@@ -1,9 +1,9 @@
 -- Any number of parties over the two words, and what one event makes of them.
 use Rattle.std.specs.Prelude.{ℕ, ◌+◌, ◌-◌, ◌==◌, Bool, true, false, if◌then◌else◌, Option, Some, List, [], ◌∷◌, map, replicate, count_by, slice_get, slice_set}
 use Rattle.law_wakes.specs.declared.steps.Place.{Place}
-use Rattle.law_wakes.specs.declared.steps.Place.TheVariants.{Idle, Starting, Prepared, Missed, Made}
+use Rattle.law_wakes.specs.declared.steps.Place.TheVariants.{Idle, Starting, Prepared, Missed, Given, Moving}
 use Rattle.law_wakes.specs.declared.steps.Step.{Step}
-use Rattle.law_wakes.specs.declared.steps.Step.TheVariants.{Rest, Load, Add, Subtract, Park, Wake}
+use Rattle.law_wakes.specs.declared.steps.Step.TheVariants.{Rest, Load, Add, Take, Park, Wake}
 use Rattle.law_wakes.specs.declared.steps.Word.{Word}
 use Rattle.law_wakes.specs.declared.steps.Word.TheVariants as word
 use Rattle.law_wakes.specs.declared.steps.Whom.TheVariants.{One, All}
@@ -14,17 +14,19 @@ pub data Party : Type 0 where
   Awake : (place : Place) (mark : ℕ) → Party
   Asleep : (ticket parked mark : ℕ) → Party
 
--- the two words; the items, of which each is for one party; how often what all wait for has come; and the parties
+-- the two words; the items, of which each is for one party; how often what all wait for has come; how often a party slept though `EVENTS` was no longer its ticket, which wants 2 ^ 32 moves
+-- between its ticket and its park; and the parties
 pub record World : Type 0 where
   pub events : ℕ
   pub sleepers : ℕ
   pub items : ℕ
   pub times : ℕ
+  pub late : ℕ
   pub parties : List Party
 
 -- before the first event each party is between two calls
 abbrev pub start : ℕ → World
-start n = record { events = 0; sleepers = 0; items = 0; times = 0; parties = replicate n (Awake Idle 0) }
+start n = record { events = 0; sleepers = 0; items = 0; times = 0; late = 0; parties = replicate n (Awake Idle 0) }
 
 -- what may happen next
 pub data Event : Type 0 where
@@ -72,6 +74,10 @@ abbrev pub ticket_of : Place → ℕ
 ticket_of (Missed events) = events
 ticket_of other = 0
 
+-- a party sleeps on this ticket
+abbrev pub counts_late : World → ℕ → World
+counts_late w ticket = record w { late = w.late + (if w.events == ticket then 0 else 1) }
+
 -- a wake of one wakes the sleeper that the event names. Where nobody sleeps it wakes nobody
 abbrev pub wakes_one : World → ℕ → Place → ℕ → ℕ → Option Party → World
 wakes_one w k p m j (Some (Asleep t at mark)) = goes_on (put w j (risen (Asleep t at mark))) k p m 0
@@ -82,8 +88,8 @@ abbrev pub takes : World → ℕ → Place → ℕ → ℕ → Step → World
 takes w k p m j Rest = w
 takes w k p m j (Load x) = goes_on w k p m (word_of x w)
 takes w k p m j (Add x) = goes_on (with_word x (word_of x w + 1) w) k p m (word_of x w)
-takes w k p m j (Subtract x) = goes_on (with_word x (word_of x w - 1) w) k p m (word_of x w)
-takes w k p m j (Park n) = if low w.events == n then put w k (Asleep (ticket_of p) w.events m) else goes_on w k p m 0
+takes w k p m j (Take n) = goes_on (record w { sleepers = if w.sleepers == n then n - 1 else w.sleepers }) k p m 0
+takes w k p m j (Park n) = if low w.events == n then put (counts_late w (ticket_of p)) k (Asleep (ticket_of p) w.events m) else goes_on w k p m 0
 takes w k p m j (Wake One) = wakes_one w k p m j (slice_get w.parties j)
 takes w k p m j (Wake All) = goes_on (record w { parties = map risen w.parties }) k p m 0
 
@@ -102,11 +108,11 @@ prepares w k m Idle = put w k (Awake Starting m)
 prepares w k m other = w
 
 abbrev pub gives : World → ℕ → ℕ → Place → World
-gives w k m Idle = put (record w { items = w.items + 1 }) k (Awake (Made One) m)
+gives w k m Idle = put (record w { items = w.items + 1 }) k (Awake Given m)
 gives w k m other = w
 
 abbrev pub tells : World → ℕ → ℕ → Place → World
-tells w k m Idle = put (record w { times = w.times + 1 }) k (Awake (Made All) (w.times + 1))
+tells w k m Idle = put (record w { times = w.times + 1 }) k (Awake (Moving All) (w.times + 1))
 tells w k m other = w
 
 -- what a party that is awake makes of the world

@@ -1,7 +1,8 @@
 //! The steps of an eventcount, and its laws: nobody sleeps through what it waits for.
 //!
-//! A party that waits loads `EVENTS`, adds one to `SLEEPERS`, looks at what it waits for, and sleeps while `EVENTS` is as it was. A party that has made it come loads `SLEEPERS`, and where
-//! somebody is counted there adds one to `EVENTS` and wakes.
+//! A party that waits loads `EVENTS`, adds one to `SLEEPERS`, looks at what it waits for, and sleeps while `EVENTS` is as it was. A party that has given an item loads `SLEEPERS`: where
+//! that is 0 others have gone to wake each sleeper, and nothing is left to do. Else it takes one off, if nobody changed the word in between, adds one to `EVENTS`, and wakes one. Who wakes
+//! all adds one to `EVENTS`, and wakes.
 #![tactic(auto)]
 
 ghost use Rattle.law_wakes.specs.Laws.{NobodySleepsThrough, NoItemIsLeft};
@@ -20,7 +21,9 @@ pub fn nobody_sleeps_through()
 {}
 
 /// In every run, while a party sleeps, no item is left to nobody: there are at most as many items as parties that were woken and have not looked again, and parties that gave an item
-/// and have not ended their notify of one.
+/// and have not ended their notify of one; or there are at most as many sleepers as such notifies. So once each notify has ended, somebody was woken for each item.
+///
+/// Of a run in which a party slept on a ticket from which `EVENTS` had gone on, by 2^32 or more, nothing is said.
 pub fn no_item_is_left()
     ensures { NoItemIsLeft }
 {}

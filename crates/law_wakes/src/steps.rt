@@ -7,7 +7,7 @@ ghost use Rattle.law_wakes.specs.Steps.{step_of, after_of, looked_of};
 pub enum Word {
     /// How often somebody went to wake sleepers.
     Events,
-    /// How many parties sleep, or may be about to.
+    /// How many parties began to wait, less the notifies of one that took one of them off.
     Sleepers,
 }
 
@@ -29,15 +29,15 @@ pub enum Step {
     Load(Word),
     /// Adds one to the word.
     Add(Word),
-    /// Takes one off the word.
-    Subtract(Word),
+    /// Takes one off `SLEEPERS` if it is this number, which is above 0.
+    Take(u64),
     /// Sleeps if the low 32 bits of `EVENTS` are these, until it is woken or for no reason.
     Park(u32),
     /// Wakes sleepers.
     Wake(Whom),
 }
 
-/// Where a party is. A number is what it found in `EVENTS`.
+/// Where a party is. A number is what it found in `EVENTS`, where nothing else is said.
 #[derive(Clone, Copy)]
 pub enum Place {
     /// Between two calls.
@@ -50,15 +50,13 @@ pub enum Place {
     Prepared(u64),
     /// Its caller did not find it.
     Missed(u64),
-    /// It no longer sleeps, and is still counted.
-    Woken,
     /// It has waited, and its caller looks again.
     Returned,
-    /// It does not wait after all, and is still counted.
-    Cancelling,
-    /// Its caller has made come what others wait for.
-    Made(Whom),
-    /// It has seen that somebody is counted.
+    /// Its caller has given an item.
+    Given,
+    /// It goes to wake one. The number is what it found in `SLEEPERS`.
+    Taking(u64),
+    /// It goes to move `EVENTS`.
     Moving(Whom),
     /// It has moved `EVENTS`.
     Waking(Whom),
@@ -78,8 +76,8 @@ impl Place {
             Place::Starting => Step::Load(Word::Events),
             Place::Loaded(_) => Step::Add(Word::Sleepers),
             Place::Missed(events) => Step::Park((events % LOW) as u32),
-            Place::Woken | Place::Cancelling => Step::Subtract(Word::Sleepers),
-            Place::Made(_) => Step::Load(Word::Sleepers),
+            Place::Given => Step::Load(Word::Sleepers),
+            Place::Taking(sleepers) => Step::Take(sleepers),
             Place::Moving(_) => Step::Add(Word::Events),
             Place::Waking(whom) => Step::Wake(whom),
         }
@@ -93,17 +91,17 @@ impl Place {
         match self {
             Place::Starting => Place::Loaded(found),
             Place::Loaded(events) => Place::Prepared(events),
-            Place::Missed(_) => Place::Woken,
-            Place::Woken => Place::Returned,
-            Place::Made(whom) => {
+            Place::Missed(_) => Place::Returned,
+            Place::Given => {
                 if found == 0 {
                     Place::Idle
                 } else {
-                    Place::Moving(whom)
+                    Place::Taking(found)
                 }
             }
+            Place::Taking(_) => Place::Moving(Whom::One),
             Place::Moving(whom) => Place::Waking(whom),
-            Place::Cancelling | Place::Waking(_) => Place::Idle,
+            Place::Waking(_) => Place::Idle,
             Place::Idle | Place::Prepared(_) | Place::Returned => self,
         }
     }
@@ -116,7 +114,7 @@ impl Place {
         match self {
             Place::Prepared(events) => {
                 if found {
-                    Place::Cancelling
+                    Place::Idle
                 } else {
                     Place::Missed(events)
                 }
