@@ -4,7 +4,7 @@ ghost use Rattle.concurrent_queue.specs.Shared.{IsPartyOf, Calls};
 ghost use Rattle.counted_channel.specs.Channel.{sent, received, sent_or_full, received_or_empty};
 
 use crate::errors::{Disconnected, SendError};
-use crate::waiting::{Awaited, Patience};
+use crate::waiting::{Awaited, Patience, end};
 use crate::waking::{pop, push};
 use concurrent_queue::{ConcurrentQueue, NullTestable, Party, PopError, PushError};
 use std::alloc::Allocator;
@@ -25,18 +25,18 @@ pub fn push_until<T, A: NullTestable, R: Wait>(
     requires { IsPartyOf party.old queue.now }
     ensures { Calls party.old (call.Push value) (sent result) party.new }
 {
-    let patience = Patience::new(&awaited.room);
+    let mut patience = Patience::new(&awaited.room);
     let mut value = value;
     for _ in rt.forever() {
-        let turn = patience.begin();
+        let ticket = patience.begin();
         match push_once(queue, awaited, rt, party, value) {
             Ok(answer) => {
-                turn.end();
+                end(ticket);
                 return answer;
             }
             Err(back) => value = back,
         }
-        turn.wait(rt);
+        patience.wait(rt, ticket);
     }
     unreachable!()
 }
@@ -74,15 +74,15 @@ pub fn pop_until<T, A: Allocator, R: Wait>(
     requires { IsPartyOf party.old queue.now }
     ensures { Calls party.old call.Pop (received result) party.new }
 {
-    let patience = Patience::new(&awaited.items);
+    let mut patience = Patience::new(&awaited.items);
     for _ in rt.forever() {
-        let turn = patience.begin();
+        let ticket = patience.begin();
         match pop_once(queue, awaited, rt, party) {
             Some(answer) => {
-                turn.end();
+                end(ticket);
                 return answer;
             }
-            None => turn.wait(rt),
+            None => patience.wait(rt, ticket),
         }
     }
     unreachable!()

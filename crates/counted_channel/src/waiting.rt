@@ -1,7 +1,7 @@
 //! How an end waits between two tries: it gives way a few times, and then it sleeps.
-use crossbeam_utils::Backoff;
 use event_count::{EventCount, Ticket};
 use std::sync::Wait;
+use std::thread::yield_now;
 
 /// What the ends of a channel wait for: receivers for items, senders for room.
 #[derive(Drop)]
@@ -26,17 +26,15 @@ impl Awaited {
     }
 }
 
+/// How often an end gives way to other threads before it sleeps.
+const YIELDS: u32 = 8;
+
 /// The waits of one call.
 #[derive(Drop)]
 pub(crate) struct Patience<'a> {
     awaited: &'a EventCount,
-    backoff: Backoff,
-}
-
-/// A try that is made. It has a ticket where the end sleeps if the try fails.
-pub(crate) struct Turn<'a> {
-    backoff: &'a Backoff,
-    ticket: Option<Ticket<'a>>,
+    /// How often it gives way before it sleeps.
+    yields: u32,
 }
 
 impl<'a> Patience<'a> {
@@ -44,44 +42,39 @@ impl<'a> Patience<'a> {
     pub(crate) fn new(awaited: &'a EventCount) -> Patience<'a> {
         Patience {
             awaited,
-            backoff: Backoff::new(),
+            yields: YIELDS,
         }
     }
 
-    /// Begins a try. The caller looks after this whether it has still to wait.
+    /// Begins a try: with a ticket where the end sleeps if the try fails. The caller looks after this whether it has still to wait.
     #[inline]
-    pub(crate) fn begin(&self) -> Turn<'_> {
-        let ticket = if self.backoff.is_completed() {
+    pub(crate) fn begin(&self) -> Option<Ticket<'a>> {
+        if self.yields == 0 {
             Some(self.awaited.prepare())
         } else {
             None
-        };
-        Turn {
-            backoff: &self.backoff,
-            ticket,
-        }
-    }
-}
-
-impl Turn<'_> {
-    /// The try did not fail.
-    #[inline]
-    pub(crate) fn end(self) {
-        let Turn { backoff: _, ticket } = self;
-        if let Some(ticket) = ticket {
-            ticket.cancel();
         }
     }
 
     /// Waits after a try that failed.
-    pub(crate) fn wait<R: Wait>(self, rt: &R) {
-        let Turn { backoff, ticket } = self;
+    pub(crate) fn wait<R: Wait>(&mut self, rt: &R, ticket: Option<Ticket<'a>>) {
         match ticket {
             Some(ticket) => {
                 ticket.wait(rt);
-                backoff.reset();
+                self.yields = YIELDS;
             }
-            None => backoff.snooze(),
+            None => {
+                self.yields = self.yields.saturating_sub(1);
+                yield_now();
+            }
         }
+    }
+}
+
+/// Ends a try that did not fail.
+#[inline]
+pub(crate) fn end(ticket: Option<Ticket<'_>>) {
+    if let Some(ticket) = ticket {
+        ticket.cancel();
     }
 }
