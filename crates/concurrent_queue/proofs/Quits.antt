@@ -23,8 +23,8 @@ use Rattle.shared_tables.specs.TableRule.{TableOf}
 use Rattle.shared_chain.specs.declared.web.ChainWeb.{ChainWeb}
 use Rattle.shared_chain.specs.ChainCalls.{chain_calls}
 use Rattle.shared_chain.specs.Quitting.{HasQuit as HasQuitIn}
-use Rattle.shared_calls.specs.declared.chain.Asking.{Asking}
-use Rattle.shared_calls.specs.declared.waiting.Left.{Left}
+use Rattle.shared_site.specs.declared.chain.Asking.{Asking}
+use Rattle.shared_site.specs.declared.left.Left.{Left}
 use Rattle.concurrent_queue.specs.declared.party.SeatPlace.TheVariants as place
 use Rattle.concurrent_queue.specs.Begun.{Begun}
 use Rattle.concurrent_queue.specs.SawMore.{SawMore}

@@ -20,7 +20,7 @@ use Rattle.shared_tables.specs.AtTable.{TableSeat, Ended}
 use Rattle.shared_tables.specs.Seats.{view_at}
 use Rattle.shared_tables.specs.TableRule.{TableOf}
 use Rattle.shared_tables.specs.TableTurns.{After, TableStands}
-use Rattle.shared_calls.specs.declared.waiting.Left.{Left}
+use Rattle.shared_site.specs.declared.left.Left.{Left}
 use Rattle.concurrent_queue.specs.declared.party.SeatPlace.{SeatPlace}
 use Rattle.concurrent_queue.specs.declared.party.SeatPlace.TheVariants as place
 use Rattle.concurrent_queue.specs.Shared.{QueueId, QueueName, at_table, Person, person, IsHeld, Calls, person_of}

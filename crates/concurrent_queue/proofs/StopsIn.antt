@@ -24,8 +24,8 @@ use Rattle.shared_chain.specs.Steps as chain
 use Rattle.shared_chain.specs.Turning.{SitsAt, ChainStands, ChainEnded}
 use Rattle.shared_chain.specs.declared.web.ChainWeb.{ChainWeb}
 use Rattle.shared_chain.proofs.Renamed.{next_of_map}
-use Rattle.shared_calls.specs.declared.chain.Asking.{Asking}
-use Rattle.shared_calls.specs.declared.waiting.Left.{Left}
+use Rattle.shared_site.specs.declared.chain.Asking.{Asking}
+use Rattle.shared_site.specs.declared.left.Left.{Left}
 use Rattle.concurrent_queue.specs.declared.party.SeatPlace.{SeatPlace}
 use Rattle.concurrent_queue.specs.declared.party.SeatPlace.TheVariants as place
 use Rattle.concurrent_queue.specs.Shared.{QueueId, in_web, Person, person, IsHeld, Calls, person_of}

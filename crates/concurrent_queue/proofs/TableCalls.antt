@@ -41,7 +41,7 @@ ends_where a s b q v c r z sits is_v sat same h = (
   subst (λ p. Calls v c z (person_of p)) (sym sat) (subst (λ y. Calls v c y (person_of q)) (sym same) (subst (λ p. Calls p c r (person_of q)) (ap person_of (sym sits) ∙ is_v) h.1)),
 )
 
-abbrev queue_at : TableId → Option ℕ → QueueId
+abbrev pub queue_at : TableId → Option ℕ → QueueId
 queue_at t cap = record { name = at_table t; cap = cap }
 
 -- the same of a party of which it is known whose queue that is
@@ -49,7 +49,7 @@ module _ {T : Type 0} (a : SeatPlace T) (s : Seat (Option T) (CallState T)) (cap
   sits_there : queue_at s.table_id s.me.0.known.cap ≡ queue_at t cap
   sits_there = ap (λ (p : Person T). p.queue) (subst (λ p. person_of p ≡ v) sits is_v) ∙ of
 
-  here : s.table_id ≡ t
+  pub here : s.table_id ≡ t
   here = same_table s.table_id t (ap (λ (z : QueueId). z.name) sits_there)
 
   pub begins_here : IsAt cap t (s.table_id, s.me)

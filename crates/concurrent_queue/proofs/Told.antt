@@ -15,10 +15,10 @@ use Rattle.shared_tables.specs.AtTable.{Ended}
 use Rattle.concurrent_queue.specs.declared.party.SeatPlace.{SeatPlace}
 use Rattle.concurrent_queue.specs.declared.party.SeatPlace.TheVariants as place
 use Rattle.shared_calls.specs.InWeb.{EndedAt}
-use Rattle.concurrent_queue.specs.Shared.{Person, IsHeld, person_of}
+use Rattle.concurrent_queue.specs.Shared.{QueueId, Person, IsHeld, person_of}
 use Rattle.concurrent_queue.specs.Tries.{Tries}
 use Rattle.concurrent_queue.proofs.Quits.{saw_more}
-use Rattle.concurrent_queue.proofs.TableCalls.{table_ends}
+use Rattle.concurrent_queue.proofs.TableCalls.{queue_at, here, table_ends}
 use Rattle.concurrent_queue.proofs.WebParties.{web_ends}
 
 module _ {T : Type 0} where
@@ -41,6 +41,13 @@ module _ {T : Type 0} where
   told_web a b r q v c (Break y) z rested is resting same is_v none h =
       let e = web_ends a b r q v c y y rested is resting refl is_v none h in
       (e.0, subst (λ u. Tries v c u (person_of b)) (sym same) e.1)
+
+-- the same of a party of which it is known whose queue that is
+pub told_here : {T : Type 0} (a : SeatPlace T) (s : Seat (Option T) (CallState T)) (cap : Option ℕ) (t : TableId) (v : Person T) → a ≡ place.Table s → IsHeld a → person_of a ≡ v → v.queue ≡ queue_at t cap
+    → (q : Seat (Option T) (CallState T)) (b : SeatPlace T) (c : Call T) (x : ControlFlow (Reply T) (Option T)) → b ≡ place.Table q
+    → MatchControlFlow x (λ value. Ended cap t (s.table_id, s.me) call.Capacity (reply.Capacity cap) (q.table_id, q.me) × (value ≡ call_value c)) (λ r. Ended cap t (s.table_id, s.me) c r (q.table_id, q.me))
+    → IsHeld b × Tries v c x (person_of b)
+told_here a s cap t v sits is is_v of q b c x sat h = told_table a s cap t sits is q b v c x x sat refl is_v (ap (λ (z : QueueId). z.cap) of) (sym (here a s cap t v sits is is_v of)) h
 
 -- the same of a call that a seat's own function has tried
 pub told_where : {T : Type 0} (a s b q : SeatPlace T) (v : Person T) (c : Call T) (x : ControlFlow (Reply T) (Option T)) → a ≡ s → person_of a ≡ v → b ≡ q → IsHeld q × Tries (person_of s) c x (person_of q) → IsHeld b × Tries v c x (person_of b)

@@ -5,7 +5,7 @@ use Rattle.queue_steps.specs.declared.model.Call.{Call}
 use Rattle.call_driver.specs.declared.site.Site.{Ghosts}
 use Rattle.shared_parties.specs.declared.known.CallState.{CallState}
 use Rattle.shared_calls.specs.Leaving.{IsLeft}
-use Rattle.shared_calls.specs.declared.waiting.Left.{Left}
+use Rattle.shared_site.specs.declared.left.Left.{Left}
 use Rattle.concurrent_queue.specs.declared.party.SeatPlace.{SeatPlace}
 use Rattle.concurrent_queue.specs.declared.party.SeatPlace.TheVariants as place
 use Rattle.concurrent_queue.specs.declared.shared.Form.{Form}

@@ -19,8 +19,8 @@ use Rattle.shared_tables.specs.SlotTable.{slot_table}
 use Rattle.shared_tables.specs.RingTable.{ring_table}
 use Rattle.shared_chain.specs.Names.{link_of, local_map, answer_map}
 use Rattle.shared_chain.specs.Steps as chain
-use Rattle.shared_calls.specs.declared.chain.Asking.{Asking}
-use Rattle.shared_calls.specs.declared.waiting.Left.{Left}
+use Rattle.shared_site.specs.declared.chain.Asking.{Asking}
+use Rattle.shared_site.specs.declared.left.Left.{Left}
 use Rattle.concurrent_queue.specs.declared.shared.pending.CallPlace.{CallPlace}
 use Rattle.concurrent_queue.specs.declared.shared.pending.CallPlace.TheVariants as place
 use Rattle.concurrent_queue.specs.Shared.{QueueName, at_table, in_web}

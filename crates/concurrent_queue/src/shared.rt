@@ -1,51 +1,49 @@
 //! Queues that many parties share, first in first out, that can be closed.
-ghost use Rattle.std.specs.Prelude.{◌≡◌, ◌<◌, true, Some, None, [], IfOk, IsErr, MatchResult};
+ghost use Rattle.std.specs.Prelude.{◌≡◌, ◌<◌, Some, None, [], IfOk, IsErr};
 ghost use Rattle.queue_steps.specs.declared.sizes.TheConstants.{MAX_CAPACITY};
 ghost use Rattle.queue_steps.specs.declared.model.Call.TheVariants as call;
 ghost use Rattle.queue_steps.specs.declared.model.Reply.TheVariants as reply;
 ghost use Rattle.queue_steps.specs.Kinds.{call_kind};
-ghost use Rattle.queue_steps.specs.WaitFree.{is_wait_free};
-ghost use Rattle.queue_steps.specs.Shares.{entire, IsEntire};
+ghost use Rattle.queue_steps.specs.Shares.{entire};
 ghost use Rattle.std.specs.Fmt.{WritesOnOk};
 ghost use Rattle.std.specs.Prelude.{ℕ, Bool, codes};
 ghost use Rattle.exclusive_queue.specs.QueueText.{queue_text};
-ghost use Rattle.concurrent_queue.specs.Shared.{IsPartyOf, Calls, Parts, Joins, Meets, Finishes};
+ghost use Rattle.concurrent_queue.specs.Shared.{IsPartyOf, Calls};
 
 pub use crate::party::Party;
 use crate::party::SeatPlace;
 use atomic_table::Seat;
-use call_driver::driver::drive_wait_free;
 use call_driver::fast::{Short, Usual};
 use call_driver::gate::{Gate, Open};
 use call_steps::{shown_len, shows_closed};
-use exclusive_queue::Exclusive;
 use exclusive_queue::text::write_queue;
 use mem_blocks::null_testable::NullTestable;
 use queue_steps::errors::{ForcePushError, PopError, PushError};
 use queue_steps::model::{Call, Reply};
 use queue_steps::steps::Kind;
-use shared_calls::allocated_chain::AllocatedChain;
 use shared_calls::chain;
 use shared_calls::waiting::{run_either, run_fast, run_slow};
 use shared_chain::source::{Granting, Refusing, Source};
 use shared_chain::web::ChainWeb;
-use shared_parties::count::{is_only, join, meet, split};
 use shared_parties::known::CallState;
-use shared_tables::ring::{self, Rings, end_ring, open_ring};
-use shared_tables::slot::{self, Slots, end_slot, open_slot};
+use shared_site::allocated_chain::AllocatedChain;
+use shared_tables::ring::{self, Rings, open_ring};
+use shared_tables::slot::{self, Slots, open_slot};
 use shared_tables::table::SharedTable;
 use std::alloc::{AllocError, Allocator, Global};
+use std::fmt;
 use std::marker::{Model, PhantomData};
 use std::ops::ControlFlow;
 use std::sync::Wait;
-use std::{fmt, mem};
 
 mod calling;
 mod count;
 mod giving_up;
 mod iter;
+mod parting;
 pub mod pending;
 mod trying;
+mod wait_free;
 
 pub use iter::TryIter;
 pub use pending::{Outcome, Pending};
@@ -225,58 +223,6 @@ impl<T, A: Allocator> ConcurrentQueue<T, A> {
         }
     }
 
-    /// Runs a wait-free call to its end.
-    #[inline(always)]
-    fn answer_wait_free<G: Gate>(&self, gate: &G, party: &mut Party<T>, call: Call<T>) -> Reply<T>
-        requires of { IsPartyOf party.old self.now }
-        requires wait_free { is_wait_free call ≡ true }
-        ensures { Calls party.old call result party.new }
-    {
-        match (&self.form, &mut party.place) {
-            (Form::Single(slot), SeatPlace::Table(seat)) => drive_wait_free(slot, gate, seat, call),
-            (Form::Ring(ring), SeatPlace::Table(seat)) => drive_wait_free(ring, gate, seat, call),
-            (Form::Chain(chain), SeatPlace::Web(rested)) => {
-                chain::answer_wait_free(chain, gate, rested, call)
-            }
-            _ => unreachable!(),
-        }
-    }
-
-    /// Parts a party in two. The first keeps what the party has done, both have seen what it has, and each has half of its share.
-    ///
-    /// # Errors
-    ///
-    /// The party itself, where the queue has as many parties as it may; so it is not the only one.
-    pub fn split(&self, party: Party<T>) -> Result<(Party<T>, Party<T>), Party<T>>
-        requires { IsPartyOf party self.now }
-        ensures { MatchResult result (λ r. Parts party r.0 r.1) (λ p. (p ≡ party) × ¬ (IsEntire party.view.share)) }
-    {
-        match split(&self.form, party.place) {
-            Ok((first, second)) => Ok((Party::at(first), Party::at(second))),
-            Err(place) => Err(Party::at(place)),
-        }
-    }
-
-    /// Makes one party of two, which has seen and done what both have.
-    pub fn join(&self, first: Party<T>, second: Party<T>) -> Party<T>
-        requires { IsPartyOf first self.now × IsPartyOf second self.now }
-        ensures { Joins first second result }
-    {
-        Party::at(join(&self.form, first.place, second.place))
-    }
-
-    /// Both parties have then seen what either has seen.
-    pub fn meet(&self, first: &mut Party<T>, second: &mut Party<T>)
-        requires { IsPartyOf first.old self.now × IsPartyOf second.old self.now }
-        ensures { Meets first.old second.old first.new second.new }
-    {
-        let one = mem::replace(&mut first.place, SeatPlace::Away);
-        let other = mem::replace(&mut second.place, SeatPlace::Away);
-        let (one, other) = meet(&self.form, one, other);
-        first.place = one;
-        second.place = other;
-    }
-
     /// Appends `value`. It waits while another call has the place that it needs.
     ///
     /// # Errors
@@ -403,50 +349,6 @@ impl<T, A: Allocator> ConcurrentQueue<T, A> {
         }
     }
 
-    /// Closes the queue, and tells whether this call did it. The items stay.
-    pub fn close(&self, party: &mut Party<T>) -> bool
-        requires { IsPartyOf party.old self.now }
-        ensures { Calls party.old call.Close (reply.Close result) party.new }
-    {
-        match self.answer_wait_free(&Open, party, Call::Close) {
-            Reply::Close(result) => result,
-            _ => unreachable!(),
-        }
-    }
-
-    /// Whether the queue is closed at a moment of the call.
-    pub fn is_closed(&self, party: &mut Party<T>) -> bool
-        requires { IsPartyOf party.old self.now }
-        ensures { Calls party.old call.IsClosed (reply.IsClosed result) party.new }
-    {
-        match self.answer_wait_free(&Open, party, Call::IsClosed) {
-            Reply::IsClosed(result) => result,
-            _ => unreachable!(),
-        }
-    }
-
-    /// Whether the queue has no item at a moment of the call.
-    pub fn is_empty(&self, party: &mut Party<T>) -> bool
-        requires { IsPartyOf party.old self.now }
-        ensures { Calls party.old call.IsEmpty (reply.IsEmpty result) party.new }
-    {
-        match self.answer_wait_free(&Open, party, Call::IsEmpty) {
-            Reply::IsEmpty(result) => result,
-            _ => unreachable!(),
-        }
-    }
-
-    /// Whether the queue has as many items as its capacity at a moment of the call.
-    pub fn is_full(&self, party: &mut Party<T>) -> bool
-        requires { IsPartyOf party.old self.now }
-        ensures { Calls party.old call.IsFull (reply.IsFull result) party.new }
-    {
-        match self.answer_wait_free(&Open, party, Call::IsFull) {
-            Reply::IsFull(result) => result,
-            _ => unreachable!(),
-        }
-    }
-
     /// The capacity in items.
     pub fn capacity(&self) -> Option<usize>
         ensures { result ≡ self.now.cap }
@@ -455,34 +357,6 @@ impl<T, A: Allocator> ConcurrentQueue<T, A> {
             Form::Single(_) => Some(1),
             Form::Ring(ring) => Some(ring.slots()),
             Form::Chain(_) => None,
-        }
-    }
-
-    /// Ends the sharing: the queue with its one owner, as it is after the whole history. It does so exactly where the party has all of the share.
-    ///
-    /// # Errors
-    ///
-    /// The queue and the party, both unchanged, where a party that was split off has not been joined back.
-    pub fn finish(self, party: Party<T>) -> Result<Exclusive<T, A>, (Self, Party<T>)>
-        requires { IsPartyOf party self }
-        ensures { MatchResult result (λ e. Finishes party e) (λ r. (r.0 ≡ self) × (r.1 ≡ party) × ¬ (IsEntire party.view.share)) }
-    {
-        let ConcurrentQueue { form } = self;
-        let mut place = party.place;
-        if !is_only(&form, &mut place) {
-            return Err((ConcurrentQueue { form }, Party::at(place)));
-        }
-        match (form, place) {
-            (Form::Single(slot), SeatPlace::Table(seat)) => {
-                Ok(Exclusive::of_single(end_slot(slot, seat)))
-            }
-            (Form::Ring(ring), SeatPlace::Table(seat)) => Ok(end_ring(ring, seat)),
-            (Form::Chain(queue), SeatPlace::Web(mut rested)) => {
-                let AllocatedChain { alloc, chain } = queue;
-                let seat = chain.wake(&mut rested);
-                Ok(chain.end(alloc, seat))
-            }
-            _ => unreachable!(),
         }
     }
 }

@@ -1,6 +1,5 @@
 pub mod Filling
 pub mod GivesUp
-pub mod Quits
 pub mod Settling
 pub mod Steps
 pub mod Wakes

@@ -1,9 +1,5 @@
-pub mod ChainSite
 pub mod InWeb
 pub mod Leaving
-pub mod Early
 pub mod Pausing
 pub mod Settling
-pub mod Halts
 pub mod Trying
-pub mod Laws

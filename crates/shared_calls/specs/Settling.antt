@@ -1,16 +1,10 @@
 -- A call that goes on until it has had no effect yet where it stands, or ends: how far it is from that.
-use Rattle.std.specs.Prelude.{ℕ, suc, Bool, false, if◌then◌else◌}
+use Rattle.std.specs.Prelude.{ℕ, suc, if◌then◌else◌}
 use Rattle.law_common.specs.Vocabulary.{Kind, Local, Next, BoundedLocal, UnboundedLocal}
 use Rattle.queue_steps.specs.declared.steps.bounded.BoundedLocal.TheVariants as ring
 use Rattle.queue_steps.specs.declared.steps.unbounded.UnboundedLocal.TheVariants as chain
-use Rattle.queue_steps.specs.Next.{next_of}
 use Rattle.law_chain.specs.ChainEarly.{IsBound}
-use Rattle.shared_calls.specs.declared.waiting.Left.{Left}
-use Rattle.shared_calls.specs.Early.{is_early}
-
--- what a call is to do next
-abbrev pub next_at : {T B : Type 0} → Left T B → Next B
-next_at l = next_of l.kind l.progress.local l.progress.answer
+use Rattle.shared_site.specs.Early.{is_early}
 
 -- of a call on a ring that has had its effect: how many steps it takes at most until it replies
 abbrev pub ring_left : BoundedLocal → ℕ
@@ -18,11 +12,6 @@ ring_left (ring.Arriving t) = 2
 ring_left _ = 1
 
 module _ {B : Type 0} where
-  -- a step before which the call has had no effect
-  abbrev pub is_early_step : Next B → Bool
-  is_early_step (Next.Step l t o) = is_early l
-  is_early_step (Next.Reply r spare) = false
-
   -- on a chain, also of one that is to show the first block
   abbrev pub chain_left : UnboundedLocal B → ℕ
   chain_left (chain.Laying d tail block spare) = 4

@@ -6,7 +6,7 @@ use Rattle.law_common.specs.Vocabulary.{Call, Reply}
 use Rattle.queue_steps.specs.Kinds.{call_value}
 use Rattle.call_driver.specs.declared.site.Site.{Ghosts}
 use Rattle.shared_calls.specs.Leaving.{IsLeft}
-use Rattle.shared_calls.specs.declared.waiting.Left.{Left}
+use Rattle.shared_site.specs.declared.left.Left.{Left}
 
 module _ {T B S M K : Type 0} (m : Ghosts M T B S K) where
   -- some call that is one of these stands there

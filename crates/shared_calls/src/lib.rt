@@ -1,10 +1,7 @@
-//! How a party's call runs at a table or in a chain of blocks: to its end, in parts, or until it would wait.
+//! How a party's call runs at a table or in a chain of blocks: to its end, or until it would wait, where it pauses or is given up.
 #![tactic(auto)]
 
-pub mod allocated_chain;
 pub mod attempts;
 pub mod chain;
-pub mod early;
 pub mod pausing;
-pub mod quitting;
 pub mod waiting;

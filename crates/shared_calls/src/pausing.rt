@@ -7,19 +7,20 @@ ghost use Rattle.call_driver.specs.Leads.{MayGive, Gave};
 ghost use Rattle.call_driver.specs.OnWay.{Stood};
 ghost use Rattle.shared_calls.specs.Leaving.{IsLeft};
 ghost use Rattle.shared_calls.specs.Pausing.{IsStood, IsPaused};
-ghost use Rattle.shared_calls.specs.Settling.{next_at, is_early_step, left_at, MayWait};
+ghost use Rattle.shared_calls.specs.Settling.{left_at, MayWait};
+ghost use Rattle.shared_site.specs.Halts.{next_at, is_early_step};
 
-use crate::early::is_early;
-use crate::waiting::{Left, must_give_way, run_fast};
-use call_driver::fast::Row;
+use crate::waiting::must_give_way;
 use call_driver::gate::Gate;
 use call_driver::progress::Progress;
 use call_driver::retry::retry;
 use call_driver::site::Site;
 use call_steps::KindSteps;
-use queue_steps::model::{Call, CallKind, Reply};
+use queue_steps::model::{CallKind, Reply};
 use queue_steps::sizes::SOLO_STEPS;
 use queue_steps::steps::{Kind, Next};
+use shared_site::early::is_early;
+use shared_site::left::Left;
 use std::ops::ControlFlow;
 
 /// How many steps a call takes at most from its effect on, its reply with them, but for a pop on a chain.
@@ -94,35 +95,6 @@ pub fn carry_on<T, B: Copy, S, M: Site<T, B, S>, G: Gate>(
         }
     }
     pause(site, kind, call, seat, progress, carried)
-}
-
-/// The same from where a call stands.
-pub fn take_up<T, B: Copy, S, M: Site<T, B, S>, G: Gate>(
-    site: &M,
-    gate: &G,
-    seat: &mut S,
-    left: Left<T, B>,
-) -> ControlFlow<Reply<T>, Left<T, B>>
-    requires { (c : SpecCall T) × (first : S) × IsPaused M.Site site.now first c left seat.old }
-    ensures { (c : SpecCall T) (first : S) → IsPaused M.Site site.now first c left seat.old → MatchControlFlow result (λ paused. IsPaused M.Site site.now first c paused seat.new) (λ reply. M.ended site.now first c reply seat.new) }
-{
-    carry_on(site, gate, seat, left)
-}
-
-/// The same from a call's beginning, with its fast steps `F` first.
-pub fn set_out<T, B: Copy, S, M: Site<T, B, S>, G: Gate, F: Row<T, B, S, M, G>>(
-    site: &M,
-    gate: &G,
-    seat: &mut S,
-    call: Call<T>,
-) -> ControlFlow<Reply<T>, Left<T, B>>
-    requires { M.rests site.now seat.old }
-    ensures { MatchControlFlow result (λ paused. IsPaused M.Site site.now seat.old call paused seat.new) (λ reply. M.ended site.now seat.old call reply seat.new) }
-{
-    match run_fast::<T, B, S, M, G, F>(site, gate, seat, call) {
-        ControlFlow::Break(reply) => ControlFlow::Break(reply),
-        ControlFlow::Continue(left) => carry_on(site, gate, seat, left),
-    }
 }
 
 /// What a call does next, where it has had an effect; or it stands where it has had none.

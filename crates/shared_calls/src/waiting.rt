@@ -1,5 +1,4 @@
 //! A party's call that may wait for another party's.
-ghost use Rattle.std.specs.Prelude.{◌≡◌};
 ghost use Rattle.std.specs.ControlFlow.{MatchControlFlow};
 ghost use Rattle.queue_steps.specs.declared.model.Call.{Call as SpecCall};
 ghost use Rattle.call_driver.specs.OnWay.{CanEnd, EndsRightly};
@@ -13,6 +12,7 @@ use call_driver::retry::{End, retry};
 use call_driver::site::Site;
 use queue_steps::model::{Call, CallKind, Reply, ReplyKind};
 use queue_steps::steps::{BoundedLocal, Kind, Local, UnboundedLocal};
+use shared_site::left::Left;
 use std::ops::ControlFlow;
 use std::sync::Wait;
 use std::thread::yield_now;
@@ -73,51 +73,6 @@ impl<T, B: Copy, S, M: Site<T, B, S>, R: Wait> End<T, B, S, M> for Waiting<'_, R
             }
         }
         unreachable!()
-    }
-}
-
-/// A call that has left its fast steps: which it is, where it stands, and the value that it carries.
-pub struct Left<T, B> {
-    pub kind: Kind,
-    pub call: CallKind,
-    pub progress: Progress<B>,
-    pub carried: Option<T>,
-}
-
-impl<T: Drop, B: Copy> Left<T, B> {
-    /// Drops the value that the call carries.
-    pub fn forgo(self) {
-        let Left {
-            kind: _,
-            call: _,
-            progress: _,
-            carried,
-        } = self;
-        drop(carried);
-    }
-}
-
-impl<T, B: Copy> Left<T, B> {
-    /// The same in a place of its own, part by part. A function that is not in place is lent that one, so that the fast steps write none of it to memory.
-    #[inline(always)]
-    pub fn apart(self) -> Self
-        ensures { result ≡ self }
-    {
-        let Left {
-            kind,
-            call,
-            progress,
-            carried,
-        } = self;
-        Left {
-            kind,
-            call,
-            progress: Progress {
-                local: progress.local,
-                answer: progress.answer,
-            },
-            carried,
-        }
     }
 }
 

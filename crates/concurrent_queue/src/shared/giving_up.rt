@@ -9,7 +9,7 @@ use super::Form;
 use super::pending::{CallPlace, Pending};
 use crate::party::{Party, SeatPlace};
 use crate::shared::ConcurrentQueue;
-use shared_calls::quitting::{quit_at, quit_in};
+use shared_site::quitting::{quit_at, quit_in};
 use std::alloc::Allocator;
 
 impl<T, A: Allocator> ConcurrentQueue<T, A> {

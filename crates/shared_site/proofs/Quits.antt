@@ -19,11 +19,10 @@ use Rattle.shared_chain.specs.Names.{link_of, name_map, chain_map, local_map, op
 use Rattle.shared_chain.specs.Quitting.{MayQuit as MayQuitIn}
 use Rattle.shared_chain.specs.Steps.{HoldsBy, After as AfterIn}
 use Rattle.shared_chain.proofs.Renamed.{next_of_map}
-use Rattle.shared_calls.specs.declared.chain.Asking.{Asking}
-use Rattle.shared_calls.specs.declared.waiting.Left.{Left}
-use Rattle.shared_calls.specs.Early.{is_early, spare_of, spare_at}
-use Rattle.shared_calls.specs.Halts.{Halts, HaltsIn}
-use Rattle.shared_calls.specs.Settling.{next_at}
+use Rattle.shared_site.specs.declared.chain.Asking.{Asking}
+use Rattle.shared_site.specs.declared.left.Left.{Left}
+use Rattle.shared_site.specs.Early.{is_early, spare_of, spare_at}
+use Rattle.shared_site.specs.Halts.{Halts, HaltsIn, next_at}
 
 -- what is early on any queue is so on the one that the place is on
 early_at : (l : Local ℕ) → is_early l ≡ true → IsEarly l

@@ -6,13 +6,12 @@ ghost use Rattle.shared_parties.specs.Quitting.{its_call};
 ghost use Rattle.shared_tables.specs.Quitting.{HasQuit};
 ghost use Rattle.shared_chain.specs.Quitting.{HasQuit as HasQuitChain};
 ghost use Rattle.shared_chain.specs.Turning.{SitsAt};
-ghost use Rattle.shared_calls.specs.Halts.{Halts, HaltsIn};
-ghost use Rattle.shared_calls.specs.Settling.{next_at, is_early_step};
+ghost use Rattle.shared_site.specs.Halts.{next_at, is_early_step, Halts, HaltsIn};
 
 use crate::allocated_chain::AllocatedChain;
 use crate::chain::Asking;
 use crate::early::{is_early, spare_at};
-use crate::waiting::Left;
+use crate::left::Left;
 use atomic_table::Seat;
 use call_steps::{ChainSteps, KindSteps};
 use mem_blocks::item::Place;

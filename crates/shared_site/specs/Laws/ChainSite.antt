@@ -11,7 +11,7 @@ use Rattle.shared_chain.specs.declared.web.ChainWeb.{ChainWeb}
 use Rattle.shared_chain.specs.Turning.{SitsAt, ChainCan, ChainDoes, ChainRests, ChainStands, ChainEnded, GaveUp, ChainLeads}
 use Rattle.shared_chain.proofs.Leading as steps
 use Rattle.call_driver.specs.Leads.{Leads, GoesOn}
-use Rattle.shared_calls.specs.ChainSite.{ChainSpares, ChainGives, ChainOnWay}
+use Rattle.shared_site.specs.ChainSite.{ChainSpares, ChainGives, ChainOnWay}
 
 module _ {T A : Type 0} (left : ℕ) where
   abbrev Goes : ChainWeb T A → Seat T (CallState T) A → Call T → Next (Place T) → Seat T (CallState T) A → Option T → Type 0

@@ -1,6 +1,6 @@
 use Rattle.std.proofs.Common.{◌∙◌, sym}
-use Rattle.shared_calls.proofs.Quits.{may_quit_in}
-use Rattle.shared_calls.proofs.quitting.quit_in.Goals as goal
+use Rattle.shared_site.proofs.Quits.{may_quit_in}
+use Rattle.shared_site.proofs.quitting.quit_in.Goals as goal
 
 pub quit-requires-clause-may : goal.quit-requires-clause-may
 quit-requires-clause-may g c =

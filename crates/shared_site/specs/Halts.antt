@@ -1,8 +1,8 @@
--- A call that stands after one of its steps, at a table or in a web, whichever call it is.
-use Rattle.std.specs.Prelude.{◌≡◌, ℕ, Option}
+-- A call that stands after one of its steps, at a table or in a web, whichever call it is: what it is to do next, and whether it has had no effect.
+use Rattle.std.specs.Prelude.{◌≡◌, ℕ, Bool, false, Option}
 use Rattle.atomic_table.specs.declared.shared.Seat.{Seat}
 use Rattle.mem_blocks.specs.declared.block.BlockPtr.{BlockPtr as Link}
-use Rattle.law_common.specs.Vocabulary.{Kind, Answer, Local}
+use Rattle.law_common.specs.Vocabulary.{Kind, Answer, Local, Next}
 use Rattle.queue_steps.specs.Next.{CanNext, next_of}
 use Rattle.shared_parties.specs.declared.known.CallState.{CallState}
 use Rattle.shared_parties.specs.declared.known.InCall.{InCall}
@@ -10,8 +10,18 @@ use Rattle.shared_tables.specs.TableRule.{TableOf}
 use Rattle.shared_tables.specs.TableTurns.{After}
 use Rattle.shared_chain.specs.Names.{link_of, local_map, answer_map}
 use Rattle.shared_chain.specs.Steps as chain
-use Rattle.shared_calls.specs.declared.chain.Asking.{Asking}
-use Rattle.shared_calls.specs.declared.waiting.Left.{Left}
+use Rattle.shared_site.specs.declared.chain.Asking.{Asking}
+use Rattle.shared_site.specs.declared.left.Left.{Left}
+use Rattle.shared_site.specs.Early.{is_early}
+
+-- what a call is to do next
+abbrev pub next_at : {T B : Type 0} → Left T B → Next B
+next_at l = next_of l.kind l.progress.local l.progress.answer
+
+-- a step before which the call has had no effect
+abbrev pub is_early_step : {B : Type 0} → Next B → Bool
+is_early_step (Next.Step l t o) = is_early l
+is_early_step (Next.Reply r spare) = false
 
 -- what the seat at a table was told is of a call that goes on so
 abbrev pub Halts : {T : Type 0} → TableOf T → Seat (Option T) (CallState T) → Left T ℕ → Type 0

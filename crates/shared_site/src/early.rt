@@ -1,6 +1,6 @@
 //! Where a call stands that has had no effect yet.
 ghost use Rattle.std.specs.Prelude.{◌≡◌};
-ghost use Rattle.shared_calls.specs.Early.{is_early, spare_at};
+ghost use Rattle.shared_site.specs.Early.{is_early, spare_at};
 
 use queue_steps::steps::{BoundedLocal, Local, SingleLocal, UnboundedLocal};
 

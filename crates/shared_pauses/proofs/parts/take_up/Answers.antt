@@ -1,7 +1,7 @@
 use Rattle.std.proofs.Common.{◌-◌}
 use Rattle.law_common.specs.Vocabulary.{SOLO_STEPS}
 use Rattle.call_driver.proofs.Going.{again}
-use Rattle.shared_calls.proofs.pausing.take_up.Goals as goal
+use Rattle.shared_pauses.proofs.parts.take_up.Goals as goal
 
 pub carry_on-requires : goal.carry_on-requires
 carry_on-requires g c =

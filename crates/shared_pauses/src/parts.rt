@@ -1,0 +1,42 @@
+//! The parts of a call that never waits: its beginning, and each time that it is taken up where it stands.
+ghost use Rattle.std.specs.ControlFlow.{MatchControlFlow};
+ghost use Rattle.queue_steps.specs.declared.model.Call.{Call as SpecCall};
+ghost use Rattle.shared_calls.specs.Pausing.{IsPaused};
+
+use call_driver::fast::Row;
+use call_driver::gate::Gate;
+use call_driver::site::Site;
+use queue_steps::model::{Call, Reply};
+use shared_calls::pausing::carry_on;
+use shared_calls::waiting::run_fast;
+use shared_site::left::Left;
+use std::ops::ControlFlow;
+
+/// Takes a call up where it stands, until its reply, or until it has met another call half done.
+pub fn take_up<T, B: Copy, S, M: Site<T, B, S>, G: Gate>(
+    site: &M,
+    gate: &G,
+    seat: &mut S,
+    left: Left<T, B>,
+) -> ControlFlow<Reply<T>, Left<T, B>>
+    requires { (c : SpecCall T) × (first : S) × IsPaused M.Site site.now first c left seat.old }
+    ensures { (c : SpecCall T) (first : S) → IsPaused M.Site site.now first c left seat.old → MatchControlFlow result (λ paused. IsPaused M.Site site.now first c paused seat.new) (λ reply. M.ended site.now first c reply seat.new) }
+{
+    carry_on(site, gate, seat, left)
+}
+
+/// Sets out on a call, with its fast steps `F` first: until its reply, or until it has met another call half done.
+pub fn set_out<T, B: Copy, S, M: Site<T, B, S>, G: Gate, F: Row<T, B, S, M, G>>(
+    site: &M,
+    gate: &G,
+    seat: &mut S,
+    call: Call<T>,
+) -> ControlFlow<Reply<T>, Left<T, B>>
+    requires { M.rests site.now seat.old }
+    ensures { MatchControlFlow result (λ paused. IsPaused M.Site site.now seat.old call paused seat.new) (λ reply. M.ended site.now seat.old call reply seat.new) }
+{
+    match run_fast::<T, B, S, M, G, F>(site, gate, seat, call) {
+        ControlFlow::Break(reply) => ControlFlow::Break(reply),
+        ControlFlow::Continue(left) => carry_on(site, gate, seat, left),
+    }
+}

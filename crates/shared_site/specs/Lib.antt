@@ -1,0 +1,4 @@
+pub mod ChainSite
+pub mod Early
+pub mod Halts
+pub mod Laws

@@ -1,0 +1,131 @@
+//! A chain of blocks that parties share: how the driver takes a call's steps on it.
+ghost use Rattle.std.specs.Prelude.{◌≡◌, true, false, None, Some};
+ghost use Rattle.mem_blocks.specs.Web.{sitter};
+ghost use Rattle.queue_steps.specs.Next.{next_of};
+ghost use Rattle.queue_steps.specs.declared.steps.types.Kind.TheVariants as kinds;
+ghost use Rattle.shared_chain.specs.Turning.{Carries, GaveUp, SitsAt, ChainCan, ChainDoes, web_of};
+
+use crate::allocated_chain::AllocatedChain;
+use call_driver::site::{SharedSite, Site};
+use call_steps::ChainSteps;
+use mem_blocks::item::Place;
+use mem_blocks::web::Rested;
+use queue_steps::model::CallKind;
+use queue_steps::steps::{Answer, Kind, Local, Op, Touch};
+use shared_chain::source::Source;
+use shared_chain::web::{ChainSeat, ChainWeb};
+use shared_parties::known::CallState;
+use std::alloc::Allocator;
+use std::marker::PhantomData;
+
+/// A party's seat in a call, and where the blocks come from that the call asks for.
+pub struct Asking<T, A: Allocator, Q> {
+    pub seat: ChainSeat<T, A>,
+    pub source: PhantomData<Q>,
+}
+
+impl<T, A: Allocator, Q: Source<T, A>> Site<T, Place<T>, Asking<T, A, Q>> for AllocatedChain<T, A> {
+    type Steps = ChainSteps;
+
+    ghost use Rattle.std.specs.Prelude.{refl};
+    ghost use Rattle.shared_site.specs.ChainSite.{ChainSpares, ChainGives, ChainOnWay};
+    ghost use Rattle.shared_site.specs.Laws.ChainSite.{chain_begins, chain_goes_on};
+    ghost use Rattle.call_driver.proofs.LeadsThrough.{leads-through};
+    ghost use Rattle.shared_chain.specs.Turning.{ChainRests, ChainEnded};
+    ghost use Rattle.queue_steps.specs.Kinds.{call_kind, call_value};
+    ghost use Rattle.queue_steps.specs.Next.{first_local};
+    ghost use Rattle.queue_steps.specs.declared.steps.types.Answer.TheVariants as answer;
+
+    ghost kind_of = { λ _ _. kinds.Unbounded };
+
+    ghost rests = { λ m s. ChainRests m.chain s.seat };
+
+    ghost can = { λ m s k l u o x. ChainCan m.chain s.seat k l u o x };
+
+    ghost does = { λ m s k l u o x a q y. ChainDoes s.seat k l u o x a q.seat y };
+
+    ghost spares = { λ m s b. ChainSpares m.chain s.seat b };
+
+    ghost gives = { λ m s b q. ChainGives m.chain s.seat b q.seat };
+
+    ghost stands = { λ n m s c l a q x. ChainOnWay n m.chain s.seat c l a q.seat x };
+
+    ghost ended = { λ m s c r q. ChainEnded m.chain s.seat c r q.seat };
+
+    ghost steps_fit = { λ _ _. refl };
+
+    ghost begins = { λ m s c h n _. let b = chain_begins n m.chain s.seat c h in (b.0, leads-through ChainCan (λ m s k l u o x a q y. ChainDoes s k l u o x a q y) ChainSpares ChainGives ChainOnWay ChainEnded (λ m. m.chain) (λ s. s.seat) n m s s c (next_of kinds.Unbounded (first_local (call_kind c)) answer.Start) (call_value c) b.1) };
+
+    ghost goes_on = { λ n m first c l a s x h. let g = chain_goes_on n m.chain first.seat c l a s.seat x h in (g.0, leads-through ChainCan (λ m s k l u o x a q y. ChainDoes s k l u o x a q y) ChainSpares ChainGives ChainOnWay ChainEnded (λ m. m.chain) (λ s. s.seat) n m first s c (next_of kinds.Unbounded l a) x g.1) };
+
+    ghost more = { λ n m first c l a s x h. h };
+
+    #[inline(always)]
+    fn kind(&self, _asking: &Asking<T, A, Q>) -> Kind {
+        Kind::Unbounded
+    }
+
+    #[inline(always)]
+    fn take_step(
+        &self,
+        asking: &mut Asking<T, A, Q>,
+        call: &CallKind,
+        local: &Local<Place<T>>,
+        todo: Touch,
+        op: Op<Place<T>>,
+        carried: &mut Option<T>,
+    ) -> Answer<Place<T>>
+        requires { ChainCan self.now.chain asking.old.seat call.now local.now todo op carried.old }
+        ensures { ChainDoes asking.old.seat call.now local.now todo op carried.old result asking.new.seat carried.new }
+    {
+        self.chain.take_step::<Q>(
+            &self.alloc,
+            &mut asking.seat,
+            call,
+            local,
+            todo,
+            op,
+            carried,
+        )
+    }
+
+    fn give_up(&self, asking: &mut Asking<T, A, Q>, block: Place<T>)
+        requires { SitsAt self.now.chain asking.old.seat × Carries (Some block) asking.old.seat.sitter }
+        ensures { GaveUp asking.old.seat asking.new.seat }
+    {
+        self.chain.give_up(&self.alloc, &mut asking.seat, block);
+    }
+}
+
+impl<T, A: Allocator, Q: Source<T, A>> SharedSite<T, Place<T>, Asking<T, A, Q>>
+    for AllocatedChain<T, A> {
+    ghost use Rattle.shared_chain.proofs.WaitFree.{chain_wait_free};
+    ghost use Rattle.mem_blocks.specs.declared.block.BlockPtr.{BlockPtr as SpecPlace};
+
+    ghost wait_free = { λ _ _ c h. chain_wait_free (SpecPlace T) c h };
+}
+
+impl<T, A: Allocator, Q> Asking<T, A, Q> {
+    /// The seat of a party that begins a call.
+    #[inline(always)]
+    pub fn wake(chain: &ChainWeb<T, A>, party: &mut Rested<CallState<T>>) -> Self
+        requires { (party.old.asleep ≡ true) × (party.old.web ≡ web_of chain.now) }
+        ensures seat { SitsAt chain.now result.seat × (result.seat.sitter ≡ sitter party.old.view None None) }
+        ensures left { party.new.asleep ≡ false }
+    {
+        Asking {
+            seat: chain.wake(party),
+            source: PhantomData,
+        }
+    }
+
+    /// The party rests again.
+    #[inline(always)]
+    pub fn rests(self) -> Rested<CallState<T>>
+        requires { (self.seat.sitter.hand ≡ None) × (self.seat.sitter.spare ≡ None) }
+        ensures { (result.asleep ≡ true) × (result.web ≡ self.seat.web) × (result.view ≡ self.seat.sitter.view) }
+    {
+        let Asking { seat, source: _ } = self;
+        seat.rests()
+    }
+}
