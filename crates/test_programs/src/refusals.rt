@@ -4,8 +4,8 @@ use crate::runs::{Program, run};
 use std::process::Abort;
 use std::sync::Wait;
 use std::thread::Threads;
-use test_allocators::{Refusal, Refusing};
-use test_streams::runs::{End, SOUND};
+use test_support::allocators::{Refusal, Refusing};
+use test_support::runs::{End, SOUND};
 
 /// More requests than any of these runs makes.
 const MANY: u64 = 100_000;

@@ -6,8 +6,8 @@ use std::alloc::Allocator;
 use std::process::Abort;
 use std::sync::Wait;
 use std::thread::Threads;
-use test_streams::runs::{End, Outcome, Streams, words};
-use test_streams::streams::{Reader, Writer};
+use test_support::runs::{End, Outcome, Streams, words};
+use test_support::streams::{Reader, Writer};
 
 /// One of the programs.
 #[derive(Clone, Copy)]

@@ -7,8 +7,8 @@ use std::io::ErrorKind;
 use std::process::Abort;
 use std::sync::Wait;
 use std::thread::Threads;
-use test_streams::runs::{End, SOUND, Streams};
-use test_streams::streams::{Failing, Flow};
+use test_support::runs::{End, SOUND, Streams};
+use test_support::streams::{Failing, Flow};
 
 /// The tables of each program that read all of their input and write all of their output.
 const RUN: Suite = Suite {

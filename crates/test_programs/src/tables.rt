@@ -4,7 +4,7 @@ use crate::runs::{Program, Suite, UNREAD, ends};
 use std::process::Abort;
 use std::sync::Wait;
 use std::thread::Threads;
-use test_streams::runs::{End, SOUND, Streams};
+use test_support::runs::{End, SOUND, Streams};
 
 /// A run: its arguments, its input, and what it writes: its output where it ends well, else what is told of the fault.
 pub struct Row {

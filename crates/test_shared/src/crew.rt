@@ -12,8 +12,8 @@ use std::process::Abort;
 use std::sync::Wait;
 use std::sync::atomic::{AtomicBool, AtomicU64, Ordering};
 use std::thread::{Threads, join, yield_now};
-use test_allocators::signs::wait_for;
-use test_allocators::{Heap, Refusal};
+use test_support::allocators::{Heap, Refusal};
+use test_support::signs::wait_for;
 
 /// How many turns a thread takes.
 pub(crate) const TURNS: u64 = 25_000;

@@ -8,8 +8,8 @@ use queue_steps::steps::{Link, Op, Word};
 use shared_chain::source::Granting;
 use std::sync::Wait;
 use std::sync::atomic::{AtomicBool, Ordering};
-use test_allocators::Heap;
-use test_allocators::signs::wait_for;
+use test_support::allocators::Heap;
+use test_support::signs::wait_for;
 
 /// What tells the fast steps of the calls that pass a gate from those of other callers.
 pub(crate) struct Told;

@@ -8,7 +8,7 @@ use machine_replay::replay;
 use machine_replay::types::{Event, Replay};
 use queue_steps::sizes::BLOCK_SLOTS;
 use std::alloc::{Global, Layout};
-use test_allocators::{Refusal, Refusing};
+use test_support::allocators::{Refusal, Refusing};
 
 /// How many parties a run has.
 pub const PARTIES: usize = 3;

@@ -4,7 +4,7 @@ use app_explore::command::command;
 use std::alloc::{AllocError, Global};
 use std::sync::Wait;
 use std::thread::Threads;
-use test_streams::runs::words;
+use test_support::runs::words;
 
 /// Whether the explorer ends well with these arguments on this program. What it prints goes to the output.
 fn explore(

@@ -3,7 +3,7 @@ use app_command::program::program;
 use std::alloc::AllocError;
 use std::sync::Wait;
 use std::thread::Threads;
-use test_streams::runs::words;
+use test_support::runs::words;
 
 /// The status with which the program ends on the words of this line and this input. What it prints goes to the output.
 pub fn queue_run<R: Threads + Wait + Sync + AllocGlobal>(

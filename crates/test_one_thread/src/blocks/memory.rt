@@ -13,9 +13,9 @@ use mem_blocks::sizes::SLOTS;
 use mem_blocks::web::{Seat, Web};
 use std::alloc::{AllocError, Allocator, Global, Layout};
 use std::process::Abort;
-use test_allocators::{Heap, Refusal};
-use test_closing::closing;
-use test_closing::closing_rule::{ClosingRule, Place, View};
+use test_support::allocators::{Heap, Refusal};
+use test_support::closing;
+use test_support::closing_rule::{ClosingRule, Place, View};
 
 /// A slot that is too large for a block.
 type Huge = [u8; 0x8000_0000];

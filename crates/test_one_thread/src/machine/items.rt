@@ -9,7 +9,7 @@ use queue_steps::model::Call;
 use queue_steps::steps::Kind;
 use std::alloc::Global;
 use std::process::Abort;
-use test_allocators::items::{Counted, Items};
+use test_support::items::{Counted, Items};
 
 /// The same push or forced push with an item in the place of the number, and else a pop.
 fn with_item<'a>(call: Call<u64>, items: &'a Items) -> Call<Counted<'a>> {

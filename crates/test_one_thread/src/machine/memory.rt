@@ -9,7 +9,7 @@ use queue_steps::sizes::BLOCK_SLOTS;
 use queue_steps::steps::Kind;
 use std::alloc::{Global, Layout};
 use std::process::Abort;
-use test_allocators::{Heap, Refusal};
+use test_support::allocators::{Heap, Refusal};
 
 /// The lists of a machine: its calls and its blocks.
 const MACHINE_LISTS: u64 = 2;

@@ -10,7 +10,7 @@ use queue_steps::sizes::MAX_CAPACITY;
 use queue_steps::steps::Kind;
 use std::alloc::Global;
 use std::process::Abort;
-use test_allocators::{Heap, Refusal};
+use test_support::allocators::{Heap, Refusal};
 
 /// The run of these events, in memory that is counted. Gives how many items it leaves and what it tells of its blocks, where there is memory for it.
 pub(crate) fn run(

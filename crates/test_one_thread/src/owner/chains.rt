@@ -4,7 +4,7 @@ use exclusive_queue::Exclusive;
 use exclusive_queue::errors::{ForcePushError, PopError, PushError};
 use queue_steps::model::{Call, Reply};
 use queue_steps::sizes::LIMIT;
-use test_allocators::Refusal;
+use test_support::allocators::Refusal;
 
 pub(crate) static STORIES: [Story<'static>; 16] = [
     // As many as a block has, and far more: each is accepted, and comes out in its turn.

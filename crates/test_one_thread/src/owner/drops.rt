@@ -3,8 +3,8 @@ use crate::asserts::is_in;
 use crate::owner::rows::Made;
 use exclusive_queue::Exclusive;
 use std::process::Abort;
-use test_allocators::items::{Counted, Items};
-use test_allocators::{Heap, Refusal};
+use test_support::allocators::{Heap, Refusal};
+use test_support::items::{Counted, Items};
 
 /// How a queue is made, whether its pushes are forced, how many there are, and how many pops come after them; and how many items are dropped then after the pushes, after the pops, and in the end.
 type Row = (&'static str, Made, bool, u64, u64, [u64; 3]);

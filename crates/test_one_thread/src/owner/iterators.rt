@@ -4,7 +4,7 @@ use crate::owner::rows::{Counting, Made, filled};
 use std::alloc::Global;
 use std::fmt::Debug;
 use std::process::Abort;
-use test_allocators::{Heap, Refusal};
+use test_support::allocators::{Heap, Refusal};
 
 /// Takes so many items off, if there are as many. Gives how many came in their turn, this number first.
 fn taken(queue: &mut Counting<'_>, first: u64, count: u64) -> u64 {

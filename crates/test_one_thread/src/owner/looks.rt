@@ -2,7 +2,7 @@
 use crate::owner::rows::{Made, Story, StoryLine, tell};
 use exclusive_queue::errors::PopError;
 use queue_steps::model::{Call, Reply};
-use test_allocators::Refusal;
+use test_support::allocators::Refusal;
 
 /// A queue, and where its answers differ from those of other kinds: its capacity, whether one item fills it, and how many blocks it holds once it has had an item.
 type Looked = (&'static str, Made, Option<usize>, bool, usize);

@@ -2,7 +2,7 @@
 use crate::owner::rows::{Made, Story, StoryLine};
 use exclusive_queue::errors::{ForcePushError, PopError, PushError};
 use queue_steps::model::{Call, Reply};
-use test_allocators::Refusal;
+use test_support::allocators::Refusal;
 
 pub(crate) static STORIES: [Story<'static>; 3] = [
     Story {

@@ -3,7 +3,7 @@ use crate::owner::rows::{Made, Refused, Story, StoryLine};
 use exclusive_queue::errors::{ForcePushError, PopError, PushError};
 use queue_steps::model::{Call, Reply};
 use queue_steps::sizes::{LIMIT, MAX_CAPACITY};
-use test_allocators::Refusal;
+use test_support::allocators::Refusal;
 
 pub(crate) static STORIES: [Story<'static>; 10] = [
     Story {

@@ -6,7 +6,7 @@ use queue_steps::sizes::LIMIT;
 use std::alloc::{AllocError, Global};
 use std::ops::Range;
 use std::process::Abort;
-use test_allocators::{Heap, Refusal};
+use test_support::allocators::{Heap, Refusal};
 
 /// A queue whose requests are counted.
 pub(crate) type Counting<'a> = Exclusive<u64, &'a Heap>;

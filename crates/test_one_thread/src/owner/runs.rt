@@ -6,8 +6,8 @@ use queue_steps::errors::PushError;
 use queue_steps::model::{Call, Reply};
 use std::alloc::Global;
 use std::process::Abort;
-use test_allocators::items::{Counted, Items};
-use test_allocators::{Heap, Refusal};
+use test_support::allocators::{Heap, Refusal};
+use test_support::items::{Counted, Items};
 
 /// A run in which queues of capacity 1, of capacity 2 and without one answer each otherwise.
 const CALLS: [Call<u64>; 7] = [

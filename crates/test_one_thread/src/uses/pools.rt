@@ -4,7 +4,7 @@ ghost use Rattle.std.specs.Prelude.{◌<◌};
 use crate::asserts::is_in;
 use std::alloc::Global;
 use std::process::Abort;
-use test_allocators::{Heap, Refusal};
+use test_support::allocators::{Heap, Refusal};
 use use_pool::Pool;
 
 /// Takes all places of a pool but the last, and then the last one, which is given back and taken again. Asserts that each was out once, that no other was, and that the pool, of which all places are out, leaves nothing allocated once it is dropped.

@@ -11,7 +11,7 @@ use std::alloc::AllocError;
 use std::process::Abort;
 use std::sync::Wait;
 use std::thread::Threads;
-use test_allocators::{Heap, Refusal};
+use test_support::allocators::{Heap, Refusal};
 
 /// A queue that asks such a heap for its memory.
 pub type Queue<'a> = ConcurrentQueue<u64, &'a Heap>;

@@ -12,7 +12,7 @@ use counted_channel::{Channel, Receiver, Sender, channel};
 use std::process::Abort;
 use std::sync::Wait;
 use std::thread::Threads;
-use test_allocators::{Heap, Refusal};
+use test_support::allocators::{Heap, Refusal};
 
 /// What is seen of a crew: whether all was done, and what the counts show.
 type Seen = (bool, Finding);

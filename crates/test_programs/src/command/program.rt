@@ -7,7 +7,7 @@ use std::io::ErrorKind;
 use std::process::Abort;
 use std::sync::Wait;
 use std::thread::Threads;
-use test_streams::runs::words;
+use test_support::runs::words;
 
 /// An input of one line.
 const INPUT: &[u8] = b"push 1\n";

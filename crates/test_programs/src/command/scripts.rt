@@ -7,8 +7,8 @@ use std::io::ErrorKind;
 use std::process::Abort;
 use std::sync::Wait;
 use std::thread::Threads;
-use test_streams::runs::{End, SOUND, Streams};
-use test_streams::streams::{Failing, Flow};
+use test_support::runs::{End, SOUND, Streams};
+use test_support::streams::{Failing, Flow};
 
 /// What a slot, or a ring of one slot, writes.
 const SCRIPTS: &[(&[u8], &str)] = &[

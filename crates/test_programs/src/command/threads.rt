@@ -2,8 +2,8 @@
 use crate::runs::{Program, UNREAD};
 use crate::tables::{Row, Rows, StreamRow, Table, all_tables_end};
 use std::io::ErrorKind;
-use test_streams::runs::{End, SOUND, Streams};
-use test_streams::streams::{Failing, Flow};
+use test_support::runs::{End, SOUND, Streams};
+use test_support::streams::{Failing, Flow};
 
 /// An output that is a pipe that nobody reads, and how a run ends whose output it is.
 const BROKEN: Streams = Streams {

@@ -11,7 +11,7 @@ use app_threads::threads::threads;
 use std::process::Abort;
 use std::sync::Wait;
 use std::thread::Threads;
-use test_streams::runs::words;
+use test_support::runs::words;
 
 /// Runs the form that a line asks for, where no more threads can be started than the limit says.
 fn run<R: Abort + Threads + Wait + Sync + AllocGlobal>(

@@ -6,7 +6,7 @@ use app_explore::faults::Stop;
 use app_explore_text::args::parse_request;
 use std::alloc::Global;
 use std::process::Abort;
-use test_streams::runs::words;
+use test_support::runs::words;
 
 /// A program with waits, and how many states it has: `bench/outcomes --states` counts them.
 struct Limit {

@@ -8,7 +8,7 @@ use app_text::usage::UsageFault;
 use machine_explore::program::Program;
 use std::alloc::Global;
 use std::process::Abort;
-use test_streams::runs::words;
+use test_support::runs::words;
 
 /// What reading finds: how many calls there are before, and of each party; or the number of the line that is wrong, and why.
 type Found<'a> = Result<(usize, &'a [usize]), ReadFault>;

@@ -2,8 +2,8 @@
 use crate::runs::{Program, Suite, ends};
 use crate::tables::{Row, StreamRow};
 use std::io::ErrorKind;
-use test_streams::runs::{End, SOUND, Streams};
-use test_streams::streams::{Failing, Flow};
+use test_support::runs::{End, SOUND, Streams};
+use test_support::streams::{Failing, Flow};
 
 /// Runs that read all of their input and write all of their told: a list, a schedule and a picture.
 pub static RUNS: [Row; 3] = [

@@ -16,7 +16,7 @@ use std::process::Abort;
 use std::sync::Wait;
 use std::sync::atomic::{AtomicBool, Ordering};
 use std::thread::{Threads, join};
-use test_allocators::signs::wait_for;
+use test_support::signs::wait_for;
 
 /// A call that has to wait, with its reply, and the operation to which it comes again while it waits.
 pub(crate) type Waiting = (Row, Op<()>);

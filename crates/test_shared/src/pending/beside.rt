@@ -10,7 +10,7 @@ use concurrent_queue::{Outcome, Party};
 use queue_steps::model::{Call, Reply};
 use std::process::Abort;
 use std::sync::atomic::Ordering;
-use test_allocators::signs::wait_for;
+use test_support::signs::wait_for;
 
 /// A call that never waits, and its reply once the held one has ended; and whether it is too late to give it up while the other is held. If not, it has had no effect, and its value comes back.
 pub(crate) type Begun = (Row, bool);

@@ -15,8 +15,8 @@ use std::process::Abort;
 use std::sync::atomic::Ordering;
 use std::sync::{Arc, Wait};
 use std::thread::{Threads, join};
-use test_allocators::signs::wait_for;
-use test_allocators::{Heap, Refusal};
+use test_support::allocators::{Heap, Refusal};
+use test_support::signs::wait_for;
 
 /// How many items there are, with one that no call has, and how many allocations.
 pub(crate) type Counts = (usize, u64);

@@ -8,7 +8,7 @@ use queue_steps::model::{Call, Reply};
 use std::alloc::Global;
 use std::process::Abort;
 use std::sync::Wait;
-use test_allocators::{Heap, Refusal};
+use test_support::allocators::{Heap, Refusal};
 
 /// A push, its reply where its block is refused, and where it is accepted.
 struct Push {

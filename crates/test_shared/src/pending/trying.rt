@@ -9,7 +9,7 @@ use queue_steps::steps::{Link, Op, TAIL_STEP, Word};
 use std::alloc::Global;
 use std::fmt::{Debug, Display};
 use std::process::Abort;
-use test_allocators::{Heap, Refusal};
+use test_support::allocators::{Heap, Refusal};
 
 /// What a push of 8, one by force of 9 and a pop answer beside a held call; on a chain no pop is tried.
 static BESIDE: [Story; 6] = [

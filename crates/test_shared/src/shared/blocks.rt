@@ -11,7 +11,7 @@ use std::alloc::Global;
 use std::process::Abort;
 use std::sync::Wait;
 use std::thread::Threads;
-use test_allocators::{Heap, Refusal};
+use test_support::allocators::{Heap, Refusal};
 
 /// A shared queue whose requests are counted.
 type Queue<'a> = ConcurrentQueue<u64, &'a Heap>;

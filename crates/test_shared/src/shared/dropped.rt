@@ -9,8 +9,8 @@ use concurrent_queue::{ConcurrentQueue, Party};
 use std::alloc::Global;
 use std::process::Abort;
 use std::sync::Wait;
-use test_allocators::items::{Counted, Items};
-use test_allocators::{Heap, Refusal};
+use test_support::allocators::{Heap, Refusal};
+use test_support::items::{Counted, Items};
 
 /// A shared queue of items that count their drops, and whose requests are counted.
 type Counting<'a> = ConcurrentQueue<Counted<'a>, &'a Heap>;

@@ -7,7 +7,7 @@ use queue_steps::sizes::MAX_CAPACITY;
 use std::alloc::Global;
 use std::process::Abort;
 use std::sync::Wait;
-use test_allocators::{Heap, Refusal};
+use test_support::allocators::{Heap, Refusal};
 
 /// What the constructor answers.
 type Made<'a, T> = Opened<T, &'a Heap>;

@@ -2,7 +2,7 @@
 ghost use Rattle.std.specs.Prelude.{◌≡◌, true};
 ghost use denote.RawPtr.{InBlock};
 ghost use Rattle.mem_blocks.specs.Seats.{Sits, Same};
-ghost use Rattle.test_closing.specs.ClosingRule.{Keeps};
+ghost use Rattle.test_support.specs.ClosingRule.{Keeps};
 
 use crate::asserts::is;
 use mem_blocks::block::BlockPtr;
@@ -11,9 +11,9 @@ use std::alloc::Global;
 use std::process::Abort;
 use std::sync::atomic::{AtomicBool, Ordering};
 use std::thread::{Threads, join_mut, yield_now};
-use test_allocators::signs::wait_for;
-use test_closing::closing;
-use test_closing::closing_rule::{ClosingRule, Place, View};
+use test_support::closing;
+use test_support::closing_rule::{ClosingRule, Place, View};
+use test_support::signs::wait_for;
 
 /// How often a thread looks, at most, for what the other is to do.
 const LOOKS: u64 = 10_000_000;

@@ -10,7 +10,7 @@ use counted_channel::{Channel, Receiver, SendError, Sender, channel};
 use std::alloc::Global;
 use std::process::Abort;
 use std::sync::Wait;
-use test_allocators::{Heap, Refusal};
+use test_support::allocators::{Heap, Refusal};
 
 /// Whether a channel was made, the item that its queue has still, and whether that has one owner again. Then nothing of the channel is left but the queue.
 type Made = (bool, Option<u64>, bool);

@@ -7,8 +7,8 @@ use std::sync::Wait;
 use std::sync::atomic::{AtomicBool, AtomicU64, Ordering};
 use std::thread::{Threads, sleep};
 use std::time::Duration;
-use test_allocators::signs::wait_for;
-use test_allocators::{Heap, Refusal};
+use test_support::allocators::{Heap, Refusal};
+use test_support::signs::wait_for;
 use use_tasks::{Step, Task, run};
 
 /// What each task does, and what all count together.

@@ -1,0 +1,2 @@
+mod Closings
+pub mod Tallies
