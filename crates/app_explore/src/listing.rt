@@ -2,23 +2,23 @@
 ghost use Rattle.std.specs.Prelude.{◌≡◌, ◌++◌, ◌<◌, ◌≤◌, length, map, string_bytes, IfOk, MatchOption, OnOk};
 ghost use Rattle.machine_replay.specs.Replays.{CanReplay};
 ghost use Rattle.machine_explore.specs.Traces.{IsTraceOf};
-ghost use Rattle.app_explore_text.specs.Outcomes.{text_of};
+ghost use Rattle.app_explore.specs.Outcomes.{text_of};
 ghost use Rattle.app_explore.specs.Tails.{figure_tail, items_in, none_of, tail_line, without_order};
 ghost use Rattle.app_explore.specs.Listings.{AreOutcomes, HasFewer, IsListOf, IsListing, IsPictureOf, IsScheduleOf, IsTraceOfOutcome, outcome_lines};
 
+use crate::lanes::write_lanes;
+use crate::outcomes::{are_in_order, text_of, texts_of, write_outcome_line};
+use crate::schedules::write_schedule;
 use crate::tails::{Totals, write_last, write_tail};
-use app_explore_text::lanes::write_lanes;
-use app_explore_text::outcomes::{are_in_order, text_of, texts_of, write_outcome_line};
-use app_explore_text::schedules::write_schedule;
 use machine_explore::outcome::Outcome;
 use machine_explore::program::Program;
 use machine_explore::schedule::Move;
+use machine_explore::search::explore::{Found, schedules_of, search};
+use machine_explore::search::faults::SearchFault;
+use machine_explore::search::figures::{Figure, figures_of};
 use machine_explore::sequence::Sequence;
 use machine_explore::show::show;
 use machine_explore::trace::{Trace, follow};
-use machine_search::explore::{Found, schedules_of, search};
-use machine_search::faults::SearchFault;
-use machine_search::figures::{Figure, figures_of};
 use queue_steps::steps::Kind;
 use std::alloc::{AllocError, Allocator};
 

@@ -5,13 +5,13 @@ ghost use Rattle.machine_replay.specs.Replays.{CanReplay};
 ghost use Rattle.app_explore.specs.Waits.{IsShownWait, IsWaitList, IsWaitSchedule};
 
 use crate::listing::Task;
-use app_explore_text::schedules::write_schedule;
-use app_explore_text::waits::{write_wait, write_waits};
+use crate::schedules::write_schedule;
+use crate::wait_lines::{write_wait, write_waits};
 use machine_explore::check::Table;
+use machine_explore::search::faults::SearchFault;
+use machine_explore::search::find::find;
+use machine_explore::search::rounds::{Approach, Round, approaches, rounds_of};
 use machine_explore::waiting::{Wait, show_wait, side_of};
-use machine_search::faults::SearchFault;
-use machine_search::find::find;
-use machine_search::rounds::{Approach, Round, approaches, rounds_of};
 use std::alloc::{AllocError, Allocator};
 
 /// The line of each wait, sorted by their bytes, and how many there are. Each is shown by a schedule; that none is missing is not proved.

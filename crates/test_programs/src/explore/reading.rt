@@ -1,8 +1,8 @@
 //! What the lines of programs, and the words of requests, are read as.
 use crate::asserts::is_in;
-use app_explore_text::args::{Request, Wanted, parse_request};
-use app_explore_text::faults::{LineFault, ReadFault};
-use app_explore_text::reading::read_program;
+use app_explore::args::{Request, Wanted, parse_request};
+use app_explore::read_faults::{LineFault, ReadFault};
+use app_explore::reading::read_program;
 use app_text::args::KindName;
 use app_text::usage::UsageFault;
 use machine_explore::program::Program;
