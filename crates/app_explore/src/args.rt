@@ -9,7 +9,7 @@ use app_text::numbers::parse_number;
 use app_text::usage::UsageFault;
 
 /// What is to be told of a program.
-#[derive(Clone, Copy, Debug, PartialEq)]
+#[derive(Clone, Copy, PartialEq)]
 pub enum Wanted {
     /// Every outcome, a line each.
     Outcomes,
@@ -24,7 +24,7 @@ pub enum Wanted {
 }
 
 /// What the arguments ask for.
-#[derive(Clone, Copy, Debug, PartialEq)]
+#[derive(Clone, Copy, PartialEq)]
 pub struct Request {
     /// The kind of the queue.
     pub kind: KindName,

@@ -153,9 +153,25 @@ fn trace_outcome<A: Allocator + Copy>(
         (IsTraceOfOutcome task.now.kind task.now.refuses task.now.program.before task.now.program.parties.items number)) }
 {
     let walk = find_all(alloc, task)?;
-    let shown = show_all(alloc, task, &walk)?;
+    trace_found(alloc, task, &walk, number)
+}
+
+// The same, by what a walk found.
+fn trace_found<A: Allocator + Copy>(
+    alloc: A,
+    task: &Task<A>,
+    walk: &Walk<A>,
+    number: u64,
+) -> Result<Option<Trace<A>>, SearchFault>
+    requires can { CanReplay task.now.kind }
+    requires counted { 0 < number }
+    ensures { IfOk result (λ o. MatchOption o
+        (HasFewer task.now.kind task.now.refuses task.now.program.before task.now.program.parties.items number)
+        (IsTraceOfOutcome task.now.kind task.now.refuses task.now.program.before task.now.program.parties.items number)) }
+{
+    let all = show_all(alloc, task, walk)?;
     let index = (number - 1) as usize;
-    let Some(outcome) = shown.outcomes.get(index) else {
+    let Some(outcome) = all.outcomes.get(index) else {
         return Ok(None);
     };
     let Some(schedule) = walk.schedules.get(index) else {

@@ -5,7 +5,7 @@ ghost use Rattle.app_explore.specs.Faults.{line_fault_text};
 use std::fmt;
 
 /// Why a line is none that a program may go on with.
-#[derive(Clone, Copy, Debug, PartialEq)]
+#[derive(Clone, Copy, PartialEq)]
 pub enum LineFault {
     /// It is not that of the party which comes next.
     Party,
@@ -33,7 +33,7 @@ impl fmt::Display for LineFault {
 }
 
 /// Why no program was read.
-#[derive(Clone, Copy, Debug, PartialEq)]
+#[derive(Clone, Copy, PartialEq)]
 pub enum ReadFault {
     /// The line of this number, counted from 1, is the first that is wrong, or the one that is missing.
     Unreadable(usize, LineFault),

@@ -49,17 +49,28 @@ pub fn figures_of<A: Allocator + Copy>(
     let mut orders = orders(alloc, parties, &found.table, &found.ends)?;
     let mut outcomes = Vec::new(alloc);
     for (index, number) in numbers.iter().enumerate() {
-        outcomes.push(Figure {
-            schedules: count_at(&counts, *number),
-            steps: steps_at(program, schedules, index),
-            order: take_order(&mut orders, *number),
-        })?;
+        let steps = steps_at(program, schedules, index);
+        outcomes.push(figure_of(*number, steps, &counts, &mut orders))?;
     }
     Ok(Figures {
         outcomes,
         schedules: total(&counts),
         lone,
     })
+}
+
+// What is told of the outcome of this number, to which so many steps lead.
+fn figure_of<A: Allocator>(
+    number: usize,
+    steps: usize,
+    counts: &[Count],
+    orders: &mut [Order<A>],
+) -> Figure<A> {
+    Figure {
+        schedules: count_at(counts, number),
+        steps,
+        order: take_order(orders, number),
+    }
 }
 
 // How many schedules lead to the outcome of this number.

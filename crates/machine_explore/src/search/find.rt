@@ -8,7 +8,7 @@ use crate::search::edges::NOWHERE;
 use crate::search::faults::SearchFault;
 use crate::search::known::Known;
 use queue_steps::steps::Kind;
-use std::alloc::Allocator;
+use std::alloc::{AllocError, Allocator};
 
 // What is found so far: the positions, and where each leads.
 #[derive(Drop)]
@@ -33,19 +33,30 @@ pub fn find<A: Allocator + Copy>(
 ) -> Result<Table<A>, SearchFault>
     requires { CanReplay kind }
 {
-    let mut search = Search {
-        known: Known::new(alloc, most_states)?,
-        links: Vec::new(alloc),
-    };
+    let mut search = Search::new(alloc, most_states)?;
     search.begin(alloc, kind, program)?;
     search.run(alloc, refuses, program, most_states)?;
-    Ok(Table {
-        positions: search.known.into_positions(),
-        links: search.links,
-    })
+    Ok(search.into_table())
 }
 
 impl<A: Allocator + Copy> Search<A> {
+    // Nothing is found so far, and so many positions at most.
+    fn new(alloc: A, most_states: usize) -> Result<Self, AllocError> {
+        Ok(Search {
+            known: Known::new(alloc, most_states)?,
+            links: Vec::new(alloc),
+        })
+    }
+
+    // What was found.
+    fn into_table(self) -> Table<A> {
+        let Search { known, links } = self;
+        Table {
+            positions: known.into_positions(),
+            links,
+        }
+    }
+
     // Finds where each position leads, of which there are so many at most.
     fn run(
         &mut self,

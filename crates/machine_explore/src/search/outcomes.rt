@@ -39,11 +39,21 @@ pub fn collect_ends<A: Allocator + Copy>(
     };
     for (place, position) in table.positions.iter().enumerate() {
         if position.is_final(program) {
-            let outcome = number_of(position.outcome(alloc)?, &mut found.outcomes)?;
-            found.ends.push(End { place, outcome })?;
+            note(place, position.outcome(alloc)?, &mut found)?;
         }
     }
     Ok(found)
+}
+
+// Notes an end with this outcome.
+fn note<A: Allocator>(
+    place: usize,
+    outcome: Outcome<A>,
+    found: &mut Ends<A>,
+) -> Result<(), SearchFault> {
+    let outcome = number_of(outcome, &mut found.outcomes)?;
+    found.ends.push(End { place, outcome })?;
+    Ok(())
 }
 
 // The number of the outcome among these, to which it is added where it is new.

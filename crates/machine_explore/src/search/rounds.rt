@@ -8,7 +8,7 @@ use crate::sequence::Sequence;
 use crate::waiting::is_first;
 use queue_steps::sizes::SOLO_STEPS;
 use queue_steps::steps::{BoundedLocal, Local, SingleLocal, UnboundedLocal};
-use std::alloc::Allocator;
+use std::alloc::{AllocError, Allocator};
 
 /// A position at which one party waits for another.
 #[derive(Clone, Copy)]
@@ -74,15 +74,31 @@ pub fn approaches<A: Allocator + Copy>(
 ) -> Result<Vec<Approach<A>, A>, SearchFault> {
     let graph = Graph { table, parties };
     let paths = Paths::new(alloc, &graph)?;
+    Ok(approaches_by(alloc, &graph, &paths, rounds)?)
+}
+
+// A schedule by these paths to the position of each.
+fn approaches_by<A: Allocator + Copy>(
+    alloc: A,
+    graph: &Graph<A>,
+    paths: &Paths<A>,
+    rounds: &[Round],
+) -> Result<Vec<Approach<A>, A>, AllocError> {
     let mut approaches = Vec::new(alloc);
     for round in rounds {
-        approaches.push(Approach {
-            waiter: round.waiter,
-            other: round.other,
-            schedule: Sequence::of(paths.way_to(alloc, &graph, round.place)?),
-        })?;
+        let moves = paths.way_to(alloc, graph, round.place)?;
+        approaches.push(approach_of(*round, moves))?;
     }
     Ok(approaches)
+}
+
+// The schedule that has these moves, at whose end the one waits for the other.
+fn approach_of<A: Allocator>(round: Round, moves: Vec<Move, A>) -> Approach<A> {
+    Approach {
+        waiter: round.waiter,
+        other: round.other,
+        schedule: Sequence::of(moves),
+    }
 }
 
 // Whether the party, alone, comes back to the position at this place, and its next step leads there or to the call's first.
