@@ -2,7 +2,7 @@
 use Rattle.std.proofs.Common.{◌≡◌, ◌∙◌, ◌+◌, ◌<◌, ◌++◌, ◌∷◌, [], ℕ, List, length, map, take, sym, ap, arith, append_assoc, Result, Ok, Err, OnOk}
 use Rattle.std.specs.Prelude.{slice_index_or}
 use Rattle.std.proofs.lemmas.List.{map-append, map_more}
-use Rattle.machine_search.specs.declared.figures.Figure.{Figure}
+use Rattle.machine_explore.specs.declared.search.figures.Figure.{Figure}
 use Rattle.app_explore.specs.Tails.{Tail, tail_line, figure_tail, items_in, none_of, without_order}
 
 without_order-more : (ts : List Tail) (t : Tail) → without_order (ts ++ t ∷ []) ≡ without_order ts + none_of t.order

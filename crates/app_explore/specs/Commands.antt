@@ -7,9 +7,9 @@ use Rattle.app_text.specs.Given.{IsAskedBy, MayLackMemory}
 use Rattle.app_text.specs.Streams.{IsBegun, IsInput}
 use Rattle.app_text.specs.declared.faults.Fault.TheVariants as fault
 use Rattle.app_explore.specs.Listings.{MayStop, IsTold}
-use Rattle.app_explore_text.specs.Requests.{IsRequest, IsRequestFault, request_words}
+use Rattle.app_explore.specs.Requests.{IsRequest, IsRequestFault, request_words}
 use Rattle.app_explore.specs.Stops.{stop_status}
-use Rattle.app_explore_text.specs.declared.args.Request.{Request}
+use Rattle.app_explore.specs.declared.args.Request.{Request}
 use Rattle.app_explore.specs.declared.faults.Stop.{Stop}
 use Rattle.app_explore.specs.declared.faults.Stop.TheVariants as stop
 

@@ -1,3 +1,13 @@
+pub mod Lists
+pub mod Requests
+pub mod Programs
+pub mod Faults
+pub mod Reads
+pub mod Outcomes
+pub mod Schedules
+pub mod Labels
+pub mod Lanes
+pub mod WaitLines
 pub mod Stops
 pub mod Tails
 pub mod Listings

@@ -11,15 +11,15 @@ use Rattle.machine_explore.specs.Explored.{HasNoOther}
 use Rattle.machine_explore.specs.Positions.{Outcome}
 use Rattle.machine_explore.specs.Traces.{Course, IsTraceOf}
 use Rattle.machine_explore.specs.declared.schedule.Move.{Move}
-use Rattle.app_explore_text.specs.Lanes.{lanes_text}
-use Rattle.app_explore_text.specs.Outcomes.{AreInOrder, outcome_line, text_of}
-use Rattle.app_explore_text.specs.Reads.{IsReadAs, IsFirstWrong}
-use Rattle.app_explore_text.specs.Schedules.{MakeAll, move_lines, schedule_text}
+use Rattle.app_explore.specs.Lanes.{lanes_text}
+use Rattle.app_explore.specs.Outcomes.{AreInOrder, outcome_line, text_of}
+use Rattle.app_explore.specs.Reads.{IsReadAs, IsFirstWrong}
+use Rattle.app_explore.specs.Schedules.{MakeAll, move_lines, schedule_text}
 use Rattle.app_explore.specs.Waits.{IsWaitList, IsWaitSchedule}
 use Rattle.app_explore.specs.Tails.{Tail, tail_line, last_text, without_order}
-use Rattle.app_explore_text.specs.declared.args.Request.{Request}
-use Rattle.app_explore_text.specs.declared.args.Wanted.{Wanted}
-use Rattle.app_explore_text.specs.declared.args.Wanted.TheVariants as wanted
+use Rattle.app_explore.specs.declared.args.Request.{Request}
+use Rattle.app_explore.specs.declared.args.Wanted.{Wanted}
+use Rattle.app_explore.specs.declared.args.Wanted.TheVariants as wanted
 use Rattle.app_explore.specs.declared.faults.Stop.{Stop}
 use Rattle.app_explore.specs.declared.faults.Stop.TheVariants as stop
 

@@ -4,9 +4,9 @@ use Rattle.std.specs.Fmt.{decimal}
 use Rattle.app_text.specs.Faults.{fault_text, fault_status}
 use Rattle.app_text.specs.Usage.{usage_text}
 use Rattle.app_text.specs.declared.faults.Fault.TheVariants as fault
-use Rattle.app_explore_text.specs.Faults.{line_fault_text}
-use Rattle.machine_search.specs.declared.faults.SearchFault.{SearchFault}
-use Rattle.machine_search.specs.declared.faults.SearchFault.TheVariants as sought
+use Rattle.app_explore.specs.Faults.{line_fault_text}
+use Rattle.machine_explore.specs.declared.search.faults.SearchFault.{SearchFault}
+use Rattle.machine_explore.specs.declared.search.faults.SearchFault.TheVariants as sought
 use Rattle.app_explore.specs.declared.faults.Stop.{Stop}
 use Rattle.app_explore.specs.declared.faults.Stop.TheVariants as stop
 

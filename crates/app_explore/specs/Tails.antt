@@ -1,6 +1,6 @@
 -- What is printed of an outcome behind its text, and of all outcomes.
 use Rattle.std.specs.Prelude.{ℕ, ◌+◌, ◌==◌, if◌then◌else◌, List, [], ◌∷◌, ◌++◌, codes, flat_map, Option, Some, None, Vec}
-use Rattle.machine_search.specs.declared.figures.Figure.{Figure}
+use Rattle.machine_explore.specs.declared.search.figures.Figure.{Figure}
 use Rattle.std.specs.Fmt.{decimal}
 
 -- a number of schedules; at 2^128 and above there is none

@@ -5,8 +5,8 @@ use Rattle.queue_steps.specs.declared.model.Call.{Call}
 use Rattle.queue_steps.specs.declared.steps.types.Kind.{Kind}
 use Rattle.machine_explore.specs.declared.schedule.Move.{Move}
 use Rattle.machine_explore.specs.Waiting.{IsWaitOf, Waiting}
-use Rattle.app_explore_text.specs.Schedules.{MakeAll, move_lines, schedule_text}
-use Rattle.app_explore_text.specs.Waits.{waits_text}
+use Rattle.app_explore.specs.Schedules.{MakeAll, move_lines, schedule_text}
+use Rattle.app_explore.specs.WaitLines.{waits_text}
 
 -- a schedule shows that the one waits for the other at its end
 abbrev pub IsShownWait : Kind → Bool → List (Call ℕ) → List (List (Call ℕ)) → Waiting → Type 0

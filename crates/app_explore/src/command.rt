@@ -3,21 +3,21 @@ ghost use Rattle.std.specs.Prelude.{◌≡◌, ◌⊎◌, Err, IfErr, IfOk, Matc
 ghost use Rattle.machine_replay.specs.Replays.{CanReplay};
 ghost use Rattle.app_text.specs.KindNames.{queue_named};
 ghost use Rattle.app_explore.specs.Listings.{MayStop, MayTellNothing, IsTold, TellsWanted};
-ghost use Rattle.app_explore_text.specs.Requests.{IsRequest, IsWanted};
+ghost use Rattle.app_explore.specs.Requests.{IsRequest, IsWanted};
 ghost use Rattle.app_explore.specs.Commands.{IsExplorerEnd, IsExplored, IsStopOf};
 ghost use Rattle.app_explore.specs.Stops.{IsSearchStop, search_stop, stop_status};
 
+use crate::args::{Request, Wanted, parse_request};
 use crate::faults::Stop;
+use crate::limits::MOST_STATES;
 use crate::listing::{Task, draw_lanes, list_outcomes, list_schedule};
+use crate::read_faults::ReadFault;
+use crate::reading::read_program;
 use crate::waits::{list_waits, wait_schedule};
-use app_explore_text::args::{Request, Wanted, parse_request};
-use app_explore_text::faults::ReadFault;
-use app_explore_text::limits::MOST_STATES;
-use app_explore_text::reading::read_program;
 use app_text::faults::Fault;
 use app_text::streams::{read_input, write_output};
 use machine_explore::program::Program;
-use machine_search::faults::SearchFault;
+use machine_explore::search::faults::SearchFault;
 use std::alloc::Allocator;
 use std::io::{Read, Write};
 

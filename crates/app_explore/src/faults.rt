@@ -2,7 +2,7 @@
 ghost use Rattle.std.specs.Prelude.{◌≡◌, Some};
 ghost use Rattle.app_explore.specs.Stops.{stop_text, stop_status};
 
-use app_explore_text::faults::LineFault;
+use crate::read_faults::LineFault;
 use app_text::faults::Fault;
 use std::fmt;
 

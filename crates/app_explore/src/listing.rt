@@ -2,23 +2,23 @@
 ghost use Rattle.std.specs.Prelude.{◌≡◌, ◌++◌, ◌<◌, ◌≤◌, length, map, string_bytes, IfOk, MatchOption, OnOk};
 ghost use Rattle.machine_replay.specs.Replays.{CanReplay};
 ghost use Rattle.machine_explore.specs.Traces.{IsTraceOf};
-ghost use Rattle.app_explore_text.specs.Outcomes.{text_of};
+ghost use Rattle.app_explore.specs.Outcomes.{text_of};
 ghost use Rattle.app_explore.specs.Tails.{figure_tail, items_in, none_of, tail_line, without_order};
 ghost use Rattle.app_explore.specs.Listings.{AreOutcomes, HasFewer, IsListOf, IsListing, IsPictureOf, IsScheduleOf, IsTraceOfOutcome, outcome_lines};
 
+use crate::lanes::write_lanes;
+use crate::outcomes::{are_in_order, text_of, texts_of, write_outcome_line};
+use crate::schedules::write_schedule;
 use crate::tails::{Totals, write_last, write_tail};
-use app_explore_text::lanes::write_lanes;
-use app_explore_text::outcomes::{are_in_order, text_of, texts_of, write_outcome_line};
-use app_explore_text::schedules::write_schedule;
 use machine_explore::outcome::Outcome;
 use machine_explore::program::Program;
 use machine_explore::schedule::Move;
+use machine_explore::search::explore::{Found, schedules_of, search};
+use machine_explore::search::faults::SearchFault;
+use machine_explore::search::figures::{Figure, figures_of};
 use machine_explore::sequence::Sequence;
 use machine_explore::show::show;
 use machine_explore::trace::{Trace, follow};
-use machine_search::explore::{Found, schedules_of, search};
-use machine_search::faults::SearchFault;
-use machine_search::figures::{Figure, figures_of};
 use queue_steps::steps::Kind;
 use std::alloc::{AllocError, Allocator};
 
@@ -153,9 +153,25 @@ fn trace_outcome<A: Allocator + Copy>(
         (IsTraceOfOutcome task.now.kind task.now.refuses task.now.program.before task.now.program.parties.items number)) }
 {
     let walk = find_all(alloc, task)?;
-    let shown = show_all(alloc, task, &walk)?;
+    trace_found(alloc, task, &walk, number)
+}
+
+// The same, by what a walk found.
+fn trace_found<A: Allocator + Copy>(
+    alloc: A,
+    task: &Task<A>,
+    walk: &Walk<A>,
+    number: u64,
+) -> Result<Option<Trace<A>>, SearchFault>
+    requires can { CanReplay task.now.kind }
+    requires counted { 0 < number }
+    ensures { IfOk result (λ o. MatchOption o
+        (HasFewer task.now.kind task.now.refuses task.now.program.before task.now.program.parties.items number)
+        (IsTraceOfOutcome task.now.kind task.now.refuses task.now.program.before task.now.program.parties.items number)) }
+{
+    let all = show_all(alloc, task, walk)?;
     let index = (number - 1) as usize;
-    let Some(outcome) = shown.outcomes.get(index) else {
+    let Some(outcome) = all.outcomes.get(index) else {
         return Ok(None);
     };
     let Some(schedule) = walk.schedules.get(index) else {

@@ -2,7 +2,7 @@
 ghost use Rattle.std.specs.Prelude.{◌≡◌, ◌++◌, OnOk, flat_map, string_bytes};
 ghost use Rattle.app_explore.specs.Tails.{count_text, items_in, last_text, order_text, others_text, outcomes_text, schedule_word, schedules_text, tail_text, with_space};
 
-use machine_search::counts::Count;
+use machine_explore::search::counts::Count;
 use std::alloc::{AllocError, Allocator};
 
 /// Appends what is told of an outcome behind its text: how many schedules lead to it, its fewest steps, and an order of whole calls, if there is one.

@@ -5,13 +5,13 @@ ghost use Rattle.machine_replay.specs.Replays.{CanReplay};
 ghost use Rattle.app_explore.specs.Waits.{IsShownWait, IsWaitList, IsWaitSchedule};
 
 use crate::listing::Task;
-use app_explore_text::schedules::write_schedule;
-use app_explore_text::waits::{write_wait, write_waits};
+use crate::schedules::write_schedule;
+use crate::wait_lines::{write_wait, write_waits};
 use machine_explore::check::Table;
+use machine_explore::search::faults::SearchFault;
+use machine_explore::search::find::find;
+use machine_explore::search::rounds::{Approach, Round, approaches, rounds_of};
 use machine_explore::waiting::{Wait, show_wait, side_of};
-use machine_search::faults::SearchFault;
-use machine_search::find::find;
-use machine_search::rounds::{Approach, Round, approaches, rounds_of};
 use std::alloc::{AllocError, Allocator};
 
 /// The line of each wait, sorted by their bytes, and how many there are. Each is shown by a schedule; that none is missing is not proved.
@@ -113,11 +113,31 @@ fn first_rounds<A: Allocator + Copy>(
     table: &Table<A>,
     rounds: &[Round],
 ) -> Result<Vec<Round, A>, AllocError> {
+    let keyed = keyed(alloc, task, table, rounds)?;
+    firsts_of(alloc, &keyed, rounds)
+}
+
+// The line of each round and its place, in the order of the lines.
+fn keyed<A: Allocator + Copy>(
+    alloc: A,
+    task: &Task<A>,
+    table: &Table<A>,
+    rounds: &[Round],
+) -> Result<Vec<(String<A>, usize), A>, AllocError> {
     let mut keyed = Vec::new(alloc);
-    for (index, round) in rounds.iter().enumerate() {
-        keyed.push((line_of(alloc, task, table, round)?, index))?;
+    for (place, round) in rounds.iter().enumerate() {
+        keyed.push((line_of(alloc, task, table, round)?, place))?;
     }
     keyed.sort()?;
+    Ok(keyed)
+}
+
+// The first of the rounds with each of these lines, which are in order.
+fn firsts_of<A: Allocator + Copy>(
+    alloc: A,
+    keyed: &[(String<A>, usize)],
+    rounds: &[Round],
+) -> Result<Vec<Round, A>, AllocError> {
     let mut firsts = Vec::new(alloc);
     for place in 0..keyed.len() {
         if place == 0 || keyed[place - 1].0.as_str() != keyed[place].0.as_str() {

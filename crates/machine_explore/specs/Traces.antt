@@ -1,5 +1,5 @@
 -- What is seen of a run of a program: of each event where its call stood, what was told, and the list behind it.
-use Rattle.std.specs.Prelude.{◌≡◌, ℕ, ◌<◌, Bool, true, false, Option, Some, List, [], ◌∷◌, length, take}
+use Rattle.std.specs.Prelude.{◌≡◌, ℕ, ◌<◌, Bool, true, false, Option, Some, List, [], ◌∷◌, ◌++◌, length, take}
 use Rattle.std.specs.List.{All, AllZip}
 use Rattle.queue_steps.specs.declared.model.Call.{Call}
 use Rattle.queue_steps.specs.declared.steps.types.Kind.{Kind}
@@ -36,6 +36,13 @@ pub record IsSeen (calls : List (List (Call ℕ))) (s : Standing) (m : Move) (x 
   pub event : event_at calls s m.party m.granted ≡ Some x.event
   pub seen : x ≡ seen_at s.kind s.world x.event
   pub leads : later ≡ led s.kind s x.event
+
+-- the move may be taken from s, it leads to the later standing, and what is seen of it stands behind what was seen before
+pub record IsOneMore (refuses : Bool) (calls : List (List (Call ℕ))) (m : Move) (seen : List Seen) (s : Standing) (seen_later : List Seen) (later : Standing) : Type 0 where
+  pub may : refuses ≡ false → m.granted ≡ true
+  pub one : Seen
+  pub seen_is : seen_later ≡ seen ++ one ∷ []
+  pub is : IsSeen calls s m one later
 
 -- what is seen of events, one after another, from w on
 abbrev pub trace_of : Kind → World (Shared ℕ) (Running ℕ) → List (Event ℕ) → List Seen

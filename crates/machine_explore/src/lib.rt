@@ -9,6 +9,7 @@ pub mod position;
 pub mod program;
 pub mod progress;
 pub mod schedule;
+pub mod search;
 pub mod sequence;
 pub mod show;
 pub mod trace;

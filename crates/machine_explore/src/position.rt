@@ -1,5 +1,5 @@
 //! Where a run of a program stands, and how it goes on.
-ghost use Rattle.std.specs.Prelude.{◌≡◌, ◌↔◌, ℕ, ◌<◌, ◌∷◌, Bool, true, false, ⊤, [], None, is_some, IsTrue, IfOk, OnOk, MatchOption, length, option_map};
+ghost use Rattle.std.specs.Prelude.{◌≡◌, ◌↔◌, ℕ, ◌<◌, ◌∷◌, Bool, true, false, ⊤, [], None, is_some, IsTrue, IfOk, OnOk, MatchOption, length, option_map, replicate};
 ghost use Rattle.machine_replay.specs.MachineRuns.{IsSomeMachineRun};
 ghost use Rattle.machine_replay.specs.Conforms.{party_of};
 ghost use Rattle.machine_steps.specs.Left.{left_of};
@@ -56,15 +56,10 @@ impl<A: Allocator + Copy> Position<A> {
     {
         let count = program.parties.len();
         let mut run = MachineRun::new(alloc, kind, count, 0)?;
-        for call in program.before.as_slice() {
-            if !make_alone(alloc, &mut run, *call)? {
-                return Ok(None);
-            }
+        if !make_all(alloc, &mut run, program.before.as_slice())? {
+            return Ok(None);
         }
-        let mut parties = Vec::with_capacity(alloc, count)?;
-        for _ in 0..count {
-            parties.push_reserved(PartyProgress::new(alloc));
-        }
+        let parties = none_begun(alloc, count)?;
         Ok(Some(Position { run, parties }))
     }
 
@@ -278,6 +273,40 @@ fn are_as_far<A: Allocator>(parties: &[PartyProgress<A>], others: &[PartyProgres
         }
     }
     true
+}
+
+// So many parties that have begun no call.
+fn none_begun<A: Allocator + Copy>(
+    alloc: A,
+    count: usize,
+) -> Result<Vec<PartyProgress<A>, A>, AllocError>
+    ensures { IfOk result (λ parties. parties.items ≡ replicate count no_progress) }
+{
+    let mut parties = Vec::with_capacity(alloc, count)?;
+    for _ in 0..count {
+        parties.push_reserved(PartyProgress::new(alloc));
+    }
+    Ok(parties)
+}
+
+// Party 0 makes these calls, alone, one after another, each to its end. Whether each came to one.
+fn make_all<A: Allocator + Copy>(
+    alloc: A,
+    run: &mut MachineRun<u64, A>,
+    calls: &[Call<u64>],
+) -> Result<bool, AllocError>
+    requires comes { IsSomeMachineRun run.old }
+    requires rests { IsPrepared run.old.machine.kind (world_of run.old.machine) [] (world_of run.old.machine) }
+    ensures comes { IsSomeMachineRun run.new }
+    ensures kind { run.new.machine.kind ≡ run.old.machine.kind }
+    ensures made { IfOk result (λ made. made ≡ true → IsPrepared run.old.machine.kind (world_of run.old.machine) calls.now (world_of run.new.machine)) }
+{
+    for call in calls {
+        if !make_alone(alloc, run, *call)? {
+            return Ok(false);
+        }
+    }
+    Ok(true)
 }
 
 // Party 0 makes a call, alone, to its end. Whether it came to one.

@@ -1,8 +1,8 @@
 //! A schedule is run once more, and what is seen of the run is kept.
-ghost use Rattle.std.specs.Prelude.{◌≡◌, ⊤, IfOk, MatchOption};
+ghost use Rattle.std.specs.Prelude.{◌≡◌, ⊤, Bool, true, [], IfOk, MatchOption};
 ghost use Rattle.machine_replay.specs.Conforms.{party_of};
 ghost use Rattle.machine_replay.specs.Replays.{CanReplay};
-ghost use Rattle.machine_explore.specs.Traces.{Course, IsSeen, IsTraceOf, IsWayOf, Seen};
+ghost use Rattle.machine_explore.specs.Traces.{Course, IsOneMore, IsSeen, IsTraceOf, IsWayOf, Seen};
 
 use crate::outcome::Outcome;
 use crate::position::Position;
@@ -160,25 +160,55 @@ pub(crate) fn go<A: Allocator + Copy>(
     requires { CanReplay kind }
     ensures { IfOk result (λ o. MatchOption o ⊤ (λ way. IsWayOf kind refuses program.now.before program.now.parties.items schedule.now way.opening.items way.entries.items way.position)) }
 {
-    let Some(mut position) = Position::start(alloc, kind, program)? else {
+    let Some(mut way) = Way::start(alloc, kind, program)? else {
         return Ok(None);
     };
-    let opening = position.list(alloc)?;
-    let mut entries = Vec::new(alloc);
     for step in schedule {
-        if !step.granted && !refuses {
+        if !way.go_on(alloc, refuses, program, *step)? {
             return Ok(None);
         }
-        let Some(entry) = enter(alloc, program, &mut position, *step)? else {
+    }
+    Ok(Some(way))
+}
+
+impl<A: Allocator + Copy> Way<A> {
+    // Where runs of the program start, before a move.
+    fn start(alloc: A, kind: Kind, program: &Program<A>) -> Result<Option<Way<A>>, AllocError>
+        requires { CanReplay kind }
+        ensures { IfOk result (λ o. MatchOption o ⊤ (λ way. (refuses : Bool) → IsWayOf kind refuses program.now.before program.now.parties.items [] way.opening.items way.entries.items way.position)) }
+    {
+        let Some(position) = Position::start(alloc, kind, program)? else {
             return Ok(None);
         };
-        entries.push(entry)?;
+        let opening = position.list(alloc)?;
+        let entries = Vec::new(alloc);
+        Ok(Some(Way {
+            opening,
+            entries,
+            position,
+        }))
     }
-    Ok(Some(Way {
-        opening,
-        entries,
-        position,
-    }))
+
+    // Takes a move more, if it can be taken.
+    fn go_on(
+        &mut self,
+        alloc: A,
+        refuses: bool,
+        program: &Program<A>,
+        step: Move,
+    ) -> Result<bool, AllocError>
+        ensures opening { self.new.opening ≡ self.old.opening }
+        ensures more { IfOk result (λ yes. yes ≡ true → IsOneMore refuses program.now.parties.items step self.old.entries.items self.old.position self.new.entries.items self.new.position) }
+    {
+        if !step.granted && !refuses {
+            return Ok(false);
+        }
+        let Some(entry) = enter(alloc, program, &mut self.position, step)? else {
+            return Ok(false);
+        };
+        self.entries.push(entry)?;
+        Ok(true)
+    }
 }
 
 // Takes a move in place. What is seen of its event, if its party goes on.

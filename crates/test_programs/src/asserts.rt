@@ -11,3 +11,8 @@ pub(crate) fn is_in<T: PartialEq + Debug + Drop, C: Debug + Drop>(
 ) {
     assert_eq!(rt; found, wanted, "{case:?}");
 }
+
+/// Asserts that what was found in this case, which a failure names, is what is wanted.
+pub(crate) fn is_so(rt: &impl Abort, case: &str, is_wanted: bool) {
+    assert!(rt; is_wanted, "{case:?}");
+}

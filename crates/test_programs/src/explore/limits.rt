@@ -1,9 +1,9 @@
 //! Programs with just as many states as may be looked at, and one more.
 use crate::asserts::is_in;
 use crate::comes::Comes;
+use app_explore::args::parse_request;
 use app_explore::command::told;
 use app_explore::faults::Stop;
-use app_explore_text::args::parse_request;
 use std::alloc::Global;
 use std::process::Abort;
 use test_support::runs::words;

@@ -3,13 +3,13 @@ ghost use Rattle.machine_replay.specs.Replays.{CanReplay};
 
 use crate::asserts::is_in;
 use crate::comes::Comes;
+use app_explore::limits::MOST_STATES;
 use app_explore::listing::{Task, Walk, find_all, list_found};
-use app_explore_text::limits::MOST_STATES;
-use app_explore_text::reading::read_program;
+use app_explore::reading::read_program;
 use machine_explore::check::check;
 use machine_explore::schedule::Move;
+use machine_explore::search::faults::SearchFault;
 use machine_explore::sequence::Sequence;
-use machine_search::faults::SearchFault;
 use queue_steps::steps::Kind;
 use std::alloc::Global;
 use std::process::Abort;

@@ -1,8 +1,8 @@
 //! What outcomes and schedules are printed as.
 use crate::asserts::is_in;
-use app_explore_text::outcomes::{write_outcome, write_outcome_line};
-use app_explore_text::reading::read_program;
-use app_explore_text::schedules::write_schedule;
+use app_explore::outcomes::{write_outcome, write_outcome_line};
+use app_explore::reading::read_program;
+use app_explore::schedules::write_schedule;
 use machine_explore::schedule::Move;
 use machine_explore::sequence::Sequence;
 use machine_explore::trace::follow;

@@ -1,8 +1,8 @@
 //! What the lines of programs, and the words of requests, are read as.
-use crate::asserts::is_in;
-use app_explore_text::args::{Request, Wanted, parse_request};
-use app_explore_text::faults::{LineFault, ReadFault};
-use app_explore_text::reading::read_program;
+use crate::asserts::is_so;
+use app_explore::args::{Request, Wanted, parse_request};
+use app_explore::read_faults::{LineFault, ReadFault};
+use app_explore::reading::read_program;
 use app_text::args::KindName;
 use app_text::usage::UsageFault;
 use machine_explore::program::Program;
@@ -89,14 +89,10 @@ fn is_read(rt: &impl Abort, alloc: Global, text: &str, found: Found<'_>) {
     match read_program(alloc, text.as_bytes()) {
         Ok(program) => {
             let counts = counts_of(rt, alloc, &program);
-            is_in(
-                rt,
-                text,
-                Ok((program.before.len(), counts.as_slice())),
-                found,
-            );
+            let read = Ok((program.before.len(), counts.as_slice()));
+            is_so(rt, text, read == found);
         }
-        Err(why) => is_in(rt, text, Err(why), found),
+        Err(why) => is_so(rt, text, found == Err(why)),
     }
 }
 
@@ -189,6 +185,6 @@ static REQUESTS: [(&str, Result<Request, UsageFault>); 19] = [
 fn requests_are_read(rt: HostRuntime) {
     for (line, request) in &REQUESTS {
         let words = words(rt.alloc(), line).expect(&rt, "memory");
-        is_in(&rt, *line, parse_request(&words), *request);
+        is_so(&rt, line, parse_request(&words) == *request);
     }
 }

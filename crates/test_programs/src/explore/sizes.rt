@@ -2,10 +2,10 @@
 ghost use Rattle.machine_replay.specs.Replays.{CanReplay};
 
 use crate::asserts::is_in;
+use app_explore::limits::MOST_STATES;
 use app_explore::listing::{Task, list_outcomes};
-use app_explore_text::limits::MOST_STATES;
-use app_explore_text::outcomes::are_in_order;
-use app_explore_text::reading::read_program;
+use app_explore::outcomes::are_in_order;
+use app_explore::reading::read_program;
 use machine_explore::program::{Calls, Program};
 use machine_explore::schedule::Move;
 use machine_explore::sequence::Sequence;

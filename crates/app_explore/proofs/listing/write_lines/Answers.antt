@@ -1,5 +1,5 @@
 use Rattle.std.proofs.Common.{◌∙◌, ◌+◌, ◌++◌, ap, string_bytes}
-use Rattle.app_explore_text.specs.Outcomes.{outcome_line}
+use Rattle.app_explore.specs.Outcomes.{outcome_line}
 use Rattle.app_explore.proofs.OutcomeLines.{line_more}
 use Rattle.app_explore.proofs.listing.write_lines.Goals as goal
 

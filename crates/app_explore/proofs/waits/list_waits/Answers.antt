@@ -3,7 +3,7 @@ use Rattle.std.specs.List.{All}
 use Rattle.std.proofs.lemmas.List.{map-append}
 use Rattle.std.proofs.lemmas.List.Elements.{All-push}
 use Rattle.machine_explore.specs.Waiting.{Waiting, wait_of}
-use Rattle.app_explore_text.specs.Waits.{waits_text}
+use Rattle.app_explore.specs.WaitLines.{waits_text}
 use Rattle.app_explore.specs.Waits.{IsShownWait}
 use Rattle.app_explore.proofs.waits.list_waits.Goals as goal
 

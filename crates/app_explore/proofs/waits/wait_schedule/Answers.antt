@@ -1,7 +1,7 @@
 use Rattle.std.proofs.Common.{◌≡◌, ◌∙◌, ◌++◌, List, ap, subst}
 use Rattle.machine_explore.specs.Traces.{Seen}
 use Rattle.machine_explore.specs.Waiting.{wait_of}
-use Rattle.app_explore_text.specs.Schedules.{MakeAll, move_lines, schedule_text}
+use Rattle.app_explore.specs.Schedules.{MakeAll, move_lines, schedule_text}
 use Rattle.app_explore.proofs.waits.wait_schedule.Goals as goal
 
 pub returns : goal.returns

@@ -1,0 +1,41 @@
+-- The columns and the rows of a picture, one more.
+use Rattle.std.proofs.Common.{◌≡◌, ◌∙◌, ℕ, zero, suc, ◌+◌, ◌-◌, ◌<◌, List, [], ◌∷◌, ◌++◌, OnOk, Ok, Err, Result, if◌then◌else◌, codes, length, map, replicate, take, sym, ap, refl, arith, append_assoc, append-nil}
+use Rattle.std.specs.Prelude.{flat_map, slice_index_or}
+use Rattle.std.specs.List.{range_with_len}
+use Rattle.std.specs.Result.{is_ok}
+use Rattle.std.proofs.lemmas.List.{flat_map_more, get_or-map, length-map, take_more}
+use Rattle.app_explore.specs.Lanes.{column, columns}
+
+over_range : {X : Type 0} (f : ℕ → List X) (a n j : ℕ) → a + n ≡ j → flat_map f (range_with_len a (n + 1)) ≡ flat_map f (range_with_len a n) ++ f j
+over_range f a zero j at = let same : a ≡ j = omega (arith, at) in append-nil (f a) ∙ ap f same
+over_range f a (suc n) j at =
+    let behind : suc n + 1 ≡ suc (n + 1) = omega arith in
+    let next : (a + 1) + n ≡ j = omega (arith, at) in
+    ap (λ k. flat_map f (range_with_len a k)) behind ∙ ap (λ l. f a ++ l) (over_range f (a + 1) n j next) ∙ sym (append_assoc (f a) (flat_map f (range_with_len (a + 1) n)) (f j))
+
+-- one column more is written
+pub column_more : (text_of : ℕ → List ℕ) (n width : ℕ) (cell start old new : List ℕ) → old ≡ start ++ columns n width text_of → cell ≡ text_of n → new ≡ old ++ column width cell → new ≡ start ++ columns (n + 1) width text_of
+column_more text_of n width cell start old new before cell_is wrote =
+    wrote ∙ ap (λ l. l ++ column width cell) before ∙ ap (λ l. (start ++ columns n width text_of) ++ column width l) cell_is
+    ∙ append_assoc start (columns n width text_of) (column width (text_of n)) ∙ ap (λ l. start ++ l) (sym (over_range (λ p. column width (text_of p)) 0 n n (omega arith)))
+
+-- one row more is written
+pub row_more : {X : Type 0} (row_of : X → List ℕ) (xs : List X) (i : ℕ) (x : X) (row start old new : List ℕ) → i < length xs → x ≡ slice_index_or xs i x
+    → old ≡ start ++ flat_map row_of (take i xs) → row ≡ row_of x → new ≡ old ++ row → new ≡ start ++ flat_map row_of (take (i + 1) xs)
+row_more row_of xs i x row start old new inside x_is before row_is wrote =
+    let taken : take (i + 1) xs ≡ take i xs ++ x ∷ [] = take_more xs i x inside ∙ ap (λ y. take i xs ++ y ∷ []) (sym x_is) in
+    wrote ∙ ap (λ l. l ++ row) before ∙ ap (λ l. (start ++ flat_map row_of (take i xs)) ++ l) row_is ∙ flat_map_more row_of start (take i xs) x ∙ ap (λ l. start ++ flat_map row_of l) (sym taken)
+
+-- a column is at its end
+pub column_ends : {E : Type 0} (r : Result Unit E) (width n : ℕ) (cell start padded new : List ℕ) → n ≡ width - length cell → padded ≡ start ++ codes "| " ++ cell ++ replicate n 32 → new ≡ (if is_ok r then padded ++ 32 ∷ [] else padded)
+    → OnOk r (new ≡ start ++ column width cell)
+column_ends (Ok u) width n cell start padded new wide before wrote =
+    wrote ∙ ap (λ l. l ++ 32 ∷ []) (before ∙ ap (λ k. start ++ codes "| " ++ cell ++ replicate k 32) wide) ∙ simp append_assoc refl
+column_ends (Err e) width n cell start padded new wide before wrote = tt
+
+-- what stands at one place of two lists that read the same
+pub same_at : {X Y Z : Type 0} (f : X → Z) (h : Y → Z) (xs : List X) (ys : List Y) (i : ℕ) (x : X) (y : Y) → map f xs ≡ map h ys → i < length ys → x ≡ slice_index_or xs i x → y ≡ slice_index_or ys i y → f x ≡ h y
+same_at f h xs ys i x y same inside x_is y_is =
+    let size : length xs ≡ length ys = sym (length-map xs f) ∙ ap length same ∙ length-map ys h in
+    let within : i < length xs = omega (arith, size, inside) in
+    ap f x_is ∙ sym (get_or-map f xs i x (f x) within) ∙ ap (λ l. slice_index_or l i (f x)) same ∙ get_or-map h ys i y (f x) inside ∙ ap h (sym y_is)

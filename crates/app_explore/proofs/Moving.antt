@@ -1,0 +1,76 @@
+-- The lines of a schedule, one by one.
+use Rattle.std.proofs.Common.{◌≡◌, ◌∙◌, ℕ, zero, suc, ◌+◌, ◌-◌, ◌<◌, ◌≤◌, ◌⊎◌, nat_lt, inl, inr, Bool, true, false, cond, List, [], ◌∷◌, length, drop, get_or, refl, sym, ap, subst, arith}
+use Rattle.std.proofs.lemmas.Bool.{ltb-true, ltb-false}
+use Rattle.queue_steps.specs.declared.sizes.TheConstants.{SOLO_STEPS}
+use Rattle.app_text.specs.declared.actions.Action.TheVariants as action
+use Rattle.app_text.specs.declared.actions.ReplayLine.{ReplayLine}
+use Rattle.machine_explore.specs.Traces.{Seen}
+use Rattle.app_explore.specs.Schedules.{ends_call, party_of, plain_line, is_step_of, row_length, is_run, first_line, more_moves, move_lines}
+
+row_within : (k p : ℕ) (ts : List Seen) → row_length k p ts ≤ k + length ts
+row_within k p [] = omega arith
+row_within k p (t ∷ ts) = by_step (is_step_of p t.event) (ends_call t.told) (row_within (k + 1) p ts)
+  where
+    by_step : (s e : Bool) → row_length (k + 1) p ts ≤ k + 1 + length ts → cond s (cond e (k + 1) (row_length (k + 1) p ts)) 0 ≤ k + length (t ∷ ts)
+    by_step true true rest = omega arith
+    by_step true false rest = omega (arith, rest)
+    by_step false e rest = omega arith
+
+moves_behind : (k : ℕ) (ts : List Seen) → move_lines k ts ≡ move_lines 0 (drop k ts)
+moves_behind zero [] = refl
+moves_behind zero (t ∷ ts) = refl
+moves_behind (suc k) [] = refl
+moves_behind (suc k) (t ∷ ts) = moves_behind k ts
+
+run_is : (n : ℕ) → 2 ≤ n → n ≤ SOLO_STEPS → is_run n ≡ true
+run_is n two most = by_tests (nat_lt n 2) (nat_lt n (SOLO_STEPS + 1)) refl refl
+  where
+    by_tests : (a b : Bool) → nat_lt n 2 ≡ a → nat_lt n (SOLO_STEPS + 1) ≡ b → cond a false b ≡ true
+    by_tests true b e f = let below = ltb-true n 2 e in absurd (omega (arith, below, two))
+    by_tests false true e f = refl
+    by_tests false false e f = let above = ltb-false n (SOLO_STEPS + 1) f in absurd (omega (arith, above, most))
+
+plain_is : (n : ℕ) → (n < 2) ⊎ (SOLO_STEPS < n) → is_run n ≡ false
+plain_is n other = by_tests (nat_lt n 2) (nat_lt n (SOLO_STEPS + 1)) refl refl other
+  where
+    by_tests : (a b : Bool) → nat_lt n 2 ≡ a → nat_lt n (SOLO_STEPS + 1) ≡ b → (n < 2) ⊎ (SOLO_STEPS < n) → cond a false b ≡ false
+    by_tests true b e f h = refl
+    by_tests false false e f h = refl
+    by_tests false true e f (inl short) = let two = ltb-false n 2 e in absurd (omega (arith, two, short))
+    by_tests false true e f (inr long) = let below = ltb-true n (SOLO_STEPS + 1) f in absurd (omega (arith, below, long))
+
+drop_behind : {X : Type 0} (n : ℕ) (x : X) (xs : List X) → 0 < n → drop (n - 1) xs ≡ drop n (x ∷ xs)
+drop_behind zero x xs some = absurd (omega (arith, some))
+drop_behind (suc m) x xs some = let e : suc m - 1 ≡ m = omega arith in ap (λ i. drop i xs) e
+
+-- the first line of these moves is for so many of them
+abbrev pub IsFirst : List Seen → ReplayLine → ℕ → Type 0
+IsFirst moves line n = (0 < n) × (n ≤ length moves) × (move_lines 0 moves ≡ line ∷ move_lines 0 (drop n moves))
+
+-- a row that ends a call
+pub first_is_run : (moves : List Seen) (t : Seen) (n : ℕ) → 0 < length moves → t ≡ get_or moves 0 t → n ≡ row_length 0 (party_of t.event) moves → 2 ≤ n → n ≤ SOLO_STEPS → IsFirst moves (record { party = party_of t.event; action = action.Run }) n
+first_is_run [] t n some is row two most = absurd (omega (arith, some))
+first_is_run (s ∷ ss) t n some is row two most = subst {A = Seen} (λ u. n ≡ row_length 0 (party_of u.event) (s ∷ ss) → IsFirst (s ∷ ss) (record { party = party_of u.event; action = action.Run }) n) (sym is) here row
+  where
+    here : n ≡ row_length 0 (party_of s.event) (s ∷ ss) → IsFirst (s ∷ ss) (record { party = party_of s.event; action = action.Run }) n
+    here length_is =
+        let within = row_within 0 (party_of s.event) (s ∷ ss) in
+        let run = run_is n two most in
+        let first : first_line s.event n ≡ record { party = party_of s.event; action = action.Run } = ap (λ b. cond b (record { party = party_of s.event; action = action.Run }) (plain_line s.event)) run in
+        let more : more_moves n ≡ n - 1 = ap (λ b. cond b (n - 1) 0) run in
+        let lines : first_line s.event n ∷ move_lines (more_moves n) ss ≡ record { party = party_of s.event; action = action.Run } ∷ move_lines 0 (drop n (s ∷ ss))
+        = cc (first, ap (λ k. move_lines k ss) more ∙ moves_behind (n - 1) ss ∙ ap (move_lines 0) (drop_behind n s ss (omega (arith, two)))) in
+        (omega (arith, two), omega (arith, within, length_is), subst {A = ℕ} (λ m. first_line s.event m ∷ move_lines (more_moves m) ss ≡ record { party = party_of s.event; action = action.Run } ∷ move_lines 0 (drop n (s ∷ ss))) length_is lines)
+
+-- any other move
+pub first_is_plain : (moves : List Seen) (t : Seen) (n : ℕ) → 0 < length moves → t ≡ get_or moves 0 t → n ≡ row_length 0 (party_of t.event) moves → (n < 2) ⊎ (SOLO_STEPS < n) → IsFirst moves (plain_line t.event) 1
+first_is_plain [] t n some is row other = absurd (omega (arith, some))
+first_is_plain (s ∷ ss) t n some is row other = subst {A = Seen} (λ u. n ≡ row_length 0 (party_of u.event) (s ∷ ss) → IsFirst (s ∷ ss) (plain_line u.event) 1) (sym is) here row
+  where
+    here : n ≡ row_length 0 (party_of s.event) (s ∷ ss) → IsFirst (s ∷ ss) (plain_line s.event) 1
+    here length_is =
+        let plain = plain_is n other in
+        let first : first_line s.event n ≡ plain_line s.event = ap (λ b. cond b (record { party = party_of s.event; action = action.Run }) (plain_line s.event)) plain in
+        let more : more_moves n ≡ 0 = ap (λ b. cond b (n - 1) 0) plain in
+        let lines : first_line s.event n ∷ move_lines (more_moves n) ss ≡ plain_line s.event ∷ move_lines 0 ss = cc (first, ap (λ k. move_lines k ss) more) in
+        (omega arith, omega arith, subst {A = ℕ} (λ m. first_line s.event m ∷ move_lines (more_moves m) ss ≡ plain_line s.event ∷ move_lines 0 ss) length_is lines)

@@ -1,0 +1,63 @@
+//! How it is printed who waits for whom.
+ghost use Rattle.std.specs.Prelude.{◌≡◌, ◌++◌, map, OnOk, string_bytes};
+ghost use Rattle.machine_explore.specs.Waiting.{wait_of};
+ghost use Rattle.app_explore.specs.WaitLines.{party_call_text, side_text, wait_line, waits_text};
+
+use crate::labels::label;
+use crate::schedules::ShownCall;
+use machine_explore::waiting::{Side, Wait};
+use queue_steps::model::Call;
+use std::alloc::{AllocError, Allocator};
+
+/// Appends a line for each, with its number from 1, and a line that tells how many there are.
+pub fn write_waits<A: Allocator, B: Allocator>(
+    waits: &[Wait<B>],
+    text: &mut String<A>,
+) -> Result<(), AllocError>
+    ensures { OnOk result (string_bytes text.new ≡ string_bytes text.old ++ waits_text (map wait_of waits.now)) }
+{
+    for (index, wait) in waits.iter().enumerate() {
+        write_wait(index as u64 + 1, wait.waiter, wait.other, text)?;
+    }
+    let count = waits.len();
+    writeln!(text, "{count} in all")
+}
+
+/// Appends the line of this number: the party that waits, and the one that it waits for, each with its call and the label of its step.
+pub fn write_wait<A: Allocator>(
+    number: u64,
+    waiter: Side,
+    other: Side,
+    text: &mut String<A>,
+) -> Result<(), AllocError>
+    ensures { OnOk result (string_bytes text.new ≡ string_bytes text.old ++ wait_line number waiter other) }
+{
+    write!(text, "wait {number} | ")?;
+    write_side(waiter, text)?;
+    text.push_str(" | ")?;
+    write_side(other, text)?;
+    text.push_str("\n")
+}
+
+// Appends a party, its call, and the label of its step.
+fn write_side<A: Allocator>(side: Side, text: &mut String<A>) -> Result<(), AllocError>
+    ensures { OnOk result (string_bytes text.new ≡ string_bytes text.old ++ side_text side) }
+{
+    write_party_call(side.party, side.call, text)?;
+    text.push_str(" at ")?;
+    text.push_str(label(side.local))
+}
+
+// Appends a party and its call.
+fn write_party_call<A: Allocator>(
+    party: usize,
+    call: Option<Call<u64>>,
+    text: &mut String<A>,
+) -> Result<(), AllocError>
+    ensures { OnOk result (string_bytes text.new ≡ string_bytes text.old ++ party_call_text party call) }
+{
+    match call {
+        Some(call) => write!(text, "{party}: {}", ShownCall(call)),
+        None => write!(text, "{party}:"),
+    }
+}

@@ -1,8 +1,0 @@
-use Rattle.std.proofs.Common.{refl}
-use Rattle.app_explore_text.proofs.Programs.{wrong_before}
-use Rattle.app_explore_text.proofs.reading.read_program.Goals as goal
-
-pub returns-in-Err : goal.returns-in-Err
-returns-in-Err g c =
-    let none = rw c.in-Err.is at c.in-Ok.ensures in
-    wrong_before _ _ c.in-Some.spelled.now _ c.in-Some.ensures refl none.0
