@@ -131,6 +131,18 @@ fn is_printed<T: Debug>(rt: &impl Abort, alloc: Global, value: &T, wanted: &str)
     is(rt, text.as_str(), wanted);
 }
 
+/// Asserts what is printed of a queue, and of an iterator over it.
+fn both_are_printed(
+    rt: &impl Abort,
+    alloc: Global,
+    mut queue: Counting<'_>,
+    text: &str,
+    of_iterator: &str,
+) {
+    is_printed(rt, alloc, &queue, text);
+    is_printed(rt, alloc, &queue.try_iter(), of_iterator);
+}
+
 #[test]
 fn queues_and_iterators_are_printed(rt: HostRuntime) {
     let heap = Heap::new(rt.alloc(), Refusal::Never);
@@ -139,7 +151,6 @@ fn queues_and_iterators_are_printed(rt: HostRuntime) {
         if *closed {
             queue.close();
         }
-        is_printed(&rt, rt.alloc(), &queue, text);
-        is_printed(&rt, rt.alloc(), &queue.try_iter(), of_iterator);
+        both_are_printed(&rt, rt.alloc(), queue, text, of_iterator);
     }
 }

@@ -28,21 +28,21 @@ fn in_order(queue: &Counting<'_>) -> u64 {
     next
 }
 
+/// What is read of a queue twice, and its length; the first item that an iterator shows, and the front.
+fn read(queue: Counting<'_>) -> ([u64; 3], [Option<u64>; 2]) {
+    let read = [in_order(&queue), in_order(&queue), queue.len() as u64];
+    let first = queue.iter().next().copied();
+    (read, [first, queue.front().copied()])
+}
+
 /// The items come in their order, the front is the first of them, and all stay.
 #[test]
 fn items_are_read_and_stay(rt: HostRuntime) {
     let heap = Heap::new(rt.alloc(), Refusal::Never);
     for (made, through, held) in READ.iter() {
-        let queue = filled(&rt, &heap, *made, *through, *held);
-        let read = [in_order(&queue), in_order(&queue), queue.len() as u64];
-        let first = queue.iter().next().copied();
-        let wanted = if *held == 0 { None } else { Some(0) };
-        is_in(
-            &rt,
-            (*through, *held),
-            (read, first, queue.front().copied()),
-            ([*held; 3], wanted, wanted),
-        );
+        let seen = read(filled(&rt, &heap, *made, *through, *held));
+        let first = if *held == 0 { None } else { Some(0) };
+        is_in(&rt, (*through, *held), seen, ([*held; 3], [first; 2]));
     }
 }
 

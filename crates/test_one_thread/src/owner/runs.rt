@@ -143,20 +143,40 @@ fn one_run_on_a_slot(rt: HostRuntime) {
     is(&rt, (right, slot.is_closed()), (true, true));
 }
 
+/// Two slots, of which one has an item.
+fn with_an_item<'a, 'b>(
+    rt: &impl Abort,
+    heap: &'a Heap,
+    items: &'b Items,
+) -> Exclusive<Counted<'b>, &'a Heap> {
+    let mut queue = Exclusive::bounded(heap, 2).expect(rt, "memory");
+    let _ = queue.push(Counted::of(items));
+    queue
+}
+
+/// Two calls with an item each, and a close between them.
+fn calls_with_items<'a, 'b>(
+    rt: &impl Abort,
+    heap: &'a Heap,
+    items: &'b Items,
+) -> Vec<Call<Counted<'b>>, &'a Heap> {
+    let calls = vec![in heap;
+        Call::Push(Counted::of(items)),
+        Call::Close,
+        Call::ForcePush(Counted::of(items)),
+    ];
+    calls.expect(rt, "memory")
+}
+
 /// What is seen of a run that has no room for its replies: whether that is told, how many items were dropped then, and in the end; and the length of the queue, and whether it is closed.
 type Seen = (bool, [u64; 2], usize, bool);
 
 /// Runs two calls with an item each, and a close between them, on two slots of which one has an item. The queue is the heap's first four requests, and the list of the calls is the fifth.
 fn run_without_room(rt: &impl Abort, heap: &Heap) -> Seen {
     let items = Items::none();
-    let mut queue = Exclusive::bounded(heap, 2).expect(rt, "memory");
-    let _ = queue.push(Counted::of(&items));
-    let calls = vec![in heap;
-        Call::Push(Counted::of(&items)),
-        Call::Close,
-        Call::ForcePush(Counted::of(&items)),
-    ];
-    let refused = run(heap, &mut queue, calls.expect(rt, "memory")).is_err();
+    let mut queue = with_an_item(rt, heap, &items);
+    let calls = calls_with_items(rt, heap, &items);
+    let refused = run(heap, &mut queue, calls).is_err();
     let before = items.dropped();
     let (len, closed) = (queue.len(), queue.is_closed());
     drop(queue);

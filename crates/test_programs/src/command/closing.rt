@@ -95,6 +95,30 @@ fn close_later(queue: &Queue, mut party: Party<u64>) -> Party<u64>
     party
 }
 
+/// Runs the threads of a plan, and closes the queue meanwhile. Gives the parties back as one, and whether the threads did all, or counted something.
+fn run_and_close<R: Abort + Threads + Wait + Sync + AllocGlobal>(
+    rt: &R,
+    queue: &Queue,
+    crew: Party<u64>,
+    closer: Party<u64>,
+    plan: Plan,
+) -> (Party<u64>, bool)
+    requires of { IsPartyOf crew queue.now × IsPartyOf closer queue.now }
+    requires few { (plan.pushers + plan.poppers) * plan.share < 2 ^ 64 }
+    requires threads { plan.pushers + plan.poppers < 2 ^ 64 }
+    ensures { IsPartyOf result.0 queue.now }
+{
+    let ((party, done), closer) = join(
+        rt,
+        || -> (Party<u64>, bool)
+            requires { IsPartyOf crew queue.now × ((plan.pushers + plan.poppers) * plan.share < 2 ^ 64) × (plan.pushers + plan.poppers < 2 ^ 64) }
+            ensures { IsPartyOf result.0 queue.entry.now }
+        { run_plan(rt, queue, crew, plan) },
+        || close_later(queue, closer),
+    );
+    (queue.join(party, closer), done)
+}
+
 /// Whether the threads of a plan did all on a queue that another party closes meanwhile, or counted something, or left a party out.
 fn done_in_spite_of_a_close<R: Abort + Threads + Wait + Sync + AllocGlobal>(
     rt: &R,
@@ -107,15 +131,7 @@ fn done_in_spite_of_a_close<R: Abort + Threads + Wait + Sync + AllocGlobal>(
     let Ok((crew, closer)) = queue.split(party) else {
         unreachable!()
     };
-    let ((party, done), closer) = join(
-        rt,
-        || -> (Party<u64>, bool)
-            requires { IsPartyOf crew queue × ((plan.pushers + plan.poppers) * plan.share < 2 ^ 64) × (plan.pushers + plan.poppers < 2 ^ 64) }
-            ensures { IsPartyOf result.0 queue }
-        { run_plan(rt, &queue, crew, plan) },
-        || close_later(&queue, closer),
-    );
-    let whole = queue.join(party, closer);
+    let (whole, done) = run_and_close(rt, &queue, crew, closer, plan);
     done || end(queue, whole).is_none()
 }
 

@@ -123,20 +123,35 @@ fn work_of<R: Abort + Threads + Wait + Sync + AllocGlobal>(
     run_all(rt, rt.alloc(), channel, sender, receiver, plan).expect(rt, "memory for the counts")
 }
 
+/// What is seen of a crew on a channel.
+fn seen_of<R: Abort + Threads + Wait + Sync + AllocGlobal>(
+    rt: &R,
+    channel: &Channel<u64, &Heap>,
+    sender: Sender<u64>,
+    receiver: Receiver<u64>,
+    row: &Row,
+) -> Seen
+    requires { IsEndOf sender channel.now × IsEndOf receiver channel.now }
+{
+    let work = work_of(rt, channel, sender, receiver, row);
+    (work.done, judge(row.times, &work.counts))
+}
+
 /// What is seen of a crew; nothing where there is no channel.
 fn see<R: Abort + Threads + Wait + Sync + AllocGlobal>(
     rt: &R,
     heap: &Heap,
     row: &Row,
 ) -> Option<Seen> {
-    let Some((channel, sender, receiver)) = open_channel(rt, heap) else {
-        return None;
-    };
-    if row.holds {
-        heap.hold_until_another();
+    match open_channel(rt, heap) {
+        Some((channel, sender, receiver)) => {
+            if row.holds {
+                heap.hold_until_another();
+            }
+            Some(seen_of(rt, &channel, sender, receiver, row))
+        }
+        None => None,
     }
-    let work = work_of(rt, &channel, sender, receiver, row);
-    Some((work.done, judge(row.times, &work.counts)))
 }
 
 #[test]
