@@ -158,6 +158,49 @@ pub(crate) fn pop_one<T: Drop, A: Allocator, R: Wait>(
     unreachable!()
 }
 
+/// Pushes a number. Gives whether that is answered so.
+fn pushes<A: NullTestable, R: Wait>(
+    rt: &R,
+    queue: &ConcurrentQueue<u64, A>,
+    party: &mut Party<u64>,
+    number: u64,
+    wanted: Result<(), PushError<u64>>,
+) -> bool
+    requires { IsPartyOf party.old queue.now }
+    ensures { IsPartyOf party.new queue.now }
+{
+    queue.push(rt, party, number) == wanted
+}
+
+/// Pops. Gives whether there is an item.
+fn pops<A: Allocator, R: Wait>(
+    rt: &R,
+    queue: &ConcurrentQueue<u64, A>,
+    party: &mut Party<u64>,
+) -> bool
+    requires { IsPartyOf party.old queue.now }
+    ensures { IsPartyOf party.new queue.now }
+{
+    queue.pop(rt, party).is_ok()
+}
+
+/// Pushes a number by force, and pops where it displaced nothing. Gives whether an item came out.
+fn forces_and_pops<A: NullTestable, R: Wait>(
+    rt: &R,
+    queue: &ConcurrentQueue<u64, A>,
+    party: &mut Party<u64>,
+    number: u64,
+) -> bool
+    requires { IsPartyOf party.old queue.now }
+    ensures { IsPartyOf party.new queue.now }
+{
+    match queue.force_push(rt, party, number) {
+        Ok(Some(_)) => true,
+        Ok(None) => pops(rt, queue, party),
+        Err(_) => false,
+    }
+}
+
 /// Does this with a number. Gives false where what had to be found was not.
 pub(crate) fn find<A: NullTestable, R: Wait>(
     rt: &R,
@@ -174,26 +217,18 @@ pub(crate) fn find<A: NullTestable, R: Wait>(
             push_one(rt, queue, party, number);
             true
         }
-        Deed::PushOnce => queue.push(rt, party, number).is_ok(),
-        Deed::PushBut(refused) => {
-            let wanted = if number == refused {
-                Err(PushError::NoMemory(number))
-            } else {
-                Ok(())
-            };
-            queue.push(rt, party, number) == wanted
+        Deed::PushOnce => pushes(rt, queue, party, number, Ok(())),
+        Deed::PushBut(refused) if refused == number => {
+            pushes(rt, queue, party, number, Err(PushError::NoMemory(number)))
         }
-        Deed::PopOnce => queue.pop(rt, party).is_ok(),
+        Deed::PushBut(_) => pushes(rt, queue, party, number, Ok(())),
+        Deed::PopOnce => pops(rt, queue, party),
         Deed::PopInOrder => pop_one(rt, queue, party) == number,
         Deed::PushAndPop => {
             push_one(rt, queue, party, number);
-            queue.pop(rt, party).is_ok()
+            pops(rt, queue, party)
         }
-        Deed::ForceAndPop => match queue.force_push(rt, party, number) {
-            Ok(Some(_)) => true,
-            Ok(None) => queue.pop(rt, party).is_ok(),
-            Err(_) => false,
-        },
+        Deed::ForceAndPop => forces_and_pops(rt, queue, party, number),
     }
 }
 
@@ -215,6 +250,38 @@ pub(crate) fn find_each<A: NullTestable, R: Wait>(
     right
 }
 
+/// Pops once a request is held, and lets the request go. Gives whether it was held, and the queue was found empty.
+fn pop_while_held<A: Allocator, R: Wait>(
+    rt: &R,
+    queue: &ConcurrentQueue<u64, A>,
+    party: &mut Party<u64>,
+    heap: &Heap,
+) -> bool
+    requires { IsPartyOf party.old queue.now }
+    ensures { IsPartyOf party.new queue.now }
+{
+    let held = heap.comes_to_hold();
+    let popped = queue.pop(rt, party);
+    heap.let_go();
+    held && popped == Err(PopError::Empty)
+}
+
+/// Pushes a number by force, and counts what it displaces.
+fn force<A: NullTestable, R: Wait>(
+    rt: &R,
+    queue: &ConcurrentQueue<u64, A>,
+    party: &mut Party<u64>,
+    board: &Board,
+    number: u64,
+)
+    requires { IsPartyOf party.old queue.now }
+    ensures { IsPartyOf party.new queue.now }
+{
+    if let Ok(Some(old)) = queue.force_push(rt, party, number) {
+        board.count(old);
+    }
+}
+
 /// One turn of a thread. Gives false where what had to be found was not.
 fn turn<A: NullTestable, R: Wait>(
     rt: &R,
@@ -234,24 +301,17 @@ fn turn<A: NullTestable, R: Wait>(
             queue.len(rt, party) <= most && right
         }
         Role::PushAndLetGo => {
-            let accepted = queue.push(rt, party, number).is_ok();
+            let accepted = pushes(rt, queue, party, number, Ok(()));
             board.heap.let_go();
             accepted
         }
-        Role::PopWhileHeld => {
-            let held = board.heap.comes_to_hold();
-            let popped = queue.pop(rt, party);
-            board.heap.let_go();
-            held && popped == Err(PopError::Empty)
-        }
+        Role::PopWhileHeld => pop_while_held(rt, queue, party, &board.heap),
         Role::Pop => {
             board.count(pop_one(rt, queue, party));
             true
         }
         Role::Force => {
-            if let Ok(Some(old)) = queue.force_push(rt, party, number) {
-                board.count(old);
-            }
+            force(rt, queue, party, board, number);
             true
         }
         Role::Drain => true,

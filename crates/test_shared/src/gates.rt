@@ -38,81 +38,97 @@ impl Signs {
     }
 }
 
-/// Whether this is that word, of whichever block.
-fn is_word<B: Copy>(word: &Word<B>, that: &Word<()>) -> bool {
-    match (word, that) {
-        (Word::Lock, Word::Lock) | (Word::Head, Word::Head) | (Word::Tail, Word::Tail) => true,
-        (Word::Stamp(slot), Word::Stamp(other)) => slot == other,
-        (Word::State(_, slot), Word::State(_, other)) => slot == other,
-        _ => false,
+/// What tells a word, of whichever block: its place in `Word`, and its slot.
+fn key_of_word<B: Copy>(word: &Word<B>) -> (u64, usize) {
+    match word {
+        Word::Lock => (0, 0),
+        Word::Head => (1, 0),
+        Word::Tail => (2, 0),
+        Word::Stamp(slot) => (3, *slot),
+        Word::State(_, slot) => (4, *slot),
     }
 }
 
-/// Whether this is that operation on such a word, or sets the same link, to whichever block.
+/// What tells an operation before which a call is held or comes again, of whichever block: its place in `Op`, its word and its value.
+fn key_of<B: Copy>(op: &Op<B>) -> Option<(u64, (u64, usize), u64)> {
+    match op {
+        Op::Load(word) => Some((0, key_of_word(word), 0)),
+        Op::Store(word, value) => Some((1, key_of_word(word), *value)),
+        Op::Add(word, value) => Some((2, key_of_word(word), *value)),
+        Op::Or(word, value) => Some((3, key_of_word(word), *value)),
+        Op::And(word, value) => Some((4, key_of_word(word), *value)),
+        Op::StoreLink(Link::TailBlock, _) => Some((7, (0, 0), 0)),
+        _ => None,
+    }
+}
+
+/// Whether this is that operation, of whichever block.
 fn is_operation<B: Copy>(op: &Op<B>, that: &Op<()>) -> bool {
-    match (op, that) {
-        (Op::Load(word), Op::Load(other)) => is_word(word, other),
-        (Op::Store(word, value), Op::Store(other, same))
-        | (Op::Add(word, value), Op::Add(other, same))
-        | (Op::Or(word, value), Op::Or(other, same))
-        | (Op::And(word, value), Op::And(other, same)) => is_word(word, other) && value == same,
-        (Op::StoreLink(Link::TailBlock, _), Op::StoreLink(Link::TailBlock, _)) => true,
-        _ => false,
+    let key = key_of(op);
+    key.is_some() && key == key_of(that)
+}
+
+/// What a call does at the operation of its gate.
+#[derive(Drop)]
+pub(crate) enum Part<'a> {
+    /// It is held until the other party's calls are answered, or have met it. A request of theirs that is held here goes on once the call is held.
+    Held(Option<&'a Heap>),
+    /// It waits: when it comes there again it has found the held call in its way, and that one may go on.
+    Waits(AtomicBool),
+}
+
+/// The gate of a held call, or of a call that waits for it.
+#[derive(Drop)]
+pub(crate) struct Meeting<'a> {
+    pub(crate) at: &'a Op<()>,
+    pub(crate) part: Part<'a>,
+    pub(crate) signs: &'a Signs,
+}
+
+/// Holds a call until the other party's calls are answered, or have met it.
+fn hold(signs: &Signs, heap: Option<&Heap>) {
+    signs.held.store(true, Ordering::SeqCst);
+    if let Some(heap) = heap {
+        heap.let_go();
+    }
+    let met = wait_for(&signs.met);
+    signs.let_go.store(met, Ordering::SeqCst);
+}
+
+/// Lets the held call go on where a call comes for a second time.
+fn come(signs: &Signs, came: &AtomicBool) {
+    if came.swap(true, Ordering::SeqCst) {
+        signs.met.store(true, Ordering::SeqCst);
     }
 }
 
-/// The gate of the held call. It holds the call before an operation until the other party's calls are answered, or have met it. A request of theirs that is held goes on once the call is.
-#[derive(Drop)]
-pub(crate) struct Holding<'a> {
-    pub(crate) at: &'a Op<()>,
-    pub(crate) signs: &'a Signs,
-    pub(crate) heap: Option<&'a Heap>,
-}
-
-impl Gate for Holding<'_> {
+impl Gate for Meeting<'_> {
     fn pass<B: Copy>(&self, op: &Op<B>) {
         if is_operation(op, self.at) {
-            self.signs.held.store(true, Ordering::SeqCst);
-            if let Some(heap) = self.heap {
-                heap.let_go();
+            match &self.part {
+                Part::Held(heap) => hold(self.signs, *heap),
+                Part::Waits(came) => come(self.signs, came),
             }
-            let met = wait_for(&self.signs.met);
-            self.signs.let_go.store(met, Ordering::SeqCst);
         }
     }
 }
 
 /// Makes a call that is held before this operation, until it is let go by these signs. It lets the request go then that is held, if there is one.
-pub(crate) fn call_held<T, A: NullTestable, R: Wait>(
+pub(crate) fn call_held<'a, T, A: NullTestable, R: Wait>(
     rt: &R,
     queue: &ConcurrentQueue<T, A>,
     mut party: Party<T>,
     call: Call<T>,
-    at: &Op<()>,
-    signs: &Signs,
-    heap: Option<&Heap>,
+    at: &'a Op<()>,
+    signs: &'a Signs,
+    heap: Option<&'a Heap>,
 ) -> (Party<T>, Reply<T>)
     requires { IsPartyOf party queue.now }
     ensures { IsPartyOf result.0 queue.now }
 {
-    let gate = Holding { at, signs, heap };
-    let reply = queue.answer::<Granting, R, Holding<'_>, Told>(rt, &gate, &mut party, call);
+    let part = Part::Held(heap);
+    let gate = Meeting { at, part, signs };
+    let reply = queue.answer::<Granting, R, Meeting<'_>, Told>(rt, &gate, &mut party, call);
     signs.ended.store(true, Ordering::SeqCst);
     (party, reply)
-}
-
-/// The gate of a call that waits. When the call comes to an operation again it has found the held call in its way, and that one may go on.
-#[derive(Drop)]
-pub(crate) struct Returning<'a> {
-    pub(crate) at: &'a Op<()>,
-    pub(crate) came: AtomicBool,
-    pub(crate) signs: &'a Signs,
-}
-
-impl Gate for Returning<'_> {
-    fn pass<B: Copy>(&self, op: &Op<B>) {
-        if is_operation(op, self.at) && self.came.swap(true, Ordering::SeqCst) {
-            self.signs.met.store(true, Ordering::SeqCst);
-        }
-    }
 }

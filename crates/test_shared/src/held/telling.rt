@@ -5,7 +5,7 @@ ghost use Rattle.concurrent_queue.specs.Shared.{IsPartyOf};
 
 use crate::asserts::is_in;
 use crate::calls::{Queue, Row, Try, are_answered, are_tried, is_left};
-use crate::gates::{Returning, Signs, Told, call_held};
+use crate::gates::{Meeting, Part, Signs, Told, call_held};
 use crate::opening::{end, open_filled};
 use crate::pending::beside::{Begun, call_beside};
 use concurrent_queue::Party;
@@ -47,20 +47,20 @@ pub(crate) struct Story {
 }
 
 /// Makes a call that has to wait. Gives whether it had its reply, and that once the held call went on.
-fn call_waiting<R: Wait>(
+fn call_waiting<'a, R: Wait>(
     rt: &R,
     queue: &Queue,
     party: &mut Party<u64>,
-    waiting: &Waiting,
-    signs: &Signs,
+    waiting: &'a Waiting,
+    signs: &'a Signs,
 ) -> bool
     requires { IsPartyOf party.old queue.now }
     ensures { IsPartyOf party.new queue.now }
 {
     let ((call, reply), at) = waiting;
-    let came = AtomicBool::new(false);
-    let gate = Returning { at, came, signs };
-    let found = queue.answer::<Granting, R, Returning<'_>, Told>(rt, &gate, party, *call);
+    let part = Part::Waits(AtomicBool::new(false));
+    let gate = Meeting { at, part, signs };
+    let found = queue.answer::<Granting, R, Meeting<'_>, Told>(rt, &gate, party, *call);
     found == *reply && signs.let_go.load(Ordering::SeqCst)
 }
 

@@ -76,7 +76,40 @@ fn ended(rt: &impl Abort, queue: &Queue, outcome: Outcome<u64>) -> (Party<u64>, 
     }
 }
 
-/// Begins a call beside the held one, takes it up there, gives it up, and takes it up again once the held one has ended: twice on a chain, where a call first acts on what it read while it was pending. Asserts that it is pending each time but the last, what giving it up made of it, that the other one has ended, and its reply.
+/// What is seen of a call beside the held one: whether it was pending once it was begun, once it was taken up, and once it was taken up after it was given up, and what giving it up made of it.
+type Met = ([bool; 3], Option<bool>);
+
+/// Begins a call beside the held one, takes it up there, gives it up, and takes it up again.
+fn meet(queue: &Queue, party: Party<u64>, call: Call<u64>) -> (Outcome<u64>, Met)
+    requires { IsPartyOf party queue.now }
+    ensures { IsOf result.0 queue.now }
+{
+    let outcome = begin(queue, party, call);
+    let first = is_pending(&outcome);
+    let outcome = take_up(queue, outcome);
+    let second = is_pending(&outcome);
+    let (outcome, too_late) = give_up(queue, outcome, call);
+    let outcome = take_up(queue, outcome);
+    let third = is_pending(&outcome);
+    (outcome, ([first, second, third], too_late))
+}
+
+/// Takes a call up once the held one has ended: twice on a chain, where a call first acts on what it read while it was pending. Gives whether it is pending on a chain after the first time, and nowhere else, and its reply. Asserts that it has that.
+fn meet_no_more(
+    rt: &impl Abort,
+    queue: &Queue,
+    outcome: Outcome<u64>,
+) -> (Party<u64>, bool, Reply<u64>)
+    requires { IsOf outcome queue.now }
+    ensures { IsPartyOf result.0 queue.now }
+{
+    let outcome = take_up(queue, outcome);
+    let right = is_pending(&outcome) == queue.capacity().is_none();
+    let (party, reply) = ended(rt, queue, take_up(queue, outcome));
+    (party, right, reply)
+}
+
+/// Makes a call beside the held one, which ends meanwhile. Asserts that it is pending each time but the last, what giving it up made of it, that the other one has ended, and its reply.
 pub(crate) fn call_beside(
     rt: &impl Abort,
     story: &'static str,
@@ -89,19 +122,16 @@ pub(crate) fn call_beside(
     ensures { IsPartyOf result queue.now }
 {
     let ((call, wanted), late) = begun;
-    let outcome = begin(queue, party, call);
-    let first = is_pending(&outcome);
-    let outcome = take_up(queue, outcome);
-    let second = is_pending(&outcome);
-    let (outcome, too_late) = give_up(queue, outcome, call);
-    let outcome = take_up(queue, outcome);
-    let third = is_pending(&outcome);
+    let (outcome, met) = meet(queue, party, call);
     signs.met.store(true, Ordering::SeqCst);
     let over = wait_for(&signs.ended);
-    let outcome = take_up(queue, outcome);
-    let fourth = is_pending(&outcome) == queue.capacity().is_none();
-    let (party, reply) = ended(rt, queue, take_up(queue, outcome));
-    let seen = ([first, second, third, fourth, over], too_late, reply);
-    is_in(rt, story, seen, ([true; 5], Some(late), wanted));
+    let (party, right, reply) = meet_no_more(rt, queue, outcome);
+    let seen = (met, over, right, reply);
+    is_in(
+        rt,
+        story,
+        seen,
+        (([true; 3], Some(late)), true, true, wanted),
+    );
     party
 }

@@ -3,25 +3,25 @@ ghost use Rattle.std.specs.Prelude.{◌≡◌, ◌<◌};
 ghost use Rattle.concurrent_queue.specs.Shared.{IsPartyOf};
 
 use crate::asserts::is_in;
+use crate::items::{Item, first_item, item_of};
 use crate::opening::{end, part};
 use crate::shared::left::End;
 use concurrent_queue::{ConcurrentQueue, Party};
 use std::alloc::Global;
 use std::process::Abort;
-use std::sync::Wait;
+use std::sync::{Arc, Wait};
 use test_support::allocators::{Heap, Refusal};
-use test_support::items::{Counted, Items};
 
-/// A shared queue of items that count their drops, and whose requests are counted.
-type Counting<'a> = ConcurrentQueue<Counted<'a>, &'a Heap>;
+/// A shared queue whose requests are counted.
+type Counting<'a> = ConcurrentQueue<Item, &'a Heap>;
 
 /// Two parties push so many items each, in turn. Gives how many were refused.
-fn push_in_turn<'a, R: Wait>(
+fn push_in_turn<R: Wait + Abort>(
     rt: &R,
-    queue: &Counting<'a>,
-    first: &mut Party<Counted<'a>>,
-    second: &mut Party<Counted<'a>>,
-    items: &'a Items,
+    queue: &Counting<'_>,
+    first: &mut Party<Item>,
+    second: &mut Party<Item>,
+    item: &Item,
     each: u64,
 ) -> u64
     requires { IsPartyOf first.old queue.now × IsPartyOf second.old queue.now }
@@ -29,10 +29,10 @@ fn push_in_turn<'a, R: Wait>(
 {
     let mut refused = 0u64;
     for _ in 0..each {
-        if queue.push(rt, first, Counted::of(items)).is_err() {
+        if queue.push(rt, first, item_of(rt, item)).is_err() {
             refused = refused.wrapping_add(1);
         }
-        if queue.push(rt, second, Counted::of(items)).is_err() {
+        if queue.push(rt, second, item_of(rt, item)).is_err() {
             refused = refused.wrapping_add(1);
         }
     }
@@ -40,12 +40,7 @@ fn push_in_turn<'a, R: Wait>(
 }
 
 /// Pops so many items. Gives whether there were as many.
-fn pop_some<'a, R: Wait>(
-    rt: &R,
-    queue: &Counting<'a>,
-    party: &mut Party<Counted<'a>>,
-    count: u64,
-) -> bool
+fn pop_some<R: Wait>(rt: &R, queue: &Counting<'_>, party: &mut Party<Item>, count: u64) -> bool
     requires { IsPartyOf party.old queue.now }
     ensures { IsPartyOf party.new queue.now }
 {
@@ -57,13 +52,7 @@ fn pop_some<'a, R: Wait>(
 }
 
 /// Drops a queue, with its parties joined, kept or dropped before.
-fn drop_all<'a>(
-    rt: &impl Abort,
-    queue: Counting<'a>,
-    a: Party<Counted<'a>>,
-    b: Party<Counted<'a>>,
-    how: End,
-)
+fn drop_all(rt: &impl Abort, queue: Counting<'_>, a: Party<Item>, b: Party<Item>, how: End)
     requires { IsPartyOf a queue × IsPartyOf b queue }
 {
     match how {
@@ -79,19 +68,36 @@ fn drop_all<'a>(
 /// How many items each of two parties pushes, how many are popped then, and what becomes of the second party.
 type Use = (u64, u64, End);
 
+/// Pushes and pops. Asserts that what was refused or popped is dropped then.
+fn push_and_pop<R: Wait + Abort>(
+    rt: &R,
+    queue: &Counting<'_>,
+    a: &mut Party<Item>,
+    b: &mut Party<Item>,
+    item: &Item,
+    used: Use,
+)
+    requires { IsPartyOf a.old queue.now × IsPartyOf b.old queue.now }
+    ensures { IsPartyOf a.new queue.now × IsPartyOf b.new queue.now }
+{
+    let (each, popped, _) = used;
+    let refused = push_in_turn(rt, queue, a, b, item, each);
+    let right = pop_some(rt, queue, b, popped);
+    let gone = refused.wrapping_add(popped);
+    let left = each.wrapping_mul(2).wrapping_sub(gone);
+    let seen = (right, Arc::strong_count(item) as u64);
+    is_in(rt, used, seen, (true, left.wrapping_add(1)));
+}
+
 /// Uses a queue and drops it, with its parties joined, kept or dropped before. Asserts that what was refused or popped was dropped before. Gives how many items there were: none where there was no memory for the queue.
-fn use_and_drop<'a, R: Wait + Abort>(rt: &R, heap: &'a Heap, items: &'a Items, used: Use) -> u64 {
-    let (each, popped, how) = used;
+fn use_and_drop<R: Wait + Abort>(rt: &R, heap: &Heap, item: &Item, used: Use) -> u64 {
     let Ok((queue, party)) = Counting::unbounded(heap) else {
         return 0;
     };
     let (mut a, mut b) = part(rt, &queue, party);
-    let refused = push_in_turn(rt, &queue, &mut a, &mut b, items, each);
-    let right = pop_some(rt, &queue, &mut b, popped);
-    let seen = (right, items.dropped());
-    is_in(rt, used, seen, (true, refused.wrapping_add(popped)));
-    drop_all(rt, queue, a, b, how);
-    each.wrapping_mul(2)
+    push_and_pop(rt, &queue, &mut a, &mut b, item, used);
+    drop_all(rt, queue, a, b, used.2);
+    used.0.wrapping_mul(2)
 }
 
 /// How many items each of two parties pushes, and how many are popped. Of 200 none, some past a block, and all but one; of 126, behind which an empty block lies, none, one less than a block's, and all but one.
@@ -107,15 +113,15 @@ static USES: [(u64, u64); 6] = [
 /// Uses a queue and drops it, where the request of this number is refused. Asserts that each item is dropped once and nothing stays allocated.
 fn nothing_is_left<R: Wait + Abort>(rt: &R, alloc: Global, used: Use, refused: u64) {
     let heap = Heap::new(alloc, Refusal::Nth(refused));
-    let items = Items::none();
-    let used_up = use_and_drop(rt, &heap, &items, used);
+    let item = first_item(rt, alloc);
+    let used_up = use_and_drop(rt, &heap, &item, used);
     let wanted = if refused == 1 {
         0
     } else {
         used.0.wrapping_mul(2)
     };
-    let seen = [used_up, items.dropped(), heap.live()];
-    is_in(rt, (used, refused), seen, [wanted, wanted, 0]);
+    let seen = [used_up, Arc::strong_count(&item) as u64, heap.live()];
+    is_in(rt, (used, refused), seen, [wanted, 1, 0]);
 }
 
 /// With none and each of the requests refused, which are one of the constructor and up to four of the pushes. Each item is dropped once and nothing stays allocated.

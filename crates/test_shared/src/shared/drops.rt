@@ -6,18 +6,17 @@ use crate::asserts::is_in;
 use crate::crew::{pop_one, push_one};
 use crate::items::{Item, first_item, item_of};
 use crate::opening::{open_surely, part};
-use concurrent_queue::{ConcurrentQueue, Party};
-use std::alloc::Global;
+use concurrent_queue::{ConcurrentQueue, NullTestable, Party};
+use std::alloc::{Allocator, Global};
 use std::process::Abort;
 use std::sync::{Arc, Wait};
 use std::thread::{Threads, join};
-
-type Queue = ConcurrentQueue<Item>;
+use test_support::allocators::{Heap, Refusal};
 
 /// Pushes so many items.
-fn push_all<R: Wait + Abort>(
+fn push_all<A: NullTestable, R: Wait + Abort>(
     rt: &R,
-    queue: &Queue,
+    queue: &ConcurrentQueue<Item, A>,
     mut party: Party<Item>,
     item: &Item,
     count: u64,
@@ -32,7 +31,12 @@ fn push_all<R: Wait + Abort>(
 }
 
 /// Pops so many items, and drops them.
-fn pop_all<R: Wait>(rt: &R, queue: &Queue, mut party: Party<Item>, count: u64) -> Party<Item>
+fn pop_all<A: Allocator, R: Wait>(
+    rt: &R,
+    queue: &ConcurrentQueue<Item, A>,
+    mut party: Party<Item>,
+    count: u64,
+) -> Party<Item>
     requires { IsPartyOf party queue.now }
     ensures { IsPartyOf result queue.now }
 {
@@ -43,9 +47,9 @@ fn pop_all<R: Wait>(rt: &R, queue: &Queue, mut party: Party<Item>, count: u64) -
 }
 
 /// One thread pushes so many items, and another one pops as many as these, and drops them.
-fn push_and_pop<R: Wait + Threads + Sync + Abort>(
+fn push_and_pop<A: NullTestable + Send + Sync, R: Wait + Threads + Sync + Abort>(
     rt: &R,
-    queue: &Queue,
+    queue: &ConcurrentQueue<Item, A>,
     party: Party<Item>,
     item: &Item,
     pushed: u64,
@@ -71,8 +75,9 @@ fn items_left<R: Wait + Threads + Sync + Abort>(
     popped: u64,
     left: u64,
 ) -> [usize; 3] {
+    let heap = Heap::new(alloc, Refusal::Never);
     let item = first_item(rt, alloc);
-    let (queue, party) = open_surely(rt, alloc, cap);
+    let (queue, party) = open_surely(rt, &heap, cap);
     let pushed = popped.wrapping_add(left);
     let party = push_and_pop(rt, &queue, party, &item, pushed, popped);
     let shared = Arc::strong_count(&item);

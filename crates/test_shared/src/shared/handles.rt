@@ -9,7 +9,7 @@ use std::process::Abort;
 use std::sync::Wait;
 
 /// What a handle comes to: how many items the queue with its one owner has, or why the sharing goes on.
-type Came = Result<usize, &'static str>;
+pub(crate) type Came = Result<usize, &'static str>;
 
 /// A handle of a queue of this capacity, or without one. Asserts that there is memory.
 fn opened(rt: &impl Abort, alloc: Global, cap: Option<usize>) -> Handle<u64> {
@@ -22,7 +22,7 @@ fn opened(rt: &impl Abort, alloc: Global, cap: Option<usize>) -> Handle<u64> {
 }
 
 /// What a handle comes to that ends the sharing.
-fn end(handle: Handle<u64>) -> Came {
+pub(crate) fn end(handle: Handle<u64>) -> Came {
     match handle.finish() {
         Ok(alone) => Ok(alone.len()),
         Err(Unfinished::Shared(_)) => Err("shared"),

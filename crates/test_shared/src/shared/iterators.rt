@@ -197,8 +197,10 @@ static SHOWN: [Shown; 14] = [
     },
 ];
 
-/// Asserts what is printed of a queue, and of an iterator over it.
-fn is_printed<R: Wait + Abort>(rt: &R, alloc: Global, shown: &Shown) {
+/// A queue through which items have gone so, and its only party.
+fn used<R: Wait + Abort>(rt: &R, alloc: Global, shown: &Shown) -> (Queue, Party<u64>)
+    ensures { IsPartyOf result.1 result.0 }
+{
     let (queue, mut party) = open_surely(rt, alloc, shown.cap);
     let pushed = 1..shown.pushes.wrapping_add(1);
     find_each(rt, &queue, &mut party, Deed::PushAndPop, 0..shown.before);
@@ -207,11 +209,29 @@ fn is_printed<R: Wait + Abort>(rt: &R, alloc: Global, shown: &Shown) {
     if shown.closed {
         queue.close(&mut party);
     }
-    let text = shown.text;
-    let wanted = format!(in alloc; "{text} Iter({text})").expect(rt, "memory");
-    let items = queue.try_iter(rt, &mut party);
-    let printed: Result<_, _> = format!(in alloc; "{queue:?} {items:?}");
-    is(rt, printed, Ok(wanted));
+    (queue, party)
+}
+
+/// What is printed of a queue, and of an iterator over it.
+fn printed<R: Wait + Abort>(rt: &R, alloc: Global, queue: &Queue, party: &mut Party<u64>) -> String
+    requires { IsPartyOf party.old queue.now }
+{
+    let items = queue.try_iter(rt, party);
+    let text: Result<_, _> = format!(in alloc; "{queue:?} {items:?}");
+    text.expect(rt, "memory")
+}
+
+/// What is to be printed of a queue, of which this is, and of an iterator over it.
+fn to_be_printed(rt: &impl Abort, alloc: Global, text: &str) -> String {
+    let both: Result<_, _> = format!(in alloc; "{text} Iter({text})");
+    both.expect(rt, "memory")
+}
+
+/// Asserts what is printed of a queue, and of an iterator over it.
+fn is_printed<R: Wait + Abort>(rt: &R, alloc: Global, shown: &Shown) {
+    let (queue, mut party) = used(rt, alloc, shown);
+    let found = printed(rt, alloc, &queue, &mut party);
+    is(rt, found, to_be_printed(rt, alloc, shown.text));
 }
 
 #[test]

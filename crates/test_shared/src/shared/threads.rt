@@ -2,6 +2,7 @@
 use crate::asserts::{is, is_in};
 use crate::crew::{Board, Deed, Role, TURNS, Task, crew};
 use crate::opening::{end, open_surely};
+use crate::shared::handles;
 use callers_queue::handle::sum_of_a_thread;
 use callers_queue::parties::{closed_by_many, hand_over, hand_to_many, through_a_shared_slot};
 use std::alloc::Global;
@@ -146,11 +147,7 @@ fn handed_to_one_and_to_five(rt: HostRuntime) {
 #[test]
 fn sent_by_a_thread_with_a_handle(rt: HostRuntime) {
     let (sum, handle) = sum_of_a_thread(rt, rt.alloc(), 1000).expect(&rt, "memory");
-    let left = match handle.finish() {
-        Ok(left) => Some(left.len()),
-        Err(_) => None,
-    };
-    is(&rt, (sum, left), (499_500, Some(0)));
+    is(&rt, (sum, handles::end(handle)), (499_500, Ok(0)));
 }
 
 #[test]

@@ -3,7 +3,7 @@ ghost use Rattle.concurrent_queue.specs.Shared.{IsPartyOf};
 ghost use Rattle.counted_channel.specs.Channel.{IsEndOf};
 
 use crate::asserts::is;
-use crate::channel::opening::{Sent, opened};
+use crate::channel::opening::{Sent, end_both, opened};
 use crate::opening::open_surely;
 use concurrent_queue::{ConcurrentQueue, Party};
 use counted_channel::{Channel, Receiver, SendError, Sender, channel};
@@ -24,9 +24,7 @@ fn ended(
 ) -> Made
     requires { IsEndOf sender channel × IsEndOf receiver channel }
 {
-    let (first, _) = channel.end_sender(sender);
-    let (second, _) = channel.end_receiver(receiver);
-    let party = channel.join(first, second);
+    let party = end_both(&channel, sender, receiver);
     match channel.finish(party) {
         Ok(mut queue) => (true, queue.pop().ok(), counts.live() == 0),
         Err(_) => (true, None, false),
@@ -77,14 +75,26 @@ fn a_refused_channel_gives_its_queue_back(rt: HostRuntime) {
 /// What a sender is answered that sends 1 and 2, and whether there are blocks then; nothing where there was no memory for a channel.
 type SentTwo = Option<(Sent, Sent, bool)>;
 
-/// What a sender is answered that sends 1 and 2 on a channel of its own.
-fn send_two<R: Wait + Abort>(rt: &R, heap: &Heap, cap: Option<usize>) -> SentTwo {
-    let Ok((channel, mut sender, _receiver)) = opened(rt, heap, cap) else {
-        return None;
-    };
-    let first = channel.send(rt, &mut sender, 1);
-    let second = channel.send(rt, &mut sender, 2);
+/// What a sender is answered that sends 1 and 2.
+fn send_both<R: Wait>(
+    rt: &R,
+    channel: &Channel<u64, &Heap>,
+    sender: &mut Sender<u64>,
+    heap: &Heap,
+) -> SentTwo
+    requires { IsEndOf sender.old channel.now }
+{
+    let first = channel.send(rt, sender, 1);
+    let second = channel.send(rt, sender, 2);
     Some((first, second, heap.live() > 0))
+}
+
+/// The same on a channel of its own, which is dropped then.
+fn send_two<R: Wait + Abort>(rt: &R, heap: &Heap, cap: Option<usize>) -> SentTwo {
+    match opened(rt, heap, cap) {
+        Ok((channel, mut sender, _receiver)) => send_both(rt, &channel, &mut sender, heap),
+        Err(_) => None,
+    }
 }
 
 /// The same where the allocator refuses a request, and how many blocks stay once the channel is dropped with its ends and its items.

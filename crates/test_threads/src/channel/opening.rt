@@ -1,12 +1,12 @@
 //! Channels of the kinds of queues, and what is left of them.
 ghost use Rattle.std.specs.Prelude.{IfOk, IfSome};
 ghost use Rattle.concurrent_queue.specs.Shared.{IsPartyOf};
-ghost use Rattle.counted_channel.specs.Channel.{IsEndOf};
+ghost use Rattle.counted_channel.specs.Channel.{IsEndOf, Opens};
 
 use crate::opening::open;
-use concurrent_queue::{Exclusive, NullTestable, Party, PopError};
+use concurrent_queue::{ConcurrentQueue, Exclusive, NullTestable, Party, PopError};
 use counted_channel::{Channel, Disconnected, Receiver, SendError, Sender, channel};
-use std::alloc::{AllocError, Global};
+use std::alloc::{AllocError, Allocator, Global};
 use std::process::Abort;
 
 /// What a sender is answered.
@@ -41,6 +41,36 @@ pub fn opened_surely(
         Ok(opened) => opened,
         Err(_) => panic!(rt; "no memory"),
     }
+}
+
+/// A channel over this queue, and its first two ends. Asserts that there is memory.
+pub fn opened_over(
+    rt: &impl Abort,
+    alloc: Global,
+    queue: ConcurrentQueue<u64>,
+    party: Party<u64>,
+) -> (Channel<u64>, Sender<u64>, Receiver<u64>)
+    requires { IsPartyOf party queue }
+    ensures { Opens queue party result.0 result.1 result.2 }
+{
+    match channel(alloc, queue, party) {
+        Ok(opened) => opened,
+        Err(_) => panic!(rt; "no memory"),
+    }
+}
+
+/// Ends an end of each side. Gives the party of both.
+pub fn end_both<A: Allocator>(
+    channel: &Channel<u64, A>,
+    sender: Sender<u64>,
+    receiver: Receiver<u64>,
+) -> Party<u64>
+    requires { IsEndOf sender channel.now × IsEndOf receiver channel.now }
+    ensures { IsPartyOf result channel.now.queue }
+{
+    let (first, _) = channel.end_sender(sender);
+    let (second, _) = channel.end_receiver(receiver);
+    channel.join(first, second)
 }
 
 /// What is left of a channel: how many items, whether it was closed, and what two pops give.

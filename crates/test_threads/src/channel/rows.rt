@@ -1,5 +1,7 @@
 //! What one thread is answered.
+ghost use Rattle.std.specs.Prelude.{◌≡◌};
 ghost use Rattle.concurrent_queue.specs.Shared.{IsPartyOf};
+ghost use Rattle.counted_channel.specs.Channel.{IsEndOf};
 
 use crate::asserts::is;
 use crate::channel::ends::AnyEnd;
@@ -7,204 +9,157 @@ use crate::channel::ends::Call::{
     Capacity, Close, End, EndOneOfTwo, ForceSend, IsClosed, Items, Len, Recv, Send, TryRecv,
     TrySend,
 };
-use crate::channel::opening::{Left, left};
-use crate::channel::stories::Line::{Receiver, Sender};
-use crate::channel::stories::{Story, tell};
+use crate::channel::opening::{Left, end_both, left, opened_over};
+use crate::channel::stories::{Line, Story, tell};
 use crate::opening::{open_surely, part};
 use callers_channel::{end_rejoined, hand_through};
 use concurrent_queue::{Party, PopError, PushError};
-use counted_channel::{Channel, Disconnected, SendError, channel};
+use counted_channel::{Channel, Disconnected, Receiver, SendError};
 use std::alloc::Global;
 use std::fmt::{Debug, Display};
 use std::process::Abort;
 
-static ITEMS_BEFORE_THE_END: Story = Story {
-    cap: Some(2),
-    lines: &[
-        Sender(Send(1, Ok(()))),
-        Sender(Send(2, Ok(()))),
-        Sender(End(true)),
-        Receiver(Recv(Ok(1))),
-        Receiver(Recv(Ok(2))),
-        Receiver(Recv(Err(Disconnected))),
-        Receiver(End(true)),
-    ],
-    left: Some((0, true, Err(PopError::Closed), Err(PopError::Closed))),
-};
-
-#[test]
-fn what_was_sent_comes_before_the_end(rt: HostRuntime) {
-    tell(&rt, rt.alloc(), &ITEMS_BEFORE_THE_END);
-}
-
-static NO_RECEIVER: Story = Story {
-    cap: Some(1),
-    lines: &[
-        Sender(Send(7, Ok(()))),
-        Receiver(End(true)),
-        Sender(Send(8, Err(SendError::Closed(8)))),
-        Sender(End(true)),
-    ],
-    left: Some((1, true, Ok(7), Err(PopError::Closed))),
-};
-
-#[test]
-fn nothing_is_sent_to_nobody(rt: HostRuntime) {
-    tell(&rt, rt.alloc(), &NO_RECEIVER);
-}
-
-static TWO_SENDERS: Story = Story {
-    cap: None,
-    lines: &[
-        Sender(EndOneOfTwo(false)),
-        Sender(Send(5, Ok(()))),
-        Receiver(Recv(Ok(5))),
-        Sender(End(true)),
-        Receiver(Recv(Err(Disconnected))),
-    ],
-    left: None,
-};
-
-#[test]
-fn only_the_last_of_two_senders_closes(rt: HostRuntime) {
-    tell(&rt, rt.alloc(), &TWO_SENDERS);
-}
-
-static TWO_RECEIVERS: Story = Story {
-    cap: Some(2),
-    lines: &[
-        Receiver(EndOneOfTwo(false)),
-        Sender(IsClosed(false)),
-        Sender(Send(6, Ok(()))),
-        Receiver(End(true)),
-        Sender(IsClosed(true)),
-        Sender(Send(7, Err(SendError::Closed(7)))),
-    ],
-    left: None,
-};
-
-#[test]
-fn only_the_last_of_two_receivers_closes(rt: HostRuntime) {
-    tell(&rt, rt.alloc(), &TWO_RECEIVERS);
-}
-
-/// What was sent before the close is received.
-static CLOSED_BY_A_SENDER: Story = Story {
-    cap: Some(2),
-    lines: &[
-        Sender(Send(1, Ok(()))),
-        Sender(Close(true)),
-        Sender(Close(false)),
-        Sender(IsClosed(true)),
-        Receiver(IsClosed(true)),
-        Sender(Send(2, Err(SendError::Closed(2)))),
-        Sender(Len(1)),
-        Receiver(Recv(Ok(1))),
-        Receiver(Recv(Err(Disconnected))),
-        Sender(Len(0)),
-        Sender(End(true)),
-        Receiver(End(true)),
-    ],
-    left: Some((0, true, Err(PopError::Closed), Err(PopError::Closed))),
-};
-
-#[test]
-fn a_sender_closes(rt: HostRuntime) {
-    tell(&rt, rt.alloc(), &CLOSED_BY_A_SENDER);
-}
-
-/// The receiver that closes is not the last, and its side has a last end still.
-static CLOSED_BY_A_RECEIVER: Story = Story {
-    cap: None,
-    lines: &[
-        Sender(Send(3, Ok(()))),
-        Receiver(Close(true)),
-        Receiver(EndOneOfTwo(false)),
-        Sender(IsClosed(true)),
-        Sender(TrySend(4, Err(PushError::Closed(4)))),
-        Sender(ForceSend(5, Err(SendError::Closed(5)))),
-        Receiver(Close(false)),
-        Receiver(End(true)),
-        Sender(End(true)),
-    ],
-    left: Some((1, true, Ok(3), Err(PopError::Closed))),
-};
-
-#[test]
-fn a_receiver_closes(rt: HostRuntime) {
-    tell(&rt, rt.alloc(), &CLOSED_BY_A_RECEIVER);
-}
-
-static FORCED: Story = Story {
-    cap: Some(1),
-    lines: &[
-        Sender(ForceSend(1, Ok(None))),
-        Sender(ForceSend(2, Ok(Some(1)))),
-        Receiver(Recv(Ok(2))),
-        Receiver(End(true)),
-        Sender(ForceSend(3, Err(SendError::Closed(3)))),
-    ],
-    left: None,
-};
-
-#[test]
-fn the_front_gives_way(rt: HostRuntime) {
-    tell(&rt, rt.alloc(), &FORCED);
-}
-
-/// A channel of one item.
-static TRIED: Story = Story {
-    cap: Some(1),
-    lines: &[
-        Receiver(TryRecv(Err(PopError::Empty))),
-        Sender(TrySend(1, Ok(()))),
-        Sender(TrySend(2, Err(PushError::Full(2)))),
-        Receiver(Len(1)),
-        Receiver(TryRecv(Ok(1))),
-        Receiver(Len(0)),
-        Sender(End(true)),
-        Receiver(TryRecv(Err(PopError::Closed))),
-    ],
-    left: None,
-};
-
-#[test]
-fn one_try_is_one_call(rt: HostRuntime) {
-    tell(&rt, rt.alloc(), &TRIED);
-}
-
-static ITERATED: Story = Story {
-    cap: None,
-    lines: &[
-        Sender(Send(1, Ok(()))),
-        Sender(Send(2, Ok(()))),
-        Sender(End(true)),
-        Receiver(Items(Some(1), Some(2), None)),
-    ],
-    left: None,
-};
-
-#[test]
-fn items_come_until_the_end(rt: HostRuntime) {
-    tell(&rt, rt.alloc(), &ITERATED);
-}
-
-static CAPACITIES: [Story; 2] = [
+static STORIES: [Story; 11] = [
     Story {
-        cap: Some(3),
-        lines: &[Receiver(Capacity(Some(3)))],
+        name: "what was sent comes before the end",
+        cap: Some(2),
+        lines: &[
+            Line::Sender(Send(1, Ok(()))),
+            Line::Sender(Send(2, Ok(()))),
+            Line::Sender(End(true)),
+            Line::Receiver(Recv(Ok(1))),
+            Line::Receiver(Recv(Ok(2))),
+            Line::Receiver(Recv(Err(Disconnected))),
+            Line::Receiver(End(true)),
+        ],
+        left: Some((0, true, Err(PopError::Closed), Err(PopError::Closed))),
+    },
+    Story {
+        name: "nothing is sent to nobody",
+        cap: Some(1),
+        lines: &[
+            Line::Sender(Send(7, Ok(()))),
+            Line::Receiver(End(true)),
+            Line::Sender(Send(8, Err(SendError::Closed(8)))),
+            Line::Sender(End(true)),
+        ],
+        left: Some((1, true, Ok(7), Err(PopError::Closed))),
+    },
+    Story {
+        name: "only the last of two senders closes",
+        cap: None,
+        lines: &[
+            Line::Sender(EndOneOfTwo(false)),
+            Line::Sender(Send(5, Ok(()))),
+            Line::Receiver(Recv(Ok(5))),
+            Line::Sender(End(true)),
+            Line::Receiver(Recv(Err(Disconnected))),
+        ],
         left: None,
     },
     Story {
+        name: "only the last of two receivers closes",
+        cap: Some(2),
+        lines: &[
+            Line::Receiver(EndOneOfTwo(false)),
+            Line::Sender(IsClosed(false)),
+            Line::Sender(Send(6, Ok(()))),
+            Line::Receiver(End(true)),
+            Line::Sender(IsClosed(true)),
+            Line::Sender(Send(7, Err(SendError::Closed(7)))),
+        ],
+        left: None,
+    },
+    Story {
+        name: "a sender closes, and what was sent before is received",
+        cap: Some(2),
+        lines: &[
+            Line::Sender(Send(1, Ok(()))),
+            Line::Sender(Close(true)),
+            Line::Sender(Close(false)),
+            Line::Sender(IsClosed(true)),
+            Line::Receiver(IsClosed(true)),
+            Line::Sender(Send(2, Err(SendError::Closed(2)))),
+            Line::Sender(Len(1)),
+            Line::Receiver(Recv(Ok(1))),
+            Line::Receiver(Recv(Err(Disconnected))),
+            Line::Sender(Len(0)),
+            Line::Sender(End(true)),
+            Line::Receiver(End(true)),
+        ],
+        left: Some((0, true, Err(PopError::Closed), Err(PopError::Closed))),
+    },
+    Story {
+        name: "a receiver closes that is not the last, and its side has a last end still",
         cap: None,
-        lines: &[Receiver(Capacity(None))],
+        lines: &[
+            Line::Sender(Send(3, Ok(()))),
+            Line::Receiver(Close(true)),
+            Line::Receiver(EndOneOfTwo(false)),
+            Line::Sender(IsClosed(true)),
+            Line::Sender(TrySend(4, Err(PushError::Closed(4)))),
+            Line::Sender(ForceSend(5, Err(SendError::Closed(5)))),
+            Line::Receiver(Close(false)),
+            Line::Receiver(End(true)),
+            Line::Sender(End(true)),
+        ],
+        left: Some((1, true, Ok(3), Err(PopError::Closed))),
+    },
+    Story {
+        name: "the front gives way",
+        cap: Some(1),
+        lines: &[
+            Line::Sender(ForceSend(1, Ok(None))),
+            Line::Sender(ForceSend(2, Ok(Some(1)))),
+            Line::Receiver(Recv(Ok(2))),
+            Line::Receiver(End(true)),
+            Line::Sender(ForceSend(3, Err(SendError::Closed(3)))),
+        ],
+        left: None,
+    },
+    Story {
+        name: "one try is one call",
+        cap: Some(1),
+        lines: &[
+            Line::Receiver(TryRecv(Err(PopError::Empty))),
+            Line::Sender(TrySend(1, Ok(()))),
+            Line::Sender(TrySend(2, Err(PushError::Full(2)))),
+            Line::Receiver(Len(1)),
+            Line::Receiver(TryRecv(Ok(1))),
+            Line::Receiver(Len(0)),
+            Line::Sender(End(true)),
+            Line::Receiver(TryRecv(Err(PopError::Closed))),
+        ],
+        left: None,
+    },
+    Story {
+        name: "items come until the end",
+        cap: None,
+        lines: &[
+            Line::Sender(Send(1, Ok(()))),
+            Line::Sender(Send(2, Ok(()))),
+            Line::Sender(End(true)),
+            Line::Receiver(Items(Some(1), Some(2), None)),
+        ],
+        left: None,
+    },
+    Story {
+        name: "a channel of three items has that capacity",
+        cap: Some(3),
+        lines: &[Line::Receiver(Capacity(Some(3)))],
+        left: None,
+    },
+    Story {
+        name: "a channel without a capacity has none",
+        cap: None,
+        lines: &[Line::Receiver(Capacity(None))],
         left: None,
     },
 ];
 
 #[test]
-fn a_channel_has_the_capacity_of_its_queue(rt: HostRuntime) {
-    for story in &CAPACITIES {
+fn each_story_is_right(rt: HostRuntime) {
+    for story in &STORIES {
         tell(&rt, rt.alloc(), story);
     }
 }
@@ -215,34 +170,54 @@ fn with_another_party(rt: &impl Abort, alloc: Global) -> (Channel<u64>, Party<u6
 {
     let (queue, party) = open_surely(rt, alloc, Some(1));
     let (party, other) = part(rt, &queue, party);
-    let Ok((channel, sender, receiver)) = channel(alloc, queue, party) else {
-        panic!(rt; "no memory");
-    };
-    let (first, _) = channel.end_sender(sender);
-    let (second, _) = channel.end_receiver(receiver);
-    let party = channel.join(first, second);
+    let (channel, sender, receiver) = opened_over(rt, alloc, queue, party);
+    let party = end_both(&channel, sender, receiver);
     (channel, party, other)
+}
+
+/// Asserts that a channel is not finished with this party alone.
+fn stay_open(
+    rt: &impl Abort,
+    channel: Channel<u64>,
+    party: Party<u64>,
+) -> (Channel<u64>, Party<u64>)
+    requires { IsPartyOf party channel.queue }
+    ensures { (result.0 ≡ channel) × IsPartyOf result.1 channel.queue }
+{
+    match channel.finish(party) {
+        Err(both) => both,
+        Ok(_) => panic!(rt; "finished with a party missing"),
+    }
 }
 
 #[test]
 fn a_party_that_is_left_out_keeps_the_channel(rt: HostRuntime) {
     let (channel, party, other) = with_another_party(&rt, rt.alloc());
-    let Err((channel, party)) = channel.finish(party) else {
-        panic!(&rt; "finished with a party missing");
-    };
+    let (channel, party) = stay_open(&rt, channel, party);
     let party = channel.join(party, other);
     is(&rt, left(channel, Some(party)).is_some(), true);
+}
+
+/// A receiver is parted, joined again and ended. Gives its party.
+fn end_receiver_rejoined(
+    rt: &impl Abort,
+    channel: &Channel<u64>,
+    receiver: Receiver<u64>,
+) -> Party<u64>
+    requires { IsEndOf receiver channel.now }
+    ensures { IsPartyOf result channel.now.queue }
+{
+    let (one, two) = receiver.two(rt, channel);
+    let (party, _) = channel.end_receiver(channel.join_receivers(one, two));
+    party
 }
 
 /// What is left where a sender is parted, joined again and ended, and a receiver is parted, joined and ended.
 fn end_both_rejoined(rt: &impl Abort, alloc: Global) -> Option<Left> {
     let (queue, party) = open_surely(rt, alloc, Some(1));
-    let Ok((channel, sender, receiver)) = channel(alloc, queue, party) else {
-        panic!(rt; "no memory");
-    };
+    let (channel, sender, receiver) = opened_over(rt, alloc, queue, party);
     let first = end_rejoined(&channel, sender);
-    let (one, two) = receiver.two(rt, &channel);
-    let (second, _) = channel.end_receiver(channel.join_receivers(one, two));
+    let second = end_receiver_rejoined(rt, &channel, receiver);
     let party = channel.join(first, second);
     left(channel, Some(party))
 }

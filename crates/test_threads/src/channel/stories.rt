@@ -3,7 +3,7 @@ ghost use Rattle.std.specs.Prelude.{IfSome};
 ghost use Rattle.concurrent_queue.specs.Shared.{IsPartyOf};
 ghost use Rattle.counted_channel.specs.Channel.{IsEndOf};
 
-use crate::asserts::is;
+use crate::asserts::is_in;
 use crate::channel::ends::Call;
 use crate::channel::opening::{Left, left, opened_surely};
 use concurrent_queue::Party;
@@ -20,6 +20,7 @@ pub enum Line {
 
 /// A story of a channel.
 pub struct Story {
+    pub name: &'static str,
     pub cap: Option<usize>,
     pub lines: &'static [Line],
     /// What is left in the end; nothing where an end has not ended.
@@ -59,5 +60,5 @@ pub fn tell<R: Wait + Abort>(rt: &R, alloc: Global, story: &Story) {
     let (channel, sender, receiver) = opened_surely(rt, alloc, story.cap);
     let (right, party) = follow(rt, &channel, sender, receiver, story.lines);
     let seen = (right, left(channel, party));
-    is(rt, seen, (story.lines.len(), story.left));
+    is_in(rt, story.name, seen, (story.lines.len(), story.left));
 }

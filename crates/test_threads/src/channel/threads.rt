@@ -52,6 +52,36 @@ fn take_some<R: Wait>(
     (channel.end_receiver(receiver).0, taken)
 }
 
+/// Two senders in threads of their own send a hundred items each, and a receiver takes so many. Gives their party, how many were sent, whether each other one was answered `Closed`, and how many came.
+fn send_and_take<R: Threads + Wait + Sync>(
+    rt: &R,
+    channel: &Channel<u64>,
+    one: Sender<u64>,
+    two: Sender<u64>,
+    receiver: Receiver<u64>,
+    most: u64,
+) -> (Party<u64>, u64, bool, u64)
+    requires { IsEndOf one channel.now × IsEndOf two channel.now × IsEndOf receiver channel.now }
+    ensures { IsPartyOf result.0 channel.now.queue }
+{
+    let ((a, sent, right), ((b, more, right_too), (c, taken))) = join(
+        rt,
+        || send_hundred(rt, channel, one),
+        || -> ((Party<u64>, u64, bool), (Party<u64>, u64))
+            requires { IsEndOf two channel.now × IsEndOf receiver channel.now }
+            ensures { IsPartyOf result.0.0 channel.entry.now.queue × IsPartyOf result.1.0 channel.entry.now.queue }
+        {
+            join(
+                rt,
+                || send_hundred(rt, channel, two),
+                || take_some(rt, channel, receiver, most),
+            )
+        },
+    );
+    let all = channel.join(channel.join(a, b), c);
+    (all, sent.wrapping_add(more), right && right_too, taken)
+}
+
 /// How many items two senders in threads of their own sent, whether each other one was answered `Closed`, how many a receiver took that ended after 50, and what is left.
 fn two_send<R: Threads + Wait + Abort + Sync>(
     rt: &R,
@@ -59,27 +89,8 @@ fn two_send<R: Threads + Wait + Abort + Sync>(
 ) -> (u64, bool, u64, Option<Left>) {
     let (channel, sender, receiver) = opened_surely(rt, alloc, Some(400));
     let (one, two) = sender.two(rt, &channel);
-    let ((a, sent, right), ((b, more, right_too), (c, taken))) = join(
-        rt,
-        || send_hundred(rt, &channel, one),
-        || -> ((Party<u64>, u64, bool), (Party<u64>, u64))
-            requires { IsEndOf two channel × IsEndOf receiver channel }
-            ensures { IsPartyOf result.0.0 channel.queue × IsPartyOf result.1.0 channel.queue }
-        {
-            join(
-                rt,
-                || send_hundred(rt, &channel, two),
-                || take_some(rt, &channel, receiver, 50),
-            )
-        },
-    );
-    let all = channel.join(channel.join(a, b), c);
-    (
-        sent.wrapping_add(more),
-        right && right_too,
-        taken,
-        left(channel, Some(all)),
-    )
+    let (all, sent, right, taken) = send_and_take(rt, &channel, one, two, receiver, 50);
+    (sent, right, taken, left(channel, Some(all)))
 }
 
 #[test]

@@ -95,6 +95,29 @@ fn second_woken<R: Threads + Wait + Abort + Sync>(
 }
 
 /// What two receivers are answered that a refused item wakes, and whether both were seen asleep before.
+fn both_woken<R: Threads + Wait + Abort + Sync>(
+    rt: &R,
+    host: &HostRuntime,
+    queue: &ConcurrentQueue<u64>,
+    one: Party<u64>,
+    two: Party<u64>,
+    sender: Party<u64>,
+    by_force: bool,
+) -> (Came, (Came, bool))
+    requires { IsPartyOf one queue.now × IsPartyOf two queue.now × IsPartyOf sender queue.now }
+{
+    let awaited = Awaited::new();
+    let receivers = [Watched::new(), Watched::new()];
+    join(
+        rt,
+        || receive(rt, host, queue, &awaited, one, &receivers[0]),
+        || -> (Came, bool)
+            requires { IsSync R.row × IsPartyOf two queue.now × IsPartyOf sender queue.now }
+        { second_woken(rt, host, queue, &awaited, two, sender, by_force, &receivers) },
+    )
+}
+
+/// The same at a queue of their own.
 fn woken<R: Threads + Wait + Abort + Sync>(
     rt: &R,
     host: &HostRuntime,
@@ -103,16 +126,8 @@ fn woken<R: Threads + Wait + Abort + Sync>(
 ) -> (Came, (Came, bool)) {
     let (queue, party) = open_surely(rt, alloc, None);
     let (one, others) = part(rt, &queue, party);
-    let (two, three) = part(rt, &queue, others);
-    let awaited = Awaited::new();
-    let receivers = [Watched::new(), Watched::new()];
-    join(
-        rt,
-        || receive(rt, host, &queue, &awaited, one, &receivers[0]),
-        || -> (Came, bool)
-            requires { IsSync R.row × IsPartyOf two queue × IsPartyOf three queue }
-        { second_woken(rt, host, &queue, &awaited, two, three, by_force, &receivers) },
-    )
+    let (two, sender) = part(rt, &queue, others);
+    both_woken(rt, host, &queue, one, two, sender, by_force)
 }
 
 #[test]

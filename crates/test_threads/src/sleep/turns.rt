@@ -18,17 +18,17 @@ fn echo<R: Wait + Abort>(
     rt: &R,
     host: &HostRuntime,
     there: &Channel<u64>,
-    receiver: &mut Receiver<u64>,
+    mut receiver: Receiver<u64>,
     back: &Channel<u64>,
-    sender: &mut Sender<u64>,
+    mut sender: Sender<u64>,
     watched: &Watched,
 )
-    requires { IsEndOf receiver.old there.now × IsEndOf sender.old back.now }
+    requires { IsEndOf receiver there.now × IsEndOf sender back.now }
 {
     watched.enter(rt, host);
     for _ in 0..TURNS {
-        if let Ok(number) = there.recv(rt, receiver) {
-            let _sent = back.send(rt, sender, number);
+        if let Ok(number) = there.recv(rt, &mut receiver) {
+            let _sent = back.send(rt, &mut sender, number);
         }
     }
 }
@@ -38,56 +38,73 @@ fn call<R: Wait + Abort>(
     rt: &R,
     host: &HostRuntime,
     there: &Channel<u64>,
-    sender: &mut Sender<u64>,
+    mut sender: Sender<u64>,
     back: &Channel<u64>,
-    receiver: &mut Receiver<u64>,
+    mut receiver: Receiver<u64>,
     watched: &Watched,
 ) -> (u64, bool)
-    requires { IsEndOf sender.old there.now × IsEndOf receiver.old back.now }
+    requires { IsEndOf sender there.now × IsEndOf receiver back.now }
 {
     let asleep = watched.is_seen_asleep(rt, host);
     let mut came: u64 = 0;
     for number in 0..TURNS {
-        let sent = there.send(rt, sender, number).is_ok();
-        if sent && back.recv(rt, receiver) == Ok(number) {
+        let sent = there.send(rt, &mut sender, number).is_ok();
+        if sent && back.recv(rt, &mut receiver) == Ok(number) {
             came = came.wrapping_add(1);
         }
     }
     (came, asleep)
 }
 
-/// How many numbers came back, and whether the one who sends them back was seen asleep before the first.
-fn hand_over<R: Threads + Wait + Abort + Sync>(
+/// Lets one thread send to `there` and the other one send back. Gives how many numbers came back, and whether the one who sends them back was seen asleep before the first.
+fn send_to_and_fro<R: Threads + Wait + Abort + Sync>(
     rt: &R,
     host: &HostRuntime,
-    alloc: Global,
-    cap: Option<usize>,
-) -> (u64, bool) {
-    let (there, mut sender, mut receiver) = opened_surely(rt, alloc, cap);
-    let (back, mut other_sender, mut other_receiver) = opened_surely(rt, alloc, cap);
+    there: &Channel<u64>,
+    sender: Sender<u64>,
+    other_receiver: Receiver<u64>,
+    back: &Channel<u64>,
+    other_sender: Sender<u64>,
+    receiver: Receiver<u64>,
+) -> (u64, bool)
+    requires { IsEndOf sender there.now × IsEndOf other_receiver there.now × IsEndOf other_sender back.now × IsEndOf receiver back.now }
+{
     let watched = Watched::new();
     let ((), seen) = join(
         rt,
         || echo(
             rt,
             host,
-            &there,
-            &mut receiver,
-            &back,
-            &mut other_sender,
+            there,
+            other_receiver,
+            back,
+            other_sender,
             &watched,
         ),
-        || call(
-            rt,
-            host,
-            &there,
-            &mut sender,
-            &back,
-            &mut other_receiver,
-            &watched,
-        ),
+        || call(rt, host, there, sender, back, receiver, &watched),
     );
     seen
+}
+
+/// The same on two channels of this capacity, or without one.
+fn hand_over<R: Threads + Wait + Abort + Sync>(
+    rt: &R,
+    host: &HostRuntime,
+    alloc: Global,
+    cap: Option<usize>,
+) -> (u64, bool) {
+    let (there, sender, other_receiver) = opened_surely(rt, alloc, cap);
+    let (back, other_sender, receiver) = opened_surely(rt, alloc, cap);
+    send_to_and_fro(
+        rt,
+        host,
+        &there,
+        sender,
+        other_receiver,
+        &back,
+        other_sender,
+        receiver,
+    )
 }
 
 #[test]

@@ -100,6 +100,24 @@ fn are_left(queue: &mut Exclusive<u64>, posts: &mut [Sign], count: usize) -> boo
 /// are in the queue.
 type Seen = (u64, bool, bool, usize, usize, bool);
 
+/// What came of a crew that left this queue and these posts, and whether its last thread pushed its number.
+fn seen_of(
+    left: &mut Exclusive<u64>,
+    posts: &mut [Sign],
+    started: u64,
+    all_started: bool,
+) -> (Seen, bool) {
+    let closed = left.is_closed();
+    let count = pushed(posts);
+    let last = match posts.last() {
+        Some((_, accepted)) => *accepted,
+        None => false,
+    };
+    let are_left = are_left(left, posts, count);
+    let seen = (started, all_started, closed, posts.len(), count, are_left);
+    (seen, last)
+}
+
 /// Runs such a crew on a queue with one item. Gives what came of it, and whether its last thread pushed its number.
 fn run<R: Abort + Threads + Wait + Sync>(rt: &R, alloc: Global, roster: Roster) -> (Seen, bool) {
     let (queue, mut party) = open_surely(rt, alloc, Some(64));
@@ -111,17 +129,7 @@ fn run<R: Abort + Threads + Wait + Sync>(rt: &R, alloc: Global, roster: Roster) 
         all_started,
     } = worked(rt, alloc, &queue, party, roster);
     let mut left = left(rt, queue, party);
-    let closed = left.is_closed();
-    let count = pushed(&posts);
-    let last = match posts.last() {
-        Some((_, accepted)) => *accepted,
-        None => false,
-    };
-    let are_left = are_left(&mut left, &mut posts, count);
-    (
-        (started, all_started, closed, posts.len(), count, are_left),
-        last,
-    )
+    seen_of(&mut left, &mut posts, started, all_started)
 }
 
 #[test]
