@@ -1,7 +1,7 @@
 //! An eventcount: who waits for a condition sleeps, and who makes it true wakes it. It knows nothing of the condition.
 //!
-//! Who waits takes a ticket, looks at the condition once more, and waits on the ticket or gives it up. Who makes the condition true does so first, and notifies then. Where nobody
-//! sleeps, or others have gone to wake each that does, a notify of one is one load.
+//! Who waits takes a ticket, looks at the condition once more, and waits on the ticket or gives it up. Who makes the condition true does so first, and notifies then. A notify of one
+//! is one load where no wait has begun, or a notify has gone to wake for each that has, also for those that were given up.
 #![tactic(auto)]
 
 ghost use Rattle.std.specs.Prelude.{◌≡◌, ℕ, IsTrue};
