@@ -62,30 +62,55 @@ pub struct Load {
     pub task: Task,
 }
 
+// The five words of a line.
+#[derive(Clone, Copy)]
+struct Words<'a> {
+    form: &'a str,
+    kind: &'a str,
+    first: &'a str,
+    second: &'a str,
+    count: &'a str,
+}
+
 /// The load that a line of words names: `FORM KIND WORK BYTES COUNT`, or `threads KIND PUSHERS POPPERS COUNT`, or the same with `kit-threads`.
 pub fn parse_load(line: &str) -> Option<Load>
     ensures { IfSome result (λ load. IfSome load.capacity (λ cap. 0 < cap)) }
 {
+    let words = words_in(line)?;
+    let capacity = capacity_of(parse_kind(words.kind).ok()?);
+    let task = parse_task(words, words.count.parse().ok()?)?;
+    Some(Load { capacity, task })
+}
+
+// The words of a line, if it has five.
+fn words_in(line: &str) -> Option<Words<'_>> {
     let mut words = line.split(' ');
-    let form = words.next()?;
-    let capacity = capacity_of(parse_kind(words.next()?).ok()?);
-    let first = words.next()?;
-    let second = words.next()?;
-    let count = words.next()?.parse().ok()?;
-    if words.next().is_some() {
-        return None;
+    let found = Words {
+        form: words.next()?,
+        kind: words.next()?,
+        first: words.next()?,
+        second: words.next()?,
+        count: words.next()?,
+    };
+    match words.next() {
+        Some(_) => None,
+        None => Some(found),
     }
-    let task = match form {
-        "threads" => Task::Threads(parse_crew(first, second, count)?),
-        "kit-threads" => Task::KitThreads(parse_crew(first, second, count)?),
-        _ => Task::Pairs(Pairs {
+}
+
+// The task that these words name, of so many numbers or pairs.
+fn parse_task(words: Words<'_>, count: u64) -> Option<Task> {
+    let Words { first, second, .. } = words;
+    match words.form {
+        "threads" => Some(Task::Threads(parse_crew(first, second, count)?)),
+        "kit-threads" => Some(Task::KitThreads(parse_crew(first, second, count)?)),
+        form => Some(Task::Pairs(Pairs {
             form: parse_form(form)?,
             work: parse_work(first)?,
             size: parse_size(second)?,
             count,
-        }),
-    };
-    Some(Load { capacity, task })
+        })),
+    }
 }
 
 // The capacity of a queue of this kind, if it has one.

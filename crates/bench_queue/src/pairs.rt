@@ -25,6 +25,9 @@ pub trait Item: Copy {
 
 /// An item, and the loop that it goes through.
 pub trait Runs: Item {
+    /// Fills in the items that are to lie behind, of which there are so many. No items lie behind where they come in batches.
+    fn lay<L: Lane<Self>>(lane: &mut L, items: u64);
+
     /// Pushes and pops so many pairs on a queue: in turn where so many items lie behind, or in batches of so many items.
     fn run<L: Lane<Self>>(lane: &mut L, items: u64, pairs: u64) -> Taken<Self>;
 }
@@ -69,6 +72,12 @@ impl<const WORDS: usize> Item for [u64; WORDS] {
 
 /// Items that are pushed and popped in turn.
 impl<const WORDS: usize> Runs for [u64; WORDS] {
+    fn lay<L: Lane<[u64; WORDS]>>(lane: &mut L, items: u64) {
+        for number in 0..items {
+            lane.fill([number; WORDS]);
+        }
+    }
+
     #[inline(never)]
     fn run<L: Lane<[u64; WORDS]>>(lane: &mut L, items: u64, pairs: u64) -> Taken<[u64; WORDS]> {
         let mut taken = Taken::nothing();
@@ -97,6 +106,8 @@ impl<T: Item> Item for Batched<T> {
 }
 
 impl<T: Item> Runs for Batched<T> {
+    fn lay<L: Lane<Batched<T>>>(_lane: &mut L, _items: u64) {}
+
     #[inline(never)]
     fn run<L: Lane<Batched<T>>>(lane: &mut L, items: u64, pairs: u64) -> Taken<Batched<T>> {
         let mut taken = Taken::nothing();

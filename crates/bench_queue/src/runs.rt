@@ -26,38 +26,47 @@ pub fn time<R: Threads + Wait + Sync>(rt: &HostRuntime, threads: &R, load: Load)
 {
     let Load { capacity, task } = load;
     match task {
-        Task::Threads(crew) => {
-            let (queue, party) = open_shared(rt.alloc(), capacity)?;
-            let seat = OfParty {
-                queue: &queue,
-                party,
-            };
-            time_crew(rt, threads, seat, crew)
+        Task::Threads(crew) => time_threads(rt, threads, capacity, crew),
+        Task::KitThreads(crew) => time_kit_threads(rt, threads, capacity, crew),
+        Task::Pairs(pairs) => time_sized(rt, threads, capacity, pairs),
+    }
+}
+
+// Times threads on one of this repository's queues.
+fn time_threads<R: Threads + Wait + Sync>(
+    rt: &HostRuntime,
+    threads: &R,
+    capacity: Option<usize>,
+    crew: Crew,
+) -> io::Result<Run>
+    requires { IfSome capacity (λ cap. 0 < cap) }
+{
+    let (queue, party) = open_shared(rt.alloc(), capacity)?;
+    let seat = OfParty {
+        queue: &queue,
+        party,
+    };
+    time_crew(rt, threads, seat, crew)
+}
+
+// Times threads on one of the kit's queues.
+fn time_kit_threads<R: Threads + Wait + Sync>(
+    rt: &HostRuntime,
+    threads: &R,
+    capacity: Option<usize>,
+    crew: Crew,
+) -> io::Result<Run>
+    requires { IfSome capacity (λ cap. 0 < cap) }
+{
+    match capacity {
+        Some(cap) => {
+            let queue: ArrayQueue<u64> = ArrayQueue::new(rt.alloc(), cap)?;
+            time_crew(rt, threads, &queue, crew)
         }
-        Task::KitThreads(crew) => match capacity {
-            Some(cap) => {
-                let queue: ArrayQueue<u64> = ArrayQueue::new(rt.alloc(), cap)?;
-                time_crew(rt, threads, &queue, crew)
-            }
-            None => {
-                let queue: SegQueue<u64> = SegQueue::new(rt.alloc())?;
-                time_crew(rt, threads, &queue, crew)
-            }
-        },
-        Task::Pairs(pairs) => match (pairs.work, pairs.size) {
-            (Work::Behind(_), Size::Bytes8) => {
-                time_pairs::<[u64; 1], R>(rt, threads, capacity, pairs)
-            }
-            (Work::Behind(_), Size::Bytes64) => {
-                time_pairs::<[u64; 8], R>(rt, threads, capacity, pairs)
-            }
-            (Work::Batch(_), Size::Bytes8) => {
-                time_pairs::<Batched<[u64; 1]>, R>(rt, threads, capacity, pairs)
-            }
-            (Work::Batch(_), Size::Bytes64) => {
-                time_pairs::<Batched<[u64; 8]>, R>(rt, threads, capacity, pairs)
-            }
-        },
+        None => {
+            let queue: SegQueue<u64> = SegQueue::new(rt.alloc())?;
+            time_crew(rt, threads, &queue, crew)
+        }
     }
 }
 
@@ -74,7 +83,28 @@ fn time_crew<R: Threads + Wait + Sync, S: Seat + Send + Drop>(
     Ok(Run { sum, took })
 }
 
-// Times pairs by one thread.
+// Times pairs by one thread, of items of the size that is asked for.
+fn time_sized<R: Wait>(
+    rt: &HostRuntime,
+    waits: &R,
+    capacity: Option<usize>,
+    pairs: Pairs,
+) -> io::Result<Run>
+    requires { IfSome capacity (λ cap. 0 < cap) }
+{
+    match (pairs.work, pairs.size) {
+        (Work::Behind(_), Size::Bytes8) => time_pairs::<[u64; 1], R>(rt, waits, capacity, pairs),
+        (Work::Behind(_), Size::Bytes64) => time_pairs::<[u64; 8], R>(rt, waits, capacity, pairs),
+        (Work::Batch(_), Size::Bytes8) => {
+            time_pairs::<Batched<[u64; 1]>, R>(rt, waits, capacity, pairs)
+        }
+        (Work::Batch(_), Size::Bytes64) => {
+            time_pairs::<Batched<[u64; 8]>, R>(rt, waits, capacity, pairs)
+        }
+    }
+}
+
+// Times pairs by one thread, on a queue of the form that is asked for.
 fn time_pairs<T: Runs, R: Wait>(
     rt: &HostRuntime,
     waits: &R,
@@ -96,16 +126,28 @@ fn time_pairs<T: Runs, R: Wait>(
             let alone: Alone<R, T> = Alone::open(rt.alloc(), waits, capacity)?;
             time_lane(rt, alone.end(), pairs)
         }
-        Form::KitAlone => match capacity {
-            Some(cap) => {
-                let queue: ArrayQueue<T> = ArrayQueue::new(rt.alloc(), cap)?;
-                time_lane(rt, KitAlone { rt: waits, queue }, pairs)
-            }
-            None => {
-                let queue: SegQueue<T> = SegQueue::new(rt.alloc())?;
-                time_lane(rt, KitAlone { rt: waits, queue }, pairs)
-            }
-        },
+        Form::KitAlone => time_kit_pairs::<T, R>(rt, waits, capacity, pairs),
+    }
+}
+
+// Times pairs by one thread on one of the kit's queues.
+fn time_kit_pairs<T: Runs, R: Wait>(
+    rt: &HostRuntime,
+    waits: &R,
+    capacity: Option<usize>,
+    pairs: Pairs,
+) -> io::Result<Run>
+    requires { IfSome capacity (λ cap. 0 < cap) }
+{
+    match capacity {
+        Some(cap) => {
+            let queue: ArrayQueue<T> = ArrayQueue::new(rt.alloc(), cap)?;
+            time_lane(rt, KitAlone { rt: waits, queue }, pairs)
+        }
+        None => {
+            let queue: SegQueue<T> = SegQueue::new(rt.alloc())?;
+            time_lane(rt, KitAlone { rt: waits, queue }, pairs)
+        }
     }
 }
 
@@ -119,15 +161,8 @@ fn time_lane<T: Runs, L: Lane<T> + Drop>(
 }
 
 fn time_loop<T: Runs, L: Lane<T>>(rt: &HostRuntime, lane: &mut L, pairs: Pairs) -> io::Result<Run> {
-    let items = match pairs.work {
-        Work::Behind(items) => {
-            for number in 0..items {
-                lane.fill(T::numbered(number));
-            }
-            items
-        }
-        Work::Batch(items) => items,
-    };
+    let (Work::Behind(items) | Work::Batch(items)) = pairs.work;
+    T::lay(lane, items);
     let start = Instant::now(rt)?;
     let taken = T::run(lane, items, pairs.count);
     let took = start.elapsed(rt)?;
