@@ -1,10 +1,11 @@
 -- No step of another party takes away where a call on a chain stands, nor what it knows there.
 use Rattle.std.proofs.Common.{ℕ, ◌+◌, ◌/◌, ◌≡◌, ◌≢◌, ◌⊎◌, Bool, Option, Some, None, List, arith}
-use Rattle.law_common.specs.Vocabulary.{Call, Effect, Op, Touch, Local, BLOCK_SLOTS}
+use Rattle.law_common.specs.Vocabulary.{BLOCK_SLOTS}
 use Rattle.queue_steps.specs.State.{State}
 use Rattle.queue_steps.specs.Words.{position_of}
 use Rattle.queue_steps.specs.ChainWords.{items_before}
 use Rattle.law_common.specs.Moments.{seen_by}
+use Rattle.law_common.specs.Stand.{Stand}
 use Rattle.law_chain.specs.ChainCells.{Chain, queue_of, ChainOk, Write, Read, Tail, Head, Next, First, Passed, Nothing}
 use Rattle.law_chain.specs.ChainPasses.{Passes}
 use Rattle.law_chain.proofs.ChainFacts.{tail_grows, head_is_stays, named_stays, tail_block_stays, head_block_stays, head_read_stays, more_stays, spare_stays, holds_stays, head_was_stays, saw_empty_stays, saw_stays, claimed_stays, got_stays, lays_stays, opens_stays, passing_stays, entering_stays, linking_stays, showing_stays, walker_stays}
@@ -21,8 +22,8 @@ pub further_stays : {A : Type 0} {r s : Chain A} (who n : ℕ) (more : Bool) →
 further_stays who n more pass is = λ e. let h = is e in let g = tail_grows who pass in omega arith
 
 -- a step of another party leaves a call where it stands, with all that it knows
-pub at_stays : {A : Type 0} {r s : Chain A} {who other : ℕ} {ms : List (State A)} {l : Local ℕ} {t : Touch} {o : Op ℕ} {v : Option A} {k : Call A} {es : List (Effect A)}
-    → ChainOk r → ChainOk s → other ≢ who → Passes who r s → At r other ms l t o v k es → At s other (seen_by (queue_of s) ms) l t o v k es
+pub at_stays : {A : Type 0} {r s : Chain A} {who other : ℕ} {ms : List (State A)} {k : Stand A}
+    → ChainOk r → ChainOk s → other ≢ who → Passes who r s → At r other ms k → At s other (seen_by (queue_of s) ms) k
 at_stays {r = r} {s = s} {who = who} {other = other} {ms = ms} ok ok2 ne pass (push_tail d v spare none spare_is) =
     push_tail d v spare (holds_stays who other Nothing ne pass none) (spare_stays who other spare ne pass spare_is)
 at_stays {r = r} {s = s} {who = who} {other = other} {ms = ms} ok ok2 ne pass (push_block d v spare q none spare_is saw) =

@@ -1,9 +1,10 @@
 -- A call on a chain that has had no effect yet has no part of the chain but its spare, and still carries its own value: so its party may give it up.
-use Rattle.std.proofs.Common.{ℕ, ◌≡◌, inl, true, false, Option, Some, List, [], refl}
+use Rattle.std.proofs.Common.{ℕ, ◌≡◌, inl, true, false, Some, List, [], refl}
 use Rattle.queue_steps.specs.State.{State}
 use Rattle.queue_steps.specs.Kinds.{call_value}
-use Rattle.law_common.specs.Vocabulary.{Call, Effect, Op, Touch, Local, PushKind}
+use Rattle.law_common.specs.Vocabulary.{PushKind}
 use Rattle.law_common.specs.Pushes.{pushes}
+use Rattle.law_common.specs.Stand.{Stand}
 use Rattle.law_chain.specs.ChainCells.{Chain, Holds, Nothing}
 use Rattle.law_chain.specs.ChainPasses.{spare_in}
 use Rattle.law_chain.specs.ChainEarly.{IsEarly, IsBound, IsPush}
@@ -14,8 +15,8 @@ pushed : {A : Type 0} (d : PushKind) (v : A) → Some v ≡ call_value (pushes d
 pushed PushKind.Push v = refl
 pushed PushKind.Force v = refl
 
-pub early : {A : Type 0} {c : Chain A} {who : ℕ} {ms : List (State A)} {l : Local ℕ} {t : Touch} {o : Op ℕ} {v : Option A} {k : Call A} {es : List (Effect A)}
-    → IsEarly l → At c who ms l t o v k es → (es ≡ []) × Holds c who Nothing × GivesUp c who (spare_in l) × (v ≡ call_value k)
+pub early : {A : Type 0} {c : Chain A} {who : ℕ} {ms : List (State A)} {k : Stand A}
+    → IsEarly k.local → At c who ms k → (k.effects ≡ []) × Holds c who Nothing × GivesUp c who (spare_in k.local) × (k.carried ≡ call_value k.call)
 early {c = c} {who = who} is (push_tail d v spare none has) = (refl, none, spare_gives c who spare has, pushed d v)
 early {c = c} {who = who} is (push_block d v spare q none has saw) = (refl, none, spare_gives c who spare has, pushed d v)
 early is (asking d v q block none saw asked) = (refl, none, tt, pushed d v)
@@ -49,7 +50,7 @@ early is (closing none) = (refl, none, tt, refl)
 early is (closed_tail none) = (refl, none, tt, refl)
 
 -- a push waits for no item
-pub unbound : {A : Type 0} {c : Chain A} {who : ℕ} {ms : List (State A)} {l : Local ℕ} {t : Touch} {o : Op ℕ} {v : Option A} {k : Call A} {es : List (Effect A)} → IsPush k → At c who ms l t o v k es → ¬ (IsBound l)
+pub unbound : {A : Type 0} {c : Chain A} {who : ℕ} {ms : List (State A)} {k : Stand A} → IsPush k.call → At c who ms k → ¬ (IsBound k.local)
 unbound push (push_tail d v spare none has) = λ e. absurd (let f : false ≡ true = e in cc)
 unbound push (push_block d v spare q none has saw) = λ e. absurd (let f : false ≡ true = e in cc)
 unbound push (asking d v q block none saw asked) = λ e. absurd (let f : false ≡ true = e in cc)

@@ -9,6 +9,7 @@ use Rattle.queue_steps.specs.Words.{is_shut}
 use Rattle.queue_steps.specs.declared.steps.unbounded.UnboundedLocal.TheVariants as chain
 use Rattle.law_common.specs.Moments.{SeenIn}
 use Rattle.law_common.specs.Effects.{Leads, with_effect, Whether}
+use Rattle.law_common.specs.Stand.{stand}
 use Rattle.law_chain.specs.ChainCells.{Spare, GivenUp, Chain, queue_of, ChainOk, Holds, Nothing}
 use Rattle.law_chain.specs.ChainPasses.{Passes}
 use Rattle.law_chain.proofs.ChainPasses.{passes_same}
@@ -22,7 +23,7 @@ GivesUp c who (Some f) = (c.uses f ≡ Spare who) ⊎ ((b : ℕ) × IsNamed c b 
 
 -- the call goes on, or ends with a reply that is right, and holds nothing
 abbrev pub Goes : {A : Type 0} → Chain A → ℕ → List (State A) → Next ℕ → Option A → Call A → List (Effect A) → Type 0
-Goes c who ms (Next.Step l t o) v k es = At c who ms l t o v k es
+Goes c who ms (Next.Step l t o) v k es = At c who ms (stand l t o v k es)
 Goes {A} c who ms (Next.Reply x spare) v k es =
     Holds c who Nothing × GivesUp c who spare × ((y : Reply A) × (filled x v ≡ Some y) × Tells k y es × (es ≡ [] → SeenIn ms (Allows k y)))
 

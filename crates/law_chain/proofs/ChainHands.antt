@@ -1,7 +1,8 @@
 -- Which block a party keeps alive: its spare, or a passed block that it still reads or walks over. It is never two.
 use Rattle.std.proofs.Common.{ℕ, ◌/◌, ◌≡◌, ◌≢◌, ◌∙◌, ◌⊎◌, inl, inr, Bool, true, false, Option, Some, None, List, refl, sym, ap}
-use Rattle.law_common.specs.Vocabulary.{Call, Effect, Op, Touch, Local, BLOCK_SLOTS}
+use Rattle.law_common.specs.Vocabulary.{BLOCK_SLOTS}
 use Rattle.queue_steps.specs.State.{State}
+use Rattle.law_common.specs.Stand.{Stand}
 use Rattle.law_chain.specs.ChainCells.{Reading, Laying, Opening, Walker, Spare, Chain, Part, Write, Read, Tail, Head, Next, First, Passed, reader_of, mover_of, walker_of, Holds, Nothing}
 use Rattle.law_chain.specs.ChainAt.{Only, Either, At, push_tail, push_block, asking, installing, showing, claiming, laying, opening, chaining, writing, spending, pop_head, pop_block, pop_tail, taking, following, peeking, passing, entering, awaiting, reading, beginning, walking, destroying, len_tail, len_head, len_again, empty_head, empty_tail, closing, closed_tail}
 use Rattle.law_chain.specs.ChainPasses.{spare_in, Spares}
@@ -81,7 +82,7 @@ with_walk c who b holds only = (
 )
 
 -- what a party has in its hand at each place of its call
-pub in_hand : {A : Type 0} {c : Chain A} {who : ℕ} {ms : List (State A)} {l : Local ℕ} {t : Touch} {o : Op ℕ} {v : Option A} {k : Call A} {es : List (Effect A)} → At c who ms l t o v k es → Spares c who (spare_in l) → (h : Hand) × InHand c who h
+pub in_hand : {A : Type 0} {c : Chain A} {who : ℕ} {ms : List (State A)} {k : Stand A} → At c who ms k → Spares c who (spare_in k.local) → (h : Hand) × InHand c who h
 in_hand {c = c} {who = who} (push_tail d x spare none spare_is) only = with_nothing c who spare none only
 in_hand {c = c} {who = who} (push_block d x spare q none spare_is saw) only = with_nothing c who spare none only
 in_hand {c = c} {who = who} (asking d x q block none saw asked) only = with_nothing c who None none only

@@ -1,11 +1,12 @@
 -- Each step of a call on a chain leaves fewer steps before it while no other party holds a part of the chain, and each step of a wait-free call always.
-use Rattle.std.proofs.Common.{true, ℕ, ◌+◌, ◌/◌, ◌%◌, ◌<◌, ◌≤◌, ◌≡◌, ◌==◌, not, ◌∙◌, inl, inr, Option, List, refl, sym, ap, subst, arith, bit_and}
-use Rattle.law_common.specs.Vocabulary.{Call, Effect, Op, Touch, Answer, Local, BLOCK_SLOTS, READ, DESTROY}
+use Rattle.std.proofs.Common.{true, ℕ, ◌+◌, ◌/◌, ◌%◌, ◌<◌, ◌≤◌, ◌≡◌, ◌==◌, not, ◌∙◌, inl, inr, List, refl, sym, ap, subst, arith, bit_and}
+use Rattle.law_common.specs.Vocabulary.{Answer, BLOCK_SLOTS, READ, DESTROY}
 use Rattle.queue_steps.specs.WaitFree.{is_wait_free}
 use Rattle.queue_steps.specs.State.{State}
 use Rattle.queue_steps.specs.ChainWords.{offset_of}
 use Rattle.queue_steps.specs.UnboundedNext.{unbounded_next}
 use Rattle.law_common.proofs.Pushes.{never_push}
+use Rattle.law_common.specs.Stand.{Stand}
 use Rattle.law_chain.specs.ChainCells.{Reading, Unread, Chain, ChainOk, item_at, LAST, Write, Read, Head, Next, First, Passed, Nothing}
 use Rattle.law_chain.proofs.ChainReads.{own_item}
 use Rattle.law_chain.specs.ChainFacts.{head_of, open_tail_of}
@@ -19,8 +20,8 @@ use Rattle.law_chain.proofs.ChainRanksPop.{stands, head_falls, pop_block_falls, 
 use Rattle.law_chain.proofs.ChainRanksWalk.{maybe_on_falls, walking_falls, done_then, last_claimed, len_again_falls}
 
 -- each step of a call that is alone leaves fewer steps before it
-pub step_falls : {A : Type 0} {c : Chain A} {who : ℕ} {ms : List (State A)} {l : Local ℕ} {t : Touch} {o : Op ℕ} {v : Option A} {k : Call A} {es : List (Effect A)} (at : At c who ms l t o v k es) (a : Answer ℕ)
-    → ChainOk c → Answers c o a → IsQuiet c who → Falls (after_of at a) (unbounded_next (chain_of l) a) (rank c l)
+pub step_falls : {A : Type 0} {c : Chain A} {who : ℕ} {ms : List (State A)} {k : Stand A} (at : At c who ms k) (a : Answer ℕ)
+    → ChainOk c → Answers c k.op a → IsQuiet c who → Falls (after_of at a) (unbounded_next (chain_of k.local) a) (rank c k.local)
 step_falls {c = c} {who = who} (push_tail d x spare none spare_is) a ok found quiet = rw found (push_tail_falls c d spare (rests c who Nothing quiet none (λ z. z)))
 step_falls {c = c} {who = who} (push_block d x spare q none spare_is saw) a ok found quiet = rw found (push_block_falls c d (open_tail_of q) spare)
 step_falls {c = c} {who = who} (asking d x q block none saw asked) a ok (inl refused) quiet = rw refused tt
@@ -77,8 +78,8 @@ step_falls (closing none) a ok found quiet = rw found tt
 step_falls (closed_tail none) a ok found quiet = rw found tt
 
 -- each step of a wait-free call leaves fewer steps before it, whoever holds a part
-pub wait_free_falls : {A : Type 0} {c : Chain A} {who : ℕ} {ms : List (State A)} {l : Local ℕ} {t : Touch} {o : Op ℕ} {v : Option A} {k : Call A} {es : List (Effect A)} (at : At c who ms l t o v k es) (a : Answer ℕ)
-    → Answers c o a → is_wait_free k ≡ true → Falls (after_of at a) (unbounded_next (chain_of l) a) (rank c l)
+pub wait_free_falls : {A : Type 0} {c : Chain A} {who : ℕ} {ms : List (State A)} {k : Stand A} (at : At c who ms k) (a : Answer ℕ)
+    → Answers c k.op a → is_wait_free k.call ≡ true → Falls (after_of at a) (unbounded_next (chain_of k.local) a) (rank c k.local)
 wait_free_falls (push_tail d x spare none spare_is) a found wait_free = absurd (never_push d x wait_free)
 wait_free_falls (push_block d x spare q none spare_is saw) a found wait_free = absurd (never_push d x wait_free)
 wait_free_falls (asking d x q block none saw asked) a found wait_free = absurd (never_push d x wait_free)
@@ -97,8 +98,8 @@ wait_free_falls (closed_tail none) a found wait_free = rw found tt
 wait_free_falls at a found wait_free = cc
 
 -- a wait-free call has two steps before it at most, whatever the chain
-pub wait_free_small : {A : Type 0} {c : Chain A} {who : ℕ} {ms : List (State A)} {l : Local ℕ} {t : Touch} {o : Op ℕ} {v : Option A} {k : Call A} {es : List (Effect A)} (s : Chain A)
-    → At c who ms l t o v k es → is_wait_free k ≡ true → (rank s l ≤ 2) × (rank s l ≡ rank c l)
+pub wait_free_small : {A : Type 0} {c : Chain A} {who : ℕ} {ms : List (State A)} {k : Stand A} (s : Chain A)
+    → At c who ms k → is_wait_free k.call ≡ true → (rank s k.local ≤ 2) × (rank s k.local ≡ rank c k.local)
 wait_free_small s (push_tail d x spare none spare_is) wait_free = absurd (never_push d x wait_free)
 wait_free_small s (push_block d x spare q none spare_is saw) wait_free = absurd (never_push d x wait_free)
 wait_free_small s (asking d x q block none saw asked) wait_free = absurd (never_push d x wait_free)

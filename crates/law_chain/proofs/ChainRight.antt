@@ -4,9 +4,10 @@ use Rattle.queue_steps.specs.State.{State}
 use Rattle.queue_steps.specs.Kinds.{filled}
 use Rattle.queue_steps.specs.Replies.{Tells, Allows}
 use Rattle.queue_steps.specs.UnboundedNext.{FitsChain, unbounded_next}
-use Rattle.law_common.specs.Vocabulary.{Call, Reply, Effect, Op, Touch, Answer, Local, Next, UnboundedLocal}
+use Rattle.law_common.specs.Vocabulary.{Call, Reply, Effect, Answer, Next, UnboundedLocal}
 use Rattle.law_common.specs.Moments.{SeenIn}
 use Rattle.law_common.specs.Effects.{Leads, with_effect}
+use Rattle.law_common.specs.Stand.{Stand, stand}
 use Rattle.law_chain.specs.ChainCells.{Chain, queue_of, ChainOk, Holds, Nothing}
 use Rattle.law_chain.specs.ChainPasses.{Passes, spare_in, Spares}
 use Rattle.law_chain.specs.ChainAt.{At}
@@ -24,7 +25,7 @@ Gives r who (Next.Reply x spare) = GivesUp r who spare
 
 -- the call stands on, with no spare but that in its hands, or it ends with a reply that is right, and its party holds nothing
 abbrev pub Ends : {A : Type 0} → Chain A → ℕ → List (State A) → Next ℕ → Option A → Call A → List (Effect A) → Type 0
-Ends s who ms (Next.Step l t o) v k es = At s who ms l t o v k es × Spares s who (spare_in l)
+Ends s who ms (Next.Step l t o) v k es = At s who ms (stand l t o v k es) × Spares s who (spare_in l)
 Ends {A} s who ms (Next.Reply x spare) v k es = Holds s who Nothing × Spares s who None × ((y : Reply A) × (filled x v ≡ Some y) × Tells k y es × (es ≡ [] → SeenIn ms (Allows k y)))
 
 -- the step that got this answer leads from the chain c to r, and a block given up with it from there: it is a step of the queue
@@ -61,14 +62,14 @@ left_ends r who ms (Next.Reply x None) v k es goes only = (goes.0, only, goes.2)
 left_ends r who ms (Next.Reply x (Some f)) v k es goes only = (holds_given r who (Some f) Nothing goes.0, only, goes.2)
 
 -- each step of a call is right, wherever the call stands
-pub step_right : {A : Type 0} {c : Chain A} {who : ℕ} {ms : List (State A)} {l : Local ℕ} {t : Touch} {o : Op ℕ} {v : Option A} {k : Call A} {es : List (Effect A)} (at : At c who ms l t o v k es) (a : Answer ℕ)
-    → ChainOk c → Answers c o a → Spares c who (spare_in l) → Right c (after_of at a) who ms (chain_of l) (carried_of at) k es a
-step_right {c = c} {who = who} {ms = ms} {l = l} {k = k} {es = es} at a ok found only =
+pub step_right : {A : Type 0} {c : Chain A} {who : ℕ} {ms : List (State A)} {k : Stand A} (at : At c who ms k) (a : Answer ℕ)
+    → ChainOk c → Answers c k.op a → Spares c who (spare_in k.local) → Right c (after_of at a) who ms (chain_of k.local) (carried_of at) k.call k.effects a
+step_right {c = c} {who = who} {ms = ms} {k = k} at a ok found only =
     let good = step_good at a ok found in
     let r = after_of at a in
-    let n = unbounded_next (chain_of l) a in
+    let n = unbounded_next (chain_of k.local) a in
     let v = carried_of at in
-    let gives = goes_gives r who (queue_of r ∷ ms) n v k (with_effect es good.e) good.goes in
+    let gives = goes_gives r who (queue_of r ∷ ms) n v k.call (with_effect k.effects good.e) good.goes in
     record {
       e = good.e;
       told = good.told;
@@ -77,5 +78,5 @@ step_right {c = c} {who = who} {ms = ms} {l = l} {k = k} {es = es} at a ok found
       ok = left_ok r n good.ok;
       makes = left_makes c r n good.e good.makes;
       passes = left_passes c r who n good.ok gives good.passes;
-      ends = left_ends r who ms n v k (with_effect es good.e) good.goes (step_spares at a ok found only);
+      ends = left_ends r who ms n v k.call (with_effect k.effects good.e) good.goes (step_spares at a ok found only);
     }

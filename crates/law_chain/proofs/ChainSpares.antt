@@ -1,6 +1,6 @@
 -- A party never has a spare but that in its call's hands.
 use Rattle.std.proofs.Common.{ℕ, ◌+◌, ◌/◌, ◌≡◌, ◌==◌, ◌∙◌, inl, inr, zero, suc, Bool, true, false, if◌then◌else◌, Option, Some, None, List, ◌∷◌, refl, sym, subst}
-use Rattle.law_common.specs.Vocabulary.{Call, Effect, Op, Touch, Answer, Local, Next, PushKind, BLOCK_SLOTS}
+use Rattle.law_common.specs.Vocabulary.{Call, Effect, Answer, Next, PushKind, BLOCK_SLOTS}
 use Rattle.queue_steps.specs.State.{State}
 use Rattle.queue_steps.specs.ChainWords.{offset_of}
 use Rattle.queue_steps.specs.UnboundedNext.{unbounded_next, chain_tail_found, tail_block_found, asks, claims, granted, lays, writes}
@@ -8,6 +8,7 @@ use Rattle.queue_steps.specs.declared.steps.unbounded.UnboundedLocal.TheVariants
 use Rattle.law_common.proofs.Puts.{put_ok}
 use Rattle.law_common.specs.Effects.{with_effect}
 use Rattle.law_common.specs.Pushes.{pushes}
+use Rattle.law_common.specs.Stand.{Stand}
 use Rattle.law_chain.specs.ChainCells.{Spare, Chained, Chain, queue_of, item_at, ChainOk}
 use Rattle.law_chain.specs.ChainTransitions.{laid_out, written, marked, renamed, walk_after, walked, given_up}
 use Rattle.law_chain.specs.ChainFacts.{head_of, open_tail_of, HasSpare}
@@ -39,7 +40,7 @@ no_push : {A : Type 0} (d : PushKind) (v : A) (X : Type 0) → is_push (pushes d
 no_push d v X e = let z : true ≡ false = sym (push_is d v) ∙ e in cc
 
 -- a call that is no push has no spare in its hands
-no_spare : {A : Type 0} {c : Chain A} {who : ℕ} {ms : List (State A)} {l : Local ℕ} {t : Touch} {o : Op ℕ} {v : Option A} {k : Call A} {es : List (Effect A)} → At c who ms l t o v k es → is_push k ≡ false → spare_in l ≡ None
+no_spare : {A : Type 0} {c : Chain A} {who : ℕ} {ms : List (State A)} {k : Stand A} → At c who ms k → is_push k.call ≡ false → spare_in k.local ≡ None
 no_spare (push_tail d x spare none spare_is) e = no_push d x (spare ≡ None) e
 no_spare (push_block d x spare q none spare_is saw) e = no_push d x (spare ≡ None) e
 no_spare (installing d x f none saw fresh) e = no_push d x (Some f ≡ None) e
@@ -108,8 +109,8 @@ if_uses c s who true a b = b
 if_uses c s who false a b = a
 
 -- the step of a call that is no push makes no spare
-others_uses : {A : Type 0} {c : Chain A} {who : ℕ} {ms : List (State A)} {l : Local ℕ} {t : Touch} {o : Op ℕ} {v : Option A} {k : Call A} {es : List (Effect A)} (at : At c who ms l t o v k es) (a : Answer ℕ)
-    → is_push k ≡ false → Spares c who None → Spares (after_of at a) who None
+others_uses : {A : Type 0} {c : Chain A} {who : ℕ} {ms : List (State A)} {k : Stand A} (at : At c who ms k) (a : Answer ℕ)
+    → is_push k.call ≡ false → Spares c who None → Spares (after_of at a) who None
 others_uses {c = c} {who = who} (asking d x q block none saw asked) a other_call only = no_push d x (Spares (if_granted c who a) who None) other_call
 others_uses {c = c} {who = who} (installing d x f none saw fresh) a other_call only = no_push d x (Spares (if_installed c who f c.blocks) who None) other_call
 others_uses {c = c} {who = who} (claiming d x q name spare none spare_is saw block enough) a other_call only = no_push d x (Spares (if_claimed c who q x) who None) other_call
@@ -118,15 +119,15 @@ others_uses {c = c} {who = who} (taking n name next more new none is front there
 others_uses {c = c} {who = who} (walking x b name slot holds is named) a other_call only = if_uses c (walked c b (walk_after who slot)) who (is_done (c.readers (item_at b slot))) only only
 others_uses _ a other_call only = only
 
-others_step : {A : Type 0} {c : Chain A} {who : ℕ} {ms : List (State A)} {l : Local ℕ} {t : Touch} {o : Op ℕ} {v : Option A} {k : Call A} {es : List (Effect A)} (at : At c who ms l t o v k es) (a : Answer ℕ)
-    → ChainOk c → Answers c o a → is_push k ≡ false → Spares c who None → SparesAfter (after_of at a) who (unbounded_next (chain_of l) a)
-others_step {c = c} {who = who} {ms = ms} {l = l} {k = k} {es = es} at a ok found other_call only =
+others_step : {A : Type 0} {c : Chain A} {who : ℕ} {ms : List (State A)} {k : Stand A} (at : At c who ms k) (a : Answer ℕ)
+    → ChainOk c → Answers c k.op a → is_push k.call ≡ false → Spares c who None → SparesAfter (after_of at a) who (unbounded_next (chain_of k.local) a)
+others_step {c = c} {who = who} {ms = ms} {k = k} at a ok found other_call only =
     let good = step_good at a ok found in
-    others_spares (after_of at a) who (queue_of (after_of at a) ∷ ms) (unbounded_next (chain_of l) a) (carried_of at) k (with_effect es good.e) other_call good.goes (others_uses at a other_call only)
+    others_spares (after_of at a) who (queue_of (after_of at a) ∷ ms) (unbounded_next (chain_of k.local) a) (carried_of at) k.call (with_effect k.effects good.e) other_call good.goes (others_uses at a other_call only)
 
 -- after each step of its own the party has no spare but that in its hands
-pub step_spares : {A : Type 0} {c : Chain A} {who : ℕ} {ms : List (State A)} {l : Local ℕ} {t : Touch} {o : Op ℕ} {v : Option A} {k : Call A} {es : List (Effect A)} (at : At c who ms l t o v k es) (a : Answer ℕ)
-    → ChainOk c → Answers c o a → Spares c who (spare_in l) → SparesAfter (after_of at a) who (unbounded_next (chain_of l) a)
+pub step_spares : {A : Type 0} {c : Chain A} {who : ℕ} {ms : List (State A)} {k : Stand A} (at : At c who ms k) (a : Answer ℕ)
+    → ChainOk c → Answers c k.op a → Spares c who (spare_in k.local) → SparesAfter (after_of at a) who (unbounded_next (chain_of k.local) a)
 step_spares {c = c} {who = who} (push_tail d x spare none spare_is) a ok found only = rw found (tail_spares c who d (tail_word c) spare only)
 step_spares {c = c} {who = who} (push_block d x spare q none spare_is saw) a ok found only = rw found (block_spares c who d (open_tail_of q) spare c.blocks refl spare_is only)
 step_spares {c = c} {who = who} (asking d x q block none saw asked) a ok (inl refused) only = rw refused only

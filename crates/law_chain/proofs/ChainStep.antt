@@ -1,8 +1,9 @@
 -- Each step of a call on a chain, wherever the call stands, is right.
-use Rattle.std.proofs.Common.{ℕ, ◌+◌, ◌/◌, ◌≡◌, inl, inr, Option, List, refl, subst, arith}
-use Rattle.law_common.specs.Vocabulary.{Call, Effect, Op, Touch, Answer, Local, BLOCK_SLOTS}
+use Rattle.std.proofs.Common.{ℕ, ◌+◌, ◌/◌, ◌≡◌, inl, inr, List, refl, subst, arith}
+use Rattle.law_common.specs.Vocabulary.{Answer, Local, BLOCK_SLOTS}
 use Rattle.queue_steps.specs.State.{State}
 use Rattle.queue_steps.specs.ChainWords.{offset_of}
+use Rattle.law_common.specs.Stand.{Stand}
 use Rattle.law_chain.specs.ChainCells.{Chain, ChainOk}
 use Rattle.law_chain.specs.ChainFacts.{head_of}
 use Rattle.law_chain.specs.ChainAt.{At, push_tail, push_block, asking, installing, showing, claiming, laying, opening, chaining, writing, spending, pop_head, pop_block, pop_tail, taking, following, peeking, passing, entering, awaiting, reading, beginning, walking, destroying, len_tail, len_head, len_again, empty_head, empty_tail, closing, closed_tail}
@@ -22,13 +23,13 @@ use Rattle.law_chain.proofs.ChainLook.{good_closed_tail, good_len_tail, good_len
 use Rattle.law_chain.proofs.ChainIsEmpty.{good_empty_tail}
 
 -- a call that stands on a chain is at a local state of a chain
-pub is_chain : {A : Type 0} {c : Chain A} {who : ℕ} {ms : List (State A)} {l : Local ℕ} {t : Touch} {o : Op ℕ} {v : Option A} {k : Call A} {es : List (Effect A)} → At c who ms l t o v k es → l ≡ Local.Unbounded (chain_of l)
+pub is_chain : {A : Type 0} {c : Chain A} {who : ℕ} {ms : List (State A)} {k : Stand A} → At c who ms k → k.local ≡ Local.Unbounded (chain_of k.local)
 is_chain (push_tail d x spare none spare_is) = refl
 is_chain x = refl
 
 -- each step of a call is right
-pub step_good : {A : Type 0} {c : Chain A} {who : ℕ} {ms : List (State A)} {l : Local ℕ} {t : Touch} {o : Op ℕ} {v : Option A} {k : Call A} {es : List (Effect A)} (at : At c who ms l t o v k es) (a : Answer ℕ)
-    → ChainOk c → Answers c o a → Good c (after_of at a) who ms (chain_of l) (carried_of at) k es a
+pub step_good : {A : Type 0} {c : Chain A} {who : ℕ} {ms : List (State A)} {k : Stand A} (at : At c who ms k) (a : Answer ℕ)
+    → ChainOk c → Answers c k.op a → Good c (after_of at a) who ms (chain_of k.local) (carried_of at) k.call k.effects a
 step_good {c = c} {who = who} {ms = ms} (push_tail d x spare none spare_is) a ok found = rw found (good_push_tail c who ms d x spare ok none spare_is)
 step_good {c = c} {who = who} {ms = ms} (push_block d x spare q none spare_is saw) a ok found = rw found (good_push_block c who ms d x spare q ok none spare_is saw)
 step_good {c = c} {who = who} {ms = ms} (asking d x q block none saw asked) a ok (inl refused) = rw refused (good_refused c who ms d x q block ok none saw asked)

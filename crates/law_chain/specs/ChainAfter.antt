@@ -1,7 +1,8 @@
 -- The chain after each step of a call, by what the step found, and what the call carries then.
 use Rattle.std.proofs.Common.{ℕ, ◌+◌, ◌/◌, ◌==◌, zero, suc, Bool, true, false, if◌then◌else◌, Option, Some, None, List}
-use Rattle.law_common.specs.Vocabulary.{Call, Effect, Op, Touch, Answer, Local, Next, UnboundedLocal, BLOCK_SLOTS}
+use Rattle.law_common.specs.Vocabulary.{Answer, Local, Next, UnboundedLocal, BLOCK_SLOTS}
 use Rattle.queue_steps.specs.ChainWords.{offset_of}
+use Rattle.law_common.specs.Stand.{Stand}
 use Rattle.law_chain.specs.ChainCells.{Rests, Laying, Stands, Passing, Walker, Waits, Chain, item_at, Spare}
 use Rattle.law_chain.specs.ChainTransitions.{appended, installed, taken, reads, walk_after, walked, displayed, laid_out, opened, chained, written, marked, renamed, passed, entered, given_up}
 use Rattle.law_chain.specs.ChainFacts.{head_of, open_tail_of}
@@ -57,11 +58,11 @@ chain_of (Local.Unbounded l) = l
 chain_of _ = chain.PopHead
 
 -- what the call carries after its touch: nothing once its item is put, the item once that is taken
-abbrev pub carried_of : {A : Type 0} {c : Chain A} {who : ℕ} {ms : List (State A)} {l : Local ℕ} {t : Touch} {o : Op ℕ} {v : Option A} {k : Call A} {es : List (Effect A)} → At c who ms l t o v k es → Option A
+abbrev pub carried_of : {A : Type 0} {c : Chain A} {who : ℕ} {ms : List (State A)} {k : Stand A} → At c who ms k → Option A
 carried_of (writing d x n name spare holds mine spare_is) = None
 carried_of (reading x n name more holds got wrote inner) = Some x
 carried_of (beginning x n name more holds got wrote last) = Some x
-carried_of {v = v} _ = v
+carried_of {k = k} _ = k.carried
 
 -- U3: the block is the call's, where it was granted
 abbrev pub if_granted : {A : Type 0} → Chain A → ℕ → Answer ℕ → Chain A
@@ -69,7 +70,7 @@ if_granted c who (Answer.Granted f) = renamed c f (Spare who)
 if_granted c who _ = c
 
 -- the chain after the step that got this answer
-abbrev pub after_of : {A : Type 0} {c : Chain A} {who : ℕ} {ms : List (State A)} {l : Local ℕ} {t : Touch} {o : Op ℕ} {v : Option A} {k : Call A} {es : List (Effect A)} → At c who ms l t o v k es → Answer ℕ → Chain A
+abbrev pub after_of : {A : Type 0} {c : Chain A} {who : ℕ} {ms : List (State A)} {k : Stand A} → At c who ms k → Answer ℕ → Chain A
 after_of {c = c} {who = who} (asking d x q block none saw asked) a = if_granted c who a
 after_of {c = c} {who = who} (installing d x f none saw fresh) a = if_installed c who f c.blocks
 after_of {c = c} (showing d x name first saw is named) a = displayed c

@@ -3,3 +3,4 @@ pub mod Effects
 pub mod Moments
 pub mod Pushes
 pub mod Puts
+pub mod Stand

@@ -1,9 +1,10 @@
 -- A call on a ring that has had no effect yet has no slot, and still carries its own value: so its party may give it up.
-use Rattle.std.proofs.Common.{ℕ, ◌≡◌, true, false, Bool, Option, Some, List, [], refl}
+use Rattle.std.proofs.Common.{ℕ, ◌≡◌, true, false, Bool, Some, List, [], refl}
 use Rattle.queue_steps.specs.State.{State}
 use Rattle.queue_steps.specs.Kinds.{call_value}
-use Rattle.law_common.specs.Vocabulary.{Call, Effect, Op, Touch, Local, PushKind}
+use Rattle.law_common.specs.Vocabulary.{PushKind}
 use Rattle.law_common.specs.Pushes.{pushes}
+use Rattle.law_common.specs.Stand.{Stand}
 use Rattle.law_ring.specs.RingCells.{Ring, HoldsNone}
 use Rattle.law_ring.specs.RingEarly.{IsEarly}
 use Rattle.law_ring.specs.RingAt.{At, push_tail, push_stamp, claiming, push_head, displacing, spending, pop_head, pop_stamp, taking, pop_tail, len_tail, len_head, len_again, empty_head, empty_tail, full_tail, full_head, closing, closed_tail}
@@ -12,8 +13,8 @@ pushed : {A : Type 0} (d : PushKind) (v : A) → Some v ≡ call_value (pushes d
 pushed PushKind.Push v = refl
 pushed PushKind.Force v = refl
 
-pub early : {A : Type 0} {cap : ℕ} {r : Ring A} {who : ℕ} {ms : List (State A)} {was : Bool} {l : Local ℕ} {t : Touch} {o : Op ℕ} {v : Option A} {k : Call A} {es : List (Effect A)}
-    → IsEarly l → At cap r who ms was l t o v k es → (es ≡ []) × HoldsNone r.cells who × (v ≡ call_value k)
+pub early : {A : Type 0} {cap : ℕ} {r : Ring A} {who : ℕ} {ms : List (State A)} {was : Bool} {c : Stand A}
+    → IsEarly c.local → At cap r who ms was c → (c.effects ≡ []) × HoldsNone r.cells who × (c.carried ≡ call_value c.call)
 early is (push_tail d v none) = (refl, none, pushed d v)
 early is (push_stamp d v t none saw) = (refl, none, pushed d v)
 early is (claiming d v t none saw free) = (refl, none, pushed d v)

@@ -20,6 +20,7 @@ use Rattle.law_ring.specs.RingTransitions.{marked}
 use Rattle.law_ring.proofs.RingTransitions.{mark_ok}
 use Rattle.law_ring.proofs.RingHands.{Shift, Rests}
 use Rattle.law_ring.specs.RingAt.{SawTail, At}
+use Rattle.law_common.specs.Stand.{Stand, stand}
 use Rattle.law_ring.proofs.RingRanks.{rank}
 
 -- no other party holds a slot
@@ -30,11 +31,17 @@ IsQuiet r who = (other : ℕ) → other ≢ who → HoldsNone r.cells other
 abbrev pub IsCalm : {A : Type 0} → Ring A → ℕ → Call A → Type 0
 IsCalm r who k = is_wait_free k ≡ false → IsQuiet r who
 
--- the call goes on with fewer steps before it, if it is calm, or ends with a reply that is right, and holds nothing
-abbrev pub Goes : {A : Type 0} → ℕ → Ring A → Ring A → ℕ → List (State A) → Bool → Next ℕ → Option A → Call A → List (Effect A) → ℕ → Type 0
-Goes cap r s who ms was (Next.Step l t o) v k es n = At cap s who ms was l t o v k es × (IsCalm r who k → rank cap s l < n)
-Goes {A} cap r s who ms was (Next.Reply x spare) v k es n =
-    HoldsNone s.cells who × (spare ≡ None) × ((y : Reply A) × (filled x v ≡ Some y) × Tells k y es × (es ≡ [] → SeenIn ms (λ m. IsRightAt m k y)))
+module _ {A : Type 0} (cap : ℕ) (r s : Ring A) (who : ℕ) (ms : List (State A)) (was : Bool) where
+  -- the call goes on with fewer steps before it, if it is calm, or ends with a reply that is right, and holds nothing
+  abbrev pub Goes : Next ℕ → Option A → Call A → List (Effect A) → ℕ → Type 0
+  Goes (Next.Step l t o) v k es n = At cap s who ms was (stand l t o v k es) × (IsCalm r who k → rank cap s l < n)
+  Goes (Next.Reply x spare) v k es n =
+      HoldsNone s.cells who × (spare ≡ None) × ((y : Reply A) × (filled x v ≡ Some y) × Tells k y es × (es ≡ [] → SeenIn ms (λ m. IsRightAt m k y)))
+
+module _ {A : Type 0} (cap : ℕ) (r : Ring A) (who : ℕ) (ms : List (State A)) (was : Bool) where
+  -- so after a step that leaves the ring as it is
+  abbrev pub Stays : Next ℕ → Option A → Call A → List (Effect A) → ℕ → Type 0
+  Stays = Goes cap r r who (queue_of cap r ∷ ms) (was || not r.closed)
 
 -- The effect of the step at this local state that got this answer: the exchange of the tail or the head that wins, the tail that moves on, and
 -- the mark on an open tail. A front leaves only by a call that has seen the queue open
@@ -49,67 +56,67 @@ IsEffect cap was (Local.Bounded l) a e = e ≡ None
 IsEffect cap was _ a e = ⊥
 
 -- the next step of the call can be taken, and is a step of the queue that leaves the ring right
-pub record Good {A : Type 0} (cap : ℕ) (r : Ring A) (who : ℕ) (s : Shared A) (ms : List (State A)) (was : Bool) (l : Local ℕ) (t : Touch) (o : Op ℕ) (v : Option A) (k : Call A) (es : List (Effect A)) : Type 0 where
+pub record Good {A : Type 0} (cap : ℕ) (r : Ring A) (who : ℕ) (s : Shared A) (ms : List (State A)) (was : Bool) (c : Stand A) : Type 0 where
   pub after : Ring A
   pub e : Option (Effect A)
-  pub touches : CanTouch s t
-  pub operates : CanOperate (touched s t v) o
-  pub goes_on : CanNext (Kind.Bounded cap) l (answered (touched s t v) o)
+  pub touches : CanTouch s c.touch
+  pub operates : CanOperate (touched s c.touch c.carried) c.op
+  pub goes_on : CanNext (Kind.Bounded cap) c.local (answered (touched s c.touch c.carried) c.op)
   pub ok : RingOk cap after
-  pub codes : Codes cap after (operated (touched s t v) o)
-  pub told : IsEffect cap was l (answered (touched s t v) o) e
+  pub codes : Codes cap after (operated (touched s c.touch c.carried) c.op)
+  pub told : IsEffect cap was c.local (answered (touched s c.touch c.carried) c.op) e
   pub makes : Leads (queue_of cap r) e (queue_of cap after)
   pub passes : Passes who r after
-  pub shift : Shift cap who r after t v
-  pub goes : Goes cap r after who (queue_of cap after ∷ ms) (was || not after.closed) (next_of (Kind.Bounded cap) l (answered (touched s t v) o)) (handed s t v) k (with_effect es e) (rank cap r l)
+  pub shift : Shift cap who r after c.touch c.carried
+  pub goes : Goes cap r after who (queue_of cap after ∷ ms) (was || not after.closed) (next_of (Kind.Bounded cap) c.local (answered (touched s c.touch c.carried) c.op)) (handed s c.touch c.carried) c.call (with_effect c.effects e) (rank cap r c.local)
 
--- a step that changes nothing
-pub still : {A : Type 0} (cap : ℕ) (r : Ring A) (who : ℕ) (s : Shared A) (ms : List (State A)) (was : Bool) (l : Local ℕ) (o : Op ℕ) (v : Option A) (k : Call A) (es : List (Effect A))
-    → RingOk cap r → Codes cap r s → CanOperate s o → operated s o ≡ s
-    → CanNext (Kind.Bounded cap) l (answered s o) → IsEffect {A = A} cap was l (answered s o) None
-    → Goes cap r r who (queue_of cap r ∷ ms) (was || not r.closed) (next_of (Kind.Bounded cap) l (answered s o)) v k es (rank cap r l)
-    → Good cap r who s ms was l Touch.Nothing o v k es
-still cap r who s ms was l o v k es ok codes operates same goes_on told goes = record {
-  after = r;
-  e = None;
-  touches = tt;
-  operates = operates;
-  goes_on = goes_on;
-  ok = ok;
-  codes = subst (λ x. Codes cap r x) (sym same) codes;
-  told = told;
-  makes = refl;
-  passes = passes_same who r;
-  shift = Rests refl refl;
-  goes = goes;
-}
+module _ {A : Type 0} {cap : ℕ} {r : Ring A} {who : ℕ} {s : Shared A} {ms : List (State A)} {was : Bool} (ok : RingOk cap r) (codes : Codes cap r s) where
+  -- a step that changes nothing
+  pub still : {l : Local ℕ} {o : Op ℕ} {v : Option A} {k : Call A} {es : List (Effect A)}
+      → CanOperate s o → operated s o ≡ s → CanNext (Kind.Bounded cap) l (answered s o) → IsEffect {A = A} cap was l (answered s o) None
+      → Stays cap r who ms was (next_of (Kind.Bounded cap) l (answered s o)) v k es (rank cap r l)
+      → Good cap r who s ms was (stand l Touch.Nothing o v k es)
+  still operates same goes_on told goes = record {
+    after = r;
+    e = None;
+    touches = tt;
+    operates = operates;
+    goes_on = goes_on;
+    ok = ok;
+    codes = subst (λ x. Codes cap r x) (sym same) codes;
+    told = told;
+    makes = refl;
+    passes = passes_same who r;
+    shift = Rests refl refl;
+    goes = goes;
+  }
 
--- the mark of the tail, whether it closes the ring or finds it closed
-pub marks : {A : Type 0} (cap : ℕ) (r : Ring A) (who : ℕ) (s : Shared A) (ms : List (State A)) (was : Bool) (l : Local ℕ) (v : Option A) (k : Call A) (es : List (Effect A)) (e : Option (Effect A))
-    → RingOk cap r → Codes cap r s → CanNext (Kind.Bounded cap) l (Answer.Found s.tail) → IsEffect cap was l (Answer.Found s.tail) e → Leads (queue_of cap r) e (queue_of cap (marked r))
-    → Goes cap r (marked r) who (queue_of cap (marked r) ∷ ms) (was || not (marked r).closed) (next_of (Kind.Bounded cap) l (Answer.Found s.tail)) v k (with_effect es e) (rank cap r l)
-    → Good cap r who s ms was l Touch.Nothing (Op.Or Word.Tail MARK) v k es
-marks cap r who s ms was l v k es e ok codes goes_on told makes goes = record {
-  after = marked r;
-  e = e;
-  touches = tt;
-  operates = tt;
-  goes_on = goes_on;
-  ok = mark_ok cap r ok;
-  codes = record {
-    head = codes.head;
-    tail = ap (λ n. bit_or n MARK) codes.tail ∙ mark_tail r.tail r.closed;
-    stamped = codes.stamped;
-    slotted = codes.slotted;
-    stamp = codes.stamp;
-    slot = codes.slot;
-  };
-  told = told;
-  makes = makes;
-  passes = passes_marked who r;
-  shift = Rests refl refl;
-  goes = goes;
-}
+  -- the mark of the tail, whether it closes the ring or finds it closed
+  pub marks : {l : Local ℕ} {v : Option A} {k : Call A} {es : List (Effect A)} (e : Option (Effect A))
+      → CanNext (Kind.Bounded cap) l (Answer.Found s.tail) → IsEffect cap was l (Answer.Found s.tail) e → Leads (queue_of cap r) e (queue_of cap (marked r))
+      → Goes cap r (marked r) who (queue_of cap (marked r) ∷ ms) (was || not (marked r).closed) (next_of (Kind.Bounded cap) l (Answer.Found s.tail)) v k (with_effect es e) (rank cap r l)
+      → Good cap r who s ms was (stand l Touch.Nothing (Op.Or Word.Tail MARK) v k es)
+  marks e goes_on told makes goes = record {
+    after = marked r;
+    e = e;
+    touches = tt;
+    operates = tt;
+    goes_on = goes_on;
+    ok = mark_ok cap r ok;
+    codes = record {
+      head = codes.head;
+      tail = ap (λ n. bit_or n MARK) codes.tail ∙ mark_tail r.tail r.closed;
+      stamped = codes.stamped;
+      slotted = codes.slotted;
+      stamp = codes.stamp;
+      slot = codes.slot;
+    };
+    told = told;
+    makes = makes;
+    passes = passes_marked who r;
+    shift = Rests refl refl;
+    goes = goes;
+  }
 
 -- a mark that finds the ring closed
 pub marks_closed : {A : Type 0} (cap : ℕ) (r : Ring A) → r.closed ≡ true → queue_of cap (marked r) ≡ queue_of cap r

@@ -1,13 +1,14 @@
 -- How many steps a call on a ring takes at most from where it stands, while no other party holds a slot.
-use Rattle.std.proofs.Common.{ℕ, ◌+◌, ◌<◌, ◌≤◌, ◌≡◌, ◌==◌, Bool, true, if◌then◌else◌, Option, List, refl, ap, arith}
+use Rattle.std.proofs.Common.{ℕ, ◌+◌, ◌<◌, ◌≤◌, ◌≡◌, ◌==◌, Bool, true, if◌then◌else◌, List, refl, ap, arith}
 use Rattle.std.proofs.lemmas.Bool.{eq-eqb}
 use Rattle.queue_steps.specs.State.{State}
 use Rattle.queue_steps.specs.WaitFree.{is_wait_free}
 use Rattle.queue_steps.specs.Words.{position_of, tail_of}
-use Rattle.law_common.specs.Vocabulary.{Call, Effect, Op, Touch, Local}
+use Rattle.law_common.specs.Vocabulary.{Local}
 use Rattle.queue_steps.specs.declared.steps.bounded.BoundedLocal.TheVariants as ring
 use Rattle.law_common.proofs.Ranks.{either_small, either_some}
 use Rattle.law_common.proofs.Pushes.{never_push}
+use Rattle.law_common.specs.Stand.{Stand}
 use Rattle.law_ring.specs.RingCells.{Ring}
 use Rattle.law_ring.specs.RingAt.{At, push_tail, push_stamp, claiming, filling, push_head, displacing, arriving, swapping, spending, pop_head, pop_stamp, taking, emptying, pop_tail, len_tail, len_head, len_again, empty_head, empty_tail, full_tail, full_head, closing, closed_tail}
 
@@ -63,8 +64,8 @@ rank_some cap r (Local.Bounded (ring.LenAgain t h)) = either_some (t == tail_of 
 rank_some cap r l = omega arith
 
 -- how many steps a wait-free call has before it does not hang on the ring
-pub wait_free_rank : {A : Type 0} {cap : ℕ} {r : Ring A} {who : ℕ} {ms : List (State A)} {was : Bool} {l : Local ℕ} {t : Touch} {o : Op ℕ} {v : Option A} {k : Call A} {es : List (Effect A)} (s : Ring A)
-    → At cap r who ms was l t o v k es → is_wait_free k ≡ true → rank cap s l ≡ rank cap r l
+pub wait_free_rank : {A : Type 0} {cap : ℕ} {r : Ring A} {who : ℕ} {ms : List (State A)} {was : Bool} {c : Stand A} (s : Ring A)
+    → At cap r who ms was c → is_wait_free c.call ≡ true → rank cap s c.local ≡ rank cap r c.local
 wait_free_rank {cap = cap} {r = r} s (push_tail d v none) e = refl
 wait_free_rank {cap = cap} {r = r} s (push_stamp d v t none saw) e = absurd (never_push d v e)
 wait_free_rank {cap = cap} {r = r} s (claiming d v t none saw free) e = absurd (never_push d v e)

@@ -1,10 +1,11 @@
 -- Where a call on a ring begins, which slot it touches, and what is coming behind a front.
-use Rattle.std.proofs.Common.{ℕ, ◌+◌, ◌%◌, ◌≡◌, ◌∙◌, Bool, Option, Some, List, sym, ap}
+use Rattle.std.proofs.Common.{ℕ, ◌+◌, ◌%◌, ◌≡◌, ◌∙◌, Bool, Some, List, sym, ap}
 use Rattle.queue_steps.specs.State.{State}
 use Rattle.queue_steps.specs.Kinds.{call_kind}
 use Rattle.queue_steps.specs.BoundedNext.{bounded_begin}
-use Rattle.law_common.specs.Vocabulary.{Call, Effect, Op, Touch, Local, PushKind}
+use Rattle.law_common.specs.Vocabulary.{Call, PushKind}
 use Rattle.queue_steps.specs.Words.{position_of}
+use Rattle.law_common.specs.Stand.{Stand}
 use Rattle.law_ring.specs.RingCells.{Coming, Ring, CellOk, RingOk, owner, HoldsNone}
 use Rattle.law_ring.proofs.RingCells.{wraps}
 use Rattle.law_ring.proofs.RingTransitions.{in_ring}
@@ -23,8 +24,8 @@ at_first cap r who Call.Len none = len_tail none
 at_first cap r who Call.Capacity none = tt
 
 -- a slot that is touched is the party's own
-pub at_touches : {A : Type 0} {cap : ℕ} {r : Ring A} {who : ℕ} {ms : List (State A)} {was : Bool} {l : Local ℕ} {t : Touch} {o : Op ℕ} {v : Option A} {k : Call A} {es : List (Effect A)}
-    (i : ℕ) → At cap r who ms was l t o v k es → Touches t i → owner (r.cells i) ≡ Some who
+pub at_touches : {A : Type 0} {cap : ℕ} {r : Ring A} {who : ℕ} {ms : List (State A)} {was : Bool} {c : Stand A}
+    (i : ℕ) → At cap r who ms was c → Touches c.touch i → owner (r.cells i) ≡ Some who
 at_touches {r = r} i (filling d v q one) e = ap (λ n. owner (r.cells n)) (sym e) ∙ ap owner one.0
 at_touches {cap = cap} {r = r} i (swapping old v h one) e = ap (λ n. owner (r.cells n)) (sym e ∙ wraps h cap) ∙ ap owner one.0
 at_touches {r = r} i (emptying x h one) e = ap (λ n. owner (r.cells n)) (sym e) ∙ ap owner one.0
@@ -50,8 +51,8 @@ at_touches i (closing none) e = absurd e
 at_touches i (closed_tail none) e = absurd e
 
 -- behind a front that was taken off an item is coming
-pub at_coming : {A : Type 0} {cap : ℕ} {r : Ring A} {who : ℕ} {ms : List (State A)} {was : Bool} {l : Local ℕ} {t : Touch} {o : Op ℕ} {v : Option A} {k : Call A} {es : List (Effect A)}
-    → RingOk cap r → At cap r who ms was l t o v k es → IsBetween es → (x : A) × (r.coming ≡ Some x)
+pub at_coming : {A : Type 0} {cap : ℕ} {r : Ring A} {who : ℕ} {ms : List (State A)} {was : Bool} {c : Stand A}
+    → RingOk cap r → At cap r who ms was c → IsBetween c.effects → (x : A) × (r.coming ≡ Some x)
 at_coming {A} {cap = cap} {r = r} {who = who} ok (arriving old v t h below back one) b =
     let here : CellOk cap r.head r.tail r.items r.coming (h % cap) (Coming h who old v) = rw one.0 at (ok.cell (h % cap) (in_ring cap h ok.ring)) in (v, here.3)
 at_coming ok (swapping old v h one) b = absurd b
@@ -77,8 +78,8 @@ at_coming ok (full_head t none saw) b = absurd b
 at_coming ok (closing none) b = absurd b
 at_coming ok (closed_tail none) b = absurd b
 
-pub at_word : {A : Type 0} {cap : ℕ} {r : Ring A} {who : ℕ} {ms : List (State A)} {was : Bool} {l : Local ℕ} {t : Touch} {o : Op ℕ} {v : Option A} {k : Call A} {es : List (Effect A)}
-    → RingOk cap r → At cap r who ms was l t o v k es → InRing cap o
+pub at_word : {A : Type 0} {cap : ℕ} {r : Ring A} {who : ℕ} {ms : List (State A)} {was : Bool} {c : Stand A}
+    → RingOk cap r → At cap r who ms was c → InRing cap c.op
 at_word {cap = cap} ok (push_stamp d v t none saw) = in_ring cap (position_of t) ok.ring
 at_word {cap = cap} ok (filling d v q one) = in_ring cap q ok.ring
 at_word {cap = cap} ok (swapping old v h one) = in_ring cap (h + cap) ok.ring

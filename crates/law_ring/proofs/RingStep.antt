@@ -1,7 +1,7 @@
 -- Each step of a call on a ring, wherever the call stands.
-use Rattle.std.proofs.Common.{ℕ, Bool, Option, List}
+use Rattle.std.proofs.Common.{ℕ, Bool, List}
 use Rattle.queue_steps.specs.State.{State}
-use Rattle.law_common.specs.Vocabulary.{Call, Effect, Op, Touch, Local}
+use Rattle.law_common.specs.Stand.{Stand}
 use Rattle.law_ring.specs.RingShared.{Shared}
 use Rattle.law_ring.specs.RingCells.{Ring, RingOk}
 use Rattle.law_ring.specs.RingWords.{Codes}
@@ -14,28 +14,28 @@ use Rattle.law_ring.proofs.RingPop.{good_pop_head, good_pop_stamp, good_taking, 
 use Rattle.law_ring.proofs.RingLook.{good_len_tail, good_len_head, good_len_again, good_empty_head, good_empty_tail, good_full_tail, good_full_head, good_closing, good_closed_tail}
 
 -- each step of a call, wherever it stands, is a step of the queue
-pub step_good : {A : Type 0} (cap : ℕ) (r : Ring A) (who : ℕ) (s : Shared A) (ms : List (State A)) (was : Bool) {l : Local ℕ} {t : Touch} {o : Op ℕ} {v : Option A} {k : Call A} {es : List (Effect A)}
-    → RingOk cap r → Codes cap r s → At cap r who ms was l t o v k es → Good cap r who s ms was l t o v k es
-step_good cap r who s ms was ok codes (push_tail d v none) = good_push_tail cap r who s ms was d v ok codes none
-step_good cap r who s ms was ok codes (push_stamp d v t none saw) = good_push_stamp cap r who s ms was d v t ok codes none saw
-step_good cap r who s ms was ok codes (claiming d v t none saw free) = good_claiming cap r who s ms was d v t ok codes none saw free
-step_good cap r who s ms was ok codes (filling d v q one) = good_filling cap r who s ms was d v q ok codes one
-step_good cap r who s ms was ok codes (push_head v t none saw) = good_push_head cap r who s ms was v t ok codes none saw
-step_good cap r who s ms was ok codes (displacing v t h none saw e full) = good_displacing cap r who s ms was v t h ok codes none saw e full
-step_good cap r who s ms was ok codes (arriving old v t h below e one) = good_arriving cap r who s ms was old v t h ok codes below e one
-step_good cap r who s ms was ok codes (swapping old v h one) = good_swapping cap r who s ms was old v h ok codes one
-step_good cap r who s ms was ok codes (spending d v none high) = good_spending cap r who s ms was d v ok codes none high
-step_good cap r who s ms was ok codes (pop_head none) = good_pop_head cap r who s ms was ok codes none
-step_good cap r who s ms was ok codes (pop_stamp h none low) = good_pop_stamp cap r who s ms was h ok codes none low
-step_good cap r who s ms was ok codes (taking h none low full) = good_taking cap r who s ms was h ok codes none low full
-step_good cap r who s ms was ok codes (emptying x h one) = good_emptying cap r who s ms was x h ok codes one
-step_good cap r who s ms was ok codes (pop_tail h none low free) = good_pop_tail cap r who s ms was h ok codes none low free
-step_good cap r who s ms was ok codes (len_tail none) = good_len_tail cap r who s ms was ok codes none
-step_good cap r who s ms was ok codes (len_head t none low) = good_len_head cap r who s ms was t ok codes none low
-step_good cap r who s ms was ok codes (len_again t h none seen) = good_len_again cap r who s ms was t h ok codes none seen
-step_good cap r who s ms was ok codes (empty_head none) = good_empty_head cap r who s ms was ok codes none
-step_good cap r who s ms was ok codes (empty_tail h none saw) = good_empty_tail cap r who s ms was h ok codes none saw
-step_good cap r who s ms was ok codes (full_tail none) = good_full_tail cap r who s ms was ok codes none
-step_good cap r who s ms was ok codes (full_head t none saw) = good_full_head cap r who s ms was t ok codes none saw
-step_good cap r who s ms was ok codes (closing none) = good_closing cap r who s ms was ok codes none
-step_good cap r who s ms was ok codes (closed_tail none) = good_closed_tail cap r who s ms was ok codes none
+pub step_good : {A : Type 0} {cap : ℕ} {r : Ring A} {who : ℕ} {s : Shared A} {ms : List (State A)} {was : Bool} {c : Stand A}
+    → RingOk cap r → Codes cap r s → At cap r who ms was c → Good cap r who s ms was c
+step_good ok codes (push_tail d v none) = good_push_tail ok codes d v none
+step_good ok codes (push_stamp d v t none saw) = good_push_stamp ok codes d v t none saw
+step_good ok codes (claiming d v t none saw free) = good_claiming ok codes d v t none saw free
+step_good ok codes (filling d v q one) = good_filling ok codes d v q one
+step_good ok codes (push_head v t none saw) = good_push_head ok codes v t none saw
+step_good ok codes (displacing v t h none saw e full) = good_displacing ok codes v t h none saw e full
+step_good ok codes (arriving old v t h below e one) = good_arriving ok codes old v t h below e one
+step_good ok codes (swapping old v h one) = good_swapping ok codes old v h one
+step_good ok codes (spending d v none high) = good_spending ok codes d v none high
+step_good ok codes (pop_head none) = good_pop_head ok codes none
+step_good ok codes (pop_stamp h none low) = good_pop_stamp ok codes h none low
+step_good ok codes (taking h none low full) = good_taking ok codes h none low full
+step_good ok codes (emptying x h one) = good_emptying ok codes x h one
+step_good ok codes (pop_tail h none low free) = good_pop_tail ok codes h none low free
+step_good ok codes (len_tail none) = good_len_tail ok codes none
+step_good ok codes (len_head t none low) = good_len_head ok codes t none low
+step_good ok codes (len_again t h none seen) = good_len_again ok codes t h none seen
+step_good ok codes (empty_head none) = good_empty_head ok codes none
+step_good ok codes (empty_tail h none saw) = good_empty_tail ok codes h none saw
+step_good ok codes (full_tail none) = good_full_tail ok codes none
+step_good ok codes (full_head t none saw) = good_full_head ok codes t none saw
+step_good ok codes (closing none) = good_closing ok codes none
+step_good ok codes (closed_tail none) = good_closed_tail ok codes none

@@ -3,10 +3,11 @@ use Rattle.std.proofs.Common.{ℕ, ◌+◌, ◌%◌, ◌<◌, ◌≤◌, ◌≡�
 use Rattle.queue_steps.specs.State.{State}
 use Rattle.law_common.specs.Moments.{HasItems, IsStarted, SeenIn, HeadWas}
 use Rattle.law_ring.specs.RingCells.{Free, Full, Ring, Written, Read, Coming, Swapped, HoldsNone, HoldsOne}
-use Rattle.law_common.specs.Vocabulary.{Call, Effect, Word, Op, Touch, Local, Next, PushKind, LIMIT, MARK, TAIL_STEP}
+use Rattle.law_common.specs.Vocabulary.{Call, Effect, Word, Op, Touch, Local, BoundedLocal, Next, PushKind, LIMIT, MARK, TAIL_STEP}
 use Rattle.queue_steps.specs.Words.{position_of, is_shut, slot_at, stamp_filled, stamp_emptied}
 use Rattle.queue_steps.specs.declared.steps.bounded.BoundedLocal.TheVariants as ring
 use Rattle.law_common.specs.Pushes.{pushes}
+use Rattle.law_common.specs.Stand.{Stand, stand, empty_handed, brings}
 use Rattle.queue_steps.specs.Kinds.{call_value}
 
 -- the slot of the position q is free for it, or the tail has moved on
@@ -41,58 +42,62 @@ pub record SawTail {A : Type 0} (cap : ℕ) (r : Ring A) (t : ℕ) (ms : List (S
   pub moment : SeenIn ms (TailWas cap (position_of t) r.head)
   pub opened : was ≡ true
 
--- Where a call of the party who stands: its local state, touch and operation, its value, the call, and its effects so far.
-pub data At {A : Type 0} (cap : ℕ) (r : Ring A) (who : ℕ) (ms : List (State A)) (was : Bool) : Local ℕ → Touch → Op ℕ → Option A → Call A → List (Effect A) → Type 0 where
+-- a call that touches the slot i, and then stores n as its stamp
+abbrev pub stores : {A : Type 0} → BoundedLocal → (ℕ → Touch) → ℕ → ℕ → Option A → Call A → List (Effect A) → Stand A
+stores l touch i n v k es = stand (Local.Bounded l) (touch i) (Op.Store (Word.Stamp i) n) v k es
+
+-- Where a call of the party who stands.
+pub data At {A : Type 0} (cap : ℕ) (r : Ring A) (who : ℕ) (ms : List (State A)) (was : Bool) : Stand A → Type 0 where
   push_tail : (d : PushKind) (v : A) → HoldsNone r.cells who
-      → At cap r who ms was (Local.Bounded (ring.PushTail d)) Touch.Nothing (Op.Load Word.Tail) (Some v) (pushes d v) []
+      → At cap r who ms was (brings (Local.Bounded (ring.PushTail d)) (Op.Load Word.Tail) d v)
   push_stamp : (d : PushKind) (v : A) (t : ℕ) → HoldsNone r.cells who → SawTail cap r t ms was
-      → At cap r who ms was (Local.Bounded (ring.PushStamp d t)) Touch.Nothing (Op.Load (Word.Stamp (slot_at cap (position_of t)))) (Some v) (pushes d v) []
+      → At cap r who ms was (brings (Local.Bounded (ring.PushStamp d t)) (Op.Load (Word.Stamp (slot_at cap (position_of t)))) d v)
   claiming : (d : PushKind) (v : A) (t : ℕ) → HoldsNone r.cells who → SawTail cap r t ms was → FreeAt cap r (position_of t)
-      → At cap r who ms was (Local.Bounded (ring.Claiming d t)) Touch.Nothing (Op.Exchange Word.Tail t (t + TAIL_STEP)) (Some v) (pushes d v) []
+      → At cap r who ms was (brings (Local.Bounded (ring.Claiming d t)) (Op.Exchange Word.Tail t (t + TAIL_STEP)) d v)
   filling : (d : PushKind) (v : A) (q : ℕ) → HoldsOne r.cells who (q % cap) (Written q who v)
-      → At cap r who ms was (Local.Bounded (ring.Filling d)) (Touch.Put (slot_at cap q)) (Op.Store (Word.Stamp (slot_at cap q)) (stamp_filled q)) (Some v) (pushes d v) (Effect.Append v ∷ [])
+      → At cap r who ms was (stores (ring.Filling d) Touch.Put (slot_at cap q) (stamp_filled q) (Some v) (pushes d v) (Effect.Append v ∷ []))
   push_head : (v : A) (t : ℕ) → HoldsNone r.cells who → SawTail cap r t ms was
-      → At cap r who ms was (Local.Bounded (ring.PushHead t)) Touch.Nothing (Op.Load Word.Head) (Some v) (Call.Push v) []
+      → At cap r who ms was (brings (Local.Bounded (ring.PushHead t)) (Op.Load Word.Head) PushKind.Push v)
   displacing : (v : A) (t h : ℕ) → HoldsNone r.cells who → SawTail cap r t ms was → h + cap ≡ position_of t → FullAt cap r h
-      → At cap r who ms was (Local.Bounded (ring.Displacing t)) Touch.Nothing (Op.Exchange Word.Head (position_of t - cap) (position_of t - cap + 1)) (Some v) (Call.ForcePush v) []
+      → At cap r who ms was (brings (Local.Bounded (ring.Displacing t)) (Op.Exchange Word.Head (position_of t - cap) (position_of t - cap + 1)) PushKind.Force v)
   arriving : (old v : A) (t h : ℕ) → position_of t < LIMIT → h + cap ≡ position_of t → HoldsOne r.cells who (h % cap) (Coming h who old v)
-      → At cap r who ms was (Local.Bounded (ring.Arriving t)) Touch.Nothing (Op.Add Word.Tail TAIL_STEP) (Some v) (Call.ForcePush v) (Effect.Front old v ∷ [])
+      → At cap r who ms was (stand (Local.Bounded (ring.Arriving t)) Touch.Nothing (Op.Add Word.Tail TAIL_STEP) (Some v) (Call.ForcePush v) (Effect.Front old v ∷ []))
   swapping : (old v : A) (h : ℕ) → HoldsOne r.cells who (h % cap) (Swapped h who old v)
-      → At cap r who ms was (Local.Bounded ring.Swapping) (Touch.Swap (slot_at cap (h + cap))) (Op.Store (Word.Stamp (slot_at cap (h + cap))) (stamp_filled (h + cap))) (Some v) (Call.ForcePush v) (Effect.Front old v ∷ Effect.Arrive ∷ [])
+      → At cap r who ms was (stores ring.Swapping Touch.Swap (slot_at cap (h + cap)) (stamp_filled (h + cap)) (Some v) (Call.ForcePush v) (Effect.Front old v ∷ Effect.Arrive ∷ []))
   spending : (d : PushKind) (v : A) → HoldsNone r.cells who → LIMIT ≤ r.tail
-      → At cap r who ms was (Local.Bounded (ring.ClosingAtLimit d)) Touch.Nothing (Op.Or Word.Tail MARK) (Some v) (pushes d v) []
+      → At cap r who ms was (brings (Local.Bounded (ring.ClosingAtLimit d)) (Op.Or Word.Tail MARK) d v)
   pop_head : HoldsNone r.cells who
-      → At cap r who ms was (Local.Bounded ring.PopHead) Touch.Nothing (Op.Load Word.Head) None Call.Pop []
+      → At cap r who ms was (empty_handed (Local.Bounded ring.PopHead) (Op.Load Word.Head) Call.Pop)
   pop_stamp : (h : ℕ) → HoldsNone r.cells who → h ≤ r.head
-      → At cap r who ms was (Local.Bounded (ring.PopStamp h)) Touch.Nothing (Op.Load (Word.Stamp (slot_at cap h))) None Call.Pop []
+      → At cap r who ms was (empty_handed (Local.Bounded (ring.PopStamp h)) (Op.Load (Word.Stamp (slot_at cap h))) Call.Pop)
   taking : (h : ℕ) → HoldsNone r.cells who → h ≤ r.head → FullAt cap r h
-      → At cap r who ms was (Local.Bounded (ring.Taking h)) Touch.Nothing (Op.Exchange Word.Head h (h + 1)) None Call.Pop []
+      → At cap r who ms was (empty_handed (Local.Bounded (ring.Taking h)) (Op.Exchange Word.Head h (h + 1)) Call.Pop)
   emptying : (x : A) (h : ℕ) → HoldsOne r.cells who (h % cap) (Read h who x)
-      → At cap r who ms was (Local.Bounded ring.Emptying) (Touch.Take (slot_at cap h)) (Op.Store (Word.Stamp (slot_at cap h)) (stamp_emptied cap h)) None Call.Pop (Effect.Take x ∷ [])
+      → At cap r who ms was (stores ring.Emptying Touch.Take (slot_at cap h) (stamp_emptied cap h) None Call.Pop (Effect.Take x ∷ []))
   pop_tail : (h : ℕ) → HoldsNone r.cells who → h ≤ r.head → FreeAt cap r h
-      → At cap r who ms was (Local.Bounded (ring.PopTail h)) Touch.Nothing (Op.Load Word.Tail) None Call.Pop []
+      → At cap r who ms was (empty_handed (Local.Bounded (ring.PopTail h)) (Op.Load Word.Tail) Call.Pop)
   len_tail : HoldsNone r.cells who
-      → At cap r who ms was (Local.Bounded ring.LenTail) Touch.Nothing (Op.Load Word.Tail) None Call.Len []
+      → At cap r who ms was (empty_handed (Local.Bounded ring.LenTail) (Op.Load Word.Tail) Call.Len)
   len_head : (t : ℕ) → HoldsNone r.cells who → position_of t ≤ r.tail
-      → At cap r who ms was (Local.Bounded (ring.LenHead t)) Touch.Nothing (Op.Load Word.Head) None Call.Len []
+      → At cap r who ms was (empty_handed (Local.Bounded (ring.LenHead t)) (Op.Load Word.Head) Call.Len)
   len_again : (t h : ℕ) → HoldsNone r.cells who → SeenIn ms (HeadWas h (position_of t) r.tail)
-      → At cap r who ms was (Local.Bounded (ring.LenAgain t h)) Touch.Nothing (Op.Load Word.Tail) None Call.Len []
+      → At cap r who ms was (empty_handed (Local.Bounded (ring.LenAgain t h)) (Op.Load Word.Tail) Call.Len)
   empty_head : HoldsNone r.cells who
-      → At cap r who ms was (Local.Bounded ring.EmptyHead) Touch.Nothing (Op.Load Word.Head) None Call.IsEmpty []
+      → At cap r who ms was (empty_handed (Local.Bounded ring.EmptyHead) (Op.Load Word.Head) Call.IsEmpty)
   empty_tail : (h : ℕ) → HoldsNone r.cells who → SawEmpty h r ms
-      → At cap r who ms was (Local.Bounded (ring.EmptyTail h)) Touch.Nothing (Op.Load Word.Tail) None Call.IsEmpty []
+      → At cap r who ms was (empty_handed (Local.Bounded (ring.EmptyTail h)) (Op.Load Word.Tail) Call.IsEmpty)
   full_tail : HoldsNone r.cells who
-      → At cap r who ms was (Local.Bounded ring.FullTail) Touch.Nothing (Op.Load Word.Tail) None Call.IsFull []
+      → At cap r who ms was (empty_handed (Local.Bounded ring.FullTail) (Op.Load Word.Tail) Call.IsFull)
   full_head : (t : ℕ) → HoldsNone r.cells who → SawFull cap (position_of t) r ms
-      → At cap r who ms was (Local.Bounded (ring.FullHead t)) Touch.Nothing (Op.Load Word.Head) None Call.IsFull []
+      → At cap r who ms was (empty_handed (Local.Bounded (ring.FullHead t)) (Op.Load Word.Head) Call.IsFull)
   closing : HoldsNone r.cells who
-      → At cap r who ms was (Local.Bounded ring.Closing) Touch.Nothing (Op.Or Word.Tail MARK) None Call.Close []
+      → At cap r who ms was (empty_handed (Local.Bounded ring.Closing) (Op.Or Word.Tail MARK) Call.Close)
   closed_tail : HoldsNone r.cells who
-      → At cap r who ms was (Local.Bounded ring.ClosedTail) Touch.Nothing (Op.Load Word.Tail) None Call.IsClosed []
+      → At cap r who ms was (empty_handed (Local.Bounded ring.ClosedTail) (Op.Load Word.Tail) Call.IsClosed)
 
 -- the first step of a call of a party that holds nothing
 abbrev pub Begun : {A : Type 0} → ℕ → Ring A → ℕ → Call A → Next ℕ → Type 0
-Begun cap r who c (Next.Step l t o) = At cap r who [] false l t o (call_value c) c []
+Begun cap r who c (Next.Step l t o) = At cap r who [] false (stand l t o (call_value c) c [])
 Begun cap r who c (Next.Reply x spare) = Unit {0}
 
 -- the word is one of a ring of cap slots

@@ -1,8 +1,8 @@
 -- Where a call on one slot stands, what a step of another party leaves of it, and that who has the lock has the slot.
 use Rattle.std.proofs.Common.{ℕ, ◌≡◌, ◌≢◌, ◌∙◌, Bool, Option, Some, None, List, [], ◌∷◌, refl, sym, ap, subst}
 use Rattle.std.proofs.lemmas.Bool.{eq-eqb}
-use Rattle.law_common.specs.Vocabulary.{Call, Effect, Op, Touch, Local}
 use Rattle.law_common.specs.Effects.{IsBetween, Touches}
+use Rattle.law_common.specs.Stand.{Stand}
 use Rattle.law_slot.specs.SlotShared.{CanOperate}
 use Rattle.law_slot.specs.SlotHolder.{SlotHolder, Nobody}
 use Rattle.law_slot.specs.SlotRows.{Stands, free_empty, free_full, At, push_try, push_put, force_put_empty, force_put_full, pop_take}
@@ -23,25 +23,25 @@ held_lent (free_full c x) held = absurd held
 held_lent x held = refl
 
 -- a step of another party leaves a call where it stands
-pub at_stays : {T : Type 0} (g s : Slot T) (who other : ℕ) {l : Local ℕ} {t : Touch} {o : Op ℕ} {v : Option T} {k : Call T} {es : List (Effect T)}
-    → other ≢ who → Passes who g s → At l t o v (own_in g other) k es → At l t o v (own_in s other) k es
-at_stays g s who other {l = l} {t = t} {o = o} {v = v} {k = k} {es = es} ne pass here = subst (λ h. At l t o v h k es) (sym (pass other ne)) here
+pub at_stays : {T : Type 0} (g s : Slot T) (who other : ℕ) {x : Stand T}
+    → other ≢ who → Passes who g s → At x (own_in g other) → At x (own_in s other)
+at_stays g s who other {x = x} ne pass here = subst (At x) (sym (pass other ne)) here
 
 pub lent_stays : {T : Type 0} (g s : Slot T) (who other : ℕ) (xs : List (ℕ × Option T)) → other ≢ who → Passes who g s → Lent g other xs → Lent s other xs
 lent_stays g s who other xs ne pass lent = lent ∙ ap lent_by (sym (pass other ne))
 
 -- no call on one slot takes the front off before its own item arrives
-pub at_whole : {T : Type 0} {l : Local ℕ} {t : Touch} {o : Op ℕ} {v : Option T} {own : SlotHolder T} {k : Call T} {es : List (Effect T)} → At l t o v own k es → IsBetween es → ⊥
+pub at_whole : {T : Type 0} {x : Stand T} {own : SlotHolder T} → At x own → IsBetween x.effects → ⊥
 at_whole (push_try v) b = b
 at_whole x b = b
 
 -- each operation is one on the lock
-pub at_lock : {T : Type 0} {l : Local ℕ} {t : Touch} {o : Op ℕ} {v : Option T} {own : SlotHolder T} {k : Call T} {es : List (Effect T)} → At l t o v own k es → CanOperate o
+pub at_lock : {T : Type 0} {x : Stand T} {own : SlotHolder T} → At x own → CanOperate x.op
 at_lock (push_try v) = tt
 at_lock x = tt
 
 -- the slot is touched by the party who has it
-pub at_touches : {T : Type 0} {l : Local ℕ} {t : Touch} {o : Op ℕ} {v : Option T} {own : SlotHolder T} {k : Call T} {es : List (Effect T)} (i : ℕ) → At l t o v own k es → Touches t i → (y : Option T) × (lent_by own ≡ (i, y) ∷ [])
+pub at_touches : {T : Type 0} {x : Stand T} {own : SlotHolder T} (i : ℕ) → At x own → Touches x.touch i → (y : Option T) × (lent_by own ≡ (i, y) ∷ [])
 at_touches i (push_put v) e = (None, ap (λ n. (n, None) ∷ []) e)
 at_touches i (force_put_empty v) e = (None, ap (λ n. (n, None) ∷ []) e)
 at_touches i (force_put_full old v) e = (Some old, ap (λ n. (n, Some old) ∷ []) e)

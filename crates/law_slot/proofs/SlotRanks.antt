@@ -3,9 +3,10 @@ use Rattle.std.proofs.Common.{◌≡◌, ℕ, ◌<◌, ◌≤◌, ◌==◌, Bool
 use Rattle.queue_steps.specs.Next.{CanNext, next_of}
 use Rattle.queue_steps.specs.WaitFree.{is_wait_free}
 use Rattle.queue_steps.specs.SingleNext.{is_marked, is_pushed}
-use Rattle.law_common.specs.Vocabulary.{Call, Effect, Kind, Op, Touch, Look, Local, Next}
+use Rattle.law_common.specs.Vocabulary.{Kind, Look, Local, Next}
 use Rattle.queue_steps.specs.declared.steps.single.SingleLocal.TheVariants.{Pushing, Forcing, Popping}
 use Rattle.law_common.proofs.Ranks.{either_small, either_some}
+use Rattle.law_common.specs.Stand.{Stand}
 use Rattle.law_slot.specs.SlotShared.{CanTouch, CanOperate, one_slot, answered, operated, touched}
 use Rattle.law_slot.specs.SlotHolder.{SlotHolder}
 use Rattle.law_slot.specs.SlotRows.{Stands, free_empty, free_full, At, push_try, push_put, force_try_empty, force_try_full, force_put_empty, force_put_full, pop_try, pop_take, close_try, look_at}
@@ -23,8 +24,8 @@ Falls (Next.Step l t o) n word = rank l word < n
 Falls (Next.Reply x spare) n word = Unit {0}
 
 -- alone, a call comes nearer to its reply
-pub step_falls : {T : Type 0} {l : Local ℕ} {t : Touch} {o : Op ℕ} {v : Option T} {word : ℕ} {slot : Option T} {h : SlotHolder T} {items : List T} {c : Bool} {k : Call T} {es : List (Effect T)}
-    → At l t o v h k es → Stands word slot h items c → Falls (next_of Kind.Single l (answered (touched (one_slot word slot) t v) o)) (rank l word) (operated (touched (one_slot word slot) t v) o).lock
+pub step_falls : {T : Type 0} {x : Stand T} {word : ℕ} {slot : Option T} {h : SlotHolder T} {items : List T} {c : Bool}
+    → At x h → Stands word slot h items c → Falls (next_of Kind.Single x.local (answered (touched (one_slot word slot) x.touch x.carried) x.op)) (rank x.local word) (operated (touched (one_slot word slot) x.touch x.carried) x.op).lock
 step_falls (push_try v) (free_empty false) = omega arith
 step_falls (push_try v) (free_full true x) = tt
 step_falls (force_try_empty v) (free_empty false) = omega arith
@@ -45,8 +46,8 @@ IsReplying (Next.Step l t o) = ⊥
 IsReplying (Next.Reply x spare) = Unit {0}
 
 -- a wait-free call replies at each step
-pub wait_free_ends : {T : Type 0} {l : Local ℕ} {t : Touch} {o : Op ℕ} {v : Option T} {own : SlotHolder T} {k : Call T} {es : List (Effect T)} (word : ℕ) (slot : Option T)
-    → At l t o v own k es → is_wait_free k ≡ true → IsReplying (next_of Kind.Single l (answered (touched (one_slot word slot) t v) o))
+pub wait_free_ends : {T : Type 0} {x : Stand T} {own : SlotHolder T} (word : ℕ) (slot : Option T)
+    → At x own → is_wait_free x.call ≡ true → IsReplying (next_of Kind.Single x.local (answered (touched (one_slot word slot) x.touch x.carried) x.op))
 wait_free_ends word slot close_try e = tt
 wait_free_ends word slot (look_at Look.IsClosed) e = tt
 wait_free_ends word slot (look_at Look.IsEmpty) e = tt
@@ -54,8 +55,8 @@ wait_free_ends word slot (look_at Look.IsFull) e = tt
 wait_free_ends word slot x e = cc
 
 -- the step touches the one slot and the one word, and its answer is what the call waits for
-pub can_operate : {T : Type 0} {l : Local ℕ} {t : Touch} {o : Op ℕ} {v : Option T} {own : SlotHolder T} {k : Call T} {es : List (Effect T)} (word : ℕ) (slot : Option T)
-    → At l t o v own k es → CanTouch t × CanOperate o × CanNext Kind.Single l (answered (touched (one_slot word slot) t v) o)
+pub can_operate : {T : Type 0} {x : Stand T} {own : SlotHolder T} (word : ℕ) (slot : Option T)
+    → At x own → CanTouch x.touch × CanOperate x.op × CanNext Kind.Single x.local (answered (touched (one_slot word slot) x.touch x.carried) x.op)
 can_operate word slot (push_put v) = (omega arith, tt, tt)
 can_operate word slot (force_put_empty v) = (omega arith, tt, tt)
 can_operate word slot (force_put_full old v) = (omega arith, tt, tt)
@@ -76,7 +77,7 @@ rank_some (Local.Single (Popping s)) word = either_some (word == s) 2 (if is_pus
 rank_some _ word = omega arith
 
 -- a wait-free call has one, whatever the word
-pub wait_free_one : {T : Type 0} {l : Local ℕ} {t : Touch} {o : Op ℕ} {v : Option T} {own : SlotHolder T} {k : Call T} {es : List (Effect T)} (word : ℕ) → At l t o v own k es → is_wait_free k ≡ true → rank l word ≡ 1
+pub wait_free_one : {T : Type 0} {x : Stand T} {own : SlotHolder T} (word : ℕ) → At x own → is_wait_free x.call ≡ true → rank x.local word ≡ 1
 wait_free_one word (push_try v) e = cc
 wait_free_one word (force_try_empty v) e = cc
 wait_free_one word (force_try_full v) e = cc

@@ -5,11 +5,12 @@ use Rattle.queue_steps.specs.Kinds.{filled}
 use Rattle.queue_steps.specs.Next.{next_of}
 use Rattle.queue_steps.specs.Replies.{IsRightAt, Tells}
 use Rattle.queue_steps.specs.SingleNext.{is_marked}
-use Rattle.law_common.specs.Vocabulary.{Call, Reply, Effect, Kind, Op, Touch, Answer, Look, Local, Next, LOCKED, PUSHED, CLOSED, UNLOCKED}
+use Rattle.law_common.specs.Vocabulary.{Call, Reply, Effect, Kind, Op, Touch, Answer, Look, Local, SingleLocal, PushKind, Next, LOCKED, PUSHED, CLOSED, UNLOCKED}
 use Rattle.queue_steps.specs.declared.steps.single.SingleLocal.TheVariants.{Pushing, Pushed, Forcing, Forced, Popping, Popped, Closing, Looking}
 use Rattle.queue_steps.specs.declared.steps.types.Word.TheVariants.{Lock}
 use Rattle.law_common.specs.Moments.{SeenIn}
 use Rattle.law_common.specs.Effects.{Leads, with_effect, Whether}
+use Rattle.law_common.specs.Stand.{Stand, stand, empty_handed, brings}
 use Rattle.law_slot.specs.SlotShared.{one_slot, answered, operated, touched, handed}
 use Rattle.law_slot.specs.SlotHolder.{SlotHolder, Nobody, Filling, Swapping, Taking}
 
@@ -38,18 +39,22 @@ asks Look.IsEmpty = Call.IsEmpty
 asks Look.IsFull = Call.IsFull
 asks Look.Len = Call.Len
 
--- where a call stands, its next step, the value that it carries, what it holds, the call and its effects so far
-pub data At {T : Type 0} : Local ℕ → Touch → Op ℕ → Option T → SlotHolder T → Call T → List (Effect T) → Type 0 where
-  push_try : (v : T) → At (Local.Single Pushing) Touch.Nothing (Op.Exchange Lock 0 (bit_or LOCKED PUSHED)) (Some v) Nobody (Call.Push v) []
-  push_put : (v : T) → At (Local.Single Pushed) (Touch.Put 0) (Op.And Lock UNLOCKED) (Some v) (Filling v) (Call.Push v) (Effect.Append v ∷ [])
-  force_try_empty : (v : T) → At (Local.Single (Forcing 0)) Touch.Nothing (Op.Exchange Lock 0 (bit_or LOCKED PUSHED)) (Some v) Nobody (Call.ForcePush v) []
-  force_try_full : (v : T) → At (Local.Single (Forcing 2)) Touch.Nothing (Op.Exchange Lock 2 (bit_or LOCKED PUSHED)) (Some v) Nobody (Call.ForcePush v) []
-  force_put_empty : (v : T) → At (Local.Single (Forced 0)) (Touch.Put 0) (Op.And Lock UNLOCKED) (Some v) (Filling v) (Call.ForcePush v) (Effect.Append v ∷ [])
-  force_put_full : (old v : T) → At (Local.Single (Forced 2)) (Touch.Swap 0) (Op.And Lock UNLOCKED) (Some v) (Swapping old v) (Call.ForcePush v) (Effect.Replace old v ∷ [])
-  pop_try : (d : Bool) → At (Local.Single (Popping (code false true d))) Touch.Nothing (Op.Exchange Lock (code false true d) (code true false d)) None Nobody Call.Pop []
-  pop_take : (x : T) → At (Local.Single Popped) (Touch.Take 0) (Op.And Lock UNLOCKED) None (Taking x) Call.Pop (Effect.Take x ∷ [])
-  close_try : At (Local.Single Closing) Touch.Nothing (Op.Or Lock CLOSED) None Nobody Call.Close []
-  look_at : (l : Look) → At (Local.Single (Looking l)) Touch.Nothing (Op.Load Lock) None Nobody (asks l) []
+-- a call that touches the slot, and then unlocks it
+abbrev pub unlocks : {T : Type 0} → SingleLocal → (ℕ → Touch) → Option T → Call T → List (Effect T) → Stand T
+unlocks l touch v k es = stand (Local.Single l) (touch 0) (Op.And Lock UNLOCKED) v k es
+
+-- where a call stands, and what it holds
+pub data At {T : Type 0} : Stand T → SlotHolder T → Type 0 where
+  push_try : (v : T) → At (brings (Local.Single Pushing) (Op.Exchange Lock 0 (bit_or LOCKED PUSHED)) PushKind.Push v) Nobody
+  push_put : (v : T) → At (unlocks Pushed Touch.Put (Some v) (Call.Push v) (Effect.Append v ∷ [])) (Filling v)
+  force_try_empty : (v : T) → At (brings (Local.Single (Forcing 0)) (Op.Exchange Lock 0 (bit_or LOCKED PUSHED)) PushKind.Force v) Nobody
+  force_try_full : (v : T) → At (brings (Local.Single (Forcing 2)) (Op.Exchange Lock 2 (bit_or LOCKED PUSHED)) PushKind.Force v) Nobody
+  force_put_empty : (v : T) → At (unlocks (Forced 0) Touch.Put (Some v) (Call.ForcePush v) (Effect.Append v ∷ [])) (Filling v)
+  force_put_full : (old v : T) → At (unlocks (Forced 2) Touch.Swap (Some v) (Call.ForcePush v) (Effect.Replace old v ∷ [])) (Swapping old v)
+  pop_try : (d : Bool) → At (empty_handed (Local.Single (Popping (code false true d))) (Op.Exchange Lock (code false true d) (code true false d)) Call.Pop) Nobody
+  pop_take : (x : T) → At (unlocks Popped Touch.Take None Call.Pop (Effect.Take x ∷ [])) (Taking x)
+  close_try : At (empty_handed (Local.Single Closing) (Op.Or Lock CLOSED) Call.Close) Nobody
+  look_at : (l : Look) → At (empty_handed (Local.Single (Looking l)) (Op.Load Lock) (asks l)) Nobody
 
 -- what a party has of the lock: all that is held, or nothing
 pub data Share {T : Type 0} : SlotHolder T → SlotHolder T → Type 0 where
@@ -69,7 +74,7 @@ single items c n = record { items = items; cap = Some 1; closed = c; coming = No
 
 -- the call goes on from a known place, or ends with a reply that is right, and holds nothing
 abbrev pub Lands : {T : Type 0} → Next ℕ → Option T → SlotHolder T → Call T → List (Effect T) → List (State T) → Type 0
-Lands (Next.Step l t o) v own k es ms = At l t o v own k es
+Lands (Next.Step l t o) v own k es ms = At (stand l t o v k es) own
 Lands {T} (Next.Reply x spare) v own k es ms =
     (own ≡ Nobody) × (spare ≡ None) × ((y : Reply T) × (filled x v ≡ Some y) × Tells k y es × (es ≡ [] → SeenIn ms (λ m. IsRightAt m k y)))
 
@@ -83,19 +88,20 @@ IsEffect (Local.Single Closing) (Answer.Found found) e = Whether (is_marked foun
 IsEffect (Local.Single l) a e = e ≡ None
 IsEffect _ a e = ⊥
 
--- the step of a call is a step of the queue
-pub record Good {T : Type 0} (l : Local ℕ) (t : Touch) (o : Op ℕ) (v : Option T) (word : ℕ) (slot : Option T) (own h : SlotHolder T) (items : List T) (c : Bool) (n : ℕ) (k : Call T) (es : List (Effect T)) (ms : List (State T)) : Type 0 where
-  pub word' : ℕ
-  pub slot' : Option T
-  pub items' : List T
-  pub c' : Bool
-  pub n' : ℕ
-  pub e : Option (Effect T)
-  pub own' : SlotHolder T
-  pub h' : SlotHolder T
-  pub leaves : operated (touched (one_slot word slot) t v) o ≡ one_slot word' slot'
-  pub stands : Stands word' slot' h' items' c'
-  pub told : IsEffect l (answered (touched (one_slot word slot) t v) o) e
-  pub makes : Leads (single items c n) e (single items' c' n')
-  pub lands : Lands (next_of Kind.Single l (answered (touched (one_slot word slot) t v) o)) (handed (one_slot word slot) t v) own' k (with_effect es e) (single items' c' n' ∷ ms)
-  pub passes : Passes own h own' h'
+module _ {T : Type 0} (word : ℕ) (slot : Option T) (own h : SlotHolder T) (items : List T) (c : Bool) (n : ℕ) where
+  -- the step of a call is a step of the queue
+  pub record Good (x : Stand T) (ms : List (State T)) : Type 0 where
+    pub word' : ℕ
+    pub slot' : Option T
+    pub items' : List T
+    pub c' : Bool
+    pub n' : ℕ
+    pub e : Option (Effect T)
+    pub own' : SlotHolder T
+    pub h' : SlotHolder T
+    pub leaves : operated (touched (one_slot word slot) x.touch x.carried) x.op ≡ one_slot word' slot'
+    pub stands : Stands word' slot' h' items' c'
+    pub told : IsEffect x.local (answered (touched (one_slot word slot) x.touch x.carried) x.op) e
+    pub makes : Leads (single items c n) e (single items' c' n')
+    pub lands : Lands (next_of Kind.Single x.local (answered (touched (one_slot word slot) x.touch x.carried) x.op)) (handed (one_slot word slot) x.touch x.carried) own' x.call (with_effect x.effects e) (single items' c' n' ∷ ms)
+    pub passes : Passes own h own' h'

@@ -1,8 +1,10 @@
 -- What is owed of the shared memory at each step of a call on a chain.
-use Rattle.std.proofs.Common.{ℕ, ◌≡◌, Bool, Option, List}
+use Rattle.std.proofs.Common.{ℕ, ◌≡◌, Bool, List}
 use Rattle.queue_steps.specs.State.{State}
 use Rattle.queue_steps.specs.UnboundedNext.{unbounded_next}
-use Rattle.machine_replay.specs.Vocabulary.{Call, Effect, Kind, Op, Touch, Local, Running}
+use Rattle.machine_replay.specs.Vocabulary.{Kind}
+use Rattle.law_common.specs.Stand.{Stand}
+use Rattle.machine_replay.proofs.StandOf.{running_of}
 use Rattle.law_chain.specs.ChainCells.{Chain, ChainOk}
 use Rattle.law_chain.specs.ChainAt.{At}
 use Rattle.law_chain.specs.ChainAnswers.{Answers}
@@ -12,18 +14,15 @@ use Rattle.machine_memory.specs.SharedMemory.{Shared, CanTouch, CanOperate, slot
 use Rattle.machine_steps.specs.Steps.{after_touch, carried_then, answer_to, shared_then}
 use Rattle.machine_replay.proofs.ChainNames.{Codes}
 
-abbrev running : {A : Type 0} → Local ℕ → Touch → Op ℕ → Option A → Running A
-running l t o v = record { local = l; touch = t; op = o; carried = v }
-
 -- the words, the links and the blocks of the machine are those of the chain
 abbrev pub Stands : {A : Type 0} → Shared A → Chain A → Type 0
 Stands s c = Codes c s.head s.tail s.head_block s.tail_block s.blocks
 
 -- the next step of the call can be taken, it is answered by what the chain says, and it leaves the machine standing for the chain after it
-pub record Coded {A : Type 0} (c : Chain A) (who : ℕ) (ms : List (State A)) {l : Local ℕ} {t : Touch} {o : Op ℕ} {v : Option A} {k : Call A} {es : List (Effect A)} (granted : Bool) (s : Shared A) (at : At c who ms l t o v k es) : Type 0 where
-  pub touches : CanTouch t (slots_there s (block_touched o))
-  pub operates : CanOperate (after_touch s (running l t o v)) o
-  pub answers : Answers c o (answer_to granted s (running l t o v))
-  pub carried : carried_then s (running l t o v) ≡ carried_of at
-  pub codes : ChainOk (after_of at (answer_to granted s (running l t o v))) → Gives (after_of at (answer_to granted s (running l t o v))) who (unbounded_next (chain_of l) (answer_to granted s (running l t o v)))
-      → Stands (shared_then Kind.Unbounded granted s (running l t o v)) (left_by (after_of at (answer_to granted s (running l t o v))) (unbounded_next (chain_of l) (answer_to granted s (running l t o v))))
+pub record Coded {A : Type 0} (c : Chain A) (who : ℕ) (ms : List (State A)) {k : Stand A} (granted : Bool) (s : Shared A) (at : At c who ms k) : Type 0 where
+  pub touches : CanTouch k.touch (slots_there s (block_touched k.op))
+  pub operates : CanOperate (after_touch s (running_of k)) k.op
+  pub answers : Answers c k.op (answer_to granted s (running_of k))
+  pub carried : carried_then s (running_of k) ≡ carried_of at
+  pub codes : ChainOk (after_of at (answer_to granted s (running_of k))) → Gives (after_of at (answer_to granted s (running_of k))) who (unbounded_next (chain_of k.local) (answer_to granted s (running_of k)))
+      → Stands (shared_then Kind.Unbounded granted s (running_of k)) (left_by (after_of at (answer_to granted s (running_of k))) (unbounded_next (chain_of k.local) (answer_to granted s (running_of k))))

@@ -1,7 +1,7 @@
 -- The shared memory at each step of a call on a chain, wherever the call stands.
-use Rattle.std.proofs.Common.{ℕ, Bool, Option, List}
+use Rattle.std.proofs.Common.{ℕ, Bool, List}
 use Rattle.queue_steps.specs.State.{State}
-use Rattle.machine_replay.specs.Vocabulary.{Call, Effect, Op, Touch, Local}
+use Rattle.law_common.specs.Stand.{Stand}
 use Rattle.law_chain.specs.ChainCells.{Chain, ChainOk}
 use Rattle.law_chain.specs.ChainAt.{At, push_tail, push_block, asking, installing, showing, claiming, laying, opening, chaining, writing, spending, pop_head, pop_block, pop_tail, taking, following, peeking, passing, entering, awaiting, len_tail, len_head, len_again, empty_head, empty_tail, closing, closed_tail, walking, destroying, reading, beginning}
 use Rattle.machine_memory.specs.SharedMemory.{Shared}
@@ -10,7 +10,7 @@ use Rattle.machine_replay.proofs.ChainCodedPush.{coded_push_tail, coded_push_blo
 use Rattle.machine_replay.proofs.ChainCodedPop.{coded_pop_head, coded_pop_block, coded_pop_tail, coded_taking, coded_following, coded_peeking, coded_passing, coded_entering, coded_awaiting, coded_len_tail, coded_len_head, coded_len_again, coded_empty_head, coded_empty_tail, coded_closing, coded_closed_tail}
 use Rattle.machine_replay.proofs.ChainCodedRead.{coded_walking, coded_destroying, coded_reading, coded_beginning}
 
-pub coded : {A : Type 0} {c : Chain A} {who : ℕ} {ms : List (State A)} {l : Local ℕ} {t : Touch} {o : Op ℕ} {v : Option A} {k : Call A} {es : List (Effect A)} (ok : Bool) (s : Shared A) (at : At c who ms l t o v k es)
+pub coded : {A : Type 0} {c : Chain A} {who : ℕ} {ms : List (State A)} {k : Stand A} (ok : Bool) (s : Shared A) (at : At c who ms k)
     → ChainOk c → Stands s c → Coded c who ms ok s at
 coded {c = c} {who = who} {ms = ms} ok s (push_tail d v spare none spare_is) right codes = coded_push_tail c who ms ok s d v spare none spare_is right codes
 coded {c = c} {who = who} {ms = ms} ok s (push_block d v spare q none spare_is saw) right codes = coded_push_block c who ms ok s d v spare q none spare_is saw right codes

@@ -80,80 +80,81 @@ walk_block c who s b name slot right codes is named =
       answers = state_answers s.blocks b name slot (state_of s.blocks name slot) x.0 right named x.2 (omega arith) (λ last. absurd (omega arith)) (state_is s.blocks name slot x.0 x.1);
     }
 
--- W1: the state of a passed block's slot is read
-pub coded_walking : {A : Type 0} (c : Chain A) (who : ℕ) (ms : List (State A)) (ok : Bool) (s : Shared A) (x : A) (b name slot : ℕ) (holds : Holds c who (Only (Passed b))) (is : c.walks b ≡ Walker who slot) (named : IsNamed c b name)
-    → ChainOk c → Stands s c → Coded c who ms ok s (walking x b name slot holds is named)
-coded_walking {A} c who ms ok s x b name slot holds is named right codes = record {
-  touches = tt;
-  operates = at_walk.placed_in;
-  answers = at_walk.answers;
-  carried = refl;
-  codes = λ fine gives. go (is_done (c.readers (item_at b slot))) (bit_and (state_of s.blocks name slot) READ == 0) refl at_walk.state.read;
-}
-  where
-    at_walk : WalkBlock c s b name slot
-    at_walk = walk_block c who s b name slot right codes is named
+module _ {A : Type 0} (c : Chain A) (who : ℕ) (ms : List (State A)) (ok : Bool) (s : Shared A) where
+  -- W1: the state of a passed block's slot is read
+  pub coded_walking : (x : A) (b name slot : ℕ) (holds : Holds c who (Only (Passed b))) (is : c.walks b ≡ Walker who slot) (named : IsNamed c b name)
+      → ChainOk c → Stands s c → Coded c who ms ok s (walking x b name slot holds is named)
+  coded_walking x b name slot holds is named right codes = record {
+    touches = tt;
+    operates = at_walk.placed_in;
+    answers = at_walk.answers;
+    carried = refl;
+    codes = λ fine gives. go (is_done (c.readers (item_at b slot))) (bit_and (state_of s.blocks name slot) READ == 0) refl at_walk.state.read;
+  }
+    where
+      at_walk : WalkBlock c s b name slot
+      at_walk = walk_block c who s b name slot right codes is named
 
-    n : Bool → Next ℕ
-    n u = if not u then walks_on name slot else at (chain.Destroying name slot) Touch.Nothing (Op.Or (Word.State name slot) DESTROY)
+      n : Bool → Next ℕ
+      n u = if not u then walks_on name slot else at (chain.Destroying name slot) Touch.Nothing (Op.Or (Word.State name slot) DESTROY)
 
-    go : (t u : Bool) → is_done (c.readers (item_at b slot)) ≡ t → u ≡ not t → Codes (left_by (if t then walked c b (walk_after who slot) else c) (n u)) s.head s.tail s.head_block s.tail_block (without (spare_in (n u)) s.blocks)
-    go false u done e = subst (λ u. Codes (left_by c (n u)) s.head s.tail s.head_block s.tail_block (without (spare_in (n u)) s.blocks)) (sym e) codes
-    go true u done e =
-        let same = (let low = at_walk.low in at_walk.block.state slot (omega arith) (λ last. absurd (omega arith))) in
-        let z = placed at_walk.x slot (place_in at_walk.x slot) in
-        subst (λ u. Codes (left_by (walked c b (walk_after who slot)) (n u)) s.head s.tail s.head_block s.tail_block (without (spare_in (n u)) s.blocks)) (sym e)
-        (walk_on {r = λ w. walked c b w} who slot b name z at_walk.low (changed_none at_walk.is (ap (λ y. Some y) (sym (placed_same at_walk.x slot)))) (λ w. ap c.uses named.1 ∙ right.name b named.0)
-        (λ w y after way changed left. codes_walked b slot name w (place_in at_walk.x slot) y at_walk.x right at_walk.low named at_walk.block
-        (λ j ne. ap (λ v. waits_at v j) way ∙ (after_waits who slot j ∙ sym (ap (λ v. waits_at v j) is)))
-        refl
-        (record { written = same.written; read = same.read; destroyed = λ ne. absurd (ne (done_is (c.readers (item_at b slot)) done)) })
-        changed left codes))
+      go : (t u : Bool) → is_done (c.readers (item_at b slot)) ≡ t → u ≡ not t → Codes (left_by (if t then walked c b (walk_after who slot) else c) (n u)) s.head s.tail s.head_block s.tail_block (without (spare_in (n u)) s.blocks)
+      go false u done e = subst (λ u. Codes (left_by c (n u)) s.head s.tail s.head_block s.tail_block (without (spare_in (n u)) s.blocks)) (sym e) codes
+      go true u done e =
+          let same = (let low = at_walk.low in at_walk.block.state slot (omega arith) (λ last. absurd (omega arith))) in
+          let z = placed at_walk.x slot (place_in at_walk.x slot) in
+          subst (λ u. Codes (left_by (walked c b (walk_after who slot)) (n u)) s.head s.tail s.head_block s.tail_block (without (spare_in (n u)) s.blocks)) (sym e)
+          (walk_on {r = λ w. walked c b w} who slot b name z at_walk.low (changed_none at_walk.is (ap (λ y. Some y) (sym (placed_same at_walk.x slot)))) (λ w. ap c.uses named.1 ∙ right.name b named.0)
+          (λ w y after way changed left. codes_walked b slot name w (place_in at_walk.x slot) y at_walk.x right at_walk.low named at_walk.block
+          (λ j ne. ap (λ v. waits_at v j) way ∙ (after_waits who slot j ∙ sym (ap (λ v. waits_at v j) is)))
+          refl
+          (record { written = same.written; read = same.read; destroyed = λ ne. absurd (ne (done_is (c.readers (item_at b slot)) done)) })
+          changed left codes))
 
--- W2: the reader of a passed block's slot is told to go on with the walk
-pub coded_destroying : {A : Type 0} (c : Chain A) (who : ℕ) (ms : List (State A)) (ok : Bool) (s : Shared A) (x : A) (b name slot : ℕ) (holds : Holds c who (Only (Passed b))) (is : c.walks b ≡ Walker who slot) (named : IsNamed c b name)
-    → ChainOk c → Stands s c → Coded c who ms ok s (destroying x b name slot holds is named)
-coded_destroying {A} c who ms ok s x b name slot holds is named right codes = record {
-  touches = tt;
-  operates = at_walk.placed_in;
-  answers = at_walk.answers;
-  carried = refl;
-  codes = λ fine gives. go (is_done (c.readers (item_at b slot))) (bit_and (state_of s.blocks name slot) READ == 0) refl at_walk.state.read;
-}
-  where
-    at_walk : WalkBlock c s b name slot
-    at_walk = walk_block c who s b name slot right codes is named
+  -- W2: the reader of a passed block's slot is told to go on with the walk
+  pub coded_destroying : (x : A) (b name slot : ℕ) (holds : Holds c who (Only (Passed b))) (is : c.walks b ≡ Walker who slot) (named : IsNamed c b name)
+      → ChainOk c → Stands s c → Coded c who ms ok s (destroying x b name slot holds is named)
+  coded_destroying x b name slot holds is named right codes = record {
+    touches = tt;
+    operates = at_walk.placed_in;
+    answers = at_walk.answers;
+    carried = refl;
+    codes = λ fine gives. go (is_done (c.readers (item_at b slot))) (bit_and (state_of s.blocks name slot) READ == 0) refl at_walk.state.read;
+  }
+    where
+      at_walk : WalkBlock c s b name slot
+      at_walk = walk_block c who s b name slot right codes is named
 
-    marked_word : ℕ
-    marked_word = bit_or (state_of s.blocks name slot) DESTROY
+      marked_word : ℕ
+      marked_word = bit_or (state_of s.blocks name slot) DESTROY
 
-    p : Place A
-    p = record (place_in at_walk.x slot) { state = marked_word }
+      p : Place A
+      p = record (place_in at_walk.x slot) { state = marked_word }
 
-    changed : Changed s.blocks (put_state s.blocks name slot marked_word) name (Some (placed at_walk.x slot p))
-    changed = state_put s.blocks name slot marked_word at_walk.x at_walk.is
+      changed : Changed s.blocks (put_state s.blocks name slot marked_word) name (Some (placed at_walk.x slot p))
+      changed = state_put s.blocks name slot marked_word at_walk.x at_walk.is
 
-    n : Bool → Next ℕ
-    n u = if not u then walks_on name slot else Next.Reply (Reply.Pop (Ok tt)) None
+      n : Bool → Next ℕ
+      n u = if not u then walks_on name slot else Next.Reply (Reply.Pop (Ok tt)) None
 
-    go : (t u : Bool) → is_done (c.readers (item_at b slot)) ≡ t → u ≡ not t
-        → Codes (left_by (walked c b (if t then walk_after who slot else Waits slot)) (n u)) s.head s.tail s.head_block s.tail_block (without (spare_in (n u)) (put_state s.blocks name slot marked_word))
-    go false u done e =
-        subst (λ u. Codes (left_by (walked c b (Waits slot)) (n u)) s.head s.tail s.head_block s.tail_block (without (spare_in (n u)) (put_state s.blocks name slot marked_word))) (sym e)
-        (codes_walked b slot name (Waits slot) p (Some (placed at_walk.x slot p)) at_walk.x right at_walk.low named at_walk.block
-        (λ j ne. ne_eqb slot j (λ z. ne (sym z)) ∙ sym (ap (λ v. waits_at v j) is))
-        refl
-        (state_waits c (walked c b (Waits slot)) b slot (state_of s.blocks name slot) refl refl (put_same c.walks b (Waits slot)) at_walk.state)
-        changed (inr ((λ z. cc), refl)) codes)
-    go true u done e =
-        let read = done_is (c.readers (item_at b slot)) done in
-        subst (λ u. Codes (left_by (walked c b (walk_after who slot)) (n u)) s.head s.tail s.head_block s.tail_block (without (spare_in (n u)) (put_state s.blocks name slot marked_word))) (sym e)
-        (walk_on {r = λ w. walked c b w} who slot b name (placed at_walk.x slot p) at_walk.low changed (λ w. ap c.uses named.1 ∙ right.name b named.0)
-        (λ w y after way now left. codes_walked b slot name w p y at_walk.x right at_walk.low named at_walk.block
-        (λ j ne. ap (λ v. waits_at v j) way ∙ (after_waits who slot j ∙ sym (ap (λ v. waits_at v j) is)))
-        refl
-        (state_passed c (walked c b w) b slot (state_of s.blocks name slot) refl read read at_walk.state)
-        now left codes))
+      go : (t u : Bool) → is_done (c.readers (item_at b slot)) ≡ t → u ≡ not t
+          → Codes (left_by (walked c b (if t then walk_after who slot else Waits slot)) (n u)) s.head s.tail s.head_block s.tail_block (without (spare_in (n u)) (put_state s.blocks name slot marked_word))
+      go false u done e =
+          subst (λ u. Codes (left_by (walked c b (Waits slot)) (n u)) s.head s.tail s.head_block s.tail_block (without (spare_in (n u)) (put_state s.blocks name slot marked_word))) (sym e)
+          (codes_walked b slot name (Waits slot) p (Some (placed at_walk.x slot p)) at_walk.x right at_walk.low named at_walk.block
+          (λ j ne. ne_eqb slot j (λ z. ne (sym z)) ∙ sym (ap (λ v. waits_at v j) is))
+          refl
+          (state_waits c (walked c b (Waits slot)) b slot (state_of s.blocks name slot) refl refl (put_same c.walks b (Waits slot)) at_walk.state)
+          changed (inr ((λ z. cc), refl)) codes)
+      go true u done e =
+          let read = done_is (c.readers (item_at b slot)) done in
+          subst (λ u. Codes (left_by (walked c b (walk_after who slot)) (n u)) s.head s.tail s.head_block s.tail_block (without (spare_in (n u)) (put_state s.blocks name slot marked_word))) (sym e)
+          (walk_on {r = λ w. walked c b w} who slot b name (placed at_walk.x slot p) at_walk.low changed (λ w. ap c.uses named.1 ∙ right.name b named.0)
+          (λ w y after way now left. codes_walked b slot name w p y at_walk.x right at_walk.low named at_walk.block
+          (λ j ne. ap (λ v. waits_at v j) way ∙ (after_waits who slot j ∙ sym (ap (λ v. waits_at v j) is)))
+          refl
+          (state_passed c (walked c b w) b slot (state_of s.blocks name slot) refl read read at_walk.state)
+          now left codes))
 
 -- a walk that waits at one slot waits at no other
 waits_once : (w : Walk) (i j : ℕ) → waits_at w i ≡ true → j ≢ i → waits_at w j ≡ false
@@ -163,144 +164,145 @@ waits_once w i j e ne = ap (λ x. waits_at x j) (waits_is w i e) ∙ ne_eqb i j 
 lies_there : {A : Type 0} (c : Chain A) (n m who : ℕ) (x : A) → m ≡ n → c.writers n ≡ Wrote x → c.readers n ≡ Reading who → lies (c.writers m) (c.readers m) ≡ Some x
 lies_there c n m who x same wrote reading_it = rw (same, wrote, reading_it) refl
 
--- V10: the item is read, in the middle of a block
-pub coded_reading : {A : Type 0} (c : Chain A) (who : ℕ) (ms : List (State A)) (ok : Bool) (s : Shared A) (x : A) (n name : ℕ) (more : Bool) (holds : Holds c who (Only (Read n))) (got : Got c who n x name) (wrote : c.writers n ≡ Wrote x) (inner : IsLast n → ⊥)
-    → ChainOk c → Stands s c → Coded c who ms ok s (reading x n name more holds got wrote inner)
-coded_reading {A} c who ms ok s x n name more holds got wrote inner right codes = record {
-  touches = has_place s.blocks (n / BLOCK_SLOTS) name i block.0 block.1 block.2 wide;
-  operates = subst (λ y. i < length (places_in y)) (sym emptied.here) (subst (λ m. i < m) (sym (length-set block.0.places i (record (place_in block.0 i) { item = None }))) room);
-  answers = state_answers s.blocks (n / BLOCK_SLOTS) name i st block.0 right got.named block.2 wide (λ last e. unread (ap c.readers (sym there_is) ∙ e)) word_is;
-  carried = ap (λ y. (get_or (places_in y) i blank).item) block.1 ∙ (block.2.slot i wide ∙ lies_there c n (item_at (n / BLOCK_SLOTS) i) who x there_is wrote got.mine);
-  codes = λ fine gives. go (waits_at (c.walks (n / BLOCK_SLOTS)) i) (bit_and st DESTROY == 0) refl (state.destroyed (λ e. unread (ap c.readers (sym there_is) ∙ e)));
-}
-  where
-    i : ℕ
-    i = offset_of (head_of n more)
+module _ {A : Type 0} (c : Chain A) (who : ℕ) (ms : List (State A)) (ok : Bool) (s : Shared A) where
+  -- V10: the item is read, in the middle of a block
+  pub coded_reading : (x : A) (n name : ℕ) (more : Bool) (holds : Holds c who (Only (Read n))) (got : Got c who n x name) (wrote : c.writers n ≡ Wrote x) (inner : IsLast n → ⊥)
+      → ChainOk c → Stands s c → Coded c who ms ok s (reading x n name more holds got wrote inner)
+  coded_reading x n name more holds got wrote inner right codes = record {
+    touches = has_place s.blocks (n / BLOCK_SLOTS) name i block.0 block.1 block.2 wide;
+    operates = subst (λ y. i < length (places_in y)) (sym emptied.here) (subst (λ m. i < m) (sym (length-set block.0.places i (record (place_in block.0 i) { item = None }))) room);
+    answers = state_answers s.blocks (n / BLOCK_SLOTS) name i st block.0 right got.named block.2 wide (λ last e. unread (ap c.readers (sym there_is) ∙ e)) word_is;
+    carried = ap (λ y. (get_or (places_in y) i blank).item) block.1 ∙ (block.2.slot i wide ∙ lies_there c n (item_at (n / BLOCK_SLOTS) i) who x there_is wrote got.mine);
+    codes = λ fine gives. go (waits_at (c.walks (n / BLOCK_SLOTS)) i) (bit_and st DESTROY == 0) refl (state.destroyed (λ e. unread (ap c.readers (sym there_is) ∙ e)));
+  }
+    where
+      i : ℕ
+      i = offset_of (head_of n more)
 
-    slot : offset_of (head_of n more) ≡ n % BLOCK_SLOTS
-    slot = head_offset n more
+      slot : offset_of (head_of n more) ≡ n % BLOCK_SLOTS
+      slot = head_offset n more
 
-    wide : offset_of (head_of n more) < BLOCK_SLOTS
-    wide = let e = slot in omega arith
+      wide : offset_of (head_of n more) < BLOCK_SLOTS
+      wide = let e = slot in omega arith
 
-    low : offset_of (head_of n more) < LAST
-    low = let e = slot in omega (arith, inner)
+      low : offset_of (head_of n more) < LAST
+      low = let e = slot in omega (arith, inner)
 
-    there_is : item_at (n / BLOCK_SLOTS) (offset_of (head_of n more)) ≡ n
-    there_is = let e = slot in omega arith
+      there_is : item_at (n / BLOCK_SLOTS) (offset_of (head_of n more)) ≡ n
+      there_is = let e = slot in omega arith
 
-    unread : c.readers n ≢ Done
-    unread e = let z : Reading who ≡ Done = sym got.mine ∙ e in cc
+      unread : c.readers n ≢ Done
+      unread e = let z : Reading who ≡ Done = sym got.mine ∙ e in cc
 
-    on : c.walks (n / BLOCK_SLOTS) ≢ GivenUp
-    on = not_given_up c n right unread
+      on : c.walks (n / BLOCK_SLOTS) ≢ GivenUp
+      on = not_given_up c n right unread
 
-    block : (y : Block A) × (get_or s.blocks name None ≡ Some y) × BlockIs c (n / BLOCK_SLOTS) y.places y.next
-    block = block_at (n / BLOCK_SLOTS) name right got.named on codes
+      block : (y : Block A) × (get_or s.blocks name None ≡ Some y) × BlockIs c (n / BLOCK_SLOTS) y.places y.next
+      block = block_at (n / BLOCK_SLOTS) name right got.named on codes
 
-    room : offset_of (head_of n more) < length block.0.places
-    room = subst (λ m. offset_of (head_of n more) < m) (sym block.2.wide) wide
+      room : offset_of (head_of n more) < length block.0.places
+      room = subst (λ m. offset_of (head_of n more) < m) (sym block.2.wide) wide
 
-    emptied : Changed s.blocks (put_item s.blocks name (offset_of (head_of n more)) None) name (Some (placed block.0 (offset_of (head_of n more)) (record (place_in block.0 (offset_of (head_of n more))) { item = None })))
-    emptied = item_put s.blocks name i None block.0 block.1
+      emptied : Changed s.blocks (put_item s.blocks name (offset_of (head_of n more)) None) name (Some (placed block.0 (offset_of (head_of n more)) (record (place_in block.0 (offset_of (head_of n more))) { item = None })))
+      emptied = item_put s.blocks name i None block.0 block.1
 
-    st : ℕ
-    st = state_of (put_item s.blocks name (offset_of (head_of n more)) None) name (offset_of (head_of n more))
+      st : ℕ
+      st = state_of (put_item s.blocks name (offset_of (head_of n more)) None) name (offset_of (head_of n more))
 
-    word_is : state_of (put_item s.blocks name (offset_of (head_of n more)) None) name (offset_of (head_of n more)) ≡ (place_in block.0 (offset_of (head_of n more))).state
-    word_is = state_left s.blocks name i None block.0 block.1 room
+      word_is : state_of (put_item s.blocks name (offset_of (head_of n more)) None) name (offset_of (head_of n more)) ≡ (place_in block.0 (offset_of (head_of n more))).state
+      word_is = state_left s.blocks name i None block.0 block.1 room
 
-    state : IsState c (n / BLOCK_SLOTS) (offset_of (head_of n more)) st
-    state = subst (λ m. IsState c (n / BLOCK_SLOTS) i m) (sym word_is) (block.2.state i wide (λ last e. unread (ap c.readers (sym there_is) ∙ e)))
+      state : IsState c (n / BLOCK_SLOTS) (offset_of (head_of n more)) st
+      state = subst (λ m. IsState c (n / BLOCK_SLOTS) i m) (sym word_is) (block.2.state i wide (λ last e. unread (ap c.readers (sym there_is) ∙ e)))
 
-    p : Place A
-    p = record { state = bit_or st READ; item = None }
+      p : Place A
+      p = record { state = bit_or st READ; item = None }
 
-    after : List (Option (Block A))
-    after = put_state (put_item s.blocks name (offset_of (head_of n more)) None) name (offset_of (head_of n more)) (bit_or st READ)
+      after : List (Option (Block A))
+      after = put_state (put_item s.blocks name (offset_of (head_of n more)) None) name (offset_of (head_of n more)) (bit_or st READ)
 
-    changed : Changed s.blocks after name (Some (placed block.0 (offset_of (head_of n more)) p))
-    changed = both_put s.blocks name i (bit_or st READ) None block.0 block.1 room
+      changed : Changed s.blocks after name (Some (placed block.0 (offset_of (head_of n more)) p))
+      changed = both_put s.blocks name i (bit_or st READ) None block.0 block.1 room
 
-    nx : Bool → Next ℕ
-    nx u = if not u then walks_on name (offset_of (head_of n more)) else Next.Reply (Reply.Pop (Ok tt)) None
+      nx : Bool → Next ℕ
+      nx u = if not u then walks_on name (offset_of (head_of n more)) else Next.Reply (Reply.Pop (Ok tt)) None
 
-    go : (t u : Bool) → waits_at (c.walks (n / BLOCK_SLOTS)) (offset_of (head_of n more)) ≡ t → u ≡ not t
-        → Codes (left_by (reads c n (if t then walk_after who (offset_of (head_of n more)) else c.walks (n / BLOCK_SLOTS))) (nx u)) s.head s.tail s.head_block s.tail_block (without (spare_in (nx u)) after)
-    go false u waits e =
-        subst (λ u. Codes (left_by (reads c n (c.walks (n / BLOCK_SLOTS))) (nx u)) s.head s.tail s.head_block s.tail_block (without (spare_in (nx u)) after)) (sym e)
-        (codes_read n i name (c.walks (n / BLOCK_SLOTS)) p (Some (placed block.0 i p)) block.0 right wide there_is got.named block.2 unread (λ j ne. refl) refl (inr (ap (λ m. bit_or m READ) word_is)) changed (inr (on, refl)) codes)
-    go true u waits e =
-        subst (λ u. Codes (left_by (reads c n (walk_after who i)) (nx u)) s.head s.tail s.head_block s.tail_block (without (spare_in (nx u)) after)) (sym e)
-        (walk_on {r = λ w. reads c n w} who i (n / BLOCK_SLOTS) name (placed block.0 i p) low changed (λ w. ap c.uses got.named.1 ∙ right.name (n / BLOCK_SLOTS) got.named.0)
-        (λ w y end way now left. codes_read n i name w p y block.0 right wide there_is got.named block.2 unread
-        (λ j ne. ap (λ v. waits_at v j) way ∙ (after_waits who i j ∙ sym (waits_once (c.walks (n / BLOCK_SLOTS)) i j waits ne)))
-        refl (inr (ap (λ m. bit_or m READ) word_is)) now left codes))
+      go : (t u : Bool) → waits_at (c.walks (n / BLOCK_SLOTS)) (offset_of (head_of n more)) ≡ t → u ≡ not t
+          → Codes (left_by (reads c n (if t then walk_after who (offset_of (head_of n more)) else c.walks (n / BLOCK_SLOTS))) (nx u)) s.head s.tail s.head_block s.tail_block (without (spare_in (nx u)) after)
+      go false u waits e =
+          subst (λ u. Codes (left_by (reads c n (c.walks (n / BLOCK_SLOTS))) (nx u)) s.head s.tail s.head_block s.tail_block (without (spare_in (nx u)) after)) (sym e)
+          (codes_read n i name (c.walks (n / BLOCK_SLOTS)) p (Some (placed block.0 i p)) block.0 right wide there_is got.named block.2 unread (λ j ne. refl) refl (inr (ap (λ m. bit_or m READ) word_is)) changed (inr (on, refl)) codes)
+      go true u waits e =
+          subst (λ u. Codes (left_by (reads c n (walk_after who i)) (nx u)) s.head s.tail s.head_block s.tail_block (without (spare_in (nx u)) after)) (sym e)
+          (walk_on {r = λ w. reads c n w} who i (n / BLOCK_SLOTS) name (placed block.0 i p) low changed (λ w. ap c.uses got.named.1 ∙ right.name (n / BLOCK_SLOTS) got.named.0)
+          (λ w y end way now left. codes_read n i name w p y block.0 right wide there_is got.named block.2 unread
+          (λ j ne. ap (λ v. waits_at v j) way ∙ (after_waits who i j ∙ sym (waits_once (c.walks (n / BLOCK_SLOTS)) i j waits ne)))
+          refl (inr (ap (λ m. bit_or m READ) word_is)) now left codes))
 
--- V10: the item of the last slot is read, and the walk begins at the first: W1
-pub coded_beginning : {A : Type 0} (c : Chain A) (who : ℕ) (ms : List (State A)) (ok : Bool) (s : Shared A) (x : A) (n name : ℕ) (more : Bool) (holds : Holds c who (Only (Read n))) (got : Got c who n x name) (wrote : c.writers n ≡ Wrote x) (last_is : IsLast n)
-    → ChainOk c → Stands s c → Coded c who ms ok s (beginning x n name more holds got wrote last_is)
-coded_beginning {A} c who ms ok s x n name more holds got wrote last_is right codes = record {
-  touches = has_place s.blocks (n / BLOCK_SLOTS) name i block.0 block.1 block.2 wide;
-  operates = subst (λ y. 0 < length (places_in y)) (sym emptied.here) (subst (λ m. 0 < m) (sym (length-set block.0.places i p)) (let r = room in omega arith));
-  answers = state_answers s.blocks (n / BLOCK_SLOTS) name 0 st block.0 right got.named block.2 (omega arith) (λ z. absurd (omega arith)) word_is;
-  carried = ap (λ y. (get_or (places_in y) i blank).item) block.1 ∙ (block.2.slot i wide ∙ lies_there c n (item_at (n / BLOCK_SLOTS) i) who x there_is wrote got.mine);
-  codes = λ fine gives. go (is_done (c.readers (item_at (n / BLOCK_SLOTS) 0))) (bit_and st READ == 0) refl state.read;
-}
-  where
-    i : ℕ
-    i = offset_of (head_of n more)
+  -- V10: the item of the last slot is read, and the walk begins at the first: W1
+  pub coded_beginning : (x : A) (n name : ℕ) (more : Bool) (holds : Holds c who (Only (Read n))) (got : Got c who n x name) (wrote : c.writers n ≡ Wrote x) (last_is : IsLast n)
+      → ChainOk c → Stands s c → Coded c who ms ok s (beginning x n name more holds got wrote last_is)
+  coded_beginning x n name more holds got wrote last_is right codes = record {
+    touches = has_place s.blocks (n / BLOCK_SLOTS) name i block.0 block.1 block.2 wide;
+    operates = subst (λ y. 0 < length (places_in y)) (sym emptied.here) (subst (λ m. 0 < m) (sym (length-set block.0.places i p)) (let r = room in omega arith));
+    answers = state_answers s.blocks (n / BLOCK_SLOTS) name 0 st block.0 right got.named block.2 (omega arith) (λ z. absurd (omega arith)) word_is;
+    carried = ap (λ y. (get_or (places_in y) i blank).item) block.1 ∙ (block.2.slot i wide ∙ lies_there c n (item_at (n / BLOCK_SLOTS) i) who x there_is wrote got.mine);
+    codes = λ fine gives. go (is_done (c.readers (item_at (n / BLOCK_SLOTS) 0))) (bit_and st READ == 0) refl state.read;
+  }
+    where
+      i : ℕ
+      i = offset_of (head_of n more)
 
-    at_last : offset_of (head_of n more) ≡ LAST
-    at_last = let e = head_offset n more in omega (arith, last_is)
+      at_last : offset_of (head_of n more) ≡ LAST
+      at_last = let e = head_offset n more in omega (arith, last_is)
 
-    wide : offset_of (head_of n more) < BLOCK_SLOTS
-    wide = let e = at_last in omega arith
+      wide : offset_of (head_of n more) < BLOCK_SLOTS
+      wide = let e = at_last in omega arith
 
-    there_is : item_at (n / BLOCK_SLOTS) (offset_of (head_of n more)) ≡ n
-    there_is = let e = head_offset n more in omega arith
+      there_is : item_at (n / BLOCK_SLOTS) (offset_of (head_of n more)) ≡ n
+      there_is = let e = head_offset n more in omega arith
 
-    unread : c.readers n ≢ Done
-    unread e = let z : Reading who ≡ Done = sym got.mine ∙ e in cc
+      unread : c.readers n ≢ Done
+      unread e = let z : Reading who ≡ Done = sym got.mine ∙ e in cc
 
-    block : (y : Block A) × (get_or s.blocks name None ≡ Some y) × BlockIs c (n / BLOCK_SLOTS) y.places y.next
-    block = block_at (n / BLOCK_SLOTS) name right got.named (not_given_up c n right unread) codes
+      block : (y : Block A) × (get_or s.blocks name None ≡ Some y) × BlockIs c (n / BLOCK_SLOTS) y.places y.next
+      block = block_at (n / BLOCK_SLOTS) name right got.named (not_given_up c n right unread) codes
 
-    room : offset_of (head_of n more) < length block.0.places
-    room = subst (λ m. offset_of (head_of n more) < m) (sym block.2.wide) wide
+      room : offset_of (head_of n more) < length block.0.places
+      room = subst (λ m. offset_of (head_of n more) < m) (sym block.2.wide) wide
 
-    p : Place A
-    p = record (place_in block.0 (offset_of (head_of n more))) { item = None }
+      p : Place A
+      p = record (place_in block.0 (offset_of (head_of n more))) { item = None }
 
-    after : List (Option (Block A))
-    after = put_item s.blocks name (offset_of (head_of n more)) None
+      after : List (Option (Block A))
+      after = put_item s.blocks name (offset_of (head_of n more)) None
 
-    emptied : Changed s.blocks after name (Some (placed block.0 (offset_of (head_of n more)) p))
-    emptied = item_put s.blocks name i None block.0 block.1
+      emptied : Changed s.blocks after name (Some (placed block.0 (offset_of (head_of n more)) p))
+      emptied = item_put s.blocks name i None block.0 block.1
 
-    st : ℕ
-    st = state_of (put_item s.blocks name (offset_of (head_of n more)) None) name 0
+      st : ℕ
+      st = state_of (put_item s.blocks name (offset_of (head_of n more)) None) name 0
 
-    word_is : state_of (put_item s.blocks name (offset_of (head_of n more)) None) name 0 ≡ (place_in block.0 0).state
-    word_is = state_is after name 0 (placed block.0 i p) emptied.here ∙ ap (λ q. q.state) (get_or-set_other block.0.places i 0 p blank (λ e. let z = at_last in absurd (omega arith)))
+      word_is : state_of (put_item s.blocks name (offset_of (head_of n more)) None) name 0 ≡ (place_in block.0 0).state
+      word_is = state_is after name 0 (placed block.0 i p) emptied.here ∙ ap (λ q. q.state) (get_or-set_other block.0.places i 0 p blank (λ e. let z = at_last in absurd (omega arith)))
 
-    state : IsState c (n / BLOCK_SLOTS) 0 st
-    state = subst (λ m. IsState c (n / BLOCK_SLOTS) 0 m) (sym word_is) (block.2.state 0 (omega arith) (λ z. absurd (omega arith)))
+      state : IsState c (n / BLOCK_SLOTS) 0 st
+      state = subst (λ m. IsState c (n / BLOCK_SLOTS) 0 m) (sym word_is) (block.2.state 0 (omega arith) (λ z. absurd (omega arith)))
 
-    before : c.walks (n / BLOCK_SLOTS) ≡ Before
-    before = unwalked c (n / BLOCK_SLOTS) right (λ e. unread (ap c.readers (sym there_is ∙ ap (λ j. item_at (n / BLOCK_SLOTS) j) at_last) ∙ e))
+      before : c.walks (n / BLOCK_SLOTS) ≡ Before
+      before = unwalked c (n / BLOCK_SLOTS) right (λ e. unread (ap c.readers (sym there_is ∙ ap (λ j. item_at (n / BLOCK_SLOTS) j) at_last) ∙ e))
 
-    nx : Bool → Next ℕ
-    nx u = if not u then walks_on name 0 else at (chain.Destroying name 0) Touch.Nothing (Op.Or (Word.State name 0) DESTROY)
+      nx : Bool → Next ℕ
+      nx u = if not u then walks_on name 0 else at (chain.Destroying name 0) Touch.Nothing (Op.Or (Word.State name 0) DESTROY)
 
-    go : (t u : Bool) → is_done (c.readers (item_at (n / BLOCK_SLOTS) 0)) ≡ t → u ≡ not t
-        → Codes (left_by (reads c n (if t then walk_after who 0 else Walker who 0)) (nx u)) s.head s.tail s.head_block s.tail_block (without (spare_in (nx u)) after)
-    go false u done e =
-        subst (λ u. Codes (left_by (reads c n (Walker who 0)) (nx u)) s.head s.tail s.head_block s.tail_block (without (spare_in (nx u)) after)) (sym e)
-        (codes_read n i name (Walker who 0) p (Some (placed block.0 i p)) block.0 right wide there_is got.named block.2 unread (λ j ne. sym (ap (λ v. waits_at v j) before)) refl (inl at_last) emptied (inr ((λ z. cc), refl)) codes)
-    go true u done e =
-        subst (λ u. Codes (left_by (reads c n (walk_after who 0)) (nx u)) s.head s.tail s.head_block s.tail_block (without (spare_in (nx u)) after)) (sym e)
-        (walk_on {r = λ w. reads c n w} who 0 (n / BLOCK_SLOTS) name (placed block.0 i p) (omega arith) emptied (λ w. ap c.uses got.named.1 ∙ right.name (n / BLOCK_SLOTS) got.named.0)
-        (λ w y end way now left. codes_read n i name w p y block.0 right wide there_is got.named block.2 unread
-        (λ j ne. ap (λ v. waits_at v j) way ∙ (after_waits who 0 j ∙ sym (ap (λ v. waits_at v j) before)))
-        refl (inl at_last) now left codes))
+      go : (t u : Bool) → is_done (c.readers (item_at (n / BLOCK_SLOTS) 0)) ≡ t → u ≡ not t
+          → Codes (left_by (reads c n (if t then walk_after who 0 else Walker who 0)) (nx u)) s.head s.tail s.head_block s.tail_block (without (spare_in (nx u)) after)
+      go false u done e =
+          subst (λ u. Codes (left_by (reads c n (Walker who 0)) (nx u)) s.head s.tail s.head_block s.tail_block (without (spare_in (nx u)) after)) (sym e)
+          (codes_read n i name (Walker who 0) p (Some (placed block.0 i p)) block.0 right wide there_is got.named block.2 unread (λ j ne. sym (ap (λ v. waits_at v j) before)) refl (inl at_last) emptied (inr ((λ z. cc), refl)) codes)
+      go true u done e =
+          subst (λ u. Codes (left_by (reads c n (walk_after who 0)) (nx u)) s.head s.tail s.head_block s.tail_block (without (spare_in (nx u)) after)) (sym e)
+          (walk_on {r = λ w. reads c n w} who 0 (n / BLOCK_SLOTS) name (placed block.0 i p) (omega arith) emptied (λ w. ap c.uses got.named.1 ∙ right.name (n / BLOCK_SLOTS) got.named.0)
+          (λ w y end way now left. codes_read n i name w p y block.0 right wide there_is got.named block.2 unread
+          (λ j ne. ap (λ v. waits_at v j) way ∙ (after_waits who 0 j ∙ sym (ap (λ v. waits_at v j) before)))
+          refl (inl at_last) now left codes))

@@ -5,6 +5,7 @@ use Rattle.std.proofs.lemmas.List.{get_or_past}
 use Rattle.queue_steps.specs.State.{State}
 use Rattle.queue_steps.specs.Sequential.{blocks_of}
 use Rattle.machine_replay.specs.Vocabulary.{Call, Effect, Running}
+use Rattle.machine_replay.proofs.StandOf.{stand_of}
 use Rattle.law_chain.specs.ChainCells.{Walk, GivenUp, Use, Chained, Chain, queue_of, Holds, Nothing}
 use Rattle.law_chain.specs.ChainAt.{At}
 use Rattle.law_chain.specs.ChainPasses.{spare_in, Spares}
@@ -26,7 +27,7 @@ pub record InCall {A : Type 0} (g : Chain A) (who : ℕ) (r : Running A) : Type 
   pub moments : List (State A)
   pub call : Call A
   pub effects : List (Effect A)
-  pub here : At g who moments r.local r.touch r.op r.carried call effects
+  pub here : At g who moments (stand_of r call effects)
   pub spares : Spares g who (spare_in r.local)
 
 -- where a party stands: between its calls it holds nothing

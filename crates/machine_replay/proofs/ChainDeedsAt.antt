@@ -1,7 +1,8 @@
 -- What each call on a chain has claimed, wherever it stands.
-use Rattle.std.proofs.Common.{ℕ, ◌+◌, ◌/◌, ◌≡◌, ◌∙◌, ◌⊎◌, inl, inr, Option, Some, List, sym, ap, subst, arith}
-use Rattle.machine_replay.specs.Vocabulary.{Call, Effect, Op, Touch, Local, BLOCK_SLOTS}
+use Rattle.std.proofs.Common.{ℕ, ◌+◌, ◌/◌, ◌≡◌, ◌∙◌, ◌⊎◌, inl, inr, Some, List, sym, ap, subst, arith}
+use Rattle.machine_replay.specs.Vocabulary.{BLOCK_SLOTS}
 use Rattle.queue_steps.specs.State.{State}
+use Rattle.law_common.specs.Stand.{Stand}
 use Rattle.law_chain.specs.ChainCells.{Laying, Opening, Chain, ChainOk, BlocksOk, Part, Write, Tail, Next, writer_of, reader_of, mover_of, passer_of, linker_of, Read, Head}
 use Rattle.law_chain.specs.ChainAt.{Either, At, push_tail, push_block, asking, installing, showing, claiming, laying, opening, chaining, writing, spending, pop_head, pop_block, pop_tail, taking, following, peeking, passing, entering, awaiting, reading, beginning, walking, destroying, len_tail, len_head, len_again, empty_head, empty_tail, closing, closed_tail}
 use Rattle.machine_steps.specs.ChainLeft.{front_at}
@@ -16,7 +17,7 @@ three X (inr (inr e)) a b c = c e
 laying_blocks : (tail blocks n who : ℕ) → BlocksOk tail blocks (Laying who) → tail ≡ n + 1 → n / BLOCK_SLOTS + 1 ≡ blocks
 laying_blocks tail blocks n who h e = let some = h.0 in let full = h.1 in omega arith
 
-pub at_deed : {A : Type 0} {c : Chain A} {who : ℕ} {ms : List (State A)} {l : Local ℕ} {t : Touch} {o : Op ℕ} {v : Option A} {k : Call A} {es : List (Effect A)} → ChainOk c → At c who ms l t o v k es → DeedIs c who (deed_of l t o v) (front_at l)
+pub at_deed : {A : Type 0} {c : Chain A} {who : ℕ} {ms : List (State A)} {k : Stand A} → ChainOk c → At c who ms k → DeedIs c who (deed_of k.local k.touch k.op k.carried) (front_at k.local)
 at_deed {c = c} {who = who} ok (push_tail d x spare none spare_is) = idle c who none
 at_deed {c = c} {who = who} ok (push_block d x spare q none spare_is saw) = idle c who none
 at_deed {c = c} {who = who} ok (asking d x q block none saw asked) = idle c who none

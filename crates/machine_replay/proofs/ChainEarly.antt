@@ -2,7 +2,7 @@
 use Rattle.std.proofs.Common.{ℕ, ◌+◌, ◌-◌, ◌/◌, ◌%◌, ◌==◌, if◌then◌else◌, ◌<◌, ◌≤◌, ◌≡◌, ◌≢◌, ◌⊎◌, inl, inr, ◌∙◌, zero, suc, Bool, true, false, Option, Some, None, IsSome, List, [], ◌∷◌, refl, sym, ap, subst, arith}
 use Rattle.std.proofs.lemmas.Bool.{ne_eqb, eq-eqb}
 use Rattle.std.proofs.lemmas.Bool.Decides.{eqb_tells}
-use Rattle.machine_replay.specs.Vocabulary.{Call, Reply, Effect, Kind, Word, Link, Op, Touch, Answer, Local, Next, PushKind, BLOCK_SLOTS, Running}
+use Rattle.machine_replay.specs.Vocabulary.{Reply, Kind, Word, Link, Op, Touch, Answer, Local, Next, PushKind, BLOCK_SLOTS, Running}
 use Rattle.queue_steps.specs.State.{State}
 use Rattle.queue_steps.specs.Next.{next_of}
 use Rattle.queue_steps.specs.Words.{is_shut, position_of, tail_of}
@@ -13,6 +13,8 @@ use Rattle.queue_steps.specs.declared.steps.unbounded.UnboundedLocal.TheVariants
 use Rattle.law_common.specs.Effects.{with_effect}
 use Rattle.law_common.proofs.Ranks.{either_small}
 use Rattle.law_common.proofs.Tails.{position_tail, shut_tail}
+use Rattle.law_common.specs.Stand.{Stand}
+use Rattle.machine_replay.proofs.StandOf.{running_of}
 use Rattle.law_chain.specs.ChainAfter.{after_of, chain_of, claimed_if, if_installed, left_by}
 use Rattle.law_chain.specs.ChainAnswers.{Answers, tail_place, tail_word, head_word, last_of, shown_of}
 use Rattle.law_chain.specs.ChainAt.{At, Only, push_tail, push_block, asking, installing, showing, claiming, laying, opening, chaining, writing, spending, pop_head, pop_block, pop_tail, taking, following, peeking, passing, entering, awaiting, reading, beginning, walking, destroying, len_tail, len_head, len_again, empty_head, empty_tail, closing, closed_tail}
@@ -210,8 +212,8 @@ again_fewer now head t h =
     elim (now == t) as (λ b. Fewer now head (if b then ends (Reply.Len (items_before (position_of t) - items_before (position_of h))) else loads chain.LenTail Word.Tail) (1 + (if b then 0 else 3))) [ true ↦ tt | false ↦ omega arith ]
 
 -- each step of a call leaves fewer steps before it; of a pop, while no block is to be seen and nothing was accepted
-fewer : {A : Type 0} {c : Chain A} {who : ℕ} {ms : List (State A)} {l : Local ℕ} {t : Touch} {o : Op ℕ} {v : Option A} {k : Call A} {es : List (Effect A)} (at : At c who ms l t o v k es) (a : Answer ℕ) → ChainOk c → Answers c o a → IsBare c who
-    → (one_of_pop l ≡ 1 → (is_seen c.shown ≡ false) × (position_of (tail_word c) ≡ 0)) → Fewer (tail_word (after_of at a)) (head_word (after_of at a)) (unbounded_next (chain_of l) a) (near_at (tail_word c) (head_word c) l)
+fewer : {A : Type 0} {c : Chain A} {who : ℕ} {ms : List (State A)} {k : Stand A} (at : At c who ms k) (a : Answer ℕ) → ChainOk c → Answers c k.op a → IsBare c who
+    → (one_of_pop k.local ≡ 1 → (is_seen c.shown ≡ false) × (position_of (tail_word c) ≡ 0)) → Fewer (tail_word (after_of at a)) (head_word (after_of at a)) (unbounded_next (chain_of k.local) a) (near_at (tail_word c) (head_word c) k.local)
 unfolding near_at far_at one_of_pop
 fewer {c = c} {who = who} (push_tail d x spare none spare_is) a ok found bare pop = rw found (tail_fewer c d spare (rests_bare c who bare none))
 fewer {c = c} {who = who} (push_block d x spare q none spare_is saw) a ok found bare pop = rw found (block_fewer c who d (open_tail_of q) spare ok spare_is)
@@ -246,8 +248,8 @@ goes_near c (Next.Step l t o) v m x e less = let same : record { local = l; touc
 goes_near c (Next.Reply y spare) v m x e less = cc
 
 -- V3: a pop that saw no block replies, where nothing was accepted
-early_ends : {A : Type 0} {c : Chain A} {who : ℕ} {ms : List (State A)} {l : Local ℕ} {t : Touch} {o : Op ℕ} {v : Option A} {k : Call A} {es : List (Effect A)} (head : ℕ) (u : Option A) (x : Running A) → At c who ms l t o v k es → (a : Answer ℕ) → ChainOk c → Answers c o a
-    → l ≡ Local.Unbounded (chain.PopTail head None) → position_of (tail_word c) ≡ 0 → running_after (unbounded_next (chain_of l) a) u ≡ Some x → ⊥
+early_ends : {A : Type 0} {c : Chain A} {who : ℕ} {ms : List (State A)} {k : Stand A} (head : ℕ) (u : Option A) (x : Running A) → At c who ms k → (a : Answer ℕ) → ChainOk c → Answers c k.op a
+    → k.local ≡ Local.Unbounded (chain.PopTail head None) → position_of (tail_word c) ≡ 0 → running_after (unbounded_next (chain_of k.local) a) u ≡ Some x → ⊥
 early_ends {c = c} head u x (pop_tail n b none is front) a ok found at_it first goes =
     let on = subst (λ z. running_after (unbounded_next (chain.PopTail (head_of n false) b) z) u ≡ Some x) found goes in
     let ended = rw (same_place c n ok is first) at on in
@@ -259,8 +261,8 @@ won_head : {A : Type 0} (b : Bool) (s : Shared A) (x : ℕ) → (if b then put_w
 won_head true s x = refl
 won_head false s x = refl
 
-pop_leaves : {A : Type 0} {c : Chain A} {who : ℕ} {ms : List (State A)} {l : Local ℕ} {t : Touch} {o : Op ℕ} {v : Option A} {k : Call A} {es : List (Effect A)} (ok : Bool) (s : Shared A) → At c who ms l t o v k es → one_of_pop l ≡ 1
-    → (step_of Kind.Unbounded ok s (record { local = l; touch = t; op = o; carried = v })).shared.tail ≡ s.tail
+pop_leaves : {A : Type 0} {c : Chain A} {who : ℕ} {ms : List (State A)} {k : Stand A} (ok : Bool) (s : Shared A) → At c who ms k → one_of_pop k.local ≡ 1
+    → (step_of Kind.Unbounded ok s (running_of k)).shared.tail ≡ s.tail
 unfolding one_of_pop
 pop_leaves ok s (pop_head none) pop = refl
 pop_leaves ok s (pop_block n more none is room) pop = refl
@@ -278,7 +280,7 @@ pop_leaves ok s (destroying x b name slot holds is named) pop = refl
 pop_leaves ok s _ pop = absurd (omega (arith, pop))
 
 -- a call that has had no effect has no part but the first block, which it is to show
-has_bare : {A : Type 0} {c : Chain A} {who : ℕ} {ms : List (State A)} {l : Local ℕ} {t : Touch} {o : Op ℕ} {v : Option A} {k : Call A} {es : List (Effect A)} → At c who ms l t o v k es → es ≡ [] → Holds c who (Only First)
+has_bare : {A : Type 0} {c : Chain A} {who : ℕ} {ms : List (State A)} {k : Stand A} → At c who ms k → k.effects ≡ [] → Holds c who (Only First)
 has_bare (push_tail d v spare none spare_is) e = λ x h. absurd (none x h)
 has_bare (push_block d v spare q none spare_is saw) e = λ x h. absurd (none x h)
 has_bare (asking d v q block none saw asked) e = λ x h. absurd (none x h)

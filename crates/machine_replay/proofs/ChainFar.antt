@@ -2,13 +2,14 @@
 use Rattle.std.proofs.Common.{ℕ, ◌+◌, ◌==◌, ◌%◌, ◌<◌, ◌≤◌, ◌≡◌, inl, inr, ◌∙◌, true, false, Option, Some, None, IsSome, List, refl, sym, ap, subst, arith}
 use Rattle.std.proofs.lemmas.Bool.{ne_eqb}
 use Rattle.std.proofs.lemmas.Bool.Decides.{eqb_tells}
-use Rattle.machine_replay.specs.Vocabulary.{Call, Effect, Op, Touch, Local, Next, PushKind, BLOCK_SLOTS, Running}
+use Rattle.machine_replay.specs.Vocabulary.{Call, Effect, Local, Next, PushKind, BLOCK_SLOTS, Running}
 use Rattle.queue_steps.specs.State.{State}
 use Rattle.queue_steps.specs.ChainWords.{offset_of}
 use Rattle.queue_steps.specs.declared.steps.unbounded.UnboundedLocal.TheVariants as chain
 use Rattle.law_common.specs.Pushes.{pushes}
 use Rattle.law_common.proofs.Ranks.{either_small}
-use Rattle.law_chain.specs.ChainCells.{Shown, Showing, Seen, Chain, ChainOk, ShownOk, LAST}
+use Rattle.law_common.specs.Stand.{Stand}
+use Rattle.law_chain.specs.ChainCells.{Shown, Seen, Chain, ChainOk, ShownOk, LAST}
 use Rattle.law_chain.specs.ChainAnswers.{tail_word, head_word, shown_of}
 use Rattle.law_chain.specs.ChainAt.{At, push_tail, push_block, asking, installing, showing, claiming, laying, opening, chaining, writing, spending, pop_head, pop_block, pop_tail, taking, following, peeking, passing, entering, awaiting, reading, beginning, walking, destroying, len_tail, len_head, len_again, empty_head, empty_tail, closing, closed_tail}
 use Rattle.law_chain.specs.ChainFacts.{head_of, open_tail_of}
@@ -83,7 +84,7 @@ unfolding pop_is_one
 no_pop PushKind.Push v = refl
 no_pop PushKind.Force v = refl
 
-pub by_call : {A : Type 0} {c : Chain A} {who : ℕ} {ms : List (State A)} {l : Local ℕ} {t : Touch} {o : Op ℕ} {v : Option A} {k : Call A} {es : List (Effect A)} → At c who ms l t o v k es → one_of_pop l ≡ pop_is_one k
+pub by_call : {A : Type 0} {c : Chain A} {who : ℕ} {ms : List (State A)} {k : Stand A} → At c who ms k → one_of_pop k.local ≡ pop_is_one k.call
 unfolding one_of_pop pop_is_one
 by_call (push_tail d v spare none spare_is) = sym (no_pop d v)
 by_call (push_block d v spare q none spare_is saw) = sym (no_pop d v)
@@ -110,8 +111,8 @@ pub inner_low : (n i : ℕ) → i ≡ n % BLOCK_SLOTS → (n % BLOCK_SLOTS + 1 �
 inner_low n i e ne = elim (eqb_tells (n % BLOCK_SLOTS + 1) BLOCK_SLOTS) [ inl t ↦ absurd (ne t.1) | inr t ↦ let z = t.1 in omega arith ]
 
 -- there is a step before it, and no more than a block's slots and ten
-pub bounded : {A : Type 0} {c : Chain A} {who : ℕ} {ms : List (State A)} {l : Local ℕ} {t : Touch} {o : Op ℕ} {v : Option A} {k : Call A} {es : List (Effect A)} (tail head : ℕ) → At c who ms l t o v k es → ChainOk c
-    → (one_of_pop l < far_at tail head l) × (far_at tail head l ≤ BLOCK_SLOTS + 10 + one_of_pop l)
+pub bounded : {A : Type 0} {c : Chain A} {who : ℕ} {ms : List (State A)} {k : Stand A} (tail head : ℕ) → At c who ms k → ChainOk c
+    → (one_of_pop k.local < far_at tail head k.local) × (far_at tail head k.local ≤ BLOCK_SLOTS + 10 + one_of_pop k.local)
 unfolding far_at one_of_pop
 bounded tail head (push_tail d v spare none spare_is) ok = (omega arith, omega arith)
 bounded tail head (push_block d v spare q none spare_is saw) ok = let x = lag_most tail (open_tail_of q) 5 in (omega arith, omega arith)

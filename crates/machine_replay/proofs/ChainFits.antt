@@ -4,6 +4,7 @@ use Rattle.queue_steps.specs.State.{State}
 use Rattle.queue_steps.specs.UnboundedNext.{unbounded_next}
 use Rattle.machine_replay.specs.Vocabulary.{Call, Reply, Effect, Kind, Answer, Next, Running}
 use Rattle.law_common.specs.Effects.{with_effect}
+use Rattle.machine_replay.proofs.StandOf.{stand_of}
 use Rattle.law_chain.specs.ChainCells.{Chain, queue_of, ChainOk, Holds, Nothing}
 use Rattle.law_chain.specs.ChainPasses.{Passes, Spares, spare_in}
 use Rattle.law_chain.proofs.ChainFacts.{holds_stays}
@@ -30,7 +31,7 @@ ChainIdle g p = Holds g p Nothing × Spares g p None
 
 -- where the party's call stands, that it has no spare but that in its hands, and that it has few steps before it
 pub record ChainFits {A : Type 0} (busy : ℕ) (s : Shared A) (Q : State A) (g : Chain A) (p : ℕ) (x : Running A) (o : Open A) : Type 0 where
-  pub here : At g p o.moments x.local x.touch x.op x.carried o.call o.effects
+  pub here : At g p o.moments (stand_of x o.call o.effects)
   pub spares : Spares g p (spare_in x.local)
   pub few : FewSteps busy o (rank g x.local) longest
 
@@ -75,7 +76,7 @@ chain_goes {A} Stands busy s t Q g p x o a ok found f quiet =
 pub chain_watched : {A : Type 0} (busy busy' : ℕ) (s t : Shared A) (Q : State A) (g h : Chain A) (p j : ℕ) (x : Running A) (o : Open A) → ChainOk g → ChainOk h → j ≢ p → Passes p g h → busy ≢ 1
     → ChainFits busy s Q g j x o → ChainFits busy' t (queue_of h) h j x (watched (queue_of h) o)
 chain_watched busy busy' s t Q g h p j x o ok after ne pass many f = record {
-  here = subst (λ ms. At h j ms x.local x.touch x.op x.carried o.call o.effects) (same_moments (queue_of h) o.moments) (at_stays ok after ne pass f.here);
+  here = subst (λ ms. At h j ms (stand_of x o.call o.effects)) (same_moments (queue_of h) o.moments) (at_stays ok after ne pass f.here);
   spares = spares_stay p j (spare_in x.local) ne pass f.spares;
   few = few_watched busy busy' (queue_of h) o (rank g x.local) (rank h x.local) longest many (rank_small h x.local) (λ e. let same = (wait_free_small h f.here e).1 in omega arith) f.few;
 }
@@ -89,7 +90,7 @@ pub chain_joins : {A : Type 0} (busy busy' : ℕ) (s : Shared A) (Q : State A) (
 chain_joins busy busy' s Q g p x o f = record { here = f.here; spares = f.spares; few = few_joined busy busy' o (rank g x.local) longest f.few }
 
 -- a call just begun
-fresh : {A : Type 0} (s : Shared A) (Q : State A) (g : Chain A) (p : ℕ) (k : Call A) (x : Running A) → At g p [] x.local x.touch x.op x.carried k [] → Spares g p (spare_in x.local) → (busy : ℕ) → ChainFits busy s Q g p x (begun k)
+fresh : {A : Type 0} (s : Shared A) (Q : State A) (g : Chain A) (p : ℕ) (k : Call A) (x : Running A) → At g p [] (stand_of x k []) → Spares g p (spare_in x.local) → (busy : ℕ) → ChainFits busy s Q g p x (begun k)
 fresh s Q g p k x here spares busy = record {
   here = here;
   spares = spares;

@@ -5,6 +5,7 @@ use Rattle.queue_steps.specs.Next.{CanNext, next_of}
 use Rattle.queue_steps.specs.UnboundedNext.{unbounded_next}
 use Rattle.machine_replay.specs.Vocabulary.{Call, Effect, Kind, Next, Running}
 use Rattle.law_common.specs.Effects.{with_effect}
+use Rattle.machine_replay.proofs.StandOf.{stand_of}
 use Rattle.law_chain.specs.ChainCells.{Chain, queue_of}
 use Rattle.law_chain.specs.ChainAt.{At}
 use Rattle.law_chain.specs.ChainAnswers.{Answers}
@@ -28,11 +29,11 @@ abbrev pub next_on : {A : Type 0} → Bool → Shared A → Running A → Next �
 next_on ok s x = unbounded_next (chain_of x.local) (answer_to ok s x)
 
 -- the chain after the step, and after the block that is given up then, if there is one
-abbrev pub chain_then : {A : Type 0} (ok : Bool) (s : Shared A) (g : Chain A) (p : ℕ) (ms : List (State A)) (x : Running A) (k : Call A) (es : List (Effect A)) → At g p ms x.local x.touch x.op x.carried k es → Chain A
+abbrev pub chain_then : {A : Type 0} (ok : Bool) (s : Shared A) (g : Chain A) (p : ℕ) (ms : List (State A)) (x : Running A) (k : Call A) (es : List (Effect A)) → At g p ms (stand_of x k es) → Chain A
 chain_then ok s g p ms x k es at = left_by (after_of at (answer_to ok s x)) (next_on ok s x)
 
 -- the step of a call can be taken, it answers for the chain and hands the call what the chain says, and what it leaves stands for the chain after it
-pub record StepStands {A : Type 0} (ok : Bool) (s : Shared A) (g : Chain A) (p : ℕ) (ms : List (State A)) (x : Running A) (k : Call A) (es : List (Effect A)) (at : At g p ms x.local x.touch x.op x.carried k es) : Type 0 where
+pub record StepStands {A : Type 0} (ok : Bool) (s : Shared A) (g : Chain A) (p : ℕ) (ms : List (State A)) (x : Running A) (k : Call A) (es : List (Effect A)) (at : At g p ms (stand_of x k es)) : Type 0 where
   pub touches : CanTouch x.touch (slots_there s (block_touched x.op))
   pub operates : CanOperate (after_touch s x) x.op
   pub found : Answers g x.op (answer_to ok s x)
@@ -42,10 +43,10 @@ pub record StepStands {A : Type 0} (ok : Bool) (s : Shared A) (g : Chain A) (p :
 -- each step of each call does so
 abbrev pub StepsStand : Type 0 → Type 0
 StepsStand A = (ok : Bool) (s : Shared A) (Q : State A) (g : Chain A) (p : ℕ) (ms : List (State A)) (x : Running A) (k : Call A) (es : List (Effect A))
-    → ChainHolds s Q g → (at : At g p ms x.local x.touch x.op x.carried k es) → Spares g p (spare_in x.local) → StepStands ok s g p ms x k es at
+    → ChainHolds s Q g → (at : At g p ms (stand_of x k es)) → Spares g p (spare_in x.local) → StepStands ok s g p ms x k es at
 
 -- the step function at a local state of a chain
-same_next : {A : Type 0} (ok : Bool) (s : Shared A) (g : Chain A) (p : ℕ) (ms : List (State A)) (x : Running A) (k : Call A) (es : List (Effect A)) → At g p ms x.local x.touch x.op x.carried k es
+same_next : {A : Type 0} (ok : Bool) (s : Shared A) (g : Chain A) (p : ℕ) (ms : List (State A)) (x : Running A) (k : Call A) (es : List (Effect A)) → At g p ms (stand_of x k es)
     → next_after Kind.Unbounded ok s x ≡ next_on ok s x
 same_next ok s g p ms x k es at = ap (λ l. next_of Kind.Unbounded l (answer_to ok s x)) (is_chain at)
 

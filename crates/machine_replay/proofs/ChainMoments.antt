@@ -3,12 +3,13 @@ use Rattle.std.proofs.Common.{ℕ, ◌≡◌, ◌==◌, true, Option, Ok, Err, L
 use Rattle.std.specs.List.{Any}
 use Rattle.queue_steps.specs.State.{State}
 use Rattle.queue_steps.specs.Words.{is_shut}
-use Rattle.machine_replay.specs.Vocabulary.{Call, Reply, Effect, PopError, Kind, Op, Touch, Answer, Local, UnboundedLocal, EffectKind}
+use Rattle.machine_replay.specs.Vocabulary.{Call, Reply, Effect, PopError, Kind, Answer, Local, UnboundedLocal, EffectKind}
 use Rattle.queue_steps.specs.declared.steps.unbounded.UnboundedLocal.TheVariants as chain
 use Rattle.law_common.specs.Moments.{SeenIn}
 use Rattle.law_common.specs.Effects.{Leads, with_effect}
+use Rattle.law_common.specs.Stand.{Stand}
 use Rattle.law_chain.specs.ChainCells.{Chain, queue_of}
-use Rattle.law_chain.specs.ChainAt.{At, push_tail, push_block, asking, installing, showing, claiming, laying, opening, chaining, writing, spending, pop_head, pop_block, pop_tail, taking, following, peeking, passing, entering, awaiting, reading, beginning, walking, destroying, len_tail, len_head, len_again, empty_head, empty_tail, closing, closed_tail}
+use Rattle.law_chain.specs.ChainAt.{At, push_tail, push_block, asking, installing, showing, claiming, laying, opening, chaining, writing, spending, following, peeking, passing, entering, awaiting, reading, beginning, walking, destroying, len_tail, len_head, len_again, empty_head, empty_tail, closing, closed_tail}
 use Rattle.law_chain.proofs.ChainGood.{IsEffect}
 use Rattle.machine_replay.specs.Book.{Open, Moves, Allows, IsBegun}
 use Rattle.machine_memory.specs.EffectOf.{effect_of}
@@ -16,7 +17,7 @@ use Rattle.machine_replay.proofs.Moments.{any_in, begun_push}
 use Rattle.machine_replay.proofs.Moving.{no_move, won, marked, appends, takes}
 
 -- the effects of a call in progress begin those of some reply
-pub chain_begun : {A : Type 0} {c : Chain A} {who : ℕ} {ms : List (State A)} {l : Local ℕ} {t : Touch} {o : Op ℕ} {v : Option A} {k : Call A} {es : List (Effect A)} → At c who ms l t o v k es → IsBegun k es
+pub chain_begun : {A : Type 0} {c : Chain A} {who : ℕ} {ms : List (State A)} {k : Stand A} → At c who ms k → IsBegun k.call k.effects
 chain_begun (push_tail d x spare none spare_is) = (begun_push d x).0
 chain_begun (push_block d x spare q none spare_is saw) = (begun_push d x).0
 chain_begun (asking d x q block none saw asked) = (begun_push d x).0

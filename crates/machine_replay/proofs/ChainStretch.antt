@@ -3,9 +3,11 @@ use Rattle.std.proofs.Common.{ℕ, if◌then◌else◌, ◌-◌, ◌<◌, ◌≡
 use Rattle.queue_steps.specs.State.{State}
 use Rattle.queue_steps.specs.Next.{next_of}
 use Rattle.queue_steps.specs.Words.{is_shut, tail_of}
-use Rattle.machine_replay.specs.Vocabulary.{Call, Effect, Kind, Word, Link, Op, Touch, Local, Next, MARK, EffectKind, Running}
+use Rattle.machine_replay.specs.Vocabulary.{Kind, Word, Link, Op, Touch, Next, MARK, EffectKind, Running}
 use Rattle.law_common.specs.Effects.{with_effect}
 use Rattle.law_common.proofs.Tails.{mark_tail, shut_tail}
+use Rattle.law_common.specs.Stand.{Stand}
+use Rattle.machine_replay.proofs.StandOf.{running_of}
 use Rattle.law_chain.specs.ChainCells.{Chain, queue_of}
 use Rattle.law_chain.specs.ChainAfter.{after_of, left_by}
 use Rattle.law_chain.specs.ChainAnswers.{tail_place, tail_word}
@@ -52,8 +54,8 @@ marked_before w q true e is none = ap (λ z. bit_or z MARK) is ∙ (mark_tail q 
 marked_before w q false e is none = let opened : is_shut w ≡ false = ap is_shut is ∙ shut_tail q false in let no : Some e ≡ None = rw opened at none in cc
 
 -- a step without effect of a call that has had none leaves the words
-pub words_stay : {A : Type 0} {c : Chain A} {who : ℕ} {ms : List (State A)} {l : Local ℕ} {t : Touch} {o : Op ℕ} {v : Option A} {k : Call A} {es : List (Effect A)} (ok : Bool) (s : Shared A) → At c who ms l t o v k es → es ≡ [] → s.tail ≡ tail_word c
-    → (step_of Kind.Unbounded ok s (record { local = l; touch = t; op = o; carried = v })).effect ≡ None → SameWords s (step_of Kind.Unbounded ok s (record { local = l; touch = t; op = o; carried = v })).shared
+pub words_stay : {A : Type 0} {c : Chain A} {who : ℕ} {ms : List (State A)} {k : Stand A} (ok : Bool) (s : Shared A) → At c who ms k → k.effects ≡ [] → s.tail ≡ tail_word c
+    → (step_of Kind.Unbounded ok s (running_of k)).effect ≡ None → SameWords s (step_of Kind.Unbounded ok s (running_of k)).shared
 words_stay ok s (push_tail d v spare none spare_is) e is quiet = (refl, refl)
 words_stay ok s (push_block d v spare q none spare_is saw) e is quiet = (refl, refl)
 words_stay ok s (asking d v q block none saw asked) e is quiet = granted_words ok s

@@ -2,12 +2,13 @@
 use Rattle.std.proofs.Common.{ℕ, ◌+◌, ◌-◌, ◌*◌, ◌/◌, ◌%◌, ◌==◌, if◌then◌else◌, ◌<◌, ◌≤◌, ◌≡◌, ◌≢◌, ◌⊎◌, inl, inr, ◌∙◌, nat_lt, not, Bool, true, false, Ok, Option, Some, List, bit_and, refl, sym, ap, subst, arith}
 use Rattle.std.proofs.lemmas.Bool.{cond_both, ltb-true}
 use Rattle.std.proofs.lemmas.Bool.Decides.{eqb_tells}
-use Rattle.machine_replay.specs.Vocabulary.{Call, Reply, Effect, Kind, Word, Op, Touch, Answer, Local, Next, BLOCK_SLOTS, WRITE, READ, DESTROY, Running}
+use Rattle.machine_replay.specs.Vocabulary.{Reply, Kind, Word, Op, Touch, Answer, Local, Next, BLOCK_SLOTS, WRITE, READ, DESTROY, Running}
 use Rattle.queue_steps.specs.State.{State}
 use Rattle.queue_steps.specs.Next.{next_of}
 use Rattle.queue_steps.specs.ChainWords.{offset_of}
 use Rattle.queue_steps.specs.UnboundedNext.{followed, written_found, ends, walks, walks_on, unbounded_next}
 use Rattle.queue_steps.specs.declared.steps.unbounded.UnboundedLocal.TheVariants as chain
+use Rattle.law_common.specs.Stand.{Stand}
 use Rattle.law_chain.specs.ChainCells as cells
 use Rattle.law_chain.specs.ChainCells.{Reader, Unread, Reading, Done, Passing, Shown, Seen, Chain, ChainOk, ItemOk, ShownOk, Part, Write, Read, Tail, Head, Passed, owner, item_at, LAST, Holds}
 use Rattle.law_chain.specs.ChainAfter.{chain_of}
@@ -45,7 +46,7 @@ abbrev Clear : {A : Type 0} → Chain A → ℕ → Type 0
 Clear c q = Holds c q IsPops
 
 -- once the first block is shown, so does a call that has not appended
-clear_of : {A : Type 0} {c : Chain A} {who : ℕ} {ms : List (State A)} {l : Local ℕ} {t : Touch} {o : Op ℕ} {v : Option A} {k : Call A} {es : List (Effect A)} → At c who ms l t o v k es → c.shown ≡ Seen → (HasAppend es → ⊥) → Clear c who
+clear_of : {A : Type 0} {c : Chain A} {who : ℕ} {ms : List (State A)} {k : Stand A} → At c who ms k → c.shown ≡ Seen → (HasAppend k.effects → ⊥) → Clear c who
 clear_of (push_tail d v spare none spare_is) seen never = λ x e. absurd (none x e)
 clear_of (push_block d v spare q none spare_is saw) seen never = λ x e. absurd (none x e)
 clear_of (asking d v q block none saw asked) seen never = λ x e. absurd (none x e)
@@ -125,8 +126,8 @@ awaiting_nears head name st written = last (eqb_tells (offset_of head + 1) BLOCK
     last (inl e) = rw (written, e.0) (omega arith)
     last (inr e) = rw (written, e.0) (omega arith)
 
-nears : {A : Type 0} {c : Chain A} {who : ℕ} {ms : List (State A)} {l : Local ℕ} {t : Touch} {o : Op ℕ} {v : Option A} {k : Call A} {es : List (Effect A)} → At c who ms l t o v k es → HasTake es → (a : Answer ℕ) → ChainOk c → Answers c o a → ((j : ℕ) → j ≢ who → Clear c j)
-    → Nears (unbounded_next (chain_of l) a) (to_reply l)
+nears : {A : Type 0} {c : Chain A} {who : ℕ} {ms : List (State A)} {k : Stand A} → At c who ms k → HasTake k.effects → (a : Answer ℕ) → ChainOk c → Answers c k.op a → ((j : ℕ) → j ≢ who → Clear c j)
+    → Nears (unbounded_next (chain_of k.local) a) (to_reply k.local)
 unfolding to_reply
 nears (push_tail d v spare none spare_is) had a ok found clear = absurd had
 nears (push_block d v spare q none spare_is saw) had a ok found clear = absurd had
@@ -177,7 +178,7 @@ nears (empty_tail h none small saw) had a ok found clear = absurd had
 nears (closing none) had a ok found clear = absurd had
 nears (closed_tail none) had a ok found clear = absurd had
 
-in_bounds : {A : Type 0} {c : Chain A} {who : ℕ} {ms : List (State A)} {l : Local ℕ} {t : Touch} {o : Op ℕ} {v : Option A} {k : Call A} {es : List (Effect A)} → At c who ms l t o v k es → HasTake es → ChainOk c → (0 < to_reply l) × (to_reply l ≤ 2 * LAST + 6)
+in_bounds : {A : Type 0} {c : Chain A} {who : ℕ} {ms : List (State A)} {k : Stand A} → At c who ms k → HasTake k.effects → ChainOk c → (0 < to_reply k.local) × (to_reply k.local ≤ 2 * LAST + 6)
 unfolding to_reply
 in_bounds (push_tail d v spare none spare_is) had ok = absurd had
 in_bounds (push_block d v spare q none spare_is saw) had ok = absurd had
@@ -229,7 +230,7 @@ seen_of {A} c n ok ne = go c.shown refl ok.seen
     go Seen e h = e
     go s e h = absurd (let l = low in let z = h.1 in omega arith)
 
-pub ready_of : {A : Type 0} {c : Chain A} {who : ℕ} {ms : List (State A)} {l : Local ℕ} {t : Touch} {o : Op ℕ} {v : Option A} {k : Call A} {es : List (Effect A)} → At c who ms l t o v k es → HasTake es → ChainOk c → c.shown ≡ Seen
+pub ready_of : {A : Type 0} {c : Chain A} {who : ℕ} {ms : List (State A)} {k : Stand A} → At c who ms k → HasTake k.effects → ChainOk c → c.shown ≡ Seen
 ready_of (push_tail d v spare none spare_is) had ok = absurd had
 ready_of (push_block d v spare q none spare_is saw) had ok = absurd had
 ready_of (asking d v q block none saw asked) had ok = absurd had

@@ -1,11 +1,13 @@
 -- A chain: who waits for whom, step by step.
 use Rattle.std.proofs.Common.{ℕ, ◌+◌, ◌/◌, ◌%◌, ◌≤◌, ◌≡◌, ◌≢◌, ◌⊎◌, inl, inr, ◌∙◌, not, false, true, Option, Some, None, List, refl, sym, ap, subst, arith}
-use Rattle.machine_replay.specs.Vocabulary.{Call, Effect, Kind, Op, Touch, Answer, Local, Next, PushKind, BLOCK_SLOTS, Running}
+use Rattle.machine_replay.specs.Vocabulary.{Call, Effect, Kind, Answer, Local, Next, PushKind, BLOCK_SLOTS, Running}
 use Rattle.queue_steps.specs.State.{State}
 use Rattle.queue_steps.specs.Next.{next_of}
 use Rattle.queue_steps.specs.ChainWords.{offset_of}
 use Rattle.queue_steps.specs.UnboundedNext.{chain_tail_found, chain_head_found, chain_pop_tail_found, followed, written_found, unbounded_next}
 use Rattle.queue_steps.specs.declared.steps.unbounded.UnboundedLocal.TheVariants as chain
+use Rattle.law_common.specs.Stand.{Stand}
+use Rattle.machine_replay.proofs.StandOf.{stand_of}
 use Rattle.law_chain.specs.ChainAfter.{chain_of}
 use Rattle.law_chain.specs.ChainAnswers.{Answers, IsState, tail_word, head_word, shown_of, linked_of, is_wrote}
 use Rattle.law_chain.specs.ChainAt.{At, push_tail, push_block, asking, installing, showing, claiming, laying, opening, chaining, writing, spending, pop_head, pop_block, pop_tail, taking, following, peeking, passing, entering, awaiting, reading, beginning, walking, destroying, len_tail, len_head, len_again, empty_head, empty_tail, closing, closed_tail}
@@ -49,7 +51,7 @@ moves_head : (l : Local ℕ) (n : ℕ) (x : Part) → IsToMoveHead l → (x ≡ 
 moves_head l n x h (inl e) = at_part l (Read n) x e tt
 moves_head l n x h (inr e) = at_part l Head x e h
 
-pub holds_at : {A : Type 0} {c : Chain A} {who : ℕ} {ms : List (State A)} {l : Local ℕ} {t : Touch} {o : Op ℕ} {v : Option A} {k : Call A} {es : List (Effect A)} (x : Part) → At c who ms l t o v k es → owner c x ≡ Some who → HolderAt x l
+pub holds_at : {A : Type 0} {c : Chain A} {who : ℕ} {ms : List (State A)} {k : Stand A} (x : Part) → At c who ms k → owner c x ≡ Some who → HolderAt x k.local
 holds_at x (push_tail d v spare none spare_is) e = absurd (none x e)
 holds_at x (push_block d v spare q none spare_is saw) e = absurd (none x e)
 holds_at x (asking d v q block none saw asked) e = absurd (none x e)
@@ -126,8 +128,8 @@ mover_links (Local.Unbounded (chain.Opening d tail block fresh)) h = tt
 mover_links _ h = absurd h
 
 -- U1: the tail is read
-push_row : {A : Type 0} {c : Chain A} {who : ℕ} {ms : List (State A)} {l : Local ℕ} {t : Touch} {o : Op ℕ} {v : Option A} {k : Call A} {es : List (Effect A)} (d : PushKind) (spare : Option ℕ) → At c who ms l t o v k es → (a : Answer ℕ) → Answers c o a
-    → l ≡ Local.Unbounded (chain.PushTail d spare) → Goes (unbounded_next (chain_of l) a) (Local.Unbounded (chain.PushTail d spare)) → Held c IsToMoveTail
+push_row : {A : Type 0} {c : Chain A} {who : ℕ} {ms : List (State A)} {k : Stand A} (d : PushKind) (spare : Option ℕ) → At c who ms k → (a : Answer ℕ) → Answers c k.op a
+    → k.local ≡ Local.Unbounded (chain.PushTail d spare) → Goes (unbounded_next (chain_of k.local) a) (Local.Unbounded (chain.PushTail d spare)) → Held c IsToMoveTail
 push_row {c = c} d spare (push_tail e v own none spare_is) a found is goes =
     held_if c Tail IsToMoveTail
     (λ free. no_fewer c (chain_tail_found e (tail_word c) own) (Local.Unbounded (chain.PushTail d spare)) 10 (omega arith)
@@ -136,8 +138,8 @@ push_row {c = c} d spare (push_tail e v own none spare_is) a found is goes =
 push_row d spare _ a found is goes = cc
 
 -- V1: the head is read
-pop_row : {A : Type 0} {c : Chain A} {who : ℕ} {ms : List (State A)} {l : Local ℕ} {t : Touch} {o : Op ℕ} {v : Option A} {k : Call A} {es : List (Effect A)} → At c who ms l t o v k es → (a : Answer ℕ) → Answers c o a
-    → l ≡ Local.Unbounded chain.PopHead → Goes (unbounded_next (chain_of l) a) (Local.Unbounded chain.PopHead) → Held c IsToMoveHead
+pop_row : {A : Type 0} {c : Chain A} {who : ℕ} {ms : List (State A)} {k : Stand A} → At c who ms k → (a : Answer ℕ) → Answers c k.op a
+    → k.local ≡ Local.Unbounded chain.PopHead → Goes (unbounded_next (chain_of k.local) a) (Local.Unbounded chain.PopHead) → Held c IsToMoveHead
 pop_row {c = c} (pop_head none) a found is goes =
     held_if c Head IsToMoveHead
     (λ free. no_fewer c (chain_head_found (head_word c)) (Local.Unbounded chain.PopHead) (BLOCK_SLOTS + 9) (omega arith)
@@ -146,8 +148,8 @@ pop_row {c = c} (pop_head none) a found is goes =
 pop_row _ a found is goes = cc
 
 -- V3: the tail is read, after no block was
-first_row : {A : Type 0} {c : Chain A} {who : ℕ} {ms : List (State A)} {l : Local ℕ} {t : Touch} {o : Op ℕ} {v : Option A} {k : Call A} {es : List (Effect A)} (head : ℕ) → At c who ms l t o v k es → (a : Answer ℕ) → ChainOk c → Answers c o a
-    → is_seen c.shown ≡ false → l ≡ Local.Unbounded (chain.PopTail head None) → Goes (unbounded_next (chain_of l) a) (Local.Unbounded chain.PopHead) → Held c IsToShow
+first_row : {A : Type 0} {c : Chain A} {who : ℕ} {ms : List (State A)} {k : Stand A} (head : ℕ) → At c who ms k → (a : Answer ℕ) → ChainOk c → Answers c k.op a
+    → is_seen c.shown ≡ false → k.local ≡ Local.Unbounded (chain.PopTail head None) → Goes (unbounded_next (chain_of k.local) a) (Local.Unbounded chain.PopHead) → Held c IsToShow
 first_row {c = c} head (pop_tail n None none is front) a ok found unseen at goes =
     let one : tail_rank c (head_of n false) None ≡ 1 = rw unseen refl in
     held_if c First IsToShow
@@ -169,16 +171,16 @@ link_held {A} c who n head name m ok pass low goes = go (owner c Tail) refl
         (following_falls c who n head name ok (rests_if c.mover (λ p is. let no : None ≡ Some p = sym e ∙ is in cc)) free pass))
         (λ l h. h)
 
-link_row : {A : Type 0} {c : Chain A} {who : ℕ} {ms : List (State A)} {l : Local ℕ} {t : Touch} {o : Op ℕ} {v : Option A} {k : Call A} {es : List (Effect A)} (head block : ℕ) → At c who ms l t o v k es → (a : Answer ℕ) → ChainOk c → Answers c o a
-    → l ≡ Local.Unbounded (chain.Following head block) → Goes (unbounded_next (chain_of l) a) (Local.Unbounded (chain.Following head block)) → Held c IsToLink
+link_row : {A : Type 0} {c : Chain A} {who : ℕ} {ms : List (State A)} {k : Stand A} (head block : ℕ) → At c who ms k → (a : Answer ℕ) → ChainOk c → Answers c k.op a
+    → k.local ≡ Local.Unbounded (chain.Following head block) → Goes (unbounded_next (chain_of k.local) a) (Local.Unbounded (chain.Following head block)) → Held c IsToLink
 link_row {c = c} {who = who} head block (following x n name more holds got pass) a ok found is goes =
     link_held c who n (head_of n more) name (Local.Unbounded (chain.Following head block)) ok pass (omega arith)
     (subst (λ b. Goes (unbounded_next (chain.Following (head_of n more) name) b) (Local.Unbounded (chain.Following head block))) (found (n / BLOCK_SLOTS) got.named) goes)
 link_row head block _ a ok found is goes = cc
 
 -- V9: the slot's state is read, which the push of the item has to set
-item_row : {A : Type 0} {c : Chain A} {who : ℕ} {ms : List (State A)} {l : Local ℕ} {t : Touch} {o : Op ℕ} {v : Option A} {k : Call A} {es : List (Effect A)} (head block : ℕ) → At c who ms l t o v k es → (a : Answer ℕ) → ChainOk c → Answers c o a
-    → l ≡ Local.Unbounded (chain.Awaiting head block) → Goes (unbounded_next (chain_of l) a) (Local.Unbounded (chain.Awaiting head block)) → Held c IsToWrite
+item_row : {A : Type 0} {c : Chain A} {who : ℕ} {ms : List (State A)} {k : Stand A} (head block : ℕ) → At c who ms k → (a : Answer ℕ) → ChainOk c → Answers c k.op a
+    → k.local ≡ Local.Unbounded (chain.Awaiting head block) → Goes (unbounded_next (chain_of k.local) a) (Local.Unbounded (chain.Awaiting head block)) → Held c IsToWrite
 item_row {c = c} {who = who} head block (awaiting x n name more holds got) a ok found is goes =
     let h = found (n / BLOCK_SLOTS) got.named in
     let state : IsState c (n / BLOCK_SLOTS) (n % BLOCK_SLOTS) h.0 = subst (λ i. IsState c (n / BLOCK_SLOTS) i h.0) (head_offset n more) h.2 in
@@ -208,7 +210,7 @@ module _ {A : Type 0} (parties : ℕ) (w : World (Shared A) (Running A)) (st : �
 
   -- a call that goes on at this step does so by what it finds
   row : (p : ℕ) (r x : Running A) (m : Local ℕ) (Such : Local ℕ → Type 0) → call_at w p ≡ Some r → GoesOn Kind.Unbounded w.shared r x → x.local ≡ m → (Such r.local → ⊥)
-      → ((ms : List (State A)) (k : Call A) (es : List (Effect A)) → At h.sim.g p ms r.local r.touch r.op r.carried k es → (a : Answer ℕ) → Answers h.sim.g r.op a → Goes (unbounded_next (chain_of r.local) a) m → Held h.sim.g Such)
+      → ((ms : List (State A)) (k : Call A) (es : List (Effect A)) → At h.sim.g p ms (stand_of r k es) → (a : Answer ℕ) → Answers h.sim.g r.op a → Goes (unbounded_next (chain_of r.local) a) m → Held h.sim.g Such)
       → IsBeside w p Such
   row p r x m Such is goes back never held =
       let o = party-open A Kind.Unbounded (chain_rules A) parties h.b.busy w.shared h.b.queue h.sim.g p (call_at w p) (h.b.open_call p) r (h.sim.each p) is in

@@ -3,11 +3,13 @@ use Rattle.std.proofs.Common.{◌≡◌, ◌≢◌, ◌∙◌, ℕ, ◌+◌, ◌
 use Rattle.std.proofs.lemmas.Bool.{eq-eqb, ltb-false}
 use Rattle.std.proofs.lemmas.Bool.Decides.{eqb_tells}
 use Rattle.queue_steps.specs.State.{State}
-use Rattle.machine_replay.specs.Vocabulary.{Call, Effect, Kind, Op, Touch, Look, Local, Next, BoundedLocal, MAX_CAPACITY, Event, Running}
+use Rattle.machine_replay.specs.Vocabulary.{Kind, Look, Local, Next, BoundedLocal, MAX_CAPACITY, Event, Running}
 use Rattle.queue_steps.specs.declared.steps.single.SingleLocal.TheVariants.{Looking}
 use Rattle.queue_steps.specs.declared.steps.unbounded.UnboundedLocal.TheVariants as chain
 use Rattle.law_slot.specs.SlotHolder.{SlotHolder}
 use Rattle.law_slot.specs.SlotRows as slot
+use Rattle.law_common.specs.Stand.{Stand}
+use Rattle.machine_replay.proofs.StandOf.{running_of}
 use Rattle.law_ring.specs.RingCells.{Ring}
 use Rattle.law_ring.specs.RingAt as ring
 use Rattle.law_chain.specs.ChainCells.{Chain}
@@ -114,8 +116,8 @@ module _ (T : Type 0) (k : Kind) (laws : Rules T k) (parties : ℕ) (looks : Loo
       omega (arith, count, low)
 
 -- on one slot it is one look
-slot_looks : {T : Type 0} {l : Local ℕ} {t : Touch} {o : Op ℕ} {v : Option T} {own : SlotHolder T} {k : Call T} {es : List (Effect T)} (ok : Bool) (s : Shared T) (x : Running T) → slot.At l t o v own k es → IsOfLen l
-    → (step_of Kind.Single ok s (record { local = l; touch = t; op = o; carried = v })).call ≡ Some x → before s.tail x.local < before s.tail l
+slot_looks : {T : Type 0} {c : Stand T} {own : SlotHolder T} (ok : Bool) (s : Shared T) (x : Running T) → slot.At c own → IsOfLen c.local
+    → (step_of Kind.Single ok s (running_of c)).call ≡ Some x → before s.tail x.local < before s.tail c.local
 slot_looks ok s x (slot.look_at Look.Len) is goes = cc
 slot_looks ok s x y is goes = absurd is
 
@@ -126,16 +128,16 @@ again now read m l v x ends begins goes = elim (eqb_tells now read) [
   | inr t ↦ let three = begins (rw t.0 at goes) in let more = late_other now read t.0 in omega (arith, three, more)
 ]
 
-ring_looks : {A : Type 0} {cap : ℕ} {r : Ring A} {who : ℕ} {ms : List (State A)} {was : Bool} {l : Local ℕ} {t : Touch} {o : Op ℕ} {v : Option A} {k : Call A} {es : List (Effect A)} (ok : Bool) (s : Shared A) (x : Running A) → ring.At cap r who ms was l t o v k es → IsOfLen l
-    → (step_of (Kind.Bounded cap) ok s (record { local = l; touch = t; op = o; carried = v })).call ≡ Some x → before s.tail x.local < before s.tail l
+ring_looks : {A : Type 0} {cap : ℕ} {r : Ring A} {who : ℕ} {ms : List (State A)} {was : Bool} {c : Stand A} (ok : Bool) (s : Shared A) (x : Running A) → ring.At cap r who ms was c → IsOfLen c.local
+    → (step_of (Kind.Bounded cap) ok s (running_of c)).call ≡ Some x → before s.tail x.local < before s.tail c.local
 unfolding before
 ring_looks ok s x (ring.len_tail none) is goes = let same = same_call x goes in let z = late_same s.tail in subst (λ y. before s.tail y.local < 3) same (omega (arith, z))
 ring_looks ok s x (ring.len_head t none low) is goes = let same = same_call x goes in subst (λ y. before s.tail y.local < 2 + late s.tail t) same (omega arith)
 ring_looks ok s x (ring.len_again t h none seen) is goes = again s.tail t _ _ _ x (λ e. cc) (λ e. ap (λ y. before s.tail y.local) (sym (same_call x e))) goes
 ring_looks ok s x _ is goes = absurd is
 
-chain_looks : {A : Type 0} {c : Chain A} {who : ℕ} {ms : List (State A)} {l : Local ℕ} {t : Touch} {o : Op ℕ} {v : Option A} {k : Call A} {es : List (Effect A)} (ok : Bool) (s : Shared A) (x : Running A) → links.At c who ms l t o v k es → IsOfLen l
-    → (step_of Kind.Unbounded ok s (record { local = l; touch = t; op = o; carried = v })).call ≡ Some x → before s.tail x.local < before s.tail l
+chain_looks : {A : Type 0} {c : Chain A} {who : ℕ} {ms : List (State A)} {k : Stand A} (ok : Bool) (s : Shared A) (x : Running A) → links.At c who ms k → IsOfLen k.local
+    → (step_of Kind.Unbounded ok s (running_of k)).call ≡ Some x → before s.tail x.local < before s.tail k.local
 unfolding before
 chain_looks ok s x (links.len_tail none) is goes = let same = same_call x goes in let z = late_same s.tail in subst (λ y. before s.tail y.local < 3) same (omega (arith, z))
 chain_looks ok s x (links.len_head t none small low) is goes = let same = same_call x goes in subst (λ y. before s.tail y.local < 2 + late s.tail t) same (omega arith)

@@ -5,6 +5,7 @@ pub mod Engine
 pub mod KindLaws
 pub mod Counted
 pub mod Plain
+pub mod StandOf
 pub mod AllWritten
 pub mod SingleCoded
 pub mod SingleMoments

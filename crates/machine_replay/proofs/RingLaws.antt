@@ -6,6 +6,7 @@ use Rattle.queue_steps.specs.WaitFree.{is_wait_free}
 use Rattle.queue_steps.specs.Replies.{IsRightAt}
 use Rattle.machine_replay.specs.Vocabulary.{Call, Reply, Effect, Kind, Next, Running}
 use Rattle.law_common.specs.Effects.{Leads, with_effect}
+use Rattle.machine_replay.proofs.StandOf.{stand_of}
 use Rattle.law_ring.specs.RingShared as ring
 use Rattle.law_ring.specs.RingCells.{Ring, queue_of, RingOk, HoldsNone}
 use Rattle.law_ring.specs.RingPasses.{Passes}
@@ -41,7 +42,7 @@ RingIdle g p = HoldsNone g.cells p
 
 -- where the party's call stands, and that it has few steps before it
 pub record RingFits {A : Type 0} (cap busy : ℕ) (s : Shared A) (Q : State A) (g : Ring A) (p : ℕ) (x : Running A) (o : Open A) : Type 0 where
-  pub here : At cap g p o.moments o.was_open x.local x.touch x.op x.carried o.call o.effects
+  pub here : At cap g p o.moments o.was_open (stand_of x o.call o.effects)
   pub few : FewSteps busy o (rank cap g x.local) longest
 
 -- what the step of a call on a ring does, in the machine's words
@@ -60,9 +61,9 @@ record Stands {A : Type 0} (cap : ℕ) (s : Shared A) (g : Ring A) (p : ℕ) (ms
   goes : Goes cap g after p (queue_of cap after ∷ ms) (was || not after.closed) (next_after (Kind.Bounded cap) true s x) (carried_then s x) k (with_effect es e) (rank cap g x.local)
 
 stands : {A : Type 0} (cap : ℕ) (s : Shared A) (g : Ring A) (p : ℕ) (ms : List (State A)) (was : Bool) (x : Running A) (k : Call A) (es : List (Effect A))
-    → RingOk cap g → Codes cap g (part s) → At cap g p ms was x.local x.touch x.op x.carried k es → Stands cap s g p ms was x k es
+    → RingOk cap g → Codes cap g (part s) → At cap g p ms was (stand_of x k es) → Stands cap s g p ms was x k es
 stands cap s g p ms was x k es ok codes at =
-    let good = step_good cap g p (part s) ms was ok codes at in
+    let good = step_good ok codes at in
     let after = good.after in
     let same = same_step s x good.touches good.operates in
     let n = next_of (Kind.Bounded cap) x.local (ring.answered (ring.touched (part s) x.touch x.carried) x.op) in
@@ -82,11 +83,12 @@ stands cap s g p ms was x k es ok codes at =
           (subst (λ v. Goes cap g after p (queue_of cap after ∷ ms) (was || not after.closed) n v k (with_effect es good.e) (rank cap g x.local)) (sym same.carries) good.goes);
     }
 
--- a call may reply at its step: its value is there
-can_reply : {A : Type 0} (cap : ℕ) (r s : Ring A) (who : ℕ) (ms : List (State A)) (was : Bool) (n : Next ℕ) (v : Option A) (k : Call A) (es : List (Effect A)) (m : ℕ)
-    → Goes cap r s who ms was n v k es m → CanReply n v
-can_reply cap r s who ms was (Next.Step l t o) v k es m goes = tt
-can_reply cap r s who ms was (Next.Reply x spare) v k es m goes = rw goes.2.1 refl
+module _ {A : Type 0} (cap : ℕ) (r s : Ring A) (who : ℕ) (ms : List (State A)) (was : Bool) where
+  -- a call may reply at its step: its value is there
+  can_reply : (n : Next ℕ) (v : Option A) (k : Call A) (es : List (Effect A)) (m : ℕ)
+      → Goes cap r s who ms was n v k es m → CanReply n v
+  can_reply (Next.Step l t o) v k es m goes = tt
+  can_reply (Next.Reply x spare) v k es m goes = rw goes.2.1 refl
 
 pub ring_can_step : {A : Type 0} (cap busy : ℕ) (granted : Bool) (s : Shared A) (Q : State A) (g : Ring A) (p : ℕ) (x : Running A) (o : Open A)
     → RingHolds cap s Q g → RingFits cap busy s Q g p x o → CanStep (Kind.Bounded cap) granted s x
@@ -109,17 +111,18 @@ RingMadeWell A cap busy s Q g p o t = engine.StepsWell A (Shared A) (Running A) 
 abbrev RingStepsWell : (A : Type 0) → ℕ → ℕ → Shared A → State A → Ring A → ℕ → Open A → Running A → Bool → Type 0
 RingStepsWell A cap busy s Q g p o x granted = RingMadeWell A cap busy s Q g p o (step_of (Kind.Bounded cap) granted s x)
 
--- where the call stands after its step
-goes_well : {A : Type 0} (cap busy : ℕ) (s : Shared A) (g g' : Ring A) (p : ℕ) (o : Open A) (n : Next ℕ) (v : Option A) (es : List (Effect A)) (m : ℕ)
-    → (busy ≡ 1 → IsQuiet g p) → FewSteps busy o m longest
-    → Goes cap g g' p (queue_of cap g' ∷ o.moments) (o.was_open || not g'.closed) n v o.call es m
-    → RingGoes A cap busy s (queue_of cap g') g' p (after_own busy o (queue_of cap g') es) (running_after n v) (reply_after n v)
-goes_well {A} cap busy s g g' p o (Next.Step l t x) v es m quiet few goes =
-    let less = few_own busy o (queue_of cap g') es m (rank cap g' l) longest (rank_small cap g' l) (λ one. goes.1 (λ _. quiet one)) (λ e. goes.1 (λ f. let no : true ≡ false = sym e ∙ f in cc)) few in
-    (record { here = goes.0; few = less }, few_stays busy (after_own busy o (queue_of cap g') es) (rank cap g' l) longest (omega arith) (rank_some cap g' l) (ring_begun goes.0) less)
-goes_well {A} cap busy s g g' p o (Next.Reply x spare) v es m quiet few goes =
-    let y = goes.2 in
-    rw y.1 (goes.0, (y.2, λ e. any_in (queue_of cap g' ∷ o.moments) (λ m. IsRightAt m o.call y.0) (Allows o.call y.0) (λ m right. inl right) (y.3 e)))
+module _ {A : Type 0} (cap busy : ℕ) (s : Shared A) (g g' : Ring A) (p : ℕ) (o : Open A) where
+  -- where the call stands after its step
+  goes_well : (n : Next ℕ) (v : Option A) (es : List (Effect A)) (m : ℕ)
+      → (busy ≡ 1 → IsQuiet g p) → FewSteps busy o m longest
+      → Goes cap g g' p (queue_of cap g' ∷ o.moments) (o.was_open || not g'.closed) n v o.call es m
+      → RingGoes A cap busy s (queue_of cap g') g' p (after_own busy o (queue_of cap g') es) (running_after n v) (reply_after n v)
+  goes_well (Next.Step l t x) v es m quiet few goes =
+      let less = few_own busy o (queue_of cap g') es m (rank cap g' l) longest (rank_small cap g' l) (λ one. goes.1 (λ _. quiet one)) (λ e. goes.1 (λ f. let no : true ≡ false = sym e ∙ f in cc)) few in
+      (record { here = goes.0; few = less }, few_stays busy (after_own busy o (queue_of cap g') es) (rank cap g' l) longest (omega arith) (rank_some cap g' l) (ring_begun goes.0) less)
+  goes_well (Next.Reply x spare) v es m quiet few goes =
+      let y = goes.2 in
+      rw y.1 (goes.0, (y.2, λ e. any_in (queue_of cap g' ∷ o.moments) (λ m. IsRightAt m o.call y.0) (Allows o.call y.0) (λ m right. inl right) (y.3 e)))
 
 steps_granted : {A : Type 0} (cap busy : ℕ) (s : Shared A) (Q : State A) (g : Ring A) (p : ℕ) (x : Running A) (o : Open A)
     → RingHolds cap s Q g → RingFits cap busy s Q g p x o → (busy ≡ 1 → (j : ℕ) → j ≢ p → RingIdle g j)
@@ -142,7 +145,7 @@ steps_granted {A} cap busy s Q g p x o holds f quiet =
       goes = goes_well cap busy t.shared g after p o (next_after (Kind.Bounded cap) true s x) (carried_then s x) (with_effect o.effects step.e) (rank cap g x.local) quiet f.few step.goes;
       idle = λ j ne idle. none_stays p j ne step.passes idle;
       others = λ busy' j y m ne many h. record {
-        here = subst (λ ms. At cap after j ms m.was_open y.local y.touch y.op y.carried m.call m.effects) (same_moments (queue_of cap after) m.moments) (at_stays holds.ok step.ok ne step.passes h.here);
+        here = subst (λ ms. At cap after j ms m.was_open (stand_of y m.call m.effects)) (same_moments (queue_of cap after) m.moments) (at_stays holds.ok step.ok ne step.passes h.here);
         few = few_watched busy busy' (queue_of cap after) m (rank cap g y.local) (rank cap after y.local) longest many (rank_small cap after y.local) (λ e. let same = wait_free_rank after h.here e in omega arith) h.few;
       };
     }
@@ -156,7 +159,7 @@ ring_steps_well {A} cap busy granted s Q g p x o holds f quiet =
 
 -- a call just begun
 fresh : {A : Type 0} (cap : ℕ) (s : Shared A) (Q : State A) (g : Ring A) (p : ℕ) (k : Call A) (x : Running A)
-    → At cap g p [] false x.local x.touch x.op x.carried k [] → (is_wait_free k ≡ true → rank cap g x.local ≤ 2) → (busy : ℕ) → RingFits cap busy s Q g p x (begun k)
+    → At cap g p [] false (stand_of x k []) → (is_wait_free k ≡ true → rank cap g x.local ≤ 2) → (busy : ℕ) → RingFits cap busy s Q g p x (begun k)
 fresh cap s Q g p k x at wait_free busy = record { here = at; few = few_begun busy k (rank cap g x.local) longest (rank_small cap g x.local) wait_free }
 
 pub ring_begins_well : {A : Type 0} (cap : ℕ) (s : Shared A) (Q : State A) (g : Ring A) (p : ℕ) (k : Call A) → RingHolds cap s Q g → RingIdle g p

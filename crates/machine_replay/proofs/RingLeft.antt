@@ -4,7 +4,7 @@ use Rattle.std.proofs.lemmas.Bool.{eq-eqb}
 use Rattle.std.proofs.lemmas.Bool.Decides.{eqb_tells}
 use Rattle.queue_steps.specs.State.{State}
 use Rattle.queue_steps.specs.Words.{position_of, slot_at}
-use Rattle.machine_replay.specs.Vocabulary.{Call, Effect, Kind, Op, Touch, Local, Running}
+use Rattle.machine_replay.specs.Vocabulary.{Kind, Touch, Running}
 use Rattle.law_common.proofs.Tails.{position_tail}
 use Rattle.machine_replay.specs.Book.{Book, Open}
 use Rattle.machine_steps.specs.World.{World}
@@ -14,6 +14,7 @@ use Rattle.machine_steps.specs.Left.{left_of, all_written, gathered}
 use Rattle.machine_replay.proofs.Engine as engine
 use Rattle.machine_replay.proofs.KindLaws.{SimulatesOf}
 use Rattle.machine_replay.proofs.AllWritten.{writes, writes_slot, all_written-none, all_written-one, nth, gathered-items}
+use Rattle.law_common.specs.Stand.{Stand}
 use Rattle.law_ring.specs.RingCells.{Cell, Free, Written, Full, Read, Coming, Swapped, Ring, CellOk, RingOk, owner}
 use Rattle.law_ring.proofs.RingCells.{wraps, apart, together}
 use Rattle.law_ring.proofs.RingTransitions.{in_ring}
@@ -66,8 +67,8 @@ IsWriter (Swapped p who old v) party x = (who ≡ party) × (x ≡ Some v)
 IsWriter _ party x = ⊥
 
 -- a call about to write a slot holds it
-at_writes : {A : Type 0} {cap : ℕ} {r : Ring A} {who : ℕ} {ms : List (State A)} {was : Bool} {l : Local ℕ} {t : Touch} {o : Op ℕ} {v : Option A} {k : Call A} {es : List (Effect A)} (i : ℕ)
-    → At cap r who ms was l t o v k es → Writes t i → IsWriter (r.cells i) who v
+at_writes : {A : Type 0} {cap : ℕ} {r : Ring A} {who : ℕ} {ms : List (State A)} {was : Bool} {c : Stand A} (i : ℕ)
+    → At cap r who ms was c → Writes c.touch i → IsWriter (r.cells i) who c.carried
 at_writes {cap = cap} {r = r} {who = who} i (filling d v q one) w =
     let e : q % cap ≡ i = same_slot (q % cap) i w in
     let c : r.cells i ≡ Written q who v = ap r.cells (sym e) ∙ one.0 in
@@ -105,8 +106,8 @@ IsAwaited (Swapped p who old v) = Unit {0}
 IsAwaited _ = ⊥
 
 -- the holder of a slot that is to be written is about to write it
-at_holder : {A : Type 0} {cap : ℕ} {r : Ring A} {who : ℕ} {ms : List (State A)} {was : Bool} {l : Local ℕ} {t : Touch} {o : Op ℕ} {v : Option A} {k : Call A} {es : List (Effect A)} (i : ℕ)
-    → At cap r who ms was l t o v k es → owner (r.cells i) ≡ Some who → IsAwaited (r.cells i) → Writes t i
+at_holder : {A : Type 0} {cap : ℕ} {r : Ring A} {who : ℕ} {ms : List (State A)} {was : Bool} {c : Stand A} (i : ℕ)
+    → At cap r who ms was c → owner (r.cells i) ≡ Some who → IsAwaited (r.cells i) → Writes c.touch i
 at_holder {cap = cap} i (filling d v q one) own awaited = eq-eqb (q % cap) i (sym (one.1 i own))
 at_holder {cap = cap} i (swapping old v h one) own awaited = eq-eqb ((h + cap) % cap) i (wraps h cap ∙ sym (one.1 i own))
 at_holder {cap = cap} {r = r} {who = who} i (arriving old v t h below back one) own awaited =

@@ -2,9 +2,10 @@
 use Rattle.std.proofs.Common.{ℕ, ◌+◌, ◌≡◌, ◌==◌, inr, Bool, true, false, if◌then◌else◌, Option, Some, None, Ok, Err, List, [], ◌∷◌, refl}
 use Rattle.queue_steps.specs.State.{State}
 use Rattle.queue_steps.specs.Words.{position_of, is_shut}
-use Rattle.machine_replay.specs.Vocabulary.{Call, Reply, Effect, PopError, Kind, Op, Touch, Answer, Local, PushKind, EffectKind}
+use Rattle.machine_replay.specs.Vocabulary.{Reply, Effect, PopError, Kind, Answer, Local, PushKind, EffectKind}
 use Rattle.queue_steps.specs.declared.steps.bounded.BoundedLocal.TheVariants as ring
 use Rattle.law_common.specs.Effects.{Leads, Whether, with_effect}
+use Rattle.law_common.specs.Stand.{Stand}
 use Rattle.law_ring.specs.RingCells.{Ring}
 use Rattle.law_ring.specs.RingAt.{At, push_tail, push_stamp, claiming, filling, push_head, displacing, arriving, swapping, spending, emptying, len_tail, len_head, len_again, empty_head, empty_tail, full_tail, full_head, closing, closed_tail}
 use Rattle.law_ring.proofs.RingGood.{IsEffect}
@@ -14,8 +15,8 @@ use Rattle.machine_replay.proofs.Moments.{begun_push}
 use Rattle.machine_replay.proofs.Moving.{no_move, moved, won, marked, appends, takes}
 
 -- the effects of a call in progress begin those of some reply
-pub ring_begun : {A : Type 0} {cap : ℕ} {r : Ring A} {who : ℕ} {ms : List (State A)} {was : Bool} {l : Local ℕ} {t : Touch} {o : Op ℕ} {v : Option A} {k : Call A} {es : List (Effect A)}
-    → At cap r who ms was l t o v k es → IsBegun k es
+pub ring_begun : {A : Type 0} {cap : ℕ} {r : Ring A} {who : ℕ} {ms : List (State A)} {was : Bool} {c : Stand A}
+    → At cap r who ms was c → IsBegun c.call c.effects
 ring_begun (push_tail d v none) = (begun_push d v).0
 ring_begun (push_stamp d v t none saw) = (begun_push d v).0
 ring_begun (claiming d v t none saw free) = (begun_push d v).0

@@ -11,6 +11,8 @@ use Rattle.machine_replay.specs.Vocabulary.{Call, Effect, Kind, Word, Op, Touch,
 use Rattle.law_common.specs.Effects.{with_effect}
 use Rattle.law_common.proofs.Ranks.{either_small}
 use Rattle.law_common.proofs.Tails.{position_tail, shut_tail}
+use Rattle.law_common.specs.Stand.{Stand}
+use Rattle.machine_replay.proofs.StandOf.{running_of}
 use Rattle.law_ring.specs.RingShared as ring
 use Rattle.law_ring.specs.RingCells.{Cell, Free, Written, Read, Coming, Swapped, Ring, RingOk, CellOk, HoldsNone, owner, queue_of}
 use Rattle.law_ring.specs.RingAt.{At, push_tail, push_stamp, claiming, filling, push_head, displacing, arriving, swapping, spending, pop_head, pop_stamp, taking, emptying, pop_tail, len_tail, len_head, len_again, empty_head, empty_tail, full_tail, full_head, closing, closed_tail}
@@ -34,7 +36,7 @@ use Rattle.machine_replay.proofs.Taken.{HasTake, takes_reply}
 use Rattle.machine_replay.proofs.Stretch.{Rules, Paces, unhindered, never_waits, waits_take_none}
 
 -- a call that has had no effect holds no slot
-holds_none : {A : Type 0} {cap : ℕ} {r : Ring A} {who : ℕ} {ms : List (State A)} {was : Bool} {l : Local ℕ} {t : Touch} {o : Op ℕ} {v : Option A} {k : Call A} {es : List (Effect A)} → At cap r who ms was l t o v k es → es ≡ [] → HoldsNone r.cells who
+holds_none : {A : Type 0} {cap : ℕ} {r : Ring A} {who : ℕ} {ms : List (State A)} {was : Bool} {c : Stand A} → At cap r who ms was c → c.effects ≡ [] → HoldsNone r.cells who
 holds_none (push_tail d v none) e = none
 holds_none (push_stamp d v t none saw) e = none
 holds_none (claiming d v t none saw free) e = none
@@ -124,11 +126,12 @@ near_falls m n lt le = let a : min m 6 ≡ m = min-eq_left (omega arith) in let 
 stale_falls : (m n : ℕ) → m ≤ 5 → 6 ≤ n → near m < near n
 stale_falls m n le high = let a : min m 6 ≡ m = min-eq_left (omega arith) in let b : min n 6 ≡ 6 = min-eq_right high in omega (arith, le, a, b)
 
--- a call that goes on has fewer steps before it
-goes_on : {A : Type 0} (cap : ℕ) (r s : Ring A) (who : ℕ) (ms : List (State A)) (was : Bool) (n : Next ℕ) (v : Option A) (k : Call A) (es : List (Effect A)) (m : ℕ) (x : Running A)
-    → running_after n v ≡ Some x → Goes cap r s who ms was n v k es m → IsQuiet r who → rank cap s x.local < m
-goes_on cap r s who ms was (Next.Step l t o) v k es m x e goes quiet = let same : record { local = l; touch = t; op = o; carried = v } ≡ x = cc in subst (λ y. rank cap s y.local < m) same (goes.1 (λ _. quiet))
-goes_on cap r s who ms was (Next.Reply y spare) v k es m x e goes quiet = cc
+module _ {A : Type 0} (cap : ℕ) (r s : Ring A) (who : ℕ) (ms : List (State A)) (was : Bool) where
+  -- a call that goes on has fewer steps before it
+  goes_on : (n : Next ℕ) (v : Option A) (k : Call A) (es : List (Effect A)) (m : ℕ) (x : Running A)
+      → running_after n v ≡ Some x → Goes cap r s who ms was n v k es m → IsQuiet r who → rank cap s x.local < m
+  goes_on (Next.Step l t o) v k es m x e goes quiet = let same : record { local = l; touch = t; op = o; carried = v } ≡ x = cc in subst (λ y. rank cap s y.local < m) same (goes.1 (λ _. quiet))
+  goes_on (Next.Reply y spare) v k es m x e goes quiet = cc
 
 near_within : (n : ℕ) → 0 < n → (0 < near n) × (near n ≤ 6)
 near_within n some = go (sides n)
@@ -140,10 +143,10 @@ near_within n some = go (sides n)
     go (inl low) = let e : min n 6 ≡ n = min-eq_left low in (omega (arith, e, some), omega (arith, e, low))
     go (inr high) = let e : min n 6 ≡ 6 = min-eq_right high in (omega (arith, e), omega (arith, e))
 
-falls_at : {A : Type 0} {cap : ℕ} {r : Ring A} {who : ℕ} {ms : List (State A)} {was : Bool} {l : Local ℕ} {t : Touch} {o : Op ℕ} {v : Option A} {k : Call A} {es : List (Effect A)} (ok : Bool) (s : Shared A) (x : Running A) → At cap r who ms was l t o v k es
-    → RingOk cap r → Codes cap r (part s) → IsQuiet r who → (step_of (Kind.Bounded cap) ok s (record { local = l; touch = t; op = o; carried = v })).call ≡ Some x
-    → far cap (step_of (Kind.Bounded cap) ok s (record { local = l; touch = t; op = o; carried = v })).shared x.local < far cap s l
-    → near (far cap (step_of (Kind.Bounded cap) ok s (record { local = l; touch = t; op = o; carried = v })).shared x.local) < near (far cap s l)
+falls_at : {A : Type 0} {cap : ℕ} {r : Ring A} {who : ℕ} {ms : List (State A)} {was : Bool} {c : Stand A} (ok : Bool) (s : Shared A) (x : Running A) → At cap r who ms was c
+    → RingOk cap r → Codes cap r (part s) → IsQuiet r who → (step_of (Kind.Bounded cap) ok s (running_of c)).call ≡ Some x
+    → far cap (step_of (Kind.Bounded cap) ok s (running_of c)).shared x.local < far cap s c.local
+    → near (far cap (step_of (Kind.Bounded cap) ok s (running_of c)).shared x.local) < near (far cap s c.local)
 unfolding far ring_by
 falls_at ok s x (push_tail d v none) fine codes quiet goes less = near_falls _ _ less (omega arith)
 falls_at {cap = cap} {r = r} {who = who} ok s x (push_stamp d v t none saw) fine codes quiet goes less =
@@ -185,7 +188,7 @@ module _ {A : Type 0} (cap : ℕ) where
   own_granted : (busy : ℕ) (s : Shared A) (Q : State A) (g : Ring A) (p : ℕ) (x x' : Running A) (o : Open A) → RingHolds cap s Q g → RingFits cap busy s Q g p x o → ((j : ℕ) → j ≢ p → RingIdle g j)
       → (step_of (Kind.Bounded cap) true s x).call ≡ Some x' → far cap (step_of (Kind.Bounded cap) true s x).shared x'.local < far cap s x.local
   own_granted busy s Q g p x x' o holds f quiet goes =
-      let good = step_good cap g p (part s) o.moments o.was_open holds.ok holds.codes f.here in
+      let good = step_good holds.ok holds.codes f.here in
       let same = same_step s x good.touches good.operates in
       let after = good.after in
       let codes : Codes cap after (part (after_operation true s x)) = subst (λ c. Codes cap after c) (sym same.leaves) good.codes in
@@ -202,7 +205,7 @@ module _ {A : Type 0} (cap : ℕ) where
   own_falls : (busy : ℕ) (ok : Bool) (s : Shared A) (Q : State A) (g : Ring A) (p : ℕ) (x x' : Running A) (o : Open A) → RingHolds cap s Q g → RingFits cap busy s Q g p x o → ((j : ℕ) → j ≢ p → RingIdle g j)
       → (step_of (Kind.Bounded cap) ok s x).call ≡ Some x' → far cap (step_of (Kind.Bounded cap) ok s x).shared x'.local < far cap s x.local
   own_falls busy ok s Q g p x x' o holds f quiet goes =
-      let good = step_good cap g p (part s) o.moments o.was_open holds.ok holds.codes f.here in
+      let good = step_good holds.ok holds.codes f.here in
       let same = same_step s x good.touches good.operates in
       let plain = plain-step (Kind.Bounded cap) ok s x.local x.touch x.op x.carried same.is_plain in
       subst (λ t. t.call ≡ Some x' → far cap t.shared x'.local < far cap s x.local) (sym plain) (own_granted busy s Q g p x x' o holds f quiet) goes
@@ -244,8 +247,8 @@ module _ {A : Type 0} (cap : ℕ) where
   ring_unhindered ring = unhindered A (Kind.Bounded cap) (ring_rules ring) (ring_paces ring) (λ parties w st h p r is nobody. tt)
 
 -- a call that holds a slot ends at its next step, but for the arrival of its item
-half_ends : {A : Type 0} {cap : ℕ} {r : Ring A} {who : ℕ} {ms : List (State A)} {was : Bool} {l : Local ℕ} {t : Touch} {o : Op ℕ} {v : Option A} {k : Call A} {es : List (Effect A)} (ok : Bool) (s : Shared A) (r' : Running A) → At cap r who ms was l t o v k es → es ≢ []
-    → (step_of (Kind.Bounded cap) ok s (record { local = l; touch = t; op = o; carried = v })).call ≡ Some r' → (step_of (Kind.Bounded cap) ok s (record { local = l; touch = t; op = o; carried = v })).effect ≡ None → ⊥
+half_ends : {A : Type 0} {cap : ℕ} {r : Ring A} {who : ℕ} {ms : List (State A)} {was : Bool} {c : Stand A} (ok : Bool) (s : Shared A) (r' : Running A) → At cap r who ms was c → c.effects ≢ []
+    → (step_of (Kind.Bounded cap) ok s (running_of c)).call ≡ Some r' → (step_of (Kind.Bounded cap) ok s (running_of c)).effect ≡ None → ⊥
 half_ends ok s r' (filling d v q one) some goes quiet = cc
 half_ends ok s r' (arriving old v t h below back one) some goes quiet = cc
 half_ends ok s r' (swapping old v h one) some goes quiet = cc
@@ -259,8 +262,8 @@ pub ring_takes_none : (A : Type 0) (cap : ℕ) → IsRing cap → HalfDoneTakesN
 ring_takes_none A cap ring = waits_take_none A (Kind.Bounded cap) (ring_rules cap ring) (λ busy ok s Q g p r r' o f some goes quiet. half_ends ok s r' f.here some goes quiet)
 
 -- a call that has appended ends at its next step
-append_ends : {A : Type 0} {cap : ℕ} {r : Ring A} {who : ℕ} {ms : List (State A)} {was : Bool} {l : Local ℕ} {t : Touch} {o : Op ℕ} {v : Option A} {k : Call A} {es : List (Effect A)} (ok : Bool) (s : Shared A) (r' : Running A) → At cap r who ms was l t o v k es → HasAppend es
-    → (step_of (Kind.Bounded cap) ok s (record { local = l; touch = t; op = o; carried = v })).call ≡ Some r' → ⊥
+append_ends : {A : Type 0} {cap : ℕ} {r : Ring A} {who : ℕ} {ms : List (State A)} {was : Bool} {c : Stand A} (ok : Bool) (s : Shared A) (r' : Running A) → At cap r who ms was c → HasAppend c.effects
+    → (step_of (Kind.Bounded cap) ok s (running_of c)).call ≡ Some r' → ⊥
 append_ends ok s r' (filling d v q one) had goes = cc
 append_ends ok s r' x had goes = absurd had
 
@@ -273,8 +276,8 @@ ring_appends A cap ring = appends_reply A (Kind.Bounded cap) (ring_rules cap rin
 })
 
 -- a call that has taken ends at its next step
-take_ends : {A : Type 0} {cap : ℕ} {r : Ring A} {who : ℕ} {ms : List (State A)} {was : Bool} {l : Local ℕ} {t : Touch} {o : Op ℕ} {v : Option A} {k : Call A} {es : List (Effect A)} (ok : Bool) (s : Shared A) (r' : Running A) → At cap r who ms was l t o v k es → HasTake es
-    → (step_of (Kind.Bounded cap) ok s (record { local = l; touch = t; op = o; carried = v })).call ≡ Some r' → ⊥
+take_ends : {A : Type 0} {cap : ℕ} {r : Ring A} {who : ℕ} {ms : List (State A)} {was : Bool} {c : Stand A} (ok : Bool) (s : Shared A) (r' : Running A) → At cap r who ms was c → HasTake c.effects
+    → (step_of (Kind.Bounded cap) ok s (running_of c)).call ≡ Some r' → ⊥
 take_ends ok s r' (emptying x h one) had goes = cc
 take_ends ok s r' x had goes = absurd had
 

@@ -5,8 +5,9 @@ use Rattle.std.proofs.lemmas.Bool.Decides.{eqb_tells}
 use Rattle.queue_steps.specs.State.{State}
 use Rattle.queue_steps.specs.BoundedNext.{push_stamp_found, pop_stamp_found}
 use Rattle.queue_steps.specs.Words.{IsRing, position_of, slot_at}
-use Rattle.machine_replay.specs.Vocabulary.{Call, Effect, Kind, Word, Op, Touch, Local, Next, PushKind, BoundedLocal, Running}
+use Rattle.machine_replay.specs.Vocabulary.{Kind, Word, Op, Touch, Local, Next, PushKind, BoundedLocal, Running}
 use Rattle.law_common.proofs.Tails.{position_tail}
+use Rattle.law_common.specs.Stand.{Stand}
 use Rattle.law_ring.specs.RingCells.{Cell, Free, Written, Full, Read, Coming, Swapped, Ring, CellOk, owner}
 use Rattle.law_ring.specs.RingAt.{At, push_tail, push_stamp, claiming, filling, push_head, displacing, arriving, swapping, spending, pop_head, pop_stamp, taking, emptying, pop_tail, len_tail, len_head, len_again, empty_head, empty_tail, full_tail, full_head, closing, closed_tail}
 use Rattle.law_ring.specs.RingWords.{stamp_in}
@@ -32,7 +33,7 @@ HolderAt (Coming q who old v) l = (t : ℕ) × (l ≡ Local.Bounded (BoundedLoca
 HolderAt (Swapped q who old v) l = l ≡ Local.Bounded BoundedLocal.Swapping
 HolderAt x l = ⊥
 
-holds_at : {A : Type 0} {cap : ℕ} {r : Ring A} {who : ℕ} {ms : List (State A)} {was : Bool} {l : Local ℕ} {t : Touch} {o : Op ℕ} {v : Option A} {k : Call A} {es : List (Effect A)} (i : ℕ) → At cap r who ms was l t o v k es → owner (r.cells i) ≡ Some who → HolderAt (r.cells i) l
+holds_at : {A : Type 0} {cap : ℕ} {r : Ring A} {who : ℕ} {ms : List (State A)} {was : Bool} {c : Stand A} (i : ℕ) → At cap r who ms was c → owner (r.cells i) ≡ Some who → HolderAt (r.cells i) c.local
 holds_at i (push_tail d v none) e = absurd (none i e)
 holds_at i (push_stamp d v t none saw) e = absurd (none i e)
 holds_at i (claiming d v t none saw free) e = absurd (none i e)
@@ -192,13 +193,13 @@ empty_found {A} n h stamp v s x y head goes never on back = go (eqb_tells stamp 
     go (inr a) (inr b) = absurd (never (let is = same_call x (rw (a.0, b.0) at goes) in ap (λ z. z.local) (sym is)))
 
 -- what is read at the stamp's step
-push_reads : {A : Type 0} {cap : ℕ} {r : Ring A} {who : ℕ} {ms : List (State A)} {was : Bool} {l : Local ℕ} {t : Touch} {o : Op ℕ} {v : Option A} {k : Call A} {es : List (Effect A)} (d : PushKind) (q : ℕ) → At cap r who ms was l t o v k es → l ≡ Local.Bounded (BoundedLocal.PushStamp d q)
-    → (t ≡ Touch.Nothing) × (o ≡ Op.Load (Word.Stamp (slot_at cap (position_of q))))
+push_reads : {A : Type 0} {cap : ℕ} {r : Ring A} {who : ℕ} {ms : List (State A)} {was : Bool} {c : Stand A} (d : PushKind) (q : ℕ) → At cap r who ms was c → c.local ≡ Local.Bounded (BoundedLocal.PushStamp d q)
+    → (c.touch ≡ Touch.Nothing) × (c.op ≡ Op.Load (Word.Stamp (slot_at cap (position_of q))))
 push_reads {cap = cap} d q (push_stamp e v t none saw) is = let same : t ≡ q = cc in (refl, ap (λ z. Op.Load (Word.Stamp (slot_at cap (position_of z)))) same)
 push_reads d q _ is = cc
 
-pop_reads : {A : Type 0} {cap : ℕ} {r : Ring A} {who : ℕ} {ms : List (State A)} {was : Bool} {l : Local ℕ} {t : Touch} {o : Op ℕ} {v : Option A} {k : Call A} {es : List (Effect A)} (q : ℕ) → At cap r who ms was l t o v k es → l ≡ Local.Bounded (BoundedLocal.PopStamp q)
-    → (t ≡ Touch.Nothing) × (o ≡ Op.Load (Word.Stamp (slot_at cap q)))
+pop_reads : {A : Type 0} {cap : ℕ} {r : Ring A} {who : ℕ} {ms : List (State A)} {was : Bool} {c : Stand A} (q : ℕ) → At cap r who ms was c → c.local ≡ Local.Bounded (BoundedLocal.PopStamp q)
+    → (c.touch ≡ Touch.Nothing) × (c.op ≡ Op.Load (Word.Stamp (slot_at cap q)))
 pop_reads {cap = cap} q (pop_stamp h none low) is = let same : h ≡ q = cc in (refl, ap (λ z. Op.Load (Word.Stamp (slot_at cap z))) same)
 pop_reads q _ is = cc
 

@@ -1,6 +1,8 @@
 -- The machine's word and slot at each step of a call on one slot: what the laws of the slot say of them.
-use Rattle.std.proofs.Common.{ℕ, ◌≡◌, ◌==◌, ◌∙◌, Bool, true, false, Option, None, List, [], ◌∷◌, if◌then◌else◌, refl, ap}
-use Rattle.machine_replay.specs.Vocabulary.{Call, Effect, Kind, Op, Touch, Local, Running}
+use Rattle.std.proofs.Common.{ℕ, ◌≡◌, ◌==◌, ◌∙◌, Bool, true, false, Option, None, [], ◌∷◌, if◌then◌else◌, refl, ap}
+use Rattle.machine_replay.specs.Vocabulary.{Kind, Touch, Running}
+use Rattle.law_common.specs.Stand.{Stand}
+use Rattle.machine_replay.proofs.StandOf.{running_of}
 use Rattle.law_slot.specs.SlotShared as slot
 use Rattle.law_slot.specs.SlotHolder.{SlotHolder}
 use Rattle.law_slot.specs.SlotRows.{At, push_try, force_try_empty, force_try_full, pop_try, close_try, look_at}
@@ -17,27 +19,24 @@ module _ {T : Type 0} where
   abbrev memory_of : slot.Shared T → Shared T
   memory_of s = one_slot s.lock s.slot
 
-  abbrev running : Local ℕ → Touch → Op ℕ → Option T → Running T
-  running l t o v = record { local = l; touch = t; op = o; carried = v }
-
   -- what is shared after the touch of a call's next step
   abbrev after : ℕ → Option T → Touch → Option T → slot.Shared T
   after word x t v = slot.touched (slot.one_slot word x) t v
 
   -- a step of the machine is the step of its slot
-  pub record SameStep (granted : Bool) (word : ℕ) (x : Option T) (l : Local ℕ) (t : Touch) (o : Op ℕ) (v : Option T) : Type 0 where
-    pub touches : slot.CanTouch t → CanTouch t (slots_there (one_slot word x) (block_touched o))
-    pub operates : CanOperate (after_touch (one_slot word x) (running l t o v)) o
-    pub answers : answer_to granted (one_slot word x) (running l t o v) ≡ slot.answered (after word x t v) o
-    pub carries : carried_then (one_slot word x) (running l t o v) ≡ slot.handed (slot.one_slot word x) t v
-    pub leaves : after_operation granted (one_slot word x) (running l t o v) ≡ memory_of (slot.operated (after word x t v) o)
+  pub record SameStep (granted : Bool) (word : ℕ) (x : Option T) (r : Running T) : Type 0 where
+    pub touches : slot.CanTouch r.touch → CanTouch r.touch (slots_there (one_slot word x) (block_touched r.op))
+    pub operates : CanOperate (after_touch (one_slot word x) r) r.op
+    pub answers : answer_to granted (one_slot word x) r ≡ slot.answered (after word x r.touch r.carried) r.op
+    pub carries : carried_then (one_slot word x) r ≡ slot.handed (slot.one_slot word x) r.touch r.carried
+    pub leaves : after_operation granted (one_slot word x) r ≡ memory_of (slot.operated (after word x r.touch r.carried) r.op)
 
   -- the exchange
   exchanged : (t : Bool) (word new : ℕ) (x : Option T) → (if◌then◌else◌ {A = Shared T} t (one_slot new x) (one_slot word x)) ≡ memory_of (if t then slot.one_slot new x else slot.one_slot word x)
   exchanged true word new x = refl
   exchanged false word new x = refl
 
-  pub same_step : {l : Local ℕ} {t : Touch} {o : Op ℕ} {v : Option T} {own : SlotHolder T} {k : Call T} {es : List (Effect T)} (granted : Bool) (word : ℕ) (x : Option T) → At l t o v own k es → SameStep granted word x l t o v
+  pub same_step : {c : Stand T} {own : SlotHolder T} (granted : Bool) (word : ℕ) (x : Option T) → At c own → SameStep granted word x (running_of c)
   same_step granted word x (push_try v) = record { touches = λ can. tt; operates = tt; answers = refl; carries = refl; leaves = exchanged (word == 0) word _ x }
   same_step granted word x (force_try_empty v) = record { touches = λ can. tt; operates = tt; answers = refl; carries = refl; leaves = exchanged (word == 0) word _ x }
   same_step granted word x (force_try_full v) = record { touches = λ can. tt; operates = tt; answers = refl; carries = refl; leaves = exchanged (word == 2) word _ x }

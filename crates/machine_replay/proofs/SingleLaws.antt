@@ -6,6 +6,7 @@ use Rattle.queue_steps.specs.WaitFree.{is_wait_free}
 use Rattle.queue_steps.specs.Replies.{IsRightAt}
 use Rattle.machine_replay.specs.Vocabulary.{Call, Reply, Effect, Kind, Look, Next, Running}
 use Rattle.law_common.specs.Effects.{with_effect}
+use Rattle.machine_replay.proofs.StandOf.{stand_of}
 use Rattle.law_slot.specs.SlotShared as slot
 use Rattle.law_slot.specs.SlotHolder.{SlotHolder, Nobody, Keeps, Idle, own_of}
 use Rattle.law_slot.specs.SlotRows.{Stands, At, push_try, force_try_empty, pop_try, close_try, look_at, single, Lands, IsEffect}
@@ -34,7 +35,7 @@ pub record Holds {T : Type 0} (s : Shared T) (Q : State T) (g : Keeps T) : Type 
 
 -- where the call stands, and that it has few steps before it
 pub record FitsIn {T : Type 0} (busy : ℕ) (s : Shared T) (Q : State T) (g : Keeps T) (p : ℕ) (r : Running T) (o : Open T) : Type 0 where
-  pub here : At r.local r.touch r.op r.carried (own_of g.who g.hold p) o.call o.effects
+  pub here : At (stand_of r o.call o.effects) (own_of g.who g.hold p)
   pub few : FewSteps busy o (rank r.local s.lock) 3
 
 abbrev GoesWell : {T : Type 0} → ℕ → Shared T → State T → Keeps T → ℕ → Open T → Option (Running T) → Option (Reply T) → Type 0
@@ -116,7 +117,7 @@ can_take {T} busy ok s Q g p r o holds f =
           (replies_if (next_on holds.word holds.slot r) (slot.handed (slot.one_slot holds.word holds.slot) r.touch r.carried) good.own' o.call (with_effect o.effects good.e) (single good.items' good.c' good.n' ∷ o.moments) good.lands));
     })
 
-fresh : {T : Type 0} (s : Shared T) (Q : State T) (g : Keeps T) (p : ℕ) (k : Call T) (r : Running T) → Idle g p → At r.local r.touch r.op r.carried Nobody k [] → (busy : ℕ) → FitsIn busy s Q g p r (begun k)
+fresh : {T : Type 0} (s : Shared T) (Q : State T) (g : Keeps T) (p : ℕ) (k : Call T) (r : Running T) → Idle g p → At (stand_of r k []) Nobody → (busy : ℕ) → FitsIn busy s Q g p r (begun k)
 fresh s Q g p k r free here busy = record { here = rw free here; few = few_begun busy k (rank r.local s.lock) 3 (rank_small r.local s.lock) (λ e. let one = wait_free_one s.lock here e in omega arith) }
 
 begun_well : {T : Type 0} (s : Shared T) (Q : State T) (g : Keeps T) (p : ℕ) (k : Call T) → Holds s Q g → Idle g p

@@ -5,7 +5,8 @@ use Rattle.std.proofs.lemmas.Bool.{eq-eqb}
 use Rattle.std.proofs.lemmas.Bool.Decides.{eqb_tells}
 use Rattle.queue_steps.specs.SingleNext.{is_pushed}
 use Rattle.queue_steps.specs.State.{State}
-use Rattle.machine_replay.specs.Vocabulary.{Call, Effect, Kind, Op, Touch, Local, Running}
+use Rattle.machine_replay.specs.Vocabulary.{Kind, Running}
+use Rattle.law_common.specs.Stand.{Stand}
 use Rattle.law_slot.specs.SlotHolder.{SlotHolder, Nobody, Filling, Swapping, Keeps, Idle, own_of}
 use Rattle.law_slot.specs.SlotRows.{Stands, free_empty, free_full, filling, swapping, taking, At, push_put, force_put_empty, force_put_full}
 use Rattle.machine_replay.specs.Book.{Book, Open}
@@ -26,8 +27,8 @@ wait_of (Swapping old v) = Some v
 wait_of x = None
 
 -- a party writes exactly where it holds a value to be written
-at_writing : {T : Type 0} {l : Local ℕ} {t : Touch} {o : Op ℕ} {v : Option T} {own : SlotHolder T} {k : Call T} {es : List (Effect T)} → At l t o v own k es
-    → ((wait_of own ≡ None) × (writes_slot t 0 ≡ false)) ⊎ ((x : T) × (wait_of own ≡ Some x) × (v ≡ Some x) × (writes_slot t 0 ≡ true))
+at_writing : {T : Type 0} {c : Stand T} {own : SlotHolder T} → At c own
+    → ((wait_of own ≡ None) × (writes_slot c.touch 0 ≡ false)) ⊎ ((x : T) × (wait_of own ≡ Some x) × (c.carried ≡ Some x) × (writes_slot c.touch 0 ≡ true))
 at_writing (push_put v) = inr (v, refl, refl, refl)
 at_writing (force_put_empty v) = inr (v, refl, refl, refl)
 at_writing (force_put_full old v) = inr (v, refl, refl, refl)

@@ -1,10 +1,11 @@
 -- What a step of a call on one slot is in the book: its effects begin those of a reply, and its effect moves the queue.
-use Rattle.std.proofs.Common.{ℕ, ◌≡◌, ◌==◌, inl, Bool, true, false, if◌then◌else◌, Option, Some, None, Ok, Err, List, [], ◌∷◌, refl}
+use Rattle.std.proofs.Common.{ℕ, ◌≡◌, ◌==◌, inl, Bool, true, false, if◌then◌else◌, Option, Some, None, Ok, Err, [], ◌∷◌, refl}
 use Rattle.queue_steps.specs.State.{State}
 use Rattle.queue_steps.specs.SingleNext.{is_marked}
-use Rattle.machine_replay.specs.Vocabulary.{Call, Reply, Effect, PopError, Kind, Op, Touch, Answer, Look, Local, PushKind, EffectKind}
+use Rattle.machine_replay.specs.Vocabulary.{Reply, Effect, PopError, Kind, Answer, Look, Local, PushKind, EffectKind}
 use Rattle.queue_steps.specs.declared.steps.single.SingleLocal.TheVariants.{Pushing, Forcing, Popping, Closing}
 use Rattle.law_common.specs.Effects.{Leads, with_effect, Whether}
+use Rattle.law_common.specs.Stand.{Stand}
 use Rattle.law_slot.specs.SlotHolder.{SlotHolder}
 use Rattle.law_slot.specs.SlotRows.{At, push_try, push_put, force_try_empty, force_try_full, force_put_empty, force_put_full, pop_try, pop_take, close_try, look_at, IsEffect}
 use Rattle.machine_replay.specs.Book.{IsBegun, Open, Moves}
@@ -13,7 +14,7 @@ use Rattle.machine_replay.proofs.Moments.{begun_push}
 use Rattle.machine_replay.proofs.Moving.{no_move, moved, won, marked, appends, takes}
 
 -- the effects of a call in progress begin those of some reply
-pub single_begun : {T : Type 0} {l : Local ℕ} {t : Touch} {o : Op ℕ} {v : Option T} {own : SlotHolder T} {k : Call T} {es : List (Effect T)} → At l t o v own k es → IsBegun k es
+pub single_begun : {T : Type 0} {c : Stand T} {own : SlotHolder T} → At c own → IsBegun c.call c.effects
 single_begun (push_try v) = (begun_push PushKind.Push v).0
 single_begun (push_put v) = (begun_push PushKind.Push v).1
 single_begun (force_try_empty v) = (begun_push PushKind.Force v).0

@@ -1,9 +1,11 @@
 -- One slot: a call that nobody hinders replies by its third step.
 use Rattle.std.proofs.Common.{ℕ, ◌==◌, if◌then◌else◌, ◌<◌, ◌≡◌, ◌≢◌, ◌∙◌, Bool, true, false, Option, Some, None, List, [], ◌∷◌, refl, sym, ap, subst, arith}
 use Rattle.queue_steps.specs.State.{State}
-use Rattle.machine_replay.specs.Vocabulary.{Call, Effect, Kind, Op, Touch, Local, Next, Running}
+use Rattle.machine_replay.specs.Vocabulary.{Kind, Local, Next, Running}
 use Rattle.queue_steps.specs.Next.{next_of}
 use Rattle.queue_steps.specs.declared.steps.single.SingleLocal.TheVariants.{Pushed, Forced, Popped}
+use Rattle.law_common.specs.Stand.{Stand}
+use Rattle.machine_replay.proofs.StandOf.{running_of}
 use Rattle.law_slot.specs.SlotShared as slot
 use Rattle.law_slot.specs.SlotHolder.{SlotHolder, Nobody, Taking, Keeps, Idle}
 use Rattle.law_slot.specs.SlotRows.{Stands, free_empty, At, push_try, push_put, force_put_empty, force_put_full, pop_take, code}
@@ -20,7 +22,7 @@ use Rattle.machine_replay.proofs.Taken.{HasTake, takes_reply}
 use Rattle.machine_replay.proofs.Stretch.{Rules, Paces, unhindered, never_waits, waits_take_none}
 
 -- a call that has had no effect has nothing of the lock
-own_none : {T : Type 0} {l : Local ℕ} {t : Touch} {o : Op ℕ} {v : Option T} {own : SlotHolder T} {k : Call T} {es : List (Effect T)} → At l t o v own k es → es ≡ [] → own ≡ Nobody
+own_none : {T : Type 0} {c : Stand T} {own : SlotHolder T} → At c own → c.effects ≡ [] → own ≡ Nobody
 own_none (push_put v) e = cc
 own_none (force_put_empty v) e = cc
 own_none (force_put_full old v) e = cc
@@ -47,7 +49,7 @@ word_at (Local.Single Popped) items c = code true false c
 word_at _ [] c = code false false c
 word_at _ (x ∷ xs) c = code false true c
 
-at_word : {T : Type 0} {l : Local ℕ} {t : Touch} {o : Op ℕ} {v : Option T} {own : SlotHolder T} {k : Call T} {es : List (Effect T)} (items : List T) (c : Bool) → At l t o v own k es → held_word own items c ≡ word_at l items c
+at_word : {T : Type 0} {c : Stand T} {own : SlotHolder T} (items : List T) (b : Bool) → At c own → held_word own items b ≡ word_at c.local items b
 unfolding held_word word_at
 at_word [] c (push_try v) = refl
 at_word (x ∷ xs) c (push_try v) = refl
@@ -109,8 +111,8 @@ unfolding single_paces
 single_unhindered T = unhindered T Kind.Single (single_rules T) (single_paces T) (λ parties w st h p r is nobody. tt)
 
 -- a call that has the lock ends at its next step
-half_ends : {T : Type 0} {l : Local ℕ} {t : Touch} {o : Op ℕ} {v : Option T} {own : SlotHolder T} {k : Call T} {es : List (Effect T)} (ok : Bool) (s : Shared T) (r' : Running T) → At l t o v own k es → es ≢ []
-    → (step_of Kind.Single ok s (record { local = l; touch = t; op = o; carried = v })).call ≡ Some r' → ⊥
+half_ends : {T : Type 0} {c : Stand T} {own : SlotHolder T} (ok : Bool) (s : Shared T) (r' : Running T) → At c own → c.effects ≢ []
+    → (step_of Kind.Single ok s (running_of c)).call ≡ Some r' → ⊥
 half_ends ok s r' (push_put v) some goes = cc
 half_ends ok s r' (force_put_empty v) some goes = cc
 half_ends ok s r' (force_put_full old v) some goes = cc
@@ -124,8 +126,8 @@ pub single_takes_none : (T : Type 0) → HalfDoneTakesNone T Kind.Single
 single_takes_none T = waits_take_none T Kind.Single (single_rules T) (λ busy ok s Q g p r r' o f some goes quiet. half_ends ok s r' f.here some goes)
 
 -- a call that has appended ends at its next step
-append_ends : {T : Type 0} {l : Local ℕ} {t : Touch} {o : Op ℕ} {v : Option T} {own : SlotHolder T} {k : Call T} {es : List (Effect T)} (ok : Bool) (s : Shared T) (r' : Running T) → At l t o v own k es → HasAppend es
-    → (step_of Kind.Single ok s (record { local = l; touch = t; op = o; carried = v })).call ≡ Some r' → ⊥
+append_ends : {T : Type 0} {c : Stand T} {own : SlotHolder T} (ok : Bool) (s : Shared T) (r' : Running T) → At c own → HasAppend c.effects
+    → (step_of Kind.Single ok s (running_of c)).call ≡ Some r' → ⊥
 append_ends ok s r' (push_put v) had goes = cc
 append_ends ok s r' (force_put_empty v) had goes = cc
 append_ends ok s r' x had goes = absurd had

@@ -3,8 +3,10 @@ use Rattle.std.proofs.Common.{ℕ, ◌≡◌, ◌≢◌, ◌∙◌, Bool, true, 
 use Rattle.std.proofs.lemmas.Bool.{eq-eqb}
 use Rattle.queue_steps.specs.Next.{next_of}
 use Rattle.queue_steps.specs.SingleNext.{unlocked}
-use Rattle.machine_replay.specs.Vocabulary.{Call, Effect, Kind, Op, Touch, Answer, Local, Running}
+use Rattle.machine_replay.specs.Vocabulary.{Kind, Answer, Local, Running}
 use Rattle.queue_steps.specs.declared.steps.single.SingleLocal.TheVariants.{Pushing, Pushed, Forcing, Forced, Popping, Popped}
+use Rattle.law_common.specs.Stand.{Stand}
+use Rattle.machine_replay.proofs.StandOf.{stand_of}
 use Rattle.law_slot.specs.SlotShared as slot
 use Rattle.law_slot.specs.SlotHolder.{SlotHolder, Nobody, Taking, Keeps}
 use Rattle.law_slot.specs.SlotRows.{Stands, free_empty, free_full, filling, swapping, taking, At, push_try, push_put, force_put_empty, force_put_full, pop_take}
@@ -27,7 +29,7 @@ HolderAt Nobody l = ⊥
 HolderAt (Taking x) l = IsPopToUnlock l
 HolderAt x l = IsPushToUnlock l
 
-holds_at : {T : Type 0} {l : Local ℕ} {t : Touch} {o : Op ℕ} {v : Option T} {own : SlotHolder T} {k : Call T} {es : List (Effect T)} → At l t o v own k es → own ≢ Nobody → HolderAt own l
+holds_at : {T : Type 0} {c : Stand T} {own : SlotHolder T} → At c own → own ≢ Nobody → HolderAt own c.local
 holds_at (push_put v) some = tt
 holds_at (force_put_empty v) some = tt
 holds_at (force_put_full old v) some = tt
@@ -35,7 +37,7 @@ holds_at (pop_take x) some = tt
 holds_at x some = absurd (some refl)
 
 -- each step finds the word
-finds : {T : Type 0} {l : Local ℕ} {t : Touch} {o : Op ℕ} {v : Option T} {own : SlotHolder T} {k : Call T} {es : List (Effect T)} (word : ℕ) (x : Option T) → At l t o v own k es → slot.answered (slot.touched (slot.one_slot word x) t v) o ≡ Answer.Found word
+finds : {T : Type 0} {c : Stand T} {own : SlotHolder T} (word : ℕ) (x : Option T) → At c own → slot.answered (slot.touched (slot.one_slot word x) c.touch c.carried) c.op ≡ Answer.Found word
 finds word x (push_try v) = refl
 finds word x y = refl
 
@@ -84,7 +86,7 @@ module _ {T : Type 0} (parties : ℕ) (w : World (Shared T) (Running T)) (st : �
   -- the party that has the lock is in a call, and stands where it gives it back
   holder : (busy : ℕ) (s : Shared T) (g : Keeps T) (x : Option (Running T)) (y : Option (Open T)) → Party T Kind.Single (single_rules T) parties busy s h.b.queue g g.who x y → g.hold ≢ Nobody → (r : Running T) × (x ≡ Some r) × HolderAt g.hold r.local
   holder busy s g None None idle some = absurd (some (rw (eq-eqb g.who g.who refl) at idle))
-  holder busy s g (Some r) (Some o) f some = (r, refl, holds_at (subst (λ own. At r.local r.touch r.op r.carried own o.call o.effects) (rw (eq-eqb g.who g.who refl) refl) f.here) some)
+  holder busy s g (Some r) (Some o) f some = (r, refl, holds_at (subst (At (stand_of r o.call o.effects)) (rw (eq-eqb g.who g.who refl) refl) f.here) some)
   holder busy s g x y f some = absurd f
 
   -- what a call does on the word that is there

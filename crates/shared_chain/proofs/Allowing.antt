@@ -4,11 +4,12 @@ use Rattle.std.proofs.Common.{ℕ, ◌≡◌, ◌≢◌, ◌||◌, not, Bool, Op
 use mathlib.Core.Option.{some}
 use lib.ListN.{get_elem?}
 use denote.RawPtr.{Ptr}
-use Rattle.law_common.specs.Vocabulary.{Call, Effect, Kind, Op, Touch, Answer, Local, Next}
+use Rattle.law_common.specs.Vocabulary.{Call, Effect, Kind, Answer, Local, Next}
 use Rattle.queue_steps.specs.Next.{CanNext, next_of}
 use Rattle.queue_steps.specs.State.{State as Queue}
 use Rattle.queue_steps.specs.UnboundedNext.{FitsChain, unbounded_next}
 use Rattle.law_common.specs.Effects.{Leads, with_effect}
+use Rattle.law_common.specs.Stand.{Stand}
 use Rattle.law_chain.specs.ChainCells.{Reading, Chain, queue_of}
 use Rattle.law_chain.specs.ChainAt.{At}
 use Rattle.law_chain.specs.ChainAnswers.{Answers}
@@ -19,7 +20,7 @@ use Rattle.mem_blocks.specs.Web.{Block, State, Sitter, word_of, viewed}
 use Rattle.mem_blocks.specs.declared.hub.TheConstants.{PARTIES}
 use Rattle.shared_parties.specs.declared.known.CallState.{CallState}
 use Rattle.shared_parties.specs.declared.known.InCall.{InCall}
-use Rattle.shared_parties.specs.Calling.{Standing, MayFront, Goes as GoesOn, handed_by}
+use Rattle.shared_parties.specs.Calling.{Standing, MayFront, Goes as GoesOn, handed_by, stand_of}
 use Rattle.shared_parties.specs.CallsAt.{CallsAt}
 use Rattle.shared_parties.proofs.Callings.{grown}
 use Rattle.shared_parties.proofs.CallSteps.{Stepping, call_step}
@@ -52,15 +53,15 @@ module _ {A : Type 0} where
 
   module _ (te he : Ptr) where
     -- What a step finds and leaves, whatever its operation is: the blocks bs stand for the chain after it, and the seat holds what its call has then
-    pub record Found (g : OutChain A) (who : ℕ) {ms : List (Queue A)} {l : Local ℕ} {t : Touch} {o : Op ℕ} {v : Option A} {k : Call A} {es : List (Effect A)} (here : At g.chain who ms l t o v k es) (a : Answer ℕ) (bs : List (Block A)) (q : Sitter A (CallState A)) : Type 0 where
-      pub found : Answers g.chain o a
+    pub record Found (g : OutChain A) (who : ℕ) {ms : List (Queue A)} {k : Stand A} (here : At g.chain who ms k) (a : Answer ℕ) (bs : List (Block A)) (q : Sitter A (CallState A)) : Type 0 where
+      pub found : Answers g.chain k.op a
       pub out : ℕ → Bool
       pub codes : Codes te he (record { chain = chain_then here a; out = out }) bs
       pub others : (j : ℕ) → j ≢ who → (n : ℕ) → g.chain.readers n ≡ Reading j → out n ≡ g.out n
-      pub slots : SlotsFor (record { chain = chain_then here a; out = out }) who (unbounded_next (chain_of l) a)
+      pub slots : SlotsFor (record { chain = chain_then here a; out = out }) who (unbounded_next (chain_of k.local) a)
       pub lends : List (ℕ × Option A)
       pub lent : ChainLent (record { chain = chain_then here a; out = out }) who lends
-      pub holds : HoldsFor lends (unbounded_next (chain_of l) a) q
+      pub holds : HoldsFor lends (unbounded_next (chain_of k.local) a) q
 
     -- it keeps the rule, and tells how the call goes on
     pub follows : (s : State A (CallState A)) (r : Rule te he s) (id : ℕ) (u : CallState A) (c : InCall A) → get_elem? s.views id ≡ some u → (st : Standing chain_calls r.cells r.history id u.known c) → (a : Answer ℕ) (bs : List (Block A)) (q : Sitter A (CallState A))
@@ -75,7 +76,7 @@ module _ {A : Type 0} where
       ),
     )
       where
-        here : At r.cells.chain id st.ms c.local c.touch c.op c.carried c.call c.effects
+        here : At r.cells.chain id st.ms (stand_of c)
         here = st.here.0
 
         right : Right r.cells.chain (after_of here a) id st.ms (chain_of c.local) (carried_of here) c.call c.effects a

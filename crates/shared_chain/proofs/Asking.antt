@@ -3,8 +3,9 @@ use Rattle.std.proofs.Common.{ℕ, ◌≡◌, ◌∙◌, Option, Some, None, Lis
 use mathlib.Core.Option.{some}
 use lib.ListN.{get_elem?}
 use denote.RawPtr.{Ptr, block_ptr, null_ptr, InBlock, Testable}
-use Rattle.law_common.specs.Vocabulary.{Call, Effect, Op, Touch, Answer, Local}
+use Rattle.law_common.specs.Vocabulary.{Op, Answer}
 use Rattle.queue_steps.specs.State.{State as Queue}
+use Rattle.law_common.specs.Stand.{Stand}
 use Rattle.law_chain.specs.ChainAt.{At, asking}
 use Rattle.mem_blocks.specs.Web.{Block, State, Sitter, word_of, Goes, Allows}
 use Rattle.mem_blocks.specs.declared.hub.TheConstants.{TAIL, PARTIES}
@@ -25,8 +26,8 @@ use Rattle.shared_chain.proofs.Granting.{granted_at, refused_codes}
 
 module _ {A : Type 0} (te he : Ptr) where
   -- where the call asks for a block, one that lies at p and that the seat carries is its spare
-  granted : (g : OutChain A) (who : ℕ) (bs : List (Block A)) (m : Sitter A (CallState A)) {ms : List (Queue A)} {l : Local ℕ} {t : Touch} {o : Op ℕ} {v : Option A} {k : Call A} {es : List (Effect A)} (here : At g.chain who ms l t o v k es)
-      → o ≡ Op.Ask → Codes te he g bs → SlotsAs g who l → (xs : List (ℕ × Option A)) → ChainLent g who xs → m.hand ≡ None → (b i : ℕ) → Testable (block_ptr b i) → m.spare ≡ Some (fresh_at (block_ptr b i))
+  granted : (g : OutChain A) (who : ℕ) (bs : List (Block A)) (m : Sitter A (CallState A)) {ms : List (Queue A)} {k : Stand A} (here : At g.chain who ms k)
+      → k.op ≡ Op.Ask → Codes te he g bs → SlotsAs g who k.local → (xs : List (ℕ × Option A)) → ChainLent g who xs → m.hand ≡ None → (b i : ℕ) → Testable (block_ptr b i) → m.spare ≡ Some (fresh_at (block_ptr b i))
       → (f : ℕ) × (spot f ≡ block_ptr b i) × Found te he g who here (Answer.Granted f) bs m
   granted g who bs m (asking d v q lead none saw asked) is codes slots xs lent hand b i tests spare =
       let empty = hand ∙ sym (ap (λ ys. hand_by 0 ys) (nothing_lent g who xs none lent)) in
@@ -35,8 +36,8 @@ module _ {A : Type 0} (te he : Ptr) where
   granted g who bs m here is codes slots xs lent hand at i tests spare2 = absurd (cc)
 
   -- and where it is refused the call ends
-  refused : (g : OutChain A) (who : ℕ) (bs : List (Block A)) (m : Sitter A (CallState A)) {ms : List (Queue A)} {l : Local ℕ} {t : Touch} {o : Op ℕ} {v : Option A} {k : Call A} {es : List (Effect A)} (here : At g.chain who ms l t o v k es)
-      → o ≡ Op.Ask → Codes te he g bs → (xs : List (ℕ × Option A)) → ChainLent g who xs → m.hand ≡ None → m.spare ≡ None → Found te he g who here Answer.Refused bs m
+  refused : (g : OutChain A) (who : ℕ) (bs : List (Block A)) (m : Sitter A (CallState A)) {ms : List (Queue A)} {k : Stand A} (here : At g.chain who ms k)
+      → k.op ≡ Op.Ask → Codes te he g bs → (xs : List (ℕ × Option A)) → ChainLent g who xs → m.hand ≡ None → m.spare ≡ None → Found te he g who here Answer.Refused bs m
   refused g who bs m (asking d v q lead none saw asked) is codes xs lent hand spare =
       let empty = hand ∙ sym (ap (λ ys. hand_by 0 ys) (nothing_lent g who xs none lent)) in
       let h = refused_codes te he g who bs m d q lead none codes xs lent (empty, spare) in let z = h.1 in

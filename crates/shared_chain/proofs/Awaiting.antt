@@ -121,13 +121,14 @@ module _ {A : Type 0} (te he : Ptr) (g : OutChain A) (who : ℕ) (bs : List (Blo
           (last (wrote_is (g.chain.writers n) x got.item (ap (λ j. is_wrote (g.chain.writers j)) (sym here_at) ∙ e)) (is_last_slot (head_of n more)))
 
 module _ {A : Type 0} (te he : Ptr) where
-  pub step_awaiting : (g : OutChain A) (who : ℕ) (bs : List (Block A)) (m : Sitter A (CallState A)) (ms : List (State A)) (x : A) (n name : ℕ) (more : Bool) (holds : Holds g.chain who (Only (Read n))) (got : Got g.chain who n x name)
-      → ChainOk g.chain → Codes te he g bs → SlotsAs g who (Local.Unbounded (chain.Awaiting (head_of n more) name)) → (xs : List (ℕ × Option A)) → ChainLent g who xs
-      → HoldsBy (Local.Unbounded (chain.Awaiting (head_of n more) name)) (Op.Load (Word.State name (offset_of (head_of n more)))) xs m → BlockStep te he g who bs m {ms = ms} (awaiting x n name more holds got)
-  step_awaiting g who bs m ms x n name more holds got ok codes slots xs lent has =
-      let not_yet = slots n got.mine in
-      let free : (m.hand ≡ None) × (m.spare ≡ None) = subst (λ ys. HoldsBy (Local.Unbounded (chain.Awaiting (head_of n more) name)) (Op.Load (Word.State name (offset_of (head_of n more)))) ys m) (no_lent te he g who xs (none g who n holds not_yet) lent) has in
-      let i = offset_of (head_of n more) in
-      let offset = head_offset n more in
-      load_step te he g who bs m (n / BLOCK_SLOTS) name i {ms = ms} (awaiting x n name more holds got) ok codes got.named (on te he g who bs m x n i name more holds got offset ok codes not_yet free)
-      (state te he g who bs m x n i name more holds got offset ok codes not_yet free) (await_left te he g who bs m x n i name more holds got offset ok codes not_yet free)
+  module _ (g : OutChain A) (who : ℕ) (bs : List (Block A)) (m : Sitter A (CallState A)) (ms : List (State A)) where
+    pub step_awaiting : (x : A) (n name : ℕ) (more : Bool) (holds : Holds g.chain who (Only (Read n))) (got : Got g.chain who n x name)
+        → ChainOk g.chain → Codes te he g bs → SlotsAs g who (Local.Unbounded (chain.Awaiting (head_of n more) name)) → (xs : List (ℕ × Option A)) → ChainLent g who xs
+        → HoldsBy (Local.Unbounded (chain.Awaiting (head_of n more) name)) (Op.Load (Word.State name (offset_of (head_of n more)))) xs m → BlockStep te he g who bs m {ms = ms} (awaiting x n name more holds got)
+    step_awaiting x n name more holds got ok codes slots xs lent has =
+        let not_yet = slots n got.mine in
+        let free : (m.hand ≡ None) × (m.spare ≡ None) = subst (λ ys. HoldsBy (Local.Unbounded (chain.Awaiting (head_of n more) name)) (Op.Load (Word.State name (offset_of (head_of n more)))) ys m) (no_lent te he g who xs (none g who n holds not_yet) lent) has in
+        let i = offset_of (head_of n more) in
+        let offset = head_offset n more in
+        load_step te he g who bs m (n / BLOCK_SLOTS) name i {ms = ms} (awaiting x n name more holds got) ok codes got.named (on te he g who bs m x n i name more holds got offset ok codes not_yet free)
+        (state te he g who bs m x n i name more holds got offset ok codes not_yet free) (await_left te he g who bs m x n i name more holds got offset ok codes not_yet free)

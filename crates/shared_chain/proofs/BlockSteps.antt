@@ -1,8 +1,8 @@
 -- What each step of a call does to the blocks of the web, wherever the call stands.
 use Rattle.std.proofs.Common.{ℕ, Option, List}
 use denote.RawPtr.{Ptr}
-use Rattle.law_common.specs.Vocabulary.{Call, Effect, Op, Touch, Local}
 use Rattle.queue_steps.specs.State.{State}
+use Rattle.law_common.specs.Stand.{Stand}
 use Rattle.law_chain.specs.ChainCells.{ChainOk}
 use Rattle.law_chain.specs.ChainAt.{At, push_tail, push_block, asking, installing, showing, claiming, laying, opening, chaining, writing, spending, pop_head, pop_block, pop_tail, taking, following, peeking, passing, entering, awaiting, reading, beginning, walking, destroying, len_tail, len_head, len_again, empty_head, empty_tail, closing, closed_tail}
 use Rattle.mem_blocks.specs.Web.{Block, Sitter}
@@ -24,8 +24,8 @@ use Rattle.shared_chain.proofs.Awaiting.{step_awaiting}
 use Rattle.shared_chain.proofs.Reading.{step_reading, step_beginning}
 use Rattle.shared_chain.proofs.Walking.{step_walking, step_destroying}
 
-pub block_steps : {A : Type 0} (te he : Ptr) (g : OutChain A) (who : ℕ) (bs : List (Block A)) (m : Sitter A (CallState A)) {ms : List (State A)} {l : Local ℕ} {t : Touch} {o : Op ℕ} {v : Option A} {k : Call A} {es : List (Effect A)} (here : At g.chain who ms l t o v k es)
-    → OnBlocks o → ChainOk g.chain → OutWrote g → Codes te he g bs → SlotsAs g who l → (xs : List (ℕ × Option A)) → ChainLent g who xs → HoldsBy l o (touched_list t v xs) m → BlockStep te he g who bs m here
+pub block_steps : {A : Type 0} (te he : Ptr) (g : OutChain A) (who : ℕ) (bs : List (Block A)) (m : Sitter A (CallState A)) {ms : List (State A)} {k : Stand A} (here : At g.chain who ms k)
+    → OnBlocks k.op → ChainOk g.chain → OutWrote g → Codes te he g bs → SlotsAs g who k.local → (xs : List (ℕ × Option A)) → ChainLent g who xs → HoldsBy k.local k.op (touched_list k.touch k.carried xs) m → BlockStep te he g who bs m here
 block_steps te he g who bs m {ms = ms} (push_tail d x spare none spare_is) on ok wrote codes slots xs lent held = step_push_tail te he g who bs m ms d x spare none spare_is codes xs lent held
 block_steps te he g who bs m {ms = ms} (closed_tail none) on ok wrote codes slots xs lent held = step_closed_tail te he g who bs m ms none codes xs lent held
 block_steps te he g who bs m {ms = ms} (pop_tail n block none is front) on ok wrote codes slots xs lent held = step_pop_tail te he g who bs m ms n block none is front codes xs lent held

@@ -1,11 +1,12 @@
 -- What a shared chain owes of its calls: no step of another party takes away what a call knows, and where each call begins.
 use Rattle.std.proofs.Common.{ℕ, ◌%◌, ◌≡◌, ◌≢◌, ◌∙◌, inl, inr, true, false, List, [], ◌∷◌, Option, Some, None, refl, sym, ap}
-use Rattle.law_common.specs.Vocabulary.{Call, Reply, Effect, Kind, Op, Touch, Local, BLOCK_SLOTS}
+use Rattle.law_common.specs.Vocabulary.{Call, Reply, Kind, Op, Local, BLOCK_SLOTS}
 use Rattle.queue_steps.specs.declared.steps.unbounded.UnboundedLocal.TheVariants as chain
 use Rattle.queue_steps.specs.State.{State}
 use Rattle.queue_steps.specs.ChainWords.{offset_at, offset_of}
 use Rattle.law_common.specs.Effects.{IsBetween}
 use Rattle.law_common.proofs.Tails.{position_tail}
+use Rattle.law_common.specs.Stand.{Stand}
 use Rattle.law_chain.specs.ChainFacts.{place, open_tail_of}
 use Rattle.law_chain.proofs.ChainPlaces.{place_offset}
 use Rattle.law_chain.specs.ChainCells.{Wrote, Reader, Reading, Chain, Part, Write, Read, Holds, Nothing, writer_of, reader_of}
@@ -72,7 +73,7 @@ module _ {T : Type 0} where
       let before : g.chain.readers n ≡ Reading j = reader_is (g.chain.readers n) j (pass.0.owned (Read n) j ne (ap reader_of e)) in pass.1 j n ne before ∙ slots n before
 
   -- a chain has no displacement
-  no_front : {c : Chain T} {j : ℕ} {ms : List (State T)} {l : Local ℕ} {t : Touch} {o : Op ℕ} {v : Option T} {k : Call T} {es : List (Effect T)} → At c j ms l t o v k es → IsBetween es → ⊥
+  no_front : {c : Chain T} {j : ℕ} {ms : List (State T)} {k : Stand T} → At c j ms k → IsBetween k.effects → ⊥
   no_front (push_tail d v spare a b) h = h
   no_front x h = h
 
@@ -93,7 +94,7 @@ module _ {T : Type 0} where
       is ∙ (λ i. (same i % BLOCK_SLOTS, (h.2.2 ∙ ap (λ q. Some q) item) i) ∷ [])
 
   -- the slot that a call touches is the one that it has, and then it carries what lay there
-  touches_own : (g : OutChain T) (j : ℕ) {ms : List (State T)} {l : Local ℕ} {t : Touch} {o : Op ℕ} {v : Option T} {k : Call T} {es : List (Effect T)} (xs : List (ℕ × Option T)) → At g.chain j ms l t o v k es → SlotsAs g j l → ChainLent g j xs → HasTouched t xs
+  touches_own : (g : OutChain T) (j : ℕ) {ms : List (State T)} {k : Stand T} (xs : List (ℕ × Option T)) → At g.chain j ms k → SlotsAs g j k.local → ChainLent g j xs → HasTouched k.touch xs
   touches_own g j xs (writing d v n name spare holds mine b) slots lent = λ i at.
       let w : writer_of (g.chain.writers n) ≡ Some j = ap writer_of mine.mine in
       (None, of_writer g j n xs holds w lent ∙ ap (λ z. (z, None) ∷ []) (sym (tail_offset n) ∙ at))
@@ -103,13 +104,13 @@ module _ {T : Type 0} where
 
   pub chain_call_laws : CallLaws {T = T} chain_calls
   chain_call_laws = record {
-    at_stays = λ g s who j ms was l t o v k es ok ok2 ne pass here. (at_stays ok ok2 ne pass.0 here.0, spares_stay who j (spare_in l) ne pass.0 here.1, slots_stay g s who j l ne pass here.2);
+    at_stays = λ g s who j ms was c ok ok2 ne pass here. (at_stays ok ok2 ne pass.0 here.0, spares_stay who j (spare_in c.local) ne pass.0 here.1, slots_stay g s who j c.local ne pass here.2);
     lent_stays = λ g s who j xs ne pass lent. lent_stays g s who j xs ne pass lent;
     idle_stays = λ g s who j ne pass idle. (holds_stays who j Nothing ne pass.0 idle.0, spares_stay who j None ne pass.0 idle.1);
     idle_none = λ g j xs idle lent. idle_lends g j xs idle lent;
     idle_lent = λ g j idle. inl (refl, λ n. idle_none g j n idle);
-    coming = λ g j ms was l t o v k es ok here between. absurd (no_front here.0 between);
-    touches = λ g j ms was l t o v k es xs here lent. touches_own g j xs here.0 here.2 lent;
+    coming = λ g j ms was c ok here between. absurd (no_front here.0 between);
+    touches = λ g j ms was c xs here lent. touches_own g j xs here.0 here.2 lent;
   }
 
   -- a party that holds nothing reads nothing

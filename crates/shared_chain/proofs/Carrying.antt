@@ -1,7 +1,7 @@
 -- What a call carries after its touch is what lay in the slot that it has.
 use Rattle.std.proofs.Common.{ℕ, ◌≡◌, Option, List, refl, sym, ap}
-use Rattle.law_common.specs.Vocabulary.{Call, Effect, Op, Touch, Local}
 use Rattle.queue_steps.specs.State.{State}
+use Rattle.law_common.specs.Stand.{Stand}
 use Rattle.law_chain.specs.ChainCells.{writer_of}
 use Rattle.law_chain.specs.ChainAt.{At, writing, reading, beginning}
 use Rattle.law_chain.specs.ChainAfter.{carried_of}
@@ -9,7 +9,7 @@ use Rattle.shared_parties.specs.Calling.{lies_in, handed_by}
 use Rattle.shared_chain.specs.ChainCalls.{OutChain, SlotsAs, ChainLent}
 use Rattle.shared_chain.proofs.CallLaws.{of_writer, of_reader}
 
-pub carried_is : {T : Type 0} (g : OutChain T) (j : ℕ) (xs : List (ℕ × Option T)) {ms : List (State T)} {l : Local ℕ} {t : Touch} {o : Op ℕ} {v : Option T} {k : Call T} {es : List (Effect T)} (here : At g.chain j ms l t o v k es) → SlotsAs g j l → ChainLent g j xs → carried_of here ≡ handed_by t v xs
+pub carried_is : {T : Type 0} (g : OutChain T) (j : ℕ) (xs : List (ℕ × Option T)) {ms : List (State T)} {k : Stand T} (here : At g.chain j ms k) → SlotsAs g j k.local → ChainLent g j xs → carried_of here ≡ handed_by k.touch k.carried xs
 carried_is g j xs (writing d v n name spare holds mine b) slots lent = sym (ap lies_in (of_writer g j n xs holds (ap writer_of mine.mine) lent))
 carried_is g j xs (reading x n name more holds got wrote inner) slots lent = sym (ap lies_in (of_reader g j n x xs holds got.mine (slots n got.mine) wrote lent))
 carried_is g j xs (beginning x n name more holds got wrote last) slots lent = sym (ap lies_in (of_reader g j n x xs holds got.mine (slots n got.mine) wrote lent))

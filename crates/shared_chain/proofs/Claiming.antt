@@ -3,7 +3,7 @@ use Rattle.std.proofs.Common.{ℕ, ◌+◌, ◌/◌, ◌%◌, ◌<◌, ◌≤◌
 use Rattle.std.proofs.lemmas.Bool.Decides.{eqb_tells}
 use denote.RawPtr.{Ptr}
 use mathlib.Core.Option.{some}
-use Rattle.law_common.specs.Vocabulary.{Word, Op, Touch, Answer, Local, Next, PushKind, BLOCK_SLOTS, TAIL_STEP}
+use Rattle.law_common.specs.Vocabulary.{Word, Op, Answer, Local, Next, PushKind, BLOCK_SLOTS, TAIL_STEP}
 use Rattle.queue_steps.specs.State.{State}
 use Rattle.queue_steps.specs.Words.{tail_of}
 use Rattle.queue_steps.specs.ChainWords.{offset_of}
@@ -11,7 +11,7 @@ use Rattle.queue_steps.specs.UnboundedNext.{unbounded_next, chain_tail_found, la
 use Rattle.queue_steps.specs.declared.steps.unbounded.UnboundedLocal.TheVariants as chain
 use Rattle.law_common.specs.Puts.{put}
 use Rattle.law_common.proofs.Puts.{put_ok, put_same, put_other}
-use Rattle.law_common.specs.Pushes.{pushes}
+use Rattle.law_common.specs.Stand.{brings}
 use Rattle.law_chain.specs.ChainCells.{Free, Writing, Unread, Done, Mover, Rests, Laying, GivenUp, Chain, ChainOk, WalkOk, Read, Holds, Nothing, writer_of, reader_of, item_at, LAST}
 use Rattle.law_chain.specs.ChainTransitions.{appended}
 use Rattle.law_chain.proofs.ChainTransitions.{item_free, next_free}
@@ -117,7 +117,7 @@ module _ {A : Type 0} (te he : Ptr) (g : OutChain A) (who : ℕ) (bs : List (Blo
           codes none (tail_spare d (word_of bs 0 TAIL) spare) empty
     ]
       where
-        here : At g.chain who ms (Local.Unbounded (chain.Claiming d (open_tail_of q) name spare)) Touch.Nothing (Op.Exchange Word.Tail (open_tail_of q) (open_tail_of q + TAIL_STEP)) (Some v) (pushes d v) []
+        here : At g.chain who ms (brings (Local.Unbounded (chain.Claiming d (open_tail_of q) name spare)) (Op.Exchange Word.Tail (open_tail_of q) (open_tail_of q + TAIL_STEP)) d v)
         here = claiming d v q name spare none spare_is saw found enough
 
         answers : Answers g.chain (Op.Exchange Word.Tail (open_tail_of q) (open_tail_of q + TAIL_STEP)) (Answer.Found (word_of bs 0 TAIL))

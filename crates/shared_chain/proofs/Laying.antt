@@ -142,60 +142,61 @@ module _ {A : Type 0} where
               out = λ i low. refl;
             }) (codes.there b lt))
 
-    -- the install of the first block: where another was there before, this one is kept
-    pub step_installing : (g : OutChain A) (who : ℕ) (bs : List (Block A)) (m : Sitter A (CallState A)) (ms : List (State A)) (d : PushKind) (v : A) (f : ℕ) (none : Holds g.chain who Nothing) (saw : SawTail g.chain 0 ms) (mine : g.chain.uses f ≡ Spare who)
-        → ChainOk g.chain → Codes tail_end head_end g bs → SlotsAs g who (Local.Unbounded (chain.Installing d (open_tail_of 0) f)) → (xs : List (ℕ × Option A)) → ChainLent g who xs
-        → HoldsBy (Local.Unbounded (chain.Installing d (open_tail_of 0) f)) (Op.Install f) xs m → BlockStep tail_end head_end g who bs m {ms = ms} (installing d v f none saw mine)
-    step_installing g who bs m ms d v f none saw mine ok codes slots xs lent holds =
-        let s = go g.chain.blocks refl in step_by tail_end head_end g who bs m (installing d v f none saw mine) 0 codes.tail (λ e. refl) codes.last_is refl s.0 s.1 s.2
-      where
-        Installs : ℕ → Type 0
-        Installs n = (acts : List (Act A)) × Mays (blocks_made (Op.Install f) 0 bs) m acts
-            × Leaves tail_end head_end (record { chain = if_installed g.chain who f n; out = g.out }) who (blocks_after (blocks_made (Op.Install f) 0 bs) acts) (sitter_after (blocks_made (Op.Install f) 0 bs) m acts)
-            (unbounded_next (chain.Installing d (open_tail_of 0) f) (Answer.Linked (last_of g.chain.names n)))
+    module _ (g : OutChain A) (who : ℕ) (bs : List (Block A)) (m : Sitter A (CallState A)) (ms : List (State A)) where
+      -- the install of the first block: where another was there before, this one is kept
+      pub step_installing : (d : PushKind) (v : A) (f : ℕ) (none : Holds g.chain who Nothing) (saw : SawTail g.chain 0 ms) (mine : g.chain.uses f ≡ Spare who)
+          → ChainOk g.chain → Codes tail_end head_end g bs → SlotsAs g who (Local.Unbounded (chain.Installing d (open_tail_of 0) f)) → (xs : List (ℕ × Option A)) → ChainLent g who xs
+          → HoldsBy (Local.Unbounded (chain.Installing d (open_tail_of 0) f)) (Op.Install f) xs m → BlockStep tail_end head_end g who bs m {ms = ms} (installing d v f none saw mine)
+      step_installing d v f none saw mine ok codes slots xs lent holds =
+          let s = go g.chain.blocks refl in step_by tail_end head_end g who bs m (installing d v f none saw mine) 0 codes.tail (λ e. refl) codes.last_is refl s.0 s.1 s.2
+        where
+          Installs : ℕ → Type 0
+          Installs n = (acts : List (Act A)) × Mays (blocks_made (Op.Install f) 0 bs) m acts
+              × Leaves tail_end head_end (record { chain = if_installed g.chain who f n; out = g.out }) who (blocks_after (blocks_made (Op.Install f) 0 bs) acts) (sitter_after (blocks_made (Op.Install f) 0 bs) m acts)
+              (unbounded_next (chain.Installing d (open_tail_of 0) f) (Answer.Linked (last_of g.chain.names n)))
 
-        leads : (n : ℕ) → g.chain.blocks ≡ n → (block bs 0).next ≡ lead_of (last_of g.chain.names n)
-        leads n e = codes.last_is ∙ ap (λ i. lead_of (last_of g.chain.names i)) e
+          leads : (n : ℕ) → g.chain.blocks ≡ n → (block bs 0).next ≡ lead_of (last_of g.chain.names n)
+          leads n e = codes.last_is ∙ ap (λ i. lead_of (last_of g.chain.names i)) e
 
-        go : (n : ℕ) → g.chain.blocks ≡ n → Installs n
-        go zero e =
-            let empty = no_block g.chain ok e in
-            let hidden = no_front g.chain ok e in
-            let laid = codes_laid g bs who f g.chain.links g.chain.mover (Showing who) ok mine (let at = empty.1 in omega arith) refl (ap (λ s. shown_of s (g.chain.names g.chain.front)) (sym hidden.0))
-            (λ b lt. refl) (λ b name high. last_leads g.chain.blocks b name (g.chain.links b) high (ok.link b)) codes in (
-              lays (fresh_at (spot f)) ∷ [],
-              (holds.1, tt),
-              goes_on tail_end head_end (record { chain = moves.installed g.chain who f; out = g.out }) who (blocks_made (Op.Install f) 0 bs ++ fresh_at (spot f) ∷ []) (sitter_after (blocks_made (Op.Install f) 0 bs) m (lays (fresh_at (spot f)) ∷ []))
-                  (Local.Unbounded (chain.Showing d (open_tail_of 0) f)) Touch.Nothing (Op.StoreLink Link.HeadBlock f) xs
-                  (subst (λ q. Codes tail_end head_end (record { chain = moves.installed g.chain who f; out = g.out }) (with_next bs 0 (if_unset (spot f) q) ++ fresh_at (spot f) ∷ [])) (sym (leads zero e)) laid)
-                  slots lent (holds.0, refl),
-            )
-        go (suc b) e = (
-          [],
-          tt,
-          goes_on tail_end head_end g who (blocks_made (Op.Install f) 0 bs) m (Local.Unbounded (chain.PushTail d (Some f))) Touch.Nothing (Op.Load Word.Tail) xs (subst (λ ys. Codes tail_end head_end g ys) (sym kept) codes) slots lent holds,
-        )
-          where
-            kept : blocks_made (Op.Install f) 0 bs ≡ bs
-            kept = ap (λ q. with_next bs 0 (if_unset (spot f) q)) (leads (suc b) e) ∙ (ap (λ q. with_next bs 0 q) (sym (leads (suc b) e)) ∙ next_same bs 0)
+          go : (n : ℕ) → g.chain.blocks ≡ n → Installs n
+          go zero e =
+              let empty = no_block g.chain ok e in
+              let hidden = no_front g.chain ok e in
+              let laid = codes_laid g bs who f g.chain.links g.chain.mover (Showing who) ok mine (let at = empty.1 in omega arith) refl (ap (λ s. shown_of s (g.chain.names g.chain.front)) (sym hidden.0))
+              (λ b lt. refl) (λ b name high. last_leads g.chain.blocks b name (g.chain.links b) high (ok.link b)) codes in (
+                lays (fresh_at (spot f)) ∷ [],
+                (holds.1, tt),
+                goes_on tail_end head_end (record { chain = moves.installed g.chain who f; out = g.out }) who (blocks_made (Op.Install f) 0 bs ++ fresh_at (spot f) ∷ []) (sitter_after (blocks_made (Op.Install f) 0 bs) m (lays (fresh_at (spot f)) ∷ []))
+                    (Local.Unbounded (chain.Showing d (open_tail_of 0) f)) Touch.Nothing (Op.StoreLink Link.HeadBlock f) xs
+                    (subst (λ q. Codes tail_end head_end (record { chain = moves.installed g.chain who f; out = g.out }) (with_next bs 0 (if_unset (spot f) q) ++ fresh_at (spot f) ∷ [])) (sym (leads zero e)) laid)
+                    slots lent (holds.0, refl),
+              )
+          go (suc b) e = (
+            [],
+            tt,
+            goes_on tail_end head_end g who (blocks_made (Op.Install f) 0 bs) m (Local.Unbounded (chain.PushTail d (Some f))) Touch.Nothing (Op.Load Word.Tail) xs (subst (λ ys. Codes tail_end head_end g ys) (sym kept) codes) slots lent holds,
+          )
+            where
+              kept : blocks_made (Op.Install f) 0 bs ≡ bs
+              kept = ap (λ q. with_next bs 0 (if_unset (spot f) q)) (leads (suc b) e) ∙ (ap (λ q. with_next bs 0 q) (sym (leads (suc b) e)) ∙ next_same bs 0)
 
-    -- the store of the link to the block that is laid behind the pushers' block
-    pub step_laying : (g : OutChain A) (who : ℕ) (bs : List (Block A)) (m : Sitter A (CallState A)) (ms : List (State A)) (d : PushKind) (v : A) (n name f : ℕ) (parts : Holds g.chain who (Either (Write n) Tail)) (claims : Claimed g.chain who n v name)
-        (moving : (g.chain.mover ≡ Laying who) × (g.chain.tail ≡ n + 1)) (mine : g.chain.uses f ≡ Spare who)
-        → ChainOk g.chain → Codes tail_end head_end g bs → SlotsAs g who (Local.Unbounded (chain.Laying d (open_tail_of n) name f)) → (xs : List (ℕ × Option A)) → ChainLent g who xs
-        → HoldsBy (Local.Unbounded (chain.Laying d (open_tail_of n) name f)) (Op.StoreLink Link.TailBlock f) xs m → BlockStep tail_end head_end g who bs m {ms = ms} (laying d v n name f parts claims moving mine)
-    step_laying g who bs m ms d v n name f parts claims moving mine ok codes slots xs lent holds =
-        step_by tail_end head_end g who bs m (laying d v n name f parts claims moving mine) 0 codes.tail (λ e. refl) tt refl (lays (fresh_at (spot f)) ∷ []) (holds.1, tt)
-        (goes_on tail_end head_end (record { chain = moves.laid_out g.chain who f; out = g.out }) who (with_next bs 0 (spot f) ++ fresh_at (spot f) ∷ []) (sitter_after (with_next bs 0 (spot f)) m (lays (fresh_at (spot f)) ∷ []))
-        (Local.Unbounded (chain.Opening d (open_tail_of n) name f)) Touch.Nothing (Op.Add Word.Tail TAIL_STEP) xs laid slots lent (holds.0, refl))
-      where
-        full : BlocksOk g.chain.tail g.chain.blocks (Laying who)
-        full = subst (λ k. BlocksOk g.chain.tail g.chain.blocks k) moving.0 ok.laid
+      -- the store of the link to the block that is laid behind the pushers' block
+      pub step_laying : (d : PushKind) (v : A) (n name f : ℕ) (parts : Holds g.chain who (Either (Write n) Tail)) (claims : Claimed g.chain who n v name)
+          (moving : (g.chain.mover ≡ Laying who) × (g.chain.tail ≡ n + 1)) (mine : g.chain.uses f ≡ Spare who)
+          → ChainOk g.chain → Codes tail_end head_end g bs → SlotsAs g who (Local.Unbounded (chain.Laying d (open_tail_of n) name f)) → (xs : List (ℕ × Option A)) → ChainLent g who xs
+          → HoldsBy (Local.Unbounded (chain.Laying d (open_tail_of n) name f)) (Op.StoreLink Link.TailBlock f) xs m → BlockStep tail_end head_end g who bs m {ms = ms} (laying d v n name f parts claims moving mine)
+      step_laying d v n name f parts claims moving mine ok codes slots xs lent holds =
+          step_by tail_end head_end g who bs m (laying d v n name f parts claims moving mine) 0 codes.tail (λ e. refl) tt refl (lays (fresh_at (spot f)) ∷ []) (holds.1, tt)
+          (goes_on tail_end head_end (record { chain = moves.laid_out g.chain who f; out = g.out }) who (with_next bs 0 (spot f) ++ fresh_at (spot f) ∷ []) (sitter_after (with_next bs 0 (spot f)) m (lays (fresh_at (spot f)) ∷ []))
+          (Local.Unbounded (chain.Opening d (open_tail_of n) name f)) Touch.Nothing (Op.Add Word.Tail TAIL_STEP) xs laid slots lent (holds.0, refl))
+        where
+          full : BlocksOk g.chain.tail g.chain.blocks (Laying who)
+          full = subst (λ k. BlocksOk g.chain.tail g.chain.blocks k) moving.0 ok.laid
 
-        laid : Codes tail_end head_end (record { chain = moves.laid_out g.chain who f; out = g.out }) (with_next bs 0 (spot f) ++ fresh_at (spot f) ∷ [])
-        laid =
-            let some = full.0 in
-            codes_laid g bs who f (put g.chain.links (g.chain.blocks - 1) (Linking who)) (Opening who) g.chain.shown ok mine (let at = full.1 in omega arith) (ap (λ k. tail_place g.chain.tail k) (sym moving.0))
-            (shown_same g.chain.blocks g.chain.head g.chain.front g.chain.known g.chain.passer g.chain.names f g.chain.shown ok.seen)
-            (λ b lt. put_other g.chain.links (g.chain.blocks - 1) b (Linking who) (λ e. omega arith))
-            (λ b to high. put_ok g.chain.links (g.chain.blocks - 1) b (Linking who) (λ j l. linked_of l to ≡ None) refl (λ ne. last_leads g.chain.blocks b to (g.chain.links b) high (ok.link b))) codes
+          laid : Codes tail_end head_end (record { chain = moves.laid_out g.chain who f; out = g.out }) (with_next bs 0 (spot f) ++ fresh_at (spot f) ∷ [])
+          laid =
+              let some = full.0 in
+              codes_laid g bs who f (put g.chain.links (g.chain.blocks - 1) (Linking who)) (Opening who) g.chain.shown ok mine (let at = full.1 in omega arith) (ap (λ k. tail_place g.chain.tail k) (sym moving.0))
+              (shown_same g.chain.blocks g.chain.head g.chain.front g.chain.known g.chain.passer g.chain.names f g.chain.shown ok.seen)
+              (λ b lt. put_other g.chain.links (g.chain.blocks - 1) b (Linking who) (λ e. omega arith))
+              (λ b to high. put_ok g.chain.links (g.chain.blocks - 1) b (Linking who) (λ j l. linked_of l to ≡ None) refl (λ ne. last_leads g.chain.blocks b to (g.chain.links b) high (ok.link b))) codes

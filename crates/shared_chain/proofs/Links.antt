@@ -1,9 +1,10 @@
 -- What the steps on links share: what a step leaves for the next one, which blocks are alive, and what another link of an end or of a block leaves of the blocks.
 use Rattle.std.proofs.Common.{ℕ, ◌+◌, ◌≡◌, ◌≢◌, ◌∙◌, inl, inr, Option, List, [], refl, sym, ap, subst}
 use denote.RawPtr.{Ptr}
-use Rattle.law_common.specs.Vocabulary.{Call, Effect, Op, Touch, Local, Next}
+use Rattle.law_common.specs.Vocabulary.{Op, Touch, Local, Next}
 use Rattle.queue_steps.specs.State.{State}
 use Rattle.queue_steps.specs.UnboundedNext.{unbounded_next}
+use Rattle.law_common.specs.Stand.{Stand}
 use Rattle.law_chain.specs.ChainCells.{GivenUp, Chained, Chain, ChainOk, Write, Read, reader_of, Holds, Nothing}
 use Rattle.law_chain.specs.ChainFacts.{IsNamed}
 use Rattle.law_chain.specs.ChainAt.{At}
@@ -47,11 +48,11 @@ module _ (tail_end head_end : Ptr) {A : Type 0} where
   goes_on r who bs m l t o xs codes slots lent holds = record { codes = codes; slots = slots; lends = xs; lent = lent; holds = holds }
 
   -- a step that takes and gives no slot
-  pub step_by : (g : OutChain A) (who : ℕ) (bs : List (Block A)) (m : Sitter A (CallState A)) {ms : List (State A)} {l : Local ℕ} {t : Touch} {o : Op ℕ} {v : Option A} {k : Call A} {es : List (Effect A)}
-      (here : At g.chain who ms l t o v k es) (number : ℕ) → Lives bs number (op_place tail_end head_end o) → (number ≡ 0 → word_index (op_word o) ≡ 0) → LeadsThere g.chain bs o number → Answers g.chain o (answered g.chain bs o number)
-      → (acts : List (Act A)) → Mays (blocks_made o number bs) m acts
-      → Leaves tail_end head_end (record { chain = after_of here (answered g.chain bs o number); out = g.out }) who (blocks_after (blocks_made o number bs) acts) (sitter_after (blocks_made o number bs) m acts)
-      (unbounded_next (chain_of l) (answered g.chain bs o number))
+  pub step_by : (g : OutChain A) (who : ℕ) (bs : List (Block A)) (m : Sitter A (CallState A)) {ms : List (State A)} {k : Stand A}
+      (here : At g.chain who ms k) (number : ℕ) → Lives bs number (op_place tail_end head_end k.op) → (number ≡ 0 → word_index (op_word k.op) ≡ 0) → LeadsThere g.chain bs k.op number → Answers g.chain k.op (answered g.chain bs k.op number)
+      → (acts : List (Act A)) → Mays (blocks_made k.op number bs) m acts
+      → Leaves tail_end head_end (record { chain = after_of here (answered g.chain bs k.op number); out = g.out }) who (blocks_after (blocks_made k.op number bs) acts) (sitter_after (blocks_made k.op number bs) m acts)
+      (unbounded_next (chain_of k.local) (answered g.chain bs k.op number))
       → BlockStep tail_end head_end g who bs m here
   step_by g who bs m here number lives counts leads found acts mays leaves = record {
     number = number;

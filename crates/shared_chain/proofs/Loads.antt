@@ -9,6 +9,7 @@ use Rattle.queue_steps.specs.ChainWords.{block_at, offset_of, items_before}
 use Rattle.queue_steps.specs.UnboundedNext.{unbounded_next, chain_tail_found, chain_pop_tail_found, chain_head_found}
 use Rattle.queue_steps.specs.declared.steps.unbounded.UnboundedLocal.TheVariants as chain
 use Rattle.law_common.specs.Moments.{SeenIn, HeadWas}
+use Rattle.law_common.specs.Stand.{stand}
 use Rattle.law_chain.specs.ChainCells.{Holds, Nothing}
 use Rattle.law_chain.specs.ChainFacts.{head_of, HasSpare, HeadIs, HeadBlockRead, SawEmpty}
 use Rattle.law_chain.specs.ChainAt.{At, push_tail, pop_head, pop_tail, len_tail, len_head, len_again, empty_head, empty_tail, closed_tail}
@@ -43,7 +44,7 @@ again_spare t h x = elim (eqb_tells x t) [ inl e ↦ rw (e.0) refl | inr e ↦ r
 
 module _ {A : Type 0} (te he : Ptr) (g : OutChain A) (who : ℕ) (bs : List (Block A)) (m : Sitter A (CallState A)) (ms : List (State A)) where
   -- the load of the first word of the block k, which is the word w
-  step_load : {l : Local ℕ} {w : Word ℕ} {v : Option A} {call : Call A} {es : List (Effect A)} (here : At g.chain who ms l Touch.Nothing (Op.Load w) v call es) (k : ℕ)
+  step_load : {l : Local ℕ} {w : Word ℕ} {v : Option A} {call : Call A} {es : List (Effect A)} (here : At g.chain who ms (stand l Touch.Nothing (Op.Load w) v call es)) (k : ℕ)
       → Lives bs k (word_place te he w) → word_index w ≡ 0 → Answers g.chain (Op.Load w) (Answer.Found (word_of bs k (word_index w))) → after_of here (Answer.Found (word_of bs k (word_index w))) ≡ g.chain
       → Holds g.chain who Nothing → spare_on (unbounded_next (chain_of l) (Answer.Found (word_of bs k (word_index w)))) ≡ spare_in l
       → Codes te he g bs → (xs : List (ℕ × Option A)) → ChainLent g who xs → HoldsBy l (Op.Load w) xs m → BlockStep te he g who bs m here
@@ -51,12 +52,12 @@ module _ {A : Type 0} (te he : Ptr) (g : OutChain A) (who : ℕ) (bs : List (Blo
       step_none te he g who bs m here k lives (λ e. first) tt found bs (word_same bs k (word_index w)) g.chain same (unbounded_next (chain_of l) (Answer.Found (word_of bs k (word_index w)))) refl
       codes none spare (none_held g who l (Op.Load w) xs m none lent holds)
 
-  load_tail : {l : Local ℕ} {v : Option A} {call : Call A} {es : List (Effect A)} (here : At g.chain who ms l Touch.Nothing (Op.Load Word.Tail) v call es) → after_of here (Answer.Found (word_of bs 0 0)) ≡ g.chain
+  load_tail : {l : Local ℕ} {v : Option A} {call : Call A} {es : List (Effect A)} (here : At g.chain who ms (stand l Touch.Nothing (Op.Load Word.Tail) v call es)) → after_of here (Answer.Found (word_of bs 0 0)) ≡ g.chain
       → Holds g.chain who Nothing → spare_on (unbounded_next (chain_of l) (Answer.Found (word_of bs 0 0))) ≡ spare_in l
       → Codes te he g bs → (xs : List (ℕ × Option A)) → ChainLent g who xs → HoldsBy l (Op.Load Word.Tail) xs m → BlockStep te he g who bs m here
   load_tail here same none spare codes xs lent holds = step_load here 0 codes.tail refl (ap (λ n. Answer.Found n) codes.tail_is) same none spare codes xs lent holds
 
-  load_head : {l : Local ℕ} {v : Option A} {call : Call A} {es : List (Effect A)} (here : At g.chain who ms l Touch.Nothing (Op.Load Word.Head) v call es) → after_of here (Answer.Found (word_of bs 1 0)) ≡ g.chain
+  load_head : {l : Local ℕ} {v : Option A} {call : Call A} {es : List (Effect A)} (here : At g.chain who ms (stand l Touch.Nothing (Op.Load Word.Head) v call es)) → after_of here (Answer.Found (word_of bs 1 0)) ≡ g.chain
       → Holds g.chain who Nothing → spare_on (unbounded_next (chain_of l) (Answer.Found (word_of bs 1 0))) ≡ spare_in l
       → Codes te he g bs → (xs : List (ℕ × Option A)) → ChainLent g who xs → HoldsBy l (Op.Load Word.Head) xs m → BlockStep te he g who bs m here
   load_head here same none spare codes xs lent holds = step_load here 1 codes.head refl (ap (λ n. Answer.Found n) codes.head_is) same none spare codes xs lent holds

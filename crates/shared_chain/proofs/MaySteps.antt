@@ -1,8 +1,9 @@
 -- The step of a call may be done wherever the call stands: its word is one of the chain's, and the slot that it touches is the one that it has.
 use Rattle.std.proofs.Common.{ℕ, ◌<◌, ◌%◌, ◌≡◌, ◌∙◌, inl, inr, Bool, true, false, Option, Some, None, List, [], ◌∷◌, refl, sym, ap, subst, arith, lit<}
-use Rattle.law_common.specs.Vocabulary.{Call, Effect, Op, Touch, Local, Next, BLOCK_SLOTS}
+use Rattle.law_common.specs.Vocabulary.{Call, Effect, Next, BLOCK_SLOTS}
 use Rattle.queue_steps.specs.State.{State}
 use Rattle.queue_steps.specs.ChainWords.{offset_of}
+use Rattle.law_common.specs.Stand.{Stand}
 use Rattle.law_chain.specs.ChainCells.{Writing, Reading, Walker, WalkOk, ChainOk, Write, Read, writer_of, reader_of, Holds, Nothing}
 use Rattle.law_chain.specs.ChainFacts.{head_of, open_tail_of}
 use Rattle.law_chain.proofs.ChainAnswers.{head_offset}
@@ -47,8 +48,8 @@ module _ {A : Type 0} where
   walk_low : (g : OutChain A) (who b slot : ℕ) → ChainOk g.chain → g.chain.walks b ≡ Walker who slot → slot < BLOCK_SLOTS
   walk_low g who b slot ok e = let z = subst (WalkOk g.chain.readers b) e (ok.walk b) in let lt = z.0 in omega arith
 
-  pub may_step : (g : OutChain A) (who : ℕ) {ms : List (State A)} {l : Local ℕ} {t : Touch} {o : Op ℕ} {v : Option A} {k : Call A} {es : List (Effect A)} (xs : List (ℕ × Option A))
-      → ChainOk g.chain → ChainAt g who ms l t o v k es → ChainLent g who xs → MayStep l t o v xs
+  pub may_step : (g : OutChain A) (who : ℕ) {ms : List (State A)} {k : Stand A} (xs : List (ℕ × Option A))
+      → ChainOk g.chain → ChainAt g who ms k → ChainLent g who xs → MayStep k.local k.touch k.op k.carried xs
   may_step g who xs ok (asking d v q block none saw asks, only, slots) lent = ((none_lent g who xs none lent, refl), tt)
   may_step g who xs ok (writing d v n name spare part claimed has, only, slots) lent =
       (tail_low n, (refl, write_lent g who n v xs part claimed.mine lent ∙ ap (λ i. (i, None) ∷ []) (sym (tail_offset n)), (v, refl)))

@@ -173,77 +173,78 @@ module _ {A : Type 0} (te he : Ptr) (g : OutChain A) (who : ℕ) (bs cs : List (
       go true e = subst (λ u. goes u (bit_and (word_of bs (n / BLOCK_SLOTS + 2) i) DESTROY == 0)) (sym e) (subst (λ u. goes true u) (sym (state.destroyed unread ∙ ap not e)) (goes_on (waits_is (g.chain.walks (n / BLOCK_SLOTS)) i e)))
 
 module _ {A : Type 0} (te he : Ptr) where
-  pub step_reading : (g : OutChain A) (who : ℕ) (bs : List (Block A)) (m : Sitter A (CallState A)) (ms : List (State A)) (x : A) (n name : ℕ) (more : Bool) (holds : Holds g.chain who (Only (Read n))) (got : Got g.chain who n x name) (wrote : g.chain.writers n ≡ Wrote x) (inner : IsLast n → ⊥)
-      → ChainOk g.chain → Codes te he g bs → (xs : List (ℕ × Option A))
-      → HoldsBy (Local.Unbounded (chain.Reading name (offset_of (head_of n more)))) (Op.Or (Word.State name (offset_of (head_of n more))) READ) (touched_list (Touch.Take (offset_of (head_of n more))) None xs) m
-      → BlockStep te he g who bs m {ms = ms} (reading x n name more holds got wrote inner)
-  step_reading g who bs m ms x n name more holds got wrote inner ok codes xs has =
-      or_step te he g who bs m b name i READ {ms = ms} (reading x n name more holds got wrote inner) ok codes got.named (on te he g who bs bs m x n i name holds got wrote offset ok codes has none) here
-      (read_left te he g who bs cs m x n i name holds got wrote offset ok codes has turned_to (omega (arith, offset, inner))
-      (subst (λ k. IsRead g.chain b i k) (sym set) (record {
-        written = still_tested WRITE (word_of bs (b + 2) i) READ refl ∙ here.written;
-        read = ap (λ z. z == 0) (and_or_self READ (word_of bs (b + 2) i));
-      }))
-      set)
-    where
-      b : ℕ
-      b = n / BLOCK_SLOTS
+  module _ (g : OutChain A) (who : ℕ) (bs : List (Block A)) (m : Sitter A (CallState A)) (ms : List (State A)) where
+    pub step_reading : (x : A) (n name : ℕ) (more : Bool) (holds : Holds g.chain who (Only (Read n))) (got : Got g.chain who n x name) (wrote : g.chain.writers n ≡ Wrote x) (inner : IsLast n → ⊥)
+        → ChainOk g.chain → Codes te he g bs → (xs : List (ℕ × Option A))
+        → HoldsBy (Local.Unbounded (chain.Reading name (offset_of (head_of n more)))) (Op.Or (Word.State name (offset_of (head_of n more))) READ) (touched_list (Touch.Take (offset_of (head_of n more))) None xs) m
+        → BlockStep te he g who bs m {ms = ms} (reading x n name more holds got wrote inner)
+    step_reading x n name more holds got wrote inner ok codes xs has =
+        or_step te he g who bs m b name i READ {ms = ms} (reading x n name more holds got wrote inner) ok codes got.named (on te he g who bs bs m x n i name holds got wrote offset ok codes has none) here
+        (read_left te he g who bs cs m x n i name holds got wrote offset ok codes has turned_to (omega (arith, offset, inner))
+        (subst (λ k. IsRead g.chain b i k) (sym set) (record {
+          written = still_tested WRITE (word_of bs (b + 2) i) READ refl ∙ here.written;
+          read = ap (λ z. z == 0) (and_or_self READ (word_of bs (b + 2) i));
+        }))
+        set)
+      where
+        b : ℕ
+        b = n / BLOCK_SLOTS
 
-      i : ℕ
-      i = offset_of (head_of n more)
+        i : ℕ
+        i = offset_of (head_of n more)
 
-      offset : offset_of (head_of n more) ≡ n % BLOCK_SLOTS
-      offset = head_offset n more
+        offset : offset_of (head_of n more) ≡ n % BLOCK_SLOTS
+        offset = head_offset n more
 
-      none : SlotTurns (n / BLOCK_SLOTS + 2) (offset_of (head_of n more)) bs bs
-      none = turns_not (b + 2) i bs
+        none : SlotTurns (n / BLOCK_SLOTS + 2) (offset_of (head_of n more)) bs bs
+        none = turns_not (b + 2) i bs
 
-      here : IsState g.chain (n / BLOCK_SLOTS) (offset_of (head_of n more)) (word_of bs (n / BLOCK_SLOTS + 2) (offset_of (head_of n more)))
-      here = state te he g who bs bs m x n i name holds got wrote offset ok codes has none
+        here : IsState g.chain (n / BLOCK_SLOTS) (offset_of (head_of n more)) (word_of bs (n / BLOCK_SLOTS + 2) (offset_of (head_of n more)))
+        here = state te he g who bs bs m x n i name holds got wrote offset ok codes has none
 
-      long : n / BLOCK_SLOTS + 2 < length bs
-      long = omega (arith, codes.size, got.named.0)
+        long : n / BLOCK_SLOTS + 2 < length bs
+        long = omega (arith, codes.size, got.named.0)
 
-      cs : List (Block A)
-      cs = with_word bs (n / BLOCK_SLOTS + 2) (offset_of (head_of n more)) (bit_or (word_of bs (n / BLOCK_SLOTS + 2) (offset_of (head_of n more))) READ)
+        cs : List (Block A)
+        cs = with_word bs (n / BLOCK_SLOTS + 2) (offset_of (head_of n more)) (bit_or (word_of bs (n / BLOCK_SLOTS + 2) (offset_of (head_of n more))) READ)
 
-      turned_to : SlotTurns (n / BLOCK_SLOTS + 2) (offset_of (head_of n more)) bs cs
-      turned_to = turns_word (b + 2) i (bit_or (word_of bs (b + 2) i) READ) bs long
+        turned_to : SlotTurns (n / BLOCK_SLOTS + 2) (offset_of (head_of n more)) bs cs
+        turned_to = turns_word (b + 2) i (bit_or (word_of bs (b + 2) i) READ) bs long
 
-      set : word_of cs (n / BLOCK_SLOTS + 2) (offset_of (head_of n more)) ≡ bit_or (word_of bs (n / BLOCK_SLOTS + 2) (offset_of (head_of n more))) READ
-      set = word_set bs (b + 2) i (bit_or (word_of bs (b + 2) i) READ) long (omega (arith, (there te he g who bs bs m x n i name holds got wrote offset ok codes has none).1.words, offset))
+        set : word_of cs (n / BLOCK_SLOTS + 2) (offset_of (head_of n more)) ≡ bit_or (word_of bs (n / BLOCK_SLOTS + 2) (offset_of (head_of n more))) READ
+        set = word_set bs (b + 2) i (bit_or (word_of bs (b + 2) i) READ) long (omega (arith, (there te he g who bs bs m x n i name holds got wrote offset ok codes has none).1.words, offset))
 
-  pub step_beginning : (g : OutChain A) (who : ℕ) (bs : List (Block A)) (m : Sitter A (CallState A)) (ms : List (State A)) (x : A) (n name : ℕ) (more : Bool) (holds : Holds g.chain who (Only (Read n))) (got : Got g.chain who n x name) (wrote : g.chain.writers n ≡ Wrote x) (last : IsLast n)
-      → ChainOk g.chain → Codes te he g bs → (xs : List (ℕ × Option A)) → HoldsBy (Local.Unbounded (chain.Walking name 0)) (Op.Load (Word.State name 0)) (touched_list (Touch.Take (offset_of (head_of n more))) None xs) m
-      → BlockStep te he g who bs m {ms = ms} (beginning x n name more holds got wrote last)
-  step_beginning g who bs m ms x n name more holds got wrote last ok codes xs has =
-      load_step te he g who bs m b name 0 {ms = ms} (beginning x n name more holds got wrote last) ok codes got.named begun state
-      (subst (λ u. starts (is_done (g.chain.readers (item_at (n / BLOCK_SLOTS) 0))) u) (sym state.read) (goes_from (is_done (g.chain.readers (item_at (n / BLOCK_SLOTS) 0)))))
-    where
-      b : ℕ
-      b = n / BLOCK_SLOTS
+    pub step_beginning : (x : A) (n name : ℕ) (more : Bool) (holds : Holds g.chain who (Only (Read n))) (got : Got g.chain who n x name) (wrote : g.chain.writers n ≡ Wrote x) (last : IsLast n)
+        → ChainOk g.chain → Codes te he g bs → (xs : List (ℕ × Option A)) → HoldsBy (Local.Unbounded (chain.Walking name 0)) (Op.Load (Word.State name 0)) (touched_list (Touch.Take (offset_of (head_of n more))) None xs) m
+        → BlockStep te he g who bs m {ms = ms} (beginning x n name more holds got wrote last)
+    step_beginning x n name more holds got wrote last ok codes xs has =
+        load_step te he g who bs m b name 0 {ms = ms} (beginning x n name more holds got wrote last) ok codes got.named begun state
+        (subst (λ u. starts (is_done (g.chain.readers (item_at (n / BLOCK_SLOTS) 0))) u) (sym state.read) (goes_from (is_done (g.chain.readers (item_at (n / BLOCK_SLOTS) 0)))))
+      where
+        b : ℕ
+        b = n / BLOCK_SLOTS
 
-      i : ℕ
-      i = offset_of (head_of n more)
+        i : ℕ
+        i = offset_of (head_of n more)
 
-      offset : offset_of (head_of n more) ≡ n % BLOCK_SLOTS
-      offset = head_offset n more
+        offset : offset_of (head_of n more) ≡ n % BLOCK_SLOTS
+        offset = head_offset n more
 
-      none : SlotTurns (n / BLOCK_SLOTS + 2) (offset_of (head_of n more)) bs bs
-      none = turns_not (b + 2) i bs
+        none : SlotTurns (n / BLOCK_SLOTS + 2) (offset_of (head_of n more)) bs bs
+        none = turns_not (b + 2) i bs
 
-      begun : g.chain.walks (n / BLOCK_SLOTS) ≢ GivenUp
-      begun = on te he g who bs bs m x n i name holds got wrote offset ok codes has none
+        begun : g.chain.walks (n / BLOCK_SLOTS) ≢ GivenUp
+        begun = on te he g who bs bs m x n i name holds got wrote offset ok codes has none
 
-      state : IsState g.chain (n / BLOCK_SLOTS) 0 (word_of bs (n / BLOCK_SLOTS + 2) 0)
-      state = state_is te he g bs b 0 codes got.named.0 begun (omega arith) (λ e. cc)
+        state : IsState g.chain (n / BLOCK_SLOTS) 0 (word_of bs (n / BLOCK_SLOTS + 2) 0)
+        state = state_is te he g bs b 0 codes got.named.0 begun (omega arith) (λ e. cc)
 
-      at_end : offset_of (head_of n more) ≡ LAST
-      at_end = omega (arith, offset, last)
+        at_end : offset_of (head_of n more) ≡ LAST
+        at_end = omega (arith, offset, last)
 
-      starts : Bool → Bool → Type 0
-      starts t u = Leaves te he g who bs m (reads g.chain n (if t then walk_after who 0 else Walker who 0)) (if not u then walks_on name 0 else at (chain.Destroying name 0) Touch.Nothing (Op.Or (Word.State name 0) DESTROY))
+        starts : Bool → Bool → Type 0
+        starts t u = Leaves te he g who bs m (reads g.chain n (if t then walk_after who 0 else Walker who 0)) (if not u then walks_on name 0 else at (chain.Destroying name 0) Touch.Nothing (Op.Or (Word.State name 0) DESTROY))
 
-      goes_from : (t : Bool) → starts t (not t)
-      goes_from true = begins te he g who bs bs m x n i name holds got wrote offset ok codes has none at_end 1 (Local.Unbounded (chain.Walking name 1)) Touch.Nothing (Op.Load (Word.State name 1)) refl
-      goes_from false = begins te he g who bs bs m x n i name holds got wrote offset ok codes has none at_end 0 (Local.Unbounded (chain.Destroying name 0)) Touch.Nothing (Op.Or (Word.State name 0) DESTROY) refl
+        goes_from : (t : Bool) → starts t (not t)
+        goes_from true = begins te he g who bs bs m x n i name holds got wrote offset ok codes has none at_end 1 (Local.Unbounded (chain.Walking name 1)) Touch.Nothing (Op.Load (Word.State name 1)) refl
+        goes_from false = begins te he g who bs bs m x n i name holds got wrote offset ok codes has none at_end 0 (Local.Unbounded (chain.Destroying name 0)) Touch.Nothing (Op.Or (Word.State name 0) DESTROY) refl

@@ -5,9 +5,10 @@ use mathlib.Core.Option.{some}
 use lib.ListN.{get_elem?}
 use denote.RawPtr.{Ptr}
 use Rattle.atomic_table.proofs.Lists.{set_here, set_else}
-use Rattle.law_common.specs.Vocabulary.{Call, Effect, Op, Touch, Local, Next, BLOCK_SLOTS, WRITE, READ}
+use Rattle.law_common.specs.Vocabulary.{Op, Local, Next, BLOCK_SLOTS, WRITE, READ}
 use Rattle.queue_steps.specs.State.{State}
 use Rattle.queue_steps.specs.UnboundedNext.{unbounded_next}
+use Rattle.law_common.specs.Stand.{Stand}
 use Rattle.law_chain.specs.ChainCells.{Writer, Free, Wrote, Reader, Unread, Reading, Done, Chain, Write, Read, reader_of, Holds, Nothing, item_at}
 use Rattle.law_chain.specs.ChainAt.{At}
 use Rattle.law_chain.specs.ChainAfter.{chain_of, after_of, left_by}
@@ -183,39 +184,40 @@ module _ {A : Type 0} where
   none_holds (Next.Reply x (Some f)) spare m same hand carried = (hand, (fresh_at (spot f), carried ∙ ap carried_by (sym same), refl, refl, refl, all_vacant A BLOCK_SLOTS))
   none_holds n spare m same hand carried = (hand, carried ∙ ap carried_by (sym same))
 
-  -- The step of a call, told by what it finds, by the blocks and the chain after it, and by how the call goes on
-  pub step_by : (te he : Ptr) (g : OutChain A) (who : ℕ) (bs : List (Block A)) (m : Sitter A (CallState A)) {ms : List (State A)} {l : Local ℕ} {t : Touch} {o : Op ℕ} {v : Option A} {k : Call A} {es : List (Effect A)}
-      (here : At g.chain who ms l t o v k es) (number : ℕ) → Lives bs number (op_place te he o) → (number ≡ 0 → word_index (op_word o) ≡ 0) → LeadsThere g.chain bs o number → Answers g.chain o (answered g.chain bs o number)
-      → (cs : List (Block A)) → blocks_made o number bs ≡ cs → (r : Chain A) → after_of here (answered g.chain bs o number) ≡ r → (n : Next ℕ) → unbounded_next (chain_of l) (answered g.chain bs o number) ≡ n
-      → (out : ℕ → Bool) (acts : List (Act A)) → Mays cs m acts → Codes te he (record { chain = left_by r n; out = out }) (blocks_after cs acts) → ((j : ℕ) → j ≢ who → (i : ℕ) → g.chain.readers i ≡ Reading j → out i ≡ g.out i)
-      → SlotsFor (record { chain = left_by r n; out = out }) who n → (lends : List (ℕ × Option A)) → ChainLent (record { chain = left_by r n; out = out }) who lends → HoldsFor lends n (sitter_after cs m acts)
-      → BlockStep te he g who bs m here
-  step_by te he g who bs m {l = l} {o = o} here number lives counts leads found cs made r after n goes out acts mays codes others slots lends lent holds = record {
-    number = number;
-    lives = lives;
-    counts = counts;
-    leads = leads;
-    found = found;
-    out = out;
-    acts = acts;
-    mays = rw made mays;
-    codes = rw (made, after, goes) codes;
-    others = others;
-    slots = rw (after, goes) slots;
-    lends = lends;
-    lent = rw (after, goes) lent;
-    holds = rw (made, goes) holds;
-  }
+  module _ (te he : Ptr) (g : OutChain A) (who : ℕ) (bs : List (Block A)) (m : Sitter A (CallState A)) where
+    -- The step of a call, told by what it finds, by the blocks and the chain after it, and by how the call goes on
+    pub step_by : {ms : List (State A)} {k : Stand A}
+        (here : At g.chain who ms k) (number : ℕ) → Lives bs number (op_place te he k.op) → (number ≡ 0 → word_index (op_word k.op) ≡ 0) → LeadsThere g.chain bs k.op number → Answers g.chain k.op (answered g.chain bs k.op number)
+        → (cs : List (Block A)) → blocks_made k.op number bs ≡ cs → (r : Chain A) → after_of here (answered g.chain bs k.op number) ≡ r → (n : Next ℕ) → unbounded_next (chain_of k.local) (answered g.chain bs k.op number) ≡ n
+        → (out : ℕ → Bool) (acts : List (Act A)) → Mays cs m acts → Codes te he (record { chain = left_by r n; out = out }) (blocks_after cs acts) → ((j : ℕ) → j ≢ who → (i : ℕ) → g.chain.readers i ≡ Reading j → out i ≡ g.out i)
+        → SlotsFor (record { chain = left_by r n; out = out }) who n → (lends : List (ℕ × Option A)) → ChainLent (record { chain = left_by r n; out = out }) who lends → HoldsFor lends n (sitter_after cs m acts)
+        → BlockStep te he g who bs m here
+    step_by here number lives counts leads found cs made r after n goes out acts mays codes others slots lends lent holds = record {
+      number = number;
+      lives = lives;
+      counts = counts;
+      leads = leads;
+      found = found;
+      out = out;
+      acts = acts;
+      mays = rw made mays;
+      codes = rw (made, after, goes) codes;
+      others = others;
+      slots = rw (after, goes) slots;
+      lends = lends;
+      lent = rw (after, goes) lent;
+      holds = rw (made, goes) holds;
+    }
 
-  -- The same where the party holds nothing, neither before nor after it: what the step does to the blocks is all that is owed
-  pub step_none : (te he : Ptr) (g : OutChain A) (who : ℕ) (bs : List (Block A)) (m : Sitter A (CallState A)) {ms : List (State A)} {l : Local ℕ} {t : Touch} {o : Op ℕ} {v : Option A} {k : Call A} {es : List (Effect A)}
-      (here : At g.chain who ms l t o v k es) (number : ℕ) → Lives bs number (op_place te he o) → (number ≡ 0 → word_index (op_word o) ≡ 0) → LeadsThere g.chain bs o number → Answers g.chain o (answered g.chain bs o number)
-      → (cs : List (Block A)) → blocks_made o number bs ≡ cs → (r : Chain A) → after_of here (answered g.chain bs o number) ≡ r → (n : Next ℕ) → unbounded_next (chain_of l) (answered g.chain bs o number) ≡ n
-      → Codes te he (record { chain = r; out = g.out }) cs → Holds r who Nothing → spare_on n ≡ spare_in l → (m.hand ≡ None) × (m.spare ≡ carried_by (spare_in l)) → BlockStep te he g who bs m here
-  step_none te he g who bs m {l = l} here number lives counts leads found cs made r after n goes codes none spare holds =
-      let left : OutChain A = record { chain = left_by r n; out = g.out } in
-      step_by te he g who bs m here number lives counts leads found cs made r after n goes g.out [] tt (codes_left te he r g.out cs n codes) (λ j ne i e. refl)
-      (none_slots left who n (none_left r who n none)) [] (none_lent left who (none_left r who n none)) (none_holds n (spare_in l) m spare holds.0 holds.1)
+    -- The same where the party holds nothing, neither before nor after it: what the step does to the blocks is all that is owed
+    pub step_none : {ms : List (State A)} {k : Stand A}
+        (here : At g.chain who ms k) (number : ℕ) → Lives bs number (op_place te he k.op) → (number ≡ 0 → word_index (op_word k.op) ≡ 0) → LeadsThere g.chain bs k.op number → Answers g.chain k.op (answered g.chain bs k.op number)
+        → (cs : List (Block A)) → blocks_made k.op number bs ≡ cs → (r : Chain A) → after_of here (answered g.chain bs k.op number) ≡ r → (n : Next ℕ) → unbounded_next (chain_of k.local) (answered g.chain bs k.op number) ≡ n
+        → Codes te he (record { chain = r; out = g.out }) cs → Holds r who Nothing → spare_on n ≡ spare_in k.local → (m.hand ≡ None) × (m.spare ≡ carried_by (spare_in k.local)) → BlockStep te he g who bs m here
+    step_none {k = k} here number lives counts leads found cs made r after n goes codes none spare holds =
+        let left : OutChain A = record { chain = left_by r n; out = g.out } in
+        step_by here number lives counts leads found cs made r after n goes g.out [] tt (codes_left te he r g.out cs n codes) (λ j ne i e. refl)
+        (none_slots left who n (none_left r who n none)) [] (none_lent left who (none_left r who n none)) (none_holds n (spare_in k.local) m spare holds.0 holds.1)
 
   -- what the seat of such a party holds before it
   pub none_held : (g : OutChain A) (who : ℕ) (l : Local ℕ) (o : Op ℕ) (xs : List (ℕ × Option A)) (m : Sitter A (CallState A)) → Holds g.chain who Nothing → ChainLent g who xs → HoldsBy l o xs m

@@ -9,6 +9,7 @@ use Rattle.law_common.specs.Vocabulary.{Call, Reply, Effect, Word, Op, Touch, An
 use Rattle.queue_steps.specs.State.{State}
 use Rattle.queue_steps.specs.declared.steps.unbounded.UnboundedLocal.TheVariants as chain
 use Rattle.queue_steps.specs.UnboundedNext.{unbounded_next, walks_on}
+use Rattle.law_common.specs.Stand.{Stand, stand}
 use Rattle.law_chain.specs.ChainCells.{Reading, Done, Walk, Walker, GivenUp, Chained, Chain, ChainOk, Part, Write, Read, Passed, Holds, reader_of, item_at, LAST}
 use Rattle.law_chain.specs.ChainTransitions.{walk_after}
 use Rattle.law_chain.specs.ChainFacts.{IsNamed}
@@ -71,45 +72,46 @@ module _ {A : Type 0} (te he : Ptr) where
     holds = left.holds;
   }
 
-  -- an operation, and what it leaves
-  op_step : (g : OutChain A) (who : ℕ) (bs : List (Block A)) (m : Sitter A (CallState A)) (number : ℕ) {ms : List (State A)} {l : Local ℕ} {t : Touch} {o : Op ℕ} {v : Option A} {k : Call A} {es : List (Effect A)} (here : At g.chain who ms l t o v k es)
-      → Lives bs number (op_place te he o) → (number ≡ 0 → word_index (op_word o) ≡ 0) → LeadsThere g.chain bs o number → Answers g.chain o (answered g.chain bs o number)
-      → Leaves g who (blocks_made o number bs) m (after_of here (answered g.chain bs o number)) (unbounded_next (chain_of l) (answered g.chain bs o number)) → BlockStep te he g who bs m here
-  op_step g who bs m number here lives counts leads found left = record {
-    number = number;
-    lives = lives;
-    counts = counts;
-    leads = leads;
-    found = found;
-    out = left.out;
-    acts = left.acts;
-    mays = left.mays;
-    codes = left.codes;
-    others = left.others;
-    slots = left.slots;
-    lends = left.lends;
-    lent = left.lent;
-    holds = left.holds;
-  }
+  module _ (g : OutChain A) (who : ℕ) (bs : List (Block A)) (m : Sitter A (CallState A)) where
+    -- an operation, and what it leaves
+    op_step : (number : ℕ) {ms : List (State A)} {k : Stand A} (here : At g.chain who ms k)
+        → Lives bs number (op_place te he k.op) → (number ≡ 0 → word_index (op_word k.op) ≡ 0) → LeadsThere g.chain bs k.op number → Answers g.chain k.op (answered g.chain bs k.op number)
+        → Leaves g who (blocks_made k.op number bs) m (after_of here (answered g.chain bs k.op number)) (unbounded_next (chain_of k.local) (answered g.chain bs k.op number)) → BlockStep te he g who bs m here
+    op_step number here lives counts leads found left = record {
+      number = number;
+      lives = lives;
+      counts = counts;
+      leads = leads;
+      found = found;
+      out = left.out;
+      acts = left.acts;
+      mays = left.mays;
+      codes = left.codes;
+      others = left.others;
+      slots = left.slots;
+      lends = left.lends;
+      lent = left.lent;
+      holds = left.holds;
+    }
 
-  -- a load of a slot's state
-  pub load_step : (g : OutChain A) (who : ℕ) (bs : List (Block A)) (m : Sitter A (CallState A)) (b name i : ℕ) {ms : List (State A)} {l : Local ℕ} {t : Touch} {v : Option A} {k : Call A} {es : List (Effect A)} (here : At g.chain who ms l t (Op.Load (Word.State name i)) v k es)
-      → ChainOk g.chain → Codes te he g bs → IsNamed g.chain b name → g.chain.walks b ≢ GivenUp → IsState g.chain b i (word_of bs (b + 2) i)
-      → Leaves g who bs m (after_of here (Answer.Found (word_of bs (b + 2) i))) (unbounded_next (chain_of l) (Answer.Found (word_of bs (b + 2) i))) → BlockStep te he g who bs m here
-  load_step g who bs m b name i {l = l} here ok codes named on state left =
-      let there = alive_is te he g bs b codes named.0 on in
-      let r = after_of here (Answer.Found (word_of bs (b + 2) i)) in
-      let x = unbounded_next (chain_of l) (Answer.Found (word_of bs (b + 2) i)) in
-      op_step g who bs m (b + 2) here (subst (λ f. Lives bs (b + 2) (spot f)) (sym named.1) there.0) (λ e. absurd (omega arith)) tt (state_answers g bs b name i ok named state)
-      (subst (λ (cs : List (Block A)). Leaves g who cs m r x) (sym (word_same bs (b + 2) i)) left)
+    -- a load of a slot's state
+    pub load_step : (b name i : ℕ) {ms : List (State A)} {l : Local ℕ} {t : Touch} {v : Option A} {k : Call A} {es : List (Effect A)} (here : At g.chain who ms (stand l t (Op.Load (Word.State name i)) v k es))
+        → ChainOk g.chain → Codes te he g bs → IsNamed g.chain b name → g.chain.walks b ≢ GivenUp → IsState g.chain b i (word_of bs (b + 2) i)
+        → Leaves g who bs m (after_of here (Answer.Found (word_of bs (b + 2) i))) (unbounded_next (chain_of l) (Answer.Found (word_of bs (b + 2) i))) → BlockStep te he g who bs m here
+    load_step b name i {l = l} here ok codes named on state left =
+        let there = alive_is te he g bs b codes named.0 on in
+        let r = after_of here (Answer.Found (word_of bs (b + 2) i)) in
+        let x = unbounded_next (chain_of l) (Answer.Found (word_of bs (b + 2) i)) in
+        op_step (b + 2) here (subst (λ f. Lives bs (b + 2) (spot f)) (sym named.1) there.0) (λ e. absurd (omega arith)) tt (state_answers g bs b name i ok named state)
+        (subst (λ (cs : List (Block A)). Leaves g who cs m r x) (sym (word_same bs (b + 2) i)) left)
 
-  -- bits of a slot's state that are set
-  pub or_step : (g : OutChain A) (who : ℕ) (bs : List (Block A)) (m : Sitter A (CallState A)) (b name i y : ℕ) {ms : List (State A)} {l : Local ℕ} {t : Touch} {v : Option A} {k : Call A} {es : List (Effect A)} (here : At g.chain who ms l t (Op.Or (Word.State name i) y) v k es)
-      → ChainOk g.chain → Codes te he g bs → IsNamed g.chain b name → g.chain.walks b ≢ GivenUp → IsState g.chain b i (word_of bs (b + 2) i)
-      → Leaves g who (with_word bs (b + 2) i (bit_or (word_of bs (b + 2) i) y)) m (after_of here (Answer.Found (word_of bs (b + 2) i))) (unbounded_next (chain_of l) (Answer.Found (word_of bs (b + 2) i))) → BlockStep te he g who bs m here
-  or_step g who bs m b name i y here ok codes named on state z =
-      let there = alive_is te he g bs b codes named.0 on in
-      op_step g who bs m (b + 2) here (subst (λ f. Lives bs (b + 2) (spot f)) (sym named.1) there.0) (λ e. absurd (omega arith)) tt (state_answers g bs b name i ok named state) z
+    -- bits of a slot's state that are set
+    pub or_step : (b name i y : ℕ) {ms : List (State A)} {l : Local ℕ} {t : Touch} {v : Option A} {k : Call A} {es : List (Effect A)} (here : At g.chain who ms (stand l t (Op.Or (Word.State name i) y) v k es))
+        → ChainOk g.chain → Codes te he g bs → IsNamed g.chain b name → g.chain.walks b ≢ GivenUp → IsState g.chain b i (word_of bs (b + 2) i)
+        → Leaves g who (with_word bs (b + 2) i (bit_or (word_of bs (b + 2) i) y)) m (after_of here (Answer.Found (word_of bs (b + 2) i))) (unbounded_next (chain_of l) (Answer.Found (word_of bs (b + 2) i))) → BlockStep te he g who bs m here
+    or_step b name i y here ok codes named on state z =
+        let there = alive_is te he g bs b codes named.0 on in
+        op_step (b + 2) here (subst (λ f. Lives bs (b + 2) (spot f)) (sym named.1) there.0) (λ e. absurd (omega arith)) tt (state_answers g bs b name i ok named state) z
 
   -- a party that holds no item has no slot
   pub none_out : (r : OutChain A) (who : ℕ) (P : Part → Type 0) → Holds r.chain who P → ((n : ℕ) → ¬ (P (Write n))) → ((n : ℕ) → ¬ (P (Read n))) → (n : ℕ) → ¬ (HasOut r who n)

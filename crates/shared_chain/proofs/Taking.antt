@@ -10,6 +10,7 @@ use Rattle.queue_steps.specs.UnboundedNext.{unbounded_next, chain_head_found}
 use Rattle.queue_steps.specs.declared.steps.unbounded.UnboundedLocal.TheVariants as chain
 use Rattle.law_common.specs.Puts.{put}
 use Rattle.law_common.proofs.Puts.{put_ok, put_other}
+use Rattle.law_common.specs.Stand.{empty_handed}
 use Rattle.law_chain.specs.ChainFacts.{place, head_of, HeadIs, HeadBlockIs, IsMore}
 use Rattle.law_chain.specs.ChainCells.{Writer, Free, Unread, Reading, Passer, Stands, Passing, ChainOk, Write, Read, Holds, Nothing, reader_of, item_at}
 use Rattle.law_chain.specs.ChainTransitions.{taken}
@@ -92,7 +93,7 @@ module _ {A : Type 0} (te he : Ptr) (g : OutChain A) (who : ℕ) where
       | inr e ↦ lost e.0
     ]
       where
-        here : At g.chain who ms (Local.Unbounded (chain.Taking (head_of n more) name)) Touch.Nothing (Op.Exchange Word.Head (head_of n more) after) None Call.Pop []
+        here : At g.chain who ms (empty_handed (Local.Unbounded (chain.Taking (head_of n more) name)) (Op.Exchange Word.Head (head_of n more) after) Call.Pop)
         here = taking n name after more new none is front there word_is room
 
         found : Answers g.chain (Op.Exchange Word.Head (head_of n more) after) (Answer.Found (word_of bs 1 HEAD))

@@ -1,10 +1,11 @@
 -- A slot is written by one call and read by one, so that each finds the bit unset that says so, and adds it.
-use Rattle.std.proofs.Common.{ℕ, ◌+◌, ◌/◌, ◌%◌, ◌^◌, ◌<◌, ◌≡◌, ◌==◌, ◌∙◌, not, true, false, ap, arith, lit<, bit_and, bit_or, Option, List}
+use Rattle.std.proofs.Common.{ℕ, ◌+◌, ◌/◌, ◌%◌, ◌^◌, ◌<◌, ◌≡◌, ◌==◌, ◌∙◌, not, true, false, ap, arith, lit<, bit_and, bit_or, List}
 use Rattle.std.proofs.lemmas.Bool.{eqb-true}
 use Rattle.std.proofs.lemmas.Nat.{or_disjoint, or_lt}
-use Rattle.law_common.specs.Vocabulary.{Call, Effect, Op, Touch, Local, BLOCK_SLOTS, WRITE, READ}
+use Rattle.law_common.specs.Vocabulary.{Op, BLOCK_SLOTS, WRITE, READ}
 use Rattle.queue_steps.specs.State.{State}
 use Rattle.shared_parties.specs.Operations.{answer_for}
+use Rattle.law_common.specs.Stand.{Stand}
 use Rattle.law_chain.specs.ChainCells.{Chain, item_at}
 use Rattle.law_chain.proofs.ChainReads.{own_item}
 use Rattle.law_chain.specs.ChainAt.{At, writing, reading, spending, destroying, closing}
@@ -21,8 +22,8 @@ set_is_added : (n bits : ℕ) → n < 2 ^ 64 → bits < 2 ^ 64 → (bit_and n bi
 set_is_added n bits small low unset = omega (arith, or_disjoint n bits (eqb-true (bit_and n bits) 0 unset), or_lt 64 n bits small low)
 
 -- the call finds n by its operation
-pub finds_unset : {A : Type 0} (c : Chain A) (who n : ℕ) {ms : List (State A)} {l : Local ℕ} {t : Touch} {o : Op ℕ} {v : Option A} {k : Call A} {es : List (Effect A)}
-    → At c who ms l t o v k es → Answers c o (answer_for o n) → FindsUnset o n
+pub finds_unset : {A : Type 0} (c : Chain A) (who n : ℕ) {ms : List (State A)} {k : Stand A}
+    → At c who ms k → Answers c k.op (answer_for k.op n) → FindsUnset k.op n
 finds_unset c who n (writing d v m name spare part claimed has) answers = λ once small.
     let found = answers (m / BLOCK_SLOTS) claimed.named in let is = found.1 in
     let same : n ≡ found.0 = cc in

@@ -122,75 +122,76 @@ module _ {A : Type 0} (te he : Ptr) where
     walk_left free false e = subst (λ u. goes u (bit_and (word_of bs (b + 2) slot) READ == 0)) (sym e) (subst (λ u. goes false u) (sym (state.read ∙ ap not e))
         (idles te he g who bs m g.chain (at (chain.Destroying name slot) Touch.Nothing (Op.Or (Word.State name slot) DESTROY)) g.out codes (λ j ne n z. refl) (λ n z. absurd (let y : Read n ≡ Passed b = holds (Read n) (ap reader_of z) in cc)) (walks_none te he g who b holds) free))
 
-  pub step_walking : (g : OutChain A) (who : ℕ) (bs : List (Block A)) (m : Sitter A (CallState A)) (ms : List (State A)) (x : A) (b name slot : ℕ) (holds : Holds g.chain who (Only (Passed b))) (is : g.chain.walks b ≡ Walker who slot) (named : IsNamed g.chain b name)
-      → ChainOk g.chain → Codes te he g bs → (xs : List (ℕ × Option A)) → ChainLent g who xs → HoldsBy (Local.Unbounded (chain.Walking name slot)) (Op.Load (Word.State name slot)) xs m
-      → BlockStep te he g who bs m {ms = ms} (walking x b name slot holds is named)
-  step_walking g who bs m ms x b name slot holds is named ok codes xs lent has =
-      let none = no_hand g who b holds xs lent in
-      let free : (m.hand ≡ None) × (m.spare ≡ None) = subst (λ ys. HoldsBy (Local.Unbounded (chain.Walking name slot)) (Op.Load (Word.State name slot)) ys m) none has in
-      load_step te he g who bs m b name slot {ms = ms} (walking x b name slot holds is named) ok codes named (on g who bs m x b name slot holds is named ok codes) (state g who bs m x b name slot holds is named ok codes)
-      (walk_left g who bs m x b name slot holds is named ok codes free (is_done (g.chain.readers (item_at b slot))) refl)
+  module _ (g : OutChain A) (who : ℕ) (bs : List (Block A)) (m : Sitter A (CallState A)) (ms : List (State A)) where
+    pub step_walking : (x : A) (b name slot : ℕ) (holds : Holds g.chain who (Only (Passed b))) (is : g.chain.walks b ≡ Walker who slot) (named : IsNamed g.chain b name)
+        → ChainOk g.chain → Codes te he g bs → (xs : List (ℕ × Option A)) → ChainLent g who xs → HoldsBy (Local.Unbounded (chain.Walking name slot)) (Op.Load (Word.State name slot)) xs m
+        → BlockStep te he g who bs m {ms = ms} (walking x b name slot holds is named)
+    step_walking x b name slot holds is named ok codes xs lent has =
+        let none = no_hand g who b holds xs lent in
+        let free : (m.hand ≡ None) × (m.spare ≡ None) = subst (λ ys. HoldsBy (Local.Unbounded (chain.Walking name slot)) (Op.Load (Word.State name slot)) ys m) none has in
+        load_step te he g who bs m b name slot {ms = ms} (walking x b name slot holds is named) ok codes named (on g who bs m x b name slot holds is named ok codes) (state g who bs m x b name slot holds is named ok codes)
+        (walk_left g who bs m x b name slot holds is named ok codes free (is_done (g.chain.readers (item_at b slot))) refl)
 
-  pub step_destroying : (g : OutChain A) (who : ℕ) (bs : List (Block A)) (m : Sitter A (CallState A)) (ms : List (State A)) (x : A) (b name slot : ℕ) (holds : Holds g.chain who (Only (Passed b))) (is : g.chain.walks b ≡ Walker who slot) (named : IsNamed g.chain b name)
-      → ChainOk g.chain → Codes te he g bs → (xs : List (ℕ × Option A)) → ChainLent g who xs → HoldsBy (Local.Unbounded (chain.Destroying name slot)) (Op.Or (Word.State name slot) DESTROY) xs m
-      → BlockStep te he g who bs m {ms = ms} (destroying x b name slot holds is named)
-  step_destroying g who bs m ms x b name slot holds is named ok codes xs lent has =
-      or_step te he g who bs m b name slot DESTROY {ms = ms} (destroying x b name slot holds is named) ok codes named (on g who bs m x b name slot holds is named ok codes) here (left (is_done (g.chain.readers (item_at b slot))) refl)
-    where
-      cs : List (Block A)
-      cs = with_word bs (b + 2) slot (bit_or (word_of bs (b + 2) slot) DESTROY)
+    pub step_destroying : (x : A) (b name slot : ℕ) (holds : Holds g.chain who (Only (Passed b))) (is : g.chain.walks b ≡ Walker who slot) (named : IsNamed g.chain b name)
+        → ChainOk g.chain → Codes te he g bs → (xs : List (ℕ × Option A)) → ChainLent g who xs → HoldsBy (Local.Unbounded (chain.Destroying name slot)) (Op.Or (Word.State name slot) DESTROY) xs m
+        → BlockStep te he g who bs m {ms = ms} (destroying x b name slot holds is named)
+    step_destroying x b name slot holds is named ok codes xs lent has =
+        or_step te he g who bs m b name slot DESTROY {ms = ms} (destroying x b name slot holds is named) ok codes named (on g who bs m x b name slot holds is named ok codes) here (left (is_done (g.chain.readers (item_at b slot))) refl)
+      where
+        cs : List (Block A)
+        cs = with_word bs (b + 2) slot (bit_or (word_of bs (b + 2) slot) DESTROY)
 
-      here : IsState g.chain b slot (word_of bs (b + 2) slot)
-      here = state g who bs m x b name slot holds is named ok codes
+        here : IsState g.chain b slot (word_of bs (b + 2) slot)
+        here = state g who bs m x b name slot holds is named ok codes
 
-      low : slot < LAST
-      low = (at_walk g who bs m x b name slot holds is named ok codes).0
+        low : slot < LAST
+        low = (at_walk g who bs m x b name slot holds is named ok codes).0
 
-      block_is : BlockIs g b (block bs (b + 2))
-      block_is = (there g who bs m x b name slot holds is named ok codes).1
+        block_is : BlockIs g b (block bs (b + 2))
+        block_is = (there g who bs m x b name slot holds is named ok codes).1
 
-      long : b + 2 < length bs
-      long = omega (arith, codes.size, named.0)
+        long : b + 2 < length bs
+        long = omega (arith, codes.size, named.0)
 
-      free : (m.hand ≡ None) × (m.spare ≡ None)
-      free = subst (λ ys. HoldsBy (Local.Unbounded (chain.Destroying name slot)) (Op.Or (Word.State name slot) DESTROY) ys m) (no_hand g who b holds xs lent) has
+        free : (m.hand ≡ None) × (m.spare ≡ None)
+        free = subst (λ ys. HoldsBy (Local.Unbounded (chain.Destroying name slot)) (Op.Or (Word.State name slot) DESTROY) ys m) (no_hand g who b holds xs lent) has
 
-      set : word_of cs (b + 2) slot ≡ bit_or (word_of bs (b + 2) slot) DESTROY
-      set = word_set bs (b + 2) slot (bit_or (word_of bs (b + 2) slot) DESTROY) long (omega (arith, block_is.words, low))
+        set : word_of cs (b + 2) slot ≡ bit_or (word_of bs (b + 2) slot) DESTROY
+        set = word_set bs (b + 2) slot (bit_or (word_of bs (b + 2) slot) DESTROY) long (omega (arith, block_is.words, low))
 
-      goes_on : Bool → Bool → Type 0
-      goes_on t u = Leaves te he g who cs m (walked g.chain b (if t then walk_after who slot else Waits slot)) (if not u then walks_on name slot else ends (Reply.Pop (Ok tt)))
+        goes_on : Bool → Bool → Type 0
+        goes_on t u = Leaves te he g who cs m (walked g.chain b (if t then walk_after who slot else Waits slot)) (if not u then walks_on name slot else ends (Reply.Pop (Ok tt)))
 
-      left : (t : Bool) → is_done (g.chain.readers (item_at b slot)) ≡ t → goes_on (is_done (g.chain.readers (item_at b slot))) (bit_and (word_of bs (b + 2) slot) READ == 0)
-      left true e = subst (λ u. goes_on u (bit_and (word_of bs (b + 2) slot) READ == 0)) (sym e) (subst (λ u. goes_on true u) (sym (here.read ∙ ap not e))
-          (passes g who bs m x b name slot holds is named ok codes cs free (turns_word (b + 2) slot (bit_or (word_of bs (b + 2) slot) DESTROY) bs long)
-          (subst (λ n. IsRead g.chain b slot n) (sym set) (record {
-            written = still_tested WRITE (word_of bs (b + 2) slot) DESTROY refl ∙ here.written;
-            read = still_tested READ (word_of bs (b + 2) slot) DESTROY refl ∙ (here.read ∙ ap not e);
-          }))
-          (home_kept bs (b + 2) slot (bit_or (word_of bs (b + 2) slot) DESTROY) long) (done_is (g.chain.readers (item_at b slot)) e)))
-      left false e =
-          let w : Walk = Waits slot in
-          let walk : put g.chain.walks b w b ≡ w = put_same g.chain.walks b w in
-          let r : OutChain A = turned g g.chain.writers g.chain.readers (put g.chain.walks b w) g.out in
-          subst (λ u. goes_on u (bit_and (word_of bs (b + 2) slot) READ == 0)) (sym e) (subst (λ u. goes_on false u) (sym (here.read ∙ ap not e))
-          (idles te he g who cs m r.chain (ends (Reply.Pop (Ok tt))) g.out
-          (codes_turned te he g g.chain.writers g.chain.readers (put g.chain.walks b w) g.out bs cs b slot (omega (arith, low)) named.0 (on g who bs m x b name slot holds is named ok codes) (λ z. let y : Waits slot ≡ GivenUp = sym walk ∙ z in cc) codes (but_walk g b slot w)
-          (record {
-            begun = λ z. absurd (let y : Waits slot ≡ Before = sym walk ∙ z in cc);
-            waits = λ j ne. ap (λ k. waits_at k j) walk ∙ elim (eqb_tells slot j) [ inl t ↦ absurd (ne (sym t.1)) | inr t ↦ t.0 ∙ sym (alone g who bs m x b name slot holds is named ok codes j) ];
-          })
-          (turns_word (b + 2) slot (bit_or (word_of bs (b + 2) slot) DESTROY) bs long)
-          (record {
-            state = λ last. subst (λ n. IsState r.chain b slot n) (sym set) (record {
+        left : (t : Bool) → is_done (g.chain.readers (item_at b slot)) ≡ t → goes_on (is_done (g.chain.readers (item_at b slot))) (bit_and (word_of bs (b + 2) slot) READ == 0)
+        left true e = subst (λ u. goes_on u (bit_and (word_of bs (b + 2) slot) READ == 0)) (sym e) (subst (λ u. goes_on true u) (sym (here.read ∙ ap not e))
+            (passes g who bs m x b name slot holds is named ok codes cs free (turns_word (b + 2) slot (bit_or (word_of bs (b + 2) slot) DESTROY) bs long)
+            (subst (λ n. IsRead g.chain b slot n) (sym set) (record {
               written = still_tested WRITE (word_of bs (b + 2) slot) DESTROY refl ∙ here.written;
-              read = still_tested READ (word_of bs (b + 2) slot) DESTROY refl ∙ here.read;
-              destroyed = λ unread. ap (λ z. z == 0) (and_or_self DESTROY (word_of bs (b + 2) slot)) ∙ sym (ap (λ k. not (waits_at k slot)) walk ∙ ap not (eqb_refl slot));
-            });
-            plain = λ z. absurd (let y : Waits slot ≡ Before = sym walk ∙ z in cc);
-            slot = ap (λ hs. get_elem? hs slot) (home_kept bs (b + 2) slot (bit_or (word_of bs (b + 2) slot) DESTROY) long) ∙ block_is.slot slot (omega (arith, low));
-          }))
-          (λ j ne n z. refl) tt (walks_none te he r who b (after_walk_on g.chain who b w holds)) free))
-        where
-          eqb_refl : (n : ℕ) → (n == n) ≡ true
-          eqb_refl n = elim (eqb_tells n n) [ inl t ↦ t.0 | inr t ↦ absurd (t.1 refl) ]
+              read = still_tested READ (word_of bs (b + 2) slot) DESTROY refl ∙ (here.read ∙ ap not e);
+            }))
+            (home_kept bs (b + 2) slot (bit_or (word_of bs (b + 2) slot) DESTROY) long) (done_is (g.chain.readers (item_at b slot)) e)))
+        left false e =
+            let w : Walk = Waits slot in
+            let walk : put g.chain.walks b w b ≡ w = put_same g.chain.walks b w in
+            let r : OutChain A = turned g g.chain.writers g.chain.readers (put g.chain.walks b w) g.out in
+            subst (λ u. goes_on u (bit_and (word_of bs (b + 2) slot) READ == 0)) (sym e) (subst (λ u. goes_on false u) (sym (here.read ∙ ap not e))
+            (idles te he g who cs m r.chain (ends (Reply.Pop (Ok tt))) g.out
+            (codes_turned te he g g.chain.writers g.chain.readers (put g.chain.walks b w) g.out bs cs b slot (omega (arith, low)) named.0 (on g who bs m x b name slot holds is named ok codes) (λ z. let y : Waits slot ≡ GivenUp = sym walk ∙ z in cc) codes (but_walk g b slot w)
+            (record {
+              begun = λ z. absurd (let y : Waits slot ≡ Before = sym walk ∙ z in cc);
+              waits = λ j ne. ap (λ k. waits_at k j) walk ∙ elim (eqb_tells slot j) [ inl t ↦ absurd (ne (sym t.1)) | inr t ↦ t.0 ∙ sym (alone g who bs m x b name slot holds is named ok codes j) ];
+            })
+            (turns_word (b + 2) slot (bit_or (word_of bs (b + 2) slot) DESTROY) bs long)
+            (record {
+              state = λ last. subst (λ n. IsState r.chain b slot n) (sym set) (record {
+                written = still_tested WRITE (word_of bs (b + 2) slot) DESTROY refl ∙ here.written;
+                read = still_tested READ (word_of bs (b + 2) slot) DESTROY refl ∙ here.read;
+                destroyed = λ unread. ap (λ z. z == 0) (and_or_self DESTROY (word_of bs (b + 2) slot)) ∙ sym (ap (λ k. not (waits_at k slot)) walk ∙ ap not (eqb_refl slot));
+              });
+              plain = λ z. absurd (let y : Waits slot ≡ Before = sym walk ∙ z in cc);
+              slot = ap (λ hs. get_elem? hs slot) (home_kept bs (b + 2) slot (bit_or (word_of bs (b + 2) slot) DESTROY) long) ∙ block_is.slot slot (omega (arith, low));
+            }))
+            (λ j ne n z. refl) tt (walks_none te he r who b (after_walk_on g.chain who b w holds)) free))
+          where
+            eqb_refl : (n : ℕ) → (n == n) ≡ true
+            eqb_refl n = elim (eqb_tells n n) [ inl t ↦ t.0 | inr t ↦ absurd (t.1 refl) ]

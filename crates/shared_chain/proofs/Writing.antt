@@ -140,12 +140,13 @@ module _ {A : Type 0} (te he : Ptr) where
                 ∙ ap (λ h. some h) (sym (ap (λ k. home_of k (g.chain.readers (item_at b i)) (g.out (item_at b i))) wrote ∙ home_written x (g.chain.readers (item_at b i)) (g.out (item_at b i)) unread not_out));
           })
 
-  pub step_writing : (g : OutChain A) (who : ℕ) (bs : List (Block A)) (m : Sitter A (CallState A)) (ms : List (State A)) (d : PushKind) (x : A) (n name : ℕ) (spare : Option ℕ) (holds : Holds g.chain who (Only (Write n))) (mine : Claimed g.chain who n x name) (spare_is : HasSpare g.chain who spare)
-      → ChainOk g.chain → Codes te he g bs → (xs : List (ℕ × Option A)) → HoldsBy (Local.Unbounded (chain.Writing d spare)) (Op.Or (Word.State name (offset_of (open_tail_of n))) WRITE) (touched_list (Touch.Put (offset_of (open_tail_of n))) (Some x) xs) m → OutWrote g
-      → BlockStep te he g who bs m {ms = ms} (writing d x n name spare holds mine spare_is)
-  step_writing g who bs m ms d x n name spare holds mine spare_is ok codes xs has ready =
-      let i = offset_of (open_tail_of n) in
-      let offset : i ≡ n % BLOCK_SLOTS = omega arith in
-      let at : item_at (n / BLOCK_SLOTS) i ≡ n = ap (λ j. item_at (n / BLOCK_SLOTS) j) offset ∙ own_item n in
-      let left = write_left g who bs m d x n (n / BLOCK_SLOTS) i name spare holds mine.mine ready at (omega (arith, offset)) mine.named.0 mine.named.1 ok codes has in
-      or_step te he g who bs m (n / BLOCK_SLOTS) name i WRITE {ms = ms} (writing d x n name spare holds mine spare_is) ok codes mine.named left.0 left.1 left.2
+  module _ (g : OutChain A) (who : ℕ) (bs : List (Block A)) (m : Sitter A (CallState A)) (ms : List (State A)) where
+    pub step_writing : (d : PushKind) (x : A) (n name : ℕ) (spare : Option ℕ) (holds : Holds g.chain who (Only (Write n))) (mine : Claimed g.chain who n x name) (spare_is : HasSpare g.chain who spare)
+        → ChainOk g.chain → Codes te he g bs → (xs : List (ℕ × Option A)) → HoldsBy (Local.Unbounded (chain.Writing d spare)) (Op.Or (Word.State name (offset_of (open_tail_of n))) WRITE) (touched_list (Touch.Put (offset_of (open_tail_of n))) (Some x) xs) m → OutWrote g
+        → BlockStep te he g who bs m {ms = ms} (writing d x n name spare holds mine spare_is)
+    step_writing d x n name spare holds mine spare_is ok codes xs has ready =
+        let i = offset_of (open_tail_of n) in
+        let offset : i ≡ n % BLOCK_SLOTS = omega arith in
+        let at : item_at (n / BLOCK_SLOTS) i ≡ n = ap (λ j. item_at (n / BLOCK_SLOTS) j) offset ∙ own_item n in
+        let left = write_left g who bs m d x n (n / BLOCK_SLOTS) i name spare holds mine.mine ready at (omega (arith, offset)) mine.named.0 mine.named.1 ok codes has in
+        or_step te he g who bs m (n / BLOCK_SLOTS) name i WRITE {ms = ms} (writing d x n name spare holds mine spare_is) ok codes mine.named left.0 left.1 left.2

@@ -1,10 +1,11 @@
 -- A reader has its slot only once the item is written: what each party knows says so.
-use Rattle.std.proofs.Common.{ℕ, ◌≡◌, ◌∙◌, true, Option, List, refl, sym, ap}
+use Rattle.std.proofs.Common.{ℕ, ◌≡◌, ◌∙◌, true, List, refl, sym, ap}
 use mathlib.Core.Option.{some, some-injective, some-ne-none}
 use mathlib.Core.Option as maybe
 use lib.ListN.{get_elem?}
-use Rattle.law_common.specs.Vocabulary.{Call, Effect, Op, Touch, Local}
+use Rattle.law_common.specs.Vocabulary.{Effect}
 use Rattle.queue_steps.specs.State.{State}
+use Rattle.law_common.specs.Stand.{Stand}
 use Rattle.law_chain.specs.ChainCells.{Wrote, Reading, Chain, Read, reader_of}
 use Rattle.law_chain.specs.ChainAt.{At, push_tail, push_block, asking, installing, showing, claiming, laying, opening, chaining, writing, spending, pop_head, pop_block, pop_tail, taking, following, peeking, passing, entering, awaiting, reading, beginning, walking, destroying, len_tail, len_head, len_again, empty_head, empty_tail, closing, closed_tail}
 use Rattle.shared_parties.specs.declared.known.CallState.{CallState}
@@ -19,7 +20,7 @@ module _ {A : Type 0} where
   IsWritten c n = (x : A) × (c.writers n ≡ Wrote x)
 
   -- a call that has a reader's slot reads a written item
-  wrote_by : {c : Chain A} {j : ℕ} {ms : List (State A)} {l : Local ℕ} {t : Touch} {o : Op ℕ} {v : Option A} {k : Call A} {es : List (Effect A)} (n : ℕ) → At c j ms l t o v k es → c.readers n ≡ Reading j → has_slot l ≡ true → IsWritten c n
+  wrote_by : {c : Chain A} {j : ℕ} {ms : List (State A)} {k : Stand A} (n : ℕ) → At c j ms k → c.readers n ≡ Reading j → has_slot k.local ≡ true → IsWritten c n
   wrote_by {c = c} n (reading x m name more holds got wrote inner) mine has = (x, ap c.writers (let e = holds (Read n) (ap reader_of mine) in cc) ∙ wrote)
   wrote_by {c = c} n (beginning x m name more holds got wrote last) mine has = (x, ap c.writers (let e = holds (Read n) (ap reader_of mine) in cc) ∙ wrote)
   wrote_by n (walking x b name slot holds is named) mine has = absurd (let e = holds (Read n) (ap reader_of mine) in cc)

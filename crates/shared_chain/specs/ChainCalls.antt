@@ -1,8 +1,9 @@
 -- A chain that parties share, as a kind of queue.
 use Rattle.std.specs.Prelude.{◌≡◌, ◌≢◌, ◌⊎◌, ℕ, ◌%◌, Bool, true, false, List, [], ◌∷◌, Option, Some, None}
-use Rattle.law_common.specs.Vocabulary.{Call, Effect, Kind, Op, Touch, Local, BLOCK_SLOTS}
+use Rattle.law_common.specs.Vocabulary.{Kind, Local, BLOCK_SLOTS}
 use Rattle.queue_steps.specs.declared.steps.unbounded.UnboundedLocal.TheVariants as chain
 use Rattle.queue_steps.specs.State.{State}
+use Rattle.law_common.specs.Stand.{Stand}
 use Rattle.law_chain.specs.ChainCells.{Wrote, Reading, Chain, queue_of, ChainOk, Holds, Nothing, writer_of}
 use Rattle.law_chain.specs.ChainPasses.{Passes, Spares, spare_in}
 use Rattle.law_chain.specs.ChainAt.{At}
@@ -39,8 +40,8 @@ ChainIdle g j = Holds g.chain j Nothing × Spares g.chain j None
 abbrev pub SlotsAs : {T : Type 0} → OutChain T → ℕ → Local ℕ → Type 0
 SlotsAs g j l = (n : ℕ) → g.chain.readers n ≡ Reading j → g.out n ≡ has_slot l
 
-abbrev pub ChainAt : {T : Type 0} → OutChain T → ℕ → List (State T) → Local ℕ → Touch → Op ℕ → Option T → Call T → List (Effect T) → Type 0
-ChainAt g j ms l t o v k es = At g.chain j ms l t o v k es × Spares g.chain j (spare_in l) × SlotsAs g j l
+abbrev pub ChainAt : {T : Type 0} → OutChain T → ℕ → List (State T) → Stand T → Type 0
+ChainAt g j ms c = At g.chain j ms c × Spares g.chain j (spare_in c.local) × SlotsAs g j c.local
 
 -- what the step of a party leaves for the others
 abbrev pub PassesOut : {T : Type 0} → ℕ → OutChain T → OutChain T → Type 0
@@ -52,7 +53,7 @@ chain_calls {T} = record {
   Cells = OutChain T;
   Ok = λ g. ChainOk g.chain;
   queue_of = λ g. queue_of g.chain;
-  At = λ g who ms was l t o v k es. ChainAt g who ms l t o v k es;
+  At = λ g who ms was c. ChainAt g who ms c;
   Passes = λ who g s. PassesOut who g s;
   Lent = λ g who xs. ChainLent g who xs;
   Idle = λ g who. ChainIdle g who;

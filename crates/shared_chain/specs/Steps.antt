@@ -1,11 +1,12 @@
 -- What the step of a call does to the blocks of a web, and what it tells its seat.
 use Rattle.std.specs.Prelude.{◌≡◌, ◌≢◌, ℕ, ◌+◌, ◌-◌, ◌<◌, Bool, true, false, List, [], ◌∷◌, replicate, length, Option, Some, None}
 use denote.RawPtr.{Ptr, null_ptr}
-use Rattle.law_common.specs.Vocabulary.{Call, Effect, Kind, Word, Link, Op, Touch, Answer, Local, Next, BLOCK_SLOTS}
+use Rattle.law_common.specs.Vocabulary.{Kind, Word, Link, Op, Touch, Answer, Local, Next, BLOCK_SLOTS}
 use Rattle.queue_steps.specs.declared.steps.unbounded.UnboundedLocal.TheVariants as chain
 use Rattle.queue_steps.specs.Next.{CanNext, next_of}
 use Rattle.queue_steps.specs.State.{State}
 use Rattle.queue_steps.specs.UnboundedNext.{unbounded_next}
+use Rattle.law_common.specs.Stand.{Stand}
 use Rattle.law_chain.specs.ChainCells.{Reading, Chain}
 use Rattle.law_chain.specs.ChainAt.{At}
 use Rattle.law_chain.specs.ChainAnswers.{Answers, last_of, shown_of, linked_of}
@@ -121,8 +122,8 @@ LeadsThere c bs (Op.Install x) k = (block bs k).next ≡ lead_of (last_of c.name
 LeadsThere c bs _ k = Unit {0}
 
 -- the chain after the step that was answered so, and a block given up with it
-abbrev pub chain_then : {T : Type 0} {c : Chain T} {who : ℕ} {ms : List (State T)} {l : Local ℕ} {t : Touch} {o : Op ℕ} {v : Option T} {k : Call T} {es : List (Effect T)} → At c who ms l t o v k es → Answer ℕ → Chain T
-chain_then {l = l} here a = left_by (after_of here a) (unbounded_next (chain_of l) a)
+abbrev pub chain_then : {T : Type 0} {c : Chain T} {who : ℕ} {ms : List (State T)} {k : Stand T} → At c who ms k → Answer ℕ → Chain T
+chain_then {k = k} here a = left_by (after_of here a) (unbounded_next (chain_of k.local) a)
 
 -- the readers of the party have their slot exactly where the call that goes on says so
 abbrev pub SlotsFor : {T : Type 0} → OutChain T → ℕ → Next ℕ → Type 0
@@ -130,21 +131,21 @@ SlotsFor g who (Next.Step l t o) = SlotsAs g who l
 SlotsFor g who (Next.Reply x spare) = Unit {0}
 
 -- What the operation of a step finds in the blocks, and what it and the acts beside it make of them and of the seat: they stand for the chain after the step
-pub record BlockStep {T : Type 0} (tail_end head_end : Ptr) (g : OutChain T) (who : ℕ) (bs : List (Block T)) (m : Sitter T (CallState T)) {ms : List (State T)} {l : Local ℕ} {t : Touch} {o : Op ℕ} {v : Option T} {k : Call T} {es : List (Effect T)} (here : At g.chain who ms l t o v k es) : Type 0 where
+pub record BlockStep {T : Type 0} (tail_end head_end : Ptr) (g : OutChain T) (who : ℕ) (bs : List (Block T)) (m : Sitter T (CallState T)) {ms : List (State T)} {k : Stand T} (here : At g.chain who ms k) : Type 0 where
   pub number : ℕ
-  pub lives : Lives bs number (op_place tail_end head_end o)
-  pub counts : number ≡ 0 → word_index (op_word o) ≡ 0
-  pub leads : LeadsThere g.chain bs o number
-  pub found : Answers g.chain o (answered g.chain bs o number)
+  pub lives : Lives bs number (op_place tail_end head_end k.op)
+  pub counts : number ≡ 0 → word_index (op_word k.op) ≡ 0
+  pub leads : LeadsThere g.chain bs k.op number
+  pub found : Answers g.chain k.op (answered g.chain bs k.op number)
   pub out : ℕ → Bool
   pub acts : List (Act T)
-  pub mays : Mays (blocks_made o number bs) m acts
-  pub codes : Codes tail_end head_end (record { chain = chain_then here (answered g.chain bs o number); out = out }) (blocks_after (blocks_made o number bs) acts)
+  pub mays : Mays (blocks_made k.op number bs) m acts
+  pub codes : Codes tail_end head_end (record { chain = chain_then here (answered g.chain bs k.op number); out = out }) (blocks_after (blocks_made k.op number bs) acts)
   pub others : (j : ℕ) → j ≢ who → (n : ℕ) → g.chain.readers n ≡ Reading j → out n ≡ g.out n
-  pub slots : SlotsFor (record { chain = chain_then here (answered g.chain bs o number); out = out }) who (unbounded_next (chain_of l) (answered g.chain bs o number))
+  pub slots : SlotsFor (record { chain = chain_then here (answered g.chain bs k.op number); out = out }) who (unbounded_next (chain_of k.local) (answered g.chain bs k.op number))
   pub lends : List (ℕ × Option T)
-  pub lent : ChainLent (record { chain = chain_then here (answered g.chain bs o number); out = out }) who lends
-  pub holds : HoldsFor lends (unbounded_next (chain_of l) (answered g.chain bs o number)) (sitter_after (blocks_made o number bs) m acts)
+  pub lent : ChainLent (record { chain = chain_then here (answered g.chain bs k.op number); out = out }) who lends
+  pub holds : HoldsFor lends (unbounded_next (chain_of k.local) (answered g.chain bs k.op number)) (sitter_after (blocks_made k.op number bs) m acts)
 
 -- the words that a chain has
 abbrev pub HasWord : Word ℕ → Type 0

@@ -16,6 +16,7 @@ use Rattle.queue_steps.specs.Shares.{Share, IsEntire}
 use Rattle.queue_steps.specs.Parties.{IsWhole}
 use Rattle.law_common.proofs.Runs.{after_snoc, runs_snoc}
 use Rattle.law_common.specs.Effects.{Leads, with_effect}
+use Rattle.law_common.specs.Stand.{stand}
 use Rattle.shared_parties.specs.declared.known.Known.{Known}
 use Rattle.shared_parties.specs.declared.known.InCall.{InCall}
 use Rattle.shared_parties.specs.declared.known.Work.{Work}
@@ -84,7 +85,7 @@ module _ {T : Type 0} (K : CallsOf T) (laws : CallLaws K) where
   unfolding call_in
   own_after r s h e who k c (Next.Step l t o) v xs seen owns legal state st may lent goes =
       let d = call_after c h e l t o v xs in
-      let stands = own_stands K r s h e who k c l t o v xs seen state st may lent goes in record {
+      let stands = own_stands K r s h e who k c seen state st may l t o v xs lent goes in record {
         does = Work.Calls d;
         calls = λ d' is. subst (Standing K s (grown h e) who (known_after h e k)) (ap (call_in d) is) stands;
         free = λ no. absurd (let f : true ≡ false = no in cc);
@@ -105,14 +106,14 @@ module _ {T : Type 0} (K : CallsOf T) (laws : CallLaws K) where
             rests_as cap (grown h e) (c.before ++ with_place c.places e (length h)) c.share (idle (known_after h e k)) (ap idle knows),
             ap (λ (z : Known T). z.cap) knows,
             owns,
-            own_ends K r s h e who k c y.0 seen legal state st may y.2 y.3,
+            own_ends K r s h e who k c seen state st may y.0 legal y.2 y.3,
           ),
         );
       }
 
   -- the first step of a call stands too
   first_here : (May : Op ℕ → Type 0) (g : K.Cells) (j : ℕ) (c : Call T) (n : Next ℕ) (l : Local ℕ) (t : Touch) (o : Op ℕ) → K.Idle g j → Opens K May c n → n ≡ Next.Step l t o
-      → K.At g j [] false l t o (call_value c) c []
+      → K.At g j [] false (stand l t o (call_value c) c [])
   first_here May g j c n l t o none opens step = (subst (Opens K May c) step opens).2 g j none
 
   first_stands : (May : Op ℕ → Type 0) (g : K.Cells) (h : List (Effect T)) (id : ℕ) (d : CallState T) (c : InCall T) → Opens K May c.call (first_of K.kind c.call) → K.Idle g id → IsFirst K d c → Standing K g h id d.known c
@@ -145,55 +146,56 @@ module _ {T : Type 0} (K : CallsOf T) (laws : CallLaws K) where
     pub all : CallsAt K s h n (set views id view)
     pub tells : Told K c v xs todo view
 
-  -- the step of the seat id, whose call c stands, from the cells g to the cells s, with the effect e: it is then at `todo`, carries v and has the slots xs
-  pub call_step : (g s : K.Cells) (h : List (Effect T)) (n : ℕ) (views : List (CallState T)) (id : ℕ) (u : CallState T) (c : InCall T) (e : Option (Effect T)) (v : Option T) (xs : List (ℕ × Option T)) (todo : Next ℕ)
-      → CallsAt K g h n views → get_elem? views id ≡ some u → (st : Standing K g h id u.known c) → K.Ok s → Leads (K.queue_of g) e (K.queue_of s) → K.Passes id g s → MayFront e st.was → K.Lent s id xs
-      → Goes K s id (K.queue_of s ∷ st.ms) (st.was || not (K.queue_of s).closed) todo v c.call (with_effect c.effects e) → Stepping s (grown h e) n views id c v xs todo
-  call_step g s h n views id u c e v xs todo all at st ok leads passes front lent goes = record {
-    view = w;
-    all = record {
-      ok = ok;
-      state = made_is.0;
-      calls = calls;
-      free = free;
-      kept = subst (Kept cap (grown h e) n) (sym (map-set known_by views id w)) kept;
-    };
-    tells = own.tells;
-  }
-    where
-      made_is : (K.queue_of s ≡ after cap (grown h e)) × FitsAt e (after cap h) × (e ≡ Some Effect.Arrive → (K.queue_of s).coming ≡ None)
-      made_is = makes_history cap (K.queue_of g) (K.queue_of s) h e all.state leads
+  module _ (g s : K.Cells) (h : List (Effect T)) (n : ℕ) (views : List (CallState T)) (id : ℕ) (u : CallState T) (c : InCall T) (e : Option (Effect T)) where
+    -- the step of the seat id, whose call c stands, from the cells g to the cells s, with the effect e: it is then at `todo`, carries v and has the slots xs
+    pub call_step : (v : Option T) (xs : List (ℕ × Option T)) (todo : Next ℕ)
+        → CallsAt K g h n views → get_elem? views id ≡ some u → (st : Standing K g h id u.known c) → K.Ok s → Leads (K.queue_of g) e (K.queue_of s) → K.Passes id g s → MayFront e st.was → K.Lent s id xs
+        → Goes K s id (K.queue_of s ∷ st.ms) (st.was || not (K.queue_of s).closed) todo v c.call (with_effect c.effects e) → Stepping s (grown h e) n views id c v xs todo
+    call_step v xs todo all at st ok leads passes front lent goes = record {
+      view = w;
+      all = record {
+        ok = ok;
+        state = made_is.0;
+        calls = calls;
+        free = free;
+        kept = subst (Kept cap (grown h e) n) (sym (map-set known_by views id w)) kept;
+      };
+      tells = own.tells;
+    }
+      where
+        made_is : (K.queue_of s ≡ after cap (grown h e)) × FitsAt e (after cap h) × (e ≡ Some Effect.Arrive → (K.queue_of s).coming ≡ None)
+        made_is = makes_history cap (K.queue_of g) (K.queue_of s) h e all.state leads
 
-      seen : IsPrefix u.known.seen h
-      seen = (all.kept.true_of id u.known (at_map known_by views id u at)).begins
+        seen : IsPrefix u.known.seen h
+        seen = (all.kept.true_of id u.known (at_map known_by views id u at)).begins
 
-      counts : 0 < u.known.parts
-      counts = let one : u.known.parts ≡ 1 = ap (λ (k : Known T). k.parts) st.knows in omega arith
+        counts : 0 < u.known.parts
+        counts = let one : u.known.parts ≡ 1 = ap (λ (k : Known T). k.parts) st.knows in omega arith
 
-      kept : Kept cap (grown h e) n (set (map known_by views) id (known_after h e u.known))
-      kept = kept_after cap h e n (map known_by views) id u.known all.kept (at_map known_by views id u at) counts made_is.1
+        kept : Kept cap (grown h e) n (set (map known_by views) id (known_after h e u.known))
+        kept = kept_after cap h e n (map known_by views) id u.known all.kept (at_map known_by views id u at) counts made_is.1
 
-      owns : IsEntire (known_after h e u.known).share → IsWhole (view_of (known_after h e u.known))
-      owns entire = (alone cap cap (grown h e) (grown h e) n (set (map known_by views) id (known_after h e u.known)) id (known_after h e u.known) (c.before ++ with_place c.places e (length h)) c.share kept
-          (set_at (map known_by views) id u.known (known_after h e u.known) (at_map known_by views id u at)) (knows_after cap h e u.known c.before c.places c.share st.knows) entire).whole
+        owns : IsEntire (known_after h e u.known).share → IsWhole (view_of (known_after h e u.known))
+        owns entire = (alone cap cap (grown h e) (grown h e) n (set (map known_by views) id (known_after h e u.known)) id (known_after h e u.known) (c.before ++ with_place c.places e (length h)) c.share kept
+            (set_at (map known_by views) id u.known (known_after h e u.known) (at_map known_by views id u at)) (knows_after cap h e u.known c.before c.places c.share st.knows) entire).whole
 
-      own : OwnAfter s (grown h e) id (known_after h e u.known) c v todo xs
-      own = own_after g s h e id u.known c todo v xs seen owns (legal_after cap h e all.kept.legal made_is.1) made_is.0 st front lent goes
+        own : OwnAfter s (grown h e) id (known_after h e u.known) c v todo xs
+        own = own_after g s h e id u.known c todo v xs seen owns (legal_after cap h e all.kept.legal made_is.1) made_is.0 st front lent goes
 
-      w : CallState T
-      w = record { known = known_after h e u.known; work = own.does }
+        w : CallState T
+        w = record { known = known_after h e u.known; work = own.does }
 
-      other : (j : ℕ) (d : CallState T) → j ≢ id → get_elem? views j ≡ some d → IsPrefix d.known.seen h
-      other j d ne there = (all.kept.true_of j d.known (at_map known_by views j d there)).begins
+        other : (j : ℕ) (d : CallState T) → j ≢ id → get_elem? views j ≡ some d → IsPrefix d.known.seen h
+        other j d ne there = (all.kept.true_of j d.known (at_map known_by views j d there)).begins
 
-      calls : (j : ℕ) (d : CallState T) (b : InCall T) → get_elem? (set views id w) j ≡ some d → d.work ≡ Work.Calls b → Standing K s (grown h e) j d.known b
-      calls j d b there is = ⊎_elim
-          (λ (t : (j ≡ id) × (w ≡ d)). subst (λ (z : ℕ × Known T). Standing K s (grown h e) z.0 z.1 b) (λ k. (sym t.0 k, (t.1 k).known)) (own.calls b (ap (λ (z : CallState T). z.work) t.1 ∙ is)))
-          (λ (t : (j ≢ id) × (get_elem? views j ≡ some d)).
-          others_stay K laws g s h e id j d.known b all.ok ok t.0 passes made_is.0 made_is.2 (other j d t.0 t.1) (all.calls j d b t.1 is))
-          (at_set views id j w d there)
+        calls : (j : ℕ) (d : CallState T) (b : InCall T) → get_elem? (set views id w) j ≡ some d → d.work ≡ Work.Calls b → Standing K s (grown h e) j d.known b
+        calls j d b there is = ⊎_elim
+            (λ (t : (j ≡ id) × (w ≡ d)). subst (λ (z : ℕ × Known T). Standing K s (grown h e) z.0 z.1 b) (λ k. (sym t.0 k, (t.1 k).known)) (own.calls b (ap (λ (z : CallState T). z.work) t.1 ∙ is)))
+            (λ (t : (j ≢ id) × (get_elem? views j ≡ some d)).
+            others_stay K laws g s h e id j d.known b all.ok ok t.0 passes made_is.0 made_is.2 (other j d t.0 t.1) (all.calls j d b t.1 is))
+            (at_set views id j w d there)
 
-      free : (j : ℕ) → ((d : CallState T) → get_elem? (set views id w) j ≡ some d → is_busy d.work ≡ false) → K.Idle s j
-      free j none = dite (ℕ_discrete j id)
-          (λ same. subst (λ k. K.Idle s k) (sym same) (own.free (none w (ap (get_elem? (set views id w)) same ∙ set_at views id u w at))))
-          (λ ne. laws.idle_stays g s id j ne passes (all.free j (λ d there. none d (set_else views id j w ne ∙ there))))
+        free : (j : ℕ) → ((d : CallState T) → get_elem? (set views id w) j ≡ some d → is_busy d.work ≡ false) → K.Idle s j
+        free j none = dite (ℕ_discrete j id)
+            (λ same. subst (λ k. K.Idle s k) (sym same) (own.free (none w (ap (get_elem? (set views id w)) same ∙ set_at views id u w at))))
+            (λ ne. laws.idle_stays g s id j ne passes (all.free j (λ d there. none d (set_else views id j w ne ∙ there))))

@@ -14,7 +14,7 @@ use Rattle.law_common.specs.Effects.{IsBetween}
 use Rattle.shared_parties.specs.declared.known.Known.{Known}
 use Rattle.shared_parties.specs.declared.known.InCall.{InCall}
 use Rattle.shared_parties.proofs.Histories.{prefix_self, prefix_trans, prefix_more}
-use Rattle.shared_parties.specs.Calling.{CallsOf, CallLaws, cap_of, IsMoment, AreMoments, WasOpen, Opened, Waits, Standing}
+use Rattle.shared_parties.specs.Calling.{CallsOf, CallLaws, cap_of, IsMoment, AreMoments, WasOpen, Opened, Waits, stand_of, Standing}
 
 -- the history with what a step adds to it
 abbrev pub grown : {T : Type 0} → List (Effect T) → Option (Effect T) → List (Effect T)
@@ -83,14 +83,14 @@ others_stay {T} K laws g s h e who j k c ok ok' ne pass state gone seen st = rec
   moments = moments_seen (cap_of K) c.since (grown h e) (K.queue_of s) st.ms (grown_more c.since h e from) state (moments_later (cap_of K) c.since h (grown h e) st.ms (grown_more h h e (prefix_self h)) st.moments);
   opened = opened_later (cap_of K) c.since h e st.was c.effects c.places st.opened;
   waits = waits_later h e (length c.since) c.effects c.places
-      (λ b is. let x = laws.coming s j (seen_by (K.queue_of s) st.ms) st.was c.local c.touch c.op c.carried c.call c.effects ok' now b in (let f : None ≡ Some x.0 = sym (gone is) ∙ x.1 in cc)) st.stand st.waits;
+      (λ b is. let x = laws.coming s j (seen_by (K.queue_of s) st.ms) st.was (stand_of c) ok' now b in (let f : None ≡ Some x.0 = sym (gone is) ∙ x.1 in cc)) st.stand st.waits;
   stand = stand_later h e (length c.since) c.places c.effects st.stand;
   since = st.since;
   knows = st.knows;
 }
   where
-    now : K.At s j (seen_by (K.queue_of s) st.ms) st.was c.local c.touch c.op c.carried c.call c.effects
-    now = laws.at_stays g s who j st.ms st.was c.local c.touch c.op c.carried c.call c.effects ok ok' ne pass st.here
+    now : K.At s j (seen_by (K.queue_of s) st.ms) st.was (stand_of c)
+    now = laws.at_stays g s who j st.ms st.was (stand_of c) ok ok' ne pass st.here
 
     from : IsPrefix c.since h
     from = prefix_trans c.since k.seen h st.since seen

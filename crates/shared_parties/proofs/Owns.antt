@@ -1,5 +1,5 @@
 -- A call after a step of its own: where it stands then, or that it ends as a shared call.
-use Rattle.std.proofs.Common.{◌≡◌, ℕ, ◌+◌, ◌≤◌, ◌||◌, not, ◌⊎◌, inl, inr, Bool, true, List, [], ◌∷◌, ◌++◌, length, Option, Some, None, refl, ap, sym, ◌∙◌, subst, ⊎_elim, arith, length-append, append_assoc}
+use Rattle.std.proofs.Common.{◌≡◌, ℕ, ◌+◌, ◌≤◌, ◌||◌, not, inl, inr, Bool, true, List, [], ◌∷◌, ◌++◌, length, Option, Some, None, refl, ap, sym, ◌∙◌, subst, ⊎_elim, arith, length-append, append_assoc}
 use mathlib.Core.List.{IsPrefix}
 use Rattle.atomic_table.proofs.Lists.{at_longer, at_last}
 use Rattle.law_common.specs.Vocabulary.{Call, Reply, Effect, Op, Touch, Local}
@@ -10,6 +10,7 @@ use Rattle.queue_steps.specs.Shares.{Share}
 use Rattle.queue_steps.specs.Parties.{View, StandAt, Between, Displaces, SharedCall}
 use Rattle.law_common.specs.Moments.{SeenIn}
 use Rattle.law_common.specs.Effects.{with_effect}
+use Rattle.law_common.specs.Stand.{stand}
 use Rattle.law_common.proofs.Tests.{or_true, not_true}
 use Rattle.shared_parties.specs.declared.known.Known.{Known}
 use Rattle.shared_parties.specs.declared.known.InCall.{InCall}
@@ -110,59 +111,52 @@ module _ {T : Type 0} where
   displaces cap s t was n c r [] (p ∷ q ∷ ps) tells stand o w = absurd stand
   displaces cap s t was n c r es ps tells stand o w = tt
 
--- after a step of its own a call that goes on stands where the laws of its kind have it
-pub own_stands : {T : Type 0} (K : CallsOf T) (r s : K.Cells) (h : List (Effect T)) (e : Option (Effect T)) (who : ℕ) (k : Known T) (c : InCall T) (l : Local ℕ) (t : Touch) (o : Op ℕ) (v : Option T) (lends : List (ℕ × Option T))
-    → IsPrefix k.seen h → K.queue_of s ≡ after (cap_of K) (grown h e) → (st : Standing K r h who k c) → MayFront e st.was → K.Lent s who lends
-    → K.At s who (K.queue_of s ∷ st.ms) (st.was || not (K.queue_of s).closed) l t o v c.call (with_effect c.effects e)
-    → Standing K s (grown h e) who (known_after h e k) (call_after c h e l t o v lends)
-own_stands {T} K r s h e who k c l t o v lends seen state st may lent goes = record {
-  ms = K.queue_of s ∷ st.ms;
-  was = st.was || not (K.queue_of s).closed;
-  here = goes;
-  lent = lent;
-  moments = (moment_now (cap_of K) c.since (grown h e) (K.queue_of s) (grown_more c.since h e from) state, moments_later (cap_of K) c.since h (grown h e) st.ms (grown_more h h e (prefix_self h)) st.moments);
-  opened = opened_after (cap_of K) c.since h e st.was (K.queue_of s).closed (length c.since) c.effects c.places from (ap (λ q. q.closed) (sym state)) may st.stand st.opened;
-  waits = waits_after h e (length c.since) c.effects c.places st.stand st.waits;
-  stand = stand_after h e (length c.since) c.places c.effects (prefix_length c.since h from) st.stand;
-  since = subst (IsPrefix c.since) (sym (ap (λ z. z.seen) knows)) (grown_more c.since h e from);
-  knows = knows ∙ ap (λ (g : List (Effect T)). party (cap_of K) g (c.before ++ with_place c.places e (length h)) c.share) (sym (ap (λ z. z.seen) knows));
-}
-  where
-    from : IsPrefix c.since h
-    from = prefix_trans c.since k.seen h st.since seen
+-- a step of its own of the call c, with the effect e, leads from the cells r to the cells s
+module _ {T : Type 0} (K : CallsOf T) (r s : K.Cells) (h : List (Effect T)) (e : Option (Effect T)) (who : ℕ) (k : Known T) (c : InCall T) (seen : IsPrefix k.seen h) (state : K.queue_of s ≡ after (cap_of K) (grown h e)) (st : Standing K r h who k c) (may : MayFront e st.was) where
+  from : IsPrefix c.since h
+  from = prefix_trans c.since k.seen h st.since seen
 
-    knows : known_after h e k ≡ party (cap_of K) (grown h e) (c.before ++ with_place c.places e (length h)) c.share
-    knows = knows_after (cap_of K) h e k c.before c.places c.share st.knows
+  knows : known_after h e k ≡ party (cap_of K) (grown h e) (c.before ++ with_place c.places e (length h)) c.share
+  knows = knows_after (cap_of K) h e k c.before c.places c.share st.knows
 
--- and one that ends is a shared call
-pub own_ends : {T : Type 0} (K : CallsOf T) (r s : K.Cells) (h : List (Effect T)) (e : Option (Effect T)) (who : ℕ) (k : Known T) (c : InCall T) (y : Reply T)
-    → IsPrefix k.seen h → IsHistory (cap_of K) (grown h e) → K.queue_of s ≡ after (cap_of K) (grown h e) → (st : Standing K r h who k c) → MayFront e st.was
-    → Tells c.call y (with_effect c.effects e) → (with_effect c.effects e ≡ [] → SeenIn (K.queue_of s ∷ st.ms) (Allows c.call y))
-    → SharedCall (cap_of K) (view_before c) (view_of (known_after h e k)) c.call y
-own_ends {T} K r s h e who k c y seen legal state st may tells right = subst (λ (z : Known T). SharedCall (cap_of K) (view_before c) (view_of z) c.call y) (sym knows) made
-  where
-    from : IsPrefix c.since h
-    from = prefix_trans c.since k.seen h st.since seen
+  -- a call that goes on stands then where the laws of its kind have it
+  pub own_stands : (l : Local ℕ) (t : Touch) (o : Op ℕ) (v : Option T) (lends : List (ℕ × Option T))
+      → K.Lent s who lends → K.At s who (K.queue_of s ∷ st.ms) (st.was || not (K.queue_of s).closed) (stand l t o v c.call (with_effect c.effects e))
+      → Standing K s (grown h e) who (known_after h e k) (call_after c h e l t o v lends)
+  own_stands l t o v lends lent goes = record {
+    ms = K.queue_of s ∷ st.ms;
+    was = st.was || not (K.queue_of s).closed;
+    here = goes;
+    lent = lent;
+    moments = (moment_now (cap_of K) c.since (grown h e) (K.queue_of s) (grown_more c.since h e from) state, moments_later (cap_of K) c.since h (grown h e) st.ms (grown_more h h e (prefix_self h)) st.moments);
+    opened = opened_after (cap_of K) c.since h e st.was (K.queue_of s).closed (length c.since) c.effects c.places from (ap (λ q. q.closed) (sym state)) may st.stand st.opened;
+    waits = waits_after h e (length c.since) c.effects c.places st.stand st.waits;
+    stand = stand_after h e (length c.since) c.places c.effects (prefix_length c.since h from) st.stand;
+    since = subst (IsPrefix c.since) (sym (ap (λ z. z.seen) knows)) (grown_more c.since h e from);
+    knows = knows ∙ ap (λ (g : List (Effect T)). party (cap_of K) g (c.before ++ with_place c.places e (length h)) c.share) (sym (ap (λ z. z.seen) knows));
+  }
 
-    knows : known_after h e k ≡ party (cap_of K) (grown h e) (c.before ++ with_place c.places e (length h)) c.share
-    knows = knows_after (cap_of K) h e k c.before c.places c.share st.knows
+  -- and one that ends is a shared call
+  pub own_ends : (y : Reply T) → IsHistory (cap_of K) (grown h e) → Tells c.call y (with_effect c.effects e) → (with_effect c.effects e ≡ [] → SeenIn (K.queue_of s ∷ st.ms) (Allows c.call y))
+      → SharedCall (cap_of K) (view_before c) (view_of (known_after h e k)) c.call y
+  own_ends y legal tells right = subst (λ (z : Known T). SharedCall (cap_of K) (view_before c) (view_of z) c.call y) (sym knows) made
+    where
+      stand : StandAt (grown h e) (length c.since) (with_place c.places e (length h)) (with_effect c.effects e)
+      stand = stand_after h e (length c.since) c.places c.effects (prefix_length c.since h from) st.stand
 
-    stand : StandAt (grown h e) (length c.since) (with_place c.places e (length h)) (with_effect c.effects e)
-    stand = stand_after h e (length c.since) c.places c.effects (prefix_length c.since h from) st.stand
-
-    made : SharedCall (cap_of K) (view_before c) (view_of (party (cap_of K) (grown h e) (c.before ++ with_place c.places e (length h)) c.share)) c.call y
-    made = record {
-      begins = grown_more c.since h e from;
-      legal = legal;
-      effects = with_effect c.effects e;
-      places = with_place c.places e (length h);
-      tells = tells;
-      stand = stand;
-      mine = refl;
-      share = refl;
-      right = λ none. between (cap_of K) c.since (grown h e) (K.queue_of s ∷ st.ms) c.call y
-          (moment_now (cap_of K) c.since (grown h e) (K.queue_of s) (grown_more c.since h e from) state, moments_later (cap_of K) c.since h (grown h e) st.ms (grown_more h h e (prefix_self h)) st.moments) (right none);
-      displaces = displaces (cap_of K) c.since (grown h e) (st.was || not (K.queue_of s).closed) (length c.since) c.call y (with_effect c.effects e) (with_place c.places e (length h)) tells stand
-          (opened_after (cap_of K) c.since h e st.was (K.queue_of s).closed (length c.since) c.effects c.places from (ap (λ q. q.closed) (sym state)) may st.stand st.opened)
-          (waits_after h e (length c.since) c.effects c.places st.stand st.waits);
-    }
+      made : SharedCall (cap_of K) (view_before c) (view_of (party (cap_of K) (grown h e) (c.before ++ with_place c.places e (length h)) c.share)) c.call y
+      made = record {
+        begins = grown_more c.since h e from;
+        legal = legal;
+        effects = with_effect c.effects e;
+        places = with_place c.places e (length h);
+        tells = tells;
+        stand = stand;
+        mine = refl;
+        share = refl;
+        right = λ none. between (cap_of K) c.since (grown h e) (K.queue_of s ∷ st.ms) c.call y
+            (moment_now (cap_of K) c.since (grown h e) (K.queue_of s) (grown_more c.since h e from) state, moments_later (cap_of K) c.since h (grown h e) st.ms (grown_more h h e (prefix_self h)) st.moments) (right none);
+        displaces = displaces (cap_of K) c.since (grown h e) (st.was || not (K.queue_of s).closed) (length c.since) c.call y (with_effect c.effects e) (with_place c.places e (length h)) tells stand
+            (opened_after (cap_of K) c.since h e st.was (K.queue_of s).closed (length c.since) c.effects c.places from (ap (λ q. q.closed) (sym state)) may st.stand st.opened)
+            (waits_after h e (length c.since) c.effects c.places st.stand st.waits);
+      }

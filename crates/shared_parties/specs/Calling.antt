@@ -4,7 +4,7 @@ use mathlib.Core.Option.{some}
 use mathlib.Core.List.{IsPrefix}
 use lib.ListN.{get_elem?}
 use Rattle.atomic_table.specs.Table.{rest}
-use Rattle.law_common.specs.Vocabulary.{Call, Reply, Effect, Kind, Op, Touch, Answer, Local, Next}
+use Rattle.law_common.specs.Vocabulary.{Call, Reply, Effect, Kind, Op, Touch, Answer, Next}
 use Rattle.queue_steps.specs.State.{State}
 use Rattle.queue_steps.specs.Effect.{after}
 use Rattle.queue_steps.specs.Kinds.{call_kind, call_value, filled}
@@ -13,6 +13,7 @@ use Rattle.queue_steps.specs.Parties.{StandAt}
 use Rattle.queue_steps.specs.Replies.{IsRightAt, Allows, Tells}
 use Rattle.law_common.specs.Effects.{IsBetween, Touches}
 use Rattle.law_common.specs.Moments.{SeenIn, seen_by}
+use Rattle.law_common.specs.Stand.{Stand, stand}
 use Rattle.shared_parties.specs.declared.known.Known.{Known}
 use Rattle.shared_parties.specs.declared.known.InCall.{InCall}
 use Rattle.shared_parties.specs.Known.{party}
@@ -24,7 +25,7 @@ pub record CallsOf (T : Type 0) : Type 1 where
   pub Cells : Type 0
   pub Ok : Cells → Type 0
   pub queue_of : Cells → State T
-  pub At : Cells → ℕ → List (State T) → Bool → Local ℕ → Touch → Op ℕ → Option T → Call T → List (Effect T) → Type 0
+  pub At : Cells → ℕ → List (State T) → Bool → Stand T → Type 0
   pub Passes : ℕ → Cells → Cells → Type 0
   pub Lent : Cells → ℕ → List (ℕ × Option T) → Type 0
   pub Idle : Cells → ℕ → Type 0
@@ -58,11 +59,14 @@ Waits h (Effect.Front old v ∷ []) (p ∷ []) = (k : ℕ) → p < k → ¬ (get
 Waits h (Effect.Front old v ∷ es) (p ∷ q ∷ ps) = (k : ℕ) → p < k → k < q → ¬ (get_elem? h k ≡ some Effect.Arrive)
 Waits h _ _ = Unit {0}
 
+abbrev pub stand_of : {T : Type 0} → InCall T → Stand T
+stand_of c = record { local = c.local; touch = c.touch; op = c.op; carried = c.carried; call = c.call; effects = c.effects }
+
 -- where the call c of the party j stands, at the cells g and a history h; k is what the party knows
 pub record Standing {T : Type 0} (K : CallsOf T) (g : K.Cells) (h : List (Effect T)) (j : ℕ) (k : Known T) (c : InCall T) : Type 0 where
   pub ms : List (State T)
   pub was : Bool
-  pub here : K.At g j ms was c.local c.touch c.op c.carried c.call c.effects
+  pub here : K.At g j ms was (stand_of c)
   pub lent : K.Lent g j c.lends
   pub moments : AreMoments (cap_of K) c.since h ms
   pub opened : Opened (cap_of K) c.since h was c.effects c.places
@@ -97,23 +101,23 @@ MayFront _ was = Unit {0}
 
 -- the call of the party j goes on from a known place, or ends with a reply that is right, and the party has no part in the cells then
 abbrev pub Goes : {T : Type 0} (K : CallsOf T) → K.Cells → ℕ → List (State T) → Bool → Next ℕ → Option T → Call T → List (Effect T) → Type 0
-Goes K g j ms was (Next.Step l t o) v k es = K.At g j ms was l t o v k es
+Goes K g j ms was (Next.Step l t o) v k es = K.At g j ms was (stand l t o v k es)
 Goes {T} K g j ms was (Next.Reply x spare) v k es =
     K.Idle g j × K.Gives spare × ((y : Reply T) × (filled x v ≡ Some y) × Tells k y es × (es ≡ [] → SeenIn ms (Allows k y)))
 
 -- What a kind owes of its calls: no step of another party takes away what a call knows, nor a slot that its party has; who has no part in the cells has no slot;
 -- behind a front that was taken off an item is coming; and a slot that is touched is the one that the party has
 pub record CallLaws {T : Type 0} (K : CallsOf T) : Type 0 where
-  pub at_stays : (g s : K.Cells) (who j : ℕ) (ms : List (State T)) (was : Bool) (l : Local ℕ) (t : Touch) (o : Op ℕ) (v : Option T) (k : Call T) (es : List (Effect T))
-      → K.Ok g → K.Ok s → j ≢ who → K.Passes who g s → K.At g j ms was l t o v k es → K.At s j (seen_by (K.queue_of s) ms) was l t o v k es
+  pub at_stays : (g s : K.Cells) (who j : ℕ) (ms : List (State T)) (was : Bool) (c : Stand T)
+      → K.Ok g → K.Ok s → j ≢ who → K.Passes who g s → K.At g j ms was c → K.At s j (seen_by (K.queue_of s) ms) was c
   pub lent_stays : (g s : K.Cells) (who j : ℕ) (xs : List (ℕ × Option T)) → j ≢ who → K.Passes who g s → K.Lent g j xs → K.Lent s j xs
   pub idle_stays : (g s : K.Cells) (who j : ℕ) → j ≢ who → K.Passes who g s → K.Idle g j → K.Idle s j
   pub idle_none : (g : K.Cells) (j : ℕ) (xs : List (ℕ × Option T)) → K.Idle g j → K.Lent g j xs → xs ≡ []
   pub idle_lent : (g : K.Cells) (j : ℕ) → K.Idle g j → K.Lent g j []
-  pub coming : (g : K.Cells) (j : ℕ) (ms : List (State T)) (was : Bool) (l : Local ℕ) (t : Touch) (o : Op ℕ) (v : Option T) (k : Call T) (es : List (Effect T))
-      → K.Ok g → K.At g j ms was l t o v k es → IsBetween es → (x : T) × ((K.queue_of g).coming ≡ Some x)
-  pub touches : (g : K.Cells) (j : ℕ) (ms : List (State T)) (was : Bool) (l : Local ℕ) (t : Touch) (o : Op ℕ) (v : Option T) (k : Call T) (es : List (Effect T)) (xs : List (ℕ × Option T))
-      → K.At g j ms was l t o v k es → K.Lent g j xs → HasTouched t xs
+  pub coming : (g : K.Cells) (j : ℕ) (ms : List (State T)) (was : Bool) (c : Stand T)
+      → K.Ok g → K.At g j ms was c → IsBetween c.effects → (x : T) × ((K.queue_of g).coming ≡ Some x)
+  pub touches : (g : K.Cells) (j : ℕ) (ms : List (State T)) (was : Bool) (c : Stand T) (xs : List (ℕ × Option T))
+      → K.At g j ms was c → K.Lent g j xs → HasTouched c.touch xs
 
 -- what a call on queues of this kind does first
 abbrev pub first_of : {T : Type 0} → Kind → Call T → Next ℕ
@@ -121,6 +125,6 @@ first_of k c = next_of k (first_local (call_kind c)) Answer.Start
 
 -- that step of a party that has no part in the cells stands, and is one of those that may be done; or the reply is right, whatever the state is
 abbrev pub Opens : {T : Type 0} (K : CallsOf T) → (Op ℕ → Type 0) → Call T → Next ℕ → Type 0
-Opens K May c (Next.Step l t o) = (t ≡ Touch.Nothing) × May o × ((g : K.Cells) (j : ℕ) → K.Idle g j → K.At g j [] false l t o (call_value c) c [])
+Opens K May c (Next.Step l t o) = (t ≡ Touch.Nothing) × May o × ((g : K.Cells) (j : ℕ) → K.Idle g j → K.At g j [] false (stand l t o (call_value c) c []))
 Opens {T} K May c (Next.Reply x spare) =
     (spare ≡ None) × ((y : Reply T) × (filled x (call_value c) ≡ Some y) × Tells c y [] × ((m : State T) → m.cap ≡ cap_of K → IsRightAt m c y))

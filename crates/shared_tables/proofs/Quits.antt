@@ -3,6 +3,7 @@ use Rattle.std.proofs.Common.{ℕ, List, set, refl, sym, ◌∙◌, subst}
 use Rattle.std.proofs.lemmas.List.{set-get_or}
 use Rattle.atomic_table.specs.Table.{keeps, Allows}
 use Rattle.shared_parties.specs.CallStates.{idle}
+use Rattle.shared_parties.specs.Calling.{stand_of}
 use Rattle.shared_parties.specs.Quitting.{its_call}
 use Rattle.shared_parties.proofs.Quits.{quit, quits}
 use Rattle.shared_tables.specs.Seats.{Seated, count_of}
@@ -15,7 +16,7 @@ module _ {T : Type 0} (K : TableOf T) (words : ℕ) (laws : TableLaws K words) w
   gives_up slots id m (busy, lends, is) s r wide at fits =
       let c = its_call m.0 in
       let st = r.all.calls id m.0 c at busy in
-      let e = laws.early r.cells id st.ms st.was c.local c.touch c.op c.carried c.call c.effects is st.here in
+      let e = laws.early r.cells id st.ms st.was (stand_of c) is st.here in
       let rule : Rule K record { words = s.words; homes = s.homes; views = set s.views id (idle m.0.known) } = record {
         cells = r.cells;
         words = r.words;

@@ -9,7 +9,7 @@ use Rattle.shared_parties.specs.declared.known.InCall.{InCall}
 use Rattle.shared_parties.specs.declared.known.Work.TheVariants as work
 use Rattle.shared_parties.specs.declared.known.CallState.{CallState}
 use Rattle.shared_tables.specs.Seats.{Table, Seated, count_of}
-use Rattle.shared_parties.specs.Calling.{CallsOf, Standing, touched_list, handed_by, HasTouched}
+use Rattle.shared_parties.specs.Calling.{CallsOf, stand_of, Standing, touched_list, handed_by, HasTouched}
 use Rattle.shared_tables.specs.TableRule.{TableOf, Rule, found_by, InTable, TakesOff, Stepped, TableLaws}
 use Rattle.shared_parties.specs.Operations.{op_word, op_makes, answer_for}
 use Rattle.shared_tables.specs.TableTurns.{After, Follows}
@@ -26,8 +26,8 @@ module _ {T : Type 0} (K : TableOf T) (words : ℕ) (laws : TableLaws K words) w
       → ((spare : Option ℕ) → C.Gives spare → spare ≡ None) → Told C c v xs n w → After K c v n (w, xs)
   after_told g h who c v xs (Next.Step l t o) w ok stands none (d, at, local_is, touch_is, op_is, carried_is, call_is, begun_is, lends) =
       let st = stands d at in
-      let touches : HasTouched d.touch d.lends = laws.calls.touches g who st.ms st.was d.local d.touch d.op d.carried d.call d.effects d.lends st.here st.lent in
-      let word : InTable K d.op = laws.at_word g who st.ms st.was d.local d.touch d.op d.carried d.call d.effects ok st.here in
+      let touches : HasTouched d.touch d.lends = laws.calls.touches g who st.ms st.was (stand_of d) d.lends st.here st.lent in
+      let word : InTable K d.op = laws.at_word g who st.ms st.was (stand_of d) ok st.here in
       (d, at, local_is, touch_is, op_is, carried_is, call_is, begun_is, sym lends, subst (λ z. HasTouched z d.lends) touch_is touches, subst (InTable K) op_is word)
   after_told g h who c v xs (Next.Reply x spare) w ok stands none (gives, empty, (y, fill, rests, cap_is, owns, calls)) =
       (none spare gives, (y, fill, (rests, empty), cap_is, owns, calls))
@@ -41,7 +41,7 @@ module _ {T : Type 0} (K : TableOf T) (words : ℕ) (laws : TableLaws K words) w
   takes_off s id m c rule at ready =
       let st = stands s id m c rule at ready in
       subst (λ (ws : List ℕ). TakesOff c.op (found_by K c.op ws)) (sym rule.counted)
-      (laws.takes_off rule.cells id (count_of s) rule.words s.homes st.ms st.was c.local c.touch c.op c.carried c.call c.effects rule.all.ok rule.coded st.here)
+      (laws.takes_off rule.cells id (count_of s) rule.words s.homes st.ms st.was (stand_of c) rule.all.ok rule.coded st.here)
 
   -- what `Allows` asks at one table
   abbrev AllowsAt : Table T → ℕ → Seated T → InCall T → Type 0
@@ -78,8 +78,8 @@ module _ {T : Type 0} (K : TableOf T) (words : ℕ) (laws : TableLaws K words) w
       st : Standing C rule.cells h id m.0.known c
       st = stands s id m c rule at ready
 
-      g : Stepped K rule.cells id n rule.words s.homes st.ms st.was c.local c.touch c.op c.carried c.call c.effects c.lends
-      g = laws.steps rule.cells id n rule.words s.homes st.ms st.was c.local c.touch c.op c.carried c.call c.effects c.lends rule.all.ok rule.coded st.here st.lent
+      g : Stepped K rule.cells id n rule.words s.homes st.ms st.was (stand_of c) c.lends
+      g = laws.steps rule.cells id n rule.words s.homes st.ms st.was (stand_of c) c.lends rule.all.ok rule.coded st.here st.lent
 
       found_is : found_by K c.op s.words ≡ found_by K c.op all
       found_is = ap (found_by K c.op) rule.counted

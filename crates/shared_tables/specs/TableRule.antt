@@ -4,12 +4,13 @@ use Rattle.std.specs.Int.{w64, bit_not}
 use mathlib.Core.Option.{some}
 use mathlib.Core.Option as maybe
 use Rattle.atomic_table.specs.Table.{Act, Valid, carried_after, homes_after}
-use Rattle.law_common.specs.Vocabulary.{Call, Effect, Word, Op, Touch, Answer, Local}
+use Rattle.law_common.specs.Vocabulary.{Call, Effect, Word, Op, Answer}
 use Rattle.queue_steps.specs.Kinds.{call_kind, call_value}
 use Rattle.queue_steps.specs.Next.{CanNext, first_local, next_of}
 use Rattle.queue_steps.specs.WaitFree.{is_wait_free, EndsWaitFree}
 use Rattle.queue_steps.specs.State.{State}
 use Rattle.law_common.specs.Effects.{Leads, with_effect}
+use Rattle.law_common.specs.Stand.{Stand}
 use Rattle.shared_tables.specs.Early.{IsEarly}
 use Rattle.shared_tables.specs.Seats.{Table, count_of}
 use Rattle.shared_parties.specs.Operations.{op_word, op_makes, answer_for}
@@ -51,24 +52,25 @@ abbrev pub TakesOff : Op ℕ → ℕ → Type 0
 TakesOff (Op.And w bits) n = bit_and n bits + bit_not w64 bits ≡ n
 TakesOff _ n = Unit {0}
 
--- What the next step of a call of the party who does at these cells, for which the words ws, of them n counts the parties, and the homes hs stand: an effect at
--- most, an act on the slots, of which the party has xs, and cells that are right again, at which the call goes on or ends
-pub record Stepped {T : Type 0} (K : TableOf T) (g : K.calls.Cells) (who n : ℕ) (ws : List ℕ) (hs : List (maybe.Option (Option T))) (ms : List (State T)) (was : Bool) (l : Local ℕ) (t : Touch) (o : Op ℕ) (v : Option T) (k : Call T) (es : List (Effect T)) (xs : List (ℕ × Option T)) : Type 0 where
-  pub after : K.calls.Cells
-  pub words : List ℕ
-  pub effect : Option (Effect T)
-  pub act : Act (Option T)
-  pub can_next : CanNext K.calls.kind l (answer_for o (found_by K o (n ∷ ws)))
-  pub ok : K.calls.Ok after
-  pub written : slice_set (n ∷ ws) (K.place (op_word o)) (op_makes o (found_by K o (n ∷ ws))) ≡ n ∷ words
-  pub valid : Valid hs (touched_list t v xs) act
-  pub coded : K.Coded after words (homes_after hs (touched_list t v xs) act)
-  pub lent : K.calls.Lent after who (carried_after (touched_list t v xs) act)
-  pub front : MayFront effect was
-  pub makes : Leads (K.calls.queue_of g) effect (K.calls.queue_of after)
-  pub passes : K.calls.Passes who g after
-  pub goes : Goes K.calls after who (K.calls.queue_of after ∷ ms) (was || not (K.calls.queue_of after).closed)
-      (next_of K.calls.kind l (answer_for o (found_by K o (n ∷ ws)))) (handed_by t v xs) k (with_effect es effect)
+-- the party who at these cells, for which the words ws, of them n counts the parties, and the homes hs stand
+module _ {T : Type 0} (K : TableOf T) (g : K.calls.Cells) (who n : ℕ) (ws : List ℕ) (hs : List (maybe.Option (Option T))) where
+  -- What the next step of its call does: an effect at most, an act on the slots, of which the party has xs, and cells that are right again, at which the call goes on or ends
+  pub record Stepped (ms : List (State T)) (was : Bool) (c : Stand T) (xs : List (ℕ × Option T)) : Type 0 where
+    pub after : K.calls.Cells
+    pub words : List ℕ
+    pub effect : Option (Effect T)
+    pub act : Act (Option T)
+    pub can_next : CanNext K.calls.kind c.local (answer_for c.op (found_by K c.op (n ∷ ws)))
+    pub ok : K.calls.Ok after
+    pub written : slice_set (n ∷ ws) (K.place (op_word c.op)) (op_makes c.op (found_by K c.op (n ∷ ws))) ≡ n ∷ words
+    pub valid : Valid hs (touched_list c.touch c.carried xs) act
+    pub coded : K.Coded after words (homes_after hs (touched_list c.touch c.carried xs) act)
+    pub lent : K.calls.Lent after who (carried_after (touched_list c.touch c.carried xs) act)
+    pub front : MayFront effect was
+    pub makes : Leads (K.calls.queue_of g) effect (K.calls.queue_of after)
+    pub passes : K.calls.Passes who g after
+    pub goes : Goes K.calls after who (K.calls.queue_of after ∷ ms) (was || not (K.calls.queue_of after).closed)
+        (next_of K.calls.kind c.local (answer_for c.op (found_by K c.op (n ∷ ws)))) (handed_by c.touch c.carried xs) c.call (with_effect c.effects effect)
 
 -- the first step of a call is on a word of the table
 abbrev pub OpensIn : {T : Type 0} → TableOf T → Call T → Type 0
@@ -78,14 +80,14 @@ OpensIn K c = CanNext K.calls.kind (first_local {B = ℕ} (call_kind c)) Answer.
 pub record TableLaws {T : Type 0} (K : TableOf T) (words : ℕ) : Type 0 where
   pub calls : CallLaws K.calls
   pub below : (w : Word ℕ) → K.HasWord w → K.place w < words
-  pub at_word : (g : K.calls.Cells) (j : ℕ) (ms : List (State T)) (was : Bool) (l : Local ℕ) (t : Touch) (o : Op ℕ) (v : Option T) (k : Call T) (es : List (Effect T))
-      → K.calls.Ok g → K.calls.At g j ms was l t o v k es → InTable K o
-  pub steps : (g : K.calls.Cells) (who n : ℕ) (ws : List ℕ) (hs : List (maybe.Option (Option T))) (ms : List (State T)) (was : Bool) (l : Local ℕ) (t : Touch) (o : Op ℕ) (v : Option T) (k : Call T) (es : List (Effect T)) (xs : List (ℕ × Option T))
-      → K.calls.Ok g → K.Coded g ws hs → K.calls.At g who ms was l t o v k es → K.calls.Lent g who xs → Stepped K g who n ws hs ms was l t o v k es xs
-  pub takes_off : (g : K.calls.Cells) (who n : ℕ) (ws : List ℕ) (hs : List (maybe.Option (Option T))) (ms : List (State T)) (was : Bool) (l : Local ℕ) (t : Touch) (o : Op ℕ) (v : Option T) (k : Call T) (es : List (Effect T))
-      → K.calls.Ok g → K.Coded g ws hs → K.calls.At g who ms was l t o v k es → TakesOff o (found_by K o (n ∷ ws))
+  pub at_word : (g : K.calls.Cells) (j : ℕ) (ms : List (State T)) (was : Bool) (c : Stand T)
+      → K.calls.Ok g → K.calls.At g j ms was c → InTable K c.op
+  pub steps : (g : K.calls.Cells) (who n : ℕ) (ws : List ℕ) (hs : List (maybe.Option (Option T))) (ms : List (State T)) (was : Bool) (c : Stand T) (xs : List (ℕ × Option T))
+      → K.calls.Ok g → K.Coded g ws hs → K.calls.At g who ms was c → K.calls.Lent g who xs → Stepped K g who n ws hs ms was c xs
+  pub takes_off : (g : K.calls.Cells) (who n : ℕ) (ws : List ℕ) (hs : List (maybe.Option (Option T))) (ms : List (State T)) (was : Bool) (c : Stand T)
+      → K.calls.Ok g → K.Coded g ws hs → K.calls.At g who ms was c → TakesOff c.op (found_by K c.op (n ∷ ws))
   pub gives : (spare : Option ℕ) → K.calls.Gives spare → spare ≡ None
   pub opens : (c : Call T) → OpensIn K c
   pub wait_free : (c : Call T) → is_wait_free c ≡ true → EndsWaitFree ℕ K.calls.kind (call_kind c)
-  pub early : (g : K.calls.Cells) (j : ℕ) (ms : List (State T)) (was : Bool) (l : Local ℕ) (t : Touch) (o : Op ℕ) (v : Option T) (k : Call T) (es : List (Effect T))
-      → IsEarly l → K.calls.At g j ms was l t o v k es → (es ≡ []) × K.calls.Idle g j × (v ≡ call_value k)
+  pub early : (g : K.calls.Cells) (j : ℕ) (ms : List (State T)) (was : Bool) (c : Stand T)
+      → IsEarly c.local → K.calls.At g j ms was c → (c.effects ≡ []) × K.calls.Idle g j × (c.carried ≡ call_value c.call)

@@ -18,6 +18,7 @@ use Rattle.law_ring.specs.RingCells.{Cell, Ring, queue_of, RingOk, owner, HoldsN
 use Rattle.law_ring.specs.RingWords.{Codes, item_in}
 use Rattle.law_ring.specs.RingShared.{Shared, HasWord, word_at, put_word, CanOperate, CanTouch, answered, operated, touched, handed}
 use Rattle.law_common.specs.Effects.{Touches, Whether, with_effect}
+use Rattle.law_common.specs.Stand.{Stand}
 use Rattle.law_ring.specs.RingAt.{At, HasPlace, InRing}
 use Rattle.law_ring.proofs.RingAt.{at_stays}
 use Rattle.law_ring.proofs.RingRanks.{rank}
@@ -220,10 +221,10 @@ module _ {T : Type 0} where
   may_front cap was (Local.Bounded l) a e h = none_fronts was e h
   may_front cap was _ a e h = absurd h
 
-  has_touched : (cap : ℕ) (s : Ring T) (who : ℕ) (ms : List (State T)) (was : Bool) (l : Local ℕ) (t : Touch) (o : Op ℕ) (v : Option T) (k : Call T) (es : List (Effect T)) (xs : List (ℕ × Option T)) → At cap s who ms was l t o v k es → Lent s who xs → HasTouched t xs
-  has_touched cap s who ms was l t o v k es [] here lent = λ i e. absurd (lent i (at_touches i here e))
-  has_touched cap s who ms was l t o v k es (x ∷ []) here lent = λ i e. (x.1, ap (λ n. (n, x.1) ∷ []) (sym (lent.2 i (at_touches i here e))))
-  has_touched cap s who ms was l t o v k es (x ∷ y ∷ zs) here lent = absurd lent
+  has_touched : (cap : ℕ) (s : Ring T) (who : ℕ) (ms : List (State T)) (was : Bool) (c : Stand T) (xs : List (ℕ × Option T)) → At cap s who ms was c → Lent s who xs → HasTouched c.touch xs
+  has_touched cap s who ms was c [] here lent = λ i e. absurd (lent i (at_touches i here e))
+  has_touched cap s who ms was c (x ∷ []) here lent = λ i e. (x.1, ap (λ n. (n, x.1) ∷ []) (sym (lent.2 i (at_touches i here e))))
+  has_touched cap s who ms was c (x ∷ y ∷ zs) here lent = absurd lent
 
   words_touched : (s : Shared T) (t : Touch) (v : Option T) → ring_words s ≡ ring_words (touched s t v)
   words_touched s Touch.Nothing v = refl
@@ -250,51 +251,52 @@ module _ {T : Type 0} where
   lent_none s who (x ∷ []) lent none = absurd (none x.0 lent.0)
   lent_none s who (x ∷ y ∷ zs) lent none = absurd lent
 
-  -- where the call stands after its step, or that it ends right
-  goes_well : (cap : ℕ) (r s : Ring T) (who : ℕ) (ms : List (State T)) (was : Bool) (n : Next ℕ) (v : Option T) (k : Call T) (es : List (Effect T)) (m : ℕ)
-      → RingGoes cap r s who ms was n v k es m → Goes (ring_calls cap) s who ms was n v k es
-  goes_well cap r s who ms was (Next.Step l t o) v k es m goes = goes.0
-  goes_well cap r s who ms was (Next.Reply x spare) v k es m goes = let y = goes.2 in (goes.0, goes.1, (y.0, y.1, y.2, λ none. seen_map ms (λ q p. inl p) (y.3 none)))
+  module _ (cap : ℕ) (r s : Ring T) (who : ℕ) (ms : List (State T)) (was : Bool) where
+    -- where the call stands after its step, or that it ends right
+    goes_well : (n : Next ℕ) (v : Option T) (k : Call T) (es : List (Effect T)) (m : ℕ) → RingGoes cap r s who ms was n v k es m → Goes (ring_calls cap) s who ms was n v k es
+    goes_well (Next.Step l t o) v k es m goes = goes.0
+    goes_well (Next.Reply x spare) v k es m goes = let y = goes.2 in (goes.0, goes.1, (y.0, y.1, y.2, λ none. seen_map ms (λ q p. inl p) (y.3 none)))
 
-  -- each step of a call does what the table is owed
-  ring_steps : (cap : ℕ) (g : Ring T) (who n : ℕ) (ws : List ℕ) (hs : List (maybe.Option (Option T))) (ms : List (State T)) (was : Bool) (l : Local ℕ) (t : Touch) (o : Op ℕ) (v : Option T) (k : Call T) (es : List (Effect T)) (xs : List (ℕ × Option T))
-      → RingOk cap g → RingCoded cap g ws hs → At cap g who ms was l t o v k es → Lent g who xs → Stepped (ring_table cap) g who n ws hs ms was l t o v k es xs
-  ring_steps cap g who n ws hs ms was l t o v k es xs ok (s, codes, words, homes) here lent = record {
-    after = good.after;
-    words = ring_words (operated touching o);
-    effect = good.e;
-    act = moved.act;
-    can_next = subst (λ (a : Answer ℕ). CanNext (Kind.Bounded cap) l a) found_is good.goes_on;
-    ok = good.ok;
-    written = ap (λ y. set y (word_index (op_word o)) (op_makes o (get_or y (word_index (op_word o)) 0))) table ∙ words_step n touching o good.operates;
-    valid = moved.valid;
-    coded = (operated touching o, good.codes, refl, moved.homes);
-    lent = moved.lent;
-    front = may_front cap was l (answered touching o) good.e good.told;
-    makes = good.makes;
-    passes = good.passes;
-    goes = subst (λ (z : Answer ℕ × Option T). Goes (ring_calls cap) good.after who (queue_of cap good.after ∷ ms) (was || not good.after.closed) (next_of (Kind.Bounded cap) l z.0) z.1 k (with_effect es good.e))
-        (λ i. (found_is i, handed_is i))
-        (goes_well cap g good.after who (queue_of cap good.after ∷ ms) (was || not good.after.closed) (next_of (Kind.Bounded cap) l (answered touching o)) (handed s t v) k (with_effect es good.e) (rank cap g l) good.goes);
-  }
-    where
-      touching : Shared T
-      touching = touched s t v
+  module _ (cap : ℕ) (g : Ring T) (who n : ℕ) (ws : List ℕ) (hs : List (maybe.Option (Option T))) where
+    -- each step of a call does what the table is owed
+    ring_steps : (ms : List (State T)) (was : Bool) (c : Stand T) (xs : List (ℕ × Option T))
+        → RingOk cap g → RingCoded cap g ws hs → At cap g who ms was c → Lent g who xs → Stepped (ring_table cap) g who n ws hs ms was c xs
+    ring_steps ms was c xs ok (s, codes, words, homes) here lent = record {
+      after = good.after;
+      words = ring_words (operated touching c.op);
+      effect = good.e;
+      act = moved.act;
+      can_next = subst (λ (a : Answer ℕ). CanNext (Kind.Bounded cap) c.local a) found_is good.goes_on;
+      ok = good.ok;
+      written = ap (λ y. set y (word_index (op_word c.op)) (op_makes c.op (get_or y (word_index (op_word c.op)) 0))) table ∙ words_step n touching c.op good.operates;
+      valid = moved.valid;
+      coded = (operated touching c.op, good.codes, refl, moved.homes);
+      lent = moved.lent;
+      front = may_front cap was c.local (answered touching c.op) good.e good.told;
+      makes = good.makes;
+      passes = good.passes;
+      goes = subst (λ (z : Answer ℕ × Option T). Goes (ring_calls cap) good.after who (queue_of cap good.after ∷ ms) (was || not good.after.closed) (next_of (Kind.Bounded cap) c.local z.0) z.1 c.call (with_effect c.effects good.e))
+          (λ i. (found_is i, handed_is i))
+          (goes_well cap g good.after who (queue_of cap good.after ∷ ms) (was || not good.after.closed) (next_of (Kind.Bounded cap) c.local (answered touching c.op)) (handed s c.touch c.carried) c.call (with_effect c.effects good.e) (rank cap g c.local) good.goes);
+    }
+      where
+        touching : Shared T
+        touching = touched s c.touch c.carried
 
-      good : Good cap g who s ms was l t o v k es
-      good = step_good cap g who s ms was ok codes here
+        good : Good cap g who s ms was c
+        good = step_good ok codes here
 
-      moved : Shifted cap who good.after hs (touched_list t v xs)
-      moved = shifts cap who g good.after t v hs xs homes lent good.shift
+        moved : Shifted cap who good.after hs (touched_list c.touch c.carried xs)
+        moved = shifts cap who g good.after c.touch c.carried hs xs homes lent good.shift
 
-      table : n ∷ ws ≡ n ∷ ring_words touching
-      table = ap (λ y. n ∷ y) (words ∙ words_touched s t v)
+        table : n ∷ ws ≡ n ∷ ring_words touching
+        table = ap (λ y. n ∷ y) (words ∙ words_touched s c.touch c.carried)
 
-      found_is : answered touching o ≡ answer_for o (found_by {T = T} (ring_table cap) o (n ∷ ws))
-      found_is = answers_found n touching o good.operates ∙ ap (λ y. answer_for o (get_or y (word_index (op_word o)) 0)) (sym table)
+        found_is : answered touching c.op ≡ answer_for c.op (found_by {T = T} (ring_table cap) c.op (n ∷ ws))
+        found_is = answers_found n touching c.op good.operates ∙ ap (λ y. answer_for c.op (get_or y (word_index (op_word c.op)) 0)) (sym table)
 
-      handed_is : handed s t v ≡ handed_by t v xs
-      handed_is = hands_over cap g s who t v xs codes good.touches (λ i e. at_touches i here e) lent
+        handed_is : handed s c.touch c.carried ≡ handed_by c.touch c.carried xs
+        handed_is = hands_over cap g s who c.touch c.carried xs codes good.touches (λ i e. at_touches i here e) lent
 
   ring_opens_in : (cap : ℕ) → IsRing cap → (c : Call T) → OpensIn (ring_table cap) c
   ring_opens_in cap ring Call.Capacity = (ring, (refl, (Reply.Capacity (Some cap), refl, refl, λ m is. sym is)))
@@ -302,24 +304,24 @@ module _ {T : Type 0} where
 
   pub ring_call_laws : (cap : ℕ) → CallLaws {T = T} (ring_calls cap)
   ring_call_laws cap = record {
-    at_stays = λ g s who j ms was l t o v k es ok ok' ne pass here. at_stays ok ok' ne pass here;
+    at_stays = λ g s who j ms was c ok ok' ne pass here. at_stays ok ok' ne pass here;
     lent_stays = λ g s who j xs ne pass lent. lent_stays who j xs ne pass lent;
     idle_stays = λ g s who j ne pass idle. lent_stays who j [] ne pass idle;
     idle_none = λ g j xs idle lent. lent_none g j xs lent idle;
     idle_lent = λ g j idle. idle;
-    coming = λ g j ms was l t o v k es ok here b. at_coming ok here b;
-    touches = λ g j ms was l t o v k es xs here lent. has_touched cap g j ms was l t o v k es xs here lent;
+    coming = λ g j ms was c ok here b. at_coming ok here b;
+    touches = λ g j ms was c xs here lent. has_touched cap g j ms was c xs here lent;
   }
 
   pub ring_table_laws : (cap : ℕ) → IsRing cap → TableLaws {T = T} (ring_table cap) (cap + STAMPS)
   ring_table_laws cap ring = record {
     calls = ring_call_laws cap;
     below = place_below cap;
-    at_word = λ g j ms was l t o v k es ok here. in_table T cap o (at_word ok here);
-    steps = λ g who n ws hs ms was l t o v k es xs ok coded here lent. ring_steps cap g who n ws hs ms was l t o v k es xs ok coded here lent;
-    takes_off = λ g who n ws hs ms was l t o v k es ok coded here. takes_none cap o (found_by {T = T} (ring_table cap) o (n ∷ ws)) (at_word ok here);
+    at_word = λ g j ms was c ok here. in_table T cap c.op (at_word ok here);
+    steps = λ g who n ws hs ms was c xs ok coded here lent. ring_steps cap g who n ws hs ms was c xs ok coded here lent;
+    takes_off = λ g who n ws hs ms was c ok coded here. takes_none cap c.op (found_by {T = T} (ring_table cap) c.op (n ∷ ws)) (at_word ok here);
     gives = λ spare none. none;
     opens = ring_opens_in cap ring;
     wait_free = ring_wait_free cap;
-    early = λ g j ms was l t o v k es is here. early is.1 here;
+    early = λ g j ms was c is here. early is.1 here;
   }

@@ -11,6 +11,7 @@ use Rattle.queue_steps.specs.Kinds.{call_kind}
 use Rattle.queue_steps.specs.Next.{CanNext, next_of}
 use Rattle.queue_steps.specs.WaitFree.{is_wait_free, EndsBefore, EndsWaitFree}
 use Rattle.law_common.specs.Effects.{Leads, with_effect}
+use Rattle.law_common.specs.Stand.{Stand, stand}
 use Rattle.law_slot.specs.SlotShared.{Shared, one_slot, CanOperate, answered, operated, touched, handed}
 use Rattle.law_slot.specs.SlotHolder.{SlotHolder, Nobody}
 use Rattle.law_slot.specs.SlotRows.{Stands, filling, swapping, taking, At, push_try, push_put, force_try_empty, force_try_full, force_put_empty, force_put_full, pop_try, pop_take, close_try, look_at, Share, fills, swaps, takes as takes_share, Passes, stays, changes, single, Lands, Good}
@@ -132,25 +133,26 @@ module _ {T : Type 0} where
   left_there : (s : Shared T) (o : Op ℕ) (w : ℕ) (x : Option T) → operated s o ≡ one_slot w x → x ≡ s.slot
   left_there s o w x is = sym (ap (λ z. z.slot) is) ∙ slot_operated s o
 
-  from_free : {l : Local ℕ} {o : Op ℕ} {v : Option T} {word : ℕ} {slot : Option T} {h : SlotHolder T} {items : List T} {c : Bool} {k : Call T} {es : List (Effect T)} {n : ℕ} {ms : List (State T)}
-      → (good : Good l Touch.Nothing o v word slot Nobody h items c n k es ms) → Shifts word slot Nobody h good.own' good.h' good.slot' Touch.Nothing v
-  from_free {o = o} {word = word} {slot = slot} {h = h} good = record {
-    moved = takes_slot slot good.slot' Nobody h good.own' good.h' good.passes refl (left_there (one_slot word slot) o good.word' good.slot' good.leaves) good.stands;
-    handed_is = refl;
-  }
+  module _ {word : ℕ} {slot : Option T} {h : SlotHolder T} {items : List T} {c : Bool} {n : ℕ} {ms : List (State T)} where
+    from_free : {l : Local ℕ} {o : Op ℕ} {v : Option T} {k : Call T} {es : List (Effect T)} → (good : Good word slot Nobody h items c n (stand l Touch.Nothing o v k es) ms)
+        → Shifts word slot Nobody h good.own' good.h' good.slot' Touch.Nothing v
+    from_free {o = o} good = record {
+      moved = takes_slot slot good.slot' Nobody h good.own' good.h' good.passes refl (left_there (one_slot word slot) o good.word' good.slot' good.leaves) good.stands;
+      handed_is = refl;
+    }
 
-  from_held : {l : Local ℕ} {t : Touch} {o : Op ℕ} {v : Option T} {word : ℕ} {slot : Option T} {own : SlotHolder T} {items : List T} {c : Bool} {k : Call T} {es : List (Effect T)} {n : ℕ} {ms : List (State T)}
-      → (good : Good l t o v word slot own own items c n k es ms) → Stands word slot own items c → IsHeld own → good.own' ≡ Nobody
-      → touched_list t v (lent_by own) ≡ (0, v) ∷ [] → handed_by t v (lent_by own) ≡ lies_in (lent_by own) → (touched (one_slot word slot) t v).slot ≡ v → handed (one_slot word slot) t v ≡ slot
-      → Shifts word slot own own good.own' good.h' good.slot' t v
-  from_held {t = t} {o = o} {v = v} {word = word} {slot = slot} {own = own} good st held gone list lies put took = record {
+  from_held : {x : Stand T} {word : ℕ} {slot : Option T} {own : SlotHolder T} {items : List T} {c : Bool} {n : ℕ} {ms : List (State T)}
+      → (good : Good word slot own own items c n x ms) → Stands word slot own items c → IsHeld own → good.own' ≡ Nobody
+      → touched_list x.touch x.carried (lent_by own) ≡ (0, x.carried) ∷ [] → handed_by x.touch x.carried (lent_by own) ≡ lies_in (lent_by own) → (touched (one_slot word slot) x.touch x.carried).slot ≡ x.carried → handed (one_slot word slot) x.touch x.carried ≡ slot
+      → Shifts word slot own own good.own' good.h' good.slot' x.touch x.carried
+  from_held {x = x} {word = word} {slot = slot} {own = own} good st held gone list lies put took = record {
     moved = subst (Moved own slot good.h' good.slot' good.own') (sym list)
-        (gives_slot slot good.slot' v own own good.own' good.h' good.passes held gone (left_there (touched (one_slot word slot) t v) o good.word' good.slot' good.leaves ∙ put));
+        (gives_slot slot good.slot' x.carried own own good.own' good.h' good.passes held gone (left_there (touched (one_slot word slot) x.touch x.carried) x.op good.word' good.slot' good.leaves ∙ put));
     handed_is = took ∙ (sym (ap lies_in (held_lent st held)) ∙ sym lies);
   }
 
-  shifts : {l : Local ℕ} {t : Touch} {o : Op ℕ} {v : Option T} {word : ℕ} {slot : Option T} {own h : SlotHolder T} {items : List T} {c : Bool} {k : Call T} {es : List (Effect T)} {n : ℕ} {ms : List (State T)}
-      → At l t o v own k es → Share own h → Stands word slot h items c → (good : Good l t o v word slot own h items c n k es ms) → Shifts word slot own h good.own' good.h' good.slot' t v
+  shifts : {x : Stand T} {word : ℕ} {slot : Option T} {own h : SlotHolder T} {items : List T} {c : Bool} {n : ℕ} {ms : List (State T)}
+      → At x own → Share own h → Stands word slot h items c → (good : Good word slot own h items c n x ms) → Shifts word slot own h good.own' good.h' good.slot' x.touch x.carried
   shifts (push_put v) (fills _) st good = from_held good st tt good.lands.0 refl refl refl refl
   shifts (force_put_empty v) (fills _) st good = from_held good st tt good.lands.0 refl refl refl refl
   shifts (force_put_full old v) (swaps _ _) st good = from_held good st tt good.lands.0 refl refl refl refl
@@ -164,75 +166,76 @@ module _ {T : Type 0} where
 
   -- where the call stands after its step, or that it ends right
   goes_well : (g : Slot T) (who : ℕ) (own : SlotHolder T) (ms : List (State T)) (was : Bool) (x : Next ℕ) (v : Option T) (k : Call T) (es : List (Effect T)) → own ≡ own_in g who → Lands x v own k es ms → Goes slot_calls g who ms was x v k es
-  goes_well g who own ms was (Next.Step l t o) v k es is lands = subst (λ h. At l t o v h k es) is lands
+  goes_well g who own ms was (Next.Step l t o) v k es is lands = subst (At (stand l t o v k es)) is lands
   goes_well g who own ms was (Next.Reply x spare) v k es is lands = let y = lands.2 in (ap lent_by (sym lands.0 ∙ is), lands.1, (y.0, y.1, y.2, λ none. seen_map ms (λ q p. inl p) (y.3 none)))
 
-  -- each step of a call does what the table is owed
-  slot_steps : (g : Slot T) (who n : ℕ) (ws : List ℕ) (hs : List (maybe.Option (Option T))) (ms : List (State T)) (was : Bool) (l : Local ℕ) (t : Touch) (o : Op ℕ) (v : Option T) (k : Call T) (es : List (Effect T)) (xs : List (ℕ × Option T))
-      → SlotCoded g ws hs → At l t o v (own_in g who) k es → Lent g who xs → Stepped slot_table g who n ws hs ms was l t o v k es xs
-  slot_steps g who n ws hs ms was l t o v k es xs (word, slot, stands, words, homes) here lent = record {
-    after = after;
-    words = good.word' ∷ [];
-    effect = good.e;
-    act = moved.act;
-    can_next = subst (λ (a : Answer ℕ). CanNext Kind.Single l a) found_is (can_operate word slot here).2;
-    ok = tt;
-    written = ap (λ (y : List ℕ). set (n ∷ y) 1 (op_makes o (get_or (n ∷ y) 1 0))) words ∙ ap (λ w. n ∷ w ∷ []) made_is;
-    valid = subst (λ (z : List (maybe.Option (Option T)) × List (ℕ × Option T)). Valid z.0 (touched_list t v z.1) moved.act) back moved.valid;
-    coded = (
-      good.word',
-      good.slot',
-      good.stands,
-      refl,
-      ap (λ (z : List (maybe.Option (Option T)) × List (ℕ × Option T)). homes_after z.0 (touched_list t v z.1) moved.act) (sym back) ∙ moved.homes,
-    );
-    lent = ap (λ (z : List (ℕ × Option T)). carried_after (touched_list t v z) moved.act) lent ∙ (moved.lent ∙ ap lent_by own_is);
-    front = no_front g.items g.closed was g.accepted good.e (queue_of after) good.makes;
-    makes = good.makes;
-    passes = λ j ne. own_other good.passes g.keeps.who who j refl ne;
-    goes = subst (λ (z : Answer ℕ × Option T). Goes slot_calls after who (queue_of after ∷ ms) (was || not after.closed) (next_of Kind.Single l z.0) z.1 k (with_effect es good.e)) (λ i. (found_is i, handed_is i))
-        (goes_well after who good.own' (queue_of after ∷ ms) (was || not after.closed) (next_of Kind.Single l (answered touching o)) (handed (one_slot word slot) t v) k (with_effect es good.e) own_is good.lands);
-  }
-    where
-      touching : Shared T
-      touching = touched (one_slot word slot) t v
+  module _ (g : Slot T) (who n : ℕ) (ws : List ℕ) (hs : List (maybe.Option (Option T))) where
+    -- each step of a call does what the table is owed
+    slot_steps : (ms : List (State T)) (was : Bool) (x : Stand T) (xs : List (ℕ × Option T))
+        → SlotCoded g ws hs → At x (own_in g who) → Lent g who xs → Stepped slot_table g who n ws hs ms was x xs
+    slot_steps ms was x xs (word, slot, stands, words, homes) here lent = record {
+      after = after;
+      words = good.word' ∷ [];
+      effect = good.e;
+      act = moved.act;
+      can_next = subst (λ (a : Answer ℕ). CanNext Kind.Single x.local a) found_is (can_operate word slot here).2;
+      ok = tt;
+      written = ap (λ (y : List ℕ). set (n ∷ y) 1 (op_makes x.op (get_or (n ∷ y) 1 0))) words ∙ ap (λ w. n ∷ w ∷ []) made_is;
+      valid = subst (λ (z : List (maybe.Option (Option T)) × List (ℕ × Option T)). Valid z.0 (touched_list x.touch x.carried z.1) moved.act) back moved.valid;
+      coded = (
+        good.word',
+        good.slot',
+        good.stands,
+        refl,
+        ap (λ (z : List (maybe.Option (Option T)) × List (ℕ × Option T)). homes_after z.0 (touched_list x.touch x.carried z.1) moved.act) (sym back) ∙ moved.homes,
+      );
+      lent = ap (λ (z : List (ℕ × Option T)). carried_after (touched_list x.touch x.carried z) moved.act) lent ∙ (moved.lent ∙ ap lent_by own_is);
+      front = no_front g.items g.closed was g.accepted good.e (queue_of after) good.makes;
+      makes = good.makes;
+      passes = λ j ne. own_other good.passes g.keeps.who who j refl ne;
+      goes = subst (λ (z : Answer ℕ × Option T). Goes slot_calls after who (queue_of after ∷ ms) (was || not after.closed) (next_of Kind.Single x.local z.0) z.1 x.call (with_effect x.effects good.e)) (λ i. (found_is i, handed_is i))
+          (goes_well after who good.own' (queue_of after ∷ ms) (was || not after.closed) (next_of Kind.Single x.local (answered touching x.op)) (handed (one_slot word slot) x.touch x.carried) x.call (with_effect x.effects good.e) own_is good.lands);
+    }
+      where
+        touching : Shared T
+        touching = touched (one_slot word slot) x.touch x.carried
 
-      share : Share (own_in g who) g.keeps.hold
-      share = share_of (who == g.keeps.who) g.keeps.hold
+        share : Share (own_in g who) g.keeps.hold
+        share = share_of (who == g.keeps.who) g.keeps.hold
 
-      good : Good l t o v word slot (own_in g who) g.keeps.hold g.items g.closed g.accepted k es ms
-      good = step_good here share stands g.accepted ms
+        good : Good word slot (own_in g who) g.keeps.hold g.items g.closed g.accepted x ms
+        good = step_good here share stands g.accepted ms
 
-      after : Slot T
-      after = record { keeps = record { who = next_who good.passes g.keeps.who who; hold = good.h' }; items = good.items'; closed = good.c'; accepted = good.n' }
+        after : Slot T
+        after = record { keeps = record { who = next_who good.passes g.keeps.who who; hold = good.h' }; items = good.items'; closed = good.c'; accepted = good.n' }
 
-      shifted : Shifts word slot (own_in g who) g.keeps.hold good.own' good.h' good.slot' t v
-      shifted = shifts here share stands good
+        shifted : Shifts word slot (own_in g who) g.keeps.hold good.own' good.h' good.slot' x.touch x.carried
+        shifted = shifts here share stands good
 
-      moved : Moved g.keeps.hold slot good.h' good.slot' good.own' (touched_list t v (lent_by (own_in g who)))
-      moved = shifted.moved
+        moved : Moved g.keeps.hold slot good.h' good.slot' good.own' (touched_list x.touch x.carried (lent_by (own_in g who)))
+        moved = shifted.moved
 
-      own_is : good.own' ≡ own_in after who
-      own_is = own_self good.passes g.keeps.who who refl
+        own_is : good.own' ≡ own_in after who
+        own_is = own_self good.passes g.keeps.who who refl
 
-      back : ◌≡◌ {A = List (maybe.Option (Option T)) × List (ℕ × Option T)} (home_under g.keeps.hold slot ∷ [], lent_by (own_in g who)) (hs, xs)
-      back = λ i. (sym homes i, sym lent i)
+        back : ◌≡◌ {A = List (maybe.Option (Option T)) × List (ℕ × Option T)} (home_under g.keeps.hold slot ∷ [], lent_by (own_in g who)) (hs, xs)
+        back = λ i. (sym homes i, sym lent i)
 
-      lock_is : touching.lock ≡ word
-      lock_is = lock_touched word slot t v
+        lock_is : touching.lock ≡ word
+        lock_is = lock_touched word slot x.touch x.carried
 
-      found_is : answered touching o ≡ answer_for o (get_or (n ∷ ws) 1 0)
-      found_is = lock_answered touching o (at_lock here) ∙ (ap (answer_for o) lock_is ∙ ap (λ (y : List ℕ). answer_for o (get_or (n ∷ y) 1 0)) (sym words))
+        found_is : answered touching x.op ≡ answer_for x.op (get_or (n ∷ ws) 1 0)
+        found_is = lock_answered touching x.op (at_lock here) ∙ (ap (answer_for x.op) lock_is ∙ ap (λ (y : List ℕ). answer_for x.op (get_or (n ∷ y) 1 0)) (sym words))
 
-      made_is : op_makes o word ≡ good.word'
-      made_is = ap (op_makes o) (sym lock_is) ∙ (sym (lock_operated touching o (at_lock here)) ∙ ap (λ z. z.lock) good.leaves)
+        made_is : op_makes x.op word ≡ good.word'
+        made_is = ap (op_makes x.op) (sym lock_is) ∙ (sym (lock_operated touching x.op (at_lock here)) ∙ ap (λ z. z.lock) good.leaves)
 
-      handed_is : handed (one_slot word slot) t v ≡ handed_by t v xs
-      handed_is = shifted.handed_is ∙ ap (handed_by t v) (sym lent)
+        handed_is : handed (one_slot word slot) x.touch x.carried ≡ handed_by x.touch x.carried xs
+        handed_is = shifted.handed_is ∙ ap (handed_by x.touch x.carried) (sym lent)
 
   -- a call that unlocks the slot has the lock, whose bit is then in the word
-  unlocks : {l : Local ℕ} {t : Touch} {o : Op ℕ} {v : Option T} {word : ℕ} {slot : Option T} {own h : SlotHolder T} {items : List T} {c : Bool} {k : Call T} {es : List (Effect T)}
-      → At l t o v own k es → Share own h → Stands word slot h items c → TakesOff o word
+  unlocks : {x : Stand T} {word : ℕ} {slot : Option T} {own h : SlotHolder T} {items : List T} {c : Bool}
+      → At x own → Share own h → Stands word slot h items c → TakesOff x.op word
   unlocks (push_put v) (fills _) (filling true _) = refl
   unlocks (force_put_empty v) (fills _) (filling true _) = refl
   unlocks (force_put_full old v) (swaps _ _) (swapping true _ _) = refl
@@ -245,46 +248,46 @@ module _ {T : Type 0} where
   unlocks (look_at l) share st = tt
   unlocks x share st = refl
 
-  slot_takes_off : (g : Slot T) (who n : ℕ) (ws : List ℕ) (hs : List (maybe.Option (Option T))) (l : Local ℕ) (t : Touch) (o : Op ℕ) (v : Option T) (k : Call T) (es : List (Effect T))
-      → SlotCoded g ws hs → At l t o v (own_in g who) k es → TakesOff o (get_or (n ∷ ws) 1 0)
-  slot_takes_off g who n ws hs l t o v k es (word, slot, stands, words, homes) here =
-      subst (λ (y : List ℕ). TakesOff o (get_or (n ∷ y) 1 0)) (sym words) (unlocks here (share_of (who == g.keeps.who) g.keeps.hold) stands)
+  slot_takes_off : (g : Slot T) (who n : ℕ) (ws : List ℕ) (hs : List (maybe.Option (Option T))) (x : Stand T)
+      → SlotCoded g ws hs → At x (own_in g who) → TakesOff x.op (get_or (n ∷ ws) 1 0)
+  slot_takes_off g who n ws hs x (word, slot, stands, words, homes) here =
+      subst (λ (y : List ℕ). TakesOff x.op (get_or (n ∷ y) 1 0)) (sym words) (unlocks here (share_of (who == g.keeps.who) g.keeps.hold) stands)
 
   -- the first step of a party that has nothing of the lock
-  first_at : (g : Slot T) (j : ℕ) (l : Local ℕ) (t : Touch) (o : Op ℕ) (v : Option T) (k : Call T) → Lent g j [] → At l t o v Nobody k [] → At l t o v (own_in g j) k []
-  first_at g j l t o v k none here = subst (λ h. At l t o v h k []) (sym (nobody_if (own_in g j) none)) here
+  first_at : (g : Slot T) (j : ℕ) {x : Stand T} → Lent g j [] → At x Nobody → At x (own_in g j)
+  first_at g j {x = x} none here = subst (At x) (sym (nobody_if (own_in g j) none)) here
 
   slot_opens_in : (c : Call T) → OpensIn slot_table c
-  slot_opens_in (Call.Push v) = (tt, (refl, tt, λ g j none. first_at g j _ _ _ _ _ none (push_try v)))
-  slot_opens_in (Call.ForcePush v) = (tt, (refl, tt, λ g j none. first_at g j _ _ _ _ _ none (force_try_empty v)))
-  slot_opens_in Call.Pop = (tt, (refl, tt, λ g j none. first_at g j _ _ _ _ _ none (pop_try false)))
-  slot_opens_in Call.Close = (tt, (refl, tt, λ g j none. first_at g j _ _ _ _ _ none close_try))
-  slot_opens_in Call.IsClosed = (tt, (refl, tt, λ g j none. first_at g j _ _ _ _ _ none (look_at Look.IsClosed)))
-  slot_opens_in Call.IsEmpty = (tt, (refl, tt, λ g j none. first_at g j _ _ _ _ _ none (look_at Look.IsEmpty)))
-  slot_opens_in Call.IsFull = (tt, (refl, tt, λ g j none. first_at g j _ _ _ _ _ none (look_at Look.IsFull)))
-  slot_opens_in Call.Len = (tt, (refl, tt, λ g j none. first_at g j _ _ _ _ _ none (look_at Look.Len)))
+  slot_opens_in (Call.Push v) = (tt, (refl, tt, λ g j none. first_at g j none (push_try v)))
+  slot_opens_in (Call.ForcePush v) = (tt, (refl, tt, λ g j none. first_at g j none (force_try_empty v)))
+  slot_opens_in Call.Pop = (tt, (refl, tt, λ g j none. first_at g j none (pop_try false)))
+  slot_opens_in Call.Close = (tt, (refl, tt, λ g j none. first_at g j none close_try))
+  slot_opens_in Call.IsClosed = (tt, (refl, tt, λ g j none. first_at g j none (look_at Look.IsClosed)))
+  slot_opens_in Call.IsEmpty = (tt, (refl, tt, λ g j none. first_at g j none (look_at Look.IsEmpty)))
+  slot_opens_in Call.IsFull = (tt, (refl, tt, λ g j none. first_at g j none (look_at Look.IsFull)))
+  slot_opens_in Call.Len = (tt, (refl, tt, λ g j none. first_at g j none (look_at Look.Len)))
   slot_opens_in Call.Capacity = (tt, (refl, (Reply.Capacity (Some 1), refl, refl, λ m is. sym is)))
 
   slot_call_laws : CallLaws {T = T} slot_calls
   slot_call_laws = record {
-    at_stays = λ g s who j ms was l t o v k es ok ok' ne pass here. at_stays g s who j ne pass here;
+    at_stays = λ g s who j ms was c ok ok' ne pass here. at_stays g s who j ne pass here;
     lent_stays = λ g s who j xs ne pass lent. lent_stays g s who j xs ne pass lent;
     idle_stays = λ g s who j ne pass idle. lent_stays g s who j [] ne pass idle;
     idle_none = λ g j xs idle lent. lent ∙ sym idle;
     idle_lent = λ g j idle. idle;
-    coming = λ g j ms was l t o v k es ok here b. absurd (at_whole here b);
-    touches = λ g j ms was l t o v k es xs here lent i e. let h = at_touches i here e in (h.0, lent ∙ h.1);
+    coming = λ g j ms was c ok here b. absurd (at_whole here b);
+    touches = λ g j ms was c xs here lent i e. let h = at_touches i here e in (h.0, lent ∙ h.1);
   }
 
   pub slot_table_laws : TableLaws {T = T} slot_table 2
   slot_table_laws = record {
     calls = slot_call_laws;
     below = λ w has. omega arith;
-    at_word = λ g j ms was l t o v k es ok here. in_table T o (at_lock here);
-    steps = λ g who n ws hs ms was l t o v k es xs ok coded here lent. slot_steps g who n ws hs ms was l t o v k es xs coded here lent;
-    takes_off = λ g who n ws hs ms was l t o v k es ok coded here. slot_takes_off g who n ws hs l t o v k es coded here;
+    at_word = λ g j ms was c ok here. in_table T c.op (at_lock here);
+    steps = λ g who n ws hs ms was c xs ok coded here lent. slot_steps g who n ws hs ms was c xs coded here lent;
+    takes_off = λ g who n ws hs ms was c ok coded here. slot_takes_off g who n ws hs c coded here;
     gives = λ spare none. none;
     opens = slot_opens_in;
     wait_free = slot_wait_free;
-    early = λ g j ms was l t o v k es is here. let h = early is.0 here in (h.0, sym (ap lent_by h.1), h.2);
+    early = λ g j ms was c is here. let h = early is.0 here in (h.0, sym (ap lent_by h.1), h.2);
   }

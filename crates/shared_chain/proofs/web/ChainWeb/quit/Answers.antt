@@ -1,9 +1,6 @@
-use Rattle.std.proofs.Common.{rules, lit<, ◌∙◌, sym, ap, subst}
+use Rattle.std.proofs.Common.{lit<, sym, subst}
 use denote.RawPtr.{InBlock}
-use Rattle.law_chain.specs.ChainPasses.{spare_in}
-use Rattle.shared_parties.specs.Quitting.{its_call}
-use Rattle.shared_chain.proofs.Quits.{gives_up, carries_spare, carries_none}
-use Rattle.shared_chain.proofs.Turns.{sits_still}
+use Rattle.shared_chain.proofs.Quits.{gives_up}
 use Rattle.shared_chain.proofs.web.ChainWeb.quit.Goals as goal
 
 pub load-requires : goal.load-requires
