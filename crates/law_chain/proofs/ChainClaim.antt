@@ -12,7 +12,7 @@ use Rattle.law_common.proofs.Puts.{put_ok, put_same}
 use Rattle.law_common.proofs.Tails.{shut_tail}
 use Rattle.law_common.specs.Pushes.{pushes}
 use Rattle.law_common.proofs.Pushes.{closed_push, appended_push}
-use Rattle.law_chain.specs.ChainCells.{Writing, Rests, Laying, Opening, LinkState, Unlinked, Linking, Linked, Showing, Spare, Chain, queue_of, BlocksOk, LinkOk, ChainOk, Write, Tail, Next, First, mover_of, Holds, Nothing}
+use Rattle.law_chain.specs.ChainCells.{Writing, Rests, Laying, Opening, LinkState, Unlinked, Linking, Showing, Spare, Chain, queue_of, BlocksOk, LinkOk, ChainOk, Write, Tail, Next, First, mover_of, Holds, Nothing}
 use Rattle.law_chain.specs.ChainTransitions as moves
 use Rattle.law_chain.proofs.ChainTransitions.{append_ok, append_within, append_last, install_ok, display_ok, lay_ok, open_ok, chain_ok, write_ok, mark_ok}
 use Rattle.law_chain.specs.ChainPasses.{Passes}

@@ -48,9 +48,7 @@ IsReplying (Next.Reply x spare) = Unit {0}
 pub wait_free_ends : {T : Type 0} {l : Local ℕ} {t : Touch} {o : Op ℕ} {v : Option T} {own : SlotHolder T} {k : Call T} {es : List (Effect T)} (word : ℕ) (slot : Option T)
     → At l t o v own k es → is_wait_free k ≡ true → IsReplying (next_of Kind.Single l (answered (touched (one_slot word slot) t v) o))
 wait_free_ends word slot close_try e = tt
-wait_free_ends word slot (look_at Look.IsClosed) e = tt
-wait_free_ends word slot (look_at Look.IsEmpty) e = tt
-wait_free_ends word slot (look_at Look.IsFull) e = tt
+wait_free_ends word slot (look_at l) e = tt
 wait_free_ends word slot x e = cc
 
 -- the step touches the one slot and the one word, and its answer is what the call waits for
