@@ -2,8 +2,6 @@
 use Rattle.std.specs.Prelude.{◌≡◌, Option, Some}
 use Rattle.queue_steps.specs.declared.model.Call.{Call}
 use Rattle.queue_steps.specs.declared.model.Reply.{Reply}
-use Rattle.queue_steps.specs.declared.model.Call.TheVariants as call
-use Rattle.queue_steps.specs.declared.model.Reply.TheVariants as reply
 use Rattle.queue_steps.specs.Kinds.{call_kind, call_value, filled}
 use Rattle.queue_steps.specs.Sequential.{Owned, Sequential}
 
@@ -22,15 +20,3 @@ AnswersApart {T} P c r y R = (reply : Reply T) × (filled r y ≡ Some reply) ×
 -- so does the call of the kind k that carries x
 abbrev pub SequentialApart : {T : Type 0} → Owned T → Call Unit → Option T → Reply Unit → Option T → Owned T → Type 0
 SequentialApart {T} P k x r y R = (c : Call T) → IsCall k x c → AnswersApart P c r y R
-
--- the call that such a reply answers
-abbrev pub answered : {T : Type 0} → Reply T → Call Unit
-answered (reply.Push r) = call.Push tt
-answered (reply.ForcePush r) = call.ForcePush tt
-answered (reply.Pop r) = call.Pop
-answered (reply.Close b) = call.Close
-answered (reply.IsClosed b) = call.IsClosed
-answered (reply.IsEmpty b) = call.IsEmpty
-answered (reply.IsFull b) = call.IsFull
-answered (reply.Len n) = call.Len
-answered (reply.Capacity n) = call.Capacity

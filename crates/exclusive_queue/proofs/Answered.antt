@@ -8,9 +8,9 @@ use Rattle.queue_steps.specs.declared.model.Reply.{Reply}
 use Rattle.queue_steps.specs.declared.model.Reply.TheVariants as reply
 use Rattle.queue_steps.specs.declared.errors.PushError.TheVariants as push
 use Rattle.queue_steps.specs.declared.errors.ForcePushError.TheVariants as force
-use Rattle.queue_steps.specs.Kinds.{call_kind, filled}
+use Rattle.queue_steps.specs.Kinds.{call_kind, answered, filled}
 use Rattle.queue_steps.specs.Sequential.{Owned, Sequential, is_spent}
-use Rattle.call_driver.specs.Apart.{answered, AnswersApart}
+use Rattle.call_driver.specs.Apart.{AnswersApart}
 
 -- a reply that is filled, if it is, answers the call that its kind answers
 abbrev Keeps : {T : Type 0} → Option (Reply T) → Call Unit → Type 0
@@ -38,18 +38,8 @@ filled-keeps (reply.Pop (Ok u)) None = tt
 filled-keeps (reply.Pop (Ok u)) (Some v) = refl
 filled-keeps (reply.Pop (Err e)) None = refl
 filled-keeps (reply.Pop (Err e)) (Some v) = tt
-filled-keeps (reply.Close b) None = refl
-filled-keeps (reply.Close b) (Some v) = tt
-filled-keeps (reply.IsClosed b) None = refl
-filled-keeps (reply.IsClosed b) (Some v) = tt
-filled-keeps (reply.IsEmpty b) None = refl
-filled-keeps (reply.IsEmpty b) (Some v) = tt
-filled-keeps (reply.IsFull b) None = refl
-filled-keeps (reply.IsFull b) (Some v) = tt
-filled-keeps (reply.Len n) None = refl
-filled-keeps (reply.Len n) (Some v) = tt
-filled-keeps (reply.Capacity n) None = refl
-filled-keeps (reply.Capacity n) (Some v) = tt
+filled-keeps r None = refl
+filled-keeps r (Some v) = tt
 
 picks : {T : Type 0} (k : Call Unit) (a b d : Bool) (o p q r : Reply T × State T) → answered o.0 ≡ k → answered p.0 ≡ k → answered q.0 ≡ k → answered r.0 ≡ k
     → answered (if a then o else (if b then p else (if d then q else r))).0 ≡ k
@@ -62,38 +52,10 @@ picks k false false false o p q r is_o is_p is_q is_r = is_r
 sequential-answered : {T : Type 0} (P R : Owned T) (c : Call T) (x : Reply T) → Sequential P c x R → answered x ≡ call_kind c
 sequential-answered P R (call.Push v) x (inl s) = ap answered s.0 ∙ picks (call.Push tt) P.queue.closed (is_spent P.queue) (is_full P.queue) _ _ _ _ refl refl refl refl
 sequential-answered P R (call.ForcePush v) x (inl s) = ap answered s.0 ∙ picks (call.ForcePush tt) P.queue.closed (is_spent P.queue) (is_full P.queue) _ _ _ _ refl refl refl refl
-sequential-answered P R call.Pop x (inl s) = ap answered s.0
-sequential-answered P R call.Close x (inl s) = ap answered s.0
-sequential-answered P R call.IsClosed x (inl s) = ap answered s.0
-sequential-answered P R call.IsEmpty x (inl s) = ap answered s.0
-sequential-answered P R call.IsFull x (inl s) = ap answered s.0
-sequential-answered P R call.Len x (inl s) = ap answered s.0
-sequential-answered P R call.Capacity x (inl s) = ap answered s.0
-sequential-answered P R call.Pop x (inr s) = absurd s.0
-sequential-answered P R call.Close x (inr s) = absurd s.0
-sequential-answered P R call.IsClosed x (inr s) = absurd s.0
-sequential-answered P R call.IsEmpty x (inr s) = absurd s.0
-sequential-answered P R call.IsFull x (inr s) = absurd s.0
-sequential-answered P R call.Len x (inr s) = absurd s.0
-sequential-answered P R call.Capacity x (inr s) = absurd s.0
+sequential-answered P R c x (inl s) = ap answered s.0
 sequential-answered P R (call.Push v) (reply.Push x) (inr s) = refl
-sequential-answered P R (call.Push v) (reply.ForcePush x) (inr s) = absurd s.0
-sequential-answered P R (call.Push v) (reply.Pop x) (inr s) = absurd s.0
-sequential-answered P R (call.Push v) (reply.Close x) (inr s) = absurd s.0
-sequential-answered P R (call.Push v) (reply.IsClosed x) (inr s) = absurd s.0
-sequential-answered P R (call.Push v) (reply.IsEmpty x) (inr s) = absurd s.0
-sequential-answered P R (call.Push v) (reply.IsFull x) (inr s) = absurd s.0
-sequential-answered P R (call.Push v) (reply.Len x) (inr s) = absurd s.0
-sequential-answered P R (call.Push v) (reply.Capacity x) (inr s) = absurd s.0
-sequential-answered P R (call.ForcePush v) (reply.Push x) (inr s) = absurd s.0
 sequential-answered P R (call.ForcePush v) (reply.ForcePush x) (inr s) = refl
-sequential-answered P R (call.ForcePush v) (reply.Pop x) (inr s) = absurd s.0
-sequential-answered P R (call.ForcePush v) (reply.Close x) (inr s) = absurd s.0
-sequential-answered P R (call.ForcePush v) (reply.IsClosed x) (inr s) = absurd s.0
-sequential-answered P R (call.ForcePush v) (reply.IsEmpty x) (inr s) = absurd s.0
-sequential-answered P R (call.ForcePush v) (reply.IsFull x) (inr s) = absurd s.0
-sequential-answered P R (call.ForcePush v) (reply.Len x) (inr s) = absurd s.0
-sequential-answered P R (call.ForcePush v) (reply.Capacity x) (inr s) = absurd s.0
+sequential-answered P R c x (inr s) = absurd s.0
 
 -- the kind of the reply tells the call
 pub apart-answered : {T : Type 0} (P R : Owned T) (c : Call T) (r : Reply Unit) (y : Option T) → AnswersApart P c r y R → answered r ≡ call_kind c

@@ -2,10 +2,9 @@
 //!
 //! In a `Reply` the value lies at one place for a push and at another for a pop, and a value that may lie at either is copied word by word. So each call has a filling of its own, which knows the replies of that call alone.
 ghost use Rattle.std.specs.Prelude.{◌≡◌, IsSome, Some};
-ghost use Rattle.queue_steps.specs.Kinds.{filled};
+ghost use Rattle.queue_steps.specs.Kinds.{answered, filled};
 ghost use Rattle.queue_steps.specs.declared.model.Call.{Call as SpecCall};
 ghost use Rattle.queue_steps.specs.declared.model.Call.TheVariants as call;
-ghost use Rattle.call_driver.specs.Apart.{answered};
 
 use queue_steps::errors::{ForcePushError, PushError};
 use queue_steps::model::{Reply, ReplyKind};

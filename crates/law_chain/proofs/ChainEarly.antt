@@ -8,7 +8,7 @@ use Rattle.law_common.specs.Stand.{Stand}
 use Rattle.law_chain.specs.ChainCells.{Chain, Holds, Nothing}
 use Rattle.law_chain.specs.ChainPasses.{spare_in}
 use Rattle.law_chain.specs.ChainEarly.{IsEarly, IsBound, IsPush}
-use Rattle.law_chain.specs.ChainAt.{At, push_tail, push_block, asking, installing, showing, claiming, laying, opening, chaining, writing, spending, pop_head, pop_block, pop_tail, taking, following, peeking, passing, entering, awaiting, reading, beginning, walking, destroying, len_tail, len_head, len_again, empty_head, empty_tail, closing, closed_tail}
+use Rattle.law_chain.specs.ChainAt.{At, push_tail, push_block, asking, installing, showing, claiming, laying, opening, chaining, writing, spending, pop_head, pop_block, pop_tail, taking, len_tail, len_head, len_again, empty_head, empty_tail, closing, closed_tail}
 use Rattle.law_chain.proofs.ChainGood.{GivesUp, spare_gives}
 
 pushed : {A : Type 0} (d : PushKind) (v : A) → Some v ≡ call_value (pushes d v)
@@ -21,26 +21,12 @@ early {c = c} {who = who} is (push_tail d v spare none has) = (refl, none, spare
 early {c = c} {who = who} is (push_block d v spare q none has saw) = (refl, none, spare_gives c who spare has, pushed d v)
 early is (asking d v q block none saw asked) = (refl, none, tt, pushed d v)
 early is (installing d v f none saw fresh) = (refl, none, inl fresh, pushed d v)
-early is (showing d v name first saw shown named) = absurd (let f : false ≡ true = is in cc)
 early {c = c} {who = who} is (claiming d v q name spare none has saw block enough) = (refl, none, spare_gives c who spare has, pushed d v)
-early is (laying d v n name f holds mine lays fresh) = absurd (let f : false ≡ true = is in cc)
-early is (opening d v n name f holds mine opens links named) = absurd (let f : false ≡ true = is in cc)
-early is (chaining d v n name f holds mine links named) = absurd (let f : false ≡ true = is in cc)
-early is (writing d v n name spare holds mine has) = absurd (let f : false ≡ true = is in cc)
 early {c = c} {who = who} is (spending d v spare none has spent) = (refl, none, spare_gives c who spare has, pushed d v)
 early is (pop_head none) = (refl, none, tt, refl)
 early is (pop_block n more none front there) = (refl, none, tt, refl)
 early is (pop_tail n block none front read) = (refl, none, tt, refl)
 early is (taking n name after more new none front there low word_is room) = (refl, none, tt, refl)
-early is (following x n name more holds got pass) = absurd (let f : false ≡ true = is in cc)
-early is (peeking x n name after more holds got pass behind) = absurd (let f : false ≡ true = is in cc)
-early is (passing x n name after more further holds got pass behind room) = absurd (let f : false ≡ true = is in cc)
-early is (entering x n name more further holds got enters room) = absurd (let f : false ≡ true = is in cc)
-early is (awaiting x n name more holds got) = absurd (let f : false ≡ true = is in cc)
-early is (reading x n name more holds got wrote inner) = absurd (let f : false ≡ true = is in cc)
-early is (beginning x n name more holds got wrote last) = absurd (let f : false ≡ true = is in cc)
-early is (walking x b name slot holds at named) = absurd (let f : false ≡ true = is in cc)
-early is (destroying x b name slot holds at named) = absurd (let f : false ≡ true = is in cc)
 early is (len_tail none) = (refl, none, tt, refl)
 early is (len_head t none word low) = (refl, none, tt, refl)
 early is (len_again t h none words seen) = (refl, none, tt, refl)
@@ -48,6 +34,7 @@ early is (empty_head none) = (refl, none, tt, refl)
 early is (empty_tail h none word saw) = (refl, none, tt, refl)
 early is (closing none) = (refl, none, tt, refl)
 early is (closed_tail none) = (refl, none, tt, refl)
+early is x = absurd (let f : false ≡ true = is in cc)
 
 -- a push waits for no item
 pub unbound : {A : Type 0} {c : Chain A} {who : ℕ} {ms : List (State A)} {k : Stand A} → IsPush k.call → At c who ms k → ¬ (IsBound k.local)

@@ -1,6 +1,7 @@
 -- The ways in which a reply stands for effects: with none, one, or a front and its arrive.
 use Rattle.std.proofs.Common.{◌≡◌, inl, inr, true, false, List, [], ◌∷◌, Some, None, Ok, Err, refl, sym, subst}
 use Rattle.queue_steps.specs.Replies.{Tells}
+use Rattle.queue_steps.proofs.LookLaws.{look_tells}
 use Rattle.law_common.specs.Vocabulary.{Call, Reply, Effect, PushError, ForcePushError}
 
 -- the effects of the call c that is answered r
@@ -36,9 +37,8 @@ module _ {T : Type 0} where
   tells_as Call.Pop (Reply.Pop (Err why)) es t = is_nothing _ _ es t
   tells_as Call.Close (Reply.Close true) es t = subst (TellsAs Call.Close (Reply.Close true)) (sym t) (close refl refl)
   tells_as Call.Close (Reply.Close false) es t = is_nothing _ _ es t
-  tells_as Call.IsClosed (Reply.IsClosed b) es t = is_nothing _ _ es t
-  tells_as Call.IsEmpty (Reply.IsEmpty b) es t = is_nothing _ _ es t
-  tells_as Call.IsFull (Reply.IsFull b) es t = is_nothing _ _ es t
-  tells_as Call.Len (Reply.Len n) es t = is_nothing _ _ es t
-  tells_as Call.Capacity (Reply.Capacity n) es t = is_nothing _ _ es t
-  tells_as _ _ es t = absurd t
+  tells_as (Call.Push v) _ es t = absurd t
+  tells_as (Call.ForcePush v) _ es t = absurd t
+  tells_as Call.Pop _ es t = absurd t
+  tells_as Call.Close _ es t = absurd t
+  tells_as look r es t = is_nothing _ _ es (look_tells look r es tt t)

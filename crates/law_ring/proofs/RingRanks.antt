@@ -10,7 +10,7 @@ use Rattle.law_common.proofs.Ranks.{either_small, either_some}
 use Rattle.law_common.proofs.Pushes.{never_push}
 use Rattle.law_common.specs.Stand.{Stand}
 use Rattle.law_ring.specs.RingCells.{Ring}
-use Rattle.law_ring.specs.RingAt.{At, push_tail, push_stamp, claiming, filling, push_head, displacing, arriving, swapping, spending, pop_head, pop_stamp, taking, emptying, pop_tail, len_tail, len_head, len_again, empty_head, empty_tail, full_tail, full_head, closing, closed_tail}
+use Rattle.law_ring.specs.RingAt.{At, push_stamp, claiming, push_head, displacing, pop_stamp, taking, pop_tail, len_head, len_again}
 
 -- how many steps a call takes from here at most: what it read may be stale, and is not once it has read again
 abbrev pub rank : {A : Type 0} → ℕ → Ring A → Local ℕ → ℕ
@@ -66,26 +66,13 @@ rank_some cap r l = omega arith
 -- how many steps a wait-free call has before it does not hang on the ring
 pub wait_free_rank : {A : Type 0} {cap : ℕ} {r : Ring A} {who : ℕ} {ms : List (State A)} {was : Bool} {c : Stand A} (s : Ring A)
     → At cap r who ms was c → is_wait_free c.call ≡ true → rank cap s c.local ≡ rank cap r c.local
-wait_free_rank {cap = cap} {r = r} s (push_tail d v none) e = refl
 wait_free_rank {cap = cap} {r = r} s (push_stamp d v t none saw) e = absurd (never_push d v e)
 wait_free_rank {cap = cap} {r = r} s (claiming d v t none saw free) e = absurd (never_push d v e)
-wait_free_rank s (filling d v q one) e = refl
 wait_free_rank s (push_head v t none saw) e = cc
 wait_free_rank s (displacing v t h none saw back full) e = cc
-wait_free_rank s (arriving old v t h below back one) e = refl
-wait_free_rank s (swapping old v h one) e = refl
-wait_free_rank s (spending d v none high) e = refl
-wait_free_rank s (pop_head none) e = refl
 wait_free_rank s (pop_stamp h none low) e = cc
 wait_free_rank s (taking h none low full) e = cc
-wait_free_rank s (emptying x h one) e = refl
 wait_free_rank s (pop_tail h none low free) e = cc
-wait_free_rank s (len_tail none) e = refl
 wait_free_rank s (len_head t none low) e = cc
 wait_free_rank s (len_again t h none seen) e = cc
-wait_free_rank s (empty_head none) e = refl
-wait_free_rank s (empty_tail h none saw) e = refl
-wait_free_rank s (full_tail none) e = refl
-wait_free_rank s (full_head t none saw) e = refl
-wait_free_rank s (closing none) e = refl
-wait_free_rank s (closed_tail none) e = refl
+wait_free_rank s x e = refl

@@ -49,9 +49,7 @@ IsReplying (Next.Reply x spare) = Unit {0}
 pub wait_free_ends : {T : Type 0} {x : Stand T} {own : SlotHolder T} (word : ℕ) (slot : Option T)
     → At x own → is_wait_free x.call ≡ true → IsReplying (next_of Kind.Single x.local (answered (touched (one_slot word slot) x.touch x.carried) x.op))
 wait_free_ends word slot close_try e = tt
-wait_free_ends word slot (look_at Look.IsClosed) e = tt
-wait_free_ends word slot (look_at Look.IsEmpty) e = tt
-wait_free_ends word slot (look_at Look.IsFull) e = tt
+wait_free_ends word slot (look_at l) e = tt
 wait_free_ends word slot x e = cc
 
 -- the step touches the one slot and the one word, and its answer is what the call waits for

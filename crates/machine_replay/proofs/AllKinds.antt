@@ -33,12 +33,10 @@ laws_of T Kind.Unbounded has = chain_laws T
 
 -- every call can begin
 can_start : {T : Type 0} (k : Kind) → HasMachine k → (c : Call T) → CanStart k c
-can_start Kind.Single has Call.Capacity = record { goes_on = tt; replies = refl }
-can_start (Kind.Bounded n) has Call.Capacity = record { goes_on = has; replies = refl }
-can_start Kind.Unbounded has Call.IsFull = record { goes_on = tt; replies = refl }
-can_start Kind.Unbounded has Call.Capacity = record { goes_on = tt; replies = refl }
-can_start (Kind.Bounded n) has c = record { goes_on = has; replies = tt }
-can_start k has c = record { goes_on = tt; replies = tt }
+can_start Kind.Single has (Call.Push v) = record { goes_on = has; replies = tt }
+can_start (Kind.Bounded n) has (Call.Push v) = record { goes_on = has; replies = tt }
+can_start Kind.Unbounded has (Call.Push v) = record { goes_on = has; replies = tt }
+can_start k has c = record { goes_on = has; replies = assumption }
 
 -- what is known after these events, of a queue of any kind
 pub record Known {T : Type 0} (k : Kind) (parties : ℕ) (past : List (Event T)) (told : List (Told T)) (w : World (Shared T) (Running T)) (peak : Peak) : Type 0 where

@@ -217,13 +217,9 @@ module _ (T : Type 0) (cap : Option ℕ) (parties : ℕ) (events : List (Event T
 
   -- a call without steps is answered alike
   no_steps_calm : IsHistory cap (effects_in H) → Rising 0 H → (n : ℕ) (c : Call T) → (limit : Option ℕ) → cap ≡ limit → has_steps limit c ≡ false → IsGlance c → (state_before cap H n).coming ≡ None
-  no_steps_calm legal up n Call.IsFull None same none glance = none_uncapped legal up n same
-  no_steps_calm legal up n Call.IsFull (Some k) same none glance = cc
-  no_steps_calm legal up n Call.IsEmpty None same none glance = cc
-  no_steps_calm legal up n Call.IsEmpty (Some k) same none glance = cc
-  no_steps_calm legal up n Call.Len None same none glance = cc
-  no_steps_calm legal up n Call.Len (Some k) same none glance = cc
-  no_steps_calm legal up n c limit same none glance = absurd glance
+  no_steps_calm legal up n c None same none glance = none_uncapped legal up n same
+  no_steps_calm legal up n Call.Capacity (Some k) same none glance = absurd glance
+  no_steps_calm legal up n c (Some k) same none glance = cc
 
   -- a call without steps asks for no block
   needs_none : (c : Call T) (limit : Option ℕ) (x : Reply T) (Q : State T) → has_steps limit c ≡ false → Allows c x Q → IsRightAt Q c x

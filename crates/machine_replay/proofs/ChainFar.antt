@@ -11,7 +11,7 @@ use Rattle.law_common.proofs.Ranks.{either_small}
 use Rattle.law_common.specs.Stand.{Stand}
 use Rattle.law_chain.specs.ChainCells.{Shown, Seen, Chain, ChainOk, ShownOk, LAST}
 use Rattle.law_chain.specs.ChainAnswers.{tail_word, head_word, shown_of}
-use Rattle.law_chain.specs.ChainAt.{At, push_tail, push_block, asking, installing, showing, claiming, laying, opening, chaining, writing, spending, pop_head, pop_block, pop_tail, taking, following, peeking, passing, entering, awaiting, reading, beginning, walking, destroying, len_tail, len_head, len_again, empty_head, empty_tail, closing, closed_tail}
+use Rattle.law_chain.specs.ChainAt.{At, push_tail, push_block, asking, installing, showing, claiming, laying, opening, chaining, writing, spending, pop_block, pop_tail, taking, reading, walking, destroying, len_head, len_again}
 use Rattle.law_chain.specs.ChainFacts.{head_of, open_tail_of}
 use Rattle.law_chain.proofs.ChainAnswers.{head_offset}
 use Rattle.law_chain.proofs.ChainRanks.{rank, lag, walk_rank, is_seen}
@@ -114,39 +114,21 @@ inner_low n i e ne = elim (eqb_tells (n % BLOCK_SLOTS + 1) BLOCK_SLOTS) [ inl t 
 pub bounded : {A : Type 0} {c : Chain A} {who : ℕ} {ms : List (State A)} {k : Stand A} (tail head : ℕ) → At c who ms k → ChainOk c
     → (one_of_pop k.local < far_at tail head k.local) × (far_at tail head k.local ≤ BLOCK_SLOTS + 10 + one_of_pop k.local)
 unfolding far_at one_of_pop
-bounded tail head (push_tail d v spare none spare_is) ok = (omega arith, omega arith)
 bounded tail head (push_block d v spare q none spare_is saw) ok = let x = lag_most tail (open_tail_of q) 5 in (omega arith, omega arith)
 bounded tail head (asking d v q None none saw asked) ok = (omega arith, omega arith)
 bounded tail head (asking d v q (Some block) none saw asked) ok = let x = lag_most tail (open_tail_of q) 5 in (omega arith, omega arith)
-bounded tail head (installing d v f none saw fresh) ok = (omega arith, omega arith)
 bounded tail head (showing d v name first saw is named) ok = let x = lag_most tail (open_tail_of 0) 5 in (omega arith, omega arith)
 bounded tail head (claiming d v q name spare none spare_is saw block enough) ok = let x = lag_most tail (open_tail_of q) 5 in (omega arith, omega arith)
-bounded tail head (laying d v n name f holds mine lays fresh) ok = (omega arith, omega arith)
-bounded tail head (opening d v n name f holds mine opens links named) ok = (omega arith, omega arith)
-bounded tail head (chaining d v n name f holds mine links named) ok = (omega arith, omega arith)
-bounded tail head (writing d v n name spare holds mine spare_is) ok = (omega arith, omega arith)
-bounded tail head (spending d v spare none spare_is spent) ok = (omega arith, omega arith)
-bounded tail head (pop_head none) ok = (omega arith, omega arith)
 bounded tail head (pop_block n more none is room) ok = let x = lag_most head (head_of n more) 3 in (omega arith, omega arith)
 bounded tail head (pop_tail n None none is front) ok = (omega arith, omega arith)
 bounded tail head (pop_tail n (Some block) none is front) ok = let x = lag_most head (head_of n false) 3 in (omega arith, omega arith)
 bounded tail head (taking n name next more new none is front there word_is room) ok = let x = lag_most head (head_of n more) 3 in (omega arith, omega arith)
-bounded tail head (following x n name more holds got pass) ok = (omega arith, omega arith)
-bounded tail head (peeking x n name after more holds got pass behind) ok = (omega arith, omega arith)
-bounded tail head (passing x n name after more further holds got pass behind room) ok = (omega arith, omega arith)
-bounded tail head (entering x n name more further holds got enters room) ok = (omega arith, omega arith)
-bounded tail head (awaiting x n name more holds got) ok = (omega arith, omega arith)
 bounded tail head (reading x n name more holds got wrote inner) ok = let low = inner_low n (offset_of (head_of n more)) (head_offset n more) inner in (omega arith, omega arith)
-bounded tail head (beginning x n name more holds got wrote last) ok = (omega arith, omega arith)
 bounded {c = c} {who = who} tail head (walking x b name slot holds is named) ok = let low = (last_claimed c who b slot ok is).0 in (omega arith, omega arith)
 bounded {c = c} {who = who} tail head (destroying x b name slot holds is named) ok = let low = (last_claimed c who b slot ok is).0 in (omega arith, omega arith)
-bounded tail head (len_tail none) ok = (omega arith, omega arith)
 bounded tail head (len_head w none small low) ok = let x = lag_most tail w 3 in (omega arith, omega arith)
 bounded tail head (len_again w h none small seen) ok = let x = lag_most tail w 3 in (omega arith, omega arith)
-bounded tail head (empty_head none) ok = (omega arith, omega arith)
-bounded tail head (empty_tail h none small saw) ok = (omega arith, omega arith)
-bounded tail head (closing none) ok = (omega arith, omega arith)
-bounded tail head (closed_tail none) ok = (omega arith, omega arith)
+bounded tail head _ ok = (omega arith, omega arith)
 
 seen_if : (x : Shown) (name : ℕ) → IsSome (shown_of x name) → x ≡ Seen
 seen_if Seen name h = refl

@@ -1,34 +1,27 @@
 -- What a step of a call on a chain is in the book: its effects begin those of a reply, its effect moves the queue, and its reply is right at a moment.
-use Rattle.std.proofs.Common.{ℕ, ◌≡◌, ◌==◌, true, Option, Ok, Err, List, [], ◌∷◌, refl}
+use Rattle.std.proofs.Common.{ℕ, ◌≡◌, ◌==◌, Option, Ok, List, [], refl}
 use Rattle.std.specs.List.{Any}
 use Rattle.queue_steps.specs.State.{State}
 use Rattle.queue_steps.specs.Words.{is_shut}
-use Rattle.machine_replay.specs.Vocabulary.{Call, Reply, Effect, PopError, Kind, Answer, Local, UnboundedLocal, EffectKind}
+use Rattle.machine_replay.specs.Vocabulary.{Call, Reply, Effect, Kind, Op, Touch, Answer, Local, UnboundedLocal, EffectKind, PopError}
 use Rattle.queue_steps.specs.declared.steps.unbounded.UnboundedLocal.TheVariants as chain
 use Rattle.law_common.specs.Moments.{SeenIn}
 use Rattle.law_common.specs.Effects.{Leads, with_effect}
 use Rattle.law_common.specs.Stand.{Stand}
 use Rattle.law_chain.specs.ChainCells.{Chain, queue_of}
-use Rattle.law_chain.specs.ChainAt.{At, push_tail, push_block, asking, installing, showing, claiming, laying, opening, chaining, writing, spending, following, peeking, passing, entering, awaiting, reading, beginning, walking, destroying, len_tail, len_head, len_again, empty_head, empty_tail, closing, closed_tail}
+use Rattle.law_chain.specs.ChainAt.{At, laying, opening, chaining, writing, following, peeking, passing, entering, awaiting, reading, beginning, walking, destroying, push_tail, push_block, asking, installing, showing, claiming, spending, len_tail, len_head, len_again, empty_head, empty_tail, closing, closed_tail}
 use Rattle.law_chain.proofs.ChainGood.{IsEffect}
 use Rattle.machine_replay.specs.Book.{Open, Moves, Allows, IsBegun}
 use Rattle.machine_memory.specs.EffectOf.{effect_of}
-use Rattle.machine_replay.proofs.Moments.{any_in, begun_push}
+use Rattle.machine_replay.proofs.Moments.{any_in, begun_none, begun_append}
 use Rattle.machine_replay.proofs.Moving.{no_move, won, marked, appends, takes}
 
 -- the effects of a call in progress begin those of some reply
 pub chain_begun : {A : Type 0} {c : Chain A} {who : ℕ} {ms : List (State A)} {k : Stand A} → At c who ms k → IsBegun k.call k.effects
-chain_begun (push_tail d x spare none spare_is) = (begun_push d x).0
-chain_begun (push_block d x spare q none spare_is saw) = (begun_push d x).0
-chain_begun (asking d x q block none saw asked) = (begun_push d x).0
-chain_begun (installing d x f none saw fresh) = (begun_push d x).0
-chain_begun (showing d x name first saw is named) = (begun_push d x).0
-chain_begun (claiming d x q name spare none spare_is saw block enough) = (begun_push d x).0
-chain_begun (laying d x n name f holds mine lays fresh) = (begun_push d x).1
-chain_begun (opening d x n name f holds mine opens links named) = (begun_push d x).1
-chain_begun (chaining d x n name f holds mine links named) = (begun_push d x).1
-chain_begun (writing d x n name spare holds mine spare_is) = (begun_push d x).1
-chain_begun (spending d x spare none spare_is spent) = (begun_push d x).0
+chain_begun (laying d x n name f holds mine lays fresh) = begun_append d x
+chain_begun (opening d x n name f holds mine opens links named) = begun_append d x
+chain_begun (chaining d x n name f holds mine links named) = begun_append d x
+chain_begun (writing d x n name spare holds mine spare_is) = begun_append d x
 chain_begun (following x n name more holds got pass) = (Reply.Pop (Ok x), [], refl)
 chain_begun (peeking x n name after more holds got pass behind) = (Reply.Pop (Ok x), [], refl)
 chain_begun (passing x n name after more further holds got pass behind room) = (Reply.Pop (Ok x), [], refl)
@@ -38,14 +31,7 @@ chain_begun (reading x n name more holds got wrote inner) = (Reply.Pop (Ok x), [
 chain_begun (beginning x n name more holds got wrote last) = (Reply.Pop (Ok x), [], refl)
 chain_begun (walking x b name slot holds is named) = (Reply.Pop (Ok x), [], refl)
 chain_begun (destroying x b name slot holds is named) = (Reply.Pop (Ok x), [], refl)
-chain_begun (len_tail none) = (Reply.Len 0, [], refl)
-chain_begun (len_head w none small low) = (Reply.Len 0, [], refl)
-chain_begun (len_again w h none small seen) = (Reply.Len 0, [], refl)
-chain_begun (empty_head none) = (Reply.IsEmpty true, [], refl)
-chain_begun (empty_tail h none small saw) = (Reply.IsEmpty true, [], refl)
-chain_begun (closing none) = (Reply.Close true, Effect.Close ∷ [], refl)
-chain_begun (closed_tail none) = (Reply.IsClosed true, [], refl)
-chain_begun x = (Reply.Pop (Err PopError.Empty), [], refl)
+chain_begun {k = k} x = begun_none k.call
 
 pub allowed_in : {A : Type 0} (k : Call A) (y : Reply A) (ms : List (State A)) → SeenIn ms (Allows k y) → Any (Allows k y) ms
 allowed_in k y ms seen = any_in ms (Allows k y) (Allows k y) (λ m right. right) seen

@@ -10,10 +10,11 @@ use Rattle.queue_steps.specs.UnboundedNext.{followed, written_found, ends, walks
 use Rattle.queue_steps.specs.declared.steps.unbounded.UnboundedLocal.TheVariants as chain
 use Rattle.law_common.specs.Stand.{Stand}
 use Rattle.law_chain.specs.ChainCells as cells
-use Rattle.law_chain.specs.ChainCells.{Reader, Unread, Reading, Done, Passing, Shown, Seen, Chain, ChainOk, ItemOk, ShownOk, Part, Write, Read, Tail, Head, Passed, owner, item_at, LAST, Holds}
+use Rattle.law_chain.specs.ChainCells.{Reader, Unread, Reading, Done, Shown, Seen, Chain, ChainOk, ItemOk, ShownOk, Part, Write, Read, Tail, Head, Passed, owner, item_at, LAST, Holds}
 use Rattle.law_chain.specs.ChainAfter.{chain_of}
 use Rattle.law_chain.specs.ChainAnswers.{Answers, IsState, linked_of, is_wrote}
-use Rattle.law_chain.specs.ChainAt.{Only, Either, At, push_tail, push_block, asking, installing, showing, claiming, laying, opening, chaining, writing, spending, pop_head, pop_block, pop_tail, taking, following, peeking, passing, entering, awaiting, reading, beginning, walking, destroying, len_tail, len_head, len_again, empty_head, empty_tail, closing, closed_tail}
+use Rattle.law_chain.specs.ChainAt.{Only, Either, At, showing, laying, opening, chaining, writing, following, peeking, passing, entering, awaiting, reading, beginning, walking, destroying}
+use Rattle.law_chain.proofs.ChainEarly.{early}
 use Rattle.law_chain.specs.ChainFacts.{head_of}
 use Rattle.law_chain.proofs.ChainAnswers.{head_offset}
 use Rattle.law_chain.proofs.ChainRanks.{rests_if}
@@ -47,17 +48,7 @@ Clear c q = Holds c q IsPops
 
 -- once the first block is shown, so does a call that has not appended
 clear_of : {A : Type 0} {c : Chain A} {who : ℕ} {ms : List (State A)} {k : Stand A} → At c who ms k → c.shown ≡ Seen → (HasAppend k.effects → ⊥) → Clear c who
-clear_of (push_tail d v spare none spare_is) seen never = λ x e. absurd (none x e)
-clear_of (push_block d v spare q none spare_is saw) seen never = λ x e. absurd (none x e)
-clear_of (asking d v q block none saw asked) seen never = λ x e. absurd (none x e)
-clear_of (installing d v f none saw fresh) seen never = λ x e. absurd (none x e)
 clear_of (showing d v name first saw is named) seen never = cc
-clear_of (claiming d v q name spare none spare_is saw block enough) seen never = λ x e. absurd (none x e)
-clear_of (spending d v spare none spare_is spent) seen never = λ x e. absurd (none x e)
-clear_of (pop_head none) seen never = λ x e. absurd (none x e)
-clear_of (pop_block n more none is room) seen never = λ x e. absurd (none x e)
-clear_of (pop_tail n block none is front) seen never = λ x e. absurd (none x e)
-clear_of (taking n name next more new none is front there word_is room) seen never = λ x e. absurd (none x e)
 clear_of (following item n name more holds got pass) seen never = λ x e. elim (holds x e) [ inl y ↦ subst IsPops (sym y) tt | inr y ↦ subst IsPops (sym y) tt ]
 clear_of (peeking item n name after more holds got pass behind) seen never = λ x e. elim (holds x e) [ inl y ↦ subst IsPops (sym y) tt | inr y ↦ subst IsPops (sym y) tt ]
 clear_of (passing item n name after more further holds got pass behind room) seen never = λ x e. elim (holds x e) [ inl y ↦ subst IsPops (sym y) tt | inr y ↦ subst IsPops (sym y) tt ]
@@ -67,14 +58,11 @@ clear_of (reading item n name more holds got wrote inner) seen never = λ x e. s
 clear_of (beginning item n name more holds got wrote last) seen never = λ x e. subst IsPops (sym (holds x e)) tt
 clear_of (walking item b name slot holds is named) seen never = λ x e. subst IsPops (sym (holds x e)) tt
 clear_of (destroying item b name slot holds is named) seen never = λ x e. subst IsPops (sym (holds x e)) tt
-clear_of (len_tail none) seen never = λ x e. absurd (none x e)
-clear_of (len_head w none small low) seen never = λ x e. absurd (none x e)
-clear_of (len_again w h none small seen_it) seen never = λ x e. absurd (none x e)
-clear_of (empty_head none) seen never = λ x e. absurd (none x e)
-clear_of (empty_tail h none small saw) seen never = λ x e. absurd (none x e)
-clear_of (closing none) seen never = λ x e. absurd (none x e)
-clear_of (closed_tail none) seen never = λ x e. absurd (none x e)
-clear_of x seen never = absurd (never tt)
+clear_of (laying d v n name f holds mine lays fresh) seen never = absurd (never tt)
+clear_of (opening d v n name f holds mine opens links named) seen never = absurd (never tt)
+clear_of (chaining d v n name f holds mine links named) seen never = absurd (never tt)
+clear_of (writing d v n name spare holds mine spare_is) seen never = absurd (never tt)
+clear_of here seen never = λ x e. absurd ((early refl here).1 x e)
 
 -- a part is nobody's that neither the party holds nor another
 pub unheld : {A : Type 0} (c : Chain A) (who : ℕ) (P Q : Part → Type 0) (x : Part) → ((j : ℕ) → j ≢ who → Holds c j Q) → Holds c who P → (P x → ⊥) → (Q x → ⊥) → (p : ℕ) → owner c x ≢ Some p
@@ -129,21 +117,6 @@ awaiting_nears head name st written = last (eqb_tells (offset_of head + 1) BLOCK
 nears : {A : Type 0} {c : Chain A} {who : ℕ} {ms : List (State A)} {k : Stand A} → At c who ms k → HasTake k.effects → (a : Answer ℕ) → ChainOk c → Answers c k.op a → ((j : ℕ) → j ≢ who → Clear c j)
     → Nears (unbounded_next (chain_of k.local) a) (to_reply k.local)
 unfolding to_reply
-nears (push_tail d v spare none spare_is) had a ok found clear = absurd had
-nears (push_block d v spare q none spare_is saw) had a ok found clear = absurd had
-nears (asking d v q block none saw asked) had a ok found clear = absurd had
-nears (installing d v f none saw fresh) had a ok found clear = absurd had
-nears (showing d v name first saw is named) had a ok found clear = absurd had
-nears (claiming d v q name spare none spare_is saw block enough) had a ok found clear = absurd had
-nears (laying d v n name f holds mine lays fresh) had a ok found clear = absurd had
-nears (opening d v n name f holds mine opens links named) had a ok found clear = absurd had
-nears (chaining d v n name f holds mine links named) had a ok found clear = absurd had
-nears (writing d v n name spare holds mine spare_is) had a ok found clear = absurd had
-nears (spending d v spare none spare_is spent) had a ok found clear = absurd had
-nears (pop_head none) had a ok found clear = absurd had
-nears (pop_block n more none is room) had a ok found clear = absurd had
-nears (pop_tail n block none is front) had a ok found clear = absurd had
-nears (taking n name next more new none is front there word_is room) had a ok found clear = absurd had
 nears {c = c} {who = who} (following x n name more holds got pass) had a ok found clear =
     let rest = rests_if c.mover (unheld c who (Either (Read n) Head) IsPops Tail clear holds (λ z. elim z [ inl y ↦ absurd (cc) | inr y ↦ absurd (cc) ]) (λ z. z)) in
     let free = unheld c who (Either (Read n) Head) IsPops (cells.Next (n / BLOCK_SLOTS)) clear holds (λ z. elim z [ inl y ↦ absurd (cc) | inr y ↦ absurd (cc) ]) (λ z. z) in
@@ -170,31 +143,10 @@ nears {c = c} {who = who} (walking x b name slot holds is named) had a ok found 
 nears {c = c} {who = who} (destroying x b name slot holds is named) had a ok found clear =
     let h = found b named in
     rw (h.1) (maybe_on_nears (not (bit_and h.0 READ == 0)) name slot (2 * (LAST - slot)) (last_claimed c who b slot ok is).0 (omega arith))
-nears (len_tail none) had a ok found clear = absurd had
-nears (len_head w none small low) had a ok found clear = absurd had
-nears (len_again w h none small seen) had a ok found clear = absurd had
-nears (empty_head none) had a ok found clear = absurd had
-nears (empty_tail h none small saw) had a ok found clear = absurd had
-nears (closing none) had a ok found clear = absurd had
-nears (closed_tail none) had a ok found clear = absurd had
+nears _ had a ok found clear = absurd had
 
 in_bounds : {A : Type 0} {c : Chain A} {who : ℕ} {ms : List (State A)} {k : Stand A} → At c who ms k → HasTake k.effects → ChainOk c → (0 < to_reply k.local) × (to_reply k.local ≤ 2 * LAST + 6)
 unfolding to_reply
-in_bounds (push_tail d v spare none spare_is) had ok = absurd had
-in_bounds (push_block d v spare q none spare_is saw) had ok = absurd had
-in_bounds (asking d v q block none saw asked) had ok = absurd had
-in_bounds (installing d v f none saw fresh) had ok = absurd had
-in_bounds (showing d v name first saw is named) had ok = absurd had
-in_bounds (claiming d v q name spare none spare_is saw block enough) had ok = absurd had
-in_bounds (laying d v n name f holds mine lays fresh) had ok = absurd had
-in_bounds (opening d v n name f holds mine opens links named) had ok = absurd had
-in_bounds (chaining d v n name f holds mine links named) had ok = absurd had
-in_bounds (writing d v n name spare holds mine spare_is) had ok = absurd had
-in_bounds (spending d v spare none spare_is spent) had ok = absurd had
-in_bounds (pop_head none) had ok = absurd had
-in_bounds (pop_block n more none is room) had ok = absurd had
-in_bounds (pop_tail n block none is front) had ok = absurd had
-in_bounds (taking n name next more new none is front there word_is room) had ok = absurd had
 in_bounds (following x n name more holds got pass) had ok = (omega arith, omega arith)
 in_bounds (peeking x n name after more holds got pass behind) had ok = (omega arith, omega arith)
 in_bounds (passing x n name after more further holds got pass behind room) had ok = (omega arith, omega arith)
@@ -204,13 +156,7 @@ in_bounds (reading x n name more holds got wrote inner) had ok = (omega arith, o
 in_bounds (beginning x n name more holds got wrote last) had ok = (omega arith, omega arith)
 in_bounds (walking x b name slot holds is named) had ok = (omega arith, omega arith)
 in_bounds {c = c} {who = who} (destroying x b name slot holds is named) had ok = let low = (last_claimed c who b slot ok is).0 in (omega arith, omega arith)
-in_bounds (len_tail none) had ok = absurd had
-in_bounds (len_head w none small low) had ok = absurd had
-in_bounds (len_again w h none small seen) had ok = absurd had
-in_bounds (empty_head none) had ok = absurd had
-in_bounds (empty_tail h none small saw) had ok = absurd had
-in_bounds (closing none) had ok = absurd had
-in_bounds (closed_tail none) had ok = absurd had
+in_bounds _ had ok = absurd had
 
 -- an item that is claimed has left the list, so the first block is shown
 claimed_low : {A : Type 0} (head tail : ℕ) (items : List A) (n : ℕ) (w : cells.Writer A) (r : Reader) → r ≢ Unread → ItemOk head tail items n w r → n < head
@@ -231,21 +177,6 @@ seen_of {A} c n ok ne = go c.shown refl ok.seen
     go s e h = absurd (let l = low in let z = h.1 in omega arith)
 
 pub ready_of : {A : Type 0} {c : Chain A} {who : ℕ} {ms : List (State A)} {k : Stand A} → At c who ms k → HasTake k.effects → ChainOk c → c.shown ≡ Seen
-ready_of (push_tail d v spare none spare_is) had ok = absurd had
-ready_of (push_block d v spare q none spare_is saw) had ok = absurd had
-ready_of (asking d v q block none saw asked) had ok = absurd had
-ready_of (installing d v f none saw fresh) had ok = absurd had
-ready_of (showing d v name first saw is named) had ok = absurd had
-ready_of (claiming d v q name spare none spare_is saw block enough) had ok = absurd had
-ready_of (laying d v n name f holds mine lays fresh) had ok = absurd had
-ready_of (opening d v n name f holds mine opens links named) had ok = absurd had
-ready_of (chaining d v n name f holds mine links named) had ok = absurd had
-ready_of (writing d v n name spare holds mine spare_is) had ok = absurd had
-ready_of (spending d v spare none spare_is spent) had ok = absurd had
-ready_of (pop_head none) had ok = absurd had
-ready_of (pop_block n more none is room) had ok = absurd had
-ready_of (pop_tail n block none is front) had ok = absurd had
-ready_of (taking n name next more new none is front there word_is room) had ok = absurd had
 ready_of {c = c} {who = who} (following x n name more holds got pass) had ok = seen_of c n ok (λ e. let y : Reading who ≡ Unread = sym got.mine ∙ e in cc)
 ready_of {c = c} {who = who} (peeking x n name after more holds got pass behind) had ok = seen_of c n ok (λ e. let y : Reading who ≡ Unread = sym got.mine ∙ e in cc)
 ready_of {c = c} {who = who} (passing x n name after more further holds got pass behind room) had ok = seen_of c n ok (λ e. let y : Reading who ≡ Unread = sym got.mine ∙ e in cc)
@@ -255,13 +186,7 @@ ready_of {c = c} {who = who} (reading x n name more holds got wrote inner) had o
 ready_of {c = c} {who = who} (beginning x n name more holds got wrote last) had ok = seen_of c n ok (λ e. let y : Reading who ≡ Unread = sym got.mine ∙ e in cc)
 ready_of {c = c} {who = who} (walking x b name slot holds is named) had ok = seen_of c (item_at b LAST) ok (last_claimed c who b slot ok is).1
 ready_of {c = c} {who = who} (destroying x b name slot holds is named) had ok = seen_of c (item_at b LAST) ok (last_claimed c who b slot ok is).1
-ready_of (len_tail none) had ok = absurd had
-ready_of (len_head w none small low) had ok = absurd had
-ready_of (len_again w h none small seen) had ok = absurd had
-ready_of (empty_head none) had ok = absurd had
-ready_of (empty_tail h none small saw) had ok = absurd had
-ready_of (closing none) had ok = absurd had
-ready_of (closed_tail none) had ok = absurd had
+ready_of _ had ok = absurd had
 
 -- a call that goes on has fewer steps before it
 goes_on : {A : Type 0} (n : Next ℕ) (v : Option A) (m : ℕ) (x : Running A) → running_after n v ≡ Some x → Nears n m → to_reply x.local < m

@@ -10,9 +10,10 @@ use Rattle.law_common.specs.Stand.{Stand}
 use Rattle.machine_replay.proofs.StandOf.{stand_of}
 use Rattle.law_chain.specs.ChainAfter.{chain_of}
 use Rattle.law_chain.specs.ChainAnswers.{Answers, IsState, tail_word, head_word, shown_of, linked_of, is_wrote}
-use Rattle.law_chain.specs.ChainAt.{At, push_tail, push_block, asking, installing, showing, claiming, laying, opening, chaining, writing, spending, pop_head, pop_block, pop_tail, taking, following, peeking, passing, entering, awaiting, reading, beginning, walking, destroying, len_tail, len_head, len_again, empty_head, empty_tail, closing, closed_tail}
+use Rattle.law_chain.specs.ChainAt.{At, push_tail, showing, laying, opening, chaining, writing, pop_head, pop_tail, following, peeking, passing, entering, awaiting, reading, beginning, walking, destroying}
+use Rattle.law_chain.proofs.ChainEarly.{early}
 use Rattle.law_chain.specs.ChainCells as cells
-use Rattle.law_chain.specs.ChainCells.{Passing, Shown, Showing, Seen, Chain, ChainOk, Part, Write, Read, Tail, Head, First, Passed, owner}
+use Rattle.law_chain.specs.ChainCells.{Passing, Shown, Seen, Chain, ChainOk, Part, Write, Read, Tail, Head, First, Passed, owner}
 use Rattle.law_chain.specs.ChainFacts.{head_of, open_tail_of}
 use Rattle.law_chain.proofs.ChainAnswers.{head_offset}
 use Rattle.law_chain.proofs.ChainRanks.{rank, tail_rank, is_seen, Falls, rests_if, stands_if}
@@ -52,12 +53,7 @@ moves_head l n x h (inl e) = at_part l (Read n) x e tt
 moves_head l n x h (inr e) = at_part l Head x e h
 
 pub holds_at : {A : Type 0} {c : Chain A} {who : ℕ} {ms : List (State A)} {k : Stand A} (x : Part) → At c who ms k → owner c x ≡ Some who → HolderAt x k.local
-holds_at x (push_tail d v spare none spare_is) e = absurd (none x e)
-holds_at x (push_block d v spare q none spare_is saw) e = absurd (none x e)
-holds_at x (asking d v q block none saw asked) e = absurd (none x e)
-holds_at x (installing d v f none saw fresh) e = absurd (none x e)
 holds_at x (showing d v name first saw is named) e = at_part (Local.Unbounded (chain.Showing d (open_tail_of 0) name)) First x (first x e) tt
-holds_at x (claiming d v q name spare none spare_is saw block enough) e = absurd (none x e)
 holds_at x (laying d v n name f holds mine lays fresh) e = elim (holds x e) [
   | inl y ↦ at_part (Local.Unbounded (chain.Laying d (open_tail_of n) name f)) (Write n) x y tt
   | inr y ↦ at_part (Local.Unbounded (chain.Laying d (open_tail_of n) name f)) Tail x y tt
@@ -74,11 +70,6 @@ holds_at x (chaining d v n name f holds mine links named) e = elim (holds x e) [
   | inr y ↦ at_part (Local.Unbounded (chain.Chaining d (open_tail_of n) name f)) (cells.Next (n / BLOCK_SLOTS)) x y tt
 ]
 holds_at x (writing d v n name spare holds mine spare_is) e = at_part (Local.Unbounded (chain.Writing d spare)) (Write n) x (holds x e) tt
-holds_at x (spending d v spare none spare_is spent) e = absurd (none x e)
-holds_at x (pop_head none) e = absurd (none x e)
-holds_at x (pop_block n more none is room) e = absurd (none x e)
-holds_at x (pop_tail n block none is front) e = absurd (none x e)
-holds_at x (taking n name next more new none is front there word_is room) e = absurd (none x e)
 holds_at x (following item n name more holds got pass) e = moves_head (Local.Unbounded (chain.Following (head_of n more) name)) n x tt (holds x e)
 holds_at x (peeking item n name after more holds got pass behind) e = moves_head (Local.Unbounded (chain.Peeking (head_of n more) name after)) n x tt (holds x e)
 holds_at x (passing item n name after more further holds got pass behind room) e = moves_head (Local.Unbounded (chain.Passing (head_of n more) name further)) n x tt (holds x e)
@@ -88,13 +79,7 @@ holds_at x (reading item n name more holds got wrote inner) e = at_part (Local.U
 holds_at x (beginning item n name more holds got wrote last) e = at_part (Local.Unbounded (chain.Walking name 0)) (Read n) x (holds x e) tt
 holds_at x (walking item b name slot holds is named) e = at_part (Local.Unbounded (chain.Walking name slot)) (Passed b) x (holds x e) tt
 holds_at x (destroying item b name slot holds is named) e = at_part (Local.Unbounded (chain.Destroying name slot)) (Passed b) x (holds x e) tt
-holds_at x (len_tail none) e = absurd (none x e)
-holds_at x (len_head w none small low) e = absurd (none x e)
-holds_at x (len_again w h none small seen_it) e = absurd (none x e)
-holds_at x (empty_head none) e = absurd (none x e)
-holds_at x (empty_tail h none small saw) e = absurd (none x e)
-holds_at x (closing none) e = absurd (none x e)
-holds_at x (closed_tail none) e = absurd (none x e)
+holds_at x here e = absurd ((early refl here).1 x e)
 
 -- a party holds a part, and its call stands at such a step
 abbrev Held : {A : Type 0} → Chain A → (Local ℕ → Type 0) → Type 0

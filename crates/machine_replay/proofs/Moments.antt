@@ -1,8 +1,9 @@
 -- The moments of a call and the effects that it begins with, for rings and chains alike.
-use Rattle.std.proofs.Common.{suc, ◌≡◌, inl, inr, None, Ok, List, [], ◌∷◌, refl, arith}
+use Rattle.std.proofs.Common.{suc, ◌≡◌, false, inl, inr, None, Ok, List, [], ◌∷◌, refl, arith}
 use Rattle.std.specs.List.{Any}
-use Rattle.queue_steps.specs.State.{State}
-use Rattle.machine_replay.specs.Vocabulary.{Reply, Effect, PushKind}
+use Rattle.queue_steps.specs.State.{State, start}
+use Rattle.queue_steps.specs.Sequential.{sequential_reply}
+use Rattle.machine_replay.specs.Vocabulary.{Call, Reply, Effect, PushKind}
 use Rattle.law_common.specs.Moments as laws
 use Rattle.law_common.specs.Moments.{SeenIn}
 use Rattle.law_common.specs.Pushes.{pushes}
@@ -19,7 +20,14 @@ pub same_moments : {A : Type 0} (q : State A) (ms : List (State A)) → laws.see
 same_moments q [] = refl
 same_moments q (m ∷ ms) = refl
 
--- a push has no effect, or has appended
-pub begun_push : {A : Type 0} (d : PushKind) (v : A) → IsBegun (pushes d v) [] × IsBegun (pushes d v) (Effect.Append v ∷ [])
-begun_push PushKind.Push v = ((Reply.Push (Ok tt), Effect.Append v ∷ [], refl), (Reply.Push (Ok tt), [], refl))
-begun_push PushKind.Force v = ((Reply.ForcePush (Ok None), Effect.Append v ∷ [], refl), (Reply.ForcePush (Ok None), [], refl))
+-- no effect begins the effects of every call
+pub begun_none : {A : Type 0} (c : Call A) → IsBegun c []
+begun_none (Call.Push v) = (Reply.Push (Ok tt), Effect.Append v ∷ [], refl)
+begun_none (Call.ForcePush v) = (Reply.ForcePush (Ok None), Effect.Append v ∷ [], refl)
+begun_none Call.Close = (Reply.Close false, [], refl)
+begun_none c = (sequential_reply (start None 0) c, [], refl)
+
+-- what a push has appended are the effects of a push
+pub begun_append : {A : Type 0} (d : PushKind) (v : A) → IsBegun (pushes d v) (Effect.Append v ∷ [])
+begun_append PushKind.Push v = (Reply.Push (Ok tt), [], refl)
+begun_append PushKind.Force v = (Reply.ForcePush (Ok None), [], refl)

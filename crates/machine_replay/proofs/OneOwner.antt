@@ -5,6 +5,7 @@ use Rattle.law_common.proofs.Tests.{or_true, not_true}
 use Rattle.queue_steps.specs.State.{State}
 use Rattle.queue_steps.specs.Effect.{Fits, made, Runs, after_from}
 use Rattle.queue_steps.specs.Replies.{IsRightAt}
+use Rattle.queue_steps.proofs.LookLaws.{look_right_tells}
 use Rattle.queue_steps.specs.Sequential.{Owned}
 use Rattle.law_common.proofs.Runs.{after_snoc, runs_snoc}
 use Rattle.machine_replay.specs.Vocabulary.{Call, Reply, Effect, EffectKind}
@@ -84,8 +85,8 @@ midway-ends S Q o r h ends =
 
 -- a call that replies where it begins
 pub at_once : {T : Type 0} (cap : Option ℕ) (S : Owned T) (Q : State T) (c : Call T) (r : Reply T) → Agrees S Q → has_steps cap c ≡ false → IsRightAt Q c r → Done S Q c r
-at_once cap S Q Call.Capacity (Reply.Capacity x) h e right = finish S Q Q Call.Capacity (Reply.Capacity x) [] h refl tt refl (λ n. inl right) tt
-at_once cap S Q Call.IsFull (Reply.IsFull x) h e right = finish S Q Q Call.IsFull (Reply.IsFull x) [] h refl tt refl (λ n. inl right) tt
-at_once cap S Q Call.IsFull _ h e right = absurd right
-at_once cap S Q Call.Capacity _ h e right = absurd right
-at_once cap S Q c r h e right = cc
+at_once cap S Q (Call.Push v) r h e right = cc
+at_once cap S Q (Call.ForcePush v) r h e right = cc
+at_once cap S Q Call.Pop r h e right = cc
+at_once cap S Q Call.Close r h e right = cc
+at_once cap S Q look r h e right = finish S Q Q look r [] h (look_right_tells Q look r tt right) tt refl (λ n. inl right) tt

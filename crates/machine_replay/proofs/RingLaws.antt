@@ -165,12 +165,8 @@ fresh cap s Q g p k x at wait_free busy = record { here = at; few = few_begun bu
 pub ring_begins_well : {A : Type 0} (cap : ℕ) (s : Shared A) (Q : State A) (g : Ring A) (p : ℕ) (k : Call A) → RingHolds cap s Q g → RingIdle g p
     → engine.BeginsWell A (Shared A) (Running A) (Ring A) (Some cap) (step_of (Kind.Bounded cap)) (start_of (Kind.Bounded cap)) (CanStep (Kind.Bounded cap)) (RingHolds cap) RingIdle (RingFits cap)
     s Q g p k (start_of (Kind.Bounded cap) k).call (start_of (Kind.Bounded cap) k).reply
-ring_begins_well cap s Q g p Call.Close holds idle = (refl, fresh cap s Q g p Call.Close _ (at_first cap g p Call.Close idle) (λ e. omega arith))
-ring_begins_well cap s Q g p Call.IsClosed holds idle = (refl, fresh cap s Q g p Call.IsClosed _ (at_first cap g p Call.IsClosed idle) (λ e. omega arith))
-ring_begins_well cap s Q g p Call.IsEmpty holds idle = (refl, fresh cap s Q g p Call.IsEmpty _ (at_first cap g p Call.IsEmpty idle) (λ e. omega arith))
-ring_begins_well cap s Q g p Call.IsFull holds idle = (refl, fresh cap s Q g p Call.IsFull _ (at_first cap g p Call.IsFull idle) (λ e. omega arith))
 ring_begins_well cap s Q g p Call.Capacity holds idle = (refl, sym (ap (λ q. q.cap) holds.queue_is))
-ring_begins_well cap s Q g p k holds idle = (refl, fresh cap s Q g p k _ (at_first cap g p k idle) (λ e. cc))
+ring_begins_well cap s Q g p k holds idle = (refl, fresh cap s Q g p k _ (at_first cap g p k idle) (λ e. first_of (cc, omega arith)))
 
 pub ring_joins_well : {A : Type 0} (cap busy busy' : ℕ) (s : Shared A) (Q : State A) (g : Ring A) (p : ℕ) (x : Running A) (o : Open A) → RingFits cap busy s Q g p x o → RingFits cap busy' s Q g p x (joined o)
 ring_joins_well cap busy busy' s Q g p x o f = record { here = f.here; few = few_joined busy busy' o (rank cap g x.local) longest f.few }

@@ -19,7 +19,8 @@ use Rattle.law_ring.specs.RingCells.{Cell, Free, Written, Full, Read, Coming, Sw
 use Rattle.law_ring.proofs.RingCells.{wraps, apart, together}
 use Rattle.law_ring.proofs.RingTransitions.{in_ring}
 use Rattle.law_ring.specs.RingWords.{item_in}
-use Rattle.law_ring.specs.RingAt.{At, push_tail, push_stamp, claiming, filling, push_head, displacing, arriving, swapping, spending, pop_head, pop_stamp, taking, emptying, pop_tail, len_tail, len_head, len_again, empty_head, empty_tail, full_tail, full_head, closing, closed_tail}
+use Rattle.law_ring.specs.RingAt.{At, filling, arriving, swapping, emptying}
+use Rattle.law_ring.proofs.RingStart.{holds_none}
 use Rattle.machine_replay.proofs.RingLaws.{RingHolds, RingIdle, RingFits}
 
 -- what a slot will hold that its holder has written: the item of its push
@@ -77,27 +78,7 @@ at_writes {cap = cap} {r = r} {who = who} i (swapping old v h one) w =
     let e : h % cap ≡ i = sym (wraps h cap) ∙ same_slot ((h + cap) % cap) i w in
     let c : r.cells i ≡ Swapped h who old v = ap r.cells (sym e) ∙ one.0 in
     rw c (refl, refl)
-at_writes i (push_tail d v none) w = cc
-at_writes i (push_stamp d v t none saw) w = cc
-at_writes i (claiming d v t none saw free) w = cc
-at_writes i (push_head v t none saw) w = cc
-at_writes i (displacing v t h none saw back full) w = cc
-at_writes i (arriving old v t h below back one) w = cc
-at_writes i (spending d v none high) w = cc
-at_writes i (pop_head none) w = cc
-at_writes i (pop_stamp h none low) w = cc
-at_writes i (taking h none low full) w = cc
-at_writes i (emptying x h one) w = cc
-at_writes i (pop_tail h none low free) w = cc
-at_writes i (len_tail none) w = cc
-at_writes i (len_head t none low) w = cc
-at_writes i (len_again t h none seen) w = cc
-at_writes i (empty_head none) w = cc
-at_writes i (empty_tail h none saw) w = cc
-at_writes i (full_tail none) w = cc
-at_writes i (full_head t none saw) w = cc
-at_writes i (closing none) w = cc
-at_writes i (closed_tail none) w = cc
+at_writes i _ w = cc
 
 -- the cell is one that its holder is about to write
 abbrev pub IsAwaited : {A : Type 0} → Cell A → Type 0
@@ -116,25 +97,7 @@ at_holder {cap = cap} {r = r} {who = who} i (arriving old v t h below back one) 
 at_holder {cap = cap} {r = r} {who = who} i (emptying x h one) own awaited =
     let e : r.cells i ≡ Read h who x = ap r.cells (one.1 i own) ∙ one.0 in
     absurd (subst (λ c. IsAwaited c) e awaited)
-at_holder i (push_tail d v none) own awaited = absurd (none i own)
-at_holder i (push_stamp d v t none saw) own awaited = absurd (none i own)
-at_holder i (claiming d v t none saw free) own awaited = absurd (none i own)
-at_holder i (push_head v t none saw) own awaited = absurd (none i own)
-at_holder i (displacing v t h none saw back full) own awaited = absurd (none i own)
-at_holder i (spending d v none high) own awaited = absurd (none i own)
-at_holder i (pop_head none) own awaited = absurd (none i own)
-at_holder i (pop_stamp h none low) own awaited = absurd (none i own)
-at_holder i (taking h none low full) own awaited = absurd (none i own)
-at_holder i (pop_tail h none low free) own awaited = absurd (none i own)
-at_holder i (len_tail none) own awaited = absurd (none i own)
-at_holder i (len_head t none low) own awaited = absurd (none i own)
-at_holder i (len_again t h none seen) own awaited = absurd (none i own)
-at_holder i (empty_head none) own awaited = absurd (none i own)
-at_holder i (empty_tail h none saw) own awaited = absurd (none i own)
-at_holder i (full_tail none) own awaited = absurd (none i own)
-at_holder i (full_head t none saw) own awaited = absurd (none i own)
-at_holder i (closing none) own awaited = absurd (none i own)
-at_holder i (closed_tail none) own awaited = absurd (none i own)
+at_holder i x own awaited = absurd (holds_none x refl i own)
 
 -- what is so of a party, in a call or not
 abbrev RingParty : (A : Type 0) → ℕ → ℕ → Shared A → State A → Ring A → ℕ → Option (Running A) → Option (Open A) → Type 0

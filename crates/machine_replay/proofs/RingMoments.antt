@@ -1,42 +1,27 @@
 -- What a step of a call on a ring is in the book: its effects begin those of a reply, and its effect moves the queue.
-use Rattle.std.proofs.Common.{ℕ, ◌+◌, ◌≡◌, ◌==◌, inr, Bool, true, false, if◌then◌else◌, Option, Some, None, Ok, Err, List, [], ◌∷◌, refl}
+use Rattle.std.proofs.Common.{ℕ, ◌+◌, ◌≡◌, ◌==◌, inr, Bool, true, false, if◌then◌else◌, Option, Some, None, Ok, List, [], ◌∷◌, refl}
 use Rattle.queue_steps.specs.State.{State}
 use Rattle.queue_steps.specs.Words.{position_of, is_shut}
-use Rattle.machine_replay.specs.Vocabulary.{Reply, Effect, PopError, Kind, Answer, Local, PushKind, EffectKind}
+use Rattle.machine_replay.specs.Vocabulary.{Call, Reply, Effect, Kind, Op, Touch, Answer, Local, EffectKind, PopError, PushKind}
 use Rattle.queue_steps.specs.declared.steps.bounded.BoundedLocal.TheVariants as ring
 use Rattle.law_common.specs.Effects.{Leads, Whether, with_effect}
 use Rattle.law_common.specs.Stand.{Stand}
 use Rattle.law_ring.specs.RingCells.{Ring}
-use Rattle.law_ring.specs.RingAt.{At, push_tail, push_stamp, claiming, filling, push_head, displacing, arriving, swapping, spending, emptying, len_tail, len_head, len_again, empty_head, empty_tail, full_tail, full_head, closing, closed_tail}
+use Rattle.law_ring.specs.RingAt.{At, filling, arriving, swapping, emptying}
 use Rattle.law_ring.proofs.RingGood.{IsEffect}
 use Rattle.machine_replay.specs.Book.{IsBegun, Open, Moves}
 use Rattle.machine_memory.specs.EffectOf.{effect_of}
-use Rattle.machine_replay.proofs.Moments.{begun_push}
+use Rattle.machine_replay.proofs.Moments.{begun_none, begun_append}
 use Rattle.machine_replay.proofs.Moving.{no_move, moved, won, marked, appends, takes}
 
 -- the effects of a call in progress begin those of some reply
 pub ring_begun : {A : Type 0} {cap : ℕ} {r : Ring A} {who : ℕ} {ms : List (State A)} {was : Bool} {c : Stand A}
     → At cap r who ms was c → IsBegun c.call c.effects
-ring_begun (push_tail d v none) = (begun_push d v).0
-ring_begun (push_stamp d v t none saw) = (begun_push d v).0
-ring_begun (claiming d v t none saw free) = (begun_push d v).0
-ring_begun (filling d v q one) = (begun_push d v).1
-ring_begun (push_head v t none saw) = (begun_push PushKind.Push v).0
-ring_begun (displacing v t h none saw e full) = (begun_push PushKind.Force v).0
+ring_begun (filling d v q one) = begun_append d v
 ring_begun (arriving old v t h below e one) = (Reply.ForcePush (Ok (Some old)), Effect.Arrive ∷ [], inr refl)
 ring_begun (swapping old v h one) = (Reply.ForcePush (Ok (Some old)), [], inr refl)
-ring_begun (spending d v none high) = (begun_push d v).0
 ring_begun (emptying x h one) = (Reply.Pop (Ok x), [], refl)
-ring_begun (len_tail none) = (Reply.Len 0, [], refl)
-ring_begun (len_head t none low) = (Reply.Len 0, [], refl)
-ring_begun (len_again t h none seen) = (Reply.Len 0, [], refl)
-ring_begun (empty_head none) = (Reply.IsEmpty true, [], refl)
-ring_begun (empty_tail h none saw) = (Reply.IsEmpty true, [], refl)
-ring_begun (full_tail none) = (Reply.IsFull true, [], refl)
-ring_begun (full_head t none saw) = (Reply.IsFull true, [], refl)
-ring_begun (closing none) = (Reply.Close true, Effect.Close ∷ [], refl)
-ring_begun (closed_tail none) = (Reply.IsClosed true, [], refl)
-ring_begun x = (Reply.Pop (Err PopError.Empty), [], refl)
+ring_begun {c = c} x = begun_none c.call
 
 -- the exchange of the head that wins takes the front off, by a call that saw the queue open
 fronts : {A : Type 0} (Q R S : State A) (o : Open A) (e : Option (Effect A)) (b : Bool) → Q ≡ R → Whether b ((x : A × A) × (e ≡ Some (Effect.Front x.0 x.1)) × (o.was_open ≡ true)) (e ≡ None) → Leads R e S

@@ -14,8 +14,9 @@ use Rattle.law_common.proofs.Tails.{position_tail, shut_tail}
 use Rattle.law_common.specs.Stand.{Stand}
 use Rattle.machine_replay.proofs.StandOf.{running_of}
 use Rattle.law_ring.specs.RingShared as ring
-use Rattle.law_ring.specs.RingCells.{Cell, Free, Written, Read, Coming, Swapped, Ring, RingOk, CellOk, HoldsNone, owner, queue_of}
-use Rattle.law_ring.specs.RingAt.{At, push_tail, push_stamp, claiming, filling, push_head, displacing, arriving, swapping, spending, pop_head, pop_stamp, taking, emptying, pop_tail, len_tail, len_head, len_again, empty_head, empty_tail, full_tail, full_head, closing, closed_tail}
+use Rattle.law_ring.specs.RingCells.{Cell, Free, Written, Read, Coming, Swapped, Ring, RingOk, CellOk, owner, queue_of}
+use Rattle.law_ring.specs.RingAt.{At, push_stamp, claiming, filling, push_head, displacing, arriving, swapping, pop_stamp, taking, emptying, pop_tail, len_head, len_again}
+use Rattle.law_ring.proofs.RingStart.{holds_none}
 use Rattle.law_ring.specs.RingOpening.{opening_ring}
 use Rattle.law_ring.specs.RingWords.{Codes, stamp_in}
 use Rattle.law_ring.proofs.RingGood.{Goes, IsQuiet}
@@ -34,29 +35,6 @@ use Rattle.machine_replay.specs.Progress.{AppendsReplyWithin, TakesReplyWithin, 
 use Rattle.machine_replay.proofs.Appended.{HasAppend, appends_reply}
 use Rattle.machine_replay.proofs.Taken.{HasTake, takes_reply}
 use Rattle.machine_replay.proofs.Stretch.{Rules, Paces, unhindered, never_waits, waits_take_none}
-
--- a call that has had no effect holds no slot
-holds_none : {A : Type 0} {cap : ℕ} {r : Ring A} {who : ℕ} {ms : List (State A)} {was : Bool} {c : Stand A} → At cap r who ms was c → c.effects ≡ [] → HoldsNone r.cells who
-holds_none (push_tail d v none) e = none
-holds_none (push_stamp d v t none saw) e = none
-holds_none (claiming d v t none saw free) e = none
-holds_none (push_head v t none saw) e = none
-holds_none (displacing v t h none saw back full) e = none
-holds_none (spending d v none high) e = none
-holds_none (pop_head none) e = none
-holds_none (pop_stamp h none low) e = none
-holds_none (taking h none low full) e = none
-holds_none (pop_tail h none low free) e = none
-holds_none (len_tail none) e = none
-holds_none (len_head t none low) e = none
-holds_none (len_again t h none seen) e = none
-holds_none (empty_head none) e = none
-holds_none (empty_tail h none saw) e = none
-holds_none (full_tail none) e = none
-holds_none (full_head t none saw) e = none
-holds_none (closing none) e = none
-holds_none (closed_tail none) e = none
-holds_none x e = cc
 
 -- a ring with these words
 ring_by : (A : Type 0) → ℕ → ℕ → Bool → Ring A
@@ -148,7 +126,6 @@ falls_at : {A : Type 0} {cap : ℕ} {r : Ring A} {who : ℕ} {ms : List (State A
     → far cap (step_of (Kind.Bounded cap) ok s (running_of c)).shared x.local < far cap s c.local
     → near (far cap (step_of (Kind.Bounded cap) ok s (running_of c)).shared x.local) < near (far cap s c.local)
 unfolding far ring_by
-falls_at ok s x (push_tail d v none) fine codes quiet goes less = near_falls _ _ less (omega arith)
 falls_at {cap = cap} {r = r} {who = who} ok s x (push_stamp d v t none saw) fine codes quiet goes less =
     elim (eqb_tells (position_of t) (position_of s.tail)) [
       | inl same ↦ near_falls _ _ less (rw same.0 (omega arith))
@@ -163,26 +140,14 @@ falls_at {cap = cap} {r = r} {who = who} ok s x (push_stamp d v t none saw) fine
           stale_falls _ _ (after_stamp cap (step_of (Kind.Bounded cap) ok s (record { local = Local.Bounded (BoundedLocal.PushStamp d t); touch = Touch.Nothing; op = Op.Load (Word.Stamp (slot_at cap (position_of t))); carried = Some v })).shared d t (word_at s (Word.Stamp i)) (Some v) x late goes) (rw other.0 (omega arith))
     ]
 falls_at {cap = cap} ok s x (claiming d v t none saw free) fine codes quiet goes less = near_falls _ _ less (either_small (position_of t == position_of s.tail) 2 5 6 (omega arith) (omega arith))
-falls_at ok s x (filling d v q one) fine codes quiet goes less = near_falls _ _ less (omega arith)
 falls_at {cap = cap} ok s x (push_head v t none saw) fine codes quiet goes less = near_falls _ _ less (either_small (s.head + cap == position_of t) 1 6 6 (omega arith) (omega arith))
 falls_at {cap = cap} ok s x (displacing v t h none saw back full) fine codes quiet goes less = near_falls _ _ less (either_small (s.head + cap == position_of t) 3 6 6 (omega arith) (omega arith))
-falls_at ok s x (arriving old v t h below back one) fine codes quiet goes less = near_falls _ _ less (omega arith)
-falls_at ok s x (swapping old v h one) fine codes quiet goes less = near_falls _ _ less (omega arith)
-falls_at ok s x (spending d v none high) fine codes quiet goes less = near_falls _ _ less (omega arith)
-falls_at ok s x (pop_head none) fine codes quiet goes less = near_falls _ _ less (omega arith)
 falls_at ok s x (pop_stamp h none low) fine codes quiet goes less = near_falls _ _ less (either_small (h == s.head) 3 6 6 (omega arith) (omega arith))
 falls_at ok s x (taking h none low full) fine codes quiet goes less = near_falls _ _ less (either_small (h == s.head) 2 4 6 (omega arith) (omega arith))
-falls_at ok s x (emptying y h one) fine codes quiet goes less = near_falls _ _ less (omega arith)
 falls_at ok s x (pop_tail h none low free) fine codes quiet goes less = near_falls _ _ less (either_small (position_of s.tail == h) 1 5 6 (omega arith) (omega arith))
-falls_at ok s x (len_tail none) fine codes quiet goes less = near_falls _ _ less (omega arith)
 falls_at ok s x (len_head t none low) fine codes quiet goes less = near_falls _ _ less (either_small _ 2 5 6 (omega arith) (omega arith))
 falls_at ok s x (len_again t h none seen) fine codes quiet goes less = near_falls _ _ less (either_small _ 1 4 6 (omega arith) (omega arith))
-falls_at ok s x (empty_head none) fine codes quiet goes less = near_falls _ _ less (omega arith)
-falls_at ok s x (empty_tail h none saw) fine codes quiet goes less = near_falls _ _ less (omega arith)
-falls_at ok s x (full_tail none) fine codes quiet goes less = near_falls _ _ less (omega arith)
-falls_at ok s x (full_head t none saw) fine codes quiet goes less = near_falls _ _ less (omega arith)
-falls_at ok s x (closing none) fine codes quiet goes less = near_falls _ _ less (omega arith)
-falls_at ok s x (closed_tail none) fine codes quiet goes less = near_falls _ _ less (omega arith)
+falls_at ok s x _ fine codes quiet goes less = near_falls _ _ less (omega arith)
 
 module _ {A : Type 0} (cap : ℕ) where
   own_granted : (busy : ℕ) (s : Shared A) (Q : State A) (g : Ring A) (p : ℕ) (x x' : Running A) (o : Open A) → RingHolds cap s Q g → RingFits cap busy s Q g p x o → ((j : ℕ) → j ≢ p → RingIdle g j)

@@ -9,7 +9,8 @@ use Rattle.machine_replay.specs.Vocabulary.{Kind, Word, Op, Touch, Local, Next, 
 use Rattle.law_common.proofs.Tails.{position_tail}
 use Rattle.law_common.specs.Stand.{Stand}
 use Rattle.law_ring.specs.RingCells.{Cell, Free, Written, Full, Read, Coming, Swapped, Ring, CellOk, owner}
-use Rattle.law_ring.specs.RingAt.{At, push_tail, push_stamp, claiming, filling, push_head, displacing, arriving, swapping, spending, pop_head, pop_stamp, taking, emptying, pop_tail, len_tail, len_head, len_again, empty_head, empty_tail, full_tail, full_head, closing, closed_tail}
+use Rattle.law_ring.specs.RingAt.{At, push_stamp, filling, arriving, swapping, pop_stamp, emptying}
+use Rattle.law_ring.proofs.RingStart.{holds_none}
 use Rattle.law_ring.specs.RingWords.{stamp_in}
 use Rattle.law_ring.proofs.RingCells.{together, wraps}
 use Rattle.law_ring.proofs.RingTransitions.{in_ring}
@@ -34,29 +35,11 @@ HolderAt (Swapped q who old v) l = l ≡ Local.Bounded BoundedLocal.Swapping
 HolderAt x l = ⊥
 
 holds_at : {A : Type 0} {cap : ℕ} {r : Ring A} {who : ℕ} {ms : List (State A)} {was : Bool} {c : Stand A} (i : ℕ) → At cap r who ms was c → owner (r.cells i) ≡ Some who → HolderAt (r.cells i) c.local
-holds_at i (push_tail d v none) e = absurd (none i e)
-holds_at i (push_stamp d v t none saw) e = absurd (none i e)
-holds_at i (claiming d v t none saw free) e = absurd (none i e)
 holds_at {r = r} i (filling d v q one) e = subst (λ c. HolderAt c (Local.Bounded (BoundedLocal.Filling d))) (sym (ap r.cells (one.1 i e) ∙ one.0)) tt
-holds_at i (push_head v t none saw) e = absurd (none i e)
-holds_at i (displacing v t h none saw back full) e = absurd (none i e)
 holds_at {r = r} i (arriving old v t h below back one) e = subst (λ c. HolderAt c (Local.Bounded (BoundedLocal.Arriving t))) (sym (ap r.cells (one.1 i e) ∙ one.0)) (t, refl)
 holds_at {r = r} i (swapping old v h one) e = subst (λ c. HolderAt c (Local.Bounded BoundedLocal.Swapping)) (sym (ap r.cells (one.1 i e) ∙ one.0)) refl
-holds_at i (spending d v none high) e = absurd (none i e)
-holds_at i (pop_head none) e = absurd (none i e)
-holds_at i (pop_stamp h none low) e = absurd (none i e)
-holds_at i (taking h none low full) e = absurd (none i e)
 holds_at {r = r} i (emptying x h one) e = subst (λ c. HolderAt c (Local.Bounded BoundedLocal.Emptying)) (sym (ap r.cells (one.1 i e) ∙ one.0)) refl
-holds_at i (pop_tail h none low free) e = absurd (none i e)
-holds_at i (len_tail none) e = absurd (none i e)
-holds_at i (len_head t none low) e = absurd (none i e)
-holds_at i (len_again t h none seen) e = absurd (none i e)
-holds_at i (empty_head none) e = absurd (none i e)
-holds_at i (empty_tail h none saw) e = absurd (none i e)
-holds_at i (full_tail none) e = absurd (none i e)
-holds_at i (full_head t none saw) e = absurd (none i e)
-holds_at i (closing none) e = absurd (none i e)
-holds_at i (closed_tail none) e = absurd (none i e)
+holds_at i x e = absurd (holds_none x refl i e)
 
 -- a party has the slot, and stands at such a step
 abbrev Waits : {A : Type 0} → Cell A → (Local ℕ → Type 0) → Type 0

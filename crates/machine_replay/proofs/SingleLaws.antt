@@ -4,7 +4,7 @@ use Rattle.queue_steps.specs.State.{State}
 use Rattle.queue_steps.specs.Next.{next_of, CanNext}
 use Rattle.queue_steps.specs.WaitFree.{is_wait_free}
 use Rattle.queue_steps.specs.Replies.{IsRightAt}
-use Rattle.machine_replay.specs.Vocabulary.{Call, Reply, Effect, Kind, Look, Next, Running}
+use Rattle.machine_replay.specs.Vocabulary.{Call, Reply, Effect, Kind, Next, Running}
 use Rattle.law_common.specs.Effects.{with_effect}
 use Rattle.machine_replay.proofs.StandOf.{stand_of}
 use Rattle.law_slot.specs.SlotShared as slot
@@ -126,11 +126,8 @@ begun_well s Q g p (Call.Push v) holds free = (refl, fresh s Q g p (Call.Push v)
 begun_well s Q g p (Call.ForcePush v) holds free = (refl, fresh s Q g p (Call.ForcePush v) _ free (force_try_empty v))
 begun_well s Q g p Call.Pop holds free = (refl, fresh s Q g p Call.Pop _ free (pop_try false))
 begun_well s Q g p Call.Close holds free = (refl, fresh s Q g p Call.Close _ free close_try)
-begun_well s Q g p Call.IsClosed holds free = (refl, fresh s Q g p Call.IsClosed _ free (look_at Look.IsClosed))
-begun_well s Q g p Call.IsEmpty holds free = (refl, fresh s Q g p Call.IsEmpty _ free (look_at Look.IsEmpty))
-begun_well s Q g p Call.IsFull holds free = (refl, fresh s Q g p Call.IsFull _ free (look_at Look.IsFull))
-begun_well s Q g p Call.Len holds free = (refl, fresh s Q g p Call.Len _ free (look_at Look.Len))
 begun_well s Q g p Call.Capacity holds free = (refl, sym (ap (λ q. q.cap) holds.queue_is))
+begun_well s Q g p look holds free = (refl, fresh s Q g p look _ free (look_at _))
 
 pub single_engine : {T : Type 0} → LawsOf T Kind.Single (Keeps T) Holds Idle FitsIn
 single_engine {T} = record {

@@ -1,33 +1,25 @@
 -- What a step of a call on one slot is in the book: its effects begin those of a reply, and its effect moves the queue.
-use Rattle.std.proofs.Common.{ℕ, ◌≡◌, ◌==◌, inl, Bool, true, false, if◌then◌else◌, Option, Some, None, Ok, Err, [], ◌∷◌, refl}
+use Rattle.std.proofs.Common.{ℕ, ◌≡◌, ◌==◌, inl, Bool, true, false, if◌then◌else◌, Option, Some, None, Ok, List, [], refl, Err, ◌∷◌}
 use Rattle.queue_steps.specs.State.{State}
 use Rattle.queue_steps.specs.SingleNext.{is_marked}
-use Rattle.machine_replay.specs.Vocabulary.{Reply, Effect, PopError, Kind, Answer, Look, Local, PushKind, EffectKind}
+use Rattle.machine_replay.specs.Vocabulary.{Call, Reply, Effect, Kind, Op, Touch, Answer, Local, PushKind, EffectKind, PopError, Look}
 use Rattle.queue_steps.specs.declared.steps.single.SingleLocal.TheVariants.{Pushing, Forcing, Popping, Closing}
 use Rattle.law_common.specs.Effects.{Leads, with_effect, Whether}
 use Rattle.law_common.specs.Stand.{Stand}
 use Rattle.law_slot.specs.SlotHolder.{SlotHolder}
-use Rattle.law_slot.specs.SlotRows.{At, push_try, push_put, force_try_empty, force_try_full, force_put_empty, force_put_full, pop_try, pop_take, close_try, look_at, IsEffect}
+use Rattle.law_slot.specs.SlotRows.{At, push_put, force_put_empty, force_put_full, pop_take, IsEffect}
 use Rattle.machine_replay.specs.Book.{IsBegun, Open, Moves}
 use Rattle.machine_memory.specs.EffectOf.{effect_of}
-use Rattle.machine_replay.proofs.Moments.{begun_push}
+use Rattle.machine_replay.proofs.Moments.{begun_none, begun_append}
 use Rattle.machine_replay.proofs.Moving.{no_move, moved, won, marked, appends, takes}
 
 -- the effects of a call in progress begin those of some reply
 pub single_begun : {T : Type 0} {c : Stand T} {own : SlotHolder T} → At c own → IsBegun c.call c.effects
-single_begun (push_try v) = (begun_push PushKind.Push v).0
-single_begun (push_put v) = (begun_push PushKind.Push v).1
-single_begun (force_try_empty v) = (begun_push PushKind.Force v).0
-single_begun (force_try_full v) = (begun_push PushKind.Force v).0
-single_begun (force_put_empty v) = (begun_push PushKind.Force v).1
+single_begun (push_put v) = begun_append PushKind.Push v
+single_begun (force_put_empty v) = begun_append PushKind.Force v
 single_begun (force_put_full old v) = (Reply.ForcePush (Ok (Some old)), [], inl refl)
-single_begun (pop_try d) = (Reply.Pop (Err PopError.Empty), [], refl)
 single_begun (pop_take x) = (Reply.Pop (Ok x), [], refl)
-single_begun close_try = (Reply.Close true, Effect.Close ∷ [], refl)
-single_begun (look_at Look.IsClosed) = (Reply.IsClosed true, [], refl)
-single_begun (look_at Look.IsEmpty) = (Reply.IsEmpty true, [], refl)
-single_begun (look_at Look.IsFull) = (Reply.IsFull true, [], refl)
-single_begun (look_at Look.Len) = (Reply.Len 0, [], refl)
+single_begun {c = c} x = begun_none c.call
 
 -- the exchange of a push by force that wins appends, or replaces the item that it saw
 forces : {T : Type 0} (Q R S : State T) (o : Open T) (e : Option (Effect T)) (shut same empty : Bool) → Q ≡ R

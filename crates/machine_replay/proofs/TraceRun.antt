@@ -1,34 +1,23 @@
 -- Every run leaves a trace, and so a conforming replay has a history.
-use Rattle.std.proofs.Common.{zero, suc, length, ◌≡◌, ◌≢◌, ◌⊎◌, ◌∙◌, ℕ, ◌+◌, ◌<◌, nat_lt, Bool, false, if◌then◌else◌, Option, Some, None, is_some, is_none, Ok, Err, List, [], ◌∷◌, ◌++◌, refl, sym, ap, subst, arith, inl, inr, append-nil, append_assoc, slice_get, Contains}
+use Rattle.std.proofs.Common.{zero, suc, length, ◌≡◌, ◌≢◌, ◌⊎◌, ◌∙◌, ℕ, ◌+◌, ◌<◌, nat_lt, Bool, false, if◌then◌else◌, Option, Some, None, is_some, is_none, List, [], ◌∷◌, ◌++◌, refl, sym, ap, subst, arith, inl, inr, append-nil, append_assoc, slice_get, Contains}
 use Rattle.std.specs.List.{AllByRecursion}
 use Rattle.std.proofs.lemmas.List.Elements.{All-contains, All-from_recursion}
 use Rattle.law_common.proofs.Tests.{is_none_true}
 use Rattle.queue_steps.specs.Replies.{IsRightAt}
-use Rattle.machine_replay.specs.Vocabulary.{Call, Reply, Effect, PopError, Event, Told, EffectKind, Begin, Step, Skipped, Ran}
+use Rattle.machine_replay.specs.Vocabulary.{Call, Reply, Effect, Event, Told, EffectKind, Begin, Step, Skipped, Ran}
 use Rattle.machine_replay.specs.Book.{Book, Open, IsBegun, Steps, GoesOn, Happens, Run, has_steps, begun, joined, watched, after_own, put, at_open, opening}
 use Rattle.machine_replay.specs.Conforms.{entries_from, reply_entry, skipped_entry}
 use Rattle.machine_replay.specs.InCall.{IsInCall}
 use Rattle.machine_replay.specs.Meaning.{Entry, state_after, own_effects, RepliesAtOnce, ConformingHasHistory}
 use Rattle.machine_replay.proofs.Calls.{answered}
 use Rattle.machine_replay.proofs.Displacing.{pending}
+use Rattle.machine_replay.proofs.Moments.{begun_none}
 use Rattle.machine_replay.proofs.Entries.{each-all, each-more, event-last, state-last, own-none}
 use Rattle.machine_replay.proofs.Solo.{and-right}
 use Rattle.machine_replay.proofs.Rising.{replies-rise, skipped-late, skipped-rise}
 use Rattle.machine_replay.proofs.SkipsAll.{in-call-at-end}
 use Rattle.machine_replay.proofs.Trace.{Since, Trace, ReplyOwes, FitsIf, trace-more, added, leads-added}
 use Rattle.machine_replay.proofs.TraceSteps.{put-cases, at_open-cases, since-other, since-joined, since-watched, moves-does, Does, since-own, answer-own, entry-owes, others-wait}
-
--- no effect begins the effects of every call
-begun-nil : {T : Type 0} (c : Call T) → IsBegun c []
-begun-nil (Call.Push v) = (Reply.Push (Ok tt), Effect.Append v ∷ [], refl)
-begun-nil (Call.ForcePush v) = (Reply.ForcePush (Ok None), Effect.Append v ∷ [], refl)
-begun-nil Call.Pop = (Reply.Pop (Err PopError.Empty), [], refl)
-begun-nil Call.Close = (Reply.Close false, [], refl)
-begun-nil Call.IsClosed = (Reply.IsClosed false, [], refl)
-begun-nil Call.IsEmpty = (Reply.IsEmpty false, [], refl)
-begun-nil Call.IsFull = (Reply.IsFull false, [], refl)
-begun-nil Call.Len = (Reply.Len 0, [], refl)
-begun-nil Call.Capacity = (Reply.Capacity None, [], refl)
 
 -- the trace after one event more
 record Next {T : Type 0} (cap : Option ℕ) (S : List ℕ) (past : List (Event T)) (told : List (Told T)) (n : ℕ) (x : Event T) (t : Told T) (c : Book T) : Type 0 where
@@ -60,7 +49,7 @@ began-next {T} cap S past told n H R b c p k tr ran same = record {
       own = own-none p n (n + 1) H tr.early;
       moments = tt;
       opened = λ e. cc;
-      begun = begun-nil k;
+      begun = begun_none k;
       displaces = λ old v e. cc;
     }
 

@@ -114,11 +114,7 @@ sound-state Q (call.ForcePush v) s =
     table_cases (λ l. IsSound l.1) Q _ _ _ _ (λ e1. s) (λ e1 e2. shut-sound Q s) (λ e1 e2 e3. displaced-sound Q v s e2 e3) (λ e1 e2 e3. appended-sound Q v s e2 e3)
 sound-state Q call.Pop s = record { none_coming = s.none_coming; within = within-rest Q.cap Q.items s.within; counted = s.counted }
 sound-state Q call.Close s = shut-sound Q s
-sound-state Q call.IsClosed s = s
-sound-state Q call.IsEmpty s = s
-sound-state Q call.IsFull s = s
-sound-state Q call.Len s = s
-sound-state Q call.Capacity s = s
+sound-state Q look s = s
 
 is_zero : (m : ℕ) → (m == 0) ≡ true → m ≡ 0
 is_zero m e = grind arith
@@ -127,25 +123,13 @@ is_zero m e = grind arith
 cap-sequential : {T : Type 0} (Q : State T) (c : Call T) → (sequential_state Q c).cap ≡ Q.cap
 cap-sequential Q (call.Push v) = table_cases (λ l. l.1.cap ≡ Q.cap) Q _ _ _ _ (λ e1. refl) (λ e1 e2. refl) (λ e1 e2 e3. refl) (λ e1 e2 e3. refl)
 cap-sequential Q (call.ForcePush v) = table_cases (λ l. l.1.cap ≡ Q.cap) Q _ _ _ _ (λ e1. refl) (λ e1 e2. refl) (λ e1 e2 e3. refl) (λ e1 e2 e3. refl)
-cap-sequential Q call.Pop = refl
-cap-sequential Q call.Close = refl
-cap-sequential Q call.IsClosed = refl
-cap-sequential Q call.IsEmpty = refl
-cap-sequential Q call.IsFull = refl
-cap-sequential Q call.Len = refl
-cap-sequential Q call.Capacity = refl
+cap-sequential Q c = refl
 
 -- nor is anything on its way in after it that was not before
 pub coming-sequential : {T : Type 0} (Q : State T) (c : Call T) → (sequential_state Q c).coming ≡ Q.coming
 coming-sequential Q (call.Push v) = table_cases (λ l. l.1.coming ≡ Q.coming) Q _ _ _ _ (λ e1. refl) (λ e1 e2. refl) (λ e1 e2 e3. refl) (λ e1 e2 e3. refl)
 coming-sequential Q (call.ForcePush v) = table_cases (λ l. l.1.coming ≡ Q.coming) Q _ _ _ _ (λ e1. refl) (λ e1 e2. refl) (λ e1 e2 e3. refl) (λ e1 e2 e3. refl)
-coming-sequential Q call.Pop = refl
-coming-sequential Q call.Close = refl
-coming-sequential Q call.IsClosed = refl
-coming-sequential Q call.IsEmpty = refl
-coming-sequential Q call.IsFull = refl
-coming-sequential Q call.Len = refl
-coming-sequential Q call.Capacity = refl
+coming-sequential Q c = refl
 
 counted-zero : (single : Bool) (n : ℕ) → (if single then n else n + 1) ≡ 0 → n ≡ 0
 counted-zero true n e = e
@@ -157,13 +141,7 @@ zero-sequential Q (call.Push v) e =
     table_cases (λ l. l.1.accepted ≡ 0 → Q.accepted ≡ 0) Q _ _ _ _ (λ e1 e. e) (λ e1 e2 e. e) (λ e1 e2 e3 e. e) (λ e1 e2 e3. counted-zero (is_single_cap Q.cap) Q.accepted) e
 zero-sequential Q (call.ForcePush v) e =
     table_cases (λ l. l.1.accepted ≡ 0 → Q.accepted ≡ 0) Q _ _ _ _ (λ e1 e. e) (λ e1 e2 e. e) (λ e1 e2 e3. counted-zero (is_single_cap Q.cap) Q.accepted) (λ e1 e2 e3. counted-zero (is_single_cap Q.cap) Q.accepted) e
-zero-sequential Q call.Pop e = e
-zero-sequential Q call.Close e = e
-zero-sequential Q call.IsClosed e = e
-zero-sequential Q call.IsEmpty e = e
-zero-sequential Q call.IsFull e = e
-zero-sequential Q call.Len e = e
-zero-sequential Q call.Capacity e = e
+zero-sequential Q c e = e
 
 -- while nothing was accepted, the span does not depend on the list
 spanned-zero : (c : Option ℕ) (m n : ℕ) → spanned c 0 m ≡ spanned c 0 n

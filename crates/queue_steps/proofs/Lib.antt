@@ -1,4 +1,6 @@
 pub mod TableCases
+pub mod LookLaws
+pub mod LookNext
 pub mod Rows
 pub mod TableRows
 pub mod Keeping

@@ -16,6 +16,7 @@ use Rattle.queue_steps.specs.declared.errors.PopError.TheVariants as pop
 use Rattle.queue_steps.specs.declared.errors.PushError.TheVariants as push
 use Rattle.queue_steps.specs.declared.errors.ForcePushError.TheVariants as force
 use Rattle.queue_steps.proofs.TableCases.{at_shut, at_spent, at_full, at_room}
+use Rattle.queue_steps.proofs.LookLaws.{look_tells, look_right}
 
 -- the count agrees, but for a queue of one slot
 abbrev pub Same : {T : Type 0} → State T → ℕ → Type 0
@@ -102,12 +103,11 @@ module _ {T : Type 0} (Q : State T) (a : ℕ) (same : Same Q a) where
       let fits = (subst (Runs Q) tells runs).0 in rw tells (rw fits refl, record { items = refl; cap = refl; closed = refl; coming = refl; accepted = same })
   row call.Close (reply.Close false) es tells runs right opened =
       let at : Q.closed ≡ true = right tells in rw tells (rw at refl, record { items = refl; cap = refl; closed = sym at; coming = refl; accepted = same })
-  row call.IsClosed (reply.IsClosed b) es tells runs right opened = rw tells (ap reply.IsClosed (right tells), still)
-  row call.IsEmpty (reply.IsEmpty b) es tells runs right opened = rw tells (ap reply.IsEmpty (right tells), still)
-  row call.IsFull (reply.IsFull b) es tells runs right opened = rw tells (ap reply.IsFull (right tells), still)
-  row call.Len (reply.Len n) es tells runs right opened = rw tells (ap reply.Len (right tells), still)
-  row call.Capacity (reply.Capacity n) es tells runs right opened = rw tells (ap reply.Capacity (right tells), still)
-  row _ _ es tells runs right opened = absurd tells
+  row (call.Push v) _ es tells runs right opened = absurd tells
+  row (call.ForcePush v) _ es tells runs right opened = absurd tells
+  row call.Pop _ es tells runs right opened = absurd tells
+  row call.Close _ es tells runs right opened = absurd tells
+  row look r es tells runs right opened = let none = look_tells look r es tt tells in rw none (look_right Q look r tt (right none), still)
 
   -- a line of the table, or want of memory
   pub does_row : (c : Call T) (r : Reply T) (es : List (Effect T)) → Tells c r es → Runs Q es → (es ≡ [] → Allows c r Q) → WasOpen Q es → Does c r es ⊎ (LacksMemory Q c r × (es ≡ []))

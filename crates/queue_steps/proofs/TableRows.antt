@@ -5,7 +5,8 @@ use Rattle.queue_steps.specs.declared.sizes.TheConstants.{LIMIT}
 use Rattle.queue_steps.specs.declared.model.Effect.TheVariants as effect
 use Rattle.queue_steps.specs.State.{State, is_single_cap, fills, is_full}
 use Rattle.queue_steps.specs.Effect.{rest}
-use Rattle.queue_steps.specs.Replies.{Allows, LacksMemory, Tells, is_empty}
+use Rattle.queue_steps.specs.Replies.{Allows, LacksMemory, Tells}
+use Rattle.queue_steps.specs.Looks.{look_reply}
 use Rattle.queue_steps.specs.Sequential.{owner_table, is_spent, shut, appended, displaced, front, pop_result}
 use Rattle.queue_steps.specs.declared.errors.PushError.TheVariants as push
 use Rattle.queue_steps.specs.declared.errors.ForcePushError.TheVariants as force
@@ -152,11 +153,7 @@ line Q (call.Push v) s = push-line Q v s
 line Q (call.ForcePush v) s = force-line Q v s
 line Q call.Pop s = pop-line Q s
 line Q call.Close s = close-line Q
-line Q call.IsClosed s = quiet Q call.IsClosed (reply.IsClosed Q.closed) refl (inl refl)
-line Q call.IsEmpty s = quiet Q call.IsEmpty (reply.IsEmpty (is_empty Q.items)) refl (inl refl)
-line Q call.IsFull s = quiet Q call.IsFull (reply.IsFull (is_full Q)) refl (inl refl)
-line Q call.Len s = quiet Q call.Len (reply.Len (length Q.items)) refl (inl refl)
-line Q call.Capacity s = quiet Q call.Capacity (reply.Capacity Q.cap) refl (inl refl)
+line Q look s = quiet Q look (look_reply Q look) refl (inl refl)
 
 lacks : {T : Type 0} (Q : State T) (c : Call T) (r : Reply T) → LacksMemory Q c r → Stands Q c r Q
 lacks Q (call.Push v) (reply.Push (Err (push.NoMemory w))) h = quiet Q (call.Push v) (reply.Push (Err (push.NoMemory w))) (h.0, refl) (inr h)

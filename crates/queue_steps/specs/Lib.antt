@@ -2,11 +2,11 @@ pub mod Errors
 pub mod State
 pub mod Effect
 pub mod Replies
+pub mod Looks
 pub mod Sequential
 pub mod Legal
 pub mod Laws
 pub mod Kinds
-pub mod Looks
 pub mod SingleNext
 pub mod Words
 pub mod BoundedNext

@@ -3,7 +3,8 @@ use Rattle.std.specs.Prelude.{◌≡◌, ◌⊎◌, ℕ, ◌+◌, ◌-◌, ◌/�
 use Rattle.queue_steps.specs.declared.sizes.TheConstants.{LIMIT, BLOCK_SLOTS}
 use Rattle.queue_steps.specs.State.{State, start, is_full, is_single_cap}
 use Rattle.queue_steps.specs.Effect.{rest}
-use Rattle.queue_steps.specs.Replies.{is_empty, LacksMemory}
+use Rattle.queue_steps.specs.Replies.{LacksMemory}
+use Rattle.queue_steps.specs.Looks.{look_reply}
 use Rattle.queue_steps.specs.declared.model.Call.{Call}
 use Rattle.queue_steps.specs.declared.model.Reply.{Reply}
 use Rattle.queue_steps.specs.declared.model.Call.TheVariants as call
@@ -54,11 +55,7 @@ owner_table Q (call.ForcePush v) =
     else (reply.ForcePush (Ok None), appended Q v)))
 owner_table Q call.Pop = (reply.Pop (pop_result Q.closed Q.items), record Q { items = rest Q.items })
 owner_table Q call.Close = (reply.Close (not Q.closed), shut Q)
-owner_table Q call.IsClosed = (reply.IsClosed Q.closed, Q)
-owner_table Q call.IsEmpty = (reply.IsEmpty (is_empty Q.items), Q)
-owner_table Q call.IsFull = (reply.IsFull (is_full Q), Q)
-owner_table Q call.Len = (reply.Len (length Q.items), Q)
-owner_table Q call.Capacity = (reply.Capacity Q.cap, Q)
+owner_table Q look = (look_reply Q look, Q)
 
 abbrev pub sequential_reply : {T : Type 0} → State T → Call T → Reply T
 sequential_reply Q c = (owner_table Q c).0

@@ -1,7 +1,8 @@
 use Rattle.std.proofs.Common.{None, sym, ◌∙◌, subst}
 use Rattle.call_driver.proofs.Running.{Ends-step, Ends-reply, Ends-first}
 use Rattle.call_driver.proofs.Watching.{as_call, kind-as_call, look-answer}
-use Rattle.queue_steps.specs.LookNext.{IsLookNext, look_next-first, look_next}
+use Rattle.queue_steps.specs.LookNext.{IsLookNext}
+use Rattle.queue_steps.proofs.LookNext.{look_next-first, look_next}
 use Rattle.call_driver.proofs.own.observe.Goals as goal
 
 pub loop-init : goal.loop-init

@@ -1,0 +1,63 @@
+-- A call that changes nothing takes such steps alone.
+use Rattle.std.specs.Prelude.{ℕ, ◌-◌, ◌==◌, Bool, true, false, refl, if◌then◌else◌}
+use Rattle.queue_steps.specs.declared.model.Call.{Call}
+use Rattle.queue_steps.specs.declared.model.Call.TheVariants as call
+use Rattle.queue_steps.specs.declared.steps.types.Answer.{Answer}
+use Rattle.queue_steps.specs.declared.steps.types.Answer.TheVariants as answer
+use Rattle.queue_steps.specs.declared.steps.types.Kind.{Kind}
+use Rattle.queue_steps.specs.declared.steps.types.Kind.TheVariants as kind
+use Rattle.queue_steps.specs.declared.steps.types.Local.{Local}
+use Rattle.queue_steps.specs.declared.steps.types.Local.TheVariants as local
+use Rattle.queue_steps.specs.declared.steps.single.SingleLocal.TheVariants as slot
+use Rattle.queue_steps.specs.declared.steps.bounded.BoundedLocal.TheVariants as ring
+use Rattle.queue_steps.specs.declared.steps.bounded.BoundedLocal.{BoundedLocal}
+use Rattle.queue_steps.specs.declared.steps.types.Word.TheVariants as word
+use Rattle.queue_steps.specs.declared.model.Reply.TheVariants as reply
+use Rattle.queue_steps.specs.declared.steps.unbounded.UnboundedLocal.{UnboundedLocal}
+use Rattle.queue_steps.specs.declared.steps.unbounded.UnboundedLocal.TheVariants as chain
+use Rattle.queue_steps.specs.Words.{position_of}
+use Rattle.queue_steps.specs.ChainWords.{items_before}
+use Rattle.queue_steps.specs.UnboundedNext.{unbounded_next, FitsChain}
+use Rattle.queue_steps.specs.UnboundedNext as unbounded
+use Rattle.queue_steps.specs.BoundedNext.{ends, loads, bounded_next, FitsRing}
+use Rattle.queue_steps.specs.Looks.{IsLook}
+use Rattle.queue_steps.specs.Next.{CanNext, next_of, first_local}
+use Rattle.queue_steps.specs.LookNext.{IsLookLocal, IsLookNext}
+
+pub look_next-first : (B : Type 0) (k : Kind) (c : Call Unit) → IsLook c → IsLookNext (next_of {B = B} k (first_local c) answer.Start)
+look_next-first B k (call.Push v) h = absurd h
+look_next-first B k (call.ForcePush v) h = absurd h
+look_next-first B k call.Pop h = absurd h
+look_next-first B k call.Close h = absurd h
+look_next-first B kind.Single look h = assumption
+look_next-first B (kind.Bounded n) look h = assumption
+look_next-first B kind.Unbounded look h = assumption
+
+-- a length that was read while the tail moved is read again
+look_again : (B : Type 0) (b : Bool) (n : ℕ) → IsLookNext {B = B} (if b then ends (reply.Len n) else loads ring.LenTail word.Tail)
+look_again B true n = refl
+look_again B false n = (refl, tt, refl)
+
+look_next-ring : {B : Type 0} (n : ℕ) (l : BoundedLocal) (a : Answer B) → FitsRing n l a → IsLookLocal {B = B} (local.Bounded l) → IsLookNext (bounded_next n l a)
+look_next-ring n ring.Closing a fits is = absurd is
+look_next-ring {B} n (ring.LenAgain t h) (answer.Found found) fits is = look_again B (found == t) (position_of t - h)
+look_next-ring n l (answer.Found found) fits is = first_of (assumption, cc)
+look_next-ring n l _ fits is = cc
+
+look_again-chain : (B : Type 0) (b : Bool) (n : ℕ) → IsLookNext {B = B} (if b then unbounded.ends (reply.Len n) else unbounded.loads chain.LenTail word.Tail)
+look_again-chain B true n = refl
+look_again-chain B false n = (refl, tt, refl)
+
+look_next-chain : {B : Type 0} (l : UnboundedLocal B) (a : Answer B) → FitsChain l a → IsLookLocal {B = B} (local.Unbounded l) → IsLookNext (unbounded_next l a)
+look_next-chain chain.Closing a fits is = absurd is
+look_next-chain {B} (chain.LenAgain t h) (answer.Found found) fits is = look_again-chain B (found == t) (items_before (position_of t) - items_before (position_of h))
+look_next-chain l (answer.Found found) fits is = first_of (assumption, cc)
+look_next-chain l _ fits is = cc
+
+pub look_next : {B : Type 0} (k : Kind) (l : Local B) (a : Answer B) → CanNext k l a → IsLookLocal l → IsLookNext (next_of k l a)
+look_next k (local.Begin c) a can h = absurd h
+look_next kind.Single (local.Single (slot.Looking l)) (answer.Found word) can h = refl
+look_next kind.Single (local.Single l) (answer.Found word) can h = absurd h
+look_next (kind.Bounded n) (local.Bounded l) a can h = look_next-ring n l a can.1 h
+look_next kind.Unbounded (local.Unbounded l) a can h = look_next-chain l a can h
+look_next k l a can h = absurd can
