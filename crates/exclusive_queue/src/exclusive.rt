@@ -22,8 +22,6 @@ ghost use Rattle.call_driver.specs.Apart.{FitsCall, SequentialApart};
 ghost use Rattle.queue_steps.specs.declared.model.Call.TheVariants as call;
 ghost use Rattle.queue_steps.specs.declared.model.Reply.TheVariants as reply;
 
-use crate::sealed::Sealed;
-use crate::store::Store;
 use crate::text::write_queue;
 use atomic_table::Closed;
 use call_driver::own::drive_in_loop;
@@ -31,6 +29,8 @@ use mem_blocks::chain::Chain;
 use mem_blocks::item::{Item, Place};
 use own_bounded::bounded::Ring;
 use own_bounded::single::Single;
+use own_calls::sealed::Sealed;
+use own_calls::store::Store;
 use own_unbounded::unbounded::{LinkedBlocks, Name};
 use queue_steps::errors::{ForcePushError, PopError, PushError};
 use queue_steps::model::{Call, CallKind, Reply, ReplyKind};

@@ -2,8 +2,6 @@
 #![tactic(auto)]
 
 pub mod exclusive;
-mod fills;
-mod sealed;
 pub mod store;
 pub mod text;
 

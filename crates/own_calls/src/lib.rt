@@ -1,0 +1,6 @@
+//! The calls of a queue with one owner, however it keeps its items.
+#![tactic(auto)]
+
+mod fills;
+pub mod sealed;
+pub mod store;

@@ -1,0 +1,115 @@
+//! The forms of a queue with one owner, as what runs calls sees them.
+ghost use Rattle.std.specs.Prelude.{◌≡◌};
+ghost use Rattle.queue_steps.specs.Legal.{IsSoundOwned};
+ghost use Rattle.queue_steps.specs.Looks.{IsLook, look_reply};
+ghost use Rattle.queue_steps.specs.Sequential.{Owned};
+ghost use Rattle.call_driver.specs.Apart.{FitsCall, SequentialApart};
+
+use call_driver::own::{drive, observe};
+use own_bounded::bounded::Ring;
+use own_bounded::single::Single;
+use own_unbounded::unbounded::{LinkedBlocks, Name};
+use queue_steps::model::{CallKind, ReplyKind};
+use std::alloc::Allocator;
+
+/// What keeps the items of a queue with one owner. `exclusive_queue` does not give it on, so who has that crate alone can make no `Store`.
+pub trait Sealed<T> {
+    /// No call is on its way.
+    ghost idle: { Self → Type 0 };
+
+    /// The queue that is kept, where no call is on its way.
+    ghost owned: { Self → Owned T };
+
+    /// Runs a call to its end. The place of the value that it carries is lent, and then holds what it ends with. `W` tells the calls apart, so that each has fast steps of its own.
+    fn settle<W>(&mut self, call: CallKind, carried: &mut Option<T>) -> ReplyKind
+        requires idle { idle self.old }
+        requires whole { FitsCall call carried.old }
+        ensures idle { idle self.new }
+        ensures sequential { SequentialApart (owned self.old) call carried.old result carried.new (owned self.new) };
+
+    /// Runs a call that changes nothing to its end.
+    fn look(&self, call: CallKind) -> ReplyKind
+        requires idle { idle self.now }
+        requires look { IsLook call }
+        ensures { result ≡ look_reply (owned self.now).queue call };
+
+    /// Does nothing. Its contract tells what holds between calls.
+    fn show_sound(&self)
+        requires { idle self.now }
+        ensures { IsSoundOwned (owned self.now) };
+}
+
+impl<T> Sealed<T> for Single<T> {
+    ghost use Rattle.own_bounded.specs.SingleCells.{IsIdle, single_owned};
+
+    ghost idle = { IsIdle };
+
+    ghost owned = { single_owned };
+
+    #[inline(always)]
+    fn settle<W>(&mut self, call: CallKind, carried: &mut Option<T>) -> ReplyKind
+        requires idle { IsIdle self.old }
+        requires whole { FitsCall call carried.old }
+        ensures idle { IsIdle self.new }
+        ensures sequential { SequentialApart (single_owned self.old) call carried.old result carried.new (single_owned self.new) }
+    {
+        drive::<T, (), Single<T>, W>(self, call, carried)
+    }
+
+    #[inline(always)]
+    fn look(&self, call: CallKind) -> ReplyKind {
+        observe::<T, (), Single<T>>(self, call)
+    }
+
+    fn show_sound(&self) {}
+}
+
+impl<T, A: Allocator> Sealed<T> for Ring<T, A> {
+    ghost use Rattle.own_bounded.specs.RingOwned.{IsIdle, ring_owned};
+
+    ghost idle = { IsIdle };
+
+    ghost owned = { ring_owned };
+
+    #[inline(always)]
+    fn settle<W>(&mut self, call: CallKind, carried: &mut Option<T>) -> ReplyKind
+        requires idle { IsIdle self.old }
+        requires whole { FitsCall call carried.old }
+        ensures idle { IsIdle self.new }
+        ensures sequential { SequentialApart (ring_owned self.old) call carried.old result carried.new (ring_owned self.new) }
+    {
+        drive::<T, (), Ring<T, A>, W>(self, call, carried)
+    }
+
+    #[inline(always)]
+    fn look(&self, call: CallKind) -> ReplyKind {
+        observe::<T, (), Ring<T, A>>(self, call)
+    }
+
+    fn show_sound(&self) {}
+}
+
+impl<T, A: Allocator> Sealed<T> for LinkedBlocks<T, A> {
+    ghost use Rattle.own_unbounded.specs.OwnChainOwned.{IsIdle, own_chain_owned};
+
+    ghost idle = { IsIdle };
+
+    ghost owned = { own_chain_owned };
+
+    #[inline(always)]
+    fn settle<W>(&mut self, call: CallKind, carried: &mut Option<T>) -> ReplyKind
+        requires idle { IsIdle self.old }
+        requires whole { FitsCall call carried.old }
+        ensures idle { IsIdle self.new }
+        ensures sequential { SequentialApart (own_chain_owned self.old) call carried.old result carried.new (own_chain_owned self.new) }
+    {
+        drive::<T, Name<T>, LinkedBlocks<T, A>, W>(self, call, carried)
+    }
+
+    #[inline(always)]
+    fn look(&self, call: CallKind) -> ReplyKind {
+        observe::<T, Name<T>, LinkedBlocks<T, A>>(self, call)
+    }
+
+    fn show_sound(&self) {}
+}
