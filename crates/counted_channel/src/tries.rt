@@ -1,5 +1,7 @@
 //! Calls of the queue that are tried again: to the party they are one call.
+ghost use Rattle.std.specs.Prelude.{◌≡◌};
 ghost use Rattle.queue_steps.specs.declared.model.Call.TheVariants as call;
+ghost use Rattle.queue_steps.specs.declared.model.Reply.TheVariants as reply;
 ghost use Rattle.concurrent_queue.specs.Shared.{IsPartyOf, Calls};
 ghost use Rattle.counted_channel.specs.Channel.{sent, received, sent_or_full, received_or_empty};
 
@@ -29,7 +31,7 @@ pub fn push_until<T, A: NullTestable, R: Wait>(
     let mut value = value;
     for _ in rt.forever() {
         let ticket = patience.begin();
-        match push_once(queue, awaited, rt, party, value) {
+        match unless_full(push(queue, awaited, rt, party, value)) {
             Ok(answer) => {
                 end(ticket);
                 return answer;
@@ -41,18 +43,12 @@ pub fn push_until<T, A: NullTestable, R: Wait>(
     unreachable!()
 }
 
-/// Pushes `value`, or gives it back where the queue is full.
-fn push_once<T, A: NullTestable, R: Wait>(
-    queue: &ConcurrentQueue<T, A>,
-    awaited: &Awaited,
-    rt: &R,
-    party: &mut Party<T>,
-    value: T,
-) -> Result<Result<(), SendError<T>>, T>
-    requires { IsPartyOf party.old queue.now }
-    ensures { Calls party.old (call.Push value) (sent_or_full result) party.new }
+/// The answer of a push, or its value where the queue was full: that is pushed again.
+#[inline]
+fn unless_full<T>(pushed: Result<(), PushError<T>>) -> Result<Result<(), SendError<T>>, T>
+    ensures { sent_or_full result ≡ reply.Push pushed }
 {
-    match push(queue, awaited, rt, party, value) {
+    match pushed {
         Ok(()) => Ok(Ok(())),
         Err(PushError::Closed(back)) => Ok(Err(SendError::Closed(back))),
         Err(PushError::NoMemory(back)) => Ok(Err(SendError::NoMemory(back))),
@@ -77,7 +73,7 @@ pub fn pop_until<T, A: Allocator, R: Wait>(
     let mut patience = Patience::new(&awaited.items);
     for _ in rt.forever() {
         let ticket = patience.begin();
-        match pop_once(queue, awaited, rt, party) {
+        match unless_empty(pop(queue, awaited, rt, party)) {
             Some(answer) => {
                 end(ticket);
                 return answer;
@@ -88,17 +84,12 @@ pub fn pop_until<T, A: Allocator, R: Wait>(
     unreachable!()
 }
 
-/// Pops, or gives nothing where the queue is open and empty.
-fn pop_once<T, A: Allocator, R: Wait>(
-    queue: &ConcurrentQueue<T, A>,
-    awaited: &Awaited,
-    rt: &R,
-    party: &mut Party<T>,
-) -> Option<Result<T, Disconnected>>
-    requires { IsPartyOf party.old queue.now }
-    ensures { Calls party.old call.Pop (received_or_empty result) party.new }
+/// The answer of a pop, or nothing where the queue was open and empty: that is tried again.
+#[inline]
+fn unless_empty<T>(popped: Result<T, PopError>) -> Option<Result<T, Disconnected>>
+    ensures { received_or_empty result ≡ reply.Pop popped }
 {
-    match pop(queue, awaited, rt, party) {
+    match popped {
         Ok(item) => Some(Ok(item)),
         Err(PopError::Closed) => Some(Err(Disconnected)),
         Err(PopError::Empty) => None,
