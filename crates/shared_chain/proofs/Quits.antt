@@ -1,5 +1,5 @@
 -- A call on a chain that has had no effect is given up by a load of the tail's word: the rule stays, the seat is at nothing, and its spare is no block's name any more.
-use Rattle.std.proofs.Common.{◌≡◌, ◌≢◌, ℕ, false, Option, Some, None, List, [], set, refl, ap, sym, ◌∙◌, subst}
+use Rattle.std.proofs.Common.{◌≡◌, ◌≢◌, ℕ, Option, Some, None, List, [], set, refl, ap, sym, ◌∙◌, subst}
 use Rattle.std.proofs.lemmas.List.{length-replicate}
 use mathlib.Core.Option.{some}
 use mathlib.Core.List.{IsPrefix}
@@ -62,7 +62,7 @@ module _ {T : Type 0} where
       record {
         cells = after;
         history = r.history;
-        codes = codes_left te he g.chain g.out s.blocks (Next.Reply (Reply.IsFull false) spare) r.codes;
+        codes = codes_left te he g.chain g.out s.blocks (Next.Reply (Reply.Capacity None) spare) r.codes;
         all = quits chain_calls g r.history (word_of s.blocks 0 PARTIES) s.views id m.view r.all at after ok same others (λ j ne idle. chain_call_laws.idle_stays g after id j ne passes idle)
             (holds_given g.chain id spare Nothing e.1, spares_given g.chain id spare st.here.1);
       },

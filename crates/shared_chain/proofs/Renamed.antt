@@ -1,7 +1,7 @@
 -- The steps of a chain ask nothing of the names of blocks: with other names the next step is the same, with those names.
 use Rattle.std.proofs.Common.{ℕ, ◌+◌, ◌%◌, ◌≡◌, ◌==◌, Bool, true, false, not, if◌then◌else◌, Option, Some, None, IsSome, refl, bit_and, nat_lt, is_some}
 use Rattle.law_common.specs.Vocabulary.{Call, Kind, Answer, Local, Next, PushKind, UnboundedLocal, LIMIT, BLOCK_SLOTS, WRITE, READ, DESTROY}
-use Rattle.queue_steps.specs.declared.steps.types.Answer.TheVariants.{Start, Found, Linked, Granted, Refused, Done}
+use Rattle.queue_steps.specs.declared.steps.types.Answer.TheVariants.{Start, Found, Linked, Granted}
 use Rattle.queue_steps.specs.declared.steps.unbounded.UnboundedLocal.TheVariants as chain
 use Rattle.queue_steps.specs.Words.{position_of, is_shut}
 use Rattle.queue_steps.specs.ChainWords.{block_at, offset_of, items_before}
@@ -59,36 +59,22 @@ module _ {B C : Type 0} (f : B → C) where
   pub unbounded_next_map : (l : UnboundedLocal B) (a : Answer B) → FitsChain l a → unbounded_next (chain_map f l) (answer_map f a) ≡ next_map f (unbounded_next l a)
   unbounded_next_map (chain.PushTail d s) (Found t) fits = tail_found_map d t s
   unbounded_next_map (chain.PushBlock d t s) (Linked b) fits = block_found_map d t b s
-  unbounded_next_map (chain.Asking d t b) Refused fits = refl
   unbounded_next_map (chain.Asking d t b) (Granted s) fits = granted_map d t b s
   unbounded_next_map (chain.Installing d t s) (Linked b) fits = installed_map d t s b
-  unbounded_next_map (chain.Showing d t b) Done fits = refl
   unbounded_next_map (chain.Claiming d t b s) (Found x) fits = if_map (x == t) _ _ _ _ (if_map (is_last_slot t) _ _ _ _ (lays_map d t b s) refl) (tail_found_map d x s)
-  unbounded_next_map (chain.Laying d t b s) Done fits = refl
-  unbounded_next_map (chain.Opening d t b s) (Found x) fits = refl
-  unbounded_next_map (chain.Chaining d t b s) Done fits = refl
-  unbounded_next_map (chain.Writing d s) (Found x) fits = refl
-  unbounded_next_map (chain.ClosingAtLimit d s) (Found x) fits = refl
   unbounded_next_map chain.PopHead (Found x) fits = head_found_map x
   unbounded_next_map (chain.PopBlock h) (Linked b) fits = front_found_map h b
   unbounded_next_map (chain.PopTail h b) (Found t) fits = pop_tail_map h b t
   unbounded_next_map (chain.Taking h b) (Found x) fits = if_map (x == h) _ _ _ _ (if_map (is_last_slot h) _ _ _ _ refl refl) (head_found_map x)
   unbounded_next_map (chain.Following h b) (Linked a) fits = followed_map h b a
   unbounded_next_map (chain.Peeking h b a) (Linked x) fits = rw (some_map x) refl
-  unbounded_next_map (chain.Passing h b m) Done fits = refl
-  unbounded_next_map (chain.Entering h b) Done fits = refl
   unbounded_next_map (chain.Awaiting h b) (Found x) fits = if_map (bit_and x WRITE == 0) _ _ _ _ refl (if_map (is_last_slot h) _ _ _ _ refl refl)
   unbounded_next_map (chain.Reading b i) (Found x) fits = if_map (not (bit_and x DESTROY == 0)) _ _ _ _ (walks_on_map b i) refl
   unbounded_next_map (chain.Walking b i) (Found x) fits = if_map (not (bit_and x READ == 0)) _ _ _ _ (walks_on_map b i) refl
   unbounded_next_map (chain.Destroying b i) (Found x) fits = if_map (not (bit_and x READ == 0)) _ _ _ _ (walks_on_map b i) refl
-  unbounded_next_map chain.LenTail (Found t) fits = refl
-  unbounded_next_map (chain.LenHead t) (Found h) fits = refl
   unbounded_next_map (chain.LenAgain t h) (Found x) fits = if_map (x == t) _ _ _ _ refl refl
-  unbounded_next_map chain.EmptyHead (Found x) fits = refl
-  unbounded_next_map (chain.EmptyTail h) (Found x) fits = refl
-  unbounded_next_map chain.Closing (Found x) fits = refl
-  unbounded_next_map chain.ClosedTail (Found x) fits = refl
-  unbounded_next_map _ _ fits = absurd fits
+  unbounded_next_map l (Found x) fits = refl
+  unbounded_next_map l a fits = refl
 
   none_map : (b s : Option B) → (b ≡ None → s ≡ None) → name_map f b ≡ None → name_map f s ≡ None
   none_map None None h e = refl
@@ -101,38 +87,11 @@ module _ {B C : Type 0} (f : B → C) where
 
   -- an answer fits with other names where it fits
   pub fits_map : (l : UnboundedLocal B) (a : Answer B) → FitsChain l a → FitsChain (chain_map f l) (answer_map f a)
-  fits_map (chain.PushTail d s) (Found t) fits = fits
   fits_map (chain.PushBlock d t s) (Linked b) fits = (fits.0, none_map b s fits.1)
-  fits_map (chain.Asking d t b) Refused fits = tt
-  fits_map (chain.Asking d t b) (Granted s) fits = fits
-  fits_map (chain.Installing d t s) (Linked b) fits = tt
-  fits_map (chain.Showing d t b) Done fits = fits
   fits_map (chain.Claiming d t b s) (Found x) fits = (fits.0, λ e last. is_some_map s (fits.1 e last))
-  fits_map (chain.Laying d t b s) Done fits = tt
-  fits_map (chain.Opening d t b s) (Found x) fits = tt
-  fits_map (chain.Chaining d t b s) Done fits = tt
-  fits_map (chain.Writing d s) (Found x) fits = tt
-  fits_map (chain.ClosingAtLimit d s) (Found x) fits = tt
-  fits_map chain.PopHead (Found x) fits = tt
   fits_map (chain.PopBlock h) (Linked b) fits = (fits.0, λ e. is_some_map b (fits.1 e))
-  fits_map (chain.PopTail h b) (Found t) fits = fits
-  fits_map (chain.Taking h b) (Found x) fits = tt
-  fits_map (chain.Following h b) (Linked a) fits = tt
-  fits_map (chain.Peeking h b a) (Linked x) fits = tt
-  fits_map (chain.Passing h b m) Done fits = fits
-  fits_map (chain.Entering h b) Done fits = tt
-  fits_map (chain.Awaiting h b) (Found x) fits = tt
-  fits_map (chain.Reading b i) (Found x) fits = fits
-  fits_map (chain.Walking b i) (Found x) fits = fits
-  fits_map (chain.Destroying b i) (Found x) fits = fits
-  fits_map chain.LenTail (Found t) fits = tt
-  fits_map (chain.LenHead t) (Found h) fits = tt
-  fits_map (chain.LenAgain t h) (Found x) fits = fits
-  fits_map chain.EmptyHead (Found x) fits = tt
-  fits_map (chain.EmptyTail h) (Found x) fits = fits
-  fits_map chain.Closing (Found x) fits = tt
-  fits_map chain.ClosedTail (Found x) fits = tt
-  fits_map _ _ fits = absurd fits
+  fits_map l (Found x) fits = fits
+  fits_map l a fits = fits
 
   -- a call begins so with any names
   pub unbounded_begin_map : (c : Call Unit) → unbounded_begin c ≡ next_map f (unbounded_begin c)

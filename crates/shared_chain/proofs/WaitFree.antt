@@ -27,5 +27,4 @@ module _ (B : Type 0) where
   chain_wait_free Call.Close h = closing_ends
   chain_wait_free Call.IsClosed h = closed_ends
   chain_wait_free Call.IsEmpty h = empty_begins
-  chain_wait_free Call.IsFull h = tt
-  chain_wait_free c h = cc
+  chain_wait_free c h = first_of (assumption, cc)

@@ -7,7 +7,7 @@ use Rattle.law_common.specs.Vocabulary.{Effect}
 use Rattle.queue_steps.specs.State.{State}
 use Rattle.law_common.specs.Stand.{Stand}
 use Rattle.law_chain.specs.ChainCells.{Wrote, Reading, Chain, Read, reader_of}
-use Rattle.law_chain.specs.ChainAt.{At, push_tail, push_block, asking, installing, showing, claiming, laying, opening, chaining, writing, spending, pop_head, pop_block, pop_tail, taking, following, peeking, passing, entering, awaiting, reading, beginning, walking, destroying, len_tail, len_head, len_again, empty_head, empty_tail, closing, closed_tail}
+use Rattle.law_chain.specs.ChainAt.{At, reading, beginning, walking}
 use Rattle.shared_parties.specs.declared.known.CallState.{CallState}
 use Rattle.shared_parties.specs.declared.known.Work.{Work}
 use Rattle.shared_parties.specs.CallStates.{is_busy}
@@ -24,34 +24,7 @@ module _ {A : Type 0} where
   wrote_by {c = c} n (reading x m name more holds got wrote inner) mine has = (x, ap c.writers (let e = holds (Read n) (ap reader_of mine) in cc) ∙ wrote)
   wrote_by {c = c} n (beginning x m name more holds got wrote last) mine has = (x, ap c.writers (let e = holds (Read n) (ap reader_of mine) in cc) ∙ wrote)
   wrote_by n (walking x b name slot holds is named) mine has = absurd (let e = holds (Read n) (ap reader_of mine) in cc)
-  wrote_by n (push_tail d v spare a b) mine has = absurd (cc)
-  wrote_by n (push_block d v spare q a b e) mine has = absurd (cc)
-  wrote_by n (asking d v q lead a b e) mine has = absurd (cc)
-  wrote_by n (installing d v f a b e) mine has = absurd (cc)
-  wrote_by n (showing d v name a b e f) mine has = absurd (cc)
-  wrote_by n (claiming d v q name spare a b e f h) mine has = absurd (cc)
-  wrote_by n (laying d v m name f a b e h) mine has = absurd (cc)
-  wrote_by n (opening d v m name f a b e h k) mine has = absurd (cc)
-  wrote_by n (chaining d v m name f a b e h) mine has = absurd (cc)
-  wrote_by n (writing d v m name spare a b e) mine has = absurd (cc)
-  wrote_by n (spending d v spare a b e) mine has = absurd (cc)
-  wrote_by n (pop_head a) mine has = absurd (cc)
-  wrote_by n (pop_block m more a b e) mine has = absurd (cc)
-  wrote_by n (pop_tail m block a b e) mine has = absurd (cc)
-  wrote_by n (taking m name after more new a b e f h k) mine has = absurd (cc)
-  wrote_by n (following x m name more a b e) mine has = absurd (cc)
-  wrote_by n (peeking x m name after more a b e f) mine has = absurd (cc)
-  wrote_by n (passing x m name after more further a b e f h) mine has = absurd (cc)
-  wrote_by n (entering x m name more further a b e f) mine has = absurd (cc)
-  wrote_by n (awaiting x m name more a b) mine has = absurd (cc)
-  wrote_by n (destroying x b name slot a e f) mine has = absurd (cc)
-  wrote_by n (len_tail a) mine has = absurd (cc)
-  wrote_by n (len_head w a b e) mine has = absurd (cc)
-  wrote_by n (len_again w z a b e) mine has = absurd (cc)
-  wrote_by n (empty_head a) mine has = absurd (cc)
-  wrote_by n (empty_tail w a b e) mine has = absurd (cc)
-  wrote_by n (closing a) mine has = absurd (cc)
-  wrote_by n (closed_tail a) mine has = absurd (cc)
+  wrote_by n x mine has = absurd (cc)
 
   module _ (g : OutChain A) (h : List (Effect A)) (count : ℕ) (views : List (CallState A)) (all : CallsAt chain_calls g h count views) where
     -- a party that reads is at a call

@@ -1,7 +1,8 @@
 -- Which call a seat is at, told by its view and by the step that it is to do.
-use Rattle.std.specs.Prelude.{ℕ, [], Option, Some, None}
+use Rattle.std.specs.Prelude.{ℕ, [], Option, None}
 use Rattle.law_common.specs.Vocabulary.{Call, Op, Touch, Local}
 use Rattle.queue_steps.specs.Shares.{nothing}
+use Rattle.queue_steps.specs.Kinds.{with_value}
 use Rattle.shared_parties.specs.declared.known.InCall.{InCall}
 use Rattle.shared_parties.specs.declared.known.Work.{Work}
 use Rattle.shared_parties.specs.declared.known.CallState.{CallState}
@@ -9,18 +10,6 @@ use Rattle.shared_parties.specs.declared.known.CallState.{CallState}
 -- a call that is none
 abbrev pub nothing_called : {T : Type 0} → InCall T
 nothing_called = record { call = Call.Pop; local = Local.Begin Call.Pop; touch = Touch.Nothing; op = Op.Ask; carried = None; effects = []; places = []; since = []; before = []; share = nothing; lends = [] }
-
--- the call of this kind with this value
-abbrev pub with_value : {T : Type 0} → Call Unit → Option T → Call T
-with_value (Call.Push u) (Some v) = Call.Push v
-with_value (Call.ForcePush u) (Some v) = Call.ForcePush v
-with_value Call.Close x = Call.Close
-with_value Call.IsClosed x = Call.IsClosed
-with_value Call.IsEmpty x = Call.IsEmpty
-with_value Call.IsFull x = Call.IsFull
-with_value Call.Len x = Call.Len
-with_value Call.Capacity x = Call.Capacity
-with_value _ x = Call.Pop
 
 abbrev pub call_of_work : {T : Type 0} → InCall T → Work T → InCall T
 call_of_work c Work.Nothing = c

@@ -262,11 +262,8 @@ module _ {T : Type 0} where
   slot_opens_in (Call.ForcePush v) = (tt, (refl, tt, λ g j none. first_at g j none (force_try_empty v)))
   slot_opens_in Call.Pop = (tt, (refl, tt, λ g j none. first_at g j none (pop_try false)))
   slot_opens_in Call.Close = (tt, (refl, tt, λ g j none. first_at g j none close_try))
-  slot_opens_in Call.IsClosed = (tt, (refl, tt, λ g j none. first_at g j none (look_at Look.IsClosed)))
-  slot_opens_in Call.IsEmpty = (tt, (refl, tt, λ g j none. first_at g j none (look_at Look.IsEmpty)))
-  slot_opens_in Call.IsFull = (tt, (refl, tt, λ g j none. first_at g j none (look_at Look.IsFull)))
-  slot_opens_in Call.Len = (tt, (refl, tt, λ g j none. first_at g j none (look_at Look.Len)))
   slot_opens_in Call.Capacity = (tt, (refl, (Reply.Capacity (Some 1), refl, refl, λ m is. sym is)))
+  slot_opens_in look = (tt, (refl, tt, λ g j none. first_at g j none (look_at _)))
 
   slot_call_laws : CallLaws {T = T} slot_calls
   slot_call_laws = record {

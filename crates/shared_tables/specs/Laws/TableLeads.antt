@@ -3,7 +3,7 @@ use Rattle.std.proofs.Common.{◌≡◌, ℕ, [], Option, Some, None, refl, ap, 
 use Rattle.atomic_table.specs.Seated.{TableId}
 use Rattle.law_common.specs.Vocabulary.{Call, Op, Touch, Answer, Local, Next}
 use Rattle.queue_steps.specs.Effect.{after}
-use Rattle.queue_steps.specs.Kinds.{call_kind, call_value}
+use Rattle.queue_steps.specs.Kinds.{call_kind, call_value, with_value}
 use Rattle.queue_steps.specs.Next.{CanNext, next_of, first_local}
 use Rattle.queue_steps.specs.Parties.{View, SharedCall}
 use Rattle.law_common.proofs.Runs.{cap_after}
@@ -20,7 +20,7 @@ use Rattle.shared_tables.specs.TableRule.{TableOf, TableLaws, InTable}
 use Rattle.shared_parties.specs.Operations.{answer_for}
 use Rattle.shared_tables.specs.TableTurns.{After, Follows, call_at, CanDo, NoBlock, NoGift, TableCan, TableDoes, TableStands, TableEnded}
 use Rattle.shared_parties.specs.CallsAt.{begun_at}
-use Rattle.shared_parties.specs.Called.{with_value, call_of_work}
+use Rattle.shared_parties.specs.Called.{call_of_work}
 use Rattle.shared_parties.proofs.Called.{whole}
 use Rattle.shared_parties.proofs.Histories.{prefix_self}
 use Rattle.shared_parties.proofs.SharedCalls.{quiet}
