@@ -1,4 +1,4 @@
-//! Times the reference crate as `bench_queue` times this one. The arguments are its own: `alone KIND WORK BYTES COUNT` or `threads KIND PUSHERS POPPERS COUNT`. It has one form of queue, so `owned` and `ended` are not known here.
+//! Times the reference crate as `bench_queue` times this one. The arguments are its own: `alone KIND PATTERN BYTES COUNT` or `threads KIND PUSHERS POPPERS COUNT`. It has one form of queue, so `owned` and `ended` are not known here.
 
 use concurrent_queue::{ConcurrentQueue, PopError};
 use std::env;
@@ -99,7 +99,7 @@ impl<T: Item> Item for Batched<T> {
 
 /// In which order pushes and pops come.
 #[derive(Clone, Copy)]
-enum Work {
+enum Pattern {
     /// A push and a pop in turn, on a queue that had so many items before.
     Behind(u64),
     /// So many pushes, and then as many pops.
@@ -125,13 +125,13 @@ fn open<T>(kind: &str) -> Option<ConcurrentQueue<T>> {
     }
 }
 
-/// The work that this word names: `behind:ITEMS` or `batch:ITEMS`.
-fn work_of(word: &str) -> Option<Work> {
+/// The pattern that this word names: `behind:ITEMS` or `batch:ITEMS`.
+fn pattern_of(word: &str) -> Option<Pattern> {
     let (order, items) = word.split_once(':')?;
     let items = items.parse().ok()?;
     match order {
-        "behind" => Some(Work::Behind(items)),
-        "batch" => Some(Work::Batch(items)),
+        "behind" => Some(Pattern::Behind(items)),
+        "batch" => Some(Pattern::Batch(items)),
         _ => None,
     }
 }
@@ -145,14 +145,14 @@ fn fill<T: Item>(queue: &ConcurrentQueue<T>, items: u64) {
 }
 
 /// Times pairs by one thread.
-fn time_pairs<T: Item>(kind: &str, work: Work, pairs: u64) -> Option<Run> {
+fn time_pairs<T: Item>(kind: &str, pattern: Pattern, pairs: u64) -> Option<Run> {
     let queue: ConcurrentQueue<T> = black_box(open(kind)?);
-    let items = match work {
-        Work::Behind(items) => {
+    let items = match pattern {
+        Pattern::Behind(items) => {
             fill(&queue, items);
             items
         }
-        Work::Batch(items) => items,
+        Pattern::Batch(items) => items,
     };
     let start = Instant::now();
     let taken = T::run(&queue, items, pairs);
@@ -213,13 +213,13 @@ fn time_threads(kind: &str, pushers: u64, poppers: u64, count: u64) -> Option<Ru
 /// Runs the load that these words name.
 fn run(words: &[&str]) -> Option<Run> {
     match words {
-        ["alone", kind, work, bytes, count] => {
-            let (work, count) = (work_of(work)?, count.parse().ok()?);
-            match (work, *bytes) {
-                (Work::Behind(_), "8") => time_pairs::<[u64; 1]>(kind, work, count),
-                (Work::Behind(_), "64") => time_pairs::<[u64; 8]>(kind, work, count),
-                (Work::Batch(_), "8") => time_pairs::<Batched<[u64; 1]>>(kind, work, count),
-                (Work::Batch(_), "64") => time_pairs::<Batched<[u64; 8]>>(kind, work, count),
+        ["alone", kind, pattern, bytes, count] => {
+            let (pattern, count) = (pattern_of(pattern)?, count.parse().ok()?);
+            match (pattern, *bytes) {
+                (Pattern::Behind(_), "8") => time_pairs::<[u64; 1]>(kind, pattern, count),
+                (Pattern::Behind(_), "64") => time_pairs::<[u64; 8]>(kind, pattern, count),
+                (Pattern::Batch(_), "8") => time_pairs::<Batched<[u64; 1]>>(kind, pattern, count),
+                (Pattern::Batch(_), "64") => time_pairs::<Batched<[u64; 8]>>(kind, pattern, count),
                 _ => None,
             }
         }
@@ -246,7 +246,7 @@ fn main() -> ExitCode {
     let args: Vec<String> = env::args().skip(1).collect();
     let words: Vec<&str> = args.iter().map(String::as_str).collect();
     let Some(Run { sum, took }) = run(&words) else {
-        eprintln!("alone KIND WORK BYTES COUNT | threads KIND PUSHERS POPPERS COUNT");
+        eprintln!("alone KIND PATTERN BYTES COUNT | threads KIND PUSHERS POPPERS COUNT");
         return ExitCode::FAILURE;
     };
     let (line, nanos) = (words.join(" "), took.as_nanos());

@@ -12,16 +12,16 @@ use Rattle.exclusive_queue.proofs.SequentialRuns.{run_then}
 use Rattle.app_command.specs.Scripts.{PlaysAs, BeginsToPlay}
 
 -- whatever is called, there are replies
-pub record Goes (P : Owned ℕ) (calls : List (Call ℕ)) : Type 0 where
+pub record HasReplies (P : Owned ℕ) (calls : List (Call ℕ)) : Type 0 where
   pub replies : List (Reply ℕ)
   pub after : Owned ℕ
   pub plays : SequentialRun P calls replies after
 
-goes : (P : Owned ℕ) (calls : List (Call ℕ)) → Goes P calls
+goes : (P : Owned ℕ) (calls : List (Call ℕ)) → HasReplies P calls
 goes P [] = record { replies = []; after = P; plays = refl }
 goes P (c ∷ cs) =
     let next : Owned ℕ = moved P (sequential_state P.queue c) in
-    let rest : Goes next cs = goes next cs in
+    let rest : HasReplies next cs = goes next cs in
     record { replies = sequential_reply P.queue c ∷ rest.replies; after = rest.after; plays = (next, (inl (refl, refl), rest.plays)) }
 
 -- the replies so far, and one more
@@ -77,7 +77,7 @@ pub played_part : (P Q R : Owned ℕ) (all rest part after : List (Call ℕ)) (r
     → IsBegun now new (mid ++ replies_text rs) → BeginsToPlay P all held old new
 played_part P Q R all rest part after rs held mid old now new so is ran begun =
     let before = so.plays in
-    let left : Goes R after = goes R after in
+    let left : HasReplies R after = goes R after in
     let replies : List (Reply ℕ) = before.replies ++ rs in
     let parts : all ≡ (so.done ++ part) ++ after = so.parts ∙ ap (λ l. so.done ++ l) is ∙ sym (append_assoc so.done part after) in
     let here : IsBegun old new (held ++ replies_text replies) = rw (then_text held before.replies rs) (begun-then old now new (held ++ replies_text before.replies) mid (replies_text rs) before.put begun) in

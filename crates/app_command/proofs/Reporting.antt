@@ -11,7 +11,7 @@ use Rattle.machine_replay.specs.MachineRuns.{EndsAs, IsMachineRun}
 use Rattle.machine_replay.specs.Played.{IsMade}
 use Rattle.machine_replay.specs.Replays.{is_too_large}
 use Rattle.machine_replay.specs.declared.machine_run.MachineRun.{MachineRun}
-use Rattle.machine_replay.specs.declared.machine_run.Ended.{Ended}
+use Rattle.machine_replay.specs.declared.machine_run.RunEnd.{RunEnd}
 use Rattle.machine_memory.specs.declared.types.Event.{Event}
 use Rattle.machine_memory.specs.declared.types.Told.{Told}
 use Rattle.app_text.specs.KindNames.{capacity_of, queue_named}
@@ -36,7 +36,7 @@ within_limit {T} {E} k name r x has is limited = subst {A = Option ℕ} (λ c. I
     small kind.Unbounded e = tt
 
 -- what is told of the turns of a run, its peak, and the items that are left
-pub reported : {A B : Type 0} (name : KindName) (parties : ℕ) (lines : List ReplayLine) (k : Kind) (c d : MachineRun ℕ A) (r : Ended ℕ B) (start middle peaked text : List ℕ)
+pub reported : {A B : Type 0} (name : KindName) (parties : ℕ) (lines : List ReplayLine) (k : Kind) (c d : MachineRun ℕ A) (r : RunEnd ℕ B) (start middle peaked text : List ℕ)
     → k ≡ queue_named name → capacity_of_kind k ≡ capacity_of name → IfSome (capacity_of name) (λ size. size ≤ MAX_CAPACITY) → IsMachineRun k parties [] [] c → Takes (turns_from 1 lines) c start d middle
     → ((es : List (Event ℕ)) (ts : List (Told ℕ)) → IsMachineRun k parties es ts d → EndsAs k parties es ts r)
     → start ≡ [] → peaked ≡ middle ++ peak_text name r.peak → text ≡ peaked ++ left_text r.left.items → IsReport name parties lines text

@@ -3,11 +3,11 @@ use Rattle.std.specs.Prelude.{◌≡◌, ◌⊎◌, ℕ, List, Option}
 use Rattle.std.specs.Io.KnownBytes.{Keeps}
 use Rattle.app_text.specs.Actions.{replay_line_text, IsReplayLine}
 use Rattle.app_text.specs.Calls.{call_text, IsCallOfWord}
-use Rattle.app_text.specs.KindNames.{form_words, IsForm}
+use Rattle.app_text.specs.KindNames.{mode_words, IsMode}
 use Rattle.app_text.specs.Faults.{fault_status}
-use Rattle.app_text.specs.Usage.{IsFormFault}
-use Rattle.app_text.specs.declared.args.Form.{Form}
-use Rattle.app_text.specs.declared.args.Form.TheVariants as form
+use Rattle.app_text.specs.Usage.{IsModeFault}
+use Rattle.app_text.specs.declared.args.Mode.{Mode}
+use Rattle.app_text.specs.declared.args.Mode.TheVariants as mode
 use Rattle.app_text.specs.declared.faults.Fault.{Fault}
 use Rattle.app_text.specs.declared.faults.Fault.TheVariants as fault
 use Rattle.app_threads.specs.Counts.{IsCounted, IsCountsLine, IsReceived, IsReceivedText}
@@ -21,37 +21,37 @@ use Rattle.app_threads.specs.declared.verdict.Verdict.{Verdict}
 use Rattle.app_threads.specs.declared.verdict.Verdict.TheVariants as verdict
 
 -- the arguments ask for this form
-abbrev pub AskFor : List (List ℕ) → Form → Type 0
-AskFor words f = IsForm f × (form_words f ≡ words)
+abbrev pub AskFor : List (List ℕ) → Mode → Type 0
+AskFor words f = IsMode f × (mode_words f ≡ words)
 
 -- the arguments ask for a form
-abbrev pub AskForForm : List (List ℕ) → Type 0
-AskForForm words = (f : Form) × AskFor words f
+abbrev pub AskForMode : List (List ℕ) → Type 0
+AskForMode words = (f : Mode) × AskFor words f
 
 -- the work of the form was done by threads that shared this, and has shown this
-abbrev pub Does : Form → Sharing → Option (List ℕ) → Option (List ℕ) → Option (List ℕ) → Verdict → Type 0
-Does (form.Script k) shared known old new v = (v ≡ verdict.Right) × IsRun IsCallOfWord call_text (IsTranscript k) known old new
-Does (form.Replay k parties) shared known old new v = (v ≡ verdict.Right) × IsRun IsReplayLine replay_line_text (IsReport k parties) known old new
-Does (form.Threads l) shared known old new v = IsCounted l shared old new v
-Does form.Handshake shared known old new v = Handshake shared old new v
-Does (form.Channel l) shared known old new v = IsReceived l shared old new v
+abbrev pub Does : Mode → Sharing → Option (List ℕ) → Option (List ℕ) → Option (List ℕ) → Verdict → Type 0
+Does (mode.Script k) shared known old new v = (v ≡ verdict.Right) × IsRun IsCallOfWord call_text (IsTranscript k) known old new
+Does (mode.Replay k parties) shared known old new v = (v ≡ verdict.Right) × IsRun IsReplayLine replay_line_text (IsReport k parties) known old new
+Does (mode.Threads l) shared known old new v = IsCounted l shared old new v
+Does mode.Handshake shared known old new v = Handshake shared old new v
+Does (mode.Channel l) shared known old new v = IsReceived l shared old new v
 
 -- the work of the form, by threads that shared this, met this fault
-abbrev pub Fails : Form → Sharing → Option (List ℕ) → Option (List ℕ) → Option (List ℕ) → Fault → Type 0
-Fails (form.Script k) shared known old new why = IsPartRunFault IsCallOfWord call_text (IsTranscript k) known old new why
-Fails (form.Replay k parties) shared known old new why = IsRunFault IsReplayLine replay_line_text (IsReport k parties) known old new why
-Fails (form.Threads l) shared known old new why = IsOutputFault (IsCountsLine l shared) old new why
-Fails form.Handshake shared known old new why = IsOutputFault (IsHandshakeText shared) old new why
-Fails (form.Channel l) shared known old new why = IsOutputFault (IsReceivedText l shared) old new why
+abbrev pub Fails : Mode → Sharing → Option (List ℕ) → Option (List ℕ) → Option (List ℕ) → Fault → Type 0
+Fails (mode.Script k) shared known old new why = IsPartRunFault IsCallOfWord call_text (IsTranscript k) known old new why
+Fails (mode.Replay k parties) shared known old new why = IsRunFault IsReplayLine replay_line_text (IsReport k parties) known old new why
+Fails (mode.Threads l) shared known old new why = IsOutputFault (IsCountsLine l shared) old new why
+Fails mode.Handshake shared known old new why = IsOutputFault (IsHandshakeText shared) old new why
+Fails (mode.Channel l) shared known old new why = IsOutputFault (IsReceivedText l shared) old new why
 
 -- why the work was not done: the arguments ask for no form, of which the reason is right, or what they ask for met a fault
 abbrev pub IsFaultOf : List (List ℕ) → Sharing → Option (List ℕ) → Option (List ℕ) → Option (List ℕ) → Fault → Type 0
-IsFaultOf words shared known old new (fault.Usage why) = (AskForForm words → ⊥) × IsFormFault words why × Keeps old new
-IsFaultOf words shared known old new why = (f : Form) × AskFor words f × Fails f shared known old new why
+IsFaultOf words shared known old new (fault.Usage why) = (AskForMode words → ⊥) × IsModeFault words why × Keeps old new
+IsFaultOf words shared known old new why = (f : Mode) × AskFor words f × Fails f shared known old new why
 
 -- the work that the arguments ask for was done, and has shown this
 abbrev pub IsDone : List (List ℕ) → Sharing → Option (List ℕ) → Option (List ℕ) → Option (List ℕ) → Verdict → Type 0
-IsDone words shared known old new v = (f : Form) × AskFor words f × Does f shared known old new v
+IsDone words shared known old new v = (f : Mode) × AskFor words f × Does f shared known old new v
 
 -- the status of what was shown by the work, or of a fault; and what its threads shared
 abbrev pub IsEnd : List (List ℕ) → Sharing → Option (List ℕ) → Option (List ℕ) → Option (List ℕ) → ℕ → Type 0

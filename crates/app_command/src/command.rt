@@ -8,7 +8,7 @@ ghost use Rattle.app_command.specs.Ends.{IsEnd, IsDone, IsFaultOf};
 
 use crate::replay::replay;
 use crate::script::script;
-use app_text::args::{Form, parse_form};
+use app_text::args::{Mode, parse_mode};
 use app_text::faults::Fault;
 use app_threads::channel::channel;
 use app_threads::handshake::handshake;
@@ -23,7 +23,7 @@ use std::thread::Threads;
 
 /// The status to end with, and what the threads of the run shared.
 #[derive(Drop)]
-pub struct Ended {
+pub struct Exit {
     pub status: u8,
     pub sharing: Sharing,
 }
@@ -39,7 +39,7 @@ pub fn command<R: Threads + Wait + Sync + AllocGlobal, A: Allocator, I: Read, O:
     input: &mut I,
     output: &mut O,
     faults: &mut F,
-) -> Ended
+) -> Exit
     ensures end { IsEnd (map string_bytes args.items) result.sharing
         (I.remaining input.old) (O.contents output.old) (O.contents output.new) result.status }
     ensures quiet { result.status < 2 → faults.new ≡ faults.old }
@@ -49,7 +49,7 @@ pub fn command<R: Threads + Wait + Sync + AllocGlobal, A: Allocator, I: Read, O:
         Ok(verdict) => verdict.status(),
         Err(fault) => tell(fault, faults),
     };
-    Ended { status, sharing }
+    Exit { status, sharing }
 }
 
 /// Tells that there was no memory for the arguments, and answers the status to end with.
@@ -81,16 +81,16 @@ fn run<R: Threads + Wait + Sync + AllocGlobal, A: Allocator, I: Read, O: Write>(
         (IsFaultOf (map string_bytes args.now) result.sharing
         (I.remaining input.old) (O.contents output.old) (O.contents output.new)) }
 {
-    let form = match parse_form(args) {
-        Ok(form) => form,
+    let mode = match parse_mode(args) {
+        Ok(mode) => mode,
         Err(why) => return alone(Err(Fault::Usage(why))),
     };
-    match form {
-        Form::Script(kind) => alone(shown(script(alloc, kind, input, output))),
-        Form::Replay(kind, parties) => alone(shown(replay(alloc, kind, parties, input, output))),
-        Form::Threads(load) => threads(rt, rt.alloc(), load, NO_LIMIT, output),
-        Form::Handshake => handshake(rt, rt.alloc(), NO_LIMIT, output),
-        Form::Channel(load) => channel(rt, rt.alloc(), load, NO_LIMIT, output),
+    match mode {
+        Mode::Script(kind) => alone(shown(script(alloc, kind, input, output))),
+        Mode::Replay(kind, parties) => alone(shown(replay(alloc, kind, parties, input, output))),
+        Mode::Threads(load) => threads(rt, rt.alloc(), load, NO_LIMIT, output),
+        Mode::Handshake => handshake(rt, rt.alloc(), NO_LIMIT, output),
+        Mode::Channel(load) => channel(rt, rt.alloc(), load, NO_LIMIT, output),
     }
 }
 

@@ -1,7 +1,7 @@
 //! The whole program, with the arguments as the system gives them, and how it ends.
 ghost use Rattle.app_command.specs.Programs.{IsEndOf};
 
-use crate::command::{Ended, command, lack_memory};
+use crate::command::{Exit, command, lack_memory};
 use app_text::words::words_of;
 use app_threads::sharing::Sharing;
 use std::alloc::Allocator;
@@ -21,12 +21,12 @@ pub fn program<R: Threads + Wait + Sync + AllocGlobal, A: Allocator, I: Read, O:
     input: &mut I,
     output: &mut O,
     faults: &mut F,
-) -> Ended
+) -> Exit
     ensures { IsEndOf given (I.remaining input.old) (O.contents output.old) (O.contents output.new) result }
 {
     match words_of(rt.alloc(), given) {
         Ok(words) => command(rt, alloc, words, input, output, faults),
-        Err(_) => Ended {
+        Err(_) => Exit {
             status: lack_memory(faults),
             sharing: Sharing::Nothing,
         },

@@ -18,7 +18,7 @@ use app_text::effects::ShownEffect;
 use app_text::faults::Fault;
 use app_text::items::write_items;
 use app_text::lines::read_lines;
-use app_text::replies::Shown;
+use app_text::replies::ReplyText;
 use app_text::streams::{read_input, write_output};
 use machine_replay::machine_run::MachineRun;
 use machine_replay::types::{Peak, Told};
@@ -179,7 +179,7 @@ fn write_turn<A: Allocator>(
                 writeln!(text, "{line} {party} {}", ShownEffect(kind))?;
             }
             if let Some(reply) = reply {
-                writeln!(text, "{line} {party} {}", Shown(reply))?;
+                writeln!(text, "{line} {party} {}", ReplyText(reply))?;
             }
             Ok(())
         }

@@ -13,7 +13,7 @@ ghost use Rattle.app_command.specs.Scripts.{PlaysAs, BeginsToPlay, IsTranscript,
 use app_text::args::KindName;
 use app_text::faults::Fault;
 use app_text::lines::read_lines;
-use app_text::replies::Shown;
+use app_text::replies::ReplyText;
 use app_text::streams::{Pieces, read_input};
 use concurrent_queue::{Exclusive, run};
 use queue_steps::model::{Call, Reply};
@@ -159,7 +159,7 @@ fn put_reply<A: Allocator, O: Write>(
 ) -> Result<(), Fault>
     ensures { Puts pieces.old (reply_text reply ++ 10 ∷ []) pieces.new (O.contents output.old) (O.contents output.new) result }
 {
-    let (words, number) = Shown(reply).parts();
+    let (words, number) = ReplyText(reply).parts();
     put_line(words, number, pieces, output)
 }
 

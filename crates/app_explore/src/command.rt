@@ -10,7 +10,7 @@ ghost use Rattle.app_explore.specs.Stops.{IsSearchStop, search_stop, stop_status
 use crate::args::{Request, Wanted, parse_request};
 use crate::faults::Stop;
 use crate::limits::MOST_STATES;
-use crate::listing::{Task, draw_lanes, list_outcomes, list_schedule};
+use crate::listing::{Problem, draw_lanes, list_outcomes, list_schedule};
 use crate::read_faults::ReadFault;
 use crate::reading::read_program;
 use crate::waits::{list_waits, wait_schedule};
@@ -96,12 +96,12 @@ pub fn told<'a, A: Allocator>(
         Err(ReadFault::Unreadable(number, why)) => return Err(Stop::Line(number, why)),
         Err(ReadFault::NoMemory) => return Err(Stop::Fault(Fault::NoMemory)),
     };
-    let task = task_of(request, program, most_states);
-    answer(alloc, &task, request.wanted)
+    let problem = problem_of(request, program, most_states);
+    answer(alloc, &problem, request.wanted)
 }
 
 // The program on the queue that the request names, with as many states as are looked at.
-fn task_of<A: Allocator>(request: Request, program: Program<A>, most_states: usize) -> Task<A>
+fn problem_of<A: Allocator>(request: Request, program: Program<A>, most_states: usize) -> Problem<A>
     requires { IsRequest request }
     ensures kind { result.kind ≡ queue_named request.kind }
     ensures can { CanReplay result.kind }
@@ -109,7 +109,7 @@ fn task_of<A: Allocator>(request: Request, program: Program<A>, most_states: usi
     ensures program { result.program ≡ program }
     ensures limit { result.most_states ≡ most_states }
 {
-    Task {
+    Problem {
         kind: request.kind.kind(),
         refuses: request.refuses,
         program,
@@ -117,39 +117,42 @@ fn task_of<A: Allocator>(request: Request, program: Program<A>, most_states: usi
     }
 }
 
-/// What is told of the task's program.
+/// What is told of the problem's program.
 ///
 /// # Errors
 ///
 /// As of `told`, without `Line`.
 pub fn answer<A: Allocator + Copy>(
     alloc: A,
-    task: &Task<A>,
+    problem: &Problem<A>,
     wanted: Wanted,
 ) -> Result<String<A>, Stop>
-    requires can { CanReplay task.now.kind }
+    requires can { CanReplay problem.now.kind }
     requires asked { IsWanted wanted }
     ensures { MatchResult result
-        (λ text. TellsWanted task.now.kind task.now.refuses task.now.program.before task.now.program.parties.items wanted (string_bytes text))
-        (MayTellNothing task.now.kind task.now.refuses task.now.program.before task.now.program.parties.items wanted) }
+        (λ text. TellsWanted problem.now.kind problem.now.refuses problem.now.program.before problem.now.program.parties.items wanted (string_bytes text))
+        (MayTellNothing problem.now.kind problem.now.refuses problem.now.program.before problem.now.program.parties.items wanted) }
 {
     match wanted {
-        Wanted::Outcomes => match list_outcomes(alloc, task) {
+        Wanted::Outcomes => match list_outcomes(alloc, problem) {
             Ok(text) => Ok(text),
             Err(fault) => Err(stop_of(fault)),
         },
         Wanted::Schedule(number) => {
-            of_number(Stop::NoOutcome(number), list_schedule(alloc, task, number))
+            of_number(
+                Stop::NoOutcome(number),
+                list_schedule(alloc, problem, number),
+            )
         }
         Wanted::Lanes(number) => {
-            of_number(Stop::NoOutcome(number), draw_lanes(alloc, task, number))
+            of_number(Stop::NoOutcome(number), draw_lanes(alloc, problem, number))
         }
-        Wanted::Waits => match list_waits(alloc, task) {
+        Wanted::Waits => match list_waits(alloc, problem) {
             Ok(text) => Ok(text),
             Err(fault) => Err(stop_of(fault)),
         },
         Wanted::Wait(number) => {
-            of_number(Stop::NoWait(number), wait_schedule(alloc, task, number))
+            of_number(Stop::NoWait(number), wait_schedule(alloc, problem, number))
         }
     }
 }

@@ -6,7 +6,7 @@ use crate::labels::label;
 use crate::schedules::{ShownCall, party_of};
 use app_text::effects::ShownEffect;
 use app_text::items::write_items;
-use app_text::replies::Shown;
+use app_text::replies::ReplyText;
 use machine_explore::trace::TraceEntry;
 use machine_replay::types::{Event, Told};
 use queue_steps::steps::Local;
@@ -83,10 +83,10 @@ fn write_told<A: Allocator>(told: Told<u64>, text: &mut String<A>) -> Result<(),
 {
     match told {
         Told::Skipped | Told::Ran(None, None) => Ok(()),
-        Told::Ran(None, Some(reply)) => write!(text, " = {}", Shown(reply)),
+        Told::Ran(None, Some(reply)) => write!(text, " = {}", ReplyText(reply)),
         Told::Ran(Some(effect), None) => write!(text, " {}", ShownEffect(effect)),
         Told::Ran(Some(effect), Some(reply)) => {
-            write!(text, " {} = {}", ShownEffect(effect), Shown(reply))
+            write!(text, " {} = {}", ShownEffect(effect), ReplyText(reply))
         }
     }
 }

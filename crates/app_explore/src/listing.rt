@@ -22,9 +22,9 @@ use machine_explore::trace::{Trace, follow};
 use queue_steps::steps::Kind;
 use std::alloc::{AllocError, Allocator};
 
-/// A program on a queue of one kind.
+/// What is to be explored: a program on a queue of one kind.
 #[derive(Drop)]
-pub struct Task<A: Allocator> {
+pub struct Problem<A: Allocator> {
     /// Which queue.
     pub kind: Kind,
     /// Whether each request for a block may also be refused.
@@ -35,9 +35,9 @@ pub struct Task<A: Allocator> {
     pub most_states: usize,
 }
 
-/// What a walk over a program's positions found. Nothing rests on it: it is shown to be right once more.
+/// What a search over a program's positions found. Nothing rests on it: it is shown to be right once more.
 #[derive(Drop)]
-pub struct Walk<A: Allocator> {
+pub struct Findings<A: Allocator> {
     /// The positions, and the outcomes as they were found.
     pub found: Found<A>,
     /// The numbers of the outcomes, in the order in which they are told.
@@ -48,7 +48,7 @@ pub struct Walk<A: Allocator> {
 
 /// The outcomes that were shown to be all, and the text of each.
 #[derive(Drop)]
-struct Shown<A: Allocator> {
+struct CheckedOutcomes<A: Allocator> {
     outcomes: Vec<Outcome<A>, A>,
     texts: Vec<String<A>, A>,
 }
@@ -60,30 +60,30 @@ struct Shown<A: Allocator> {
 /// `NoMemory`, also where no queue may have the capacity, `TooManyStates`, and `NotShown`.
 pub fn list_outcomes<A: Allocator + Copy>(
     alloc: A,
-    task: &Task<A>,
+    problem: &Problem<A>,
 ) -> Result<String<A>, SearchFault>
-    requires { CanReplay task.now.kind }
-    ensures { IfOk result (λ text. IsListing task.now.kind task.now.refuses task.now.program.before task.now.program.parties.items (string_bytes text)) }
+    requires { CanReplay problem.now.kind }
+    ensures { IfOk result (λ text. IsListing problem.now.kind problem.now.refuses problem.now.program.before problem.now.program.parties.items (string_bytes text)) }
 {
-    let walk = find_all(alloc, task)?;
-    list_found(alloc, task, &walk)
+    let findings = find_all(alloc, problem)?;
+    list_found(alloc, problem, &findings)
 }
 
-/// The same, by what a walk found.
+/// The same, by what a search found.
 ///
 /// # Errors
 ///
 /// `NoMemory`, and `NotShown` where it is not all, or not in order.
 pub fn list_found<A: Allocator + Copy>(
     alloc: A,
-    task: &Task<A>,
-    walk: &Walk<A>,
+    problem: &Problem<A>,
+    findings: &Findings<A>,
 ) -> Result<String<A>, SearchFault>
-    requires { CanReplay task.now.kind }
-    ensures { IfOk result (λ text. IsListing task.now.kind task.now.refuses task.now.program.before task.now.program.parties.items (string_bytes text)) }
+    requires { CanReplay problem.now.kind }
+    ensures { IfOk result (λ text. IsListing problem.now.kind problem.now.refuses problem.now.program.before problem.now.program.parties.items (string_bytes text)) }
 {
-    let shown = show_all(alloc, task, walk)?;
-    write_list(alloc, task, walk, &shown)
+    let shown = show_all(alloc, problem, findings)?;
+    write_list(alloc, problem, findings, &shown)
 }
 
 /// The lines of the schedule of the outcome of this number, counted from 1, if there are so many.
@@ -93,20 +93,24 @@ pub fn list_found<A: Allocator + Copy>(
 /// As of `list_outcomes`.
 pub fn list_schedule<A: Allocator + Copy>(
     alloc: A,
-    task: &Task<A>,
+    problem: &Problem<A>,
     number: u64,
 ) -> Result<Option<String<A>>, SearchFault>
-    requires can { CanReplay task.now.kind }
+    requires can { CanReplay problem.now.kind }
     requires counted { 0 < number }
     ensures { IfOk result (λ o. MatchOption o
-        (HasFewer task.now.kind task.now.refuses task.now.program.before task.now.program.parties.items number)
-        (λ text. IsScheduleOf task.now.kind task.now.refuses task.now.program.before task.now.program.parties.items number (string_bytes text))) }
+        (HasFewer problem.now.kind problem.now.refuses problem.now.program.before problem.now.program.parties.items number)
+        (λ text. IsScheduleOf problem.now.kind problem.now.refuses problem.now.program.before problem.now.program.parties.items number (string_bytes text))) }
 {
-    let Some(trace) = trace_outcome(alloc, task, number)? else {
+    let Some(trace) = trace_outcome(alloc, problem, number)? else {
         return Ok(None);
     };
     let mut text = String::new(alloc);
-    write_schedule(task.program.before.as_slice(), trace.entries(), &mut text)?;
+    write_schedule(
+        problem.program.before.as_slice(),
+        trace.entries(),
+        &mut text,
+    )?;
     Ok(Some(text))
 }
 
@@ -117,22 +121,22 @@ pub fn list_schedule<A: Allocator + Copy>(
 /// As of `list_outcomes`.
 pub fn draw_lanes<A: Allocator + Copy>(
     alloc: A,
-    task: &Task<A>,
+    problem: &Problem<A>,
     number: u64,
 ) -> Result<Option<String<A>>, SearchFault>
-    requires can { CanReplay task.now.kind }
+    requires can { CanReplay problem.now.kind }
     requires counted { 0 < number }
     ensures { IfOk result (λ o. MatchOption o
-        (HasFewer task.now.kind task.now.refuses task.now.program.before task.now.program.parties.items number)
-        (λ text. IsPictureOf task.now.kind task.now.refuses task.now.program.before task.now.program.parties.items number (string_bytes text))) }
+        (HasFewer problem.now.kind problem.now.refuses problem.now.program.before problem.now.program.parties.items number)
+        (λ text. IsPictureOf problem.now.kind problem.now.refuses problem.now.program.before problem.now.program.parties.items number (string_bytes text))) }
 {
-    let Some(trace) = trace_outcome(alloc, task, number)? else {
+    let Some(trace) = trace_outcome(alloc, problem, number)? else {
         return Ok(None);
     };
     let mut text = String::new(alloc);
     write_lanes(
         alloc,
-        task.program.parties.len(),
+        problem.program.parties.len(),
         trace.opening(),
         trace.entries(),
         &mut text,
@@ -143,79 +147,88 @@ pub fn draw_lanes<A: Allocator + Copy>(
 // What is seen of the schedule of the outcome of this number, if there are so many.
 fn trace_outcome<A: Allocator + Copy>(
     alloc: A,
-    task: &Task<A>,
+    problem: &Problem<A>,
     number: u64,
 ) -> Result<Option<Trace<A>>, SearchFault>
-    requires can { CanReplay task.now.kind }
+    requires can { CanReplay problem.now.kind }
     requires counted { 0 < number }
     ensures { IfOk result (λ o. MatchOption o
-        (HasFewer task.now.kind task.now.refuses task.now.program.before task.now.program.parties.items number)
-        (IsTraceOfOutcome task.now.kind task.now.refuses task.now.program.before task.now.program.parties.items number)) }
+        (HasFewer problem.now.kind problem.now.refuses problem.now.program.before problem.now.program.parties.items number)
+        (IsTraceOfOutcome problem.now.kind problem.now.refuses problem.now.program.before problem.now.program.parties.items number)) }
 {
-    let walk = find_all(alloc, task)?;
-    trace_found(alloc, task, &walk, number)
+    let findings = find_all(alloc, problem)?;
+    trace_found(alloc, problem, &findings, number)
 }
 
-// The same, by what a walk found.
+// The same, by what a search found.
 fn trace_found<A: Allocator + Copy>(
     alloc: A,
-    task: &Task<A>,
-    walk: &Walk<A>,
+    problem: &Problem<A>,
+    findings: &Findings<A>,
     number: u64,
 ) -> Result<Option<Trace<A>>, SearchFault>
-    requires can { CanReplay task.now.kind }
+    requires can { CanReplay problem.now.kind }
     requires counted { 0 < number }
     ensures { IfOk result (λ o. MatchOption o
-        (HasFewer task.now.kind task.now.refuses task.now.program.before task.now.program.parties.items number)
-        (IsTraceOfOutcome task.now.kind task.now.refuses task.now.program.before task.now.program.parties.items number)) }
+        (HasFewer problem.now.kind problem.now.refuses problem.now.program.before problem.now.program.parties.items number)
+        (IsTraceOfOutcome problem.now.kind problem.now.refuses problem.now.program.before problem.now.program.parties.items number)) }
 {
-    let all = show_all(alloc, task, walk)?;
+    let all = show_all(alloc, problem, findings)?;
     let index = (number - 1) as usize;
     let Some(outcome) = all.outcomes.get(index) else {
         return Ok(None);
     };
-    let Some(schedule) = walk.schedules.get(index) else {
+    let Some(schedule) = findings.schedules.get(index) else {
         return Err(SearchFault::NotShown);
     };
-    let trace = follow_to(alloc, task, schedule.as_slice(), outcome)?;
+    let trace = follow_to(alloc, problem, schedule.as_slice(), outcome)?;
     Ok(Some(trace))
 }
 
 // What is seen of a schedule that leads to this outcome.
 fn follow_to<A: Allocator + Copy>(
     alloc: A,
-    task: &Task<A>,
+    problem: &Problem<A>,
     schedule: &[Move],
     outcome: &Outcome<A>,
 ) -> Result<Trace<A>, SearchFault>
-    requires { CanReplay task.now.kind }
-    ensures trace { IfOk result (λ t. IsTraceOf task.now.kind task.now.refuses task.now.program.before task.now.program.parties.items schedule.now t) }
+    requires { CanReplay problem.now.kind }
+    ensures trace { IfOk result (λ t. IsTraceOf problem.now.kind problem.now.refuses problem.now.program.before problem.now.program.parties.items schedule.now t) }
     ensures outcome { IfOk result (λ t. t.outcome ≡ outcome.now) }
 {
-    match follow(alloc, task.kind, task.refuses, &task.program, schedule)? {
+    match follow(
+        alloc,
+        problem.kind,
+        problem.refuses,
+        &problem.program,
+        schedule,
+    )? {
         Some(trace) if trace.outcome().is_same(outcome) => Ok(trace),
         _ => Err(SearchFault::NotShown),
     }
 }
 
-/// What a walk over the task's positions finds.
+/// What a search over the problem's positions finds.
 ///
 /// # Errors
 ///
 /// `NoMemory`, and `TooManyStates`.
-pub fn find_all<A: Allocator + Copy>(alloc: A, task: &Task<A>) -> Result<Walk<A>, SearchFault>
-    requires { CanReplay task.now.kind }
+pub fn find_all<A: Allocator + Copy>(
+    alloc: A,
+    problem: &Problem<A>,
+) -> Result<Findings<A>, SearchFault>
+    requires { CanReplay problem.now.kind }
 {
     let found = search(
         alloc,
-        task.kind,
-        task.refuses,
-        &task.program,
-        task.most_states,
+        problem.kind,
+        problem.refuses,
+        &problem.program,
+        problem.most_states,
     )?;
-    let order = sorted(alloc, &found.ends.outcomes)?;
-    let schedules = schedules_of(alloc, task.program.parties.len(), &found, &order)?;
-    Ok(Walk {
+    let order = sorted(alloc, &found.finals.outcomes)?;
+    let schedules = schedules_of(alloc, problem.program.parties.len(), &found, &order)?;
+    Ok(Findings {
         found,
         order,
         schedules,
@@ -259,20 +272,20 @@ fn numbers_in<A: Allocator + Copy>(
 // The outcomes of the schedules that were found, shown to be all, and to stand in order.
 fn show_all<A: Allocator + Copy>(
     alloc: A,
-    task: &Task<A>,
-    walk: &Walk<A>,
-) -> Result<Shown<A>, SearchFault>
-    requires { CanReplay task.now.kind }
-    ensures are { IfOk result (λ shown. AreOutcomes task.now.kind task.now.refuses task.now.program.before task.now.program.parties.items walk.now.schedules.items shown.outcomes.items) }
+    problem: &Problem<A>,
+    findings: &Findings<A>,
+) -> Result<CheckedOutcomes<A>, SearchFault>
+    requires { CanReplay problem.now.kind }
+    ensures are { IfOk result (λ shown. AreOutcomes problem.now.kind problem.now.refuses problem.now.program.before problem.now.program.parties.items findings.now.schedules.items shown.outcomes.items) }
     ensures texts { IfOk result (λ shown. map string_bytes shown.texts.items ≡ map text_of shown.outcomes.items) }
 {
     let shown = show(
         alloc,
-        task.kind,
-        task.refuses,
-        &task.program,
-        &walk.found.table,
-        &walk.schedules,
+        problem.kind,
+        problem.refuses,
+        &problem.program,
+        &findings.found.table,
+        &findings.schedules,
     )?;
     let Some(outcomes) = shown else {
         return Err(SearchFault::NotShown);
@@ -281,25 +294,25 @@ fn show_all<A: Allocator + Copy>(
     if !are_in_order(&texts) {
         return Err(SearchFault::NotShown);
     }
-    Ok(Shown { outcomes, texts })
+    Ok(CheckedOutcomes { outcomes, texts })
 }
 
 // The line of each outcome, and the line of all.
 fn write_list<A: Allocator + Copy>(
     alloc: A,
-    task: &Task<A>,
-    walk: &Walk<A>,
-    shown: &Shown<A>,
+    problem: &Problem<A>,
+    findings: &Findings<A>,
+    shown: &CheckedOutcomes<A>,
 ) -> Result<String<A>, SearchFault>
     requires { map string_bytes shown.now.texts.items ≡ map text_of shown.now.outcomes.items }
     ensures { IfOk result (λ text. IsListOf (map text_of shown.now.outcomes.items) (string_bytes text)) }
 {
     let figures = figures_of(
         alloc,
-        &task.program,
-        &walk.found,
-        &walk.order,
-        &walk.schedules,
+        &problem.program,
+        &findings.found,
+        &findings.order,
+        &findings.schedules,
     )?;
     let tails = tails_of(alloc, &figures.outcomes)?;
     if tails.len() != shown.texts.len() {

@@ -3,7 +3,7 @@ ghost use Rattle.std.specs.Prelude.{◌≡◌, ◌++◌, IfOk, OnOk, map, string
 ghost use Rattle.app_explore.specs.Outcomes.{AreInOrder, lead_text, outcome_line, outcome_text, replies_text, text_of};
 
 use app_text::items::write_items;
-use app_text::replies::Shown;
+use app_text::replies::ReplyText;
 use machine_explore::outcome::Outcome;
 use machine_explore::sequence::Sequence;
 use queue_steps::model::Reply;
@@ -89,7 +89,7 @@ fn write_replies<B: Allocator>(
     ensures { OnOk result (string_bytes text.new ≡ string_bytes text.old ++ replies_text replies.now) }
 {
     for (index, reply) in replies.iter().enumerate() {
-        write!(text, "{}{}", lead(index), Shown(*reply))?;
+        write!(text, "{}{}", lead(index), ReplyText(*reply))?;
     }
     Ok(())
 }

@@ -2,12 +2,12 @@
 ghost use Rattle.std.specs.Prelude.{◌≡◌, ◌++◌, OnOk, flat_map, string_bytes};
 ghost use Rattle.app_explore.specs.Tails.{count_text, items_in, last_text, order_text, others_text, outcomes_text, schedule_word, schedules_text, tail_text, with_space};
 
-use machine_explore::search::counts::Count;
+use machine_explore::search::counts::ScheduleCount;
 use std::alloc::{AllocError, Allocator};
 
 /// Appends what is told of an outcome behind its text: how many schedules lead to it, its fewest steps, and an order of whole calls, if there is one.
 pub(crate) fn write_tail<A: Allocator>(
-    schedules: Count,
+    schedules: ScheduleCount,
     steps: usize,
     order: &Option<Vec<usize, A>>,
     text: &mut String<A>,
@@ -26,7 +26,7 @@ pub(crate) struct Totals {
     /// How many there are.
     pub outcomes: usize,
     /// How many schedules lead to them.
-    pub schedules: Count,
+    pub schedules: ScheduleCount,
     /// The most steps that a lone call takes.
     pub lone: u64,
     /// How many of them no order of whole calls has.
@@ -77,7 +77,10 @@ fn write_outcomes<A: Allocator>(outcomes: usize, text: &mut String<A>) -> Result
 }
 
 // Appends how many schedules there are.
-fn write_schedules<A: Allocator>(count: Count, text: &mut String<A>) -> Result<(), AllocError>
+fn write_schedules<A: Allocator>(
+    count: ScheduleCount,
+    text: &mut String<A>,
+) -> Result<(), AllocError>
     ensures { OnOk result (string_bytes text.new ≡ string_bytes text.old ++ schedules_text count) }
 {
     write_count(count, text)?;
@@ -85,7 +88,7 @@ fn write_schedules<A: Allocator>(count: Count, text: &mut String<A>) -> Result<(
 }
 
 // The word behind that number.
-fn schedule_word(count: Count) -> &'static str
+fn schedule_word(count: ScheduleCount) -> &'static str
     ensures { result.now ≡ schedule_word count }
 {
     match count {
@@ -101,7 +104,7 @@ fn schedule_word(count: Count) -> &'static str
 }
 
 // Appends a number of schedules.
-fn write_count<A: Allocator>(count: Count, text: &mut String<A>) -> Result<(), AllocError>
+fn write_count<A: Allocator>(count: ScheduleCount, text: &mut String<A>) -> Result<(), AllocError>
     ensures { OnOk result (string_bytes text.new ≡ string_bytes text.old ++ count_text count) }
 {
     match count {

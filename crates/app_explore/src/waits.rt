@@ -4,7 +4,7 @@ ghost use Rattle.machine_explore.specs.Waiting.{wait_of};
 ghost use Rattle.machine_replay.specs.Replays.{CanReplay};
 ghost use Rattle.app_explore.specs.Waits.{IsShownWait, IsWaitList, IsWaitSchedule};
 
-use crate::listing::Task;
+use crate::listing::Problem;
 use crate::schedules::write_schedule;
 use crate::wait_lines::{write_wait, write_waits};
 use machine_explore::check::Table;
@@ -19,14 +19,17 @@ use std::alloc::{AllocError, Allocator};
 /// # Errors
 ///
 /// `NoMemory`, also where no queue may have the capacity, `TooManyStates`, and `NotShown`.
-pub fn list_waits<A: Allocator + Copy>(alloc: A, task: &Task<A>) -> Result<String<A>, SearchFault>
-    requires { CanReplay task.now.kind }
-    ensures { IfOk result (λ text. IsWaitList task.now.kind task.now.refuses task.now.program.before task.now.program.parties.items (string_bytes text)) }
+pub fn list_waits<A: Allocator + Copy>(
+    alloc: A,
+    problem: &Problem<A>,
+) -> Result<String<A>, SearchFault>
+    requires { CanReplay problem.now.kind }
+    ensures { IfOk result (λ text. IsWaitList problem.now.kind problem.now.refuses problem.now.program.before problem.now.program.parties.items (string_bytes text)) }
 {
-    let approaches = find_waits(alloc, task)?;
+    let approaches = find_waits(alloc, problem)?;
     let mut waits = Vec::new(alloc);
     for found in &approaches {
-        let wait = show(alloc, task, found)?;
+        let wait = show(alloc, problem, found)?;
         waits.push(wait)?;
     }
     let mut text = String::new(alloc);
@@ -41,21 +44,21 @@ pub fn list_waits<A: Allocator + Copy>(alloc: A, task: &Task<A>) -> Result<Strin
 /// As of `list_waits`.
 pub fn wait_schedule<A: Allocator + Copy>(
     alloc: A,
-    task: &Task<A>,
+    problem: &Problem<A>,
     number: u64,
 ) -> Result<Option<String<A>>, SearchFault>
-    requires can { CanReplay task.now.kind }
+    requires can { CanReplay problem.now.kind }
     requires counted { 0 < number }
-    ensures { IfOk result (λ o. MatchOption o ⊤ (λ text. IsWaitSchedule task.now.kind task.now.refuses task.now.program.before task.now.program.parties.items (string_bytes text))) }
+    ensures { IfOk result (λ o. MatchOption o ⊤ (λ text. IsWaitSchedule problem.now.kind problem.now.refuses problem.now.program.before problem.now.program.parties.items (string_bytes text))) }
 {
-    let waits = find_waits(alloc, task)?;
+    let waits = find_waits(alloc, problem)?;
     let Some(found) = waits.get((number - 1) as usize) else {
         return Ok(None);
     };
-    let wait = show(alloc, task, found)?;
+    let wait = show(alloc, problem, found)?;
     let mut text = String::new(alloc);
     write_schedule(
-        task.program.before.as_slice(),
+        problem.program.before.as_slice(),
         wait.entries.as_slice(),
         &mut text,
     )?;
@@ -65,17 +68,17 @@ pub fn wait_schedule<A: Allocator + Copy>(
 // What is seen of the schedule that was found, shown to lead to a wait.
 fn show<A: Allocator + Copy>(
     alloc: A,
-    task: &Task<A>,
+    problem: &Problem<A>,
     found: &Approach<A>,
 ) -> Result<Wait<A>, SearchFault>
-    requires { CanReplay task.now.kind }
-    ensures { IfOk result (λ wait. IsShownWait task.now.kind task.now.refuses task.now.program.before task.now.program.parties.items (wait_of wait)) }
+    requires { CanReplay problem.now.kind }
+    ensures { IfOk result (λ wait. IsShownWait problem.now.kind problem.now.refuses problem.now.program.before problem.now.program.parties.items (wait_of wait)) }
 {
     let shown = show_wait(
         alloc,
-        task.kind,
-        task.refuses,
-        &task.program,
+        problem.kind,
+        problem.refuses,
+        &problem.program,
         found.schedule.as_slice(),
         found.waiter,
         found.other,
@@ -89,44 +92,44 @@ fn show<A: Allocator + Copy>(
 // A schedule for each wait, in the order of their lines.
 fn find_waits<A: Allocator + Copy>(
     alloc: A,
-    task: &Task<A>,
+    problem: &Problem<A>,
 ) -> Result<Vec<Approach<A>, A>, SearchFault>
-    requires { CanReplay task.now.kind }
+    requires { CanReplay problem.now.kind }
 {
     let table = find(
         alloc,
-        task.kind,
-        task.refuses,
-        &task.program,
-        task.most_states,
+        problem.kind,
+        problem.refuses,
+        &problem.program,
+        problem.most_states,
     )?;
-    let parties = task.program.parties.len();
+    let parties = problem.program.parties.len();
     let rounds = rounds_of(alloc, parties, &table)?;
-    let firsts = first_rounds(alloc, task, &table, &rounds)?;
+    let firsts = first_rounds(alloc, problem, &table, &rounds)?;
     approaches(alloc, parties, &table, &firsts)
 }
 
 // The first of the rounds with each line, in the order of the lines.
 fn first_rounds<A: Allocator + Copy>(
     alloc: A,
-    task: &Task<A>,
+    problem: &Problem<A>,
     table: &Table<A>,
     rounds: &[Round],
 ) -> Result<Vec<Round, A>, AllocError> {
-    let keyed = keyed(alloc, task, table, rounds)?;
+    let keyed = keyed(alloc, problem, table, rounds)?;
     firsts_of(alloc, &keyed, rounds)
 }
 
 // The line of each round and its place, in the order of the lines.
 fn keyed<A: Allocator + Copy>(
     alloc: A,
-    task: &Task<A>,
+    problem: &Problem<A>,
     table: &Table<A>,
     rounds: &[Round],
 ) -> Result<Vec<(String<A>, usize), A>, AllocError> {
     let mut keyed = Vec::new(alloc);
     for (place, round) in rounds.iter().enumerate() {
-        keyed.push((line_of(alloc, task, table, round)?, place))?;
+        keyed.push((line_of(alloc, problem, table, round)?, place))?;
     }
     keyed.sort()?;
     Ok(keyed)
@@ -152,14 +155,14 @@ fn firsts_of<A: Allocator + Copy>(
 // The line of a round, with the number 0.
 fn line_of<A: Allocator + Copy>(
     alloc: A,
-    task: &Task<A>,
+    problem: &Problem<A>,
     table: &Table<A>,
     round: &Round,
 ) -> Result<String<A>, AllocError> {
     let mut text = String::new(alloc);
     if let Some(position) = table.positions.get(round.place) {
-        let waiter = side_of(&task.program, position, round.waiter);
-        let other = side_of(&task.program, position, round.other);
+        let waiter = side_of(&problem.program, position, round.waiter);
+        let other = side_of(&problem.program, position, round.other);
         write_wait(0, waiter, other, &mut text)?;
     }
     Ok(text)

@@ -8,8 +8,8 @@ use Rattle.app_text.specs.Reading.{IsWord}
 use Rattle.app_text.specs.declared.args.TheConstants.{MOST_PARTIES}
 use Rattle.app_text.specs.declared.args.KindName.{KindName}
 use Rattle.app_text.specs.declared.args.KindName.TheVariants as kind
-use Rattle.app_text.specs.declared.args.Form.{Form}
-use Rattle.app_text.specs.declared.args.Form.TheVariants as form
+use Rattle.app_text.specs.declared.args.Mode.{Mode}
+use Rattle.app_text.specs.declared.args.Mode.TheVariants as mode
 use Rattle.app_text.specs.declared.load.Load.{Load}
 use Rattle.app_text.specs.declared.load.TheConstants.{MOST_THREADS, MOST_ITEMS}
 
@@ -44,23 +44,23 @@ IsEvenLoad l = IsLoad l × (l.pushers * l.items % l.poppers ≡ 0)
 abbrev pub load_words : Load → List (List ℕ)
 load_words l = kind_text l.kind ∷ decimal l.pushers ∷ decimal l.poppers ∷ decimal l.items ∷ []
 
-abbrev pub form_words : Form → List (List ℕ)
-form_words (form.Script k) = codes "script" ∷ kind_text k ∷ []
-form_words (form.Replay k parties) = codes "replay" ∷ kind_text k ∷ decimal parties ∷ []
-form_words (form.Threads l) = codes "threads" ∷ load_words l
-form_words form.Handshake = codes "handshake" ∷ []
-form_words (form.Channel l) = codes "channel" ∷ load_words l
+abbrev pub mode_words : Mode → List (List ℕ)
+mode_words (mode.Script k) = codes "script" ∷ kind_text k ∷ []
+mode_words (mode.Replay k parties) = codes "replay" ∷ kind_text k ∷ decimal parties ∷ []
+mode_words (mode.Threads l) = codes "threads" ∷ load_words l
+mode_words mode.Handshake = codes "handshake" ∷ []
+mode_words (mode.Channel l) = codes "channel" ∷ load_words l
 
 -- a replay has 1 to 64 parties
 abbrev pub IsPartyCount : ℕ → Type 0
 IsPartyCount parties = (0 < parties) × (parties ≤ MOST_PARTIES)
 
-abbrev pub IsForm : Form → Type 0
-IsForm (form.Script k) = IsKindName k
-IsForm (form.Replay k parties) = IsKindName k × IsPartyCount parties
-IsForm (form.Threads l) = IsEvenLoad l
-IsForm form.Handshake = Unit {0}
-IsForm (form.Channel l) = IsLoad l
+abbrev pub IsMode : Mode → Type 0
+IsMode (mode.Script k) = IsKindName k
+IsMode (mode.Replay k parties) = IsKindName k × IsPartyCount parties
+IsMode (mode.Threads l) = IsEvenLoad l
+IsMode mode.Handshake = Unit {0}
+IsMode (mode.Channel l) = IsLoad l
 
 -- the kind of queue that the name asks for
 abbrev pub kind_named : KindName → Kind

@@ -7,7 +7,7 @@ use Rattle.app_text.specs.declared.usage.UsageFault.{UsageFault}
 use Rattle.app_text.specs.declared.usage.UsageFault.TheVariants as usage
 
 abbrev pub usage_text : UsageFault → List ℕ
-usage_text usage.Form = codes "form: script, replay, threads, handshake or channel"
+usage_text usage.Mode = codes "form: script, replay, threads, handshake or channel"
 usage_text usage.WordCount = codes "words: too few or too many"
 usage_text usage.Kind = codes "kind: single, bounded:CAP or unbounded"
 usage_text usage.Capacity = codes "capacity: 1 to 576460752303423488"
@@ -49,18 +49,18 @@ IsEvenLoadFault words usage.Share = IsUneven words
 IsEvenLoadFault words why = IsLoadFault words why
 
 -- the word is the name of a form
-abbrev pub IsFormName : List ℕ → Type 0
-IsFormName word = (word ≡ codes "script") ⊎ (word ≡ codes "replay") ⊎ (word ≡ codes "threads") ⊎ (word ≡ codes "handshake") ⊎ (word ≡ codes "channel")
+abbrev pub IsModeName : List ℕ → Type 0
+IsModeName word = (word ≡ codes "script") ⊎ (word ≡ codes "replay") ⊎ (word ≡ codes "threads") ⊎ (word ≡ codes "handshake") ⊎ (word ≡ codes "channel")
 
 -- why no form with other words behind it has this name: none has, or each takes more words or fewer
 abbrev pub IsNameFault : List ℕ → UsageFault → Type 0
-IsNameFault word usage.Form = IsFormName word → ⊥
-IsNameFault word usage.WordCount = IsFormName word
+IsNameFault word usage.Mode = IsModeName word → ⊥
+IsNameFault word usage.WordCount = IsModeName word
 IsNameFault word _ = ⊥
 
 -- why the words name no form
-abbrev pub IsFormFault : List (List ℕ) → UsageFault → Type 0
-IsFormFault words usage.Form = IsNameFault (get_or words 0 []) usage.Form
-IsFormFault words usage.WordCount = IsNameFault (get_or words 0 []) usage.WordCount
-IsFormFault words usage.Parties = IsNoNumber IsPartyCount (get_or words 2 [])
-IsFormFault words why = IsEvenLoadFault (drop 1 words) why
+abbrev pub IsModeFault : List (List ℕ) → UsageFault → Type 0
+IsModeFault words usage.Mode = IsNameFault (get_or words 0 []) usage.Mode
+IsModeFault words usage.WordCount = IsNameFault (get_or words 0 []) usage.WordCount
+IsModeFault words usage.Parties = IsNoNumber IsPartyCount (get_or words 2 [])
+IsModeFault words why = IsEvenLoadFault (drop 1 words) why

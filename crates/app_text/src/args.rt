@@ -4,8 +4,8 @@ ghost use Rattle.std.specs.Fmt.{decimal};
 ghost use Rattle.app_text.specs.Reading.{IsParsing, IsReading};
 ghost use Rattle.machine_replay.specs.Conforms.{capacity_of as capacity_of_kind};
 ghost use Rattle.machine_replay.specs.Replays.{CanReplay};
-ghost use Rattle.app_text.specs.Usage.{IsFormFault, IsKindFault, IsNameFault};
-ghost use Rattle.app_text.specs.KindNames.{capacity_of, kind_text, queue_named, IsCapacity, IsKindName, form_words, IsForm, IsPartyCount};
+ghost use Rattle.app_text.specs.Usage.{IsModeFault, IsKindFault, IsNameFault};
+ghost use Rattle.app_text.specs.KindNames.{capacity_of, kind_text, queue_named, IsCapacity, IsKindName, mode_words, IsMode, IsPartyCount};
 
 use crate::load::{Load, parse_even_load, parse_load};
 use crate::numbers::parse_number;
@@ -42,9 +42,9 @@ impl KindName {
     }
 }
 
-/// What the program is to do.
+/// What the program is to do, which its texts call a form.
 #[derive(Clone, Copy)]
-pub enum Form {
+pub enum Mode {
     /// Runs a script on a queue with one owner.
     Script(KindName),
     /// Replays calls and steps on a queue that so many parties share.
@@ -58,15 +58,15 @@ pub enum Form {
 }
 
 /// The form that the arguments name.
-pub fn parse_form(args: &[String]) -> Result<Form, UsageFault>
-    ensures { IsParsing IsForm form_words IsFormFault (map string_bytes args.now) result }
+pub fn parse_mode(args: &[String]) -> Result<Mode, UsageFault>
+    ensures { IsParsing IsMode mode_words IsModeFault (map string_bytes args.now) result }
 {
     match args {
-        [] => Err(UsageFault::Form),
-        [form] => handshake_form(form.as_str()),
-        [form, kind] => script_form(form.as_str(), kind.as_str()),
-        [form, kind, parties] => replay_form(form.as_str(), kind.as_str(), parties.as_str()),
-        [form, kind, pushers, poppers, items] => load_form(
+        [] => Err(UsageFault::Mode),
+        [form] => handshake_mode(form.as_str()),
+        [form, kind] => script_mode(form.as_str(), kind.as_str()),
+        [form, kind, parties] => replay_mode(form.as_str(), kind.as_str(), parties.as_str()),
+        [form, kind, pushers, poppers, items] => load_mode(
             form.as_str(),
             kind.as_str(),
             pushers.as_str(),
@@ -83,33 +83,33 @@ fn name_fault(form: &str) -> UsageFault
 {
     match form {
         "script" | "replay" | "threads" | "handshake" | "channel" => UsageFault::WordCount,
-        _ => UsageFault::Form,
+        _ => UsageFault::Mode,
     }
 }
 
 // The form that this word names.
-fn handshake_form(form: &str) -> Result<Form, UsageFault>
-    ensures { IsParsing IsForm form_words IsFormFault (form.now ∷ []) result }
+fn handshake_mode(form: &str) -> Result<Mode, UsageFault>
+    ensures { IsParsing IsMode mode_words IsModeFault (form.now ∷ []) result }
 {
     if form != "handshake" {
         return Err(name_fault(form));
     }
-    Ok(Form::Handshake)
+    Ok(Mode::Handshake)
 }
 
 // The form that these two words name.
-fn script_form(form: &str, kind: &str) -> Result<Form, UsageFault>
-    ensures { IsParsing IsForm form_words IsFormFault (form.now ∷ kind.now ∷ []) result }
+fn script_mode(form: &str, kind: &str) -> Result<Mode, UsageFault>
+    ensures { IsParsing IsMode mode_words IsModeFault (form.now ∷ kind.now ∷ []) result }
 {
     if form != "script" {
         return Err(name_fault(form));
     }
-    Ok(Form::Script(parse_kind(kind)?))
+    Ok(Mode::Script(parse_kind(kind)?))
 }
 
 // The form that these three words name.
-fn replay_form(form: &str, kind: &str, parties: &str) -> Result<Form, UsageFault>
-    ensures { IsParsing IsForm form_words IsFormFault (form.now ∷ kind.now ∷ parties.now ∷ []) result }
+fn replay_mode(form: &str, kind: &str, parties: &str) -> Result<Mode, UsageFault>
+    ensures { IsParsing IsMode mode_words IsModeFault (form.now ∷ kind.now ∷ parties.now ∷ []) result }
 {
     if form != "replay" {
         return Err(name_fault(form));
@@ -118,7 +118,7 @@ fn replay_form(form: &str, kind: &str, parties: &str) -> Result<Form, UsageFault
     let Some(parties) = parse_parties(parties) else {
         return Err(UsageFault::Parties);
     };
-    Ok(Form::Replay(kind, parties))
+    Ok(Mode::Replay(kind, parties))
 }
 
 // The number of parties that this text names.
@@ -133,18 +133,18 @@ fn parse_parties(text: &str) -> Option<usize>
 }
 
 // The form that these five words name.
-fn load_form(
+fn load_mode(
     form: &str,
     kind: &str,
     pushers: &str,
     poppers: &str,
     items: &str,
-) -> Result<Form, UsageFault>
-    ensures { IsParsing IsForm form_words IsFormFault (form.now ∷ kind.now ∷ pushers.now ∷ poppers.now ∷ items.now ∷ []) result }
+) -> Result<Mode, UsageFault>
+    ensures { IsParsing IsMode mode_words IsModeFault (form.now ∷ kind.now ∷ pushers.now ∷ poppers.now ∷ items.now ∷ []) result }
 {
     match form {
-        "threads" => Ok(Form::Threads(parse_even_load(kind, pushers, poppers, items)?)),
-        "channel" => Ok(Form::Channel(parse_load(kind, pushers, poppers, items)?)),
+        "threads" => Ok(Mode::Threads(parse_even_load(kind, pushers, poppers, items)?)),
+        "channel" => Ok(Mode::Channel(parse_load(kind, pushers, poppers, items)?)),
         _ => Err(name_fault(form)),
     }
 }

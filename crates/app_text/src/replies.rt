@@ -8,9 +8,9 @@ use std::fmt;
 
 /// A reply as it is printed.
 #[derive(Clone, Copy)]
-pub struct Shown(pub Reply<u64>);
+pub struct ReplyText(pub Reply<u64>);
 
-impl Shown {
+impl ReplyText {
     /// The words of a reply, and the number behind them, if it has one.
     pub fn parts(self) -> (&'static str, Option<u64>)
         ensures { reply_text self.0 ≡ result.0.now ++ number_text result.1 }
@@ -37,7 +37,7 @@ impl Shown {
     }
 }
 
-impl fmt::Display for Shown {
+impl fmt::Display for ReplyText {
     ghost output = { λ shown. Some (reply_text shown.0) };
 
     fn fmt<W: fmt::Write>(&self, f: &mut fmt::Formatter<W>) -> fmt::Result {

@@ -8,7 +8,7 @@ use std::fmt;
 #[derive(Clone, Copy, Debug, PartialEq)]
 pub enum UsageFault {
     /// No form has this name.
-    Form,
+    Mode,
     /// What the first words ask for takes more words, or fewer.
     WordCount,
     /// No kind of queue has this name.
@@ -38,7 +38,7 @@ impl fmt::Display for UsageFault {
 
     fn fmt<W: fmt::Write>(&self, f: &mut fmt::Formatter<W>) -> fmt::Result {
         f.write_str(match self {
-            UsageFault::Form => "form: script, replay, threads, handshake or channel",
+            UsageFault::Mode => "form: script, replay, threads, handshake or channel",
             UsageFault::WordCount => "words: too few or too many",
             UsageFault::Kind => "kind: single, bounded:CAP or unbounded",
             UsageFault::Capacity => "capacity: 1 to 576460752303423488",

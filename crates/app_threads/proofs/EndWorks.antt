@@ -13,7 +13,7 @@ use Rattle.counted_channel.specs.declared.errors.Disconnected.{Disconnected}
 use Rattle.queue_steps.specs.Shares.{Share, entire, half, plus, IsEntire, SamePart}
 use Rattle.queue_steps.specs.Parties.{IsView}
 use Rattle.queue_steps.proofs.ShareLaws.{same_refl, same_sym, same_trans, entire_same, plus_comm, plus_assoc, plus_same, halves_same}
-use Rattle.concurrent_queue.specs.Shared.{QueueId, Person, Calls, Parts, Joins}
+use Rattle.concurrent_queue.specs.Shared.{QueueId, PartyView, Calls, Parts, Joins}
 use Rattle.counted_channel.specs.Channel.{End, EndParts, Ends, GivenBack, sent, received}
 use Rattle.law_parties.specs.Doings.{is_take, takes, Acts, SawClosed}
 use Rattle.law_parties.proofs.Doings.{acts, acts_none, still_closed, unchanged}
@@ -24,13 +24,13 @@ use Rattle.app_text.specs.declared.load.Load.{Load}
 use Rattle.app_threads.specs.Counts.{counted, AreSums, IsTally}
 use Rattle.app_threads.specs.Sharing.{IsEnded, SeesLeft}
 use Rattle.app_threads.specs.declared.sharing.EndedChannel.{EndedChannel}
-use Rattle.app_threads.specs.Works.{IsWorkOf, PartsTask, TookNothing, ends_share, ends_taken, task_party}
-use Rattle.app_threads.specs.declared.crew.Work.{Work}
-use Rattle.app_threads.specs.declared.ends.Task.{Task}
+use Rattle.app_threads.specs.Works.{IsWorkOf, PartsRole, TookNothing, ends_share, ends_taken, role_party}
+use Rattle.app_threads.specs.declared.crew.WorkResult.{WorkResult}
+use Rattle.app_threads.specs.declared.ends.Role.{Role}
 use Rattle.app_threads.proofs.Works.{none_at, none_few, none_own, taken_more, few_more, close_quits, none_parted, all_parted, work_of_same, joined_works}
 
 -- a party that is given back by its end has taken nothing
-pub ended : (v w : Person ℕ) (last : Bool) → IsView v.queue.cap v.view → Ends v w last → TookNothing v w
+pub ended : (v w : PartyView ℕ) (last : Bool) → IsView v.queue.cap v.view → Ends v w last → TookNothing v w
 ended v w true is ends =
     let quits = close_quits v v w ends.0.0 is (acts_none v) ends.0.1 in record {
       queue = quits.queue;
@@ -38,13 +38,13 @@ ended v w true is ends =
       taken = quits.taken;
     }
 ended v w false is same = record {
-  queue = ap (λ (p : Person ℕ). p.queue) same;
-  share = ap (λ (p : Person ℕ). p.view.share) same;
-  taken = λ x. ap (λ (p : Person ℕ). takes x p.view) same;
+  queue = ap (λ (p : PartyView ℕ). p.queue) same;
+  share = ap (λ (p : PartyView ℕ). p.view.share) same;
+  taken = λ x. ap (λ (p : PartyView ℕ). takes x p.view) same;
 }
 
 -- a party that has taken nothing takes nothing more
-pub took_nothing : (u v w : Person ℕ) → TookNothing u v → TookNothing v w → TookNothing u w
+pub took_nothing : (u v w : PartyView ℕ) → TookNothing u v → TookNothing v w → TookNothing u w
 took_nothing u v w first then = record {
   queue = then.queue ∙ first.queue;
   share = then.share ∙ first.share;
@@ -52,7 +52,7 @@ took_nothing u v w first then = record {
 }
 
 -- effects that take nothing
-took_by : (v w : Person ℕ) (es : List (Effect ℕ)) → Acts v w es → ((x : ℕ) → count_by (is_take x) es ≡ 0) → TookNothing v w
+took_by : (v w : PartyView ℕ) (es : List (Effect ℕ)) → Acts v w es → ((x : ℕ) → count_by (is_take x) es ≡ 0) → TookNothing v w
 took_by v w es acts none = record {
   queue = acts.queue;
   share = acts.share;
@@ -60,7 +60,7 @@ took_by v w es acts none = record {
 }
 
 -- who sends takes nothing, whatever the answer
-pub sent_nothing : (v w : Person ℕ) (value : ℕ) (answer : Result (Unit {0}) (SendError ℕ)) → IsView v.queue.cap v.view → Calls v (call.Push value) (sent answer) w → TookNothing v w
+pub sent_nothing : (v w : PartyView ℕ) (value : ℕ) (answer : Result (Unit {0}) (SendError ℕ)) → IsView v.queue.cap v.view → Calls v (call.Push value) (sent answer) w → TookNothing v w
 sent_nothing v w value (Ok done) is made = took_by v w (effect.Append value ∷ []) (acts v w (call.Push value) (sent (Ok done)) (effect.Append value ∷ []) is made made.1.tells) (λ x. refl)
 sent_nothing v w value (Err (send.Closed back)) is made =
     ⊎_elim (λ closed. took_by v w (effect.SelfClose ∷ []) (acts v w (call.Push value) (sent (Err (send.Closed back))) (effect.SelfClose ∷ []) is made closed) (λ x. refl))
@@ -69,15 +69,15 @@ sent_nothing v w value (Err (send.Closed back)) is made =
 sent_nothing v w value (Err (send.NoMemory back)) is made = took_by v w [] (acts v w (call.Push value) (sent (Err (send.NoMemory back))) [] is made made.1.tells.1) (λ x. refl)
 
 -- a receiver that nothing came to took nothing
-pub received_nothing : (v w : Person ℕ) (why : Disconnected) → IsView v.queue.cap v.view → Calls v call.Pop (received (Err why)) w → TookNothing v w
+pub received_nothing : (v w : PartyView ℕ) (why : Disconnected) → IsView v.queue.cap v.view → Calls v call.Pop (received (Err why)) w → TookNothing v w
 received_nothing v w why is made = took_by v w [] (acts v w call.Pop (received (Err why)) [] is made made.1.tells) (λ x. refl)
 
 -- what came was taken
-pub received_one : (v w : Person ℕ) (value : ℕ) → IsView v.queue.cap v.view → Calls v call.Pop (received (Ok value)) w → Acts v w (effect.Take value ∷ [])
+pub received_one : (v w : PartyView ℕ) (value : ℕ) → IsView v.queue.cap v.view → Calls v call.Pop (received (Ok value)) w → Acts v w (effect.Take value ∷ [])
 received_one v w value is made = acts v w call.Pop (received (Ok value)) (effect.Take value ∷ []) is made made.1.tells
 
 -- a work in which nothing is counted
-pub none_work : (q : QueueId) (items most n : ℕ) (t : ℕ → ℕ) (s : Share) (work : Work) → work.party.queue ≡ q → ((x : ℕ) → takes x work.party.view ≡ t x)
+pub none_work : (q : QueueId) (items most n : ℕ) (t : ℕ → ℕ) (s : Share) (work : WorkResult) → work.party.queue ≡ q → ((x : ℕ) → takes x work.party.view ≡ t x)
     → (work.done ≡ true → work.party.view.share ≡ s) → work.counts.items ≡ replicate n 0 → IsWorkOf q items most t s work
 none_work q items most n t s work of took share none = record {
   queue = of;
@@ -88,12 +88,12 @@ none_work q items most n t s work of took share none = record {
 }
 
 -- that of an end that has taken nothing
-pub idle_work : (q : QueueId) (items most n : ℕ) (v : Person ℕ) (work : Work) → v.queue ≡ q → TookNothing v work.party → work.counts.items ≡ replicate n 0
+pub idle_work : (q : QueueId) (items most n : ℕ) (v : PartyView ℕ) (work : WorkResult) → v.queue ≡ q → TookNothing v work.party → work.counts.items ≡ replicate n 0
     → IsWorkOf q items most (λ x. takes x v.view) v.view.share work
 idle_work q items most n v work of nothing none = none_work q items most n (λ x. takes x v.view) v.view.share work (nothing.queue ∙ of) nothing.taken (λ _. nothing.share) none
 
 -- a work, once its party has taken nothing more
-pub ended_work : (q : QueueId) (items low most : ℕ) (t : ℕ → ℕ) (s : Share) (old new : Work) → low ≤ most → IsWorkOf q items low t s old → TookNothing old.party new.party
+pub ended_work : (q : QueueId) (items low most : ℕ) (t : ℕ → ℕ) (s : Share) (old new : WorkResult) → low ≤ most → IsWorkOf q items low t s old → TookNothing old.party new.party
     → new.counts.items ≡ old.counts.items → old.done ≡ true → IsWorkOf q items most t s new
 ended_work q items low most t s old new le is nothing same done = record {
   queue = nothing.queue ∙ is.queue;
@@ -103,7 +103,7 @@ ended_work q items low most t s old new le is nothing same done = record {
 }
 
 -- a value that was taken is counted
-pub more_work : (q : QueueId) (items most value : ℕ) (v : Person ℕ) (old new : Work) → length old.counts.items ≡ items → new.counts.items ≡ counted value old.counts.items
+pub more_work : (q : QueueId) (items most value : ℕ) (v : PartyView ℕ) (old new : WorkResult) → length old.counts.items ≡ items → new.counts.items ≡ counted value old.counts.items
     → Acts old.party new.party (effect.Take value ∷ []) → old.done ≡ true → IsWorkOf q items most (λ x. takes x v.view) v.view.share old
     → IsWorkOf q items (most + 1) (λ x. takes x v.view) v.view.share new
 more_work q items most value v old new complete is_counted acts done is = record {
@@ -123,19 +123,19 @@ sender_parted s r =
 pub receiver_parted : (s r : Share) → SamePart (plus (plus s (half r)) (half r)) (plus s r)
 receiver_parted s r = subst {A = Share} (λ z. SamePart z (plus s r)) (sym (plus_assoc s (half r) (half r))) (plus_same s s (plus (half r) (half r)) r (same_refl s) (halves_same r))
 
-pub parts_sender : (s r a b : End ℕ) → IsView s.party.queue.cap s.party.view → EndParts s a b → (t : Task) → task_party t ≡ b.party → PartsTask s r a r t
+pub parts_sender : (s r a b : End ℕ) → IsView s.party.queue.cap s.party.view → EndParts s a b → (t : Role) → role_party t ≡ b.party → PartsRole s r a r t
 parts_sender s r a b is parts t of = record {
   taken = λ x. ap (λ (n : ℕ). n + takes x r.party.view) (all_parted s.party a.party b.party is parts.0 x);
-  fresh = λ x. ap (λ (p : Person ℕ). takes x p.view) of ∙ none_parted s.party a.party b.party parts.0 x;
-  share = subst {A = Share} (λ z. SamePart (plus (plus a.party.view.share r.party.view.share) z) (ends_share s r)) (sym (ap (λ (p : Person ℕ). p.view.share) of ∙ parts.0.2.share.1))
+  fresh = λ x. ap (λ (p : PartyView ℕ). takes x p.view) of ∙ none_parted s.party a.party b.party parts.0 x;
+  share = subst {A = Share} (λ z. SamePart (plus (plus a.party.view.share r.party.view.share) z) (ends_share s r)) (sym (ap (λ (p : PartyView ℕ). p.view.share) of ∙ parts.0.2.share.1))
       (subst {A = Share} (λ z. SamePart (plus (plus z r.party.view.share) (half s.party.view.share)) (ends_share s r)) (sym parts.0.2.share.0) (sender_parted s.party.view.share r.party.view.share));
 }
 
-pub parts_receiver : (s r a b : End ℕ) → IsView r.party.queue.cap r.party.view → EndParts r a b → (t : Task) → task_party t ≡ b.party → PartsTask s r s a t
+pub parts_receiver : (s r a b : End ℕ) → IsView r.party.queue.cap r.party.view → EndParts r a b → (t : Role) → role_party t ≡ b.party → PartsRole s r s a t
 parts_receiver s r a b is parts t of = record {
   taken = λ x. ap (λ (n : ℕ). takes x s.party.view + n) (all_parted r.party a.party b.party is parts.0 x);
-  fresh = λ x. ap (λ (p : Person ℕ). takes x p.view) of ∙ none_parted r.party a.party b.party parts.0 x;
-  share = subst {A = Share} (λ z. SamePart (plus (plus s.party.view.share a.party.view.share) z) (ends_share s r)) (sym (ap (λ (p : Person ℕ). p.view.share) of ∙ parts.0.2.share.1))
+  fresh = λ x. ap (λ (p : PartyView ℕ). takes x p.view) of ∙ none_parted r.party a.party b.party parts.0 x;
+  share = subst {A = Share} (λ z. SamePart (plus (plus s.party.view.share a.party.view.share) z) (ends_share s r)) (sym (ap (λ (p : PartyView ℕ). p.view.share) of ∙ parts.0.2.share.1))
       (subst {A = Share} (λ z. SamePart (plus (plus s.party.view.share z) (half r.party.view.share)) (ends_share s r)) (sym parts.0.2.share.0) (receiver_parted s.party.view.share r.party.view.share));
 }
 
@@ -144,18 +144,18 @@ pub given_back : (d e : End ℕ) → IsView d.party.queue.cap d.party.view → G
 given_back d e is back x = unchanged d.party.queue.cap d.party.view e.party.view is back.begins back.mine (is_take x)
 
 -- the work of a thread, and that of the ends that are left
-pub parted_work : (q : QueueId) (items low high most : ℕ) (s r a b : End ℕ) (t : Task) (ours theirs work : Work) → PartsTask s r a b t
-    → IsWorkOf q items low (ends_taken a b) (ends_share a b) ours → IsWorkOf q items high (λ x. takes x (task_party t).view) (task_party t).view.share theirs
+pub parted_work : (q : QueueId) (items low high most : ℕ) (s r a b : End ℕ) (t : Role) (ours theirs work : WorkResult) → PartsRole s r a b t
+    → IsWorkOf q items low (ends_taken a b) (ends_share a b) ours → IsWorkOf q items high (λ x. takes x (role_party t).view) (role_party t).view.share theirs
     → IsView ours.party.queue.cap ours.party.view → IsView theirs.party.queue.cap theirs.party.view
     → Joins ours.party theirs.party work.party → length ours.counts.items ≡ items → AreSums ours.counts.items theirs.counts.items work.counts.items → work.done ≡ (ours.done && theirs.done)
     → low + high ≤ most → IsWorkOf q items most (ends_taken s r) (ends_share s r) work
 parted_work q items low high most s r a b t ours theirs work parts our their is_ours is_theirs joins complete sums done fits =
-    work_of_same q items most (λ x. ends_taken a b x + takes x (task_party t).view) (ends_taken s r) (plus (ends_share a b) (task_party t).view.share) (ends_share s r) work
+    work_of_same q items most (λ x. ends_taken a b x + takes x (role_party t).view) (ends_taken s r) (plus (ends_share a b) (role_party t).view.share) (ends_share s r) work
     (λ x. ap (λ (n : ℕ). ends_taken a b x + n) (parts.fresh x) ∙ (add-zero _ ∙ parts.taken x)) parts.share
-    (joined_works q items low high most (ends_taken a b) (λ x. takes x (task_party t).view) (ends_share a b) (task_party t).view.share ours theirs work our their is_ours is_theirs joins complete sums done fits)
+    (joined_works q items low high most (ends_taken a b) (λ x. takes x (role_party t).view) (ends_share a b) (role_party t).view.share ours theirs work our their is_ours is_theirs joins complete sums done fits)
 
 -- what the ends of a channel that has just begun were parted into, and gave back, is a tally of the load
-pub tallied : (l : Load) (q : QueueId) (items most : ℕ) (v : Person ℕ) (s r : End ℕ) (work : Work) (last : Person ℕ) → IfSome (capacity_of l.kind) (λ size. size ≤ MAX_CAPACITY)
+pub tallied : (l : Load) (q : QueueId) (items most : ℕ) (v : PartyView ℕ) (s r : End ℕ) (work : WorkResult) (last : PartyView ℕ) → IfSome (capacity_of l.kind) (λ size. size ≤ MAX_CAPACITY)
     → items ≡ l.items → Parts v s.party r.party → v.view.mine ≡ [] → IsWorkOf q items most (ends_taken s r) (ends_share s r) work → length work.counts.items ≡ items → last ≡ work.party
     → IsTally l last.view work.counts.items
 tallied l q items most v s r work last within same parts none is complete now = record {
@@ -164,12 +164,12 @@ tallied l q items most v s r work last within same parts none is complete now = 
   taken = λ x lt.
       let all = is.taken x (omega (arith, lt, same)) in
       let sent_none = none_own s.party (parts.2.mine.0 ∙ none) x in let came_none = none_parted v s.party r.party parts x in
-      let here : takes x last.view ≡ takes x work.party.view = ap (λ (p : Person ℕ). takes x p.view) now in
+      let here : takes x last.view ≡ takes x work.party.view = ap (λ (p : PartyView ℕ). takes x p.view) now in
       omega (arith, all, sent_none, came_none, here);
 }
 
 -- halves of a whole share that are together again are whole
-pub whole_again : (v s r : Person ℕ) (t : Share) → Parts v s r → v.view.share ≡ entire → SamePart t (plus s.view.share r.view.share) → IsEntire t
+pub whole_again : (v s r : PartyView ℕ) (t : Share) → Parts v s r → v.view.share ≡ entire → SamePart t (plus s.view.share r.view.share) → IsEntire t
 whole_again v s r t parts all same =
     let one : s.view.share ≡ half entire = parts.2.share.0 ∙ ap half all in
     let two : r.view.share ≡ half entire = parts.2.share.1 ∙ ap half all in
@@ -178,7 +178,7 @@ whole_again v s r t parts all same =
     entire_same entire t (same_sym t entire back) refl
 
 -- the last party finds the queue closed, and sees what is left
-pub sees_left : (u v w : Person ℕ) (left : ℕ) → IsView u.queue.cap u.view → IsView v.queue.cap v.view → IsView w.queue.cap w.view → IsEntire u.view.share
+pub sees_left : (u v w : PartyView ℕ) (left : ℕ) → IsView u.queue.cap u.view → IsView v.queue.cap v.view → IsView w.queue.cap w.view → IsEntire u.view.share
     → Calls u call.IsClosed (reply.IsClosed true) v → Calls v call.Len (reply.Len left) w → SeesLeft u w left
 sees_left u v w left is_u is_v is_w whole first second =
     let one = took_by u v [] (acts u v call.IsClosed (reply.IsClosed true) [] is_u first first.1.tells) (λ x. refl) in
@@ -205,7 +205,7 @@ sees_left u v w left is_u is_v is_w whole first second =
     }
 
 -- a channel that has ended, with the party that all of its ends' have become
-pub ended_channel : (cap : Option ℕ) (q : QueueId) (p : Person ℕ) (left : ℕ) (c : EndedChannel) → p.queue ≡ c.channel.queue → c.channel.queue ≡ q → q.cap ≡ cap → IsEntire p.view.share → SeesLeft p c.party left
+pub ended_channel : (cap : Option ℕ) (q : QueueId) (p : PartyView ℕ) (left : ℕ) (c : EndedChannel) → p.queue ≡ c.channel.queue → c.channel.queue ≡ q → q.cap ≡ cap → IsEntire p.view.share → SeesLeft p c.party left
     → IsEnded cap c
 ended_channel cap q p left c of is capped whole sees =
     let now : c.party.queue ≡ c.channel.queue = sees.queue ∙ of in
@@ -218,5 +218,5 @@ ended_channel cap q p left c of is capped whole sees =
     }
 
 -- a tally stays one while nothing is taken
-pub tallied_on : (l : Load) (v w : Person ℕ) (counts : List ℕ) → IsTally l v.view counts → ((x : ℕ) → takes x w.view ≡ takes x v.view) → IsTally l w.view counts
+pub tallied_on : (l : Load) (v w : PartyView ℕ) (counts : List ℕ) → IsTally l v.view counts → ((x : ℕ) → takes x w.view ≡ takes x v.view) → IsTally l w.view counts
 tallied_on l v w counts tally same = record { within = tally.within; complete = tally.complete; taken = λ x lt. tally.taken x lt ∙ sym (same x) }

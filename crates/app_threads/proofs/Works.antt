@@ -24,18 +24,18 @@ use Rattle.queue_steps.specs.Shares.{Share, entire, half, plus, SamePart, IsEnti
 use Rattle.queue_steps.specs.Parties.{IsView, StandAt, Between}
 use Rattle.queue_steps.proofs.ShareLaws.{same_refl, same_trans, plus_same, halves_joined}
 use Rattle.queue_steps.proofs.Keeping.{stays_closed}
-use Rattle.concurrent_queue.specs.Shared.{QueueId, Person, Calls, Parts, Joins}
+use Rattle.concurrent_queue.specs.Shared.{QueueId, PartyView, Calls, Parts, Joins}
 use Rattle.app_threads.specs.Counts.{counted, EachSumFits, AreSums}
 use Rattle.law_parties.specs.Doings.{passes, is_take, takes, Acts, SawClosed}
 use Rattle.app_threads.specs.Works.{Quits, IsWork, IsWorkOf}
 use Rattle.app_threads.specs.Meetings.{AreHandsOf, AreThreeParts, Unites, IsShaken, IsMeeting}
 use Rattle.app_threads.specs.declared.handshake.Hands.{Hands}
 use Rattle.app_threads.specs.declared.handshake.Shaken.{Shaken}
-use Rattle.app_threads.specs.declared.crew.Work.{Work}
+use Rattle.app_threads.specs.declared.crew.WorkResult.{WorkResult}
 use Rattle.law_parties.proofs.Doings.{acts, acts_on, single, unchanged, did_both, still_closed}
 
 -- a party that has done nothing makes a call
-pub first_acts : {T : Type 0} (u v w : Person T) (c : Call T) (r : Reply T) (es : List (Effect T)) → IsView v.queue.cap v.view → Acts u v [] → (call : Calls v c r w) → call.1.effects ≡ es → Acts u w es
+pub first_acts : {T : Type 0} (u v w : PartyView T) (c : Call T) (r : Reply T) (es : List (Effect T)) → IsView v.queue.cap v.view → Acts u v [] → (call : Calls v c r w) → call.1.effects ≡ es → Acts u w es
 first_acts u v w c r es is before call are = acts_on u v w [] es before (acts v w c r es is call are)
 
 module _ {T : Type 0} where
@@ -77,7 +77,7 @@ module _ {T : Type 0} where
   closed_between cap s t fact legal closed b = still_closed cap b.0 t b.2 legal (closed (after cap b.0) b.3)
 
 -- a call that shows the queue closed, and has no effect
-found_closed : (u v w : Person ℕ) (c : Call ℕ) (r : Reply ℕ) → IsView v.queue.cap v.view → Acts u v [] → (made : Calls v c r w) → made.1.effects ≡ [] → ((Q : State ℕ) → Allows c r Q → Q.closed ≡ true) → Quits u w
+found_closed : (u v w : PartyView ℕ) (c : Call ℕ) (r : Reply ℕ) → IsView v.queue.cap v.view → Acts u v [] → (made : Calls v c r w) → made.1.effects ≡ [] → ((Q : State ℕ) → Allows c r Q → Q.closed ≡ true) → Quits u w
 found_closed u v w c r is before made none shows =
     let acts = first_acts u v w c r [] is before made none in record {
       queue = acts.queue;
@@ -87,7 +87,7 @@ found_closed u v w c r is before made none shows =
     }
 
 -- a call with an effect that closes the queue
-made_closed : (u v w : Person ℕ) (c : Call ℕ) (r : Reply ℕ) (e : Effect ℕ) → IsView v.queue.cap v.view → Acts u v [] → (made : Calls v c r w) → made.1.effects ≡ e ∷ [] → closes e ≡ true → ((x : ℕ) → is_take x e ≡ false) → Quits u w
+made_closed : (u v w : PartyView ℕ) (c : Call ℕ) (r : Reply ℕ) (e : Effect ℕ) → IsView v.queue.cap v.view → Acts u v [] → (made : Calls v c r w) → made.1.effects ≡ e ∷ [] → closes e ≡ true → ((x : ℕ) → is_take x e ≡ false) → Quits u w
 made_closed u v w c r e is before made one shuts none =
     let acts = first_acts u v w c r (e ∷ []) is before made one in record {
       queue = acts.queue;
@@ -96,22 +96,22 @@ made_closed u v w c r e is before made one shuts none =
           (closed_here v.queue.cap w.view.seen (length v.view.seen) made.1.places made.1.effects e made.1.legal made.1.stand one shuts);
     }
 
-pub close_quits : (u v w : Person ℕ) (b : Bool) → IsView v.queue.cap v.view → Acts u v [] → Calls v call.Close (reply.Close b) w → Quits u w
+pub close_quits : (u v w : PartyView ℕ) (b : Bool) → IsView v.queue.cap v.view → Acts u v [] → Calls v call.Close (reply.Close b) w → Quits u w
 close_quits u v w true is before made = made_closed u v w call.Close (reply.Close true) effect.Close is before made made.1.tells refl (λ x. refl)
 close_quits u v w false is before made = found_closed u v w call.Close (reply.Close false) is before made made.1.tells (λ Q. ⊎_elim (λ closed. closed) (λ lacks. absurd lacks))
 
 -- a party that had done nothing before it quit
-pub then_quits : (u v w : Person ℕ) → Acts u v [] → Quits v w → Quits u w
+pub then_quits : (u v w : PartyView ℕ) → Acts u v [] → Quits v w → Quits u w
 then_quits u v w before quits = record {
   queue = quits.queue ∙ before.queue;
   taken = λ x. quits.taken x ∙ (before.did (is_take x) ∙ add-zero _);
   closed = quits.closed;
 }
 
-pub pop_quits : (u v w : Person ℕ) → IsView v.queue.cap v.view → Acts u v [] → Calls v call.Pop (reply.Pop (Err pop.Closed)) w → Quits u w
+pub pop_quits : (u v w : PartyView ℕ) → IsView v.queue.cap v.view → Acts u v [] → Calls v call.Pop (reply.Pop (Err pop.Closed)) w → Quits u w
 pop_quits u v w is before made = found_closed u v w call.Pop (reply.Pop (Err pop.Closed)) is before made made.1.tells (λ Q. ⊎_elim (λ right. right.2) (λ lacks. absurd lacks))
 
-pub push_quits : (u v w : Person ℕ) (x y : ℕ) → IsView v.queue.cap v.view → Acts u v [] → Calls v (call.Push x) (reply.Push (Err (push.Closed y))) w → Quits u w
+pub push_quits : (u v w : PartyView ℕ) (x y : ℕ) → IsView v.queue.cap v.view → Acts u v [] → Calls v (call.Push x) (reply.Push (Err (push.Closed y))) w → Quits u w
 push_quits u v w x y is before made =
     let c = call.Push x in let r = reply.Push (Err (push.Closed y)) in
     ⊎_elim (λ one. made_closed u v w c r effect.SelfClose is before made one refl (λ z. refl))
@@ -127,12 +127,12 @@ none_at (suc n) (suc x) = none_at n x
 pub none_few : (most n : ℕ) (counts : List ℕ) → counts ≡ replicate n 0 → All (λ count. count ≤ most) counts
 none_few most n counts are = subst (All (λ count. count ≤ most)) (sym are) (All-replicate (λ count. count ≤ most) n 0 (omega arith))
 
-pub none_taken : (items n : ℕ) (v u : Person ℕ) (counts : List ℕ) → counts ≡ replicate n 0 → ((x : ℕ) → takes x u.view ≡ takes x v.view) → (x : ℕ) → x < items → takes x u.view ≡ takes x v.view + get_or counts x 0
+pub none_taken : (items n : ℕ) (v u : PartyView ℕ) (counts : List ℕ) → counts ≡ replicate n 0 → ((x : ℕ) → takes x u.view ≡ takes x v.view) → (x : ℕ) → x < items → takes x u.view ≡ takes x v.view + get_or counts x 0
 none_taken items n v u counts are same x lt =
     let zero_there : get_or counts x 0 ≡ 0 = ap (λ (l : List ℕ). get_or l x 0) are ∙ none_at n x in omega (arith, same x, zero_there)
 
 -- a value that was taken is counted
-pub taken_more : (items value : ℕ) (v u w : Person ℕ) (old new : List ℕ) → length old ≡ items → new ≡ counted value old → Acts u w (effect.Take value ∷ [])
+pub taken_more : (items value : ℕ) (v u w : PartyView ℕ) (old new : List ℕ) → length old ≡ items → new ≡ counted value old → Acts u w (effect.Take value ∷ [])
     → ((x : ℕ) → x < items → takes x u.view ≡ takes x v.view + get_or old x 0) → (x : ℕ) → x < items → takes x w.view ≡ takes x v.view + get_or new x 0
 taken_more items value v u w old new complete is acts before x lt =
     let more = acts.did (is_take x) in let so_far = before x lt in let counts = single (is_take x) (effect.Take value) in
@@ -157,7 +157,7 @@ few_more most value old new is few =
     subst (All (λ count. count ≤ most + 1)) (sym is)
     (All-set (λ count. count ≤ most + 1) old value (get_or old value 0 + 1) (omega (arith, low_at most old value few)) (All-weaker (λ count. count ≤ most) (λ count. count ≤ most + 1) (λ x le. omega (arith, le)) old few))
 
-pub quit_work : (q : QueueId) (items most : ℕ) (v u : Person ℕ) (work : Work) → v.queue ≡ q → u.queue ≡ v.queue → ((x : ℕ) → x < items → takes x u.view ≡ takes x v.view + get_or work.counts.items x 0)
+pub quit_work : (q : QueueId) (items most : ℕ) (v u : PartyView ℕ) (work : WorkResult) → v.queue ≡ q → u.queue ≡ v.queue → ((x : ℕ) → x < items → takes x u.view ≡ takes x v.view + get_or work.counts.items x 0)
     → All (λ count. count ≤ most) work.counts.items → Quits u work.party → work.done ≡ false → IsWork q items most v work
 quit_work q items most v u work of same taken few quits not_done = record {
   counted = record {
@@ -169,7 +169,7 @@ quit_work q items most v u work of same taken few quits not_done = record {
   closed = λ _. quits.closed;
 }
 
-pub done_work : (q : QueueId) (items most : ℕ) (v : Person ℕ) (work : Work) → v.queue ≡ q → work.party.queue ≡ v.queue → ((x : ℕ) → x < items → takes x work.party.view ≡ takes x v.view + get_or work.counts.items x 0)
+pub done_work : (q : QueueId) (items most : ℕ) (v : PartyView ℕ) (work : WorkResult) → v.queue ≡ q → work.party.queue ≡ v.queue → ((x : ℕ) → x < items → takes x work.party.view ≡ takes x v.view + get_or work.counts.items x 0)
     → All (λ count. count ≤ most) work.counts.items → work.party.view.share ≡ v.view.share → work.done ≡ true → IsWork q items most v work
 done_work q items most v work of same taken few share done = record {
   counted = record {
@@ -200,24 +200,24 @@ pub one_more : (made share : ℕ) → made * share + share ≡ (made + 1) * shar
 one_more made share = let itself : 1 * share ≡ share = omega arith in sym (add-mul made 1 share ∙ ap (λ (n : ℕ). made * share + n) itself)
 
 -- one party of two took what they took
-pub takes_both : (q : QueueId) (a b w : Person ℕ) → a.queue ≡ q → b.queue ≡ q → IsView a.queue.cap a.view → IsView b.queue.cap b.view → Joins a b w → (x : ℕ) → takes x w.view ≡ takes x a.view + takes x b.view
+pub takes_both : (q : QueueId) (a b w : PartyView ℕ) → a.queue ≡ q → b.queue ≡ q → IsView a.queue.cap a.view → IsView b.queue.cap b.view → Joins a b w → (x : ℕ) → takes x w.view ≡ takes x a.view + takes x b.view
 takes_both q a b w of_a of_b is_a is_b joins x =
     did_both a.queue.cap a.view b.view w.view is_a (subst {A = QueueId} (λ z. IsView z.cap b.view) (of_b ∙ sym of_a) is_b) joins.1 (is_take x)
 
 -- a party without a place of its own has taken nothing
-pub none_own : (p : Person ℕ) → p.view.mine ≡ [] → (x : ℕ) → takes x p.view ≡ 0
+pub none_own : (p : PartyView ℕ) → p.view.mine ≡ [] → (x : ℕ) → takes x p.view ≡ 0
 none_own p none x = ap (λ (ps : List ℕ). count_by (λ i. passes (is_take x) (get_elem? p.view.seen i)) ps) none
 
 -- nor has one that was parted off
-pub none_parted : (v a b : Person ℕ) → Parts v a b → (x : ℕ) → takes x b.view ≡ 0
+pub none_parted : (v a b : PartyView ℕ) → Parts v a b → (x : ℕ) → takes x b.view ≡ 0
 none_parted v a b parts = none_own b parts.2.mine.1
 
 -- the other has taken what the party had
-pub all_parted : (v a b : Person ℕ) → IsView v.queue.cap v.view → Parts v a b → (x : ℕ) → takes x a.view ≡ takes x v.view
+pub all_parted : (v a b : PartyView ℕ) → IsView v.queue.cap v.view → Parts v a b → (x : ℕ) → takes x a.view ≡ takes x v.view
 all_parted v a b is parts x = unchanged v.queue.cap v.view a.view is parts.2.begins parts.2.mine.0 (is_take x)
 
 -- a work is that of parties that had taken as much, and had the same share
-pub work_of_same : (q : QueueId) (items most : ℕ) (t t' : ℕ → ℕ) (s s' : Share) (work : Work) → ((x : ℕ) → t x ≡ t' x) → SamePart s s' → IsWorkOf q items most t s work → IsWorkOf q items most t' s' work
+pub work_of_same : (q : QueueId) (items most : ℕ) (t t' : ℕ → ℕ) (s s' : Share) (work : WorkResult) → ((x : ℕ) → t x ≡ t' x) → SamePart s s' → IsWorkOf q items most t s work → IsWorkOf q items most t' s' work
 work_of_same q items most t t' s s' work took share is = record {
   queue = is.queue;
   taken = λ x lt. is.taken x lt ∙ ap (λ (n : ℕ). n + get_or work.counts.items x 0) (took x);
@@ -226,7 +226,7 @@ work_of_same q items most t t' s s' work took share is = record {
 }
 
 -- two works, joined
-pub joined_works : (q : QueueId) (items low high most : ℕ) (t t' : ℕ → ℕ) (s s' : Share) (ours theirs work : Work)
+pub joined_works : (q : QueueId) (items low high most : ℕ) (t t' : ℕ → ℕ) (s s' : Share) (ours theirs work : WorkResult)
     → IsWorkOf q items low t s ours → IsWorkOf q items high t' s' theirs → IsView ours.party.queue.cap ours.party.view → IsView theirs.party.queue.cap theirs.party.view
     → Joins ours.party theirs.party work.party → length ours.counts.items ≡ items → AreSums ours.counts.items theirs.counts.items work.counts.items → work.done ≡ (ours.done && theirs.done)
     → low + high ≤ most → IsWorkOf q items most (λ x. t x + t' x) (plus s s') work
@@ -244,7 +244,7 @@ joined_works q items low high most t t' s s' ours theirs work our their is_ours 
 }
 
 -- the works of two halves of a party, joined
-pub joined_work : (q : QueueId) (items low high most : ℕ) (v a b : Person ℕ) (ours theirs work : Work) → IsView v.queue.cap v.view → Parts v a b
+pub joined_work : (q : QueueId) (items low high most : ℕ) (v a b : PartyView ℕ) (ours theirs work : WorkResult) → IsView v.queue.cap v.view → Parts v a b
     → IsWork q items low a ours → IsWork q items high b theirs → IsView ours.party.queue.cap ours.party.view → IsView theirs.party.queue.cap theirs.party.view
     → Joins ours.party theirs.party work.party → length ours.counts.items ≡ items → AreSums ours.counts.items theirs.counts.items work.counts.items → work.done ≡ (ours.done && theirs.done)
     → low + high ≤ most → IsWork q items most v work

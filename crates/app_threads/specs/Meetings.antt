@@ -2,7 +2,7 @@
 use Rattle.std.specs.Prelude.{◌≡◌, ℕ, ◌+◌, ◌<◌, Bool, true, false, List, codes, Option, Some}
 use Rattle.std.specs.Io.KnownBytes.{Appends}
 use Rattle.queue_steps.specs.Shares.{entire, half, plus, IsEntire}
-use Rattle.concurrent_queue.specs.Shared.{QueueId, Person, IsPartyOf}
+use Rattle.concurrent_queue.specs.Shared.{QueueId, PartyView, IsPartyOf}
 use Rattle.law_parties.specs.Doings.{takes}
 use Rattle.app_threads.specs.declared.handshake.Hands.{Hands}
 use Rattle.app_threads.specs.declared.handshake.Shaken.{Shaken}
@@ -27,7 +27,7 @@ abbrev pub AreThreeParts : Hands → Hands → Hands → Type 0
 AreThreeParts kept first second = AreQuarter kept × ((first.sends.view.share ≡ half entire) × (first.takes.view.share ≡ half entire)) × AreQuarter second
 
 -- the party has the shares of these three, and took what they took
-abbrev pub Unites : Person ℕ → Person ℕ → Person ℕ → Person ℕ → Type 0
+abbrev pub Unites : PartyView ℕ → PartyView ℕ → PartyView ℕ → PartyView ℕ → Type 0
 Unites a b c w = (w.view.share ≡ plus (plus a.view.share b.view.share) c.view.share) × ((x : ℕ) → takes x w.view ≡ takes x a.view + takes x b.view + takes x c.view)
 
 -- A thread with the parties v gives them back with their shares. If its item came, a take of it stands at a place of the one that takes

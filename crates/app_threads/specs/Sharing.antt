@@ -3,7 +3,7 @@ use Rattle.std.specs.Prelude.{◌≡◌, ℕ, List, Option, length}
 use Rattle.queue_steps.specs.Shares.{IsEntire}
 use Rattle.queue_steps.specs.Parties.{IsView}
 use Rattle.queue_steps.specs.Effect.{after}
-use Rattle.concurrent_queue.specs.Shared.{IsPartyOf, Person}
+use Rattle.concurrent_queue.specs.Shared.{IsPartyOf, PartyView}
 use Rattle.law_parties.specs.Doings.{SawClosed, takes}
 use Rattle.app_threads.specs.declared.sharing.Shared.{Shared}
 use Rattle.app_threads.specs.declared.sharing.EndedChannel.{EndedChannel}
@@ -30,7 +30,7 @@ pub record IsEnded (cap : Option ℕ) (c : EndedChannel) : Type 0 where
   pub closed : SawClosed c.party
 
 -- The party v, which has all of the share, has become w, has taken nothing, and has seen the queue closed and how many items are left
-pub record SeesLeft (v w : Person ℕ) (left : ℕ) : Type 0 where
+pub record SeesLeft (v w : PartyView ℕ) (left : ℕ) : Type 0 where
   pub queue : w.queue ≡ v.queue
   pub share : w.view.share ≡ v.view.share
   pub taken : (x : ℕ) → takes x w.view ≡ takes x v.view

@@ -11,7 +11,7 @@ ghost use Rattle.app_threads.specs.Sharing.{IsEnded, SeesLeft, left_in};
 ghost use Rattle.app_threads.specs.Verdicts.{IsOutputFault};
 
 use crate::counts::judge;
-use crate::crew::{Plan, Work};
+use crate::crew::{Plan, WorkResult};
 use crate::ends::run_all;
 use crate::limit::Limit;
 use crate::sharing::{EndedChannel, Ran, Sharing};
@@ -90,7 +90,7 @@ fn receive_all<R: Threads + Wait + Sync>(
     let Ok((channel, sender, receiver)) = counted_channel::channel(alloc, queue, party) else {
         return Err(AllocError);
     };
-    let Work {
+    let WorkResult {
         mut party,
         counts,
         done,

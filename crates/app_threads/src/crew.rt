@@ -32,7 +32,7 @@ pub struct Plan {
 
 /// What came of a party's work.
 #[derive(Drop)]
-pub struct Work {
+pub struct WorkResult {
     pub party: Party<u64>,
     /// How often each value was popped.
     pub counts: Vec<u64>,
@@ -60,9 +60,9 @@ impl<'a, A: NullTestable + Send + Sync> Crew for Counting<'a, A> {
 
     type Given = Party<u64>;
 
-    type Back = Work;
+    type Back = WorkResult;
 
-    type All = Work;
+    type All = WorkResult;
 
     ghost can_part = { λ c k. IsPartyOf k.party c.queue.now × (k.counts.items ≡ replicate c.plan.items 0) };
 
@@ -78,7 +78,7 @@ impl<'a, A: NullTestable + Send + Sync> Crew for Counting<'a, A> {
 
     ghost is_least = { λ c k. ⊤ };
 
-    fn part(&self, number: u64, kept: Hand) -> Result<(Hand, Party<u64>), Work> {
+    fn part(&self, number: u64, kept: Hand) -> Result<(Hand, Party<u64>), WorkResult> {
         let Hand { party, counts } = kept;
         party.show_view();
         match self.queue.split(party) {
@@ -88,7 +88,7 @@ impl<'a, A: NullTestable + Send + Sync> Crew for Counting<'a, A> {
     }
 
     /// The pushers come first.
-    fn work<R: Wait>(&self, rt: &R, number: u64, given: Party<u64>) -> Work {
+    fn work<R: Wait>(&self, rt: &R, number: u64, given: Party<u64>) -> WorkResult {
         if number < self.plan.pushers {
             push_all(rt, self.alloc, self.queue, given, self.plan)
         } else {
@@ -97,12 +97,12 @@ impl<'a, A: NullTestable + Send + Sync> Crew for Counting<'a, A> {
     }
 
     /// Closes the queue where not all threads were started, so that the others end.
-    fn end(&self, _number: u64, kept: Hand, all_started: bool) -> Work {
+    fn end(&self, _number: u64, kept: Hand, all_started: bool) -> WorkResult {
         let Hand { party, counts } = kept;
         if !all_started {
             return give_up(self.queue, party, counts);
         }
-        Work {
+        WorkResult {
             party,
             counts,
             done: true,
@@ -115,9 +115,9 @@ impl<'a, A: NullTestable + Send + Sync> Crew for Counting<'a, A> {
         _all_started: bool,
         made: u64,
         parting: Parting<Hand, Party<u64>>,
-        all: Work,
-        back: Work,
-    ) -> Work
+        all: WorkResult,
+        back: WorkResult,
+    ) -> WorkResult
         requires parted { IsView parting.whole.value.party.queue.cap parting.whole.value.party.view × Parts parting.whole.value.party parting.kept.value.party parting.given.value }
         requires came { IsWork self.now.queue.now self.now.plan.items (made * self.now.plan.share) parting.kept.value.party all × (length all.counts.items ≡ self.now.plan.items) }
         requires worked { IsWork self.now.queue.now self.now.plan.items self.now.plan.share parting.given.value back }
@@ -141,7 +141,7 @@ pub fn run_all<R: Threads + Wait + Sync, A: NullTestable + Send + Sync>(
     queue: &ConcurrentQueue<u64, A>,
     party: Party<u64>,
     plan: Plan,
-) -> Result<Work, AllocError>
+) -> Result<WorkResult, AllocError>
     requires of { IsPartyOf party queue.now }
     requires few { (plan.pushers + plan.poppers) * plan.share < 2 ^ 64 }
     requires threads { plan.pushers + plan.poppers < 2 ^ 64 }
@@ -168,13 +168,13 @@ fn give_up<A: Allocator>(
     queue: &ConcurrentQueue<u64, A>,
     mut party: Party<u64>,
     counts: Vec<u64>,
-) -> Work
+) -> WorkResult
     requires { IsPartyOf party queue.now }
     ensures quits { Quits party result.party }
     ensures same { (result.counts.items ≡ counts.items) × (result.done ≡ false) }
 {
     shut(queue, &mut party);
-    Work {
+    WorkResult {
         party,
         counts,
         done: false,
@@ -182,7 +182,11 @@ fn give_up<A: Allocator>(
 }
 
 /// The work of both, whose parties become one.
-fn both<A: Allocator>(queue: &ConcurrentQueue<u64, A>, ours: Work, theirs: Work) -> Work
+fn both<A: Allocator>(
+    queue: &ConcurrentQueue<u64, A>,
+    ours: WorkResult,
+    theirs: WorkResult,
+) -> WorkResult
     requires of { IsPartyOf ours.party queue.now × IsPartyOf theirs.party queue.now }
     requires fits { EachSumFits ours.counts.items theirs.counts.items }
     ensures views { IsView ours.party.queue.cap ours.party.view × IsView theirs.party.queue.cap theirs.party.view }
@@ -192,13 +196,13 @@ fn both<A: Allocator>(queue: &ConcurrentQueue<u64, A>, ours: Work, theirs: Work)
 {
     ours.party.show_view();
     theirs.party.show_view();
-    let Work {
+    let WorkResult {
         party,
         mut counts,
         done,
     } = ours;
     add(&mut counts, &theirs.counts);
-    Work {
+    WorkResult {
         party: queue.join(party, theirs.party),
         counts,
         done: done && theirs.done,
@@ -212,20 +216,20 @@ fn push_all<R: Wait, A: NullTestable>(
     queue: &ConcurrentQueue<u64, A>,
     mut party: Party<u64>,
     plan: Plan,
-) -> Work
+) -> WorkResult
     requires { IsPartyOf party queue.now }
     ensures { IsWork queue.now plan.items plan.share party result }
 {
     for value in 0..plan.items {
         if !push_one(rt, queue, &mut party, value) {
-            return Work {
+            return WorkResult {
                 party,
                 counts: Vec::new(alloc),
                 done: false,
             };
         }
     }
-    Work {
+    WorkResult {
         party,
         counts: Vec::new(alloc),
         done: true,
@@ -239,7 +243,7 @@ fn pop_all<R: Wait, A: Allocator>(
     queue: &ConcurrentQueue<u64, A>,
     mut party: Party<u64>,
     plan: Plan,
-) -> Work
+) -> WorkResult
     requires { IsPartyOf party queue.now }
     ensures { IsWork queue.now plan.items plan.share party result }
 {
@@ -250,7 +254,7 @@ fn pop_all<R: Wait, A: Allocator>(
         match pop_one(rt, queue, &mut party) {
             Some(value) => count(&mut counts, value),
             None => {
-                return Work {
+                return WorkResult {
                     party,
                     counts,
                     done: false,
@@ -258,7 +262,7 @@ fn pop_all<R: Wait, A: Allocator>(
             }
         }
     }
-    Work {
+    WorkResult {
         party,
         counts,
         done: true,

@@ -5,11 +5,11 @@ ghost use Rattle.concurrent_queue.specs.Shared.{IsPartyOf, Joins};
 ghost use Rattle.counted_channel.specs.Channel.{IsEndOf};
 ghost use Rattle.law_parties.specs.Doings.{takes};
 ghost use Rattle.app_threads.specs.Counts.{EachSumFits, AreSums};
-ghost use Rattle.app_threads.specs.Works.{IsWorkOf, IsTaskOf, IsTaskDone, PartsTask, TakesNothing, TookNothing, ends_share, ends_taken};
-ghost use Rattle.app_threads.specs.declared.ends.Task.TheVariants as task;
+ghost use Rattle.app_threads.specs.Works.{IsWorkOf, IsRoleOf, IsRoleDone, PartsRole, TakesNothing, TookNothing, ends_share, ends_taken};
+ghost use Rattle.app_threads.specs.declared.ends.Role.TheVariants as role;
 
 use crate::counts::{add, count, none_counted};
-use crate::crew::{Plan, Work};
+use crate::crew::{Plan, WorkResult};
 use concurrent_queue::Party;
 use counted_channel::{Channel, Receiver, Sender};
 use mem_blocks::null_testable::NullTestable;
@@ -19,9 +19,9 @@ use std::sync::Wait;
 use std::sync::atomic::{AtomicBool, Ordering};
 use std::thread::Threads;
 
-/// What a thread has to do, with the end that it does it by.
+/// The role of a thread: what it has to do, with the end that it does it by.
 #[derive(Drop)]
-enum Task {
+enum Role {
     /// Sends the numbers from 0 up to that of the items, which is left out.
     Send(Sender<u64>),
     /// Receives until nobody sends any more, and counts.
@@ -30,7 +30,7 @@ enum Task {
 
 /// What the calling thread keeps: an end of each side, and a count for each value.
 #[derive(Drop)]
-struct Ends {
+struct KeptEnds {
     sender: Sender<u64>,
     receiver: Receiver<u64>,
     counts: Vec<u64>,
@@ -47,31 +47,31 @@ struct Passing<'a, A: Allocator> {
 }
 
 impl<'a, A: NullTestable + Send + Sync> Crew for Passing<'a, A> {
-    type Kept = Ends;
+    type Kept = KeptEnds;
 
-    type Given = Task;
+    type Given = Role;
 
-    type Back = Work;
+    type Back = WorkResult;
 
-    type All = Work;
+    type All = WorkResult;
 
     ghost can_part = { λ c k. IsEndOf k.sender c.channel.now × IsEndOf k.receiver c.channel.now × (k.counts.items ≡ replicate c.plan.items 0) };
 
-    ghost can_work = { λ c g. IsTaskOf g c.channel.now };
+    ghost can_work = { λ c g. IsRoleOf g c.channel.now };
 
     ghost fits = { λ c n. n * c.plan.share < 2 ^ 64 };
 
-    ghost parted = { λ c w k g. PartsTask w.sender w.receiver k.sender k.receiver g };
+    ghost parted = { λ c w k g. PartsRole w.sender w.receiver k.sender k.receiver g };
 
-    ghost worked = { λ c n g work. IsTaskDone c.channel.now c.plan.items c.plan.share g work };
+    ghost worked = { λ c n g work. IsRoleDone c.channel.now c.plan.items c.plan.share g work };
 
     ghost came = { λ c n started made k work. IsWorkOf c.channel.now.queue c.plan.items (made * c.plan.share) (ends_taken k.sender k.receiver) (ends_share k.sender k.receiver) work
         × (length work.counts.items ≡ c.plan.items) };
 
     ghost is_least = { λ c k. ⊤ };
 
-    fn part(&self, number: u64, kept: Ends) -> Result<(Ends, Task), Work> {
-        let Ends {
+    fn part(&self, number: u64, kept: KeptEnds) -> Result<(KeptEnds, Role), WorkResult> {
+        let KeptEnds {
             sender,
             receiver,
             counts,
@@ -80,32 +80,32 @@ impl<'a, A: NullTestable + Send + Sync> Crew for Passing<'a, A> {
             Err((sender, receiver)) => {
                 Err(end_both(self.channel, sender, receiver, counts, false))
             }
-            Ok((sender, receiver, task)) => {
-                let kept = Ends {
+            Ok((sender, receiver, role)) => {
+                let kept = KeptEnds {
                     sender,
                     receiver,
                     counts,
                 };
-                Ok((kept, task))
+                Ok((kept, role))
             }
         }
     }
 
-    /// Does what the task says, or nothing where the crew gives up. Ends the end in any case.
-    fn work<R: Wait>(&self, rt: &R, _number: u64, given: Task) -> Work {
+    /// Does what the role asks, or nothing where the crew gives up. Ends the end in any case.
+    fn work<R: Wait>(&self, rt: &R, _number: u64, given: Role) -> WorkResult {
         if self.gives_up.load(Ordering::SeqCst) {
             return end_at_once(self.alloc, self.channel, given, self.plan);
         }
         match given {
-            Task::Send(sender) => send_all(rt, self.alloc, self.channel, sender, self.plan),
-            Task::Receive(receiver) => {
+            Role::Send(sender) => send_all(rt, self.alloc, self.channel, sender, self.plan),
+            Role::Receive(receiver) => {
                 receive_all(rt, self.alloc, self.channel, receiver, self.plan)
             }
         }
     }
 
-    fn end(&self, _number: u64, kept: Ends, all_started: bool) -> Work {
-        let Ends {
+    fn end(&self, _number: u64, kept: KeptEnds, all_started: bool) -> WorkResult {
+        let KeptEnds {
             sender,
             receiver,
             counts,
@@ -121,14 +121,14 @@ impl<'a, A: NullTestable + Send + Sync> Crew for Passing<'a, A> {
         _number: u64,
         _all_started: bool,
         made: u64,
-        parting: Parting<Ends, Task>,
-        all: Work,
-        back: Work,
-    ) -> Work
-        requires parted { PartsTask parting.whole.value.sender parting.whole.value.receiver parting.kept.value.sender parting.kept.value.receiver parting.given.value }
+        parting: Parting<KeptEnds, Role>,
+        all: WorkResult,
+        back: WorkResult,
+    ) -> WorkResult
+        requires parted { PartsRole parting.whole.value.sender parting.whole.value.receiver parting.kept.value.sender parting.kept.value.receiver parting.given.value }
         requires came { IsWorkOf self.now.channel.now.queue self.now.plan.items (made * self.now.plan.share) (ends_taken parting.kept.value.sender parting.kept.value.receiver)
             (ends_share parting.kept.value.sender parting.kept.value.receiver) all × (length all.counts.items ≡ self.now.plan.items) }
-        requires worked { IsTaskDone self.now.channel.now self.now.plan.items self.now.plan.share parting.given.value back }
+        requires worked { IsRoleDone self.now.channel.now self.now.plan.items self.now.plan.share parting.given.value back }
         requires fits { (made + 1) * self.now.plan.share < 2 ^ 64 }
         ensures { IsWorkOf self.now.channel.now.queue self.now.plan.items ((made + 1) * self.now.plan.share) (ends_taken parting.whole.value.sender parting.whole.value.receiver)
             (ends_share parting.whole.value.sender parting.whole.value.receiver) result × (length result.counts.items ≡ self.now.plan.items) }
@@ -151,7 +151,7 @@ pub fn run_all<R: Threads + Wait + Sync, A: NullTestable + Send + Sync>(
     sender: Sender<u64>,
     receiver: Receiver<u64>,
     plan: Plan,
-) -> Result<Work, AllocError>
+) -> Result<WorkResult, AllocError>
     requires of { IsEndOf sender channel.now × IsEndOf receiver channel.now }
     requires few { (plan.pushers + plan.poppers) * plan.share < 2 ^ 64 }
     requires threads { plan.pushers + plan.poppers < 2 ^ 64 }
@@ -165,7 +165,7 @@ pub fn run_all<R: Threads + Wait + Sync, A: NullTestable + Send + Sync>(
         plan,
         gives_up: AtomicBool::new(false),
     };
-    let ends = Ends {
+    let ends = KeptEnds {
         sender,
         receiver,
         counts,
@@ -181,23 +181,23 @@ fn part<A: Allocator>(
     receiver: Receiver<u64>,
     plan: Plan,
     number: u64,
-) -> Result<(Sender<u64>, Receiver<u64>, Task), (Sender<u64>, Receiver<u64>)>
+) -> Result<(Sender<u64>, Receiver<u64>, Role), (Sender<u64>, Receiver<u64>)>
     requires { IsEndOf sender channel.now × IsEndOf receiver channel.now }
     ensures of { MatchResult result
-        (λ r. IsEndOf r.0 channel.now × IsEndOf r.1 channel.now × IsTaskOf r.2 channel.now)
+        (λ r. IsEndOf r.0 channel.now × IsEndOf r.1 channel.now × IsRoleOf r.2 channel.now)
         (λ r. IsEndOf r.0 channel.now × IsEndOf r.1 channel.now) }
-    ensures parts { MatchResult result (λ r. PartsTask sender receiver r.0 r.1 r.2) (λ r. TakesNothing sender receiver r.0 r.1) }
+    ensures parts { MatchResult result (λ r. PartsRole sender receiver r.0 r.1 r.2) (λ r. TakesNothing sender receiver r.0 r.1) }
 {
     sender.show_view();
     receiver.show_view();
     if number < plan.pushers {
         match channel.split_sender(sender) {
-            Ok((kept, given)) => Ok((kept, receiver, Task::Send(given))),
+            Ok((kept, given)) => Ok((kept, receiver, Role::Send(given))),
             Err(sender) => Err((sender, receiver)),
         }
     } else {
         match channel.split_receiver(receiver) {
-            Ok((kept, given)) => Ok((sender, kept, Task::Receive(given))),
+            Ok((kept, given)) => Ok((sender, kept, Role::Receive(given))),
             Err(receiver) => Err((sender, receiver)),
         }
     }
@@ -210,7 +210,7 @@ fn end_both<A: Allocator>(
     receiver: Receiver<u64>,
     counts: Vec<u64>,
     done: bool,
-) -> Work
+) -> WorkResult
     requires { IsEndOf sender channel.now × IsEndOf receiver channel.now }
     ensures of { IsPartyOf result.party channel.now.queue }
     ensures taken { (x : ℕ) → takes x result.party.view ≡ ends_taken sender receiver x }
@@ -221,7 +221,7 @@ fn end_both<A: Allocator>(
     let second = end_receiving(channel, receiver);
     first.show_view();
     second.show_view();
-    Work {
+    WorkResult {
         party: channel.join(first, second),
         counts,
         done,
@@ -249,7 +249,7 @@ fn end_receiving<A: Allocator>(channel: &Channel<u64, A>, receiver: Receiver<u64
 }
 
 /// The work of both, whose parties become one.
-fn both<A: Allocator>(channel: &Channel<u64, A>, ours: Work, theirs: Work) -> Work
+fn both<A: Allocator>(channel: &Channel<u64, A>, ours: WorkResult, theirs: WorkResult) -> WorkResult
     requires of { IsPartyOf ours.party channel.now.queue × IsPartyOf theirs.party channel.now.queue }
     requires fits { EachSumFits ours.counts.items theirs.counts.items }
     ensures views { IsView ours.party.queue.cap ours.party.view × IsView theirs.party.queue.cap theirs.party.view }
@@ -259,40 +259,40 @@ fn both<A: Allocator>(channel: &Channel<u64, A>, ours: Work, theirs: Work) -> Wo
 {
     ours.party.show_view();
     theirs.party.show_view();
-    let Work {
+    let WorkResult {
         party,
         mut counts,
         done,
     } = ours;
     add(&mut counts, &theirs.counts);
-    Work {
+    WorkResult {
         party: channel.join(party, theirs.party),
         counts,
         done: done && theirs.done,
     }
 }
 
-/// Ends the end of a task of which nothing is done.
+/// Ends the end of a role of which nothing is done.
 fn end_at_once<A: Allocator>(
     alloc: Global,
     channel: &Channel<u64, A>,
-    task: Task,
+    role: Role,
     plan: Plan,
-) -> Work
-    requires { IsTaskOf task channel.now }
-    ensures { IsTaskDone channel.now plan.items plan.share task result }
+) -> WorkResult
+    requires { IsRoleOf role channel.now }
+    ensures { IsRoleDone channel.now plan.items plan.share role result }
 {
-    match task {
-        Task::Send(sender) => idle(alloc, end_sending(channel, sender)),
-        Task::Receive(receiver) => idle(alloc, end_receiving(channel, receiver)),
+    match role {
+        Role::Send(sender) => idle(alloc, end_sending(channel, sender)),
+        Role::Receive(receiver) => idle(alloc, end_receiving(channel, receiver)),
     }
 }
 
 /// The work of which nothing was done.
-fn idle(alloc: Global, party: Party<u64>) -> Work
+fn idle(alloc: Global, party: Party<u64>) -> WorkResult
     ensures { (result.party ≡ party) × (result.counts.items ≡ []) × (result.done ≡ false) }
 {
-    Work {
+    WorkResult {
         party,
         counts: Vec::new(alloc),
         done: false,
@@ -306,12 +306,12 @@ fn send_all<R: Wait, A: NullTestable>(
     channel: &Channel<u64, A>,
     mut sender: Sender<u64>,
     plan: Plan,
-) -> Work
+) -> WorkResult
     requires { IsEndOf sender channel.now }
-    ensures { IsTaskDone channel.now plan.items plan.share (task.Send sender) result }
+    ensures { IsRoleDone channel.now plan.items plan.share (role.Send sender) result }
 {
     let done = send_values(rt, channel, &mut sender, plan.items);
-    Work {
+    WorkResult {
         party: end_sending(channel, sender),
         counts: Vec::new(alloc),
         done,
@@ -344,15 +344,15 @@ fn receive_all<R: Wait, A: Allocator>(
     channel: &Channel<u64, A>,
     mut receiver: Receiver<u64>,
     plan: Plan,
-) -> Work
+) -> WorkResult
     requires { IsEndOf receiver channel.now }
-    ensures { IsTaskDone channel.now plan.items plan.share (task.Receive receiver) result }
+    ensures { IsRoleDone channel.now plan.items plan.share (role.Receive receiver) result }
 {
     let Ok(mut counts) = none_counted(alloc, plan.items) else {
-        return end_at_once(alloc, channel, Task::Receive(receiver), plan);
+        return end_at_once(alloc, channel, Role::Receive(receiver), plan);
     };
     receive_values(rt, channel, &mut receiver, &mut counts, plan);
-    Work {
+    WorkResult {
         party: end_receiving(channel, receiver),
         counts,
         done: true,

@@ -12,7 +12,7 @@ ghost use Rattle.app_threads.specs.Sharing.{HasWholeParty};
 ghost use Rattle.app_threads.specs.Verdicts.{IsOutputFault};
 
 use crate::counts::{Finding, judge};
-use crate::crew::{Plan, Queue, Work, run_all};
+use crate::crew::{Plan, Queue, WorkResult, run_all};
 use crate::limit::Limit;
 use crate::sharing::{Ran, Shared, Sharing};
 use crate::verdict::Verdict;
@@ -101,7 +101,7 @@ fn count_all<R: Threads + Wait + Sync>(
     ensures taken { IfOk result (λ r. (x : ℕ) → x < load.items → get_or r.1.items x 0 ≡ takes x r.0.party.view) }
 {
     let (queue, party) = queue_of(alloc, load.kind)?;
-    let Work {
+    let WorkResult {
         party,
         counts,
         done,

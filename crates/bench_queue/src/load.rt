@@ -8,7 +8,7 @@ use app_text::args::{KindName, parse_kind};
 
 /// Who has the queue, and whose it is.
 #[derive(Clone, Copy)]
-pub enum Form {
+pub enum Setup {
     /// One owner.
     Owned,
     /// The only party of a shared queue.
@@ -21,7 +21,7 @@ pub enum Form {
 
 /// In which order pushes and pops come.
 #[derive(Clone, Copy)]
-pub enum Work {
+pub enum Pattern {
     /// A push and a pop in turn, on a queue that had so many items before.
     Behind(u64),
     /// So many pushes, and then as many pops.
@@ -38,15 +38,15 @@ pub enum Size {
 /// So many pairs of a push and a pop by one thread.
 #[derive(Clone, Copy)]
 pub struct Pairs {
-    pub form: Form,
-    pub work: Work,
+    pub setup: Setup,
+    pub pattern: Pattern,
     pub size: Size,
     pub count: u64,
 }
 
 /// What is done with a queue.
 #[derive(Clone, Copy)]
-pub enum Task {
+pub enum Workload {
     /// One thread pushes and pops.
     Pairs(Pairs),
     /// Threads push numbers, and others pop them.
@@ -55,38 +55,38 @@ pub enum Task {
     KitThreads(Crew),
 }
 
-/// A task, and the capacity of the queue that it is done with, if it has one.
+/// A workload, and the capacity of the queue that it is done with, if it has one.
 #[derive(Clone, Copy)]
 pub struct Load {
     pub capacity: Option<usize>,
-    pub task: Task,
+    pub workload: Workload,
 }
 
 // The five words of a line.
 #[derive(Clone, Copy)]
 struct Words<'a> {
-    form: &'a str,
+    setup: &'a str,
     kind: &'a str,
     first: &'a str,
     second: &'a str,
     count: &'a str,
 }
 
-/// The load that a line of words names: `FORM KIND WORK BYTES COUNT`, or `threads KIND PUSHERS POPPERS COUNT`, or the same with `kit-threads`.
+/// The load that a line of words names: `SETUP KIND PATTERN BYTES COUNT`, or `threads KIND PUSHERS POPPERS COUNT`, or the same with `kit-threads`.
 pub fn parse_load(line: &str) -> Option<Load>
     ensures { IfSome result (λ load. IfSome load.capacity (λ cap. 0 < cap)) }
 {
     let words = words_in(line)?;
     let capacity = capacity_of(parse_kind(words.kind).ok()?);
-    let task = parse_task(words, words.count.parse().ok()?)?;
-    Some(Load { capacity, task })
+    let workload = parse_task(words, words.count.parse().ok()?)?;
+    Some(Load { capacity, workload })
 }
 
 // The words of a line, if it has five.
 fn words_in(line: &str) -> Option<Words<'_>> {
     let mut words = line.split(' ');
     let found = Words {
-        form: words.next()?,
+        setup: words.next()?,
         kind: words.next()?,
         first: words.next()?,
         second: words.next()?,
@@ -99,14 +99,14 @@ fn words_in(line: &str) -> Option<Words<'_>> {
 }
 
 // The task that these words name, of so many numbers or pairs.
-fn parse_task(words: Words<'_>, count: u64) -> Option<Task> {
+fn parse_task(words: Words<'_>, count: u64) -> Option<Workload> {
     let Words { first, second, .. } = words;
-    match words.form {
-        "threads" => Some(Task::Threads(parse_crew(first, second, count)?)),
-        "kit-threads" => Some(Task::KitThreads(parse_crew(first, second, count)?)),
-        form => Some(Task::Pairs(Pairs {
-            form: parse_form(form)?,
-            work: parse_work(first)?,
+    match words.setup {
+        "threads" => Some(Workload::Threads(parse_crew(first, second, count)?)),
+        "kit-threads" => Some(Workload::KitThreads(parse_crew(first, second, count)?)),
+        setup => Some(Workload::Pairs(Pairs {
+            setup: parse_setup(setup)?,
+            pattern: parse_pattern(first)?,
             size: parse_size(second)?,
             count,
         })),
@@ -134,24 +134,24 @@ fn parse_crew(pushers: &str, poppers: &str, count: u64) -> Option<Crew> {
     })
 }
 
-// The form that this word names.
-fn parse_form(word: &str) -> Option<Form> {
+// The setup that this word names.
+fn parse_setup(word: &str) -> Option<Setup> {
     match word {
-        "owned" => Some(Form::Owned),
-        "alone" => Some(Form::Alone),
-        "ended" => Some(Form::Ended),
-        "kit-alone" => Some(Form::KitAlone),
+        "owned" => Some(Setup::Owned),
+        "alone" => Some(Setup::Alone),
+        "ended" => Some(Setup::Ended),
+        "kit-alone" => Some(Setup::KitAlone),
         _ => None,
     }
 }
 
-// The work that this word names: `behind:ITEMS` or `batch:ITEMS`.
-fn parse_work(word: &str) -> Option<Work> {
+// The pattern that this word names: `behind:ITEMS` or `batch:ITEMS`.
+fn parse_pattern(word: &str) -> Option<Pattern> {
     let (order, items) = word.split_once(':')?;
     let items = items.parse().ok()?;
     match order {
-        "behind" => Some(Work::Behind(items)),
-        "batch" => Some(Work::Batch(items)),
+        "behind" => Some(Pattern::Behind(items)),
+        "batch" => Some(Pattern::Batch(items)),
         _ => None,
     }
 }

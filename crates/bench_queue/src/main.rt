@@ -1,6 +1,6 @@
 //! Times pushes and pops on this repository's queues: by one owner, by the only party of a shared queue, once its sharing has ended, and by threads; and on the kit's: by one thread through a shared reference, and by threads.
 //!
-//! The arguments are `FORM KIND WORK BYTES COUNT` or `threads KIND PUSHERS POPPERS COUNT`, for one run. `FORM` is `owned`, `alone`, `ended`, or `kit-alone`; `KIND` is `single`, `bounded:CAP` or `unbounded`; `WORK` is `behind:ITEMS` or `batch:ITEMS`; `BYTES` is 8 or 64; `kit-threads` stands for `threads` where the queue is the kit's. Without arguments there is a short run of each.
+//! The arguments are `SETUP KIND PATTERN BYTES COUNT` or `threads KIND PUSHERS POPPERS COUNT`, for one run. `SETUP` is `owned`, `alone`, `ended`, or `kit-alone`; `KIND` is `single`, `bounded:CAP` or `unbounded`; `PATTERN` is `behind:ITEMS` or `batch:ITEMS`; `BYTES` is 8 or 64; `kit-threads` stands for `threads` where the queue is the kit's. Without arguments there is a short run of each.
 //!
 //! Standard output tells the sum of what was popped, which no time changes. Standard error tells how long it took, and the most memory that the process has had.
 #![tactic(auto)]

@@ -4,7 +4,7 @@ ghost use Rattle.std.specs.Option.{IfSome};
 
 use crate::crew::{Crew, Seat, run_crew};
 use crate::kit::KitAlone;
-use crate::load::{Form, Load, Pairs, Size, Task, Work};
+use crate::load::{Load, Pairs, Pattern, Setup, Size, Workload};
 use crate::ours::{Alone, OfParty, Owned, open_shared};
 use crate::pairs::{Batched, Lane, Runs};
 use crossbeam_queue::{ArrayQueue, SegQueue};
@@ -24,11 +24,11 @@ pub struct Run {
 pub fn time<R: Threads + Wait + Sync>(rt: &HostRuntime, threads: &R, load: Load) -> io::Result<Run>
     requires { IfSome load.capacity (λ cap. 0 < cap) }
 {
-    let Load { capacity, task } = load;
-    match task {
-        Task::Threads(crew) => time_threads(rt, threads, capacity, crew),
-        Task::KitThreads(crew) => time_kit_threads(rt, threads, capacity, crew),
-        Task::Pairs(pairs) => time_sized(rt, threads, capacity, pairs),
+    let Load { capacity, workload } = load;
+    match workload {
+        Workload::Threads(crew) => time_threads(rt, threads, capacity, crew),
+        Workload::KitThreads(crew) => time_kit_threads(rt, threads, capacity, crew),
+        Workload::Pairs(pairs) => time_sized(rt, threads, capacity, pairs),
     }
 }
 
@@ -92,13 +92,15 @@ fn time_sized<R: Wait>(
 ) -> io::Result<Run>
     requires { IfSome capacity (λ cap. 0 < cap) }
 {
-    match (pairs.work, pairs.size) {
-        (Work::Behind(_), Size::Bytes8) => time_pairs::<[u64; 1], R>(rt, waits, capacity, pairs),
-        (Work::Behind(_), Size::Bytes64) => time_pairs::<[u64; 8], R>(rt, waits, capacity, pairs),
-        (Work::Batch(_), Size::Bytes8) => {
+    match (pairs.pattern, pairs.size) {
+        (Pattern::Behind(_), Size::Bytes8) => time_pairs::<[u64; 1], R>(rt, waits, capacity, pairs),
+        (Pattern::Behind(_), Size::Bytes64) => time_pairs::<[u64; 8], R>(
+            rt, waits, capacity, pairs,
+        ),
+        (Pattern::Batch(_), Size::Bytes8) => {
             time_pairs::<Batched<[u64; 1]>, R>(rt, waits, capacity, pairs)
         }
-        (Work::Batch(_), Size::Bytes64) => {
+        (Pattern::Batch(_), Size::Bytes64) => {
             time_pairs::<Batched<[u64; 8]>, R>(rt, waits, capacity, pairs)
         }
     }
@@ -113,20 +115,20 @@ fn time_pairs<T: Runs, R: Wait>(
 ) -> io::Result<Run>
     requires { IfSome capacity (λ cap. 0 < cap) }
 {
-    match pairs.form {
-        Form::Owned => {
+    match pairs.setup {
+        Setup::Owned => {
             let owned: Owned<T> = Owned::open(rt.alloc(), capacity)?;
             time_lane(rt, owned, pairs)
         }
-        Form::Alone => {
+        Setup::Alone => {
             let alone: Alone<R, T> = Alone::open(rt.alloc(), waits, capacity)?;
             time_lane(rt, alone, pairs)
         }
-        Form::Ended => {
+        Setup::Ended => {
             let alone: Alone<R, T> = Alone::open(rt.alloc(), waits, capacity)?;
             time_lane(rt, alone.end(), pairs)
         }
-        Form::KitAlone => time_kit_pairs::<T, R>(rt, waits, capacity, pairs),
+        Setup::KitAlone => time_kit_pairs::<T, R>(rt, waits, capacity, pairs),
     }
 }
 
@@ -161,7 +163,7 @@ fn time_lane<T: Runs, L: Lane<T> + Drop>(
 }
 
 fn time_loop<T: Runs, L: Lane<T>>(rt: &HostRuntime, lane: &mut L, pairs: Pairs) -> io::Result<Run> {
-    let (Work::Behind(items) | Work::Batch(items)) = pairs.work;
+    let (Pattern::Behind(items) | Pattern::Batch(items)) = pairs.pattern;
     T::lay(lane, items);
     let start = Instant::now(rt)?;
     let taken = T::run(lane, items, pairs.count);

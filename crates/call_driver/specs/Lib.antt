@@ -1,6 +1,6 @@
 pub mod Leads
 pub mod OnWay
 pub mod Apart
-pub mod Ends
+pub mod EndsIn
 pub mod Own
 pub mod Laws

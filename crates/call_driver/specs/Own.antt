@@ -9,7 +9,7 @@ use Rattle.queue_steps.specs.declared.steps.types.Touch.{Touch}
 use Rattle.queue_steps.specs.declared.steps.types.Local.{Local}
 use Rattle.queue_steps.specs.Next.{CanNext, next_of}
 use Rattle.queue_steps.specs.Sequential.{Owned, Sequential}
-use Rattle.call_driver.specs.Ends.{Ends, Answered}
+use Rattle.call_driver.specs.EndsIn.{EndsIn, Answered}
 
 module _ {T B C : Type 0} (can_touch : C → Touch → Op B → Type 0) (touches : C → Touch → Op B → Option T → C → Option T → Type 0)
     (can_perform : C → Op B → Type 0) (performs : C → Op B → Answer B → C → Type 0) where
@@ -22,9 +22,9 @@ module _ {T B C : Type 0} (can_touch : C → Touch → Op B → Type 0) (touches
   Took cells t o x a after left = (touched : C) × touches cells t o x touched left × performs touched o a after
 
   -- the call c, which began at the cells `first`, ends right before n more steps
-  abbrev pub Stands : (C → B → Type 0) → (C → B → C → Type 0) → (C → Type 0) → (C → Owned T) → (C → Kind) → ℕ → C → Call T → Local B → Answer B → C → Option T → Type 0
-  Stands can_release releases idle owned kind_of n first c l a cells x =
-      CanNext (kind_of first) l a × Ends can_touch touches can_perform performs n (kind_of first) (next_of (kind_of first) l a) cells x (Answered can_release releases idle owned c first)
+  abbrev pub EndsRightFrom : (C → B → Type 0) → (C → B → C → Type 0) → (C → Type 0) → (C → Owned T) → (C → Kind) → ℕ → C → Call T → Local B → Answer B → C → Option T → Type 0
+  EndsRightFrom can_release releases idle owned kind_of n first c l a cells x =
+      CanNext (kind_of first) l a × EndsIn can_touch touches can_perform performs n (kind_of first) (next_of (kind_of first) l a) cells x (Answered can_release releases idle owned c first)
 
 -- no call is on its way, and the reply is that of the one-owner table
 abbrev pub Ended : {T C : Type 0} → (C → Type 0) → (C → Owned T) → C → Call T → Reply T → C → Type 0

@@ -8,7 +8,7 @@ ghost use Rattle.queue_steps.specs.declared.steps.types.Answer.{Answer as SpecAn
 ghost use Rattle.queue_steps.specs.declared.steps.types.Touch.TheVariants.{Nothing};
 ghost use Rattle.queue_steps.specs.Sequential.{Owned};
 ghost use Rattle.queue_steps.specs.LookNext.{IsLoad};
-ghost use Rattle.call_driver.specs.Ends.{EndsRight};
+ghost use Rattle.call_driver.specs.EndsIn.{EndsRight};
 
 use call_steps::KindSteps;
 use queue_steps::steps::{Answer, Kind, Op, Touch};

@@ -103,7 +103,7 @@ impl<T, B: Copy, S, M: Site<T, B, S>, G: Gate, R: Row<T, B, S, M, G>> Row<T, B, 
 }
 
 /// A step from block to block of a call that stands at `STAGE`, and then those of `R`. Any other step ends the row.
-pub struct At<const STAGE: u64, R> {
+pub struct AtStage<const STAGE: u64, R> {
     rest: PhantomData<R>,
 }
 
@@ -113,7 +113,7 @@ impl<T, B: Copy, S, M: Site<T, B, S>, G: Gate, const STAGE: u64, R: Row<T, B, S,
     S,
     M,
     G,
-> for At<STAGE, R> {
+> for AtStage<STAGE, R> {
     #[inline(always)]
     fn run(
         site: &M,
@@ -157,15 +157,21 @@ pub type Short<W> = Fast<Fast<Fast<Rest<W>>>>;
 struct Push;
 
 /// The steps of a push that lays a block. The last is a common one.
-type Lays = At<
+type Lays = AtStage<
     PUSH_BLOCK,
-    At<ASKING, At<CLAIMING, At<LAYING, At<OPENING, At<CHAINING, Fast<Rest<Push>>>>>>>,
+    AtStage<
+        ASKING,
+        AtStage<CLAIMING, AtStage<LAYING, AtStage<OPENING, AtStage<CHAINING, Fast<Rest<Push>>>>>>,
+    >,
 >;
 
 /// The steps of a pop that comes to the next block.
-type Passes = At<
+type Passes = AtStage<
     TAKING,
-    At<FOLLOWING, At<PEEKING, At<PASSING, At<ENTERING, At<AWAITING, Rest<()>>>>>>,
+    AtStage<
+        FOLLOWING,
+        AtStage<PEEKING, AtStage<PASSING, AtStage<ENTERING, AtStage<AWAITING, Rest<()>>>>>,
+    >,
 >;
 
 /// The steps of a call that comes to a block's end. The compiler knows in those of each arm where the call stands.

@@ -22,7 +22,7 @@ pub struct Own;
 impl<T, B: Copy, C: OwnCells<T, B>> Site<T, B, C> for Own {
     type Steps = C::Steps;
 
-    ghost use Rattle.call_driver.specs.Own.{Stands, Ended};
+    ghost use Rattle.call_driver.specs.Own.{EndsRightFrom, Ended};
     ghost use Rattle.call_driver.specs.Laws.OwnLeads.{own_begins, own_goes_on, own_more};
 
     ghost kind_of = { λ _ cells. C.kind_of cells };
@@ -37,7 +37,7 @@ impl<T, B: Copy, C: OwnCells<T, B>> Site<T, B, C> for Own {
 
     ghost gives = { λ _ cells block after. C.releases cells block after };
 
-    ghost stands = { λ n _ first c l a cells x. Stands C.can_touch C.touches C.can_perform C.performs C.can_release C.releases C.idle C.owned C.kind_of n first c l a cells x };
+    ghost stands = { λ n _ first c l a cells x. EndsRightFrom C.can_touch C.touches C.can_perform C.performs C.can_release C.releases C.idle C.owned C.kind_of n first c l a cells x };
 
     ghost ended = { λ _ first c reply after. Ended C.idle C.owned first c reply after };
 

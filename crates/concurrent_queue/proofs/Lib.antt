@@ -1,4 +1,4 @@
-mod Persons
+mod PartyViews
 mod Quits
 mod Stops
 mod StopsIn

@@ -28,7 +28,7 @@ use Rattle.shared_site.specs.declared.left.Left.{Left}
 use Rattle.concurrent_queue.specs.declared.party.SeatPlace.TheVariants as place
 use Rattle.concurrent_queue.specs.Begun.{Begun}
 use Rattle.concurrent_queue.specs.SawMore.{SawMore}
-use Rattle.concurrent_queue.specs.Shared.{Person, IsHeld, Calls, person_of}
+use Rattle.concurrent_queue.specs.Shared.{PartyView, IsHeld, Calls, party_view_of}
 use Rattle.concurrent_queue.proofs.Stops.{first_seat, StopsHere, comes_back}
 use Rattle.concurrent_queue.proofs.StopsIn.{first_asking, StopsInside, comes_back_in}
 
@@ -38,7 +38,7 @@ module _ {T : Type 0} where
   told_none _ es tells = absurd tells
 
   -- a party that asked for the capacity has done nothing
-  pub saw_more : (v w : Person T) (r : Reply T) → Calls v call.Capacity r w → SawMore v w
+  pub saw_more : (v w : PartyView T) (r : Reply T) → Calls v call.Capacity r w → SawMore v w
   saw_more v w r (queue_is, calls, alone) = (queue_is, calls.begins, mine, calls.share, λ entire. λ i. record { seen = seen (alone entire) i; mine = mine i; share = calls.share i })
     where
       mine : w.view.mine ≡ v.view.mine
@@ -50,17 +50,17 @@ module _ {T : Type 0} where
 module _ {T : Type 0} (K : ℕ → TableOf T) (t : TableId) where
   -- the party of a call that was given up
   pub given_back : (s q : Seat (Option T) (CallState T)) (l : Left T ℕ) (v : Begun T) → StopsHere K t s l v → q.table_id ≡ s.table_id → HasQuit (K t.slots).calls s.me q.me
-      → IsHeld (place.Table q) × SawMore v.party (person_of (place.Table q))
+      → IsHeld (place.Table q) × SawMore v.party (party_view_of (place.Table q))
   given_back s q l v old same (quit, none, carried) =
       let cap = cap_of (K t.slots).calls in
       let h = comes_back K t s q l v call.Capacity (reply.Capacity cap) old ((same ∙ old.0, (quit.rests, none), quit.cap, quit.legal, quit.owns), quit_looks (K t.slots).calls (its_call s.me.0) q.me.0 (view_at (first_seat K t s).me) refl quit) in
-      (h.0, saw_more v.party (person_of (place.Table q)) (reply.Capacity cap) h.1)
+      (h.0, saw_more v.party (party_view_of (place.Table q)) (reply.Capacity cap) h.1)
 
 module _ {T A Q : Type 0} (w : ChainWeb T A) where
   pub given_back_in : (s q : Asking T A Q) (l : Left T (Link T)) (v : Begun T) (r : Rested (CallState T)) → StopsInside w s l v → Same q.seat s.seat → HasQuitIn s.seat.sitter q.seat.sitter
-      → r.asleep ≡ true → r.web ≡ q.seat.web → r.view ≡ q.seat.sitter.view → IsHeld (place.Web r) × SawMore v.party (person_of (place.Web r))
+      → r.asleep ≡ true → r.web ≡ q.seat.web → r.view ≡ q.seat.sitter.view → IsHeld (place.Web r) × SawMore v.party (party_view_of (place.Web r))
   given_back_in s q l v r old same (quit, hand, spare, carried) asleep web view =
       let first = (first_asking w s).seat.sitter.view in
       let h = comes_back_in w s q l v call.Capacity (reply.Capacity None) r old
       (((same.0 ∙ old.0.0, same.1 ∙ old.0.1), (hand, spare, quit.rests, quit.cap, quit.legal, quit.owns)), quit_looks chain_calls (its_call s.seat.sitter.view) q.seat.sitter.view (view_of first.known) refl quit) asleep web view in
-      (h.0, saw_more v.party (person_of (place.Web r)) (reply.Capacity None) h.1)
+      (h.0, saw_more v.party (party_view_of (place.Web r)) (reply.Capacity None) h.1)

@@ -23,7 +23,7 @@ use Rattle.shared_tables.specs.TableTurns.{After, TableStands}
 use Rattle.shared_site.specs.declared.left.Left.{Left}
 use Rattle.concurrent_queue.specs.declared.party.SeatPlace.{SeatPlace}
 use Rattle.concurrent_queue.specs.declared.party.SeatPlace.TheVariants as place
-use Rattle.concurrent_queue.specs.Shared.{QueueId, QueueName, at_table, Person, person, IsHeld, Calls, person_of}
+use Rattle.concurrent_queue.specs.Shared.{QueueId, QueueName, at_table, PartyView, party_view, IsHeld, Calls, party_view_of}
 use Rattle.concurrent_queue.specs.Begun.{Begun}
 use Rattle.shared_calls.specs.Pausing.{IsStep}
 use Rattle.concurrent_queue.specs.Pending.{begun_by, IsStoppedAt}
@@ -36,7 +36,7 @@ not_one n wide is = let one : 1 ≡ n = cc in omega (arith, wide, one)
 
 module _ {T : Type 0} where
   -- the call that a seat is at, seen as contracts see it
-  pub begun_is : (n : QueueName) (cap : Option ℕ) (d : CallState T) (v : Person T) (c : Call T) → v.queue ≡ record { name = n; cap = cap } → begun_at (its_call d) ≡ v.view → (its_call d).call ≡ c → begun_by n cap d ≡ record { party = v; call = c }
+  pub begun_is : (n : QueueName) (cap : Option ℕ) (d : CallState T) (v : PartyView T) (c : Call T) → v.queue ≡ record { name = n; cap = cap } → begun_at (its_call d) ≡ v.view → (its_call d).call ≡ c → begun_by n cap d ≡ record { party = v; call = c }
   begun_is n cap d v c queue view call = λ i. record { party = record { queue = sym queue i; view = view i }; call = call i }
 
 module _ {T : Type 0} (K : ℕ → TableOf T) (t : TableId) where
@@ -101,14 +101,14 @@ module _ {T : Type 0} (K : ℕ → TableOf T) (t : TableId) where
       )
 
   -- so does one that the party v began
-  pub started : (n : ℕ) (a : SeatPlace T) (s q : Seat (Option T) (CallState T)) (l : Left T ℕ) (v : Person T) (c : Call T) → a ≡ place.Table s → IsHeld a → person_of a ≡ v → v.queue ≡ record { name = at_table t; cap = cap }
+  pub started : (n : ℕ) (a : SeatPlace T) (s q : Seat (Option T) (CallState T)) (l : Left T ℕ) (v : PartyView T) (c : Call T) → a ≡ place.Table s → IsHeld a → party_view_of a ≡ v → v.queue ≡ record { name = at_table t; cap = cap }
       → l.kind ≡ (K t.slots).calls.kind → l.call ≡ call_kind c → TableStands K n t (at s) c l.progress.local l.progress.answer (at q) l.carried → IsStep (next_of l.kind l.progress.local l.progress.answer)
       → StopsHere q l (record { party = v; call = c })
   started n a s q l v c sits is is_v queue kind call stands step =
-      let is_v' : person_of (place.Table s) ≡ v = subst (λ (p : SeatPlace T). person_of p ≡ v) sits is_v in
-      let cap_is : s.me.0.known.cap ≡ cap = ap (λ (z : Person T). z.queue.cap) is_v' ∙ ap (λ (z : QueueId). z.cap) queue in
+      let is_v' : party_view_of (place.Table s) ≡ v = subst (λ (p : SeatPlace T). party_view_of p ≡ v) sits is_v in
+      let cap_is : s.me.0.known.cap ≡ cap = ap (λ (z : PartyView T). z.queue.cap) is_v' ∙ ap (λ (z : QueueId). z.cap) queue in
       let h = stops n (at s) c q l (subst (λ (z : Option ℕ). IsView z (view_at s.me)) cap_is (subst IsHeld sits is).0.1) kind call stands step in
-      (h.0, h.1, begun_is (at_table t) cap q.me.0 v c queue (h.2 ∙ ap (λ (z : Person T). z.view) is_v') h.3)
+      (h.0, h.1, begun_is (at_table t) cap q.me.0 v c queue (h.2 ∙ ap (λ (z : PartyView T). z.view) is_v') h.3)
 
   -- and one that was taken up
   pub went_on : (n : ℕ) (s q : Seat (Option T) (CallState T)) (l m : Left T ℕ) (v : Begun T) → StopsHere s l v → m.kind ≡ (K t.slots).calls.kind → m.call ≡ call_kind (its_call s.me.0).call
@@ -119,14 +119,14 @@ module _ {T : Type 0} (K : ℕ → TableOf T) (t : TableId) where
 
   -- a call of its party that has ended
   pub comes_back : (s q : Seat (Option T) (CallState T)) (l : Left T ℕ) (v : Begun T) (k : Call T) (y : Reply T) → StopsHere s l v → Ended cap t (at (first_seat s)) k y (at q)
-      → IsHeld (place.Table q) × Calls v.party k y (person_of (place.Table q))
+      → IsHeld (place.Table q) × Calls v.party k y (party_view_of (place.Table q))
   comes_back s q l v k y old e =
-      let is_v : person_of (place.Table (first_seat s)) ≡ v.party = ap (λ (z : TableId). person (at_table z) (first_seat s).me.0) old.0 ∙ ap (λ (z : Begun T). z.party) old.2 in
+      let is_v : party_view_of (place.Table (first_seat s)) ≡ v.party = ap (λ (z : TableId). party_view (at_table z) (first_seat s).me.0) old.0 ∙ ap (λ (z : Begun T). z.party) old.2 in
       table_ends (place.Table (first_seat s)) (first_seat s) cap t refl ((refl, old.1.view), refl) q (place.Table q) v.party k y y refl refl is_v (ap (λ (z : Begun T). z.party.queue.cap) (sym old.2)) (sym old.0) e
 
   -- a call that was taken up and has ended
   pub ended : (s q : Seat (Option T) (CallState T)) (l : Left T ℕ) (v : Begun T) (y : Reply T) → StopsHere s l v → Ended cap t (at (first_seat s)) (its_call s.me.0).call y (at q)
-      → IsHeld (place.Table q) × Calls v.party v.call y (person_of (place.Table q))
+      → IsHeld (place.Table q) × Calls v.party v.call y (party_view_of (place.Table q))
   ended s q l v y old e =
       let h = comes_back s q l v (its_call s.me.0).call y old e in
-      (h.0, subst (λ (z : Call T). Calls v.party z y (person_of (place.Table q))) (ap (λ (z : Begun T). z.call) old.2) h.1)
+      (h.0, subst (λ (z : Call T). Calls v.party z y (party_view_of (place.Table q))) (ap (λ (z : Begun T). z.call) old.2) h.1)

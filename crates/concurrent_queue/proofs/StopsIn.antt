@@ -28,7 +28,7 @@ use Rattle.shared_site.specs.declared.chain.Asking.{Asking}
 use Rattle.shared_site.specs.declared.left.Left.{Left}
 use Rattle.concurrent_queue.specs.declared.party.SeatPlace.{SeatPlace}
 use Rattle.concurrent_queue.specs.declared.party.SeatPlace.TheVariants as place
-use Rattle.concurrent_queue.specs.Shared.{QueueId, in_web, Person, person, IsHeld, Calls, person_of}
+use Rattle.concurrent_queue.specs.Shared.{QueueId, in_web, PartyView, party_view, IsHeld, Calls, party_view_of}
 use Rattle.concurrent_queue.specs.Begun.{Begun}
 use Rattle.shared_calls.specs.InWeb.{EndedAt}
 use Rattle.shared_calls.specs.Pausing.{IsStep}
@@ -90,15 +90,15 @@ module _ {T A Q : Type 0} (w : ChainWeb T A) where
       )
 
   -- so does one that the party v began
-  pub started_in : (r : Rested (CallState T)) (a : SeatPlace T) (p q : Asking T A Q) (l : Left T (Link T)) (v : Person T) (c : Call T) → a ≡ place.Web r → IsHeld a → person_of a ≡ v → v.queue ≡ record { name = in_web w.web.id; cap = None }
+  pub started_in : (r : Rested (CallState T)) (a : SeatPlace T) (p q : Asking T A Q) (l : Left T (Link T)) (v : PartyView T) (c : Call T) → a ≡ place.Web r → IsHeld a → party_view_of a ≡ v → v.queue ≡ record { name = in_web w.web.id; cap = None }
       → p.seat.sitter ≡ sitter r.view None None → l.kind ≡ queue.Unbounded → l.call ≡ call_kind c → ChainStands w p.seat c l.progress.local l.progress.answer q.seat l.carried → IsStep (next_of l.kind l.progress.local l.progress.answer)
       → StopsInside q l (record { party = v; call = c })
   started_in r a p q l v c sits is is_v queue woke kind call stands step =
-      let is_v' : person_of (place.Web r) ≡ v = subst (λ (z : SeatPlace T). person_of z ≡ v) sits is_v in
-      let cap_is : r.view.known.cap ≡ None = ap (λ (z : Person T). z.queue.cap) is_v' ∙ ap (λ (z : QueueId). z.cap) queue in
+      let is_v' : party_view_of (place.Web r) ≡ v = subst (λ (z : SeatPlace T). party_view_of z ≡ v) sits is_v in
+      let cap_is : r.view.known.cap ≡ None = ap (λ (z : PartyView T). z.queue.cap) is_v' ∙ ap (λ (z : QueueId). z.cap) queue in
       let view_is : view_of p.seat.sitter.view.known ≡ view_of r.view.known = ap (λ (z : Sitter T (CallState T)). view_of z.view.known) woke in
       let h = stops_in p q c l (subst (IsView None) (sym view_is) (subst (λ (z : Option ℕ). IsView z (view_of r.view.known)) cap_is (subst IsHeld sits is).0.1)) kind call stands step in
-      (h.0, h.1, begun_is (in_web q.seat.web) None q.seat.sitter.view v c (queue ∙ (λ i. record { name = in_web (sym h.0.0 i); cap = None })) (h.2 ∙ (view_is ∙ ap (λ (z : Person T). z.view) is_v')) h.3)
+      (h.0, h.1, begun_is (in_web q.seat.web) None q.seat.sitter.view v c (queue ∙ (λ i. record { name = in_web (sym h.0.0 i); cap = None })) (h.2 ∙ (view_is ∙ ap (λ (z : PartyView T). z.view) is_v')) h.3)
 
   -- and one that was taken up
   pub went_on_in : (s q : Asking T A Q) (l m : Left T (Link T)) (v : Begun T) → StopsInside s l v → m.kind ≡ queue.Unbounded → m.call ≡ call_kind (its_call s.seat.sitter.view).call
@@ -110,12 +110,12 @@ module _ {T A Q : Type 0} (w : ChainWeb T A) where
 
   -- a call of its party that has ended
   pub comes_back_in : (s q : Asking T A Q) (l : Left T (Link T)) (v : Begun T) (k : Call T) (y : Reply T) (r : Rested (CallState T)) → StopsInside s l v → ChainEnded w (first_asking s).seat k y q.seat
-      → r.asleep ≡ true → r.web ≡ q.seat.web → r.view ≡ q.seat.sitter.view → IsHeld (place.Web r) × Calls v.party k y (person_of (place.Web r))
+      → r.asleep ≡ true → r.web ≡ q.seat.web → r.view ≡ q.seat.sitter.view → IsHeld (place.Web r) × Calls v.party k y (party_view_of (place.Web r))
   comes_back_in s q l v k y r old e asleep web view =
       let c = its_call s.seat.sitter.view in
       let first : Rested (CallState T) = record r { view = idle (party None c.since c.before c.share) } in
       let web_is : r.web ≡ s.seat.web = web ∙ (e.0.0.0 ∙ sym old.0.0) in
-      let is_v : person_of (place.Web first) ≡ v.party = ap (λ z. person (in_web z) first.view) web_is ∙ ap (λ (z : Begun T). z.party) old.2 in
+      let is_v : party_view_of (place.Web first) ≡ v.party = ap (λ z. party_view (in_web z) first.view) web_is ∙ ap (λ (z : Begun T). z.party) old.2 in
       let ends : EndedAt first k y r = (
         asleep,
         refl,
@@ -128,7 +128,7 @@ module _ {T A Q : Type 0} (w : ChainWeb T A) where
 
   -- a call that was taken up and has ended
   pub ended_in : (s q : Asking T A Q) (l : Left T (Link T)) (v : Begun T) (y : Reply T) (r : Rested (CallState T)) → StopsInside s l v → ChainEnded w (first_asking s).seat (its_call s.seat.sitter.view).call y q.seat
-      → r.asleep ≡ true → r.web ≡ q.seat.web → r.view ≡ q.seat.sitter.view → IsHeld (place.Web r) × Calls v.party v.call y (person_of (place.Web r))
+      → r.asleep ≡ true → r.web ≡ q.seat.web → r.view ≡ q.seat.sitter.view → IsHeld (place.Web r) × Calls v.party v.call y (party_view_of (place.Web r))
   ended_in s q l v y r old e asleep web view =
       let h = comes_back_in s q l v (its_call s.seat.sitter.view).call y r old e asleep web view in
-      (h.0, subst (λ (z : Call T). Calls v.party z y (person_of (place.Web r))) (ap (λ (z : Begun T). z.call) old.2) h.1)
+      (h.0, subst (λ (z : Call T). Calls v.party z y (party_view_of (place.Web r))) (ap (λ (z : Begun T). z.call) old.2) h.1)

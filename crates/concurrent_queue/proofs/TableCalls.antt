@@ -9,8 +9,8 @@ use Rattle.shared_parties.specs.declared.known.CallState.{CallState}
 use Rattle.shared_tables.specs.AtTable.{TableSeat, IsAt, Ended}
 use Rattle.concurrent_queue.specs.declared.party.SeatPlace.{SeatPlace}
 use Rattle.concurrent_queue.specs.declared.party.SeatPlace.TheVariants as place
-use Rattle.concurrent_queue.specs.Shared.{QueueId, at_table, Person, IsHeld, Calls, person_of}
-use Rattle.concurrent_queue.proofs.Persons.{ended_person, ended_calls}
+use Rattle.concurrent_queue.specs.Shared.{QueueId, at_table, PartyView, IsHeld, Calls, party_view_of}
+use Rattle.concurrent_queue.proofs.PartyViews.{ended_party_view, ended_calls}
 
 -- a table is told by its name
 pub same_table : (a b : TableId) → at_table a ≡ at_table b → a ≡ b
@@ -28,26 +28,26 @@ module _ {T : Type 0} (a : SeatPlace T) (s : Seat (Option T) (CallState T)) (cap
   table_begins here one = (here, (held.0.0, held.1), one, subst (λ z. IsHistory z s.me.0.known.seen) one held.0.1.legal, held.0.1.whole)
 
   -- where its call ended it is a party of its queue again, and the call is one that contracts see
-  pub table_ends : (q : Seat (Option T) (CallState T)) (b : SeatPlace T) (v : Person T) (c : Call T) (r z : Reply T) → b ≡ place.Table q → z ≡ r → person_of a ≡ v → v.queue.cap ≡ cap → t ≡ s.table_id → Ended cap t (at s) c r (at q) → IsHeld b × Calls v c z (person_of b)
+  pub table_ends : (q : Seat (Option T) (CallState T)) (b : SeatPlace T) (v : PartyView T) (c : Call T) (r z : Reply T) → b ≡ place.Table q → z ≡ r → party_view_of a ≡ v → v.queue.cap ≡ cap → t ≡ s.table_id → Ended cap t (at s) c r (at q) → IsHeld b × Calls v c z (party_view_of b)
   table_ends q b v c r z sat same is_v one here e = (
-    subst IsHeld (sym sat) (ended_person cap t (at s) (at q) c r held.0 e),
-    subst (λ p. Calls v c z (person_of p)) (sym sat) (subst (λ y. Calls v c y (person_of (place.Table q))) (sym same) (ended_calls cap t (at s) (at q) v c r (subst (λ p. person_of p ≡ v) sits is_v) one here held.0 e)),
+    subst IsHeld (sym sat) (ended_party_view cap t (at s) (at q) c r held.0 e),
+    subst (λ p. Calls v c z (party_view_of p)) (sym sat) (subst (λ y. Calls v c y (party_view_of (place.Table q))) (sym same) (ended_calls cap t (at s) (at q) v c r (subst (λ p. party_view_of p ≡ v) sits is_v) one here held.0 e)),
   )
 
 -- the same of a call that a seat's own function has ended
-pub ends_where : {T : Type 0} (a s b q : SeatPlace T) (v : Person T) (c : Call T) (r z : Reply T) → a ≡ s → person_of a ≡ v → b ≡ q → z ≡ r → IsHeld q × Calls (person_of s) c r (person_of q) → IsHeld b × Calls v c z (person_of b)
+pub ends_where : {T : Type 0} (a s b q : SeatPlace T) (v : PartyView T) (c : Call T) (r z : Reply T) → a ≡ s → party_view_of a ≡ v → b ≡ q → z ≡ r → IsHeld q × Calls (party_view_of s) c r (party_view_of q) → IsHeld b × Calls v c z (party_view_of b)
 ends_where a s b q v c r z sits is_v sat same h = (
   subst IsHeld (sym sat) h.0,
-  subst (λ p. Calls v c z (person_of p)) (sym sat) (subst (λ y. Calls v c y (person_of q)) (sym same) (subst (λ p. Calls p c r (person_of q)) (ap person_of (sym sits) ∙ is_v) h.1)),
+  subst (λ p. Calls v c z (party_view_of p)) (sym sat) (subst (λ y. Calls v c y (party_view_of q)) (sym same) (subst (λ p. Calls p c r (party_view_of q)) (ap party_view_of (sym sits) ∙ is_v) h.1)),
 )
 
 abbrev pub queue_at : TableId → Option ℕ → QueueId
 queue_at t cap = record { name = at_table t; cap = cap }
 
 -- the same of a party of which it is known whose queue that is
-module _ {T : Type 0} (a : SeatPlace T) (s : Seat (Option T) (CallState T)) (cap : Option ℕ) (t : TableId) (v : Person T) (sits : a ≡ place.Table s) (is : IsHeld a) (is_v : person_of a ≡ v) (of : v.queue ≡ queue_at t cap) where
+module _ {T : Type 0} (a : SeatPlace T) (s : Seat (Option T) (CallState T)) (cap : Option ℕ) (t : TableId) (v : PartyView T) (sits : a ≡ place.Table s) (is : IsHeld a) (is_v : party_view_of a ≡ v) (of : v.queue ≡ queue_at t cap) where
   sits_there : queue_at s.table_id s.me.0.known.cap ≡ queue_at t cap
-  sits_there = ap (λ (p : Person T). p.queue) (subst (λ p. person_of p ≡ v) sits is_v) ∙ of
+  sits_there = ap (λ (p : PartyView T). p.queue) (subst (λ p. party_view_of p ≡ v) sits is_v) ∙ of
 
   pub here : s.table_id ≡ t
   here = same_table s.table_id t (ap (λ (z : QueueId). z.name) sits_there)
@@ -55,5 +55,5 @@ module _ {T : Type 0} (a : SeatPlace T) (s : Seat (Option T) (CallState T)) (cap
   pub begins_here : IsAt cap t (s.table_id, s.me)
   begins_here = table_begins a s cap t sits is here (ap (λ (z : QueueId). z.cap) sits_there)
 
-  pub ends_here : (q : Seat (Option T) (CallState T)) (b : SeatPlace T) (c : Call T) (r z : Reply T) → b ≡ place.Table q → z ≡ r → Ended cap t (s.table_id, s.me) c r (q.table_id, q.me) → IsHeld b × Calls v c z (person_of b)
+  pub ends_here : (q : Seat (Option T) (CallState T)) (b : SeatPlace T) (c : Call T) (r z : Reply T) → b ≡ place.Table q → z ≡ r → Ended cap t (s.table_id, s.me) c r (q.table_id, q.me) → IsHeld b × Calls v c z (party_view_of b)
   ends_here q b c r z sat same e = table_ends a s cap t sits is q b v c r z sat same is_v (ap (λ (z : QueueId). z.cap) of) (sym here) e

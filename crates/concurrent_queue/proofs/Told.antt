@@ -15,45 +15,45 @@ use Rattle.shared_tables.specs.AtTable.{Ended}
 use Rattle.concurrent_queue.specs.declared.party.SeatPlace.{SeatPlace}
 use Rattle.concurrent_queue.specs.declared.party.SeatPlace.TheVariants as place
 use Rattle.shared_calls.specs.InWeb.{EndedAt}
-use Rattle.concurrent_queue.specs.Shared.{QueueId, Person, IsHeld, person_of}
+use Rattle.concurrent_queue.specs.Shared.{QueueId, PartyView, IsHeld, party_view_of}
 use Rattle.concurrent_queue.specs.Tries.{Tries}
 use Rattle.concurrent_queue.proofs.Quits.{saw_more}
 use Rattle.concurrent_queue.proofs.TableCalls.{queue_at, here, table_ends}
 use Rattle.concurrent_queue.proofs.WebParties.{web_ends}
 
 module _ {T : Type 0} where
-  pub told_table : (a : SeatPlace T) (s : Seat (Option T) (CallState T)) (cap : Option ℕ) (t : TableId) → a ≡ place.Table s → IsHeld a → (q : Seat (Option T) (CallState T)) (b : SeatPlace T) (v : Person T) (c : Call T) (x z : ControlFlow (Reply T) (Option T))
-      → b ≡ place.Table q → z ≡ x → person_of a ≡ v → v.queue.cap ≡ cap → t ≡ s.table_id
+  pub told_table : (a : SeatPlace T) (s : Seat (Option T) (CallState T)) (cap : Option ℕ) (t : TableId) → a ≡ place.Table s → IsHeld a → (q : Seat (Option T) (CallState T)) (b : SeatPlace T) (v : PartyView T) (c : Call T) (x z : ControlFlow (Reply T) (Option T))
+      → b ≡ place.Table q → z ≡ x → party_view_of a ≡ v → v.queue.cap ≡ cap → t ≡ s.table_id
       → MatchControlFlow x (λ value. Ended cap t (s.table_id, s.me) call.Capacity (reply.Capacity cap) (q.table_id, q.me) × (value ≡ call_value c)) (λ r. Ended cap t (s.table_id, s.me) c r (q.table_id, q.me))
-      → IsHeld b × Tries v c z (person_of b)
+      → IsHeld b × Tries v c z (party_view_of b)
   told_table a s cap t sits is q b v c (Continue value) z sat same is_v one here h =
       let e = table_ends a s cap t sits is q b v call.Capacity (reply.Capacity cap) (reply.Capacity cap) sat refl is_v one here h.0 in
-      (e.0, subst (λ y. Tries v c y (person_of b)) (sym same) (saw_more v (person_of b) (reply.Capacity cap) e.1, h.1))
+      (e.0, subst (λ y. Tries v c y (party_view_of b)) (sym same) (saw_more v (party_view_of b) (reply.Capacity cap) e.1, h.1))
   told_table a s cap t sits is q b v c (Break r) z sat same is_v one here h =
       let e = table_ends a s cap t sits is q b v c r r sat refl is_v one here h in
-      (e.0, subst (λ y. Tries v c y (person_of b)) (sym same) e.1)
+      (e.0, subst (λ y. Tries v c y (party_view_of b)) (sym same) e.1)
 
-  pub told_web : (a b : SeatPlace T) (r q : Rested (CallState T)) (v : Person T) (c : Call T) (x z : ControlFlow (Reply T) (Option T)) → a ≡ place.Web r → IsHeld a → b ≡ place.Web q → z ≡ x → person_of a ≡ v → v.queue.cap ≡ None
-      → MatchControlFlow x (λ value. EndedAt r call.Capacity (reply.Capacity None) q × (value ≡ call_value c)) (λ y. EndedAt r c y q) → IsHeld b × Tries v c z (person_of b)
+  pub told_web : (a b : SeatPlace T) (r q : Rested (CallState T)) (v : PartyView T) (c : Call T) (x z : ControlFlow (Reply T) (Option T)) → a ≡ place.Web r → IsHeld a → b ≡ place.Web q → z ≡ x → party_view_of a ≡ v → v.queue.cap ≡ None
+      → MatchControlFlow x (λ value. EndedAt r call.Capacity (reply.Capacity None) q × (value ≡ call_value c)) (λ y. EndedAt r c y q) → IsHeld b × Tries v c z (party_view_of b)
   told_web a b r q v c (Continue value) z rested is resting same is_v none h =
       let e = web_ends a b r q v call.Capacity (reply.Capacity None) (reply.Capacity None) rested is resting refl is_v none h.0 in
-      (e.0, subst (λ y. Tries v c y (person_of b)) (sym same) (saw_more v (person_of b) (reply.Capacity None) e.1, h.1))
+      (e.0, subst (λ y. Tries v c y (party_view_of b)) (sym same) (saw_more v (party_view_of b) (reply.Capacity None) e.1, h.1))
   told_web a b r q v c (Break y) z rested is resting same is_v none h =
       let e = web_ends a b r q v c y y rested is resting refl is_v none h in
-      (e.0, subst (λ u. Tries v c u (person_of b)) (sym same) e.1)
+      (e.0, subst (λ u. Tries v c u (party_view_of b)) (sym same) e.1)
 
 -- the same of a party of which it is known whose queue that is
-pub told_here : {T : Type 0} (a : SeatPlace T) (s : Seat (Option T) (CallState T)) (cap : Option ℕ) (t : TableId) (v : Person T) → a ≡ place.Table s → IsHeld a → person_of a ≡ v → v.queue ≡ queue_at t cap
+pub told_here : {T : Type 0} (a : SeatPlace T) (s : Seat (Option T) (CallState T)) (cap : Option ℕ) (t : TableId) (v : PartyView T) → a ≡ place.Table s → IsHeld a → party_view_of a ≡ v → v.queue ≡ queue_at t cap
     → (q : Seat (Option T) (CallState T)) (b : SeatPlace T) (c : Call T) (x : ControlFlow (Reply T) (Option T)) → b ≡ place.Table q
     → MatchControlFlow x (λ value. Ended cap t (s.table_id, s.me) call.Capacity (reply.Capacity cap) (q.table_id, q.me) × (value ≡ call_value c)) (λ r. Ended cap t (s.table_id, s.me) c r (q.table_id, q.me))
-    → IsHeld b × Tries v c x (person_of b)
+    → IsHeld b × Tries v c x (party_view_of b)
 told_here a s cap t v sits is is_v of q b c x sat h = told_table a s cap t sits is q b v c x x sat refl is_v (ap (λ (z : QueueId). z.cap) of) (sym (here a s cap t v sits is is_v of)) h
 
 -- the same of a call that a seat's own function has tried
-pub told_where : {T : Type 0} (a s b q : SeatPlace T) (v : Person T) (c : Call T) (x : ControlFlow (Reply T) (Option T)) → a ≡ s → person_of a ≡ v → b ≡ q → IsHeld q × Tries (person_of s) c x (person_of q) → IsHeld b × Tries v c x (person_of b)
+pub told_where : {T : Type 0} (a s b q : SeatPlace T) (v : PartyView T) (c : Call T) (x : ControlFlow (Reply T) (Option T)) → a ≡ s → party_view_of a ≡ v → b ≡ q → IsHeld q × Tries (party_view_of s) c x (party_view_of q) → IsHeld b × Tries v c x (party_view_of b)
 told_where a s b q v c x sits is_v sat h = (
   subst IsHeld (sym sat) h.0,
-  subst (λ p. Tries v c x (person_of p)) (sym sat) (subst (λ p. Tries p c x (person_of q)) (ap person_of (sym sits) ∙ is_v) h.1),
+  subst (λ p. Tries v c x (party_view_of p)) (sym sat) (subst (λ p. Tries p c x (party_view_of q)) (ap party_view_of (sym sits) ∙ is_v) h.1),
 )
 
 -- what follows of each way that a call was told

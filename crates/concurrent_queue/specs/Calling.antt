@@ -9,11 +9,11 @@ use Rattle.shared_site.specs.declared.left.Left.{Left}
 use Rattle.concurrent_queue.specs.declared.party.SeatPlace.{SeatPlace}
 use Rattle.concurrent_queue.specs.declared.party.SeatPlace.TheVariants as place
 use Rattle.concurrent_queue.specs.declared.shared.Form.{Form}
-use Rattle.concurrent_queue.specs.Shared.{IsPartyOf, IsHeld, form_id, person_of}
+use Rattle.concurrent_queue.specs.Shared.{IsPartyOf, IsHeld, form_id, party_view_of}
 
 -- the seat is that of a party of this queue, between its calls
 abbrev pub IsHeldIn : {T A : Type 0} → Form T A → SeatPlace T → Type 0
-IsHeldIn f p = IsHeld p × IsPartyOf (person_of p) (form_id f)
+IsHeldIn f p = IsHeld p × IsPartyOf (party_view_of p) (form_id f)
 
 -- the call c that the party with the seat `first` began at this queue's table has left its fast steps, and stands there
 abbrev pub HasLeft : {T A M N K J : Type 0} → Ghosts M T ℕ (Seat (Option T) (CallState T)) K → Ghosts N T ℕ (Seat (Option T) (CallState T)) J → (M → Form T A) → (N → Form T A)

@@ -2,8 +2,8 @@
 use Rattle.std.specs.Prelude.{◌≡◌}
 use mathlib.Core.List.{IsPrefix}
 use Rattle.queue_steps.specs.Shares.{IsEntire}
-use Rattle.concurrent_queue.specs.Shared.{Person}
+use Rattle.concurrent_queue.specs.Shared.{PartyView}
 
 -- from v to w the party has had no effect, and may have seen more. The only party has seen nothing more
-abbrev pub SawMore : {T : Type 0} → Person T → Person T → Type 0
+abbrev pub SawMore : {T : Type 0} → PartyView T → PartyView T → Type 0
 SawMore v w = (w.queue ≡ v.queue) × IsPrefix v.view.seen w.view.seen × (w.view.mine ≡ v.view.mine) × (w.view.share ≡ v.view.share) × (IsEntire v.view.share → w.view ≡ v.view)

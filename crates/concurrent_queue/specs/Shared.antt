@@ -32,17 +32,17 @@ pub record QueueId : Type 0 where
   pub cap : Option ℕ
 
 -- a party: its queue, and its view of that queue's history
-pub record Person (T : Type 0) : Type 0 where
+pub record PartyView (T : Type 0) : Type 0 where
   pub queue : QueueId
   pub view : View T
 
 -- the party is one of this queue's
-abbrev pub IsPartyOf : {T : Type 0} → Person T → QueueId → Type 0
+abbrev pub IsPartyOf : {T : Type 0} → PartyView T → QueueId → Type 0
 IsPartyOf p q = p.queue ≡ q
 
 -- the party that knows this, of the queue of this name
-abbrev pub person : {T : Type 0} → QueueName → CallState T → Person T
-person n d = record { queue = record { name = n; cap = d.known.cap }; view = view_of d.known }
+abbrev pub party_view : {T : Type 0} → QueueName → CallState T → PartyView T
+party_view n d = record { queue = record { name = n; cap = d.known.cap }; view = view_of d.known }
 
 -- of the seat at a place: its queue, its number, what it knows, and that it has nothing in hand
 abbrev pub name_at : {T : Type 0} → SeatPlace T → QueueName
@@ -66,27 +66,27 @@ IsFreeAt (place.Web r) = r.asleep ≡ true
 IsFreeAt place.Away = ⊥
 
 -- the party with this seat
-abbrev pub person_of : {T : Type 0} → SeatPlace T → Person T
-person_of p = person (name_at p) (known_at p)
+abbrev pub party_view_of : {T : Type 0} → SeatPlace T → PartyView T
+party_view_of p = party_view (name_at p) (known_at p)
 
 -- between its calls
 abbrev pub IsHeld : {T : Type 0} → SeatPlace T → Type 0
 IsHeld p = IsParty (known_at p) × IsFreeAt p
 
 -- the call takes the party from v to w. If it has all of the share, the call is one of one owner
-abbrev pub Calls : {T : Type 0} → Person T → Call T → Reply T → Person T → Type 0
+abbrev pub Calls : {T : Type 0} → PartyView T → Call T → Reply T → PartyView T → Type 0
 Calls v c r w = (w.queue ≡ v.queue) × SharedCall v.queue.cap v.view w.view c r × (IsEntire v.view.share → SequentialCall v.queue.cap v.view w.view c r)
 
 -- the party v is parted into a and b
-abbrev pub Parts : {T : Type 0} → Person T → Person T → Person T → Type 0
+abbrev pub Parts : {T : Type 0} → PartyView T → PartyView T → PartyView T → Type 0
 Parts v a b = (a.queue ≡ v.queue) × (b.queue ≡ v.queue) × Split v.queue.cap v.view a.view b.view
 
 -- the parties a and b become w
-abbrev pub Joins : {T : Type 0} → Person T → Person T → Person T → Type 0
+abbrev pub Joins : {T : Type 0} → PartyView T → PartyView T → PartyView T → Type 0
 Joins a b w = (w.queue ≡ a.queue) × Join a.queue.cap a.view b.view w.view
 
 -- the parties a and b meet, and are then c and d
-abbrev pub Meets : {T : Type 0} → Person T → Person T → Person T → Person T → Type 0
+abbrev pub Meets : {T : Type 0} → PartyView T → PartyView T → PartyView T → PartyView T → Type 0
 Meets a b c d = (c.queue ≡ a.queue) × (d.queue ≡ b.queue) × Meet a.queue.cap a.view b.view c.view d.view
 
 -- which queue this is
@@ -100,5 +100,5 @@ abbrev pub SitsIn : {T A : Type 0} → Form T A → SeatPlace T → Type 0
 SitsIn f p = (name_at p ≡ (form_id f).name) × IsFreeAt p
 
 -- The queue ended with its only party p, which has all of the share, as a queue with one owner. One with a capacity holds no block
-abbrev pub Finishes : {T : Type 0} → Person T → Owned T → Type 0
+abbrev pub Finishes : {T : Type 0} → PartyView T → Owned T → Type 0
 Finishes p e = IsEntire p.view.share × IsWhole p.view × IsShown e.queue (after p.queue.cap p.view.seen) × (p.queue.cap ≢ None → e.blocks ≡ 0)

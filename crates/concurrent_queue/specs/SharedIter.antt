@@ -6,10 +6,10 @@ use Rattle.queue_steps.specs.declared.model.Call.TheVariants as call
 use Rattle.queue_steps.specs.declared.model.Reply.TheVariants as reply
 use Rattle.queue_steps.specs.declared.errors.PopError.{PopError}
 use Rattle.concurrent_queue.specs.declared.shared.iter.TryIter.{TryIter}
-use Rattle.concurrent_queue.specs.Shared.{Person, IsPartyOf, Calls}
+use Rattle.concurrent_queue.specs.Shared.{PartyView, IsPartyOf, Calls}
 
 -- r is what a pop of the party gave, and took the party from v to w
-abbrev pub Popped : {T : Type 0} → Person T → Option T → Person T → Type 0
+abbrev pub Popped : {T : Type 0} → PartyView T → Option T → PartyView T → Type 0
 Popped {T} v r w = (answer : Result T PopError) × (r ≡ result_ok answer) × Calls v call.Pop (reply.Pop answer) w
 
 module _ {T R A : Type 0} where

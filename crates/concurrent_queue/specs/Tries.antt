@@ -17,27 +17,27 @@ use Rattle.concurrent_queue.specs.declared.try_errors.TryForcePushError.TheVaria
 use Rattle.concurrent_queue.specs.declared.try_errors.TryPopError.{TryPopError}
 use Rattle.concurrent_queue.specs.declared.try_errors.TryPopError.TheVariants as try_pop
 use Rattle.concurrent_queue.specs.SawMore.{SawMore}
-use Rattle.concurrent_queue.specs.Shared.{Person, Calls}
+use Rattle.concurrent_queue.specs.Shared.{PartyView, Calls}
 
 module _ {T : Type 0} where
   -- the call c was made, or has done nothing and its value comes back
-  abbrev pub Tries : Person T → Call T → ControlFlow (Reply T) (Option T) → Person T → Type 0
+  abbrev pub Tries : PartyView T → Call T → ControlFlow (Reply T) (Option T) → PartyView T → Type 0
   Tries v c told w = MatchControlFlow told (λ value. SawMore v w × (value ≡ call_value c)) (λ r. Calls v c r w)
 
-  abbrev pub TriesPush : Person T → T → Result Unit (TryPushError T) → Person T → Type 0
+  abbrev pub TriesPush : PartyView T → T → Result Unit (TryPushError T) → PartyView T → Type 0
   TriesPush v x (Ok u) w = Calls v (call.Push x) (reply.Push (Ok u)) w
   TriesPush v x (Err (try_push.Full y)) w = Calls v (call.Push x) (reply.Push (Err (push.Full y))) w
   TriesPush v x (Err (try_push.Closed y)) w = Calls v (call.Push x) (reply.Push (Err (push.Closed y))) w
   TriesPush v x (Err (try_push.NoMemory y)) w = Calls v (call.Push x) (reply.Push (Err (push.NoMemory y))) w
   TriesPush v x (Err (try_push.Busy y)) w = SawMore v w × (y ≡ x)
 
-  abbrev pub TriesForcePush : Person T → T → Result (Option T) (TryForcePushError T) → Person T → Type 0
+  abbrev pub TriesForcePush : PartyView T → T → Result (Option T) (TryForcePushError T) → PartyView T → Type 0
   TriesForcePush v x (Ok old) w = Calls v (call.ForcePush x) (reply.ForcePush (Ok old)) w
   TriesForcePush v x (Err (try_force.Closed y)) w = Calls v (call.ForcePush x) (reply.ForcePush (Err (force.Closed y))) w
   TriesForcePush v x (Err (try_force.NoMemory y)) w = Calls v (call.ForcePush x) (reply.ForcePush (Err (force.NoMemory y))) w
   TriesForcePush v x (Err (try_force.Busy y)) w = SawMore v w × (y ≡ x)
 
-  abbrev pub TriesPop : Person T → Result T TryPopError → Person T → Type 0
+  abbrev pub TriesPop : PartyView T → Result T TryPopError → PartyView T → Type 0
   TriesPop v (Ok x) w = Calls v call.Pop (reply.Pop (Ok x)) w
   TriesPop v (Err try_pop.Empty) w = Calls v call.Pop (reply.Pop (Err pop.Empty)) w
   TriesPop v (Err try_pop.Closed) w = Calls v call.Pop (reply.Pop (Err pop.Closed)) w

@@ -1,7 +1,7 @@
 //! The parties of a shared queue as contracts see them, whatever the queue is made of.
 ghost use Rattle.std.specs.Prelude.{◌≡◌};
 ghost use Rattle.queue_steps.specs.Parties.{IsView};
-ghost use Rattle.concurrent_queue.specs.Shared.{IsHeld, person_of};
+ghost use Rattle.concurrent_queue.specs.Shared.{IsHeld, party_view_of};
 
 use atomic_table::Seat;
 use mem_blocks::web::Rested;
@@ -26,11 +26,11 @@ pub struct Party<T> {
 }
 
 impl<T> Model for Party<T> {
-    ghost use Rattle.concurrent_queue.specs.Shared.{Person, IsHeld, person_of};
+    ghost use Rattle.concurrent_queue.specs.Shared.{PartyView, IsHeld, party_view_of};
 
-    ghost Value = { Person T };
+    ghost Value = { PartyView T };
 
-    ghost view = { λ p. person_of p.place };
+    ghost view = { λ p. party_view_of p.place };
 
     ghost invariant = { λ p. IsHeld p.place };
 }
@@ -39,7 +39,7 @@ impl<T> Party<T> {
     /// The party whose seat is there.
     pub(crate) fn at(place: SeatPlace<T>) -> Self
         requires { IsHeld place }
-        ensures { result ≡ person_of place }
+        ensures { result ≡ party_view_of place }
     {
         Party { place }
     }

@@ -3,12 +3,12 @@ use Rattle.std.proofs.Common.{◌≡◌, ◌++◌, sym, ◌∙◌, subst, append
 use Rattle.queue_steps.specs.Effect.{IsHistory}
 use Rattle.queue_steps.specs.Shares.{Share, SamePart, half}
 use Rattle.queue_steps.proofs.ShareLaws.{same_refl, halves_joined}
-use Rattle.concurrent_queue.specs.Shared.{QueueId, Person, Parts, Joins}
+use Rattle.concurrent_queue.specs.Shared.{QueueId, PartyView, Parts, Joins}
 use Rattle.counted_channel.specs.Channel.{End, GivenBack}
 use Rattle.counted_channel.proofs.Trying.{prefix_on}
 
 module _ {T : Type 0} where
-  pub rejoined : (d e : End T) (a b : Person T) → e.counts ≡ d.counts → e.stake ≡ d.stake → Parts d.party a b → Joins a b e.party → GivenBack d e
+  pub rejoined : (d e : End T) (a b : PartyView T) → e.counts ≡ d.counts → e.stake ≡ d.stake → Parts d.party a b → Joins a b e.party → GivenBack d e
   rejoined d e a b counts stake parts joins =
       let s = parts.2 in let j = joins.1 in
       let one : SamePart a.view.share (half d.party.view.share) = subst (λ (z : Share). SamePart a.view.share z) s.share.0 (same_refl a.view.share) in

@@ -21,7 +21,7 @@ use Rattle.queue_steps.specs.Sequential.{sequential_reply, sequential_state}
 use Rattle.queue_steps.specs.Legal.{IsShown}
 use Rattle.queue_steps.specs.SequentialCalls.{SequentialCall}
 use Rattle.queue_steps.proofs.Keeping.{stays_closed}
-use Rattle.concurrent_queue.specs.Shared.{QueueId, Person, Calls}
+use Rattle.concurrent_queue.specs.Shared.{QueueId, PartyView, Calls}
 use Rattle.counted_channel.specs.Channel.{Ends}
 
 module _ {T : Type 0} where
@@ -102,10 +102,10 @@ module _ {T : Type 0} where
   }
 
   -- of a party, whose queue stays the same
-  pub tried_more : (u v w : Person T) (c : Call T) (r : Reply T) → IsRefused c r → v.queue ≡ u.queue → Tried u.view v.view → Calls v c r w → (w.queue ≡ u.queue) × Tried u.view w.view
+  pub tried_more : (u v w : PartyView T) (c : Call T) (r : Reply T) → IsRefused c r → v.queue ≡ u.queue → Tried u.view v.view → Calls v c r w → (w.queue ≡ u.queue) × Tried u.view w.view
   tried_more u v w c r none same tried called = (called.0 ∙ same, tries v.queue.cap u.view v.view w.view c r none tried called.1 called.2)
 
-  pub conforms_then : (u v w : Person T) (c : Call T) (r : Reply T) → v.queue ≡ u.queue → Tried u.view v.view → Calls v c r w → Calls u c r w
+  pub conforms_then : (u v w : PartyView T) (c : Call T) (r : Reply T) → v.queue ≡ u.queue → Tried u.view v.view → Calls v c r w → Calls u c r w
   conforms_then u v w c r same tried called = (
     called.0 ∙ same,
     subst (λ (q : QueueId). SharedCall q.cap u.view w.view c r) same (conforms v.queue.cap u.view v.view w.view c r tried called.1),
@@ -139,11 +139,11 @@ module _ {T : Type 0} where
       still_closed cap right.0 w.seen right.2 called.legal (⊎_elim (λ closed. closed) (λ lacks. absurd lacks) right.3)
 
   -- a party that called close has seen the queue closed
-  pub sees_closed : (v w : Person T) (closed : Bool) → Calls v call.Close (reply.Close closed) w → (after w.queue.cap w.view.seen).closed ≡ true
+  pub sees_closed : (v w : PartyView T) (closed : Bool) → Calls v call.Close (reply.Close closed) w → (after w.queue.cap w.view.seen).closed ≡ true
   sees_closed v w closed called = subst (λ (q : QueueId). (after q.cap w.view.seen).closed ≡ true) (sym called.0) (sees_closed_at v.queue.cap v.view w.view closed called.1)
 
   -- the last end of a side has closed the queue
-  pub ended_last : (v w : Person T) (last : Bool) → last ≡ true → (closed : Bool) → Calls v call.Close (reply.Close closed) w → Ends v w last
+  pub ended_last : (v w : PartyView T) (last : Bool) → last ≡ true → (closed : Bool) → Calls v call.Close (reply.Close closed) w → Ends v w last
   ended_last v w true is closed called = ((closed, called), sees_closed v w closed called)
   ended_last v w false is closed called = cc
 

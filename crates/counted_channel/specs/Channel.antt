@@ -11,7 +11,7 @@ use Rattle.queue_steps.specs.declared.errors.PushError.TheVariants as push
 use Rattle.queue_steps.specs.declared.errors.ForcePushError.TheVariants as force
 use Rattle.queue_steps.specs.Effect.{IsHistory, after}
 use Rattle.queue_steps.specs.Shares.{Share, SamePart, IsPart, entire, half, plus}
-use Rattle.concurrent_queue.specs.Shared.{QueueId, Person, Calls, Parts, Joins}
+use Rattle.concurrent_queue.specs.Shared.{QueueId, PartyView, Calls, Parts, Joins}
 use Rattle.counted_channel.specs.declared.counting.SeatCounts.{SeatCounts}
 use Rattle.counted_channel.specs.declared.errors.SendError.{SendError}
 use Rattle.counted_channel.specs.declared.errors.SendError.TheVariants as send
@@ -25,12 +25,12 @@ pub record ChannelId : Type 0 where
 
 -- an end: its party of the queue, the table that counts it, and its part of all stakes in its side, which is no party's share
 pub record End (T : Type 0) : Type 0 where
-  pub party : Person T
+  pub party : PartyView T
   pub counts : TableId
   pub stake : Share
 
 -- the end of the side of this word with this party, which the table counts as its seat knows
-abbrev pub end_at : {T : Type 0} → ℕ → Person T → TableId → SeatCounts → End T
+abbrev pub end_at : {T : Type 0} → ℕ → PartyView T → TableId → SeatCounts → End T
 end_at i p c v = record { party = p; counts = c; stake = stake_at i v }
 
 -- the end is one of this channel's
@@ -66,7 +66,7 @@ abbrev pub ChannelCall : {T : Type 0} → End T → Call T → Reply T → End T
 ChannelCall d c r e = Calls d.party c r e.party × (e.counts ≡ d.counts) × (e.stake ≡ d.stake)
 
 -- The end is no more, and its party v is given back as w. Where it was the last of its side, w has called close, and has seen the queue closed; else nothing was called
-abbrev pub Ends : {T : Type 0} → Person T → Person T → Bool → Type 0
+abbrev pub Ends : {T : Type 0} → PartyView T → PartyView T → Bool → Type 0
 Ends v w true = ((closed : Bool) × Calls v call.Close (reply.Close closed) w) × ((after w.queue.cap w.view.seen).closed ≡ true)
 Ends v w false = w ≡ v
 
@@ -89,5 +89,5 @@ pub record GivenBack {T : Type 0} (d e : End T) : Type 0 where
   pub share : SamePart e.party.view.share d.party.view.share
 
 -- the queue q becomes the channel c, and its party v is parted into the first sender and the first receiver, each with all of the stakes in its side
-abbrev pub Opens : {T : Type 0} → QueueId → Person T → ChannelId → End T → End T → Type 0
+abbrev pub Opens : {T : Type 0} → QueueId → PartyView T → ChannelId → End T → End T → Type 0
 Opens q v c s r = (c.queue ≡ q) × Parts v s.party r.party × IsEndOf s c × IsEndOf r c × (s.stake ≡ entire) × (r.stake ≡ entire)

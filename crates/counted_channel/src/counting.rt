@@ -97,7 +97,7 @@ impl Join<SeatCounts> for Both {
 pub(crate) type Counts<A> = Table<(), SeatCounts, (), Counted, A>;
 
 /// The words, as threads see them.
-pub(crate) type Words = Shared<(), SeatCounts, (), Counted>;
+pub(crate) type SharedCounts = Shared<(), SeatCounts, (), Counted>;
 
 /// The seat of an end.
 pub(crate) type EndSeat = Seat<(), SeatCounts>;
@@ -117,7 +117,7 @@ pub(crate) fn open<A: Allocator>(alloc: A) -> Result<(Counts<A>, EndSeat, EndSea
 }
 
 /// Counts one end more, where there may be one, and gives whether there may.
-fn enter(words: &Words, place: &mut EndSeat, word: usize) -> bool
+fn enter(words: &SharedCounts, place: &mut EndSeat, word: usize) -> bool
     requires table { (place.old.table_id ≡ words.now.table_id) × (words.now.table_id.words ≡ 2) × (word < 2) }
     requires one { IsEndSeat word place.old.me }
     ensures same { (place.new.table_id ≡ place.old.table_id) × (place.new.id ≡ place.old.id) }
@@ -131,7 +131,7 @@ fn enter(words: &Words, place: &mut EndSeat, word: usize) -> bool
 }
 
 /// Parts the seat of an end in two, where there may be one more end of its side.
-pub(crate) fn part(words: &Words, place: &mut EndSeat, word: usize) -> Option<EndSeat>
+pub(crate) fn part(words: &SharedCounts, place: &mut EndSeat, word: usize) -> Option<EndSeat>
     requires table { (place.old.table_id ≡ words.now.table_id) × (words.now.table_id.words ≡ 2) × (word < 2) }
     requires one { IsEndSeat word place.old.me }
     ensures same { place.new.table_id ≡ place.old.table_id }
@@ -146,7 +146,7 @@ pub(crate) fn part(words: &Words, place: &mut EndSeat, word: usize) -> Option<En
 }
 
 /// Counts one end less, and gives whether it was the last of its side.
-pub(crate) fn leave(words: &Words, mut place: EndSeat, word: usize) -> bool
+pub(crate) fn leave(words: &SharedCounts, mut place: EndSeat, word: usize) -> bool
     requires table { (place.table_id ≡ words.now.table_id) × (words.now.table_id.words ≡ 2) × (word < 2) }
     requires one { IsEndSeat word place.me }
     ensures { IsEntire (stake_at word place.me.0) → result ≡ true }
@@ -155,7 +155,7 @@ pub(crate) fn leave(words: &Words, mut place: EndSeat, word: usize) -> bool
 }
 
 /// Makes one seat of the seats of two ends of a side, and counts one end less. It has the stakes of both, which are no more than one.
-pub(crate) fn unite(words: &Words, place: &mut EndSeat, other: EndSeat, word: usize)
+pub(crate) fn unite(words: &SharedCounts, place: &mut EndSeat, other: EndSeat, word: usize)
     requires table { (place.old.table_id ≡ words.now.table_id) × (other.table_id ≡ words.now.table_id) × (words.now.table_id.words ≡ 2) × (word < 2) }
     requires ends { IsEndSeat word place.old.me × IsEndSeat word other.me }
     ensures same { place.new.table_id ≡ place.old.table_id }

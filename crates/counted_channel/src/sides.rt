@@ -5,7 +5,7 @@ ghost use Rattle.concurrent_queue.specs.Shared.{IsPartyOf};
 ghost use Rattle.counted_channel.specs.Channel.{EndParts, EndJoins, Ends, GivenBack, end_at};
 ghost use Rattle.counted_channel.specs.Counting.{IsEndSeat, stake_at};
 
-use crate::counting::{EndSeat, Words, leave, part, unite};
+use crate::counting::{EndSeat, SharedCounts, leave, part, unite};
 use crate::waiting::Awaited;
 use crate::waking::close;
 use concurrent_queue::{ConcurrentQueue, Party};
@@ -21,7 +21,7 @@ pub(crate) struct SideEnd<T> {
 /// Parts an end in two, or gives it back where the queue has as many parties as it may, or the channel as many ends of this side.
 pub(crate) fn split_end<T, A: Allocator>(
     queue: &ConcurrentQueue<T, A>,
-    words: &Words,
+    words: &SharedCounts,
     end: SideEnd<T>,
     word: usize,
 ) -> Result<(SideEnd<T>, SideEnd<T>), SideEnd<T>>
@@ -58,7 +58,7 @@ pub(crate) fn split_end<T, A: Allocator>(
 /// Makes one end of two of a side.
 pub(crate) fn join_ends<T, A: Allocator>(
     queue: &ConcurrentQueue<T, A>,
-    words: &Words,
+    words: &SharedCounts,
     first: SideEnd<T>,
     second: SideEnd<T>,
     word: usize,
@@ -81,7 +81,7 @@ pub(crate) fn join_ends<T, A: Allocator>(
 pub(crate) fn end_one<T, A: Allocator>(
     queue: &ConcurrentQueue<T, A>,
     awaited: &Awaited,
-    words: &Words,
+    words: &SharedCounts,
     end: SideEnd<T>,
     word: usize,
 ) -> (Party<T>, bool)

@@ -6,14 +6,14 @@
 
 ghost use Rattle.std.specs.Prelude.{◌≡◌, ℕ, IsTrue};
 ghost use Rattle.law_wakes.specs.Steps.{step_of, after_of};
-ghost use Rattle.event_count.specs.Walks.{IsTaking, IsOnWords, IsPark, is_prepared};
+ghost use Rattle.event_count.specs.Cursors.{IsTaking, IsOnWords, IsPark, is_prepared};
 
-mod walk;
+mod cursor;
 mod words;
 
-use crate::walk::Walk;
+use crate::cursor::Cursor;
 use crate::words::Words;
-use law_wakes::{Place, Step, Whom};
+use law_wakes::{Phase, Step, Whom};
 use std::sync::Wait;
 
 /// Two words that threads share: how often somebody went to wake, and how many may sleep that nobody has gone to wake.
@@ -25,30 +25,30 @@ pub struct EventCount {
 /// What `prepare` gives. It has to be waited on or given up.
 pub struct Ticket<'a> {
     words: &'a Words,
-    walk: Walk,
-    ghost prepared: { IsTrue (is_prepared walk.place) },
+    cursor: Cursor,
+    ghost prepared: { IsTrue (is_prepared cursor.phase) },
 }
 
 /// Takes the next step of a call, which does not sleep.
 #[inline(always)]
-fn take_step(words: &Words, walk: Walk) -> Walk
-    requires { IsOnWords (step_of walk.place) }
-    ensures { (found : ℕ) × (result.place ≡ after_of walk.place found) }
+fn take_step(words: &Words, cursor: Cursor) -> Cursor
+    requires { IsOnWords (step_of cursor.phase) }
+    ensures { (found : ℕ) × (result.phase ≡ after_of cursor.phase found) }
 {
-    let done = words.operate(walk.step());
-    walk.after(done)
+    let done = words.operate(cursor.step());
+    cursor.after(done)
 }
 
 /// Takes the next step of a call, which sleeps.
-fn park<R: Wait>(rt: &R, words: &Words, walk: Walk) -> Walk
-    requires { IsPark (step_of walk.place) }
-    ensures { (found : ℕ) × (result.place ≡ after_of walk.place found) }
+fn park<R: Wait>(rt: &R, words: &Words, cursor: Cursor) -> Cursor
+    requires { IsPark (step_of cursor.phase) }
+    ensures { (found : ℕ) × (result.phase ≡ after_of cursor.phase found) }
 {
-    let Step::Park(events) = walk.step() else {
+    let Step::Park(events) = cursor.step() else {
         unreachable!()
     };
     let done = words.park(rt, events);
-    walk.after(done)
+    cursor.after(done)
 }
 
 impl EventCount {
@@ -61,36 +61,36 @@ impl EventCount {
     /// Begins to wait. The caller looks at the condition after this.
     pub fn prepare(&self) -> Ticket<'_> {
         let words = &self.words;
-        let loaded = take_step(words, Walk::begin(Place::Starting));
-        let walk = take_step(words, loaded);
-        Ticket { words, walk }
+        let loaded = take_step(words, Cursor::begin(Phase::Starting));
+        let cursor = take_step(words, loaded);
+        Ticket { words, cursor }
     }
 
     /// Wakes one of those that wait, where there are some. The condition is true before this.
     #[inline(always)]
     pub fn notify_one(&self) {
-        let walk = take_step(&self.words, Walk::begin(Place::Given));
-        if walk.is_over() {
-            walk.end();
+        let cursor = take_step(&self.words, Cursor::begin(Phase::Given));
+        if cursor.is_over() {
+            cursor.end();
         } else {
-            self.wake_one(walk);
+            self.wake_one(cursor);
         }
     }
 
     /// Wakes all that wait. The condition is true before this.
     #[inline]
     pub fn notify_all(&self) {
-        let moved = take_step(&self.words, Walk::begin(Place::Moving(Whom::All)));
+        let moved = take_step(&self.words, Cursor::begin(Phase::Moving(Whom::All)));
         take_step(&self.words, moved).end();
     }
 
     /// The steps of a notify of one that goes to wake.
     #[cold]
     #[inline(never)]
-    fn wake_one(&self, walk: Walk)
-        requires { IsTaking walk.place }
+    fn wake_one(&self, cursor: Cursor)
+        requires { IsTaking cursor.phase }
     {
-        let taken = take_step(&self.words, walk);
+        let taken = take_step(&self.words, cursor);
         let moved = take_step(&self.words, taken);
         take_step(&self.words, moved).end();
     }
@@ -99,13 +99,13 @@ impl EventCount {
 impl Ticket<'_> {
     /// Gives the ticket up: the condition is true, or nobody waits for it any more.
     pub fn cancel(self) {
-        let Ticket { words: _, walk } = self;
-        walk.look(true).end();
+        let Ticket { words: _, cursor } = self;
+        cursor.look(true).end();
     }
 
     /// Sleeps until a notify, if there was none since `prepare`. It may return for no reason, so the caller looks at the condition again.
     pub fn wait<R: Wait>(self, rt: &R) {
-        let Ticket { words, walk } = self;
-        park(rt, words, walk.look(false)).end();
+        let Ticket { words, cursor } = self;
+        park(rt, words, cursor.look(false)).end();
     }
 }

@@ -1,7 +1,7 @@
 //! The two words, and each step on them.
 ghost use Rattle.std.specs.Prelude.{◌≡◌};
 ghost use Rattle.law_wakes.specs.declared.steps.Step.TheVariants as step;
-ghost use Rattle.event_count.specs.Walks.{IsOnWords};
+ghost use Rattle.event_count.specs.Cursors.{IsOnWords};
 
 use crossbeam_utils::CachePadded;
 use law_wakes::{Step, Whom, Word};

@@ -2,7 +2,7 @@
 use Rattle.law_common.specs.Vocabulary.{Call, Effect, Answer, BLOCK_SLOTS}
 use Rattle.queue_steps.specs.State.{State}
 use Rattle.queue_steps.specs.declared.steps.unbounded.UnboundedLocal.TheVariants as chain
-use Rattle.law_chain.proofs.ChainGood.{Good, silent}
+use Rattle.law_chain.proofs.ChainStepOk.{StepOk, silent}
 use Rattle.law_chain.proofs.ChainPassesReads.{passes_reads}
 use Rattle.law_chain.specs.ChainAfter.{if_begun}
 use Rattle.law_chain.proofs.ChainHolds.{after_read_on}
@@ -10,7 +10,7 @@ use Rattle.law_chain.specs.ChainFacts.{Got}
 use Rattle.std.proofs.Common.{ℕ, ◌/◌, ◌≡◌, ◌≢◌, not, ◌∙◌, Bool, true, false, if◌then◌else◌, Some, None, List, [], ◌∷◌, refl, sym, ap, arith}
 use Rattle.law_common.specs.Puts.{put}
 use Rattle.law_common.proofs.Puts.{put_ok, put_same}
-use Rattle.law_chain.specs.ChainCells.{Wrote, Reading, Done, Walk, Walker, Chain, queue_of, WalkOk, IsWalked, item_at, LAST, ChainOk, Read, walker_of, Holds}
+use Rattle.law_chain.specs.ChainCells.{Wrote, Reading, Done, Walk, Walker, Chain, queue_of, WalkOk, IsWalked, item_at, LAST, ChainOk, Read, walker_of, HoldsOnly}
 use Rattle.law_chain.specs.ChainTransitions as moves
 use Rattle.law_chain.proofs.ChainReads.{read_ok, walk_after_ok}
 use Rattle.law_chain.specs.ChainTransitions.{walk_after}
@@ -21,8 +21,8 @@ use Rattle.law_chain.proofs.ChainWalk.{after_mine, on_goes}
 
 -- W1: the walk begins at the first slot, as the last slot's item is taken
 pub good_beginning : {A : Type 0} (c : Chain A) (who : ℕ) (ms : List (State A)) (x : A) (n name st : ℕ)
-    → ChainOk c → Holds c who (Only (Read n)) → Got c who n x name → c.writers n ≡ Wrote x → IsLast n → IsState c (n / BLOCK_SLOTS) 0 st
-    → Good c (if_begun c who n) who ms (chain.Walking name 0) (Some x) Call.Pop (Effect.Take x ∷ []) (Answer.Found st)
+    → ChainOk c → HoldsOnly c who (Only (Read n)) → Got c who n x name → c.writers n ≡ Wrote x → IsLast n → IsState c (n / BLOCK_SLOTS) 0 st
+    → StepOk c (if_begun c who n) who ms (chain.Walking name 0) (Some x) Call.Pop (Effect.Take x ∷ []) (Answer.Found st)
 good_beginning {A} c who ms x n name st ok holds got wrote last state = go (is_done (c.readers (item_at (n / BLOCK_SLOTS) 0))) refl
   where
     item : item_at (n / BLOCK_SLOTS) LAST ≡ n
@@ -35,7 +35,7 @@ good_beginning {A} c who ms x n name st ok holds got wrote last state = go (is_d
     walked_none : IsWalked (put c.readers n Done) (n / BLOCK_SLOTS) 0
     walked_none = (ap (put c.readers n Done) item ∙ put_same c.readers n Done, λ j lt. absurd (omega arith))
 
-    go : (t : Bool) → is_done (c.readers (item_at (n / BLOCK_SLOTS) 0)) ≡ t → Good c (moves.reads c n (if t then walk_after who 0 else Walker who 0)) who ms (chain.Walking name 0) (Some x) Call.Pop (Effect.Take x ∷ []) (Answer.Found st)
+    go : (t : Bool) → is_done (c.readers (item_at (n / BLOCK_SLOTS) 0)) ≡ t → StepOk c (moves.reads c n (if t then walk_after who 0 else Walker who 0)) who ms (chain.Walking name 0) (Some x) Call.Pop (Effect.Take x ∷ []) (Answer.Found st)
     go true t =
         let first_done : put c.readers n Done (item_at (n / BLOCK_SLOTS) 0) ≡ Done =
         put_ok c.readers n (item_at (n / BLOCK_SLOTS) 0) Done (λ k r. c.readers k ≡ Done → r ≡ Done) (λ e. refl) (λ ne e. e) (done_is (c.readers (item_at (n / BLOCK_SLOTS) 0)) t) in

@@ -4,7 +4,7 @@ use Rattle.law_common.specs.Vocabulary.{Effect, Answer, PushKind, LIMIT, BLOCK_S
 use Rattle.queue_steps.specs.State.{State}
 use Rattle.queue_steps.specs.ChainWords.{offset_of}
 use Rattle.queue_steps.specs.declared.steps.unbounded.UnboundedLocal.TheVariants as chain
-use Rattle.law_chain.proofs.ChainGood.{Goes, Good, still, silent, spare_gives}
+use Rattle.law_chain.proofs.ChainStepOk.{NextOk, StepOk, still, silent, spare_gives}
 use Rattle.std.proofs.Common.{ℕ, ◌+◌, ◌-◌, ◌/◌, ◌<◌, ◌≤◌, ◌≡◌, ◌≢◌, ◌==◌, ◌⊎◌, inl, inr, zero, suc, Bool, true, false, Option, Some, None, IsSome, List, [], ◌∷◌, refl, sym, ap, subst, arith, ◌∙◌}
 use Rattle.queue_steps.specs.Words.{IsWord}
 use Rattle.queue_steps.specs.UnboundedNext.{lays, writes}
@@ -12,7 +12,7 @@ use Rattle.law_common.proofs.Puts.{put_ok, put_same}
 use Rattle.law_common.proofs.Tails.{shut_tail}
 use Rattle.law_common.specs.Pushes.{pushes}
 use Rattle.law_common.proofs.Pushes.{closed_push, appended_push}
-use Rattle.law_chain.specs.ChainCells.{Writing, Rests, Laying, Opening, LinkState, Unlinked, Linking, Showing, Spare, Chain, queue_of, BlocksOk, LinkOk, ChainOk, Write, Tail, Next, First, mover_of, Holds, Nothing}
+use Rattle.law_chain.specs.ChainCells.{Writing, Rests, Laying, Opening, LinkState, Unlinked, Linking, Showing, Spare, Chain, queue_of, BlocksOk, LinkOk, ChainOk, Write, Tail, Next, First, mover_of, HoldsOnly, Nothing}
 use Rattle.law_chain.specs.ChainTransitions as moves
 use Rattle.law_chain.proofs.ChainTransitions.{append_ok, append_within, append_last, install_ok, display_ok, lay_ok, open_ok, chain_ok, write_ok, mark_ok}
 use Rattle.law_chain.specs.ChainPasses.{Passes}
@@ -33,10 +33,10 @@ first_named c who f none = (omega arith, sym (put_ok c.names c.blocks 0 f (λ j 
 
 -- U4: the first block is installed
 pub good_installing : {A : Type 0} (c : Chain A) (who : ℕ) (ms : List (State A)) (d : PushKind) (v : A) (f : ℕ)
-    → ChainOk c → Holds c who Nothing → SawTail c 0 ms → c.uses f ≡ Spare who → Good c (if_installed c who f c.blocks) who ms (chain.Installing d (open_tail_of 0) f) (Some v) (pushes d v) [] (Answer.Linked (last_of c.names c.blocks))
+    → ChainOk c → HoldsOnly c who Nothing → SawTail c 0 ms → c.uses f ≡ Spare who → StepOk c (if_installed c who f c.blocks) who ms (chain.Installing d (open_tail_of 0) f) (Some v) (pushes d v) [] (Answer.Linked (last_of c.names c.blocks))
 good_installing {A} c who ms d v f ok none saw fresh = go c.blocks refl
   where
-    go : (n : ℕ) → c.blocks ≡ n → Good c (if_installed c who f n) who ms (chain.Installing d (open_tail_of 0) f) (Some v) (pushes d v) [] (Answer.Linked (last_of c.names n))
+    go : (n : ℕ) → c.blocks ≡ n → StepOk c (if_installed c who f n) who ms (chain.Installing d (open_tail_of 0) f) (Some v) (pushes d v) [] (Answer.Linked (last_of c.names n))
     go zero e =
         silent c (moves.installed c who f) who ms (chain.Installing d (open_tail_of 0) f) (Some v) (pushes d v) [] (Answer.Linked None) refl (install_ok c who f ok e fresh) refl (passes_installed c who f ok e fresh) tt
         (showing d v f (after_install c who f none) (record { below = saw.below; is = saw.is; moment = inr saw.moment }) refl (first_named c who f e))
@@ -45,28 +45,28 @@ good_installing {A} c who ms d v f ok none saw fresh = go c.blocks refl
 
 -- U4b: the first block is shown to the poppers
 pub good_showing : {A : Type 0} (c : Chain A) (who : ℕ) (ms : List (State A)) (d : PushKind) (v : A) (name : ℕ)
-    → ChainOk c → Holds c who (Only First) → SawTail c 0 ms → c.shown ≡ Showing who → IsNamed c 0 name → Good c (moves.displayed c) who ms (chain.Showing d (open_tail_of 0) name) (Some v) (pushes d v) [] Answer.Done
+    → ChainOk c → HoldsOnly c who (Only First) → SawTail c 0 ms → c.shown ≡ Showing who → IsNamed c 0 name → StepOk c (moves.displayed c) who ms (chain.Showing d (open_tail_of 0) name) (Some v) (pushes d v) [] Answer.Done
 good_showing c who ms d v name ok first saw is named =
     silent c (moves.displayed c) who ms (chain.Showing d (open_tail_of 0) name) (Some v) (pushes d v) [] Answer.Done refl (display_ok c who ok is) refl (passes_displayed c who is) (open_small c 0 ms saw)
     (claiming d v 0 name None (after_display c who first) tt (record { below = saw.below; is = saw.is; moment = inr saw.moment }) (inr named) (λ last. absurd (omega arith)))
 
 -- U5: the tail is exchanged, by which an item is appended
 pub good_claiming : {A : Type 0} (c : Chain A) (who : ℕ) (ms : List (State A)) (d : PushKind) (v : A) (q name : ℕ) (spare : Option ℕ)
-    → ChainOk c → Holds c who Nothing → HasSpare c who spare → SawTail c q ms → TailBlockIs c q name → (IsLast q → IsSome spare)
-    → Good c (if_claimed c who q v) who ms (chain.Claiming d (open_tail_of q) name spare) (Some v) (pushes d v) [] (Answer.Found (tail_word c))
+    → ChainOk c → HoldsOnly c who Nothing → HasSpare c who spare → SawTail c q ms → TailBlockIs c q name → (IsLast q → IsSome spare)
+    → StepOk c (if_claimed c who q v) who ms (chain.Claiming d (open_tail_of q) name spare) (Some v) (pushes d v) [] (Answer.Found (tail_word c))
 good_claiming {A} c who ms d v q name spare ok none spare_is saw block enough = go (eqb_tells (tail_word c) (open_tail_of q))
   where
     fits : IsWord (tail_word c) × (tail_word c ≡ open_tail_of q → offset_of (open_tail_of q) + 1 ≡ BLOCK_SLOTS → IsSome spare)
     fits = (tail_small c ok, λ e last. enough (omega arith))
 
     go : (((tail_word c == open_tail_of q) ≡ true) × (tail_word c ≡ open_tail_of q)) ⊎ (((tail_word c == open_tail_of q) ≡ false) × (tail_word c ≢ open_tail_of q))
-        → Good c (if_claimed c who q v) who ms (chain.Claiming d (open_tail_of q) name spare) (Some v) (pushes d v) [] (Answer.Found (tail_word c))
+        → StepOk c (if_claimed c who q v) who ms (chain.Claiming d (open_tail_of q) name spare) (Some v) (pushes d v) [] (Answer.Found (tail_word c))
     go (inr e) =
-        subst (λ b. Good c (claimed_if c who v b (offset_of (open_tail_of q) + 1 == BLOCK_SLOTS)) who ms (chain.Claiming d (open_tail_of q) name spare) (Some v) (pushes d v) [] (Answer.Found (tail_word c))) (sym e.0)
+        subst (λ b. StepOk c (claimed_if c who v b (offset_of (open_tail_of q) + 1 == BLOCK_SLOTS)) who ms (chain.Claiming d (open_tail_of q) name spare) (Some v) (pushes d v) [] (Answer.Found (tail_word c))) (sym e.0)
         (still c who ms (chain.Claiming d (open_tail_of q) name spare) (Some v) (pushes d v) [] (Answer.Found (tail_word c)) (rw e.0 refl) ok fits
         (rw e.0 (tail_goes c who ms d v spare ok none spare_is)))
     go (inl e) =
-        subst (λ b. Good c (claimed_if c who v b (offset_of (open_tail_of q) + 1 == BLOCK_SLOTS)) who ms (chain.Claiming d (open_tail_of q) name spare) (Some v) (pushes d v) [] (Answer.Found (tail_word c))) (sym e.0)
+        subst (λ b. StepOk c (claimed_if c who v b (offset_of (open_tail_of q) + 1 == BLOCK_SLOTS)) who ms (chain.Claiming d (open_tail_of q) name spare) (Some v) (pushes d v) [] (Answer.Found (tail_word c))) (sym e.0)
         (at_end (eqb_tells (offset_of (open_tail_of q) + 1) BLOCK_SLOTS))
       where
         same : (c.closed ≡ false) × (c.tail ≡ q) × (c.mover ≡ Rests)
@@ -85,17 +85,17 @@ good_claiming {A} c who ms d v q name spare ok none spare_is saw block enough = 
         some = let lt = named.0 in omega arith
 
         at_end : (((offset_of (open_tail_of q) + 1 == BLOCK_SLOTS) ≡ true) × (offset_of (open_tail_of q) + 1 ≡ BLOCK_SLOTS)) ⊎ (((offset_of (open_tail_of q) + 1 == BLOCK_SLOTS) ≡ false) × (offset_of (open_tail_of q) + 1 ≢ BLOCK_SLOTS))
-            → Good c (claimed_if c who v true (offset_of (open_tail_of q) + 1 == BLOCK_SLOTS)) who ms (chain.Claiming d (open_tail_of q) name spare) (Some v) (pushes d v) [] (Answer.Found (tail_word c))
+            → StepOk c (claimed_if c who v true (offset_of (open_tail_of q) + 1 == BLOCK_SLOTS)) who ms (chain.Claiming d (open_tail_of q) name spare) (Some v) (pushes d v) [] (Answer.Found (tail_word c))
         at_end (inr t) =
             let good = append_ok c who v Rests ok same.0 low (append_within c.tail c.blocks some resting (λ z. t.1 (let at = same.1 in omega arith))) (λ p e. cc) in
-            subst (λ b. Good c (claimed_if c who v true b) who ms (chain.Claiming d (open_tail_of q) name spare) (Some v) (pushes d v) [] (Answer.Found (tail_word c))) (sym t.0) (record {
+            subst (λ b. StepOk c (claimed_if c who v true b) who ms (chain.Claiming d (open_tail_of q) name spare) (Some v) (pushes d v) [] (Answer.Found (tail_word c))) (sym t.0) (record {
               e = Some (Effect.Append v);
               told = rw e.0 (v, refl);
               goes_on = fits;
               ok = good.1;
               makes = (good.0, refl);
               passes = passes_appended c who v Rests ok same.2 (inl refl);
-              goes = rw (e.0, t.0) (subst (λ n. Goes (moves.appended c who v Rests) who (queue_of (moves.appended c who v Rests) ∷ ms) (writes d (open_tail_of n) name spare) (Some v) (pushes d v) (Effect.Append v ∷ [])) same.1
+              goes = rw (e.0, t.0) (subst (λ n. NextOk (moves.appended c who v Rests) who (queue_of (moves.appended c who v Rests) ∷ ms) (writes d (open_tail_of n) name spare) (Some v) (pushes d v) (Effect.Append v ∷ [])) same.1
                   (writing d v c.tail name spare (after_append c who v none) (record { mine = put_same c.writers c.tail (Writing who v); named = named }) (has spare spare_is)));
             })
           where
@@ -104,7 +104,7 @@ good_claiming {A} c who ms d v q name spare ok none spare_is saw block enough = 
             has (Some f) h = h
         at_end (inl t) =
             let good = append_ok c who v (Laying who) ok same.0 low (append_last c.tail c.blocks who some resting (let at = same.1 in omega arith)) (λ p e. cc) in
-            subst (λ b. Good c (claimed_if c who v true b) who ms (chain.Claiming d (open_tail_of q) name spare) (Some v) (pushes d v) [] (Answer.Found (tail_word c))) (sym t.0) (record {
+            subst (λ b. StepOk c (claimed_if c who v true b) who ms (chain.Claiming d (open_tail_of q) name spare) (Some v) (pushes d v) [] (Answer.Found (tail_word c))) (sym t.0) (record {
               e = Some (Effect.Append v);
               told = rw e.0 (v, refl);
               goes_on = fits;
@@ -114,16 +114,16 @@ good_claiming {A} c who ms d v q name spare ok none spare_is saw block enough = 
               goes = rw (e.0, t.0) (with_spare spare spare_is (enough (omega (arith, t.1))));
             })
           where
-            with_spare : (x : Option ℕ) → HasSpare c who x → IsSome x → Goes (moves.appended c who v (Laying who)) who (queue_of (moves.appended c who v (Laying who)) ∷ ms) (lays d (open_tail_of q) name x) (Some v) (pushes d v) (Effect.Append v ∷ [])
+            with_spare : (x : Option ℕ) → HasSpare c who x → IsSome x → NextOk (moves.appended c who v (Laying who)) who (queue_of (moves.appended c who v (Laying who)) ∷ ms) (lays d (open_tail_of q) name x) (Some v) (pushes d v) (Effect.Append v ∷ [])
             with_spare None h is = cc
             with_spare (Some f) h is =
-                subst (λ n. Goes (moves.appended c who v (Laying who)) who (queue_of (moves.appended c who v (Laying who)) ∷ ms) (lays d (open_tail_of n) name (Some f)) (Some v) (pushes d v) (Effect.Append v ∷ [])) same.1
+                subst (λ n. NextOk (moves.appended c who v (Laying who)) who (queue_of (moves.appended c who v (Laying who)) ∷ ms) (lays d (open_tail_of n) name (Some f)) (Some v) (pushes d v) (Effect.Append v ∷ [])) same.1
                 (laying d v c.tail name f (after_append_last c who v none) (record { mine = put_same c.writers c.tail (Writing who v); named = named }) (refl, refl) h.0)
 
 -- U6: the spare becomes the pushers' block
 pub good_laying : {A : Type 0} (c : Chain A) (who : ℕ) (ms : List (State A)) (d : PushKind) (v : A) (n name f : ℕ)
-    → ChainOk c → Holds c who (Either (Write n) Tail) → Claimed c who n v name → (c.mover ≡ Laying who) × (c.tail ≡ n + 1) → c.uses f ≡ Spare who
-    → Good c (moves.laid_out c who f) who ms (chain.Laying d (open_tail_of n) name f) (Some v) (pushes d v) (Effect.Append v ∷ []) Answer.Done
+    → ChainOk c → HoldsOnly c who (Either (Write n) Tail) → Claimed c who n v name → (c.mover ≡ Laying who) × (c.tail ≡ n + 1) → c.uses f ≡ Spare who
+    → StepOk c (moves.laid_out c who f) who ms (chain.Laying d (open_tail_of n) name f) (Some v) (pushes d v) (Effect.Append v ∷ []) Answer.Done
 good_laying {A} c who ms d v n name f ok holds mine lays_it fresh =
     silent c (moves.laid_out c who f) who ms (chain.Laying d (open_tail_of n) name f) (Some v) (pushes d v) (Effect.Append v ∷ []) Answer.Done refl (lay_ok c who f ok lays_it.0 fresh) refl pass tt
     (opening d v n name f (after_lay c who f n (n / BLOCK_SLOTS) at holds) (record { mine = mine.mine; named = named_stays who (n / BLOCK_SLOTS) name pass mine.named }) (refl, lays_it.1)
@@ -154,23 +154,23 @@ good_laying {A} c who ms d v n name f ok holds mine lays_it fresh =
 
 -- U7: the tail moves on to the next block
 pub good_opening : {A : Type 0} (c : Chain A) (who : ℕ) (ms : List (State A)) (d : PushKind) (v : A) (n name f : ℕ)
-    → ChainOk c → Holds c who (λ x. (x ≡ Write n) ⊎ (x ≡ Tail) ⊎ (x ≡ Next (n / BLOCK_SLOTS))) → Claimed c who n v name → (c.mover ≡ Opening who) × (c.tail ≡ n + 1)
-    → c.links (n / BLOCK_SLOTS) ≡ Linking who → IsNamed c (n / BLOCK_SLOTS + 1) f → Good c (moves.opened c) who ms (chain.Opening d (open_tail_of n) name f) (Some v) (pushes d v) (Effect.Append v ∷ []) (Answer.Found (tail_word c))
+    → ChainOk c → HoldsOnly c who (λ x. (x ≡ Write n) ⊎ (x ≡ Tail) ⊎ (x ≡ Next (n / BLOCK_SLOTS))) → Claimed c who n v name → (c.mover ≡ Opening who) × (c.tail ≡ n + 1)
+    → c.links (n / BLOCK_SLOTS) ≡ Linking who → IsNamed c (n / BLOCK_SLOTS + 1) f → StepOk c (moves.opened c) who ms (chain.Opening d (open_tail_of n) name f) (Some v) (pushes d v) (Effect.Append v ∷ []) (Answer.Found (tail_word c))
 good_opening c who ms d v n name f ok holds mine opens links named =
     silent c (moves.opened c) who ms (chain.Opening d (open_tail_of n) name f) (Some v) (pushes d v) (Effect.Append v ∷ []) (Answer.Found (tail_word c)) refl (open_ok c who ok opens.0) refl (passes_opened c who opens.0) tt
     (chaining d v n name f (after_open c who n (n / BLOCK_SLOTS) holds) (record { mine = mine.mine; named = mine.named }) links named)
 
 -- U8: the block is linked to the next one
 pub good_chaining : {A : Type 0} (c : Chain A) (who : ℕ) (ms : List (State A)) (d : PushKind) (v : A) (n name f : ℕ)
-    → ChainOk c → Holds c who (Either (Write n) (Next (n / BLOCK_SLOTS))) → Claimed c who n v name
-    → c.links (n / BLOCK_SLOTS) ≡ Linking who → IsNamed c (n / BLOCK_SLOTS + 1) f → Good c (moves.chained c (n / BLOCK_SLOTS)) who ms (chain.Chaining d (open_tail_of n) name f) (Some v) (pushes d v) (Effect.Append v ∷ []) Answer.Done
+    → ChainOk c → HoldsOnly c who (Either (Write n) (Next (n / BLOCK_SLOTS))) → Claimed c who n v name
+    → c.links (n / BLOCK_SLOTS) ≡ Linking who → IsNamed c (n / BLOCK_SLOTS + 1) f → StepOk c (moves.chained c (n / BLOCK_SLOTS)) who ms (chain.Chaining d (open_tail_of n) name f) (Some v) (pushes d v) (Effect.Append v ∷ []) Answer.Done
 good_chaining c who ms d v n name f ok holds mine links named =
     silent c (moves.chained c (n / BLOCK_SLOTS)) who ms (chain.Chaining d (open_tail_of n) name f) (Some v) (pushes d v) (Effect.Append v ∷ []) Answer.Done refl (chain_ok c who (n / BLOCK_SLOTS) ok links (λ e. elim (holds Tail (ap mover_of e)) [ inl z ↦ absurd (cc) | inr z ↦ absurd (cc) ])) refl (passes_chained c who (n / BLOCK_SLOTS) links) tt
     (writing d v n name None (after_chain c who n (n / BLOCK_SLOTS) holds) (record { mine = mine.mine; named = mine.named }) tt)
 
 -- U9: the item is written into its slot
 pub good_writing : {A : Type 0} (c : Chain A) (who : ℕ) (ms : List (State A)) (d : PushKind) (v : A) (n name : ℕ) (spare : Option ℕ) (x : ℕ)
-    → ChainOk c → Holds c who (Only (Write n)) → Claimed c who n v name → HasSpare c who spare → Good c (moves.written c n v) who ms (chain.Writing d spare) None (pushes d v) (Effect.Append v ∷ []) (Answer.Found x)
+    → ChainOk c → HoldsOnly c who (Only (Write n)) → Claimed c who n v name → HasSpare c who spare → StepOk c (moves.written c n v) who ms (chain.Writing d spare) None (pushes d v) (Effect.Append v ∷ []) (Answer.Found x)
 good_writing {A} c who ms d v n name spare x ok holds mine spare_is =
     silent c (moves.written c n v) who ms (chain.Writing d spare) None (pushes d v) (Effect.Append v ∷ []) (Answer.Found x) refl (write_ok c who n v ok mine.mine) refl (passes_written c who n v mine.mine) tt
     (after_write c who n v holds, spare_gives (moves.written c n v) who spare (has spare spare_is), ((appended_push d v).0, (appended_push d v).1, (appended_push d v).2, λ e. cc))
@@ -181,14 +181,14 @@ good_writing {A} c who ms d v n name spare x ok holds mine spare_is =
 
 -- US: the mark of a queue that has accepted all that it ever will
 pub good_spending : {A : Type 0} (c : Chain A) (who : ℕ) (ms : List (State A)) (d : PushKind) (v : A) (spare : Option ℕ)
-    → ChainOk c → Holds c who Nothing → HasSpare c who spare → LIMIT ≤ c.tail → Good c (moves.marked c) who ms (chain.ClosingAtLimit d spare) (Some v) (pushes d v) [] (Answer.Found (tail_word c))
+    → ChainOk c → HoldsOnly c who Nothing → HasSpare c who spare → LIMIT ≤ c.tail → StepOk c (moves.marked c) who ms (chain.ClosingAtLimit d spare) (Some v) (pushes d v) [] (Answer.Found (tail_word c))
 good_spending {A} c who ms d v spare ok none spare_is spent = go c.closed refl
   where
     has : (x : Option ℕ) → HasSpare c who x → HasSpare (moves.marked c) who x
     has None h = tt
     has (Some f) h = h
 
-    go : (b : Bool) → c.closed ≡ b → Good c (moves.marked c) who ms (chain.ClosingAtLimit d spare) (Some v) (pushes d v) [] (Answer.Found (tail_word c))
+    go : (b : Bool) → c.closed ≡ b → StepOk c (moves.marked c) who ms (chain.ClosingAtLimit d spare) (Some v) (pushes d v) [] (Answer.Found (tail_word c))
     go true shut = record {
       e = None;
       told = rw (shut_tail (tail_place c.tail c.mover) c.closed ∙ shut) refl;

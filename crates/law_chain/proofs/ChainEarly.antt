@@ -5,18 +5,18 @@ use Rattle.queue_steps.specs.Kinds.{call_value}
 use Rattle.law_common.specs.Vocabulary.{PushKind}
 use Rattle.law_common.specs.Pushes.{pushes}
 use Rattle.law_common.specs.Stand.{Stand}
-use Rattle.law_chain.specs.ChainCells.{Chain, Holds, Nothing}
+use Rattle.law_chain.specs.ChainCells.{Chain, HoldsOnly, Nothing}
 use Rattle.law_chain.specs.ChainPasses.{spare_in}
 use Rattle.law_chain.specs.ChainEarly.{IsEarly, IsBound, IsPush}
 use Rattle.law_chain.specs.ChainAt.{At, push_tail, push_block, asking, installing, showing, claiming, laying, opening, chaining, writing, spending, pop_head, pop_block, pop_tail, taking, len_tail, len_head, len_again, empty_head, empty_tail, closing, closed_tail}
-use Rattle.law_chain.proofs.ChainGood.{GivesUp, spare_gives}
+use Rattle.law_chain.proofs.ChainStepOk.{GivesUp, spare_gives}
 
 pushed : {A : Type 0} (d : PushKind) (v : A) → Some v ≡ call_value (pushes d v)
 pushed PushKind.Push v = refl
 pushed PushKind.Force v = refl
 
 pub early : {A : Type 0} {c : Chain A} {who : ℕ} {ms : List (State A)} {k : Stand A}
-    → IsEarly k.local → At c who ms k → (k.effects ≡ []) × Holds c who Nothing × GivesUp c who (spare_in k.local) × (k.carried ≡ call_value k.call)
+    → IsEarly k.local → At c who ms k → (k.effects ≡ []) × HoldsOnly c who Nothing × GivesUp c who (spare_in k.local) × (k.carried ≡ call_value k.call)
 early {c = c} {who = who} is (push_tail d v spare none has) = (refl, none, spare_gives c who spare has, pushed d v)
 early {c = c} {who = who} is (push_block d v spare q none has saw) = (refl, none, spare_gives c who spare has, pushed d v)
 early is (asking d v q block none saw asked) = (refl, none, tt, pushed d v)

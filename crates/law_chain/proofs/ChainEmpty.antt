@@ -10,11 +10,11 @@ use Rattle.queue_steps.specs.declared.steps.unbounded.UnboundedLocal.TheVariants
 use Rattle.law_common.proofs.Lists.{none_left}
 use Rattle.law_common.proofs.Tails.{position_tail, shut_tail}
 use Rattle.law_chain.specs.ChainFacts.{place, head_of, HeadIs, HeadBlockIs, HeadBlockRead}
-use Rattle.law_chain.specs.ChainCells.{Mover, Rests, Laying, Opening, Stands, Seen, Chain, queue_of, BlocksOk, FrontOk, ShownOk, ChainOk, Holds, Nothing}
+use Rattle.law_chain.specs.ChainCells.{Mover, Rests, Laying, Opening, Stands, Seen, Chain, queue_of, BlocksOk, FrontOk, ShownOk, ChainOk, HoldsOnly, Nothing}
 use Rattle.law_chain.specs.ChainAt.{pop_head, taking}
 use Rattle.law_chain.specs.ChainAnswers.{tail_word, tail_place}
 use Rattle.law_chain.proofs.ChainAnswers.{tail_items}
-use Rattle.law_chain.proofs.ChainGood.{Goes, Good, still}
+use Rattle.law_chain.proofs.ChainStepOk.{NextOk, StepOk, still}
 use Rattle.law_chain.proofs.ChainPop.{read_small, head_low}
 
 -- a tail at another position than the head that was read is beyond it
@@ -39,7 +39,7 @@ beyond {A} c n ok (inr (at_n, stands)) shown ne = go (eqb_tells c.tail n)
 
 -- V3: the tail is read after that head
 pub good_pop_tail : {A : Type 0} (c : Chain A) (who : ℕ) (ms : List (State A)) (n : ℕ) (block : Option ℕ)
-    → ChainOk c → Holds c who Nothing → HeadIs c n → HeadBlockRead c n block → Good c c who ms (chain.PopTail (head_of n false) block) None Call.Pop [] (Answer.Found (tail_word c))
+    → ChainOk c → HoldsOnly c who Nothing → HeadIs c n → HeadBlockRead c n block → StepOk c c who ms (chain.PopTail (head_of n false) block) None Call.Pop [] (Answer.Found (tail_word c))
 good_pop_tail {A} c who ms n block ok none is front =
     still c who ms (chain.PopTail (head_of n false) block) None Call.Pop [] (Answer.Found (tail_word c)) refl ok (read_small c n false ok is) (go block front (eqb_tells (position_of (tail_word c)) (position_of (head_of n false))))
   where
@@ -53,14 +53,14 @@ good_pop_tail {A} c who ms n block ok none is front =
         let count = ok.count in
         none_left c.items (omega arith)
 
-    ends_with : (b : Bool) → c.closed ≡ b → c.items ≡ [] → Goes c who (queue_of c ∷ ms) (ends (Reply.Pop (Err (if b then PopError.Closed else PopError.Empty)))) None Call.Pop []
+    ends_with : (b : Bool) → c.closed ≡ b → c.items ≡ [] → NextOk c who (queue_of c ∷ ms) (ends (Reply.Pop (Err (if b then PopError.Closed else PopError.Empty)))) None Call.Pop []
     ends_with true shut e = (none, tt, (Reply.Pop (Err PopError.Closed), refl, refl, λ z. inl (inl (e, refl, shut))))
     ends_with false opened e = (none, tt, (Reply.Pop (Err PopError.Empty), refl, refl, λ z. inl (inl (e, refl, opened))))
 
     on : (name : ℕ) → HeadBlockIs c n name → position_of (tail_word c) ≢ position_of (head_of n false)
         → (((block_at (position_of (tail_word c)) == block_at (position_of (head_of n false))) ≡ true) × (block_at (position_of (tail_word c)) ≡ block_at (position_of (head_of n false))))
         ⊎ (((block_at (position_of (tail_word c)) == block_at (position_of (head_of n false))) ≡ false) × (block_at (position_of (tail_word c)) ≢ block_at (position_of (head_of n false))))
-        → ((position_of (tail_word c) == position_of (head_of n false)) ≡ false) → Goes c who (queue_of c ∷ ms) (unbounded_next (chain.PopTail (head_of n false) (Some name)) (Answer.Found (tail_word c))) None Call.Pop []
+        → ((position_of (tail_word c) == position_of (head_of n false)) ≡ false) → NextOk c who (queue_of c ∷ ms) (unbounded_next (chain.PopTail (head_of n false) (Some name)) (Answer.Found (tail_word c))) None Call.Pop []
     on name named ne (inl b) test =
         rw (test, b.0) (taking n name (head_of n false + TAIL_STEP) false false none is named (beyond c n ok is named.0 (λ z. ne (z ∙ sym at_place))) (omega arith) (λ z. cc))
     on name named ne (inr b) test =
@@ -70,7 +70,7 @@ good_pop_tail {A} c who ms n block ok none is front =
         rw (test, b.0) (taking n name (head_of n false + TAIL_STEP + 1) false true none is named lt (omega arith) (λ z. (named.0, omega arith)))
 
     go : (block : Option ℕ) → HeadBlockRead c n block → (((position_of (tail_word c) == position_of (head_of n false)) ≡ true) × (position_of (tail_word c) ≡ position_of (head_of n false))) ⊎ (((position_of (tail_word c) == position_of (head_of n false)) ≡ false) × (position_of (tail_word c) ≢ position_of (head_of n false)))
-        → Goes c who (queue_of c ∷ ms) (unbounded_next (chain.PopTail (head_of n false) block) (Answer.Found (tail_word c))) None Call.Pop []
-    go x h (inl e) = rw e.0 (subst (λ b. Goes c who (queue_of c ∷ ms) (ends (Reply.Pop (Err (if b then PopError.Closed else PopError.Empty)))) None Call.Pop []) (sym (shut_tail (tail_place c.tail c.mover) c.closed)) (ends_with c.closed refl (empty e.1)))
+        → NextOk c who (queue_of c ∷ ms) (unbounded_next (chain.PopTail (head_of n false) block) (Answer.Found (tail_word c))) None Call.Pop []
+    go x h (inl e) = rw e.0 (subst (λ b. NextOk c who (queue_of c ∷ ms) (ends (Reply.Pop (Err (if b then PopError.Closed else PopError.Empty)))) None Call.Pop []) (sym (shut_tail (tail_place c.tail c.mover) c.closed)) (ends_with c.closed refl (empty e.1)))
     go None h (inr e) = rw e.0 (pop_head none)
     go (Some name) h (inr e) = on name h e.1 (eqb_tells (block_at (position_of (tail_word c))) (block_at (position_of (head_of n false)))) e.0

@@ -5,7 +5,7 @@ use Rattle.queue_steps.specs.State.{State}
 use Rattle.law_common.specs.Moments.{SeenIn, seen_by, HeadWas, HasItems}
 use Rattle.law_common.proofs.Moments.{seen_map, seen_later, seen_now, started_later}
 use Rattle.law_chain.specs.ChainFacts.{HeadIs, TailIs, IsNamed, TailBlockIs, HeadBlockIs, HeadBlockRead, IsMore, HasSpare, WasOpenAt, SawEmpty, SawTail, Claimed, Got}
-use Rattle.law_chain.specs.ChainCells.{Laying, Opening, Passing, Entering, Linking, Showing, Walker, Chain, queue_of, ChainOk, Part, Write, Read, Tail, Head, Next, First, Passed, Holds}
+use Rattle.law_chain.specs.ChainCells.{Laying, Opening, Passing, Entering, Linking, Showing, Walker, Chain, queue_of, ChainOk, Part, Write, Read, Tail, Head, Next, First, Passed, HoldsOnly}
 use Rattle.law_chain.specs.ChainPasses.{Passes}
 
 pub tail_grows : {A : Type 0} {r s : Chain A} (who : ℕ) → Passes who r s → r.tail ≤ s.tail
@@ -45,7 +45,7 @@ spare_stays who other None ne pass h = tt
 spare_stays who other (Some f) ne pass h = let g = pass.grows in (pass.spares f other ne h.0, (let some = h.1 in omega arith))
 
 -- what a party holds at most is not touched by another
-pub holds_stays : {A : Type 0} {r s : Chain A} (who other : ℕ) (P : Part → Type 0) → other ≢ who → Passes who r s → Holds r other P → Holds s other P
+pub holds_stays : {A : Type 0} {r s : Chain A} (who other : ℕ) (P : Part → Type 0) → other ≢ who → Passes who r s → HoldsOnly r other P → HoldsOnly s other P
 holds_stays who other P ne pass holds = λ x e. holds x (pass.owned x other ne e)
 
 pub saw_stays : {A : Type 0} {r s : Chain A} (who q : ℕ) (ms : List (State A)) (now : State A) → Passes who r s → SawTail r q ms → SawTail s q (seen_by now ms)

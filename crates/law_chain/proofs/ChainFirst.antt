@@ -1,6 +1,6 @@
 -- The chain before the first call: no item, and no block.
 use Rattle.std.proofs.Common.{ℕ, inl, false, None, [], refl, arith}
-use Rattle.law_chain.specs.ChainCells.{Free, Unread, Rests, Stands, Unlinked, Hidden, Before, Unused, Chain, ChainOk, Write, Holds, Nothing}
+use Rattle.law_chain.specs.ChainCells.{Free, Unread, Rests, Stands, Unlinked, Hidden, Before, Unused, Chain, ChainOk, Write, HoldsOnly, Nothing}
 use Rattle.law_chain.specs.ChainPasses.{Spares}
 
 -- nothing was accepted, and no name was given out
@@ -42,7 +42,7 @@ first_ok = record {
 }
 
 -- every party is idle
-pub first_idle : (A : Type 0) (who : ℕ) → Holds (first {A = A}) who Nothing
+pub first_idle : (A : Type 0) (who : ℕ) → HoldsOnly (first {A = A}) who Nothing
 first_idle A who (Write n) e = cc
 first_idle A who x e = cc
 

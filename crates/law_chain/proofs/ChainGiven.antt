@@ -3,12 +3,12 @@ use Rattle.std.proofs.Common.{ℕ, ◌≡◌, ◌≢◌, ◌∙◌, inl, inr, Op
 use Rattle.law_common.specs.Vocabulary.{Effect}
 use Rattle.law_common.proofs.Puts.{put_ok}
 use Rattle.law_common.specs.Effects.{Leads}
-use Rattle.law_chain.specs.ChainCells.{Use, Unused, Spare, Chained, Chain, queue_of, ChainOk, Part, Holds}
+use Rattle.law_chain.specs.ChainCells.{Use, Unused, Spare, Chained, Chain, queue_of, ChainOk, Part, HoldsOnly}
 use Rattle.law_chain.specs.ChainTransitions.{lost_of, given_up}
 use Rattle.law_chain.proofs.ChainTransitions.{rename_ok}
 use Rattle.law_chain.specs.ChainPasses.{Passes, Spares}
 use Rattle.law_chain.proofs.ChainPassesLaying.{owner_renamed, passes_renamed}
-use Rattle.law_chain.proofs.ChainGood.{GivesUp}
+use Rattle.law_chain.proofs.ChainStepOk.{GivesUp}
 
 pub spares_stay : {A : Type 0} {r s : Chain A} (who other : ℕ) (spare : Option ℕ) → other ≢ who → Passes who r s → Spares r other spare → Spares s other spare
 spares_stay who other spare ne pass only = λ f e. only f (pass.spared f other ne e)
@@ -39,7 +39,7 @@ makes_given r s None e h = h
 makes_given r s (Some f) None h = h
 makes_given r s (Some f) (Some e) h = h
 
-pub holds_given : {A : Type 0} (s : Chain A) (who : ℕ) (spare : Option ℕ) (P : Part → Type 0) → Holds s who P → Holds (given_up s spare) who P
+pub holds_given : {A : Type 0} (s : Chain A) (who : ℕ) (spare : Option ℕ) (P : Part → Type 0) → HoldsOnly s who P → HoldsOnly (given_up s spare) who P
 holds_given s who None P holds = holds
 holds_given s who (Some f) P holds = λ x e. holds x (sym (owner_renamed s f (lost_of (s.uses f)) x) ∙ e)
 

@@ -3,7 +3,7 @@ use Rattle.std.proofs.Common.{ℕ, ◌/◌, ◌≡◌, ◌≢◌, ◌∙◌, ◌
 use Rattle.law_common.specs.Vocabulary.{BLOCK_SLOTS}
 use Rattle.queue_steps.specs.State.{State}
 use Rattle.law_common.specs.Stand.{Stand}
-use Rattle.law_chain.specs.ChainCells.{Reading, Laying, Opening, Walker, Spare, Chain, Part, Write, Read, Tail, Head, Next, First, Passed, reader_of, mover_of, walker_of, Holds, Nothing}
+use Rattle.law_chain.specs.ChainCells.{Reading, Laying, Opening, Walker, Spare, Chain, Part, Write, Read, Tail, Head, Next, First, Passed, reader_of, mover_of, walker_of, HoldsOnly, Nothing}
 use Rattle.law_chain.specs.ChainAt.{Only, Either, At, push_tail, push_block, asking, installing, showing, claiming, laying, opening, chaining, writing, spending, pop_head, pop_block, pop_tail, taking, following, peeking, passing, entering, awaiting, reading, beginning, walking, destroying, len_tail, len_head, len_again, empty_head, empty_tail, closing, closed_tail}
 use Rattle.law_chain.specs.ChainPasses.{spare_in, Spares}
 
@@ -26,7 +26,7 @@ spare_hand None = Empty
 spare_hand (Some f) = OfSpare f
 
 -- a party that reads and walks nothing
-with_spare : {A : Type 0} (c : Chain A) (who : ℕ) (spare : Option ℕ) (P : Part → Type 0) → Holds c who P → ((n : ℕ) → P (Read n) → ⊥) → ((b : ℕ) → P (Passed b) → ⊥)
+with_spare : {A : Type 0} (c : Chain A) (who : ℕ) (spare : Option ℕ) (P : Part → Type 0) → HoldsOnly c who P → ((n : ℕ) → P (Read n) → ⊥) → ((b : ℕ) → P (Passed b) → ⊥)
     → (c.mover ≡ Laying who → (f : ℕ) × (c.uses f ≡ Spare who)) → Spares c who spare → (h : Hand) × InHand c who h
 with_spare c who spare P holds no_read no_walk lays only = (
   spare_hand spare,
@@ -39,7 +39,7 @@ with_spare c who spare P holds no_read no_walk lays only = (
 )
 
 -- a party that holds nothing
-pub idle_hand : {A : Type 0} (c : Chain A) (who : ℕ) → Holds c who Nothing → Spares c who None → InHand c who Empty
+pub idle_hand : {A : Type 0} (c : Chain A) (who : ℕ) → HoldsOnly c who Nothing → Spares c who None → InHand c who Empty
 idle_hand c who none only = record {
   spares = λ f e. ap spare_hand (only f e);
   reads = λ n e. absurd (none (Read n) (ap reader_of e));
@@ -47,11 +47,11 @@ idle_hand c who none only = record {
   lays = λ e. absurd (none Tail (ap mover_of e));
 }
 
-with_nothing : {A : Type 0} (c : Chain A) (who : ℕ) (spare : Option ℕ) → Holds c who Nothing → Spares c who spare → (h : Hand) × InHand c who h
+with_nothing : {A : Type 0} (c : Chain A) (who : ℕ) (spare : Option ℕ) → HoldsOnly c who Nothing → Spares c who spare → (h : Hand) × InHand c who h
 with_nothing c who spare none only = with_spare c who spare Nothing none (λ n z. z) (λ b z. z) (λ e. absurd (none Tail (ap mover_of e))) only
 
 -- a party that reads this item alone
-with_read : {A : Type 0} (c : Chain A) (who n : ℕ) (P : Part → Type 0) → Holds c who P → ((m : ℕ) → P (Read m) → m ≡ n) → ((b : ℕ) → P (Passed b) → ⊥) → (P Tail → ⊥) → Spares c who None → (h : Hand) × InHand c who h
+with_read : {A : Type 0} (c : Chain A) (who n : ℕ) (P : Part → Type 0) → HoldsOnly c who P → ((m : ℕ) → P (Read m) → m ≡ n) → ((b : ℕ) → P (Passed b) → ⊥) → (P Tail → ⊥) → Spares c who None → (h : Hand) × InHand c who h
 with_read c who n P holds this_read no_walk no_tail only = (
   OfBlock (n / BLOCK_SLOTS),
   record {
@@ -62,15 +62,15 @@ with_read c who n P holds this_read no_walk no_tail only = (
   },
 )
 
-only_read : {A : Type 0} (c : Chain A) (who n : ℕ) → Holds c who (Only (Read n)) → Spares c who None → (h : Hand) × InHand c who h
+only_read : {A : Type 0} (c : Chain A) (who n : ℕ) → HoldsOnly c who (Only (Read n)) → Spares c who None → (h : Hand) × InHand c who h
 only_read c who n holds only = with_read c who n (Only (Read n)) holds (λ m z. cc) (λ b z. cc) (λ z. cc) only
 
-read_and_head : {A : Type 0} (c : Chain A) (who n : ℕ) → Holds c who (Either (Read n) Head) → Spares c who None → (h : Hand) × InHand c who h
+read_and_head : {A : Type 0} (c : Chain A) (who n : ℕ) → HoldsOnly c who (Either (Read n) Head) → Spares c who None → (h : Hand) × InHand c who h
 read_and_head c who n holds only =
     with_read c who n (Either (Read n) Head) holds (λ m z. elim z [ inl e ↦ cc | inr e ↦ absurd (cc) ]) (λ b z. elim z [ inl e ↦ cc | inr e ↦ cc ]) (λ z. elim z [ inl e ↦ cc | inr e ↦ cc ]) only
 
 -- a party that walks over this block
-with_walk : {A : Type 0} (c : Chain A) (who b : ℕ) → Holds c who (Only (Passed b)) → Spares c who None → (h : Hand) × InHand c who h
+with_walk : {A : Type 0} (c : Chain A) (who b : ℕ) → HoldsOnly c who (Only (Passed b)) → Spares c who None → (h : Hand) × InHand c who h
 with_walk c who b holds only = (
   OfBlock b,
   record {

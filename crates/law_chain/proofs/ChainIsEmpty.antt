@@ -10,10 +10,10 @@ use Rattle.law_common.specs.Vocabulary.{Call, Reply, Answer, BLOCK_SLOTS}
 use Rattle.queue_steps.specs.declared.steps.unbounded.UnboundedLocal.TheVariants as chain
 use Rattle.law_common.proofs.Moments.{seen_map}
 use Rattle.law_chain.specs.ChainFacts.{place, SawEmpty}
-use Rattle.law_chain.specs.ChainCells.{Chain, queue_of, ChainOk, Holds, Nothing}
+use Rattle.law_chain.specs.ChainCells.{Chain, queue_of, ChainOk, HoldsOnly, Nothing}
 use Rattle.law_chain.specs.ChainAnswers.{tail_word}
 use Rattle.law_chain.proofs.ChainAnswers.{tail_items, tail_small}
-use Rattle.law_chain.proofs.ChainGood.{Goes, Good, still}
+use Rattle.law_chain.proofs.ChainStepOk.{NextOk, StepOk, still}
 
 -- a settled position is that of its items
 settled_place : (p : ℕ) → over_end p ≡ place (items_before p)
@@ -27,13 +27,13 @@ some_is : {A : Type 0} (xs : List A) → 0 < length xs → false ≡ is_empty xs
 some_is [] e = absurd (omega arith)
 some_is (x ∷ xs) e = refl
 
-pub good_empty_tail : {A : Type 0} (c : Chain A) (who : ℕ) (ms : List (State A)) (h : ℕ) → ChainOk c → Holds c who Nothing → IsWord h → SawEmpty (items_before (position_of h)) c ms
-    → Good c c who ms (chain.EmptyTail h) None Call.IsEmpty [] (Answer.Found (tail_word c))
+pub good_empty_tail : {A : Type 0} (c : Chain A) (who : ℕ) (ms : List (State A)) (h : ℕ) → ChainOk c → HoldsOnly c who Nothing → IsWord h → SawEmpty (items_before (position_of h)) c ms
+    → StepOk c c who ms (chain.EmptyTail h) None Call.IsEmpty [] (Answer.Found (tail_word c))
 good_empty_tail {A} c who ms h ok none small saw =
     still c who ms (chain.EmptyTail h) None Call.IsEmpty [] (Answer.Found (tail_word c)) refl ok (small, tail_small c ok) (go (eqb_tells (over_end (position_of (tail_word c))) (over_end (position_of h))))
   where
     go : (((over_end (position_of (tail_word c)) == over_end (position_of h)) ≡ true) × (over_end (position_of (tail_word c)) ≡ over_end (position_of h))) ⊎ (((over_end (position_of (tail_word c)) == over_end (position_of h)) ≡ false) × (over_end (position_of (tail_word c)) ≢ over_end (position_of h)))
-        → Goes c who (queue_of c ∷ ms) (unbounded_next (chain.EmptyTail h) (Answer.Found (tail_word c))) None Call.IsEmpty []
+        → NextOk c who (queue_of c ∷ ms) (unbounded_next (chain.EmptyTail h) (Answer.Found (tail_word c))) None Call.IsEmpty []
     go (inl e) =
         let same : place c.tail ≡ place (items_before (position_of h)) = ap place (sym (tail_items c ok)) ∙ (sym (settled_place (position_of (tail_word c))) ∙ (e.1 ∙ settled_place (position_of h))) in
         let low = saw.1 in

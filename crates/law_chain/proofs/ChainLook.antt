@@ -11,32 +11,32 @@ use Rattle.queue_steps.specs.declared.steps.unbounded.UnboundedLocal.TheVariants
 use Rattle.law_common.proofs.Tails.{shut_tail}
 use Rattle.law_common.specs.Moments.{SeenIn, HeadWas, HasItems}
 use Rattle.law_common.proofs.Moments.{seen_map}
-use Rattle.law_chain.specs.ChainCells.{Chain, queue_of, ChainOk, Holds, Nothing}
+use Rattle.law_chain.specs.ChainCells.{Chain, queue_of, ChainOk, HoldsOnly, Nothing}
 use Rattle.law_chain.specs.ChainTransitions as moves
 use Rattle.law_chain.proofs.ChainTransitions.{mark_ok}
 use Rattle.law_chain.proofs.ChainPasses.{passes_marked}
 use Rattle.law_chain.specs.ChainAt.{len_tail, len_head, len_again, empty_tail}
 use Rattle.law_chain.specs.ChainAnswers.{tail_word, tail_place, head_word}
 use Rattle.law_chain.proofs.ChainAnswers.{tail_items, tail_small, head_items, head_small}
-use Rattle.law_chain.proofs.ChainGood.{Goes, Good, still}
+use Rattle.law_chain.proofs.ChainStepOk.{NextOk, StepOk, still}
 
-pub good_closed_tail : {A : Type 0} (c : Chain A) (who : ℕ) (ms : List (State A)) → ChainOk c → Holds c who Nothing → Good c c who ms chain.ClosedTail None Call.IsClosed [] (Answer.Found (tail_word c))
+pub good_closed_tail : {A : Type 0} (c : Chain A) (who : ℕ) (ms : List (State A)) → ChainOk c → HoldsOnly c who Nothing → StepOk c c who ms chain.ClosedTail None Call.IsClosed [] (Answer.Found (tail_word c))
 good_closed_tail c who ms ok none =
     still c who ms chain.ClosedTail None Call.IsClosed [] (Answer.Found (tail_word c)) refl ok tt
     (none, tt, (Reply.IsClosed (is_shut (tail_word c)), refl, refl, λ e. inl (inl (shut_tail (tail_place c.tail c.mover) c.closed))))
 
-pub good_len_tail : {A : Type 0} (c : Chain A) (who : ℕ) (ms : List (State A)) → ChainOk c → Holds c who Nothing → Good c c who ms chain.LenTail None Call.Len [] (Answer.Found (tail_word c))
+pub good_len_tail : {A : Type 0} (c : Chain A) (who : ℕ) (ms : List (State A)) → ChainOk c → HoldsOnly c who Nothing → StepOk c c who ms chain.LenTail None Call.Len [] (Answer.Found (tail_word c))
 good_len_tail c who ms ok none =
     still c who ms chain.LenTail None Call.Len [] (Answer.Found (tail_word c)) refl ok tt (len_head (tail_word c) none (tail_small c ok) (let e = tail_items c ok in omega arith))
 
-pub good_len_head : {A : Type 0} (c : Chain A) (who : ℕ) (ms : List (State A)) (t : ℕ) → ChainOk c → Holds c who Nothing → IsWord t → items_before (position_of t) ≤ c.tail
-    → Good c c who ms (chain.LenHead t) None Call.Len [] (Answer.Found (head_word c))
+pub good_len_head : {A : Type 0} (c : Chain A) (who : ℕ) (ms : List (State A)) (t : ℕ) → ChainOk c → HoldsOnly c who Nothing → IsWord t → items_before (position_of t) ≤ c.tail
+    → StepOk c c who ms (chain.LenHead t) None Call.Len [] (Answer.Found (head_word c))
 good_len_head c who ms t ok none small low =
     still c who ms (chain.LenHead t) None Call.Len [] (Answer.Found (head_word c)) refl ok tt
     (len_again t (head_word c) none (small, head_small c ok) (inl (let e = head_items c ok in let n = ok.count in omega arith, low, omega arith)))
 
-pub good_len_again : {A : Type 0} (c : Chain A) (who : ℕ) (ms : List (State A)) (t h : ℕ) → ChainOk c → Holds c who Nothing → IsWord t × IsWord h → SeenIn ms (HeadWas (items_before (position_of h)) (items_before (position_of t)) c.tail)
-    → Good c c who ms (chain.LenAgain t h) None Call.Len [] (Answer.Found (tail_word c))
+pub good_len_again : {A : Type 0} (c : Chain A) (who : ℕ) (ms : List (State A)) (t h : ℕ) → ChainOk c → HoldsOnly c who Nothing → IsWord t × IsWord h → SeenIn ms (HeadWas (items_before (position_of h)) (items_before (position_of t)) c.tail)
+    → StepOk c c who ms (chain.LenAgain t h) None Call.Len [] (Answer.Found (tail_word c))
 good_len_again {A} c who ms t h ok none small seen =
     still c who ms (chain.LenAgain t h) None Call.Len [] (Answer.Found (tail_word c)) refl ok (small.0, small.1, λ e. below ms e seen) (go (eqb_tells (tail_word c) t))
   where
@@ -48,11 +48,11 @@ good_len_again {A} c who ms t h ok none small seen =
     below (m ∷ ms) e (inl p) = let z = at e in let a = p.0 in let b = p.2 in omega arith
     below (m ∷ ms) e (inr s) = below ms e s
 
-    go : (((tail_word c == t) ≡ true) × (tail_word c ≡ t)) ⊎ (((tail_word c == t) ≡ false) × (tail_word c ≢ t)) → Goes c who (queue_of c ∷ ms) (unbounded_next (chain.LenAgain t h) (Answer.Found (tail_word c))) None Call.Len []
+    go : (((tail_word c == t) ≡ true) × (tail_word c ≡ t)) ⊎ (((tail_word c == t) ≡ false) × (tail_word c ≢ t)) → NextOk c who (queue_of c ∷ ms) (unbounded_next (chain.LenAgain t h) (Answer.Found (tail_word c))) None Call.Len []
     go (inl e) = rw e.0 (none, tt, (Reply.Len (items_before (position_of t) - items_before (position_of h)), refl, refl, λ z. inr (seen_map ms (λ m p. inl (let y = at e.1 in let a = p.0 in let b = p.1 in let d = p.2 in omega arith)) seen)))
     go (inr e) = rw e.0 (len_tail none)
 
-pub good_empty_head : {A : Type 0} (c : Chain A) (who : ℕ) (ms : List (State A)) → ChainOk c → Holds c who Nothing → Good c c who ms chain.EmptyHead None Call.IsEmpty [] (Answer.Found (head_word c))
+pub good_empty_head : {A : Type 0} (c : Chain A) (who : ℕ) (ms : List (State A)) → ChainOk c → HoldsOnly c who Nothing → StepOk c c who ms chain.EmptyHead None Call.IsEmpty [] (Answer.Found (head_word c))
 good_empty_head {A} c who ms ok none =
     still c who ms chain.EmptyHead None Call.IsEmpty [] (Answer.Found (head_word c)) refl ok tt
     (empty_tail (head_word c) none (head_small c ok) (tt, (let e = head_items c ok in omega arith), (subst (λ n. SeenIn (queue_of c ∷ ms) HasItems ⊎ (c.tail ≡ n)) (sym (head_items c ok)) (go (eqb_tells (length c.items) 0)))))
@@ -61,10 +61,10 @@ good_empty_head {A} c who ms ok none =
     go (inl e) = inr (let n = ok.count in let z = e.1 in omega arith)
     go (inr e) = inl (inl (let z = e.1 in omega arith))
 
-pub good_closing : {A : Type 0} (c : Chain A) (who : ℕ) (ms : List (State A)) → ChainOk c → Holds c who Nothing → Good c (moves.marked c) who ms chain.Closing None Call.Close [] (Answer.Found (tail_word c))
+pub good_closing : {A : Type 0} (c : Chain A) (who : ℕ) (ms : List (State A)) → ChainOk c → HoldsOnly c who Nothing → StepOk c (moves.marked c) who ms chain.Closing None Call.Close [] (Answer.Found (tail_word c))
 good_closing {A} c who ms ok none = go c.closed refl
   where
-    go : (b : Bool) → c.closed ≡ b → Good c (moves.marked c) who ms chain.Closing None Call.Close [] (Answer.Found (tail_word c))
+    go : (b : Bool) → c.closed ≡ b → StepOk c (moves.marked c) who ms chain.Closing None Call.Close [] (Answer.Found (tail_word c))
     go true shut = record {
       e = None;
       told = rw (shut_tail (tail_place c.tail c.mover) c.closed ∙ shut) refl;

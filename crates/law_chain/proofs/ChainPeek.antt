@@ -3,11 +3,11 @@ use Rattle.std.proofs.Common.{ℕ, ◌+◌, ◌*◌, ◌/◌, ◌<◌, ◌≤◌
 use Rattle.law_common.specs.Vocabulary.{Call, Effect, Answer, BLOCK_SLOTS}
 use Rattle.queue_steps.specs.State.{State}
 use Rattle.queue_steps.specs.declared.steps.unbounded.UnboundedLocal.TheVariants as chain
-use Rattle.law_chain.specs.ChainCells.{Mover, Rests, Passing, LinkState, Linked, Chain, BlocksOk, LinkOk, FrontOk, ChainOk, Read, Head, Holds}
+use Rattle.law_chain.specs.ChainCells.{Mover, Rests, Passing, LinkState, Linked, Chain, BlocksOk, LinkOk, FrontOk, ChainOk, Read, Head, HoldsOnly}
 use Rattle.law_chain.specs.ChainFacts.{head_of, Got}
 use Rattle.law_chain.specs.ChainAt.{Either, IsBehind, passing}
 use Rattle.law_chain.specs.ChainAnswers.{linked_of}
-use Rattle.law_chain.proofs.ChainGood.{Good, still}
+use Rattle.law_chain.proofs.ChainStepOk.{StepOk, still}
 
 -- so many blocks hold so many items
 blocks_full : (tail blocks b : ℕ) (m : Mover) → BlocksOk tail blocks m → b + 1 < blocks → (b + 1) * BLOCK_SLOTS ≤ tail
@@ -17,14 +17,14 @@ blocks_full tail blocks b m h lt = let full = h.1 in omega arith
 
 -- V6: the link behind the next block is read
 pub good_peeking : {A : Type 0} (c : Chain A) (who : ℕ) (ms : List (State A)) (x : A) (n name after : ℕ) (more : Bool)
-    → ChainOk c → Holds c who (Either (Read n) Head) → Got c who n x name → (c.passer ≡ Passing who) × (c.head ≡ n + 1) → IsBehind c n after
-    → Good c c who ms (chain.Peeking (head_of n more) name after) None Call.Pop (Effect.Take x ∷ []) (Answer.Linked (linked_of (c.links (n / BLOCK_SLOTS + 1)) (c.names (n / BLOCK_SLOTS + 1 + 1))))
+    → ChainOk c → HoldsOnly c who (Either (Read n) Head) → Got c who n x name → (c.passer ≡ Passing who) × (c.head ≡ n + 1) → IsBehind c n after
+    → StepOk c c who ms (chain.Peeking (head_of n more) name after) None Call.Pop (Effect.Take x ∷ []) (Answer.Linked (linked_of (c.links (n / BLOCK_SLOTS + 1)) (c.names (n / BLOCK_SLOTS + 1 + 1))))
 good_peeking {A} c who ms x n name after more ok holds got pass behind = go (c.links (n / BLOCK_SLOTS + 1)) (ok.link (n / BLOCK_SLOTS + 1))
   where
     front : FrontOk c.head c.front (Passing who)
     front = subst (λ p. FrontOk c.head c.front p) pass.0 ok.fronted
 
-    go : (l : LinkState) → LinkOk c.blocks (n / BLOCK_SLOTS + 1) l → Good c c who ms (chain.Peeking (head_of n more) name after) None Call.Pop (Effect.Take x ∷ []) (Answer.Linked (linked_of l (c.names (n / BLOCK_SLOTS + 1 + 1))))
+    go : (l : LinkState) → LinkOk c.blocks (n / BLOCK_SLOTS + 1) l → StepOk c c who ms (chain.Peeking (head_of n more) name after) None Call.Pop (Effect.Take x ∷ []) (Answer.Linked (linked_of l (c.names (n / BLOCK_SLOTS + 1 + 1))))
     go Linked h =
         still c who ms (chain.Peeking (head_of n more) name after) None Call.Pop (Effect.Take x ∷ []) (Answer.Linked (Some (c.names (n / BLOCK_SLOTS + 1 + 1)))) refl ok tt
         (passing x n name after more true holds got pass behind (λ e. let full = blocks_full c.tail c.blocks (n / BLOCK_SLOTS + 1) c.mover ok.laid h in let f = front in let at = pass.1 in omega arith))

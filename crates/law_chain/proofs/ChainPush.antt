@@ -16,7 +16,7 @@ use Rattle.law_common.proofs.Moments.{seen_map}
 use Rattle.law_common.specs.Pushes.{pushes}
 use Rattle.law_common.proofs.Pushes.{closed_push}
 use Rattle.law_chain.specs.ChainFacts.{place, open_tail_of, TailIs, TailBlockIs, HasSpare, SawTail, WasOpenAt}
-use Rattle.law_chain.specs.ChainCells.{Rests, Spare, Unused, Chained, Chain, queue_of, BlocksOk, ChainOk, Holds, Nothing}
+use Rattle.law_chain.specs.ChainCells.{Rests, Spare, Unused, Chained, Chain, queue_of, BlocksOk, ChainOk, HoldsOnly, Nothing}
 use Rattle.law_chain.proofs.ChainTransitions.{no_block, rename_ok}
 use Rattle.law_chain.specs.ChainTransitions.{renamed}
 use Rattle.law_chain.proofs.ChainPasses.{passes_same}
@@ -24,7 +24,7 @@ use Rattle.law_chain.proofs.ChainPassesLaying.{passes_renamed}
 use Rattle.law_chain.specs.ChainAt.{IsLast, Asks, push_tail, push_block, asking, installing, claiming, spending}
 use Rattle.law_chain.specs.ChainAnswers.{tail_word, tail_place, last_of}
 use Rattle.law_chain.proofs.ChainAnswers.{tail_items, tail_small, tail_is_resting, resting_word}
-use Rattle.law_chain.proofs.ChainGood.{Goes, Good, still, silent, spare_gives}
+use Rattle.law_chain.proofs.ChainStepOk.{NextOk, StepOk, still, silent, spare_gives}
 
 refused_push : {A : Type 0} (d : PushKind) (v : A) → (y : Reply A) × (filled (gives_up d) (Some v) ≡ Some y) × Tells (pushes d v) y [] × ((m : State A) → MayAsk m → LacksMemory m (pushes d v) y)
 refused_push PushKind.Push v = (Reply.Push (Err (PushError.NoMemory v)), refl, (refl, refl), λ m may. (refl, may))
@@ -53,9 +53,9 @@ tail_ways d x spare P shut spent again on = at_mark (is_shut x) refl
 
 -- after a tail that a push found
 pub tail_goes : {A : Type 0} (c : Chain A) (who : ℕ) (ms : List (State A)) (d : PushKind) (v : A) (spare : Option ℕ)
-    → ChainOk c → Holds c who Nothing → HasSpare c who spare → Goes c who (queue_of c ∷ ms) (chain_tail_found d (tail_word c) spare) (Some v) (pushes d v) []
+    → ChainOk c → HoldsOnly c who Nothing → HasSpare c who spare → NextOk c who (queue_of c ∷ ms) (chain_tail_found d (tail_word c) spare) (Some v) (pushes d v) []
 tail_goes {A} c who ms d v spare ok none spare_is =
-    tail_ways d (tail_word c) spare (λ x. Goes c who (queue_of c ∷ ms) x (Some v) (pushes d v) [])
+    tail_ways d (tail_word c) spare (λ x. NextOk c who (queue_of c ∷ ms) x (Some v) (pushes d v) [])
     (λ shut. let y = closed_push d v in (none, spare_gives c who spare spare_is, (y.0, y.1, y.2, λ e. inl (inl (y.4 (queue_of c) (sym is ∙ shut))))))
     (λ opened spent. spending d v spare none spare_is (let at = tail_items c ok in omega arith))
     (λ over. push_tail d v spare none spare_is)
@@ -66,7 +66,7 @@ tail_goes {A} c who ms d v spare ok none spare_is =
     let unshut : c.closed ≡ false = sym is ∙ opened in
     let same : tail_word c ≡ open_tail_of c.tail = resting_word c rests ∙ ap (λ b. tail_of (place c.tail) b) unshut in
     let saw : SawTail c c.tail (queue_of c ∷ ms) = record { below = omega arith; is = inr (refl, rests); moment = inl (refl, unshut, refl) } in
-    subst (λ x. Goes c who (queue_of c ∷ ms) (at_block x) (Some v) (pushes d v) []) (sym same) (push_block d v spare c.tail none spare_is saw))
+    subst (λ x. NextOk c who (queue_of c ∷ ms) (at_block x) (Some v) (pushes d v) []) (sym same) (push_block d v spare c.tail none spare_is saw))
   where
     is : is_shut (tail_word c) ≡ c.closed
     is = shut_tail (tail_place c.tail c.mover) c.closed
@@ -75,7 +75,7 @@ tail_goes {A} c who ms d v spare ok none spare_is =
     at_block x = at (chain.PushBlock d x spare) Touch.Nothing (Op.LoadLink Link.TailBlock)
 
 pub good_push_tail : {A : Type 0} (c : Chain A) (who : ℕ) (ms : List (State A)) (d : PushKind) (v : A) (spare : Option ℕ)
-    → ChainOk c → Holds c who Nothing → HasSpare c who spare → Good c c who ms (chain.PushTail d spare) (Some v) (pushes d v) [] (Answer.Found (tail_word c))
+    → ChainOk c → HoldsOnly c who Nothing → HasSpare c who spare → StepOk c c who ms (chain.PushTail d spare) (Some v) (pushes d v) [] (Answer.Found (tail_word c))
 good_push_tail c who ms d v spare ok none spare_is =
     still c who ms (chain.PushTail d spare) (Some v) (pushes d v) [] (Answer.Found (tail_word c)) refl ok (tail_small c ok) (tail_goes c who ms d v spare ok none spare_is)
 
@@ -103,19 +103,19 @@ none_spare c who None none h = refl
 none_spare c who (Some f) none h = absurd (let some = h.1 in omega arith)
 
 pub good_push_block : {A : Type 0} (c : Chain A) (who : ℕ) (ms : List (State A)) (d : PushKind) (v : A) (spare : Option ℕ) (q : ℕ)
-    → ChainOk c → Holds c who Nothing → HasSpare c who spare → SawTail c q ms → Good c c who ms (chain.PushBlock d (open_tail_of q) spare) (Some v) (pushes d v) [] (Answer.Linked (last_of c.names c.blocks))
+    → ChainOk c → HoldsOnly c who Nothing → HasSpare c who spare → SawTail c q ms → StepOk c c who ms (chain.PushBlock d (open_tail_of q) spare) (Some v) (pushes d v) [] (Answer.Linked (last_of c.names c.blocks))
 good_push_block {A} c who ms d v spare q ok none spare_is saw = go c.blocks refl
   where
-    with_block : (b : ℕ) (x : Option ℕ) → HasSpare c who x → c.blocks ≡ suc b → Goes c who (queue_of c ∷ ms) (tail_block_found d (open_tail_of q) (Some (c.names b)) x) (Some v) (pushes d v) []
+    with_block : (b : ℕ) (x : Option ℕ) → HasSpare c who x → c.blocks ≡ suc b → NextOk c who (queue_of c ∷ ms) (tail_block_found d (open_tail_of q) (Some (c.names b)) x) (Some v) (pushes d v) []
     with_block b (Some f) has e = claiming d v q (c.names b) (Some f) none has (saw_own c q ms (queue_of c) saw) (last_named c q b ok saw.is e) (λ last. refl)
     with_block b None has e = at_end (eqb_tells (offset_of (open_tail_of q) + 1) BLOCK_SLOTS)
       where
         at_end : (((offset_of (open_tail_of q) + 1 == BLOCK_SLOTS) ≡ true) × (offset_of (open_tail_of q) + 1 ≡ BLOCK_SLOTS)) ⊎ (((offset_of (open_tail_of q) + 1 == BLOCK_SLOTS) ≡ false) × (offset_of (open_tail_of q) + 1 ≢ BLOCK_SLOTS))
-            → Goes c who (queue_of c ∷ ms) (tail_block_found d (open_tail_of q) (Some (c.names b)) None) (Some v) (pushes d v) []
+            → NextOk c who (queue_of c ∷ ms) (tail_block_found d (open_tail_of q) (Some (c.names b)) None) (Some v) (pushes d v) []
         at_end (inl t) = rw t.0 (asking d v q (Some (c.names b)) none (saw_own c q ms (queue_of c) saw) (let at = t.1 in omega arith, last_named c q b ok saw.is e))
         at_end (inr t) = rw t.0 (claiming d v q (c.names b) None none tt (saw_own c q ms (queue_of c) saw) (last_named c q b ok saw.is e) (λ last. absurd (t.1 (omega arith))))
 
-    go : (n : ℕ) → c.blocks ≡ n → Good c c who ms (chain.PushBlock d (open_tail_of q) spare) (Some v) (pushes d v) [] (Answer.Linked (last_of c.names n))
+    go : (n : ℕ) → c.blocks ≡ n → StepOk c c who ms (chain.PushBlock d (open_tail_of q) spare) (Some v) (pushes d v) [] (Answer.Linked (last_of c.names n))
     go zero e =
         let empty = no_block c ok e in
         let at : q ≡ 0 = elim saw.is [ inl lt ↦ absurd (let z = empty.1 in omega arith) | inr h ↦ (let z = empty.1 in let y = h.0 in omega arith) ] in
@@ -126,7 +126,7 @@ good_push_block {A} c who ms d v spare q ok none spare_is saw = go c.blocks refl
 
 -- U3, refused: one of the call's moments allows it
 pub good_refused : {A : Type 0} (c : Chain A) (who : ℕ) (ms : List (State A)) (d : PushKind) (v : A) (q : ℕ) (block : Option ℕ)
-    → ChainOk c → Holds c who Nothing → SawTail c q ms → Asks c q block → Good c c who ms (chain.Asking d (open_tail_of q) block) (Some v) (pushes d v) [] Answer.Refused
+    → ChainOk c → HoldsOnly c who Nothing → SawTail c q ms → Asks c q block → StepOk c c who ms (chain.Asking d (open_tail_of q) block) (Some v) (pushes d v) [] Answer.Refused
 good_refused {A} c who ms d v q block ok none saw asked =
     let y = refused_push d v in
     still c who ms (chain.Asking d (open_tail_of q) block) (Some v) (pushes d v) [] Answer.Refused refl ok tt
@@ -138,7 +138,7 @@ good_refused {A} c who ms d v q block ok none saw asked =
 
 -- U3, granted: a block that was nobody's is the call's
 pub good_granted : {A : Type 0} (c : Chain A) (who : ℕ) (ms : List (State A)) (d : PushKind) (v : A) (q : ℕ) (block : Option ℕ) (f : ℕ)
-    → ChainOk c → Holds c who Nothing → SawTail c q ms → Asks c q block → c.uses f ≡ Unused → Good c (renamed c f (Spare who)) who ms (chain.Asking d (open_tail_of q) block) (Some v) (pushes d v) [] (Answer.Granted f)
+    → ChainOk c → HoldsOnly c who Nothing → SawTail c q ms → Asks c q block → c.uses f ≡ Unused → StepOk c (renamed c f (Spare who)) who ms (chain.Asking d (open_tail_of q) block) (Some v) (pushes d v) [] (Answer.Granted f)
 good_granted {A} c who ms d v q block f ok none saw asked unused =
     silent c s who ms (chain.Asking d (open_tail_of q) block) (Some v) (pushes d v) [] (Answer.Granted f) refl ok2 refl
     (passes_renamed c who f (Spare who) (λ other ne e. let z : Unused ≡ Spare other = sym unused ∙ e in cc) (λ other ne e. ne (let z : Spare who ≡ Spare other = e in cc)) (passes_same c who)) (open_small c q ms saw) (go block asked)
@@ -159,6 +159,6 @@ good_granted {A} c who ms d v q block f ok none saw asked unused =
     some name (inl lt) last = elim (eqb_tells c.blocks 0) [ inl e ↦ absurd (let z = (no_block c ok e.1).1 in omega arith) | inr n ↦ let ne = n.1 in omega arith ]
     some name (inr named) last = let lt = named.0 in omega arith
 
-    go : (block : Option ℕ) → Asks c q block → Goes (renamed c f (Spare who)) who (queue_of c ∷ ms) (granted d (open_tail_of q) block f) (Some v) (pushes d v) []
-    go None h = subst (λ n. Goes (renamed c f (Spare who)) who (queue_of c ∷ ms) (granted d (open_tail_of n) None f) (Some v) (pushes d v) []) (sym h) (installing d v f none (subst (λ n. SawTail (renamed c f (Spare who)) n (queue_of c ∷ ms)) h saw2) fresh)
+    go : (block : Option ℕ) → Asks c q block → NextOk (renamed c f (Spare who)) who (queue_of c ∷ ms) (granted d (open_tail_of q) block f) (Some v) (pushes d v) []
+    go None h = subst (λ n. NextOk (renamed c f (Spare who)) who (queue_of c ∷ ms) (granted d (open_tail_of n) None f) (Some v) (pushes d v) []) (sym h) (installing d v f none (subst (λ n. SawTail (renamed c f (Spare who)) n (queue_of c ∷ ms)) h saw2) fresh)
     go (Some name) h = claiming d v q name (Some f) none (fresh, some name h.1 h.0) saw2 h.1 (λ last. refl)

@@ -5,7 +5,7 @@ use Rattle.std.proofs.lemmas.Bool.Decides.{eqb_tells}
 use Rattle.law_common.specs.Vocabulary.{Local, Next, BLOCK_SLOTS}
 use Rattle.queue_steps.specs.declared.steps.unbounded.UnboundedLocal.TheVariants as chain
 use Rattle.law_common.proofs.Ranks.{either_small, either_some}
-use Rattle.law_chain.specs.ChainCells.{Mover, Rests, Laying, Opening, Passer, Stands, Passing, Entering, Shown, Seen, Chain, LAST, Part, owner, mover_of, passer_of, Holds, Nothing}
+use Rattle.law_chain.specs.ChainCells.{Mover, Rests, Laying, Opening, Passer, Stands, Passing, Entering, Shown, Seen, Chain, LAST, Part, owner, mover_of, passer_of, HoldsOnly, Nothing}
 use Rattle.law_chain.specs.ChainAnswers.{tail_word, head_word}
 
 -- how many steps more are before a call that has read a word which is another one now
@@ -114,10 +114,10 @@ lag_none w n more m lt = let e : lag w w more ≡ 0 = ap (λ b. if b then 0 else
 
 -- no other party holds a part
 abbrev pub IsQuiet : {A : Type 0} → Chain A → ℕ → Type 0
-IsQuiet c who = (other : ℕ) → other ≢ who → Holds c other Nothing
+IsQuiet c who = (other : ℕ) → other ≢ who → HoldsOnly c other Nothing
 
 -- then a part that is not this party's is nobody's
-pub unowned : {A : Type 0} (c : Chain A) (who : ℕ) (P : Part → Type 0) (x : Part) → IsQuiet c who → Holds c who P → (P x → ⊥) → (p : ℕ) → owner c x ≢ Some p
+pub unowned : {A : Type 0} (c : Chain A) (who : ℕ) (P : Part → Type 0) (x : Part) → IsQuiet c who → HoldsOnly c who P → (P x → ⊥) → (p : ℕ) → owner c x ≢ Some p
 unowned c who P x quiet holds none p e = elim (eqb_tells p who) [
   | inl t ↦ none (holds x (e ∙ ap (λ q. Some q) t.1))
   | inr t ↦ quiet p t.1 x e

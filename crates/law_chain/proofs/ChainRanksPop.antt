@@ -10,7 +10,7 @@ use Rattle.queue_steps.specs.UnboundedNext.{chain_head_found, head_block_found, 
 use Rattle.law_common.proofs.Tails.{position_tail}
 use Rattle.law_chain.specs.ChainFacts.{place, head_of, HeadIs, IsMore}
 use Rattle.law_chain.proofs.ChainPlaces.{place_offset}
-use Rattle.law_chain.specs.ChainCells.{Writer, Free, Writing, Wrote, Reading, Rests, Stands, Passing, LinkState, Unlinked, Linking, Linked, Shown, Hidden, Showing, Seen, Chain, ItemOk, BlocksOk, LinkOk, FrontOk, ShownOk, ChainOk, Part, Head, linker_of, shower_of, writer_of, Holds}
+use Rattle.law_chain.specs.ChainCells.{Writer, Free, Writing, Wrote, Reading, Rests, Stands, Passing, LinkState, Unlinked, Linking, Linked, Shown, Hidden, Showing, Seen, Chain, ItemOk, BlocksOk, LinkOk, FrontOk, ShownOk, ChainOk, Part, Head, linker_of, shower_of, writer_of, HoldsOnly}
 use Rattle.law_chain.proofs.ChainTransitions.{no_block}
 use Rattle.law_chain.specs.ChainAnswers.{tail_word, head_word, shown_of, linked_of, is_wrote}
 use Rattle.law_chain.proofs.ChainAnswers.{resting_word, standing_word}
@@ -19,7 +19,7 @@ use Rattle.law_chain.proofs.ChainPop.{head_low}
 use Rattle.law_chain.proofs.ChainRanks.{lag, is_seen, tail_rank, Falls, lag_none, IsQuiet, unowned, stands_if}
 
 -- nobody moves the head
-pub stands : {A : Type 0} (c : Chain A) (who : ℕ) (P : Part → Type 0) → IsQuiet c who → Holds c who P → (P Head → ⊥) → c.passer ≡ Stands
+pub stands : {A : Type 0} (c : Chain A) (who : ℕ) (P : Part → Type 0) → IsQuiet c who → HoldsOnly c who P → (P Head → ⊥) → c.passer ≡ Stands
 stands c who P quiet holds none = stands_if c.passer (λ p e. unowned c who P Head quiet holds none p e)
 
 -- a head that stands has a slot

@@ -10,7 +10,7 @@ use Rattle.queue_steps.specs.declared.steps.unbounded.UnboundedLocal.TheVariants
 use Rattle.law_common.proofs.Tails.{position_tail}
 use Rattle.law_chain.specs.ChainFacts.{place}
 use Rattle.law_chain.proofs.ChainPlaces.{place_offset}
-use Rattle.law_chain.specs.ChainCells.{Rests, Spare, Chain, Part, Tail, Holds}
+use Rattle.law_chain.specs.ChainCells.{Rests, Spare, Chain, Part, Tail, HoldsOnly}
 use Rattle.law_chain.specs.ChainTransitions.{displayed, renamed}
 use Rattle.law_chain.specs.ChainAnswers.{tail_word, last_of}
 use Rattle.law_chain.proofs.ChainAnswers.{resting_word}
@@ -19,7 +19,7 @@ use Rattle.law_chain.proofs.ChainPush.{tail_ways}
 use Rattle.law_chain.proofs.ChainRanks.{lag, asking_rank, rank, Falls, lag_none, IsQuiet, unowned, rests_if}
 
 -- nobody moves the tail
-pub rests : {A : Type 0} (c : Chain A) (who : ℕ) (P : Part → Type 0) → IsQuiet c who → Holds c who P → (P Tail → ⊥) → c.mover ≡ Rests
+pub rests : {A : Type 0} (c : Chain A) (who : ℕ) (P : Part → Type 0) → IsQuiet c who → HoldsOnly c who P → (P Tail → ⊥) → c.mover ≡ Rests
 rests c who P quiet holds none = rests_if c.mover (λ p e. unowned c who P Tail quiet holds none p e)
 
 -- a tail that rests has a slot

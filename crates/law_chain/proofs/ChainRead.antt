@@ -3,9 +3,9 @@ use Rattle.law_common.specs.Vocabulary.{Call, Reply, Effect, Answer, BLOCK_SLOTS
 use Rattle.std.proofs.lemmas.Bool.Decides.{eqb_tells}
 use Rattle.queue_steps.specs.State.{State}
 use Rattle.queue_steps.specs.declared.steps.unbounded.UnboundedLocal.TheVariants as chain
-use Rattle.law_chain.proofs.ChainGood.{Goes, Good, still, silent}
+use Rattle.law_chain.proofs.ChainStepOk.{NextOk, StepOk, still, silent}
 use Rattle.std.proofs.Common.{ℕ, ◌+◌, ◌/◌, ◌%◌, ◌<◌, ◌≡◌, ◌≢◌, ◌==◌, not, ◌∙◌, ◌⊎◌, inl, inr, Bool, true, false, if◌then◌else◌, Some, None, Ok, List, [], ◌∷◌, refl, sym, ap, subst, arith, bit_and}
-use Rattle.law_chain.specs.ChainCells.{Writer, Wrote, Reading, Done, Walk, Waits, Chain, queue_of, value, WalkOk, item_at, LAST, ChainOk, Read, Passed, walker_of, Holds}
+use Rattle.law_chain.specs.ChainCells.{Writer, Wrote, Reading, Done, Walk, Waits, Chain, queue_of, value, WalkOk, item_at, LAST, ChainOk, Read, Passed, walker_of, HoldsOnly}
 use Rattle.law_chain.specs.ChainTransitions as moves
 use Rattle.law_chain.proofs.ChainReads.{read_ok, walk_read, own_item, walk_after_ok, walked_same}
 use Rattle.law_chain.specs.ChainTransitions.{walk_after}
@@ -28,19 +28,19 @@ wrote_is w x e t = cc
 
 -- V9: the slot's state is read, until its item is written
 pub good_awaiting : {A : Type 0} (c : Chain A) (who : ℕ) (ms : List (State A)) (x : A) (n name : ℕ) (more : Bool) (st : ℕ)
-    → ChainOk c → Holds c who (Only (Read n)) → Got c who n x name → IsState c (n / BLOCK_SLOTS) (n % BLOCK_SLOTS) st
-    → Good c c who ms (chain.Awaiting (head_of n more) name) None Call.Pop (Effect.Take x ∷ []) (Answer.Found st)
+    → ChainOk c → HoldsOnly c who (Only (Read n)) → Got c who n x name → IsState c (n / BLOCK_SLOTS) (n % BLOCK_SLOTS) st
+    → StepOk c c who ms (chain.Awaiting (head_of n more) name) None Call.Pop (Effect.Take x ∷ []) (Answer.Found st)
 good_awaiting {A} c who ms x n name more st ok holds got state = go (is_wrote (c.writers n)) refl
   where
     written : (bit_and st 1 == 0) ≡ not (is_wrote (c.writers n))
     written = state.written ∙ ap (λ m. not (is_wrote (c.writers m))) (own_item n)
 
     last : is_wrote (c.writers n) ≡ true → (((offset_of (head_of n more) + 1 == BLOCK_SLOTS) ≡ true) × (offset_of (head_of n more) + 1 ≡ BLOCK_SLOTS)) ⊎ (((offset_of (head_of n more) + 1 == BLOCK_SLOTS) ≡ false) × (offset_of (head_of n more) + 1 ≢ BLOCK_SLOTS))
-        → Goes c who (queue_of c ∷ ms) (written_found (head_of n more) name st) None Call.Pop (Effect.Take x ∷ [])
+        → NextOk c who (queue_of c ∷ ms) (written_found (head_of n more) name st) None Call.Pop (Effect.Take x ∷ [])
     last t (inl e) = rw (written ∙ ap not t, e.0) (beginning x n name more holds got (wrote_is (c.writers n) x got.item t) (let o = head_offset n more in let l = e.1 in omega arith))
     last t (inr e) = rw (written ∙ ap not t, e.0) (reading x n name more holds got (wrote_is (c.writers n) x got.item t) (λ l. e.1 (let o = head_offset n more in omega arith)))
 
-    go : (t : Bool) → is_wrote (c.writers n) ≡ t → Good c c who ms (chain.Awaiting (head_of n more) name) None Call.Pop (Effect.Take x ∷ []) (Answer.Found st)
+    go : (t : Bool) → is_wrote (c.writers n) ≡ t → StepOk c c who ms (chain.Awaiting (head_of n more) name) None Call.Pop (Effect.Take x ∷ []) (Answer.Found st)
     go false t = still c who ms (chain.Awaiting (head_of n more) name) None Call.Pop (Effect.Take x ∷ []) (Answer.Found st) refl ok tt (rw (written ∙ ap not t) (awaiting x n name more holds got))
     go true t = still c who ms (chain.Awaiting (head_of n more) name) None Call.Pop (Effect.Take x ∷ []) (Answer.Found st) refl ok tt (last t (eqb_tells (offset_of (head_of n more) + 1) BLOCK_SLOTS))
 
@@ -54,8 +54,8 @@ not_waits w slot i e is same = let z : waits_at (Waits slot) slot ≡ false = su
 
 -- V10: the item is read, in the middle of a block
 pub good_reading : {A : Type 0} (c : Chain A) (who : ℕ) (ms : List (State A)) (x : A) (n name i st : ℕ)
-    → ChainOk c → Holds c who (Only (Read n)) → Got c who n x name → c.writers n ≡ Wrote x → (IsLast n → ⊥) → i ≡ n % BLOCK_SLOTS → IsState c (n / BLOCK_SLOTS) i st
-    → Good c (if_read c who n i) who ms (chain.Reading name i) (Some x) Call.Pop (Effect.Take x ∷ []) (Answer.Found st)
+    → ChainOk c → HoldsOnly c who (Only (Read n)) → Got c who n x name → c.writers n ≡ Wrote x → (IsLast n → ⊥) → i ≡ n % BLOCK_SLOTS → IsState c (n / BLOCK_SLOTS) i st
+    → StepOk c (if_read c who n i) who ms (chain.Reading name i) (Some x) Call.Pop (Effect.Take x ∷ []) (Answer.Found st)
 good_reading {A} c who ms x n name i st ok holds got wrote inner is state = go (waits_at (c.walks (n / BLOCK_SLOTS)) i) refl
   where
     b : ℕ
@@ -73,7 +73,7 @@ good_reading {A} c who ms x n name i st ok holds got wrote inner is state = go (
     low : i < LAST
     low = omega (arith, is, inner)
 
-    go : (t : Bool) → waits_at (c.walks (n / BLOCK_SLOTS)) i ≡ t → Good c (moves.reads c n (if t then walk_after who i else c.walks (n / BLOCK_SLOTS))) who ms (chain.Reading name i) (Some x) Call.Pop (Effect.Take x ∷ []) (Answer.Found st)
+    go : (t : Bool) → waits_at (c.walks (n / BLOCK_SLOTS)) i ≡ t → StepOk c (moves.reads c n (if t then walk_after who i else c.walks (n / BLOCK_SLOTS))) who ms (chain.Reading name i) (Some x) Call.Pop (Effect.Take x ∷ []) (Answer.Found st)
     go false t =
         let kept : WalkOk (put c.readers n Done) (n / BLOCK_SLOTS) (c.walks (n / BLOCK_SLOTS)) =
         walk_read c.readers n (n / BLOCK_SLOTS) (c.walks (n / BLOCK_SLOTS)) (λ e z. inner (omega (arith, z))) (λ j e z. not_waits (c.walks (n / BLOCK_SLOTS)) i j t e (let y = item in omega (arith, z, y))) (ok.walk (n / BLOCK_SLOTS)) in

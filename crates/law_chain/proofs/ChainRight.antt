@@ -8,11 +8,11 @@ use Rattle.law_common.specs.Vocabulary.{Call, Reply, Effect, Answer, Next, Unbou
 use Rattle.law_common.specs.Moments.{SeenIn}
 use Rattle.law_common.specs.Effects.{Leads, with_effect}
 use Rattle.law_common.specs.Stand.{Stand, stand}
-use Rattle.law_chain.specs.ChainCells.{Chain, queue_of, ChainOk, Holds, Nothing}
+use Rattle.law_chain.specs.ChainCells.{Chain, queue_of, ChainOk, HoldsOnly, Nothing}
 use Rattle.law_chain.specs.ChainPasses.{Passes, spare_in, Spares}
 use Rattle.law_chain.specs.ChainAt.{At}
 use Rattle.law_chain.specs.ChainAnswers.{Answers}
-use Rattle.law_chain.proofs.ChainGood.{GivesUp, Goes, IsEffect}
+use Rattle.law_chain.proofs.ChainStepOk.{GivesUp, NextOk, IsEffect}
 use Rattle.law_chain.specs.ChainAfter.{chain_of, carried_of, after_of, left_by}
 use Rattle.law_chain.proofs.ChainStep.{step_good}
 use Rattle.law_chain.proofs.ChainGiven.{given_ok, passes_given, makes_given, holds_given}
@@ -24,9 +24,9 @@ Gives r who (Next.Step l t o) = Unit {0}
 Gives r who (Next.Reply x spare) = GivesUp r who spare
 
 -- the call stands on, with no spare but that in its hands, or it ends with a reply that is right, and its party holds nothing
-abbrev pub Ends : {A : Type 0} → Chain A → ℕ → List (State A) → Next ℕ → Option A → Call A → List (Effect A) → Type 0
-Ends s who ms (Next.Step l t o) v k es = At s who ms (stand l t o v k es) × Spares s who (spare_in l)
-Ends {A} s who ms (Next.Reply x spare) v k es = Holds s who Nothing × Spares s who None × ((y : Reply A) × (filled x v ≡ Some y) × Tells k y es × (es ≡ [] → SeenIn ms (Allows k y)))
+abbrev pub NextOkSpares : {A : Type 0} → Chain A → ℕ → List (State A) → Next ℕ → Option A → Call A → List (Effect A) → Type 0
+NextOkSpares s who ms (Next.Step l t o) v k es = At s who ms (stand l t o v k es) × Spares s who (spare_in l)
+NextOkSpares {A} s who ms (Next.Reply x spare) v k es = HoldsOnly s who Nothing × Spares s who None × ((y : Reply A) × (filled x v ≡ Some y) × Tells k y es × (es ≡ [] → SeenIn ms (Allows k y)))
 
 -- the step that got this answer leads from the chain c to r, and a block given up with it from there: it is a step of the queue
 pub record Right {A : Type 0} (c r : Chain A) (who : ℕ) (ms : List (State A)) (l : UnboundedLocal ℕ) (v : Option A) (k : Call A) (es : List (Effect A)) (a : Answer ℕ) : Type 0 where
@@ -37,9 +37,9 @@ pub record Right {A : Type 0} (c r : Chain A) (who : ℕ) (ms : List (State A)) 
   pub ok : ChainOk (left_by r (unbounded_next l a))
   pub makes : Leads (queue_of c) e (queue_of (left_by r (unbounded_next l a)))
   pub passes : Passes who c (left_by r (unbounded_next l a))
-  pub ends : Ends (left_by r (unbounded_next l a)) who (queue_of (left_by r (unbounded_next l a)) ∷ ms) (unbounded_next l a) v k (with_effect es e)
+  pub ends : NextOkSpares (left_by r (unbounded_next l a)) who (queue_of (left_by r (unbounded_next l a)) ∷ ms) (unbounded_next l a) v k (with_effect es e)
 
-goes_gives : {A : Type 0} (r : Chain A) (who : ℕ) (ms : List (State A)) (n : Next ℕ) (v : Option A) (k : Call A) (es : List (Effect A)) → Goes r who ms n v k es → Gives r who n
+goes_gives : {A : Type 0} (r : Chain A) (who : ℕ) (ms : List (State A)) (n : Next ℕ) (v : Option A) (k : Call A) (es : List (Effect A)) → NextOk r who ms n v k es → Gives r who n
 goes_gives r who ms (Next.Step l t o) v k es goes = tt
 goes_gives r who ms (Next.Reply x spare) v k es goes = goes.1
 
@@ -56,7 +56,7 @@ left_passes c r who (Next.Step l t o) ok gives pass = pass
 left_passes c r who (Next.Reply x spare) ok gives pass = passes_given c r who spare ok gives pass
 
 left_ends : {A : Type 0} (r : Chain A) (who : ℕ) (ms : List (State A)) (n : Next ℕ) (v : Option A) (k : Call A) (es : List (Effect A))
-    → Goes r who (queue_of r ∷ ms) n v k es → SparesAfter r who n → Ends (left_by r n) who (queue_of (left_by r n) ∷ ms) n v k es
+    → NextOk r who (queue_of r ∷ ms) n v k es → SparesAfter r who n → NextOkSpares (left_by r n) who (queue_of (left_by r n) ∷ ms) n v k es
 left_ends r who ms (Next.Step l t o) v k es goes only = (goes, only)
 left_ends r who ms (Next.Reply x None) v k es goes only = (goes.0, only, goes.2)
 left_ends r who ms (Next.Reply x (Some f)) v k es goes only = (holds_given r who (Some f) Nothing goes.0, only, goes.2)

@@ -16,7 +16,7 @@ use Rattle.law_chain.specs.ChainAt.{At, push_tail, push_block, asking, installin
 use Rattle.law_chain.specs.ChainAnswers.{Answers, tail_word, head_word, last_of, is_done}
 use Rattle.law_chain.specs.ChainAfter.{if_installed, claimed_if, if_claimed, taken_if, chain_of, carried_of, if_granted, after_of}
 use Rattle.law_chain.proofs.ChainPush.{tail_ways, none_spare}
-use Rattle.law_chain.proofs.ChainGood.{Goes}
+use Rattle.law_chain.proofs.ChainStepOk.{NextOk}
 use Rattle.law_chain.specs.ChainPasses.{spare_in, Spares}
 use Rattle.law_chain.proofs.ChainGiven.{spares_given, none_given}
 use Rattle.law_chain.proofs.ChainStep.{step_good}
@@ -50,7 +50,7 @@ no_spare (writing d x n name spare holds mine spare_is) e = no_push d x (spare �
 no_spare (spending d x spare none spare_is spent) e = no_push d x (spare ≡ None) e
 no_spare _ e = refl
 
-others_spares : {A : Type 0} (s : Chain A) (who : ℕ) (ms : List (State A)) (n : Next ℕ) (v : Option A) (k : Call A) (es : List (Effect A)) → is_push k ≡ false → Goes s who ms n v k es → Spares s who None → SparesAfter s who n
+others_spares : {A : Type 0} (s : Chain A) (who : ℕ) (ms : List (State A)) (n : Next ℕ) (v : Option A) (k : Call A) (es : List (Effect A)) → is_push k ≡ false → NextOk s who ms n v k es → Spares s who None → SparesAfter s who n
 others_spares s who ms (Next.Step l t o) v k es other_call at only = subst (λ x. Spares s who x) (sym (no_spare at other_call)) only
 others_spares s who ms (Next.Reply x spare) v k es other_call goes only = none_given s who spare only
 

@@ -6,7 +6,7 @@ use Rattle.queue_steps.specs.Replies.{IsRightAt}
 use Rattle.queue_steps.specs.UnboundedNext.{unbounded_begin}
 use Rattle.law_common.specs.Vocabulary.{Call, Reply, Next, PushKind}
 use Rattle.law_common.specs.Stand.{stand}
-use Rattle.law_chain.specs.ChainCells.{Chain, Holds, Nothing}
+use Rattle.law_chain.specs.ChainCells.{Chain, HoldsOnly, Nothing}
 use Rattle.law_chain.specs.ChainAt.{At, push_tail, pop_head, len_tail, empty_head, closing, closed_tail}
 
 -- the call stands at its first step, or replies at once: that is right at any state without a capacity
@@ -14,7 +14,7 @@ abbrev pub Begins : {A : Type 0} → Chain A → ℕ → List (State A) → Call
 Begins c who ms k (Next.Step l t o) = At c who ms (stand l t o (call_value k) k [])
 Begins {A} c who ms k (Next.Reply x spare) = (spare ≡ None) × ((y : Reply A) × (filled x (call_value k) ≡ Some y) × ((m : State A) → m.cap ≡ None → IsRightAt m k y))
 
-pub at_begun : {A : Type 0} (c : Chain A) (who : ℕ) (ms : List (State A)) (k : Call A) → Holds c who Nothing → Begins c who ms k (unbounded_begin (call_kind k))
+pub at_begun : {A : Type 0} (c : Chain A) (who : ℕ) (ms : List (State A)) (k : Call A) → HoldsOnly c who Nothing → Begins c who ms k (unbounded_begin (call_kind k))
 at_begun c who ms (Call.Push v) none = push_tail PushKind.Push v None none tt
 at_begun c who ms (Call.ForcePush v) none = push_tail PushKind.Force v None none tt
 at_begun c who ms Call.Pop none = pop_head none

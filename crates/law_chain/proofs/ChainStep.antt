@@ -10,7 +10,7 @@ use Rattle.law_chain.specs.ChainAt.{At, push_tail, push_block, asking, installin
 use Rattle.law_chain.specs.ChainAnswers.{Answers, IsState}
 use Rattle.law_chain.proofs.ChainAnswers.{head_offset}
 use Rattle.law_chain.specs.ChainAfter.{chain_of, carried_of, after_of}
-use Rattle.law_chain.proofs.ChainGood.{Good}
+use Rattle.law_chain.proofs.ChainStepOk.{StepOk}
 use Rattle.law_chain.proofs.ChainPush.{good_push_tail, good_push_block, good_refused, good_granted}
 use Rattle.law_chain.proofs.ChainClaim.{good_installing, good_showing, good_claiming, good_laying, good_opening, good_chaining, good_writing, good_spending}
 use Rattle.law_chain.proofs.ChainPop.{good_pop_head, good_pop_block, good_taking, good_following, good_passing, good_entering, read_small}
@@ -29,7 +29,7 @@ is_chain x = refl
 
 -- each step of a call is right
 pub step_good : {A : Type 0} {c : Chain A} {who : ℕ} {ms : List (State A)} {k : Stand A} (at : At c who ms k) (a : Answer ℕ)
-    → ChainOk c → Answers c k.op a → Good c (after_of at a) who ms (chain_of k.local) (carried_of at) k.call k.effects a
+    → ChainOk c → Answers c k.op a → StepOk c (after_of at a) who ms (chain_of k.local) (carried_of at) k.call k.effects a
 step_good {c = c} {who = who} {ms = ms} (push_tail d x spare none spare_is) a ok found = rw found (good_push_tail c who ms d x spare ok none spare_is)
 step_good {c = c} {who = who} {ms = ms} (push_block d x spare q none spare_is saw) a ok found = rw found (good_push_block c who ms d x spare q ok none spare_is saw)
 step_good {c = c} {who = who} {ms = ms} (asking d x q block none saw asked) a ok (inl refused) = rw refused (good_refused c who ms d x q block ok none saw asked)

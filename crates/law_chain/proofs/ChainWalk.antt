@@ -3,10 +3,10 @@ use Rattle.law_common.specs.Vocabulary.{Call, Reply, Effect, Answer, BLOCK_SLOTS
 use Rattle.std.proofs.lemmas.Bool.Decides.{eqb_tells}
 use Rattle.queue_steps.specs.State.{State}
 use Rattle.queue_steps.specs.declared.steps.unbounded.UnboundedLocal.TheVariants as chain
-use Rattle.law_chain.proofs.ChainGood.{Goes, Good, still, silent}
+use Rattle.law_chain.proofs.ChainStepOk.{NextOk, StepOk, still, silent}
 use Rattle.std.proofs.Common.{ℕ, ◌+◌, ◌<◌, ◌≡◌, ◌≢◌, not, ◌∙◌, ◌⊎◌, inl, inr, Bool, true, false, if◌then◌else◌, Some, None, Ok, List, [], ◌∷◌, refl, sym, ap, subst, arith}
 use Rattle.queue_steps.specs.UnboundedNext.{walks_on}
-use Rattle.law_chain.specs.ChainCells.{Reader, Unread, Done, Walker, Waits, GivenUp, Chain, queue_of, WalkOk, IsWalked, item_at, LAST, ChainOk, Passed, walker_of, Holds, Nothing}
+use Rattle.law_chain.specs.ChainCells.{Reader, Unread, Done, Walker, Waits, GivenUp, Chain, queue_of, WalkOk, IsWalked, item_at, LAST, ChainOk, Passed, walker_of, HoldsOnly, Nothing}
 use Rattle.law_chain.specs.ChainTransitions as moves
 use Rattle.law_chain.proofs.ChainReads.{walk_after_ok, walk_ok}
 use Rattle.law_chain.specs.ChainTransitions.{walk_after}
@@ -33,10 +33,10 @@ after_mine who other slot ne e = elim (after_walker who slot) [
 
 -- the walk goes on after a slot, or ends and gives the block up
 pub on_goes : {A : Type 0} (s : Chain A) (who : ℕ) (ms : List (State A)) (x : A) (b name slot : ℕ) → slot < LAST → IsNamed s b name → s.walks b ≡ walk_after who slot
-    → (walk_after who slot ≡ GivenUp → Holds s who Nothing) → Holds s who (Only (Passed b)) → Goes s who ms (walks_on name slot) (Some x) Call.Pop (Effect.Take x ∷ [])
+    → (walk_after who slot ≡ GivenUp → HoldsOnly s who Nothing) → HoldsOnly s who (Only (Passed b)) → NextOk s who ms (walks_on name slot) (Some x) Call.Pop (Effect.Take x ∷ [])
 on_goes {A} s who ms x b name slot lt named is over on = go (after_walker who slot)
   where
-    go : ((walk_after who slot ≡ GivenUp) × (slot + 1 ≡ LAST)) ⊎ ((walk_after who slot ≡ Walker who (slot + 1)) × (slot + 1 ≢ LAST)) → Goes s who ms (walks_on name slot) (Some x) Call.Pop (Effect.Take x ∷ [])
+    go : ((walk_after who slot ≡ GivenUp) × (slot + 1 ≡ LAST)) ⊎ ((walk_after who slot ≡ Walker who (slot + 1)) × (slot + 1 ≢ LAST)) → NextOk s who ms (walks_on name slot) (Some x) Call.Pop (Effect.Take x ∷ [])
     go (inl h) = rw (le-ltb (slot + 2) BLOCK_SLOTS (let e = h.1 in omega arith)) (over h.0, inr (b, named, is ∙ h.0), (Reply.Pop (Ok x), refl, refl, λ e. cc))
     go (inr h) = rw (lt-ltb (slot + 2) BLOCK_SLOTS (let ne = h.1 in omega arith)) (walking x b name (slot + 1) on (is ∙ h.0) named)
 
@@ -52,8 +52,8 @@ undone Unread e z = cc
 undone r e z = cc
 
 -- the walk passes a slot that is read
-passes_slot : {A : Type 0} (c : Chain A) (who : ℕ) (ms : List (State A)) (x : A) (b name slot : ℕ) → ChainOk c → Holds c who (Only (Passed b)) → c.walks b ≡ Walker who slot → IsNamed c b name → c.readers (item_at b slot) ≡ Done
-    → ChainOk (moves.walked c b (walk_after who slot)) × Goes (moves.walked c b (walk_after who slot)) who ms (walks_on name slot) (Some x) Call.Pop (Effect.Take x ∷ [])
+passes_slot : {A : Type 0} (c : Chain A) (who : ℕ) (ms : List (State A)) (x : A) (b name slot : ℕ) → ChainOk c → HoldsOnly c who (Only (Passed b)) → c.walks b ≡ Walker who slot → IsNamed c b name → c.readers (item_at b slot) ≡ Done
+    → ChainOk (moves.walked c b (walk_after who slot)) × NextOk (moves.walked c b (walk_after who slot)) who ms (walks_on name slot) (Some x) Call.Pop (Effect.Take x ∷ [])
 passes_slot c who ms x b name slot ok holds is named read =
     let at = walker_ok c who b slot ok is in (
       walk_ok c b (walk_after who slot) ok (walk_after_ok c.readers b who slot at.0 at.1 read),
@@ -63,14 +63,14 @@ passes_slot c who ms x b name slot ok holds is named read =
 
 -- W1: the state of a passed block's slot is read
 pub good_walking : {A : Type 0} (c : Chain A) (who : ℕ) (ms : List (State A)) (x : A) (b name slot st : ℕ)
-    → ChainOk c → Holds c who (Only (Passed b)) → c.walks b ≡ Walker who slot → IsNamed c b name → IsState c b slot st
-    → Good c (if_walked c who b slot) who ms (chain.Walking name slot) (Some x) Call.Pop (Effect.Take x ∷ []) (Answer.Found st)
+    → ChainOk c → HoldsOnly c who (Only (Passed b)) → c.walks b ≡ Walker who slot → IsNamed c b name → IsState c b slot st
+    → StepOk c (if_walked c who b slot) who ms (chain.Walking name slot) (Some x) Call.Pop (Effect.Take x ∷ []) (Answer.Found st)
 good_walking {A} c who ms x b name slot st ok holds is named state = go (is_done (c.readers (item_at b slot))) refl
   where
     low : slot < BLOCK_SLOTS
     low = let at = (walker_ok c who b slot ok is).0 in omega arith
 
-    go : (t : Bool) → is_done (c.readers (item_at b slot)) ≡ t → Good c (if t then moves.walked c b (walk_after who slot) else c) who ms (chain.Walking name slot) (Some x) Call.Pop (Effect.Take x ∷ []) (Answer.Found st)
+    go : (t : Bool) → is_done (c.readers (item_at b slot)) ≡ t → StepOk c (if t then moves.walked c b (walk_after who slot) else c) who ms (chain.Walking name slot) (Some x) Call.Pop (Effect.Take x ∷ []) (Answer.Found st)
     go true e =
         let p = passes_slot c who (queue_of c ∷ ms) x b name slot ok holds is named (done_is (c.readers (item_at b slot)) e) in
         silent c (moves.walked c b (walk_after who slot)) who ms (chain.Walking name slot) (Some x) Call.Pop (Effect.Take x ∷ []) (Answer.Found st) refl p.0 refl
@@ -79,14 +79,14 @@ good_walking {A} c who ms x b name slot st ok holds is named state = go (is_done
 
 -- W2: the reader of a passed block's slot is told to go on with the walk
 pub good_destroying : {A : Type 0} (c : Chain A) (who : ℕ) (ms : List (State A)) (x : A) (b name slot st : ℕ)
-    → ChainOk c → Holds c who (Only (Passed b)) → c.walks b ≡ Walker who slot → IsNamed c b name → IsState c b slot st
-    → Good c (if_destroyed c who b slot) who ms (chain.Destroying name slot) (Some x) Call.Pop (Effect.Take x ∷ []) (Answer.Found st)
+    → ChainOk c → HoldsOnly c who (Only (Passed b)) → c.walks b ≡ Walker who slot → IsNamed c b name → IsState c b slot st
+    → StepOk c (if_destroyed c who b slot) who ms (chain.Destroying name slot) (Some x) Call.Pop (Effect.Take x ∷ []) (Answer.Found st)
 good_destroying {A} c who ms x b name slot st ok holds is named state = go (is_done (c.readers (item_at b slot))) refl
   where
     low : slot < BLOCK_SLOTS
     low = let at = (walker_ok c who b slot ok is).0 in omega arith
 
-    go : (t : Bool) → is_done (c.readers (item_at b slot)) ≡ t → Good c (moves.walked c b (if t then walk_after who slot else Waits slot)) who ms (chain.Destroying name slot) (Some x) Call.Pop (Effect.Take x ∷ []) (Answer.Found st)
+    go : (t : Bool) → is_done (c.readers (item_at b slot)) ≡ t → StepOk c (moves.walked c b (if t then walk_after who slot else Waits slot)) who ms (chain.Destroying name slot) (Some x) Call.Pop (Effect.Take x ∷ []) (Answer.Found st)
     go true e =
         let p = passes_slot c who (queue_of c ∷ ms) x b name slot ok holds is named (done_is (c.readers (item_at b slot)) e) in
         silent c (moves.walked c b (walk_after who slot)) who ms (chain.Destroying name slot) (Some x) Call.Pop (Effect.Take x ∷ []) (Answer.Found st) refl p.0 refl

@@ -8,7 +8,7 @@ pub mod ChainPassesReads
 pub mod ChainFacts
 pub mod ChainAt
 pub mod ChainAnswers
-pub mod ChainGood
+pub mod ChainStepOk
 pub mod ChainPush
 pub mod ChainHolds
 pub mod ChainClaim

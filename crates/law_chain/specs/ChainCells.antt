@@ -200,8 +200,8 @@ owner c First = shower_of c.shown
 owner c (Passed b) = walker_of (c.walks b)
 
 -- a party's parts are among these
-abbrev pub Holds : {A : Type 0} → Chain A → ℕ → (Part → Type 0) → Type 0
-Holds c who P = (x : Part) → owner c x ≡ Some who → P x
+abbrev pub HoldsOnly : {A : Type 0} → Chain A → ℕ → (Part → Type 0) → Type 0
+HoldsOnly c who P = (x : Part) → owner c x ≡ Some who → P x
 
 -- no part at all
 abbrev pub Nothing : Part → Type 0

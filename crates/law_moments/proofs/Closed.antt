@@ -129,10 +129,10 @@ module _ {T : Type 0} where
   takes_run Q (x ∷ es) next shut lacks r = absurd (let no = r.0.0 in cc)
 
   -- behind a close that stood at this state reopened: the displacements that are to come, and then the close
-  abbrev Ends : List (Effect T) → State T → State T → Type 0
-  Ends b Q P = RunsAtOnce P (displacements b ++ Effect.Close ∷ []) × Agrees b Q (after_from P (displacements b ++ Effect.Close ∷ []))
+  abbrev EndsClosed : List (Effect T) → State T → State T → Type 0
+  EndsClosed b Q P = RunsAtOnce P (displacements b ++ Effect.Close ∷ []) × Agrees b Q (after_from P (displacements b ++ Effect.Close ∷ []))
 
-  ends_close : (b : List (Effect T)) (Q : State T) → Q.closed ≡ true → displacements b ≡ [] → Ends b Q (reopened (arrived Q))
+  ends_close : (b : List (Effect T)) (Q : State T) → Q.closed ≡ true → displacements b ≡ [] → EndsClosed b Q (reopened (arrived Q))
   ends_close b Q shut none =
       let S : State T = made Effect.Close (reopened (arrived Q)) in
       let is : S ≡ arrived Q = reshut (arrived Q) shut in
@@ -140,7 +140,7 @@ module _ {T : Type 0} where
       let P : List (Effect T) → Type 0 = λ l. RunsAtOnce (reopened (arrived Q)) (l ++ Effect.Close ∷ []) × Agrees b Q (after_from (reopened (arrived Q)) (l ++ Effect.Close ∷ [])) in
       subst P (sym none) ((refl, tt), here)
 
-  displaced_ends : (Q : State T) (b : List (Effect T)) → Q.closed ≡ true → Fit Q.cap (held Q) → Runs Q b → Ends b Q (reopened (arrived Q))
+  displaced_ends : (Q : State T) (b : List (Effect T)) → Q.closed ≡ true → Fit Q.cap (held Q) → Runs Q b → EndsClosed b Q (reopened (arrived Q))
   displaced_ends Q [] shut fit r = ends_close [] Q shut refl
   displaced_ends Q (Effect.Take v ∷ b) shut fit r =
       let R : State T = made (Effect.Take v) Q in
@@ -155,12 +155,12 @@ module _ {T : Type 0} where
       let runs : RunsAtOnce (reopened Q) (Effect.Front old v ∷ Effect.Arrive ∷ (displacements b ++ Effect.Close ∷ [])) = (refl, f, more.0) in
       let agrees : Agrees (Effect.Front old v ∷ b) Q (after_from (reopened Q) (Effect.Front old v ∷ Effect.Arrive ∷ (displacements b ++ Effect.Close ∷ []))) =
       record { cap = a.cap; closed = a.closed; coming = a.coming; count = a.count ∙ held_front Q old v f; same = λ any. absurd (elim any [ inl e ↦ let no : Effect.Front old v ∷ Effect.Arrive ∷ displacements b ≡ [] = e in cc | inr e ↦ cc ]) } in
-      subst (Ends (Effect.Front old v ∷ b) Q) back (runs, agrees)
+      subst (EndsClosed (Effect.Front old v ∷ b) Q) back (runs, agrees)
   displaced_ends Q (Effect.Arrive ∷ b) shut fit r =
       let R : State T = made Effect.Arrive Q in
       let more = displaced_ends R b shut (subst (Fit Q.cap) (sym (held_arrive Q)) fit) r.1 in
       let is : arrived R ≡ arrived Q = arrived_none R refl ∙ arrived_arrive Q r.0.0 r.0.1 in
-      let there : Ends b R (reopened (arrived Q)) = subst (λ (S : State T). Ends b R (reopened S)) is more in
+      let there : EndsClosed b R (reopened (arrived Q)) = subst (λ (S : State T). EndsClosed b R (reopened S)) is more in
       (there.0, agrees_arrive b Q _ r.0.0 r.0.1 there.1)
   displaced_ends Q (Effect.Close ∷ b) shut fit r = absurd (let no = r.0 in cc)
   displaced_ends Q (x ∷ b) shut fit r = absurd (let no = r.0.0 in cc)

@@ -13,7 +13,7 @@ use Rattle.queue_steps.specs.State.{State, start}
 use Rattle.queue_steps.specs.Effect.{Runs, IsHistory, made, after_from, after}
 use Rattle.queue_steps.specs.Parties.{View, IsView, StandAt, Join}
 use Rattle.queue_steps.proofs.Keeping.{stays_closed}
-use Rattle.concurrent_queue.specs.Shared.{Person, Calls}
+use Rattle.concurrent_queue.specs.Shared.{PartyView, Calls}
 use Rattle.law_parties.specs.Doings.{passes, done_by, Acts}
 
 pub single : {X : Type 0} (test : X → Bool) (e : X) → count_by test (e ∷ []) ≡ cond (test e) 1 0
@@ -57,7 +57,7 @@ module _ {T : Type 0} where
   unchanged cap v w is begins mine test = ap (standing test w.seen) mine ∙ standing_longer test v.seen w.seen v.mine begins is.inside
 
   -- a call adds its effects
-  pub acts : (v w : Person T) (c : Call T) (r : Reply T) (es : List (Effect T)) → IsView v.queue.cap v.view → (call : Calls v c r w) → call.1.effects ≡ es → Acts v w es
+  pub acts : (v w : PartyView T) (c : Call T) (r : Reply T) (es : List (Effect T)) → IsView v.queue.cap v.view → (call : Calls v c r w) → call.1.effects ≡ es → Acts v w es
   acts v w c r es is call are = record {
     queue = call.0;
     share = call.1.share;
@@ -67,10 +67,10 @@ module _ {T : Type 0} where
         + (standing_effects test w.view.seen (length v.view.seen) call.1.places call.1.effects call.1.stand ∙ ap (count_by test) are) i));
   }
 
-  pub acts_none : (v : Person T) → Acts v v []
+  pub acts_none : (v : PartyView T) → Acts v v []
   acts_none v = record { queue = refl; share = refl; did = λ test. sym (add-zero (done_by test v.view)) }
 
-  pub acts_on : (u v w : Person T) (es fs : List (Effect T)) → Acts u v es → Acts v w fs → Acts u w (es ++ fs)
+  pub acts_on : (u v w : PartyView T) (es fs : List (Effect T)) → Acts u v es → Acts v w fs → Acts u w (es ++ fs)
   acts_on u v w es fs a b = record {
     queue = b.queue ∙ a.queue;
     share = b.share ∙ a.share;

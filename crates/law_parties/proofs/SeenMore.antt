@@ -11,7 +11,7 @@ use Rattle.queue_steps.specs.SequentialCalls.{SequentialCall}
 use Rattle.queue_steps.specs.Shares.{IsEntire}
 use Rattle.shared_parties.proofs.Histories.{prefix_trans, prefix_length}
 use Rattle.concurrent_queue.specs.SawMore.{SawMore}
-use Rattle.concurrent_queue.specs.Shared.{QueueId, Person, Calls}
+use Rattle.concurrent_queue.specs.Shared.{QueueId, PartyView, Calls}
 
 module _ {T : Type 0} where
   -- what stands at these places, none before n, has none before m, which is no later
@@ -29,7 +29,7 @@ module _ {T : Type 0} where
   displaces_earlier cap r s t (p ∷ []) begins d = tt
   displaces_earlier cap r s t (p ∷ q ∷ ps) begins ((h, from, to, before, shut), quiet) = ((h, prefix_trans r s h begins from, to, before, shut), quiet)
 
-  pub saw_more_calls : (v w u : Person T) (c : Call T) (r : Reply T) → SawMore v w → Calls w c r u → Calls v c r u
+  pub saw_more_calls : (v w u : PartyView T) (c : Call T) (r : Reply T) → SawMore v w → Calls w c r u → Calls v c r u
   saw_more_calls v w u c r (queue, begins, mine, share, alone) (same, calls, one) =
       let call : SharedCall v.queue.cap w.view u.view c r = subst (λ (q : QueueId). SharedCall q.cap w.view u.view c r) queue calls in (
         same ∙ queue,

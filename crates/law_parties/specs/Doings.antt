@@ -9,7 +9,7 @@ use Rattle.queue_steps.specs.declared.model.Effect.TheVariants as effect
 use Rattle.queue_steps.specs.Effect.{after}
 use Rattle.queue_steps.specs.Parties.{View}
 use Rattle.law_histories.specs.Histories.{IsDrained}
-use Rattle.concurrent_queue.specs.Shared.{Person}
+use Rattle.concurrent_queue.specs.Shared.{PartyView}
 
 abbrev pub passes : {T : Type 0} → (Effect T → Bool) → Option (Effect T) → Bool
 passes test none = false
@@ -61,15 +61,15 @@ abbrev pub Did : {T : Type 0} → View T → View T → List (Effect T) → Type
 Did {T} v w es = (test : Effect T → Bool) → done_by test w ≡ done_by test v + count_by test es
 
 -- the party, which is the queue's as before and has its share, did these
-pub record Acts {T : Type 0} (v w : Person T) (es : List (Effect T)) : Type 0 where
+pub record Acts {T : Type 0} (v w : PartyView T) (es : List (Effect T)) : Type 0 where
   pub queue : w.queue ≡ v.queue
   pub share : w.view.share ≡ v.view.share
   pub did : Did v.view w.view es
 
 -- the party has seen the queue closed
-abbrev pub SawClosed : {T : Type 0} → Person T → Type 0
+abbrev pub SawClosed : {T : Type 0} → PartyView T → Type 0
 SawClosed p = (after p.queue.cap p.view.seen).closed ≡ true
 
 -- the party has seen the queue closed and empty
-abbrev pub SawDrained : {T : Type 0} → Person T → Type 0
+abbrev pub SawDrained : {T : Type 0} → PartyView T → Type 0
 SawDrained {T} p = (h : List (Effect T)) × IsPrefix h p.view.seen × IsDrained (after p.queue.cap h)

@@ -12,16 +12,16 @@ use Rattle.queue_steps.specs.Effect.{IsHistory, after}
 use Rattle.queue_steps.specs.Parties.{View, IsView, IsWhole, Split, Join, Meet}
 use Rattle.law_histories.specs.Histories.{IsDrained}
 use Rattle.concurrent_queue.specs.SawMore.{SawMore}
-use Rattle.concurrent_queue.specs.Shared.{Person, Calls}
+use Rattle.concurrent_queue.specs.Shared.{PartyView, Calls}
 use Rattle.law_parties.specs.Doings.{done_by, hands_in_such, hands_out_such, hands_in, hands_out, Did, Acts, SawClosed, SawDrained}
 
 -- a call adds the effects at its places
 abbrev pub CallsAct : Type 0 → Type 0
-CallsAct T = (v w : Person T) (c : Call T) (r : Reply T) → IsView v.queue.cap v.view → (call : Calls v c r w) → Acts v w call.1.effects
+CallsAct T = (v w : PartyView T) (c : Call T) (r : Reply T) → IsView v.queue.cap v.view → (call : Calls v c r w) → Acts v w call.1.effects
 
 -- nothing is done without a call, and what is done adds up
 abbrev pub DoingsAddUp : Type 0 → Type 0
-DoingsAddUp T = ((v : Person T) → Acts v v []) × ((u v w : Person T) (es fs : List (Effect T)) → Acts u v es → Acts v w fs → Acts u w (es ++ fs))
+DoingsAddUp T = ((v : PartyView T) → Acts v v []) × ((u v w : PartyView T) (es fs : List (Effect T)) → Acts u v es → Acts v w fs → Acts u w (es ++ fs))
 
 -- of the two parts of a party the first did what the party did, and the other nothing
 abbrev pub SplitsKeepDoings : Type 0 → Type 0
@@ -53,16 +53,16 @@ NumbersAreKept =
 
 -- what was seen closed is seen closed from then on
 abbrev pub ClosedStaysSeen : Type 0 → Type 0
-ClosedStaysSeen T = (v w : Person T) → w.queue ≡ v.queue → IsPrefix v.view.seen w.view.seen → IsHistory w.queue.cap w.view.seen → SawClosed v → SawClosed w
+ClosedStaysSeen T = (v w : PartyView T) → w.queue ≡ v.queue → IsPrefix v.view.seen w.view.seen → IsHistory w.queue.cap w.view.seen → SawClosed v → SawClosed w
 
 -- a pop that is answered Closed has seen the queue closed and empty
 abbrev pub PopsSeeDrained : Type 0 → Type 0
-PopsSeeDrained T = (v w : Person T) → Calls v call.Pop (reply.Pop (Err pop.Closed)) w → SawDrained w
+PopsSeeDrained T = (v w : PartyView T) → Calls v call.Pop (reply.Pop (Err pop.Closed)) w → SawDrained w
 
 -- what was seen closed and empty is seen so from then on, and is so
 abbrev pub DrainedStays : Type 0 → Type 0
-DrainedStays T = (v w : Person T) → w.queue ≡ v.queue → IsPrefix v.view.seen w.view.seen → IsHistory w.queue.cap w.view.seen → SawDrained v → SawDrained w × IsDrained (after w.queue.cap w.view.seen)
+DrainedStays T = (v w : PartyView T) → w.queue ≡ v.queue → IsPrefix v.view.seen w.view.seen → IsHistory w.queue.cap w.view.seen → SawDrained v → SawDrained w × IsDrained (after w.queue.cap w.view.seen)
 
 -- a party that saw more and then made a call has made it after what it had seen before
 abbrev pub SawMoreThenCalls : Type 0 → Type 0
-SawMoreThenCalls T = (v w u : Person T) (c : Call T) (r : Reply T) → SawMore v w → Calls w c r u → Calls v c r u
+SawMoreThenCalls T = (v w u : PartyView T) (c : Call T) (r : Reply T) → SawMore v w → Calls w c r u → Calls v c r u

@@ -8,7 +8,7 @@ pub mod RingSlots
 pub mod RingIdle
 pub mod RingHands
 pub mod RingRanks
-pub mod RingGood
+pub mod RingStepOk
 pub mod RingPush
 pub mod RingClaim
 pub mod RingForce

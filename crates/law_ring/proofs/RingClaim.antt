@@ -23,7 +23,7 @@ use Rattle.law_ring.specs.RingWords.{Codes, item_in}
 use Rattle.law_ring.proofs.RingWords.{head_small}
 use Rattle.law_ring.proofs.RingHands.{Claims, Returns}
 use Rattle.law_ring.proofs.RingRanks.{pick}
-use Rattle.law_ring.proofs.RingGood.{Goes, Stays, Good, still, marks, marks_closed}
+use Rattle.law_ring.proofs.RingStepOk.{NextOk, Stays, StepOk, still, marks, marks_closed}
 use Rattle.law_common.specs.Stand.{brings}
 use Rattle.law_ring.proofs.RingSlots.{codes_claim, codes_store}
 use Rattle.law_ring.proofs.RingPush.{tail_goes, tail_word, saw_word}
@@ -31,13 +31,13 @@ use Rattle.law_ring.proofs.RingPush.{tail_goes, tail_word, saw_word}
 module _ {A : Type 0} {cap : ℕ} {r : Ring A} {who : ℕ} {s : Shared A} {ms : List (State A)} {was : Bool} (ok : RingOk cap r) (codes : Codes cap r s) where
   pub good_claiming : (d : PushKind) (v : A) (t : ℕ)
       → HoldsNone r.cells who → SawTail cap r t ms was → FreeAt cap r (position_of t)
-      → Good cap r who s ms was (brings (Local.Bounded (ring.Claiming d t)) (Op.Exchange Word.Tail t (t + TAIL_STEP)) d v)
+      → StepOk cap r who s ms was (brings (Local.Bounded (ring.Claiming d t)) (Op.Exchange Word.Tail t (t + TAIL_STEP)) d v)
   good_claiming d v t none saw free = go (eqb_tells s.tail t)
     where
       words : IsWord t × IsWord s.tail
       words = (saw_word cap r t ms was saw, tail_word cap r s ok codes)
 
-      won : (s.tail == t) ≡ true → s.tail ≡ t → Good cap r who s ms was (brings (Local.Bounded (ring.Claiming d t)) (Op.Exchange Word.Tail t (t + TAIL_STEP)) d v)
+      won : (s.tail == t) ≡ true → s.tail ≡ t → StepOk cap r who s ms was (brings (Local.Bounded (ring.Claiming d t)) (Op.Exchange Word.Tail t (t + TAIL_STEP)) d v)
       won test e =
           let same = same_tail r.tail r.closed t saw.unshut (sym codes.tail ∙ e) in
           let at : r.tail ≡ position_of t = same.1 in
@@ -57,13 +57,13 @@ module _ {A : Type 0} {cap : ℕ} {r : Ring A} {who : ℕ} {s : Shared A} {ms : 
             makes = (good.0, refl);
             passes = passes_append cap r who v is;
             shift = Claims (r.tail % cap) (Written r.tail who v) (in_ring cap r.tail ok.ring) refl none (ap owner is) refl (ap item_in (sym is)) refl;
-            goes = rw test (subst (λ q. Goes cap r (appended cap r who v) who (queue_of cap (appended cap r who v) ∷ ms) (was || not r.closed)
+            goes = rw test (subst (λ q. NextOk cap r (appended cap r who v) who (queue_of cap (appended cap r who v) ∷ ms) (was || not r.closed)
                 (Next.Step (Local.Bounded (ring.Filling d)) (Touch.Put (slot_at cap q)) (Op.Store (Word.Stamp (slot_at cap q)) (stamp_filled q))) (Some v) (pushes d v) (Effect.Append v ∷ []) (if position_of t == r.tail then 2 else 5)) at
                 (filling d v r.tail (claims r.cells who (r.tail % cap) (Written r.tail who v) none), λ calm. rw (pick (position_of t) r.tail 2 5 (sym at)) (omega arith)));
           }
 
       go : (((s.tail == t) ≡ true) × (s.tail ≡ t)) ⊎ (((s.tail == t) ≡ false) × (s.tail ≢ t))
-          → Good cap r who s ms was (brings (Local.Bounded (ring.Claiming d t)) (Op.Exchange Word.Tail t (t + TAIL_STEP)) d v)
+          → StepOk cap r who s ms was (brings (Local.Bounded (ring.Claiming d t)) (Op.Exchange Word.Tail t (t + TAIL_STEP)) d v)
       go (inl h) = won h.0 h.1
       go (inr h) =
           still ok codes tt (rw h.0 refl)
@@ -87,7 +87,7 @@ module _ {A : Type 0} {cap : ℕ} {r : Ring A} {who : ℕ} {s : Shared A} {ms : 
 
   pub good_filling : (d : PushKind) (v : A) (q : ℕ)
       → HoldsOne r.cells who (q % cap) (Written q who v)
-      → Good cap r who s ms was (stores (ring.Filling d) Touch.Put (slot_at cap q) (stamp_filled q) (Some v) (pushes d v) (Effect.Append v ∷ []))
+      → StepOk cap r who s ms was (stores (ring.Filling d) Touch.Put (slot_at cap q) (stamp_filled q) (Some v) (pushes d v) (Effect.Append v ∷ []))
   good_filling d v q one =
       let i = q % cap in
       let lt : i < cap = in_ring cap q ok.ring in
@@ -110,7 +110,7 @@ module _ {A : Type 0} {cap : ℕ} {r : Ring A} {who : ℕ} {s : Shared A} {ms : 
 
   pub good_push_head : (v : A) (t : ℕ)
       → HoldsNone r.cells who → SawTail cap r t ms was
-      → Good cap r who s ms was (brings (Local.Bounded (ring.PushHead t)) (Op.Load Word.Head) PushKind.Push v)
+      → StepOk cap r who s ms was (brings (Local.Bounded (ring.PushHead t)) (Op.Load Word.Head) PushKind.Push v)
   good_push_head v t none saw =
       still ok codes tt refl
       (ok.ring, (saw_word cap r t ms was saw, rw codes.head (head_small cap r r.head ok (omega arith)))) refl
@@ -134,10 +134,10 @@ module _ {A : Type 0} {cap : ℕ} {r : Ring A} {who : ℕ} {s : Shared A} {ms : 
 
   pub good_spending : (d : PushKind) (v : A)
       → HoldsNone r.cells who → LIMIT ≤ r.tail
-      → Good cap r who s ms was (brings (Local.Bounded (ring.ClosingAtLimit d)) (Op.Or Word.Tail MARK) d v)
+      → StepOk cap r who s ms was (brings (Local.Bounded (ring.ClosingAtLimit d)) (Op.Or Word.Tail MARK) d v)
   good_spending d v none high = go r.closed refl
     where
-      go : (c : Bool) → r.closed ≡ c → Good cap r who s ms was (brings (Local.Bounded (ring.ClosingAtLimit d)) (Op.Or Word.Tail MARK) d v)
+      go : (c : Bool) → r.closed ≡ c → StepOk cap r who s ms was (brings (Local.Bounded (ring.ClosingAtLimit d)) (Op.Or Word.Tail MARK) d v)
       go true c =
           let shut : is_shut s.tail ≡ true = ap is_shut codes.tail ∙ (shut_tail r.tail r.closed ∙ c) in
           let y = closed_push d v in

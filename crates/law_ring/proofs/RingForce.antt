@@ -18,7 +18,7 @@ use Rattle.law_ring.specs.RingAt.{FullAt, SawTail, stores, push_tail, arriving, 
 use Rattle.law_ring.specs.RingWords.{Codes, item_in}
 use Rattle.law_ring.proofs.RingWords.{word_small, head_small}
 use Rattle.law_ring.proofs.RingHands.{Claims, GoesOn, Returns}
-use Rattle.law_ring.proofs.RingGood.{Goes, Good, still}
+use Rattle.law_ring.proofs.RingStepOk.{NextOk, StepOk, still}
 use Rattle.law_common.specs.Stand.{Stand, stand, brings}
 use Rattle.law_ring.proofs.RingSlots.{codes_claim, codes_store}
 use Rattle.law_ring.proofs.RingPush.{tail_word, saw_word}
@@ -29,7 +29,7 @@ displaces cap v t = brings (Local.Bounded (ring.Displacing t)) (Op.Exchange Word
 module _ {A : Type 0} {cap : ℕ} {r : Ring A} {who : ℕ} {s : Shared A} {ms : List (State A)} {was : Bool} (ok : RingOk cap r) (codes : Codes cap r s) where
   pub good_displacing : (v : A) (t h : ℕ)
       → HoldsNone r.cells who → SawTail cap r t ms was → h + cap ≡ position_of t → FullAt cap r h
-      → Good cap r who s ms was (displaces cap v t)
+      → StepOk cap r who s ms was (displaces cap v t)
   good_displacing v t h none saw back full = go (eqb_tells r.head h)
     where
       from : position_of t - cap ≡ h
@@ -49,7 +49,7 @@ module _ {A : Type 0} {cap : ℕ} {r : Ring A} {who : ℕ} {s : Shared A} {ms : 
           let at = codes.head in
           (ne_eqb s.head (position_of t - cap) (λ x. other (omega arith)), ne_eqb (s.head + cap) (position_of t) (λ x. other (omega arith)), ne_eqb (r.head + cap) (position_of t) (λ x. other (omega arith)))
 
-      won : (r.head == h) ≡ true → r.head ≡ h → (x : A) → r.cells (h % cap) ≡ Full h x → Good cap r who s ms was (displaces cap v t)
+      won : (r.head == h) ≡ true → r.head ≡ h → (x : A) → r.cells (h % cap) ≡ Full h x → StepOk cap r who s ms was (displaces cap v t)
       won test same x is_h =
           let tested = tests true test (λ e. refl) (λ ne. absurd (ne same)) in
           let is : r.cells (r.head % cap) ≡ Full r.head x = subst (λ n. r.cells (n % cap) ≡ Full n x) (sym same) is_h in
@@ -73,10 +73,10 @@ module _ {A : Type 0} {cap : ℕ} {r : Ring A} {who : ℕ} {s : Shared A} {ms : 
                 (arriving x v t h low back (subst (λ n. HoldsOne (put r.cells (r.head % cap) (Coming r.head who x v)) who (n % cap) (Coming n who x v)) same (claims r.cells who (r.head % cap) (Coming r.head who x v) none)), λ calm. omega arith);
           }
 
-      go : (((r.head == h) ≡ true) × (r.head ≡ h)) ⊎ (((r.head == h) ≡ false) × (r.head ≢ h)) → Good cap r who s ms was (displaces cap v t)
+      go : (((r.head == h) ≡ true) × (r.head ≡ h)) ⊎ (((r.head == h) ≡ false) × (r.head ≢ h)) → StepOk cap r who s ms was (displaces cap v t)
       go (inl e) = filled_now full
         where
-          filled_now : FullAt cap r h → Good cap r who s ms was (displaces cap v t)
+          filled_now : FullAt cap r h → StepOk cap r who s ms was (displaces cap v t)
           filled_now (inl lt) = absurd (let same = e.1 in omega arith)
           filled_now (inr (x, is)) = won e.0 e.1 x is
       go (inr e) =
@@ -87,7 +87,7 @@ module _ {A : Type 0} {cap : ℕ} {r : Ring A} {who : ℕ} {s : Shared A} {ms : 
 
   pub good_arriving : (old v : A) (t h : ℕ)
       → position_of t < LIMIT → h + cap ≡ position_of t → HoldsOne r.cells who (h % cap) (Coming h who old v)
-      → Good cap r who s ms was (stand (Local.Bounded (ring.Arriving t)) Touch.Nothing (Op.Add Word.Tail TAIL_STEP) (Some v) (Call.ForcePush v) (Effect.Front old v ∷ []))
+      → StepOk cap r who s ms was (stand (Local.Bounded (ring.Arriving t)) Touch.Nothing (Op.Add Word.Tail TAIL_STEP) (Some v) (Call.ForcePush v) (Effect.Front old v ∷ []))
   good_arriving old v t h below back one =
       let i = h % cap in
       let here : CellOk cap r.head r.tail r.items r.coming i (Coming h who old v) = rw one.0 at (ok.cell i (in_ring cap h ok.ring)) in
@@ -106,19 +106,19 @@ module _ {A : Type 0} {cap : ℕ} {r : Ring A} {who : ℕ} {s : Shared A} {ms : 
         makes = (good.0, refl);
         passes = passes_arrive cap r h who old v one.0;
         shift = GoesOn i (Swapped h who old v) refl (ap owner one.0) refl (ap item_in (sym one.0)) refl;
-        goes = subst (λ q. Goes cap r (arrived cap r h who old v) who (queue_of cap (arrived cap r h who old v) ∷ ms) (was || not r.closed)
+        goes = subst (λ q. NextOk cap r (arrived cap r h who old v) who (queue_of cap (arrived cap r h who old v) ∷ ms) (was || not r.closed)
             (Next.Step (Local.Bounded ring.Swapping) (Touch.Swap (slot_at cap q)) (Op.Store (Word.Stamp (slot_at cap q)) (stamp_filled q))) (Some v) (Call.ForcePush v) (Effect.Front old v ∷ Effect.Arrive ∷ []) 2) back
             (swapping old v h (keeps_on r.cells who i (Coming h who old v) (Swapped h who old v) one), λ calm. omega arith);
       }
 
   pub good_swapping : (old v : A) (h : ℕ)
       → HoldsOne r.cells who (h % cap) (Swapped h who old v)
-      → Good cap r who s ms was (stores ring.Swapping Touch.Swap (slot_at cap (h + cap)) (stamp_filled (h + cap)) (Some v) (Call.ForcePush v) (Effect.Front old v ∷ Effect.Arrive ∷ []))
+      → StepOk cap r who s ms was (stores ring.Swapping Touch.Swap (slot_at cap (h + cap)) (stamp_filled (h + cap)) (Some v) (Call.ForcePush v) (Effect.Front old v ∷ Effect.Arrive ∷ []))
   good_swapping old v h one =
-      subst (λ i. Good cap r who s ms was (stores ring.Swapping Touch.Swap i (stamp_filled (h + cap)) (Some v) (Call.ForcePush v) (Effect.Front old v ∷ Effect.Arrive ∷ [])))
+      subst (λ i. StepOk cap r who s ms was (stores ring.Swapping Touch.Swap i (stamp_filled (h + cap)) (Some v) (Call.ForcePush v) (Effect.Front old v ∷ Effect.Arrive ∷ [])))
       (sym (wraps h cap)) there
     where
-      there : Good cap r who s ms was (stores ring.Swapping Touch.Swap (h % cap) (stamp_filled (h + cap)) (Some v) (Call.ForcePush v) (Effect.Front old v ∷ Effect.Arrive ∷ []))
+      there : StepOk cap r who s ms was (stores ring.Swapping Touch.Swap (h % cap) (stamp_filled (h + cap)) (Some v) (Call.ForcePush v) (Effect.Front old v ∷ Effect.Arrive ∷ []))
       there =
           let i = h % cap in
           let lt : i < cap = in_ring cap h ok.ring in

@@ -17,7 +17,7 @@ use Rattle.law_ring.specs.RingAt.{HasRoom, SawEmpty, SawFull, len_tail, len_head
 use Rattle.law_ring.specs.RingWords.{Codes}
 use Rattle.law_ring.proofs.RingWords.{head_small}
 use Rattle.law_ring.proofs.RingRanks.{pick}
-use Rattle.law_ring.proofs.RingGood.{Stays, Good, still, marks, marks_closed}
+use Rattle.law_ring.proofs.RingStepOk.{Stays, StepOk, still, marks, marks_closed}
 use Rattle.law_common.specs.Stand.{empty_handed}
 
 no_items : {A : Type 0} (xs : List A) → length xs ≡ 0 → is_empty xs ≡ true
@@ -30,7 +30,7 @@ some_items (x ∷ xs) e = refl
 
 module _ {A : Type 0} {cap : ℕ} {r : Ring A} {who : ℕ} {s : Shared A} {ms : List (State A)} {was : Bool} (ok : RingOk cap r) (codes : Codes cap r s) where
   pub good_len_tail : HoldsNone r.cells who
-      → Good cap r who s ms was (empty_handed (Local.Bounded ring.LenTail) (Op.Load Word.Tail) Call.Len)
+      → StepOk cap r who s ms was (empty_handed (Local.Bounded ring.LenTail) (Op.Load Word.Tail) Call.Len)
   good_len_tail none =
       still ok codes tt refl (ok.ring, tt) refl (
         len_head s.tail none (let a = ap position_of codes.tail ∙ position_tail r.tail r.closed in omega arith),
@@ -39,7 +39,7 @@ module _ {A : Type 0} {cap : ℕ} {r : Ring A} {who : ℕ} {s : Shared A} {ms : 
 
   pub good_len_head : (t : ℕ)
       → HoldsNone r.cells who → position_of t ≤ r.tail
-      → Good cap r who s ms was (empty_handed (Local.Bounded (ring.LenHead t)) (Op.Load Word.Head) Call.Len)
+      → StepOk cap r who s ms was (empty_handed (Local.Bounded (ring.LenHead t)) (Op.Load Word.Head) Call.Len)
   good_len_head t none low =
       still ok codes tt refl (ok.ring, tt) refl (
         len_again t s.head none (inl ((let a = codes.head in let b = ok.count in omega arith), low, omega arith)),
@@ -48,7 +48,7 @@ module _ {A : Type 0} {cap : ℕ} {r : Ring A} {who : ℕ} {s : Shared A} {ms : 
 
   pub good_len_again : (t h : ℕ)
       → HoldsNone r.cells who → SeenIn ms (HeadWas h (position_of t) r.tail)
-      → Good cap r who s ms was (empty_handed (Local.Bounded (ring.LenAgain t h)) (Op.Load Word.Tail) Call.Len)
+      → StepOk cap r who s ms was (empty_handed (Local.Bounded (ring.LenAgain t h)) (Op.Load Word.Tail) Call.Len)
   good_len_again t h none seen =
       still ok codes tt refl
       (ok.ring, λ e. low_of (at_tail e) ms seen) refl
@@ -72,7 +72,7 @@ module _ {A : Type 0} {cap : ℕ} {r : Ring A} {who : ℕ} {s : Shared A} {ms : 
           rw (e.0, other) (len_tail none, λ calm. omega arith)
 
   pub good_empty_head : HoldsNone r.cells who
-      → Good cap r who s ms was (empty_handed (Local.Bounded ring.EmptyHead) (Op.Load Word.Head) Call.IsEmpty)
+      → StepOk cap r who s ms was (empty_handed (Local.Bounded ring.EmptyHead) (Op.Load Word.Head) Call.IsEmpty)
   good_empty_head none =
       still ok codes tt refl (ok.ring, tt) refl
       (empty_tail s.head none (tt, (let a = codes.head in omega arith), seen r.items refl), λ calm. omega arith)
@@ -83,7 +83,7 @@ module _ {A : Type 0} {cap : ℕ} {r : Ring A} {who : ℕ} {s : Shared A} {ms : 
 
   pub good_empty_tail : (h : ℕ)
       → HoldsNone r.cells who → SawEmpty h r ms
-      → Good cap r who s ms was (empty_handed (Local.Bounded (ring.EmptyTail h)) (Op.Load Word.Tail) Call.IsEmpty)
+      → StepOk cap r who s ms was (empty_handed (Local.Bounded (ring.EmptyTail h)) (Op.Load Word.Tail) Call.IsEmpty)
   good_empty_tail h none saw =
       still ok codes tt refl (ok.ring, tt) refl
       (rw at (none, refl, (Reply.IsEmpty (r.tail == h), refl, refl, λ _. go (eqb_tells r.tail h))))
@@ -104,7 +104,7 @@ module _ {A : Type 0} {cap : ℕ} {r : Ring A} {who : ℕ} {s : Shared A} {ms : 
       ]
 
   pub good_full_tail : HoldsNone r.cells who
-      → Good cap r who s ms was (empty_handed (Local.Bounded ring.FullTail) (Op.Load Word.Tail) Call.IsFull)
+      → StepOk cap r who s ms was (empty_handed (Local.Bounded ring.FullTail) (Op.Load Word.Tail) Call.IsFull)
   good_full_tail none =
       still ok codes tt refl (ok.ring, tt) refl
       (full_head s.tail none (tt, (let a = at in omega arith), seen (cases (length r.items) cap)), λ calm. omega arith)
@@ -121,7 +121,7 @@ module _ {A : Type 0} {cap : ℕ} {r : Ring A} {who : ℕ} {s : Shared A} {ms : 
 
   pub good_full_head : (t : ℕ)
       → HoldsNone r.cells who → SawFull cap (position_of t) r ms
-      → Good cap r who s ms was (empty_handed (Local.Bounded (ring.FullHead t)) (Op.Load Word.Head) Call.IsFull)
+      → StepOk cap r who s ms was (empty_handed (Local.Bounded (ring.FullHead t)) (Op.Load Word.Head) Call.IsFull)
   good_full_head t none saw =
       still ok codes tt refl
       (ok.ring, rw codes.head (head_small cap r r.head ok (omega arith))) refl
@@ -141,14 +141,14 @@ module _ {A : Type 0} {cap : ℕ} {r : Ring A} {who : ℕ} {s : Shared A} {ms : 
       ]
 
   pub good_closing : HoldsNone r.cells who
-      → Good cap r who s ms was (empty_handed (Local.Bounded ring.Closing) (Op.Or Word.Tail MARK) Call.Close)
+      → StepOk cap r who s ms was (empty_handed (Local.Bounded ring.Closing) (Op.Or Word.Tail MARK) Call.Close)
   good_closing none = go r.closed refl
     where
       even : (n : ℕ) (c : Bool) → (tail_of n c % 2 == 0) ≡ not c
       even n true = ne_eqb ((n * 2 + 1) % 2) 0 (λ e. absurd (let z : (n * 2 + 1) % 2 ≡ 1 = omega arith in omega arith))
       even n false = eq-eqb ((n * 2) % 2) 0 (omega arith)
 
-      go : (c : Bool) → r.closed ≡ c → Good cap r who s ms was (empty_handed (Local.Bounded ring.Closing) (Op.Or Word.Tail MARK) Call.Close)
+      go : (c : Bool) → r.closed ≡ c → StepOk cap r who s ms was (empty_handed (Local.Bounded ring.Closing) (Op.Or Word.Tail MARK) Call.Close)
       go true c =
           let shut : is_shut s.tail ≡ true = ap is_shut codes.tail ∙ (shut_tail r.tail r.closed ∙ c) in
           let odd : (s.tail % 2 == 0) ≡ false = ap (λ n. n % 2 == 0) codes.tail ∙ (even r.tail r.closed ∙ ap not c) in
@@ -159,7 +159,7 @@ module _ {A : Type 0} {cap : ℕ} {r : Ring A} {who : ℕ} {s : Shared A} {ms : 
           marks ok codes (Some Effect.Close) (ok.ring, tt) (rw shut refl) (c, refl) (rw odd (none, refl, (Reply.Close true, refl, refl, λ e. cc)))
 
   pub good_closed_tail : HoldsNone r.cells who
-      → Good cap r who s ms was (empty_handed (Local.Bounded ring.ClosedTail) (Op.Load Word.Tail) Call.IsClosed)
+      → StepOk cap r who s ms was (empty_handed (Local.Bounded ring.ClosedTail) (Op.Load Word.Tail) Call.IsClosed)
   good_closed_tail none =
       still ok codes tt refl (ok.ring, tt) refl
       (none, refl, (Reply.IsClosed (is_shut s.tail), refl, refl, λ _. inl (ap is_shut codes.tail ∙ shut_tail r.tail r.closed)))

@@ -21,7 +21,7 @@ use Rattle.law_ring.specs.RingWords.{Codes, stamp_in, item_in}
 use Rattle.law_ring.proofs.RingWords.{head_small}
 use Rattle.law_ring.proofs.RingHands.{Claims, Returns}
 use Rattle.law_ring.proofs.RingRanks.{pick}
-use Rattle.law_ring.proofs.RingGood.{IsCalm, Stays, Good, still}
+use Rattle.law_ring.proofs.RingStepOk.{IsCalm, Stays, StepOk, still}
 use Rattle.law_common.specs.Stand.{Stand, empty_handed}
 use Rattle.law_ring.proofs.RingSlots.{stamp_free_at, stamp_full_at, nobody, head_slot, codes_claim, codes_store}
 
@@ -77,14 +77,14 @@ takes h = empty_handed (Local.Bounded (ring.Taking h)) (Op.Exchange Word.Head h 
 
 module _ {A : Type 0} {cap : ℕ} {r : Ring A} {who : ℕ} {s : Shared A} {ms : List (State A)} {was : Bool} (ok : RingOk cap r) (codes : Codes cap r s) where
   pub good_pop_head : HoldsNone r.cells who
-      → Good cap r who s ms was (empty_handed (Local.Bounded ring.PopHead) (Op.Load Word.Head) Call.Pop)
+      → StepOk cap r who s ms was (empty_handed (Local.Bounded ring.PopHead) (Op.Load Word.Head) Call.Pop)
   good_pop_head none =
       still ok codes tt refl
       (ok.ring, rw codes.head (head_small cap r r.head ok (omega arith))) refl (head_goes who ms was ok s.head 4 none codes.head (omega arith))
 
   pub good_pop_stamp : (h : ℕ)
       → HoldsNone r.cells who → h ≤ r.head
-      → Good cap r who s ms was (empty_handed (Local.Bounded (ring.PopStamp h)) (Op.Load (Word.Stamp (slot_at cap h))) Call.Pop)
+      → StepOk cap r who s ms was (empty_handed (Local.Bounded (ring.PopStamp h)) (Op.Load (Word.Stamp (slot_at cap h))) Call.Pop)
   good_pop_stamp h none low =
       let i = h % cap in
       let lt : i < cap = in_ring cap h ok.ring in
@@ -94,13 +94,13 @@ module _ {A : Type 0} {cap : ℕ} {r : Ring A} {who : ℕ} {s : Shared A} {ms : 
 
   pub good_taking : (h : ℕ)
       → HoldsNone r.cells who → h ≤ r.head → FullAt cap r h
-      → Good cap r who s ms was (takes h)
+      → StepOk cap r who s ms was (takes h)
   good_taking h none low full = go (eqb_tells s.head h)
     where
       words : IsWord h × IsWord s.head
       words = (head_small cap r h ok low, rw codes.head (head_small cap r r.head ok (omega arith)))
 
-      won : (s.head == h) ≡ true → s.head ≡ h → (x : A) → r.cells (h % cap) ≡ Full h x → Good cap r who s ms was (takes h)
+      won : (s.head == h) ≡ true → s.head ≡ h → (x : A) → r.cells (h % cap) ≡ Full h x → StepOk cap r who s ms was (takes h)
       won test same x is_h =
           let at : r.head ≡ h = sym codes.head ∙ same in
           let is : r.cells (r.head % cap) ≡ Full r.head x = subst (λ n. r.cells (n % cap) ≡ Full n x) (sym at) is_h in
@@ -123,10 +123,10 @@ module _ {A : Type 0} {cap : ℕ} {r : Ring A} {who : ℕ} {s : Shared A} {ms : 
             );
           }
 
-      go : (((s.head == h) ≡ true) × (s.head ≡ h)) ⊎ (((s.head == h) ≡ false) × (s.head ≢ h)) → Good cap r who s ms was (takes h)
+      go : (((s.head == h) ≡ true) × (s.head ≡ h)) ⊎ (((s.head == h) ≡ false) × (s.head ≢ h)) → StepOk cap r who s ms was (takes h)
       go (inl e) = filled_now full
         where
-          filled_now : FullAt cap r h → Good cap r who s ms was (takes h)
+          filled_now : FullAt cap r h → StepOk cap r who s ms was (takes h)
           filled_now (inl lt) = absurd (let at = codes.head in let same = e.1 in omega arith)
           filled_now (inr (x, is)) = won e.0 e.1 x is
       go (inr e) =
@@ -137,7 +137,7 @@ module _ {A : Type 0} {cap : ℕ} {r : Ring A} {who : ℕ} {s : Shared A} {ms : 
 
   pub good_emptying : (x : A) (h : ℕ)
       → HoldsOne r.cells who (h % cap) (Read h who x)
-      → Good cap r who s ms was (stores ring.Emptying Touch.Take (slot_at cap h) (stamp_emptied cap h) None Call.Pop (Effect.Take x ∷ []))
+      → StepOk cap r who s ms was (stores ring.Emptying Touch.Take (slot_at cap h) (stamp_emptied cap h) None Call.Pop (Effect.Take x ∷ []))
   good_emptying x h one =
       let i = h % cap in
       let lt : i < cap = in_ring cap h ok.ring in
@@ -159,7 +159,7 @@ module _ {A : Type 0} {cap : ℕ} {r : Ring A} {who : ℕ} {s : Shared A} {ms : 
 
   pub good_pop_tail : (h : ℕ)
       → HoldsNone r.cells who → h ≤ r.head → FreeAt cap r h
-      → Good cap r who s ms was (empty_handed (Local.Bounded (ring.PopTail h)) (Op.Load Word.Tail) Call.Pop)
+      → StepOk cap r who s ms was (empty_handed (Local.Bounded (ring.PopTail h)) (Op.Load Word.Tail) Call.Pop)
   good_pop_tail h none low free =
       still ok codes tt refl
       (ok.ring, tt) refl

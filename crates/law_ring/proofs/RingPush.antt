@@ -17,7 +17,7 @@ use Rattle.law_ring.specs.RingAt.{FullAt, SawTail, push_tail, push_stamp, claimi
 use Rattle.law_ring.specs.RingWords.{Codes, stamp_in}
 use Rattle.law_ring.proofs.RingWords.{word_small}
 use Rattle.law_ring.proofs.RingRanks.{pick}
-use Rattle.law_ring.proofs.RingGood.{IsCalm, Stays, Good, still, opened_now, saw_own}
+use Rattle.law_ring.proofs.RingStepOk.{IsCalm, Stays, StepOk, still, opened_now, saw_own}
 use Rattle.law_common.specs.Stand.{brings}
 use Rattle.law_ring.proofs.RingSlots.{stamp_free_at, stamp_full_at, stamp_small, stamp_lapped, nobody, tail_slot}
 
@@ -63,7 +63,7 @@ module _ {A : Type 0} {cap : ℕ} {r : Ring A} (who : ℕ) (ms : List (State A))
 module _ {A : Type 0} {cap : ℕ} {r : Ring A} {who : ℕ} {s : Shared A} {ms : List (State A)} {was : Bool} (ok : RingOk cap r) (codes : Codes cap r s) where
   pub good_push_tail : (d : PushKind) (v : A)
       → HoldsNone r.cells who
-      → Good cap r who s ms was (brings (Local.Bounded (ring.PushTail d)) (Op.Load Word.Tail) d v)
+      → StepOk cap r who s ms was (brings (Local.Bounded (ring.PushTail d)) (Op.Load Word.Tail) d v)
   good_push_tail d v none =
       still ok codes tt refl
       (ok.ring, tail_word cap r s ok codes) refl (tail_goes who ms was ok d v s.tail 5 none codes.tail (omega arith))
@@ -135,7 +135,7 @@ module _ {A : Type 0} {cap : ℕ} {r : Ring A} {who : ℕ} {s : Shared A} {ms : 
 
   pub good_push_stamp : (d : PushKind) (v : A) (t : ℕ)
       → HoldsNone r.cells who → SawTail cap r t ms was
-      → Good cap r who s ms was (brings (Local.Bounded (ring.PushStamp d t)) (Op.Load (Word.Stamp (slot_at cap (position_of t)))) d v)
+      → StepOk cap r who s ms was (brings (Local.Bounded (ring.PushStamp d t)) (Op.Load (Word.Stamp (slot_at cap (position_of t)))) d v)
   good_push_stamp d v t none saw =
       let i = position_of t % cap in
       let lt : i < cap = in_ring cap (position_of t) ok.ring in

@@ -13,7 +13,7 @@ use Rattle.law_ring.specs.RingTransitions.{written}
 use Rattle.law_ring.specs.RingAt.{FreeAt, FullAt}
 use Rattle.law_ring.specs.RingWords.{Codes, stamp_in, item_in}
 use Rattle.law_ring.proofs.RingWords.{IsFreeCell, is_free, is_written, IsFullCell, is_full, is_swapped, stamp_is_free, stamp_is_full}
-use Rattle.law_ring.proofs.RingGood.{IsQuiet}
+use Rattle.law_ring.proofs.RingStepOk.{IsQuiet}
 
 -- a slot with the stamp q, of a position that the tail has reached, is free for it, or the tail has moved on
 pub stamp_free_at : {A : Type 0} (cap : ℕ) (r : Ring A) (q : ℕ) → RingOk cap r → q ≤ r.tail → stamp_in (r.cells (q % cap)) ≡ q → FreeAt cap r q

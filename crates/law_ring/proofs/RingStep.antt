@@ -6,7 +6,7 @@ use Rattle.law_ring.specs.RingShared.{Shared}
 use Rattle.law_ring.specs.RingCells.{Ring, RingOk}
 use Rattle.law_ring.specs.RingWords.{Codes}
 use Rattle.law_ring.specs.RingAt.{At, push_tail, push_stamp, claiming, filling, push_head, displacing, arriving, swapping, spending, pop_head, pop_stamp, taking, emptying, pop_tail, len_tail, len_head, len_again, empty_head, empty_tail, full_tail, full_head, closing, closed_tail}
-use Rattle.law_ring.proofs.RingGood.{Good}
+use Rattle.law_ring.proofs.RingStepOk.{StepOk}
 use Rattle.law_ring.proofs.RingPush.{good_push_tail, good_push_stamp}
 use Rattle.law_ring.proofs.RingClaim.{good_claiming, good_filling, good_push_head, good_spending}
 use Rattle.law_ring.proofs.RingForce.{good_displacing, good_arriving, good_swapping}
@@ -15,7 +15,7 @@ use Rattle.law_ring.proofs.RingLook.{good_len_tail, good_len_head, good_len_agai
 
 -- each step of a call, wherever it stands, is a step of the queue
 pub step_good : {A : Type 0} {cap : ℕ} {r : Ring A} {who : ℕ} {s : Shared A} {ms : List (State A)} {was : Bool} {c : Stand A}
-    → RingOk cap r → Codes cap r s → At cap r who ms was c → Good cap r who s ms was c
+    → RingOk cap r → Codes cap r s → At cap r who ms was c → StepOk cap r who s ms was c
 step_good ok codes (push_tail d v none) = good_push_tail ok codes d v none
 step_good ok codes (push_stamp d v t none saw) = good_push_stamp ok codes d v t none saw
 step_good ok codes (claiming d v t none saw free) = good_claiming ok codes d v t none saw free

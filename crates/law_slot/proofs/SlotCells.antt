@@ -5,7 +5,7 @@ use Rattle.law_common.specs.Effects.{IsBetween, Touches}
 use Rattle.law_common.specs.Stand.{Stand}
 use Rattle.law_slot.specs.SlotShared.{CanOperate}
 use Rattle.law_slot.specs.SlotHolder.{SlotHolder, Nobody}
-use Rattle.law_slot.specs.SlotRows.{Stands, free_empty, free_full, At, push_try, push_put, force_put_empty, force_put_full, pop_take}
+use Rattle.law_slot.specs.SlotRows.{Codes, free_empty, free_full, At, push_try, push_put, force_put_empty, force_put_full, pop_take}
 use Rattle.law_slot.specs.SlotCells.{Slot, own_in, Passes, lent_by, Lent, IsHeld}
 
 pub nobody_if : {T : Type 0} (h : SlotHolder T) → [] ≡ lent_by h → h ≡ Nobody
@@ -17,7 +17,7 @@ pub all_nobody : {T : Type 0} (g : Slot T) → ((who : ℕ) → Lent g who []) �
 all_nobody g none = nobody_if g.keeps.hold (rw (eq-eqb g.keeps.who g.keeps.who refl) at (none g.keeps.who))
 
 -- whoever has the lock has the slot, with what lies in it
-pub held_lent : {T : Type 0} {word : ℕ} {slot : Option T} {h : SlotHolder T} {items : List T} {c : Bool} → Stands word slot h items c → IsHeld h → lent_by h ≡ (0, slot) ∷ []
+pub held_lent : {T : Type 0} {word : ℕ} {slot : Option T} {h : SlotHolder T} {items : List T} {c : Bool} → Codes word slot h items c → IsHeld h → lent_by h ≡ (0, slot) ∷ []
 held_lent (free_empty c) held = absurd held
 held_lent (free_full c x) held = absurd held
 held_lent x held = refl

@@ -9,7 +9,7 @@ use Rattle.law_common.proofs.Ranks.{either_small, either_some}
 use Rattle.law_common.specs.Stand.{Stand}
 use Rattle.law_slot.specs.SlotShared.{CanTouch, CanOperate, one_slot, answered, operated, touched}
 use Rattle.law_slot.specs.SlotHolder.{SlotHolder}
-use Rattle.law_slot.specs.SlotRows.{Stands, free_empty, free_full, At, push_try, push_put, force_try_empty, force_try_full, force_put_empty, force_put_full, pop_try, pop_take, close_try, look_at}
+use Rattle.law_slot.specs.SlotRows.{Codes, free_empty, free_full, At, push_try, push_put, force_try_empty, force_try_full, force_put_empty, force_put_full, pop_try, pop_take, close_try, look_at}
 
 -- how many steps a call takes from here at most, while no other party has the lock
 abbrev pub rank : Local ℕ → ℕ → ℕ
@@ -25,7 +25,7 @@ Falls (Next.Reply x spare) n word = Unit {0}
 
 -- alone, a call comes nearer to its reply
 pub step_falls : {T : Type 0} {x : Stand T} {word : ℕ} {slot : Option T} {h : SlotHolder T} {items : List T} {c : Bool}
-    → At x h → Stands word slot h items c → Falls (next_of Kind.Single x.local (answered (touched (one_slot word slot) x.touch x.carried) x.op)) (rank x.local word) (operated (touched (one_slot word slot) x.touch x.carried) x.op).lock
+    → At x h → Codes word slot h items c → Falls (next_of Kind.Single x.local (answered (touched (one_slot word slot) x.touch x.carried) x.op)) (rank x.local word) (operated (touched (one_slot word slot) x.touch x.carried) x.op).lock
 step_falls (push_try v) (free_empty false) = omega arith
 step_falls (push_try v) (free_full true x) = tt
 step_falls (force_try_empty v) (free_empty false) = omega arith

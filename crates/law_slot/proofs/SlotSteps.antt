@@ -8,7 +8,7 @@ use Rattle.queue_steps.specs.declared.steps.single.SingleLocal.TheVariants.{Push
 use Rattle.queue_steps.specs.declared.steps.types.Word.TheVariants.{Lock}
 use Rattle.law_common.specs.Stand.{Stand, empty_handed, brings}
 use Rattle.law_slot.specs.SlotHolder.{SlotHolder, Nobody, Filling, Swapping, Taking}
-use Rattle.law_slot.specs.SlotRows.{Stands, free_empty, free_full, filling, swapping, taking, code, asks, At, push_try, push_put, force_try_empty, force_try_full, force_put_empty, force_put_full, pop_try, pop_take, close_try, look_at, Share, idle, fills, swaps, takes, stays, changes, single, Good}
+use Rattle.law_slot.specs.SlotRows.{Codes, free_empty, free_full, filling, swapping, taking, code, asks, At, push_try, push_put, force_try_empty, force_try_full, force_put_empty, force_put_full, pop_try, pop_take, close_try, look_at, Share, idle, fills, swaps, takes, stays, changes, single, StepOk}
 use Rattle.law_common.specs.Moments.{SeenIn}
 
 -- a reply without effect that is right now
@@ -18,9 +18,9 @@ right_now Q ms k y told now = (refl, refl, (y, refl, told, λ e. inl now))
 
 -- what is not in the row of a step: how many items were accepted, and the call's moments
 abbrev Row : {T : Type 0} → ℕ → Option T → SlotHolder T → SlotHolder T → List T → Bool → Stand T → Type 0
-Row {T} word slot own h items c x = (n : ℕ) (ms : List (State T)) → Good word slot own h items c n x ms
+Row {T} word slot own h items c x = (n : ℕ) (ms : List (State T)) → StepOk word slot own h items c n x ms
 
-push_step : {T : Type 0} {word : ℕ} {slot : Option T} {h : SlotHolder T} {items : List T} {c : Bool} (v : T) → Stands word slot h items c → Row word slot Nobody h items c (brings (Local.Single Pushing) (Op.Exchange Lock 0 (bit_or LOCKED PUSHED)) PushKind.Push v)
+push_step : {T : Type 0} {word : ℕ} {slot : Option T} {h : SlotHolder T} {items : List T} {c : Bool} (v : T) → Codes word slot h items c → Row word slot Nobody h items c (brings (Local.Single Pushing) (Op.Exchange Lock 0 (bit_or LOCKED PUSHED)) PushKind.Push v)
 push_step v (free_empty true) n ms = record { word' = 4; slot' = None; items' = []; c' = true; n' = n; e = None; own' = Nobody; h' = Nobody; leaves = refl; stands = free_empty true; told = refl; makes = refl; lands = right_now (single [] true n) ms (Call.Push v) (Reply.Push (Err (PushError.Closed v))) (refl, inr refl) (refl, refl); passes = stays Nobody Nobody }
 push_step v (free_empty false) n ms = record { word' = 3; slot' = None; items' = (v ∷ []); c' = false; n' = n + 1; e = Some (Effect.Append v); own' = Filling v; h' = Filling v; leaves = refl; stands = filling false v; told = (v, refl); makes = ((refl, refl, refl, inl refl), refl); lands = push_put v; passes = changes Nobody (Filling v) }
 push_step v (free_full true x) n ms = record { word' = 6; slot' = (Some x); items' = (x ∷ []); c' = true; n' = n; e = None; own' = Nobody; h' = Nobody; leaves = refl; stands = free_full true x; told = refl; makes = refl; lands = right_now (single (x ∷ []) true n) ms (Call.Push v) (Reply.Push (Err (PushError.Closed v))) (refl, inr refl) (refl, refl); passes = stays Nobody Nobody }
@@ -32,7 +32,7 @@ push_step v (swapping false old y) n ms = record { word' = 3; slot' = (Some old)
 push_step v (taking true x) n ms = record { word' = 5; slot' = (Some x); items' = []; c' = true; n' = n; e = None; own' = Nobody; h' = (Taking x); leaves = refl; stands = taking true x; told = refl; makes = refl; lands = right_now (single [] true n) ms (Call.Push v) (Reply.Push (Err (PushError.Closed v))) (refl, inr refl) (refl, refl); passes = stays Nobody (Taking x) }
 push_step v (taking false x) n ms = record { word' = 1; slot' = (Some x); items' = []; c' = false; n' = n; e = None; own' = Nobody; h' = (Taking x); leaves = refl; stands = taking false x; told = refl; makes = refl; lands = push_try v; passes = stays Nobody (Taking x) }
 
-force_empty_step : {T : Type 0} {word : ℕ} {slot : Option T} {h : SlotHolder T} {items : List T} {c : Bool} (v : T) → Stands word slot h items c → Row word slot Nobody h items c (brings (Local.Single (Forcing 0)) (Op.Exchange Lock 0 (bit_or LOCKED PUSHED)) PushKind.Force v)
+force_empty_step : {T : Type 0} {word : ℕ} {slot : Option T} {h : SlotHolder T} {items : List T} {c : Bool} (v : T) → Codes word slot h items c → Row word slot Nobody h items c (brings (Local.Single (Forcing 0)) (Op.Exchange Lock 0 (bit_or LOCKED PUSHED)) PushKind.Force v)
 force_empty_step v (free_empty true) n ms = record { word' = 4; slot' = None; items' = []; c' = true; n' = n; e = None; own' = Nobody; h' = Nobody; leaves = refl; stands = free_empty true; told = refl; makes = refl; lands = right_now (single [] true n) ms (Call.ForcePush v) (Reply.ForcePush (Err (ForcePushError.Closed v))) (refl, inr refl) (refl, refl); passes = stays Nobody Nobody }
 force_empty_step v (free_empty false) n ms = record { word' = 3; slot' = None; items' = (v ∷ []); c' = false; n' = n + 1; e = Some (Effect.Append v); own' = Filling v; h' = Filling v; leaves = refl; stands = filling false v; told = (v, refl); makes = ((refl, refl, refl, inl refl), refl); lands = force_put_empty v; passes = changes Nobody (Filling v) }
 force_empty_step v (free_full true x) n ms = record { word' = 6; slot' = (Some x); items' = (x ∷ []); c' = true; n' = n; e = None; own' = Nobody; h' = Nobody; leaves = refl; stands = free_full true x; told = refl; makes = refl; lands = right_now (single (x ∷ []) true n) ms (Call.ForcePush v) (Reply.ForcePush (Err (ForcePushError.Closed v))) (refl, inr refl) (refl, refl); passes = stays Nobody Nobody }
@@ -44,7 +44,7 @@ force_empty_step v (swapping false old y) n ms = record { word' = 3; slot' = (So
 force_empty_step v (taking true x) n ms = record { word' = 5; slot' = (Some x); items' = []; c' = true; n' = n; e = None; own' = Nobody; h' = (Taking x); leaves = refl; stands = taking true x; told = refl; makes = refl; lands = right_now (single [] true n) ms (Call.ForcePush v) (Reply.ForcePush (Err (ForcePushError.Closed v))) (refl, inr refl) (refl, refl); passes = stays Nobody (Taking x) }
 force_empty_step v (taking false x) n ms = record { word' = 1; slot' = (Some x); items' = []; c' = false; n' = n; e = None; own' = Nobody; h' = (Taking x); leaves = refl; stands = taking false x; told = refl; makes = refl; lands = force_try_empty v; passes = stays Nobody (Taking x) }
 
-force_full_step : {T : Type 0} {word : ℕ} {slot : Option T} {h : SlotHolder T} {items : List T} {c : Bool} (v : T) → Stands word slot h items c → Row word slot Nobody h items c (brings (Local.Single (Forcing 2)) (Op.Exchange Lock 2 (bit_or LOCKED PUSHED)) PushKind.Force v)
+force_full_step : {T : Type 0} {word : ℕ} {slot : Option T} {h : SlotHolder T} {items : List T} {c : Bool} (v : T) → Codes word slot h items c → Row word slot Nobody h items c (brings (Local.Single (Forcing 2)) (Op.Exchange Lock 2 (bit_or LOCKED PUSHED)) PushKind.Force v)
 force_full_step v (free_empty true) n ms = record { word' = 4; slot' = None; items' = []; c' = true; n' = n; e = None; own' = Nobody; h' = Nobody; leaves = refl; stands = free_empty true; told = refl; makes = refl; lands = right_now (single [] true n) ms (Call.ForcePush v) (Reply.ForcePush (Err (ForcePushError.Closed v))) (refl, inr refl) (refl, refl); passes = stays Nobody Nobody }
 force_full_step v (free_empty false) n ms = record { word' = 0; slot' = None; items' = []; c' = false; n' = n; e = None; own' = Nobody; h' = Nobody; leaves = refl; stands = free_empty false; told = refl; makes = refl; lands = force_try_empty v; passes = stays Nobody Nobody }
 force_full_step v (free_full true x) n ms = record { word' = 6; slot' = (Some x); items' = (x ∷ []); c' = true; n' = n; e = None; own' = Nobody; h' = Nobody; leaves = refl; stands = free_full true x; told = refl; makes = refl; lands = right_now (single (x ∷ []) true n) ms (Call.ForcePush v) (Reply.ForcePush (Err (ForcePushError.Closed v))) (refl, inr refl) (refl, refl); passes = stays Nobody Nobody }
@@ -56,7 +56,7 @@ force_full_step v (swapping false old y) n ms = record { word' = 3; slot' = (Som
 force_full_step v (taking true x) n ms = record { word' = 5; slot' = (Some x); items' = []; c' = true; n' = n; e = None; own' = Nobody; h' = (Taking x); leaves = refl; stands = taking true x; told = refl; makes = refl; lands = right_now (single [] true n) ms (Call.ForcePush v) (Reply.ForcePush (Err (ForcePushError.Closed v))) (refl, inr refl) (refl, refl); passes = stays Nobody (Taking x) }
 force_full_step v (taking false x) n ms = record { word' = 1; slot' = (Some x); items' = []; c' = false; n' = n; e = None; own' = Nobody; h' = (Taking x); leaves = refl; stands = taking false x; told = refl; makes = refl; lands = force_try_empty v; passes = stays Nobody (Taking x) }
 
-pop_step : {T : Type 0} {word : ℕ} {slot : Option T} {h : SlotHolder T} {items : List T} {c : Bool} (d : Bool) → Stands word slot h items c → Row word slot Nobody h items c (empty_handed (Local.Single (Popping (code false true d))) (Op.Exchange Lock (code false true d) (code true false d)) Call.Pop)
+pop_step : {T : Type 0} {word : ℕ} {slot : Option T} {h : SlotHolder T} {items : List T} {c : Bool} (d : Bool) → Codes word slot h items c → Row word slot Nobody h items c (empty_handed (Local.Single (Popping (code false true d))) (Op.Exchange Lock (code false true d) (code true false d)) Call.Pop)
 pop_step true (free_empty true) n ms = record { word' = 4; slot' = None; items' = []; c' = true; n' = n; e = None; own' = Nobody; h' = Nobody; leaves = refl; stands = free_empty true; told = refl; makes = refl; lands = right_now (single [] true n) ms Call.Pop (Reply.Pop (Err PopError.Closed)) refl (refl, refl, refl); passes = stays Nobody Nobody }
 pop_step true (free_empty false) n ms = record { word' = 0; slot' = None; items' = []; c' = false; n' = n; e = None; own' = Nobody; h' = Nobody; leaves = refl; stands = free_empty false; told = refl; makes = refl; lands = right_now (single [] false n) ms Call.Pop (Reply.Pop (Err PopError.Empty)) refl (refl, refl, refl); passes = stays Nobody Nobody }
 pop_step true (free_full true x) n ms = record { word' = 5; slot' = (Some x); items' = []; c' = true; n' = n; e = Some (Effect.Take x); own' = Taking x; h' = Taking x; leaves = refl; stands = taking true x; told = (x, refl); makes = (([], refl), refl); lands = pop_take x; passes = changes Nobody (Taking x) }
@@ -78,7 +78,7 @@ pop_step false (swapping false old y) n ms = record { word' = 3; slot' = (Some o
 pop_step false (taking true x) n ms = record { word' = 5; slot' = (Some x); items' = []; c' = true; n' = n; e = None; own' = Nobody; h' = (Taking x); leaves = refl; stands = taking true x; told = refl; makes = refl; lands = right_now (single [] true n) ms Call.Pop (Reply.Pop (Err PopError.Closed)) refl (refl, refl, refl); passes = stays Nobody (Taking x) }
 pop_step false (taking false x) n ms = record { word' = 1; slot' = (Some x); items' = []; c' = false; n' = n; e = None; own' = Nobody; h' = (Taking x); leaves = refl; stands = taking false x; told = refl; makes = refl; lands = right_now (single [] false n) ms Call.Pop (Reply.Pop (Err PopError.Empty)) refl (refl, refl, refl); passes = stays Nobody (Taking x) }
 
-close_step : {T : Type 0} {word : ℕ} {slot : Option T} {h : SlotHolder T} {items : List T} {c : Bool} → Stands word slot h items c → Row word slot Nobody h items c (empty_handed (Local.Single Closing) (Op.Or Lock CLOSED) Call.Close)
+close_step : {T : Type 0} {word : ℕ} {slot : Option T} {h : SlotHolder T} {items : List T} {c : Bool} → Codes word slot h items c → Row word slot Nobody h items c (empty_handed (Local.Single Closing) (Op.Or Lock CLOSED) Call.Close)
 close_step (free_empty true) n ms = record { word' = 4; slot' = None; items' = []; c' = true; n' = n; e = None; own' = Nobody; h' = Nobody; leaves = refl; stands = free_empty true; told = refl; makes = refl; lands = right_now (single [] true n) ms Call.Close (Reply.Close false) refl refl; passes = stays Nobody Nobody }
 close_step (free_empty false) n ms = record { word' = 4; slot' = None; items' = []; c' = true; n' = n; e = Some Effect.Close; own' = Nobody; h' = Nobody; leaves = refl; stands = free_empty true; told = refl; makes = (refl, refl); lands = (refl, refl, (_, refl, refl, λ e. cc)); passes = stays Nobody Nobody }
 close_step (free_full true x) n ms = record { word' = 6; slot' = (Some x); items' = (x ∷ []); c' = true; n' = n; e = None; own' = Nobody; h' = Nobody; leaves = refl; stands = free_full true x; told = refl; makes = refl; lands = right_now (single (x ∷ []) true n) ms Call.Close (Reply.Close false) refl refl; passes = stays Nobody Nobody }
@@ -91,7 +91,7 @@ close_step (taking true x) n ms = record { word' = 5; slot' = (Some x); items' =
 close_step (taking false x) n ms = record { word' = 5; slot' = (Some x); items' = []; c' = true; n' = n; e = Some Effect.Close; own' = Nobody; h' = (Taking x); leaves = refl; stands = taking true x; told = refl; makes = (refl, refl); lands = (refl, refl, (_, refl, refl, λ e. cc)); passes = stays Nobody (Taking x) }
 
 -- what the word tells of the items and the flag
-reads : {T : Type 0} {word : ℕ} {slot : Option T} {h : SlotHolder T} {items : List T} {c : Bool} → Stands word slot h items c
+reads : {T : Type 0} {word : ℕ} {slot : Option T} {h : SlotHolder T} {items : List T} {c : Bool} → Codes word slot h items c
     → (is_marked word ≡ c) × (not (is_pushed word) ≡ is_empty items) × (is_pushed word ≡ is_full (single items c 0)) × ((if is_pushed word then 1 else 0) ≡ length items)
 reads (free_empty true) = (refl, refl, refl, refl)
 reads (free_full true x) = (refl, refl, refl, refl)
@@ -100,7 +100,7 @@ reads (swapping true old y) = (refl, refl, refl, refl)
 reads (taking true x) = (refl, refl, refl, refl)
 reads x = (refl, refl, refl, refl)
 
-look_step : {T : Type 0} {word : ℕ} {slot : Option T} {h : SlotHolder T} {items : List T} {c : Bool} (l : Look) → Stands word slot h items c → Row word slot Nobody h items c (empty_handed (Local.Single (Looking l)) (Op.Load Lock) (asks l))
+look_step : {T : Type 0} {word : ℕ} {slot : Option T} {h : SlotHolder T} {items : List T} {c : Bool} (l : Look) → Codes word slot h items c → Row word slot Nobody h items c (empty_handed (Local.Single (Looking l)) (Op.Load Lock) (asks l))
 look_step {word = word} {slot = slot} {h = h} {items = items} {c = c} Look.IsClosed st n ms = record { word' = word; slot' = slot; items' = items; c' = c; n' = n; e = None; own' = Nobody; h' = h; leaves = refl; stands = st; told = refl; makes = refl; lands = right_now (single items c n) ms Call.IsClosed (Reply.IsClosed (is_marked word)) refl (reads st).0; passes = stays Nobody h }
 look_step {word = word} {slot = slot} {h = h} {items = items} {c = c} Look.IsEmpty st n ms = record { word' = word; slot' = slot; items' = items; c' = c; n' = n; e = None; own' = Nobody; h' = h; leaves = refl; stands = st; told = refl; makes = refl; lands = right_now (single items c n) ms Call.IsEmpty (Reply.IsEmpty (not (is_pushed word))) refl (reads st).1; passes = stays Nobody h }
 look_step {word = word} {slot = slot} {h = h} {items = items} {c = c} Look.IsFull st n ms = record { word' = word; slot' = slot; items' = items; c' = c; n' = n; e = None; own' = Nobody; h' = h; leaves = refl; stands = st; told = refl; makes = refl; lands = right_now (single items c n) ms Call.IsFull (Reply.IsFull (is_pushed word)) refl (reads st).2; passes = stays Nobody h }
@@ -108,7 +108,7 @@ look_step {word = word} {slot = slot} {h = h} {items = items} {c = c} Look.Len s
 
 -- each step of a call, wherever it stands, is a step of the queue
 pub step_good : {T : Type 0} {x : Stand T} {word : ℕ} {slot : Option T} {own h : SlotHolder T} {items : List T} {c : Bool}
-    → At x own → Share own h → Stands word slot h items c → Row word slot own h items c x
+    → At x own → Share own h → Codes word slot h items c → Row word slot own h items c x
 step_good (push_try v) (idle h) st n ms = push_step v st n ms
 step_good (force_try_empty v) (idle h) st n ms = force_empty_step v st n ms
 step_good (force_try_full v) (idle h) st n ms = force_full_step v st n ms

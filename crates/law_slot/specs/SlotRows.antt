@@ -26,12 +26,12 @@ code false true true = 6
 code true true true = 7
 
 -- the word and the slot that stand for the items and the flag, by what the lock's holder is about to do
-pub data Stands {T : Type 0} : ℕ → Option T → SlotHolder T → List T → Bool → Type 0 where
-  free_empty : (c : Bool) → Stands (code false false c) None Nobody [] c
-  free_full : (c : Bool) (x : T) → Stands (code false true c) (Some x) Nobody (x ∷ []) c
-  filling : (c : Bool) (v : T) → Stands (code true true c) None (Filling v) (v ∷ []) c
-  swapping : (c : Bool) (old v : T) → Stands (code true true c) (Some old) (Swapping old v) (v ∷ []) c
-  taking : (c : Bool) (x : T) → Stands (code true false c) (Some x) (Taking x) [] c
+pub data Codes {T : Type 0} : ℕ → Option T → SlotHolder T → List T → Bool → Type 0 where
+  free_empty : (c : Bool) → Codes (code false false c) None Nobody [] c
+  free_full : (c : Bool) (x : T) → Codes (code false true c) (Some x) Nobody (x ∷ []) c
+  filling : (c : Bool) (v : T) → Codes (code true true c) None (Filling v) (v ∷ []) c
+  swapping : (c : Bool) (old v : T) → Codes (code true true c) (Some old) (Swapping old v) (v ∷ []) c
+  taking : (c : Bool) (x : T) → Codes (code true false c) (Some x) (Taking x) [] c
 
 abbrev pub asks : {T : Type 0} → Look → Call T
 asks Look.IsClosed = Call.IsClosed
@@ -73,9 +73,9 @@ abbrev pub single : {T : Type 0} → List T → Bool → ℕ → State T
 single items c n = record { items = items; cap = Some 1; closed = c; coming = None; accepted = n }
 
 -- the call goes on from a known place, or ends with a reply that is right, and holds nothing
-abbrev pub Lands : {T : Type 0} → Next ℕ → Option T → SlotHolder T → Call T → List (Effect T) → List (State T) → Type 0
-Lands (Next.Step l t o) v own k es ms = At (stand l t o v k es) own
-Lands {T} (Next.Reply x spare) v own k es ms =
+abbrev pub NextOk : {T : Type 0} → Next ℕ → Option T → SlotHolder T → Call T → List (Effect T) → List (State T) → Type 0
+NextOk (Next.Step l t o) v own k es ms = At (stand l t o v k es) own
+NextOk {T} (Next.Reply x spare) v own k es ms =
     (own ≡ Nobody) × (spare ≡ None) × ((y : Reply T) × (filled x v ≡ Some y) × Tells k y es × (es ≡ [] → SeenIn ms (λ m. IsRightAt m k y)))
 
 -- the effect of the step at this local state that got this answer: the exchange that wins, and the mark on an open queue
@@ -90,7 +90,7 @@ IsEffect _ a e = ⊥
 
 module _ {T : Type 0} (word : ℕ) (slot : Option T) (own h : SlotHolder T) (items : List T) (c : Bool) (n : ℕ) where
   -- the step of a call is a step of the queue
-  pub record Good (x : Stand T) (ms : List (State T)) : Type 0 where
+  pub record StepOk (x : Stand T) (ms : List (State T)) : Type 0 where
     pub word' : ℕ
     pub slot' : Option T
     pub items' : List T
@@ -100,8 +100,8 @@ module _ {T : Type 0} (word : ℕ) (slot : Option T) (own h : SlotHolder T) (ite
     pub own' : SlotHolder T
     pub h' : SlotHolder T
     pub leaves : operated (touched (one_slot word slot) x.touch x.carried) x.op ≡ one_slot word' slot'
-    pub stands : Stands word' slot' h' items' c'
+    pub stands : Codes word' slot' h' items' c'
     pub told : IsEffect x.local (answered (touched (one_slot word slot) x.touch x.carried) x.op) e
     pub makes : Leads (single items c n) e (single items' c' n')
-    pub lands : Lands (next_of Kind.Single x.local (answered (touched (one_slot word slot) x.touch x.carried) x.op)) (handed (one_slot word slot) x.touch x.carried) own' x.call (with_effect x.effects e) (single items' c' n' ∷ ms)
+    pub lands : NextOk (next_of Kind.Single x.local (answered (touched (one_slot word slot) x.touch x.carried) x.op)) (handed (one_slot word slot) x.touch x.carried) own' x.call (with_effect x.effects e) (single items' c' n' ∷ ms)
     pub passes : Passes own h own' h'

@@ -1,6 +1,6 @@
 -- How many parties are on the way to sleep, and how many go to wake them.
 use Rattle.std.proofs.Common.{◌≡◌, ◌⊎◌, inl, inr, ℕ, ◌+◌, ◌≤◌, ◌==◌, Bool, true, false, Some, List, count_by, slice_get, slice_set, arith, le_refl}
-use Rattle.law_wakes.specs.declared.steps.Place.TheVariants.{Prepared, Missed, Given, Taking, Moving, Waking}
+use Rattle.law_wakes.specs.declared.steps.Phase.TheVariants.{Prepared, Missed, Given, Taking, Moving, Waking}
 use Rattle.law_wakes.specs.declared.steps.Whom.TheVariants.{One}
 use Rattle.law_wakes.specs.World.{Party, Awake, World, is_asleep}
 use Rattle.law_wakes.specs.Laws.{is_woken}

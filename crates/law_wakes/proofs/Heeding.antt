@@ -1,7 +1,7 @@
 -- Each event keeps that no item is left to nobody, while no party slept on a ticket that `EVENTS` was no longer.
 use Rattle.std.proofs.Common.{◌≡◌, ◌≢◌, ◌⊎◌, inl, inr, ℕ, zero, suc, ◌+◌, ◌-◌, ◌≤◌, ◌==◌, Bool, true, false, cond, if◌then◌else◌, Option, Some, None, map, count_by, slice_get, slice_set, refl, sym, ap, ◌∙◌, subst, arith, le_refl, eqb-true}
-use Rattle.law_wakes.specs.declared.steps.Place.{Place}
-use Rattle.law_wakes.specs.declared.steps.Place.TheVariants.{Idle, Starting, Loaded, Prepared, Missed, Returned, Given, Taking, Moving, Waking}
+use Rattle.law_wakes.specs.declared.steps.Phase.{Phase}
+use Rattle.law_wakes.specs.declared.steps.Phase.TheVariants.{Idle, Starting, Loaded, Prepared, Missed, Returned, Given, Taking, Moving, Waking}
 use Rattle.law_wakes.specs.declared.steps.Whom.TheVariants.{One, All}
 use Rattle.law_wakes.specs.Steps.{low, step_of}
 use Rattle.law_wakes.specs.World.{Party, Awake, Asleep, World, Event, Steps, Rises, Prepares, Looks, Leaves, Gives, Tells, is_asleep, risen, put, goes_on, counts_late, wakes_one, takes, rises, looks, leaves, prepares, gives, tells, happens}
@@ -258,7 +258,7 @@ module _ (w : World) (k m : ℕ) (h : Heeded w) where
         for_asleep = λ some. absurd (omega (arith, none, asleep, some));
       }
 
-  takes_keeps : (j : ℕ) → Told w → (p : Place) → slice_get w.parties k ≡ Some (Awake p m) → Heeded (takes w k p m j (step_of p))
+  takes_keeps : (j : ℕ) → Told w → (p : Phase) → slice_get w.parties k ≡ Some (Awake p m) → Heeded (takes w k p m j (step_of p))
   takes_keeps j told Idle at = h
   takes_keeps j told Starting at = turns (Awake Starting m) (Awake (Loaded w.events) m) w.sleepers w.items at (alike w.sleepers w.items (part w.events (Awake Starting m)))
   takes_keeps j told (Loaded t) at = registers t at
@@ -317,13 +317,13 @@ module _ (w : World) (k m : ℕ) (h : Heeded w) where
         no_asleep = le_refl _;
       })
 
-  looks_keeps : (p : Place) → slice_get w.parties k ≡ Some (Awake p m) → Heeded (looks w k p (step_of p))
+  looks_keeps : (p : Phase) → slice_get w.parties k ≡ Some (Awake p m) → Heeded (looks w k p (step_of p))
   looks_keeps Idle at = looks_idle (w.items == 0) at
   looks_keeps (Prepared t) at = looks_prepared t (w.items == 0) refl at
   looks_keeps Returned at = looks_returned (w.items == 0) refl at
   looks_keeps other at = h
 
-  leaves_keeps : (p : Place) → slice_get w.parties k ≡ Some (Awake p m) → Heeded (leaves w k m p)
+  leaves_keeps : (p : Phase) → slice_get w.parties k ≡ Some (Awake p m) → Heeded (leaves w k m p)
   leaves_keeps (Prepared t) at = turns (Awake (Prepared t) m) (Awake Idle m) w.sleepers w.items at (record {
     reached = omega arith;
     reached_near = omega arith;
@@ -336,11 +336,11 @@ module _ (w : World) (k m : ℕ) (h : Heeded w) where
   })
   leaves_keeps other at = h
 
-  prepares_keeps : (p : Place) → slice_get w.parties k ≡ Some (Awake p m) → Heeded (prepares w k m p)
+  prepares_keeps : (p : Phase) → slice_get w.parties k ≡ Some (Awake p m) → Heeded (prepares w k m p)
   prepares_keeps Idle at = turns (Awake Idle m) (Awake Starting m) w.sleepers w.items at (alike w.sleepers w.items (part w.events (Awake Idle m)))
   prepares_keeps other at = h
 
-  gives_keeps : (p : Place) → slice_get w.parties k ≡ Some (Awake p m) → Heeded (gives w k m p)
+  gives_keeps : (p : Phase) → slice_get w.parties k ≡ Some (Awake p m) → Heeded (gives w k m p)
   gives_keeps Idle at = turns (Awake Idle m) (Awake Given m) w.sleepers (w.items + 1) at (record {
     reached = omega arith;
     reached_near = omega arith;
@@ -353,7 +353,7 @@ module _ (w : World) (k m : ℕ) (h : Heeded w) where
   })
   gives_keeps other at = h
 
-  tells_keeps : (p : Place) → slice_get w.parties k ≡ Some (Awake p m) → Heeded (tells w k m p)
+  tells_keeps : (p : Phase) → slice_get w.parties k ≡ Some (Awake p m) → Heeded (tells w k m p)
   tells_keeps Idle at = turns (Awake Idle m) (Awake (Moving All) (w.times + 1)) w.sleepers w.items at (alike w.sleepers w.items (part w.events (Awake Idle m)))
   tells_keeps other at = h
 

@@ -1,6 +1,6 @@
 -- The laws of every run.
 use Rattle.std.proofs.Common.{◌≡◌, ◌⊎◌, inl, inr, ℕ, ◌+◌, ◌≤◌, ◌∙◌, Bool, List, [], ◌∷◌, replicate, count_by, refl, sym, ap, subst, arith, le_refl}
-use Rattle.law_wakes.specs.declared.steps.Place.TheVariants.{Idle, Given, Taking, Moving, Waking}
+use Rattle.law_wakes.specs.declared.steps.Phase.TheVariants.{Idle, Given, Taking, Moving, Waking}
 use Rattle.law_wakes.specs.declared.steps.Whom.TheVariants.{One, All}
 use Rattle.law_wakes.specs.World.{Party, Awake, Asleep, World, Event, is_asleep, start, happens, run}
 use Rattle.law_wakes.specs.Laws.{is_woken, is_giving, is_telling, Sleeps, HasMissedNothing, NobodySleepsThrough, IsHeeded, NoItemIsLeft}

@@ -1,7 +1,7 @@
 -- Each event keeps what those may rely on that wait for what all wait for.
 use Rattle.std.proofs.Common.{◌≡◌, ◌≢◌, ◌⊎◌, inl, inr, ℕ, ◌+◌, ◌-◌, ◌^◌, ◌<◌, ◌≤◌, ◌==◌, Bool, true, false, if◌then◌else◌, Option, Some, None, map, count_by, slice_get, slice_set, refl, sym, ap, ◌∙◌, subst, arith, le_refl, le_of_eq, eqb-true, eq-eqb}
-use Rattle.law_wakes.specs.declared.steps.Place.{Place}
-use Rattle.law_wakes.specs.declared.steps.Place.TheVariants.{Idle, Starting, Loaded, Prepared, Missed, Returned, Given, Taking, Moving, Waking}
+use Rattle.law_wakes.specs.declared.steps.Phase.{Phase}
+use Rattle.law_wakes.specs.declared.steps.Phase.TheVariants.{Idle, Starting, Loaded, Prepared, Missed, Returned, Given, Taking, Moving, Waking}
 use Rattle.law_wakes.specs.declared.steps.Whom.{Whom}
 use Rattle.law_wakes.specs.declared.steps.Whom.TheVariants.{One, All}
 use Rattle.law_wakes.specs.Steps.{low, step_of}
@@ -109,7 +109,7 @@ wakes_all w k m told at =
       sleep = λ asleep. absurd (let a = count_set is_asleep up k p q there in omega (arith, a, none, asleep));
     }) told
 
-takes_keeps : (w : World) (k m j : ℕ) (p : Place) → slice_get w.parties k ≡ Some (Awake p m) → Told w → Told (takes w k p m j (step_of p))
+takes_keeps : (w : World) (k m j : ℕ) (p : Phase) → slice_get w.parties k ≡ Some (Awake p m) → Told w → Told (takes w k p m j (step_of p))
 takes_keeps w k m j Idle at told = told
 takes_keeps w k m j Starting at told = plain_keeps w k (Awake Starting m) (Awake (Loaded w.events) m) w.events w.sleepers w.items w.late at refl (le_refl _) (le_refl _) told
 takes_keeps w k m j (Loaded t) at told = plain_keeps w k (Awake (Loaded t) m) (Awake (Prepared t) m) w.events (w.sleepers + 1) w.items w.late at refl (le_refl _) (told k (Awake (Loaded t) m) at) told
@@ -125,7 +125,7 @@ takes_keeps w k m j (Waking All) at told = wakes_all w k m told at
 
 module _ (w : World) (k m : ℕ) (told : Told w) where
   -- a look of a party that has no ticket
-  looks_on : (p : Place) (b : Bool) → slice_get w.parties k ≡ Some (Awake p m) → one (is_untold w.times) (Awake p m) ≡ 0 → one (is_telling w.times) (Awake p m) ≡ 0
+  looks_on : (p : Phase) (b : Bool) → slice_get w.parties k ≡ Some (Awake p m) → one (is_untold w.times) (Awake p m) ≡ 0 → one (is_telling w.times) (Awake p m) ≡ 0
       → Told (if b then put w k (Awake Idle w.times) else put (record w { items = w.items - 1 }) k (Awake Idle w.times))
   looks_on p true at a c = stays w k m told (Awake p m) (Awake Idle w.times) w.sleepers w.items w.late at a c tt
   looks_on p false at a c = stays w k m told (Awake p m) (Awake Idle w.times) w.sleepers (w.items - 1) w.late at a c tt
@@ -136,25 +136,25 @@ module _ (w : World) (k m : ℕ) (told : Told w) where
   looks_prepared t true at = stays w k m told (Awake (Prepared t) m) (Awake (Missed t) w.times) w.sleepers w.items w.late at refl refl (told k (Awake (Prepared t) m) at, λ same. inl refl)
   looks_prepared t false at = stays w k m told (Awake (Prepared t) m) (Awake Idle w.times) w.sleepers (w.items - 1) w.late at refl refl tt
 
-  looks_keeps : (p : Place) → slice_get w.parties k ≡ Some (Awake p m) → Told (looks w k p (step_of p))
+  looks_keeps : (p : Phase) → slice_get w.parties k ≡ Some (Awake p m) → Told (looks w k p (step_of p))
   looks_keeps Idle at = looks_on Idle (w.items == 0) at refl refl
   looks_keeps (Prepared t) at = looks_prepared t (w.items == 0) at
   looks_keeps Returned at = looks_on Returned (w.items == 0) at refl refl
   looks_keeps other at = told
 
-  leaves_keeps : (p : Place) → slice_get w.parties k ≡ Some (Awake p m) → Told (leaves w k m p)
+  leaves_keeps : (p : Phase) → slice_get w.parties k ≡ Some (Awake p m) → Told (leaves w k m p)
   leaves_keeps (Prepared t) at = stays w k m told (Awake (Prepared t) m) (Awake Idle m) w.sleepers w.items w.late at refl refl tt
   leaves_keeps other at = told
 
-  prepares_keeps : (p : Place) → slice_get w.parties k ≡ Some (Awake p m) → Told (prepares w k m p)
+  prepares_keeps : (p : Phase) → slice_get w.parties k ≡ Some (Awake p m) → Told (prepares w k m p)
   prepares_keeps Idle at = stays w k m told (Awake Idle m) (Awake Starting m) w.sleepers w.items w.late at refl refl tt
   prepares_keeps other at = told
 
-  gives_keeps : (p : Place) → slice_get w.parties k ≡ Some (Awake p m) → Told (gives w k m p)
+  gives_keeps : (p : Phase) → slice_get w.parties k ≡ Some (Awake p m) → Told (gives w k m p)
   gives_keeps Idle at = stays w k m told (Awake Idle m) (Awake Given m) w.sleepers (w.items + 1) w.late at refl refl tt
   gives_keeps other at = told
 
-  tells_keeps : (p : Place) → slice_get w.parties k ≡ Some (Awake p m) → Told (tells w k m p)
+  tells_keeps : (p : Phase) → slice_get w.parties k ≡ Some (Awake p m) → Told (tells w k m p)
   tells_keeps Idle at =
       let next = w.times + 1 in
       let p = Awake Idle m in
@@ -170,7 +170,7 @@ module _ (w : World) (k m : ℕ) (told : Told w) where
       }) told
   tells_keeps other at = told
 
-pub acts_keeps : (P : World → Type 0) (w : World) (f : Place → ℕ → World) (o : Option Party) → ((p : Place) (m : ℕ) → o ≡ Some (Awake p m) → P (f p m)) → P w → P (acts w f o)
+pub acts_keeps : (P : World → Type 0) (w : World) (f : Phase → ℕ → World) (o : Option Party) → ((p : Phase) (m : ℕ) → o ≡ Some (Awake p m) → P (f p m)) → P w → P (acts w f o)
 acts_keeps P w f (Some (Awake p m)) each kept = each p m refl
 acts_keeps P w f (Some (Asleep t parked m)) each kept = kept
 acts_keeps P w f None each kept = kept

@@ -1,6 +1,6 @@
 -- What each event keeps for those that wait for what all wait for.
 use Rattle.std.proofs.Common.{◌≡◌, ◌⊎◌, inl, inr, ℕ, ◌+◌, ◌^◌, ◌<◌, ◌≤◌, ◌==◌, Bool, true, false, Some, count_by, slice_get, slice_set, refl, sym, subst, arith}
-use Rattle.law_wakes.specs.declared.steps.Place.TheVariants.{Loaded, Prepared, Missed, Moving, Waking}
+use Rattle.law_wakes.specs.declared.steps.Phase.TheVariants.{Loaded, Prepared, Missed, Moving, Waking}
 use Rattle.law_wakes.specs.declared.steps.Whom.TheVariants.{One, All}
 use Rattle.law_wakes.specs.World.{Party, Awake, Asleep, World, is_asleep}
 use Rattle.law_wakes.specs.Laws.{is_telling}

@@ -1,6 +1,6 @@
 -- Short runs, in which the first party waits and the others notify.
 use Rattle.std.specs.Prelude.{◌≡◌, ℕ, List, [], ◌∷◌, ◌++◌}
-use Rattle.law_wakes.specs.declared.steps.Place.TheVariants.{Idle, Returned, Taking, Moving, Waking}
+use Rattle.law_wakes.specs.declared.steps.Phase.TheVariants.{Idle, Returned, Taking, Moving, Waking}
 use Rattle.law_wakes.specs.declared.steps.Whom.TheVariants.{One, All}
 use Rattle.law_wakes.specs.World.{Party, Awake, Asleep, Event, Steps, Prepares, Looks, Gives, Tells, start, run}
 

@@ -1,6 +1,6 @@
 -- What holds in every run.
 use Rattle.std.specs.Prelude.{◌≡◌, ℕ, ◌+◌, ◌^◌, ◌<◌, ◌≤◌, ◌==◌, ◌⊎◌, Bool, true, false, Some, List, count_by, slice_get}
-use Rattle.law_wakes.specs.declared.steps.Place.TheVariants.{Returned, Given, Taking, Moving, Waking}
+use Rattle.law_wakes.specs.declared.steps.Phase.TheVariants.{Returned, Given, Taking, Moving, Waking}
 use Rattle.law_wakes.specs.declared.steps.Whom.TheVariants.{One, All}
 use Rattle.law_wakes.specs.World.{Party, Awake, Asleep, World, Event, is_asleep, start, run}
 

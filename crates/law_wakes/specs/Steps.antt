@@ -1,7 +1,7 @@
 -- What a party does next, and where it is then.
 use Rattle.std.specs.Prelude.{ℕ, ◌%◌, ◌^◌, ◌==◌, Bool, if◌then◌else◌}
-use Rattle.law_wakes.specs.declared.steps.Place.{Place}
-use Rattle.law_wakes.specs.declared.steps.Place.TheVariants.{Idle, Starting, Loaded, Prepared, Missed, Returned, Given, Taking, Moving, Waking}
+use Rattle.law_wakes.specs.declared.steps.Phase.{Phase}
+use Rattle.law_wakes.specs.declared.steps.Phase.TheVariants.{Idle, Starting, Loaded, Prepared, Missed, Returned, Given, Taking, Moving, Waking}
 use Rattle.law_wakes.specs.declared.steps.Step.{Step}
 use Rattle.law_wakes.specs.declared.steps.Step.TheVariants.{Rest, Load, Add, Take, Park, Wake}
 use Rattle.law_wakes.specs.declared.steps.Whom.TheVariants.{One}
@@ -11,7 +11,7 @@ use Rattle.law_wakes.specs.declared.steps.Word.TheVariants as word
 abbrev pub low : ℕ → ℕ
 low n = n % 2 ^ 32
 
-abbrev pub step_of : Place → Step
+abbrev pub step_of : Phase → Step
 step_of Idle = Rest
 step_of Starting = Load word.Events
 step_of (Loaded events) = Add word.Sleepers
@@ -24,7 +24,7 @@ step_of (Moving whom) = Add word.Events
 step_of (Waking whom) = Wake whom
 
 -- where it is after a step that found a number
-abbrev pub after_of : Place → ℕ → Place
+abbrev pub after_of : Phase → ℕ → Phase
 after_of Idle found = Idle
 after_of Starting found = Loaded found
 after_of (Loaded events) found = Prepared events
@@ -37,7 +37,7 @@ after_of (Moving whom) found = Waking whom
 after_of (Waking whom) found = Idle
 
 -- where it is after its caller has looked
-abbrev pub looked_of : Place → Bool → Place
+abbrev pub looked_of : Phase → Bool → Phase
 looked_of Idle found = Idle
 looked_of Starting found = Starting
 looked_of (Loaded events) found = Loaded events

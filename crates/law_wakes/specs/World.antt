@@ -1,7 +1,7 @@
 -- Any number of parties over the two words, and what one event makes of them.
 use Rattle.std.specs.Prelude.{ℕ, ◌+◌, ◌-◌, ◌==◌, Bool, true, false, if◌then◌else◌, Option, Some, List, [], ◌∷◌, map, replicate, count_by, slice_get, slice_set}
-use Rattle.law_wakes.specs.declared.steps.Place.{Place}
-use Rattle.law_wakes.specs.declared.steps.Place.TheVariants.{Idle, Starting, Prepared, Missed, Given, Moving}
+use Rattle.law_wakes.specs.declared.steps.Phase.{Phase}
+use Rattle.law_wakes.specs.declared.steps.Phase.TheVariants.{Idle, Starting, Prepared, Missed, Given, Moving}
 use Rattle.law_wakes.specs.declared.steps.Step.{Step}
 use Rattle.law_wakes.specs.declared.steps.Step.TheVariants.{Rest, Load, Add, Take, Park, Wake}
 use Rattle.law_wakes.specs.declared.steps.Word.{Word}
@@ -11,7 +11,7 @@ use Rattle.law_wakes.specs.Steps.{low, step_of, after_of, looked_of}
 
 -- a party: where it is; or that it sleeps, the ticket on which it parked, and what `EVENTS` was then. The mark is what `times` was when its caller last looked, or once it had raised it
 pub data Party : Type 0 where
-  Awake : (place : Place) (mark : ℕ) → Party
+  Awake : (phase : Phase) (mark : ℕ) → Party
   Asleep : (ticket parked mark : ℕ) → Party
 
 -- the two words; the items, of which each is for one party; how often what all wait for has come; how often a party slept though `EVENTS` was no longer its ticket, which wants 2 ^ 32 moves
@@ -66,11 +66,11 @@ with_word word.Sleepers n w = record w { sleepers = n }
 abbrev pub put : World → ℕ → Party → World
 put w k p = record w { parties = slice_set w.parties k p }
 
--- the party at k goes on from its place p, after a step that found n
-abbrev pub goes_on : World → ℕ → Place → ℕ → ℕ → World
+-- the party at k goes on from its phase p, after a step that found n
+abbrev pub goes_on : World → ℕ → Phase → ℕ → ℕ → World
 goes_on w k p m n = put w k (Awake (after_of p n) m)
 
-abbrev pub ticket_of : Place → ℕ
+abbrev pub ticket_of : Phase → ℕ
 ticket_of (Missed events) = events
 ticket_of other = 0
 
@@ -79,12 +79,12 @@ abbrev pub counts_late : World → ℕ → World
 counts_late w ticket = record w { late = w.late + (if w.events == ticket then 0 else 1) }
 
 -- a wake of one wakes the sleeper that the event names. Where nobody sleeps it wakes nobody
-abbrev pub wakes_one : World → ℕ → Place → ℕ → ℕ → Option Party → World
+abbrev pub wakes_one : World → ℕ → Phase → ℕ → ℕ → Option Party → World
 wakes_one w k p m j (Some (Asleep t at mark)) = goes_on (put w j (risen (Asleep t at mark))) k p m 0
 wakes_one w k p m j other = if count_by is_asleep w.parties == 0 then goes_on w k p m 0 else w
 
--- the party at k, at the place p, takes this step
-abbrev pub takes : World → ℕ → Place → ℕ → ℕ → Step → World
+-- the party at k, at the phase p, takes this step
+abbrev pub takes : World → ℕ → Phase → ℕ → ℕ → Step → World
 takes w k p m j Rest = w
 takes w k p m j (Load x) = goes_on w k p m (word_of x w)
 takes w k p m j (Add x) = goes_on (with_word x (word_of x w + 1) w) k p m (word_of x w)
@@ -93,30 +93,30 @@ takes w k p m j (Park n) = if low w.events == n then put (counts_late w (ticket_
 takes w k p m j (Wake One) = wakes_one w k p m j (slice_get w.parties j)
 takes w k p m j (Wake All) = goes_on (record w { parties = map risen w.parties }) k p m 0
 
-abbrev pub looks : World → ℕ → Place → Step → World
+abbrev pub looks : World → ℕ → Phase → Step → World
 looks w k p Rest =
     if w.items == 0 then put w k (Awake (looked_of p false) w.times)
     else put (record w { items = w.items - 1 }) k (Awake (looked_of p true) w.times)
 looks w k p other = w
 
-abbrev pub leaves : World → ℕ → ℕ → Place → World
+abbrev pub leaves : World → ℕ → ℕ → Phase → World
 leaves w k m (Prepared events) = put w k (Awake (looked_of (Prepared events) true) m)
 leaves w k m other = w
 
-abbrev pub prepares : World → ℕ → ℕ → Place → World
+abbrev pub prepares : World → ℕ → ℕ → Phase → World
 prepares w k m Idle = put w k (Awake Starting m)
 prepares w k m other = w
 
-abbrev pub gives : World → ℕ → ℕ → Place → World
+abbrev pub gives : World → ℕ → ℕ → Phase → World
 gives w k m Idle = put (record w { items = w.items + 1 }) k (Awake Given m)
 gives w k m other = w
 
-abbrev pub tells : World → ℕ → ℕ → Place → World
+abbrev pub tells : World → ℕ → ℕ → Phase → World
 tells w k m Idle = put (record w { times = w.times + 1 }) k (Awake (Moving All) (w.times + 1))
 tells w k m other = w
 
 -- what a party that is awake makes of the world
-abbrev pub acts : World → (Place → ℕ → World) → Option Party → World
+abbrev pub acts : World → (Phase → ℕ → World) → Option Party → World
 acts w f (Some (Awake p m)) = f p m
 acts w f other = w
 

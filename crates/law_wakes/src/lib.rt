@@ -10,7 +10,7 @@ ghost use Rattle.law_wakes.specs.Examples.{Examples};
 
 mod steps;
 
-pub use steps::{Place, Step, Whom, Word};
+pub use steps::{Phase, Step, Whom, Word};
 
 /// In every run, of any number of parties, a sleeper has missed nothing: what all wait for has not come since the sleeper looked, or the party that made it come last has not ended its
 /// notify of all.

@@ -39,7 +39,7 @@ pub enum Step {
 
 /// Where a party is. A number is what it found in `EVENTS`, where nothing else is said.
 #[derive(Clone, Copy)]
-pub enum Place {
+pub enum Phase {
     /// Between two calls.
     Idle,
     /// It begins to prepare.
@@ -65,61 +65,61 @@ pub enum Place {
 /// How many numbers 32 bits tell apart.
 const LOW: u64 = 1 << 32;
 
-impl Place {
+impl Phase {
     /// What the party does next.
     #[inline(always)]
     pub fn step(self) -> Step
         ensures { result ≡ step_of self }
     {
         match self {
-            Place::Idle | Place::Prepared(_) | Place::Returned => Step::Rest,
-            Place::Starting => Step::Load(Word::Events),
-            Place::Loaded(_) => Step::Add(Word::Sleepers),
-            Place::Missed(events) => Step::Park((events % LOW) as u32),
-            Place::Given => Step::Load(Word::Sleepers),
-            Place::Taking(sleepers) => Step::Take(sleepers),
-            Place::Moving(_) => Step::Add(Word::Events),
-            Place::Waking(whom) => Step::Wake(whom),
+            Phase::Idle | Phase::Prepared(_) | Phase::Returned => Step::Rest,
+            Phase::Starting => Step::Load(Word::Events),
+            Phase::Loaded(_) => Step::Add(Word::Sleepers),
+            Phase::Missed(events) => Step::Park((events % LOW) as u32),
+            Phase::Given => Step::Load(Word::Sleepers),
+            Phase::Taking(sleepers) => Step::Take(sleepers),
+            Phase::Moving(_) => Step::Add(Word::Events),
+            Phase::Waking(whom) => Step::Wake(whom),
         }
     }
 
     /// Where the party is after that step, which found a number in its word.
     #[inline(always)]
-    pub fn after(self, found: u64) -> Place
+    pub fn after(self, found: u64) -> Phase
         ensures { result ≡ after_of self found }
     {
         match self {
-            Place::Starting => Place::Loaded(found),
-            Place::Loaded(events) => Place::Prepared(events),
-            Place::Missed(_) => Place::Returned,
-            Place::Given => {
+            Phase::Starting => Phase::Loaded(found),
+            Phase::Loaded(events) => Phase::Prepared(events),
+            Phase::Missed(_) => Phase::Returned,
+            Phase::Given => {
                 if found == 0 {
-                    Place::Idle
+                    Phase::Idle
                 } else {
-                    Place::Taking(found)
+                    Phase::Taking(found)
                 }
             }
-            Place::Taking(_) => Place::Moving(Whom::One),
-            Place::Moving(whom) => Place::Waking(whom),
-            Place::Waking(_) => Place::Idle,
-            Place::Idle | Place::Prepared(_) | Place::Returned => self,
+            Phase::Taking(_) => Phase::Moving(Whom::One),
+            Phase::Moving(whom) => Phase::Waking(whom),
+            Phase::Waking(_) => Phase::Idle,
+            Phase::Idle | Phase::Prepared(_) | Phase::Returned => self,
         }
     }
 
     /// Where the party is after its caller has looked, and has found what it waits for or not.
     #[inline(always)]
-    pub fn looked(self, found: bool) -> Place
+    pub fn looked(self, found: bool) -> Phase
         ensures { result ≡ looked_of self found }
     {
         match self {
-            Place::Prepared(events) => {
+            Phase::Prepared(events) => {
                 if found {
-                    Place::Idle
+                    Phase::Idle
                 } else {
-                    Place::Missed(events)
+                    Phase::Missed(events)
                 }
             }
-            Place::Returned => Place::Idle,
+            Phase::Returned => Phase::Idle,
             other => other,
         }
     }

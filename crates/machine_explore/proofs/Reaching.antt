@@ -16,23 +16,23 @@ use Rattle.machine_memory.specs.declared.types.Told.TheVariants.{Skipped}
 use Rattle.machine_explore.specs.Explored.{begun_by, replies_by, IsGranted}
 use Rattle.machine_explore.specs.Moves.{advanced, call_in, event_at, event_for, led_by, reply_in}
 use Rattle.machine_replay.specs.Played.{told_by, world_by}
-use Rattle.machine_explore.specs.Positions.{At, Progress, calls_of, no_progress, progress_of}
+use Rattle.machine_explore.specs.Positions.{Configuration, Progress, calls_of, no_progress, progress_of}
 use Rattle.machine_explore.specs.Tables.{StaysForAll}
 use Rattle.machine_explore.proofs.Walks.{CanTake, WentOn, granted_of, left_over, next_call, went_on}
 
 -- the run of these events from s ends there
-pub record Arrives {S R T : Type 0} (step : Bool → S → R → Made S R T) (start : Call T → Begun R T) (calls : List (List (Call T))) (s : At S R T) (events : List (Event T)) (end : At S R T) : Type 0 where
+pub record Arrives {S R T : Type 0} (step : Bool → S → R → Made S R T) (start : Call T → Begun R T) (calls : List (List (Call T))) (s : Configuration S R T) (events : List (Event T)) (end : Configuration S R T) : Type 0 where
   pub kind : end.kind ≡ s.kind
   pub world : end.world ≡ world_by step start s.world events
   pub parties : length end.parties ≡ length calls
   pub replies : (p : ℕ) → p < length calls → (progress_of end p).replies ≡ (progress_of s p).replies ++ replies_by p events (told_by step start s.world events)
 
 -- the parties have the calls that are left to them to begin
-abbrev pub Begins : {S R T : Type 0} → (Bool → S → R → Made S R T) → (Call T → Begun R T) → List (List (Call T)) → At S R T → List (Event T) → Type 0
+abbrev pub Begins : {S R T : Type 0} → (Bool → S → R → Made S R T) → (Call T → Begun R T) → List (List (Call T)) → Configuration S R T → List (Event T) → Type 0
 Begins step start calls s events = (p : ℕ) → p < length calls → begun_by p events (told_by step start s.world events) ≡ drop (progress_of s p).begun (calls_of calls p)
 
 -- there are as many parties as lists of calls
-pub record HasParties {S R T : Type 0} (calls : List (List (Call T))) (s : At S R T) : Type 0 where
+pub record HasParties {S R T : Type 0} (calls : List (List (Call T))) (s : Configuration S R T) : Type 0 where
   pub parties : length s.parties ≡ length calls
   pub calls_are : length s.world.calls ≡ length calls
 
@@ -67,7 +67,7 @@ pub if-false : {X : Type 0} (b : Bool) (x y : X) → b ≡ false → (if b then 
 if-false b x y e = rw e refl
 
 -- an event that went on is one by which its party may go on
-event_fits : {S R T : Type 0} (calls : List (List (Call T))) (s : At S R T) (e : Event T) (made : World S R × Told T) (rest : List (Call T))
+event_fits : {S R T : Type 0} (calls : List (List (Call T))) (s : Configuration S R T) (e : Event T) (made : World S R × Told T) (rest : List (Call T))
     → WentOn s.world e made → call_in e made.1 ++ rest ≡ drop (progress_of s (party_of e)).begun (calls_of calls (party_of e)) → event_at calls s (party_of e) (granted_of e) ≡ Some e
 event_fits {S} {R} {T} calls s e made rest went begins =
     taken (call_at s.world (party_of e)) e (slice_get (calls_of calls (party_of e)) (progress_of s (party_of e)).begun) went.takes
@@ -79,11 +79,11 @@ event_fits {S} {R} {T} calls s e made rest went begins =
         next_call (calls_of calls (party_of e)) (progress_of s (party_of e)).begun c rest (ap (λ l. l ++ rest) (sym first) ∙ begins)
 
 -- what an event adds to the progress of a party
-pub progress-own : {S R T : Type 0} (step : Bool → S → R → Made S R T) (start : Call T → Begun R T) (s : At S R T) (e : Event T) → party_of e < length s.parties
+pub progress-own : {S R T : Type 0} (step : Bool → S → R → Made S R T) (start : Call T → Begun R T) (s : Configuration S R T) (e : Event T) → party_of e < length s.parties
     → progress_of (led_by step start s e) (party_of e) ≡ advanced (progress_of s (party_of e)) e (world_event step start s.world true e).1
 progress-own step start s e inside = get_or-set_same s.parties (party_of e) _ no_progress inside
 
-pub progress-other : {S R T : Type 0} (step : Bool → S → R → Made S R T) (start : Call T → Begun R T) (s : At S R T) (e : Event T) (q : ℕ) → party_of e ≢ q
+pub progress-other : {S R T : Type 0} (step : Bool → S → R → Made S R T) (start : Call T → Begun R T) (s : Configuration S R T) (e : Event T) (q : ℕ) → party_of e ≢ q
     → progress_of (led_by step start s e) q ≡ progress_of s q
 progress-other step start s e q other = get_or-set_other s.parties (party_of e) q _ no_progress (λ is. other (sym is))
 
@@ -109,13 +109,13 @@ replied-skipped e es ts q = ap (λ l. l ++ replies_by q es ts) (if-nothing (part
 
 module _ {S R T : Type 0} (step : Bool → S → R → Made S R T) (start : Call T → Begun R T) (calls : List (List (Call T))) where
   -- past an event that was skipped
-  begins-skipped : (s : At S R T) (e : Event T) (es : List (Event T)) → world_event step start s.world true e ≡ (s.world, Skipped) → Begins step start calls s (e ∷ es) → Begins step start calls s es
+  begins-skipped : (s : Configuration S R T) (e : Event T) (es : List (Event T)) → world_event step start s.world true e ≡ (s.world, Skipped) → Begins step start calls s (e ∷ es) → Begins step start calls s es
   begins-skipped s e es skips begins p h =
       sym (begun-skipped e es (told_by step start s.world es) p)
       ∙ ap (λ m. begun_by p (e ∷ es) (m.1 ∷ told_by step start m.0 es)) (sym skips)
       ∙ begins p h
 
-  arrives-skipped : (s end : At S R T) (e : Event T) (es : List (Event T)) → world_event step start s.world true e ≡ (s.world, Skipped) → Arrives step start calls s es end → Arrives step start calls s (e ∷ es) end
+  arrives-skipped : (s end : Configuration S R T) (e : Event T) (es : List (Event T)) → world_event step start s.world true e ≡ (s.world, Skipped) → Arrives step start calls s es end → Arrives step start calls s (e ∷ es) end
   arrives-skipped s end e es skips to = record {
     kind = to.kind;
     world = to.world ∙ ap (λ m. world_by step start m.0 es) (sym skips);
@@ -125,7 +125,7 @@ module _ {S R T : Type 0} (step : Bool → S → R → Made S R T) (start : Call
   }
 
   -- past an event that went on
-  begins-on : (s : At S R T) (e : Event T) (es : List (Event T)) → party_of e < length s.parties → party_of e < length calls → Begins step start calls s (e ∷ es) → Begins step start calls (led_by step start s e) es
+  begins-on : (s : Configuration S R T) (e : Event T) (es : List (Event T)) → party_of e < length s.parties → party_of e < length calls → Begins step start calls s (e ∷ es) → Begins step start calls (led_by step start s e) es
   begins-on s e es inside counted begins q h = elim (eqb_tells (party_of e) q) [ inl same ↦ subst Goal same.1 own | inr other ↦ by_other other.0 other.1 ]
     where
       made : World S R × Told T
@@ -148,7 +148,7 @@ module _ {S R T : Type 0} (step : Bool → S → R → Made S R T) (start : Call
           ∙ begins q h
           ∙ ap (λ (g : Progress T). drop g.begun (calls_of calls q)) (sym (progress-other step start s e q other))
 
-  arrives-on : (s end : At S R T) (e : Event T) (es : List (Event T)) → party_of e < length s.parties → Arrives step start calls (led_by step start s e) es end → Arrives step start calls s (e ∷ es) end
+  arrives-on : (s end : Configuration S R T) (e : Event T) (es : List (Event T)) → party_of e < length s.parties → Arrives step start calls (led_by step start s e) es end → Arrives step start calls s (e ∷ es) end
   arrives-on s end e es inside to = record {
     kind = to.kind;
     world = to.world;
@@ -180,16 +180,16 @@ module _ {S R T : Type 0} (step : Bool → S → R → Made S R T) (start : Call
           ∙ ap (λ l. (progress_of s q).replies ++ l) (sym (replied-other e t es rest q unequal))
 
   -- wherever a run comes, the table has it
-  pub reaches : (refuses : Bool) (table : List (At S R T)) → All (StaysForAll (led_by step start) refuses calls table) table
-      → (es : List (Event T)) (s : At S R T) → Contains table s → HasParties calls s → (refuses ≡ false → All IsGranted es) → Begins step start calls s es
-      → (end : At S R T) × Contains table end × Arrives step start calls s es end
+  pub reaches : (refuses : Bool) (table : List (Configuration S R T)) → All (StaysForAll (led_by step start) refuses calls table) table
+      → (es : List (Event T)) (s : Configuration S R T) → Contains table s → HasParties calls s → (refuses ≡ false → All IsGranted es) → Begins step start calls s es
+      → (end : Configuration S R T) × Contains table end × Arrives step start calls s es end
   reaches refuses table closed [] s within has grants begins =
       (s, within, record { kind = refl; world = refl; parties = has.parties; replies = λ p h. sym (append-nil (progress_of s p).replies) })
   reaches refuses table closed (e ∷ es) s within has grants begins =
-      by_event (λ (x : At S R T) (in_table : Contains table x) (has_x : HasParties calls x) (begins_x : Begins step start calls x es). reaches refuses table closed es x in_table has_x (λ h. All-tail IsGranted e es (grants h)) begins_x) (went_on step start s.world e)
+      by_event (λ (x : Configuration S R T) (in_table : Contains table x) (has_x : HasParties calls x) (begins_x : Begins step start calls x es). reaches refuses table closed es x in_table has_x (λ h. All-tail IsGranted e es (grants h)) begins_x) (went_on step start s.world e)
     where
-      by_event : ((x : At S R T) → Contains table x → HasParties calls x → Begins step start calls x es → (end : At S R T) × Contains table end × Arrives step start calls x es end)
-          → (world_event step start s.world true e ≡ (s.world, Skipped)) ⊎ WentOn s.world e (world_event step start s.world true e) → (end : At S R T) × Contains table end × Arrives step start calls s (e ∷ es) end
+      by_event : ((x : Configuration S R T) → Contains table x → HasParties calls x → Begins step start calls x es → (end : Configuration S R T) × Contains table end × Arrives step start calls x es end)
+          → (world_event step start s.world true e ≡ (s.world, Skipped)) ⊎ WentOn s.world e (world_event step start s.world true e) → (end : Configuration S R T) × Contains table end × Arrives step start calls s (e ∷ es) end
       by_event again (inl skips) =
           let r = again s within has (begins-skipped s e es skips begins) in
           (r.0, r.1, arrives-skipped s r.0 e es skips r.2)

@@ -15,7 +15,7 @@ use Rattle.machine_memory.specs.declared.types.Event.{Event}
 use Rattle.machine_memory.specs.declared.types.Event.TheVariants.{Begin, Step}
 use Rattle.machine_memory.specs.declared.types.Told.TheVariants.{Skipped}
 use Rattle.machine_explore.specs.Moves.{event_at, event_for}
-use Rattle.machine_explore.specs.Positions.{At, calls_of, progress_of}
+use Rattle.machine_explore.specs.Positions.{Configuration, calls_of, progress_of}
 use Rattle.machine_explore.specs.Starts.{IsStart}
 use Rattle.machine_explore.specs.Positions.{Standing}
 use Rattle.machine_replay.specs.Played.{world_after, world_by}
@@ -43,21 +43,21 @@ may_begin : {S R : Type 0} (w : World S R) (p : ℕ) → p < length w.calls → 
 may_begin w p inside none = rw (lt-ltb p (length w.calls) inside, none) refl
 
 -- by the event by which its party goes on the machine goes on
-pub event_taken : {S R T : Type 0} (step : Bool → S → R → Made S R T) (start : Call T → Begun R T) (calls : List (List (Call T))) (s : At S R T) (p : ℕ) (granted : Bool) (e : Event T)
+pub event_taken : {S R T : Type 0} (step : Bool → S → R → Made S R T) (start : Call T → Begun R T) (calls : List (List (Call T))) (s : Configuration S R T) (p : ℕ) (granted : Bool) (e : Event T)
     → length s.world.calls ≡ length calls → event_at calls s p granted ≡ Some e → (world_event step start s.world true e).1 ≢ Skipped
 event_taken {S} {R} {T} step start calls s p granted e size is = by_call (call_at s.world p) (slice_get (calls_of calls p) (progress_of s p).begun) refl refl is
   where
-    Goes : Event T → Type 0
-    Goes x = (world_event step start s.world true x).1 ≢ Skipped
+    NotSkipped : Event T → Type 0
+    NotSkipped x = (world_event step start s.world true x).1 ≢ Skipped
 
-    by_call : (o : Option R) (next : Option (Call T)) → call_at s.world p ≡ o → slice_get (calls_of calls p) (progress_of s p).begun ≡ next → event_for p granted o next ≡ Some e → Goes e
+    by_call : (o : Option R) (next : Option (Call T)) → call_at s.world p ≡ o → slice_get (calls_of calls p) (progress_of s p).begun ≡ next → event_for p granted o next ≡ Some e → NotSkipped e
     by_call (Some r) next at there goes =
         let same : Step p granted ≡ e = cc in
-        subst Goes same (taken-step step s.world p (granted && true) (call_at s.world p) r at)
+        subst NotSkipped same (taken-step step s.world p (granted && true) (call_at s.world p) r at)
     by_call None (Some c) at there goes =
         let same : Begin p c ≡ e = cc in
         let inside : p < length s.world.calls = let h = has_calls calls p (progress_of s p).begun c there in omega (arith, h, size) in
-        subst Goes same (taken-begin s.world p (start c) (can_begin s.world p) (may_begin s.world p inside at))
+        subst NotSkipped same (taken-begin s.world p (start c) (can_begin s.world p) (may_begin s.world p inside at))
     by_call None None at there goes = λ skips. cc
 
 module _ {S R T : Type 0} (step : Bool → S → R → Made S R T) (start : Call T → Begun R T) where

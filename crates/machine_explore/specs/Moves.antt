@@ -10,7 +10,7 @@ use Rattle.machine_memory.specs.declared.types.Told.TheVariants.{Ran}
 use Rattle.machine_replay.specs.Conforms.{party_of}
 use Rattle.machine_steps.specs.Steps.{step_of, start_of}
 use Rattle.machine_steps.specs.World.{Made, Begun, call_at, world_event}
-use Rattle.machine_explore.specs.Positions.{At, Progress, Standing, calls_of, progress_of}
+use Rattle.machine_explore.specs.Positions.{Configuration, Progress, Standing, calls_of, progress_of}
 
 -- the call that the event began, if it was not skipped
 abbrev pub call_in : {T : Type 0} → Event T → Told T → List (Call T)
@@ -28,7 +28,7 @@ event_for p granted (Some r) c = Some (Step p granted)
 event_for p granted None (Some c) = Some (Begin p c)
 event_for p granted None None = None
 
-abbrev pub event_at : {S R T : Type 0} → List (List (Call T)) → At S R T → ℕ → Bool → Option (Event T)
+abbrev pub event_at : {S R T : Type 0} → List (List (Call T)) → Configuration S R T → ℕ → Bool → Option (Event T)
 event_at calls s p granted = event_for p granted (call_at s.world p) (slice_get (calls_of calls p) (progress_of s p).begun)
 
 -- how far a party is after its event, of which this was told
@@ -36,7 +36,7 @@ abbrev pub advanced : {T : Type 0} → Progress T → Event T → Told T → Pro
 advanced g e t = record { begun = g.begun + length (call_in e t); replies = g.replies ++ reply_in t }
 
 -- where the event leads, on any machine, whose requests are granted where the event does not refuse them
-abbrev pub led_by : {S R T : Type 0} → (Bool → S → R → Made S R T) → (Call T → Begun R T) → At S R T → Event T → At S R T
+abbrev pub led_by : {S R T : Type 0} → (Bool → S → R → Made S R T) → (Call T → Begun R T) → Configuration S R T → Event T → Configuration S R T
 led_by step start s e = record {
   kind = s.kind;
   world = (world_event step start s.world true e).0;

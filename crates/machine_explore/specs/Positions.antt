@@ -14,21 +14,21 @@ pub record Progress (T : Type 0) : Type 0 where
   pub replies : List (Reply T)
 
 -- where a run stands: what the parties share, the call that each is in, and how far each is
-pub record At (S R T : Type 0) : Type 0 where
+pub record Configuration (S R T : Type 0) : Type 0 where
   pub kind : Kind
   pub world : World S R
   pub parties : List (Progress T)
 
 -- where a run of the machine stands
 abbrev pub Standing : Type 0
-Standing = At (Shared ℕ) (Running ℕ) ℕ
+Standing = Configuration (Shared ℕ) (Running ℕ) ℕ
 
 -- a party that has begun no call
 abbrev pub no_progress : {T : Type 0} → Progress T
 no_progress = record { begun = 0; replies = [] }
 
 -- how far the party is
-abbrev pub progress_of : {S R T : Type 0} → At S R T → ℕ → Progress T
+abbrev pub progress_of : {S R T : Type 0} → Configuration S R T → ℕ → Progress T
 progress_of s p = slice_index_or s.parties p no_progress
 
 -- the calls that the party is to make
@@ -36,11 +36,11 @@ abbrev pub calls_of : {T : Type 0} → List (List (Call T)) → ℕ → List (Ca
 calls_of calls p = slice_index_or calls p []
 
 -- where a run of so many parties stands before their first event
-abbrev pub standing_first : {S R T : Type 0} → Kind → ℕ → World S R → At S R T
+abbrev pub standing_first : {S R T : Type 0} → Kind → ℕ → World S R → Configuration S R T
 standing_first k parties w = record { kind = k; world = w; parties = replicate parties no_progress }
 
 -- each party has a reply to each of its calls
-abbrev pub IsFinal : {S R T : Type 0} → List (List (Call T)) → At S R T → Type 0
+abbrev pub IsFinal : {S R T : Type 0} → List (List (Call T)) → Configuration S R T → Type 0
 IsFinal calls s = (p : ℕ) → p < length calls → length (progress_of s p).replies ≡ length (calls_of calls p)
 
 -- what a run ends with: the replies of each party in their order, and the items that are left, front first

@@ -4,18 +4,18 @@ use Rattle.queue_steps.specs.declared.model.Call.{Call}
 use Rattle.machine_memory.specs.declared.types.Event.{Event}
 use Rattle.queue_steps.specs.declared.steps.types.Kind.{Kind}
 use Rattle.machine_explore.specs.Moves.{event_at, led}
-use Rattle.machine_explore.specs.Positions.{At, IsFinal, Outcome, Standing, outcome_at}
+use Rattle.machine_explore.specs.Positions.{Configuration, IsFinal, Outcome, Standing, outcome_at}
 
 -- if the party goes on from there, the table has where that leads
-abbrev pub StaysOnce : {S R T : Type 0} → (At S R T → Event T → At S R T) → List (List (Call T)) → List (At S R T) → At S R T → ℕ → Bool → Type 0
+abbrev pub StaysOnce : {S R T : Type 0} → (Configuration S R T → Event T → Configuration S R T) → List (List (Call T)) → List (Configuration S R T) → Configuration S R T → ℕ → Bool → Type 0
 StaysOnce lead calls table s p granted = MatchOption (event_at calls s p granted) ⊤ (λ e. Contains table (lead s e))
 
 -- however the party goes on from there, the table has where that leads
-abbrev pub Stays : {S R T : Type 0} → (At S R T → Event T → At S R T) → Bool → List (List (Call T)) → List (At S R T) → At S R T → ℕ → Type 0
+abbrev pub Stays : {S R T : Type 0} → (Configuration S R T → Event T → Configuration S R T) → Bool → List (List (Call T)) → List (Configuration S R T) → Configuration S R T → ℕ → Type 0
 Stays lead refuses calls table s p = (granted : Bool) → (refuses ≡ false → granted ≡ true) → StaysOnce lead calls table s p granted
 
 -- so it is for each party
-abbrev pub StaysForAll : {S R T : Type 0} → (At S R T → Event T → At S R T) → Bool → List (List (Call T)) → List (At S R T) → At S R T → Type 0
+abbrev pub StaysForAll : {S R T : Type 0} → (Configuration S R T → Event T → Configuration S R T) → Bool → List (List (Call T)) → List (Configuration S R T) → Configuration S R T → Type 0
 StaysForAll lead refuses calls table s = (p : ℕ) → p < length calls → Stays lead refuses calls table s p
 
 -- a standing of the table as it has to be: of this kind of queue and for so many parties, with all that it leads to in the table, and what it ends with, if it is an end, among the outcomes

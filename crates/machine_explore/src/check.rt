@@ -15,20 +15,20 @@ use std::alloc::{AllocError, Allocator};
 
 /// Where the table has what a party's way on leads to. Nothing rests on it: the check looks there.
 #[derive(Clone, Copy)]
-pub struct Link {
+pub struct Edge {
     /// The place of the position after its event, whose request, if it makes one, is granted.
     pub granted: usize,
     /// The same where the request is refused.
     pub refused: usize,
 }
 
-/// What was found: the positions, and for each of them a link for each party.
+/// What was found: the positions, and for each of them an edge for each party.
 #[derive(Drop)]
 pub struct Table<A: Allocator> {
     /// The positions. The first is where runs start.
     pub positions: Vec<Position<A>, A>,
-    /// The links of the first position, by party, then those of the second, and so on.
-    pub links: Vec<Link, A>,
+    /// The edges of the first position, by party, then those of the second, and so on.
+    pub edges: Vec<Edge, A>,
 }
 
 /// Whether the program has no outcome but these, as the table shows. Whoever made the table is not trusted.
@@ -124,7 +124,7 @@ fn stays<A: Allocator + Copy>(
         let Some(place) = first.checked_add(party) else {
             return Ok(false);
         };
-        let Some(link) = table.links.get(place).copied() else {
+        let Some(edge) = table.edges.get(place).copied() else {
             return Ok(false);
         };
         if !stays_by(
@@ -134,7 +134,7 @@ fn stays<A: Allocator + Copy>(
             &table.positions,
             position,
             party,
-            link,
+            edge,
         )? {
             return Ok(false);
         }
@@ -150,7 +150,7 @@ fn stays_by<A: Allocator + Copy>(
     positions: &[Position<A>],
     position: &Position<A>,
     party: usize,
-    link: Link,
+    edge: Edge,
 ) -> Result<bool, AllocError>
     ensures { IfOk result (λ yes. yes ≡ true → Stays (led position.now.kind) refuses program.now.parties.items positions.now position.now party) }
 {
@@ -161,7 +161,7 @@ fn stays_by<A: Allocator + Copy>(
         position,
         party,
         true,
-        link.granted,
+        edge.granted,
     )? {
         return Ok(false);
     }
@@ -173,7 +173,7 @@ fn stays_by<A: Allocator + Copy>(
             position,
             party,
             false,
-            link.refused,
+            edge.refused,
         );
     }
     Ok(true)

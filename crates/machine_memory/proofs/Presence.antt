@@ -9,7 +9,7 @@ use Rattle.queue_steps.specs.declared.steps.types.Touch.{Touch}
 use Rattle.queue_steps.specs.declared.steps.types.Touch.TheVariants as touch
 use Rattle.queue_steps.specs.declared.steps.types.Word.{Word}
 use Rattle.queue_steps.specs.declared.steps.types.Word.TheVariants as word
-use Rattle.machine_memory.specs.declared.blocks.Place.{Place}
+use Rattle.machine_memory.specs.declared.blocks.BlockPlace.{BlockPlace}
 use Rattle.machine_memory.specs.Blocks.{Block, fresh_block, block_of, with_place, with_next, without}
 use Rattle.machine_memory.specs.SharedMemory.{Shared, word_at, put_word, put_link, put_at, touched, operated}
 use Rattle.machine_memory.specs.Present.{present}
@@ -69,7 +69,7 @@ none_more bs = (refl, omega arith)
 changed-none : {T : Type 0} (bs : List (Option (Block T))) (b : ℕ) (x : Option (Block T)) → one_if x ≤ one_if (block_of bs b) → NoMore bs (set bs b x)
 changed-none bs b x le = (length-set bs b x, present-set bs b x le)
 
-with_place-one : {T : Type 0} (i : ℕ) (x : Place T) (o : Option (Block T)) → one_if (with_place i x o) ≤ one_if o
+with_place-one : {T : Type 0} (i : ℕ) (x : BlockPlace T) (o : Option (Block T)) → one_if (with_place i x o) ≤ one_if o
 with_place-one i x None = omega arith
 with_place-one i x (Some k) = omega arith
 

@@ -1,15 +1,15 @@
 -- The blocks of a machine, by their numbers, which are those of the requests that were granted. A block that was given up is there no more.
 use Rattle.std.specs.Prelude.{ℕ, Option, Some, None, List, [], length, slice_index_or, slice_set, replicate}
 use Rattle.queue_steps.specs.declared.sizes.TheConstants.{BLOCK_SLOTS}
-use Rattle.machine_memory.specs.declared.blocks.Place.{Place}
+use Rattle.machine_memory.specs.declared.blocks.BlockPlace.{BlockPlace}
 
 -- a block: its places, and the block behind it
 pub record Block (T : Type 0) : Type 0 where
-  pub places : List (Place T)
+  pub places : List (BlockPlace T)
   pub next : Option ℕ
 
 -- a place that nobody has touched
-abbrev pub blank : {T : Type 0} → Place T
+abbrev pub blank : {T : Type 0} → BlockPlace T
 blank = record { state = 0; item = None }
 
 -- a block that was just granted
@@ -21,7 +21,7 @@ abbrev pub block_of : {T : Type 0} → List (Option (Block T)) → ℕ → Optio
 block_of bs b = slice_index_or bs b None
 
 -- the places of a block: none where there is no block
-abbrev pub places_in : {T : Type 0} → Option (Block T) → List (Place T)
+abbrev pub places_in : {T : Type 0} → Option (Block T) → List (BlockPlace T)
 places_in None = []
 places_in (Some k) = k.places
 
@@ -35,7 +35,7 @@ abbrev pub place_count : {T : Type 0} → List (Option (Block T)) → ℕ → �
 place_count bs b = length (places_in (block_of bs b))
 
 -- a place, by its block's number and its own
-abbrev pub place_of : {T : Type 0} → List (Option (Block T)) → ℕ → ℕ → Place T
+abbrev pub place_of : {T : Type 0} → List (Option (Block T)) → ℕ → ℕ → BlockPlace T
 place_of bs b i = slice_index_or (places_in (block_of bs b)) i blank
 
 -- the state and the item of that place
@@ -50,7 +50,7 @@ abbrev pub behind : {T : Type 0} → List (Option (Block T)) → ℕ → Option 
 behind bs b = behind_in (block_of bs b)
 
 -- the block with another place i
-abbrev pub with_place : {T : Type 0} → ℕ → Place T → Option (Block T) → Option (Block T)
+abbrev pub with_place : {T : Type 0} → ℕ → BlockPlace T → Option (Block T) → Option (Block T)
 with_place i x None = None
 with_place i x (Some k) = Some (record k { places = slice_set k.places i x })
 
@@ -60,7 +60,7 @@ with_next n None = None
 with_next n (Some k) = Some (record k { next = n })
 
 -- the blocks with another place
-abbrev pub put_place : {T : Type 0} → List (Option (Block T)) → ℕ → ℕ → Place T → List (Option (Block T))
+abbrev pub put_place : {T : Type 0} → List (Option (Block T)) → ℕ → ℕ → BlockPlace T → List (Option (Block T))
 put_place bs b i x = slice_set bs b (with_place i x (block_of bs b))
 
 -- the blocks with another state of a place

@@ -12,19 +12,19 @@ use std::mem;
 
 /// A place of a block.
 #[derive(Copy, Drop, PartialEq, Eq, Hash)]
-pub struct Place<T> {
+pub struct BlockPlace<T> {
     /// The state of its slot.
     pub state: u64,
     /// What its slot holds.
     pub item: Option<T>,
 }
 
-impl<T: Copy> Clone for Place<T> {
+impl<T: Copy> Clone for BlockPlace<T> {
     ghost is_clone = { λ x y. y ≡ x };
 
     ghost is_infallible = { λ _. ⊤ };
 
-    fn clone(&self) -> Result<Place<T>, AllocError> {
+    fn clone(&self) -> Result<BlockPlace<T>, AllocError> {
         Ok(*self)
     }
 }
@@ -32,7 +32,7 @@ impl<T: Copy> Clone for Place<T> {
 /// A block: its places, which are one allocation, and the number of the block behind it.
 #[derive(Drop)]
 pub struct Block<T, A: Allocator> {
-    places: Vec<Place<T>, A>,
+    places: Vec<BlockPlace<T>, A>,
     next: Option<usize>,
 }
 
@@ -53,7 +53,7 @@ impl<T, A: Allocator> Block<T, A> {
     {
         let mut places = Vec::with_capacity(alloc, BLOCK_SLOTS as usize)?;
         for _ in 0..BLOCK_SLOTS {
-            places.push_reserved(Place {
+            places.push_reserved(BlockPlace {
                 state: 0,
                 item: None,
             });
@@ -69,7 +69,7 @@ impl<T, A: Allocator> Block<T, A> {
     }
 
     /// Its places, in their order.
-    pub fn into_places(self) -> Vec<Place<T>, A>
+    pub fn into_places(self) -> Vec<BlockPlace<T>, A>
         ensures { result.items ≡ self.places }
     {
         self.places

@@ -1,7 +1,7 @@
 //! Whether two values are the same, which a yes proves.
 ghost use Rattle.std.specs.Prelude.{◌≡◌, true};
 
-use crate::blocks::Place;
+use crate::blocks::BlockPlace;
 use crate::calls::Running;
 use queue_steps::model::CallKind;
 use queue_steps::steps::{BoundedLocal, Link, Local, Op, SingleLocal, Touch, UnboundedLocal, Word};
@@ -290,8 +290,8 @@ impl<T: Same> Same for Running<T> {
     }
 }
 
-impl<T: Same> Same for Place<T> {
-    fn same(&self, other: &Place<T>) -> bool {
+impl<T: Same> Same for BlockPlace<T> {
+    fn same(&self, other: &BlockPlace<T>) -> bool {
         self.state == other.state && self.item.same(&other.item)
     }
 }

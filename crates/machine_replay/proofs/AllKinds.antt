@@ -39,45 +39,45 @@ can_start Kind.Unbounded has (Call.Push v) = record { goes_on = has; replies = t
 can_start k has c = record { goes_on = has; replies = assumption }
 
 -- what is known after these events, of a queue of any kind
-pub record Known {T : Type 0} (k : Kind) (parties : ℕ) (past : List (Event T)) (told : List (Told T)) (w : World (Shared T) (Running T)) (peak : Peak) : Type 0 where
+pub record KnownAfter {T : Type 0} (k : Kind) (parties : ℕ) (past : List (Event T)) (told : List (Told T)) (w : World (Shared T) (Running T)) (peak : Peak) : Type 0 where
   pub has : HasMachine k
   pub so_far : SoFar (laws_of T k has) parties past told w peak
 
-pub known-first : {T : Type 0} (k : Kind) (parties : ℕ) → HasMachine k → Known {T = T} k parties [] [] (opening_world k parties) opening_peak
+pub known-first : {T : Type 0} (k : Kind) (parties : ℕ) → HasMachine k → KnownAfter {T = T} k parties [] [] (opening_world k parties) opening_peak
 known-first {T} k parties has = record { has = has; so_far = so_far-first (laws_of T k has) parties }
 
 -- any event can be handled
-pub known-can : {T : Type 0} (k : Kind) (parties : ℕ) (past : List (Event T)) (told : List (Told T)) (w : World (Shared T) (Running T)) (peak : Peak) → Known k parties past told w peak → (e : Event T) → CanHandle k w e
+pub known-can : {T : Type 0} (k : Kind) (parties : ℕ) (past : List (Event T)) (told : List (Told T)) (w : World (Shared T) (Running T)) (peak : Peak) → KnownAfter k parties past told w peak → (e : Event T) → CanHandle k w e
 known-can {T} k parties past told w peak known (Begin p c) = can_start k known.has c
 known-can {T} k parties past told w peak known (Step p granted) = λ ok. so_far-can (laws_of T k known.has) parties past told w peak known.so_far ok p
 
 -- the peak after one event more, as a loop finds it: where no number of a block was given out, it stays
 pub known-peak : {T : Type 0} (k : Kind) (parties : ℕ) (past : List (Event T)) (told : List (Told T)) (w w' : World (Shared T) (Running T)) (peak : Peak) (e : Event T) (t : Told T) (n n' : ℕ)
-    → Known k parties past told w peak → Handles k w e w' t → n ≡ length w.shared.blocks → n' ≡ length w'.shared.blocks
+    → KnownAfter k parties past told w peak → Handles k w e w' t → n ≡ length w.shared.blocks → n' ≡ length w'.shared.blocks
     → (if nat_lt n n' then peaked w' peak else peak) ≡ peaked w' peak
 known-peak k parties past told w w' peak e t n n' known handles en en' =
     peaked-if w w' peak n n' en en' (subst (λ v. Sparing w.shared.blocks v.shared.blocks) (sym handles.world) (event-sparing k handles.ok w e)) known.so_far.covers
 
 -- after one event more, where the allocator granted what was asked for or not
 pub known-more : {T : Type 0} (k : Kind) (parties : ℕ) (past : List (Event T)) (told : List (Told T)) (w : World (Shared T) (Running T)) (peak : Peak) (ok : Bool) (e : Event T)
-    → Known k parties past told w peak → Known k parties (past ++ e ∷ []) (told ++ (event_of k ok w e).1 ∷ []) (event_of k ok w e).0 (peaked (event_of k ok w e).0 peak)
+    → KnownAfter k parties past told w peak → KnownAfter k parties (past ++ e ∷ []) (told ++ (event_of k ok w e).1 ∷ []) (event_of k ok w e).0 (peaked (event_of k ok w e).0 peak)
 known-more {T} k parties past told w peak ok e known = record { has = known.has; so_far = so_far-more (laws_of T k known.has) parties past told w peak ok e known.so_far }
 
 -- what is left is no more than the events, and an event leaves one more at most
-pub known-room : {T : Type 0} (k : Kind) (parties : ℕ) (past : List (Event T)) (told : List (Told T)) (w : World (Shared T) (Running T)) (peak : Peak) → Known k parties past told w peak → length (left_of k w) ≤ length past
+pub known-room : {T : Type 0} (k : Kind) (parties : ℕ) (past : List (Event T)) (told : List (Told T)) (w : World (Shared T) (Running T)) (peak : Peak) → KnownAfter k parties past told w peak → length (left_of k w) ≤ length past
 known-room {T} k parties past told w peak known = so_far-room (laws_of T k known.has) parties past told w peak known.so_far
 
 pub known-grows : {T : Type 0} (k : Kind) (parties : ℕ) (past : List (Event T)) (told : List (Told T)) (w : World (Shared T) (Running T)) (peak : Peak) (ok : Bool) (e : Event T)
-    → Known k parties past told w peak → length (left_of k (event_of k ok w e).0) ≤ length (left_of k w) + 1
+    → KnownAfter k parties past told w peak → length (left_of k (event_of k ok w e).0) ≤ length (left_of k w) + 1
 known-grows {T} k parties past told w peak ok e known = so_far-grows (laws_of T k known.has) parties past told w peak ok e known.so_far
 
 -- a party is in a call of the book just where it is in one of the machine
 pub known-none : {T : Type 0} (k : Kind) (parties : ℕ) (past : List (Event T)) (told : List (Told T)) (w : World (Shared T) (Running T)) (peak : Peak)
-    → (known : Known k parties past told w peak) → (p : ℕ) → is_none (known.so_far.book.open_call p) ≡ is_none (call_at w p)
+    → (known : KnownAfter k parties past told w peak) → (p : ℕ) → is_none (known.so_far.book.open_call p) ≡ is_none (call_at w p)
 known-none {T} k parties past told w peak known p = so_far-none (laws_of T k known.has) parties past told w peak known.so_far p
 
 -- what was told of each event is one thing
-pub known-length : {T : Type 0} (k : Kind) (parties : ℕ) (past : List (Event T)) (told : List (Told T)) (w : World (Shared T) (Running T)) (peak : Peak) → Known k parties past told w peak → length past ≡ length told
+pub known-length : {T : Type 0} (k : Kind) (parties : ℕ) (past : List (Event T)) (told : List (Told T)) (w : World (Shared T) (Running T)) (peak : Peak) → KnownAfter k parties past told w peak → length past ≡ length told
 known-length k parties past told w peak known = Run-length (capacity_of k) parties (opening (capacity_of k)) past told known.so_far.book known.so_far.run
 
 -- the machine has the queue that `replay` is asked for
@@ -93,7 +93,7 @@ has_slot k has = tt
 pub record InOrder {T : Type 0} (k : Kind) (parties : ℕ) (past : List (Event T)) (w : World (Shared T) (Running T)) : Type 0 where
   pub told : List (Told T)
   pub peak : Peak
-  pub known : Known k parties past told w peak
+  pub known : KnownAfter k parties past told w peak
   pub plays : PassesAll k (opening_world k parties) past w
 
 pub in_order-first : {T : Type 0} (k : Kind) (parties : ℕ) → HasMachine k → InOrder {T = T} k parties [] (opening_world k parties)
@@ -110,6 +110,6 @@ pub in_order-next : {T : Type 0} (k : Kind) (parties : ℕ) (past : List (Event 
 in_order-next {T} k parties past w w' e s pass = record {
   told = s.told ++ (event_of k pass.0 w e).1 ∷ [];
   peak = peaked w' s.peak;
-  known = subst {A = World (Shared T) (Running T)} (λ v. Known k parties (past ++ e ∷ []) (s.told ++ (event_of k pass.0 w e).1 ∷ []) v (peaked v s.peak)) (sym pass.1) (known-more k parties past s.told w s.peak pass.0 e s.known);
+  known = subst {A = World (Shared T) (Running T)} (λ v. KnownAfter k parties (past ++ e ∷ []) (s.told ++ (event_of k pass.0 w e).1 ∷ []) v (peaked v s.peak)) (sym pass.1) (known-more k parties past s.told w s.peak pass.0 e s.known);
   plays = PassesAll-more k (opening_world k parties) w w' past e s.plays pass;
 }

@@ -71,13 +71,13 @@ module _ (T : Type 0) (cap : Option ℕ) (parties : ℕ) (events : List (Event T
       ]
 
   -- no call of party p that is in progress behind the event `last` began up to it
-  abbrev Ended : ℕ → ℕ → Type 0
-  Ended p last = (n : ℕ) (c : Calls p n) → IsStepOf events skipped p n → last < n → last < c.first
+  abbrev IsLastStep : ℕ → ℕ → Type 0
+  IsLastStep p last = (n : ℕ) (c : Calls p n) → IsStepOf events skipped p n → last < n → last < c.first
 
   abbrev mine : ℕ → ℕ → ℕ → ℕ → ℕ → Bool
   mine p first last q n = (q == p) && (nat_lt first n && nat_lt n (last + 1))
 
-  sees_none : Exact → (p last : ℕ) (c : Calls p last) → Ended p last → (x : Entry T) → In x H → x.effect ≡ Effect.Close → (y : Entry T) → x.event < y.event → Own y
+  sees_none : Exact → (p last : ℕ) (c : Calls p last) → IsLastStep p last → (x : Entry T) → In x H → x.effect ≡ Effect.Close → (y : Entry T) → x.event < y.event → Own y
       → (old v : T) → y.effect ≡ Effect.Front old v → mine p c.first last y.party x.event ≡ mine p c.first last y.party y.event
   sees_none exact p last c ended x has is y lt own old v front =
       let saw = own.saw_open old v front in
@@ -93,14 +93,14 @@ module _ (T : Type 0) (cap : Option ℕ) (parties : ℕ) (events : List (Event T
         | inr e ↦ (λ i. e.0 i && (nat_lt c.first x.event && nat_lt x.event (last + 1))) ∙ sym (λ i. e.0 i && (nat_lt c.first y.event && nat_lt y.event (last + 1)))
       ]
 
-  fronts_alike : Exact → (p last : ℕ) (c : Calls p last) → Ended p last → (x : Entry T) → In x H → x.effect ≡ Effect.Close → (m : ℕ) (xs : List (Entry T)) → x.event < m → Rising m xs → AllByRecursion Own xs
+  fronts_alike : Exact → (p last : ℕ) (c : Calls p last) → IsLastStep p last → (x : Entry T) → In x H → x.effect ≡ Effect.Close → (m : ℕ) (xs : List (Entry T)) → x.event < m → Rising m xs → AllByRecursion Own xs
       → SeesNoMove (mine p c.first last) x.event xs
   fronts_alike exact p last c ended x has is m [] lt up all = tt
   fronts_alike exact p last c ended x has is m (y ∷ xs) lt up all =
       (λ old v front. sees_none exact p last c ended x has is y (omega (arith, lt, up.0)) all.0 old v front, fronts_alike exact p last c ended x has is (y.event + 1) xs (omega (arith, lt, up.0)) up.1 all.1)
 
   -- what the call in progress of party p has done up to the event `last` is not moved into it nor out of it
-  closes_within : Exact → (p last : ℕ) (c : Calls p last) → Ended p last → (m : ℕ) (xs : List (Entry T)) → ((x : Entry T) → In x xs → In x H) → Rising m xs → AllByRecursion Own xs → KeepsFronts (mine p c.first last) xs
+  closes_within : Exact → (p last : ℕ) (c : Calls p last) → IsLastStep p last → (m : ℕ) (xs : List (Entry T)) → ((x : Entry T) → In x xs → In x H) → Rising m xs → AllByRecursion Own xs → KeepsFronts (mine p c.first last) xs
   closes_within exact p last c ended m [] sub up all = tt
   closes_within exact p last c ended m (x ∷ xs) sub up all =
       (λ is. fronts_alike exact p last c ended x (sub x (inl refl)) is (x.event + 1) xs (omega arith) up.1 all.1, closes_within exact p last c ended (x.event + 1) xs (λ y has. sub y (inr has)) up.1 all.1)
@@ -163,7 +163,7 @@ module _ (T : Type 0) (cap : Option ℕ) (parties : ℕ) (events : List (Event T
   Answers y = IsAnswer cap events skipped S R y ⊎ IsGlanced cap events skipped H R y
 
   -- a reply ended its call: no call of its party that is in progress later began before
-  ended_by : (y : ℕ × ℕ × Reply T) → In y R → Ended y.1 y.0
+  ended_by : (y : ℕ × ℕ × Reply T) → In y R → IsLastStep y.1 y.0
   ended_by y has n c step past =
       elim (each_in (λ z. z.1 ≡ y.1 → (z.0 < c.first) ⊎ (n ≤ z.0)) R y c.unanswered has refl) [ inl lt ↦ lt | inr le ↦ absurd (omega (arith, le, past)) ]
 
@@ -242,7 +242,7 @@ module _ (T : Type 0) (cap : Option ℕ) (parties : ℕ) (events : List (Event T
   -- a call that has not ended
   begun_there : SettlesInto cap H S → Exact → AllByRecursion Own H → Rising 0 H → (p : ℕ) (c : Calls p (length events)) → IsBegun c.call (own_effects p c.first (length events) H) → IsBegun c.call (own_effects p c.first (length events) S)
   begun_there settles exact all up p c begun =
-      let ended : Ended p (length events) = λ n d step past. absurd (let lt = slice_get_within events n (Step p step.0) step.1.0 in omega (arith, lt, past)) in
+      let ended : IsLastStep p (length events) = λ n d step past. absurd (let lt = slice_get_within events n (Step p step.0) step.1.0 in omega (arith, lt, past)) in
       let within : KeepsFronts (mine p c.first (length events)) H = closes_within exact p (length events) c ended 0 H (λ x here. here) up all in
       let done = settles.begun (mine p c.first (length events)) c.call begun.0 begun.1 within begun.2 in (begun.0, done.0, done.1)
 

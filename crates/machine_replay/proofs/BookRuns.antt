@@ -8,16 +8,16 @@ use Rattle.machine_steps.specs.World.{World}
 use Rattle.machine_replay.specs.Peaks.{opening_peak, peaked}
 use Rattle.machine_replay.specs.Played.{told_of, world_after}
 use Rattle.machine_replay.specs.BookRuns.{EventsHaveBooks, HasBook, RunsHaveBooks}
-use Rattle.machine_replay.proofs.AllKinds.{Known, has_machine, known-first, known-more}
+use Rattle.machine_replay.proofs.AllKinds.{KnownAfter, has_machine, known-first, known-more}
 use Rattle.machine_replay.proofs.MachineRuns.{machine_run-known}
 use Rattle.machine_replay.proofs.SoFar.{so_far-left}
 
-has_book : {T : Type 0} (k : Kind) (parties : ℕ) (past : List (Event T)) (told : List (Told T)) (w : World (Shared T) (Running T)) (peak : Peak) → Known k parties past told w peak → HasBook k parties past told w
+has_book : {T : Type 0} (k : Kind) (parties : ℕ) (past : List (Event T)) (told : List (Told T)) (w : World (Shared T) (Running T)) (peak : Peak) → KnownAfter k parties past told w peak → HasBook k parties past told w
 has_book k parties past told w peak known = record { last = known.so_far.book; run = known.so_far.run; left = so_far-left _ parties past told w peak known.so_far }
 
 -- events whose requests are granted
-known-granted : {T : Type 0} (k : Kind) (parties : ℕ) (past es : List (Event T)) (told : List (Told T)) (w : World (Shared T) (Running T)) (peak : Peak) → Known k parties past told w peak
-    → (top : Peak) × Known k parties (past ++ es) (told ++ told_of k w es) (world_after k w es) top
+known-granted : {T : Type 0} (k : Kind) (parties : ℕ) (past es : List (Event T)) (told : List (Told T)) (w : World (Shared T) (Running T)) (peak : Peak) → KnownAfter k parties past told w peak
+    → (top : Peak) × KnownAfter k parties (past ++ es) (told ++ told_of k w es) (world_after k w es) top
 known-granted k parties past [] told w peak known = (peak, rw (append-nil past, append-nil told) known)
 known-granted {T} k parties past (e ∷ es) told w peak known =
     let made = event_of k true w e in

@@ -2,7 +2,7 @@
 use Rattle.std.proofs.Common.{ℕ, ◌<◌, ◌≡◌, ◌∙◌, inl, inr, Option, Some, None, List, length, refl, sym, ap, subst, get_or, set, get_or-set_same, get_or-set_other}
 use Rattle.std.proofs.lemmas.List.{get_or_past, length-set, set-set, set-get_or}
 use Rattle.std.proofs.lemmas.Bool.{cases_lt}
-use Rattle.machine_memory.specs.declared.blocks.Place.{Place}
+use Rattle.machine_memory.specs.declared.blocks.BlockPlace.{BlockPlace}
 use Rattle.machine_memory.specs.Blocks.{Block, blank, places_in, with_place, with_next, state_of, put_state, put_item, put_next}
 use Rattle.machine_replay.proofs.ChainNames.{Changed}
 
@@ -20,11 +20,11 @@ pub changed_none : {A : Type 0} {bs : List (Option (Block A))} {f : ℕ} {y z : 
 changed_none is same = record { size = refl; here = is ∙ same; others = λ g ne. refl }
 
 -- the block with another place i
-abbrev pub placed : {A : Type 0} → Block A → ℕ → Place A → Block A
+abbrev pub placed : {A : Type 0} → Block A → ℕ → BlockPlace A → Block A
 placed x i p = record x { places = set x.places i p }
 
 -- a place of a block
-abbrev pub place_in : {A : Type 0} → Block A → ℕ → Place A
+abbrev pub place_in : {A : Type 0} → Block A → ℕ → BlockPlace A
 place_in x i = get_or x.places i blank
 
 pub item_put : {A : Type 0} (bs : List (Option (Block A))) (f i : ℕ) (v : Option A) (x : Block A) → get_or bs f None ≡ Some x → Changed bs (put_item bs f i v) f (Some (placed x i (record (place_in x i) { item = v })))

@@ -15,8 +15,8 @@ use Rattle.machine_steps.specs.Steps.{after_touch, carried_then, answer_to, shar
 use Rattle.machine_replay.proofs.ChainNames.{Codes}
 
 -- the words, the links and the blocks of the machine are those of the chain
-abbrev pub Stands : {A : Type 0} → Shared A → Chain A → Type 0
-Stands s c = Codes c s.head s.tail s.head_block s.tail_block s.blocks
+abbrev pub CodesShared : {A : Type 0} → Shared A → Chain A → Type 0
+CodesShared s c = Codes c s.head s.tail s.head_block s.tail_block s.blocks
 
 -- the next step of the call can be taken, it is answered by what the chain says, and it leaves the machine standing for the chain after it
 pub record Coded {A : Type 0} (c : Chain A) (who : ℕ) (ms : List (State A)) {k : Stand A} (granted : Bool) (s : Shared A) (at : At c who ms k) : Type 0 where
@@ -25,4 +25,4 @@ pub record Coded {A : Type 0} (c : Chain A) (who : ℕ) (ms : List (State A)) {k
   pub answers : Answers c k.op (answer_to granted s (running_of k))
   pub carried : carried_then s (running_of k) ≡ carried_of at
   pub codes : ChainOk (after_of at (answer_to granted s (running_of k))) → Gives (after_of at (answer_to granted s (running_of k))) who (unbounded_next (chain_of k.local) (answer_to granted s (running_of k)))
-      → Stands (shared_then Kind.Unbounded granted s (running_of k)) (left_by (after_of at (answer_to granted s (running_of k))) (unbounded_next (chain_of k.local) (answer_to granted s (running_of k))))
+      → CodesShared (shared_then Kind.Unbounded granted s (running_of k)) (left_by (after_of at (answer_to granted s (running_of k))) (unbounded_next (chain_of k.local) (answer_to granted s (running_of k))))

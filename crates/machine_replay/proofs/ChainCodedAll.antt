@@ -5,13 +5,13 @@ use Rattle.law_common.specs.Stand.{Stand}
 use Rattle.law_chain.specs.ChainCells.{Chain, ChainOk}
 use Rattle.law_chain.specs.ChainAt.{At, push_tail, push_block, asking, installing, showing, claiming, laying, opening, chaining, writing, spending, pop_head, pop_block, pop_tail, taking, following, peeking, passing, entering, awaiting, len_tail, len_head, len_again, empty_head, empty_tail, closing, closed_tail, walking, destroying, reading, beginning}
 use Rattle.machine_memory.specs.SharedMemory.{Shared}
-use Rattle.machine_replay.proofs.ChainCoded.{Stands, Coded}
+use Rattle.machine_replay.proofs.ChainCoded.{CodesShared, Coded}
 use Rattle.machine_replay.proofs.ChainCodedPush.{coded_push_tail, coded_push_block, coded_asking, coded_installing, coded_showing, coded_claiming, coded_laying, coded_opening, coded_chaining, coded_writing, coded_spending}
 use Rattle.machine_replay.proofs.ChainCodedPop.{coded_pop_head, coded_pop_block, coded_pop_tail, coded_taking, coded_following, coded_peeking, coded_passing, coded_entering, coded_awaiting, coded_len_tail, coded_len_head, coded_len_again, coded_empty_head, coded_empty_tail, coded_closing, coded_closed_tail}
 use Rattle.machine_replay.proofs.ChainCodedRead.{coded_walking, coded_destroying, coded_reading, coded_beginning}
 
 pub coded : {A : Type 0} {c : Chain A} {who : ℕ} {ms : List (State A)} {k : Stand A} (ok : Bool) (s : Shared A) (at : At c who ms k)
-    → ChainOk c → Stands s c → Coded c who ms ok s at
+    → ChainOk c → CodesShared s c → Coded c who ms ok s at
 coded {c = c} {who = who} {ms = ms} ok s (push_tail d v spare none spare_is) right codes = coded_push_tail c who ms ok s d v spare none spare_is right codes
 coded {c = c} {who = who} {ms = ms} ok s (push_block d v spare q none spare_is saw) right codes = coded_push_block c who ms ok s d v spare q none spare_is saw right codes
 coded {c = c} {who = who} {ms = ms} ok s (asking d v q block none saw asked) right codes = coded_asking c who ms ok s d v q block none saw asked right codes

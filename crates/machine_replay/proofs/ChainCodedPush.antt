@@ -7,7 +7,7 @@ use Rattle.queue_steps.specs.State.{State}
 use Rattle.queue_steps.specs.ChainWords.{offset_of}
 use Rattle.queue_steps.specs.UnboundedNext.{unbounded_next, chain_tail_found}
 use Rattle.queue_steps.specs.declared.steps.unbounded.UnboundedLocal.TheVariants as chain
-use Rattle.law_chain.specs.ChainCells.{Done, Rests, Laying, Opening, Linking, Showing, Spare, Chain, ChainOk, Write, Tail, Next as Behind, First, Holds, Nothing, item_at}
+use Rattle.law_chain.specs.ChainCells.{Done, Rests, Laying, Opening, Linking, Showing, Spare, Chain, ChainOk, Write, Tail, Next as Behind, First, HoldsOnly, Nothing, item_at}
 use Rattle.law_chain.specs.ChainFacts.{open_tail_of, IsNamed, TailBlockIs, HasSpare, SawTail, Claimed}
 use Rattle.law_chain.specs.ChainAnswers.{tail_word, last_of, is_done}
 use Rattle.law_chain.proofs.ChainAnswers.{tail_small, same_tail}
@@ -20,7 +20,7 @@ use Rattle.machine_replay.proofs.ChainCodes.{lies}
 use Rattle.machine_replay.proofs.ChainNames.{Codes, Changed}
 use Rattle.machine_replay.proofs.ChainBlocks.{placed, place_in, item_put, next_put, state_left, both_put}
 use Rattle.machine_replay.proofs.ChainGives.{codes_left, block_at, has_place, state_answers}
-use Rattle.machine_replay.proofs.ChainCoded.{Stands, Coded}
+use Rattle.machine_replay.proofs.ChainCoded.{CodesShared, Coded}
 use Rattle.law_chain.specs.ChainTransitions.{appended}
 use Rattle.law_chain.specs.ChainTransitions as moves
 use Rattle.law_chain.specs.ChainAt.{Only, Either, IsLast, Asks, push_tail, push_block, asking, installing, showing, claiming, laying, opening, chaining, writing, spending}
@@ -30,8 +30,8 @@ use Rattle.machine_replay.proofs.ChainCodesAt.{unread_item, codes_chained, codes
 
 module _ {A : Type 0} (c : Chain A) (who : ℕ) (ms : List (State A)) (ok : Bool) (s : Shared A) where
   -- U1: the tail is read
-  pub coded_push_tail : (d : PushKind) (v : A) (spare : Option ℕ) (none : Holds c who Nothing) (spare_is : HasSpare c who spare)
-      → ChainOk c → Stands s c → Coded c who ms ok s (push_tail d v spare none spare_is)
+  pub coded_push_tail : (d : PushKind) (v : A) (spare : Option ℕ) (none : HoldsOnly c who Nothing) (spare_is : HasSpare c who spare)
+      → ChainOk c → CodesShared s c → Coded c who ms ok s (push_tail d v spare none spare_is)
   coded_push_tail d v spare none spare_is right codes = record {
     touches = tt;
     operates = tt;
@@ -41,8 +41,8 @@ module _ {A : Type 0} (c : Chain A) (who : ℕ) (ms : List (State A)) (ok : Bool
   }
 
   -- U2: the pushers' block is read
-  pub coded_push_block : (d : PushKind) (v : A) (spare : Option ℕ) (q : ℕ) (none : Holds c who Nothing) (spare_is : HasSpare c who spare) (saw : SawTail c q ms)
-      → ChainOk c → Stands s c → Coded c who ms ok s (push_block d v spare q none spare_is saw)
+  pub coded_push_block : (d : PushKind) (v : A) (spare : Option ℕ) (q : ℕ) (none : HoldsOnly c who Nothing) (spare_is : HasSpare c who spare) (saw : SawTail c q ms)
+      → ChainOk c → CodesShared s c → Coded c who ms ok s (push_block d v spare q none spare_is saw)
   coded_push_block d v spare q none spare_is saw right codes = record {
     touches = tt;
     operates = tt;
@@ -53,8 +53,8 @@ module _ {A : Type 0} (c : Chain A) (who : ℕ) (ms : List (State A)) (ok : Bool
 
 module _ {A : Type 0} (c : Chain A) (who : ℕ) (ms : List (State A)) where
   -- U3: a block is asked for
-  pub coded_asking : (ok : Bool) (s : Shared A) (d : PushKind) (v : A) (q : ℕ) (block : Option ℕ) (none : Holds c who Nothing) (saw : SawTail c q ms) (asked : Asks c q block)
-      → ChainOk c → Stands s c → Coded c who ms ok s (asking d v q block none saw asked)
+  pub coded_asking : (ok : Bool) (s : Shared A) (d : PushKind) (v : A) (q : ℕ) (block : Option ℕ) (none : HoldsOnly c who Nothing) (saw : SawTail c q ms) (asked : Asks c q block)
+      → ChainOk c → CodesShared s c → Coded c who ms ok s (asking d v q block none saw asked)
   coded_asking false s d v q block none saw asked right codes = record {
     touches = tt;
     operates = tt;
@@ -72,8 +72,8 @@ module _ {A : Type 0} (c : Chain A) (who : ℕ) (ms : List (State A)) where
 
 module _ {A : Type 0} (c : Chain A) (who : ℕ) (ms : List (State A)) (ok : Bool) (s : Shared A) where
   -- U4: the first block is installed
-  pub coded_installing : (d : PushKind) (v : A) (f : ℕ) (none : Holds c who Nothing) (saw : SawTail c 0 ms) (fresh : c.uses f ≡ Spare who)
-      → ChainOk c → Stands s c → Coded c who ms ok s (installing d v f none saw fresh)
+  pub coded_installing : (d : PushKind) (v : A) (f : ℕ) (none : HoldsOnly c who Nothing) (saw : SawTail c 0 ms) (fresh : c.uses f ≡ Spare who)
+      → ChainOk c → CodesShared s c → Coded c who ms ok s (installing d v f none saw fresh)
   coded_installing d v f none saw fresh right codes = record {
     touches = tt;
     operates = tt;
@@ -96,8 +96,8 @@ module _ {A : Type 0} (c : Chain A) (who : ℕ) (ms : List (State A)) (ok : Bool
           (codes_left who n fine gives codes)
 
   -- U4b: the first block is shown to the poppers
-  pub coded_showing : (d : PushKind) (v : A) (name : ℕ) (first : Holds c who (Only First)) (saw : SawTail c 0 ms) (is : c.shown ≡ Showing who) (named : IsNamed c 0 name)
-      → ChainOk c → Stands s c → Coded c who ms ok s (showing d v name first saw is named)
+  pub coded_showing : (d : PushKind) (v : A) (name : ℕ) (first : HoldsOnly c who (Only First)) (saw : SawTail c 0 ms) (is : c.shown ≡ Showing who) (named : IsNamed c 0 name)
+      → ChainOk c → CodesShared s c → Coded c who ms ok s (showing d v name first saw is named)
   coded_showing d v name first saw is named right codes = record {
     touches = tt;
     operates = tt;
@@ -107,40 +107,40 @@ module _ {A : Type 0} (c : Chain A) (who : ℕ) (ms : List (State A)) (ok : Bool
   }
 
   -- U5: the tail is exchanged, by which an item is appended
-  pub coded_claiming : (d : PushKind) (v : A) (q name : ℕ) (spare : Option ℕ) (none : Holds c who Nothing) (spare_is : HasSpare c who spare) (saw : SawTail c q ms) (block : TailBlockIs c q name) (enough : IsLast q → IsSome spare)
-      → ChainOk c → Stands s c → Coded c who ms ok s (claiming d v q name spare none spare_is saw block enough)
+  pub coded_claiming : (d : PushKind) (v : A) (q name : ℕ) (spare : Option ℕ) (none : HoldsOnly c who Nothing) (spare_is : HasSpare c who spare) (saw : SawTail c q ms) (block : TailBlockIs c q name) (enough : IsLast q → IsSome spare)
+      → ChainOk c → CodesShared s c → Coded c who ms ok s (claiming d v q name spare none spare_is saw block enough)
   coded_claiming d v q name spare none spare_is saw block enough right codes = record {
     touches = tt;
     operates = tt;
     answers = ap (λ w. Answer.Found w) codes.tail_is;
     carried = refl;
     codes = λ fine gives. codes_left who (unbounded_next (chain.Claiming d (open_tail_of q) name spare) (Answer.Found s.tail)) fine gives
-        (subst (λ w. Stands (moved (w == open_tail_of q)) (if_claimed c who q v)) (sym codes.tail_is) (go (eqb_tells (tail_word c) (open_tail_of q))));
+        (subst (λ w. CodesShared (moved (w == open_tail_of q)) (if_claimed c who q v)) (sym codes.tail_is) (go (eqb_tells (tail_word c) (open_tail_of q))));
   }
     where
       moved : Bool → Shared A
       moved b = if b then record s { tail = open_tail_of q + TAIL_STEP } else s
 
       won : tail_word c ≡ open_tail_of q → (((offset_of (open_tail_of q) + 1 == BLOCK_SLOTS) ≡ true) × (offset_of (open_tail_of q) + 1 ≡ BLOCK_SLOTS)) ⊎ (((offset_of (open_tail_of q) + 1 == BLOCK_SLOTS) ≡ false) × (offset_of (open_tail_of q) + 1 ≢ BLOCK_SLOTS))
-          → Stands (record s { tail = open_tail_of q + TAIL_STEP }) (claimed_if c who v true (offset_of (open_tail_of q) + 1 == BLOCK_SLOTS))
+          → CodesShared (record s { tail = open_tail_of q + TAIL_STEP }) (claimed_if c who v true (offset_of (open_tail_of q) + 1 == BLOCK_SLOTS))
       won e (inl t) =
           let same = same_tail c q right saw.is e in
           let at_q = same.1 in
-          subst (λ b. Stands (record s { tail = open_tail_of q + TAIL_STEP }) (claimed_if c who v true b)) (sym t.0)
+          subst (λ b. CodesShared (record s { tail = open_tail_of q + TAIL_STEP }) (claimed_if c who v true b)) (sym t.0)
           (subst (λ n. Codes (appended c who v (Laying who)) s.head (open_tail_of n + TAIL_STEP) s.head_block s.tail_block s.blocks) at_q (codes_appended who v (Laying who) right same.0 (inr (who, refl, (let last = t.1 in omega arith))) codes))
       won e (inr t) =
           let same = same_tail c q right saw.is e in
           let at_q = same.1 in
-          subst (λ b. Stands (record s { tail = open_tail_of q + TAIL_STEP }) (claimed_if c who v true b)) (sym t.0)
+          subst (λ b. CodesShared (record s { tail = open_tail_of q + TAIL_STEP }) (claimed_if c who v true b)) (sym t.0)
           (subst (λ n. Codes (appended c who v Rests) s.head (open_tail_of n + TAIL_STEP) s.head_block s.tail_block s.blocks) at_q (codes_appended who v Rests right same.0 (inl (refl, λ z. t.1 (omega arith))) codes))
 
-      go : (((tail_word c == open_tail_of q) ≡ true) × (tail_word c ≡ open_tail_of q)) ⊎ (((tail_word c == open_tail_of q) ≡ false) × (tail_word c ≢ open_tail_of q)) → Stands (moved (tail_word c == open_tail_of q)) (if_claimed c who q v)
-      go (inl e) = subst (λ b. Stands (moved b) (claimed_if c who v b (offset_of (open_tail_of q) + 1 == BLOCK_SLOTS))) (sym e.0) (won e.1 (eqb_tells (offset_of (open_tail_of q) + 1) BLOCK_SLOTS))
-      go (inr e) = subst (λ b. Stands (moved b) (claimed_if c who v b (offset_of (open_tail_of q) + 1 == BLOCK_SLOTS))) (sym e.0) codes
+      go : (((tail_word c == open_tail_of q) ≡ true) × (tail_word c ≡ open_tail_of q)) ⊎ (((tail_word c == open_tail_of q) ≡ false) × (tail_word c ≢ open_tail_of q)) → CodesShared (moved (tail_word c == open_tail_of q)) (if_claimed c who q v)
+      go (inl e) = subst (λ b. CodesShared (moved b) (claimed_if c who v b (offset_of (open_tail_of q) + 1 == BLOCK_SLOTS))) (sym e.0) (won e.1 (eqb_tells (offset_of (open_tail_of q) + 1) BLOCK_SLOTS))
+      go (inr e) = subst (λ b. CodesShared (moved b) (claimed_if c who v b (offset_of (open_tail_of q) + 1 == BLOCK_SLOTS))) (sym e.0) codes
 
   -- U6: the spare becomes the pushers' block
-  pub coded_laying : (d : PushKind) (v : A) (n name f : ℕ) (holds : Holds c who (Either (Write n) Tail)) (mine : Claimed c who n v name) (lays : (c.mover ≡ Laying who) × (c.tail ≡ n + 1)) (fresh : c.uses f ≡ Spare who)
-      → ChainOk c → Stands s c → Coded c who ms ok s (laying d v n name f holds mine lays fresh)
+  pub coded_laying : (d : PushKind) (v : A) (n name f : ℕ) (holds : HoldsOnly c who (Either (Write n) Tail)) (mine : Claimed c who n v name) (lays : (c.mover ≡ Laying who) × (c.tail ≡ n + 1)) (fresh : c.uses f ≡ Spare who)
+      → ChainOk c → CodesShared s c → Coded c who ms ok s (laying d v n name f holds mine lays fresh)
   coded_laying d v n name f holds mine lays fresh right codes = record {
     touches = tt;
     operates = tt;
@@ -150,8 +150,8 @@ module _ {A : Type 0} (c : Chain A) (who : ℕ) (ms : List (State A)) (ok : Bool
   }
 
   -- U7: the tail moves on to the next block
-  pub coded_opening : (d : PushKind) (v : A) (n name f : ℕ) (holds : Holds c who (λ x. (x ≡ Write n) ⊎ (x ≡ Tail) ⊎ (x ≡ Behind (n / BLOCK_SLOTS)))) (mine : Claimed c who n v name) (opens : (c.mover ≡ Opening who) × (c.tail ≡ n + 1)) (links : c.links (n / BLOCK_SLOTS) ≡ Linking who) (named : IsNamed c (n / BLOCK_SLOTS + 1) f)
-      → ChainOk c → Stands s c → Coded c who ms ok s (opening d v n name f holds mine opens links named)
+  pub coded_opening : (d : PushKind) (v : A) (n name f : ℕ) (holds : HoldsOnly c who (λ x. (x ≡ Write n) ⊎ (x ≡ Tail) ⊎ (x ≡ Behind (n / BLOCK_SLOTS)))) (mine : Claimed c who n v name) (opens : (c.mover ≡ Opening who) × (c.tail ≡ n + 1)) (links : c.links (n / BLOCK_SLOTS) ≡ Linking who) (named : IsNamed c (n / BLOCK_SLOTS + 1) f)
+      → ChainOk c → CodesShared s c → Coded c who ms ok s (opening d v n name f holds mine opens links named)
   coded_opening d v n name f holds mine opens links named right codes = record {
     touches = tt;
     operates = (tt, (let small = tail_small c right in let is = codes.tail_is in omega arith));
@@ -161,8 +161,8 @@ module _ {A : Type 0} (c : Chain A) (who : ℕ) (ms : List (State A)) (ok : Bool
   }
 
   -- U8: the block is linked to the next one
-  pub coded_chaining : (d : PushKind) (v : A) (n name f : ℕ) (holds : Holds c who (Either (Write n) (Behind (n / BLOCK_SLOTS)))) (mine : Claimed c who n v name) (links : c.links (n / BLOCK_SLOTS) ≡ Linking who) (named : IsNamed c (n / BLOCK_SLOTS + 1) f)
-      → ChainOk c → Stands s c → Coded c who ms ok s (chaining d v n name f holds mine links named)
+  pub coded_chaining : (d : PushKind) (v : A) (n name f : ℕ) (holds : HoldsOnly c who (Either (Write n) (Behind (n / BLOCK_SLOTS)))) (mine : Claimed c who n v name) (links : c.links (n / BLOCK_SLOTS) ≡ Linking who) (named : IsNamed c (n / BLOCK_SLOTS + 1) f)
+      → ChainOk c → CodesShared s c → Coded c who ms ok s (chaining d v n name f holds mine links named)
   coded_chaining d v n name f holds mine links named right codes =
       let on = not_given_up c n right (unread_item c n who v right mine.mine) in
       let x = block_at (n / BLOCK_SLOTS) name right mine.named on codes in
@@ -175,8 +175,8 @@ module _ {A : Type 0} (c : Chain A) (who : ℕ) (ms : List (State A)) (ok : Bool
       }
 
   -- U9: the item is written into its slot
-  pub coded_writing : (d : PushKind) (v : A) (n name : ℕ) (spare : Option ℕ) (holds : Holds c who (Only (Write n))) (mine : Claimed c who n v name) (spare_is : HasSpare c who spare)
-      → ChainOk c → Stands s c → Coded c who ms ok s (writing d v n name spare holds mine spare_is)
+  pub coded_writing : (d : PushKind) (v : A) (n name : ℕ) (spare : Option ℕ) (holds : HoldsOnly c who (Only (Write n))) (mine : Claimed c who n v name) (spare_is : HasSpare c who spare)
+      → ChainOk c → CodesShared s c → Coded c who ms ok s (writing d v n name spare holds mine spare_is)
   coded_writing d v n name spare holds mine spare_is right codes =
       let on = not_given_up c n right unread in
       let x = block_at (n / BLOCK_SLOTS) name right mine.named on codes in
@@ -218,8 +218,8 @@ module _ {A : Type 0} (c : Chain A) (who : ℕ) (ms : List (State A)) (ok : Bool
           none_lies false = refl
 
   -- US: the mark of a queue that has accepted all that it ever will
-  pub coded_spending : (d : PushKind) (v : A) (spare : Option ℕ) (none : Holds c who Nothing) (spare_is : HasSpare c who spare) (spent : LIMIT ≤ c.tail)
-      → ChainOk c → Stands s c → Coded c who ms ok s (spending d v spare none spare_is spent)
+  pub coded_spending : (d : PushKind) (v : A) (spare : Option ℕ) (none : HoldsOnly c who Nothing) (spare_is : HasSpare c who spare) (spent : LIMIT ≤ c.tail)
+      → ChainOk c → CodesShared s c → Coded c who ms ok s (spending d v spare none spare_is spent)
   coded_spending d v spare none spare_is spent right codes = record {
     touches = tt;
     operates = tt;

@@ -7,7 +7,7 @@ use Rattle.queue_steps.specs.State.{State}
 use Rattle.queue_steps.specs.ChainWords.{offset_of}
 use Rattle.queue_steps.specs.UnboundedNext.{at, walks, walks_on}
 use Rattle.queue_steps.specs.declared.steps.unbounded.UnboundedLocal.TheVariants as chain
-use Rattle.law_chain.specs.ChainCells.{Wrote, Reading, Done, Walker, Waits, GivenUp, Chain, ChainOk, Read, Passed, Holds, item_at, LAST, Walk, Before, Chained, WalkOk}
+use Rattle.law_chain.specs.ChainCells.{Wrote, Reading, Done, Walker, Waits, GivenUp, Chain, ChainOk, Read, Passed, HoldsOnly, item_at, LAST, Walk, Before, Chained, WalkOk}
 use Rattle.law_chain.specs.ChainFacts.{head_of, IsNamed, Got}
 use Rattle.law_chain.specs.ChainAfter.{left_by}
 use Rattle.machine_memory.specs.Blocks.{place_count, Block, without, blank, places_in, state_of, put_item, put_state}
@@ -16,7 +16,7 @@ use Rattle.machine_steps.specs.Steps.{spare_in}
 use Rattle.machine_replay.proofs.ChainNames.{Codes, Changed}
 use Rattle.machine_replay.proofs.ChainBlocks.{there, place_in, item_put, state_put, state_is, state_left, both_put, placed_same, placed, changed_twice, changed_set, changed_none}
 use Rattle.machine_replay.proofs.ChainGives.{block_at, has_place, state_answers}
-use Rattle.machine_replay.proofs.ChainCoded.{Stands, Coded}
+use Rattle.machine_replay.proofs.ChainCoded.{CodesShared, Coded}
 use Rattle.std.proofs.Common.{not, Ok, bit_and, get_or-set_other}
 use Rattle.law_common.proofs.Puts.{put_same}
 use Rattle.law_chain.specs.ChainTransitions.{walk_after, reads, walked}
@@ -26,7 +26,7 @@ use Rattle.law_chain.proofs.ChainRead.{waits_is}
 use Rattle.law_chain.proofs.ChainWalk.{after_walker}
 use Rattle.law_chain.specs.ChainAt.{Only, IsLast, reading, beginning, walking, destroying}
 use Rattle.law_chain.proofs.ChainReads.{not_given_up}
-use Rattle.machine_memory.specs.declared.blocks.Place.{Place}
+use Rattle.machine_memory.specs.declared.blocks.BlockPlace.{BlockPlace}
 use Rattle.machine_replay.proofs.ChainCodes.{BlockIs, lies}
 use Rattle.machine_replay.proofs.ChainFresh.{unwalked}
 use Rattle.machine_replay.proofs.ChainBits.{state_waits, state_passed}
@@ -65,7 +65,7 @@ record WalkBlock {A : Type 0} (c : Chain A) (s : Shared A) (b name slot : ℕ) :
   placed_in : slot < place_count s.blocks name
   answers : StateAnswers c name slot (Answer.Found (state_of s.blocks name slot))
 
-walk_block : {A : Type 0} (c : Chain A) (who : ℕ) (s : Shared A) (b name slot : ℕ) → ChainOk c → Stands s c → c.walks b ≡ Walker who slot → IsNamed c b name → WalkBlock c s b name slot
+walk_block : {A : Type 0} (c : Chain A) (who : ℕ) (s : Shared A) (b name slot : ℕ) → ChainOk c → CodesShared s c → c.walks b ≡ Walker who slot → IsNamed c b name → WalkBlock c s b name slot
 walk_block c who s b name slot right codes is named =
     let x = block_at b name right named (λ e. let z : Walker who slot ≡ GivenUp = sym is ∙ e in cc) codes in
     let walk : WalkOk c.readers b (Walker who slot) = subst (λ w. WalkOk c.readers b w) is (right.walk b) in
@@ -82,8 +82,8 @@ walk_block c who s b name slot right codes is named =
 
 module _ {A : Type 0} (c : Chain A) (who : ℕ) (ms : List (State A)) (ok : Bool) (s : Shared A) where
   -- W1: the state of a passed block's slot is read
-  pub coded_walking : (x : A) (b name slot : ℕ) (holds : Holds c who (Only (Passed b))) (is : c.walks b ≡ Walker who slot) (named : IsNamed c b name)
-      → ChainOk c → Stands s c → Coded c who ms ok s (walking x b name slot holds is named)
+  pub coded_walking : (x : A) (b name slot : ℕ) (holds : HoldsOnly c who (Only (Passed b))) (is : c.walks b ≡ Walker who slot) (named : IsNamed c b name)
+      → ChainOk c → CodesShared s c → Coded c who ms ok s (walking x b name slot holds is named)
   coded_walking x b name slot holds is named right codes = record {
     touches = tt;
     operates = at_walk.placed_in;
@@ -112,8 +112,8 @@ module _ {A : Type 0} (c : Chain A) (who : ℕ) (ms : List (State A)) (ok : Bool
           changed left codes))
 
   -- W2: the reader of a passed block's slot is told to go on with the walk
-  pub coded_destroying : (x : A) (b name slot : ℕ) (holds : Holds c who (Only (Passed b))) (is : c.walks b ≡ Walker who slot) (named : IsNamed c b name)
-      → ChainOk c → Stands s c → Coded c who ms ok s (destroying x b name slot holds is named)
+  pub coded_destroying : (x : A) (b name slot : ℕ) (holds : HoldsOnly c who (Only (Passed b))) (is : c.walks b ≡ Walker who slot) (named : IsNamed c b name)
+      → ChainOk c → CodesShared s c → Coded c who ms ok s (destroying x b name slot holds is named)
   coded_destroying x b name slot holds is named right codes = record {
     touches = tt;
     operates = at_walk.placed_in;
@@ -128,7 +128,7 @@ module _ {A : Type 0} (c : Chain A) (who : ℕ) (ms : List (State A)) (ok : Bool
       marked_word : ℕ
       marked_word = bit_or (state_of s.blocks name slot) DESTROY
 
-      p : Place A
+      p : BlockPlace A
       p = record (place_in at_walk.x slot) { state = marked_word }
 
       changed : Changed s.blocks (put_state s.blocks name slot marked_word) name (Some (placed at_walk.x slot p))
@@ -166,8 +166,8 @@ lies_there c n m who x same wrote reading_it = rw (same, wrote, reading_it) refl
 
 module _ {A : Type 0} (c : Chain A) (who : ℕ) (ms : List (State A)) (ok : Bool) (s : Shared A) where
   -- V10: the item is read, in the middle of a block
-  pub coded_reading : (x : A) (n name : ℕ) (more : Bool) (holds : Holds c who (Only (Read n))) (got : Got c who n x name) (wrote : c.writers n ≡ Wrote x) (inner : IsLast n → ⊥)
-      → ChainOk c → Stands s c → Coded c who ms ok s (reading x n name more holds got wrote inner)
+  pub coded_reading : (x : A) (n name : ℕ) (more : Bool) (holds : HoldsOnly c who (Only (Read n))) (got : Got c who n x name) (wrote : c.writers n ≡ Wrote x) (inner : IsLast n → ⊥)
+      → ChainOk c → CodesShared s c → Coded c who ms ok s (reading x n name more holds got wrote inner)
   coded_reading x n name more holds got wrote inner right codes = record {
     touches = has_place s.blocks (n / BLOCK_SLOTS) name i block.0 block.1 block.2 wide;
     operates = subst (λ y. i < length (places_in y)) (sym emptied.here) (subst (λ m. i < m) (sym (length-set block.0.places i (record (place_in block.0 i) { item = None }))) room);
@@ -215,7 +215,7 @@ module _ {A : Type 0} (c : Chain A) (who : ℕ) (ms : List (State A)) (ok : Bool
       state : IsState c (n / BLOCK_SLOTS) (offset_of (head_of n more)) st
       state = subst (λ m. IsState c (n / BLOCK_SLOTS) i m) (sym word_is) (block.2.state i wide (λ last e. unread (ap c.readers (sym there_is) ∙ e)))
 
-      p : Place A
+      p : BlockPlace A
       p = record { state = bit_or st READ; item = None }
 
       after : List (Option (Block A))
@@ -240,8 +240,8 @@ module _ {A : Type 0} (c : Chain A) (who : ℕ) (ms : List (State A)) (ok : Bool
           refl (inr (ap (λ m. bit_or m READ) word_is)) now left codes))
 
   -- V10: the item of the last slot is read, and the walk begins at the first: W1
-  pub coded_beginning : (x : A) (n name : ℕ) (more : Bool) (holds : Holds c who (Only (Read n))) (got : Got c who n x name) (wrote : c.writers n ≡ Wrote x) (last_is : IsLast n)
-      → ChainOk c → Stands s c → Coded c who ms ok s (beginning x n name more holds got wrote last_is)
+  pub coded_beginning : (x : A) (n name : ℕ) (more : Bool) (holds : HoldsOnly c who (Only (Read n))) (got : Got c who n x name) (wrote : c.writers n ≡ Wrote x) (last_is : IsLast n)
+      → ChainOk c → CodesShared s c → Coded c who ms ok s (beginning x n name more holds got wrote last_is)
   coded_beginning x n name more holds got wrote last_is right codes = record {
     touches = has_place s.blocks (n / BLOCK_SLOTS) name i block.0 block.1 block.2 wide;
     operates = subst (λ y. 0 < length (places_in y)) (sym emptied.here) (subst (λ m. 0 < m) (sym (length-set block.0.places i p)) (let r = room in omega arith));
@@ -271,7 +271,7 @@ module _ {A : Type 0} (c : Chain A) (who : ℕ) (ms : List (State A)) (ok : Bool
       room : offset_of (head_of n more) < length block.0.places
       room = subst (λ m. offset_of (head_of n more) < m) (sym block.2.wide) wide
 
-      p : Place A
+      p : BlockPlace A
       p = record (place_in block.0 (offset_of (head_of n more))) { item = None }
 
       after : List (Option (Block A))

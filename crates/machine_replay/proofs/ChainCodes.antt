@@ -6,7 +6,7 @@ use Rattle.machine_replay.specs.Vocabulary.{BLOCK_SLOTS}
 use Rattle.law_chain.specs.ChainCells.{Writer, Free, Writing, Wrote, Reader, Done, Chain, item_at, LAST}
 use Rattle.law_chain.specs.ChainAnswers.{linked_of, is_wrote, is_done, waits_at, IsState}
 use Rattle.law_chain.proofs.ChainAnswers.{done_is}
-use Rattle.machine_memory.specs.declared.blocks.Place.{Place}
+use Rattle.machine_memory.specs.declared.blocks.BlockPlace.{BlockPlace}
 use Rattle.machine_memory.specs.Blocks.{blank}
 
 -- the item of a slot, once it is written
@@ -29,7 +29,7 @@ pub done_alike : (r x : Reader) → is_done r ≡ is_done x → x ≢ Done → r
 done_alike r x e ne d = ne (done_is x (sym e ∙ ap is_done d))
 
 -- these places and this link are those of the chain's block b. The last slot's word does not tell that its item is read
-pub record BlockIs {A : Type 0} (c : Chain A) (b : ℕ) (places : List (Place A)) (next : Option ℕ) : Type 0 where
+pub record BlockIs {A : Type 0} (c : Chain A) (b : ℕ) (places : List (BlockPlace A)) (next : Option ℕ) : Type 0 where
   pub wide : length places ≡ BLOCK_SLOTS
   pub state : (i : ℕ) → i < BLOCK_SLOTS → (i ≡ LAST → c.readers (item_at b i) ≢ Done) → IsState c b i (get_or places i blank).state
   pub slot : (i : ℕ) → i < BLOCK_SLOTS → (get_or places i blank).item ≡ lies (c.writers (item_at b i)) (c.readers (item_at b i))
@@ -52,7 +52,7 @@ pub lies_same : {A : Type 0} (c s : Chain A) (b i : ℕ) → SameItem c s b i �
 lies_same c s b i same = rw (same.wrote, same.done) refl
 
 -- the block of which the place i alone changes
-pub block_put : {A : Type 0} (c s : Chain A) (b i : ℕ) (x : Place A) (places : List (Place A)) (next : Option ℕ) → BlockIs c b places next → i < BLOCK_SLOTS
+pub block_put : {A : Type 0} (c s : Chain A) (b i : ℕ) (x : BlockPlace A) (places : List (BlockPlace A)) (next : Option ℕ) → BlockIs c b places next → i < BLOCK_SLOTS
     → ((j : ℕ) → j < BLOCK_SLOTS → j ≢ i → SameItem c s b j)
     → ((i ≡ LAST → s.readers (item_at b i) ≢ Done) → IsState s b i x.state) → x.item ≡ lies (s.writers (item_at b i)) (s.readers (item_at b i))
     → linked_of (c.links b) (c.names (b + 1)) ≡ linked_of (s.links b) (s.names (b + 1))
@@ -77,7 +77,7 @@ block_put {A} c s b i x places next is low same here lies_here links = record {
 }
 
 -- the block of which nothing changes but the link
-pub block_same : {A : Type 0} (c s : Chain A) (b : ℕ) (places : List (Place A)) (next after : Option ℕ) → BlockIs c b places next
+pub block_same : {A : Type 0} (c s : Chain A) (b : ℕ) (places : List (BlockPlace A)) (next after : Option ℕ) → BlockIs c b places next
     → ((j : ℕ) → j < BLOCK_SLOTS → SameItem c s b j) → after ≡ linked_of (s.links b) (s.names (b + 1)) → BlockIs s b places after
 block_same {A} c s b places next after is same links = record {
   wide = is.wide;

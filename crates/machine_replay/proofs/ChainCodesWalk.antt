@@ -8,7 +8,7 @@ use Rattle.law_chain.specs.ChainCells.{Done, Walk, GivenUp, Unused, Spare, Chain
 use Rattle.law_chain.specs.ChainTransitions.{reads, walked, walk_after, given_up, lost_of}
 use Rattle.law_chain.specs.ChainFacts.{IsNamed}
 use Rattle.law_chain.specs.ChainAnswers.{is_done, waits_at, IsState}
-use Rattle.machine_memory.specs.declared.blocks.Place.{Place}
+use Rattle.machine_memory.specs.declared.blocks.BlockPlace.{BlockPlace}
 use Rattle.machine_memory.specs.Blocks.{Block, blank}
 use Rattle.machine_replay.proofs.ChainCodes.{BlockIs, lies, block_put}
 use Rattle.machine_replay.proofs.ChainBits.{state_read}
@@ -28,7 +28,7 @@ other_walk : {A : Type 0} (c s : Chain A) (b i : ℕ) (w : Walk) → s.walks ≡
 other_walk c s b i w is ne = ap (λ f. f i) is ∙ put_other c.walks b i w ne
 
 -- V10: the item is read. The last slot's word does not tell of it
-pub codes_read : {A : Type 0} {c : Chain A} {head tail : ℕ} {front last : Option ℕ} {blocks after : List (Option (Block A))} (n i f : ℕ) (w : Walk) (q : Place A) (y : Option (Block A)) (x : Block A)
+pub codes_read : {A : Type 0} {c : Chain A} {head tail : ℕ} {front last : Option ℕ} {blocks after : List (Option (Block A))} (n i f : ℕ) (w : Walk) (q : BlockPlace A) (y : Option (Block A)) (x : Block A)
     → ChainOk c → i < BLOCK_SLOTS → item_at (n / BLOCK_SLOTS) i ≡ n → IsNamed c (n / BLOCK_SLOTS) f → BlockIs c (n / BLOCK_SLOTS) x.places x.next → c.readers n ≢ Done
     → ((j : ℕ) → j ≢ i → waits_at w j ≡ waits_at (c.walks (n / BLOCK_SLOTS)) j) → q.item ≡ None → (i ≡ LAST) ⊎ (q.state ≡ bit_or (get_or x.places i blank).state READ)
     → Changed blocks after f y → Left w y (record x { places = set x.places i q })
@@ -67,7 +67,7 @@ codes_read {A} {c = c} n i f w q y x ok low at named is unread waits empty word 
     state (inr e) unread_still = subst (λ z. IsState (reads c n w) (n / BLOCK_SLOTS) i z) (sym e) (state_read c (reads c n w) (n / BLOCK_SLOTS) i (get_or x.places i blank).state refl read (is.state i low (λ last d. unread (ap c.readers (sym at) ∙ d))))
 
 -- W1, W2: a passed block whose walk is this then
-pub codes_walked : {A : Type 0} {c : Chain A} {head tail : ℕ} {front last : Option ℕ} {blocks after : List (Option (Block A))} (b i f : ℕ) (w : Walk) (q : Place A) (y : Option (Block A)) (x : Block A)
+pub codes_walked : {A : Type 0} {c : Chain A} {head tail : ℕ} {front last : Option ℕ} {blocks after : List (Option (Block A))} (b i f : ℕ) (w : Walk) (q : BlockPlace A) (y : Option (Block A)) (x : Block A)
     → ChainOk c → i < LAST → IsNamed c b f → BlockIs c b x.places x.next
     → ((j : ℕ) → j ≢ i → waits_at w j ≡ waits_at (c.walks b) j) → q.item ≡ (get_or x.places i blank).item → IsState (walked c b w) b i q.state
     → Changed blocks after f y → Left w y (record x { places = set x.places i q })

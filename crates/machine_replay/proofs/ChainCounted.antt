@@ -6,7 +6,7 @@ use Rattle.queue_steps.specs.State.{State}
 use Rattle.queue_steps.specs.Sequential.{blocks_of}
 use Rattle.machine_replay.specs.Vocabulary.{Call, Effect, Running}
 use Rattle.machine_replay.proofs.StandOf.{stand_of}
-use Rattle.law_chain.specs.ChainCells.{Walk, GivenUp, Use, Chained, Chain, queue_of, Holds, Nothing}
+use Rattle.law_chain.specs.ChainCells.{Walk, GivenUp, Use, Chained, Chain, queue_of, HoldsOnly, Nothing}
 use Rattle.law_chain.specs.ChainAt.{At}
 use Rattle.law_chain.specs.ChainPasses.{spare_in, Spares}
 use Rattle.law_chain.proofs.Count.{count, count_same, count_front}
@@ -32,7 +32,7 @@ pub record InCall {A : Type 0} (g : Chain A) (who : ℕ) (r : Running A) : Type 
 
 -- where a party stands: between its calls it holds nothing
 abbrev pub StandsAt : {A : Type 0} → Chain A → ℕ → Option (Running A) → Type 0
-StandsAt g who None = Holds g who Nothing × Spares g who None
+StandsAt g who None = HoldsOnly g who Nothing × Spares g who None
 StandsAt g who (Some r) = InCall g who r
 
 -- how many there are, by their places

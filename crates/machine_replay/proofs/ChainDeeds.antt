@@ -3,7 +3,7 @@ use Rattle.std.proofs.Common.{ℕ, ◌+◌, ◌-◌, ◌/◌, ◌%◌, ◌≡◌
 use Rattle.machine_replay.specs.Vocabulary.{Op, Touch, Local, UnboundedLocal, BLOCK_SLOTS, READ}
 use Rattle.queue_steps.specs.ChainWords.{offset_of}
 use Rattle.queue_steps.specs.declared.steps.unbounded.UnboundedLocal.TheVariants as chain
-use Rattle.law_chain.specs.ChainCells.{Writing, Reading, Laying, Passing, Linking, Showing, Spare, Chain, Part, Write, Read, Tail, Head, Next, First, Passed, writer_of, reader_of, mover_of, passer_of, linker_of, shower_of, Holds, Nothing}
+use Rattle.law_chain.specs.ChainCells.{Writing, Reading, Laying, Passing, Linking, Showing, Spare, Chain, Part, Write, Read, Tail, Head, Next, First, Passed, writer_of, reader_of, mover_of, passer_of, linker_of, shower_of, HoldsOnly, Nothing}
 use Rattle.law_chain.specs.ChainFacts.{head_of, open_tail_of, IsNamed, Claimed, Got}
 use Rattle.law_chain.specs.ChainAt.{Only, Either}
 use Rattle.law_chain.proofs.ChainAnswers.{head_offset}
@@ -108,7 +108,7 @@ pub record DeedIs {A : Type 0} (g : Chain A) (who : ℕ) (d : Deed A) (front : O
   pub fronts : (x : Option ℕ) → (front x ≡ x) ⊎ ((g.shown ≡ Showing who) × (front x ≡ Some (g.names 0)))
 
 -- a party that holds neither an item nor the tail, the head or a link
-at_rest : {A : Type 0} (g : Chain A) (who : ℕ) (P : Part → Type 0) → Holds g who P → ((n : ℕ) → P (Write n) → ⊥) → ((n : ℕ) → P (Read n) → ⊥) → ((b : ℕ) → P (Next b) → ⊥) → (P Tail → ⊥) → (P Head → ⊥) → (P First → ⊥) → DeedIs g who Rest (λ x. x)
+at_rest : {A : Type 0} (g : Chain A) (who : ℕ) (P : Part → Type 0) → HoldsOnly g who P → ((n : ℕ) → P (Write n) → ⊥) → ((n : ℕ) → P (Read n) → ⊥) → ((b : ℕ) → P (Next b) → ⊥) → (P Tail → ⊥) → (P Head → ⊥) → (P First → ⊥) → DeedIs g who Rest (λ x. x)
 at_rest g who P holds write read next tail head first = record {
   puts = λ n v e. absurd (write n (holds (Write n) (ap writer_of e)));
   reads = λ n e. absurd (read n (holds (Read n) (ap reader_of e)));
@@ -120,10 +120,10 @@ at_rest g who P holds write read next tail head first = record {
   fronts = λ x. inl refl;
 }
 
-pub idle : {A : Type 0} (g : Chain A) (who : ℕ) → Holds g who Nothing → DeedIs g who Rest (λ x. x)
+pub idle : {A : Type 0} (g : Chain A) (who : ℕ) → HoldsOnly g who Nothing → DeedIs g who Rest (λ x. x)
 idle g who none = at_rest g who Nothing none (λ n z. z) (λ n z. z) (λ b z. z) (λ z. z) (λ z. z) (λ z. z)
 
-pub walks : {A : Type 0} (g : Chain A) (who b : ℕ) → Holds g who (Only (Passed b)) → DeedIs g who Rest (λ x. x)
+pub walks : {A : Type 0} (g : Chain A) (who b : ℕ) → HoldsOnly g who (Only (Passed b)) → DeedIs g who Rest (λ x. x)
 walks g who b holds = at_rest g who (Only (Passed b)) holds (λ n z. cc) (λ n z. cc) (λ i z. cc) (λ z. cc) (λ z. cc) (λ z. cc)
 
 -- two reads are the same
@@ -134,7 +134,7 @@ IsReads A b i f j = same (Reads b i) (Reads f j)
     same d e = d ≡ e
 
 -- a party that reads this item
-reads_it : {A : Type 0} (g : Chain A) (who n i : ℕ) (x : A) (name : ℕ) (P : Part → Type 0) → Holds g who P → Got g who n x name → i ≡ n % BLOCK_SLOTS
+reads_it : {A : Type 0} (g : Chain A) (who n i : ℕ) (x : A) (name : ℕ) (P : Part → Type 0) → HoldsOnly g who P → Got g who n x name → i ≡ n % BLOCK_SLOTS
     → ((m : ℕ) → P (Write m) → ⊥) → ((m : ℕ) → P (Read m) → m ≡ n) → ((b : ℕ) → P (Next b) → ⊥) → (P Tail → ⊥) → (P First → ⊥) → (g.passer ≡ Passing who → g.readers (g.head - 1) ≡ Reading who) → DeedIs g who (Reads name i) (λ x. x)
 reads_it {A} g who n i x name P holds got at_slot write read next tail first passes_it = record {
   puts = λ m v e. absurd (write m (holds (Write m) (ap writer_of e)));
@@ -153,18 +153,18 @@ reads_it {A} g who n i x name P holds got at_slot write read next tail first pas
         let slot : i ≡ m % BLOCK_SLOTS = at_slot ∙ ap (λ j. j % BLOCK_SLOTS) (sym e) in
         ap (λ f. Reads f i) block ∙ ap (λ j. Reads (g.names (m / BLOCK_SLOTS)) j) slot
 
-pub reads_alone : {A : Type 0} (g : Chain A) (who n : ℕ) (x : A) (name : ℕ) (more : Bool) → Holds g who (Only (Read n)) → Got g who n x name → DeedIs g who (Reads name (offset_of (head_of n more))) (λ x. x)
+pub reads_alone : {A : Type 0} (g : Chain A) (who n : ℕ) (x : A) (name : ℕ) (more : Bool) → HoldsOnly g who (Only (Read n)) → Got g who n x name → DeedIs g who (Reads name (offset_of (head_of n more))) (λ x. x)
 reads_alone g who n x name more holds got =
     reads_it g who n (offset_of (head_of n more)) x name (Only (Read n)) holds got (head_offset n more) (λ m z. cc) (λ m z. cc) (λ b z. cc) (λ z. cc) (λ z. cc) (λ e. let z = holds Head (ap passer_of e) in absurd (cc))
 
-pub reads_and_passes : {A : Type 0} (g : Chain A) (who n : ℕ) (x : A) (name : ℕ) (more : Bool) → Holds g who (Either (Read n) Head) → Got g who n x name → g.head ≡ n + 1 → DeedIs g who (Reads name (offset_of (head_of n more))) (λ x. x)
+pub reads_and_passes : {A : Type 0} (g : Chain A) (who n : ℕ) (x : A) (name : ℕ) (more : Bool) → HoldsOnly g who (Either (Read n) Head) → Got g who n x name → g.head ≡ n + 1 → DeedIs g who (Reads name (offset_of (head_of n more))) (λ x. x)
 reads_and_passes g who n x name more holds got at =
     reads_it g who n (offset_of (head_of n more)) x name (Either (Read n) Head) holds got (head_offset n more)
     (λ m z. elim z [ inl e ↦ cc | inr e ↦ cc ]) (λ m z. elim z [ inl e ↦ cc | inr e ↦ absurd (cc) ]) (λ b z. elim z [ inl e ↦ cc | inr e ↦ cc ]) (λ z. elim z [ inl e ↦ cc | inr e ↦ cc ]) (λ z. elim z [ inl e ↦ cc | inr e ↦ cc ])
     (λ e. ap g.readers (let z : g.head - 1 ≡ n = omega arith in z) ∙ got.mine)
 
 -- a party that writes this item
-pub writes_it : {A : Type 0} (g : Chain A) (who n : ℕ) (v : A) (name : ℕ) → Holds g who (Only (Write n)) → Claimed g who n v name → DeedIs g who (Puts name (offset_of (open_tail_of n)) (Some v)) (λ x. x)
+pub writes_it : {A : Type 0} (g : Chain A) (who n : ℕ) (v : A) (name : ℕ) → HoldsOnly g who (Only (Write n)) → Claimed g who n v name → DeedIs g who (Puts name (offset_of (open_tail_of n)) (Some v)) (λ x. x)
 writes_it {A} g who n v name holds mine = record {
   puts = λ m w e. here m w e (holds (Write m) (ap writer_of e));
   reads = λ m e. absurd (let z = holds (Read m) (ap reader_of e) in cc);
@@ -183,7 +183,7 @@ writes_it {A} g who n v name holds mine = record {
         (mine.named.1 ∙ ap (λ j. g.names (j / BLOCK_SLOTS)) (sym at), omega arith, ap (λ y. Some y) (let z : v ≡ w = cc in z))
 
 -- a party that claimed the last slot of a block, and lays the next one
-pub lays_it : {A : Type 0} (g : Chain A) (who n : ℕ) (v : A) (name fresh : ℕ) (P : Part → Type 0) → Holds g who P → Claimed g who n v name → IsLaid g who n fresh
+pub lays_it : {A : Type 0} (g : Chain A) (who n : ℕ) (v : A) (name fresh : ℕ) (P : Part → Type 0) → HoldsOnly g who P → Claimed g who n v name → IsLaid g who n fresh
     → ((m : ℕ) → P (Write m) → m ≡ n) → ((m : ℕ) → P (Read m) → ⊥) → ((b : ℕ) → P (Next b) → (g.links b ≡ Linking who) → (b ≡ n / BLOCK_SLOTS) × (fresh ≡ g.names (b + 1)))
     → (g.mover ≡ Laying who → (g.uses fresh ≡ Spare who) × (n / BLOCK_SLOTS + 1 ≡ g.blocks)) → (P Head → ⊥) → (P First → ⊥) → DeedIs g who (Lays name (offset_of (open_tail_of n)) (Some v) fresh) (λ x. x)
 lays_it {A} g who n v name fresh P holds mine laid_is write read next tail head first = record {

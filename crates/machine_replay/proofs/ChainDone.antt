@@ -3,7 +3,7 @@ use Rattle.std.proofs.Common.{ℕ, suc, zero, ◌<◌, ◌≡◌, ◌≢◌, ◌
 use Rattle.std.proofs.lemmas.List.{length-set}
 use Rattle.std.proofs.lemmas.Bool.Decides.{eqb_tells}
 use Rattle.machine_replay.specs.Vocabulary.{BLOCK_SLOTS, READ, Running}
-use Rattle.machine_memory.specs.declared.blocks.Place.{Place}
+use Rattle.machine_memory.specs.declared.blocks.BlockPlace.{BlockPlace}
 use Rattle.machine_memory.specs.Blocks.{Block, blank, places_in, with_place, with_next, put_item}
 use Rattle.machine_steps.specs.ChainLeft.{settled_by, settled_blocks}
 use Rattle.machine_replay.proofs.ChainDeeds.{Deed, Rest, Puts, Lays, Reads, deed_of, done, deed_done, PutsAt, LinksTo}
@@ -84,7 +84,7 @@ makes_all (Some y ∷ calls) f W Q still keeps (suc p) r e made x w =
 if_at : {A : Type 0} (b f : ℕ) (P : Block A → Type 0) (x y : Block A) → (b ≡ f → P y) → (b ≢ f → P x) → P (if b == f then y else x)
 if_at b f P x y here there = elim (eqb_tells b f) [ inl t ↦ rw t.0 (here t.1) | inr t ↦ rw t.0 (there t.1) ]
 
-put_at : {A : Type 0} (ps : List (Place A)) (j i : ℕ) (x : Place A) (P : Place A → Type 0) → i < length ps → (j ≡ i → P x) → (j ≢ i → P (get_or ps i blank)) → P (get_or (set ps j x) i blank)
+put_at : {A : Type 0} (ps : List (BlockPlace A)) (j i : ℕ) (x : BlockPlace A) (P : BlockPlace A → Type 0) → i < length ps → (j ≡ i → P x) → (j ≢ i → P (get_or ps i blank)) → P (get_or (set ps j x) i blank)
 put_at ps j i x P lt here there = elim (eqb_tells j i) [
   | inl t ↦ subst P (sym (ap (λ k. get_or (set ps k x) i blank) t.1 ∙ get_or-set_same ps i x blank lt)) (here t.1)
   | inr t ↦ subst P (sym (get_or-set_other ps j i x blank (λ z. t.1 (sym z)))) (there t.1)

@@ -18,7 +18,7 @@ use Rattle.machine_replay.proofs.StandOf.{running_of}
 use Rattle.law_chain.specs.ChainAfter.{after_of, chain_of, claimed_if, if_installed, left_by}
 use Rattle.law_chain.specs.ChainAnswers.{Answers, tail_place, tail_word, head_word, last_of, shown_of}
 use Rattle.law_chain.specs.ChainAt.{At, Only, push_tail, push_block, asking, installing, showing, claiming, laying, opening, chaining, writing, spending, pop_head, pop_block, pop_tail, taking, following, peeking, passing, entering, awaiting, reading, beginning, walking, destroying, len_tail, len_head, len_again, empty_head, empty_tail, closing, closed_tail}
-use Rattle.law_chain.specs.ChainCells.{Rests, Stands, Shown, Hidden, Showing, Seen, Chain, ChainOk, ShownOk, Tail, Head, First, owner, shower_of, Holds, Nothing, queue_of}
+use Rattle.law_chain.specs.ChainCells.{Rests, Stands, Shown, Hidden, Showing, Seen, Chain, ChainOk, ShownOk, Tail, Head, First, owner, shower_of, HoldsOnly, Nothing, queue_of}
 use Rattle.law_chain.specs.ChainFacts.{place, head_of, open_tail_of, HeadIs, TailIs, HasSpare}
 use Rattle.law_chain.specs.ChainTransitions.{installed}
 use Rattle.law_chain.proofs.ChainAnswers.{tail_items, resting_word}
@@ -26,7 +26,7 @@ use Rattle.law_chain.proofs.ChainPush.{tail_ways}
 use Rattle.law_chain.proofs.ChainRanks.{is_seen, lag, lag_none, Falls, rests_if, stands_if}
 use Rattle.law_chain.proofs.ChainRanksPop.{head_falls}
 use Rattle.law_chain.proofs.ChainRanksPush.{push_tail_falls}
-use Rattle.law_chain.proofs.ChainRight.{Ends, step_right}
+use Rattle.law_chain.proofs.ChainRight.{NextOkSpares, step_right}
 use Rattle.law_chain.proofs.ChainStep.{is_chain}
 use Rattle.law_chain.proofs.ChainTransitions.{no_block}
 use Rattle.machine_memory.specs.SharedMemory.{Shared, put_word}
@@ -197,12 +197,12 @@ seen_not c seen unseen = let z : true ≡ false = sym (ap is_seen seen) ∙ unse
 
 -- no other party has more of the chain than the first block, which it is to show
 abbrev IsBare : {A : Type 0} → Chain A → ℕ → Type 0
-IsBare c who = (j : ℕ) → j ≢ who → Holds c j (Only First)
+IsBare c who = (j : ℕ) → j ≢ who → HoldsOnly c j (Only First)
 
-rests_bare : {A : Type 0} (c : Chain A) (who : ℕ) → IsBare c who → Holds c who Nothing → c.mover ≡ Rests
+rests_bare : {A : Type 0} (c : Chain A) (who : ℕ) → IsBare c who → HoldsOnly c who Nothing → c.mover ≡ Rests
 rests_bare c who bare none = rests_if c.mover (unheld c who Nothing (Only First) Tail bare none (λ z. z) (λ z. absurd (cc)))
 
-stands_bare : {A : Type 0} (c : Chain A) (who : ℕ) → IsBare c who → Holds c who Nothing → c.passer ≡ Stands
+stands_bare : {A : Type 0} (c : Chain A) (who : ℕ) → IsBare c who → HoldsOnly c who Nothing → c.passer ≡ Stands
 stands_bare c who bare none = stands_if c.passer (unheld c who Nothing (Only First) Head bare none (λ z. z) (λ z. absurd (cc)))
 
 -- Y3: the tail is read again
@@ -280,7 +280,7 @@ pop_leaves ok s (destroying x b name slot holds is named) pop = refl
 pop_leaves ok s _ pop = absurd (omega (arith, pop))
 
 -- a call that has had no effect has no part but the first block, which it is to show
-has_bare : {A : Type 0} {c : Chain A} {who : ℕ} {ms : List (State A)} {k : Stand A} → At c who ms k → k.effects ≡ [] → Holds c who (Only First)
+has_bare : {A : Type 0} {c : Chain A} {who : ℕ} {ms : List (State A)} {k : Stand A} → At c who ms k → k.effects ≡ [] → HoldsOnly c who (Only First)
 has_bare (push_tail d v spare none spare_is) e = λ x h. absurd (none x h)
 has_bare (push_block d v spare q none spare_is saw) e = λ x h. absurd (none x h)
 has_bare (asking d v q block none saw asked) e = λ x h. absurd (none x h)
@@ -320,7 +320,7 @@ module _ (A : Type 0) where
   near s r = near_at s.tail s.head r.local - one_of_pop r.local
 
   -- once the first block is shown such a party has no part at all
-  seen_bare : (g : Chain A) (j : ℕ) → g.shown ≡ Seen → Holds g j (Only First) → Holds g j Nothing
+  seen_bare : (g : Chain A) (j : ℕ) → g.shown ≡ Seen → HoldsOnly g j (Only First) → HoldsOnly g j Nothing
   seen_bare g j seen bare x e =
       let mine : owner g First ≡ Some j = subst (λ y. owner g y ≡ Some j) (bare x e) e in
       let no : None ≡ Some j = sym (ap shower_of seen) ∙ mine in
@@ -353,7 +353,7 @@ module _ (A : Type 0) where
       same =
           let right = step_right f.here a holds.ok step.found f.spares in
           let after = chain_then ok s g p o.moments x o.call o.effects f.here in
-          goes_as after p (queue_of after ∷ o.moments) (next_on ok s x) (carried_then s x) o.call (with_effect o.effects right.e) x' on (subst (λ v. Ends after p (queue_of after ∷ o.moments) (next_on ok s x) v o.call (with_effect o.effects right.e)) (sym step.carried) right.ends) ∙ sym (by_call f.here)
+          goes_as after p (queue_of after ∷ o.moments) (next_on ok s x) (carried_then s x) o.call (with_effect o.effects right.e) x' on (subst (λ v. NextOkSpares after p (queue_of after ∷ o.moments) (next_on ok s x) v o.call (with_effect o.effects right.e)) (sym step.carried) right.ends) ∙ sym (by_call f.here)
 
       low : one_of_pop x.local < near_at s.tail s.head x.local
       low = (near_within s.tail s.head x.local (bounded s.tail s.head f.here holds.ok)).0
@@ -397,7 +397,7 @@ module _ (A : Type 0) where
   chain_paces = record {
     rank = near;
     most = BLOCK_SLOTS + 10;
-    Free = λ g p. Holds g p (Only First);
+    Free = λ g p. HoldsOnly g p (Only First);
     Ready = Ready;
     within = λ busy s Q g p r o ready holds f.
         let b = near_within s.tail s.head r.local (bounded s.tail s.head f.here holds.ok) in let low = b.0 in let high = b.1 in

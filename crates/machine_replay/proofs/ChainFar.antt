@@ -16,7 +16,7 @@ use Rattle.law_chain.specs.ChainFacts.{head_of, open_tail_of}
 use Rattle.law_chain.proofs.ChainAnswers.{head_offset}
 use Rattle.law_chain.proofs.ChainRanks.{rank, lag, walk_rank, is_seen}
 use Rattle.law_chain.proofs.ChainRanksWalk.{last_claimed}
-use Rattle.law_chain.proofs.ChainRight.{Ends}
+use Rattle.law_chain.proofs.ChainRight.{NextOkSpares}
 use Rattle.machine_memory.specs.SharedMemory.{Shared}
 use Rattle.machine_steps.specs.Steps.{running_after}
 use Rattle.machine_replay.proofs.ChainNames.{Codes}
@@ -100,7 +100,7 @@ by_call (spending d v spare none spare_is spent) = sym (no_pop d v)
 by_call x = refl
 
 -- a call goes on as the call that it is
-pub goes_as : {A : Type 0} (c : Chain A) (who : ℕ) (ms : List (State A)) (n : Next ℕ) (v : Option A) (k : Call A) (es : List (Effect A)) (x : Running A) → running_after n v ≡ Some x → Ends c who ms n v k es → one_of_pop x.local ≡ pop_is_one k
+pub goes_as : {A : Type 0} (c : Chain A) (who : ℕ) (ms : List (State A)) (n : Next ℕ) (v : Option A) (k : Call A) (es : List (Effect A)) (x : Running A) → running_after n v ≡ Some x → NextOkSpares c who ms n v k es → one_of_pop x.local ≡ pop_is_one k
 goes_as c who ms (Next.Step l t o) v k es x e ends = let same : record { local = l; touch = t; op = o; carried = v } ≡ x = cc in subst (λ y. one_of_pop y.local ≡ pop_is_one k) same (by_call ends.0)
 goes_as c who ms (Next.Reply y spare) v k es x e ends = cc
 

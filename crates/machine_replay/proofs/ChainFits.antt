@@ -5,7 +5,7 @@ use Rattle.queue_steps.specs.UnboundedNext.{unbounded_next}
 use Rattle.machine_replay.specs.Vocabulary.{Call, Reply, Effect, Kind, Answer, Next, Running}
 use Rattle.law_common.specs.Effects.{with_effect}
 use Rattle.machine_replay.proofs.StandOf.{stand_of}
-use Rattle.law_chain.specs.ChainCells.{Chain, queue_of, ChainOk, Holds, Nothing}
+use Rattle.law_chain.specs.ChainCells.{Chain, queue_of, ChainOk, HoldsOnly, Nothing}
 use Rattle.law_chain.specs.ChainPasses.{Passes, Spares, spare_in}
 use Rattle.law_chain.proofs.ChainFacts.{holds_stays}
 use Rattle.law_chain.specs.ChainAt.{At}
@@ -14,7 +14,7 @@ use Rattle.law_chain.specs.ChainAnswers.{Answers}
 use Rattle.law_chain.specs.ChainAfter.{chain_of, after_of, carried_of, left_by}
 use Rattle.law_chain.proofs.ChainStart.{at_begun}
 use Rattle.law_chain.proofs.ChainGiven.{spares_stay}
-use Rattle.law_chain.proofs.ChainRight.{Ends, step_right}
+use Rattle.law_chain.proofs.ChainRight.{NextOkSpares, step_right}
 use Rattle.law_chain.proofs.ChainRanks.{rank, longest, rank_small, rank_some, Falls}
 use Rattle.law_chain.proofs.ChainRanksStep.{step_falls, wait_free_falls, wait_free_small}
 use Rattle.machine_replay.specs.Book.{Open, after_own, begun, is_wait_free, joined, watched}
@@ -27,7 +27,7 @@ use Rattle.machine_replay.proofs.Moments.{same_moments}
 
 -- a party between calls holds no part and has no spare
 abbrev pub ChainIdle : {A : Type 0} → Chain A → ℕ → Type 0
-ChainIdle g p = Holds g p Nothing × Spares g p None
+ChainIdle g p = HoldsOnly g p Nothing × Spares g p None
 
 -- where the party's call stands, that it has no spare but that in its hands, and that it has few steps before it
 pub record ChainFits {A : Type 0} (busy : ℕ) (s : Shared A) (Q : State A) (g : Chain A) (p : ℕ) (x : Running A) (o : Open A) : Type 0 where
@@ -37,14 +37,14 @@ pub record ChainFits {A : Type 0} (busy : ℕ) (s : Shared A) (Q : State A) (g :
 
 -- the engine's words at a chain, for any shared memory that stands for it
 abbrev pub ChainGoes : (A : Type 0) (Stands : Shared A → State A → Chain A → Type 0) → ℕ → Shared A → State A → Chain A → ℕ → Open A → Option (Running A) → Option (Reply A) → Type 0
-ChainGoes A Stands = engine.Goes A (Shared A) (Running A) (Chain A) None (step_of Kind.Unbounded) (start_of Kind.Unbounded) (CanStep Kind.Unbounded) Stands ChainIdle ChainFits
+ChainGoes A Stands = engine.NextFits A (Shared A) (Running A) (Chain A) None (step_of Kind.Unbounded) (start_of Kind.Unbounded) (CanStep Kind.Unbounded) Stands ChainIdle ChainFits
 
 abbrev ChainBegins : (A : Type 0) (Stands : Shared A → State A → Chain A → Type 0) → Shared A → State A → Chain A → ℕ → Call A → Option (Running A) → Option (Reply A) → Type 0
 ChainBegins A Stands = engine.BeginsWell A (Shared A) (Running A) (Chain A) None (step_of Kind.Unbounded) (start_of Kind.Unbounded) (CanStep Kind.Unbounded) Stands ChainIdle ChainFits
 
 -- where the call stands after its step, or its reply
 goes_on : {A : Type 0} (Stands : Shared A → State A → Chain A → Type 0) (busy : ℕ) (s : Shared A) (g : Chain A) (p : ℕ) (o : Open A) (n : Next ℕ) (v : Option A) (es : List (Effect A)) (m : ℕ)
-    → FewSteps busy o m longest → (busy ≡ 1 → Falls g n m) → (is_wait_free o.call ≡ true → Falls g n m) → Ends g p (queue_of g ∷ o.moments) n v o.call es
+    → FewSteps busy o m longest → (busy ≡ 1 → Falls g n m) → (is_wait_free o.call ≡ true → Falls g n m) → NextOkSpares g p (queue_of g ∷ o.moments) n v o.call es
     → ChainGoes A Stands busy s (queue_of g) g p (after_own busy o (queue_of g) es) (running_after n v) (reply_after n v)
 goes_on {A} Stands busy s g p o (Next.Step l t x) v es m few falls hurry ends =
     let less = few_own busy o (queue_of g) es m (rank g l) longest (rank_small g l) falls hurry few in

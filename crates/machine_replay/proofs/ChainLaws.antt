@@ -12,7 +12,7 @@ use Rattle.law_chain.specs.ChainAnswers.{Answers}
 use Rattle.law_chain.specs.ChainAfter.{chain_of, after_of, carried_of, left_by}
 use Rattle.law_chain.proofs.ChainStep.{is_chain}
 use Rattle.law_chain.specs.ChainPasses.{Spares, spare_in}
-use Rattle.law_chain.proofs.ChainRight.{Ends, step_right}
+use Rattle.law_chain.proofs.ChainRight.{NextOkSpares, step_right}
 use Rattle.machine_replay.specs.Book.{Open, Moves, after_own}
 use Rattle.machine_memory.specs.SharedMemory.{Shared, CanTouch, CanOperate, block_touched, slots_there}
 use Rattle.machine_steps.specs.Steps.{CanReply, CanStep, after_touch, answer_to, carried_then, shared_then, next_after, running_after, reply_after, step_of, start_of}
@@ -51,7 +51,7 @@ same_next : {A : Type 0} (ok : Bool) (s : Shared A) (g : Chain A) (p : ℕ) (ms 
 same_next ok s g p ms x k es at = ap (λ l. next_of Kind.Unbounded l (answer_to ok s x)) (is_chain at)
 
 -- a call may reply at its step: its value is there
-can_reply : {A : Type 0} (s : Chain A) (p : ℕ) (ms : List (State A)) (n : Next ℕ) (v : Option A) (k : Call A) (es : List (Effect A)) → Ends s p ms n v k es → CanReply n v
+can_reply : {A : Type 0} (s : Chain A) (p : ℕ) (ms : List (State A)) (n : Next ℕ) (v : Option A) (k : Call A) (es : List (Effect A)) → NextOkSpares s p ms n v k es → CanReply n v
 can_reply s p ms (Next.Step l t o) v k es ends = tt
 can_reply s p ms (Next.Reply x spare) v k es ends = rw ends.2.1 refl
 

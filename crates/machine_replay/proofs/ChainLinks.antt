@@ -5,7 +5,7 @@ use Rattle.machine_replay.specs.Vocabulary.{BLOCK_SLOTS, Running}
 use Rattle.law_chain.specs.ChainCells.{Mover, Rests, Laying, Opening, LinkState, Unlinked, Linking, Linked, Shown, Hidden, Showing, Seen, Spare, Chained, Chain, ChainOk, LinkOk, Next, First, Tail, mover_of, linker_of, shower_of}
 use Rattle.law_chain.specs.ChainAnswers.{linked_of, shown_of}
 use Rattle.law_chain.specs.ChainPasses.{spare_in, Spares}
-use Rattle.machine_memory.specs.declared.blocks.Place.{Place}
+use Rattle.machine_memory.specs.declared.blocks.BlockPlace.{BlockPlace}
 use Rattle.machine_memory.specs.Blocks.{Block, blank, fresh_block}
 use Rattle.machine_steps.specs.ChainLeft.{unread, settled_front, front_at}
 use Rattle.machine_replay.proofs.ChainCodes.{BlockIs}
@@ -127,7 +127,7 @@ spare_empty {A} g calls f p ok each spare = (nothing (all_done calls f fresh_blo
     items : (i : ℕ) → i < length (all_done calls f (fresh_block {T = A})).places → (get_or (all_done calls f (fresh_block {T = A})).places i blank).item ≡ None
     items i lt = let w = (keeps 0 (omega arith)).0 in (keeps i (omega (arith, lt, w))).1
 
-    nothing : (ps : List (Place A)) → ((i : ℕ) → i < length ps → (get_or ps i blank).item ≡ None) → unread ps ≡ []
+    nothing : (ps : List (BlockPlace A)) → ((i : ℕ) → i < length ps → (get_or ps i blank).item ≡ None) → unread ps ≡ []
     nothing [] all = refl
     nothing (q ∷ ps) all = rw (unread_none q (all 0 (omega arith))) (nothing ps (λ i lt. all (suc i) (omega arith)))
 

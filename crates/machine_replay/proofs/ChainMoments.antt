@@ -10,7 +10,7 @@ use Rattle.law_common.specs.Effects.{Leads, with_effect}
 use Rattle.law_common.specs.Stand.{Stand}
 use Rattle.law_chain.specs.ChainCells.{Chain, queue_of}
 use Rattle.law_chain.specs.ChainAt.{At, laying, opening, chaining, writing, following, peeking, passing, entering, awaiting, reading, beginning, walking, destroying, push_tail, push_block, asking, installing, showing, claiming, spending, len_tail, len_head, len_again, empty_head, empty_tail, closing, closed_tail}
-use Rattle.law_chain.proofs.ChainGood.{IsEffect}
+use Rattle.law_chain.proofs.ChainStepOk.{IsEffect}
 use Rattle.machine_replay.specs.Book.{Open, Moves, Allows, IsBegun}
 use Rattle.machine_memory.specs.EffectOf.{effect_of}
 use Rattle.machine_replay.proofs.Moments.{any_in, begun_none, begun_append}

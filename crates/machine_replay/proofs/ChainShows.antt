@@ -5,7 +5,7 @@ use Rattle.std.specs.Option.{option_to_list}
 use Rattle.machine_replay.specs.Vocabulary.{BLOCK_SLOTS, READ, Running}
 use Rattle.law_chain.specs.ChainCells.{Writer, Free, Writing, Wrote, Reader, Unread, Reading, Done, Chained, Chain, ChainOk, ItemOk, item_at, Part, Write, Read, owner, writer_of, reader_of}
 use Rattle.law_chain.specs.ChainAnswers.{is_done}
-use Rattle.machine_memory.specs.declared.blocks.Place.{Place}
+use Rattle.machine_memory.specs.declared.blocks.BlockPlace.{BlockPlace}
 use Rattle.machine_memory.specs.Blocks.{Block, blank}
 use Rattle.machine_steps.specs.ChainLeft.{unread_in, unread, front_at}
 use Rattle.machine_replay.proofs.ChainCodes.{BlockIs, lies}
@@ -53,7 +53,7 @@ reads_claimed g q b i d ok lt claimed is =
     ap g.readers (sym (one_item g h.0 b i (g.names b) i ok lt h.2 refl refl)) ∙ h.1
 
 -- what a place shows of the list
-pub unread_none : {A : Type 0} (p : Place A) → p.item ≡ None → unread_in p ≡ []
+pub unread_none : {A : Type 0} (p : BlockPlace A) → p.item ≡ None → unread_in p ≡ []
 unread_none {A} p e = go (bit_and p.state READ == 0) (option_to_list p.item) (ap option_to_list e)
   where
     go : (t : Bool) (xs : List A) → xs ≡ [] → (if t then xs else []) ≡ []
@@ -66,16 +66,16 @@ drop_one (x ∷ xs) zero v e = ap (λ y. y ∷ xs) (let z : v ≡ x = cc in z)
 drop_one (x ∷ xs) (suc i) v e = drop_one xs i v e
 
 -- this place shows the item n, if that is in the list
-abbrev Shows : {A : Type 0} → Chain A → ℕ → Place A → Type 0
+abbrev Shows : {A : Type 0} → Chain A → ℕ → BlockPlace A → Type 0
 Shows g n p = unread_in p ++ drop (n + 1 - g.head) g.items ≡ drop (n - g.head) g.items
 
-shows_gone : {A : Type 0} (g : Chain A) (n : ℕ) (p : Place A) → unread_in p ≡ [] → n < g.head → Shows g n p
+shows_gone : {A : Type 0} (g : Chain A) (n : ℕ) (p : BlockPlace A) → unread_in p ≡ [] → n < g.head → Shows g n p
 shows_gone g n p none lt = rw none (ap (λ k. drop k g.items) (let e : n + 1 - g.head ≡ n - g.head = omega arith in e))
 
-shows_none : {A : Type 0} (g : Chain A) (n : ℕ) (p : Place A) → ChainOk g → p.item ≡ None → g.tail ≤ n → Shows g n p
+shows_none : {A : Type 0} (g : Chain A) (n : ℕ) (p : BlockPlace A) → ChainOk g → p.item ≡ None → g.tail ≤ n → Shows g n p
 shows_none g n p ok none high = let count_is = ok.count in rw (unread_none p none) (drop_all (n + 1 - g.head) g.items (omega arith) ∙ sym (drop_all (n - g.head) g.items (omega arith)))
 
-shows_item : {A : Type 0} (g : Chain A) (n : ℕ) (v : A) (p : Place A) → p.item ≡ Some v → (bit_and p.state READ == 0) ≡ true → g.head ≤ n → slice_get g.items (n - g.head) ≡ Some v → Shows g n p
+shows_item : {A : Type 0} (g : Chain A) (n : ℕ) (v : A) (p : BlockPlace A) → p.item ≡ Some v → (bit_and p.state READ == 0) ≡ true → g.head ≤ n → slice_get g.items (n - g.head) ≡ Some v → Shows g n p
 shows_item g n v p item unread low at =
     rw (unread, item) (ap (λ k. v ∷ drop k g.items) (let e : n + 1 - g.head ≡ suc (n - g.head) = omega arith in e) ∙ drop_one g.items (n - g.head) v at)
 
@@ -158,7 +158,7 @@ slot_shows {A} g calls b i x ok each lt low is = go (g.writers n) (g.readers n) 
     go w r e f h = absurd h
 
 -- places that show their items one after another show them all
-places_show : {A : Type 0} (g : Chain A) (ps : List (Place A)) (m : ℕ) → ((i : ℕ) → i < length ps → Shows g (m + i) (get_or ps i blank)) → unread ps ++ drop (m + length ps - g.head) g.items ≡ drop (m - g.head) g.items
+places_show : {A : Type 0} (g : Chain A) (ps : List (BlockPlace A)) (m : ℕ) → ((i : ℕ) → i < length ps → Shows g (m + i) (get_or ps i blank)) → unread ps ++ drop (m + length ps - g.head) g.items ≡ drop (m - g.head) g.items
 places_show g [] m all = ap (λ k. drop k g.items) (let e : m + 0 - g.head ≡ m - g.head = omega arith in e)
 places_show g (p ∷ ps) m all =
     let others = places_show g ps (m + 1) (λ i lt. subst (λ k. Shows g k (get_or ps i blank)) (let e : m + suc i ≡ m + 1 + i = omega arith in e) (all (suc i) (omega arith))) in

@@ -15,7 +15,7 @@ use Rattle.law_chain.specs.ChainAt.{At, asking, claiming, spending, taking, clos
 use Rattle.law_chain.proofs.ChainFirst.{first}
 use Rattle.law_chain.proofs.ChainRanks.{rank, rank_some, Falls, IsQuiet}
 use Rattle.law_chain.proofs.ChainRanksStep.{step_falls}
-use Rattle.law_chain.proofs.ChainRight.{Ends, step_right}
+use Rattle.law_chain.proofs.ChainRight.{NextOkSpares, step_right}
 use Rattle.law_chain.proofs.ChainStep.{is_chain}
 use Rattle.machine_replay.specs.Book.{Open}
 use Rattle.machine_memory.specs.SharedMemory.{Shared, put_word, put_at, touched, operated, granted_if, block_touched}
@@ -113,7 +113,7 @@ module _ (A : Type 0) where
       let went : next_after Kind.Unbounded ok s x ≡ next_on ok s x = ap (λ l. next_of Kind.Unbounded l a) (is_chain f.here) in
       let on = subst (λ n. running_after n (carried_then s x) ≡ Some x') went goes in
       let less = goes_on (after_of f.here a) (next_on ok s x) (carried_then s x) (rank g x.local) x' on falls in
-      let same = goes_as after p (queue_of after ∷ o.moments) (next_on ok s x) (carried_then s x) o.call (with_effect o.effects right.e) x' on (subst (λ v. Ends after p (queue_of after ∷ o.moments) (next_on ok s x) v o.call (with_effect o.effects right.e)) (sym step.carried) right.ends) ∙ sym (by_call f.here) in
+      let same = goes_as after p (queue_of after ∷ o.moments) (next_on ok s x) (carried_then s x) o.call (with_effect o.effects right.e) x' on (subst (λ v. NextOkSpares after p (queue_of after ∷ o.moments) (next_on ok s x) v o.call (with_effect o.effects right.e)) (sym step.carried) right.ends) ∙ sym (by_call f.here) in
       let some = rank_some after x'.local in
       let more = (bounded s.tail s.head f.here holds.ok).0 in
       let there = far_of (step_of Kind.Unbounded ok s x).shared after x'.local (ready_on ok s x ready) right.ok step.codes in

@@ -10,7 +10,7 @@ use Rattle.queue_steps.specs.UnboundedNext.{followed, written_found, ends, walks
 use Rattle.queue_steps.specs.declared.steps.unbounded.UnboundedLocal.TheVariants as chain
 use Rattle.law_common.specs.Stand.{Stand}
 use Rattle.law_chain.specs.ChainCells as cells
-use Rattle.law_chain.specs.ChainCells.{Reader, Unread, Reading, Done, Shown, Seen, Chain, ChainOk, ItemOk, ShownOk, Part, Write, Read, Tail, Head, Passed, owner, item_at, LAST, Holds}
+use Rattle.law_chain.specs.ChainCells.{Reader, Unread, Reading, Done, Shown, Seen, Chain, ChainOk, ItemOk, ShownOk, Part, Write, Read, Tail, Head, Passed, owner, item_at, LAST, HoldsOnly}
 use Rattle.law_chain.specs.ChainAfter.{chain_of}
 use Rattle.law_chain.specs.ChainAnswers.{Answers, IsState, linked_of, is_wrote}
 use Rattle.law_chain.specs.ChainAt.{Only, Either, At, showing, laying, opening, chaining, writing, following, peeking, passing, entering, awaiting, reading, beginning, walking, destroying}
@@ -44,7 +44,7 @@ IsPops _ = ⊥
 
 -- the party holds no part of a push
 abbrev Clear : {A : Type 0} → Chain A → ℕ → Type 0
-Clear c q = Holds c q IsPops
+Clear c q = HoldsOnly c q IsPops
 
 -- once the first block is shown, so does a call that has not appended
 clear_of : {A : Type 0} {c : Chain A} {who : ℕ} {ms : List (State A)} {k : Stand A} → At c who ms k → c.shown ≡ Seen → (HasAppend k.effects → ⊥) → Clear c who
@@ -65,7 +65,7 @@ clear_of (writing d v n name spare holds mine spare_is) seen never = absurd (nev
 clear_of here seen never = λ x e. absurd ((early refl here).1 x e)
 
 -- a part is nobody's that neither the party holds nor another
-pub unheld : {A : Type 0} (c : Chain A) (who : ℕ) (P Q : Part → Type 0) (x : Part) → ((j : ℕ) → j ≢ who → Holds c j Q) → Holds c who P → (P x → ⊥) → (Q x → ⊥) → (p : ℕ) → owner c x ≢ Some p
+pub unheld : {A : Type 0} (c : Chain A) (who : ℕ) (P Q : Part → Type 0) (x : Part) → ((j : ℕ) → j ≢ who → HoldsOnly c j Q) → HoldsOnly c who P → (P x → ⊥) → (Q x → ⊥) → (p : ℕ) → owner c x ≢ Some p
 unheld c who P Q x others holds none never p e = elim (eqb_tells p who) [
   | inl t ↦ none (holds x (e ∙ ap (λ q. Some q) t.1))
   | inr t ↦ never (others p t.1 x e)

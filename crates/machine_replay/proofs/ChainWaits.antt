@@ -94,16 +94,16 @@ held_if {A} c x Such owned at = go (owner c x) refl
     go (Some p) e = (p, (x, e, at))
 
 -- the call goes on at this step
-abbrev Goes : Next ℕ → Local ℕ → Type 0
-Goes (Next.Step l t o) m = l ≡ m
-Goes (Next.Reply x spare) m = ⊥
+abbrev NextAt : Next ℕ → Local ℕ → Type 0
+NextAt (Next.Step l t o) m = l ≡ m
+NextAt (Next.Reply x spare) m = ⊥
 
-goes_to : {A : Type 0} (n : Next ℕ) (v : Option A) (x : Running A) (m : Local ℕ) → running_after n v ≡ Some x → x.local ≡ m → Goes n m
+goes_to : {A : Type 0} (n : Next ℕ) (v : Option A) (x : Running A) (m : Local ℕ) → running_after n v ≡ Some x → x.local ≡ m → NextAt n m
 goes_to (Next.Step l t o) v x m goes back = not_back x goes back
 goes_to (Next.Reply y spare) v x m goes back = cc
 
 -- a call that goes back has no fewer steps before it
-no_fewer : {A : Type 0} (c : Chain A) (n : Next ℕ) (m : Local ℕ) (most : ℕ) → most ≤ rank c m → Goes n m → Falls c n most → ⊥
+no_fewer : {A : Type 0} (c : Chain A) (n : Next ℕ) (m : Local ℕ) (most : ℕ) → most ≤ rank c m → NextAt n m → Falls c n most → ⊥
 no_fewer c (Next.Step l t o) m most low goes falls = let same : rank c l ≡ rank c m = ap (λ z. rank c z) goes in omega (arith, falls, same, low)
 no_fewer c (Next.Reply x spare) m most low goes falls = goes
 
@@ -114,38 +114,38 @@ mover_links _ h = absurd h
 
 -- U1: the tail is read
 push_row : {A : Type 0} {c : Chain A} {who : ℕ} {ms : List (State A)} {k : Stand A} (d : PushKind) (spare : Option ℕ) → At c who ms k → (a : Answer ℕ) → Answers c k.op a
-    → k.local ≡ Local.Unbounded (chain.PushTail d spare) → Goes (unbounded_next (chain_of k.local) a) (Local.Unbounded (chain.PushTail d spare)) → Held c IsToMoveTail
+    → k.local ≡ Local.Unbounded (chain.PushTail d spare) → NextAt (unbounded_next (chain_of k.local) a) (Local.Unbounded (chain.PushTail d spare)) → Held c IsToMoveTail
 push_row {c = c} d spare (push_tail e v own none spare_is) a found is goes =
     held_if c Tail IsToMoveTail
     (λ free. no_fewer c (chain_tail_found e (tail_word c) own) (Local.Unbounded (chain.PushTail d spare)) 10 (omega arith)
-    (subst (λ b. Goes (unbounded_next (chain.PushTail e own) b) (Local.Unbounded (chain.PushTail d spare))) found goes) (push_tail_falls c e own (rests_if c.mover free)))
+    (subst (λ b. NextAt (unbounded_next (chain.PushTail e own) b) (Local.Unbounded (chain.PushTail d spare))) found goes) (push_tail_falls c e own (rests_if c.mover free)))
     (λ l h. h)
 push_row d spare _ a found is goes = cc
 
 -- V1: the head is read
 pop_row : {A : Type 0} {c : Chain A} {who : ℕ} {ms : List (State A)} {k : Stand A} → At c who ms k → (a : Answer ℕ) → Answers c k.op a
-    → k.local ≡ Local.Unbounded chain.PopHead → Goes (unbounded_next (chain_of k.local) a) (Local.Unbounded chain.PopHead) → Held c IsToMoveHead
+    → k.local ≡ Local.Unbounded chain.PopHead → NextAt (unbounded_next (chain_of k.local) a) (Local.Unbounded chain.PopHead) → Held c IsToMoveHead
 pop_row {c = c} (pop_head none) a found is goes =
     held_if c Head IsToMoveHead
     (λ free. no_fewer c (chain_head_found (head_word c)) (Local.Unbounded chain.PopHead) (BLOCK_SLOTS + 9) (omega arith)
-    (subst (λ b. Goes (unbounded_next chain.PopHead b) (Local.Unbounded chain.PopHead)) found goes) (head_falls c (stands_if c.passer free)))
+    (subst (λ b. NextAt (unbounded_next chain.PopHead b) (Local.Unbounded chain.PopHead)) found goes) (head_falls c (stands_if c.passer free)))
     (λ l h. h)
 pop_row _ a found is goes = cc
 
 -- V3: the tail is read, after no block was
 first_row : {A : Type 0} {c : Chain A} {who : ℕ} {ms : List (State A)} {k : Stand A} (head : ℕ) → At c who ms k → (a : Answer ℕ) → ChainOk c → Answers c k.op a
-    → is_seen c.shown ≡ false → k.local ≡ Local.Unbounded (chain.PopTail head None) → Goes (unbounded_next (chain_of k.local) a) (Local.Unbounded chain.PopHead) → Held c IsToShow
+    → is_seen c.shown ≡ false → k.local ≡ Local.Unbounded (chain.PopTail head None) → NextAt (unbounded_next (chain_of k.local) a) (Local.Unbounded chain.PopHead) → Held c IsToShow
 first_row {c = c} head (pop_tail n None none is front) a ok found unseen at goes =
     let one : tail_rank c (head_of n false) None ≡ 1 = rw unseen refl in
     held_if c First IsToShow
     (λ free. no_fewer c (chain_pop_tail_found (head_of n false) None (tail_word c)) (Local.Unbounded chain.PopHead) (tail_rank c (head_of n false) None) (omega (arith, one))
-    (subst (λ b. Goes (unbounded_next (chain.PopTail (head_of n false) None) b) (Local.Unbounded chain.PopHead)) found goes) (pop_tail_falls c n None ok free is))
+    (subst (λ b. NextAt (unbounded_next (chain.PopTail (head_of n false) None) b) (Local.Unbounded chain.PopHead)) found goes) (pop_tail_falls c n None ok free is))
     (λ l h. h)
 first_row head _ a ok found unseen at goes = cc
 
 -- V5: the next block is read, which a push has to link
 link_held : {A : Type 0} (c : Chain A) (who n head name : ℕ) (m : Local ℕ) → ChainOk c → (c.passer ≡ Passing who) × (c.head ≡ n + 1) → BLOCK_SLOTS + 5 ≤ rank c m
-    → Goes (followed head name (linked_of (c.links (n / BLOCK_SLOTS)) (c.names (n / BLOCK_SLOTS + 1)))) m → Held c IsToLink
+    → NextAt (followed head name (linked_of (c.links (n / BLOCK_SLOTS)) (c.names (n / BLOCK_SLOTS + 1)))) m → Held c IsToLink
 link_held {A} c who n head name m ok pass low goes = go (owner c Tail) refl
   where
     go : (z : Option ℕ) → owner c Tail ≡ z → Held c IsToLink
@@ -157,21 +157,21 @@ link_held {A} c who n head name m ok pass low goes = go (owner c Tail) refl
         (λ l h. h)
 
 link_row : {A : Type 0} {c : Chain A} {who : ℕ} {ms : List (State A)} {k : Stand A} (head block : ℕ) → At c who ms k → (a : Answer ℕ) → ChainOk c → Answers c k.op a
-    → k.local ≡ Local.Unbounded (chain.Following head block) → Goes (unbounded_next (chain_of k.local) a) (Local.Unbounded (chain.Following head block)) → Held c IsToLink
+    → k.local ≡ Local.Unbounded (chain.Following head block) → NextAt (unbounded_next (chain_of k.local) a) (Local.Unbounded (chain.Following head block)) → Held c IsToLink
 link_row {c = c} {who = who} head block (following x n name more holds got pass) a ok found is goes =
     link_held c who n (head_of n more) name (Local.Unbounded (chain.Following head block)) ok pass (omega arith)
-    (subst (λ b. Goes (unbounded_next (chain.Following (head_of n more) name) b) (Local.Unbounded (chain.Following head block))) (found (n / BLOCK_SLOTS) got.named) goes)
+    (subst (λ b. NextAt (unbounded_next (chain.Following (head_of n more) name) b) (Local.Unbounded (chain.Following head block))) (found (n / BLOCK_SLOTS) got.named) goes)
 link_row head block _ a ok found is goes = cc
 
 -- V9: the slot's state is read, which the push of the item has to set
 item_row : {A : Type 0} {c : Chain A} {who : ℕ} {ms : List (State A)} {k : Stand A} (head block : ℕ) → At c who ms k → (a : Answer ℕ) → ChainOk c → Answers c k.op a
-    → k.local ≡ Local.Unbounded (chain.Awaiting head block) → Goes (unbounded_next (chain_of k.local) a) (Local.Unbounded (chain.Awaiting head block)) → Held c IsToWrite
+    → k.local ≡ Local.Unbounded (chain.Awaiting head block) → NextAt (unbounded_next (chain_of k.local) a) (Local.Unbounded (chain.Awaiting head block)) → Held c IsToWrite
 item_row {c = c} {who = who} head block (awaiting x n name more holds got) a ok found is goes =
     let h = found (n / BLOCK_SLOTS) got.named in
     let state : IsState c (n / BLOCK_SLOTS) (n % BLOCK_SLOTS) h.0 = subst (λ i. IsState c (n / BLOCK_SLOTS) i h.0) (head_offset n more) h.2 in
     held_if c (Write n) IsToWrite
     (λ free. no_fewer c (written_found (head_of n more) name h.0) (Local.Unbounded (chain.Awaiting head block)) (BLOCK_SLOTS + 1) (omega arith)
-    (subst (λ b. Goes (unbounded_next (chain.Awaiting (head_of n more) name) b) (Local.Unbounded (chain.Awaiting head block))) h.1 goes)
+    (subst (λ b. NextAt (unbounded_next (chain.Awaiting (head_of n more) name) b) (Local.Unbounded (chain.Awaiting head block))) h.1 goes)
     (awaiting_falls c (head_of n more) name h.0 (state.written ∙ (ap (λ m. not (is_wrote (c.writers m))) (own_item n) ∙ ap not (wrote_then c who n ok free got.mine)))))
     (λ l h. h)
 item_row head block _ a ok found is goes = cc
@@ -195,7 +195,7 @@ module _ {A : Type 0} (parties : ℕ) (w : World (Shared A) (Running A)) (st : �
 
   -- a call that goes on at this step does so by what it finds
   row : (p : ℕ) (r x : Running A) (m : Local ℕ) (Such : Local ℕ → Type 0) → call_at w p ≡ Some r → GoesOn Kind.Unbounded w.shared r x → x.local ≡ m → (Such r.local → ⊥)
-      → ((ms : List (State A)) (k : Call A) (es : List (Effect A)) → At h.sim.g p ms (stand_of r k es) → (a : Answer ℕ) → Answers h.sim.g r.op a → Goes (unbounded_next (chain_of r.local) a) m → Held h.sim.g Such)
+      → ((ms : List (State A)) (k : Call A) (es : List (Effect A)) → At h.sim.g p ms (stand_of r k es) → (a : Answer ℕ) → Answers h.sim.g r.op a → NextAt (unbounded_next (chain_of r.local) a) m → Held h.sim.g Such)
       → IsBeside w p Such
   row p r x m Such is goes back never held =
       let o = party-open A Kind.Unbounded (chain_rules A) parties h.b.busy w.shared h.b.queue h.sim.g p (call_at w p) (h.b.open_call p) r (h.sim.each p) is in

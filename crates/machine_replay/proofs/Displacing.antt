@@ -7,7 +7,7 @@ use Rattle.law_common.proofs.TellsAs.{TellsAs, displace, tells_as}
 use Rattle.machine_replay.specs.Vocabulary.{Call, Reply, Effect}
 use Rattle.machine_replay.specs.Book.{IsBegun}
 use Rattle.machine_replay.specs.Meaning.{Entry, effects_in, displacing, IsArrivalOf, FrontsArrive}
-use Rattle.machine_replay.proofs.Calls.{answered, unanswered-late}
+use Rattle.machine_replay.proofs.Calls.{with_reply, unanswered-late}
 
 -- the front whose item is on its way in after the history H
 abbrev pub pending : {T : Type 0} → Option (Entry T) → List (Entry T) → Option (Entry T)
@@ -28,13 +28,13 @@ pub coming-pending : {T : Type 0} (Q : State T) (f : Option (Entry T)) (H : List
 coming-pending Q f [] same = same
 coming-pending Q f (x ∷ H) same = coming-pending (made x.effect Q) (displacing f x x.effect) H (coming-one Q f x x.effect same)
 
-arrival-late : {T : Type 0} (n p : ℕ) (r : Option (Reply T)) (R : List (ℕ × ℕ × Reply T)) (f : Option (Entry T)) (x : Entry T) (e : Effect T) → x.event < n → IsArrivalOf R f x e → IsArrivalOf (answered n p r R) f x e
+arrival-late : {T : Type 0} (n p : ℕ) (r : Option (Reply T)) (R : List (ℕ × ℕ × Reply T)) (f : Option (Entry T)) (x : Entry T) (e : Effect T) → x.event < n → IsArrivalOf R f x e → IsArrivalOf (with_reply n p r R) f x e
 arrival-late n p r R None x Effect.Arrive lt h = h
 arrival-late n p r R (Some f) x Effect.Arrive lt h = (h.0, unanswered-late n p f.party f.event x.event r R (omega arith) h.1)
 arrival-late n p r R f x e lt h = tt
 
 -- a later reply changes nothing
-pub arrivals-late : {T : Type 0} (n p : ℕ) (r : Option (Reply T)) (R : List (ℕ × ℕ × Reply T)) (f : Option (Entry T)) (H : List (Entry T)) → AllByRecursion (λ x. x.event < n) H → FrontsArrive R f H → FrontsArrive (answered n p r R) f H
+pub arrivals-late : {T : Type 0} (n p : ℕ) (r : Option (Reply T)) (R : List (ℕ × ℕ × Reply T)) (f : Option (Entry T)) (H : List (Entry T)) → AllByRecursion (λ x. x.event < n) H → FrontsArrive R f H → FrontsArrive (with_reply n p r R) f H
 arrivals-late n p r R f [] early all = tt
 arrivals-late n p r R f (x ∷ H) early all = (arrival-late n p r R f x x.effect early.0 all.0, arrivals-late n p r R (displacing f x x.effect) H early.1 all.1)
 

@@ -7,7 +7,7 @@ use Rattle.law_common.proofs.Tests.{and_true, is_none_true}
 use Rattle.queue_steps.specs.State.{State}
 use Rattle.queue_steps.specs.Replies.{IsRightAt}
 use Rattle.machine_replay.specs.Vocabulary.{Call, Reply, Effect, Event, Begin, Step, Skipped}
-use Rattle.machine_replay.specs.Book.{Book, Open, Moves, GoesOn, Stays, Ends, Steps, Happens, put, watched, joined, at_open, after_own, begun, has_steps}
+use Rattle.machine_replay.specs.Book.{Book, Open, Moves, GoesOn, Stays, MayEnd, Steps, Happens, put, watched, joined, at_open, after_own, begun, has_steps}
 use Rattle.machine_steps.specs.World.{World, Made, Begun, call_at, can_begin, stepped, stepped_if, began, began_by, world_event}
 use Rattle.machine_memory.specs.Present.{present}
 use Rattle.machine_memory.proofs.Busy.{busy_set, one_if, one_busy}
@@ -22,10 +22,10 @@ and_false false = refl
 module _ (T S R G : Type 0) (cap : Option ℕ) (step : Bool → S → R → Made S R T) (start : Call T → Begun R T) (CanStep : Bool → S → R → Type 0)
     (Holds : S → State T → G → Type 0) (Idle : G → ℕ → Type 0) (Fits : ℕ → S → State T → G → ℕ → R → Open T → Type 0) where
   -- the call goes on and fits, or it replies and its party is idle
-  abbrev pub Goes : ℕ → S → State T → G → ℕ → Open T → Option R → Option (Reply T) → Type 0
-  Goes busy s Q g p o (Some r) None = Fits busy s Q g p r o × Stays o
-  Goes busy s Q g p o None (Some x) = Idle g p × Ends o x
-  Goes busy s Q g p o _ _ = ⊥
+  abbrev pub NextFits : ℕ → S → State T → G → ℕ → Open T → Option R → Option (Reply T) → Type 0
+  NextFits busy s Q g p o (Some r) None = Fits busy s Q g p r o × Stays o
+  NextFits busy s Q g p o None (Some x) = Idle g p × MayEnd o x
+  NextFits busy s Q g p o _ _ = ⊥
 
   -- the step of party p leads to a state of the queue for which the shared part stands, is right, and leaves the others as they were
   pub record StepsWell (busy : ℕ) (s : S) (Q : State T) (g : G) (p : ℕ) (o : Open T) (t : Made S R T) : Type 0 where
@@ -34,7 +34,7 @@ module _ (T S R G : Type 0) (cap : Option ℕ) (step : Bool → S → R → Made
     pub effects : List (Effect T)
     pub holds : Holds t.shared after kept
     pub moves : Moves Q o t.effect after effects
-    pub goes : Goes busy t.shared after kept p (after_own busy o after effects) t.call t.reply
+    pub goes : NextFits busy t.shared after kept p (after_own busy o after effects) t.call t.reply
     pub idle : (j : ℕ) → j ≢ p → Idle g j → Idle kept j
     pub others : (busy' j : ℕ) (r : R) (m : Open T) → j ≢ p → busy ≢ 1 → Fits busy s Q g j r m → Fits busy' t.shared after kept j r (watched after m)
 
@@ -103,7 +103,7 @@ module _ (T S R G : Type 0) (cap : Option ℕ) (step : Bool → S → R → Made
 
   -- how the count of calls in progress goes on
   busy_after : (calls : List (Option R)) (p : ℕ) (r : R) (busy : ℕ) (x : Option R) (y : Option (Reply T)) (s : S) (Q : State T) (g : G) (o : Open T)
-      → Goes busy s Q g p o x y → p < length calls → get_or calls p None ≡ Some r → busy ≡ present calls
+      → NextFits busy s Q g p o x y → p < length calls → get_or calls p None ≡ Some r → busy ≡ present calls
       → (if is_some y then busy - 1 else busy) ≡ present (set calls p x)
   busy_after calls p r busy (Some r') None s Q g o goes lt there is =
       let e = busy_set calls p (Some r') lt in
@@ -117,12 +117,12 @@ module _ (T S R G : Type 0) (cap : Option ℕ) (step : Bool → S → R → Made
 
   -- the party after its step
   party_after : (busy : ℕ) (s : S) (Q : State T) (g : G) (p : ℕ) (o : Open T) (x : Option R) (y : Option (Reply T))
-      → Goes busy s Q g p o x y → Party (if is_some y then busy - 1 else busy) s Q g p x (if is_some y then None else Some o)
+      → NextFits busy s Q g p o x y → Party (if is_some y then busy - 1 else busy) s Q g p x (if is_some y then None else Some o)
   party_after busy s Q g p o None None goes = absurd goes
   party_after busy s Q g p o (Some r) (Some y) goes = absurd goes
   party_after busy s Q g p o x y goes = goes.0
 
-  goes_on : (busy : ℕ) (s : S) (Q : State T) (g : G) (p : ℕ) (o : Open T) (x : Option R) (y : Option (Reply T)) → Goes busy s Q g p o x y → GoesOn o y
+  goes_on : (busy : ℕ) (s : S) (Q : State T) (g : G) (p : ℕ) (o : Open T) (x : Option R) (y : Option (Reply T)) → NextFits busy s Q g p o x y → GoesOn o y
   goes_on busy s Q g p o None None goes = absurd goes
   goes_on busy s Q g p o (Some r) (Some y) goes = absurd goes
   goes_on busy s Q g p o x y goes = goes.1

@@ -3,7 +3,7 @@ use Rattle.std.proofs.Common.{◌≡◌, ◌∙◌, ℕ, ◌+◌, ◌≤◌, nat
 use Rattle.std.proofs.lemmas.Bool.{le-ltb}
 use Rattle.machine_replay.specs.Vocabulary.{Kind, Event, Told, Peak, Step, Skipped, Running}
 use Rattle.machine_replay.specs.declared.machine_run.MachineRun.{MachineRun}
-use Rattle.machine_replay.specs.declared.machine_run.Ended.{Ended}
+use Rattle.machine_replay.specs.declared.machine_run.RunEnd.{RunEnd}
 use Rattle.machine_memory.specs.SharedMemory.{Shared}
 use Rattle.machine_replay.specs.MachineRuns.{Comes, Continues, EndsAs, IsMachineRun, KeepsRun, IsSomeMachineRun}
 use Rattle.machine_steps.specs.Left.{HasSlot, left_of, opening_world}
@@ -13,7 +13,7 @@ use Rattle.machine_replay.specs.Peaks.{opening_peak, peaked}
 use Rattle.machine_memory.specs.Present.{present}
 use Rattle.machine_replay.specs.Replays.{CanReplay, is_too_large}
 use Rattle.machine_steps.specs.World.{World, call_at}
-use Rattle.machine_replay.proofs.AllKinds.{Known, has_machine, has_slot, known-can, known-first, known-grows, known-more, known-peak, known-room}
+use Rattle.machine_replay.proofs.AllKinds.{KnownAfter, has_machine, has_slot, known-can, known-first, known-grows, known-more, known-peak, known-room}
 use Rattle.machine_replay.proofs.Played.{run-made}
 use Rattle.machine_replay.proofs.SoFar.{so_far-left}
 
@@ -30,18 +30,18 @@ Comes-more k w v last p q top es ts e t comes handles is = absurd comes
 
 -- what is known of a run is known where it has come
 Comes-known : {T : Type 0} (k : Kind) (parties : ℕ) (w last : World (Shared T) (Running T)) (p top : Peak) (past es : List (Event T)) (told ts : List (Told T))
-    → Known k parties past told w p → Comes k w p es ts last top → Known k parties (past ++ es) (told ++ ts) last top
+    → KnownAfter k parties past told w p → Comes k w p es ts last top → KnownAfter k parties (past ++ es) (told ++ ts) last top
 Comes-known {T} k parties w last p top past [] told [] known comes =
     rw (append-nil past, append-nil told, comes.0, comes.1) known
 Comes-known {T} k parties w last p top past (x ∷ es) told (y ∷ ts) known comes =
     let next = known-more k parties past told w p comes.0 x known in
-    let same : Known k parties (past ++ x ∷ []) (told ++ y ∷ []) (event_of k comes.0 w x).0 (peaked (event_of k comes.0 w x).0 p) = rw comes.1 next in
+    let same : KnownAfter k parties (past ++ x ∷ []) (told ++ y ∷ []) (event_of k comes.0 w x).0 (peaked (event_of k comes.0 w x).0 p) = rw comes.1 next in
     let all = Comes-known k parties (event_of k comes.0 w x).0 last (peaked (event_of k comes.0 w x).0 p) top (past ++ x ∷ []) es (told ++ y ∷ []) ts same comes.2 in
     rw (append_assoc past (x ∷ []) es, append_assoc told (y ∷ []) ts) at all
 Comes-known k parties w last p top past [] told (y ∷ ts) known comes = absurd comes
 Comes-known k parties w last p top past (x ∷ es) told [] known comes = absurd comes
 
-pub machine_run-known : {T A : Type 0} (k : Kind) (parties : ℕ) (es : List (Event T)) (ts : List (Told T)) (c : MachineRun T A) → IsMachineRun k parties es ts c → Known k parties es ts (world_of c.machine) c.peak
+pub machine_run-known : {T A : Type 0} (k : Kind) (parties : ℕ) (es : List (Event T)) (ts : List (Told T)) (c : MachineRun T A) → IsMachineRun k parties es ts c → KnownAfter k parties es ts (world_of c.machine) c.peak
 machine_run-known k parties es ts c on = Comes-known k parties (opening_world k parties) (world_of c.machine) opening_peak c.peak [] es [] ts (known-first k parties (has_machine k on.can on.small)) on.comes
 
 -- before the first event
@@ -124,7 +124,7 @@ pub machine_run-room : {T A : Type 0} (c : MachineRun T A) → IsSomeMachineRun 
 machine_run-room c on = rw on.4.kind_is on.4.few
 
 -- what a run leaves
-pub machine_run-ends : {T A : Type 0} (c : MachineRun T A) (r : Ended T A) (k : Kind) (parties : ℕ) (es : List (Event T)) (ts : List (Told T)) → r.left.items ≡ left_of c.machine.kind (world_of c.machine) → r.peak ≡ c.peak
+pub machine_run-ends : {T A : Type 0} (c : MachineRun T A) (r : RunEnd T A) (k : Kind) (parties : ℕ) (es : List (Event T)) (ts : List (Told T)) → r.left.items ≡ left_of c.machine.kind (world_of c.machine) → r.peak ≡ c.peak
     → IsMachineRun k parties es ts c → EndsAs k parties es ts r
 machine_run-ends {T} c r k parties es ts left peak on =
     let known = machine_run-known k parties es ts c on in

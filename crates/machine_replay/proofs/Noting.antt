@@ -2,7 +2,7 @@
 use Rattle.std.proofs.Common.{◌≡◌, ◌∙◌, ℕ, List, [], ◌∷◌, ◌++◌, length, ap}
 use Rattle.machine_replay.specs.Vocabulary.{Kind, Event, Told, Replay}
 use Rattle.machine_replay.specs.declared.machine_run.MachineRun.{MachineRun}
-use Rattle.machine_replay.specs.declared.machine_run.Ended.{Ended}
+use Rattle.machine_replay.specs.declared.machine_run.RunEnd.{RunEnd}
 use Rattle.machine_replay.specs.declared.run.Lists.{Lists}
 use Rattle.machine_replay.specs.Conforms.{Conforms, capacity_of, party_of, entries_from, reply_entry, effect_entry, skipped_entry}
 use Rattle.machine_replay.specs.Played.{IsPlayed}
@@ -43,7 +43,7 @@ notes-next k parties past l m c d e t n p notes number party goes_on replies eff
     }
 
 -- the whole run conforms
-pub notes-end : {T A : Type 0} (k : Kind) (parties : ℕ) (events : List (Event T)) (l : Lists T A) (c : MachineRun T A) (r : Ended T A) → Notes k parties events l c → Leaves c r
+pub notes-end : {T A : Type 0} (k : Kind) (parties : ℕ) (events : List (Event T)) (l : Lists T A) (c : MachineRun T A) (r : RunEnd T A) → Notes k parties events l c → Leaves c r
     → Conforms (capacity_of k) parties events (record { replies = l.replies; effects = l.effects; skipped = l.skipped; left = r.left; peak = r.peak })
 notes-end k parties events l c r notes leaves =
     let ends = leaves k parties events notes.told notes.on in

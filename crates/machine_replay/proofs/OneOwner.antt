@@ -10,7 +10,7 @@ use Rattle.queue_steps.specs.Sequential.{Owned}
 use Rattle.law_common.proofs.Runs.{after_snoc, runs_snoc}
 use Rattle.machine_replay.specs.Vocabulary.{Call, Reply, Effect, EffectKind}
 use Rattle.law_moments.proofs.Table.{Agrees, Done, FrontOpen, finish}
-use Rattle.machine_replay.specs.Book.{Open, Allows, Ends, Moves, MayMake, kind_of, has_steps, after_own}
+use Rattle.machine_replay.specs.Book.{Open, Allows, MayEnd, Moves, MayMake, kind_of, has_steps, after_own}
 
 -- each moment is this one
 abbrev Only : {T : Type 0} → State T → List (State T) → Type 0
@@ -79,7 +79,7 @@ midway-more S Q R o (Some k) es busy h m =
       first = rw m.5 (front-more h.from o.effects e o h.first may h.seen);
     }
 
-pub midway-ends : {T : Type 0} (S : Owned T) (Q : State T) (o : Open T) (r : Reply T) → Midway S Q o → Ends o r → Done S Q o.call r
+pub midway-ends : {T : Type 0} (S : Owned T) (Q : State T) (o : Open T) (r : Reply T) → Midway S Q o → MayEnd o r → Done S Q o.call r
 midway-ends S Q o r h ends =
     finish S h.from Q o.call r o.effects h.agrees ends.0 h.runs h.leads (λ none. only_one h.from o.moments (Allows o.call r) (h.only none) (ends.1 none)) h.first
 

@@ -14,7 +14,7 @@ use Rattle.machine_replay.specs.Played.{as_told, asks, event_told, is_request, l
 use Rattle.machine_memory.specs.SharedMemory.{Shared, answered, asked, operated}
 use Rattle.machine_steps.specs.Steps.{CanReply, CanStep, after_touch, answer_to, carried_then, reply_after, step_of}
 use Rattle.machine_steps.specs.World.{World, call_at, stepped, stepped_if}
-use Rattle.machine_replay.proofs.AllKinds.{Known, has_machine, known-can, known-first, known-more}
+use Rattle.machine_replay.proofs.AllKinds.{KnownAfter, has_machine, known-can, known-first, known-more}
 
 -- only a request looks at what the allocator grants
 answered-plain : {T : Type 0} (o : Op ℕ) (a b : Bool) (s : Shared T) → is_request o ≡ false → answered a s o ≡ answered b s o
@@ -108,7 +108,7 @@ pub record IsMadeFrom {T : Type 0} (k : Kind) (w : World (Shared T) (Running T))
   pub world : last ≡ world_after k w (as_told es ts)
 
 made_from : {T : Type 0} (k : Kind) (parties : ℕ) (past es : List (Event T)) (told ts : List (Told T)) (w last : World (Shared T) (Running T)) (p top : Peak)
-    → Known k parties past told w p → Comes k w p es ts last top → IsMadeFrom k w es ts last
+    → KnownAfter k parties past told w p → Comes k w p es ts last top → IsMadeFrom k w es ts last
 made_from k parties past [] told [] w last p top known comes = record { told = refl; world = comes.0 }
 made_from {T} k parties past (e ∷ es) told (t ∷ ts) w last p top known comes =
     let made = event_of k comes.0 w e in

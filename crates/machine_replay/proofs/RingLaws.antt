@@ -15,7 +15,7 @@ use Rattle.law_ring.specs.RingAt.{At}
 use Rattle.law_ring.proofs.RingAt.{at_stays}
 use Rattle.law_ring.specs.RingWords.{Codes}
 use Rattle.law_ring.proofs.RingRanks.{rank, rank_small, rank_some, longest, wait_free_rank}
-use Rattle.law_ring.proofs.RingGood.{IsQuiet, Goes, IsEffect}
+use Rattle.law_ring.proofs.RingStepOk.{IsQuiet, NextOk, IsEffect}
 use Rattle.law_ring.proofs.RingStep.{step_good}
 use Rattle.law_ring.proofs.RingStart.{at_first}
 use Rattle.machine_replay.specs.Book.{Open, Allows, after_own, begun, joined}
@@ -46,7 +46,7 @@ pub record RingFits {A : Type 0} (cap busy : ℕ) (s : Shared A) (Q : State A) (
   pub few : FewSteps busy o (rank cap g x.local) longest
 
 -- what the step of a call on a ring does, in the machine's words
-record Stands {A : Type 0} (cap : ℕ) (s : Shared A) (g : Ring A) (p : ℕ) (ms : List (State A)) (was : Bool) (x : Running A) (k : Call A) (es : List (Effect A)) : Type 0 where
+record RingStepped {A : Type 0} (cap : ℕ) (s : Shared A) (g : Ring A) (p : ℕ) (ms : List (State A)) (was : Bool) (x : Running A) (k : Call A) (es : List (Effect A)) : Type 0 where
   after : Ring A
   e : Option (Effect A)
   touches : CanTouch x.touch (slots_there s (block_touched x.op))
@@ -58,10 +58,10 @@ record Stands {A : Type 0} (cap : ℕ) (s : Shared A) (g : Ring A) (p : ℕ) (ms
   told : IsEffect cap was x.local (answer_to true s x) e
   makes : Leads (queue_of cap g) e (queue_of cap after)
   passes : Passes p g after
-  goes : Goes cap g after p (queue_of cap after ∷ ms) (was || not after.closed) (next_after (Kind.Bounded cap) true s x) (carried_then s x) k (with_effect es e) (rank cap g x.local)
+  goes : NextOk cap g after p (queue_of cap after ∷ ms) (was || not after.closed) (next_after (Kind.Bounded cap) true s x) (carried_then s x) k (with_effect es e) (rank cap g x.local)
 
 stands : {A : Type 0} (cap : ℕ) (s : Shared A) (g : Ring A) (p : ℕ) (ms : List (State A)) (was : Bool) (x : Running A) (k : Call A) (es : List (Effect A))
-    → RingOk cap g → Codes cap g (part s) → At cap g p ms was (stand_of x k es) → Stands cap s g p ms was x k es
+    → RingOk cap g → Codes cap g (part s) → At cap g p ms was (stand_of x k es) → RingStepped cap s g p ms was x k es
 stands cap s g p ms was x k es ok codes at =
     let good = step_good ok codes at in
     let after = good.after in
@@ -79,14 +79,14 @@ stands cap s g p ms was x k es ok codes at =
       told = subst (λ a. IsEffect cap was x.local a good.e) (sym same.answers) good.told;
       makes = good.makes;
       passes = good.passes;
-      goes = subst (λ a. Goes cap g after p (queue_of cap after ∷ ms) (was || not after.closed) (next_of (Kind.Bounded cap) x.local a) (carried_then s x) k (with_effect es good.e) (rank cap g x.local)) (sym same.answers)
-          (subst (λ v. Goes cap g after p (queue_of cap after ∷ ms) (was || not after.closed) n v k (with_effect es good.e) (rank cap g x.local)) (sym same.carries) good.goes);
+      goes = subst (λ a. NextOk cap g after p (queue_of cap after ∷ ms) (was || not after.closed) (next_of (Kind.Bounded cap) x.local a) (carried_then s x) k (with_effect es good.e) (rank cap g x.local)) (sym same.answers)
+          (subst (λ v. NextOk cap g after p (queue_of cap after ∷ ms) (was || not after.closed) n v k (with_effect es good.e) (rank cap g x.local)) (sym same.carries) good.goes);
     }
 
 module _ {A : Type 0} (cap : ℕ) (r s : Ring A) (who : ℕ) (ms : List (State A)) (was : Bool) where
   -- a call may reply at its step: its value is there
   can_reply : (n : Next ℕ) (v : Option A) (k : Call A) (es : List (Effect A)) (m : ℕ)
-      → Goes cap r s who ms was n v k es m → CanReply n v
+      → NextOk cap r s who ms was n v k es m → CanReply n v
   can_reply (Next.Step l t o) v k es m goes = tt
   can_reply (Next.Reply x spare) v k es m goes = rw goes.2.1 refl
 
@@ -103,7 +103,7 @@ ring_can_step cap busy granted s Q g p x o holds f =
 
 -- the engine's words at a ring
 abbrev RingGoes : (A : Type 0) → ℕ → ℕ → Shared A → State A → Ring A → ℕ → Open A → Option (Running A) → Option (Reply A) → Type 0
-RingGoes A cap = engine.Goes A (Shared A) (Running A) (Ring A) (Some cap) (step_of (Kind.Bounded cap)) (start_of (Kind.Bounded cap)) (CanStep (Kind.Bounded cap)) (RingHolds cap) RingIdle (RingFits cap)
+RingGoes A cap = engine.NextFits A (Shared A) (Running A) (Ring A) (Some cap) (step_of (Kind.Bounded cap)) (start_of (Kind.Bounded cap)) (CanStep (Kind.Bounded cap)) (RingHolds cap) RingIdle (RingFits cap)
 
 abbrev RingMadeWell : (A : Type 0) → ℕ → ℕ → Shared A → State A → Ring A → ℕ → Open A → Made (Shared A) (Running A) A → Type 0
 RingMadeWell A cap busy s Q g p o t = engine.StepsWell A (Shared A) (Running A) (Ring A) (Some cap) (step_of (Kind.Bounded cap)) (start_of (Kind.Bounded cap)) (CanStep (Kind.Bounded cap)) (RingHolds cap) RingIdle (RingFits cap) busy s Q g p o t
@@ -115,7 +115,7 @@ module _ {A : Type 0} (cap busy : ℕ) (s : Shared A) (g g' : Ring A) (p : ℕ) 
   -- where the call stands after its step
   goes_well : (n : Next ℕ) (v : Option A) (es : List (Effect A)) (m : ℕ)
       → (busy ≡ 1 → IsQuiet g p) → FewSteps busy o m longest
-      → Goes cap g g' p (queue_of cap g' ∷ o.moments) (o.was_open || not g'.closed) n v o.call es m
+      → NextOk cap g g' p (queue_of cap g' ∷ o.moments) (o.was_open || not g'.closed) n v o.call es m
       → RingGoes A cap busy s (queue_of cap g') g' p (after_own busy o (queue_of cap g') es) (running_after n v) (reply_after n v)
   goes_well (Next.Step l t x) v es m quiet few goes =
       let less = few_own busy o (queue_of cap g') es m (rank cap g' l) longest (rank_small cap g' l) (λ one. goes.1 (λ _. quiet one)) (λ e. goes.1 (λ f. let no : true ≡ false = sym e ∙ f in cc)) few in

@@ -8,7 +8,7 @@ use Rattle.law_common.specs.Effects.{Leads, Whether, with_effect}
 use Rattle.law_common.specs.Stand.{Stand}
 use Rattle.law_ring.specs.RingCells.{Ring}
 use Rattle.law_ring.specs.RingAt.{At, filling, arriving, swapping, emptying}
-use Rattle.law_ring.proofs.RingGood.{IsEffect}
+use Rattle.law_ring.proofs.RingStepOk.{IsEffect}
 use Rattle.machine_replay.specs.Book.{IsBegun, Open, Moves}
 use Rattle.machine_memory.specs.EffectOf.{effect_of}
 use Rattle.machine_replay.proofs.Moments.{begun_none, begun_append}

@@ -19,7 +19,7 @@ use Rattle.law_ring.specs.RingAt.{At, push_stamp, claiming, filling, push_head, 
 use Rattle.law_ring.proofs.RingStart.{holds_none}
 use Rattle.law_ring.specs.RingOpening.{opening_ring}
 use Rattle.law_ring.specs.RingWords.{Codes, stamp_in}
-use Rattle.law_ring.proofs.RingGood.{Goes, IsQuiet}
+use Rattle.law_ring.proofs.RingStepOk.{NextOk, IsQuiet}
 use Rattle.law_ring.proofs.RingRanks.{rank, rank_some}
 use Rattle.law_ring.proofs.RingSlots.{nobody}
 use Rattle.law_ring.proofs.RingTransitions.{in_ring}
@@ -107,7 +107,7 @@ stale_falls m n le high = let a : min m 6 ≡ m = min-eq_left (omega arith) in l
 module _ {A : Type 0} (cap : ℕ) (r s : Ring A) (who : ℕ) (ms : List (State A)) (was : Bool) where
   -- a call that goes on has fewer steps before it
   goes_on : (n : Next ℕ) (v : Option A) (k : Call A) (es : List (Effect A)) (m : ℕ) (x : Running A)
-      → running_after n v ≡ Some x → Goes cap r s who ms was n v k es m → IsQuiet r who → rank cap s x.local < m
+      → running_after n v ≡ Some x → NextOk cap r s who ms was n v k es m → IsQuiet r who → rank cap s x.local < m
   goes_on (Next.Step l t o) v k es m x e goes quiet = let same : record { local = l; touch = t; op = o; carried = v } ≡ x = cc in subst (λ y. rank cap s y.local < m) same (goes.1 (λ _. quiet))
   goes_on (Next.Reply y spare) v k es m x e goes quiet = cc
 

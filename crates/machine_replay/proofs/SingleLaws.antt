@@ -9,7 +9,7 @@ use Rattle.law_common.specs.Effects.{with_effect}
 use Rattle.machine_replay.proofs.StandOf.{stand_of}
 use Rattle.law_slot.specs.SlotShared as slot
 use Rattle.law_slot.specs.SlotHolder.{SlotHolder, Nobody, Keeps, Idle, own_of}
-use Rattle.law_slot.specs.SlotRows.{Stands, At, push_try, force_try_empty, pop_try, close_try, look_at, single, Lands, IsEffect}
+use Rattle.law_slot.specs.SlotRows.{Codes, At, push_try, force_try_empty, pop_try, close_try, look_at, single, NextOk, IsEffect}
 use Rattle.law_slot.proofs.SlotSteps.{step_good}
 use Rattle.law_slot.proofs.SlotRanks.{rank, rank_small, rank_some, Falls, step_falls, IsReplying, wait_free_ends, wait_free_one, can_operate}
 use Rattle.law_slot.proofs.SlotHolder.{share_of, next_who, own_self, own_other, own_alone}
@@ -23,7 +23,7 @@ use Rattle.machine_replay.proofs.KindLaws.{LawsOf}
 use Rattle.machine_replay.proofs.SingleCoded.{one_slot, same_step, shared_same}
 use Rattle.machine_replay.proofs.SingleMoments.{single_begun, single_moves}
 
-pub record Holds {T : Type 0} (s : Shared T) (Q : State T) (g : Keeps T) : Type 0 where
+pub record SingleHolds {T : Type 0} (s : Shared T) (Q : State T) (g : Keeps T) : Type 0 where
   pub word : ℕ
   pub slot : Option T
   pub items : List T
@@ -31,7 +31,7 @@ pub record Holds {T : Type 0} (s : Shared T) (Q : State T) (g : Keeps T) : Type 
   pub n : ℕ
   pub shared_is : s ≡ one_slot word slot
   pub queue_is : Q ≡ single items c n
-  pub stands : Stands word slot g.hold items c
+  pub stands : Codes word slot g.hold items c
 
 -- where the call stands, and that it has few steps before it
 pub record FitsIn {T : Type 0} (busy : ℕ) (s : Shared T) (Q : State T) (g : Keeps T) (p : ℕ) (r : Running T) (o : Open T) : Type 0 where
@@ -39,11 +39,11 @@ pub record FitsIn {T : Type 0} (busy : ℕ) (s : Shared T) (Q : State T) (g : Ke
   pub few : FewSteps busy o (rank r.local s.lock) 3
 
 abbrev GoesWell : {T : Type 0} → ℕ → Shared T → State T → Keeps T → ℕ → Open T → Option (Running T) → Option (Reply T) → Type 0
-GoesWell {T} = engine.Goes T (Shared T) (Running T) (Keeps T) (Some 1) (step_of Kind.Single) (start_of Kind.Single) (CanStep Kind.Single) Holds Idle FitsIn
+GoesWell {T} = engine.NextFits T (Shared T) (Running T) (Keeps T) (Some 1) (step_of Kind.Single) (start_of Kind.Single) (CanStep Kind.Single) SingleHolds Idle FitsIn
 
 -- where the call stands after its step
 lands_well : {T : Type 0} (x : Next ℕ) (v : Option T) (busy : ℕ) (s : Shared T) (Q : State T) (g : Keeps T) (p : ℕ) (o : Open T) (own : SlotHolder T) (n : ℕ)
-    → own ≡ own_of g.who g.hold p → Lands x v own o.call o.effects o.moments
+    → own ≡ own_of g.who g.hold p → NextOk x v own o.call o.effects o.moments
     → ((m : ℕ) → m ≤ 3 → (busy ≡ 1 → m < n) → (is_wait_free o.call ≡ true → m < n) → FewSteps busy o m 3) → (busy ≡ 1 → Falls x n s.lock)
     → (is_wait_free o.call ≡ true → IsReplying x) → GoesWell busy s Q g p o (running_after x v) (reply_after x v)
 lands_well (Next.Step l t a) v busy s Q g p o own n is lands counts falls wait_free =
@@ -58,13 +58,13 @@ abbrev next_on : {T : Type 0} → ℕ → Option T → Running T → Next ℕ
 next_on word x r = next_of Kind.Single r.local (slot.answered (slot.touched (slot.one_slot word x) r.touch r.carried) r.op)
 
 stepped_well : {T : Type 0} (busy : ℕ) (ok : Bool) (s : Shared T) (Q : State T) (g : Keeps T) (p : ℕ) (r : Running T) (o : Open T)
-    → Holds s Q g → FitsIn busy s Q g p r o → (busy ≡ 1 → (j : ℕ) → j ≢ p → Idle g j)
-    → engine.StepsWell T (Shared T) (Running T) (Keeps T) (Some 1) (step_of Kind.Single) (start_of Kind.Single) (CanStep Kind.Single) Holds Idle FitsIn busy s Q g p o (step_of Kind.Single ok s r)
+    → SingleHolds s Q g → FitsIn busy s Q g p r o → (busy ≡ 1 → (j : ℕ) → j ≢ p → Idle g j)
+    → engine.StepsWell T (Shared T) (Running T) (Keeps T) (Some 1) (step_of Kind.Single) (start_of Kind.Single) (CanStep Kind.Single) SingleHolds Idle FitsIn busy s Q g p o (step_of Kind.Single ok s r)
 stepped_well {T} busy ok s Q g p r o holds f others =
     rw holds.shared_is (from_here (rw holds.shared_is at f.few))
   where
     from_here : FewSteps busy o (rank r.local holds.word) 3
-        → engine.StepsWell T (Shared T) (Running T) (Keeps T) (Some 1) (step_of Kind.Single) (start_of Kind.Single) (CanStep Kind.Single) Holds Idle FitsIn busy (one_slot holds.word holds.slot) Q g p o (step_of Kind.Single ok (one_slot holds.word holds.slot) r)
+        → engine.StepsWell T (Shared T) (Running T) (Keeps T) (Some 1) (step_of Kind.Single) (start_of Kind.Single) (CanStep Kind.Single) SingleHolds Idle FitsIn busy (one_slot holds.word holds.slot) Q g p o (step_of Kind.Single ok (one_slot holds.word holds.slot) r)
     from_here few =
         let good = step_good f.here (share_of (p == g.who) g.hold) holds.stands holds.n o.moments in
         let same = same_step ok holds.word holds.slot f.here in
@@ -83,7 +83,7 @@ stepped_well {T} busy ok s Q g p r o holds f others =
           moves = single_moves Q (single holds.items holds.c holds.n) Q' o r.local (answer_to ok memory r) good.e holds.queue_is (subst (λ a. IsEffect r.local a good.e) (sym same.answers) good.told) good.makes;
           goes = lands_well (next_after Kind.Single ok memory r) (carried_then memory r) busy (shared_then Kind.Single ok memory r) Q' g' p (after_own busy o Q' es') good.own' (rank r.local holds.word)
               (own_self good.passes g.who p refl)
-              (subst (λ n. Lands n (carried_then memory r) good.own' o.call es' (Q' ∷ o.moments)) (sym went) (subst (λ v. Lands (next_on holds.word holds.slot r) v good.own' o.call es' (Q' ∷ o.moments)) (sym same.carries) good.lands))
+              (subst (λ n. NextOk n (carried_then memory r) good.own' o.call es' (Q' ∷ o.moments)) (sym went) (subst (λ v. NextOk (next_on holds.word holds.slot r) v good.own' o.call es' (Q' ∷ o.moments)) (sym same.carries) good.lands))
               (λ m small falls hurry. few_own busy o Q' es' (rank r.local holds.word) m 3 small falls hurry few)
               (λ one. subst (λ n. Falls n (rank r.local holds.word) (shared_then Kind.Single ok memory r).lock) (sym went)
               (subst (λ w. Falls (next_on holds.word holds.slot r) (rank r.local holds.word) w) (ap (λ x. x.lock) good.leaves ∙ sym word) (step_falls (rw (own_alone g p (others one)) at f.here) holds.stands)))
@@ -97,12 +97,12 @@ stepped_well {T} busy ok s Q g p r o holds f others =
         }
 
 -- a call that lands has the reply that its last step tells of
-replies_if : {T : Type 0} (x : Next ℕ) (v : Option T) (own : SlotHolder T) (k : Call T) (es : List (Effect T)) (ms : List (State T)) → Lands x v own k es ms → CanReply x v
+replies_if : {T : Type 0} (x : Next ℕ) (v : Option T) (own : SlotHolder T) (k : Call T) (es : List (Effect T)) (ms : List (State T)) → NextOk x v own k es ms → CanReply x v
 replies_if (Next.Step l t o) v own k es ms lands = tt
 replies_if (Next.Reply x spare) v own k es ms lands = rw lands.2.1 refl
 
 can_take : {T : Type 0} (busy : ℕ) (ok : Bool) (s : Shared T) (Q : State T) (g : Keeps T) (p : ℕ) (r : Running T) (o : Open T)
-    → Holds s Q g → FitsIn busy s Q g p r o → CanStep Kind.Single ok s r
+    → SingleHolds s Q g → FitsIn busy s Q g p r o → CanStep Kind.Single ok s r
 can_take {T} busy ok s Q g p r o holds f =
     rw holds.shared_is (
     let good = step_good f.here (share_of (p == g.who) g.hold) holds.stands holds.n o.moments in
@@ -120,8 +120,8 @@ can_take {T} busy ok s Q g p r o holds f =
 fresh : {T : Type 0} (s : Shared T) (Q : State T) (g : Keeps T) (p : ℕ) (k : Call T) (r : Running T) → Idle g p → At (stand_of r k []) Nobody → (busy : ℕ) → FitsIn busy s Q g p r (begun k)
 fresh s Q g p k r free here busy = record { here = rw free here; few = few_begun busy k (rank r.local s.lock) 3 (rank_small r.local s.lock) (λ e. let one = wait_free_one s.lock here e in omega arith) }
 
-begun_well : {T : Type 0} (s : Shared T) (Q : State T) (g : Keeps T) (p : ℕ) (k : Call T) → Holds s Q g → Idle g p
-    → engine.BeginsWell T (Shared T) (Running T) (Keeps T) (Some 1) (step_of Kind.Single) (start_of Kind.Single) (CanStep Kind.Single) Holds Idle FitsIn s Q g p k (start_of Kind.Single k).call (start_of Kind.Single k).reply
+begun_well : {T : Type 0} (s : Shared T) (Q : State T) (g : Keeps T) (p : ℕ) (k : Call T) → SingleHolds s Q g → Idle g p
+    → engine.BeginsWell T (Shared T) (Running T) (Keeps T) (Some 1) (step_of Kind.Single) (start_of Kind.Single) (CanStep Kind.Single) SingleHolds Idle FitsIn s Q g p k (start_of Kind.Single k).call (start_of Kind.Single k).reply
 begun_well s Q g p (Call.Push v) holds free = (refl, fresh s Q g p (Call.Push v) _ free (push_try v))
 begun_well s Q g p (Call.ForcePush v) holds free = (refl, fresh s Q g p (Call.ForcePush v) _ free (force_try_empty v))
 begun_well s Q g p Call.Pop holds free = (refl, fresh s Q g p Call.Pop _ free (pop_try false))
@@ -129,7 +129,7 @@ begun_well s Q g p Call.Close holds free = (refl, fresh s Q g p Call.Close _ fre
 begun_well s Q g p Call.Capacity holds free = (refl, sym (ap (λ q. q.cap) holds.queue_is))
 begun_well s Q g p look holds free = (refl, fresh s Q g p look _ free (look_at _))
 
-pub single_engine : {T : Type 0} → LawsOf T Kind.Single (Keeps T) Holds Idle FitsIn
+pub single_engine : {T : Type 0} → LawsOf T Kind.Single (Keeps T) SingleHolds Idle FitsIn
 single_engine {T} = record {
   can_step = λ busy ok s Q g p r o holds f. can_take busy ok s Q g p r o holds f;
   steps_well = λ busy ok s Q g p r o holds f others. stepped_well busy ok s Q g p r o holds f others;

@@ -8,7 +8,7 @@ use Rattle.queue_steps.specs.State.{State}
 use Rattle.machine_replay.specs.Vocabulary.{Kind, Running}
 use Rattle.law_common.specs.Stand.{Stand}
 use Rattle.law_slot.specs.SlotHolder.{SlotHolder, Nobody, Filling, Swapping, Keeps, Idle, own_of}
-use Rattle.law_slot.specs.SlotRows.{Stands, free_empty, free_full, filling, swapping, taking, At, push_put, force_put_empty, force_put_full}
+use Rattle.law_slot.specs.SlotRows.{Codes, free_empty, free_full, filling, swapping, taking, At, push_put, force_put_empty, force_put_full}
 use Rattle.machine_replay.specs.Book.{Book, Open}
 use Rattle.machine_memory.specs.SharedMemory.{Shared}
 use Rattle.machine_steps.specs.Steps.{CanStep, step_of, start_of}
@@ -18,7 +18,7 @@ use Rattle.machine_replay.proofs.Engine as engine
 use Rattle.machine_replay.proofs.KindLaws.{SimulatesOf, KindLaws}
 use Rattle.machine_replay.proofs.Counted.{counted-none}
 use Rattle.machine_replay.proofs.AllWritten.{writes, writes_slot, all_written-none, all_written-one}
-use Rattle.machine_replay.proofs.SingleLaws.{Holds, FitsIn, single_engine}
+use Rattle.machine_replay.proofs.SingleLaws.{SingleHolds, FitsIn, single_engine}
 
 -- what the lock's holder is about to write
 abbrev wait_of : {T : Type 0} → SlotHolder T → Option T
@@ -41,7 +41,7 @@ Writing {T} g p x =
     ⊎ ((r : Running T) × (y : T) × (x ≡ Some r) × (wait_of (own_of g.who g.hold p) ≡ Some y) × (r.carried ≡ Some y) × (writes_slot r.touch 0 ≡ true))
 
 party_writing : {T : Type 0} (busy : ℕ) (s : Shared T) (Q : State T) (g : Keeps T) (p : ℕ) (x : Option (Running T)) (y : Option (Open T))
-    → engine.Party T (Shared T) (Running T) (Keeps T) (Some 1) (step_of Kind.Single) (start_of Kind.Single) (CanStep Kind.Single) Holds Idle FitsIn busy s Q g p x y → Writing g p x
+    → engine.Party T (Shared T) (Running T) (Keeps T) (Some 1) (step_of Kind.Single) (start_of Kind.Single) (CanStep Kind.Single) SingleHolds Idle FitsIn busy s Q g p x y → Writing g p x
 party_writing busy s Q g p None None h = inl (ap wait_of h, refl)
 party_writing busy s Q g p (Some r) (Some o) h = elim (at_writing h.here) [ inl e ↦ inl e | inr e ↦ inr (r, e.0, refl, e.1, e.2, e.3) ]
 party_writing busy s Q g p x y h = absurd h
@@ -75,7 +75,7 @@ slot_filled calls slots g v long all some = holder (all g.who)
         all_written-one calls slots 0 g.who e.0 long e.2 e.5 (λ p ne. other p ne (all p)) ∙ e.4 ∙ same
 
 left_stands : {T : Type 0} {word : ℕ} {slot : Option T} {h : SlotHolder T} {items : List T} {c : Bool} (found : Option T)
-    → Stands word slot h items c → (wait_of h ≡ None → found ≡ slot) → ((v : T) → wait_of h ≡ Some v → found ≡ Some v)
+    → Codes word slot h items c → (wait_of h ≡ None → found ≡ slot) → ((v : T) → wait_of h ≡ Some v → found ≡ Some v)
     → (if is_pushed word then option_to_list found else []) ≡ items
 left_stands found (free_empty true) kept f = refl
 left_stands found (free_full true x) kept f = rw (kept refl) refl
@@ -87,7 +87,7 @@ left_stands found (swapping false old v) kept f = rw (f v refl) refl
 left_stands found (taking true x) kept f = refl
 left_stands found x kept f = refl
 
-single_left : {T : Type 0} (parties : ℕ) (w : World (Shared T) (Running T)) (b : Book T) → SimulatesOf T Kind.Single (Keeps T) Holds Idle FitsIn parties w b → left_of Kind.Single w ≡ b.queue.items
+single_left : {T : Type 0} (parties : ℕ) (w : World (Shared T) (Running T)) (b : Book T) → SimulatesOf T Kind.Single (Keeps T) SingleHolds Idle FitsIn parties w b → left_of Kind.Single w ≡ b.queue.items
 single_left {T} parties w b sim =
     let holds = sim.holds in
     let writing : (p : ℕ) → Writing sim.g p (call_at w p) = λ p. party_writing b.busy w.shared b.queue sim.g p (call_at w p) (b.open_call p) (sim.each p) in
@@ -100,7 +100,7 @@ single_left {T} parties w b sim =
 pub single_laws : (T : Type 0) → KindLaws T Kind.Single
 single_laws T = record {
   G = Keeps T;
-  Holds = Holds;
+  Holds = SingleHolds;
   Idle = Idle;
   Fits = FitsIn;
   laws = single_engine;

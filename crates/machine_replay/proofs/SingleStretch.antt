@@ -8,14 +8,14 @@ use Rattle.law_common.specs.Stand.{Stand}
 use Rattle.machine_replay.proofs.StandOf.{running_of}
 use Rattle.law_slot.specs.SlotShared as slot
 use Rattle.law_slot.specs.SlotHolder.{SlotHolder, Nobody, Taking, Keeps, Idle}
-use Rattle.law_slot.specs.SlotRows.{Stands, free_empty, At, push_try, push_put, force_put_empty, force_put_full, pop_take, code}
+use Rattle.law_slot.specs.SlotRows.{Codes, free_empty, At, push_try, push_put, force_put_empty, force_put_full, pop_take, code}
 use Rattle.law_slot.proofs.SlotHolder.{own_alone}
 use Rattle.law_slot.proofs.SlotRanks.{rank, rank_small, rank_some, Falls, step_falls}
 use Rattle.machine_replay.specs.Book.{Open}
 use Rattle.machine_memory.specs.SharedMemory.{Shared}
 use Rattle.machine_steps.specs.Steps.{step_of, running_after, next_after, carried_then, shared_then}
 use Rattle.machine_replay.proofs.SingleCoded.{one_slot, same_step, shared_same}
-use Rattle.machine_replay.proofs.SingleLaws.{Holds, FitsIn, single_engine}
+use Rattle.machine_replay.proofs.SingleLaws.{SingleHolds, FitsIn, single_engine}
 use Rattle.machine_replay.specs.Progress.{AppendsReplyWithin, TakesReplyWithin, HalfDoneTakesNone, UnhinderedWithin, NeverWaits}
 use Rattle.machine_replay.proofs.Appended.{HasAppend, appends_reply}
 use Rattle.machine_replay.proofs.Taken.{HasTake, takes_reply}
@@ -36,7 +36,7 @@ held_word Nobody (x ∷ xs) c = code false true c
 held_word (Taking x) items c = code true false c
 held_word x items c = code true true c
 
-word_is : {T : Type 0} {word : ℕ} {slot : Option T} {h : SlotHolder T} {items : List T} {c : Bool} → Stands word slot h items c → word ≡ held_word h items c
+word_is : {T : Type 0} {word : ℕ} {slot : Option T} {h : SlotHolder T} {items : List T} {c : Bool} → Codes word slot h items c → word ≡ held_word h items c
 unfolding held_word
 word_is (free_empty c) = refl
 word_is x = refl
@@ -61,11 +61,11 @@ goes_on (Next.Step l t o) v r m word e falls = let same : record { local = l; to
 goes_on (Next.Reply x spare) v r m word e falls = cc
 
 module _ {T : Type 0} where
-  lock_is : (busy : ℕ) (s : Shared T) (Q : State T) (g : Keeps T) (p : ℕ) (r : Running T) (o : Open T) → Holds s Q g → FitsIn busy s Q g p r o → ((j : ℕ) → j ≢ p → Idle g j) → s.lock ≡ word_at r.local Q.items Q.closed
+  lock_is : (busy : ℕ) (s : Shared T) (Q : State T) (g : Keeps T) (p : ℕ) (r : Running T) (o : Open T) → SingleHolds s Q g → FitsIn busy s Q g p r o → ((j : ℕ) → j ≢ p → Idle g j) → s.lock ≡ word_at r.local Q.items Q.closed
   lock_is busy s Q g p r o holds f others =
       ap (λ c. c.lock) holds.shared_is ∙ (word_is holds.stands ∙ (ap (λ h. held_word h holds.items holds.c) (sym (own_alone g p others)) ∙ (at_word holds.items holds.c f.here ∙ ap (λ q. word_at r.local q.items q.closed) (sym holds.queue_is))))
 
-  own_falls : (busy : ℕ) (ok : Bool) (s : Shared T) (Q : State T) (g : Keeps T) (p : ℕ) (r r' : Running T) (o : Open T) → Holds s Q g → FitsIn busy s Q g p r o → ((j : ℕ) → j ≢ p → Idle g j)
+  own_falls : (busy : ℕ) (ok : Bool) (s : Shared T) (Q : State T) (g : Keeps T) (p : ℕ) (r r' : Running T) (o : Open T) → SingleHolds s Q g → FitsIn busy s Q g p r o → ((j : ℕ) → j ≢ p → Idle g j)
       → (step_of Kind.Single ok s r).call ≡ Some r' → rank r'.local (step_of Kind.Single ok s r).shared.lock < rank r.local s.lock
   own_falls busy ok s Q g p r r' o holds f others goes =
       subst (λ c. (step_of Kind.Single ok c r).call ≡ Some r' → rank r'.local (step_of Kind.Single ok c r).shared.lock < rank r.local c.lock) (sym holds.shared_is) from_here goes
@@ -84,7 +84,7 @@ module _ {T : Type 0} where
 abbrev pub single_rules : (T : Type 0) → Rules T Kind.Single
 single_rules T = record {
   G = Keeps T;
-  Holds = Holds;
+  Holds = SingleHolds;
   Idle = Idle;
   Fits = FitsIn;
   laws = single_engine;

@@ -9,7 +9,7 @@ use Rattle.law_common.specs.Stand.{Stand}
 use Rattle.machine_replay.proofs.StandOf.{stand_of}
 use Rattle.law_slot.specs.SlotShared as slot
 use Rattle.law_slot.specs.SlotHolder.{SlotHolder, Nobody, Taking, Keeps}
-use Rattle.law_slot.specs.SlotRows.{Stands, free_empty, free_full, filling, swapping, taking, At, push_try, push_put, force_put_empty, force_put_full, pop_take}
+use Rattle.law_slot.specs.SlotRows.{Codes, free_empty, free_full, filling, swapping, taking, At, push_try, push_put, force_put_empty, force_put_full, pop_take}
 use Rattle.machine_steps.specs.Left.{opening_world}
 use Rattle.machine_memory.specs.SharedMemory.{Shared}
 use Rattle.machine_steps.specs.Steps.{step_of, running_after, carried_then}
@@ -54,7 +54,7 @@ or_a_pop : (l : Local ℕ) → IsPopToUnlock l → IsToUnlock l
 or_a_pop (Local.Single Popped) a = tt
 or_a_pop _ a = absurd a
 
-push_back : {T : Type 0} {word : ℕ} {x : Option T} {h : SlotHolder T} {items : List T} {c : Bool} (v : Option T) (y : Running T) → Stands word x h items c
+push_back : {T : Type 0} {word : ℕ} {x : Option T} {h : SlotHolder T} {items : List T} {c : Bool} (v : Option T) (y : Running T) → Codes word x h items c
     → running_after (next_of Kind.Single (Local.Single Pushing) (Answer.Found word)) v ≡ Some y → y.local ≡ Local.Single Pushing → Waits h IsPopToUnlock
 push_back v y (free_empty false) goes back = let e = not_back y goes back in cc
 push_back v y (free_full true x) goes back = cc
@@ -63,7 +63,7 @@ push_back v y (swapping true old z) goes back = cc
 push_back v y (taking false z) goes back = (λ e. cc, λ l a. a)
 push_back v y x goes back = cc
 
-force_back : {T : Type 0} {word : ℕ} {x : Option T} {h : SlotHolder T} {items : List T} {c : Bool} (v : Option T) (y : Running T) (seen : ℕ) → Stands word x h items c
+force_back : {T : Type 0} {word : ℕ} {x : Option T} {h : SlotHolder T} {items : List T} {c : Bool} (v : Option T) (y : Running T) (seen : ℕ) → Codes word x h items c
     → running_after (next_of Kind.Single (Local.Single (Forcing (unlocked word))) (Answer.Found word)) v ≡ Some y → y.local ≡ Local.Single (Forcing seen) → Waits h IsToUnlock
 force_back v y seen (free_empty false) goes back = let e = not_back y goes back in cc
 force_back v y seen (free_full false x) goes back = let e = not_back y goes back in cc
@@ -72,7 +72,7 @@ force_back v y seen (swapping c old z) goes back = (λ e. cc, whoever)
 force_back v y seen (taking c z) goes back = (λ e. cc, or_a_pop)
 force_back v y seen x goes back = cc
 
-pop_back : {T : Type 0} {word : ℕ} {x : Option T} {h : SlotHolder T} {items : List T} {c : Bool} (v : Option T) (y : Running T) (seen : ℕ) → Stands word x h items c
+pop_back : {T : Type 0} {word : ℕ} {x : Option T} {h : SlotHolder T} {items : List T} {c : Bool} (v : Option T) (y : Running T) (seen : ℕ) → Codes word x h items c
     → running_after (next_of Kind.Single (Local.Single (Popping (unlocked word))) (Answer.Found word)) v ≡ Some y → y.local ≡ Local.Single (Popping seen) → Waits h IsPushToUnlock
 pop_back v y seen (free_empty true) goes back = let e = not_back y goes back in cc
 pop_back v y seen (free_full true x) goes back = let e = not_back y goes back in cc
@@ -103,8 +103,8 @@ module _ {T : Type 0} (parties : ℕ) (w : World (Shared T) (Running T)) (st : �
       let by = holder h.b.busy w.shared g (call_at w g.who) (h.b.open_call g.who) (h.sim.each g.who) waits.0 in
       beside w p g.who r by.0 Such is by.1 (waits.1 by.0.local by.2) never
 
-  stands : Stands w.shared.lock h.sim.holds.slot h.sim.g.hold h.sim.holds.items h.sim.holds.c
-  stands = subst (λ n. Stands n h.sim.holds.slot h.sim.g.hold h.sim.holds.items h.sim.holds.c) (sym (ap (λ s. s.lock) h.sim.holds.shared_is)) h.sim.holds.stands
+  stands : Codes w.shared.lock h.sim.holds.slot h.sim.g.hold h.sim.holds.items h.sim.holds.c
+  stands = subst (λ n. Codes n h.sim.holds.slot h.sim.g.hold h.sim.holds.items h.sim.holds.c) (sym (ap (λ s. s.lock) h.sim.holds.shared_is)) h.sim.holds.stands
 
   on : (l : Local ℕ) (p : ℕ) (r x : Running T) → call_at w p ≡ Some r → GoesOn Kind.Single w.shared r x → r.local ≡ l → running_after (next_of Kind.Single l (Answer.Found w.shared.lock)) (carried_then w.shared r) ≡ Some x
   on l p r x is goes at = subst (λ z. running_after (next_of Kind.Single z (Answer.Found w.shared.lock)) (carried_then w.shared r) ≡ Some x) at (on_word p r x is goes)

@@ -5,7 +5,7 @@ use Rattle.std.proofs.lemmas.List.Elements.{All-contains, All-from_recursion, Co
 use Rattle.machine_replay.specs.Vocabulary.{Reply, Event, Begin, Step}
 use Rattle.machine_replay.specs.InCall.{HasRun, IsUnanswered, IsInCall}
 use Rattle.machine_replay.specs.Skips.{IsExact}
-use Rattle.machine_replay.proofs.Calls.{answered, in-call-late, in-call-on}
+use Rattle.machine_replay.proofs.Calls.{with_reply, in-call-late, in-call-on}
 use Rattle.machine_replay.proofs.Entries.{each-all}
 
 pub last-or-earlier : (m n : ℕ) → m < n + 1 → (m ≡ n) ⊎ (m < n)
@@ -51,7 +51,7 @@ module _ (T : Type 0) (past : List (Event T)) (x : Event T) (S : List ℕ) (R : 
   abbrev now : List (Event T)
   now = past ++ x ∷ []
 
-  pub unanswered-before : (q first m : ℕ) → (y : Option (Reply T)) → IsUnanswered (answered n p y R) q first m → IsUnanswered R q first m
+  pub unanswered-before : (q first m : ℕ) → (y : Option (Reply T)) → IsUnanswered (with_reply n p y R) q first m → IsUnanswered R q first m
   unanswered-before q first m None all = all
   unanswered-before q first m (Some z) all = each-front _ R ((n, p, z) ∷ []) all
 
@@ -60,39 +60,39 @@ module _ (T : Type 0) (past : List (Event T)) (x : Event T) (S : List ℕ) (R : 
   ran-before m e lt h = (event-less past (x ∷ []) m e (omega arith) h.0, λ is. h.1 (in-noted n m b S is))
 
   -- before an earlier event, and before this one, a party is in a call as it was
-  pub earlier-now : (q m : ℕ) → m ≤ n → IsInCall past S R q m → IsInCall now (noted n b S) (answered n p r R) q m
-  earlier-now q m le c = let lt = c.before in in-call-noted now S (answered n p r R) n q m b (in-call-late past (x ∷ []) S R n p q m r le c) (omega arith)
+  pub earlier-now : (q m : ℕ) → m ≤ n → IsInCall past S R q m → IsInCall now (noted n b S) (with_reply n p r R) q m
+  earlier-now q m le c = let lt = c.before in in-call-noted now S (with_reply n p r R) n q m b (in-call-late past (x ∷ []) S R n p q m r le c) (omega arith)
 
-  abbrev pub earlier-before : (q m : ℕ) → m ≤ n → IsInCall now (noted n b S) (answered n p r R) q m → IsInCall past S R q m
+  abbrev pub earlier-before : (q m : ℕ) → m ≤ n → IsInCall now (noted n b S) (with_reply n p r R) q m → IsInCall past S R q m
   earlier-before q m le c =
       let lt = c.before in
       record { first = c.first; call = c.call; begins = ran-before c.first (Begin q c.call) (omega arith) c.begins; before = c.before; unanswered = unanswered-before q c.first m r c.unanswered }
 
   -- an earlier event is exact as it was
-  pub exact-now : (m : ℕ) (y : Event T) (parties : ℕ) → m < n → IsExact parties past S R m y → IsExact parties now (noted n b S) (answered n p r R) m y
+  pub exact-now : (m : ℕ) (y : Event T) (parties : ℕ) → m < n → IsExact parties past S R m y → IsExact parties now (noted n b S) (with_reply n p r R) m y
   exact-now m (Begin q c) parties lt (inl h) = inl ((h.0.0, λ in_call. h.0.1 (earlier-before q m (omega arith) in_call)), not-in-noted n m b S lt h.1)
   exact-now m (Begin q c) parties lt (inr h) = inr ((λ should. h.0 (should.0, λ in_call. should.1 (earlier-now q m (omega arith) in_call))), in-noted n m b S h.1)
   exact-now m (Step q g) parties lt (inl h) = inl ((h.0.0, earlier-now q m (omega arith) h.0.1), not-in-noted n m b S lt h.1)
   exact-now m (Step q g) parties lt (inr h) = inr ((λ should. h.0 (should.0, earlier-before q m (omega arith) should.1)), in-noted n m b S h.1)
 
   -- after this event a call goes on
-  pub goes-on : (q : ℕ) → (r ≡ None) ⊎ (q ≢ p) → IsInCall past S R q n → IsInCall now (noted n b S) (answered n p r R) q (n + 1)
-  goes-on q other c = let lt = c.before in in-call-noted now S (answered n p r R) n q (n + 1) b (in-call-on past (x ∷ []) S R n p q r other early c) (omega arith)
+  pub goes-on : (q : ℕ) → (r ≡ None) ⊎ (q ≢ p) → IsInCall past S R q n → IsInCall now (noted n b S) (with_reply n p r R) q (n + 1)
+  goes-on q other c = let lt = c.before in in-call-noted now S (with_reply n p r R) n q (n + 1) b (in-call-on past (x ∷ []) S R n p q r other early c) (omega arith)
 
   pub nearer : (q first : ℕ) (xs : List (ℕ × ℕ × Reply T)) → IsUnanswered xs q first (n + 1) → IsUnanswered xs q first n
   nearer q first xs all = each-all _ _ xs (λ y before same. elim (before same) [ inl less ↦ inl less | inr le ↦ inr (omega arith) ]) all
 
   -- a call after this event that began before it was there before it
-  abbrev pub there-before : (q : ℕ) (c : IsInCall now (noted n b S) (answered n p r R) q (n + 1)) → c.first < n → IsInCall past S R q n
+  abbrev pub there-before : (q : ℕ) (c : IsInCall now (noted n b S) (with_reply n p r R) q (n + 1)) → c.first < n → IsInCall past S R q n
   there-before q c lt = record { first = c.first; call = c.call; begins = ran-before c.first (Begin q c.call) lt c.begins; before = lt; unanswered = nearer q c.first R (unanswered-before q c.first (n + 1) r c.unanswered) }
 
   -- or it began at it
-  pub was-there : (q : ℕ) → (c : IsInCall now (noted n b S) (answered n p r R) q (n + 1)) → (c.first ≡ n) ⊎ (c.first < n)
+  pub was-there : (q : ℕ) → (c : IsInCall now (noted n b S) (with_reply n p r R) q (n + 1)) → (c.first ≡ n) ⊎ (c.first < n)
   was-there q c = last-or-earlier c.first n c.before
 
   -- a call that this event answered is over
-  pub is-over : (z : Reply T) → r ≡ Some z → IsInCall now (noted n b S) (answered n p r R) p (n + 1) → ⊥
+  pub is-over : (z : Reply T) → r ≡ Some z → IsInCall now (noted n b S) (with_reply n p r R) p (n + 1) → ⊥
   is-over z some c =
-      let all : IsUnanswered (R ++ (n, p, z) ∷ []) p c.first (n + 1) = subst (λ y. IsUnanswered (answered n p y R) p c.first (n + 1)) some c.unanswered in
+      let all : IsUnanswered (R ++ (n, p, z) ∷ []) p c.first (n + 1) = subst (λ y. IsUnanswered (with_reply n p y R) p c.first (n + 1)) some c.unanswered in
       let before = c.before in
       elim (each-end _ R (n, p, z) all refl) [ inl lt ↦ absurd (omega arith) | inr le ↦ absurd (omega arith) ]

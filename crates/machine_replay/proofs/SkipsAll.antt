@@ -6,7 +6,7 @@ use Rattle.machine_replay.specs.Conforms.{Conforms, party_of, entries_from, repl
 use Rattle.machine_replay.specs.InCall.{IsInCall}
 use Rattle.machine_replay.specs.Skips.{IsExact, SkippedIsExact}
 use Rattle.machine_replay.proofs.Solo.{put-same, put-other}
-use Rattle.machine_replay.proofs.Calls.{answered}
+use Rattle.machine_replay.proofs.Calls.{with_reply}
 use Rattle.machine_replay.proofs.Entries.{each-all}
 use Rattle.machine_replay.proofs.Skips.{noted}
 use Rattle.machine_replay.proofs.SkipsRun.{Fair, is_skipped, reply_told, fair-skipped, fair-begun, fair-at-once, fair-step}
@@ -21,7 +21,7 @@ over-if None o e = cc
 over-if (Some z) o e = (z, refl)
 
 pub fair-next : {T : Type 0} (cap : Option ℕ) (parties : ℕ) (past : List (Event T)) (told : List (Told T)) (n : ℕ) (S : List ℕ) (R : List (ℕ × ℕ × Reply T)) (b c : Book T) (x : Event T) (t : Told T) → Fair parties past told n S R b → Happens cap parties b x t c
-    → Fair parties (past ++ x ∷ []) (told ++ t ∷ []) (n + 1) (noted n (is_skipped t) S) (answered n (party_of x) (reply_told t) R) c
+    → Fair parties (past ++ x ∷ []) (told ++ t ∷ []) (n + 1) (noted n (is_skipped t) S) (with_reply n (party_of x) (reply_told t) R) c
 fair-next {T} cap parties past told n S R b c x Skipped f h = fair-skipped T parties past told n S R b f x c h.0 h.1
 fair-next {T} cap parties past told n S R b c (Begin p k) (Ran None None) f h =
     fair-begun T parties past told n S R b f p k c h.0
@@ -48,7 +48,7 @@ record Whole {T : Type 0} (parties : ℕ) (events : List (Event T)) (told : List
 run-fair : {T : Type 0} (cap : Option ℕ) (parties : ℕ) (past es : List (Event T)) (told ts : List (Told T)) (n : ℕ) (S : List ℕ) (R : List (ℕ × ℕ × Reply T)) (b c : Book T) → Fair parties past told n S R b → Run cap parties b es ts c → Whole parties (past ++ es) (told ++ ts) c
 run-fair cap parties past [] told [] n S R b c f run = rw (append-nil past, append-nil told, run) (record { n = n; S = S; R = R; fair = f })
 run-fair cap parties past (x ∷ es) told (t ∷ ts) n S R b c f run =
-    let rest = run-fair cap parties (past ++ x ∷ []) es (told ++ t ∷ []) ts (n + 1) (noted n (is_skipped t) S) (answered n (party_of x) (reply_told t) R) run.0 c (fair-next cap parties past told n S R b run.0 x t f run.1) run.2 in
+    let rest = run-fair cap parties (past ++ x ∷ []) es (told ++ t ∷ []) ts (n + 1) (noted n (is_skipped t) S) (with_reply n (party_of x) (reply_told t) R) run.0 c (fair-next cap parties past told n S R b run.0 x t f run.1) run.2 in
     rw (append_assoc past (x ∷ []) es, append_assoc told (t ∷ []) ts) at rest
 run-fair cap parties past es told ts n S R b c f run = absurd run
 

@@ -11,7 +11,7 @@ use Rattle.machine_replay.specs.Book.{Book, Open, fits, joined, watched, at_open
 use Rattle.machine_replay.specs.Conforms.{party_of, entries_from, reply_entry, skipped_entry}
 use Rattle.machine_replay.specs.InCall.{IsInCall}
 use Rattle.machine_replay.specs.Skips.{ShouldRun, IsExact}
-use Rattle.machine_replay.proofs.Calls.{answered, early-answered}
+use Rattle.machine_replay.proofs.Calls.{with_reply, early-with_reply}
 use Rattle.machine_replay.proofs.Entries.{each-more, each-all, event-last, length-one}
 use Rattle.machine_replay.proofs.Solo.{and-left, and-right}
 use Rattle.machine_replay.proofs.SoFar.{entries-more}
@@ -41,7 +41,7 @@ noted-append : {T : Type 0} (n p : ℕ) (t : Told T) (S : List ℕ) → noted n 
 noted-append n p Skipped S = refl
 noted-append n p (Ran k r) S = sym (append-nil S)
 
-answered-append : {T : Type 0} (n p : ℕ) (t : Told T) (R : List (ℕ × ℕ × Reply T)) → answered n p (reply_told t) R ≡ R ++ reply_entry n p t
+answered-append : {T : Type 0} (n p : ℕ) (t : Told T) (R : List (ℕ × ℕ × Reply T)) → with_reply n p (reply_told t) R ≡ R ++ reply_entry n p t
 answered-append n p (Ran k (Some r)) R = refl
 answered-append n p t R = sym (append-nil R)
 
@@ -54,16 +54,16 @@ some-same x y e = cc
 
 -- after one event more, by what is so of it and of the calls after it
 fair-more : {T : Type 0} (parties : ℕ) (past : List (Event T)) (told : List (Told T)) (n : ℕ) (S : List ℕ) (R : List (ℕ × ℕ × Reply T)) (b c : Book T) (x : Event T) (t : Told T) → Fair parties past told n S R b
-    → IsExact parties (past ++ x ∷ []) (noted n (is_skipped t) S) (answered n (party_of x) (reply_told t) R) n x
-    → ((q : ℕ) (o : Open T) → c.open_call q ≡ Some o → IsInCall (past ++ x ∷ []) (noted n (is_skipped t) S) (answered n (party_of x) (reply_told t) R) q (n + 1))
-    → ((q : ℕ) → c.open_call q ≡ None → IsInCall (past ++ x ∷ []) (noted n (is_skipped t) S) (answered n (party_of x) (reply_told t) R) q (n + 1) → ⊥)
-    → Fair parties (past ++ x ∷ []) (told ++ t ∷ []) (n + 1) (noted n (is_skipped t) S) (answered n (party_of x) (reply_told t) R) c
+    → IsExact parties (past ++ x ∷ []) (noted n (is_skipped t) S) (with_reply n (party_of x) (reply_told t) R) n x
+    → ((q : ℕ) (o : Open T) → c.open_call q ≡ Some o → IsInCall (past ++ x ∷ []) (noted n (is_skipped t) S) (with_reply n (party_of x) (reply_told t) R) q (n + 1))
+    → ((q : ℕ) → c.open_call q ≡ None → IsInCall (past ++ x ∷ []) (noted n (is_skipped t) S) (with_reply n (party_of x) (reply_told t) R) q (n + 1) → ⊥)
+    → Fair parties (past ++ x ∷ []) (told ++ t ∷ []) (n + 1) (noted n (is_skipped t) S) (with_reply n (party_of x) (reply_told t) R) c
 fair-more {T} parties past told n S R b c x t f here inside outside = record {
   len = omega (arith, f.len, length-one past x);
   same = omega (arith, f.same, length-one past x, length-one told t);
   skipped = noted-append n (party_of x) t S ∙ ap (λ l. l ++ skipped_entry n (party_of x) t) f.skipped ∙ sym (entries-more skipped_entry 0 n past told x t f.same (omega (arith, f.len)));
   replies = answered-append n (party_of x) t R ∙ ap (λ l. l ++ reply_entry n (party_of x) t) f.replies ∙ sym (entries-more reply_entry 0 n past told x t f.same (omega (arith, f.len)));
-  early = early-answered n (party_of x) (reply_told t) R f.early;
+  early = early-with_reply n (party_of x) (reply_told t) R f.early;
   early_skipped = early-noted n (is_skipped t) S f.early_skipped;
   inside = inside;
   outside = outside;
@@ -72,7 +72,7 @@ fair-more {T} parties past told n S R b c x t f here inside outside = record {
       elim (last-or-earlier m n (omega (arith, within, length-one past x, f.len))) [
         | inl at ↦
             let is : x ≡ y = let last = event-last past n x f.len in let e' : slice_get (past ++ x ∷ []) n ≡ Some y = subst (λ k. slice_get (past ++ x ∷ []) k ≡ Some y) at e in some-same x y (sym last ∙ e') in
-            subst (λ k. IsExact parties (past ++ x ∷ []) (noted n (is_skipped t) S) (answered n (party_of x) (reply_told t) R) k y) (sym at) (subst (λ z. IsExact parties (past ++ x ∷ []) (noted n (is_skipped t) S) (answered n (party_of x) (reply_told t) R) n z) is here)
+            subst (λ k. IsExact parties (past ++ x ∷ []) (noted n (is_skipped t) S) (with_reply n (party_of x) (reply_told t) R) k y) (sym at) (subst (λ z. IsExact parties (past ++ x ∷ []) (noted n (is_skipped t) S) (with_reply n (party_of x) (reply_told t) R) n z) is here)
         | inr lt ↦ exact-now T past x S R n (party_of x) (is_skipped t) (reply_told t) f.len f.early m y parties lt (f.exact m y (event-less past (x ∷ []) m y (omega (arith, f.len)) e))
       ];
 }
@@ -110,7 +110,7 @@ open-some f (Some x) o e = (x, refl)
 
 module _ (T : Type 0) (parties : ℕ) (past : List (Event T)) (told : List (Told T)) (n : ℕ) (S : List ℕ) (R : List (ℕ × ℕ × Reply T)) (b : Book T) (f : Fair parties past told n S R b) where
   abbrev pub next : Event T → Told T → Book T → Type 0
-  next x t c = Fair parties (past ++ x ∷ []) (told ++ t ∷ []) (n + 1) (noted n (is_skipped t) S) (answered n (party_of x) (reply_told t) R) c
+  next x t c = Fair parties (past ++ x ∷ []) (told ++ t ∷ []) (n + 1) (noted n (is_skipped t) S) (with_reply n (party_of x) (reply_told t) R) c
 
   -- an event that is skipped
   pub fair-skipped : (x : Event T) (c : Book T) → fits parties b x ≡ false → c ≡ b → next x Skipped c
@@ -170,11 +170,11 @@ module _ (T : Type 0) (parties : ℕ) (past : List (Event T)) (told : List (Told
   fair-step p g k r c good o here others stays over = fair-more parties past told n S R b c (Step p g) (Ran k r) f
       (inl ((ltb-true p parties (and-left (nat_lt p parties) (is_some (b.open_call p)) good), earlier-now T past (Step p g) S R n p false r f.len f.early p n (omega arith) (f.inside p o here)), not-in-later n S f.early_skipped))
       (λ q x e. elim (eqb_tells q p) [
-        | inl t ↦ subst (λ z. IsInCall (past ++ Step p g ∷ []) S (answered n p r R) z (n + 1)) (sym t.1) (goes-on T past (Step p g) S R n p false r f.len f.early p (inl (stays x (ap c.open_call (sym t.1) ∙ e))) (f.inside p o here))
+        | inl t ↦ subst (λ z. IsInCall (past ++ Step p g ∷ []) S (with_reply n p r R) z (n + 1)) (sym t.1) (goes-on T past (Step p g) S R n p false r f.len f.early p (inl (stays x (ap c.open_call (sym t.1) ∙ e))) (f.inside p o here))
         | inr t ↦ let old = open-some (watched c.queue) (b.open_call q) x (sym (others q t.1) ∙ e) in goes-on T past (Step p g) S R n p false r f.len f.early q (inr t.1) (f.inside q old.0 old.1)
       ])
       (λ q e in_call. elim (eqb_tells q p) [
-        | inl t ↦ let z = over (ap c.open_call (sym t.1) ∙ e) in is-over T past (Step p g) S R n p false r f.len f.early z.0 z.1 (subst (λ y. IsInCall (past ++ Step p g ∷ []) S (answered n p r R) y (n + 1)) t.1 in_call)
+        | inl t ↦ let z = over (ap c.open_call (sym t.1) ∙ e) in is-over T past (Step p g) S R n p false r f.len f.early z.0 z.1 (subst (λ y. IsInCall (past ++ Step p g ∷ []) S (with_reply n p r R) y (n + 1)) t.1 in_call)
         | inr t ↦ elim (was-there T past (Step p g) S R n p false r f.len f.early q in_call) [
           | inl at ↦ absurd (begin-not-step p q in_call.call g (sym (event-last past n (Step p g) f.len) ∙ subst (λ m. slice_get (past ++ Step p g ∷ []) m ≡ Some (Begin q in_call.call)) at in_call.begins.0))
           | inr lt ↦ f.outside q (open-none (watched c.queue) (b.open_call q) (sym (others q t.1) ∙ e)) (there-before T past (Step p g) S R n p false r f.len f.early q in_call lt)

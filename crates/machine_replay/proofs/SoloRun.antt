@@ -11,7 +11,7 @@ use Rattle.machine_replay.specs.Book.{Book, Open, Happens, Run, fits, is_wait_fr
 use Rattle.machine_replay.specs.Conforms.{Conforms, party_of}
 use Rattle.machine_replay.specs.InCall.{IsInCall}
 use Rattle.machine_replay.specs.Within.{is_step_of, steps_between, IsAloneBetween, SoloCallsReply, WaitFreeCallsReply}
-use Rattle.machine_replay.proofs.Calls.{answered}
+use Rattle.machine_replay.proofs.Calls.{with_reply}
 use Rattle.machine_replay.proofs.Entries.{event-last, length-one}
 use Rattle.machine_replay.proofs.Solo.{Counts, counts-first, counts-happens, count-alone, put-same, and-right}
 use Rattle.machine_replay.proofs.Skips.{noted, earlier-now, earlier-before, there-before, was-there, last-or-earlier}
@@ -66,7 +66,7 @@ module _ (T : Type 0) (parties : ℕ) (past : List (Event T)) (told : List (Told
   skipped = noted n (is_skipped t) S
 
   abbrev replied : List (ℕ × ℕ × Reply T)
-  replied = answered n (party_of x) (reply_told t) R
+  replied = with_reply n (party_of x) (reply_told t) R
 
   -- what is told of the event at which a call began
   began-here : (p : ℕ) (k : IsInCall now skipped replied p (n + 1)) → k.first ≡ n → Some x ≡ Some (Begin p k.call)
@@ -130,9 +130,9 @@ stays-at (Some z) mine o e = cc
 
 pace-next : {T : Type 0} (cap : Option ℕ) (parties : ℕ) (past : List (Event T)) (told : List (Told T)) (n : ℕ) (S : List ℕ) (R : List (ℕ × ℕ × Reply T)) (b c : Book T) (x : Event T) (t : Told T) → Fair parties past told n S R b → Counts parties b
     → ((p : ℕ) (o : Open T) → b.open_call p ≡ Some o → (k : IsInCall past S R p n) → Pace past S R p n o k)
-    → Fair parties (past ++ x ∷ []) (told ++ t ∷ []) (n + 1) (noted n (is_skipped t) S) (answered n (party_of x) (reply_told t) R) c → Happens cap parties b x t c
-    → (p : ℕ) (o : Open T) → c.open_call p ≡ Some o → (k : IsInCall (past ++ x ∷ []) (noted n (is_skipped t) S) (answered n (party_of x) (reply_told t) R) p (n + 1))
-    → Pace (past ++ x ∷ []) (noted n (is_skipped t) S) (answered n (party_of x) (reply_told t) R) p (n + 1) o k
+    → Fair parties (past ++ x ∷ []) (told ++ t ∷ []) (n + 1) (noted n (is_skipped t) S) (with_reply n (party_of x) (reply_told t) R) c → Happens cap parties b x t c
+    → (p : ℕ) (o : Open T) → c.open_call p ≡ Some o → (k : IsInCall (past ++ x ∷ []) (noted n (is_skipped t) S) (with_reply n (party_of x) (reply_told t) R) p (n + 1))
+    → Pace (past ++ x ∷ []) (noted n (is_skipped t) S) (with_reply n (party_of x) (reply_told t) R) p (n + 1) o k
 pace-next {T} cap parties past told n S R b c x Skipped f h paces f' happens p o here k =
     let was : b.open_call p ≡ Some o = sym (ap (λ z. z.open_call p) happens.1) ∙ here in
     let zero = no-step p x (skipped-no-step parties p b o x happens.0 was (h.within p o was)) in
@@ -224,7 +224,7 @@ module _ (T : Type 0) (cap : Option ℕ) (parties : ℕ) (past : List (Event T))
   omitted = noted n (is_skipped t) S
 
   abbrev answers : List (ℕ × ℕ × Reply T)
-  answers = answered n (party_of x) (reply_told t) R
+  answers = with_reply n (party_of x) (reply_told t) R
 
   fair : Fair parties later (told ++ t ∷ []) (n + 1) omitted answers c
   fair = fair-next cap parties past told n S R b c x t f happens
@@ -289,7 +289,7 @@ record Whole {T : Type 0} (parties : ℕ) (events : List (Event T)) (told : List
 run-paced : {T : Type 0} (cap : Option ℕ) (parties : ℕ) (past es : List (Event T)) (told ts : List (Told T)) (n : ℕ) (S : List ℕ) (R : List (ℕ × ℕ × Reply T)) (b c : Book T) → Paced parties past told n S R b → Run cap parties b es ts c → Whole parties (past ++ es) (told ++ ts) c
 run-paced cap parties past [] told [] n S R b c d run = rw (append-nil past, append-nil told, run) (record { n = n; S = S; R = R; paced = d })
 run-paced cap parties past (x ∷ es) told (t ∷ ts) n S R b c d run =
-    let rest = run-paced cap parties (past ++ x ∷ []) es (told ++ t ∷ []) ts (n + 1) (noted n (is_skipped t) S) (answered n (party_of x) (reply_told t) R) run.0 c (paced-next _ cap parties past told n S R b run.0 x t d run.1) run.2 in
+    let rest = run-paced cap parties (past ++ x ∷ []) es (told ++ t ∷ []) ts (n + 1) (noted n (is_skipped t) S) (with_reply n (party_of x) (reply_told t) R) run.0 c (paced-next _ cap parties past told n S R b run.0 x t d run.1) run.2 in
     rw (append_assoc past (x ∷ []) es, append_assoc told (t ∷ []) ts) at rest
 run-paced cap parties past es told ts n S R b c d run = absurd run
 

@@ -341,17 +341,17 @@ unhindered T k laws paces readies parties p past stretch nobody mine others left
     omega (arith, few, low.1)
 
 -- where each step of a call that has had an effect has another one or ends it
-abbrev pub Ends : (T : Type 0) (k : Kind) → Rules T k → Type 0
-Ends T k laws = (busy : ℕ) (ok : Bool) (s : Shared T) (Q : State T) (g : laws.G) (p : ℕ) (r r' : Running T) (o : Open T) → laws.Fits busy s Q g p r o → o.effects ≢ [] → (step_of k ok s r).call ≡ Some r' → (step_of k ok s r).effect ≡ None → ⊥
+abbrev pub NoSilentStep : (T : Type 0) (k : Kind) → Rules T k → Type 0
+NoSilentStep T k laws = (busy : ℕ) (ok : Bool) (s : Shared T) (Q : State T) (g : laws.G) (p : ℕ) (r r' : Running T) (o : Open T) → laws.Fits busy s Q g p r o → o.effects ≢ [] → (step_of k ok s r).call ≡ Some r' → (step_of k ok s r).effect ≡ None → ⊥
 
-pub never_waits : (T : Type 0) (k : Kind) (laws : Rules T k) → Ends T k laws → NeverWaits T k
+pub never_waits : (T : Type 0) (k : Kind) (laws : Rules T k) → NoSilentStep T k laws → NeverWaits T k
 never_waits T k laws ends parties p past granted half quiet =
     let h = reach T k laws parties (opening_world k parties) (λ q. Between) past (first T k laws parties) in
     let w = world_after k (opening_world k parties) past in
     let told : (event_of k true w (Step p granted)).1 ≡ Ran None None = cc in
     silent-step T k laws parties ends w (λ q. stands_by q Between past (told_of k (opening_world k parties) past)) h p granted half (ap effect_told told) (ap reply_told told)
 
-pub waits_take_none : (T : Type 0) (k : Kind) (laws : Rules T k) → Ends T k laws → HalfDoneTakesNone T k
+pub waits_take_none : (T : Type 0) (k : Kind) (laws : Rules T k) → NoSilentStep T k laws → HalfDoneTakesNone T k
 waits_take_none T k laws ends parties q past stretch silent half =
     let h = reach T k laws parties (opening_world k parties) (λ q. Between) past (first T k laws parties) in
     takes-none T k laws parties ends (world_after k (opening_world k parties) past) (λ q. stands_by q Between past (told_of k (opening_world k parties) past)) h q stretch half silent

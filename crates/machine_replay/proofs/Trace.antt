@@ -11,7 +11,7 @@ use Rattle.machine_replay.specs.Book.{Book, Open, IsBegun, kind_of}
 use Rattle.machine_replay.specs.Conforms.{party_of, entries_from, reply_entry, effect_entry}
 use Rattle.machine_replay.specs.InCall.{IsInCall}
 use Rattle.machine_replay.specs.Meaning.{Entry, effects_in, kinds_in, own_effects, IsMoment, SawOpen, EndsCall, RepliesAtOnce, IsAnswer, IsOwn, IsArrivalOf, FrontsArrive}
-use Rattle.machine_replay.proofs.Calls.{answered, early-answered, ran-more, step-more, in-call-late}
+use Rattle.machine_replay.proofs.Calls.{with_reply, early-with_reply, ran-more, step-more, in-call-late}
 use Rattle.machine_replay.proofs.Displacing.{pending, arrivals-late, arrivals-append}
 use Rattle.machine_replay.proofs.Entries.{each-more, each-all, each-both, length-one, Extends, quiet, loud, state-late, own-late, effects-append}
 use Rattle.machine_replay.proofs.SoFar.{entries-more}
@@ -89,7 +89,7 @@ kinds-added : {T : Type 0} (n p : ℕ) (e : Option (Effect T)) (H : List (Entry 
 kinds-added n p None H = sym (append-nil (kinds_in H))
 kinds-added n p (Some e) H = kinds-append H (record { event = n; party = p; effect = e })
 
-answered-append : {T : Type 0} (n p : ℕ) (r : Option (Reply T)) (R : List (ℕ × ℕ × Reply T)) → answered n p r R ≡ R ++ answered n p r []
+answered-append : {T : Type 0} (n p : ℕ) (r : Option (Reply T)) (R : List (ℕ × ℕ × Reply T)) → with_reply n p r R ≡ R ++ with_reply n p r []
 answered-append n p None R = sym (append-nil R)
 answered-append n p (Some r) R = refl
 
@@ -103,7 +103,7 @@ opened-more cap past ys S H H' p first end end' n ext le on s =
     let lt = s.upto in
     record { step = s.step; own = step-more past ys S p s.step s.own; later = s.later; upto = omega arith; was_open = ap (λ q. q.closed) (state-late cap n s.step H H' ext (omega arith)) ∙ s.was_open }
 
-ends-more : {T : Type 0} (cap : Option ℕ) (S : List ℕ) (past ys : List (Event T)) (H H' : List (Entry T)) (R : List (ℕ × ℕ × Reply T)) (n p last q : ℕ) (r : Option (Reply T)) (x : Reply T) → Extends n H H' → last < n → EndsCall cap past S H R last q x → EndsCall cap (past ++ ys) S H' (answered n p r R) last q x
+ends-more : {T : Type 0} (cap : Option ℕ) (S : List ℕ) (past ys : List (Event T)) (H H' : List (Entry T)) (R : List (ℕ × ℕ × Reply T)) (n p last q : ℕ) (r : Option (Reply T)) (x : Reply T) → Extends n H H' → last < n → EndsCall cap past S H R last q x → EndsCall cap (past ++ ys) S H' (with_reply n p r R) last q x
 ends-more cap S past ys H H' R n p last q r x ext lt a =
     let own = own-late q a.in_call.first last n H H' ext lt in
     record {
@@ -116,11 +116,11 @@ ends-more cap S past ys H H' R n p last q r x ext lt a =
 at-once-more : {T : Type 0} (cap : Option ℕ) (S : List ℕ) (past ys : List (Event T)) (H H' : List (Entry T)) (n last q : ℕ) (x : Reply T) → Extends n H H' → last < n → RepliesAtOnce cap past S H last q x → RepliesAtOnce cap (past ++ ys) S H' last q x
 at-once-more cap S past ys H H' n last q x ext lt a = record { call = a.call; begins = ran-more past ys S last (Begin q a.call) a.begins; no_steps = a.no_steps; right = rw (state-late cap n last H H' ext lt) a.right }
 
-answer-more : {T : Type 0} (cap : Option ℕ) (S : List ℕ) (past ys : List (Event T)) (H H' : List (Entry T)) (R : List (ℕ × ℕ × Reply T)) (n p : ℕ) (r : Option (Reply T)) (y : ℕ × ℕ × Reply T) → Extends n H H' → y.0 < n → IsAnswer cap past S H R y → IsAnswer cap (past ++ ys) S H' (answered n p r R) y
+answer-more : {T : Type 0} (cap : Option ℕ) (S : List ℕ) (past ys : List (Event T)) (H H' : List (Entry T)) (R : List (ℕ × ℕ × Reply T)) (n p : ℕ) (r : Option (Reply T)) (y : ℕ × ℕ × Reply T) → Extends n H H' → y.0 < n → IsAnswer cap past S H R y → IsAnswer cap (past ++ ys) S H' (with_reply n p r R) y
 answer-more cap S past ys H H' R n p r y ext lt (inl a) = inl (ends-more cap S past ys H H' R n p y.0 y.1 r y.2 ext lt a)
 answer-more cap S past ys H H' R n p r y ext lt (inr a) = inr (at-once-more cap S past ys H H' n y.0 y.1 y.2 ext lt a)
 
-own-more : {T : Type 0} (cap : Option ℕ) (S : List ℕ) (past ys : List (Event T)) (H H' : List (Entry T)) (R : List (ℕ × ℕ × Reply T)) (n p : ℕ) (r : Option (Reply T)) (x : Entry T) → Extends n H H' → x.event < n → IsOwn cap past S H R x → IsOwn cap (past ++ ys) S H' (answered n p r R) x
+own-more : {T : Type 0} (cap : Option ℕ) (S : List ℕ) (past ys : List (Event T)) (H H' : List (Entry T)) (R : List (ℕ × ℕ × Reply T)) (n p : ℕ) (r : Option (Reply T)) (x : Entry T) → Extends n H H' → x.event < n → IsOwn cap past S H R x → IsOwn cap (past ++ ys) S H' (with_reply n p r R) x
 own-more cap S past ys H H' R n p r x ext lt o = record {
   step = step-more past ys S x.party x.event o.step;
   in_call = in-call-late past ys S R n p x.party x.event r (omega arith) o.in_call;
@@ -137,29 +137,29 @@ ReplyOwes cap S events H R n p None = Unit {0}
 ReplyOwes cap S events H R n p (Some r) = IsAnswer cap events S H R (n, p, r)
 
 own-added : {T : Type 0} (cap : Option ℕ) (S : List ℕ) (past ys : List (Event T)) (H : List (Entry T)) (R : List (ℕ × ℕ × Reply T)) (n p : ℕ) (e : Option (Effect T)) (r : Option (Reply T)) (f : Option (Entry T)) → AllByRecursion (λ x. x.event < n) H → AllByRecursion (IsOwn cap past S H R) H
-    → EntryOwes cap S (past ++ ys) (added n p e H) (answered n p r R) n p e f → AllByRecursion (IsOwn cap (past ++ ys) S (added n p e H) (answered n p r R)) (added n p e H)
+    → EntryOwes cap S (past ++ ys) (added n p e H) (with_reply n p r R) n p e f → AllByRecursion (IsOwn cap (past ++ ys) S (added n p e H) (with_reply n p r R)) (added n p e H)
 own-added cap S past ys H R n p None r f early all owes = each-both _ _ _ H (λ x lt o. own-more cap S past ys H H R n p r x (quiet n H) lt o) early all
 own-added cap S past ys H R n p (Some e) r f early all owes = each-more _ H _ (each-both _ _ _ H (λ x lt o. own-more cap S past ys H (added n p (Some e) H) R n p r x (loud n p e H) lt o) early all) owes.0
 
 arrivals-added : {T : Type 0} (cap : Option ℕ) (S : List ℕ) (events : List (Event T)) (H : List (Entry T)) (R : List (ℕ × ℕ × Reply T)) (n p : ℕ) (e : Option (Effect T)) (r : Option (Reply T)) → AllByRecursion (λ x. x.event < n) H → FrontsArrive R None H
-    → EntryOwes cap S events (added n p e H) (answered n p r R) n p e (pending None H) → FrontsArrive (answered n p r R) None (added n p e H)
+    → EntryOwes cap S events (added n p e H) (with_reply n p r R) n p e (pending None H) → FrontsArrive (with_reply n p r R) None (added n p e H)
 arrivals-added cap S events H R n p None r early all owes = arrivals-late n p r R None H early all
-arrivals-added cap S events H R n p (Some e) r early all owes = arrivals-append (answered n p r R) None H (record { event = n; party = p; effect = e }) (arrivals-late n p r R None H early all) owes.1
+arrivals-added cap S events H R n p (Some e) r early all owes = arrivals-append (with_reply n p r R) None H (record { event = n; party = p; effect = e }) (arrivals-late n p r R None H early all) owes.1
 
 answers-added : {T : Type 0} (cap : Option ℕ) (S : List ℕ) (past ys : List (Event T)) (H H' : List (Entry T)) (R : List (ℕ × ℕ × Reply T)) (n p : ℕ) (r : Option (Reply T)) → Extends n H H' → AllByRecursion (λ y. y.0 < n) R → AllByRecursion (IsAnswer cap past S H R) R
-    → ReplyOwes cap S (past ++ ys) H' (answered n p r R) n p r → AllByRecursion (IsAnswer cap (past ++ ys) S H' (answered n p r R)) (answered n p r R)
+    → ReplyOwes cap S (past ++ ys) H' (with_reply n p r R) n p r → AllByRecursion (IsAnswer cap (past ++ ys) S H' (with_reply n p r R)) (with_reply n p r R)
 answers-added cap S past ys H H' R n p None ext early all owes = each-both _ _ _ R (λ y lt a. answer-more cap S past ys H H' R n p None y ext lt a) early all
 answers-added cap S past ys H H' R n p (Some r) ext early all owes =
     each-more _ R _ (each-both _ _ _ R (λ y lt a. answer-more cap S past ys H H' R n p (Some r) y ext lt a) early all) owes
 
 -- after one event more
 pub trace-more : {T : Type 0} (cap : Option ℕ) (S : List ℕ) (past : List (Event T)) (told : List (Told T)) (n : ℕ) (H : List (Entry T)) (R : List (ℕ × ℕ × Reply T)) (b c : Book T) (x : Event T) (t : Told T) (e : Option (Effect T)) (r : Option (Reply T))
-    → Trace cap S past told n H R b → effect_entry n (party_of x) t ≡ kinds_in (added n (party_of x) e []) → reply_entry n (party_of x) t ≡ answered n (party_of x) r []
+    → Trace cap S past told n H R b → effect_entry n (party_of x) t ≡ kinds_in (added n (party_of x) e []) → reply_entry n (party_of x) t ≡ with_reply n (party_of x) r []
     → FitsIf e b.queue → c.queue ≡ made_if e b.queue
-    → EntryOwes cap S (past ++ x ∷ []) (added n (party_of x) e H) (answered n (party_of x) r R) n (party_of x) e (pending None H)
-    → ReplyOwes cap S (past ++ x ∷ []) (added n (party_of x) e H) (answered n (party_of x) r R) n (party_of x) r
-    → ((p : ℕ) (o : Open T) → c.open_call p ≡ Some o → Since cap S (past ++ x ∷ []) (added n (party_of x) e H) (answered n (party_of x) r R) p (n + 1) o)
-    → Trace cap S (past ++ x ∷ []) (told ++ t ∷ []) (n + 1) (added n (party_of x) e H) (answered n (party_of x) r R) c
+    → EntryOwes cap S (past ++ x ∷ []) (added n (party_of x) e H) (with_reply n (party_of x) r R) n (party_of x) e (pending None H)
+    → ReplyOwes cap S (past ++ x ∷ []) (added n (party_of x) e H) (with_reply n (party_of x) r R) n (party_of x) r
+    → ((p : ℕ) (o : Open T) → c.open_call p ≡ Some o → Since cap S (past ++ x ∷ []) (added n (party_of x) e H) (with_reply n (party_of x) r R) p (n + 1) o)
+    → Trace cap S (past ++ x ∷ []) (told ++ t ∷ []) (n + 1) (added n (party_of x) e H) (with_reply n (party_of x) r R) c
 trace-more cap S past told n H R b c x t e r tr kinds replies fits leads entry reply opens =
     let p = party_of x in
     record {
@@ -174,6 +174,6 @@ trace-more cap S past told n H R b c x t e r tr kinds replies fits leads entry r
       own = own-added cap S past (x ∷ []) H R n p e r (pending None H) tr.early tr.own entry;
       arrivals = arrivals-added cap S (past ++ x ∷ []) H R n p e r tr.early tr.arrivals entry;
       answers = answers-added cap S past (x ∷ []) H (added n p e H) R n p r (extends-added n p e H) tr.early_replies tr.answers reply;
-      early_replies = early-answered n p r R tr.early_replies;
+      early_replies = early-with_reply n p r R tr.early_replies;
       open_calls = opens;
     }

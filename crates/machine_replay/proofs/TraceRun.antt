@@ -9,7 +9,7 @@ use Rattle.machine_replay.specs.Book.{Book, Open, IsBegun, Steps, GoesOn, Happen
 use Rattle.machine_replay.specs.Conforms.{entries_from, reply_entry, skipped_entry}
 use Rattle.machine_replay.specs.InCall.{IsInCall}
 use Rattle.machine_replay.specs.Meaning.{Entry, state_after, own_effects, RepliesAtOnce, ConformingHasHistory}
-use Rattle.machine_replay.proofs.Calls.{answered}
+use Rattle.machine_replay.proofs.Calls.{with_reply}
 use Rattle.machine_replay.proofs.Displacing.{pending}
 use Rattle.machine_replay.proofs.Moments.{begun_none}
 use Rattle.machine_replay.proofs.Entries.{each-all, each-more, event-last, state-last, own-none}
@@ -84,7 +84,7 @@ step-next : {T : Type 0} (cap : Option ℕ) (S : List ℕ) (past : List (Event T
     → (Contains S n → ⊥) → Steps b p k r c → Next cap S past told n (Step p granted) (Ran k r) c
 step-next {T} cap S past told n H R b c p granted k r tr ran s = record {
   H = added n p does.e H;
-  R = answered n p r R;
+  R = with_reply n p r R;
   trace = trace-more cap S past told n H R b c (Step p granted) (Ran k r) does.e r tr (does.entry n p r) (replied r) does.fits does.leads
       (entry-owes T cap S past H R n p granted tr.len ran tr.early tr.early_replies s.o since does.e r b.busy c.queue s.effects is does.effects s.goes does.may)
       (reply-owes r refl s.goes)
@@ -110,28 +110,28 @@ step-next {T} cap S past told n H R b c p granted k r tr ran s = record {
     waits : (j : ℕ) → j ≢ p → (f : Entry T) → f.party ≡ j → pending None H ≡ Some f → pending None (added n p does.e H) ≡ Some f
     waits = others-wait T cap S past H R n p granted tr.len ran tr.early tr.early_replies s.o since does.e r b.busy c.queue s.effects is does.effects s.goes (subst (FitsIf does.e) (sym tr.leads) does.fits)
 
-    replied : (y : Option (Reply T)) → reply_entry n p (Ran k y) ≡ answered n p y []
+    replied : (y : Option (Reply T)) → reply_entry n p (Ran k y) ≡ with_reply n p y []
     replied None = refl
     replied (Some y) = refl
 
-    reply-owes : (y : Option (Reply T)) → r ≡ y → GoesOn mine y → ReplyOwes cap S (past ++ Step p granted ∷ []) (added n p does.e H) (answered n p r R) n p r
+    reply-owes : (y : Option (Reply T)) → r ≡ y → GoesOn mine y → ReplyOwes cap S (past ++ Step p granted ∷ []) (added n p does.e H) (with_reply n p r R) n p r
     reply-owes None e goes = rw e tt
     reply-owes (Some y) e goes = answer-own T cap S past H R n p granted tr.len ran tr.early tr.early_replies s.o since does.e r b.busy c.queue s.effects is does.effects s.goes y goes e
 
-    own-open : (y : Option (Reply T)) → r ≡ y → GoesOn mine y → (o : Open T) → (if is_some y then None else Some mine) ≡ Some o → Since cap S (past ++ Step p granted ∷ []) (added n p does.e H) (answered n p r R) p (n + 1) o
+    own-open : (y : Option (Reply T)) → r ≡ y → GoesOn mine y → (o : Open T) → (if is_some y then None else Some mine) ≡ Some o → Since cap S (past ++ Step p granted ∷ []) (added n p does.e H) (with_reply n p r R) p (n + 1) o
     own-open None e goes o some =
         let same : mine ≡ o = cc in
-        subst (λ z. Since cap S (past ++ Step p granted ∷ []) (added n p does.e H) (answered n p r R) p (n + 1) z) same
+        subst (λ z. Since cap S (past ++ Step p granted ∷ []) (added n p does.e H) (with_reply n p r R) p (n + 1) z) same
         (since-own T cap S past H R n p granted tr.len ran tr.early tr.early_replies s.o since does.e r b.busy c.queue s.effects is does.effects s.goes e)
     own-open (Some y) e goes o some = cc
 
     opens : (j : ℕ) (o : Open T) → ((j ≡ p) × ((if is_some r then None else Some mine) ≡ Some o)) ⊎ ((j ≢ p) × (at_open (watched c.queue) (b.open_call j) ≡ Some o))
-        → Since cap S (past ++ Step p granted ∷ []) (added n p does.e H) (answered n p r R) j (n + 1) o
-    opens j o (inl m) = subst (λ q. Since cap S (past ++ Step p granted ∷ []) (added n p does.e H) (answered n p r R) q (n + 1) o) (sym m.0) (own-open r refl s.goes o m.1)
+        → Since cap S (past ++ Step p granted ∷ []) (added n p does.e H) (with_reply n p r R) j (n + 1) o
+    opens j o (inl m) = subst (λ q. Since cap S (past ++ Step p granted ∷ []) (added n p does.e H) (with_reply n p r R) q (n + 1) o) (sym m.0) (own-open r refl s.goes o m.1)
     opens j o (inr m) =
         let old = at_open-cases (watched c.queue) (b.open_call j) o m.1 in
-        subst (λ z. Since cap S (past ++ Step p granted ∷ []) (added n p does.e H) (answered n p r R) j (n + 1) z) old.2
-        (since-watched cap S (past ++ Step p granted ∷ []) (added n p does.e H) (answered n p r R) j n c.queue old.0 is
+        subst (λ z. Since cap S (past ++ Step p granted ∷ []) (added n p does.e H) (with_reply n p r R) j (n + 1) z) old.2
+        (since-watched cap S (past ++ Step p granted ∷ []) (added n p does.e H) (with_reply n p r R) j n c.queue old.0 is
         (since-other cap S past (Step p granted ∷ []) H R n p j does.e r old.0 tr.early tr.early_replies (inr m.0) (inr m.0) (waits j m.0) (tr.open_calls j old.0 old.1)))
 
 -- where the event n ran, it is none of these

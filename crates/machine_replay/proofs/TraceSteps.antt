@@ -6,11 +6,11 @@ use Rattle.law_common.proofs.Tests.{or_true, not_true}
 use Rattle.queue_steps.specs.State.{State, start}
 use Rattle.queue_steps.specs.Effect.{after_from}
 use Rattle.machine_replay.specs.Vocabulary.{Reply, Effect, Event, EffectKind, Step, Ran}
-use Rattle.machine_replay.specs.Book.{Open, Allows, Ends, GoesOn, IsBegun, Moves, MayMake, kind_of, put, at_open, watched, joined, after_own, seen_by}
+use Rattle.machine_replay.specs.Book.{Open, Allows, MayEnd, GoesOn, IsBegun, Moves, MayMake, kind_of, put, at_open, watched, joined, after_own, seen_by}
 use Rattle.machine_replay.specs.Conforms.{effect_entry}
 use Rattle.machine_replay.specs.InCall.{IsStepOf}
 use Rattle.machine_replay.specs.Meaning.{Entry, effects_in, kinds_in, state_after, own_effects, IsMoment, SawOpen, EndsCall, IsOwn, IsArrivalOf}
-use Rattle.machine_replay.proofs.Calls.{answered, unanswered-since, in-call-late, in-call-on}
+use Rattle.machine_replay.proofs.Calls.{with_reply, unanswered-since, in-call-late, in-call-on}
 use Rattle.machine_replay.proofs.Displacing.{pending, pending-append, begun-by-front, coming-pending}
 use Rattle.machine_replay.proofs.Entries.{each-all, event-last, own-last, own-mine, own-others}
 use Rattle.machine_replay.proofs.Trace.{IsDisplacing, Since, added, extends-added, FitsIf, made_if, moment-more, opened-more, EntryOwes, ReplyOwes}
@@ -46,7 +46,7 @@ displacing-more H H' q first still d = record { front = d.front; waits = still d
 
 -- a call that neither takes an effect nor is answered at this event
 pub since-other : {T : Type 0} (cap : Option ℕ) (S : List ℕ) (past ys : List (Event T)) (H : List (Entry T)) (R : List (ℕ × ℕ × Reply T)) (n p q : ℕ) (e : Option (Effect T)) (r : Option (Reply T)) (o : Open T) → AllByRecursion (λ x. x.event < n) H → AllByRecursion (λ y. y.0 < n) R
-    → (e ≡ None) ⊎ (q ≢ p) → (r ≡ None) ⊎ (q ≢ p) → StillWaits q H (added n p e H) → Since cap S past H R q n o → Since cap S (past ++ ys) (added n p e H) (answered n p r R) q (n + 1) o
+    → (e ≡ None) ⊎ (q ≢ p) → (r ≡ None) ⊎ (q ≢ p) → StillWaits q H (added n p e H) → Since cap S past H R q n o → Since cap S (past ++ ys) (added n p e H) (with_reply n p r R) q (n + 1) o
 since-other cap S past ys H R n p q e r o early early_replies no_effect no_reply still s = record {
   in_call = in-call-on past ys S R n p q r no_reply early_replies s.in_call;
   same_call = s.same_call;
@@ -165,7 +165,7 @@ module _ (T : Type 0) (cap : Option ℕ) (S : List ℕ) (past : List (Event T)) 
   front-now (Some x) some old v all = absurd (no-other x o.effects all (λ old v e. cc))
 
   -- the call goes on
-  pub since-own : r ≡ None → Since cap S now (added n p e H) (answered n p r R) p (n + 1) mine
+  pub since-own : r ≡ None → Since cap S now (added n p e H) (with_reply n p r R) p (n + 1) mine
   since-own none = record {
     in_call = in-call-on past (Step p granted ∷ []) S R n p p r (inl none) early_replies s.in_call;
     same_call = s.same_call;
@@ -177,10 +177,10 @@ module _ (T : Type 0) (cap : Option ℕ) (S : List ℕ) (past : List (Event T)) 
   }
 
   -- the call ends with this reply
-  pub answer-own : (x : Reply T) → Ends mine x → r ≡ Some x → ReplyOwes cap S now (added n p e H) (answered n p r R) n p r
+  pub answer-own : (x : Reply T) → MayEnd mine x → r ≡ Some x → ReplyOwes cap S now (added n p e H) (with_reply n p r R) n p r
   answer-own x ends some = rw some (inl answer)
     where
-      answer : EndsCall cap now S (added n p e H) (answered n p (Some x) R) n p x
+      answer : EndsCall cap now S (added n p e H) (with_reply n p (Some x) R) n p x
       answer = record {
         step = here;
         in_call = in-call-late past (Step p granted ∷ []) S R n p p n (Some x) (omega arith) s.in_call;
@@ -190,7 +190,7 @@ module _ (T : Type 0) (cap : Option ℕ) (S : List ℕ) (past : List (Event T)) 
             (found.0, found.1, subst (λ k. Allows k x found.0) (sym s.same_call) found.2);
       }
 
-  own-owes : (f : Effect T) → MayMake (kind_of f) o → IsOwn cap now S (added n p e H) (answered n p r R) (record { event = n; party = p; effect = f })
+  own-owes : (f : Effect T) → MayMake (kind_of f) o → IsOwn cap now S (added n p e H) (with_reply n p r R) (record { event = n; party = p; effect = f })
   own-owes f may = record {
     step = here;
     in_call = in-call-late past (Step p granted ∷ []) S R n p p n r (omega arith) s.in_call;
@@ -200,17 +200,17 @@ module _ (T : Type 0) (cap : Option ℕ) (S : List ℕ) (past : List (Event T)) 
       saw : (f : Effect T) → MayMake (kind_of f) o → (old v : T) → f ≡ Effect.Front old v → o.was_open ≡ true
       saw f may old v front = subst (λ g. MayMake (kind_of g) o) front may
 
-  arrival-owes : (f : Effect T) → e ≡ Some f → IsArrivalOf (answered n p r R) (pending None H) (record { event = n; party = p; effect = f }) f
+  arrival-owes : (f : Effect T) → e ≡ Some f → IsArrivalOf (with_reply n p r R) (pending None H) (record { event = n; party = p; effect = f }) f
   arrival-owes Effect.Arrive some =
       let d = arrives-from some in
       let after = d.later in
       rw d.waits (sym d.party, rw d.party (unanswered-since n p first d.front.event r R (omega arith) s.in_call.unanswered))
   arrival-owes f some = tt
 
-  pub entry-owes : MayIf e o → EntryOwes cap S now (added n p e H) (answered n p r R) n p e (pending None H)
+  pub entry-owes : MayIf e o → EntryOwes cap S now (added n p e H) (with_reply n p r R) n p e (pending None H)
   entry-owes may = owes e refl may
     where
-      owes : (f : Option (Effect T)) → e ≡ f → MayIf f o → EntryOwes cap S now (added n p e H) (answered n p r R) n p f (pending None H)
+      owes : (f : Option (Effect T)) → e ≡ f → MayIf f o → EntryOwes cap S now (added n p e H) (with_reply n p r R) n p f (pending None H)
       owes None none m = tt
       owes (Some f) some m = (own-owes f m, arrival-owes f some)
 

@@ -92,8 +92,8 @@ Moves Q o None R es = (R ≡ Q) × (es ≡ o.effects)
 Moves {T} Q o (Some k) R es = (e : Effect T) × (kind_of e ≡ k) × MayMake k o × Fits e Q × (R ≡ made e Q) × (es ≡ o.effects ++ e ∷ [])
 
 -- the call may end with this reply: its effects are those that the reply stands for; without effects one of its moments allows the reply
-abbrev pub Ends : {T : Type 0} → Open T → Reply T → Type 0
-Ends o r = Tells o.call r o.effects × (o.effects ≡ [] → Any (Allows o.call r) o.moments)
+abbrev pub MayEnd : {T : Type 0} → Open T → Reply T → Type 0
+MayEnd o r = Tells o.call r o.effects × (o.effects ≡ [] → Any (Allows o.call r) o.moments)
 
 -- these effects begin those of some reply of the call
 abbrev pub IsBegun : {T : Type 0} → Call T → List (Effect T) → Type 0
@@ -108,7 +108,7 @@ pub record Stays {T : Type 0} (o : Open T) : Type 0 where
 -- the call goes on, or ends with the reply
 abbrev pub GoesOn : {T : Type 0} → Open T → Option (Reply T) → Type 0
 GoesOn o None = Stays o
-GoesOn o (Some r) = Ends o r
+GoesOn o (Some r) = MayEnd o r
 
 -- a step of party p, with its effect and its reply, leads from the book b to the book c
 pub record Steps {T : Type 0} (b : Book T) (p : ℕ) (k : Option EffectKind) (r : Option (Reply T)) (c : Book T) : Type 0 where

@@ -2,7 +2,7 @@
 use Rattle.std.specs.Prelude.{◌≡◌, ◌↔◌, ℕ, ◌+◌, ◌<◌, ◌≤◌, ◌^◌, Bool, false, IsTrue, List, [], ◌∷◌, ◌++◌, length}
 use Rattle.machine_replay.specs.Vocabulary.{Kind, Event, Told, Peak, Running}
 use Rattle.machine_replay.specs.declared.machine_run.MachineRun.{MachineRun}
-use Rattle.machine_replay.specs.declared.machine_run.Ended.{Ended}
+use Rattle.machine_replay.specs.declared.machine_run.RunEnd.{RunEnd}
 use Rattle.machine_replay.specs.Book.{Book, Run, opening}
 use Rattle.machine_memory.specs.SharedMemory.{Shared}
 use Rattle.machine_replay.specs.Conforms.{HasNoBlocks, IsPeak, capacity_of, entries_from, reply_entry, skipped_entry}
@@ -52,7 +52,7 @@ TellsCall {T} c p says = (k : Kind) (parties : ℕ) (events : List (Event T)) (t
     → IsTrue says ↔ IsInCall events (entries_from skipped_entry 0 events told) (entries_from reply_entry 0 events told) p (length events)
 
 -- what is told of these events is what the machine makes of them, and leads from the empty open queue to a last book, whose items are left; and the peak is theirs, which is none with a capacity
-pub record EndsAs {T A : Type 0} (k : Kind) (parties : ℕ) (events : List (Event T)) (told : List (Told T)) (r : Ended T A) : Type 0 where
+pub record EndsAs {T A : Type 0} (k : Kind) (parties : ℕ) (events : List (Event T)) (told : List (Told T)) (r : RunEnd T A) : Type 0 where
   pub made : IsMade k parties events told
   pub last : Book T
   pub run : Run (capacity_of k) parties (opening (capacity_of k)) events told last
@@ -61,5 +61,5 @@ pub record EndsAs {T A : Type 0} (k : Kind) (parties : ℕ) (events : List (Even
   pub no_blocks : HasNoBlocks (capacity_of k) r.peak
 
 -- whatever brought the run to c, it ends so
-abbrev pub Leaves : {T A : Type 0} → MachineRun T A → Ended T A → Type 0
+abbrev pub Leaves : {T A : Type 0} → MachineRun T A → RunEnd T A → Type 0
 Leaves {T} c r = (k : Kind) (parties : ℕ) (events : List (Event T)) (told : List (Told T)) → IsMachineRun k parties events told c → EndsAs k parties events told r

@@ -4,18 +4,18 @@ use Rattle.machine_replay.specs.Vocabulary.{Kind, Event, Running}
 use Rattle.machine_steps.specs.Left.{opening_world}
 use Rattle.machine_steps.specs.Machine.{PassesAll}
 use Rattle.machine_steps.specs.World.{World}
-use Rattle.machine_replay.specs.declared.words.Words.{Words}
+use Rattle.machine_replay.specs.declared.words.QueueWords.{QueueWords}
 use Rattle.machine_memory.specs.SharedMemory.{Shared}
 
 -- these are the words of what is shared
-pub record AreWords {T A : Type 0} (s : Shared T) (w : Words A) : Type 0 where
+pub record AreWords {T A : Type 0} (s : Shared T) (w : QueueWords A) : Type 0 where
   pub lock : w.lock ≡ s.lock
   pub head : w.head ≡ s.head
   pub tail : w.tail ≡ s.tail
   pub stamps : w.stamps.items ≡ s.stamps
 
 -- these are the words of a machine that comes from its opening by these events
-pub record AreWordsAfter {T A : Type 0} (k : Kind) (parties : ℕ) (events : List (Event T)) (w : Words A) : Type 0 where
+pub record AreWordsAfter {T A : Type 0} (k : Kind) (parties : ℕ) (events : List (Event T)) (w : QueueWords A) : Type 0 where
   pub last : World (Shared T) (Running T)
   pub plays : PassesAll k (opening_world k parties) events last
   pub words : AreWords last.shared w

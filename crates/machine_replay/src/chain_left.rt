@@ -4,7 +4,7 @@ ghost use Rattle.queue_steps.specs.ChainWords.{offset_of};
 ghost use Rattle.machine_memory.specs.Blocks.{behind, put_state, put_item, put_next, without};
 ghost use Rattle.machine_steps.specs.ChainLeft.{laid, marked, reached, settled_at, settled_by, settled_blocks, front_at, settled_front, unread_in, unread, unread_at, behind_at, chained, chain_left};
 
-use machine_memory::blocks::{self, Block, Place};
+use machine_memory::blocks::{self, Block, BlockPlace};
 use machine_memory::calls::Running;
 use machine_memory::shared_memory::named_block;
 use queue_steps::sizes::BLOCK_POSITIONS;
@@ -130,12 +130,12 @@ fn front(local: Local<usize>, front: Option<usize>) -> Option<usize>
 }
 
 /// Takes the item of a place to the end of the list, unless it is read.
-fn gather_place<T: Drop, A: Allocator>(place: Place<T>, left: &mut Vec<T, A>)
+fn gather_place<T: Drop, A: Allocator>(place: BlockPlace<T>, left: &mut Vec<T, A>)
     requires { vec_len left.old + length (unread_in place) ≤ vec_capacity left.old }
     ensures left { left.new.items ≡ left.old.items ++ unread_in place }
     ensures room { vec_capacity left.new ≡ vec_capacity left.old }
 {
-    let Place { state, item } = place;
+    let BlockPlace { state, item } = place;
     if state & READ == 0 {
         if let Some(item) = item {
             left.push_reserved(item);
@@ -144,7 +144,7 @@ fn gather_place<T: Drop, A: Allocator>(place: Place<T>, left: &mut Vec<T, A>)
 }
 
 /// Takes the items of these places to the end of the list.
-fn gather_places<T: Drop, A: Allocator>(places: Vec<Place<T>, A>, left: &mut Vec<T, A>)
+fn gather_places<T: Drop, A: Allocator>(places: Vec<BlockPlace<T>, A>, left: &mut Vec<T, A>)
     requires { vec_len left.old + length (unread places.items) ≤ vec_capacity left.old }
     ensures left { left.new.items ≡ left.old.items ++ unread places.items }
     ensures room { vec_capacity left.new ≡ vec_capacity left.old }

@@ -29,7 +29,7 @@ pub struct MachineRun<T, A: Allocator> {
 
 /// What a run leaves.
 #[derive(Debug, Drop)]
-pub struct Ended<T, A: Allocator = Global> {
+pub struct RunEnd<T, A: Allocator = Global> {
     /// The list at the end, front first, with the items that their push has not yet written.
     pub left: Vec<T, A>,
     /// The blocks that the run held at most.
@@ -119,7 +119,7 @@ impl<T: Drop, A: Allocator + Copy> MachineRun<T, A> {
     }
 
     /// Ends the run. `room` is an empty list with room for what is left.
-    pub(crate) fn end_in(self, room: Vec<T, A>) -> Ended<T, A>
+    pub(crate) fn end_in(self, room: Vec<T, A>) -> RunEnd<T, A>
         requires comes { IsSomeMachineRun self }
         requires empty { vec_len room ≡ 0 }
         requires room { self.handled ≤ vec_capacity room }
@@ -131,7 +131,7 @@ impl<T: Drop, A: Allocator + Copy> MachineRun<T, A> {
             peak,
             handled: _,
         } = self;
-        Ended {
+        RunEnd {
             left: left(machine, room),
             peak,
         }
@@ -142,7 +142,7 @@ impl<T: Drop, A: Allocator + Copy> MachineRun<T, A> {
     /// # Errors
     ///
     /// Where there is no memory for what is left.
-    pub fn end(self, alloc: A) -> Result<Ended<T, A>, AllocError>
+    pub fn end(self, alloc: A) -> Result<RunEnd<T, A>, AllocError>
         requires { IsSomeMachineRun self }
         ensures leaves { IfOk result (λ ended. Leaves self ended) }
         ensures left { IfOk result (λ ended. ended.left.items ≡ left_of self.machine.kind (world_of self.machine)) }

@@ -5,7 +5,7 @@ ghost use Rattle.machine_replay.specs.OneOwner.{IsSequentialRun};
 ghost use Rattle.machine_replay.specs.Played.{IsPlayed};
 ghost use Rattle.machine_replay.specs.Replays.{CanReplay, is_too_large, IsRoomy};
 
-use crate::machine_run::{Ended, MachineRun};
+use crate::machine_run::{MachineRun, RunEnd};
 use machine_memory::types::{EffectKind, Event, Replay, Told};
 use queue_steps::model::Reply;
 use queue_steps::sizes::MAX_CAPACITY;
@@ -118,7 +118,7 @@ pub fn replay<T: Drop, A: Allocator + Copy>(
         effects,
         skipped,
     } = lists;
-    let Ended { left, peak } = run.end_in(room);
+    let RunEnd { left, peak } = run.end_in(room);
     Ok(Replay {
         replies,
         effects,

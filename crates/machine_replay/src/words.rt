@@ -15,7 +15,7 @@ use std::alloc::{AllocError, Allocator, Global};
 
 /// The words of a queue of one slot, or of a ring: what each does not have is 0, or empty.
 #[derive(Debug, Drop)]
-pub struct Words<A: Allocator = Global> {
+pub struct QueueWords<A: Allocator = Global> {
     /// The word of a queue of one slot.
     pub lock: u64,
     /// How far the poppers of a ring are.
@@ -74,7 +74,7 @@ pub fn words_after<T: Drop, A: Allocator + Copy>(
     kind: Kind,
     parties: usize,
     events: Vec<Event<T>, A>,
-) -> Result<Words<A>, AllocError>
+) -> Result<QueueWords<A>, AllocError>
     requires { CanReplay kind }
     ensures words { IfOk result (λ w. AreWordsAfter kind parties events.items w) }
     ensures limited { is_too_large kind ≡ true → IsErr result }
@@ -95,7 +95,7 @@ pub fn words_after<T: Drop, A: Allocator + Copy>(
         blocks: _,
         alive: _,
     } = memory;
-    Ok(Words {
+    Ok(QueueWords {
         lock,
         head,
         tail,

@@ -10,7 +10,7 @@ use Rattle.queue_steps.specs.declared.steps.types.Touch.TheVariants as touch
 use Rattle.queue_steps.specs.declared.steps.unbounded.TheConstants.{READ}
 use Rattle.queue_steps.specs.declared.steps.unbounded.UnboundedLocal.{UnboundedLocal}
 use Rattle.queue_steps.specs.declared.steps.unbounded.UnboundedLocal.TheVariants as chain
-use Rattle.machine_memory.specs.declared.blocks.Place.{Place}
+use Rattle.machine_memory.specs.declared.blocks.BlockPlace.{BlockPlace}
 use Rattle.machine_memory.specs.declared.calls.Running.{Running}
 use Rattle.machine_memory.specs.Blocks.{Block, block_of, places_in, behind, put_state, put_item, put_next, without}
 use Rattle.machine_memory.specs.SharedMemory.{block_touched}
@@ -62,11 +62,11 @@ settled_front (None ∷ calls) front = settled_front calls front
 settled_front (Some r ∷ calls) front = settled_front calls (front_at r.local front)
 
 -- the item of a place that is not read
-abbrev pub unread_in : {T : Type 0} → Place T → List T
+abbrev pub unread_in : {T : Type 0} → BlockPlace T → List T
 unread_in p = if bit_and p.state READ == 0 then option_to_list p.item else []
 
 -- those of the places, in their order
-abbrev pub unread : {T : Type 0} → List (Place T) → List T
+abbrev pub unread : {T : Type 0} → List (BlockPlace T) → List T
 unread [] = []
 unread (p ∷ ps) = unread_in p ++ unread ps
 

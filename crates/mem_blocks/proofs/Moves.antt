@@ -11,7 +11,7 @@ use types.Keyed.{entries_new, entries_take}
 use types.Tokens.{lft_new, lft_end, bor_new, lent_back}
 use Rattle.atomic_table.specs.Seated.{fact, seen, roster, halved, unused}
 use Rattle.atomic_table.proofs.Roster.{Moved, moves, Joined, joins, apart, resets}
-use Rattle.mem_blocks.specs.Web.{State, viewed, Goes}
+use Rattle.mem_blocks.specs.Web.{State, viewed, KeepsRule}
 use Rattle.mem_blocks.specs.Laid.{state_owns, known_to_all}
 use Rattle.mem_blocks.specs.Links.{leads_to, told_place, IsToldPlace}
 use Rattle.mem_blocks.specs.declared.operation.LinkOperation.{LinkOperation}
@@ -85,7 +85,7 @@ module _ {M : Type 1} {𝓤 : Ura M} (𝓛 : Logic 𝓤) (R : RattleType) (token
     after id then = fex (Sitter S V) (Seated id then)
 
     -- the step is done: the acts follow, and the view moves
-    carries_on : (s : State S V) (bs : List (Block S)) (id : ℕ) (m : Sitter S V) (then : Sitter S V → Type 0) → Goes holds s bs id m then
+    carries_on : (s : State S V) (bs : List (Block S)) (id : ℕ) (m : Sitter S V) (then : Sitter S V → Type 0) → KeepsRule holds s bs id m then
         → ⟦ chain_owns R token bs ⟧ ∗ all 𝓤 (Moved 𝓛 cv γ 0 s.views id id) ∗ (⟦ hand_owns R m.hand ⟧ ∗ ⟦ spare_owns R token m.spare ⟧) ⊢ upd 𝓤 (⟦ I ⟧ ∗ ⟦ after id then ⟧)
     carries_on s bs id m then r = let w : V = r.0 in let more : List (Act S) = r.1 in let u : Sitter S V = viewed w (sitter_after bs m more) in let Z : Pr = ⟦ I ⟧ ∗ ⟦ after id then ⟧ in let vs : List V = set s.views id w in
         qed 𝓛 (‵ (chain_owns R token bs) ∷ raw (all 𝓤 (Moved 𝓛 cv γ 0 s.views id id)) ∷ ‵ (hand_owns R m.hand) ∷ ‵ (spare_owns R token m.spare) ∷ []) ∵ move ! (1 ∷ []) $
@@ -224,13 +224,13 @@ module _ {M : Type 1} {𝓤 : Ura M} (𝓛 : Logic 𝓤) (R : RattleType) (token
               show ! (Viewed s.blocks Merged) us $ check ! (good.2 at distinct there) $ frame ! $ move ! (0 ∷ 2 ∷ []) $ fjoin ! $ move ! (1 ∷ 2 ∷ []) $ fjoin ! $ done !))))
 
     -- ---- the end
-    abbrev pub Ended : List (Block S) → Pr
-    Ended bs = guard 𝓤 (LastBlocks holds bs) ⟦ chain_owns R token bs ⟧
+    abbrev pub LastOwned : List (Block S) → Pr
+    LastOwned bs = guard 𝓤 (LastBlocks holds bs) ⟦ chain_owns R token bs ⟧
 
-    pub ends : ⟦ web_owns R token cv.code z holds ⟧ ⊢ H.⇛ (ex 𝓤 Ended)
+    pub ends : ⟦ web_owns R token cv.code z holds ⟧ ⊢ H.⇛ (ex 𝓤 LastOwned)
     unfolding Rattle.mem_blocks.specs.Laid.seal
     ends = qed 𝓛 (‵ (flft κ full_share) ∷ ‵ (known_to_all R token cv.code z holds) ∷ ‵ (flent κ I) ∷ []) ∵ updating ! $ lft_end ! tt $ keep ! (0 ∷ 2 ∷ []) $ lent_back ! tt $
-        looks_in ! (λ s so. now ! $ show ! Ended s.blocks $ check ! (s.views, so) $ keep ! (0 ∷ []) $ done !)
+        looks_in ! (λ s so. now ! $ show ! LastOwned s.blocks $ check ! (s.views, so) $ keep ! (0 ∷ []) $ done !)
 
     module _ (id : ℕ) (m : Sitter S V) where
       abbrev pub EndedBy : List (Block S) → Pr

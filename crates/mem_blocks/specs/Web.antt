@@ -184,8 +184,8 @@ module _ {S V : Type 0} where
 
   module _ (holds : State S V → Type 0) where
     -- With the blocks at bs, the seat has acts and a new view that keep the rule, and `then` holds of the seat after.
-    abbrev pub Goes : State S V → List (Block S) → ℕ → Sitter S V → (Sitter S V → Type 0) → Type 0
-    Goes s bs id m then = (w : V) × (acts : List (Act S)) × Mays bs m acts × holds record { blocks = blocks_after bs acts; views = slice_set s.views id w } × then (viewed w (sitter_after bs m acts))
+    abbrev pub KeepsRule : State S V → List (Block S) → ℕ → Sitter S V → (Sitter S V → Type 0) → Type 0
+    KeepsRule s bs id m then = (w : V) × (acts : List (Act S)) × Mays bs m acts × holds record { blocks = blocks_after bs acts; views = slice_set s.views id w } × then (viewed w (sitter_after bs m acts))
 
     -- Whatever the web is, some block of it lies at p.
     abbrev pub StaysIn : Ptr → Type 0
@@ -194,12 +194,12 @@ module _ {S V : Type 0} where
     -- Whatever the web is where the seat id has the seat's view, some block of it lies at p, and the step may turn the block's word i into f of what it was.
     abbrev pub Allows : ℕ → Sitter S V → Ptr → ℕ → (ℕ → ℕ) → (ℕ → Sitter S V → Type 0) → Type 0
     Allows id m p i f then = (s : State S V) → holds s → get_elem? s.views id ≡ some m.view
-        → (k : ℕ) × Lives s.blocks k p × (let n : ℕ = word_of s.blocks k i in n < 18446744073709551616 → Goes s (with_word s.blocks k i (f n)) id m (then n))
+        → (k : ℕ) × Lives s.blocks k p × (let n : ℕ = word_of s.blocks k i in n < 18446744073709551616 → KeepsRule s (with_word s.blocks k i (f n)) id m (then n))
 
     -- The same of the block's link, which can be compared with null.
     abbrev pub AllowsLink : ℕ → Sitter S V → Ptr → (Ptr → Ptr) → (Ptr → Sitter S V → Type 0) → Type 0
     AllowsLink id m p f then = (s : State S V) → holds s → get_elem? s.views id ≡ some m.view
-        → (k : ℕ) × Lives s.blocks k p × (let q : Ptr = (block s.blocks k).next in Testable q × Goes s (with_next s.blocks k (f q)) id m (then q))
+        → (k : ℕ) × Lives s.blocks k p × (let q : Ptr = (block s.blocks k).next in Testable q × KeepsRule s (with_next s.blocks k (f q)) id m (then q))
 
     -- Some block of the web lies at p, and a seat's view may be cut in two, of which a new seat has the second.
     abbrev pub CanFork : Ptr → ℕ → V → V → V → Type 0

@@ -20,7 +20,7 @@ pub const HEAD: usize = 0;
 
 // The ends lie as far from each other as a block's words reach, so a push and a pop write to distant memory.
 #[repr(C)]
-pub struct Ends<S> {
+pub struct EndNodes<S> {
     pub(crate) tail: Node<S>,
     pub(crate) head: Node<S>,
 }
@@ -56,9 +56,9 @@ impl<S, A: Allocator> Hub<S, A> {
         ensures tail { IfOk result (λ r. (r.2.heap ≡ alloc.now) × (r.2.at ≡ r.1.ptr) × (r.2.next ≡ null_ptr) × (r.2.words ≡ replicate SLOTS 0) × (r.2.homes ≡ [])) }
         ensures head { IfOk result (λ r. (r.4.heap ≡ alloc.now) × (r.4.at ≡ r.3.ptr) × (r.4.next ≡ null_ptr) × (r.4.words ≡ replicate SLOTS 0) × (r.4.homes ≡ [])) }
     {
-        match alloc.allocate(size, align_of::<Ends<S>>()) {
+        match alloc.allocate(size, align_of::<EndNodes<S>>()) {
             Ok(room) => {
-                let ends = room as *mut Ends<S>;
+                let ends = room as *mut EndNodes<S>;
                 let tail = unsafe { &raw mut (*ends).tail };
                 let head = unsafe { &raw mut (*ends).head };
                 unsafe {
@@ -101,7 +101,7 @@ impl<S, A: Allocator> Hub<S, A> {
         ensures head { IfOk result (λ r. (r.4.heap ≡ alloc.now) × (r.4.at ≡ r.3.ptr) × (r.4.next ≡ null_ptr) × (r.4.words ≡ replicate SLOTS 0) × (r.4.homes ≡ [])) }
     {
         if is_small::<S>() {
-            Hub::reserve(alloc, size_of::<Ends<S>>())
+            Hub::reserve(alloc, size_of::<EndNodes<S>>())
         } else {
             Err(AllocError)
         }
@@ -115,7 +115,7 @@ impl<S, A: Allocator> Hub<S, A> {
         let Loose { marker: _ } = tail;
         let Loose { marker: _ } = head;
         unsafe {
-            alloc.deallocate(link.ptr as *mut u8, size, align_of::<Ends<S>>());
+            alloc.deallocate(link.ptr as *mut u8, size, align_of::<EndNodes<S>>());
         }
     }
 
@@ -123,7 +123,7 @@ impl<S, A: Allocator> Hub<S, A> {
     pub fn give_up(self, alloc: &A, link: BlockPtr<S>, tail: Loose<S, A>, head: Loose<S, A>)
         requires { (self.heap ≡ alloc.now) × (tail.heap ≡ alloc.now) × (head.heap ≡ alloc.now) × (self.at ≡ link.ptr) × (tail.at ≡ link.ptr) × (head.at ≡ head_of link.ptr) }
     {
-        self.free(alloc, link, tail, head, size_of::<Ends<S>>());
+        self.free(alloc, link, tail, head, size_of::<EndNodes<S>>());
     }
 }
 

@@ -10,7 +10,7 @@ use Rattle.atomic_table.specs.Table.{Final}
 use Rattle.queue_steps.specs.declared.sizes.TheConstants.{LIMIT}
 use Rattle.queue_steps.specs.State.{start}
 use Rattle.queue_steps.specs.Words.{IsRing, position_of, is_shut, slot_at}
-use Rattle.own_bounded.specs.RingOwned.{Holds, items_of, IsIdle, ring_owned}
+use Rattle.own_bounded.specs.RingOwned.{HoldsItems, items_of, IsIdle, ring_owned}
 use Rattle.own_bounded.specs.Laws.RingKeeps.{apart}
 use Rattle.own_bounded.specs.RingMemory.{paired, ring_in}
 use Rattle.own_bounded.specs.RingWords.{words_behind}
@@ -55,7 +55,7 @@ homes_at (suc n) (suc k) a lt = homes_at n k a (omega arith)
 
 module _ {T : Type 0} where
   Opened-holds : (n cap : ℕ) (stamps : List ℕ) (xs : List (Option T)) → 0 < cap → length xs ≡ cap → ((k : ℕ) → k < cap → get_or xs k None ≡ None) → Opened n cap cap stamps
-      → Holds cap n n (paired stamps xs)
+      → HoldsItems cap n n (paired stamps xs)
   Opened-holds n cap stamps xs wide long empty o =
       record {
         some = wide;

@@ -18,7 +18,7 @@ abbrev pub free_slot : {T : Type 0} → ℕ → RingSlot T
 free_slot p = record { stamp = stamp_free p; item = None }
 
 -- of n slots, those of the positions from h on, before t, hold items and are stamped so; the others of the lap are free
-pub record Holds {T : Type 0} (n h t : ℕ) (slots : List (RingSlot T)) : Type 0 where
+pub record HoldsItems {T : Type 0} (n h t : ℕ) (slots : List (RingSlot T)) : Type 0 where
   pub some : 0 < n
   pub slotted : length slots ≡ n
   pub order : h ≤ t
@@ -39,7 +39,7 @@ items_of n slots p (suc k) = put_in (at_position n slots p).item (items_of n slo
 pub record IsIdle {T : Type 0} (r : RingState T) : Type 0 where
   pub ring : IsRing r.cap
   pub below : position_of r.tail ≤ LIMIT
-  pub holds : Holds r.cap r.head (position_of r.tail) r.slots
+  pub holds : HoldsItems r.cap r.head (position_of r.tail) r.slots
 
 -- the items from the head's position to the tail's. As many items were accepted as the tail's position says
 abbrev pub ring_queue : {T : Type 0} → RingState T → State T

@@ -8,16 +8,16 @@ use Rattle.queue_steps.specs.declared.model.Reply.{Reply}
 use Rattle.queue_steps.specs.declared.model.Reply.TheVariants as reply
 use Rattle.queue_steps.specs.declared.errors.PushError.TheVariants as push
 use Rattle.queue_steps.specs.declared.errors.ForcePushError.TheVariants as force
-use Rattle.queue_steps.specs.Kinds.{call_kind, answered, filled}
+use Rattle.queue_steps.specs.Kinds.{call_kind, call_of_reply, filled}
 use Rattle.queue_steps.specs.Sequential.{Owned, Sequential, is_spent}
 use Rattle.call_driver.specs.Apart.{AnswersApart}
 
 -- a reply that is filled, if it is, answers the call that its kind answers
 abbrev Keeps : {T : Type 0} → Option (Reply T) → Call Unit → Type 0
 Keeps None k = Unit
-Keeps (Some x) k = answered x ≡ k
+Keeps (Some x) k = call_of_reply x ≡ k
 
-filled-keeps : {T : Type 0} (r : Reply Unit) (y : Option T) → Keeps (filled r y) (answered r)
+filled-keeps : {T : Type 0} (r : Reply Unit) (y : Option T) → Keeps (filled r y) (call_of_reply r)
 filled-keeps (reply.Push (Ok u)) None = refl
 filled-keeps (reply.Push (Ok u)) (Some v) = tt
 filled-keeps (reply.Push (Err (push.Full u))) None = tt
@@ -41,24 +41,24 @@ filled-keeps (reply.Pop (Err e)) (Some v) = tt
 filled-keeps r None = refl
 filled-keeps r (Some v) = tt
 
-picks : {T : Type 0} (k : Call Unit) (a b d : Bool) (o p q r : Reply T × State T) → answered o.0 ≡ k → answered p.0 ≡ k → answered q.0 ≡ k → answered r.0 ≡ k
-    → answered (if a then o else (if b then p else (if d then q else r))).0 ≡ k
+picks : {T : Type 0} (k : Call Unit) (a b d : Bool) (o p q r : Reply T × State T) → call_of_reply o.0 ≡ k → call_of_reply p.0 ≡ k → call_of_reply q.0 ≡ k → call_of_reply r.0 ≡ k
+    → call_of_reply (if a then o else (if b then p else (if d then q else r))).0 ≡ k
 picks k true b d o p q r is_o is_p is_q is_r = is_o
 picks k false true d o p q r is_o is_p is_q is_r = is_p
 picks k false false true o p q r is_o is_p is_q is_r = is_q
 picks k false false false o p q r is_o is_p is_q is_r = is_r
 
 -- what a call is answered by the table of one owner is an answer to it
-sequential-answered : {T : Type 0} (P R : Owned T) (c : Call T) (x : Reply T) → Sequential P c x R → answered x ≡ call_kind c
-sequential-answered P R (call.Push v) x (inl s) = ap answered s.0 ∙ picks (call.Push tt) P.queue.closed (is_spent P.queue) (is_full P.queue) _ _ _ _ refl refl refl refl
-sequential-answered P R (call.ForcePush v) x (inl s) = ap answered s.0 ∙ picks (call.ForcePush tt) P.queue.closed (is_spent P.queue) (is_full P.queue) _ _ _ _ refl refl refl refl
-sequential-answered P R c x (inl s) = ap answered s.0
+sequential-answered : {T : Type 0} (P R : Owned T) (c : Call T) (x : Reply T) → Sequential P c x R → call_of_reply x ≡ call_kind c
+sequential-answered P R (call.Push v) x (inl s) = ap call_of_reply s.0 ∙ picks (call.Push tt) P.queue.closed (is_spent P.queue) (is_full P.queue) _ _ _ _ refl refl refl refl
+sequential-answered P R (call.ForcePush v) x (inl s) = ap call_of_reply s.0 ∙ picks (call.ForcePush tt) P.queue.closed (is_spent P.queue) (is_full P.queue) _ _ _ _ refl refl refl refl
+sequential-answered P R c x (inl s) = ap call_of_reply s.0
 sequential-answered P R (call.Push v) (reply.Push x) (inr s) = refl
 sequential-answered P R (call.ForcePush v) (reply.ForcePush x) (inr s) = refl
 sequential-answered P R c x (inr s) = absurd s.0
 
 -- the kind of the reply tells the call
-pub apart-answered : {T : Type 0} (P R : Owned T) (c : Call T) (r : Reply Unit) (y : Option T) → AnswersApart P c r y R → answered r ≡ call_kind c
+pub apart-answered : {T : Type 0} (P R : Owned T) (c : Call T) (r : Reply Unit) (y : Option T) → AnswersApart P c r y R → call_of_reply r ≡ call_kind c
 apart-answered P R c r y told =
-    let kept : answered told.0 ≡ answered r = subst (λ it. Keeps it (answered r)) told.1 (filled-keeps r y) in
+    let kept : call_of_reply told.0 ≡ call_of_reply r = subst (λ it. Keeps it (call_of_reply r)) told.1 (filled-keeps r y) in
     sym kept ∙ sequential-answered P R c told.0 told.2

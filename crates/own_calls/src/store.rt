@@ -7,14 +7,14 @@ ghost use Rattle.queue_steps.specs.Sequential.{Sequential};
 ghost use Rattle.queue_steps.specs.declared.model.Call.TheVariants as call;
 ghost use Rattle.queue_steps.specs.declared.model.Reply.TheVariants as reply;
 
-use crate::fills::{Closes, Displaces, Fills, Pops, Pushes};
+use crate::fill_reply::{Closes, Displaces, FillReply, Pops, Pushes};
 use crate::sealed::Sealed;
 use queue_steps::errors::{ForcePushError, PopError, PushError};
 use queue_steps::model::{Call, Reply};
 
 /// Runs a call to its end, and puts its reply together.
 #[inline(always)]
-fn reply_to<T, S: Sealed<T>, W: Fills>(store: &mut S, call: Call<T>) -> Reply<T>
+fn reply_to<T, S: Sealed<T>, W: FillReply>(store: &mut S, call: Call<T>) -> Reply<T>
     requires idle { S.idle store.old }
     requires its { call_kind call ≡ W.call }
     ensures idle { S.idle store.new }

@@ -10,7 +10,7 @@ use Rattle.queue_steps.specs.Words.{position_of, is_shut}
 use Rattle.queue_steps.specs.ChainWords.{offset_of, items_before}
 use Rattle.own_unbounded.specs.declared.unbounded.Name.{Name}
 use Rattle.own_unbounded.specs.OwnChainCells.{Piece, OwnChain, Named, piece_at, piece_of, state_in, item_in, IsEmptied}
-use Rattle.own_unbounded.specs.OwnChainOwned.{taken, accepted, cell_of, items_from, own_chain_queue, own_chain_owned, Holds, Linked, IsBare, IsLaid, IsIdle}
+use Rattle.own_unbounded.specs.OwnChainOwned.{taken, accepted, cell_of, items_from, own_chain_queue, own_chain_owned, HoldsItems, Linked, IsBare, IsLaid, IsIdle}
 use Rattle.own_bounded.specs.Laws.Numbers.{same_or_not}
 use Rattle.own_unbounded.specs.Laws.OwnChainChains.{IsEmptied-all}
 use Rattle.own_unbounded.specs.Laws.OwnChainSequential.{length-items}
@@ -99,7 +99,7 @@ module _ {T : Type 0} where
       let Cell : ℕ → ℕ × Option T = λ i. (state_in (piece_at (begun_piece b states ∷ []) i) (m % BLOCK_SLOTS), item_in (piece_at (begun_piece b states ∷ []) i) (m % BLOCK_SLOTS)) in
       ap Cell first ∙ ap (λ o. (get_or states (m % BLOCK_SLOTS) 0, o)) empty ∙ ap (λ s. (s, None)) is
 
-  begun-holds : (b : Name T) (states : List ℕ) (n : ℕ) → HasRead states (n % BLOCK_SLOTS) → Holds (begun_piece b states ∷ []) (n / BLOCK_SLOTS) n n
+  begun-holds : (b : Name T) (states : List ℕ) (n : ℕ) → HasRead states (n % BLOCK_SLOTS) → HoldsItems (begun_piece b states ∷ []) (n / BLOCK_SLOTS) n n
   begun-holds b states n h = record {
     read = λ m from before. begun-cell b states n m (bit_or WRITE READ) (omega arith) (h.read (m % BLOCK_SLOTS) (omega arith));
     written = λ m from before. absurd (omega arith);
@@ -146,7 +146,7 @@ module _ {T : Type 0} where
       back zero last = refl
       back (suc i) last = absurd (omega arith)
 
-      laid : Linked 0 (begun_piece b states ∷ []) → Holds (begun_piece b states ∷ []) (n / BLOCK_SLOTS) n n → IsLaid 0 (begun_piece b states ∷ []) (Some b) (Some b) n n
+      laid : Linked 0 (begun_piece b states ∷ []) → HoldsItems (begun_piece b states ∷ []) (n / BLOCK_SLOTS) n n → IsLaid 0 (begun_piece b states ∷ []) (Some b) (Some b) n n
       laid linked holds = record { count = omega arith; linked = linked; front = refl; back = back; holds = holds }
 
   pub begun-owned : (b : Name T) (states : List ℕ) (n : ℕ) → own_chain_owned (begun b states n) ≡ record { queue = start None n; blocks = 1 }

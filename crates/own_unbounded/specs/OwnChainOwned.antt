@@ -34,7 +34,7 @@ abbrev pub own_chain_owned : {T : Type 0} → OwnChain T → Owned T
 own_chain_owned r = record { queue = own_chain_queue r; blocks = length r.pieces }
 
 -- the slots of the items before h are read, those from h on before t hold items, and the others are free
-pub record Holds {T : Type 0} (pieces : List (Piece T)) (base h t : ℕ) : Type 0 where
+pub record HoldsItems {T : Type 0} (pieces : List (Piece T)) (base h t : ℕ) : Type 0 where
   pub read : (n : ℕ) → base * BLOCK_SLOTS ≤ n → n < h → cell_of pieces base n ≡ (bit_or WRITE READ, None)
   pub written : (n : ℕ) → h ≤ n → n < t → (v : T) × (cell_of pieces base n ≡ (WRITE, Some v))
   pub free : (n : ℕ) → t ≤ n → n < (base + length pieces) * BLOCK_SLOTS → cell_of pieces base n ≡ (0, None)
@@ -61,7 +61,7 @@ pub record IsLaid {T : Type 0} (first : ℕ) (pieces : List (Piece T)) (head_blo
   pub linked : Linked first pieces
   pub front : head_block ≡ Some (piece_at pieces 0).name
   pub back : (i : ℕ) → i + 1 ≡ length pieces → tail_block ≡ Some (piece_at pieces i).name
-  pub holds : Holds pieces (h / BLOCK_SLOTS) h t
+  pub holds : HoldsItems pieces (h / BLOCK_SLOTS) h t
 
 -- no call is on its way: neither position stands behind a block's last slot, and the head's bit is set only where the front's block is not the last
 pub record IsIdle {T : Type 0} (r : OwnChain T) : Type 0 where

@@ -87,6 +87,6 @@ finish_end (finished.Shared e) = Some e
 finish_end (finished.Busy e) = Some e
 
 -- the queue is ended by its only party, and where the number of items goes, what was `was` becomes `is`
-abbrev pub Ends : Option End → ℕ → ℕ → ℕ → Option End → Type 0
-Ends None n was is after = (n ≡ NO_PARTY) × (is ≡ was) × (after ≡ None)
-Ends (Some e) n was is after = (r : Finished) × FinishesEnd e r × (n ≡ finish_number r) × (is ≡ finish_value r was) × (after ≡ finish_end r)
+abbrev pub FinishesQueue : Option End → ℕ → ℕ → ℕ → Option End → Type 0
+FinishesQueue None n was is after = (n ≡ NO_PARTY) × (is ≡ was) × (after ≡ None)
+FinishesQueue (Some e) n was is after = (r : Finished) × FinishesEnd e r × (n ≡ finish_number r) × (is ≡ finish_value r was) × (after ≡ finish_end r)

@@ -3,7 +3,7 @@ ghost use Rattle.std.specs.Prelude.{◌≡◌, ◌<◌, Some, None, Ok, Err, Mat
 ghost use Rattle.queue_steps.specs.declared.model.Call.TheVariants as call;
 ghost use Rattle.queue_c.specs.declared.answers.TheConstants.{NO_ROOM};
 ghost use Rattle.queue_c.specs.Ends.{IsRoom, SplitsEnd};
-ghost use Rattle.queue_c.specs.Handles.{Opens, Makes, TakesUp, Asks, Gets, GetsLate, refusal_number, Splits, Shows, Ends};
+ghost use Rattle.queue_c.specs.Handles.{Opens, Makes, TakesUp, Asks, Gets, GetsLate, refusal_number, Splits, Shows, FinishesQueue};
 
 use crate::answers::{
     Answer, BUSY, DONE, LOST, NO_MEMORY, NO_PARTY, NO_ROOM, SHARED, TAKEN, TOO_MANY, YES,
@@ -241,7 +241,7 @@ pub extern "C" fn queue_c_capacity(alloc: Global, party: &mut Handle, cap: &mut 
 /// Ends the queue by its only party, and writes how many items were left.
 #[unsafe(no_mangle)]
 pub extern "C" fn queue_c_finish(alloc: Global, party: &mut Handle, left: &mut u64) -> u32
-    ensures { Ends party.old.end result left.old left.new party.new.end }
+    ensures { FinishesQueue party.old.end result left.old left.new party.new.end }
 {
     let Some((room, end)) = party.take(alloc) else {
         return NO_PARTY;

@@ -7,7 +7,7 @@ use Rattle.queue_steps.specs.Shares.{Share, SamePart}
 use Rattle.queue_steps.specs.Parties.{IsView}
 use Rattle.queue_steps.proofs.ShareLaws.{halves_joined}
 use Rattle.shared_parties.proofs.Histories.{prefix_trans}
-use Rattle.concurrent_queue.specs.Shared.{QueueId, Person, IsPartyOf, Parts, Joins}
+use Rattle.concurrent_queue.specs.Shared.{QueueId, PartyView, IsPartyOf, Parts, Joins}
 use Rattle.law_parties.specs.Doings.{done_by}
 use Rattle.law_parties.proofs.Doings.{unchanged, did_both}
 use Rattle.queue_crew.specs.Work.{Piece, IsPartOf, IsParted, IsKept, HasWorked}
@@ -17,7 +17,7 @@ use Rattle.queue_crew.specs.declared.refusal.OnRefusal.TheVariants as refusal
 
 module _ {T : Type 0} where
   -- of the two that a party is parted into the first goes on with what it had done
-  parted_first : (v a b : Person T) → IsView v.queue.cap v.view → Parts v a b → IsParted v a
+  parted_first : (v a b : PartyView T) → IsView v.queue.cap v.view → Parts v a b → IsParted v a
   parted_first v a b is parts = record {
     queue = parts.0;
     begins = parts.2.begins;
@@ -25,7 +25,7 @@ module _ {T : Type 0} where
     did = λ test. unchanged v.queue.cap v.view a.view is parts.2.begins parts.2.mine.0 test ∙ sym (add-zero (done_by test v.view));
   }
 
-  parted_on : (u v w : Person T) → IsParted u v → IsParted v w → IsParted u w
+  parted_on : (u v w : PartyView T) → IsParted u v → IsParted v w → IsParted u w
   parted_on u v w a b = record {
     queue = b.queue ∙ a.queue;
     begins = prefix_trans u.view.seen v.view.seen w.view.seen a.begins b.begins;
@@ -33,14 +33,14 @@ module _ {T : Type 0} where
     did = λ test. let one = a.did test in let two = b.did test in omega (arith, one, two);
   }
 
-  kept_on : (on_refusal : OnRefusal) (all_started : Bool) (u v w : Person T) → IsParted u v → IsKept on_refusal all_started v w → IsKept on_refusal all_started u w
+  kept_on : (on_refusal : OnRefusal) (all_started : Bool) (u v w : PartyView T) → IsParted u v → IsKept on_refusal all_started v w → IsKept on_refusal all_started u w
   kept_on refusal.CloseQueue false u v w a (m, b, closed) = (m, parted_on u v m a b, closed)
   kept_on refusal.CloseQueue true u v w a b = parted_on u v w a b
   kept_on refusal.GoOn started u v w a b = parted_on u v w a b
 
 module _ {T Post : Type 0} where
   -- before any thread
-  pub came_none : (reports : ℕ → Person T → Post → Type 0) (q : QueueId) (on_refusal : OnRefusal) (all_started : Bool) (n : ℕ) (v kept : Person T) (posts : List Post)
+  pub came_none : (reports : ℕ → PartyView T → Post → Type 0) (q : QueueId) (on_refusal : OnRefusal) (all_started : Bool) (n : ℕ) (v kept : PartyView T) (posts : List Post)
       → IsPartyOf kept q → SamePart kept.view.share v.view.share → IsKept on_refusal all_started v kept → posts ≡ [] → Came reports q on_refusal all_started n 0 v kept posts
   came_none reports q on_refusal all_started n v kept posts of share is_kept none = record {
     queue = of;
@@ -57,7 +57,7 @@ module _ {T Post : Type 0} where
   }
 
   -- a thread's party, which had done nothing, is joined, and what the thread brought is added
-  pub came_more : (reports : ℕ → Person T → Post → Type 0) (q : QueueId) (on_refusal : OnRefusal) (all_started : Bool) (n made : ℕ) (v a b all back new : Person T) (post : Post) (posts more : List Post)
+  pub came_more : (reports : ℕ → PartyView T → Post → Type 0) (q : QueueId) (on_refusal : OnRefusal) (all_started : Bool) (n made : ℕ) (v a b all back new : PartyView T) (post : Post) (posts more : List Post)
       → IsView v.queue.cap v.view → Parts v a b → Came reports q on_refusal all_started (n + 1) made a all posts
       → IsPartyOf back q → SamePart back.view.share b.view.share → reports n back post
       → IsView all.queue.cap all.view → IsView back.queue.cap back.view → Joins all back new → more ≡ posts ++ post ∷ [] → Came reports q on_refusal all_started n (made + 1) v new more
@@ -88,7 +88,7 @@ module _ {T Post : Type 0} where
       piece = record { party = back; post = post }
 
   -- all threads, with the posts in their order
-  pub has_worked : (reports : ℕ → Person T → Post → Type 0) (q : QueueId) (on_refusal : OnRefusal) (all_started : Bool) (made : ℕ) (v all : Person T) (posts turned : List Post)
+  pub has_worked : (reports : ℕ → PartyView T → Post → Type 0) (q : QueueId) (on_refusal : OnRefusal) (all_started : Bool) (made : ℕ) (v all : PartyView T) (posts turned : List Post)
       → Came reports q on_refusal all_started 0 made v all posts → turned ≡ reverse posts → HasWorked reports q on_refusal all_started v all turned
   has_worked reports q on_refusal all_started made v all posts turned came is = record {
     queue = came.queue;

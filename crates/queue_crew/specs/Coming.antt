@@ -3,16 +3,16 @@ use Rattle.std.specs.Prelude.{◌≡◌, ℕ, ◌+◌, Bool, List, length, map, 
 use Rattle.std.specs.List.{All}
 use Rattle.queue_steps.specs.declared.model.Effect.{Effect}
 use Rattle.queue_steps.specs.Shares.{SamePart}
-use Rattle.concurrent_queue.specs.Shared.{QueueId, Person, IsPartyOf}
+use Rattle.concurrent_queue.specs.Shared.{QueueId, PartyView, IsPartyOf}
 use Rattle.law_parties.specs.Doings.{done_by}
 use Rattle.queue_crew.specs.Work.{Piece, EachReports, IsPartOf, done_by_all, AreJoined, IsKept}
 use Rattle.queue_crew.specs.declared.refusal.OnRefusal.{OnRefusal}
 
 -- as `HasWorked`, of the threads from this number on, and the posts the last one first
-pub record Came {T Post : Type 0} (reports : ℕ → Person T → Post → Type 0) (q : QueueId) (on_refusal : OnRefusal) (all_started : Bool) (n made : ℕ) (v all : Person T) (posts : List Post) : Type 0 where
+pub record Came {T Post : Type 0} (reports : ℕ → PartyView T → Post → Type 0) (q : QueueId) (on_refusal : OnRefusal) (all_started : Bool) (n made : ℕ) (v all : PartyView T) (posts : List Post) : Type 0 where
   pub queue : IsPartyOf all q
   pub share : SamePart all.view.share v.view.share
-  pub kept : Person T
+  pub kept : PartyView T
   pub is_kept : IsKept on_refusal all_started v kept
   pub pieces : List (Piece T Post)
   pub made_are : length posts ≡ made

@@ -1,7 +1,7 @@
 //! The work that threads do on a shared queue, and what comes of it.
 ghost use Rattle.std.specs.Prelude.{◌≡◌, ◌<◌, ◌≤◌, ◌+◌, ℕ, [], length, IfOk, IfErr, MatchBool};
 ghost use Rattle.queue_steps.specs.Shares.{SamePart, IsEntire};
-ghost use Rattle.concurrent_queue.specs.Shared.{Person, IsPartyOf};
+ghost use Rattle.concurrent_queue.specs.Shared.{PartyView, IsPartyOf};
 ghost use Rattle.queue_crew.specs.Work.{HasWorked};
 
 use crate::crew::run;
@@ -19,7 +19,7 @@ pub trait Shift<T, A: Allocator>: Sync {
     type Post: Send + Drop;
 
     // What the post of the thread of this number reports of the thread's party. All that the party has done is this thread's work.
-    ghost reports: { Self → ℕ → Person T → Self.Post → Type 0 };
+    ghost reports: { Self → ℕ → PartyView T → Self.Post → Type 0 };
 
     /// Does the work of the thread of this number. The threads are numbered from 0 on.
     fn work<R: Wait>(

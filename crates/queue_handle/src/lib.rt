@@ -39,9 +39,9 @@ pub enum Unfinished<T, A: Allocator = Global> {
 }
 
 impl<T, A: Allocator> Model for Handle<T, A> {
-    ghost use Rattle.concurrent_queue.specs.Shared.{Person};
+    ghost use Rattle.concurrent_queue.specs.Shared.{PartyView};
 
-    ghost Value = { Person T };
+    ghost Value = { PartyView T };
 
     ghost view = { λ h. h.party };
 }

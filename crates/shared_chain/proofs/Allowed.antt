@@ -6,7 +6,7 @@ use denote.RawPtr.{Ptr, Testable}
 use Rattle.law_common.specs.Vocabulary.{Word, Link, Op, Answer}
 use Rattle.law_chain.specs.ChainCells.{Chain}
 use Rattle.law_chain.specs.ChainAnswers.{Answers, last_of}
-use Rattle.mem_blocks.specs.Web.{Block, State, Sitter, Lives, viewed, block, word_of, with_word, with_next, blocks_after, sitter_after, Goes, Allows, AllowsLink}
+use Rattle.mem_blocks.specs.Web.{Block, State, Sitter, Lives, viewed, block, word_of, with_word, with_next, blocks_after, sitter_after, KeepsRule, Allows, AllowsLink}
 use Rattle.mem_blocks.specs.declared.hub.TheConstants.{PARTIES}
 use Rattle.shared_parties.specs.declared.known.CallState.{CallState}
 use Rattle.shared_parties.specs.declared.known.InCall.{InCall}
@@ -86,7 +86,7 @@ module _ {A : Type 0} where
     pub lives : Lives s.blocks number (op_place te he c.op)
     pub leads : LeadsThere r.cells.chain s.blocks c.op number
     pub tested : Testable (block s.blocks number).next
-    pub goes : Goes (Rule te he) s (blocks_made c.op number s.blocks) id m (Follows c (answered r.cells.chain s.blocks c.op number))
+    pub goes : KeepsRule (Rule te he) s (blocks_made c.op number s.blocks) id m (Follows c (answered r.cells.chain s.blocks c.op number))
     pub unset : IsWordOp c.op → FindsUnset c.op (word_of s.blocks number (word_index (op_word c.op)))
 
   module _ (te he : Ptr) (id : ℕ) (m : Sitter A (CallState A)) (c : InCall A) where
@@ -117,10 +117,10 @@ module _ {A : Type 0} where
 
     -- an operation on a word makes this of its block
     word_goes : (s : State A (CallState A)) (r : Rule te he s) (d : Done te he id m c s r) → IsWordOp c.op
-        → Goes (Rule te he) s (with_word s.blocks d.number (word_index (op_word c.op)) (op_makes c.op (word_of s.blocks d.number (word_index (op_word c.op))))) id m (Follows c (answer_for c.op (word_of s.blocks d.number (word_index (op_word c.op)))))
+        → KeepsRule (Rule te he) s (with_word s.blocks d.number (word_index (op_word c.op)) (op_makes c.op (word_of s.blocks d.number (word_index (op_word c.op))))) id m (Follows c (answer_for c.op (word_of s.blocks d.number (word_index (op_word c.op)))))
     word_goes s r d word =
         let made = made_word r.cells.chain c.op d.number s.blocks word in
-        subst (λ (z : List (Block A) × Answer ℕ). Goes (Rule te he) s z.0 id m (Follows c z.1)) (λ i. (made.0 i, made.1 i)) d.goes
+        subst (λ (z : List (Block A) × Answer ℕ). KeepsRule (Rule te he) s z.0 id m (Follows c z.1)) (λ i. (made.0 i, made.1 i)) d.goes
 
     pub allows_word : Ready chain_calls m.view c → HoldsBy c.local c.op (touched_list c.touch c.carried c.lends) m → IsWordOp c.op
         → Allows (Rule te he) id m (op_place te he c.op) (word_index (op_word c.op)) (op_makes c.op) (λ n q. Follows c (answer_for c.op n) q)
@@ -136,14 +136,14 @@ module _ {A : Type 0} where
         let d = step_done ready holds (on_word c.op word) s r at in
         let n = word_of s.blocks d.number (word_index (op_word c.op)) in
         let sums = λ (small : n < 2 ^ 64). subst (λ (o : Op ℕ). op_makes o n ≡ (n + bits) % 2 ^ 64) (sym is) (subst (λ (o : Op ℕ). FindsUnset o n) is (d.unset word) once small) in
-        (d.number, d.lives, λ small. subst (λ x. Goes (Rule te he) s (with_word s.blocks d.number (word_index (op_word c.op)) x) id m (Follows c (answer_for c.op n))) (sums small) (word_goes s r d word))
+        (d.number, d.lives, λ small. subst (λ x. KeepsRule (Rule te he) s (with_word s.blocks d.number (word_index (op_word c.op)) x) id m (Follows c (answer_for c.op n))) (sums small) (word_goes s r d word))
 
     pub allows_link : Ready chain_calls m.view c → HoldsBy c.local c.op (touched_list c.touch c.carried c.lends) m → IsRead c.op → AllowsLink (Rule te he) id m (op_place te he c.op) (link_makes c.op) (λ q k. FollowsLink c q k)
     allows_link ready holds finds s r at =
         let d = step_done ready holds (on_found c.op finds) s r at in
         let x = found_name r.cells.chain c.op d.number in
         let found = answered_found r.cells.chain s.blocks c.op d.number finds d.leads in
-        let g = subst (λ (z : List (Block A) × Answer ℕ). Goes (Rule te he) s z.0 id m (Follows c z.1)) (λ i. (made_found c.op d.number s.blocks finds i, found.0 i)) d.goes in
+        let g = subst (λ (z : List (Block A) × Answer ℕ). KeepsRule (Rule te he) s z.0 id m (Follows c z.1)) (λ i. (made_found c.op d.number s.blocks finds i, found.0 i)) d.goes in
         (d.number, d.lives, (d.tested, (g.0, g.1, g.2, g.3, (x, found.1, g.4))))
 
     pub allows_store : (l : Link ℕ) (x : ℕ) → Ready chain_calls m.view c → HoldsBy c.local c.op (touched_list c.touch c.carried c.lends) m → c.op ≡ Op.StoreLink l x
@@ -151,4 +151,4 @@ module _ {A : Type 0} where
     allows_store l x ready holds is s r at =
         let on : OnBlocks c.op = subst OnBlocks (sym is) tt in
         let d = step_done ready holds on s r at in
-        (d.number, d.lives, (d.tested, subst (λ (o : Op ℕ). Goes (Rule te he) s (blocks_made o d.number s.blocks) id m (Follows c (answered r.cells.chain s.blocks o d.number))) is d.goes))
+        (d.number, d.lives, (d.tested, subst (λ (o : Op ℕ). KeepsRule (Rule te he) s (blocks_made o d.number s.blocks) id m (Follows c (answered r.cells.chain s.blocks o d.number))) is d.goes))

@@ -13,14 +13,14 @@ use Rattle.law_common.specs.Stand.{Stand}
 use Rattle.law_chain.specs.ChainCells.{Reading, Chain, queue_of}
 use Rattle.law_chain.specs.ChainAt.{At}
 use Rattle.law_chain.specs.ChainAnswers.{Answers}
-use Rattle.law_chain.proofs.ChainRight.{Ends, Right, step_right}
+use Rattle.law_chain.proofs.ChainRight.{NextOkSpares, Right, step_right}
 use Rattle.law_chain.specs.ChainAfter.{chain_of, carried_of, after_of}
 use Rattle.law_chain.proofs.ChainStep.{is_chain}
 use Rattle.mem_blocks.specs.Web.{Block, State, Sitter, word_of, viewed}
 use Rattle.mem_blocks.specs.declared.hub.TheConstants.{PARTIES}
 use Rattle.shared_parties.specs.declared.known.CallState.{CallState}
 use Rattle.shared_parties.specs.declared.known.InCall.{InCall}
-use Rattle.shared_parties.specs.Calling.{Standing, MayFront, Goes as GoesOn, handed_by, stand_of}
+use Rattle.shared_parties.specs.Calling.{Standing, MayFront, NextOk, handed_by, stand_of}
 use Rattle.shared_parties.specs.CallsAt.{CallsAt}
 use Rattle.shared_parties.proofs.Callings.{grown}
 use Rattle.shared_parties.proofs.CallSteps.{Stepping, call_step}
@@ -41,7 +41,7 @@ module _ {A : Type 0} where
   no_front c r e was leads = tt
 
   -- a call that goes on stands, one that ends has no part in the chain
-  goes_well : (g : OutChain A) (who : ℕ) (ms : List (Queue A)) (was : Bool) (n : Next ℕ) (v : Option A) (k : Call A) (es : List (Effect A)) → Ends g.chain who ms n v k es → SlotsFor g who n → GoesOn chain_calls g who ms was n v k es
+  goes_well : (g : OutChain A) (who : ℕ) (ms : List (Queue A)) (was : Bool) (n : Next ℕ) (v : Option A) (k : Call A) (es : List (Effect A)) → NextOkSpares g.chain who ms n v k es → SlotsFor g who n → NextOk chain_calls g who ms was n v k es
   goes_well g who ms was (Next.Step l t o) v k es ends slots = (ends.0, ends.1, slots)
   goes_well g who ms was (Next.Reply x spare) v k es ends slots = ((ends.0, ends.1), tt, ends.2)
 
@@ -94,8 +94,8 @@ module _ {A : Type 0} where
         v : Option A
         v = handed_by c.touch c.carried c.lends
 
-        goes : GoesOn chain_calls after id (queue_of after.chain ∷ st.ms) (st.was || not (queue_of after.chain).closed) todo v c.call (with_effect c.effects right.e)
-        goes = subst (λ (z : Option A). GoesOn chain_calls after id (queue_of after.chain ∷ st.ms) (st.was || not (queue_of after.chain).closed) todo z c.call (with_effect c.effects right.e)) (carried_is r.cells id c.lends here st.here.2 st.lent)
+        goes : NextOk chain_calls after id (queue_of after.chain ∷ st.ms) (st.was || not (queue_of after.chain).closed) todo v c.call (with_effect c.effects right.e)
+        goes = subst (λ (z : Option A). NextOk chain_calls after id (queue_of after.chain ∷ st.ms) (st.was || not (queue_of after.chain).closed) todo z c.call (with_effect c.effects right.e)) (carried_is r.cells id c.lends here st.here.2 st.lent)
             (goes_well after id (queue_of after.chain ∷ st.ms) (st.was || not (queue_of after.chain).closed) todo (carried_of here) c.call (with_effect c.effects right.e) right.ends f.slots)
 
         may : MayGoOn v f.lends todo

@@ -7,7 +7,7 @@ use Rattle.law_common.specs.Vocabulary.{Op, Answer}
 use Rattle.queue_steps.specs.State.{State as Queue}
 use Rattle.law_common.specs.Stand.{Stand}
 use Rattle.law_chain.specs.ChainAt.{At, asking}
-use Rattle.mem_blocks.specs.Web.{Block, State, Sitter, word_of, Goes, Allows}
+use Rattle.mem_blocks.specs.Web.{Block, State, Sitter, word_of, KeepsRule, Allows}
 use Rattle.mem_blocks.specs.declared.hub.TheConstants.{TAIL, PARTIES}
 use Rattle.shared_parties.specs.declared.known.CallState.{CallState}
 use Rattle.shared_parties.specs.declared.known.InCall.{InCall}
@@ -54,7 +54,7 @@ module _ {A : Type 0} (te he : Ptr) where
         let st = standing ready s r at in
         let g = granted r.cells id s.blocks m st.here.0 asks r.codes st.here.2 c.lends st.lent hand b i lies.1 spare in
         let w = follows te he s r id m.view c at st (Answer.Granted g.0) s.blocks m refl g.2 in
-        (0, r.codes.tail, λ small. subst (λ (bs : List (Block A)). Goes (Rule te he) s bs id m (λ q. FollowsGrant c (block_ptr b i) q)) (sym (word_same s.blocks 0 TAIL)) (w.0, [], tt, w.1, (g.0, g.1, w.2)))
+        (0, r.codes.tail, λ small. subst (λ (bs : List (Block A)). KeepsRule (Rule te he) s bs id m (λ q. FollowsGrant c (block_ptr b i) q)) (sym (word_same s.blocks 0 TAIL)) (w.0, [], tt, w.1, (g.0, g.1, w.2)))
     allows_grant null_ptr ready hand spare lies asks s r at = absurd lies.0
 
     pub allows_refusal : Ready chain_calls m.view c → m.hand ≡ None → m.spare ≡ None → c.op ≡ Op.Ask → Allows (Rule te he) id m te TAIL (λ n. n) (λ n q. Follows c Answer.Refused q)
@@ -62,4 +62,4 @@ module _ {A : Type 0} (te he : Ptr) where
         let st = standing ready s r at in
         let f = refused r.cells id s.blocks m st.here.0 asks r.codes c.lends st.lent hand spare in
         let w = follows te he s r id m.view c at st Answer.Refused s.blocks m refl f in
-        (0, r.codes.tail, λ small. subst (λ (bs : List (Block A)). Goes (Rule te he) s bs id m (λ q. Follows c Answer.Refused q)) (sym (word_same s.blocks 0 TAIL)) (w.0, [], tt, w.1, w.2))
+        (0, r.codes.tail, λ small. subst (λ (bs : List (Block A)). KeepsRule (Rule te he) s bs id m (λ q. Follows c Answer.Refused q)) (sym (word_same s.blocks 0 TAIL)) (w.0, [], tt, w.1, w.2))

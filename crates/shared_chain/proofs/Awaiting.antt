@@ -9,7 +9,7 @@ use Rattle.queue_steps.specs.State.{State}
 use Rattle.queue_steps.specs.ChainWords.{offset_of}
 use Rattle.queue_steps.specs.UnboundedNext.{at, walks, awaits, is_last_slot, written_found}
 use Rattle.queue_steps.specs.declared.steps.unbounded.UnboundedLocal.TheVariants as chain
-use Rattle.law_chain.specs.ChainCells.{Writer, Wrote, Reading, Done, GivenUp, ChainOk, Write, Read, Holds, value, reader_of, item_at}
+use Rattle.law_chain.specs.ChainCells.{Writer, Wrote, Reading, Done, GivenUp, ChainOk, Write, Read, HoldsOnly, value, reader_of, item_at}
 use Rattle.law_chain.proofs.ChainReads.{own_item}
 use Rattle.law_chain.specs.ChainFacts.{head_of, Got}
 use Rattle.law_chain.specs.ChainAt.{Only, awaiting}
@@ -31,7 +31,7 @@ wrote_is : {A : Type 0} (w : Writer A) (x : A) → value w ≡ Some x → is_wro
 wrote_is (Wrote v) x e t = ap (λ y. Wrote y) (cc)
 wrote_is w x e t = cc
 
-module _ {A : Type 0} (g : OutChain A) (who n : ℕ) (holds : Holds g.chain who (Only (Read n))) where
+module _ {A : Type 0} (g : OutChain A) (who n : ℕ) (holds : HoldsOnly g.chain who (Only (Read n))) where
   -- no other item is the party's
   only : (k : ℕ) → g.chain.readers k ≡ Reading who → k ≡ n
   only k e = let z : Read k ≡ Read n = holds (Read k) (ap reader_of e) in cc
@@ -41,7 +41,7 @@ module _ {A : Type 0} (g : OutChain A) (who n : ℕ) (holds : Holds g.chain who 
   none not_yet k (inr e) = let z : true ≡ false = sym e.1 ∙ (ap g.out (only k e.0) ∙ not_yet) in cc
 
 -- V9: the slot's state is read, at the slot i of the block of the item n
-module _ {A : Type 0} (te he : Ptr) (g : OutChain A) (who : ℕ) (bs : List (Block A)) (m : Sitter A (CallState A)) (x : A) (n i name : ℕ) (more : Bool) (holds : Holds g.chain who (Only (Read n))) (got : Got g.chain who n x name)
+module _ {A : Type 0} (te he : Ptr) (g : OutChain A) (who : ℕ) (bs : List (Block A)) (m : Sitter A (CallState A)) (x : A) (n i name : ℕ) (more : Bool) (holds : HoldsOnly g.chain who (Only (Read n))) (got : Got g.chain who n x name)
     (offset : i ≡ n % BLOCK_SLOTS) (ok : ChainOk g.chain) (codes : Codes te he g bs) (not_yet : g.out n ≡ false) (free : (m.hand ≡ None) × (m.spare ≡ None)) where
   here_at : item_at (n / BLOCK_SLOTS) i ≡ n
   here_at = ap (λ j. item_at (n / BLOCK_SLOTS) j) offset ∙ own_item n
@@ -122,7 +122,7 @@ module _ {A : Type 0} (te he : Ptr) (g : OutChain A) (who : ℕ) (bs : List (Blo
 
 module _ {A : Type 0} (te he : Ptr) where
   module _ (g : OutChain A) (who : ℕ) (bs : List (Block A)) (m : Sitter A (CallState A)) (ms : List (State A)) where
-    pub step_awaiting : (x : A) (n name : ℕ) (more : Bool) (holds : Holds g.chain who (Only (Read n))) (got : Got g.chain who n x name)
+    pub step_awaiting : (x : A) (n name : ℕ) (more : Bool) (holds : HoldsOnly g.chain who (Only (Read n))) (got : Got g.chain who n x name)
         → ChainOk g.chain → Codes te he g bs → SlotsAs g who (Local.Unbounded (chain.Awaiting (head_of n more) name)) → (xs : List (ℕ × Option A)) → ChainLent g who xs
         → HoldsBy (Local.Unbounded (chain.Awaiting (head_of n more) name)) (Op.Load (Word.State name (offset_of (head_of n more)))) xs m → BlockStep te he g who bs m {ms = ms} (awaiting x n name more holds got)
     step_awaiting x n name more holds got ok codes slots xs lent has =

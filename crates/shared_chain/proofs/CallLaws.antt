@@ -9,7 +9,7 @@ use Rattle.law_common.proofs.Tails.{position_tail}
 use Rattle.law_common.specs.Stand.{Stand}
 use Rattle.law_chain.specs.ChainFacts.{place, open_tail_of}
 use Rattle.law_chain.proofs.ChainPlaces.{place_offset}
-use Rattle.law_chain.specs.ChainCells.{Wrote, Reader, Reading, Chain, Part, Write, Read, Holds, Nothing, writer_of, reader_of}
+use Rattle.law_chain.specs.ChainCells.{Wrote, Reader, Reading, Chain, Part, Write, Read, HoldsOnly, Nothing, writer_of, reader_of}
 use Rattle.law_chain.proofs.ChainFacts.{holds_stays}
 use Rattle.law_chain.proofs.ChainAnswers.{head_offset}
 use Rattle.law_chain.specs.ChainAt.{Only, At, push_tail, writing, reading, beginning}
@@ -78,12 +78,12 @@ module _ {T : Type 0} where
   no_front x h = h
 
   -- the one slot of a party that holds this writer's part, or this reader's, alone
-  pub of_writer : (g : OutChain T) (j n : ℕ) (xs : List (ℕ × Option T)) → Holds g.chain j (Only (Write n)) → writer_of (g.chain.writers n) ≡ Some j → ChainLent g j xs → xs ≡ (n % BLOCK_SLOTS, None) ∷ []
+  pub of_writer : (g : OutChain T) (j n : ℕ) (xs : List (ℕ × Option T)) → HoldsOnly g.chain j (Only (Write n)) → writer_of (g.chain.writers n) ≡ Some j → ChainLent g j xs → xs ≡ (n % BLOCK_SLOTS, None) ∷ []
   of_writer g j n xs holds mine (inl none) = absurd (none.1 n (inl mine))
   of_writer g j n xs holds mine (inr (m, y, inl h, is)) = let same : m ≡ n = ap part_item (holds (Write m) h.0) in is ∙ (λ i. (same i % BLOCK_SLOTS, h.1 i) ∷ [])
   of_writer g j n xs holds mine (inr (m, y, inr h, is)) = absurd (let e = holds (Read m) (ap reader_of h.0) in cc)
 
-  pub of_reader : (g : OutChain T) (j n : ℕ) (x : T) (xs : List (ℕ × Option T)) → Holds g.chain j (Only (Read n)) → g.chain.readers n ≡ Reading j → g.out n ≡ true → g.chain.writers n ≡ Wrote x → ChainLent g j xs
+  pub of_reader : (g : OutChain T) (j n : ℕ) (x : T) (xs : List (ℕ × Option T)) → HoldsOnly g.chain j (Only (Read n)) → g.chain.readers n ≡ Reading j → g.out n ≡ true → g.chain.writers n ≡ Wrote x → ChainLent g j xs
       → xs ≡ (n % BLOCK_SLOTS, Some x) ∷ []
   of_reader g j n x xs holds mine out wrote (inl none) = absurd (none.1 n (inr (mine, out)))
   of_reader g j n x xs holds mine out wrote (inr (m, y, inl h, is)) = absurd (let e = holds (Write m) h.0 in cc)

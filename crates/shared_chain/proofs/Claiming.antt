@@ -12,7 +12,7 @@ use Rattle.queue_steps.specs.declared.steps.unbounded.UnboundedLocal.TheVariants
 use Rattle.law_common.specs.Puts.{put}
 use Rattle.law_common.proofs.Puts.{put_ok, put_same, put_other}
 use Rattle.law_common.specs.Stand.{brings}
-use Rattle.law_chain.specs.ChainCells.{Free, Writing, Unread, Done, Mover, Rests, Laying, GivenUp, Chain, ChainOk, WalkOk, Read, Holds, Nothing, writer_of, reader_of, item_at, LAST}
+use Rattle.law_chain.specs.ChainCells.{Free, Writing, Unread, Done, Mover, Rests, Laying, GivenUp, Chain, ChainOk, WalkOk, Read, HoldsOnly, Nothing, writer_of, reader_of, item_at, LAST}
 use Rattle.law_chain.specs.ChainTransitions.{appended}
 use Rattle.law_chain.proofs.ChainTransitions.{item_free, next_free}
 use Rattle.law_chain.specs.ChainAfter.{if_claimed}
@@ -103,7 +103,7 @@ module _ {A : Type 0} (te he : Ptr) (g : OutChain A) (who : ℕ) (bs : List (Blo
             here = home_here ws (b + 2) i away (let n = length-set bs 0 (worded (block bs 0) TAIL x) in let size = codes.size in omega arith) ∙ ap (λ (y : Block A). homed y i away) (word_else bs 0 TAIL x (b + 2) (λ e. absurd (omega arith)))
 
   module _ (m : Sitter A (CallState A)) (ms : List (State A)) where
-    pub step_claiming : (d : PushKind) (v : A) (q name : ℕ) (spare : Option ℕ) (none : Holds g.chain who Nothing) (spare_is : HasSpare g.chain who spare) (saw : SawTail g.chain q ms) (found : TailBlockIs g.chain q name)
+    pub step_claiming : (d : PushKind) (v : A) (q name : ℕ) (spare : Option ℕ) (none : HoldsOnly g.chain who Nothing) (spare_is : HasSpare g.chain who spare) (saw : SawTail g.chain q ms) (found : TailBlockIs g.chain q name)
         (enough : IsLast q → IsSome spare)
         → ChainOk g.chain → Codes te he g bs → (xs : List (ℕ × Option A)) → ChainLent g who xs
         → HoldsBy (Local.Unbounded (chain.Claiming d (open_tail_of q) name spare)) (Op.Exchange Word.Tail (open_tail_of q) (open_tail_of q + TAIL_STEP)) xs m

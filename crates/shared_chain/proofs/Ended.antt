@@ -12,7 +12,7 @@ use Rattle.mem_blocks.specs.declared.block.BlockPtr.{BlockPtr}
 use Rattle.own_unbounded.specs.OwnChainCells.{Piece, piece_at, state_in, item_in}
 use Rattle.own_bounded.specs.RingOwned.{put_in}
 use Rattle.own_unbounded.specs.LinkedBlocks.{name_at, linked_name, content_of, contents, at_home, piece, pieces_of}
-use Rattle.own_unbounded.specs.OwnChainOwned.{cell_of, items_from, Holds, Linked}
+use Rattle.own_unbounded.specs.OwnChainOwned.{cell_of, items_from, HoldsItems, Linked}
 use Rattle.own_unbounded.specs.ChainMemory.{named_by, AreHeld}
 use Rattle.own_unbounded.proofs.Pieces.{length-pieces_of, at-pieces_of, length-contents}
 use Rattle.shared_chain.specs.Spots.{spot}
@@ -135,7 +135,7 @@ module _ {A : Type 0} (te he : Ptr) (g : OutChain A) (bs : List (Block A)) (ok :
       let h = rest.held n low lt in
       (h.1.0, cell_is n from to ∙ (λ k. (plain_state (h.1.1 k) (h.0 k), content_of (home_of (h.1.1 k) (h.0 k) (g.out n)))), h.1.2)
 
-  pub holds : c.tail < c.blocks * BLOCK_SLOTS → Holds pieces c.front c.head c.tail
+  pub holds : c.tail < c.blocks * BLOCK_SLOTS → HoldsItems pieces c.front c.head c.tail
   holds room = record {
     read = λ n from lt. let t = rest.taken n lt in let o = rest.order in cell_is n from (omega arith) ∙ (λ k. (plain_state (t.1.1 k) (t.0 k), content_of (home_of (t.1.1 k) (t.0 k) (g.out n))));
     written = λ n low lt. let h = held_is n low lt (let f = rest.front in omega arith) (omega arith) in (h.0, h.1);

@@ -16,7 +16,7 @@ use Rattle.mem_blocks.specs.declared.block.BlockPtr.{BlockPtr}
 use Rattle.mem_blocks.specs.declared.hub.TheConstants.{TAIL, HEAD}
 use Rattle.own_unbounded.specs.OwnChainCells.{Piece, OwnChain, piece_at}
 use Rattle.own_unbounded.specs.LinkedBlocks.{name_at, pieces_of}
-use Rattle.own_unbounded.specs.OwnChainOwned.{taken, accepted, items_from, own_chain_queue, Holds, IsBare, IsLaid, IsIdle}
+use Rattle.own_unbounded.specs.OwnChainOwned.{taken, accepted, items_from, own_chain_queue, HoldsItems, IsBare, IsLaid, IsIdle}
 use Rattle.own_unbounded.specs.ChainMemory.{named_by, own_chain_in}
 use Rattle.shared_chain.specs.Spots.{spot}
 use Rattle.shared_chain.specs.ChainCalls.{OutChain}
@@ -76,7 +76,7 @@ module _ {A : Type 0} (te he : Ptr) (g : OutChain A) (bs : List (Block A)) (ok :
       front = lead_named 0 front (c.names c.front) (subst (LeadsTo front) (codes.front_is ∙ ap (λ s. lead_of (shown_of s (c.names c.front))) (rest.seen (omega arith))) to_front)
           ∙ (let first : c.front ≡ c.front + 0 = omega arith in ap (λ b. Some (name_at 0 (spot (c.names b)))) first ∙ sym (named 0 (let l = long te he g bs ok codes rest in let f = rest.front in let o = rest.order in omega arith)));
       back = back_is;
-      holds = subst (λ b. Holds ps b c.head c.tail) rest.front (holds te he g bs ok codes rest (omega arith));
+      holds = subst (λ b. HoldsItems ps b c.head c.tail) rest.front (holds te he g bs ok codes rest (omega arith));
     }
       where
         named : (i : ℕ) → i < length xs → Some (piece_at ps i).name ≡ Some (name_at i (spot (c.names (c.front + i))))

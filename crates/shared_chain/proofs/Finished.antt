@@ -16,7 +16,7 @@ use Rattle.own_unbounded.specs.ChainMemory.{own_chain_in, AreHeld}
 use Rattle.shared_parties.specs.declared.known.CallState.{CallState}
 use Rattle.shared_parties.specs.Known.{view_of}
 use Rattle.shared_parties.specs.CallStates.{IsLoneSeat}
-use Rattle.shared_parties.proofs.Endings.{Ends, calls_end}
+use Rattle.shared_parties.proofs.Endings.{OnlyParty, calls_end}
 use Rattle.shared_chain.specs.ChainCalls.{OutChain, chain_calls}
 use Rattle.shared_chain.specs.Ending.{LeadsTo, IntoBlock, gone_first}
 use Rattle.shared_chain.specs.Rule.{IsThere, Codes, Rule}
@@ -83,7 +83,7 @@ module _ {A : Type 0} (te he : Ptr) (id : ℕ) (d : CallState A) (bs : List (Blo
   abbrev codes : Codes te he rule.cells bs
   codes = rule.codes
 
-  ends : Ends chain_calls rule.cells rule.history last.0 id d
+  ends : OnlyParty chain_calls rule.cells rule.history last.0 id d
   ends = calls_end chain_calls rule.cells rule.history (word_of bs 0 PARTIES) last.0 id d rule.all last.2 is
 
   rest : AtRest rule.cells.chain

@@ -7,7 +7,7 @@ use Rattle.queue_steps.specs.ChainWords.{offset_of}
 use Rattle.queue_steps.specs.State.{State}
 use Rattle.queue_steps.specs.UnboundedNext.{unbounded_next, tail_block_found, asks, claims, head_block_found, followed}
 use Rattle.law_common.specs.Stand.{stand}
-use Rattle.law_chain.specs.ChainCells.{Reading, Done, Passing, GivenUp, Chain, item_at, ChainOk, Read, Head, Holds, Nothing}
+use Rattle.law_chain.specs.ChainCells.{Reading, Done, Passing, GivenUp, Chain, item_at, ChainOk, Read, Head, HoldsOnly, Nothing}
 use Rattle.law_chain.specs.ChainFacts.{head_of, open_tail_of, HeadIs, IsMore, IsNamed, HasSpare, SawTail, Got}
 use Rattle.law_chain.specs.ChainAt.{Either, At, IsBehind, push_block, pop_block, following, peeking}
 use Rattle.law_chain.specs.ChainAnswers.{Answers, last_of, shown_of, linked_of}
@@ -36,7 +36,7 @@ module _ (tail_end head_end : Ptr) {A : Type 0} where
 
   module _ (g : OutChain A) (who : ℕ) (bs : List (Block A)) (m : Sitter A (CallState A)) (ms : List (State A)) where
     -- the load of the link to the pushers' block
-    pub step_push_block : (d : PushKind) (v : A) (spare : Option ℕ) (q : ℕ) (none : Holds g.chain who Nothing) (has : HasSpare g.chain who spare) (saw : SawTail g.chain q ms)
+    pub step_push_block : (d : PushKind) (v : A) (spare : Option ℕ) (q : ℕ) (none : HoldsOnly g.chain who Nothing) (has : HasSpare g.chain who spare) (saw : SawTail g.chain q ms)
         → Codes tail_end head_end g bs → SlotsAs g who (Local.Unbounded (chain.PushBlock d (open_tail_of q) spare)) → (xs : List (ℕ × Option A)) → ChainLent g who xs
         → HoldsBy (Local.Unbounded (chain.PushBlock d (open_tail_of q) spare)) (Op.LoadLink Link.TailBlock) xs m → BlockStep tail_end head_end g who bs m {ms = ms} (push_block d v spare q none has saw)
     step_push_block d v spare q none has saw codes slots xs lent holds =
@@ -65,7 +65,7 @@ module _ (tail_end head_end : Ptr) {A : Type 0} where
         go (suc b) e = found_block b spare refl
 
     -- the load of the link to the poppers' block
-    pub step_pop_block : (n : ℕ) (more : Bool) (none : Holds g.chain who Nothing) (is : HeadIs g.chain n) (room : IsMore g.chain n more)
+    pub step_pop_block : (n : ℕ) (more : Bool) (none : HoldsOnly g.chain who Nothing) (is : HeadIs g.chain n) (room : IsMore g.chain n more)
         → Codes tail_end head_end g bs → SlotsAs g who (Local.Unbounded (chain.PopBlock (head_of n more))) → (xs : List (ℕ × Option A)) → ChainLent g who xs
         → HoldsBy (Local.Unbounded (chain.PopBlock (head_of n more))) (Op.LoadLink Link.HeadBlock) xs m → BlockStep tail_end head_end g who bs m {ms = ms} (pop_block n more none is room)
     step_pop_block n more none is room codes slots xs lent holds =
@@ -93,7 +93,7 @@ module _ (tail_end head_end : Ptr) {A : Type 0} where
 
   module _ (g : OutChain A) (who : ℕ) (bs : List (Block A)) (m : Sitter A (CallState A)) (ms : List (State A)) where
     -- the load of the link behind the popper's block
-    pub step_following : (x : A) (n name : ℕ) (more : Bool) (parts : Holds g.chain who (Either (Read n) Head)) (got : Got g.chain who n x name)
+    pub step_following : (x : A) (n name : ℕ) (more : Bool) (parts : HoldsOnly g.chain who (Either (Read n) Head)) (got : Got g.chain who n x name)
         (moves : (g.chain.passer ≡ Passing who) × (g.chain.head ≡ n + 1))
         → ChainOk g.chain → Codes tail_end head_end g bs → SlotsAs g who (Local.Unbounded (chain.Following (head_of n more) name)) → (xs : List (ℕ × Option A)) → ChainLent g who xs
         → HoldsBy (Local.Unbounded (chain.Following (head_of n more) name)) (Op.LoadLink (Link.Next name)) xs m → BlockStep tail_end head_end g who bs m {ms = ms} (following x n name more parts got moves)
@@ -107,7 +107,7 @@ module _ (tail_end head_end : Ptr) {A : Type 0} where
         go (Some after) = goes_on tail_end head_end g who bs m (Local.Unbounded (chain.Peeking (head_of n more) name after)) Touch.Nothing (Op.LoadLink (Link.Next after)) xs codes slots lent holds
 
     -- the load of the link behind the next one
-    pub step_peeking : (x : A) (n name after : ℕ) (more : Bool) (parts : Holds g.chain who (Either (Read n) Head)) (got : Got g.chain who n x name)
+    pub step_peeking : (x : A) (n name after : ℕ) (more : Bool) (parts : HoldsOnly g.chain who (Either (Read n) Head)) (got : Got g.chain who n x name)
         (moves : (g.chain.passer ≡ Passing who) × (g.chain.head ≡ n + 1)) (behind : IsBehind g.chain n after)
         → ChainOk g.chain → Codes tail_end head_end g bs → SlotsAs g who (Local.Unbounded (chain.Peeking (head_of n more) name after)) → (xs : List (ℕ × Option A)) → ChainLent g who xs
         → HoldsBy (Local.Unbounded (chain.Peeking (head_of n more) name after)) (Op.LoadLink (Link.Next after)) xs m → BlockStep tail_end head_end g who bs m {ms = ms} (peeking x n name after more parts got moves behind)

@@ -5,7 +5,7 @@ use Rattle.law_common.specs.Vocabulary.{Word, Op, Touch, Answer, Local, PushKind
 use Rattle.queue_steps.specs.declared.steps.unbounded.UnboundedLocal.TheVariants as chain
 use Rattle.queue_steps.specs.UnboundedNext.{unbounded_next, granted}
 use Rattle.law_common.proofs.Puts.{put_ok, put_other}
-use Rattle.law_chain.specs.ChainCells.{Spare, Holds, Nothing}
+use Rattle.law_chain.specs.ChainCells.{Spare, HoldsOnly, Nothing}
 use Rattle.law_chain.specs.ChainTransitions.{renamed}
 use Rattle.law_chain.specs.ChainFacts.{open_tail_of}
 use Rattle.law_chain.specs.ChainAnswers.{Answers}
@@ -56,7 +56,7 @@ module _ (tail_end head_end : Ptr) {A : Type 0} where
       (h.0, h.2, given.0, given.1)
 
   -- the block was refused
-  pub refused_codes : (g : OutChain A) (who : ℕ) (bs : List (Block A)) (m : Sitter A (CallState A)) (d : PushKind) (q : ℕ) (lead : Option ℕ) → Holds g.chain who Nothing → Codes tail_end head_end g bs
+  pub refused_codes : (g : OutChain A) (who : ℕ) (bs : List (Block A)) (m : Sitter A (CallState A)) (d : PushKind) (q : ℕ) (lead : Option ℕ) → HoldsOnly g.chain who Nothing → Codes tail_end head_end g bs
       → (xs : List (ℕ × Option A)) → ChainLent g who xs → HoldsBy (Local.Unbounded (chain.Asking d (open_tail_of q) lead)) Op.Ask xs m
       → Answers g.chain Op.Ask Answer.Refused
       × Leaves tail_end head_end (record { chain = if_granted g.chain who Answer.Refused; out = g.out }) who bs m (unbounded_next (chain.Asking d (open_tail_of q) lead) Answer.Refused)

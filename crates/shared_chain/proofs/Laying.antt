@@ -12,7 +12,7 @@ use Rattle.queue_steps.specs.State.{State}
 use Rattle.queue_steps.specs.UnboundedNext.{unbounded_next}
 use Rattle.law_common.specs.Puts.{put}
 use Rattle.law_common.proofs.Puts.{put_ok, put_same, put_other}
-use Rattle.law_chain.specs.ChainCells.{Free, Unread, Done, Mover, Laying, Opening, Passer, LinkState, Linking, Linked, Shown, Showing, Seen, Walk, Before, GivenUp, Unused, Spare, Chained, Chain, BlocksOk, LinkOk, ShownOk, WalkOk, item_at, LAST, ChainOk, Write, Tail, Holds, Nothing}
+use Rattle.law_chain.specs.ChainCells.{Free, Unread, Done, Mover, Laying, Opening, Passer, LinkState, Linking, Linked, Shown, Showing, Seen, Walk, Before, GivenUp, Unused, Spare, Chained, Chain, BlocksOk, LinkOk, ShownOk, WalkOk, item_at, LAST, ChainOk, Write, Tail, HoldsOnly, Nothing}
 use Rattle.law_chain.specs.ChainTransitions as moves
 use Rattle.law_chain.proofs.ChainTransitions.{item_free, no_block, no_front}
 use Rattle.law_chain.specs.ChainFacts.{open_tail_of, SawTail, Claimed}
@@ -144,7 +144,7 @@ module _ {A : Type 0} where
 
     module _ (g : OutChain A) (who : ℕ) (bs : List (Block A)) (m : Sitter A (CallState A)) (ms : List (State A)) where
       -- the install of the first block: where another was there before, this one is kept
-      pub step_installing : (d : PushKind) (v : A) (f : ℕ) (none : Holds g.chain who Nothing) (saw : SawTail g.chain 0 ms) (mine : g.chain.uses f ≡ Spare who)
+      pub step_installing : (d : PushKind) (v : A) (f : ℕ) (none : HoldsOnly g.chain who Nothing) (saw : SawTail g.chain 0 ms) (mine : g.chain.uses f ≡ Spare who)
           → ChainOk g.chain → Codes tail_end head_end g bs → SlotsAs g who (Local.Unbounded (chain.Installing d (open_tail_of 0) f)) → (xs : List (ℕ × Option A)) → ChainLent g who xs
           → HoldsBy (Local.Unbounded (chain.Installing d (open_tail_of 0) f)) (Op.Install f) xs m → BlockStep tail_end head_end g who bs m {ms = ms} (installing d v f none saw mine)
       step_installing d v f none saw mine ok codes slots xs lent holds =
@@ -181,7 +181,7 @@ module _ {A : Type 0} where
               kept = ap (λ q. with_next bs 0 (if_unset (spot f) q)) (leads (suc b) e) ∙ (ap (λ q. with_next bs 0 q) (sym (leads (suc b) e)) ∙ next_same bs 0)
 
       -- the store of the link to the block that is laid behind the pushers' block
-      pub step_laying : (d : PushKind) (v : A) (n name f : ℕ) (parts : Holds g.chain who (Either (Write n) Tail)) (claims : Claimed g.chain who n v name)
+      pub step_laying : (d : PushKind) (v : A) (n name f : ℕ) (parts : HoldsOnly g.chain who (Either (Write n) Tail)) (claims : Claimed g.chain who n v name)
           (moving : (g.chain.mover ≡ Laying who) × (g.chain.tail ≡ n + 1)) (mine : g.chain.uses f ≡ Spare who)
           → ChainOk g.chain → Codes tail_end head_end g bs → SlotsAs g who (Local.Unbounded (chain.Laying d (open_tail_of n) name f)) → (xs : List (ℕ × Option A)) → ChainLent g who xs
           → HoldsBy (Local.Unbounded (chain.Laying d (open_tail_of n) name f)) (Op.StoreLink Link.TailBlock f) xs m → BlockStep tail_end head_end g who bs m {ms = ms} (laying d v n name f parts claims moving mine)

@@ -10,7 +10,7 @@ use Rattle.queue_steps.specs.State.{State}
 use Rattle.law_common.proofs.Puts.{put_same, put_other}
 use Rattle.law_common.proofs.Tails.{position_tail}
 use Rattle.law_chain.specs.ChainFacts.{place, head_of, open_tail_of, IsNamed, SawTail, Claimed, Got}
-use Rattle.law_chain.specs.ChainCells.{Writer, Writing, Reader, Done, Passer, Stands, Passing, Entering, Linking, Linked, Shown, Showing, Seen, ItemOk, FrontOk, ShownOk, ChainOk, Write, Read, Head, Next, First, Holds}
+use Rattle.law_chain.specs.ChainCells.{Writer, Writing, Reader, Done, Passer, Stands, Passing, Entering, Linking, Linked, Shown, Showing, Seen, ItemOk, FrontOk, ShownOk, ChainOk, Write, Read, Head, Next, First, HoldsOnly}
 use Rattle.law_chain.specs.ChainTransitions.{displayed, chained, passed, entered}
 use Rattle.law_chain.proofs.ChainReads.{passer_sees}
 use Rattle.law_chain.specs.ChainAt.{Only, Either, IsBehind, IsFurther, showing, chaining, passing, entering}
@@ -65,7 +65,7 @@ module _ (tail_end head_end : Ptr) {A : Type 0} where
 
   module _ (g : OutChain A) (who : ℕ) (bs : List (Block A)) (m : Sitter A (CallState A)) (ms : List (State A)) where
     -- the store of the link to the first block, for the poppers
-    pub step_showing : (d : PushKind) (v : A) (name : ℕ) (first : Holds g.chain who (Only First)) (saw : SawTail g.chain 0 ms) (is : g.chain.shown ≡ Showing who)
+    pub step_showing : (d : PushKind) (v : A) (name : ℕ) (first : HoldsOnly g.chain who (Only First)) (saw : SawTail g.chain 0 ms) (is : g.chain.shown ≡ Showing who)
         (named : IsNamed g.chain 0 name)
         → ChainOk g.chain → Codes tail_end head_end g bs → SlotsAs g who (Local.Unbounded (chain.Showing d (open_tail_of 0) name)) → (xs : List (ℕ × Option A)) → ChainLent g who xs
         → HoldsBy (Local.Unbounded (chain.Showing d (open_tail_of 0) name)) (Op.StoreLink Link.HeadBlock name) xs m → BlockStep tail_end head_end g who bs m {ms = ms} (showing d v name first saw is named)
@@ -76,7 +76,7 @@ module _ (tail_end head_end : Ptr) {A : Type 0} where
         (Op.Exchange Word.Tail (open_tail_of 0) (open_tail_of 0 + TAIL_STEP)) xs (codes_front g bs Seen g.chain.front g.chain.passer name refl (ap (λ b. Some (g.chain.names b)) at_first ∙ ap (λ x. Some x) (sym named.1)) codes) slots lent holds)
 
     -- the store of the link to the next block, for the poppers
-    pub step_passing : (x : A) (n name after : ℕ) (more further : Bool) (parts : Holds g.chain who (Either (Read n) Head)) (got : Got g.chain who n x name)
+    pub step_passing : (x : A) (n name after : ℕ) (more further : Bool) (parts : HoldsOnly g.chain who (Either (Read n) Head)) (got : Got g.chain who n x name)
         (moves : (g.chain.passer ≡ Passing who) × (g.chain.head ≡ n + 1)) (behind : IsBehind g.chain n after) (room : IsFurther g.chain n further)
         → ChainOk g.chain → Codes tail_end head_end g bs → SlotsAs g who (Local.Unbounded (chain.Passing (head_of n more) name further)) → (xs : List (ℕ × Option A)) → ChainLent g who xs
         → HoldsBy (Local.Unbounded (chain.Passing (head_of n more) name further)) (Op.StoreLink Link.HeadBlock after) xs m → BlockStep tail_end head_end g who bs m {ms = ms} (passing x n name after more further parts got moves behind room)
@@ -155,7 +155,7 @@ module _ (tail_end head_end : Ptr) {A : Type 0} where
 
   module _ (g : OutChain A) (who : ℕ) (bs : List (Block A)) (m : Sitter A (CallState A)) (ms : List (State A)) where
     -- the store of the link from the block that was the last to the one behind it
-    pub step_chaining : (d : PushKind) (v : A) (n name f : ℕ) (parts : Holds g.chain who (Either (Write n) (Next (n / BLOCK_SLOTS)))) (claims : Claimed g.chain who n v name)
+    pub step_chaining : (d : PushKind) (v : A) (n name f : ℕ) (parts : HoldsOnly g.chain who (Either (Write n) (Next (n / BLOCK_SLOTS)))) (claims : Claimed g.chain who n v name)
         (links : g.chain.links (n / BLOCK_SLOTS) ≡ Linking who) (named : IsNamed g.chain (n / BLOCK_SLOTS + 1) f)
         → ChainOk g.chain → Codes tail_end head_end g bs → SlotsAs g who (Local.Unbounded (chain.Chaining d (open_tail_of n) name f)) → (xs : List (ℕ × Option A)) → ChainLent g who xs
         → HoldsBy (Local.Unbounded (chain.Chaining d (open_tail_of n) name f)) (Op.StoreLink (Link.Next name) f) xs m → BlockStep tail_end head_end g who bs m {ms = ms} (chaining d v n name f parts claims links named)
@@ -192,7 +192,7 @@ module _ (tail_end head_end : Ptr) {A : Type 0} where
 
   module _ (g : OutChain A) (who : ℕ) (bs : List (Block A)) (m : Sitter A (CallState A)) (ms : List (State A)) where
     -- the store of the head's word, behind the block that was passed
-    pub step_entering : (x : A) (n name : ℕ) (more further : Bool) (parts : Holds g.chain who (Either (Read n) Head)) (got : Got g.chain who n x name)
+    pub step_entering : (x : A) (n name : ℕ) (more further : Bool) (parts : HoldsOnly g.chain who (Either (Read n) Head)) (got : Got g.chain who n x name)
         (enters : (g.chain.passer ≡ Entering who) × (g.chain.head ≡ n + 1)) (room : IsFurther g.chain n further)
         → ChainOk g.chain → Codes tail_end head_end g bs → SlotsAs g who (Local.Unbounded (chain.Entering (head_of n more) name)) → (xs : List (ℕ × Option A)) → ChainLent g who xs
         → HoldsBy (Local.Unbounded (chain.Entering (head_of n more) name)) (Op.Store Word.Head ((position_of (head_of n more) + 2) * 2 + (if further then 1 else 0))) xs m

@@ -5,7 +5,7 @@ use Rattle.law_common.specs.Vocabulary.{Op, Touch, Local, Next}
 use Rattle.queue_steps.specs.State.{State}
 use Rattle.queue_steps.specs.UnboundedNext.{unbounded_next}
 use Rattle.law_common.specs.Stand.{Stand}
-use Rattle.law_chain.specs.ChainCells.{GivenUp, Chained, Chain, ChainOk, Write, Read, reader_of, Holds, Nothing}
+use Rattle.law_chain.specs.ChainCells.{GivenUp, Chained, Chain, ChainOk, Write, Read, reader_of, HoldsOnly, Nothing}
 use Rattle.law_chain.specs.ChainFacts.{IsNamed}
 use Rattle.law_chain.specs.ChainAt.{At}
 use Rattle.law_chain.specs.ChainAnswers.{Answers}
@@ -36,7 +36,7 @@ pub same_block : {A : Type 0} (c : Chain A) (a b name : ℕ) → ChainOk c → I
 same_block c a b name ok one two = let e : Chained a ≡ Chained b = sym (ok.name a one.0) ∙ (ap c.uses (sym one.1 ∙ two.1) ∙ ok.name b two.0) in cc
 
 -- a party that holds nothing has no slot
-pub nothing_lent : {A : Type 0} (g : OutChain A) (who : ℕ) (xs : List (ℕ × Option A)) → Holds g.chain who Nothing → ChainLent g who xs → xs ≡ []
+pub nothing_lent : {A : Type 0} (g : OutChain A) (who : ℕ) (xs : List (ℕ × Option A)) → HoldsOnly g.chain who Nothing → ChainLent g who xs → xs ≡ []
 nothing_lent g who xs none (inl h) = h.0
 nothing_lent g who xs none (inr (n, y, inl writes, is)) = absurd (none (Write n) writes.0)
 nothing_lent g who xs none (inr (n, y, inr reads, is)) = absurd (none (Read n) (ap reader_of reads.0))

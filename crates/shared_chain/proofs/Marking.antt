@@ -10,7 +10,7 @@ use Rattle.queue_steps.specs.UnboundedNext.{ends}
 use Rattle.queue_steps.specs.declared.steps.unbounded.UnboundedLocal.TheVariants as chain
 use Rattle.law_common.proofs.Tails.{mark_tail, next_tail}
 use Rattle.law_chain.specs.ChainFacts.{place, open_tail_of, IsNamed, HasSpare, Claimed}
-use Rattle.law_chain.specs.ChainCells.{Opening, Linking, Chain, ChainOk, Write, Tail, Next, Holds, Nothing}
+use Rattle.law_chain.specs.ChainCells.{Opening, Linking, Chain, ChainOk, Write, Tail, Next, HoldsOnly, Nothing}
 use Rattle.law_chain.specs.ChainTransitions.{opened, marked}
 use Rattle.law_chain.specs.ChainAt.{opening, spending, closing}
 use Rattle.law_chain.specs.ChainAnswers.{tail_place, tail_word}
@@ -35,7 +35,7 @@ opened_word c who n ok (is, at) =
     fits ∙ more
 
 module _ {A : Type 0} (te he : Ptr) (g : OutChain A) (who : ℕ) (bs : List (Block A)) (m : Sitter A (CallState A)) (ms : List (State A)) where
-  pub step_opening : (d : PushKind) (v : A) (n name f : ℕ) (holds : Holds g.chain who (λ x. (x ≡ Write n) ⊎ (x ≡ Tail) ⊎ (x ≡ Next (n / BLOCK_SLOTS)))) (mine : Claimed g.chain who n v name) (opens : (g.chain.mover ≡ Opening who) × (g.chain.tail ≡ n + 1))
+  pub step_opening : (d : PushKind) (v : A) (n name f : ℕ) (holds : HoldsOnly g.chain who (λ x. (x ≡ Write n) ⊎ (x ≡ Tail) ⊎ (x ≡ Next (n / BLOCK_SLOTS)))) (mine : Claimed g.chain who n v name) (opens : (g.chain.mover ≡ Opening who) × (g.chain.tail ≡ n + 1))
       (links : g.chain.links (n / BLOCK_SLOTS) ≡ Linking who) (named : IsNamed g.chain (n / BLOCK_SLOTS + 1) f)
       → ChainOk g.chain → Codes te he g bs → SlotsAs g who (Local.Unbounded (chain.Opening d (open_tail_of n) name f)) → (xs : List (ℕ × Option A)) → ChainLent g who xs
       → HoldsBy (Local.Unbounded (chain.Opening d (open_tail_of n) name f)) (Op.Add Word.Tail TAIL_STEP) xs m → BlockStep te he g who bs m {ms = ms} (opening d v n name f holds mine opens links named)
@@ -64,7 +64,7 @@ module _ {A : Type 0} (te he : Ptr) (g : OutChain A) (who : ℕ) (bs : List (Blo
       (record { blocks = refl; last = refl; front = refl; uses = λ i. refl }) (ap (λ w. bit_or w MARK) codes.tail_is ∙ mark_tail (tail_place g.chain.tail g.chain.mover) g.chain.closed) refl
       (λ b y lt. there_same g (record { chain = marked g.chain; out = g.out }) b y (record { name = refl; link = refl; walk = refl; writers = λ i low. refl; readers = λ i low. refl; out = λ i low. refl }))
 
-  pub step_spending : (d : PushKind) (v : A) (spare : Option ℕ) (none : Holds g.chain who Nothing) (spare_is : HasSpare g.chain who spare) (spent : LIMIT ≤ g.chain.tail)
+  pub step_spending : (d : PushKind) (v : A) (spare : Option ℕ) (none : HoldsOnly g.chain who Nothing) (spare_is : HasSpare g.chain who spare) (spent : LIMIT ≤ g.chain.tail)
       → Codes te he g bs → (xs : List (ℕ × Option A)) → ChainLent g who xs → HoldsBy (Local.Unbounded (chain.ClosingAtLimit d spare)) (Op.Or Word.Tail MARK) xs m
       → BlockStep te he g who bs m {ms = ms} (spending d v spare none spare_is spent)
   step_spending d v spare none spare_is spent codes xs lent held =
@@ -72,7 +72,7 @@ module _ {A : Type 0} (te he : Ptr) (g : OutChain A) (who : ℕ) (bs : List (Blo
       (with_word bs 0 TAIL (bit_or (word_of bs 0 TAIL) MARK)) refl (marked g.chain) refl (next.Reply (closed_reply d) spare) refl (codes_marked codes) none refl
       (none_held g who (Local.Unbounded (chain.ClosingAtLimit d spare)) (Op.Or Word.Tail MARK) xs m none lent held)
 
-  pub step_closing : (none : Holds g.chain who Nothing)
+  pub step_closing : (none : HoldsOnly g.chain who Nothing)
       → Codes te he g bs → (xs : List (ℕ × Option A)) → ChainLent g who xs → HoldsBy (Local.Unbounded chain.Closing) (Op.Or Word.Tail MARK) xs m → BlockStep te he g who bs m {ms = ms} (closing none)
   step_closing none codes xs lent held =
       step_none te he g who bs m (closing none) 0 codes.tail (λ e. refl) tt (ap (λ w. Answer.Found w) codes.tail_is)

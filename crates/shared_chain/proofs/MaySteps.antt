@@ -4,11 +4,11 @@ use Rattle.law_common.specs.Vocabulary.{Call, Effect, Next, BLOCK_SLOTS}
 use Rattle.queue_steps.specs.State.{State}
 use Rattle.queue_steps.specs.ChainWords.{offset_of}
 use Rattle.law_common.specs.Stand.{Stand}
-use Rattle.law_chain.specs.ChainCells.{Writing, Reading, Walker, WalkOk, ChainOk, Write, Read, writer_of, reader_of, Holds, Nothing}
+use Rattle.law_chain.specs.ChainCells.{Writing, Reading, Walker, WalkOk, ChainOk, Write, Read, writer_of, reader_of, HoldsOnly, Nothing}
 use Rattle.law_chain.specs.ChainFacts.{head_of, open_tail_of}
 use Rattle.law_chain.proofs.ChainAnswers.{head_offset}
 use Rattle.law_chain.specs.ChainAt.{Only, asking, writing, awaiting, reading, beginning, walking, destroying}
-use Rattle.law_chain.proofs.ChainRight.{Ends}
+use Rattle.law_chain.proofs.ChainRight.{NextOkSpares}
 use Rattle.shared_chain.specs.ChainCalls.{OutChain, ChainLent, ChainAt}
 use Rattle.shared_chain.specs.Steps.{SlotsFor, MayStep, MayGoOn}
 
@@ -26,19 +26,19 @@ tail_low n = head_low n false
 
 module _ {A : Type 0} where
   -- a party that holds nothing has no slot
-  none_lent : (g : OutChain A) (who : ℕ) (xs : List (ℕ × Option A)) → Holds g.chain who Nothing → ChainLent g who xs → xs ≡ []
+  none_lent : (g : OutChain A) (who : ℕ) (xs : List (ℕ × Option A)) → HoldsOnly g.chain who Nothing → ChainLent g who xs → xs ≡ []
   none_lent g who xs none (inl h) = h.0
   none_lent g who xs none (inr (n, y, inl w, is)) = absurd (none (Write n) w.0)
   none_lent g who xs none (inr (n, y, inr r, is)) = absurd (none (Read n) (ap reader_of r.0))
 
   -- the slot of the item that a party is to write is empty
-  write_lent : (g : OutChain A) (who n : ℕ) (v : A) (xs : List (ℕ × Option A)) → Holds g.chain who (Only (Write n)) → g.chain.writers n ≡ Writing who v → ChainLent g who xs → xs ≡ (n % BLOCK_SLOTS, None) ∷ []
+  write_lent : (g : OutChain A) (who n : ℕ) (v : A) (xs : List (ℕ × Option A)) → HoldsOnly g.chain who (Only (Write n)) → g.chain.writers n ≡ Writing who v → ChainLent g who xs → xs ≡ (n % BLOCK_SLOTS, None) ∷ []
   write_lent g who n v xs only mine (inl h) = absurd (h.1 n (inl (ap writer_of mine)))
   write_lent g who n v xs only mine (inr (m, y, inl w, is)) = let e = only (Write m) w.0 in let same : m ≡ n = cc in is ∙ (λ i. (same i % BLOCK_SLOTS, w.1 i) ∷ [])
   write_lent g who n v xs only mine (inr (m, y, inr r, is)) = let e = only (Read m) (ap reader_of r.0) in cc
 
   -- that of an item which it reads is full, once it has it
-  read_lent : (g : OutChain A) (who n : ℕ) (xs : List (ℕ × Option A)) → Holds g.chain who (Only (Read n)) → g.chain.readers n ≡ Reading who → g.out n ≡ true → ChainLent g who xs
+  read_lent : (g : OutChain A) (who n : ℕ) (xs : List (ℕ × Option A)) → HoldsOnly g.chain who (Only (Read n)) → g.chain.readers n ≡ Reading who → g.out n ≡ true → ChainLent g who xs
       → (z : A) × (xs ≡ (n % BLOCK_SLOTS, Some z) ∷ [])
   read_lent g who n xs only mine out (inl h) = absurd (h.1 n (inr (mine, out)))
   read_lent g who n xs only mine out (inr (m, y, inl w, is)) = let e = only (Write m) w.0 in cc
@@ -63,7 +63,7 @@ module _ {A : Type 0} where
   may_step g who xs ok (x, only, slots) lent = (tt, tt)
 
   -- where the step of a call leads, the next one may be done
-  pub may_go_on : (g : OutChain A) (who : ℕ) (ms : List (State A)) (n : Next ℕ) (v : Option A) (k : Call A) (es : List (Effect A)) (xs : List (ℕ × Option A)) → ChainOk g.chain → Ends g.chain who ms n v k es → SlotsFor g who n → ChainLent g who xs
+  pub may_go_on : (g : OutChain A) (who : ℕ) (ms : List (State A)) (n : Next ℕ) (v : Option A) (k : Call A) (es : List (Effect A)) (xs : List (ℕ × Option A)) → ChainOk g.chain → NextOkSpares g.chain who ms n v k es → SlotsFor g who n → ChainLent g who xs
       → MayGoOn v xs n
   may_go_on g who ms (Next.Step l t o) v k es xs ok ends slots lent = may_step g who xs ok (ends.0, ends.1, slots) lent
   may_go_on g who ms (Next.Reply x spare) v k es xs ok ends slots lent = tt

@@ -8,14 +8,14 @@ use denote.RawPtr.{Ptr}
 use Rattle.atomic_table.proofs.Lists.{set_again}
 use Rattle.law_common.specs.Vocabulary.{Reply, Effect, Next, BLOCK_SLOTS}
 use Rattle.queue_steps.specs.Kinds.{call_value}
-use Rattle.law_chain.specs.ChainCells.{Chain, queue_of, ChainOk, Holds, Nothing}
+use Rattle.law_chain.specs.ChainCells.{Chain, queue_of, ChainOk, HoldsOnly, Nothing}
 use Rattle.law_chain.specs.ChainTransitions.{given_up}
 use Rattle.law_chain.specs.ChainPasses.{spare_in}
 use Rattle.law_chain.proofs.ChainEarly.{early, unbound}
-use Rattle.law_chain.proofs.ChainGood.{GivesUp}
+use Rattle.law_chain.proofs.ChainStepOk.{GivesUp}
 use Rattle.law_chain.proofs.ChainGiven.{given_ok, passes_given, holds_given, spares_given}
 use Rattle.law_chain.proofs.ChainPasses.{passes_same}
-use Rattle.mem_blocks.specs.Web.{Block, Home, State, Sitter, sitter, vacant, word_of, Goes, Allows}
+use Rattle.mem_blocks.specs.Web.{Block, Home, State, Sitter, sitter, vacant, word_of, KeepsRule, Allows}
 use Rattle.mem_blocks.specs.declared.block.BlockPtr.{BlockPtr as Place}
 use Rattle.mem_blocks.specs.declared.hub.TheConstants.{PARTIES}
 use Rattle.shared_parties.specs.declared.known.CallState.{CallState}
@@ -89,7 +89,7 @@ module _ {T : Type 0} where
         st : Standing chain_calls g r.history id m.view.known c
         st = r.all.calls id m.view c at may.0
 
-        e : (c.effects ≡ []) × Holds g.chain id Nothing × GivesUp g.chain id spare × (c.carried ≡ call_value c.call)
+        e : (c.effects ≡ []) × HoldsOnly g.chain id Nothing × GivesUp g.chain id spare × (c.carried ≡ call_value c.call)
         e = early may.1 st.here.0
 
         ok : ChainOk after.chain
@@ -112,7 +112,7 @@ module _ {T : Type 0} where
         here : Allows (Rule te he) id m te PARTIES (λ n. n) (λ n q. HasLeft m q)
         here s r at =
             let d = leaves s r at in
-            (0, r.codes.tail, λ small. subst (λ (bs : List (Block T)). Goes (Rule te he) s bs id m (λ q. HasLeft m q)) (sym (word_same s.blocks 0 PARTIES)) (idle m.view.known, [], tt, d.0, d.1))
+            (0, r.codes.tail, λ small. subst (λ (bs : List (Block T)). KeepsRule (Rule te he) s bs id m (λ q. HasLeft m q)) (sym (word_same s.blocks 0 PARTIES)) (idle m.view.known, [], tt, d.0, d.1))
 
   module _ (te he : Ptr) (id : ℕ) (m : Sitter T (CallState T)) (calls : m.view.work ≡ work.Calls (its_call m.view)) where
     -- a load that changes nothing tells where a push is
@@ -124,4 +124,4 @@ module _ {T : Type 0} where
             let c = its_call m.view in
             let st = r.all.calls id m.view c at calls in
             let rule : Rule te he record { blocks = s.blocks; views = set s.views id m.view } = subst (λ (vs : List (CallState T)). Rule te he record { blocks = s.blocks; views = vs }) (sym (set_again s.views id m.view at)) r in
-            (0, r.codes.tail, λ small. subst (λ (bs : List (Block T)). Goes (Rule te he) s bs id m (λ q. (q ≡ m) × ShowsPlace m)) (sym (word_same s.blocks 0 PARTIES)) (m.view, [], tt, rule, (refl, λ push. unbound push st.here.0)))
+            (0, r.codes.tail, λ small. subst (λ (bs : List (Block T)). KeepsRule (Rule te he) s bs id m (λ q. (q ≡ m) × ShowsPlace m)) (sym (word_same s.blocks 0 PARTIES)) (m.view, [], tt, rule, (refl, λ push. unbound push st.here.0)))

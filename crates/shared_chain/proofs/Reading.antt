@@ -12,7 +12,7 @@ use Rattle.queue_steps.specs.State.{State}
 use Rattle.queue_steps.specs.ChainWords.{offset_of}
 use Rattle.queue_steps.specs.UnboundedNext.{at, ends, walks_on}
 use Rattle.queue_steps.specs.declared.steps.unbounded.UnboundedLocal.TheVariants as chain
-use Rattle.law_chain.specs.ChainCells.{Wrote, Reader, Reading, Done, Walk, Before, Walker, Waits, GivenUp, ChainOk, WalkOk, Read, Passed, Holds, Nothing, reader_of, item_at, LAST}
+use Rattle.law_chain.specs.ChainCells.{Wrote, Reader, Reading, Done, Walk, Before, Walker, Waits, GivenUp, ChainOk, WalkOk, Read, Passed, HoldsOnly, Nothing, reader_of, item_at, LAST}
 use Rattle.law_chain.specs.ChainTransitions.{reads, walk_after}
 use Rattle.law_chain.proofs.ChainReads.{own_item}
 use Rattle.law_chain.proofs.ChainRead.{waits_is}
@@ -41,7 +41,7 @@ before_last readers b GivenUp ok unread = absurd (unread ok.0)
 before_last readers b w ok unread = absurd (unread ok.1.0)
 
 -- The slot i of the block of the item n goes back vacant. The step's operation made cs of the blocks bs, and changed at most the state of this slot
-module _ {A : Type 0} (te he : Ptr) (g : OutChain A) (who : ℕ) (bs cs : List (Block A)) (m : Sitter A (CallState A)) (x : A) (n i name : ℕ) (holds : Holds g.chain who (Only (Read n))) (got : Got g.chain who n x name) (wrote : g.chain.writers n ≡ Wrote x)
+module _ {A : Type 0} (te he : Ptr) (g : OutChain A) (who : ℕ) (bs cs : List (Block A)) (m : Sitter A (CallState A)) (x : A) (n i name : ℕ) (holds : HoldsOnly g.chain who (Only (Read n))) (got : Got g.chain who n x name) (wrote : g.chain.writers n ≡ Wrote x)
     (offset : i ≡ n % BLOCK_SLOTS) (ok : ChainOk g.chain) (codes : Codes te he g bs) (has : (m.hand ≡ Some (spot name, i, None)) × (m.spare ≡ None)) (turns : SlotTurns (n / BLOCK_SLOTS + 2) i bs cs) where
   here_at : item_at (n / BLOCK_SLOTS) i ≡ n
   here_at = ap (λ j. item_at (n / BLOCK_SLOTS) j) offset ∙ own_item n
@@ -174,7 +174,7 @@ module _ {A : Type 0} (te he : Ptr) (g : OutChain A) (who : ℕ) (bs cs : List (
 
 module _ {A : Type 0} (te he : Ptr) where
   module _ (g : OutChain A) (who : ℕ) (bs : List (Block A)) (m : Sitter A (CallState A)) (ms : List (State A)) where
-    pub step_reading : (x : A) (n name : ℕ) (more : Bool) (holds : Holds g.chain who (Only (Read n))) (got : Got g.chain who n x name) (wrote : g.chain.writers n ≡ Wrote x) (inner : IsLast n → ⊥)
+    pub step_reading : (x : A) (n name : ℕ) (more : Bool) (holds : HoldsOnly g.chain who (Only (Read n))) (got : Got g.chain who n x name) (wrote : g.chain.writers n ≡ Wrote x) (inner : IsLast n → ⊥)
         → ChainOk g.chain → Codes te he g bs → (xs : List (ℕ × Option A))
         → HoldsBy (Local.Unbounded (chain.Reading name (offset_of (head_of n more)))) (Op.Or (Word.State name (offset_of (head_of n more))) READ) (touched_list (Touch.Take (offset_of (head_of n more))) None xs) m
         → BlockStep te he g who bs m {ms = ms} (reading x n name more holds got wrote inner)
@@ -214,7 +214,7 @@ module _ {A : Type 0} (te he : Ptr) where
         set : word_of cs (n / BLOCK_SLOTS + 2) (offset_of (head_of n more)) ≡ bit_or (word_of bs (n / BLOCK_SLOTS + 2) (offset_of (head_of n more))) READ
         set = word_set bs (b + 2) i (bit_or (word_of bs (b + 2) i) READ) long (omega (arith, (there te he g who bs bs m x n i name holds got wrote offset ok codes has none).1.words, offset))
 
-    pub step_beginning : (x : A) (n name : ℕ) (more : Bool) (holds : Holds g.chain who (Only (Read n))) (got : Got g.chain who n x name) (wrote : g.chain.writers n ≡ Wrote x) (last : IsLast n)
+    pub step_beginning : (x : A) (n name : ℕ) (more : Bool) (holds : HoldsOnly g.chain who (Only (Read n))) (got : Got g.chain who n x name) (wrote : g.chain.writers n ≡ Wrote x) (last : IsLast n)
         → ChainOk g.chain → Codes te he g bs → (xs : List (ℕ × Option A)) → HoldsBy (Local.Unbounded (chain.Walking name 0)) (Op.Load (Word.State name 0)) (touched_list (Touch.Take (offset_of (head_of n more))) None xs) m
         → BlockStep te he g who bs m {ms = ms} (beginning x n name more holds got wrote last)
     step_beginning x n name more holds got wrote last ok codes xs has =

@@ -9,7 +9,7 @@ use Rattle.law_chain.proofs.ChainPlaces.{place_block}
 use Rattle.law_chain.specs.ChainAnswers.{head_word}
 use Rattle.law_chain.proofs.ChainAnswers.{standing_word}
 use Rattle.own_unbounded.specs.ChainMemory.{block_of}
-use Rattle.law_chain.specs.ChainCells.{Writer, Free, Writing, Wrote, Reader, Unread, Reading, Done, Rests, Passer, Stands, LinkState, Unlinked, Linking, Linked, Shown, Hidden, Showing, Seen, Walk, Before, Walker, Waits, GivenUp, Chain, ItemOk, BlocksOk, LinkOk, FrontOk, ShownOk, WalkOk, ChainOk, Write, Read, Tail, Head, Next, First, Passed, writer_of, reader_of, linker_of, shower_of, walker_of, Holds, Nothing, item_at, LAST}
+use Rattle.law_chain.specs.ChainCells.{Writer, Free, Writing, Wrote, Reader, Unread, Reading, Done, Rests, Passer, Stands, LinkState, Unlinked, Linking, Linked, Shown, Hidden, Showing, Seen, Walk, Before, Walker, Waits, GivenUp, Chain, ItemOk, BlocksOk, LinkOk, FrontOk, ShownOk, WalkOk, ChainOk, Write, Read, Tail, Head, Next, First, Passed, writer_of, reader_of, linker_of, shower_of, walker_of, HoldsOnly, Nothing, item_at, LAST}
 use Rattle.law_chain.proofs.ChainRanks.{rests_if, stands_if}
 
 -- nobody writes or reads the items of these cells
@@ -107,7 +107,7 @@ pub record AtRest {A : Type 0} (c : Chain A) : Type 0 where
   pub before : (b : ℕ) → c.front ≤ b → c.walks b ≡ Before
   pub linked : (b : ℕ) → ((b + 1 < c.blocks) × (c.links b ≡ Linked)) ⊎ ((c.blocks ≤ b + 1) × (c.links b ≡ Unlinked))
 
-pub at_rest : {A : Type 0} (c : Chain A) → ChainOk c → ((who : ℕ) → Holds c who Nothing) → AtRest c
+pub at_rest : {A : Type 0} (c : Chain A) → ChainOk c → ((who : ℕ) → HoldsOnly c who Nothing) → AtRest c
 at_rest {A} c ok idle = record {
   rests = rests_if c.mover (λ p e. idle p Tail e);
   stands = stands;

@@ -9,7 +9,7 @@ use Rattle.law_common.specs.Vocabulary.{Op, Local, Next, BLOCK_SLOTS, WRITE, REA
 use Rattle.queue_steps.specs.State.{State}
 use Rattle.queue_steps.specs.UnboundedNext.{unbounded_next}
 use Rattle.law_common.specs.Stand.{Stand}
-use Rattle.law_chain.specs.ChainCells.{Writer, Free, Wrote, Reader, Unread, Reading, Done, Chain, Write, Read, reader_of, Holds, Nothing, item_at}
+use Rattle.law_chain.specs.ChainCells.{Writer, Free, Wrote, Reader, Unread, Reading, Done, Chain, Write, Read, reader_of, HoldsOnly, Nothing, item_at}
 use Rattle.law_chain.specs.ChainAt.{At}
 use Rattle.law_chain.specs.ChainAfter.{chain_of, after_of, left_by}
 use Rattle.law_chain.specs.ChainAnswers.{Answers, linked_of, last_of, shown_of, tail_word, head_word, is_wrote, is_done, waits_at}
@@ -158,24 +158,24 @@ module _ {A : Type 0} where
       }
 
   -- a party that holds nothing has no slot
-  none_out : (g : OutChain A) (who n : ℕ) → Holds g.chain who Nothing → ¬ (HasOut g who n)
+  none_out : (g : OutChain A) (who n : ℕ) → HoldsOnly g.chain who Nothing → ¬ (HasOut g who n)
   none_out g who n none (inl e) = none (Write n) e
   none_out g who n none (inr e) = none (Read n) (ap reader_of e.0)
 
-  pub none_lent : (g : OutChain A) (who : ℕ) → Holds g.chain who Nothing → ChainLent g who []
+  pub none_lent : (g : OutChain A) (who : ℕ) → HoldsOnly g.chain who Nothing → ChainLent g who []
   none_lent g who none = inl (refl, λ n. none_out g who n none)
 
   -- nor did it have any in its list
-  pub lent_none : (g : OutChain A) (who : ℕ) (xs : List (ℕ × Option A)) → Holds g.chain who Nothing → ChainLent g who xs → xs ≡ []
+  pub lent_none : (g : OutChain A) (who : ℕ) (xs : List (ℕ × Option A)) → HoldsOnly g.chain who Nothing → ChainLent g who xs → xs ≡ []
   lent_none g who xs none (inl h) = h.0
   lent_none g who xs none (inr (n, y, inl o, e)) = absurd (none (Write n) o.0)
   lent_none g who xs none (inr (n, y, inr o, e)) = absurd (none (Read n) (ap reader_of o.0))
 
-  pub none_left : (c : Chain A) (who : ℕ) (n : Next ℕ) → Holds c who Nothing → Holds (left_by c n) who Nothing
+  pub none_left : (c : Chain A) (who : ℕ) (n : Next ℕ) → HoldsOnly c who Nothing → HoldsOnly (left_by c n) who Nothing
   none_left c who (Next.Step l t o) none = none
   none_left c who (Next.Reply x spare) none = holds_given c who spare Nothing none
 
-  pub none_slots : (g : OutChain A) (who : ℕ) (n : Next ℕ) → Holds g.chain who Nothing → SlotsFor g who n
+  pub none_slots : (g : OutChain A) (who : ℕ) (n : Next ℕ) → HoldsOnly g.chain who Nothing → SlotsFor g who n
   none_slots g who (Next.Step l t o) none = λ i e. absurd (none (Read i) (ap reader_of e))
   none_slots g who (Next.Reply x spare) none = tt
 
@@ -213,13 +213,13 @@ module _ {A : Type 0} where
     pub step_none : {ms : List (State A)} {k : Stand A}
         (here : At g.chain who ms k) (number : ℕ) → Lives bs number (op_place te he k.op) → (number ≡ 0 → word_index (op_word k.op) ≡ 0) → LeadsThere g.chain bs k.op number → Answers g.chain k.op (answered g.chain bs k.op number)
         → (cs : List (Block A)) → blocks_made k.op number bs ≡ cs → (r : Chain A) → after_of here (answered g.chain bs k.op number) ≡ r → (n : Next ℕ) → unbounded_next (chain_of k.local) (answered g.chain bs k.op number) ≡ n
-        → Codes te he (record { chain = r; out = g.out }) cs → Holds r who Nothing → spare_on n ≡ spare_in k.local → (m.hand ≡ None) × (m.spare ≡ carried_by (spare_in k.local)) → BlockStep te he g who bs m here
+        → Codes te he (record { chain = r; out = g.out }) cs → HoldsOnly r who Nothing → spare_on n ≡ spare_in k.local → (m.hand ≡ None) × (m.spare ≡ carried_by (spare_in k.local)) → BlockStep te he g who bs m here
     step_none {k = k} here number lives counts leads found cs made r after n goes codes none spare holds =
         let left : OutChain A = record { chain = left_by r n; out = g.out } in
         step_by here number lives counts leads found cs made r after n goes g.out [] tt (codes_left te he r g.out cs n codes) (λ j ne i e. refl)
         (none_slots left who n (none_left r who n none)) [] (none_lent left who (none_left r who n none)) (none_holds n (spare_in k.local) m spare holds.0 holds.1)
 
   -- what the seat of such a party holds before it
-  pub none_held : (g : OutChain A) (who : ℕ) (l : Local ℕ) (o : Op ℕ) (xs : List (ℕ × Option A)) (m : Sitter A (CallState A)) → Holds g.chain who Nothing → ChainLent g who xs → HoldsBy l o xs m
+  pub none_held : (g : OutChain A) (who : ℕ) (l : Local ℕ) (o : Op ℕ) (xs : List (ℕ × Option A)) (m : Sitter A (CallState A)) → HoldsOnly g.chain who Nothing → ChainLent g who xs → HoldsBy l o xs m
       → (m.hand ≡ None) × (m.spare ≡ carried_by (spare_in l))
   none_held g who l o xs m none lent holds = (holds.0 ∙ ap (λ ys. hand_by (slot_block l o) ys) (lent_none g who xs none lent), holds.1)

@@ -10,7 +10,7 @@ use Rattle.queue_steps.specs.State.{State}
 use Rattle.queue_steps.specs.declared.steps.unbounded.UnboundedLocal.TheVariants as chain
 use Rattle.queue_steps.specs.UnboundedNext.{unbounded_next, walks_on}
 use Rattle.law_common.specs.Stand.{Stand, stand}
-use Rattle.law_chain.specs.ChainCells.{Reading, Done, Walk, Walker, GivenUp, Chained, Chain, ChainOk, Part, Write, Read, Passed, Holds, reader_of, item_at, LAST}
+use Rattle.law_chain.specs.ChainCells.{Reading, Done, Walk, Walker, GivenUp, Chained, Chain, ChainOk, Part, Write, Read, Passed, HoldsOnly, reader_of, item_at, LAST}
 use Rattle.law_chain.specs.ChainTransitions.{walk_after}
 use Rattle.law_chain.specs.ChainFacts.{IsNamed}
 use Rattle.law_chain.specs.ChainAt.{At, Only}
@@ -114,7 +114,7 @@ module _ {A : Type 0} (te he : Ptr) where
         op_step (b + 2) here (subst (λ f. Lives bs (b + 2) (spot f)) (sym named.1) there.0) (λ e. absurd (omega arith)) tt (state_answers g bs b name i ok named state) z
 
   -- a party that holds no item has no slot
-  pub none_out : (r : OutChain A) (who : ℕ) (P : Part → Type 0) → Holds r.chain who P → ((n : ℕ) → ¬ (P (Write n))) → ((n : ℕ) → ¬ (P (Read n))) → (n : ℕ) → ¬ (HasOut r who n)
+  pub none_out : (r : OutChain A) (who : ℕ) (P : Part → Type 0) → HoldsOnly r.chain who P → ((n : ℕ) → ¬ (P (Write n))) → ((n : ℕ) → ¬ (P (Read n))) → (n : ℕ) → ¬ (HasOut r who n)
   none_out r who P holds unwritten unread n (inl e) = unwritten n (holds (Write n) e)
   none_out r who P holds unwritten unread n (inr e) = unread n (holds (Read n) (ap reader_of e.0))
 
@@ -123,7 +123,7 @@ module _ {A : Type 0} (te he : Ptr) where
   no_lent g who xs none (inr (n, y, inl h, e)) = absurd (none n (inl h.0))
   no_lent g who xs none (inr (n, y, inr h, e)) = absurd (none n (inr (h.0, h.1)))
 
-  pub walks_none : (r : OutChain A) (who b : ℕ) → Holds r.chain who (Only (Passed b)) → (n : ℕ) → ¬ (HasOut r who n)
+  pub walks_none : (r : OutChain A) (who b : ℕ) → HoldsOnly r.chain who (Only (Passed b)) → (n : ℕ) → ¬ (HasOut r who n)
   walks_none r who b holds = none_out r who (Only (Passed b)) holds (λ n e. let z : Write n ≡ Passed b = e in cc) (λ n e. let z : Read n ≡ Passed b = e in cc)
 
   -- nor has it one after a block is given up
@@ -155,7 +155,7 @@ module _ {A : Type 0} (te he : Ptr) where
 
   -- the walk goes on behind a slot that is read, or ends, and the seat takes the block out
   pub walks_left : (g : OutChain A) (who : ℕ) (cs : List (Block A)) (m : Sitter A (CallState A)) (b name slot : ℕ) (r : Walk → Chain A) (out : ℕ → Bool) → slot < LAST → (m.hand ≡ None) × (m.spare ≡ None)
-      → ((j : ℕ) → j ≢ who → (n : ℕ) → g.chain.readers n ≡ Reading j → out n ≡ g.out n) → ((w : Walk) → Holds (r w) who (Only (Passed b)))
+      → ((j : ℕ) → j ≢ who → (n : ℕ) → g.chain.readers n ≡ Reading j → out n ≡ g.out n) → ((w : Walk) → HoldsOnly (r w) who (Only (Passed b)))
       → (slot + 1 ≢ LAST → Codes te he (record { chain = r (Walker who (slot + 1)); out = out }) cs) → (slot + 1 ≡ LAST → Codes te he (record { chain = r GivenUp; out = out }) (without cs (b + 2)) × Emptied cs (b + 2) name)
       → Leaves g who cs m (r (walk_after who slot)) (walks_on name slot)
   walks_left g who cs m b name slot r out low free others holds on over = go (after_walker who slot)

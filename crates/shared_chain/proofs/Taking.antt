@@ -12,7 +12,7 @@ use Rattle.law_common.specs.Puts.{put}
 use Rattle.law_common.proofs.Puts.{put_ok, put_other}
 use Rattle.law_common.specs.Stand.{empty_handed}
 use Rattle.law_chain.specs.ChainFacts.{place, head_of, HeadIs, HeadBlockIs, IsMore}
-use Rattle.law_chain.specs.ChainCells.{Writer, Free, Unread, Reading, Passer, Stands, Passing, ChainOk, Write, Read, Holds, Nothing, reader_of, item_at}
+use Rattle.law_chain.specs.ChainCells.{Writer, Free, Unread, Reading, Passer, Stands, Passing, ChainOk, Write, Read, HoldsOnly, Nothing, reader_of, item_at}
 use Rattle.law_chain.specs.ChainTransitions.{taken}
 use Rattle.law_chain.proofs.ChainReads.{front_is}
 use Rattle.law_chain.specs.ChainAfter.{if_taken}
@@ -67,7 +67,7 @@ module _ {A : Type 0} (te he : Ptr) (g : OutChain A) (who : ℕ) where
       ]
 
   -- the party has no slot after it
-  module _ (none : Holds g.chain who Nothing) (p : Passer) (new : Bool) where
+  module _ (none : HoldsOnly g.chain who Nothing) (p : Passer) (new : Bool) where
     taken_away : (i : ℕ) → put g.chain.readers g.chain.head (Reading who) i ≡ Reading who → put g.out g.chain.head false i ≡ false
     taken_away i e = elim (eqb_tells i g.chain.head) [
       | inl t ↦ rw (t.0) refl
@@ -79,7 +79,7 @@ module _ {A : Type 0} (te he : Ptr) (g : OutChain A) (who : ℕ) where
     taken_none i (inr e) = let z : false ≡ true = sym (taken_away i e.0) ∙ e.1 in cc
 
   module _ (bs : List (Block A)) (m : Sitter A (CallState A)) (ms : List (State A)) where
-    pub step_taking : (n name after : ℕ) (more new : Bool) (none : Holds g.chain who Nothing) (is : HeadIs g.chain n) (front : HeadBlockIs g.chain n name) (there : n < g.chain.tail)
+    pub step_taking : (n name after : ℕ) (more new : Bool) (none : HoldsOnly g.chain who Nothing) (is : HeadIs g.chain n) (front : HeadBlockIs g.chain n name) (there : n < g.chain.tail)
         (word_is : after ≡ place n * 2 + TAIL_STEP + (if new then 1 else 0)) (room : IsMore g.chain n new)
         → ChainOk g.chain → Codes te he g bs → (xs : List (ℕ × Option A)) → ChainLent g who xs → HoldsBy (Local.Unbounded (chain.Taking (head_of n more) name)) (Op.Exchange Word.Head (head_of n more) after) xs m
         → BlockStep te he g who bs m {ms = ms} (taking n name after more new none is front there word_is room)

@@ -11,7 +11,7 @@ use Rattle.queue_steps.specs.State.{State}
 use Rattle.queue_steps.specs.UnboundedNext.{at, ends, walks_on}
 use Rattle.law_common.specs.Vocabulary.{Reply, Word, Op, Touch, Local, WRITE, READ, DESTROY}
 use Rattle.queue_steps.specs.declared.steps.unbounded.UnboundedLocal.TheVariants as chain
-use Rattle.law_chain.specs.ChainCells.{Reader, Reading, Done, Walk, Before, Walker, Waits, GivenUp, Chain, ChainOk, WalkOk, IsWalked, Read, Passed, Holds, reader_of, item_at, LAST}
+use Rattle.law_chain.specs.ChainCells.{Reader, Reading, Done, Walk, Before, Walker, Waits, GivenUp, Chain, ChainOk, WalkOk, IsWalked, Read, Passed, HoldsOnly, reader_of, item_at, LAST}
 use Rattle.law_chain.specs.ChainTransitions.{walked, walk_after}
 use Rattle.law_chain.specs.ChainFacts.{IsNamed}
 use Rattle.law_chain.specs.ChainAt.{Only, walking, destroying}
@@ -37,7 +37,7 @@ module _ {A : Type 0} (te he : Ptr) where
   -- the walk over the block b goes on behind a slot that is read now, or ends with it
   pub walk_goes : (g : OutChain A) (who : ℕ) (bs cs : List (Block A)) (m : Sitter A (CallState A)) (b name slot : ℕ) (rs : ℕ → Reader) (out : ℕ → Bool) → ChainOk g.chain → Codes te he g bs → IsNamed g.chain b name → slot < LAST → IsWalked g.chain.readers b slot
       → (g.chain.walks b ≢ GivenUp) × ((j : ℕ) → j ≢ slot → waits_at (g.chain.walks b) j ≡ false) → (m.hand ≡ None) × (m.spare ≡ None) → ((j : ℕ) → j ≢ who → (n : ℕ) → g.chain.readers n ≡ Reading j → out n ≡ g.out n)
-      → ((w : Walk) → Holds (turned g g.chain.writers rs (put g.chain.walks b w) out).chain who (Only (Passed b))) → ((w : Walk) → AllBut g (turned g g.chain.writers rs (put g.chain.walks b w) out) b slot) → SlotTurns (b + 2) slot bs cs
+      → ((w : Walk) → HoldsOnly (turned g g.chain.writers rs (put g.chain.walks b w) out).chain who (Only (Passed b))) → ((w : Walk) → AllBut g (turned g g.chain.writers rs (put g.chain.walks b w) out) b slot) → SlotTurns (b + 2) slot bs cs
       → rs (item_at b slot) ≡ Done → IsRead g.chain b slot (word_of cs (b + 2) slot) → get_elem? (block cs (b + 2)).homes slot ≡ some vacant → home_of (g.chain.writers (item_at b slot)) Done (out (item_at b slot)) ≡ vacant
       → Leaves te he g who cs m (turned g g.chain.writers rs (put g.chain.walks b (walk_after who slot)) out).chain (walks_on name slot)
   walk_goes g who bs cs m b name slot rs out ok codes named low walked_to (on, alone) free others holds but t read state home empty =
@@ -84,11 +84,11 @@ module _ {A : Type 0} (te he : Ptr) where
   but_walk g b slot w = record { writers = λ n ne. refl; readers = λ n ne. refl; out = λ n ne. refl; walks = λ j ne. put_other g.chain.walks b j w ne }
 
   -- the party walks, and has no slot
-  no_hand : (g : OutChain A) (who b : ℕ) → Holds g.chain who (Only (Passed b)) → (xs : List (ℕ × Option A)) → ChainLent g who xs → xs ≡ []
+  no_hand : (g : OutChain A) (who b : ℕ) → HoldsOnly g.chain who (Only (Passed b)) → (xs : List (ℕ × Option A)) → ChainLent g who xs → xs ≡ []
   no_hand g who b holds xs lent = no_lent te he g who xs (walks_none te he g who b holds) lent
 
   -- the slot that the party's walk is at
-  module _ (g : OutChain A) (who : ℕ) (bs : List (Block A)) (m : Sitter A (CallState A)) (x : A) (b name slot : ℕ) (holds : Holds g.chain who (Only (Passed b))) (is : g.chain.walks b ≡ Walker who slot) (named : IsNamed g.chain b name) (ok : ChainOk g.chain) (codes : Codes te he g bs) where
+  module _ (g : OutChain A) (who : ℕ) (bs : List (Block A)) (m : Sitter A (CallState A)) (x : A) (b name slot : ℕ) (holds : HoldsOnly g.chain who (Only (Passed b))) (is : g.chain.walks b ≡ Walker who slot) (named : IsNamed g.chain b name) (ok : ChainOk g.chain) (codes : Codes te he g bs) where
     at_walk : (slot < LAST) × IsWalked g.chain.readers b slot
     at_walk = subst (λ w. WalkOk g.chain.readers b w) is (ok.walk b)
 
@@ -123,7 +123,7 @@ module _ {A : Type 0} (te he : Ptr) where
         (idles te he g who bs m g.chain (at (chain.Destroying name slot) Touch.Nothing (Op.Or (Word.State name slot) DESTROY)) g.out codes (λ j ne n z. refl) (λ n z. absurd (let y : Read n ≡ Passed b = holds (Read n) (ap reader_of z) in cc)) (walks_none te he g who b holds) free))
 
   module _ (g : OutChain A) (who : ℕ) (bs : List (Block A)) (m : Sitter A (CallState A)) (ms : List (State A)) where
-    pub step_walking : (x : A) (b name slot : ℕ) (holds : Holds g.chain who (Only (Passed b))) (is : g.chain.walks b ≡ Walker who slot) (named : IsNamed g.chain b name)
+    pub step_walking : (x : A) (b name slot : ℕ) (holds : HoldsOnly g.chain who (Only (Passed b))) (is : g.chain.walks b ≡ Walker who slot) (named : IsNamed g.chain b name)
         → ChainOk g.chain → Codes te he g bs → (xs : List (ℕ × Option A)) → ChainLent g who xs → HoldsBy (Local.Unbounded (chain.Walking name slot)) (Op.Load (Word.State name slot)) xs m
         → BlockStep te he g who bs m {ms = ms} (walking x b name slot holds is named)
     step_walking x b name slot holds is named ok codes xs lent has =
@@ -132,7 +132,7 @@ module _ {A : Type 0} (te he : Ptr) where
         load_step te he g who bs m b name slot {ms = ms} (walking x b name slot holds is named) ok codes named (on g who bs m x b name slot holds is named ok codes) (state g who bs m x b name slot holds is named ok codes)
         (walk_left g who bs m x b name slot holds is named ok codes free (is_done (g.chain.readers (item_at b slot))) refl)
 
-    pub step_destroying : (x : A) (b name slot : ℕ) (holds : Holds g.chain who (Only (Passed b))) (is : g.chain.walks b ≡ Walker who slot) (named : IsNamed g.chain b name)
+    pub step_destroying : (x : A) (b name slot : ℕ) (holds : HoldsOnly g.chain who (Only (Passed b))) (is : g.chain.walks b ≡ Walker who slot) (named : IsNamed g.chain b name)
         → ChainOk g.chain → Codes te he g bs → (xs : List (ℕ × Option A)) → ChainLent g who xs → HoldsBy (Local.Unbounded (chain.Destroying name slot)) (Op.Or (Word.State name slot) DESTROY) xs m
         → BlockStep te he g who bs m {ms = ms} (destroying x b name slot holds is named)
     step_destroying x b name slot holds is named ok codes xs lent has =

@@ -10,7 +10,7 @@ use Rattle.queue_steps.specs.State.{State}
 use Rattle.queue_steps.specs.BoundedNext.{pushed_reply}
 use Rattle.queue_steps.specs.ChainWords.{offset_of}
 use Rattle.queue_steps.specs.declared.steps.unbounded.UnboundedLocal.TheVariants as chain
-use Rattle.law_chain.specs.ChainCells.{Writing, Wrote, Reader, Unread, Reading, Done, GivenUp, ChainOk, ItemOk, Write, Holds, Nothing, item_at}
+use Rattle.law_chain.specs.ChainCells.{Writing, Wrote, Reader, Unread, Reading, Done, GivenUp, ChainOk, ItemOk, Write, HoldsOnly, Nothing, item_at}
 use Rattle.law_chain.specs.ChainTransitions.{written}
 use Rattle.law_chain.proofs.ChainReads.{own_item}
 use Rattle.law_chain.specs.ChainFacts.{open_tail_of, Claimed, HasSpare}
@@ -58,7 +58,7 @@ module _ {A : Type 0} (te he : Ptr) where
   gives_spare m d (Some f) empty is = (empty, (fresh_at (spot f), is, refl, refl, refl, vacant_rows A BLOCK_SLOTS))
 
   -- U9: the item is written, at the slot i of the block b
-  write_left : (g : OutChain A) (who : ℕ) (bs : List (Block A)) (m : Sitter A (CallState A)) (d : PushKind) (x : A) (n b i name : ℕ) (spare : Option ℕ) → Holds g.chain who (Only (Write n)) → g.chain.writers n ≡ Writing who x → OutWrote g → item_at b i ≡ n → i < BLOCK_SLOTS → b < g.chain.blocks → name ≡ g.chain.names b
+  write_left : (g : OutChain A) (who : ℕ) (bs : List (Block A)) (m : Sitter A (CallState A)) (d : PushKind) (x : A) (n b i name : ℕ) (spare : Option ℕ) → HoldsOnly g.chain who (Only (Write n)) → g.chain.writers n ≡ Writing who x → OutWrote g → item_at b i ≡ n → i < BLOCK_SLOTS → b < g.chain.blocks → name ≡ g.chain.names b
       → ChainOk g.chain → Codes te he g bs → (m.hand ≡ Some (spot name, i, Some x)) × (m.spare ≡ carried_by spare)
       → (g.chain.walks b ≢ GivenUp) × IsState g.chain b i (word_of bs (b + 2) i) × Leaves te he g who (with_word bs (b + 2) i (bit_or (word_of bs (b + 2) i) WRITE)) m (written g.chain n x) (Next.Reply (pushed_reply d) spare)
   write_left g who bs m d x n b i name spare holds mine ready at low lt named ok codes has = (
@@ -141,7 +141,7 @@ module _ {A : Type 0} (te he : Ptr) where
           })
 
   module _ (g : OutChain A) (who : ℕ) (bs : List (Block A)) (m : Sitter A (CallState A)) (ms : List (State A)) where
-    pub step_writing : (d : PushKind) (x : A) (n name : ℕ) (spare : Option ℕ) (holds : Holds g.chain who (Only (Write n))) (mine : Claimed g.chain who n x name) (spare_is : HasSpare g.chain who spare)
+    pub step_writing : (d : PushKind) (x : A) (n name : ℕ) (spare : Option ℕ) (holds : HoldsOnly g.chain who (Only (Write n))) (mine : Claimed g.chain who n x name) (spare_is : HasSpare g.chain who spare)
         → ChainOk g.chain → Codes te he g bs → (xs : List (ℕ × Option A)) → HoldsBy (Local.Unbounded (chain.Writing d spare)) (Op.Or (Word.State name (offset_of (open_tail_of n))) WRITE) (touched_list (Touch.Put (offset_of (open_tail_of n))) (Some x) xs) m → OutWrote g
         → BlockStep te he g who bs m {ms = ms} (writing d x n name spare holds mine spare_is)
     step_writing d x n name spare holds mine spare_is ok codes xs has ready =

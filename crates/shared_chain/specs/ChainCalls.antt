@@ -4,7 +4,7 @@ use Rattle.law_common.specs.Vocabulary.{Kind, Local, BLOCK_SLOTS}
 use Rattle.queue_steps.specs.declared.steps.unbounded.UnboundedLocal.TheVariants as chain
 use Rattle.queue_steps.specs.State.{State}
 use Rattle.law_common.specs.Stand.{Stand}
-use Rattle.law_chain.specs.ChainCells.{Wrote, Reading, Chain, queue_of, ChainOk, Holds, Nothing, writer_of}
+use Rattle.law_chain.specs.ChainCells.{Wrote, Reading, Chain, queue_of, ChainOk, HoldsOnly, Nothing, writer_of}
 use Rattle.law_chain.specs.ChainPasses.{Passes, Spares, spare_in}
 use Rattle.law_chain.specs.ChainAt.{At}
 use Rattle.shared_parties.specs.Calling.{CallsOf}
@@ -34,7 +34,7 @@ ChainLent {T} g j xs = ((xs ≡ []) × ((n : ℕ) → ¬ (HasOut g j n))) ⊎ ((
 
 -- the party holds no part of the chain, and no spare block
 abbrev pub ChainIdle : {T : Type 0} → OutChain T → ℕ → Type 0
-ChainIdle g j = Holds g.chain j Nothing × Spares g.chain j None
+ChainIdle g j = HoldsOnly g.chain j Nothing × Spares g.chain j None
 
 -- the readers of this party have their slot exactly where its call says so
 abbrev pub SlotsAs : {T : Type 0} → OutChain T → ℕ → Local ℕ → Type 0

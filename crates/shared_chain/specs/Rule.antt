@@ -13,7 +13,7 @@ use Rattle.shared_parties.specs.declared.known.CallState.{CallState}
 use Rattle.shared_parties.specs.Known.{party}
 use Rattle.shared_parties.specs.CallStates.{idle}
 use Rattle.shared_parties.specs.CallsAt.{CallsAt}
-use Rattle.shared_chain.specs.declared.ends.Ends.{Ends}
+use Rattle.shared_chain.specs.declared.ends.ChainEnds.{ChainEnds}
 use Rattle.shared_chain.specs.Spots.{spot}
 use Rattle.shared_chain.specs.ChainCalls.{OutChain, chain_calls}
 
@@ -78,7 +78,7 @@ pub record Rule {T : Type 0} (tail_end head_end : Ptr) (s : State T (CallState T
   pub codes : Codes tail_end head_end cells s.blocks
   pub all : CallsAt chain_calls cells history (word_of s.blocks 0 PARTIES) s.views
 
-abbrev pub chained : {T : Type 0} → Ends T → State T (CallState T) → Type 0
+abbrev pub chained : {T : Type 0} → ChainEnds T → State T (CallState T) → Type 0
 chained k = Rule k.tail.ptr k.head.ptr
 
 -- the first party, which has all of the share

@@ -17,7 +17,7 @@ ghost use Rattle.own_unbounded.specs.ChainMemory.{block_of as spec_block_of};
 ghost use Rattle.shared_chain.specs.Ending.{LeadsTo, IntoBlock};
 ghost use Rattle.shared_chain.specs.Leftover.{SlotLeft, BlockLeft, BlocksLeft, SameBut, Emptied, is_held, any_held};
 
-use crate::ends::Ends;
+use crate::ends::ChainEnds;
 use crate::rule::Chained;
 use exclusive_queue::Exclusive;
 use mem_blocks::chain::Chain;
@@ -74,7 +74,7 @@ fn take_ends<T, A: Allocator>(
 /// What is left when the only party ends the queue: a queue with one owner, in the same blocks. It makes no request.
 pub(crate) fn end<T, A: Allocator>(
     alloc: A,
-    web: Web<Item<T>, CallState<T>, Ends<T>, Chained, A>,
+    web: Web<Item<T>, CallState<T>, ChainEnds<T>, Chained, A>,
     seat: Seat<Item<T>, CallState<T>, A>,
     hub: Hub<Item<T>, A>,
     tail: Place<T>,
@@ -104,7 +104,7 @@ pub(crate) fn end<T, A: Allocator>(
 /// item's block. Where such a call was moving the head over a block's end, all blocks are lost with it.
 pub(crate) fn give_up<T: Drop, A: Allocator>(
     alloc: &A,
-    web: Web<Item<T>, CallState<T>, Ends<T>, Chained, A>,
+    web: Web<Item<T>, CallState<T>, ChainEnds<T>, Chained, A>,
     hub: Hub<Item<T>, A>,
     tail: Place<T>,
     head: Place<T>,

@@ -3,7 +3,7 @@ use mem_blocks::item::Place;
 
 /// The tail's end, with the link to the pushers' block, and the head's end, with the link to the poppers'.
 #[derive(Drop)]
-pub struct Ends<T> {
+pub struct ChainEnds<T> {
     pub tail: Place<T>,
     pub head: Place<T>,
 }

@@ -1,15 +1,15 @@
 //! The rule of a shared chain, and what its steps tell.
-use crate::ends::Ends;
+use crate::ends::ChainEnds;
 use mem_blocks::item::Item;
 use mem_blocks::web::{LinkPlay, Play, WebRule};
+use shared_parties::call_tag::CallTag;
 use shared_parties::known::CallState;
-use shared_parties::task::Task;
 use std::marker::PhantomData;
 
 /// A web that stands for a chain.
 pub struct Chained;
 
-impl<T> WebRule<Item<T>, CallState<T>, Ends<T>> for Chained {
+impl<T> WebRule<Item<T>, CallState<T>, ChainEnds<T>> for Chained {
     ghost use Rattle.shared_chain.specs.Rule.{chained, first_seat};
 
     ghost holds = { chained };
@@ -22,14 +22,14 @@ pub struct Steps<J> {
     of: PhantomData<J>,
 }
 
-impl<T, J: Task<T>> Play<Item<T>, CallState<T>> for Steps<J> {
+impl<T, J: CallTag<T>> Play<Item<T>, CallState<T>> for Steps<J> {
     ghost use Rattle.shared_parties.specs.Operations.{answer_for};
     ghost use Rattle.shared_chain.specs.Steps.{Follows};
 
     ghost then = { λ st m n q. Follows J.call (answer_for J.call.op n) q };
 }
 
-impl<T, J: Task<T>> LinkPlay<Item<T>, CallState<T>> for Steps<J> {
+impl<T, J: CallTag<T>> LinkPlay<Item<T>, CallState<T>> for Steps<J> {
     ghost use Rattle.shared_chain.specs.Steps.{FollowsLink};
 
     ghost then = { λ m p q. FollowsLink J.call p q };
@@ -40,7 +40,7 @@ pub struct Stores<J> {
     of: PhantomData<J>,
 }
 
-impl<T, J: Task<T>> LinkPlay<Item<T>, CallState<T>> for Stores<J> {
+impl<T, J: CallTag<T>> LinkPlay<Item<T>, CallState<T>> for Stores<J> {
     ghost use Rattle.queue_steps.specs.declared.steps.types.Answer.TheVariants as answer;
     ghost use Rattle.shared_chain.specs.Steps.{Follows};
 
@@ -52,7 +52,7 @@ pub struct Grants<J> {
     of: PhantomData<J>,
 }
 
-impl<T, J: Task<T>> Play<Item<T>, CallState<T>> for Grants<J> {
+impl<T, J: CallTag<T>> Play<Item<T>, CallState<T>> for Grants<J> {
     ghost use Rattle.shared_chain.specs.Steps.{FollowsGrant};
     ghost use Rattle.shared_chain.specs.Turning.{carried_place};
 
@@ -64,7 +64,7 @@ pub struct Refusals<J> {
     of: PhantomData<J>,
 }
 
-impl<T, J: Task<T>> Play<Item<T>, CallState<T>> for Refusals<J> {
+impl<T, J: CallTag<T>> Play<Item<T>, CallState<T>> for Refusals<J> {
     ghost use Rattle.queue_steps.specs.declared.steps.types.Answer.TheVariants as answer;
     ghost use Rattle.shared_chain.specs.Steps.{Follows};
 

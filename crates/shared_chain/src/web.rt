@@ -13,7 +13,7 @@ ghost use Rattle.shared_chain.specs.Rule.{first_seat};
 ghost use Rattle.shared_chain.specs.Steps.{HasWord, word_place, word_index, link_place};
 
 use crate::ending;
-use crate::ends::Ends;
+use crate::ends::ChainEnds;
 use crate::rule::{Chained, Grants, Refusals, Steps, Stores};
 use crate::source::Source;
 use crate::touching::touch;
@@ -25,8 +25,8 @@ use mem_blocks::sizes::SLOTS;
 use mem_blocks::web::{Seat, Web};
 use queue_steps::model::CallKind;
 use queue_steps::steps::{Answer, Link, Local, Op, READ, Touch, WRITE, Word};
+use shared_parties::call_tag::CallTag;
 use shared_parties::known::CallState;
-use shared_parties::task::Task;
 use std::alloc::{AllocError, Allocator};
 use std::marker::Brand;
 
@@ -34,7 +34,7 @@ use std::marker::Brand;
 ///
 /// The allocator of its blocks is kept beside it.
 pub struct ChainWeb<T, A: Allocator> {
-    pub(crate) web: Web<Item<T>, CallState<T>, Ends<T>, Chained, A>,
+    pub(crate) web: Web<Item<T>, CallState<T>, ChainEnds<T>, Chained, A>,
     pub(crate) tail: Place<T>,
     pub(crate) head: Place<T>,
     pub(crate) hub: Hub<Item<T>, A>,
@@ -73,7 +73,7 @@ impl<T, A: Allocator> ChainWeb<T, A> {
         chain.lay(first);
         chain.lay(second);
         chain.set_word(0, tail, PARTIES, 1);
-        let ends = Ends { tail, head };
+        let ends = ChainEnds { tail, head };
         let (web, seat) = chain.share(&ends);
         Ok((
             ChainWeb {
@@ -125,7 +125,7 @@ impl<T, A: Allocator> ChainWeb<T, A> {
 
     /// The request of a call for a block. The seat then carries the block, and a look at the chain tells it.
     #[inline(always)]
-    fn ask<S: Source<T, A>, J: Task<T>>(
+    fn ask<S: Source<T, A>, J: CallTag<T>>(
         &self,
         alloc: &A,
         seat: &mut ChainSeat<T, A>,
@@ -151,7 +151,7 @@ impl<T, A: Allocator> ChainWeb<T, A> {
 
     /// Sets bits of a word, and gives the word before. What is set once is not set yet, so one instruction adds it.
     #[inline(always)]
-    fn set_bits<J: Task<T>>(
+    fn set_bits<J: CallTag<T>>(
         &self,
         seat: &mut ChainSeat<T, A>,
         word: Word<Place<T>>,
@@ -172,7 +172,7 @@ impl<T, A: Allocator> ChainWeb<T, A> {
 
     /// The operation of a step, whose slot was touched. Of which call it is the caller says, by its kind and by where it waits.
     #[inline(always)]
-    fn operate<S: Source<T, A>, J: Task<T>>(
+    fn operate<S: Source<T, A>, J: CallTag<T>>(
         &self,
         alloc: &A,
         seat: &mut ChainSeat<T, A>,

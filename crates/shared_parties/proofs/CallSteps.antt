@@ -24,7 +24,7 @@ use Rattle.shared_parties.specs.declared.known.CallState.{CallState}
 use Rattle.shared_parties.specs.Known.{party, view_of, Kept}
 use Rattle.shared_parties.specs.CallStates.{is_busy, idle, known_by, IsResting}
 use Rattle.shared_parties.proofs.Histories.{prefix_self}
-use Rattle.shared_parties.specs.Calling.{CallsOf, CallLaws, cap_of, Standing, MayFront, Goes, first_of, Opens}
+use Rattle.shared_parties.specs.Calling.{CallsOf, CallLaws, cap_of, Standing, MayFront, NextOk, first_of, Opens}
 use Rattle.shared_parties.specs.CallsAt.{CallsAt, IsFirst, Ready, Told}
 use Rattle.shared_parties.proofs.Keeping.{looks, gains}
 use Rattle.shared_parties.proofs.Alone.{alone}
@@ -55,7 +55,7 @@ module _ {T : Type 0} where
   legal_after cap h None legal can = legal
   legal_after cap h (Some e) legal can = runs_snoc (start cap 0) h e legal can
 
-  kept_after : (cap : Option ℕ) (h : List (Effect T)) (e : Option (Effect T)) (n : ℕ) (ks : List (Known T)) (id : ℕ) (k : Known T) → Kept cap h n ks → get_elem? ks id ≡ some k → 0 < k.parts
+  kept_after : (cap : Option ℕ) (h : List (Effect T)) (e : Option (Effect T)) (n : ℕ) (ks : List (Known T)) (id : ℕ) (k : Known T) → Kept cap h n ks → get_elem? ks id ≡ some k → 0 < k.parties
       → FitsAt e (after cap h) → Kept cap (grown h e) n (set ks id (known_after h e k))
   kept_after cap h None n ks id k kept at counts can = (looks T cap h n ks id k kept at counts).0
   kept_after cap h (Some e) n ks id k kept at counts can = (gains T cap h n ks id k e kept at counts can).0
@@ -81,7 +81,7 @@ module _ {T : Type 0} (K : CallsOf T) (laws : CallLaws K) where
   own_after : (r s : K.Cells) (h : List (Effect T)) (e : Option (Effect T)) (who : ℕ) (k : Known T) (c : InCall T) (n : Next ℕ) (v : Option T) (xs : List (ℕ × Option T))
       → IsPrefix k.seen h → (IsEntire (known_after h e k).share → IsWhole (view_of (known_after h e k))) → IsHistory cap (grown h e) → K.queue_of s ≡ after cap (grown h e)
       → (st : Standing K r h who k c) → MayFront e st.was → K.Lent s who xs
-      → Goes K s who (K.queue_of s ∷ st.ms) (st.was || not (K.queue_of s).closed) n v c.call (with_effect c.effects e) → OwnAfter s (grown h e) who (known_after h e k) c v n xs
+      → NextOk K s who (K.queue_of s ∷ st.ms) (st.was || not (K.queue_of s).closed) n v c.call (with_effect c.effects e) → OwnAfter s (grown h e) who (known_after h e k) c v n xs
   unfolding call_in
   own_after r s h e who k c (Next.Step l t o) v xs seen owns legal state st may lent goes =
       let d = call_after c h e l t o v xs in
@@ -150,7 +150,7 @@ module _ {T : Type 0} (K : CallsOf T) (laws : CallLaws K) where
     -- the step of the seat id, whose call c stands, from the cells g to the cells s, with the effect e: it is then at `todo`, carries v and has the slots xs
     pub call_step : (v : Option T) (xs : List (ℕ × Option T)) (todo : Next ℕ)
         → CallsAt K g h n views → get_elem? views id ≡ some u → (st : Standing K g h id u.known c) → K.Ok s → Leads (K.queue_of g) e (K.queue_of s) → K.Passes id g s → MayFront e st.was → K.Lent s id xs
-        → Goes K s id (K.queue_of s ∷ st.ms) (st.was || not (K.queue_of s).closed) todo v c.call (with_effect c.effects e) → Stepping s (grown h e) n views id c v xs todo
+        → NextOk K s id (K.queue_of s ∷ st.ms) (st.was || not (K.queue_of s).closed) todo v c.call (with_effect c.effects e) → Stepping s (grown h e) n views id c v xs todo
     call_step v xs todo all at st ok leads passes front lent goes = record {
       view = w;
       all = record {
@@ -169,8 +169,8 @@ module _ {T : Type 0} (K : CallsOf T) (laws : CallLaws K) where
         seen : IsPrefix u.known.seen h
         seen = (all.kept.true_of id u.known (at_map known_by views id u at)).begins
 
-        counts : 0 < u.known.parts
-        counts = let one : u.known.parts ≡ 1 = ap (λ (k : Known T). k.parts) st.knows in omega arith
+        counts : 0 < u.known.parties
+        counts = let one : u.known.parties ≡ 1 = ap (λ (k : Known T). k.parties) st.knows in omega arith
 
         kept : Kept cap (grown h e) n (set (map known_by views) id (known_after h e u.known))
         kept = kept_after cap h e n (map known_by views) id u.known all.kept (at_map known_by views id u at) counts made_is.1

@@ -62,7 +62,7 @@ module _ {T : Type 0} {n : ℕ} {vs : List (CallState T)} (k : Sharing n vs) (id
 
   pub enters : (d : CallState T) → get_elem? vs id ≡ some d → IsResting d → Recounts k id ((n + 1) % 2 ^ 64) (Entered n d)
   enters d at is =
-      let one : d.known.parts ≡ 1 = ap (λ (z : CallState T). z.known.parts) is in let none : d.known.extra ≡ 0 = ap (λ (z : CallState T). z.known.extra) is in let rests = quiet d _ is in
+      let one : d.known.parties ≡ 1 = ap (λ (z : CallState T). z.known.parties) is in let none : d.known.surplus ≡ 0 = ap (λ (z : CallState T). z.known.surplus) is in let rests = quiet d _ is in
       let up : (n + 1) % 2 ^ 64 ≡ n + 1 = let few = low in mod-eq_of_lt (omega arith) in
       dite (dec_le MAX_PARTIES n)
       (λ high. let v = refused d.known in (
@@ -78,7 +78,7 @@ module _ {T : Type 0} {n : ℕ} {vs : List (CallState T)} (k : Sharing n vs) (id
 
   pub goes_back : (d : CallState T) (v : Known T) → get_elem? vs id ≡ some d → d ≡ idle (refused v) → Recounts k id ((n + (2 ^ 64 - 1)) % 2 ^ 64) (Withdrew d)
   goes_back d v at is =
-      let w = withdraws T k.cap k.history n ks id d.known k.kept (known_at d at) (ap (λ (z : CallState T). z.known.parts) is) (ap (λ (z : CallState T). z.known.extra) is) in (
+      let w = withdraws T k.cap k.history n ks id d.known k.kept (known_at d at) (ap (λ (z : CallState T). z.known.parties) is) (ap (λ (z : CallState T). z.known.surplus) is) in (
         idle (withdrawn d.known),
         regroups _ d (withdrawn d.known) at (quiet d _ is) (subst (λ (z : ℕ). Kept k.cap k.history z (set ks id (withdrawn d.known))) (sym (down n w.0 low)) w.1),
         refl,
@@ -86,7 +86,7 @@ module _ {T : Type 0} {n : ℕ} {vs : List (CallState T)} (k : Sharing n vs) (id
 
   pub unites_two : (d : CallState T) (v u : Known T) → get_elem? vs id ≡ some d → d ≡ idle (pair_of v u) → Recounts k id ((n + (2 ^ 64 - 1)) % 2 ^ 64) (BecameOne d)
   unites_two d v u at is =
-      let w = unites T k.cap k.history n ks id d.known k.kept (known_at d at) (ap (λ (z : CallState T). z.known.parts) is) (ap (λ (z : CallState T). z.known.extra) is) in let one = united k.history d.known in (
+      let w = unites T k.cap k.history n ks id d.known k.kept (known_at d at) (ap (λ (z : CallState T). z.known.parties) is) (ap (λ (z : CallState T). z.known.surplus) is) in let one = united k.history d.known in (
         idle one,
         regroups _ d one at (quiet d _ is) (subst (λ (z : ℕ). Kept k.cap k.history z (set ks id one)) (sym (down n w.0 low)) w.1),
         (k.history, refl, w.2),
@@ -94,7 +94,7 @@ module _ {T : Type 0} {n : ℕ} {vs : List (CallState T)} (k : Sharing n vs) (id
 
   pub looks_on : (d : CallState T) (v u : Known T) → get_elem? vs id ≡ some d → d ≡ idle (pair_of v u) → Recounts k id n (SawAll d)
   looks_on d v u at is =
-      let two : d.known.parts ≡ 2 = ap (λ (z : CallState T). z.known.parts) is in
+      let two : d.known.parties ≡ 2 = ap (λ (z : CallState T). z.known.parties) is in
       let w = looks T k.cap k.history n ks id d.known k.kept (known_at d at) (omega arith) in (
         idle (looked k.history d.known),
         regroups n d (looked k.history d.known) at (quiet d _ is) w.0,
@@ -103,7 +103,7 @@ module _ {T : Type 0} {n : ℕ} {vs : List (CallState T)} (k : Sharing n vs) (id
 
   pub counts_one : (d : CallState T) → get_elem? vs id ≡ some d → IsResting d → Recounts k id n (Counted n d)
   counts_one d at is =
-      let one : d.known.parts ≡ 1 = ap (λ (z : CallState T). z.known.parts) is in let none : d.known.extra ≡ 0 = ap (λ (z : CallState T). z.known.extra) is in let rests = quiet d _ is in (
+      let one : d.known.parties ≡ 1 = ap (λ (z : CallState T). z.known.parties) is in let none : d.known.surplus ≡ 0 = ap (λ (z : CallState T). z.known.surplus) is in let rests = quiet d _ is in (
         d,
         (same_set vs id d d at rests rests, subst (λ (us : List (CallState T)). Kept k.cap k.history n (map known_by us)) (sym (set_again vs id d at)) k.kept),
         (
@@ -121,7 +121,7 @@ module _ {T : Type 0} {n : ℕ} {vs : List (CallState T)} (k : Sharing n vs) (id
         subst (Kept k.cap k.history n) (sym (map-append known_by us (idle q ∷ []) ∙ ap (λ (zs : List (Known T)). zs ++ q ∷ []) (map-set known_by vs id (idle l)))) kept,
       )
 
-  pub splits_apart : (d : CallState T) → get_elem? vs id ≡ some d → is_busy d.work ≡ false → d.known.parts ≡ 2 → d.known.extra ≡ 0 → Regroups k n (set vs id (first_part d) ++ second_part d ∷ [])
+  pub splits_apart : (d : CallState T) → get_elem? vs id ≡ some d → is_busy d.work ≡ false → d.known.parties ≡ 2 → d.known.surplus ≡ 0 → Regroups k n (set vs id (first_part d) ++ second_part d ∷ [])
   splits_apart d at rests two none = divides d (one_of d.known) (other_of d.known) at rests (parts_apart T k.cap k.history n ks id d.known k.kept (known_at d at) two none)
 
   pub splits_off : (d : CallState T) → get_elem? vs id ≡ some d → IsResting d → Regroups k n (set vs id d ++ empty_seat ∷ [])

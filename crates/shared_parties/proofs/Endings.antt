@@ -21,15 +21,15 @@ not_busy false never = refl
 not_busy true never = absurd (never refl)
 
 -- what is so of all calls, where the seat id has all of the share
-pub record Ends {T : Type 0} (K : CallsOf T) (g : K.Cells) (h : List (Effect T)) (views : List (CallState T)) (id : ℕ) (d : CallState T) : Type 0 where
+pub record OnlyParty {T : Type 0} (K : CallsOf T) (g : K.Cells) (h : List (Effect T)) (views : List (CallState T)) (id : ℕ) (d : CallState T) : Type 0 where
   pub whole : IsWhole (view_of d.known)
   pub seen : d.known.seen ≡ h
   -- the other seats count for nobody
-  pub others : (j : ℕ) (e : CallState T) → j ≢ id → get_elem? views j ≡ some e → e.known.parts ≡ 0
+  pub others : (j : ℕ) (e : CallState T) → j ≢ id → get_elem? views j ≡ some e → e.known.parties ≡ 0
   pub quiet : (j : ℕ) (e : CallState T) → get_elem? views j ≡ some e → is_busy e.work ≡ false
   pub nobody : (who : ℕ) → K.Idle g who
 
-pub calls_end : {T : Type 0} (K : CallsOf T) (g : K.Cells) (h : List (Effect T)) (n : ℕ) (views : List (CallState T)) (id : ℕ) (d : CallState T) → CallsAt K g h n views → get_elem? views id ≡ some d → IsLoneSeat d → Ends K g h views id d
+pub calls_end : {T : Type 0} (K : CallsOf T) (g : K.Cells) (h : List (Effect T)) (n : ℕ) (views : List (CallState T)) (id : ℕ) (d : CallState T) → CallsAt K g h n views → get_elem? views id ≡ some d → IsLoneSeat d → OnlyParty K g h views id d
 calls_end {T} K g h n views id d all at is = record {
   whole = solo.whole;
   seen = solo.seen;
@@ -41,13 +41,13 @@ calls_end {T} K g h n views id d all at is = record {
     solo : Alone h (map known_by views) id d.known
     solo = alone (cap_of K) d.known.cap h d.known.seen n (map known_by views) id d.known d.known.mine d.known.share all.kept (at_map known_by views id d at) (ap (λ (z : CallState T). z.known) is.0) is.1
 
-    others : (j : ℕ) (e : CallState T) → j ≢ id → get_elem? views j ≡ some e → e.known.parts ≡ 0
+    others : (j : ℕ) (e : CallState T) → j ≢ id → get_elem? views j ≡ some e → e.known.parties ≡ 0
     others j e ne there = solo.others j e.known ne (at_map known_by views j e there)
 
     -- a seat in a call counts for a party
-    counts : (j : ℕ) (e : CallState T) (w : Work T) → get_elem? views j ≡ some e → e.work ≡ w → is_busy w ≡ true → 0 < e.known.parts
+    counts : (j : ℕ) (e : CallState T) (w : Work T) → get_elem? views j ≡ some e → e.work ≡ w → is_busy w ≡ true → 0 < e.known.parties
     counts j e Work.Nothing there has busy = absurd (let z : false ≡ true = busy in cc)
-    counts j e (Work.Calls c) there has busy = let s : Standing K g h j e.known c = all.calls j e c there has in let one = ap (λ z. z.parts) s.knows in omega arith
+    counts j e (Work.Calls c) there has busy = let s : Standing K g h j e.known c = all.calls j e c there has in let one = ap (λ z. z.parties) s.knows in omega arith
 
     quiet : (j : ℕ) (e : CallState T) → get_elem? views j ≡ some e → is_busy e.work ≡ false
     quiet j e there = dite (ℕ_discrete j id)

@@ -27,8 +27,8 @@ module _ {T : Type 0} (cap : Option ℕ) where
     divided = record { depth = 0; shallow = first_shallow; one = refl };
   }
     where
-      first_shallow : (j : ℕ) (v : Known T) → get_elem? (first ∷ []) j ≡ some v → (v.share.1 ≤ 0) × (v.other.1 ≤ 0)
-      first_shallow zero v e = subst (λ (z : Known T). (z.share.1 ≤ 0) × (z.other.1 ≤ 0)) (some-injective first v e) (omega arith, omega arith)
+      first_shallow : (j : ℕ) (v : Known T) → get_elem? (first ∷ []) j ≡ some v → (v.share.1 ≤ 0) × (v.second_share.1 ≤ 0)
+      first_shallow zero v e = subst (λ (z : Known T). (z.share.1 ≤ 0) × (z.second_share.1 ≤ 0)) (some-injective first v e) (omega arith, omega arith)
       first_shallow (suc j) v e = absurd (some-ne-none v (sym e))
 
       first_true : (j : ℕ) (v : Known T) → get_elem? (first ∷ []) j ≡ some v → IsTrueOf cap [] v
@@ -39,7 +39,7 @@ module _ {T : Type 0} (cap : Option ℕ) where
             heard = ([], refl);
             within = λ p m. absurd (omega arith);
             empty = λ none. absurd (omega arith);
-            extra = omega arith;
+            surplus = omega arith;
             poor = λ none. absurd (omega arith);
             some = λ _. omega arith;
             solo = λ _. refl;

@@ -66,7 +66,7 @@ module _ {T : Type 0} where
   apart v w h s = record { comparable = prefix_either v.seen w.seen h s.later s.heard; disjoint = none_in_both v.mine w.mine s.once; part = s.part }
 
   -- places that lie in a history and stand in it once, of a party that saw it
-  is_view : (cap : Option ℕ) (v w : Known T) (h : List (Effect T)) (ps : List ℕ) (share : Share) → w.seen ≡ h → Sees v w → ((p : ℕ) → times p ps ≤ times p v.mine + times p v.theirs)
+  is_view : (cap : Option ℕ) (v w : Known T) (h : List (Effect T)) (ps : List ℕ) (share : Share) → w.seen ≡ h → Sees v w → ((p : ℕ) → times p ps ≤ times p v.mine + times p v.second_places)
       → IsSome share → IsPart share → (IsEntire share → (p : ℕ) → times p ps ≡ once_below p (length h)) → IsView v.cap (record { seen = h; mine = ps; share = share })
   is_view cap v w h ps share is s few rich part whole = record {
     legal = subst (λ (l : List (Effect T)). IsHistory v.cap l) is s.legal;

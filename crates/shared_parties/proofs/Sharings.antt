@@ -16,12 +16,12 @@ false_if false never = refl
 false_if true never = absurd (never refl)
 
 module _ {T : Type 0} (K : CallsOf T) (g : K.Cells) (h : List (Effect T)) (n : ℕ) (vs : List (CallState T)) (all : CallsAt K g h n vs) where
-  pub active : (j : ℕ) (d : CallState T) → get_elem? vs j ≡ some d → is_busy d.work ≡ true → 0 < d.known.parts
+  pub active : (j : ℕ) (d : CallState T) → get_elem? vs j ≡ some d → is_busy d.work ≡ true → 0 < d.known.parties
   active j d there busy = by d.work refl busy
     where
-      by : (w : Work T) → d.work ≡ w → is_busy w ≡ true → 0 < d.known.parts
+      by : (w : Work T) → d.work ≡ w → is_busy w ≡ true → 0 < d.known.parties
       by Work.Nothing is busy = absurd (let f : false ≡ true = busy in cc)
-      by (Work.Calls c) is busy = let st = all.calls j d c there is in let one : d.known.parts ≡ 1 = ap (λ (k : Known T). k.parts) st.knows in omega arith
+      by (Work.Calls c) is busy = let st = all.calls j d c there is in let one : d.known.parties ≡ 1 = ap (λ (k : Known T). k.parties) st.knows in omega arith
 
   abbrev pub sharing : Sharing n vs
   sharing = record { cap = cap_of K; history = h; kept = all.kept; active = active }

@@ -48,4 +48,4 @@ pub record Sharing {T : Type 0} (n : ℕ) (vs : List (CallState T)) : Type 0 whe
   pub cap : Option ℕ
   pub history : List (Effect T)
   pub kept : Kept cap history n (map known_by vs)
-  pub active : (j : ℕ) (d : CallState T) → get_elem? vs j ≡ some d → is_busy d.work ≡ true → 0 < d.known.parts
+  pub active : (j : ℕ) (d : CallState T) → get_elem? vs j ≡ some d → is_busy d.work ≡ true → 0 < d.known.parties

@@ -100,9 +100,9 @@ MayFront (Some (Effect.Front old v)) was = was ≡ true
 MayFront _ was = Unit {0}
 
 -- the call of the party j goes on from a known place, or ends with a reply that is right, and the party has no part in the cells then
-abbrev pub Goes : {T : Type 0} (K : CallsOf T) → K.Cells → ℕ → List (State T) → Bool → Next ℕ → Option T → Call T → List (Effect T) → Type 0
-Goes K g j ms was (Next.Step l t o) v k es = K.At g j ms was (stand l t o v k es)
-Goes {T} K g j ms was (Next.Reply x spare) v k es =
+abbrev pub NextOk : {T : Type 0} (K : CallsOf T) → K.Cells → ℕ → List (State T) → Bool → Next ℕ → Option T → Call T → List (Effect T) → Type 0
+NextOk K g j ms was (Next.Step l t o) v k es = K.At g j ms was (stand l t o v k es)
+NextOk {T} K g j ms was (Next.Reply x spare) v k es =
     K.Idle g j × K.Gives spare × ((y : Reply T) × (filled x v ≡ Some y) × Tells k y es × (es ≡ [] → SeenIn ms (Allows k y)))
 
 -- What a kind owes of its calls: no step of another party takes away what a call knows, nor a slot that its party has; who has no part in the cells has no slot;

@@ -17,7 +17,7 @@ Recounts {T} {vs = vs} k id new told = (w : CallState T) × Regroups k new (slic
 
 -- the seat of two parties, which is at nothing
 abbrev pub IsTwo : {T : Type 0} → CallState T → Type 0
-IsTwo d = (is_busy d.work ≡ false) × (d.known.parts ≡ 2) × (d.known.extra ≡ 0)
+IsTwo d = (is_busy d.work ≡ false) × (d.known.parties ≡ 2) × (d.known.surplus ≡ 0)
 
 -- the count of parties was raised, which was n: for a second party, or in vain as it was too high, and then there were other parties
 abbrev pub Entered : {T : Type 0} → ℕ → CallState T → CallState T → Type 0

@@ -33,9 +33,9 @@ pub trait CountAct<T> {
 }
 
 /// The count is raised for a second party.
-pub struct Enter;
+pub struct Admit;
 
-impl<T> CountAct<T> for Enter {
+impl<T> CountAct<T> for Admit {
     ghost use Rattle.shared_parties.specs.Parting.{Entered};
 
     ghost tells = { Entered };
@@ -81,9 +81,9 @@ impl<T> CountAct<T> for Unite {
 }
 
 /// The count is read by two parties that meet.
-pub struct LookOn;
+pub struct SeeAll;
 
-impl<T> CountAct<T> for LookOn {
+impl<T> CountAct<T> for SeeAll {
     ghost use Rattle.shared_parties.specs.Parting.{SawAll};
 
     ghost tells = { λ n. SawAll };
@@ -97,9 +97,9 @@ impl<T> CountAct<T> for LookOn {
 }
 
 /// The count is read by a party that may be the only one.
-pub struct Count;
+pub struct ReadCount;
 
-impl<T> CountAct<T> for Count {
+impl<T> CountAct<T> for ReadCount {
     ghost use Rattle.shared_parties.specs.Parting.{Counted};
 
     ghost tells = { Counted };
@@ -146,7 +146,7 @@ pub fn split<T, S, C: PartyCount<T, S>>(count: &C, party: S) -> Result<(S, S), S
     ensures parted { MatchResult result (λ r. Parts (C.knows party) (C.knows r.0) (C.knows r.1)) (λ s. (C.knows s ≡ C.knows party) × ¬ (IsEntire (C.knows party).known.share)) }
 {
     let mut seat = party;
-    if count.act::<Enter>(&mut seat) >= MAX_PARTIES {
+    if count.act::<Admit>(&mut seat) >= MAX_PARTIES {
         count.act::<Withdraw>(&mut seat);
         return Err(seat);
     }
@@ -172,7 +172,7 @@ pub fn meet<T, S, C: PartyCount<T, S>>(count: &C, first: S, second: S) -> (S, S)
     ensures met { Meets (C.knows first) (C.knows second) (C.knows result.0) (C.knows result.1) }
 {
     let mut seat = count.pair(first, second);
-    count.act::<LookOn>(&mut seat);
+    count.act::<SeeAll>(&mut seat);
     count.part(seat)
 }
 
@@ -182,5 +182,5 @@ pub fn is_only<T, S, C: PartyCount<T, S>>(count: &C, seat: &mut S) -> bool
     ensures same { C.sits count.now seat.new × (C.id seat.new ≡ C.id seat.old) × (C.knows seat.new ≡ C.knows seat.old) }
     ensures counted { MatchBool result (IsEntire (C.knows seat.old).known.share) (¬ (IsEntire (C.knows seat.old).known.share)) }
 {
-    count.act::<Count>(seat) == 1
+    count.act::<ReadCount>(seat) == 1
 }

@@ -10,13 +10,13 @@ use std::collections::LinkedList;
 pub struct Known<T> {
     pub cap: Option<usize>,
     pub seen: LinkedList<Effect<T>>,
-    pub told: LinkedList<Effect<T>>,
+    pub second_seen: LinkedList<Effect<T>>,
     pub mine: LinkedList<usize>,
-    pub theirs: LinkedList<usize>,
-    pub parts: usize,
-    pub extra: usize,
+    pub second_places: LinkedList<usize>,
+    pub parties: usize,
+    pub surplus: usize,
     pub share: (usize, usize),
-    pub other: (usize, usize),
+    pub second_share: (usize, usize),
 }
 
 /// A call on its way, between two of its steps: the step that it does next and what it carries, its effects and their places so far, what its party had

@@ -23,7 +23,7 @@ use Rattle.shared_parties.specs.CallStates.{IsLoneSeat}
 use Rattle.shared_tables.specs.TableRule.{Rule}
 use Rattle.shared_tables.specs.RingTable.{home_when, Homes, ring_words, ring_table}
 use Rattle.own_bounded.specs.RingCells.{RingSlot}
-use Rattle.own_bounded.specs.RingOwned.{at_position, Holds, put_in, items_of, IsIdle, ring_queue}
+use Rattle.own_bounded.specs.RingOwned.{at_position, HoldsItems, put_in, items_of, IsIdle, ring_queue}
 use Rattle.own_bounded.specs.RingMemory.{paired, ring_in}
 use Rattle.own_bounded.proofs.RingWrites.{elem_or, length_paired, pair_at}
 use Rattle.shared_tables.proofs.TableRests.{table_ends}
@@ -65,7 +65,7 @@ module _ {T : Type 0} where
     free_at : (p : ℕ) → r.tail ≤ p → p < r.head + cap → at_position cap slots p ≡ record { stamp = stamp_free p; item = None }
     free_at p low high = let f = rest.free p low high in at_is p ∙ (λ i. record { stamp = f.0 i; item = f.1 i })
 
-    holds : Holds cap r.head r.tail slots
+    holds : HoldsItems cap r.head r.tail slots
     holds = record {
       some = let wide : 1 < cap = ok.ring.0 in omega arith;
       slotted = length_paired s.stamps xs cap codes.stamped long;
@@ -85,7 +85,7 @@ module _ {T : Type 0} where
     owned_idle = record {
       ring = ok.ring;
       below = let m = ok.most in omega (arith, tail_is, m);
-      holds = subst (λ (z : ℕ × ℕ). Holds cap z.0 z.1 slots) (λ i. (sym codes.head i, sym tail_is i)) holds;
+      holds = subst (λ (z : ℕ × ℕ). HoldsItems cap z.0 z.1 slots) (λ i. (sym codes.head i, sym tail_is i)) holds;
     }
 
     pub owned_shown : IsShown (ring_queue (ring_in cap (n ∷ ring_words s) xs)) (queue_of cap r)

@@ -10,7 +10,7 @@ use Rattle.queue_steps.specs.Shares.{entire}
 use Rattle.queue_steps.specs.SingleNext.{is_marked}
 use Rattle.queue_steps.specs.State.{State}
 use Rattle.law_slot.specs.SlotHolder.{SlotHolder, Nobody}
-use Rattle.law_slot.specs.SlotRows.{Stands, free_empty, free_full, single}
+use Rattle.law_slot.specs.SlotRows.{Codes, free_empty, free_full, single}
 use Rattle.law_slot.specs.SlotCells.{Slot, queue_of, lent_by}
 use Rattle.law_slot.proofs.SlotCells.{all_nobody}
 use Rattle.shared_parties.specs.declared.known.CallState.{CallState}
@@ -56,10 +56,10 @@ module _ (T : Type 0) where
   abbrev Left : ℕ → Option T → State T → Type 0
   Left word x Q = (word ≡ word_for x (is_marked word)) × IsShown (state_of word x) Q
 
-  left_by : (word : ℕ) (slot : Option T) (h : SlotHolder T) (items : List T) (c : Bool) (n : ℕ) → h ≡ Nobody → Stands word slot h items c → Left word slot (single items c n)
-  left_by word slot h items c n is st = by (subst (λ k. Stands word slot k items c) is st)
+  left_by : (word : ℕ) (slot : Option T) (h : SlotHolder T) (items : List T) (c : Bool) (n : ℕ) → h ≡ Nobody → Codes word slot h items c → Left word slot (single items c n)
+  left_by word slot h items c n is st = by (subst (λ k. Codes word slot k items c) is st)
     where
-      by : {w : ℕ} {x : Option T} {ys : List T} {d : Bool} → Stands w x Nobody ys d → Left w x (single ys d n)
+      by : {w : ℕ} {x : Option T} {ys : List T} {d : Bool} → Codes w x Nobody ys d → Left w x (single ys d n)
       by (free_empty true) = (refl, record { items = refl; cap = refl; closed = refl; coming = refl; accepted = inl refl })
       by (free_full true x) = (refl, record { items = refl; cap = refl; closed = refl; coming = refl; accepted = inl refl })
       by x = (refl, record { items = refl; cap = refl; closed = refl; coming = refl; accepted = inl refl })

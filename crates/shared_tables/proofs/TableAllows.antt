@@ -10,7 +10,7 @@ use Rattle.shared_parties.specs.declared.known.Work.TheVariants as work
 use Rattle.shared_parties.specs.declared.known.CallState.{CallState}
 use Rattle.shared_tables.specs.Seats.{Table, Seated, count_of}
 use Rattle.shared_parties.specs.Calling.{CallsOf, stand_of, Standing, touched_list, handed_by, HasTouched}
-use Rattle.shared_tables.specs.TableRule.{TableOf, Rule, found_by, InTable, TakesOff, Stepped, TableLaws}
+use Rattle.shared_tables.specs.TableRule.{TableOf, Rule, found_by, InTable, TakesOff, TableStepOk, TableLaws}
 use Rattle.shared_parties.specs.Operations.{op_word, op_makes, answer_for}
 use Rattle.shared_tables.specs.TableTurns.{After, Follows}
 use Rattle.shared_parties.specs.CallsAt.{Ready, CallsAt, Told}
@@ -78,7 +78,7 @@ module _ {T : Type 0} (K : TableOf T) (words : ℕ) (laws : TableLaws K words) w
       st : Standing C rule.cells h id m.0.known c
       st = stands s id m c rule at ready
 
-      g : Stepped K rule.cells id n rule.words s.homes st.ms st.was (stand_of c) c.lends
+      g : TableStepOk K rule.cells id n rule.words s.homes st.ms st.was (stand_of c) c.lends
       g = laws.steps rule.cells id n rule.words s.homes st.ms st.was (stand_of c) c.lends rule.all.ok rule.coded st.here st.lent
 
       found_is : found_by K c.op s.words ≡ found_by K c.op all

@@ -18,15 +18,15 @@ use Rattle.shared_parties.proofs.Sharings.{false_if}
 use Rattle.shared_parties.proofs.Alone.{Alone, alone}
 
 -- what is so of a table by its rule, where the seat id has all of the share
-pub record Ends {T : Type 0} (K : TableOf T) (s : Table T) (id : ℕ) (d : CallState T) (rule : Rule K s) : Type 0 where
+pub record OnlyParty {T : Type 0} (K : TableOf T) (s : Table T) (id : ℕ) (d : CallState T) (rule : Rule K s) : Type 0 where
   pub whole : IsWhole (view_of d.known)
   pub seen : d.known.seen ≡ rule.history
   -- the other seats count for nobody
-  pub others : (j : ℕ) (e : CallState T) → j ≢ id → get_elem? s.views j ≡ some e → e.known.parts ≡ 0
+  pub others : (j : ℕ) (e : CallState T) → j ≢ id → get_elem? s.views j ≡ some e → e.known.parties ≡ 0
   pub quiet : (j : ℕ) (e : CallState T) → get_elem? s.views j ≡ some e → is_busy e.work ≡ false
   pub nobody : (who : ℕ) → K.calls.Idle rule.cells who
 
-pub table_ends : {T : Type 0} (K : TableOf T) (s : Table T) (id : ℕ) (d : CallState T) (rule : Rule K s) → get_elem? s.views id ≡ some d → IsLoneSeat d → Ends K s id d rule
+pub table_ends : {T : Type 0} (K : TableOf T) (s : Table T) (id : ℕ) (d : CallState T) (rule : Rule K s) → get_elem? s.views id ≡ some d → IsLoneSeat d → OnlyParty K s id d rule
 table_ends {T} K s id d rule at is = record {
   whole = solo.whole;
   seen = solo.seen;
@@ -38,7 +38,7 @@ table_ends {T} K s id d rule at is = record {
     solo : Alone rule.history (map known_by s.views) id d.known
     solo = alone (cap_of K.calls) d.known.cap rule.history d.known.seen (count_of s) (map known_by s.views) id d.known d.known.mine d.known.share rule.all.kept (at_map known_by s.views id d at) (ap (λ (z : CallState T). z.known) is.0) is.1
 
-    others : (j : ℕ) (e : CallState T) → j ≢ id → get_elem? s.views j ≡ some e → e.known.parts ≡ 0
+    others : (j : ℕ) (e : CallState T) → j ≢ id → get_elem? s.views j ≡ some e → e.known.parties ≡ 0
     others j e ne there = solo.others j e.known ne (at_map known_by s.views j e there)
 
     -- a seat in a call counts for a party

@@ -5,7 +5,7 @@ use mathlib.Core.Option as maybe
 use Rattle.law_common.specs.Vocabulary.{Kind}
 use Rattle.law_slot.specs.SlotShared.{IsLock}
 use Rattle.law_slot.specs.SlotHolder.{SlotHolder, Nobody}
-use Rattle.law_slot.specs.SlotRows.{Stands, At}
+use Rattle.law_slot.specs.SlotRows.{Codes, At}
 use Rattle.law_slot.specs.SlotCells.{Slot, queue_of, own_in, Passes, Lent}
 use Rattle.shared_parties.specs.Calling.{CallsOf}
 use Rattle.shared_tables.specs.TableRule.{TableOf}
@@ -17,7 +17,7 @@ home_under _ x = maybe.none
 
 -- the word and the slot stand for the queue, by what the party that has the lock is about to do
 abbrev pub SlotCoded : {T : Type 0} → Slot T → List ℕ → List (maybe.Option (Option T)) → Type 0
-SlotCoded {T} g ws hs = (word : ℕ) × (slot : Option T) × Stands word slot g.keeps.hold g.items g.closed × (ws ≡ word ∷ []) × (hs ≡ home_under g.keeps.hold slot ∷ [])
+SlotCoded {T} g ws hs = (word : ℕ) × (slot : Option T) × Codes word slot g.keeps.hold g.items g.closed × (ws ≡ word ∷ []) × (hs ≡ home_under g.keeps.hold slot ∷ [])
 
 -- the calls on one slot
 abbrev pub slot_calls : {T : Type 0} → CallsOf T

@@ -15,7 +15,7 @@ use Rattle.shared_tables.specs.Early.{IsEarly}
 use Rattle.shared_tables.specs.Seats.{Table, count_of}
 use Rattle.shared_parties.specs.Operations.{op_word, op_makes, answer_for}
 use Rattle.shared_parties.specs.CallsAt.{CallsAt}
-use Rattle.shared_parties.specs.Calling.{CallsOf, CallLaws, touched_list, handed_by, MayFront, Goes, first_of, Opens}
+use Rattle.shared_parties.specs.Calling.{CallsOf, CallLaws, touched_list, handed_by, MayFront, NextOk, first_of, Opens}
 
 -- A kind of queue in a table: which of the steps' words it has and where, and how the words behind the count and the slots at home stand for its cells
 pub record TableOf (T : Type 0) : Type 1 where
@@ -55,7 +55,7 @@ TakesOff _ n = Unit {0}
 -- the party who at these cells, for which the words ws, of them n counts the parties, and the homes hs stand
 module _ {T : Type 0} (K : TableOf T) (g : K.calls.Cells) (who n : ℕ) (ws : List ℕ) (hs : List (maybe.Option (Option T))) where
   -- What the next step of its call does: an effect at most, an act on the slots, of which the party has xs, and cells that are right again, at which the call goes on or ends
-  pub record Stepped (ms : List (State T)) (was : Bool) (c : Stand T) (xs : List (ℕ × Option T)) : Type 0 where
+  pub record TableStepOk (ms : List (State T)) (was : Bool) (c : Stand T) (xs : List (ℕ × Option T)) : Type 0 where
     pub after : K.calls.Cells
     pub words : List ℕ
     pub effect : Option (Effect T)
@@ -69,7 +69,7 @@ module _ {T : Type 0} (K : TableOf T) (g : K.calls.Cells) (who n : ℕ) (ws : Li
     pub front : MayFront effect was
     pub makes : Leads (K.calls.queue_of g) effect (K.calls.queue_of after)
     pub passes : K.calls.Passes who g after
-    pub goes : Goes K.calls after who (K.calls.queue_of after ∷ ms) (was || not (K.calls.queue_of after).closed)
+    pub goes : NextOk K.calls after who (K.calls.queue_of after ∷ ms) (was || not (K.calls.queue_of after).closed)
         (next_of K.calls.kind c.local (answer_for c.op (found_by K c.op (n ∷ ws)))) (handed_by c.touch c.carried xs) c.call (with_effect c.effects effect)
 
 -- the first step of a call is on a word of the table
@@ -83,7 +83,7 @@ pub record TableLaws {T : Type 0} (K : TableOf T) (words : ℕ) : Type 0 where
   pub at_word : (g : K.calls.Cells) (j : ℕ) (ms : List (State T)) (was : Bool) (c : Stand T)
       → K.calls.Ok g → K.calls.At g j ms was c → InTable K c.op
   pub steps : (g : K.calls.Cells) (who n : ℕ) (ws : List ℕ) (hs : List (maybe.Option (Option T))) (ms : List (State T)) (was : Bool) (c : Stand T) (xs : List (ℕ × Option T))
-      → K.calls.Ok g → K.Coded g ws hs → K.calls.At g who ms was c → K.calls.Lent g who xs → Stepped K g who n ws hs ms was c xs
+      → K.calls.Ok g → K.Coded g ws hs → K.calls.At g who ms was c → K.calls.Lent g who xs → TableStepOk K g who n ws hs ms was c xs
   pub takes_off : (g : K.calls.Cells) (who n : ℕ) (ws : List ℕ) (hs : List (maybe.Option (Option T))) (ms : List (State T)) (was : Bool) (c : Stand T)
       → K.calls.Ok g → K.Coded g ws hs → K.calls.At g who ms was c → TakesOff c.op (found_by K c.op (n ∷ ws))
   pub gives : (spare : Option ℕ) → K.calls.Gives spare → spare ≡ None

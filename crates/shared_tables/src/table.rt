@@ -12,8 +12,8 @@ use call_driver::site::{SharedSite, Site};
 use call_steps::KindSteps;
 use queue_steps::model::CallKind;
 use queue_steps::steps::{Answer, Kind, Local, Op, Touch, Word};
+use shared_parties::call_tag::CallTag;
 use shared_parties::known::CallState;
-use shared_parties::task::Task;
 use std::alloc::Allocator;
 use std::marker::{Brand, PhantomData};
 
@@ -79,7 +79,7 @@ struct Steps<K, J> {
     of: PhantomData<J>,
 }
 
-impl<T, K: TableKind<T>, J: Task<T>> Play<Option<T>, CallState<T>> for Steps<K, J> {
+impl<T, K: TableKind<T>, J: CallTag<T>> Play<Option<T>, CallState<T>> for Steps<K, J> {
     ghost use Rattle.shared_tables.specs.TableTurns.{Follows};
 
     ghost then = { λ st m n q. Follows (K.layout st.slots) J.call n q };
@@ -107,7 +107,7 @@ impl<T, K: TableSteps<T>, A: Allocator> SharedTable<T, K, A> {
 
     /// The operation of a step, whose slot was touched. Of which call it is the caller says, by its kind and by where it waits.
     #[inline(always)]
-    fn operate<J: Task<T>>(
+    fn operate<J: CallTag<T>>(
         &self,
         seat: &mut Seat<Option<T>, CallState<T>>,
         call: &CallKind,

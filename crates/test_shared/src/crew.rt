@@ -115,7 +115,7 @@ pub(crate) enum Role {
 }
 
 /// What one thread does, and with which numbers: from the first on, below the second.
-pub(crate) type Task = (Role, u64, u64);
+pub(crate) type Assignment = (Role, u64, u64);
 
 /// Pushes an item, and tries again while the queue is full.
 pub(crate) fn push_one<T: Drop, A: NullTestable, R: Wait>(
@@ -348,12 +348,12 @@ pub(crate) fn act<A: NullTestable, R: Wait>(
     queue: &ConcurrentQueue<u64, A>,
     mut party: Party<u64>,
     board: &Board,
-    task: Task,
+    assignment: Assignment,
 ) -> (Party<u64>, bool)
     requires { IsPartyOf party queue.now }
     ensures { IsPartyOf result.0 queue.now }
 {
-    let (role, first, end) = task;
+    let (role, first, end) = assignment;
     let mut right = board.come();
     for number in first..end {
         right = turn(rt, queue, &mut party, board, role, number) && right;
@@ -368,32 +368,32 @@ pub(crate) fn act<A: NullTestable, R: Wait>(
     (party, right)
 }
 
-/// A thread and so many others. Each has the task of its number, of which this one has the greatest.
+/// A thread and so many others. Each has the assignment of its number, of which this one has the greatest.
 pub(crate) fn crew<A: NullTestable + Send + Sync, R: Wait + Threads + Sync + Abort>(
     rt: &R,
     queue: &ConcurrentQueue<u64, A>,
     party: Party<u64>,
     board: &Board,
-    tasks: &[Task],
+    assignments: &[Assignment],
     others: u64,
 ) -> (Party<u64>, bool)
     requires { IsPartyOf party queue.now }
     ensures { IsPartyOf result.0 queue.now }
 {
-    let Some(task) = tasks.get(others as usize) else {
+    let Some(assignment) = assignments.get(others as usize) else {
         return (party, false);
     };
     if others == 0 {
-        return act(rt, queue, party, board, *task);
+        return act(rt, queue, party, board, *assignment);
     }
     let (a, b) = part(rt, queue, party);
     let ((a, right), (b, right_too)) = join(
         rt,
-        || act(rt, queue, a, board, *task),
+        || act(rt, queue, a, board, *assignment),
         || -> (Party<u64>, bool)
             requires { IsSync R.row × IsPartyOf b queue.now × (0 < others) }
             ensures { IsPartyOf result.0 queue.entry.now }
-        { crew(rt, queue, b, board, tasks, others - 1) },
+        { crew(rt, queue, b, board, assignments, others - 1) },
     );
     (queue.join(a, b), right && right_too)
 }

@@ -7,12 +7,12 @@ use lib.ListN.{get_elem?}
 use lib.Seq.{set-get_or}
 use denote.RawPtr.{Ptr}
 use Rattle.atomic_table.proofs.Lists.{at_set, at_snoc}
-use Rattle.mem_blocks.specs.Web.{Block, State, Sitter, block, Lives, word_of, with_word, Goes, Allows, CanFork, CanMerge}
+use Rattle.mem_blocks.specs.Web.{Block, State, Sitter, block, Lives, word_of, with_word, KeepsRule, Allows, CanFork, CanMerge}
 use Rattle.test_support.specs.ClosingRule as told
-use Rattle.test_support.specs.ClosingRule.{mark, Begins, view, Known, Holds}
+use Rattle.test_support.specs.ClosingRule.{mark, Begins, view, IsViewOf, ClosingHolds}
 use Rattle.mem_blocks.specs.declared.sizes.TheConstants.{SLOTS}
 use Rattle.test_support.specs.declared.closing_rule.View.{View}
-use Rattle.test_support.specs.declared.closing_rule.Place.{Place}
+use Rattle.test_support.specs.declared.closing_rule.QueueEnds.{QueueEnds}
 
 mark_is : (log : List ℕ) → (mark log ≡ 0) ⊎ (mark log ≡ 1)
 mark_is [] = inl refl
@@ -48,7 +48,7 @@ module _ {S : Type 0} where
   same [] = refl
   same (b ∷ bs) = ap (λ (ns : List ℕ). record { at = b.at; alive = b.alive; next = b.next; words = ns; homes = b.homes } ∷ bs) (set-get_or b.words 0 0)
 
-module _ {S : Type 0} (key : Place S) (id : ℕ) (m : Sitter S View) (p : Ptr) (ep : p ≡ key.tail.ptr) where
+module _ {S : Type 0} (key : QueueEnds S) (id : ℕ) (m : Sitter S View) (p : Ptr) (ep : p ≡ key.tail.ptr) where
   abbrev v : View
   v = m.view
 
@@ -56,42 +56,42 @@ module _ {S : Type 0} (key : Place S) (id : ℕ) (m : Sitter S View) (p : Ptr) (
   Here s = get_elem? s.views id ≡ some v
 
   -- the history grows by an effect of this party's
-  adds : (s : State S View) (r : Holds key s) → Here s → (n : ℕ) → n ≡ 1 → Holds key record { blocks = with_word s.blocks 0 0 n; views = set s.views id (view (r.log ++ id ∷ []) (v.mine ++ length r.log ∷ [])) }
+  adds : (s : State S View) (r : ClosingHolds key s) → Here s → (n : ℕ) → n ≡ 1 → ClosingHolds key record { blocks = with_word s.blocks 0 0 n; views = set s.views id (view (r.log ++ id ∷ []) (v.mine ++ length r.log ∷ [])) }
   adds s r here n is = let log = r.log in let log' : List ℕ = log ++ id ∷ [] in let w : View = view log' (v.mine ++ length log ∷ []) in let mine = r.views id v here in
       let t = written s.blocks n key.tail.ptr key.head.ptr r.tail r.head r.long in
-      let own : Known log' id w = (([], append-nil log'), λ i q at. ⊎_elim (λ old. stays_there log (id ∷ []) q id (mine.1 i q old)) (λ (e : length log ≡ q). subst (λ (j : ℕ). get_elem? log' j ≡ some id) e (last_there log id)) (at_snoc v.mine (length log) q i at)) in record {
+      let own : IsViewOf log' id w = (([], append-nil log'), λ i q at. ⊎_elim (λ old. stays_there log (id ∷ []) q id (mine.1 i q old)) (λ (e : length log ≡ q). subst (λ (j : ℕ). get_elem? log' j ≡ some id) e (last_there log id)) (at_snoc v.mine (length log) q i at)) in record {
         log = log';
         tail = t.0;
         head = t.1;
         long = t.2;
         word = t.3 ∙ is ∙ sym (marked log id);
-        views = λ j d at. ⊎_elim (λ (x : (j ≡ id) × (w ≡ d)). subst (λ (y : ℕ × View). Known log' y.0 y.1) (λ i. (sym x.0 i, x.1 i)) own)
+        views = λ j d at. ⊎_elim (λ (x : (j ≡ id) × (w ≡ d)). subst (λ (y : ℕ × View). IsViewOf log' y.0 y.1) (λ i. (sym x.0 i, x.1 i)) own)
             (λ (x : (j ≢ id) × (get_elem? s.views j ≡ some d)). let k = r.views j d x.1 in (longer d.seen log id k.0, λ i q there. stays_there log (id ∷ []) q j (k.1 i q there))) (at_set s.views id j w d at);
       }
 
   -- nothing changes, and the party has seen the whole history
-  sees : (s : State S View) (r : Holds key s) → Here s → Holds key record { blocks = s.blocks; views = set s.views id (view r.log v.mine) }
+  sees : (s : State S View) (r : ClosingHolds key s) → Here s → ClosingHolds key record { blocks = s.blocks; views = set s.views id (view r.log v.mine) }
   sees s r here = let w : View = view r.log v.mine in record {
     log = r.log;
     tail = r.tail;
     head = r.head;
     long = r.long;
     word = r.word;
-    views = λ j d at. ⊎_elim (λ (x : (j ≡ id) × (w ≡ d)). subst (λ (y : ℕ × View). Known r.log y.0 y.1) (λ i. (sym x.0 i, x.1 i)) (([], append-nil r.log), (r.views id v here).1))
+    views = λ j d at. ⊎_elim (λ (x : (j ≡ id) × (w ≡ d)). subst (λ (y : ℕ × View). IsViewOf r.log y.0 y.1) (λ i. (sym x.0 i, x.1 i)) (([], append-nil r.log), (r.views id v here).1))
         (λ (x : (j ≢ id) × (get_elem? s.views j ≡ some d)). r.views j d x.1) (at_set s.views id j w d at);
   }
 
-  stays : (s : State S View) (r : Holds key s) (f : ℕ → ℕ) (then : Sitter S View → Type 0) → f (word_of s.blocks 0 0) ≡ word_of s.blocks 0 0 → Here s
-      → then record { view = view r.log v.mine; hand = m.hand; spare = m.spare } → Goes (Holds key) s (with_word s.blocks 0 0 (f (word_of s.blocks 0 0))) id m then
+  stays : (s : State S View) (r : ClosingHolds key s) (f : ℕ → ℕ) (then : Sitter S View → Type 0) → f (word_of s.blocks 0 0) ≡ word_of s.blocks 0 0 → Here s
+      → then record { view = view r.log v.mine; hand = m.hand; spare = m.spare } → KeepsRule (ClosingHolds key) s (with_word s.blocks 0 0 (f (word_of s.blocks 0 0))) id m then
   stays s r f then e here good = (
     view r.log v.mine,
     [],
     tt,
-    subst (λ (bs : List (Block S)). Holds key record { blocks = bs; views = set s.views id (view r.log v.mine) }) (sym (ap (with_word s.blocks 0 0) e ∙ same s.blocks)) (sees s r here),
+    subst (λ (bs : List (Block S)). ClosingHolds key record { blocks = bs; views = set s.views id (view r.log v.mine) }) (sym (ap (with_word s.blocks 0 0) e ∙ same s.blocks)) (sees s r here),
     good,
   )
 
-  pub closes : Allows (Holds key) id m p 0 (λ n. bit_or n 1) (told.closes m)
+  pub closes : Allows (ClosingHolds key) id m p 0 (λ n. bit_or n 1) (told.closes m)
   closes s r here = (
     0,
     (r.tail.0, r.tail.1 ∙ sym ep),
@@ -107,7 +107,7 @@ module _ {S : Type 0} (key : Place S) (id : ℕ) (m : Sitter S View) (p : Ptr) (
         (mark_is r.log),
   )
 
-  pub looks : Allows (Holds key) id m p 0 (λ n. n) (told.looks m)
+  pub looks : Allows (ClosingHolds key) id m p 0 (λ n. n) (told.looks m)
   looks s r here = (
     0,
     (r.tail.0, r.tail.1 ∙ sym ep),
@@ -115,7 +115,7 @@ module _ {S : Type 0} (key : Place S) (id : ℕ) (m : Sitter S View) (p : Ptr) (
         stays s r (λ x. x) (told.looks m n) refl here ((refl, refl), (λ e. (begins, sym is ∙ e, refl)), λ ne. (begins, ⊎_elim (λ (clear : mark r.log ≡ 0). absurd (ne (is ∙ clear))) (λ shut. shut) (mark_is r.log), refl)),
   )
 
-  pub parts : CanFork (Holds key) p id v v (told.newcomer v)
+  pub parts : CanFork (ClosingHolds key) p id v v (told.newcomer v)
   parts s r here = (
     0,
     (r.tail.0, r.tail.1 ∙ sym ep),
@@ -125,13 +125,13 @@ module _ {S : Type 0} (key : Place S) (id : ℕ) (m : Sitter S View) (p : Ptr) (
       head = r.head;
       long = r.long;
       word = r.word;
-      views = λ j d at. ⊎_elim (λ old. ⊎_elim (λ (x : (j ≡ id) × (v ≡ d)). subst (λ (y : ℕ × View). Known r.log y.0 y.1) (λ i. (sym x.0 i, x.1 i)) (r.views id v here))
+      views = λ j d at. ⊎_elim (λ old. ⊎_elim (λ (x : (j ≡ id) × (v ≡ d)). subst (λ (y : ℕ × View). IsViewOf r.log y.0 y.1) (λ i. (sym x.0 i, x.1 i)) (r.views id v here))
           (λ (x : (j ≢ id) × (get_elem? s.views j ≡ some d)). r.views j d x.1) (at_set s.views id j v d old))
-          (λ (new : told.newcomer v ≡ d). subst (Known r.log j) new ((r.views id v here).0, λ i q there. absurd (some-ne-none q (sym there)))) (at_snoc (set s.views id v) (told.newcomer v) d j at);
+          (λ (new : told.newcomer v ≡ d). subst (IsViewOf r.log j) new ((r.views id v here).0, λ i q there. absurd (some-ne-none q (sym there)))) (at_snoc (set s.views id v) (told.newcomer v) d j at);
     },
   )
 
-  pub returns : (other : ℕ) (w : View) → CanMerge (Holds key) p id v other w v told.nothing
+  pub returns : (other : ℕ) (w : View) → CanMerge (ClosingHolds key) p id v other w v told.nothing
   returns other w s r = (
     0,
     (r.tail.0, r.tail.1 ∙ sym ep),
@@ -141,16 +141,16 @@ module _ {S : Type 0} (key : Place S) (id : ℕ) (m : Sitter S View) (p : Ptr) (
       head = r.head;
       long = r.long;
       word = r.word;
-      views = λ j d at. ⊎_elim (λ (x : (j ≡ other) × (told.nothing ≡ d)). subst (Known r.log j) x.1 ((r.log, refl), λ i q none. absurd (some-ne-none q (sym none))))
-          (λ (x : (j ≢ other) × (get_elem? (set s.views id v) j ≡ some d)). ⊎_elim (λ (y : (j ≡ id) × (v ≡ d)). subst (λ (u : ℕ × View). Known r.log u.0 u.1) (λ i. (sym y.0 i, y.1 i)) (r.views id v here))
+      views = λ j d at. ⊎_elim (λ (x : (j ≡ other) × (told.nothing ≡ d)). subst (IsViewOf r.log j) x.1 ((r.log, refl), λ i q none. absurd (some-ne-none q (sym none))))
+          (λ (x : (j ≢ other) × (get_elem? (set s.views id v) j ≡ some d)). ⊎_elim (λ (y : (j ≡ id) × (v ≡ d)). subst (λ (u : ℕ × View). IsViewOf r.log u.0 u.1) (λ i. (sym y.0 i, y.1 i)) (r.views id v here))
           (λ (y : (j ≢ id) × (get_elem? s.views j ≡ some d)). r.views j d y.1) (at_set s.views id j v d x.1)) (at_set (set s.views id v) other j told.nothing d at);
     },
   )
 
 -- an open queue, whose two ends were laid one after the other
-pub begins : {S : Type 0} (key : Place S) (none one two : List (Block S)) (x y : Block S) → none ≡ [] → one ≡ none ++ x ∷ [] → two ≡ one ++ y ∷ [] → x.alive ≡ true → y.alive ≡ true → x.at ≡ key.tail.ptr → y.at ≡ key.head.ptr
-    → x.words ≡ replicate SLOTS 0 → Holds key record { blocks = two; views = told.nothing ∷ [] }
-begins key none one two x y e₀ e₁ e₂ x_lives y_lives tail head words = subst (λ (bs : List (Block _)). Holds key record { blocks = bs; views = told.nothing ∷ [] }) (sym (e₂ ∙ ap (λ bs. bs ++ y ∷ []) (e₁ ∙ ap (λ bs. bs ++ x ∷ []) e₀))) record {
+pub begins : {S : Type 0} (key : QueueEnds S) (none one two : List (Block S)) (x y : Block S) → none ≡ [] → one ≡ none ++ x ∷ [] → two ≡ one ++ y ∷ [] → x.alive ≡ true → y.alive ≡ true → x.at ≡ key.tail.ptr → y.at ≡ key.head.ptr
+    → x.words ≡ replicate SLOTS 0 → ClosingHolds key record { blocks = two; views = told.nothing ∷ [] }
+begins key none one two x y e₀ e₁ e₂ x_lives y_lives tail head words = subst (λ (bs : List (Block _)). ClosingHolds key record { blocks = bs; views = told.nothing ∷ [] }) (sym (e₂ ∙ ap (λ bs. bs ++ y ∷ []) (e₁ ∙ ap (λ bs. bs ++ x ∷ []) e₀))) record {
   log = [];
   tail = (x_lives, tail);
   head = (y_lives, head);
@@ -159,6 +159,6 @@ begins key none one two x y e₀ e₁ e₂ x_lives y_lives tail head words = sub
   views = known;
 }
   where
-    known : (j : ℕ) (d : View) → get_elem? (told.nothing ∷ []) j ≡ some d → Known [] j d
-    known zero d there = subst (Known [] 0) (some-injective told.nothing d there) (([], refl), λ i q at. absurd (some-ne-none q (sym at)))
+    known : (j : ℕ) (d : View) → get_elem? (told.nothing ∷ []) j ≡ some d → IsViewOf [] j d
+    known zero d there = subst (IsViewOf [] 0) (some-injective told.nothing d there) (([], refl), λ i q at. absurd (some-ne-none q (sym at)))
     known (suc j) d there = absurd (some-ne-none d (sym there))

@@ -4,7 +4,7 @@ use mathlib.Core.Option.{some}
 use lib.ListN.{get_elem?}
 use Rattle.mem_blocks.specs.Web.{State, Sitter, block, Lives, word_of}
 use Rattle.test_support.specs.declared.closing_rule.View.{View}
-use Rattle.test_support.specs.declared.closing_rule.Place.{Place}
+use Rattle.test_support.specs.declared.closing_rule.QueueEnds.{QueueEnds}
 
 -- 1 once the history has an effect.
 abbrev pub mark : List ℕ → ℕ
@@ -25,16 +25,16 @@ abbrev pub newcomer : View → View
 newcomer d = view d.seen []
 
 -- The view d of the party j: it has seen a beginning of the history, and each of its places is an effect of its own.
-abbrev pub Known : List ℕ → ℕ → View → Type 0
-Known log j d = Begins d.seen log × ((i p : ℕ) → get_elem? d.mine i ≡ some p → get_elem? log p ≡ some j)
+abbrev pub IsViewOf : List ℕ → ℕ → View → Type 0
+IsViewOf log j d = Begins d.seen log × ((i p : ℕ) → get_elem? d.mine i ≡ some p → get_elem? log p ≡ some j)
 
-pub record Holds {S : Type 0} (key : Place S) (s : State S View) : Type 0 where
+pub record ClosingHolds {S : Type 0} (key : QueueEnds S) (s : State S View) : Type 0 where
   pub log : List ℕ
   pub tail : Lives s.blocks 0 key.tail.ptr
   pub head : Lives s.blocks 1 key.head.ptr
   pub long : 0 < length (block s.blocks 0).words
   pub word : word_of s.blocks 0 0 ≡ mark log
-  pub views : (j : ℕ) (d : View) → get_elem? s.views j ≡ some d → Known log j d
+  pub views : (j : ℕ) (d : View) → get_elem? s.views j ≡ some d → IsViewOf log j d
 
 -- A call that closed: at a moment h that the party had not seen before, the queue was open, and the call added the one place.
 abbrev pub Closed : View → View → Type 0

@@ -33,15 +33,15 @@ impl Refusal {
 
 /// How many allocations are live, and how many were at most at one time.
 #[derive(Drop)]
-struct Count {
+struct LiveCount {
     live: AtomicU64,
     most: AtomicU64,
 }
 
-impl Count {
+impl LiveCount {
     /// Of no allocation.
-    fn zero() -> Count {
-        Count {
+    fn zero() -> LiveCount {
+        LiveCount {
             live: AtomicU64::new(0),
             most: AtomicU64::new(0),
         }
@@ -104,8 +104,8 @@ struct Tally {
     watched: Option<Layout>,
     hold: HeldRequest,
     requests: AtomicU64,
-    all: Count,
-    of_watched: Count,
+    all: LiveCount,
+    of_watched: LiveCount,
 }
 
 impl Tally {
@@ -160,8 +160,8 @@ impl<B: Allocator> Refusing<B> {
                 watched,
                 hold: HeldRequest::open(),
                 requests: AtomicU64::new(0),
-                all: Count::zero(),
-                of_watched: Count::zero(),
+                all: LiveCount::zero(),
+                of_watched: LiveCount::zero(),
             },
         }
     }

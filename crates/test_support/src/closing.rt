@@ -6,7 +6,7 @@ ghost use Rattle.mem_blocks.specs.Laid.{head_of};
 ghost use Rattle.mem_blocks.specs.Seats.{Sits, Same};
 ghost use Rattle.test_support.specs.ClosingRule.{Closed, Keeps, Saw, newcomer, nothing};
 
-use crate::closing_rule::{Closes, ClosingRule, Looks, Parts, Place, Returns, View};
+use crate::closing_rule::{Closes, ClosingRule, Looks, Parts, QueueEnds, Returns, View};
 use mem_blocks::block::BlockPtr;
 use mem_blocks::chain::Chain;
 use mem_blocks::hub::Hub;
@@ -18,7 +18,7 @@ pub fn open<S, A: Allocator>(
     alloc: &A,
 ) -> Result<
     (
-        Web<S, View, Place<S>, ClosingRule, A>,
+        Web<S, View, QueueEnds<S>, ClosingRule, A>,
         Seat<S, View, A>,
         Hub<S, A>,
         BlockPtr<S>,
@@ -34,15 +34,15 @@ pub fn open<S, A: Allocator>(
     let mut chain = Chain::empty(alloc);
     chain.lay(first);
     chain.lay(second);
-    let place = Place { tail, head };
-    let (web, seat) = chain.share(&place);
+    let ends = QueueEnds { tail, head };
+    let (web, seat) = chain.share(&ends);
     Ok((web, seat, hub, tail, head))
 }
 
 /// Closes the queue. It answers whether this call did it.
 #[inline(always)]
 pub fn close<S, A: Allocator>(
-    web: &Web<S, View, Place<S>, ClosingRule, A>,
+    web: &Web<S, View, QueueEnds<S>, ClosingRule, A>,
     seat: &mut Seat<S, View, A>,
     tail: BlockPtr<S>,
 ) -> bool
@@ -58,7 +58,7 @@ pub fn close<S, A: Allocator>(
 /// Whether the queue is closed.
 #[inline(always)]
 pub fn is_closed<S, A: Allocator>(
-    web: &Web<S, View, Place<S>, ClosingRule, A>,
+    web: &Web<S, View, QueueEnds<S>, ClosingRule, A>,
     seat: &mut Seat<S, View, A>,
     tail: BlockPtr<S>,
 ) -> bool
@@ -74,7 +74,7 @@ pub fn is_closed<S, A: Allocator>(
 /// Cuts a party in two.
 #[inline(always)]
 pub fn part<S, A: Allocator>(
-    web: &Web<S, View, Place<S>, ClosingRule, A>,
+    web: &Web<S, View, QueueEnds<S>, ClosingRule, A>,
     seat: &mut Seat<S, View, A>,
     tail: BlockPtr<S>,
 ) -> Seat<S, View, A>
@@ -88,7 +88,7 @@ pub fn part<S, A: Allocator>(
 /// Takes a party back.
 #[inline(always)]
 pub fn take_back<S, A: Allocator>(
-    web: &Web<S, View, Place<S>, ClosingRule, A>,
+    web: &Web<S, View, QueueEnds<S>, ClosingRule, A>,
     seat: &mut Seat<S, View, A>,
     other: Seat<S, View, A>,
     tail: BlockPtr<S>,
@@ -101,7 +101,7 @@ pub fn take_back<S, A: Allocator>(
 
 /// Ends the queue, and gives its memory back.
 pub fn end<S, A: Allocator>(
-    web: Web<S, View, Place<S>, ClosingRule, A>,
+    web: Web<S, View, QueueEnds<S>, ClosingRule, A>,
     seat: Seat<S, View, A>,
     hub: Hub<S, A>,
     alloc: &A,

@@ -21,7 +21,7 @@ impl Model for View {
 
 /// Where the ends of the queue lie.
 #[derive(Drop)]
-pub struct Place<S> {
+pub struct QueueEnds<S> {
     pub tail: BlockPtr<S>,
     pub head: BlockPtr<S>,
 }
@@ -29,10 +29,10 @@ pub struct Place<S> {
 /// The rule: the first word of the tail is 1 once the history has an effect, and 0 before.
 pub struct ClosingRule;
 
-impl<S> WebRule<S, View, Place<S>> for ClosingRule {
-    ghost use Rattle.test_support.specs.ClosingRule.{Holds, nothing};
+impl<S> WebRule<S, View, QueueEnds<S>> for ClosingRule {
+    ghost use Rattle.test_support.specs.ClosingRule.{ClosingHolds, nothing};
 
-    ghost holds = { Holds };
+    ghost holds = { ClosingHolds };
 
     ghost first = { λ _. nothing };
 }

@@ -4,7 +4,7 @@ ghost use Rattle.std.specs.ControlFlow.{MatchControlFlow};
 ghost use Rattle.concurrent_queue.specs.Shared.{IsPartyOf};
 ghost use Rattle.use_poll.specs.Places.{IsAt};
 
-use crate::turns::{Place, Queue, turn};
+use crate::turns::{PollState, Queue, turn};
 use concurrent_queue::model::{Call, Reply};
 use concurrent_queue::{Party, PushError};
 use futures::Future;
@@ -16,19 +16,19 @@ use std::ops::ControlFlow;
 pub(crate) struct Sends<'a> {
     queue: &'a Queue,
     values: &'a [u64],
-    place: Option<Place>,
+    state: Option<PollState>,
 }
 
 impl<'a> Sends<'a> {
     pub(crate) fn new(queue: &'a Queue, values: &'a [u64], party: Party<u64>) -> Sends<'a>
         requires { IsPartyOf party queue.now }
         ensures of { result.queue.now ≡ queue.now }
-        ensures at { IsSomeAnd result.place (λ p. IsAt p queue.now) }
+        ensures at { IsSomeAnd result.state (λ p. IsAt p queue.now) }
     {
         Sends {
             queue,
             values,
-            place: Some(Place::Between(party)),
+            state: Some(PollState::Between(party)),
         }
     }
 }
@@ -36,24 +36,24 @@ impl<'a> Sends<'a> {
 /// One turn of the push of the first of these values, or of the closing where there is none. Gives the values that are left, or the party once the queue is closed.
 fn send<'a>(
     queue: &Queue,
-    place: Place,
+    state: PollState,
     values: &'a [u64],
-) -> ControlFlow<Party<u64>, (Place, &'a [u64])>
-    requires { IsAt place queue.now }
+) -> ControlFlow<Party<u64>, (PollState, &'a [u64])>
+    requires { IsAt state queue.now }
     ensures { MatchControlFlow result (λ r. IsAt r.0 queue.now) (λ party. IsPartyOf party queue.now) }
 {
     let (call, rest) = match values.split_first() {
         Some((value, rest)) => (Call::Push(*value), rest),
         None => (Call::Close, values),
     };
-    match turn(queue, place, call) {
-        ControlFlow::Continue(place) => ControlFlow::Continue((place, values)),
+    match turn(queue, state, call) {
+        ControlFlow::Continue(state) => ControlFlow::Continue((state, values)),
         ControlFlow::Break((party, reply)) => match reply {
             Reply::Close(_) => ControlFlow::Break(party),
             Reply::Push(Err(PushError::Full(_))) => {
-                ControlFlow::Continue((Place::Between(party), values))
+                ControlFlow::Continue((PollState::Between(party), values))
             }
-            _ => ControlFlow::Continue((Place::Between(party), rest)),
+            _ => ControlFlow::Continue((PollState::Between(party), rest)),
         },
     }
 }
@@ -61,19 +61,19 @@ fn send<'a>(
 impl Future for Sends<'_> {
     type Output = Party<u64>;
 
-    ghost can_poll = { λ sends. IsSomeAnd sends.place (λ p. IsAt p sends.queue.now) };
+    ghost can_poll = { λ sends. IsSomeAnd sends.state (λ p. IsAt p sends.queue.now) };
 
     ghost gives = { λ sends party. IsPartyOf party sends.queue.now };
 
     /// Takes one turn. No other call wakes it, so it asks to be polled again.
     fn poll(&mut self, cx: &mut Context<'_>) -> Poll<Party<u64>> {
-        let Some(place) = self.place.take() else {
+        let Some(state) = self.state.take() else {
             unreachable!()
         };
-        match send(self.queue, place, self.values) {
+        match send(self.queue, state, self.values) {
             ControlFlow::Break(party) => Poll::Ready(party),
-            ControlFlow::Continue((place, values)) => {
-                self.place = Some(place);
+            ControlFlow::Continue((state, values)) => {
+                self.state = Some(state);
                 self.values = values;
                 cx.yield_now()
             }

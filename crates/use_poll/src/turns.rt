@@ -12,7 +12,7 @@ pub(crate) type Queue = ConcurrentQueue<u64>;
 
 /// Where a party is.
 #[derive(Drop)]
-pub(crate) enum Place {
+pub(crate) enum PollState {
     /// Between two calls.
     Between(Party<u64>),
     /// In a call that is in progress.
@@ -22,18 +22,18 @@ pub(crate) enum Place {
 /// One turn of a call, which begins here where the party is between two calls. Gives the reply, or where the party is.
 pub(crate) fn turn(
     queue: &Queue,
-    place: Place,
+    state: PollState,
     call: Call<u64>,
-) -> ControlFlow<(Party<u64>, Reply<u64>), Place>
-    requires { IsAt place queue.now }
-    ensures { MatchControlFlow result (λ place. IsAt place queue.now) (λ r. IsPartyOf r.0 queue.now) }
+) -> ControlFlow<(Party<u64>, Reply<u64>), PollState>
+    requires { IsAt state queue.now }
+    ensures { MatchControlFlow result (λ state. IsAt state queue.now) (λ r. IsPartyOf r.0 queue.now) }
 {
-    let outcome = match place {
-        Place::Between(party) => queue.begin(party, call),
-        Place::Calling(pending) => queue.resume(pending),
+    let outcome = match state {
+        PollState::Between(party) => queue.begin(party, call),
+        PollState::Calling(pending) => queue.resume(pending),
     };
     match outcome {
         Outcome::Done(party, reply) => ControlFlow::Break((party, reply)),
-        Outcome::Pending(pending) => ControlFlow::Continue(Place::Calling(pending)),
+        Outcome::Pending(pending) => ControlFlow::Continue(PollState::Calling(pending)),
     }
 }

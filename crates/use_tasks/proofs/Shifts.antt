@@ -10,7 +10,7 @@ use Rattle.queue_steps.specs.Shares.{Share, SamePart}
 use Rattle.queue_steps.specs.Sequential.{Owned}
 use Rattle.queue_steps.specs.Parties.{IsView}
 use Rattle.queue_steps.proofs.ShareLaws.{same_sym, same_trans, same_refl, halves_joined, entire_same}
-use Rattle.concurrent_queue.specs.Shared.{QueueId, Person, Parts, Joins, Finishes}
+use Rattle.concurrent_queue.specs.Shared.{QueueId, PartyView, Parts, Joins, Finishes}
 use Rattle.law_parties.specs.Doings.{passes, done_by, hands_in_such, hands_out_such}
 use Rattle.law_parties.proofs.Doings.{unchanged, did_both}
 use Rattle.law_parties.proofs.Drained.{still_drained, is_drained}
@@ -41,21 +41,21 @@ one_below (suc n) i lt =
 
 module _ {T : Type 0} where
   -- a party that has done nothing
-  idle : (v : Person T) (test : Effect T → Bool) → v.view.mine ≡ [] → done_by test v.view ≡ 0
+  idle : (v : PartyView T) (test : Effect T → Bool) → v.view.mine ≡ [] → done_by test v.view ≡ 0
   idle v test none = ap (λ (ps : List ℕ). count_by (λ p. passes test (get_elem? v.view.seen p)) ps) none
 
   -- what a party did before it was parted, the first of the two did, and the second did nothing
-  kept : (v x y : Person T) (test : Effect T → Bool) → IsView v.queue.cap v.view → Parts v x y → done_by test x.view ≡ done_by test v.view
+  kept : (v x y : PartyView T) (test : Effect T → Bool) → IsView v.queue.cap v.view → Parts v x y → done_by test x.view ≡ done_by test v.view
   kept v x y test is parts = unchanged v.queue.cap v.view x.view is parts.2.begins parts.2.mine.0 test
 
-  fresh : (v x y : Person T) (test : Effect T → Bool) → Parts v x y → done_by test y.view ≡ 0
+  fresh : (v x y : PartyView T) (test : Effect T → Bool) → Parts v x y → done_by test y.view ≡ 0
   fresh v x y test parts = idle y test parts.2.mine.1
 
-  joined : (x y w : Person T) (test : Effect T → Bool) → y.queue ≡ x.queue → IsView x.queue.cap x.view → IsView y.queue.cap y.view → Joins x y w → done_by test w.view ≡ done_by test x.view + done_by test y.view
+  joined : (x y w : PartyView T) (test : Effect T → Bool) → y.queue ≡ x.queue → IsView x.queue.cap x.view → IsView y.queue.cap y.view → Joins x y w → done_by test w.view ≡ done_by test x.view + done_by test y.view
   joined x y w test same is_x is_y joins = did_both x.queue.cap x.view y.view w.view is_x (subst {A = QueueId} (λ z. IsView z.cap y.view) same is_y) joins.1 test
 
   -- the halves of a share, joined
-  whole_share : (v x y ours theirs w : Person T) → Parts v x y → SamePart ours.view.share x.view.share → SamePart theirs.view.share y.view.share → Joins ours theirs w → SamePart w.view.share v.view.share
+  whole_share : (v x y ours theirs w : PartyView T) → Parts v x y → SamePart ours.view.share x.view.share → SamePart theirs.view.share y.view.share → Joins ours theirs w → SamePart w.view.share v.view.share
   whole_share v x y ours theirs w parts our their joins =
       subst {A = Share} (λ s. SamePart s v.view.share) (sym joins.1.share)
       (halves_joined v.view.share ours.view.share theirs.view.share
@@ -93,10 +93,10 @@ module _ {A B : Type 0} (a : A → ℕ) (b : B → ℕ) where
       at_outputs test = (joined ours.outputs theirs.outputs w.outputs test same_outputs joins.outputs_views.0 joins.outputs_views.1 joins.outputs, kept v.outputs x.outputs y.outputs test parts.views.1 parts.outputs, fresh v.outputs x.outputs y.outputs test parts.outputs)
 
   -- the party of the outputs was parted and is joined again
-  pub rejoined : (v : Worker A B) (p : Person A) (x y w : Person B) → p ≡ v.tasks → Parts v.outputs x y → Joins x y w → IsView v.outputs.queue.cap v.outputs.view → IsView x.queue.cap x.view → IsView y.queue.cap y.view
+  pub rejoined : (v : Worker A B) (p : PartyView A) (x y w : PartyView B) → p ≡ v.tasks → Parts v.outputs x y → Joins x y w → IsView v.outputs.queue.cap v.outputs.view → IsView x.queue.cap x.view → IsView y.queue.cap y.view
       → Moves a b v (record { tasks = p; outputs = w }) none none
   rejoined v p x y w is parts joins is_v is_x is_y =
-      subst {A = Person A} (λ q. Moves a b v (record { tasks = q; outputs = w }) none none) (sym is) (record {
+      subst {A = PartyView A} (λ q. Moves a b v (record { tasks = q; outputs = w }) none none) (sym is) (record {
         queues = (refl, joins.0 ∙ parts.0);
         shares = (same_refl v.tasks.view.share, whole_share v.outputs x y x y w parts (same_refl x.view.share) (same_refl y.view.share) joins);
         moved = λ i.

@@ -1,7 +1,7 @@
 -- What a worker does: how many items of each number its parties hand in and out.
 use Rattle.std.specs.Prelude.{◌≡◌, ℕ, zero, suc, ◌+◌, ◌<◌, ◌==◌, cond, [], Option, Some, None}
 use Rattle.queue_steps.specs.Shares.{SamePart, IsEntire}
-use Rattle.concurrent_queue.specs.Shared.{Person, IsPartyOf, Parts, Joins}
+use Rattle.concurrent_queue.specs.Shared.{PartyView, IsPartyOf, Parts, Joins}
 use Rattle.queue_steps.specs.Parties.{IsView}
 use Rattle.law_parties.specs.Doings.{done_by, hands_in_such, hands_out_such, SawDrained}
 use Rattle.use_tasks.specs.declared.executor.Executor.{Executor}
@@ -24,10 +24,10 @@ taken key (Some x) = one (key x)
 taken key None = none
 
 -- how many items of the number i the party has handed in, and out
-abbrev pub came : {A : Type 0} → (A → ℕ) → ℕ → Person A → ℕ
+abbrev pub came : {A : Type 0} → (A → ℕ) → ℕ → PartyView A → ℕ
 came key i p = done_by (hands_in_such (λ x. key x == i)) p.view
 
-abbrev pub went : {A : Type 0} → (A → ℕ) → ℕ → Person A → ℕ
+abbrev pub went : {A : Type 0} → (A → ℕ) → ℕ → PartyView A → ℕ
 went key i p = done_by (hands_out_such (λ x. key x == i)) p.view
 
 module _ {A B : Type 0} where

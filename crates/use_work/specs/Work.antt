@@ -3,7 +3,7 @@ use Rattle.std.specs.Prelude.{◌≡◌, ℕ, zero, suc, ◌+◌, ◌<◌, ◌==
 use Rattle.std.specs.List.{count_by}
 use Rattle.queue_steps.specs.declared.model.Effect.{Effect}
 use Rattle.queue_steps.specs.declared.model.Effect.TheVariants as effect
-use Rattle.concurrent_queue.specs.Shared.{Person}
+use Rattle.concurrent_queue.specs.Shared.{PartyView}
 use Rattle.law_parties.specs.Doings.{done_by, hands_in, hands_out, SawDrained}
 use Rattle.use_work.specs.declared.Report.{Report}
 use Rattle.use_work.specs.declared.Haul.{Haul}
@@ -26,15 +26,15 @@ appended zero = []
 appended (suc n) = appended n ++ effect.Append n ∷ []
 
 -- from v to w the party took these jobs, and appended none
-abbrev pub Took : Person ℕ → Person ℕ → List ℕ → Type 0
+abbrev pub Took : PartyView ℕ → PartyView ℕ → List ℕ → Type 0
 Took v w jobs = (job : ℕ) → (done_by (hands_out job) w.view ≡ done_by (hands_out job) v.view + times job jobs) × (done_by (hands_in job) w.view ≡ done_by (hands_in job) v.view)
 
 -- all that the party has done is that it took these jobs
-abbrev pub HasTaken : Person ℕ → List ℕ → Type 0
+abbrev pub HasTaken : PartyView ℕ → List ℕ → Type 0
 HasTaken p jobs = (job : ℕ) → (done_by (hands_out job) p.view ≡ times job jobs) × (done_by (hands_in job) p.view ≡ 0)
 
 -- a worker's haul that is finished: what its party took, which has seen the queue closed and empty
-abbrev pub Hauled : ℕ → Person ℕ → Haul → Type 0
+abbrev pub Hauled : ℕ → PartyView ℕ → Haul → Type 0
 Hauled number p haul = haul.finished ≡ true → HasTaken p haul.handed.items × SawDrained p
 
 -- the jobs of all workers, worker by worker

@@ -14,15 +14,15 @@ use Rattle.queue_steps.specs.declared.steps.types.Local.{Local}
 use Rattle.queue_steps.specs.Next.{next_of, first_local}
 use Rattle.queue_steps.specs.Kinds.{call_kind, call_value, filled}
 use Rattle.queue_steps.specs.Sequential.{Owned}
-use Rattle.call_driver.specs.Ends.{Ends, EndsRight, Answered}
+use Rattle.call_driver.specs.EndsIn.{EndsIn, EndsRight, Answered}
 use Rattle.call_driver.specs.Leads.{Leads, GoesOn, Begins}
-use Rattle.call_driver.specs.Own.{MayTake, Took, Stands, Ended}
+use Rattle.call_driver.specs.Own.{MayTake, Took, EndsRightFrom, Ended}
 
 module _ {T B C : Type 0} (can_touch : C → Touch → Op B → Type 0) (touches : C → Touch → Op B → Option T → C → Option T → Type 0)
     (can_perform : C → Op B → Type 0) (performs : C → Op B → Answer B → C → Type 0) where
   -- a run that ends before n steps ends before one more
   ends_more : (n : ℕ) (k : Kind) (todo : Next B) (cells : C) (x : Option T) (P : Reply Unit → Option B → Option T → C → Type 0)
-      → Ends can_touch touches can_perform performs n k todo cells x P → Ends can_touch touches can_perform performs (suc n) k todo cells x P
+      → EndsIn can_touch touches can_perform performs n k todo cells x P → EndsIn can_touch touches can_perform performs (suc n) k todo cells x P
   ends_more zero k todo cells x P h = absurd h
   ends_more (suc n) k (next.Reply r spare) cells x P h = h
   ends_more (suc n) k (next.Step l t o) cells x P h = (
@@ -42,14 +42,14 @@ module _ {T B C O : Type 0} (can_touch : C → Touch → Op B → Type 0) (touch
   Does site cells call l t o x a after left = Took can_touch touches can_perform performs cells t o x a after left
 
   abbrev pub StandsAt : ℕ → O → C → Call T → Local B → Answer B → C → Option T → Type 0
-  StandsAt n site first c l a cells x = Stands can_touch touches can_perform performs can_release releases idle owned kind_of n first c l a cells x
+  StandsAt n site first c l a cells x = EndsRightFrom can_touch touches can_perform performs can_release releases idle owned kind_of n first c l a cells x
 
   abbrev pub OwnLeads : ℕ → O → C → Call T → Next B → C → Option T → Type 0
   OwnLeads = Leads Can Does (λ site. can_release) (λ site. releases) StandsAt (λ site. Ended idle owned)
 
   -- what ends right before one step more than n may be done, and then ends before n
   leads : (n : ℕ) (site : O) (first : C) (c : Call T) (todo : Next B) (cells : C) (x : Option T)
-      → Ends can_touch touches can_perform performs (suc n) (kind_of first) todo cells x (Answered can_release releases idle owned c first) → OwnLeads n site first c todo cells x
+      → EndsIn can_touch touches can_perform performs (suc n) (kind_of first) todo cells x (Answered can_release releases idle owned c first) → OwnLeads n site first c todo cells x
   leads n site first c (next.Reply r None) cells x h = (tt, λ after same. subst (λ (z : C). (reply : Reply T) × (filled r x ≡ Some reply) × Ended idle owned first c reply z) (sym same) (h.1.0, h.1.1, (h.0, h.1.2)))
   leads n site first c (next.Reply r (Some block)) cells x h = (h.0, λ after gave. let it = h.1 after gave in (it.1.0, it.1.1, (it.0, it.1.2)))
   leads n site first c (next.Step l t o) cells x h = (
@@ -63,7 +63,7 @@ module _ {T B C O : Type 0} (can_touch : C → Touch → Op B → Type 0) (touch
       let k = kind_of cells in let P = Answered can_release releases idle owned c cells in (
         h.0,
         leads n site cells c (next_of k (first_local (call_kind c)) answer.Start) cells (call_value c)
-            (subst (λ i. Ends can_touch touches can_perform performs i k (next_of k (first_local (call_kind c)) answer.Start) cells (call_value c) P) (sym all) h.1),
+            (subst (λ i. EndsIn can_touch touches can_perform performs i k (next_of k (first_local (call_kind c)) answer.Start) cells (call_value c) P) (sym all) h.1),
       )
 
   pub own_goes_on : (n : ℕ) (site : O) (first : C) (c : Call T) (l : Local B) (a : Answer B) (cells : C) (x : Option T) → StandsAt (suc n) site first c l a cells x

@@ -6,7 +6,7 @@ ghost use Rattle.atomic_table.specs.declared.shared.Seat.{Seat as SpecSeat};
 ghost use Rattle.shared_parties.specs.declared.known.CallState.{CallState as SpecState};
 ghost use Rattle.concurrent_queue.specs.declared.party.SeatPlace.TheVariants as place;
 ghost use Rattle.concurrent_queue.specs.declared.shared.Form.TheVariants as form;
-ghost use Rattle.concurrent_queue.specs.Shared.{Calls, IsHeld, person_of};
+ghost use Rattle.concurrent_queue.specs.Shared.{Calls, IsHeld, party_view_of};
 ghost use Rattle.concurrent_queue.specs.Calling.{IsHeldIn, HasLeft};
 
 use super::{Form, Masked};
@@ -35,7 +35,7 @@ impl<T, A: Allocator> Form<T, A> {
         call: Call<T>,
     ) -> ControlFlow<Reply<T>, Left<T, usize>>
         requires { IsHeldIn self.now (place.Table seat.old) }
-        ensures { MatchControlFlow result (λ left. HasLeft ⟦<SharedTable<T, Slots, A> as Site<T, usize, Seat<Option<T>, CallState<T>>>>⟧ ⟦<SharedTable<T, Rings, A> as Site<T, usize, Seat<Option<T>, CallState<T>>>>⟧ form.Single form.Ring self.now seat.old call left seat.new) (λ reply. IsHeld (place.Table seat.new) × Calls (person_of (place.Table seat.old)) call reply (person_of (place.Table seat.new))) }
+        ensures { MatchControlFlow result (λ left. HasLeft ⟦<SharedTable<T, Slots, A> as Site<T, usize, Seat<Option<T>, CallState<T>>>>⟧ ⟦<SharedTable<T, Rings, A> as Site<T, usize, Seat<Option<T>, CallState<T>>>>⟧ form.Single form.Ring self.now seat.old call left seat.new) (λ reply. IsHeld (place.Table seat.new) × Calls (party_view_of (place.Table seat.old)) call reply (party_view_of (place.Table seat.new))) }
     {
         match self {
             Form::Single(slot) => run_fast::<
@@ -69,7 +69,7 @@ impl<T, A: Allocator> Form<T, A> {
         left: Left<T, usize>,
     ) -> Reply<T>
         requires { (call : SpecCall T) × (first : SpecSeat (SpecOption T) (SpecState T)) × HasLeft ⟦<SharedTable<T, Slots, A> as Site<T, usize, Seat<Option<T>, CallState<T>>>>⟧ ⟦<SharedTable<T, Rings, A> as Site<T, usize, Seat<Option<T>, CallState<T>>>>⟧ form.Single form.Ring self.now first call left seat.old }
-        ensures { (call : SpecCall T) (first : SpecSeat (SpecOption T) (SpecState T)) → HasLeft ⟦<SharedTable<T, Slots, A> as Site<T, usize, Seat<Option<T>, CallState<T>>>>⟧ ⟦<SharedTable<T, Rings, A> as Site<T, usize, Seat<Option<T>, CallState<T>>>>⟧ form.Single form.Ring self.now first call left seat.old → IsHeld (place.Table seat.new) × Calls (person_of (place.Table first)) call result (person_of (place.Table seat.new)) }
+        ensures { (call : SpecCall T) (first : SpecSeat (SpecOption T) (SpecState T)) → HasLeft ⟦<SharedTable<T, Slots, A> as Site<T, usize, Seat<Option<T>, CallState<T>>>>⟧ ⟦<SharedTable<T, Rings, A> as Site<T, usize, Seat<Option<T>, CallState<T>>>>⟧ form.Single form.Ring self.now first call left seat.old → IsHeld (place.Table seat.new) × Calls (party_view_of (place.Table first)) call result (party_view_of (place.Table seat.new)) }
     {
         match self {
             Form::Single(slot) => run_slow(slot, rt, gate, seat, left),

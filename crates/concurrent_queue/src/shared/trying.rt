@@ -12,7 +12,7 @@ ghost use Rattle.shared_parties.specs.declared.known.CallState.{CallState as Spe
 ghost use Rattle.concurrent_queue.specs.declared.party.SeatPlace.TheVariants as place;
 ghost use Rattle.concurrent_queue.specs.declared.shared.Form.TheVariants as form;
 ghost use Rattle.concurrent_queue.specs.Calling.{HasLeft};
-ghost use Rattle.concurrent_queue.specs.Shared.{IsPartyOf, Person, IsHeld, person_of};
+ghost use Rattle.concurrent_queue.specs.Shared.{IsPartyOf, PartyView, IsHeld, party_view_of};
 ghost use Rattle.concurrent_queue.specs.Tries.{Tries, TriesPush, TriesForcePush, TriesPop};
 
 use super::{Form, Masked};
@@ -46,8 +46,8 @@ pub(crate) struct TryPops;
 /// What `try_push` returns where its push was answered so, or came back.
 #[inline(always)]
 fn pushed<T>(told: ControlFlow<Reply<T>, Option<T>>) -> Result<(), TryPushError<T>>
-    requires { (v w : Person T) × (x : T) × Tries v (call.Push x) told w }
-    ensures { (v w : Person T) (x : T) → Tries v (call.Push x) told w → TriesPush v x result w }
+    requires { (v w : PartyView T) × (x : T) × Tries v (call.Push x) told w }
+    ensures { (v w : PartyView T) (x : T) → Tries v (call.Push x) told w → TriesPush v x result w }
 {
     match told {
         ControlFlow::Break(Reply::Push(Ok(()))) => Ok(()),
@@ -68,8 +68,8 @@ fn pushed<T>(told: ControlFlow<Reply<T>, Option<T>>) -> Result<(), TryPushError<
 /// What `try_force_push` returns where its call was answered so, or came back.
 #[inline(always)]
 fn displaced<T>(told: ControlFlow<Reply<T>, Option<T>>) -> Result<Option<T>, TryForcePushError<T>>
-    requires { (v w : Person T) × (x : T) × Tries v (call.ForcePush x) told w }
-    ensures { (v w : Person T) (x : T) → Tries v (call.ForcePush x) told w → TriesForcePush v x result w }
+    requires { (v w : PartyView T) × (x : T) × Tries v (call.ForcePush x) told w }
+    ensures { (v w : PartyView T) (x : T) → Tries v (call.ForcePush x) told w → TriesForcePush v x result w }
 {
     match told {
         ControlFlow::Break(Reply::ForcePush(Ok(old))) => Ok(old),
@@ -87,8 +87,8 @@ fn displaced<T>(told: ControlFlow<Reply<T>, Option<T>>) -> Result<Option<T>, Try
 /// What `try_pop` returns where its pop was answered so, or came back.
 #[inline(always)]
 fn popped<T>(told: ControlFlow<Reply<T>, Option<T>>) -> Result<T, TryPopError>
-    requires { (v w : Person T) × Tries v call.Pop told w }
-    ensures { (v w : Person T) → Tries v call.Pop told w → TriesPop v result w }
+    requires { (v w : PartyView T) × Tries v call.Pop told w }
+    ensures { (v w : PartyView T) → Tries v call.Pop told w → TriesPop v result w }
 {
     match told {
         ControlFlow::Break(Reply::Pop(Ok(item))) => Ok(item),
@@ -125,7 +125,7 @@ impl<T, A: Allocator> Form<T, A> {
         left: Left<T, usize>,
     ) -> ControlFlow<Reply<T>, Option<T>>
         requires { (call : SpecCall T) × (first : SpecSeat (SpecOption T) (SpecState T)) × HasLeft ⟦<SharedTable<T, Slots, A> as Site<T, usize, Seat<Option<T>, CallState<T>>>>⟧ ⟦<SharedTable<T, Rings, A> as Site<T, usize, Seat<Option<T>, CallState<T>>>>⟧ form.Single form.Ring self.now first call left seat.old }
-        ensures { (call : SpecCall T) (first : SpecSeat (SpecOption T) (SpecState T)) → HasLeft ⟦<SharedTable<T, Slots, A> as Site<T, usize, Seat<Option<T>, CallState<T>>>>⟧ ⟦<SharedTable<T, Rings, A> as Site<T, usize, Seat<Option<T>, CallState<T>>>>⟧ form.Single form.Ring self.now first call left seat.old → IsHeld (place.Table seat.new) × Tries (person_of (place.Table first)) call result (person_of (place.Table seat.new)) }
+        ensures { (call : SpecCall T) (first : SpecSeat (SpecOption T) (SpecState T)) → HasLeft ⟦<SharedTable<T, Slots, A> as Site<T, usize, Seat<Option<T>, CallState<T>>>>⟧ ⟦<SharedTable<T, Rings, A> as Site<T, usize, Seat<Option<T>, CallState<T>>>>⟧ form.Single form.Ring self.now first call left seat.old → IsHeld (place.Table seat.new) × Tries (party_view_of (place.Table first)) call result (party_view_of (place.Table seat.new)) }
     {
         match self {
             Form::Single(slot) => end_or_quit(slot, seat, left),

@@ -1,5 +1,5 @@
 //! Where the positions of a table lead.
-use crate::check::{Link, Table};
+use crate::check::{Edge, Table};
 use queue_steps::steps::Local;
 use std::alloc::Allocator;
 
@@ -34,15 +34,15 @@ impl<'a, A: Allocator + Copy> Graph<'a, A> {
 
     /// The place to which the party leads from the position at this place, if it goes on so.
     pub(crate) fn lead(&self, place: usize, party: usize, granted: bool) -> Option<usize> {
-        let link = self.link(place, party)?;
-        let to = if granted { link.granted } else { link.refused };
+        let edge = self.edge(place, party)?;
+        let to = if granted { edge.granted } else { edge.refused };
         if to < self.len() { Some(to) } else { None }
     }
 
     // The link of the party from the position at this place.
-    fn link(&self, place: usize, party: usize) -> Option<Link> {
+    fn edge(&self, place: usize, party: usize) -> Option<Edge> {
         let index = number_of(self.parties, place, party);
-        self.table.links.get(index).copied()
+        self.table.edges.get(index).copied()
     }
 
     /// How many moves there may be from a position: for each party one that is granted what it asks for, and one that is refused it.

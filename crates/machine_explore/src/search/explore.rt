@@ -8,7 +8,7 @@ use crate::search::edges::Graph;
 use crate::search::faults::SearchFault;
 use crate::search::find::find;
 use crate::search::orders::calls_of;
-use crate::search::outcomes::{Ends, collect_ends};
+use crate::search::outcomes::{FinalPositions, collect_finals};
 use crate::search::paths::Paths;
 use crate::sequence::Sequence;
 use queue_steps::steps::Kind;
@@ -20,7 +20,7 @@ pub struct Found<A: Allocator> {
     /// The positions of the program.
     pub table: Table<A>,
     /// The outcomes as they were found, and where the table has them.
-    pub ends: Ends<A>,
+    pub finals: FinalPositions<A>,
 }
 
 /// Walks over the positions of the program.
@@ -38,8 +38,8 @@ pub fn search<A: Allocator + Copy>(
     requires { CanReplay kind }
 {
     let table = find(alloc, kind, refuses, program, most_states)?;
-    let ends = collect_ends(alloc, program, &table)?;
-    Ok(Found { table, ends })
+    let finals = collect_finals(alloc, program, &table)?;
+    Ok(Found { table, finals })
 }
 
 /// A shortest schedule for each of these outcomes, by their numbers among those that were found: the moves that lead to it, behind the calls that come first.
@@ -58,7 +58,7 @@ pub fn schedules_of<A: Allocator + Copy>(
         parties,
     };
     let paths = Paths::new(alloc, &graph)?;
-    Ok(paths.schedules(alloc, &graph, &found.ends, order)?)
+    Ok(paths.schedules(alloc, &graph, &found.finals, order)?)
 }
 
 /// How many steps a whole schedule of the program has: its moves without the beginnings of calls.

@@ -1,7 +1,7 @@
 //! What is told of outcomes beside their texts. Nothing rests on it: it is counted over the table that was found.
 use crate::program::Program;
 use crate::schedule::Move;
-use crate::search::counts::{Count, counts, sum};
+use crate::search::counts::{ScheduleCount, counts, sum};
 use crate::search::explore::{Found, steps_of};
 use crate::search::faults::SearchFault;
 use crate::search::lone::longest_lone_call;
@@ -13,7 +13,7 @@ use std::alloc::Allocator;
 #[derive(Drop)]
 pub struct Figure<A: Allocator> {
     /// How many schedules lead to it.
-    pub schedules: Count,
+    pub schedules: ScheduleCount,
     /// How many steps a shortest one of them has.
     pub steps: usize,
     /// The parties of an order of whole calls with this outcome.
@@ -26,7 +26,7 @@ pub struct Figures<A: Allocator> {
     /// What is told of each.
     pub outcomes: Vec<Figure<A>, A>,
     /// How many schedules there are.
-    pub schedules: Count,
+    pub schedules: ScheduleCount,
     /// The most steps that a lone call takes.
     pub lone: u64,
 }
@@ -45,8 +45,8 @@ pub fn figures_of<A: Allocator + Copy>(
 ) -> Result<Figures<A>, SearchFault> {
     let parties = program.parties.len();
     let lone = longest_lone_call(parties, &found.table)?;
-    let counts = counts(alloc, parties, &found.table, &found.ends)?;
-    let mut orders = orders(alloc, parties, &found.table, &found.ends)?;
+    let counts = counts(alloc, parties, &found.table, &found.finals)?;
+    let mut orders = orders(alloc, parties, &found.table, &found.finals)?;
     let mut outcomes = Vec::new(alloc);
     for (index, number) in numbers.iter().enumerate() {
         let steps = steps_at(program, schedules, index);
@@ -63,7 +63,7 @@ pub fn figures_of<A: Allocator + Copy>(
 fn figure_of<A: Allocator>(
     number: usize,
     steps: usize,
-    counts: &[Count],
+    counts: &[ScheduleCount],
     orders: &mut [Order<A>],
 ) -> Figure<A> {
     Figure {
@@ -74,7 +74,7 @@ fn figure_of<A: Allocator>(
 }
 
 // How many schedules lead to the outcome of this number.
-fn count_at(counts: &[Count], number: usize) -> Count {
+fn count_at(counts: &[ScheduleCount], number: usize) -> ScheduleCount {
     counts.get(number).copied().unwrap_or(Some(0))
 }
 
@@ -96,7 +96,7 @@ fn take_order<A: Allocator>(orders: &mut [Order<A>], number: usize) -> Order<A> 
 }
 
 // The sum of numbers of schedules.
-fn total(counts: &[Count]) -> Count {
+fn total(counts: &[ScheduleCount]) -> ScheduleCount {
     let mut total = Some(0);
     for count in counts {
         total = sum(total, *count);

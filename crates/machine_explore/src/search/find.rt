@@ -1,20 +1,20 @@
 //! The positions of a program, found breadth first.
 ghost use Rattle.machine_replay.specs.Replays.{CanReplay};
 
-use crate::check::{Link, Table};
+use crate::check::{Edge, Table};
 use crate::position::Position;
 use crate::program::Program;
 use crate::search::edges::NOWHERE;
 use crate::search::faults::SearchFault;
-use crate::search::known::Known;
+use crate::search::visited::Visited;
 use queue_steps::steps::Kind;
 use std::alloc::{AllocError, Allocator};
 
 // What is found so far: the positions, and where each leads.
 #[derive(Drop)]
 struct Search<A: Allocator> {
-    known: Known<A>,
-    links: Vec<Link, A>,
+    visited: Visited<A>,
+    edges: Vec<Edge, A>,
 }
 
 /// The positions of the program in the order of a walk breadth first, and where each leads.
@@ -43,17 +43,17 @@ impl<A: Allocator + Copy> Search<A> {
     // Nothing is found so far, and so many positions at most.
     fn new(alloc: A, most_states: usize) -> Result<Self, AllocError> {
         Ok(Search {
-            known: Known::new(alloc, most_states)?,
-            links: Vec::new(alloc),
+            visited: Visited::new(alloc, most_states)?,
+            edges: Vec::new(alloc),
         })
     }
 
     // What was found.
     fn into_table(self) -> Table<A> {
-        let Search { known, links } = self;
+        let Search { visited, edges } = self;
         Table {
-            positions: known.into_positions(),
-            links,
+            positions: visited.into_positions(),
+            edges,
         }
     }
 
@@ -66,7 +66,7 @@ impl<A: Allocator + Copy> Search<A> {
         most_states: usize,
     ) -> Result<(), SearchFault> {
         for place in 0..most_states {
-            if place >= self.known.len() {
+            if place >= self.visited.len() {
                 break;
             }
             self.expand(alloc, refuses, program, place)?;
@@ -80,7 +80,7 @@ impl<A: Allocator + Copy> Search<A> {
     {
         match Position::start(alloc, kind, program)? {
             Some(start) => {
-                self.known.place_of(alloc, start)?;
+                self.visited.place_of(alloc, start)?;
                 Ok(())
             }
             None => Err(SearchFault::EndlessCall),
@@ -96,33 +96,33 @@ impl<A: Allocator + Copy> Search<A> {
         place: usize,
     ) -> Result<(), SearchFault> {
         for party in 0..program.parties.len() {
-            let link = self.link(alloc, refuses, program, place, party)?;
-            self.links.push(link)?;
+            let edge = self.edge(alloc, refuses, program, place, party)?;
+            self.edges.push(edge)?;
         }
         Ok(())
     }
 
     // Finds where the party leads from the position at this place.
-    fn link(
+    fn edge(
         &mut self,
         alloc: A,
         refuses: bool,
         program: &Program<A>,
         place: usize,
         party: usize,
-    ) -> Result<Link, SearchFault> {
+    ) -> Result<Edge, SearchFault> {
         let granted = self.lead(alloc, program, place, party, true)?;
         let refused = if refuses && self.asks(place, party) {
             self.lead(alloc, program, place, party, false)?
         } else {
             NOWHERE
         };
-        Ok(Link { granted, refused })
+        Ok(Edge { granted, refused })
     }
 
     // Whether the party's next step from the position at this place asks for a block.
     fn asks(&self, place: usize, party: usize) -> bool {
-        match self.known.get(place) {
+        match self.visited.get(place) {
             Some(position) => position.asks(party),
             None => false,
         }
@@ -137,11 +137,11 @@ impl<A: Allocator + Copy> Search<A> {
         party: usize,
         granted: bool,
     ) -> Result<usize, SearchFault> {
-        let Some(position) = self.known.get(place) else {
+        let Some(position) = self.visited.get(place) else {
             return Ok(NOWHERE);
         };
         match position.after(alloc, program, party, granted)? {
-            Some(next) => self.known.place_of(alloc, next),
+            Some(next) => self.visited.place_of(alloc, next),
             None => Ok(NOWHERE),
         }
     }

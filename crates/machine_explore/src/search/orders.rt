@@ -4,7 +4,7 @@ use crate::program::Program;
 use crate::search::edges::Graph;
 use crate::search::faults::SearchFault;
 use crate::search::numbers::{at, nowhere, set};
-use crate::search::outcomes::Ends;
+use crate::search::outcomes::FinalPositions;
 use std::alloc::{AllocError, Allocator};
 
 /// The parties of whole calls, by the calls that come one after another. None where no order has the outcome.
@@ -17,9 +17,9 @@ struct Frame {
     next: usize,
 }
 
-// A walk depth first, by the lower party first, on which each call that begins goes on alone until it replies.
+// A search depth first, by the lower party first, in which each call that begins goes on alone until it replies.
 #[derive(Drop)]
-struct Walk<A: Allocator> {
+struct OrderSearch<A: Allocator> {
     // For each position 0 once it was met.
     met: Vec<usize, A>,
     // The number of each position's outcome.
@@ -39,12 +39,12 @@ pub(crate) fn orders<A: Allocator + Copy>(
     alloc: A,
     parties: usize,
     table: &Table<A>,
-    ends: &Ends<A>,
+    finals: &FinalPositions<A>,
 ) -> Result<Vec<Order<A>, A>, SearchFault> {
     let graph = Graph { table, parties };
-    let mut walk = Walk::new(alloc, graph.len(), ends)?;
-    walk.run(alloc, &graph)?;
-    Ok(walk.orders)
+    let mut search = OrderSearch::new(alloc, graph.len(), finals)?;
+    search.run(alloc, &graph)?;
+    Ok(search.orders)
 }
 
 /// How many calls the parties make in all.
@@ -56,13 +56,13 @@ pub(crate) fn calls_of<A: Allocator>(program: &Program<A>) -> usize {
     calls
 }
 
-impl<A: Allocator + Copy> Walk<A> {
-    fn new(alloc: A, positions: usize, ends: &Ends<A>) -> Result<Self, AllocError> {
-        Ok(Walk {
+impl<A: Allocator + Copy> OrderSearch<A> {
+    fn new(alloc: A, positions: usize, finals: &FinalPositions<A>) -> Result<Self, AllocError> {
+        Ok(OrderSearch {
             met: nowhere(alloc, positions)?,
-            outcomes: outcome_numbers(alloc, positions, ends)?,
+            outcomes: outcome_numbers(alloc, positions, finals)?,
             frames: Vec::new(alloc),
-            orders: no_orders(alloc, ends.outcomes.len())?,
+            orders: no_orders(alloc, finals.outcomes.len())?,
         })
     }
 
@@ -117,10 +117,10 @@ impl<A: Allocator + Copy> Walk<A> {
 fn outcome_numbers<A: Allocator + Copy>(
     alloc: A,
     positions: usize,
-    ends: &Ends<A>,
+    finals: &FinalPositions<A>,
 ) -> Result<Vec<usize, A>, AllocError> {
     let mut numbers = nowhere(alloc, positions)?;
-    for end in ends.ends.as_slice() {
+    for end in finals.positions.as_slice() {
         set(&mut numbers, end.place, end.outcome);
     }
     Ok(numbers)

@@ -7,35 +7,35 @@ use std::alloc::Allocator;
 
 /// A position that ends a run.
 #[derive(Clone, Copy)]
-pub struct End {
+pub struct FinalPosition {
     /// The position's place.
     pub place: usize,
     /// The number of its outcome, from 0.
     pub outcome: usize,
 }
 
-/// The distinct outcomes of a table, in the order of their first ends, and all ends in the order of the table.
+/// The distinct outcomes of a table, in the order of their first final positions, and all final positions in the order of the table.
 #[derive(Drop)]
-pub struct Ends<A: Allocator> {
+pub struct FinalPositions<A: Allocator> {
     /// What runs end with.
     pub outcomes: Vec<Outcome<A>, A>,
     /// Where they end.
-    pub ends: Vec<End, A>,
+    pub positions: Vec<FinalPosition, A>,
 }
 
-/// The outcomes of the table's ends.
+/// The outcomes of the table's final positions.
 ///
 /// # Errors
 ///
 /// `NoMemory`.
-pub fn collect_ends<A: Allocator + Copy>(
+pub fn collect_finals<A: Allocator + Copy>(
     alloc: A,
     program: &Program<A>,
     table: &Table<A>,
-) -> Result<Ends<A>, SearchFault> {
-    let mut found = Ends {
+) -> Result<FinalPositions<A>, SearchFault> {
+    let mut found = FinalPositions {
         outcomes: Vec::new(alloc),
-        ends: Vec::new(alloc),
+        positions: Vec::new(alloc),
     };
     for (place, position) in table.positions.iter().enumerate() {
         if position.is_final(program) {
@@ -49,10 +49,10 @@ pub fn collect_ends<A: Allocator + Copy>(
 fn note<A: Allocator>(
     place: usize,
     outcome: Outcome<A>,
-    found: &mut Ends<A>,
+    found: &mut FinalPositions<A>,
 ) -> Result<(), SearchFault> {
     let outcome = number_of(outcome, &mut found.outcomes)?;
-    found.ends.push(End { place, outcome })?;
+    found.positions.push(FinalPosition { place, outcome })?;
     Ok(())
 }
 

@@ -2,7 +2,7 @@
 use crate::schedule::Move;
 use crate::search::edges::{Graph, NOWHERE, number_of};
 use crate::search::numbers::{at, nowhere, set};
-use crate::search::outcomes::Ends;
+use crate::search::outcomes::FinalPositions;
 use crate::sequence::Sequence;
 use std::alloc::{AllocError, Allocator};
 
@@ -128,12 +128,12 @@ impl<A: Allocator + Copy> Paths<A> {
         &self,
         alloc: A,
         graph: &Graph<A>,
-        ends: &Ends<A>,
+        finals: &FinalPositions<A>,
         outcomes: &[usize],
     ) -> Result<Vec<Sequence<Move, A>, A>, AllocError> {
         let mut schedules = Vec::new(alloc);
         for outcome in outcomes {
-            schedules.push(self.schedule(alloc, graph, ends, *outcome)?)?;
+            schedules.push(self.schedule(alloc, graph, finals, *outcome)?)?;
         }
         Ok(schedules)
     }
@@ -143,18 +143,18 @@ impl<A: Allocator + Copy> Paths<A> {
         &self,
         alloc: A,
         graph: &Graph<A>,
-        ends: &Ends<A>,
+        finals: &FinalPositions<A>,
         outcome: usize,
     ) -> Result<Sequence<Move, A>, AllocError> {
-        let moves = self.trace(alloc, graph, self.last_lane(graph.parties, ends, outcome))?;
+        let moves = self.trace(alloc, graph, self.last_lane(graph.parties, finals, outcome))?;
         begin_late(alloc, graph, &moves)
     }
 
     // The best lane to an end with this outcome.
-    fn last_lane(&self, parties: usize, ends: &Ends<A>, outcome: usize) -> usize {
+    fn last_lane(&self, parties: usize, finals: &FinalPositions<A>, outcome: usize) -> usize {
         let mut shortest = NOWHERE;
         let mut best = NO_LANE;
-        for end in ends.ends.as_slice() {
+        for end in finals.positions.as_slice() {
             let depth = at(&self.depths, end.place);
             if end.outcome == outcome && depth <= shortest {
                 let lane = self.continued(parties, end.place, NOWHERE);

@@ -24,9 +24,9 @@ struct Frame {
     low: usize,
 }
 
-// A walk depth first, by which waits are found.
+// A search depth first, by which waits are found.
 #[derive(Drop)]
-struct Walk<A: Allocator> {
+struct WaitSearch<A: Allocator> {
     // When each position was met.
     met: Vec<usize, A>,
     // How many positions were met.
@@ -42,14 +42,14 @@ pub(crate) fn waits_of<A: Allocator + Copy>(
     alloc: A,
     graph: &Graph<A>,
 ) -> Result<Waits<A>, AllocError> {
-    let mut walk = Walk::new(alloc, graph.len())?;
-    walk.run(graph)?;
-    Ok(walk.waits)
+    let mut search = WaitSearch::new(alloc, graph.len())?;
+    search.run(graph)?;
+    Ok(search.waits)
 }
 
-impl<A: Allocator + Copy> Walk<A> {
+impl<A: Allocator + Copy> WaitSearch<A> {
     fn new(alloc: A, count: usize) -> Result<Self, AllocError> {
-        Ok(Walk {
+        Ok(WaitSearch {
             met: nowhere(alloc, count)?,
             clock: 0,
             open: Vec::new(alloc),

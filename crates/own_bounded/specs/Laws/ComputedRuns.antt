@@ -10,7 +10,7 @@ use Rattle.queue_steps.specs.declared.steps.types.Next.TheVariants as next
 use Rattle.queue_steps.specs.declared.steps.types.Op.{Op}
 use Rattle.queue_steps.specs.declared.steps.types.Touch.{Touch}
 use Rattle.queue_steps.specs.Next.{CanNext, next_of}
-use Rattle.call_driver.specs.Ends.{Ends}
+use Rattle.call_driver.specs.EndsIn.{EndsIn}
 use Rattle.own_bounded.specs.ComputedSteps.{CanTouch, Touches, CanPerform, Performs}
 
 -- how a call ended
@@ -23,15 +23,15 @@ pub record Outcome (T B M : Type 0) : Type 0 where
 module _ {T B M : Type 0} (touchable : M → Touch → Op B → Bool) (touched : M → Touch → Op B → Option T → M × Option T) (operable : M → Op B → Bool) (performed : M → Op B → Answer B × M) where
   -- the call ends within so many steps, with what P says of its reply, its spare, what it carries and the cells
   abbrev EndsThere : ℕ → Kind → Next B → M → Option T → (Reply Unit → Option B → Option T → M → Type 0) → Type 0
-  EndsThere = Ends (CanTouch touchable touched operable performed) (Touches touchable touched operable performed) (CanPerform touchable touched operable performed) (Performs touchable touched operable performed)
+  EndsThere = EndsIn (CanTouch touchable touched operable performed) (Touches touchable touched operable performed) (CanPerform touchable touched operable performed) (Performs touchable touched operable performed)
 
   -- a call whose step may be done, and that ends from there, ends
-  pub Ends-step : (n : ℕ) (k : Kind) (l : Local B) (t : Touch) (q : Op B) (cells : M) (carried : Option T) (P : Reply Unit → Option B → Option T → M → Type 0)
+  pub EndsIn-step : (n : ℕ) (k : Kind) (l : Local B) (t : Touch) (q : Op B) (cells : M) (carried : Option T) (P : Reply Unit → Option B → Option T → M → Type 0)
       → touchable cells t q ≡ true → operable (touched cells t q carried).0 q ≡ true
       → CanNext k l (performed (touched cells t q carried).0 q).0
       → EndsThere n k (next_of k l (performed (touched cells t q carried).0 q).0) (performed (touched cells t q carried).0 q).1 (touched cells t q carried).1 P
       → EndsThere (suc n) k (next.Step l t q) cells carried P
-  Ends-step n k l t q cells carried P can_touch can_perform can_next ends = (
+  EndsIn-step n k l t q cells carried P can_touch can_perform can_next ends = (
     can_touch,
     λ after left is.
         let here : Done (after, left) = subst Done (sym is) (can_perform, (can_next, ends)) in (
@@ -59,17 +59,17 @@ module _ {T B M : Type 0} (touchable : M → Touch → Op B → Bool) (touched :
         if touchable cells t o && (operable u.0 o && can_next k l a.0) then run_from n k (next_of k l a.0) a.1 u.1 else None
 
     -- a computed run ends
-    pub Ends-run : (n : ℕ) (k : Kind) (todo : Next B) (cells : M) (carried : Option T) (P : Reply Unit → Option B → Option T → M → Type 0) (o : Outcome T B M)
+    pub EndsIn-run : (n : ℕ) (k : Kind) (todo : Next B) (cells : M) (carried : Option T) (P : Reply Unit → Option B → Option T → M → Type 0) (o : Outcome T B M)
         → run_from n k todo cells carried ≡ Some o → P o.reply o.spare o.carried o.cells
         → EndsThere n k todo cells carried P
-    Ends-run zero k todo cells carried P o runs p = cc
-    Ends-run (suc n) k (next.Reply r spare) cells carried P o runs p =
+    EndsIn-run zero k todo cells carried P o runs p = cc
+    EndsIn-run (suc n) k (next.Reply r spare) cells carried P o runs p =
         let ended : Outcome T B M = record { reply = r; spare = spare; carried = carried; cells = cells } in
         let same : ended ≡ o = cc in
         let F : Outcome T B M → Type 0 = λ x. P x.reply x.spare x.carried x.cells in
         subst F (sym same) p
-    Ends-run (suc n) k (next.Step l t q) cells carried P o runs p =
-        done (touchable cells t q) (operable u.0 q) (can_next k l a.0) refl refl refl runs (λ r. Ends-run n k (next_of k l (performed (touched cells t q carried).0 q).0) (performed (touched cells t q carried).0 q).1 (touched cells t q carried).1 P o r p)
+    EndsIn-run (suc n) k (next.Step l t q) cells carried P o runs p =
+        done (touchable cells t q) (operable u.0 q) (can_next k l a.0) refl refl refl runs (λ r. EndsIn-run n k (next_of k l (performed (touched cells t q carried).0 q).0) (performed (touched cells t q carried).0 q).1 (touched cells t q carried).1 P o r p)
       where
         u : M × Option T
         u = touched cells t q carried
@@ -84,4 +84,4 @@ module _ {T B M : Type 0} (touchable : M → Touch → Op B → Bool) (touched :
         done false b2 b3 e1 e2 e3 runs more = cc
         done true false b3 e1 e2 e3 runs more = cc
         done true true false e1 e2 e3 runs more = cc
-        done true true true e1 e2 e3 runs more = Ends-step n k l t q cells carried P e1 e2 (can_next-is k l a.0 e3) (more runs)
+        done true true true e1 e2 e3 runs more = EndsIn-step n k l t q cells carried P e1 e2 (can_next-is k l a.0 e3) (more runs)

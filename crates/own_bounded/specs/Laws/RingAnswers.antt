@@ -21,7 +21,7 @@ use Rattle.queue_steps.specs.declared.steps.types.Word.TheVariants as word
 use Rattle.queue_steps.specs.declared.steps.bounded.BoundedLocal.TheVariants as ring
 use Rattle.queue_steps.specs.BoundedNext.{loads}
 use Rattle.queue_steps.specs.Words.{IsWord, position_of, is_shut, slot_at}
-use Rattle.call_driver.specs.Ends.{EndsRight, Answered}
+use Rattle.call_driver.specs.EndsIn.{EndsRight, Answered}
 use Rattle.own_bounded.specs.Laws.Numbers.{apart_nat, equal_nat, is_below, is_even, equal_or_above}
 use Rattle.own_bounded.specs.RingCells.{RingState, kind_of_ring, ring_can_touch, ring_touches, ring_can_perform, ring_performs, ring_can_release, ring_releases}
 use Rattle.own_bounded.specs.Laws.RingKeeps.{next_lap}

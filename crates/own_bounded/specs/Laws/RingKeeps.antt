@@ -6,7 +6,7 @@ use Rattle.std.proofs.lemmas.List.{get_or-set_same, get_or-set_other}
 use Rattle.std.proofs.lemmas.Grind.{common_steps}
 use Rattle.queue_steps.specs.Words.{slot_at, stamp_emptied}
 use Rattle.own_bounded.specs.RingCells.{RingSlot}
-use Rattle.own_bounded.specs.RingOwned.{at_position, filled_slot, free_slot, Holds, put_in, items_of}
+use Rattle.own_bounded.specs.RingOwned.{at_position, filled_slot, free_slot, HoldsItems, put_in, items_of}
 
 -- two positions less than a lap apart have slots of their own
 pub apart : (n p t : ℕ) → 0 < n → p < t → t < p + n → p % n ≢ t % n
@@ -38,9 +38,9 @@ other_slot n p q slots s other = get_or-set_other slots (q % n) (p % n) s (recor
 pub next_lap : (n h t : ℕ) → t ≡ h + n → t % n ≡ h % n
 next_lap n h t e = rw e (add-mod_right h n)
 
-pub Holds-push : {T : Type 0} (n h t : ℕ) (slots : List (RingSlot T)) (v : T) → t < h + n → Holds n h t slots
-    → Holds n h (t + 1) (slice_set slots (slot_at n t) (filled_slot t v))
-Holds-push {T} n h t slots v room r =
+pub HoldsItems-push : {T : Type 0} (n h t : ℕ) (slots : List (RingSlot T)) (v : T) → t < h + n → HoldsItems n h t slots
+    → HoldsItems n h (t + 1) (slice_set slots (slot_at n t) (filled_slot t v))
+HoldsItems-push {T} n h t slots v room r =
     record {
       some = r.some;
       slotted = grind (arith, common_steps, r.slotted);
@@ -62,9 +62,9 @@ Holds-push {T} n h t slots v room r =
         let other : p % n ≢ t % n = apart n p t r.some high (omega arith) in
         (old.0, other_slot n p t slots (filled_slot t v) other ∙ old.1)
 
-pub Holds-pop : {T : Type 0} (n h t : ℕ) (slots : List (RingSlot T)) → h < t → Holds n h t slots
-    → Holds n (h + 1) t (slice_set slots (slot_at n h) (free_slot (stamp_emptied n h)))
-Holds-pop {T} n h t slots room r =
+pub HoldsItems-pop : {T : Type 0} (n h t : ℕ) (slots : List (RingSlot T)) → h < t → HoldsItems n h t slots
+    → HoldsItems n (h + 1) t (slice_set slots (slot_at n h) (free_slot (stamp_emptied n h)))
+HoldsItems-pop {T} n h t slots room r =
     record {
       some = r.some;
       slotted = grind (arith, common_steps, r.slotted);

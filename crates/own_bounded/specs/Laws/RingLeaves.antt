@@ -10,7 +10,7 @@ use Rattle.queue_steps.specs.State.{State}
 use Rattle.queue_steps.specs.Effect.{rest}
 use Rattle.queue_steps.specs.Words.{position_of, slot_at, stamp_emptied}
 use Rattle.own_bounded.specs.RingCells.{RingState}
-use Rattle.own_bounded.specs.Laws.RingKeeps.{Holds-push, Holds-pop, items_of-push, items_of-apart, length-items_of, next_lap}
+use Rattle.own_bounded.specs.Laws.RingKeeps.{HoldsItems-push, HoldsItems-pop, items_of-push, items_of-apart, length-items_of, next_lap}
 use Rattle.own_bounded.specs.RingOwned.{items_of, at_position, filled_slot, free_slot, IsIdle, ring_queue}
 use Rattle.own_bounded.specs.Laws.RingCalls.{marked, pushed, popped, displaced}
 
@@ -44,7 +44,7 @@ idle-pushed r v below room i =
     record {
       ring = i.ring;
       below = rw (half_up r.tail) (omega arith);
-      holds = rw (half_up r.tail) (Holds-push r.cap r.head (position_of r.tail) r.slots v room i.holds);
+      holds = rw (half_up r.tail) (HoldsItems-push r.cap r.head (position_of r.tail) r.slots v room i.holds);
     }
 
 pub queue-pushed : {T : Type 0} (r : RingState T) (v : T) → position_of r.tail < r.head + r.cap → IsIdle r
@@ -62,7 +62,7 @@ queue-pushed {T} r v room i =
     rw (half_up r.tail, odd_up r.tail, more, items) refl
 
 pub idle-popped : {T : Type 0} (r : RingState T) → r.head < position_of r.tail → IsIdle r → IsIdle (popped r)
-idle-popped r some i = record { ring = i.ring; below = i.below; holds = Holds-pop r.cap r.head (position_of r.tail) r.slots some i.holds }
+idle-popped r some i = record { ring = i.ring; below = i.below; holds = HoldsItems-pop r.cap r.head (position_of r.tail) r.slots some i.holds }
 
 -- the front of the items
 pub items-front : {T : Type 0} (r : RingState T) (x : T) → r.head < position_of r.tail → at_position r.cap r.slots r.head ≡ filled_slot r.head x

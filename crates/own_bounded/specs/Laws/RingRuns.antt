@@ -19,8 +19,8 @@ use Rattle.queue_steps.specs.Words.{IsRing}
 use Rattle.queue_steps.specs.BoundedNext.{at, FitsRing, bounded_next}
 use Rattle.own_bounded.specs.RingCells.{RingSlot, RingState, slot_in, exchanged, ring_touchable, ring_touched, ring_operable, ring_performed, ring_can_touch, ring_touches, ring_can_perform, ring_performs}
 use Rattle.own_bounded.specs.Laws.Numbers.{less}
-use Rattle.call_driver.specs.Ends.{Ends}
-use Rattle.own_bounded.specs.Laws.ComputedRuns.{Ends-step}
+use Rattle.call_driver.specs.EndsIn.{EndsIn}
+use Rattle.own_bounded.specs.Laws.ComputedRuns.{EndsIn-step}
 
 -- what a call has to end with
 abbrev pub Ending : Type 0 → Type 1
@@ -28,7 +28,7 @@ Ending T = Reply Unit → Option Unit → Option T → RingState T → Type 0
 
 -- a call on a ring of n slots ends before so many steps
 abbrev pub RingEnds : {T : Type 0} → ℕ → ℕ → Next Unit → RingState T → Option T → Ending T → Type 0
-RingEnds n steps todo r carried P = Ends ring_can_touch ring_touches ring_can_perform ring_performs steps (kind.Bounded n) todo r carried P
+RingEnds n steps todo r carried P = EndsIn ring_can_touch ring_touches ring_can_perform ring_performs steps (kind.Bounded n) todo r carried P
 
 -- one step, from what it finds
 pub ring_step : {T : Type 0} (n steps : ℕ) (l : BoundedLocal) (t : Touch) (q : Op Unit) (r mid done : RingState T) (carried left : Option T) (a : Answer Unit) (todo : Next Unit) (P : Ending T)
@@ -39,7 +39,7 @@ ring_step {T} n steps l t q r mid done carried left a todo P can_touch touched c
     let rest : Rest (a, done) left = ((is_ring, fits), subst Todo (sym next_is) more) in
     let Performed : Answer Unit × RingState T → Type 0 = λ x. Rest x left in
     let all : Touched (ring_touched r t q carried) = subst Touched (sym touched) (can_perform, subst Performed (sym performed) rest) in
-    Ends-step ring_touchable ring_touched ring_operable ring_performed steps (kind.Bounded n) (local.Bounded l) t q r carried P can_touch all.0 all.1.0 all.1.1
+    EndsIn-step ring_touchable ring_touched ring_operable ring_performed steps (kind.Bounded n) (local.Bounded l) t q r carried P can_touch all.0 all.1.0 all.1.1
   where
     Rest : Answer Unit × RingState T → Option T → Type 0
     Rest x z = CanNext (kind.Bounded n) (local.Bounded l) x.0 × RingEnds n steps (next_of (kind.Bounded n) (local.Bounded l) x.0) x.1 z P

@@ -18,8 +18,8 @@ use Rattle.queue_steps.specs.declared.sizes.TheConstants.{SOLO_STEPS}
 use Rattle.queue_steps.specs.Sequential.{Sequential}
 use Rattle.queue_steps.specs.SingleNext.{is_marked}
 use Rattle.own_bounded.specs.declared.single.Single.{Single}
-use Rattle.call_driver.specs.Ends.{EndsRight, Released, Replied, Answered}
-use Rattle.own_bounded.specs.Laws.ComputedRuns.{Outcome, run_from, Ends-run}
+use Rattle.call_driver.specs.EndsIn.{EndsRight, Released, Replied, Answered}
+use Rattle.own_bounded.specs.Laws.ComputedRuns.{Outcome, run_from, EndsIn-run}
 use Rattle.own_bounded.specs.SingleCells.{IsIdle, single_owned, single_touchable, single_operable, single_touched, single_performed, single_can_touch, single_can_perform, single_touches, single_performs, single_can_release, single_releases, word_for}
 
 -- the test of `CanNext` for one slot
@@ -63,7 +63,7 @@ single_ends {T} item lock closed c is =
     let P : ℕ → Type 0 = λ w. SingleEnds (slot_of item w) c in
     subst P (sym is) (
       tt,
-      Ends-run single_touchable single_touched single_operable single_performed can_next can_next-is SOLO_STEPS kind.Single (next_of kind.Single (first_local (call_kind c)) answer.Start) first (call_value c)
+      EndsIn-run single_touchable single_touched single_operable single_performed can_next can_next-is SOLO_STEPS kind.Single (next_of kind.Single (first_local (call_kind c)) answer.Start) first (call_value c)
           (Answered single_can_release single_releases IsIdle single_owned c first) r.0 r.1 (subst End (sym r.3) (r.2, r.4)),
     )
 

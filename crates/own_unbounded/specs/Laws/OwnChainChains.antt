@@ -7,7 +7,7 @@ use Rattle.queue_steps.specs.Effect.{rest}
 use Rattle.own_unbounded.specs.declared.unbounded.Name.{Name}
 use Rattle.own_bounded.specs.Laws.Numbers.{same_or_not, below_or_not}
 use Rattle.own_unbounded.specs.OwnChainCells.{Piece, piece_at, state_in, item_in, fresh_piece, IsEmptied}
-use Rattle.own_unbounded.specs.OwnChainOwned.{cell_of, Holds, Linked}
+use Rattle.own_unbounded.specs.OwnChainOwned.{cell_of, HoldsItems, Linked}
 use Rattle.own_unbounded.specs.Laws.OwnChainKeeps.{cell_in, replaced-keeps}
 
 -- a block is laid behind the last one
@@ -50,8 +50,8 @@ Linked-first {T} first b is =
       end = λ i last. let here : i ≡ 0 = omega arith in rw here refl;
     }
 
-pub Holds-first : {T : Type 0} (b : Name T) → Holds (fresh_piece b ∷ []) 0 0 0
-Holds-first {T} b =
+pub HoldsItems-first : {T : Type 0} (b : Name T) → HoldsItems (fresh_piece b ∷ []) 0 0 0
+HoldsItems-first {T} b =
     record {
       read = λ n from before. absurd (omega arith);
       written = λ n from before. absurd (omega arith);
@@ -114,8 +114,8 @@ module _ {T : Type 0} (ps : List (Piece T)) (first k : ℕ) (b : Name T) (last :
   pub lay-same : (base n : ℕ) → n < (base + length ps) * BLOCK_SLOTS → cell_of (chained (laid_behind ps b) k b) base n ≡ cell_of ps base n
   lay-same base n before = keeps-old (λ p. cell_in p (n % BLOCK_SLOTS)) (λ p. refl) (n / BLOCK_SLOTS - base) (omega arith)
 
-  pub Holds-lay : (base h t : ℕ) → base * BLOCK_SLOTS ≤ h → h ≤ t → t ≤ (base + length ps) * BLOCK_SLOTS → Holds ps base h t → Holds (chained (laid_behind ps b) k b) base h t
-  Holds-lay base h t low order high holds =
+  pub HoldsItems-lay : (base h t : ℕ) → base * BLOCK_SLOTS ≤ h → h ≤ t → t ≤ (base + length ps) * BLOCK_SLOTS → HoldsItems ps base h t → HoldsItems (chained (laid_behind ps b) k b) base h t
+  HoldsItems-lay base h t low order high holds =
       record {
         read = λ n from before. lay-same base n (omega arith) ∙ holds.read n from before;
         written = λ n from before. let old = holds.written n from before in (old.0, lay-same base n (omega arith) ∙ old.1);
@@ -154,8 +154,8 @@ Linked-rest {T} first ps some linked =
     within i below = let long = length-rest ps some in omega arith
 
 -- after the last item of the oldest block was taken
-pub Holds-rest : {T : Type 0} (ps : List (Piece T)) (base h t : ℕ) → 0 < length ps → h < t → h + 1 ≡ (base + 1) * BLOCK_SLOTS → Holds ps base h t → Holds (rest ps) (base + 1) (h + 1) t
-Holds-rest {T} ps base h t some order last holds =
+pub HoldsItems-rest : {T : Type 0} (ps : List (Piece T)) (base h t : ℕ) → 0 < length ps → h < t → h + 1 ≡ (base + 1) * BLOCK_SLOTS → HoldsItems ps base h t → HoldsItems (rest ps) (base + 1) (h + 1) t
+HoldsItems-rest {T} ps base h t some order last holds =
     record {
       read = λ n from before. absurd (omega arith);
       written = λ n from before. let old = holds.written n (omega arith) before in (old.0, cell-rest ps base n some (omega arith) ∙ old.1);

@@ -7,7 +7,7 @@ use Rattle.queue_steps.specs.declared.steps.unbounded.TheConstants.{WRITE, READ}
 use Rattle.own_bounded.specs.Laws.Numbers.{same_or_not}
 use Rattle.own_bounded.specs.RingOwned.{put_in}
 use Rattle.own_unbounded.specs.OwnChainCells.{Piece, piece_at, state_in, item_in}
-use Rattle.own_unbounded.specs.OwnChainOwned.{cell_of, items_from, Holds, Linked}
+use Rattle.own_unbounded.specs.OwnChainOwned.{cell_of, items_from, HoldsItems, Linked}
 use Rattle.own_unbounded.specs.Laws.OwnChainRuns.{set_cell}
 
 -- the state and the content of a slot of a block
@@ -131,9 +131,9 @@ Linked-set {T} first ps i slot state item below linked =
     within j inside = let long = length-set ps i p in omega arith
 
 -- an item is written at the end
-pub Holds-push : {T : Type 0} (ps : List (Piece T)) (base first h t : ℕ) (v : T) → Linked first ps → base * BLOCK_SLOTS ≤ h → h ≤ t → t < (base + length ps) * BLOCK_SLOTS → Holds ps base h t
-    → Holds (set_item ps base t WRITE (Some v)) base h (t + 1)
-Holds-push {T} ps base first h t v linked low order high holds =
+pub HoldsItems-push : {T : Type 0} (ps : List (Piece T)) (base first h t : ℕ) (v : T) → Linked first ps → base * BLOCK_SLOTS ≤ h → h ≤ t → t < (base + length ps) * BLOCK_SLOTS → HoldsItems ps base h t
+    → HoldsItems (set_item ps base t WRITE (Some v)) base h (t + 1)
+HoldsItems-push {T} ps base first h t v linked low order high holds =
     record {
       read = λ n from before. other n from (λ e. omega arith) ∙ holds.read n from before;
       written = λ n from before. written n from before (same_or_not n t);
@@ -154,9 +154,9 @@ Holds-push {T} ps base first h t v linked low order high holds =
     written n from before (inr differs) = let old = holds.written n from (omega arith) in (old.0, other n (omega arith) differs ∙ old.1)
 
 -- the front is read
-pub Holds-pop : {T : Type 0} (ps : List (Piece T)) (base first h t : ℕ) → Linked first ps → base * BLOCK_SLOTS ≤ h → h < t → h < (base + length ps) * BLOCK_SLOTS → Holds ps base h t
-    → Holds (set_item ps base h (bit_or WRITE READ) None) base (h + 1) t
-Holds-pop {T} ps base first h t linked low order high holds =
+pub HoldsItems-pop : {T : Type 0} (ps : List (Piece T)) (base first h t : ℕ) → Linked first ps → base * BLOCK_SLOTS ≤ h → h < t → h < (base + length ps) * BLOCK_SLOTS → HoldsItems ps base h t
+    → HoldsItems (set_item ps base h (bit_or WRITE READ) None) base (h + 1) t
+HoldsItems-pop {T} ps base first h t linked low order high holds =
     record {
       read = λ n from before. read n from before (same_or_not n h);
       written = λ n from before. let old = holds.written n (omega arith) before in (old.0, other n (omega arith) (λ e. omega arith) ∙ old.1);

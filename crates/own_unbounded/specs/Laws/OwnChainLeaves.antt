@@ -11,9 +11,9 @@ use Rattle.queue_steps.specs.ChainWords.{offset_of, items_before}
 use Rattle.own_unbounded.specs.declared.unbounded.Name.{Name}
 use Rattle.own_bounded.specs.Laws.RingLeaves.{odd_up, half_mark, odd_mark}
 use Rattle.own_unbounded.specs.OwnChainCells.{Piece, OwnChain, piece_at, fresh_piece}
-use Rattle.own_unbounded.specs.OwnChainOwned.{taken, accepted, cell_of, items_from, own_chain_queue, Holds, Linked, IsBare, IsLaid, IsIdle}
-use Rattle.own_unbounded.specs.Laws.OwnChainKeeps.{set_item, length-set_item, name-set_item, item-same, item-other, items_from-same, items_from-more, Linked-set, Holds-push, Holds-pop}
-use Rattle.own_unbounded.specs.Laws.OwnChainChains.{lay-name, lay-name-new, laid_behind, chained, Linked-first, Holds-first, Linked-lay, Holds-lay, lay-same, length-chained, length-rest, piece-rest, cell-rest, Linked-rest, Holds-rest}
+use Rattle.own_unbounded.specs.OwnChainOwned.{taken, accepted, cell_of, items_from, own_chain_queue, HoldsItems, Linked, IsBare, IsLaid, IsIdle}
+use Rattle.own_unbounded.specs.Laws.OwnChainKeeps.{set_item, length-set_item, name-set_item, item-same, item-other, items_from-same, items_from-more, Linked-set, HoldsItems-push, HoldsItems-pop}
+use Rattle.own_unbounded.specs.Laws.OwnChainChains.{lay-name, lay-name-new, laid_behind, chained, Linked-first, HoldsItems-first, Linked-lay, HoldsItems-lay, lay-same, length-chained, length-rest, piece-rest, cell-rest, Linked-rest, HoldsItems-rest}
 
 -- the chain with a block for each item
 abbrev pub Laid : {T : Type 0} → OwnChain T → Type 0
@@ -67,7 +67,7 @@ pub record Ready {T : Type 0} (r : OwnChain T) (ps : List (Piece T)) (back : Opt
   pub linked : Linked r.first ps
   pub front : r.head_block ≡ Some (piece_at ps 0).name
   pub behind : (i : ℕ) → i + 1 ≡ length ps → back ≡ Some (piece_at ps i).name
-  pub holds : Holds ps (taken r / BLOCK_SLOTS) (taken r) (accepted r)
+  pub holds : HoldsItems ps (taken r / BLOCK_SLOTS) (taken r) (accepted r)
   pub space : accepted r < (taken r / BLOCK_SLOTS + length ps) * BLOCK_SLOTS
   pub same : (m : ℕ) → taken r ≤ m → m < accepted r → cell_of ps (taken r / BLOCK_SLOTS) m ≡ cell_of r.pieces (taken r / BLOCK_SLOTS) m
 
@@ -92,7 +92,7 @@ module _ {T : Type 0} (r : OwnChain T) (ps : List (Piece T)) (back : Option (Nam
         linked = Linked-set r.first ps (accepted r / BLOCK_SLOTS - taken r / BLOCK_SLOTS) (accepted r % BLOCK_SLOTS) WRITE (Some v) inside ready.linked;
         front = ready.front ∙ ap Some (sym (name-set_item ps (taken r / BLOCK_SLOTS) (accepted r) WRITE (Some v) 0 inside));
         back = λ j last. ready.behind j (last ∙ long) ∙ ap Some (sym (name-set_item ps (taken r / BLOCK_SLOTS) (accepted r) WRITE (Some v) j inside));
-        holds = Holds-push ps (taken r / BLOCK_SLOTS) r.first (taken r) (accepted r) v ready.linked (omega arith) i.order ready.space ready.holds;
+        holds = HoldsItems-push ps (taken r / BLOCK_SLOTS) r.first (taken r) (accepted r) v ready.linked (omega arith) i.order ready.space ready.holds;
       }
 
   pub idle-pushed : accepted r < LIMIT → spare ≡ None → IsIdle (pushed r ps back tail spare v)
@@ -161,7 +161,7 @@ ready-behind {T} r k b i l outer last is =
       linked = Linked-lay r.pieces r.first k b last is l.linked;
       front = l.front ∙ ap Some (sym (lay-name r.pieces r.first k b last is 0 (omega arith)));
       behind = λ j end. let here : j ≡ length r.pieces = omega arith in rw here (ap Some (sym (lay-name-new r.pieces r.first k b last is)));
-      holds = Holds-lay r.pieces r.first k b last is (taken r / BLOCK_SLOTS) (taken r) (accepted r) (omega arith) order (omega arith) l.holds;
+      holds = HoldsItems-lay r.pieces r.first k b last is (taken r / BLOCK_SLOTS) (taken r) (accepted r) (omega arith) order (omega arith) l.holds;
       space = omega arith;
       same = λ m from to. lay-same r.pieces r.first k b last is (taken r / BLOCK_SLOTS) m (omega arith);
     }
@@ -189,7 +189,7 @@ module _ {T : Type 0} (r : OwnChain T) (b : Name T) (i : IsIdle r) (bare : IsBar
         linked = Linked-first r.first b numbered;
         front = refl;
         back = λ j last. let here : j ≡ 0 = omega arith in rw here refl;
-        holds = Holds-first b;
+        holds = HoldsItems-first b;
       }) in
       subst (λ h. OfCounts h (accepted r)) (sym none) (subst (λ t. OfCounts 0 t) (sym unused) fresh)
 
@@ -250,14 +250,14 @@ module _ {T : Type 0} (r : OwnChain T) (head : ℕ) (i : IsIdle r) (l : Laid r) 
       let same : (taken r + 1) / BLOCK_SLOTS ≡ base = omega arith in
       let ps : List (Piece T) = set_item r.pieces base (taken r) (bit_or WRITE READ) None in
       let long : length ps ≡ length r.pieces = length-set_item r.pieces base (taken r) (bit_or WRITE READ) None in
-      let Base : ℕ → Type 0 = λ x. Holds ps x (taken r + 1) (accepted r) in
+      let Base : ℕ → Type 0 = λ x. HoldsItems ps x (taken r + 1) (accepted r) in
       let below : taken r < (base + length r.pieces) * BLOCK_SLOTS = omega arith in
       let laid : IsLaid r.first ps r.head_block r.tail_block (taken r + 1) (accepted r) = record {
         count = omega arith;
         linked = Linked-set r.first r.pieces (taken r / BLOCK_SLOTS - base) (taken r % BLOCK_SLOTS) (bit_or WRITE READ) None first_inside l.linked;
         front = l.front ∙ ap Some (sym (name-set_item r.pieces base (taken r) (bit_or WRITE READ) None 0 first_inside));
         back = λ j last. l.back j (last ∙ long) ∙ ap Some (sym (name-set_item r.pieces base (taken r) (bit_or WRITE READ) None j first_inside));
-        holds = subst Base (sym same) (Holds-pop r.pieces base r.first (taken r) (accepted r) l.linked (omega arith) some below l.holds);
+        holds = subst Base (sym same) (HoldsItems-pop r.pieces base r.first (taken r) (accepted r) l.linked (omega arith) some below l.holds);
       } in
       idle-moved r.first r.head_block ps (let few = i.few in omega arith) laid
 
@@ -268,13 +268,13 @@ module _ {T : Type 0} (r : OwnChain T) (head : ℕ) (i : IsIdle r) (l : Laid r) 
       let more : (taken r + 1) / BLOCK_SLOTS ≡ base + 1 = omega arith in
       let filled : 0 < length r.pieces = omega arith in
       let long = length-rest r.pieces filled in
-      let Base : ℕ → Type 0 = λ x. Holds (rest r.pieces) x (taken r + 1) (accepted r) in
+      let Base : ℕ → Type 0 = λ x. HoldsItems (rest r.pieces) x (taken r + 1) (accepted r) in
       let laid : IsLaid (r.first + 1) (rest r.pieces) (piece_at r.pieces 0).next r.tail_block (taken r + 1) (accepted r) = record {
         count = omega arith;
         linked = Linked-rest r.first r.pieces filled l.linked;
         front = l.linked.next 0 (omega arith) ∙ ap (λ (p : Piece T). Some p.name) (sym (piece-rest r.pieces 0 filled));
         back = λ j last. l.back (suc j) (omega arith) ∙ ap (λ (p : Piece T). Some p.name) (sym (piece-rest r.pieces j filled));
-        holds = subst Base (sym more) (Holds-rest r.pieces base (taken r) (accepted r) filled some (omega arith) l.holds);
+        holds = subst Base (sym more) (HoldsItems-rest r.pieces base (taken r) (accepted r) filled some (omega arith) l.holds);
       } in
       idle-moved (r.first + 1) (piece_at r.pieces 0).next (rest r.pieces) (let few = i.few in omega arith) laid
 

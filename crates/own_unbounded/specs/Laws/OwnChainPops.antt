@@ -15,7 +15,7 @@ use Rattle.queue_steps.specs.Words.{position_of, is_shut}
 use Rattle.queue_steps.specs.ChainWords.{block_at, offset_of}
 use Rattle.queue_steps.specs.UnboundedNext.{loads, takes}
 use Rattle.own_unbounded.specs.declared.unbounded.Name.{Name}
-use Rattle.call_driver.specs.Ends.{Replied}
+use Rattle.call_driver.specs.EndsIn.{Replied}
 use Rattle.own_bounded.specs.Laws.Numbers.{equal_nat, apart_nat, is_equal, is_apart, same_or_not, equal_or_above, last_or_not}
 use Rattle.own_unbounded.specs.OwnChainCells.{Piece, OwnChain, piece_at, place_of, piece_of, with_piece, Named, CanFollow, IsEmptied}
 use Rattle.own_unbounded.specs.OwnChainOwned.{taken, accepted, cell_of, own_chain_owned, IsBare, IsIdle}

@@ -16,7 +16,7 @@ use Rattle.queue_steps.specs.declared.steps.types.Touch.TheVariants as touch
 use Rattle.queue_steps.specs.declared.steps.unbounded.UnboundedLocal.{UnboundedLocal}
 use Rattle.queue_steps.specs.UnboundedNext.{at, FitsChain, unbounded_next}
 use Rattle.own_unbounded.specs.declared.unbounded.Name.{Name}
-use Rattle.call_driver.specs.Ends.{Ends}
+use Rattle.call_driver.specs.EndsIn.{EndsIn}
 use Rattle.own_unbounded.specs.OwnChainCells.{Piece, OwnChain, piece_at, state_in, item_in, place_of, piece_of, with_piece, exchanged, Named, own_chain_can_touch, own_chain_touched, own_chain_touches, own_chain_can_perform, own_chain_performed, own_chain_performs}
 
 -- what a call has to end with
@@ -25,7 +25,7 @@ Ending T = Reply Unit → Option (Name T) → Option T → OwnChain T → Type 0
 
 -- a call on a chain ends before so many steps
 abbrev pub OwnChainEnds : {T : Type 0} → ℕ → Next (Name T) → OwnChain T → Option T → Ending T → Type 0
-OwnChainEnds steps todo r carried P = Ends own_chain_can_touch own_chain_touches own_chain_can_perform own_chain_performs steps kind.Unbounded todo r carried P
+OwnChainEnds steps todo r carried P = EndsIn own_chain_can_touch own_chain_touches own_chain_can_perform own_chain_performs steps kind.Unbounded todo r carried P
 
 -- the operation answers and leaves one thing alone
 abbrev pub IsSettled : {T : Type 0} → OwnChain T → Op (Name T) → Type 0

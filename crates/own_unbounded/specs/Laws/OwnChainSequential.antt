@@ -16,7 +16,7 @@ use Rattle.queue_steps.specs.Sequential.{Sequential, HoldsBlocks, blocks_of, seq
 use Rattle.queue_steps.specs.Words.{is_shut}
 use Rattle.queue_steps.specs.BoundedNext.{closed_reply, pushed_reply}
 use Rattle.queue_steps.specs.UnboundedNext.{gives_up}
-use Rattle.call_driver.specs.Ends.{EndsRight, Answered}
+use Rattle.call_driver.specs.EndsIn.{EndsRight, Answered}
 use Rattle.own_bounded.specs.Laws.Numbers.{is_equal, is_apart, equal_or_above}
 use Rattle.own_unbounded.specs.OwnChainCells.{OwnChain, kind_of_own_chain, own_chain_can_touch, own_chain_touches, own_chain_can_perform, own_chain_performs, own_chain_can_release, own_chain_releases}
 use Rattle.own_unbounded.specs.OwnChainOwned.{taken, accepted, own_chain_queue, own_chain_owned, IsBare, IsLaid, IsIdle}

@@ -14,11 +14,11 @@ use Rattle.call_driver.specs.Leads.{Leads, GoesOn}
 use Rattle.shared_site.specs.ChainSite.{ChainSpares, ChainGives, ChainOnWay}
 
 module _ {T A : Type 0} (left : ℕ) where
-  abbrev Goes : ChainWeb T A → Seat T (CallState T) A → Call T → Next (Place T) → Seat T (CallState T) A → Option T → Type 0
-  Goes = Leads ChainCan (λ w s k l u o x a q y. ChainDoes s k l u o x a q y) ChainSpares ChainGives ChainOnWay ChainEnded left
+  abbrev SiteLeads : ChainWeb T A → Seat T (CallState T) A → Call T → Next (Place T) → Seat T (CallState T) A → Option T → Type 0
+  SiteLeads = Leads ChainCan (λ w s k l u o x a q y. ChainDoes s k l u o x a q y) ChainSpares ChainGives ChainOnWay ChainEnded left
 
   -- what leads on for a chain does so for the driver
-  leads : (w : ChainWeb T A) (p : Seat T (CallState T) A) (c : Call T) (n : Next (Place T)) (s : Seat T (CallState T) A) (x : Option T) → SitsAt w s → ChainLeads w p c n s x → Goes w p c n s x
+  leads : (w : ChainWeb T A) (p : Seat T (CallState T) A) (c : Call T) (n : Next (Place T)) (s : Seat T (CallState T) A) (x : Option T) → SitsAt w s → ChainLeads w p c n s x → SiteLeads w p c n s x
   leads w p c (Next.Step l t o) s x sits h = h
   leads w p c (Next.Reply r None) s x sits h = (tt, λ q same. (h.1.0, h.1.1, h.1.2 q (subst (λ z. GaveUp s z) (sym same) ((refl, refl, refl), ap (λ spare. sitter s.sitter.view s.sitter.hand spare) h.0))))
   leads w p c (Next.Reply r (Some b)) s x sits h = ((sits, h.0), λ q gave. (h.1.0, h.1.1, h.1.2 q gave))

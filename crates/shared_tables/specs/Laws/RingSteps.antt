@@ -22,7 +22,7 @@ use Rattle.law_common.specs.Stand.{Stand}
 use Rattle.law_ring.specs.RingAt.{At, HasPlace, InRing}
 use Rattle.law_ring.proofs.RingAt.{at_stays}
 use Rattle.law_ring.proofs.RingRanks.{rank}
-use Rattle.law_ring.proofs.RingGood.{IsEffect, Goes as RingGoes, Good}
+use Rattle.law_ring.proofs.RingStepOk.{IsEffect, NextOk as RingNextOk, StepOk}
 use Rattle.law_ring.proofs.RingEarly.{early}
 use Rattle.law_ring.proofs.RingStart.{at_first, at_touches, at_coming, at_word}
 use Rattle.law_ring.proofs.RingStep.{step_good}
@@ -31,8 +31,8 @@ use Rattle.law_ring.specs.RingPasses.{Lent}
 use Rattle.own_bounded.specs.RingWords.{words_behind}
 use Rattle.own_bounded.specs.declared.ring_words.TheConstants.{STAMPS}
 use Rattle.law_common.proofs.Moments.{seen_map}
-use Rattle.shared_parties.specs.Calling.{touched_list, lies_in, handed_by, HasTouched, MayFront, Goes, CallLaws}
-use Rattle.shared_tables.specs.TableRule.{found_by, Stepped, InTable, TakesOff, OpensIn, TableLaws}
+use Rattle.shared_parties.specs.Calling.{touched_list, lies_in, handed_by, HasTouched, MayFront, NextOk, CallLaws}
+use Rattle.shared_tables.specs.TableRule.{found_by, TableStepOk, InTable, TakesOff, OpensIn, TableLaws}
 use Rattle.shared_parties.specs.Operations.{op_word, op_makes, answer_for}
 use Rattle.shared_tables.specs.RingTable.{home_when, home_of, Homes, ring_words, word_index, RingCoded, ring_calls, ring_table}
 use Rattle.shared_tables.specs.Laws.RingWaitFree.{ring_wait_free}
@@ -253,14 +253,14 @@ module _ {T : Type 0} where
 
   module _ (cap : ℕ) (r s : Ring T) (who : ℕ) (ms : List (State T)) (was : Bool) where
     -- where the call stands after its step, or that it ends right
-    goes_well : (n : Next ℕ) (v : Option T) (k : Call T) (es : List (Effect T)) (m : ℕ) → RingGoes cap r s who ms was n v k es m → Goes (ring_calls cap) s who ms was n v k es
+    goes_well : (n : Next ℕ) (v : Option T) (k : Call T) (es : List (Effect T)) (m : ℕ) → RingNextOk cap r s who ms was n v k es m → NextOk (ring_calls cap) s who ms was n v k es
     goes_well (Next.Step l t o) v k es m goes = goes.0
     goes_well (Next.Reply x spare) v k es m goes = let y = goes.2 in (goes.0, goes.1, (y.0, y.1, y.2, λ none. seen_map ms (λ q p. inl p) (y.3 none)))
 
   module _ (cap : ℕ) (g : Ring T) (who n : ℕ) (ws : List ℕ) (hs : List (maybe.Option (Option T))) where
     -- each step of a call does what the table is owed
     ring_steps : (ms : List (State T)) (was : Bool) (c : Stand T) (xs : List (ℕ × Option T))
-        → RingOk cap g → RingCoded cap g ws hs → At cap g who ms was c → Lent g who xs → Stepped (ring_table cap) g who n ws hs ms was c xs
+        → RingOk cap g → RingCoded cap g ws hs → At cap g who ms was c → Lent g who xs → TableStepOk (ring_table cap) g who n ws hs ms was c xs
     ring_steps ms was c xs ok (s, codes, words, homes) here lent = record {
       after = good.after;
       words = ring_words (operated touching c.op);
@@ -275,7 +275,7 @@ module _ {T : Type 0} where
       front = may_front cap was c.local (answered touching c.op) good.e good.told;
       makes = good.makes;
       passes = good.passes;
-      goes = subst (λ (z : Answer ℕ × Option T). Goes (ring_calls cap) good.after who (queue_of cap good.after ∷ ms) (was || not good.after.closed) (next_of (Kind.Bounded cap) c.local z.0) z.1 c.call (with_effect c.effects good.e))
+      goes = subst (λ (z : Answer ℕ × Option T). NextOk (ring_calls cap) good.after who (queue_of cap good.after ∷ ms) (was || not good.after.closed) (next_of (Kind.Bounded cap) c.local z.0) z.1 c.call (with_effect c.effects good.e))
           (λ i. (found_is i, handed_is i))
           (goes_well cap g good.after who (queue_of cap good.after ∷ ms) (was || not good.after.closed) (next_of (Kind.Bounded cap) c.local (answered touching c.op)) (handed s c.touch c.carried) c.call (with_effect c.effects good.e) (rank cap g c.local) good.goes);
     }
@@ -283,7 +283,7 @@ module _ {T : Type 0} where
         touching : Shared T
         touching = touched s c.touch c.carried
 
-        good : Good cap g who s ms was c
+        good : StepOk cap g who s ms was c
         good = step_good ok codes here
 
         moved : Shifted cap who good.after hs (touched_list c.touch c.carried xs)

@@ -14,7 +14,7 @@ use Rattle.law_common.specs.Effects.{Leads, with_effect}
 use Rattle.law_common.specs.Stand.{Stand, stand}
 use Rattle.law_slot.specs.SlotShared.{Shared, one_slot, CanOperate, answered, operated, touched, handed}
 use Rattle.law_slot.specs.SlotHolder.{SlotHolder, Nobody}
-use Rattle.law_slot.specs.SlotRows.{Stands, filling, swapping, taking, At, push_try, push_put, force_try_empty, force_try_full, force_put_empty, force_put_full, pop_try, pop_take, close_try, look_at, Share, fills, swaps, takes as takes_share, Passes, stays, changes, single, Lands, Good}
+use Rattle.law_slot.specs.SlotRows.{Codes, filling, swapping, taking, At, push_try, push_put, force_try_empty, force_try_full, force_put_empty, force_put_full, pop_try, pop_take, close_try, look_at, Share, fills, swaps, takes as takes_share, Passes, stays, changes, single, NextOk as SlotNextOk, StepOk}
 use Rattle.law_slot.proofs.SlotEarly.{early}
 use Rattle.law_slot.proofs.SlotSteps.{step_good}
 use Rattle.law_slot.proofs.SlotRanks.{can_operate}
@@ -22,8 +22,8 @@ use Rattle.law_slot.proofs.SlotHolder.{share_of, next_who, own_self, own_other}
 use Rattle.law_slot.specs.SlotCells.{Slot, queue_of, own_in, lent_by, Lent, IsHeld}
 use Rattle.law_slot.proofs.SlotCells.{nobody_if, held_lent, at_stays, lent_stays, at_whole, at_lock, at_touches}
 use Rattle.law_common.proofs.Moments.{seen_map}
-use Rattle.shared_parties.specs.Calling.{touched_list, lies_in, handed_by, MayFront, Goes, CallLaws}
-use Rattle.shared_tables.specs.TableRule.{InTable, TakesOff, Stepped, OpensIn, TableLaws}
+use Rattle.shared_parties.specs.Calling.{touched_list, lies_in, handed_by, MayFront, NextOk, CallLaws}
+use Rattle.shared_tables.specs.TableRule.{InTable, TakesOff, TableStepOk, OpensIn, TableLaws}
 use Rattle.shared_parties.specs.Operations.{op_makes, answer_for}
 use Rattle.shared_tables.specs.SlotTable.{home_under, SlotCoded, slot_calls, slot_table}
 
@@ -104,11 +104,11 @@ module _ {T : Type 0} where
   out_of h x held = refl
 
   -- a party that has nothing of the lock leaves it so, or takes it with the slot
-  takes_slot : {word' : ℕ} {items' : List T} {c' : Bool} (slot slot' : Option T) (own h own' h' : SlotHolder T) → Passes own h own' h' → own ≡ Nobody → slot' ≡ slot → Stands word' slot' h' items' c' → Moved h slot h' slot' own' []
+  takes_slot : {word' : ℕ} {items' : List T} {c' : Bool} (slot slot' : Option T) (own h own' h' : SlotHolder T) → Passes own h own' h' → own ≡ Nobody → slot' ≡ slot → Codes word' slot' h' items' c' → Moved h slot h' slot' own' []
   takes_slot slot slot' _ _ _ _ (stays own h) is same st = record { act = keeps; valid = tt; homes = ap (λ x. home_under h x ∷ []) (sym same); lent = ap lent_by (sym is) }
   takes_slot slot slot' _ _ _ _ (changes h g) is same st = by g st
     where
-      taken : {w : ℕ} {ys : List T} {d : Bool} (f : SlotHolder T) → IsHeld f → Stands w slot' f ys d → Moved h slot f slot' f []
+      taken : {w : ℕ} {ys : List T} {d : Bool} (f : SlotHolder T) → IsHeld f → Codes w slot' f ys d → Moved h slot f slot' f []
       taken f held st = record {
         act = takes 0 slot;
         valid = ap (λ x. some (home_under x slot)) is;
@@ -116,7 +116,7 @@ module _ {T : Type 0} where
         lent = ap (λ x. (0, x) ∷ []) (sym same) ∙ sym (held_lent st held);
       }
 
-      by : {w : ℕ} {ys : List T} {d : Bool} (f : SlotHolder T) → Stands w slot' f ys d → Moved h slot f slot' f []
+      by : {w : ℕ} {ys : List T} {d : Bool} (f : SlotHolder T) → Codes w slot' f ys d → Moved h slot f slot' f []
       by Nobody st = record { act = keeps; valid = tt; homes = (λ i. home_under (is i) (sym same i) ∷ []); lent = refl }
       by f st = taken f tt st
 
@@ -134,7 +134,7 @@ module _ {T : Type 0} where
   left_there s o w x is = sym (ap (λ z. z.slot) is) ∙ slot_operated s o
 
   module _ {word : ℕ} {slot : Option T} {h : SlotHolder T} {items : List T} {c : Bool} {n : ℕ} {ms : List (State T)} where
-    from_free : {l : Local ℕ} {o : Op ℕ} {v : Option T} {k : Call T} {es : List (Effect T)} → (good : Good word slot Nobody h items c n (stand l Touch.Nothing o v k es) ms)
+    from_free : {l : Local ℕ} {o : Op ℕ} {v : Option T} {k : Call T} {es : List (Effect T)} → (good : StepOk word slot Nobody h items c n (stand l Touch.Nothing o v k es) ms)
         → Shifts word slot Nobody h good.own' good.h' good.slot' Touch.Nothing v
     from_free {o = o} good = record {
       moved = takes_slot slot good.slot' Nobody h good.own' good.h' good.passes refl (left_there (one_slot word slot) o good.word' good.slot' good.leaves) good.stands;
@@ -142,7 +142,7 @@ module _ {T : Type 0} where
     }
 
   from_held : {x : Stand T} {word : ℕ} {slot : Option T} {own : SlotHolder T} {items : List T} {c : Bool} {n : ℕ} {ms : List (State T)}
-      → (good : Good word slot own own items c n x ms) → Stands word slot own items c → IsHeld own → good.own' ≡ Nobody
+      → (good : StepOk word slot own own items c n x ms) → Codes word slot own items c → IsHeld own → good.own' ≡ Nobody
       → touched_list x.touch x.carried (lent_by own) ≡ (0, x.carried) ∷ [] → handed_by x.touch x.carried (lent_by own) ≡ lies_in (lent_by own) → (touched (one_slot word slot) x.touch x.carried).slot ≡ x.carried → handed (one_slot word slot) x.touch x.carried ≡ slot
       → Shifts word slot own own good.own' good.h' good.slot' x.touch x.carried
   from_held {x = x} {word = word} {slot = slot} {own = own} good st held gone list lies put took = record {
@@ -152,7 +152,7 @@ module _ {T : Type 0} where
   }
 
   shifts : {x : Stand T} {word : ℕ} {slot : Option T} {own h : SlotHolder T} {items : List T} {c : Bool} {n : ℕ} {ms : List (State T)}
-      → At x own → Share own h → Stands word slot h items c → (good : Good word slot own h items c n x ms) → Shifts word slot own h good.own' good.h' good.slot' x.touch x.carried
+      → At x own → Share own h → Codes word slot h items c → (good : StepOk word slot own h items c n x ms) → Shifts word slot own h good.own' good.h' good.slot' x.touch x.carried
   shifts (push_put v) (fills _) st good = from_held good st tt good.lands.0 refl refl refl refl
   shifts (force_put_empty v) (fills _) st good = from_held good st tt good.lands.0 refl refl refl refl
   shifts (force_put_full old v) (swaps _ _) st good = from_held good st tt good.lands.0 refl refl refl refl
@@ -165,14 +165,14 @@ module _ {T : Type 0} where
   no_front items c was n e R m = tt
 
   -- where the call stands after its step, or that it ends right
-  goes_well : (g : Slot T) (who : ℕ) (own : SlotHolder T) (ms : List (State T)) (was : Bool) (x : Next ℕ) (v : Option T) (k : Call T) (es : List (Effect T)) → own ≡ own_in g who → Lands x v own k es ms → Goes slot_calls g who ms was x v k es
+  goes_well : (g : Slot T) (who : ℕ) (own : SlotHolder T) (ms : List (State T)) (was : Bool) (x : Next ℕ) (v : Option T) (k : Call T) (es : List (Effect T)) → own ≡ own_in g who → SlotNextOk x v own k es ms → NextOk slot_calls g who ms was x v k es
   goes_well g who own ms was (Next.Step l t o) v k es is lands = subst (At (stand l t o v k es)) is lands
   goes_well g who own ms was (Next.Reply x spare) v k es is lands = let y = lands.2 in (ap lent_by (sym lands.0 ∙ is), lands.1, (y.0, y.1, y.2, λ none. seen_map ms (λ q p. inl p) (y.3 none)))
 
   module _ (g : Slot T) (who n : ℕ) (ws : List ℕ) (hs : List (maybe.Option (Option T))) where
     -- each step of a call does what the table is owed
     slot_steps : (ms : List (State T)) (was : Bool) (x : Stand T) (xs : List (ℕ × Option T))
-        → SlotCoded g ws hs → At x (own_in g who) → Lent g who xs → Stepped slot_table g who n ws hs ms was x xs
+        → SlotCoded g ws hs → At x (own_in g who) → Lent g who xs → TableStepOk slot_table g who n ws hs ms was x xs
     slot_steps ms was x xs (word, slot, stands, words, homes) here lent = record {
       after = after;
       words = good.word' ∷ [];
@@ -193,7 +193,7 @@ module _ {T : Type 0} where
       front = no_front g.items g.closed was g.accepted good.e (queue_of after) good.makes;
       makes = good.makes;
       passes = λ j ne. own_other good.passes g.keeps.who who j refl ne;
-      goes = subst (λ (z : Answer ℕ × Option T). Goes slot_calls after who (queue_of after ∷ ms) (was || not after.closed) (next_of Kind.Single x.local z.0) z.1 x.call (with_effect x.effects good.e)) (λ i. (found_is i, handed_is i))
+      goes = subst (λ (z : Answer ℕ × Option T). NextOk slot_calls after who (queue_of after ∷ ms) (was || not after.closed) (next_of Kind.Single x.local z.0) z.1 x.call (with_effect x.effects good.e)) (λ i. (found_is i, handed_is i))
           (goes_well after who good.own' (queue_of after ∷ ms) (was || not after.closed) (next_of Kind.Single x.local (answered touching x.op)) (handed (one_slot word slot) x.touch x.carried) x.call (with_effect x.effects good.e) own_is good.lands);
     }
       where
@@ -203,7 +203,7 @@ module _ {T : Type 0} where
         share : Share (own_in g who) g.keeps.hold
         share = share_of (who == g.keeps.who) g.keeps.hold
 
-        good : Good word slot (own_in g who) g.keeps.hold g.items g.closed g.accepted x ms
+        good : StepOk word slot (own_in g who) g.keeps.hold g.items g.closed g.accepted x ms
         good = step_good here share stands g.accepted ms
 
         after : Slot T
@@ -235,7 +235,7 @@ module _ {T : Type 0} where
 
   -- a call that unlocks the slot has the lock, whose bit is then in the word
   unlocks : {x : Stand T} {word : ℕ} {slot : Option T} {own h : SlotHolder T} {items : List T} {c : Bool}
-      → At x own → Share own h → Stands word slot h items c → TakesOff x.op word
+      → At x own → Share own h → Codes word slot h items c → TakesOff x.op word
   unlocks (push_put v) (fills _) (filling true _) = refl
   unlocks (force_put_empty v) (fills _) (filling true _) = refl
   unlocks (force_put_full old v) (swaps _ _) (swapping true _ _) = refl

@@ -3,7 +3,7 @@ use crate::stops::events::{Events, Item};
 use crate::stops::flaw::Flaw;
 use crate::stops::reader::read;
 use crate::stops::shapes::Shape;
-use machine_replay::blocks::Place;
+use machine_replay::blocks::BlockPlace;
 use machine_replay::replay;
 use machine_replay::types::{Event, Replay};
 use queue_steps::sizes::BLOCK_SLOTS;
@@ -46,7 +46,7 @@ pub fn run(
     from: usize,
     at_end: AtEnd,
 ) -> Result<(Times, Times), Flaw> {
-    let Ok(places) = Layout::array::<Place<Item>>(BLOCK_SLOTS as usize) else {
+    let Ok(places) = Layout::array::<BlockPlace<Item>>(BLOCK_SLOTS as usize) else {
         return Err(Flaw::NoMemory);
     };
     let heap = Refusing::watching(alloc, Refusal::Never, places);

@@ -15,7 +15,7 @@ use std::alloc::{AllocError, Allocator, Global, Layout};
 use std::process::Abort;
 use test_support::allocators::{Heap, Refusal};
 use test_support::closing;
-use test_support::closing_rule::{ClosingRule, Place, View};
+use test_support::closing_rule::{ClosingRule, QueueEnds, View};
 
 /// A slot that is too large for a block.
 type Huge = [u8; 0x8000_0000];
@@ -65,7 +65,7 @@ fn use_a_block<A: Allocator>(alloc: &A, heap: &Heap) -> Result<(u64, u8, u64), A
 
 /// Asks whether a queue is closed and closes it, and again by a party that is parted off and taken back. Gives what was answered.
 fn close_twice<A: Allocator>(
-    queue: &Web<u8, View, Place<u8>, ClosingRule, A>,
+    queue: &Web<u8, View, QueueEnds<u8>, ClosingRule, A>,
     seat: &mut Seat<u8, View, A>,
     tail: BlockPtr<u8>,
 ) -> [bool; 4]

@@ -2,7 +2,7 @@
 use crate::asserts::is;
 use crate::machine::script::{Fact, Run, StoryLine, Sweep, events_of};
 use machine_replay::types::EffectKind;
-use machine_replay::words::{Words, words_after};
+use machine_replay::words::{QueueWords, words_after};
 use queue_steps::errors::{ForcePushError, PopError, PushError};
 use queue_steps::model::{Call, Reply};
 use queue_steps::steps::Kind;
@@ -197,7 +197,7 @@ pub(crate) static RUNS: [Run<'static>; 10] = [
 /// Asserts the tail, the head and both stamps after these lines.
 fn has_words(rt: &impl Abort, alloc: Global, lines: &[StoryLine], words: &[u64; 4]) {
     let events = events_of(rt, alloc, lines, 0);
-    let Words {
+    let QueueWords {
         lock: _,
         head,
         tail,

@@ -2,7 +2,7 @@
 use crate::asserts::is_in;
 use crate::machine::refusals::run;
 use crate::machine::script::{StoryLine, events_of};
-use machine_replay::blocks::Place;
+use machine_replay::blocks::BlockPlace;
 use machine_replay::words::machine_after;
 use queue_steps::model::Call;
 use queue_steps::sizes::BLOCK_SLOTS;
@@ -19,7 +19,7 @@ const RUN_LISTS: u64 = MACHINE_LISTS + 5;
 
 /// Counts the places of a block apart, which are its one allocation.
 fn counting(rt: &impl Abort, alloc: Global) -> Heap {
-    let places = Layout::array::<Place<u64>>(BLOCK_SLOTS as usize).expect(rt, "a layout");
+    let places = Layout::array::<BlockPlace<u64>>(BLOCK_SLOTS as usize).expect(rt, "a layout");
     Heap::watching(alloc, Refusal::Never, places)
 }
 

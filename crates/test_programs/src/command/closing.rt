@@ -3,7 +3,7 @@ ghost use Rattle.std.specs.Prelude.{◌≡◌, ◌<◌, ◌+◌, ◌*◌, ◌^�
 ghost use Rattle.concurrent_queue.specs.Shared.{IsPartyOf};
 
 use crate::asserts::is_in;
-use app_threads::crew::{Plan, Queue, Work, run_all};
+use app_threads::crew::{Plan, Queue, WorkResult, run_all};
 use app_threads::limit::NO_LIMIT;
 use concurrent_queue::Party;
 use std::process::Abort;
@@ -38,7 +38,7 @@ fn work_of<R: Abort + Threads + Wait + Sync + AllocGlobal>(
     queue: &Queue,
     party: Party<u64>,
     plan: Plan,
-) -> Work
+) -> WorkResult
     requires of { IsPartyOf party queue.now }
     requires few { (plan.pushers + plan.poppers) * plan.share < 2 ^ 64 }
     requires threads { plan.pushers + plan.poppers < 2 ^ 64 }
@@ -60,7 +60,7 @@ fn run_plan<R: Abort + Threads + Wait + Sync + AllocGlobal>(
     requires threads { plan.pushers + plan.poppers < 2 ^ 64 }
     ensures { IsPartyOf result.0 queue.now }
 {
-    let Work {
+    let WorkResult {
         party,
         counts,
         done,

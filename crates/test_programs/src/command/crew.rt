@@ -4,7 +4,7 @@ ghost use Rattle.concurrent_queue.specs.Shared.{IsPartyOf};
 
 use crate::asserts::is_in;
 use app_threads::counts::{Finding, judge};
-use app_threads::crew::{Plan, Work, run_all};
+use app_threads::crew::{Plan, WorkResult, run_all};
 use app_threads::limit::NO_LIMIT;
 use concurrent_queue::{ConcurrentQueue, Party};
 use std::alloc::AllocError;
@@ -287,7 +287,7 @@ fn work_of<R: Abort + Threads + Wait + Sync + AllocGlobal>(
     queue: &Queue<'_>,
     party: Party<u64>,
     plan: Plan,
-) -> Work
+) -> WorkResult
     requires { IsPartyOf party queue.now }
     ensures { IsPartyOf result.party queue.now }
 {
@@ -308,10 +308,10 @@ fn left(queue: Queue<'_>, party: Party<u64>) -> Option<(usize, bool)>
 }
 
 /// What is seen of work on a queue.
-fn seen_of(queue: Queue<'_>, work: Work, times: u64) -> Seen
+fn seen_of(queue: Queue<'_>, work: WorkResult, times: u64) -> Seen
     requires { IsPartyOf work.party queue }
 {
-    let Work {
+    let WorkResult {
         party,
         counts,
         done,

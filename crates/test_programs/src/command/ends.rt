@@ -6,7 +6,7 @@ ghost use Rattle.counted_channel.specs.Channel.{IsEndOf};
 use crate::asserts::is_in;
 use crate::command::crew::{IDLE, Row, are_few, open};
 use app_threads::counts::{Finding, judge};
-use app_threads::crew::Work;
+use app_threads::crew::WorkResult;
 use app_threads::ends::run_all;
 use counted_channel::{Channel, Receiver, Sender, channel};
 use std::process::Abort;
@@ -113,7 +113,7 @@ fn work_of<R: Abort + Threads + Wait + Sync + AllocGlobal>(
     sender: Sender<u64>,
     receiver: Receiver<u64>,
     row: &Row,
-) -> Work
+) -> WorkResult
     requires { IsEndOf sender channel.now × IsEndOf receiver channel.now }
 {
     let plan = row.plan();

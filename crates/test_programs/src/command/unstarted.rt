@@ -1,7 +1,7 @@
 //! Threads that cannot be started: those that were started end, and the run ends as one without memory.
 use crate::asserts::is_in;
 use crate::comes::Comes;
-use app_text::args::{Form, parse_form};
+use app_text::args::{Mode, parse_mode};
 use app_text::faults::Fault;
 use app_threads::channel::channel;
 use app_threads::handshake::handshake;
@@ -22,10 +22,10 @@ fn run<R: Abort + Threads + Wait + Sync + AllocGlobal>(
 ) -> Ran {
     let alloc = rt.alloc();
     let args = words(alloc, line).expect(rt, "memory for the arguments");
-    match parse_form(&args) {
-        Ok(Form::Threads(load)) => threads(rt, alloc, load, limit, output),
-        Ok(Form::Handshake) => handshake(rt, alloc, limit, output),
-        Ok(Form::Channel(load)) => channel(rt, alloc, load, limit, output),
+    match parse_mode(&args) {
+        Ok(Mode::Threads(load)) => threads(rt, alloc, load, limit, output),
+        Ok(Mode::Handshake) => handshake(rt, alloc, limit, output),
+        Ok(Mode::Channel(load)) => channel(rt, alloc, load, limit, output),
         _ => panic!(rt; "a form without threads"),
     }
 }

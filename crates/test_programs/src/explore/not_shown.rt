@@ -4,7 +4,7 @@ ghost use Rattle.machine_replay.specs.Replays.{CanReplay};
 use crate::asserts::is_in;
 use crate::comes::Comes;
 use app_explore::limits::MOST_STATES;
-use app_explore::listing::{Task, Walk, find_all, list_found};
+use app_explore::listing::{Findings, Problem, find_all, list_found};
 use app_explore::reading::read_program;
 use machine_explore::check::check;
 use machine_explore::schedule::Move;
@@ -21,7 +21,7 @@ const PROGRAM: &str = "0: pop\n1: push 1\n";
 enum Change {
     Nothing,
     /// The last link is missing.
-    LinkLost,
+    EdgeLost,
     /// The first link leads back.
     LinkBent,
     /// The last state is missing.
@@ -47,28 +47,38 @@ enum Change {
 }
 
 /// The moves of one of the schedules.
-fn moves_of(rt: &impl Abort, alloc: Global, walk: &Walk<Global>, number: usize) -> Vec<Move> {
-    match walk.schedules.get(number) {
+fn moves_of(
+    rt: &impl Abort,
+    alloc: Global,
+    findings: &Findings<Global>,
+    number: usize,
+) -> Vec<Move> {
+    match findings.schedules.get(number) {
         Some(schedule) => Vec::from_slice(alloc, schedule.as_slice()).expect(rt, "memory"),
         None => Vec::new(alloc),
     }
 }
 
 /// Puts another move in the place of the last one of the first schedule, or none.
-fn change_move(rt: &impl Abort, alloc: Global, walk: &mut Walk<Global>, last: Option<Move>) {
-    let mut moves = moves_of(rt, alloc, walk, 0);
+fn change_move(
+    rt: &impl Abort,
+    alloc: Global,
+    findings: &mut Findings<Global>,
+    last: Option<Move>,
+) {
+    let mut moves = moves_of(rt, alloc, findings, 0);
     moves.pop();
     if let Some(step) = last {
         moves.push(step).expect(rt, "memory");
     }
-    if let Some(schedule) = walk.schedules.get_mut(0) {
+    if let Some(schedule) = findings.schedules.get_mut(0) {
         *schedule = Sequence::of(moves);
     }
 }
 
 /// Puts a schedule behind the others.
-fn add_schedule(rt: &impl Abort, walk: &mut Walk<Global>, moves: Vec<Move>) {
-    let added = walk.schedules.push(Sequence::of(moves));
+fn add_schedule(rt: &impl Abort, findings: &mut Findings<Global>, moves: Vec<Move>) {
+    let added = findings.schedules.push(Sequence::of(moves));
     added.ok().expect(rt, "memory");
 }
 
@@ -78,28 +88,28 @@ fn lose<T: Drop>(list: &mut Vec<T>) {
 }
 
 /// Changes what was found.
-fn make_change(rt: &impl Abort, alloc: Global, walk: &mut Walk<Global>, change: &Change) {
+fn make_change(rt: &impl Abort, alloc: Global, findings: &mut Findings<Global>, change: &Change) {
     match change {
         Change::Nothing => {}
-        Change::LinkLost => lose(&mut walk.found.table.links),
+        Change::EdgeLost => lose(&mut findings.found.table.edges),
         Change::LinkBent => {
-            if let Some(link) = walk.found.table.links.get_mut(0) {
-                link.granted = 0;
+            if let Some(edge) = findings.found.table.edges.get_mut(0) {
+                edge.granted = 0;
             }
         }
-        Change::StateLost => lose(&mut walk.found.table.positions),
-        Change::StartMoved => walk.found.table.positions.reverse(),
-        Change::OutcomeLost => lose(&mut walk.found.ends.outcomes),
-        Change::ScheduleLost => lose(&mut walk.schedules),
+        Change::StateLost => lose(&mut findings.found.table.positions),
+        Change::StartMoved => findings.found.table.positions.reverse(),
+        Change::OutcomeLost => lose(&mut findings.found.finals.outcomes),
+        Change::ScheduleLost => lose(&mut findings.schedules),
         Change::ScheduleTwice => {
-            let moves = moves_of(rt, alloc, walk, 1);
-            add_schedule(rt, walk, moves);
+            let moves = moves_of(rt, alloc, findings, 1);
+            add_schedule(rt, findings, moves);
         }
-        Change::SchedulesTurned => walk.schedules.reverse(),
-        Change::MoveLost => change_move(rt, alloc, walk, None),
-        Change::PartyUnknown => change_move(rt, alloc, walk, Some(UNKNOWN)),
-        Change::MoveRefused => change_move(rt, alloc, walk, Some(REFUSED)),
-        Change::NumberLost => lose(&mut walk.order),
+        Change::SchedulesTurned => findings.schedules.reverse(),
+        Change::MoveLost => change_move(rt, alloc, findings, None),
+        Change::PartyUnknown => change_move(rt, alloc, findings, Some(UNKNOWN)),
+        Change::MoveRefused => change_move(rt, alloc, findings, Some(REFUSED)),
+        Change::NumberLost => lose(&mut findings.order),
     }
 }
 
@@ -114,14 +124,14 @@ const REFUSED: Move = Move {
     granted: false,
 };
 
-/// The program as a task.
-fn task(rt: &impl Abort, alloc: Global) -> Task<Global>
+/// The program as a problem.
+fn problem(rt: &impl Abort, alloc: Global) -> Problem<Global>
     ensures { CanReplay result.kind }
 {
     let Ok(program) = read_program(alloc, PROGRAM.as_bytes()) else {
         rt.panic("a program");
     };
-    Task {
+    Problem {
         kind: Kind::Single,
         refuses: false,
         program,
@@ -130,15 +140,20 @@ fn task(rt: &impl Abort, alloc: Global) -> Task<Global>
 }
 
 /// Whether the table shows that there is no outcome but those that were found.
-fn is_checked(rt: &impl Abort, alloc: Global, task: &Task<Global>, walk: &Walk<Global>) -> bool
-    requires { CanReplay task.now.kind }
+fn is_checked(
+    rt: &impl Abort,
+    alloc: Global,
+    problem: &Problem<Global>,
+    findings: &Findings<Global>,
+) -> bool
+    requires { CanReplay problem.now.kind }
 {
-    let (table, outcomes) = (&walk.found.table, &walk.found.ends.outcomes);
+    let (table, outcomes) = (&findings.found.table, &findings.found.finals.outcomes);
     let checked = check(
         alloc,
-        task.kind,
-        task.refuses,
-        &task.program,
+        problem.kind,
+        problem.refuses,
+        &problem.program,
         table,
         outcomes,
     );
@@ -146,10 +161,10 @@ fn is_checked(rt: &impl Abort, alloc: Global, task: &Task<Global>, walk: &Walk<G
 }
 
 /// What comes of the list.
-fn listed(alloc: Global, task: &Task<Global>, walk: &Walk<Global>) -> Comes
-    requires { CanReplay task.now.kind }
+fn listed(alloc: Global, problem: &Problem<Global>, findings: &Findings<Global>) -> Comes
+    requires { CanReplay problem.now.kind }
 {
-    match list_found(alloc, task, walk) {
+    match list_found(alloc, problem, findings) {
         Ok(_) => Comes::Text,
         Err(SearchFault::NotShown) => Comes::NotShown,
         Err(_) => Comes::Another,
@@ -158,14 +173,14 @@ fn listed(alloc: Global, task: &Task<Global>, walk: &Walk<Global>) -> Comes
 
 /// Both, of a walk that is changed.
 fn answers(rt: &impl Abort, alloc: Global, change: &Change) -> (bool, Comes) {
-    let task = task(rt, alloc);
-    let Ok(mut walk) = find_all(alloc, &task) else {
+    let problem = problem(rt, alloc);
+    let Ok(mut findings) = find_all(alloc, &problem) else {
         return (false, Comes::Another);
     };
-    make_change(rt, alloc, &mut walk, change);
+    make_change(rt, alloc, &mut findings, change);
     (
-        is_checked(rt, alloc, &task, &walk),
-        listed(alloc, &task, &walk),
+        is_checked(rt, alloc, &problem, &findings),
+        listed(alloc, &problem, &findings),
     )
 }
 
@@ -173,7 +188,7 @@ fn answers(rt: &impl Abort, alloc: Global, change: &Change) -> (bool, Comes) {
 static CHANGES: [(&str, Change, bool, Comes); 13] = [
     ("nothing", Change::Nothing, true, Comes::Text),
     ("outcome lost", Change::OutcomeLost, false, Comes::Text),
-    ("link lost", Change::LinkLost, false, Comes::NotShown),
+    ("link lost", Change::EdgeLost, false, Comes::NotShown),
     ("link bent", Change::LinkBent, false, Comes::NotShown),
     ("state lost", Change::StateLost, false, Comes::NotShown),
     ("start moved", Change::StartMoved, false, Comes::NotShown),

@@ -3,7 +3,7 @@ ghost use Rattle.machine_replay.specs.Replays.{CanReplay};
 
 use crate::asserts::is_in;
 use app_explore::limits::MOST_STATES;
-use app_explore::listing::{Task, list_outcomes};
+use app_explore::listing::{Problem, list_outcomes};
 use app_explore::outcomes::are_in_order;
 use app_explore::reading::read_program;
 use machine_explore::program::{Calls, Program};
@@ -101,13 +101,13 @@ fn program(rt: &impl Abort, alloc: Global, size: &Size) -> Program<Global> {
 fn ends_with(alloc: Global, kind: Kind, program: Program<Global>, last: &str) -> bool
     requires { CanReplay kind }
 {
-    let task = Task {
+    let problem = Problem {
         kind,
         refuses: false,
         program,
         most_states: MOST_STATES,
     };
-    match list_outcomes(alloc, &task) {
+    match list_outcomes(alloc, &problem) {
         Ok(text) => text.ends_with(last),
         Err(_) => false,
     }

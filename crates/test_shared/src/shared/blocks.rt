@@ -3,7 +3,7 @@ ghost use Rattle.std.specs.Prelude.{◌≡◌, ◌<◌};
 ghost use Rattle.concurrent_queue.specs.Shared.{IsPartyOf};
 
 use crate::asserts::{is, is_in};
-use crate::crew::{Board, Deed, Role, Task, crew, find_each};
+use crate::crew::{Assignment, Board, Deed, Role, crew, find_each};
 use crate::opening::{end, open_surely};
 use crate::shared::left::in_order;
 use concurrent_queue::{ConcurrentQueue, Exclusive, Party};
@@ -42,11 +42,11 @@ fn end_counted<'a>(
     (alone, counts)
 }
 
-/// Lets threads work at these tasks, of one and so many others, on a queue without a capacity, where the first request of the pushes may be held. Gives the queue, whether each thread got what it had to, and what `end_counted` gives.
+/// Lets threads work at these assignments, of one and so many others, on a queue without a capacity, where the first request of the pushes may be held. Gives the queue, whether each thread got what it had to, and what `end_counted` gives.
 fn work_counted<'a, R: Wait + Threads + Sync + Abort>(
     rt: &R,
     board: &'a Board,
-    tasks: &[Task],
+    assignments: &[Assignment],
     others: u64,
     held: bool,
 ) -> (Exclusive<u64, &'a Heap>, bool, [u64; 4]) {
@@ -54,12 +54,12 @@ fn work_counted<'a, R: Wait + Threads + Sync + Abort>(
     if held {
         board.heap.hold_next();
     }
-    let (party, right) = crew(rt, &queue, party, board, tasks, others);
+    let (party, right) = crew(rt, &queue, party, board, assignments, others);
     let (alone, counts) = end_counted(rt, &board.heap, queue, party);
     (alone, right, counts)
 }
 
-static PASS: [Task; 2] = [
+static PASS: [Assignment; 2] = [
     (Role::PushAndLetGo, 0, ITEMS),
     (Role::Each(Deed::PopInOrder), 0, ITEMS),
 ];
@@ -72,7 +72,7 @@ fn passed_blocks_are_given_back(rt: HostRuntime) {
     is(&rt, (right, counts), (true, [2, 0, 1, 1]));
 }
 
-static ASK: [Task; 4] = [
+static ASK: [Assignment; 4] = [
     (Role::PushAndLetGo, 0, EACH),
     (Role::PushAndLetGo, EACH, 2 * EACH),
     (Role::PushAndLetGo, 2 * EACH, 3 * EACH),
@@ -89,7 +89,7 @@ fn two_of_four_threads_ask_for_the_first_block(rt: HostRuntime) {
     is(&rt, seen, (true, true, [65, 4000, 64, 64], [EACH; 4]));
 }
 
-static MEANWHILE: [Task; 2] = [(Role::PushAndLetGo, 0, 1), (Role::PopWhileHeld, 0, 1)];
+static MEANWHILE: [Assignment; 2] = [(Role::PushAndLetGo, 0, 1), (Role::PopWhileHeld, 0, 1)];
 
 /// While the allocator keeps a push waiting for the first block, another thread's pop is answered.
 #[test]

@@ -71,7 +71,7 @@ fn an_iterator_gives_items_again(rt: HostRuntime) {
 }
 
 /// How many items are pushed and popped, whether the queue is closed then, and what is printed of it.
-struct Shown {
+struct DebugCase {
     /// The capacity, if there is one.
     cap: Option<usize>,
     /// How many items have gone through it before.
@@ -82,8 +82,8 @@ struct Shown {
     text: &'static str,
 }
 
-static SHOWN: [Shown; 14] = [
-    Shown {
+static SHOWN: [DebugCase; 14] = [
+    DebugCase {
         cap: Some(2),
         before: 0,
         pushes: 1,
@@ -91,7 +91,7 @@ static SHOWN: [Shown; 14] = [
         closed: false,
         text: "ConcurrentQueue { len: 1, capacity: Some(2), is_closed: false }",
     },
-    Shown {
+    DebugCase {
         cap: Some(2),
         before: 0,
         pushes: 2,
@@ -99,7 +99,7 @@ static SHOWN: [Shown; 14] = [
         closed: true,
         text: "ConcurrentQueue { len: 1, capacity: Some(2), is_closed: true }",
     },
-    Shown {
+    DebugCase {
         cap: Some(300),
         before: 0,
         pushes: 250,
@@ -107,7 +107,7 @@ static SHOWN: [Shown; 14] = [
         closed: false,
         text: "ConcurrentQueue { len: 237, capacity: Some(300), is_closed: false }",
     },
-    Shown {
+    DebugCase {
         cap: Some(1),
         before: 0,
         pushes: 0,
@@ -115,7 +115,7 @@ static SHOWN: [Shown; 14] = [
         closed: false,
         text: "ConcurrentQueue { len: 0, capacity: Some(1), is_closed: false }",
     },
-    Shown {
+    DebugCase {
         cap: Some(1),
         before: 0,
         pushes: 1,
@@ -123,7 +123,7 @@ static SHOWN: [Shown; 14] = [
         closed: false,
         text: "ConcurrentQueue { len: 1, capacity: Some(1), is_closed: false }",
     },
-    Shown {
+    DebugCase {
         cap: Some(1),
         before: 0,
         pushes: 1,
@@ -131,7 +131,7 @@ static SHOWN: [Shown; 14] = [
         closed: true,
         text: "ConcurrentQueue { len: 1, capacity: Some(1), is_closed: true }",
     },
-    Shown {
+    DebugCase {
         cap: Some(1),
         before: 0,
         pushes: 1,
@@ -139,7 +139,7 @@ static SHOWN: [Shown; 14] = [
         closed: true,
         text: "ConcurrentQueue { len: 0, capacity: Some(1), is_closed: true }",
     },
-    Shown {
+    DebugCase {
         cap: None,
         before: 0,
         pushes: 0,
@@ -147,7 +147,7 @@ static SHOWN: [Shown; 14] = [
         closed: true,
         text: "ConcurrentQueue { len: 0, capacity: None, is_closed: true }",
     },
-    Shown {
+    DebugCase {
         cap: None,
         before: 0,
         pushes: 3,
@@ -155,7 +155,7 @@ static SHOWN: [Shown; 14] = [
         closed: false,
         text: "ConcurrentQueue { len: 2, capacity: None, is_closed: false }",
     },
-    Shown {
+    DebugCase {
         cap: None,
         before: 0,
         pushes: 63,
@@ -163,7 +163,7 @@ static SHOWN: [Shown; 14] = [
         closed: false,
         text: "ConcurrentQueue { len: 0, capacity: None, is_closed: false }",
     },
-    Shown {
+    DebugCase {
         cap: None,
         before: 0,
         pushes: 200,
@@ -171,7 +171,7 @@ static SHOWN: [Shown; 14] = [
         closed: false,
         text: "ConcurrentQueue { len: 130, capacity: None, is_closed: false }",
     },
-    Shown {
+    DebugCase {
         cap: Some(3),
         before: 1000,
         pushes: 3,
@@ -179,7 +179,7 @@ static SHOWN: [Shown; 14] = [
         closed: false,
         text: "ConcurrentQueue { len: 2, capacity: Some(3), is_closed: false }",
     },
-    Shown {
+    DebugCase {
         cap: Some(5000),
         before: 4000,
         pushes: 4321,
@@ -187,7 +187,7 @@ static SHOWN: [Shown; 14] = [
         closed: false,
         text: "ConcurrentQueue { len: 4300, capacity: Some(5000), is_closed: false }",
     },
-    Shown {
+    DebugCase {
         cap: None,
         before: 1000,
         pushes: 200,
@@ -198,15 +198,15 @@ static SHOWN: [Shown; 14] = [
 ];
 
 /// A queue through which items have gone so, and its only party.
-fn used<R: Wait + Abort>(rt: &R, alloc: Global, shown: &Shown) -> (Queue, Party<u64>)
+fn used<R: Wait + Abort>(rt: &R, alloc: Global, case: &DebugCase) -> (Queue, Party<u64>)
     ensures { IsPartyOf result.1 result.0 }
 {
-    let (queue, mut party) = open_surely(rt, alloc, shown.cap);
-    let pushed = 1..shown.pushes.wrapping_add(1);
-    find_each(rt, &queue, &mut party, Deed::PushAndPop, 0..shown.before);
+    let (queue, mut party) = open_surely(rt, alloc, case.cap);
+    let pushed = 1..case.pushes.wrapping_add(1);
+    find_each(rt, &queue, &mut party, Deed::PushAndPop, 0..case.before);
     find_each(rt, &queue, &mut party, Deed::PushOnce, pushed);
-    find_each(rt, &queue, &mut party, Deed::PopOnce, 0..shown.pops);
-    if shown.closed {
+    find_each(rt, &queue, &mut party, Deed::PopOnce, 0..case.pops);
+    if case.closed {
         queue.close(&mut party);
     }
     (queue, party)
@@ -228,15 +228,15 @@ fn to_be_printed(rt: &impl Abort, alloc: Global, text: &str) -> String {
 }
 
 /// Asserts what is printed of a queue, and of an iterator over it.
-fn is_printed<R: Wait + Abort>(rt: &R, alloc: Global, shown: &Shown) {
-    let (queue, mut party) = used(rt, alloc, shown);
+fn is_printed<R: Wait + Abort>(rt: &R, alloc: Global, case: &DebugCase) {
+    let (queue, mut party) = used(rt, alloc, case);
     let found = printed(rt, alloc, &queue, &mut party);
-    is(rt, found, to_be_printed(rt, alloc, shown.text));
+    is(rt, found, to_be_printed(rt, alloc, case.text));
 }
 
 #[test]
 fn queues_and_iterators_are_printed(rt: HostRuntime) {
-    for shown in SHOWN.iter() {
-        is_printed(&rt, rt.alloc(), shown);
+    for case in SHOWN.iter() {
+        is_printed(&rt, rt.alloc(), case);
     }
 }

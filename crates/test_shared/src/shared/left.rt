@@ -4,7 +4,7 @@ ghost use Rattle.concurrent_queue.specs.Shared.{IsPartyOf};
 
 use crate::asserts::is_in;
 use crate::calls::Queue;
-use crate::crew::{Board, Deed, Role, Task, act};
+use crate::crew::{Assignment, Board, Deed, Role, act};
 use crate::opening::{open_surely, part};
 use concurrent_queue::{Exclusive, Party};
 use std::alloc::{Allocator, Global};
@@ -16,10 +16,10 @@ use std::thread::{Threads, join};
 const EACH: u64 = 100;
 
 /// What the first thread does.
-const FIRST: Task = (Role::Each(Deed::PushOnce), 0, EACH);
+const FIRST: Assignment = (Role::Each(Deed::PushOnce), 0, EACH);
 
 /// What the second one does.
-const SECOND: Task = (Role::Each(Deed::PushOnce), EACH, 2 * EACH);
+const SECOND: Assignment = (Role::Each(Deed::PushOnce), EACH, 2 * EACH);
 
 /// What becomes of the second party, or of the second handle.
 #[derive(Clone, Copy, Debug)]

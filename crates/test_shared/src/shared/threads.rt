@@ -1,6 +1,6 @@
 //! Threads that share a queue, a party each.
 use crate::asserts::{is, is_in};
-use crate::crew::{Board, Deed, Role, TURNS, Task, crew};
+use crate::crew::{Assignment, Board, Deed, Role, TURNS, crew};
 use crate::opening::{end, open_surely};
 use crate::shared::handles;
 use callers_queue::handle::sum_of_a_thread;
@@ -11,10 +11,10 @@ use std::sync::Wait;
 use std::thread::Threads;
 
 /// What threads do at a queue of each of some capacities.
-struct Work {
+struct CrewCase {
     caps: &'static [Option<usize>],
-    /// The tasks of one thread and so many others.
-    tasks: &'static [Task],
+    /// The assignments of one thread and so many others.
+    assignments: &'static [Assignment],
     others: u64,
     /// How often each value is counted.
     times: u64,
@@ -23,28 +23,28 @@ struct Work {
 /// The capacities of a slot and of a small ring, and none.
 const KINDS: [Option<usize>; 3] = [Some(1), Some(3), None];
 
-const PUSH: Task = (Role::Each(Deed::Push), 0, TURNS);
+const PUSH: Assignment = (Role::Each(Deed::Push), 0, TURNS);
 
-const POP: Task = (Role::Pop, 0, TURNS);
+const POP: Assignment = (Role::Pop, 0, TURNS);
 
-const PUSH_AND_POP: Task = (Role::Each(Deed::PushAndPop), 0, TURNS);
+const PUSH_AND_POP: Assignment = (Role::Each(Deed::PushAndPop), 0, TURNS);
 
-const FORCE_AND_POP: Task = (Role::Each(Deed::ForceAndPop), 0, TURNS);
+const FORCE_AND_POP: Assignment = (Role::Each(Deed::ForceAndPop), 0, TURNS);
 
-const FORCE: Task = (Role::Force, 0, TURNS);
+const FORCE: Assignment = (Role::Force, 0, TURNS);
 
-const DRAIN: Task = (Role::Drain, 0, TURNS);
+const DRAIN: Assignment = (Role::Drain, 0, TURNS);
 
-static IN_ORDER: Work = Work {
+static IN_ORDER: CrewCase = CrewCase {
     caps: &KINDS,
-    tasks: &[PUSH, (Role::Each(Deed::PopInOrder), 0, TURNS)],
+    assignments: &[PUSH, (Role::Each(Deed::PopInOrder), 0, TURNS)],
     others: 1,
     times: 0,
 };
 
-static WITHIN: Work = Work {
+static WITHIN: CrewCase = CrewCase {
     caps: &[Some(1000)],
-    tasks: &[
+    assignments: &[
         (Role::EachWithin(Deed::Push, 1000), 0, TURNS),
         (Role::EachWithin(Deed::PopInOrder, 1000), 0, TURNS),
     ],
@@ -52,30 +52,30 @@ static WITHIN: Work = Work {
     times: 0,
 };
 
-static FOUR_AND_FOUR: Work = Work {
+static FOUR_AND_FOUR: CrewCase = CrewCase {
     caps: &KINDS,
-    tasks: &[PUSH, POP, PUSH, POP, PUSH, POP, PUSH, POP],
+    assignments: &[PUSH, POP, PUSH, POP, PUSH, POP, PUSH, POP],
     others: 7,
     times: 4,
 };
 
-static LINEARIZABLE: Work = Work {
+static LINEARIZABLE: CrewCase = CrewCase {
     caps: &[Some(1), Some(4), None],
-    tasks: &[PUSH_AND_POP, FORCE_AND_POP, FORCE_AND_POP, PUSH_AND_POP],
+    assignments: &[PUSH_AND_POP, FORCE_AND_POP, FORCE_AND_POP, PUSH_AND_POP],
     others: 3,
     times: 0,
 };
 
-static ONE_RING_BUFFER: Work = Work {
+static ONE_RING_BUFFER: CrewCase = CrewCase {
     caps: &KINDS,
-    tasks: &[FORCE, DRAIN],
+    assignments: &[FORCE, DRAIN],
     others: 1,
     times: 1,
 };
 
-static FOUR_RING_BUFFERS: Work = Work {
+static FOUR_RING_BUFFERS: CrewCase = CrewCase {
     caps: &KINDS,
-    tasks: &[FORCE, DRAIN, FORCE, DRAIN, FORCE, DRAIN, FORCE, DRAIN],
+    assignments: &[FORCE, DRAIN, FORCE, DRAIN, FORCE, DRAIN, FORCE, DRAIN],
     others: 7,
     times: 4,
 };
@@ -84,21 +84,21 @@ static FOUR_RING_BUFFERS: Work = Work {
 fn works_at<R: Wait + Threads + Sync + Abort>(
     rt: &R,
     alloc: Global,
-    work: &Work,
+    case: &CrewCase,
     cap: Option<usize>,
 ) {
-    let board = Board::of(rt, alloc, work.tasks.len(), TURNS);
+    let board = Board::of(rt, alloc, case.assignments.len(), TURNS);
     let (queue, party) = open_surely(rt, alloc, cap);
-    let (party, right) = crew(rt, &queue, party, &board, work.tasks, work.others);
+    let (party, right) = crew(rt, &queue, party, &board, case.assignments, case.others);
     let left = end(rt, queue, party);
-    let seen = (right, board.each_came(work.times), left.len());
+    let seen = (right, board.each_came(case.times), left.len());
     is_in(rt, cap, seen, (true, true, 0));
 }
 
 /// The same at each of the capacities.
-fn works<R: Wait + Threads + Sync + Abort>(rt: &R, alloc: Global, work: &Work) {
-    for cap in work.caps {
-        works_at(rt, alloc, work, *cap);
+fn works<R: Wait + Threads + Sync + Abort>(rt: &R, alloc: Global, case: &CrewCase) {
+    for cap in case.caps {
+        works_at(rt, alloc, case, *cap);
     }
 }
 

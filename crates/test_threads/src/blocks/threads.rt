@@ -12,14 +12,14 @@ use std::process::Abort;
 use std::sync::atomic::{AtomicBool, Ordering};
 use std::thread::{Threads, join_mut, yield_now};
 use test_support::closing;
-use test_support::closing_rule::{ClosingRule, Place, View};
+use test_support::closing_rule::{ClosingRule, QueueEnds, View};
 use test_support::signs::wait_for;
 
 /// How often a thread looks, at most, for what the other is to do.
 const LOOKS: u64 = 10_000_000;
 
 /// A queue that can be closed.
-type Queue = Web<u8, View, Place<u8>, ClosingRule, Global>;
+type Queue = Web<u8, View, QueueEnds<u8>, ClosingRule, Global>;
 
 /// A party of it.
 type Party = Seat<u8, View, Global>;

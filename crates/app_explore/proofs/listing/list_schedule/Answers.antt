@@ -12,6 +12,6 @@ returns g c =
     record {
       course = c.in-Some.trace;
       trace = rw c.in-Some.is at c.in_ok-trace.ensures;
-      text_is = told.written ∙ ap (λ l. l ++ schedule_text before entries) c.new-text.ensures.bytes ∙ ap (λ b. schedule_text b entries) c.as_slice.ensures ∙ ap (schedule_text c.args.task.now.program.before) seen;
+      text_is = told.written ∙ ap (λ l. l ++ schedule_text before entries) c.new-text.ensures.bytes ∙ ap (λ b. schedule_text b entries) c.as_slice.ensures ∙ ap (schedule_text c.args.problem.now.program.before) seen;
       made = subst {A = List Seen} (λ s. MakeAll (move_lines 0 s) s) seen told.made;
     }

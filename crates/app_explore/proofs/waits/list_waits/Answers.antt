@@ -9,7 +9,7 @@ use Rattle.app_explore.proofs.waits.list_waits.Goals as goal
 
 pub loop-found-preserved : goal.loop-found-preserved
 loop-found-preserved g c =
-    let t = c.args.task.now in
+    let t = c.args.problem.now in
     let P : Waiting → Type 0 = IsShownWait t.kind t.refuses t.program.before t.program.parties.items in
     let old = c.loop-found.waits.items in
     let wait = c.in_ok-wait.wait in

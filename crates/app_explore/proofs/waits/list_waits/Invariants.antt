@@ -6,4 +6,4 @@ use Rattle.app_explore.proofs.waits.list_waits.Given as goal
 
 -- those so far are shown
 abbrev pub invariant-loop-found : goal.invariant-loop-found
-invariant-loop-found g l = All (IsShownWait l.fn.task.kind l.fn.task.refuses l.fn.task.program.before l.fn.task.program.parties.items) (map wait_of l.waits.items)
+invariant-loop-found g l = All (IsShownWait l.fn.problem.kind l.fn.problem.refuses l.fn.problem.program.before l.fn.problem.program.parties.items) (map wait_of l.waits.items)

@@ -13,6 +13,6 @@ returns g c =
     record {
       wait = wait_of c.in_ok-wait.wait;
       shown = c.in_ok-wait.ensures;
-      text_is = told.written ∙ ap (λ l. l ++ schedule_text before entries) c.new-text.ensures.bytes ∙ ap (λ b. schedule_text b entries) c.as_slice.ensures ∙ ap (schedule_text c.args.task.now.program.before) seen;
+      text_is = told.written ∙ ap (λ l. l ++ schedule_text before entries) c.new-text.ensures.bytes ∙ ap (λ b. schedule_text b entries) c.as_slice.ensures ∙ ap (schedule_text c.args.problem.now.program.before) seen;
       made = subst {A = List Seen} (λ s. MakeAll (move_lines 0 s) s) seen told.made;
     }

@@ -2,7 +2,7 @@ use Rattle.std.proofs.Common.{◌-◌, None}
 use Rattle.queue_steps.specs.LookNext.{IsLookNext}
 use Rattle.queue_steps.specs.Next.{CanNext, next_of}
 use Rattle.queue_steps.specs.declared.sizes.TheConstants.{SOLO_STEPS}
-use Rattle.call_driver.specs.Ends.{Ends, Answered}
+use Rattle.call_driver.specs.EndsIn.{EndsIn, Answered}
 use Rattle.call_driver.proofs.Watching.{as_call}
 use Rattle.call_driver.proofs.own.observe.Given as goal
 
@@ -12,6 +12,6 @@ invariant-loop g l =
     let m = g.C.OwnCells in
     let todo = next_of l.kind l.local l.answer in
     CanNext l.kind l.local l.answer
-    × Ends m.can_touch m.touches m.can_perform m.performs (SOLO_STEPS - l.counter) l.kind todo l.cells None
+    × EndsIn m.can_touch m.touches m.can_perform m.performs (SOLO_STEPS - l.counter) l.kind todo l.cells None
     (Answered m.can_release m.releases m.idle m.owned (as_call l.fn.call) l.cells)
     × IsLookNext todo

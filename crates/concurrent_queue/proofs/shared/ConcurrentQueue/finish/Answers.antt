@@ -2,7 +2,7 @@ use Rattle.std.proofs.Common.{rules, Some, None, ◌≡◌, ◌∙◌, refl, ap,
 use Rattle.queue_steps.specs.Legal.{IsShown}
 use Rattle.queue_steps.specs.Effect.{after}
 use Rattle.concurrent_queue.specs.Shared.{name_at, known_at}
-use Rattle.concurrent_queue.proofs.Persons.{finishes}
+use Rattle.concurrent_queue.proofs.PartyViews.{finishes}
 use Rattle.concurrent_queue.proofs.shared.ConcurrentQueue.finish.Goals as goal
 
 pub returns-in-Single-Table : goal.returns-in-Single-Table

@@ -1,8 +1,8 @@
 use Rattle.std.proofs.Common.{rules, ap, subst, ◌∙◌, sym}
 use Rattle.queue_steps.specs.declared.model.Call.TheVariants as call
 use Rattle.concurrent_queue.specs.declared.party.SeatPlace.TheVariants as place
-use Rattle.concurrent_queue.specs.Shared.{QueueId, form_id, IsHeld, Calls, person_of}
-use Rattle.concurrent_queue.proofs.Persons.{pop_reply}
+use Rattle.concurrent_queue.specs.Shared.{QueueId, form_id, IsHeld, Calls, party_view_of}
+use Rattle.concurrent_queue.proofs.PartyViews.{pop_reply}
 use Rattle.concurrent_queue.proofs.TableCalls.{ends_where}
 use Rattle.concurrent_queue.proofs.WebParties.{web_ends}
 use Rattle.concurrent_queue.proofs.shared.ConcurrentQueue.pop.Given.{Over}
@@ -12,7 +12,7 @@ use Rattle.concurrent_queue.proofs.shared.ConcurrentQueue.pop.Goals as goal
 pub end_at-requires : goal.end_at-requires
 end_at-requires g c = (call.Pop, c.in-Table.seat, c.in-Continue.ensures)
 
-ends : (g : Over) (c : In-Pop g) → IsHeld c.match-party.party-inside.place × Calls c.args.party.now call.Pop c.match-party.reply (person_of c.match-party.party-inside.place)
+ends : (g : Over) (c : In-Pop g) → IsHeld c.match-party.party-inside.place × Calls c.args.party.now call.Pop c.match-party.reply (party_view_of c.match-party.party-inside.place)
 ends g c = elim c.match-party.branch [
   | in-Table+in-Break w ↦ (ends_where _ (place.Table w.in-Table.seat) _ (place.Table w.begin_at.new.seat) c.args.party.now call.Pop _ _ w.in-Table.is c.party.view_is (ap (λ p. p.place) w.party-inside-is) w.reply-is w.in-Break.ensures)
   | in-Table+in-Continue w ↦ (ends_where _ (place.Table w.in-Table.seat) _ (place.Table w.end_at.new.seat) c.args.party.now call.Pop _ _ w.in-Table.is c.party.view_is (ap (λ p. p.place) w.party-inside-is) w.reply-is (w.end_at.ensures call.Pop w.in-Table.seat (w.in-Continue.ensures)))
@@ -23,11 +23,11 @@ pub invariant_of-party : goal.invariant_of-party
 invariant_of-party g c = (ends g c).0
 
 pub returns : goal.returns
-returns g c = subst (λ r. Calls c.args.party.now call.Pop r (person_of c.match-party.party-inside.place)) c.in-Pop.is (ends g c).1
+returns g c = subst (λ r. Calls c.args.party.now call.Pop r (party_view_of c.match-party.party-inside.place)) c.in-Pop.is (ends g c).1
 
 pub unreachable-requires-in_default-reply : goal.unreachable-requires-in_default-reply
 unreachable-requires-in_default-reply g c =
-    let told : Calls c.args.party.now call.Pop c.match-party.reply (person_of c.match-party.party-inside.place) = elim c.match-party.branch [
+    let told : Calls c.args.party.now call.Pop c.match-party.reply (party_view_of c.match-party.party-inside.place) = elim c.match-party.branch [
       | in-Table+in-Break w ↦ (ends_where _ (place.Table w.in-Table.seat) _ (place.Table w.begin_at.new.seat) c.args.party.now call.Pop _ _ w.in-Table.is c.party.view_is (ap (λ p. p.place) w.party-inside-is) w.reply-is w.in-Break.ensures).1
       | in-Table+in-Continue w ↦ (ends_where _ (place.Table w.in-Table.seat) _ (place.Table w.end_at.new.seat) c.args.party.now call.Pop _ _ w.in-Table.is c.party.view_is (ap (λ p. p.place) w.party-inside-is) w.reply-is (w.end_at.ensures call.Pop w.in-Table.seat (w.in-Continue.ensures))).1
       | in-Web+in-Chain w ↦ (web_ends _ _ w.in-Web.rested w.answer.new.party c.args.party.now call.Pop _ _ w.in-Web.is c.party.invariant (ap (λ p. p.place) w.party-inside-is) w.reply-is c.party.view_is (ap (λ (z : QueueId). z.cap) (c.requires ∙ (sym c.self.view_is ∙ ap form_id w.in-Chain.is))) w.answer.ensures).1

@@ -1,7 +1,7 @@
 use Rattle.std.proofs.Common.{Break, refl, ◌∙◌, sym, ap, subst}
 use Rattle.queue_steps.specs.declared.model.Call.TheVariants as call
 use Rattle.concurrent_queue.specs.declared.party.SeatPlace.TheVariants as place
-use Rattle.concurrent_queue.specs.Shared.{QueueId, form_id, IsHeld, person_of}
+use Rattle.concurrent_queue.specs.Shared.{QueueId, form_id, IsHeld, party_view_of}
 use Rattle.concurrent_queue.specs.Tries.{TriesPop}
 use Rattle.concurrent_queue.proofs.TableCalls.{begins_here}
 use Rattle.concurrent_queue.proofs.Told.{told_here, told_web}
@@ -39,13 +39,13 @@ attempt_in-requires-clause-push g c = let b = c.in-Chain-Web in c.requires.cappe
 pub popped-requires-in-Chain-Web : goal.popped-requires-in-Chain-Web
 popped-requires-in-Chain-Web g c = let b = c.in-Chain-Web in (c.args.party.now, _, (told_web _ (place.Web _) b.rested c.attempt_in.new.party c.args.party.now call.Pop _ _ b.is-1 c.party.invariant refl refl c.party.view_is (ap (λ (z : QueueId). z.cap) (c.requires.of ∙ (sym c.self.view_is ∙ ap form_id b.is-0))) c.attempt_in.ensures).1)
 
-tries : (g : Over) (c : Joined-self g) → IsHeld c.match-self.party-inside.place × TriesPop c.args.party.now c.match-self.result (person_of c.match-self.party-inside.place)
+tries : (g : Over) (c : Joined-self g) → IsHeld c.match-self.party-inside.place × TriesPop c.args.party.now c.match-self.result (party_view_of c.match-self.party-inside.place)
 tries g c = elim c.match-self.branch [
-  | in-Single-Table+in-Break w ↦ let b = w.in-Single-Table in let h = told_here _ b.seat _ _ c.args.party.now b.is-1 c.party.invariant c.party.view_is (c.requires.of ∙ (sym c.self.view_is ∙ ap form_id b.is-0)) w.run_fast.new.seat _ call.Pop (Break w.in-Break.reply) (ap (λ p. p.place) w.party-inside-is) w.in-Break.ensures in (h.0, subst (λ r. TriesPop c.args.party.now r (person_of c.match-self.party-inside.place)) (sym w.result-is) (w.popped.ensures c.args.party.now _ h.1))
-  | in-Single-Table+in-Continue w ↦ let b = w.in-Single-Table in let h = told_here _ b.seat _ _ c.args.party.now b.is-1 c.party.invariant c.party.view_is (c.requires.of ∙ (sym c.self.view_is ∙ ap form_id b.is-0)) w.end_or_quit.new.seat _ call.Pop w.end_or_quit.result (ap (λ p. p.place) w.party-inside-is) (w.end_or_quit.ensures call.Pop b.seat w.in-Continue.ensures) in (h.0, subst (λ r. TriesPop c.args.party.now r (person_of c.match-self.party-inside.place)) (sym w.result-is) (w.popped-in-Continue.ensures c.args.party.now _ h.1))
-  | in-Ring-Table+in-Break-run_either w ↦ let b = w.in-Ring-Table in let h = told_here _ b.seat _ _ c.args.party.now b.is-1 c.party.invariant c.party.view_is (c.requires.of ∙ (sym c.self.view_is ∙ ap form_id b.is-0)) w.run_either.new.seat _ call.Pop (Break w.in-Break-run_either.reply) (ap (λ p. p.place) w.party-inside-is) w.in-Break-run_either.ensures in (h.0, subst (λ r. TriesPop c.args.party.now r (person_of c.match-self.party-inside.place)) (sym w.result-is) (w.popped-in-Break-run_either.ensures c.args.party.now _ h.1))
-  | in-Ring-Table+in-Continue-run_either w ↦ let b = w.in-Ring-Table in let h = told_here _ b.seat _ _ c.args.party.now b.is-1 c.party.invariant c.party.view_is (c.requires.of ∙ (sym c.self.view_is ∙ ap form_id b.is-0)) w.end_or_quit-in-Continue-run_either.new.seat _ call.Pop w.end_or_quit-in-Continue-run_either.result (ap (λ p. p.place) w.party-inside-is) (w.end_or_quit-in-Continue-run_either.ensures call.Pop b.seat w.in-Continue-run_either.ensures) in (h.0, subst (λ r. TriesPop c.args.party.now r (person_of c.match-self.party-inside.place)) (sym w.result-is) (w.popped-in-Continue-run_either.ensures c.args.party.now _ h.1))
-  | in-Chain-Web w ↦ let b = w.in-Chain-Web in let h = told_web _ _ b.rested w.attempt_in.new.party c.args.party.now call.Pop _ _ b.is-1 c.party.invariant (ap (λ p. p.place) w.party-inside-is) refl c.party.view_is (ap (λ (z : QueueId). z.cap) (c.requires.of ∙ (sym c.self.view_is ∙ ap form_id b.is-0))) w.attempt_in.ensures in (h.0, subst (λ r. TriesPop c.args.party.now r (person_of c.match-self.party-inside.place)) (sym w.result-is) (w.popped-in-Chain-Web.ensures c.args.party.now _ h.1))
+  | in-Single-Table+in-Break w ↦ let b = w.in-Single-Table in let h = told_here _ b.seat _ _ c.args.party.now b.is-1 c.party.invariant c.party.view_is (c.requires.of ∙ (sym c.self.view_is ∙ ap form_id b.is-0)) w.run_fast.new.seat _ call.Pop (Break w.in-Break.reply) (ap (λ p. p.place) w.party-inside-is) w.in-Break.ensures in (h.0, subst (λ r. TriesPop c.args.party.now r (party_view_of c.match-self.party-inside.place)) (sym w.result-is) (w.popped.ensures c.args.party.now _ h.1))
+  | in-Single-Table+in-Continue w ↦ let b = w.in-Single-Table in let h = told_here _ b.seat _ _ c.args.party.now b.is-1 c.party.invariant c.party.view_is (c.requires.of ∙ (sym c.self.view_is ∙ ap form_id b.is-0)) w.end_or_quit.new.seat _ call.Pop w.end_or_quit.result (ap (λ p. p.place) w.party-inside-is) (w.end_or_quit.ensures call.Pop b.seat w.in-Continue.ensures) in (h.0, subst (λ r. TriesPop c.args.party.now r (party_view_of c.match-self.party-inside.place)) (sym w.result-is) (w.popped-in-Continue.ensures c.args.party.now _ h.1))
+  | in-Ring-Table+in-Break-run_either w ↦ let b = w.in-Ring-Table in let h = told_here _ b.seat _ _ c.args.party.now b.is-1 c.party.invariant c.party.view_is (c.requires.of ∙ (sym c.self.view_is ∙ ap form_id b.is-0)) w.run_either.new.seat _ call.Pop (Break w.in-Break-run_either.reply) (ap (λ p. p.place) w.party-inside-is) w.in-Break-run_either.ensures in (h.0, subst (λ r. TriesPop c.args.party.now r (party_view_of c.match-self.party-inside.place)) (sym w.result-is) (w.popped-in-Break-run_either.ensures c.args.party.now _ h.1))
+  | in-Ring-Table+in-Continue-run_either w ↦ let b = w.in-Ring-Table in let h = told_here _ b.seat _ _ c.args.party.now b.is-1 c.party.invariant c.party.view_is (c.requires.of ∙ (sym c.self.view_is ∙ ap form_id b.is-0)) w.end_or_quit-in-Continue-run_either.new.seat _ call.Pop w.end_or_quit-in-Continue-run_either.result (ap (λ p. p.place) w.party-inside-is) (w.end_or_quit-in-Continue-run_either.ensures call.Pop b.seat w.in-Continue-run_either.ensures) in (h.0, subst (λ r. TriesPop c.args.party.now r (party_view_of c.match-self.party-inside.place)) (sym w.result-is) (w.popped-in-Continue-run_either.ensures c.args.party.now _ h.1))
+  | in-Chain-Web w ↦ let b = w.in-Chain-Web in let h = told_web _ _ b.rested w.attempt_in.new.party c.args.party.now call.Pop _ _ b.is-1 c.party.invariant (ap (λ p. p.place) w.party-inside-is) refl c.party.view_is (ap (λ (z : QueueId). z.cap) (c.requires.of ∙ (sym c.self.view_is ∙ ap form_id b.is-0))) w.attempt_in.ensures in (h.0, subst (λ r. TriesPop c.args.party.now r (party_view_of c.match-self.party-inside.place)) (sym w.result-is) (w.popped-in-Chain-Web.ensures c.args.party.now _ h.1))
 ]
 
 pub invariant_of-party : goal.invariant_of-party

@@ -11,13 +11,13 @@ load-requires g c =
       sits_still w.web m c.hold.new.self c.hold.ensures.same c.requires.sits,
       subst InBlock (sym w.ends.4) tt,
       lit< tt,
-      may_grant m.sitter g.J.Task.call c.requires.can w.web.key.tail.ptr w.web.key.head.ptr w.tail.ptr c.hold.new.self.id c.hold.new.self.sitter c.in-Ok.place.ptr (alive_at b.at b.next b.words b.homes) w.ends.0 c.hold.ensures.held (λ i. alive_at (made.1 i) (made.3 i) (made.4 i) (made.5 i)) (made.2, c.in-Ok.ensures.low),
+      may_grant m.sitter g.J.CallTag.call c.requires.can w.web.key.tail.ptr w.web.key.head.ptr w.tail.ptr c.hold.new.self.id c.hold.new.self.sitter c.in-Ok.place.ptr (alive_at b.at b.next b.words b.homes) w.ends.0 c.hold.ensures.held (λ i. alive_at (made.1 i) (made.3 i) (made.4 i) (made.5 i)) (made.2, c.in-Ok.ensures.low),
     )
 
 pub load-requires-in-Err : goal.load-requires-in-Err
 load-requires-in-Err g c =
     let w = c.args.self.now in let m = c.args.seat.now in
-    (c.requires.sits, subst InBlock (sym w.ends.4) tt, lit< tt, may_refuse m.sitter g.J.Task.call c.requires.can w.web.key.tail.ptr w.web.key.head.ptr w.tail.ptr m.id w.ends.0)
+    (c.requires.sits, subst InBlock (sym w.ends.4) tt, lit< tt, may_refuse m.sitter g.J.CallTag.call c.requires.can w.web.key.tail.ptr w.web.key.head.ptr w.tail.ptr m.id w.ends.0)
 
 pub returns-in-Err-clause-did : goal.returns-in-Err-clause-did
 returns-in-Err-clause-did g c = search (rules, tests)

@@ -9,7 +9,7 @@ use Rattle.shared_chain.proofs.web.ChainWeb.operate.Goals as goal
 
 pub load-requires : goal.load-requires
 load-requires g c =
-    let key = c.args.self.now.web.key in let m = c.args.seat.now in let j = g.J.Task.call in
+    let key = c.args.self.now.web.key in let m = c.args.seat.now in let j = g.J.CallTag.call in
     let n = named m.sitter c.args.op j c.requires.can (Op.Load c.in-Load.word) c.in-Load.is in
     let a = Op.Load n.0 in
     let at = c.word-number.ensures n.0 n.2 (may_as m.sitter c.args.op j c.requires.can a n.1) in
@@ -20,7 +20,7 @@ returns-in-Load-clause-did g c = search rules depth 2
 
 pub store-requires : goal.store-requires
 store-requires g c =
-    let key = c.args.self.now.web.key in let m = c.args.seat.now in let j = g.J.Task.call in
+    let key = c.args.self.now.web.key in let m = c.args.seat.now in let j = g.J.CallTag.call in
     let n = named m.sitter c.args.op j c.requires.can (Op.Store c.in-Store.word c.in-Store.new) c.in-Store.is in
     let a = Op.Store n.0 c.in-Store.new in
     let at = c.word-number-in-Store.ensures n.0 n.2 (may_as m.sitter c.args.op j c.requires.can a n.1) in
@@ -28,7 +28,7 @@ store-requires g c =
 
 pub fetch_add-requires : goal.fetch_add-requires
 fetch_add-requires g c =
-    let key = c.args.self.now.web.key in let m = c.args.seat.now in let j = g.J.Task.call in
+    let key = c.args.self.now.web.key in let m = c.args.seat.now in let j = g.J.CallTag.call in
     let n = named m.sitter c.args.op j c.requires.can (Op.Add c.in-Add.word c.in-Add.by) c.in-Add.is in
     let a = Op.Add n.0 c.in-Add.by in
     let at = c.word-number-in-Add.ensures n.0 n.2 (may_as m.sitter c.args.op j c.requires.can a n.1) in
@@ -36,7 +36,7 @@ fetch_add-requires g c =
 
 pub exchange-requires : goal.exchange-requires
 exchange-requires g c =
-    let key = c.args.self.now.web.key in let m = c.args.seat.now in let j = g.J.Task.call in
+    let key = c.args.self.now.web.key in let m = c.args.seat.now in let j = g.J.CallTag.call in
     let n = named m.sitter c.args.op j c.requires.can (Op.Exchange c.in-Exchange.word c.in-Exchange.old c.in-Exchange.new) c.in-Exchange.is in
     let a = Op.Exchange n.0 c.in-Exchange.old c.in-Exchange.new in
     let at = c.word-number-in-Exchange.ensures n.0 n.2 (may_as m.sitter c.args.op j c.requires.can a n.1) in
@@ -44,21 +44,21 @@ exchange-requires g c =
 
 pub follow-requires : goal.follow-requires
 follow-requires g c =
-    let key = c.args.self.now.web.key in let m = c.args.seat.now in let j = g.J.Task.call in
+    let key = c.args.self.now.web.key in let m = c.args.seat.now in let j = g.J.CallTag.call in
     let n = named m.sitter c.args.op j c.requires.can (Op.LoadLink c.in-LoadLink.link) c.in-LoadLink.is in
     let at = c.link.ensures n.0 n.2 in
     (c.requires.sits, at.1, may_read m.sitter c.args.op j c.requires.can key.tail.ptr key.head.ptr m.id (Op.LoadLink n.0) _ n.1 tt at.0)
 
 pub lead-requires : goal.lead-requires
 lead-requires g c =
-    let key = c.args.self.now.web.key in let m = c.args.seat.now in let j = g.J.Task.call in
+    let key = c.args.self.now.web.key in let m = c.args.seat.now in let j = g.J.CallTag.call in
     let n = named m.sitter c.args.op j c.requires.can (Op.StoreLink c.in-StoreLink.link c.in-StoreLink.new) c.in-StoreLink.is in
     let at = c.link-in-StoreLink.ensures n.0 n.3 in
     (c.requires.sits, at.1, may_lead m.sitter c.args.op j c.requires.can key.tail.ptr key.head.ptr m.id n.0 n.1 _ _ n.2 at.0 (ap (λ z. z.ptr) n.4))
 
 pub install-requires : goal.install-requires
 install-requires g c =
-    let w = c.args.self.now in let key = w.web.key in let m = c.args.seat.now in let j = g.J.Task.call in
+    let w = c.args.self.now in let key = w.web.key in let m = c.args.seat.now in let j = g.J.CallTag.call in
     let n = named m.sitter c.args.op j c.requires.can (Op.Install c.in-Install.new) c.in-Install.is in (
       c.requires.sits,
       subst InBlock (sym w.ends.4) tt,

@@ -33,15 +33,15 @@ IsCalm r who k = is_wait_free k ≡ false → IsQuiet r who
 
 module _ {A : Type 0} (cap : ℕ) (r s : Ring A) (who : ℕ) (ms : List (State A)) (was : Bool) where
   -- the call goes on with fewer steps before it, if it is calm, or ends with a reply that is right, and holds nothing
-  abbrev pub Goes : Next ℕ → Option A → Call A → List (Effect A) → ℕ → Type 0
-  Goes (Next.Step l t o) v k es n = At cap s who ms was (stand l t o v k es) × (IsCalm r who k → rank cap s l < n)
-  Goes (Next.Reply x spare) v k es n =
+  abbrev pub NextOk : Next ℕ → Option A → Call A → List (Effect A) → ℕ → Type 0
+  NextOk (Next.Step l t o) v k es n = At cap s who ms was (stand l t o v k es) × (IsCalm r who k → rank cap s l < n)
+  NextOk (Next.Reply x spare) v k es n =
       HoldsNone s.cells who × (spare ≡ None) × ((y : Reply A) × (filled x v ≡ Some y) × Tells k y es × (es ≡ [] → SeenIn ms (λ m. IsRightAt m k y)))
 
 module _ {A : Type 0} (cap : ℕ) (r : Ring A) (who : ℕ) (ms : List (State A)) (was : Bool) where
   -- so after a step that leaves the ring as it is
   abbrev pub Stays : Next ℕ → Option A → Call A → List (Effect A) → ℕ → Type 0
-  Stays = Goes cap r r who (queue_of cap r ∷ ms) (was || not r.closed)
+  Stays = NextOk cap r r who (queue_of cap r ∷ ms) (was || not r.closed)
 
 -- The effect of the step at this local state that got this answer: the exchange of the tail or the head that wins, the tail that moves on, and
 -- the mark on an open tail. A front leaves only by a call that has seen the queue open
@@ -56,7 +56,7 @@ IsEffect cap was (Local.Bounded l) a e = e ≡ None
 IsEffect cap was _ a e = ⊥
 
 -- the next step of the call can be taken, and is a step of the queue that leaves the ring right
-pub record Good {A : Type 0} (cap : ℕ) (r : Ring A) (who : ℕ) (s : Shared A) (ms : List (State A)) (was : Bool) (c : Stand A) : Type 0 where
+pub record StepOk {A : Type 0} (cap : ℕ) (r : Ring A) (who : ℕ) (s : Shared A) (ms : List (State A)) (was : Bool) (c : Stand A) : Type 0 where
   pub after : Ring A
   pub e : Option (Effect A)
   pub touches : CanTouch s c.touch
@@ -68,14 +68,14 @@ pub record Good {A : Type 0} (cap : ℕ) (r : Ring A) (who : ℕ) (s : Shared A)
   pub makes : Leads (queue_of cap r) e (queue_of cap after)
   pub passes : Passes who r after
   pub shift : Shift cap who r after c.touch c.carried
-  pub goes : Goes cap r after who (queue_of cap after ∷ ms) (was || not after.closed) (next_of (Kind.Bounded cap) c.local (answered (touched s c.touch c.carried) c.op)) (handed s c.touch c.carried) c.call (with_effect c.effects e) (rank cap r c.local)
+  pub goes : NextOk cap r after who (queue_of cap after ∷ ms) (was || not after.closed) (next_of (Kind.Bounded cap) c.local (answered (touched s c.touch c.carried) c.op)) (handed s c.touch c.carried) c.call (with_effect c.effects e) (rank cap r c.local)
 
 module _ {A : Type 0} {cap : ℕ} {r : Ring A} {who : ℕ} {s : Shared A} {ms : List (State A)} {was : Bool} (ok : RingOk cap r) (codes : Codes cap r s) where
   -- a step that changes nothing
   pub still : {l : Local ℕ} {o : Op ℕ} {v : Option A} {k : Call A} {es : List (Effect A)}
       → CanOperate s o → operated s o ≡ s → CanNext (Kind.Bounded cap) l (answered s o) → IsEffect {A = A} cap was l (answered s o) None
       → Stays cap r who ms was (next_of (Kind.Bounded cap) l (answered s o)) v k es (rank cap r l)
-      → Good cap r who s ms was (stand l Touch.Nothing o v k es)
+      → StepOk cap r who s ms was (stand l Touch.Nothing o v k es)
   still operates same goes_on told goes = record {
     after = r;
     e = None;
@@ -94,8 +94,8 @@ module _ {A : Type 0} {cap : ℕ} {r : Ring A} {who : ℕ} {s : Shared A} {ms : 
   -- the mark of the tail, whether it closes the ring or finds it closed
   pub marks : {l : Local ℕ} {v : Option A} {k : Call A} {es : List (Effect A)} (e : Option (Effect A))
       → CanNext (Kind.Bounded cap) l (Answer.Found s.tail) → IsEffect cap was l (Answer.Found s.tail) e → Leads (queue_of cap r) e (queue_of cap (marked r))
-      → Goes cap r (marked r) who (queue_of cap (marked r) ∷ ms) (was || not (marked r).closed) (next_of (Kind.Bounded cap) l (Answer.Found s.tail)) v k (with_effect es e) (rank cap r l)
-      → Good cap r who s ms was (stand l Touch.Nothing (Op.Or Word.Tail MARK) v k es)
+      → NextOk cap r (marked r) who (queue_of cap (marked r) ∷ ms) (was || not (marked r).closed) (next_of (Kind.Bounded cap) l (Answer.Found s.tail)) v k (with_effect es e) (rank cap r l)
+      → StepOk cap r who s ms was (stand l Touch.Nothing (Op.Or Word.Tail MARK) v k es)
   marks e goes_on told makes goes = record {
     after = marked r;
     e = e;

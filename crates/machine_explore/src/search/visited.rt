@@ -6,17 +6,17 @@ use std::alloc::{AllocError, Allocator};
 
 /// The positions that the search has come to, each once, in the order in which they were found.
 #[derive(Drop)]
-pub(crate) struct Known<A: Allocator> {
+pub(crate) struct Visited<A: Allocator> {
     positions: Vec<Position<A>, A>,
     places: Places<A>,
     // How many there may be.
     most: usize,
 }
 
-impl<A: Allocator + Copy> Known<A> {
+impl<A: Allocator + Copy> Visited<A> {
     /// None so far, and so many at most.
     pub(crate) fn new(alloc: A, most: usize) -> Result<Self, AllocError> {
-        Ok(Known {
+        Ok(Visited {
             positions: Vec::new(alloc),
             places: Places::new(alloc)?,
             most,

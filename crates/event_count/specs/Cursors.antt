@@ -1,28 +1,28 @@
 -- Where a call on the two words may begin, stop and end.
 use Rattle.std.specs.Prelude.{◌≡◌, ℕ, Bool, true, false}
-use Rattle.law_wakes.specs.declared.steps.Place.{Place}
-use Rattle.law_wakes.specs.declared.steps.Place.TheVariants.{Idle, Starting, Prepared, Returned, Given, Taking, Moving}
+use Rattle.law_wakes.specs.declared.steps.Phase.{Phase}
+use Rattle.law_wakes.specs.declared.steps.Phase.TheVariants.{Idle, Starting, Prepared, Returned, Given, Taking, Moving}
 use Rattle.law_wakes.specs.declared.steps.Step.{Step}
 use Rattle.law_wakes.specs.declared.steps.Step.TheVariants.{Rest, Park}
 
 -- a call of `prepare` or of a notify
-abbrev pub Begins : Place → Type 0
+abbrev pub Begins : Phase → Type 0
 Begins Starting = Unit {0}
 Begins Given = Unit {0}
 Begins (Moving whom) = Unit {0}
 Begins other = ⊥
 
 -- its caller has looked, and waits for it or gives it up
-abbrev pub is_prepared : Place → Bool
+abbrev pub is_prepared : Phase → Bool
 is_prepared (Prepared events) = true
 is_prepared other = false
 
 -- a notify of one has found that so many may sleep
-abbrev pub IsTaking : Place → Type 0
-IsTaking place = (sleepers : ℕ) × (place ≡ Taking sleepers)
+abbrev pub IsTaking : Phase → Type 0
+IsTaking phase = (sleepers : ℕ) × (phase ≡ Taking sleepers)
 
 -- a call has ended
-abbrev pub is_over : Place → Bool
+abbrev pub is_over : Phase → Bool
 is_over Idle = true
 is_over Returned = true
 is_over other = false

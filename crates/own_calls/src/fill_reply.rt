@@ -2,7 +2,7 @@
 //!
 //! In a `Reply` the value lies at one place for a push and at another for a pop, and a value that may lie at either is copied word by word. So each call has a filling of its own, which knows the replies of that call alone.
 ghost use Rattle.std.specs.Prelude.{◌≡◌, IsSome, Some};
-ghost use Rattle.queue_steps.specs.Kinds.{answered, filled};
+ghost use Rattle.queue_steps.specs.Kinds.{call_of_reply, filled};
 ghost use Rattle.queue_steps.specs.declared.model.Call.{Call as SpecCall};
 ghost use Rattle.queue_steps.specs.declared.model.Call.TheVariants as call;
 
@@ -10,14 +10,14 @@ use queue_steps::errors::{ForcePushError, PushError};
 use queue_steps::model::{Reply, ReplyKind};
 
 /// One of the calls, for the driver: each has fast steps of its own.
-pub(crate) trait Fills {
+pub(crate) trait FillReply {
     /// The call, without its value.
     ghost call: { SpecCall Unit };
 
     /// The reply of this kind with the value that the call ended with, which is there exactly where the kind tells of one.
     fn fill<T>(kind: ReplyKind, carried: Option<T>) -> Reply<T>
         requires fits { IsSome (filled kind carried) }
-        requires its { answered kind ≡ call }
+        requires its { call_of_reply kind ≡ call }
         ensures { filled kind carried ≡ Some result };
 }
 
@@ -29,7 +29,7 @@ pub(crate) struct Pops;
 
 pub(crate) struct Closes;
 
-impl Fills for Pushes {
+impl FillReply for Pushes {
     ghost call = { call.Push tt };
 
     #[inline(always)]
@@ -50,7 +50,7 @@ impl Fills for Pushes {
     }
 }
 
-impl Fills for Displaces {
+impl FillReply for Displaces {
     ghost call = { call.ForcePush tt };
 
     #[inline(always)]
@@ -69,7 +69,7 @@ impl Fills for Displaces {
     }
 }
 
-impl Fills for Pops {
+impl FillReply for Pops {
     ghost call = { call.Pop };
 
     #[inline(always)]
@@ -82,7 +82,7 @@ impl Fills for Pops {
     }
 }
 
-impl Fills for Closes {
+impl FillReply for Closes {
     ghost call = { call.Close };
 
     #[inline(always)]

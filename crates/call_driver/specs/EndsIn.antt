@@ -18,14 +18,14 @@ use Rattle.call_driver.specs.Apart.{AnswersApart}
 module _ {T B M : Type 0} (can_touch : M → Touch → Op B → Type 0) (touches : M → Touch → Op B → Option T → M → Option T → Type 0)
     (can_perform : M → Op B → Type 0) (performs : M → Op B → Answer B → M → Type 0) where
   -- the call ends before n steps, and what it ends with meets P
-  abbrev pub Ends : ℕ → Kind → Next B → M → Option T → (Reply Unit → Option B → Option T → M → Type 0) → Type 0
-  Ends zero k todo cells carried P = ⊥
-  Ends (suc n) k (next.Reply r spare) cells carried P = P r spare carried cells
-  Ends (suc n) k (next.Step l t o) cells carried P =
+  abbrev pub EndsIn : ℕ → Kind → Next B → M → Option T → (Reply Unit → Option B → Option T → M → Type 0) → Type 0
+  EndsIn zero k todo cells carried P = ⊥
+  EndsIn (suc n) k (next.Reply r spare) cells carried P = P r spare carried cells
+  EndsIn (suc n) k (next.Step l t o) cells carried P =
       can_touch cells t o
       × ((touched : M) (left : Option T) → touches cells t o carried touched left
       → can_perform touched o
-      × ((a : Answer B) (done : M) → performs touched o a done → CanNext k l a × Ends n k (next_of k l a) done left P))
+      × ((a : Answer B) (done : M) → performs touched o a done → CanNext k l a × EndsIn n k (next_of k l a) done left P))
 
 -- no call is on its way, and the reply of the call c, which began at the cells `first`, is that of the one-owner table
 abbrev pub Replied : {T M : Type 0} → (M → Type 0) → (M → Owned T) → Call T → M → Reply Unit → Option T → M → Type 0
@@ -47,4 +47,4 @@ module _ {T B M : Type 0} (can_touch : M → Touch → Op B → Type 0) (touches
   abbrev pub EndsRight : (M → Type 0) → (M → Owned T) → Kind → Call T → M → Type 0
   EndsRight idle owned k c cells =
       CanNext k (first_local {B = B} (call_kind c)) answer.Start
-      × Ends can_touch touches can_perform performs SOLO_STEPS k (next_of k (first_local (call_kind c)) answer.Start) cells (call_value c) (Answered can_release releases idle owned c cells)
+      × EndsIn can_touch touches can_perform performs SOLO_STEPS k (next_of k (first_local (call_kind c)) answer.Start) cells (call_value c) (Answered can_release releases idle owned c cells)

@@ -10,7 +10,7 @@ use Rattle.queue_steps.specs.declared.steps.unbounded.UnboundedLocal.TheVariants
 use Rattle.law_common.specs.Moments.{SeenIn}
 use Rattle.law_common.specs.Effects.{Leads, with_effect, Whether}
 use Rattle.law_common.specs.Stand.{stand}
-use Rattle.law_chain.specs.ChainCells.{Spare, GivenUp, Chain, queue_of, ChainOk, Holds, Nothing}
+use Rattle.law_chain.specs.ChainCells.{Spare, GivenUp, Chain, queue_of, ChainOk, HoldsOnly, Nothing}
 use Rattle.law_chain.specs.ChainPasses.{Passes}
 use Rattle.law_chain.proofs.ChainPasses.{passes_same}
 use Rattle.law_chain.specs.ChainFacts.{IsNamed, HasSpare}
@@ -22,10 +22,10 @@ GivesUp c who None = Unit {0}
 GivesUp c who (Some f) = (c.uses f ≡ Spare who) ⊎ ((b : ℕ) × IsNamed c b f × (c.walks b ≡ GivenUp))
 
 -- the call goes on, or ends with a reply that is right, and holds nothing
-abbrev pub Goes : {A : Type 0} → Chain A → ℕ → List (State A) → Next ℕ → Option A → Call A → List (Effect A) → Type 0
-Goes c who ms (Next.Step l t o) v k es = At c who ms (stand l t o v k es)
-Goes {A} c who ms (Next.Reply x spare) v k es =
-    Holds c who Nothing × GivesUp c who spare × ((y : Reply A) × (filled x v ≡ Some y) × Tells k y es × (es ≡ [] → SeenIn ms (Allows k y)))
+abbrev pub NextOk : {A : Type 0} → Chain A → ℕ → List (State A) → Next ℕ → Option A → Call A → List (Effect A) → Type 0
+NextOk c who ms (Next.Step l t o) v k es = At c who ms (stand l t o v k es)
+NextOk {A} c who ms (Next.Reply x spare) v k es =
+    HoldsOnly c who Nothing × GivesUp c who spare × ((y : Reply A) × (filled x v ≡ Some y) × Tells k y es × (es ≡ [] → SeenIn ms (Allows k y)))
 
 -- the effect of the step at this local state that got this answer: the exchange of the tail or the head that wins, and the mark on an open tail
 abbrev pub IsEffect : {A : Type 0} → UnboundedLocal ℕ → Answer ℕ → Option (Effect A) → Type 0
@@ -36,23 +36,23 @@ IsEffect chain.Closing (Answer.Found found) e = Whether (is_shut found) (e ≡ N
 IsEffect l a e = e ≡ None
 
 -- the step that got this answer, after which the chain is s and the call carries v, is a step of the queue that leaves the chain right
-pub record Good {A : Type 0} (c s : Chain A) (who : ℕ) (ms : List (State A)) (l : UnboundedLocal ℕ) (v : Option A) (k : Call A) (es : List (Effect A)) (a : Answer ℕ) : Type 0 where
+pub record StepOk {A : Type 0} (c s : Chain A) (who : ℕ) (ms : List (State A)) (l : UnboundedLocal ℕ) (v : Option A) (k : Call A) (es : List (Effect A)) (a : Answer ℕ) : Type 0 where
   pub e : Option (Effect A)
   pub told : IsEffect l a e
   pub goes_on : FitsChain l a
   pub ok : ChainOk s
   pub makes : Leads (queue_of c) e (queue_of s)
   pub passes : Passes who c s
-  pub goes : Goes s who (queue_of s ∷ ms) (unbounded_next l a) v k (with_effect es e)
+  pub goes : NextOk s who (queue_of s ∷ ms) (unbounded_next l a) v k (with_effect es e)
 
 -- a step that changes nothing
 pub still : {A : Type 0} (c : Chain A) (who : ℕ) (ms : List (State A)) (l : UnboundedLocal ℕ) (v : Option A) (k : Call A) (es : List (Effect A)) (a : Answer ℕ)
-    → IsEffect {A = A} l a None → ChainOk c → FitsChain l a → Goes c who (queue_of c ∷ ms) (unbounded_next l a) v k es → Good c c who ms l v k es a
+    → IsEffect {A = A} l a None → ChainOk c → FitsChain l a → NextOk c who (queue_of c ∷ ms) (unbounded_next l a) v k es → StepOk c c who ms l v k es a
 still c who ms l v k es a told ok fits goes = record { e = None; told = told; goes_on = fits; ok = ok; makes = refl; passes = passes_same c who; goes = goes }
 
 -- a step that changes the chain, and not the queue that it stands for
 pub silent : {A : Type 0} (c s : Chain A) (who : ℕ) (ms : List (State A)) (l : UnboundedLocal ℕ) (v : Option A) (k : Call A) (es : List (Effect A)) (a : Answer ℕ)
-    → IsEffect {A = A} l a None → ChainOk s → queue_of s ≡ queue_of c → Passes who c s → FitsChain l a → Goes s who (queue_of s ∷ ms) (unbounded_next l a) v k es → Good c s who ms l v k es a
+    → IsEffect {A = A} l a None → ChainOk s → queue_of s ≡ queue_of c → Passes who c s → FitsChain l a → NextOk s who (queue_of s ∷ ms) (unbounded_next l a) v k es → StepOk c s who ms l v k es a
 silent c s who ms l v k es a told ok same pass fits goes = record { e = None; told = told; goes_on = fits; ok = ok; makes = same; passes = pass; goes = goes }
 
 pub spare_gives : {A : Type 0} (c : Chain A) (who : ℕ) (spare : Option ℕ) → HasSpare c who spare → GivesUp c who spare
