@@ -39,12 +39,7 @@ reply_value (reply.Pop (Err e)) = None
 reply_value (reply.ForcePush (Ok x)) = x
 reply_value (reply.ForcePush (Err e)) = None
 reply_value (reply.Len n) = Some n
-reply_value (reply.Push r) = None
-reply_value (reply.Close b) = None
-reply_value (reply.IsClosed b) = None
-reply_value (reply.IsEmpty b) = None
-reply_value (reply.IsFull b) = None
-reply_value (reply.Capacity c) = None
+reply_value _ = None
 
 abbrev pub number_of : Answer → ℕ
 number_of (answer.Reply r) = reply_number r
