@@ -4,7 +4,7 @@ use std::process::Abort;
 
 /// Asserts that this was found.
 pub(crate) fn is<T: PartialEq + Debug + Drop>(rt: &impl Abort, found: T, wanted: T) {
-    is_in(rt, (), found, wanted);
+    assert_eq!(rt; found, wanted);
 }
 
 /// Asserts that this was found in this case, which a failure names.

@@ -30,7 +30,7 @@ const GRANTED: [(usize, Reply<u64>); 4] = [
     (0, Reply::Push(Ok(()))),
 ];
 
-pub(crate) static RUNS: [Run<'static>; 4] = [
+pub(crate) static RUNS: [Run<'static>; 11] = [
     // The first request refused, and then granted; a step between calls and a stranger's call are skipped.
     Run {
         name: "refused and granted",
@@ -120,10 +120,6 @@ pub(crate) static RUNS: [Run<'static>; 4] = [
             (0, Reply::Pop(Err(PopError::Closed))),
         ])],
     },
-];
-
-/// Calls that are stopped while others go on, and many turns.
-pub(crate) static STOPPED: [Run<'static>; 4] = [
     // Two parties that install the first block.
     Run {
         name: "two parties install the first block",
@@ -203,10 +199,6 @@ pub(crate) static STOPPED: [Run<'static>; 4] = [
             Fact::Left(&[]),
         ],
     },
-];
-
-/// Pushes whose blocks are refused, and granted then.
-pub(crate) static ASKED_AGAIN: [Run<'static>; 3] = [
     // A request that is granted is never called refused: of a push and of a forced push, with nothing accepted, and one item short of a block and of two.
     Run {
         name: "granted: nothing accepted",

@@ -1,5 +1,5 @@
 //! Runs on a ring of two slots, with calls that go on within each other.
-use crate::asserts::is_in;
+use crate::asserts::is;
 use crate::machine::script::{Fact, Run, StoryLine, Sweep, events_of};
 use machine_replay::types::EffectKind;
 use machine_replay::words::{QueueWords, words_after};
@@ -11,7 +11,7 @@ use std::process::Abort;
 
 const RING: Kind = Kind::Bounded(2);
 
-pub(crate) static RUNS: [Run<'static>; 5] = [
+pub(crate) static RUNS: [Run<'static>; 10] = [
     // A displacement with a close within it: a pop that finds the list empty waits for the item on its way in.
     Run {
         name: "close within a displacement",
@@ -145,10 +145,6 @@ pub(crate) static RUNS: [Run<'static>; 5] = [
             (1, Reply::Pop(Err(PopError::Closed))),
         ])],
     },
-];
-
-/// What is left at each step of a push, of a displacement and of a pop.
-pub(crate) static LEFT: [Run<'static>; 5] = [
     // Items appended or arrived and not yet written are in the list; an item displaced, on its way in or taken is not.
     Run {
         name: "left: appended, not written",
@@ -198,47 +194,40 @@ pub(crate) static LEFT: [Run<'static>; 5] = [
     },
 ];
 
-/// The tail, the head and both stamps, where there are two.
-fn four_of(words: &QueueWords) -> Option<[u64; 4]> {
-    match words.stamps.as_slice() {
-        [first, second] => Some([words.tail, words.head, *first, *second]),
-        _ => None,
-    }
-}
-
-/// A displacement with a close and two pops within it.
-const WITHIN_LINES: [StoryLine; 7] = [
-    StoryLine::Pushes(0, 2),
-    StoryLine::Begins(0, Call::ForcePush(3)),
-    StoryLine::Steps(0, 3),
-    StoryLine::Calls(1, Call::Close),
-    StoryLine::Calls(1, Call::Pop),
-    StoryLine::Calls(1, Call::Pop),
-    StoryLine::Runs(0),
-];
-
-/// How many of these lines are done, and the tail, the head and both stamps then: the tail is twice the position, and one more once the queue is closed.
-static WORDS: [(usize, [u64; 4]); 5] = [
-    (1, [4, 0, 1, 2]),
-    (3, [4, 1, 1, 2]),
-    (4, [5, 1, 1, 2]),
-    (5, [5, 2, 1, 3]),
-    (7, [7, 2, 3, 3]),
-];
-
-/// Asserts the tail, the head and both stamps after so many lines.
-fn has_words(rt: &impl Abort, alloc: Global, count: usize, wanted: &[u64; 4]) {
-    let lines = &WITHIN_LINES[..count.min(WITHIN_LINES.len())];
+/// Asserts the tail, the head and both stamps after these lines.
+fn has_words(rt: &impl Abort, alloc: Global, lines: &[StoryLine], words: &[u64; 4]) {
     let events = events_of(rt, alloc, lines, 0);
-    let words = words_after(alloc, RING, 2, events).expect(rt, "memory");
-    is_in(rt, count, four_of(&words), Some(*wanted));
+    let QueueWords {
+        lock: _,
+        head,
+        tail,
+        stamps,
+    } = words_after(alloc, RING, 2, events).expect(rt, "memory");
+    let found = (tail, head, stamps.as_slice());
+    is(rt, found, (words[0], words[1], &words[2..]));
 }
 
-/// The words on the way through a displacement.
+/// The words on the way through a displacement: the tail is twice the position, and one more once the queue is closed.
 #[test]
 fn words_within_a_displacement(rt: HostRuntime) {
-    for (count, wanted) in WORDS.iter() {
-        has_words(&rt, rt.alloc(), *count, wanted);
+    let lines = [
+        StoryLine::Pushes(0, 2),
+        StoryLine::Begins(0, Call::ForcePush(3)),
+        StoryLine::Steps(0, 3),
+        StoryLine::Calls(1, Call::Close),
+        StoryLine::Calls(1, Call::Pop),
+        StoryLine::Calls(1, Call::Pop),
+        StoryLine::Runs(0),
+    ];
+    let rows: [(&[StoryLine], [u64; 4]); 5] = [
+        (&lines[..1], [4, 0, 1, 2]),
+        (&lines[..3], [4, 1, 1, 2]),
+        (&lines[..4], [5, 1, 1, 2]),
+        (&lines[..5], [5, 2, 1, 3]),
+        (&lines, [7, 2, 3, 3]),
+    ];
+    for (lines, words) in &rows {
+        has_words(&rt, rt.alloc(), lines, words);
     }
 }
 

@@ -20,35 +20,30 @@ fn with_item<'a>(call: Call<u64>, items: &'a Items) -> Call<Counted<'a>> {
     }
 }
 
-/// The same event with an item in the place of the number.
-fn counted<'a>(event: Event<u64>, items: &'a Items) -> Event<Counted<'a>> {
-    match event {
-        Event::Begin(party, call) => Event::Begin(party, with_item(call, items)),
-        Event::Step(party, granted) => Event::Step(party, granted),
-    }
-}
-
-/// These events with items in the place of numbers.
+/// The events of these lines with items in the place of numbers.
 fn counted_events<'a>(
     rt: &impl Abort,
     alloc: Global,
-    events: &[Event<u64>],
+    lines: &[StoryLine],
     items: &'a Items,
 ) -> Vec<Event<Counted<'a>>> {
-    let mut made = Vec::new(alloc);
-    for event in events {
-        made.push(counted(*event, items)).expect(rt, "memory");
+    let mut events = Vec::new(alloc);
+    for event in events_of(rt, alloc, lines, 0) {
+        let event = match event {
+            Event::Begin(party, call) => Event::Begin(party, with_item(call, items)),
+            Event::Step(party, granted) => Event::Step(party, granted),
+        };
+        events.push(event).expect(rt, "memory");
     }
-    made
+    events
 }
 
-/// How many items are made for the run of these events, and how many of them are dropped in the end.
-fn made_and_dropped(rt: &impl Abort, alloc: Global, kind: Kind, events: &[Event<u64>]) -> (u64, u64)
+/// How many items are made for the run of these lines, and how many of them are dropped in the end.
+fn made_and_dropped(rt: &impl Abort, alloc: Global, kind: Kind, lines: &[StoryLine]) -> (u64, u64)
     requires { CanReplay kind }
 {
     let items = Items::none();
-    let events = counted_events(rt, alloc, events, &items);
-    let run = replay(alloc, kind, 3, events);
+    let run = replay(alloc, kind, 3, counted_events(rt, alloc, lines, &items));
     drop(run.expect(rt, "memory"));
     (items.made(), items.dropped())
 }
@@ -71,8 +66,7 @@ fn drops_all(rt: &impl Abort, alloc: Global, kind: Kind, held: u64)
             StoryLine::Begins(9, Call::Push(5)),
         ];
         let given = held.wrapping_add(5);
-        let events = events_of(rt, alloc, &lines, 0);
-        let seen = made_and_dropped(rt, alloc, kind, &events);
+        let seen = made_and_dropped(rt, alloc, kind, &lines);
         is_in(rt, kind, seen, (given, given));
     }
 }

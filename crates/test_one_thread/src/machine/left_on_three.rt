@@ -3,8 +3,7 @@ use crate::machine::script::{Fact, Run, StoryLine};
 use machine_replay::types::EffectKind;
 use queue_steps::model::Call;
 
-/// What is left where a push has appended its item and not written it, or written it out of order.
-pub(crate) static APPENDED: [Run<'static>; 5] = [
+pub(crate) static RUNS: [Run<'static>; 14] = [
     // After an append that is not yet written, in each slot.
     Run {
         name: "appended, not written: first slot",
@@ -63,10 +62,6 @@ pub(crate) static APPENDED: [Run<'static>; 5] = [
             Fact::Left(&[7, 8, 9]),
         ],
     },
-];
-
-/// What is left at each step of a displacement.
-pub(crate) static DISPLACED: [Run<'static>; 4] = [
     // Before a forced push's front, and after it, with its item on the way in; after the arrival, before the item is swapped in; and after that.
     Run {
         name: "not displaced yet",
@@ -145,10 +140,6 @@ pub(crate) static DISPLACED: [Run<'static>; 4] = [
             Fact::Left(&[2, 3, 9]),
         ],
     },
-];
-
-/// What is left where a pop, or a displacement, has taken its item and not read it.
-pub(crate) static TAKEN: [Run<'static>; 5] = [
     // After a pop's take that is not yet read: of the front, of an only item, and of the front of the second lap.
     Run {
         name: "taken, not read: front",

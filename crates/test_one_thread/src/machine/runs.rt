@@ -7,15 +7,9 @@ use queue_steps::steps::Kind;
 fn each_run_is_told(rt: HostRuntime) {
     let alloc = rt.alloc();
     are_told(&rt, alloc, Kind::Single, &single::RUNS);
-    are_told(&rt, alloc, Kind::Single, &single::LEFT);
     are_told(&rt, alloc, Kind::Bounded(2), &displacements::RUNS);
-    are_told(&rt, alloc, Kind::Bounded(2), &displacements::LEFT);
     are_swept(&rt, alloc, Kind::Bounded(2), &displacements::SWEEPS);
-    are_told(&rt, alloc, Kind::Bounded(3), &left_on_three::APPENDED);
-    are_told(&rt, alloc, Kind::Bounded(3), &left_on_three::DISPLACED);
-    are_told(&rt, alloc, Kind::Bounded(3), &left_on_three::TAKEN);
+    are_told(&rt, alloc, Kind::Bounded(3), &left_on_three::RUNS);
     are_told(&rt, alloc, Kind::Unbounded, &chains::RUNS);
-    are_told(&rt, alloc, Kind::Unbounded, &chains::STOPPED);
-    are_told(&rt, alloc, Kind::Unbounded, &chains::ASKED_AGAIN);
     are_swept(&rt, alloc, Kind::Unbounded, &chains::SWEEPS);
 }

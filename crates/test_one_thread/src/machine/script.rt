@@ -1,7 +1,6 @@
 //! Scripts: what the parties of a run do, line by line, and what is to be told of it.
 ghost use Rattle.machine_replay.specs.Replays.{CanReplay};
 
-use crate::asserts::is_in;
 use machine_replay::replay;
 use machine_replay::types::{EffectKind, Event, Peak, Replay};
 use queue_steps::model::{Call, Reply};
@@ -52,40 +51,27 @@ impl StoryLine {
 
     /// Its event before which there are so many.
     fn event(self, before: u64) -> Event<u64> {
+        let turn = before / CALL;
+        let begins = before % CALL == 0;
         match self {
             StoryLine::Begins(party, call) => Event::Begin(party, call),
             StoryLine::IsRefused(party) => Event::Step(party, false),
-            StoryLine::Steps(party, _) | StoryLine::Swept(party, _) | StoryLine::Runs(party) => {
-                Event::Step(party, true)
+            StoryLine::Calls(party, call) if begins => Event::Begin(party, call),
+            StoryLine::Pushes(party, _) if begins => Event::Begin(party, Call::Push(turn + 1)),
+            StoryLine::Turns(party, _) if begins && turn % 2 == 0 => {
+                Event::Begin(party, Call::Push(turn / 2 + 1))
             }
-            StoryLine::Calls(party, call) => event_of(party, call, before),
-            StoryLine::Pushes(party, _) => event_of(party, push_of(before / CALL), before),
-            StoryLine::Pops(party, _) => event_of(party, Call::Pop, before),
-            StoryLine::Turns(party, _) => event_of(party, turn_of(before / CALL), before),
+            StoryLine::Pops(party, _) | StoryLine::Turns(party, _) if begins => {
+                Event::Begin(party, Call::Pop)
+            }
+            StoryLine::Steps(party, _)
+            | StoryLine::Swept(party, _)
+            | StoryLine::Runs(party)
+            | StoryLine::Calls(party, _)
+            | StoryLine::Pushes(party, _)
+            | StoryLine::Pops(party, _)
+            | StoryLine::Turns(party, _) => Event::Step(party, true),
         }
-    }
-}
-
-/// The push of the number behind so many.
-fn push_of(before: u64) -> Call<u64> {
-    Call::Push(before.wrapping_add(1))
-}
-
-/// The call that is made where pushes and pops come in turn, and there were so many of both.
-fn turn_of(before: u64) -> Call<u64> {
-    if before % 2 == 0 {
-        push_of(before / 2)
-    } else {
-        Call::Pop
-    }
-}
-
-/// The event before which there are so many, where calls are made of which each is begun and takes as many steps as a solo call ever does.
-fn event_of(party: usize, call: Call<u64>, before: u64) -> Event<u64> {
-    if before % CALL == 0 {
-        Event::Begin(party, call)
-    } else {
-        Event::Step(party, true)
     }
 }
 
@@ -175,33 +161,23 @@ fn come_last<T: PartialEq>(
     told.len().checked_sub(before) == Some(wanted.len()) && come_next(told, before, wanted)
 }
 
-/// Whether these are all entries.
-fn are_all<T: PartialEq>(told: &[T], wanted: &[T]) -> bool {
-    told == wanted
-}
-
 impl Fact<'_> {
     /// Whether this is told of a run.
     fn is_told(&self, run: &Replay<u64>) -> bool {
+        let effects = run.effects.as_slice();
+        let replies = run.replies.as_slice();
         match *self {
-            Fact::Effects(wanted) => come_last(&run.effects, 0, wanted),
-            Fact::NextEffects(before, wanted) => come_next(&run.effects, before, wanted),
-            Fact::NumberedEffects(wanted) => are_all(&run.effects, wanted),
-            Fact::Replies(wanted) => come_last(&run.replies, 0, wanted),
-            Fact::LastReplies(before, wanted) => come_last(&run.replies, before, wanted),
-            Fact::NumberedReplies(wanted) => are_all(&run.replies, wanted),
-            Fact::RepliesCount(count) => run.replies.len() == count,
-            Fact::Skipped(wanted) => are_all(&run.skipped, wanted),
-            Fact::Left(wanted) => are_all(&run.left, wanted),
+            Fact::Effects(wanted) => come_last(effects, 0, wanted),
+            Fact::NextEffects(before, wanted) => come_next(effects, before, wanted),
+            Fact::NumberedEffects(wanted) => effects == wanted,
+            Fact::Replies(wanted) => come_last(replies, 0, wanted),
+            Fact::LastReplies(before, wanted) => come_last(replies, before, wanted),
+            Fact::NumberedReplies(wanted) => replies == wanted,
+            Fact::RepliesCount(count) => replies.len() == count,
+            Fact::Skipped(wanted) => run.skipped.as_slice() == wanted,
+            Fact::Left(wanted) => run.left.as_slice() == wanted,
             Fact::Peak(blocks, bound) => run.peak == Peak { blocks, bound },
         }
-    }
-}
-
-/// Asserts each of these facts of a run, which is told in the case of this name, where the sweep is at this number.
-fn are_facts(rt: &impl Abort, name: &str, swept: u64, facts: &[Fact<'_>], told: &Replay<u64>) {
-    for (number, fact) in facts.iter().enumerate() {
-        is_in(rt, (name, swept, number, told), fact.is_told(told), true);
     }
 }
 
@@ -211,7 +187,13 @@ fn is_told(rt: &impl Abort, alloc: Global, kind: Kind, run: &Run, swept: u64)
 {
     let events = events_of(rt, alloc, run.lines, swept);
     let told = replay(alloc, kind, run.parties, events).expect(rt, "memory");
-    are_facts(rt, run.name, swept, run.facts, &told);
+    for (number, fact) in run.facts.iter().enumerate() {
+        assert!(rt;
+            fact.is_told(&told),
+            "{} {swept}, fact {number}: {told:?}",
+            run.name
+        );
+    }
 }
 
 /// Asserts what is told of each run.

@@ -4,7 +4,7 @@ use machine_replay::types::EffectKind;
 use queue_steps::errors::PopError;
 use queue_steps::model::{Call, Reply};
 
-pub(crate) static RUNS: [Run<'static>; 3] = [
+pub(crate) static RUNS: [Run<'static>; 6] = [
     // A pop that holds the slot: another pop finds nothing, and a push waits until the first pop has ended.
     Run {
         name: "pop holds the slot",
@@ -78,10 +78,6 @@ pub(crate) static RUNS: [Run<'static>; 3] = [
             Fact::Left(&[5]),
         ],
     },
-];
-
-/// What is left at a step of a push, of a pop and of a replacement.
-pub(crate) static LEFT: [Run<'static>; 3] = [
     // An item that is appended and not yet written is in the list that is left; one that is taken is not.
     Run {
         name: "left: appended, not written",

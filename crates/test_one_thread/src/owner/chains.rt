@@ -6,7 +6,7 @@ use queue_steps::model::{Call, Reply};
 use queue_steps::sizes::LIMIT;
 use test_support::allocators::Refusal;
 
-pub(crate) static STORIES: [Story<'static>; 8] = [
+pub(crate) static STORIES: [Story<'static>; 16] = [
     // As many as a block has, and far more: each is accepted, and comes out in its turn.
     Story {
         name: "100 in and out",
@@ -115,10 +115,6 @@ pub(crate) static STORIES: [Story<'static>; 8] = [
         made: Made::Unbounded,
         lines: &[StoryLine::Pushes(0, 126), StoryLine::Holds(3, 3)],
     },
-];
-
-/// Queues that are made to stand as after some items.
-pub(crate) static STANDING: [Story<'static>; 4] = [
     Story {
         name: "one item short of a block",
         refusal: Refusal::Never,
@@ -166,10 +162,6 @@ pub(crate) static STANDING: [Story<'static>; 4] = [
             StoryLine::Holds(0, 0),
         ],
     },
-];
-
-/// Pushes of which no request is refused, or one.
-pub(crate) static REQUESTS: [Story<'static>; 4] = [
     // Pushes 1 to 127, of which the one is refused whose request is, and pops all items but one block's.
     Story {
         name: "no request of 127 pushes refused",

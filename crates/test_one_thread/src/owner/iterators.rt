@@ -59,9 +59,7 @@ fn an_iterator_takes_from_the_front(rt: HostRuntime) {
 }
 
 /// How a queue is made, how many items are pushed, whether it is closed, and what is printed of it and of an iterator over it.
-type Printed = (Made, u64, bool, &'static str, &'static str);
-
-static TEXTS: [Printed; 9] = [
+static TEXTS: [(Made, u64, bool, &str, &str); 9] = [
     (
         Made::Bounded(1),
         0,
@@ -133,27 +131,26 @@ fn is_printed<T: Debug>(rt: &impl Abort, alloc: Global, value: &T, wanted: &str)
     is(rt, text.as_str(), wanted);
 }
 
-/// Asserts what is printed of an iterator over a queue.
-fn iterator_is_printed(rt: &impl Abort, alloc: Global, queue: &mut Counting<'_>, wanted: &str) {
-    let items = queue.try_iter();
-    is_printed(rt, alloc, &items, wanted);
-}
-
 /// Asserts what is printed of a queue, and of an iterator over it.
-fn both_are_printed(rt: &impl Abort, alloc: Global, heap: &Heap, row: &Printed) {
-    let (made, items, closed, text, of_iterator) = *row;
-    let mut queue = filled(rt, heap, made, 0, items);
-    if closed {
-        queue.close();
-    }
+fn both_are_printed(
+    rt: &impl Abort,
+    alloc: Global,
+    mut queue: Counting<'_>,
+    text: &str,
+    of_iterator: &str,
+) {
     is_printed(rt, alloc, &queue, text);
-    iterator_is_printed(rt, alloc, &mut queue, of_iterator);
+    is_printed(rt, alloc, &queue.try_iter(), of_iterator);
 }
 
 #[test]
 fn queues_and_iterators_are_printed(rt: HostRuntime) {
     let heap = Heap::new(rt.alloc(), Refusal::Never);
-    for row in TEXTS.iter() {
-        both_are_printed(&rt, rt.alloc(), &heap, row);
+    for (made, items, closed, text, of_iterator) in TEXTS.iter() {
+        let mut queue = filled(&rt, &heap, *made, 0, *items);
+        if *closed {
+            queue.close();
+        }
+        both_are_printed(&rt, rt.alloc(), queue, text, of_iterator);
     }
 }

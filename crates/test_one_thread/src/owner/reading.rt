@@ -1,7 +1,6 @@
 //! Items that are read in their places, and items that are taken out of a queue that ends.
 use crate::asserts::{is, is_in};
 use crate::owner::rows::{Counting, Made, filled};
-use std::process::Abort;
 use test_support::allocators::{Heap, Refusal};
 
 /// How a queue is made, how many items go through it first, and how many are in it then.
@@ -29,31 +28,21 @@ fn in_order(queue: &Counting<'_>) -> u64 {
     next
 }
 
-/// The first item that an iterator shows, and the front.
-fn first_shown(queue: &Counting<'_>) -> [Option<u64>; 2] {
-    let shown = queue.iter().next().copied();
-    [shown, queue.front().copied()]
+/// What is read of a queue twice, and its length; the first item that an iterator shows, and the front.
+fn read(queue: Counting<'_>) -> ([u64; 3], [Option<u64>; 2]) {
+    let read = [in_order(&queue), in_order(&queue), queue.len() as u64];
+    let first = queue.iter().next().copied();
+    (read, [first, queue.front().copied()])
 }
 
-/// What is read of a queue twice, and its length.
-fn read(queue: &Counting<'_>) -> [u64; 3] {
-    [in_order(queue), in_order(queue), queue.len() as u64]
-}
-
-/// Asserts what is read of a queue: the items come in their order, the front is the first of them, and all stay.
-fn is_read(rt: &impl Abort, heap: &Heap, row: &(Made, u64, u64)) {
-    let (made, through, held) = *row;
-    let queue = filled(rt, heap, made, through, held);
-    let seen = (read(&queue), first_shown(&queue));
-    let first = if held == 0 { None } else { Some(0) };
-    is_in(rt, (through, held), seen, ([held; 3], [first; 2]));
-}
-
+/// The items come in their order, the front is the first of them, and all stay.
 #[test]
 fn items_are_read_and_stay(rt: HostRuntime) {
     let heap = Heap::new(rt.alloc(), Refusal::Never);
-    for row in READ.iter() {
-        is_read(&rt, &heap, row);
+    for (made, through, held) in READ.iter() {
+        let seen = read(filled(&rt, &heap, *made, *through, *held));
+        let first = if *held == 0 { None } else { Some(0) };
+        is_in(&rt, (*through, *held), seen, ([*held; 3], [first; 2]));
     }
 }
 

@@ -5,7 +5,7 @@ use queue_steps::model::{Call, Reply};
 use queue_steps::sizes::{LIMIT, MAX_CAPACITY};
 use test_support::allocators::Refusal;
 
-pub(crate) static STORIES: [Story<'static>; 5] = [
+pub(crate) static STORIES: [Story<'static>; 10] = [
     Story {
         name: "first in, first out",
         refusal: Refusal::Never,
@@ -91,22 +91,6 @@ pub(crate) static STORIES: [Story<'static>; 5] = [
             StoryLine::Call(Call::IsFull, Reply::IsFull(false)),
         ],
     },
-    // No request comes after those of the constructor, which are four; two allocations stay.
-    Story {
-        name: "no request after the constructor",
-        refusal: Refusal::Nth(5),
-        made: Made::Bounded(3),
-        lines: &[
-            StoryLine::Forces(10),
-            StoryLine::Call(Call::Pop, Reply::Pop(Ok(7))),
-            StoryLine::Call(Call::Close, Reply::Close(true)),
-            StoryLine::Allocated(2, 4),
-        ],
-    },
-];
-
-/// Rings that have accepted almost all items that they ever will.
-pub(crate) static NEAR_THE_LIMIT: [Story<'static>; 5] = [
     // The last items that a queue accepts.
     Story {
         name: "last item",
@@ -175,6 +159,18 @@ pub(crate) static NEAR_THE_LIMIT: [Story<'static>; 5] = [
             ),
             StoryLine::Call(Call::Close, Reply::Close(false)),
             StoryLine::Call(Call::Pop, Reply::Pop(Err(PopError::Closed))),
+        ],
+    },
+    // No request comes after those of the constructor, which are four; two allocations stay.
+    Story {
+        name: "no request after the constructor",
+        refusal: Refusal::Nth(5),
+        made: Made::Bounded(3),
+        lines: &[
+            StoryLine::Forces(10),
+            StoryLine::Call(Call::Pop, Reply::Pop(Ok(7))),
+            StoryLine::Call(Call::Close, Reply::Close(true)),
+            StoryLine::Allocated(2, 4),
         ],
     },
 ];

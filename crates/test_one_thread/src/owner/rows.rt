@@ -206,18 +206,12 @@ pub(crate) fn tell_all(rt: &impl Abort, alloc: Global, stories: &[Story<'_>]) {
 /// A request that is refused, how a queue is to be made, and how many requests there are then.
 pub(crate) type Refused = (&'static str, Refusal, Made, u64);
 
-/// Asserts that a queue is not made, after so many requests, and that nothing stays allocated.
-fn is_refused<T: Drop>(rt: &impl Abort, alloc: Global, row: &Refused) {
-    let (name, refusal, made, requests) = *row;
-    let heap = Heap::new(alloc, refusal);
-    let refused = made.queue::<T>(rt, &heap).is_err();
-    let seen = (refused, heap.requests(), heap.live());
-    is_in(rt, name, seen, (true, requests, 0));
-}
-
-/// Asserts that none of these queues is made.
+/// Asserts that none of these queues is made, after so many requests each, and that nothing stays allocated.
 pub(crate) fn are_refused<T: Drop>(rt: &impl Abort, alloc: Global, rows: &[Refused]) {
-    for row in rows {
-        is_refused::<T>(rt, alloc, row);
+    for (name, refusal, made, requests) in rows {
+        let heap = Heap::new(alloc, *refusal);
+        let refused = made.queue::<T>(rt, &heap).is_err();
+        let seen = (refused, heap.requests(), heap.live());
+        is_in(rt, *name, seen, (true, *requests, 0));
     }
 }

@@ -106,19 +106,13 @@ static RUNS: [Run; 4] = [
     ("each call", Made::Bounded(2), &EACH_CALL, &TO_EACH_CALL),
 ];
 
-/// Asserts that a run of calls on a queue gives the replies.
-fn one_run(rt: &impl Abort, alloc: Global, heap: &Heap, row: &Run) {
-    let (name, made, calls, replies) = *row;
-    let mut queue = open(rt, heap, made);
-    let right = run_gives(rt, alloc, &mut queue, calls, replies);
-    is_in(rt, name, right, true);
-}
-
 #[test]
 fn one_run_on_each_kind(rt: HostRuntime) {
     let heap = Heap::new(rt.alloc(), Refusal::Never);
-    for row in RUNS.iter() {
-        one_run(&rt, rt.alloc(), &heap, row);
+    for (name, made, calls, replies) in RUNS.iter() {
+        let mut queue = open(&rt, &heap, *made);
+        let right = run_gives(&rt, rt.alloc(), &mut queue, calls, replies);
+        is_in(&rt, *name, right, true);
     }
 }
 

@@ -7,10 +7,7 @@ fn each_story_is_right(rt: HostRuntime) {
     let alloc = rt.alloc();
     tell_all(&rt, alloc, &one_slot::STORIES);
     tell_all(&rt, alloc, &rings::STORIES);
-    tell_all(&rt, alloc, &rings::NEAR_THE_LIMIT);
     tell_all(&rt, alloc, &chains::STORIES);
-    tell_all(&rt, alloc, &chains::STANDING);
-    tell_all(&rt, alloc, &chains::REQUESTS);
 }
 
 #[test]
