@@ -7,6 +7,7 @@ use Rattle.law_common.specs.Vocabulary.{Call, Effect, Word, Op, Touch, Local, Bo
 use Rattle.queue_steps.specs.Words.{position_of, is_shut, slot_at, stamp_filled, stamp_emptied}
 use Rattle.queue_steps.specs.declared.steps.bounded.BoundedLocal.TheVariants as ring
 use Rattle.law_common.specs.Pushes.{pushes}
+use Rattle.law_common.specs.Operations.{OnWord}
 use Rattle.law_common.specs.Stand.{Stand, stand, empty_handed, brings}
 use Rattle.queue_steps.specs.Kinds.{call_value}
 
@@ -109,9 +110,4 @@ HasPlace cap _ = ⊥
 
 -- so is that of the operation
 abbrev pub InRing : ℕ → Op ℕ → Type 0
-InRing cap (Op.Load w) = HasPlace cap w
-InRing cap (Op.Store w x) = HasPlace cap w
-InRing cap (Op.Add w x) = HasPlace cap w
-InRing cap (Op.Or w x) = HasPlace cap w
-InRing cap (Op.Exchange w a b) = HasPlace cap w
-InRing cap _ = ⊥
+InRing cap o = OnWord (HasPlace cap) o
