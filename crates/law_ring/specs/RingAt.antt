@@ -7,7 +7,6 @@ use Rattle.law_common.specs.Vocabulary.{Call, Effect, Word, Op, Touch, Local, Bo
 use Rattle.queue_steps.specs.Words.{position_of, is_shut, slot_at, stamp_filled, stamp_emptied}
 use Rattle.queue_steps.specs.declared.steps.bounded.BoundedLocal.TheVariants as ring
 use Rattle.law_common.specs.Pushes.{pushes}
-use Rattle.law_common.specs.Operations.{OnWord}
 use Rattle.law_common.specs.Stand.{Stand, stand, empty_handed, brings}
 use Rattle.queue_steps.specs.Kinds.{call_value}
 
@@ -100,14 +99,3 @@ pub data At {A : Type 0} (cap : ℕ) (r : Ring A) (who : ℕ) (ms : List (State 
 abbrev pub Begun : {A : Type 0} → ℕ → Ring A → ℕ → Call A → Next ℕ → Type 0
 Begun cap r who c (Next.Step l t o) = At cap r who [] false (stand l t o (call_value c) c [])
 Begun cap r who c (Next.Reply x spare) = Unit {0}
-
--- the word is one of a ring of cap slots
-abbrev pub HasPlace : ℕ → Word ℕ → Type 0
-HasPlace cap Word.Tail = Unit {0}
-HasPlace cap Word.Head = Unit {0}
-HasPlace cap (Word.Stamp i) = i < cap
-HasPlace cap _ = ⊥
-
--- so is that of the operation
-abbrev pub InRing : ℕ → Op ℕ → Type 0
-InRing cap o = OnWord (HasPlace cap) o

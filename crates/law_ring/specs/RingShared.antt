@@ -9,12 +9,16 @@ pub record Shared (T : Type 0) : Type 0 where
   pub stamps : List ℕ
   pub slots : List (Option T)
 
+-- the word is one of a ring of cap slots
+abbrev pub HasPlace : ℕ → Word ℕ → Type 0
+HasPlace cap Word.Head = Unit {0}
+HasPlace cap Word.Tail = Unit {0}
+HasPlace cap (Word.Stamp i) = i < cap
+HasPlace cap _ = ⊥
+
 -- the ring has this word
 abbrev pub HasWord : {T : Type 0} → Shared T → Word ℕ → Type 0
-HasWord s Word.Head = Unit {0}
-HasWord s Word.Tail = Unit {0}
-HasWord s (Word.Stamp i) = i < length s.stamps
-HasWord s _ = ⊥
+HasWord s w = HasPlace (length s.stamps) w
 
 abbrev pub word_at : {T : Type 0} → Shared T → Word ℕ → ℕ
 word_at s Word.Head = s.head

@@ -15,10 +15,10 @@ use Rattle.law_common.specs.Puts.{put}
 use Rattle.law_common.proofs.Puts.{put_ok, put_same}
 use Rattle.law_ring.specs.RingCells.{Cell, Ring, queue_of, RingOk, owner, HoldsNone}
 use Rattle.law_ring.specs.RingWords.{Codes, item_in}
-use Rattle.law_ring.specs.RingShared.{Shared, HasWord, word_at, put_word, CanOperate, CanTouch, answered, operated, touched, handed}
+use Rattle.law_ring.specs.RingShared.{Shared, HasPlace, HasWord, word_at, put_word, CanOperate, CanTouch, answered, operated, touched, handed}
 use Rattle.law_common.specs.Effects.{Touches, Whether, with_effect}
 use Rattle.law_common.specs.Stand.{Stand}
-use Rattle.law_ring.specs.RingAt.{At, HasPlace, closing}
+use Rattle.law_ring.specs.RingAt.{At, closing}
 use Rattle.law_ring.proofs.RingAt.{at_stays}
 use Rattle.law_ring.proofs.RingRanks.{rank}
 use Rattle.law_ring.proofs.RingStepOk.{IsEffect, NextOk as RingNextOk, StepOk, operates_on}
